@@ -1,0 +1,11 @@
+pub mod Access
+pub mod Arithmetic
+pub mod Frame
+pub mod Graph
+pub mod Opcode
+pub mod Operand
+pub mod Plain
+pub mod Profile
+pub mod Spelling
+pub mod Step
+pub mod Value

@@ -1,0 +1,89 @@
+-- Plain programs, which the verifier owes acceptance: forward jumps, every instruction reached, and on every path each register and each
+-- byte of the frame written as a number before it is read.
+use Rattle.std.specs.Prelude.{◌≡◌, ℕ, ◌+◌, ◌<◌, ◌≤◌, List, [], ◌∷◌, ◌++◌, Some, ℤ, pos, ◌+ℤ◌, ◌⊎◌}
+use Rattle.bpf_model.specs.declared.insn.Insn.{Insn}
+use Rattle.bpf_model.specs.declared.insn.Insn.TheVariants.{Alu, MoveSigned, Negate, ByteSwap, LoadNumber, LoadMap, JumpIf, Call, Exit, Load, LoadSigned, Store, StoreRegister}
+use Rattle.bpf_model.specs.declared.insn.AluOp.TheVariants.{Move}
+use Rattle.bpf_model.specs.declared.insn.Operand.{Operand}
+use Rattle.bpf_model.specs.declared.insn.Operand.TheVariants.{Register, Immediate}
+use Rattle.bpf_model.specs.declared.opcode.Width.{Width}
+use Rattle.bpf_model.specs.Access.{byte_count, unsigned_width, place_of}
+use Rattle.bpf_model.specs.Graph.{distance, JumpsTo, GoesTo, Reached}
+use Rattle.bpf_model.specs.Step.{insn_at}
+
+-- the registers that an operand names
+abbrev pub Names : Operand → ℕ → Type 0
+Names (Register s) r = r ≡ s
+Names (Immediate imm) r = ⊥
+
+-- The instruction reads the register as a number.
+abbrev pub Reads : Insn → ℕ → Type 0
+Reads (Alu Move size dst src) r = Names src r
+Reads (Alu op size dst src) r = (r ≡ dst) ⊎ Names src r
+Reads (MoveSigned extension dst src) r = r ≡ src
+Reads (Negate size dst) r = r ≡ dst
+Reads (ByteSwap order width dst) r = r ≡ dst
+Reads (JumpIf condition size dst src offset) r = (r ≡ dst) ⊎ Names src r
+Reads Exit r = r ≡ 0
+Reads (StoreRegister width dst src offset) r = r ≡ src
+Reads _ r = ⊥
+
+-- The instruction writes the register.
+abbrev pub Writes : Insn → ℕ → Type 0
+Writes (Alu op size dst src) r = r ≡ dst
+Writes (MoveSigned extension dst src) r = r ≡ dst
+Writes (Negate size dst) r = r ≡ dst
+Writes (ByteSwap order width dst) r = r ≡ dst
+Writes (LoadNumber dst n) r = r ≡ dst
+Writes (Load width dst src offset) r = r ≡ dst
+Writes (LoadSigned width dst src offset) r = r ≡ dst
+Writes _ r = ⊥
+
+-- An access with base r10 takes byte k of the frame: an aligned access, all of its bytes inside.
+abbrev pub Takes : Width → ℤ → ℕ → Type 0
+Takes width offset k = (at : ℕ) × (place_of 512 (byte_count width) (pos 512 +ℤ offset) ≡ Some at) × (at ≤ k) × (k < at + byte_count width)
+
+abbrev pub ReadsByte : Insn → ℕ → Type 0
+ReadsByte (Load width dst src offset) k = Takes width offset k
+ReadsByte (LoadSigned width dst src offset) k = Takes (unsigned_width width) offset k
+ReadsByte _ k = ⊥
+
+abbrev pub WritesByte : Insn → ℕ → Type 0
+WritesByte (Store width dst offset imm) k = Takes width offset k
+WritesByte (StoreRegister width dst src offset) k = Takes width offset k
+WritesByte _ k = ⊥
+
+-- an aligned access to the frame with base r10, all bytes inside
+abbrev pub IsFrameAccess : Width → ℕ → ℤ → Type 0
+IsFrameAccess width base offset = (base ≡ 10) × (at : ℕ) × (place_of 512 (byte_count width) (pos 512 +ℤ offset) ≡ Some at)
+
+-- The instruction has no call and no map, and its only memory accesses are those to the frame.
+abbrev pub IsSimple : Insn → Type 0
+IsSimple (Load width dst src offset) = IsFrameAccess width src offset
+IsSimple (LoadSigned width dst src offset) = IsFrameAccess (unsigned_width width) src offset
+IsSimple (Store width dst offset imm) = IsFrameAccess width dst offset
+IsSimple (StoreRegister width dst src offset) = IsFrameAccess width dst offset
+IsSimple (LoadMap dst map) = ⊥
+IsSimple (Call kind imm) = ⊥
+IsSimple _ = Unit {0}
+
+-- A path leads to the slot on which the register isn't written.
+pub data WithoutRegister (program : List Insn) (r : ℕ) : ℕ → Type 0 where
+  unwritten_entry : WithoutRegister program r 0
+  unwritten_next : (place target : ℕ) (i : Insn) → WithoutRegister program r place → insn_at program place ≡ Some i → (Writes i r → ⊥) → GoesTo i place target → WithoutRegister program r target
+
+-- A path leads to the slot on which the byte of the frame isn't written.
+pub data WithoutByte (program : List Insn) (k : ℕ) : ℕ → Type 0 where
+  bare_entry : WithoutByte program k 0
+  bare_next : (place target : ℕ) (i : Insn) → WithoutByte program k place → insn_at program place ≡ Some i → (WritesByte i k → ⊥) → GoesTo i place target → WithoutByte program k target
+
+pub record IsPlain (program : List Insn) : Type 0 where
+  -- every jump goes forward to the start of an instruction
+  pub jumps : (place : ℕ) (i : Insn) (d : ℤ) → insn_at program place ≡ Some i → distance i ≡ Some d → (target : ℕ) × (next : Insn) × JumpsTo i place target × (place < target) × (insn_at program target ≡ Some next)
+  pub reached : (place : ℕ) (i : Insn) → insn_at program place ≡ Some i → Reached program place
+  pub last : (front : List Insn) × (program ≡ front ++ Exit ∷ [])
+  pub simple : (place : ℕ) (i : Insn) → insn_at program place ≡ Some i → IsSimple i
+  -- r10 isn't written, and only the accesses to the frame read it
+  pub frame_pointer : (place : ℕ) (i : Insn) → insn_at program place ≡ Some i → (Writes i 10 → ⊥) × (Reads i 10 → ⊥)
+  pub registers : (place : ℕ) (i : Insn) (r : ℕ) → insn_at program place ≡ Some i → Reads i r → WithoutRegister program r place → ⊥
+  pub bytes : (place : ℕ) (i : Insn) (k : ℕ) → insn_at program place ≡ Some i → ReadsByte i k → WithoutByte program k place → ⊥

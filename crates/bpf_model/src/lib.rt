@@ -1,0 +1,24 @@
+//! The plain types of the eBPF machine, and the definitions that every contract cites.
+//!
+//! The types are those of RFC 9669: registers, instructions and what their opcode bytes say. What they
+//! mean stands in `specs/`, a module for each subject; docs/DEFINITIONS.md reads them in order.
+#![tactic(auto)]
+
+mod insn;
+mod limits;
+mod opcode;
+mod reg;
+mod slot;
+mod value;
+
+pub use insn::{AluOp, CallKind, Insn, Operand, SignExtension};
+pub use limits::{
+    CTX_BYTES, CtxBytes, FRAME_BYTES, KEY_BYTES, KeyBytes, MAX_MAPS, MAX_SLOTS, MapShape,
+    VALUE_BYTES, ValueBytes,
+};
+pub use opcode::{
+    AluCode, ByteOrder, Condition, Excluded, Opcode, SignedWidth, Size, Source, SwapWidth, Width,
+};
+pub use reg::Reg;
+pub use slot::Slot;
+pub use value::{Cell, Reference, Value};
