@@ -1,0 +1,6 @@
+pub mod Checked
+pub mod Facts
+pub mod GraphFlaws
+pub mod Passes
+pub mod Places
+pub mod Valid
