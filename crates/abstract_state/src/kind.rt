@@ -1,4 +1,6 @@
 //! The kinds of registers and of frame bytes.
+ghost use Rattle.std.specs.Prelude.{◌≡◌, ℕ, length, slice_index_or};
+ghost use Rattle.abstract_state.specs.Steps.{Joins};
 
 use scalar_domain::Scalar;
 
@@ -34,4 +36,29 @@ pub enum Region {
     None,
     Ctx,
     Frame,
+}
+
+/// The kind of what is of either kind.
+fn join_kind(a: RegKind, b: RegKind) -> RegKind
+    ensures { Joins a b result }
+{
+    match (a, b) {
+        (RegKind::Unwritten, _) => RegKind::Unwritten,
+        (_, RegKind::Unwritten) => RegKind::Unwritten,
+        (RegKind::Num(x), RegKind::Num(y)) => RegKind::Num(x.join(y)),
+        (RegKind::Ctx(x), RegKind::Ctx(y)) if x == y => a,
+        (RegKind::Frame(x), RegKind::Frame(y)) if x == y => a,
+        (RegKind::Map(x), RegKind::Map(y)) if x == y => a,
+        _ => RegKind::Mixed,
+    }
+}
+
+/// Each kind becomes that of what is of either kind.
+pub(crate) fn join_kinds(kinds: &mut [RegKind], others: &[RegKind])
+    requires { length kinds.old ≡ length others.now }
+    ensures { (r : ℕ) → Joins (slice_index_or kinds.old r RegKind.Unwritten) (slice_index_or others.now r RegKind.Unwritten) (slice_index_or kinds.new r RegKind.Unwritten) }
+{
+    for i in 0..others.len() {
+        kinds[i] = join_kind(kinds[i], others[i]);
+    }
 }

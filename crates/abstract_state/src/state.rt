@@ -4,7 +4,7 @@ ghost use Rattle.bpf_model.specs.Step.{State, entry};
 
 use crate::fault::Fault;
 use crate::frame::FrameCells;
-use crate::kind::{RegKind, Region};
+use crate::kind::{RegKind, Region, join_kinds};
 use bpf_model::Insn;
 use std::alloc::{AllocError, Global};
 
@@ -59,6 +59,18 @@ impl AbsState {
             regs: self.regs,
             frame: self.frame.copy(alloc)?,
         })
+    }
+
+    /// Each register and each byte becomes what is known of it where control comes from either state.
+    pub fn join(&mut self, other: &AbsState)
+        ensures left { Wider self.old self.new }
+        ensures right { Wider other.now self.new }
+        ensures numbers { (r : ℕ) → IsNumber (kind_at self.old r) → IsNumber (kind_at other.now r) → IsNumber (kind_at self.new r) }
+        ensures bytes { (k : ℕ) → cell_at self.old k ≡ cell_kinds.Byte → cell_at other.now k ≡ cell_kinds.Byte → cell_at self.new k ≡ cell_kinds.Byte }
+        ensures frame { kind_at self.old 10 ≡ kinds.Frame (pos 512) → kind_at other.now 10 ≡ kinds.Frame (pos 512) → kind_at self.new 10 ≡ kinds.Frame (pos 512) }
+    {
+        join_kinds(&mut self.regs, &other.regs);
+        self.frame.join(&other.frame);
     }
 
     /// What holds after the instruction: in the state itself where control falls through, or where it only
