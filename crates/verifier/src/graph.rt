@@ -50,11 +50,7 @@ fn landing_from(index: &[Option<usize>], place: usize, distance: i32) -> Result<
 }
 
 /// The index to which an instruction jumps, if it is a jump.
-fn target_of(
-    insn: &Insn,
-    index: &[Option<usize>],
-    place: usize,
-) -> Result<Option<usize>, GraphFlaw>
+fn target_of(insn: &Insn, index: &[Option<usize>], place: usize) -> Result<Option<usize>, GraphFlaw>
     requires { place < 2 ^ 32 }
     ensures { result ≡ target_spec index.now place (distance_of insn.now) }
 {
@@ -120,7 +116,7 @@ fn ends_with_exit(instructions: &[Insn]) -> bool
 
 /// Marks the instructions to which control may go on.
 fn mark(reached: &mut [bool], insn: &Insn, target: Option<usize>, k: usize)
-    requires next { falls_of insn.now ≡ true → k + 1 < length reached.old }
+    requires next { IsTrue (falls_of insn.now) → k + 1 < length reached.old }
     requires target { IfSome target (λ t. t < length reached.old) }
     ensures { Marks insn.now target k reached.old reached.new }
 {

@@ -5,10 +5,9 @@
 #![tactic(auto)]
 
 mod graph;
-
 mod refusal;
-
+mod verified;
 
 pub use abstract_state::{Fault, Region};
 pub use refusal::{GraphFlaw, Refusal};
-
+pub use verified::Verified;
