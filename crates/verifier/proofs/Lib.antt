@@ -1,0 +1,4 @@
+pub mod Edges
+pub mod Lists
+pub mod Marking
+pub mod Verdicts
