@@ -1,15 +1,15 @@
 -- Edges of the jump graph by slots and by indexes, and which instructions are reached.
-use Rattle.std.proofs.Common.{◌≡◌, ◌≢◌, ℕ, zero, suc, ◌+◌, ◌<◌, ◌≤◌, refl, sym, ◌∙◌, ap, subst, arith, inl, inr, Bool, true, false, List, [], ◌∷◌, ◌++◌, length}
-use Rattle.std.specs.Prelude.{slice_get, slice_index_or, Option, Some, None, ◌⊎◌, ℤ, pos, negsuc, ◌+ℤ◌, IfSome}
-use Rattle.std.proofs.lemmas.Bool.{cases_lt, cases_eq}
+use Rattle.std.proofs.Common.{◌≡◌, ℕ, suc, ◌+◌, ◌<◌, refl, sym, ◌∙◌, ap, subst, arith, inl, inr, Bool, true, List, [], ◌∷◌, length}
+use Rattle.std.specs.Prelude.{slice_get, slice_index_or, Option, Some, None, ◌⊎◌, pos, ◌+ℤ◌, IfSome}
+use Rattle.std.proofs.lemmas.Bool.{cases_eq}
 use Rattle.std.proofs.lemmas.Int.{ints}
 use Rattle.std.proofs.lemmas.Option.{slice_get-get_or, slice_get_within}
 use Rattle.bpf_model.specs.declared.insn.Insn.{Insn}
-use Rattle.bpf_model.specs.Graph.{falls, distance, JumpsTo, GoesTo, Reached, reached_entry, reached_next}
+use Rattle.bpf_model.specs.Graph.{JumpsTo, GoesTo, Reached, reached_entry, reached_next}
 use Rattle.bpf_model.specs.Spelling.{starts_from, slot_count}
 use Rattle.bpf_model.specs.Step.{insn_at}
-use Rattle.bpf_model.specs.Places.{starts-next, starts_ordered, starts_apart, start_of-insn, insn_of-start, slot_count_some}
-use Rattle.verifier.specs.Places.{StartsAt, LeadsTo, IsTarget, HasTargets, Follows, IsReached, Marks, IsFirstUnreached}
+use Rattle.bpf_model.specs.Places.{starts-next, starts_ordered, starts_apart, start_of-insn, slot_count_some}
+use Rattle.verifier.specs.Places.{StartsAt, LeadsTo, IsTarget, HasTargets, Follows, IsReached, Marks}
 use Rattle.verifier.proofs.Edges.{insn_here, index_here, start_within}
 use Rattle.verifier.proofs.Lists.{same_some}
 
@@ -34,7 +34,7 @@ pub record HasEdge (program : List Insn) (targets : List (Option ℕ)) (j k : �
   pub follows : Follows i target j k
   pub before : j < k
 
-pos_same : (a b : ℕ) → pos a ≡ pos b → a ≡ b
+pub pos_same : (a b : ℕ) → pos a ≡ pos b → a ≡ b
 pos_same a b e = omega (arith, ints)
 
 module _ (program : List Insn) (targets : List (Option ℕ)) (long : length targets ≡ length program) (all : HasTargets program targets) where

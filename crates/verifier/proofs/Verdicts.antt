@@ -1,18 +1,15 @@
 -- What pass 1 tells: a bad end, an instruction that no path reaches, or a good graph.
-use Rattle.std.proofs.Common.{◌≡◌, ◌≢◌, ℕ, zero, suc, ◌+◌, ◌-◌, ◌<◌, ◌≤◌, refl, sym, ◌∙◌, ap, subst, arith, List, [], ◌∷◌, ◌++◌, length}
-use Rattle.std.specs.Prelude.{slice_get, slice_index_or, Option, Some, None}
+use Rattle.std.proofs.Common.{◌≡◌, ℕ, zero, suc, ◌+◌, ◌-◌, ◌<◌, ◌≤◌, refl, ◌∙◌, ap, arith, List, [], ◌∷◌, ◌++◌, length}
+use Rattle.std.specs.Prelude.{slice_index_or}
 use Rattle.std.proofs.lemmas.List.Sums.{sum_by-cons}
 use Rattle.bpf_model.specs.declared.insn.Insn.{Insn}
-use Rattle.bpf_model.specs.declared.insn.Insn.TheVariants.{Exit}
-use Rattle.bpf_model.specs.Graph.{Reached}
 use Rattle.bpf_model.specs.Spelling.{starts_from, slot_count, slot_total, IsProgram}
-use Rattle.bpf_model.specs.Step.{insn_at}
-use Rattle.bpf_model.specs.Places.{slot_count_some, insn_of-start, starts_ordered}
+use Rattle.bpf_model.specs.Places.{insn_of-start, starts_ordered}
 use Rattle.std.proofs.lemmas.Option.{slice_get_within}
-use Rattle.verifier.specs.declared.refusal.GraphFlaw.TheVariants.{JumpTarget, BackJump, FallsOff, Unreachable}
-use Rattle.verifier.specs.GraphFlaws.{JumpsWell, EndsWithExit, IsBadEnd, IsFirstUnreachable, HasGraphFlaw, HasGoodGraph}
+use Rattle.verifier.specs.declared.refusal.GraphFlaw.TheVariants.{FallsOff, Unreachable}
+use Rattle.verifier.specs.GraphFlaws.{JumpsWell, EndsWithExit, HasGraphFlaw, HasGoodGraph}
 use Rattle.verifier.specs.Places.{StartsAt, IsReached, IsFirstUnreached}
-use Rattle.verifier.proofs.Edges.{start_read, insn_read, insn_here, index_here, start_within}
+use Rattle.verifier.proofs.Edges.{start_read, insn_here, index_here}
 
 -- a program that isn't empty has a last instruction, at the start of the last index
 pub record HasLast (n k : ℕ) (program : List Insn) : Type 0 where

@@ -1,5 +1,5 @@
 -- What a verified program is: there is a plan, an abstract state for each instruction, that holds at the entry and that each step keeps.
-use Rattle.std.specs.Prelude.{◌≡◌, ℕ, ◌<◌, ◌≤◌, List, length, slice_get, Option, Some, None, slice_index_or}
+use Rattle.std.specs.Prelude.{◌≡◌, ℕ, ◌<◌, ◌≤◌, List, length, slice_get, Option, Some}
 use Rattle.bpf_model.specs.declared.insn.Insn.{Insn}
 use Rattle.bpf_model.specs.Spelling.{IsProgram}
 use Rattle.bpf_model.specs.Step.{State, Environment, Outcome, Moves, Exits, Steps, entry}
@@ -7,7 +7,6 @@ use Rattle.abstract_state.specs.declared.state.AbsState.{AbsState}
 use Rattle.abstract_state.specs.declared.kind.Region.{Region}
 use Rattle.abstract_state.specs.State.{Describes, IsEnvironment, IsInRegion, base_of}
 use Rattle.verifier.specs.Checked.{Checked}
-use Rattle.verifier.specs.GraphFlaws.{EndsWithExit}
 use Rattle.verifier.specs.Places.{StartsAt, HasTargets}
 
 -- what is known before each instruction, by its index

@@ -5,9 +5,10 @@
 #![tactic(auto)]
 
 mod graph;
+mod pass;
 mod refusal;
 mod verified;
 
 pub use abstract_state::{Fault, Region};
 pub use refusal::{GraphFlaw, Refusal};
-pub use verified::Verified;
+pub use verified::{Verified, verify};

@@ -1,9 +1,8 @@
-use Rattle.std.proofs.Common.{◌≡◌, ℕ, ◌<◌, ◌+◌, length, arith, ap, sym, ◌∙◌, refl, subst, true, false, rules}
-use Rattle.std.specs.Prelude.{slice_index_or, slice_get, Some, None, Option, IfSome}
+use Rattle.std.proofs.Common.{◌≡◌, ◌<◌, length, arith, ap, sym, ◌∙◌, refl, subst, true, false, rules}
+use Rattle.std.specs.Prelude.{slice_index_or, slice_get, Some, None, IfSome}
 use Rattle.std.proofs.lemmas.Option.{slice_get_read, slice_get-get_or}
-use Rattle.bpf_model.specs.declared.insn.Insn.{Insn}
 use Rattle.bpf_model.specs.Graph.{Reached, reached_entry}
-use Rattle.verifier.specs.Places.{StartsAt, HasTargets, IsReached}
+use Rattle.verifier.specs.Places.{StartsAt, IsReached}
 use Rattle.verifier.proofs.Marking.{first_start, marked, target_fits, marks_sound, marks_ahead, before_more}
 use Rattle.verifier.proofs.graph.first_unmarked.Goals as goal
 

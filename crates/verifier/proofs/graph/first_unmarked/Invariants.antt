@@ -1,5 +1,5 @@
-use Rattle.std.proofs.Common.{◌≡◌, ℕ, ◌<◌, ◌≤◌, length, true}
-use Rattle.std.specs.Prelude.{slice_get, Some, None, Option}
+use Rattle.std.proofs.Common.{◌≡◌, ℕ, ◌<◌, length, true}
+use Rattle.std.specs.Prelude.{slice_get, Some, Option}
 use Rattle.bpf_model.specs.declared.insn.Insn.{Insn}
 use Rattle.verifier.specs.Places.{IsReached, Follows}
 use Rattle.verifier.proofs.graph.first_unmarked.Given as goal

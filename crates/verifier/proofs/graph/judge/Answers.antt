@@ -1,4 +1,4 @@
-use Rattle.std.proofs.Common.{◌≡◌, ℕ, ◌<◌, ◌+◌, ◌-◌, length, arith, ap, ◌∙◌, false, true, rules}
+use Rattle.std.proofs.Common.{◌≡◌, ℕ, ◌<◌, ◌-◌, length, arith, ap, rules}
 use Rattle.bpf_model.specs.Places.{length-starts_from}
 use Rattle.verifier.specs.GraphFlaws.{EndsWithExit}
 use Rattle.verifier.specs.Places.{IsFirstUnreached, IsReached}

@@ -1,9 +1,8 @@
-use Rattle.std.proofs.Common.{◌≡◌, ℕ, ◌<◌, ◌+◌, length, arith, ap, sym, ◌∙◌, refl, subst}
-use Rattle.std.specs.Prelude.{slice_index_or, slice_get, Some, Ok, Err}
+use Rattle.std.proofs.Common.{◌≡◌, length, arith, ap, sym, refl, subst}
+use Rattle.std.specs.Prelude.{slice_index_or, slice_get, Some, Ok}
 use Rattle.std.proofs.lemmas.Option.{slice_get_read}
 use Rattle.bpf_model.specs.Graph.{distance}
 use Rattle.bpf_model.specs.Places.{length-starts_from}
-use Rattle.bpf_model.specs.Spelling.{slot_total}
 use Rattle.verifier.specs.Passes.{target_of}
 use Rattle.verifier.specs.Places.{StartsAt, HasTargets}
 use Rattle.verifier.proofs.Edges.{start_read, start_below, insn_here, flaw_found, bad_jump, jumps_before, jumps_all, targets_more, is_target, jumps_more}

@@ -1,4 +1,4 @@
-use Rattle.std.proofs.Common.{◌≡◌, ℕ, ◌<◌, ◌≤◌, length}
+use Rattle.std.proofs.Common.{◌≡◌, ℕ, ◌<◌, length}
 use Rattle.std.specs.Prelude.{slice_get, Some, None}
 use Rattle.bpf_model.specs.declared.insn.Insn.{Insn}
 use Rattle.verifier.specs.GraphFlaws.{jump_flaw}
