@@ -1,0 +1,5 @@
+use Rattle.scalar_domain.proofs.Swaps.{reordered_lt}
+use Rattle.scalar_domain.proofs.scalar.Scalar.byte_swap.Goals as goal
+
+pub returns : goal.returns
+returns c = record { sound = λ x p h. c.unknown.ensures.sound _ (reordered_lt c.args.order c.args.width x) }
