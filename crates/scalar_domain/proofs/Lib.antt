@@ -1,3 +1,6 @@
 pub mod Bits
-pub mod Words
+pub mod Multiples
+pub mod Quotients
+pub mod Shifts
 pub mod Swaps
+pub mod Words

@@ -5,6 +5,8 @@
 #![tactic(auto)]
 
 mod apply;
+mod bitwise;
 mod scalar;
+mod sums;
 
 pub use scalar::Scalar;
