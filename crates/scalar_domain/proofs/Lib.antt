@@ -1,0 +1,9 @@
+pub mod Bits
+pub mod Constants
+pub mod Edges
+pub mod Forms
+pub mod Multiples
+pub mod Quotients
+pub mod Shifts
+pub mod Swaps
+pub mod Words
