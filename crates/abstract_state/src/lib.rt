@@ -1,9 +1,12 @@
 //! Abstract states: what is known, before an instruction, of each register and of each byte of the frame.
 #![tactic(auto)]
 
+mod compute;
 mod fault;
 mod frame;
 mod kind;
+mod offset;
+mod registers;
 mod state;
 
 pub use fault::Fault;
