@@ -1,6 +1,6 @@
 -- Each instruction leads from described states to described ones.
 use Rattle.std.proofs.Common.{◌≡◌, ℕ, zero, suc, ◌+◌, ◌-◌, ◌*◌, ◌/◌, ◌%◌, ◌^◌, ◌<◌, ◌≤◌, refl, sym, ◌∙◌, ap, subst, arith, inl, inr, Bool, true, false, cond, List, length}
-use Rattle.std.specs.Prelude.{slice_index_or, slice_get, Option, Some, None, ◌&&◌, ◌==◌, if◌then◌else◌, ℤ, pos, negsuc, ◌+ℤ◌, ◌<ℤ◌, nat_le, nat_lt}
+use Rattle.std.specs.Prelude.{slice_index_or, slice_get, Option, Some, None, Result, Ok, Err, IfOk, ◌&&◌, ◌==◌, if◌then◌else◌, ℤ, pos, negsuc, ◌+ℤ◌, ◌<ℤ◌, nat_le, nat_lt}
 use Rattle.std.proofs.lemmas.Int.{ints}
 use Rattle.bpf_model.specs.declared.value.Value.{Value}
 use Rattle.bpf_model.specs.declared.value.Value.TheVariants.{Nothing, Number, Pointer}
@@ -17,8 +17,22 @@ use Rattle.scalar_domain.specs.Scalar.{Holds}
 use Rattle.scalar_domain.specs.declared.scalar.Scalar.{Scalar}
 use Rattle.abstract_state.specs.declared.kind.RegKind.{RegKind}
 use Rattle.abstract_state.specs.declared.kind.RegKind.TheVariants.{Unwritten, Mixed, Num, Ctx, Frame, Map}
-use Rattle.abstract_state.specs.State.{IsOf, IsNear}
-use Rattle.abstract_state.specs.Steps.{Gives}
+use Rattle.abstract_state.specs.declared.kind.CellKind.{CellKind}
+use Rattle.abstract_state.specs.declared.kind.CellKind.TheVariants as cells
+use Rattle.abstract_state.specs.declared.kind.Region.{Region}
+use Rattle.abstract_state.specs.declared.state.AbsState.{AbsState}
+use Rattle.abstract_state.specs.State.{IsOf, IsNear, IsOfCell, IsNumber, Describes, kind_at, cell_at, IsEnvironment, IsReady, Keeps, Transfers, base_of, IsInRegion}
+use Rattle.abstract_state.specs.Steps.{Gives, Computes, SetsReg, SetsBytes, Yields, Flows, Done, Stepped}
+use Rattle.bpf_model.specs.Step.{State, Environment, Outcome, Moves, after, put, sets, map_value}
+use Rattle.bpf_model.specs.Spelling.{slot_count}
+use Rattle.bpf_model.specs.Plain.{Reads, Writes, ReadsByte, WritesByte}
+use Rattle.bpf_model.specs.Graph.{falls}
+use Rattle.std.proofs.lemmas.Bool.{ne_eqb, eqb-false, lt-ltb}
+use Rattle.std.proofs.lemmas.Result.{IfOk-weaker}
+use Rattle.bpf_model.specs.declared.insn.Operand.{Operand}
+use Rattle.bpf_model.specs.declared.insn.Operand.TheVariants.{Register, Immediate}
+use Rattle.bpf_model.specs.declared.value.Reference.TheVariants.{MapRef}
+use Rattle.abstract_state.specs.declared.fault.Fault.{Fault}
 use Rattle.abstract_state.specs.Laws.{alu_lt, computed_numbers}
 
 ap2 : {A B C : Type 0} (f : A → B → C) {a a' : A} {b b' : B} → a ≡ a' → b ≡ b' → f a b ≡ f a' b'
@@ -52,3 +66,87 @@ low_sound size y z b r s f hz h v w j _ =
       (alu size Move 0 j'.0, refl, alu_lt size Move 0 _ (omega arith) j'.2, h 0 _ (omega arith) j'.2 hz j'.3),
       tt,
     )
+
+-- a register set in both
+of_cond : (t : Bool) (k k' : RegKind) (v v' : Value) → IsOf k v → IsOf k' v' → IsOf (cond t k k') (cond t v v')
+of_cond true k k' v v' p q = p
+of_cond false k k' v v' p q = q
+
+near_cond : (t : Bool) (v v' : Value) → IsNear v → IsNear v' → IsNear (cond t v v')
+near_cond true v v' p q = p
+near_cond false v v' p q = q
+
+pub describes_put : (r : ℕ) (k : RegKind) (v : Value) (place : ℕ) (a b : AbsState) (m : State) → SetsReg r k a b → IsOf k v → IsNear v → Describes a m
+    → Describes b (record { regs = put r v m.regs; frame = m.frame; place = place })
+describes_put r k v place a b m s i n d = record {
+  near = λ q. near_cond (q == r) v (m.regs q) n (d.near q);
+  regs = λ q. subst (λ k'. IsOf k' (put r v m.regs q)) (sym (s.regs q)) (of_cond (q == r) k (kind_at a q) v (m.regs q) i (d.regs q));
+  cells = λ q. subst (λ (f : List CellKind). IsOfCell (slice_index_or f q cells.Unwritten) (m.frame q)) (sym s.frame) (d.cells q);
+}
+
+-- an instruction that sets a register
+pub write_flows : (i : Insn) (dst : ℕ) (k : RegKind) (a b : AbsState) (ctx_len maps : ℕ) → (10 ≡ dst → ⊥) → SetsReg dst k a b
+    → ((env : Environment) (m : State) → IsEnvironment ctx_len maps env → Describes a m → Yields i dst k env m) → Flows i ctx_len maps a b
+write_flows i dst k a b ctx_len maps ne sets yields env m e d =
+    let y = yields env m e d in
+    let next : State = record { regs = put dst y.0 m.regs; frame = m.frame; place = m.place + slot_count i } in (
+      next,
+      y.1 ∙ ap (λ t. if t then None else Some (Moves next)) (ne_eqb dst 10 (λ f. ne (sym f))),
+      refl,
+      describes_put dst k y.0 next.place a b m sets y.2 y.3 d,
+    )
+
+-- an instruction that falls through alone
+pub flows_transfers : (i : Insn) (a b : AbsState) (ctx_len maps : ℕ) → falls i ≡ true → Flows i ctx_len maps a b → Transfers i ctx_len maps a b None
+flows_transfers i a b ctx_len maps t flows env m e d =
+    let r = flows env m e d in
+    (Moves r.0, r.1, inl (t, r.2, r.3))
+
+number_cond : (t : Bool) (k k' : RegKind) → IsNumber k → (t ≡ false → IsNumber k') → IsNumber (cond t k k')
+number_cond true k k' p q = p
+number_cond false k k' p q = q refl
+
+pub write_keeps : (i : Insn) (dst : ℕ) (k : RegKind) (a b : AbsState) → ((r : ℕ) → Writes i r → r ≡ dst) → ((q : ℕ) → WritesByte i q → ⊥) → (10 ≡ dst → ⊥)
+    → SetsReg dst k a b → IsNumber k → IsReady i a → Keeps i a b
+write_keeps i dst k a b writes no_bytes ne sets n ready = record {
+  frame = sets.regs 10 ∙ ap (λ t. if t then k else kind_at a 10) (ne_eqb 10 dst ne) ∙ ready.frame;
+  regs = λ r h. subst IsNumber (sym (sets.regs r))
+      (number_cond (r == dst) k (kind_at a r) n (λ f. elim h [ inl p ↦ p | inr w ↦ absurd (eqb-false r dst f (writes r w)) ]));
+  cells = λ q h. ap (λ (f : List CellKind). slice_index_or f q cells.Unwritten) sets.frame ∙ (elim h [ inl p ↦ p | inr w ↦ absurd (no_bytes q w) ]);
+}
+
+-- an instruction that sets a register and is done
+pub write_steps : (i : Insn) (dst : ℕ) (k : RegKind) (a b : AbsState) (area : Region) (ctx_len maps : ℕ)
+    → falls i ≡ true → ((r : ℕ) → Writes i r → r ≡ dst) → ((q : ℕ) → WritesByte i q → ⊥)
+    → (10 ≡ dst → ⊥) → SetsReg dst k a b → (IsReady i a → IsNumber k)
+    → ((r : ℕ) (m : State) → base_of i ≡ Some r → Describes a m → IsInRegion area (m.regs r))
+    → ((env : Environment) (m : State) → IsEnvironment ctx_len maps env → Describes a m → Yields i dst k env m)
+    → Stepped i ctx_len maps a b (Ok area)
+write_steps i dst k a b area ctx_len maps t writes no_bytes ne sets numbers reaches yields = record {
+  accepts = λ _. refl;
+  done = record {
+    sound = λ _. flows_transfers i a b ctx_len maps t (write_flows i dst k a b ctx_len maps ne sets yields);
+    reaches = reaches;
+    keeps = λ ready. write_keeps i dst k a b writes no_bytes ne sets (numbers ready) ready;
+  };
+}
+
+-- what a register of this kind holds
+pub number_of : (a : AbsState) (r : ℕ) (s : Scalar) (m : State) → kind_at a r ≡ Num s → Describes a m → IsOf (Num s) (m.regs r)
+number_of a r s m e d = subst (λ k. IsOf k (m.regs r)) e (d.regs r)
+
+near_operand : (src : Operand) (a : AbsState) (m : State) → Describes a m → IsNear (operand_value src m.regs)
+near_operand (Register r) a m d = d.near r
+near_operand (Immediate imm) a m d = tt
+
+pub move_computes : (op : AluOp) (size : Size) (dst : ℕ) (src : Operand) (a : AbsState) (y : RegKind) (result : Result RegKind Fault) → op ≡ Move
+    → ((m : State) → Describes a m → IsOf y (operand_value src m.regs))
+    → IfOk result (λ k. (v w : Value) → IsOf y w → IsNear w → Gives k (computed size Move v w))
+    → IfOk result (λ k. Computes size op dst src a k)
+move_computes op size dst src a y result e o h = IfOk-weaker result _ _
+    (λ k f m d. subst (λ (op : AluOp). Gives k (computed size op (m.regs dst) (operand_value src m.regs))) (sym e) (f (m.regs dst) (operand_value src m.regs) (o m d) (near_operand src a m d)))
+    h
+
+pub map_found : (map : ℤ) (n ctx_len maps : ℕ) (env : Environment) → map ≡ pos n → n < maps → IsEnvironment ctx_len maps env → map_value env map ≡ Some (Pointer (MapRef n))
+map_found map n ctx_len maps env e l i =
+    ap (map_value env) e ∙ ap (λ t. if t then Some (Pointer (MapRef n)) else None) (lt-ltb n env.maps (subst (λ k. n < k) (sym i.bound) l))

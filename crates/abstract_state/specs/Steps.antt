@@ -1,5 +1,5 @@
 -- How states are joined and changed, a part at a time.
-use Rattle.std.specs.Prelude.{◌≡◌, ℕ, ◌+◌, ◌^◌, ◌<◌, ◌≤◌, Option, Some, None, Result, IfOk, IsOk, Bool, ℤ, pos, if◌then◌else◌}
+use Rattle.std.specs.Prelude.{◌≡◌, ℕ, ◌+◌, ◌^◌, ◌<◌, ◌≤◌, Option, Some, None, Result, IfOk, IsOk, IsSome, Bool, ℤ, pos, if◌then◌else◌}
 use Rattle.bpf_model.specs.declared.value.Value.{Value}
 use Rattle.bpf_model.specs.declared.value.Value.TheVariants.{Number, Pointer}
 use Rattle.bpf_model.specs.declared.value.Reference.TheVariants as references
@@ -25,7 +25,8 @@ use Rattle.abstract_state.specs.declared.kind.CellKind.TheVariants.{Unwritten, B
 use Rattle.abstract_state.specs.declared.kind.Region.{Region}
 use Rattle.abstract_state.specs.declared.fault.Fault.{Fault}
 use Rattle.abstract_state.specs.declared.state.AbsState.{AbsState}
-use Rattle.abstract_state.specs.State.{IsOf, IsNumber, IsNear, InLimits, Describes, IsEnvironment, kind_at, cell_at, IsForward, Transfers, base_of, IsInRegion, IsReady, Keeps}
+use Rattle.abstract_state.specs.declared.state.Flow.{Flow}
+use Rattle.abstract_state.specs.State.{IsOf, IsNumber, IsNear, InLimits, Describes, IsEnvironment, kind_at, cell_at, IsForward, Transfers, base_of, IsInRegion, IsReady, IsFine, Keeps}
 
 -- a byte where both are
 abbrev pub join_cell : CellKind → CellKind → CellKind
@@ -78,6 +79,10 @@ abbrev pub Flows : Insn → ℕ → ℕ → AbsState → AbsState → Type 0
 Flows i ctx_len maps old new = (env : Environment) (m : State) → IsEnvironment ctx_len maps env → Describes old m
     → (next : State) × (after i env m ≡ Some (Moves next)) × (next.place ≡ m.place + slot_count i) × Describes new next
 
+-- The instruction sets the register to a value of the kind, and goes on.
+abbrev pub Yields : Insn → ℕ → RegKind → Environment → State → Type 0
+Yields i dst k env m = (v : Value) × (after i env m ≡ sets (slot_count i) dst v m) × IsOf k v × IsNear v
+
 -- An instruction that has no second state behind it: all that is said of it.
 pub record Done (i : Insn) (ctx_len maps : ℕ) (old new : AbsState) (area : Region) : Type 0 where
   pub sound : IsForward i → Transfers i ctx_len maps old new None
@@ -98,3 +103,11 @@ stored_by width dst (Immediate imm) offset = Store width dst offset imm
 abbrev pub Assumes : Condition → Size → ℕ → Operand → Bool → AbsState → AbsState → Type 0
 Assumes condition size dst src taken old new = (m : State) → Describes old m → (p q : ℕ) → m.regs dst ≡ Number p → operand_value src m.regs ≡ Number q
     → compares size condition p q ≡ taken → Describes new m
+
+-- A conditional jump: both edges, the one that is taken beside the new state, or refused.
+pub record IsSplit (i : Insn) (old new : AbsState) (result : Result Flow Fault) : Type 0 where
+  pub sound : IfOk result (λ f. (ctx_len maps : ℕ) → IsForward i → Transfers i ctx_len maps old new f.taken)
+  pub branches : IfOk result (λ f. IsSome f.taken)
+  pub accepts : IsReady i old → IsFine result
+  pub keeps : IfOk result (λ f. IsReady i old → Keeps i old new)
+  pub keeps_taken : IfOk result (λ f. IsReady i old → (t : AbsState) → f.taken ≡ Some t → Keeps i old t)

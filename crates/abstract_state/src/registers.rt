@@ -15,8 +15,8 @@ use scalar_domain::Scalar;
 
 /// No instruction writes r10.
 pub(crate) fn check_writable(dst: Reg) -> Result<(), Fault>
-    ensures value { OnOk result (dst ≡ 10 → ⊥) }
-    ensures accepts { (dst ≡ 10 → ⊥) → IsOk result }
+    ensures value { OnOk result (10 ≡ dst → ⊥) }
+    ensures accepts { (10 ≡ dst → ⊥) → IsOk result }
 {
     if dst.number() == 10 {
         return Err(Fault::FramePointerWritten);

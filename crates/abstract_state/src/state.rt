@@ -5,7 +5,7 @@ ghost use Rattle.bpf_model.specs.Step.{State, entry};
 use crate::fault::Fault;
 use crate::frame::FrameCells;
 use crate::kind::{RegKind, Region, join_kinds};
-use bpf_model::Insn;
+use bpf_model::{Insn, Operand};
 use std::alloc::{AllocError, Global};
 
 /// What is known before an instruction.
@@ -89,6 +89,30 @@ impl AbsState {
         ensures keeps { OnOk result (IsReady insn.now self.old → Keeps insn.now self.old self.new) }
         ensures keeps_taken { IfOk result (λ f. IsReady insn.now self.old → (t : AbsState) → f.taken ≡ Some t → Keeps insn.now self.old t) }
     {
-        Err(Fault::Memory)
+        let region = match insn {
+            Insn::Alu { op, size, dst, src } => self.alu(*op, *size, *dst, src)?,
+            Insn::MoveSigned { extension, dst, src } => self.move_signed(*extension, *dst, *src)?,
+            Insn::Negate { size, dst } => self.negate(*size, *dst)?,
+            Insn::ByteSwap { order, width, dst } => self.byte_swap(*order, *width, *dst)?,
+            Insn::LoadNumber { dst, number } => self.load_number(*dst, *number)?,
+            Insn::LoadMap { dst, map } => self.load_map(*dst, *map, maps)?,
+            Insn::Jump { .. } | Insn::JumpLong { .. } => Region::None,
+            Insn::JumpIf { condition, size, dst, src, .. } => {
+                return self.fork(alloc, *condition, *size, *dst, src);
+            }
+            Insn::Call { .. } => return Err(Fault::UnknownCall),
+            Insn::Exit => self.exit()?,
+            Insn::Load { width, dst, src, offset } => self.load(*width, *dst, *src, *offset, ctx_len)?,
+            Insn::LoadSigned { width, dst, src, offset } => {
+                self.load_signed(*width, *dst, *src, *offset, ctx_len)?
+            }
+            Insn::Store { width, dst, offset, imm } => {
+                self.store(*width, *dst, &Operand::Immediate(*imm), *offset)?
+            }
+            Insn::StoreRegister { width, dst, src, offset } => {
+                self.store(*width, *dst, &Operand::Register(*src), *offset)?
+            }
+        };
+        Ok(Flow { region, taken: None })
     }
 }
