@@ -1,3 +1,4 @@
 pub mod Accesses
 pub mod Join
+pub mod Jumps
 pub mod Sound

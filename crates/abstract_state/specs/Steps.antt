@@ -99,11 +99,6 @@ abbrev pub stored_by : Width → ℕ → Operand → ℤ → Insn
 stored_by width dst (Register src) offset = StoreRegister width dst src offset
 stored_by width dst (Immediate imm) offset = Store width dst offset imm
 
--- Where the condition comes out so, the new state describes what the old one did.
-abbrev pub Assumes : Condition → Size → ℕ → Operand → Bool → AbsState → AbsState → Type 0
-Assumes condition size dst src taken old new = (m : State) → Describes old m → (p q : ℕ) → m.regs dst ≡ Number p → operand_value src m.regs ≡ Number q
-    → compares size condition p q ≡ taken → Describes new m
-
 -- A conditional jump: both edges, the one that is taken beside the new state, or refused.
 pub record IsSplit (i : Insn) (old new : AbsState) (result : Result Flow Fault) : Type 0 where
   pub sound : IfOk result (λ f. (ctx_len maps : ℕ) → IsForward i → Transfers i ctx_len maps old new f.taken)
