@@ -68,7 +68,7 @@ frame_loads width at src o offset k a env m e f p bytes d =
     let some = some_bytes width in
     let first = byte_cell (cell_at a at) (m.frame at) (bytes at (omega arith) (omega arith)) (d.cells at) in
     let r = number_read (λ k. byte_of (m.frame k)) at (byte_count width)
-        (λ j h l. let b = byte_cell (cell_at a j) (m.frame j) (bytes j h l) (d.cells j) in (b.0, ap byte_of b.1, b.2)) in
+    (λ j h l. let b = byte_cell (cell_at a j) (m.frame j) (bytes j h l) (d.cells j) in (b.0, ap byte_of b.1, b.2)) in
     let w : m.regs src ≡ Pointer (references.Frame o) = subst (λ k. IsOf k (m.regs src)) f (based k a m src e d) in (
       r.0,
       ap (load_from env m (byte_count width) offset) w
@@ -137,11 +137,11 @@ access_steps i width at dst o offset src base value a b ctx_len maps t slots of_
   accepts = λ _. refl;
   done = record {
     sound = λ _. flows_transfers i a b ctx_len maps t (λ env m _ d.
-      let s = stores (byte_count width) at dst o offset src base value a b m e f n (sound m d) p sets d in
-      (s.0, is env m ∙ s.1, s.2 ∙ ap (λ k. m.place + k) (sym slots), s.3));
+        let s = stores (byte_count width) at dst o offset src base value a b m e f n (sound m d) p sets d in
+        (s.0, is env m ∙ s.1, s.2 ∙ ap (λ k. m.place + k) (sym slots), s.3));
     reaches = λ r m g d.
-      let h : dst ≡ r = cc in
-      subst (λ r. IsInRegion regions.Frame (m.regs r)) h (o, subst (λ k. IsOf k (m.regs dst)) f (based base a m dst e d));
+        let h : dst ≡ r = cc in
+        subst (λ r. IsInRegion regions.Frame (m.regs r)) h (o, subst (λ k. IsOf k (m.regs dst)) f (based base a m dst e d));
     keeps = λ ready. record {
       frame = ap (λ (r : List RegKind). slice_index_or r 10 Unwritten) sets.regs ∙ ready.frame;
       regs = λ r h. subst (λ (k : List RegKind). IsNumber (slice_index_or k r Unwritten)) (sym sets.regs) (elim h [ inl x ↦ x | inr w ↦ absurd (no_regs r w) ]);

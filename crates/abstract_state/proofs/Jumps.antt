@@ -67,8 +67,8 @@ exit_steps a s ctx_len maps e = record {
   accepts = λ _. refl;
   done = record {
     sound = λ _ env m _ d.
-      let n = number_of a 0 s m e d in
-      (Exits n.0, ap (λ v. number v >>= λ n. Some (Exits n)) n.1, tt);
+        let n = number_of a 0 s m e d in
+        (Exits n.0, ap (λ v. number v >>= λ n. Some (Exits n)) n.1, tt);
     reaches = λ r m e d. cc;
     keeps = same_keeps Exit a (λ r w. w) (λ q w. w);
   };
@@ -101,9 +101,8 @@ fork_transfers condition size dst src offset x y a b t e o yea nay ctx_len maps 
     let p = number_of a dst x m e d in
     let q = o m d in
     let r = either (compares size condition p.0 q.0) (jumps_by offset m) (Some (Moves (forward 1 m))) (Leads i b (Some t) m.place)
-        (λ h. jump_leads i offset b (Some t) m refl forwards (yea m d p.0 q.0 p.1 q.1 p.2 q.2 p.3 q.3 h))
-        (λ h. (Moves (forward 1 m), refl, inl (refl, refl, placed b m (m.place + 1) (nay m d p.0 q.0 p.1 q.1 p.2 q.2 p.3 q.3 h)))) in
-    (
+    (λ h. jump_leads i offset b (Some t) m refl forwards (yea m d p.0 q.0 p.1 q.1 p.2 q.2 p.3 q.3 h))
+    (λ h. (Moves (forward 1 m), refl, inl (refl, refl, placed b m (m.place + 1) (nay m d p.0 q.0 p.1 q.1 p.2 q.2 p.3 q.3 h)))) in (
       r.0,
       ap (λ v. decided condition size src v (operand_value src m.regs) >>= λ taken. if taken then jumps_by offset m else Some (Moves (forward 1 m))) p.1
           ∙ ap (λ v. (number v >>= λ n. Some (compares size condition p.0 n)) >>= λ taken. if taken then jumps_by offset m else Some (Moves (forward 1 m))) q.1

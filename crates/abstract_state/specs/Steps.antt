@@ -1,5 +1,5 @@
 -- How states are joined and changed, a part at a time.
-use Rattle.std.specs.Prelude.{◌≡◌, ℕ, ◌+◌, ◌^◌, ◌<◌, ◌≤◌, Option, Some, None, Result, IfOk, IsOk, IsSome, Bool, ℤ, pos, if◌then◌else◌}
+use Rattle.std.specs.Prelude.{◌≡◌, ℕ, ◌+◌, ◌^◌, ◌<◌, ◌≤◌, Option, Some, None, Result, IfOk, OnOk, IsOk, IsSome, Bool, ℤ, pos, if◌then◌else◌}
 use Rattle.bpf_model.specs.declared.value.Value.{Value}
 use Rattle.bpf_model.specs.declared.value.Value.TheVariants.{Number, Pointer}
 use Rattle.bpf_model.specs.declared.value.Reference.TheVariants as references
@@ -26,7 +26,7 @@ use Rattle.abstract_state.specs.declared.kind.Region.{Region}
 use Rattle.abstract_state.specs.declared.fault.Fault.{Fault}
 use Rattle.abstract_state.specs.declared.state.AbsState.{AbsState}
 use Rattle.abstract_state.specs.declared.state.Flow.{Flow}
-use Rattle.abstract_state.specs.State.{IsOf, IsNumber, IsNear, InLimits, Describes, IsEnvironment, kind_at, cell_at, IsForward, Transfers, base_of, IsInRegion, IsReady, IsFine, Keeps}
+use Rattle.abstract_state.specs.State.{IsOf, IsNumber, IsNear, InLimits, Describes, IsEnvironment, kind_at, cell_at, IsForward, IsBranch, Transfers, base_of, IsInRegion, IsReady, IsFine, Keeps}
 
 -- a byte where both are
 abbrev pub join_cell : CellKind → CellKind → CellKind
@@ -68,7 +68,7 @@ Computes size op dst src a k = (m : State) → Describes a m → Gives k (comput
 abbrev pub Shifts : Size → AluOp → ℤ → Scalar → ℤ → Type 0
 Shifts size op o by p = (n : ℕ) → Holds by n
     → (computed size op (Pointer (references.Ctx o)) (Number n) ≡ Some (Pointer (references.Ctx p)))
-        × (computed size op (Pointer (references.Frame o)) (Number n) ≡ Some (Pointer (references.Frame p)))
+    × (computed size op (Pointer (references.Frame o)) (Number n) ≡ Some (Pointer (references.Frame p)))
 
 -- A load through the base finds a number of so many bytes.
 abbrev pub Loads : ℕ → ℤ → Environment → State → Value → Type 0
@@ -100,9 +100,10 @@ stored_by width dst (Register src) offset = StoreRegister width dst src offset
 stored_by width dst (Immediate imm) offset = Store width dst offset imm
 
 -- A conditional jump: both edges, the one that is taken beside the new state, or refused.
-pub record IsSplit (i : Insn) (old new : AbsState) (result : Result Flow Fault) : Type 0 where
-  pub sound : IfOk result (λ f. (ctx_len maps : ℕ) → IsForward i → Transfers i ctx_len maps old new f.taken)
-  pub branches : IfOk result (λ f. IsSome f.taken)
+pub record IsSplit (i : Insn) (ctx_len maps : ℕ) (old new : AbsState) (result : Result Flow Fault) : Type 0 where
+  pub sound : IfOk result (λ f. IsForward i → Transfers i ctx_len maps old new f.taken)
+  pub reaches : IfOk result (λ f. (b : ℕ) (m : State) → base_of i ≡ Some b → Describes old m → IsInRegion f.region (m.regs b))
+  pub branches : IfOk result (λ f. IsBranch i → IsSome f.taken)
   pub accepts : IsReady i old → IsFine result
-  pub keeps : IfOk result (λ f. IsReady i old → Keeps i old new)
+  pub keeps : OnOk result (IsReady i old → Keeps i old new)
   pub keeps_taken : IfOk result (λ f. IsReady i old → (t : AbsState) → f.taken ≡ Some t → Keeps i old t)

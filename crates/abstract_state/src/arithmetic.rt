@@ -39,7 +39,13 @@ impl AbsState {
         }
     }
 
-    pub(crate) fn alu(&mut self, op: AluOp, size: Size, dst: Reg, src: &Operand) -> Result<Region, Fault>
+    pub(crate) fn alu(
+        &mut self,
+        op: AluOp,
+        size: Size,
+        dst: Reg,
+        src: &Operand,
+    ) -> Result<Region, Fault>
         ensures { (ctx_len maps : ℕ) → Stepped (Insn.Alu op size dst src.now) ctx_len maps self.old self.new result }
     {
         check_writable(dst)?;
@@ -48,7 +54,12 @@ impl AbsState {
         Ok(Region::None)
     }
 
-    pub(crate) fn move_signed(&mut self, extension: SignExtension, dst: Reg, src: Reg) -> Result<Region, Fault>
+    pub(crate) fn move_signed(
+        &mut self,
+        extension: SignExtension,
+        dst: Reg,
+        src: Reg,
+    ) -> Result<Region, Fault>
         ensures { (ctx_len maps : ℕ) → Stepped (Insn.MoveSigned extension dst src) ctx_len maps self.old self.new result }
     {
         check_writable(dst)?;
@@ -66,7 +77,12 @@ impl AbsState {
         Ok(Region::None)
     }
 
-    pub(crate) fn byte_swap(&mut self, order: ByteOrder, width: SwapWidth, dst: Reg) -> Result<Region, Fault>
+    pub(crate) fn byte_swap(
+        &mut self,
+        order: ByteOrder,
+        width: SwapWidth,
+        dst: Reg,
+    ) -> Result<Region, Fault>
         ensures { (ctx_len maps : ℕ) → Stepped (Insn.ByteSwap order width dst) ctx_len maps self.old self.new result }
     {
         check_writable(dst)?;

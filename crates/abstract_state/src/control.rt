@@ -60,7 +60,7 @@ impl AbsState {
         dst: Reg,
         src: &Operand,
     ) -> Result<Flow, Fault>
-        ensures { (offset : ℤ) → IsSplit (Insn.JumpIf condition size dst src.now offset) self.old self.new result }
+        ensures { (offset : ℤ) (ctx_len maps : ℕ) → IsSplit (Insn.JumpIf condition size dst src.now offset) ctx_len maps self.old self.new result }
     {
         let (x, y) = self.compared(dst, src)?;
         let mut taken = self.copy(alloc)?;

@@ -52,7 +52,14 @@ impl AbsState {
         }
     }
 
-    pub(crate) fn load(&mut self, width: Width, dst: Reg, src: Reg, offset: i16, ctx_len: usize) -> Result<Region, Fault>
+    pub(crate) fn load(
+        &mut self,
+        width: Width,
+        dst: Reg,
+        src: Reg,
+        offset: i16,
+        ctx_len: usize,
+    ) -> Result<Region, Fault>
         ensures { (maps : ℕ) → Stepped (Insn.Load width dst src offset) ctx_len maps self.old self.new result }
     {
         check_writable(dst)?;
@@ -61,7 +68,14 @@ impl AbsState {
         Ok(region)
     }
 
-    pub(crate) fn load_signed(&mut self, width: SignedWidth, dst: Reg, src: Reg, offset: i16, ctx_len: usize) -> Result<Region, Fault>
+    pub(crate) fn load_signed(
+        &mut self,
+        width: SignedWidth,
+        dst: Reg,
+        src: Reg,
+        offset: i16,
+        ctx_len: usize,
+    ) -> Result<Region, Fault>
         ensures { (maps : ℕ) → Stepped (Insn.LoadSigned width dst src offset) ctx_len maps self.old self.new result }
     {
         check_writable(dst)?;
@@ -77,7 +91,13 @@ impl AbsState {
         self.frame.write(at, width.bytes());
     }
 
-    pub(crate) fn store(&mut self, width: Width, dst: Reg, src: &Operand, offset: i16) -> Result<Region, Fault>
+    pub(crate) fn store(
+        &mut self,
+        width: Width,
+        dst: Reg,
+        src: &Operand,
+        offset: i16,
+    ) -> Result<Region, Fault>
         ensures { (ctx_len maps : ℕ) → Stepped (stored_by width dst src.now offset) ctx_len maps self.old self.new result }
     {
         let base = self.held(dst)?;

@@ -16,12 +16,12 @@ returns c =
     let f : SFits w16 c.args.offset = search rules in
     let loads = simp to_z-of_z at c.in_ok-region.ensures.loads in
     λ maps. write_steps (Load c.args.width c.args.dst c.args.src c.args.offset) c.args.dst (Num c.loaded.result) c.args.self.now c.set.new.self c.in_ok-region.region c.args.ctx_len maps
-        refl (λ r w. w) (λ q w. w) c.in_ok-check_writable.ensures.value c.set.ensures (λ _. tt)
-        (λ r m e d. let g : c.args.src ≡ r = cc in subst (λ r. IsInRegion c.in_ok-region.region (m.regs r)) g (c.in_ok-region.ensures.region m d))
-        (λ env m i d.
-          let n = loads maps env m i d in (
-            Number n.0,
-            ap (λ o. o >>= λ v. sets 1 c.args.dst v m) n.1,
-            (n.0, refl, loaded_lt c.args.width n.0 n.2, c.loaded.ensures.sound n.0 n.2),
-            tt,
-          ))
+    refl (λ r w. w) (λ q w. w) c.in_ok-check_writable.ensures.value c.set.ensures (λ _. tt)
+    (λ r m e d. let g : c.args.src ≡ r = cc in subst (λ r. IsInRegion c.in_ok-region.region (m.regs r)) g (c.in_ok-region.ensures.region m d))
+    (λ env m i d.
+    let n = loads maps env m i d in (
+      Number n.0,
+      ap (λ o. o >>= λ v. sets 1 c.args.dst v m) n.1,
+      (n.0, refl, loaded_lt c.args.width n.0 n.2, c.loaded.ensures.sound n.0 n.2),
+      tt,
+    ))

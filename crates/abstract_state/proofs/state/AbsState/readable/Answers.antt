@@ -10,7 +10,7 @@ returns-in_ok-_place-in-Ctx-clause-loads c =
     let g : SFits w16 c.args.offset = search rules in
     let p = simp to_z-of_z at c.in_ok-_place-in-Ctx.ensures.place in
     λ maps env m i d. ctx_loads c.args.ctx_len _ c.in_ok-_place-in-Ctx._place c.args.src maps c.in-Ctx.base c.args.offset c.in_ok-base.field-0 c.args.self.now env m
-        c.in_ok-base.ensures.value c.in-Ctx.is p c.in_ok-_place-in-Ctx.ensures.inside i d
+    c.in_ok-base.ensures.value c.in-Ctx.is p c.in_ok-_place-in-Ctx.ensures.inside i d
 
 pub returns-else-not-is_written-clause-loads : goal.returns-else-not-is_written-clause-loads
 returns-else-not-is_written-clause-loads c =
@@ -19,4 +19,4 @@ returns-else-not-is_written-clause-loads c =
     let p = simp to_z-of_z at c.in_ok-at-in-Frame.ensures.place in
     let bytes = rw c.bytes.ensures.value at (c.is_written.ensures.sound (search rules)) in
     λ maps env m i d. frame_loads c.args.width c.in_ok-at-in-Frame.at c.args.src c.in-Frame.base c.args.offset c.in_ok-base.field-0 c.args.self.now env m
-        c.in_ok-base.ensures.value c.in-Frame.is p bytes d
+    c.in_ok-base.ensures.value c.in-Frame.is p bytes d
