@@ -1,15 +1,16 @@
 -- Each instruction leads from described states to described ones.
 use Rattle.std.proofs.Common.{◌≡◌, ℕ, zero, suc, ◌+◌, ◌-◌, ◌*◌, ◌/◌, ◌%◌, ◌^◌, ◌<◌, ◌≤◌, refl, sym, ◌∙◌, ap, subst, arith, inl, inr, Bool, true, false, cond, List, length}
-use Rattle.std.specs.Prelude.{slice_index_or, slice_get, Option, Some, None, Result, Ok, Err, IfOk, ◌&&◌, ◌==◌, if◌then◌else◌, ℤ, pos, negsuc, ◌+ℤ◌, ◌<ℤ◌, nat_le, nat_lt}
+use Rattle.std.specs.Prelude.{slice_index_or, slice_get, Option, Some, None, Result, Ok, Err, IfOk, ◌&&◌, ◌==◌, if◌then◌else◌, ℤ, pos, negsuc, ◌+ℤ◌, ◌-ℤ◌, ◌<ℤ◌, nat_le, nat_lt}
 use Rattle.std.proofs.lemmas.Int.{ints}
+use Rattle.std.specs.Int.{w64}
 use Rattle.bpf_model.specs.declared.value.Value.{Value}
 use Rattle.bpf_model.specs.declared.value.Value.TheVariants.{Nothing, Number, Pointer}
 use Rattle.bpf_model.specs.declared.insn.AluOp.{AluOp}
-use Rattle.bpf_model.specs.declared.insn.AluOp.TheVariants.{Move}
+use Rattle.bpf_model.specs.declared.insn.AluOp.TheVariants.{Add, Sub, Move}
 use Rattle.bpf_model.specs.declared.insn.Insn.{Insn}
 use Rattle.bpf_model.specs.declared.opcode.Size.{Size}
 use Rattle.bpf_model.specs.declared.opcode.Size.TheVariants.{Word32, Word64}
-use Rattle.bpf_model.specs.Arithmetic.{alu}
+use Rattle.bpf_model.specs.Arithmetic.{alu, signed}
 use Rattle.bpf_model.specs.Access.{place_of}
 use Rattle.bpf_model.specs.Value.{◌>>=◌}
 use Rattle.bpf_model.specs.Operand.{computed, operand_value}
@@ -22,7 +23,7 @@ use Rattle.abstract_state.specs.declared.kind.CellKind.TheVariants as cells
 use Rattle.abstract_state.specs.declared.kind.Region.{Region}
 use Rattle.abstract_state.specs.declared.state.AbsState.{AbsState}
 use Rattle.abstract_state.specs.State.{IsOf, IsNear, IsOfCell, IsNumber, Describes, kind_at, cell_at, IsEnvironment, IsReady, Keeps, Transfers, base_of, IsInRegion}
-use Rattle.abstract_state.specs.Steps.{Gives, Computes, SetsReg, SetsBytes, Yields, Flows, Done, Stepped}
+use Rattle.abstract_state.specs.Steps.{Gives, Computes, Shifts, SetsReg, SetsBytes, Yields, Flows, Done, Stepped}
 use Rattle.bpf_model.specs.Step.{State, Environment, Outcome, Moves, after, put, sets, map_value}
 use Rattle.bpf_model.specs.Spelling.{slot_count}
 use Rattle.bpf_model.specs.Plain.{Reads, Writes, ReadsByte, WritesByte}
@@ -31,7 +32,7 @@ use Rattle.std.proofs.lemmas.Bool.{ne_eqb, eqb-false, lt-ltb}
 use Rattle.std.proofs.lemmas.Result.{IfOk-weaker}
 use Rattle.bpf_model.specs.declared.insn.Operand.{Operand}
 use Rattle.bpf_model.specs.declared.insn.Operand.TheVariants.{Register, Immediate}
-use Rattle.bpf_model.specs.declared.value.Reference.TheVariants.{MapRef}
+use Rattle.bpf_model.specs.declared.value.Reference.TheVariants as references
 use Rattle.abstract_state.specs.declared.fault.Fault.{Fault}
 use Rattle.abstract_state.specs.Laws.{alu_lt, computed_numbers}
 
@@ -147,6 +148,24 @@ move_computes op size dst src a y result e o h = IfOk-weaker result _ _
     (λ k f m d. subst (λ (op : AluOp). Gives k (computed size op (m.regs dst) (operand_value src m.regs))) (sym e) (f (m.regs dst) (operand_value src m.regs) (o m d) (near_operand src a m d)))
     h
 
-pub map_found : (map : ℤ) (n ctx_len maps : ℕ) (env : Environment) → map ≡ pos n → n < maps → IsEnvironment ctx_len maps env → map_value env map ≡ Some (Pointer (MapRef n))
+pub map_found : (map : ℤ) (n ctx_len maps : ℕ) (env : Environment) → map ≡ pos n → n < maps → IsEnvironment ctx_len maps env → map_value env map ≡ Some (Pointer (references.MapRef n))
 map_found map n ctx_len maps env e l i =
-    ap (map_value env) e ∙ ap (λ t. if t then Some (Pointer (MapRef n)) else None) (lt-ltb n env.maps (subst (λ k. n < k) (sym i.bound) l))
+    ap (map_value env) e ∙ ap (λ t. if t then Some (Pointer (references.MapRef n)) else None) (lt-ltb n env.maps (subst (λ k. n < k) (sym i.bound) l))
+
+-- a reference moved forward, and back
+pub moves_forward : (size : Size) (op : AluOp) (o d : ℤ) (by : Scalar) (result : Result ℤ Fault) → size ≡ Word64 → op ≡ Add → ((n : ℕ) → Holds by n → d ≡ signed w64 n)
+    → IfOk result (λ p. p ≡ o +ℤ d) → IfOk result (λ p. Shifts size op o by p)
+moves_forward size op o d by result e f value h =
+    let g : IfOk result (λ p. Shifts Word64 Add o by p) = IfOk-weaker result _ _
+        (λ p q n i. let x : o +ℤ signed w64 n ≡ p = ap (λ z. o +ℤ z) (sym (value n i)) ∙ sym q in (ap (λ z. Some (Pointer (references.Ctx z))) x, ap (λ z. Some (Pointer (references.Frame z))) x)) h in
+    subst (λ size. IfOk result (λ p. Shifts size op o by p)) (sym e) (subst (λ op. IfOk result (λ p. Shifts Word64 op o by p)) (sym f) g)
+
+pub moves_back : (size : Size) (op : AluOp) (o d : ℤ) (by : Scalar) (result : Result ℤ Fault) → size ≡ Word64 → op ≡ Sub → ((n : ℕ) → Holds by n → d ≡ signed w64 n)
+    → IfOk result (λ p. p ≡ o -ℤ d) → IfOk result (λ p. Shifts size op o by p)
+moves_back size op o d by result e f value h =
+    let g : IfOk result (λ p. Shifts Word64 Sub o by p) = IfOk-weaker result _ _
+        (λ p q n i.
+          let v = value n i in
+          let x : o +ℤ (pos 0 -ℤ signed w64 n) ≡ p = omega (arith, ints) in
+          (ap (λ z. Some (Pointer (references.Ctx z))) x, ap (λ z. Some (Pointer (references.Frame z))) x)) h in
+    subst (λ size. IfOk result (λ p. Shifts size op o by p)) (sym e) (subst (λ op. IfOk result (λ p. Shifts Word64 op o by p)) (sym f) g)

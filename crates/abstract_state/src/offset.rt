@@ -1,5 +1,5 @@
 //! Offsets of references.
-ghost use Rattle.std.specs.Prelude.{◌≡◌, ℕ, ◌+◌, ◌≤◌, IfOk, IfErr, MatchOption, Some, None, ◌+ℤ◌, pos, ◌<ℤ◌};
+ghost use Rattle.std.specs.Prelude.{◌≡◌, ℕ, ◌+◌, ◌≤◌, IfOk, IfErr, MatchOption, Some, None, ◌+ℤ◌, ◌-ℤ◌, pos, ◌<ℤ◌};
 ghost use Rattle.std.specs.Int.{w64};
 ghost use Rattle.bpf_model.specs.Access.{byte_count, place_of};
 ghost use Rattle.bpf_model.specs.Arithmetic.{signed};
@@ -35,6 +35,20 @@ fn displacement(by: Scalar) -> Result<i32, Fault>
     }
 }
 
+fn forward(offset: i32, by: i32) -> Result<i32, Fault>
+    ensures value { IfOk result (λ p. p ≡ offset +ℤ by) }
+    ensures near { IfOk result InLimits }
+{
+    in_limits(i64::from(offset) + i64::from(by))
+}
+
+fn back(offset: i32, by: i32) -> Result<i32, Fault>
+    ensures value { IfOk result (λ p. p ≡ offset -ℤ by) }
+    ensures near { IfOk result InLimits }
+{
+    in_limits(i64::from(offset) - i64::from(by))
+}
+
 /// The offset of a reference to which a number is added, or from which it is taken.
 pub(crate) fn moved(size: Size, op: AluOp, offset: i32, by: Scalar) -> Result<i32, Fault>
     ensures shifts { IfOk result (λ p. Shifts size op offset by p) }
@@ -42,8 +56,8 @@ pub(crate) fn moved(size: Size, op: AluOp, offset: i32, by: Scalar) -> Result<i3
 {
     let by = displacement(by)?;
     match (size, op) {
-        (Size::Word64, AluOp::Add) => in_limits(i64::from(offset) + i64::from(by)),
-        (Size::Word64, AluOp::Sub) => in_limits(i64::from(offset) - i64::from(by)),
+        (Size::Word64, AluOp::Add) => forward(offset, by),
+        (Size::Word64, AluOp::Sub) => back(offset, by),
         _ => Err(Fault::PointerArithmetic),
     }
 }

@@ -1,12 +1,13 @@
-//! The sets.
-ghost use Rattle.std.specs.Prelude.{ℕ, ◌≡◌, ◌^◌, ◌<◌, ◌≤◌, min, max, MatchOption, ◌≢◌};
-ghost use Rattle.scalar_domain.specs.Scalar.{Holds, IsConstant};
-ghost use Rattle.bpf_model.specs.Arithmetic.{alu, negated, reordered, moved_signed, loaded_signed, compares};
+//! The sets, without operations.
+ghost use Rattle.std.specs.Prelude.{◌≡◌, ℕ, ◌<◌, ◌≤◌, ◌-◌, ◌^◌, IsTrue, MatchOption, min, max, bit_and, bit_or, ◌≢◌, ◌↔◌};
 ghost use Rattle.bpf_model.specs.Access.{byte_count};
+ghost use Rattle.scalar_domain.specs.Scalar.{Holds, IsConstant, IsPossible, Within};
 
-use bpf_model::{AluOp, ByteOrder, Condition, SignExtension, SignedWidth, Size, SwapWidth, Width};
+use bpf_model::Width;
 
-/// A set of numbers.
+/// A set of 64-bit numbers: those from `least` to `greatest` whose ones all stand in `may` and which have
+/// all the ones of `must`. So a bit that is 0 in `may` is known to be 0, and one that is 1 in `must` is
+/// known to be 1.
 #[derive(Clone, Copy, Debug, PartialEq, Eq)]
 pub struct Scalar {
     pub least: u64,
@@ -16,6 +17,8 @@ pub struct Scalar {
 }
 
 impl Scalar {
+    /// This number alone.
+    #[tactic(auto, using(crate::proofs::Bits::bits_laws))]
     pub fn constant(n: u64) -> Scalar
         ensures sound { Holds result n }
         ensures exact { IsConstant result n }
@@ -23,11 +26,12 @@ impl Scalar {
         Scalar {
             least: n,
             greatest: n,
-            may: u64::MAX,
-            must: 0,
+            may: n,
+            must: n,
         }
     }
 
+    /// Every number.
     pub fn unknown() -> Scalar
         ensures sound { (n : ℕ) → n < 2 ^ 64 → Holds result n }
     {
@@ -39,19 +43,45 @@ impl Scalar {
         }
     }
 
+    /// The numbers that a load of this width without sign can give.
     pub fn loaded(width: Width) -> Scalar
         ensures sound { (n : ℕ) → n < 256 ^ byte_count width → Holds result n }
+        ensures least { result.least ≡ 0 }
+        ensures greatest { result.greatest ≡ 256 ^ byte_count width - 1 }
     {
-        Scalar::unknown()
+        let greatest = match width {
+            Width::One => 0xff,
+            Width::Two => 0xffff,
+            Width::Four => 0xffff_ffff,
+            Width::Eight => u64::MAX,
+        };
+        Scalar {
+            least: 0,
+            greatest,
+            may: greatest,
+            must: 0,
+        }
     }
 
+    /// The numbers of both sets, and those between: the hull of the bounds, and the bits that agree.
+    #[tactic(auto, using(crate::proofs::Bits::bits_laws))]
     pub fn join(self, other: Scalar) -> Scalar
         ensures left { (n : ℕ) → Holds self n → Holds result n }
         ensures right { (n : ℕ) → Holds other n → Holds result n }
+        ensures least { result.least ≡ min self.least other.least }
+        ensures greatest { result.greatest ≡ max self.greatest other.greatest }
+        ensures zeros { result.may ≡ bit_or self.may other.may }
+        ensures ones { result.must ≡ bit_and self.must other.must }
     {
-        Scalar::unknown()
+        Scalar {
+            least: self.least.min(other.least),
+            greatest: self.greatest.max(other.greatest),
+            may: self.may | other.may,
+            must: self.must & other.must,
+        }
     }
 
+    /// The number that it stands for alone, by its bounds.
     pub fn as_constant(self) -> Option<u64>
         ensures { MatchOption result (self.least ≢ self.greatest) (λ n. IsConstant self n) }
     {
@@ -62,39 +92,17 @@ impl Scalar {
         }
     }
 
-    pub fn apply(size: Size, op: AluOp, a: Scalar, b: Scalar) -> Scalar
-        ensures sound { (x y : ℕ) → x < 2 ^ 64 → y < 2 ^ 64 → Holds a x → Holds b y → Holds result (alu size op x y) }
+    /// Whether it stands for this number, too.
+    pub fn contains(self, n: u64) -> bool
+        ensures { IsTrue result ↔ Holds self n }
     {
-        Scalar::unknown()
+        self.least <= n && n <= self.greatest && n & self.may == n && self.must & n == self.must
     }
 
-    pub fn negate(size: Size, a: Scalar) -> Scalar
-        ensures sound { (x : ℕ) → x < 2 ^ 64 → Holds a x → Holds result (negated size x) }
+    /// Whether its bounds are in order, and no bit is known to be both 0 and 1.
+    pub fn is_possible(self) -> bool
+        ensures { IsTrue result ↔ IsPossible self }
     {
-        Scalar::unknown()
-    }
-
-    pub fn byte_swap(order: ByteOrder, width: SwapWidth, a: Scalar) -> Scalar
-        ensures sound { (x : ℕ) → x < 2 ^ 64 → Holds a x → Holds result (reordered order width x) }
-    {
-        Scalar::unknown()
-    }
-
-    pub fn move_signed(extension: SignExtension, a: Scalar) -> Scalar
-        ensures sound { (x : ℕ) → x < 2 ^ 64 → Holds a x → Holds result (moved_signed extension x) }
-    {
-        Scalar::unknown()
-    }
-
-    pub fn load_signed(width: SignedWidth) -> Scalar
-        ensures sound { (n : ℕ) → Holds result (loaded_signed width n) }
-    {
-        Scalar::unknown()
-    }
-
-    pub fn refine(size: Size, condition: Condition, a: Scalar, b: Scalar, taken: bool) -> (Scalar, Scalar)
-        ensures sound { (x y : ℕ) → x < 2 ^ 64 → y < 2 ^ 64 → Holds a x → Holds b y → compares size condition x y ≡ taken → Holds result.0 x × Holds result.1 y }
-    {
-        (a, b)
+        self.least <= self.greatest && self.must & self.may == self.must
     }
 }

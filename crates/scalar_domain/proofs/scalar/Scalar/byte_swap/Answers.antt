@@ -1,4 +1,4 @@
-use Rattle.scalar_domain.specs.Laws.{reordered_lt}
+use Rattle.scalar_domain.proofs.Swaps.{reordered_lt}
 use Rattle.scalar_domain.proofs.scalar.Scalar.byte_swap.Goals as goal
 
 pub returns : goal.returns

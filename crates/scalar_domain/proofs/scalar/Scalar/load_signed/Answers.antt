@@ -1,5 +1,5 @@
-use Rattle.scalar_domain.specs.Laws.{loaded_signed_lt}
+use Rattle.scalar_domain.proofs.Words.{loaded_lt}
 use Rattle.scalar_domain.proofs.scalar.Scalar.load_signed.Goals as goal
 
 pub returns : goal.returns
-returns c = record { sound = λ x. c.unknown.ensures.sound _ (loaded_signed_lt c.args.width x) }
+returns c = record { sound = λ n. c.unknown.ensures.sound _ (loaded_lt c.args.width n) }

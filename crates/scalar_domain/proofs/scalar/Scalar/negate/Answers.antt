@@ -1,4 +1,4 @@
-use Rattle.scalar_domain.specs.Laws.{negated_lt}
+use Rattle.scalar_domain.proofs.Words.{negated_lt}
 use Rattle.scalar_domain.proofs.scalar.Scalar.negate.Goals as goal
 
 pub returns : goal.returns

@@ -1,0 +1,16 @@
+-- Sums that wrap or do not, and the order of products and quotients.
+use Rattle.std.proofs.Common.{◌≡◌, ℕ, zero, suc, ◌+◌, ◌-◌, ◌*◌, ◌/◌, ◌%◌, ◌^◌, ◌<◌, ◌≤◌, refl, sym, ◌∙◌, ap, subst, Bool, cond, arith}
+use Rattle.std.specs.Prelude.{◌==◌}
+use Rattle.std.proofs.lemmas.Nat.{le-div, mul-le, div-add-mod'}
+use Rattle.std.proofs.Math.Dec.{eqb-suc-zero}
+use Rattle.std.proofs.Math.Nat.{mod-eq_of_lt, mod-eq-sub-mod, div-mul-le_self, mul-le-mul_left}
+
+pub wrapped : (n : ℕ) → 2 ^ 64 ≤ n → n < 2 ^ 65 → n % 2 ^ 64 ≡ n - 2 ^ 64
+wrapped n h l = mod-eq-sub-mod h ∙ mod-eq_of_lt (omega arith)
+
+pub when_positive : {A : Type 0} (y : ℕ) (a b : A) → 0 < y → cond (y == 0) a b ≡ b
+when_positive zero a b p = absurd (omega (arith, p))
+when_positive (suc y) a b p = ap (λ t. cond t a b) (eqb-suc-zero y)
+
+pub div_mono : (x y g l : ℕ) → x ≤ g → 0 < l → l ≤ y → x / y ≤ g / l
+div_mono x y g l h p k = le-div (x / y) g l p (omega (arith, mul-le-mul_left (x / y) k, div-mul-le_self x y))

@@ -1,0 +1,164 @@
+//! Operations on bits.
+ghost use Rattle.std.specs.Prelude.{◌≡◌, ℕ, ◌*◌, ◌/◌, ◌%◌, ◌^◌, ◌<◌, ◌≤◌, bit_and, bit_or, bit_xor};
+ghost use Rattle.scalar_domain.specs.Scalar.{Holds, IsConstant, Within};
+ghost use Rattle.scalar_domain.specs.Precision.{ShiftsLeft, ShiftsRight};
+
+use crate::scalar::Scalar;
+
+/// All ones from the highest one of the number down.
+pub(crate) fn ones_up_to(n: u64) -> u64
+    ensures { (x : ℕ) → x ≤ n → Within x result }
+{
+    if n == 0 {
+        0
+    } else {
+        u64::MAX >> n.leading_zeros()
+    }
+}
+
+impl Scalar {
+    /// The numbers whose ones stand in `may` and that have those of `must`.
+    pub(crate) fn from_bits(may: u64, must: u64) -> Scalar
+        ensures sound { (n : ℕ) → Within n may → Within must n → Holds result n }
+        ensures zeros { result.may ≡ may }
+        ensures greatest { result.greatest ≡ may }
+    {
+        Scalar {
+            least: must,
+            greatest: may,
+            may,
+            must,
+        }
+    }
+
+    /// The numbers between two bounds.
+    pub(crate) fn between(least: u64, greatest: u64) -> Scalar
+        ensures sound { (n : ℕ) → least ≤ n → n ≤ greatest → Holds result n }
+        ensures least { result.least ≡ least }
+        ensures greatest { result.greatest ≡ greatest }
+    {
+        Scalar {
+            least,
+            greatest,
+            may: ones_up_to(greatest),
+            must: 0,
+        }
+    }
+
+    /// The bits that may be one, by the mask and by the greatest number.
+    fn possible_ones(self) -> u64
+        ensures { (n : ℕ) → Holds self n → Within n result }
+    {
+        self.may & ones_up_to(self.greatest)
+    }
+
+    /// The same numbers; of a constant all bits are known.
+    pub(crate) fn with_known_bits(self) -> Scalar
+        ensures sound { (n : ℕ) → Holds self n → Holds result n }
+        ensures least { result.least ≡ self.least }
+        ensures greatest { result.greatest ≡ self.greatest }
+        ensures zeros { Within result.may self.may }
+        ensures constant { (n : ℕ) → IsConstant self n → Within result.may n }
+    {
+        if self.least == self.greatest {
+            Scalar {
+                least: self.least,
+                greatest: self.greatest,
+                may: self.may & self.least,
+                must: self.least,
+            }
+        } else {
+            self
+        }
+    }
+
+    #[tactic(auto, using(crate::proofs::Bits::bits_laws))]
+    pub(crate) fn and(self, other: Scalar) -> Scalar
+        ensures sound { (x y : ℕ) → Holds self x → Holds other y → Holds result (bit_and x y) }
+        ensures greatest { result.greatest ≤ other.greatest }
+        ensures zeros { Within result.may other.may }
+    {
+        let may = self.may & other.may;
+        let must = self.must & other.must;
+        Scalar {
+            least: must,
+            greatest: self.greatest.min(other.greatest).min(may),
+            may,
+            must,
+        }
+    }
+
+    #[tactic(auto, using(crate::proofs::Bits::bits_laws))]
+    pub(crate) fn or(self, other: Scalar) -> Scalar
+        ensures sound { (x y : ℕ) → Holds self x → Holds other y → Holds result (bit_or x y) }
+    {
+        let may = self.possible_ones() | other.possible_ones();
+        let must = self.must | other.must;
+        Scalar {
+            least: self.least.max(other.least).max(must),
+            greatest: may,
+            may,
+            must,
+        }
+    }
+
+    pub(crate) fn xor(self, other: Scalar) -> Scalar
+        ensures sound { (x y : ℕ) → Holds self x → Holds other y → Holds result (bit_xor x y) }
+    {
+        Scalar::from_bits(self.possible_ones() | other.possible_ones(), 0)
+    }
+
+    /// Of each number its low bits alone.
+    pub(crate) fn low_bits(self, count: u32) -> Scalar
+        requires { count < 64 }
+        ensures sound { (x : ℕ) → Holds self x → Holds result (x % 2 ^ count) }
+        ensures greatest { result.greatest < 2 ^ count }
+        ensures constant { (x : ℕ) → IsConstant self x → IsConstant result (x % 2 ^ count) }
+    {
+        let modulus = 1 << count;
+        let may = self.may % modulus;
+        let must = self.must % modulus;
+        if self.least / modulus == self.greatest / modulus {
+            Scalar {
+                least: self.least % modulus,
+                greatest: self.greatest % modulus,
+                may,
+                must,
+            }
+        } else {
+            Scalar::from_bits(may, must)
+        }
+    }
+
+    pub(crate) fn shift_left(self, by: u32) -> Scalar
+        requires { by < 64 }
+        ensures sound { (x : ℕ) → x < 2 ^ 64 → Holds self x → Holds result ((x * 2 ^ by) % 2 ^ 64) }
+        ensures precise { (x : ℕ) → Holds self x → ShiftsLeft by self result }
+    {
+        let may = self.may << by;
+        let must = self.must << by;
+        if self.greatest <= u64::MAX >> by {
+            Scalar {
+                least: self.least << by,
+                greatest: self.greatest << by,
+                may,
+                must,
+            }
+        } else {
+            Scalar::from_bits(may, must)
+        }
+    }
+
+    pub(crate) fn shift_right(self, by: u32) -> Scalar
+        requires { by < 64 }
+        ensures sound { (x : ℕ) → Holds self x → Holds result (x / 2 ^ by) }
+        ensures precise { ShiftsRight by self result }
+    {
+        Scalar {
+            least: self.least >> by,
+            greatest: self.greatest >> by,
+            may: self.may >> by,
+            must: self.must >> by,
+        }
+    }
+}
