@@ -1,11 +1,11 @@
 -- Loads and stores lead from described states to described ones.
-use Rattle.std.proofs.Common.{◌≡◌, ℕ, zero, suc, ◌+◌, ◌-◌, ◌*◌, ◌/◌, ◌%◌, ◌^◌, ◌<◌, ◌≤◌, refl, sym, ◌∙◌, ap, subst, arith, inl, inr, Bool, true, false, cond, List, length}
-use Rattle.std.specs.Prelude.{slice_index_or, slice_get, Option, Some, None, Ok, ◌&&◌, ◌==◌, if◌then◌else◌, ℤ, pos, negsuc, ◌+ℤ◌, nat_le, nat_lt}
+use Rattle.std.proofs.Common.{◌≡◌, ℕ, ◌+◌, ◌-◌, ◌/◌, ◌%◌, ◌^◌, ◌<◌, ◌≤◌, refl, sym, ◌∙◌, ap, subst, arith, inl, inr, Bool, true, false, cond, List}
+use Rattle.std.specs.Prelude.{slice_index_or, slice_get, Some, Ok, ◌&&◌, ℤ, pos, ◌+ℤ◌, nat_lt}
 use Rattle.std.proofs.lemmas.Bool.{lt-ltb, le-leb}
 use Rattle.std.proofs.lemmas.Nat.{mod_below}
 use Rattle.std.proofs.lemmas.Option.{slice_get-get_or}
 use Rattle.bpf_model.specs.declared.value.Value.{Value}
-use Rattle.bpf_model.specs.declared.value.Value.TheVariants.{Nothing, Number, Pointer}
+use Rattle.bpf_model.specs.declared.value.Value.TheVariants.{Number, Pointer}
 use Rattle.bpf_model.specs.declared.value.Reference.TheVariants as references
 use Rattle.bpf_model.specs.declared.value.Cell.{Cell}
 use Rattle.bpf_model.specs.declared.value.Cell.TheVariants as model
@@ -17,21 +17,20 @@ use Rattle.bpf_model.specs.declared.opcode.Width.{Width}
 use Rattle.bpf_model.specs.declared.opcode.Width.TheVariants as widths
 use Rattle.bpf_model.specs.Access.{place_of, number_at, byte_count}
 use Rattle.bpf_model.specs.Frame.{byte_of, found, read, is_within, with_number}
-use Rattle.bpf_model.specs.Value.{◌>>=◌, reference}
+use Rattle.bpf_model.specs.Value.{◌>>=◌}
 use Rattle.bpf_model.specs.Operand.{operand_value}
-use Rattle.bpf_model.specs.Step.{State, Environment, Outcome, Moves, after, loaded, load_from, frame_after, stored, store_to}
+use Rattle.bpf_model.specs.Step.{State, Environment, Moves, after, load_from, frame_after, stored, store_to}
 use Rattle.bpf_model.specs.Spelling.{slot_count}
 use Rattle.bpf_model.specs.Plain.{Takes, IsFrameAccess, IsSimple, Writes, WritesByte}
 use Rattle.bpf_model.specs.Graph.{falls}
-use Rattle.scalar_domain.specs.declared.scalar.Scalar.{Scalar}
 use Rattle.abstract_state.specs.declared.kind.RegKind.{RegKind}
 use Rattle.abstract_state.specs.declared.kind.RegKind.TheVariants.{Unwritten, Mixed, Num, Ctx, Frame, Map}
 use Rattle.abstract_state.specs.declared.kind.CellKind.{CellKind}
 use Rattle.abstract_state.specs.declared.kind.CellKind.TheVariants as cells
 use Rattle.abstract_state.specs.declared.kind.Region.TheVariants as regions
 use Rattle.abstract_state.specs.declared.state.AbsState.{AbsState}
-use Rattle.abstract_state.specs.State.{IsOf, IsOfCell, IsNumber, Describes, kind_at, cell_at, IsEnvironment, IsReady, Keeps, base_of, IsInRegion}
-use Rattle.abstract_state.specs.Steps.{Loads, SetsBytes, Flows, Stepped, stored_by}
+use Rattle.abstract_state.specs.State.{IsOf, IsOfCell, IsNumber, Describes, kind_at, cell_at, IsEnvironment, base_of, IsInRegion}
+use Rattle.abstract_state.specs.Steps.{Loads, SetsBytes, Stepped, stored_by}
 use Rattle.abstract_state.specs.Laws.{number_read}
 use Rattle.abstract_state.proofs.Sound.{flows_transfers}
 

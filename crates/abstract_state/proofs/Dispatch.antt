@@ -1,6 +1,6 @@
 -- What is known of one instruction is known of an equal one.
-use Rattle.std.proofs.Common.{◌≡◌, ℕ, refl, sym, subst, ap, ◌∙◌}
-use Rattle.std.specs.Prelude.{Result, Ok, Err, IfOk, IsOk}
+use Rattle.std.proofs.Common.{◌≡◌, ℕ, refl, sym, subst}
+use Rattle.std.specs.Prelude.{Result, Ok, Err}
 use Rattle.bpf_model.specs.declared.insn.Insn.{Insn}
 use Rattle.bpf_model.specs.declared.insn.Insn.TheVariants.{Call}
 use Rattle.bpf_model.specs.declared.insn.CallKind.{CallKind}
@@ -10,7 +10,7 @@ use Rattle.abstract_state.specs.declared.fault.Fault.{Fault}
 use Rattle.abstract_state.specs.declared.fault.Fault.TheVariants.{UnknownCall}
 use Rattle.abstract_state.specs.declared.state.AbsState.{AbsState}
 use Rattle.abstract_state.specs.declared.state.Flow.{Flow}
-use Rattle.abstract_state.specs.State.{IsReady, IsBranch}
+use Rattle.abstract_state.specs.State.{IsBranch}
 use Rattle.abstract_state.specs.Steps.{Done, Stepped, IsSplit}
 
 -- An instruction that isn't a conditional jump: what is said of it.

@@ -1,8 +1,7 @@
 -- Jumps and the exit lead from described states to described ones.
-use Rattle.std.proofs.Common.{◌≡◌, ℕ, ◌+◌, ◌^◌, ◌<◌, refl, sym, ◌∙◌, ap, subst, inl, inr, Bool, true, false, cond, List}
+use Rattle.std.proofs.Common.{◌≡◌, ℕ, ◌+◌, ◌^◌, ◌<◌, refl, sym, ◌∙◌, ap, subst, inl, inr, Bool, true, false, List}
 use Rattle.std.specs.Prelude.{slice_index_or, Option, Some, None, Ok, if◌then◌else◌, ℤ, pos, ◌+ℤ◌, unwrap_or}
-use Rattle.bpf_model.specs.declared.value.Value.{Value}
-use Rattle.bpf_model.specs.declared.value.Value.TheVariants.{Nothing, Number, Pointer}
+use Rattle.bpf_model.specs.declared.value.Value.TheVariants.{Number}
 use Rattle.bpf_model.specs.declared.insn.Insn.{Insn}
 use Rattle.bpf_model.specs.declared.insn.Insn.TheVariants.{Jump, JumpLong, JumpIf, Exit}
 use Rattle.bpf_model.specs.declared.insn.Operand.{Operand}
@@ -11,18 +10,17 @@ use Rattle.bpf_model.specs.declared.opcode.Size.{Size}
 use Rattle.bpf_model.specs.Arithmetic.{compares}
 use Rattle.bpf_model.specs.Value.{◌>>=◌, number}
 use Rattle.bpf_model.specs.Operand.{operand_value, decided}
-use Rattle.bpf_model.specs.Step.{State, Environment, Outcome, Moves, Exits, after, forward, jumps_to, jumps_by}
-use Rattle.bpf_model.specs.Graph.{distance, JumpsTo}
-use Rattle.bpf_model.specs.Plain.{Reads, Writes, WritesByte, Names}
+use Rattle.bpf_model.specs.Step.{State, Outcome, Moves, Exits, forward, jumps_to, jumps_by}
+use Rattle.bpf_model.specs.Graph.{distance}
+use Rattle.bpf_model.specs.Plain.{Writes, WritesByte, Names}
 use Rattle.scalar_domain.specs.Scalar.{Holds}
 use Rattle.scalar_domain.specs.declared.scalar.Scalar.{Scalar}
-use Rattle.abstract_state.specs.declared.kind.RegKind.{RegKind}
-use Rattle.abstract_state.specs.declared.kind.RegKind.TheVariants.{Unwritten, Num, Frame}
+use Rattle.abstract_state.specs.declared.kind.RegKind.TheVariants.{Num}
 use Rattle.abstract_state.specs.declared.kind.CellKind.{CellKind}
 use Rattle.abstract_state.specs.declared.kind.CellKind.TheVariants as cells
 use Rattle.abstract_state.specs.declared.kind.Region.TheVariants as regions
 use Rattle.abstract_state.specs.declared.state.AbsState.{AbsState}
-use Rattle.abstract_state.specs.State.{IsOf, IsNumber, Describes, kind_at, cell_at, IsForward, IsReady, Keeps, Transfers, Leads, base_of}
+use Rattle.abstract_state.specs.State.{IsOf, IsNumber, Describes, kind_at, IsForward, IsReady, Keeps, Transfers, Leads}
 use Rattle.abstract_state.specs.Steps.{Done, Stepped}
 use Rattle.abstract_state.proofs.Sound.{number_of}
 

@@ -1,10 +1,10 @@
 -- Each instruction leads from described states to described ones.
-use Rattle.std.proofs.Common.{◌≡◌, ℕ, zero, suc, ◌+◌, ◌-◌, ◌*◌, ◌/◌, ◌%◌, ◌^◌, ◌<◌, ◌≤◌, refl, sym, ◌∙◌, ap, subst, arith, inl, inr, Bool, true, false, cond, List, length}
-use Rattle.std.specs.Prelude.{slice_index_or, slice_get, Option, Some, None, Result, Ok, Err, IfOk, ◌&&◌, ◌==◌, if◌then◌else◌, ℤ, pos, negsuc, ◌+ℤ◌, ◌-ℤ◌, ◌<ℤ◌, nat_le, nat_lt}
+use Rattle.std.proofs.Common.{◌≡◌, ℕ, ◌+◌, ◌^◌, ◌<◌, refl, sym, ◌∙◌, ap, subst, arith, inl, inr, Bool, true, false, cond, List}
+use Rattle.std.specs.Prelude.{slice_index_or, Some, None, Result, Ok, IfOk, ◌==◌, if◌then◌else◌, ℤ, pos, negsuc, ◌+ℤ◌, ◌-ℤ◌, ◌<ℤ◌}
 use Rattle.std.proofs.lemmas.Int.{ints}
 use Rattle.std.specs.Int.{w64}
 use Rattle.bpf_model.specs.declared.value.Value.{Value}
-use Rattle.bpf_model.specs.declared.value.Value.TheVariants.{Nothing, Number, Pointer}
+use Rattle.bpf_model.specs.declared.value.Value.TheVariants.{Number, Pointer}
 use Rattle.bpf_model.specs.declared.insn.AluOp.{AluOp}
 use Rattle.bpf_model.specs.declared.insn.AluOp.TheVariants.{Add, Sub, Move}
 use Rattle.bpf_model.specs.declared.insn.Insn.{Insn}
@@ -12,21 +12,20 @@ use Rattle.bpf_model.specs.declared.opcode.Size.{Size}
 use Rattle.bpf_model.specs.declared.opcode.Size.TheVariants.{Word32, Word64}
 use Rattle.bpf_model.specs.Arithmetic.{alu, signed}
 use Rattle.bpf_model.specs.Access.{place_of}
-use Rattle.bpf_model.specs.Value.{◌>>=◌}
 use Rattle.bpf_model.specs.Operand.{computed, operand_value}
 use Rattle.scalar_domain.specs.Scalar.{Holds}
 use Rattle.scalar_domain.specs.declared.scalar.Scalar.{Scalar}
 use Rattle.abstract_state.specs.declared.kind.RegKind.{RegKind}
-use Rattle.abstract_state.specs.declared.kind.RegKind.TheVariants.{Unwritten, Mixed, Num, Ctx, Frame, Map}
+use Rattle.abstract_state.specs.declared.kind.RegKind.TheVariants.{Num}
 use Rattle.abstract_state.specs.declared.kind.CellKind.{CellKind}
 use Rattle.abstract_state.specs.declared.kind.CellKind.TheVariants as cells
 use Rattle.abstract_state.specs.declared.kind.Region.{Region}
 use Rattle.abstract_state.specs.declared.state.AbsState.{AbsState}
-use Rattle.abstract_state.specs.State.{IsOf, IsNear, IsOfCell, IsNumber, Describes, kind_at, cell_at, IsEnvironment, IsReady, Keeps, Transfers, base_of, IsInRegion}
-use Rattle.abstract_state.specs.Steps.{Gives, Computes, Shifts, SetsReg, SetsBytes, Yields, Flows, Done, Stepped}
-use Rattle.bpf_model.specs.Step.{State, Environment, Outcome, Moves, after, put, sets, map_value}
+use Rattle.abstract_state.specs.State.{IsOf, IsNear, IsOfCell, IsNumber, Describes, kind_at, IsEnvironment, IsReady, Keeps, Transfers, base_of, IsInRegion}
+use Rattle.abstract_state.specs.Steps.{Gives, Computes, Shifts, SetsReg, Yields, Flows, Stepped}
+use Rattle.bpf_model.specs.Step.{State, Environment, Moves, put, sets, map_value}
 use Rattle.bpf_model.specs.Spelling.{slot_count}
-use Rattle.bpf_model.specs.Plain.{Reads, Writes, ReadsByte, WritesByte}
+use Rattle.bpf_model.specs.Plain.{Writes, WritesByte}
 use Rattle.bpf_model.specs.Graph.{falls}
 use Rattle.std.proofs.lemmas.Bool.{ne_eqb, eqb-false, lt-ltb}
 use Rattle.std.proofs.lemmas.Result.{IfOk-weaker}
@@ -157,15 +156,15 @@ pub moves_forward : (size : Size) (op : AluOp) (o d : ℤ) (by : Scalar) (result
     → IfOk result (λ p. p ≡ o +ℤ d) → IfOk result (λ p. Shifts size op o by p)
 moves_forward size op o d by result e f value h =
     let g : IfOk result (λ p. Shifts Word64 Add o by p) = IfOk-weaker result _ _
-        (λ p q n i. let x : o +ℤ signed w64 n ≡ p = ap (λ z. o +ℤ z) (sym (value n i)) ∙ sym q in (ap (λ z. Some (Pointer (references.Ctx z))) x, ap (λ z. Some (Pointer (references.Frame z))) x)) h in
+    (λ p q n i. let x : o +ℤ signed w64 n ≡ p = ap (λ z. o +ℤ z) (sym (value n i)) ∙ sym q in (ap (λ z. Some (Pointer (references.Ctx z))) x, ap (λ z. Some (Pointer (references.Frame z))) x)) h in
     subst (λ size. IfOk result (λ p. Shifts size op o by p)) (sym e) (subst (λ op. IfOk result (λ p. Shifts Word64 op o by p)) (sym f) g)
 
 pub moves_back : (size : Size) (op : AluOp) (o d : ℤ) (by : Scalar) (result : Result ℤ Fault) → size ≡ Word64 → op ≡ Sub → ((n : ℕ) → Holds by n → d ≡ signed w64 n)
     → IfOk result (λ p. p ≡ o -ℤ d) → IfOk result (λ p. Shifts size op o by p)
 moves_back size op o d by result e f value h =
     let g : IfOk result (λ p. Shifts Word64 Sub o by p) = IfOk-weaker result _ _
-        (λ p q n i.
-          let v = value n i in
-          let x : o +ℤ (pos 0 -ℤ signed w64 n) ≡ p = omega (arith, ints) in
-          (ap (λ z. Some (Pointer (references.Ctx z))) x, ap (λ z. Some (Pointer (references.Frame z))) x)) h in
+    (λ p q n i.
+    let v = value n i in
+    let x : o +ℤ (pos 0 -ℤ signed w64 n) ≡ p = omega (arith, ints) in
+    (ap (λ z. Some (Pointer (references.Ctx z))) x, ap (λ z. Some (Pointer (references.Frame z))) x)) h in
     subst (λ size. IfOk result (λ p. Shifts size op o by p)) (sym e) (subst (λ op. IfOk result (λ p. Shifts Word64 op o by p)) (sym f) g)

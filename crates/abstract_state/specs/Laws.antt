@@ -1,6 +1,6 @@
 -- Laws of the definitions of arithmetic and of memory: the results are words of 64 bits.
-use Rattle.std.proofs.Common.{◌≡◌, ℕ, zero, suc, ◌+◌, ◌-◌, ◌*◌, ◌/◌, ◌%◌, ◌^◌, ◌<◌, ◌≤◌, refl, ap, ◌∙◌, arith, Bool, true, false, cond}
-use Rattle.std.specs.Prelude.{Option, Some, ◌==◌, if◌then◌else◌, ℤ, pos, negsuc, neg_ℤ, ◌+ℤ◌, ◌-ℤ◌, ◌*ℤ◌, int_div, int_rem}
+use Rattle.std.proofs.Common.{◌≡◌, ℕ, zero, suc, ◌+◌, ◌*◌, ◌/◌, ◌%◌, ◌^◌, ◌<◌, ◌≤◌, refl, ap, ◌∙◌, arith, Bool, true, false, cond}
+use Rattle.std.specs.Prelude.{Option, Some, ◌==◌, ℤ, pos, negsuc, neg_ℤ, ◌+ℤ◌, ◌-ℤ◌, ◌*ℤ◌, int_div, int_rem}
 use Rattle.std.specs.Int.{Width, w8, w16, w32, w64, int_shr, swap_bytes, byte_at}
 use Rattle.std.proofs.lemmas.Nat.{and_le_l, or_lt, xor_lt, mod_below, pow_pos, shr_le}
 use Rattle.std.proofs.Math.Nat.{div-le_self, mod-le, pow-suc}

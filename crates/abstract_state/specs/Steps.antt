@@ -1,5 +1,5 @@
 -- How states are joined and changed, a part at a time.
-use Rattle.std.specs.Prelude.{◌≡◌, ℕ, ◌+◌, ◌^◌, ◌<◌, ◌≤◌, Option, Some, None, Result, IfOk, OnOk, IsOk, IsSome, Bool, ℤ, pos, if◌then◌else◌}
+use Rattle.std.specs.Prelude.{◌≡◌, ℕ, ◌+◌, ◌^◌, ◌<◌, Option, Some, None, Result, IfOk, OnOk, IsOk, IsSome, ℤ, if◌then◌else◌}
 use Rattle.bpf_model.specs.declared.value.Value.{Value}
 use Rattle.bpf_model.specs.declared.value.Value.TheVariants.{Number, Pointer}
 use Rattle.bpf_model.specs.declared.value.Reference.TheVariants as references
@@ -10,12 +10,10 @@ use Rattle.bpf_model.specs.declared.insn.Operand.{Operand}
 use Rattle.bpf_model.specs.declared.insn.Operand.TheVariants.{Register, Immediate}
 use Rattle.bpf_model.specs.declared.opcode.Width.{Width}
 use Rattle.bpf_model.specs.declared.opcode.Size.{Size}
-use Rattle.bpf_model.specs.declared.opcode.Condition.{Condition}
 use Rattle.bpf_model.specs.Frame.{is_within}
 use Rattle.bpf_model.specs.Spelling.{slot_count}
 use Rattle.bpf_model.specs.Operand.{operand_value, computed}
-use Rattle.bpf_model.specs.Arithmetic.{compares}
-use Rattle.bpf_model.specs.Step.{State, Environment, Outcome, Moves, after, put, sets, load_from}
+use Rattle.bpf_model.specs.Step.{State, Environment, Moves, after, put, sets, load_from}
 use Rattle.scalar_domain.specs.Scalar.{Holds}
 use Rattle.scalar_domain.specs.declared.scalar.Scalar.{Scalar}
 use Rattle.abstract_state.specs.declared.kind.RegKind.{RegKind}
@@ -26,7 +24,7 @@ use Rattle.abstract_state.specs.declared.kind.Region.{Region}
 use Rattle.abstract_state.specs.declared.fault.Fault.{Fault}
 use Rattle.abstract_state.specs.declared.state.AbsState.{AbsState}
 use Rattle.abstract_state.specs.declared.state.Flow.{Flow}
-use Rattle.abstract_state.specs.State.{IsOf, IsNumber, IsNear, InLimits, Describes, IsEnvironment, kind_at, cell_at, IsForward, IsBranch, Transfers, base_of, IsInRegion, IsReady, IsFine, Keeps}
+use Rattle.abstract_state.specs.State.{IsOf, IsNumber, IsNear, Describes, IsEnvironment, kind_at, cell_at, IsForward, IsBranch, Transfers, base_of, IsInRegion, IsReady, IsFine, Keeps}
 
 -- a byte where both are
 abbrev pub join_cell : CellKind → CellKind → CellKind

@@ -1,7 +1,5 @@
 use Rattle.std.proofs.Common.{◌≡◌, refl, subst, true, false}
-use Rattle.bpf_model.specs.declared.insn.Insn.{Insn}
 use Rattle.bpf_model.specs.declared.insn.Insn.TheVariants.{JumpIf}
-use Rattle.abstract_state.specs.declared.state.AbsState.{AbsState}
 use Rattle.abstract_state.specs.State.{Keeps}
 use Rattle.abstract_state.proofs.Jumps.{narrows, fork_transfers, fork_keeps}
 use Rattle.abstract_state.proofs.state.AbsState.fork.Goals as goal
