@@ -63,6 +63,7 @@ jump_long_done imm a ctx_len maps = record {
 pub exit_steps : (a : AbsState) (s : Scalar) (ctx_len maps : ℕ) → kind_at a 0 ≡ Num s → Stepped Exit ctx_len maps a a (Ok regions.None)
 exit_steps a s ctx_len maps e = record {
   accepts = λ _. refl;
+  memory = tt;
   done = record {
     sound = λ _ env m _ d.
         let n = number_of a 0 s m e d in

@@ -1,5 +1,5 @@
 -- How states are joined and changed, a part at a time.
-use Rattle.std.specs.Prelude.{◌≡◌, ℕ, ◌+◌, ◌^◌, ◌<◌, Option, Some, None, Result, IfOk, OnOk, IsOk, IsSome, ℤ, if◌then◌else◌}
+use Rattle.std.specs.Prelude.{◌≡◌, ℕ, ◌+◌, ◌^◌, ◌<◌, Option, Some, None, Result, IfOk, IfErr, OnOk, IsOk, IsSome, ℤ, if◌then◌else◌}
 use Rattle.bpf_model.specs.declared.value.Value.{Value}
 use Rattle.bpf_model.specs.declared.value.Value.TheVariants.{Number, Pointer}
 use Rattle.bpf_model.specs.declared.value.Reference.TheVariants as references
@@ -22,6 +22,7 @@ use Rattle.abstract_state.specs.declared.kind.CellKind.{CellKind}
 use Rattle.abstract_state.specs.declared.kind.CellKind.TheVariants.{Unwritten, Byte}
 use Rattle.abstract_state.specs.declared.kind.Region.{Region}
 use Rattle.abstract_state.specs.declared.fault.Fault.{Fault}
+use Rattle.abstract_state.specs.declared.fault.Fault.TheVariants.{Memory}
 use Rattle.abstract_state.specs.declared.state.AbsState.{AbsState}
 use Rattle.abstract_state.specs.declared.state.Flow.{Flow}
 use Rattle.abstract_state.specs.State.{IsOf, IsNumber, IsNear, Describes, IsEnvironment, kind_at, cell_at, IsForward, IsBranch, Transfers, base_of, IsInRegion, IsReady, IsFine, Keeps}
@@ -81,6 +82,10 @@ Flows i ctx_len maps old new = (env : Environment) (m : State) → IsEnvironment
 abbrev pub Yields : Insn → ℕ → RegKind → Environment → State → Type 0
 Yields i dst k env m = (v : Value) × (after i env m ≡ sets (slot_count i) dst v m) × IsOf k v × IsNear v
 
+-- A refusal is none for want of memory.
+abbrev pub HasMemory : {A : Type 0} → Result A Fault → Type 0
+HasMemory r = IfErr r (λ e. e ≡ Memory → ⊥)
+
 -- An instruction that has no second state behind it: all that is said of it.
 pub record Done (i : Insn) (ctx_len maps : ℕ) (old new : AbsState) (area : Region) : Type 0 where
   pub sound : IsForward i → Transfers i ctx_len maps old new None
@@ -90,6 +95,7 @@ pub record Done (i : Insn) (ctx_len maps : ℕ) (old new : AbsState) (area : Reg
 -- It is done, or refused.
 pub record Stepped (i : Insn) (ctx_len maps : ℕ) (old new : AbsState) (result : Result Region Fault) : Type 0 where
   pub done : IfOk result (λ area. Done i ctx_len maps old new area)
+  pub memory : HasMemory result
   pub accepts : IsReady i old → IsOk result
 
 -- the store of an operand
@@ -103,5 +109,6 @@ pub record IsSplit (i : Insn) (ctx_len maps : ℕ) (old new : AbsState) (result 
   pub reaches : IfOk result (λ f. (b : ℕ) (m : State) → base_of i ≡ Some b → Describes old m → IsInRegion f.region (m.regs b))
   pub branches : IfOk result (λ f. IsBranch i → IsSome f.taken)
   pub accepts : IsReady i old → IsFine result
+  pub memory : IfErr result (λ e. e ≡ Memory → IsBranch i)
   pub keeps : OnOk result (IsReady i old → Keeps i old new)
   pub keeps_taken : IfOk result (λ f. IsReady i old → (t : AbsState) → f.taken ≡ Some t → Keeps i old t)

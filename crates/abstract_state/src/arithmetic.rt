@@ -2,7 +2,7 @@
 ghost use Rattle.std.specs.Prelude.{◌≡◌, ℕ, ◌<◌, IfOk, IsOk, pos};
 ghost use Rattle.bpf_model.specs.Plain.{Reads};
 ghost use Rattle.abstract_state.specs.State.{IsNumber, kind_at};
-ghost use Rattle.abstract_state.specs.Steps.{Computes, Stepped};
+ghost use Rattle.abstract_state.specs.Steps.{Computes, Stepped, HasMemory};
 
 use crate::compute::{combined, copied};
 use crate::fault::Fault;
@@ -16,6 +16,7 @@ use scalar_domain::Scalar;
 fn map_place(map: i32, maps: usize) -> Result<usize, Fault>
     ensures value { IfOk result (λ n. map ≡ pos n) }
     ensures bound { IfOk result (λ n. n < maps) }
+    ensures memory { HasMemory result }
 {
     if map < 0 || map as usize >= maps {
         return Err(Fault::NoSuchMap);
@@ -28,6 +29,7 @@ impl AbsState {
         ensures sound { IfOk result (λ k. Computes size op dst src.now self.now k) }
         ensures accepts { ((r : ℕ) → Reads (Insn.Alu op size dst src.now) r → IsNumber (kind_at self.now r)) → IsOk result }
         ensures numbers { ((r : ℕ) → Reads (Insn.Alu op size dst src.now) r → IsNumber (kind_at self.now r)) → IfOk result IsNumber }
+        ensures memory { HasMemory result }
     {
         match op {
             AluOp::Move => copied(size, self.operand(src)?),

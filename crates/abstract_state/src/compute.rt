@@ -3,7 +3,7 @@ ghost use Rattle.std.specs.Prelude.{◌≡◌, ℕ, IfOk, IsOk};
 ghost use Rattle.bpf_model.specs.Operand.{computed};
 ghost use Rattle.bpf_model.specs.declared.value.Value.{Value};
 ghost use Rattle.abstract_state.specs.State.{IsOf, IsNumber, IsNear};
-ghost use Rattle.abstract_state.specs.Steps.{Gives, IsHeld};
+ghost use Rattle.abstract_state.specs.Steps.{Gives, IsHeld, HasMemory};
 
 use crate::fault::Fault;
 use crate::kind::RegKind;
@@ -15,6 +15,7 @@ use scalar_domain::Scalar;
 pub(crate) fn numbers(kind: RegKind) -> Result<Scalar, Fault>
     ensures value { IfOk result (λ s. kind ≡ RegKind.Num s) }
     ensures accepts { IsNumber kind → IsOk result }
+    ensures memory { HasMemory result }
 {
     match kind {
         RegKind::Num(s) => Ok(s),
@@ -28,6 +29,7 @@ pub(crate) fn copied(size: Size, kind: RegKind) -> Result<RegKind, Fault>
     ensures sound { IfOk result (λ k. (v w : Value) → IsOf kind w → IsNear w → Gives k (computed size AluOp.Move v w)) }
     ensures accepts { IsNumber kind → IsOk result }
     ensures keeps { IsNumber kind → IfOk result IsNumber }
+    ensures memory { HasMemory result }
 {
     match size {
         Size::Word64 => Ok(kind),
@@ -44,6 +46,7 @@ pub(crate) fn combined(size: Size, op: AluOp, x: RegKind, y: RegKind) -> Result<
     ensures sound { IfOk result (λ k. (v w : Value) → IsOf x v → IsOf y w → Gives k (computed size op v w)) }
     ensures accepts { IsNumber x → IsNumber y → IsOk result }
     ensures keeps { IsNumber x → IsNumber y → IfOk result IsNumber }
+    ensures memory { HasMemory result }
 {
     match (x, y) {
         (RegKind::Num(a), RegKind::Num(b)) => Ok(RegKind::Num(Scalar::apply(size, op, a, b))),

@@ -7,7 +7,7 @@ ghost use Rattle.bpf_model.specs.declared.value.Value.TheVariants as values;
 ghost use Rattle.bpf_model.specs.Arithmetic.{compares};
 ghost use Rattle.scalar_domain.specs.Scalar.{Holds};
 ghost use Rattle.abstract_state.specs.State.{Describes, IsOf, IsNumber, IsReady, IsFine, Keeps, Transfers, kind_at};
-ghost use Rattle.abstract_state.specs.Steps.{IsSplit, Stepped};
+ghost use Rattle.abstract_state.specs.Steps.{IsSplit, Stepped, HasMemory};
 
 use crate::compute::numbers;
 use crate::fault::Fault;
@@ -32,6 +32,7 @@ impl AbsState {
         ensures left { IfOk result (λ p. kind_at self.now dst ≡ RegKind.Num p.0) }
         ensures right { IfOk result (λ p. (m : State) → Describes self.now m → IsOf (RegKind.Num p.1) (operand_value src.now m.regs)) }
         ensures accepts { IsNumber (kind_at self.now dst) → ((r : ℕ) → Names src.now r → IsNumber (kind_at self.now r)) → IsOk result }
+        ensures memory { HasMemory result }
     {
         let x = self.held(dst)?;
         let y = self.operand(src)?;

@@ -3,7 +3,7 @@ ghost use Rattle.std.specs.Prelude.{◌≡◌, ℕ, ◌+◌, ◌<◌, ◌≤◌,
 ghost use Rattle.bpf_model.specs.Access.{byte_count, place_of};
 ghost use Rattle.bpf_model.specs.Step.{State, Environment};
 ghost use Rattle.abstract_state.specs.State.{Describes, IsEnvironment, IsInRegion, IsNumber, kind_at, cell_at};
-ghost use Rattle.abstract_state.specs.Steps.{Loads, SetsBytes, Stepped, stored_by, IsHeld};
+ghost use Rattle.abstract_state.specs.Steps.{Loads, SetsBytes, Stepped, stored_by, IsHeld, HasMemory};
 
 use crate::fault::Fault;
 use crate::frame::FRAME_BYTES;
@@ -20,6 +20,7 @@ fn store_base(base: RegKind, value: RegKind) -> Result<i32, Fault>
     ensures base { IfOk result (λ o. base ≡ RegKind.Frame o) }
     ensures value { IfOk result (λ _. IsNumber value) }
     ensures accepts { (o : ℤ) → base ≡ RegKind.Frame o → IsNumber value → IsOk result }
+    ensures memory { HasMemory result }
 {
     match (base, value) {
         (RegKind::Frame(o), RegKind::Num(_)) => Ok(o),
@@ -35,6 +36,7 @@ impl AbsState {
         ensures loads { IfOk result (λ _. (maps : ℕ) (env : Environment) (m : State) → IsEnvironment ctx_len maps env → Describes self.now m → Loads (byte_count width) offset env m (m.regs src)) }
         ensures region { IfOk result (λ region. (m : State) → Describes self.now m → IsInRegion region (m.regs src)) }
         ensures accepts { (at : ℕ) → kind_at self.now src ≡ RegKind.Frame (pos 512) → place_of 512 (byte_count width) (pos 512 +ℤ offset) ≡ Some at → ((k : ℕ) → at ≤ k → k < at + byte_count width → cell_at self.now k ≡ CellKind.Byte) → IsOk result }
+        ensures memory { HasMemory result }
     {
         match self.held(src)? {
             RegKind::Ctx(base) => {

@@ -5,7 +5,7 @@ ghost use Rattle.bpf_model.specs.Access.{byte_count, place_of};
 ghost use Rattle.bpf_model.specs.Arithmetic.{signed};
 ghost use Rattle.scalar_domain.specs.Scalar.{Holds};
 ghost use Rattle.abstract_state.specs.State.{InLimits};
-ghost use Rattle.abstract_state.specs.Steps.{Shifts};
+ghost use Rattle.abstract_state.specs.Steps.{Shifts, HasMemory};
 
 use crate::fault::Fault;
 use bpf_model::{AluOp, Size, Width};
@@ -17,6 +17,7 @@ const LIMIT: i64 = 0x2000_0000;
 fn in_limits(offset: i64) -> Result<i32, Fault>
     ensures value { IfOk result (λ p. p ≡ offset) }
     ensures near { IfOk result InLimits }
+    ensures memory { HasMemory result }
 {
     if offset < -LIMIT || offset > LIMIT {
         return Err(Fault::PointerArithmetic);
@@ -28,6 +29,7 @@ fn in_limits(offset: i64) -> Result<i32, Fault>
 fn displacement(by: Scalar) -> Result<i32, Fault>
     ensures value { IfOk result (λ d. (n : ℕ) → Holds by n → d ≡ signed w64 n) }
     ensures near { IfOk result InLimits }
+    ensures memory { HasMemory result }
 {
     match by.as_constant() {
         Some(n) => in_limits(n.cast_signed()),
@@ -38,6 +40,7 @@ fn displacement(by: Scalar) -> Result<i32, Fault>
 fn forward(offset: i32, by: i32) -> Result<i32, Fault>
     ensures value { IfOk result (λ p. p ≡ offset +ℤ by) }
     ensures near { IfOk result InLimits }
+    ensures memory { HasMemory result }
 {
     in_limits(i64::from(offset) + i64::from(by))
 }
@@ -45,6 +48,7 @@ fn forward(offset: i32, by: i32) -> Result<i32, Fault>
 fn back(offset: i32, by: i32) -> Result<i32, Fault>
     ensures value { IfOk result (λ p. p ≡ offset -ℤ by) }
     ensures near { IfOk result InLimits }
+    ensures memory { HasMemory result }
 {
     in_limits(i64::from(offset) - i64::from(by))
 }
@@ -53,6 +57,7 @@ fn back(offset: i32, by: i32) -> Result<i32, Fault>
 pub(crate) fn moved(size: Size, op: AluOp, offset: i32, by: Scalar) -> Result<i32, Fault>
     ensures shifts { IfOk result (λ p. Shifts size op offset by p) }
     ensures near { IfOk result InLimits }
+    ensures memory { HasMemory result }
 {
     let by = displacement(by)?;
     match (size, op) {
@@ -75,6 +80,7 @@ fn inside(len: usize, width: Width, at: usize) -> Result<usize, Fault>
     ensures place { IfOk result (λ p. place_of len (byte_count width) (pos at) ≡ Some p) }
     ensures inside { IfOk result (λ p. p + byte_count width ≤ len) }
     ensures refuses { IfErr result (λ _. place_of len (byte_count width) (pos at) ≡ None) }
+    ensures memory { HasMemory result }
 {
     let bytes = width.bytes();
     if at > len || len - at < bytes {
@@ -92,6 +98,7 @@ pub(crate) fn place_in(len: usize, width: Width, base: i32, offset: i16) -> Resu
     ensures place { IfOk result (λ at. place_of len (byte_count width) (base +ℤ offset) ≡ Some at) }
     ensures inside { IfOk result (λ at. at + byte_count width ≤ len) }
     ensures refuses { IfErr result (λ _. place_of len (byte_count width) (base +ℤ offset) ≡ None) }
+    ensures memory { HasMemory result }
 {
     match start(base, offset) {
         Some(at) => inside(len, width, at),

@@ -4,7 +4,7 @@ ghost use Rattle.bpf_model.specs.Operand.{operand_value};
 ghost use Rattle.bpf_model.specs.Plain.{Names};
 ghost use Rattle.bpf_model.specs.Step.{State};
 ghost use Rattle.abstract_state.specs.State.{Describes, IsOf, IsNumber, kind_at};
-ghost use Rattle.abstract_state.specs.Steps.{IsHeld, SetsReg};
+ghost use Rattle.abstract_state.specs.Steps.{IsHeld, SetsReg, HasMemory};
 
 use crate::compute::numbers;
 use crate::fault::Fault;
@@ -17,6 +17,7 @@ use scalar_domain::Scalar;
 pub(crate) fn check_writable(dst: Reg) -> Result<(), Fault>
     ensures value { OnOk result (10 ≡ dst → ⊥) }
     ensures accepts { (10 ≡ dst → ⊥) → IsOk result }
+    ensures memory { HasMemory result }
 {
     if dst.number() == 10 {
         return Err(Fault::FramePointerWritten);
@@ -30,6 +31,7 @@ impl AbsState {
         ensures value { IfOk result (λ k. k ≡ kind_at self.now r) }
         ensures held { IfOk result IsHeld }
         ensures accepts { IsHeld (kind_at self.now r) → IsOk result }
+        ensures memory { HasMemory result }
     {
         match self.regs[r.index()] {
             RegKind::Unwritten => Err(Fault::UnwrittenRegister),
@@ -42,6 +44,7 @@ impl AbsState {
     pub(crate) fn number(&self, r: Reg) -> Result<Scalar, Fault>
         ensures value { IfOk result (λ s. kind_at self.now r ≡ RegKind.Num s) }
         ensures accepts { IsNumber (kind_at self.now r) → IsOk result }
+        ensures memory { HasMemory result }
     {
         numbers(self.held(r)?)
     }
@@ -52,6 +55,7 @@ impl AbsState {
         ensures held { IfOk result IsHeld }
         ensures accepts { ((r : ℕ) → Names src.now r → IsNumber (kind_at self.now r)) → IsOk result }
         ensures numbers { ((r : ℕ) → Names src.now r → IsNumber (kind_at self.now r)) → IfOk result IsNumber }
+        ensures memory { HasMemory result }
     {
         match src {
             Operand::Register(r) => self.held(*r),

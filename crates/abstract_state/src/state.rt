@@ -1,5 +1,5 @@
 //! Abstract states and what instructions make of them.
-ghost use Rattle.std.specs.Prelude.{◌≡◌, ℕ, IfOk, OnOk, Some, IsSome, pos};
+ghost use Rattle.std.specs.Prelude.{◌≡◌, ℕ, IfOk, IfErr, OnOk, Some, IsSome, pos};
 ghost use Rattle.bpf_model.specs.Step.{State, entry};
 ghost use Rattle.abstract_state.specs.State.{IsBranch};
 ghost use Rattle.abstract_state.specs.Steps.{Stepped, IsSplit};
@@ -69,6 +69,7 @@ impl AbsState {
         ensures right { Wider other.now self.new }
         ensures numbers { (r : ℕ) → IsNumber (kind_at self.old r) → IsNumber (kind_at other.now r) → IsNumber (kind_at self.new r) }
         ensures bytes { (k : ℕ) → cell_at self.old k ≡ cell_kinds.Byte → cell_at other.now k ≡ cell_kinds.Byte → cell_at self.new k ≡ cell_kinds.Byte }
+        ensures pointers { (r : ℕ) (k : RegKind) → (IsNumber k → ⊥) → kind_at self.old r ≡ k → kind_at other.now r ≡ k → kind_at self.new r ≡ k }
         ensures frame { kind_at self.old 10 ≡ kinds.Frame (pos 512) → kind_at other.now 10 ≡ kinds.Frame (pos 512) → kind_at self.new 10 ≡ kinds.Frame (pos 512) }
     {
         join_kinds(&mut self.regs, &other.regs);
@@ -88,6 +89,7 @@ impl AbsState {
         ensures region { IfOk result (λ f. (b : ℕ) (m : State) → base_of insn.now ≡ Some b → Describes self.old m → IsInRegion f.region (m.regs b)) }
         ensures branches { IfOk result (λ f. IsBranch insn.now → IsSome f.taken) }
         ensures accepts { IsReady insn.now self.old → IsFine result }
+        ensures memory { IfErr result (λ e. e ≡ Fault.Memory → IsBranch insn.now) }
         ensures keeps { OnOk result (IsReady insn.now self.old → Keeps insn.now self.old self.new) }
         ensures keeps_taken { IfOk result (λ f. IsReady insn.now self.old → (t : AbsState) → f.taken ≡ Some t → Keeps insn.now self.old t) }
     {

@@ -12,7 +12,15 @@ falls_not e = cc
 pub returns-in-JumpIf : goal.returns-in-JumpIf
 returns-in-JumpIf c =
     let s = same_split _ _ _ _ _ _ _ c.in-JumpIf.is (c.fork.ensures c.in-JumpIf.offset c.args.ctx_len c.args.maps) in
-    record { sound = s.sound; region = s.reaches; branches = s.branches; accepts = s.accepts; keeps = s.keeps; keeps_taken = s.keeps_taken }
+    record {
+      sound = s.sound;
+      region = s.reaches;
+      branches = s.branches;
+      accepts = s.accepts;
+      memory = s.memory;
+      keeps = s.keeps;
+      keeps_taken = s.keeps_taken;
+    }
 
 pub returns : goal.returns
 returns c =
@@ -36,4 +44,12 @@ returns c =
       | in-StoreRegister w ↦ let f : SFits w16 w.in-StoreRegister.offset = search rules in let s = simp to_z-of_z at (w.store-stepped-in-StoreRegister.ensures ctx_len maps) in same_step _ _ _ _ _ _ _ _ _ w.in-StoreRegister.is w.self-is w.stepped-is (s) (λ x. x.1 refl)
     ] in
     let s = c.single_flow.ensures c.args.insn.now ctx_len maps a c.match-insn.self g.0 g.1 in
-    record { sound = s.sound; region = s.reaches; branches = s.branches; accepts = s.accepts; keeps = s.keeps; keeps_taken = s.keeps_taken }
+    record {
+      sound = s.sound;
+      region = s.reaches;
+      branches = s.branches;
+      accepts = s.accepts;
+      memory = s.memory;
+      keeps = s.keeps;
+      keeps_taken = s.keeps_taken;
+    }
