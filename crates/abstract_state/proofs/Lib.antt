@@ -1,1 +1,5 @@
+pub mod Accesses
+pub mod Dispatch
 pub mod Join
+pub mod Jumps
+pub mod Sound

@@ -1,6 +1,6 @@
 -- Laws of the definitions of arithmetic and of memory: the results are words of 64 bits.
-use Rattle.std.proofs.Common.{◌≡◌, ℕ, zero, suc, ◌+◌, ◌-◌, ◌*◌, ◌/◌, ◌%◌, ◌^◌, ◌<◌, ◌≤◌, refl, ap, ◌∙◌, arith, Bool, true, false, cond}
-use Rattle.std.specs.Prelude.{Option, Some, ◌==◌, if◌then◌else◌, ℤ, pos, negsuc, neg_ℤ, ◌+ℤ◌, ◌-ℤ◌, ◌*ℤ◌, int_div, int_rem}
+use Rattle.std.proofs.Common.{◌≡◌, ℕ, zero, suc, ◌+◌, ◌*◌, ◌/◌, ◌%◌, ◌^◌, ◌<◌, ◌≤◌, refl, ap, ◌∙◌, arith, Bool, true, false, cond}
+use Rattle.std.specs.Prelude.{Option, Some, ◌==◌, ℤ, pos, negsuc, neg_ℤ, ◌+ℤ◌, ◌-ℤ◌, ◌*ℤ◌, int_div, int_rem}
 use Rattle.std.specs.Int.{Width, w8, w16, w32, w64, int_shr, swap_bytes, byte_at}
 use Rattle.std.proofs.lemmas.Nat.{and_le_l, or_lt, xor_lt, mod_below, pow_pos, shr_le}
 use Rattle.std.proofs.Math.Nat.{div-le_self, mod-le, pow-suc}
@@ -22,6 +22,8 @@ use Rattle.bpf_model.specs.declared.opcode.Size.TheVariants.{Word32, Word64}
 use Rattle.bpf_model.specs.Arithmetic.{word, signed, operate, alu, negated, swapped_width, reordered, extended, moved_signed, loaded_signed}
 use Rattle.bpf_model.specs.Access.{byte_count, number_at}
 use Rattle.bpf_model.specs.Value.{◌>>=◌}
+use Rattle.bpf_model.specs.Operand.{computed}
+use Rattle.bpf_model.specs.declared.value.Value.TheVariants.{Number}
 
 either_lt : (b : Bool) (x y m : ℕ) → x < m → y < m → cond b x y < m
 either_lt true x y m p q = p
@@ -118,3 +120,34 @@ loaded_lt widths.One n h = omega arith
 loaded_lt widths.Two n h = omega arith
 loaded_lt widths.Four n h = omega arith
 loaded_lt widths.Eight n h = omega arith
+
+-- an operation of two numbers
+pub computed_numbers : (size : Size) (op : AluOp) (a b : ℕ) → computed size op (Number a) (Number b) ≡ Some (Number (alu size op a b))
+computed_numbers Word64 Add a b = refl
+computed_numbers Word64 Sub a b = refl
+computed_numbers Word64 Mul a b = refl
+computed_numbers Word64 Div a b = refl
+computed_numbers Word64 SignedDiv a b = refl
+computed_numbers Word64 Or a b = refl
+computed_numbers Word64 And a b = refl
+computed_numbers Word64 ShiftLeft a b = refl
+computed_numbers Word64 ShiftRight a b = refl
+computed_numbers Word64 Mod a b = refl
+computed_numbers Word64 SignedMod a b = refl
+computed_numbers Word64 Xor a b = refl
+computed_numbers Word64 Move a b = refl
+computed_numbers Word64 ShiftRightSigned a b = refl
+computed_numbers Word32 Add a b = refl
+computed_numbers Word32 Sub a b = refl
+computed_numbers Word32 Mul a b = refl
+computed_numbers Word32 Div a b = refl
+computed_numbers Word32 SignedDiv a b = refl
+computed_numbers Word32 Or a b = refl
+computed_numbers Word32 And a b = refl
+computed_numbers Word32 ShiftLeft a b = refl
+computed_numbers Word32 ShiftRight a b = refl
+computed_numbers Word32 Mod a b = refl
+computed_numbers Word32 SignedMod a b = refl
+computed_numbers Word32 Xor a b = refl
+computed_numbers Word32 Move a b = refl
+computed_numbers Word32 ShiftRightSigned a b = refl

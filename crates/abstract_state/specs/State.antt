@@ -1,5 +1,5 @@
 -- What an abstract state says of the states of a run.
-use Rattle.std.specs.Prelude.{◌≡◌, ◌≢◌, ℕ, ◌+◌, ◌^◌, ◌<◌, ◌≤◌, List, length, slice_index_or, Option, Some, None, Result, Ok, Err, true, false, ◌⊎◌, ℤ, pos, negsuc, ◌≤ℤ◌, unwrap_or}
+use Rattle.std.specs.Prelude.{◌≡◌, ◌≢◌, ℕ, ◌+◌, ◌^◌, ◌<◌, length, slice_index_or, Option, Some, None, Result, Ok, Err, true, ◌⊎◌, ℤ, pos, negsuc, ◌≤ℤ◌, unwrap_or}
 use Rattle.bpf_model.specs.declared.value.Value.{Value}
 use Rattle.bpf_model.specs.declared.value.Value.TheVariants.{Nothing, Number, Pointer}
 use Rattle.bpf_model.specs.declared.value.Reference.{Reference}

@@ -1,11 +1,31 @@
 -- How states are joined and changed, a part at a time.
-use Rattle.std.specs.Prelude.{◌≡◌, ℕ}
+use Rattle.std.specs.Prelude.{◌≡◌, ℕ, ◌+◌, ◌^◌, ◌<◌, Option, Some, None, Result, IfOk, IfErr, OnOk, IsOk, IsSome, ℤ, if◌then◌else◌}
 use Rattle.bpf_model.specs.declared.value.Value.{Value}
+use Rattle.bpf_model.specs.declared.value.Value.TheVariants.{Number, Pointer}
+use Rattle.bpf_model.specs.declared.value.Reference.TheVariants as references
+use Rattle.bpf_model.specs.declared.insn.Insn.{Insn}
+use Rattle.bpf_model.specs.declared.insn.Insn.TheVariants.{Store, StoreRegister}
+use Rattle.bpf_model.specs.declared.insn.AluOp.{AluOp}
+use Rattle.bpf_model.specs.declared.insn.Operand.{Operand}
+use Rattle.bpf_model.specs.declared.insn.Operand.TheVariants.{Register, Immediate}
+use Rattle.bpf_model.specs.declared.opcode.Width.{Width}
+use Rattle.bpf_model.specs.declared.opcode.Size.{Size}
+use Rattle.bpf_model.specs.Frame.{is_within}
+use Rattle.bpf_model.specs.Spelling.{slot_count}
+use Rattle.bpf_model.specs.Operand.{operand_value, computed}
+use Rattle.bpf_model.specs.Step.{State, Environment, Moves, after, put, sets, load_from}
+use Rattle.scalar_domain.specs.Scalar.{Holds}
+use Rattle.scalar_domain.specs.declared.scalar.Scalar.{Scalar}
 use Rattle.abstract_state.specs.declared.kind.RegKind.{RegKind}
-use Rattle.abstract_state.specs.declared.kind.RegKind.TheVariants.{Frame}
+use Rattle.abstract_state.specs.declared.kind.RegKind.TheVariants as kinds
 use Rattle.abstract_state.specs.declared.kind.CellKind.{CellKind}
 use Rattle.abstract_state.specs.declared.kind.CellKind.TheVariants.{Unwritten, Byte}
-use Rattle.abstract_state.specs.State.{IsOf, IsNumber}
+use Rattle.abstract_state.specs.declared.kind.Region.{Region}
+use Rattle.abstract_state.specs.declared.fault.Fault.{Fault}
+use Rattle.abstract_state.specs.declared.fault.Fault.TheVariants.{Memory}
+use Rattle.abstract_state.specs.declared.state.AbsState.{AbsState}
+use Rattle.abstract_state.specs.declared.state.Flow.{Flow}
+use Rattle.abstract_state.specs.State.{IsOf, IsNumber, IsNear, Describes, IsEnvironment, kind_at, cell_at, IsForward, IsBranch, Transfers, base_of, IsInRegion, IsReady, IsFine, Keeps}
 
 -- a byte where both are
 abbrev pub join_cell : CellKind → CellKind → CellKind
@@ -18,3 +38,77 @@ pub record Joins (a b c : RegKind) : Type 0 where
   pub right : (v : Value) → IsOf b v → IsOf c v
   pub numbers : IsNumber a → IsNumber b → IsNumber c
   pub same : a ≡ b → (IsNumber a → ⊥) → c ≡ a
+
+-- neither unwritten nor mixed
+abbrev pub IsHeld : RegKind → Type 0
+IsHeld kinds.Unwritten = ⊥
+IsHeld kinds.Mixed = ⊥
+IsHeld k = Unit {0}
+
+-- The new state is the old one with this register set.
+pub record SetsReg (r : ℕ) (k : RegKind) (old new : AbsState) : Type 0 where
+  pub regs : (q : ℕ) → kind_at new q ≡ put r k (kind_at old) q
+  pub frame : new.frame ≡ old.frame
+
+-- The new state is the old one with bytes in these cells.
+pub record SetsBytes (at width : ℕ) (old new : AbsState) : Type 0 where
+  pub regs : new.regs ≡ old.regs
+  pub cells : (k : ℕ) → cell_at new k ≡ (if is_within at width k then Byte else cell_at old k)
+
+-- the computation gives a value of the kind
+abbrev pub Gives : RegKind → Option Value → Type 0
+Gives k o = (v : Value) × (o ≡ Some v) × IsOf k v × IsNear v
+
+-- From each described state the operation gives a value of the kind.
+abbrev pub Computes : Size → AluOp → ℕ → Operand → AbsState → RegKind → Type 0
+Computes size op dst src a k = (m : State) → Describes a m → Gives k (computed size op (m.regs dst) (operand_value src m.regs))
+
+-- The operation moves a reference from one offset to the other, by each of the numbers.
+abbrev pub Shifts : Size → AluOp → ℤ → Scalar → ℤ → Type 0
+Shifts size op o by p = (n : ℕ) → Holds by n
+    → (computed size op (Pointer (references.Ctx o)) (Number n) ≡ Some (Pointer (references.Ctx p)))
+    × (computed size op (Pointer (references.Frame o)) (Number n) ≡ Some (Pointer (references.Frame p)))
+
+-- A load through the base finds a number of so many bytes.
+abbrev pub Loads : ℕ → ℤ → Environment → State → Value → Type 0
+Loads width offset env m base = (n : ℕ) × (load_from env m width offset base ≡ Some (Number n)) × (n < 256 ^ width)
+
+-- From each described state the instruction leads to the next one, in a state that is described.
+abbrev pub Flows : Insn → ℕ → ℕ → AbsState → AbsState → Type 0
+Flows i ctx_len maps old new = (env : Environment) (m : State) → IsEnvironment ctx_len maps env → Describes old m
+    → (next : State) × (after i env m ≡ Some (Moves next)) × (next.place ≡ m.place + slot_count i) × Describes new next
+
+-- The instruction sets the register to a value of the kind, and goes on.
+abbrev pub Yields : Insn → ℕ → RegKind → Environment → State → Type 0
+Yields i dst k env m = (v : Value) × (after i env m ≡ sets (slot_count i) dst v m) × IsOf k v × IsNear v
+
+-- A refusal is none for want of memory.
+abbrev pub HasMemory : {A : Type 0} → Result A Fault → Type 0
+HasMemory r = IfErr r (λ e. e ≡ Memory → ⊥)
+
+-- An instruction that has no second state behind it: all that is said of it.
+pub record Done (i : Insn) (ctx_len maps : ℕ) (old new : AbsState) (area : Region) : Type 0 where
+  pub sound : IsForward i → Transfers i ctx_len maps old new None
+  pub reaches : (b : ℕ) (m : State) → base_of i ≡ Some b → Describes old m → IsInRegion area (m.regs b)
+  pub keeps : IsReady i old → Keeps i old new
+
+-- It is done, or refused.
+pub record Stepped (i : Insn) (ctx_len maps : ℕ) (old new : AbsState) (result : Result Region Fault) : Type 0 where
+  pub done : IfOk result (λ area. Done i ctx_len maps old new area)
+  pub memory : HasMemory result
+  pub accepts : IsReady i old → IsOk result
+
+-- the store of an operand
+abbrev pub stored_by : Width → ℕ → Operand → ℤ → Insn
+stored_by width dst (Register src) offset = StoreRegister width dst src offset
+stored_by width dst (Immediate imm) offset = Store width dst offset imm
+
+-- A conditional jump: both edges, the one that is taken beside the new state, or refused.
+pub record IsSplit (i : Insn) (ctx_len maps : ℕ) (old new : AbsState) (result : Result Flow Fault) : Type 0 where
+  pub sound : IfOk result (λ f. IsForward i → Transfers i ctx_len maps old new f.taken)
+  pub reaches : IfOk result (λ f. (b : ℕ) (m : State) → base_of i ≡ Some b → Describes old m → IsInRegion f.region (m.regs b))
+  pub branches : IfOk result (λ f. IsBranch i → IsSome f.taken)
+  pub accepts : IsReady i old → IsFine result
+  pub memory : IfErr result (λ e. e ≡ Memory → IsBranch i)
+  pub keeps : OnOk result (IsReady i old → Keeps i old new)
+  pub keeps_taken : IfOk result (λ f. IsReady i old → (t : AbsState) → f.taken ≡ Some t → Keeps i old t)

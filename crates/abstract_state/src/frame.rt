@@ -7,7 +7,8 @@ use crate::kind::CellKind;
 use std::alloc::{AllocError, Global};
 use std::marker::Model;
 
-const FRAME_BYTES: usize = 512;
+/// The length of the frame.
+pub(crate) const FRAME_BYTES: usize = 512;
 
 /// What is known of each byte of the frame.
 #[derive(Drop)]

@@ -1,9 +1,15 @@
 //! Abstract states: what is known, before an instruction, of each register and of each byte of the frame.
 #![tactic(auto)]
 
+mod arithmetic;
+mod compute;
+mod control;
 mod fault;
 mod frame;
 mod kind;
+mod memory;
+mod offset;
+mod registers;
 mod state;
 
 pub use fault::Fault;

@@ -1,11 +1,13 @@
 //! Abstract states and what instructions make of them.
-ghost use Rattle.std.specs.Prelude.{◌≡◌, ℕ, IfOk, OnOk, Some, IsSome, pos};
+ghost use Rattle.std.specs.Prelude.{◌≡◌, ℕ, IfOk, IfErr, OnOk, Some, IsSome, pos};
 ghost use Rattle.bpf_model.specs.Step.{State, entry};
+ghost use Rattle.abstract_state.specs.State.{IsBranch};
+ghost use Rattle.abstract_state.specs.Steps.{Stepped, IsSplit};
 
 use crate::fault::Fault;
 use crate::frame::FrameCells;
 use crate::kind::{RegKind, Region, join_kinds};
-use bpf_model::Insn;
+use bpf_model::{Insn, Operand};
 use std::alloc::{AllocError, Global};
 
 /// What is known before an instruction.
@@ -26,7 +28,7 @@ pub struct Flow {
 impl AbsState {
     ghost use Rattle.abstract_state.specs.declared.kind.RegKind.TheVariants as kinds;
     ghost use Rattle.abstract_state.specs.declared.kind.CellKind.TheVariants as cell_kinds;
-    ghost use Rattle.abstract_state.specs.State.{Describes, Wider, Transfers, IsForward, IsBranch, IsInRegion, base_of, IsReady, IsFine, Keeps, IsNumber, kind_at, cell_at};
+    ghost use Rattle.abstract_state.specs.State.{Describes, Wider, Transfers, IsForward, IsInRegion, base_of, IsReady, IsFine, Keeps, IsNumber, kind_at, cell_at};
 
     /// The state at a program's entry: r1 the context, r10 the end of the frame, all else unwritten.
     pub fn entry(alloc: Global) -> Result<AbsState, AllocError>
@@ -67,6 +69,7 @@ impl AbsState {
         ensures right { Wider other.now self.new }
         ensures numbers { (r : ℕ) → IsNumber (kind_at self.old r) → IsNumber (kind_at other.now r) → IsNumber (kind_at self.new r) }
         ensures bytes { (k : ℕ) → cell_at self.old k ≡ cell_kinds.Byte → cell_at other.now k ≡ cell_kinds.Byte → cell_at self.new k ≡ cell_kinds.Byte }
+        ensures pointers { (r : ℕ) (k : RegKind) → (IsNumber k → ⊥) → kind_at self.old r ≡ k → kind_at other.now r ≡ k → kind_at self.new r ≡ k }
         ensures frame { kind_at self.old 10 ≡ kinds.Frame (pos 512) → kind_at other.now 10 ≡ kinds.Frame (pos 512) → kind_at self.new 10 ≡ kinds.Frame (pos 512) }
     {
         join_kinds(&mut self.regs, &other.regs);
@@ -86,9 +89,69 @@ impl AbsState {
         ensures region { IfOk result (λ f. (b : ℕ) (m : State) → base_of insn.now ≡ Some b → Describes self.old m → IsInRegion f.region (m.regs b)) }
         ensures branches { IfOk result (λ f. IsBranch insn.now → IsSome f.taken) }
         ensures accepts { IsReady insn.now self.old → IsFine result }
+        ensures memory { IfErr result (λ e. e ≡ Fault.Memory → IsBranch insn.now) }
         ensures keeps { OnOk result (IsReady insn.now self.old → Keeps insn.now self.old self.new) }
         ensures keeps_taken { IfOk result (λ f. IsReady insn.now self.old → (t : AbsState) → f.taken ≡ Some t → Keeps insn.now self.old t) }
     {
-        Err(Fault::Memory)
+        let stepped = match insn {
+            Insn::Alu { op, size, dst, src } => self.alu(*op, *size, *dst, src),
+            Insn::MoveSigned {
+                extension,
+                dst,
+                src,
+            } => self.move_signed(*extension, *dst, *src),
+            Insn::Negate { size, dst } => self.negate(*size, *dst),
+            Insn::ByteSwap { order, width, dst } => self.byte_swap(*order, *width, *dst),
+            Insn::LoadNumber { dst, number } => self.load_number(*dst, *number),
+            Insn::LoadMap { dst, map } => self.load_map(*dst, *map, maps),
+            Insn::Jump { .. } => Ok(Region::None),
+            Insn::JumpLong { .. } => Ok(Region::None),
+            Insn::JumpIf {
+                condition,
+                size,
+                dst,
+                src,
+                ..
+            } => {
+                return self.fork(alloc, *condition, *size, *dst, src);
+            }
+            Insn::Call { .. } => Err(Fault::UnknownCall),
+            Insn::Exit => self.exit(),
+            Insn::Load {
+                width,
+                dst,
+                src,
+                offset,
+            } => self.load(*width, *dst, *src, *offset, ctx_len),
+            Insn::LoadSigned {
+                width,
+                dst,
+                src,
+                offset,
+            } => { self.load_signed(*width, *dst, *src, *offset, ctx_len) }
+            Insn::Store {
+                width,
+                dst,
+                offset,
+                imm,
+            } => { self.store(*width, *dst, &Operand::Immediate(*imm), *offset) }
+            Insn::StoreRegister {
+                width,
+                dst,
+                src,
+                offset,
+            } => { self.store(*width, *dst, &Operand::Register(*src), *offset) }
+        };
+        single_flow(stepped)
     }
+}
+
+/// The flow of an instruction with no second state behind it.
+fn single_flow(stepped: Result<Region, Fault>) -> Result<Flow, Fault>
+    ensures { (i : Insn) (ctx_len maps : ℕ) (old new : AbsState) → Stepped i ctx_len maps old new stepped → (IsBranch i → ⊥) → IsSplit i ctx_len maps old new result }
+{
+    Ok(Flow {
+        region: stepped?,
+        taken: None,
+    })
 }

@@ -1,0 +1,167 @@
+-- Loads and stores lead from described states to described ones.
+use Rattle.std.proofs.Common.{◌≡◌, ℕ, ◌+◌, ◌-◌, ◌/◌, ◌%◌, ◌^◌, ◌<◌, ◌≤◌, refl, sym, ◌∙◌, ap, subst, arith, inl, inr, Bool, true, false, cond, List}
+use Rattle.std.specs.Prelude.{slice_index_or, slice_get, Some, Ok, ◌&&◌, ℤ, pos, ◌+ℤ◌, nat_lt}
+use Rattle.std.proofs.lemmas.Bool.{lt-ltb, le-leb}
+use Rattle.std.proofs.lemmas.Nat.{mod_below}
+use Rattle.std.proofs.lemmas.Option.{slice_get-get_or}
+use Rattle.bpf_model.specs.declared.value.Value.{Value}
+use Rattle.bpf_model.specs.declared.value.Value.TheVariants.{Number, Pointer}
+use Rattle.bpf_model.specs.declared.value.Reference.TheVariants as references
+use Rattle.bpf_model.specs.declared.value.Cell.{Cell}
+use Rattle.bpf_model.specs.declared.value.Cell.TheVariants as model
+use Rattle.bpf_model.specs.declared.insn.Insn.{Insn}
+use Rattle.bpf_model.specs.declared.insn.Insn.TheVariants.{Store, StoreRegister}
+use Rattle.bpf_model.specs.declared.insn.Operand.{Operand}
+use Rattle.bpf_model.specs.declared.insn.Operand.TheVariants.{Register, Immediate}
+use Rattle.bpf_model.specs.declared.opcode.Width.{Width}
+use Rattle.bpf_model.specs.declared.opcode.Width.TheVariants as widths
+use Rattle.bpf_model.specs.Access.{place_of, number_at, byte_count}
+use Rattle.bpf_model.specs.Frame.{byte_of, found, read, is_within, with_number}
+use Rattle.bpf_model.specs.Value.{◌>>=◌}
+use Rattle.bpf_model.specs.Operand.{operand_value}
+use Rattle.bpf_model.specs.Step.{State, Environment, Moves, after, load_from, frame_after, stored, store_to}
+use Rattle.bpf_model.specs.Spelling.{slot_count}
+use Rattle.bpf_model.specs.Plain.{Takes, IsFrameAccess, IsSimple, Writes, WritesByte}
+use Rattle.bpf_model.specs.Graph.{falls}
+use Rattle.abstract_state.specs.declared.kind.RegKind.{RegKind}
+use Rattle.abstract_state.specs.declared.kind.RegKind.TheVariants.{Unwritten, Mixed, Num, Ctx, Frame, Map}
+use Rattle.abstract_state.specs.declared.kind.CellKind.{CellKind}
+use Rattle.abstract_state.specs.declared.kind.CellKind.TheVariants as cells
+use Rattle.abstract_state.specs.declared.kind.Region.TheVariants as regions
+use Rattle.abstract_state.specs.declared.state.AbsState.{AbsState}
+use Rattle.abstract_state.specs.State.{IsOf, IsOfCell, IsNumber, Describes, kind_at, cell_at, IsEnvironment, base_of, IsInRegion}
+use Rattle.abstract_state.specs.Steps.{Loads, SetsBytes, Stepped, stored_by}
+use Rattle.abstract_state.specs.Laws.{number_read}
+use Rattle.abstract_state.proofs.Sound.{flows_transfers}
+
+-- a base that is known
+based : (k : RegKind) (a : AbsState) (m : State) (r : ℕ) → k ≡ kind_at a r → Describes a m → IsOf k (m.regs r)
+based k a m r e d = subst (λ k. IsOf k (m.regs r)) (sym e) (d.regs r)
+
+pub ctx_loads : (len width at src maps : ℕ) (o offset : ℤ) (k : RegKind) (a : AbsState) (env : Environment) (m : State) → k ≡ kind_at a src → k ≡ Ctx o
+    → place_of len width (o +ℤ offset) ≡ Some at → at + width ≤ len → IsEnvironment len maps env → Describes a m → Loads width offset env m (m.regs src)
+ctx_loads len width at src maps o offset k a env m e f p inside i d =
+    let r = number_read (slice_get env.context) at width (λ j h l. (slice_index_or env.context j 0, slice_get-get_or env.context j 0 (omega (arith, i.long)), i.bytes j)) in
+    let w : m.regs src ≡ Pointer (references.Ctx o) = subst (λ k. IsOf k (m.regs src)) f (based k a m src e d) in (
+      r.0,
+      ap (load_from env m width offset) w
+          ∙ ap (λ len. place_of len width (o +ℤ offset) >>= λ at. number_at (slice_get env.context) at width >>= λ n. Some (Number n)) i.long
+          ∙ ap (λ p. p >>= λ at. number_at (slice_get env.context) at width >>= λ n. Some (Number n)) p
+          ∙ ap (λ n. n >>= λ n. Some (Number n)) r.1,
+      r.2,
+    )
+
+byte_cell : (c : CellKind) (x : Cell) → c ≡ cells.Byte → IsOfCell c x → (b : ℕ) × (x ≡ model.Byte b) × (b < 256)
+byte_cell c x e i = subst (λ c. IsOfCell c x) e i
+
+some_bytes : (width : Width) → 0 < byte_count width
+some_bytes widths.One = omega arith
+some_bytes widths.Two = omega arith
+some_bytes widths.Four = omega arith
+some_bytes widths.Eight = omega arith
+
+pub frame_loads : (width : Width) (at src : ℕ) (o offset : ℤ) (k : RegKind) (a : AbsState) (env : Environment) (m : State) → k ≡ kind_at a src → k ≡ Frame o
+    → place_of 512 (byte_count width) (o +ℤ offset) ≡ Some at → ((j : ℕ) → at ≤ j → j < at + byte_count width → cell_at a j ≡ cells.Byte) → Describes a m
+    → Loads (byte_count width) offset env m (m.regs src)
+frame_loads width at src o offset k a env m e f p bytes d =
+    let some = some_bytes width in
+    let first = byte_cell (cell_at a at) (m.frame at) (bytes at (omega arith) (omega arith)) (d.cells at) in
+    let r = number_read (λ k. byte_of (m.frame k)) at (byte_count width)
+    (λ j h l. let b = byte_cell (cell_at a j) (m.frame j) (bytes j h l) (d.cells j) in (b.0, ap byte_of b.1, b.2)) in
+    let w : m.regs src ≡ Pointer (references.Frame o) = subst (λ k. IsOf k (m.regs src)) f (based k a m src e d) in (
+      r.0,
+      ap (load_from env m (byte_count width) offset) w
+          ∙ ap (λ p. p >>= λ at. read m.frame at (byte_count width)) p
+          ∙ ap (found m.frame at (byte_count width)) first.1
+          ∙ ap (λ n. n >>= λ n. Some (Number n)) r.1,
+      r.2,
+    )
+
+-- bytes written in both
+written_cell : (t : Bool) (c : CellKind) (x : Cell) (b : ℕ) → b < 256 → IsOfCell c x → IsOfCell (cond t cells.Byte c) (cond t (model.Byte b) x)
+written_cell true c x b l i = (b, refl, l)
+written_cell false c x b l i = i
+
+number_is : (k : RegKind) (v : Value) → IsNumber k → IsOf k v → (n : ℕ) × (v ≡ Number n)
+number_is (Num s) v n i = (i.0, i.1)
+number_is Unwritten v n i = absurd n
+number_is Mixed v n i = absurd n
+number_is (Ctx o) v n i = absurd n
+number_is (Frame o) v n i = absurd n
+number_is (Map m) v n i = absurd n
+
+pub stores : (width at dst : ℕ) (o offset : ℤ) (src : Operand) (base value : RegKind) (a b : AbsState) (m : State)
+    → base ≡ kind_at a dst → base ≡ Frame o → IsNumber value → IsOf value (operand_value src m.regs) → place_of 512 width (o +ℤ offset) ≡ Some at → SetsBytes at width a b → Describes a m
+    → (next : State) × (store_to m width offset (operand_value src m.regs) (m.regs dst) ≡ Some (Moves next)) × (next.place ≡ m.place + 1) × Describes b next
+stores width at dst o offset src base value a b m e f n i p sets d =
+    let x = number_is value (operand_value src m.regs) n i in
+    let w : m.regs dst ≡ Pointer (references.Frame o) = subst (λ k. IsOf k (m.regs dst)) f (based base a m dst e d) in
+    let next : State = record { regs = m.regs; frame = with_number at width x.0 m.frame; place = m.place + 1 } in (
+      next,
+      ap (store_to m width offset (operand_value src m.regs)) w
+          ∙ ap (λ v. stored m width offset v (references.Frame o)) x.1
+          ∙ ap (λ p. p >>= λ at. frame_after at width (Number x.0) m.frame >>= λ frame. Some (Moves (record { regs = m.regs; frame = frame; place = m.place + 1 }))) p,
+      refl,
+      record {
+        near = d.near;
+        regs = λ q. subst (λ (r : List RegKind). IsOf (slice_index_or r q Unwritten) (m.regs q)) (sym sets.regs) (d.regs q);
+        cells = λ q. subst (λ c. IsOfCell c (with_number at width x.0 m.frame q)) (sym (sets.cells q))
+            (written_cell (is_within at width q) (cell_at a q) (m.frame q) (x.0 / 256 ^ (q - at) % 256) (mod_below _ 256 (omega arith)) (d.cells q));
+      },
+    )
+
+kept_byte : (t : Bool) (c : CellKind) → c ≡ cells.Byte → cond t cells.Byte c ≡ cells.Byte
+kept_byte true c e = refl
+kept_byte false c e = e
+
+within : (at width q : ℕ) → at ≤ q → q < at + width → is_within at width q ≡ true
+within at width q l u = ap (λ t. t && nat_lt q (at + width)) (le-leb at q l) ∙ lt-ltb q (at + width) u
+
+-- an access through r10 is where the base's offset places it
+same_place : (width at dst : ℕ) (o offset : ℤ) (base : RegKind) (a : AbsState) (q at' : ℕ) → base ≡ kind_at a dst → base ≡ Frame o → dst ≡ 10 → kind_at a 10 ≡ Frame (pos 512)
+    → place_of 512 width (o +ℤ offset) ≡ Some at → place_of 512 width (pos 512 +ℤ offset) ≡ Some at' → at' ≡ at
+same_place width at dst o offset base a q at' e f g h p p' =
+    let t : Frame o ≡ Frame (pos 512) = sym f ∙ e ∙ ap (kind_at a) g ∙ h in
+    let z : o ≡ pos 512 = cc in
+    let r : Some at' ≡ Some at = sym p' ∙ ap (λ o. place_of 512 width (o +ℤ offset)) (sym z) ∙ p in
+    cc
+
+access_steps : (i : Insn) (width : Width) (at dst : ℕ) (o offset : ℤ) (src : Operand) (base value : RegKind) (a b : AbsState) (ctx_len maps : ℕ)
+    → falls i ≡ true → slot_count i ≡ 1 → base_of i ≡ Some dst → ((r : ℕ) → Writes i r → ⊥) → ((q : ℕ) → WritesByte i q → Takes width offset q) → (IsSimple i → IsFrameAccess width dst offset)
+    → ((env : Environment) (m : State) → after i env m ≡ store_to m (byte_count width) offset (operand_value src m.regs) (m.regs dst))
+    → base ≡ kind_at a dst → base ≡ Frame o → IsNumber value → ((m : State) → Describes a m → IsOf value (operand_value src m.regs))
+    → place_of 512 (byte_count width) (o +ℤ offset) ≡ Some at → SetsBytes at (byte_count width) a b
+    → Stepped i ctx_len maps a b (Ok regions.Frame)
+access_steps i width at dst o offset src base value a b ctx_len maps t slots of_base no_regs takes simple is e f n sound p sets = record {
+  accepts = λ _. refl;
+  memory = tt;
+  done = record {
+    sound = λ _. flows_transfers i a b ctx_len maps t (λ env m _ d.
+        let s = stores (byte_count width) at dst o offset src base value a b m e f n (sound m d) p sets d in
+        (s.0, is env m ∙ s.1, s.2 ∙ ap (λ k. m.place + k) (sym slots), s.3));
+    reaches = λ r m g d.
+        let h : dst ≡ r = cc in
+        subst (λ r. IsInRegion regions.Frame (m.regs r)) h (o, subst (λ k. IsOf k (m.regs dst)) f (based base a m dst e d));
+    keeps = λ ready. record {
+      frame = ap (λ (r : List RegKind). slice_index_or r 10 Unwritten) sets.regs ∙ ready.frame;
+      regs = λ r h. subst (λ (k : List RegKind). IsNumber (slice_index_or k r Unwritten)) (sym sets.regs) (elim h [ inl x ↦ x | inr w ↦ absurd (no_regs r w) ]);
+      cells = λ q h. sets.cells q ∙ (elim h [
+        | inl x ↦ kept_byte (is_within at (byte_count width) q) (cell_at a q) x
+        | inr w ↦
+            let k = takes q w in
+            let same = same_place (byte_count width) at dst o offset base a q k.0 e f (simple ready.simple).0 ready.frame p k.1 in
+            ap (λ t. cond t cells.Byte (cell_at a q)) (within at (byte_count width) q (omega (arith, k.2)) (omega (arith, k.3)))
+      ]);
+    };
+  };
+}
+
+-- a store of either operand
+pub store_steps : (src : Operand) (width : Width) (at dst : ℕ) (o offset : ℤ) (base value : RegKind) (a b : AbsState) (ctx_len maps : ℕ)
+    → base ≡ kind_at a dst → base ≡ Frame o → IsNumber value → ((m : State) → Describes a m → IsOf value (operand_value src m.regs))
+    → place_of 512 (byte_count width) (o +ℤ offset) ≡ Some at → SetsBytes at (byte_count width) a b
+    → Stepped (stored_by width dst src offset) ctx_len maps a b (Ok regions.Frame)
+store_steps (Register src) width at dst o offset base value a b ctx_len maps = access_steps (StoreRegister width dst src offset) width at dst o offset (Register src) base value a b ctx_len maps
+    refl refl refl (λ r w. w) (λ q w. w) (λ s. s) (λ env m. refl)
+store_steps (Immediate imm) width at dst o offset base value a b ctx_len maps = access_steps (Store width dst offset imm) width at dst o offset (Immediate imm) base value a b ctx_len maps
+    refl refl refl (λ r w. w) (λ q w. w) (λ s. s) (λ env m. refl)

@@ -1,0 +1,107 @@
+//! Offsets of references.
+ghost use Rattle.std.specs.Prelude.{◌≡◌, ℕ, ◌+◌, ◌≤◌, IfOk, IfErr, MatchOption, Some, None, ◌+ℤ◌, ◌-ℤ◌, pos, ◌<ℤ◌};
+ghost use Rattle.std.specs.Int.{w64};
+ghost use Rattle.bpf_model.specs.Access.{byte_count, place_of};
+ghost use Rattle.bpf_model.specs.Arithmetic.{signed};
+ghost use Rattle.scalar_domain.specs.Scalar.{Holds};
+ghost use Rattle.abstract_state.specs.State.{InLimits};
+ghost use Rattle.abstract_state.specs.Steps.{Shifts, HasMemory};
+
+use crate::fault::Fault;
+use bpf_model::{AluOp, Size, Width};
+use scalar_domain::Scalar;
+
+/// How far from the start of its region a reference may point, either way.
+const LIMIT: i64 = 0x2000_0000;
+
+fn in_limits(offset: i64) -> Result<i32, Fault>
+    ensures value { IfOk result (λ p. p ≡ offset) }
+    ensures near { IfOk result InLimits }
+    ensures memory { HasMemory result }
+{
+    if offset < -LIMIT || offset > LIMIT {
+        return Err(Fault::PointerArithmetic);
+    }
+    Ok(offset as i32)
+}
+
+/// The one number of the set, as a signed one.
+fn displacement(by: Scalar) -> Result<i32, Fault>
+    ensures value { IfOk result (λ d. (n : ℕ) → Holds by n → d ≡ signed w64 n) }
+    ensures near { IfOk result InLimits }
+    ensures memory { HasMemory result }
+{
+    match by.as_constant() {
+        Some(n) => in_limits(n.cast_signed()),
+        None => Err(Fault::PointerArithmetic),
+    }
+}
+
+fn forward(offset: i32, by: i32) -> Result<i32, Fault>
+    ensures value { IfOk result (λ p. p ≡ offset +ℤ by) }
+    ensures near { IfOk result InLimits }
+    ensures memory { HasMemory result }
+{
+    in_limits(i64::from(offset) + i64::from(by))
+}
+
+fn back(offset: i32, by: i32) -> Result<i32, Fault>
+    ensures value { IfOk result (λ p. p ≡ offset -ℤ by) }
+    ensures near { IfOk result InLimits }
+    ensures memory { HasMemory result }
+{
+    in_limits(i64::from(offset) - i64::from(by))
+}
+
+/// The offset of a reference to which a number is added, or from which it is taken.
+pub(crate) fn moved(size: Size, op: AluOp, offset: i32, by: Scalar) -> Result<i32, Fault>
+    ensures shifts { IfOk result (λ p. Shifts size op offset by p) }
+    ensures near { IfOk result InLimits }
+    ensures memory { HasMemory result }
+{
+    let by = displacement(by)?;
+    match (size, op) {
+        (Size::Word64, AluOp::Add) => forward(offset, by),
+        (Size::Word64, AluOp::Sub) => back(offset, by),
+        _ => Err(Fault::PointerArithmetic),
+    }
+}
+
+/// The start of an access, or `None` before the region's start.
+fn start(base: i32, offset: i16) -> Option<usize>
+    ensures { MatchOption result ((base +ℤ offset) <ℤ pos 0) (λ at. (base +ℤ offset) ≡ pos at) }
+{
+    let at = i64::from(base) + i64::from(offset);
+    if at < 0 { None } else { Some(at as usize) }
+}
+
+/// The start again, where all of the access lies inside, and aligned.
+fn inside(len: usize, width: Width, at: usize) -> Result<usize, Fault>
+    ensures place { IfOk result (λ p. place_of len (byte_count width) (pos at) ≡ Some p) }
+    ensures inside { IfOk result (λ p. p + byte_count width ≤ len) }
+    ensures refuses { IfErr result (λ _. place_of len (byte_count width) (pos at) ≡ None) }
+    ensures memory { HasMemory result }
+{
+    let bytes = width.bytes();
+    if at > len || len - at < bytes {
+        return Err(Fault::OutOfBounds);
+    }
+    if at % bytes != 0 {
+        return Err(Fault::Misaligned);
+    }
+    Ok(at)
+}
+
+/// The place of an access in a region of this length, where all of it lies inside, and aligned.
+#[tactic(auto, using(crate::proofs::Sound::no_place_before))]
+pub(crate) fn place_in(len: usize, width: Width, base: i32, offset: i16) -> Result<usize, Fault>
+    ensures place { IfOk result (λ at. place_of len (byte_count width) (base +ℤ offset) ≡ Some at) }
+    ensures inside { IfOk result (λ at. at + byte_count width ≤ len) }
+    ensures refuses { IfErr result (λ _. place_of len (byte_count width) (base +ℤ offset) ≡ None) }
+    ensures memory { HasMemory result }
+{
+    match start(base, offset) {
+        Some(at) => inside(len, width, at),
+        None => Err(Fault::OutOfBounds),
+    }
+}

@@ -1,5 +1,0 @@
-use Rattle.scalar_domain.specs.Laws.{reordered_lt}
-use Rattle.scalar_domain.proofs.Scalar.byte_swap.Goals as goal
-
-pub returns : goal.returns
-returns c = record { sound = λ x p h. c.unknown.ensures.sound _ (reordered_lt c.args.order c.args.width x) }
