@@ -29,6 +29,48 @@ pub enum Refusal {
     Memory,
 }
 
+impl GraphFlaw {
+    ghost use Rattle.verifier.specs.Numbers.{flaw_number};
+
+    /// The number by which the flaw is known.
+    pub fn code(self) -> u8
+        ensures { result ≡ flaw_number self }
+    {
+        match self {
+            GraphFlaw::JumpTarget => 20,
+            GraphFlaw::BackJump => 21,
+            GraphFlaw::FallsOff => 22,
+            GraphFlaw::Unreachable => 38,
+        }
+    }
+}
+
+impl Refusal {
+    ghost use Rattle.std.specs.Prelude.{Option};
+    ghost use Rattle.verifier.specs.Numbers.{refusal_number, refusal_slot};
+
+    /// The number by which the refusal is known, 20 to 39, or 13 for want of memory.
+    pub fn code(&self) -> u8
+        ensures { result ≡ refusal_number self.now }
+    {
+        match self {
+            Refusal::Graph { flaw, .. } => flaw.code(),
+            Refusal::Instruction { fault, .. } => fault.code(),
+            Refusal::Memory => 13,
+        }
+    }
+
+    /// The slot where the instruction begins at which the program is refused, counted from 0.
+    pub fn slot(&self) -> Option<usize>
+        ensures { result ≡ refusal_slot self.now }
+    {
+        match self {
+            Refusal::Graph { slot, .. } | Refusal::Instruction { slot, .. } => Some(*slot),
+            Refusal::Memory => None,
+        }
+    }
+}
+
 impl From<AllocError> for Refusal {
     ghost use Rattle.verifier.specs.declared.refusal.Refusal.TheVariants.{Memory};
 
