@@ -1,0 +1,51 @@
+//! The lines that refusals and faults make, and the statuses that go with them.
+use insn_codec::DecodeFault;
+use std::io::Write;
+use verifier::Refusal;
+
+/// A refusal: its number, and the slot at which it is, where it has one.
+#[derive(Clone, Copy, Debug, PartialEq, Eq)]
+pub struct Verdict {
+    pub code: u8,
+    pub slot: Option<usize>,
+}
+
+/// The number of want of memory.
+pub const MEMORY: u8 = 13;
+
+impl From<DecodeFault> for Verdict {
+    fn from(fault: DecodeFault) -> Verdict {
+        Verdict {
+            code: fault.code(),
+            slot: fault.slot(),
+        }
+    }
+}
+
+impl From<Refusal> for Verdict {
+    fn from(refusal: Refusal) -> Verdict {
+        Verdict {
+            code: refusal.code(),
+            slot: refusal.slot(),
+        }
+    }
+}
+
+/// Writes `fault C` on standard error, and answers its status: 1 where the input is at fault (94, 95), else 3.
+pub fn fault<W: Write>(err: &mut W, code: u8) -> u8 {
+    let _ = writeln!(err, "fault {code}");
+    if code == 94 || code == 95 { 1 } else { 3 }
+}
+
+/// Writes `refused C` or `refused C at S` on standard error, or the fault where memory ran out, and answers
+/// the status.
+pub fn refused<W: Write>(err: &mut W, verdict: Verdict) -> u8 {
+    if verdict.code == MEMORY {
+        return fault(err, MEMORY);
+    }
+    let _ = match verdict.slot {
+        Some(slot) => writeln!(err, "refused {} at {slot}", verdict.code),
+        None => writeln!(err, "refused {}", verdict.code),
+    };
+    1
+}

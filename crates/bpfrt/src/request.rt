@@ -1,0 +1,41 @@
+//! What the program can be asked to do.
+
+use std::alloc::AllocError;
+use thiserror::Error;
+
+/// What the program is asked to do.
+#[derive(Debug, Drop)]
+pub enum Command {
+    /// Verify the program in a file and say how long it is.
+    Check { file: String },
+}
+
+/// Why the words are no command.
+#[derive(Debug, Drop, Error)]
+pub enum UsageFault {
+    /// The words are refused; the text says why, or is the help that was asked for.
+    #[error("{0}")]
+    Usage(String),
+    #[error("out of memory")]
+    Memory,
+}
+
+impl From<AllocError> for UsageFault {
+    ghost use Rattle.std.specs.Prelude.{◌≡◌};
+    ghost use Rattle.bpfrt.specs.declared.request.UsageFault.TheVariants.{Memory};
+
+    ghost from_gives = { λ _ e. e ≡ Memory };
+
+    fn from(_: AllocError) -> UsageFault {
+        UsageFault::Memory
+    }
+}
+
+impl Command {
+    /// The path of the file that the command reads.
+    pub fn file(&self) -> &str {
+        match self {
+            Command::Check { file } => file.as_str(),
+        }
+    }
+}
