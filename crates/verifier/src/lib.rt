@@ -4,7 +4,6 @@
 //! for each, joined over all edges that lead to it.
 #![tactic(auto)]
 
-mod graph;
 mod refusal;
 mod verified;
 
