@@ -1,0 +1,15 @@
+//! Arithmetic on 64-bit words (RFC 9669, sections 4.1 to 4.3 and 5.3): total functions, without memory.
+//!
+//! Each one's contract is a definition of `bpf_model`'s `specs/Arithmetic.antt`.
+#![tactic(auto)]
+
+mod comparison;
+mod extend;
+mod operate;
+
+pub use comparison::{compare, compare32, compare64};
+pub use extend::{byte_swap, immediate, load_signed, move_signed};
+pub use operate::{alu, alu32, alu64, negate};
+
+#[cfg(test)]
+mod tests;

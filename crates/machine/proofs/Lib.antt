@@ -1,0 +1,5 @@
+pub mod Exits
+pub mod LittleEndian
+pub mod Words
+pub mod Steps
+pub mod Cells
