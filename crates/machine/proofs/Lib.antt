@@ -2,5 +2,6 @@ pub mod Exits
 pub mod LittleEndian
 pub mod Words
 pub mod Steps
+pub mod Good
 pub mod Accesses
 pub mod Cells
