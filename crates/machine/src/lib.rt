@@ -6,11 +6,13 @@
 #![tactic(auto)]
 
 mod bytes;
+mod driver;
 mod law;
 mod memory;
 mod run;
 mod step;
 
 pub use run::{Local, Run};
-pub use law::{one_exit};
+pub use driver::run_to_exit;
+pub use law::one_exit;
 
