@@ -6,13 +6,15 @@
 #![tactic(auto)]
 
 mod bytes;
+mod compute;
+mod control;
 mod driver;
 mod law;
 mod memory;
+mod registers;
 mod run;
 mod step;
 
-pub use run::{Local, Run};
 pub use driver::run_to_exit;
 pub use law::one_exit;
-
+pub use run::{Local, Run};

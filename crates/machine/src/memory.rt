@@ -48,7 +48,12 @@ impl Run {
         ensures moved { result ≡ Moved }
         ensures counted { IsCounted self.old self.new }
     {
-        write_number(&mut self.frame, (address - FRAME_BASE) as usize, width, word);
+        write_number(
+            &mut self.frame,
+            (address - FRAME_BASE) as usize,
+            width,
+            word,
+        );
         self.place += 1;
         self.steps += 1;
         Local::Moved
@@ -65,7 +70,14 @@ impl Run {
     }
 
     #[inline]
-    pub(crate) fn load(&mut self, region: Region, width: Width, dst: Reg, src: Reg, offset: i16) -> Local
+    pub(crate) fn load(
+        &mut self,
+        region: Region,
+        width: Width,
+        dst: Reg,
+        src: Reg,
+        offset: i16,
+    ) -> Local
         requires room { HasRoom self.old }
         requires can { (v : Checked) × (slice_get v.regions self.old.place ≡ Some region) × Can v (Insn.Load width dst src offset) self.old }
         ensures does { (v : Checked) → slice_get v.regions self.old.place ≡ Some region → Does v (Insn.Load width dst src offset) self.old result self.new }
