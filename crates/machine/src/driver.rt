@@ -14,7 +14,7 @@ pub fn run_to_exit(verified: &Verified, ctx: &CtxBytes) -> u64
     ensures { (steps : ℕ) × (steps ≤ length verified.now.program) × ExitsWith verified.now.program (environment_of verified.now ctx.now.items) entry steps result }
 {
     let mut run = Run::start(verified, ctx);
-    loop {
+    'steps: loop {
         match run.local_step(verified) {
             Local::Moved => {}
             Local::Exit(value) => return value,
