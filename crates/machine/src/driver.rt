@@ -1,5 +1,5 @@
 //! Whole runs.
-ghost use Rattle.std.specs.Prelude.{◌≡◌, ℕ, ◌≤◌, length};
+ghost use Rattle.std.specs.Prelude.{◌≡◌, ◌≤◌, length};
 ghost use Rattle.bpf_model.specs.Step.{ExitsWith, entry};
 ghost use Rattle.machine.specs.Running.{environment_of};
 
@@ -7,17 +7,30 @@ use crate::run::{Local, Run};
 use bpf_model::CtxBytes;
 use verifier::Verified;
 
-/// The value with which a verified program exits on a context: of its definition, after as many steps as
-/// it has instructions at most.
-pub fn run_to_exit(verified: &Verified, ctx: &CtxBytes) -> u64
+/// How a run ended: its exit value, and how many steps it made, the exit among them.
+#[derive(Clone, Copy, Debug, PartialEq, Eq)]
+pub struct Finished {
+    pub value: u64,
+    pub steps: usize,
+}
+
+/// Runs a verified program on a context to its exit. The value and the steps are those of the program's
+/// definition, and the steps are at most as many as it has instructions.
+pub fn run_to_exit(verified: &Verified, ctx: &CtxBytes) -> Finished
     requires { length ctx.now.items ≡ verified.now.ctx_len }
-    ensures { (steps : ℕ) × (steps ≤ length verified.now.program) × ExitsWith verified.now.program (environment_of verified.now ctx.now.items) entry steps result }
+    ensures exits { ExitsWith verified.now.program (environment_of verified.now ctx.now.items) entry result.steps result.value }
+    ensures bounded { result.steps ≤ length verified.now.program }
 {
     let mut run = Run::start(verified, ctx);
     'steps: loop {
         match run.local_step(verified) {
             Local::Moved => {}
-            Local::Exit(value) => return value,
+            Local::Exit(value) => {
+                return Finished {
+                    value,
+                    steps: run.steps(),
+                };
+            }
         }
     }
 }

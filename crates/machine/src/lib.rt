@@ -15,6 +15,6 @@ mod registers;
 mod run;
 mod step;
 
-pub use driver::run_to_exit;
+pub use driver::{Finished, run_to_exit};
 pub use law::one_exit;
 pub use run::{Local, Run};

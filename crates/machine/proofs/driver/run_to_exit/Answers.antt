@@ -14,4 +14,9 @@ pub steps-preserved : goal.steps-preserved
 steps-preserved c = (runs_on c.args.verified.now c.args.ctx.now.items c.steps.run c.local_step.new.self c.steps.invariant c.in-Moved.ensures.serves c.in-Moved.ensures.context c.in-Moved.ensures.counted).0
 
 pub returns-in-Exit : goal.returns-in-Exit
-returns-in-Exit c = runs_end c.args.verified.now c.args.ctx.now.items c.steps.run c.local_step.new.self c.in-Exit.value c.steps.invariant c.in-Exit.ensures.serves
+returns-in-Exit c =
+    let r = runs_end c.args.verified.now c.args.ctx.now.items c.steps.run c.local_step.new.self c.in-Exit.value c.steps.invariant c.in-Exit.ensures.serves c.in-Exit.ensures.counted in
+    record {
+      exits = rw c.steps-in-Exit.ensures r.1;
+      bounded = omega (arith, r.0, c.steps-in-Exit.ensures);
+    }
