@@ -23,7 +23,7 @@ impl Scalar {
         ensures sound { (x y : ℕ) → x < 2 ^ 64 → y < 2 ^ 64 → Holds a x → Holds b y → compares size condition x y ≡ taken → Holds result.0 x × Holds result.1 y }
         ensures narrower { IsNarrower result.0 a × IsNarrower result.1 b }
         ensures possible { (IsPossible result.0 × IsPossible result.1) ⊎ ((result.0 ≡ a) × (result.1 ≡ b)) }
-        ensures bounds { (k x : ℕ) → size ≡ Word64 → MovesBounds condition taken → IsConstant b k → x < 2 ^ 64 → Holds a x → Holds b k → holds w64 condition x k ≡ taken → GoesAlong condition taken result.0 k }
+        ensures bounds { (k x : ℕ) → size ≡ Word64 → MovesBounds condition taken → IsConstant b k → Holds a x → Holds b k → holds w64 condition x k ≡ taken → GoesAlong condition taken result.0 k }
     {
         let (left, right) = refine_words(size, condition, a, b, taken);
         if left.is_possible() && right.is_possible() {
@@ -102,7 +102,7 @@ fn refine_words(
 ) -> (Scalar, Scalar)
     ensures sound { (x y : ℕ) → x < 2 ^ 64 → y < 2 ^ 64 → Holds a x → Holds b y → compares size condition x y ≡ taken → Holds result.0 x × Holds result.1 y }
     ensures narrower { IsNarrower result.0 a × IsNarrower result.1 b }
-    ensures bounds { (k x : ℕ) → size ≡ Word64 → MovesBounds condition taken → IsConstant b k → x < 2 ^ 64 → Holds a x → holds w64 condition x k ≡ taken → GoesAlong condition taken result.0 k }
+    ensures bounds { (k x : ℕ) → size ≡ Word64 → MovesBounds condition taken → IsConstant b k → Holds a x → holds w64 condition x k ≡ taken → GoesAlong condition taken result.0 k }
 {
     match size {
         Size::Word64 => refine_wide(condition, a, b, taken),
@@ -119,7 +119,7 @@ fn refine_words(
 fn refine_wide(condition: Condition, a: Scalar, b: Scalar, taken: bool) -> (Scalar, Scalar)
     ensures sound { (x y : ℕ) → x < 2 ^ 64 → y < 2 ^ 64 → Holds a x → Holds b y → holds w64 condition x y ≡ taken → Holds result.0 x × Holds result.1 y }
     ensures narrower { IsNarrower result.0 a × IsNarrower result.1 b }
-    ensures bounds { (k x : ℕ) → MovesBounds condition taken → IsConstant b k → x < 2 ^ 64 → Holds a x → holds w64 condition x k ≡ taken → GoesAlong condition taken result.0 k }
+    ensures bounds { (k x : ℕ) → MovesBounds condition taken → IsConstant b k → Holds a x → holds w64 condition x k ≡ taken → GoesAlong condition taken result.0 k }
 {
     if a.greatest < 1 << 63 && b.greatest < 1 << 63 {
         relate(relation_of(condition_without_sign(condition), taken), a, b)
@@ -144,7 +144,7 @@ fn refine_narrow(condition: Condition, a: Scalar, b: Scalar, taken: bool) -> (Sc
 fn relate(relation: Relation, a: Scalar, b: Scalar) -> (Scalar, Scalar)
     ensures sound { (x y : ℕ) → x < 2 ^ 64 → y < 2 ^ 64 → Holds a x → Holds b y → Related relation x y → Holds result.0 x × Holds result.1 y }
     ensures narrower { IsNarrower result.0 a × IsNarrower result.1 b }
-    ensures bounds { (k x : ℕ) → IsConstant b k → x < 2 ^ 64 → Holds a x → Bounding relation → Related relation x k → Related relation result.0.least k × Related relation result.0.greatest k }
+    ensures bounds { (k x : ℕ) → IsConstant b k → Holds a x → Bounding relation → Related relation x k → Related relation result.0.least k × Related relation result.0.greatest k }
 {
     match relation {
         Relation::Below => below(a, b),

@@ -12,9 +12,9 @@ returns-then-b-clause-sound c = λ x y p q h k e.
     (unsigned_related w64 c.args.condition c.args.taken x y (omega (arith, h.greatest, c.if-a.true)) (omega (arith, k.greatest, c.if-b.true)) e))
 
 pub returns-then-b-clause-bounds : goal.returns-then-b-clause-bounds
-returns-then-b-clause-bounds c = λ k x m j p h e.
+returns-then-b-clause-bounds c = λ k x m j h e.
     let i = c.relation_of.ensures ∙ ap (λ d. relation_on d c.args.taken) (c.condition_without_sign.ensures ∙ already_unsigned c.args.condition c.args.taken m) in
-    goes_along c.args.condition c.args.taken c.relation_of.result c.relate.result.0 k x i m (c.relate.ensures.bounds k x j p h) e
+    goes_along c.args.condition c.args.taken c.relation_of.result c.relate.result.0 k x i m (c.relate.ensures.bounds k x j h) e
 
 pub returns-else-a-clause-sound : goal.returns-else-a-clause-sound
 returns-else-a-clause-sound c = λ x y p q h k e.
@@ -22,5 +22,5 @@ returns-else-a-clause-sound c = λ x y p q h k e.
     (subst (λ r. Related r x y) (sym c.relation_of-else-a.ensures) (related w64 c.args.condition c.args.taken x y e))
 
 pub returns-else-a-clause-bounds : goal.returns-else-a-clause-bounds
-returns-else-a-clause-bounds c = λ k x m j p h e.
-    goes_along c.args.condition c.args.taken c.relation_of-else-a.result c.relate-else-a.result.0 k x c.relation_of-else-a.ensures m (c.relate-else-a.ensures.bounds k x j p h) e
+returns-else-a-clause-bounds c = λ k x m j h e.
+    goes_along c.args.condition c.args.taken c.relation_of-else-a.result c.relate-else-a.result.0 k x c.relation_of-else-a.ensures m (c.relate-else-a.ensures.bounds k x j h) e
