@@ -234,6 +234,25 @@ fn edges(rt: HostRuntime) {
         true,
     );
     assert_eq!(rt; wide, Scalar::unknown());
+    let (positive, _) = Scalar::refine(
+        Size::Word64,
+        Condition::SignedGreater,
+        Scalar::unknown(),
+        Scalar::constant(0),
+        true,
+    );
+    assert_eq!(rt;
+        (positive.least, positive.greatest),
+        (1, 0x7fff_ffff_ffff_ffff)
+    );
+    let (either, _) = Scalar::refine(
+        Size::Word64,
+        Condition::SignedLess,
+        Scalar::unknown(),
+        Scalar::constant(10),
+        true,
+    );
+    assert_eq!(rt; either, Scalar::unknown());
     let (even, _) = Scalar::refine(
         Size::Word64,
         Condition::SharesBits,

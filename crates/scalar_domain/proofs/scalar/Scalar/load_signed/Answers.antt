@@ -1,4 +1,4 @@
-use Rattle.std.proofs.Common.{◌≡◌, ℕ, ◌<◌, ◌≤◌, arith}
+use Rattle.std.proofs.Common.{arith}
 use Rattle.scalar_domain.proofs.Words.{loaded_lt}
 use Rattle.scalar_domain.proofs.scalar.Scalar.load_signed.Goals as goal
 
