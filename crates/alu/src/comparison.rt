@@ -26,21 +26,21 @@ pub fn compare64(condition: Condition, dst: u64, src: u64) -> bool
 }
 
 /// Whether the condition holds of two words of 32 bits.
-fn compare_words(condition: Condition, dst: u32, src: u32) -> bool
-    ensures { result ≡ holds w32 condition dst src }
+fn compare_words(condition: Condition, left: u32, right: u32) -> bool
+    ensures { result ≡ holds w32 condition left right }
 {
     match condition {
-        Condition::Equal => dst == src,
-        Condition::Greater => dst > src,
-        Condition::GreaterOrEqual => dst >= src,
-        Condition::SharesBits => dst & src != 0,
-        Condition::NotEqual => dst != src,
-        Condition::SignedGreater => dst.cast_signed() > src.cast_signed(),
-        Condition::SignedGreaterOrEqual => dst.cast_signed() >= src.cast_signed(),
-        Condition::Less => dst < src,
-        Condition::LessOrEqual => dst <= src,
-        Condition::SignedLess => dst.cast_signed() < src.cast_signed(),
-        Condition::SignedLessOrEqual => dst.cast_signed() <= src.cast_signed(),
+        Condition::Equal => left == right,
+        Condition::Greater => left > right,
+        Condition::GreaterOrEqual => left >= right,
+        Condition::SharesBits => left & right != 0,
+        Condition::NotEqual => left != right,
+        Condition::SignedGreater => left.cast_signed() > right.cast_signed(),
+        Condition::SignedGreaterOrEqual => left.cast_signed() >= right.cast_signed(),
+        Condition::Less => left < right,
+        Condition::LessOrEqual => left <= right,
+        Condition::SignedLess => left.cast_signed() < right.cast_signed(),
+        Condition::SignedLessOrEqual => left.cast_signed() <= right.cast_signed(),
     }
 }
 

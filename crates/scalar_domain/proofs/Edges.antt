@@ -1,19 +1,19 @@
 -- What the edges of a conditional jump say.
-use Rattle.std.proofs.Common.{◌≡◌, ℕ, ◌-◌, ◌%◌, ◌^◌, ◌<◌, ◌≤◌, refl, sym, ◌∙◌, subst, arith, Bool, true, false}
+use Rattle.std.proofs.Common.{◌≡◌, ℕ, suc, pos, negsuc, ap, inl, inr, ◌-◌, ◌%◌, ◌^◌, ◌<◌, ◌≤◌, sym, ◌∙◌, subst, arith, Bool, true, false}
 use Rattle.std.specs.Prelude.{bit_and, ◌==◌, int_lt, int_le}
 use Rattle.std.specs.Int.{Width, w32, w64}
-use mir.Val.{hbits}
-use Rattle.std.proofs.lemmas.Bool.{eqb-true, eq-eqb, ltb-true, ltb-false, leb-true, leb-false, lt-ltb, le-ltb, le-leb, lt-leb, not-false, not_from_true}
+use mir.Val.{bits, hbits, sel}
+use Rattle.std.proofs.lemmas.Bool.{eqb-true, eq-eqb, ltb-true, ltb-false, leb-true, leb-false, lt-ltb, le-ltb, le-leb, lt-leb, not-false, not_from_true, false≢true, cases_lt}
 use Rattle.std.proofs.lemmas.Int.{to_z_pos}
 use Rattle.std.proofs.lemmas.Nat.{and-not, and_comm}
 use Rattle.std.proofs.Math.Nat.{mod-eq_of_lt}
-use Rattle.bpf_model.specs.Arithmetic.{holds}
+use Rattle.bpf_model.specs.Arithmetic.{holds, signed}
 use Rattle.bpf_model.specs.declared.opcode.Condition.{Condition}
 use Rattle.bpf_model.specs.declared.opcode.Condition.TheVariants as condition
 use Rattle.scalar_domain.specs.declared.scalar.Scalar.{Scalar}
 use Rattle.scalar_domain.specs.declared.relation.Relation.{Relation}
 use Rattle.scalar_domain.specs.Scalar.{Holds, IsPossible, Within}
-use Rattle.scalar_domain.specs.Relation.{Related, Bounding, relation_on, unsigned_condition, MovesBounds, GoesAlong}
+use Rattle.scalar_domain.specs.Relation.{Related, Bounding, relation_on, unsigned_condition, signed_order, SignedRelated, MovesBounds, GoesAlong, IsNarrower}
 use Rattle.scalar_domain.proofs.Bits.{ap2, within-and, within_le, within-trans}
 use Rattle.std.specs.Int.Bits.{and_self}
 
@@ -89,46 +89,81 @@ bounding condition.SignedLess false m = absurd m
 bounding condition.SignedLessOrEqual true m = absurd m
 bounding condition.SignedLessOrEqual false m = absurd m
 
--- an edge that moves bounds has an unsigned condition
-pub already_unsigned : (c : Condition) (t : Bool) → MovesBounds c t → unsigned_condition c ≡ c
-already_unsigned condition.Equal true m = refl
-already_unsigned condition.Equal false m = refl
-already_unsigned condition.Greater true m = refl
-already_unsigned condition.Greater false m = refl
-already_unsigned condition.GreaterOrEqual true m = refl
-already_unsigned condition.GreaterOrEqual false m = refl
-already_unsigned condition.SharesBits true m = refl
-already_unsigned condition.SharesBits false m = refl
-already_unsigned condition.NotEqual true m = refl
-already_unsigned condition.NotEqual false m = refl
-already_unsigned condition.SignedGreater true m = absurd m
-already_unsigned condition.SignedGreater false m = absurd m
-already_unsigned condition.SignedGreaterOrEqual true m = absurd m
-already_unsigned condition.SignedGreaterOrEqual false m = absurd m
-already_unsigned condition.Less true m = refl
-already_unsigned condition.Less false m = refl
-already_unsigned condition.LessOrEqual true m = refl
-already_unsigned condition.LessOrEqual false m = refl
-already_unsigned condition.SignedLess true m = absurd m
-already_unsigned condition.SignedLess false m = absurd m
-already_unsigned condition.SignedLessOrEqual true m = absurd m
-already_unsigned condition.SignedLessOrEqual false m = absurd m
+-- Signed orders, where the lesser number has no sign.
+negative : (w : Width) (n : ℕ) → 2 ^ hbits w ≤ n → (m : ℕ) × (signed w n ≡ negsuc m)
+negative w n h = (2 ^ bits w - suc n, ap (λ t. sel t (pos n) (negsuc (2 ^ bits w - suc n))) (le-ltb n (2 ^ hbits w) h))
 
-pub unsigned_holds : (w : Width) (c : Condition) (x y : ℕ) → x < 2 ^ hbits w → y < 2 ^ hbits w → holds w c x y ≡ holds w (unsigned_condition c) x y
-unsigned_holds w condition.Equal x y p q = refl
-unsigned_holds w condition.Greater x y p q = refl
-unsigned_holds w condition.GreaterOrEqual x y p q = refl
-unsigned_holds w condition.SharesBits x y p q = refl
-unsigned_holds w condition.NotEqual x y p q = refl
-unsigned_holds w condition.SignedGreater x y p q = ap2 int_lt (to_z_pos w y q) (to_z_pos w x p)
-unsigned_holds w condition.SignedGreaterOrEqual x y p q = ap2 int_le (to_z_pos w y q) (to_z_pos w x p)
-unsigned_holds w condition.Less x y p q = refl
-unsigned_holds w condition.LessOrEqual x y p q = refl
-unsigned_holds w condition.SignedLess x y p q = ap2 int_lt (to_z_pos w x p) (to_z_pos w y q)
-unsigned_holds w condition.SignedLessOrEqual x y p q = ap2 int_le (to_z_pos w x p) (to_z_pos w y q)
+lt_true : (w : Width) (x y : ℕ) → x < 2 ^ hbits w → int_lt (signed w x) (signed w y) ≡ true → (x < y) × (y < 2 ^ hbits w)
+lt_true w x y p e = elim (cases_lt y (2 ^ hbits w)) [
+  | inl q ↦ (ltb-true x y (sym (ap2 int_lt (to_z_pos w x p) (to_z_pos w y q)) ∙ e), q)
+  | inr q ↦ let n = negative w y q in absurd (false≢true (sym (ap2 int_lt (to_z_pos w x p) n.1) ∙ e))
+]
 
-pub unsigned_related : (w : Width) (c : Condition) (t : Bool) (x y : ℕ) → x < 2 ^ hbits w → y < 2 ^ hbits w → holds w c x y ≡ t → Related (relation_on (unsigned_condition c) t) x y
-unsigned_related w c t x y p q e = related w (unsigned_condition c) t x y (sym (unsigned_holds w c x y p q) ∙ e)
+le_true : (w : Width) (x y : ℕ) → x < 2 ^ hbits w → int_le (signed w x) (signed w y) ≡ true → (x ≤ y) × (y < 2 ^ hbits w)
+le_true w x y p e = elim (cases_lt y (2 ^ hbits w)) [
+  | inl q ↦ (leb-true x y (sym (ap2 int_le (to_z_pos w x p) (to_z_pos w y q)) ∙ e), q)
+  | inr q ↦ let n = negative w y q in absurd (false≢true (sym (ap2 int_le (to_z_pos w x p) n.1) ∙ e))
+]
+
+lt_false : (w : Width) (x y : ℕ) → y < 2 ^ hbits w → int_lt (signed w x) (signed w y) ≡ false → (y ≤ x) × (x < 2 ^ hbits w)
+lt_false w x y p e = elim (cases_lt x (2 ^ hbits w)) [
+  | inl q ↦ (ltb-false x y (sym (ap2 int_lt (to_z_pos w x q) (to_z_pos w y p)) ∙ e), q)
+  | inr q ↦ let n = negative w x q in absurd (false≢true (sym e ∙ ap2 int_lt n.1 (to_z_pos w y p)))
+]
+
+le_false : (w : Width) (x y : ℕ) → y < 2 ^ hbits w → int_le (signed w x) (signed w y) ≡ false → (y < x) × (x < 2 ^ hbits w)
+le_false w x y p e = elim (cases_lt x (2 ^ hbits w)) [
+  | inl q ↦ (leb-false x y (sym (ap2 int_le (to_z_pos w x q) (to_z_pos w y p)) ∙ e), q)
+  | inr q ↦ let n = negative w x q in absurd (false≢true (sym e ∙ ap2 int_le n.1 (to_z_pos w y p)))
+]
+
+pub signed_related : (w : Width) (c : Condition) (t : Bool) (x y : ℕ) → signed_order c ≡ true → holds w c x y ≡ t → SignedRelated (2 ^ hbits w) (relation_on (unsigned_condition c) t) x y
+signed_related w condition.Equal true x y s e = absurd (false≢true s)
+signed_related w condition.Equal false x y s e = absurd (false≢true s)
+signed_related w condition.Greater true x y s e = absurd (false≢true s)
+signed_related w condition.Greater false x y s e = absurd (false≢true s)
+signed_related w condition.GreaterOrEqual true x y s e = absurd (false≢true s)
+signed_related w condition.GreaterOrEqual false x y s e = absurd (false≢true s)
+signed_related w condition.SharesBits true x y s e = absurd (false≢true s)
+signed_related w condition.SharesBits false x y s e = absurd (false≢true s)
+signed_related w condition.NotEqual true x y s e = absurd (false≢true s)
+signed_related w condition.NotEqual false x y s e = absurd (false≢true s)
+signed_related w condition.SignedGreater true x y s e = λ p. lt_true w y x p e
+signed_related w condition.SignedGreater false x y s e = λ p. lt_false w y x p e
+signed_related w condition.SignedGreaterOrEqual true x y s e = λ p. le_true w y x p e
+signed_related w condition.SignedGreaterOrEqual false x y s e = λ p. le_false w y x p e
+signed_related w condition.Less true x y s e = absurd (false≢true s)
+signed_related w condition.Less false x y s e = absurd (false≢true s)
+signed_related w condition.LessOrEqual true x y s e = absurd (false≢true s)
+signed_related w condition.LessOrEqual false x y s e = absurd (false≢true s)
+signed_related w condition.SignedLess true x y s e = λ p. lt_true w x y p e
+signed_related w condition.SignedLess false x y s e = λ p. lt_false w x y p e
+signed_related w condition.SignedLessOrEqual true x y s e = λ p. le_true w x y p e
+signed_related w condition.SignedLessOrEqual false x y s e = λ p. le_false w x y p e
+
+pub not_signed : (c : Condition) (t : Bool) → MovesBounds c t → signed_order c ≡ true → ⊥
+not_signed condition.Equal true m s = false≢true s
+not_signed condition.Equal false m s = false≢true s
+not_signed condition.Greater true m s = false≢true s
+not_signed condition.Greater false m s = false≢true s
+not_signed condition.GreaterOrEqual true m s = false≢true s
+not_signed condition.GreaterOrEqual false m s = false≢true s
+not_signed condition.SharesBits true m s = false≢true s
+not_signed condition.SharesBits false m s = false≢true s
+not_signed condition.NotEqual true m s = false≢true s
+not_signed condition.NotEqual false m s = false≢true s
+not_signed condition.SignedGreater true m s = absurd m
+not_signed condition.SignedGreater false m s = absurd m
+not_signed condition.SignedGreaterOrEqual true m s = absurd m
+not_signed condition.SignedGreaterOrEqual false m s = absurd m
+not_signed condition.Less true m s = false≢true s
+not_signed condition.Less false m s = false≢true s
+not_signed condition.LessOrEqual true m s = false≢true s
+not_signed condition.LessOrEqual false m s = false≢true s
+not_signed condition.SignedLess true m s = absurd m
+not_signed condition.SignedLess false m s = absurd m
+not_signed condition.SignedLessOrEqual true m s = absurd m
+not_signed condition.SignedLessOrEqual false m s = absurd m
 
 pub goes_along : (c : Condition) (t : Bool) (r : Relation) (s : Scalar) (k x : ℕ) → r ≡ relation_on c t → MovesBounds c t →
     (Bounding r → Related r x k → Related r s.least k × Related r s.greatest k) → holds w64 c x k ≡ t → GoesAlong c t s k
@@ -150,3 +185,11 @@ apart m x y h e =
 -- a scalar that holds a number is possible
 pub held_possible : (s : Scalar) (n : ℕ) → Holds s n → IsPossible s
 held_possible s n h = record { bounds = omega (arith, h.least, h.greatest); bits = within-trans s.must n s.may h.ones h.zeros }
+
+pub narrower-trans : (r s t : Scalar) → IsNarrower r s → IsNarrower s t → IsNarrower r t
+narrower-trans r s t h k = record {
+  least = omega (arith, h.least, k.least);
+  greatest = omega (arith, h.greatest, k.greatest);
+  zeros = within-trans r.may s.may t.may h.zeros k.zeros;
+  ones = within-trans t.must s.must r.must k.ones h.ones;
+}

@@ -39,13 +39,29 @@ relation_on condition.GreaterOrEqual false = Below
 relation_on condition.SharesBits false = Apart
 relation_on other taken = Unknown
 
--- The condition that says the same of words whose sign bit is 0.
+-- The unsigned form of a condition, and whether a condition is a signed order.
 abbrev pub unsigned_condition : Condition → Condition
 unsigned_condition condition.SignedLess = condition.Less
 unsigned_condition condition.SignedLessOrEqual = condition.LessOrEqual
 unsigned_condition condition.SignedGreater = condition.Greater
 unsigned_condition condition.SignedGreaterOrEqual = condition.GreaterOrEqual
 unsigned_condition other = other
+
+abbrev pub signed_order : Condition → Bool
+signed_order condition.SignedLess = true
+signed_order condition.SignedLessOrEqual = true
+signed_order condition.SignedGreater = true
+signed_order condition.SignedGreaterOrEqual = true
+signed_order other = false
+
+-- An order of two numbers as signed words, whose sign bit is worth this much: where the lesser has no sign, the greater
+-- has none, and they are in that order.
+abbrev pub SignedRelated : ℕ → Relation → ℕ → ℕ → Type 0
+SignedRelated sign Below x y = x < sign → (x < y) × (y < sign)
+SignedRelated sign AtMost x y = x < sign → (x ≤ y) × (y < sign)
+SignedRelated sign Above x y = y < sign → (y < x) × (x < sign)
+SignedRelated sign AtLeast x y = y < sign → (y ≤ x) × (x < sign)
+SignedRelated sign other x y = Unit {0}
 
 -- The edges on which a comparison with a constant moves the bounds: those of the unsigned orders, and of equality.
 abbrev pub MovesBounds : Condition → Bool → Type 0

@@ -13,3 +13,6 @@ mod scalar;
 mod sums;
 
 pub use scalar::Scalar;
+
+#[cfg(test)]
+mod tests;

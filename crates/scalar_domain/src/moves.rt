@@ -68,6 +68,6 @@ impl Scalar {
     pub fn load_signed(_width: SignedWidth) -> Scalar
         ensures sound { (n : ℕ) → Holds result (loaded_signed _width n) }
     {
-        Scalar::unknown()
+        Scalar::between(0, u64::MAX)
     }
 }

@@ -4,9 +4,9 @@ ghost use Rattle.std.specs.Int.{w32, w64};
 ghost use Rattle.bpf_model.specs.Arithmetic.{compares, holds};
 ghost use Rattle.bpf_model.specs.declared.opcode.Size.TheVariants.{Word64};
 ghost use Rattle.scalar_domain.specs.Scalar.{Holds, IsConstant, IsPossible, Within};
-ghost use Rattle.scalar_domain.specs.Relation.{Related, Bounding, MovesBounds, GoesAlong, IsNarrower};
+ghost use Rattle.scalar_domain.specs.Relation.{Related, SignedRelated, Bounding, MovesBounds, GoesAlong, IsNarrower};
 
-use crate::relation::{Relation, condition_without_sign, relation_of};
+use crate::relation::{Relation, condition_without_sign, is_signed, relation_of};
 use crate::scalar::Scalar;
 use bpf_model::{Condition, Size};
 
@@ -23,7 +23,7 @@ impl Scalar {
         ensures sound { (x y : ℕ) → x < 2 ^ 64 → y < 2 ^ 64 → Holds a x → Holds b y → compares size condition x y ≡ taken → Holds result.0 x × Holds result.1 y }
         ensures narrower { IsNarrower result.0 a × IsNarrower result.1 b }
         ensures possible { (IsPossible result.0 × IsPossible result.1) ⊎ ((result.0 ≡ a) × (result.1 ≡ b)) }
-        ensures bounds { (k x : ℕ) → size ≡ Word64 → MovesBounds condition taken → IsConstant b k → x < 2 ^ 64 → Holds a x → Holds b k → holds w64 condition x k ≡ taken → GoesAlong condition taken result.0 k }
+        ensures bounds { (k x : ℕ) → size ≡ Word64 → MovesBounds condition taken → IsConstant b k → Holds a x → Holds b k → holds w64 condition x k ≡ taken → GoesAlong condition taken result.0 k }
     {
         let (left, right) = refine_words(size, condition, a, b, taken);
         if left.is_possible() && right.is_possible() {
@@ -102,7 +102,7 @@ fn refine_words(
 ) -> (Scalar, Scalar)
     ensures sound { (x y : ℕ) → x < 2 ^ 64 → y < 2 ^ 64 → Holds a x → Holds b y → compares size condition x y ≡ taken → Holds result.0 x × Holds result.1 y }
     ensures narrower { IsNarrower result.0 a × IsNarrower result.1 b }
-    ensures bounds { (k x : ℕ) → size ≡ Word64 → MovesBounds condition taken → IsConstant b k → x < 2 ^ 64 → Holds a x → holds w64 condition x k ≡ taken → GoesAlong condition taken result.0 k }
+    ensures bounds { (k x : ℕ) → size ≡ Word64 → MovesBounds condition taken → IsConstant b k → Holds a x → holds w64 condition x k ≡ taken → GoesAlong condition taken result.0 k }
 {
     match size {
         Size::Word64 => refine_wide(condition, a, b, taken),
@@ -119,10 +119,11 @@ fn refine_words(
 fn refine_wide(condition: Condition, a: Scalar, b: Scalar, taken: bool) -> (Scalar, Scalar)
     ensures sound { (x y : ℕ) → x < 2 ^ 64 → y < 2 ^ 64 → Holds a x → Holds b y → holds w64 condition x y ≡ taken → Holds result.0 x × Holds result.1 y }
     ensures narrower { IsNarrower result.0 a × IsNarrower result.1 b }
-    ensures bounds { (k x : ℕ) → MovesBounds condition taken → IsConstant b k → x < 2 ^ 64 → Holds a x → holds w64 condition x k ≡ taken → GoesAlong condition taken result.0 k }
+    ensures bounds { (k x : ℕ) → MovesBounds condition taken → IsConstant b k → Holds a x → holds w64 condition x k ≡ taken → GoesAlong condition taken result.0 k }
 {
-    if a.greatest < 1 << 63 && b.greatest < 1 << 63 {
-        relate(relation_of(condition_without_sign(condition), taken), a, b)
+    if is_signed(condition) {
+        let relation = relation_of(condition_without_sign(condition), taken);
+        relate_signed(relation, a, b, 1 << 63)
     } else {
         relate(relation_of(condition, taken), a, b)
     }
@@ -133,10 +134,32 @@ fn refine_narrow(condition: Condition, a: Scalar, b: Scalar, taken: bool) -> (Sc
     ensures sound { (x y : ℕ) → x < 2 ^ 32 → y < 2 ^ 32 → Holds a x → Holds b y → holds w32 condition x y ≡ taken → Holds result.0 x × Holds result.1 y }
     ensures narrower { IsNarrower result.0 a × IsNarrower result.1 b }
 {
-    if a.greatest < 1 << 31 && b.greatest < 1 << 31 {
-        relate(relation_of(condition_without_sign(condition), taken), a, b)
+    if is_signed(condition) {
+        let relation = relation_of(condition_without_sign(condition), taken);
+        relate_signed(relation, a, b, 1 << 31)
     } else {
         relate(relation_of(condition, taken), a, b)
+    }
+}
+
+/// The same by the order of signed numbers, which tells something where the lesser side has no sign.
+fn relate_signed(relation: Relation, a: Scalar, b: Scalar, sign: u64) -> (Scalar, Scalar)
+    requires { 0 < sign }
+    ensures sound { (x y : ℕ) → x < 2 ^ 64 → y < 2 ^ 64 → Holds a x → Holds b y → SignedRelated sign relation x y → Holds result.0 x × Holds result.1 y }
+    ensures narrower { IsNarrower result.0 a × IsNarrower result.1 b }
+{
+    match relation {
+        Relation::Below if a.greatest < sign => below(a, b.up_to(sign - 1)),
+        Relation::AtMost if a.greatest < sign => at_most(a, b.up_to(sign - 1)),
+        Relation::Above if b.greatest < sign => {
+            let (right, left) = below(b, a.up_to(sign - 1));
+            (left, right)
+        }
+        Relation::AtLeast if b.greatest < sign => {
+            let (right, left) = at_most(b, a.up_to(sign - 1));
+            (left, right)
+        }
+        _ => (a, b),
     }
 }
 
@@ -144,7 +167,7 @@ fn refine_narrow(condition: Condition, a: Scalar, b: Scalar, taken: bool) -> (Sc
 fn relate(relation: Relation, a: Scalar, b: Scalar) -> (Scalar, Scalar)
     ensures sound { (x y : ℕ) → x < 2 ^ 64 → y < 2 ^ 64 → Holds a x → Holds b y → Related relation x y → Holds result.0 x × Holds result.1 y }
     ensures narrower { IsNarrower result.0 a × IsNarrower result.1 b }
-    ensures bounds { (k x : ℕ) → IsConstant b k → x < 2 ^ 64 → Holds a x → Bounding relation → Related relation x k → Related relation result.0.least k × Related relation result.0.greatest k }
+    ensures bounds { (k x : ℕ) → IsConstant b k → Holds a x → Bounding relation → Related relation x k → Related relation result.0.least k × Related relation result.0.greatest k }
 {
     match relation {
         Relation::Below => below(a, b),

@@ -1,6 +1,6 @@
 //! What an edge of a conditional jump says.
 ghost use Rattle.std.specs.Prelude.{◌≡◌};
-ghost use Rattle.scalar_domain.specs.Relation.{relation_on, unsigned_condition};
+ghost use Rattle.scalar_domain.specs.Relation.{relation_on, unsigned_condition, signed_order};
 
 use bpf_model::Condition;
 
@@ -42,4 +42,17 @@ pub(crate) fn condition_without_sign(condition: Condition) -> Condition
         Condition::SignedGreaterOrEqual => Condition::GreaterOrEqual,
         _ => condition,
     }
+}
+
+/// Whether the condition orders signed numbers.
+pub(crate) fn is_signed(condition: Condition) -> bool
+    ensures { result ≡ signed_order condition }
+{
+    matches!(
+        condition,
+        Condition::SignedLess
+            | Condition::SignedLessOrEqual
+            | Condition::SignedGreater
+            | Condition::SignedGreaterOrEqual
+    )
 }

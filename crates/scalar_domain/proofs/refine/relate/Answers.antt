@@ -16,7 +16,7 @@ returns-in-AtLeast-clause-sound c = λ x y p q h k r.
     (s.1, s.0)
 
 pub returns-in-Equal-clause-bounds : goal.returns-in-Equal-clause-bounds
-returns-in-Equal-clause-bounds c = λ k x i p h b r.
+returns-in-Equal-clause-bounds c = λ k x i h b r.
     let e : x ≡ k = subst (λ o. Related o x k) c.in-Equal.is r in
     let least : c.meet-both.result.least ≡ k = omega (arith, e, i.least, h.least, c.meet-both.ensures.least) in
     let greatest : c.meet-both.result.greatest ≡ k = omega (arith, e, i.greatest, h.greatest, c.meet-both.ensures.greatest) in (

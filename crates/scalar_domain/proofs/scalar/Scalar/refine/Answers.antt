@@ -6,7 +6,8 @@ use Rattle.scalar_domain.proofs.scalar.Scalar.refine.Goals as goal
 use Rattle.scalar_domain.proofs.scalar.Scalar.refine.Goals.{else-is_possible-via-then-is_possible+else-is_possible-2, else-is_possible-via-else-is_possible}
 
 pub returns-else-is_possible-clause-bounds : goal.returns-else-is_possible-clause-bounds
-returns-else-is_possible-clause-bounds c = λ k x s m i p h j e.
+returns-else-is_possible-clause-bounds c = λ k x s m i h j e.
+    let p : x < 2 ^ 64 = omega (arith, h.greatest) in
     let l : k < 2 ^ 64 = omega (arith, i.least) in
     let r = c.refine_words.ensures.sound x k p l h j (ap (λ z. compares z c.args.condition x k) s ∙ e) in
     elim c.else-is_possible.branch [
