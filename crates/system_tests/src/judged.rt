@@ -1,0 +1,71 @@
+//! What becomes of program bytes: a fault of the decoder, a refusal of the verifier, or an exit.
+ghost use Rattle.std.specs.Prelude.{◌≡◌, IfOk, length};
+
+use bpf_model::CtxBytes;
+use insn_codec::decode;
+use machine::run_to_exit;
+use std::alloc::Global;
+use std::test::Fail;
+use verifier::verify;
+
+/// A fault or refusal by its number and slot, or the exit value and the number of steps.
+#[derive(Clone, Copy, Debug, PartialEq, Eq)]
+pub enum Wanted {
+    Flawed(u8, Option<usize>),
+    Refused(u8, Option<usize>),
+    Exits(u64, usize),
+}
+
+/// A program and a context in hexadecimal digits, spaces left out, and what becomes of them.
+pub struct Case {
+    pub name: &'static str,
+    pub code: &'static str,
+    pub ctx: &'static str,
+    pub wanted: Wanted,
+}
+
+/// The bytes of hexadecimal digits; spaces are left out.
+pub fn bytes_of(alloc: Global, text: &str) -> Result<Vec<u8>, Fail> {
+    let mut digits: Vec<u8> = Vec::new(alloc);
+    for byte in text.as_bytes() {
+        if *byte != b' ' {
+            digits.push(*byte)?;
+        }
+    }
+    Ok(hex::decode(alloc, digits)?)
+}
+
+fn context_of(bytes: &[u8]) -> Result<CtxBytes, Fail>
+    ensures { IfOk result (λ c. c.items ≡ bytes.now) }
+{
+    let mut ctx = CtxBytes::new();
+    match ctx.try_extend_from_slice(bytes) {
+        Ok(()) => Ok(ctx),
+        Err(_) => Err(Fail::from("the context is too long")),
+    }
+}
+
+/// What becomes of program bytes on a context.
+pub fn judged(alloc: Global, code: &[u8], ctx: &[u8]) -> Result<Wanted, Fail> {
+    let context = context_of(ctx)?;
+    if ctx.len() > 256 {
+        return Err(Fail::from("the context is too long"));
+    }
+    let program = match decode(alloc, code) {
+        Ok(program) => program,
+        Err(fault) => return Ok(Wanted::Flawed(fault.code(), fault.slot())),
+    };
+    let verified = match verify(alloc, program, &[], ctx.len()) {
+        Ok(verified) => verified,
+        Err(refusal) => return Ok(Wanted::Refused(refusal.code(), refusal.slot())),
+    };
+    let finished = run_to_exit(&verified, &context);
+    Ok(Wanted::Exits(finished.value, finished.steps))
+}
+
+/// What becomes of a case's program on its context.
+pub fn judged_case(alloc: Global, case: &Case) -> Result<Wanted, Fail> {
+    let code = bytes_of(alloc, case.code)?;
+    let ctx = bytes_of(alloc, case.ctx)?;
+    judged(alloc, &code, &ctx)
+}
