@@ -18,7 +18,7 @@ pub record IsConstant (s : Scalar) (n : ℕ) : Type 0 where
   pub least : s.least ≡ n
   pub greatest : s.greatest ≡ n
 
--- Its bounds and its bits contradict neither themselves nor each other's kind.
+-- Its bounds are in order, and no bit is known to be both 0 and 1.
 pub record IsPossible (s : Scalar) : Type 0 where
   pub bounds : s.least ≤ s.greatest
   pub bits : Within s.must s.may
