@@ -66,6 +66,7 @@ impl AbsState {
         }
     }
 
+    /// A register becomes of this kind.
     pub(crate) fn set(&mut self, r: Reg, kind: RegKind)
         ensures { SetsReg r kind self.old self.new }
     {
