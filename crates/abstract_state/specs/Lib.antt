@@ -1,3 +1,4 @@
 pub mod Laws
+pub mod Numbers
 pub mod State
 pub mod Steps

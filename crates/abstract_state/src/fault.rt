@@ -35,6 +35,31 @@ pub enum Fault {
     Memory,
 }
 
+impl Fault {
+    ghost use Rattle.abstract_state.specs.Numbers.{fault_number};
+
+    /// The number by which the fault is known, 23 to 39, or 13 for want of memory.
+    pub fn code(self) -> u8
+        ensures { result ≡ fault_number self }
+    {
+        match self {
+            Fault::UnwrittenRegister => 23,
+            Fault::FramePointerWritten => 24,
+            Fault::PointerArithmetic => 25,
+            Fault::NotAPointer => 26,
+            Fault::OutOfBounds => 27,
+            Fault::Misaligned => 28,
+            Fault::UnwrittenFrame => 29,
+            Fault::PointerLeak => 30,
+            Fault::MixedRegions => 31,
+            Fault::UnknownCall => 35,
+            Fault::NoSuchMap => 37,
+            Fault::ContextWrite => 39,
+            Fault::Memory => 13,
+        }
+    }
+}
+
 impl From<AllocError> for Fault {
     ghost use Rattle.abstract_state.specs.declared.fault.Fault.TheVariants.{Memory};
 

@@ -4,6 +4,7 @@ pub mod Frame
 pub mod Graph
 pub mod Opcode
 pub mod Operand
+pub mod Places
 pub mod Plain
 pub mod Profile
 pub mod Spelling

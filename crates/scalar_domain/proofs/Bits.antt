@@ -1,13 +1,11 @@
 -- Numbers within a mask.
-use Rattle.std.proofs.Common.{◌≡◌, ℕ, zero, suc, ◌+◌, ◌-◌, ◌*◌, ◌/◌, ◌%◌, ◌^◌, ◌<◌, ◌≤◌, min, max, refl, sym, ◌∙◌, ap, subst, arith}
-use native.Mathlib.Decide.{dec_le}
-use lib.Pow.{mod-mod-pow, pow_mono}
+use Rattle.std.proofs.Common.{◌≡◌, ℕ, suc, ◌+◌, ◌-◌, ◌*◌, ◌/◌, ◌%◌, ◌^◌, ◌<◌, ◌≤◌, sym, ◌∙◌, ap, subst, arith}
 use Rattle.std.specs.Prelude.{bit_and, bit_or, bit_xor}
-use Rattle.std.specs.Int.{bit_at, trailing_zeros, leading_zeros, w64}
-use Rattle.std.proofs.lemmas.Nat.{and_le_l, and_le_r, and_comm, and_mask, and_mod, and_shr, and_block, le_or_l, le_or_r, pow_pos, mod_below, or_mod, pow-add, shr_split, le-div, leading_top}
-use Rattle.std.specs.Int.Bits.{and_self, and_zero_r, and_zero_l}
-use Rattle.std.proofs.lemmas.Nat.Bits.{bit_at_and, bit_at_or, bit_at_xor, same_from_bits, bit_at-lt, and_high_mask, bit_at-trailing_zeros, same_from_bits_below, bit_at_cat_low, bit_at-zero, ones_shr}
-use Rattle.std.proofs.Math.Nat.{mod-eq_of_lt, add-mod, mul-mod_left, zero-mod}
+use Rattle.std.specs.Int.{bit_at, leading_zeros, w64}
+use Rattle.std.proofs.lemmas.Nat.{and_le_r, and_mask, and_mod, and_shr, and_block, pow_pos, shr_split, le-div, leading_top}
+use Rattle.std.specs.Int.Bits.{and_self, and_zero_l}
+use Rattle.std.proofs.lemmas.Nat.Bits.{bit_at_and, bit_at_or, bit_at_xor, same_from_bits, bit_at-lt, ones_shr}
+use Rattle.std.proofs.Math.Nat.{mod-eq_of_lt}
 use Rattle.scalar_domain.specs.Scalar.{Within}
 
 pub ap2 : {A B C : Type 0} (f : A → B → C) {a a' : A} {b b' : B} → a ≡ a' → b ≡ b' → f a b ≡ f a' b'
@@ -91,3 +89,6 @@ ones_within x n p l h =
     let w : leading_zeros w64 n ≤ 64 = omega (arith, t.1) in
     let m : (2 ^ 64 - 1) / 2 ^ leading_zeros w64 n ≡ 2 ^ suc t.0 - 1 = ones_shr 64 (leading_zeros w64 n) w ∙ ap (λ (j : ℕ). 2 ^ j - 1) e in
     subst (Within x) (sym m) (within_ones x (suc t.0) (omega (arith, t.3)))
+
+pub or-within : (n a b : ℕ) → Within a n → Within b n → Within (bit_or a b) n
+or-within n a b h k = within_from _ _ (λ i. omega (arith, within_bit a n i h, within_bit b n i k, bit_at_or a b i))

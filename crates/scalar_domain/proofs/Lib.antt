@@ -1,4 +1,7 @@
 pub mod Bits
+pub mod Constants
+pub mod Edges
+pub mod Forms
 pub mod Multiples
 pub mod Quotients
 pub mod Shifts

@@ -1,5 +1,5 @@
 -- Numbers whose low bits are zero.
-use Rattle.std.proofs.Common.{◌≡◌, ℕ, zero, suc, ◌+◌, ◌-◌, ◌*◌, ◌/◌, ◌%◌, ◌^◌, ◌<◌, ◌≤◌, refl, sym, ◌∙◌, ap, subst, arith}
+use Rattle.std.proofs.Common.{◌≡◌, ℕ, ◌+◌, ◌-◌, ◌*◌, ◌/◌, ◌%◌, ◌^◌, ◌<◌, ◌≤◌, sym, ◌∙◌, ap, subst, arith}
 use native.Mathlib.Decide.{dec_le}
 use lib.Pow.{mod-mod-pow, pow_mono}
 use Rattle.std.specs.Prelude.{bit_and, bit_or}

@@ -1,12 +1,12 @@
 -- Low bits and shifts of the numbers of a scalar.
-use Rattle.std.proofs.Common.{◌≡◌, ℕ, zero, suc, ◌+◌, ◌-◌, ◌*◌, ◌/◌, ◌%◌, ◌^◌, ◌<◌, ◌≤◌, refl, sym, ◌∙◌, ap, subst, arith}
-use Rattle.std.proofs.lemmas.Nat.{pow_pos, mod_below, shr_split, pow-add, shl-shr}
+use Rattle.std.proofs.Common.{◌≡◌, ℕ, ◌+◌, ◌-◌, ◌*◌, ◌/◌, ◌%◌, ◌^◌, ◌<◌, ◌≤◌, sym, ◌∙◌, ap, subst, arith}
+use Rattle.std.proofs.lemmas.Nat.{pow_pos, pow-add, shl-shr}
 use Rattle.std.proofs.lemmas.Nat.Bits.{ones_shr}
 use Rattle.std.proofs.Math.Nat.{mod-eq_of_lt, mul-mod_left, mul-le-mul_right}
 use lib.Pow.{mod-mod-pow}
 use Rattle.scalar_domain.specs.declared.scalar.Scalar.{Scalar}
 use Rattle.scalar_domain.specs.Scalar.{Holds, Within}
-use Rattle.scalar_domain.proofs.Bits.{within-mod, within-shl, within-shr, low_mono, same_high, shr_mono}
+use Rattle.scalar_domain.proofs.Bits.{within-mod, within-shl, low_mono, same_high, shr_mono}
 
 pub low_holds : (s : Scalar) (x k m : ℕ) → m ≡ 2 ^ k → s.least / m ≡ s.greatest / m → Holds s x →
     Holds (record { least = s.least % m; greatest = s.greatest % m; may = s.may % m; must = s.must % m }) (x % 2 ^ k)

@@ -1,6 +1,6 @@
 -- Swapped bytes are a word.
-use Rattle.std.proofs.Common.{◌≡◌, ℕ, ◌+◌, ◌-◌, ◌*◌, ◌/◌, ◌%◌, ◌^◌, ◌<◌, ◌≤◌, refl, arith}
-use Rattle.std.specs.Int.{Width, w16, w32, w64, swap_bytes}
+use Rattle.std.proofs.Common.{ℕ, ◌+◌, ◌*◌, ◌/◌, ◌%◌, ◌^◌, ◌<◌, arith}
+use Rattle.std.specs.Int.{swap_bytes}
 use Rattle.std.proofs.lemmas.Nat.{mod_below, pow_pos}
 use Rattle.bpf_model.specs.Arithmetic.{reordered, swapped_width}
 use Rattle.bpf_model.specs.declared.opcode.ByteOrder.{ByteOrder}

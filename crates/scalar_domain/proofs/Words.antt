@@ -1,19 +1,15 @@
 -- Results of arithmetic are words.
-use Rattle.std.proofs.Common.{◌≡◌, ℕ, zero, suc, ◌+◌, ◌-◌, ◌*◌, ◌/◌, ◌%◌, ◌^◌, ◌<◌, ◌≤◌, ℤ, pos, negsuc, refl, arith, Bool, true, false, cond}
+use Rattle.std.proofs.Common.{ℕ, ◌*◌, ◌/◌, ◌%◌, ◌^◌, ◌<◌, ℤ, pos, negsuc, arith, Bool, true, false, cond}
 use Rattle.std.specs.Prelude.{◌==◌, ◌+ℤ◌, ◌-ℤ◌, ◌*ℤ◌, neg_ℤ, int_div, int_rem}
 use Rattle.std.specs.Int.{Width, w8, w16, w32, w64, int_shr}
 use mir.Val.{bits}
 use Rattle.std.proofs.lemmas.Nat.{and_le_l, or_lt, xor_lt, mod_below, pow_pos, shr_le}
 use Rattle.std.proofs.Math.Nat.{div-le_self, mod-le}
-use Rattle.bpf_model.specs.Arithmetic.{operate, alu, word, signed, extended, negated, reordered, moved_signed, loaded_signed}
+use Rattle.bpf_model.specs.Arithmetic.{operate, alu, word, signed, negated, moved_signed, loaded_signed}
 use Rattle.bpf_model.specs.declared.insn.AluOp.{AluOp}
 use Rattle.bpf_model.specs.declared.insn.AluOp.TheVariants.{Add, Sub, Mul, Div, SignedDiv, Or, And, ShiftLeft, ShiftRight, Mod, SignedMod, Xor, Move, ShiftRightSigned}
 use Rattle.bpf_model.specs.declared.insn.SignExtension.{SignExtension}
 use Rattle.bpf_model.specs.declared.insn.SignExtension.TheVariants.{ByteTo32, ShortTo32, ByteTo64, ShortTo64, WordTo64}
-use Rattle.bpf_model.specs.declared.opcode.ByteOrder.{ByteOrder}
-use Rattle.bpf_model.specs.declared.opcode.ByteOrder.TheVariants.{ToLittle, ToBig, Swap}
-use Rattle.bpf_model.specs.declared.opcode.SwapWidth.{SwapWidth}
-use Rattle.bpf_model.specs.declared.opcode.SwapWidth.TheVariants as swap_width
 use Rattle.bpf_model.specs.declared.opcode.SignedWidth.{SignedWidth}
 use Rattle.bpf_model.specs.declared.opcode.SignedWidth.TheVariants as signed_width
 use Rattle.bpf_model.specs.declared.opcode.Size.{Size}

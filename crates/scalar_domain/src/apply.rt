@@ -1,62 +1,115 @@
 //! Operations.
 ghost use Rattle.std.specs.Prelude.{◌≡◌, ℕ, ◌<◌, ◌≤◌, ◌^◌};
-ghost use Rattle.bpf_model.specs.Arithmetic.{alu, negated, reordered, moved_signed, loaded_signed, compares};
+ghost use Rattle.std.specs.Int.{w32, w64};
+ghost use Rattle.bpf_model.specs.Arithmetic.{operate, alu};
+ghost use Rattle.bpf_model.specs.declared.insn.AluOp.TheVariants.{Add, And, ShiftLeft, ShiftRight, Mod};
+ghost use Rattle.bpf_model.specs.declared.opcode.Size.TheVariants.{Word32, Word64};
 ghost use Rattle.scalar_domain.specs.Scalar.{Holds, IsConstant};
+ghost use Rattle.scalar_domain.specs.Precision.{Adds, Masks, ShiftsLeft, ShiftsRight};
+ghost use Rattle.scalar_domain.specs.Unsigned.{unsigned_form};
 
 use crate::scalar::Scalar;
-use bpf_model::{AluOp, ByteOrder, Condition, SignExtension, SignedWidth, Size, SwapWidth};
+use bpf_model::{AluOp, Size};
 
 impl Scalar {
-    /// What an operation can give.
+    /// What an operation can give, on 64 bits or on the low 32. It gives the constant of two constants, and
+    /// on 64 bits it is as narrow as `specs/Precision.antt` says.
     pub fn apply(size: Size, op: AluOp, a: Scalar, b: Scalar) -> Scalar
         ensures sound { (x y : ℕ) → x < 2 ^ 64 → y < 2 ^ 64 → Holds a x → Holds b y → Holds result (alu size op x y) }
         ensures constant { (x y : ℕ) → IsConstant a x → IsConstant b y → IsConstant result (alu size op x y) }
+        ensures narrow { size ≡ Word32 → result.greatest < 2 ^ 32 }
+        ensures sum { (x y : ℕ) → size ≡ Word64 → op ≡ Add → Holds a x → Holds b y → Adds a b result }
+        ensures mask { (k : ℕ) → size ≡ Word64 → op ≡ And → IsConstant b k → Masks k result }
+        ensures shift_left { (k x : ℕ) → size ≡ Word64 → op ≡ ShiftLeft → IsConstant b k → k < 64 → Holds a x → ShiftsLeft k a result }
+        ensures shift_right { (k : ℕ) → size ≡ Word64 → op ≡ ShiftRight → IsConstant b k → k < 64 → ShiftsRight k a result }
+        ensures remainder { (k : ℕ) → size ≡ Word64 → op ≡ Mod → IsConstant b k → 0 < k → result.greatest < k }
     {
         match (a.as_constant(), b.as_constant()) {
             (Some(x), Some(y)) => Scalar::constant(alu::alu(size, op, x, y)),
-            _ => Scalar::unknown(),
+            _ => match size {
+                Size::Word64 => apply_wide(op, a, b),
+                Size::Word32 => apply_narrow(op, a.low_bits(32), b.low_bits(32)),
+            },
         }
     }
+}
 
-    /// What a negation can give.
-    pub fn negate(size: Size, a: Scalar) -> Scalar
-        ensures sound { (x : ℕ) → x < 2 ^ 64 → Holds a x → Holds result (negated size x) }
-    {
-        Scalar::unknown()
+/// What an operation on 64 bits can give.
+fn apply_wide(op: AluOp, a: Scalar, b: Scalar) -> Scalar
+    ensures sound { (x y : ℕ) → x < 2 ^ 64 → y < 2 ^ 64 → Holds a x → Holds b y → Holds result (operate w64 op x y) }
+    ensures sum { (x y : ℕ) → op ≡ Add → Holds a x → Holds b y → Adds a b result }
+    ensures mask { (k : ℕ) → op ≡ And → IsConstant b k → Masks k result }
+    ensures shift_left { (k x : ℕ) → op ≡ ShiftLeft → IsConstant b k → k < 64 → Holds a x → ShiftsLeft k a result }
+    ensures shift_right { (k : ℕ) → op ≡ ShiftRight → IsConstant b k → k < 64 → ShiftsRight k a result }
+    ensures remainder { (k : ℕ) → op ≡ Mod → IsConstant b k → 0 < k → result.greatest < k }
+{
+    if a.greatest < 1 << 63 && b.greatest < 1 << 63 {
+        apply_unsigned(without_sign(op), a, b)
+    } else {
+        apply_unsigned(op, a, b)
     }
+}
 
-    /// What a byte swap can give.
-    pub fn byte_swap(order: ByteOrder, width: SwapWidth, a: Scalar) -> Scalar
-        ensures sound { (x : ℕ) → x < 2 ^ 64 → Holds a x → Holds result (reordered order width x) }
-    {
-        Scalar::unknown()
+/// What an operation on the low 32 bits can give, of numbers below 2^32.
+fn apply_narrow(op: AluOp, a: Scalar, b: Scalar) -> Scalar
+    ensures sound { (x y : ℕ) → x < 2 ^ 32 → y < 2 ^ 32 → Holds a x → Holds b y → Holds result (operate w32 op x y) }
+    ensures bound { result.greatest < 2 ^ 32 }
+{
+    if a.greatest < 1 << 31 && b.greatest < 1 << 31 {
+        apply_short(without_sign(op), a, b)
+    } else {
+        apply_short(op, a, b)
     }
+}
 
-    /// What a move with sign extension can give.
-    pub fn move_signed(extension: SignExtension, a: Scalar) -> Scalar
-        ensures sound { (x : ℕ) → x < 2 ^ 64 → Holds a x → Holds result (moved_signed extension x) }
-    {
-        Scalar::unknown()
+/// The operation that does the same where both operands have no sign.
+fn without_sign(op: AluOp) -> AluOp
+    ensures { result ≡ unsigned_form op }
+{
+    match op {
+        AluOp::SignedDiv => AluOp::Div,
+        AluOp::SignedMod => AluOp::Mod,
+        AluOp::ShiftRightSigned => AluOp::ShiftRight,
+        _ => op,
     }
+}
 
-    /// What a sign-extending load of this width can give, whatever it reads.
-    pub fn load_signed(width: SignedWidth) -> Scalar
-        ensures sound { (n : ℕ) → Holds result (loaded_signed width n) }
-    {
-        Scalar::unknown()
+/// What an operation on 64 bits can give; of a signed one nothing is known.
+fn apply_unsigned(op: AluOp, a: Scalar, b: Scalar) -> Scalar
+    ensures sound { (x y : ℕ) → x < 2 ^ 64 → y < 2 ^ 64 → Holds a x → Holds b y → Holds result (operate w64 op x y) }
+    ensures sum { (x y : ℕ) → op ≡ Add → Holds a x → Holds b y → Adds a b result }
+    ensures mask { (k : ℕ) → op ≡ And → IsConstant b k → Masks k result }
+    ensures shift_left { (k x : ℕ) → op ≡ ShiftLeft → IsConstant b k → k < 64 → Holds a x → ShiftsLeft k a result }
+    ensures shift_right { (k : ℕ) → op ≡ ShiftRight → IsConstant b k → k < 64 → ShiftsRight k a result }
+    ensures remainder { (k : ℕ) → op ≡ Mod → IsConstant b k → 0 < k → result.greatest < k }
+{
+    match op {
+        AluOp::Add => a.add(b),
+        AluOp::Sub => a.subtract(b),
+        AluOp::Mul => a.multiply(b),
+        AluOp::Div => a.divide(b),
+        AluOp::Mod => a.remainder(b),
+        AluOp::And => a.mask(b),
+        AluOp::Or => a.or(b),
+        AluOp::Xor => a.xor(b),
+        AluOp::Move => b,
+        AluOp::ShiftLeft => a.shift_left_by(b, 64),
+        AluOp::ShiftRight => a.shift_right_by(b, 64),
+        AluOp::SignedDiv | AluOp::SignedMod | AluOp::ShiftRightSigned => Scalar::unknown(),
     }
+}
 
-    /// What remains of two sets on the edge of a conditional jump where it is taken, or where it is not.
-    /// Where no number would remain on a side, both stay as they are.
-    pub fn refine(
-        size: Size,
-        condition: Condition,
-        a: Scalar,
-        b: Scalar,
-        taken: bool,
-    ) -> (Scalar, Scalar)
-        ensures sound { (x y : ℕ) → x < 2 ^ 64 → y < 2 ^ 64 → Holds a x → Holds b y → compares size condition x y ≡ taken → Holds result.0 x × Holds result.1 y }
-    {
-        (a, b)
+/// What an operation on 32 bits can give, of numbers below 2^32; of a signed one nothing is known.
+fn apply_short(op: AluOp, a: Scalar, b: Scalar) -> Scalar
+    ensures sound { (x y : ℕ) → x < 2 ^ 32 → y < 2 ^ 32 → Holds a x → Holds b y → Holds result (operate w32 op x y) }
+    ensures bound { result.greatest < 2 ^ 32 }
+{
+    match op {
+        AluOp::ShiftLeft => a.shift_left_by(b, 32).low_bits(32),
+        AluOp::ShiftRight => a.shift_right_by(b, 32).low_bits(32),
+        AluOp::SignedDiv | AluOp::SignedMod | AluOp::ShiftRightSigned => {
+            Scalar::between(0, 0xffff_ffff)
+        }
+        _ => apply_unsigned(op, a, b).low_bits(32),
     }
 }

@@ -1,7 +1,7 @@
 //! Operations on bits.
 ghost use Rattle.std.specs.Prelude.{◌≡◌, ℕ, ◌*◌, ◌/◌, ◌%◌, ◌^◌, ◌<◌, ◌≤◌, bit_and, bit_or, bit_xor};
 ghost use Rattle.scalar_domain.specs.Scalar.{Holds, IsConstant, Within};
-ghost use Rattle.scalar_domain.specs.Precision.{ShiftsLeft, ShiftsRight};
+ghost use Rattle.scalar_domain.specs.Precision.{Masks, ShiftsLeft, ShiftsRight};
 
 use crate::scalar::Scalar;
 
@@ -88,6 +88,14 @@ impl Scalar {
         }
     }
 
+    /// The same; of a mask that is constant all bits are known.
+    pub(crate) fn mask(self, other: Scalar) -> Scalar
+        ensures sound { (x y : ℕ) → Holds self x → Holds other y → Holds result (bit_and x y) }
+        ensures precise { (k : ℕ) → IsConstant other k → Masks k result }
+    {
+        self.and(other.with_known_bits())
+    }
+
     #[tactic(auto, using(crate::proofs::Bits::bits_laws))]
     pub(crate) fn or(self, other: Scalar) -> Scalar
         ensures sound { (x y : ℕ) → Holds self x → Holds other y → Holds result (bit_or x y) }
@@ -159,6 +167,32 @@ impl Scalar {
             greatest: self.greatest >> by,
             may: self.may >> by,
             must: self.must >> by,
+        }
+    }
+
+    /// By the amount modulo a size; an unknown amount gives any number.
+    pub(crate) fn shift_left_by(self, amount: Scalar, size: u64) -> Scalar
+        requires positive { 0 < size }
+        requires word { size ≤ 64 }
+        ensures sound { (x y : ℕ) → x < 2 ^ 64 → Holds self x → Holds amount y → Holds result ((x * 2 ^ (y % size)) % 2 ^ 64) }
+        ensures precise { (k x : ℕ) → IsConstant amount k → k < size → Holds self x → ShiftsLeft k self result }
+    {
+        match amount.as_constant() {
+            Some(k) => self.shift_left((k % size) as u32),
+            None => Scalar::unknown(),
+        }
+    }
+
+    /// By the amount modulo a size; an unknown amount gives numbers up to the greatest.
+    pub(crate) fn shift_right_by(self, amount: Scalar, size: u64) -> Scalar
+        requires positive { 0 < size }
+        requires word { size ≤ 64 }
+        ensures sound { (x y : ℕ) → Holds self x → Holds amount y → Holds result (x / 2 ^ (y % size)) }
+        ensures precise { (k : ℕ) → IsConstant amount k → k < size → ShiftsRight k self result }
+    {
+        match amount.as_constant() {
+            Some(k) => self.shift_right((k % size) as u32),
+            None => Scalar::between(0, self.greatest),
         }
     }
 }

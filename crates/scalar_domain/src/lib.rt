@@ -6,6 +6,9 @@
 
 mod apply;
 mod bitwise;
+mod moves;
+mod refine;
+mod relation;
 mod scalar;
 mod sums;
 

@@ -22,6 +22,8 @@ impl Scalar {
     pub fn constant(n: u64) -> Scalar
         ensures sound { Holds result n }
         ensures exact { IsConstant result n }
+        ensures zeros { result.may ≡ n }
+        ensures ones { result.must ≡ n }
     {
         Scalar {
             least: n,

@@ -1,4 +1,4 @@
-use Rattle.std.proofs.Common.{◌≡◌, ℕ, ◌/◌, ◌<◌, ◌≤◌, max, sym, subst, arith}
+use Rattle.std.proofs.Common.{◌/◌, ◌<◌, sym, subst, arith}
 use Rattle.scalar_domain.specs.Scalar.{Holds}
 use Rattle.scalar_domain.proofs.Quotients.{when_positive, div_mono}
 use Rattle.scalar_domain.proofs.scalar.Scalar.divide.Goals as goal

@@ -1,6 +1,6 @@
 use Rattle.std.proofs.lemmas.Nat.{one_shl}
 use Rattle.scalar_domain.proofs.Shifts.{low_holds, low_within}
-use Rattle.std.proofs.Common.{◌≡◌, ℕ, ◌*◌, ◌%◌, ◌^◌, ap, ◌∙◌, subst, sym}
+use Rattle.std.proofs.Common.{◌*◌, ◌%◌, ◌^◌, subst}
 use Rattle.scalar_domain.specs.Scalar.{Within}
 use Rattle.scalar_domain.proofs.scalar.Scalar.low_bits.Goals as goal
 

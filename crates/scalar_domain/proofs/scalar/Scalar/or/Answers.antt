@@ -1,4 +1,4 @@
-use Rattle.std.proofs.Common.{◌≡◌, ℕ, ◌≤◌, max, arith}
+use Rattle.std.proofs.Common.{arith}
 use Rattle.std.proofs.lemmas.Nat.{le_or_l, le_or_r}
 use Rattle.scalar_domain.proofs.Bits.{within-or, within_le}
 use Rattle.scalar_domain.proofs.scalar.Scalar.or.Goals as goal

@@ -1,0 +1,23 @@
+use Rattle.std.proofs.Common.{sym, ◌∙◌, ap, subst, arith}
+use Rattle.std.specs.Int.{w64}
+use Rattle.bpf_model.specs.Arithmetic.{operate}
+use Rattle.scalar_domain.specs.Scalar.{Holds}
+use Rattle.scalar_domain.specs.Unsigned.{unsigned_form}
+use Rattle.scalar_domain.proofs.Forms.{wide_same}
+use Rattle.scalar_domain.proofs.apply.apply_wide.Goals as goal
+
+pub returns-then-b : goal.returns-then-b
+returns-then-b c =
+    let r = c.apply_unsigned.ensures in
+    let w = c.without_sign.ensures in
+    record {
+      sound = λ x y p q h k.
+          subst (Holds c.apply_unsigned.result)
+          (ap (λ o. operate w64 o x y) w ∙ sym (wide_same c.args.op x y (omega (arith, h.greatest, c.if-a.true)) (omega (arith, k.greatest, c.if-b.true))))
+          (r.sound x y p q h k);
+      sum = λ x y e. r.sum x y (w ∙ ap unsigned_form e);
+      mask = λ k e. r.mask k (w ∙ ap unsigned_form e);
+      shift_left = λ k x e. r.shift_left k x (w ∙ ap unsigned_form e);
+      shift_right = λ k e. r.shift_right k (w ∙ ap unsigned_form e);
+      remainder = λ k e. r.remainder k (w ∙ ap unsigned_form e);
+    }

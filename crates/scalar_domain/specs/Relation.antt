@@ -1,0 +1,70 @@
+-- What an edge of a conditional jump says of the two operands, in their unsigned order.
+use Rattle.std.specs.Prelude.{◌≡◌, ℕ, ◌<◌, ◌≤◌, bit_and, Bool, true, false}
+use Rattle.std.specs.Int.{w64}
+use Rattle.bpf_model.specs.Arithmetic.{holds}
+use Rattle.bpf_model.specs.declared.opcode.Condition.{Condition}
+use Rattle.bpf_model.specs.declared.opcode.Condition.TheVariants as condition
+use Rattle.scalar_domain.specs.declared.scalar.Scalar.{Scalar}
+use Rattle.scalar_domain.specs.declared.relation.Relation.{Relation}
+use Rattle.scalar_domain.specs.declared.relation.Relation.TheVariants.{Below, AtMost, Above, AtLeast, Equal, Apart, Unknown}
+use Rattle.scalar_domain.specs.Scalar.{Within}
+
+abbrev pub Related : Relation → ℕ → ℕ → Type 0
+Related Below x y = x < y
+Related AtMost x y = x ≤ y
+Related Above x y = y < x
+Related AtLeast x y = y ≤ x
+Related Equal x y = x ≡ y
+Related Apart x y = bit_and x y ≡ 0
+Related Unknown x y = Unit {0}
+
+-- The relations that bound one number by the other.
+abbrev pub Bounding : Relation → Type 0
+Bounding Apart = ⊥
+Bounding Unknown = ⊥
+Bounding relation = Unit {0}
+
+-- The relation on the edge where a condition holds, or where it does not; of a signed one nothing is said.
+abbrev pub relation_on : Condition → Bool → Relation
+relation_on condition.Equal true = Equal
+relation_on condition.NotEqual false = Equal
+relation_on condition.Less true = Below
+relation_on condition.Less false = AtLeast
+relation_on condition.LessOrEqual true = AtMost
+relation_on condition.LessOrEqual false = Above
+relation_on condition.Greater true = Above
+relation_on condition.Greater false = AtMost
+relation_on condition.GreaterOrEqual true = AtLeast
+relation_on condition.GreaterOrEqual false = Below
+relation_on condition.SharesBits false = Apart
+relation_on other taken = Unknown
+
+-- The condition that says the same of words whose sign bit is 0.
+abbrev pub unsigned_condition : Condition → Condition
+unsigned_condition condition.SignedLess = condition.Less
+unsigned_condition condition.SignedLessOrEqual = condition.LessOrEqual
+unsigned_condition condition.SignedGreater = condition.Greater
+unsigned_condition condition.SignedGreaterOrEqual = condition.GreaterOrEqual
+unsigned_condition other = other
+
+-- The edges on which a comparison with a constant moves the bounds: those of the unsigned orders, and of equality.
+abbrev pub MovesBounds : Condition → Bool → Type 0
+MovesBounds condition.Less taken = Unit {0}
+MovesBounds condition.LessOrEqual taken = Unit {0}
+MovesBounds condition.Greater taken = Unit {0}
+MovesBounds condition.GreaterOrEqual taken = Unit {0}
+MovesBounds condition.Equal true = Unit {0}
+MovesBounds condition.NotEqual false = Unit {0}
+MovesBounds other taken = ⊥
+
+-- Both bounds of a scalar go along the edge of a comparison of 64 bits with a constant.
+pub record GoesAlong (c : Condition) (taken : Bool) (s : Scalar) (k : ℕ) : Type 0 where
+  pub least : holds w64 c s.least k ≡ taken
+  pub greatest : holds w64 c s.greatest k ≡ taken
+
+-- A scalar is at least as narrow as another, in each of its parts.
+pub record IsNarrower (s wide : Scalar) : Type 0 where
+  pub least : wide.least ≤ s.least
+  pub greatest : s.greatest ≤ wide.greatest
+  pub zeros : Within s.may wide.may
+  pub ones : Within wide.must s.must

@@ -1,0 +1,13 @@
+use Rattle.std.proofs.Common.{◌≡◌, ℕ, ◌<◌, length}
+use Rattle.std.specs.Prelude.{slice_get, Some, None}
+use Rattle.bpf_model.specs.declared.insn.Insn.{Insn}
+use Rattle.verifier.specs.GraphFlaws.{jump_flaw}
+use Rattle.verifier.specs.Places.{StartsAt, HasTargets}
+use Rattle.verifier.proofs.graph.targets_of.Given as goal
+
+abbrev pub invariant-loop-k : goal.invariant-loop-k
+invariant-loop-k l = record {
+  long : length l.targets.items ≡ l.k;
+  targets : HasTargets l.instructions l.targets.items;
+  jumps : (j p : ℕ) (i : Insn) → j < l.k → slice_get l.instructions j ≡ Some i → StartsAt l.instructions j p → jump_flaw l.instructions p i ≡ None;
+}

@@ -1,0 +1,233 @@
+//! Pass 1: the jump graph. Where jumps lead, whether the last instruction is EXIT, and whether each
+//! instruction is reached.
+ghost use Rattle.std.specs.Prelude.{◌≡◌, ◌≢◌, ℕ, ◌+◌, ◌<◌, ◌^◌, ◌≤◌, ◌↔◌, true, length, slice_get, IfOk, IfErr, IfSome, OnOk, IsErr, IsTrue, Some, None, Option, Ok, Err, pos, ◌+ℤ◌, ◌≤ℤ◌, ℤ, MatchOption};
+ghost use Rattle.bpf_model.specs.declared.insn.Insn.{Insn};
+ghost use Rattle.bpf_model.specs.Spelling.{starts_from, slot_total, IsProgram};
+ghost use Rattle.bpf_model.specs.Graph.{falls as falls_of, distance as distance_of};
+ghost use Rattle.verifier.specs.GraphFlaws.{JumpsWell, EndsWithExit, HasGoodGraph};
+ghost use Rattle.verifier.specs.Places.{IsIndex, HasTargets, landing, landed, IsFirstUnreached, IsReached, Marks, IsTarget};
+ghost use Rattle.verifier.specs.Passes.{TellsFlaw, target_of as target_spec};
+
+use crate::refusal::{GraphFlaw, Refusal};
+use bpf_model::Insn;
+use std::alloc::{AllocError, Global};
+
+/// Whether control may go on to the next instruction.
+pub fn falls(insn: &Insn) -> bool
+    ensures { result ≡ falls_of insn.now }
+{
+    match insn {
+        Insn::Jump { .. } | Insn::JumpLong { .. } | Insn::Exit => false,
+        _ => true,
+    }
+}
+
+/// The distance of a jump, in slots from the instruction after it.
+fn distance(insn: &Insn) -> Option<i32>
+    ensures { result ≡ distance_of insn.now }
+{
+    match insn {
+        Insn::Jump { offset } => Some(i32::from(*offset)),
+        Insn::JumpLong { imm } => Some(*imm),
+        Insn::JumpIf { offset, .. } => Some(i32::from(*offset)),
+        _ => None,
+    }
+}
+
+/// The slot to which a jump over a distance leads, where it is further on.
+fn slot_ahead(place: usize, distance: i32) -> Option<usize>
+    requires { place < 2 ^ 32 }
+    ensures { MatchOption result ((pos (place + 1) +ℤ distance) ≤ℤ pos place) (λ t. (pos t ≡ pos (place + 1) +ℤ distance) × (place < t)) }
+{
+    let target = place as i64 + 1 + i64::from(distance);
+    if target <= place as i64 {
+        return None;
+    }
+    Some(target as usize)
+}
+
+/// The index of the instruction that begins at a slot.
+fn index_at(index: &[Option<usize>], slot: usize) -> Result<usize, GraphFlaw>
+    ensures { result ≡ landed (slice_get index.now slot) }
+{
+    if slot >= index.len() {
+        return Err(GraphFlaw::JumpTarget);
+    }
+    match index[slot] {
+        Some(k) => Ok(k),
+        None => Err(GraphFlaw::JumpTarget),
+    }
+}
+
+/// The index of the instruction to which a jump from a slot leads.
+fn landing_from(index: &[Option<usize>], place: usize, distance: i32) -> Result<usize, GraphFlaw>
+    requires { place < 2 ^ 32 }
+    ensures { result ≡ landing index.now place (pos (place + 1) +ℤ distance) }
+{
+    match slot_ahead(place, distance) {
+        Some(slot) => index_at(index, slot),
+        None => Err(GraphFlaw::BackJump),
+    }
+}
+
+/// The index to which an instruction jumps, if it is a jump.
+fn target_of(insn: &Insn, index: &[Option<usize>], place: usize) -> Result<Option<usize>, GraphFlaw>
+    requires { place < 2 ^ 32 }
+    ensures { result ≡ target_spec index.now place (distance_of insn.now) }
+{
+    match distance(insn) {
+        Some(by) => Ok(Some(landing_from(index, place, by)?)),
+        None => Ok(None),
+    }
+}
+
+/// For each slot the index of the instruction that begins there.
+fn index_of(
+    alloc: Global,
+    instructions: &[Insn],
+    starts: &[usize],
+    slots: usize,
+) -> Result<Vec<Option<usize>>, AllocError>
+    requires starts { starts.now ≡ starts_from 0 instructions.now }
+    requires slots { slots ≡ slot_total instructions.now }
+    ensures { IfOk result (λ v. IsIndex instructions.now v.items) }
+{
+    let mut index: Vec<Option<usize>> = vec![in alloc; None; slots]?;
+    for k in 0..starts.len() {
+        index[starts[k]] = Some(k);
+    }
+    Ok(index)
+}
+
+/// For each instruction the index to which it jumps, if it is a jump.
+fn targets_of(
+    alloc: Global,
+    instructions: &[Insn],
+    starts: &[usize],
+    index: &[Option<usize>],
+) -> Result<Vec<Option<usize>>, Refusal>
+    requires starts { starts.now ≡ starts_from 0 instructions.now }
+    requires small { slot_total instructions.now ≤ 4096 }
+    requires index { IsIndex instructions.now index.now }
+    ensures targets { IfOk result (λ v. HasTargets instructions.now v.items) }
+    ensures long { IfOk result (λ v. length v.items ≡ length instructions.now) }
+    ensures jumps { OnOk result (JumpsWell instructions.now) }
+    ensures flaw { IfErr result (TellsFlaw instructions.now) }
+{
+    let mut targets = Vec::with_capacity(alloc, instructions.len())?;
+    for k in 0..instructions.len() {
+        match target_of(&instructions[k], index, starts[k]) {
+            Ok(target) => targets.push(target)?,
+            Err(flaw) => {
+                return Err(Refusal::Graph {
+                    flaw,
+                    slot: starts[k],
+                });
+            }
+        }
+    }
+    Ok(targets)
+}
+
+fn ends_with_exit(instructions: &[Insn]) -> bool
+    ensures { IsTrue result ↔ EndsWithExit instructions.now }
+{
+    matches!(instructions.last(), Some(Insn::Exit))
+}
+
+/// Marks the instructions to which control may go on.
+fn mark(reached: &mut [bool], insn: &Insn, target: Option<usize>, k: usize)
+    requires next { falls_of insn.now ≡ true → k + 1 < length reached.old }
+    requires target { IfSome target (λ t. t < length reached.old) }
+    ensures { Marks insn.now target k reached.old reached.new }
+{
+    if falls(insn) {
+        reached[k + 1] = true;
+    }
+    if let Some(t) = target {
+        reached[t] = true;
+    }
+}
+
+/// The first instruction that no path reaches; at first none is marked but the first.
+fn first_unmarked(
+    reached: &mut [bool],
+    instructions: &[Insn],
+    targets: &[Option<usize>],
+) -> Option<usize>
+    requires marks { length reached.old ≡ length instructions.now }
+    requires long { length targets.now ≡ length instructions.now }
+    requires targets { HasTargets instructions.now targets.now }
+    requires last { EndsWithExit instructions.now }
+    requires entry { slice_get reached.old 0 ≡ Some true }
+    requires only { (k : ℕ) → slice_get reached.old k ≡ Some true → k ≡ 0 }
+    ensures { MatchOption result ((k : ℕ) → k < length instructions.now → IsReached instructions.now k) (IsFirstUnreached instructions.now) }
+{
+    for k in 0..instructions.len() {
+        if !reached[k] {
+            return Some(k);
+        }
+        mark(reached, &instructions[k], targets[k], k);
+    }
+    None
+}
+
+/// The first instruction that no path reaches.
+fn first_unreached(
+    alloc: Global,
+    instructions: &[Insn],
+    targets: &[Option<usize>],
+) -> Result<Option<usize>, AllocError>
+    requires some { 0 < length instructions.now }
+    requires long { length targets.now ≡ length instructions.now }
+    requires targets { HasTargets instructions.now targets.now }
+    requires last { EndsWithExit instructions.now }
+    ensures { IfOk result (λ r. MatchOption r ((k : ℕ) → k < length instructions.now → IsReached instructions.now k) (IsFirstUnreached instructions.now)) }
+{
+    let mut reached = first_marked(alloc, instructions.len())?;
+    Ok(first_unmarked(&mut reached, instructions, targets))
+}
+
+/// So many marks, of which only the first is set.
+fn first_marked(alloc: Global, len: usize) -> Result<Vec<bool>, AllocError>
+    requires { 0 < len }
+    ensures long { IfOk result (λ v. length v.items ≡ len) }
+    ensures first { IfOk result (λ v. slice_get v.items 0 ≡ Some true) }
+    ensures only { IfOk result (λ v. (k : ℕ) → slice_get v.items k ≡ Some true → k ≡ 0) }
+{
+    let mut marks: Vec<bool> = vec![in alloc; false; len]?;
+    marks[0] = true;
+    Ok(marks)
+}
+
+/// Judges the jump graph, and says for each instruction the index to which it jumps.
+pub fn judge(
+    alloc: Global,
+    instructions: &[Insn],
+    starts: &[usize],
+    slots: usize,
+) -> Result<Vec<Option<usize>>, Refusal>
+    requires program { IsProgram instructions.now }
+    requires starts { starts.now ≡ starts_from 0 instructions.now }
+    requires slots { slots ≡ slot_total instructions.now }
+    ensures targets { IfOk result (λ v. HasTargets instructions.now v.items) }
+    ensures long { IfOk result (λ v. length v.items ≡ length instructions.now) }
+    ensures good { OnOk result (HasGoodGraph instructions.now) }
+    ensures flaw { IfErr result (TellsFlaw instructions.now) }
+{
+    let index = index_of(alloc, instructions, starts, slots)?;
+    let targets = targets_of(alloc, instructions, starts, &index)?;
+    if !ends_with_exit(instructions) {
+        return Err(Refusal::Graph {
+            flaw: GraphFlaw::FallsOff,
+            slot: starts[starts.len() - 1],
+        });
+    }
+    match first_unreached(alloc, instructions, &targets)? {
+        Some(k) => Err(Refusal::Graph {
+            flaw: GraphFlaw::Unreachable,
+            slot: starts[k],
+        }),
+        None => Ok(targets),
+    }
+}
