@@ -59,10 +59,7 @@ impl AbsState {
     {
         match src {
             Operand::Register(r) => self.held(*r),
-            Operand::Immediate(imm) => {
-                let n = i64::from(*imm).cast_unsigned();
-                Ok(RegKind::Num(Scalar::constant(n)))
-            }
+            Operand::Immediate(imm) => Ok(RegKind::Num(Scalar::constant(alu::immediate(*imm)))),
         }
     }
 
