@@ -135,6 +135,7 @@ access_steps : (i : Insn) (width : Width) (at dst : ℕ) (o offset : ℤ) (src :
 access_steps i width at dst o offset src base value a b ctx_len maps t slots of_base no_regs takes simple is e f n sound p sets = record {
   accepts = λ _. refl;
   memory = tt;
+  unchanged = tt;
   done = record {
     sound = λ _. flows_transfers i a b ctx_len maps t (λ env m _ d.
         let s = stores (byte_count width) at dst o offset src base value a b m e f n (sound m d) p sets d in

@@ -25,7 +25,7 @@ pub same_split : (i j : Insn) (ctx_len maps : ℕ) (a b : AbsState) (r : Result 
 same_split i j ctx_len maps a b r e h = subst (λ i. IsSplit i ctx_len maps a b r) (sym e) h
 
 pub step_of_done : (i : Insn) (ctx_len maps : ℕ) (a b : AbsState) (area : Region) → Done i ctx_len maps a b area → Stepped i ctx_len maps a b (Ok area)
-step_of_done i ctx_len maps a b area h = record { done = h; memory = tt; accepts = λ _. refl }
+step_of_done i ctx_len maps a b area h = record { done = h; memory = tt; unchanged = tt; accepts = λ _. refl }
 
 pub call_refused : (kind : CallKind) (imm : ℤ) (ctx_len maps : ℕ) (a : AbsState) → Stepped (Call kind imm) ctx_len maps a a (Err UnknownCall)
-call_refused kind imm ctx_len maps a = record { done = tt; memory = λ e. cc; accepts = λ ready. absurd ready.simple }
+call_refused kind imm ctx_len maps a = record { done = tt; memory = λ e. cc; unchanged = refl; accepts = λ ready. absurd ready.simple }

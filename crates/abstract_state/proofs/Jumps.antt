@@ -64,6 +64,7 @@ pub exit_steps : (a : AbsState) (s : Scalar) (ctx_len maps : ℕ) → kind_at a 
 exit_steps a s ctx_len maps e = record {
   accepts = λ _. refl;
   memory = tt;
+  unchanged = tt;
   done = record {
     sound = λ _ env m _ d.
         let n = number_of a 0 s m e d in

@@ -125,6 +125,7 @@ pub write_steps : (i : Insn) (dst : ℕ) (k : RegKind) (a b : AbsState) (area : 
 write_steps i dst k a b area ctx_len maps t writes no_bytes ne sets numbers reaches yields = record {
   accepts = λ _. refl;
   memory = tt;
+  unchanged = tt;
   done = record {
     sound = λ _. flows_transfers i a b ctx_len maps t (write_flows i dst k a b ctx_len maps ne sets yields);
     reaches = reaches;

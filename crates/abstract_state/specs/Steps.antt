@@ -1,5 +1,5 @@
 -- How states are joined and changed, a part at a time.
-use Rattle.std.specs.Prelude.{◌≡◌, ℕ, ◌+◌, ◌^◌, ◌<◌, Option, Some, None, Result, IfOk, IfErr, OnOk, IsOk, IsSome, ℤ, if◌then◌else◌}
+use Rattle.std.specs.Prelude.{◌≡◌, ℕ, ◌+◌, ◌^◌, ◌<◌, Option, Some, None, Result, IfOk, IfErr, OnOk, OnErr, IsOk, IsSome, ℤ, if◌then◌else◌}
 use Rattle.bpf_model.specs.declared.value.Value.{Value}
 use Rattle.bpf_model.specs.declared.value.Value.TheVariants.{Number, Pointer}
 use Rattle.bpf_model.specs.declared.value.Reference.TheVariants as references
@@ -96,6 +96,7 @@ pub record Done (i : Insn) (ctx_len maps : ℕ) (old new : AbsState) (area : Reg
 pub record Stepped (i : Insn) (ctx_len maps : ℕ) (old new : AbsState) (result : Result Region Fault) : Type 0 where
   pub done : IfOk result (λ area. Done i ctx_len maps old new area)
   pub memory : HasMemory result
+  pub unchanged : OnErr result (new ≡ old)
   pub accepts : IsReady i old → IsOk result
 
 -- the store of an operand
@@ -110,5 +111,6 @@ pub record IsSplit (i : Insn) (ctx_len maps : ℕ) (old new : AbsState) (result 
   pub branches : IfOk result (λ f. IsBranch i → IsSome f.taken)
   pub accepts : IsReady i old → IsFine result
   pub memory : IfErr result (λ e. e ≡ Memory → IsBranch i)
+  pub unchanged : OnErr result (new ≡ old)
   pub keeps : OnOk result (IsReady i old → Keeps i old new)
   pub keeps_taken : IfOk result (λ f. IsReady i old → (t : AbsState) → f.taken ≡ Some t → Keeps i old t)

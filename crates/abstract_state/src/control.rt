@@ -1,12 +1,9 @@
 //! Conditional jumps, and the exit.
-ghost use Rattle.std.specs.Prelude.{◌≡◌, ℕ, ◌^◌, ◌<◌, IfOk, IsOk, OnOk, Some, IsSome, ℤ};
+ghost use Rattle.std.specs.Prelude.{◌≡◌, ℕ, IfOk, IsOk, ℤ};
 ghost use Rattle.bpf_model.specs.Operand.{operand_value};
 ghost use Rattle.bpf_model.specs.Plain.{Names};
 ghost use Rattle.bpf_model.specs.Step.{State};
-ghost use Rattle.bpf_model.specs.declared.value.Value.TheVariants as values;
-ghost use Rattle.bpf_model.specs.Arithmetic.{compares};
-ghost use Rattle.scalar_domain.specs.Scalar.{Holds};
-ghost use Rattle.abstract_state.specs.State.{Describes, IsOf, IsNumber, IsReady, IsFine, Keeps, Transfers, kind_at};
+ghost use Rattle.abstract_state.specs.State.{Describes, IsOf, IsNumber, kind_at};
 ghost use Rattle.abstract_state.specs.Steps.{IsSplit, Stepped, HasMemory};
 
 use crate::compute::numbers;
@@ -18,6 +15,7 @@ use scalar_domain::Scalar;
 use std::alloc::Global;
 
 impl AbsState {
+    /// The end of a run.
     pub(crate) fn exit(&self) -> Result<Region, Fault>
         ensures { (ctx_len maps : ℕ) → Stepped Insn.Exit ctx_len maps self.now self.now result }
     {

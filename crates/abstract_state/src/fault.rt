@@ -11,9 +11,9 @@ pub enum Fault {
     UnwrittenRegister,
     #[error("the frame pointer is written")]
     FramePointerWritten,
-    #[error("a pointer is used as a number")]
+    #[error("a pointer or a map is used as a number")]
     PointerArithmetic,
-    #[error("a memory access through a number")]
+    #[error("a memory access through a number or a map")]
     NotAPointer,
     #[error("an access may lie outside its region")]
     OutOfBounds,
@@ -21,7 +21,7 @@ pub enum Fault {
     Misaligned,
     #[error("a byte of the frame is read that is not written on every path")]
     UnwrittenFrame,
-    #[error("a pointer is stored or returned")]
+    #[error("a pointer or a map is stored or returned")]
     PointerLeak,
     #[error("a register is read that holds different kinds on different paths")]
     MixedRegions,

@@ -16,3 +16,6 @@ pub use fault::Fault;
 pub use frame::FrameCells;
 pub use kind::{CellKind, RegKind, Region};
 pub use state::{AbsState, Flow};
+
+#[cfg(test)]
+mod tests;

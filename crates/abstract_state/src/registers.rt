@@ -59,13 +59,11 @@ impl AbsState {
     {
         match src {
             Operand::Register(r) => self.held(*r),
-            Operand::Immediate(imm) => {
-                let n = i64::from(*imm).cast_unsigned();
-                Ok(RegKind::Num(Scalar::constant(n)))
-            }
+            Operand::Immediate(imm) => Ok(RegKind::Num(Scalar::constant(alu::immediate(*imm)))),
         }
     }
 
+    /// A register becomes of this kind.
     pub(crate) fn set(&mut self, r: Reg, kind: RegKind)
         ensures { SetsReg r kind self.old self.new }
     {

@@ -1,5 +1,5 @@
 //! Abstract states and what instructions make of them.
-ghost use Rattle.std.specs.Prelude.{◌≡◌, ℕ, IfOk, IfErr, OnOk, Some, IsSome, pos};
+ghost use Rattle.std.specs.Prelude.{◌≡◌, ℕ, IfOk, IfErr, OnOk, OnErr, Some, IsSome, pos};
 ghost use Rattle.bpf_model.specs.Step.{State, entry};
 ghost use Rattle.abstract_state.specs.State.{IsBranch};
 ghost use Rattle.abstract_state.specs.Steps.{Stepped, IsSplit};
@@ -77,7 +77,23 @@ impl AbsState {
     }
 
     /// What holds after the instruction: in the state itself where control falls through, or where it only
-    /// jumps, and in the answer's state where a conditional jump is taken.
+    /// jumps, and in the answer's state where a conditional jump is taken. `maps` is how many maps the
+    /// program's list has, `ctx_len` the bytes of the context.
+    ///
+    /// Errors: the first of these that holds; the state is then as it was.
+    /// - `FramePointerWritten`: the instruction sets r10.
+    /// - `UnwrittenRegister`, `MixedRegions`: a register that it reads is so, the destination before the source.
+    /// - `PointerArithmetic`: it reads a pointer or a map where a number is wanted. A move of 64 bits copies
+    ///   any value. A sum or a difference of 64 bits moves a pointer by a number that is a known constant;
+    ///   that number and the new offset lie within 2^29 either way.
+    /// - `NoSuchMap`, `UnknownCall`: it names a map past the list, or calls a function.
+    /// - `NotAPointer`: the base of an access is a number or a map.
+    /// - `ContextWrite`: a store's base is the context.
+    /// - `PointerLeak`: the value that is stored, or r0 at the exit, is a pointer or a map.
+    /// - `OutOfBounds`, then `Misaligned`: the access does not lie inside its region, or its offset from the
+    ///   region's start is no multiple of its width.
+    /// - `UnwrittenFrame`: a load takes a byte of the frame that is not written.
+    /// - `Memory`: there is none for the second state of a conditional jump.
     pub fn transfer(
         &mut self,
         alloc: Global,
@@ -90,6 +106,7 @@ impl AbsState {
         ensures branches { IfOk result (λ f. IsBranch insn.now → IsSome f.taken) }
         ensures accepts { IsReady insn.now self.old → IsFine result }
         ensures memory { IfErr result (λ e. e ≡ Fault.Memory → IsBranch insn.now) }
+        ensures unchanged { OnErr result (self.new ≡ self.old) }
         ensures keeps { OnOk result (IsReady insn.now self.old → Keeps insn.now self.old self.new) }
         ensures keeps_taken { IfOk result (λ f. IsReady insn.now self.old → (t : AbsState) → f.taken ≡ Some t → Keeps insn.now self.old t) }
     {

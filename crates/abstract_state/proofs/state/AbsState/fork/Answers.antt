@@ -19,6 +19,7 @@ returns c =
       branches = λ _. refl;
       accepts = λ _. tt;
       memory = tt;
+      unchanged = tt;
       keeps = fork_keeps c.args.condition c.args.size c.args.dst c.args.src.now offset a c.narrow-2.new.self c.narrow-2.ensures.numbers c.narrow-2.ensures.others c.narrow-2.ensures.frame;
       keeps_taken = λ ready t e.
           let same_t : c.narrow.new.self ≡ t = cc in

@@ -18,6 +18,7 @@ returns-in-JumpIf c =
       branches = s.branches;
       accepts = s.accepts;
       memory = s.memory;
+      unchanged = s.unchanged;
       keeps = s.keeps;
       keeps_taken = s.keeps_taken;
     }
@@ -50,6 +51,7 @@ returns c =
       branches = s.branches;
       accepts = s.accepts;
       memory = s.memory;
+      unchanged = s.unchanged;
       keeps = s.keeps;
       keeps_taken = s.keeps_taken;
     }
