@@ -1,0 +1,202 @@
+-- An instruction at the front of bytes, and its slots.
+use Rattle.std.proofs.Common.{◌≡◌, ℕ, ◌+◌, ◌-◌, ◌*◌, ◌/◌, ◌%◌, ◌^◌, ◌<◌, ◌≤◌, Bool, true, false, cond, List, [], ◌∷◌, ◌++◌, length, get_or, take, drop, Option, Some, None, Result, Ok, Err, refl, sym, ap, subst, ◌∙◌, arith, ℤ, pos, of_z, append_assoc, lit<, inl, inr}
+use Rattle.std.specs.Int.{w16, w32, cast_signed}
+use Rattle.std.specs.Prelude.{FitsSigned, option_to_list, nat_lt, IfOk, IfErr, IfSome}
+use Rattle.std.specs.List.{flat_map, AllByRecursion, sum_by}
+use Rattle.std.proofs.lemmas.Int.{ints, of_z-to_z}
+use Rattle.std.proofs.lemmas.Bool.Decides.{nat_tests}
+use Rattle.bpf_model.specs.declared.slot.Slot.{Slot}
+use Rattle.bpf_model.specs.declared.opcode.Size.{Size}
+use Rattle.bpf_model.specs.declared.opcode.Size.TheVariants.{Word32, Word64}
+use Rattle.bpf_model.specs.declared.opcode.Source.TheVariants as sources
+use Rattle.bpf_model.specs.declared.opcode.AluCode.{AluCode}
+use Rattle.bpf_model.specs.declared.opcode.AluCode.TheVariants as codes
+use Rattle.bpf_model.specs.declared.opcode.Opcode.{Opcode}
+use Rattle.bpf_model.specs.declared.opcode.Opcode.TheVariants as opcodes
+use Rattle.bpf_model.specs.declared.opcode.SwapWidth.{SwapWidth}
+use Rattle.bpf_model.specs.declared.opcode.SwapWidth.TheVariants as swap
+use Rattle.bpf_model.specs.declared.insn.Operand.{Operand}
+use Rattle.bpf_model.specs.declared.insn.Operand.TheVariants as operand
+use Rattle.bpf_model.specs.declared.insn.AluOp.{AluOp}
+use Rattle.bpf_model.specs.declared.insn.AluOp.TheVariants as operations
+use Rattle.bpf_model.specs.declared.insn.SignExtension.{SignExtension}
+use Rattle.bpf_model.specs.declared.insn.SignExtension.TheVariants.{ByteTo32, ShortTo32, ByteTo64, ShortTo64, WordTo64}
+use Rattle.bpf_model.specs.declared.insn.CallKind.{CallKind}
+use Rattle.bpf_model.specs.declared.insn.CallKind.TheVariants.{Helper, Kernel}
+use Rattle.bpf_model.specs.declared.insn.Insn.{Insn}
+use Rattle.bpf_model.specs.declared.insn.Insn.TheVariants.{Alu, MoveSigned, Negate, ByteSwap, LoadNumber, LoadMap, Jump, JumpLong, JumpIf, Call, Exit, Load, LoadSigned, Store, StoreRegister}
+use Rattle.bpf_model.specs.Opcode.{opcode_byte}
+use Rattle.bpf_model.specs.Profile.{is_supported, is_admitted}
+use Rattle.bpf_model.specs.Spelling.{slot_bytes, slot_at, next_slot_at, FitsSlot, FitsInsn, FitsOperand, spelling, slots_of, slot_count, first_slot, tail_slot, opcode_of, code_of, offset_of, source_of, extension_size, extension_bits, swap_bits, call_source, text, slot_total, starts_from}
+use Rattle.std.proofs.lemmas.Bool.{cases_lt, lt-ltb, le-ltb}
+use Rattle.std.proofs.lemmas.List.{drop_at, drop-drop, length-append, length-drop, append-nil}
+use Rattle.insn_codec.proofs.SlotLaws.{IsBytes, IsBytes-drop, slot_again, slot_at-slot_bytes}
+use Rattle.insn_codec.proofs.InsnLaws.{Begins, heads}
+
+next_none : (bytes : List ℕ) → length bytes < 16 → next_slot_at bytes ≡ None
+next_none bytes lt = rw (lt-ltb _ _ lt) refl
+
+next_some : (bytes : List ℕ) → 16 ≤ length bytes → next_slot_at bytes ≡ Some (slot_at (drop 8 bytes))
+next_some bytes le = rw (le-ltb _ _ le) refl
+
+pub record Front (i : Insn) (bytes : List ℕ) : Type 0 where
+  pub within : 8 * slot_count i ≤ length bytes
+  pub parts : bytes ≡ spelling i ++ drop (8 * slot_count i) bytes
+
+one_slot : (bytes : List ℕ) (s : Slot) → IsBytes bytes → 8 ≤ length bytes → s ≡ slot_at bytes → bytes ≡ flat_map slot_bytes (s ∷ []) ++ drop 8 bytes
+one_slot bytes s small long e = rw e (slot_again bytes small long)
+
+two_slots : (bytes : List ℕ) (s t : Slot) → IsBytes bytes → 16 ≤ length bytes → s ≡ slot_at bytes → t ≡ slot_at (drop 8 bytes) → bytes ≡ flat_map slot_bytes (s ∷ t ∷ []) ++ drop 16 bytes
+two_slots bytes s t small long e f =
+    let a = slot_again bytes small (omega arith) in
+    let b = slot_again (drop 8 bytes) (IsBytes-drop 8 bytes small) (omega (arith, length-drop 8 bytes)) in
+    let d : drop 8 (drop 8 bytes) ≡ drop 16 bytes = drop-drop 8 8 bytes in
+    rw (e, f) (a ∙ ap (λ (x : List ℕ). slot_bytes (slot_at bytes) ++ x) (b ∙ ap (λ (x : List ℕ). slot_bytes (slot_at (drop 8 bytes)) ++ x) d))
+
+front_of_one : (i : Insn) (bytes : List ℕ) → IsBytes bytes → 8 ≤ length bytes → slots_of i ≡ first_slot i ∷ [] → slot_count i ≡ 1 → first_slot i ≡ slot_at bytes → Front i bytes
+front_of_one i bytes small long e n p = record { within = rw n long; parts = rw (e, n) (one_slot bytes (first_slot i) small long p) }
+
+front_of_two : (i : Insn) (t : Slot) (bytes : List ℕ) → IsBytes bytes → 8 ≤ length bytes → slots_of i ≡ first_slot i ∷ t ∷ [] → slot_count i ≡ 2 → first_slot i ∷ t ∷ [] ≡ slot_at bytes ∷ take 1 (option_to_list (next_slot_at bytes)) → Front i bytes
+front_of_two i t bytes small long e n p =
+    elim (cases_lt (length bytes) 16) [
+      | inl lt ↦ let k = next_none bytes lt in absurd cc
+      | inr le ↦
+          let k = next_some bytes le in
+          let a : first_slot i ≡ slot_at bytes = cc in
+          let b : t ≡ slot_at (drop 8 bytes) = cc in
+          record { within = rw n le; parts = rw (e, n) (two_slots bytes (first_slot i) t small le a b) }
+    ]
+
+pub front_of : (i : Insn) (bytes : List ℕ) → IsBytes bytes → 8 ≤ length bytes → Begins i (slot_at bytes) (next_slot_at bytes) → Front i bytes
+front_of (Alu operation size dst (operand.Register src)) bytes small long e = front_of_one (Alu operation size dst (operand.Register src)) bytes small long refl refl (heads _ _ _ _ e).0
+front_of (Alu operation size dst (operand.Immediate imm)) bytes small long e = front_of_one (Alu operation size dst (operand.Immediate imm)) bytes small long refl refl (heads _ _ _ _ e).0
+front_of (MoveSigned extension dst src) bytes small long e = front_of_one (MoveSigned extension dst src) bytes small long refl refl (heads _ _ _ _ e).0
+front_of (Negate size dst) bytes small long e = front_of_one (Negate size dst) bytes small long refl refl (heads _ _ _ _ e).0
+front_of (ByteSwap order width dst) bytes small long e = front_of_one (ByteSwap order width dst) bytes small long refl refl (heads _ _ _ _ e).0
+front_of (LoadNumber dst number) bytes small long e = front_of_two (LoadNumber dst number) (tail_slot (cast_signed w32 (number / 2 ^ 32))) bytes small long refl refl e
+front_of (LoadMap dst map) bytes small long e = front_of_two (LoadMap dst map) (tail_slot (pos 0)) bytes small long refl refl e
+front_of (Jump offset) bytes small long e = front_of_one (Jump offset) bytes small long refl refl (heads _ _ _ _ e).0
+front_of (JumpLong offset) bytes small long e = front_of_one (JumpLong offset) bytes small long refl refl (heads _ _ _ _ e).0
+front_of (JumpIf condition size dst (operand.Register src) offset) bytes small long e = front_of_one (JumpIf condition size dst (operand.Register src) offset) bytes small long refl refl (heads _ _ _ _ e).0
+front_of (JumpIf condition size dst (operand.Immediate imm) offset) bytes small long e = front_of_one (JumpIf condition size dst (operand.Immediate imm) offset) bytes small long refl refl (heads _ _ _ _ e).0
+front_of (Call kind function) bytes small long e = front_of_one (Call kind function) bytes small long refl refl (heads _ _ _ _ e).0
+front_of Exit bytes small long e = front_of_one Exit bytes small long refl refl (heads _ _ _ _ e).0
+front_of (Load width dst src offset) bytes small long e = front_of_one (Load width dst src offset) bytes small long refl refl (heads _ _ _ _ e).0
+front_of (LoadSigned width dst src offset) bytes small long e = front_of_one (LoadSigned width dst src offset) bytes small long refl refl (heads _ _ _ _ e).0
+front_of (Store width dst offset imm) bytes small long e = front_of_one (Store width dst offset imm) bytes small long refl refl (heads _ _ _ _ e).0
+front_of (StoreRegister width dst src offset) bytes small long e = front_of_one (StoreRegister width dst src offset) bytes small long refl refl (heads _ _ _ _ e).0
+
+opcode_fits : (o : Opcode) → opcode_byte o < 256
+opcode_fits o = grind arith
+
+low_fits : (n : ℕ) → FitsSigned w32 (cast_signed w32 (n % 2 ^ 32))
+low_fits n = omega (arith, ints)
+
+high_fits : (n : ℕ) → n < 2 ^ 64 → FitsSigned w32 (cast_signed w32 (n / 2 ^ 32))
+high_fits n lt = omega (arith, ints)
+
+zero_16 : FitsSigned w16 (pos 0)
+zero_16 = omega (arith, ints)
+
+zero_32 : FitsSigned w32 (pos 0)
+zero_32 = omega (arith, ints)
+
+source_fits : (n : ℕ) → n ≤ 10 → n < 16
+source_fits n h = omega arith
+
+slot_fits : (o : Opcode) (dst src : ℕ) (offset imm : ℤ) → dst ≤ 10 → src ≤ 10 → FitsSigned w16 offset → FitsSigned w32 imm → FitsSlot (record { opcode = opcode_byte o; dst = dst; src = src; offset = offset; imm = imm })
+slot_fits o dst src offset imm d s f g = record { opcode = opcode_fits o; dst = source_fits dst d; src = source_fits src s; offset = f; imm = g }
+
+none : 0 ≤ 10
+none = omega arith
+
+offset_fits : (p : AluOp) → FitsSigned w16 (offset_of p)
+offset_fits operations.Add = omega (arith, ints)
+offset_fits operations.Sub = omega (arith, ints)
+offset_fits operations.Mul = omega (arith, ints)
+offset_fits operations.Div = omega (arith, ints)
+offset_fits operations.SignedDiv = omega (arith, ints)
+offset_fits operations.Or = omega (arith, ints)
+offset_fits operations.And = omega (arith, ints)
+offset_fits operations.ShiftLeft = omega (arith, ints)
+offset_fits operations.ShiftRight = omega (arith, ints)
+offset_fits operations.Mod = omega (arith, ints)
+offset_fits operations.SignedMod = omega (arith, ints)
+offset_fits operations.Xor = omega (arith, ints)
+offset_fits operations.Move = omega (arith, ints)
+offset_fits operations.ShiftRightSigned = omega (arith, ints)
+
+extension_fits : (x : SignExtension) → FitsSigned w16 (extension_bits x)
+extension_fits ByteTo32 = omega (arith, ints)
+extension_fits ShortTo32 = omega (arith, ints)
+extension_fits ByteTo64 = omega (arith, ints)
+extension_fits ShortTo64 = omega (arith, ints)
+extension_fits WordTo64 = omega (arith, ints)
+
+swap_fits : (w : SwapWidth) → FitsSigned w32 (swap_bits w)
+swap_fits swap.Two = omega (arith, ints)
+swap_fits swap.Four = omega (arith, ints)
+swap_fits swap.Eight = omega (arith, ints)
+
+kind_fits : (k : CallKind) → call_source k ≤ 10
+kind_fits Helper = omega arith
+kind_fits Kernel = omega arith
+
+five : 5 ≤ 10
+five = omega arith
+
+first_slot_fits : (i : Insn) → FitsInsn i → FitsSlot (first_slot i)
+first_slot_fits (Alu operation size dst (operand.Register src)) f = slot_fits (opcode_of (Alu operation size dst (operand.Register src))) _ _ _ _ f.0 f.1 (offset_fits operation) zero_32
+first_slot_fits (Alu operation size dst (operand.Immediate imm)) f = slot_fits (opcode_of (Alu operation size dst (operand.Immediate imm))) _ _ _ _ f.0 none (offset_fits operation) f.1
+first_slot_fits (MoveSigned extension dst src) f = slot_fits (opcode_of (MoveSigned extension dst src)) _ _ _ _ f.0 f.1 (extension_fits extension) zero_32
+first_slot_fits (Negate size dst) f = slot_fits (opcode_of (Negate size dst)) _ _ _ _ f none zero_16 zero_32
+first_slot_fits (ByteSwap order width dst) f = slot_fits (opcode_of (ByteSwap order width dst)) _ _ _ _ f none zero_16 (swap_fits width)
+first_slot_fits (LoadNumber dst number) f = slot_fits (opcode_of (LoadNumber dst number)) _ _ _ _ f.0 none zero_16 (low_fits number)
+first_slot_fits (LoadMap dst map) f = slot_fits (opcode_of (LoadMap dst map)) _ _ _ _ f.0 five zero_16 f.1
+first_slot_fits (Jump offset) f = slot_fits (opcode_of (Jump offset)) _ _ _ _ none none f zero_32
+first_slot_fits (JumpLong offset) f = slot_fits (opcode_of (JumpLong offset)) _ _ _ _ none none zero_16 f
+first_slot_fits (JumpIf condition size dst (operand.Register src) offset) f = slot_fits (opcode_of (JumpIf condition size dst (operand.Register src) offset)) _ _ _ _ f.0 f.1 f.2 zero_32
+first_slot_fits (JumpIf condition size dst (operand.Immediate imm) offset) f = slot_fits (opcode_of (JumpIf condition size dst (operand.Immediate imm) offset)) _ _ _ _ f.0 none f.2 f.1
+first_slot_fits (Call kind function) f = slot_fits (opcode_of (Call kind function)) _ _ _ _ none (kind_fits kind) zero_16 f
+first_slot_fits Exit f = slot_fits (opcode_of Exit) _ _ _ _ none none zero_16 zero_32
+first_slot_fits (Load width dst src offset) f = slot_fits (opcode_of (Load width dst src offset)) _ _ _ _ f.0 f.1 f.2 zero_32
+first_slot_fits (LoadSigned width dst src offset) f = slot_fits (opcode_of (LoadSigned width dst src offset)) _ _ _ _ f.0 f.1 f.2 zero_32
+first_slot_fits (Store width dst offset imm) f = slot_fits (opcode_of (Store width dst offset imm)) _ _ _ _ f.0 none f.1 f.2
+first_slot_fits (StoreRegister width dst src offset) f = slot_fits (opcode_of (StoreRegister width dst src offset)) _ _ _ _ f.0 f.1 f.2 zero_32
+
+tail_fits : (imm : ℤ) → FitsSigned w32 imm → FitsSlot (tail_slot imm)
+tail_fits imm f = record { opcode = omega arith; dst = omega arith; src = omega arith; offset = zero_16; imm = f }
+
+pub record Again (i : Insn) (bytes rest : List ℕ) : Type 0 where
+  pub begins : Begins i (slot_at bytes) (next_slot_at bytes)
+  pub rest_is : drop (8 * slot_count i) bytes ≡ rest
+
+one_again : (s : Slot) (rest : List ℕ) → FitsSlot s → s ∷ [] ≡ slot_at (slot_bytes s ++ rest) ∷ []
+one_again s rest f = rw (slot_at-slot_bytes s rest f) refl
+
+two_again : (s t : Slot) (rest : List ℕ) → FitsSlot s → FitsSlot t → s ∷ t ∷ [] ≡ slot_at (slot_bytes s ++ (slot_bytes t ++ rest)) ∷ take 1 (option_to_list (next_slot_at (slot_bytes s ++ (slot_bytes t ++ rest))))
+two_again s t rest f g =
+    let bytes : List ℕ = slot_bytes s ++ (slot_bytes t ++ rest) in
+    let a : slot_at bytes ≡ s = slot_at-slot_bytes s (slot_bytes t ++ rest) f in
+    let b : slot_at (drop 8 bytes) ≡ t = slot_at-slot_bytes t rest g in
+    let n : next_slot_at bytes ≡ Some t = next_some bytes (omega (arith, length-append (slot_bytes s) (slot_bytes t ++ rest), length-append (slot_bytes t) rest)) ∙ ap (λ (x : Slot). Some x) b in
+    ap (λ (x : Slot). x ∷ take 1 (option_to_list (Some t))) (sym a) ∙ ap (λ (o : Option Slot). slot_at bytes ∷ take 1 (option_to_list o)) (sym n)
+
+pub again : (i : Insn) (rest : List ℕ) → FitsInsn i → Again i (spelling i ++ rest) rest
+again (Alu operation size dst (operand.Register src)) rest f = record { begins = one_again _ rest (first_slot_fits (Alu operation size dst (operand.Register src)) f); rest_is = refl }
+again (Alu operation size dst (operand.Immediate imm)) rest f = record { begins = one_again _ rest (first_slot_fits (Alu operation size dst (operand.Immediate imm)) f); rest_is = refl }
+again (MoveSigned extension dst src) rest f = record { begins = one_again _ rest (first_slot_fits (MoveSigned extension dst src) f); rest_is = refl }
+again (Negate size dst) rest f = record { begins = one_again _ rest (first_slot_fits (Negate size dst) f); rest_is = refl }
+again (ByteSwap order width dst) rest f = record { begins = one_again _ rest (first_slot_fits (ByteSwap order width dst) f); rest_is = refl }
+again (LoadNumber dst number) rest f = record { begins = two_again (first_slot (LoadNumber dst number)) (tail_slot (cast_signed w32 (number / 2 ^ 32))) rest (first_slot_fits (LoadNumber dst number) f) (tail_fits _ (high_fits number f.1)); rest_is = refl }
+again (LoadMap dst map) rest f = record { begins = two_again (first_slot (LoadMap dst map)) (tail_slot (pos 0)) rest (first_slot_fits (LoadMap dst map) f) (tail_fits _ zero_32); rest_is = refl }
+again (Jump offset) rest f = record { begins = one_again _ rest (first_slot_fits (Jump offset) f); rest_is = refl }
+again (JumpLong offset) rest f = record { begins = one_again _ rest (first_slot_fits (JumpLong offset) f); rest_is = refl }
+again (JumpIf condition size dst (operand.Register src) offset) rest f = record { begins = one_again _ rest (first_slot_fits (JumpIf condition size dst (operand.Register src) offset) f); rest_is = refl }
+again (JumpIf condition size dst (operand.Immediate imm) offset) rest f = record { begins = one_again _ rest (first_slot_fits (JumpIf condition size dst (operand.Immediate imm) offset) f); rest_is = refl }
+again (Call kind function) rest f = record { begins = one_again _ rest (first_slot_fits (Call kind function) f); rest_is = refl }
+again Exit rest f = record { begins = one_again _ rest (first_slot_fits Exit f); rest_is = refl }
+again (Load width dst src offset) rest f = record { begins = one_again _ rest (first_slot_fits (Load width dst src offset) f); rest_is = refl }
+again (LoadSigned width dst src offset) rest f = record { begins = one_again _ rest (first_slot_fits (LoadSigned width dst src offset) f); rest_is = refl }
+again (Store width dst offset imm) rest f = record { begins = one_again _ rest (first_slot_fits (Store width dst offset imm) f); rest_is = refl }
+again (StoreRegister width dst src offset) rest f = record { begins = one_again _ rest (first_slot_fits (StoreRegister width dst src offset) f); rest_is = refl }

@@ -1,0 +1,236 @@
+//! Bytes out of programs.
+ghost use Rattle.std.specs.Prelude.{◌≡◌, ◌<◌, ◌/◌, ◌^◌, ◌++◌, OnOk, IfOk};
+ghost use Rattle.std.specs.Int.{w32, cast_signed};
+ghost use Rattle.bpf_model.specs.Spelling.{FitsInsn, FitsOperand, FitsSlot, slot_bytes, spelling, text, code_of, offset_of, extension_size, extension_bits, swap_bits, source_of, operand_src, operand_imm, slot as slot_of};
+ghost use Rattle.bpf_model.specs.Spelling.{first_slot as first_slot_of, tail_slot as tail_slot_of};
+
+use crate::opcode::byte_of;
+use crate::program::Program;
+use crate::slots::slot_to;
+use bpf_model::{
+    AluCode, AluOp, CallKind, Insn, Opcode, Operand, SignExtension, Size, Slot, Source, SwapWidth,
+};
+use std::alloc::{AllocError, Global};
+
+fn code_of(op: AluOp) -> AluCode
+    ensures { result ≡ code_of op }
+{
+    match op {
+        AluOp::Add => AluCode::Add,
+        AluOp::Sub => AluCode::Sub,
+        AluOp::Mul => AluCode::Mul,
+        AluOp::Div | AluOp::SignedDiv => AluCode::Div,
+        AluOp::Or => AluCode::Or,
+        AluOp::And => AluCode::And,
+        AluOp::ShiftLeft => AluCode::ShiftLeft,
+        AluOp::ShiftRight => AluCode::ShiftRight,
+        AluOp::Mod | AluOp::SignedMod => AluCode::Mod,
+        AluOp::Xor => AluCode::Xor,
+        AluOp::Move => AluCode::Move,
+        AluOp::ShiftRightSigned => AluCode::ShiftRightSigned,
+    }
+}
+
+fn offset_of(op: AluOp) -> i16
+    ensures { result ≡ offset_of op }
+{
+    match op {
+        AluOp::SignedDiv | AluOp::SignedMod => 1,
+        _ => 0,
+    }
+}
+
+fn extension_parts(extension: SignExtension) -> (Size, i16)
+    ensures { result ≡ (extension_size extension, extension_bits extension) }
+{
+    match extension {
+        SignExtension::ByteTo32 => (Size::Word32, 8),
+        SignExtension::ShortTo32 => (Size::Word32, 16),
+        SignExtension::ByteTo64 => (Size::Word64, 8),
+        SignExtension::ShortTo64 => (Size::Word64, 16),
+        SignExtension::WordTo64 => (Size::Word64, 32),
+    }
+}
+
+fn swap_bits(width: SwapWidth) -> i32
+    ensures { result ≡ swap_bits width }
+{
+    match width {
+        SwapWidth::Two => 16,
+        SwapWidth::Four => 32,
+        SwapWidth::Eight => 64,
+    }
+}
+
+/// Source, source register and immediate number of an operand.
+fn operand_parts(operand: Operand) -> (Source, u8, i32)
+    requires { FitsOperand operand }
+    ensures { result ≡ (source_of operand, operand_src operand, operand_imm operand) }
+{
+    match operand {
+        Operand::Register(src) => (Source::Register, src.number(), 0),
+        Operand::Immediate(imm) => (Source::Immediate, 0, imm),
+    }
+}
+
+fn slot(opcode: Opcode, dst: u8, src: u8, offset: i16, imm: i32) -> Slot
+    requires dst { dst < 16 }
+    requires src { src < 16 }
+    ensures value { result ≡ slot_of opcode dst src offset imm }
+    ensures fits { FitsSlot result }
+{
+    Slot {
+        opcode: byte_of(opcode),
+        dst,
+        src,
+        offset,
+        imm,
+    }
+}
+
+fn first_slot(instruction: Insn) -> Slot
+    requires { FitsInsn instruction }
+    ensures value { result ≡ first_slot_of instruction }
+    ensures fits { FitsSlot result }
+{
+    match instruction {
+        Insn::Alu { op, size, dst, src } => {
+            let (source, src, imm) = operand_parts(src);
+            let opcode = Opcode::Alu(code_of(op), size, source);
+            slot(opcode, dst.number(), src, offset_of(op), imm)
+        }
+        Insn::MoveSigned {
+            extension,
+            dst,
+            src,
+        } => {
+            let (size, bits) = extension_parts(extension);
+            let opcode = Opcode::Alu(AluCode::Move, size, Source::Register);
+            slot(opcode, dst.number(), src.number(), bits, 0)
+        }
+        Insn::Negate { size, dst } => slot(Opcode::Negate(size), dst.number(), 0, 0, 0),
+        Insn::ByteSwap { order, width, dst } => {
+            slot(
+                Opcode::ByteSwap(order),
+                dst.number(),
+                0,
+                0,
+                swap_bits(width),
+            )
+        }
+        Insn::LoadNumber { dst, number } => {
+            let low = ((number % 0x1_0000_0000) as u32).cast_signed();
+            slot(Opcode::Wide, dst.number(), 0, 0, low)
+        }
+        Insn::LoadMap { dst, map } => slot(Opcode::Wide, dst.number(), 5, 0, map),
+        Insn::Jump { offset } => slot(Opcode::Jump(Size::Word64), 0, 0, offset, 0),
+        Insn::JumpLong { imm } => slot(Opcode::Jump(Size::Word32), 0, 0, 0, imm),
+        Insn::JumpIf {
+            condition,
+            size,
+            dst,
+            src,
+            offset,
+        } => {
+            let (source, src, imm) = operand_parts(src);
+            let opcode = Opcode::JumpIf(condition, size, source);
+            slot(opcode, dst.number(), src, offset, imm)
+        }
+        Insn::Call { kind, imm } => {
+            let source = match kind {
+                CallKind::Helper => 0,
+                CallKind::Kernel => 2,
+            };
+            slot(Opcode::Call, 0, source, 0, imm)
+        }
+        Insn::Exit => slot(Opcode::Exit, 0, 0, 0, 0),
+        Insn::Load {
+            width,
+            dst,
+            src,
+            offset,
+        } => slot(Opcode::Load(width), dst.number(), src.number(), offset, 0),
+        Insn::LoadSigned {
+            width,
+            dst,
+            src,
+            offset,
+        } => slot(
+            Opcode::LoadSigned(width),
+            dst.number(),
+            src.number(),
+            offset,
+            0,
+        ),
+        Insn::Store {
+            width,
+            dst,
+            offset,
+            imm,
+        } => slot(Opcode::Store(width), dst.number(), 0, offset, imm),
+        Insn::StoreRegister {
+            width,
+            dst,
+            src,
+            offset,
+        } => slot(
+            Opcode::StoreRegister(width),
+            dst.number(),
+            src.number(),
+            offset,
+            0,
+        ),
+    }
+}
+
+/// The second slot of a wide instruction.
+fn tail_slot(imm: i32) -> Slot
+    ensures value { result ≡ tail_slot_of imm }
+    ensures fits { FitsSlot result }
+{
+    Slot {
+        opcode: 0,
+        dst: 0,
+        src: 0,
+        offset: 0,
+        imm,
+    }
+}
+
+fn high_half(number: u64) -> i32
+    ensures { result ≡ cast_signed w32 (number / 2 ^ 32) }
+{
+    ((number / 0x1_0000_0000) as u32).cast_signed()
+}
+
+fn put_slot(out: &mut Vec<u8>, slot: Slot) -> Result<(), AllocError>
+    requires { FitsSlot slot }
+    ensures { OnOk result (out.new.items ≡ out.old.items ++ slot_bytes slot) }
+{
+    out.extend_from_slice(&slot_to(slot))
+}
+
+#[tactic(auto, using(std::proofs::Common::append_assoc))]
+fn put(out: &mut Vec<u8>, instruction: Insn) -> Result<(), AllocError>
+    requires { FitsInsn instruction }
+    ensures { OnOk result (out.new.items ≡ out.old.items ++ spelling instruction) }
+{
+    put_slot(out, first_slot(instruction))?;
+    match &instruction {
+        Insn::LoadNumber { number, .. } => put_slot(out, tail_slot(high_half(*number)))?,
+        Insn::LoadMap { .. } => put_slot(out, tail_slot(0))?,
+        _ => {}
+    }
+    Ok(())
+}
+
+/// The one text of the program.
+pub fn encode(alloc: Global, program: &Program) -> Result<Vec<u8>, AllocError>
+    ensures { IfOk result (λ v. v.items ≡ text program.now) }
+{
+    let mut out = Vec::with_capacity(alloc, 8 * program.slot_count())?;
+    for instruction in program.instructions() {
+        put(&mut out, *instruction)?;
+    }
+    Ok(out)
+}

@@ -1,0 +1,57 @@
+//! What is wrong with an instruction's bytes.
+
+ghost use Rattle.std.specs.Prelude.{◌≡◌};
+ghost use Rattle.insn_codec.specs.Faults.{flaw_number};
+
+use thiserror::Error;
+
+/// The first test that an instruction's bytes fail, in the order of the tests.
+#[derive(Clone, Copy, Debug, PartialEq, Eq, Error)]
+pub enum Flaw {
+    /// The opcode byte stands for nothing.
+    #[error("unknown opcode")]
+    UnknownOpcode,
+    /// The instruction set has the opcode, and this runtime does not take it.
+    #[error("opcode outside the profile")]
+    OutsideProfile,
+    /// A register field is above 10, whether the instruction uses it or not.
+    #[error("register above r10")]
+    BadRegister,
+    /// The source field names a kind of call, or of 64-bit immediate, that is not taken.
+    #[error("unsupported source field")]
+    UnsupportedSource,
+    /// A field that the instruction does not use is not zero.
+    #[error("unused field is not zero")]
+    UnusedField,
+    /// The offset of a division, a modulo or a move is none of those defined for it.
+    #[error("bad offset")]
+    BadOffset,
+    /// The width of a byte swap is not 16, 32 or 64.
+    #[error("bad width of a byte swap")]
+    BadWidth,
+    /// The program ends behind the first slot of a wide instruction.
+    #[error("wide instruction without its second slot")]
+    WideCut,
+    /// The second slot of a wide instruction holds more than it may.
+    #[error("bad second slot of a wide instruction")]
+    WideTail,
+}
+
+impl Flaw {
+    /// The number by which the flaw is known, 4 to 12.
+    pub fn code(self) -> u8
+        ensures { result ≡ flaw_number self }
+    {
+        match self {
+            Flaw::UnknownOpcode => 4,
+            Flaw::OutsideProfile => 5,
+            Flaw::BadRegister => 6,
+            Flaw::UnsupportedSource => 7,
+            Flaw::UnusedField => 8,
+            Flaw::BadOffset => 9,
+            Flaw::BadWidth => 10,
+            Flaw::WideCut => 11,
+            Flaw::WideTail => 12,
+        }
+    }
+}

@@ -1,0 +1,28 @@
+//! Programs as bytes: the instruction encoding of RFC 9669, little-endian.
+//!
+//! `decode` and `encode` are inverse to each other: the bytes that a program was decoded from are its
+//! encoding, and the encoding of a program of the profile decodes to that program. Where the bytes are no
+//! program, `DecodeFault` tells the first thing that is wrong, and its slot.
+#![tactic(auto)]
+
+mod decoding;
+mod encoding;
+mod fault;
+mod flaw;
+mod law;
+mod opcode;
+mod profile;
+mod program;
+mod reading;
+mod slots;
+
+pub use bpf_model::{
+    AluOp, ByteOrder, CallKind, Condition, Insn, Operand, Reg, SignExtension, SignedWidth, Size,
+    SwapWidth, Width,
+};
+pub use decoding::decode;
+pub use encoding::encode;
+pub use fault::DecodeFault;
+pub use flaw::Flaw;
+pub use law::{no_fault, one_fault, one_program};
+pub use program::Program;

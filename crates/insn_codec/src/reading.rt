@@ -1,0 +1,299 @@
+//! Instructions out of slots.
+ghost use Rattle.std.specs.Prelude.{[], ◌≤◌, OnErr, ◌≢◌, ◌⊎◌, pos, IsNone, ◌≡◌, ◌%◌, ◌/◌, ◌^◌, ◌∷◌, take, IfOk, IfErr, IfSome, true, false, option_to_list, option_copied};
+ghost use Rattle.std.specs.Int.{w32, cast_signed};
+ghost use Rattle.bpf_model.specs.Spelling.{offset_of, extension_size, extension_bits, swap_bits, FitsSlot, FitsInsn, slots_of, call_source, source_of, first_slot, slot_count, code_of, opcode_of};
+ghost use Rattle.bpf_model.specs.declared.insn.Insn.{Insn};
+ghost use Rattle.bpf_model.specs.Opcode.{opcode_byte};
+ghost use Rattle.bpf_model.specs.Profile.{is_admitted, is_supported as is_supported_opcode};
+ghost use Rattle.insn_codec.specs.Faults.{IsFlaw, flaw_with, has_bad_offset, tail_flaw, has_unused, form_of, has_unsupported_source as unsupported_source};
+
+use crate::flaw::Flaw;
+use crate::opcode::opcode_from;
+use crate::profile::{is_supported, takes_maps};
+use bpf_model::{
+    AluCode, AluOp, CallKind, Insn, Opcode, Operand, Reg, SignExtension, Size, Slot, Source,
+    SwapWidth,
+};
+
+fn has_unsupported_source(opcode: Opcode, slot: Slot) -> bool
+    ensures { result ≡ unsupported_source opcode slot }
+{
+    match opcode {
+        Opcode::Call => slot.src != 0 && slot.src != 2,
+        Opcode::Wide => slot.src != 0 && !(takes_maps() && slot.src == 5),
+        _ => false,
+    }
+}
+
+fn has_unused_field(opcode: Opcode, slot: Slot) -> bool
+    ensures { result ≡ has_unused (form_of opcode) slot }
+{
+    match opcode {
+        Opcode::Alu(AluCode::Move | AluCode::Div | AluCode::Mod, _, Source::Register) => slot.imm
+            != 0,
+        Opcode::Alu(AluCode::Div | AluCode::Mod, _, Source::Immediate) => { slot.src != 0 }
+        Opcode::Alu(_, _, Source::Register) => slot.offset != 0 || slot.imm != 0,
+        Opcode::Alu(_, _, Source::Immediate) => slot.src != 0 || slot.offset != 0,
+        Opcode::Negate(_) => slot.src != 0 || slot.offset != 0 || slot.imm != 0,
+        Opcode::ByteSwap(_) => slot.src != 0 || slot.offset != 0,
+        Opcode::Jump(Size::Word64) => slot.dst != 0 || slot.src != 0 || slot.imm != 0,
+        Opcode::Jump(Size::Word32) => slot.dst != 0 || slot.src != 0 || slot.offset != 0,
+        Opcode::JumpIf(_, _, Source::Register) => slot.imm != 0,
+        Opcode::JumpIf(_, _, Source::Immediate) => slot.src != 0,
+        Opcode::Call => slot.dst != 0 || slot.offset != 0,
+        Opcode::Exit | Opcode::Excluded(_) => {
+            slot.dst != 0 || slot.src != 0 || slot.offset != 0 || slot.imm != 0
+        }
+        Opcode::Load(_) | Opcode::LoadSigned(_) | Opcode::StoreRegister(_) => slot.imm != 0,
+        Opcode::Store(_) => slot.src != 0,
+        Opcode::Wide => slot.offset != 0,
+    }
+}
+
+/// What divides the codes with more than one operation: the offset.
+fn op_of(code: AluCode, offset: i16) -> Option<AluOp>
+    ensures some { IfSome result (λ p. (code_of p ≡ code) × (offset_of p ≡ offset)) }
+    ensures none { IsNone result → (offset ≢ pos 0) × ((code ≡ AluCode.Div) ⊎ (code ≡ AluCode.Mod) → offset ≢ pos 1) }
+{
+    let op = match (code, offset) {
+        (AluCode::Add, 0) => AluOp::Add,
+        (AluCode::Sub, 0) => AluOp::Sub,
+        (AluCode::Mul, 0) => AluOp::Mul,
+        (AluCode::Div, 0) => AluOp::Div,
+        (AluCode::Div, 1) => AluOp::SignedDiv,
+        (AluCode::Or, 0) => AluOp::Or,
+        (AluCode::And, 0) => AluOp::And,
+        (AluCode::ShiftLeft, 0) => AluOp::ShiftLeft,
+        (AluCode::ShiftRight, 0) => AluOp::ShiftRight,
+        (AluCode::Mod, 0) => AluOp::Mod,
+        (AluCode::Mod, 1) => AluOp::SignedMod,
+        (AluCode::Xor, 0) => AluOp::Xor,
+        (AluCode::Move, 0) => AluOp::Move,
+        (AluCode::ShiftRightSigned, 0) => AluOp::ShiftRightSigned,
+        _ => return None,
+    };
+    Some(op)
+}
+
+fn extension_of(size: Size, offset: i16) -> Option<SignExtension>
+    ensures some { IfSome result (λ x. (extension_size x ≡ size) × (extension_bits x ≡ offset)) }
+    ensures none { IsNone result → (offset ≢ pos 8) × (offset ≢ pos 16) × (size ≡ Size.Word64 → offset ≢ pos 32) }
+{
+    match (size, offset) {
+        (Size::Word32, 8) => Some(SignExtension::ByteTo32),
+        (Size::Word32, 16) => Some(SignExtension::ShortTo32),
+        (Size::Word64, 8) => Some(SignExtension::ByteTo64),
+        (Size::Word64, 16) => Some(SignExtension::ShortTo64),
+        (Size::Word64, 32) => Some(SignExtension::WordTo64),
+        _ => None,
+    }
+}
+
+fn swap_width_of(imm: i32) -> Option<SwapWidth>
+    ensures some { IfSome result (λ w. swap_bits w ≡ imm) }
+    ensures none { IsNone result → (imm ≢ pos 16) × (imm ≢ pos 32) × (imm ≢ pos 64) }
+{
+    match imm {
+        16 => Some(SwapWidth::Two),
+        32 => Some(SwapWidth::Four),
+        64 => Some(SwapWidth::Eight),
+        _ => None,
+    }
+}
+
+/// The number of two halves.
+fn joined(low: i32, high: i32) -> u64
+    ensures low { cast_signed w32 (result % 2 ^ 32) ≡ low }
+    ensures high { cast_signed w32 (result / 2 ^ 32) ≡ high }
+{
+    u64::from(high.cast_unsigned()) << 32 | u64::from(low.cast_unsigned())
+}
+
+fn call_kind_of(src: u8) -> CallKind
+    requires { (src ≡ 0) ⊎ (src ≡ 2) }
+    ensures { call_source result ≡ src }
+{
+    if src == 0 {
+        CallKind::Helper
+    } else {
+        CallKind::Kernel
+    }
+}
+
+fn operand_of(source: Source, src: Reg, imm: i32) -> Operand
+    ensures source { source_of result ≡ source }
+    ensures src { source ≡ Source.Register → result ≡ Operand.Register src }
+    ensures imm { source ≡ Source.Immediate → result ≡ Operand.Immediate imm }
+{
+    match source {
+        Source::Register => Operand::Register(src),
+        Source::Immediate => Operand::Immediate(imm),
+    }
+}
+
+fn alu(
+    code: AluCode,
+    size: Size,
+    source: Source,
+    slot: Slot,
+    dst: Reg,
+    src: Reg,
+) -> Result<Insn, Flaw>
+    requires fields { FitsSlot slot }
+    requires opcode { opcode_byte (Opcode.Alu code size source) ≡ slot.opcode }
+    requires dst { (dst ≡ slot.dst) × (dst ≤ 10) }
+    requires src { (src ≡ slot.src) × (src ≤ 10) }
+    requires used { has_unused (form_of (Opcode.Alu code size source)) slot ≡ false }
+    ensures found { IfOk result (λ i. first_slot i ≡ slot) }
+    ensures one { IfOk result (λ i. slots_of i ≡ first_slot i ∷ []) }
+    ensures fits { IfOk result FitsInsn }
+    ensures admitted { IfOk result (λ i. is_admitted i ≡ true) }
+    ensures kind { IfOk result (λ i. opcode_of i ≡ Opcode.Alu code size source) }
+    ensures flaw { IfErr result (λ f. f ≡ Flaw.BadOffset) }
+    ensures bad { OnErr result (has_bad_offset (Opcode.Alu code size source) slot ≡ true) }
+{
+    if let Some(op) = op_of(code, slot.offset) {
+        return Ok(Insn::Alu {
+            op,
+            size,
+            dst,
+            src: operand_of(source, src, slot.imm),
+        });
+    }
+    if code == AluCode::Move && source == Source::Register {
+        if let Some(extension) = extension_of(size, slot.offset) {
+            return Ok(Insn::MoveSigned {
+                extension,
+                dst,
+                src,
+            });
+        }
+    }
+    Err(Flaw::BadOffset)
+}
+
+fn wide(slot: Slot, next: Option<Slot>, dst: Reg) -> Result<Insn, Flaw>
+    requires slot { FitsSlot slot }
+    requires next { IfSome next FitsSlot }
+    requires opcode { opcode_byte Opcode.Wide ≡ slot.opcode }
+    requires dst { (dst ≡ slot.dst) × (dst ≤ 10) }
+    requires source { unsupported_source Opcode.Wide slot ≡ false }
+    requires used { has_unused (form_of Opcode.Wide) slot ≡ false }
+    ensures found { IfOk result (λ i. slots_of i ≡ take (slot_count i) (slot ∷ option_to_list next)) }
+    ensures fits { IfOk result FitsInsn }
+    ensures admitted { IfOk result (λ i. is_admitted i ≡ true) }
+    ensures kind { IfOk result (λ i. opcode_of i ≡ Opcode.Wide) }
+    ensures flaw { IfErr result (λ f. tail_flaw Opcode.Wide slot next ≡ Some f) }
+{
+    let Some(tail) = next else {
+        return Err(Flaw::WideCut);
+    };
+    if tail.opcode != 0 || tail.dst != 0 || tail.src != 0 || tail.offset != 0 {
+        return Err(Flaw::WideTail);
+    }
+    if slot.src == 0 {
+        let number = joined(slot.imm, tail.imm);
+        return Ok(Insn::LoadNumber { dst, number });
+    }
+    if tail.imm != 0 {
+        return Err(Flaw::WideTail);
+    }
+    Ok(Insn::LoadMap { dst, map: slot.imm })
+}
+
+/// The instruction with this opcode that begins with this slot, or its first flaw.
+fn decode_with(opcode: Opcode, slot: Slot, next: Option<Slot>) -> Result<Insn, Flaw>
+    requires slot { FitsSlot slot }
+    requires next { IfSome next FitsSlot }
+    requires opcode { opcode_byte opcode ≡ slot.opcode }
+    requires supported { is_supported_opcode opcode ≡ true }
+    ensures found { IfOk result (λ i. slots_of i ≡ take (slot_count i) (slot ∷ option_to_list next)) }
+    ensures fits { IfOk result FitsInsn }
+    ensures admitted { IfOk result (λ i. is_admitted i ≡ true) }
+    ensures kind { IfOk result (λ i. opcode_of i ≡ opcode) }
+    ensures flaw { IfErr result (λ f. flaw_with opcode slot next ≡ Some f) }
+{
+    let Some(dst) = Reg::new(slot.dst) else {
+        return Err(Flaw::BadRegister);
+    };
+    let Some(src) = Reg::new(slot.src) else {
+        return Err(Flaw::BadRegister);
+    };
+    if has_unsupported_source(opcode, slot) {
+        return Err(Flaw::UnsupportedSource);
+    }
+    if has_unused_field(opcode, slot) {
+        return Err(Flaw::UnusedField);
+    }
+    match opcode {
+        Opcode::Alu(code, size, source) => alu(code, size, source, slot, dst, src),
+        Opcode::Wide => wide(slot, next, dst),
+        Opcode::Negate(size) => Ok(Insn::Negate { size, dst }),
+        Opcode::ByteSwap(order) => match swap_width_of(slot.imm) {
+            Some(width) => Ok(Insn::ByteSwap { order, width, dst }),
+            None => Err(Flaw::BadWidth),
+        },
+        Opcode::Jump(Size::Word64) => Ok(Insn::Jump {
+            offset: slot.offset,
+        }),
+        Opcode::Jump(Size::Word32) => Ok(Insn::JumpLong { imm: slot.imm }),
+        Opcode::JumpIf(condition, size, source) => Ok(Insn::JumpIf {
+            condition,
+            size,
+            dst,
+            src: operand_of(source, src, slot.imm),
+            offset: slot.offset,
+        }),
+        Opcode::Call => Ok(Insn::Call {
+            kind: call_kind_of(slot.src),
+            imm: slot.imm,
+        }),
+        Opcode::Exit => Ok(Insn::Exit),
+        Opcode::Load(width) => Ok(Insn::Load {
+            width,
+            dst,
+            src,
+            offset: slot.offset,
+        }),
+        Opcode::LoadSigned(width) => Ok(Insn::LoadSigned {
+            width,
+            dst,
+            src,
+            offset: slot.offset,
+        }),
+        Opcode::Store(width) => Ok(Insn::Store {
+            width,
+            dst,
+            offset: slot.offset,
+            imm: slot.imm,
+        }),
+        Opcode::StoreRegister(width) => Ok(Insn::StoreRegister {
+            width,
+            dst,
+            src,
+            offset: slot.offset,
+        }),
+        Opcode::Excluded(_) => unreachable!(),
+    }
+}
+
+/// The instruction that begins with this slot, or its first flaw.
+pub fn decode_slot(slot: Slot, next: Option<Slot>) -> Result<Insn, Flaw>
+    requires slot { FitsSlot slot }
+    requires next { IfSome next FitsSlot }
+    // What is found is spelled so.
+    ensures found { IfOk result (λ i. slots_of i ≡ take (slot_count i) (slot ∷ option_to_list next)) }
+    ensures fits { IfOk result FitsInsn }
+    ensures admitted { IfOk result (λ i. is_admitted i ≡ true) }
+    // What is spelled so is found.
+    ensures only { (i : Insn) → FitsInsn i → is_admitted i ≡ true → slots_of i ≡ take (slot_count i) (slot ∷ option_to_list next) → result ≡ Ok i }
+    ensures flaw { IfErr result (IsFlaw slot next) }
+{
+    let Some(opcode) = opcode_from(slot.opcode) else {
+        return Err(Flaw::UnknownOpcode);
+    };
+    if !is_supported(opcode) {
+        return Err(Flaw::OutsideProfile);
+    }
+    decode_with(opcode, slot, next)
+}
