@@ -26,9 +26,9 @@ use Rattle.bpf_model.specs.Spelling.{extension_size, extension_bits}
 use Rattle.disasm.specs.declared.mnemonic.Mnemonic.{Mnemonic}
 use Rattle.disasm.specs.declared.mnemonic.Mnemonic.TheVariants.{Alu, MoveSigned, Negate, ByteSwap, LoadNumber, LoadMap, Jump, JumpLong, JumpIf, Call, Exit, Load, LoadSigned, Store, StoreRegister}
 use Rattle.disasm.specs.declared.statement.Sign.{Sign}
-use Rattle.disasm.specs.declared.statement.Sign.TheVariants.{Unsigned, Plus, Minus}
+use Rattle.disasm.specs.declared.statement.Sign.TheVariants.{Plus, Minus}
 use Rattle.disasm.specs.declared.statement.Argument.{Argument}
-use Rattle.disasm.specs.declared.statement.Argument.TheVariants.{Register, Number, Memory}
+use Rattle.disasm.specs.declared.statement.Argument.TheVariants.{Register, Number, Signed, Memory}
 use Rattle.disasm.specs.declared.statement.Arguments.{Arguments}
 use Rattle.disasm.specs.declared.statement.Arguments.TheVariants.{Zero, One, Two, Three}
 use Rattle.disasm.specs.declared.statement.Statement.{Statement}
@@ -142,14 +142,14 @@ abbrev pub numeral : ℕ → List ℕ
 numeral n = if n == 0 then codes "0" else map (λ digit. 48 + digit) (digits_of 10 n)
 
 abbrev pub sign_text : Sign → List ℕ
-sign_text Unsigned = []
 sign_text Plus = codes "+"
 sign_text Minus = codes "-"
 
--- `r1`, `-4`, `[r10-8]`
+-- `r1`, `4`, `-4`, `[r10-8]`
 abbrev pub argument_text : Argument → List ℕ
 argument_text (Register number) = codes "r" ++ numeral number
-argument_text (Number sign magnitude) = sign_text sign ++ numeral magnitude
+argument_text (Number magnitude) = numeral magnitude
+argument_text (Signed sign magnitude) = sign_text sign ++ numeral magnitude
 argument_text (Memory base sign offset) = codes "[r" ++ numeral base ++ sign_text sign ++ numeral offset ++ codes "]"
 
 abbrev pub arguments_text : Arguments → List ℕ
@@ -163,29 +163,26 @@ statement_text s = name_of s.mnemonic ++ arguments_text s.arguments
 
 -- How each instruction is written.
 
--- a number without its sign: `negsuc n` is -(n + 1)
+-- `negsuc n` is -(n + 1)
+abbrev pub sign_of : ℤ → Sign
+sign_of (pos n) = Plus
+sign_of (negsuc n) = Minus
+
 abbrev pub magnitude : ℤ → ℕ
 magnitude (pos n) = n
 magnitude (negsuc n) = n + 1
 
 -- a number bears a sign where it is below 0
-abbrev pub number_sign : ℤ → Sign
-number_sign (pos n) = Unsigned
-number_sign (negsuc n) = Minus
-
 abbrev pub number : ℤ → Argument
-number z = Number (number_sign z) (magnitude z)
+number (pos n) = Number n
+number (negsuc n) = Signed Minus (n + 1)
 
 -- an offset always bears its sign
-abbrev pub offset_sign : ℤ → Sign
-offset_sign (pos n) = Plus
-offset_sign (negsuc n) = Minus
-
 abbrev pub offset : ℤ → Argument
-offset z = Number (offset_sign z) (magnitude z)
+offset z = Signed (sign_of z) (magnitude z)
 
 abbrev pub memory : ℕ → ℤ → Argument
-memory base z = Memory base (offset_sign z) (magnitude z)
+memory base z = Memory base (sign_of z) (magnitude z)
 
 abbrev pub source : Operand → Argument
 source (operand.Register src) = Register src
@@ -213,7 +210,7 @@ arguments_of (insn.Alu op size dst src) = Two (Register dst) (source src)
 arguments_of (insn.MoveSigned extension dst src) = Three (Register dst) (Register src) (number (extension_bits extension))
 arguments_of (insn.Negate size dst) = One (Register dst)
 arguments_of (insn.ByteSwap order width dst) = One (Register dst)
-arguments_of (insn.LoadNumber dst n) = Two (Register dst) (Number Unsigned n)
+arguments_of (insn.LoadNumber dst n) = Two (Register dst) (Number n)
 arguments_of (insn.LoadMap dst map) = Two (Register dst) (number map)
 arguments_of (insn.Jump z) = One (offset z)
 arguments_of (insn.JumpLong imm) = One (offset imm)

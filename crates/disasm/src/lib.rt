@@ -9,4 +9,5 @@ mod statement;
 mod writing;
 
 pub use mnemonic::Mnemonic;
-pub use statement::{Argument, Arguments, Sign, Statement};
+pub use statement::{Argument, Arguments, Sign, Statement, statement_of};
+pub use writing::disassemble;

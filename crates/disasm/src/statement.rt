@@ -1,6 +1,6 @@
 //! Instructions as they are written: a mnemonic with its arguments.
 ghost use Rattle.std.specs.Prelude.{◌≡◌};
-ghost use Rattle.disasm.specs.Text.{number as number_of, offset as offset_of, memory as memory_of, source as source_of, offset_sign as offset_sign_of, number_sign as number_sign_of, magnitude as magnitude_of, mnemonic_of, arguments_of, statement_of};
+ghost use Rattle.disasm.specs.Text.{number as number_of, offset as offset_of, memory as memory_of, source as source_of, sign_of as sign_of_number, magnitude as magnitude_of, mnemonic_of, arguments_of, statement_of};
 ghost use Rattle.bpf_model.specs.Spelling.{extension_size as extension_size_of, extension_bits as extension_bits_of};
 
 use crate::mnemonic::Mnemonic;
@@ -9,16 +9,16 @@ use bpf_model::{Insn, Operand, Reg, SignExtension, Size};
 /// The sign that a number is written with.
 #[derive(Clone, Copy, Debug, PartialEq, Eq)]
 pub enum Sign {
-    Unsigned,
     Plus,
     Minus,
 }
 
-/// An argument as it is written, whether or not its numbers are in their ranges: `r1`, `-4`, `[r10-8]`.
+/// An argument as it is written, whether or not its numbers are in their ranges: `r1`, `4`, `-4` or `[r10-8]`.
 #[derive(Clone, Copy, Debug, PartialEq, Eq)]
 pub enum Argument {
     Register(u128),
-    Number(Sign, u128),
+    Number(u128),
+    Signed(Sign, u128),
     Memory {
         base: u128,
         sign: Sign,
@@ -56,24 +56,18 @@ fn magnitude(value: i32) -> u128
 }
 
 /// A number bears a sign where it is below 0.
-fn number_sign(value: i32) -> Sign
-    ensures { result ≡ number_sign_of value }
-{
-    if value < 0 {
-        Sign::Minus
-    } else {
-        Sign::Unsigned
-    }
-}
-
 fn number(value: i32) -> Argument
     ensures { result ≡ number_of value }
 {
-    Argument::Number(number_sign(value), magnitude(value))
+    if value < 0 {
+        Argument::Signed(Sign::Minus, magnitude(value))
+    } else {
+        Argument::Number(magnitude(value))
+    }
 }
 
-fn offset_sign(value: i32) -> Sign
-    ensures { result ≡ offset_sign_of value }
+fn sign_of(value: i32) -> Sign
+    ensures { result ≡ sign_of_number value }
 {
     if value < 0 { Sign::Minus } else { Sign::Plus }
 }
@@ -82,7 +76,7 @@ fn offset_sign(value: i32) -> Sign
 fn offset(value: i32) -> Argument
     ensures { result ≡ offset_of value }
 {
-    Argument::Number(offset_sign(value), magnitude(value))
+    Argument::Signed(sign_of(value), magnitude(value))
 }
 
 fn memory(base: Reg, offset: i16) -> Argument
@@ -91,7 +85,7 @@ fn memory(base: Reg, offset: i16) -> Argument
     let offset = i32::from(offset);
     Argument::Memory {
         base: u128::from(base.number()),
-        sign: offset_sign(offset),
+        sign: sign_of(offset),
         offset: magnitude(offset),
     }
 }
@@ -169,7 +163,7 @@ fn arguments_for(insn: &Insn) -> Arguments
         Insn::Negate { dst, .. } | Insn::ByteSwap { dst, .. } => Arguments::One(register(*dst)),
         Insn::LoadNumber { dst, number } => Arguments::Two(
             register(*dst),
-            Argument::Number(Sign::Unsigned, u128::from(*number)),
+            Argument::Number(u128::from(*number)),
         ),
         Insn::LoadMap { dst, map } => Arguments::Two(register(*dst), number(*map)),
         Insn::Jump { offset: target } => Arguments::One(offset(i32::from(*target))),

@@ -5,6 +5,7 @@ ghost use Rattle.disasm.specs.Text.{numeral, sign_text, argument_text, arguments
 
 use crate::statement::{Argument, Arguments, Sign, Statement, statement_of};
 use bpf_model::Insn;
+use insn_codec::Program;
 use std::alloc::{AllocError, Global};
 
 fn push_numeral(out: &mut String, number: u128) -> Result<(), AllocError>
@@ -17,7 +18,6 @@ fn push_sign(out: &mut String, sign: Sign) -> Result<(), AllocError>
     ensures { OnOk result (string_bytes out.new ≡ string_bytes out.old ++ sign_text sign) }
 {
     match sign {
-        Sign::Unsigned => Ok(()),
         Sign::Plus => out.push_str("+"),
         Sign::Minus => out.push_str("-"),
     }
@@ -32,7 +32,8 @@ fn push_argument(out: &mut String, argument: &Argument) -> Result<(), AllocError
             out.push_str("r")?;
             push_numeral(out, *number)
         }
-        Argument::Number(sign, magnitude) => {
+        Argument::Number(magnitude) => push_numeral(out, *magnitude),
+        Argument::Signed(sign, magnitude) => {
             push_sign(out, *sign)?;
             push_numeral(out, *magnitude)
         }
@@ -90,11 +91,16 @@ fn push_line(out: &mut String, insn: &Insn) -> Result<(), AllocError>
     out.push_str("\n")
 }
 
-fn lines_of(alloc: Global, insns: &[Insn]) -> Result<String, AllocError>
-    ensures { IfOk result (λ text. string_bytes text ≡ program_text insns.now) }
+/// The text of a program: the line of each instruction, ended by a line feed.
+///
+/// # Errors
+///
+/// `AllocError` where memory for the text runs out.
+pub fn disassemble(alloc: Global, program: &Program) -> Result<String, AllocError>
+    ensures { IfOk result (λ text. string_bytes text ≡ program_text program.now) }
 {
     let mut out = String::new(alloc);
-    for insn in insns {
+    for insn in program.instructions() {
         push_line(&mut out, insn)?;
     }
     Ok(out)
