@@ -1,0 +1,7 @@
+use Rattle.std.proofs.Common.{ℕ, ◌≡◌, ◌<◌, ◌≤◌, ◌^◌, take}
+use Rattle.asm.specs.Reading.{capped, glyphs}
+use Rattle.asm.proofs.numeral.read_digits.Given as goal
+use Rattle.asm.proofs.Numerals.{IsReadSoFar}
+
+abbrev pub invariant-loop-digit : goal.invariant-loop-digit
+invariant-loop-digit l = IsReadSoFar (take l.digit-index l.digits) l.digit-index l.value

@@ -1,0 +1,13 @@
+//! Programs out of text, one instruction a line.
+//!
+//! [`assemble`] reads what `disasm::disassemble` writes, and besides it empty lines and lines that begin
+//! with `;`. `specs/Grammar.antt` has the forms of lines, `specs/Faults.antt` says which texts are
+//! refused and how; docs/ASSEMBLY.md describes the language.
+#![tactic(auto)]
+
+mod argument;
+mod fault;
+mod form;
+mod numeral;
+
+pub use fault::AsmFault;
