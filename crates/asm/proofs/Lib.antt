@@ -1,1 +1,4 @@
+mod ArgumentLaws
+mod Cuts
+mod Lacking
 mod Numerals

@@ -83,12 +83,12 @@ numeral_first n h = elim (by_sign n) [ inl e ↦ e | inr p ↦ absurd (let q : 4
 
 pub numeral_injective : (m n : ℕ) → numeral m ≡ numeral n → m ≡ n
 numeral_injective m n e = elim (by_sign m) [
-    inl mz ↦ mz ∙ sym (numeral_first n (sym (ap (λ ds. get_or ds 0 0) e) ∙ rw mz refl))
+  | inl mz ↦ mz ∙ sym (numeral_first n (sym (ap (λ ds. get_or ds 0 0) e) ∙ rw mz refl))
   | inr mp ↦ elim (by_sign n) [
-      inl nz ↦ numeral_first m (ap (λ ds. get_or ds 0 0) e ∙ rw nz refl) ∙ sym nz
+    | inl nz ↦ numeral_first m (ap (λ ds. get_or ds 0 0) e ∙ rw nz refl) ∙ sym nz
     | inr np ↦ glyphs_injective m n (sym (numeral_above m mp) ∙ e ∙ numeral_above n np)
-    ]
   ]
+]
 
 -- the first i digits, and the number that was made of them
 pub record IsReadSoFar (front : List ℕ) (i value : ℕ) : Type 0 where

@@ -9,5 +9,6 @@ mod argument;
 mod fault;
 mod form;
 mod numeral;
+mod pieces;
 
 pub use fault::AsmFault;
