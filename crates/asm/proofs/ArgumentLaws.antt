@@ -22,8 +22,8 @@ minus_no_digit h = let low : 48 ≤ 45 = h.0 in omega arith
 minus_lacks_plus : (b o : ℕ) → Lacks 43 (numeral b ++ (45 ∷ []) ++ numeral o)
 minus_lacks_plus b o =
     lacks_append 43 (numeral b ++ (45 ∷ [])) (numeral o)
-      (lacks_append 43 (numeral b) (45 ∷ []) (numeral_lacks 43 b plus_no_digit) (lacks_cons 43 45 [] (omega arith) (λ i inside. absurd (omega arith))))
-      (numeral_lacks 43 o plus_no_digit)
+    (lacks_append 43 (numeral b) (45 ∷ []) (numeral_lacks 43 b plus_no_digit) (lacks_cons 43 45 [] (omega arith) (λ i inside. absurd (omega arith))))
+    (numeral_lacks 43 o plus_no_digit)
 
 pub place_plus : (text base offset : List ℕ) (r : Option Argument) → text ≡ base ++ 43 ∷ offset → ((front back : List ℕ) → Lacks 43 front → text ≡ front ++ 43 ∷ back → (base ≡ front) × (offset ≡ back)) → ((b o : ℕ) → base ≡ numeral b → offset ≡ numeral o → r ≡ Some (Memory (capped b) Plus (capped o))) → (b : ℕ) (sign : Sign) (o : ℕ) → text ≡ numeral b ++ sign_text sign ++ numeral o → r ≡ Some (Memory (capped b) sign (capped o))
 place_plus text base offset r parts only read b Plus o e =

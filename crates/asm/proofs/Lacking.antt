@@ -33,12 +33,12 @@ comma_no_digit h = let low : 48 ≤ 44 = h.0 in omega arith
 memory_lacks : (base sign n : ℕ) → sign ≢ 44 → Lacks 44 ((91 ∷ 114 ∷ numeral base) ++ (sign ∷ []) ++ numeral n ++ 93 ∷ [])
 memory_lacks base sign n other =
     lacks_append 44 ((91 ∷ 114 ∷ numeral base) ++ (sign ∷ []) ++ numeral n) (93 ∷ [])
-      (lacks_append 44 ((91 ∷ 114 ∷ numeral base) ++ (sign ∷ [])) (numeral n)
-        (lacks_append 44 (91 ∷ 114 ∷ numeral base) (sign ∷ [])
-          (lacks_cons 44 91 (114 ∷ numeral base) (omega arith) (lacks_cons 44 114 (numeral base) (omega arith) (numeral_lacks 44 base comma_no_digit)))
-          (lacks_cons 44 sign [] other (nil_lacks 44)))
-        (numeral_lacks 44 n comma_no_digit))
-      (lacks_cons 44 93 [] (omega arith) (nil_lacks 44))
+    (lacks_append 44 ((91 ∷ 114 ∷ numeral base) ++ (sign ∷ [])) (numeral n)
+    (lacks_append 44 (91 ∷ 114 ∷ numeral base) (sign ∷ [])
+    (lacks_cons 44 91 (114 ∷ numeral base) (omega arith) (lacks_cons 44 114 (numeral base) (omega arith) (numeral_lacks 44 base comma_no_digit)))
+    (lacks_cons 44 sign [] other (nil_lacks 44)))
+    (numeral_lacks 44 n comma_no_digit))
+    (lacks_cons 44 93 [] (omega arith) (nil_lacks 44))
 
 -- no argument has a comma
 pub argument_lacks : (a : Argument) → Lacks 44 (argument_text a)

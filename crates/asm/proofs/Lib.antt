@@ -1,4 +1,5 @@
 mod ArgumentLaws
 mod Cuts
 mod Lacking
+mod NameLaws
 mod Numerals

@@ -8,6 +8,7 @@
 mod argument;
 mod fault;
 mod form;
+mod names;
 mod numeral;
 mod pieces;
 
