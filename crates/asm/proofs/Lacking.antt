@@ -24,7 +24,7 @@ not_lacks c (x ∷ xs) ys lacks = not_lacks c xs ys (λ i inside. lacks (suc i) 
 pub numeral_lacks : (c n : ℕ) → ¬ (IsInRange 48 57 c) → Lacks c (numeral n)
 numeral_lacks c n other i inside e = other (subst (λ (b : ℕ). IsInRange 48 57 b) e (numeral_digit n i inside))
 
-nil_lacks : (c : ℕ) → Lacks c []
+pub nil_lacks : (c : ℕ) → Lacks c []
 nil_lacks c i inside = absurd (omega arith)
 
 pub comma_no_digit : ¬ (IsInRange 48 57 44)

@@ -3,3 +3,5 @@ mod Cuts
 mod Lacking
 mod NameLaws
 mod Numerals
+mod PlainNames
+mod StatementLaws

@@ -1,12 +1,11 @@
 -- Words of the reader's own contracts. It keeps numbers up to 2 ^ 64, which is above what any instruction takes.
-use Rattle.std.specs.Prelude.{ℕ, ◌≡◌, ◌≢◌, ◌+◌, ◌<◌, ◌^◌, ◌∷◌, ◌++◌, List, length, slice_index, map, nat_lt, if◌then◌else◌}
+use Rattle.std.specs.Prelude.{ℕ, ◌≡◌, ◌≢◌, ◌+◌, ◌<◌, ◌^◌, List, length, slice_index, map, nat_lt, if◌then◌else◌}
 use Rattle.std.specs.Int.Digits.{digits_of}
 use Rattle.disasm.specs.declared.statement.Argument.{Argument}
 use Rattle.disasm.specs.declared.statement.Argument.TheVariants.{Register, Number, Signed, Memory}
 use Rattle.disasm.specs.declared.statement.Arguments.{Arguments}
 use Rattle.disasm.specs.declared.statement.Arguments.TheVariants.{Zero, One, Two, Three}
 use Rattle.disasm.specs.declared.statement.Statement.{Statement}
-use Rattle.disasm.specs.Text.{argument_text}
 
 abbrev pub capped : ℕ → ℕ
 capped n = if nat_lt n (2 ^ 64) then n else 2 ^ 64
@@ -33,10 +32,3 @@ Lacks c text = (i : ℕ) → i < length text → slice_index text i ≢ c
 -- the digits of a number, none for 0
 abbrev pub glyphs : ℕ → List ℕ
 glyphs n = map (λ digit. 48 + digit) (digits_of 10 n)
-
--- the arguments without the space before them
-abbrev pub list_text : Arguments → List ℕ
-list_text Zero = argument_text (Number 0)
-list_text (One a) = argument_text a
-list_text (Two a b) = argument_text a ++ 44 ∷ 32 ∷ argument_text b
-list_text (Three a b c) = argument_text a ++ 44 ∷ 32 ∷ argument_text b ++ 44 ∷ 32 ∷ argument_text c

@@ -11,5 +11,6 @@ mod form;
 mod names;
 mod numeral;
 mod pieces;
+mod statement;
 
 pub use fault::AsmFault;
