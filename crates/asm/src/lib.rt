@@ -8,8 +8,10 @@
 mod argument;
 mod fault;
 mod form;
+mod insn;
 mod names;
 mod numeral;
+mod operand;
 mod pieces;
 mod statement;
 
