@@ -1,6 +1,8 @@
 mod ArgumentLaws
 mod Cuts
+mod FormLaws
 mod Lacking
+mod LineLaws
 mod NameLaws
 mod Numerals
 mod PlainNames

@@ -9,6 +9,7 @@ mod argument;
 mod fault;
 mod form;
 mod insn;
+mod line;
 mod names;
 mod numeral;
 mod operand;
