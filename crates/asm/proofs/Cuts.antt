@@ -7,6 +7,10 @@ pub split_none : (c : ℕ) (text : List ℕ) (r : Option (Bor (List ℕ) × Bor 
 split_none c text None h = h
 split_none c text (Some x) h = tt
 
+pub split_front : (c : ℕ) (text : List ℕ) (r : Option (Bor (List ℕ) × Bor (List ℕ))) → MatchOption r ((i : ℕ) → i < length text → get_or text i 0 ≢ c) (λ x. (text ≡ x.0.now ++ (c ∷ x.1.now)) × ((i : ℕ) → i < length x.0.now → get_or x.0.now i 0 ≢ c)) → IfSome r (λ x. Lacks c x.0.now)
+split_front c text None h = tt
+split_front c text (Some x) h = h.1
+
 rest_is : (c : ℕ) (x rest : List ℕ) → (c ∷ x) ≡ c ∷ rest → x ≡ rest
 rest_is c x rest e = cc
 

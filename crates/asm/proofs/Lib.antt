@@ -3,6 +3,7 @@ mod Cuts
 mod FormLaws
 mod Lacking
 mod LineLaws
+mod LinesRead
 mod NameLaws
 mod Numerals
 mod PlainNames

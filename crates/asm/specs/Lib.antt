@@ -1,3 +1,4 @@
+pub mod Assembling
 pub mod Faults
 pub mod Grammar
 pub mod Reading

@@ -6,6 +6,7 @@
 #![tactic(auto)]
 
 mod argument;
+mod assembling;
 mod fault;
 mod form;
 mod insn;
@@ -16,4 +17,5 @@ mod operand;
 mod pieces;
 mod statement;
 
+pub use assembling::assemble;
 pub use fault::AsmFault;

@@ -7,6 +7,7 @@ pub fn cut(text: &str, separator: char) -> Option<(&str, &str)>
     requires { separator < 128 }
     ensures none { IfNone result (Lacks separator text.now) }
     ensures parts { IfSome result (λ x. text.now ≡ x.0.now ++ separator ∷ x.1.now) }
+    ensures first { IfSome result (λ x. Lacks separator x.0.now) }
     ensures only { (front back : List ℕ) → Lacks separator front → text.now ≡ front ++ separator ∷ back → MatchOption result ⊥ (λ x. (x.0.now ≡ front) × (x.1.now ≡ back)) }
 {
     text.split_once(separator)
