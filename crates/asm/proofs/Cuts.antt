@@ -1,5 +1,5 @@
 -- What the methods of text give, by cases on their results.
-use Rattle.std.proofs.Common.{ℕ, ◌≡◌, ◌≢◌, ◌<◌, List, [], ◌∷◌, ◌++◌, length, get_or, refl, sym, ap, ◌∙◌, Bor}
+use Rattle.std.proofs.Common.{ℕ, ◌≡◌, ◌≢◌, ◌<◌, List, ◌∷◌, ◌++◌, length, get_or, sym, ◌∙◌, Bor}
 use Rattle.std.specs.Prelude.{Option, Some, None, IfSome, IfNone, MatchOption}
 use Rattle.asm.specs.Reading.{Lacks}
 

@@ -1,4 +1,5 @@
 mod ArgumentLaws
+mod Assembled
 mod Cuts
 mod FormLaws
 mod Lacking

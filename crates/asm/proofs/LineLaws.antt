@@ -1,6 +1,6 @@
 -- What a line's statement says of the line.
-use Rattle.std.proofs.Common.{ℕ, ◌≡◌, ◌++◌, List, Bool, true, false, refl, sym, ap, subst, ◌∙◌}
-use Rattle.std.specs.Prelude.{Option, Some, None, Result, Ok, Err}
+use Rattle.std.proofs.Common.{ℕ, ◌≡◌, ◌++◌, List, Bool, true, false, sym, ap, subst, ◌∙◌}
+use Rattle.std.specs.Prelude.{Option, Some, None, Result, Ok}
 use Rattle.bpf_model.specs.Spelling.{FitsInsn}
 use Rattle.bpf_model.specs.declared.insn.Insn.{Insn}
 use Rattle.disasm.specs.Text.{name_of, arguments_text, statement_text, line_of, mnemonic_of, arguments_of, statement_of}
@@ -9,7 +9,6 @@ use Rattle.disasm.specs.declared.statement.Arguments.{Arguments}
 use Rattle.disasm.specs.declared.statement.Statement.{Statement}
 use Rattle.asm.specs.Grammar.{is_formed, HasForm}
 use Rattle.asm.specs.Reading.{capped_arguments, capped_statement, IsOnly}
-use Rattle.asm.specs.Faults.{IsInsnLine}
 use Rattle.asm.specs.declared.fault.LineFlaw.{LineFlaw}
 use Rattle.asm.proofs.FormLaws.{IsSmall, formed_capped, formed_of, capped_of, small_of, back_same, told}
 

@@ -1,5 +1,5 @@
 -- The lines that have been read, and those that are left.
-use Rattle.std.proofs.Common.{ℕ, zero, suc, ◌≡◌, ◌≢◌, ◌+◌, ◌<◌, ◌≤◌, ◌==◌, Bool, true, false, not, cond, List, [], ◌∷◌, ◌++◌, length, get_or, refl, sym, ap, subst, ◌∙◌, arith, append_assoc, length-append, ne_eqb}
+use Rattle.std.proofs.Common.{ℕ, zero, suc, ◌≡◌, ◌+◌, ◌<◌, ◌≤◌, ◌==◌, Bool, true, false, not, cond, List, [], ◌∷◌, ◌++◌, length, get_or, refl, sym, ap, subst, ◌∙◌, arith, append_assoc, length-append, ne_eqb}
 use Rattle.std.specs.Prelude.{map}
 use Rattle.std.specs.Str.{IsUtf8}
 use Rattle.std.specs.List.{AllByRecursion, filter, All}
@@ -10,7 +10,7 @@ use Rattle.bpf_model.specs.declared.insn.Insn.{Insn}
 use Rattle.bpf_model.specs.Spelling.{FitsInsn}
 use Rattle.disasm.specs.Text.{line_of}
 use Rattle.asm.specs.Reading.{Lacks}
-use Rattle.asm.specs.Faults.{is_comment, lines_in, statements_in, IsSound, IsInsnLine, IsFirstFlaw}
+use Rattle.asm.specs.Faults.{is_comment, lines_in, statements_in, IsSound, IsInsnLine}
 use Rattle.asm.specs.Assembling.{IsLineOf, Adds, IsLineFault, IsTextFault}
 use Rattle.asm.specs.declared.fault.AsmFault.{AsmFault}
 use Rattle.asm.specs.declared.fault.AsmFault.TheVariants.{BadLine, BadOperand, TooLong, Empty, Memory}
@@ -128,10 +128,10 @@ line_fault text line left items index Memory read h = tt
 pub all_read : (text : List ℕ) (items : List Insn) (index : ℕ) → LinesRead text [] items index → statements_in text ≡ map line_of items
 all_read text items index read = ap (filter keeps) (read.parts ∙ append-nil read.front) ∙ read.lines
 
-same_tail : (x y : List ℕ) (xs ys : List (List ℕ)) → (x ∷ xs) ≡ y ∷ ys → (x ≡ y) × (xs ≡ ys)
+pub same_tail : (x y : List ℕ) (xs ys : List (List ℕ)) → (x ∷ xs) ≡ y ∷ ys → (x ≡ y) × (xs ≡ ys)
 same_tail x y xs ys e = (cc, cc)
 
-cons_no : (x : List ℕ) (xs : List (List ℕ)) → (x ∷ xs) ≡ [] → ⊥
+pub cons_no : (x : List ℕ) (xs : List (List ℕ)) → (x ∷ xs) ≡ [] → ⊥
 cons_no x xs e = cc
 
 cons_insns : (i j : Insn) (is js : List Insn) → i ≡ j → is ≡ js → (i ∷ is) ≡ j ∷ js

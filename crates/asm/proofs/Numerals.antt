@@ -5,7 +5,7 @@ use Rattle.std.specs.Int.{IsInRange}
 use Rattle.std.specs.Int.Digits.{digits_of, AllBelowBase}
 use Rattle.std.proofs.lemmas.Int.Digits.{digits_of_step, first_digits_of, all_below_base_digits_of, same_from_digits_of}
 use Rattle.std.proofs.lemmas.Bool.Decides.{nat_tests}
-use Rattle.std.proofs.lemmas.List.{take_more, map_push, length-map, get_or-map}
+use Rattle.std.proofs.lemmas.List.{take_more, map_push, length-map}
 use Rattle.disasm.specs.Text.{numeral}
 use Rattle.asm.specs.Reading.{capped, glyphs}
 

@@ -1,5 +1,5 @@
--- No name has a space.
-use Rattle.std.proofs.Common.{lit<, ℕ, zero, suc, ◌≡◌, ◌≢◌, ◌<◌, Bool, true, false, cond, List, [], ◌∷◌, ◌++◌, length, get_or, refl, arith}
+-- Names have letters and digits alone, and begin with a letter.
+use Rattle.std.proofs.Common.{ℕ, ◌≡◌, ◌≢◌, ◌<◌, Bool, true, false, ◌&&◌, List, [], ◌∷◌, ◌++◌, refl, arith, ltb}
 use Rattle.std.proofs.lemmas.Bool.Decides.{nat_tests}
 use Rattle.bpf_model.specs.declared.opcode.Size.{Size}
 use Rattle.bpf_model.specs.declared.opcode.Size.TheVariants.{Word32, Word64}
@@ -21,124 +21,178 @@ use Rattle.disasm.specs.declared.mnemonic.Mnemonic.{Mnemonic}
 use Rattle.disasm.specs.declared.mnemonic.Mnemonic.TheVariants.{Alu, MoveSigned, Negate, ByteSwap, LoadNumber, LoadMap, Jump, JumpLong, JumpIf, Call, Exit, Load, LoadSigned, Store, StoreRegister}
 use Rattle.disasm.specs.Text.{name_of, stem_of, suffix_of, alu_stem, condition_stem, order_stem, size_suffix, jump_suffix, swap_suffix, width_suffix, signed_width_suffix, call_suffix}
 use Rattle.asm.specs.Reading.{Lacks}
+use Rattle.asm.specs.Faults.{is_comment}
 use Rattle.asm.proofs.Lacking.{lacks_cons, lacks_append, nil_lacks}
 
--- letters and digits
-IsPlain : List ℕ → Type 0
-IsPlain [] = Unit {0}
-IsPlain (b ∷ bs) = (32 < b) × IsPlain bs
+-- no byte is below the digits
+abbrev is_plain : List ℕ → Bool
+is_plain [] = true
+is_plain (b ∷ bs) = ltb 47 b && is_plain bs
 
-plain_lacks : (bs : List ℕ) → IsPlain bs → Lacks 32 bs
-unfolding IsPlain
-plain_lacks [] h = nil_lacks 32
-plain_lacks (b ∷ bs) h = let above : 32 < b = h.0 in lacks_cons 32 b bs (omega arith) (plain_lacks bs h.1)
+both : (a b : Bool) → (a && b) ≡ true → (a ≡ true) × (b ≡ true)
+both true b e = (refl, e)
+both false b e = absurd (cc)
 
-alu_lacks : (x : AluOp) → Lacks 32 (alu_stem x)
-unfolding IsPlain
-alu_lacks alu.Add = plain_lacks (alu_stem alu.Add) (lit< tt, (lit< tt, (lit< tt, tt)))
-alu_lacks alu.Sub = plain_lacks (alu_stem alu.Sub) (lit< tt, (lit< tt, (lit< tt, tt)))
-alu_lacks alu.Mul = plain_lacks (alu_stem alu.Mul) (lit< tt, (lit< tt, (lit< tt, tt)))
-alu_lacks alu.Div = plain_lacks (alu_stem alu.Div) (lit< tt, (lit< tt, (lit< tt, tt)))
-alu_lacks alu.SignedDiv = plain_lacks (alu_stem alu.SignedDiv) (lit< tt, (lit< tt, (lit< tt, (lit< tt, tt))))
-alu_lacks alu.Or = plain_lacks (alu_stem alu.Or) (lit< tt, (lit< tt, tt))
-alu_lacks alu.And = plain_lacks (alu_stem alu.And) (lit< tt, (lit< tt, (lit< tt, tt)))
-alu_lacks alu.ShiftLeft = plain_lacks (alu_stem alu.ShiftLeft) (lit< tt, (lit< tt, (lit< tt, tt)))
-alu_lacks alu.ShiftRight = plain_lacks (alu_stem alu.ShiftRight) (lit< tt, (lit< tt, (lit< tt, tt)))
-alu_lacks alu.Mod = plain_lacks (alu_stem alu.Mod) (lit< tt, (lit< tt, (lit< tt, tt)))
-alu_lacks alu.SignedMod = plain_lacks (alu_stem alu.SignedMod) (lit< tt, (lit< tt, (lit< tt, (lit< tt, tt))))
-alu_lacks alu.Xor = plain_lacks (alu_stem alu.Xor) (lit< tt, (lit< tt, (lit< tt, tt)))
-alu_lacks alu.Move = plain_lacks (alu_stem alu.Move) (lit< tt, (lit< tt, (lit< tt, tt)))
-alu_lacks alu.ShiftRightSigned = plain_lacks (alu_stem alu.ShiftRightSigned) (lit< tt, (lit< tt, (lit< tt, (lit< tt, tt))))
+above : (b c : ℕ) → c < 48 → ltb 47 b ≡ true → b ≢ c
+above b c small e = grind (arith, nat_tests)
 
-condition_lacks : (x : Condition) → Lacks 32 (condition_stem x)
-unfolding IsPlain
-condition_lacks condition.Equal = plain_lacks (condition_stem condition.Equal) (lit< tt, (lit< tt, (lit< tt, tt)))
-condition_lacks condition.Greater = plain_lacks (condition_stem condition.Greater) (lit< tt, (lit< tt, (lit< tt, tt)))
-condition_lacks condition.GreaterOrEqual = plain_lacks (condition_stem condition.GreaterOrEqual) (lit< tt, (lit< tt, (lit< tt, tt)))
-condition_lacks condition.SharesBits = plain_lacks (condition_stem condition.SharesBits) (lit< tt, (lit< tt, (lit< tt, (lit< tt, tt))))
-condition_lacks condition.NotEqual = plain_lacks (condition_stem condition.NotEqual) (lit< tt, (lit< tt, (lit< tt, tt)))
-condition_lacks condition.SignedGreater = plain_lacks (condition_stem condition.SignedGreater) (lit< tt, (lit< tt, (lit< tt, (lit< tt, tt))))
-condition_lacks condition.SignedGreaterOrEqual = plain_lacks (condition_stem condition.SignedGreaterOrEqual) (lit< tt, (lit< tt, (lit< tt, (lit< tt, tt))))
-condition_lacks condition.Less = plain_lacks (condition_stem condition.Less) (lit< tt, (lit< tt, (lit< tt, tt)))
-condition_lacks condition.LessOrEqual = plain_lacks (condition_stem condition.LessOrEqual) (lit< tt, (lit< tt, (lit< tt, tt)))
-condition_lacks condition.SignedLess = plain_lacks (condition_stem condition.SignedLess) (lit< tt, (lit< tt, (lit< tt, (lit< tt, tt))))
-condition_lacks condition.SignedLessOrEqual = plain_lacks (condition_stem condition.SignedLessOrEqual) (lit< tt, (lit< tt, (lit< tt, (lit< tt, tt))))
+plain_lacks : (c : ℕ) (bs : List ℕ) → c < 48 → is_plain bs ≡ true → Lacks c bs
+plain_lacks c [] small h = nil_lacks c
+plain_lacks c (b ∷ bs) small h =
+    let parts : (ltb 47 b ≡ true) × (is_plain bs ≡ true) = both (ltb 47 b) (is_plain bs) h in
+    lacks_cons c b bs (above b c small parts.0) (plain_lacks c bs small parts.1)
 
-order_lacks : (x : ByteOrder) → Lacks 32 (order_stem x)
-unfolding IsPlain
-order_lacks ToLittle = plain_lacks (order_stem ToLittle) (lit< tt, (lit< tt, tt))
-order_lacks ToBig = plain_lacks (order_stem ToBig) (lit< tt, (lit< tt, tt))
-order_lacks Swap = plain_lacks (order_stem Swap) (lit< tt, (lit< tt, (lit< tt, (lit< tt, tt))))
+alu_plain : (x : AluOp) → is_plain (alu_stem x) ≡ true
+alu_plain alu.Add = refl
+alu_plain alu.Sub = refl
+alu_plain alu.Mul = refl
+alu_plain alu.Div = refl
+alu_plain alu.SignedDiv = refl
+alu_plain alu.Or = refl
+alu_plain alu.And = refl
+alu_plain alu.ShiftLeft = refl
+alu_plain alu.ShiftRight = refl
+alu_plain alu.Mod = refl
+alu_plain alu.SignedMod = refl
+alu_plain alu.Xor = refl
+alu_plain alu.Move = refl
+alu_plain alu.ShiftRightSigned = refl
 
-size_lacks : (x : Size) → Lacks 32 (size_suffix x)
-unfolding IsPlain
-size_lacks Word32 = plain_lacks (size_suffix Word32) (lit< tt, (lit< tt, tt))
-size_lacks Word64 = plain_lacks (size_suffix Word64) (lit< tt, (lit< tt, tt))
+condition_plain : (x : Condition) → is_plain (condition_stem x) ≡ true
+condition_plain condition.Equal = refl
+condition_plain condition.Greater = refl
+condition_plain condition.GreaterOrEqual = refl
+condition_plain condition.SharesBits = refl
+condition_plain condition.NotEqual = refl
+condition_plain condition.SignedGreater = refl
+condition_plain condition.SignedGreaterOrEqual = refl
+condition_plain condition.Less = refl
+condition_plain condition.LessOrEqual = refl
+condition_plain condition.SignedLess = refl
+condition_plain condition.SignedLessOrEqual = refl
 
-jump_lacks : (x : Size) → Lacks 32 (jump_suffix x)
-unfolding IsPlain
-jump_lacks Word32 = plain_lacks (jump_suffix Word32) (lit< tt, (lit< tt, tt))
-jump_lacks Word64 = plain_lacks (jump_suffix Word64) (tt)
+order_plain : (x : ByteOrder) → is_plain (order_stem x) ≡ true
+order_plain ToLittle = refl
+order_plain ToBig = refl
+order_plain Swap = refl
 
-swap_lacks : (x : SwapWidth) → Lacks 32 (swap_suffix x)
-unfolding IsPlain
-swap_lacks swap.Two = plain_lacks (swap_suffix swap.Two) (lit< tt, (lit< tt, tt))
-swap_lacks swap.Four = plain_lacks (swap_suffix swap.Four) (lit< tt, (lit< tt, tt))
-swap_lacks swap.Eight = plain_lacks (swap_suffix swap.Eight) (lit< tt, (lit< tt, tt))
+size_plain : (x : Size) → is_plain (size_suffix x) ≡ true
+size_plain Word32 = refl
+size_plain Word64 = refl
 
-width_lacks : (x : Width) → Lacks 32 (width_suffix x)
-unfolding IsPlain
-width_lacks width.One = plain_lacks (width_suffix width.One) (lit< tt, tt)
-width_lacks width.Two = plain_lacks (width_suffix width.Two) (lit< tt, tt)
-width_lacks width.Four = plain_lacks (width_suffix width.Four) (lit< tt, tt)
-width_lacks width.Eight = plain_lacks (width_suffix width.Eight) (lit< tt, (lit< tt, tt))
+jump_plain : (x : Size) → is_plain (jump_suffix x) ≡ true
+jump_plain Word32 = refl
+jump_plain Word64 = refl
 
-signed_lacks : (x : SignedWidth) → Lacks 32 (signed_width_suffix x)
-unfolding IsPlain
-signed_lacks signed_width.One = plain_lacks (signed_width_suffix signed_width.One) (lit< tt, tt)
-signed_lacks signed_width.Two = plain_lacks (signed_width_suffix signed_width.Two) (lit< tt, tt)
-signed_lacks signed_width.Four = plain_lacks (signed_width_suffix signed_width.Four) (lit< tt, tt)
+swap_plain : (x : SwapWidth) → is_plain (swap_suffix x) ≡ true
+swap_plain swap.Two = refl
+swap_plain swap.Four = refl
+swap_plain swap.Eight = refl
 
-call_lacks : (x : CallKind) → Lacks 32 (call_suffix x)
-unfolding IsPlain
-call_lacks Helper = plain_lacks (call_suffix Helper) (tt)
-call_lacks Kernel = plain_lacks (call_suffix Kernel) (lit< tt, (lit< tt, (lit< tt, tt)))
+width_plain : (x : Width) → is_plain (width_suffix x) ≡ true
+width_plain width.One = refl
+width_plain width.Two = refl
+width_plain width.Four = refl
+width_plain width.Eight = refl
 
-stem_lacks : (m : Mnemonic) → Lacks 32 (stem_of m)
-unfolding IsPlain
-stem_lacks (Alu op size) = alu_lacks op
-stem_lacks (MoveSigned size) = plain_lacks (stem_of (MoveSigned size)) (lit< tt, (lit< tt, (lit< tt, (lit< tt, (lit< tt, tt)))))
-stem_lacks (Negate size) = plain_lacks (stem_of (Negate size)) (lit< tt, (lit< tt, (lit< tt, tt)))
-stem_lacks (ByteSwap order width) = order_lacks order
-stem_lacks LoadNumber = plain_lacks (stem_of LoadNumber) (lit< tt, (lit< tt, (lit< tt, (lit< tt, tt))))
-stem_lacks LoadMap = plain_lacks (stem_of LoadMap) (lit< tt, (lit< tt, (lit< tt, (lit< tt, (lit< tt, tt)))))
-stem_lacks Jump = plain_lacks (stem_of Jump) (lit< tt, (lit< tt, tt))
-stem_lacks JumpLong = plain_lacks (stem_of JumpLong) (lit< tt, (lit< tt, tt))
-stem_lacks (JumpIf condition size) = condition_lacks condition
-stem_lacks (Call kind) = plain_lacks (stem_of (Call kind)) (lit< tt, (lit< tt, (lit< tt, (lit< tt, tt))))
-stem_lacks Exit = plain_lacks (stem_of Exit) (lit< tt, (lit< tt, (lit< tt, (lit< tt, tt))))
-stem_lacks (Load width) = plain_lacks (stem_of (Load width)) (lit< tt, (lit< tt, (lit< tt, tt)))
-stem_lacks (LoadSigned width) = plain_lacks (stem_of (LoadSigned width)) (lit< tt, (lit< tt, (lit< tt, (lit< tt, tt))))
-stem_lacks (Store width) = plain_lacks (stem_of (Store width)) (lit< tt, (lit< tt, tt))
-stem_lacks (StoreRegister width) = plain_lacks (stem_of (StoreRegister width)) (lit< tt, (lit< tt, (lit< tt, tt)))
+signed_plain : (x : SignedWidth) → is_plain (signed_width_suffix x) ≡ true
+signed_plain signed_width.One = refl
+signed_plain signed_width.Two = refl
+signed_plain signed_width.Four = refl
 
-suffix_lacks : (m : Mnemonic) → Lacks 32 (suffix_of m)
-unfolding IsPlain
-suffix_lacks (Alu op size) = size_lacks size
-suffix_lacks (MoveSigned size) = size_lacks size
-suffix_lacks (Negate size) = size_lacks size
-suffix_lacks (ByteSwap order width) = swap_lacks width
-suffix_lacks LoadNumber = nil_lacks 32
-suffix_lacks LoadMap = nil_lacks 32
-suffix_lacks Jump = nil_lacks 32
-suffix_lacks JumpLong = plain_lacks (suffix_of JumpLong) (lit< tt, (lit< tt, tt))
-suffix_lacks (JumpIf condition size) = jump_lacks size
-suffix_lacks (Call kind) = call_lacks kind
-suffix_lacks Exit = nil_lacks 32
-suffix_lacks (Load width) = width_lacks width
-suffix_lacks (LoadSigned width) = signed_lacks width
-suffix_lacks (Store width) = width_lacks width
-suffix_lacks (StoreRegister width) = width_lacks width
+call_plain : (x : CallKind) → is_plain (call_suffix x) ≡ true
+call_plain Helper = refl
+call_plain Kernel = refl
+
+stem_plain : (m : Mnemonic) → is_plain (stem_of m) ≡ true
+stem_plain (Alu op size) = alu_plain op
+stem_plain (MoveSigned size) = refl
+stem_plain (Negate size) = refl
+stem_plain (ByteSwap order width) = order_plain order
+stem_plain LoadNumber = refl
+stem_plain LoadMap = refl
+stem_plain Jump = refl
+stem_plain JumpLong = refl
+stem_plain (JumpIf condition size) = condition_plain condition
+stem_plain (Call kind) = refl
+stem_plain Exit = refl
+stem_plain (Load width) = refl
+stem_plain (LoadSigned width) = refl
+stem_plain (Store width) = refl
+stem_plain (StoreRegister width) = refl
+
+suffix_plain : (m : Mnemonic) → is_plain (suffix_of m) ≡ true
+suffix_plain (Alu op size) = size_plain size
+suffix_plain (MoveSigned size) = size_plain size
+suffix_plain (Negate size) = size_plain size
+suffix_plain (ByteSwap order width) = swap_plain width
+suffix_plain LoadNumber = refl
+suffix_plain LoadMap = refl
+suffix_plain Jump = refl
+suffix_plain JumpLong = refl
+suffix_plain (JumpIf condition size) = jump_plain size
+suffix_plain (Call kind) = call_plain kind
+suffix_plain Exit = refl
+suffix_plain (Load width) = width_plain width
+suffix_plain (LoadSigned width) = signed_plain width
+suffix_plain (Store width) = width_plain width
+suffix_plain (StoreRegister width) = width_plain width
+
+-- no name has a space or a line feed
+pub name_lacks_any : (c : ℕ) → c < 48 → (m : Mnemonic) → Lacks c (name_of m)
+name_lacks_any c small m = lacks_append c (stem_of m) (suffix_of m) (plain_lacks c (stem_of m) small (stem_plain m)) (plain_lacks c (suffix_of m) small (suffix_plain m))
 
 pub name_lacks : (m : Mnemonic) → Lacks 32 (name_of m)
-name_lacks m = lacks_append 32 (stem_of m) (suffix_of m) (stem_lacks m) (suffix_lacks m)
+name_lacks m = name_lacks_any 32 (omega arith) m
+
+-- nor begins as a comment
+alu_statement : (x : AluOp) (rest : List ℕ) → is_comment (alu_stem x ++ rest) ≡ false
+alu_statement alu.Add rest = refl
+alu_statement alu.Sub rest = refl
+alu_statement alu.Mul rest = refl
+alu_statement alu.Div rest = refl
+alu_statement alu.SignedDiv rest = refl
+alu_statement alu.Or rest = refl
+alu_statement alu.And rest = refl
+alu_statement alu.ShiftLeft rest = refl
+alu_statement alu.ShiftRight rest = refl
+alu_statement alu.Mod rest = refl
+alu_statement alu.SignedMod rest = refl
+alu_statement alu.Xor rest = refl
+alu_statement alu.Move rest = refl
+alu_statement alu.ShiftRightSigned rest = refl
+
+condition_statement : (x : Condition) (rest : List ℕ) → is_comment (condition_stem x ++ rest) ≡ false
+condition_statement condition.Equal rest = refl
+condition_statement condition.Greater rest = refl
+condition_statement condition.GreaterOrEqual rest = refl
+condition_statement condition.SharesBits rest = refl
+condition_statement condition.NotEqual rest = refl
+condition_statement condition.SignedGreater rest = refl
+condition_statement condition.SignedGreaterOrEqual rest = refl
+condition_statement condition.Less rest = refl
+condition_statement condition.LessOrEqual rest = refl
+condition_statement condition.SignedLess rest = refl
+condition_statement condition.SignedLessOrEqual rest = refl
+
+order_statement : (x : ByteOrder) (rest : List ℕ) → is_comment (order_stem x ++ rest) ≡ false
+order_statement ToLittle rest = refl
+order_statement ToBig rest = refl
+order_statement Swap rest = refl
+
+pub stem_statement : (m : Mnemonic) (rest : List ℕ) → is_comment (stem_of m ++ rest) ≡ false
+stem_statement (Alu op size) rest = alu_statement op rest
+stem_statement (MoveSigned size) rest = refl
+stem_statement (Negate size) rest = refl
+stem_statement (ByteSwap order width) rest = order_statement order rest
+stem_statement LoadNumber rest = refl
+stem_statement LoadMap rest = refl
+stem_statement Jump rest = refl
+stem_statement JumpLong rest = refl
+stem_statement (JumpIf condition size) rest = condition_statement condition rest
+stem_statement (Call kind) rest = refl
+stem_statement Exit rest = refl
+stem_statement (Load width) rest = refl
+stem_statement (LoadSigned width) rest = refl
+stem_statement (Store width) rest = refl
+stem_statement (StoreRegister width) rest = refl

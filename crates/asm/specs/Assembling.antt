@@ -1,7 +1,7 @@
 -- Words of the assembler's own contracts: what one line adds, and how a text is refused.
-use Rattle.std.specs.Prelude.{ℕ, ◌≡◌, ◌+◌, true, false, List, [], ◌∷◌, ◌++◌}
+use Rattle.std.specs.Prelude.{ℕ, ◌≡◌, ◌+◌, ◌<◌, true, false, List, [], ◌∷◌, ◌++◌}
 use Rattle.bpf_model.specs.declared.insn.Insn.{Insn}
-use Rattle.bpf_model.specs.Spelling.{FitsInsn}
+use Rattle.bpf_model.specs.Spelling.{FitsInsn, slot_total}
 use Rattle.disasm.specs.Text.{line_of}
 use Rattle.asm.specs.Faults.{is_comment, IsFlawed, IsFirstFlaw}
 use Rattle.asm.specs.declared.fault.LineFlaw.TheVariants as flaw
@@ -32,3 +32,10 @@ IsTextFault text (faults.BadOperand n) = IsFirstFlaw text flaw.OutOfRange n
 IsTextFault text faults.TooLong = ⊥
 IsTextFault text faults.Empty = ⊥
 IsTextFault text faults.Memory = Unit {0}
+
+abbrev pub IsSizeFault : List Insn → AsmFault → Type 0
+IsSizeFault is (faults.BadLine n) = ⊥
+IsSizeFault is (faults.BadOperand n) = ⊥
+IsSizeFault is faults.TooLong = 4096 < slot_total is
+IsSizeFault is faults.Empty = is ≡ []
+IsSizeFault is faults.Memory = Unit {0}

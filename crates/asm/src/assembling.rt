@@ -5,7 +5,7 @@ ghost use Rattle.bpf_model.specs.Spelling.{FitsInsn, IsProgram, slot_total};
 ghost use Rattle.bpf_model.specs.declared.insn.Insn.{Insn as InsnOf};
 ghost use Rattle.disasm.specs.Text.{line_of, program_text};
 ghost use Rattle.asm.specs.Faults.{is_comment as is_comment_line, statements_in, IsFault};
-ghost use Rattle.asm.specs.Assembling.{Adds, IsLineFault, IsTextFault};
+ghost use Rattle.asm.specs.Assembling.{Adds, IsLineFault, IsTextFault, IsSizeFault};
 
 use crate::fault::{AsmFault, LineFlaw};
 use crate::line::read_insn;
@@ -78,6 +78,22 @@ fn has_room(instructions: &[Insn]) -> bool
     true
 }
 
+/// The program of the instructions.
+fn program_of(alloc: Global, instructions: Vec<Insn>) -> Result<Program, AsmFault>
+    requires { AllByRecursion FitsInsn instructions.items }
+    ensures made { IfOk result (λ p. p ≡ instructions.items) }
+    ensures program { IfOk result IsProgram }
+    ensures fault { IfErr result (IsSizeFault instructions.items) }
+{
+    if !has_room(&instructions) {
+        return Err(AsmFault::TooLong);
+    }
+    if instructions.is_empty() {
+        return Err(AsmFault::Empty);
+    }
+    Ok(Program::from_instructions(alloc, instructions)?)
+}
+
 /// The program whose instructions' texts are the lines of the text, empty lines and lines that begin with
 /// `;` left out. Only a line feed ends a line, and the last may be missing.
 ///
@@ -97,11 +113,5 @@ pub fn assemble(alloc: Global, text: &str) -> Result<Program, AsmFault>
     ensures fault { IfErr result (IsFault text.now) }
 {
     let instructions = read_lines(alloc, text)?;
-    if !has_room(&instructions) {
-        return Err(AsmFault::TooLong);
-    }
-    if instructions.is_empty() {
-        return Err(AsmFault::Empty);
-    }
-    Ok(Program::from_instructions(alloc, instructions)?)
+    program_of(alloc, instructions)
 }

@@ -7,9 +7,7 @@ ghost use Rattle.bpf_model.specs.declared.insn.SignExtension.{SignExtension as S
 ghost use Rattle.disasm.specs.Text.{number as number_of, offset as offset_of, memory as memory_of, source as source_of, mnemonic_of, arguments_of};
 ghost use Rattle.asm.specs.Reading.{IsOnly};
 
-use crate::operand::{
-    extension, long_offset, memory, number, offset, register, source, unsigned,
-};
+use crate::operand::{extension, long_offset, memory, number, offset, register, source, unsigned};
 use disasm::{Argument, Arguments, Mnemonic, Statement};
 use insn_codec::{
     AluOp, ByteOrder, CallKind, Condition, Insn, SignedWidth, Size, SwapWidth, Width,

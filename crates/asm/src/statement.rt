@@ -32,10 +32,7 @@ fn read_two(first: &str, second: &str) -> Option<Arguments>
     ensures found { IfSome result (λ s. (a : ArgumentOf) × (b : ArgumentOf) × (first.now ≡ argument_text a) × (second.now ≡ argument_text b) × (s ≡ Arguments.Two (capped_argument a) (capped_argument b))) }
     ensures only { (a b : ArgumentOf) → first.now ≡ argument_text a → second.now ≡ argument_text b → result ≡ Some (Arguments.Two (capped_argument a) (capped_argument b)) }
 {
-    Some(Arguments::Two(
-        read_argument(first)?,
-        read_argument(second)?,
-    ))
+    Some(Arguments::Two(read_argument(first)?, read_argument(second)?))
 }
 
 fn read_three(first: &str, second: &str, third: &str) -> Option<Arguments>

@@ -12,9 +12,10 @@ pub returns-then-not-is_formed-clause-flaw : goal.returns-then-not-is_formed-cla
 returns-then-not-is_formed-clause-flaw c h = true_no _ c.if-not-is_formed.ensures (formed_line c.args.line.now c.in-Some.statement c.in-Some.ensures.only h)
 
 pub returns-in-Some-insn_from-clause-found : goal.returns-in-Some-insn_from-clause-found
-returns-in-Some-insn_from-clause-found c =
-    ( c.in-Some-insn_from.ensures.found.0
-    , text_is c.args.line.now c.in-Some.statement c.in-Some.ensures.found c.in-Some-insn_from.insn c.in-Some-insn_from.ensures.found.0 c.in-Some-insn_from.ensures.found.1 c.in-Some-insn_from.ensures.found.2 )
+returns-in-Some-insn_from-clause-found c = (
+  c.in-Some-insn_from.ensures.found.0,
+  text_is c.args.line.now c.in-Some.statement c.in-Some.ensures.found c.in-Some-insn_from.insn c.in-Some-insn_from.ensures.found.0 c.in-Some-insn_from.ensures.found.1 c.in-Some-insn_from.ensures.found.2,
+)
 
 pub returns-in-Some-insn_from-clause-only : goal.returns-in-Some-insn_from-clause-only
 returns-in-Some-insn_from-clause-only c = ok_is c.args.line.now c.in-Some.statement c.in-Some-insn_from.insn c.in-Some.ensures.only c.in-Some-insn_from.ensures.only
@@ -23,6 +24,7 @@ pub returns-in-None-clause-only : goal.returns-in-None-clause-only
 returns-in-None-clause-only c i h e = absurd (not_insn c.args.line.now c.in-Some.statement c.in-Some.ensures.only c.in-None.ensures.only i h e)
 
 pub returns-in-None-clause-flaw : goal.returns-in-None-clause-flaw
-returns-in-None-clause-flaw c =
-    ( has_form c.args.line.now c.in-Some.statement c.in-Some.ensures.found (sym c.if-not-is_formed.ensures)
-    , (λ h. not_insn c.args.line.now c.in-Some.statement c.in-Some.ensures.only c.in-None.ensures.only h.instruction h.fits h.text) )
+returns-in-None-clause-flaw c = (
+  has_form c.args.line.now c.in-Some.statement c.in-Some.ensures.found (sym c.if-not-is_formed.ensures),
+  (λ h. not_insn c.args.line.now c.in-Some.statement c.in-Some.ensures.only c.in-None.ensures.only h.instruction h.fits h.text),
+)

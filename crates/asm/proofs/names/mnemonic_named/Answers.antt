@@ -1,5 +1,4 @@
-use Rattle.std.proofs.Common.{sym, ap, ◌∙◌}
-use Rattle.disasm.specs.Text.{name_of}
+use Rattle.std.proofs.Common.{ap, ◌∙◌}
 use Rattle.asm.proofs.NameLaws.{named_found, named, again}
 use Rattle.asm.proofs.names.mnemonic_named.Goals as goal
 

@@ -1,10 +1,5 @@
-use Rattle.std.proofs.Common.{rules, ℕ, ◌≡◌, ◌+◌, ◌-◌, ◌*◌, ◌<◌, ◌≤◌, ◌≢◌, ◌∷◌, [], ◌++◌, List, length, take, get_or, arith, refl, sym, ◌∙◌, ap, true}
-use Rattle.std.specs.Char.{is_ascii_digit}
-use Rattle.std.specs.Int.{IsInRange}
-use Rattle.std.proofs.lemmas.List.{take_more}
-use Rattle.std.proofs.lemmas.Grind.{common_steps}
-use Rattle.asm.specs.Reading.{capped, glyphs}
-use Rattle.asm.proofs.Numerals.{IsReadSoFar, glyphs_push, read_more}
+use Rattle.std.proofs.Common.{rules}
+use Rattle.asm.proofs.Numerals.{read_more}
 use Rattle.asm.proofs.numeral.read_digits.Goals as goal
 
 pub loop-digit-preserved : goal.loop-digit-preserved

@@ -1,5 +1,4 @@
-use Rattle.std.proofs.Common.{ℕ, ◌≡◌, ◌<◌, ◌≤◌, ◌^◌, take}
-use Rattle.asm.specs.Reading.{capped, glyphs}
+use Rattle.std.proofs.Common.{take}
 use Rattle.asm.proofs.numeral.read_digits.Given as goal
 use Rattle.asm.proofs.Numerals.{IsReadSoFar}
 

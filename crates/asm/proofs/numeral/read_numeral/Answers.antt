@@ -1,5 +1,5 @@
-use Rattle.std.proofs.Common.{rules, ℕ, ◌≡◌, arith, refl, sym, ◌∙◌, ap, get_or, length}
-use Rattle.asm.proofs.Numerals.{numeral_first, numeral_zero_only, numeral_not_long, digits_only}
+use Rattle.std.proofs.Common.{arith, ◌∙◌, ap, get_or, length}
+use Rattle.asm.proofs.Numerals.{numeral_zero_only, numeral_not_long, digits_only}
 use Rattle.asm.proofs.numeral.read_numeral.Goals as goal
 
 pub returns-in-48-clause-only : goal.returns-in-48-clause-only
