@@ -1,10 +1,9 @@
 -- An instruction is read again from its slots.
-use Rattle.std.proofs.Common.{◌≡◌, ℕ, ◌+◌, ◌-◌, ◌*◌, ◌/◌, ◌%◌, ◌^◌, ◌<◌, ◌≤◌, Bool, true, false, cond, eqb, not, List, [], ◌∷◌, ◌++◌, length, get_or, take, drop, Option, Some, None, Result, Ok, Err, refl, sym, ap, subst, ◌∙◌, arith, ℤ, pos, of_z, append_assoc, lit<, inl, inr}
+use Rattle.std.proofs.Common.{◌≡◌, ℕ, ◌+◌, ◌-◌, ◌*◌, ◌/◌, ◌%◌, ◌^◌, ◌<◌, Bool, true, false, cond, eqb, not, List, ◌∷◌, take, drop, Option, Some, None, refl, sym, ap, subst, ◌∙◌, arith, ℤ, pos, of_z}
 use Rattle.std.specs.Ordering.{int_eq}
-use Rattle.std.specs.Int.{w16, w32, cast_signed}
-use Rattle.std.specs.Prelude.{FitsSigned, option_to_list, nat_lt, IfOk, IfErr, IfSome}
-use Rattle.std.specs.List.{flat_map, AllByRecursion, sum_by}
-use Rattle.std.proofs.lemmas.Int.{ints, of_z-to_z}
+use Rattle.std.specs.Int.{w32, cast_signed}
+use Rattle.std.specs.Prelude.{option_to_list}
+use Rattle.std.proofs.lemmas.Int.{of_z-to_z}
 use Rattle.std.proofs.lemmas.Bool.Decides.{nat_tests}
 use Rattle.bpf_model.specs.declared.slot.Slot.{Slot}
 use Rattle.bpf_model.specs.declared.opcode.Size.{Size}
@@ -16,7 +15,6 @@ use Rattle.bpf_model.specs.declared.opcode.Opcode.{Opcode}
 use Rattle.bpf_model.specs.declared.opcode.Opcode.TheVariants as opcodes
 use Rattle.bpf_model.specs.declared.opcode.SwapWidth.{SwapWidth}
 use Rattle.bpf_model.specs.declared.opcode.SwapWidth.TheVariants as swap
-use Rattle.bpf_model.specs.declared.insn.Operand.{Operand}
 use Rattle.bpf_model.specs.declared.insn.Operand.TheVariants as operand
 use Rattle.bpf_model.specs.declared.insn.AluOp.{AluOp}
 use Rattle.bpf_model.specs.declared.insn.AluOp.TheVariants as operations
@@ -28,9 +26,8 @@ use Rattle.bpf_model.specs.declared.insn.Insn.{Insn}
 use Rattle.bpf_model.specs.declared.insn.Insn.TheVariants.{Alu, MoveSigned, Negate, ByteSwap, LoadNumber, LoadMap, Jump, JumpLong, JumpIf, Call, Exit, Load, LoadSigned, Store, StoreRegister}
 use Rattle.bpf_model.specs.Opcode.{opcode_byte}
 use Rattle.bpf_model.specs.Profile.{is_supported, is_admitted}
-use Rattle.bpf_model.specs.Spelling.{slot_bytes, slot_at, next_slot_at, FitsSlot, FitsInsn, FitsOperand, spelling, slots_of, slot_count, first_slot, tail_slot, opcode_of, code_of, offset_of, source_of, extension_size, extension_bits, swap_bits, call_source, text, slot_total, starts_from}
-use Rattle.insn_codec.specs.declared.flaw.Flaw.{Flaw}
-use Rattle.insn_codec.specs.Faults.{flaw_with, first_flaw, IsFlaw, IsOpcode}
+use Rattle.bpf_model.specs.Spelling.{FitsInsn, slots_of, slot_count, first_slot, opcode_of, code_of, offset_of, extension_size, extension_bits, swap_bits, call_source}
+use Rattle.insn_codec.specs.Faults.{flaw_with}
 
 abbrev pub Begins : Insn → Slot → Option Slot → Type 0
 Begins i s next = slots_of i ≡ take (slot_count i) (s ∷ option_to_list next)

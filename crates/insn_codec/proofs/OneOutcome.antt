@@ -1,21 +1,18 @@
 -- No two faults of one input, none where it is a text, and no two programs with one text.
-use Rattle.std.proofs.Common.{◌≡◌, ℕ, ◌+◌, ◌*◌, ◌%◌, ◌^◌, ◌<◌, ◌≤◌, Bool, true, false, List, [], ◌∷◌, ◌++◌, length, take, Option, Some, None, refl, sym, ap, subst, ◌∙◌, arith, append_assoc, drop, cond}
-use Rattle.std.specs.Prelude.{option_to_list}
+use Rattle.std.proofs.Common.{◌≡◌, ℕ, ◌*◌, ◌%◌, ◌<◌, ◌≤◌, Bool, true, List, [], ◌∷◌, ◌++◌, length, Option, Some, None, refl, sym, ap, subst, ◌∙◌, arith, append_assoc, drop, cond}
 use Rattle.std.specs.List.{AllByRecursion}
 use Rattle.std.proofs.lemmas.Bool.Decides.{nat_tests}
 use Rattle.std.proofs.lemmas.List.{append-nil, length-append}
-use Rattle.bpf_model.specs.declared.slot.Slot.{Slot}
 use Rattle.bpf_model.specs.declared.opcode.Opcode.{Opcode}
 use Rattle.bpf_model.specs.declared.insn.Insn.{Insn}
-use Rattle.bpf_model.specs.Opcode.{opcode_byte}
-use Rattle.bpf_model.specs.Profile.{is_supported, is_admitted}
+use Rattle.bpf_model.specs.Profile.{is_admitted}
 use Rattle.bpf_model.specs.Spelling.{FitsInsn, IsInProfile, IsProgram, spelling, text, slot_at, next_slot_at, slot_count, slot_total, opcode_of}
 use Rattle.insn_codec.specs.declared.fault.DecodeFault.{DecodeFault}
 use Rattle.insn_codec.specs.declared.fault.DecodeFault.TheVariants as faults
 use Rattle.insn_codec.specs.declared.flaw.Flaw.{Flaw}
 use Rattle.insn_codec.specs.declared.flaw.Flaw.TheVariants.{OutsideProfile}
-use Rattle.insn_codec.specs.Faults.{flaw_with, first_flaw, IsOpcode, IsFlaw, IsFlawAt, IsFlawed, IsFault, whole_fault}
-use Rattle.insn_codec.proofs.InsnLaws.{Begins, opcode_is, supported, no_flaw, same}
+use Rattle.insn_codec.specs.Faults.{flaw_with, first_flaw, IsOpcode, IsFlawAt, IsFault, whole_fault}
+use Rattle.insn_codec.proofs.InsnLaws.{opcode_is, supported, no_flaw, same}
 use Rattle.insn_codec.proofs.TextLaws.{Again, again}
 use Rattle.insn_codec.proofs.DecodeLoop.{total_cons, slot_count_pos, length_text}
 use Rattle.insn_codec.proofs.Injective.{injective}

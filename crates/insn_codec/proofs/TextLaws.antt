@@ -1,21 +1,13 @@
 -- An instruction at the front of bytes, and its slots.
-use Rattle.std.proofs.Common.{◌≡◌, ℕ, ◌+◌, ◌-◌, ◌*◌, ◌/◌, ◌%◌, ◌^◌, ◌<◌, ◌≤◌, Bool, true, false, cond, List, [], ◌∷◌, ◌++◌, length, get_or, take, drop, Option, Some, None, Result, Ok, Err, refl, sym, ap, subst, ◌∙◌, arith, ℤ, pos, of_z, append_assoc, lit<, inl, inr}
+use Rattle.std.proofs.Common.{◌≡◌, ℕ, ◌*◌, ◌/◌, ◌%◌, ◌^◌, ◌<◌, ◌≤◌, List, [], ◌∷◌, ◌++◌, length, take, drop, Option, Some, None, refl, sym, ap, ◌∙◌, arith, ℤ, pos, inl, inr}
 use Rattle.std.specs.Int.{w16, w32, cast_signed}
-use Rattle.std.specs.Prelude.{FitsSigned, option_to_list, nat_lt, IfOk, IfErr, IfSome}
-use Rattle.std.specs.List.{flat_map, AllByRecursion, sum_by}
-use Rattle.std.proofs.lemmas.Int.{ints, of_z-to_z}
-use Rattle.std.proofs.lemmas.Bool.Decides.{nat_tests}
+use Rattle.std.specs.Prelude.{FitsSigned, option_to_list}
+use Rattle.std.specs.List.{flat_map}
+use Rattle.std.proofs.lemmas.Int.{ints}
 use Rattle.bpf_model.specs.declared.slot.Slot.{Slot}
-use Rattle.bpf_model.specs.declared.opcode.Size.{Size}
-use Rattle.bpf_model.specs.declared.opcode.Size.TheVariants.{Word32, Word64}
-use Rattle.bpf_model.specs.declared.opcode.Source.TheVariants as sources
-use Rattle.bpf_model.specs.declared.opcode.AluCode.{AluCode}
-use Rattle.bpf_model.specs.declared.opcode.AluCode.TheVariants as codes
 use Rattle.bpf_model.specs.declared.opcode.Opcode.{Opcode}
-use Rattle.bpf_model.specs.declared.opcode.Opcode.TheVariants as opcodes
 use Rattle.bpf_model.specs.declared.opcode.SwapWidth.{SwapWidth}
 use Rattle.bpf_model.specs.declared.opcode.SwapWidth.TheVariants as swap
-use Rattle.bpf_model.specs.declared.insn.Operand.{Operand}
 use Rattle.bpf_model.specs.declared.insn.Operand.TheVariants as operand
 use Rattle.bpf_model.specs.declared.insn.AluOp.{AluOp}
 use Rattle.bpf_model.specs.declared.insn.AluOp.TheVariants as operations
@@ -26,10 +18,9 @@ use Rattle.bpf_model.specs.declared.insn.CallKind.TheVariants.{Helper, Kernel}
 use Rattle.bpf_model.specs.declared.insn.Insn.{Insn}
 use Rattle.bpf_model.specs.declared.insn.Insn.TheVariants.{Alu, MoveSigned, Negate, ByteSwap, LoadNumber, LoadMap, Jump, JumpLong, JumpIf, Call, Exit, Load, LoadSigned, Store, StoreRegister}
 use Rattle.bpf_model.specs.Opcode.{opcode_byte}
-use Rattle.bpf_model.specs.Profile.{is_supported, is_admitted}
-use Rattle.bpf_model.specs.Spelling.{slot_bytes, slot_at, next_slot_at, FitsSlot, FitsInsn, FitsOperand, spelling, slots_of, slot_count, first_slot, tail_slot, opcode_of, code_of, offset_of, source_of, extension_size, extension_bits, swap_bits, call_source, text, slot_total, starts_from}
+use Rattle.bpf_model.specs.Spelling.{slot_bytes, slot_at, next_slot_at, FitsSlot, FitsInsn, spelling, slots_of, slot_count, first_slot, tail_slot, opcode_of, offset_of, extension_bits, swap_bits, call_source}
 use Rattle.std.proofs.lemmas.Bool.{cases_lt, lt-ltb, le-ltb}
-use Rattle.std.proofs.lemmas.List.{drop_at, drop-drop, length-append, length-drop, append-nil}
+use Rattle.std.proofs.lemmas.List.{drop-drop, length-append, length-drop}
 use Rattle.insn_codec.proofs.SlotLaws.{IsBytes, IsBytes-drop, slot_again, slot_at-slot_bytes}
 use Rattle.insn_codec.proofs.InsnLaws.{Begins, heads}
 

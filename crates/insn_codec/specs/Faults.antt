@@ -1,5 +1,5 @@
 -- Why bytes are no program: the whole input is tested first, then each instruction from the first slot on, and the first test that fails is told.
-use Rattle.std.specs.Prelude.{◌≡◌, ◌≢◌, ℕ, ◌<◌, pos, ◌==◌, Bool, true, false, ◌||◌, ◌&&◌, not, nat_lt, Option, Some, None, List, [], ◌∷◌, if◌then◌else◌, ◌++◌, ◌%◌, length, ◌⊎◌}
+use Rattle.std.specs.Prelude.{◌≡◌, ◌≢◌, ℕ, ◌<◌, pos, ◌==◌, Bool, true, false, ◌||◌, ◌&&◌, not, nat_lt, Option, Some, None, List, if◌then◌else◌, ◌++◌, ◌%◌, length}
 use Rattle.std.specs.Ordering.{int_eq}
 use Rattle.bpf_model.specs.declared.slot.Slot.{Slot}
 use Rattle.bpf_model.specs.declared.opcode.Source.{Source}

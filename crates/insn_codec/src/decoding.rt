@@ -15,7 +15,7 @@ use crate::slots::{next_slot_from, slot_from};
 use bpf_model::{Insn, MAX_SLOTS};
 use std::alloc::Global;
 
-/// The instruction at the front, and the bytes after it.
+/// The instruction at the front of the bytes, and the bytes behind it.
 fn decode_first(bytes: &[u8]) -> Result<(Insn, &[u8]), Flaw>
     requires { 8 ≤ length bytes.now }
     ensures found { IfOk result (λ x. bytes.now ≡ spelling x.0 ++ x.1.now) }
@@ -55,11 +55,11 @@ fn decode_all(alloc: Global, bytes: &[u8]) -> Result<(Vec<Insn>, Vec<usize>), De
     Ok((instructions, starts))
 }
 
-/// The program that the bytes spell.
+/// The program that the bytes spell: 8 to 32,768 bytes, 8 for each slot, little-endian.
 ///
 /// The length is tested first: `Length`, `Empty`, `TooLong`. Then instruction after instruction is read, and
-/// `Insn` tells the first that is flawed, with its first flaw in the order of `Flaw` (an opcode outside the
-/// profile before an unknown one; no opcode is both). `Memory` is told where an allocation failed.
+/// `Insn` tells the first that is flawed, with the slot where it begins and its first flaw in the order of
+/// `Flaw`. `Memory` is told where an allocation failed.
 pub fn decode(alloc: Global, bytes: &[u8]) -> Result<Program, DecodeFault>
     // What is read is spelled so.
     ensures found { IfOk result (λ p. bytes.now ≡ text p) }

@@ -62,7 +62,7 @@ fn swap_bits(width: SwapWidth) -> i32
     }
 }
 
-/// Source, source register and immediate number of an operand.
+/// The source bit, the source register and imm of an operand.
 fn operand_parts(operand: Operand) -> (Source, u8, i32)
     requires { FitsOperand operand }
     ensures { result ≡ (source_of operand, operand_src operand, operand_imm operand) }
@@ -224,7 +224,7 @@ fn put(out: &mut Vec<u8>, instruction: Insn) -> Result<(), AllocError>
     Ok(())
 }
 
-/// The one text of the program.
+/// The bytes that spell the program: 8 for each of its slots, little-endian. An error says that an allocation failed.
 pub fn encode(alloc: Global, program: &Program) -> Result<Vec<u8>, AllocError>
     ensures { IfOk result (λ v. v.items ≡ text program.now) }
 {

@@ -26,3 +26,6 @@ pub use fault::DecodeFault;
 pub use flaw::Flaw;
 pub use law::{no_fault, one_fault, one_program};
 pub use program::Program;
+
+#[cfg(test)]
+mod tests;

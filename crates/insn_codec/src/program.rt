@@ -59,7 +59,8 @@ impl Program {
         }
     }
 
-    /// The program of these instructions.
+    /// The program of these instructions, whatever the profile of the decoder. An error says that an
+    /// allocation failed.
     pub fn from_instructions(alloc: Global, instructions: Vec<Insn>) -> Result<Program, AllocError>
         requires { IsProgram instructions.items }
         ensures { IfOk result (λ p. p ≡ instructions.items) }
@@ -114,7 +115,7 @@ impl Program {
         self.starts[index]
     }
 
-    /// An equal program.
+    /// An equal program. An error says that an allocation failed.
     pub fn copy(&self, alloc: Global) -> Result<Program, AllocError>
         ensures { IfOk result (λ p. p ≡ self.now) }
     {

@@ -50,7 +50,7 @@ fn has_unused_field(opcode: Opcode, slot: Slot) -> bool
     }
 }
 
-/// What divides the codes with more than one operation: the offset.
+/// The operation of a code, which the offset tells where the code has two.
 fn op_of(code: AluCode, offset: i16) -> Option<AluOp>
     ensures some { IfSome result (λ p. (code_of p ≡ code) × (offset_of p ≡ offset)) }
     ensures none { IsNone result → (offset ≢ pos 0) × ((code ≡ AluCode.Div) ⊎ (code ≡ AluCode.Mod) → offset ≢ pos 1) }
@@ -101,7 +101,7 @@ fn swap_width_of(imm: i32) -> Option<SwapWidth>
     }
 }
 
-/// The number of two halves.
+/// The 64-bit number of its low and its high half.
 fn joined(low: i32, high: i32) -> u64
     ensures low { cast_signed w32 (result % 2 ^ 32) ≡ low }
     ensures high { cast_signed w32 (result / 2 ^ 32) ≡ high }

@@ -1,8 +1,6 @@
-use Rattle.std.proofs.Common.{◌≡◌, ℕ, ◌<◌, ◌≤◌, List, [], ◌∷◌, ◌++◌, length, Bool, true, false, eqb, Result, Ok, Err, refl, sym, ap, ◌∙◌, arith, subst, zero, suc}
+use Rattle.std.proofs.Common.{◌≡◌, ℕ, ◌<◌, true, false, eqb, Result, Ok, Err, arith}
 use Rattle.std.specs.Prelude.{IfOk, IsOk}
-use Rattle.bpf_model.specs.declared.insn.Insn.{Insn}
-use Rattle.bpf_model.specs.Spelling.{FitsInsn, text, spelling, slot_count}
-use Rattle.insn_codec.proofs.DecodeLoop.{ReadSoFar, Only, NotSpelled, goes_on, stops, ends}
+use Rattle.insn_codec.proofs.DecodeLoop.{goes_on, stops, ends}
 use Rattle.insn_codec.proofs.decoding.decode_all.Goals as goal
 use Rattle.std.proofs.lemmas.Bool.Decides.{nat_tests}
 use Rattle.std.proofs.lemmas.Result.{IfOk-at_ok}

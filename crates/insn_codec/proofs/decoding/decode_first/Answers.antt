@@ -1,5 +1,4 @@
-use Rattle.std.proofs.Common.{◌≡◌, ℕ, ◌-◌, ◌*◌, ◌≤◌, List, ◌++◌, length, take, drop, Option, Result, Ok, Err, sym, ap, ◌∙◌, refl, arith, subst}
-use Rattle.std.specs.Prelude.{IfOk, IsOk}
+use Rattle.std.proofs.Common.{◌≡◌, ℕ, ◌-◌, ◌*◌, List, ◌++◌, length, take, drop, Option, sym, refl, arith, subst}
 use Rattle.std.proofs.lemmas.Result.{err_from_is_err_and}
 use Rattle.std.proofs.lemmas.List.{take_all, length-drop}
 use Rattle.bpf_model.specs.declared.slot.Slot.{Slot}
@@ -8,7 +7,7 @@ use Rattle.bpf_model.specs.Spelling.{FitsInsn, spelling, slot_count, slot_at, ne
 use Rattle.insn_codec.specs.declared.flaw.Flaw.{Flaw}
 use Rattle.insn_codec.specs.Faults.{IsFlaw, IsFlawAt}
 use Rattle.insn_codec.proofs.InsnLaws.{Begins}
-use Rattle.insn_codec.proofs.TextLaws.{Front, front_of, Again, again}
+use Rattle.insn_codec.proofs.TextLaws.{front_of, again}
 use Rattle.insn_codec.proofs.decoding.decode_first.Goals as goal
 
 flaw_at : (bytes : List ℕ) (s : Slot) (next : Option Slot) (f : Flaw) → s ≡ slot_at bytes → next ≡ next_slot_at bytes → IsFlaw s next f → IsFlawAt bytes f

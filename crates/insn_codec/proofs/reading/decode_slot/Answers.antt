@@ -1,13 +1,12 @@
-use Rattle.std.proofs.Common.{◌≡◌, Option, Some, None, Result, Ok, Err, sym, ap, ◌∙◌, refl, Bool, true, false, rules}
-use Rattle.std.specs.Prelude.{IfOk, IfErr, option_to_list}
+use Rattle.std.proofs.Common.{◌≡◌, Option, Some, Result, Ok, Err, ap, ◌∙◌, true}
+use Rattle.std.specs.Prelude.{IfOk, IfErr}
 use Rattle.bpf_model.specs.declared.slot.Slot.{Slot}
 use Rattle.bpf_model.specs.declared.opcode.Opcode.{Opcode}
 use Rattle.bpf_model.specs.declared.insn.Insn.{Insn}
-use Rattle.bpf_model.specs.Opcode.{opcode_byte}
-use Rattle.bpf_model.specs.Profile.{is_supported, is_admitted}
+use Rattle.bpf_model.specs.Profile.{is_admitted}
 use Rattle.bpf_model.specs.Spelling.{FitsInsn, opcode_of}
 use Rattle.insn_codec.specs.declared.flaw.Flaw.{Flaw}
-use Rattle.insn_codec.specs.Faults.{flaw_with, IsFlaw, IsOpcode, first_flaw}
+use Rattle.insn_codec.specs.Faults.{flaw_with}
 use Rattle.insn_codec.proofs.InsnLaws.{Begins, opcode_is, supported, no_flaw, same}
 use Rattle.insn_codec.proofs.reading.decode_slot.Goals as goal
 
