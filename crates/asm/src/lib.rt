@@ -19,3 +19,6 @@ mod statement;
 
 pub use assembling::assemble;
 pub use fault::AsmFault;
+
+#[cfg(test)]
+mod tests;
