@@ -52,7 +52,7 @@ some_slots (i ∷ is) h =
 has_form : (line : List ℕ) → IsInsnLine line → HasForm line
 has_form line h = record { statement = statement_of h.instruction; text = h.text; formed = formed_of h.instruction }
 
-flaw_no : (line : List ℕ) (f : LineFlaw) → IsFlawed line f → IsInsnLine line → ⊥
+pub flaw_no : (line : List ℕ) (f : LineFlaw) → IsFlawed line f → IsInsnLine line → ⊥
 flaw_no line NoForm flawed h = flawed (has_form line h)
 flaw_no line OutOfRange flawed h = flawed.1 h
 
@@ -68,7 +68,7 @@ step_line first rest line is true s more fits e = more is fits (sym (kept true f
 step_line first rest line [] false s more fits e = absurd (cons_no first (filter keeps rest) (sym (kept false first rest s) ∙ e))
 step_line first rest line (i ∷ is) false s more fits e = more is fits.1 (same_tail first (line_of i) (filter keeps rest) (map line_of is) (sym (kept false first rest s) ∙ e)).1
 
-is_insn_line : (front : List (List ℕ)) (line : List ℕ) (rest : List (List ℕ)) (is : List Insn) → is_comment line ≡ false → AllByRecursion FitsInsn is → filter keeps (front ++ line ∷ rest) ≡ map line_of is → IsInsnLine line
+pub is_insn_line : (front : List (List ℕ)) (line : List ℕ) (rest : List (List ℕ)) (is : List Insn) → is_comment line ≡ false → AllByRecursion FitsInsn is → filter keeps (front ++ line ∷ rest) ≡ map line_of is → IsInsnLine line
 is_insn_line [] line rest is s fits e = head_line line (filter keeps rest) is fits (sym (kept false line rest s) ∙ e)
 is_insn_line (first ∷ front) line rest is s fits e =
     step_line first (front ++ line ∷ rest) line is (is_comment first) refl (λ is2 fits2 e2. is_insn_line front line rest is2 s fits2 e2) fits e

@@ -1,6 +1,7 @@
 mod ArgumentLaws
 mod Assembled
 mod Cuts
+mod FaultLaws
 mod FormLaws
 mod Lacking
 mod LineLaws

@@ -10,11 +10,9 @@ ghost use Rattle.asm.specs.Assembling.{Adds, IsLineFault, IsTextFault, IsSizeFau
 use crate::fault::{AsmFault, LineFlaw};
 use crate::line::read_insn;
 use crate::pieces::cut;
+use bpf_model::MAX_SLOTS;
 use insn_codec::{Insn, Program};
 use std::alloc::Global;
-
-/// The most slots of a program.
-const MAX_SLOTS: usize = 4096;
 
 /// Whether the line stands for no instruction: it is empty, or begins with `;`.
 fn is_comment(line: &str) -> bool

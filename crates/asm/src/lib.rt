@@ -10,6 +10,7 @@ mod assembling;
 mod fault;
 mod form;
 mod insn;
+mod law;
 mod line;
 mod names;
 mod numeral;
@@ -19,6 +20,7 @@ mod statement;
 
 pub use assembling::assemble;
 pub use fault::AsmFault;
+pub use law::one_fault;
 
 #[cfg(test)]
 mod tests;

@@ -5,6 +5,305 @@ use insn_codec::encode;
 use std::alloc::{AllocError, Global};
 use std::test::Fail;
 
+/// Every mnemonic at least once, and the ends of the ranges.
+const EVERY_LINE: &str = "add64 r1, r3\n\
+add32 r2, 14\n\
+sub64 r3, r9\n\
+sub32 r4, 28\n\
+mul64 r5, r4\n\
+mul32 r6, 42\n\
+div64 r7, r10\n\
+div32 r8, 56\n\
+sdiv64 r9, r5\n\
+sdiv32 r0, 70\n\
+or64 r1, r0\n\
+or32 r2, 84\n\
+and64 r3, r6\n\
+and32 r4, 98\n\
+lsh64 r5, r1\n\
+lsh32 r6, 112\n\
+rsh64 r7, r7\n\
+rsh32 r8, 126\n\
+mod64 r9, r2\n\
+mod32 r0, 140\n\
+smod64 r1, r8\n\
+smod32 r2, 154\n\
+xor64 r3, r3\n\
+xor32 r4, 168\n\
+mov64 r5, r9\n\
+mov32 r6, 182\n\
+arsh64 r7, r4\n\
+arsh32 r8, 196\n\
+mov64 r0, 2147483647\n\
+mov32 r0, -2147483648\n\
+movsx64 r1, r2, 8\n\
+movsx64 r1, r2, 16\n\
+movsx64 r1, r2, 32\n\
+movsx32 r1, r2, 8\n\
+movsx32 r1, r2, 16\n\
+neg64 r3\n\
+neg32 r4\n\
+le16 r5\n\
+le32 r5\n\
+le64 r5\n\
+be16 r5\n\
+be32 r5\n\
+be64 r5\n\
+swap16 r5\n\
+swap32 r5\n\
+swap64 r5\n\
+ja +1\n\
+ja -32768\n\
+ja32 +2147483647\n\
+ja32 -1\n\
+jeq r1, -1, -5\n\
+jeq32 r2, r3, +10\n\
+jgt r3, -3, -15\n\
+jgt32 r4, r6, +20\n\
+jge r5, -5, -25\n\
+jge32 r6, r9, +30\n\
+jset r7, -7, -35\n\
+jset32 r8, r1, +40\n\
+jne r9, -9, -45\n\
+jne32 r0, r4, +50\n\
+jsgt r1, -11, -55\n\
+jsgt32 r2, r7, +60\n\
+jsge r3, -13, -65\n\
+jsge32 r4, r10, +70\n\
+jlt r5, -15, -75\n\
+jlt32 r6, r2, +80\n\
+jle r7, -17, -85\n\
+jle32 r8, r5, +90\n\
+jslt r9, -19, -95\n\
+jslt32 r0, r8, +100\n\
+jsle r1, -21, -105\n\
+jsle32 r2, r0, +110\n\
+jeq r0, 0, +0\n\
+call 5\n\
+call -1\n\
+callbtf 7\n\
+ldxb r2, [r10-8]\n\
+ldxh r2, [r10-8]\n\
+ldxw r2, [r10-8]\n\
+ldxdw r2, [r10-8]\n\
+ldxsb r3, [r1+32767]\n\
+ldxsh r3, [r1+32767]\n\
+ldxsw r3, [r1+32767]\n\
+stb [r10-4], -5\n\
+sth [r10-4], -5\n\
+stw [r10-4], -5\n\
+stdw [r10-4], -5\n\
+stxb [r4+0], r9\n\
+stxh [r4+0], r9\n\
+stxw [r4+0], r9\n\
+stxdw [r4+0], r9\n\
+lddw r0, 8589934593\n\
+lddw r6, 18446744073709551615\n\
+lddw r6, 0\n\
+ldmap r1, 15\n\
+ldmap r10, -1\n\
+exit\n";
+
+/// The slots of these lines, eight bytes each: opcode, registers (source, then destination), offset, imm.
+const EVERY_SLOT: &str = "0f31000000000000\
+040200000e000000\
+1f93000000000000\
+140400001c000000\
+2f45000000000000\
+240600002a000000\
+3fa7000000000000\
+3408000038000000\
+3f59010000000000\
+3400010046000000\
+4f01000000000000\
+4402000054000000\
+5f63000000000000\
+5404000062000000\
+6f15000000000000\
+6406000070000000\
+7f77000000000000\
+740800007e000000\
+9f29000000000000\
+940000008c000000\
+9f81010000000000\
+940201009a000000\
+af33000000000000\
+a4040000a8000000\
+bf95000000000000\
+b4060000b6000000\
+cf47000000000000\
+c4080000c4000000\
+b7000000ffffff7f\
+b400000000000080\
+bf21080000000000\
+bf21100000000000\
+bf21200000000000\
+bc21080000000000\
+bc21100000000000\
+8703000000000000\
+8404000000000000\
+d405000010000000\
+d405000020000000\
+d405000040000000\
+dc05000010000000\
+dc05000020000000\
+dc05000040000000\
+d705000010000000\
+d705000020000000\
+d705000040000000\
+0500010000000000\
+0500008000000000\
+06000000ffffff7f\
+06000000ffffffff\
+1501fbffffffffff\
+1e320a0000000000\
+2503f1fffdffffff\
+2e64140000000000\
+3505e7fffbffffff\
+3e961e0000000000\
+4507ddfff9ffffff\
+4e18280000000000\
+5509d3fff7ffffff\
+5e40320000000000\
+6501c9fff5ffffff\
+6e723c0000000000\
+7503bffff3ffffff\
+7ea4460000000000\
+a505b5fff1ffffff\
+ae26500000000000\
+b507abffefffffff\
+be585a0000000000\
+c509a1ffedffffff\
+ce80640000000000\
+d50197ffebffffff\
+de026e0000000000\
+1500000000000000\
+8500000005000000\
+85000000ffffffff\
+8520000007000000\
+71a2f8ff00000000\
+69a2f8ff00000000\
+61a2f8ff00000000\
+79a2f8ff00000000\
+9113ff7f00000000\
+8913ff7f00000000\
+8113ff7f00000000\
+720afcfffbffffff\
+6a0afcfffbffffff\
+620afcfffbffffff\
+7a0afcfffbffffff\
+7394000000000000\
+6b94000000000000\
+6394000000000000\
+7b94000000000000\
+18000000010000000000000002000000\
+18060000ffffffff00000000ffffffff\
+18060000000000000000000000000000\
+185100000f0000000000000000000000\
+185a0000ffffffff0000000000000000\
+9500000000000000";
+
+/// Lines that have no form.
+const NO_FORM: &str = "mov64 r0\n\
+mov64\n\
+mov64 \n\
+mov64 r0,\n\
+mov64 r0, 1, 2\n\
+movsx64 r0, r1\n\
+exit r0\n\
+exit \n\
+neg64 r0, r1\n\
+jeq r0, r1, +1, +1\n\
+r0\n\
+ja 1\n\
+ja +-1\n\
+ja -0\n\
+ja32 2\n\
+mov64 r0, +1\n\
+mov64 r0, -0\n\
+mov64 r0, --1\n\
+call +1\n\
+lddw r0, -1\n\
+lddw r0, +1\n\
+movsx64 r0, r1, +8\n\
+movsx64 r0, r1, -8\n\
+jeq r0, 0, 1\n\
+ldxw r0, [r1-0]\n\
+mov64 r01, 1\n\
+mov64 r0, 01\n\
+mov64 r0, 00\n\
+ja +01\n\
+stb [r01+0], 1\n\
+stb [r1+00], 1\n\
+mov64 1, r0\n\
+mov64 r0, [r1+0]\n\
+ja r0\n\
+call r0\n\
+ldmap r1, r2\n\
+ldxw [r1+0], r0\n\
+stw r0, 1\n\
+stw [r0+0], r1\n\
+stxw [r0+0], 1\n\
+ldxw r0, [r1]\n\
+ldxw r0, [r1+]\n\
+ldxw r0, [r1+1\n\
+ldxw r0, [r1 +1]\n\
+ldxw r0, [1+1]\n\
+ldxw r0, r1+1]\n\
+ldxw r0, []\n\
+movsx64 r0, 1, 8\n\
+le24 r0\n\
+ldxsdw r0, [r1+0]\n\
+mov r0, 1\n\
+jeq64 r0, 1, +1\n\
+MOV64 r0, 1\n\
+mov64 R0, 1\n\
+exit;\n\
+ja32btf +1\n exit\n\
+exit\\r\n\
+\\texit\n \n ;\n\
+mov64  r0, 1\n\
+mov64\\tr0, 1\n\
+mov64 r0,1\n\
+mov64 r0 , 1\n\
+mov64 r0,  1\n\
+mov64 r0, 1 \n\
+mov64 r0, 0x10\n\
+mov64 r0, 1_000\n\
+mov64 r, 1\n\
+mov64 r-1, 1\n\
+mov64 r0, -\n\
+mov64 r0, ä";
+
+/// Lines with something out of its range.
+const OUT_OF_RANGE: &str = "mov64 r11, 1\n\
+mov64 r0, r11\n\
+mov64 r99999999999999999999, 1\n\
+neg64 r340282366920938463463374607431768211456\n\
+add64 r0, 4294967296\n\
+add64 r0, 2147483648\n\
+add64 r0, -2147483649\n\
+add64 r0, 99999999999999999999999999999999999999999999\n\
+movsx32 r0, r1, 32\n\
+movsx64 r0, r1, 7\n\
+movsx64 r0, r1, 64\n\
+movsx64 r0, r1, 18446744073709551624\n\
+ja +32768\n\
+ja -32769\n\
+ja +99999999999\n\
+ja32 +2147483648\n\
+ja32 -2147483649\n\
+jeq r0, 2147483648, +0\n\
+call 2147483648\n\
+callbtf -2147483649\n\
+lddw r0, 18446744073709551616\n\
+lddw r11, 0\n\
+ldmap r0, 2147483648\n\
+ldxb r0, [r11+0]\n\
+ldxb r0, [r1+32768]\n\
+stb [r1-32769], 0\n\
+stxb [r0+0], r11";
+
 /// The fault of the text: its number and its line.
 fn fault_of(alloc: Global, text: &str) -> Option<(u8, Option<usize>)> {
     match assemble(alloc, text) {
@@ -20,147 +319,15 @@ fn push_slot(bytes: &mut Vec<u8>, slot: u64) -> Result<(), AllocError> {
 
 #[test]
 fn every_mnemonic_and_back(rt: HostRuntime) -> Result<(), Fail> {
-    // each line, its slot, and the second slot of a wide instruction
-    let lines = [
-        ("add64 r1, r3", 0x0f31_0000_0000_0000, None),
-        ("add32 r2, 14", 0x0402_0000_0e00_0000, None),
-        ("sub64 r3, r9", 0x1f93_0000_0000_0000, None),
-        ("sub32 r4, 28", 0x1404_0000_1c00_0000, None),
-        ("mul64 r5, r4", 0x2f45_0000_0000_0000, None),
-        ("mul32 r6, 42", 0x2406_0000_2a00_0000, None),
-        ("div64 r7, r10", 0x3fa7_0000_0000_0000, None),
-        ("div32 r8, 56", 0x3408_0000_3800_0000, None),
-        ("sdiv64 r9, r5", 0x3f59_0100_0000_0000, None),
-        ("sdiv32 r0, 70", 0x3400_0100_4600_0000, None),
-        ("or64 r1, r0", 0x4f01_0000_0000_0000, None),
-        ("or32 r2, 84", 0x4402_0000_5400_0000, None),
-        ("and64 r3, r6", 0x5f63_0000_0000_0000, None),
-        ("and32 r4, 98", 0x5404_0000_6200_0000, None),
-        ("lsh64 r5, r1", 0x6f15_0000_0000_0000, None),
-        ("lsh32 r6, 112", 0x6406_0000_7000_0000, None),
-        ("rsh64 r7, r7", 0x7f77_0000_0000_0000, None),
-        ("rsh32 r8, 126", 0x7408_0000_7e00_0000, None),
-        ("mod64 r9, r2", 0x9f29_0000_0000_0000, None),
-        ("mod32 r0, 140", 0x9400_0000_8c00_0000, None),
-        ("smod64 r1, r8", 0x9f81_0100_0000_0000, None),
-        ("smod32 r2, 154", 0x9402_0100_9a00_0000, None),
-        ("xor64 r3, r3", 0xaf33_0000_0000_0000, None),
-        ("xor32 r4, 168", 0xa404_0000_a800_0000, None),
-        ("mov64 r5, r9", 0xbf95_0000_0000_0000, None),
-        ("mov32 r6, 182", 0xb406_0000_b600_0000, None),
-        ("arsh64 r7, r4", 0xcf47_0000_0000_0000, None),
-        ("arsh32 r8, 196", 0xc408_0000_c400_0000, None),
-        ("mov64 r0, 2147483647", 0xb700_0000_ffff_ff7f, None),
-        ("mov32 r0, -2147483648", 0xb400_0000_0000_0080, None),
-        ("movsx64 r1, r2, 8", 0xbf21_0800_0000_0000, None),
-        ("movsx64 r1, r2, 16", 0xbf21_1000_0000_0000, None),
-        ("movsx64 r1, r2, 32", 0xbf21_2000_0000_0000, None),
-        ("movsx32 r1, r2, 8", 0xbc21_0800_0000_0000, None),
-        ("movsx32 r1, r2, 16", 0xbc21_1000_0000_0000, None),
-        ("neg64 r3", 0x8703_0000_0000_0000, None),
-        ("neg32 r4", 0x8404_0000_0000_0000, None),
-        ("le16 r5", 0xd405_0000_1000_0000, None),
-        ("le32 r5", 0xd405_0000_2000_0000, None),
-        ("le64 r5", 0xd405_0000_4000_0000, None),
-        ("be16 r5", 0xdc05_0000_1000_0000, None),
-        ("be32 r5", 0xdc05_0000_2000_0000, None),
-        ("be64 r5", 0xdc05_0000_4000_0000, None),
-        ("swap16 r5", 0xd705_0000_1000_0000, None),
-        ("swap32 r5", 0xd705_0000_2000_0000, None),
-        ("swap64 r5", 0xd705_0000_4000_0000, None),
-        ("ja +1", 0x0500_0100_0000_0000, None),
-        ("ja -32768", 0x0500_0080_0000_0000, None),
-        ("ja32 +2147483647", 0x0600_0000_ffff_ff7f, None),
-        ("ja32 -1", 0x0600_0000_ffff_ffff, None),
-        ("jeq r1, -1, -5", 0x1501_fbff_ffff_ffff, None),
-        ("jeq32 r2, r3, +10", 0x1e32_0a00_0000_0000, None),
-        ("jgt r3, -3, -15", 0x2503_f1ff_fdff_ffff, None),
-        ("jgt32 r4, r6, +20", 0x2e64_1400_0000_0000, None),
-        ("jge r5, -5, -25", 0x3505_e7ff_fbff_ffff, None),
-        ("jge32 r6, r9, +30", 0x3e96_1e00_0000_0000, None),
-        ("jset r7, -7, -35", 0x4507_ddff_f9ff_ffff, None),
-        ("jset32 r8, r1, +40", 0x4e18_2800_0000_0000, None),
-        ("jne r9, -9, -45", 0x5509_d3ff_f7ff_ffff, None),
-        ("jne32 r0, r4, +50", 0x5e40_3200_0000_0000, None),
-        ("jsgt r1, -11, -55", 0x6501_c9ff_f5ff_ffff, None),
-        ("jsgt32 r2, r7, +60", 0x6e72_3c00_0000_0000, None),
-        ("jsge r3, -13, -65", 0x7503_bfff_f3ff_ffff, None),
-        ("jsge32 r4, r10, +70", 0x7ea4_4600_0000_0000, None),
-        ("jlt r5, -15, -75", 0xa505_b5ff_f1ff_ffff, None),
-        ("jlt32 r6, r2, +80", 0xae26_5000_0000_0000, None),
-        ("jle r7, -17, -85", 0xb507_abff_efff_ffff, None),
-        ("jle32 r8, r5, +90", 0xbe58_5a00_0000_0000, None),
-        ("jslt r9, -19, -95", 0xc509_a1ff_edff_ffff, None),
-        ("jslt32 r0, r8, +100", 0xce80_6400_0000_0000, None),
-        ("jsle r1, -21, -105", 0xd501_97ff_ebff_ffff, None),
-        ("jsle32 r2, r0, +110", 0xde02_6e00_0000_0000, None),
-        ("jeq r0, 0, +0", 0x1500_0000_0000_0000, None),
-        ("call 5", 0x8500_0000_0500_0000, None),
-        ("call -1", 0x8500_0000_ffff_ffff, None),
-        ("callbtf 7", 0x8520_0000_0700_0000, None),
-        ("ldxb r2, [r10-8]", 0x71a2_f8ff_0000_0000, None),
-        ("ldxh r2, [r10-8]", 0x69a2_f8ff_0000_0000, None),
-        ("ldxw r2, [r10-8]", 0x61a2_f8ff_0000_0000, None),
-        ("ldxdw r2, [r10-8]", 0x79a2_f8ff_0000_0000, None),
-        ("ldxsb r3, [r1+32767]", 0x9113_ff7f_0000_0000, None),
-        ("ldxsh r3, [r1+32767]", 0x8913_ff7f_0000_0000, None),
-        ("ldxsw r3, [r1+32767]", 0x8113_ff7f_0000_0000, None),
-        ("stb [r10-4], -5", 0x720a_fcff_fbff_ffff, None),
-        ("sth [r10-4], -5", 0x6a0a_fcff_fbff_ffff, None),
-        ("stw [r10-4], -5", 0x620a_fcff_fbff_ffff, None),
-        ("stdw [r10-4], -5", 0x7a0a_fcff_fbff_ffff, None),
-        ("stxb [r4+0], r9", 0x7394_0000_0000_0000, None),
-        ("stxh [r4+0], r9", 0x6b94_0000_0000_0000, None),
-        ("stxw [r4+0], r9", 0x6394_0000_0000_0000, None),
-        ("stxdw [r4+0], r9", 0x7b94_0000_0000_0000, None),
-        (
-            "lddw r0, 8589934593",
-            0x1800_0000_0100_0000,
-            Some(0x0000_0000_0200_0000),
-        ),
-        (
-            "lddw r6, 18446744073709551615",
-            0x1806_0000_ffff_ffff,
-            Some(0x0000_0000_ffff_ffff),
-        ),
-        (
-            "lddw r6, 0",
-            0x1806_0000_0000_0000,
-            Some(0x0000_0000_0000_0000),
-        ),
-        (
-            "ldmap r1, 15",
-            0x1851_0000_0f00_0000,
-            Some(0x0000_0000_0000_0000),
-        ),
-        (
-            "ldmap r10, -1",
-            0x185a_0000_ffff_ffff,
-            Some(0x0000_0000_0000_0000),
-        ),
-        ("exit", 0x9500_0000_0000_0000, None),
-    ];
-    let mut all = String::new(rt.alloc());
-    let mut wanted = Vec::new(rt.alloc());
-    for (line, first, second) in lines {
-        let program = assemble(rt.alloc(), line)?;
-        let mut bytes = Vec::new(rt.alloc());
-        push_slot(&mut bytes, first)?;
-        push_slot(&mut wanted, first)?;
-        if let Some(slot) = second {
-            push_slot(&mut bytes, slot)?;
-            push_slot(&mut wanted, slot)?;
-        }
-        let encoded = encode(rt.alloc(), &program)?;
-        assert_eq!(rt; encoded.as_slice(), bytes.as_slice(), "bytes of {line}");
-        all.push_str(line)?;
-        all.push_str("\n")?;
-    }
-    let program = assemble(rt.alloc(), all.as_str())?;
+    let program = assemble(rt.alloc(), EVERY_LINE)?;
     let encoded = encode(rt.alloc(), &program)?;
-    assert_eq!(rt; encoded.as_slice(), wanted.as_slice());
+    let mut shown = String::new(rt.alloc());
+    for byte in &encoded {
+        write!(&mut shown, "{byte:02x}")?;
+    }
+    assert_eq!(rt; shown.as_str(), EVERY_SLOT);
     let text = disassemble(rt.alloc(), &program)?;
-    assert_eq!(rt; text.as_str(), all.as_str());
+    assert_eq!(rt; text.as_str(), EVERY_LINE);
     Ok(())
 }
 
@@ -213,125 +380,14 @@ fn lines_that_are_left_out(rt: HostRuntime) -> Result<(), Fail> {
 
 #[test]
 fn faults_of_one_line(rt: HostRuntime) -> Result<(), Fail> {
-    let bad_lines = [
-        // what is missing, and what is too much
-        "mov64 r0",
-        "mov64",
-        "mov64 ",
-        "mov64 r0,",
-        "mov64 r0, 1, 2",
-        "movsx64 r0, r1",
-        "exit r0",
-        "exit ",
-        "neg64 r0, r1",
-        "jeq r0, r1, +1, +1",
-        "r0",
-        // signs
-        "ja 1",
-        "ja +-1",
-        "ja -0",
-        "ja32 2",
-        "mov64 r0, +1",
-        "mov64 r0, -0",
-        "mov64 r0, --1",
-        "call +1",
-        "lddw r0, -1",
-        "lddw r0, +1",
-        "movsx64 r0, r1, +8",
-        "movsx64 r0, r1, -8",
-        "jeq r0, 0, 1",
-        "ldxw r0, [r1-0]",
-        // leading zeros
-        "mov64 r01, 1",
-        "mov64 r0, 01",
-        "mov64 r0, 00",
-        "ja +01",
-        "stb [r01+0], 1",
-        "stb [r1+00], 1",
-        // arguments of other kinds
-        "mov64 1, r0",
-        "mov64 r0, [r1+0]",
-        "ja r0",
-        "call r0",
-        "ldmap r1, r2",
-        "ldxw [r1+0], r0",
-        "stw r0, 1",
-        "stw [r0+0], r1",
-        "stxw [r0+0], 1",
-        "ldxw r0, [r1]",
-        "ldxw r0, [r1+]",
-        "ldxw r0, [r1+1",
-        "ldxw r0, [r1 +1]",
-        "ldxw r0, [1+1]",
-        "ldxw r0, r1+1]",
-        "ldxw r0, []",
-        "movsx64 r0, 1, 8",
-        // names
-        "le24 r0",
-        "ldxsdw r0, [r1+0]",
-        "mov r0, 1",
-        "jeq64 r0, 1, +1",
-        "MOV64 r0, 1",
-        "mov64 R0, 1",
-        "exit;",
-        "ja32btf +1",
-        // white space
-        " exit",
-        "exit\r",
-        "\texit",
-        " ",
-        " ;",
-        "mov64  r0, 1",
-        "mov64\tr0, 1",
-        "mov64 r0,1",
-        "mov64 r0 , 1",
-        "mov64 r0,  1",
-        "mov64 r0, 1 ",
-        // no number
-        "mov64 r0, 0x10",
-        "mov64 r0, 1_000",
-        "mov64 r, 1",
-        "mov64 r-1, 1",
-        "mov64 r0, -",
-        "mov64 r0, ä",
-    ];
-    for line in bad_lines {
+    for line in NO_FORM.split('\n') {
         assert_eq!(rt;
             fault_of(rt.alloc(), line),
             Some((14, Some(1))),
             "of {line}"
         );
     }
-    let bad_operands = [
-        "mov64 r11, 1",
-        "mov64 r0, r11",
-        "mov64 r99999999999999999999, 1",
-        "neg64 r340282366920938463463374607431768211456",
-        "add64 r0, 4294967296",
-        "add64 r0, 2147483648",
-        "add64 r0, -2147483649",
-        "add64 r0, 99999999999999999999999999999999999999999999",
-        "movsx32 r0, r1, 32",
-        "movsx64 r0, r1, 7",
-        "movsx64 r0, r1, 64",
-        "movsx64 r0, r1, 18446744073709551624",
-        "ja +32768",
-        "ja -32769",
-        "ja +99999999999",
-        "ja32 +2147483648",
-        "ja32 -2147483649",
-        "jeq r0, 2147483648, +0",
-        "call 2147483648",
-        "callbtf -2147483649",
-        "lddw r0, 18446744073709551616",
-        "lddw r11, 0",
-        "ldmap r0, 2147483648",
-        "ldxb r0, [r11+0]",
-        "ldxb r0, [r1+32768]",
-        "stb [r1-32769], 0",
-        "stxb [r0+0], r11",
-    ];
-    for line in bad_operands {
+    for line in OUT_OF_RANGE.split('\n') {
         assert_eq!(rt;
             fault_of(rt.alloc(), line),
             Some((15, Some(1))),

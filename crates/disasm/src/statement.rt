@@ -16,9 +16,13 @@ pub enum Sign {
 /// An argument as it is written, whether or not its numbers are in their ranges: `r1`, `4`, `-4` or `[r10-8]`.
 #[derive(Clone, Copy, Debug, PartialEq, Eq)]
 pub enum Argument {
+    /// `r` and a number.
     Register(u128),
+    /// A number without a sign.
     Number(u128),
+    /// A number with a sign.
     Signed(Sign, u128),
+    /// A register with an offset, in brackets.
     Memory {
         base: u128,
         sign: Sign,
