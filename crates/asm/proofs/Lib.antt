@@ -1,0 +1,12 @@
+mod ArgumentLaws
+mod Assembled
+mod Cuts
+mod FaultLaws
+mod FormLaws
+mod Lacking
+mod LineLaws
+mod LinesRead
+mod NameLaws
+mod Numerals
+mod PlainNames
+mod StatementLaws

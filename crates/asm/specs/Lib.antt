@@ -1,0 +1,4 @@
+pub mod Assembling
+pub mod Faults
+pub mod Grammar
+pub mod Reading

@@ -1,0 +1,233 @@
+-- The text of instructions: a line is a mnemonic, and after a space its arguments, parted by `, `.
+use Rattle.std.specs.Prelude.{ℕ, ◌+◌, ◌==◌, ℤ, pos, negsuc, List, [], ◌∷◌, ◌++◌, map, codes, if◌then◌else◌}
+use Rattle.std.specs.List.{flat_map}
+use Rattle.std.specs.Int.Digits.{digits_of}
+use Rattle.bpf_model.specs.declared.opcode.Size.{Size}
+use Rattle.bpf_model.specs.declared.opcode.Size.TheVariants.{Word32, Word64}
+use Rattle.bpf_model.specs.declared.opcode.Width.{Width}
+use Rattle.bpf_model.specs.declared.opcode.Width.TheVariants as width
+use Rattle.bpf_model.specs.declared.opcode.SignedWidth.{SignedWidth}
+use Rattle.bpf_model.specs.declared.opcode.SignedWidth.TheVariants as signed_width
+use Rattle.bpf_model.specs.declared.opcode.SwapWidth.{SwapWidth}
+use Rattle.bpf_model.specs.declared.opcode.SwapWidth.TheVariants as swap
+use Rattle.bpf_model.specs.declared.opcode.ByteOrder.{ByteOrder}
+use Rattle.bpf_model.specs.declared.opcode.ByteOrder.TheVariants.{ToLittle, ToBig, Swap}
+use Rattle.bpf_model.specs.declared.opcode.Condition.{Condition}
+use Rattle.bpf_model.specs.declared.opcode.Condition.TheVariants.{Equal, Greater, GreaterOrEqual, SharesBits, NotEqual, SignedGreater, SignedGreaterOrEqual, Less, LessOrEqual, SignedLess, SignedLessOrEqual}
+use Rattle.bpf_model.specs.declared.insn.AluOp.{AluOp}
+use Rattle.bpf_model.specs.declared.insn.AluOp.TheVariants.{Add, Sub, Mul, Div, SignedDiv, Or, And, ShiftLeft, ShiftRight, Mod, SignedMod, Xor, Move, ShiftRightSigned}
+use Rattle.bpf_model.specs.declared.insn.CallKind.{CallKind}
+use Rattle.bpf_model.specs.declared.insn.CallKind.TheVariants.{Helper, Kernel}
+use Rattle.bpf_model.specs.declared.insn.Operand.{Operand}
+use Rattle.bpf_model.specs.declared.insn.Operand.TheVariants as operand
+use Rattle.bpf_model.specs.declared.insn.Insn.{Insn}
+use Rattle.bpf_model.specs.declared.insn.Insn.TheVariants as insn
+use Rattle.bpf_model.specs.Spelling.{extension_size, extension_bits}
+use Rattle.disasm.specs.declared.mnemonic.Mnemonic.{Mnemonic}
+use Rattle.disasm.specs.declared.mnemonic.Mnemonic.TheVariants.{Alu, MoveSigned, Negate, ByteSwap, LoadNumber, LoadMap, Jump, JumpLong, JumpIf, Call, Exit, Load, LoadSigned, Store, StoreRegister}
+use Rattle.disasm.specs.declared.statement.Sign.{Sign}
+use Rattle.disasm.specs.declared.statement.Sign.TheVariants.{Plus, Minus}
+use Rattle.disasm.specs.declared.statement.Argument.{Argument}
+use Rattle.disasm.specs.declared.statement.Argument.TheVariants.{Register, Number, Signed, Memory}
+use Rattle.disasm.specs.declared.statement.Arguments.{Arguments}
+use Rattle.disasm.specs.declared.statement.Arguments.TheVariants.{Zero, One, Two, Three}
+use Rattle.disasm.specs.declared.statement.Statement.{Statement}
+
+-- Mnemonics: a stem, and a suffix that says how many bits or bytes.
+
+abbrev pub alu_stem : AluOp → List ℕ
+alu_stem Add = codes "add"
+alu_stem Sub = codes "sub"
+alu_stem Mul = codes "mul"
+alu_stem Div = codes "div"
+alu_stem SignedDiv = codes "sdiv"
+alu_stem Or = codes "or"
+alu_stem And = codes "and"
+alu_stem ShiftLeft = codes "lsh"
+alu_stem ShiftRight = codes "rsh"
+alu_stem Mod = codes "mod"
+alu_stem SignedMod = codes "smod"
+alu_stem Xor = codes "xor"
+alu_stem Move = codes "mov"
+alu_stem ShiftRightSigned = codes "arsh"
+
+abbrev pub condition_stem : Condition → List ℕ
+condition_stem Equal = codes "jeq"
+condition_stem Greater = codes "jgt"
+condition_stem GreaterOrEqual = codes "jge"
+condition_stem SharesBits = codes "jset"
+condition_stem NotEqual = codes "jne"
+condition_stem SignedGreater = codes "jsgt"
+condition_stem SignedGreaterOrEqual = codes "jsge"
+condition_stem Less = codes "jlt"
+condition_stem LessOrEqual = codes "jle"
+condition_stem SignedLess = codes "jslt"
+condition_stem SignedLessOrEqual = codes "jsle"
+
+abbrev pub order_stem : ByteOrder → List ℕ
+order_stem ToLittle = codes "le"
+order_stem ToBig = codes "be"
+order_stem Swap = codes "swap"
+
+abbrev pub size_suffix : Size → List ℕ
+size_suffix Word32 = codes "32"
+size_suffix Word64 = codes "64"
+
+-- a jump of class JMP has no suffix
+abbrev pub jump_suffix : Size → List ℕ
+jump_suffix Word32 = codes "32"
+jump_suffix Word64 = []
+
+abbrev pub swap_suffix : SwapWidth → List ℕ
+swap_suffix swap.Two = codes "16"
+swap_suffix swap.Four = codes "32"
+swap_suffix swap.Eight = codes "64"
+
+abbrev pub width_suffix : Width → List ℕ
+width_suffix width.One = codes "b"
+width_suffix width.Two = codes "h"
+width_suffix width.Four = codes "w"
+width_suffix width.Eight = codes "dw"
+
+abbrev pub signed_width_suffix : SignedWidth → List ℕ
+signed_width_suffix signed_width.One = codes "b"
+signed_width_suffix signed_width.Two = codes "h"
+signed_width_suffix signed_width.Four = codes "w"
+
+abbrev pub call_suffix : CallKind → List ℕ
+call_suffix Helper = []
+call_suffix Kernel = codes "btf"
+
+abbrev pub stem_of : Mnemonic → List ℕ
+stem_of (Alu op size) = alu_stem op
+stem_of (MoveSigned size) = codes "movsx"
+stem_of (Negate size) = codes "neg"
+stem_of (ByteSwap order width) = order_stem order
+stem_of LoadNumber = codes "lddw"
+stem_of LoadMap = codes "ldmap"
+stem_of Jump = codes "ja"
+stem_of JumpLong = codes "ja"
+stem_of (JumpIf condition size) = condition_stem condition
+stem_of (Call kind) = codes "call"
+stem_of Exit = codes "exit"
+stem_of (Load width) = codes "ldx"
+stem_of (LoadSigned width) = codes "ldxs"
+stem_of (Store width) = codes "st"
+stem_of (StoreRegister width) = codes "stx"
+
+abbrev pub suffix_of : Mnemonic → List ℕ
+suffix_of (Alu op size) = size_suffix size
+suffix_of (MoveSigned size) = size_suffix size
+suffix_of (Negate size) = size_suffix size
+suffix_of (ByteSwap order width) = swap_suffix width
+suffix_of LoadNumber = []
+suffix_of LoadMap = []
+suffix_of Jump = []
+suffix_of JumpLong = codes "32"
+suffix_of (JumpIf condition size) = jump_suffix size
+suffix_of (Call kind) = call_suffix kind
+suffix_of Exit = []
+suffix_of (Load width) = width_suffix width
+suffix_of (LoadSigned width) = signed_width_suffix width
+suffix_of (Store width) = width_suffix width
+suffix_of (StoreRegister width) = width_suffix width
+
+abbrev pub name_of : Mnemonic → List ℕ
+name_of m = stem_of m ++ suffix_of m
+
+-- Arguments, with numbers of any size.
+
+-- a number in decimal, without leading zeros
+abbrev pub numeral : ℕ → List ℕ
+numeral n = if n == 0 then codes "0" else map (λ digit. 48 + digit) (digits_of 10 n)
+
+abbrev pub sign_text : Sign → List ℕ
+sign_text Plus = codes "+"
+sign_text Minus = codes "-"
+
+-- `r1`, `4`, `-4`, `[r10-8]`
+abbrev pub argument_text : Argument → List ℕ
+argument_text (Register number) = codes "r" ++ numeral number
+argument_text (Number magnitude) = numeral magnitude
+argument_text (Signed sign magnitude) = sign_text sign ++ numeral magnitude
+argument_text (Memory base sign offset) = codes "[r" ++ numeral base ++ sign_text sign ++ numeral offset ++ codes "]"
+
+abbrev pub arguments_text : Arguments → List ℕ
+arguments_text Zero = []
+arguments_text (One a) = codes " " ++ argument_text a
+arguments_text (Two a b) = codes " " ++ argument_text a ++ codes ", " ++ argument_text b
+arguments_text (Three a b c) = codes " " ++ argument_text a ++ codes ", " ++ argument_text b ++ codes ", " ++ argument_text c
+
+abbrev pub statement_text : Statement → List ℕ
+statement_text s = name_of s.mnemonic ++ arguments_text s.arguments
+
+-- How each instruction is written.
+
+-- `negsuc n` is -(n + 1)
+abbrev pub sign_of : ℤ → Sign
+sign_of (pos n) = Plus
+sign_of (negsuc n) = Minus
+
+abbrev pub magnitude : ℤ → ℕ
+magnitude (pos n) = n
+magnitude (negsuc n) = n + 1
+
+-- a number bears a sign where it is below 0
+abbrev pub number : ℤ → Argument
+number (pos n) = Number n
+number (negsuc n) = Signed Minus (n + 1)
+
+-- an offset always bears its sign
+abbrev pub offset : ℤ → Argument
+offset z = Signed (sign_of z) (magnitude z)
+
+abbrev pub memory : ℕ → ℤ → Argument
+memory base z = Memory base (sign_of z) (magnitude z)
+
+abbrev pub source : Operand → Argument
+source (operand.Register src) = Register src
+source (operand.Immediate imm) = number imm
+
+abbrev pub mnemonic_of : Insn → Mnemonic
+mnemonic_of (insn.Alu op size dst src) = Alu op size
+mnemonic_of (insn.MoveSigned extension dst src) = MoveSigned (extension_size extension)
+mnemonic_of (insn.Negate size dst) = Negate size
+mnemonic_of (insn.ByteSwap order width dst) = ByteSwap order width
+mnemonic_of (insn.LoadNumber dst n) = LoadNumber
+mnemonic_of (insn.LoadMap dst map) = LoadMap
+mnemonic_of (insn.Jump z) = Jump
+mnemonic_of (insn.JumpLong imm) = JumpLong
+mnemonic_of (insn.JumpIf condition size dst src z) = JumpIf condition size
+mnemonic_of (insn.Call kind imm) = Call kind
+mnemonic_of insn.Exit = Exit
+mnemonic_of (insn.Load width dst src z) = Load width
+mnemonic_of (insn.LoadSigned width dst src z) = LoadSigned width
+mnemonic_of (insn.Store width dst z imm) = Store width
+mnemonic_of (insn.StoreRegister width dst src z) = StoreRegister width
+
+abbrev pub arguments_of : Insn → Arguments
+arguments_of (insn.Alu op size dst src) = Two (Register dst) (source src)
+arguments_of (insn.MoveSigned extension dst src) = Three (Register dst) (Register src) (number (extension_bits extension))
+arguments_of (insn.Negate size dst) = One (Register dst)
+arguments_of (insn.ByteSwap order width dst) = One (Register dst)
+arguments_of (insn.LoadNumber dst n) = Two (Register dst) (Number n)
+arguments_of (insn.LoadMap dst map) = Two (Register dst) (number map)
+arguments_of (insn.Jump z) = One (offset z)
+arguments_of (insn.JumpLong imm) = One (offset imm)
+arguments_of (insn.JumpIf condition size dst src z) = Three (Register dst) (source src) (offset z)
+arguments_of (insn.Call kind imm) = One (number imm)
+arguments_of insn.Exit = Zero
+arguments_of (insn.Load width dst src z) = Two (Register dst) (memory src z)
+arguments_of (insn.LoadSigned width dst src z) = Two (Register dst) (memory src z)
+arguments_of (insn.Store width dst z imm) = Two (memory dst z) (number imm)
+arguments_of (insn.StoreRegister width dst src z) = Two (memory dst z) (Register src)
+
+abbrev pub statement_of : Insn → Statement
+statement_of i = record { mnemonic = mnemonic_of i; arguments = arguments_of i }
+
+-- The text of an instruction, without the line feed that ends its line; and of a program.
+abbrev pub line_of : Insn → List ℕ
+line_of i = statement_text (statement_of i)
+
+abbrev pub program_text : List Insn → List ℕ
+program_text is = flat_map (λ i. line_of i ++ 10 ∷ []) is

@@ -1,0 +1,13 @@
+//! Programs as text, one instruction a line.
+//!
+//! A line is a [`Statement`]: a mnemonic with its arguments. `specs/Text.antt` says how each instruction
+//! is written; docs/ASSEMBLY.md describes the language.
+#![tactic(auto)]
+
+mod mnemonic;
+mod statement;
+mod writing;
+
+pub use mnemonic::Mnemonic;
+pub use statement::{Argument, Arguments, Sign, Statement, statement_of};
+pub use writing::disassemble;
