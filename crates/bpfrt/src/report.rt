@@ -1,5 +1,8 @@
 //! The lines that refusals and faults make, and the statuses that go with them.
+ghost use Rattle.std.specs.Prelude.{◌≡◌, ◌≢◌, ◌⊎◌};
+
 use insn_codec::DecodeFault;
+use std::alloc::AllocError;
 use std::io::Write;
 use verifier::Refusal;
 
@@ -31,15 +34,31 @@ impl From<Refusal> for Verdict {
     }
 }
 
+impl From<AllocError> for Verdict {
+    fn from(_: AllocError) -> Verdict {
+        Verdict {
+            code: MEMORY,
+            slot: None,
+        }
+    }
+}
+
 /// Writes `fault C` on standard error, and answers its status: 1 where the input is at fault (94, 95), else 3.
-pub fn fault<W: Write>(err: &mut W, code: u8) -> u8 {
+pub fn fault<W: Write>(err: &mut W, code: u8) -> u8
+    ensures input { (code ≡ 94) ⊎ (code ≡ 95) → result ≡ 1 }
+    ensures other { code ≢ 94 → code ≢ 95 → result ≡ 3 }
+    ensures status { (result ≡ 1) ⊎ (result ≡ 3) }
+{
     let _ = writeln!(err, "fault {code}");
     if code == 94 || code == 95 { 1 } else { 3 }
 }
 
 /// Writes `refused C` or `refused C at S` on standard error, or the fault where memory ran out, and answers
 /// the status.
-pub fn refused<W: Write>(err: &mut W, verdict: Verdict) -> u8 {
+pub fn refused<W: Write>(err: &mut W, verdict: Verdict) -> u8
+    ensures memory { verdict.code ≡ 13 → result ≡ 3 }
+    ensures other { verdict.code ≢ 13 → result ≡ 1 }
+{
     if verdict.code == MEMORY {
         return fault(err, MEMORY);
     }

@@ -8,6 +8,8 @@ use thiserror::Error;
 pub enum Command {
     /// Verify the program in a file and say how long it is.
     Check { file: String },
+    /// Write the text of the program in a file.
+    Disasm { file: String },
 }
 
 /// Why the words are no command.
@@ -35,7 +37,7 @@ impl Command {
     /// The path of the file that the command reads.
     pub fn file(&self) -> &str {
         match self {
-            Command::Check { file } => file.as_str(),
+            Command::Check { file } | Command::Disasm { file } => file.as_str(),
         }
     }
 }

@@ -17,10 +17,14 @@ fn grammar<'a>(alloc: Global) -> Result<clap::Command<'a>, AllocError> {
     let check = clap::Command::new(alloc, "check")
         .about("Verifies the program in FILE")
         .arg(file_argument(alloc))?;
+    let disasm = clap::Command::new(alloc, "disasm")
+        .about("Writes the text of the program in FILE, one instruction a line")
+        .arg(file_argument(alloc))?;
     clap::Command::new(alloc, "bpfrt")
         .about("An eBPF runtime with proved contracts")
         .subcommand_required(true)
-        .subcommand(check)
+        .subcommand(check)?
+        .subcommand(disasm)
 }
 
 fn usage(alloc: Global, error: &clap::Error) -> UsageFault {
@@ -50,6 +54,9 @@ pub fn command<'a>(alloc: Global, words: &'a [String]) -> Result<Command, UsageF
     };
     match matches.subcommand() {
         Some(("check", matches)) => Ok(Command::Check {
+            file: file_of(alloc, matches)?,
+        }),
+        Some(("disasm", matches)) => Ok(Command::Disasm {
             file: file_of(alloc, matches)?,
         }),
         _ => Err(UsageFault::Usage(String::from_str(alloc, "a command is missing")?)),
