@@ -1,0 +1,13 @@
+//! A plain interpreter of the abstract machine: values of known kinds, tested at each step.
+//!
+//! It follows the definitions of `bpf_model` case by case, and is neither fast nor small. Its contract is
+//! the definition itself: a run is stuck exactly where the definition has no step. It serves to compare
+//! other machines with.
+#![tactic(auto)]
+
+mod memory;
+mod plain_run;
+mod step;
+mod value;
+
+pub use plain_run::{PlainRun, Progress};
