@@ -8,7 +8,7 @@ use Rattle.bpf_model.specs.declared.value.Reference.{Reference}
 use Rattle.bpf_model.specs.declared.value.Reference.TheVariants.{Ctx, Frame, MapRef, Elem}
 use Rattle.bpf_model.specs.declared.value.Cell.{Cell}
 use Rattle.bpf_model.specs.declared.value.Cell.TheVariants as cells
-use Rattle.bpf_model.specs.Step.{State, Environment, Outcome, Moves, Exits, Steps, frame_after}
+use Rattle.bpf_model.specs.Step.{State, Environment, Outcome, Moves, Exits, Steps, after, frame_after}
 use Rattle.plain_model.specs.declared.plain_run.PlainRun.{PlainRun}
 use Rattle.plain_model.specs.declared.plain_run.Progress.{Progress}
 use Rattle.plain_model.specs.declared.plain_run.Progress.TheVariants.{Moved, Exited, Stuck, OutOfRange}
@@ -62,6 +62,10 @@ Comes o Moved new = o ≡ Some (Moves (state_of new))
 Comes o (Exited n) new = o ≡ Some (Exits n)
 Comes o Stuck new = o ≡ None
 Comes o OutOfRange new = (next : State) × (o ≡ Some (Moves next)) × (r : ℕ) × IsFar (next.regs r)
+
+-- the answer and the new state are those of the instruction
+pub record Performs (i : Insn) (env : Environment) (old : PlainRun) (answer : Progress) (new : PlainRun) : Type 0 where
+  pub comes : Comes (after i env (state_of old)) answer new
 
 -- The answer is the step of the definition. A stuck run has none, and out of range is a step to a far reference.
 abbrev pub Tells : List Insn → Environment → PlainRun → Progress → PlainRun → Type 0

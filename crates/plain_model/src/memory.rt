@@ -1,5 +1,5 @@
 //! The context and the frame.
-ghost use Rattle.std.specs.Prelude.{◌≡◌, ℕ, ◌+◌, ◌-◌, ◌/◌, ◌%◌, ◌^◌, ◌<◌, ◌≤◌, length, slice_get, IfSome, Option, Some, None, true, false, ◌+ℤ◌, if◌then◌else◌};
+ghost use Rattle.std.specs.Prelude.{◌≡◌, ℕ, ◌+◌, ◌-◌, ◌*◌, ◌/◌, ◌%◌, ◌^◌, ◌<◌, ◌≤◌, length, slice_get, IfSome, Option, Some, None, true, false, ◌+ℤ◌, if◌then◌else◌};
 ghost use Rattle.bpf_model.specs.Access.{byte_count, place_of as place_in, number_at};
 ghost use Rattle.bpf_model.specs.Frame.{byte_of, is_same_reference as is_same, is_part as is_part_of, are_parts as are_parts_of, is_within, read as read_from};
 ghost use Rattle.bpf_model.specs.declared.value.Cell.TheVariants as cells;
@@ -27,6 +27,26 @@ pub(crate) fn place_of(len: usize, width: Width, base: i64, offset: i16) -> Opti
     }
 }
 
+/// A number of so many bytes, of its low byte and the rest.
+fn joined(low: u8, high: u64, width: usize) -> u64
+    requires some { 0 < width }
+    requires width { width ≤ 8 }
+    requires high { high < 256 ^ (width - 1) }
+    ensures value { result ≡ low + 256 * high }
+    ensures bound { result < 256 ^ width }
+{
+    u64::from(low) + 256 * high
+}
+
+fn byte_at(bytes: &[u8], at: usize) -> Option<u8>
+    ensures { result ≡ slice_get bytes.now at }
+{
+    match bytes.get(at) {
+        Some(byte) => Some(*byte),
+        None => None,
+    }
+}
+
 /// So many bytes as a little-endian number, if they are all there.
 pub(crate) fn number_in(bytes: &[u8], at: usize, width: usize) -> Option<u64>
     requires width { width ≤ 8 }
@@ -37,9 +57,9 @@ pub(crate) fn number_in(bytes: &[u8], at: usize, width: usize) -> Option<u64>
     if width == 0 {
         return Some(0);
     }
-    let low = *bytes.get(at)?;
+    let low = byte_at(bytes, at)?;
     let high = number_in(bytes, at + 1, width - 1)?;
-    Some(u64::from(low) + 256 * high)
+    Some(joined(low, high, width))
 }
 
 fn cell_at(frame: &[Cell], at: usize) -> Cell
@@ -72,7 +92,7 @@ fn number_in_frame(frame: &[Cell], at: usize, width: usize) -> Option<u64>
     }
     let low = byte(cell_at(frame, at))?;
     let high = number_in_frame(frame, at + 1, width - 1)?;
-    Some(u64::from(low) + 256 * high)
+    Some(joined(low, high, width))
 }
 
 fn is_same_reference(r: Reference, s: Reference) -> bool
@@ -135,8 +155,8 @@ fn write_number(frame: &mut [Cell], at: usize, width: usize, n: u64)
     ensures { (k : ℕ) → cells_of frame.new k ≡ (if is_within at width k then cells.Byte (n / 256 ^ (k - at) % 256) else cells_of frame.old k) }
 {
     let mut rest = n;
-    for k in at..at + width {
-        frame[k] = Cell::Byte((rest % 256) as u8);
+    for i in 0..width {
+        frame[at + i] = Cell::Byte((rest % 256) as u8);
         rest /= 256;
     }
 }

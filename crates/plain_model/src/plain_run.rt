@@ -1,5 +1,6 @@
 //! The state of a plain run.
-ghost use Rattle.std.specs.Prelude.{◌≡◌, ◌<◌};
+ghost use Rattle.std.specs.Prelude.{◌≡◌, ℕ, ◌<◌};
+ghost use Rattle.bpf_model.specs.declared.value.Cell.TheVariants as cells;
 ghost use Rattle.bpf_model.specs.Operand.{operand_value};
 ghost use Rattle.bpf_model.specs.Step.{entry};
 ghost use Rattle.plain_model.specs.Plain.{state_of, cells_of};
@@ -26,6 +27,23 @@ pub struct PlainRun {
     pub(crate) place: usize,
 }
 
+fn clear(frame: &mut [Cell])
+    ensures { (k : ℕ) → cells_of frame.new k ≡ cells.Unwritten }
+{
+    for cell in frame.iter_mut() {
+        *cell = Cell::Unwritten;
+    }
+}
+
+/// A frame of which nothing is written.
+fn empty_frame() -> [Cell; 512]
+    ensures { (k : ℕ) → cells_of result k ≡ cells.Unwritten }
+{
+    let mut frame = [Cell::Unwritten; 512];
+    clear(&mut frame);
+    frame
+}
+
 impl PlainRun {
     /// A run at the entry: r1 is the context, r10 the end of the frame, and nothing else is written.
     pub fn entry() -> PlainRun
@@ -45,7 +63,7 @@ impl PlainRun {
                 Value::Nothing,
                 Value::Pointer(Reference::Frame(512)),
             ],
-            frame: [Cell::Unwritten; 512],
+            frame: empty_frame(),
             place: 0,
         }
     }

@@ -2,8 +2,9 @@
 ghost use Rattle.std.specs.Prelude.{◌≡◌, ℕ, ◌+◌, ◌^◌, ◌<◌, ◌≤◌, length, List, MatchOption, Some, None};
 ghost use Rattle.bpf_model.specs.declared.insn.Insn.{Insn};
 ghost use Rattle.bpf_model.specs.Access.{byte_count};
-ghost use Rattle.bpf_model.specs.Step.{Environment, sets, jumps_by, load_from, store_to, after, insn_at as insn_of};
-ghost use Rattle.plain_model.specs.Plain.{state_of, Comes, Computes, Tells, environment};
+ghost use Rattle.bpf_model.specs.Spelling.{slot_total};
+ghost use Rattle.bpf_model.specs.Step.{Environment, sets, jumps_by, load_from, store_to, stored, after, insn_at as insn_of};
+ghost use Rattle.plain_model.specs.Plain.{state_of, Comes, Performs, Tells, environment};
 
 use crate::memory::{number_in, place_of, read, write};
 use crate::plain_run::{PlainRun, Progress};
@@ -47,7 +48,7 @@ impl PlainRun {
 
     fn alu(&mut self, op: AluOp, size: Size, dst: Reg, src: &Operand) -> Progress
         requires { self.old.place < 2 ^ 40 }
-        ensures { (env : Environment) → Comes (after (Insn.Alu op size dst src.now) env (state_of self.old)) result self.new }
+        ensures { (env : Environment) → Performs (Insn.Alu op size dst src.now) env self.old result self.new }
     {
         match compute(size, op, self.register(dst), self.operand(src)) {
             Computed::Known(v) => self.set(1, dst, v),
@@ -64,7 +65,7 @@ impl PlainRun {
 
     fn move_signed(&mut self, extension: SignExtension, dst: Reg, src: Reg) -> Progress
         requires { self.old.place < 2 ^ 40 }
-        ensures { (env : Environment) → Comes (after (Insn.MoveSigned extension dst src) env (state_of self.old)) result self.new }
+        ensures { (env : Environment) → Performs (Insn.MoveSigned extension dst src) env self.old result self.new }
     {
         match number(self.register(src)) {
             Some(n) => self.set(1, dst, Value::Number(move_signed(extension, n))),
@@ -74,7 +75,7 @@ impl PlainRun {
 
     fn negate(&mut self, size: Size, dst: Reg) -> Progress
         requires { self.old.place < 2 ^ 40 }
-        ensures { (env : Environment) → Comes (after (Insn.Negate size dst) env (state_of self.old)) result self.new }
+        ensures { (env : Environment) → Performs (Insn.Negate size dst) env self.old result self.new }
     {
         match number(self.register(dst)) {
             Some(n) => self.set(1, dst, Value::Number(negate(size, n))),
@@ -84,7 +85,7 @@ impl PlainRun {
 
     fn byte_swap(&mut self, order: ByteOrder, width: SwapWidth, dst: Reg) -> Progress
         requires { self.old.place < 2 ^ 40 }
-        ensures { (env : Environment) → Comes (after (Insn.ByteSwap order width dst) env (state_of self.old)) result self.new }
+        ensures { (env : Environment) → Performs (Insn.ByteSwap order width dst) env self.old result self.new }
     {
         match number(self.register(dst)) {
             Some(n) => self.set(1, dst, Value::Number(byte_swap(order, width, n))),
@@ -94,7 +95,7 @@ impl PlainRun {
 
     fn load_map(&mut self, dst: Reg, map: i32, maps: usize) -> Progress
         requires { self.old.place < 2 ^ 40 }
-        ensures { (context : List ℕ) → Comes (after (Insn.LoadMap dst map) (environment context maps) (state_of self.old)) result self.new }
+        ensures { (context : List ℕ) → Performs (Insn.LoadMap dst map) (environment context maps) self.old result self.new }
     {
         if map < 0 || map as usize >= maps {
             return Progress::Stuck;
@@ -123,7 +124,7 @@ impl PlainRun {
         offset: i16,
     ) -> Progress
         requires { self.old.place < 2 ^ 40 }
-        ensures { (env : Environment) → Comes (after (Insn.JumpIf condition size dst src.now offset) env (state_of self.old)) result self.new }
+        ensures { (env : Environment) → Performs (Insn.JumpIf condition size dst src.now offset) env self.old result self.new }
     {
         match decided(condition, size, src, self.register(dst), self.operand(src)) {
             Some(true) => self.jump(i32::from(offset)),
@@ -156,7 +157,7 @@ impl PlainRun {
     fn load(&mut self, context: &[u8], width: Width, dst: Reg, src: Reg, offset: i16) -> Progress
         requires place { self.old.place < 2 ^ 40 }
         requires context { length context.now ≤ 256 }
-        ensures { (maps : ℕ) → Comes (after (Insn.Load width dst src offset) (environment context.now maps) (state_of self.old)) result self.new }
+        ensures { (maps : ℕ) → Performs (Insn.Load width dst src offset) (environment context.now maps) self.old result self.new }
     {
         match self.load_from(context, width, offset, self.register(src)) {
             Some(v) => self.set(1, dst, v),
@@ -174,20 +175,24 @@ impl PlainRun {
     ) -> Progress
         requires place { self.old.place < 2 ^ 40 }
         requires context { length context.now ≤ 256 }
-        ensures { (maps : ℕ) → Comes (after (Insn.LoadSigned width dst src offset) (environment context.now maps) (state_of self.old)) result self.new }
+        ensures { (maps : ℕ) → Performs (Insn.LoadSigned width dst src offset) (environment context.now maps) self.old result self.new }
     {
         match self.load_from(context, width.width(), offset, self.register(src)) {
-            Some(Value::Number(n)) => self.set(1, dst, Value::Number(load_signed(width, n))),
-            _ => Progress::Stuck,
+            Some(v) => match number(v) {
+                Some(n) => self.set(1, dst, Value::Number(load_signed(width, n))),
+                None => Progress::Stuck,
+            },
+            None => Progress::Stuck,
         }
     }
 
-    fn store(&mut self, width: Width, offset: i16, v: Value, base: Value) -> Progress
+    fn store_through(&mut self, width: Width, offset: i16, v: Value, r: Reference) -> Progress
         requires { self.old.place < 2 ^ 40 }
-        ensures { Comes (store_to (state_of self.old) (byte_count width) offset v base) result self.new }
+        ensures { Comes (stored (state_of self.old) (byte_count width) offset v r) result self.new }
     {
-        let Value::Pointer(Reference::Frame(o)) = base else {
-            return Progress::Stuck;
+        let o = match r {
+            Reference::Frame(o) => o,
+            _ => return Progress::Stuck,
         };
         match place_of(512, width, o, offset) {
             Some(at) if write(&mut self.frame, at, width, v) => {
@@ -198,8 +203,18 @@ impl PlainRun {
         }
     }
 
+    fn store(&mut self, width: Width, offset: i16, v: Value, base: Value) -> Progress
+        requires { self.old.place < 2 ^ 40 }
+        ensures { Comes (store_to (state_of self.old) (byte_count width) offset v base) result self.new }
+    {
+        match base {
+            Value::Pointer(r) => self.store_through(width, offset, v, r),
+            _ => Progress::Stuck,
+        }
+    }
+
     fn exit(&self) -> Progress
-        ensures { (env : Environment) → Comes (after Insn.Exit env (state_of self.now)) result self.now }
+        ensures { (env : Environment) → Performs Insn.Exit env self.now result self.now }
     {
         match number(self.register(Reg::R0)) {
             Some(n) => Progress::Exited(n),
@@ -210,7 +225,7 @@ impl PlainRun {
     fn perform(&mut self, insn: &Insn, context: &[u8], maps: usize) -> Progress
         requires place { self.old.place < 2 ^ 40 }
         requires context { length context.now ≤ 256 }
-        ensures { Comes (after insn.now (environment context.now maps) (state_of self.old)) result self.new }
+        ensures { Performs insn.now (environment context.now maps) self.old result self.new }
     {
         match insn {
             Insn::Alu { op, size, dst, src } => self.alu(*op, *size, *dst, src),
@@ -248,7 +263,7 @@ impl PlainRun {
     /// `Stuck` where the definition has no step. `OutOfRange` where the step would leave a register with a
     /// reference whose offset does not fit 64 bits.
     pub fn step(&mut self, program: &[Insn], context: &[u8], maps: usize) -> Progress
-        requires program { length program.now ≤ 4096 }
+        requires program { slot_total program.now ≤ 4096 }
         requires context { length context.now ≤ 256 }
         ensures { Tells program.now (environment context.now maps) self.old result self.new }
     {

@@ -1,5 +1,6 @@
 //! Values as operands.
-ghost use Rattle.std.specs.Prelude.{◌≡◌, ◌+ℤ◌, ◌-ℤ◌, pos, Option, Some, None};
+ghost use Rattle.std.specs.Prelude.{◌≡◌, ℤ, ◌+ℤ◌, ◌-ℤ◌, pos};
+ghost use Rattle.bpf_model.specs.declared.value.Value.{Value};
 ghost use Rattle.bpf_model.specs.Value.{number as number_of};
 ghost use Rattle.bpf_model.specs.Operand.{of_numbers as numbers_of, moved, sum_of, difference_of, computed as computed_of, is_zero as is_zero_of, null_test as null_test_of, decided as decided_of};
 ghost use Rattle.plain_model.specs.Plain.{Computes, IsSum, offset_of};
@@ -42,16 +43,38 @@ fn offset(r: Reference) -> i64
     }
 }
 
+/// The sum, if it fits.
+fn add_offset(o: i64, by: i64) -> Option<i64>
+    ensures { IsSum (o +ℤ by) result }
+{
+    o.checked_add(by)
+}
+
+/// The difference, if it fits.
+fn sub_offset(o: i64, by: i64) -> Option<i64>
+    ensures { IsSum (o +ℤ (pos 0 -ℤ by)) result }
+{
+    o.checked_sub(by)
+}
+
 /// The reference at another offset.
 fn at_offset(r: Reference, offset: Option<i64>) -> Computed
-    ensures { (d : _) → IsSum (offset_of r +ℤ d) offset → Computes (moved r d) result }
+    ensures { (d : ℤ) → IsSum (offset_of r +ℤ d) offset → Computes (moved r d) result }
 {
-    match (r, offset) {
-        (Reference::MapRef(_), _) => Computed::Stuck,
-        (_, None) => Computed::OutOfRange,
-        (Reference::Ctx(_), Some(o)) => Computed::Known(Value::Pointer(Reference::Ctx(o))),
-        (Reference::Frame(_), Some(o)) => Computed::Known(Value::Pointer(Reference::Frame(o))),
-        (Reference::Elem(n, _), Some(o)) => Computed::Known(Value::Pointer(Reference::Elem(n, o))),
+    match r {
+        Reference::MapRef(_) => Computed::Stuck,
+        Reference::Ctx(_) => match offset {
+            Some(o) => Computed::Known(Value::Pointer(Reference::Ctx(o))),
+            None => Computed::OutOfRange,
+        },
+        Reference::Frame(_) => match offset {
+            Some(o) => Computed::Known(Value::Pointer(Reference::Frame(o))),
+            None => Computed::OutOfRange,
+        },
+        Reference::Elem(n, _) => match offset {
+            Some(o) => Computed::Known(Value::Pointer(Reference::Elem(n, o))),
+            None => Computed::OutOfRange,
+        },
     }
 }
 
@@ -59,7 +82,7 @@ fn sum(x: Value, y: Value) -> Computed
     ensures { Computes (sum_of x y) result }
 {
     match (x, number(y)) {
-        (Value::Pointer(r), Some(b)) => at_offset(r, offset(r).checked_add(b.cast_signed())),
+        (Value::Pointer(r), Some(b)) => at_offset(r, add_offset(offset(r), b.cast_signed())),
         (Value::Pointer(_), None) => Computed::Stuck,
         _ => of_numbers(Size::Word64, AluOp::Add, x, y),
     }
@@ -69,7 +92,7 @@ fn difference(x: Value, y: Value) -> Computed
     ensures { Computes (difference_of x y) result }
 {
     match (x, number(y)) {
-        (Value::Pointer(r), Some(b)) => at_offset(r, offset(r).checked_sub(b.cast_signed())),
+        (Value::Pointer(r), Some(b)) => at_offset(r, sub_offset(offset(r), b.cast_signed())),
         (Value::Pointer(_), None) => Computed::Stuck,
         _ => of_numbers(Size::Word64, AluOp::Sub, x, y),
     }
@@ -85,7 +108,7 @@ fn held(v: Value) -> Computed
 }
 
 fn low_half(v: Value) -> Computed
-    ensures { (x : _) → Computes (computed_of Size.Word32 AluOp.Move x v) result }
+    ensures { (x : Value) → Computes (computed_of Size.Word32 AluOp.Move x v) result }
 {
     match number(v) {
         Some(n) => Computed::Known(Value::Number(alu(Size::Word32, AluOp::Move, 0, n))),
