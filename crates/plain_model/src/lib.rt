@@ -9,5 +9,7 @@ mod memory;
 mod plain_run;
 mod step;
 mod value;
+mod whole;
 
 pub use plain_run::{PlainRun, Progress};
+pub use whole::Ending;
