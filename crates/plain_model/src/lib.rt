@@ -13,3 +13,6 @@ mod whole;
 
 pub use plain_run::{PlainRun, Progress};
 pub use whole::Ending;
+
+#[cfg(test)]
+mod tests;

@@ -229,29 +229,53 @@ impl PlainRun {
     {
         match insn {
             Insn::Alu { op, size, dst, src } => self.alu(*op, *size, *dst, src),
-            Insn::MoveSigned { extension, dst, src } => self.move_signed(*extension, *dst, *src),
+            Insn::MoveSigned {
+                extension,
+                dst,
+                src,
+            } => self.move_signed(*extension, *dst, *src),
             Insn::Negate { size, dst } => self.negate(*size, *dst),
             Insn::ByteSwap { order, width, dst } => self.byte_swap(*order, *width, *dst),
             Insn::LoadNumber { dst, number } => self.set(2, *dst, Value::Number(*number)),
             Insn::LoadMap { dst, map } => self.load_map(*dst, *map, maps),
             Insn::Jump { offset } => self.jump(i32::from(*offset)),
             Insn::JumpLong { imm } => self.jump(*imm),
-            Insn::JumpIf { condition, size, dst, src, offset } => {
-                self.jump_if(*condition, *size, *dst, src, *offset)
-            }
+            Insn::JumpIf {
+                condition,
+                size,
+                dst,
+                src,
+                offset,
+            } => { self.jump_if(*condition, *size, *dst, src, *offset) }
             Insn::Call { .. } => Progress::Stuck,
             Insn::Exit => self.exit(),
-            Insn::Load { width, dst, src, offset } => {
-                self.load(context, *width, *dst, *src, *offset)
-            }
-            Insn::LoadSigned { width, dst, src, offset } => {
-                self.load_signed(context, *width, *dst, *src, *offset)
-            }
-            Insn::Store { width, dst, offset, imm } => {
+            Insn::Load {
+                width,
+                dst,
+                src,
+                offset,
+            } => { self.load(context, *width, *dst, *src, *offset) }
+            Insn::LoadSigned {
+                width,
+                dst,
+                src,
+                offset,
+            } => { self.load_signed(context, *width, *dst, *src, *offset) }
+            Insn::Store {
+                width,
+                dst,
+                offset,
+                imm,
+            } => {
                 let base = self.register(*dst);
                 self.store(*width, *offset, Value::Number(immediate(*imm)), base)
             }
-            Insn::StoreRegister { width, dst, src, offset } => {
+            Insn::StoreRegister {
+                width,
+                dst,
+                src,
+                offset,
+            } => {
                 let base = self.register(*dst);
                 self.store(*width, *offset, self.register(*src), base)
             }

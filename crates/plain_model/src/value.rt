@@ -149,7 +149,13 @@ fn null_test(condition: Condition, size: Size, zero: bool, r: Reference) -> Opti
 }
 
 /// Whether a conditional jump is taken.
-pub(crate) fn decided(condition: Condition, size: Size, src: &Operand, x: Value, y: Value) -> Option<bool>
+pub(crate) fn decided(
+    condition: Condition,
+    size: Size,
+    src: &Operand,
+    x: Value,
+    y: Value,
+) -> Option<bool>
     ensures { result ≡ decided_of condition size src.now x y }
 {
     match (x, number(y)) {

@@ -23,8 +23,10 @@ found c maps =
 pub returns-in-Some : goal.returns-in-Some
 returns-in-Some c = λ maps.
     let m = state_of c.args.self.now in
-    record { comes = bind_comes (load_from (environment c.args.context.now maps) m (byte_count c.args.width) c.args.offset (m.regs c.args.src)) (λ v. sets 1 c.args.dst v m) c.in-Some.v c.set.result c.set.new.self
-      (found (goal.at.returns-in-Some c).After-load_from maps ∙ c.in-Some.is) c.set.ensures }
+    record {
+      comes = bind_comes (load_from (environment c.args.context.now maps) m (byte_count c.args.width) c.args.offset (m.regs c.args.src)) (λ v. sets 1 c.args.dst v m) c.in-Some.v c.set.result c.set.new.self
+          (found (goal.at.returns-in-Some c).After-load_from maps ∙ c.in-Some.is) c.set.ensures;
+    }
 
 pub returns-in-None : goal.returns-in-None
 returns-in-None c = λ maps.

@@ -25,10 +25,12 @@ pub returns-in-Some-number : goal.returns-in-Some-number
 returns-in-Some-number c = λ maps.
     let m = state_of c.args.self.now in
     let f : Value → _ = λ v. number v >>= λ n. sets 1 c.args.dst (Number (loaded_signed c.args.width n)) m in
-    record { comes = bind_comes (load_from (environment c.args.context.now maps) m (byte_count (unsigned_width c.args.width)) c.args.offset (m.regs c.args.src)) f c.in-Some.v c.set.result c.set.new.self
-      (found (goal.at.returns-in-Some-number c).After-load_from maps ∙ c.in-Some.is)
-      (bind_comes (number c.in-Some.v) (λ n. sets 1 c.args.dst (Number (loaded_signed c.args.width n)) m) c.in-Some-number.n c.set.result c.set.new.self (sym c.number.ensures ∙ c.in-Some-number.is)
-        (subst (λ n. Comes (sets 1 c.args.dst (Number n) m) c.set.result c.set.new.self) c.load_signed.ensures c.set.ensures)) }
+    record {
+      comes = bind_comes (load_from (environment c.args.context.now maps) m (byte_count (unsigned_width c.args.width)) c.args.offset (m.regs c.args.src)) f c.in-Some.v c.set.result c.set.new.self
+          (found (goal.at.returns-in-Some-number c).After-load_from maps ∙ c.in-Some.is)
+          (bind_comes (number c.in-Some.v) (λ n. sets 1 c.args.dst (Number (loaded_signed c.args.width n)) m) c.in-Some-number.n c.set.result c.set.new.self (sym c.number.ensures ∙ c.in-Some-number.is)
+          (subst (λ n. Comes (sets 1 c.args.dst (Number n) m) c.set.result c.set.new.self) c.load_signed.ensures c.set.ensures));
+    }
 
 pub returns-in-None-number : goal.returns-in-None-number
 returns-in-None-number c = λ maps.
@@ -39,5 +41,7 @@ returns-in-None-number c = λ maps.
 pub returns-in-None : goal.returns-in-None
 returns-in-None c = λ maps.
     let m = state_of c.args.self.now in
-    record { comes = bind_none (load_from (environment c.args.context.now maps) m (byte_count (unsigned_width c.args.width)) c.args.offset (m.regs c.args.src)) (λ v. number v >>= λ n. sets 1 c.args.dst (Number (loaded_signed c.args.width n)) m)
-      (found (goal.at.returns-in-None c).After-load_from maps ∙ c.in-None.is) }
+    record {
+      comes = bind_none (load_from (environment c.args.context.now maps) m (byte_count (unsigned_width c.args.width)) c.args.offset (m.regs c.args.src)) (λ v. number v >>= λ n. sets 1 c.args.dst (Number (loaded_signed c.args.width n)) m)
+          (found (goal.at.returns-in-None c).After-load_from maps ∙ c.in-None.is);
+    }

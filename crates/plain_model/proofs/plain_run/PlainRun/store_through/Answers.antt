@@ -13,4 +13,4 @@ returns-in-Some c =
     let h : SFits w64 c.in-Frame.o = search rules in
     let e = simp to_z-of_z at c.place_of.ensures.value in
     store_known (state_of c.args.self.now) (byte_count c.args.width) c.args.offset c.args.v c.args.r c.in-Frame.o c.in-Some.at (cells_of c.write.new.frame) c.in-Frame.is (sym e ∙ c.in-Some.is)
-      (subst (λ t. Writes c.in-Some.at (byte_count c.args.width) c.args.v c.args.self.now.frame t c.write.new.frame) c.if-write.true c.write.ensures)
+    (subst (λ t. Writes c.in-Some.at (byte_count c.args.width) c.args.v c.args.self.now.frame t c.write.new.frame) c.if-write.true c.write.ensures)
