@@ -35,7 +35,7 @@ pub fn bytes_of(alloc: Global, text: &str) -> Result<Vec<u8>, Fail> {
     Ok(hex::decode(alloc, digits)?)
 }
 
-fn context_of(bytes: &[u8]) -> Result<CtxBytes, Fail>
+pub fn context_of(bytes: &[u8]) -> Result<CtxBytes, Fail>
     ensures { IfOk result (λ c. c.items ≡ bytes.now) }
 {
     let mut ctx = CtxBytes::new();
