@@ -1,0 +1,3 @@
+pub mod Running
+pub mod Words
+pub mod Writes

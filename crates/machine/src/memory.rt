@@ -1,0 +1,108 @@
+//! Addresses, and the bytes that they name.
+ghost use Rattle.std.specs.Prelude.{◌≡◌, ℕ, ◌+◌, ◌^◌, ◌<◌, ◌≤◌, length, slice_get, Some, pos, ◌+ℤ◌};
+ghost use Rattle.bpf_model.specs.Access.{byte_count, number_at};
+ghost use Rattle.abstract_state.specs.declared.kind.Region.TheVariants as regions;
+ghost use Rattle.bpf_model.specs.declared.insn.Insn.{Insn};
+ghost use Rattle.bpf_model.specs.declared.value.Value.{Value};
+ghost use Rattle.bpf_model.specs.Step.{State};
+ghost use Rattle.verifier.specs.Checked.{Checked};
+ghost use Rattle.machine.specs.Running.{Can, Does, Loads, stored_by};
+ghost use Rattle.machine.specs.Words.{WordIs};
+ghost use Rattle.machine.specs.Writes.{HasRoom, IsCounted, SetsBytes, Reaches, bytes_of};
+ghost use Rattle.machine.specs.declared.run.Local.TheVariants.{Moved};
+
+use crate::bytes::{number_of, write_number};
+use crate::run::{CTX_BASE, FRAME_BASE, Local, Run};
+use abstract_state::Region;
+use alu::load_signed;
+use bpf_model::{Operand, Reg, SignedWidth, Width};
+
+/// A word, moved by an offset.
+#[inline]
+pub(crate) fn address_of(word: u64, offset: i16) -> u64
+    ensures { (a : ℕ) → a < 2 ^ 64 → pos word +ℤ offset ≡ pos a → result ≡ a }
+{
+    word.wrapping_add(i64::from(offset).cast_unsigned())
+}
+
+impl Run {
+    /// The number that stands at an address of the region.
+    #[inline]
+    pub(crate) fn load_number(&self, region: Region, width: Width, address: u64) -> u64
+        requires { (at : ℕ) × Reaches region self.now address (byte_count width) at }
+        ensures { (at : ℕ) → Reaches region self.now address (byte_count width) at → number_at (slice_get (bytes_of region self.now)) at (byte_count width) ≡ Some result }
+    {
+        match region {
+            Region::Ctx => number_of(self.ctx.as_slice(), (address - CTX_BASE) as usize, width),
+            Region::Frame => number_of(&self.frame, (address - FRAME_BASE) as usize, width),
+            Region::None => unreachable!(),
+        }
+    }
+
+    /// Writes the low bytes of a word to the frame, and goes on.
+    #[inline]
+    pub(crate) fn store_number(&mut self, width: Width, address: u64, word: u64) -> Local
+        requires room { HasRoom self.old }
+        requires reaches { (at : ℕ) × Reaches regions.Frame self.old address (byte_count width) at }
+        ensures set { (at : ℕ) → Reaches regions.Frame self.old address (byte_count width) at → SetsBytes at (byte_count width) word self.old self.new }
+        ensures moved { result ≡ Moved }
+        ensures counted { IsCounted self.old self.new }
+    {
+        write_number(&mut self.frame, (address - FRAME_BASE) as usize, width, word);
+        self.place += 1;
+        self.steps += 1;
+        Local::Moved
+    }
+
+    /// The word of what a load through a register finds.
+    #[inline]
+    fn loaded(&self, region: Region, width: Width, src: Reg, offset: i16) -> u64
+        requires { (v : Checked) × (bases : ℕ → ℕ) × (m : State) × (u : Value) × Loads v self.now region (byte_count width) src offset bases m u }
+        ensures { (v : Checked) (bases : ℕ → ℕ) (m : State) (u : Value) → Loads v self.now region (byte_count width) src offset bases m u → WordIs bases result u }
+    {
+        let address = address_of(self.register(src), offset);
+        self.load_number(region, width, address)
+    }
+
+    #[inline]
+    pub(crate) fn load(&mut self, region: Region, width: Width, dst: Reg, src: Reg, offset: i16) -> Local
+        requires room { HasRoom self.old }
+        requires can { (v : Checked) × (slice_get v.regions self.old.place ≡ Some region) × Can v (Insn.Load width dst src offset) self.old }
+        ensures does { (v : Checked) → slice_get v.regions self.old.place ≡ Some region → Does v (Insn.Load width dst src offset) self.old result self.new }
+        ensures counted { IsCounted self.old self.new }
+    {
+        let word = self.loaded(region, width, src, offset);
+        self.set(dst, word)
+    }
+
+    #[inline]
+    pub(crate) fn load_signed(
+        &mut self,
+        region: Region,
+        width: SignedWidth,
+        dst: Reg,
+        src: Reg,
+        offset: i16,
+    ) -> Local
+        requires room { HasRoom self.old }
+        requires can { (v : Checked) × (slice_get v.regions self.old.place ≡ Some region) × Can v (Insn.LoadSigned width dst src offset) self.old }
+        ensures does { (v : Checked) → slice_get v.regions self.old.place ≡ Some region → Does v (Insn.LoadSigned width dst src offset) self.old result self.new }
+        ensures counted { IsCounted self.old self.new }
+    {
+        let number = self.loaded(region, width.width(), src, offset);
+        let word = load_signed(width, number);
+        self.set(dst, word)
+    }
+
+    #[inline]
+    pub(crate) fn store(&mut self, width: Width, dst: Reg, src: &Operand, offset: i16) -> Local
+        requires room { HasRoom self.old }
+        requires can { (v : Checked) × Can v (stored_by width dst src.now offset) self.old }
+        ensures does { (v : Checked) → Does v (stored_by width dst src.now offset) self.old result self.new }
+        ensures counted { IsCounted self.old self.new }
+    {
+        let word = self.operand(src);
+        let address = address_of(self.register(dst), offset);
+        self.store_number(width, address, word)
+    }
+}
