@@ -1,5 +1,5 @@
 -- The steps of a run that exits.
-use Rattle.std.proofs.Common.{◌≡◌, ℕ, ◌+◌, ◌<◌, ◌≤◌, List, subst, sym, arith}
+use Rattle.std.proofs.Common.{◌≡◌, ℕ, ◌+◌, ◌<◌, List, subst, sym, arith}
 use Rattle.bpf_model.specs.Step.{Outcome, Moves, Exits, Steps, ExitsWith, exits_now, entry}
 use Rattle.verifier.specs.Checked.{Checked}
 use Rattle.verifier.specs.Valid.{IsVerified}

@@ -8,9 +8,11 @@ mod decimal;
 mod measure;
 mod report;
 mod samples;
+#[cfg(test)]
+mod tests;
 mod trial;
 
-use anyhow::Result;
+use anyhow::{Result, bail};
 use command::{Command, parse_words};
 use measure::{Activity, time_per_part};
 use report::sample_line;
@@ -34,7 +36,10 @@ fn measure_file(rt: &HostRuntime, file: &str, ctx_len: usize) -> Result<()>
     requires { ctx_len ≤ 256 }
 {
     let alloc = rt.alloc();
-    let bytes = fs::read(rt, file)?;
+    let bytes = match fs::read(rt, file) {
+        Ok(bytes) => bytes,
+        Err(error) => bail!("{file}: {error}"),
+    };
     let trial = trial_of(alloc, bytes.as_slice(), ctx_len)?;
     let outcome = counted_run(&trial);
     let exit = outcome.exit;
