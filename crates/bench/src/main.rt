@@ -1,0 +1,80 @@
+//! `bench`: what runs of programs come to, and how long runs and verifications take.
+#![tactic(auto)]
+
+ghost use Rattle.std.specs.Prelude.{◌≤◌};
+
+mod command;
+mod decimal;
+mod measure;
+mod report;
+mod samples;
+#[cfg(test)]
+mod tests;
+mod trial;
+
+use anyhow::{Result, bail};
+use command::{Command, parse_words};
+use measure::{Activity, time_per_part};
+use report::sample_line;
+use samples::samples;
+use std::process::ExitCode;
+use std::{env, fs};
+use trial::{counted_run, trial_of};
+
+/// Runs each program that is built in, and prints what it came to.
+fn print_samples(rt: &HostRuntime) -> Result<()> {
+    let alloc = rt.alloc();
+    for sample in samples() {
+        let trial = sample.trial(alloc)?;
+        rt.println(sample_line(alloc, sample.name, counted_run(&trial))?)?;
+    }
+    Ok(())
+}
+
+/// Measures the program in a file on a context of this length, and prints four lines.
+fn measure_file(rt: &HostRuntime, file: &str, ctx_len: usize) -> Result<()>
+    requires { ctx_len ≤ 256 }
+{
+    let alloc = rt.alloc();
+    let bytes = match fs::read(rt, file) {
+        Ok(bytes) => bytes,
+        Err(error) => bail!("{file}: {error}"),
+    };
+    let trial = trial_of(alloc, bytes.as_slice(), ctx_len)?;
+    let outcome = counted_run(&trial);
+    let exit = outcome.exit;
+    let instructions = outcome.instructions;
+    let run_time = time_per_part(alloc, rt, Activity::Runs, &trial, instructions as u64)?;
+    let verify_time = time_per_part(alloc, rt, Activity::Verifications, &trial, 1000)?;
+    println!(rt; "exit {exit}")?;
+    println!(rt; "instructions {instructions}")?;
+    println!(rt; "run_ns_per_instruction {run_time}")?;
+    println!(rt; "verify_us {verify_time}")?;
+    Ok(())
+}
+
+fn perform(rt: &HostRuntime) -> Result<ExitCode> {
+    let mut words = Vec::new(rt.alloc());
+    for word in env::args(rt)?.skip(1) {
+        words.push(word)?;
+    }
+    match parse_words(words.as_slice()) {
+        Ok(Command::Samples) => print_samples(rt)?,
+        Ok(Command::Run { file, ctx_len }) => measure_file(rt, file, ctx_len)?,
+        Err(fault) => {
+            eprintln!(rt; "{fault}")?;
+            return Ok(ExitCode::from(2));
+        }
+    }
+    Ok(ExitCode::SUCCESS)
+}
+
+fn main(rt: HostRuntime) -> ExitCode {
+    match perform(&rt) {
+        Ok(status) => status,
+        Err(error) => {
+            let _ = eprintln!(&rt; "{error}");
+            ExitCode::FAILURE
+        }
+    }
+}

@@ -1,0 +1,137 @@
+//! How long runs and verifications take.
+ghost use Rattle.std.specs.Prelude.{◌≡◌, ◌<◌, ◌^◌, ◌%◌, length, IfOk};
+ghost use Rattle.bench.specs.Trials.{IsReady};
+
+use crate::decimal::{Decimal, quotient};
+use crate::trial::{Trial, counted_run, counting_bytes};
+use anyhow::{Result, ensure};
+use bpf_model::CtxBytes;
+use machine::run_to_exit;
+use std::alloc::Global;
+use std::rt::Clock;
+use std::time::{Duration, Instant};
+use verifier::verify;
+
+/// How many milliseconds a batch takes at least, so that reading the clock does not count.
+const LEAST_MILLIS: u64 = 50;
+
+/// A batch has at most 2 to this power of calls.
+const MOST_DOUBLINGS: u32 = 24;
+
+/// How many batches are timed. The quickest counts, since whatever else the computer does only adds time.
+const BATCHES: u32 = 10;
+
+/// What is timed.
+#[derive(Clone, Copy, Debug, PartialEq, Eq)]
+pub enum Activity {
+    /// Runs of the program to its exit.
+    Runs,
+    /// Verifications of the program.
+    Verifications,
+}
+
+/// One of two contexts, as a number is even or odd.
+fn by_parity<'a>(number: u64, even: &'a CtxBytes, odd: &'a CtxBytes) -> &'a CtxBytes
+    requires { length even.now.items ≡ length odd.now.items }
+    ensures even { number % 2 ≡ 0 → result.now ≡ even.now }
+    ensures odd { number % 2 ≡ 1 → result.now ≡ odd.now }
+    ensures length { length result.now.items ≡ length even.now.items }
+{
+    if number % 2 == 0 { even } else { odd }
+}
+
+/// Times runs of the program. The exit before decides on which of two equal contexts each is made, so
+/// that no compiler can take the runs out of the loop.
+fn time_runs(clock: &impl Clock, trial: &Trial, calls: u32) -> Result<Duration>
+    requires { IsReady trial.now }
+{
+    let copy = counting_bytes(trial.verified.ctx_len());
+    let expected = counted_run(trial).exit;
+    let mut exit = expected;
+    let start = Instant::now(clock)?;
+    for _ in 0..calls {
+        exit = run_to_exit(&trial.verified, by_parity(exit, &trial.ctx, &copy));
+    }
+    let time = start.elapsed(clock)?;
+    ensure!(
+        exit == expected,
+        "runs exited with {expected} and with {exit}"
+    );
+    Ok(time)
+}
+
+/// Times verifications of copies of the program, without the time that the copies take.
+fn time_verifications(
+    alloc: Global,
+    clock: &impl Clock,
+    trial: &Trial,
+    calls: u32,
+) -> Result<Duration> {
+    let mut time = Duration::ZERO;
+    for _ in 0..calls {
+        let program = trial.verified.program().copy(alloc)?;
+        let start = Instant::now(clock)?;
+        let verified = verify(alloc, program, &[], trial.verified.ctx_len())?;
+        time = time.saturating_add(start.elapsed(clock)?);
+        drop(verified);
+    }
+    Ok(time)
+}
+
+fn time_of(
+    alloc: Global,
+    clock: &impl Clock,
+    activity: Activity,
+    trial: &Trial,
+    calls: u32,
+) -> Result<Duration>
+    requires { IsReady trial.now }
+{
+    match activity {
+        Activity::Runs => time_runs(clock, trial, calls),
+        Activity::Verifications => time_verifications(alloc, clock, trial, calls),
+    }
+}
+
+/// A number of calls that take long enough to be timed.
+fn calls_of_batch(
+    alloc: Global,
+    clock: &impl Clock,
+    activity: Activity,
+    trial: &Trial,
+) -> Result<u32>
+    requires { IsReady trial.now }
+    ensures { IfOk result (λ calls. 0 < calls) }
+{
+    for doublings in 0..MOST_DOUBLINGS {
+        let calls = 1 << doublings;
+        if time_of(alloc, clock, activity, trial, calls)? >= Duration::from_millis(LEAST_MILLIS) {
+            return Ok(calls);
+        }
+    }
+    Ok(1 << MOST_DOUBLINGS)
+}
+
+/// The time of one call in nanoseconds, divided further by `parts`: the mean of the quickest of some
+/// batches, each long enough for the clock.
+pub fn time_per_part(
+    alloc: Global,
+    clock: &impl Clock,
+    activity: Activity,
+    trial: &Trial,
+    parts: u64,
+) -> Result<Decimal>
+    requires ready { IsReady trial.now }
+    requires positive { 0 < parts }
+    requires small { parts < 2 ^ 32 }
+{
+    let calls = calls_of_batch(alloc, clock, activity, trial)?;
+    let mut best = Duration::MAX;
+    for _ in 0..BATCHES {
+        let time = time_of(alloc, clock, activity, trial, calls)?;
+        if time < best {
+            best = time;
+        }
+    }
+    Ok(quotient(best.as_nanos(), u128::from(calls) * u128::from(parts)))
+}

@@ -1,0 +1,79 @@
+//! A verified program and a context to run it on.
+ghost use Rattle.std.specs.Prelude.{◌≡◌, ℕ, ◌<◌, ◌≤◌, length, slice_index, IfOk};
+ghost use Rattle.bpf_model.specs.Spelling.{text};
+ghost use Rattle.bpf_model.specs.Step.{ExitsWith, entry};
+ghost use Rattle.machine.specs.Running.{environment_of};
+ghost use Rattle.bench.specs.Trials.{IsReady};
+
+use anyhow::Result;
+use bpf_model::CtxBytes;
+use insn_codec::decode;
+use machine::{Local, Run};
+use std::alloc::Global;
+use verifier::{Verified, verify};
+
+/// A verified program, and a context of the length that it was verified for.
+#[derive(Drop)]
+pub struct Trial {
+    pub verified: Verified,
+    pub ctx: CtxBytes,
+}
+
+/// What a run came to: the value with which the program exited, and how many instructions it executed.
+#[derive(Clone, Copy, Debug, PartialEq, Eq)]
+pub struct Outcome {
+    pub exit: u64,
+    pub instructions: usize,
+}
+
+/// The context bytes 0, 1, 2 and so on.
+pub fn counting_bytes(ctx_len: usize) -> CtxBytes
+    requires { ctx_len ≤ 256 }
+    ensures length { length result.items ≡ ctx_len }
+    ensures bytes { (k : ℕ) → k < ctx_len → slice_index result.items k ≡ k }
+{
+    let mut bytes = CtxBytes::new();
+    for i in 0..ctx_len {
+        bytes.push(i as u8);
+    }
+    bytes
+}
+
+/// Decodes and verifies program bytes, with no maps, for a context of this length with the bytes 0, 1, 2
+/// and so on. The error says what is wrong with the bytes or the program, or that memory ran out.
+pub fn trial_of(alloc: Global, bytes: &[u8], ctx_len: usize) -> Result<Trial>
+    requires { ctx_len ≤ 256 }
+    ensures program { IfOk result (λ t. bytes.now ≡ text t.verified.program) }
+    ensures length { IfOk result (λ t. t.verified.ctx_len ≡ ctx_len) }
+    ensures bytes { IfOk result (λ t. (k : ℕ) → k < ctx_len → slice_index t.ctx.items k ≡ k) }
+    ensures ready { IfOk result IsReady }
+{
+    let program = decode(alloc, bytes)?;
+    let verified = verify(alloc, program, &[], ctx_len)?;
+    Ok(Trial {
+        verified,
+        ctx: counting_bytes(ctx_len),
+    })
+}
+
+/// What a run of the program on the context comes to.
+pub fn counted_run(trial: &Trial) -> Outcome
+    requires { IsReady trial.now }
+    ensures least { 0 < result.instructions }
+    ensures limit { result.instructions ≤ 4096 }
+    ensures exits { ExitsWith trial.now.verified.program (environment_of trial.now.verified trial.now.ctx.items) entry result.instructions result.exit }
+{
+    let _program = trial.verified.program();
+    let mut run = Run::start(&trial.verified, &trial.ctx);
+    loop {
+        match run.local_step(&trial.verified) {
+            Local::Moved => {}
+            Local::Exit(exit) => {
+                return Outcome {
+                    exit,
+                    instructions: run.steps(),
+                };
+            }
+        }
+    }
+}
