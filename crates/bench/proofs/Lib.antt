@@ -1,2 +1,1 @@
 mod Bytes
-mod Counted

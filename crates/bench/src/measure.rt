@@ -50,7 +50,7 @@ fn time_runs(clock: &impl Clock, trial: &Trial, calls: u32) -> Result<Duration>
     let mut exit = expected;
     let start = Instant::now(clock)?;
     for _ in 0..calls {
-        exit = run_to_exit(&trial.verified, by_parity(exit, &trial.ctx, &copy));
+        exit = run_to_exit(&trial.verified, by_parity(exit, &trial.ctx, &copy)).value;
     }
     let time = start.elapsed(clock)?;
     ensure!(

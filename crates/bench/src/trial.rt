@@ -8,7 +8,7 @@ ghost use Rattle.bench.specs.Trials.{IsReady};
 use anyhow::Result;
 use bpf_model::CtxBytes;
 use insn_codec::decode;
-use machine::{Local, Run};
+use machine::run_to_exit;
 use std::alloc::Global;
 use verifier::{Verified, verify};
 
@@ -63,17 +63,9 @@ pub fn counted_run(trial: &Trial) -> Outcome
     ensures limit { result.instructions ≤ 4096 }
     ensures exits { ExitsWith trial.now.verified.program (environment_of trial.now.verified trial.now.ctx.items) entry result.instructions result.exit }
 {
-    let _program = trial.verified.program();
-    let mut run = Run::start(&trial.verified, &trial.ctx);
-    loop {
-        match run.local_step(&trial.verified) {
-            Local::Moved => {}
-            Local::Exit(exit) => {
-                return Outcome {
-                    exit,
-                    instructions: run.steps(),
-                };
-            }
-        }
+    let finished = run_to_exit(&trial.verified, &trial.ctx);
+    Outcome {
+        exit: finished.value,
+        instructions: finished.steps,
     }
 }

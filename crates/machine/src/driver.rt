@@ -1,5 +1,5 @@
 //! Whole runs.
-ghost use Rattle.std.specs.Prelude.{◌≡◌, ◌≤◌, length};
+ghost use Rattle.std.specs.Prelude.{◌≡◌, ◌<◌, ◌≤◌, length};
 ghost use Rattle.bpf_model.specs.Step.{ExitsWith, entry};
 ghost use Rattle.machine.specs.Running.{environment_of};
 
@@ -20,7 +20,10 @@ pub fn run_to_exit(verified: &Verified, ctx: &CtxBytes) -> Finished
     requires { length ctx.now.items ≡ verified.now.ctx_len }
     ensures exits { ExitsWith verified.now.program (environment_of verified.now ctx.now.items) entry result.steps result.value }
     ensures bounded { result.steps ≤ length verified.now.program }
+    ensures some { 0 < result.steps }
+    ensures limit { result.steps ≤ 4096 }
 {
+    let _program = verified.program();
     let mut run = Run::start(verified, ctx);
     'steps: loop {
         match run.local_step(verified) {

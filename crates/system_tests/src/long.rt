@@ -4,7 +4,9 @@ use std::alloc::Global;
 use std::test::Fail;
 
 const MOVE_ZERO: [u8; 8] = [0xb7, 0, 0, 0, 0, 0, 0, 0];
+
 const JUMP_OVER_ONE_IF_ZERO: [u8; 8] = [0x15, 0, 1, 0, 0, 0, 0, 0];
+
 const EXIT: [u8; 8] = [0x95, 0, 0, 0, 0, 0, 0, 0];
 
 /// So many times two slots, then two more.
