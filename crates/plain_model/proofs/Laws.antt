@@ -1,5 +1,5 @@
 -- Steps of definitions.
-use Rattle.std.proofs.Common.{◌≡◌, ◌≢◌, inl, inr, true, false, ℕ, zero, suc, ◌+◌, ◌-◌, ◌<◌, ◌≤◌, refl, sym, ◌∙◌, ap, subst, arith, List, [], ◌∷◌}
+use Rattle.std.proofs.Common.{◌≡◌, ◌≢◌, inl, inr, true, false, ℕ, zero, suc, ◌+◌, ◌<◌, ◌≤◌, refl, sym, ◌∙◌, ap, subst, arith, List, [], ◌∷◌}
 use Rattle.std.specs.Prelude.{◌==◌, ◌&&◌, nat_lt, if◌then◌else◌, length, slice_set, Option, Some, None, slice_index_or, ℤ, pos, ◌+ℤ◌, ◌-ℤ◌}
 use Rattle.std.specs.Int.{w64}
 use Rattle.std.proofs.Math.Path.{fun_ext}
@@ -11,23 +11,23 @@ use Rattle.bpf_model.specs.declared.value.Cell.TheVariants.{Unwritten}
 use Rattle.bpf_model.specs.Frame.{is_within}
 use Rattle.bpf_model.specs.declared.insn.Insn.{Insn}
 use Rattle.bpf_model.specs.declared.value.Value.{Value}
-use Rattle.bpf_model.specs.declared.value.Value.TheVariants.{Nothing, Number, Pointer}
+use Rattle.bpf_model.specs.declared.value.Value.TheVariants.{Nothing, Pointer}
 use Rattle.bpf_model.specs.declared.value.Reference.{Reference}
 use Rattle.bpf_model.specs.declared.value.Reference.TheVariants.{Ctx, Frame, MapRef, Elem}
 use Rattle.bpf_model.specs.Operand.{moved, sum_of, difference_of}
 use Rattle.bpf_model.specs.Access.{place_of}
 use Rattle.bpf_model.specs.Arithmetic.{signed}
 use Rattle.bpf_model.specs.Places.{start-insn_at, starts_inside, slot_count_some}
-use Rattle.bpf_model.specs.Spelling.{slot_count, slot_total}
+use Rattle.bpf_model.specs.Spelling.{slot_total}
 use Rattle.bpf_model.specs.Step.{State, Outcome, Moves, insn_at, entry_value, sets, put, stored, frame_after}
 use Rattle.bpf_model.specs.Value.{◌>>=◌, number}
 use Rattle.plain_model.specs.declared.plain_run.PlainRun.{PlainRun}
 use Rattle.plain_model.specs.declared.plain_run.Progress.{Progress}
 use Rattle.plain_model.specs.declared.value.Computed.{Computed}
-use Rattle.plain_model.specs.Plain.{cells_of, state_of, Comes, Computes, IsFar, IsSum, offset_of}
+use Rattle.plain_model.specs.Plain.{cells_of, Comes, Computes, IsFar, IsSum, offset_of}
 
-pub bind_comes : {A : Type 0} (o : Option A) (f : A → Option Outcome) (x : A) (answer : Progress) (new : PlainRun) → o ≡ Some x → Comes (f x) answer new → Comes (o >>= f) answer new
-bind_comes o f x answer new e h = subst (λ o. Comes (o >>= f) answer new) (sym e) h
+pub bind_comes : {A : Type 0} (o : Option A) (f : A → Option Outcome) (x : A) (answer : Progress) (old new : PlainRun) → o ≡ Some x → Comes (f x) answer old new → Comes (o >>= f) answer old new
+bind_comes o f x answer old new e h = subst (λ o. Comes (o >>= f) answer old new) (sym e) h
 
 pub bind_none : {A B : Type 0} (o : Option A) (f : A → Option B) → o ≡ None → (o >>= f) ≡ None
 bind_none o f e = ap (λ o. o >>= f) e

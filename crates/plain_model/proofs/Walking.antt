@@ -1,5 +1,5 @@
 -- An exit after some steps is an exit from where they began.
-use Rattle.std.proofs.Common.{◌≡◌, ℕ, zero, suc, ◌+◌, refl, subst, arith, List}
+use Rattle.std.proofs.Common.{◌≡◌, ℕ, suc, ◌+◌, subst, arith, List}
 use Rattle.bpf_model.specs.declared.insn.Insn.{Insn}
 use Rattle.bpf_model.specs.Step.{State, Environment, Moves, Exits, Steps, ExitsWith, exits_now, exits_later}
 use Rattle.plain_model.specs.Runs.{Walks, walks_none, walks_more}

@@ -1,5 +1,5 @@
 -- What a plain run stands for, and what its steps tell.
-use Rattle.std.specs.Prelude.{◌≡◌, ℕ, List, slice_index_or, Option, Some, None, ℤ, pos, ◌+ℤ◌, FitsSigned, Bool, true, false}
+use Rattle.std.specs.Prelude.{◌≡◌, ℕ, List, slice_index_or, Option, Some, None, ℤ, pos, FitsSigned, Bool, true, false}
 use Rattle.std.specs.Int.{w64}
 use Rattle.bpf_model.specs.declared.insn.Insn.{Insn}
 use Rattle.bpf_model.specs.declared.value.Value.{Value}
@@ -56,20 +56,21 @@ Computes o (computed.Known v) = o ≡ Some v
 Computes o computed.Stuck = o ≡ None
 Computes o computed.OutOfRange = (v : Value) × (o ≡ Some v) × IsFar v
 
--- the outcome is that of the answer and the run's state after it
-abbrev pub Comes : Option Outcome → Progress → PlainRun → Type 0
-Comes o Moved new = o ≡ Some (Moves (state_of new))
-Comes o (Exited n) new = o ≡ Some (Exits n)
-Comes o Stuck new = o ≡ None
-Comes o OutOfRange new = (next : State) × (o ≡ Some (Moves next)) × (r : ℕ) × IsFar (next.regs r)
+-- The outcome is that of the answer and the run's state after it; only a run that moves changes.
+abbrev pub Comes : Option Outcome → Progress → PlainRun → PlainRun → Type 0
+Comes o Moved old new = o ≡ Some (Moves (state_of new))
+Comes o (Exited n) old new = (o ≡ Some (Exits n)) × (new ≡ old)
+Comes o Stuck old new = (o ≡ None) × (new ≡ old)
+Comes o OutOfRange old new = (next : State) × (o ≡ Some (Moves next)) × (r : ℕ) × IsFar (next.regs r) × (new ≡ old)
 
 -- the answer and the new state are those of the instruction
 pub record Performs (i : Insn) (env : Environment) (old : PlainRun) (answer : Progress) (new : PlainRun) : Type 0 where
-  pub comes : Comes (after i env (state_of old)) answer new
+  pub comes : Comes (after i env (state_of old)) answer old new
 
--- The answer is the step of the definition. A stuck run has none, and out of range is a step to a far reference.
+-- The answer is the step of the definition. A stuck run has none, and out of range is a step to a far reference;
+-- only a run that moves changes.
 abbrev pub Tells : List Insn → Environment → PlainRun → Progress → PlainRun → Type 0
 Tells program env old Moved new = Steps program env (state_of old) (Moves (state_of new))
-Tells program env old (Exited n) new = Steps program env (state_of old) (Exits n)
-Tells program env old Stuck new = (out : Outcome) → Steps program env (state_of old) out → ⊥
-Tells program env old OutOfRange new = (next : State) × Steps program env (state_of old) (Moves next) × (r : ℕ) × IsFar (next.regs r)
+Tells program env old (Exited n) new = Steps program env (state_of old) (Exits n) × (new ≡ old)
+Tells program env old Stuck new = ((out : Outcome) → Steps program env (state_of old) out → ⊥) × (new ≡ old)
+Tells program env old OutOfRange new = (next : State) × Steps program env (state_of old) (Moves next) × (r : ℕ) × IsFar (next.regs r) × (new ≡ old)

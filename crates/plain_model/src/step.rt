@@ -36,7 +36,7 @@ fn insn_at(program: &[Insn], place: usize) -> Option<&Insn>
 impl PlainRun {
     fn set(&mut self, slots: usize, dst: Reg, v: Value) -> Progress
         requires { self.old.place + slots < 2 ^ 60 }
-        ensures { Comes (sets slots dst v (state_of self.old)) result self.new }
+        ensures { Comes (sets slots dst v (state_of self.old)) result self.old self.new }
     {
         if dst.number() == 10 {
             return Progress::Stuck;
@@ -105,7 +105,7 @@ impl PlainRun {
 
     fn jump(&mut self, offset: i32) -> Progress
         requires { self.old.place < 2 ^ 40 }
-        ensures { Comes (jumps_by offset (state_of self.old)) result self.new }
+        ensures { Comes (jumps_by offset (state_of self.old)) result self.old self.new }
     {
         let target = self.place as i64 + 1 + i64::from(offset);
         if target < 0 {
@@ -188,7 +188,7 @@ impl PlainRun {
 
     fn store_through(&mut self, width: Width, offset: i16, v: Value, r: Reference) -> Progress
         requires { self.old.place < 2 ^ 40 }
-        ensures { Comes (stored (state_of self.old) (byte_count width) offset v r) result self.new }
+        ensures { Comes (stored (state_of self.old) (byte_count width) offset v r) result self.old self.new }
     {
         let o = match r {
             Reference::Frame(o) => o,
@@ -205,7 +205,7 @@ impl PlainRun {
 
     fn store(&mut self, width: Width, offset: i16, v: Value, base: Value) -> Progress
         requires { self.old.place < 2 ^ 40 }
-        ensures { Comes (store_to (state_of self.old) (byte_count width) offset v base) result self.new }
+        ensures { Comes (store_to (state_of self.old) (byte_count width) offset v base) result self.old self.new }
     {
         match base {
             Value::Pointer(r) => self.store_through(width, offset, v, r),

@@ -1,4 +1,4 @@
-use Rattle.std.proofs.Common.{◌≡◌, ◌∙◌, ap, sym, ℕ, arith}
+use Rattle.std.proofs.Common.{◌∙◌, ap, sym, arith}
 use Rattle.bpf_model.specs.Frame.{byte_of}
 use Rattle.plain_model.specs.Plain.{cells_of}
 use Rattle.plain_model.proofs.Numbers.{number_step}

@@ -1,4 +1,4 @@
-use Rattle.std.proofs.Common.{◌∙◌, ◌+◌, ◌-◌, ◌%◌, ◌/◌, ◌^◌, ◌≡◌, ℕ, ap, sym, arith}
+use Rattle.std.proofs.Common.{◌∙◌, ◌+◌, ◌-◌, ◌%◌, ◌/◌, ◌^◌, ◌≡◌, ℕ, ap, arith}
 use Rattle.bpf_model.specs.declared.value.Cell.TheVariants.{Byte}
 use Rattle.plain_model.proofs.Numbers.{div_step}
 use Rattle.plain_model.proofs.Laws.{cells_more}

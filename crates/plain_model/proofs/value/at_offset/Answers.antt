@@ -1,4 +1,4 @@
-use Rattle.std.proofs.Common.{◌≡◌, ◌∙◌, sym}
+use Rattle.std.proofs.Common.{◌∙◌, sym}
 use Rattle.plain_model.proofs.Laws.{far_moved}
 use Rattle.plain_model.proofs.value.at_offset.Goals as goal
 

@@ -1,10 +1,10 @@
-use Rattle.std.proofs.Common.{rules, ◌≡◌, ◌∙◌, ap, sym, subst, ℕ}
-use Rattle.std.specs.Prelude.{ℤ, pos, ◌+ℤ◌, ◌-ℤ◌}
+use Rattle.std.proofs.Common.{rules, ◌∙◌, sym, subst}
+use Rattle.std.specs.Prelude.{◌+ℤ◌}
 use Rattle.std.specs.Int.{w64}
 use Rattle.std.proofs.lemmas.Int.{to_z-of_z}
 use mir.Val.{SFits}
 use Rattle.bpf_model.specs.Arithmetic.{signed}
-use Rattle.plain_model.specs.Plain.{IsSum, offset_of}
+use Rattle.plain_model.specs.Plain.{IsSum}
 use Rattle.plain_model.proofs.Laws.{sum_known}
 use Rattle.plain_model.proofs.value.sum.Goals as goal
 

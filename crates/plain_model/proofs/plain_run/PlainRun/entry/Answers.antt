@@ -1,7 +1,3 @@
-use Rattle.std.proofs.Common.{◌≡◌, ℕ, [], ◌∷◌}
-use Rattle.std.specs.Prelude.{slice_index_or, pos}
-use Rattle.bpf_model.specs.declared.value.Value.TheVariants.{Nothing, Pointer}
-use Rattle.bpf_model.specs.declared.value.Reference.TheVariants.{Ctx, Frame}
 use Rattle.bpf_model.specs.declared.value.Cell.TheVariants.{Unwritten}
 use Rattle.bpf_model.specs.Step.{entry_value}
 use Rattle.plain_model.specs.Plain.{cells_of}

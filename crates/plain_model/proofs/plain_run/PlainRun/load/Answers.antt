@@ -1,15 +1,10 @@
-use Rattle.std.proofs.Common.{◌≡◌, ◌∙◌, ap, sym, subst, ℕ}
-use Rattle.std.specs.Prelude.{Some, None}
+use Rattle.std.proofs.Common.{refl, ◌≡◌, ◌∙◌, ap, sym, ℕ}
 use Rattle.std.specs.Int.{w16}
 use Rattle.std.proofs.lemmas.Int.{to_z-of_z}
 use mir.Val.{SFits}
-use Rattle.bpf_model.specs.declared.value.Value.{Value}
-use Rattle.bpf_model.specs.declared.value.Value.TheVariants.{Number}
-use Rattle.bpf_model.specs.Access.{byte_count, unsigned_width}
-use Rattle.bpf_model.specs.Arithmetic.{loaded_signed}
+use Rattle.bpf_model.specs.Access.{byte_count}
 use Rattle.bpf_model.specs.Step.{sets, load_from}
-use Rattle.bpf_model.specs.Value.{◌>>=◌, number}
-use Rattle.plain_model.specs.Plain.{Comes, state_of, environment}
+use Rattle.plain_model.specs.Plain.{state_of, environment}
 use Rattle.plain_model.proofs.Laws.{bind_comes, bind_none}
 use Rattle.plain_model.proofs.plain_run.PlainRun.load.Goals as goal
 use Rattle.plain_model.proofs.plain_run.PlainRun.load.Goals.{After-load_from}
@@ -24,11 +19,11 @@ pub returns-in-Some : goal.returns-in-Some
 returns-in-Some c = λ maps.
     let m = state_of c.args.self.now in
     record {
-      comes = bind_comes (load_from (environment c.args.context.now maps) m (byte_count c.args.width) c.args.offset (m.regs c.args.src)) (λ v. sets 1 c.args.dst v m) c.in-Some.v c.set.result c.set.new.self
+      comes = bind_comes (load_from (environment c.args.context.now maps) m (byte_count c.args.width) c.args.offset (m.regs c.args.src)) (λ v. sets 1 c.args.dst v m) c.in-Some.v c.set.result c.args.self.now c.set.new.self
           (found (goal.at.returns-in-Some c).After-load_from maps ∙ c.in-Some.is) c.set.ensures;
     }
 
 pub returns-in-None : goal.returns-in-None
 returns-in-None c = λ maps.
     let m = state_of c.args.self.now in
-    record { comes = bind_none (load_from (environment c.args.context.now maps) m (byte_count c.args.width) c.args.offset (m.regs c.args.src)) (λ v. sets 1 c.args.dst v m) (found (goal.at.returns-in-None c).After-load_from maps ∙ c.in-None.is) }
+    record { comes = (bind_none (load_from (environment c.args.context.now maps) m (byte_count c.args.width) c.args.offset (m.regs c.args.src)) (λ v. sets 1 c.args.dst v m) (found (goal.at.returns-in-None c).After-load_from maps ∙ c.in-None.is), refl) }

@@ -1,5 +1,4 @@
-use Rattle.std.proofs.Common.{◌≡◌, ◌∙◌, ap, sym, subst, ℕ}
-use Rattle.std.specs.Prelude.{Some, None}
+use Rattle.std.proofs.Common.{refl, ◌≡◌, ◌∙◌, ap, sym, subst, ℕ}
 use Rattle.std.specs.Int.{w16}
 use Rattle.std.proofs.lemmas.Int.{to_z-of_z}
 use mir.Val.{SFits}
@@ -26,22 +25,25 @@ returns-in-Some-number c = λ maps.
     let m = state_of c.args.self.now in
     let f : Value → _ = λ v. number v >>= λ n. sets 1 c.args.dst (Number (loaded_signed c.args.width n)) m in
     record {
-      comes = bind_comes (load_from (environment c.args.context.now maps) m (byte_count (unsigned_width c.args.width)) c.args.offset (m.regs c.args.src)) f c.in-Some.v c.set.result c.set.new.self
+      comes = bind_comes (load_from (environment c.args.context.now maps) m (byte_count (unsigned_width c.args.width)) c.args.offset (m.regs c.args.src)) f c.in-Some.v c.set.result c.args.self.now c.set.new.self
           (found (goal.at.returns-in-Some-number c).After-load_from maps ∙ c.in-Some.is)
-          (bind_comes (number c.in-Some.v) (λ n. sets 1 c.args.dst (Number (loaded_signed c.args.width n)) m) c.in-Some-number.n c.set.result c.set.new.self (sym c.number.ensures ∙ c.in-Some-number.is)
-          (subst (λ n. Comes (sets 1 c.args.dst (Number n) m) c.set.result c.set.new.self) c.load_signed.ensures c.set.ensures));
+          (bind_comes (number c.in-Some.v) (λ n. sets 1 c.args.dst (Number (loaded_signed c.args.width n)) m) c.in-Some-number.n c.set.result c.args.self.now c.set.new.self (sym c.number.ensures ∙ c.in-Some-number.is)
+          (subst (λ n. Comes (sets 1 c.args.dst (Number n) m) c.set.result c.args.self.now c.set.new.self) c.load_signed.ensures c.set.ensures));
     }
 
 pub returns-in-None-number : goal.returns-in-None-number
 returns-in-None-number c = λ maps.
     let m = state_of c.args.self.now in
     let f : Value → _ = λ v. number v >>= λ n. sets 1 c.args.dst (Number (loaded_signed c.args.width n)) m in
-    record { comes = ap (λ o. o >>= f) (found (goal.at.returns-in-None-number c).After-load_from maps ∙ c.in-Some.is) ∙ bind_none (number c.in-Some.v) (λ n. sets 1 c.args.dst (Number (loaded_signed c.args.width n)) m) (sym c.number.ensures ∙ c.in-None-number.is) }
+    record { comes = (ap (λ o. o >>= f) (found (goal.at.returns-in-None-number c).After-load_from maps ∙ c.in-Some.is) ∙ bind_none (number c.in-Some.v) (λ n. sets 1 c.args.dst (Number (loaded_signed c.args.width n)) m) (sym c.number.ensures ∙ c.in-None-number.is), refl) }
 
 pub returns-in-None : goal.returns-in-None
 returns-in-None c = λ maps.
     let m = state_of c.args.self.now in
     record {
-      comes = bind_none (load_from (environment c.args.context.now maps) m (byte_count (unsigned_width c.args.width)) c.args.offset (m.regs c.args.src)) (λ v. number v >>= λ n. sets 1 c.args.dst (Number (loaded_signed c.args.width n)) m)
-          (found (goal.at.returns-in-None c).After-load_from maps ∙ c.in-None.is);
+      comes = (
+        bind_none (load_from (environment c.args.context.now maps) m (byte_count (unsigned_width c.args.width)) c.args.offset (m.regs c.args.src)) (λ v. number v >>= λ n. sets 1 c.args.dst (Number (loaded_signed c.args.width n)) m)
+            (found (goal.at.returns-in-None c).After-load_from maps ∙ c.in-None.is),
+        refl,
+      );
     }
