@@ -6,7 +6,7 @@ use crate::judged::{bytes_of, context_of};
 use bpf_model::{Cell, CtxBytes, Reg, Value};
 use insn_codec::decode;
 use machine::{Local, Run};
-use plain_model::{PlainRun, Progress};
+use plain_interpreter::{PlainRun, Progress};
 use std::alloc::Global;
 use std::test::Fail;
 use verifier::{Verified, verify};

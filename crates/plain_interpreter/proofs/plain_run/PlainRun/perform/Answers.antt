@@ -1,0 +1,45 @@
+use Rattle.std.proofs.Common.{rules, subst, sym}
+use Rattle.std.specs.Int.{w16, w32}
+use Rattle.std.proofs.lemmas.Int.{to_z-of_z}
+use mir.Val.{SFits}
+use Rattle.plain_interpreter.specs.Plain.{Performs, environment}
+use Rattle.plain_interpreter.proofs.plain_run.PlainRun.perform.Goals as goal
+
+pub returns-in-Alu : goal.returns-in-Alu
+returns-in-Alu c = subst (λ i. Performs i (environment c.args.context.now c.args.maps) c.args.self.now c.alu.result c.alu.new.self) (sym c.in-Alu.is) (c.alu.ensures (environment c.args.context.now c.args.maps))
+
+pub returns-in-MoveSigned : goal.returns-in-MoveSigned
+returns-in-MoveSigned c = subst (λ i. Performs i (environment c.args.context.now c.args.maps) c.args.self.now c.move_signed.result c.move_signed.new.self) (sym c.in-MoveSigned.is) (c.move_signed.ensures (environment c.args.context.now c.args.maps))
+
+pub returns-in-Negate : goal.returns-in-Negate
+returns-in-Negate c = subst (λ i. Performs i (environment c.args.context.now c.args.maps) c.args.self.now c.negate.result c.negate.new.self) (sym c.in-Negate.is) (c.negate.ensures (environment c.args.context.now c.args.maps))
+
+pub returns-in-ByteSwap : goal.returns-in-ByteSwap
+returns-in-ByteSwap c = subst (λ i. Performs i (environment c.args.context.now c.args.maps) c.args.self.now c.byte_swap.result c.byte_swap.new.self) (sym c.in-ByteSwap.is) (c.byte_swap.ensures (environment c.args.context.now c.args.maps))
+
+pub returns-in-LoadMap : goal.returns-in-LoadMap
+returns-in-LoadMap c =
+    let g : SFits w32 c.in-LoadMap.map = search rules in
+    let e = simp to_z-of_z at c.load_map.ensures in
+    subst (λ i. Performs i (environment c.args.context.now c.args.maps) c.args.self.now c.load_map.result c.load_map.new.self) (sym c.in-LoadMap.is) (e c.args.context.now)
+
+pub returns-in-JumpIf : goal.returns-in-JumpIf
+returns-in-JumpIf c =
+    let g : SFits w16 c.in-JumpIf.offset = search rules in
+    let e = simp to_z-of_z at c.jump_if.ensures in
+    subst (λ i. Performs i (environment c.args.context.now c.args.maps) c.args.self.now c.jump_if.result c.jump_if.new.self) (sym c.in-JumpIf.is) (e (environment c.args.context.now c.args.maps))
+
+pub returns-in-Exit : goal.returns-in-Exit
+returns-in-Exit c = subst (λ i. Performs i (environment c.args.context.now c.args.maps) c.args.self.now c.exit.result c.args.self.now) (sym c.in-Exit.is) (c.exit.ensures (environment c.args.context.now c.args.maps))
+
+pub returns-in-Load : goal.returns-in-Load
+returns-in-Load c =
+    let g : SFits w16 c.in-Load.offset = search rules in
+    let e = simp to_z-of_z at c.load.ensures in
+    subst (λ i. Performs i (environment c.args.context.now c.args.maps) c.args.self.now c.load.result c.load.new.self) (sym c.in-Load.is) (e c.args.maps)
+
+pub returns-in-LoadSigned : goal.returns-in-LoadSigned
+returns-in-LoadSigned c =
+    let g : SFits w16 c.in-LoadSigned.offset = search rules in
+    let e = simp to_z-of_z at c.load_signed.ensures in
+    subst (λ i. Performs i (environment c.args.context.now c.args.maps) c.args.self.now c.load_signed.result c.load_signed.new.self) (sym c.in-LoadSigned.is) (e c.args.maps)

@@ -1,0 +1,76 @@
+-- What a plain run stands for, and what its steps tell.
+use Rattle.std.specs.Prelude.{◌≡◌, ℕ, List, slice_index_or, Option, Some, None, ℤ, pos, FitsSigned, Bool, true, false}
+use Rattle.std.specs.Int.{w64}
+use Rattle.bpf_model.specs.declared.insn.Insn.{Insn}
+use Rattle.bpf_model.specs.declared.value.Value.{Value}
+use Rattle.bpf_model.specs.declared.value.Value.TheVariants.{Nothing, Number, Pointer}
+use Rattle.bpf_model.specs.declared.value.Reference.{Reference}
+use Rattle.bpf_model.specs.declared.value.Reference.TheVariants.{Ctx, Frame, MapRef, Elem}
+use Rattle.bpf_model.specs.declared.value.Cell.{Cell}
+use Rattle.bpf_model.specs.declared.value.Cell.TheVariants as cells
+use Rattle.bpf_model.specs.Step.{State, Environment, Outcome, Moves, Exits, Steps, after, frame_after}
+use Rattle.plain_interpreter.specs.declared.plain_run.PlainRun.{PlainRun}
+use Rattle.plain_interpreter.specs.declared.plain_run.Progress.{Progress}
+use Rattle.plain_interpreter.specs.declared.plain_run.Progress.TheVariants.{Moved, Exited, Stuck, OutOfRange}
+use Rattle.plain_interpreter.specs.declared.value.Computed.{Computed}
+use Rattle.plain_interpreter.specs.declared.value.Computed.TheVariants as computed
+
+-- the cells of a list
+abbrev pub cells_of : List Cell → ℕ → Cell
+cells_of frame k = slice_index_or frame k cells.Unwritten
+
+-- a context, and how many maps there are
+abbrev pub environment : List ℕ → ℕ → Environment
+environment context maps = record { context = context; maps = maps }
+
+-- a store was made, or could not be
+abbrev pub Writes : ℕ → ℕ → Value → List Cell → Bool → List Cell → Type 0
+Writes at width v old true new = frame_after at width v (cells_of old) ≡ Some (cells_of new)
+Writes at width v old false new = (frame_after at width v (cells_of old) ≡ None) × (new ≡ old)
+
+-- the state that a run stands for
+abbrev pub state_of : PlainRun → State
+state_of run = record { regs = λ r. slice_index_or run.regs r Nothing; frame = λ k. slice_index_or run.frame k cells.Unwritten; place = run.place }
+
+-- where a reference points
+abbrev pub offset_of : Reference → ℤ
+offset_of (Ctx o) = o
+offset_of (Frame o) = o
+offset_of (MapRef m) = pos 0
+offset_of (Elem n o) = o
+
+-- a reference whose offset lies outside of 64 bits
+abbrev pub IsFar : Value → Type 0
+IsFar Nothing = ⊥
+IsFar (Number n) = ⊥
+IsFar (Pointer r) = FitsSigned w64 (offset_of r) → ⊥
+
+-- the sum of an offset and a number, if it lies inside of 64 bits
+abbrev pub IsSum : ℤ → Option ℤ → Type 0
+IsSum z None = FitsSigned w64 z → ⊥
+IsSum z (Some s) = s ≡ z
+
+-- a value was computed, or there is none, or one that is far
+abbrev pub Computes : Option Value → Computed → Type 0
+Computes o (computed.Known v) = o ≡ Some v
+Computes o computed.Stuck = o ≡ None
+Computes o computed.OutOfRange = (v : Value) × (o ≡ Some v) × IsFar v
+
+-- The outcome is that of the answer and the run's state after it; only a run that moves changes.
+abbrev pub Comes : Option Outcome → Progress → PlainRun → PlainRun → Type 0
+Comes o Moved old new = o ≡ Some (Moves (state_of new))
+Comes o (Exited n) old new = (o ≡ Some (Exits n)) × (new ≡ old)
+Comes o Stuck old new = (o ≡ None) × (new ≡ old)
+Comes o OutOfRange old new = (next : State) × (o ≡ Some (Moves next)) × (r : ℕ) × IsFar (next.regs r) × (new ≡ old)
+
+-- the answer and the new state are those of the instruction
+pub record Performs (i : Insn) (env : Environment) (old : PlainRun) (answer : Progress) (new : PlainRun) : Type 0 where
+  pub comes : Comes (after i env (state_of old)) answer old new
+
+-- The answer is the step of the definition. A stuck run has none, and out of range is a step to a far reference;
+-- only a run that moves changes.
+abbrev pub Tells : List Insn → Environment → PlainRun → Progress → PlainRun → Type 0
+Tells program env old Moved new = Steps program env (state_of old) (Moves (state_of new))
+Tells program env old (Exited n) new = Steps program env (state_of old) (Exits n) × (new ≡ old)
+Tells program env old Stuck new = ((out : Outcome) → Steps program env (state_of old) out → ⊥) × (new ≡ old)
+Tells program env old OutOfRange new = (next : State) × Steps program env (state_of old) (Moves next) × (r : ℕ) × IsFar (next.regs r) × (new ≡ old)

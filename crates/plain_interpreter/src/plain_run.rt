@@ -1,0 +1,101 @@
+//! The state of a plain run.
+ghost use Rattle.std.specs.Prelude.{◌≡◌, ℕ, ◌<◌};
+ghost use Rattle.bpf_model.specs.declared.value.Cell.TheVariants as cells;
+ghost use Rattle.bpf_model.specs.Operand.{operand_value};
+ghost use Rattle.bpf_model.specs.Step.{entry};
+ghost use Rattle.plain_interpreter.specs.Plain.{state_of, cells_of};
+
+use alu::immediate;
+use bpf_model::{Cell, Operand, Reference, Reg, Value};
+
+/// What a step came to: the run goes on, it has exited with this value, it is stuck, or a register would
+/// hold a reference whose offset leaves 64 bits.
+#[derive(Clone, Copy, Debug, PartialEq, Eq)]
+pub enum Progress {
+    Moved,
+    Exited(u64),
+    Stuck,
+    OutOfRange,
+}
+
+/// A run with values of known kinds: eleven registers, the frame's 512 cells, and the slot where the next
+/// instruction begins.
+#[derive(Drop)]
+pub struct PlainRun {
+    pub(crate) regs: [Value; 11],
+    pub(crate) frame: [Cell; 512],
+    pub(crate) place: usize,
+}
+
+fn clear(frame: &mut [Cell])
+    ensures { (k : ℕ) → cells_of frame.new k ≡ cells.Unwritten }
+{
+    for cell in frame.iter_mut() {
+        *cell = Cell::Unwritten;
+    }
+}
+
+/// A frame of which nothing is written.
+fn empty_frame() -> [Cell; 512]
+    ensures { (k : ℕ) → cells_of result k ≡ cells.Unwritten }
+{
+    let mut frame = [Cell::Unwritten; 512];
+    clear(&mut frame);
+    frame
+}
+
+impl PlainRun {
+    /// A run at the entry: r1 is the context, r10 the end of the frame, and nothing else is written.
+    pub fn entry() -> PlainRun
+        ensures { state_of result ≡ entry }
+    {
+        PlainRun {
+            regs: [
+                Value::Nothing,
+                Value::Pointer(Reference::Ctx(0)),
+                Value::Nothing,
+                Value::Nothing,
+                Value::Nothing,
+                Value::Nothing,
+                Value::Nothing,
+                Value::Nothing,
+                Value::Nothing,
+                Value::Nothing,
+                Value::Pointer(Reference::Frame(512)),
+            ],
+            frame: empty_frame(),
+            place: 0,
+        }
+    }
+
+    /// What a register holds.
+    pub fn register(&self, r: Reg) -> Value
+        ensures { result ≡ (state_of self.now).regs r }
+    {
+        self.regs[r.index()]
+    }
+
+    /// A cell of the frame, from 0 to 511.
+    pub fn cell(&self, index: usize) -> Cell
+        requires { index < 512 }
+        ensures { result ≡ (state_of self.now).frame index }
+    {
+        self.frame[index]
+    }
+
+    /// The slot where the next instruction begins.
+    pub fn place(&self) -> usize
+        ensures { result ≡ (state_of self.now).place }
+    {
+        self.place
+    }
+
+    pub(crate) fn operand(&self, src: &Operand) -> Value
+        ensures { result ≡ operand_value src.now (state_of self.now).regs }
+    {
+        match src {
+            Operand::Register(r) => self.register(*r),
+            Operand::Immediate(imm) => Value::Number(immediate(*imm)),
+        }
+    }
+}

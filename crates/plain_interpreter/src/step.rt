@@ -1,0 +1,299 @@
+//! The steps of a plain run.
+ghost use Rattle.std.specs.Prelude.{◌≡◌, ℕ, ◌+◌, ◌^◌, ◌<◌, ◌≤◌, length, List, MatchOption, Some, None};
+ghost use Rattle.bpf_model.specs.declared.insn.Insn.{Insn};
+ghost use Rattle.bpf_model.specs.Access.{byte_count};
+ghost use Rattle.bpf_model.specs.Spelling.{slot_total};
+ghost use Rattle.bpf_model.specs.Step.{Environment, sets, jumps_by, load_from, store_to, stored, after, insn_at as insn_of};
+ghost use Rattle.plain_interpreter.specs.Plain.{state_of, Comes, Performs, Tells, environment};
+
+use crate::memory::{number_in, place_of, read, write};
+use crate::plain_run::{PlainRun, Progress};
+use crate::value::{Computed, compute, decided, number};
+use alu::{byte_swap, immediate, load_signed, move_signed, negate};
+use bpf_model::{
+    AluOp, ByteOrder, Condition, Insn, Operand, Reference, Reg, SignExtension, SignedWidth, Size,
+    SwapWidth, Value, Width,
+};
+
+/// The instruction that begins at a slot.
+fn insn_at(program: &[Insn], place: usize) -> Option<&Insn>
+    ensures { MatchOption result (insn_of program.now place ≡ None) (λ i. insn_of program.now place ≡ Some i.now) }
+{
+    let mut left = place;
+    for insn in program {
+        if left == 0 {
+            return Some(insn);
+        }
+        let slots = insn.slot_count();
+        if left < slots {
+            return None;
+        }
+        left -= slots;
+    }
+    None
+}
+
+impl PlainRun {
+    fn set(&mut self, slots: usize, dst: Reg, v: Value) -> Progress
+        requires { self.old.place + slots < 2 ^ 60 }
+        ensures { Comes (sets slots dst v (state_of self.old)) result self.old self.new }
+    {
+        if dst.number() == 10 {
+            return Progress::Stuck;
+        }
+        self.regs[dst.index()] = v;
+        self.place += slots;
+        Progress::Moved
+    }
+
+    fn alu(&mut self, op: AluOp, size: Size, dst: Reg, src: &Operand) -> Progress
+        requires { self.old.place < 2 ^ 40 }
+        ensures { (env : Environment) → Performs (Insn.Alu op size dst src.now) env self.old result self.new }
+    {
+        match compute(size, op, self.register(dst), self.operand(src)) {
+            Computed::Known(v) => self.set(1, dst, v),
+            Computed::Stuck => Progress::Stuck,
+            Computed::OutOfRange => {
+                if dst.number() == 10 {
+                    Progress::Stuck
+                } else {
+                    Progress::OutOfRange
+                }
+            }
+        }
+    }
+
+    fn move_signed(&mut self, extension: SignExtension, dst: Reg, src: Reg) -> Progress
+        requires { self.old.place < 2 ^ 40 }
+        ensures { (env : Environment) → Performs (Insn.MoveSigned extension dst src) env self.old result self.new }
+    {
+        match number(self.register(src)) {
+            Some(n) => self.set(1, dst, Value::Number(move_signed(extension, n))),
+            None => Progress::Stuck,
+        }
+    }
+
+    fn negate(&mut self, size: Size, dst: Reg) -> Progress
+        requires { self.old.place < 2 ^ 40 }
+        ensures { (env : Environment) → Performs (Insn.Negate size dst) env self.old result self.new }
+    {
+        match number(self.register(dst)) {
+            Some(n) => self.set(1, dst, Value::Number(negate(size, n))),
+            None => Progress::Stuck,
+        }
+    }
+
+    fn byte_swap(&mut self, order: ByteOrder, width: SwapWidth, dst: Reg) -> Progress
+        requires { self.old.place < 2 ^ 40 }
+        ensures { (env : Environment) → Performs (Insn.ByteSwap order width dst) env self.old result self.new }
+    {
+        match number(self.register(dst)) {
+            Some(n) => self.set(1, dst, Value::Number(byte_swap(order, width, n))),
+            None => Progress::Stuck,
+        }
+    }
+
+    fn load_map(&mut self, dst: Reg, map: i32, maps: usize) -> Progress
+        requires { self.old.place < 2 ^ 40 }
+        ensures { (context : List ℕ) → Performs (Insn.LoadMap dst map) (environment context maps) self.old result self.new }
+    {
+        if map < 0 || map as usize >= maps {
+            return Progress::Stuck;
+        }
+        self.set(2, dst, Value::Pointer(Reference::MapRef(map as usize)))
+    }
+
+    fn jump(&mut self, offset: i32) -> Progress
+        requires { self.old.place < 2 ^ 40 }
+        ensures { Comes (jumps_by offset (state_of self.old)) result self.old self.new }
+    {
+        let target = self.place as i64 + 1 + i64::from(offset);
+        if target < 0 {
+            return Progress::Stuck;
+        }
+        self.place = target as usize;
+        Progress::Moved
+    }
+
+    fn jump_if(
+        &mut self,
+        condition: Condition,
+        size: Size,
+        dst: Reg,
+        src: &Operand,
+        offset: i16,
+    ) -> Progress
+        requires { self.old.place < 2 ^ 40 }
+        ensures { (env : Environment) → Performs (Insn.JumpIf condition size dst src.now offset) env self.old result self.new }
+    {
+        match decided(condition, size, src, self.register(dst), self.operand(src)) {
+            Some(true) => self.jump(i32::from(offset)),
+            Some(false) => {
+                self.place += 1;
+                Progress::Moved
+            }
+            None => Progress::Stuck,
+        }
+    }
+
+    fn load_from(&self, context: &[u8], width: Width, offset: i16, base: Value) -> Option<Value>
+        requires { length context.now ≤ 256 }
+        ensures { (maps : ℕ) → result ≡ load_from (environment context.now maps) (state_of self.now) (byte_count width) offset base }
+    {
+        match base {
+            Value::Pointer(Reference::Ctx(o)) => {
+                let at = place_of(context.len(), width, o, offset)?;
+                let n = number_in(context, at, width.bytes())?;
+                Some(Value::Number(n))
+            }
+            Value::Pointer(Reference::Frame(o)) => {
+                let at = place_of(512, width, o, offset)?;
+                read(&self.frame, at, width)
+            }
+            _ => None,
+        }
+    }
+
+    fn load(&mut self, context: &[u8], width: Width, dst: Reg, src: Reg, offset: i16) -> Progress
+        requires place { self.old.place < 2 ^ 40 }
+        requires context { length context.now ≤ 256 }
+        ensures { (maps : ℕ) → Performs (Insn.Load width dst src offset) (environment context.now maps) self.old result self.new }
+    {
+        match self.load_from(context, width, offset, self.register(src)) {
+            Some(v) => self.set(1, dst, v),
+            None => Progress::Stuck,
+        }
+    }
+
+    fn load_signed(
+        &mut self,
+        context: &[u8],
+        width: SignedWidth,
+        dst: Reg,
+        src: Reg,
+        offset: i16,
+    ) -> Progress
+        requires place { self.old.place < 2 ^ 40 }
+        requires context { length context.now ≤ 256 }
+        ensures { (maps : ℕ) → Performs (Insn.LoadSigned width dst src offset) (environment context.now maps) self.old result self.new }
+    {
+        match self.load_from(context, width.width(), offset, self.register(src)) {
+            Some(v) => match number(v) {
+                Some(n) => self.set(1, dst, Value::Number(load_signed(width, n))),
+                None => Progress::Stuck,
+            },
+            None => Progress::Stuck,
+        }
+    }
+
+    fn store_through(&mut self, width: Width, offset: i16, v: Value, r: Reference) -> Progress
+        requires { self.old.place < 2 ^ 40 }
+        ensures { Comes (stored (state_of self.old) (byte_count width) offset v r) result self.old self.new }
+    {
+        let o = match r {
+            Reference::Frame(o) => o,
+            _ => return Progress::Stuck,
+        };
+        match place_of(512, width, o, offset) {
+            Some(at) if write(&mut self.frame, at, width, v) => {
+                self.place += 1;
+                Progress::Moved
+            }
+            _ => Progress::Stuck,
+        }
+    }
+
+    fn store(&mut self, width: Width, offset: i16, v: Value, base: Value) -> Progress
+        requires { self.old.place < 2 ^ 40 }
+        ensures { Comes (store_to (state_of self.old) (byte_count width) offset v base) result self.old self.new }
+    {
+        match base {
+            Value::Pointer(r) => self.store_through(width, offset, v, r),
+            _ => Progress::Stuck,
+        }
+    }
+
+    fn exit(&self) -> Progress
+        ensures { (env : Environment) → Performs Insn.Exit env self.now result self.now }
+    {
+        match number(self.register(Reg::R0)) {
+            Some(n) => Progress::Exited(n),
+            None => Progress::Stuck,
+        }
+    }
+
+    fn perform(&mut self, insn: &Insn, context: &[u8], maps: usize) -> Progress
+        requires place { self.old.place < 2 ^ 40 }
+        requires context { length context.now ≤ 256 }
+        ensures { Performs insn.now (environment context.now maps) self.old result self.new }
+    {
+        match insn {
+            Insn::Alu { op, size, dst, src } => self.alu(*op, *size, *dst, src),
+            Insn::MoveSigned {
+                extension,
+                dst,
+                src,
+            } => self.move_signed(*extension, *dst, *src),
+            Insn::Negate { size, dst } => self.negate(*size, *dst),
+            Insn::ByteSwap { order, width, dst } => self.byte_swap(*order, *width, *dst),
+            Insn::LoadNumber { dst, number } => self.set(2, *dst, Value::Number(*number)),
+            Insn::LoadMap { dst, map } => self.load_map(*dst, *map, maps),
+            Insn::Jump { offset } => self.jump(i32::from(*offset)),
+            Insn::JumpLong { imm } => self.jump(*imm),
+            Insn::JumpIf {
+                condition,
+                size,
+                dst,
+                src,
+                offset,
+            } => { self.jump_if(*condition, *size, *dst, src, *offset) }
+            Insn::Call { .. } => Progress::Stuck,
+            Insn::Exit => self.exit(),
+            Insn::Load {
+                width,
+                dst,
+                src,
+                offset,
+            } => { self.load(context, *width, *dst, *src, *offset) }
+            Insn::LoadSigned {
+                width,
+                dst,
+                src,
+                offset,
+            } => { self.load_signed(context, *width, *dst, *src, *offset) }
+            Insn::Store {
+                width,
+                dst,
+                offset,
+                imm,
+            } => {
+                let base = self.register(*dst);
+                self.store(*width, *offset, Value::Number(immediate(*imm)), base)
+            }
+            Insn::StoreRegister {
+                width,
+                dst,
+                src,
+                offset,
+            } => {
+                let base = self.register(*dst);
+                self.store(*width, *offset, self.register(*src), base)
+            }
+        }
+    }
+
+    /// One step of the program on this context, with so many maps.
+    ///
+    /// `Stuck` where the definition has no step. `OutOfRange` where the step would leave a register with a
+    /// reference whose offset does not fit 64 bits.
+    pub fn step(&mut self, program: &[Insn], context: &[u8], maps: usize) -> Progress
+        requires program { slot_total program.now ≤ 4096 }
+        requires context { length context.now ≤ 256 }
+        ensures { Tells program.now (environment context.now maps) self.old result self.new }
+    {
+        match insn_at(program, self.place) {
+            Some(insn) => self.perform(insn, context, maps),
+            None => Progress::Stuck,
+        }
+    }
+}
