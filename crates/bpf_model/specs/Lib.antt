@@ -1,10 +1,12 @@
 pub mod Access
 pub mod Arithmetic
 pub mod Call
+pub mod Drain
 pub mod Element
 pub mod Event
 pub mod Frame
 pub mod Graph
+pub mod Headline
 pub mod Helper
 pub mod Machine
 pub mod MachineStep
@@ -15,6 +17,9 @@ pub mod Places
 pub mod Plain
 pub mod Profile
 pub mod Reclaim
+pub mod Replay
+pub mod Run
+pub mod Schedule
 pub mod Section
 pub mod Spelling
 pub mod Step
