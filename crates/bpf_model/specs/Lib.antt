@@ -1,6 +1,7 @@
 pub mod Access
 pub mod Arithmetic
 pub mod Call
+pub mod Consistent
 pub mod Drain
 pub mod Element
 pub mod Event
@@ -15,8 +16,10 @@ pub mod Opcode
 pub mod Operand
 pub mod Places
 pub mod Plain
+pub mod PlainMaps
 pub mod Profile
 pub mod Reclaim
+pub mod Refines
 pub mod Replay
 pub mod Run
 pub mod Schedule
@@ -24,3 +27,5 @@ pub mod Section
 pub mod Spelling
 pub mod Step
 pub mod Value
+pub mod View
+pub mod Word
