@@ -1,0 +1,299 @@
+//! The elements of all maps, and the maps' free slots.
+
+use std::alloc::{AllocError, Global};
+
+use arrayvec::ArrayVec;
+use bpf_model::{Errno, Given, KeyBytes, MapShape, ValueBytes};
+
+/// A read-side critical section: the number of its run's start, and how many sections the run had opened
+/// with it.
+#[derive(Clone, Copy, Debug, PartialEq, Eq)]
+pub struct Section {
+    pub run: u64,
+    pub lock: u64,
+}
+
+/// An element is linked; or unlinked, with the sections that were open at that moment; or reclaimed.
+#[derive(Drop)]
+pub enum Life {
+    Linked,
+    Unlinked(Vec<Section>),
+    Reclaimed,
+}
+
+/// An element: its map, key and value, and the how-manieth use of a slot it is.
+#[derive(Drop)]
+pub struct Element {
+    pub map: usize,
+    pub key: KeyBytes,
+    pub value: ValueBytes,
+    pub uses: u64,
+    pub life: Life,
+}
+
+/// A map: its shape, the use counts of its free slots, the one that has been free longest first, and how
+/// many slots are worn out.
+#[derive(Drop)]
+pub struct MapState {
+    pub shape: MapShape,
+    pub bag: Vec<u64>,
+    pub worn: u64,
+}
+
+/// The elements of all maps by birth number, and the maps.
+#[derive(Drop)]
+pub struct Store {
+    pub elements: Vec<Element>,
+    pub maps: Vec<MapState>,
+}
+
+impl Life {
+    /// Whether the element is linked.
+    pub fn is_linked(&self) -> bool {
+        match self {
+            Life::Linked => true,
+            _ => false,
+        }
+    }
+
+    /// Whether it may be accessed no more.
+    pub fn is_reclaimed(&self) -> bool {
+        match self {
+            Life::Reclaimed => true,
+            _ => false,
+        }
+    }
+}
+
+impl Element {
+    /// Whether the element is what the map has under the key.
+    pub fn is_linked_at(&self, map: usize, key: &[u8]) -> bool {
+        self.life.is_linked() && self.map == map && self.key.as_slice() == key
+    }
+
+    /// Whether it is a linked element of the map.
+    pub fn is_linked_in(&self, map: usize) -> bool {
+        self.life.is_linked() && self.map == map
+    }
+}
+
+impl MapState {
+    /// A map of which no slot was ever used.
+    pub fn new(alloc: Global, shape: MapShape) -> Result<MapState, AllocError> {
+        let mut bag = Vec::new(alloc);
+        for _ in 0..shape.entries {
+            bag.push(0)?;
+        }
+        for _ in 0..shape.spare {
+            bag.push(0)?;
+        }
+        Ok(MapState {
+            shape,
+            bag,
+            worn: 0,
+        })
+    }
+
+    /// The first test of an update that fails.
+    pub fn update_error(&self, flags: u64, present: bool, linked: usize) -> Option<Errno> {
+        if 2 < flags {
+            Some(Errno::InvalidArgument)
+        } else if flags == 1 && present {
+            Some(Errno::Exists)
+        } else if flags == 2 && !present {
+            Some(Errno::NoEntry)
+        } else if !present && self.shape.entries <= linked {
+            Some(Errno::TooBig)
+        } else if self.bag.is_empty() {
+            Some(Errno::NoMemory)
+        } else {
+            None
+        }
+    }
+
+    /// A slot that was used so often comes back: to the end of the free ones, or it is worn out.
+    pub fn give_back(&mut self, uses: u64) -> Result<Given, AllocError> {
+        if uses == u64::from(self.shape.reuse_limit) {
+            self.worn = self.worn.saturating_add(1);
+            Ok(Given::Worn)
+        } else {
+            self.bag.push(uses)?;
+            Ok(Given::Free)
+        }
+    }
+}
+
+impl Store {
+    /// No element, and maps of these shapes.
+    pub fn new(alloc: Global, shapes: &[MapShape]) -> Result<Store, AllocError> {
+        let mut maps = Vec::new(alloc);
+        for shape in shapes {
+            maps.push(MapState::new(alloc, *shape)?)?;
+        }
+        Ok(Store {
+            elements: Vec::new(alloc),
+            maps,
+        })
+    }
+
+    /// The shape of a map, where there is one.
+    pub fn shape(&self, map: usize) -> Option<MapShape> {
+        match self.maps.get(map) {
+            Some(state) => Some(state.shape),
+            None => None,
+        }
+    }
+
+    /// The birth of what the map has under the key.
+    pub fn lookup(&self, map: usize, key: &[u8]) -> Option<usize> {
+        for n in 0..self.elements.len() {
+            if self.elements[n].is_linked_at(map, key) {
+                return Some(n);
+            }
+        }
+        None
+    }
+
+    /// How many elements of the map are linked.
+    pub fn linked_count(&self, map: usize) -> usize {
+        let elements = self.elements.as_slice();
+        elements.iter().filter(|e| e.is_linked_in(map)).count()
+    }
+
+    /// Element n is unlinked, and keeps the sections that are open.
+    pub fn unlink(&mut self, n: usize, opened: Vec<Section>) {
+        if let Some(element) = self.elements.get_mut(n) {
+            element.life = Life::Unlinked(opened);
+        }
+    }
+
+    /// Stores a value under a key, as the helper and the event do. Where memory is refused, nothing has
+    /// changed. Without such a map the error is EINVAL.
+    pub fn update(
+        &mut self,
+        alloc: Global,
+        opened: &[Section],
+        map: usize,
+        key: KeyBytes,
+        value: ValueBytes,
+        flags: u64,
+    ) -> Result<Result<(), Errno>, AllocError> {
+        let found = self.lookup(map, key.as_slice());
+        let linked = self.linked_count(map);
+        let Some(state) = self.maps.get_mut(map) else {
+            return Ok(Err(Errno::InvalidArgument));
+        };
+        if let Some(errno) = state.update_error(flags, found.is_some(), linked) {
+            return Ok(Err(errno));
+        }
+        let since = Vec::from_slice(alloc, opened)?;
+        let uses = match state.bag.first() {
+            Some(count) => count.saturating_add(1),
+            None => 1,
+        };
+        let element = Element {
+            map,
+            key,
+            value,
+            uses,
+            life: Life::Linked,
+        };
+        self.elements.push(element)?;
+        if !state.bag.is_empty() {
+            let _ = state.bag.remove(0);
+        }
+        if let Some(n) = found {
+            self.unlink(n, since);
+        }
+        Ok(Ok(()))
+    }
+
+    /// Removes a key, as the helper and the event do. Where memory is refused, nothing has changed.
+    pub fn delete(
+        &mut self,
+        alloc: Global,
+        opened: &[Section],
+        map: usize,
+        key: &[u8],
+    ) -> Result<Result<(), Errno>, AllocError> {
+        let Some(n) = self.lookup(map, key) else {
+            return Ok(Err(Errno::NoEntry));
+        };
+        let since = Vec::from_slice(alloc, opened)?;
+        self.unlink(n, since);
+        Ok(Ok(()))
+    }
+
+    /// Reclaims element n, which the caller knows to be unlinked with no section of its set open: its slot
+    /// comes back. `None` when there is no such element or map.
+    pub fn reclaim(&mut self, n: usize) -> Result<Option<Given>, AllocError> {
+        let Some(element) = self.elements.get_mut(n) else {
+            return Ok(None);
+        };
+        let Some(state) = self.maps.get_mut(element.map) else {
+            return Ok(None);
+        };
+        let given = state.give_back(element.uses)?;
+        element.life = Life::Reclaimed;
+        Ok(Some(given))
+    }
+
+    /// The number that a load from element n finds. `None`: the load is stuck.
+    pub fn load(&self, n: usize, width: usize, offset: i64) -> Option<u64> {
+        let element = self.elements.get(n)?;
+        if element.life.is_reclaimed() {
+            return None;
+        }
+        let at = place_of(element.value.len(), width, offset)?;
+        number_at(element.value.as_slice(), at, width)
+    }
+
+    /// Stores the low bytes of a number in element n. `None`: the store is stuck.
+    pub fn store(&mut self, n: usize, width: usize, offset: i64, number: u64) -> Option<()> {
+        let element = self.elements.get_mut(n)?;
+        if element.life.is_reclaimed() {
+            return None;
+        }
+        let at = place_of(element.value.len(), width, offset)?;
+        put_bytes(&mut element.value, at, width, number);
+        Some(())
+    }
+}
+
+/// The place of an access of so many bytes in a region of this length: all bytes inside, aligned.
+pub fn place_of(len: usize, width: usize, offset: i64) -> Option<usize> {
+    let Ok(at) = usize::try_from(offset) else {
+        return None;
+    };
+    let end = at.checked_add(width)?;
+    if width != 0 && end <= len && at % width == 0 {
+        Some(at)
+    } else {
+        None
+    }
+}
+
+/// So many bytes from a place on, as a little-endian number.
+pub fn number_at(bytes: &[u8], at: usize, width: usize) -> Option<u64> {
+    let mut number: u64 = 0;
+    for k in 0..width {
+        let place = at.checked_add(width - 1 - k)?;
+        let byte = *bytes.get(place)?;
+        number = number.wrapping_mul(256).wrapping_add(u64::from(byte));
+    }
+    Some(number)
+}
+
+/// Writes so many low bytes of a number from a place on.
+fn put_bytes(bytes: &mut ArrayVec<u8, 256>, at: usize, width: usize, number: u64) {
+    let mut rest = number;
+    let slots = bytes.as_mut_slice();
+    for k in 0..width {
+        if let Some(place) = at.checked_add(k) {
+            if let Some(byte) = slots.get_mut(place) {
+                *byte = (rest % 256) as u8;
+            }
+        }
+        rest /= 256;
+    }
+}
