@@ -8,6 +8,11 @@ mod machine;
 mod run;
 mod store;
 
-pub use machine::{Fault, Loaded, Machine, Queues};
+pub use machine::{Fault, Loaded, Machine, Queues, Totals};
 pub use run::{Outcome, Run};
 pub use store::{Element, Life, MapState, Section, Store};
+
+#[cfg(test)]
+mod programs;
+#[cfg(test)]
+mod tests;

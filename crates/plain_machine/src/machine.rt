@@ -1,15 +1,13 @@
 //! The whole machine: runs, events, and the runtime's own choices.
 
-use std::alloc::{AllocError, Global};
-
+use crate::run::{Outcome, Run, number_of, reference_of};
+use crate::store::{Life, Section, Store};
 use bpf_model::{
     Answer, CallKind, CtxBytes, Errno, Event, EventRefusal, Given, Helper, Insn, KernelFunction,
     KeyBytes, MAX_DEPTH, MAX_RUNS, MapId, MapShape, ProgId, ReapedElement, Reference, RunId, Value,
     ValueBytes,
 };
-
-use crate::run::{Outcome, Run, number_of, reference_of};
-use crate::store::{Life, Section, Store};
+use std::alloc::{AllocError, Global};
 
 /// A program as it was loaded: its instructions, the maps of the registry that its own list names, and the
 /// length of its context.
@@ -27,6 +25,18 @@ pub struct Queues {
     pub next: Vec<usize>,
     pub waiting: Vec<usize>,
     pub ready: Vec<usize>,
+}
+
+/// How many elements are linked, unlinked and reclaimed, how many slots are worn out, and how many run
+/// slots are occupied and by runs inside a section.
+#[derive(Clone, Copy, Debug, PartialEq, Eq)]
+pub struct Totals {
+    pub linked: usize,
+    pub unlinked: usize,
+    pub given: usize,
+    pub worn: u64,
+    pub runs: usize,
+    pub open: usize,
 }
 
 /// Why an event got no answer. After that the machine is of no use.
@@ -59,7 +69,11 @@ impl From<AllocError> for Fault {
 
 impl Machine {
     /// Maps of these shapes with nothing in them, these programs, and no run.
-    pub fn new(alloc: Global, shapes: &[MapShape], programs: Vec<Loaded>) -> Result<Machine, AllocError> {
+    pub fn new(
+        alloc: Global,
+        shapes: &[MapShape],
+        programs: Vec<Loaded>,
+    ) -> Result<Machine, AllocError> {
         let mut queues = Vec::new(alloc);
         for _ in 0..shapes.len() {
             queues.push(Queues {
@@ -90,12 +104,37 @@ impl Machine {
         &self.store
     }
 
+    /// The totals of the present state.
+    pub fn totals(&self) -> Totals {
+        let elements = self.store.elements.as_slice();
+        let runs = self.runs.as_slice();
+        let linked = elements.iter().filter(|e| e.life.is_linked()).count();
+        let given = elements.iter().filter(|e| e.life.is_reclaimed()).count();
+        let mut worn: u64 = 0;
+        for state in self.store.maps.as_slice() {
+            worn = worn.saturating_add(state.worn);
+        }
+        Totals {
+            linked,
+            unlinked: elements.len().saturating_sub(linked).saturating_sub(given),
+            given,
+            worn,
+            runs: runs.iter().filter(|slot| slot.is_some()).count(),
+            open: runs.iter().filter(|slot| is_inside(slot)).count(),
+        }
+    }
+
     /// What the machine answers to an event.
     pub fn apply(&mut self, event: Event) -> Result<Answer, Fault> {
         match event {
             Event::Start { prog, ctx } => self.start(prog, ctx),
             Event::Step { run } => self.step(run),
-            Event::Update { map, key, value, flags } => self.update(map, key, value, flags),
+            Event::Update {
+                map,
+                key,
+                value,
+                flags,
+            } => self.update(map, key, value, flags),
             Event::Delete { map, key } => self.delete(map, key),
             Event::Read { map, key } => self.read(map, key),
             Event::Advance => {
@@ -182,8 +221,14 @@ impl Machine {
 
     fn step_insn(&mut self, r: usize, insn: Insn) -> Result<Answer, Fault> {
         match insn {
-            Insn::Call { kind: CallKind::Kernel, imm } => self.call_kernel(r, imm),
-            Insn::Call { kind: CallKind::Helper, imm } => self.call_helper(r, imm),
+            Insn::Call {
+                kind: CallKind::Kernel,
+                imm,
+            } => self.call_kernel(r, imm),
+            Insn::Call {
+                kind: CallKind::Helper,
+                imm,
+            } => self.call_helper(r, imm),
             _ => self.step_alone(r, insn),
         }
     }
@@ -256,11 +301,18 @@ impl Machine {
         let mut flags = 0;
         if helper == Helper::Update {
             for k in 0..shape.value_len {
-                value.try_push(argument_byte(run, 3, shape.value_len, k)?).ok()?;
+                value
+                    .try_push(argument_byte(run, 3, shape.value_len, k)?)
+                    .ok()?;
             }
             flags = number_of(run.register(4))?;
         }
-        Some(Arguments { map, key, value, flags })
+        Some(Arguments {
+            map,
+            key,
+            value,
+            flags,
+        })
     }
 
     fn call_helper(&mut self, r: usize, imm: i32) -> Result<Answer, Fault> {
@@ -281,7 +333,10 @@ impl Machine {
                 arguments.value,
                 arguments.flags,
             )?)),
-            Helper::Delete => Value::Number(ret_word(self.delete_key(arguments.map, arguments.key)?)),
+            Helper::Delete => Value::Number(ret_word(self.delete_key(
+                arguments.map,
+                arguments.key,
+            )?)),
         };
         match self.runs.get_mut(r) {
             Some(Some(run)) => returns(run, ret)?,
@@ -300,7 +355,9 @@ impl Machine {
     ) -> Result<Result<(), Errno>, Fault> {
         let opened = self.open_sections()?;
         let found = self.store.lookup(map, key.as_slice());
-        let ret = self.store.update(self.alloc, opened.as_slice(), map, key, value, flags)?;
+        let ret = self
+            .store
+            .update(self.alloc, opened.as_slice(), map, key, value, flags)?;
         if ret == Ok(()) {
             if let Some(n) = found {
                 self.retire(map, n)?;
@@ -312,7 +369,9 @@ impl Machine {
     fn delete_key(&mut self, map: usize, key: KeyBytes) -> Result<Result<(), Errno>, Fault> {
         let opened = self.open_sections()?;
         let found = self.store.lookup(map, key.as_slice());
-        let ret = self.store.delete(self.alloc, opened.as_slice(), map, key.as_slice())?;
+        let ret = self
+            .store
+            .delete(self.alloc, opened.as_slice(), map, key.as_slice())?;
         if let Some(n) = found {
             self.retire(map, n)?;
         }
@@ -328,7 +387,12 @@ impl Machine {
     }
 
     /// Why an event of the control plane is refused.
-    fn key_refusal(&self, map: usize, key_len: usize, value_len: Option<usize>) -> Option<EventRefusal> {
+    fn key_refusal(
+        &self,
+        map: usize,
+        key_len: usize,
+        value_len: Option<usize>,
+    ) -> Option<EventRefusal> {
         let Some(shape) = self.store.shape(map) else {
             return Some(EventRefusal::NoMap);
         };
@@ -388,8 +452,8 @@ impl Machine {
         }
         for r in 0..self.awaited.len() {
             let open = match self.runs.get(r) {
-                Some(Some(run)) => 0 < run.depth,
-                _ => false,
+                Some(slot) => is_inside(slot),
+                None => false,
             };
             self.awaited[r] = open;
         }
@@ -440,6 +504,14 @@ impl Machine {
             },
             None => Answer::Refused(EventRefusal::NoRun),
         }
+    }
+}
+
+/// Whether the slot has a run that is inside a section.
+fn is_inside(slot: &Option<Run>) -> bool {
+    match slot {
+        Some(run) => 0 < run.depth,
+        None => false,
     }
 }
 

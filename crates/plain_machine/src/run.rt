@@ -1,14 +1,12 @@
 //! One run: its registers and frame hold values of a known kind, as the definitions have them.
 
-use std::alloc::{AllocError, Global};
-
+use crate::store::{Store, number_at, place_of};
 use alu::{byte_swap, compare, immediate, load_signed, move_signed, negate};
 use bpf_model::{
     AluOp, Cell, Condition, CtxBytes, Insn, Operand, Reference, Reg, SignedWidth, Size, Value,
     Width,
 };
-
-use crate::store::{Store, number_at, place_of};
+use std::alloc::{AllocError, Global};
 
 /// A run that was started.
 #[derive(Drop)]
@@ -41,7 +39,12 @@ pub enum Outcome {
 
 impl Run {
     /// At entry r1 is the context, r10 the end of the frame, and nothing else is written.
-    pub fn new(alloc: Global, name: u64, program: usize, context: CtxBytes) -> Result<Run, AllocError> {
+    pub fn new(
+        alloc: Global,
+        name: u64,
+        program: usize,
+        context: CtxBytes,
+    ) -> Result<Run, AllocError> {
         let mut registers = Vec::new(alloc);
         registers.push(Value::Nothing)?;
         registers.push(Value::Pointer(Reference::Ctx(0)))?;
@@ -122,7 +125,11 @@ impl Run {
                 let value = computed(size, op, self.read(dst), self.operand(src))?;
                 self.set(1, dst, value)
             }
-            Insn::MoveSigned { extension, dst, src } => {
+            Insn::MoveSigned {
+                extension,
+                dst,
+                src,
+            } => {
                 let number = number_of(self.read(src))?;
                 self.set(1, dst, Value::Number(move_signed(extension, number)))
             }
@@ -138,23 +145,53 @@ impl Run {
             Insn::LoadMap { dst, map } => self.load_map(dst, map, maps),
             Insn::Jump { offset } => self.jump(i32::from(offset)),
             Insn::JumpLong { imm } => self.jump(imm),
-            Insn::JumpIf { condition, size, dst, src, offset } => {
+            Insn::JumpIf {
+                condition,
+                size,
+                dst,
+                src,
+                offset,
+            } => {
                 let left = self.read(dst);
                 self.jump_if(condition, size, left, src, offset)
             }
             Insn::Call { .. } => None,
             Insn::Exit => self.exit(),
-            Insn::Load { width, dst, src, offset } => {
+            Insn::Load {
+                width,
+                dst,
+                src,
+                offset,
+            } => {
                 let value = self.load(store, width, self.read(src), offset)?;
                 self.set(1, dst, value)
             }
-            Insn::LoadSigned { width, dst, src, offset } => {
-                self.load_extended(store, width, dst, self.read(src), offset)
+            Insn::LoadSigned {
+                width,
+                dst,
+                src,
+                offset,
+            } => { self.load_extended(store, width, dst, self.read(src), offset) }
+            Insn::Store {
+                width,
+                dst,
+                offset,
+                imm,
+            } => {
+                self.store(
+                    store,
+                    width,
+                    self.read(dst),
+                    offset,
+                    Value::Number(immediate(imm)),
+                )
             }
-            Insn::Store { width, dst, offset, imm } => {
-                self.store(store, width, self.read(dst), offset, Value::Number(immediate(imm)))
-            }
-            Insn::StoreRegister { width, dst, src, offset } => {
+            Insn::StoreRegister {
+                width,
+                dst,
+                src,
+                offset,
+            } => {
                 let base = self.read(dst);
                 let value = self.read(src);
                 self.store(store, width, base, offset, value)
@@ -394,13 +431,7 @@ fn computed(size: Size, op: AluOp, x: Value, y: Value) -> Option<Value> {
 }
 
 /// Whether a conditional jump is taken. An element is not equal to 0.
-fn decided(
-    condition: Condition,
-    size: Size,
-    asks_null: bool,
-    x: Value,
-    y: Value,
-) -> Option<bool> {
+fn decided(condition: Condition, size: Size, asks_null: bool, x: Value, y: Value) -> Option<bool> {
     match x {
         Value::Nothing => None,
         Value::Number(a) => Some(compare(size, condition, a, number_of(y)?)),

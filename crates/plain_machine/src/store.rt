@@ -1,9 +1,8 @@
 //! The elements of all maps, and the maps' free slots.
 
-use std::alloc::{AllocError, Global};
-
 use arrayvec::ArrayVec;
 use bpf_model::{Errno, Given, KeyBytes, MapShape, ValueBytes};
+use std::alloc::{AllocError, Global};
 
 /// A read-side critical section: the number of its run's start, and how many sections the run had opened
 /// with it.
