@@ -1,4 +1,10 @@
 //! The elements of all maps, and the maps' free slots.
+ghost use Rattle.std.specs.Prelude.{ℕ, ◌≡◌, ◌<◌, ◌-◌, ◌^◌, ◌&&◌, ◌==◌, ◌↔◌, IsTrue, IfOk, OnErr, IfSome, Some, length, map, slice_get};
+ghost use Rattle.bpf_model.specs.Element.{is_linked, is_reclaimed, linked_count as linked_count_of, unlinked, accessible};
+ghost use Rattle.bpf_model.specs.MapState.{given_of, returned, shape_of, with_elements};
+ghost use Rattle.bpf_model.specs.Helper.{LooksUp, update_error as first_error, Updates, Deletes};
+ghost use Rattle.bpf_model.specs.Access.{place_of as place_in, number_at as number_in};
+ghost use Rattle.plain_machine.specs.State.{section_of, sections_of, life_of, element_of, elements_of, map_of, store_of, IsLinkedHere};
 
 use arrayvec::ArrayVec;
 use bpf_model::{Errno, Given, KeyBytes, MapShape, ValueBytes};
@@ -48,7 +54,9 @@ pub struct Store {
 
 impl Life {
     /// Whether the element is linked.
-    pub fn is_linked(&self) -> bool {
+    pub fn is_linked(&self) -> bool
+        ensures { result ≡ is_linked (life_of self.now) }
+    {
         match self {
             Life::Linked => true,
             _ => false,
@@ -56,7 +64,9 @@ impl Life {
     }
 
     /// Whether it may be accessed no more.
-    pub fn is_reclaimed(&self) -> bool {
+    pub fn is_reclaimed(&self) -> bool
+        ensures { result ≡ is_reclaimed (life_of self.now) }
+    {
         match self {
             Life::Reclaimed => true,
             _ => false,
@@ -66,12 +76,16 @@ impl Life {
 
 impl Element {
     /// Whether the element is what the map has under the key.
-    pub fn is_linked_at(&self, map: usize, key: &[u8]) -> bool {
+    pub fn is_linked_at(&self, map: usize, key: &[u8]) -> bool
+        ensures { IsTrue result ↔ IsLinkedHere (element_of self.now) map key.now }
+    {
         self.life.is_linked() && self.map == map && self.key.as_slice() == key
     }
 
     /// Whether it is a linked element of the map.
-    pub fn is_linked_in(&self, map: usize) -> bool {
+    pub fn is_linked_in(&self, map: usize) -> bool
+        ensures { result ≡ (is_linked (life_of self.now.life) && (self.now.map == map)) }
+    {
         self.life.is_linked() && self.map == map
     }
 }
@@ -94,7 +108,9 @@ impl MapState {
     }
 
     /// The first test of an update that fails.
-    pub fn update_error(&self, flags: u64, present: bool, linked: usize) -> Option<Errno> {
+    pub fn update_error(&self, flags: u64, present: bool, linked: usize) -> Option<Errno>
+        ensures { result ≡ first_error flags present linked (map_of self.now) }
+    {
         if 2 < flags {
             Some(Errno::InvalidArgument)
         } else if flags == 1 && present {
@@ -111,7 +127,11 @@ impl MapState {
     }
 
     /// A slot that was used so often comes back: to the end of the free ones, or it is worn out.
-    pub fn give_back(&mut self, uses: u64) -> Result<Given, AllocError> {
+    pub fn give_back(&mut self, uses: u64) -> Result<Given, AllocError>
+        ensures given { IfOk result (λ given. given ≡ given_of uses (map_of self.old)) }
+        ensures returned { IfOk result (λ _. self.old.worn < 2 ^ 64 - 1 → map_of self.new ≡ returned uses (map_of self.old)) }
+        ensures err { OnErr result (map_of self.new ≡ map_of self.old) }
+    {
         if uses == u64::from(self.shape.reuse_limit) {
             self.worn = self.worn.saturating_add(1);
             Ok(Given::Worn)
@@ -136,7 +156,9 @@ impl Store {
     }
 
     /// The shape of a map, where there is one.
-    pub fn shape(&self, map: usize) -> Option<MapShape> {
+    pub fn shape(&self, map: usize) -> Option<MapShape>
+        ensures { result ≡ shape_of (store_of self.now) map }
+    {
         match self.maps.get(map) {
             Some(state) => Some(state.shape),
             None => None,
@@ -144,7 +166,9 @@ impl Store {
     }
 
     /// The birth of what the map has under the key.
-    pub fn lookup(&self, map: usize, key: &[u8]) -> Option<usize> {
+    pub fn lookup(&self, map: usize, key: &[u8]) -> Option<usize>
+        ensures { LooksUp (store_of self.now) map key.now result }
+    {
         for n in 0..self.elements.len() {
             if self.elements[n].is_linked_at(map, key) {
                 return Some(n);
@@ -154,15 +178,20 @@ impl Store {
     }
 
     /// How many elements of the map are linked.
-    pub fn linked_count(&self, map: usize) -> usize {
+    pub fn linked_count(&self, map: usize) -> usize
+        ensures { result ≡ linked_count_of map (elements_of self.now.elements.items) }
+    {
         let elements = self.elements.as_slice();
         elements.iter().filter(|e| e.is_linked_in(map)).count()
     }
 
     /// Element n is unlinked, and keeps the sections that are open.
-    pub fn unlink(&mut self, n: usize, opened: Vec<Section>) {
-        if let Some(element) = self.elements.get_mut(n) {
-            element.life = Life::Unlinked(opened);
+    pub fn unlink(&mut self, n: usize, opened: Vec<Section>)
+        ensures elements { elements_of self.new.elements.items ≡ unlinked (sections_of opened.items) (elements_of self.old.elements.items) (Some n) }
+        ensures maps { self.new.maps ≡ self.old.maps }
+    {
+        if n < self.elements.len() {
+            self.elements[n].life = Life::Unlinked(opened);
         }
     }
 
@@ -176,7 +205,10 @@ impl Store {
         key: KeyBytes,
         value: ValueBytes,
         flags: u64,
-    ) -> Result<Result<(), Errno>, AllocError> {
+    ) -> Result<Result<(), Errno>, AllocError>
+        ensures updates { IfOk result (λ ret. map < length self.old.maps.items → Updates (store_of self.old) (sections_of opened.now) map key.items value.items flags ret (store_of self.new)) }
+        ensures err { OnErr result (store_of self.new ≡ store_of self.old) }
+    {
         let found = self.lookup(map, key.as_slice());
         let linked = self.linked_count(map);
         let Some(state) = self.maps.get_mut(map) else {
@@ -214,7 +246,10 @@ impl Store {
         opened: &[Section],
         map: usize,
         key: &[u8],
-    ) -> Result<Result<(), Errno>, AllocError> {
+    ) -> Result<Result<(), Errno>, AllocError>
+        ensures deletes { IfOk result (λ ret. Deletes (store_of self.old) (sections_of opened.now) map key.now ret (store_of self.new)) }
+        ensures err { OnErr result (store_of self.new ≡ store_of self.old) }
+    {
         let Some(n) = self.lookup(map, key) else {
             return Ok(Err(Errno::NoEntry));
         };
@@ -260,7 +295,9 @@ impl Store {
 }
 
 /// The place of an access of so many bytes in a region of this length: all bytes inside, aligned.
-pub fn place_of(len: usize, width: usize, offset: i64) -> Option<usize> {
+pub fn place_of(len: usize, width: usize, offset: i64) -> Option<usize>
+    ensures { 0 < width → result ≡ place_in len width offset }
+{
     let Ok(at) = usize::try_from(offset) else {
         return None;
     };
