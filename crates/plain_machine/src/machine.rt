@@ -1,4 +1,11 @@
 //! The whole machine: runs, events, and the runtime's own choices.
+ghost use Rattle.std.specs.Prelude.{ℕ, ◌≡◌, ◌<◌, ◌≤◌, ◌-◌, ◌^◌, IfOk, OnOk, OnErr, List, [], length};
+ghost use Rattle.bpf_model.specs.Call.{ret_word as ret_word_of};
+ghost use Rattle.bpf_model.specs.Event.{step_refusal as step_refusal_of};
+ghost use Rattle.bpf_model.specs.Machine.{run_at, locked, unlocked};
+ghost use Rattle.bpf_model.specs.Schedule.{turned};
+ghost use Rattle.bpf_model.specs.declared.limits.TheConstants.{MAX_DEPTH as deepest};
+ghost use Rattle.plain_machine.specs.State.{store_of, queues_of, run_of, runs_of};
 
 use crate::run::{Outcome, Run, number_of, reference_of};
 use crate::store::{Life, Section, Store};
@@ -191,7 +198,9 @@ impl Machine {
     }
 
     /// Why a step of this run is refused.
-    fn step_refusal(&self, r: usize) -> Option<EventRefusal> {
+    fn step_refusal(&self, r: usize) -> Option<EventRefusal>
+        ensures { result ≡ step_refusal_of (run_at (runs_of self.now.programs.items self.now.runs.items) r) }
+    {
         match self.runs.get(r) {
             Some(Some(run)) => match run.exit {
                 Some(_) => Some(EventRefusal::Ended),
@@ -537,7 +546,11 @@ fn insn_at(code: &[Insn], place: usize) -> Option<Insn> {
 }
 
 /// The outermost lock opens a section.
-fn lock(run: &mut Run) -> Result<(), Fault> {
+fn lock(run: &mut Run) -> Result<(), Fault>
+    ensures locked { OnOk result (run.old.locks < 2 ^ 64 - 1 → run_of [] run.new ≡ locked (run_of [] run.old)) }
+    ensures depth { OnOk result (run.old.depth < deepest) }
+    ensures stuck { OnErr result (deepest ≤ run.old.depth) }
+{
     if run.depth < MAX_DEPTH {
         if run.depth == 0 {
             run.locks = run.locks.saturating_add(1);
@@ -549,7 +562,11 @@ fn lock(run: &mut Run) -> Result<(), Fault> {
     }
 }
 
-fn unlock(run: &mut Run) -> Result<(), Fault> {
+fn unlock(run: &mut Run) -> Result<(), Fault>
+    ensures unlocked { OnOk result (run_of [] run.new ≡ unlocked (run_of [] run.old)) }
+    ensures depth { OnOk result (0 < run.old.depth) }
+    ensures stuck { OnErr result (run.old.depth ≡ 0) }
+{
     if 0 < run.depth {
         run.depth -= 1;
         Ok(())
@@ -572,7 +589,9 @@ fn returns(run: &mut Run, ret: Value) -> Result<(), Fault> {
 }
 
 /// What a helper leaves in r0: 0, or the error as a negative number.
-fn ret_word(ret: Result<(), Errno>) -> u64 {
+fn ret_word(ret: Result<(), Errno>) -> u64
+    ensures { result ≡ ret_word_of ret }
+{
     match ret {
         Ok(()) => 0,
         Err(errno) => u64::from(errno.number()).wrapping_neg(),
@@ -596,7 +615,9 @@ fn argument_byte(run: &Run, r: usize, len: usize, k: usize) -> Option<u8> {
 }
 
 /// Those that waited are ready, and those unlinked meanwhile wait.
-fn turn(queues: &mut Queues) -> Result<(), AllocError> {
+fn turn(queues: &mut Queues) -> Result<(), AllocError>
+    ensures { OnOk result (queues_of queues.new ≡ turned (queues_of queues.old)) }
+{
     queues.ready.append(&mut queues.waiting)?;
     queues.waiting.append(&mut queues.next)?;
     Ok(())

@@ -1,9 +1,10 @@
 //! The elements of all maps, and the maps' free slots.
-ghost use Rattle.std.specs.Prelude.{ℕ, ◌≡◌, ◌<◌, ◌-◌, ◌^◌, ◌&&◌, ◌==◌, ◌↔◌, IsTrue, IfOk, OnErr, IfSome, Some, length, map, slice_get};
+ghost use Rattle.std.specs.Prelude.{ℕ, ◌≡◌, ◌<◌, ◌-◌, ◌^◌, ◌&&◌, ◌==◌, ◌↔◌, IsTrue, IfOk, OnErr, OnOk, IfSome, Some, length, map, slice_get};
 ghost use Rattle.bpf_model.specs.Element.{is_linked, is_reclaimed, linked_count as linked_count_of, unlinked, accessible};
 ghost use Rattle.bpf_model.specs.MapState.{given_of, returned, shape_of, with_elements};
 ghost use Rattle.bpf_model.specs.Helper.{LooksUp, update_error as first_error, Updates, Deletes};
 ghost use Rattle.bpf_model.specs.Access.{place_of as place_in, number_at as number_in};
+ghost use Rattle.plain_machine.specs.Births.{HasFree, ReplacesIn, NextUse, without_first, ReclaimsAt};
 ghost use Rattle.plain_machine.specs.State.{section_of, sections_of, life_of, element_of, elements_of, map_of, store_of, IsLinkedHere};
 
 use arrayvec::ArrayVec;
@@ -41,7 +42,7 @@ pub struct Element {
 #[derive(Drop)]
 pub struct MapState {
     pub shape: MapShape,
-    pub bag: Vec<u64>,
+    pub bag: Vec<u32>,
     pub worn: u64,
 }
 
@@ -126,17 +127,21 @@ impl MapState {
         }
     }
 
-    /// A slot that was used so often comes back: to the end of the free ones, or it is worn out.
+    /// A slot that was used so often (at most 2^32 - 1 times) comes back: to the end of the free ones, or it
+    /// is worn out.
     pub fn give_back(&mut self, uses: u64) -> Result<Given, AllocError>
-        ensures given { IfOk result (λ given. given ≡ given_of uses (map_of self.old)) }
-        ensures returned { IfOk result (λ _. self.old.worn < 2 ^ 64 - 1 → map_of self.new ≡ returned uses (map_of self.old)) }
+        ensures given { IfOk result (λ given. uses < 2 ^ 32 → given ≡ given_of uses (map_of self.old)) }
+        ensures returned { IfOk result (λ _. uses < 2 ^ 32 → self.old.worn < 2 ^ 64 - 1 → map_of self.new ≡ returned uses (map_of self.old)) }
         ensures err { OnErr result (map_of self.new ≡ map_of self.old) }
     {
-        if uses == u64::from(self.shape.reuse_limit) {
+        let Ok(count) = u32::try_from(uses) else {
+            return Ok(Given::Worn);
+        };
+        if count == self.shape.reuse_limit {
             self.worn = self.worn.saturating_add(1);
             Ok(Given::Worn)
         } else {
-            self.bag.push(uses)?;
+            self.bag.push(count)?;
             Ok(Given::Free)
         }
     }
@@ -211,17 +216,34 @@ impl Store {
     {
         let found = self.lookup(map, key.as_slice());
         let linked = self.linked_count(map);
-        let Some(state) = self.maps.get_mut(map) else {
+        if map >= self.maps.len() {
             return Ok(Err(Errno::InvalidArgument));
-        };
-        if let Some(errno) = state.update_error(flags, found.is_some(), linked) {
+        }
+        if let Some(errno) = self.maps[map].update_error(flags, found.is_some(), linked) {
             return Ok(Err(errno));
         }
+        self.replace(alloc, opened, found, map, key, value)?;
+        Ok(Ok(()))
+    }
+
+    /// An element is born in the slot that has been free longest, and what was found is unlinked. Where
+    /// memory is refused, nothing has changed.
+    fn replace(
+        &mut self,
+        alloc: Global,
+        opened: &[Section],
+        found: Option<usize>,
+        map: usize,
+        key: KeyBytes,
+        value: ValueBytes,
+    ) -> Result<(), AllocError>
+        requires there { map < length self.old.maps.items }
+        requires found { LooksUp (store_of self.old) map key.items found }
+        ensures replaces { OnOk result (HasFree (store_of self.old) map → ReplacesIn (store_of self.old) (sections_of opened.now) map key.items value.items found (store_of self.new)) }
+        ensures err { OnErr result (store_of self.new ≡ store_of self.old) }
+    {
         let since = Vec::from_slice(alloc, opened)?;
-        let uses = match state.bag.first() {
-            Some(count) => count.saturating_add(1),
-            None => 1,
-        };
+        let uses = self.next_use(map);
         let element = Element {
             map,
             key,
@@ -230,13 +252,33 @@ impl Store {
             life: Life::Linked,
         };
         self.elements.push(element)?;
-        if !state.bag.is_empty() {
-            let _ = state.bag.remove(0);
-        }
+        self.take_slot(map);
         if let Some(n) = found {
             self.unlink(n, since);
         }
-        Ok(Ok(()))
+        Ok(())
+    }
+
+    /// The how-manieth use the next element will be of its slot, the one that has been free longest.
+    fn next_use(&self, map: usize) -> u64
+        requires { map < length self.now.maps.items }
+        ensures { NextUse (store_of self.now) map result }
+    {
+        match self.maps[map].bag.first() {
+            Some(count) => u64::from(*count) + 1,
+            None => 1,
+        }
+    }
+
+    /// The slot that has been free longest is taken.
+    fn take_slot(&mut self, map: usize)
+        requires { map < length self.old.maps.items }
+        ensures elements { self.new.elements ≡ self.old.elements }
+        ensures maps { (store_of self.new).maps ≡ without_first (store_of self.old).maps map }
+    {
+        if !self.maps[map].bag.is_empty() {
+            let _ = self.maps[map].bag.remove(0);
+        }
     }
 
     /// Removes a key, as the helper and the event do. Where memory is refused, nothing has changed.
@@ -260,15 +302,20 @@ impl Store {
 
     /// Reclaims element n, which the caller knows to be unlinked with no section of its set open: its slot
     /// comes back. `None` when there is no such element or map.
-    pub fn reclaim(&mut self, n: usize) -> Result<Option<Given>, AllocError> {
-        let Some(element) = self.elements.get_mut(n) else {
+    pub fn reclaim(&mut self, n: usize) -> Result<Option<Given>, AllocError>
+        ensures reclaims { IfOk result (λ outcome. ReclaimsAt (store_of self.old) n outcome (store_of self.new)) }
+    {
+        if n >= self.elements.len() {
             return Ok(None);
-        };
-        let Some(state) = self.maps.get_mut(element.map) else {
+        }
+        let element = &self.elements[n];
+        let map = element.map;
+        let uses = element.uses;
+        if map >= self.maps.len() {
             return Ok(None);
-        };
-        let given = state.give_back(element.uses)?;
-        element.life = Life::Reclaimed;
+        }
+        let given = self.maps[map].give_back(uses)?;
+        self.elements[n].life = Life::Reclaimed;
         Ok(Some(given))
     }
 
