@@ -27,7 +27,7 @@ replaces s opened k m key value found new use_count h free e elements maps =
     let bag : m.bag ≡ count ∷ rest = f.2 in
     let uses_is : use_count ≡ count + 1 = e ∙ ap after_first bag in
     let elements_is : new.elements ≡ unlinked opened s.elements found ++ newborn k key value count ∷ [] =
-        elements ∙ ap (λ u. unlinked opened s.elements found ++ record { map = k; key = key; value = value; uses = u; life = Linked } ∷ []) uses_is in
+    elements ∙ ap (λ u. unlinked opened s.elements found ++ record { map = k; key = key; value = value; uses = u; life = Linked } ∷ []) uses_is in
     let maps_are : new.maps ≡ slice_set s.maps k (with_bag rest m) = maps ∙ without_first-at s.maps k m h ∙ ap (λ b. slice_set s.maps k (with_bag (drop 1 b) m)) bag in
     record {
       count = count;

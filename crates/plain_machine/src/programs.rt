@@ -101,22 +101,25 @@ pub fn helper(imm: i32) -> Insn {
     }
 }
 
+pub fn load_map() -> Insn {
+    Insn::LoadMap {
+        dst: reg(1),
+        map: 0,
+    }
+}
+
 /// The key 0 in the frame, its place in r2, the map in r1, and the call of a lookup.
 pub fn push_lookup(code: &mut Vec<Insn>) -> Result<(), AllocError> {
-    code.push(store_k(Width::Four, 10, -4, 0))?;
+    push_all(code, &[store_k(Width::Four, 10, -4, 0)])?;
     push_second_lookup(code)
 }
 
 /// The same where the key is written already.
 pub fn push_second_lookup(code: &mut Vec<Insn>) -> Result<(), AllocError> {
-    code.push(mov(2, 10))?;
-    code.push(op_k(AluOp::Add, 2, -4))?;
-    code.push(Insn::LoadMap {
-        dst: reg(1),
-        map: 0,
-    })?;
-    code.push(helper(1))?;
-    Ok(())
+    push_all(
+        code,
+        &[mov(2, 10), op_k(AluOp::Add, 2, -4), load_map(), helper(1)],
+    )
 }
 
 pub fn push_all(code: &mut Vec<Insn>, more: &[Insn]) -> Result<(), AllocError> {
@@ -149,17 +152,20 @@ pub fn lookup_and_load(
     access: Insn,
 ) -> Result<Loaded, AllocError> {
     let mut code = Vec::new(alloc);
-    code.push(mov_k(6, 0))?;
+    push_all(&mut code, &[mov_k(6, 0)])?;
     if locked {
-        code.push(LOCK)?;
+        push_all(&mut code, &[LOCK])?;
     }
     push_lookup(&mut code)?;
     if guarded {
-        code.push(jump_k(Condition::Equal, Size::Word64, 0, 0, 1))?;
+        push_all(
+            &mut code,
+            &[jump_k(Condition::Equal, Size::Word64, 0, 0, 1)],
+        )?;
     }
-    code.push(access)?;
+    push_all(&mut code, &[access])?;
     if locked {
-        code.push(UNLOCK)?;
+        push_all(&mut code, &[UNLOCK])?;
     }
     push_all(&mut code, &[mov(0, 6), Insn::Exit])?;
     program(alloc, code, 0)
@@ -168,7 +174,7 @@ pub fn lookup_and_load(
 /// A pointer to a value is kept over the unlock, and loaded from after it; or after a second lock.
 pub fn pointer_kept_over_unlock(alloc: Global, relocked: bool) -> Result<Loaded, AllocError> {
     let mut code = Vec::new(alloc);
-    code.push(LOCK)?;
+    push_all(&mut code, &[LOCK])?;
     push_lookup(&mut code)?;
     push_all(
         &mut code,
@@ -182,7 +188,7 @@ pub fn pointer_kept_over_unlock(alloc: Global, relocked: bool) -> Result<Loaded,
         ],
     )?;
     if relocked {
-        code.push(LOCK)?;
+        push_all(&mut code, &[LOCK])?;
     }
     push_all(&mut code, &[load(Width::Eight, 0, 7, 0), Insn::Exit])?;
     program(alloc, code, 0)
@@ -280,10 +286,7 @@ pub fn change_by_helper(alloc: Global, number: i32, flags: i32) -> Result<Loaded
             mov(3, 10),
             op_k(AluOp::Add, 3, -16),
             mov_k(4, flags),
-            Insn::LoadMap {
-                dst: reg(1),
-                map: 0,
-            },
+            load_map(),
             helper(number),
             Insn::Exit,
         ],
@@ -294,8 +297,8 @@ pub fn change_by_helper(alloc: Global, number: i32, flags: i32) -> Result<Loaded
 /// A pointer is spilled to the frame, loaded again, and the value behind it is loaded.
 pub fn spilled_pointer(alloc: Global) -> Result<Loaded, AllocError> {
     let mut code = Vec::new(alloc);
-    code.push(mov_k(6, 0))?;
-    code.push(LOCK)?;
+    push_all(&mut code, &[mov_k(6, 0)])?;
+    push_all(&mut code, &[LOCK])?;
     push_lookup(&mut code)?;
     push_all(
         &mut code,

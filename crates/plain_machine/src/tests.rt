@@ -160,11 +160,7 @@ fn steps(machine: &mut Machine, run: usize, count: usize) -> Result<Answer, Faul
     last
 }
 
-fn run_command(
-    machine: &mut Machine,
-    text: &mut String,
-    command: Do,
-) -> Result<(), AllocError> {
+fn run_command(machine: &mut Machine, text: &mut String, command: Do) -> Result<(), AllocError> {
     match command {
         Do::Stat => {
             let t = machine.totals();
@@ -289,7 +285,9 @@ fn an_open_section_holds_an_element(rt: HostRuntime) -> Result<(), AllocError> {
 }
 
 #[test]
-fn an_element_unlinked_in_a_grace_period_waits_for_the_next(rt: HostRuntime) -> Result<(), AllocError> {
+fn an_element_unlinked_in_a_grace_period_waits_for_the_next(
+    rt: HostRuntime,
+) -> Result<(), AllocError> {
     let alloc = rt.alloc();
     let mut m = machine(alloc, WIDE, plain_lookup(alloc)?)?;
     let script = [
@@ -345,10 +343,9 @@ fn run_slots(rt: HostRuntime) -> Result<(), AllocError> {
     let alloc = rt.alloc();
     let mut m = machine(alloc, WIDE, exit_one(alloc)?)?;
     for slot in 0..64usize {
-        match m.apply(event_of(Do::Start(0, 0, 0))) {
-            Ok(Answer::Started(run)) => assert_eq!(rt; run.index(), slot),
-            _ => assert!(rt; false, "start {slot}"),
-        }
+        let answer = replay(alloc, &mut m, &[Do::Start(0, 0, 0)])?;
+        let want = format!(in alloc; "run {slot}")?;
+        assert_eq!(rt; answer.as_str(), want.as_str());
     }
     let script = [
         Do::Start(0, 0, 0),
@@ -451,11 +448,43 @@ fn lookups_that_are_guarded(rt: HostRuntime) -> Result<(), AllocError> {
     let alloc = rt.alloc();
     let put = Do::Put(0, 0, 5, 0);
     let start = Do::Start(0, 0, 0);
-    assert_eq!(rt; answers(alloc, plain_lookup(alloc)?, &[put, start, Do::Step(0, 11), Do::Step(0, 1)])?.as_str(), "ret 0; run 0; moved; exit 5");
-    assert_eq!(rt; answers(alloc, plain_lookup(alloc)?, &[start, Do::Step(0, 10), Do::Step(0, 1)])?.as_str(), "run 0; moved; exit 0");
+    assert_eq!(rt;
+        answers(
+            alloc,
+            plain_lookup(alloc)?,
+            &[put, start, Do::Step(0, 11), Do::Step(0, 1)]
+        )?
+        .as_str(),
+        "ret 0; run 0; moved; exit 5"
+    );
+    assert_eq!(rt;
+        answers(
+            alloc,
+            plain_lookup(alloc)?,
+            &[start, Do::Step(0, 10), Do::Step(0, 1)]
+        )?
+        .as_str(),
+        "run 0; moved; exit 0"
+    );
     let storing = lookup_and_load(alloc, true, true, store_k(Width::Eight, 0, 0, 9))?;
-    assert_eq!(rt; answers(alloc, storing, &[put, start, Do::Step(0, 11), Do::Step(0, 1), Do::Get(0, 0)])?.as_str(), "ret 0; run 0; moved; exit 0; value V9");
-    assert_eq!(rt; answers(alloc, spilled_pointer(alloc)?, &[put, start, Do::Step(0, 14)])?.as_str(), "ret 0; run 0; exit 5");
+    assert_eq!(rt;
+        answers(
+            alloc,
+            storing,
+            &[put, start, Do::Step(0, 11), Do::Step(0, 1), Do::Get(0, 0)]
+        )?
+        .as_str(),
+        "ret 0; run 0; moved; exit 0; value V9"
+    );
+    assert_eq!(rt;
+        answers(
+            alloc,
+            spilled_pointer(alloc)?,
+            &[put, start, Do::Step(0, 14)]
+        )?
+        .as_str(),
+        "ret 0; run 0; exit 5"
+    );
     Ok(())
 }
 
@@ -465,7 +494,10 @@ fn what_a_verifier_must_refuse_gets_stuck(rt: HostRuntime) -> Result<(), AllocEr
     let put = Do::Put(0, 0, 5, 0);
     let start = Do::Start(0, 0, 0);
     let unguarded = lookup_and_load(alloc, true, false, load(Width::Eight, 6, 0, 0))?;
-    assert_eq!(rt; answers(alloc, unguarded, &[start, Do::Step(0, 7), Do::Step(0, 1)])?.as_str(), "run 0; moved; stuck");
+    assert_eq!(rt;
+        answers(alloc, unguarded, &[start, Do::Step(0, 7), Do::Step(0, 1)])?.as_str(),
+        "run 0; moved; stuck"
+    );
     let gone = [
         put,
         start,
@@ -477,7 +509,10 @@ fn what_a_verifier_must_refuse_gets_stuck(rt: HostRuntime) -> Result<(), AllocEr
         Do::Step(0, 2),
     ];
     let unlocked = lookup_and_load(alloc, false, true, load(Width::Eight, 6, 0, 0))?;
-    assert_eq!(rt; answers(alloc, unlocked, &gone)?.as_str(), "ret 0; run 0; moved; ret 0; ok; ok; reaped 0 K0 free; stuck");
+    assert_eq!(rt;
+        answers(alloc, unlocked, &gone)?.as_str(),
+        "ret 0; run 0; moved; ret 0; ok; ok; reaped 0 K0 free; stuck"
+    );
     let kept = [
         put,
         start,
@@ -489,7 +524,10 @@ fn what_a_verifier_must_refuse_gets_stuck(rt: HostRuntime) -> Result<(), AllocEr
         Do::Step(0, 1),
     ];
     let want = "ret 0; run 0; moved; ret 0; ok; ok; reaped 0 K0 free; stuck";
-    assert_eq!(rt; answers(alloc, pointer_kept_over_unlock(alloc, false)?, &kept)?.as_str(), want);
+    assert_eq!(rt;
+        answers(alloc, pointer_kept_over_unlock(alloc, false)?, &kept)?.as_str(),
+        want
+    );
     let again = [
         put,
         start,
@@ -500,7 +538,10 @@ fn what_a_verifier_must_refuse_gets_stuck(rt: HostRuntime) -> Result<(), AllocEr
         Do::Reap,
         Do::Step(0, 2),
     ];
-    assert_eq!(rt; answers(alloc, pointer_kept_over_unlock(alloc, true)?, &again)?.as_str(), want);
+    assert_eq!(rt;
+        answers(alloc, pointer_kept_over_unlock(alloc, true)?, &again)?.as_str(),
+        want
+    );
     let two = [
         put,
         Do::Start(0, 1, 1),
@@ -508,8 +549,14 @@ fn what_a_verifier_must_refuse_gets_stuck(rt: HostRuntime) -> Result<(), AllocEr
         Do::Del(0, 0),
         Do::Step(0, 8),
     ];
-    assert_eq!(rt; answers(alloc, join_of_two_lookups(alloc, 7)?, &two)?.as_str(), "ret 0; run 0; moved; ret 0; stuck");
-    assert_eq!(rt; answers(alloc, join_of_two_lookups(alloc, 6)?, &two)?.as_str(), "ret 0; run 0; moved; ret 0; moved");
+    assert_eq!(rt;
+        answers(alloc, join_of_two_lookups(alloc, 7)?, &two)?.as_str(),
+        "ret 0; run 0; moved; ret 0; stuck"
+    );
+    assert_eq!(rt;
+        answers(alloc, join_of_two_lookups(alloc, 6)?, &two)?.as_str(),
+        "ret 0; run 0; moved; ret 0; moved"
+    );
     Ok(())
 }
 
@@ -537,13 +584,25 @@ fn bounds_and_alignment_of_elements(rt: HostRuntime) -> Result<(), AllocError> {
         Do::Step(0, 1),
         Do::Step(0, 1),
     ];
-    assert_eq!(rt; answers(alloc, bounded_index(alloc, 8, Width::One)?, &past)?.as_str(), "ret 0; run 0; moved; moved; stuck");
+    assert_eq!(rt;
+        answers(alloc, bounded_index(alloc, 8, Width::One)?, &past)?.as_str(),
+        "ret 0; run 0; moved; moved; stuck"
+    );
     let odd = [put, Do::Start(0, 1, 5), Do::Step(0, 10), Do::Step(0, 1)];
-    assert_eq!(rt; answers(alloc, bounded_index(alloc, 5, Width::Two)?, &odd)?.as_str(), "ret 0; run 0; moved; stuck");
+    assert_eq!(rt;
+        answers(alloc, bounded_index(alloc, 5, Width::Two)?, &odd)?.as_str(),
+        "ret 0; run 0; moved; stuck"
+    );
     let even = [put, Do::Start(0, 1, 6), Do::Step(0, 14)];
-    assert_eq!(rt; answers(alloc, bounded_index(alloc, 6, Width::Two)?, &even)?.as_str(), "ret 0; run 0; exit 0");
+    assert_eq!(rt;
+        answers(alloc, bounded_index(alloc, 6, Width::Two)?, &even)?.as_str(),
+        "ret 0; run 0; exit 0"
+    );
     let wide = [put, Do::Start(0, 8, 1), Do::Step(0, 11)];
-    assert_eq!(rt; answers(alloc, narrow_bound(alloc, Size::Word64)?, &wide)?.as_str(), "ret 0; run 0; exit 0");
+    assert_eq!(rt;
+        answers(alloc, narrow_bound(alloc, Size::Word64)?, &wide)?.as_str(),
+        "ret 0; run 0; exit 0"
+    );
     Ok(())
 }
 
@@ -551,18 +610,33 @@ fn bounds_and_alignment_of_elements(rt: HostRuntime) -> Result<(), AllocError> {
 fn sections_and_calls_that_get_stuck(rt: HostRuntime) -> Result<(), AllocError> {
     let alloc = rt.alloc();
     let start = Do::Start(0, 0, 0);
-    let table = [
-        ([LOCK, LOCK], "run 0; moved; stuck"),
-        ([mov_k(0, 0), UNLOCK], "run 0; moved; stuck"),
-        ([mov_k(0, 0), helper(4)], "run 0; moved; stuck"),
-        ([LOCK, mov(1, 0)], "run 0; moved; stuck"),
-        ([mov(7, 10), helper(1)], "run 0; moved; stuck"),
-    ];
-    for (code, want) in table {
-        assert_eq!(rt; answers(alloc, only(alloc, &code)?, &[start, Do::Step(0, 1), Do::Step(0, 1)])?.as_str(), want);
-    }
+    let steps = [start, Do::Step(0, 1), Do::Step(0, 1)];
+    let want = "run 0; moved; stuck";
+    assert_eq!(rt;
+        answers(alloc, only(alloc, &[LOCK, LOCK])?, &steps)?.as_str(),
+        want
+    );
+    assert_eq!(rt;
+        answers(alloc, only(alloc, &[mov_k(0, 0), UNLOCK])?, &steps)?.as_str(),
+        want
+    );
+    assert_eq!(rt;
+        answers(alloc, only(alloc, &[mov_k(0, 0), helper(4)])?, &steps)?.as_str(),
+        want
+    );
+    assert_eq!(rt;
+        answers(alloc, only(alloc, &[LOCK, mov(1, 0)])?, &steps)?.as_str(),
+        want
+    );
+    assert_eq!(rt;
+        answers(alloc, only(alloc, &[mov(7, 10), helper(1)])?, &steps)?.as_str(),
+        want
+    );
     let inside = only(alloc, &[LOCK, mov_k(0, 0), Insn::Exit])?;
-    assert_eq!(rt; answers(alloc, inside, &[start, Do::Step(0, 2), Do::Step(0, 1)])?.as_str(), "run 0; moved; stuck");
+    assert_eq!(rt;
+        answers(alloc, inside, &[start, Do::Step(0, 2), Do::Step(0, 1)])?.as_str(),
+        "run 0; moved; stuck"
+    );
     Ok(())
 }
 
@@ -571,9 +645,20 @@ fn helpers_change_maps(rt: HostRuntime) -> Result<(), AllocError> {
     let alloc = rt.alloc();
     let start = Do::Start(0, 0, 0);
     let put = Do::Put(0, 0, 5, 0);
-    assert_eq!(rt; answers(alloc, change_by_helper(alloc, 2, 0)?, &[start, Do::Step(0, 10), Do::Get(0, 0)])?.as_str(), "run 0; exit 0; value V7");
+    assert_eq!(rt;
+        answers(
+            alloc,
+            change_by_helper(alloc, 2, 0)?,
+            &[start, Do::Step(0, 10), Do::Get(0, 0)]
+        )?
+        .as_str(),
+        "run 0; exit 0; value V7"
+    );
     let update = [put, start, Do::Step(0, 10), Do::Get(0, 0), Do::Stat];
-    assert_eq!(rt; answers(alloc, change_by_helper(alloc, 2, 1)?, &update)?.as_str(), "ret 0; run 0; exit 18446744073709551599; value V5; stat linked 1 unlinked 0 given 0 worn 0 runs 1 open 0");
+    assert_eq!(rt;
+        answers(alloc, change_by_helper(alloc, 2, 1)?, &update)?.as_str(),
+        "ret 0; run 0; exit 18446744073709551599; value V5; stat linked 1 unlinked 0 given 0 worn 0 runs 1 open 0"
+    );
     let delete = [
         put,
         start,
@@ -583,6 +668,9 @@ fn helpers_change_maps(rt: HostRuntime) -> Result<(), AllocError> {
         Do::Advance,
         Do::Reap,
     ];
-    assert_eq!(rt; answers(alloc, change_by_helper(alloc, 3, 0)?, &delete)?.as_str(), "ret 0; run 0; exit 0; none; ok; ok; reaped 0 K0 free");
+    assert_eq!(rt;
+        answers(alloc, change_by_helper(alloc, 3, 0)?, &delete)?.as_str(),
+        "ret 0; run 0; exit 0; none; ok; ok; reaped 0 K0 free"
+    );
     Ok(())
 }
