@@ -78,11 +78,12 @@ grows-set es n old new h f k e at = elim (cases_eq k n) [
   | inr other ↦ (e, get-set_other es n k new other ∙ at, follows-same e)
 ]
 
+grows-set_to : (f : Element → Element) (es : List Element) (n : ℕ) → ((e : Element) → slice_get es n ≡ Some e → Follows e (f e)) → (o : Option Element) → slice_get es n ≡ o → Grows es (set_to f es n o)
+grows-set_to f es n h None e = grows-same es
+grows-set_to f es n h (Some x) e = grows-set es n x (f x) e (h x e)
+
 pub grows-changed : (f : Element → Element) (es : List Element) (n : ℕ) → ((e : Element) → slice_get es n ≡ Some e → Follows e (f e)) → Grows es (changed f es n)
-grows-changed f es n h = by_option (slice_get es n) refl where
-  by_option : (o : Option Element) → slice_get es n ≡ o → Grows es (set_to f es n o)
-  by_option None e = grows-same es
-  by_option (Some x) e = grows-set es n x (f x) e (h x e)
+grows-changed f es n h = grows-set_to f es n h (slice_get es n) refl
 
 -- what was found is unlinked
 pub grows-unlinked : (opened : List Section) (es : List Element) (map : ℕ) (key : List ℕ) (n : ℕ) → IsLinkedAt es map key n → Grows es (unlinked opened es (Some n))
