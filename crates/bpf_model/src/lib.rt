@@ -4,6 +4,9 @@
 //! mean stands in `specs/`, a module for each subject; docs/DEFINITIONS.md reads them in order.
 #![tactic(auto)]
 
+mod call;
+mod event;
+mod id;
 mod insn;
 mod limits;
 mod opcode;
@@ -11,10 +14,14 @@ mod reg;
 mod slot;
 mod value;
 
+pub use call::{Errno, Helper, KernelFunction};
+pub use event::{Answer, Event, EventRefusal, Given, ReapedElement};
+pub use id::{MapId, ProgId, RunId};
 pub use insn::{AluOp, CallKind, Insn, Operand, SignExtension};
 pub use limits::{
-    CTX_BYTES, CtxBytes, FRAME_BYTES, KEY_BYTES, KeyBytes, MAX_MAPS, MAX_SLOTS, MapShape,
-    VALUE_BYTES, ValueBytes,
+    CTX_BYTES, CtxBytes, FRAME_BYTES, KEY_BYTES, KeyBytes, MAX_DEPTH, MAX_ENTRIES, MAX_JOURNAL,
+    MAX_MAPS, MAX_PROGRAMS, MAX_REUSE, MAX_RUNS, MAX_SLOTS, MAX_SPARE, MapShape, VALUE_BYTES,
+    ValueBytes,
 };
 pub use opcode::{
     AluCode, ByteOrder, Condition, Excluded, Opcode, SignedWidth, Size, Source, SwapWidth, Width,

@@ -20,6 +20,27 @@ pub const VALUE_BYTES: usize = 256;
 /// The most maps of a program's list, and of a registry.
 pub const MAX_MAPS: usize = 16;
 
+/// The most programs of a world.
+pub const MAX_PROGRAMS: usize = 64;
+
+/// How many run slots there are.
+pub const MAX_RUNS: usize = 64;
+
+/// How deep read-side critical sections may nest: 1, so they do not.
+pub const MAX_DEPTH: usize = 1;
+
+/// The most linked elements that a map's shape may allow.
+pub const MAX_ENTRIES: usize = 4096;
+
+/// The most further slots that a map's shape may ask for.
+pub const MAX_SPARE: usize = 4096;
+
+/// How often a slot may be used at most.
+pub const MAX_REUSE: u32 = 4_294_967_295;
+
+/// The most entries of a journal.
+pub const MAX_JOURNAL: usize = 16_777_216;
+
 /// The bytes of a context, at most 256.
 pub type CtxBytes = ArrayVec<u8, 256>;
 

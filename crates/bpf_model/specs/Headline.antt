@@ -1,0 +1,74 @@
+-- The four parts of the main theorem, over whole runs of the machine: its answers, that it is never stuck, that its runs end in time, and that
+-- elements are reclaimed late. What a world keeps is a type of its own here, with the relation to the machine's states that it refines.
+use Rattle.std.specs.Prelude.{◌≡◌, ℕ, suc, ◌+◌, ◌<◌, ◌==◌, Bool, false, List, [], ◌∷◌, Option, Some, None, slice_get, length, take, if◌then◌else◌}
+use Rattle.bpf_model.specs.declared.event.Event.{Event}
+use Rattle.bpf_model.specs.declared.event.Event.TheVariants.{Start, Step}
+use Rattle.bpf_model.specs.declared.event.Answer.{Answer}
+use Rattle.bpf_model.specs.declared.event.Answer.TheVariants.{Started, Moved}
+use Rattle.bpf_model.specs.Section.{Section, AllEnded}
+use Rattle.bpf_model.specs.Element.{Linked, Unlinked, Reclaimed, HasLife}
+use Rattle.bpf_model.specs.Machine.{Run, Machine, open_sections, run_at}
+use Rattle.bpf_model.specs.MachineStep.{NeverStuck}
+use Rattle.bpf_model.specs.Event.{Does}
+use Rattle.bpf_model.specs.Run.{IsHistory, last_of, AllStates}
+
+-- How many moves the run in slot r has answered since it started there, by the answers alone.
+abbrev pub moved_once : Answer → ℕ
+moved_once Moved = 1
+moved_once answer = 0
+
+abbrev pub is_start_in : ℕ → Answer → Bool
+is_start_in r (Started q) = q == r
+is_start_in r answer = false
+
+abbrev pub moves_after : ℕ → ℕ → Event → Answer → ℕ
+moves_after r n (Step q) answer = if q == r then n + moved_once answer else n
+moves_after r n (Start prog ctx) answer = if is_start_in r answer then 0 else n
+moves_after r n event answer = n
+
+abbrev pub moves_of : ℕ → ℕ → List Event → List Answer → ℕ
+moves_of r n (event ∷ events) (answer ∷ answers) = moves_of r (moves_after r n event answer) events answers
+moves_of r n events answers = n
+
+abbrev pub moved_by : Option Run → ℕ
+moved_by None = 0
+moved_by (Some run) = run.moved
+
+-- A run that has answered Moved k times is one of a program of more than k instructions; a wide instruction counts once.
+abbrev pub ExitsInTime : Machine → List Event → List Answer → List Machine → Type 0
+ExitsInTime m events answers states =
+    (j r : ℕ) (later : Machine) (run : Run) → slice_get (m ∷ states) j ≡ Some later → run_at later.runs r ≡ Some run →
+    moves_of r (moved_by (run_at m.runs r)) (take j events) (take j answers) < length run.program.code
+
+-- Where an element is linked in one state, unlinked in the next and reclaimed in a later one, each section that was open when it was unlinked
+-- has ended there.
+abbrev pub ReclaimedLate : List Machine → Type 0
+ReclaimedLate states =
+    (i j n : ℕ) (before after later : Machine) (since : List Section) →
+    slice_get states i ≡ Some before → slice_get states (suc i) ≡ Some after → slice_get states j ≡ Some later → i < j →
+    HasLife before.store.elements n Linked → HasLife after.store.elements n (Unlinked since) → HasLife later.store.elements n Reclaimed →
+    AllEnded (open_sections before.runs) (open_sections later.runs)
+
+module _ {World : Type 0} where
+  -- The answer to one event is a step of each machine that the world refined, to one that it refines afterwards.
+  abbrev pub AnswersAsMachine : (World → Machine → Type 0) → World → Event → Answer → World → Type 0
+  AnswersAsMachine Refines old event answer new =
+      (m : Machine) → Refines old m → (next : Machine) × Does m event answer next × Refines new next
+
+  -- The answers are those of a run of the machine, and the world refines its last state.
+  abbrev pub AreMachineAnswers : (World → Machine → Type 0) → World → List Event → List Answer → World → Type 0
+  AreMachineAnswers Refines old events answers new =
+      (m : Machine) → Refines old m → (states : List Machine) × IsHistory m events answers states × Refines new (last_of m states)
+
+  -- In every run of the machine with these answers, each run that hasn't ended has a step, in each state.
+  abbrev pub AreNeverStuck : (World → Machine → Type 0) → World → List Event → List Answer → Type 0
+  AreNeverStuck Refines old events answers =
+      (m : Machine) → Refines old m → (states : List Machine) → IsHistory m events answers states → AllStates NeverStuck (m ∷ states)
+
+  abbrev pub AllExitInTime : (World → Machine → Type 0) → World → List Event → List Answer → Type 0
+  AllExitInTime Refines old events answers =
+      (m : Machine) → Refines old m → (states : List Machine) → IsHistory m events answers states → ExitsInTime m events answers states
+
+  abbrev pub AreReclaimedLate : (World → Machine → Type 0) → World → List Event → List Answer → Type 0
+  AreReclaimedLate Refines old events answers =
+      (m : Machine) → Refines old m → (states : List Machine) → IsHistory m events answers states → ReclaimedLate (m ∷ states)

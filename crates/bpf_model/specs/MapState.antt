@@ -1,0 +1,54 @@
+-- The state of the maps (Linux BPF documentation, "BPF_MAP_TYPE_HASH"; slots and their reuse are this runtime's own).
+use Rattle.std.specs.Prelude.{◌≡◌, ℕ, ◌+◌, ◌==◌, List, [], ◌∷◌, ◌++◌, Option, Some, None, slice_get, slice_set, replicate, if◌then◌else◌}
+use Rattle.bpf_model.specs.declared.limits.MapShape.{MapShape}
+use Rattle.bpf_model.specs.declared.event.Given.{Given}
+use Rattle.bpf_model.specs.declared.event.Given.TheVariants.{Free, Worn}
+use Rattle.bpf_model.specs.Element.{Element}
+
+-- A map: its shape, for each free slot how often it was used (a bag: its order says nothing here), and how many slots are worn out. What it
+-- has under a key stands in the elements.
+pub record MapState : Type 0 where
+  pub shape : MapShape
+  pub bag : List ℕ
+  pub worn : ℕ
+
+-- All maps, and the elements of all of them.
+pub record Store : Type 0 where
+  pub elements : List Element
+  pub maps : List MapState
+
+-- a new map: no slot was ever used
+abbrev pub new_map : MapShape → MapState
+new_map shape = record { shape = shape; bag = replicate (shape.entries + shape.spare) 0; worn = 0 }
+
+abbrev pub with_bag : List ℕ → MapState → MapState
+with_bag bag m = record { shape = m.shape; bag = bag; worn = m.worn }
+
+abbrev pub with_elements : List Element → Store → Store
+with_elements es s = record { elements = es; maps = s.maps }
+
+-- the shape of a map, where there is one
+abbrev pub shape_in : Option MapState → Option MapShape
+shape_in None = None
+shape_in (Some m) = Some m.shape
+
+abbrev pub shape_of : Store → ℕ → Option MapShape
+shape_of s map = shape_in (slice_get s.maps map)
+
+-- Any count may be taken out of a bag: which slot serves is left open.
+pub record TakesOut (old : List ℕ) (count : ℕ) (new : List ℕ) : Type 0 where
+  pub before : List ℕ
+  pub after : List ℕ
+  pub old_is : old ≡ before ++ count ∷ after
+  pub new_is : new ≡ before ++ after
+
+-- Whether a slot that was used so often may be used again, and the map after it was given back.
+abbrev pub given_of : ℕ → MapState → Given
+given_of uses m = if uses == m.shape.reuse_limit then Worn else Free
+
+abbrev pub with_given : Given → ℕ → MapState → MapState
+with_given Free uses m = record { shape = m.shape; bag = m.bag ++ uses ∷ []; worn = m.worn }
+with_given Worn uses m = record { shape = m.shape; bag = m.bag; worn = m.worn + 1 }
+
+abbrev pub returned : ℕ → MapState → MapState
+returned uses m = with_given (given_of uses m) uses m

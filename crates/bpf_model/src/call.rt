@@ -1,0 +1,88 @@
+//! The functions that a program may call, and the errors that a map operation gives (bpf(2)).
+
+/// A helper function, called by its static number: `bpf_map_lookup_elem` (1), `bpf_map_update_elem` (2)
+/// and `bpf_map_delete_elem` (3).
+#[derive(Clone, Copy, Debug, PartialEq, Eq)]
+pub enum Helper {
+    Lookup,
+    Update,
+    Delete,
+}
+
+/// A kernel function, called by its BTF number: `bpf_rcu_read_lock` (1) and `bpf_rcu_read_unlock` (2).
+#[derive(Clone, Copy, Debug, PartialEq, Eq)]
+pub enum KernelFunction {
+    ReadLock,
+    ReadUnlock,
+}
+
+/// Why a map operation is refused. In a register and in an answer the number is negative.
+#[derive(Clone, Copy, Debug, PartialEq, Eq)]
+pub enum Errno {
+    /// ENOENT, 2: the key has no element.
+    NoEntry,
+    /// E2BIG, 7: the map has as many elements as its shape allows.
+    TooBig,
+    /// ENOMEM, 12: no slot of the map is free.
+    NoMemory,
+    /// EEXIST, 17: the key has an element.
+    Exists,
+    /// EINVAL, 22: the flags are none that there are.
+    InvalidArgument,
+}
+
+impl Errno {
+    ghost use Rattle.std.specs.Prelude.{◌≡◌};
+    ghost use Rattle.bpf_model.specs.Call.{errno_number};
+
+    /// Its number, positive.
+    pub fn number(self) -> u8
+        ensures { result ≡ errno_number self }
+    {
+        match self {
+            Errno::NoEntry => 2,
+            Errno::TooBig => 7,
+            Errno::NoMemory => 12,
+            Errno::Exists => 17,
+            Errno::InvalidArgument => 22,
+        }
+    }
+}
+
+impl Helper {
+    ghost use Rattle.std.specs.Prelude.{◌≡◌};
+    ghost use Rattle.bpf_model.specs.Call.{helper_of};
+
+    /// The helper of a static number.
+    pub fn from_number(number: i32) -> Option<Helper>
+        ensures { result ≡ helper_of number }
+    {
+        if number == 1 {
+            Some(Helper::Lookup)
+        } else if number == 2 {
+            Some(Helper::Update)
+        } else if number == 3 {
+            Some(Helper::Delete)
+        } else {
+            None
+        }
+    }
+}
+
+impl KernelFunction {
+    ghost use Rattle.std.specs.Prelude.{◌≡◌};
+    ghost use Rattle.bpf_model.specs.Call.{kernel_function_of};
+
+    /// The kernel function of a BTF number.
+    pub fn from_number(number: i32) -> Option<KernelFunction>
+        ensures { result ≡ kernel_function_of number }
+    {
+        if number == 1 {
+            Some(KernelFunction::ReadLock)
+        } else if number == 2 {
+            Some(KernelFunction::ReadUnlock)
+        } else {
+            None
+        }
+    }
+}

@@ -1,0 +1,104 @@
+//! What may happen to the machine, and what it answers.
+
+use crate::call::Errno;
+use crate::id::{MapId, ProgId, RunId};
+use crate::limits::{CtxBytes, KeyBytes, ValueBytes};
+
+/// What may happen, each one atomic action of one actor.
+#[derive(Debug, Drop)]
+pub enum Event {
+    /// A program is started on a context.
+    Start { prog: ProgId, ctx: CtxBytes },
+    /// A run takes one step.
+    Step { run: RunId },
+    /// The control plane stores a value under a key. Flags: any (0), only a new key (1), only a present one (2).
+    Update {
+        map: MapId,
+        key: KeyBytes,
+        value: ValueBytes,
+        flags: u64,
+    },
+    /// The control plane removes a key.
+    Delete { map: MapId, key: KeyBytes },
+    /// The control plane reads the value of a key.
+    Read { map: MapId, key: KeyBytes },
+    /// A grace period may end, and the next begin.
+    Advance,
+    /// One element whose grace period has ended may be reclaimed.
+    Reap,
+    /// A run that has ended leaves its slot.
+    Drop { run: RunId },
+}
+
+/// Whether a reclaimed element's slot may be used again, or has been used as often as the map allows.
+#[derive(Clone, Copy, Debug, PartialEq, Eq)]
+pub enum Given {
+    Free,
+    Worn,
+}
+
+/// An element that was reclaimed.
+#[derive(Debug, Drop)]
+pub struct ReapedElement {
+    pub map: MapId,
+    pub key: KeyBytes,
+    pub given: Given,
+}
+
+/// Why an event is refused. A refused event changes nothing.
+#[derive(Clone, Copy, Debug, PartialEq, Eq)]
+pub enum EventRefusal {
+    /// No run has the slot.
+    NoRun,
+    /// The run has ended.
+    Ended,
+    /// No program has the number.
+    NoProgram,
+    /// The context has another length than the program was verified for.
+    BadContext,
+    /// Every run slot is occupied.
+    RunsFull,
+    /// No map has the number.
+    NoMap,
+    /// The key or the value has another length than the map's.
+    BadLength,
+    /// The run has not ended.
+    StillRunning,
+}
+
+/// What the machine answers to an event.
+#[derive(Debug, Drop)]
+pub enum Answer {
+    Started(RunId),
+    Moved,
+    Exited(u64),
+    /// An update or a delete, with its error.
+    Ret(Result<(), Errno>),
+    /// A read: the value of the key, where it has one.
+    Found(Option<ValueBytes>),
+    Done,
+    /// A reap: the element that was reclaimed, where one was.
+    Reaped(Option<ReapedElement>),
+    Refused(EventRefusal),
+}
+
+impl EventRefusal {
+    ghost use Rattle.std.specs.Prelude.{◌≡◌};
+    ghost use Rattle.bpf_model.specs.Event.{refusal_number};
+
+    /// Its number, 60 to 67.
+    pub fn number(self) -> u8
+        ensures { result ≡ refusal_number self }
+    {
+        match self {
+            EventRefusal::NoRun => 60,
+            EventRefusal::Ended => 61,
+            EventRefusal::NoProgram => 62,
+            EventRefusal::BadContext => 63,
+            EventRefusal::RunsFull => 64,
+            EventRefusal::NoMap => 65,
+            EventRefusal::BadLength => 66,
+            EventRefusal::StillRunning => 67,
+        }
+    }
+}

@@ -1,0 +1,95 @@
+-- Changes of elements that let them grow.
+use Rattle.std.proofs.Common.{◌≡◌, ◌≢◌, ℕ, zero, suc, ◌+◌, ◌<◌, List, [], ◌∷◌, ◌++◌, length, Option, Some, None, ◌⊎◌, inl, inr, refl, sym, ap, subst, ◌∙◌, arith}
+use Rattle.std.specs.Prelude.{slice_get, slice_set}
+use Rattle.std.proofs.lemmas.Bool.{cases_eq}
+use Rattle.bpf_model.specs.Section.{Section}
+use Rattle.bpf_model.specs.Element.{Element, Life, Linked, Unlinked, Reclaimed, IsLinkedAt, HasLife, with_life, with_value, set_to, changed, unlinked}
+use Rattle.model_laws.specs.Growth.{Later, Follows, Grows}
+use Rattle.model_laws.proofs.Lists.{get-append, get-set_same, get-set_other}
+
+later-same : (l : Life) → Later l l
+later-same Linked = tt
+later-same (Unlinked s) = refl
+later-same Reclaimed = tt
+
+later-more : (a b c : Life) → Later a b → Later b c → Later a c
+later-more Linked b c h g = tt
+later-more (Unlinked s) Linked c h g = absurd h
+later-more (Unlinked s) (Unlinked t) Linked h g = absurd g
+later-more (Unlinked s) (Unlinked t) (Unlinked u) h g = h ∙ g
+later-more (Unlinked s) (Unlinked t) Reclaimed h g = tt
+later-more (Unlinked s) Reclaimed Linked h g = absurd g
+later-more (Unlinked s) Reclaimed (Unlinked u) h g = absurd g
+later-more (Unlinked s) Reclaimed Reclaimed h g = tt
+later-more Reclaimed Linked c h g = absurd h
+later-more Reclaimed (Unlinked t) c h g = absurd h
+later-more Reclaimed Reclaimed c h g = g
+
+later-reclaimed : (l : Life) → Later l Reclaimed
+later-reclaimed Linked = tt
+later-reclaimed (Unlinked s) = tt
+later-reclaimed Reclaimed = tt
+
+only-reclaimed : (a b : Life) → a ≡ Reclaimed → Later a b → b ≡ Reclaimed
+only-reclaimed Linked b e h = absurd (cc)
+only-reclaimed (Unlinked s) b e h = absurd (cc)
+only-reclaimed Reclaimed Linked e h = absurd h
+only-reclaimed Reclaimed (Unlinked s) e h = absurd h
+only-reclaimed Reclaimed Reclaimed e h = refl
+
+follows-same : (e : Element) → Follows e e
+follows-same e = record { in_map = refl; under = refl; uses = refl; life = later-same e.life }
+
+follows-more : (d e f : Element) → Follows d e → Follows e f → Follows d f
+follows-more d e f h g = record { in_map = g.in_map ∙ h.in_map; under = g.under ∙ h.under; uses = g.uses ∙ h.uses; life = later-more d.life e.life f.life h.life g.life }
+
+pub follows-value : (value : List ℕ) (e : Element) → Follows e (with_value value e)
+follows-value value e = record { in_map = refl; under = refl; uses = refl; life = later-same e.life }
+
+pub follows-reclaimed : (e : Element) → Follows e (with_life Reclaimed e)
+follows-reclaimed e = record { in_map = refl; under = refl; uses = refl; life = later-reclaimed e.life }
+
+pub follows-unlinked : (opened : List Section) (e : Element) → e.life ≡ Linked → Follows e (with_life (Unlinked opened) e)
+follows-unlinked opened e h = record { in_map = refl; under = refl; uses = refl; life = subst (λ l. Later l (Unlinked opened)) (sym h) tt }
+
+pub grows-same : (es : List Element) → Grows es es
+grows-same es n e h = (e, h, follows-same e)
+
+pub grows-along : (es new : List Element) → new ≡ es → Grows es new
+grows-along es new h = subst (Grows es) (sym h) (grows-same es)
+
+pub grows-more : (a b c : List Element) → Grows a b → Grows b c → Grows a c
+grows-more a b c h g n e at =
+    let f = h n e at in
+    let k = g n f.0 f.1 in
+    (k.0, k.1, follows-more e f.0 k.0 f.2 k.2)
+
+pub grows-append : (es more : List Element) → Grows es (es ++ more)
+grows-append es more n e h = (e, get-append es more n e h, follows-same e)
+
+pub grows-set : (es : List Element) (n : ℕ) (old new : Element) → slice_get es n ≡ Some old → Follows old new → Grows es (slice_set es n new)
+grows-set es n old new h f k e at = elim (cases_eq k n) [
+  | inl same ↦
+      let place : slice_get es n ≡ Some e = ap (slice_get es) (sym same) ∙ at in
+      let both : Some old ≡ Some e = sym h ∙ place in
+      let equal : old ≡ e = cc in
+      let P : Element → Type 0 = λ x. Follows x new in
+      (new, ap (slice_get (slice_set es n new)) same ∙ get-set_same es n old new h, subst P equal f)
+  | inr other ↦ (e, get-set_other es n k new other ∙ at, follows-same e)
+]
+
+grows-set_to : (f : Element → Element) (es : List Element) (n : ℕ) → ((e : Element) → slice_get es n ≡ Some e → Follows e (f e)) → (o : Option Element) → slice_get es n ≡ o → Grows es (set_to f es n o)
+grows-set_to f es n h None e = grows-same es
+grows-set_to f es n h (Some x) e = grows-set es n x (f x) e (h x e)
+
+pub grows-changed : (f : Element → Element) (es : List Element) (n : ℕ) → ((e : Element) → slice_get es n ≡ Some e → Follows e (f e)) → Grows es (changed f es n)
+grows-changed f es n h = grows-set_to f es n h (slice_get es n) refl
+
+-- what was found is unlinked
+pub grows-unlinked : (opened : List Section) (es : List Element) (map : ℕ) (key : List ℕ) (n : ℕ) → IsLinkedAt es map key n → Grows es (unlinked opened es (Some n))
+grows-unlinked opened es map key n l = grows-changed (with_life (Unlinked opened)) es n (λ e h. follows-unlinked opened e (let both : Some l.element ≡ Some e = sym l.born ∙ h in let equal : l.element ≡ e = cc in ap (λ x. x.life) (sym equal) ∙ l.linked))
+
+pub stays-reclaimed : (es new : List Element) (n : ℕ) → Grows es new → HasLife es n Reclaimed → HasLife new n Reclaimed
+stays-reclaimed es new n g h =
+    let f = g n h.0 h.1 in
+    (f.0, f.1, only-reclaimed h.0.life f.0.life h.2 f.2.life)

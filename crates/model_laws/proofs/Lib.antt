@@ -1,0 +1,5 @@
+pub mod Lists
+pub mod Growing
+pub mod Stepping
+pub mod Cutting
+pub mod Refusing

@@ -1,0 +1,23 @@
+-- How elements may change.
+use Rattle.std.specs.Prelude.{◌≡◌, ℕ, List, Some, slice_get}
+use Rattle.bpf_model.specs.Element.{Element, Life, Linked, Unlinked, Reclaimed}
+
+-- a life goes on: from linked over unlinked, with the same sections, to reclaimed
+abbrev pub Later : Life → Life → Type 0
+Later Linked l = Unit {0}
+Later (Unlinked s) Linked = ⊥
+Later (Unlinked s) (Unlinked t) = s ≡ t
+Later (Unlinked s) Reclaimed = Unit {0}
+Later Reclaimed Linked = ⊥
+Later Reclaimed (Unlinked t) = ⊥
+Later Reclaimed Reclaimed = Unit {0}
+
+pub record Follows (old new : Element) : Type 0 where
+  pub in_map : new.map ≡ old.map
+  pub under : new.key ≡ old.key
+  pub uses : new.uses ≡ old.uses
+  pub life : Later old.life new.life
+
+-- each element is still there
+abbrev pub Grows : List Element → List Element → Type 0
+Grows old new = (n : ℕ) (e : Element) → slice_get old n ≡ Some e → (f : Element) × (slice_get new n ≡ Some f) × Follows e f

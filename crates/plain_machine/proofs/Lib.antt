@@ -1,0 +1,4 @@
+pub mod Lists
+pub mod Elements
+pub mod Births
+pub mod Reclaims

@@ -1,0 +1,25 @@
+use Rattle.std.proofs.Common.{rules, ℕ, ◌≡◌, ◌<◌, ◌≤◌, arith, List, length, Option, Some, None, map, sym, ◌∙◌, ap, vec_len}
+use Rattle.std.specs.Prelude.{slice_get, slice_set}
+use Rattle.bpf_model.specs.Element.{Unlinked, with_life}
+use Rattle.plain_machine.specs.State.{element_of, elements_of, sections_of}
+use Rattle.plain_machine.proofs.Lists.{get-map, get-past, read-at, length-map-own, map-slice_set}
+use Rattle.plain_machine.proofs.Elements.{changed-at, changed-past}
+use Rattle.plain_machine.proofs.store.Store.unlink.Goals as goal
+
+pub returns-then-n-len-clause-elements : goal.returns-then-n-len-clause-elements
+returns-then-n-len-clause-elements c =
+    let e = c.index_mut.result.now in
+    let items = c.args.self.now.elements.items in
+    let opened = sections_of c.args.opened.items in
+    let len : vec_len c.args.self.now.elements ≡ length items = search rules in
+    let bound : c.args.n < length items = omega (arith, c.if-n-len.true, c.len.ensures, len) in
+    let read = get-map element_of items c.args.n e (read-at items c.args.n e bound c.index_mut.ensures.value) in
+    map-slice_set element_of items c.args.n _ ∙ sym (changed-at (with_life (Unlinked opened)) (elements_of items) c.args.n (element_of e) read)
+
+pub returns-else-n-len-clause-elements : goal.returns-else-n-len-clause-elements
+returns-else-n-len-clause-elements c =
+    let items = c.args.self.now.elements.items in
+    let opened = sections_of c.args.opened.items in
+    let len : vec_len c.args.self.now.elements ≡ length items = search rules in
+    let far : length (elements_of items) ≤ c.args.n = omega (arith, length-map-own element_of items, c.if-n-len.false, c.len.ensures, len) in
+    sym (changed-past (with_life (Unlinked opened)) (elements_of items) c.args.n (get-past (elements_of items) c.args.n far))

@@ -1,0 +1,78 @@
+-- What the plain model's structs stand for, in the words of the definitions.
+use Rattle.std.specs.Prelude.{◌≡◌, ℕ, List, [], map, length, Option, Some, None, slice_get}
+use Rattle.std.specs.Option.{option_map}
+use Rattle.bpf_model.specs.declared.value.Value.{Value}
+use Rattle.bpf_model.specs.declared.value.Value.TheVariants.{Nothing}
+use Rattle.bpf_model.specs.declared.value.Cell.{Cell}
+use Rattle.bpf_model.specs.declared.value.Cell.TheVariants.{Unwritten}
+use Rattle.plain_machine.specs.declared.store.Section.{Section}
+use Rattle.plain_machine.specs.declared.store.Life.{Life}
+use Rattle.plain_machine.specs.declared.store.Life.TheVariants as lives
+use Rattle.plain_machine.specs.declared.store.Element.{Element}
+use Rattle.plain_machine.specs.declared.store.MapState.{MapState}
+use Rattle.plain_machine.specs.declared.store.Store.{Store}
+use Rattle.plain_machine.specs.declared.run.Run.{Run}
+use Rattle.plain_machine.specs.declared.machine.Loaded.{Loaded}
+use Rattle.plain_machine.specs.declared.machine.Queues.{Queues}
+use Rattle.bpf_model.specs.Step as step
+use Rattle.bpf_model.specs.Section as model_section
+use Rattle.bpf_model.specs.Element as model
+use Rattle.bpf_model.specs.MapState as model_maps
+use Rattle.bpf_model.specs.Machine as machine
+use Rattle.bpf_model.specs.Schedule as schedule
+
+abbrev pub section_of : Section → model_section.Section
+section_of s = record { run = s.run; lock = s.lock }
+
+abbrev pub sections_of : List Section → List model_section.Section
+sections_of ss = map section_of ss
+
+abbrev pub life_of : Life → model.Life
+life_of lives.Linked = model.Linked
+life_of (lives.Unlinked opened) = model.Unlinked (sections_of opened.items)
+life_of lives.Reclaimed = model.Reclaimed
+
+abbrev pub element_of : Element → model.Element
+element_of e = record { map = e.map; key = e.key.items; value = e.value.items; uses = e.uses; life = life_of e.life }
+
+abbrev pub elements_of : List Element → List model.Element
+elements_of es = map element_of es
+
+abbrev pub map_of : MapState → model_maps.MapState
+map_of m = record { shape = m.shape; bag = m.bag.items; worn = m.worn }
+
+abbrev pub store_of : Store → model_maps.Store
+store_of s = record { elements = elements_of s.elements.items; maps = map map_of s.maps.items }
+
+abbrev pub queues_of : Queues → schedule.Queues
+queues_of q = record { next = q.next.items; waiting = q.waiting.items; ready = q.ready.items }
+
+-- an element is what the map has under the key
+abbrev pub IsLinkedHere : model.Element → ℕ → List ℕ → Type 0
+IsLinkedHere e map key = (e.life ≡ model.Linked) × (e.map ≡ map) × (e.key ≡ key)
+
+abbrev pub loaded_of : Loaded → machine.Loaded
+loaded_of l = record { code = l.code.items; maps = l.maps.items; context_len = l.context_len }
+
+-- a run's program is named by its place in the list
+abbrev pub or_no_program : Option Loaded → machine.Loaded
+or_no_program None = record { code = []; maps = []; context_len = 0 }
+or_no_program (Some l) = loaded_of l
+
+abbrev pub or_nothing : Option Value → Value
+or_nothing None = Nothing
+or_nothing (Some v) = v
+
+abbrev pub or_unwritten : Option Cell → Cell
+or_unwritten None = Unwritten
+or_unwritten (Some c) = c
+
+abbrev pub state_of : Run → step.State
+state_of run = record { regs = λ r. or_nothing (slice_get run.registers.items r); frame = λ k. or_unwritten (slice_get run.frame.items k); place = run.place }
+
+abbrev pub run_of : List Loaded → Run → machine.Run
+run_of programs run =
+    record { name = run.name; program = or_no_program (slice_get programs run.program); context = run.context.items; state = state_of run; depth = run.depth; locks = run.locks; moved = run.moved; exit = run.exit }
+
+abbrev pub runs_of : List Loaded → List (Option Run) → List (Option machine.Run)
+runs_of programs runs = map (option_map (run_of programs)) runs
