@@ -4,8 +4,8 @@ ghost use Rattle.bpf_model.specs.Element.{is_linked, is_reclaimed, linked_count 
 ghost use Rattle.bpf_model.specs.MapState.{given_of, returned, shape_of, with_elements};
 ghost use Rattle.bpf_model.specs.Helper.{LooksUp, update_error as first_error, Updates, Deletes};
 ghost use Rattle.bpf_model.specs.Access.{place_of as place_in, number_at as number_in};
-ghost use Rattle.plain_machine.specs.Births.{HasFree, ReplacesIn, NextUse, without_first, ReclaimsAt};
-ghost use Rattle.plain_machine.specs.State.{section_of, sections_of, life_of, element_of, elements_of, map_of, store_of, IsLinkedHere};
+ghost use Rattle.plain_model.specs.Births.{HasFree, ReplacesIn, NextUse, without_first, ReclaimsAt};
+ghost use Rattle.plain_model.specs.State.{section_of, sections_of, life_of, element_of, elements_of, map_of, store_of, IsLinkedHere};
 
 use arrayvec::ArrayVec;
 use bpf_model::{Errno, Given, KeyBytes, MapShape, ValueBytes};

@@ -7,8 +7,8 @@ use Rattle.bpf_model.specs.declared.call.Errno.{Errno}
 use Rattle.bpf_model.specs.Element.{Element, Linked, unlinked, linked_count}
 use Rattle.bpf_model.specs.MapState.{MapState, Store, TakesOut, with_bag}
 use Rattle.bpf_model.specs.Helper.{LooksUp, Replaces, Settles, Updates, newborn, update_error}
-use Rattle.plain_machine.specs.Births.{after_first, set_first, without_first}
-use Rattle.plain_machine.proofs.Lists.{first-of, drop-none, set-same}
+use Rattle.plain_model.specs.Births.{after_first, set_first, without_first}
+use Rattle.plain_model.proofs.Lists.{first-of, drop-none, set-same}
 
 pub without_first-at : (ms : List MapState) (k : ℕ) (m : MapState) → slice_get ms k ≡ Some m → without_first ms k ≡ slice_set ms k (with_bag (drop 1 m.bag) m)
 without_first-at ms k m h = ap (set_first ms k) h

@@ -3,10 +3,10 @@ use Rattle.std.specs.Prelude.{slice_get, is_some}
 use Rattle.bpf_model.specs.Element.{linked_count}
 use Rattle.bpf_model.specs.Helper.{LooksUp, update_error, Updates, Settles, Replaces}
 use Rattle.bpf_model.specs.MapState.{Store}
-use Rattle.plain_machine.specs.State.{map_of, elements_of, sections_of, store_of}
-use Rattle.plain_machine.proofs.Lists.{get-map, read-at}
-use Rattle.plain_machine.proofs.Births.{no_error-free, free-in, updates-refused, updates-done}
-use Rattle.plain_machine.proofs.store.Store.update.Goals as goal
+use Rattle.plain_model.specs.State.{map_of, elements_of, sections_of, store_of}
+use Rattle.plain_model.proofs.Lists.{get-map, read-at}
+use Rattle.plain_model.proofs.Births.{no_error-free, free-in, updates-refused, updates-done}
+use Rattle.plain_model.proofs.store.Store.update.Goals as goal
 
 pub returns-in-Some-clause-updates : goal.returns-in-Some-clause-updates
 returns-in-Some-clause-updates c = λ there.

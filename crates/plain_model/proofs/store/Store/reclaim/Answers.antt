@@ -1,11 +1,11 @@
 use Rattle.std.proofs.Common.{rules, ℕ, ◌≡◌, ◌<◌, arith, List, length, Some, map, refl, sym, ◌∙◌, ap, vec_len}
 use Rattle.std.specs.Prelude.{slice_get, slice_set}
-use Rattle.plain_machine.specs.State.{map_of, element_of, elements_of, store_of}
-use Rattle.plain_machine.proofs.Lists.{get-map, read-at, map-slice_set}
+use Rattle.plain_model.specs.State.{map_of, element_of, elements_of, store_of}
+use Rattle.plain_model.proofs.Lists.{get-map, read-at, map-slice_set}
 use Rattle.bpf_model.specs.Element.{Reclaimed, with_life}
-use Rattle.plain_machine.specs.declared.store.Life.TheVariants as lives
-use Rattle.plain_machine.proofs.Reclaims.{reclaims-at, same-element}
-use Rattle.plain_machine.proofs.store.Store.reclaim.Goals as goal
+use Rattle.plain_model.specs.declared.store.Life.TheVariants as lives
+use Rattle.plain_model.proofs.Reclaims.{reclaims-at, same-element}
+use Rattle.plain_model.proofs.store.Store.reclaim.Goals as goal
 
 pub returns : goal.returns
 returns c = record {

@@ -1,10 +1,10 @@
 use Rattle.std.proofs.Common.{rules, ℕ, ◌≡◌, ◌<◌, ◌≤◌, arith, List, length, Option, Some, None, map, sym, ◌∙◌, ap, vec_len}
 use Rattle.std.specs.Prelude.{slice_get, slice_set}
 use Rattle.bpf_model.specs.Element.{Unlinked, with_life}
-use Rattle.plain_machine.specs.State.{element_of, elements_of, sections_of}
-use Rattle.plain_machine.proofs.Lists.{get-map, get-past, read-at, length-map-own, map-slice_set}
-use Rattle.plain_machine.proofs.Elements.{changed-at, changed-past}
-use Rattle.plain_machine.proofs.store.Store.unlink.Goals as goal
+use Rattle.plain_model.specs.State.{element_of, elements_of, sections_of}
+use Rattle.plain_model.proofs.Lists.{get-map, get-past, read-at, length-map-own, map-slice_set}
+use Rattle.plain_model.proofs.Elements.{changed-at, changed-past}
+use Rattle.plain_model.proofs.store.Store.unlink.Goals as goal
 
 pub returns-then-n-len-clause-elements : goal.returns-then-n-len-clause-elements
 returns-then-n-len-clause-elements c =

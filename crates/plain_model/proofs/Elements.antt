@@ -4,8 +4,8 @@ use Rattle.std.specs.Prelude.{slice_get, slice_set}
 use Rattle.std.proofs.lemmas.Option.{slice_get_within}
 use Rattle.bpf_model.specs.Section.{Section}
 use Rattle.bpf_model.specs.Element.{Element, Unlinked, IsLinkedAt, IsAbsent, with_life, set_to, changed, unlinked}
-use Rattle.plain_machine.specs.State.{IsLinkedHere}
-use Rattle.plain_machine.proofs.Lists.{get-past}
+use Rattle.plain_model.specs.State.{IsLinkedHere}
+use Rattle.plain_model.proofs.Lists.{get-past}
 
 -- an element of the list is what the map has under the key, when it says so
 pub linked-here : (es : List Element) (map : ℕ) (key : List ℕ) (n : ℕ) (e : Element) → slice_get es n ≡ Some e → IsLinkedHere e map key → IsLinkedAt es map key n

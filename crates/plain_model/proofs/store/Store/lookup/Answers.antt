@@ -2,10 +2,10 @@ use Rattle.std.proofs.Common.{rules, ℕ, ◌≡◌, ◌<◌, ◌≤◌, ◌+◌
 use Rattle.std.specs.Prelude.{slice_get, IsTrue}
 use Rattle.std.proofs.lemmas.Bool.{cases_lt, false≢true}
 use Rattle.bpf_model.specs.Element.{IsLinkedAt}
-use Rattle.plain_machine.specs.State.{element_of, elements_of, IsLinkedHere}
-use Rattle.plain_machine.proofs.Lists.{get-map, read-at, length-map-own}
-use Rattle.plain_machine.proofs.Elements.{linked-here, not-here, not-past}
-use Rattle.plain_machine.proofs.store.Store.lookup.Goals as goal
+use Rattle.plain_model.specs.State.{element_of, elements_of, IsLinkedHere}
+use Rattle.plain_model.proofs.Lists.{get-map, read-at, length-map-own}
+use Rattle.plain_model.proofs.Elements.{linked-here, not-here, not-past}
+use Rattle.plain_model.proofs.store.Store.lookup.Goals as goal
 
 pub loop-n-init : goal.loop-n-init
 loop-n-init c = λ k h l. absurd (omega arith)

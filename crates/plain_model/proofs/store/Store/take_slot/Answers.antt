@@ -1,9 +1,9 @@
 use Rattle.std.proofs.Common.{rules, ℕ, ◌≡◌, ◌<◌, arith, List, length, Some, map, sym, ◌∙◌, ap, vec_len}
 use Rattle.std.specs.Prelude.{slice_get, slice_set}
-use Rattle.plain_machine.specs.State.{map_of}
-use Rattle.plain_machine.proofs.Lists.{get-map, read-at, map-slice_set, remove-first}
-use Rattle.plain_machine.proofs.Births.{without_first-at, without_first-none}
-use Rattle.plain_machine.proofs.store.Store.take_slot.Goals as goal
+use Rattle.plain_model.specs.State.{map_of}
+use Rattle.plain_model.proofs.Lists.{get-map, read-at, map-slice_set, remove-first}
+use Rattle.plain_model.proofs.Births.{without_first-at, without_first-none}
+use Rattle.plain_model.proofs.store.Store.take_slot.Goals as goal
 
 pub returns-then-not-is_empty-clause-maps : goal.returns-then-not-is_empty-clause-maps
 returns-then-not-is_empty-clause-maps c =

@@ -2,11 +2,11 @@ use Rattle.std.proofs.Common.{rules, ℕ, ◌≡◌, ◌<◌, arith, List, [], �
 use Rattle.std.specs.Prelude.{slice_get, slice_set}
 use Rattle.bpf_model.specs.Element.{Element, Linked, unlinked}
 use Rattle.bpf_model.specs.Helper.{LooksUp}
-use Rattle.plain_machine.specs.State.{map_of, element_of, elements_of, sections_of, store_of}
-use Rattle.plain_machine.proofs.Lists.{map-append}
-use Rattle.plain_machine.proofs.Elements.{born-found, within}
-use Rattle.plain_machine.proofs.Births.{replaces}
-use Rattle.plain_machine.proofs.store.Store.replace.Goals as goal
+use Rattle.plain_model.specs.State.{map_of, element_of, elements_of, sections_of, store_of}
+use Rattle.plain_model.proofs.Lists.{map-append}
+use Rattle.plain_model.proofs.Elements.{born-found, within}
+use Rattle.plain_model.proofs.Births.{replaces}
+use Rattle.plain_model.proofs.store.Store.replace.Goals as goal
 
 pub returns-in-Some-clause-replaces : goal.returns-in-Some-clause-replaces
 returns-in-Some-clause-replaces c = λ free m h.

@@ -5,7 +5,7 @@ ghost use Rattle.bpf_model.specs.Event.{step_refusal as step_refusal_of};
 ghost use Rattle.bpf_model.specs.Machine.{run_at, locked, unlocked};
 ghost use Rattle.bpf_model.specs.Schedule.{turned};
 ghost use Rattle.bpf_model.specs.declared.limits.TheConstants.{MAX_DEPTH as deepest};
-ghost use Rattle.plain_machine.specs.State.{store_of, queues_of, run_of, runs_of};
+ghost use Rattle.plain_model.specs.State.{store_of, queues_of, run_of, runs_of};
 
 use crate::run::{Outcome, Run, number_of, reference_of};
 use crate::store::{Life, Section, Store};

@@ -5,15 +5,15 @@ use Rattle.bpf_model.specs.declared.value.Value.{Value}
 use Rattle.bpf_model.specs.declared.value.Value.TheVariants.{Nothing}
 use Rattle.bpf_model.specs.declared.value.Cell.{Cell}
 use Rattle.bpf_model.specs.declared.value.Cell.TheVariants.{Unwritten}
-use Rattle.plain_machine.specs.declared.store.Section.{Section}
-use Rattle.plain_machine.specs.declared.store.Life.{Life}
-use Rattle.plain_machine.specs.declared.store.Life.TheVariants as lives
-use Rattle.plain_machine.specs.declared.store.Element.{Element}
-use Rattle.plain_machine.specs.declared.store.MapState.{MapState}
-use Rattle.plain_machine.specs.declared.store.Store.{Store}
-use Rattle.plain_machine.specs.declared.run.Run.{Run}
-use Rattle.plain_machine.specs.declared.machine.Loaded.{Loaded}
-use Rattle.plain_machine.specs.declared.machine.Queues.{Queues}
+use Rattle.plain_model.specs.declared.store.Section.{Section}
+use Rattle.plain_model.specs.declared.store.Life.{Life}
+use Rattle.plain_model.specs.declared.store.Life.TheVariants as lives
+use Rattle.plain_model.specs.declared.store.Element.{Element}
+use Rattle.plain_model.specs.declared.store.MapState.{MapState}
+use Rattle.plain_model.specs.declared.store.Store.{Store}
+use Rattle.plain_model.specs.declared.run.Run.{Run}
+use Rattle.plain_model.specs.declared.machine.Loaded.{Loaded}
+use Rattle.plain_model.specs.declared.machine.Queues.{Queues}
 use Rattle.bpf_model.specs.Step as step
 use Rattle.bpf_model.specs.Section as model_section
 use Rattle.bpf_model.specs.Element as model
