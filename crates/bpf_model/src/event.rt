@@ -8,9 +8,14 @@ use crate::limits::{CtxBytes, KeyBytes, ValueBytes};
 #[derive(Debug, Drop)]
 pub enum Event {
     /// A program is started on a context.
-    Start { prog: ProgId, ctx: CtxBytes },
+    Start {
+        prog: ProgId,
+        ctx: CtxBytes,
+    },
     /// A run takes one step.
-    Step { run: RunId },
+    Step {
+        run: RunId,
+    },
     /// The control plane stores a value under a key. Flags: any (0), only a new key (1), only a present one (2).
     Update {
         map: MapId,
@@ -19,15 +24,23 @@ pub enum Event {
         flags: u64,
     },
     /// The control plane removes a key.
-    Delete { map: MapId, key: KeyBytes },
+    Delete {
+        map: MapId,
+        key: KeyBytes,
+    },
     /// The control plane reads the value of a key.
-    Read { map: MapId, key: KeyBytes },
+    Read {
+        map: MapId,
+        key: KeyBytes,
+    },
     /// A grace period may end, and the next begin.
     Advance,
     /// One element whose grace period has ended may be reclaimed.
     Reap,
     /// A run that has ended leaves its slot.
-    Drop { run: RunId },
+    Drop {
+        run: RunId,
+    },
 }
 
 /// Whether a reclaimed element's slot may be used again, or has been used as often as the map allows.
