@@ -110,7 +110,9 @@ impl Machine {
     }
 
     /// The elements and the maps.
-    pub fn store(&self) -> &Store {
+    pub fn store(&self) -> &Store
+        ensures { result.now ≡ self.now.store }
+    {
         &self.store
     }
 
