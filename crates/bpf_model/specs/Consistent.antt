@@ -1,5 +1,5 @@
 -- What is so in each state that the machine reaches.
-use Rattle.std.specs.Prelude.{◌≡◌, ◌≢◌, ℕ, ◌<◌, ◌≤◌, List, Option, Some, None, slice_get, length}
+use Rattle.std.specs.Prelude.{◌≡◌, ◌≢◌, ℕ, ◌<◌, ◌≤◌, List, Some, None, slice_get, length}
 use Rattle.bpf_model.specs.declared.limits.TheConstants.{MAX_DEPTH}
 use Rattle.bpf_model.specs.declared.value.Value.{Value}
 use Rattle.bpf_model.specs.declared.value.Value.TheVariants.{Nothing, Number, Pointer}
@@ -9,7 +9,7 @@ use Rattle.bpf_model.specs.declared.value.Reference.{Reference}
 use Rattle.bpf_model.specs.declared.value.Reference.TheVariants.{Ctx, Frame, MapRef, Elem}
 use Rattle.bpf_model.specs.Section.{Section, Has}
 use Rattle.bpf_model.specs.Element.{Element, Unlinked, IsLinkedAt}
-use Rattle.bpf_model.specs.MapState.{Store, MapState, shape_of}
+use Rattle.bpf_model.specs.MapState.{MapState}
 use Rattle.bpf_model.specs.Machine.{Run, Machine, run_at}
 
 -- each reference is to an element that was born

@@ -1,6 +1,6 @@
 -- The four parts of the main theorem, over whole runs of the machine: its answers, that it is never stuck, that its runs end in time, and that
 -- elements are reclaimed late. What a world keeps is a type of its own here, with the relation to the machine's states that it refines.
-use Rattle.std.specs.Prelude.{◌≡◌, ℕ, suc, ◌+◌, ◌<◌, ◌==◌, Bool, false, List, [], ◌∷◌, Option, Some, None, slice_get, length, take, if◌then◌else◌}
+use Rattle.std.specs.Prelude.{◌≡◌, ℕ, suc, ◌+◌, ◌<◌, ◌==◌, Bool, false, List, ◌∷◌, Option, Some, None, slice_get, length, take, if◌then◌else◌}
 use Rattle.bpf_model.specs.declared.event.Event.{Event}
 use Rattle.bpf_model.specs.declared.event.Event.TheVariants.{Start, Step}
 use Rattle.bpf_model.specs.declared.event.Answer.{Answer}

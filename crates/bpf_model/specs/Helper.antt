@@ -1,7 +1,6 @@
 -- Lookup, update and delete (bpf(2); Linux BPF documentation, "BPF_MAP_TYPE_HASH"). Defined once, for the helpers that a run calls and for the
 -- events of the control plane.
 use Rattle.std.specs.Prelude.{◌≡◌, ℕ, ◌+◌, ◌==◌, ◌&&◌, Bool, not, nat_lt, nat_le, List, [], ◌∷◌, ◌++◌, length, Option, Some, None, is_some, Result, Ok, Err, slice_get, slice_set, if◌then◌else◌}
-use Rattle.bpf_model.specs.declared.limits.MapShape.{MapShape}
 use Rattle.bpf_model.specs.declared.call.Errno.{Errno}
 use Rattle.bpf_model.specs.declared.call.Errno.TheVariants.{NoEntry, TooBig, NoMemory, Exists, InvalidArgument}
 use Rattle.bpf_model.specs.Section.{Section}

@@ -1,9 +1,18 @@
 -- The state of the maps (Linux BPF documentation, "BPF_MAP_TYPE_HASH"; slots and their reuse are this runtime's own).
-use Rattle.std.specs.Prelude.{◌≡◌, ℕ, ◌+◌, ◌==◌, List, [], ◌∷◌, ◌++◌, Option, Some, None, slice_get, slice_set, replicate, if◌then◌else◌}
+use Rattle.std.specs.Prelude.{◌≡◌, ℕ, ◌+◌, ◌≤◌, ◌==◌, List, [], ◌∷◌, ◌++◌, Option, Some, None, slice_get, replicate, if◌then◌else◌}
 use Rattle.bpf_model.specs.declared.limits.MapShape.{MapShape}
+use Rattle.bpf_model.specs.declared.limits.TheConstants.{KEY_BYTES, VALUE_BYTES, MAX_ENTRIES, MAX_SPARE, MAX_REUSE}
 use Rattle.bpf_model.specs.declared.event.Given.{Given}
 use Rattle.bpf_model.specs.declared.event.Given.TheVariants.{Free, Worn}
 use Rattle.bpf_model.specs.Element.{Element}
+
+-- The shapes that a map may have.
+pub record IsShape (shape : MapShape) : Type 0 where
+  pub key : (1 ≤ shape.key_len) × (shape.key_len ≤ KEY_BYTES)
+  pub value : (1 ≤ shape.value_len) × (shape.value_len ≤ VALUE_BYTES)
+  pub entries : (1 ≤ shape.entries) × (shape.entries ≤ MAX_ENTRIES)
+  pub spare : shape.spare ≤ MAX_SPARE
+  pub reuse : (1 ≤ shape.reuse_limit) × (shape.reuse_limit ≤ MAX_REUSE)
 
 -- A map: its shape, for each free slot how often it was used (a bag: its order says nothing here), and how many slots are worn out. What it
 -- has under a key stands in the elements.

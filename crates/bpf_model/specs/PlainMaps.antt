@@ -1,5 +1,5 @@
 -- Plain programs with sections and guarded lookups, which the verifier owes acceptance too. Paths are those of the jump graph.
-use Rattle.std.specs.Prelude.{◌≡◌, ℕ, ◌+◌, ◌<◌, ◌≤◌, Bool, true, false, List, [], ◌∷◌, ◌++◌, Option, Some, slice_get, ℤ, pos, ◌+ℤ◌, ◌⊎◌}
+use Rattle.std.specs.Prelude.{◌≡◌, ℕ, ◌+◌, ◌<◌, ◌≤◌, Bool, true, false, List, [], ◌∷◌, ◌++◌, Some, slice_get, ℤ, pos, ◌+ℤ◌, ◌⊎◌}
 use Rattle.bpf_model.specs.declared.limits.MapShape.{MapShape}
 use Rattle.bpf_model.specs.declared.insn.Insn.{Insn}
 use Rattle.bpf_model.specs.declared.insn.Insn.TheVariants.{Alu, LoadMap, JumpIf, Call, Exit, Load, LoadSigned}

@@ -3,7 +3,7 @@
 use Rattle.std.specs.Prelude.{◌≡◌, ℕ, List, Some, slice_get, slice_set}
 use Rattle.bpf_model.specs.declared.event.Given.{Given}
 use Rattle.bpf_model.specs.Section.{Section, AllEnded}
-use Rattle.bpf_model.specs.Element.{Element, Life, Unlinked, Reclaimed, with_life}
+use Rattle.bpf_model.specs.Element.{Element, Unlinked, Reclaimed, with_life}
 use Rattle.bpf_model.specs.MapState.{MapState, Store, given_of, returned}
 
 -- Element n is reclaimed: its slot's use count goes back into the bag, or the slot is worn out.

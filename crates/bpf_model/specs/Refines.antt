@@ -1,8 +1,8 @@
 -- When a world refines a state of the machine: one naming of births by slots turns what the world keeps into that state.
-use Rattle.std.specs.Prelude.{◌≡◌, ℕ, ◌+◌, ◌<◌, ◌≤◌, ◌==◌, ◌&&◌, Bool, true, false, List, Option, Some, None, slice_get, slice_index, map, count_by, length, if◌then◌else◌}
+use Rattle.std.specs.Prelude.{◌≡◌, ℕ, ◌+◌, ◌<◌, ◌≤◌, ◌==◌, ◌&&◌, true, false, List, Option, Some, None, slice_get, slice_index, map, count_by, length, if◌then◌else◌}
 use Rattle.std.specs.FinMap.{get}
 use Rattle.bpf_model.specs.Section.{Section, Has, AllEnded}
-use Rattle.bpf_model.specs.Element.{Element, Unlinked, IsLinkedAt, is_linked, is_unlinked, is_reclaimed}
+use Rattle.bpf_model.specs.Element.{Element, Unlinked, IsLinkedAt, is_unlinked, is_reclaimed}
 use Rattle.bpf_model.specs.MapState.{MapState}
 use Rattle.bpf_model.specs.Machine.{Loaded, Run, Machine, open_sections, run_at}
 use Rattle.bpf_model.specs.Schedule.{Queues, Schedule, open_flags}

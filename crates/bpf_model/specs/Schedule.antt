@@ -1,6 +1,6 @@
 -- The choices of this runtime where the machine leaves one: which elements wait, when they may be reclaimed, and which slot a new one takes
 -- (a grace period as in Linux's RCU: it ends when each section that was open at its beginning has ended).
-use Rattle.std.specs.Prelude.{◌≡◌, ℕ, suc, ◌-◌, ◌==◌, ◌&&◌, Bool, true, false, List, [], ◌∷◌, ◌++◌, Option, Some, None, is_none, slice_get, length, map, drop, replicate, if◌then◌else◌}
+use Rattle.std.specs.Prelude.{◌≡◌, ℕ, suc, ◌-◌, ◌==◌, ◌&&◌, Bool, true, false, List, [], ◌∷◌, ◌++◌, Option, Some, None, slice_get, length, map, drop, replicate, if◌then◌else◌}
 use Rattle.std.specs.List.{list_any}
 use Rattle.bpf_model.specs.declared.limits.MapShape.{MapShape}
 use Rattle.bpf_model.specs.declared.limits.TheConstants.{MAX_RUNS}

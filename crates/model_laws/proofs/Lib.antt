@@ -3,3 +3,5 @@ pub mod Growing
 pub mod Stepping
 pub mod Cutting
 pub mod Refusing
+pub mod Advancing
+pub mod Plains

@@ -1,19 +1,18 @@
 -- An event is refused exactly when a test fails.
-use Rattle.std.proofs.Common.{◌≡◌, ℕ, List, Option, Some, None, refl, sym, ap, subst, ◌∙◌}
+use Rattle.std.proofs.Common.{◌≡◌, List, Option, Some, None, refl, sym, ap, subst}
 use Rattle.std.specs.Prelude.{◌↔◌}
 use Rattle.bpf_model.specs.declared.insn.Insn.{Insn}
 use Rattle.bpf_model.specs.declared.insn.Insn.TheVariants.{Call}
 use Rattle.bpf_model.specs.declared.insn.CallKind.TheVariants as kinds
 use Rattle.bpf_model.specs.declared.event.Event.{Event}
 use Rattle.bpf_model.specs.declared.event.Event.TheVariants as events
-use Rattle.bpf_model.specs.declared.event.Answer.{Answer}
 use Rattle.bpf_model.specs.declared.event.Answer.TheVariants.{Refused, Moved, Exited}
 use Rattle.bpf_model.specs.declared.event.EventRefusal.{EventRefusal}
 use Rattle.bpf_model.specs.Step.{Outcome, Moves, Exits}
 use Rattle.bpf_model.specs.Section.{Section}
 use Rattle.bpf_model.specs.MapState.{Store}
 use Rattle.bpf_model.specs.Machine.{Run, Machine, open_sections}
-use Rattle.bpf_model.specs.MachineStep.{Ends, InsnStep, StepsRun}
+use Rattle.bpf_model.specs.MachineStep.{Ends, InsnStep}
 use Rattle.bpf_model.specs.Event.{Performs, Answers, Does, refusal}
 
 ends-answer : (out : Outcome) (run : Run) (k : EventRefusal) (new : Run) → Ends out run (Refused k) new → ⊥

@@ -1,8 +1,8 @@
 -- Each step of the machine lets the elements grow.
-use Rattle.std.proofs.Common.{◌≡◌, ℕ, zero, suc, ◌+◌, List, [], ◌∷◌, ◌++◌, length, Option, Some, None, Ok, Err, inl, inr, refl, sym, ap, subst, ◌∙◌}
-use Rattle.std.specs.Prelude.{slice_get, slice_set, ℤ, pos, ◌+ℤ◌, is_some, Result}
+use Rattle.std.proofs.Common.{◌≡◌, ℕ, zero, suc, List, [], ◌∷◌, length, Option, Some, None, inl, inr, sym, ap, subst}
+use Rattle.std.specs.Prelude.{slice_get, ℤ, ◌+ℤ◌, Result}
 use Rattle.bpf_model.specs.declared.insn.Insn.{Insn}
-use Rattle.bpf_model.specs.declared.insn.Insn.TheVariants.{Alu, MoveSigned, Negate, ByteSwap, LoadNumber, LoadMap, Jump, JumpLong, JumpIf, Call, Exit, Load, LoadSigned, Store, StoreRegister}
+use Rattle.bpf_model.specs.declared.insn.Insn.TheVariants.{Call, Load, LoadSigned, Store, StoreRegister}
 use Rattle.bpf_model.specs.declared.insn.CallKind.TheVariants as kinds
 use Rattle.bpf_model.specs.declared.call.Helper.{Helper}
 use Rattle.bpf_model.specs.declared.call.Helper.TheVariants as helpers
@@ -15,19 +15,18 @@ use Rattle.bpf_model.specs.declared.event.EventRefusal.{EventRefusal}
 use Rattle.bpf_model.specs.declared.value.Value.{Value}
 use Rattle.bpf_model.specs.declared.value.Value.TheVariants.{Nothing, Number, Pointer}
 use Rattle.bpf_model.specs.declared.value.Reference.TheVariants.{Ctx, Frame, MapRef, Elem}
-use Rattle.bpf_model.specs.Value.{◌>>=◌}
 use Rattle.bpf_model.specs.Arithmetic.{immediate}
-use Rattle.bpf_model.specs.Access.{byte_count, unsigned_width, place_of}
+use Rattle.bpf_model.specs.Access.{byte_count, place_of}
 use Rattle.bpf_model.specs.Call.{helper_of}
 use Rattle.bpf_model.specs.Step.{State, Environment, Outcome}
 use Rattle.bpf_model.specs.Section.{Section}
-use Rattle.bpf_model.specs.Element.{Element, with_value, with_life, accessible, changed, unless_reclaimed, unlinked}
+use Rattle.bpf_model.specs.Element.{Element, with_value, with_life, accessible, changed, unlinked}
 use Rattle.bpf_model.specs.MapState as map_state
-use Rattle.bpf_model.specs.Helper.{LooksUp, Replaces, Settles, Updates, Removes, Deletes, update_error}
+use Rattle.bpf_model.specs.Helper.{LooksUp, Replaces, Settles, Updates, Removes, Deletes}
 use Rattle.bpf_model.specs.Reclaim.{Reclaims}
-use Rattle.bpf_model.specs.Machine.{Run, Machine, environment, open_sections, run_at, with_runs, with_store}
-use Rattle.bpf_model.specs.MachineStep.{AccessesElement, Acts, HelperStep, InsnStep, RunStep, StepsRun, element_store, stored_in, with_bytes}
-use Rattle.bpf_model.specs.Event.{Starts, Performs, Answers, Does, refusal}
+use Rattle.bpf_model.specs.Machine.{Run, Machine, environment, open_sections, with_store}
+use Rattle.bpf_model.specs.MachineStep.{AccessesElement, Acts, HelperStep, InsnStep, StepsRun, element_store, stored_in, with_bytes}
+use Rattle.bpf_model.specs.Event.{Performs, Answers, Does, refusal}
 use Rattle.bpf_model.specs.Run.{IsHistory}
 use Rattle.bpf_model.specs.Element.{Reclaimed, HasLife}
 use Rattle.model_laws.specs.Growth.{Grows}

@@ -3,12 +3,17 @@
 //! Each is a function with an empty body, whose contract is the law.
 #![tactic(auto)]
 
-ghost use Rattle.std.specs.Prelude.{◌≡◌, ℕ, List, ◌++◌, ◌∷◌, length, slice_get, Some, ◌↔◌};
+ghost use Rattle.std.specs.Prelude.{◌≡◌, ℕ, Bool, false, List, [], ◌++◌, ◌∷◌, length, slice_get, Some, ◌↔◌};
 ghost use Rattle.bpf_model.specs.declared.event.Event.{Event};
 ghost use Rattle.bpf_model.specs.declared.event.Answer.{Answer};
 ghost use Rattle.bpf_model.specs.declared.event.EventRefusal.{EventRefusal};
 ghost use Rattle.bpf_model.specs.Element.{Reclaimed, HasLife};
-ghost use Rattle.bpf_model.specs.Machine.{Machine};
+ghost use Rattle.bpf_model.specs.declared.insn.Insn.{Insn};
+ghost use Rattle.bpf_model.specs.declared.limits.MapShape.{MapShape};
+ghost use Rattle.bpf_model.specs.Machine.{Machine, open_sections};
+ghost use Rattle.bpf_model.specs.Schedule.{Queues, Schedule, is_any, DoesScheduled};
+ghost use Rattle.bpf_model.specs.Plain.{IsPlain};
+ghost use Rattle.bpf_model.specs.PlainMaps.{IsPlainWithMaps};
 ghost use Rattle.bpf_model.specs.Event.{refusal, Does};
 ghost use Rattle.bpf_model.specs.Run.{MachineRun, IsHistory};
 ghost use Rattle.model_laws.specs.Growth.{Grows};
@@ -32,4 +37,15 @@ pub fn elements_only_grow()
 /// An element that is reclaimed stays reclaimed in every later state.
 pub fn reclaimed_for_ever()
     ensures { (m later : Machine) (events : List Event) (answers : List Answer) (states : List Machine) (j n : ℕ) → IsHistory m events answers states → slice_get states j ≡ Some later → HasLife m.store.elements n Reclaimed → HasLife later.store.elements n Reclaimed }
+{}
+
+/// Two advances that meet no open section, with nothing awaited before them, make every unlinked element
+/// ready: the premise of the drain law.
+pub fn two_quiet_advances()
+    ensures { (s t u : Schedule) (a b : Answer) → is_any s.awaited ≡ false → open_sections s.machine.runs ≡ [] → DoesScheduled s Event.Advance a t → DoesScheduled t Event.Advance b u → (k : ℕ) (q : Queues) → slice_get s.queues k ≡ Some q → slice_get u.queues k ≡ Some (record { next = []; waiting = []; ready = (q.ready ++ q.waiting) ++ q.next }) }
+{}
+
+/// A program that is plain without maps is plain with them.
+pub fn plain_with_maps()
+    ensures { (program : List Insn) (shapes : List MapShape) → IsPlain program → IsPlainWithMaps program shapes }
 {}

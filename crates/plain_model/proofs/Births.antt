@@ -1,11 +1,11 @@
 -- A birth is a replacement by the definition.
-use Rattle.std.proofs.Common.{◌≡◌, ℕ, zero, suc, ◌+◌, ◌<◌, ◌≤◌, List, [], ◌∷◌, ◌++◌, length, Option, Some, None, Ok, Err, refl, sym, ap, subst, ◌∙◌, arith, map, Bool, true, false}
+use Rattle.std.proofs.Common.{◌≡◌, ℕ, ◌+◌, ◌<◌, List, [], ◌∷◌, ◌++◌, length, Option, Some, None, Ok, Err, refl, sym, ap, subst, ◌∙◌, arith, Bool, true, false}
 use Rattle.std.specs.Prelude.{slice_get, slice_set, is_some, drop, ◌==◌, ◌&&◌, not, nat_lt, nat_le, if◌then◌else◌}
 use Rattle.bpf_model.specs.declared.call.Errno.TheVariants.{NoEntry, TooBig, NoMemory, Exists, InvalidArgument}
 use Rattle.bpf_model.specs.Section.{Section}
 use Rattle.bpf_model.specs.declared.call.Errno.{Errno}
-use Rattle.bpf_model.specs.Element.{Element, Linked, unlinked, linked_count}
-use Rattle.bpf_model.specs.MapState.{MapState, Store, TakesOut, with_bag}
+use Rattle.bpf_model.specs.Element.{Linked, unlinked, linked_count}
+use Rattle.bpf_model.specs.MapState.{MapState, Store, with_bag}
 use Rattle.bpf_model.specs.Helper.{LooksUp, Replaces, Settles, Updates, newborn, update_error}
 use Rattle.plain_model.specs.Births.{after_first, set_first, without_first}
 use Rattle.plain_model.proofs.Lists.{first-of, drop-none, set-same}

@@ -1,9 +1,9 @@
 -- Facts about elements.
-use Rattle.std.proofs.Common.{◌≡◌, ℕ, zero, suc, ◌+◌, ◌<◌, ◌≤◌, List, [], ◌∷◌, ◌++◌, length, Option, Some, None, refl, sym, ap, ◌∙◌, subst, arith, map}
+use Rattle.std.proofs.Common.{◌≡◌, ℕ, zero, suc, ◌<◌, ◌≤◌, List, [], ◌∷◌, ◌++◌, length, Option, Some, None, refl, sym, ap, ◌∙◌, subst, arith, map}
 use Rattle.std.specs.Prelude.{slice_get, slice_set}
 use Rattle.std.proofs.lemmas.Option.{slice_get_within}
 use Rattle.bpf_model.specs.Section.{Section}
-use Rattle.bpf_model.specs.Element.{Element, Unlinked, IsLinkedAt, IsAbsent, with_life, set_to, changed, unlinked}
+use Rattle.bpf_model.specs.Element.{Element, Unlinked, IsLinkedAt, with_life, set_to, changed, unlinked}
 use Rattle.plain_model.specs.State.{IsLinkedHere}
 use Rattle.plain_model.proofs.Lists.{get-past}
 

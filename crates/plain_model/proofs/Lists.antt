@@ -1,5 +1,5 @@
 -- Facts about lists.
-use Rattle.std.proofs.Common.{◌≡◌, ◌≢◌, ℕ, zero, suc, ◌+◌, ◌<◌, ◌≤◌, List, [], ◌∷◌, ◌++◌, length, Option, Some, None, ◌⊎◌, inl, inr, refl, sym, ap, ◌∙◌, arith, map}
+use Rattle.std.proofs.Common.{◌≡◌, ℕ, zero, suc, ◌<◌, ◌≤◌, List, [], ◌∷◌, ◌++◌, length, Some, None, refl, sym, ap, ◌∙◌, arith, map}
 use Rattle.std.specs.Prelude.{slice_get, slice_set, slice_index_or, remove, drop}
 use Rattle.std.proofs.lemmas.Option.{slice_get-get_or}
 

@@ -1,9 +1,12 @@
 //! The whole machine: runs, events, and the runtime's own choices.
-ghost use Rattle.std.specs.Prelude.{ℕ, ◌≡◌, ◌<◌, ◌≤◌, ◌-◌, ◌^◌, IfOk, OnOk, OnErr, List, [], length};
+ghost use Rattle.std.specs.Prelude.{ℕ, ◌≡◌, ◌<◌, ◌≤◌, ◌-◌, ◌^◌, Some, None, IfOk, OnOk, OnErr, List, [], length};
 ghost use Rattle.bpf_model.specs.Call.{ret_word as ret_word_of};
-ghost use Rattle.bpf_model.specs.Event.{step_refusal as step_refusal_of};
+ghost use Rattle.bpf_model.specs.Event.{step_refusal as step_refusal_of, drop_refusal as drop_refusal_of, key_refusal as key_refusal_of, update_refusal as update_refusal_of};
+ghost use Rattle.bpf_model.specs.MapState.{shape_of};
 ghost use Rattle.bpf_model.specs.Machine.{run_at, locked, unlocked};
-ghost use Rattle.bpf_model.specs.Schedule.{turned};
+ghost use Rattle.std.specs.Option.{option_map};
+ghost use Rattle.bpf_model.specs.declared.event.EventRefusal.{EventRefusal};
+ghost use Rattle.bpf_model.specs.Schedule.{turned, is_open};
 ghost use Rattle.bpf_model.specs.declared.limits.TheConstants.{MAX_DEPTH as deepest};
 ghost use Rattle.plain_model.specs.State.{store_of, queues_of, run_of, runs_of};
 
@@ -107,7 +110,9 @@ impl Machine {
     }
 
     /// The elements and the maps.
-    pub fn store(&self) -> &Store {
+    pub fn store(&self) -> &Store
+        ensures { result.now ≡ self.now.store }
+    {
         &self.store
     }
 
@@ -388,7 +393,11 @@ impl Machine {
     }
 
     /// An unlinked element goes to the end of its map's list next.
-    fn retire(&mut self, map: usize, n: usize) -> Result<(), AllocError> {
+    fn retire(&mut self, map: usize, n: usize) -> Result<(), AllocError>
+        ensures store { self.new.store ≡ self.old.store }
+        ensures runs { self.new.runs ≡ self.old.runs }
+        ensures awaited { self.new.awaited ≡ self.old.awaited }
+    {
         if let Some(queues) = self.queues.get_mut(map) {
             queues.next.push(n)?;
         }
@@ -401,7 +410,10 @@ impl Machine {
         map: usize,
         key_len: usize,
         value_len: Option<usize>,
-    ) -> Option<EventRefusal> {
+    ) -> Option<EventRefusal>
+        ensures key { value_len ≡ None → result ≡ key_refusal_of (shape_of (store_of self.now.store) map) key_len }
+        ensures both { (len : ℕ) → value_len ≡ Some len → result ≡ update_refusal_of (shape_of (store_of self.now.store) map) key_len len }
+    {
         let Some(shape) = self.store.shape(map) else {
             return Some(EventRefusal::NoMap);
         };
@@ -499,25 +511,40 @@ impl Machine {
         Ok(Answer::Reaped(Some(ReapedElement { map, key, given })))
     }
 
-    fn remove(&mut self, run: RunId) -> Answer {
-        match self.runs.get_mut(run.index()) {
-            Some(slot) => match slot {
-                Some(old) => {
-                    if old.exit.is_none() {
-                        return Answer::Refused(EventRefusal::StillRunning);
-                    }
-                    *slot = None;
-                    Answer::Done
-                }
-                None => Answer::Refused(EventRefusal::NoRun),
+    /// Why a drop of this run is refused.
+    fn drop_refusal(&self, r: usize) -> Option<EventRefusal>
+        ensures { result ≡ drop_refusal_of (run_at (runs_of self.now.programs.items self.now.runs.items) r) }
+    {
+        match self.runs.get(r) {
+            Some(Some(run)) => match run.exit {
+                Some(_) => None,
+                None => Some(EventRefusal::StillRunning),
             },
-            None => Answer::Refused(EventRefusal::NoRun),
+            _ => Some(EventRefusal::NoRun),
+        }
+    }
+
+    fn remove(&mut self, run: RunId) -> Answer
+        ensures refused { (k : EventRefusal) → drop_refusal_of (run_at (runs_of self.old.programs.items self.old.runs.items) run) ≡ Some k → result ≡ Answer.Refused k }
+        ensures done { drop_refusal_of (run_at (runs_of self.old.programs.items self.old.runs.items) run) ≡ None → result ≡ Answer.Done }
+        ensures store { self.new.store ≡ self.old.store }
+    {
+        match self.drop_refusal(run.index()) {
+            Some(refusal) => Answer::Refused(refusal),
+            None => {
+                if let Some(slot) = self.runs.get_mut(run.index()) {
+                    *slot = None;
+                }
+                Answer::Done
+            }
         }
     }
 }
 
 /// Whether the slot has a run that is inside a section.
-fn is_inside(slot: &Option<Run>) -> bool {
+fn is_inside(slot: &Option<Run>) -> bool
+    ensures { result ≡ is_open (option_map (run_of []) slot.now) }
+{
     match slot {
         Some(run) => 0 < run.depth,
         None => false,

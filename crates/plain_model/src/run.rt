@@ -1,4 +1,8 @@
 //! One run: its registers and frame hold values of a known kind, as the definitions have them.
+ghost use Rattle.std.specs.Prelude.{ℕ, ◌≡◌, slice_get};
+ghost use Rattle.bpf_model.specs.Value.{number as number_in, reference as reference_in};
+ghost use Rattle.bpf_model.specs.Frame.{byte_of};
+ghost use Rattle.plain_model.specs.State.{or_nothing, or_unwritten};
 
 use crate::store::{Store, number_at, place_of};
 use alu::{byte_swap, compare, immediate, load_signed, move_signed, negate};
@@ -71,7 +75,9 @@ impl Run {
     }
 
     /// What register r holds.
-    pub fn register(&self, r: usize) -> Value {
+    pub fn register(&self, r: usize) -> Value
+        ensures { result ≡ or_nothing (slice_get self.now.registers.items r) }
+    {
         match self.registers.get(r) {
             Some(value) => *value,
             None => Value::Nothing,
@@ -309,7 +315,9 @@ impl Run {
     }
 
     /// The byte in a cell of the frame. `None` when it isn't written as a byte.
-    pub fn frame_byte(&self, at: usize) -> Option<u8> {
+    pub fn frame_byte(&self, at: usize) -> Option<u8>
+        ensures { result ≡ byte_of (or_unwritten (slice_get self.now.frame.items at)) }
+    {
         match *self.frame.get(at)? {
             Cell::Byte(byte) => Some(byte),
             _ => None,
@@ -380,7 +388,9 @@ impl Run {
 }
 
 /// The number, where the value is one.
-pub fn number_of(value: Value) -> Option<u64> {
+pub fn number_of(value: Value) -> Option<u64>
+    ensures { result ≡ number_in value }
+{
     match value {
         Value::Number(number) => Some(number),
         _ => None,
@@ -388,7 +398,9 @@ pub fn number_of(value: Value) -> Option<u64> {
 }
 
 /// The reference, where the value is one.
-pub fn reference_of(value: Value) -> Option<Reference> {
+pub fn reference_of(value: Value) -> Option<Reference>
+    ensures { result ≡ reference_in value }
+{
     match value {
         Value::Pointer(reference) => Some(reference),
         _ => None,

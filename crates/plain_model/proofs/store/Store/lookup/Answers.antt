@@ -1,5 +1,4 @@
-use Rattle.std.proofs.Common.{rules, ℕ, ◌≡◌, ◌<◌, ◌≤◌, ◌+◌, arith, List, length, Option, Some, map, sym, ◌∙◌, ap, subst, inl, inr, vec_len, Bool, true, false}
-use Rattle.std.specs.Prelude.{slice_get, IsTrue}
+use Rattle.std.proofs.Common.{rules, ℕ, ◌≡◌, ◌<◌, ◌≤◌, arith, length, sym, ◌∙◌, subst, inl, inr, vec_len, true}
 use Rattle.std.proofs.lemmas.Bool.{cases_lt, false≢true}
 use Rattle.bpf_model.specs.Element.{IsLinkedAt}
 use Rattle.plain_model.specs.State.{element_of, elements_of, IsLinkedHere}

@@ -1,4 +1,4 @@
-use Rattle.std.proofs.Common.{rules, ℕ, ◌≡◌, ◌<◌, arith, List, length, Some, map, refl, sym, ◌∙◌, ap, vec_len}
+use Rattle.std.proofs.Common.{rules, ◌≡◌, ◌<◌, arith, length, Some, map, refl, ◌∙◌, ap, vec_len}
 use Rattle.std.specs.Prelude.{slice_get, slice_set}
 use Rattle.plain_model.specs.State.{map_of, element_of, elements_of, store_of}
 use Rattle.plain_model.proofs.Lists.{get-map, read-at, map-slice_set}

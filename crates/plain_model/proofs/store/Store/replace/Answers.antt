@@ -1,5 +1,4 @@
-use Rattle.std.proofs.Common.{rules, ℕ, ◌≡◌, ◌<◌, arith, List, [], ◌∷◌, ◌++◌, length, Option, Some, None, map, sym, ◌∙◌, ap, subst}
-use Rattle.std.specs.Prelude.{slice_get, slice_set}
+use Rattle.std.proofs.Common.{◌≡◌, [], ◌∷◌, ◌++◌, Some, None, map, sym, ◌∙◌, ap, subst}
 use Rattle.bpf_model.specs.Element.{Element, Linked, unlinked}
 use Rattle.bpf_model.specs.Helper.{LooksUp}
 use Rattle.plain_model.specs.State.{map_of, element_of, elements_of, sections_of, store_of}

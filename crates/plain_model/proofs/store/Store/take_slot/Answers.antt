@@ -1,4 +1,4 @@
-use Rattle.std.proofs.Common.{rules, ℕ, ◌≡◌, ◌<◌, arith, List, length, Some, map, sym, ◌∙◌, ap, vec_len}
+use Rattle.std.proofs.Common.{rules, ◌≡◌, length, Some, map, sym, ◌∙◌, ap}
 use Rattle.std.specs.Prelude.{slice_get, slice_set}
 use Rattle.plain_model.specs.State.{map_of}
 use Rattle.plain_model.proofs.Lists.{get-map, read-at, map-slice_set, remove-first}

@@ -1,5 +1,4 @@
-use Rattle.std.proofs.Common.{rules, ℕ, ◌≡◌, ◌<◌, ◌≤◌, arith, List, length, Option, Some, None, map, sym, ◌∙◌, ap, vec_len}
-use Rattle.std.specs.Prelude.{slice_get, slice_set}
+use Rattle.std.proofs.Common.{rules, ◌≡◌, ◌<◌, ◌≤◌, arith, length, sym, ◌∙◌, vec_len}
 use Rattle.bpf_model.specs.Element.{Unlinked, with_life}
 use Rattle.plain_model.specs.State.{element_of, elements_of, sections_of}
 use Rattle.plain_model.proofs.Lists.{get-map, get-past, read-at, length-map-own, map-slice_set}

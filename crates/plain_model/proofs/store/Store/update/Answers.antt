@@ -1,8 +1,7 @@
-use Rattle.std.proofs.Common.{rules, ℕ, ◌≡◌, ◌<◌, arith, List, [], ◌∷◌, ◌++◌, length, Option, Some, None, Bool, map, refl, sym, ◌∙◌, ap, subst}
+use Rattle.std.proofs.Common.{◌≡◌, Some, None, map, sym, ◌∙◌, ap, subst}
 use Rattle.std.specs.Prelude.{slice_get, is_some}
 use Rattle.bpf_model.specs.Element.{linked_count}
-use Rattle.bpf_model.specs.Helper.{LooksUp, update_error, Updates, Settles, Replaces}
-use Rattle.bpf_model.specs.MapState.{Store}
+use Rattle.bpf_model.specs.Helper.{LooksUp, update_error}
 use Rattle.plain_model.specs.State.{map_of, elements_of, sections_of, store_of}
 use Rattle.plain_model.proofs.Lists.{get-map, read-at}
 use Rattle.plain_model.proofs.Births.{no_error-free, free-in, updates-refused, updates-done}

@@ -1,0 +1,51 @@
+-- A plain program is plain with maps too.
+use Rattle.std.proofs.Common.{◌≡◌, ℕ, ◌+◌, ◌≤◌, List, Option, Some, Bool, true, false, ◌⊎◌, inl, inr, refl, sym, subst}
+use Rattle.std.proofs.lemmas.Bool.{false≢true}
+use Rattle.bpf_model.specs.declared.limits.MapShape.{MapShape}
+use Rattle.bpf_model.specs.declared.insn.Insn.{Insn}
+use Rattle.bpf_model.specs.Step.{insn_at}
+use Rattle.bpf_model.specs.Plain.{IsPlain, IsSimple, WithoutRegister, unwritten_entry, unwritten_next}
+use Rattle.bpf_model.specs.PlainMaps.{lookup_call, lock_call, unlock_call, IsGuardedLookup, IsPart, InSection, section_entry, section_lock, section_unlock, section_next, LacksRegister, lacks_entry, lacks_call, lacks_next, IsPlainWithMaps}
+
+module _ (program : List Insn) (shapes : List MapShape) (p : IsPlain program) where
+  no_guard : (start : ℕ) → IsGuardedLookup program shapes start → ⊥
+  no_guard start l = p.simple (start + 4) lookup_call l.call
+
+  no_part : (place : ℕ) → IsPart program shapes place → ⊥
+  no_part place part = no_guard part.0 part.1
+
+  outside : (open_now : Bool) (place : ℕ) → InSection program open_now place → open_now ≡ false
+  outside _ _ section_entry = refl
+  outside _ _ (section_lock before place target path h g) = absurd (p.simple place lock_call h)
+  outside _ _ (section_unlock before place target path h g) = refl
+  outside _ _ (section_next before place target i path h k g) = outside before place path
+
+  no_section : (place : ℕ) → InSection program true place → ⊥
+  no_section place path = false≢true (sym (outside true place path))
+
+  no_call : (place : ℕ) (i : Insn) → insn_at program place ≡ Some i → (i ≡ lock_call) ⊎ ((i ≡ unlock_call) ⊎ (i ≡ lookup_call)) → ⊥
+  no_call place i h (inl e) = subst IsSimple e (p.simple place i h)
+  no_call place i h (inr (inl e)) = subst IsSimple e (p.simple place i h)
+  no_call place i h (inr (inr e)) = subst IsSimple e (p.simple place i h)
+
+  lacks : (r place : ℕ) → LacksRegister program shapes r place → WithoutRegister program r place
+  lacks r _ lacks_entry = unwritten_entry
+  lacks r _ (lacks_call place target i path h call small g) = absurd (no_call place i h call)
+  lacks r _ (lacks_next place target i path h w g) = unwritten_next place target i (lacks r place path) h (λ writes. no_part place (w writes)) g
+
+  pub plain_with_maps : IsPlainWithMaps program shapes
+  plain_with_maps = record {
+    jumps = p.jumps;
+    reached = p.reached;
+    last = p.last;
+    forms = λ place i h. inr (inr (inr (p.simple place i h)));
+    settled = λ place inside out. no_section place inside;
+    lock_outside = λ place h inside. no_section place inside;
+    unlock_inside = λ place h out. p.simple place unlock_call h;
+    exit_outside = λ place h inside. no_section place inside;
+    lookup_inside = λ place part out. no_part place part;
+    frame_pointer = λ place i h away. p.frame_pointer place i h;
+    registers = λ place i r h away reads path. p.registers place i r h reads (lacks r place path);
+    bytes = λ place i k h away reads path. p.bytes place i k h reads path;
+    keys = λ start k l low high path. no_guard start l;
+  }
