@@ -194,6 +194,28 @@ pub fn pointer_kept_over_unlock(alloc: Global, relocked: bool) -> Result<Loaded,
     program(alloc, code, 0)
 }
 
+/// A pointer to a value is spilled, loaded again after the unlock, and the value behind it is loaded.
+pub fn pointer_spilled_over_unlock(alloc: Global) -> Result<Loaded, AllocError> {
+    let mut code = Vec::new(alloc);
+    push_all(&mut code, &[LOCK])?;
+    push_lookup(&mut code)?;
+    push_all(
+        &mut code,
+        &[
+            jump_k(Condition::NotEqual, Size::Word64, 0, 0, 3),
+            UNLOCK,
+            mov_k(0, 0),
+            Insn::Exit,
+            store(Width::Eight, 10, 0, -16),
+            UNLOCK,
+            load(Width::Eight, 7, 10, -16),
+            load(Width::Eight, 0, 7, 0),
+            Insn::Exit,
+        ],
+    )?;
+    program(alloc, code, 0)
+}
+
 /// The byte of key 0's value whose index is a byte of the context under a mask.
 pub fn bounded_index(alloc: Global, mask: i32, width: Width) -> Result<Loaded, AllocError> {
     let mut code = Vec::new(alloc);

@@ -3,8 +3,8 @@
 use crate::machine::{Fault, Loaded, Machine};
 use crate::programs::{
     LOCK, UNLOCK, bounded_index, change_by_helper, exit_one, helper, join_of_two_lookups, load,
-    lookup_and_load, mov, mov_k, narrow_bound, only, pointer_kept_over_unlock, spilled_pointer,
-    store_k,
+    lookup_and_load, mov, mov_k, narrow_bound, only, pointer_kept_over_unlock,
+    pointer_spilled_over_unlock, spilled_pointer, store_k,
 };
 use bpf_model::{
     Answer, CtxBytes, Event, Given, Insn, KeyBytes, MapId, MapShape, ProgId, RunId, Size,
@@ -556,6 +556,49 @@ fn what_a_verifier_must_refuse_gets_stuck(rt: HostRuntime) -> Result<(), AllocEr
     assert_eq!(rt;
         answers(alloc, join_of_two_lookups(alloc, 6)?, &two)?.as_str(),
         "ret 0; run 0; moved; ret 0; moved"
+    );
+    Ok(())
+}
+
+#[test]
+fn a_spilled_pointer_does_not_outlive_its_element(rt: HostRuntime) -> Result<(), AllocError> {
+    let alloc = rt.alloc();
+    let script = [
+        Do::Put(0, 0, 5, 0),
+        Do::Start(0, 0, 0),
+        Do::Step(0, 9),
+        Do::Del(0, 0),
+        Do::Advance,
+        Do::Advance,
+        Do::Reap,
+        Do::Step(0, 1),
+        Do::Step(0, 1),
+    ];
+    assert_eq!(rt;
+        answers(alloc, pointer_spilled_over_unlock(alloc)?, &script)?.as_str(),
+        "ret 0; run 0; moved; ret 0; ok; ok; reaped 0 K0 free; moved; stuck"
+    );
+    Ok(())
+}
+
+#[test]
+fn a_narrow_test_does_not_bound_the_upper_half(rt: HostRuntime) -> Result<(), AllocError> {
+    let alloc = rt.alloc();
+    let mut ctx = context(4, 0);
+    for byte in [1u8, 0, 0, 0] {
+        let _ = ctx.try_push(byte);
+    }
+    let mut m = machine(alloc, WIDE, narrow_bound(alloc, Size::Word32)?)?;
+    let put = Do::Put(0, 0, 5, 0);
+    assert_eq!(rt; replay(alloc, &mut m, &[put])?.as_str(), "ret 0");
+    let started = m.apply(Event::Start {
+        prog: ProgId::new(0),
+        ctx,
+    });
+    assert!(rt; started.is_ok());
+    assert_eq!(rt;
+        replay(alloc, &mut m, &[Do::Step(0, 10), Do::Step(0, 1)])?.as_str(),
+        "moved; stuck"
     );
     Ok(())
 }
