@@ -2,7 +2,8 @@
 //!
 //! It follows the definitions of `bpf_model` case by case, and is neither fast nor small. Its contract is
 //! the definition itself: a run is stuck exactly where the definition has no step. It serves to compare
-//! other machines with.
+//! other machines with. The single steps and the reading of bytes are public for the model of the whole
+//! machine, which adds elements and calls.
 #![tactic(auto)]
 
 mod memory;
@@ -11,7 +12,10 @@ mod step;
 mod value;
 mod whole;
 
+pub use memory::{number_in, place_of};
 pub use plain_run::{PlainRun, Progress};
+pub use step::insn_at;
+pub use value::number;
 pub use whole::Ending;
 
 #[cfg(test)]

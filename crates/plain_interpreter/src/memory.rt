@@ -7,8 +7,8 @@ ghost use Rattle.plain_interpreter.specs.Plain.{cells_of, Writes};
 
 use bpf_model::{Cell, Reference, Value, Width};
 
-/// Where an access lies in a region of this length, if it is aligned and all inside.
-pub(crate) fn place_of(len: usize, width: Width, base: i64, offset: i16) -> Option<usize>
+/// Where an access lies in a region of this length (at most 512 bytes), if it is aligned and all inside.
+pub fn place_of(len: usize, width: Width, base: i64, offset: i16) -> Option<usize>
     requires { len ≤ 512 }
     ensures value { result ≡ place_in len (byte_count width) (base +ℤ offset) }
     ensures bound { IfSome result (λ at. at + byte_count width ≤ len) }
@@ -48,7 +48,7 @@ fn byte_at(bytes: &[u8], at: usize) -> Option<u8>
 }
 
 /// So many bytes as a little-endian number, if they are all there.
-pub(crate) fn number_in(bytes: &[u8], at: usize, width: usize) -> Option<u64>
+pub fn number_in(bytes: &[u8], at: usize, width: usize) -> Option<u64>
     requires width { width ≤ 8 }
     requires small { at + width ≤ 1024 }
     ensures value { result ≡ number_at (slice_get bytes.now) at width }

@@ -3,7 +3,8 @@ ghost use Rattle.std.specs.Prelude.{◌≡◌, ℕ, ◌+◌, ◌^◌, ◌<◌, �
 ghost use Rattle.bpf_model.specs.declared.insn.Insn.{Insn};
 ghost use Rattle.bpf_model.specs.Access.{byte_count};
 ghost use Rattle.bpf_model.specs.Spelling.{slot_total};
-ghost use Rattle.bpf_model.specs.Step.{Environment, sets, jumps_by, load_from, store_to, stored, after, insn_at as insn_of};
+ghost use Rattle.bpf_model.specs.Step.{Environment, sets, forward, jumps_by, load_from, store_to, stored, after, insn_at as insn_of};
+ghost use Rattle.bpf_model.specs.MachineStep.{returns};
 ghost use Rattle.plain_interpreter.specs.Plain.{state_of, Comes, Performs, Tells, environment};
 
 use crate::memory::{number_in, place_of, read, write};
@@ -15,8 +16,8 @@ use bpf_model::{
     SwapWidth, Value, Width,
 };
 
-/// The instruction that begins at a slot.
-fn insn_at(program: &[Insn], place: usize) -> Option<&Insn>
+/// The instruction that begins at a slot, where one does.
+pub fn insn_at(program: &[Insn], place: usize) -> Option<&Insn>
     ensures { MatchOption result (insn_of program.now place ≡ None) (λ i. insn_of program.now place ≡ Some i.now) }
 {
     let mut left = place;
@@ -34,7 +35,8 @@ fn insn_at(program: &[Insn], place: usize) -> Option<&Insn>
 }
 
 impl PlainRun {
-    fn set(&mut self, slots: usize, dst: Reg, v: Value) -> Progress
+    /// Sets a register, after an instruction of so many slots. r10 is never set: that is stuck.
+    pub fn set(&mut self, slots: usize, dst: Reg, v: Value) -> Progress
         requires { self.old.place + slots < 2 ^ 60 }
         ensures { Comes (sets slots dst v (state_of self.old)) result self.old self.new }
     {
@@ -222,7 +224,8 @@ impl PlainRun {
         }
     }
 
-    fn perform(&mut self, insn: &Insn, context: &[u8], maps: usize) -> Progress
+    /// What an instruction does to the run by itself. `Stuck` where it does nothing, as a call.
+    pub fn perform(&mut self, insn: &Insn, context: &[u8], maps: usize) -> Progress
         requires place { self.old.place < 2 ^ 40 }
         requires context { length context.now ≤ 256 }
         ensures { Performs insn.now (environment context.now maps) self.old result self.new }
@@ -280,6 +283,28 @@ impl PlainRun {
                 self.store(*width, *offset, self.register(*src), base)
             }
         }
+    }
+
+    /// The next instruction is one slot further.
+    pub fn forward(&mut self)
+        requires { self.old.place < 2 ^ 40 }
+        ensures { state_of self.new ≡ forward 1 (state_of self.old) }
+    {
+        self.place += 1;
+    }
+
+    /// After a call r0 is its result and r1 to r5 hold nothing.
+    pub fn return_from_call(&mut self, value: Value)
+        requires { self.old.place < 2 ^ 40 }
+        ensures { state_of self.new ≡ returns value (state_of self.old) }
+    {
+        self.regs[0] = value;
+        self.regs[1] = Value::Nothing;
+        self.regs[2] = Value::Nothing;
+        self.regs[3] = Value::Nothing;
+        self.regs[4] = Value::Nothing;
+        self.regs[5] = Value::Nothing;
+        self.place += 1;
     }
 
     /// One step of the program on this context, with so many maps.

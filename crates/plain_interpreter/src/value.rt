@@ -16,7 +16,8 @@ pub enum Computed {
     OutOfRange,
 }
 
-pub(crate) fn number(v: Value) -> Option<u64>
+/// The number, where the value is one.
+pub fn number(v: Value) -> Option<u64>
     ensures { result ≡ number_of v }
 {
     match v {
