@@ -2,7 +2,8 @@
 use Rattle.std.specs.Prelude.{◌≡◌, ℕ, ◌+◌, ◌-◌, ◌^◌, ◌<◌, List, [], ◌∷◌, length, drop, Option, Some, None, slice_get, slice_set}
 use Rattle.bpf_model.specs.declared.event.Given.{Given}
 use Rattle.bpf_model.specs.Section.{Section, AllEnded}
-use Rattle.bpf_model.specs.Element.{Element, Unlinked}
+use Rattle.bpf_model.specs.Element.{Element, Life, Unlinked, IsLinkedAt, IsAbsent}
+use Rattle.bpf_model.specs.declared.event.ReapedElement.{ReapedElement}
 use Rattle.bpf_model.specs.Reclaim.{Reclaims}
 use Rattle.bpf_model.specs.MapState.{MapState, Store, with_bag}
 use Rattle.bpf_model.specs.Helper.{Replaces}
@@ -31,8 +32,15 @@ set_first ms map (Some m) = slice_set ms map (with_bag (drop 1 m.bag) m)
 abbrev pub without_first : List MapState → ℕ → List MapState
 without_first ms map = set_first ms map (slice_get ms map)
 
--- An element whose sections have ended is reclaimed, where its use count and the map's worn slots are far from their types' ends.
-abbrev pub ReclaimsAt : Store → ℕ → Option Given → Store → Type 0
-ReclaimsAt s n outcome new =
-    (e : Element) (m : MapState) (since opened : List Section) → slice_get s.elements n ≡ Some e → slice_get s.maps e.map ≡ Some m →
-    e.life ≡ Unlinked since → AllEnded since opened → e.uses < 2 ^ 32 → m.worn < 2 ^ 64 - 1 → (given : Given) × (outcome ≡ Some given) × Reclaims s opened n e given new
+-- an element of this life may be reclaimed
+abbrev pub MayReclaim : Life → List Section → Type 0
+MayReclaim life opened = (since : List Section) × (life ≡ Unlinked since) × AllEnded since opened
+
+-- element n was reclaimed, and told
+abbrev pub ReclaimsTo : Store → List Section → ℕ → Store → ReapedElement → Type 0
+ReclaimsTo s opened n new reaped = (e : Element) × Reclaims s opened n e reaped.given new × (reaped.map ≡ e.map) × (reaped.key.items ≡ e.key)
+
+-- the value that was found under a key
+abbrev pub Finds : List Element → ℕ → List ℕ → Option (List ℕ) → Type 0
+Finds es map key None = IsAbsent es map key
+Finds es map key (Some value) = (n : ℕ) × (linked : IsLinkedAt es map key n) × (value ≡ linked.element.value)

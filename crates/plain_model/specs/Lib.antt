@@ -1,2 +1,5 @@
 pub mod State
 pub mod Births
+pub mod Acting
+pub mod Storing
+pub mod Placing

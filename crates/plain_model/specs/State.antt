@@ -1,10 +1,6 @@
 -- What the plain model's structs stand for, in the words of the definitions.
 use Rattle.std.specs.Prelude.{◌≡◌, ℕ, List, [], map, Option, Some, None, slice_get}
 use Rattle.std.specs.Option.{option_map}
-use Rattle.bpf_model.specs.declared.value.Value.{Value}
-use Rattle.bpf_model.specs.declared.value.Value.TheVariants.{Nothing}
-use Rattle.bpf_model.specs.declared.value.Cell.{Cell}
-use Rattle.bpf_model.specs.declared.value.Cell.TheVariants.{Unwritten}
 use Rattle.plain_model.specs.declared.store.Section.{Section}
 use Rattle.plain_model.specs.declared.store.Life.{Life}
 use Rattle.plain_model.specs.declared.store.Life.TheVariants as lives
@@ -12,9 +8,10 @@ use Rattle.plain_model.specs.declared.store.Element.{Element}
 use Rattle.plain_model.specs.declared.store.MapState.{MapState}
 use Rattle.plain_model.specs.declared.store.Store.{Store}
 use Rattle.plain_model.specs.declared.run.Run.{Run}
-use Rattle.plain_model.specs.declared.machine.Loaded.{Loaded}
+use Rattle.plain_model.specs.declared.machine.Machine.{Machine}
+use Rattle.plain_model.specs.declared.steps.Loaded.{Loaded}
 use Rattle.plain_model.specs.declared.machine.Queues.{Queues}
-use Rattle.bpf_model.specs.Step as step
+use Rattle.plain_interpreter.specs.Plain.{state_of}
 use Rattle.bpf_model.specs.Section as model_section
 use Rattle.bpf_model.specs.Element as model
 use Rattle.bpf_model.specs.MapState as model_maps
@@ -59,20 +56,20 @@ abbrev pub or_no_program : Option Loaded → machine.Loaded
 or_no_program None = record { code = []; maps = []; context_len = 0 }
 or_no_program (Some l) = loaded_of l
 
-abbrev pub or_nothing : Option Value → Value
-or_nothing None = Nothing
-or_nothing (Some v) = v
-
-abbrev pub or_unwritten : Option Cell → Cell
-or_unwritten None = Unwritten
-or_unwritten (Some c) = c
-
-abbrev pub state_of : Run → step.State
-state_of run = record { regs = λ r. or_nothing (slice_get run.registers.items r); frame = λ k. or_unwritten (slice_get run.frame.items k); place = run.place }
+-- a run of a program
+abbrev pub run_with : machine.Loaded → Run → machine.Run
+run_with program run =
+    record { name = run.name; program = program; context = run.context.items; state = state_of run.state; depth = run.depth; locks = run.locks; moved = run.moved; exit = run.exit }
 
 abbrev pub run_of : List Loaded → Run → machine.Run
-run_of programs run =
-    record { name = run.name; program = or_no_program (slice_get programs run.program); context = run.context.items; state = state_of run; depth = run.depth; locks = run.locks; moved = run.moved; exit = run.exit }
+run_of programs run = run_with (or_no_program (slice_get programs run.program)) run
 
 abbrev pub runs_of : List Loaded → List (Option Run) → List (Option machine.Run)
 runs_of programs runs = map (option_map (run_of programs)) runs
+
+abbrev pub machine_of : Machine → machine.Machine
+machine_of m = record { store = store_of m.store; runs = runs_of m.programs.items m.runs.items; started = m.started; programs = map loaded_of m.programs.items }
+
+-- the machine with the runtime's own lists
+abbrev pub schedule_of : Machine → schedule.Schedule
+schedule_of m = record { machine = machine_of m; queues = map queues_of m.queues.items; awaited = m.awaited.items }

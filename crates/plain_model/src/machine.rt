@@ -1,32 +1,29 @@
 //! The whole machine: runs, events, and the runtime's own choices.
-ghost use Rattle.std.specs.Prelude.{ℕ, ◌≡◌, ◌<◌, ◌≤◌, ◌-◌, ◌^◌, Some, None, IfOk, OnOk, OnErr, List, [], length};
-ghost use Rattle.bpf_model.specs.Call.{ret_word as ret_word_of};
-ghost use Rattle.bpf_model.specs.Event.{step_refusal as step_refusal_of, drop_refusal as drop_refusal_of, key_refusal as key_refusal_of, update_refusal as update_refusal_of};
+ghost use Rattle.std.specs.Prelude.{ℕ, ◌≡◌, ◌+◌, ◌≤◌, ◌<◌, ◌×◌, Some, None, IfOk, List, length, map};
+ghost use Rattle.bpf_model.specs.declared.event.Event.TheVariants as events;
+ghost use Rattle.bpf_model.specs.declared.event.EventRefusal.{EventRefusal as ModelRefusal};
+ghost use Rattle.bpf_model.specs.declared.event.Answer.{Answer as ModelAnswer};
+ghost use Rattle.bpf_model.specs.Event.{start_refusal as start_refusal_of, step_refusal as step_refusal_of, drop_refusal as drop_refusal_of, key_refusal as key_refusal_of, update_refusal as update_refusal_of};
 ghost use Rattle.bpf_model.specs.MapState.{shape_of};
-ghost use Rattle.bpf_model.specs.Machine.{run_at, locked, unlocked};
+ghost use Rattle.bpf_model.specs.Machine.{run_at, open_sections as open_sections_of, lowest_free as lowest_free_of};
 ghost use Rattle.std.specs.Option.{option_map};
-ghost use Rattle.bpf_model.specs.declared.event.EventRefusal.{EventRefusal};
 ghost use Rattle.bpf_model.specs.Schedule.{turned, is_open};
-ghost use Rattle.bpf_model.specs.declared.limits.TheConstants.{MAX_DEPTH as deepest};
-ghost use Rattle.plain_model.specs.State.{store_of, queues_of, run_of, runs_of};
+ghost use Rattle.plain_model.specs.State.{store_of, queues_of, sections_of, loaded_of, run_of, runs_of, machine_of};
+ghost use Rattle.plain_model.specs.Acting.{Tells, DoesAs};
+ghost use Rattle.bpf_model.specs.Schedule.{start_schedule};
+ghost use Rattle.plain_model.specs.State.{schedule_of};
+ghost use Rattle.std.specs.Prelude.{[]};
+ghost use Rattle.plain_model.specs.Acting.{SlotStepsAs};
+ghost use Rattle.std.specs.Prelude.{OnOk};
 
-use crate::run::{Outcome, Run, number_of, reference_of};
-use crate::store::{Life, Section, Store};
+use crate::run::Run;
+use crate::steps::{Fault, Loaded, one_more, step_run};
+use crate::store::{Element, Section, Store};
 use bpf_model::{
-    Answer, CallKind, CtxBytes, Errno, Event, EventRefusal, Given, Helper, Insn, KernelFunction,
-    KeyBytes, MAX_DEPTH, MAX_RUNS, MapId, MapShape, ProgId, ReapedElement, Reference, RunId, Value,
-    ValueBytes,
+    Answer, CtxBytes, Event, EventRefusal, KeyBytes, MAX_RUNS, MapId, MapShape, ProgId, ReapedElement,
+    RunId, ValueBytes,
 };
 use std::alloc::{AllocError, Global};
-
-/// A program as it was loaded: its instructions, the maps of the registry that its own list names, and the
-/// length of its context.
-#[derive(Drop)]
-pub struct Loaded {
-    pub code: Vec<Insn>,
-    pub maps: Vec<usize>,
-    pub context_len: usize,
-}
 
 /// The births of a map's unlinked elements: those unlinked since the present grace period began, those
 /// that wait for its end, and those that may be reclaimed.
@@ -49,15 +46,6 @@ pub struct Totals {
     pub open: usize,
 }
 
-/// Why an event got no answer. After that the machine is of no use.
-#[derive(Clone, Copy, Debug, PartialEq, Eq)]
-pub enum Fault {
-    /// The run has no step: it is stuck.
-    Stuck,
-    /// Memory was refused.
-    Memory,
-}
-
 /// The machine, with each map's lists of unlinked elements, and for each run slot whether its section is
 /// awaited.
 #[derive(Drop)]
@@ -71,19 +59,15 @@ pub struct Machine {
     programs: Vec<Loaded>,
 }
 
-impl From<AllocError> for Fault {
-    fn from(_: AllocError) -> Fault {
-        Fault::Memory
-    }
-}
-
 impl Machine {
     /// Maps of these shapes with nothing in them, these programs, and no run.
     pub fn new(
         alloc: Global,
         shapes: &[MapShape],
         programs: Vec<Loaded>,
-    ) -> Result<Machine, AllocError> {
+    ) -> Result<Machine, AllocError>
+        ensures start { IfOk result (λ m. schedule_of m ≡ start_schedule shapes.now (map loaded_of programs.items)) }
+    {
         let mut queues = Vec::new(alloc);
         for _ in 0..shapes.len() {
             queues.push(Queues {
@@ -136,8 +120,30 @@ impl Machine {
         }
     }
 
-    /// What the machine answers to an event.
-    pub fn apply(&mut self, event: Event) -> Result<Answer, Fault> {
+    /// What the machine answers to an event: a step of the definition's machine. After a fault the machine is
+    /// of no use; it is stuck exactly where the definition has no step.
+    pub fn apply(&mut self, event: Event) -> Result<Answer, Fault>
+        ensures machine { DoesAs (machine_of self.old) event result (machine_of self.new) }
+    {
+        match event {
+            Event::Advance => {
+                self.advance()?;
+                Ok(Answer::Done)
+            }
+            Event::Reap => self.reap(),
+            _ => {
+                let before = self.linked_maps()?;
+                let answer = self.perform(event)?;
+                self.settle(before.as_slice())?;
+                Ok(answer)
+            }
+        }
+    }
+
+    /// What the machine answers to an event other than an advance or a reap.
+    fn perform(&mut self, event: Event) -> Result<Answer, Fault>
+        ensures { DoesAs (machine_of self.old) event result (machine_of self.new) }
+    {
         match event {
             Event::Start { prog, ctx } => self.start(prog, ctx),
             Event::Step { run } => self.step(run),
@@ -149,17 +155,41 @@ impl Machine {
             } => self.update(map, key, value, flags),
             Event::Delete { map, key } => self.delete(map, key),
             Event::Read { map, key } => self.read(map, key),
-            Event::Advance => {
-                self.advance()?;
-                Ok(Answer::Done)
-            }
-            Event::Reap => self.reap(),
-            Event::Drop { run } => Ok(self.remove(run)),
+            Event::Drop { run } => self.remove(run),
+            _ => Err(Fault::OutOfRange),
         }
     }
 
+    /// For each element the map that it is linked in.
+    fn linked_maps(&self) -> Result<Vec<Option<usize>>, AllocError> {
+        let mut maps = Vec::new(self.alloc);
+        for n in 0..self.store.elements.len() {
+            let element = &self.store.elements[n];
+            maps.push(if element.life.is_linked() { Some(element.map) } else { None })?;
+        }
+        Ok(maps)
+    }
+
+    /// The elements that an event unlinked go to the end of their maps' lists next, and sections that it ended
+    /// are awaited no more.
+    fn settle(&mut self, before: &[Option<usize>]) -> Result<(), AllocError>
+        ensures machine { machine_of self.new ≡ machine_of self.old }
+    {
+        for k in 0..self.queues.len() {
+            retire(&mut self.queues[k], k, before, self.store.elements.as_slice())?;
+        }
+        for r in 0..self.awaited.len() {
+            if r < self.runs.len() && !is_inside(&self.runs[r]) {
+                self.awaited[r] = false;
+            }
+        }
+        Ok(())
+    }
+
     /// The sections that are open.
-    fn open_sections(&self) -> Result<Vec<Section>, AllocError> {
+    fn open_sections(&self) -> Result<Vec<Section>, AllocError>
+        ensures { IfOk result (λ sections. sections_of sections.items ≡ open_sections_of (runs_of self.now.programs.items self.now.runs.items)) }
+    {
         let mut sections = Vec::new(self.alloc);
         for r in 0..self.runs.len() {
             if let Some(run) = &self.runs[r] {
@@ -175,7 +205,9 @@ impl Machine {
     }
 
     /// The lowest free run slot.
-    fn lowest_free(&self) -> Option<usize> {
+    fn lowest_free(&self) -> Option<usize>
+        ensures { result ≡ lowest_free_of (runs_of self.now.programs.items self.now.runs.items) }
+    {
         for r in 0..self.runs.len() {
             if self.runs[r].is_none() {
                 return Some(r);
@@ -184,21 +216,22 @@ impl Machine {
         None
     }
 
-    fn start(&mut self, prog: ProgId, ctx: CtxBytes) -> Result<Answer, Fault> {
-        let Some(program) = self.programs.get(prog.index()) else {
+    fn start(&mut self, prog: ProgId, ctx: CtxBytes) -> Result<Answer, Fault>
+        ensures { DoesAs (machine_of self.old) (events.Start prog ctx) result (machine_of self.new) }
+    {
+        let p = prog.index();
+        if p >= self.programs.len() {
             return Ok(Answer::Refused(EventRefusal::NoProgram));
-        };
-        if ctx.len() != program.context_len {
+        }
+        if ctx.len() != self.programs[p].context_len {
             return Ok(Answer::Refused(EventRefusal::BadContext));
         }
         let Some(r) = self.lowest_free() else {
             return Ok(Answer::Refused(EventRefusal::RunsFull));
         };
-        let run = Run::new(self.alloc, self.started, prog.index(), ctx)?;
-        self.started = self.started.saturating_add(1);
-        if let Some(slot) = self.runs.get_mut(r) {
-            *slot = Some(run);
-        }
+        let next = one_more(self.started)?;
+        self.runs[r] = Some(Run::new(self.started, p, ctx));
+        self.started = next;
         Ok(Answer::Started(RunId::new(r)))
     }
 
@@ -215,193 +248,24 @@ impl Machine {
         }
     }
 
-    fn step(&mut self, run: RunId) -> Result<Answer, Fault> {
-        let r = run.index();
-        match self.step_refusal(r) {
-            Some(refusal) => Ok(Answer::Refused(refusal)),
-            None => match self.insn(r) {
-                Some(insn) => self.step_insn(r, insn),
-                None => Err(Fault::Stuck),
-            },
-        }
-    }
-
-    /// The instruction that begins at the run's place.
-    fn insn(&self, r: usize) -> Option<Insn> {
-        let run = self.runs.get(r)?.as_ref()?;
-        let program = self.programs.get(run.program)?;
-        insn_at(program.code.as_slice(), run.place)
-    }
-
-    fn step_insn(&mut self, r: usize, insn: Insn) -> Result<Answer, Fault> {
-        match insn {
-            Insn::Call {
-                kind: CallKind::Kernel,
-                imm,
-            } => self.call_kernel(r, imm),
-            Insn::Call {
-                kind: CallKind::Helper,
-                imm,
-            } => self.call_helper(r, imm),
-            _ => self.step_alone(r, insn),
-        }
-    }
-
-    /// An instruction other than a call.
-    fn step_alone(&mut self, r: usize, insn: Insn) -> Result<Answer, Fault> {
-        let Some(Some(run)) = self.runs.get_mut(r) else {
-            return Err(Fault::Stuck);
-        };
-        let maps = match self.programs.get(run.program) {
-            Some(program) => program.maps.len(),
-            None => 0,
-        };
-        match run.act(insn, &mut self.store, maps) {
-            None => Err(Fault::Stuck),
-            Some(Outcome::Moves) => {
-                run.moved = run.moved.saturating_add(1);
-                Ok(Answer::Moved)
-            }
-            Some(Outcome::Exits(number)) => {
-                run.exit = Some(number);
-                Ok(Answer::Exited(number))
-            }
-        }
-    }
-
-    /// A lock enters a section, an unlock leaves one.
-    fn call_kernel(&mut self, r: usize, imm: i32) -> Result<Answer, Fault> {
-        let Some(function) = KernelFunction::from_number(imm) else {
-            return Err(Fault::Stuck);
-        };
-        let Some(Some(run)) = self.runs.get_mut(r) else {
-            return Err(Fault::Stuck);
-        };
-        match function {
-            KernelFunction::ReadLock => lock(run)?,
-            KernelFunction::ReadUnlock => unlock(run)?,
-        }
-        let outside = run.depth == 0;
-        returns(run, Value::Nothing)?;
-        if outside {
-            if let Some(flag) = self.awaited.get_mut(r) {
-                *flag = false;
-            }
-        }
-        Ok(Answer::Moved)
-    }
-
-    /// The map that the reference in r1 names.
-    fn map_argument(&self, run: &Run) -> Option<usize> {
-        match reference_of(run.register(1))? {
-            Reference::MapRef(m) => {
-                let program = self.programs.get(run.program)?;
-                Some(*program.maps.get(m)?)
-            }
-            _ => None,
-        }
-    }
-
-    /// What the arguments of a helper are, from the registers and the frame.
-    fn arguments(&self, r: usize, helper: Helper) -> Option<Arguments> {
-        let run = self.runs.get(r)?.as_ref()?;
-        let map = self.map_argument(run)?;
-        let shape = self.store.shape(map)?;
-        let mut key = KeyBytes::new();
-        for k in 0..shape.key_len {
-            key.try_push(argument_byte(run, 2, shape.key_len, k)?).ok()?;
-        }
-        let mut value = ValueBytes::new();
-        let mut flags = 0;
-        if helper == Helper::Update {
-            for k in 0..shape.value_len {
-                value
-                    .try_push(argument_byte(run, 3, shape.value_len, k)?)
-                    .ok()?;
-            }
-            flags = number_of(run.register(4))?;
-        }
-        Some(Arguments {
-            map,
-            key,
-            value,
-            flags,
-        })
-    }
-
-    fn call_helper(&mut self, r: usize, imm: i32) -> Result<Answer, Fault> {
-        let Some(helper) = Helper::from_number(imm) else {
-            return Err(Fault::Stuck);
-        };
-        let Some(arguments) = self.arguments(r, helper) else {
-            return Err(Fault::Stuck);
-        };
-        let ret = match helper {
-            Helper::Lookup => match self.store.lookup(arguments.map, arguments.key.as_slice()) {
-                Some(n) => Value::Pointer(Reference::Elem(n, 0)),
-                None => Value::Number(0),
-            },
-            Helper::Update => Value::Number(ret_word(self.update_key(
-                arguments.map,
-                arguments.key,
-                arguments.value,
-                arguments.flags,
-            )?)),
-            Helper::Delete => Value::Number(ret_word(self.delete_key(
-                arguments.map,
-                arguments.key,
-            )?)),
-        };
-        match self.runs.get_mut(r) {
-            Some(Some(run)) => returns(run, ret)?,
-            _ => return Err(Fault::Stuck),
-        }
-        Ok(Answer::Moved)
-    }
-
-    /// An update by a helper or an event: what it unlinks goes to its map's list next.
-    fn update_key(
-        &mut self,
-        map: usize,
-        key: KeyBytes,
-        value: ValueBytes,
-        flags: u64,
-    ) -> Result<Result<(), Errno>, Fault> {
-        let opened = self.open_sections()?;
-        let found = self.store.lookup(map, key.as_slice());
-        let ret = self
-            .store
-            .update(self.alloc, opened.as_slice(), map, key, value, flags)?;
-        if ret == Ok(()) {
-            if let Some(n) = found {
-                self.retire(map, n)?;
-            }
-        }
-        Ok(ret)
-    }
-
-    fn delete_key(&mut self, map: usize, key: KeyBytes) -> Result<Result<(), Errno>, Fault> {
-        let opened = self.open_sections()?;
-        let found = self.store.lookup(map, key.as_slice());
-        let ret = self
-            .store
-            .delete(self.alloc, opened.as_slice(), map, key.as_slice())?;
-        if let Some(n) = found {
-            self.retire(map, n)?;
-        }
-        Ok(ret)
-    }
-
-    /// An unlinked element goes to the end of its map's list next.
-    fn retire(&mut self, map: usize, n: usize) -> Result<(), AllocError>
-        ensures store { self.new.store ≡ self.old.store }
-        ensures runs { self.new.runs ≡ self.old.runs }
-        ensures awaited { self.new.awaited ≡ self.old.awaited }
+    fn step(&mut self, run: RunId) -> Result<Answer, Fault>
+        ensures { DoesAs (machine_of self.old) (events.Step run) result (machine_of self.new) }
     {
-        if let Some(queues) = self.queues.get_mut(map) {
-            queues.next.push(n)?;
+        let r = run.index();
+        if let Some(refusal) = self.step_refusal(r) {
+            return Ok(Answer::Refused(refusal));
         }
-        Ok(())
+        let opened = self.open_sections()?;
+        if r >= self.runs.len() {
+            return Err(Fault::OutOfRange);
+        }
+        step_slot(
+            self.alloc,
+            &mut self.runs[r],
+            self.programs.as_slice(),
+            &mut self.store,
+            opened.as_slice(),
+        )
     }
 
     /// Why an event of the control plane is refused.
@@ -434,35 +298,52 @@ impl Machine {
         key: KeyBytes,
         value: ValueBytes,
         flags: u64,
-    ) -> Result<Answer, Fault> {
+    ) -> Result<Answer, Fault>
+        ensures { DoesAs (machine_of self.old) (events.Update map key value flags) result (machine_of self.new) }
+    {
         match self.key_refusal(map.index(), key.len(), Some(value.len())) {
             Some(refusal) => Ok(Answer::Refused(refusal)),
-            None => Ok(Answer::Ret(self.update_key(map.index(), key, value, flags)?)),
+            None => {
+                let opened = self.open_sections()?;
+                let ret = self
+                    .store
+                    .update(self.alloc, opened.as_slice(), map.index(), key, value, flags)?;
+                Ok(Answer::Ret(ret))
+            }
         }
     }
 
-    fn delete(&mut self, map: MapId, key: KeyBytes) -> Result<Answer, Fault> {
+    fn delete(&mut self, map: MapId, key: KeyBytes) -> Result<Answer, Fault>
+        ensures { DoesAs (machine_of self.old) (events.Delete map key) result (machine_of self.new) }
+    {
         match self.key_refusal(map.index(), key.len(), None) {
             Some(refusal) => Ok(Answer::Refused(refusal)),
-            None => Ok(Answer::Ret(self.delete_key(map.index(), key)?)),
+            None => {
+                let opened = self.open_sections()?;
+                let ret = self
+                    .store
+                    .delete(self.alloc, opened.as_slice(), map.index(), key.as_slice())?;
+                Ok(Answer::Ret(ret))
+            }
         }
     }
 
-    fn read(&self, map: MapId, key: KeyBytes) -> Result<Answer, Fault> {
+    fn read(&mut self, map: MapId, key: KeyBytes) -> Result<Answer, Fault>
+        ensures { DoesAs (machine_of self.old) (events.Read map key) result (machine_of self.new) }
+    {
         if let Some(refusal) = self.key_refusal(map.index(), key.len(), None) {
             return Ok(Answer::Refused(refusal));
         }
-        let Some(n) = self.store.lookup(map.index(), key.as_slice()) else {
-            return Ok(Answer::Found(None));
-        };
-        match self.store.elements.get(n) {
-            Some(element) => Ok(Answer::Found(Some(element.value.clone()?))),
+        match self.store.read(map.index(), key.as_slice())? {
+            Some(value) => Ok(Answer::Found(Some(value))),
             None => Ok(Answer::Found(None)),
         }
     }
 
     /// Where no run is awaited a grace period ends and the next begins.
-    fn advance(&mut self) -> Result<(), AllocError> {
+    fn advance(&mut self) -> Result<(), AllocError>
+        ensures machine { machine_of self.new ≡ machine_of self.old }
+    {
         for r in 0..self.awaited.len() {
             if self.awaited[r] {
                 return Ok(());
@@ -472,16 +353,12 @@ impl Machine {
             turn(&mut self.queues[k])?;
         }
         for r in 0..self.awaited.len() {
-            let open = match self.runs.get(r) {
-                Some(slot) => is_inside(slot),
-                None => false,
-            };
-            self.awaited[r] = open;
+            self.awaited[r] = r < self.runs.len() && is_inside(&self.runs[r]);
         }
         Ok(())
     }
 
-    /// The first ready birth of the lowest map that has one.
+    /// The first ready birth of the lowest map that has one, and that map.
     fn first_ready(&self) -> Option<(usize, usize)> {
         for k in 0..self.queues.len() {
             if let Some(n) = self.queues[k].ready.first() {
@@ -491,24 +368,18 @@ impl Machine {
         None
     }
 
-    fn reap(&mut self) -> Result<Answer, Fault> {
+    fn reap(&mut self) -> Result<Answer, Fault>
+        ensures { DoesAs (machine_of self.old) events.Reap result (machine_of self.new) }
+    {
         let Some((k, n)) = self.first_ready() else {
             return Ok(Answer::Reaped(None));
         };
-        let Some(element) = self.store.elements.get(n) else {
-            return Err(Fault::Stuck);
-        };
-        let key = element.key.clone()?;
-        let Some(given) = self.store.reclaim(n)? else {
-            return Err(Fault::Stuck);
-        };
-        if let Some(queues) = self.queues.get_mut(k) {
-            if !queues.ready.is_empty() {
-                let _ = queues.ready.remove(0);
-            }
+        let opened = self.open_sections()?;
+        let element = self.store.reclaim(n, opened.as_slice())?;
+        if k < self.queues.len() && !self.queues[k].ready.is_empty() {
+            let _ = self.queues[k].ready.remove(0);
         }
-        let map = MapId::new(k);
-        Ok(Answer::Reaped(Some(ReapedElement { map, key, given })))
+        Ok(Answer::Reaped(Some(element)))
     }
 
     /// Why a drop of this run is refused.
@@ -524,20 +395,17 @@ impl Machine {
         }
     }
 
-    fn remove(&mut self, run: RunId) -> Answer
-        ensures refused { (k : EventRefusal) → drop_refusal_of (run_at (runs_of self.old.programs.items self.old.runs.items) run) ≡ Some k → result ≡ Answer.Refused k }
-        ensures done { drop_refusal_of (run_at (runs_of self.old.programs.items self.old.runs.items) run) ≡ None → result ≡ Answer.Done }
-        ensures store { self.new.store ≡ self.old.store }
+    fn remove(&mut self, run: RunId) -> Result<Answer, Fault>
+        ensures { DoesAs (machine_of self.old) (events.Drop run) result (machine_of self.new) }
     {
-        match self.drop_refusal(run.index()) {
-            Some(refusal) => Answer::Refused(refusal),
-            None => {
-                if let Some(slot) = self.runs.get_mut(run.index()) {
-                    *slot = None;
-                }
-                Answer::Done
-            }
+        let r = run.index();
+        if let Some(refusal) = self.drop_refusal(r) {
+            return Ok(Answer::Refused(refusal));
         }
+        if r < self.runs.len() {
+            self.runs[r] = None;
+        }
+        Ok(Answer::Done)
     }
 }
 
@@ -551,94 +419,40 @@ fn is_inside(slot: &Option<Run>) -> bool
     }
 }
 
-/// The arguments of a helper.
-#[derive(Drop)]
-struct Arguments {
-    map: usize,
-    key: KeyBytes,
-    value: ValueBytes,
-    flags: u64,
-}
-
-/// The instruction that begins at a slot.
-fn insn_at(code: &[Insn], place: usize) -> Option<Insn> {
-    let mut rest = place;
-    for insn in code {
-        if rest == 0 {
-            return Some(*insn);
-        }
-        rest = rest.checked_sub(insn.slot_count())?;
-    }
-    None
-}
-
-/// The outermost lock opens a section.
-fn lock(run: &mut Run) -> Result<(), Fault>
-    ensures locked { OnOk result (run.old.locks < 2 ^ 64 - 1 → run_of [] run.new ≡ locked (run_of [] run.old)) }
-    ensures depth { OnOk result (run.old.depth < deepest) }
-    ensures stuck { OnErr result (deepest ≤ run.old.depth) }
+/// A step of the run in a slot.
+fn step_slot(
+    alloc: Global,
+    slot: &mut Option<Run>,
+    programs: &[Loaded],
+    store: &mut Store,
+    opened: &[Section],
+) -> Result<Answer, Fault>
+    ensures { SlotStepsAs (store_of store.old) (sections_of opened.now) (option_map (run_of programs.now) slot.old) result (store_of store.new) (option_map (run_of programs.now) slot.new) }
 {
-    if run.depth < MAX_DEPTH {
-        if run.depth == 0 {
-            run.locks = run.locks.saturating_add(1);
-        }
-        run.depth += 1;
-        Ok(())
-    } else {
-        Err(Fault::Stuck)
-    }
-}
-
-fn unlock(run: &mut Run) -> Result<(), Fault>
-    ensures unlocked { OnOk result (run_of [] run.new ≡ unlocked (run_of [] run.old)) }
-    ensures depth { OnOk result (0 < run.old.depth) }
-    ensures stuck { OnErr result (run.old.depth ≡ 0) }
-{
-    if 0 < run.depth {
-        run.depth -= 1;
-        Ok(())
-    } else {
-        Err(Fault::Stuck)
-    }
-}
-
-/// After a call r0 is its result and r1 to r5 hold nothing.
-fn returns(run: &mut Run, ret: Value) -> Result<(), Fault> {
-    run.put(0, ret);
-    for r in 1..6 {
-        run.put(r, Value::Nothing);
-    }
-    run.moved = run.moved.saturating_add(1);
-    match run.forward(1) {
-        Some(_) => Ok(()),
-        None => Err(Fault::Stuck),
-    }
-}
-
-/// What a helper leaves in r0: 0, or the error as a negative number.
-fn ret_word(ret: Result<(), Errno>) -> u64
-    ensures { result ≡ ret_word_of ret }
-{
-    match ret {
-        Ok(()) => 0,
-        Err(errno) => u64::from(errno.number()).wrapping_neg(),
-    }
-}
-
-/// Byte k of an argument of this length, by the reference to the frame in register r. `None` when the
-/// argument isn't all inside the frame, or the byte isn't written.
-fn argument_byte(run: &Run, r: usize, len: usize, k: usize) -> Option<u8> {
-    match reference_of(run.register(r))? {
-        Reference::Frame(o) => {
-            let at = usize::try_from(o).ok()?;
-            if at.checked_add(len)? <= 512 {
-                run.frame_byte(at.checked_add(k)?)
-            } else {
-                None
+    match slot {
+        Some(run) => {
+            if run.program >= programs.len() {
+                return Err(Fault::Stuck);
             }
+            step_run(alloc, run, &programs[run.program], store, opened)
         }
-        _ => None,
+        None => Err(Fault::OutOfRange),
     }
+}
+
+/// The births of map k that were linked and are unlinked now go to the end of its list next.
+fn retire(
+    queues: &mut Queues,
+    k: usize,
+    before: &[Option<usize>],
+    elements: &[Element],
+) -> Result<(), AllocError> {
+    for n in 0..before.len() {
+        if n < elements.len() && before[n] == Some(k) && elements[n].life.is_unlinked() {
+            queues.next.push(n)?;
+        }
+    }
+    Ok(())
 }
 
 /// Those that waited are ready, and those unlinked meanwhile wait.

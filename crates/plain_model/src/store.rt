@@ -1,14 +1,22 @@
 //! The elements of all maps, and the maps' free slots.
-ghost use Rattle.std.specs.Prelude.{ℕ, ◌≡◌, ◌<◌, ◌-◌, ◌^◌, ◌&&◌, ◌==◌, ◌↔◌, IsTrue, IfOk, OnErr, OnOk, IfSome, Some, length, map, slice_get};
-ghost use Rattle.bpf_model.specs.Element.{is_linked, is_reclaimed, linked_count as linked_count_of, unlinked, accessible};
-ghost use Rattle.bpf_model.specs.MapState.{given_of, returned, shape_of, with_elements};
+ghost use Rattle.std.specs.Prelude.{ℕ, ◌≡◌, ◌+◌, ◌×◌, ◌+ℤ◌, [], false, ◌<◌, ◌≤◌, ◌-◌, ◌^◌, ◌&&◌, ◌==◌, ◌↔◌, IsTrue, IfOk, OnErr, OnOk, IfSome, Some, length, map, slice_get};
+ghost use Rattle.bpf_model.specs.Element.{is_linked, is_unlinked, is_reclaimed, linked_count as linked_count_of, unlinked};
+ghost use Rattle.bpf_model.specs.MapState.{given_of, returned, shape_of, new_map};
+ghost use Rattle.bpf_model.specs.Section.{Has, AllEnded};
+ghost use Rattle.std.specs.Option.{option_map};
 ghost use Rattle.bpf_model.specs.Helper.{LooksUp, update_error as first_error, Updates, Deletes};
-ghost use Rattle.bpf_model.specs.Access.{place_of as place_in, number_at as number_in};
-ghost use Rattle.plain_model.specs.Births.{HasFree, ReplacesIn, NextUse, without_first, ReclaimsAt};
+ghost use Rattle.bpf_model.specs.Access.{byte_count};
+ghost use Rattle.bpf_model.specs.MachineStep.{element_load, element_store, with_bytes};
+ghost use Rattle.bpf_model.specs.declared.value.Value.TheVariants.{Number, Pointer};
+ghost use Rattle.bpf_model.specs.declared.value.Reference.TheVariants.{Elem};
+ghost use Rattle.plain_model.specs.Storing.{StoresTo, SavesTo};
+ghost use Rattle.plain_model.specs.Births.{HasFree, ReplacesIn, NextUse, without_first, MayReclaim, ReclaimsTo, Finds};
+ghost use Rattle.plain_model.specs.Acting.{Tells};
 ghost use Rattle.plain_model.specs.State.{section_of, sections_of, life_of, element_of, elements_of, map_of, store_of, IsLinkedHere};
 
-use arrayvec::ArrayVec;
-use bpf_model::{Errno, Given, KeyBytes, MapShape, ValueBytes};
+use crate::steps::{Fault, one_more};
+use bpf_model::{Errno, Given, KeyBytes, MapId, MapShape, ReapedElement, ValueBytes, Width};
+use plain_interpreter::{number_in, place_of};
 use std::alloc::{AllocError, Global};
 
 /// A read-side critical section: the number of its run's start, and how many sections the run had opened
@@ -64,6 +72,16 @@ impl Life {
         }
     }
 
+    /// Whether it is unlinked, and not reclaimed yet.
+    pub fn is_unlinked(&self) -> bool
+        ensures { result ≡ is_unlinked (life_of self.now) }
+    {
+        match self {
+            Life::Unlinked(_) => true,
+            _ => false,
+        }
+    }
+
     /// Whether it may be accessed no more.
     pub fn is_reclaimed(&self) -> bool
         ensures { result ≡ is_reclaimed (life_of self.now) }
@@ -93,7 +111,9 @@ impl Element {
 
 impl MapState {
     /// A map of which no slot was ever used.
-    pub fn new(alloc: Global, shape: MapShape) -> Result<MapState, AllocError> {
+    pub fn new(alloc: Global, shape: MapShape) -> Result<MapState, AllocError>
+        ensures { IfOk result (λ m. map_of m ≡ new_map shape) }
+    {
         let mut bag = Vec::new(alloc);
         for _ in 0..shape.entries {
             bag.push(0)?;
@@ -127,29 +147,30 @@ impl MapState {
         }
     }
 
-    /// A slot that was used so often (at most 2^32 - 1 times) comes back: to the end of the free ones, or it
-    /// is worn out.
-    pub fn give_back(&mut self, uses: u64) -> Result<Given, AllocError>
-        ensures given { IfOk result (λ given. uses < 2 ^ 32 → given ≡ given_of uses (map_of self.old)) }
-        ensures returned { IfOk result (λ _. uses < 2 ^ 32 → self.old.worn < 2 ^ 64 - 1 → map_of self.new ≡ returned uses (map_of self.old)) }
-        ensures err { OnErr result (map_of self.new ≡ map_of self.old) }
+    /// A slot that was used so often comes back: to the end of the free ones, or it is worn out.
+    pub fn give_back(&mut self, uses: u64) -> Result<Given, Fault>
+        ensures { Tells (λ given. (given ≡ given_of uses (map_of self.old)) × (map_of self.new ≡ returned uses (map_of self.old))) (Unit {0}) result }
     {
         let Ok(count) = u32::try_from(uses) else {
-            return Ok(Given::Worn);
+            return Err(Fault::OutOfRange);
         };
         if count == self.shape.reuse_limit {
-            self.worn = self.worn.saturating_add(1);
+            self.worn = one_more(self.worn)?;
             Ok(Given::Worn)
         } else {
-            self.bag.push(count)?;
-            Ok(Given::Free)
+            match self.bag.push(count) {
+                Ok(()) => Ok(Given::Free),
+                Err(_) => Err(Fault::Memory),
+            }
         }
     }
 }
 
 impl Store {
     /// No element, and maps of these shapes.
-    pub fn new(alloc: Global, shapes: &[MapShape]) -> Result<Store, AllocError> {
+    pub fn new(alloc: Global, shapes: &[MapShape]) -> Result<Store, AllocError>
+        ensures { IfOk result (λ s. store_of s ≡ record { elements = []; maps = map new_map shapes.now }) }
+    {
         let mut maps = Vec::new(alloc);
         for shape in shapes {
             maps.push(MapState::new(alloc, *shape)?)?;
@@ -300,83 +321,119 @@ impl Store {
         Ok(Ok(()))
     }
 
-    /// Reclaims element n, which the caller knows to be unlinked with no section of its set open: its slot
-    /// comes back. `None` when there is no such element or map.
-    pub fn reclaim(&mut self, n: usize) -> Result<Option<Given>, AllocError>
-        ensures reclaims { IfOk result (λ outcome. ReclaimsAt (store_of self.old) n outcome (store_of self.new)) }
+    /// The value of the element that the map has under the key.
+    pub fn read(&self, map: usize, key: &[u8]) -> Result<Option<ValueBytes>, AllocError>
+        ensures { IfOk result (λ found. Finds (elements_of self.now.elements.items) map key.now (option_map (λ v. v.items) found)) }
+    {
+        match self.lookup(map, key) {
+            Some(n) if n < self.elements.len() => Ok(Some(self.elements[n].value.clone()?)),
+            _ => Ok(None),
+        }
+    }
+
+    /// Reclaims element n, whose slot comes back. `Early` where it isn't unlinked, or a section of its set is open.
+    pub fn reclaim(&mut self, n: usize, opened: &[Section]) -> Result<ReapedElement, Fault>
+        ensures { Tells (ReclaimsTo (store_of self.old) (sections_of opened.now) n (store_of self.new)) (Unit {0}) result }
+    {
+        if n >= self.elements.len() || !has_ended(&self.elements[n].life, opened) {
+            return Err(Fault::Early);
+        }
+        let map = self.elements[n].map;
+        if map >= self.maps.len() {
+            return Err(Fault::Early);
+        }
+        let key = self.elements[n].key.clone()?;
+        let given = self.maps[map].give_back(self.elements[n].uses)?;
+        self.elements[n].life = Life::Reclaimed;
+        let map = MapId::new(map);
+        Ok(ReapedElement { map, key, given })
+    }
+
+    /// The number that a load from element n finds, o bytes and an offset from the start of its value. `None`:
+    /// the load is stuck.
+    pub fn load(&self, n: usize, width: Width, o: i64, offset: i16) -> Option<u64>
+        ensures { result ≡ element_load (elements_of self.now.elements.items) (byte_count width) offset (Pointer (Elem n o)) }
+    {
+        let Some(element) = self.elements.get(n) else {
+            return None;
+        };
+        if element.life.is_reclaimed() {
+            return None;
+        }
+        let at = place_of(element.value.len(), width, o, offset)?;
+        number_in(element.value.as_slice(), at, width.bytes())
+    }
+
+    /// Stores the low bytes of a number in element n. Whether it could: else the store is stuck.
+    pub fn store(&mut self, n: usize, width: Width, o: i64, offset: i16, number: u64) -> bool
+        ensures elements { StoresTo (element_store (elements_of self.old.elements.items) (byte_count width) offset (Number number) (Pointer (Elem n o))) result (elements_of self.new.elements.items) }
+        ensures maps { self.new.maps ≡ self.old.maps }
     {
         if n >= self.elements.len() {
-            return Ok(None);
+            return false;
         }
-        let element = &self.elements[n];
-        let map = element.map;
-        let uses = element.uses;
-        if map >= self.maps.len() {
-            return Ok(None);
-        }
-        let given = self.maps[map].give_back(uses)?;
-        self.elements[n].life = Life::Reclaimed;
-        Ok(Some(given))
-    }
-
-    /// The number that a load from element n finds. `None`: the load is stuck.
-    pub fn load(&self, n: usize, width: usize, offset: i64) -> Option<u64> {
-        let element = self.elements.get(n)?;
-        if element.life.is_reclaimed() {
-            return None;
-        }
-        let at = place_of(element.value.len(), width, offset)?;
-        number_at(element.value.as_slice(), at, width)
-    }
-
-    /// Stores the low bytes of a number in element n. `None`: the store is stuck.
-    pub fn store(&mut self, n: usize, width: usize, offset: i64, number: u64) -> Option<()> {
-        let element = self.elements.get_mut(n)?;
-        if element.life.is_reclaimed() {
-            return None;
-        }
-        let at = place_of(element.value.len(), width, offset)?;
-        put_bytes(&mut element.value, at, width, number);
-        Some(())
+        save(&mut self.elements[n], width, o, offset, number)
     }
 }
 
-/// The place of an access of so many bytes in a region of this length: all bytes inside, aligned.
-pub fn place_of(len: usize, width: usize, offset: i64) -> Option<usize>
-    ensures { 0 < width → result ≡ place_in len width offset }
+/// Whether an element is unlinked, and no section that was open then is open now.
+fn has_ended(life: &Life, opened: &[Section]) -> bool
+    ensures { IsTrue result → MayReclaim (life_of life.now) (sections_of opened.now) }
 {
-    let Ok(at) = usize::try_from(offset) else {
-        return None;
-    };
-    let end = at.checked_add(width)?;
-    if width != 0 && end <= len && at % width == 0 {
-        Some(at)
-    } else {
-        None
+    match life {
+        Life::Unlinked(since) => are_apart(since.as_slice(), opened),
+        _ => false,
     }
 }
 
-/// So many bytes from a place on, as a little-endian number.
-pub fn number_at(bytes: &[u8], at: usize, width: usize) -> Option<u64> {
-    let mut number: u64 = 0;
-    for k in 0..width {
-        let place = at.checked_add(width - 1 - k)?;
-        let byte = *bytes.get(place)?;
-        number = number.wrapping_mul(256).wrapping_add(u64::from(byte));
+/// Whether no section of the first is one of the second.
+fn are_apart(since: &[Section], opened: &[Section]) -> bool
+    ensures { IsTrue result → AllEnded (sections_of since.now) (sections_of opened.now) }
+{
+    for i in 0..since.len() {
+        if is_among(&since[i], opened) {
+            return false;
+        }
     }
-    Some(number)
+    true
+}
+
+/// Whether the section is one of these.
+fn is_among(section: &Section, sections: &[Section]) -> bool
+    ensures { result ≡ false → Has (sections_of sections.now) (section_of section.now) → ⊥ }
+{
+    for j in 0..sections.len() {
+        if sections[j].run == section.run && sections[j].lock == section.lock {
+            return true;
+        }
+    }
+    false
+}
+
+/// Stores the low bytes of a number in an element that isn't reclaimed, where they lie in its value.
+fn save(element: &mut Element, width: Width, o: i64, offset: i16, number: u64) -> bool
+    ensures { SavesTo (element_of element.old) (byte_count width) (o +ℤ offset) number result (element_of element.new) }
+{
+    if element.life.is_reclaimed() {
+        return false;
+    }
+    match place_of(element.value.len(), width, o, offset) {
+        Some(at) => {
+            put_bytes(element.value.as_mut_slice(), at, width.bytes(), number);
+            true
+        }
+        None => false,
+    }
 }
 
 /// Writes so many low bytes of a number from a place on.
-fn put_bytes(bytes: &mut ArrayVec<u8, 256>, at: usize, width: usize, number: u64) {
-    let mut rest = number;
-    let slots = bytes.as_mut_slice();
-    for k in 0..width {
-        if let Some(place) = at.checked_add(k) {
-            if let Some(byte) = slots.get_mut(place) {
-                *byte = (rest % 256) as u8;
-            }
-        }
-        rest /= 256;
+fn put_bytes(bytes: &mut [u8], at: usize, width: usize, number: u64)
+    requires inside { at + width ≤ length bytes.old }
+    requires small { at + width ≤ 1024 }
+    ensures { bytes.new ≡ with_bytes at width number bytes.old }
+{
+    if width > 0 {
+        put_bytes(bytes, at + 1, width - 1, number / 256);
+        bytes[at] = (number % 256) as u8;
     }
 }

@@ -1,0 +1,92 @@
+-- What the plain model's steps tell, by what they answer.
+use Rattle.std.specs.Prelude.{◌≡◌, ℕ, List, Option, Some, None, Result, Ok, Err, ℤ}
+use Rattle.bpf_model.specs.declared.insn.Insn.{Insn}
+use Rattle.bpf_model.specs.declared.insn.Insn.TheVariants.{Load, LoadSigned, Store, StoreRegister}
+use Rattle.bpf_model.specs.declared.value.Value.{Value}
+use Rattle.bpf_model.specs.declared.value.Value.TheVariants.{Nothing, Number, Pointer}
+use Rattle.bpf_model.specs.declared.value.Reference.TheVariants.{Ctx, Frame, MapRef, Elem}
+use Rattle.bpf_model.specs.declared.event.Event.{Event}
+use Rattle.bpf_model.specs.declared.event.Answer.{Answer}
+use Rattle.bpf_model.specs.Element.{Element}
+use Rattle.bpf_model.specs.Section.{Section}
+use Rattle.bpf_model.specs.Machine as machine
+use Rattle.bpf_model.specs.MapState as maps
+use Rattle.bpf_model.specs.Step.{State, Environment, Outcome, Moves, Exits, forward}
+use Rattle.bpf_model.specs.MachineStep.{Acts, Ends, InsnStep, RunStep}
+use Rattle.bpf_model.specs.Event.{Does}
+use Rattle.plain_interpreter.specs.declared.plain_run.PlainRun.{PlainRun}
+use Rattle.plain_interpreter.specs.declared.plain_run.Progress.{Progress}
+use Rattle.plain_interpreter.specs.declared.plain_run.Progress.TheVariants as progress
+use Rattle.plain_interpreter.specs.Plain.{state_of}
+use Rattle.plain_model.specs.declared.steps.Fault.{Fault}
+use Rattle.plain_model.specs.declared.steps.Fault.TheVariants as faults
+
+-- the element that a value refers to, and the offset there
+abbrev pub element_in : Value → Option (ℕ × ℤ)
+element_in Nothing = None
+element_in (Number n) = None
+element_in (Pointer (Ctx o)) = None
+element_in (Pointer (Frame o)) = None
+element_in (Pointer (MapRef m)) = None
+element_in (Pointer (Elem n o)) = Some (n, o)
+
+-- that of the base register of a load or a store
+abbrev pub base_element : Insn → State → Option (ℕ × ℤ)
+base_element (Load width dst src offset) m = element_in (m.regs src)
+base_element (LoadSigned width dst src offset) m = element_in (m.regs src)
+base_element (Store width dst offset imm) m = element_in (m.regs dst)
+base_element (StoreRegister width dst src offset) m = element_in (m.regs dst)
+base_element _ m = None
+
+-- a store to an element was made, or could not be
+abbrev pub StoresAs : Option (List Element) → PlainRun → Progress → List Element → PlainRun → Type 0
+StoresAs o old progress.Moved new_elements new = (o ≡ Some new_elements) × (state_of new ≡ forward 1 (state_of old))
+StoresAs o old progress.Stuck new_elements new = o ≡ None
+StoresAs o old _ new_elements new = ⊥
+
+-- An instruction other than a call was a step, or there is none.
+abbrev pub ActsAs : Insn → Environment → List Element → PlainRun → Progress → List Element → PlainRun → Type 0
+ActsAs i env es old progress.Moved new_elements new = Acts i env es (state_of old) (Moves (state_of new)) new_elements
+ActsAs i env es old (progress.Exited n) new_elements new = Acts i env es (state_of old) (Exits n) new_elements × (state_of new ≡ state_of old)
+ActsAs i env es old progress.Stuck new_elements new = (out : Outcome) (more : List Element) → Acts i env es (state_of old) out more → ⊥
+ActsAs i env es old progress.OutOfRange new_elements new = Unit {0}
+
+-- A result tells what was done. Of the faults, "stuck" tells that nothing could be; the others tell nothing.
+abbrev pub Tells : {A : Type 0} → (A → Type 0) → Type 0 → Result A Fault → Type 0
+Tells Done Stuck (Ok a) = Done a
+Tells Done Stuck (Err faults.Stuck) = Stuck
+Tells Done Stuck (Err faults.Memory) = Unit {0}
+Tells Done Stuck (Err faults.OutOfRange) = Unit {0}
+Tells Done Stuck (Err faults.Early) = Unit {0}
+
+-- an instruction was a step of the run, or there is none
+abbrev pub InsnStepsAs : Insn → maps.Store → List Section → machine.Run → Result Answer Fault → maps.Store → machine.Run → Type 0
+InsnStepsAs i s opened run answer new_store new_run =
+    Tells (λ a. InsnStep i s opened run a new_store new_run) ((a : Answer) (t : maps.Store) (q : machine.Run) → InsnStep i s opened run a t q → ⊥) answer
+
+-- the run made a step, or has none
+abbrev pub RunStepsAs : maps.Store → List Section → machine.Run → Result Answer Fault → maps.Store → machine.Run → Type 0
+RunStepsAs s opened run answer new_store new_run =
+    Tells (λ a. RunStep s opened run a new_store new_run) ((a : Answer) (t : maps.Store) (q : machine.Run) → RunStep s opened run a t q → ⊥) answer
+
+-- the machine made a step, or has none
+abbrev pub DoesAs : machine.Machine → Event → Result Answer Fault → machine.Machine → Type 0
+DoesAs m event answer new = Tells (λ a. Does m event a new) ((a : Answer) (next : machine.Machine) → Does m event a next → ⊥) answer
+
+-- an instruction other than a call was a step of the run, or there is none
+abbrev pub AloneStep : Insn → maps.Store → machine.Run → Answer → maps.Store → machine.Run → Type 0
+AloneStep i s run answer new_store new_run =
+    (out : Outcome) × (es : List Element) × Acts i (machine.environment run) s.elements run.state out es × (new_store ≡ maps.with_elements es s) × Ends out run answer new_run
+
+abbrev pub AloneAs : Insn → maps.Store → machine.Run → Result Answer Fault → maps.Store → machine.Run → Type 0
+AloneAs i s run answer new_store new_run =
+    Tells (λ a. AloneStep i s run a new_store new_run) ((a : Answer) (t : maps.Store) (q : machine.Run) → AloneStep i s run a t q → ⊥) answer
+
+-- the run of a slot made a step, or has none
+abbrev pub SlotStep : maps.Store → List Section → Option machine.Run → Answer → maps.Store → Option machine.Run → Type 0
+SlotStep s opened None answer new_store new = ⊥
+SlotStep s opened (Some run) answer new_store new = (new_run : machine.Run) × (new ≡ Some new_run) × RunStep s opened run answer new_store new_run
+
+abbrev pub SlotStepsAs : maps.Store → List Section → Option machine.Run → Result Answer Fault → maps.Store → Option machine.Run → Type 0
+SlotStepsAs s opened old answer new_store new =
+    Tells (λ a. SlotStep s opened old a new_store new) ((a : Answer) (t : maps.Store) (q : Option machine.Run) → SlotStep s opened old a t q → ⊥) answer

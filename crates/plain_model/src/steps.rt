@@ -1,0 +1,347 @@
+//! One step of a run in the whole machine.
+ghost use Rattle.std.specs.Prelude.{◌≡◌, ℕ, ◌+◌, ◌^◌, ◌<◌, ◌×◌, Some, None, List, length};
+ghost use Rattle.bpf_model.specs.declared.value.Value.{Value};
+ghost use Rattle.bpf_model.specs.declared.insn.Insn.TheVariants as insns;
+ghost use Rattle.bpf_model.specs.declared.insn.CallKind.TheVariants as kinds;
+ghost use Rattle.bpf_model.specs.declared.call.KernelFunction.TheVariants as functions;
+ghost use Rattle.bpf_model.specs.Call.{ret_word as ret_word_of, helper_of};
+ghost use Rattle.bpf_model.specs.Machine.{Loaded as ModelLoaded, Run as ModelRun, moves};
+ghost use Rattle.bpf_model.specs.MapState.{Store as ModelStore, shape_of};
+ghost use Rattle.bpf_model.specs.MachineStep.{KernelStep, LookupStep, UpdateStep, DeleteStep, HelperStep, map_argument as map_argument_of, key_argument, frame_bytes as frame_bytes_of, returns as returns_of};
+ghost use Rattle.bpf_model.specs.Section.{Section as ModelSection};
+ghost use Rattle.plain_interpreter.specs.Plain.{state_of};
+ghost use Rattle.plain_model.specs.State.{store_of, sections_of, loaded_of, run_with};
+ghost use Rattle.plain_model.specs.Acting.{Tells, InsnStepsAs, RunStepsAs};
+ghost use Rattle.bpf_model.specs.MachineStep.{bytes_at as bytes_of};
+ghost use Rattle.std.specs.Prelude.{◌≤◌};
+ghost use Rattle.plain_model.specs.Placing.{IsPlace};
+ghost use Rattle.plain_model.specs.Acting.{AloneAs};
+
+use crate::run::{Run, act};
+use crate::store::{Section, Store};
+use arrayvec::ArrayVec;
+use bpf_model::{
+    Answer, CallKind, Cell, Errno, Helper, Insn, KernelFunction, KeyBytes, MAX_DEPTH, MapShape, Reference,
+    Reg, Value, ValueBytes,
+};
+use plain_interpreter::{PlainRun, Progress, insn_at, number};
+use std::alloc::{AllocError, Global};
+
+/// Why an event got no answer. After that the machine is of no use.
+#[derive(Clone, Copy, Debug, PartialEq, Eq)]
+pub enum Fault {
+    /// The machine has no step: the run is stuck.
+    Stuck,
+    /// Memory was refused.
+    Memory,
+    /// A count would leave 64 bits, or an offset: the machine has a step there, which this model cannot make.
+    OutOfRange,
+    /// The element that is next to be reclaimed is still within its grace period: the lists are wrong.
+    Early,
+}
+
+/// A program as it was loaded: its instructions, the maps of the registry that its own list names, and the
+/// length of its context.
+#[derive(Drop)]
+pub struct Loaded {
+    pub code: Vec<Insn>,
+    pub maps: Vec<usize>,
+    pub context_len: usize,
+}
+
+impl From<AllocError> for Fault {
+    ghost use Rattle.std.specs.Prelude.{◌≡◌};
+    ghost use Rattle.plain_model.specs.declared.steps.Fault.TheVariants.{Memory};
+
+    ghost from_gives = { λ _ e. e ≡ Memory };
+
+    fn from(_: AllocError) -> Fault {
+        Fault::Memory
+    }
+}
+
+/// One more, of a count of 64 bits.
+pub(crate) fn one_more(count: u64) -> Result<u64, Fault>
+    ensures { Tells (λ n. n ≡ count + 1) ⊥ result }
+{
+    match count.checked_add(1) {
+        Some(n) => Ok(n),
+        None => Err(Fault::OutOfRange),
+    }
+}
+
+/// What a helper leaves in r0: 0, or the error as a negative number.
+fn ret_word(ret: Result<(), Errno>) -> u64
+    ensures { result ≡ ret_word_of ret }
+{
+    match ret {
+        Ok(()) => 0,
+        Err(errno) => u64::from(errno.number()).wrapping_neg(),
+    }
+}
+
+/// After a call r0 is its result and r1 to r5 hold nothing.
+fn returns(run: &mut Run, value: Value) -> Result<(), Fault>
+    requires { (state_of run.old.state).place < 2 ^ 40 }
+    ensures moves { (program : ModelLoaded) → Tells (λ _. run_with program run.new ≡ moves (run_with program run.old) (returns_of value (state_of run.old.state))) ⊥ result }
+    ensures program { run.new.program ≡ run.old.program }
+{
+    run.moved = one_more(run.moved)?;
+    run.state.return_from_call(value);
+    Ok(())
+}
+
+/// The outermost lock opens a section.
+fn read_lock(run: &mut Run) -> Result<(), Fault>
+    requires { (state_of run.old.state).place < 2 ^ 40 }
+    ensures locks { (program : ModelLoaded) → Tells (λ _. KernelStep (Some functions.ReadLock) (run_with program run.old) (run_with program run.new)) ((q : ModelRun) → KernelStep (Some functions.ReadLock) (run_with program run.old) q → ⊥) result }
+    ensures program { run.new.program ≡ run.old.program }
+{
+    if run.depth >= MAX_DEPTH {
+        return Err(Fault::Stuck);
+    }
+    if run.depth == 0 {
+        run.locks = one_more(run.locks)?;
+    }
+    run.depth += 1;
+    returns(run, Value::Nothing)
+}
+
+/// An unlock leaves the innermost section that is open.
+fn read_unlock(run: &mut Run) -> Result<(), Fault>
+    requires { (state_of run.old.state).place < 2 ^ 40 }
+    ensures unlocks { (program : ModelLoaded) → Tells (λ _. KernelStep (Some functions.ReadUnlock) (run_with program run.old) (run_with program run.new)) ((q : ModelRun) → KernelStep (Some functions.ReadUnlock) (run_with program run.old) q → ⊥) result }
+    ensures program { run.new.program ≡ run.old.program }
+{
+    if run.depth == 0 {
+        return Err(Fault::Stuck);
+    }
+    run.depth -= 1;
+    returns(run, Value::Nothing)
+}
+
+/// A lock or an unlock.
+fn call_kernel(run: &mut Run, imm: i32) -> Result<Answer, Fault>
+    requires { (state_of run.old.state).place < 2 ^ 40 }
+    ensures steps { (program : ModelLoaded) (s : ModelStore) (opened : List ModelSection) → InsnStepsAs (insns.Call kinds.Kernel imm) s opened (run_with program run.old) result s (run_with program run.new) }
+    ensures program { run.new.program ≡ run.old.program }
+{
+    match KernelFunction::from_number(imm) {
+        Some(KernelFunction::ReadLock) => read_lock(run)?,
+        Some(KernelFunction::ReadUnlock) => read_unlock(run)?,
+        None => return Err(Fault::Stuck),
+    }
+    Ok(Answer::Moved)
+}
+
+/// The map that the reference in r1 names.
+fn map_argument(run: &Run, program: &Loaded) -> Option<usize>
+    ensures { result ≡ map_argument_of (run_with (loaded_of program.now) run.now) }
+{
+    match run.state.register(Reg::R1) {
+        Value::Pointer(Reference::MapRef(i)) => match program.maps.get(i) {
+            Some(map) => Some(*map),
+            None => None,
+        },
+        _ => None,
+    }
+}
+
+/// So many bytes of the frame from a place on.
+fn bytes_at<const N: usize>(run: &PlainRun, at: usize, len: usize) -> Result<ArrayVec<u8, N>, Fault>
+    requires { at + len ≤ 512 }
+    ensures { Tells (λ bytes. bytes_of (state_of run.now).frame at len ≡ Some bytes.items) (bytes_of (state_of run.now).frame at len ≡ None) result }
+{
+    let mut bytes = ArrayVec::new();
+    for k in 0..len {
+        let Cell::Byte(byte) = run.cell(at + k) else {
+            return Err(Fault::Stuck);
+        };
+        if bytes.try_push(byte).is_err() {
+            return Err(Fault::OutOfRange);
+        }
+    }
+    Ok(bytes)
+}
+
+/// The bytes of a key or a value, by a reference to the frame.
+fn frame_bytes<const N: usize>(run: &PlainRun, len: usize, value: Value) -> Result<ArrayVec<u8, N>, Fault>
+    ensures { Tells (λ bytes. frame_bytes_of (state_of run.now).frame len value ≡ Some bytes.items) (frame_bytes_of (state_of run.now).frame len value ≡ None) result }
+{
+    let Value::Pointer(Reference::Frame(o)) = value else {
+        return Err(Fault::Stuck);
+    };
+    if o < 0 || o > 512 || len > 512 || o as usize + len > 512 {
+        return Err(Fault::Stuck);
+    }
+    bytes_at(run, o as usize, len)
+}
+
+/// The map and the key that a helper was called with, and the map's shape.
+#[derive(Drop)]
+struct Place {
+    map: usize,
+    shape: MapShape,
+    key: KeyBytes,
+}
+
+fn place_argument(run: &Run, program: &Loaded, store: &Store) -> Result<Place, Fault>
+    ensures { Tells (IsPlace (store_of store.now) (run_with (loaded_of program.now) run.now)) ((map : ℕ) (key : List ℕ) → map_argument_of (run_with (loaded_of program.now) run.now) ≡ Some map → key_argument (store_of store.now) (run_with (loaded_of program.now) run.now) map ≡ Some key → ⊥) result }
+{
+    let Some(map) = map_argument(run, program) else {
+        return Err(Fault::Stuck);
+    };
+    let Some(shape) = store.shape(map) else {
+        return Err(Fault::Stuck);
+    };
+    let key = frame_bytes(&run.state, shape.key_len, run.state.register(Reg::R2))?;
+    Ok(Place { map, shape, key })
+}
+
+fn lookup(run: &Run, program: &Loaded, store: &Store) -> Result<Value, Fault>
+    ensures { Tells (LookupStep (store_of store.now) (run_with (loaded_of program.now) run.now)) ((ret : Value) → LookupStep (store_of store.now) (run_with (loaded_of program.now) run.now) ret → ⊥) result }
+{
+    let place = place_argument(run, program, store)?;
+    match store.lookup(place.map, place.key.as_slice()) {
+        Some(n) => Ok(Value::Pointer(Reference::Elem(n, 0))),
+        None => Ok(Value::Number(0)),
+    }
+}
+
+fn update(
+    alloc: Global,
+    run: &Run,
+    program: &Loaded,
+    store: &mut Store,
+    opened: &[Section],
+) -> Result<Value, Fault>
+    ensures { Tells (λ ret. UpdateStep (store_of store.old) (sections_of opened.now) (run_with (loaded_of program.now) run.now) ret (store_of store.new)) ((ret : Value) (t : ModelStore) → UpdateStep (store_of store.old) (sections_of opened.now) (run_with (loaded_of program.now) run.now) ret t → ⊥) result }
+{
+    let place = place_argument(run, program, store)?;
+    let value: ValueBytes = frame_bytes(&run.state, place.shape.value_len, run.state.register(Reg::R3))?;
+    let Some(flags) = number(run.state.register(Reg::R4)) else {
+        return Err(Fault::Stuck);
+    };
+    let outcome = store.update(alloc, opened, place.map, place.key, value, flags)?;
+    Ok(Value::Number(ret_word(outcome)))
+}
+
+fn delete(
+    alloc: Global,
+    run: &Run,
+    program: &Loaded,
+    store: &mut Store,
+    opened: &[Section],
+) -> Result<Value, Fault>
+    ensures { Tells (λ ret. DeleteStep (store_of store.old) (sections_of opened.now) (run_with (loaded_of program.now) run.now) ret (store_of store.new)) ((ret : Value) (t : ModelStore) → DeleteStep (store_of store.old) (sections_of opened.now) (run_with (loaded_of program.now) run.now) ret t → ⊥) result }
+{
+    let place = place_argument(run, program, store)?;
+    let outcome = store.delete(alloc, opened, place.map, place.key.as_slice())?;
+    Ok(Value::Number(ret_word(outcome)))
+}
+
+/// What a helper answers, and does to the maps.
+fn helper_value(
+    alloc: Global,
+    run: &Run,
+    program: &Loaded,
+    store: &mut Store,
+    opened: &[Section],
+    imm: i32,
+) -> Result<Value, Fault>
+    ensures { Tells (λ ret. HelperStep (helper_of imm) (store_of store.old) (sections_of opened.now) (run_with (loaded_of program.now) run.now) ret (store_of store.new)) ((ret : Value) (t : ModelStore) → HelperStep (helper_of imm) (store_of store.old) (sections_of opened.now) (run_with (loaded_of program.now) run.now) ret t → ⊥) result }
+{
+    match Helper::from_number(imm) {
+        Some(Helper::Lookup) => lookup(run, program, store),
+        Some(Helper::Update) => update(alloc, run, program, store, opened),
+        Some(Helper::Delete) => delete(alloc, run, program, store, opened),
+        None => Err(Fault::Stuck),
+    }
+}
+
+fn call_helper(
+    alloc: Global,
+    run: &mut Run,
+    program: &Loaded,
+    store: &mut Store,
+    opened: &[Section],
+    imm: i32,
+) -> Result<Answer, Fault>
+    requires { (state_of run.old.state).place < 2 ^ 40 }
+    ensures steps { InsnStepsAs (insns.Call kinds.Helper imm) (store_of store.old) (sections_of opened.now) (run_with (loaded_of program.now) run.old) result (store_of store.new) (run_with (loaded_of program.now) run.new) }
+    ensures program { run.new.program ≡ run.old.program }
+{
+    let value = helper_value(alloc, run, program, store, opened, imm)?;
+    returns(run, value)?;
+    Ok(Answer::Moved)
+}
+
+/// An instruction other than a call.
+fn step_alone(run: &mut Run, program: &Loaded, store: &mut Store, insn: &Insn) -> Result<Answer, Fault>
+    requires { (state_of run.old.state).place < 2 ^ 40 }
+    ensures steps { AloneAs insn.now (store_of store.old) (run_with (loaded_of program.now) run.old) result (store_of store.new) (run_with (loaded_of program.now) run.new) }
+    ensures program { run.new.program ≡ run.old.program }
+{
+    match act(&mut run.state, store, run.context.as_slice(), program.maps.len(), insn) {
+        Progress::Moved => {
+            run.moved = one_more(run.moved)?;
+            Ok(Answer::Moved)
+        }
+        Progress::Exited(n) => {
+            if run.depth == 0 {
+                run.exit = Some(n);
+                Ok(Answer::Exited(n))
+            } else {
+                Err(Fault::Stuck)
+            }
+        }
+        Progress::Stuck => Err(Fault::Stuck),
+        Progress::OutOfRange => Err(Fault::OutOfRange),
+    }
+}
+
+fn step_insn(
+    alloc: Global,
+    run: &mut Run,
+    program: &Loaded,
+    store: &mut Store,
+    opened: &[Section],
+    insn: &Insn,
+) -> Result<Answer, Fault>
+    requires { (state_of run.old.state).place < 2 ^ 40 }
+    ensures steps { InsnStepsAs insn.now (store_of store.old) (sections_of opened.now) (run_with (loaded_of program.now) run.old) result (store_of store.new) (run_with (loaded_of program.now) run.new) }
+    ensures program { run.new.program ≡ run.old.program }
+{
+    match insn {
+        Insn::Call {
+            kind: CallKind::Kernel,
+            imm,
+        } => call_kernel(run, *imm),
+        Insn::Call {
+            kind: CallKind::Helper,
+            imm,
+        } => call_helper(alloc, run, program, store, opened, *imm),
+        _ => step_alone(run, program, store, insn),
+    }
+}
+
+/// A step of a run: that of the instruction that begins at its place.
+pub(crate) fn step_run(
+    alloc: Global,
+    run: &mut Run,
+    program: &Loaded,
+    store: &mut Store,
+    opened: &[Section],
+) -> Result<Answer, Fault>
+    ensures steps { RunStepsAs (store_of store.old) (sections_of opened.now) (run_with (loaded_of program.now) run.old) result (store_of store.new) (run_with (loaded_of program.now) run.new) }
+    ensures program { run.new.program ≡ run.old.program }
+{
+    let place = run.state.place();
+    if place >= 1 << 40 {
+        return Err(Fault::OutOfRange);
+    }
+    match insn_at(program.code.as_slice(), place) {
+        Some(insn) => step_insn(alloc, run, program, store, opened, insn),
+        None => Err(Fault::Stuck),
+    }
+}
