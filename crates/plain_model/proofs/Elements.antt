@@ -43,3 +43,9 @@ born-found opened es more new x n h e f = f ∙ ap (λ l. unlinked opened l (Som
 
 pub within : (es : List Element) (map : ℕ) (key : List ℕ) (n : ℕ) → IsLinkedAt es map key n → n < length es
 within es map key n l = slice_get_within es n l.element l.born
+
+pub one-element : (es : List Element) (map : ℕ) (key : List ℕ) (n : ℕ) (e : Element) (l : IsLinkedAt es map key n) → slice_get es n ≡ Some e → e.value ≡ l.element.value
+one-element es map key n e l h =
+    let p : Some e ≡ Some l.element = sym h ∙ l.born in
+    let q : e ≡ l.element = cc in
+    ap (λ x. x.value) q

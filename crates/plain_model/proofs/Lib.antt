@@ -1,4 +1,13 @@
+pub mod Telling
 pub mod Lists
 pub mod Elements
 pub mod Births
+pub mod Sections
+pub mod Runs
+pub mod Events
+pub mod Starts
+pub mod Bytes
+pub mod Acting
+pub mod Stores
+pub mod Accesses
 pub mod Reclaims

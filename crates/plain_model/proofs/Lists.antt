@@ -1,7 +1,11 @@
 -- Facts about lists.
-use Rattle.std.proofs.Common.{◌≡◌, ℕ, zero, suc, ◌<◌, ◌≤◌, List, [], ◌∷◌, ◌++◌, length, Some, None, refl, sym, ap, ◌∙◌, arith, map}
+use Rattle.std.proofs.Common.{◌≡◌, ℕ, zero, suc, ◌+◌, ◌<◌, ◌≤◌, List, [], ◌∷◌, ◌++◌, length, Some, None, refl, sym, ap, ◌∙◌, arith, map}
 use Rattle.std.specs.Prelude.{slice_get, slice_set, slice_index_or, remove, drop}
-use Rattle.std.proofs.lemmas.Option.{slice_get-get_or}
+use Rattle.std.specs.Prelude.{replicate}
+use Rattle.std.specs.List.{AllZip}
+use Rattle.std.proofs.lemmas.Slice.Zip.{AllZip-map}
+use Rattle.std.proofs.lemmas.List.{replicate-append-replicate}
+use Rattle.std.proofs.lemmas.Option.{slice_get-get_or, slice_get_within}
 
 pub map-slice_set : {A B : Type 0} (f : A → B) (xs : List A) (i : ℕ) (x : A) → map f (slice_set xs i x) ≡ slice_set (map f xs) i (f x)
 map-slice_set f [] i x = refl
@@ -46,3 +50,17 @@ set-same (y ∷ xs) (suc i) x h = ap (λ l. y ∷ l) (set-same xs i x h)
 pub first-of : {A : Type 0} (xs : List A) → 0 < length xs → (x : A) × (rest : List A) × (xs ≡ x ∷ rest)
 first-of [] h = absurd (omega arith)
 first-of (x ∷ xs) h = (x, xs, refl)
+
+pub get-within : {A : Type 0} (xs : List A) (i : ℕ) (x : A) → slice_get xs i ≡ Some x → i < length xs
+get-within xs i x h = slice_get_within xs i x h
+
+-- what was cloned is the same
+map-self : (xs : List ℕ) → map (λ x. x) xs ≡ xs
+map-self [] = refl
+map-self (x ∷ xs) = ap (λ l. x ∷ l) (map-self xs)
+
+pub cloned : (xs ys : List ℕ) → AllZip (λ x y. y ≡ x) xs ys → ys ≡ xs
+cloned xs ys h = AllZip-map (λ x. x) xs ys h ∙ map-self xs
+
+pub replicate-more : (n : ℕ) (x : ℕ) → replicate n x ++ x ∷ [] ≡ replicate (n + 1) x
+replicate-more n x = replicate-append-replicate n 1 x

@@ -1,18 +1,25 @@
 -- What the plain model's steps tell, by what they answer.
 use Rattle.std.specs.Prelude.{◌≡◌, ℕ, List, Option, Some, None, Result, Ok, Err, ℤ}
 use Rattle.bpf_model.specs.declared.insn.Insn.{Insn}
-use Rattle.bpf_model.specs.declared.insn.Insn.TheVariants.{Load, LoadSigned, Store, StoreRegister}
+use Rattle.bpf_model.specs.declared.insn.Insn.TheVariants.{Call, Load, LoadSigned, Store, StoreRegister}
+use Rattle.bpf_model.specs.declared.insn.CallKind.{CallKind}
 use Rattle.bpf_model.specs.declared.value.Value.{Value}
 use Rattle.bpf_model.specs.declared.value.Value.TheVariants.{Nothing, Number, Pointer}
 use Rattle.bpf_model.specs.declared.value.Reference.TheVariants.{Ctx, Frame, MapRef, Elem}
 use Rattle.bpf_model.specs.declared.event.Event.{Event}
 use Rattle.bpf_model.specs.declared.event.Answer.{Answer}
+use Rattle.bpf_model.specs.declared.event.Answer.TheVariants.{Moved}
+use Rattle.bpf_model.specs.declared.call.KernelFunction.{KernelFunction}
 use Rattle.bpf_model.specs.Element.{Element}
 use Rattle.bpf_model.specs.Section.{Section}
 use Rattle.bpf_model.specs.Machine as machine
 use Rattle.bpf_model.specs.MapState as maps
-use Rattle.bpf_model.specs.Step.{State, Environment, Outcome, Moves, Exits, forward}
-use Rattle.bpf_model.specs.MachineStep.{Acts, Ends, InsnStep, RunStep}
+use Rattle.bpf_model.specs.declared.opcode.SignedWidth.{SignedWidth}
+use Rattle.bpf_model.specs.Value.{◌>>=◌}
+use Rattle.bpf_model.specs.Access.{byte_count, unsigned_width}
+use Rattle.bpf_model.specs.Arithmetic.{loaded_signed}
+use Rattle.bpf_model.specs.Step.{State, Environment, Outcome, Moves, Exits, forward, sets}
+use Rattle.bpf_model.specs.MachineStep.{element_load, KernelStep, Acts, Ends, InsnStep, RunStep}
 use Rattle.bpf_model.specs.Event.{Does}
 use Rattle.plain_interpreter.specs.declared.plain_run.PlainRun.{PlainRun}
 use Rattle.plain_interpreter.specs.declared.plain_run.Progress.{Progress}
@@ -38,6 +45,13 @@ base_element (Store width dst offset imm) m = element_in (m.regs dst)
 base_element (StoreRegister width dst src offset) m = element_in (m.regs dst)
 base_element _ m = None
 
+-- what a load leaves, and one that extends a sign
+abbrev pub load_outcome : List Element → ℕ → ℤ → Value → ℕ → State → Option Outcome
+load_outcome es width offset base dst m = element_load es width offset base >>= λ n. sets 1 dst (Number n) m
+
+abbrev pub extended_outcome : List Element → SignedWidth → ℤ → Value → ℕ → State → Option Outcome
+extended_outcome es width offset base dst m = element_load es (byte_count (unsigned_width width)) offset base >>= λ n. sets 1 dst (Number (loaded_signed width n)) m
+
 -- a store to an element was made, or could not be
 abbrev pub StoresAs : Option (List Element) → PlainRun → Progress → List Element → PlainRun → Type 0
 StoresAs o old progress.Moved new_elements new = (o ≡ Some new_elements) × (state_of new ≡ forward 1 (state_of old))
@@ -58,6 +72,15 @@ Tells Done Stuck (Err faults.Stuck) = Stuck
 Tells Done Stuck (Err faults.Memory) = Unit {0}
 Tells Done Stuck (Err faults.OutOfRange) = Unit {0}
 Tells Done Stuck (Err faults.Early) = Unit {0}
+
+-- the call that an instruction is
+abbrev pub call_in : Insn → Option (CallKind × ℤ)
+call_in (Call kind imm) = Some (kind, imm)
+call_in _ = None
+
+-- a lock or an unlock was made, or could not be
+abbrev pub KernelsAs : Option KernelFunction → machine.Run → Result Answer Fault → machine.Run → Type 0
+KernelsAs function old answer new = Tells (λ a. KernelStep function old new × (a ≡ Moved)) ((q : machine.Run) → KernelStep function old q → ⊥) answer
 
 -- an instruction was a step of the run, or there is none
 abbrev pub InsnStepsAs : Insn → maps.Store → List Section → machine.Run → Result Answer Fault → maps.Store → machine.Run → Type 0

@@ -1,15 +1,14 @@
 //! The whole machine: runs, events, and the runtime's own choices.
-ghost use Rattle.std.specs.Prelude.{ℕ, ◌≡◌, ◌+◌, ◌≤◌, ◌<◌, ◌×◌, Some, None, IfOk, List, length, map};
+ghost use Rattle.std.specs.Prelude.{ℕ, ◌≡◌, ◌∷◌, ◌++◌, Some, None, IfOk, List, length, map};
 ghost use Rattle.bpf_model.specs.declared.event.Event.TheVariants as events;
-ghost use Rattle.bpf_model.specs.declared.event.EventRefusal.{EventRefusal as ModelRefusal};
-ghost use Rattle.bpf_model.specs.declared.event.Answer.{Answer as ModelAnswer};
-ghost use Rattle.bpf_model.specs.Event.{start_refusal as start_refusal_of, step_refusal as step_refusal_of, drop_refusal as drop_refusal_of, key_refusal as key_refusal_of, update_refusal as update_refusal_of};
+ghost use Rattle.bpf_model.specs.Event.{step_refusal as step_refusal_of, drop_refusal as drop_refusal_of, key_refusal as key_refusal_of, update_refusal as update_refusal_of};
 ghost use Rattle.bpf_model.specs.MapState.{shape_of};
 ghost use Rattle.bpf_model.specs.Machine.{run_at, open_sections as open_sections_of, lowest_free as lowest_free_of};
 ghost use Rattle.std.specs.Option.{option_map};
 ghost use Rattle.bpf_model.specs.Schedule.{turned, is_open};
 ghost use Rattle.plain_model.specs.State.{store_of, queues_of, sections_of, loaded_of, run_of, runs_of, machine_of};
-ghost use Rattle.plain_model.specs.Acting.{Tells, DoesAs};
+ghost use Rattle.plain_model.specs.declared.steps.Loaded.{Loaded as PlainLoaded};
+ghost use Rattle.plain_model.specs.Acting.{DoesAs};
 ghost use Rattle.bpf_model.specs.Schedule.{start_schedule};
 ghost use Rattle.plain_model.specs.State.{schedule_of};
 ghost use Rattle.std.specs.Prelude.{[]};
@@ -20,8 +19,8 @@ use crate::run::Run;
 use crate::steps::{Fault, Loaded, one_more, step_run};
 use crate::store::{Element, Section, Store};
 use bpf_model::{
-    Answer, CtxBytes, Event, EventRefusal, KeyBytes, MAX_RUNS, MapId, MapShape, ProgId, ReapedElement,
-    RunId, ValueBytes,
+    Answer, CtxBytes, Event, EventRefusal, KeyBytes, MAX_RUNS, MapId, MapShape, ProgId,
+    ReapedElement, RunId, ValueBytes,
 };
 use std::alloc::{AllocError, Global};
 
@@ -165,7 +164,11 @@ impl Machine {
         let mut maps = Vec::new(self.alloc);
         for n in 0..self.store.elements.len() {
             let element = &self.store.elements[n];
-            maps.push(if element.life.is_linked() { Some(element.map) } else { None })?;
+            maps.push(if element.life.is_linked() {
+                Some(element.map)
+            } else {
+                None
+            })?;
         }
         Ok(maps)
     }
@@ -175,14 +178,12 @@ impl Machine {
     fn settle(&mut self, before: &[Option<usize>]) -> Result<(), AllocError>
         ensures machine { machine_of self.new ≡ machine_of self.old }
     {
-        for k in 0..self.queues.len() {
-            retire(&mut self.queues[k], k, before, self.store.elements.as_slice())?;
-        }
-        for r in 0..self.awaited.len() {
-            if r < self.runs.len() && !is_inside(&self.runs[r]) {
-                self.awaited[r] = false;
-            }
-        }
+        retire_all(
+            self.queues.as_mut_slice(),
+            before,
+            self.store.elements.as_slice(),
+        )?;
+        self.awaited = still_open(self.alloc, self.awaited.as_slice(), self.runs.as_slice())?;
         Ok(())
     }
 
@@ -192,14 +193,7 @@ impl Machine {
     {
         let mut sections = Vec::new(self.alloc);
         for r in 0..self.runs.len() {
-            if let Some(run) = &self.runs[r] {
-                if 0 < run.depth {
-                    sections.push(Section {
-                        run: run.name,
-                        lock: run.locks,
-                    })?;
-                }
-            }
+            push_section(&mut sections, &self.runs[r])?;
         }
         Ok(sections)
     }
@@ -305,9 +299,14 @@ impl Machine {
             Some(refusal) => Ok(Answer::Refused(refusal)),
             None => {
                 let opened = self.open_sections()?;
-                let ret = self
-                    .store
-                    .update(self.alloc, opened.as_slice(), map.index(), key, value, flags)?;
+                let ret = self.store.update(
+                    self.alloc,
+                    opened.as_slice(),
+                    map.index(),
+                    key,
+                    value,
+                    flags,
+                )?;
                 Ok(Answer::Ret(ret))
             }
         }
@@ -334,52 +333,37 @@ impl Machine {
         if let Some(refusal) = self.key_refusal(map.index(), key.len(), None) {
             return Ok(Answer::Refused(refusal));
         }
-        match self.store.read(map.index(), key.as_slice())? {
-            Some(value) => Ok(Answer::Found(Some(value))),
-            None => Ok(Answer::Found(None)),
-        }
+        let found = self.store.read(map.index(), key.as_slice())?;
+        Ok(Answer::Found(found))
     }
 
     /// Where no run is awaited a grace period ends and the next begins.
     fn advance(&mut self) -> Result<(), AllocError>
         ensures machine { machine_of self.new ≡ machine_of self.old }
     {
-        for r in 0..self.awaited.len() {
-            if self.awaited[r] {
-                return Ok(());
-            }
+        if is_any(self.awaited.as_slice()) {
+            return Ok(());
         }
-        for k in 0..self.queues.len() {
-            turn(&mut self.queues[k])?;
-        }
-        for r in 0..self.awaited.len() {
-            self.awaited[r] = r < self.runs.len() && is_inside(&self.runs[r]);
-        }
+        let awaited = open_flags(self.alloc, self.runs.as_slice())?;
+        turn_all(self.queues.as_mut_slice())?;
+        self.awaited = awaited;
         Ok(())
-    }
-
-    /// The first ready birth of the lowest map that has one, and that map.
-    fn first_ready(&self) -> Option<(usize, usize)> {
-        for k in 0..self.queues.len() {
-            if let Some(n) = self.queues[k].ready.first() {
-                return Some((k, *n));
-            }
-        }
-        None
     }
 
     fn reap(&mut self) -> Result<Answer, Fault>
         ensures { DoesAs (machine_of self.old) events.Reap result (machine_of self.new) }
     {
-        let Some((k, n)) = self.first_ready() else {
+        let Some(n) = first_ready(self.queues.as_slice()) else {
             return Ok(Answer::Reaped(None));
         };
         let opened = self.open_sections()?;
-        let element = self.store.reclaim(n, opened.as_slice())?;
-        if k < self.queues.len() && !self.queues[k].ready.is_empty() {
-            let _ = self.queues[k].ready.remove(0);
+        match self.store.reclaim(n, opened.as_slice()) {
+            Ok(element) => {
+                take_first(self.queues.as_mut_slice());
+                Ok(Answer::Reaped(Some(element)))
+            }
+            Err(fault) => Err(fault),
         }
-        Ok(Answer::Reaped(Some(element)))
     }
 
     /// Why a drop of this run is refused.
@@ -402,9 +386,10 @@ impl Machine {
         if let Some(refusal) = self.drop_refusal(r) {
             return Ok(Answer::Refused(refusal));
         }
-        if r < self.runs.len() {
-            self.runs[r] = None;
+        if r >= self.runs.len() {
+            return Err(Fault::OutOfRange);
         }
+        self.runs[r] = None;
         Ok(Answer::Done)
     }
 }
@@ -437,6 +422,94 @@ fn step_slot(
             step_run(alloc, run, &programs[run.program], store, opened)
         }
         None => Err(Fault::OutOfRange),
+    }
+}
+
+/// The section of the slot's run, where it is inside one.
+fn push_section(sections: &mut Vec<Section>, slot: &Option<Run>) -> Result<(), AllocError>
+    ensures { (programs : List PlainLoaded) → OnOk result (sections_of sections.new.items ≡ sections_of sections.old.items ++ open_sections_of (option_map (run_of programs) slot.now ∷ [])) }
+{
+    if let Some(run) = slot {
+        if 0 < run.depth {
+            sections.push(Section {
+                run: run.name,
+                lock: run.locks,
+            })?;
+        }
+    }
+    Ok(())
+}
+
+/// For each run slot whether its run is inside a section.
+fn open_flags(alloc: Global, runs: &[Option<Run>]) -> Result<Vec<bool>, AllocError> {
+    let mut flags = Vec::new(alloc);
+    for r in 0..runs.len() {
+        flags.push(is_inside(&runs[r]))?;
+    }
+    Ok(flags)
+}
+
+/// The flags of those that are inside a section still.
+fn still_open(
+    alloc: Global,
+    awaited: &[bool],
+    runs: &[Option<Run>],
+) -> Result<Vec<bool>, AllocError> {
+    let mut flags = Vec::new(alloc);
+    for r in 0..awaited.len() {
+        if r < runs.len() {
+            flags.push(awaited[r] && is_inside(&runs[r]))?;
+        }
+    }
+    Ok(flags)
+}
+
+/// Whether any flag is set.
+fn is_any(flags: &[bool]) -> bool {
+    for r in 0..flags.len() {
+        if flags[r] {
+            return true;
+        }
+    }
+    false
+}
+
+/// The births that were linked and are unlinked now go to the ends of their maps' lists next.
+fn retire_all(
+    queues: &mut [Queues],
+    before: &[Option<usize>],
+    elements: &[Element],
+) -> Result<(), AllocError> {
+    for k in 0..queues.len() {
+        retire(&mut queues[k], k, before, elements)?;
+    }
+    Ok(())
+}
+
+fn turn_all(queues: &mut [Queues]) -> Result<(), AllocError> {
+    for k in 0..queues.len() {
+        turn(&mut queues[k])?;
+    }
+    Ok(())
+}
+
+/// The first ready birth of the lowest map that has one.
+fn first_ready(queues: &[Queues]) -> Option<usize> {
+    for k in 0..queues.len() {
+        if let Some(n) = queues[k].ready.first() {
+            return Some(*n);
+        }
+    }
+    None
+}
+
+/// That birth is ready no more.
+fn take_first(queues: &mut [Queues]) {
+    for k in 0..queues.len() {
+        if !queues[k].ready.is_empty() {
+            let _ = queues[k].ready.remove(0);
+            return;
+        }
     }
 }
 

@@ -1,6 +1,6 @@
 //! The programs that the tests run.
 
-use crate::machine::Loaded;
+use crate::steps::Loaded;
 use bpf_model::{AluOp, CallKind, Condition, Insn, Operand, Reg, Size, Width};
 use std::alloc::{AllocError, Global};
 

@@ -1,19 +1,13 @@
 //! One run, and its accesses to elements.
-ghost use Rattle.std.specs.Prelude.{◌≡◌, ℕ, ◌^◌, ◌<◌, ◌+ℤ◌, Some, Option, List};
-ghost use Rattle.bpf_model.specs.declared.value.Value.{Value};
-ghost use Rattle.bpf_model.specs.declared.value.Value.TheVariants.{Number, Pointer};
+ghost use Rattle.std.specs.Prelude.{◌≡◌, ℕ, ◌^◌, ◌<◌, ◌≤◌, Some, List, length};
+ghost use Rattle.bpf_model.specs.declared.value.Value.TheVariants.{Pointer};
 ghost use Rattle.bpf_model.specs.declared.value.Reference.TheVariants.{Elem};
-ghost use Rattle.bpf_model.specs.declared.insn.Insn.{Insn};
 ghost use Rattle.bpf_model.specs.Access.{byte_count};
 ghost use Rattle.bpf_model.specs.Machine.{Loaded, fresh_run};
-ghost use Rattle.bpf_model.specs.MachineStep.{element_load, element_store};
-ghost use Rattle.bpf_model.specs.Step.{sets};
-ghost use Rattle.bpf_model.specs.Value.{◌>>=◌};
+ghost use Rattle.bpf_model.specs.MachineStep.{element_store};
 ghost use Rattle.plain_interpreter.specs.Plain.{state_of, environment, Comes};
 ghost use Rattle.plain_model.specs.State.{elements_of, run_with};
-ghost use Rattle.plain_model.specs.Acting.{base_element, StoresAs, ActsAs};
-ghost use Rattle.bpf_model.specs.Access.{unsigned_width};
-ghost use Rattle.bpf_model.specs.Arithmetic.{loaded_signed};
+ghost use Rattle.plain_model.specs.Acting.{base_element, load_outcome, extended_outcome, StoresAs, ActsAs};
 
 use crate::store::Store;
 use alu::{immediate, load_signed};
@@ -87,7 +81,7 @@ fn load(
     offset: i16,
 ) -> Progress
     requires { (state_of run.old).place < 2 ^ 40 }
-    ensures { Comes (element_load (elements_of store.now.elements.items) (byte_count width) offset (Pointer (Elem n o)) >>= λ k. sets 1 dst (Number k) (state_of run.old)) result run.old run.new }
+    ensures { Comes (load_outcome (elements_of store.now.elements.items) (byte_count width) offset (Pointer (Elem n o)) dst (state_of run.old)) result run.old run.new }
 {
     match store.load(n, width, o, offset) {
         Some(k) => run.set(1, dst, Value::Number(k)),
@@ -106,7 +100,7 @@ fn load_extended(
     offset: i16,
 ) -> Progress
     requires { (state_of run.old).place < 2 ^ 40 }
-    ensures { Comes (element_load (elements_of store.now.elements.items) (byte_count (unsigned_width width)) offset (Pointer (Elem n o)) >>= λ k. sets 1 dst (Number (loaded_signed width k)) (state_of run.old)) result run.old run.new }
+    ensures { Comes (extended_outcome (elements_of store.now.elements.items) width offset (Pointer (Elem n o)) dst (state_of run.old)) result run.old run.new }
 {
     match store.load(n, width.width(), o, offset) {
         Some(k) => run.set(1, dst, Value::Number(load_signed(width, k))),
@@ -146,16 +140,36 @@ fn access(run: &mut PlainRun, store: &mut Store, insn: &Insn, n: usize, o: i64) 
 {
     match insn {
         Insn::Load {
-            width, dst, offset, ..
+            width,
+            dst,
+            offset,
+            ..
         } => load(run, store, *width, *dst, n, o, *offset),
         Insn::LoadSigned {
-            width, dst, offset, ..
+            width,
+            dst,
+            offset,
+            ..
         } => load_extended(run, store, *width, *dst, n, o, *offset),
         Insn::Store {
-            width, offset, imm, ..
-        } => save(run, store, *width, Value::Number(immediate(*imm)), n, o, *offset),
+            width,
+            offset,
+            imm,
+            ..
+        } => save(
+            run,
+            store,
+            *width,
+            Value::Number(immediate(*imm)),
+            n,
+            o,
+            *offset,
+        ),
         Insn::StoreRegister {
-            width, src, offset, ..
+            width,
+            src,
+            offset,
+            ..
         } => {
             let value = run.register(*src);
             save(run, store, *width, value, n, o, *offset)

@@ -1,17 +1,18 @@
 //! One step of a run in the whole machine.
-ghost use Rattle.std.specs.Prelude.{◌≡◌, ℕ, ◌+◌, ◌^◌, ◌<◌, ◌×◌, Some, None, List, length};
+ghost use Rattle.std.specs.Prelude.{◌≡◌, ℕ, ◌+◌, ◌^◌, ◌<◌, ◌==◌, if◌then◌else◌, Some, None, List};
 ghost use Rattle.bpf_model.specs.declared.value.Value.{Value};
 ghost use Rattle.bpf_model.specs.declared.insn.Insn.TheVariants as insns;
 ghost use Rattle.bpf_model.specs.declared.insn.CallKind.TheVariants as kinds;
 ghost use Rattle.bpf_model.specs.declared.call.KernelFunction.TheVariants as functions;
-ghost use Rattle.bpf_model.specs.Call.{ret_word as ret_word_of, helper_of};
-ghost use Rattle.bpf_model.specs.Machine.{Loaded as ModelLoaded, Run as ModelRun, moves};
-ghost use Rattle.bpf_model.specs.MapState.{Store as ModelStore, shape_of};
-ghost use Rattle.bpf_model.specs.MachineStep.{KernelStep, LookupStep, UpdateStep, DeleteStep, HelperStep, map_argument as map_argument_of, key_argument, frame_bytes as frame_bytes_of, returns as returns_of};
-ghost use Rattle.bpf_model.specs.Section.{Section as ModelSection};
+ghost use Rattle.bpf_model.specs.Call.{ret_word as ret_word_of, helper_of, kernel_function_of};
+ghost use Rattle.bpf_model.specs.declared.event.Answer.TheVariants as answers;
+ghost use Rattle.bpf_model.specs.Machine.{Loaded as ModelLoaded, moves};
+ghost use Rattle.bpf_model.specs.MapState.{Store as ModelStore};
+ghost use Rattle.bpf_model.specs.MachineStep.{LookupStep, UpdateStep, DeleteStep, HelperStep, map_argument as map_argument_of, key_argument, frame_bytes as frame_bytes_of, returns as returns_of};
+ghost use Rattle.bpf_model.specs.Frame.{byte_of};
 ghost use Rattle.plain_interpreter.specs.Plain.{state_of};
 ghost use Rattle.plain_model.specs.State.{store_of, sections_of, loaded_of, run_with};
-ghost use Rattle.plain_model.specs.Acting.{Tells, InsnStepsAs, RunStepsAs};
+ghost use Rattle.plain_model.specs.Acting.{Tells, call_in, KernelsAs, InsnStepsAs, RunStepsAs};
 ghost use Rattle.bpf_model.specs.MachineStep.{bytes_at as bytes_of};
 ghost use Rattle.std.specs.Prelude.{◌≤◌};
 ghost use Rattle.plain_model.specs.Placing.{IsPlace};
@@ -21,8 +22,8 @@ use crate::run::{Run, act};
 use crate::store::{Section, Store};
 use arrayvec::ArrayVec;
 use bpf_model::{
-    Answer, CallKind, Cell, Errno, Helper, Insn, KernelFunction, KeyBytes, MAX_DEPTH, MapShape, Reference,
-    Reg, Value, ValueBytes,
+    Answer, CallKind, Cell, Errno, Helper, Insn, KernelFunction, KeyBytes, MAX_DEPTH, MapShape,
+    Reference, Reg, Value, ValueBytes,
 };
 use plain_interpreter::{PlainRun, Progress, insn_at, number};
 use std::alloc::{AllocError, Global};
@@ -81,36 +82,44 @@ fn ret_word(ret: Result<(), Errno>) -> u64
 }
 
 /// After a call r0 is its result and r1 to r5 hold nothing.
-fn returns(run: &mut Run, value: Value) -> Result<(), Fault>
+fn returns(run: &mut Run, value: Value) -> Result<Answer, Fault>
     requires { (state_of run.old.state).place < 2 ^ 40 }
-    ensures moves { (program : ModelLoaded) → Tells (λ _. run_with program run.new ≡ moves (run_with program run.old) (returns_of value (state_of run.old.state))) ⊥ result }
+    ensures moves { (program : ModelLoaded) → Tells (λ a. (a ≡ answers.Moved) × (run_with program run.new ≡ moves (run_with program run.old) (returns_of value (state_of run.old.state)))) ⊥ result }
     ensures program { run.new.program ≡ run.old.program }
 {
     run.moved = one_more(run.moved)?;
     run.state.return_from_call(value);
-    Ok(())
+    Ok(Answer::Moved)
 }
 
-/// The outermost lock opens a section.
-fn read_lock(run: &mut Run) -> Result<(), Fault>
+/// How many sections the run has opened after a lock: the outermost one opens a section.
+fn locks_after(run: &Run) -> Result<u64, Fault>
+    ensures { Tells (λ n. n ≡ (if run.now.depth == 0 then run.now.locks + 1 else run.now.locks)) ⊥ result }
+{
+    if run.depth == 0 {
+        one_more(run.locks)
+    } else {
+        Ok(run.locks)
+    }
+}
+
+fn read_lock(run: &mut Run) -> Result<Answer, Fault>
     requires { (state_of run.old.state).place < 2 ^ 40 }
-    ensures locks { (program : ModelLoaded) → Tells (λ _. KernelStep (Some functions.ReadLock) (run_with program run.old) (run_with program run.new)) ((q : ModelRun) → KernelStep (Some functions.ReadLock) (run_with program run.old) q → ⊥) result }
+    ensures locks { (program : ModelLoaded) → KernelsAs (Some functions.ReadLock) (run_with program run.old) result (run_with program run.new) }
     ensures program { run.new.program ≡ run.old.program }
 {
     if run.depth >= MAX_DEPTH {
         return Err(Fault::Stuck);
     }
-    if run.depth == 0 {
-        run.locks = one_more(run.locks)?;
-    }
+    run.locks = locks_after(run)?;
     run.depth += 1;
     returns(run, Value::Nothing)
 }
 
 /// An unlock leaves the innermost section that is open.
-fn read_unlock(run: &mut Run) -> Result<(), Fault>
+fn read_unlock(run: &mut Run) -> Result<Answer, Fault>
     requires { (state_of run.old.state).place < 2 ^ 40 }
-    ensures unlocks { (program : ModelLoaded) → Tells (λ _. KernelStep (Some functions.ReadUnlock) (run_with program run.old) (run_with program run.new)) ((q : ModelRun) → KernelStep (Some functions.ReadUnlock) (run_with program run.old) q → ⊥) result }
+    ensures unlocks { (program : ModelLoaded) → KernelsAs (Some functions.ReadUnlock) (run_with program run.old) result (run_with program run.new) }
     ensures program { run.new.program ≡ run.old.program }
 {
     if run.depth == 0 {
@@ -123,15 +132,14 @@ fn read_unlock(run: &mut Run) -> Result<(), Fault>
 /// A lock or an unlock.
 fn call_kernel(run: &mut Run, imm: i32) -> Result<Answer, Fault>
     requires { (state_of run.old.state).place < 2 ^ 40 }
-    ensures steps { (program : ModelLoaded) (s : ModelStore) (opened : List ModelSection) → InsnStepsAs (insns.Call kinds.Kernel imm) s opened (run_with program run.old) result s (run_with program run.new) }
+    ensures steps { (program : ModelLoaded) → KernelsAs (kernel_function_of imm) (run_with program run.old) result (run_with program run.new) }
     ensures program { run.new.program ≡ run.old.program }
 {
     match KernelFunction::from_number(imm) {
-        Some(KernelFunction::ReadLock) => read_lock(run)?,
-        Some(KernelFunction::ReadUnlock) => read_unlock(run)?,
-        None => return Err(Fault::Stuck),
+        Some(KernelFunction::ReadLock) => read_lock(run),
+        Some(KernelFunction::ReadUnlock) => read_unlock(run),
+        None => Err(Fault::Stuck),
     }
-    Ok(Answer::Moved)
 }
 
 /// The map that the reference in r1 names.
@@ -147,6 +155,17 @@ fn map_argument(run: &Run, program: &Loaded) -> Option<usize>
     }
 }
 
+/// The byte in a cell of the frame. `None` when it isn't written as a byte.
+fn byte_in(run: &PlainRun, index: usize) -> Option<u8>
+    requires { index < 512 }
+    ensures { result ≡ byte_of ((state_of run.now).frame index) }
+{
+    match run.cell(index) {
+        Cell::Byte(byte) => Some(byte),
+        _ => None,
+    }
+}
+
 /// So many bytes of the frame from a place on.
 fn bytes_at<const N: usize>(run: &PlainRun, at: usize, len: usize) -> Result<ArrayVec<u8, N>, Fault>
     requires { at + len ≤ 512 }
@@ -154,18 +173,23 @@ fn bytes_at<const N: usize>(run: &PlainRun, at: usize, len: usize) -> Result<Arr
 {
     let mut bytes = ArrayVec::new();
     for k in 0..len {
-        let Cell::Byte(byte) = run.cell(at + k) else {
+        let Some(byte) = byte_in(run, at + k) else {
             return Err(Fault::Stuck);
         };
-        if bytes.try_push(byte).is_err() {
-            return Err(Fault::OutOfRange);
+        match bytes.try_push(byte) {
+            Ok(()) => {}
+            Err(_) => return Err(Fault::OutOfRange),
         }
     }
     Ok(bytes)
 }
 
 /// The bytes of a key or a value, by a reference to the frame.
-fn frame_bytes<const N: usize>(run: &PlainRun, len: usize, value: Value) -> Result<ArrayVec<u8, N>, Fault>
+fn frame_bytes<const N: usize>(
+    run: &PlainRun,
+    len: usize,
+    value: Value,
+) -> Result<ArrayVec<u8, N>, Fault>
     ensures { Tells (λ bytes. frame_bytes_of (state_of run.now).frame len value ≡ Some bytes.items) (frame_bytes_of (state_of run.now).frame len value ≡ None) result }
 {
     let Value::Pointer(Reference::Frame(o)) = value else {
@@ -218,7 +242,11 @@ fn update(
     ensures { Tells (λ ret. UpdateStep (store_of store.old) (sections_of opened.now) (run_with (loaded_of program.now) run.now) ret (store_of store.new)) ((ret : Value) (t : ModelStore) → UpdateStep (store_of store.old) (sections_of opened.now) (run_with (loaded_of program.now) run.now) ret t → ⊥) result }
 {
     let place = place_argument(run, program, store)?;
-    let value: ValueBytes = frame_bytes(&run.state, place.shape.value_len, run.state.register(Reg::R3))?;
+    let value: ValueBytes = frame_bytes(
+        &run.state,
+        place.shape.value_len,
+        run.state.register(Reg::R3),
+    )?;
     let Some(flags) = number(run.state.register(Reg::R4)) else {
         return Err(Fault::Stuck);
     };
@@ -272,17 +300,27 @@ fn call_helper(
     ensures program { run.new.program ≡ run.old.program }
 {
     let value = helper_value(alloc, run, program, store, opened, imm)?;
-    returns(run, value)?;
-    Ok(Answer::Moved)
+    returns(run, value)
 }
 
 /// An instruction other than a call.
-fn step_alone(run: &mut Run, program: &Loaded, store: &mut Store, insn: &Insn) -> Result<Answer, Fault>
+fn step_alone(
+    run: &mut Run,
+    program: &Loaded,
+    store: &mut Store,
+    insn: &Insn,
+) -> Result<Answer, Fault>
     requires { (state_of run.old.state).place < 2 ^ 40 }
     ensures steps { AloneAs insn.now (store_of store.old) (run_with (loaded_of program.now) run.old) result (store_of store.new) (run_with (loaded_of program.now) run.new) }
     ensures program { run.new.program ≡ run.old.program }
 {
-    match act(&mut run.state, store, run.context.as_slice(), program.maps.len(), insn) {
+    match act(
+        &mut run.state,
+        store,
+        run.context.as_slice(),
+        program.maps.len(),
+        insn,
+    ) {
         Progress::Moved => {
             run.moved = one_more(run.moved)?;
             Ok(Answer::Moved)
@@ -300,6 +338,17 @@ fn step_alone(run: &mut Run, program: &Loaded, store: &mut Store, insn: &Insn) -
     }
 }
 
+/// The call that an instruction is, by its kind and its number.
+fn call_of(insn: &Insn) -> Option<(CallKind, i32)>
+    ensures { result ≡ call_in insn.now }
+{
+    match insn {
+        Insn::Call { kind, imm } => Some((*kind, *imm)),
+        _ => None,
+    }
+}
+
+/// What an instruction does.
 fn step_insn(
     alloc: Global,
     run: &mut Run,
@@ -312,16 +361,10 @@ fn step_insn(
     ensures steps { InsnStepsAs insn.now (store_of store.old) (sections_of opened.now) (run_with (loaded_of program.now) run.old) result (store_of store.new) (run_with (loaded_of program.now) run.new) }
     ensures program { run.new.program ≡ run.old.program }
 {
-    match insn {
-        Insn::Call {
-            kind: CallKind::Kernel,
-            imm,
-        } => call_kernel(run, *imm),
-        Insn::Call {
-            kind: CallKind::Helper,
-            imm,
-        } => call_helper(alloc, run, program, store, opened, *imm),
-        _ => step_alone(run, program, store, insn),
+    match call_of(insn) {
+        Some((CallKind::Kernel, imm)) => call_kernel(run, imm),
+        Some((CallKind::Helper, imm)) => call_helper(alloc, run, program, store, opened, imm),
+        None => step_alone(run, program, store, insn),
     }
 }
 

@@ -1,5 +1,5 @@
 //! The elements of all maps, and the maps' free slots.
-ghost use Rattle.std.specs.Prelude.{ℕ, ◌≡◌, ◌+◌, ◌×◌, ◌+ℤ◌, [], false, ◌<◌, ◌≤◌, ◌-◌, ◌^◌, ◌&&◌, ◌==◌, ◌↔◌, IsTrue, IfOk, OnErr, OnOk, IfSome, Some, length, map, slice_get};
+ghost use Rattle.std.specs.Prelude.{ℕ, ◌≡◌, ◌+◌, ◌+ℤ◌, [], false, ◌<◌, ◌≤◌, ◌-◌, ◌^◌, ◌&&◌, ◌==◌, ◌↔◌, IsTrue, IfOk, OnErr, OnOk, IfSome, Some, length, map, slice_get};
 ghost use Rattle.bpf_model.specs.Element.{is_linked, is_unlinked, is_reclaimed, linked_count as linked_count_of, unlinked};
 ghost use Rattle.bpf_model.specs.MapState.{given_of, returned, shape_of, new_map};
 ghost use Rattle.bpf_model.specs.Section.{Has, AllEnded};
@@ -149,7 +149,7 @@ impl MapState {
 
     /// A slot that was used so often comes back: to the end of the free ones, or it is worn out.
     pub fn give_back(&mut self, uses: u64) -> Result<Given, Fault>
-        ensures { Tells (λ given. (given ≡ given_of uses (map_of self.old)) × (map_of self.new ≡ returned uses (map_of self.old))) (Unit {0}) result }
+        ensures { Tells (λ given. (given ≡ given_of uses (map_of self.old)) × (map_of self.new ≡ returned uses (map_of self.old))) ⊥ result }
     {
         let Ok(count) = u32::try_from(uses) else {
             return Err(Fault::OutOfRange);
@@ -326,24 +326,29 @@ impl Store {
         ensures { IfOk result (λ found. Finds (elements_of self.now.elements.items) map key.now (option_map (λ v. v.items) found)) }
     {
         match self.lookup(map, key) {
-            Some(n) if n < self.elements.len() => Ok(Some(self.elements[n].value.clone()?)),
-            _ => Ok(None),
+            Some(n) => Ok(Some(self.elements[n].value.clone()?)),
+            None => Ok(None),
         }
     }
 
     /// Reclaims element n, whose slot comes back. `Early` where it isn't unlinked, or a section of its set is open.
     pub fn reclaim(&mut self, n: usize, opened: &[Section]) -> Result<ReapedElement, Fault>
-        ensures { Tells (ReclaimsTo (store_of self.old) (sections_of opened.now) n (store_of self.new)) (Unit {0}) result }
+        ensures { Tells (ReclaimsTo (store_of self.old) (sections_of opened.now) n (store_of self.new)) ⊥ result }
     {
-        if n >= self.elements.len() || !has_ended(&self.elements[n].life, opened) {
+        if n >= self.elements.len() {
             return Err(Fault::Early);
         }
-        let map = self.elements[n].map;
+        let element = &self.elements[n];
+        if !has_ended(&element.life, opened) {
+            return Err(Fault::Early);
+        }
+        let map = element.map;
+        let uses = element.uses;
+        let key = element.key.clone()?;
         if map >= self.maps.len() {
             return Err(Fault::Early);
         }
-        let key = self.elements[n].key.clone()?;
-        let given = self.maps[map].give_back(self.elements[n].uses)?;
+        let given = self.maps[map].give_back(uses)?;
         self.elements[n].life = Life::Reclaimed;
         let map = MapId::new(map);
         Ok(ReapedElement { map, key, given })
@@ -354,14 +359,17 @@ impl Store {
     pub fn load(&self, n: usize, width: Width, o: i64, offset: i16) -> Option<u64>
         ensures { result ≡ element_load (elements_of self.now.elements.items) (byte_count width) offset (Pointer (Elem n o)) }
     {
-        let Some(element) = self.elements.get(n) else {
+        if n >= self.elements.len() {
             return None;
-        };
+        }
+        let element = &self.elements[n];
         if element.life.is_reclaimed() {
             return None;
         }
-        let at = place_of(element.value.len(), width, o, offset)?;
-        number_in(element.value.as_slice(), at, width.bytes())
+        match place_of(element.value.len(), width, o, offset) {
+            Some(at) => number_in(element.value.as_slice(), at, width.bytes()),
+            None => None,
+        }
     }
 
     /// Stores the low bytes of a number in element n. Whether it could: else the store is stuck.
@@ -403,7 +411,7 @@ fn is_among(section: &Section, sections: &[Section]) -> bool
     ensures { result ≡ false → Has (sections_of sections.now) (section_of section.now) → ⊥ }
 {
     for j in 0..sections.len() {
-        if sections[j].run == section.run && sections[j].lock == section.lock {
+        if sections[j] == *section {
             return true;
         }
     }

@@ -1,11 +1,12 @@
 //! Lists of events and the answers that they must have.
 
-use crate::machine::{Fault, Loaded, Machine};
+use crate::machine::Machine;
 use crate::programs::{
     LOCK, UNLOCK, bounded_index, change_by_helper, exit_one, helper, join_of_two_lookups, load,
     lookup_and_load, mov, mov_k, narrow_bound, only, pointer_kept_over_unlock,
     pointer_spilled_over_unlock, spilled_pointer, store_k,
 };
+use crate::steps::{Fault, Loaded};
 use bpf_model::{
     Answer, CtxBytes, Event, Given, Insn, KeyBytes, MapId, MapShape, ProgId, RunId, Size,
     ValueBytes, Width,
@@ -122,6 +123,8 @@ fn tell(text: &mut String, answer: &Result<Answer, Fault>) -> Result<(), AllocEr
     match answer {
         Err(Fault::Stuck) => write!(text, "stuck"),
         Err(Fault::Memory) => write!(text, "memory"),
+        Err(Fault::OutOfRange) => write!(text, "out of range"),
+        Err(Fault::Early) => write!(text, "early"),
         Ok(Answer::Started(run)) => write!(text, "run {}", run.index()),
         Ok(Answer::Moved) => write!(text, "moved"),
         Ok(Answer::Exited(number)) => write!(text, "exit {number}"),

@@ -1,0 +1,25 @@
+-- The start.
+use Rattle.std.proofs.Common.{◌≡◌, ℕ, zero, suc, ◌+◌, List, [], ◌∷◌, ◌++◌, Option, Some, None, refl, sym, ap, ◌∙◌, length, map, arith}
+use Rattle.std.specs.Prelude.{replicate}
+use Rattle.std.specs.Option.{option_map}
+use Rattle.std.proofs.lemmas.List.{replicate-append-replicate}
+use Rattle.bpf_model.specs.declared.limits.MapShape.{MapShape}
+use Rattle.bpf_model.specs.Schedule.{Queues}
+use Rattle.bpf_model.specs.Machine as model
+use Rattle.plain_model.specs.declared.run.Run.{Run}
+use Rattle.plain_model.specs.declared.steps.Loaded.{Loaded}
+use Rattle.plain_model.specs.State.{runs_of, run_of}
+
+abbrev pub no_queues : Queues
+no_queues = record { next = []; waiting = []; ready = [] }
+
+pub one-more-copy : {A : Type 0} (n : ℕ) (x : A) → replicate n x ++ x ∷ [] ≡ replicate (n + 1) x
+one-more-copy n x = replicate-append-replicate n 1 x
+
+pub same-for-each : (shapes : List MapShape) → replicate (length shapes) no_queues ≡ map (λ _. no_queues) shapes
+same-for-each [] = refl
+same-for-each (s ∷ shapes) = ap (λ l. no_queues ∷ l) (same-for-each shapes)
+
+pub no-runs : (programs : List Loaded) (n : ℕ) → runs_of programs (replicate n None) ≡ replicate n None
+no-runs programs zero = refl
+no-runs programs (suc n) = ap (λ l. None ∷ l) (no-runs programs n)
