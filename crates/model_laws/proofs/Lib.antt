@@ -5,3 +5,10 @@ pub mod Cutting
 pub mod Refusing
 pub mod Advancing
 pub mod Plains
+pub mod Sections
+pub mod Born
+pub mod Moves
+pub mod Stores
+pub mod Past
+pub mod Keeping
+pub mod Late

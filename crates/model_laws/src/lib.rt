@@ -16,7 +16,12 @@ ghost use Rattle.bpf_model.specs.Plain.{IsPlain};
 ghost use Rattle.bpf_model.specs.PlainMaps.{IsPlainWithMaps};
 ghost use Rattle.bpf_model.specs.Event.{refusal, Does};
 ghost use Rattle.bpf_model.specs.Run.{MachineRun, IsHistory};
+ghost use Rattle.bpf_model.specs.Section.{Section, Has};
+ghost use Rattle.bpf_model.specs.Machine.{Loaded, start_machine};
+ghost use Rattle.bpf_model.specs.Consistent.{IsConsistent};
+ghost use Rattle.bpf_model.specs.Headline.{ReclaimedLate};
 ghost use Rattle.model_laws.specs.Growth.{Grows};
+ghost use Rattle.model_laws.specs.Begun.{HasBegun};
 
 /// An event is refused exactly when a test fails, by the first that does, and then nothing changes.
 pub fn refused_exactly()
@@ -48,4 +53,25 @@ pub fn two_quiet_advances()
 /// A program that is plain without maps is plain with them.
 pub fn plain_with_maps()
     ensures { (program : List Insn) (shapes : List MapShape) → IsPlain program → IsPlainWithMaps program shapes }
+{}
+
+/// The machine with no run and nothing in its maps is consistent.
+pub fn starts_consistent()
+    ensures { (shapes : List MapShape) (programs : List Loaded) → IsConsistent (start_machine shapes programs) }
+{}
+
+/// A consistent machine stays consistent, whatever event comes and whatever it answers.
+pub fn stays_consistent()
+    ensures { (m new : Machine) (event : Event) (answer : Answer) → IsConsistent m → Does m event answer new → IsConsistent new }
+{}
+
+/// A section that has begun and is not open is open in no later state.
+pub fn section_never_reopens()
+    ensures { (m later : Machine) (events : List Event) (answers : List Answer) (states : List Machine) (j : ℕ) (s : Section) → IsHistory m events answers states → slice_get states j ≡ Some later → HasBegun m s → (Has (open_sections m.runs) s → ⊥) → Has (open_sections later.runs) s → ⊥ }
+{}
+
+/// The grace-period guarantee, of every history of the machine: when an element is reclaimed, each section
+/// that was open at its unlinking has ended.
+pub fn reclaimed_late()
+    ensures { (m : Machine) (events : List Event) (answers : List Answer) (states : List Machine) → IsConsistent m → IsHistory m events answers states → ReclaimedLate (m ∷ states) }
 {}
