@@ -110,7 +110,7 @@ module _ (reap : Bool) (opened : List Section) (s new : Store) (mv : StoreMoves 
     | inr more ↦ more
   ]
 
-begun-unlinked : (m : Machine) (n : ℕ) (e : Element) (since : List Section) → IsConsistent m → slice_get m.store.elements n ≡ Some e → e.life ≡ Unlinked since → AllBegun m since
+pub begun-unlinked : (m : Machine) (n : ℕ) (e : Element) (since : List Section) → IsConsistent m → slice_get m.store.elements n ≡ Some e → e.life ≡ Unlinked since → AllBegun m since
 begun-unlinked m n e since w at life s has = record { started = w.past n e since s at life has; opened = λ r run there same. w.begun n e since s r run at life has there same }
 
 same-since : (a b : List Section) → Unlinked a ≡ Unlinked b → a ≡ b

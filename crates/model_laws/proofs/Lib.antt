@@ -12,3 +12,7 @@ pub mod Stores
 pub mod Past
 pub mod Keeping
 pub mod Late
+pub mod Counting
+pub mod Queueing
+pub mod Scheduling
+pub mod Draining

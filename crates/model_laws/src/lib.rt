@@ -11,7 +11,8 @@ ghost use Rattle.bpf_model.specs.Element.{Reclaimed, HasLife};
 ghost use Rattle.bpf_model.specs.declared.insn.Insn.{Insn};
 ghost use Rattle.bpf_model.specs.declared.limits.MapShape.{MapShape};
 ghost use Rattle.bpf_model.specs.Machine.{Machine, open_sections};
-ghost use Rattle.bpf_model.specs.Schedule.{Queues, Schedule, is_any, DoesScheduled};
+ghost use Rattle.bpf_model.specs.Schedule.{Queues, Schedule, is_any, first_ready, DoesScheduled, IsScheduledHistory, start_schedule};
+ghost use Rattle.bpf_model.specs.Drain.{Drains, machines};
 ghost use Rattle.bpf_model.specs.Plain.{IsPlain};
 ghost use Rattle.bpf_model.specs.PlainMaps.{IsPlainWithMaps};
 ghost use Rattle.bpf_model.specs.Event.{refusal, Does};
@@ -22,6 +23,7 @@ ghost use Rattle.bpf_model.specs.Consistent.{IsConsistent};
 ghost use Rattle.bpf_model.specs.Headline.{ReclaimedLate};
 ghost use Rattle.model_laws.specs.Growth.{Grows};
 ghost use Rattle.model_laws.specs.Begun.{HasBegun};
+ghost use Rattle.model_laws.specs.Scheduled.{IsScheduled, IsReapable};
 
 /// An event is refused exactly when a test fails, by the first that does, and then nothing changes.
 pub fn refused_exactly()
@@ -74,4 +76,37 @@ pub fn section_never_reopens()
 /// that was open at its unlinking has ended.
 pub fn reclaimed_late()
     ensures { (m : Machine) (events : List Event) (answers : List Answer) (states : List Machine) → IsConsistent m → IsHistory m events answers states → ReclaimedLate (m ∷ states) }
+{}
+
+/// At the start the lists of every map are empty and no run is awaited.
+pub fn starts_scheduled()
+    ensures { (shapes : List MapShape) (programs : List Loaded) → IsScheduled (start_schedule shapes programs) }
+{}
+
+/// Each step with the runtime's choices keeps the lists right: exactly the unlinked elements stand in them, each
+/// once, those that are ready wait for no open section, and those that wait only for awaited ones.
+pub fn stays_scheduled()
+    ensures { (old new : Schedule) (event : Event) (answer : Answer) → IsScheduled old → DoesScheduled old event answer new → IsScheduled new }
+{}
+
+/// From any such state on: after two advances that meet no open section, a reap finds nothing only when each
+/// element that was unlinked before the first is reclaimed.
+pub fn drains()
+    ensures { (s : Schedule) (events : List Event) (answers : List Answer) (states : List Schedule) → IsScheduled s → IsScheduledHistory s events answers states → Drains (machines (s ∷ states)) events answers }
+{}
+
+/// The drain law holds of every history from the start.
+pub fn drains_from_start()
+    ensures { (shapes : List MapShape) (programs : List Loaded) (events : List Event) (answers : List Answer) (states : List Schedule) → IsScheduledHistory (start_schedule shapes programs) events answers states → Drains (machines (start_schedule shapes programs ∷ states)) events answers }
+{}
+
+/// The element that a reap takes may be reclaimed: it is unlinked, and each section that it remembers has
+/// ended.
+pub fn reapable()
+    ensures { (s : Schedule) (n : ℕ) → IsScheduled s → first_ready s.queues ≡ Some n → IsReapable s.machine n }
+{}
+
+/// In each state of every history from the start, the element that a reap would take may be reclaimed.
+pub fn reapable_from_start()
+    ensures { (shapes : List MapShape) (programs : List Loaded) (events : List Event) (answers : List Answer) (states : List Schedule) (j n : ℕ) (s : Schedule) → IsScheduledHistory (start_schedule shapes programs) events answers states → slice_get (start_schedule shapes programs ∷ states) j ≡ Some s → first_ready s.queues ≡ Some n → IsReapable s.machine n }
 {}
