@@ -1,13 +1,12 @@
 -- The lists of unlinked elements, counted.
-use Rattle.std.proofs.Common.{◌≡◌, ◌≢◌, ℕ, zero, suc, ◌+◌, ◌<◌, ◌≤◌, List, [], ◌∷◌, ◌++◌, length, map, drop, cond, Option, Some, None, ◌⊎◌, inl, inr, refl, sym, ap, ◌∙◌, arith, subst, Bool, true, false}
+use Rattle.std.proofs.Common.{◌≡◌, ℕ, zero, suc, ◌+◌, ◌<◌, ◌≤◌, List, [], ◌∷◌, ◌++◌, length, map, drop, cond, Option, Some, None, ◌⊎◌, inl, inr, refl, sym, ap, ◌∙◌, arith, subst, Bool, true, false}
 use Rattle.std.specs.Prelude.{slice_get, slice_set, ◌==◌, ◌&&◌, ◌||◌, if◌then◌else◌}
 use Rattle.std.proofs.Math.Dec.{eqb-suc-zero}
-use Rattle.std.proofs.lemmas.Bool.{cases_eq, eqb-true, eq-eqb, false_from_ne_true, and_parts, false≢true}
+use Rattle.std.proofs.lemmas.Bool.{eqb-true, eq-eqb, false_from_ne_true, and_parts, false≢true}
 use Rattle.std.proofs.lemmas.Option.{none-some, same_Some}
 use Rattle.std.proofs.lemmas.List.Sums.{sum_by-cons, sum_by-append}
-use Rattle.bpf_model.specs.Element.{Element, Life, is_linked, is_unlinked}
-use Rattle.bpf_model.specs.Machine.{Run}
-use Rattle.bpf_model.specs.Schedule.{Queues, is_any, still_open, unlinked_between, retired, turned, or_first, first_ready, without_first}
+use Rattle.bpf_model.specs.Element.{Element, is_linked, is_unlinked}
+use Rattle.bpf_model.specs.Schedule.{Queues, is_any, still_open, unlinked_between, retired, or_first, first_ready, without_first}
 use Rattle.bpf_model.specs.Refines.{times}
 use Rattle.model_laws.proofs.Lists.{get-set_cases}
 

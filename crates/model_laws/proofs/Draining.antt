@@ -1,6 +1,6 @@
 -- After two quiet advances, a reap finds nothing only when everything that was unlinked before is reclaimed.
-use Rattle.std.proofs.Common.{◌≡◌, ◌≢◌, ℕ, zero, suc, ◌+◌, ◌<◌, ◌≤◌, List, [], ◌∷◌, ◌++◌, length, map, Option, Some, None, ◌⊎◌, inl, inr, refl, sym, ap, ◌∙◌, arith, subst, Bool, true, false}
-use Rattle.std.specs.Prelude.{slice_get, slice_set, ◌==◌, ◌&&◌, if◌then◌else◌}
+use Rattle.std.proofs.Common.{◌≡◌, ◌≢◌, ℕ, zero, suc, ◌+◌, ◌<◌, List, [], ◌∷◌, length, map, Option, Some, None, refl, sym, ap, ◌∙◌, arith, subst, Bool, true, false}
+use Rattle.std.specs.Prelude.{slice_get, ◌==◌, ◌&&◌, if◌then◌else◌}
 use Rattle.std.proofs.lemmas.Bool.{false_from_ne_true, false≢true}
 use Rattle.std.proofs.lemmas.Option.{none-some, same_Some, slice_get_within}
 use Rattle.bpf_model.specs.declared.limits.MapShape.{MapShape}
@@ -8,20 +8,19 @@ use Rattle.bpf_model.specs.declared.event.Event.{Event}
 use Rattle.bpf_model.specs.declared.event.Event.TheVariants as events
 use Rattle.bpf_model.specs.declared.event.Answer.{Answer}
 use Rattle.bpf_model.specs.declared.event.Answer.TheVariants as answers
-use Rattle.bpf_model.specs.Section.{Section, Has, AllEnded}
-use Rattle.bpf_model.specs.Element.{Element, Life, Linked, Unlinked, Reclaimed, HasLife, is_linked, is_unlinked, with_life}
-use Rattle.bpf_model.specs.MapState.{MapState, Store, given_of, returned}
-use Rattle.bpf_model.specs.Reclaim.{Reclaims}
-use Rattle.bpf_model.specs.Machine.{Loaded, Run, Machine, open_sections}
-use Rattle.bpf_model.specs.Schedule.{Queues, Schedule, open_flags, is_any, unlinked_between, turned, advanced, first_ready, without_first, reaped, scheduled, TakesFirst, DoesScheduled, IsScheduledHistory, start_schedule}
+use Rattle.bpf_model.specs.Section.{Section, AllEnded}
+use Rattle.bpf_model.specs.Element.{Element, Life, Linked, Unlinked, Reclaimed, HasLife, is_linked, is_unlinked}
+use Rattle.bpf_model.specs.MapState.{Store, given_of}
+use Rattle.bpf_model.specs.Machine.{Loaded, Machine, open_sections}
+use Rattle.bpf_model.specs.Schedule.{Queues, Schedule, open_flags, is_any, unlinked_between, turned, advanced, first_ready, reaped, scheduled, TakesFirst, DoesScheduled, IsScheduledHistory, start_schedule}
 use Rattle.bpf_model.specs.Drain.{IsQuietAdvance, Drains, machines}
-use Rattle.bpf_model.specs.Refines.{times, queued_in, Waits}
+use Rattle.bpf_model.specs.Refines.{times}
 use Rattle.model_laws.specs.Scheduled.{IsScheduled, IsReapable}
 use Rattle.model_laws.proofs.Lists.{get-below}
 use Rattle.model_laws.proofs.Advancing.{no_flag}
-use Rattle.model_laws.proofs.Stores.{LifeMoves, Stays, Unlinks, Ends, Alters, StoreMoves, is_reap, does-moves}
-use Rattle.model_laws.proofs.Counting.{newly, times-append, times-first, between-is, with_more, retired-back, map-back, any-place, place-any, FirstPlace, first-place, none-ready, Shrinks, without-back}
-use Rattle.model_laws.proofs.Queueing.{Queued, queued-of, queued-here}
+use Rattle.model_laws.proofs.Stores.{LifeMoves, Stays, Unlinks, Ends, StoreMoves, is_reap, does-moves}
+use Rattle.model_laws.proofs.Counting.{newly, times-append, times-first, between-is, with_more, retired-back, map-back, any-place, place-any, first-place, none-ready, without-back}
+use Rattle.model_laws.proofs.Queueing.{Queued, queued-here}
 use Rattle.model_laws.proofs.Scheduling.{plain, first-queued, starts_scheduled, stays_scheduled}
 
 -- an element that isn't linked any more
@@ -224,21 +223,21 @@ drain-second s evs ans states n w h r j k second later q ek ak sk less = absurd 
 out-unlinked : (s : Schedule) (first : Machine) (n : ℕ) (since : List Section) → s.machine ≡ first → HasLife first.store.elements n (Unlinked since) → IsOut s.machine.store.elements n
 out-unlinked s first n since e h = subst (λ x. IsOut x.store.elements n) (sym e) (record { element = h.0; born = h.1; out = λ l. unlinked≢linked since (sym h.2 ∙ l) })
 
-pub drains : (s : Schedule) (evs : List Event) (ans : List Answer) (states : List Schedule) → IsScheduled s → IsScheduledHistory s evs ans states → Drains (machines (s ∷ states)) evs ans
-drains s [] [] [] w h i j k n first second later since p q ij ek ak sk jk life = absurd (none-some events.Reap ek)
-drains s (event ∷ evs) (answer ∷ ans) (next ∷ states) w h i zero k n first second later since p q ij ek ak sk jk life = absurd (omega arith)
-drains s (event ∷ evs) (answer ∷ ans) (next ∷ states) w h i (suc j) zero n first second later since p q ij ek ak sk jk life = absurd (omega arith)
-drains s (event ∷ evs) (answer ∷ ans) (next ∷ states) w h zero (suc j) (suc k) n first second later since p q ij ek ak sk jk life =
+pub drains_from : (s : Schedule) (evs : List Event) (ans : List Answer) (states : List Schedule) → IsScheduled s → IsScheduledHistory s evs ans states → Drains (machines (s ∷ states)) evs ans
+drains_from s [] [] [] w h i j k n first second later since p q ij ek ak sk jk life = absurd (none-some events.Reap ek)
+drains_from s (event ∷ evs) (answer ∷ ans) (next ∷ states) w h i zero k n first second later since p q ij ek ak sk jk life = absurd (omega arith)
+drains_from s (event ∷ evs) (answer ∷ ans) (next ∷ states) w h i (suc j) zero n first second later since p q ij ek ak sk jk life = absurd (omega arith)
+drains_from s (event ∷ evs) (answer ∷ ans) (next ∷ states) w h zero (suc j) (suc k) n first second later since p q ij ek ak sk jk life =
     let d = as-advance s next event answer (same_Some event events.Advance p.at) h.0 in
     let same : s.machine ≡ first = same_Some s.machine first p.state in
     let quiet : open_sections s.machine.runs ≡ [] = ap (λ x. open_sections x.runs) same ∙ p.quiet in
     drain-second next evs ans states n (stays_scheduled s next event answer w h.0) h.1 (first-quiet s next answer n w d quiet (out-unlinked s first n since same life)) j k second later (record { at = q.at; state = q.state; quiet = q.quiet }) ek ak sk (omega arith)
-drains s (event ∷ evs) (answer ∷ ans) (next ∷ states) w h (suc i) (suc j) (suc k) n first second later since p q ij ek ak sk jk life =
-    drains next evs ans states (stays_scheduled s next event answer w h.0) h.1 i j k n first second later since (record { at = p.at; state = p.state; quiet = p.quiet }) (record { at = q.at; state = q.state; quiet = q.quiet }) (omega arith) ek ak sk (omega arith) life
-drains s evs ans states w h i j k n first second later since p q ij ek ak sk jk life = absurd h
+drains_from s (event ∷ evs) (answer ∷ ans) (next ∷ states) w h (suc i) (suc j) (suc k) n first second later since p q ij ek ak sk jk life =
+    drains_from next evs ans states (stays_scheduled s next event answer w h.0) h.1 i j k n first second later since (record { at = p.at; state = p.state; quiet = p.quiet }) (record { at = q.at; state = q.state; quiet = q.quiet }) (omega arith) ek ak sk (omega arith) life
+drains_from s evs ans states w h i j k n first second later since p q ij ek ak sk jk life = absurd h
 
-pub drains_from_start : (shapes : List MapShape) (programs : List Loaded) (evs : List Event) (ans : List Answer) (states : List Schedule) → IsScheduledHistory (start_schedule shapes programs) evs ans states → Drains (machines (start_schedule shapes programs ∷ states)) evs ans
-drains_from_start shapes programs evs ans states h = drains (start_schedule shapes programs) evs ans states (starts_scheduled shapes programs) h
+pub drains : (shapes : List MapShape) (programs : List Loaded) (evs : List Event) (ans : List Answer) (states : List Schedule) → IsScheduledHistory (start_schedule shapes programs) evs ans states → Drains (machines (start_schedule shapes programs ∷ states)) evs ans
+drains shapes programs evs ans states h = drains_from (start_schedule shapes programs) evs ans states (starts_scheduled shapes programs) h
 
 -- the first ready element may be reclaimed
 reclaims-first : (s : Schedule) (n k : ℕ) → IsScheduled s → (d : Queued s.machine.store.elements k n) → AllEnded d.since (open_sections s.machine.runs) → IsReapable s.machine n
@@ -246,8 +245,8 @@ reclaims-first s n k w d ended =
     let m = w.consistent.lengths n d.element d.born in
     (d.element, given_of d.element.uses m.0, _, record { state = m.0; since = d.since; born = d.born; unlinked = d.life; ended = ended; there = m.1; given_is = refl; new_is = refl })
 
-pub reapable : (s : Schedule) (n : ℕ) → IsScheduled s → first_ready s.queues ≡ Some n → IsReapable s.machine n
-reapable s n w first =
+pub reapable_in : (s : Schedule) (n : ℕ) → IsScheduled s → first_ready s.queues ≡ Some n → IsReapable s.machine n
+reapable_in s n w first =
     let p = first-place s.queues n first in
     let d = first-queued s n w p in
     let has : 0 < times n p.lists.ready = let a : times n p.lists.ready ≡ 1 + times n p.rest = ap (times n) p.ready_is ∙ times-first n n p.rest refl in omega arith in
@@ -259,5 +258,5 @@ scheduled-along s [] [] [] w h (suc j) later at = absurd (none-some later at)
 scheduled-along s (event ∷ evs) (answer ∷ ans) (next ∷ states) w h (suc j) later at = scheduled-along next evs ans states (stays_scheduled s next event answer w h.0) h.1 j later at
 scheduled-along s evs ans states w h (suc j) later at = absurd h
 
-pub reapable_from_start : (shapes : List MapShape) (programs : List Loaded) (evs : List Event) (ans : List Answer) (states : List Schedule) (j n : ℕ) (s : Schedule) → IsScheduledHistory (start_schedule shapes programs) evs ans states → slice_get (start_schedule shapes programs ∷ states) j ≡ Some s → first_ready s.queues ≡ Some n → IsReapable s.machine n
-reapable_from_start shapes programs evs ans states j n s h at first = reapable s n (scheduled-along (start_schedule shapes programs) evs ans states (starts_scheduled shapes programs) h j s at) first
+pub reapable : (shapes : List MapShape) (programs : List Loaded) (evs : List Event) (ans : List Answer) (states : List Schedule) (j n : ℕ) (s : Schedule) → IsScheduledHistory (start_schedule shapes programs) evs ans states → slice_get (start_schedule shapes programs ∷ states) j ≡ Some s → first_ready s.queues ≡ Some n → IsReapable s.machine n
+reapable shapes programs evs ans states j n s h at first = reapable_in s n (scheduled-along (start_schedule shapes programs) evs ans states (starts_scheduled shapes programs) h j s at) first

@@ -16,3 +16,4 @@ pub mod Counting
 pub mod Queueing
 pub mod Scheduling
 pub mod Draining
+pub mod Words

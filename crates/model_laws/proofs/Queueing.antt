@@ -1,22 +1,21 @@
 -- What is queued is unlinked, and what it waits for stays.
-use Rattle.std.proofs.Common.{◌≡◌, ◌≢◌, ℕ, zero, suc, ◌+◌, ◌<◌, ◌≤◌, List, [], ◌∷◌, ◌++◌, length, map, cond, Option, Some, None, ◌⊎◌, inl, inr, refl, sym, ap, ◌∙◌, arith, subst, Bool, true, false}
-use Rattle.std.specs.Prelude.{slice_get, slice_set, ◌==◌, ◌&&◌, if◌then◌else◌}
-use Rattle.std.proofs.lemmas.Bool.{cases_eq, eqb-true, eq-eqb, false_from_ne_true, and_parts, false≢true, lt-ltb}
+use Rattle.std.proofs.Common.{◌≡◌, ◌≢◌, ℕ, ◌+◌, ◌<◌, ◌≤◌, List, map, Option, Some, None, inl, inr, refl, sym, ap, ◌∙◌, arith, subst, Bool, true, false}
+use Rattle.std.specs.Prelude.{slice_get, ◌==◌, ◌&&◌, if◌then◌else◌}
+use Rattle.std.proofs.lemmas.Bool.{eqb-true, eq-eqb, false_from_ne_true, and_parts, false≢true, lt-ltb}
 use Rattle.std.proofs.lemmas.Option.{none-some, same_Some}
 use Rattle.bpf_model.specs.Section.{Section, Has, AllEnded}
 use Rattle.bpf_model.specs.Element.{Element, Life, Linked, Unlinked, Reclaimed, is_linked, is_unlinked}
 use Rattle.bpf_model.specs.MapState.{Store}
-use Rattle.bpf_model.specs.Machine.{Run, Machine, open_sections, run_in, run_at, is_inside}
-use Rattle.bpf_model.specs.Schedule.{Queues, Schedule, is_open, open_flags, still_open, retired}
-use Rattle.bpf_model.specs.Consistent.{IsConsistent}
+use Rattle.bpf_model.specs.Machine.{Run, open_sections, run_in, run_at}
+use Rattle.bpf_model.specs.Schedule.{Queues, Schedule, is_open, open_flags}
 use Rattle.bpf_model.specs.Refines.{times, queued_in, Waits}
-use Rattle.model_laws.specs.Begun.{HasBegun, AllBegun}
+use Rattle.model_laws.specs.Begun.{AllBegun}
 use Rattle.model_laws.specs.Scheduled.{IsScheduled}
-use Rattle.model_laws.proofs.Moves.{GoesOn, RunsMove, Fresh, Before, run-before}
-use Rattle.model_laws.proofs.Stores.{LifeMoves, Stays, Unlinks, Ends, Alters, Born, StoreMoves}
+use Rattle.model_laws.proofs.Moves.{RunsMove, run-before}
+use Rattle.model_laws.proofs.Stores.{LifeMoves, Stays, Unlinks, Ends, Alters, StoreMoves}
 use Rattle.model_laws.proofs.Past.{ended-later}
-use Rattle.model_laws.proofs.Keeping.{Past, element-before, begun-unlinked}
-use Rattle.model_laws.proofs.Counting.{newly, times-append, between-is, with_more, retired-back, length-retired, map-forth, still-forth, still-back}
+use Rattle.model_laws.proofs.Keeping.{element-before, begun-unlinked}
+use Rattle.model_laws.proofs.Counting.{newly, map-forth}
 
 linked≢unlinked : (since : List Section) → Linked ≡ Unlinked since → ⊥
 linked≢unlinked since h = cc

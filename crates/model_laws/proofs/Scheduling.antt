@@ -1,5 +1,5 @@
 -- What is so of the runtime's choices at the start, and stays so.
-use Rattle.std.proofs.Common.{◌≡◌, ◌≢◌, ℕ, zero, suc, ◌+◌, ◌<◌, ◌≤◌, List, [], ◌∷◌, ◌++◌, length, map, replicate, Option, Some, None, ◌⊎◌, inl, inr, refl, sym, ap, ◌∙◌, arith, subst, Bool, true, false}
+use Rattle.std.proofs.Common.{◌≡◌, ◌≢◌, ℕ, zero, suc, ◌+◌, ◌<◌, List, [], ◌++◌, map, replicate, Some, None, inl, inr, refl, sym, ap, ◌∙◌, arith, subst, Bool, true, false}
 use Rattle.std.specs.Prelude.{slice_get, slice_set}
 use Rattle.std.proofs.lemmas.Bool.{cases_eq, cases_lt, false≢true}
 use Rattle.std.proofs.lemmas.Option.{none-some, same_Some}
@@ -12,11 +12,11 @@ use Rattle.bpf_model.specs.declared.event.Answer.{Answer}
 use Rattle.bpf_model.specs.declared.event.Answer.TheVariants as answers
 use Rattle.bpf_model.specs.declared.event.Given.{Given}
 use Rattle.bpf_model.specs.Section.{Section, Has, AllEnded}
-use Rattle.bpf_model.specs.Element.{Element, Life, Linked, Unlinked, Reclaimed, HasLife, with_life}
-use Rattle.bpf_model.specs.MapState.{MapState, Store, new_map}
+use Rattle.bpf_model.specs.Element.{Element, Unlinked, Reclaimed, HasLife, with_life}
+use Rattle.bpf_model.specs.MapState.{Store, new_map}
 use Rattle.bpf_model.specs.Reclaim.{Reclaims}
-use Rattle.bpf_model.specs.Machine.{Loaded, Run, Machine, open_sections, section_of, run_at, with_store, start_machine}
-use Rattle.bpf_model.specs.Event.{Performs, Does}
+use Rattle.bpf_model.specs.Machine.{Loaded, Machine, open_sections, with_store}
+use Rattle.bpf_model.specs.Event.{Does}
 use Rattle.bpf_model.specs.Schedule.{Queues, Schedule, open_flags, still_open, is_any, unlinked_between, retired, turned, advanced, first_ready, without_first, reaped, scheduled, TakesFirst, DoesScheduled, start_schedule}
 use Rattle.bpf_model.specs.Consistent.{IsConsistent}
 use Rattle.bpf_model.specs.Refines.{times, queued_in, Waits}
@@ -26,7 +26,7 @@ use Rattle.model_laws.proofs.Sections.{OpenAt, open_at}
 use Rattle.model_laws.proofs.Moves.{RunsMove, does-move}
 use Rattle.model_laws.proofs.Stores.{StoreMoves, is_reap, does-moves}
 use Rattle.model_laws.proofs.Keeping.{starts_consistent, stays_consistent}
-use Rattle.model_laws.proofs.Counting.{newly, times-append, times-first, times-other, between-is, with_more, retired-back, length-retired, map-back, still-forth, still-back, any-place, place-any, shortened, FirstPlace, first-place, none-without, Shrinks, without-back, length-without}
+use Rattle.model_laws.proofs.Counting.{times-append, times-first, times-other, between-is, with_more, retired-back, length-retired, map-back, still-forth, still-back, place-any, shortened, FirstPlace, first-place, none-without, without-back, length-without}
 use Rattle.model_laws.proofs.Queueing.{Queued, queued-of, queued-most, queued-reclaimed, queued-elsewhere, open-flag, keeps-waits, count-step}
 
 abbrev total : ℕ → Queues → ℕ

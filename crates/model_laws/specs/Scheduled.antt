@@ -1,5 +1,5 @@
 -- What is so in each state that the runtime's own choices reach, and when an element may be reclaimed there.
-use Rattle.std.specs.Prelude.{◌≡◌, ℕ, ◌+◌, true, List, length, Some, slice_get}
+use Rattle.std.specs.Prelude.{◌≡◌, ℕ, ◌+◌, true, length, Some, slice_get}
 use Rattle.bpf_model.specs.declared.event.Given.{Given}
 use Rattle.bpf_model.specs.Element.{Element}
 use Rattle.bpf_model.specs.MapState.{Store}

@@ -3,14 +3,14 @@
 //! Each is a function with an empty body, whose contract is the law.
 #![tactic(auto)]
 
-ghost use Rattle.std.specs.Prelude.{◌≡◌, ℕ, Bool, false, List, [], ◌++◌, ◌∷◌, length, slice_get, Some, ◌↔◌};
+ghost use Rattle.std.specs.Prelude.{◌≡◌, ℕ, ◌<◌, ◌^◌, ℤ, pos, Bool, false, List, [], ◌++◌, ◌∷◌, length, slice_get, Some, ◌↔◌};
 ghost use Rattle.bpf_model.specs.declared.event.Event.{Event};
 ghost use Rattle.bpf_model.specs.declared.event.Answer.{Answer};
 ghost use Rattle.bpf_model.specs.declared.event.EventRefusal.{EventRefusal};
-ghost use Rattle.bpf_model.specs.Element.{Reclaimed, HasLife};
+ghost use Rattle.bpf_model.specs.Element.{Element, Reclaimed, HasLife};
 ghost use Rattle.bpf_model.specs.declared.insn.Insn.{Insn};
 ghost use Rattle.bpf_model.specs.declared.limits.MapShape.{MapShape};
-ghost use Rattle.bpf_model.specs.Machine.{Machine, open_sections};
+ghost use Rattle.bpf_model.specs.Machine.{Machine, Loaded, open_sections, start_machine};
 ghost use Rattle.bpf_model.specs.Schedule.{Queues, Schedule, is_any, first_ready, DoesScheduled, IsScheduledHistory, start_schedule};
 ghost use Rattle.bpf_model.specs.Drain.{Drains, machines};
 ghost use Rattle.bpf_model.specs.Plain.{IsPlain};
@@ -18,12 +18,14 @@ ghost use Rattle.bpf_model.specs.PlainMaps.{IsPlainWithMaps};
 ghost use Rattle.bpf_model.specs.Event.{refusal, Does};
 ghost use Rattle.bpf_model.specs.Run.{MachineRun, IsHistory};
 ghost use Rattle.bpf_model.specs.Section.{Section, Has};
-ghost use Rattle.bpf_model.specs.Machine.{Loaded, start_machine};
 ghost use Rattle.bpf_model.specs.Consistent.{IsConsistent};
 ghost use Rattle.bpf_model.specs.Headline.{ReclaimedLate};
+ghost use Rattle.bpf_model.specs.declared.value.Reference.{Reference};
+ghost use Rattle.bpf_model.specs.Word.{IsReferenceWord};
 ghost use Rattle.model_laws.specs.Growth.{Grows};
 ghost use Rattle.model_laws.specs.Begun.{HasBegun};
 ghost use Rattle.model_laws.specs.Scheduled.{IsScheduled, IsReapable};
+ghost use Rattle.model_laws.specs.Near.{Place, IsNearPlace, IsPlaceOf, place_word};
 
 /// An event is refused exactly when a test fails, by the first that does, and then nothing changes.
 pub fn refused_exactly()
@@ -78,7 +80,7 @@ pub fn reclaimed_late()
     ensures { (m : Machine) (events : List Event) (answers : List Answer) (states : List Machine) → IsConsistent m → IsHistory m events answers states → ReclaimedLate (m ∷ states) }
 {}
 
-/// At the start the lists of every map are empty and no run is awaited.
+/// At the start the lists of the runtime's choices are right: nothing is unlinked, and nothing stands in them.
 pub fn starts_scheduled()
     ensures { (shapes : List MapShape) (programs : List Loaded) → IsScheduled (start_schedule shapes programs) }
 {}
@@ -91,22 +93,37 @@ pub fn stays_scheduled()
 
 /// From any such state on: after two advances that meet no open section, a reap finds nothing only when each
 /// element that was unlinked before the first is reclaimed.
-pub fn drains()
+pub fn drains_from()
     ensures { (s : Schedule) (events : List Event) (answers : List Answer) (states : List Schedule) → IsScheduled s → IsScheduledHistory s events answers states → Drains (machines (s ∷ states)) events answers }
 {}
 
 /// The drain law holds of every history from the start.
-pub fn drains_from_start()
+pub fn drains()
     ensures { (shapes : List MapShape) (programs : List Loaded) (events : List Event) (answers : List Answer) (states : List Schedule) → IsScheduledHistory (start_schedule shapes programs) events answers states → Drains (machines (start_schedule shapes programs ∷ states)) events answers }
 {}
 
 /// The element that a reap takes may be reclaimed: it is unlinked, and each section that it remembers has
 /// ended.
-pub fn reapable()
+pub fn reapable_in()
     ensures { (s : Schedule) (n : ℕ) → IsScheduled s → first_ready s.queues ≡ Some n → IsReapable s.machine n }
 {}
 
 /// In each state of every history from the start, the element that a reap would take may be reclaimed.
-pub fn reapable_from_start()
+pub fn reapable()
     ensures { (shapes : List MapShape) (programs : List Loaded) (events : List Event) (answers : List Answer) (states : List Schedule) (j n : ℕ) (s : Schedule) → IsScheduledHistory (start_schedule shapes programs) events answers states → slice_get (start_schedule shapes programs ∷ states) j ≡ Some s → first_ready s.queues ≡ Some n → IsReapable s.machine n }
+{}
+
+/// The word that stands for a reference is the word of the place that the reference names.
+pub fn words_of_places()
+    ensures { (slots : List ℕ) (es : List Element) (r : Reference) (p : Place) (w : ℕ) → IsPlaceOf slots es r p → IsReferenceWord slots es r w → pos w ≡ place_word p }
+{}
+
+/// Two near places with one word are one place: of one region, one slot and one offset.
+pub fn near_words_differ()
+    ensures { (p q : Place) → IsNearPlace p → IsNearPlace q → place_word p ≡ place_word q → p ≡ q }
+{}
+
+/// Each near place has a word of 64 bits, and it is not 0.
+pub fn near_words_fit()
+    ensures { (p : Place) → IsNearPlace p → (w : ℕ) × (place_word p ≡ pos w) × (0 < w) × (w < 2 ^ 64) }
 {}
