@@ -1,6 +1,6 @@
 -- After two quiet advances, a reap finds nothing only when everything that was unlinked before is reclaimed.
 use Rattle.std.proofs.Common.{◌≡◌, ◌≢◌, ℕ, zero, suc, ◌+◌, ◌<◌, List, [], ◌∷◌, length, map, Option, Some, None, refl, sym, ap, ◌∙◌, arith, subst, Bool, true, false}
-use Rattle.std.specs.Prelude.{slice_get, ◌==◌, ◌&&◌, if◌then◌else◌}
+use Rattle.std.specs.Prelude.{slice_get, slice_set, ◌==◌, ◌&&◌}
 use Rattle.std.proofs.lemmas.Bool.{false_from_ne_true, false≢true}
 use Rattle.std.proofs.lemmas.Option.{none-some, same_Some, slice_get_within}
 use Rattle.bpf_model.specs.declared.limits.MapShape.{MapShape}
@@ -8,32 +8,30 @@ use Rattle.bpf_model.specs.declared.event.Event.{Event}
 use Rattle.bpf_model.specs.declared.event.Event.TheVariants as events
 use Rattle.bpf_model.specs.declared.event.Answer.{Answer}
 use Rattle.bpf_model.specs.declared.event.Answer.TheVariants as answers
+use Rattle.bpf_model.specs.declared.event.Given.{Given}
+use Rattle.bpf_model.specs.declared.event.ReapedElement.{ReapedElement}
 use Rattle.bpf_model.specs.Section.{Section, AllEnded}
-use Rattle.bpf_model.specs.Element.{Element, Life, Linked, Unlinked, Reclaimed, HasLife, is_linked, is_unlinked}
-use Rattle.bpf_model.specs.MapState.{Store, given_of}
-use Rattle.bpf_model.specs.Machine.{Loaded, Machine, open_sections}
+use Rattle.bpf_model.specs.Element.{Element, Life, Linked, Unlinked, Reclaimed, HasLife, is_linked, is_unlinked, with_life}
+use Rattle.bpf_model.specs.MapState.{MapState, Store, given_of}
+use Rattle.bpf_model.specs.Reclaim.{Reclaims}
+use Rattle.bpf_model.specs.Machine.{Loaded, Machine, open_sections, with_store}
 use Rattle.bpf_model.specs.Schedule.{Queues, Schedule, open_flags, is_any, unlinked_between, turned, advanced, first_ready, reaped, scheduled, TakesFirst, DoesScheduled, IsScheduledHistory, start_schedule}
 use Rattle.bpf_model.specs.Drain.{IsQuietAdvance, Drains, machines}
 use Rattle.bpf_model.specs.Refines.{times}
 use Rattle.model_laws.specs.Scheduled.{IsScheduled, IsReapable}
-use Rattle.model_laws.proofs.Lists.{get-below}
+use Rattle.model_laws.proofs.Lists.{get-below, get-set_same, length-slice_set}
 use Rattle.model_laws.proofs.Advancing.{no_flag}
 use Rattle.model_laws.proofs.Stores.{LifeMoves, Stays, Unlinks, Ends, StoreMoves, is_reap, does-moves}
 use Rattle.model_laws.proofs.Counting.{newly, times-append, times-first, between-is, with_more, retired-back, map-back, any-place, place-any, first-place, none-ready, without-back}
 use Rattle.model_laws.proofs.Queueing.{Queued, queued-here}
 use Rattle.model_laws.proofs.Scheduling.{plain, first-queued, starts_scheduled, stays_scheduled}
+use Rattle.model_laws.proofs.Lives.{linked≢unlinked, reclaimed≢linked, one_if}
 
 -- an element that isn't linked any more
 pub record IsOut (es : List Element) (n : ℕ) : Type 0 where
   pub element : Element
   pub born : slice_get es n ≡ Some element
   pub out : element.life ≢ Linked
-
-reclaimed≢linked : Reclaimed ≡ Linked → ⊥
-reclaimed≢linked h = cc
-
-unlinked≢linked : (since : List Section) → Unlinked since ≡ Linked → ⊥
-unlinked≢linked since h = cc
 
 life-out : (reap : Bool) (opened : List Section) (old new : Life) → LifeMoves reap opened old new → old ≢ Linked → new ≢ Linked
 life-out reap opened old new (Stays e) h g = h (sym e ∙ g)
@@ -56,9 +54,6 @@ not-linked : (l : Life) → l ≢ Linked → is_linked l ≡ false
 not-linked Linked h = absurd (h refl)
 not-linked (Unlinked since) h = refl
 not-linked Reclaimed h = refl
-
-abbrev one_if : Bool → ℕ
-one_if b = if b then 1 else 0
 
 newly-out : (k : ℕ) (e : Element) (o : Option Element) → e.life ≢ Linked → newly k (Some e) o ≡ 0
 newly-out k e None h = refl
@@ -221,7 +216,7 @@ drain-second s (event ∷ evs) (answer ∷ ans) (next ∷ states) n w h r (suc j
 drain-second s evs ans states n w h r j k second later q ek ak sk less = absurd h
 
 out-unlinked : (s : Schedule) (first : Machine) (n : ℕ) (since : List Section) → s.machine ≡ first → HasLife first.store.elements n (Unlinked since) → IsOut s.machine.store.elements n
-out-unlinked s first n since e h = subst (λ x. IsOut x.store.elements n) (sym e) (record { element = h.0; born = h.1; out = λ l. unlinked≢linked since (sym h.2 ∙ l) })
+out-unlinked s first n since e h = subst (λ x. IsOut x.store.elements n) (sym e) (record { element = h.0; born = h.1; out = λ l. linked≢unlinked since (sym l ∙ h.2) })
 
 pub drains_from : (s : Schedule) (evs : List Event) (ans : List Answer) (states : List Schedule) → IsScheduled s → IsScheduledHistory s evs ans states → Drains (machines (s ∷ states)) evs ans
 drains_from s [] [] [] w h i j k n first second later since p q ij ek ak sk jk life = absurd (none-some events.Reap ek)
@@ -260,3 +255,38 @@ scheduled-along s evs ans states w h (suc j) later at = absurd h
 
 pub reapable : (shapes : List MapShape) (programs : List Loaded) (evs : List Event) (ans : List Answer) (states : List Schedule) (j n : ℕ) (s : Schedule) → IsScheduledHistory (start_schedule shapes programs) evs ans states → slice_get (start_schedule shapes programs ∷ states) j ≡ Some s → first_ready s.queues ≡ Some n → IsReapable s.machine n
 reapable shapes programs evs ans states j n s h at first = reapable_in s n (scheduled-along (start_schedule shapes programs) evs ans states (starts_scheduled shapes programs) h j s at) first
+
+-- a reap of it is a step
+none-after : (es : List Element) (e : Element) → slice_get es (length es) ≡ Some e → ⊥
+none-after es e h = let bad : length es < length es = slice_get_within es (length es) e h in absurd (omega arith)
+
+no-birth : (es new : List Element) (e : Element) → length new ≡ length es → slice_get new (length es) ≡ Some e → ⊥
+no-birth es new e same h = none-after new e (ap (slice_get new) same ∙ h)
+
+takes-first : (s : Schedule) (n : ℕ) (e : Element) (taken : ReapedElement) (store : Store) → first_ready s.queues ≡ Some n → Reclaims s.machine.store (open_sections s.machine.runs) n e taken.given store → taken.map ≡ e.map → taken.key.items ≡ e.key →
+    (new : Schedule) × DoesScheduled s events.Reap (answers.Reaped (Some taken)) new
+takes-first s n e taken store first r map key =
+    let es : store.elements ≡ slice_set s.machine.store.elements n (with_life Reclaimed e) = ap (λ z. z.elements) r.new_is in
+    let gone : slice_get store.elements n ≡ Some (with_life Reclaimed e) = ap (λ l. slice_get l n) es ∙ get-set_same s.machine.store.elements n e (with_life Reclaimed e) r.born in
+    let same : length store.elements ≡ length s.machine.store.elements = ap length es ∙ length-slice_set s.machine.store.elements n (with_life Reclaimed e) in (
+      reaped s (with_store s.machine store),
+      record {
+        step = (n, e, store, r, map, key, refl);
+        first = (n, first, (with_life Reclaimed e, gone, refl));
+        oldest = λ f before after at old new. absurd (no-birth s.machine.store.elements store.elements f same at);
+        lists = refl;
+      },
+    )
+
+reclaims-as : (s : Store) (opened : List Section) (n : ℕ) (d e : Element) (given wanted : Given) (new : Store) (state : MapState) → Reclaims s opened n d given new → slice_get s.elements n ≡ Some e → slice_get s.maps e.map ≡ Some state → wanted ≡ given_of e.uses state → Reclaims s opened n e wanted new
+reclaims-as s opened n d e given wanted new state r at there w =
+    let one : d ≡ e = same_Some d e (sym r.born ∙ at) in
+    let maps : r.state ≡ state = same_Some r.state state (sym r.there ∙ (ap (λ x. slice_get s.maps x.map) one ∙ there)) in
+    let given_same : given ≡ wanted = r.given_is ∙ (ap (λ x. given_of x.uses r.state) one ∙ (ap (given_of e.uses) maps ∙ sym w)) in
+    subst (λ x. Reclaims s opened n e x new) given_same (subst (λ x. Reclaims s opened n x given new) one r)
+
+pub reap_steps : (s : Schedule) (n : ℕ) (e : Element) (state : MapState) (taken : ReapedElement) → IsScheduled s → first_ready s.queues ≡ Some n → slice_get s.machine.store.elements n ≡ Some e → slice_get s.machine.store.maps e.map ≡ Some state →
+    taken.map ≡ e.map → taken.key.items ≡ e.key → taken.given ≡ given_of e.uses state → (new : Schedule) × DoesScheduled s events.Reap (answers.Reaped (Some taken)) new
+reap_steps s n e state taken w first at there map key given =
+    let r = reapable_in s n w first in
+    takes-first s n e taken r.2 first (reclaims-as s.machine.store (open_sections s.machine.runs) n r.0 e r.1 taken.given r.2 state r.3 at there given) map key

@@ -8,7 +8,7 @@ use Rattle.bpf_model.specs.declared.limits.TheConstants.{MAX_DEPTH, MAX_RUNS}
 use Rattle.bpf_model.specs.declared.event.Event.{Event}
 use Rattle.bpf_model.specs.declared.event.Answer.{Answer}
 use Rattle.bpf_model.specs.Section.{Section}
-use Rattle.bpf_model.specs.Element.{Element, Life, Linked, Unlinked, Reclaimed, IsLinkedAt}
+use Rattle.bpf_model.specs.Element.{Element, Life, Linked, Unlinked, IsLinkedAt}
 use Rattle.bpf_model.specs.MapState.{MapState, Store}
 use Rattle.bpf_model.specs.Machine.{Loaded, Run, Machine, open_sections, run_at, start_machine}
 use Rattle.bpf_model.specs.Event.{Does}
@@ -19,6 +19,7 @@ use Rattle.model_laws.proofs.Born.{IsBornState, more-value, more-cell, born-entr
 use Rattle.model_laws.proofs.Moves.{RunsMove, run-before, started-grows, does-move}
 use Rattle.model_laws.proofs.Stores.{LifeMoves, Stays, Unlinks, Ends, Alters, Born, StoreMoves, is_reap, does-moves}
 use Rattle.model_laws.proofs.Past.{all-begun-later, open-begun}
+use Rattle.model_laws.proofs.Lives.{linked≢unlinked, reclaimed≢linked, reclaimed≢unlinked, same-since}
 
 -- at the start
 no-run : (n r : ℕ) (run : Run) → run_at (replicate n None) r ≡ Some run → ⊥
@@ -58,7 +59,7 @@ element-before reap opened s new n f mv h = elim (mv.back n f h) [
 linked-before : (reap : Bool) (opened : List Section) (old new : Life) → LifeMoves reap opened old new → new ≡ Linked → old ≡ Linked
 linked-before reap opened old new (Stays e) h = sym e ∙ h
 linked-before reap opened old new (Unlinks l e) h = l
-linked-before reap opened old new (Ends since r l ended e) h = let bad : Reclaimed ≡ Linked = sym e ∙ h in absurd (cc)
+linked-before reap opened old new (Ends since r l ended e) h = absurd (reclaimed≢linked (sym e ∙ h))
 
 module _ (reap : Bool) (opened : List Section) (s new : Store) (mv : StoreMoves reap opened s new) where
   link-before : (map : ℕ) (key : List ℕ) (a : ℕ) → IsLinkedAt new.elements map key a → IsLinkedAt s.elements map key a ⊎ ((b : ℕ) → IsLinkedAt new.elements map key b → b ≡ a)
@@ -113,22 +114,16 @@ module _ (reap : Bool) (opened : List Section) (s new : Store) (mv : StoreMoves 
 pub begun-unlinked : (m : Machine) (n : ℕ) (e : Element) (since : List Section) → IsConsistent m → slice_get m.store.elements n ≡ Some e → e.life ≡ Unlinked since → AllBegun m since
 begun-unlinked m n e since w at life s has = record { started = w.past n e since s at life has; opened = λ r run there same. w.begun n e since s r run at life has there same }
 
-same-since : (a b : List Section) → Unlinked a ≡ Unlinked b → a ≡ b
-same-since a b h = cc
-
 begun-life : (reap : Bool) (m : Machine) (old new : Life) (since : List Section) → IsConsistent m → LifeMoves reap (open_sections m.runs) old new → new ≡ Unlinked since → (old ≡ Unlinked since → AllBegun m since) → AllBegun m since
 begun-life reap m old new since w (Stays e) h k = k (sym e ∙ h)
 begun-life reap m old new since w (Unlinks l e) h k = subst (AllBegun m) (same-since _ _ (sym e ∙ h)) (open-begun m w)
-begun-life reap m old new since w (Ends past r l ended e) h k = let bad : Reclaimed ≡ Unlinked since = sym e ∙ h in absurd (cc)
-
-linked-unlinked : (l : Life) (since : List Section) → l ≡ Linked → l ≡ Unlinked since → ⊥
-linked-unlinked l since h g = let bad : Linked ≡ Unlinked since = sym h ∙ g in absurd (cc)
+begun-life reap m old new since w (Ends past r l ended e) h k = absurd (reclaimed≢unlinked since (sym e ∙ h))
 
 module _ (reap : Bool) (m new : Machine) (w : IsConsistent m) (runs : RunsMove m new) (mv : StoreMoves reap (open_sections m.runs) m.store new.store) where
   begun-new : (n : ℕ) (f : Element) (since : List Section) → slice_get new.store.elements n ≡ Some f → f.life ≡ Unlinked since → AllBegun new since
   begun-new n f since at life = elim (element-before reap (open_sections m.runs) m.store new.store n f mv at) [
     | inl x ↦ all-begun-later m new since runs (begun-life reap m x.old.life f.life since w x.alters.life life (λ l. begun-unlinked m n x.old since w x.there l))
-    | inr x ↦ absurd (linked-unlinked f.life since x.linked life)
+    | inr x ↦ absurd (linked≢unlinked since (sym x.linked ∙ life))
   ]
 
   named-new : (r : ℕ) (run : Run) → run_at new.runs r ≡ Some run → run.name < new.started

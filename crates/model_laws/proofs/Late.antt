@@ -16,18 +16,7 @@ use Rattle.model_laws.proofs.Moves.{does-move}
 use Rattle.model_laws.proofs.Stores.{LifeMoves, Stays, Unlinks, Ends, is_reap, does-moves}
 use Rattle.model_laws.proofs.Past.{all-begun-later, ended-later, open-begun}
 use Rattle.model_laws.proofs.Keeping.{stays_consistent}
-
-linked≢unlinked : (since : List Section) → Linked ≡ Unlinked since → ⊥
-linked≢unlinked since h = cc
-
-linked≢reclaimed : Linked ≡ Reclaimed → ⊥
-linked≢reclaimed h = cc
-
-reclaimed≢unlinked : (since : List Section) → Reclaimed ≡ Unlinked since → ⊥
-reclaimed≢unlinked since h = cc
-
-same-since : (a b : List Section) → Unlinked a ≡ Unlinked b → a ≡ b
-same-since a b h = cc
+use Rattle.model_laws.proofs.Lives.{linked≢unlinked, reclaimed≢unlinked, same-since}
 
 -- what was linked and is unlinked after a step has the sections that were open
 life-unlinked : (reap : Bool) (opened since : List Section) (old new : Life) → LifeMoves reap opened old new → old ≡ Linked → new ≡ Unlinked since → since ≡ opened

@@ -1,4 +1,5 @@
 pub mod Lists
+pub mod Lives
 pub mod Growing
 pub mod Stepping
 pub mod Cutting

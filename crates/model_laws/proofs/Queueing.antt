@@ -16,12 +16,7 @@ use Rattle.model_laws.proofs.Stores.{LifeMoves, Stays, Unlinks, Ends, Alters, St
 use Rattle.model_laws.proofs.Past.{ended-later}
 use Rattle.model_laws.proofs.Keeping.{element-before, begun-unlinked}
 use Rattle.model_laws.proofs.Counting.{newly, map-forth}
-
-linked≢unlinked : (since : List Section) → Linked ≡ Unlinked since → ⊥
-linked≢unlinked since h = cc
-
-reclaimed≢unlinked : (since : List Section) → Reclaimed ≡ Unlinked since → ⊥
-reclaimed≢unlinked since h = cc
+use Rattle.model_laws.proofs.Lives.{linked≢unlinked, reclaimed≢unlinked, one_if}
 
 -- what is queued is an unlinked element of the map
 pub record Queued (es : List Element) (k n : ℕ) : Type 0 where
@@ -30,9 +25,6 @@ pub record Queued (es : List Element) (k n : ℕ) : Type 0 where
   pub born : slice_get es n ≡ Some element
   pub life : element.life ≡ Unlinked since
   pub in_map : element.map ≡ k
-
-abbrev one_if : Bool → ℕ
-one_if b = if b then 1 else 0
 
 one-true : (b : Bool) → 0 < (if b then 1 else 0) → b ≡ true
 one-true true h = refl

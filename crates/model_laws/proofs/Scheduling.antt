@@ -28,6 +28,7 @@ use Rattle.model_laws.proofs.Stores.{StoreMoves, is_reap, does-moves}
 use Rattle.model_laws.proofs.Keeping.{starts_consistent, stays_consistent}
 use Rattle.model_laws.proofs.Counting.{times-append, times-first, times-other, between-is, with_more, retired-back, length-retired, map-back, still-forth, still-back, place-any, shortened, FirstPlace, first-place, none-without, without-back, length-without}
 use Rattle.model_laws.proofs.Queueing.{Queued, queued-of, queued-most, queued-reclaimed, queued-elsewhere, open-flag, keeps-waits, count-step}
+use Rattle.model_laws.proofs.Lives.{reclaimed≢unlinked}
 
 abbrev total : ℕ → Queues → ℕ
 total n q = times n q.next + times n q.waiting + times n q.ready
@@ -128,9 +129,6 @@ keeps-none s m w e none =
     subst P (sym (none-without s.queues none)) (subst Q (sym e) w)
 
 -- a reap that takes an element
-unlinked≢reclaimed : (since : List Section) → Unlinked since ≡ Reclaimed → ⊥
-unlinked≢reclaimed since h = cc
-
 pub first-queued : (s : Schedule) (n : ℕ) → IsScheduled s → (p : FirstPlace s.queues n) → Queued s.machine.store.elements p.map_at n
 first-queued s n w p = queued-of s p.map_at n p.lists w p.there (let a : times n p.lists.ready ≡ 1 + times n p.rest = ap (times n) p.ready_is ∙ times-first n n p.rest refl in omega arith)
 
@@ -141,7 +139,7 @@ same-element es new k n a e q is life = elim (cases_eq n a) [
   | inr ne ↦
       let there : slice_get new n ≡ Some q.element = ap (λ l. slice_get l n) is ∙ (get-set_other es a n (with_life Reclaimed e) ne ∙ q.born) in
       let same : q.element ≡ life.0 = same_Some q.element life.0 (sym there ∙ life.1) in
-      absurd (unlinked≢reclaimed q.since (sym q.life ∙ (ap (λ z. z.life) same ∙ life.2)))
+      absurd (reclaimed≢unlinked q.since (sym life.2 ∙ (ap (λ z. z.life) (sym same) ∙ q.life)))
 ]
 
 others-stay : (es new : List Element) (n a : ℕ) (e : Element) → n ≡ a → new ≡ slice_set es a (with_life Reclaimed e) → (x : ℕ) → x ≢ n → slice_get new x ≡ slice_get es x

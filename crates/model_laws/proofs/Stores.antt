@@ -38,6 +38,7 @@ use Rattle.bpf_model.specs.Machine.{Run, Machine, environment, open_sections}
 use Rattle.bpf_model.specs.MachineStep.{AccessesElement, Acts, HelperStep, InsnStep, element_store, stored_in, with_bytes, bytes_at, bytes_from, frame_bytes, key_argument, value_argument}
 use Rattle.bpf_model.specs.Event.{Performs, Answers, Does, refusal, update_refusal}
 use Rattle.model_laws.proofs.Lists.{first-step, get-append, get-append_cases, get-set_same, get-set_other, get-set_cases, length-slice_set}
+use Rattle.model_laws.proofs.Lives.{linked≢unlinked}
 
 -- How a life goes on in one step: it stays, the element is unlinked, or (in a reap) its sections have ended.
 pub data LifeMoves (reap : Bool) (opened : List Section) (old new : Life) : Type 0 where
@@ -179,12 +180,9 @@ IsSingle es = (map : ℕ) (key : List ℕ) (a b : ℕ) → IsLinkedAt es map key
 abbrev Fits : map_state.Store → ℕ → List ℕ → List ℕ → Type 0
 Fits s map key value = (state : MapState) → slice_get s.maps map ≡ Some state → (length key ≡ state.shape.key_len) × (length value ≡ state.shape.value_len)
 
-linked-not_unlinked : (opened : List Section) (e f : Element) → with_life (Unlinked opened) e ≡ f → f.life ≡ Linked → ⊥
-linked-not_unlinked opened e f h g = let bad : Unlinked opened ≡ Linked = ap (λ x. x.life) h ∙ g in absurd (cc)
-
 absent-set : (opened : List Section) (es : List Element) (map : ℕ) (key : List ℕ) (n : ℕ) (e : Element) → IsSingle es → IsLinkedAt es map key n → IsAbsent (slice_set es n (with_life (Unlinked opened) e)) map key
 absent-set opened es map key n e single l a found = elim (get-set_cases es n a (with_life (Unlinked opened) e) found.element found.born) [
-  | inl x ↦ linked-not_unlinked opened e found.element x.1 found.linked
+  | inl x ↦ absurd (linked≢unlinked opened (sym found.linked ∙ ap (λ z. z.life) (sym x.1)))
   | inr x ↦ x.0 (single map key a n (record { element = found.element; born = x.1; linked = found.linked; in_map = found.in_map; under = found.under }) l)
 ]
 

@@ -7,6 +7,8 @@ ghost use Rattle.std.specs.Prelude.{◌≡◌, ℕ, ◌<◌, ◌^◌, ℤ, pos, 
 ghost use Rattle.bpf_model.specs.declared.event.Event.{Event};
 ghost use Rattle.bpf_model.specs.declared.event.Answer.{Answer};
 ghost use Rattle.bpf_model.specs.declared.event.EventRefusal.{EventRefusal};
+ghost use Rattle.bpf_model.specs.declared.event.ReapedElement.{ReapedElement};
+ghost use Rattle.bpf_model.specs.MapState.{MapState, given_of};
 ghost use Rattle.bpf_model.specs.Element.{Element, Reclaimed, HasLife};
 ghost use Rattle.bpf_model.specs.declared.insn.Insn.{Insn};
 ghost use Rattle.bpf_model.specs.declared.limits.MapShape.{MapShape};
@@ -111,6 +113,12 @@ pub fn reapable_in()
 /// In each state of every history from the start, the element that a reap would take may be reclaimed.
 pub fn reapable()
     ensures { (shapes : List MapShape) (programs : List Loaded) (events : List Event) (answers : List Answer) (states : List Schedule) (j n : ℕ) (s : Schedule) → IsScheduledHistory (start_schedule shapes programs) events answers states → slice_get (start_schedule shapes programs ∷ states) j ≡ Some s → first_ready s.queues ≡ Some n → IsReapable s.machine n }
+{}
+
+/// A reap that takes the first ready element, and answers with its map, its key and what becomes of its slot,
+/// is a step with the runtime's choices.
+pub fn reap_steps()
+    ensures { (s : Schedule) (n : ℕ) (e : Element) (state : MapState) (taken : ReapedElement) → IsScheduled s → first_ready s.queues ≡ Some n → slice_get s.machine.store.elements n ≡ Some e → slice_get s.machine.store.maps e.map ≡ Some state → taken.map ≡ e.map → taken.key.items ≡ e.key → taken.given ≡ given_of e.uses state → (new : Schedule) × DoesScheduled s Event.Reap (Answer.Reaped (Some taken)) new }
 {}
 
 /// The word that stands for a reference is the word of the place that the reference names.
