@@ -23,6 +23,8 @@ ghost use Rattle.bpf_model.specs.Section.{Section, Has};
 ghost use Rattle.bpf_model.specs.Consistent.{IsConsistent};
 ghost use Rattle.bpf_model.specs.Headline.{ReclaimedLate};
 ghost use Rattle.bpf_model.specs.declared.value.Reference.{Reference};
+ghost use Rattle.bpf_model.specs.View.{WorldView};
+ghost use Rattle.bpf_model.specs.Refines.{RefinesSchedule};
 ghost use Rattle.bpf_model.specs.Word.{IsReferenceWord};
 ghost use Rattle.model_laws.specs.Growth.{Grows};
 ghost use Rattle.model_laws.specs.Begun.{HasBegun};
@@ -93,7 +95,12 @@ pub fn stays_scheduled()
     ensures { (old new : Schedule) (event : Event) (answer : Answer) → IsScheduled old → DoesScheduled old event answer new → IsScheduled new }
 {}
 
-/// From any such state on: after two advances that meet no open section, a reap finds nothing only when each
+/// Each schedule that a world refines has its lists right, so that the laws of the runtime's choices hold of it.
+pub fn refined_is_scheduled()
+    ensures { (w : WorldView) (s : Schedule) → RefinesSchedule w s → IsScheduled s }
+{}
+
+/// From any schedule whose lists are right: after two advances that meet no open section, a reap finds nothing only when each
 /// element that was unlinked before the first is reclaimed.
 pub fn drains_from()
     ensures { (s : Schedule) (events : List Event) (answers : List Answer) (states : List Schedule) → IsScheduled s → IsScheduledHistory s events answers states → Drains (machines (s ∷ states)) events answers }
