@@ -7,7 +7,7 @@ use Rattle.bpf_model.specs.declared.event.Answer.TheVariants.{Reaped}
 use Rattle.bpf_model.specs.Section.{Section}
 use Rattle.bpf_model.specs.Element.{Unlinked, Reclaimed, HasLife}
 use Rattle.bpf_model.specs.Machine.{Machine, open_sections}
-use Rattle.bpf_model.specs.Schedule.{Schedule, IsScheduledHistory, last_scheduled}
+use Rattle.bpf_model.specs.Schedule.{Schedule, DoesScheduled, IsScheduledHistory, last_scheduled}
 
 -- Event k is an advance, and no section is open at it.
 pub record IsQuietAdvance (states : List Machine) (events : List Event) (k : ℕ) (m : Machine) : Type 0 where
@@ -29,8 +29,13 @@ abbrev pub machines : List Schedule → List Machine
 machines states = map (λ s. s.machine) states
 
 module _ {World : Type 0} where
-  -- The answers are those of a run with this runtime's choices, in which the drain law holds, and the world refines its last state.
+  -- The answer to one event is a step with this runtime's choices.
+  abbrev pub AnswersAsScheduled : (World → Schedule → Type 0) → World → Event → Answer → World → Type 0
+  AnswersAsScheduled Tracks old event answer new =
+      (s : Schedule) → Tracks old s → (next : Schedule) × DoesScheduled s event answer next × Tracks new next
+
+  -- The answers are those of a run with this runtime's choices, in which the drain law holds, and the world tracks its last state.
   abbrev pub AreScheduledAnswers : (World → Schedule → Type 0) → World → List Event → List Answer → World → Type 0
-  AreScheduledAnswers Refines old events answers new =
-      (s : Schedule) → Refines old s →
-      (states : List Schedule) × IsScheduledHistory s events answers states × Drains (machines (s ∷ states)) events answers × Refines new (last_scheduled s states)
+  AreScheduledAnswers Tracks old events answers new =
+      (s : Schedule) → Tracks old s →
+      (states : List Schedule) × IsScheduledHistory s events answers states × Drains (machines (s ∷ states)) events answers × Tracks new (last_scheduled s states)

@@ -1,5 +1,5 @@
 -- The four parts of the main theorem, over whole runs of the machine: its answers, that it is never stuck, that its runs end in time, and that
--- elements are reclaimed late. What a world keeps is a type of its own here, with the relation to the machine's states that it refines.
+-- elements are reclaimed late. What a world keeps is a type of its own here, with the relation to the machine's states that it tracks.
 use Rattle.std.specs.Prelude.{◌≡◌, ℕ, suc, ◌+◌, ◌<◌, ◌==◌, Bool, false, List, ◌∷◌, Option, Some, None, slice_get, length, take, if◌then◌else◌}
 use Rattle.bpf_model.specs.declared.event.Event.{Event}
 use Rattle.bpf_model.specs.declared.event.Event.TheVariants.{Start, Step}
@@ -12,7 +12,8 @@ use Rattle.bpf_model.specs.MachineStep.{NeverStuck}
 use Rattle.bpf_model.specs.Event.{Does}
 use Rattle.bpf_model.specs.Run.{IsHistory, last_of, AllStates}
 
--- How many moves the run in slot r has answered since it started there, by the answers alone.
+-- How many moves the run in slot r has answered since it started there: by the answers alone, from a number on for a run that was there
+-- before the first of them.
 abbrev pub moved_once : Answer → ℕ
 moved_once Moved = 1
 moved_once answer = 0
@@ -40,35 +41,35 @@ ExitsInTime m events answers states =
     (j r : ℕ) (later : Machine) (run : Run) → slice_get (m ∷ states) j ≡ Some later → run_at later.runs r ≡ Some run →
     moves_of r (moved_by (run_at m.runs r)) (take j events) (take j answers) < length run.program.code
 
--- Where an element is linked in one state, unlinked in the next and reclaimed in a later one, each section that was open when it was unlinked
--- has ended there.
-abbrev pub ReclaimedLate : List Machine → Type 0
-ReclaimedLate states =
-    (i j n : ℕ) (before after later : Machine) (since : List Section) →
-    slice_get states i ≡ Some before → slice_get states (suc i) ≡ Some after → slice_get states j ≡ Some later → i < j →
-    HasLife before.store.elements n Linked → HasLife after.store.elements n (Unlinked since) → HasLife later.store.elements n Reclaimed →
-    AllEnded (open_sections before.runs) (open_sections later.runs)
+-- An element that is unlinked keeps the sections that are open at that moment, and it is reclaimed only when each of them has ended.
+pub record ReclaimedLate (states : List Machine) : Type 0 where
+  -- where it is linked in one state and unlinked in the next, it keeps the sections that are open in the first
+  pub keeps : (i n : ℕ) (before after : Machine) (since : List Section) → slice_get states i ≡ Some before → slice_get states (suc i) ≡ Some after →
+      HasLife before.store.elements n Linked → HasLife after.store.elements n (Unlinked since) → since ≡ open_sections before.runs
+  -- where it is unlinked in one state and reclaimed in a later one, each section that it keeps has ended there
+  pub ended : (i j n : ℕ) (m later : Machine) (since : List Section) → slice_get states i ≡ Some m → slice_get states j ≡ Some later → i < j →
+      HasLife m.store.elements n (Unlinked since) → HasLife later.store.elements n Reclaimed → AllEnded since (open_sections later.runs)
 
 module _ {World : Type 0} where
-  -- The answer to one event is a step of each machine that the world refined, to one that it refines afterwards.
+  -- The answer to one event is a step of each machine that the world tracked, to one that it tracks afterwards.
   abbrev pub AnswersAsMachine : (World → Machine → Type 0) → World → Event → Answer → World → Type 0
-  AnswersAsMachine Refines old event answer new =
-      (m : Machine) → Refines old m → (next : Machine) × Does m event answer next × Refines new next
+  AnswersAsMachine Tracks old event answer new =
+      (m : Machine) → Tracks old m → (next : Machine) × Does m event answer next × Tracks new next
 
-  -- The answers are those of a run of the machine, and the world refines its last state.
+  -- The answers are those of a run of the machine, and the world tracks its last state.
   abbrev pub AreMachineAnswers : (World → Machine → Type 0) → World → List Event → List Answer → World → Type 0
-  AreMachineAnswers Refines old events answers new =
-      (m : Machine) → Refines old m → (states : List Machine) × IsHistory m events answers states × Refines new (last_of m states)
+  AreMachineAnswers Tracks old events answers new =
+      (m : Machine) → Tracks old m → (states : List Machine) × IsHistory m events answers states × Tracks new (last_of m states)
 
   -- In every run of the machine with these answers, each run that hasn't ended has a step, in each state.
   abbrev pub AreNeverStuck : (World → Machine → Type 0) → World → List Event → List Answer → Type 0
-  AreNeverStuck Refines old events answers =
-      (m : Machine) → Refines old m → (states : List Machine) → IsHistory m events answers states → AllStates NeverStuck (m ∷ states)
+  AreNeverStuck Tracks old events answers =
+      (m : Machine) → Tracks old m → (states : List Machine) → IsHistory m events answers states → AllStates NeverStuck (m ∷ states)
 
   abbrev pub AllExitInTime : (World → Machine → Type 0) → World → List Event → List Answer → Type 0
-  AllExitInTime Refines old events answers =
-      (m : Machine) → Refines old m → (states : List Machine) → IsHistory m events answers states → ExitsInTime m events answers states
+  AllExitInTime Tracks old events answers =
+      (m : Machine) → Tracks old m → (states : List Machine) → IsHistory m events answers states → ExitsInTime m events answers states
 
   abbrev pub AreReclaimedLate : (World → Machine → Type 0) → World → List Event → List Answer → Type 0
-  AreReclaimedLate Refines old events answers =
-      (m : Machine) → Refines old m → (states : List Machine) → IsHistory m events answers states → ReclaimedLate (m ∷ states)
+  AreReclaimedLate Tracks old events answers =
+      (m : Machine) → Tracks old m → (states : List Machine) → IsHistory m events answers states → ReclaimedLate (m ∷ states)

@@ -1,12 +1,14 @@
 -- When a world refines a state of the machine: one naming of births by slots turns what the world keeps into that state.
 use Rattle.std.specs.Prelude.{◌≡◌, ℕ, ◌+◌, ◌<◌, ◌≤◌, ◌==◌, ◌&&◌, true, false, List, Option, Some, None, slice_get, slice_index, map, count_by, length, if◌then◌else◌}
 use Rattle.std.specs.FinMap.{get}
+use Rattle.bpf_model.specs.declared.limits.MapShape.{MapShape}
+use Rattle.bpf_model.specs.declared.event.Event.{Event}
+use Rattle.bpf_model.specs.declared.event.Answer.{Answer}
 use Rattle.bpf_model.specs.Section.{Section, Has, AllEnded}
 use Rattle.bpf_model.specs.Element.{Element, Unlinked, IsLinkedAt, is_unlinked, is_reclaimed}
-use Rattle.bpf_model.specs.MapState.{MapState}
+use Rattle.bpf_model.specs.MapState.{MapState, IsShape}
 use Rattle.bpf_model.specs.Machine.{Loaded, Run, Machine, open_sections, run_at}
-use Rattle.bpf_model.specs.Schedule.{Queues, Schedule, open_flags}
-use Rattle.bpf_model.specs.Consistent.{IsConsistent}
+use Rattle.bpf_model.specs.Schedule.{Queues, Schedule, open_flags, IsScheduledHistory, last_scheduled, start_schedule}
 use Rattle.bpf_model.specs.View.{SlotView, MapView, RunView, WorldView}
 use Rattle.bpf_model.specs.Word.{WordIs, ByteIs}
 
@@ -35,7 +37,8 @@ abbrev pub queued_in : ℕ → Option Element → ℕ
 queued_in k None = 0
 queued_in k (Some e) = if is_unlinked e.life && (e.map == k) then 1 else 0
 
--- Map k. Its occupied slots are its kept elements, each in a slot of its own; its index has the linked ones; its lists have the unlinked ones.
+-- Map k. Its kept elements stand each in a slot of their own, none of them free; its index has the linked ones; its lists have the unlinked
+-- ones.
 pub record MapRefines (slots : List ℕ) (k : ℕ) (es : List Element) (q : Queues) (w : MapView) (m : MapState) : Type 0 where
   pub shape : w.shape ≡ m.shape
   pub room : length w.slots ≡ m.shape.entries + m.shape.spare
@@ -89,10 +92,26 @@ pub record RefinesSchedule (w : WorldView) (s : Schedule) : Type 0 where
   pub runs : (r : ℕ) → SlotRefines slots s.machine.store.elements s.machine.programs (slice_get w.runs r) (slice_get s.machine.runs r)
   pub opened : w.opened ≡ open_flags s.machine.runs
   pub awaited : w.awaited ≡ s.awaited
-  pub waits_for_open : (r : ℕ) → slice_get w.awaited r ≡ Some true → slice_get w.opened r ≡ Some true
   pub programs : w.programs ≡ s.machine.programs
   pub given : w.given ≡ count_by (λ e. is_reclaimed e.life) s.machine.store.elements
-  pub consistent : IsConsistent s.machine
 
-abbrev pub Refines : WorldView → Machine → Type 0
-Refines w m = (s : Schedule) × (s.machine ≡ m) × RefinesSchedule w s
+-- Some run of the machine with this runtime's choices, from the start, ends in the state.
+pub record IsReached (shapes : List MapShape) (programs : List Loaded) (s : Schedule) : Type 0 where
+  pub events : List Event
+  pub answers : List Answer
+  pub states : List Schedule
+  pub history : IsScheduledHistory (start_schedule shapes programs) events answers states
+  pub last : last_scheduled (start_schedule shapes programs) states ≡ s
+
+abbrev pub shapes_of : WorldView → List MapShape
+shapes_of w = map (λ v. v.shape) w.maps
+
+-- The world tracks a state that it refines and that is reached from the start with its maps and programs. (Words alone don't tell a number
+-- from a reference, nor either from nothing: a world also refines states that no run reaches.)
+pub record TracksSchedule (w : WorldView) (s : Schedule) : Type 0 where
+  pub refines : RefinesSchedule w s
+  pub limits : (k : ℕ) (shape : MapShape) → slice_get (shapes_of w) k ≡ Some shape → IsShape shape
+  pub reached : IsReached (shapes_of w) w.programs s
+
+abbrev pub Tracks : WorldView → Machine → Type 0
+Tracks w m = (s : Schedule) × (s.machine ≡ m) × TracksSchedule w s

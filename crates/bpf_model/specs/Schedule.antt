@@ -8,7 +8,8 @@ use Rattle.bpf_model.specs.declared.event.Event.{Event}
 use Rattle.bpf_model.specs.declared.event.Event.TheVariants.{Advance, Reap}
 use Rattle.bpf_model.specs.declared.event.Answer.{Answer}
 use Rattle.bpf_model.specs.declared.event.Answer.TheVariants.{Reaped}
-use Rattle.bpf_model.specs.Element.{Element, Reclaimed, HasLife, is_linked, is_unlinked}
+use Rattle.bpf_model.specs.Section.{Section}
+use Rattle.bpf_model.specs.Element.{Element, Unlinked, Reclaimed, HasLife, is_linked, is_unlinked}
 use Rattle.bpf_model.specs.MapState.{MapState, Store}
 use Rattle.bpf_model.specs.Machine.{Run, Machine, Loaded, is_inside, start_machine}
 use Rattle.bpf_model.specs.Event.{Does}
@@ -86,7 +87,8 @@ scheduled s event m = record { machine = m; queues = retired 0 s.machine.store.e
 -- A reap takes that birth, and finds nothing only when no list has one.
 abbrev pub TakesFirst : Schedule → Event → Answer → Machine → Type 0
 TakesFirst s Reap (Reaped None) m = first_ready s.queues ≡ None
-TakesFirst s Reap (Reaped (Some element)) m = (n : ℕ) × (first_ready s.queues ≡ Some n) × HasLife m.store.elements n Reclaimed
+TakesFirst s Reap (Reaped (Some element)) m =
+    (n : ℕ) × (since : List Section) × (first_ready s.queues ≡ Some n) × HasLife s.machine.store.elements n (Unlinked since) × HasLife m.store.elements n Reclaimed
 TakesFirst s event answer m = Unit {0}
 
 -- A new element takes the slot of its map that has been free longest: the bag is a queue, to whose end a reclaimed slot goes.

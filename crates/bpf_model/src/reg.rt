@@ -1,4 +1,4 @@
-//! The eleven registers (RFC 9669, section 2.3).
+//! The eleven registers (RFC 9669, section 3.1; Linux BPF documentation, "Registers and calling convention").
 ghost use Rattle.std.specs.Prelude.{ℕ, ◌≡◌, ◌≤◌, ◌<◌, MatchOption};
 
 use std::marker::Model;
@@ -24,6 +24,14 @@ impl Model for Reg {
 impl Reg {
     /// The result of a function, and a program's exit value.
     pub const R0: Reg = Reg { number: 0 };
+    /// The first argument of a call.
+    pub const R1: Reg = Reg { number: 1 };
+    /// The second argument of a call.
+    pub const R2: Reg = Reg { number: 2 };
+    /// The third argument of a call.
+    pub const R3: Reg = Reg { number: 3 };
+    /// The fourth argument of a call.
+    pub const R4: Reg = Reg { number: 4 };
     /// The frame pointer, which no instruction writes.
     pub const R10: Reg = Reg { number: 10 };
 

@@ -272,7 +272,7 @@ takes-first s n e taken store first r map key =
       reaped s (with_store s.machine store),
       record {
         step = (n, e, store, r, map, key, refl);
-        first = (n, first, (with_life Reclaimed e, gone, refl));
+        first = (n, r.since, first, (e, r.born, r.unlinked), (with_life Reclaimed e, gone, refl));
         oldest = λ f before after at old new. absurd (no-birth s.machine.store.elements store.elements f same at);
         lists = refl;
       },

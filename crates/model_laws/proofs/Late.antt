@@ -1,5 +1,5 @@
 -- Elements are reclaimed late: the grace-period guarantee.
-use Rattle.std.proofs.Common.{◌≡◌, ℕ, zero, suc, List, [], ◌∷◌, Some, ◌⊎◌, inl, inr, sym, ap, ◌∙◌, arith, subst, Bool}
+use Rattle.std.proofs.Common.{◌≡◌, ℕ, zero, suc, ◌<◌, List, [], ◌∷◌, Some, ◌⊎◌, inl, inr, sym, ap, ◌∙◌, arith, subst, Bool}
 use Rattle.std.specs.Prelude.{slice_get}
 use Rattle.std.proofs.lemmas.Option.{none-some, same_Some}
 use Rattle.bpf_model.specs.declared.event.Event.{Event}
@@ -14,8 +14,8 @@ use Rattle.bpf_model.specs.Headline.{ReclaimedLate}
 use Rattle.model_laws.specs.Begun.{AllBegun}
 use Rattle.model_laws.proofs.Moves.{does-move}
 use Rattle.model_laws.proofs.Stores.{LifeMoves, Stays, Unlinks, Ends, is_reap, does-moves}
-use Rattle.model_laws.proofs.Past.{all-begun-later, ended-later, open-begun}
-use Rattle.model_laws.proofs.Keeping.{stays_consistent}
+use Rattle.model_laws.proofs.Past.{all-begun-later, ended-later}
+use Rattle.model_laws.proofs.Keeping.{begun-unlinked, stays_consistent}
 use Rattle.model_laws.proofs.Lives.{linked≢unlinked, reclaimed≢unlinked, same-since}
 
 -- what was linked and is unlinked after a step has the sections that were open
@@ -72,24 +72,33 @@ kept-reclaimed : (m : Machine) (n : ℕ) (since : List Section) → Kept m n sin
 kept-reclaimed m n since (inl h) g = absurd (not-reclaimed m.store.elements n since h g)
 kept-reclaimed m n since (inr h) g = h
 
--- from the state before the unlinking
-late-from : (m next : Machine) (event : Event) (answer : Answer) (events : List Event) (answers : List Answer) (states : List Machine) (j n : ℕ) (later : Machine) (since : List Section) → IsConsistent m → Does m event answer next → IsHistory next events answers states →
-    slice_get (next ∷ states) j ≡ Some later → HasLife m.store.elements n Linked → HasLife next.store.elements n (Unlinked since) → HasLife later.store.elements n Reclaimed → AllEnded (open_sections m.runs) (open_sections later.runs)
-late-from m next event answer events answers states j n later since w d h at linked unlinked reclaimed =
-    let now : since ≡ open_sections m.runs = unlinked-now m next event answer n since w d linked unlinked in
-    let all : AllBegun m since = subst (AllBegun m) (sym now) (open-begun m w) in
-    let kept : Kept later n since = kept-along next events answers states n since (stays_consistent m next event answer w d) (all-begun-later m next since (does-move m next event answer d) all) (inl unlinked) h j later at in
-    subst (λ x. AllEnded x (open_sections later.runs)) now (kept-reclaimed later n since kept reclaimed)
-
-pub reclaimed_late : (m : Machine) (events : List Event) (answers : List Answer) (states : List Machine) → IsConsistent m → IsHistory m events answers states → ReclaimedLate (m ∷ states)
-reclaimed_late m [] [] [] w h i j n before after later since ai bi cj less la lb lc = absurd (none-some after bi)
-reclaimed_late m (event ∷ events) (answer ∷ answers) (next ∷ states) w h (suc i) (suc j) n before after later since ai bi cj less la lb lc =
-    reclaimed_late next events answers states (stays_consistent m next event answer w h.0) h.1 i j n before after later since ai bi cj (omega arith) la lb lc
-reclaimed_late m (event ∷ events) (answer ∷ answers) (next ∷ states) w h (suc i) zero n before after later since ai bi cj less la lb lc = absurd (omega arith)
-reclaimed_late m (event ∷ events) (answer ∷ answers) (next ∷ states) w h zero zero n before after later since ai bi cj less la lb lc = absurd (omega arith)
-reclaimed_late m (event ∷ events) (answer ∷ answers) (next ∷ states) w h zero (suc j) n before after later since ai bi cj less la lb lc =
+-- the sections that it keeps, at any step
+keeps-along : (m : Machine) (events : List Event) (answers : List Answer) (states : List Machine) → IsConsistent m → IsHistory m events answers states → (i n : ℕ) (before after : Machine) (since : List Section) →
+    slice_get (m ∷ states) i ≡ Some before → slice_get (m ∷ states) (suc i) ≡ Some after → HasLife before.store.elements n Linked → HasLife after.store.elements n (Unlinked since) → since ≡ open_sections before.runs
+keeps-along m [] [] [] w h i n before after since ai bi la lb = absurd (none-some after bi)
+keeps-along m (event ∷ events) (answer ∷ answers) (next ∷ states) w h zero n before after since ai bi la lb =
     let a : m ≡ before = same_Some m before ai in
     let b : next ≡ after = same_Some next after bi in
-    subst (λ (x : Machine). AllEnded (open_sections x.runs) (open_sections later.runs)) a
-    (late-from m next event answer events answers states j n later since w h.0 h.1 cj (subst (λ (x : Machine). HasLife x.store.elements n Linked) (sym a) la) (subst (λ (x : Machine). HasLife x.store.elements n (Unlinked since)) (sym b) lb) lc)
-reclaimed_late m events answers states w h i j n before after later since ai bi cj less la lb lc = absurd h
+    unlinked-now m next event answer n since w h.0 (subst (λ (x : Machine). HasLife x.store.elements n Linked) (sym a) la) (subst (λ (x : Machine). HasLife x.store.elements n (Unlinked since)) (sym b) lb) ∙ ap (λ (x : Machine). open_sections x.runs) a
+keeps-along m (event ∷ events) (answer ∷ answers) (next ∷ states) w h (suc i) n before after since ai bi la lb =
+    keeps-along next events answers states (stays_consistent m next event answer w h.0) h.1 i n before after since ai bi la lb
+keeps-along m events answers states w h i n before after since ai bi la lb = absurd h
+
+-- from the state where it is unlinked
+ended-from : (m : Machine) (events : List Event) (answers : List Answer) (states : List Machine) → IsConsistent m → IsHistory m events answers states → (j n : ℕ) (later : Machine) (since : List Section) →
+    slice_get (m ∷ states) j ≡ Some later → HasLife m.store.elements n (Unlinked since) → HasLife later.store.elements n Reclaimed → AllEnded since (open_sections later.runs)
+ended-from m events answers states w h j n later since at unlinked reclaimed =
+    kept-reclaimed later n since (kept-along m events answers states n since w (begun-unlinked m n unlinked.0 since w unlinked.1 unlinked.2) (inl unlinked) h j later at) reclaimed
+
+ended-along : (m : Machine) (events : List Event) (answers : List Answer) (states : List Machine) → IsConsistent m → IsHistory m events answers states → (i j n : ℕ) (first later : Machine) (since : List Section) →
+    slice_get (m ∷ states) i ≡ Some first → slice_get (m ∷ states) j ≡ Some later → i < j → HasLife first.store.elements n (Unlinked since) → HasLife later.store.elements n Reclaimed → AllEnded since (open_sections later.runs)
+ended-along m events answers states w h zero j n first later since ai bj less la lb =
+    ended-from m events answers states w h j n later since bj (subst (λ (x : Machine). HasLife x.store.elements n (Unlinked since)) (sym (same_Some m first ai)) la) lb
+ended-along m events answers states w h (suc i) zero n first later since ai bj less la lb = absurd (omega arith)
+ended-along m [] [] [] w h (suc i) (suc j) n first later since ai bj less la lb = absurd (none-some first ai)
+ended-along m (event ∷ events) (answer ∷ answers) (next ∷ states) w h (suc i) (suc j) n first later since ai bj less la lb =
+    ended-along next events answers states (stays_consistent m next event answer w h.0) h.1 i j n first later since ai bj (omega arith) la lb
+ended-along m events answers states w h (suc i) (suc j) n first later since ai bj less la lb = absurd h
+
+pub reclaimed_late : (m : Machine) (events : List Event) (answers : List Answer) (states : List Machine) → IsConsistent m → IsHistory m events answers states → ReclaimedLate (m ∷ states)
+reclaimed_late m events answers states w h = record { keeps = keeps-along m events answers states w h; ended = ended-along m events answers states w h }

@@ -18,4 +18,4 @@ pub mod Queueing
 pub mod Scheduling
 pub mod Draining
 pub mod Words
-pub mod Refined
+pub mod Reached

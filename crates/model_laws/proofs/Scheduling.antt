@@ -204,7 +204,7 @@ keeps-performed : (s : Schedule) (event : Event) (answer : Answer) (m : Machine)
 keeps-performed s events.Advance answers.Done m w c runs mv h first = keeps-advance s m w h
 keeps-performed s events.Advance answer m w c runs mv h first = absurd h
 keeps-performed s events.Reap (answers.Reaped None) m w c runs mv h first = keeps-none s m w h first
-keeps-performed s events.Reap (answers.Reaped (Some reaped)) m w c runs mv h first = keeps-taken s m first.0 h.0 h.1 reaped.given h.2 w c runs mv h.3 h.6 first.1 first.2
+keeps-performed s events.Reap (answers.Reaped (Some reaped)) m w c runs mv h first = keeps-taken s m first.0 h.0 h.1 reaped.given h.2 w c runs mv h.3 h.6 first.2 first.4
 keeps-performed s events.Reap answer m w c runs mv h first = absurd h
 keeps-performed s (events.Start prog ctx) answer m w c runs mv h first = keeps-plain s m w c runs mv
 keeps-performed s (events.Step run) answer m w c runs mv h first = keeps-plain s m w c runs mv

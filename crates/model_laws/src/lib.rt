@@ -24,7 +24,7 @@ ghost use Rattle.bpf_model.specs.Consistent.{IsConsistent};
 ghost use Rattle.bpf_model.specs.Headline.{ReclaimedLate};
 ghost use Rattle.bpf_model.specs.declared.value.Reference.{Reference};
 ghost use Rattle.bpf_model.specs.View.{WorldView};
-ghost use Rattle.bpf_model.specs.Refines.{RefinesSchedule};
+ghost use Rattle.bpf_model.specs.Refines.{IsReached, TracksSchedule};
 ghost use Rattle.bpf_model.specs.Word.{IsReferenceWord};
 ghost use Rattle.model_laws.specs.Growth.{Grows};
 ghost use Rattle.model_laws.specs.Begun.{HasBegun};
@@ -78,8 +78,8 @@ pub fn section_never_reopens()
     ensures { (m later : Machine) (events : List Event) (answers : List Answer) (states : List Machine) (j : ℕ) (s : Section) → IsHistory m events answers states → slice_get states j ≡ Some later → HasBegun m s → (Has (open_sections m.runs) s → ⊥) → Has (open_sections later.runs) s → ⊥ }
 {}
 
-/// The grace-period guarantee, of every history of the machine: when an element is reclaimed, each section
-/// that was open at its unlinking has ended.
+/// The grace-period guarantee, of every history of the machine: an element that is unlinked keeps the sections
+/// that are open then, and when it is reclaimed each section that it keeps has ended.
 pub fn reclaimed_late()
     ensures { (m : Machine) (events : List Event) (answers : List Answer) (states : List Machine) → IsConsistent m → IsHistory m events answers states → ReclaimedLate (m ∷ states) }
 {}
@@ -95,9 +95,15 @@ pub fn stays_scheduled()
     ensures { (old new : Schedule) (event : Event) (answer : Answer) → IsScheduled old → DoesScheduled old event answer new → IsScheduled new }
 {}
 
-/// Each schedule that a world refines has its lists right, so that the laws of the runtime's choices hold of it.
-pub fn refined_is_scheduled()
-    ensures { (w : WorldView) (s : Schedule) → RefinesSchedule w s → IsScheduled s }
+/// In each state that is reached from the start the lists are right, so that the laws of the runtime's choices
+/// hold of it.
+pub fn reached_is_scheduled()
+    ensures { (shapes : List MapShape) (programs : List Loaded) (s : Schedule) → IsReached shapes programs s → IsScheduled s }
+{}
+
+/// And so in each schedule that a world tracks.
+pub fn tracked_is_scheduled()
+    ensures { (w : WorldView) (s : Schedule) → TracksSchedule w s → IsScheduled s }
 {}
 
 /// From any schedule whose lists are right: after two advances that meet no open section, a reap finds nothing only when each
