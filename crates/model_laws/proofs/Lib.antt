@@ -19,3 +19,5 @@ pub mod Scheduling
 pub mod Draining
 pub mod Words
 pub mod Reached
+pub mod Starting
+pub mod Worlds

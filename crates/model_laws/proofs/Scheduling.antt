@@ -39,10 +39,10 @@ no-flag zero r h = none-some true h
 no-flag (suc n) zero h = false≢true (same_Some false true h)
 no-flag (suc n) (suc r) h = no-flag n r h
 
-abbrev no_queues : Queues
+abbrev pub no_queues : Queues
 no_queues = record { next = []; waiting = []; ready = [] }
 
-waits-nothing : (s : Schedule) → Waits s no_queues
+pub waits-nothing : (s : Schedule) → Waits s no_queues
 waits-nothing s = record { ended = λ n e since has born life. absurd (omega arith); awaits = λ n e since r run has born life there inside h. absurd (omega arith) }
 
 pub starts_scheduled : (shapes : List MapShape) (programs : List Loaded) → IsScheduled (start_schedule shapes programs)

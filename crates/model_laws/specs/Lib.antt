@@ -2,3 +2,4 @@ pub mod Growth
 pub mod Begun
 pub mod Scheduled
 pub mod Near
+pub mod Start

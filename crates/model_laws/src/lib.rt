@@ -14,21 +14,22 @@ ghost use Rattle.bpf_model.specs.declared.insn.Insn.{Insn};
 ghost use Rattle.bpf_model.specs.declared.limits.MapShape.{MapShape};
 ghost use Rattle.bpf_model.specs.Machine.{Machine, Loaded, open_sections, start_machine};
 ghost use Rattle.bpf_model.specs.Schedule.{Queues, Schedule, is_any, first_ready, DoesScheduled, IsScheduledHistory, start_schedule};
-ghost use Rattle.bpf_model.specs.Drain.{Drains, machines};
+ghost use Rattle.bpf_model.specs.Drain.{Drains, machines, AnswersAsScheduled, AreScheduledAnswers};
 ghost use Rattle.bpf_model.specs.Plain.{IsPlain};
 ghost use Rattle.bpf_model.specs.PlainMaps.{IsPlainWithMaps};
 ghost use Rattle.bpf_model.specs.Event.{refusal, Does};
 ghost use Rattle.bpf_model.specs.Run.{MachineRun, IsHistory};
 ghost use Rattle.bpf_model.specs.Section.{Section, Has};
 ghost use Rattle.bpf_model.specs.Consistent.{IsConsistent};
-ghost use Rattle.bpf_model.specs.Headline.{ReclaimedLate};
+ghost use Rattle.bpf_model.specs.Headline.{ReclaimedLate, AnswersAsMachine, AreMachineAnswers, AreReclaimedLate};
 ghost use Rattle.bpf_model.specs.declared.value.Reference.{Reference};
 ghost use Rattle.bpf_model.specs.View.{WorldView};
-ghost use Rattle.bpf_model.specs.Refines.{IsReached, TracksSchedule};
+ghost use Rattle.bpf_model.specs.Refines.{IsReached, TracksSchedule, Tracks};
 ghost use Rattle.bpf_model.specs.Word.{IsReferenceWord};
 ghost use Rattle.model_laws.specs.Growth.{Grows};
 ghost use Rattle.model_laws.specs.Begun.{HasBegun};
 ghost use Rattle.model_laws.specs.Scheduled.{IsScheduled, IsReapable};
+ghost use Rattle.model_laws.specs.Start.{AreShapes, start_view};
 ghost use Rattle.model_laws.specs.Near.{Place, IsNearPlace, IsPlaceOf, place_word};
 
 /// An event is refused exactly when a test fails, by the first that does, and then nothing changes.
@@ -104,6 +105,26 @@ pub fn reached_is_scheduled()
 /// And so in each schedule that a world tracks.
 pub fn tracked_is_scheduled()
     ensures { (w : WorldView) (s : Schedule) → TracksSchedule w s → IsScheduled s }
+{}
+
+/// The world at the start tracks the state at the start, so that the relation is not empty.
+pub fn start_tracked()
+    ensures { (shapes : List MapShape) (programs : List Loaded) → AreShapes shapes → TracksSchedule (start_view shapes programs) (start_schedule shapes programs) }
+{}
+
+/// In every run of the machine from a state that a world tracks, elements are reclaimed late.
+pub fn tracked_reclaimed_late()
+    ensures { (w : WorldView) (events : List Event) (answers : List Answer) → AreReclaimedLate Tracks w events answers }
+{}
+
+/// Answers of a run with the runtime's choices are answers of a run of the machine.
+pub fn scheduled_is_machine()
+    ensures { (old new : WorldView) (events : List Event) (answers : List Answer) → AreScheduledAnswers TracksSchedule old events answers new → AreMachineAnswers Tracks old events answers new }
+{}
+
+/// An answer with the runtime's choices is an answer of the machine.
+pub fn scheduled_is_machine_once()
+    ensures { (old new : WorldView) (event : Event) (answer : Answer) → AnswersAsScheduled TracksSchedule old event answer new → AnswersAsMachine Tracks old event answer new }
 {}
 
 /// From any schedule whose lists are right: after two advances that meet no open section, a reap finds nothing only when each
