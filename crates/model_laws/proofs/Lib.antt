@@ -21,3 +21,4 @@ pub mod Words
 pub mod Reached
 pub mod Starting
 pub mod Worlds
+pub mod Joining

@@ -3,3 +3,5 @@ pub mod Begun
 pub mod Scheduled
 pub mod Near
 pub mod Start
+pub mod Steps
+pub mod Accounted

@@ -30,6 +30,7 @@ ghost use Rattle.model_laws.specs.Growth.{Grows};
 ghost use Rattle.model_laws.specs.Begun.{HasBegun};
 ghost use Rattle.model_laws.specs.Scheduled.{IsScheduled, IsReapable};
 ghost use Rattle.model_laws.specs.Start.{AreShapes, start_view};
+ghost use Rattle.model_laws.specs.Steps.{AreSteps, AnswersAsHistory};
 ghost use Rattle.model_laws.specs.Near.{Place, IsNearPlace, IsPlaceOf, place_word};
 
 /// An event is refused exactly when a test fails, by the first that does, and then nothing changes.
@@ -115,6 +116,27 @@ pub fn start_tracked()
 /// In every run of the machine from a state that a world tracks, elements are reclaimed late.
 pub fn tracked_reclaimed_late()
     ensures { (w : WorldView) (events : List Event) (answers : List Answer) → AreReclaimedLate Tracks w events answers }
+{}
+
+/// A type of worlds, with the states that each of them tracks.
+pub trait Tracking {
+    ghost tracks: { Self → Schedule → Type 0 };
+}
+
+/// Over any worlds and whatever they track: answers that are steps one after another are those of a run, and the
+/// last world tracks its last state.
+pub fn steps_make_history<World: Tracking>()
+    ensures { (old new : World) (events : List Event) (answers : List Answer) → AreSteps World.tracks old events answers new → AnswersAsHistory World.tracks old events answers new }
+{}
+
+/// Answers that are steps one after another make a run with the runtime's choices, in which the drain law holds.
+pub fn steps_make_runs()
+    ensures { (old new : WorldView) (events : List Event) (answers : List Answer) → AreSteps TracksSchedule old events answers new → AreScheduledAnswers TracksSchedule old events answers new }
+{}
+
+/// A run and one more step are a run.
+pub fn runs_grow()
+    ensures { (old mid new : WorldView) (events : List Event) (answers : List Answer) (event : Event) (answer : Answer) → AreScheduledAnswers TracksSchedule old events answers mid → AnswersAsScheduled TracksSchedule mid event answer new → AreScheduledAnswers TracksSchedule old (events ++ event ∷ []) (answers ++ answer ∷ []) new }
 {}
 
 /// Answers of a run with the runtime's choices are answers of a run of the machine.
