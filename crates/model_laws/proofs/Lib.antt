@@ -22,3 +22,5 @@ pub mod Reached
 pub mod Starting
 pub mod Worlds
 pub mod Joining
+pub mod Tallies
+pub mod Accounting

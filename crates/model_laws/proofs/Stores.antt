@@ -85,7 +85,7 @@ touches-set reap opened es n old new h a = record { forth = forth-set reap opene
 touches-changed : (reap : Bool) (opened : List Section) (f : Element → Element) (es : List Element) (n : ℕ) (e : Element) → slice_get es n ≡ Some e → Alters reap opened e (f e) → Touches reap opened es (changed f es n)
 touches-changed reap opened f es n e h a = subst (Touches reap opened es) (sym (ap (set_to f es n) h)) (touches-set reap opened es n e (f e) h a)
 
-touches-found : (reap : Bool) (opened : List Section) (s : map_state.Store) (map : ℕ) (key : List ℕ) (found : Option ℕ) → LooksUp s map key found → Touches reap opened s.elements (unlinked opened s.elements found)
+pub touches-found : (reap : Bool) (opened : List Section) (s : map_state.Store) (map : ℕ) (key : List ℕ) (found : Option ℕ) → LooksUp s map key found → Touches reap opened s.elements (unlinked opened s.elements found)
 touches-found reap opened s map key None h = touches-same reap opened s.elements
 touches-found reap opened s map key (Some n) h = touches-changed reap opened (with_life (Unlinked opened)) s.elements n h.element h.born (record { in_map = refl; under = refl; size = refl; life = Unlinks h.linked refl })
 
@@ -169,7 +169,7 @@ touches-access (Store width dst offset imm) opened es m out new h = touches-stor
 touches-access (StoreRegister width dst src offset) opened es m out new h = touches-store opened es new (byte_count width) offset (m.regs src) (m.regs dst) h.0
 touches-access i opened es m out new h = absurd h
 
-touches-acts : (i : Insn) (opened : List Section) (env : Environment) (es : List Element) (m : State) (out : Outcome) (new : List Element) → Acts i env es m out new → Touches false opened es new
+pub touches-acts : (i : Insn) (opened : List Section) (env : Environment) (es : List Element) (m : State) (out : Outcome) (new : List Element) → Acts i env es m out new → Touches false opened es new
 touches-acts i opened env es m out new (inl h) = touches-along opened es new h.1
 touches-acts i opened env es m out new (inr h) = touches-access i opened es m out new h
 
@@ -239,7 +239,7 @@ moves-deletes : (s : map_state.Store) (opened : List Section) (map : ℕ) (key :
 moves-deletes s opened map key ret new d = moves-removes s opened map key ret new d.0 d.1 d.2
 
 -- a reclamation
-shape-given : (given : Given) (uses : ℕ) (m : MapState) → (with_given given uses m).shape ≡ m.shape
+pub shape-given : (given : Given) (uses : ℕ) (m : MapState) → (with_given given uses m).shape ≡ m.shape
 shape-given Free uses m = refl
 shape-given Worn uses m = refl
 

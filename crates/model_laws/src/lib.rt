@@ -3,13 +3,13 @@
 //! Each is a function with an empty body, whose contract is the law.
 #![tactic(auto)]
 
-ghost use Rattle.std.specs.Prelude.{◌≡◌, ℕ, ◌<◌, ◌^◌, ℤ, pos, Bool, false, List, [], ◌++◌, ◌∷◌, length, slice_get, Some, ◌↔◌};
+ghost use Rattle.std.specs.Prelude.{◌≡◌, ℕ, ◌+◌, ◌<◌, ◌^◌, ℤ, pos, Bool, false, List, [], ◌++◌, ◌∷◌, length, slice_get, Some, ◌↔◌};
 ghost use Rattle.bpf_model.specs.declared.event.Event.{Event};
 ghost use Rattle.bpf_model.specs.declared.event.Answer.{Answer};
 ghost use Rattle.bpf_model.specs.declared.event.EventRefusal.{EventRefusal};
 ghost use Rattle.bpf_model.specs.declared.event.ReapedElement.{ReapedElement};
 ghost use Rattle.bpf_model.specs.MapState.{MapState, given_of};
-ghost use Rattle.bpf_model.specs.Element.{Element, Reclaimed, HasLife};
+ghost use Rattle.bpf_model.specs.Element.{Element, Reclaimed, HasLife, linked_count};
 ghost use Rattle.bpf_model.specs.declared.insn.Insn.{Insn};
 ghost use Rattle.bpf_model.specs.declared.limits.MapShape.{MapShape};
 ghost use Rattle.bpf_model.specs.Machine.{Machine, Loaded, open_sections, start_machine};
@@ -31,6 +31,7 @@ ghost use Rattle.model_laws.specs.Begun.{HasBegun};
 ghost use Rattle.model_laws.specs.Scheduled.{IsScheduled, IsReapable};
 ghost use Rattle.model_laws.specs.Start.{AreShapes, start_view};
 ghost use Rattle.model_laws.specs.Steps.{AreSteps, AnswersAsHistory};
+ghost use Rattle.model_laws.specs.Accounted.{unlinked_count, kept_count};
 ghost use Rattle.model_laws.specs.Near.{Place, IsNearPlace, IsPlaceOf, place_word};
 
 /// An event is refused exactly when a test fails, by the first that does, and then nothing changes.
@@ -106,6 +107,18 @@ pub fn reached_is_scheduled()
 /// And so in each schedule that a world tracks.
 pub fn tracked_is_scheduled()
     ensures { (w : WorldView) (s : Schedule) → TracksSchedule w s → IsScheduled s }
+{}
+
+/// In each state that is reached from the start, each slot of a map is free, holds an element that is not
+/// reclaimed, or is worn out.
+pub fn slots_accounted()
+    ensures { (shapes : List MapShape) (programs : List Loaded) (s : Schedule) (k : ℕ) (m : MapState) → IsReached shapes programs s → slice_get s.machine.store.maps k ≡ Some m → length m.bag + kept_count k s.machine.store.elements + m.worn ≡ m.shape.entries + m.shape.spare }
+{}
+
+/// There a map has no free slot, so that a new element is refused for want of memory, exactly when its linked
+/// elements, its unlinked ones and its worn-out slots are as many as all its slots.
+pub fn enomem_exactly()
+    ensures { (shapes : List MapShape) (programs : List Loaded) (s : Schedule) (k : ℕ) (m : MapState) → IsReached shapes programs s → slice_get s.machine.store.maps k ≡ Some m → (m.bag ≡ []) ↔ (linked_count k s.machine.store.elements + unlinked_count k s.machine.store.elements + m.worn ≡ m.shape.entries + m.shape.spare) }
 {}
 
 /// The world at the start tracks the state at the start, so that the relation is not empty.
