@@ -1,7 +1,6 @@
 -- Each slot of a map is free, holds an element that isn't reclaimed, or is worn out.
 use Rattle.std.proofs.Common.{◌≡◌, ◌≢◌, ℕ, ◌+◌, List, [], ◌∷◌, ◌++◌, length, replicate, Option, Some, None, inl, inr, refl, sym, ap, ◌∙◌, arith, subst, Result, false}
 use Rattle.std.specs.Prelude.{slice_get, slice_set, ◌↔◌}
-use Rattle.std.proofs.lemmas.Option.{same_Some}
 use Rattle.std.proofs.lemmas.List.{length-append, length-replicate, nil_from_length}
 use Rattle.bpf_model.specs.declared.insn.Insn.{Insn}
 use Rattle.bpf_model.specs.declared.insn.Insn.TheVariants.{Call}
@@ -20,16 +19,16 @@ use Rattle.bpf_model.specs.declared.limits.MapShape.{MapShape}
 use Rattle.bpf_model.specs.declared.value.Value.{Value}
 use Rattle.bpf_model.specs.Call.{helper_of}
 use Rattle.bpf_model.specs.Section.{Section}
-use Rattle.bpf_model.specs.Element.{Element, Unlinked, Reclaimed, linked_count, unlinked, with_life}
+use Rattle.bpf_model.specs.Element.{Element, Unlinked, Reclaimed, unlinked, with_life}
 use Rattle.bpf_model.specs.MapState.{MapState, Store, TakesOut, new_map, with_bag, with_elements, with_given, given_of, returned}
 use Rattle.bpf_model.specs.Helper.{LooksUp, Replaces, Settles, Updates, Removes, Deletes, newborn}
 use Rattle.bpf_model.specs.Reclaim.{Reclaims}
 use Rattle.bpf_model.specs.Machine.{Run, Machine, Loaded, environment, open_sections, start_machine}
 use Rattle.bpf_model.specs.MachineStep.{HelperStep, InsnStep}
-use Rattle.bpf_model.specs.Event.{Performs, Answers, Does, refusal}
+use Rattle.bpf_model.specs.Event.{Performs, Answers, refusal}
 use Rattle.bpf_model.specs.Schedule.{Schedule, IsScheduledHistory, last_scheduled, start_schedule}
 use Rattle.bpf_model.specs.Refines.{IsReached}
-use Rattle.model_laws.specs.Accounted.{unlinked_count, kept_count}
+use Rattle.model_laws.specs.Accounted.{kept_count, IsFull}
 use Rattle.model_laws.proofs.Lists.{get-set_cases}
 use Rattle.model_laws.proofs.Stores.{Touches, touches-found, touches-acts, shape-given}
 use Rattle.model_laws.proofs.Counting.{map-back}
@@ -193,7 +192,7 @@ slots_accounted shapes programs s k m r at =
     subst (λ (x : Schedule). Accounted x.machine.store) r.last (accounted-along (start_schedule shapes programs) r.events r.answers r.states (accounted-start shapes programs) r.history) k m at
 
 pub enomem_exactly : (shapes : List MapShape) (programs : List Loaded) (s : Schedule) (k : ℕ) (m : MapState) → IsReached shapes programs s → slice_get s.machine.store.maps k ≡ Some m →
-    m.bag ≡ [] ↔ (linked_count k s.machine.store.elements + unlinked_count k s.machine.store.elements + m.worn ≡ m.shape.entries + m.shape.spare)
+    (m.bag ≡ []) ↔ IsFull k s.machine.store.elements m
 enomem_exactly shapes programs s k m r at =
     let total = slots_accounted shapes programs s k m r at in
     let kinds = kept-kinds k s.machine.store.elements in

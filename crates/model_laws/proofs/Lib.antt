@@ -24,3 +24,5 @@ pub mod Worlds
 pub mod Joining
 pub mod Tallies
 pub mod Accounting
+pub mod Full
+pub mod Between

@@ -3,13 +3,13 @@
 //! Each is a function with an empty body, whose contract is the law.
 #![tactic(auto)]
 
-ghost use Rattle.std.specs.Prelude.{◌≡◌, ℕ, ◌+◌, ◌<◌, ◌^◌, ℤ, pos, Bool, false, List, [], ◌++◌, ◌∷◌, length, slice_get, Some, ◌↔◌};
+ghost use Rattle.std.specs.Prelude.{◌≡◌, ℕ, ◌+◌, ◌<◌, ◌^◌, ℤ, pos, Bool, false, List, [], ◌++◌, ◌∷◌, length, slice_get, Some, ◌↔◌, ◌≢◌, Result, Ok, Err};
 ghost use Rattle.bpf_model.specs.declared.event.Event.{Event};
 ghost use Rattle.bpf_model.specs.declared.event.Answer.{Answer};
 ghost use Rattle.bpf_model.specs.declared.event.EventRefusal.{EventRefusal};
 ghost use Rattle.bpf_model.specs.declared.event.ReapedElement.{ReapedElement};
-ghost use Rattle.bpf_model.specs.MapState.{MapState, given_of};
-ghost use Rattle.bpf_model.specs.Element.{Element, Reclaimed, HasLife, linked_count};
+ghost use Rattle.bpf_model.specs.MapState.{MapState, Store, given_of};
+ghost use Rattle.bpf_model.specs.Element.{Element, Linked, Reclaimed, HasLife};
 ghost use Rattle.bpf_model.specs.declared.insn.Insn.{Insn};
 ghost use Rattle.bpf_model.specs.declared.limits.MapShape.{MapShape};
 ghost use Rattle.bpf_model.specs.Machine.{Machine, Loaded, open_sections, start_machine};
@@ -31,7 +31,11 @@ ghost use Rattle.model_laws.specs.Begun.{HasBegun};
 ghost use Rattle.model_laws.specs.Scheduled.{IsScheduled, IsReapable};
 ghost use Rattle.model_laws.specs.Start.{AreShapes, start_view};
 ghost use Rattle.model_laws.specs.Steps.{AreSteps, AnswersAsHistory};
-ghost use Rattle.model_laws.specs.Accounted.{unlinked_count, kept_count};
+ghost use Rattle.model_laws.specs.Accounted.{kept_count, IsFull};
+ghost use Rattle.model_laws.specs.Passed.{WasUnlinked};
+ghost use Rattle.bpf_model.specs.declared.call.Errno.{Errno};
+ghost use Rattle.bpf_model.specs.declared.call.Errno.TheVariants.{NoMemory};
+ghost use Rattle.bpf_model.specs.Helper.{Updates};
 ghost use Rattle.model_laws.specs.Near.{Place, IsNearPlace, IsPlaceOf, place_word};
 
 /// An event is refused exactly when a test fails, by the first that does, and then nothing changes.
@@ -87,6 +91,11 @@ pub fn reclaimed_late()
     ensures { (m : Machine) (events : List Event) (answers : List Answer) (states : List Machine) → IsConsistent m → IsHistory m events answers states → ReclaimedLate (m ∷ states) }
 {}
 
+/// An element that is linked in one state and reclaimed in a later one is unlinked in a state between them.
+pub fn unlinked_before_reclaimed()
+    ensures { (m : Machine) (events : List Event) (answers : List Answer) (states : List Machine) (j n : ℕ) (later : Machine) → IsConsistent m → IsHistory m events answers states → slice_get (m ∷ states) j ≡ Some later → HasLife m.store.elements n Linked → HasLife later.store.elements n Reclaimed → WasUnlinked (m ∷ states) j n }
+{}
+
 /// At the start the lists of the runtime's choices are right: nothing is unlinked, and nothing stands in them.
 pub fn starts_scheduled()
     ensures { (shapes : List MapShape) (programs : List Loaded) → IsScheduled (start_schedule shapes programs) }
@@ -115,10 +124,15 @@ pub fn slots_accounted()
     ensures { (shapes : List MapShape) (programs : List Loaded) (s : Schedule) (k : ℕ) (m : MapState) → IsReached shapes programs s → slice_get s.machine.store.maps k ≡ Some m → length m.bag + kept_count k s.machine.store.elements + m.worn ≡ m.shape.entries + m.shape.spare }
 {}
 
-/// There a map has no free slot, so that a new element is refused for want of memory, exactly when its linked
-/// elements, its unlinked ones and its worn-out slots are as many as all its slots.
+/// There a map has no free slot exactly when its linked elements, its unlinked ones and its worn-out slots are as
+/// many as all its slots.
 pub fn enomem_exactly()
-    ensures { (shapes : List MapShape) (programs : List Loaded) (s : Schedule) (k : ℕ) (m : MapState) → IsReached shapes programs s → slice_get s.machine.store.maps k ≡ Some m → (m.bag ≡ []) ↔ (linked_count k s.machine.store.elements + unlinked_count k s.machine.store.elements + m.worn ≡ m.shape.entries + m.shape.spare) }
+    ensures { (shapes : List MapShape) (programs : List Loaded) (s : Schedule) (k : ℕ) (m : MapState) → IsReached shapes programs s → slice_get s.machine.store.maps k ≡ Some m → (m.bag ≡ []) ↔ IsFull k s.machine.store.elements m }
+{}
+
+/// An update there answers that there is no memory only when the map is full so, and none succeeds while it is.
+pub fn no_memory_when_full()
+    ensures { (shapes : List MapShape) (programs : List Loaded) (s : Schedule) (k : ℕ) (m : MapState) (key value : List ℕ) (flags : ℕ) (ret : Result (Unit {0}) Errno) (new : Store) → IsReached shapes programs s → slice_get s.machine.store.maps k ≡ Some m → Updates s.machine.store (open_sections s.machine.runs) k key value flags ret new → (ret ≡ Err NoMemory → IsFull k s.machine.store.elements m) × (IsFull k s.machine.store.elements m → ret ≢ Ok tt) }
 {}
 
 /// The world at the start tracks the state at the start, so that the relation is not empty.
