@@ -2,12 +2,16 @@
 use Rattle.std.proofs.Common.{◌≡◌, List, [], ◌∷◌, ◌++◌, refl, sym, subst}
 use Rattle.bpf_model.specs.declared.event.Event.{Event}
 use Rattle.bpf_model.specs.declared.event.Answer.{Answer}
-use Rattle.bpf_model.specs.Schedule.{Schedule, DoesScheduled, IsScheduledHistory, last_scheduled}
+use Rattle.bpf_model.specs.declared.limits.MapShape.{MapShape}
+use Rattle.bpf_model.specs.Machine.{Loaded}
+use Rattle.bpf_model.specs.Schedule.{Schedule, DoesScheduled, IsScheduledHistory, last_scheduled, start_schedule}
 use Rattle.bpf_model.specs.Drain.{AnswersAsScheduled, AreScheduledAnswers}
 use Rattle.bpf_model.specs.View.{WorldView}
 use Rattle.bpf_model.specs.Refines.{TracksSchedule}
+use Rattle.model_laws.specs.Start.{AreShapes, start_view}
 use Rattle.model_laws.specs.Steps.{AreSteps, AnswersAsHistory}
 use Rattle.model_laws.proofs.Draining.{drains_from}
+use Rattle.model_laws.proofs.Starting.{start_tracked}
 use Rattle.model_laws.proofs.Reached.{tracked_is_scheduled}
 
 module _ {World : Type 0} (Tracks : World → Schedule → Type 0) where
@@ -42,3 +46,9 @@ runs_grow old mid new events answers event answer h step s t =
     let n = step (last_scheduled s r.0) r.3 in
     let history = history-push s events answers r.0 event answer n.0 r.1 n.1 in
     (r.0 ++ n.0 ∷ [], history, drains_from s (events ++ event ∷ []) (answers ++ answer ∷ []) (r.0 ++ n.0 ∷ []) (tracked_is_scheduled old s t) history, subst (TracksSchedule new) (sym (last-push s r.0 n.0)) n.2)
+
+pub runs_from_start : (shapes : List MapShape) (programs : List Loaded) (new : WorldView) (events : List Event) (answers : List Answer) → AreShapes shapes → AreScheduledAnswers TracksSchedule (start_view shapes programs) events answers new →
+    (states : List Schedule) × IsScheduledHistory (start_schedule shapes programs) events answers states × TracksSchedule new (last_scheduled (start_schedule shapes programs) states)
+runs_from_start shapes programs new events answers fits h =
+    let r = h (start_schedule shapes programs) (start_tracked shapes programs fits) in
+    (r.0, r.1, r.3)
