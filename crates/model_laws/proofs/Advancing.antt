@@ -1,5 +1,5 @@
 -- Two advances that met no open section.
-use Rattle.std.proofs.Common.{◌≡◌, ℕ, zero, suc, List, [], ◌∷◌, ◌++◌, Option, Some, None, Bool, true, false, refl, sym, ap, ◌∙◌, map}
+use Rattle.std.proofs.Common.{◌≡◌, ℕ, zero, suc, List, [], ◌∷◌, ◌++◌, Option, Some, None, Bool, true, false, refl, ap, ◌∙◌, map}
 use Rattle.std.specs.Prelude.{slice_get, if◌then◌else◌}
 use Rattle.bpf_model.specs.declared.event.Event.TheVariants.{Advance}
 use Rattle.bpf_model.specs.declared.event.Answer.{Answer}
@@ -13,7 +13,7 @@ no_flag-at : (b : Bool) (s : Section) (rest : List Section) (flags : List Bool) 
 no_flag-at true s rest flags h k = absurd (cc)
 no_flag-at false s rest flags h k = k h
 
-no_flag : (runs : List (Option Run)) → open_sections runs ≡ [] → is_any (open_flags runs) ≡ false
+pub no_flag : (runs : List (Option Run)) → open_sections runs ≡ [] → is_any (open_flags runs) ≡ false
 no_flag [] h = refl
 no_flag (None ∷ runs) h = no_flag runs h
 no_flag (Some run ∷ runs) h = no_flag-at (is_inside run) (section_of run) (open_sections runs) (open_flags runs) h (no_flag runs)

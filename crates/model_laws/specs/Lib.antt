@@ -1,1 +1,8 @@
 pub mod Growth
+pub mod Begun
+pub mod Scheduled
+pub mod Near
+pub mod Start
+pub mod Steps
+pub mod Accounted
+pub mod Passed

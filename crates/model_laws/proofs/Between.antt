@@ -1,0 +1,54 @@
+-- An element is unlinked before it is reclaimed.
+use Rattle.std.proofs.Common.{◌≡◌, ℕ, zero, suc, ◌<◌, List, [], ◌∷◌, Some, ◌⊎◌, inl, inr, refl, sym, ap, ◌∙◌, arith, subst, Bool}
+use Rattle.std.specs.Prelude.{slice_get}
+use Rattle.std.proofs.lemmas.Option.{none-some, same_Some}
+use Rattle.bpf_model.specs.declared.event.Event.{Event}
+use Rattle.bpf_model.specs.declared.event.Answer.{Answer}
+use Rattle.bpf_model.specs.Section.{Section}
+use Rattle.bpf_model.specs.Element.{Element, Life, Linked, Unlinked, Reclaimed, HasLife}
+use Rattle.bpf_model.specs.Machine.{Machine, open_sections}
+use Rattle.bpf_model.specs.Event.{Does}
+use Rattle.bpf_model.specs.Run.{IsHistory}
+use Rattle.bpf_model.specs.Consistent.{IsConsistent}
+use Rattle.model_laws.specs.Passed.{WasUnlinked}
+use Rattle.model_laws.proofs.Stores.{LifeMoves, Stays, Unlinks, Ends, is_reap, does-moves}
+use Rattle.model_laws.proofs.Keeping.{stays_consistent}
+use Rattle.model_laws.proofs.Lives.{linked≢unlinked, reclaimed≢linked, reclaimed≢unlinked}
+
+life-next : (reap : Bool) (opened : List Section) (old new : Life) → LifeMoves reap opened old new → old ≡ Linked → (new ≡ Linked) ⊎ (new ≡ Unlinked opened)
+life-next reap opened old new (Stays e) h = inl (e ∙ h)
+life-next reap opened old new (Unlinks l e) h = inr e
+life-next reap opened old new (Ends since r l ended e) h = absurd (linked≢unlinked since (sym h ∙ l))
+
+linked-next : (m new : Machine) (event : Event) (answer : Answer) (n : ℕ) → IsConsistent m → Does m event answer new → HasLife m.store.elements n Linked → HasLife new.store.elements n Linked ⊎ HasLife new.store.elements n (Unlinked (open_sections m.runs))
+linked-next m new event answer n w h old =
+    let f = (does-moves m new event answer w.single h).forth n old.0 old.1 in
+    elim (life-next (is_reap event) (open_sections m.runs) old.0.life f.0.life f.2.life old.2) [
+      | inl x ↦ inl (f.0, f.1, x)
+      | inr x ↦ inr (f.0, f.1, x)
+    ]
+
+one-life : (es : List Element) (n : ℕ) (a b : Life) → HasLife es n a → HasLife es n b → a ≡ b
+one-life es n a b h g = sym h.2 ∙ (ap (λ (x : Element). x.life) (same_Some h.0 g.0 (sym h.1 ∙ g.1)) ∙ g.2)
+
+-- the state where it is unlinked isn't yet the one where it is reclaimed
+not-yet : (m : Machine) (states : List Machine) (j n : ℕ) (later : Machine) (since : List Section) → slice_get (m ∷ states) j ≡ Some later → HasLife m.store.elements n (Unlinked since) → HasLife later.store.elements n Reclaimed → 0 < j
+not-yet m states zero n later since at h g =
+    absurd (reclaimed≢unlinked since (one-life m.store.elements n Reclaimed (Unlinked since) (subst (λ (x : Machine). HasLife x.store.elements n Reclaimed) (sym (same_Some m later at)) g) h))
+not-yet m states (suc j) n later since at h g = omega arith
+
+pub unlinked_before_reclaimed : (m : Machine) (events : List Event) (answers : List Answer) (states : List Machine) (j n : ℕ) (later : Machine) → IsConsistent m → IsHistory m events answers states → slice_get (m ∷ states) j ≡ Some later →
+    HasLife m.store.elements n Linked → HasLife later.store.elements n Reclaimed → WasUnlinked (m ∷ states) j n
+unlinked_before_reclaimed m events answers states zero n later w h at old new =
+    absurd (reclaimed≢linked (one-life m.store.elements n Reclaimed Linked (subst (λ (x : Machine). HasLife x.store.elements n Reclaimed) (sym (same_Some m later at)) new) old))
+unlinked_before_reclaimed m [] [] [] (suc j) n later w h at old new = absurd (none-some later at)
+unlinked_before_reclaimed m (event ∷ events) (answer ∷ answers) (next ∷ states) (suc j) n later w h at old new = elim (linked-next m next event answer n w h.0 old) [
+  | inl x ↦
+      let r = unlinked_before_reclaimed next events answers states j n later (stays_consistent m next event answer w h.0) h.1 at x new in
+      let less : r.place < j = r.before in
+      record { place = suc r.place; state = r.state; since = r.since; before = omega arith; there = r.there; life = r.life }
+  | inr x ↦
+      let less : 0 < j = not-yet next states j n later (open_sections m.runs) at x new in
+      record { place = 1; state = next; since = open_sections m.runs; before = omega arith; there = refl; life = x }
+]
+unlinked_before_reclaimed m events answers states (suc j) n later w h at old new = absurd h

@@ -1,0 +1,56 @@
+-- When an update finds no memory.
+use Rattle.std.proofs.Common.{◌≡◌, ◌≢◌, ℕ, List, length, Option, Some, None, refl, sym, ap, ◌∙◌, Bool, true, false, Result, Ok, Err}
+use Rattle.std.specs.Prelude.{slice_get, ◌==◌, if◌then◌else◌}
+use Rattle.std.proofs.lemmas.Bool.{eqb-true, eq-eqb, false≢true}
+use Rattle.std.proofs.lemmas.Option.{same_Some}
+use Rattle.std.proofs.lemmas.List.{nil_from_length}
+use Rattle.bpf_model.specs.declared.call.Errno.{Errno}
+use Rattle.bpf_model.specs.declared.call.Errno.TheVariants.{NoEntry, TooBig, NoMemory, Exists, InvalidArgument}
+use Rattle.bpf_model.specs.declared.limits.MapShape.{MapShape}
+use Rattle.bpf_model.specs.MapState.{MapState, Store}
+use Rattle.bpf_model.specs.Helper.{Settles, Updates}
+use Rattle.bpf_model.specs.Machine.{Loaded, open_sections}
+use Rattle.bpf_model.specs.Schedule.{Schedule}
+use Rattle.bpf_model.specs.Refines.{IsReached}
+use Rattle.model_laws.specs.Accounted.{IsFull}
+use Rattle.model_laws.proofs.Accounting.{enomem_exactly}
+
+-- the tests of an update, in their order
+abbrev first_failed : Bool → Bool → Bool → Bool → Bool → Option Errno
+first_failed flags exists absent big full =
+    if flags then Some InvalidArgument
+    else if exists then Some Exists
+    else if absent then Some NoEntry
+    else if big then Some TooBig
+    else if full then Some NoMemory
+    else None
+
+fails-last : (a b c d e : Bool) (ret : Result (Unit {0}) Errno) (s new : Store) (Done : Type 0) → Settles (first_failed a b c d e) ret s new Done → ret ≡ Err NoMemory → e ≡ true
+fails-last true b c d e ret s new Done h g = absurd (let x : Err InvalidArgument ≡ Err NoMemory = sym h.0 ∙ g in cc)
+fails-last false true c d e ret s new Done h g = absurd (let x : Err Exists ≡ Err NoMemory = sym h.0 ∙ g in cc)
+fails-last false false true d e ret s new Done h g = absurd (let x : Err NoEntry ≡ Err NoMemory = sym h.0 ∙ g in cc)
+fails-last false false false true e ret s new Done h g = absurd (let x : Err TooBig ≡ Err NoMemory = sym h.0 ∙ g in cc)
+fails-last false false false false true ret s new Done h g = refl
+fails-last false false false false false ret s new Done h g = absurd (let x : Ok tt ≡ Err NoMemory = sym h.0 ∙ g in cc)
+
+full-fails : (a b c d e : Bool) (ret : Result (Unit {0}) Errno) (s new : Store) (Done : Type 0) → Settles (first_failed a b c d e) ret s new Done → e ≡ true → ret ≢ Ok tt
+full-fails true b c d e ret s new Done h full g = let x : Err InvalidArgument ≡ Ok tt = sym h.0 ∙ g in cc
+full-fails false true c d e ret s new Done h full g = let x : Err Exists ≡ Ok tt = sym h.0 ∙ g in cc
+full-fails false false true d e ret s new Done h full g = let x : Err NoEntry ≡ Ok tt = sym h.0 ∙ g in cc
+full-fails false false false true e ret s new Done h full g = let x : Err TooBig ≡ Ok tt = sym h.0 ∙ g in cc
+full-fails false false false false true ret s new Done h full g = let x : Err NoMemory ≡ Ok tt = sym h.0 ∙ g in cc
+full-fails false false false false false ret s new Done h full g = absurd (false≢true full)
+
+pub no_memory_when_full : (shapes : List MapShape) (programs : List Loaded) (s : Schedule) (k : ℕ) (m : MapState) (key value : List ℕ) (flags : ℕ) (ret : Result (Unit {0}) Errno) (new : Store) → IsReached shapes programs s → slice_get s.machine.store.maps k ≡ Some m →
+    Updates s.machine.store (open_sections s.machine.runs) k key value flags ret new → (ret ≡ Err NoMemory → IsFull k s.machine.store.elements m) × (IsFull k s.machine.store.elements m → ret ≢ Ok tt)
+no_memory_when_full shapes programs s k m key value flags ret new r at u =
+    let same : u.state ≡ m = same_Some u.state m (sym u.there ∙ at) in
+    let bag : length u.state.bag ≡ length m.bag = ap (λ x. length x.bag) same in
+    let exactly = enomem_exactly shapes programs s k m r at in (
+      λ g.
+          let none : length u.state.bag ≡ 0 = eqb-true (length u.state.bag) 0 (fails-last _ _ _ _ (length u.state.bag == 0) ret _ _ _ u.settled g) in
+          exactly.0 (nil_from_length m.bag (sym bag ∙ none)),
+      λ full.
+          let none : length u.state.bag ≡ 0 = bag ∙ ap length (exactly.1 full) in
+          full-fails _ _ _ _ (length u.state.bag == 0) ret _ _ _ u.settled (eq-eqb (length u.state.bag) 0 none),
+    )

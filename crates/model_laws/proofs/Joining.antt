@@ -1,0 +1,54 @@
+-- Steps with the runtime's choices, one after another, make a run.
+use Rattle.std.proofs.Common.{◌≡◌, List, [], ◌∷◌, ◌++◌, refl, sym, subst}
+use Rattle.bpf_model.specs.declared.event.Event.{Event}
+use Rattle.bpf_model.specs.declared.event.Answer.{Answer}
+use Rattle.bpf_model.specs.declared.limits.MapShape.{MapShape}
+use Rattle.bpf_model.specs.Machine.{Loaded}
+use Rattle.bpf_model.specs.Schedule.{Schedule, DoesScheduled, IsScheduledHistory, last_scheduled, start_schedule}
+use Rattle.bpf_model.specs.Drain.{AnswersAsScheduled, AreScheduledAnswers}
+use Rattle.bpf_model.specs.View.{WorldView}
+use Rattle.bpf_model.specs.Refines.{TracksSchedule}
+use Rattle.model_laws.specs.Start.{AreShapes, start_view}
+use Rattle.model_laws.specs.Steps.{AreSteps, AnswersAsHistory}
+use Rattle.model_laws.proofs.Draining.{drains_from}
+use Rattle.model_laws.proofs.Starting.{start_tracked}
+use Rattle.model_laws.proofs.Reached.{tracked_is_scheduled}
+
+module _ {World : Type 0} (Tracks : World → Schedule → Type 0) where
+  pub steps_make_history : (old new : World) (events : List Event) (answers : List Answer) → AreSteps Tracks old events answers new → AnswersAsHistory Tracks old events answers new
+  steps_make_history old new [] [] h s t = ([], tt, subst (λ w. Tracks w s) (sym h) t)
+  steps_make_history old new (event ∷ events) (answer ∷ answers) h s t =
+      let first = h.1 s t in
+      let rest = steps_make_history h.0 new events answers h.2 first.0 first.2 in
+      (first.0 ∷ rest.0, (first.1, rest.1), rest.2)
+  steps_make_history old new events answers h s t = absurd h
+
+pub steps_make_runs : (old new : WorldView) (events : List Event) (answers : List Answer) → AreSteps TracksSchedule old events answers new → AreScheduledAnswers TracksSchedule old events answers new
+steps_make_runs old new events answers h s t =
+    let r = steps_make_history TracksSchedule old new events answers h s t in
+    (r.0, r.1, drains_from s events answers r.0 (tracked_is_scheduled old s t) r.1, r.2)
+
+-- one more step
+history-push : (s : Schedule) (events : List Event) (answers : List Answer) (states : List Schedule) (event : Event) (answer : Answer) (next : Schedule) → IsScheduledHistory s events answers states →
+    DoesScheduled (last_scheduled s states) event answer next → IsScheduledHistory s (events ++ event ∷ []) (answers ++ answer ∷ []) (states ++ next ∷ [])
+history-push s [] [] [] event answer next h d = (d, tt)
+history-push s (e ∷ events) (a ∷ answers) (t ∷ states) event answer next h d = (h.0, history-push t events answers states event answer next h.1 d)
+history-push s events answers states event answer next h d = absurd h
+
+last-push : (s : Schedule) (states : List Schedule) (next : Schedule) → last_scheduled s (states ++ next ∷ []) ≡ next
+last-push s [] next = refl
+last-push s (t ∷ states) next = last-push t states next
+
+pub runs_grow : (old mid new : WorldView) (events : List Event) (answers : List Answer) (event : Event) (answer : Answer) → AreScheduledAnswers TracksSchedule old events answers mid →
+    AnswersAsScheduled TracksSchedule mid event answer new → AreScheduledAnswers TracksSchedule old (events ++ event ∷ []) (answers ++ answer ∷ []) new
+runs_grow old mid new events answers event answer h step s t =
+    let r = h s t in
+    let n = step (last_scheduled s r.0) r.3 in
+    let history = history-push s events answers r.0 event answer n.0 r.1 n.1 in
+    (r.0 ++ n.0 ∷ [], history, drains_from s (events ++ event ∷ []) (answers ++ answer ∷ []) (r.0 ++ n.0 ∷ []) (tracked_is_scheduled old s t) history, subst (TracksSchedule new) (sym (last-push s r.0 n.0)) n.2)
+
+pub runs_from_start : (shapes : List MapShape) (programs : List Loaded) (new : WorldView) (events : List Event) (answers : List Answer) → AreShapes shapes → AreScheduledAnswers TracksSchedule (start_view shapes programs) events answers new →
+    (states : List Schedule) × IsScheduledHistory (start_schedule shapes programs) events answers states × TracksSchedule new (last_scheduled (start_schedule shapes programs) states)
+runs_from_start shapes programs new events answers fits h =
+    let r = h (start_schedule shapes programs) (start_tracked shapes programs fits) in
+    (r.0, r.1, r.3)

@@ -1,0 +1,21 @@
+-- Lives are apart.
+use Rattle.std.proofs.Common.{◌≡◌, ℕ, List, Bool}
+use Rattle.std.specs.Prelude.{if◌then◌else◌}
+use Rattle.bpf_model.specs.Section.{Section}
+use Rattle.bpf_model.specs.Element.{Linked, Unlinked, Reclaimed}
+
+pub linked≢unlinked : (since : List Section) → Linked ≡ Unlinked since → ⊥
+linked≢unlinked since h = cc
+
+pub reclaimed≢linked : Reclaimed ≡ Linked → ⊥
+reclaimed≢linked h = cc
+
+pub reclaimed≢unlinked : (since : List Section) → Reclaimed ≡ Unlinked since → ⊥
+reclaimed≢unlinked since h = cc
+
+pub same-since : (a b : List Section) → Unlinked a ≡ Unlinked b → a ≡ b
+same-since a b h = cc
+
+-- a test, counted
+abbrev pub one_if : Bool → ℕ
+one_if b = if b then 1 else 0

@@ -1,0 +1,22 @@
+-- The states that are reached from the start have what the laws of the runtime's choices need.
+use Rattle.std.proofs.Common.{List, [], ◌∷◌, subst}
+use Rattle.bpf_model.specs.declared.limits.MapShape.{MapShape}
+use Rattle.bpf_model.specs.declared.event.Event.{Event}
+use Rattle.bpf_model.specs.declared.event.Answer.{Answer}
+use Rattle.bpf_model.specs.Machine.{Loaded}
+use Rattle.bpf_model.specs.Schedule.{Schedule, IsScheduledHistory, last_scheduled, start_schedule}
+use Rattle.bpf_model.specs.View.{WorldView}
+use Rattle.bpf_model.specs.Refines.{IsReached, TracksSchedule, shapes_of}
+use Rattle.model_laws.specs.Scheduled.{IsScheduled}
+use Rattle.model_laws.proofs.Scheduling.{starts_scheduled, stays_scheduled}
+
+pub scheduled-last : (s : Schedule) (events : List Event) (answers : List Answer) (states : List Schedule) → IsScheduled s → IsScheduledHistory s events answers states → IsScheduled (last_scheduled s states)
+scheduled-last s [] [] [] w h = w
+scheduled-last s (event ∷ events) (answer ∷ answers) (next ∷ states) w h = scheduled-last next events answers states (stays_scheduled s next event answer w h.0) h.1
+scheduled-last s events answers states w h = absurd h
+
+pub reached_is_scheduled : (shapes : List MapShape) (programs : List Loaded) (s : Schedule) → IsReached shapes programs s → IsScheduled s
+reached_is_scheduled shapes programs s r = subst IsScheduled r.last (scheduled-last (start_schedule shapes programs) r.events r.answers r.states (starts_scheduled shapes programs) r.history)
+
+pub tracked_is_scheduled : (w : WorldView) (s : Schedule) → TracksSchedule w s → IsScheduled s
+tracked_is_scheduled w s t = reached_is_scheduled (shapes_of w) w.programs s t.reached
