@@ -6,6 +6,9 @@ pub mod Sections
 pub mod Runs
 pub mod Events
 pub mod Starts
+pub mod Listing
+pub mod Queueing
+pub mod Following
 pub mod Bytes
 pub mod Acting
 pub mod Stores

@@ -3,3 +3,4 @@ pub mod Births
 pub mod Acting
 pub mod Storing
 pub mod Placing
+pub mod Listing

@@ -1,12 +1,14 @@
 //! The whole machine: runs, events, and the runtime's own choices.
-ghost use Rattle.std.specs.Prelude.{ℕ, ◌≡◌, ◌∷◌, ◌++◌, Some, None, IfOk, List, length, map};
+ghost use Rattle.std.specs.Prelude.{ℕ, ◌≡◌, ◌∷◌, ◌++◌, slice_get, drop, ◌&&◌, ◌==◌, if◌then◌else◌, Some, None, IfOk, List, length, map};
 ghost use Rattle.bpf_model.specs.declared.event.Event.TheVariants as events;
 ghost use Rattle.bpf_model.specs.Event.{step_refusal as step_refusal_of, drop_refusal as drop_refusal_of, key_refusal as key_refusal_of, update_refusal as update_refusal_of};
 ghost use Rattle.bpf_model.specs.MapState.{shape_of};
 ghost use Rattle.bpf_model.specs.Machine.{run_at, open_sections as open_sections_of, lowest_free as lowest_free_of};
 ghost use Rattle.std.specs.Option.{option_map};
-ghost use Rattle.bpf_model.specs.Schedule.{turned, is_open};
-ghost use Rattle.plain_model.specs.State.{store_of, queues_of, sections_of, loaded_of, run_of, runs_of, machine_of};
+ghost use Rattle.bpf_model.specs.Schedule.{turned, advanced, is_open, open_flags as open_flags_of, still_open as still_open_of, is_any as is_any_of, retired, first_ready as first_ready_of, without_first};
+ghost use Rattle.bpf_model.specs.Element.{Element as ModelElement, is_linked as is_linked_of, is_unlinked as is_unlinked_of};
+ghost use Rattle.plain_model.specs.Listing.{linked_map, retire_in, settled, is_turn as is_turn_of, FollowsLists};
+ghost use Rattle.plain_model.specs.State.{store_of, element_of, elements_of, queues_of, sections_of, loaded_of, run_of, runs_of, machine_of};
 ghost use Rattle.plain_model.specs.declared.steps.Loaded.{Loaded as PlainLoaded};
 ghost use Rattle.plain_model.specs.Acting.{DoesAs};
 ghost use Rattle.bpf_model.specs.Schedule.{start_schedule};
@@ -123,6 +125,22 @@ impl Machine {
     /// of no use; it is stuck exactly where the definition has no step.
     pub fn apply(&mut self, event: Event) -> Result<Answer, Fault>
         ensures machine { DoesAs (machine_of self.old) event result (machine_of self.new) }
+        ensures lists { IfOk result (λ answer. FollowsLists (schedule_of self.old) event answer (schedule_of self.new)) }
+    {
+        if is_turn(&event) {
+            self.take_turn(event)
+        } else {
+            let before = self.linked_maps()?;
+            let answer = self.perform(event)?;
+            self.settle(before.as_slice())?;
+            Ok(answer)
+        }
+    }
+
+    /// What the machine answers to an advance or a reap.
+    fn take_turn(&mut self, event: Event) -> Result<Answer, Fault>
+        ensures machine { DoesAs (machine_of self.old) event result (machine_of self.new) }
+        ensures lists { IfOk result (λ answer. FollowsLists (schedule_of self.old) event answer (schedule_of self.new)) }
     {
         match event {
             Event::Advance => {
@@ -130,18 +148,15 @@ impl Machine {
                 Ok(Answer::Done)
             }
             Event::Reap => self.reap(),
-            _ => {
-                let before = self.linked_maps()?;
-                let answer = self.perform(event)?;
-                self.settle(before.as_slice())?;
-                Ok(answer)
-            }
+            _ => Err(Fault::OutOfRange),
         }
     }
 
     /// What the machine answers to an event other than an advance or a reap.
     fn perform(&mut self, event: Event) -> Result<Answer, Fault>
-        ensures { DoesAs (machine_of self.old) event result (machine_of self.new) }
+        ensures machine { DoesAs (machine_of self.old) event result (machine_of self.new) }
+        ensures queues { self.new.queues ≡ self.old.queues }
+        ensures awaited { self.new.awaited ≡ self.old.awaited }
     {
         match event {
             Event::Start { prog, ctx } => self.start(prog, ctx),
@@ -160,15 +175,12 @@ impl Machine {
     }
 
     /// For each element the map that it is linked in.
-    fn linked_maps(&self) -> Result<Vec<Option<usize>>, AllocError> {
+    fn linked_maps(&self) -> Result<Vec<Option<usize>>, AllocError>
+        ensures { IfOk result (λ maps. maps.items ≡ map linked_map (elements_of self.now.store.elements.items)) }
+    {
         let mut maps = Vec::new(self.alloc);
         for n in 0..self.store.elements.len() {
-            let element = &self.store.elements[n];
-            maps.push(if element.life.is_linked() {
-                Some(element.map)
-            } else {
-                None
-            })?;
+            maps.push(map_if_linked(&self.store.elements[n]))?;
         }
         Ok(maps)
     }
@@ -176,14 +188,16 @@ impl Machine {
     /// The elements that an event unlinked go to the end of their maps' lists next, and sections that it ended
     /// are awaited no more.
     fn settle(&mut self, before: &[Option<usize>]) -> Result<(), AllocError>
-        ensures machine { machine_of self.new ≡ machine_of self.old }
+        ensures { (olds : List ModelElement) → before.now ≡ map linked_map olds → OnOk result (schedule_of self.new ≡ settled (schedule_of self.old) olds) }
     {
+        let opened = open_flags(self.alloc, self.runs.as_slice())?;
+        let awaited = still_open(self.alloc, self.awaited.as_slice(), opened.as_slice())?;
         retire_all(
             self.queues.as_mut_slice(),
             before,
             self.store.elements.as_slice(),
         )?;
-        self.awaited = still_open(self.alloc, self.awaited.as_slice(), self.runs.as_slice())?;
+        self.awaited = awaited;
         Ok(())
     }
 
@@ -211,7 +225,9 @@ impl Machine {
     }
 
     fn start(&mut self, prog: ProgId, ctx: CtxBytes) -> Result<Answer, Fault>
-        ensures { DoesAs (machine_of self.old) (events.Start prog ctx) result (machine_of self.new) }
+        ensures machine { DoesAs (machine_of self.old) (events.Start prog ctx) result (machine_of self.new) }
+        ensures queues { self.new.queues ≡ self.old.queues }
+        ensures awaited { self.new.awaited ≡ self.old.awaited }
     {
         let p = prog.index();
         if p >= self.programs.len() {
@@ -243,7 +259,9 @@ impl Machine {
     }
 
     fn step(&mut self, run: RunId) -> Result<Answer, Fault>
-        ensures { DoesAs (machine_of self.old) (events.Step run) result (machine_of self.new) }
+        ensures machine { DoesAs (machine_of self.old) (events.Step run) result (machine_of self.new) }
+        ensures queues { self.new.queues ≡ self.old.queues }
+        ensures awaited { self.new.awaited ≡ self.old.awaited }
     {
         let r = run.index();
         if let Some(refusal) = self.step_refusal(r) {
@@ -293,7 +311,9 @@ impl Machine {
         value: ValueBytes,
         flags: u64,
     ) -> Result<Answer, Fault>
-        ensures { DoesAs (machine_of self.old) (events.Update map key value flags) result (machine_of self.new) }
+        ensures machine { DoesAs (machine_of self.old) (events.Update map key value flags) result (machine_of self.new) }
+        ensures queues { self.new.queues ≡ self.old.queues }
+        ensures awaited { self.new.awaited ≡ self.old.awaited }
     {
         match self.key_refusal(map.index(), key.len(), Some(value.len())) {
             Some(refusal) => Ok(Answer::Refused(refusal)),
@@ -313,7 +333,9 @@ impl Machine {
     }
 
     fn delete(&mut self, map: MapId, key: KeyBytes) -> Result<Answer, Fault>
-        ensures { DoesAs (machine_of self.old) (events.Delete map key) result (machine_of self.new) }
+        ensures machine { DoesAs (machine_of self.old) (events.Delete map key) result (machine_of self.new) }
+        ensures queues { self.new.queues ≡ self.old.queues }
+        ensures awaited { self.new.awaited ≡ self.old.awaited }
     {
         match self.key_refusal(map.index(), key.len(), None) {
             Some(refusal) => Ok(Answer::Refused(refusal)),
@@ -328,7 +350,9 @@ impl Machine {
     }
 
     fn read(&mut self, map: MapId, key: KeyBytes) -> Result<Answer, Fault>
-        ensures { DoesAs (machine_of self.old) (events.Read map key) result (machine_of self.new) }
+        ensures machine { DoesAs (machine_of self.old) (events.Read map key) result (machine_of self.new) }
+        ensures queues { self.new.queues ≡ self.old.queues }
+        ensures awaited { self.new.awaited ≡ self.old.awaited }
     {
         if let Some(refusal) = self.key_refusal(map.index(), key.len(), None) {
             return Ok(Answer::Refused(refusal));
@@ -340,6 +364,7 @@ impl Machine {
     /// Where no run is awaited a grace period ends and the next begins.
     fn advance(&mut self) -> Result<(), AllocError>
         ensures machine { machine_of self.new ≡ machine_of self.old }
+        ensures lists { OnOk result (schedule_of self.new ≡ advanced (schedule_of self.old) (machine_of self.old) (is_any_of self.old.awaited.items)) }
     {
         if is_any(self.awaited.as_slice()) {
             return Ok(());
@@ -351,7 +376,8 @@ impl Machine {
     }
 
     fn reap(&mut self) -> Result<Answer, Fault>
-        ensures { DoesAs (machine_of self.old) events.Reap result (machine_of self.new) }
+        ensures machine { DoesAs (machine_of self.old) events.Reap result (machine_of self.new) }
+        ensures lists { IfOk result (λ answer. FollowsLists (schedule_of self.old) events.Reap answer (schedule_of self.new)) }
     {
         let Some(n) = first_ready(self.queues.as_slice()) else {
             return Ok(Answer::Reaped(None));
@@ -380,7 +406,9 @@ impl Machine {
     }
 
     fn remove(&mut self, run: RunId) -> Result<Answer, Fault>
-        ensures { DoesAs (machine_of self.old) (events.Drop run) result (machine_of self.new) }
+        ensures machine { DoesAs (machine_of self.old) (events.Drop run) result (machine_of self.new) }
+        ensures queues { self.new.queues ≡ self.old.queues }
+        ensures awaited { self.new.awaited ≡ self.old.awaited }
     {
         let r = run.index();
         if let Some(refusal) = self.drop_refusal(r) {
@@ -394,9 +422,20 @@ impl Machine {
     }
 }
 
+/// Whether the event is one by which the runtime reclaims elements: an advance or a reap.
+fn is_turn(event: &Event) -> bool
+    ensures { result ≡ is_turn_of event.now }
+{
+    match event {
+        Event::Advance => true,
+        Event::Reap => true,
+        _ => false,
+    }
+}
+
 /// Whether the slot has a run that is inside a section.
 fn is_inside(slot: &Option<Run>) -> bool
-    ensures { result ≡ is_open (option_map (run_of []) slot.now) }
+    ensures { (programs : List PlainLoaded) → result ≡ is_open (option_map (run_of programs) slot.now) }
 {
     match slot {
         Some(run) => 0 < run.depth,
@@ -425,6 +464,17 @@ fn step_slot(
     }
 }
 
+/// The map that an element is linked in.
+fn map_if_linked(element: &Element) -> Option<usize>
+    ensures { result ≡ linked_map (element_of element.now) }
+{
+    if element.life.is_linked() {
+        Some(element.map)
+    } else {
+        None
+    }
+}
+
 /// The section of the slot's run, where it is inside one.
 fn push_section(sections: &mut Vec<Section>, slot: &Option<Run>) -> Result<(), AllocError>
     ensures { (programs : List PlainLoaded) → OnOk result (sections_of sections.new.items ≡ sections_of sections.old.items ++ open_sections_of (option_map (run_of programs) slot.now ∷ [])) }
@@ -441,7 +491,9 @@ fn push_section(sections: &mut Vec<Section>, slot: &Option<Run>) -> Result<(), A
 }
 
 /// For each run slot whether its run is inside a section.
-fn open_flags(alloc: Global, runs: &[Option<Run>]) -> Result<Vec<bool>, AllocError> {
+fn open_flags(alloc: Global, runs: &[Option<Run>]) -> Result<Vec<bool>, AllocError>
+    ensures { (programs : List PlainLoaded) → IfOk result (λ flags. flags.items ≡ open_flags_of (runs_of programs runs.now)) }
+{
     let mut flags = Vec::new(alloc);
     for r in 0..runs.len() {
         flags.push(is_inside(&runs[r]))?;
@@ -449,29 +501,29 @@ fn open_flags(alloc: Global, runs: &[Option<Run>]) -> Result<Vec<bool>, AllocErr
     Ok(flags)
 }
 
-/// The flags of those that are inside a section still.
-fn still_open(
-    alloc: Global,
-    awaited: &[bool],
-    runs: &[Option<Run>],
-) -> Result<Vec<bool>, AllocError> {
+/// Whether both flags are set.
+fn both(a: bool, b: bool) -> bool
+    ensures { result ≡ (a && b) }
+{
+    a && b
+}
+
+/// The flags that are set in both lists.
+fn still_open(alloc: Global, awaited: &[bool], opened: &[bool]) -> Result<Vec<bool>, AllocError>
+    ensures { IfOk result (λ flags. flags.items ≡ still_open_of awaited.now opened.now) }
+{
     let mut flags = Vec::new(alloc);
-    for r in 0..awaited.len() {
-        if r < runs.len() {
-            flags.push(awaited[r] && is_inside(&runs[r]))?;
-        }
+    for r in 0..awaited.len().min(opened.len()) {
+        flags.push(both(awaited[r], opened[r]))?;
     }
     Ok(flags)
 }
 
 /// Whether any flag is set.
-fn is_any(flags: &[bool]) -> bool {
-    for r in 0..flags.len() {
-        if flags[r] {
-            return true;
-        }
-    }
-    false
+fn is_any(flags: &[bool]) -> bool
+    ensures { result ≡ is_any_of flags.now }
+{
+    flags.iter().any(|flag| *flag)
 }
 
 /// The births that were linked and are unlinked now go to the ends of their maps' lists next.
@@ -479,38 +531,86 @@ fn retire_all(
     queues: &mut [Queues],
     before: &[Option<usize>],
     elements: &[Element],
-) -> Result<(), AllocError> {
+) -> Result<(), AllocError>
+    ensures { (olds : List ModelElement) → before.now ≡ map linked_map olds → OnOk result (map queues_of queues.new ≡ retired 0 olds (elements_of elements.now) (map queues_of queues.old)) }
+{
     for k in 0..queues.len() {
         retire(&mut queues[k], k, before, elements)?;
     }
     Ok(())
 }
 
-fn turn_all(queues: &mut [Queues]) -> Result<(), AllocError> {
+/// Those that waited are ready, and those unlinked meanwhile wait, in each map.
+fn turn_all(queues: &mut [Queues]) -> Result<(), AllocError>
+    ensures { OnOk result (map queues_of queues.new ≡ map turned (map queues_of queues.old)) }
+{
     for k in 0..queues.len() {
         turn(&mut queues[k])?;
     }
     Ok(())
 }
 
+/// The first ready birth of a map.
+fn first_of(queues: &Queues) -> Option<usize>
+    ensures { result ≡ slice_get (queues_of queues.now).ready 0 }
+{
+    match queues.ready.first() {
+        Some(n) => Some(*n),
+        None => None,
+    }
+}
+
 /// The first ready birth of the lowest map that has one.
-fn first_ready(queues: &[Queues]) -> Option<usize> {
+fn first_ready(queues: &[Queues]) -> Option<usize>
+    ensures { result ≡ first_ready_of (map queues_of queues.now) }
+{
     for k in 0..queues.len() {
-        if let Some(n) = queues[k].ready.first() {
-            return Some(*n);
+        if let Some(n) = first_of(&queues[k]) {
+            return Some(n);
         }
     }
     None
 }
 
+/// The first ready birth of a map is ready no more.
+fn drop_first(queues: &mut Queues)
+    ensures { queues_of queues.new ≡ record { next = (queues_of queues.old).next; waiting = (queues_of queues.old).waiting; ready = drop 1 (queues_of queues.old).ready } }
+{
+    if !queues.ready.is_empty() {
+        let _ = queues.ready.remove(0);
+    }
+}
+
 /// That birth is ready no more.
-fn take_first(queues: &mut [Queues]) {
+fn take_first(queues: &mut [Queues])
+    ensures { map queues_of queues.new ≡ without_first (map queues_of queues.old) }
+{
     for k in 0..queues.len() {
-        if !queues[k].ready.is_empty() {
-            let _ = queues[k].ready.remove(0);
+        if first_of(&queues[k]).is_some() {
+            drop_first(&mut queues[k]);
             return;
         }
     }
+}
+
+/// Whether an element that was linked in this map, or in none, is one of map k and is unlinked now.
+fn is_retired(before: Option<usize>, k: usize, element: &Element) -> bool
+    ensures { (old : ModelElement) → before ≡ linked_map old → result ≡ (is_linked_of old.life && is_unlinked_of (element_of element.now).life && (old.map == k)) }
+{
+    match before {
+        Some(map) => element.life.is_unlinked() && map == k,
+        None => false,
+    }
+}
+
+/// A number goes to the end of a list, or doesn't.
+fn push_if(list: &mut Vec<usize>, wanted: bool, n: usize) -> Result<(), AllocError>
+    ensures { OnOk result (list.new.items ≡ list.old.items ++ (if wanted then n ∷ [] else [])) }
+{
+    if wanted {
+        list.push(n)?;
+    }
+    Ok(())
 }
 
 /// The births of map k that were linked and are unlinked now go to the end of its list next.
@@ -519,11 +619,11 @@ fn retire(
     k: usize,
     before: &[Option<usize>],
     elements: &[Element],
-) -> Result<(), AllocError> {
-    for n in 0..before.len() {
-        if n < elements.len() && before[n] == Some(k) && elements[n].life.is_unlinked() {
-            queues.next.push(n)?;
-        }
+) -> Result<(), AllocError>
+    ensures { (olds : List ModelElement) → before.now ≡ map linked_map olds → OnOk result (queues_of queues.new ≡ retire_in olds (elements_of elements.now) k (queues_of queues.old)) }
+{
+    for n in 0..before.len().min(elements.len()) {
+        push_if(&mut queues.next, is_retired(before[n], k, &elements[n]), n)?;
     }
     Ok(())
 }

@@ -7,8 +7,8 @@ use Rattle.plain_model.specs.Births.{Finds}
 use Rattle.plain_model.proofs.Events.{read-does, bytes_of}
 use Rattle.plain_model.proofs.machine.Machine.read.Goals as goal
 
-pub returns : goal.returns
-returns c =
+pub returns-clause-machine : goal.returns-clause-machine
+returns-clause-machine c =
     let self = c.args.self.now in
     let s = store_of self.store in
     let free : key_refusal (shape_of s c.args.map) (length c.args.key.items) ≡ None =

@@ -10,8 +10,8 @@ use Rattle.plain_model.proofs.Lists.{map-slice_set}
 use Rattle.plain_model.proofs.Events.{does-performs}
 use Rattle.plain_model.proofs.machine.Machine.remove.Goals as goal
 
-pub returns : goal.returns
-returns c =
+pub returns-clause-machine : goal.returns-clause-machine
+returns-clause-machine c =
     let m = machine_of c.args.self.now in
     let programs = c.args.self.now.programs.items in
     let r = c.index-r.result in

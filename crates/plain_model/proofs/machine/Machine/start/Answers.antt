@@ -19,8 +19,8 @@ index_mut-requires c =
     let free : lowest_free (runs_of self.programs.items items) ≡ Some c.in-Some.r = sym c.lowest_free.ensures ∙ c.in-Some.is in
     omega (arith, lowest-within (runs_of self.programs.items items) c.in-Some.r free, length-map-own (option_map (run_of self.programs.items)) items, len)
 
-pub returns : goal.returns
-returns c =
+pub returns-clause-machine : goal.returns-clause-machine
+returns-clause-machine c =
     let self = c.args.self.now in
     let m = machine_of self in
     let programs = self.programs.items in

@@ -10,8 +10,8 @@ use Rattle.plain_model.proofs.Lists.{get-map, read-at, map-slice_set}
 use Rattle.plain_model.proofs.Events.{step-does}
 use Rattle.plain_model.proofs.machine.Machine.step.Goals as goal
 
-pub returns : goal.returns
-returns c =
+pub returns-clause-machine : goal.returns-clause-machine
+returns-clause-machine c =
     let self = c.args.self.now in
     let m = machine_of self in
     let programs = self.programs.items in

@@ -1,0 +1,54 @@
+-- The lists after each event.
+use Rattle.std.proofs.Common.{◌≡◌, ℕ, List, Some, None, refl, sym, ap, ◌∙◌, subst, false, true}
+use Rattle.std.specs.Prelude.{slice_get, slice_set, Bool}
+use Rattle.bpf_model.specs.declared.event.Event.{Event}
+use Rattle.bpf_model.specs.declared.event.Event.TheVariants as events
+use Rattle.bpf_model.specs.declared.event.Event.TheVariants.{Start, Step, Update, Delete, Read, Advance, Reap, Drop}
+use Rattle.bpf_model.specs.declared.event.Answer.{Answer}
+use Rattle.bpf_model.specs.declared.event.Answer.TheVariants.{Done, Reaped}
+use Rattle.bpf_model.specs.declared.event.ReapedElement.{ReapedElement}
+use Rattle.bpf_model.specs.Element.{Element, Reclaimed, with_life}
+use Rattle.bpf_model.specs.Reclaim.{Reclaims}
+use Rattle.bpf_model.specs.MapState.{Store}
+use Rattle.bpf_model.specs.Machine.{Machine, with_store, open_sections}
+use Rattle.bpf_model.specs.Schedule.{Queues, Schedule, advanced, is_any, first_ready, without_first, scheduled, TakesFirst, retired, still_open, open_flags}
+use Rattle.plain_model.specs.Births.{ReclaimsTo}
+use Rattle.plain_model.specs.Listing.{settled, is_turn, FollowsLists}
+use Rattle.plain_model.proofs.Listing.{none-taken, set-get}
+
+pub advance-follows : (s new : Schedule) → new.machine ≡ s.machine → new ≡ advanced s s.machine (is_any s.awaited) → FollowsLists s Advance Done new
+advance-follows s new same lists = record { first = tt; lists = lists ∙ ap (λ m. advanced s m (is_any s.awaited)) (sym same) }
+
+pub none-follows : (s : Schedule) → first_ready s.queues ≡ None → FollowsLists s Reap (Reaped None) s
+none-follows s h = record { first = h; lists = ap (λ qs. record { machine = s.machine; queues = qs; awaited = s.awaited }) (sym (none-taken s.queues h)) }
+
+pub reap-follows : (s : Schedule) (n : ℕ) (store : Store) (taken : ReapedElement) (new : Schedule) → first_ready s.queues ≡ Some n → ReclaimsTo s.machine.store (open_sections s.machine.runs) n store taken →
+    new.machine ≡ with_store s.machine store → new.queues ≡ without_first s.queues → new.awaited ≡ s.awaited → FollowsLists s Reap (Reaped (Some taken)) new
+reap-follows s n store taken new h r machine queues awaited =
+    let e = r.0 in
+    let c = r.1 in
+    let elements : new.machine.store.elements ≡ slice_set s.machine.store.elements n (with_life Reclaimed e) = ap (λ m. m.store.elements) machine ∙ ap (λ t. t.elements) c.new_is in
+    let after : slice_get new.machine.store.elements n ≡ Some (with_life Reclaimed e) = ap (λ l. slice_get l n) elements ∙ set-get s.machine.store.elements n e (with_life Reclaimed e) c.born in
+    record {
+      first = (n, c.since, h, (e, c.born, c.unlinked), (with_life Reclaimed e, after, refl));
+      lists = ap (λ qs. record { machine = new.machine; queues = qs; awaited = new.awaited }) queues ∙ ap (λ f. record { machine = new.machine; queues = without_first s.queues; awaited = f }) awaited;
+    }
+
+same : (s mid : Schedule) → mid.queues ≡ s.queues → mid.awaited ≡ s.awaited →
+    settled mid s.machine.store.elements ≡ record { machine = mid.machine; queues = retired 0 s.machine.store.elements mid.machine.store.elements s.queues; awaited = still_open s.awaited (open_flags mid.machine.runs) }
+same s mid queues awaited =
+    ap (λ qs. record { machine = mid.machine; queues = retired 0 s.machine.store.elements mid.machine.store.elements qs; awaited = still_open mid.awaited (open_flags mid.machine.runs) }) queues
+    ∙ ap (λ f. record { machine = mid.machine; queues = retired 0 s.machine.store.elements mid.machine.store.elements s.queues; awaited = still_open f (open_flags mid.machine.runs) }) awaited
+
+other : (s mid : Schedule) (event : Event) (answer : Answer) → is_turn event ≡ false → mid.queues ≡ s.queues → mid.awaited ≡ s.awaited → FollowsLists s event answer (settled mid s.machine.store.elements)
+other s mid Advance answer h queues awaited = absurd cc
+other s mid Reap answer h queues awaited = absurd cc
+other s mid (Start prog ctx) answer h queues awaited = record { first = tt; lists = same s mid queues awaited }
+other s mid (Step run) answer h queues awaited = record { first = tt; lists = same s mid queues awaited }
+other s mid (Update map key value flags) answer h queues awaited = record { first = tt; lists = same s mid queues awaited }
+other s mid (Delete map key) answer h queues awaited = record { first = tt; lists = same s mid queues awaited }
+other s mid (Read map key) answer h queues awaited = record { first = tt; lists = same s mid queues awaited }
+other s mid (Drop run) answer h queues awaited = record { first = tt; lists = same s mid queues awaited }
+
+pub settled-follows : (s mid new : Schedule) (event : Event) (answer : Answer) → is_turn event ≡ false → mid.queues ≡ s.queues → mid.awaited ≡ s.awaited → new ≡ settled mid s.machine.store.elements → FollowsLists s event answer new
+settled-follows s mid new event answer h queues awaited e = subst (FollowsLists s event answer) (sym e) (other s mid event answer h queues awaited)
