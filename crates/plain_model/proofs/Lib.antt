@@ -9,6 +9,7 @@ pub mod Starts
 pub mod Listing
 pub mod Queueing
 pub mod Following
+pub mod Oldest
 pub mod Bytes
 pub mod Acting
 pub mod Stores

@@ -64,3 +64,8 @@ cloned xs ys h = AllZip-map (λ x. x) xs ys h ∙ map-self xs
 
 pub replicate-more : (n : ℕ) (x : ℕ) → replicate n x ++ x ∷ [] ≡ replicate (n + 1) x
 replicate-more n x = replicate-append-replicate n 1 x
+
+pub some-at : {A : Type 0} (xs : List A) (i : ℕ) → i < length xs → (x : A) × (slice_get xs i ≡ Some x)
+some-at [] i h = absurd (omega arith)
+some-at (x ∷ xs) zero h = (x, refl)
+some-at (x ∷ xs) (suc i) h = some-at xs i (omega arith)

@@ -5,7 +5,7 @@ ghost use Rattle.bpf_model.specs.Event.{step_refusal as step_refusal_of, drop_re
 ghost use Rattle.bpf_model.specs.MapState.{shape_of};
 ghost use Rattle.bpf_model.specs.Machine.{run_at, open_sections as open_sections_of, lowest_free as lowest_free_of};
 ghost use Rattle.std.specs.Option.{option_map};
-ghost use Rattle.bpf_model.specs.Schedule.{turned, advanced, is_open, open_flags as open_flags_of, still_open as still_open_of, is_any as is_any_of, retired, first_ready as first_ready_of, without_first};
+ghost use Rattle.bpf_model.specs.Schedule.{TakesOldest, turned, advanced, is_open, open_flags as open_flags_of, still_open as still_open_of, is_any as is_any_of, retired, first_ready as first_ready_of, without_first};
 ghost use Rattle.bpf_model.specs.Element.{Element as ModelElement, is_linked as is_linked_of, is_unlinked as is_unlinked_of};
 ghost use Rattle.plain_model.specs.Listing.{linked_map, retire_in, settled, is_turn as is_turn_of, FollowsLists};
 ghost use Rattle.plain_model.specs.State.{store_of, element_of, elements_of, queues_of, sections_of, loaded_of, run_of, runs_of, machine_of};
@@ -157,6 +157,7 @@ impl Machine {
         ensures machine { DoesAs (machine_of self.old) event result (machine_of self.new) }
         ensures queues { self.new.queues ≡ self.old.queues }
         ensures awaited { self.new.awaited ≡ self.old.awaited }
+        ensures oldest { OnOk result (TakesOldest (store_of self.old.store) (store_of self.new.store)) }
     {
         match event {
             Event::Start { prog, ctx } => self.start(prog, ctx),
@@ -228,6 +229,7 @@ impl Machine {
         ensures machine { DoesAs (machine_of self.old) (events.Start prog ctx) result (machine_of self.new) }
         ensures queues { self.new.queues ≡ self.old.queues }
         ensures awaited { self.new.awaited ≡ self.old.awaited }
+        ensures oldest { OnOk result (TakesOldest (store_of self.old.store) (store_of self.new.store)) }
     {
         let p = prog.index();
         if p >= self.programs.len() {
@@ -262,6 +264,7 @@ impl Machine {
         ensures machine { DoesAs (machine_of self.old) (events.Step run) result (machine_of self.new) }
         ensures queues { self.new.queues ≡ self.old.queues }
         ensures awaited { self.new.awaited ≡ self.old.awaited }
+        ensures oldest { OnOk result (TakesOldest (store_of self.old.store) (store_of self.new.store)) }
     {
         let r = run.index();
         if let Some(refusal) = self.step_refusal(r) {
@@ -314,6 +317,7 @@ impl Machine {
         ensures machine { DoesAs (machine_of self.old) (events.Update map key value flags) result (machine_of self.new) }
         ensures queues { self.new.queues ≡ self.old.queues }
         ensures awaited { self.new.awaited ≡ self.old.awaited }
+        ensures oldest { OnOk result (TakesOldest (store_of self.old.store) (store_of self.new.store)) }
     {
         match self.key_refusal(map.index(), key.len(), Some(value.len())) {
             Some(refusal) => Ok(Answer::Refused(refusal)),
@@ -336,6 +340,7 @@ impl Machine {
         ensures machine { DoesAs (machine_of self.old) (events.Delete map key) result (machine_of self.new) }
         ensures queues { self.new.queues ≡ self.old.queues }
         ensures awaited { self.new.awaited ≡ self.old.awaited }
+        ensures oldest { OnOk result (TakesOldest (store_of self.old.store) (store_of self.new.store)) }
     {
         match self.key_refusal(map.index(), key.len(), None) {
             Some(refusal) => Ok(Answer::Refused(refusal)),
@@ -353,6 +358,7 @@ impl Machine {
         ensures machine { DoesAs (machine_of self.old) (events.Read map key) result (machine_of self.new) }
         ensures queues { self.new.queues ≡ self.old.queues }
         ensures awaited { self.new.awaited ≡ self.old.awaited }
+        ensures oldest { OnOk result (TakesOldest (store_of self.old.store) (store_of self.new.store)) }
     {
         if let Some(refusal) = self.key_refusal(map.index(), key.len(), None) {
             return Ok(Answer::Refused(refusal));
@@ -409,6 +415,7 @@ impl Machine {
         ensures machine { DoesAs (machine_of self.old) (events.Drop run) result (machine_of self.new) }
         ensures queues { self.new.queues ≡ self.old.queues }
         ensures awaited { self.new.awaited ≡ self.old.awaited }
+        ensures oldest { OnOk result (TakesOldest (store_of self.old.store) (store_of self.new.store)) }
     {
         let r = run.index();
         if let Some(refusal) = self.drop_refusal(r) {
@@ -451,7 +458,8 @@ fn step_slot(
     store: &mut Store,
     opened: &[Section],
 ) -> Result<Answer, Fault>
-    ensures { SlotStepsAs (store_of store.old) (sections_of opened.now) (option_map (run_of programs.now) slot.old) result (store_of store.new) (option_map (run_of programs.now) slot.new) }
+    ensures oldest { OnOk result (TakesOldest (store_of store.old) (store_of store.new)) }
+    ensures steps { SlotStepsAs (store_of store.old) (sections_of opened.now) (option_map (run_of programs.now) slot.old) result (store_of store.new) (option_map (run_of programs.now) slot.new) }
 {
     match slot {
         Some(run) => {

@@ -121,6 +121,7 @@ fn save(
     requires { (state_of run.old).place < 2 ^ 40 }
     ensures elements { StoresAs (element_store (elements_of store.old.elements.items) (byte_count width) offset value (Pointer (Elem n o))) run.old result (elements_of store.new.elements.items) run.new }
     ensures maps { store.new.maps ≡ store.old.maps }
+    ensures births { length store.new.elements.items ≡ length store.old.elements.items }
 {
     match number(value) {
         Some(k) if store.store(n, width, o, offset, k) => {
@@ -137,6 +138,7 @@ fn access(run: &mut PlainRun, store: &mut Store, insn: &Insn, n: usize, o: i64) 
     requires base { base_element insn.now (state_of run.old) ≡ Some (n, o) }
     ensures acts { (context : List ℕ) (maps : ℕ) → ActsAs insn.now (environment context maps) (elements_of store.old.elements.items) run.old result (elements_of store.new.elements.items) run.new }
     ensures maps { store.new.maps ≡ store.old.maps }
+    ensures births { length store.new.elements.items ≡ length store.old.elements.items }
 {
     match insn {
         Insn::Load {
@@ -191,6 +193,7 @@ pub(crate) fn act(
     requires context { length context.now ≤ 256 }
     ensures acts { ActsAs insn.now (environment context.now maps) (elements_of store.old.elements.items) run.old result (elements_of store.new.elements.items) run.new }
     ensures maps { store.new.maps ≡ store.old.maps }
+    ensures births { length store.new.elements.items ≡ length store.old.elements.items }
 {
     match element_at(insn, run) {
         Some((n, o)) => access(run, store, insn, n, o),

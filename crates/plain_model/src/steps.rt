@@ -1,5 +1,5 @@
 //! One step of a run in the whole machine.
-ghost use Rattle.std.specs.Prelude.{◌≡◌, ℕ, ◌+◌, ◌^◌, ◌<◌, ◌==◌, if◌then◌else◌, Some, None, List};
+ghost use Rattle.std.specs.Prelude.{◌≡◌, ℕ, ◌+◌, ◌^◌, ◌<◌, ◌==◌, if◌then◌else◌, Some, None, List, OnOk};
 ghost use Rattle.bpf_model.specs.declared.value.Value.{Value};
 ghost use Rattle.bpf_model.specs.declared.insn.Insn.TheVariants as insns;
 ghost use Rattle.bpf_model.specs.declared.insn.CallKind.TheVariants as kinds;
@@ -10,6 +10,7 @@ ghost use Rattle.bpf_model.specs.Machine.{Loaded as ModelLoaded, moves};
 ghost use Rattle.bpf_model.specs.MapState.{Store as ModelStore};
 ghost use Rattle.bpf_model.specs.MachineStep.{LookupStep, UpdateStep, DeleteStep, HelperStep, map_argument as map_argument_of, key_argument, frame_bytes as frame_bytes_of, returns as returns_of};
 ghost use Rattle.bpf_model.specs.Frame.{byte_of};
+ghost use Rattle.bpf_model.specs.Schedule.{TakesOldest};
 ghost use Rattle.plain_interpreter.specs.Plain.{state_of};
 ghost use Rattle.plain_model.specs.State.{store_of, sections_of, loaded_of, run_with};
 ghost use Rattle.plain_model.specs.Acting.{Tells, call_in, KernelsAs, InsnStepsAs, RunStepsAs};
@@ -239,7 +240,8 @@ fn update(
     store: &mut Store,
     opened: &[Section],
 ) -> Result<Value, Fault>
-    ensures { Tells (λ ret. UpdateStep (store_of store.old) (sections_of opened.now) (run_with (loaded_of program.now) run.now) ret (store_of store.new)) ((ret : Value) (t : ModelStore) → UpdateStep (store_of store.old) (sections_of opened.now) (run_with (loaded_of program.now) run.now) ret t → ⊥) result }
+    ensures tells { Tells (λ ret. UpdateStep (store_of store.old) (sections_of opened.now) (run_with (loaded_of program.now) run.now) ret (store_of store.new)) ((ret : Value) (t : ModelStore) → UpdateStep (store_of store.old) (sections_of opened.now) (run_with (loaded_of program.now) run.now) ret t → ⊥) result }
+    ensures oldest { OnOk result (TakesOldest (store_of store.old) (store_of store.new)) }
 {
     let place = place_argument(run, program, store)?;
     let value: ValueBytes = frame_bytes(
@@ -261,7 +263,8 @@ fn delete(
     store: &mut Store,
     opened: &[Section],
 ) -> Result<Value, Fault>
-    ensures { Tells (λ ret. DeleteStep (store_of store.old) (sections_of opened.now) (run_with (loaded_of program.now) run.now) ret (store_of store.new)) ((ret : Value) (t : ModelStore) → DeleteStep (store_of store.old) (sections_of opened.now) (run_with (loaded_of program.now) run.now) ret t → ⊥) result }
+    ensures tells { Tells (λ ret. DeleteStep (store_of store.old) (sections_of opened.now) (run_with (loaded_of program.now) run.now) ret (store_of store.new)) ((ret : Value) (t : ModelStore) → DeleteStep (store_of store.old) (sections_of opened.now) (run_with (loaded_of program.now) run.now) ret t → ⊥) result }
+    ensures oldest { OnOk result (TakesOldest (store_of store.old) (store_of store.new)) }
 {
     let place = place_argument(run, program, store)?;
     let outcome = store.delete(alloc, opened, place.map, place.key.as_slice())?;
@@ -277,7 +280,8 @@ fn helper_value(
     opened: &[Section],
     imm: i32,
 ) -> Result<Value, Fault>
-    ensures { Tells (λ ret. HelperStep (helper_of imm) (store_of store.old) (sections_of opened.now) (run_with (loaded_of program.now) run.now) ret (store_of store.new)) ((ret : Value) (t : ModelStore) → HelperStep (helper_of imm) (store_of store.old) (sections_of opened.now) (run_with (loaded_of program.now) run.now) ret t → ⊥) result }
+    ensures tells { Tells (λ ret. HelperStep (helper_of imm) (store_of store.old) (sections_of opened.now) (run_with (loaded_of program.now) run.now) ret (store_of store.new)) ((ret : Value) (t : ModelStore) → HelperStep (helper_of imm) (store_of store.old) (sections_of opened.now) (run_with (loaded_of program.now) run.now) ret t → ⊥) result }
+    ensures oldest { OnOk result (TakesOldest (store_of store.old) (store_of store.new)) }
 {
     match Helper::from_number(imm) {
         Some(Helper::Lookup) => lookup(run, program, store),
@@ -298,6 +302,7 @@ fn call_helper(
     requires { (state_of run.old.state).place < 2 ^ 40 }
     ensures steps { InsnStepsAs (insns.Call kinds.Helper imm) (store_of store.old) (sections_of opened.now) (run_with (loaded_of program.now) run.old) result (store_of store.new) (run_with (loaded_of program.now) run.new) }
     ensures program { run.new.program ≡ run.old.program }
+    ensures oldest { OnOk result (TakesOldest (store_of store.old) (store_of store.new)) }
 {
     let value = helper_value(alloc, run, program, store, opened, imm)?;
     returns(run, value)
@@ -313,6 +318,7 @@ fn step_alone(
     requires { (state_of run.old.state).place < 2 ^ 40 }
     ensures steps { AloneAs insn.now (store_of store.old) (run_with (loaded_of program.now) run.old) result (store_of store.new) (run_with (loaded_of program.now) run.new) }
     ensures program { run.new.program ≡ run.old.program }
+    ensures oldest { OnOk result (TakesOldest (store_of store.old) (store_of store.new)) }
 {
     match act(
         &mut run.state,
@@ -360,6 +366,7 @@ fn step_insn(
     requires { (state_of run.old.state).place < 2 ^ 40 }
     ensures steps { InsnStepsAs insn.now (store_of store.old) (sections_of opened.now) (run_with (loaded_of program.now) run.old) result (store_of store.new) (run_with (loaded_of program.now) run.new) }
     ensures program { run.new.program ≡ run.old.program }
+    ensures oldest { OnOk result (TakesOldest (store_of store.old) (store_of store.new)) }
 {
     match call_of(insn) {
         Some((CallKind::Kernel, imm)) => call_kernel(run, imm),
@@ -378,6 +385,7 @@ pub(crate) fn step_run(
 ) -> Result<Answer, Fault>
     ensures steps { RunStepsAs (store_of store.old) (sections_of opened.now) (run_with (loaded_of program.now) run.old) result (store_of store.new) (run_with (loaded_of program.now) run.new) }
     ensures program { run.new.program ≡ run.old.program }
+    ensures oldest { OnOk result (TakesOldest (store_of store.old) (store_of store.new)) }
 {
     let place = run.state.place();
     if place >= 1 << 40 {

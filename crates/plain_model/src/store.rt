@@ -11,6 +11,7 @@ ghost use Rattle.bpf_model.specs.declared.value.Value.TheVariants.{Number, Point
 ghost use Rattle.bpf_model.specs.declared.value.Reference.TheVariants.{Elem};
 ghost use Rattle.plain_model.specs.Storing.{StoresTo, SavesTo};
 ghost use Rattle.plain_model.specs.Births.{HasFree, ReplacesIn, NextUse, without_first, MayReclaim, ReclaimsTo, Finds};
+ghost use Rattle.bpf_model.specs.Schedule.{TakesOldest};
 ghost use Rattle.plain_model.specs.Acting.{Tells};
 ghost use Rattle.plain_model.specs.State.{section_of, sections_of, life_of, element_of, elements_of, map_of, store_of, IsLinkedHere};
 
@@ -233,6 +234,7 @@ impl Store {
         flags: u64,
     ) -> Result<Result<(), Errno>, AllocError>
         ensures updates { IfOk result (λ ret. map < length self.old.maps.items → Updates (store_of self.old) (sections_of opened.now) map key.items value.items flags ret (store_of self.new)) }
+        ensures oldest { OnOk result (TakesOldest (store_of self.old) (store_of self.new)) }
         ensures err { OnErr result (store_of self.new ≡ store_of self.old) }
     {
         let found = self.lookup(map, key.as_slice());
@@ -261,6 +263,7 @@ impl Store {
         requires there { map < length self.old.maps.items }
         requires found { LooksUp (store_of self.old) map key.items found }
         ensures replaces { OnOk result (HasFree (store_of self.old) map → ReplacesIn (store_of self.old) (sections_of opened.now) map key.items value.items found (store_of self.new)) }
+        ensures oldest { OnOk result (HasFree (store_of self.old) map → TakesOldest (store_of self.old) (store_of self.new)) }
         ensures err { OnErr result (store_of self.new ≡ store_of self.old) }
     {
         let since = Vec::from_slice(alloc, opened)?;
@@ -311,6 +314,7 @@ impl Store {
         key: &[u8],
     ) -> Result<Result<(), Errno>, AllocError>
         ensures deletes { IfOk result (λ ret. Deletes (store_of self.old) (sections_of opened.now) map key.now ret (store_of self.new)) }
+        ensures oldest { OnOk result (TakesOldest (store_of self.old) (store_of self.new)) }
         ensures err { OnErr result (store_of self.new ≡ store_of self.old) }
     {
         let Some(n) = self.lookup(map, key) else {
@@ -376,6 +380,7 @@ impl Store {
     pub fn store(&mut self, n: usize, width: Width, o: i64, offset: i16, number: u64) -> bool
         ensures elements { StoresTo (element_store (elements_of self.old.elements.items) (byte_count width) offset (Number number) (Pointer (Elem n o))) result (elements_of self.new.elements.items) }
         ensures maps { self.new.maps ≡ self.old.maps }
+        ensures births { length self.new.elements.items ≡ length self.old.elements.items }
     {
         if n >= self.elements.len() {
             return false;

@@ -7,8 +7,8 @@ use Rattle.plain_model.proofs.Lists.{read-at}
 use Rattle.plain_model.proofs.Events.{slot-steps}
 use Rattle.plain_model.proofs.machine.step_slot.Goals as goal
 
-pub returns-else-run-programs : goal.returns-else-run-programs
-returns-else-run-programs c =
+pub returns-else-run-programs-clause-steps : goal.returns-else-run-programs-clause-steps
+returns-else-run-programs-clause-steps c =
     let programs = c.args.programs.now in
     let run = c.in-Some.run' in
     let new = c.step_run.new.run in

@@ -10,8 +10,8 @@ use Rattle.plain_model.specs.Acting.{Tells}
 use Rattle.plain_model.proofs.Telling.{tells-map}
 use Rattle.plain_model.proofs.steps.helper_value.Goals as goal
 
-pub returns-in-Some-Lookup : goal.returns-in-Some-Lookup
-returns-in-Some-Lookup c =
+pub returns-in-Some-Lookup-clause-tells : goal.returns-in-Some-Lookup-clause-tells
+returns-in-Some-Lookup-clause-tells c =
     let s = store_of c.args.store.now in
     let opened = sections_of c.args.opened.now in
     let run = run_with (loaded_of c.args.program.now) c.args.run.now in

@@ -8,8 +8,8 @@ use Rattle.plain_model.specs.State.{store_of, run_with, loaded_of}
 use Rattle.plain_model.proofs.Stores.{shape-within}
 use Rattle.plain_model.proofs.steps.update.Goals as goal
 
-pub returns : goal.returns
-returns c =
+pub returns-clause-tells : goal.returns-clause-tells
+returns-clause-tells c =
     let s = store_of c.args.store.now in
     let run = run_with (loaded_of c.args.program.now) c.args.run.now in
     let place = c.in_ok-place.place in
