@@ -12,6 +12,11 @@ use Rattle.bpf_model.specs.Reclaim.{Reclaims}
 use Rattle.bpf_model.specs.MapState.{Store}
 use Rattle.bpf_model.specs.Machine.{Machine, with_store, open_sections}
 use Rattle.bpf_model.specs.Schedule.{Queues, Schedule, advanced, is_any, first_ready, without_first, scheduled, TakesFirst, retired, still_open, open_flags}
+use Rattle.std.proofs.Common.{Ok, Err}
+use Rattle.std.specs.Prelude.{Result, IfOk, OnOk}
+use Rattle.bpf_model.specs.Schedule.{TakesOldest, DoesScheduled}
+use Rattle.plain_model.specs.declared.steps.Fault.{Fault}
+use Rattle.plain_model.specs.Acting.{DoesAs}
 use Rattle.plain_model.specs.Births.{ReclaimsTo}
 use Rattle.plain_model.specs.Listing.{settled, is_turn, FollowsLists}
 use Rattle.plain_model.proofs.Listing.{none-taken, set-get}
@@ -52,3 +57,9 @@ other s mid (Drop run) answer h queues awaited = record { first = tt; lists = sa
 
 pub settled-follows : (s mid new : Schedule) (event : Event) (answer : Answer) → is_turn event ≡ false → mid.queues ≡ s.queues → mid.awaited ≡ s.awaited → new ≡ settled mid s.machine.store.elements → FollowsLists s event answer new
 settled-follows s mid new event answer h queues awaited e = subst (FollowsLists s event answer) (sym e) (other s mid event answer h queues awaited)
+
+-- the three parts of a step with the runtime's choices
+pub schedules : (s new : Schedule) (event : Event) (result : Result Answer Fault) → DoesAs s.machine event result new.machine → IfOk result (λ answer. FollowsLists s event answer new) →
+    OnOk result (TakesOldest s.machine.store new.machine.store) → IfOk result (λ answer. DoesScheduled s event answer new)
+schedules s new event (Ok answer) d f o = record { step = d; first = f.first; oldest = o; lists = f.lists }
+schedules s new event (Err fault) d f o = f

@@ -5,7 +5,7 @@ ghost use Rattle.bpf_model.specs.Event.{step_refusal as step_refusal_of, drop_re
 ghost use Rattle.bpf_model.specs.MapState.{shape_of};
 ghost use Rattle.bpf_model.specs.Machine.{run_at, open_sections as open_sections_of, lowest_free as lowest_free_of};
 ghost use Rattle.std.specs.Option.{option_map};
-ghost use Rattle.bpf_model.specs.Schedule.{TakesOldest, turned, advanced, is_open, open_flags as open_flags_of, still_open as still_open_of, is_any as is_any_of, retired, first_ready as first_ready_of, without_first};
+ghost use Rattle.bpf_model.specs.Schedule.{DoesScheduled, TakesOldest, turned, advanced, is_open, open_flags as open_flags_of, still_open as still_open_of, is_any as is_any_of, retired, first_ready as first_ready_of, without_first};
 ghost use Rattle.bpf_model.specs.Element.{Element as ModelElement, is_linked as is_linked_of, is_unlinked as is_unlinked_of};
 ghost use Rattle.plain_model.specs.Listing.{linked_map, retire_in, settled, is_turn as is_turn_of, FollowsLists};
 ghost use Rattle.plain_model.specs.State.{store_of, element_of, elements_of, queues_of, sections_of, loaded_of, run_of, runs_of, machine_of};
@@ -121,11 +121,20 @@ impl Machine {
         }
     }
 
-    /// What the machine answers to an event: a step of the definition's machine. After a fault the machine is
-    /// of no use; it is stuck exactly where the definition has no step.
+    /// What the machine answers to an event: a step of the definition's machine, with the runtime's own
+    /// choices. After a fault the machine is of no use; it is stuck exactly where the definition has no step.
     pub fn apply(&mut self, event: Event) -> Result<Answer, Fault>
         ensures machine { DoesAs (machine_of self.old) event result (machine_of self.new) }
+        ensures schedule { IfOk result (λ answer. DoesScheduled (schedule_of self.old) event answer (schedule_of self.new)) }
+    {
+        self.answer(event)
+    }
+
+    /// The same, in three parts.
+    fn answer(&mut self, event: Event) -> Result<Answer, Fault>
+        ensures machine { DoesAs (machine_of self.old) event result (machine_of self.new) }
         ensures lists { IfOk result (λ answer. FollowsLists (schedule_of self.old) event answer (schedule_of self.new)) }
+        ensures oldest { OnOk result (TakesOldest (store_of self.old.store) (store_of self.new.store)) }
     {
         if is_turn(&event) {
             self.take_turn(event)
@@ -141,6 +150,7 @@ impl Machine {
     fn take_turn(&mut self, event: Event) -> Result<Answer, Fault>
         ensures machine { DoesAs (machine_of self.old) event result (machine_of self.new) }
         ensures lists { IfOk result (λ answer. FollowsLists (schedule_of self.old) event answer (schedule_of self.new)) }
+        ensures oldest { OnOk result (TakesOldest (store_of self.old.store) (store_of self.new.store)) }
     {
         match event {
             Event::Advance => {
@@ -189,7 +199,8 @@ impl Machine {
     /// The elements that an event unlinked go to the end of their maps' lists next, and sections that it ended
     /// are awaited no more.
     fn settle(&mut self, before: &[Option<usize>]) -> Result<(), AllocError>
-        ensures { (olds : List ModelElement) → before.now ≡ map linked_map olds → OnOk result (schedule_of self.new ≡ settled (schedule_of self.old) olds) }
+        ensures store { self.new.store ≡ self.old.store }
+        ensures lists { (olds : List ModelElement) → before.now ≡ map linked_map olds → OnOk result (schedule_of self.new ≡ settled (schedule_of self.old) olds) }
     {
         let opened = open_flags(self.alloc, self.runs.as_slice())?;
         let awaited = still_open(self.alloc, self.awaited.as_slice(), opened.as_slice())?;
@@ -384,6 +395,7 @@ impl Machine {
     fn reap(&mut self) -> Result<Answer, Fault>
         ensures machine { DoesAs (machine_of self.old) events.Reap result (machine_of self.new) }
         ensures lists { IfOk result (λ answer. FollowsLists (schedule_of self.old) events.Reap answer (schedule_of self.new)) }
+        ensures oldest { OnOk result (TakesOldest (store_of self.old.store) (store_of self.new.store)) }
     {
         let Some(n) = first_ready(self.queues.as_slice()) else {
             return Ok(Answer::Reaped(None));

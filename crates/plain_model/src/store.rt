@@ -337,7 +337,8 @@ impl Store {
 
     /// Reclaims element n, whose slot comes back. `Early` where it isn't unlinked, or a section of its set is open.
     pub fn reclaim(&mut self, n: usize, opened: &[Section]) -> Result<ReapedElement, Fault>
-        ensures { Tells (ReclaimsTo (store_of self.old) (sections_of opened.now) n (store_of self.new)) ⊥ result }
+        ensures tells { Tells (ReclaimsTo (store_of self.old) (sections_of opened.now) n (store_of self.new)) ⊥ result }
+        ensures births { length self.new.elements.items ≡ length self.old.elements.items }
     {
         if n >= self.elements.len() {
             return Err(Fault::Early);

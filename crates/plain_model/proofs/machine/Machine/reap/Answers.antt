@@ -13,7 +13,7 @@ reclaims : (c : In-Ok) → ReclaimsTo (store_of c.args.self.now.store) (open_sec
 reclaims c =
     let self = c.args.self.now in
     let opened : sections_of c.as_slice-2.result.now ≡ open_sections (runs_of self.programs.items self.runs.items) = ap sections_of c.as_slice-2.ensures.value ∙ c.in_ok-opened.ensures in
-    subst (λ o. ReclaimsTo (store_of self.store) o c.in-Some.n (store_of c.reclaim.new.self) c.in-Ok.element) opened c.in-Ok.ensures
+    subst (λ o. ReclaimsTo (store_of self.store) o c.in-Some.n (store_of c.reclaim.new.self) c.in-Ok.element) opened c.in-Ok.ensures.tells
 
 pub returns-in-Ok-clause-machine : goal.returns-in-Ok-clause-machine
 returns-in-Ok-clause-machine c =

@@ -5,8 +5,8 @@ use Rattle.bpf_model.specs.Schedule.{Queues, Schedule, retired, still_open, open
 use Rattle.plain_model.specs.State.{machine_of, queues_of, elements_of, runs_of}
 use Rattle.plain_model.proofs.machine.Machine.settle.Goals as goal
 
-pub returns : goal.returns
-returns c = λ olds h.
+pub returns-clause-lists : goal.returns-clause-lists
+returns-clause-lists c = λ olds h.
     let self = c.args.self.now in
     let made : List Queues → List Bool → Schedule = λ qs flags. record { machine = machine_of self; queues = qs; awaited = flags } in
     let elements = self.store.elements.items in

@@ -8,8 +8,8 @@ use Rattle.plain_model.proofs.Lists.{get-map, read-at, map-slice_set, cloned}
 use Rattle.plain_model.proofs.Reclaims.{reclaims-at, same-element}
 use Rattle.plain_model.proofs.store.Store.reclaim.Goals as goal
 
-pub returns : goal.returns
-returns c =
+pub returns-clause-tells : goal.returns-clause-tells
+returns-clause-tells c =
     let old = c.args.self.now in
     let items = old.elements.items in
     let maps = old.maps.items in
