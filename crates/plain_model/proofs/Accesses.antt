@@ -1,5 +1,5 @@
 -- Accesses to elements.
-use Rattle.std.proofs.Common.{◌≡◌, ℕ, ◌+◌, ◌≤◌, List, Option, Some, None, refl, sym, ap, ◌∙◌, subst, length, Bool, true, false}
+use Rattle.std.proofs.Common.{◌≡◌, ℕ, List, Option, Some, None, refl, sym, ap, ◌∙◌, length, Bool, true, false}
 use Rattle.std.specs.Prelude.{slice_get, slice_set, ℤ, if◌then◌else◌}
 use Rattle.bpf_model.specs.Value.{◌>>=◌}
 use Rattle.bpf_model.specs.Access.{place_of, number_at}

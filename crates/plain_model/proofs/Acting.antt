@@ -1,6 +1,6 @@
 -- Instructions other than calls.
-use Rattle.std.proofs.Common.{◌≡◌, ℕ, zero, suc, List, Option, Some, None, Ok, Err, refl, sym, ap, ◌∙◌, subst, inl, inr}
-use Rattle.std.specs.Prelude.{ℤ, pos, Result, ◌⊎◌, ◌+ℤ◌}
+use Rattle.std.proofs.Common.{◌≡◌, ℕ, List, Option, Some, None, refl, sym, ap, ◌∙◌, subst, inl, inr}
+use Rattle.std.specs.Prelude.{ℤ, Result}
 use Rattle.bpf_model.specs.Value.{◌>>=◌, number}
 use Rattle.bpf_model.specs.declared.insn.Insn.{Insn}
 use Rattle.bpf_model.specs.declared.insn.Insn.TheVariants.{Alu, MoveSigned, Negate, ByteSwap, LoadNumber, LoadMap, Jump, JumpLong, JumpIf, Call, Exit, Load, LoadSigned, Store, StoreRegister}
@@ -12,8 +12,8 @@ use Rattle.bpf_model.specs.declared.opcode.SignedWidth.{SignedWidth}
 use Rattle.bpf_model.specs.Access.{byte_count, unsigned_width}
 use Rattle.bpf_model.specs.Arithmetic.{loaded_signed, immediate}
 use Rattle.bpf_model.specs.Element.{Element}
-use Rattle.bpf_model.specs.Step.{State, Environment, Outcome, Moves, Exits, after, load_from, store_to, sets, forward}
-use Rattle.bpf_model.specs.MachineStep.{Acts, AccessesElement, element_load, element_store}
+use Rattle.bpf_model.specs.Step.{State, Environment, Outcome, Moves, Exits, after, load_from, store_to, sets}
+use Rattle.bpf_model.specs.MachineStep.{AccessesElement, element_load, element_store}
 use Rattle.plain_interpreter.specs.declared.plain_run.PlainRun.{PlainRun}
 use Rattle.plain_interpreter.specs.declared.plain_run.Progress.{Progress}
 use Rattle.plain_interpreter.specs.declared.plain_run.Progress.TheVariants as progress

@@ -1,5 +1,5 @@
 -- Bytes of the frame, read one by one.
-use Rattle.std.proofs.Common.{◌≡◌, ℕ, zero, suc, ◌+◌, ◌<◌, List, [], ◌∷◌, ◌++◌, Option, Some, None, refl, sym, ap, ◌∙◌, arith}
+use Rattle.std.proofs.Common.{◌≡◌, ℕ, suc, ◌+◌, ◌<◌, List, [], ◌∷◌, ◌++◌, Option, Some, None, refl, sym, ap, ◌∙◌, arith}
 use Rattle.std.specs.Prelude.{◌-◌}
 use Rattle.std.proofs.lemmas.List.{append_assoc, append-nil}
 use Rattle.bpf_model.specs.declared.value.Cell.{Cell}

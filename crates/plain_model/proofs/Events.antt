@@ -1,5 +1,5 @@
 -- Events and their answers.
-use Rattle.std.proofs.Common.{◌≡◌, ℕ, List, Option, Some, None, Ok, Err, refl, sym, ap, ◌∙◌, subst}
+use Rattle.std.proofs.Common.{◌≡◌, ℕ, List, Option, Some, None, refl, sym, ap, ◌∙◌, subst}
 use Rattle.std.specs.Prelude.{Result, slice_get, slice_set, length, if◌then◌else◌}
 use Rattle.bpf_model.specs.declared.event.Event.{Event}
 use Rattle.bpf_model.specs.declared.event.Event.TheVariants as events
@@ -20,7 +20,7 @@ use Rattle.bpf_model.specs.Machine.{Loaded, lowest_free, begins}
 use Rattle.arrayvec.specs.ArrayVec.{ArrayVec}
 use Rattle.bpf_model.specs.Event.{refusal, key_refusal, start_refusal, if_full, step_refusal, if_ended, Answers, Performs, Does}
 use Rattle.plain_model.specs.declared.steps.Fault.{Fault}
-use Rattle.plain_model.specs.Acting.{Tells, RunStepsAs, SlotStep, SlotStepsAs, DoesAs}
+use Rattle.plain_model.specs.Acting.{RunStepsAs, SlotStep, SlotStepsAs, DoesAs}
 use Rattle.plain_model.proofs.Telling.{tells-map}
 
 pub does-refused : (m : Machine) (event : Event) (k : EventRefusal) → refusal m event ≡ Some k → Does m event (Refused k) m

@@ -1,17 +1,15 @@
 -- The lists after each event.
-use Rattle.std.proofs.Common.{◌≡◌, ℕ, List, Some, None, refl, sym, ap, ◌∙◌, subst, false, true}
-use Rattle.std.specs.Prelude.{slice_get, slice_set, Bool}
+use Rattle.std.proofs.Common.{◌≡◌, ℕ, Some, None, refl, sym, ap, ◌∙◌, subst, false}
+use Rattle.std.specs.Prelude.{slice_get, slice_set}
 use Rattle.bpf_model.specs.declared.event.Event.{Event}
-use Rattle.bpf_model.specs.declared.event.Event.TheVariants as events
 use Rattle.bpf_model.specs.declared.event.Event.TheVariants.{Start, Step, Update, Delete, Read, Advance, Reap, Drop}
 use Rattle.bpf_model.specs.declared.event.Answer.{Answer}
 use Rattle.bpf_model.specs.declared.event.Answer.TheVariants.{Done, Reaped}
 use Rattle.bpf_model.specs.declared.event.ReapedElement.{ReapedElement}
-use Rattle.bpf_model.specs.Element.{Element, Reclaimed, with_life}
-use Rattle.bpf_model.specs.Reclaim.{Reclaims}
+use Rattle.bpf_model.specs.Element.{Reclaimed, with_life}
 use Rattle.bpf_model.specs.MapState.{Store}
-use Rattle.bpf_model.specs.Machine.{Machine, with_store, open_sections}
-use Rattle.bpf_model.specs.Schedule.{Queues, Schedule, advanced, is_any, first_ready, without_first, scheduled, TakesFirst, retired, still_open, open_flags}
+use Rattle.bpf_model.specs.Machine.{with_store, open_sections}
+use Rattle.bpf_model.specs.Schedule.{Schedule, advanced, is_any, first_ready, without_first, retired, still_open, open_flags}
 use Rattle.std.proofs.Common.{Ok, Err}
 use Rattle.std.specs.Prelude.{Result, IfOk, OnOk}
 use Rattle.bpf_model.specs.Schedule.{TakesOldest, DoesScheduled}

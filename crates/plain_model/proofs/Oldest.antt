@@ -1,12 +1,11 @@
 -- A new element takes the slot that has been free longest.
-use Rattle.std.proofs.Common.{◌≡◌, ℕ, zero, suc, ◌+◌, ◌<◌, List, [], ◌∷◌, ◌++◌, Option, Some, None, refl, sym, ap, ◌∙◌, subst, arith, length}
+use Rattle.std.proofs.Common.{◌≡◌, ℕ, zero, suc, ◌+◌, ◌<◌, List, [], ◌∷◌, ◌++◌, Option, Some, None, refl, sym, ap, ◌∙◌, arith, length}
 use Rattle.std.specs.Prelude.{slice_get, slice_set, drop, ◌-◌}
-use Rattle.std.proofs.lemmas.Option.{slice_get_within}
 use Rattle.bpf_model.specs.Section.{Section}
-use Rattle.bpf_model.specs.Element.{Element, Unlinked, Linked, with_life, set_to, changed, unlinked}
+use Rattle.bpf_model.specs.Element.{Element, Unlinked, Linked, with_life, set_to, unlinked}
 use Rattle.bpf_model.specs.MapState.{MapState, Store, with_bag}
 use Rattle.bpf_model.specs.Schedule.{TakesOldest}
-use Rattle.plain_model.specs.Births.{after_first, without_first, set_first}
+use Rattle.plain_model.specs.Births.{after_first, without_first}
 use Rattle.plain_model.proofs.Births.{without_first-at}
 use Rattle.plain_model.proofs.Lists.{first-of, get-within}
 use Rattle.plain_model.proofs.Listing.{set-get}

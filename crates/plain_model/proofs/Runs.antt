@@ -1,6 +1,6 @@
 -- Runs by slot.
-use Rattle.std.proofs.Common.{◌≡◌, ℕ, zero, suc, ◌+◌, ◌<◌, ◌≤◌, List, [], ◌∷◌, ◌++◌, Option, Some, None, Bool, refl, sym, ap, ◌∙◌, subst, arith, length, true, false, map}
-use Rattle.std.specs.Prelude.{slice_get, slice_set, drop, take, is_some, if◌then◌else◌}
+use Rattle.std.proofs.Common.{◌≡◌, ℕ, zero, suc, ◌+◌, ◌<◌, ◌≤◌, List, [], ◌∷◌, ◌++◌, Option, Some, None, Bool, refl, sym, ap, ◌∙◌, arith, length, true, false}
+use Rattle.std.specs.Prelude.{slice_get, drop, take, is_some, if◌then◌else◌}
 use Rattle.std.specs.Option.{option_map}
 use Rattle.bpf_model.specs.Machine.{lowest_free, open_sections, is_inside, section_of}
 use Rattle.bpf_model.specs.Machine as model

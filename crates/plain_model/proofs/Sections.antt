@@ -1,11 +1,9 @@
 -- Sections, compared and listed.
-use Rattle.std.proofs.Common.{◌≡◌, ℕ, zero, suc, ◌+◌, ◌<◌, ◌≤◌, Bool, List, [], ◌∷◌, ◌++◌, Option, Some, None, refl, sym, ap, ◌∙◌, subst, arith, length, true, false, map, inl, inr}
-use Rattle.std.specs.Prelude.{slice_get, slice_index_or, ◌==◌, ◌&&◌, take, if◌then◌else◌, nat_lt}
-use Rattle.std.specs.Option.{option_map}
+use Rattle.std.proofs.Common.{◌≡◌, ℕ, ◌+◌, ◌<◌, ◌≤◌, Bool, List, Some, None, sym, ap, ◌∙◌, subst, arith, length, true, false, inl, inr}
+use Rattle.std.specs.Prelude.{slice_get, slice_index_or, ◌==◌, ◌&&◌}
 use Rattle.std.proofs.lemmas.Option.{slice_get-get_or}
 use Rattle.std.proofs.lemmas.Bool.{eq-eqb, false≢true, cases_lt}
 use Rattle.bpf_model.specs.Section as model
-use Rattle.bpf_model.specs.Machine.{Run, open_sections, is_inside, section_of as section_in, lowest_free}
 use Rattle.plain_model.specs.declared.store.Section.{Section}
 use Rattle.plain_model.specs.State.{section_of, sections_of}
 use Rattle.plain_model.proofs.Lists.{get-map, get-past, length-map-own}

@@ -1,14 +1,11 @@
 -- The start.
-use Rattle.std.proofs.Common.{◌≡◌, ℕ, zero, suc, ◌+◌, List, [], ◌∷◌, ◌++◌, Option, Some, None, refl, sym, ap, ◌∙◌, length, map, arith}
+use Rattle.std.proofs.Common.{◌≡◌, ℕ, zero, suc, ◌+◌, List, [], ◌∷◌, ◌++◌, None, refl, ap, length, map}
 use Rattle.std.specs.Prelude.{replicate}
-use Rattle.std.specs.Option.{option_map}
 use Rattle.std.proofs.lemmas.List.{replicate-append-replicate}
 use Rattle.bpf_model.specs.declared.limits.MapShape.{MapShape}
 use Rattle.bpf_model.specs.Schedule.{Queues}
-use Rattle.bpf_model.specs.Machine as model
-use Rattle.plain_model.specs.declared.run.Run.{Run}
 use Rattle.plain_model.specs.declared.steps.Loaded.{Loaded}
-use Rattle.plain_model.specs.State.{runs_of, run_of}
+use Rattle.plain_model.specs.State.{runs_of}
 
 abbrev pub no_queues : Queues
 no_queues = record { next = []; waiting = []; ready = [] }

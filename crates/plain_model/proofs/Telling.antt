@@ -1,6 +1,6 @@
 -- Results that tell.
-use Rattle.std.proofs.Common.{◌≡◌, ℕ, Ok, Err, sym, ap, subst}
-use Rattle.std.specs.Prelude.{Result, Some, Option}
+use Rattle.std.proofs.Common.{Ok, Err}
+use Rattle.std.specs.Prelude.{Result}
 use Rattle.plain_model.specs.declared.steps.Fault.{Fault}
 use Rattle.plain_model.specs.declared.steps.Fault.TheVariants as faults
 use Rattle.plain_model.specs.Acting.{Tells}

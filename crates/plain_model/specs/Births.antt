@@ -1,6 +1,5 @@
 -- A birth in the slot that has been free longest, and a reclamation.
-use Rattle.std.specs.Prelude.{◌≡◌, ℕ, ◌+◌, ◌-◌, ◌^◌, ◌<◌, List, [], ◌∷◌, length, drop, Option, Some, None, slice_get, slice_set}
-use Rattle.bpf_model.specs.declared.event.Given.{Given}
+use Rattle.std.specs.Prelude.{◌≡◌, ℕ, ◌+◌, ◌<◌, List, [], ◌∷◌, length, drop, Option, Some, None, slice_get, slice_set}
 use Rattle.bpf_model.specs.Section.{Section, AllEnded}
 use Rattle.bpf_model.specs.Element.{Element, Life, Unlinked, IsLinkedAt, IsAbsent}
 use Rattle.bpf_model.specs.declared.event.ReapedElement.{ReapedElement}

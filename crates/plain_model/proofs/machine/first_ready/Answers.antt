@@ -1,4 +1,4 @@
-use Rattle.std.proofs.Common.{◌≡◌, ◌≤◌, length, Some, map, sym, ◌∙◌, arith}
+use Rattle.std.proofs.Common.{◌≡◌, Some, map, sym, ◌∙◌, arith}
 use Rattle.std.specs.Prelude.{slice_get}
 use Rattle.plain_model.specs.State.{queues_of}
 use Rattle.plain_model.proofs.Lists.{get-map, read-at, length-map-own}

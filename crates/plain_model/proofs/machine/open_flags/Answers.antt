@@ -1,4 +1,4 @@
-use Rattle.std.proofs.Common.{◌≡◌, ◌++◌, ◌∷◌, [], length, Some, map, sym, ap, ◌∙◌, arith}
+use Rattle.std.proofs.Common.{◌≡◌, ◌++◌, ◌∷◌, [], Some, map, sym, ap, ◌∙◌, arith}
 use Rattle.std.specs.Prelude.{slice_get, drop, ◌+◌}
 use Rattle.std.specs.Option.{option_map}
 use Rattle.bpf_model.specs.Schedule.{is_open}

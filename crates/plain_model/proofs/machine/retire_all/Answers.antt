@@ -1,4 +1,4 @@
-use Rattle.std.proofs.Common.{◌≡◌, ◌<◌, ◌≤◌, length, map, sym, ap, ◌∙◌, arith}
+use Rattle.std.proofs.Common.{◌<◌, length, map, sym, ap, ◌∙◌, arith}
 use Rattle.plain_model.specs.State.{queues_of, elements_of}
 use Rattle.plain_model.specs.Listing.{retire_in}
 use Rattle.plain_model.proofs.Lists.{read-at, length-map-own}

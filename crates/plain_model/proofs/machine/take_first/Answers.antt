@@ -1,11 +1,11 @@
-use Rattle.std.proofs.Common.{◌≡◌, ◌<◌, ◌≤◌, ◌++◌, ◌+◌, length, Some, None, map, sym, ap, ◌∙◌, subst, arith, true, false, List, ℕ}
-use Rattle.std.specs.Prelude.{slice_get, slice_set, slice_index_or, is_some, take, drop}
+use Rattle.std.proofs.Common.{◌≡◌, ◌<◌, ◌++◌, ◌+◌, length, Some, None, map, sym, ap, ◌∙◌, subst, arith, true, false, List, ℕ}
+use Rattle.std.specs.Prelude.{slice_get, slice_set, is_some, take, drop}
 use Rattle.bpf_model.specs.Schedule.{without_first}
 use Rattle.bpf_model.specs.Schedule as schedule
 use Rattle.plain_model.specs.State.{queues_of}
 use Rattle.plain_model.specs.declared.machine.Queues.{Queues}
-use Rattle.plain_model.proofs.Lists.{get-map, read-at, length-map-own, map-slice_set}
-use Rattle.plain_model.proofs.Listing.{without-here, without-later, without-past, is-first, not-first}
+use Rattle.plain_model.proofs.Lists.{get-map, read-at, map-slice_set}
+use Rattle.plain_model.proofs.Listing.{without-here, without-later, is-first, not-first}
 use Rattle.plain_model.proofs.machine.take_first.Goals as goal
 
 -- an item that was read at a place, twice

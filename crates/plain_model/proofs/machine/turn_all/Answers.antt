@@ -1,4 +1,4 @@
-use Rattle.std.proofs.Common.{◌≡◌, ◌<◌, ◌≤◌, length, map, sym, ap, ◌∙◌, arith}
+use Rattle.std.proofs.Common.{◌<◌, length, map, sym, ap, ◌∙◌, arith}
 use Rattle.bpf_model.specs.Schedule.{turned}
 use Rattle.plain_model.specs.State.{queues_of}
 use Rattle.plain_model.proofs.Lists.{read-at, length-map-own}

@@ -1,4 +1,4 @@
-use Rattle.std.proofs.Common.{◌≡◌, ◌+◌, sym, ◌∙◌, ap, arith, IsOk}
+use Rattle.std.proofs.Common.{◌+◌, sym, ◌∙◌, ap, arith}
 use Rattle.std.specs.Prelude.{◌-◌}
 use Rattle.bpf_model.specs.MachineStep.{bytes_at}
 use Rattle.plain_interpreter.specs.Plain.{state_of}

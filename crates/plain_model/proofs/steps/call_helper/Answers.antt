@@ -1,8 +1,7 @@
-use Rattle.std.proofs.Common.{◌≡◌}
 use Rattle.std.specs.Int.{w32}
 use Rattle.std.proofs.lemmas.Int.{to_z-of_z}
 use mir.Val.{SFits}
-use Rattle.plain_model.specs.State.{run_with, loaded_of}
+use Rattle.plain_model.specs.State.{loaded_of}
 use Rattle.plain_model.proofs.Telling.{tells-map}
 use Rattle.plain_model.proofs.steps.call_helper.Goals as goal
 

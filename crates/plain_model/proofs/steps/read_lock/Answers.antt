@@ -1,9 +1,8 @@
-use Rattle.std.proofs.Common.{◌≡◌, ◌<◌, ◌+◌, ℕ, Some, refl, sym, ap, ◌∙◌, arith}
+use Rattle.std.proofs.Common.{◌+◌, ℕ, ap, ◌∙◌, arith}
 use Rattle.bpf_model.specs.declared.value.Value.TheVariants.{Nothing}
 use Rattle.bpf_model.specs.Machine.{Run, moves}
 use Rattle.bpf_model.specs.MachineStep.{returns}
 use Rattle.plain_interpreter.specs.Plain.{state_of}
-use Rattle.plain_model.specs.State.{run_with}
 use Rattle.plain_model.proofs.Telling.{tells-map}
 use Rattle.plain_model.proofs.steps.read_lock.Goals as goal
 

@@ -1,4 +1,4 @@
-use Rattle.std.proofs.Common.{◌≡◌, ◌<◌, Some, refl, sym, ap, ◌∙◌, arith}
+use Rattle.std.proofs.Common.{arith}
 use Rattle.plain_model.proofs.Telling.{tells-map}
 use Rattle.plain_model.proofs.steps.read_unlock.Goals as goal
 

@@ -1,4 +1,4 @@
-use Rattle.std.proofs.Common.{rules, ◌≡◌, sym, ap, ◌∙◌, subst, length, vec_len}
+use Rattle.std.proofs.Common.{rules, ◌≡◌, sym, ap, ◌∙◌, subst, length}
 use Rattle.bpf_model.specs.Machine as machine
 use Rattle.bpf_model.specs.MachineStep.{Acts}
 use Rattle.plain_interpreter.specs.Plain.{state_of, environment}

@@ -1,9 +1,7 @@
-use Rattle.std.proofs.Common.{◌≡◌, Some, sym, ap, ◌∙◌, map}
+use Rattle.std.proofs.Common.{◌≡◌, Some, sym, ap, ◌∙◌}
 use Rattle.bpf_model.specs.declared.value.Value.TheVariants.{Number}
 use Rattle.bpf_model.specs.Value.{◌>>=◌, number}
 use Rattle.bpf_model.specs.MachineStep.{frame_bytes, value_argument}
-use Rattle.bpf_model.specs.MapState.{shape_of}
-use Rattle.plain_interpreter.specs.Plain.{state_of}
 use Rattle.plain_model.specs.State.{store_of, run_with, loaded_of}
 use Rattle.plain_model.proofs.Stores.{shape-within}
 use Rattle.plain_model.proofs.steps.update.Goals as goal

@@ -1,4 +1,4 @@
-use Rattle.std.proofs.Common.{ap, refl, subst}
+use Rattle.std.proofs.Common.{ap, subst}
 use Rattle.bpf_model.specs.Section.{AllEnded}
 use Rattle.plain_model.specs.State.{life_of, sections_of}
 use Rattle.plain_model.proofs.store.has_ended.Goals as goal

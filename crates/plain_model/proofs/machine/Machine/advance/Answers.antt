@@ -1,4 +1,4 @@
-use Rattle.std.proofs.Common.{rules, ◌≡◌, List, Bool, false, map, sym, ap, ◌∙◌, arith, length, vec_len}
+use Rattle.std.proofs.Common.{◌≡◌, List, Bool, false, map, sym, ap, ◌∙◌, arith}
 use Rattle.std.proofs.lemmas.List.{with_items_is}
 use Rattle.std.specs.Vec.{with_items}
 use Rattle.bpf_model.specs.Schedule.{Queues, Schedule, advanced, is_any, turned, open_flags}

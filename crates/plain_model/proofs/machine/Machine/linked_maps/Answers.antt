@@ -1,4 +1,4 @@
-use Rattle.std.proofs.Common.{rules, ◌≡◌, ◌<◌, ◌≤◌, ◌++◌, ◌∷◌, [], length, Some, map, sym, ap, ◌∙◌, arith, vec_len}
+use Rattle.std.proofs.Common.{rules, ◌≡◌, ◌<◌, ◌++◌, ◌∷◌, [], length, Some, map, sym, ap, ◌∙◌, arith, vec_len}
 use Rattle.std.specs.Prelude.{slice_get, drop, ◌+◌}
 use Rattle.plain_model.specs.State.{element_of, elements_of}
 use Rattle.plain_model.specs.Listing.{linked_map}

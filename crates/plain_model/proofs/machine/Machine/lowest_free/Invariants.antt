@@ -1,6 +1,5 @@
-use Rattle.std.proofs.Common.{◌≡◌, Some, None}
+use Rattle.std.proofs.Common.{◌≡◌}
 use Rattle.std.specs.Prelude.{drop}
-use Rattle.std.specs.Option.{option_map}
 use Rattle.bpf_model.specs.Machine.{lowest_free}
 use Rattle.plain_model.specs.State.{runs_of}
 use Rattle.plain_model.proofs.Runs.{later}

@@ -1,4 +1,4 @@
-use Rattle.std.proofs.Common.{rules, ◌≡◌, ◌<◌, ◌≤◌, ◌++◌, [], ◌∷◌, arith, length, Some, sym, ap, ◌∙◌, vec_len}
+use Rattle.std.proofs.Common.{rules, ◌≡◌, ◌<◌, ◌++◌, [], ◌∷◌, arith, length, ap, ◌∙◌, vec_len}
 use Rattle.std.specs.Option.{option_map}
 use Rattle.bpf_model.specs.Machine.{open_sections}
 use Rattle.plain_model.specs.State.{run_of}

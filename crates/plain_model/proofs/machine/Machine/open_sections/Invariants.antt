@@ -1,4 +1,4 @@
-use Rattle.std.proofs.Common.{◌≡◌, ◌++◌}
+use Rattle.std.proofs.Common.{◌≡◌}
 use Rattle.std.specs.Prelude.{take}
 use Rattle.bpf_model.specs.Machine.{open_sections}
 use Rattle.plain_model.specs.State.{runs_of, sections_of}

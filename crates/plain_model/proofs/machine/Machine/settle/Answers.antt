@@ -1,4 +1,4 @@
-use Rattle.std.proofs.Common.{rules, ◌≡◌, List, Bool, map, sym, ap, ◌∙◌, arith, length, vec_len}
+use Rattle.std.proofs.Common.{◌≡◌, List, Bool, map, ap, ◌∙◌, arith}
 use Rattle.std.proofs.lemmas.List.{with_items_is}
 use Rattle.std.specs.Vec.{with_items}
 use Rattle.bpf_model.specs.Schedule.{Queues, Schedule, retired, still_open, open_flags}

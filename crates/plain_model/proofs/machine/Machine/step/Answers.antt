@@ -1,9 +1,8 @@
-use Rattle.std.proofs.Common.{rules, ◌≡◌, ◌<◌, arith, length, Some, None, sym, ap, ◌∙◌, subst, vec_len}
+use Rattle.std.proofs.Common.{rules, ◌≡◌, ◌<◌, arith, length, Some, sym, ap, ◌∙◌, subst, vec_len}
 use Rattle.std.specs.Prelude.{slice_get, slice_set}
 use Rattle.std.specs.Option.{option_map}
 use Rattle.bpf_model.specs.Machine.{with_runs, with_store, open_sections}
 use Rattle.bpf_model.specs.declared.event.Event.TheVariants as events
-use Rattle.bpf_model.specs.Event.{step_refusal}
 use Rattle.plain_model.specs.State.{machine_of, run_of, runs_of, store_of, sections_of}
 use Rattle.plain_model.specs.Acting.{SlotStepsAs, DoesAs}
 use Rattle.plain_model.proofs.Lists.{get-map, read-at, map-slice_set}

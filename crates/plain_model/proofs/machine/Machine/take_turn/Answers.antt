@@ -1,4 +1,4 @@
-use Rattle.std.proofs.Common.{◌≡◌, sym, ap, ◌∙◌, subst}
+use Rattle.std.proofs.Common.{sym, subst}
 use Rattle.std.specs.Prelude.{IfOk}
 use Rattle.bpf_model.specs.declared.event.Answer.TheVariants.{Done}
 use Rattle.plain_model.specs.State.{machine_of, schedule_of}

@@ -1,4 +1,4 @@
-use Rattle.std.proofs.Common.{rules, ◌≡◌, ◌<◌, ◌≤◌, arith, length, Some, None, sym, ◌∙◌, ap, vec_len, true, false}
+use Rattle.std.proofs.Common.{rules, ◌≡◌, ◌<◌, arith, length, Some, sym, ◌∙◌, ap, vec_len, false}
 use Rattle.std.specs.Prelude.{slice_get, ◌+ℤ◌}
 use Rattle.std.specs.Int.{w16, w64}
 use Rattle.std.proofs.lemmas.Int.{to_z-of_z}
@@ -6,7 +6,7 @@ use mir.Val.{SFits}
 use Rattle.bpf_model.specs.Access.{byte_count, place_of, number_at}
 use Rattle.bpf_model.specs.Element.{is_reclaimed}
 use Rattle.plain_model.specs.State.{element_of, elements_of}
-use Rattle.plain_model.proofs.Lists.{get-map, get-past, read-at, length-map-own}
+use Rattle.plain_model.proofs.Lists.{get-map, read-at}
 use Rattle.plain_model.proofs.Accesses.{load-found, load-none}
 use Rattle.plain_model.proofs.store.Store.load.Goals as goal
 use Rattle.plain_model.proofs.store.Store.load.Goals.{After-index-element, After-place_of}

@@ -1,4 +1,4 @@
-use Rattle.std.proofs.Common.{rules, ◌≡◌, ◌<◌, arith, length, Some, sym, ◌∙◌, subst, vec_len}
+use Rattle.std.proofs.Common.{◌≡◌, ◌<◌, arith, length, Some, ◌∙◌, subst}
 use Rattle.std.specs.Prelude.{slice_get}
 use Rattle.bpf_model.specs.Element.{IsLinkedAt}
 use Rattle.bpf_model.specs.Helper.{LooksUp}

@@ -1,4 +1,4 @@
-use Rattle.std.proofs.Common.{rules, ◌≡◌, ◌<◌, arith, length, Some, map, sym, ◌∙◌, ap, vec_len}
+use Rattle.std.proofs.Common.{rules, ◌≡◌, ◌<◌, arith, length, Some, map, ◌∙◌, ap, vec_len}
 use Rattle.std.specs.Prelude.{slice_get, slice_set}
 use Rattle.bpf_model.specs.Element.{Reclaimed, with_life}
 use Rattle.bpf_model.specs.MapState.{Store}

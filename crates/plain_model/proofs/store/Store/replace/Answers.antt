@@ -37,12 +37,12 @@ pub returns-in-Some-clause-replaces : goal.returns-in-Some-clause-replaces
 returns-in-Some-clause-replaces c = λ free m h.
     let maps = ap (λ v. map map_of v.items) c.unlink.ensures.maps ∙ c.take_slot.ensures.maps in
     replaces (store_of c.args.self.now) (sections_of c.args.opened.now) c.args.map m c.args.key.items c.args.value.items c.args.found (store_of c.unlink.new.self) c.next_use-uses.result h (free m h) (c.next_use-uses.ensures m h)
-        (elements-found (goal.at.returns-in-Some-clause-replaces c).After-unlink) maps
+    (elements-found (goal.at.returns-in-Some-clause-replaces c).After-unlink) maps
 
 pub returns-in_default-clause-replaces : goal.returns-in_default-clause-replaces
 returns-in_default-clause-replaces c = λ free m h.
     replaces (store_of c.args.self.now) (sections_of c.args.opened.now) c.args.map m c.args.key.items c.args.value.items c.args.found (store_of c.take_slot.new.self) c.next_use-uses.result h (free m h) (c.next_use-uses.ensures m h)
-        (elements-new (goal.at.returns-in_default-clause-replaces c).In_default) c.take_slot.ensures.maps
+    (elements-new (goal.at.returns-in_default-clause-replaces c).In_default) c.take_slot.ensures.maps
 
 pub returns-in-Some-clause-oldest : goal.returns-in-Some-clause-oldest
 returns-in-Some-clause-oldest c = λ free.
@@ -50,11 +50,11 @@ returns-in-Some-clause-oldest c = λ free.
     let m = some-at (map map_of items) c.args.map (omega (arith, length-map-own map_of items, c.requires.there)) in
     let maps = ap (λ v. map map_of v.items) c.unlink.ensures.maps ∙ c.take_slot.ensures.maps in
     birth (store_of c.args.self.now) (store_of c.unlink.new.self) (sections_of c.args.opened.now) c.args.map m.0 c.args.key.items c.args.value.items c.args.found c.next_use-uses.result m.1 (free m.0 m.1) (c.next_use-uses.ensures m.0 m.1)
-        (elements-found (goal.at.returns-in-Some-clause-oldest c).After-unlink) maps
+    (elements-found (goal.at.returns-in-Some-clause-oldest c).After-unlink) maps
 
 pub returns-in_default-clause-oldest : goal.returns-in_default-clause-oldest
 returns-in_default-clause-oldest c = λ free.
     let items = c.args.self.now.maps.items in
     let m = some-at (map map_of items) c.args.map (omega (arith, length-map-own map_of items, c.requires.there)) in
     birth (store_of c.args.self.now) (store_of c.take_slot.new.self) (sections_of c.args.opened.now) c.args.map m.0 c.args.key.items c.args.value.items c.args.found c.next_use-uses.result m.1 (free m.0 m.1) (c.next_use-uses.ensures m.0 m.1)
-        (elements-new (goal.at.returns-in_default-clause-oldest c).In_default) c.take_slot.ensures.maps
+    (elements-new (goal.at.returns-in_default-clause-oldest c).In_default) c.take_slot.ensures.maps
