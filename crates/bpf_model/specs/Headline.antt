@@ -41,7 +41,18 @@ ExitsInTime m events answers states =
     (j r : ℕ) (later : Machine) (run : Run) → slice_get (m ∷ states) j ≡ Some later → run_at later.runs r ≡ Some run →
     moves_of r (moved_by (run_at m.runs r)) (take j events) (take j answers) < length run.program.code
 
--- An element that is unlinked keeps the sections that are open at that moment, and it is reclaimed only when each of them has ended.
+-- The element is unlinked in a state between two others.
+pub record IsUnlinkedBetween (states : List Machine) (i j n : ℕ) : Type 0 where
+  pub place : ℕ
+  pub state : Machine
+  pub since : List Section
+  pub after : i < place
+  pub before : place < j
+  pub there : slice_get states place ≡ Some state
+  pub life : HasLife state.store.elements n (Unlinked since)
+
+-- An element is unlinked before it is reclaimed; it keeps the sections that are open at that moment, and it is reclaimed only when each of
+-- them has ended.
 pub record ReclaimedLate (states : List Machine) : Type 0 where
   -- where it is linked in one state and unlinked in the next, it keeps the sections that are open in the first
   pub keeps : (i n : ℕ) (before after : Machine) (since : List Section) → slice_get states i ≡ Some before → slice_get states (suc i) ≡ Some after →
@@ -49,6 +60,9 @@ pub record ReclaimedLate (states : List Machine) : Type 0 where
   -- where it is unlinked in one state and reclaimed in a later one, each section that it keeps has ended there
   pub ended : (i j n : ℕ) (m later : Machine) (since : List Section) → slice_get states i ≡ Some m → slice_get states j ≡ Some later → i < j →
       HasLife m.store.elements n (Unlinked since) → HasLife later.store.elements n Reclaimed → AllEnded since (open_sections later.runs)
+  -- where it is linked in one state and reclaimed in a later one, it is unlinked in a state between them
+  pub between : (i j n : ℕ) (m later : Machine) → slice_get states i ≡ Some m → slice_get states j ≡ Some later → i < j →
+      HasLife m.store.elements n Linked → HasLife later.store.elements n Reclaimed → IsUnlinkedBetween states i j n
 
 module _ {World : Type 0} where
   -- The answer to one event is a step of each machine that the world tracked, to one that it tracks afterwards.

@@ -10,7 +10,7 @@ use Rattle.bpf_model.specs.Machine.{Machine, open_sections}
 use Rattle.bpf_model.specs.Event.{Does}
 use Rattle.bpf_model.specs.Run.{IsHistory}
 use Rattle.bpf_model.specs.Consistent.{IsConsistent}
-use Rattle.model_laws.specs.Passed.{WasUnlinked}
+use Rattle.bpf_model.specs.Headline.{IsUnlinkedBetween}
 use Rattle.model_laws.proofs.Stores.{LifeMoves, Stays, Unlinks, Ends, is_reap, does-moves}
 use Rattle.model_laws.proofs.Keeping.{stays_consistent}
 use Rattle.model_laws.proofs.Lives.{linked≢unlinked, reclaimed≢linked, reclaimed≢unlinked}
@@ -37,8 +37,8 @@ not-yet m states zero n later since at h g =
     absurd (reclaimed≢unlinked since (one-life m.store.elements n Reclaimed (Unlinked since) (subst (λ (x : Machine). HasLife x.store.elements n Reclaimed) (sym (same_Some m later at)) g) h))
 not-yet m states (suc j) n later since at h g = omega arith
 
-pub unlinked_before_reclaimed : (m : Machine) (events : List Event) (answers : List Answer) (states : List Machine) (j n : ℕ) (later : Machine) → IsConsistent m → IsHistory m events answers states → slice_get (m ∷ states) j ≡ Some later →
-    HasLife m.store.elements n Linked → HasLife later.store.elements n Reclaimed → WasUnlinked (m ∷ states) j n
+unlinked_before_reclaimed : (m : Machine) (events : List Event) (answers : List Answer) (states : List Machine) (j n : ℕ) (later : Machine) → IsConsistent m → IsHistory m events answers states → slice_get (m ∷ states) j ≡ Some later →
+    HasLife m.store.elements n Linked → HasLife later.store.elements n Reclaimed → IsUnlinkedBetween (m ∷ states) 0 j n
 unlinked_before_reclaimed m events answers states zero n later w h at old new =
     absurd (reclaimed≢linked (one-life m.store.elements n Reclaimed Linked (subst (λ (x : Machine). HasLife x.store.elements n Reclaimed) (sym (same_Some m later at)) new) old))
 unlinked_before_reclaimed m [] [] [] (suc j) n later w h at old new = absurd (none-some later at)
@@ -46,9 +46,23 @@ unlinked_before_reclaimed m (event ∷ events) (answer ∷ answers) (next ∷ st
   | inl x ↦
       let r = unlinked_before_reclaimed next events answers states j n later (stays_consistent m next event answer w h.0) h.1 at x new in
       let less : r.place < j = r.before in
-      record { place = suc r.place; state = r.state; since = r.since; before = omega arith; there = r.there; life = r.life }
+      record { place = suc r.place; state = r.state; since = r.since; after = omega arith; before = omega arith; there = r.there; life = r.life }
   | inr x ↦
       let less : 0 < j = not-yet next states j n later (open_sections m.runs) at x new in
-      record { place = 1; state = next; since = open_sections m.runs; before = omega arith; there = refl; life = x }
+      record { place = 1; state = next; since = open_sections m.runs; after = omega arith; before = omega arith; there = refl; life = x }
 ]
 unlinked_before_reclaimed m events answers states (suc j) n later w h at old new = absurd h
+
+-- between any two states
+pub between-along : (m : Machine) (events : List Event) (answers : List Answer) (states : List Machine) → IsConsistent m → IsHistory m events answers states → (i j n : ℕ) (first later : Machine) → slice_get (m ∷ states) i ≡ Some first →
+    slice_get (m ∷ states) j ≡ Some later → i < j → HasLife first.store.elements n Linked → HasLife later.store.elements n Reclaimed → IsUnlinkedBetween (m ∷ states) i j n
+between-along m events answers states w h zero j n first later ai bj less la lb =
+    unlinked_before_reclaimed m events answers states j n later w h bj (subst (λ (x : Machine). HasLife x.store.elements n Linked) (sym (same_Some m first ai)) la) lb
+between-along m events answers states w h (suc i) zero n first later ai bj less la lb = absurd (omega arith)
+between-along m [] [] [] w h (suc i) (suc j) n first later ai bj less la lb = absurd (none-some first ai)
+between-along m (event ∷ events) (answer ∷ answers) (next ∷ states) w h (suc i) (suc j) n first later ai bj less la lb =
+    let r = between-along next events answers states (stays_consistent m next event answer w h.0) h.1 i j n first later ai bj (omega arith) la lb in
+    let after : i < r.place = r.after in
+    let before : r.place < j = r.before in
+    record { place = suc r.place; state = r.state; since = r.since; after = omega arith; before = omega arith; there = r.there; life = r.life }
+between-along m events answers states w h (suc i) (suc j) n first later ai bj less la lb = absurd h

@@ -16,6 +16,7 @@ use Rattle.model_laws.proofs.Moves.{does-move}
 use Rattle.model_laws.proofs.Stores.{LifeMoves, Stays, Unlinks, Ends, is_reap, does-moves}
 use Rattle.model_laws.proofs.Past.{all-begun-later, ended-later}
 use Rattle.model_laws.proofs.Keeping.{begun-unlinked, stays_consistent}
+use Rattle.model_laws.proofs.Between.{between-along}
 use Rattle.model_laws.proofs.Lives.{linked≢unlinked, reclaimed≢unlinked, same-since}
 
 -- what was linked and is unlinked after a step has the sections that were open
@@ -101,4 +102,4 @@ ended-along m (event ∷ events) (answer ∷ answers) (next ∷ states) w h (suc
 ended-along m events answers states w h (suc i) (suc j) n first later since ai bj less la lb = absurd h
 
 pub reclaimed_late : (m : Machine) (events : List Event) (answers : List Answer) (states : List Machine) → IsConsistent m → IsHistory m events answers states → ReclaimedLate (m ∷ states)
-reclaimed_late m events answers states w h = record { keeps = keeps-along m events answers states w h; ended = ended-along m events answers states w h }
+reclaimed_late m events answers states w h = record { keeps = keeps-along m events answers states w h; ended = ended-along m events answers states w h; between = between-along m events answers states w h }

@@ -5,4 +5,3 @@ pub mod Near
 pub mod Start
 pub mod Steps
 pub mod Accounted
-pub mod Passed

@@ -35,7 +35,6 @@ ghost use Rattle.model_laws.specs.Scheduled.{IsScheduled, IsReapable};
 ghost use Rattle.model_laws.specs.Start.{AreShapes, start_view};
 ghost use Rattle.model_laws.specs.Steps.{AreSteps, AnswersAsHistory};
 ghost use Rattle.model_laws.specs.Accounted.{kept_count, IsFull};
-ghost use Rattle.model_laws.specs.Passed.{WasUnlinked};
 ghost use Rattle.model_laws.specs.Near.{Place, IsNearPlace, IsPlaceOf, place_word};
 
 /// An event is refused exactly when a test fails, by the first that does, and then nothing changes.
@@ -79,13 +78,8 @@ pub fn section_never_reopens()
     ensures { (m later : Machine) (events : List Event) (answers : List Answer) (states : List Machine) (j : ℕ) (s : Section) → IsHistory m events answers states → slice_get states j ≡ Some later → HasBegun m s → (Has (open_sections m.runs) s → ⊥) → Has (open_sections later.runs) s → ⊥ }
 {}
 
-/// An element that is linked in one state and reclaimed in a later one is unlinked in a state between them.
-pub fn unlinked_before_reclaimed()
-    ensures { (m : Machine) (events : List Event) (answers : List Answer) (states : List Machine) (j n : ℕ) (later : Machine) → IsConsistent m → IsHistory m events answers states → slice_get (m ∷ states) j ≡ Some later → HasLife m.store.elements n Linked → HasLife later.store.elements n Reclaimed → WasUnlinked (m ∷ states) j n }
-{}
-
 /// The grace-period guarantee, of every history of the machine: an element that is unlinked keeps the sections
-/// that are open then, and when it is reclaimed each section that it keeps has ended.
+/// that are open then, is reclaimed only after that, and then each section that it keeps has ended.
 pub fn reclaimed_late()
     ensures { (m : Machine) (events : List Event) (answers : List Answer) (states : List Machine) → IsConsistent m → IsHistory m events answers states → ReclaimedLate (m ∷ states) }
 {}
