@@ -101,8 +101,8 @@ pub fn reached_is_scheduled()
     ensures { (shapes : List MapShape) (programs : List Loaded) (s : Schedule) → IsReached shapes programs s → IsScheduled s }
 {}
 
-/// Two advances that meet no open section, with nothing awaited before them, make every unlinked element
-/// ready: the premise of the drain law.
+/// Two advances, one right after the other, with no section open and nothing awaited before them, move what
+/// waits, and what was unlinked last, to the end of the ready ones.
 pub fn two_quiet_advances()
     ensures { (s t u : Schedule) (a b : Answer) → is_any s.awaited ≡ false → open_sections s.machine.runs ≡ [] → DoesScheduled s Event.Advance a t → DoesScheduled t Event.Advance b u → (k : ℕ) (q : Queues) → slice_get s.queues k ≡ Some q → slice_get u.queues k ≡ Some (record { next = []; waiting = []; ready = (q.ready ++ q.waiting) ++ q.next }) }
 {}

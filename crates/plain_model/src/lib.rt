@@ -4,8 +4,9 @@
 //! periods, the order of reaping, and the slot that a new element takes. Elements stand in one list that
 //! only grows, and registers and frames hold values of a known kind.
 //!
-//! [`Machine::apply`] is proved to answer each event as the definitions say (`Does`): its answer and the new
-//! state are a step of the definitions' machine, and it is stuck only where that machine has no step. It tests
+//! [`Machine::apply`] is proved to answer each event as the definitions say (`DoesScheduled`): its answer and
+//! the new state are a step of the definitions' machine with the runtime's own choices, and it is stuck only
+//! where that machine has no step. It tests
 //! at run time what a runtime would have proved beforehand: the kinds of values, and that the grace period of
 //! an element has ended. Where a count or an offset would leave 64 bits it gives up and says so.
 #![tactic(auto)]
