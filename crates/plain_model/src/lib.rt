@@ -6,9 +6,9 @@
 //!
 //! [`Machine::apply`] is proved to answer each event as the definitions say (`DoesScheduled`): its answer and
 //! the new state are a step of the definitions' machine with the runtime's own choices, and it is stuck only
-//! where that machine has no step. It tests
-//! at run time what a runtime would have proved beforehand: the kinds of values, and that the grace period of
-//! an element has ended. Where a count or an offset would leave 64 bits it gives up and says so.
+//! where that machine has no step. It tests at run time what a runtime would have proved beforehand: the
+//! kinds of values, and that the grace period of an element has ended. Where a count or an offset would
+//! leave 64 bits it gives up and says so.
 #![tactic(auto)]
 
 mod machine;
