@@ -122,7 +122,7 @@ impl Machine {
     }
 
     /// What the machine answers to an event: a step of the definition's machine, with the runtime's own
-    /// choices. After a fault the machine is of no use; it is stuck exactly where the definition has no step.
+    /// choices. Where it says `Stuck` the definition has no step; after any fault the machine is of no use.
     pub fn apply(&mut self, event: Event) -> Result<Answer, Fault>
         ensures machine { DoesAs (machine_of self.old) event result (machine_of self.new) }
         ensures schedule { IfOk result (λ answer. DoesScheduled (schedule_of self.old) event answer (schedule_of self.new)) }

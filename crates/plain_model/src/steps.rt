@@ -36,9 +36,11 @@ pub enum Fault {
     Stuck,
     /// Memory was refused.
     Memory,
-    /// A count would leave 64 bits, or an offset: the machine has a step there, which this model cannot make.
+    /// A count, an offset or a length is more than this model holds. Whether the machine has a step there is
+    /// not said.
     OutOfRange,
-    /// The element that is next to be reclaimed is still within its grace period: the lists are wrong.
+    /// The element that is next to be reclaimed may not be: it is still within its grace period, or isn't
+    /// unlinked at all. Then the lists are wrong.
     Early,
 }
 
