@@ -12,23 +12,11 @@ later-same Linked = tt
 later-same (Unlinked s) = refl
 later-same Reclaimed = tt
 
-later-more : (a b c : Life) → Later a b → Later b c → Later a c
-later-more Linked b c h g = tt
-later-more (Unlinked s) Linked c h g = absurd h
-later-more (Unlinked s) (Unlinked t) Linked h g = absurd g
-later-more (Unlinked s) (Unlinked t) (Unlinked u) h g = h ∙ g
-later-more (Unlinked s) (Unlinked t) Reclaimed h g = tt
-later-more (Unlinked s) Reclaimed Linked h g = absurd g
-later-more (Unlinked s) Reclaimed (Unlinked u) h g = absurd g
-later-more (Unlinked s) Reclaimed Reclaimed h g = tt
-later-more Reclaimed Linked c h g = absurd h
-later-more Reclaimed (Unlinked t) c h g = absurd h
-later-more Reclaimed Reclaimed c h g = g
+later-unlinked : (l : Life) (since : List Section) → l ≡ Linked → Later l (Unlinked since)
+later-unlinked l since h = subst (λ x. Later x (Unlinked since)) (sym h) tt
 
-later-reclaimed : (l : Life) → Later l Reclaimed
-later-reclaimed Linked = tt
-later-reclaimed (Unlinked s) = tt
-later-reclaimed Reclaimed = tt
+later-reclaimed : (l : Life) (since : List Section) → l ≡ Unlinked since → Later l Reclaimed
+later-reclaimed l since h = subst (λ x. Later x Reclaimed) (sym h) tt
 
 only-reclaimed : (a b : Life) → a ≡ Reclaimed → Later a b → b ≡ Reclaimed
 only-reclaimed Linked b e h = absurd (cc)
@@ -40,17 +28,14 @@ only-reclaimed Reclaimed Reclaimed e h = refl
 follows-same : (e : Element) → Follows e e
 follows-same e = record { in_map = refl; under = refl; uses = refl; life = later-same e.life }
 
-follows-more : (d e f : Element) → Follows d e → Follows e f → Follows d f
-follows-more d e f h g = record { in_map = g.in_map ∙ h.in_map; under = g.under ∙ h.under; uses = g.uses ∙ h.uses; life = later-more d.life e.life f.life h.life g.life }
-
 pub follows-value : (value : List ℕ) (e : Element) → Follows e (with_value value e)
 follows-value value e = record { in_map = refl; under = refl; uses = refl; life = later-same e.life }
 
-pub follows-reclaimed : (e : Element) → Follows e (with_life Reclaimed e)
-follows-reclaimed e = record { in_map = refl; under = refl; uses = refl; life = later-reclaimed e.life }
-
 pub follows-unlinked : (opened : List Section) (e : Element) → e.life ≡ Linked → Follows e (with_life (Unlinked opened) e)
-follows-unlinked opened e h = record { in_map = refl; under = refl; uses = refl; life = subst (λ l. Later l (Unlinked opened)) (sym h) tt }
+follows-unlinked opened e h = record { in_map = refl; under = refl; uses = refl; life = later-unlinked e.life opened h }
+
+pub follows-reclaimed : (e : Element) (since : List Section) → e.life ≡ Unlinked since → Follows e (with_life Reclaimed e)
+follows-reclaimed e since h = record { in_map = refl; under = refl; uses = refl; life = later-reclaimed e.life since h }
 
 pub grows-same : (es : List Element) → Grows es es
 grows-same es n e h = (e, h, follows-same e)
@@ -58,14 +43,11 @@ grows-same es n e h = (e, h, follows-same e)
 pub grows-along : (es new : List Element) → new ≡ es → Grows es new
 grows-along es new h = subst (Grows es) (sym h) (grows-same es)
 
-pub grows-more : (a b c : List Element) → Grows a b → Grows b c → Grows a c
-grows-more a b c h g n e at =
-    let f = h n e at in
-    let k = g n f.0 f.1 in
-    (k.0, k.1, follows-more e f.0 k.0 f.2 k.2)
-
-pub grows-append : (es more : List Element) → Grows es (es ++ more)
-grows-append es more n e h = (e, get-append es more n e h, follows-same e)
+-- more elements after those that have grown
+pub grows-append : (es new more : List Element) → Grows es new → Grows es (new ++ more)
+grows-append es new more g n e h =
+    let f = g n e h in
+    (f.0, get-append new more n f.0 f.1, f.2)
 
 pub grows-set : (es : List Element) (n : ℕ) (old new : Element) → slice_get es n ≡ Some old → Follows old new → Grows es (slice_set es n new)
 grows-set es n old new h f k e at = elim (cases_eq k n) [

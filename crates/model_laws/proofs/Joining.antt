@@ -4,14 +4,12 @@ use Rattle.bpf_model.specs.declared.event.Event.{Event}
 use Rattle.bpf_model.specs.declared.event.Answer.{Answer}
 use Rattle.bpf_model.specs.declared.limits.MapShape.{MapShape}
 use Rattle.bpf_model.specs.Machine.{Loaded}
-use Rattle.bpf_model.specs.Schedule.{Schedule, DoesScheduled, IsScheduledHistory, last_scheduled, start_schedule}
+use Rattle.bpf_model.specs.Schedule.{Schedule, IsScheduledHistory, last_scheduled, start_schedule}
 use Rattle.bpf_model.specs.Drain.{AnswersAsScheduled, AreScheduledAnswers}
 use Rattle.bpf_model.specs.View.{WorldView}
 use Rattle.bpf_model.specs.Refines.{TracksSchedule}
-use Rattle.model_laws.specs.Start.{AreShapes, start_view}
 use Rattle.model_laws.specs.Steps.{AreSteps, AnswersAsHistory}
 use Rattle.model_laws.proofs.Draining.{drains_from}
-use Rattle.model_laws.proofs.Starting.{start_tracked}
 use Rattle.model_laws.proofs.Reached.{tracked_is_scheduled}
 
 module _ {World : Type 0} (Tracks : World → Schedule → Type 0) where
@@ -28,27 +26,35 @@ steps_make_runs old new events answers h s t =
     let r = steps_make_history TracksSchedule old new events answers h s t in
     (r.0, r.1, drains_from s events answers r.0 (tracked_is_scheduled old s t) r.1, r.2)
 
+-- two runs that meet
+history-join : (s : Schedule) (es fs : List Event) (xs ys : List Answer) (states more : List Schedule) → IsScheduledHistory s es xs states → IsScheduledHistory (last_scheduled s states) fs ys more →
+    IsScheduledHistory s (es ++ fs) (xs ++ ys) (states ++ more)
+history-join s [] fs [] ys [] more h g = g
+history-join s (e ∷ es) fs (x ∷ xs) ys (t ∷ states) more h g = (h.0, history-join t es fs xs ys states more h.1 g)
+history-join s es fs xs ys states more h g = absurd h
+
+last-join : (s : Schedule) (states more : List Schedule) → last_scheduled s (states ++ more) ≡ last_scheduled (last_scheduled s states) more
+last-join s [] more = refl
+last-join s (t ∷ states) more = last-join t states more
+
+pub runs_join : (old mid new : WorldView) (es fs : List Event) (xs ys : List Answer) → AreScheduledAnswers TracksSchedule old es xs mid → AreScheduledAnswers TracksSchedule mid fs ys new → AreScheduledAnswers TracksSchedule old (es ++ fs) (xs ++ ys) new
+runs_join old mid new es fs xs ys h g s t =
+    let r = h s t in
+    let n = g (last_scheduled s r.0) r.3 in
+    let history = history-join s es fs xs ys r.0 n.0 r.1 n.1 in
+    (r.0 ++ n.0, history, drains_from s (es ++ fs) (xs ++ ys) (r.0 ++ n.0) (tracked_is_scheduled old s t) history, subst (TracksSchedule new) (sym (last-join s r.0 n.0)) n.3)
+
 -- one more step
-history-push : (s : Schedule) (events : List Event) (answers : List Answer) (states : List Schedule) (event : Event) (answer : Answer) (next : Schedule) → IsScheduledHistory s events answers states →
-    DoesScheduled (last_scheduled s states) event answer next → IsScheduledHistory s (events ++ event ∷ []) (answers ++ answer ∷ []) (states ++ next ∷ [])
-history-push s [] [] [] event answer next h d = (d, tt)
-history-push s (e ∷ events) (a ∷ answers) (t ∷ states) event answer next h d = (h.0, history-push t events answers states event answer next h.1 d)
-history-push s events answers states event answer next h d = absurd h
-
-last-push : (s : Schedule) (states : List Schedule) (next : Schedule) → last_scheduled s (states ++ next ∷ []) ≡ next
-last-push s [] next = refl
-last-push s (t ∷ states) next = last-push t states next
-
 pub runs_grow : (old mid new : WorldView) (events : List Event) (answers : List Answer) (event : Event) (answer : Answer) → AreScheduledAnswers TracksSchedule old events answers mid →
     AnswersAsScheduled TracksSchedule mid event answer new → AreScheduledAnswers TracksSchedule old (events ++ event ∷ []) (answers ++ answer ∷ []) new
 runs_grow old mid new events answers event answer h step s t =
     let r = h s t in
     let n = step (last_scheduled s r.0) r.3 in
-    let history = history-push s events answers r.0 event answer n.0 r.1 n.1 in
-    (r.0 ++ n.0 ∷ [], history, drains_from s (events ++ event ∷ []) (answers ++ answer ∷ []) (r.0 ++ n.0 ∷ []) (tracked_is_scheduled old s t) history, subst (TracksSchedule new) (sym (last-push s r.0 n.0)) n.2)
+    let history = history-join s events (event ∷ []) answers (answer ∷ []) r.0 (n.0 ∷ []) r.1 (n.1, tt) in
+    (r.0 ++ n.0 ∷ [], history, drains_from s (events ++ event ∷ []) (answers ++ answer ∷ []) (r.0 ++ n.0 ∷ []) (tracked_is_scheduled old s t) history, subst (TracksSchedule new) (sym (last-join s r.0 (n.0 ∷ []))) n.2)
 
-pub runs_from_start : (shapes : List MapShape) (programs : List Loaded) (new : WorldView) (events : List Event) (answers : List Answer) → AreShapes shapes → AreScheduledAnswers TracksSchedule (start_view shapes programs) events answers new →
+pub runs_from_start : (shapes : List MapShape) (programs : List Loaded) (old new : WorldView) (events : List Event) (answers : List Answer) → TracksSchedule old (start_schedule shapes programs) → AreScheduledAnswers TracksSchedule old events answers new →
     (states : List Schedule) × IsScheduledHistory (start_schedule shapes programs) events answers states × TracksSchedule new (last_scheduled (start_schedule shapes programs) states)
-runs_from_start shapes programs new events answers fits h =
-    let r = h (start_schedule shapes programs) (start_tracked shapes programs fits) in
+runs_from_start shapes programs old new events answers t h =
+    let r = h (start_schedule shapes programs) t in
     (r.0, r.1, r.3)

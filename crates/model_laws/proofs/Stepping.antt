@@ -31,7 +31,7 @@ use Rattle.bpf_model.specs.Run.{IsHistory}
 use Rattle.bpf_model.specs.Element.{Reclaimed, HasLife}
 use Rattle.model_laws.specs.Growth.{Grows}
 use Rattle.model_laws.proofs.Lists.{first-step}
-use Rattle.model_laws.proofs.Growing.{grows-same, grows-along, grows-more, grows-append, grows-set, grows-changed, grows-unlinked, follows-value, follows-reclaimed, stays-reclaimed}
+use Rattle.model_laws.proofs.Growing.{grows-same, grows-along, grows-append, grows-set, grows-changed, grows-unlinked, follows-value, follows-reclaimed, stays-reclaimed}
 
 -- a store to an element
 grows-stored : (es new : List Element) (n width : ℕ) (offset : ℤ) (v : ℕ) (e : Element) → stored_in es n width offset v e ≡ Some new → Grows es new
@@ -71,7 +71,7 @@ grows-found s opened map key (Some n) h = grows-unlinked opened s.elements map k
 
 grows-replaces : (s : map_state.Store) (opened : List Section) (map : ℕ) (m : map_state.MapState) (key value : List ℕ) (found : Option ℕ) (new : map_state.Store) → LooksUp s map key found → Replaces s opened map m key value found new → Grows s.elements new.elements
 grows-replaces s opened map m key value found new l r =
-    subst (λ x. Grows s.elements x) (sym (ap (λ x. x.elements) r.new_is)) (grows-more s.elements (unlinked opened s.elements found) _ (grows-found s opened map key found l) (grows-append (unlinked opened s.elements found) _))
+    subst (λ x. Grows s.elements x) (sym (ap (λ x. x.elements) r.new_is)) (grows-append s.elements (unlinked opened s.elements found) _ (grows-found s opened map key found l))
 
 grows-settles : (s : map_state.Store) (opened : List Section) (map : ℕ) (m : map_state.MapState) (key value : List ℕ) (found : Option ℕ) (new : map_state.Store) (error : Option Errno) (ret : Result (Unit {0}) Errno) →
     LooksUp s map key found → Settles error ret s new (Replaces s opened map m key value found new) → Grows s.elements new.elements
@@ -89,7 +89,7 @@ grows-deletes : (s : map_state.Store) (opened : List Section) (map : ℕ) (key :
 grows-deletes s opened map key ret new d = grows-removes s opened map key ret new d.0 d.1 d.2
 
 grows-reclaims : (s : map_state.Store) (opened : List Section) (n : ℕ) (e : Element) (given : _) (new : map_state.Store) → Reclaims s opened n e given new → Grows s.elements new.elements
-grows-reclaims s opened n e given new r = subst (λ x. Grows s.elements x) (sym (ap (λ x. x.elements) r.new_is)) (grows-set s.elements n e (with_life Reclaimed e) r.born (follows-reclaimed e))
+grows-reclaims s opened n e given new r = subst (λ x. Grows s.elements x) (sym (ap (λ x. x.elements) r.new_is)) (grows-set s.elements n e (with_life Reclaimed e) r.born (follows-reclaimed e r.since r.unlinked))
 
 grows-helper : (h : Option Helper) (s : map_state.Store) (opened : List Section) (run : Run) (ret : Value) (new : map_state.Store) → HelperStep h s opened run ret new → Grows s.elements new.elements
 grows-helper (Some helpers.Lookup) s opened run ret new h = grows-along s.elements new.elements (ap (λ x. x.elements) h.1)

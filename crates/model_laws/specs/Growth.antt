@@ -2,9 +2,11 @@
 use Rattle.std.specs.Prelude.{◌≡◌, ℕ, List, Some, slice_get}
 use Rattle.bpf_model.specs.Element.{Element, Life, Linked, Unlinked, Reclaimed}
 
--- a life goes on: from linked over unlinked, with the same sections, to reclaimed
+-- a life goes on by at most one step: a linked one stays so or is unlinked, an unlinked one keeps its sections or is reclaimed, a reclaimed one stays so
 abbrev pub Later : Life → Life → Type 0
-Later Linked l = Unit {0}
+Later Linked Linked = Unit {0}
+Later Linked (Unlinked t) = Unit {0}
+Later Linked Reclaimed = ⊥
 Later (Unlinked s) Linked = ⊥
 Later (Unlinked s) (Unlinked t) = s ≡ t
 Later (Unlinked s) Reclaimed = Unit {0}

@@ -47,8 +47,8 @@ pub fn cut_anywhere()
     ensures { (m new : Machine) (es fs : List Event) (xs ys : List Answer) → length es ≡ length xs → MachineRun m (es ++ fs) (xs ++ ys) new ↔ ((mid : Machine) × MachineRun m es xs mid × MachineRun mid fs ys new) }
 {}
 
-/// Elements only grow: none is taken out, its map, key and use count stay, and its life goes on from linked
-/// over unlinked to reclaimed.
+/// Elements only grow: none is taken out, its map, key and use count stay, and its life goes on by at most one
+/// step, from linked to unlinked or from unlinked, with the same sections, to reclaimed.
 pub fn elements_only_grow()
     ensures { (m new : Machine) (event : Event) (answer : Answer) → Does m event answer new → Grows m.store.elements new.store.elements }
 {}
@@ -189,9 +189,15 @@ pub fn runs_grow()
     ensures { (old mid new : WorldView) (events : List Event) (answers : List Answer) (event : Event) (answer : Answer) → AreScheduledAnswers TracksSchedule old events answers mid → AnswersAsScheduled TracksSchedule mid event answer new → AreScheduledAnswers TracksSchedule old (events ++ event ∷ []) (answers ++ answer ∷ []) new }
 {}
 
-/// From the world at the start there is such a run: the claims on what a world tracks are not empty there.
+/// Answers that are those of a run, and those of a run that goes on from it, are those of one run: the drain law
+/// holds over both.
+pub fn runs_join()
+    ensures { (old mid new : WorldView) (es fs : List Event) (xs ys : List Answer) → AreScheduledAnswers TracksSchedule old es xs mid → AreScheduledAnswers TracksSchedule mid fs ys new → AreScheduledAnswers TracksSchedule old (es ++ fs) (xs ++ ys) new }
+{}
+
+/// From a world that tracks the start, answers that are those of a run are those of a run from the start.
 pub fn runs_from_start()
-    ensures { (shapes : List MapShape) (programs : List Loaded) (new : WorldView) (events : List Event) (answers : List Answer) → AreShapes shapes → AreScheduledAnswers TracksSchedule (start_view shapes programs) events answers new → (states : List Schedule) × IsScheduledHistory (start_schedule shapes programs) events answers states × TracksSchedule new (last_scheduled (start_schedule shapes programs) states) }
+    ensures { (shapes : List MapShape) (programs : List Loaded) (old new : WorldView) (events : List Event) (answers : List Answer) → TracksSchedule old (start_schedule shapes programs) → AreScheduledAnswers TracksSchedule old events answers new → (states : List Schedule) × IsScheduledHistory (start_schedule shapes programs) events answers states × TracksSchedule new (last_scheduled (start_schedule shapes programs) states) }
 {}
 
 /// Answers of a run with the runtime's choices are answers of a run of the machine.
