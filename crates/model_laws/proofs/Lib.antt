@@ -26,3 +26,4 @@ pub mod Tallies
 pub mod Accounting
 pub mod Full
 pub mod Between
+pub mod Deciding

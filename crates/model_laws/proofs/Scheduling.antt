@@ -133,7 +133,7 @@ pub first-queued : (s : Schedule) (n : ℕ) → IsScheduled s → (p : FirstPlac
 first-queued s n w p = queued-of s p.map_at n p.lists w p.there (let a : times n p.lists.ready ≡ 1 + times n p.rest = ap (times n) p.ready_is ∙ times-first n n p.rest refl in omega arith)
 
 -- only the element that is reclaimed changes
-same-element : (es new : List Element) (k n a : ℕ) (e : Element) → Queued es k n → new ≡ slice_set es a (with_life Reclaimed e) → HasLife new n Reclaimed → n ≡ a
+pub same-element : (es new : List Element) (k n a : ℕ) (e : Element) → Queued es k n → new ≡ slice_set es a (with_life Reclaimed e) → HasLife new n Reclaimed → n ≡ a
 same-element es new k n a e q is life = elim (cases_eq n a) [
   | inl y ↦ y
   | inr ne ↦

@@ -101,6 +101,16 @@ pub fn reached_is_scheduled()
     ensures { (shapes : List MapShape) (programs : List Loaded) (s : Schedule) → IsReached shapes programs s → IsScheduled s }
 {}
 
+/// With the runtime's choices an event has one answer and leads to one state.
+pub fn one_answer()
+    ensures { (s t u : Schedule) (event : Event) (a b : Answer) → IsScheduled s → DoesScheduled s event a t → DoesScheduled s event b u → (a ≡ b) × (t ≡ u) }
+{}
+
+/// With the runtime's choices a list of events has one list of answers and leads through one list of states.
+pub fn one_history()
+    ensures { (s : Schedule) (events : List Event) (answers others : List Answer) (states rest : List Schedule) → IsScheduled s → IsScheduledHistory s events answers states → IsScheduledHistory s events others rest → (answers ≡ others) × (states ≡ rest) }
+{}
+
 /// Two advances, one right after the other, with no section open and nothing awaited before them, move what
 /// waits, and what was unlinked last, to the end of the ready ones.
 pub fn two_quiet_advances()
