@@ -6,6 +6,7 @@ pub mod Cutting
 pub mod Refusing
 pub mod Advancing
 pub mod Plains
+pub mod Examples
 pub mod Sections
 pub mod Born
 pub mod Moves

@@ -5,3 +5,4 @@ pub mod Near
 pub mod Start
 pub mod Steps
 pub mod Accounted
+pub mod Example

@@ -35,6 +35,7 @@ ghost use Rattle.model_laws.specs.Scheduled.{IsScheduled, IsReapable};
 ghost use Rattle.model_laws.specs.Start.{AreShapes, start_view};
 ghost use Rattle.model_laws.specs.Steps.{AreSteps, AnswersAsHistory};
 ghost use Rattle.model_laws.specs.Accounted.{kept_count, IsFull};
+ghost use Rattle.model_laws.specs.Example.{lookup_and_load, example_shape};
 ghost use Rattle.model_laws.specs.Near.{Place, IsNearPlace, IsPlaceOf, place_word};
 
 /// An event is refused exactly when a test fails, by the first that does, and then nothing changes.
@@ -61,6 +62,11 @@ pub fn reclaimed_for_ever()
 /// A program that is plain without maps is plain with them.
 pub fn plain_with_maps()
     ensures { (program : List Insn) (shapes : List MapShape) → IsPlain program → IsPlainWithMaps program shapes }
+{}
+
+/// A program that looks up a key in a section, and loads from the value where there is one, is plain with maps.
+pub fn lookup_is_plain()
+    ensures { IsPlainWithMaps lookup_and_load (example_shape ∷ []) }
 {}
 
 /// The machine with no run and nothing in its maps is consistent.
