@@ -84,7 +84,7 @@ pub fn section_never_reopens()
     ensures { (m later : Machine) (events : List Event) (answers : List Answer) (states : List Machine) (j : ℕ) (s : Section) → IsHistory m events answers states → slice_get states j ≡ Some later → HasBegun m s → (Has (open_sections m.runs) s → ⊥) → Has (open_sections later.runs) s → ⊥ }
 {}
 
-/// The grace-period guarantee, of every history of the machine: an element that is unlinked keeps the sections
+/// The grace-period guarantee, of every history from a consistent state: an element that is unlinked keeps the sections
 /// that are open then, is reclaimed only after that, and then each section that it keeps has ended.
 pub fn reclaimed_late()
     ensures { (m : Machine) (events : List Event) (answers : List Answer) (states : List Machine) → IsConsistent m → IsHistory m events answers states → ReclaimedLate (m ∷ states) }
