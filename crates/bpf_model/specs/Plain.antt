@@ -2,12 +2,13 @@
 -- byte of the frame written as a number before it is read.
 use Rattle.std.specs.Prelude.{◌≡◌, ℕ, ◌+◌, ◌<◌, ◌≤◌, List, [], ◌∷◌, ◌++◌, Some, ℤ, pos, ◌+ℤ◌, ◌⊎◌}
 use Rattle.bpf_model.specs.declared.insn.Insn.{Insn}
-use Rattle.bpf_model.specs.declared.insn.Insn.TheVariants.{Alu, MoveSigned, Negate, ByteSwap, LoadNumber, LoadMap, JumpIf, Call, Exit, Load, LoadSigned, Store, StoreRegister}
+use Rattle.bpf_model.specs.declared.insn.Insn.TheVariants.{Alu, Unary, LoadNumber, LoadMap, JumpIf, Call, Exit, Load, LoadSigned, Store}
 use Rattle.bpf_model.specs.declared.insn.AluOp.TheVariants.{Move}
 use Rattle.bpf_model.specs.declared.insn.Operand.{Operand}
 use Rattle.bpf_model.specs.declared.insn.Operand.TheVariants.{Register, Immediate}
 use Rattle.bpf_model.specs.declared.opcode.Width.{Width}
 use Rattle.bpf_model.specs.Access.{byte_count, unsigned_width, place_of}
+use Rattle.bpf_model.specs.Operand.{unary_source}
 use Rattle.bpf_model.specs.Graph.{distance, JumpsTo, GoesTo, Reached}
 use Rattle.bpf_model.specs.Step.{insn_at}
 
@@ -20,20 +21,16 @@ Names (Immediate imm) r = ⊥
 abbrev pub Reads : Insn → ℕ → Type 0
 Reads (Alu Move size dst src) r = Names src r
 Reads (Alu op size dst src) r = (r ≡ dst) ⊎ Names src r
-Reads (MoveSigned extension dst src) r = r ≡ src
-Reads (Negate size dst) r = r ≡ dst
-Reads (ByteSwap order width dst) r = r ≡ dst
+Reads (Unary op dst) r = r ≡ unary_source op dst
 Reads (JumpIf condition size dst src offset) r = (r ≡ dst) ⊎ Names src r
 Reads Exit r = r ≡ 0
-Reads (StoreRegister width dst src offset) r = r ≡ src
+Reads (Store width dst offset src) r = Names src r
 Reads _ r = ⊥
 
 -- The instruction writes the register.
 abbrev pub Writes : Insn → ℕ → Type 0
 Writes (Alu op size dst src) r = r ≡ dst
-Writes (MoveSigned extension dst src) r = r ≡ dst
-Writes (Negate size dst) r = r ≡ dst
-Writes (ByteSwap order width dst) r = r ≡ dst
+Writes (Unary op dst) r = r ≡ dst
 Writes (LoadNumber dst n) r = r ≡ dst
 Writes (Load width dst src offset) r = r ≡ dst
 Writes (LoadSigned width dst src offset) r = r ≡ dst
@@ -49,8 +46,7 @@ ReadsByte (LoadSigned width dst src offset) k = Takes (unsigned_width width) off
 ReadsByte _ k = ⊥
 
 abbrev pub WritesByte : Insn → ℕ → Type 0
-WritesByte (Store width dst offset imm) k = Takes width offset k
-WritesByte (StoreRegister width dst src offset) k = Takes width offset k
+WritesByte (Store width dst offset src) k = Takes width offset k
 WritesByte _ k = ⊥
 
 -- an aligned access to the frame with base r10, all bytes inside
@@ -61,8 +57,7 @@ IsFrameAccess width base offset = (base ≡ 10) × (at : ℕ) × (place_of 512 (
 abbrev pub IsSimple : Insn → Type 0
 IsSimple (Load width dst src offset) = IsFrameAccess width src offset
 IsSimple (LoadSigned width dst src offset) = IsFrameAccess (unsigned_width width) src offset
-IsSimple (Store width dst offset imm) = IsFrameAccess width dst offset
-IsSimple (StoreRegister width dst src offset) = IsFrameAccess width dst offset
+IsSimple (Store width dst offset src) = IsFrameAccess width dst offset
 IsSimple (LoadMap dst map) = ⊥
 IsSimple (Call kind imm) = ⊥
 IsSimple _ = Unit {0}
