@@ -1,6 +1,6 @@
 -- Each instruction leads from described states to described ones.
 use Rattle.std.proofs.Common.{◌≡◌, ℕ, ◌+◌, ◌^◌, ◌<◌, refl, sym, ◌∙◌, ap, subst, arith, inl, inr, Bool, true, false, cond, List}
-use Rattle.std.specs.Prelude.{slice_index_or, Some, None, Result, Ok, IfOk, ◌==◌, if◌then◌else◌, ℤ, pos, negsuc, ◌+ℤ◌, ◌-ℤ◌, ◌<ℤ◌}
+use Rattle.std.specs.Prelude.{slice_index_or, ◌⊎◌, Some, None, Result, Ok, IfOk, ◌==◌, if◌then◌else◌, ℤ, pos, negsuc, ◌+ℤ◌, ◌-ℤ◌, ◌<ℤ◌}
 use Rattle.std.proofs.lemmas.Int.{ints}
 use Rattle.std.specs.Int.{w64}
 use Rattle.bpf_model.specs.declared.value.Value.{Value}
@@ -21,12 +21,15 @@ use Rattle.abstract_state.specs.declared.kind.CellKind.{CellKind}
 use Rattle.abstract_state.specs.declared.kind.CellKind.TheVariants as cells
 use Rattle.abstract_state.specs.declared.kind.Region.{Region}
 use Rattle.abstract_state.specs.declared.state.AbsState.{AbsState}
-use Rattle.abstract_state.specs.State.{IsOf, IsNear, IsOfCell, IsNumber, Describes, kind_at, IsEnvironment, IsReady, Keeps, Transfers, base_of, IsInRegion}
-use Rattle.abstract_state.specs.Steps.{Gives, Computes, Shifts, SetsReg, Yields, Flows, Stepped}
+use Rattle.abstract_state.specs.declared.environment.EnvironmentShape.{EnvironmentShape}
+use Rattle.abstract_state.specs.State.{IsOf, IsNear, IsOfCell, IsNumber, Describes, kind_at, IsEnvironment, Compares, Transfers, base_of, IsInRegion}
+use Rattle.abstract_state.specs.Facts.{Fact, Register as RegisterFact, FrameByte, FramePointer, FactHolds, Makes, IsReady, KeepsFacts}
+use Rattle.abstract_state.specs.Floor.{set_by, LoadsKnown, KeepsOthers}
+use Rattle.abstract_state.specs.Steps.{Gives, Computes, Shifts, SetsReg, Yields, Flows, single, Done, Stepped}
 use Rattle.bpf_model.specs.Step.{State, Environment, Moves, put, sets, map_value}
 use Rattle.bpf_model.specs.Spelling.{slot_count}
 use Rattle.bpf_model.specs.Plain.{Writes, WritesByte}
-use Rattle.bpf_model.specs.Graph.{falls}
+use Rattle.bpf_model.specs.Graph.{falls, distance}
 use Rattle.std.proofs.lemmas.Bool.{ne_eqb, eqb-false, lt-ltb}
 use Rattle.std.proofs.lemmas.Result.{IfOk-weaker}
 use Rattle.bpf_model.specs.declared.insn.Operand.{Operand}
@@ -84,10 +87,19 @@ describes_put r k v place a b m s i n d = record {
   cells = λ q. subst (λ (f : List CellKind). IsOfCell (slice_index_or f q cells.Unwritten) (m.frame q)) (sym s.frame) (d.cells q);
 }
 
+-- The instruction sets this register, goes on, and does nothing else.
+pub record IsSetting (i : Insn) (dst : ℕ) : Type 0 where
+  pub goes_on : falls i ≡ true
+  pub stays : distance i ≡ None
+  pub sets : set_by i ≡ Some dst
+  pub writes : (r : ℕ) → Writes i r → r ≡ dst
+  pub no_bytes : (k : ℕ) → WritesByte i k → ⊥
+  pub no_test : (r : ℕ) → Compares i r → ⊥
+
 -- an instruction that sets a register
-pub write_flows : (i : Insn) (dst : ℕ) (k : RegKind) (a b : AbsState) (ctx_len maps : ℕ) → (10 ≡ dst → ⊥) → SetsReg dst k a b
-    → ((env : Environment) (m : State) → IsEnvironment ctx_len maps env → Describes a m → Yields i dst k env m) → Flows i ctx_len maps a b
-write_flows i dst k a b ctx_len maps ne sets yields env m e d =
+write_flows : (i : Insn) (dst : ℕ) (k : RegKind) (a b : AbsState) (shape : EnvironmentShape) → (10 ≡ dst → ⊥) → SetsReg dst k a b
+    → ((env : Environment) (m : State) → IsEnvironment shape env → Describes a m → Yields i dst k env m) → Flows i shape a b
+write_flows i dst k a b shape ne sets yields env m e d =
     let y = yields env m e d in
     let next : State = record { regs = put dst y.0 m.regs; frame = m.frame; place = m.place + slot_count i } in (
       next,
@@ -97,8 +109,8 @@ write_flows i dst k a b ctx_len maps ne sets yields env m e d =
     )
 
 -- an instruction that falls through alone
-pub flows_transfers : (i : Insn) (a b : AbsState) (ctx_len maps : ℕ) → falls i ≡ true → Flows i ctx_len maps a b → Transfers i ctx_len maps a b None
-flows_transfers i a b ctx_len maps t flows env m e d =
+pub flows_transfers : (i : Insn) (a b : AbsState) (shape : EnvironmentShape) → falls i ≡ true → Flows i shape a b → Transfers i shape a b None
+flows_transfers i a b shape t flows env m e _ d =
     let r = flows env m e d in
     (Moves r.0, r.1, inl (t, r.2, r.3))
 
@@ -106,30 +118,35 @@ number_cond : (t : Bool) (k k' : RegKind) → IsNumber k → (t ≡ false → Is
 number_cond true k k' p q = p
 number_cond false k k' p q = q refl
 
-pub write_keeps : (i : Insn) (dst : ℕ) (k : RegKind) (a b : AbsState) → ((r : ℕ) → Writes i r → r ≡ dst) → ((q : ℕ) → WritesByte i q → ⊥) → (10 ≡ dst → ⊥)
-    → SetsReg dst k a b → IsNumber k → IsReady i a → Keeps i a b
-write_keeps i dst k a b writes no_bytes ne sets n ready = record {
-  frame = sets.regs 10 ∙ ap (λ t. if t then k else kind_at a 10) (ne_eqb 10 dst ne) ∙ ready.frame;
-  regs = λ r h. subst IsNumber (sym (sets.regs r))
-      (number_cond (r == dst) k (kind_at a r) n (λ f. elim h [ inl p ↦ p | inr w ↦ absurd (eqb-false r dst f (writes r w)) ]));
-  cells = λ q h. ap (λ (f : List CellKind). slice_index_or f q cells.Unwritten) sets.frame ∙ (elim h [ inl p ↦ p | inr w ↦ absurd (no_bytes q w) ]);
-}
+write_keeps : (i : Insn) (dst : ℕ) (k : RegKind) (a b : AbsState) → IsSetting i dst → (10 ≡ dst → ⊥) → SetsReg dst k a b → IsNumber k
+    → (fact : Fact) → FactHolds fact a ⊎ Makes i fact → FactHolds fact b
+write_keeps i dst k a b s ne sets n (RegisterFact r) h = subst IsNumber (sym (sets.regs r))
+    (number_cond (r == dst) k (kind_at a r) n (λ f. elim h [ inl p ↦ p | inr w ↦ absurd (eqb-false r dst f (s.writes r w)) ]))
+write_keeps i dst k a b s ne sets n (FrameByte q) h =
+    ap (λ (f : List CellKind). slice_index_or f q cells.Unwritten) sets.frame ∙ (elim h [ inl p ↦ p | inr w ↦ absurd (s.no_bytes q w) ])
+write_keeps i dst k a b s ne sets n FramePointer h =
+    sets.regs 10 ∙ ap (λ t. if t then k else kind_at a 10) (ne_eqb 10 dst ne) ∙ (elim h [ inl p ↦ p | inr w ↦ absurd w ])
 
 -- an instruction that sets a register and is done
-pub write_steps : (i : Insn) (dst : ℕ) (k : RegKind) (a b : AbsState) (area : Region) (ctx_len maps : ℕ)
-    → falls i ≡ true → ((r : ℕ) → Writes i r → r ≡ dst) → ((q : ℕ) → WritesByte i q → ⊥)
-    → (10 ≡ dst → ⊥) → SetsReg dst k a b → (IsReady i a → IsNumber k)
-    → ((r : ℕ) (m : State) → base_of i ≡ Some r → Describes a m → IsInRegion area (m.regs r))
-    → ((env : Environment) (m : State) → IsEnvironment ctx_len maps env → Describes a m → Yields i dst k env m)
-    → Stepped i ctx_len maps a b (Ok area)
-write_steps i dst k a b area ctx_len maps t writes no_bytes ne sets numbers reaches yields = record {
-  accepts = λ _. refl;
+pub write_done : (i : Insn) (dst : ℕ) (k : RegKind) (a b : AbsState) (region : Region) (shape : EnvironmentShape)
+    → IsSetting i dst → (10 ≡ dst → ⊥) → SetsReg dst k a b → (IsReady i a → IsNumber k)
+    → ((r : ℕ) (m : State) → base_of i ≡ Some r → Describes a m → IsInRegion region (m.regs r)) → LoadsKnown i b
+    → ((env : Environment) (m : State) → IsEnvironment shape env → Describes a m → Yields i dst k env m)
+    → Stepped i shape a b (Ok (single region))
+write_done i dst k a b region shape s ne sets numbers reaches loads yields = record {
+  accepts = λ _. tt;
   memory = tt;
   unchanged = tt;
   done = record {
-    sound = λ _. flows_transfers i a b ctx_len maps t (write_flows i dst k a b ctx_len maps ne sets yields);
-    reaches = reaches;
-    keeps = λ ready. write_keeps i dst k a b writes no_bytes ne sets (numbers ready) ready;
+    sound = flows_transfers i a b shape s.goes_on (write_flows i dst k a b shape ne sets yields);
+    region = reaches;
+    compares = λ r m c d. absurd (s.no_test r c);
+    branches = λ x. absurd (x.1 s.stays);
+    keeps = λ ready. write_keeps i dst k a b s ne sets (numbers ready);
+    keeps_taken = λ ready. tt;
+    loads = loads;
+    others = λ r other _. sets.regs r ∙ ap (λ t. if t then k else kind_at a r) (ne_eqb r dst (λ e. other (s.sets ∙ ap Some (sym e))));
+    others_taken = tt;
   };
 }
 
@@ -149,8 +166,8 @@ move_computes op size dst src a y result e o h = IfOk-weaker result _ _
     (λ k f m d. subst (λ (op : AluOp). Gives k (computed size op (m.regs dst) (operand_value src m.regs))) (sym e) (f (m.regs dst) (operand_value src m.regs) (o m d) (near_operand src a m d)))
     h
 
-pub map_found : (map : ℤ) (n ctx_len maps : ℕ) (env : Environment) → map ≡ pos n → n < maps → IsEnvironment ctx_len maps env → map_value env map ≡ Some (Pointer (references.MapRef n))
-map_found map n ctx_len maps env e l i =
+pub map_found : (map : ℤ) (n : ℕ) (shape : EnvironmentShape) (env : Environment) → map ≡ pos n → n < shape.maps → IsEnvironment shape env → map_value env map ≡ Some (Pointer (references.MapRef n))
+map_found map n shape env e l i =
     ap (map_value env) e ∙ ap (λ t. if t then Some (Pointer (references.MapRef n)) else None) (lt-ltb n env.maps (subst (λ k. n < k) (sym i.bound) l))
 
 -- a reference moved forward, and back

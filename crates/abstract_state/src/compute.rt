@@ -1,14 +1,16 @@
 //! What operations give, by the kinds of their operands.
-ghost use Rattle.std.specs.Prelude.{◌≡◌, ℕ, IfOk, IsOk};
+ghost use Rattle.std.specs.Prelude.{◌≡◌, ℕ, ◌<◌, ◌^◌, IfOk, IsOk};
+ghost use Rattle.bpf_model.specs.Arithmetic.{unary};
 ghost use Rattle.bpf_model.specs.Operand.{computed};
 ghost use Rattle.bpf_model.specs.declared.value.Value.{Value};
+ghost use Rattle.scalar_domain.specs.Scalar.{Holds};
 ghost use Rattle.abstract_state.specs.State.{IsOf, IsNumber, IsNear};
 ghost use Rattle.abstract_state.specs.Steps.{Gives, IsHeld, HasMemory};
 
 use crate::fault::Fault;
 use crate::kind::RegKind;
 use crate::offset::moved;
-use bpf_model::{AluOp, Size};
+use bpf_model::{AluOp, Size, UnaryOp};
 use scalar_domain::Scalar;
 
 /// The numbers of a register that is read as one.
@@ -53,5 +55,16 @@ pub(crate) fn combined(size: Size, op: AluOp, x: RegKind, y: RegKind) -> Result<
         (RegKind::Ctx(o), RegKind::Num(b)) => Ok(RegKind::Ctx(moved(size, op, o, b)?)),
         (RegKind::Frame(o), RegKind::Num(b)) => Ok(RegKind::Frame(moved(size, op, o, b)?)),
         _ => Err(Fault::PointerArithmetic),
+    }
+}
+
+/// What an operation of one operand leaves.
+pub(crate) fn unary_of(op: UnaryOp, a: Scalar) -> Scalar
+    ensures sound { (n : ℕ) → n < 2 ^ 64 → Holds a n → Holds result (unary op n) }
+{
+    match op {
+        UnaryOp::Negate(size) => Scalar::negate(size, a),
+        UnaryOp::ByteSwap { order, width } => Scalar::byte_swap(order, width, a),
+        UnaryOp::MoveSigned { extension, .. } => Scalar::move_signed(extension, a),
     }
 }

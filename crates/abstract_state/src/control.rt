@@ -4,23 +4,24 @@ ghost use Rattle.bpf_model.specs.Operand.{operand_value};
 ghost use Rattle.bpf_model.specs.Plain.{Names};
 ghost use Rattle.bpf_model.specs.Step.{State};
 ghost use Rattle.abstract_state.specs.State.{Describes, IsOf, IsNumber, kind_at};
-ghost use Rattle.abstract_state.specs.Steps.{IsSplit, Stepped, HasMemory};
+ghost use Rattle.abstract_state.specs.Steps.{Stepped, HasMemory};
 
 use crate::compute::numbers;
+use crate::environment::EnvironmentShape;
 use crate::fault::Fault;
 use crate::kind::{RegKind, Region};
-use crate::state::{AbsState, Flow};
+use crate::state::{AbsState, Flow, single_flow};
 use bpf_model::{Condition, Insn, Operand, Reg, Size};
 use scalar_domain::Scalar;
 use std::alloc::Global;
 
 impl AbsState {
     /// The end of a run.
-    pub(crate) fn exit(&self) -> Result<Region, Fault>
-        ensures { (ctx_len maps : ℕ) → Stepped Insn.Exit ctx_len maps self.now self.now result }
+    pub(crate) fn exit(&self) -> Result<Flow, Fault>
+        ensures { (shape : EnvironmentShape) → Stepped Insn.Exit shape self.now self.now result }
     {
         match self.held(Reg::R0)? {
-            RegKind::Num(_) => Ok(Region::None),
+            RegKind::Num(_) => Ok(single_flow(Region::None)),
             _ => Err(Fault::PointerLeak),
         }
     }
@@ -59,7 +60,7 @@ impl AbsState {
         dst: Reg,
         src: &Operand,
     ) -> Result<Flow, Fault>
-        ensures { (offset : ℤ) (ctx_len maps : ℕ) → IsSplit (Insn.JumpIf condition size dst src.now offset) ctx_len maps self.old self.new result }
+        ensures { (offset : ℤ) (shape : EnvironmentShape) → Stepped (Insn.JumpIf condition size dst src.now offset) shape self.old self.new result }
     {
         let (x, y) = self.compared(dst, src)?;
         let mut taken = self.copy(alloc)?;
