@@ -1,5 +1,5 @@
 -- Events and the machine's answers to them. One event is one atomic action of one actor.
-use Rattle.std.specs.Prelude.{◌≡◌, ℕ, ◌==◌, ◌&&◌, List, length, Option, Some, None, slice_get, slice_set, if◌then◌else◌}
+use Rattle.std.specs.Prelude.{◌≡◌, ℕ, ◌^◌, ◌<◌, ◌==◌, ◌&&◌, List, length, Option, Some, None, slice_get, slice_set, if◌then◌else◌}
 use Rattle.bpf_model.specs.declared.limits.MapShape.{MapShape}
 use Rattle.bpf_model.specs.declared.event.Event.{Event}
 use Rattle.bpf_model.specs.declared.event.Event.TheVariants as events
@@ -23,6 +23,23 @@ refusal_number RunsFull = 64
 refusal_number NoMap = 65
 refusal_number BadLength = 66
 refusal_number StillRunning = 67
+
+-- An event is a value of its types: in a definition a byte would else be any number. Each value of the Rust type is one (`Event::is_real`).
+abbrev pub AreBytes : List ℕ → Type 0
+AreBytes bytes = (k b : ℕ) → slice_get bytes k ≡ Some b → b < 2 ^ 8
+
+abbrev pub IsReal : Event → Type 0
+IsReal (events.Start prog ctx) = (prog < 2 ^ 64) × AreBytes ctx.items
+IsReal (events.Step run) = run < 2 ^ 64
+IsReal (events.Update map key value flags) = (map < 2 ^ 64) × AreBytes key.items × AreBytes value.items × (flags < 2 ^ 64)
+IsReal (events.Delete map key) = (map < 2 ^ 64) × AreBytes key.items
+IsReal (events.Read map key) = (map < 2 ^ 64) × AreBytes key.items
+IsReal events.Advance = Unit {0}
+IsReal events.Reap = Unit {0}
+IsReal (events.Drop run) = run < 2 ^ 64
+
+abbrev pub AreReal : List Event → Type 0
+AreReal all = (k : ℕ) (event : Event) → slice_get all k ≡ Some event → IsReal event
 
 -- The first test of an event that fails. A start asks for the program, then for the context's length, then for a free run slot.
 abbrev pub if_full : Option ℕ → Option EventRefusal

@@ -1,5 +1,7 @@
 //! What may happen to the machine, and what it answers.
 
+ghost use Rattle.bpf_model.specs.Event.{AreBytes, AreReal};
+
 use crate::call::Errno;
 use crate::id::{MapId, ProgId, RunId};
 use crate::limits::{CtxBytes, KeyBytes, ValueBytes};
@@ -93,6 +95,62 @@ pub enum Answer {
     /// A reap: the element that was reclaimed, where one was.
     Reaped(Option<ReapedElement>),
     Refused(EventRefusal),
+}
+
+fn are_bytes(bytes: &[u8])
+    ensures { AreBytes bytes.now }
+{}
+
+impl Event {
+    ghost use Rattle.bpf_model.specs.Event.{IsReal};
+
+    /// A law: each event is within its types, so that no caller is asked for it.
+    pub fn is_real(&self)
+        ensures { IsReal self.now }
+    {
+        match self {
+            Event::Start { prog, ctx } => {
+                let _prog = prog.index();
+                are_bytes(ctx);
+            }
+            Event::Step { run } => {
+                let _run = run.index();
+            }
+            Event::Update {
+                map,
+                key,
+                value,
+                flags,
+            } => {
+                let _map = map.index();
+                let _flags = *flags;
+                are_bytes(key);
+                are_bytes(value);
+            }
+            Event::Delete { map, key } => {
+                let _map = map.index();
+                are_bytes(key);
+            }
+            Event::Read { map, key } => {
+                let _map = map.index();
+                are_bytes(key);
+            }
+            Event::Advance => {}
+            Event::Reap => {}
+            Event::Drop { run } => {
+                let _run = run.index();
+            }
+        }
+    }
+}
+
+/// A law: each event of a list is within its types.
+pub fn are_real(events: &[Event])
+    ensures { AreReal events.now }
+{
+    for event in events {
+        event.is_real();
+    }
 }
 
 impl EventRefusal {
