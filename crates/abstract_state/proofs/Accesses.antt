@@ -14,6 +14,7 @@ use Rattle.bpf_model.specs.declared.insn.Insn.TheVariants.{Store}
 use Rattle.bpf_model.specs.declared.insn.Operand.{Operand}
 use Rattle.bpf_model.specs.declared.opcode.Width.{Width}
 use Rattle.bpf_model.specs.declared.opcode.Width.TheVariants as widths
+use Rattle.bpf_model.specs.declared.limits.TheConstants.{FRAME_BYTES}
 use Rattle.bpf_model.specs.Access.{place_of, number_at, byte_count}
 use Rattle.bpf_model.specs.Frame.{byte_of, found, read, is_within, with_number}
 use Rattle.bpf_model.specs.Value.{◌>>=◌}
@@ -62,7 +63,7 @@ some_bytes widths.Four = omega arith
 some_bytes widths.Eight = omega arith
 
 pub frame_loads : (width : Width) (at src : ℕ) (o offset : ℤ) (k : RegKind) (a : AbsState) (env : Environment) (m : State) → k ≡ kind_at a src → k ≡ Frame o
-    → place_of 512 (byte_count width) (o +ℤ offset) ≡ Some at → ((j : ℕ) → at ≤ j → j < at + byte_count width → cell_at a j ≡ cells.Byte) → Describes a m
+    → place_of FRAME_BYTES (byte_count width) (o +ℤ offset) ≡ Some at → ((j : ℕ) → at ≤ j → j < at + byte_count width → cell_at a j ≡ cells.Byte) → Describes a m
     → Loads (byte_count width) offset env m (m.regs src)
 frame_loads width at src o offset k a env m e f p bytes d =
     let some = some_bytes width in
@@ -92,7 +93,7 @@ number_is (Frame o) v n i = absurd n
 number_is (Map m) v n i = absurd n
 
 pub stores : (width at dst : ℕ) (o offset : ℤ) (src : Operand) (base value : RegKind) (a b : AbsState) (m : State)
-    → base ≡ kind_at a dst → base ≡ Frame o → IsNumber value → IsOf value (operand_value src m.regs) → place_of 512 width (o +ℤ offset) ≡ Some at → SetsBytes at width a b → Describes a m
+    → base ≡ kind_at a dst → base ≡ Frame o → IsNumber value → IsOf value (operand_value src m.regs) → place_of FRAME_BYTES width (o +ℤ offset) ≡ Some at → SetsBytes at width a b → Describes a m
     → (next : State) × (store_to m width offset (operand_value src m.regs) (m.regs dst) ≡ Some (Moves next)) × (next.place ≡ m.place + 1) × Describes b next
 stores width at dst o offset src base value a b m e f n i p sets d =
     let x = number_is value (operand_value src m.regs) n i in
@@ -119,16 +120,16 @@ within : (at width q : ℕ) → at ≤ q → q < at + width → is_within at wid
 within at width q l u = ap (λ t. t && nat_lt q (at + width)) (le-leb at q l) ∙ lt-ltb q (at + width) u
 
 -- an access through r10 is where the base's offset places it
-same_place : (width at dst : ℕ) (o offset : ℤ) (base : RegKind) (a : AbsState) (q at' : ℕ) → base ≡ kind_at a dst → base ≡ Frame o → dst ≡ 10 → kind_at a 10 ≡ Frame (pos 512)
-    → place_of 512 width (o +ℤ offset) ≡ Some at → place_of 512 width (pos 512 +ℤ offset) ≡ Some at' → at' ≡ at
+same_place : (width at dst : ℕ) (o offset : ℤ) (base : RegKind) (a : AbsState) (q at' : ℕ) → base ≡ kind_at a dst → base ≡ Frame o → dst ≡ 10 → kind_at a 10 ≡ Frame (pos FRAME_BYTES)
+    → place_of FRAME_BYTES width (o +ℤ offset) ≡ Some at → place_of FRAME_BYTES width (pos FRAME_BYTES +ℤ offset) ≡ Some at' → at' ≡ at
 same_place width at dst o offset base a q at' e f g h p p' =
-    let t : Frame o ≡ Frame (pos 512) = sym f ∙ e ∙ ap (kind_at a) g ∙ h in
-    let z : o ≡ pos 512 = cc in
-    let r : Some at' ≡ Some at = sym p' ∙ ap (λ o. place_of 512 width (o +ℤ offset)) (sym z) ∙ p in
+    let t : Frame o ≡ Frame (pos FRAME_BYTES) = sym f ∙ e ∙ ap (kind_at a) g ∙ h in
+    let z : o ≡ pos FRAME_BYTES = cc in
+    let r : Some at' ≡ Some at = sym p' ∙ ap (λ o. place_of FRAME_BYTES width (o +ℤ offset)) (sym z) ∙ p in
     cc
 
 store_keeps : (width : Width) (at dst : ℕ) (o offset : ℤ) (src : Operand) (base : RegKind) (a b : AbsState) → base ≡ kind_at a dst → base ≡ Frame o
-    → place_of 512 (byte_count width) (o +ℤ offset) ≡ Some at → SetsBytes at (byte_count width) a b → IsReady (Store width dst offset src) a
+    → place_of FRAME_BYTES (byte_count width) (o +ℤ offset) ≡ Some at → SetsBytes at (byte_count width) a b → IsReady (Store width dst offset src) a
     → (fact : Fact) → FactHolds fact a ⊎ Makes (Store width dst offset src) fact → FactHolds fact b
 store_keeps width at dst o offset src base a b e f p sets ready (Register r) h =
     subst (λ (k : List RegKind). IsNumber (slice_index_or k r Unwritten)) (sym sets.regs) (elim h [ inl x ↦ x | inr w ↦ absurd w ])
@@ -144,7 +145,7 @@ store_keeps width at dst o offset src base a b e f p sets ready FramePointer h =
 -- a store of either operand
 pub store_steps : (src : Operand) (width : Width) (at dst : ℕ) (o offset : ℤ) (base value : RegKind) (a b : AbsState) (shape : EnvironmentShape)
     → base ≡ kind_at a dst → base ≡ Frame o → IsNumber value → ((m : State) → Describes a m → IsOf value (operand_value src m.regs))
-    → place_of 512 (byte_count width) (o +ℤ offset) ≡ Some at → SetsBytes at (byte_count width) a b
+    → place_of FRAME_BYTES (byte_count width) (o +ℤ offset) ≡ Some at → SetsBytes at (byte_count width) a b
     → Stepped (Store width dst offset src) shape a b (Ok (single regions.Frame))
 store_steps src width at dst o offset base value a b shape e f n sound p sets = record {
   accepts = λ _. tt;

@@ -22,15 +22,16 @@ use Rattle.abstract_state.specs.declared.kind.CellKind.TheVariants as cells
 use Rattle.abstract_state.specs.declared.kind.Region.{Region}
 use Rattle.abstract_state.specs.declared.state.AbsState.{AbsState}
 use Rattle.abstract_state.specs.declared.environment.EnvironmentShape.{EnvironmentShape}
-use Rattle.abstract_state.specs.State.{IsOf, IsNear, IsOfCell, IsNumber, Describes, kind_at, IsEnvironment, Compares, Transfers, base_of, IsInRegion}
+use Rattle.abstract_state.specs.State.{IsOf, IsOfCell, IsNumber, Describes, kind_at, IsEnvironment, Compares, Transfers, base_of, IsInRegion}
 use Rattle.abstract_state.specs.Facts.{Fact, Register as RegisterFact, FrameByte, FramePointer, FactHolds, Makes, IsReady, KeepsFacts}
 use Rattle.abstract_state.specs.Floor.{set_by, LoadsKnown, KeepsOthers}
 use Rattle.abstract_state.specs.Steps.{Gives, Computes, Shifts, SetsReg, Yields, Flows, single, Done, Stepped}
 use Rattle.bpf_model.specs.Step.{State, Environment, Moves, put, sets, map_value}
+use Rattle.bpf_model.specs.Near.{IsNear}
 use Rattle.bpf_model.specs.Spelling.{slot_count}
 use Rattle.bpf_model.specs.Plain.{Writes, WritesByte}
 use Rattle.bpf_model.specs.Graph.{falls, distance}
-use Rattle.std.proofs.lemmas.Bool.{ne_eqb, eqb-false, lt-ltb}
+use Rattle.std.proofs.lemmas.Bool.{ne_eqb, eq-eqb, eqb-false, lt-ltb}
 use Rattle.std.proofs.lemmas.Result.{IfOk-weaker}
 use Rattle.bpf_model.specs.declared.insn.Operand.{Operand}
 use Rattle.bpf_model.specs.declared.insn.Operand.TheVariants.{Register, Immediate}
@@ -95,6 +96,10 @@ pub record IsSetting (i : Insn) (dst : ℕ) : Type 0 where
   pub writes : (r : ℕ) → Writes i r → r ≡ dst
   pub no_bytes : (k : ℕ) → WritesByte i k → ⊥
   pub no_test : (r : ℕ) → Compares i r → ⊥
+
+-- the register that was set
+pub set_there : (r : ℕ) (k : RegKind) (a b : AbsState) → SetsReg r k a b → kind_at b r ≡ k
+set_there r k a b s = s.regs r ∙ ap (λ t. if t then k else kind_at a r) (eq-eqb r r refl)
 
 -- an instruction that sets a register
 write_flows : (i : Insn) (dst : ℕ) (k : RegKind) (a b : AbsState) (shape : EnvironmentShape) → (10 ≡ dst → ⊥) → SetsReg dst k a b

@@ -1,13 +1,13 @@
 -- What an abstract state says of the states of a run.
-use Rattle.std.specs.Prelude.{◌≡◌, ◌≢◌, ℕ, ◌+◌, ◌^◌, ◌<◌, length, slice_index_or, Option, Some, None, Result, Ok, Err, true, ◌⊎◌, ℤ, pos, negsuc, ◌≤ℤ◌, unwrap_or, option_map}
+use Rattle.std.specs.Prelude.{◌≡◌, ◌≢◌, ℕ, ◌+◌, ◌^◌, ◌<◌, length, slice_index_or, Option, Some, None, Result, Ok, Err, true, ◌⊎◌, ℤ, unwrap_or, option_map}
 use Rattle.bpf_model.specs.declared.value.Value.{Value}
-use Rattle.bpf_model.specs.declared.value.Value.TheVariants.{Nothing, Number, Pointer}
-use Rattle.bpf_model.specs.declared.value.Reference.{Reference}
+use Rattle.bpf_model.specs.declared.value.Value.TheVariants.{Number, Pointer}
 use Rattle.bpf_model.specs.declared.value.Reference.TheVariants as references
 use Rattle.bpf_model.specs.declared.value.Cell.{Cell}
 use Rattle.bpf_model.specs.declared.value.Cell.TheVariants as model
 use Rattle.bpf_model.specs.declared.insn.Insn.{Insn}
 use Rattle.bpf_model.specs.declared.insn.Insn.TheVariants.{JumpIf, Load, LoadSigned, Store}
+use Rattle.bpf_model.specs.Near.{IsNear}
 use Rattle.bpf_model.specs.Spelling.{slot_count}
 use Rattle.bpf_model.specs.Step.{State, Environment, Outcome, Moves, Exits, after}
 use Rattle.bpf_model.specs.Graph.{falls, distance, JumpsTo}
@@ -52,21 +52,6 @@ kind_at a r = slice_index_or a.regs r Unwritten
 
 abbrev pub cell_at : AbsState → ℕ → CellKind
 cell_at a k = slice_index_or a.frame k cells.Unwritten
-
--- the offset of a reference lies within 2^29 of the start of its region
-abbrev pub InLimits : ℤ → Type 0
-InLimits o = (negsuc 536870911 ≤ℤ o) × (o ≤ℤ pos 536870912)
-
-abbrev pub IsNearReference : Reference → Type 0
-IsNearReference (references.Ctx o) = InLimits o
-IsNearReference (references.Frame o) = InLimits o
-IsNearReference (references.MapRef m) = Unit {0}
-IsNearReference (references.Elem n o) = InLimits o
-
-abbrev pub IsNear : Value → Type 0
-IsNear Nothing = Unit {0}
-IsNear (Number n) = Unit {0}
-IsNear (Pointer r) = IsNearReference r
 
 -- The state of a run is one of those that the abstract state stands for.
 pub record Describes (a : AbsState) (m : State) : Type 0 where

@@ -8,6 +8,7 @@ use Rattle.bpf_model.specs.declared.insn.AluOp.{AluOp}
 use Rattle.bpf_model.specs.declared.insn.Operand.{Operand}
 use Rattle.bpf_model.specs.declared.opcode.Size.{Size}
 use Rattle.bpf_model.specs.Frame.{is_within}
+use Rattle.bpf_model.specs.Near.{IsNear}
 use Rattle.bpf_model.specs.Spelling.{slot_count}
 use Rattle.bpf_model.specs.Operand.{operand_value, computed}
 use Rattle.bpf_model.specs.Step.{State, Environment, Moves, after, put, sets, load_from}
@@ -23,7 +24,7 @@ use Rattle.abstract_state.specs.declared.fault.Fault.{Fault}
 use Rattle.abstract_state.specs.declared.fault.Fault.TheVariants.{Memory}
 use Rattle.abstract_state.specs.declared.state.AbsState.{AbsState}
 use Rattle.abstract_state.specs.declared.state.Flow.{Flow}
-use Rattle.abstract_state.specs.State.{IsOf, IsNumber, IsNear, Describes, IsEnvironment, kind_at, cell_at, IsBranch, Compares, Transfers, base_of, IsInRegion, taken_state, IsFine}
+use Rattle.abstract_state.specs.State.{IsOf, IsNumber, Describes, IsEnvironment, kind_at, cell_at, IsBranch, Compares, Transfers, base_of, IsInRegion, taken_state, IsFine}
 use Rattle.abstract_state.specs.Facts.{IsReady, KeepsFacts}
 use Rattle.abstract_state.specs.Floor.{LoadsKnown, KeepsOthers}
 

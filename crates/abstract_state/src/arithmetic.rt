@@ -27,11 +27,11 @@ fn map_index(map: i32, maps: usize) -> Result<usize, Fault>
 }
 
 /// The register that an operation of one operand reads.
-fn source_of(op: UnaryOp, dst: Reg) -> Reg
-    ensures { result ≡ unary_source op dst }
+fn source_of(op: &UnaryOp, dst: Reg) -> Reg
+    ensures { result ≡ unary_source op.now dst }
 {
     match op {
-        UnaryOp::MoveSigned { src, .. } => src,
+        UnaryOp::MoveSigned { src, .. } => *src,
         UnaryOp::Negate(_) | UnaryOp::ByteSwap { .. } => dst,
     }
 }
@@ -68,8 +68,8 @@ impl AbsState {
         Ok(single_flow(Region::None))
     }
 
-    pub(crate) fn unary(&mut self, op: UnaryOp, dst: Reg) -> Result<Flow, Fault>
-        ensures { (shape : EnvironmentShape) → Stepped (Insn.Unary op dst) shape self.old self.new result }
+    pub(crate) fn unary(&mut self, op: &UnaryOp, dst: Reg) -> Result<Flow, Fault>
+        ensures { (shape : EnvironmentShape) → Stepped (Insn.Unary op.now dst) shape self.old self.new result }
     {
         check_writable(dst)?;
         let n = self.number(source_of(op, dst))?;

@@ -1,10 +1,11 @@
 //! What operations give, by the kinds of their operands.
 ghost use Rattle.std.specs.Prelude.{◌≡◌, ℕ, ◌<◌, ◌^◌, IfOk, IsOk};
 ghost use Rattle.bpf_model.specs.Arithmetic.{unary};
+ghost use Rattle.bpf_model.specs.Near.{IsNear};
 ghost use Rattle.bpf_model.specs.Operand.{computed};
 ghost use Rattle.bpf_model.specs.declared.value.Value.{Value};
 ghost use Rattle.scalar_domain.specs.Scalar.{Holds};
-ghost use Rattle.abstract_state.specs.State.{IsOf, IsNumber, IsNear};
+ghost use Rattle.abstract_state.specs.State.{IsOf, IsNumber};
 ghost use Rattle.abstract_state.specs.Steps.{Gives, IsHeld, HasMemory};
 
 use crate::fault::Fault;
@@ -59,12 +60,12 @@ pub(crate) fn combined(size: Size, op: AluOp, x: RegKind, y: RegKind) -> Result<
 }
 
 /// What an operation of one operand leaves.
-pub(crate) fn unary_of(op: UnaryOp, a: Scalar) -> Scalar
-    ensures sound { (n : ℕ) → n < 2 ^ 64 → Holds a n → Holds result (unary op n) }
+pub(crate) fn unary_of(op: &UnaryOp, a: Scalar) -> Scalar
+    ensures sound { (n : ℕ) → n < 2 ^ 64 → Holds a n → Holds result (unary op.now n) }
 {
     match op {
-        UnaryOp::Negate(size) => Scalar::negate(size, a),
-        UnaryOp::ByteSwap { order, width } => Scalar::byte_swap(order, width, a),
-        UnaryOp::MoveSigned { extension, .. } => Scalar::move_signed(extension, a),
+        UnaryOp::Negate(size) => Scalar::negate(*size, a),
+        UnaryOp::ByteSwap { order, width } => Scalar::byte_swap(*order, *width, a),
+        UnaryOp::MoveSigned { extension, .. } => Scalar::move_signed(*extension, a),
     }
 }

@@ -1,5 +1,6 @@
 //! Abstract states and what instructions make of them.
-ghost use Rattle.std.specs.Prelude.{◌≡◌, ℕ, ◌×◌, IfOk, IfErr, IfSome, OnOk, OnErr, Some, IsSome, pos};
+ghost use Rattle.std.specs.Prelude.{◌≡◌, ℕ, IfOk, IfErr, IfSome, OnOk, OnErr, Some, IsSome, pos};
+ghost use Rattle.bpf_model.specs.declared.value.Value.TheVariants.{Number};
 ghost use Rattle.bpf_model.specs.Step.{State, entry};
 ghost use Rattle.abstract_state.specs.State.{IsBranch};
 ghost use Rattle.abstract_state.specs.Steps.{single};
@@ -9,11 +10,8 @@ use crate::fault::Fault;
 use crate::frame::FrameCells;
 use crate::kind::{RegKind, Region, join_kinds};
 use crate::memory::Address;
-use bpf_model::Insn;
+use bpf_model::{FRAME_BYTES, Insn};
 use std::alloc::{AllocError, Global};
-
-/// The offset of the frame's end from its start.
-const FRAME_END: i32 = 512;
 
 /// What is known before an instruction.
 #[derive(Drop)]
@@ -65,7 +63,7 @@ impl AbsState {
                 RegKind::Unwritten,
                 RegKind::Unwritten,
                 RegKind::Unwritten,
-                RegKind::Frame(FRAME_END),
+                RegKind::Frame(FRAME_BYTES as i32),
             ],
             frame: FrameCells::new(alloc)?,
         };
@@ -135,7 +133,7 @@ impl AbsState {
     {
         let stepped = match insn {
             Insn::Alu { op, size, dst, src } => self.alu(*op, *size, *dst, src),
-            Insn::Unary { op, dst } => self.unary(*op, *dst),
+            Insn::Unary { op, dst } => self.unary(op, *dst),
             Insn::LoadNumber { dst, number } => self.load_number(*dst, *number),
             Insn::LoadMap { dst, map } => self.load_map(*dst, *map, shape),
             Insn::Jump { .. } => Ok(single_flow(Region::None)),
