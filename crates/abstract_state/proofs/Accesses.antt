@@ -162,6 +162,9 @@ store_steps src width at dst o offset base value a b shape e f n sound p sets = 
     keeps = store_keeps width at dst o offset src base a b e f p sets;
     keeps_taken = λ _. tt;
     loads = tt;
+    computes = tt;
+    refines = tt;
+    refines_taken = tt;
     others = λ r _ _. ap (λ (k : List RegKind). slice_index_or k r Unwritten) sets.regs;
     others_taken = tt;
   };

@@ -11,9 +11,8 @@ use Rattle.abstract_state.specs.declared.state.AbsState.{AbsState}
 use Rattle.abstract_state.specs.declared.state.Flow.{Flow}
 use Rattle.abstract_state.specs.Steps.{Done, Stepped}
 
-pub same_step : (i j : Insn) (shape : EnvironmentShape) (a b c : AbsState) (r s : Result Flow Fault) → i ≡ j → b ≡ c → r ≡ s → Stepped j shape a c s → Stepped i shape a b r
-same_step i j shape a b c r s e f g h =
-    subst (λ i. Stepped i shape a b r) (sym e) (subst (λ b. Stepped j shape a b r) (sym f) (subst (λ r. Stepped j shape a c r) (sym g) h))
+pub same_step : (i j : Insn) (shape : EnvironmentShape) (a b : AbsState) (r : Result Flow Fault) → i ≡ j → Stepped j shape a b r → Stepped i shape a b r
+same_step i j shape a b r e h = subst (λ i. Stepped i shape a b r) (sym e) h
 
 pub step_of_done : (i : Insn) (shape : EnvironmentShape) (a b : AbsState) (flow : Flow) → Done i shape a b flow → Stepped i shape a b (Ok flow)
 step_of_done i shape a b flow h = record { done = h; memory = tt; unchanged = tt; accepts = λ _. tt }

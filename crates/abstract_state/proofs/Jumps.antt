@@ -1,6 +1,6 @@
 -- Jumps and the exit lead from described states to described ones.
 use Rattle.std.proofs.Common.{◌≡◌, ℕ, ◌+◌, ◌^◌, ◌<◌, refl, sym, ◌∙◌, ap, subst, inl, inr, Bool, true, false, List}
-use Rattle.std.specs.Prelude.{slice_index_or, Option, Some, None, Ok, ◌⊎◌, if◌then◌else◌, ℤ, pos, ◌+ℤ◌, unwrap_or}
+use Rattle.std.specs.Prelude.{◌≢◌, slice_index_or, Option, Some, None, Ok, ◌⊎◌, if◌then◌else◌, ℤ, pos, ◌+ℤ◌, unwrap_or}
 use Rattle.bpf_model.specs.declared.value.Value.TheVariants.{Number}
 use Rattle.bpf_model.specs.declared.insn.Insn.{Insn}
 use Rattle.bpf_model.specs.declared.insn.Insn.TheVariants.{Jump, JumpLong, JumpIf, Exit}
@@ -15,6 +15,7 @@ use Rattle.bpf_model.specs.Step.{State, Outcome, Moves, Exits, forward, jumps_to
 use Rattle.bpf_model.specs.Graph.{distance}
 use Rattle.bpf_model.specs.Plain.{Writes, WritesByte, Names}
 use Rattle.scalar_domain.specs.Scalar.{Holds}
+use Rattle.scalar_domain.specs.Floor.{KeepsEdgeFloor}
 use Rattle.scalar_domain.specs.declared.scalar.Scalar.{Scalar}
 use Rattle.abstract_state.specs.declared.kind.RegKind.TheVariants.{Num}
 use Rattle.abstract_state.specs.declared.kind.CellKind.{CellKind}
@@ -24,7 +25,7 @@ use Rattle.abstract_state.specs.declared.state.AbsState.{AbsState}
 use Rattle.abstract_state.specs.declared.environment.EnvironmentShape.{EnvironmentShape}
 use Rattle.abstract_state.specs.State.{IsOf, IsNumber, Describes, kind_at, HasTarget, Transfers, Leads, Compares}
 use Rattle.abstract_state.specs.Facts.{Fact, Register as RegisterFact, FrameByte, FramePointer, FactHolds, Makes, IsReady, KeepsFacts}
-use Rattle.abstract_state.specs.Floor.{KeepsOthers}
+use Rattle.abstract_state.specs.Floor.{KeepsOthers, operand_kind, RefinesKnown}
 use Rattle.abstract_state.specs.Steps.{single, Done, Stepped}
 use Rattle.abstract_state.proofs.Sound.{number_of}
 
@@ -61,6 +62,9 @@ jump_done offset a shape = record {
   keeps = λ _. same_keeps (Jump offset) a (λ r w. w) (λ q w. w);
   keeps_taken = λ _. tt;
   loads = tt;
+  computes = tt;
+  refines = tt;
+  refines_taken = tt;
   others = λ r _ _. refl;
   others_taken = tt;
 }
@@ -74,6 +78,9 @@ jump_long_done imm a shape = record {
   keeps = λ _. same_keeps (JumpLong imm) a (λ r w. w) (λ q w. w);
   keeps_taken = λ _. tt;
   loads = tt;
+  computes = tt;
+  refines = tt;
+  refines_taken = tt;
   others = λ r _ _. refl;
   others_taken = tt;
 }
@@ -93,6 +100,9 @@ exit_steps a s shape e = record {
     keeps = λ _. same_keeps Exit a (λ r w. w) (λ q w. w);
     keeps_taken = λ _. tt;
     loads = tt;
+    computes = tt;
+    refines = tt;
+    refines_taken = tt;
     others = λ r _ _. refl;
     others_taken = tt;
   };
@@ -155,3 +165,18 @@ fork_compares dst src x y a r m left right h d = elim h [
   | inl e ↦ let n = number_of a dst x m left d in (n.0, ap m.regs e ∙ n.1)
   | inr e ↦ (right.0, operand_named src r m e ∙ right.1)
 ]
+
+-- both sides of a comparison, as the scalar domain leaves them
+pub refines_known : (condition : Condition) (size : Size) (taken : Bool) (dst : ℕ) (src : Operand) (x y left right : Scalar) (offset : ℤ) (a b : AbsState)
+    → kind_at a dst ≡ Num x → operand_kind src a ≡ Num y → kind_at b dst ≡ Num left → ((r : ℕ) → Names src r → r ≢ dst → kind_at b r ≡ Num right)
+    → KeepsEdgeFloor size condition taken x y left right → RefinesKnown taken (JumpIf condition size dst src offset) a b
+refines_known condition size taken dst src x y left right offset a b p q first second floor x' y' p' q' =
+    let same_x : x ≡ x' = let e : Num x ≡ Num x' = sym p ∙ p' in cc in
+    let same_y : y ≡ y' = let e : Num y ≡ Num y' = sym q ∙ q' in cc in
+    record {
+      left = left;
+      right = right;
+      first = first;
+      second = second;
+      floor = subst (λ x. KeepsEdgeFloor size condition taken x y' left right) same_x (subst (λ y. KeepsEdgeFloor size condition taken x y left right) same_y floor);
+    }

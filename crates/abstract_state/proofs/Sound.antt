@@ -1,12 +1,12 @@
 -- Each instruction leads from described states to described ones.
 use Rattle.std.proofs.Common.{◌≡◌, ℕ, ◌+◌, ◌^◌, ◌<◌, refl, sym, ◌∙◌, ap, subst, arith, inl, inr, Bool, true, false, cond, List}
-use Rattle.std.specs.Prelude.{slice_index_or, ◌⊎◌, Some, None, Result, Ok, IfOk, ◌==◌, if◌then◌else◌, ℤ, pos, negsuc, ◌+ℤ◌, ◌-ℤ◌, ◌<ℤ◌}
+use Rattle.std.specs.Prelude.{slice_index_or, ◌⊎◌, Some, None, Result, Ok, Err, IfOk, ◌==◌, if◌then◌else◌, ℤ, pos, negsuc, ◌+ℤ◌, ◌-ℤ◌, ◌<ℤ◌}
 use Rattle.std.proofs.lemmas.Int.{ints}
 use Rattle.std.specs.Int.{w64}
 use Rattle.bpf_model.specs.declared.value.Value.{Value}
 use Rattle.bpf_model.specs.declared.value.Value.TheVariants.{Number, Pointer}
 use Rattle.bpf_model.specs.declared.insn.AluOp.{AluOp}
-use Rattle.bpf_model.specs.declared.insn.AluOp.TheVariants.{Add, Sub, Move}
+use Rattle.bpf_model.specs.declared.insn.AluOp.TheVariants.{Add, Sub, Mul, Div, SignedDiv, Or, And, ShiftLeft, ShiftRight, Mod, SignedMod, Xor, Move, ShiftRightSigned}
 use Rattle.bpf_model.specs.declared.insn.Insn.{Insn}
 use Rattle.bpf_model.specs.declared.opcode.Size.{Size}
 use Rattle.bpf_model.specs.declared.opcode.Size.TheVariants.{Word32, Word64}
@@ -14,6 +14,7 @@ use Rattle.bpf_model.specs.Arithmetic.{alu, signed}
 use Rattle.bpf_model.specs.Access.{place_of}
 use Rattle.bpf_model.specs.Operand.{computed, operand_value}
 use Rattle.scalar_domain.specs.Scalar.{Holds}
+use Rattle.scalar_domain.specs.Floor.{KeepsFloor}
 use Rattle.scalar_domain.specs.declared.scalar.Scalar.{Scalar}
 use Rattle.abstract_state.specs.declared.kind.RegKind.{RegKind}
 use Rattle.abstract_state.specs.declared.kind.RegKind.TheVariants.{Num}
@@ -24,7 +25,7 @@ use Rattle.abstract_state.specs.declared.state.AbsState.{AbsState}
 use Rattle.abstract_state.specs.declared.environment.EnvironmentShape.{EnvironmentShape}
 use Rattle.abstract_state.specs.State.{IsOf, IsOfCell, IsNumber, Describes, kind_at, IsEnvironment, Compares, Transfers, base_of, IsInRegion}
 use Rattle.abstract_state.specs.Facts.{Fact, Register as RegisterFact, FrameByte, FramePointer, FactHolds, Makes, IsReady, KeepsFacts}
-use Rattle.abstract_state.specs.Floor.{set_by, LoadsKnown, KeepsOthers}
+use Rattle.abstract_state.specs.Floor.{set_by, LoadsKnown, ComputesKnown, RefinesKnown, constant_of, IsNumbers, LeavesKnown, KeepsOthers}
 use Rattle.abstract_state.specs.Steps.{Gives, Computes, Shifts, SetsReg, Yields, Flows, single, Done, Stepped}
 use Rattle.bpf_model.specs.Step.{State, Environment, Moves, put, sets, map_value}
 use Rattle.bpf_model.specs.Near.{IsNear}
@@ -135,10 +136,10 @@ write_keeps i dst k a b s ne sets n FramePointer h =
 -- an instruction that sets a register and is done
 pub write_done : (i : Insn) (dst : ℕ) (k : RegKind) (a b : AbsState) (region : Region) (shape : EnvironmentShape)
     → IsSetting i dst → (10 ≡ dst → ⊥) → SetsReg dst k a b → (IsReady i a → IsNumber k)
-    → ((r : ℕ) (m : State) → base_of i ≡ Some r → Describes a m → IsInRegion region (m.regs r)) → LoadsKnown i b
+    → ((r : ℕ) (m : State) → base_of i ≡ Some r → Describes a m → IsInRegion region (m.regs r)) → LoadsKnown i b → ComputesKnown i a b → RefinesKnown false i a b
     → ((env : Environment) (m : State) → IsEnvironment shape env → Describes a m → Yields i dst k env m)
     → Stepped i shape a b (Ok (single region))
-write_done i dst k a b region shape s ne sets numbers reaches loads yields = record {
+write_done i dst k a b region shape s ne sets numbers reaches loads computes refines yields = record {
   accepts = λ _. tt;
   memory = tt;
   unchanged = tt;
@@ -150,6 +151,9 @@ write_done i dst k a b region shape s ne sets numbers reaches loads yields = rec
     keeps = λ ready. write_keeps i dst k a b s ne sets (numbers ready);
     keeps_taken = λ ready. tt;
     loads = loads;
+    computes = computes;
+    refines = refines;
+    refines_taken = tt;
     others = λ r other _. sets.regs r ∙ ap (λ t. if t then k else kind_at a r) (ne_eqb r dst (λ e. other (s.sets ∙ ap Some (sym e))));
     others_taken = tt;
   };
@@ -192,3 +196,34 @@ moves_back size op o d by result e f value h =
     let x : o +ℤ (pos 0 -ℤ signed w64 n) ≡ p = omega (arith, ints) in
     (ap (λ z. Some (Pointer (references.Ctx z))) x, ap (λ z. Some (Pointer (references.Frame z))) x)) h in
     subst (λ size. IfOk result (λ p. Shifts size op o by p)) (sym e) (subst (λ op. IfOk result (λ p. Shifts Word64 op o by p)) (sym f) g)
+
+-- an operation that is no move
+pub leaves_known : (op : AluOp) (size : Size) (x y k : RegKind) → (op ≡ Move → ⊥) → ((a b : Scalar) → x ≡ Num a → y ≡ Num b → IsNumbers (KeepsFloor size op a b) k) → LeavesKnown op size x y k
+leaves_known Add size x y k ne h = h
+leaves_known Sub size x y k ne h = h
+leaves_known Mul size x y k ne h = h
+leaves_known Div size x y k ne h = h
+leaves_known SignedDiv size x y k ne h = h
+leaves_known Or size x y k ne h = h
+leaves_known And size x y k ne h = h
+leaves_known ShiftLeft size x y k ne h = h
+leaves_known ShiftRight size x y k ne h = h
+leaves_known Mod size x y k ne h = h
+leaves_known SignedMod size x y k ne h = h
+leaves_known Xor size x y k ne h = h
+leaves_known ShiftRightSigned size x y k ne h = h
+leaves_known Move size x y k ne h = absurd (ne refl)
+
+pub constant_is : (s : Scalar) (n : ℕ) → s.least ≡ n → s.greatest ≡ n → s.may ≡ n → s.must ≡ n → s ≡ constant_of n
+constant_is s n p q r t = ap (λ n. record { least = n; greatest = s.greatest; may = s.may; must = s.must }) p
+    ∙ ap (λ k. record { least = n; greatest = k; may = s.may; must = s.must }) q
+    ∙ ap (λ k. record { least = n; greatest = n; may = k; must = s.must }) r
+    ∙ ap (λ k. record { least = n; greatest = n; may = n; must = k }) t
+
+pub num_of : {a b : Scalar} → Num a ≡ Num b → a ≡ b
+num_of e = cc
+
+pub leaves_if : (op : AluOp) (size : Size) (x y x' y' : RegKind) (result : Result RegKind Fault) → (op ≡ Move → ⊥) → x ≡ x' → y ≡ y'
+    → ((a b : Scalar) → x ≡ Num a → y ≡ Num b → IfOk result (IsNumbers (KeepsFloor size op a b))) → IfOk result (LeavesKnown op size x' y')
+leaves_if op size x y x' y' (Ok k) ne p q h = leaves_known op size x' y' k ne (λ a b e f. h a b (p ∙ e) (q ∙ f))
+leaves_if op size x y x' y' (Err e) ne p q h = tt

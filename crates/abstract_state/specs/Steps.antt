@@ -1,5 +1,5 @@
 -- How states are joined and changed, a part at a time.
-use Rattle.std.specs.Prelude.{◌≡◌, ℕ, ◌+◌, ◌^◌, ◌<◌, Option, Some, None, Result, IfOk, IfErr, IfSome, OnErr, IsOk, IsSome, ℤ, if◌then◌else◌}
+use Rattle.std.specs.Prelude.{◌≡◌, ℕ, ◌+◌, ◌^◌, ◌<◌, Option, Some, None, Result, IfOk, IfErr, IfSome, OnErr, IsOk, IsSome, ℤ, true, false, if◌then◌else◌}
 use Rattle.bpf_model.specs.declared.value.Value.{Value}
 use Rattle.bpf_model.specs.declared.value.Value.TheVariants.{Number, Pointer}
 use Rattle.bpf_model.specs.declared.value.Reference.TheVariants as references
@@ -26,7 +26,7 @@ use Rattle.abstract_state.specs.declared.state.AbsState.{AbsState}
 use Rattle.abstract_state.specs.declared.state.Flow.{Flow}
 use Rattle.abstract_state.specs.State.{IsOf, IsNumber, Describes, IsEnvironment, kind_at, cell_at, IsBranch, Compares, Transfers, base_of, IsInRegion, taken_state, IsFine}
 use Rattle.abstract_state.specs.Facts.{IsReady, KeepsFacts}
-use Rattle.abstract_state.specs.Floor.{LoadsKnown, KeepsOthers}
+use Rattle.abstract_state.specs.Floor.{LoadsKnown, ComputesKnown, RefinesKnown, KeepsOthers}
 
 -- a byte where both are
 abbrev pub join_cell : CellKind → CellKind → CellKind
@@ -100,6 +100,9 @@ pub record Done (i : Insn) (shape : EnvironmentShape) (old new : AbsState) (flow
   pub keeps : IsReady i old → KeepsFacts i old new
   pub keeps_taken : IsReady i old → IfSome (taken_state flow) (KeepsFacts i old)
   pub loads : LoadsKnown i new
+  pub computes : ComputesKnown i old new
+  pub refines : RefinesKnown false i old new
+  pub refines_taken : IfSome (taken_state flow) (RefinesKnown true i old)
   pub others : KeepsOthers i old new
   pub others_taken : IfSome (taken_state flow) (KeepsOthers i old)
 

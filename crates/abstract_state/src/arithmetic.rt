@@ -3,9 +3,10 @@ ghost use Rattle.std.specs.Prelude.{◌≡◌, ℕ, ◌<◌, IfOk, IsOk, pos};
 ghost use Rattle.bpf_model.specs.Operand.{unary_source};
 ghost use Rattle.bpf_model.specs.Plain.{Reads};
 ghost use Rattle.abstract_state.specs.State.{IsNumber, kind_at};
+ghost use Rattle.abstract_state.specs.Floor.{operand_kind, LeavesKnown};
 ghost use Rattle.abstract_state.specs.Steps.{Computes, Stepped, HasMemory};
 
-use crate::compute::{combined, copied, unary_of};
+use crate::compute::{combined, copied};
 use crate::environment::EnvironmentShape;
 use crate::fault::Fault;
 use crate::kind::{RegKind, Region};
@@ -39,6 +40,7 @@ fn source_of(op: &UnaryOp, dst: Reg) -> Reg
 impl AbsState {
     fn computed(&self, op: AluOp, size: Size, dst: Reg, src: &Operand) -> Result<RegKind, Fault>
         ensures sound { IfOk result (λ k. Computes size op dst src.now self.now k) }
+        ensures floor { IfOk result (LeavesKnown op size (kind_at self.now dst) (operand_kind src.now self.now)) }
         ensures accepts { ((r : ℕ) → Reads (Insn.Alu op size dst src.now) r → IsNumber (kind_at self.now r)) → IsOk result }
         ensures numbers { ((r : ℕ) → Reads (Insn.Alu op size dst src.now) r → IsNumber (kind_at self.now r)) → IfOk result IsNumber }
         ensures memory { HasMemory result }
@@ -73,7 +75,7 @@ impl AbsState {
     {
         check_writable(dst)?;
         let n = self.number(source_of(op, dst))?;
-        self.set(dst, RegKind::Num(unary_of(op, n)));
+        self.set(dst, RegKind::Num(Scalar::unary(*op, n)));
         Ok(single_flow(Region::None))
     }
 

@@ -40,7 +40,12 @@ fn store_base(base: RegKind, value: RegKind) -> Result<i32, Fault>
 
 impl AbsState {
     /// Which region a load reads, where every byte of it is written.
-    fn readable(&self, width: Width, from: Address, shape: EnvironmentShape) -> Result<Region, Fault>
+    fn readable(
+        &self,
+        width: Width,
+        from: Address,
+        shape: EnvironmentShape,
+    ) -> Result<Region, Fault>
         ensures loads { IfOk result (λ _. (env : Environment) (m : State) → IsEnvironment shape env → Describes self.now m → Loads (byte_count width) from.offset env m (m.regs from.base)) }
         ensures region { IfOk result (λ region. (m : State) → Describes self.now m → IsInRegion region (m.regs from.base)) }
         ensures accepts { (at : ℕ) → kind_at self.now from.base ≡ RegKind.Frame (pos FRAME_BYTES) → place_of FRAME_BYTES (byte_count width) (pos FRAME_BYTES +ℤ from.offset) ≡ Some at → ((k : ℕ) → at ≤ k → k < at + byte_count width → cell_at self.now k ≡ CellKind.Byte) → IsOk result }
@@ -99,12 +104,7 @@ impl AbsState {
         self.frame.write(at, width.bytes());
     }
 
-    pub(crate) fn store(
-        &mut self,
-        width: Width,
-        to: Address,
-        src: &Operand,
-    ) -> Result<Flow, Fault>
+    pub(crate) fn store(&mut self, width: Width, to: Address, src: &Operand) -> Result<Flow, Fault>
         ensures { (shape : EnvironmentShape) → Stepped (Insn.Store width to.base to.offset src.now) shape self.old self.new result }
     {
         let base = self.held(to.base)?;

@@ -1,9 +1,9 @@
 //! Abstract states and what instructions make of them.
-ghost use Rattle.std.specs.Prelude.{◌≡◌, ℕ, IfOk, IfErr, IfSome, OnOk, OnErr, Some, IsSome, pos};
+ghost use Rattle.std.specs.Prelude.{◌≡◌, ℕ, IfOk, IfErr, IfSome, OnOk, OnErr, Some, IsSome, pos, true, false};
 ghost use Rattle.bpf_model.specs.declared.value.Value.TheVariants.{Number};
 ghost use Rattle.bpf_model.specs.Step.{State, entry};
 ghost use Rattle.abstract_state.specs.State.{IsBranch};
-ghost use Rattle.abstract_state.specs.Steps.{single};
+ghost use Rattle.abstract_state.specs.Steps.{single, Stepped};
 
 use crate::environment::EnvironmentShape;
 use crate::fault::Fault;
@@ -43,7 +43,7 @@ impl AbsState {
     ghost use Rattle.abstract_state.specs.declared.kind.RegKind.TheVariants as kinds;
     ghost use Rattle.abstract_state.specs.State.{Describes, Wider, Transfers, IsInRegion, base_of, Compares, taken_state, IsFine, IsNumber, kind_at};
     ghost use Rattle.abstract_state.specs.Facts.{Fact, FactHolds, IsReady, KeepsFacts};
-    ghost use Rattle.abstract_state.specs.Floor.{LoadsKnown, KeepsOthers};
+    ghost use Rattle.abstract_state.specs.Floor.{LoadsKnown, ComputesKnown, RefinesKnown, KeepsOthers};
 
     /// The state at a program's entry: r1 the context, r10 the end of the frame, all else unwritten.
     pub fn entry(alloc: Global) -> Result<Box<AbsState>, AllocError>
@@ -128,10 +128,25 @@ impl AbsState {
         ensures keeps { OnOk result (IsReady insn.now self.old → KeepsFacts insn.now self.old self.new) }
         ensures keeps_taken { IfOk result (λ f. IsReady insn.now self.old → IfSome (taken_state f) (KeepsFacts insn.now self.old)) }
         ensures loads { OnOk result (LoadsKnown insn.now self.new) }
+        ensures computes { OnOk result (ComputesKnown insn.now self.old self.new) }
+        ensures refines { OnOk result (RefinesKnown false insn.now self.old self.new) }
+        ensures refines_taken { IfOk result (λ f. IfSome (taken_state f) (RefinesKnown true insn.now self.old)) }
         ensures others { OnOk result (KeepsOthers insn.now self.old self.new) }
         ensures others_taken { IfOk result (λ f. IfSome (taken_state f) (KeepsOthers insn.now self.old)) }
     {
-        let stepped = match insn {
+        self.perform(alloc, insn, shape)
+    }
+
+    /// Does the instruction.
+    fn perform(
+        &mut self,
+        alloc: Global,
+        insn: &Insn,
+        shape: EnvironmentShape,
+    ) -> Result<Flow, Fault>
+        ensures { Stepped insn.now shape self.old self.new result }
+    {
+        match insn {
             Insn::Alu { op, size, dst, src } => self.alu(*op, *size, *dst, src),
             Insn::Unary { op, dst } => self.unary(op, *dst),
             Insn::LoadNumber { dst, number } => self.load_number(*dst, *number),
@@ -183,7 +198,6 @@ impl AbsState {
                 };
                 self.store(*width, to, src)
             }
-        };
-        stepped
+        }
     }
 }
