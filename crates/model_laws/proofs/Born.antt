@@ -4,7 +4,7 @@ use Rattle.std.specs.Prelude.{slice_get, if◌then◌else◌, ◌==◌, ◌&&◌
 use Rattle.std.specs.Int.{w64}
 use Rattle.std.proofs.lemmas.Option.{none-some, same_Some}
 use Rattle.bpf_model.specs.declared.insn.Insn.{Insn}
-use Rattle.bpf_model.specs.declared.insn.Insn.TheVariants.{Alu, MoveSigned, Negate, ByteSwap, LoadNumber, LoadMap, Jump, JumpLong, JumpIf, Call, Exit, Load, LoadSigned, Store, StoreRegister}
+use Rattle.bpf_model.specs.declared.insn.Insn.TheVariants.{Alu, Unary, LoadNumber, LoadMap, Jump, JumpLong, JumpIf, Call, Exit, Load, LoadSigned, Store}
 use Rattle.bpf_model.specs.declared.insn.AluOp.{AluOp}
 use Rattle.bpf_model.specs.declared.insn.AluOp.TheVariants.{Add, Sub, Move}
 use Rattle.bpf_model.specs.declared.insn.Operand.{Operand}
@@ -17,11 +17,11 @@ use Rattle.bpf_model.specs.declared.value.Reference.{Reference}
 use Rattle.bpf_model.specs.declared.value.Reference.TheVariants.{Ctx, Frame, MapRef, Elem}
 use Rattle.bpf_model.specs.declared.value.Cell.{Cell}
 use Rattle.bpf_model.specs.declared.value.Cell.TheVariants.{Unwritten, Byte, Part}
-use Rattle.bpf_model.specs.Arithmetic.{alu, signed, immediate, negated, reordered, moved_signed, loaded_signed}
+use Rattle.bpf_model.specs.Arithmetic.{alu, signed, unary, loaded_signed}
 use Rattle.bpf_model.specs.Value.{◌>>=◌, held, number, reference}
 use Rattle.bpf_model.specs.Access.{byte_count, unsigned_width, place_of, number_at}
 use Rattle.bpf_model.specs.Frame.{byte_of, are_parts, found, read, is_within, with_number, with_reference}
-use Rattle.bpf_model.specs.Operand.{operand_value, moved, of_numbers, sum_of, difference_of, computed, decided}
+use Rattle.bpf_model.specs.Operand.{operand_value, unary_source, moved, of_numbers, sum_of, difference_of, computed, decided}
 use Rattle.bpf_model.specs.Step.{State, Environment, Outcome, Moves, Exits, entry, forward, sets, jumps_to, jumps_by, loaded, load_from, frame_after, stored, store_to, map_value, after}
 use Rattle.bpf_model.specs.Consistent.{IsBorn, IsBornValue, IsBornCell}
 use Rattle.bpf_model.specs.Element.{Element}
@@ -199,9 +199,7 @@ module _ (births : ℕ) where
 
   pub born-after : (i : Insn) (env : Environment) (m : State) (out : Outcome) → IsBornState births m → after i env m ≡ Some out → IsBornOutcome births out
   born-after (Alu op size dst src) env m out p h = born-sets_some (computed size op (m.regs dst) (operand_value src m.regs)) 1 dst m out p (λ v. born-computed size op (m.regs dst) (operand_value src m.regs) v (p.0 dst) (born-operand src m p)) h
-  born-after (MoveSigned extension dst src) env m out p h = born-sets_number (number (m.regs src)) (moved_signed extension) 1 dst m out p h
-  born-after (Negate size dst) env m out p h = born-sets_number (number (m.regs dst)) (negated size) 1 dst m out p h
-  born-after (ByteSwap order width dst) env m out p h = born-sets_number (number (m.regs dst)) (reordered order width) 1 dst m out p h
+  born-after (Unary op dst) env m out p h = born-sets_number (number (m.regs (unary_source op dst))) (unary op) 1 dst m out p h
   born-after (LoadNumber dst n) env m out p h = born-sets 2 dst (Number n) m out p tt h
   born-after (LoadMap dst map) env m out p h = born-sets_some (map_value env map) 2 dst m out p (λ v. born-map env map v) h
   born-after (Jump offset) env m out p h = born-jump (pos (m.place + 1) +ℤ offset) m out p h
@@ -216,8 +214,7 @@ module _ (births : ℕ) where
   born-after (LoadSigned width dst src offset) env m out p h =
       let s = first-step (load_from env m (byte_count (unsigned_width width)) offset (m.regs src)) (λ v. number v >>= λ n. sets 1 dst (Number (loaded_signed width n)) m) out h in
       born-sets_number (number s.0) (loaded_signed width) 1 dst m out p s.2
-  born-after (Store width dst offset imm) env m out p h = born-store m (byte_count width) offset (Number (immediate imm)) (m.regs dst) out p tt h
-  born-after (StoreRegister width dst src offset) env m out p h = born-store m (byte_count width) offset (m.regs src) (m.regs dst) out p (p.0 src) h
+  born-after (Store width dst offset src) env m out p h = born-store m (byte_count width) offset (operand_value src m.regs) (m.regs dst) out p (born-operand src m p) h
 
   born-forward : (m : State) (out : Outcome) → IsBornState births m → out ≡ Moves (forward 1 m) → IsBornOutcome births out
   born-forward m out p h = subst (IsBornOutcome births) (sym h) p
@@ -225,8 +222,7 @@ module _ (births : ℕ) where
   born-access : (i : Insn) (es : List Element) (m : State) (out : Outcome) (new : List Element) → IsBornState births m → AccessesElement i es m out new → IsBornOutcome births out
   born-access (Load width dst src offset) es m out new p h = born-sets 1 dst (Number h.0) m out p tt h.2
   born-access (LoadSigned width dst src offset) es m out new p h = born-sets 1 dst (Number (loaded_signed width h.0)) m out p tt h.2
-  born-access (Store width dst offset imm) es m out new p h = born-forward m out p h.1
-  born-access (StoreRegister width dst src offset) es m out new p h = born-forward m out p h.1
+  born-access (Store width dst offset src) es m out new p h = born-forward m out p h.1
   born-access i es m out new p h = absurd h
 
   pub born-acts : (i : Insn) (env : Environment) (es : List Element) (m : State) (out : Outcome) (new : List Element) → IsBornState births m → Acts i env es m out new → IsBornOutcome births out

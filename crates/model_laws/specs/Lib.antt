@@ -2,7 +2,6 @@ pub mod Growth
 pub mod Begun
 pub mod Scheduled
 pub mod Near
-pub mod Start
 pub mod Steps
 pub mod Accounted
 pub mod Example

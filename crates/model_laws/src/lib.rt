@@ -10,7 +10,7 @@ ghost use Rattle.bpf_model.specs.declared.event.Event.{Event};
 ghost use Rattle.bpf_model.specs.declared.event.Answer.{Answer};
 ghost use Rattle.bpf_model.specs.declared.event.EventRefusal.{EventRefusal};
 ghost use Rattle.bpf_model.specs.declared.event.ReapedElement.{ReapedElement};
-ghost use Rattle.bpf_model.specs.MapState.{MapState, Store, given_of};
+ghost use Rattle.bpf_model.specs.MapState.{MapState, Store, AreShapes, slots_of_shape, given_of};
 ghost use Rattle.bpf_model.specs.Helper.{Updates};
 ghost use Rattle.bpf_model.specs.Element.{Element, Linked, Reclaimed, HasLife};
 ghost use Rattle.bpf_model.specs.declared.insn.Insn.{Insn};
@@ -26,17 +26,16 @@ ghost use Rattle.bpf_model.specs.Section.{Section, Has};
 ghost use Rattle.bpf_model.specs.Consistent.{IsConsistent};
 ghost use Rattle.bpf_model.specs.Headline.{ReclaimedLate, AnswersAsMachine, AreMachineAnswers, AreReclaimedLate};
 ghost use Rattle.bpf_model.specs.declared.value.Reference.{Reference};
-ghost use Rattle.bpf_model.specs.View.{WorldView};
+ghost use Rattle.bpf_model.specs.View.{WorldView, start_view};
 ghost use Rattle.bpf_model.specs.Refines.{IsReached, TracksSchedule, Tracks};
-ghost use Rattle.bpf_model.specs.Word.{IsReferenceWord};
+ghost use Rattle.bpf_model.specs.Word.{IsReferenceWord, element_bases};
 ghost use Rattle.model_laws.specs.Growth.{Grows};
 ghost use Rattle.model_laws.specs.Begun.{HasBegun};
 ghost use Rattle.model_laws.specs.Scheduled.{IsScheduled, IsReapable};
-ghost use Rattle.model_laws.specs.Start.{AreShapes, start_view};
 ghost use Rattle.model_laws.specs.Steps.{AreSteps, AnswersAsHistory};
 ghost use Rattle.model_laws.specs.Accounted.{kept_count, IsFull};
 ghost use Rattle.model_laws.specs.Example.{lookup_and_load, example_shape};
-ghost use Rattle.model_laws.specs.Near.{Place, IsNearPlace, IsPlaceOf, place_word};
+ghost use Rattle.model_laws.specs.Near.{Place, IsNearPlace, named_place, place_word};
 
 /// An event is refused exactly when a test fails, by the first that does, and then nothing changes.
 pub fn refused_exactly()
@@ -154,7 +153,7 @@ pub fn reap_steps()
 /// In each state that is reached from the start, each slot of a map is free, holds an element that is not
 /// reclaimed, or is worn out.
 pub fn slots_accounted()
-    ensures { (shapes : List MapShape) (programs : List Loaded) (s : Schedule) (k : ℕ) (m : MapState) → IsReached shapes programs s → slice_get s.machine.store.maps k ≡ Some m → length m.bag + kept_count k s.machine.store.elements + m.worn ≡ m.shape.entries + m.shape.spare }
+    ensures { (shapes : List MapShape) (programs : List Loaded) (s : Schedule) (k : ℕ) (m : MapState) → IsReached shapes programs s → slice_get s.machine.store.maps k ≡ Some m → length m.bag + kept_count k s.machine.store.elements + m.worn ≡ slots_of_shape m.shape }
 {}
 
 /// In such a state a map has no free slot exactly when its linked elements, its unlinked ones and its worn-out
@@ -226,9 +225,9 @@ pub fn scheduled_is_machine_once()
     ensures { (old new : WorldView) (event : Event) (answer : Answer) → AnswersAsScheduled TracksSchedule old event answer new → AnswersAsMachine Tracks old event answer new }
 {}
 
-/// The word that stands for a reference is the word of the place that the reference names.
+/// The word that stands for a reference is the word of the place that the reference names, and no other is.
 pub fn words_of_places()
-    ensures { (slots : List ℕ) (es : List Element) (r : Reference) (p : Place) (w : ℕ) → IsPlaceOf slots es r p → IsReferenceWord slots es r w → pos w ≡ place_word p }
+    ensures { (slots : List ℕ) (es : List Element) (r : Reference) (w : ℕ) → IsReferenceWord (element_bases slots es) r w ↔ (pos w ≡ place_word (named_place slots es r)) }
 {}
 
 /// Two near places with one word are one place: of one region, one slot and one offset.
