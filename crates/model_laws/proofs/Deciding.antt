@@ -224,7 +224,7 @@ insn-one (Call kinds.Helper imm) s opened run a b new other new_run other_run si
     (meet _ _ _ h.2 g.2, one.1, called-one run h.0 g.0 new_run other_run one.0 h.3 g.3)
 insn-one i s opened run a b new other new_run other_run single old_new old_other h g = alone-one i s run a b new other new_run other_run h.0 g.0 h.1 g.1 h.2 g.2 h.3 g.3 h.4 g.4
 
-run-one : (s : map_state.Store) (opened : List Section) (run : Run) (a b : Answer) (new other : map_state.Store) (new_run other_run : Run) → IsSingle s.elements → TakesOldest s new → TakesOldest s other →
+pub run-one : (s : map_state.Store) (opened : List Section) (run : Run) (a b : Answer) (new other : map_state.Store) (new_run other_run : Run) → IsSingle s.elements → TakesOldest s new → TakesOldest s other →
     RunStep s opened run a new new_run → RunStep s opened run b other other_run → (a ≡ b) × (new ≡ other) × (new_run ≡ other_run)
 run-one s opened run a b new other new_run other_run single old_new old_other h g =
     let insns : g.0 ≡ h.0 = both _ g.0 h.0 g.1 h.1 in

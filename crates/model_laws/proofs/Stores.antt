@@ -301,7 +301,7 @@ moves-helper (Some helpers.Update) s opened run ret new single h = moves-updates
 moves-helper (Some helpers.Delete) s opened run ret new single h = moves-deletes s opened h.map h.key h.outcome new h.deleted
 moves-helper None s opened run ret new single h = absurd h
 
-moves-insn : (i : Insn) (s : map_state.Store) (opened : List Section) (run : Run) (answer : Answer) (new : map_state.Store) (new_run : Run) → IsSingle s.elements → InsnStep i s opened run answer new new_run → StoreMoves false opened s new
+pub moves-insn : (i : Insn) (s : map_state.Store) (opened : List Section) (run : Run) (answer : Answer) (new : map_state.Store) (new_run : Run) → IsSingle s.elements → InsnStep i s opened run answer new new_run → StoreMoves false opened s new
 moves-insn (Call kinds.Kernel imm) s opened run answer new new_run single h = moves-same false opened s new h.2
 moves-insn (Call kinds.Helper imm) s opened run answer new new_run single h = moves-helper (helper_of imm) s opened run h.0 new single h.1
 moves-insn i s opened run answer new new_run single h = moves-elements false opened s new h.1 (touches-acts i opened (environment run) s.elements run.state h.0 h.1 h.2) h.3

@@ -4,4 +4,5 @@ pub mod Scheduled
 pub mod Near
 pub mod Steps
 pub mod Accounted
+pub mod Alone
 pub mod Example
