@@ -1,6 +1,7 @@
 -- Plain programs, which the verifier owes acceptance: forward jumps, every instruction reached, and on every path each register and each
 -- byte of the frame written as a number before it is read.
 use Rattle.std.specs.Prelude.{◌≡◌, ℕ, ◌+◌, ◌<◌, ◌≤◌, List, [], ◌∷◌, ◌++◌, Some, ℤ, pos, ◌+ℤ◌, ◌⊎◌}
+use Rattle.bpf_model.specs.declared.limits.TheConstants.{FRAME_BYTES}
 use Rattle.bpf_model.specs.declared.insn.Insn.{Insn}
 use Rattle.bpf_model.specs.declared.insn.Insn.TheVariants.{Alu, Unary, LoadNumber, LoadMap, JumpIf, Call, Exit, Load, LoadSigned, Store}
 use Rattle.bpf_model.specs.declared.insn.AluOp.TheVariants.{Move}
@@ -38,7 +39,7 @@ Writes _ r = ⊥
 
 -- An access with base r10 takes byte k of the frame: an aligned access, all of its bytes inside.
 abbrev pub Takes : Width → ℤ → ℕ → Type 0
-Takes width offset k = (at : ℕ) × (place_of 512 (byte_count width) (pos 512 +ℤ offset) ≡ Some at) × (at ≤ k) × (k < at + byte_count width)
+Takes width offset k = (at : ℕ) × (place_of FRAME_BYTES (byte_count width) (pos FRAME_BYTES +ℤ offset) ≡ Some at) × (at ≤ k) × (k < at + byte_count width)
 
 abbrev pub ReadsByte : Insn → ℕ → Type 0
 ReadsByte (Load width dst src offset) k = Takes width offset k
@@ -51,7 +52,7 @@ WritesByte _ k = ⊥
 
 -- an aligned access to the frame with base r10, all bytes inside
 abbrev pub IsFrameAccess : Width → ℕ → ℤ → Type 0
-IsFrameAccess width base offset = (base ≡ 10) × (at : ℕ) × (place_of 512 (byte_count width) (pos 512 +ℤ offset) ≡ Some at)
+IsFrameAccess width base offset = (base ≡ 10) × (at : ℕ) × (place_of FRAME_BYTES (byte_count width) (pos FRAME_BYTES +ℤ offset) ≡ Some at)
 
 -- The instruction has no call and no map, and its only memory accesses are those to the frame.
 abbrev pub IsSimple : Insn → Type 0

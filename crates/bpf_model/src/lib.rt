@@ -15,7 +15,7 @@ mod slot;
 mod value;
 
 pub use call::{Errno, Helper, KernelFunction};
-pub use event::{Answer, Event, EventRefusal, Given, ReapedElement};
+pub use event::{Answer, Event, EventRefusal, Given, ReapedElement, are_real};
 pub use id::{MapId, ProgId, RunId};
 pub use insn::{AluOp, CallKind, Insn, Operand, SignExtension, UnaryOp};
 pub use limits::{
