@@ -1,6 +1,6 @@
 -- Jumps and the exit lead from described states to described ones.
 use Rattle.std.proofs.Common.{◌≡◌, ℕ, ◌+◌, ◌^◌, ◌<◌, refl, sym, ◌∙◌, ap, subst, inl, inr, Bool, true, false, List}
-use Rattle.std.specs.Prelude.{◌≢◌, slice_index_or, Option, Some, None, Ok, ◌⊎◌, if◌then◌else◌, ℤ, pos, ◌+ℤ◌, unwrap_or}
+use Rattle.std.specs.Prelude.{slice_index_or, Option, Some, None, Ok, ◌⊎◌, if◌then◌else◌, ℤ, pos, ◌+ℤ◌, unwrap_or}
 use Rattle.bpf_model.specs.declared.value.Value.TheVariants.{Number}
 use Rattle.bpf_model.specs.declared.insn.Insn.{Insn}
 use Rattle.bpf_model.specs.declared.insn.Insn.TheVariants.{Jump, JumpLong, JumpIf, Exit}
@@ -105,7 +105,7 @@ exit_steps a s shape e = record {
     refines = tt;
     refines_taken = tt;
     stores = tt;
-  others = record { regs = λ r _ _. refl; bytes = λ k e. e };
+    others = record { regs = λ r _ _. refl; bytes = λ k e. e };
     others_taken = tt;
   };
 }

@@ -25,7 +25,7 @@ use Rattle.abstract_state.specs.declared.state.AbsState.{AbsState}
 use Rattle.abstract_state.specs.declared.environment.EnvironmentShape.{EnvironmentShape}
 use Rattle.abstract_state.specs.State.{IsOf, IsOfCell, IsNumber, Describes, kind_at, IsEnvironment, Compares, Transfers, base_of, IsInRegion}
 use Rattle.abstract_state.specs.Facts.{Fact, Register as RegisterFact, FrameByte, FramePointer, FactHolds, Makes, IsReady}
-use Rattle.abstract_state.specs.Floor.{set_by, LoadsKnown, StoresKnown, ComputesKnown, RefinesKnown, IsAlone, IsNumbers, IsOperandKind, LeavesKnown, LeavesKnownBy}
+use Rattle.abstract_state.specs.Floor.{set_by, LoadsKnown, StoresKnown, ComputesKnown, RefinesKnown, IsNumbers, IsOperandKind, LeavesKnown, LeavesKnownBy}
 use Rattle.abstract_state.specs.Steps.{Gives, Computes, Shifts, SetsReg, Yields, Flows, single, Stepped}
 use Rattle.bpf_model.specs.Step.{State, Environment, Moves, put, sets, map_value}
 use Rattle.bpf_model.specs.Near.{IsNear}

@@ -1,5 +1,5 @@
 -- How states are joined and changed, a part at a time.
-use Rattle.std.specs.Prelude.{◌≡◌, ℕ, ◌+◌, ◌^◌, ◌<◌, ◌≤◌, List, Option, Some, None, Result, IfOk, IfErr, IfSome, OnErr, IsSome, ℤ, true, false, if◌then◌else◌}
+use Rattle.std.specs.Prelude.{◌≡◌, ℕ, ◌+◌, ◌^◌, ◌<◌, Option, Some, None, Result, IfOk, IfErr, IfSome, OnErr, IsSome, ℤ, true, false, if◌then◌else◌}
 use Rattle.bpf_model.specs.declared.value.Value.{Value}
 use Rattle.bpf_model.specs.declared.value.Value.TheVariants.{Number, Pointer}
 use Rattle.bpf_model.specs.declared.value.Reference.TheVariants as references
@@ -24,7 +24,7 @@ use Rattle.abstract_state.specs.declared.fault.Fault.{Fault}
 use Rattle.abstract_state.specs.declared.fault.Fault.TheVariants.{Memory}
 use Rattle.abstract_state.specs.declared.state.AbsState.{AbsState}
 use Rattle.abstract_state.specs.declared.state.Flow.{Flow}
-use Rattle.abstract_state.specs.State.{IsOf, IsNumber, Describes, IsEnvironment, cell_in, kind_at, cell_at, IsBranch, Compares, Transfers, base_of, IsInRegion, taken_state, IsFine}
+use Rattle.abstract_state.specs.State.{IsOf, IsNumber, Describes, IsEnvironment, kind_at, cell_at, IsBranch, Compares, Transfers, base_of, IsInRegion, taken_state, IsFine}
 use Rattle.abstract_state.specs.Facts.{IsReady, KeepsFacts}
 use Rattle.abstract_state.specs.Floor.{LoadsKnown, StoresKnown, ComputesKnown, RefinesKnown, KeepsOthers}
 

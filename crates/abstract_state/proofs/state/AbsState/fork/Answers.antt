@@ -1,4 +1,4 @@
-use Rattle.std.proofs.Common.{◌≡◌, refl, ◌∙◌, true, false, inl, inr}
+use Rattle.std.proofs.Common.{◌≡◌, refl, ◌∙◌, true, false}
 use Rattle.abstract_state.proofs.Jumps.{narrows, fork_transfers, fork_keeps, fork_compares, fork_others}
 use Rattle.abstract_state.proofs.state.AbsState.fork.Goals as goal
 
