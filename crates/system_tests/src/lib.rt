@@ -8,6 +8,10 @@ mod judged;
 #[cfg(test)]
 mod long;
 #[cfg(test)]
+mod numbers;
+#[cfg(test)]
 mod orders;
 #[cfg(test)]
 mod rows;
+#[cfg(test)]
+mod sets;
