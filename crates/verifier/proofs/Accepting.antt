@@ -13,16 +13,19 @@ use Rattle.bpf_model.specs.Step.{insn_at}
 use Rattle.bpf_model.specs.Places.{start_of-insn}
 use Rattle.abstract_state.specs.declared.state.AbsState.{AbsState}
 use Rattle.abstract_state.specs.declared.kind.Region.{Region}
-use Rattle.verifier.specs.Facts.{Fact, Register, FrameByte, FramePointer, Holds, Makes, WithoutFact, Knows, KeepsFacts, IsReadyFor}
+use Rattle.abstract_state.specs.State.{IsReady, Keeps}
+use Rattle.verifier.specs.Facts.{Fact, FrameByte, FramePointer, Holds, Knows, Makes, Register, WithoutFact}
+use Rattle.verifier.specs.FirstPass.{Follows}
+use Rattle.verifier.specs.Indexes.{HasTargets, StartsAt}
+use Rattle.verifier.specs.SecondPass.{Advances, CanAccept, Fell, Jumped, Known, Merged, refusal_of}
+use Rattle.verifier.specs.Verdict.{Plan}
 use Rattle.abstract_state.specs.declared.fault.Fault.{Fault}
 use Rattle.abstract_state.specs.declared.fault.Fault.TheVariants as faults
 use Rattle.verifier.specs.declared.refusal.Refusal.{Refusal}
 use Rattle.verifier.specs.declared.refusal.Refusal.TheVariants.{Memory}
-use Rattle.verifier.specs.Passes.{Merged, Fell, Jumped, Advances, Known, CanAccept, refusal_of}
-use Rattle.verifier.specs.Places.{StartsAt, HasTargets, Follows}
-use Rattle.verifier.specs.Valid.{Plan}
 use Rattle.verifier.proofs.Edges.{insn_here}
 use Rattle.verifier.proofs.Lists.{same_some}
+use Rattle.verifier.proofs.Merging.{merged_other, keeps_fact}
 use Rattle.verifier.proofs.Marking.{edge_from, first_start}
 
 -- whether a register is written can be decided
@@ -87,11 +90,11 @@ without_on program FramePointer place target i w e n g = w
 
 -- what is known before an instruction is known, by what it keeps, before those that follow
 knows_on : (program : List Insn) (targets : List (Option ℕ)) (long : length targets ≡ length program) (all : HasTargets program targets) (k m : ℕ) (i : Insn) (t : Option ℕ) (a b : AbsState)
-    → slice_get program k ≡ Some i → slice_get targets k ≡ Some t → Follows i t k m → Knows program k a → KeepsFacts i a b → Knows program m b
+    → slice_get program k ≡ Some i → slice_get targets k ≡ Some t → Follows i t k m → Knows program k a → Keeps i a b → Knows program m b
 knows_on program targets long all k m i t a b e f follows knows keeps fact = elim (makes_or_not i fact) [
-  | inl makes ↦ inl (keeps fact (inr makes))
+  | inl makes ↦ inl (keeps_fact i a b keeps fact (inr makes))
   | inr not_made ↦ elim (knows fact) [
-    | inl holds ↦ inl (keeps fact (inl holds))
+    | inl holds ↦ inl (keeps_fact i a b keeps fact (inl holds))
     | inr without ↦ inr (λ p there. (
         let s = start_of-insn 0 program k i e in
         without_on program fact s.0 p i (without s.0 s.1) (insn_here program k s.0 i e s.1) not_made (edge_from program targets long all k m s.0 p i t e f follows s.1 there)
@@ -102,7 +105,7 @@ knows_on program targets long all k m i t a b e f follows knows keeps fact = eli
 -- a join of states of which this is known keeps it known
 merged_knows : (program : List Insn) (k at : ℕ) (state : AbsState) (old new : Plan) → Merged at state old new → Knows program at state
     → ((m : ℕ) (a : AbsState) → k < m → old m ≡ Some a → Knows program m a) → (m : ℕ) (a : AbsState) → k < m → new m ≡ Some a → Knows program m a
-merged_knows program k at state old new merged known before m a l e = elim (merged.other m a e) [
+merged_knows program k at state old new merged known before m a l e = elim (merged_other at state old new merged m a e) [
   | inl f ↦ before m a l f
   | inr f ↦ λ fact. elim (known fact) [
     | inl holds ↦ among (old m) refl fact (f.1 fact holds)
@@ -118,13 +121,13 @@ merged_knows program k at state old new merged known before m a l e = elim (merg
     ]
 
 -- an instruction of a plain program is ready where this is known
-pub ready_here : (program : List Insn) (k : ℕ) (i : Insn) (a : AbsState) → IsPlain program → slice_get program k ≡ Some i → Knows program k a → IsReadyFor i a
+pub ready_here : (program : List Insn) (k : ℕ) (i : Insn) (a : AbsState) → IsPlain program → slice_get program k ≡ Some i → Knows program k a → IsReady i a
 ready_here program k i a plain e knows = record {
   simple = plain.simple s.0 i here;
   keeps_frame = (plain.frame_pointer s.0 i here).0;
   frame = elim (knows FramePointer) [ inl h ↦ h | inr w ↦ absurd (w s.0 s.1) ];
-  registers = λ r reads. elim (knows (Register r)) [ inl h ↦ h | inr w ↦ absurd (plain.registers s.0 i r here reads (w s.0 s.1)) ];
-  bytes = λ j reads. elim (knows (FrameByte j)) [ inl h ↦ h | inr w ↦ absurd (plain.bytes s.0 i j here reads (w s.0 s.1)) ];
+  regs = λ r reads. elim (knows (Register r)) [ inl h ↦ h | inr w ↦ absurd (plain.registers s.0 i r here reads (w s.0 s.1)) ];
+  cells = λ j reads. elim (knows (FrameByte j)) [ inl h ↦ h | inr w ↦ absurd (plain.bytes s.0 i j here reads (w s.0 s.1)) ];
 }
   where
     s : (p : ℕ) × StartsAt program k p
@@ -141,17 +144,17 @@ module _ (program : List Insn) (targets : List (Option ℕ)) (long : length targ
   here : Knows program k done.state
   here = known k done.state (omega arith) done.waited
 
-  ready : IsReadyFor done.insn done.state
+  ready : IsReady done.insn done.state
   ready = ready_here program k done.insn done.state plain done.insn_is here
 
-  keeps_jump : (falls done.insn ≡ true → done.spreads.jumping ≡ done.spreads.taken) → (s : AbsState) → done.spreads.jumping ≡ Some s → KeepsFacts done.insn done.state s
+  keeps_jump : (falls done.insn ≡ true → done.spreads.jumping ≡ done.spreads.taken) → (s : AbsState) → done.spreads.jumping ≡ Some s → Keeps done.insn done.state s
   keeps_jump e s f = by done.spreads.fell
     where
-      of_unwrapped : (o : Option AbsState) → done.spreads.taken ≡ o → unwrap_or o done.spreads.next ≡ s → KeepsFacts done.insn done.state s
-      of_unwrapped None g h = subst (KeepsFacts done.insn done.state) h (done.spreads.keeps ready)
+      of_unwrapped : (o : Option AbsState) → done.spreads.taken ≡ o → unwrap_or o done.spreads.next ≡ s → Keeps done.insn done.state s
+      of_unwrapped None g h = subst (Keeps done.insn done.state) h (done.spreads.keeps ready)
       of_unwrapped (Some t) g h = done.spreads.keeps_taken ready s (g ∙ ap Some h)
 
-      by : Fell done.insn k done.spreads.next done.spreads.taken done.spreads.jumping done.rest done.spreads.mid → KeepsFacts done.insn done.state s
+      by : Fell done.insn k done.spreads.next done.spreads.taken done.spreads.jumping done.rest done.spreads.mid → Keeps done.insn done.state s
       by (inl g) = done.spreads.keeps_taken ready s (sym g.2 ∙ f)
       by (inr g) = of_unwrapped done.spreads.taken refl (same_some (sym g.2 ∙ f))
 

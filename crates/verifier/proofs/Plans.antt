@@ -1,6 +1,6 @@
 -- Pass 2 keeps a plan that each step keeps.
 use Rattle.std.proofs.Common.{◌≡◌, ◌≢◌, ℕ, zero, suc, ◌+◌, ◌<◌, ◌≤◌, refl, sym, ◌∙◌, ap, subst, arith, inl, inr, true, false, cond, List, [], ◌∷◌, ◌++◌, length}
-use Rattle.std.specs.Prelude.{slice_get, Option, Some, None, ltb, unwrap_or, IsSome, ℤ, pos, negsuc, ◌+ℤ◌}
+use Rattle.std.specs.Prelude.{slice_get, Option, Some, None, ltb, unwrap_or, IsSome, ℤ, pos, negsuc, ◌+ℤ◌, Box}
 use Rattle.std.proofs.lemmas.Bool.{cases_lt, cases_eq}
 use Rattle.std.proofs.lemmas.Int.{ints}
 use Rattle.std.proofs.lemmas.Option.{slice_get_within}
@@ -15,12 +15,14 @@ use Rattle.abstract_state.specs.declared.state.AbsState.{AbsState}
 use Rattle.abstract_state.specs.declared.kind.Region.{Region}
 use Rattle.abstract_state.specs.State.{Describes, Wider, IsForward, Leads, base_of}
 use Rattle.verifier.specs.GraphFlaws.{EndsWithExit, HasGoodGraph}
-use Rattle.verifier.specs.Passes.{Fell, Jumped, Spreads, Advances, Passed, Awaits, StartsFrom, plan_of}
-use Rattle.verifier.specs.Places.{StartsAt, LeadsTo, IsTarget, HasTargets, Follows}
-use Rattle.verifier.specs.Valid.{Plan, IsDescribedAt, Lands, Covers, Justifies}
+use Rattle.verifier.specs.FirstPass.{Follows}
+use Rattle.verifier.specs.Indexes.{HasTargets, IsTarget, LeadsTo, StartsAt}
+use Rattle.verifier.specs.SecondPass.{Advances, Awaits, Fell, Jumped, Passed, Spreads, StartsFrom, plan_of, state_of}
+use Rattle.verifier.specs.Verdict.{Covers, IsDescribedAt, Justifies, Lands, Plan}
 use Rattle.std.proofs.lemmas.List.{get_or_past}
 use Rattle.verifier.proofs.Edges.{insn_here, insn_read}
 use Rattle.verifier.proofs.Lists.{same_some, get-append_cases}
+use Rattle.verifier.proofs.Merging.{merged_stays}
 use Rattle.verifier.proofs.Marking.{edge_into, reached_by, pos_same, starts_at_0}
 
 -- a jump to a later slot has a distance that is not negative
@@ -60,11 +62,11 @@ both_stay next taken_state i target k taken jumping old mid new fell jumped m a 
     (j.0, j.1, λ s d. j.2 s (f.2 s d))
   where
     fell_stays : Fell i k next taken jumping old mid → (b : AbsState) × (mid m ≡ Some b) × Wider a b
-    fell_stays (inl f) = f.1.stays m a e
+    fell_stays (inl f) = merged_stays (suc k) next old mid f.1 m a e
     fell_stays (inr f) = (a, ap (λ p. p m) f.1 ∙ e, λ s d. d)
 
     jumped_stays : Jumped target jumping mid new → (b : AbsState) → mid m ≡ Some b → (c : AbsState) × (new m ≡ Some c) × Wider b c
-    jumped_stays (inl f) b g = f.4.stays m b g
+    jumped_stays (inl f) b g = merged_stays f.0 f.1 mid new f.4 m b g
     jumped_stays (inr f) b g = (b, ap (λ p. p m) f.1 ∙ g, λ s d. d)
 
 -- what falls through waits behind the instruction
@@ -73,11 +75,11 @@ fell_there : (next : AbsState) (i : Insn) (target : Option ℕ) (k : ℕ) (taken
 fell_there next i target k taken jumping old mid new (inr f) jumped t = absurd (let e : false ≡ true = sym f.0 ∙ t in cc)
 fell_there next i target k taken jumping old mid new (inl f) jumped t =
     let j = on jumped in
-    (j.0, j.1, λ s d. j.2 s (f.1.there.2 s d))
+    (j.0, j.1, λ s d. j.2 s (f.1.here.state_stays s d))
   where
-    on : Jumped target jumping mid new → (c : AbsState) × (new (suc k) ≡ Some c) × Wider f.1.there.0 c
-    on (inl g) = g.4.stays (suc k) f.1.there.0 f.1.there.1
-    on (inr g) = (f.1.there.0, ap (λ p. p (suc k)) g.1 ∙ f.1.there.1, λ s d. d)
+    on : Jumped target jumping mid new → (c : AbsState) × (new (suc k) ≡ Some c) × Wider f.1.here.joined c
+    on (inl g) = merged_stays g.0 g.1 mid new g.4 (suc k) f.1.here.joined f.1.here.joined_is
+    on (inr g) = (f.1.here.joined, ap (λ p. p (suc k)) g.1 ∙ f.1.here.joined_is, λ s d. d)
 
 some_unwrapped : {A : Type 0} (o : Option A) (d : A) → IsSome o → o ≡ Some (unwrap_or o d)
 some_unwrapped None d h = absurd (let e : false ≡ true = h in cc)
@@ -96,7 +98,7 @@ jumped_there next i k t target taken jumping old mid new fell jumped e both = at
     at (inl g) =
         let same_t : g.0 ≡ t = same_some (sym g.2 ∙ e) in
         let same_s : g.1 ≡ unwrap_or taken next = same_some (sym g.3 ∙ jumping_is fell) in
-        (g.4.there.0, ap new (sym same_t) ∙ g.4.there.1, subst (λ s. Wider s g.4.there.0) same_s g.4.there.2)
+        (g.4.here.joined, ap new (sym same_t) ∙ g.4.here.joined_is, subst (λ s. Wider s g.4.here.joined) same_s g.4.here.state_stays)
     at (inr (inl f, g)) = absurd (let h : None ≡ Some t = sym f ∙ e in cc)
     at (inr (inr f, g)) = absurd (let h : None ≡ Some (unwrap_or taken next) = sym f ∙ jumping_is fell in cc)
 
@@ -292,7 +294,7 @@ waits_here program targets long all k pending graph w h = elim (reached_by (grap
     s = start_of-insn 0 program k i.0 i.1
 
 -- all instructions are done
-pub passed_all : (program : List Insn) (regions : List Region) (ctx_len maps k : ℕ) (plan : Plan) (pending : List (Option AbsState))
+pub passed_all : (program : List Insn) (regions : List Region) (ctx_len maps k : ℕ) (plan : Plan) {Z : Type 0} (pending : List (Option (Box AbsState Z)))
     → length program ≤ k → length pending ≡ length program → Passed program regions ctx_len maps k plan (plan_of pending) → k ≤ length program → Justifies program regions ctx_len maps plan
 passed_all program regions ctx_len maps k plan pending e f p g = record { start = p.start; inside = inside; each = p.each }
   where
@@ -300,6 +302,6 @@ passed_all program regions ctx_len maps k plan pending e f p g = record { start 
     inside m a h = elim (cases_lt m (length program)) [
       | inl l ↦ l
       | inr l ↦
-          let none : plan_of pending m ≡ None = get_or_past pending m None (omega arith) in
+          let none : plan_of pending m ≡ None = ap state_of (get_or_past pending m None (omega arith)) in
           absurd (let b : None ≡ Some a = sym none ∙ sym (p.rest m (omega arith)) ∙ h in cc)
     ]

@@ -1,13 +1,16 @@
--- What a verified program is: there is a plan, an abstract state for each instruction, that holds at the entry and that each step keeps.
-use Rattle.std.specs.Prelude.{◌≡◌, ℕ, ◌<◌, ◌≤◌, List, length, slice_get, Option, Some}
+-- What `verify` answers. A verified program: there is a plan, an abstract state for each instruction, that holds at the entry and that each step keeps.
+use Rattle.std.specs.Prelude.{◌≡◌, ℕ, ◌<◌, ◌≤◌, List, length, slice_get, Option, Some, Result, Ok, Err}
 use Rattle.bpf_model.specs.declared.insn.Insn.{Insn}
 use Rattle.bpf_model.specs.Spelling.{IsProgram}
 use Rattle.bpf_model.specs.Step.{State, Environment, Outcome, Moves, Exits, Steps, entry}
 use Rattle.abstract_state.specs.declared.state.AbsState.{AbsState}
 use Rattle.abstract_state.specs.declared.kind.Region.{Region}
 use Rattle.abstract_state.specs.State.{Describes, IsEnvironment, IsInRegion, base_of}
+use Rattle.verifier.specs.declared.refusal.Refusal.{Refusal}
+use Rattle.verifier.specs.declared.refusal.Refusal.TheVariants.{Graph, Instruction, Memory}
 use Rattle.verifier.specs.Checked.{Checked}
-use Rattle.verifier.specs.Places.{StartsAt, HasTargets}
+use Rattle.verifier.specs.GraphFlaws.{HasGraphFlaw, HasGoodGraph}
+use Rattle.verifier.specs.Indexes.{StartsAt, HasTargets}
 
 -- what is known before each instruction, by its index
 abbrev pub Plan : Type 0
@@ -44,3 +47,14 @@ pub record IsVerified (c : Checked) : Type 0 where
   pub targets : HasTargets c.program c.targets
   pub plan : Plan
   pub justified : Justifies c.program c.regions c.ctx_len (length c.shapes) plan
+
+-- A refusal tells a flaw of the graph only where the graph has it, and a fault of an instruction only where the graph has no flaw.
+abbrev pub IsToldOf : List Insn → Refusal → Type 0
+IsToldOf program (Graph flaw slot) = HasGraphFlaw program flaw slot
+IsToldOf program (Instruction fault slot) = HasGoodGraph program
+IsToldOf program Memory = Unit {0}
+
+-- no refusal but for want of memory
+abbrev pub IsAccepted : {A : Type 0} → Result A Refusal → Type 0
+IsAccepted (Ok x) = Unit {0}
+IsAccepted (Err e) = e ≡ Memory
