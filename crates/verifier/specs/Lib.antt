@@ -4,5 +4,6 @@ pub mod FirstPass
 pub mod GraphFlaws
 pub mod Indexes
 pub mod Numbers
+pub mod OwnSteps
 pub mod SecondPass
 pub mod Verdict

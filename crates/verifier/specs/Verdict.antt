@@ -1,52 +1,87 @@
--- What `verify` answers. A verified program: there is a plan, an abstract state for each instruction, that holds at the entry and that each step keeps.
+-- What `verify` answers: what a verified program is, and what a refusal tells.
 use Rattle.std.specs.Prelude.{◌≡◌, ℕ, ◌<◌, ◌≤◌, List, length, slice_get, Option, Some, Result, Ok, Err}
 use Rattle.bpf_model.specs.declared.insn.Insn.{Insn}
+use Rattle.bpf_model.specs.declared.limits.TheConstants.{CTX_BYTES}
+use Rattle.bpf_model.specs.declared.event.Answer.{Answer}
+use Rattle.bpf_model.specs.declared.event.Answer.TheVariants.{Moved, Exited}
+use Rattle.bpf_model.specs.declared.value.Value.TheVariants.{Number}
 use Rattle.bpf_model.specs.Spelling.{IsProgram}
-use Rattle.bpf_model.specs.Step.{State, Environment, Outcome, Moves, Exits, Steps, entry}
+use Rattle.bpf_model.specs.Step.{State, Outcome, after, entry}
+use Rattle.bpf_model.specs.Section.{Section}
+use Rattle.bpf_model.specs.MapState.{Store}
+use Rattle.bpf_model.specs.Machine.{Run, environment}
+use Rattle.bpf_model.specs.MachineStep.{RunStep}
 use Rattle.abstract_state.specs.declared.state.AbsState.{AbsState}
+use Rattle.abstract_state.specs.declared.environment.EnvironmentShape.{EnvironmentShape}
 use Rattle.abstract_state.specs.declared.kind.Region.{Region}
-use Rattle.abstract_state.specs.State.{Describes, IsEnvironment, IsInRegion, base_of}
+use Rattle.abstract_state.specs.State.{Describes, IsEnvironment, IsInRegion, base_of, Compares}
 use Rattle.verifier.specs.declared.refusal.Refusal.{Refusal}
 use Rattle.verifier.specs.declared.refusal.Refusal.TheVariants.{Graph, Instruction, Memory}
 use Rattle.verifier.specs.Checked.{Checked}
 use Rattle.verifier.specs.GraphFlaws.{HasGraphFlaw, HasGoodGraph}
 use Rattle.verifier.specs.Indexes.{StartsAt, HasTargets}
 
--- what is known before each instruction, by its index
+-- A plan: what is known before each instruction, by its index.
 abbrev pub Plan : Type 0
 Plan = ℕ → Option AbsState
 
--- the state of a run stands before the instruction of this index, and the plan describes it
-pub record IsDescribedAt (program : List Insn) (plan : Plan) (k : ℕ) (m : State) : Type 0 where
-  pub at : StartsAt program k m.place
+-- The state stands before the instruction of this index, and the plan describes it.
+pub record IsDescribedAt (program : List Insn) (plan : Plan) (index : ℕ) (m : State) : Type 0 where
+  pub at : StartsAt program index m.place
   pub known : AbsState
-  pub planned : plan k ≡ Some known
+  pub planned : plan index ≡ Some known
   pub describes : Describes known m
 
--- an exit, or a state described further on
-abbrev pub Lands : List Insn → Plan → ℕ → Outcome → Type 0
-Lands program plan k (Exits n) = Unit {0}
-Lands program plan k (Moves m) = (j : ℕ) × (k < j) × IsDescribedAt program plan j m
+-- what the program was verified against
+abbrev pub shape_of : Checked → EnvironmentShape
+shape_of c = record { ctx_len = c.ctx_len; maps = length c.shapes }
 
--- From each state that the plan describes at an index the program isn't stuck, and comes to what the second plan describes; the region is right.
-pub record Covers (program : List Insn) (ctx_len maps : ℕ) (plan next : Plan) (k : ℕ) (region : Region) : Type 0 where
-  pub moves : (env : Environment) (m : State) → IsEnvironment ctx_len maps env → IsDescribedAt program plan k m → (out : Outcome) × Steps program env m out × Lands program next k out
-  pub reaches : (i : Insn) (b : ℕ) (m : State) → slice_get program k ≡ Some i → base_of i ≡ Some b → IsDescribedAt program plan k m → IsInRegion region (m.regs b)
+-- A run of the program, on a context of its length and with as many maps, outside every section.
+pub record IsRunOf (c : Checked) (run : Run) : Type 0 where
+  pub code : run.program.code ≡ c.program
+  pub shape : IsEnvironment (shape_of c) (environment run)
+  pub outside : run.depth ≡ 0
 
-pub record Justifies (program : List Insn) (regions : List Region) (ctx_len maps : ℕ) (plan : Plan) : Type 0 where
-  pub start : IsDescribedAt program plan 0 entry
-  pub inside : (k : ℕ) (a : AbsState) → plan k ≡ Some a → k < length program
-  pub each : (k : ℕ) (region : Region) → slice_get regions k ≡ Some region → Covers program ctx_len maps plan plan k region
+-- The run has a step of the machine, with these maps and these open sections.
+abbrev pub HasStep : Store → List Section → Run → Type 0
+HasStep s opened run = (answer : Answer) × (new_store : Store) × (new : Run) × RunStep s opened run answer new_store new
 
--- The program is verified: never stuck on any context of its length, and never leaving the plan.
+-- After a step from this index the run has ended, or the plan describes it further on.
+abbrev pub LeadsOn : Checked → Plan → ℕ → Answer → Run → Type 0
+LeadsOn c plan index (Exited n) new = Unit {0}
+LeadsOn c plan index Moved new = (next : ℕ) × (index < next) × IsRunOf c new × IsDescribedAt c.program plan next new.state
+LeadsOn c plan index answer new = ⊥
+
+-- By the plan each run of the program, once described, is never stuck and goes on to an exit.
+pub record Justifies (c : Checked) (plan : Plan) : Type 0 where
+  -- the plan describes the state at the entry, and speaks of the program's instructions alone
+  pub start : IsDescribedAt c.program plan 0 entry
+  pub inside : (index : ℕ) (a : AbsState) → plan index ≡ Some a → index < length c.program
+  -- whatever the maps hold and whichever sections are open, a described run has a step, and each of its steps leads on
+  pub goes : (index : ℕ) (s : Store) (opened : List Section) (run : Run)
+      → IsRunOf c run → IsDescribedAt c.program plan index run.state → HasStep s opened run
+  pub leads : (index : ℕ) (s : Store) (opened : List Section) (run : Run) (answer : Answer) (new_store : Store) (new : Run)
+      → IsRunOf c run → IsDescribedAt c.program plan index run.state → RunStep s opened run answer new_store new
+      → LeadsOn c plan index answer new
+  -- it makes its step by itself, with no call
+  pub alone : (index : ℕ) (i : Insn) (run : Run) → slice_get c.program index ≡ Some i
+      → IsRunOf c run → IsDescribedAt c.program plan index run.state → (out : Outcome) × (after i (environment run) run.state ≡ Some out)
+  -- a memory instruction reaches the region that is noted for it
+  pub regions : (index : ℕ) (i : Insn) (b : ℕ) (region : Region) (m : State) → slice_get c.program index ≡ Some i
+      → base_of i ≡ Some b → slice_get c.regions index ≡ Some region → IsDescribedAt c.program plan index m → IsInRegion region (m.regs b)
+  -- and a conditional jump compares numbers
+  pub compared : (index : ℕ) (i : Insn) (r : ℕ) (m : State) → slice_get c.program index ≡ Some i
+      → Compares i r → IsDescribedAt c.program plan index m → (n : ℕ) × (m.regs r ≡ Number n)
+
+-- The program is verified: some plan justifies it.
 pub record IsVerified (c : Checked) : Type 0 where
   pub program : IsProgram c.program
-  pub context : c.ctx_len ≤ 256
+  pub context : c.ctx_len ≤ CTX_BYTES
   pub regions : length c.regions ≡ length c.program
   pub jumps : length c.targets ≡ length c.program
   pub targets : HasTargets c.program c.targets
   pub plan : Plan
-  pub justified : Justifies c.program c.regions c.ctx_len (length c.shapes) plan
+  pub justified : Justifies c plan
 
 -- A refusal tells a flaw of the graph only where the graph has it, and a fault of an instruction only where the graph has no flaw.
 abbrev pub IsToldOf : List Insn → Refusal → Type 0
