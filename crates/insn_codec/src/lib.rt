@@ -18,7 +18,7 @@ mod slots;
 
 pub use bpf_model::{
     AluOp, ByteOrder, CallKind, Condition, Insn, Operand, Reg, SignExtension, SignedWidth, Size,
-    SwapWidth, Width,
+    SwapWidth, UnaryOp, Width,
 };
 pub use decoding::decode;
 pub use encoding::encode;

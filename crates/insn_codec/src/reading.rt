@@ -5,14 +5,14 @@ ghost use Rattle.bpf_model.specs.Spelling.{offset_of, extension_size, extension_
 ghost use Rattle.bpf_model.specs.declared.insn.Insn.{Insn};
 ghost use Rattle.bpf_model.specs.Opcode.{opcode_byte};
 ghost use Rattle.bpf_model.specs.Profile.{is_admitted, is_supported as is_supported_opcode};
-ghost use Rattle.insn_codec.specs.Faults.{IsFlaw, flaw_with, has_bad_offset, tail_flaw, has_unused, form_of, has_unsupported_source as unsupported_source};
+ghost use Rattle.insn_codec.specs.Faults.{IsInsnFlaw, flaw_with, has_bad_offset, tail_flaw, has_unused, used_fields, has_unsupported_source as unsupported_source};
 
 use crate::flaw::Flaw;
 use crate::opcode::opcode_from;
 use crate::profile::{is_supported, takes_maps};
 use bpf_model::{
     AluCode, AluOp, CallKind, Insn, Opcode, Operand, Reg, SignExtension, Size, Slot, Source,
-    SwapWidth,
+    SwapWidth, UnaryOp,
 };
 
 fn has_unsupported_source(opcode: Opcode, slot: Slot) -> bool
@@ -26,7 +26,7 @@ fn has_unsupported_source(opcode: Opcode, slot: Slot) -> bool
 }
 
 fn has_unused_field(opcode: Opcode, slot: Slot) -> bool
-    ensures { result ≡ has_unused (form_of opcode) slot }
+    ensures { result ≡ has_unused (used_fields opcode) slot }
 {
     match opcode {
         Opcode::Alu(AluCode::Move | AluCode::Div | AluCode::Mod, _, Source::Register) => slot.imm
@@ -44,8 +44,9 @@ fn has_unused_field(opcode: Opcode, slot: Slot) -> bool
         Opcode::Exit | Opcode::Excluded(_) => {
             slot.dst != 0 || slot.src != 0 || slot.offset != 0 || slot.imm != 0
         }
-        Opcode::Load(_) | Opcode::LoadSigned(_) | Opcode::StoreRegister(_) => slot.imm != 0,
-        Opcode::Store(_) => slot.src != 0,
+        Opcode::Load(_) | Opcode::LoadSigned(_) | Opcode::Store(_, Source::Register) => slot.imm
+            != 0,
+        Opcode::Store(_, Source::Immediate) => slot.src != 0,
         Opcode::Wide => slot.offset != 0,
     }
 }
@@ -143,7 +144,7 @@ fn alu(
     requires opcode { opcode_byte (Opcode.Alu code size source) ≡ slot.opcode }
     requires dst { (dst ≡ slot.dst) × (dst ≤ 10) }
     requires src { (src ≡ slot.src) × (src ≤ 10) }
-    requires used { has_unused (form_of (Opcode.Alu code size source)) slot ≡ false }
+    requires used { has_unused (used_fields (Opcode.Alu code size source)) slot ≡ false }
     ensures found { IfOk result (λ i. first_slot i ≡ slot) }
     ensures one { IfOk result (λ i. slots_of i ≡ first_slot i ∷ []) }
     ensures fits { IfOk result FitsInsn }
@@ -162,11 +163,8 @@ fn alu(
     }
     if code == AluCode::Move && source == Source::Register {
         if let Some(extension) = extension_of(size, slot.offset) {
-            return Ok(Insn::MoveSigned {
-                extension,
-                dst,
-                src,
-            });
+            let op = UnaryOp::MoveSigned { extension, src };
+            return Ok(Insn::Unary { op, dst });
         }
     }
     Err(Flaw::BadOffset)
@@ -178,7 +176,7 @@ fn wide(slot: Slot, next: Option<Slot>, dst: Reg) -> Result<Insn, Flaw>
     requires opcode { opcode_byte Opcode.Wide ≡ slot.opcode }
     requires dst { (dst ≡ slot.dst) × (dst ≤ 10) }
     requires source { unsupported_source Opcode.Wide slot ≡ false }
-    requires used { has_unused (form_of Opcode.Wide) slot ≡ false }
+    requires used { has_unused (used_fields Opcode.Wide) slot ≡ false }
     ensures found { IfOk result (λ i. slots_of i ≡ take (slot_count i) (slot ∷ option_to_list next)) }
     ensures fits { IfOk result FitsInsn }
     ensures admitted { IfOk result (λ i. is_admitted i ≡ true) }
@@ -228,9 +226,15 @@ fn decode_with(opcode: Opcode, slot: Slot, next: Option<Slot>) -> Result<Insn, F
     match opcode {
         Opcode::Alu(code, size, source) => alu(code, size, source, slot, dst, src),
         Opcode::Wide => wide(slot, next, dst),
-        Opcode::Negate(size) => Ok(Insn::Negate { size, dst }),
+        Opcode::Negate(size) => Ok(Insn::Unary {
+            op: UnaryOp::Negate(size),
+            dst,
+        }),
         Opcode::ByteSwap(order) => match swap_width_of(slot.imm) {
-            Some(width) => Ok(Insn::ByteSwap { order, width, dst }),
+            Some(width) => Ok(Insn::Unary {
+                op: UnaryOp::ByteSwap { order, width },
+                dst,
+            }),
             None => Err(Flaw::BadWidth),
         },
         Opcode::Jump(Size::Word64) => Ok(Insn::Jump {
@@ -261,17 +265,11 @@ fn decode_with(opcode: Opcode, slot: Slot, next: Option<Slot>) -> Result<Insn, F
             src,
             offset: slot.offset,
         }),
-        Opcode::Store(width) => Ok(Insn::Store {
+        Opcode::Store(width, source) => Ok(Insn::Store {
             width,
             dst,
             offset: slot.offset,
-            imm: slot.imm,
-        }),
-        Opcode::StoreRegister(width) => Ok(Insn::StoreRegister {
-            width,
-            dst,
-            src,
-            offset: slot.offset,
+            src: operand_of(source, src, slot.imm),
         }),
         Opcode::Excluded(_) => unreachable!(),
     }
@@ -287,7 +285,7 @@ pub fn decode_slot(slot: Slot, next: Option<Slot>) -> Result<Insn, Flaw>
     ensures admitted { IfOk result (λ i. is_admitted i ≡ true) }
     // What is spelled so is found.
     ensures only { (i : Insn) → FitsInsn i → is_admitted i ≡ true → slots_of i ≡ take (slot_count i) (slot ∷ option_to_list next) → result ≡ Ok i }
-    ensures flaw { IfErr result (IsFlaw slot next) }
+    ensures flaw { IfErr result (IsInsnFlaw slot next) }
 {
     let Some(opcode) = opcode_from(slot.opcode) else {
         return Err(Flaw::UnknownOpcode);

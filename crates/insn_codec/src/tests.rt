@@ -76,38 +76,50 @@ fn every_form_and_back(rt: HostRuntime) -> Result<(), Fail> {
             dst: r(3),
             src: Operand::Register(r(4)),
         },
-        Insn::MoveSigned {
-            extension: SignExtension::ByteTo64,
+        Insn::Unary {
+            op: UnaryOp::MoveSigned {
+                extension: SignExtension::ByteTo64,
+                src: r(2),
+            },
             dst: r(1),
-            src: r(2),
         },
-        Insn::MoveSigned {
-            extension: SignExtension::WordTo64,
+        Insn::Unary {
+            op: UnaryOp::MoveSigned {
+                extension: SignExtension::WordTo64,
+                src: r(2),
+            },
             dst: r(1),
-            src: r(2),
         },
-        Insn::MoveSigned {
-            extension: SignExtension::ShortTo32,
+        Insn::Unary {
+            op: UnaryOp::MoveSigned {
+                extension: SignExtension::ShortTo32,
+                src: r(2),
+            },
             dst: r(1),
-            src: r(2),
         },
-        Insn::Negate {
-            size: Size::Word32,
+        Insn::Unary {
+            op: UnaryOp::Negate(Size::Word32),
             dst: r(5),
         },
-        Insn::ByteSwap {
-            order: ByteOrder::ToLittle,
-            width: SwapWidth::Two,
+        Insn::Unary {
+            op: UnaryOp::ByteSwap {
+                order: ByteOrder::ToLittle,
+                width: SwapWidth::Two,
+            },
             dst: r(6),
         },
-        Insn::ByteSwap {
-            order: ByteOrder::ToBig,
-            width: SwapWidth::Four,
+        Insn::Unary {
+            op: UnaryOp::ByteSwap {
+                order: ByteOrder::ToBig,
+                width: SwapWidth::Four,
+            },
             dst: r(6),
         },
-        Insn::ByteSwap {
-            order: ByteOrder::Swap,
-            width: SwapWidth::Eight,
+        Insn::Unary {
+            op: UnaryOp::ByteSwap {
+                order: ByteOrder::Swap,
+                width: SwapWidth::Eight,
+            },
             dst: r(6),
         },
         Insn::LoadNumber {
@@ -146,13 +158,13 @@ fn every_form_and_back(rt: HostRuntime) -> Result<(), Fail> {
             width: Width::One,
             dst: r(10),
             offset: -8,
-            imm: 5,
+            src: Operand::Immediate(5),
         },
-        Insn::StoreRegister {
+        Insn::Store {
             width: Width::Four,
             dst: r(10),
-            src: r(2),
             offset: -4,
+            src: Operand::Register(r(2)),
         },
         Insn::Exit,
     ];

@@ -5,13 +5,13 @@ use Rattle.bpf_model.specs.declared.slot.Slot.{Slot}
 use Rattle.bpf_model.specs.declared.insn.Insn.{Insn}
 use Rattle.bpf_model.specs.Spelling.{FitsInsn, spelling, slot_count, slot_at, next_slot_at}
 use Rattle.insn_codec.specs.declared.flaw.Flaw.{Flaw}
-use Rattle.insn_codec.specs.Faults.{IsFlaw, IsFlawAt}
+use Rattle.insn_codec.specs.Faults.{IsInsnFlaw, IsInsnFlawAt}
 use Rattle.insn_codec.proofs.InsnLaws.{Begins}
 use Rattle.insn_codec.proofs.TextLaws.{front_of, again}
 use Rattle.insn_codec.proofs.decoding.decode_first.Goals as goal
 
-flaw_at : (bytes : List ℕ) (s : Slot) (next : Option Slot) (f : Flaw) → s ≡ slot_at bytes → next ≡ next_slot_at bytes → IsFlaw s next f → IsFlawAt bytes f
-flaw_at bytes s next f e d h = subst (λ (n : Option Slot). IsFlaw (slot_at bytes) n f) d (subst (λ (x : Slot). IsFlaw x next f) e h)
+flaw_at : (bytes : List ℕ) (s : Slot) (next : Option Slot) (f : Flaw) → s ≡ slot_at bytes → next ≡ next_slot_at bytes → IsInsnFlaw s next f → IsInsnFlawAt bytes f
+flaw_at bytes s next f e d h = subst (λ (n : Option Slot). IsInsnFlaw (slot_at bytes) n f) d (subst (λ (x : Slot). IsInsnFlaw x next f) e h)
 
 begins_at : (bytes : List ℕ) (s : Slot) (next : Option Slot) (i : Insn) → s ≡ slot_at bytes → next ≡ next_slot_at bytes → Begins i s next → Begins i (slot_at bytes) (next_slot_at bytes)
 begins_at bytes s next i e d h = subst (λ (n : Option Slot). Begins i (slot_at bytes) n) d (subst (λ (x : Slot). Begins i x next) e h)
