@@ -1,11 +1,11 @@
 -- What a join keeps in the plan of the states that wait.
 use Rattle.std.proofs.Common.{◌≡◌, ℕ, refl, sym, ◌∙◌, ap, subst, inl, inr}
-use Rattle.std.specs.Prelude.{◌⊎◌, Option, Some, pos}
+use Rattle.std.specs.Prelude.{◌⊎◌, Option, Some, None, IsSome, Box}
 use Rattle.std.proofs.lemmas.Bool.{cases_eq}
 use Rattle.abstract_state.specs.declared.state.AbsState.{AbsState}
 use Rattle.abstract_state.specs.State.{Wider}
 use Rattle.abstract_state.specs.Facts.{Fact, FactHolds}
-use Rattle.verifier.specs.SecondPass.{Joined, Merged}
+use Rattle.verifier.specs.SecondPass.{Joined, Merged, state_of}
 use Rattle.verifier.specs.Verdict.{Plan}
 use Rattle.verifier.proofs.Lists.{same_some}
 
@@ -42,3 +42,8 @@ module _ (index : ℕ) (state : AbsState) (old new : Plan) (m : Merged index sta
     )
     | inr n ↦ inl (sym (m.others k n) ∙ e)
   ]
+
+-- a box has its state
+pub some_state : {Z : Type 0} (o : Option (Box AbsState Z)) → IsSome o → IsSome (state_of o)
+some_state None h = h
+some_state (Some b) h = refl

@@ -1,8 +1,7 @@
 -- Pass 2 keeps a plan that each step keeps.
 use Rattle.std.proofs.Common.{◌≡◌, ◌≢◌, ℕ, zero, suc, ◌+◌, ◌<◌, ◌≤◌, refl, sym, ◌∙◌, ap, subst, arith, inl, inr, true, false, cond, List, [], ◌∷◌, ◌++◌, length}
-use Rattle.std.specs.Prelude.{slice_get, Option, Some, None, ltb, unwrap_or, IsSome, ℤ, pos, negsuc, ◌+ℤ◌, Box}
+use Rattle.std.specs.Prelude.{slice_get, Option, Some, None, ltb, unwrap_or, IsSome, pos, ◌+ℤ◌, Box}
 use Rattle.std.proofs.lemmas.Bool.{cases_lt, cases_eq}
-use Rattle.std.proofs.lemmas.Int.{ints}
 use Rattle.std.proofs.lemmas.Option.{slice_get_within}
 use borrow.Author.Tests.{le-ltb, lt-ltb}
 use Rattle.bpf_model.specs.declared.insn.Insn.{Insn}
@@ -10,7 +9,7 @@ use Rattle.bpf_model.specs.declared.insn.Insn.TheVariants.{Exit}
 use Rattle.bpf_model.specs.Graph.{falls, distance, JumpsTo}
 use Rattle.bpf_model.specs.Spelling.{slot_count}
 use Rattle.bpf_model.specs.Step.{State, Outcome, Moves, Exits, entry}
-use Rattle.bpf_model.specs.Places.{starts-next, starts_increase, starts_apart, start_of-insn}
+use Rattle.bpf_model.specs.Places.{starts-next, starts_apart, start_of-insn}
 use Rattle.abstract_state.specs.declared.state.AbsState.{AbsState}
 use Rattle.abstract_state.specs.declared.kind.Region.{Region}
 use Rattle.abstract_state.specs.State.{Describes, Wider, HasTarget, Leads}
@@ -31,7 +30,7 @@ pub target_found : (program : List Insn) (k slot : ℕ) (i : Insn) (t : Option �
 target_found program k slot i None none at d e = absurd (let f : None ≡ Some d = sym none ∙ e in cc)
 target_found program k slot i (Some u) leads at d e =
     let from : leads.from ≡ slot = same_some (sym leads.from_is ∙ at) in
-    (leads.to, leads.by, leads.by_is, leads.sum ∙ ap (λ f. pos (f + 1) +ℤ leads.by) from)
+    (leads.to, (leads.by, leads.by_is, leads.sum ∙ ap (λ f. pos (f + 1) +ℤ leads.by) from))
 
 -- an instruction that falls through isn't the last
 exit_last : (program front : List Insn) (k : ℕ) (i : Insn) → program ≡ front ++ Exit ∷ [] → slice_get program k ≡ Some i → falls i ≡ true → suc k < length program

@@ -20,7 +20,6 @@ use Rattle.abstract_state.specs.declared.kind.Region.{Region}
 use Rattle.abstract_state.specs.declared.kind.Region.TheVariants as regions
 use Rattle.abstract_state.specs.State.{base_of, IsInRegion}
 use Rattle.verifier.specs.Checked.{Checked}
-use Rattle.verifier.specs.Indexes.{StartsAt}
 use Rattle.verifier.specs.Verdict.{Plan, IsDescribedAt, IsRunOf, Justifies}
 
 -- the value is no reference to an element
