@@ -8,6 +8,10 @@ mod judged;
 #[cfg(test)]
 mod long;
 #[cfg(test)]
+mod model_programs;
+#[cfg(test)]
+mod models;
+#[cfg(test)]
 mod orders;
 #[cfg(test)]
 mod rows;
