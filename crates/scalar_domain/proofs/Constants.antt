@@ -5,7 +5,8 @@ use Rattle.std.specs.Int.Bits.{and_self}
 use Rattle.std.proofs.lemmas.Nat.{and_le_r}
 use Rattle.std.proofs.Math.Nat.{mod-eq_of_lt}
 use Rattle.scalar_domain.specs.declared.scalar.Scalar.{Scalar}
-use Rattle.scalar_domain.specs.Scalar.{Holds, IsConstant, Within}
+use Rattle.scalar_domain.specs.Scalar.{Holds, IsConstant}
+use Rattle.scalar_domain.specs.Mask.{Within}
 use Rattle.scalar_domain.specs.Precision.{Adds, Masks, ShiftsLeft}
 use Rattle.scalar_domain.proofs.Bits.{and-within_r}
 use Rattle.scalar_domain.proofs.Multiples.{sum_low, low_zero}

@@ -12,8 +12,9 @@ use Rattle.bpf_model.specs.declared.opcode.Condition.{Condition}
 use Rattle.bpf_model.specs.declared.opcode.Condition.TheVariants as condition
 use Rattle.scalar_domain.specs.declared.scalar.Scalar.{Scalar}
 use Rattle.scalar_domain.specs.declared.relation.Relation.{Relation}
-use Rattle.scalar_domain.specs.Scalar.{Holds, IsPossible, Within}
-use Rattle.scalar_domain.specs.Relation.{Related, Bounding, relation_on, unsigned_condition, signed_order, SignedRelated, MovesBounds, GoesAlong, IsNarrower}
+use Rattle.scalar_domain.specs.Scalar.{Holds, IsPossible, IsNoWider}
+use Rattle.scalar_domain.specs.Mask.{Within}
+use Rattle.scalar_domain.specs.Relation.{Related, Bounding, relation_on, unsigned_condition, signed_order, SignedRelated, MovesBounds, GoesAlong}
 use Rattle.scalar_domain.proofs.Bits.{ap2, within-and, within_le, within-trans}
 use Rattle.std.specs.Int.Bits.{and_self}
 
@@ -186,8 +187,11 @@ apart m x y h e =
 pub held_possible : (s : Scalar) (n : ℕ) → Holds s n → IsPossible s
 held_possible s n h = record { bounds = omega (arith, h.least, h.greatest); bits = within-trans s.must n s.may h.ones h.zeros }
 
-pub narrower-trans : (r s t : Scalar) → IsNarrower r s → IsNarrower s t → IsNarrower r t
-narrower-trans r s t h k = record {
+pub no_wider-refl : (s : Scalar) → IsNoWider s s
+no_wider-refl s = record { least = omega arith; greatest = omega arith; zeros = and_self s.may; ones = and_self s.must }
+
+pub no_wider-trans : (r s t : Scalar) → IsNoWider r s → IsNoWider s t → IsNoWider r t
+no_wider-trans r s t h k = record {
   least = omega (arith, h.least, k.least);
   greatest = omega (arith, h.greatest, k.greatest);
   zeros = within-trans r.may s.may t.may h.zeros k.zeros;

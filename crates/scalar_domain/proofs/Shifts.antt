@@ -5,7 +5,8 @@ use Rattle.std.proofs.lemmas.Nat.Bits.{ones_shr}
 use Rattle.std.proofs.Math.Nat.{mod-eq_of_lt, mul-mod_left, mul-le-mul_right}
 use lib.Pow.{mod-mod-pow}
 use Rattle.scalar_domain.specs.declared.scalar.Scalar.{Scalar}
-use Rattle.scalar_domain.specs.Scalar.{Holds, Within}
+use Rattle.scalar_domain.specs.Scalar.{Holds}
+use Rattle.scalar_domain.specs.Mask.{Within}
 use Rattle.scalar_domain.proofs.Bits.{within-mod, within-shl, low_mono, same_high, shr_mono}
 
 pub low_holds : (s : Scalar) (x k m : ℕ) → m ≡ 2 ^ k → s.least / m ≡ s.greatest / m → Holds s x →

@@ -7,7 +7,6 @@ use Rattle.bpf_model.specs.declared.opcode.Condition.TheVariants as condition
 use Rattle.scalar_domain.specs.declared.scalar.Scalar.{Scalar}
 use Rattle.scalar_domain.specs.declared.relation.Relation.{Relation}
 use Rattle.scalar_domain.specs.declared.relation.Relation.TheVariants.{Below, AtMost, Above, AtLeast, Equal, Apart, Unknown}
-use Rattle.scalar_domain.specs.Scalar.{Within}
 
 abbrev pub Related : Relation → ℕ → ℕ → Type 0
 Related Below x y = x < y
@@ -77,10 +76,3 @@ MovesBounds other taken = ⊥
 pub record GoesAlong (c : Condition) (taken : Bool) (s : Scalar) (k : ℕ) : Type 0 where
   pub least : holds w64 c s.least k ≡ taken
   pub greatest : holds w64 c s.greatest k ≡ taken
-
--- A scalar is at least as narrow as another, in each of its parts.
-pub record IsNarrower (s wide : Scalar) : Type 0 where
-  pub least : wide.least ≤ s.least
-  pub greatest : s.greatest ≤ wide.greatest
-  pub zeros : Within s.may wide.may
-  pub ones : Within wide.must s.must

@@ -1,6 +1,7 @@
 //! Operations on bits.
 ghost use Rattle.std.specs.Prelude.{◌≡◌, ℕ, ◌*◌, ◌/◌, ◌%◌, ◌^◌, ◌<◌, ◌≤◌, bit_and, bit_or, bit_xor};
-ghost use Rattle.scalar_domain.specs.Scalar.{Holds, IsConstant, Within};
+ghost use Rattle.scalar_domain.specs.Scalar.{Holds, IsConstant};
+ghost use Rattle.scalar_domain.specs.Mask.{Within};
 ghost use Rattle.scalar_domain.specs.Precision.{Masks, ShiftsLeft, ShiftsRight};
 
 use crate::scalar::Scalar;

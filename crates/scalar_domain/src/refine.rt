@@ -3,8 +3,10 @@ ghost use Rattle.std.specs.Prelude.{◌≡◌, ℕ, ◌+◌, ◌<◌, ◌≤◌,
 ghost use Rattle.std.specs.Int.{w32, w64};
 ghost use Rattle.bpf_model.specs.Arithmetic.{compares, holds};
 ghost use Rattle.bpf_model.specs.declared.opcode.Size.TheVariants.{Word64};
-ghost use Rattle.scalar_domain.specs.Scalar.{Holds, IsConstant, IsPossible, Within};
-ghost use Rattle.scalar_domain.specs.Relation.{Related, SignedRelated, Bounding, MovesBounds, GoesAlong, IsNarrower};
+ghost use Rattle.scalar_domain.specs.Scalar.{Holds, IsConstant, IsPossible, IsNoWider};
+ghost use Rattle.scalar_domain.specs.Mask.{Within};
+ghost use Rattle.scalar_domain.specs.Floor.{KeepsEdgeFloor};
+ghost use Rattle.scalar_domain.specs.Relation.{Related, SignedRelated, Bounding, MovesBounds, GoesAlong};
 
 use crate::relation::{Relation, condition_without_sign, is_signed, relation_of};
 use crate::scalar::Scalar;
@@ -21,9 +23,8 @@ impl Scalar {
         taken: bool,
     ) -> (Scalar, Scalar)
         ensures sound { (x y : ℕ) → x < 2 ^ 64 → y < 2 ^ 64 → Holds a x → Holds b y → compares size condition x y ≡ taken → Holds result.0 x × Holds result.1 y }
-        ensures narrower { IsNarrower result.0 a × IsNarrower result.1 b }
         ensures possible { (IsPossible result.0 × IsPossible result.1) ⊎ ((result.0 ≡ a) × (result.1 ≡ b)) }
-        ensures bounds { (k x : ℕ) → size ≡ Word64 → MovesBounds condition taken → IsConstant b k → Holds a x → Holds b k → holds w64 condition x k ≡ taken → GoesAlong condition taken result.0 k }
+        ensures floor { KeepsEdgeFloor size condition taken a b result.0 result.1 }
     {
         let (left, right) = refine_words(size, condition, a, b, taken);
         if left.is_possible() && right.is_possible() {
@@ -36,7 +37,7 @@ impl Scalar {
     /// The numbers up to a bound.
     fn up_to(self, bound: u64) -> Scalar
         ensures sound { (x : ℕ) → Holds self x → x ≤ bound → Holds result x }
-        ensures narrower { IsNarrower result self }
+        ensures no_wider { IsNoWider result self }
         ensures least { result.least ≡ self.least }
         ensures greatest { result.greatest ≤ bound }
     {
@@ -51,7 +52,7 @@ impl Scalar {
     /// The numbers from a bound on.
     fn from_bound(self, bound: u64) -> Scalar
         ensures sound { (x : ℕ) → Holds self x → bound ≤ x → Holds result x }
-        ensures narrower { IsNarrower result self }
+        ensures no_wider { IsNoWider result self }
         ensures least { bound ≤ result.least }
         ensures greatest { result.greatest ≡ self.greatest }
     {
@@ -66,7 +67,7 @@ impl Scalar {
     /// The numbers of both.
     fn meet(self, other: Scalar) -> Scalar
         ensures sound { (x : ℕ) → Holds self x → Holds other x → Holds result x }
-        ensures narrower { IsNarrower result self × IsNarrower result other }
+        ensures no_wider { IsNoWider result self × IsNoWider result other }
         ensures least { result.least ≡ max self.least other.least }
         ensures greatest { result.greatest ≡ min self.greatest other.greatest }
     {
@@ -81,7 +82,7 @@ impl Scalar {
     /// The numbers that have none of these bits.
     fn without_bits(self, bits: u64) -> Scalar
         ensures sound { (x : ℕ) → x < 2 ^ 64 → Holds self x → bit_and bits x ≡ 0 → Holds result x }
-        ensures narrower { IsNarrower result self }
+        ensures no_wider { IsNoWider result self }
     {
         Scalar {
             least: self.least,
@@ -101,7 +102,7 @@ fn refine_words(
     taken: bool,
 ) -> (Scalar, Scalar)
     ensures sound { (x y : ℕ) → x < 2 ^ 64 → y < 2 ^ 64 → Holds a x → Holds b y → compares size condition x y ≡ taken → Holds result.0 x × Holds result.1 y }
-    ensures narrower { IsNarrower result.0 a × IsNarrower result.1 b }
+    ensures no_wider { IsNoWider result.0 a × IsNoWider result.1 b }
     ensures bounds { (k x : ℕ) → size ≡ Word64 → MovesBounds condition taken → IsConstant b k → Holds a x → holds w64 condition x k ≡ taken → GoesAlong condition taken result.0 k }
 {
     match size {
@@ -118,7 +119,7 @@ fn refine_words(
 
 fn refine_wide(condition: Condition, a: Scalar, b: Scalar, taken: bool) -> (Scalar, Scalar)
     ensures sound { (x y : ℕ) → x < 2 ^ 64 → y < 2 ^ 64 → Holds a x → Holds b y → holds w64 condition x y ≡ taken → Holds result.0 x × Holds result.1 y }
-    ensures narrower { IsNarrower result.0 a × IsNarrower result.1 b }
+    ensures no_wider { IsNoWider result.0 a × IsNoWider result.1 b }
     ensures bounds { (k x : ℕ) → MovesBounds condition taken → IsConstant b k → Holds a x → holds w64 condition x k ≡ taken → GoesAlong condition taken result.0 k }
 {
     if is_signed(condition) {
@@ -132,7 +133,7 @@ fn refine_wide(condition: Condition, a: Scalar, b: Scalar, taken: bool) -> (Scal
 /// Of numbers below 2^32.
 fn refine_narrow(condition: Condition, a: Scalar, b: Scalar, taken: bool) -> (Scalar, Scalar)
     ensures sound { (x y : ℕ) → x < 2 ^ 32 → y < 2 ^ 32 → Holds a x → Holds b y → holds w32 condition x y ≡ taken → Holds result.0 x × Holds result.1 y }
-    ensures narrower { IsNarrower result.0 a × IsNarrower result.1 b }
+    ensures no_wider { IsNoWider result.0 a × IsNoWider result.1 b }
 {
     if is_signed(condition) {
         let relation = relation_of(condition_without_sign(condition), taken);
@@ -146,7 +147,7 @@ fn refine_narrow(condition: Condition, a: Scalar, b: Scalar, taken: bool) -> (Sc
 fn relate_signed(relation: Relation, a: Scalar, b: Scalar, sign: u64) -> (Scalar, Scalar)
     requires { 0 < sign }
     ensures sound { (x y : ℕ) → x < 2 ^ 64 → y < 2 ^ 64 → Holds a x → Holds b y → SignedRelated sign relation x y → Holds result.0 x × Holds result.1 y }
-    ensures narrower { IsNarrower result.0 a × IsNarrower result.1 b }
+    ensures no_wider { IsNoWider result.0 a × IsNoWider result.1 b }
 {
     match relation {
         Relation::Below if a.greatest < sign => below(a, b.up_to(sign - 1)),
@@ -166,7 +167,7 @@ fn relate_signed(relation: Relation, a: Scalar, b: Scalar, sign: u64) -> (Scalar
 /// The numbers that stand in this relation to one of the other side.
 fn relate(relation: Relation, a: Scalar, b: Scalar) -> (Scalar, Scalar)
     ensures sound { (x y : ℕ) → x < 2 ^ 64 → y < 2 ^ 64 → Holds a x → Holds b y → Related relation x y → Holds result.0 x × Holds result.1 y }
-    ensures narrower { IsNarrower result.0 a × IsNarrower result.1 b }
+    ensures no_wider { IsNoWider result.0 a × IsNoWider result.1 b }
     ensures bounds { (k x : ℕ) → IsConstant b k → Holds a x → Bounding relation → Related relation x k → Related relation result.0.least k × Related relation result.0.greatest k }
 {
     match relation {
@@ -192,7 +193,7 @@ fn relate(relation: Relation, a: Scalar, b: Scalar) -> (Scalar, Scalar)
 /// The numbers that are at most one of the other side, and those that are at least one.
 fn at_most(a: Scalar, b: Scalar) -> (Scalar, Scalar)
     ensures sound { (x y : ℕ) → Holds a x → Holds b y → x ≤ y → Holds result.0 x × Holds result.1 y }
-    ensures narrower { IsNarrower result.0 a × IsNarrower result.1 b }
+    ensures no_wider { IsNoWider result.0 a × IsNoWider result.1 b }
     ensures left { (result.0.least ≡ a.least) × (result.0.greatest ≤ b.greatest) }
     ensures right { (a.least ≤ result.1.least) × (result.1.greatest ≡ b.greatest) }
 {
@@ -202,7 +203,7 @@ fn at_most(a: Scalar, b: Scalar) -> (Scalar, Scalar)
 /// The numbers that are below one of the other side, and those that are above one.
 fn below(a: Scalar, b: Scalar) -> (Scalar, Scalar)
     ensures sound { (x y : ℕ) → y < 2 ^ 64 → Holds a x → Holds b y → x < y → Holds result.0 x × Holds result.1 y }
-    ensures narrower { IsNarrower result.0 a × IsNarrower result.1 b }
+    ensures no_wider { IsNoWider result.0 a × IsNoWider result.1 b }
     ensures left { (result.0.least ≡ a.least) × (0 < b.greatest → result.0.greatest < b.greatest) }
     ensures right { (a.least + 1 < 2 ^ 64 → a.least < result.1.least) × (result.1.greatest ≡ b.greatest) }
 {

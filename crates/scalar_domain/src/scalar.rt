@@ -1,7 +1,9 @@
 //! The sets, without operations.
 ghost use Rattle.std.specs.Prelude.{◌≡◌, ℕ, ◌<◌, ◌≤◌, ◌-◌, ◌^◌, IsTrue, MatchOption, min, max, bit_and, bit_or, ◌≢◌, ◌↔◌};
 ghost use Rattle.bpf_model.specs.Access.{byte_count};
-ghost use Rattle.scalar_domain.specs.Scalar.{Holds, IsConstant, IsPossible, Within};
+ghost use Rattle.scalar_domain.specs.Scalar.{Holds, IsConstant, IsPossible};
+ghost use Rattle.scalar_domain.specs.Mask.{Within};
+ghost use Rattle.scalar_domain.specs.Floor.{KeepsLoadFloor};
 
 use bpf_model::Width;
 
@@ -50,6 +52,7 @@ impl Scalar {
         ensures sound { (n : ℕ) → n < 256 ^ byte_count width → Holds result n }
         ensures least { result.least ≡ 0 }
         ensures greatest { result.greatest ≡ 256 ^ byte_count width - 1 }
+        ensures floor { KeepsLoadFloor width result }
     {
         let greatest = match width {
             Width::One => 0xff,

@@ -1,6 +1,7 @@
 //! Sums, products and quotients.
 ghost use Rattle.std.specs.Prelude.{◌≡◌, ℕ, ◌+◌, ◌-◌, ◌*◌, ◌/◌, ◌%◌, ◌^◌, ◌<◌, ◌≤◌, ◌==◌, if◌then◌else◌};
-ghost use Rattle.scalar_domain.specs.Scalar.{Holds, IsConstant, Within};
+ghost use Rattle.scalar_domain.specs.Scalar.{Holds, IsConstant};
+ghost use Rattle.scalar_domain.specs.Mask.{Within};
 ghost use Rattle.scalar_domain.specs.Precision.{Adds};
 
 use crate::scalar::Scalar;

@@ -1,7 +1,7 @@
 use Rattle.std.proofs.lemmas.Nat.{one_shl}
 use Rattle.scalar_domain.proofs.Shifts.{low_holds, low_within}
 use Rattle.std.proofs.Common.{◌*◌, ◌%◌, ◌^◌, subst}
-use Rattle.scalar_domain.specs.Scalar.{Within}
+use Rattle.scalar_domain.specs.Mask.{Within}
 use Rattle.scalar_domain.proofs.scalar.Scalar.low_bits.Goals as goal
 
 pub returns-then-self-modulus-clause-sound : goal.returns-then-self-modulus-clause-sound

@@ -11,8 +11,8 @@ returns-clause-sound c = λ x h k. record {
   ones = or-within x _ _ h.ones k.ones;
 }
 
-pub returns-clause-narrower : goal.returns-clause-narrower
-returns-clause-narrower c = (
+pub returns-clause-no_wider : goal.returns-clause-no_wider
+returns-clause-no_wider c = (
   record {
     least = omega (arith, c.max.ensures);
     greatest = omega (arith, c.min.ensures);

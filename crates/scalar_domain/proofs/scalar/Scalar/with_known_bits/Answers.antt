@@ -1,7 +1,7 @@
 use Rattle.std.proofs.Common.{◌≡◌, sym, subst, arith}
 use Rattle.std.specs.Prelude.{bit_and}
 use Rattle.std.specs.Int.Bits.{and_self}
-use Rattle.scalar_domain.specs.Scalar.{Within}
+use Rattle.scalar_domain.specs.Mask.{Within}
 use Rattle.scalar_domain.proofs.Bits.{within-both, and-within_l, and-within_r}
 use Rattle.scalar_domain.proofs.scalar.Scalar.with_known_bits.Goals as goal
 

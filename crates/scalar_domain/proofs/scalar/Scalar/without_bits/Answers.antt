@@ -12,8 +12,8 @@ returns-clause-sound c = λ x p h e. record {
   ones = h.ones;
 }
 
-pub returns-clause-narrower : goal.returns-clause-narrower
-returns-clause-narrower c = record {
+pub returns-clause-no_wider : goal.returns-clause-no_wider
+returns-clause-no_wider c = record {
   least = omega arith;
   greatest = omega arith;
   zeros = and-within_l _ _ _ (and_self _);

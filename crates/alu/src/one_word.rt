@@ -1,9 +1,21 @@
-//! Bytes in another order, and low bits as signed numbers.
+//! Operations on one word: negation, bytes in another order, low bits as signed numbers.
 ghost use Rattle.std.specs.Prelude.{◌≡◌, ◌%◌};
 ghost use Rattle.std.specs.Int.{w8, w16, w32, w64};
-ghost use Rattle.bpf_model.specs.Arithmetic.{reordered, moved_signed, loaded_signed, extended, immediate as immediate_of};
+ghost use Rattle.bpf_model.specs.Arithmetic.{negated, reordered, moved_signed, loaded_signed, extended, unary as unary_of, immediate as immediate_of};
 
-use bpf_model::{ByteOrder, SignExtension, SignedWidth, SwapWidth};
+use crate::operate::low_half;
+use bpf_model::{ByteOrder, SignExtension, SignedWidth, Size, SwapWidth, UnaryOp};
+
+/// Zero less the word, on 64 bits or on the low 32; of 32 the high half of the result is 0.
+#[inline]
+pub fn negate(size: Size, dst: u64) -> u64
+    ensures { result ≡ negated size dst }
+{
+    match size {
+        Size::Word64 => dst.wrapping_neg(),
+        Size::Word32 => u64::from(low_half(dst).wrapping_neg()),
+    }
+}
 
 /// The low bytes, in the order of a little-endian host, in big-endian order, or swapped; the rest is 0.
 pub fn byte_swap(order: ByteOrder, width: SwapWidth, dst: u64) -> u64
@@ -41,6 +53,18 @@ pub fn move_signed(extension: SignExtension, src: u64) -> u64
         SignExtension::WordTo64 => {
             i64::from(((src % 0x1_0000_0000) as u32).cast_signed()).cast_unsigned()
         }
+    }
+}
+
+/// The operation of one operand, on the word that it reads.
+#[inline]
+pub fn unary(op: UnaryOp, word: u64) -> u64
+    ensures { result ≡ unary_of op word }
+{
+    match op {
+        UnaryOp::Negate(size) => negate(size, word),
+        UnaryOp::ByteSwap { order, width } => byte_swap(order, width, word),
+        UnaryOp::MoveSigned { extension, .. } => move_signed(extension, word),
     }
 }
 
