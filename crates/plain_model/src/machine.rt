@@ -55,7 +55,8 @@ impl Machine {
         shapes: &[MapShape],
         programs: Vec<Loaded>,
     ) -> Result<Machine, AllocError>
-        ensures start { IfOk result (λ m. schedule_of m ≡ start_schedule shapes.now (map loaded_of programs.items)) }
+        ensures start { IfOk result
+            (λ m. schedule_of m ≡ start_schedule shapes.now (map loaded_of programs.items)) }
     {
         let mut queues = Vec::new(alloc);
         for _ in 0..shapes.len() {
@@ -113,7 +114,8 @@ impl Machine {
     /// choices. Where it says `Stuck` the definition has no step; after any fault the machine is of no use.
     pub fn apply(&mut self, event: Event) -> Result<Answer, Fault>
         ensures machine { DoesAs (machine_of self.old) event result (machine_of self.new) }
-        ensures schedule { IfOk result (λ answer. DoesScheduled (schedule_of self.old) event answer (schedule_of self.new)) }
+        ensures schedule { IfOk result
+            (λ answer. DoesScheduled (schedule_of self.old) event answer (schedule_of self.new)) }
     {
         self.answer(event)
     }
@@ -121,8 +123,10 @@ impl Machine {
     /// The answer, and what it says of the lists and of the slot that a new element takes.
     fn answer(&mut self, event: Event) -> Result<Answer, Fault>
         ensures machine { DoesAs (machine_of self.old) event result (machine_of self.new) }
-        ensures lists { IfOk result (λ answer. FollowsLists (schedule_of self.old) event answer (schedule_of self.new)) }
-        ensures oldest { OnOk result (TakesOldest (store_of self.old.store) (store_of self.new.store)) }
+        ensures lists { IfOk result
+            (λ answer. FollowsLists (schedule_of self.old) event answer (schedule_of self.new)) }
+        ensures oldest { OnOk result
+            (TakesOldest (store_of self.old.store) (store_of self.new.store)) }
     {
         if is_turn(&event) {
             self.take_turn(event)
@@ -137,8 +141,10 @@ impl Machine {
     /// What the machine answers to an advance or a reap.
     fn take_turn(&mut self, event: Event) -> Result<Answer, Fault>
         ensures machine { DoesAs (machine_of self.old) event result (machine_of self.new) }
-        ensures lists { IfOk result (λ answer. FollowsLists (schedule_of self.old) event answer (schedule_of self.new)) }
-        ensures oldest { OnOk result (TakesOldest (store_of self.old.store) (store_of self.new.store)) }
+        ensures lists { IfOk result
+            (λ answer. FollowsLists (schedule_of self.old) event answer (schedule_of self.new)) }
+        ensures oldest { OnOk result
+            (TakesOldest (store_of self.old.store) (store_of self.new.store)) }
     {
         match event {
             Event::Advance => {
@@ -155,7 +161,8 @@ impl Machine {
         ensures machine { DoesAs (machine_of self.old) event result (machine_of self.new) }
         ensures queues { self.new.queues ≡ self.old.queues }
         ensures awaited { self.new.awaited ≡ self.old.awaited }
-        ensures oldest { OnOk result (TakesOldest (store_of self.old.store) (store_of self.new.store)) }
+        ensures oldest { OnOk result
+            (TakesOldest (store_of self.old.store) (store_of self.new.store)) }
     {
         match event {
             Event::Start { prog, ctx } => self.start(prog, ctx),
@@ -177,7 +184,9 @@ impl Machine {
     /// are awaited no more.
     fn settle(&mut self, before: &[Option<usize>]) -> Result<(), AllocError>
         ensures store { self.new.store ≡ self.old.store }
-        ensures lists { (olds : List ModelElement) → before.now ≡ map linked_map olds → OnOk result (schedule_of self.new ≡ settled (schedule_of self.old) olds) }
+        ensures lists { (olds : List ModelElement) → before.now
+            ≡ map linked_map olds →
+            OnOk result (schedule_of self.new ≡ settled (schedule_of self.old) olds) }
     {
         let opened = open_flags(self.alloc, self.runs.as_slice())?;
         let awaited = still_open(self.alloc, self.awaited.as_slice(), opened.as_slice())?;
@@ -192,7 +201,8 @@ impl Machine {
 
     /// The sections that are open.
     fn open_sections(&self) -> Result<Vec<Section>, AllocError>
-        ensures { IfOk result (λ sections. sections_of sections.items
+        ensures { IfOk result
+            (λ sections. sections_of sections.items
             ≡ open_sections_of (runs_of self.now.programs.items self.now.runs.items)) }
     {
         open_sections(self.alloc, self.runs.as_slice())
@@ -206,10 +216,12 @@ impl Machine {
     }
 
     fn start(&mut self, prog: ProgId, ctx: CtxBytes) -> Result<Answer, Fault>
-        ensures machine { DoesAs (machine_of self.old) (events.Start prog ctx) result (machine_of self.new) }
+        ensures machine { DoesAs (machine_of self.old) (events.Start prog ctx) result
+            (machine_of self.new) }
         ensures queues { self.new.queues ≡ self.old.queues }
         ensures awaited { self.new.awaited ≡ self.old.awaited }
-        ensures oldest { OnOk result (TakesOldest (store_of self.old.store) (store_of self.new.store)) }
+        ensures oldest { OnOk result
+            (TakesOldest (store_of self.old.store) (store_of self.new.store)) }
     {
         let p = prog.index();
         if p >= self.programs.len() {
@@ -229,7 +241,8 @@ impl Machine {
 
     /// Why a step of this run is refused.
     fn step_refusal(&self, r: usize) -> Option<EventRefusal>
-        ensures { result ≡ step_refusal_of (run_at (runs_of self.now.programs.items self.now.runs.items) r) }
+        ensures { result ≡ step_refusal_of
+            (run_at (runs_of self.now.programs.items self.now.runs.items) r) }
     {
         match self.runs.get(r) {
             Some(Some(run)) => match run.exit {
@@ -241,10 +254,12 @@ impl Machine {
     }
 
     fn step(&mut self, run: RunId) -> Result<Answer, Fault>
-        ensures machine { DoesAs (machine_of self.old) (events.Step run) result (machine_of self.new) }
+        ensures machine { DoesAs (machine_of self.old) (events.Step run) result
+            (machine_of self.new) }
         ensures queues { self.new.queues ≡ self.old.queues }
         ensures awaited { self.new.awaited ≡ self.old.awaited }
-        ensures oldest { OnOk result (TakesOldest (store_of self.old.store) (store_of self.new.store)) }
+        ensures oldest { OnOk result
+            (TakesOldest (store_of self.old.store) (store_of self.new.store)) }
     {
         let r = run.index();
         if let Some(refusal) = self.step_refusal(r) {
@@ -270,8 +285,10 @@ impl Machine {
         key_len: usize,
         value_len: Option<usize>,
     ) -> Option<EventRefusal>
-        ensures key { value_len ≡ None → result ≡ key_refusal_of (shape_of (store_of self.now.store) map) key_len }
-        ensures both { (len : ℕ) → value_len ≡ Some len → result ≡ update_refusal_of (shape_of (store_of self.now.store) map) key_len len }
+        ensures key { value_len ≡ None → result
+            ≡ key_refusal_of (shape_of (store_of self.now.store) map) key_len }
+        ensures both { (len : ℕ) → value_len ≡ Some len → result
+            ≡ update_refusal_of (shape_of (store_of self.now.store) map) key_len len }
     {
         let Some(shape) = self.store.shape(map) else {
             return Some(EventRefusal::NoMap);
@@ -294,10 +311,12 @@ impl Machine {
         value: ValueBytes,
         flags: u64,
     ) -> Result<Answer, Fault>
-        ensures machine { DoesAs (machine_of self.old) (events.Update map key value flags) result (machine_of self.new) }
+        ensures machine { DoesAs (machine_of self.old) (events.Update map key value flags) result
+            (machine_of self.new) }
         ensures queues { self.new.queues ≡ self.old.queues }
         ensures awaited { self.new.awaited ≡ self.old.awaited }
-        ensures oldest { OnOk result (TakesOldest (store_of self.old.store) (store_of self.new.store)) }
+        ensures oldest { OnOk result
+            (TakesOldest (store_of self.old.store) (store_of self.new.store)) }
     {
         match self.key_refusal(map.index(), key.len(), Some(value.len())) {
             Some(refusal) => Ok(Answer::Refused(refusal)),
@@ -317,10 +336,12 @@ impl Machine {
     }
 
     fn delete(&mut self, map: MapId, key: KeyBytes) -> Result<Answer, Fault>
-        ensures machine { DoesAs (machine_of self.old) (events.Delete map key) result (machine_of self.new) }
+        ensures machine { DoesAs (machine_of self.old) (events.Delete map key) result
+            (machine_of self.new) }
         ensures queues { self.new.queues ≡ self.old.queues }
         ensures awaited { self.new.awaited ≡ self.old.awaited }
-        ensures oldest { OnOk result (TakesOldest (store_of self.old.store) (store_of self.new.store)) }
+        ensures oldest { OnOk result
+            (TakesOldest (store_of self.old.store) (store_of self.new.store)) }
     {
         match self.key_refusal(map.index(), key.len(), None) {
             Some(refusal) => Ok(Answer::Refused(refusal)),
@@ -335,10 +356,12 @@ impl Machine {
     }
 
     fn read(&mut self, map: MapId, key: KeyBytes) -> Result<Answer, Fault>
-        ensures machine { DoesAs (machine_of self.old) (events.Read map key) result (machine_of self.new) }
+        ensures machine { DoesAs (machine_of self.old) (events.Read map key) result
+            (machine_of self.new) }
         ensures queues { self.new.queues ≡ self.old.queues }
         ensures awaited { self.new.awaited ≡ self.old.awaited }
-        ensures oldest { OnOk result (TakesOldest (store_of self.old.store) (store_of self.new.store)) }
+        ensures oldest { OnOk result
+            (TakesOldest (store_of self.old.store) (store_of self.new.store)) }
     {
         if let Some(refusal) = self.key_refusal(map.index(), key.len(), None) {
             return Ok(Answer::Refused(refusal));
@@ -350,7 +373,10 @@ impl Machine {
     /// Where no run is awaited a grace period ends and the next begins.
     fn advance(&mut self) -> Result<(), AllocError>
         ensures machine { machine_of self.new ≡ machine_of self.old }
-        ensures lists { OnOk result (schedule_of self.new ≡ advanced (schedule_of self.old) (machine_of self.old) (is_any_of self.old.awaited.items)) }
+        ensures lists { OnOk result
+            (schedule_of self.new
+            ≡ advanced (schedule_of self.old) (machine_of self.old)
+            (is_any_of self.old.awaited.items)) }
     {
         if is_any(self.awaited.as_slice()) {
             return Ok(());
@@ -363,8 +389,11 @@ impl Machine {
 
     fn reap(&mut self) -> Result<Answer, Fault>
         ensures machine { DoesAs (machine_of self.old) events.Reap result (machine_of self.new) }
-        ensures lists { IfOk result (λ answer. FollowsLists (schedule_of self.old) events.Reap answer (schedule_of self.new)) }
-        ensures oldest { OnOk result (TakesOldest (store_of self.old.store) (store_of self.new.store)) }
+        ensures lists { IfOk result
+            (λ answer.
+            FollowsLists (schedule_of self.old) events.Reap answer (schedule_of self.new)) }
+        ensures oldest { OnOk result
+            (TakesOldest (store_of self.old.store) (store_of self.new.store)) }
     {
         let Some(n) = first_ready(self.queues.as_slice()) else {
             return Ok(Answer::Reaped(None));
@@ -381,7 +410,8 @@ impl Machine {
 
     /// Why a drop of this run is refused.
     fn drop_refusal(&self, r: usize) -> Option<EventRefusal>
-        ensures { result ≡ drop_refusal_of (run_at (runs_of self.now.programs.items self.now.runs.items) r) }
+        ensures { result ≡ drop_refusal_of
+            (run_at (runs_of self.now.programs.items self.now.runs.items) r) }
     {
         match self.runs.get(r) {
             Some(Some(run)) => match run.exit {
@@ -393,10 +423,12 @@ impl Machine {
     }
 
     fn remove(&mut self, run: RunId) -> Result<Answer, Fault>
-        ensures machine { DoesAs (machine_of self.old) (events.Drop run) result (machine_of self.new) }
+        ensures machine { DoesAs (machine_of self.old) (events.Drop run) result
+            (machine_of self.new) }
         ensures queues { self.new.queues ≡ self.old.queues }
         ensures awaited { self.new.awaited ≡ self.old.awaited }
-        ensures oldest { OnOk result (TakesOldest (store_of self.old.store) (store_of self.new.store)) }
+        ensures oldest { OnOk result
+            (TakesOldest (store_of self.old.store) (store_of self.new.store)) }
     {
         let r = run.index();
         if let Some(refusal) = self.drop_refusal(r) {

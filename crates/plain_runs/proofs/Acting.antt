@@ -3,14 +3,16 @@ use Rattle.std.proofs.Common.{◌≡◌, ℕ, List, Option, Some, None, refl, sy
 use Rattle.std.specs.Prelude.{ℤ, Result}
 use Rattle.bpf_model.specs.Value.{◌>>=◌, number}
 use Rattle.bpf_model.specs.declared.insn.Insn.{Insn}
-use Rattle.bpf_model.specs.declared.insn.Insn.TheVariants.{Alu, MoveSigned, Negate, ByteSwap, LoadNumber, LoadMap, Jump, JumpLong, JumpIf, Call, Exit, Load, LoadSigned, Store, StoreRegister}
+use Rattle.bpf_model.specs.declared.insn.Insn.TheVariants.{Alu, Unary, LoadNumber, LoadMap, Jump, JumpLong, JumpIf, Call, Exit, Load, LoadSigned, Store}
 use Rattle.bpf_model.specs.declared.value.Value.{Value}
 use Rattle.bpf_model.specs.declared.value.Value.TheVariants.{Nothing, Number, Pointer}
 use Rattle.bpf_model.specs.declared.value.Reference.TheVariants.{Ctx, Frame, MapRef, Elem}
 use Rattle.bpf_model.specs.declared.opcode.Width.{Width}
 use Rattle.bpf_model.specs.declared.opcode.SignedWidth.{SignedWidth}
 use Rattle.bpf_model.specs.Access.{byte_count, unsigned_width}
-use Rattle.bpf_model.specs.Arithmetic.{loaded_signed, immediate}
+use Rattle.bpf_model.specs.Arithmetic.{loaded_signed}
+use Rattle.bpf_model.specs.Operand.{operand_value}
+use Rattle.bpf_model.specs.declared.insn.Operand.{Operand}
 use Rattle.bpf_model.specs.Element.{Element}
 use Rattle.bpf_model.specs.Step.{State, Environment, Outcome, Moves, Exits, after, load_from, store_to, sets}
 use Rattle.bpf_model.specs.MachineStep.{AccessesElement, element_load, element_store}
@@ -51,12 +53,9 @@ no-store es new width offset (Number k) (Pointer (Elem n o)) h e = absurd cc
 pub no-access : (i : Insn) (es : List Element) (m : State) (out : Outcome) (new : List Element) → base_element i m ≡ None → AccessesElement i es m out new → ⊥
 no-access (Load width dst src offset) es m out new h a = no-load es (byte_count width) offset (m.regs src) a.0 h a.1
 no-access (LoadSigned width dst src offset) es m out new h a = no-load es (byte_count (unsigned_width width)) offset (m.regs src) a.0 h a.1
-no-access (Store width dst offset imm) es m out new h a = no-store es new (byte_count width) offset (Number (immediate imm)) (m.regs dst) h a.0
-no-access (StoreRegister width dst src offset) es m out new h a = no-store es new (byte_count width) offset (m.regs src) (m.regs dst) h a.0
+no-access (Store width dst offset src) es m out new h a = no-store es new (byte_count width) offset (operand_value src m.regs) (m.regs dst) h a.0
 no-access (Alu op size dst src) es m out new h a = a
-no-access (MoveSigned extension dst src) es m out new h a = a
-no-access (Negate size dst) es m out new h a = a
-no-access (ByteSwap order width dst) es m out new h a = a
+no-access (Unary op dst) es m out new h a = a
 no-access (LoadNumber dst n) es m out new h a = a
 no-access (LoadMap dst map) es m out new h a = a
 no-access (Jump offset) es m out new h a = a
@@ -148,29 +147,16 @@ extended-acts width dst src offset env es old new p n o b h =
     ]
     by progress.OutOfRange c z = tt
 
--- stores of an immediate and of a register
-pub saved-acts : (width : Width) (dst : ℕ) (offset imm : ℤ) (env : Environment) (es more : List Element) (old new : PlainRun) (p : Progress) (n : ℕ) (o : ℤ) → element_in ((state_of old).regs dst) ≡ Some (n, o) →
-    StoresAs (element_store es (byte_count width) offset (Number (immediate imm)) (Pointer (Elem n o))) old p more new → ActsAs (Store width dst offset imm) env es old p more new
-saved-acts width dst offset imm env es more old new p n o b h =
+-- a store to an element
+pub stored-acts : (width : Width) (dst : ℕ) (offset : ℤ) (src : Operand) (env : Environment) (es more : List Element) (old new : PlainRun) (p : Progress) (n : ℕ) (o : ℤ) → element_in ((state_of old).regs dst) ≡ Some (n, o) →
+    StoresAs (element_store es (byte_count width) offset (operand_value src (state_of old).regs) (Pointer (Elem n o))) old p more new → ActsAs (Store width dst offset src) env es old p more new
+stored-acts width dst offset src env es more old new p n o b h =
     let base = element-is ((state_of old).regs dst) n o b in
-    by p (subst (λ v. StoresAs (element_store es (byte_count width) offset (Number (immediate imm)) v) old p more new) (sym base) h) (to-element (state_of old) (byte_count width) offset (Number (immediate imm)) ((state_of old).regs dst) n o base)
+    let v = operand_value src (state_of old).regs in
+    by p (subst (λ r. StoresAs (element_store es (byte_count width) offset v r) old p more new) (sym base) h) (to-element (state_of old) (byte_count width) offset v ((state_of old).regs dst) n o base)
   where
-    by : (p : Progress) → StoresAs (element_store es (byte_count width) offset (Number (immediate imm)) ((state_of old).regs dst)) old p more new → after (Store width dst offset imm) env (state_of old) ≡ None → ActsAs (Store width dst offset imm) env es old p more new
-    by progress.Moved c z = inr (c.0, ap Moves c.1)
-    by (progress.Exited k) c z = absurd c
-    by progress.Stuck c z = λ out es2 a. elim a [
-      | inl x ↦ let e : None ≡ Some out = sym z ∙ x.0 in absurd cc
-      | inr x ↦ let e : None ≡ Some es2 = sym c ∙ x.0 in absurd cc
-    ]
-    by progress.OutOfRange c z = tt
-
-pub stored-acts : (width : Width) (dst src : ℕ) (offset : ℤ) (env : Environment) (es more : List Element) (old new : PlainRun) (p : Progress) (n : ℕ) (o : ℤ) → element_in ((state_of old).regs dst) ≡ Some (n, o) →
-    StoresAs (element_store es (byte_count width) offset ((state_of old).regs src) (Pointer (Elem n o))) old p more new → ActsAs (StoreRegister width dst src offset) env es old p more new
-stored-acts width dst src offset env es more old new p n o b h =
-    let base = element-is ((state_of old).regs dst) n o b in
-    by p (subst (λ v. StoresAs (element_store es (byte_count width) offset ((state_of old).regs src) v) old p more new) (sym base) h) (to-element (state_of old) (byte_count width) offset ((state_of old).regs src) ((state_of old).regs dst) n o base)
-  where
-    by : (p : Progress) → StoresAs (element_store es (byte_count width) offset ((state_of old).regs src) ((state_of old).regs dst)) old p more new → after (StoreRegister width dst src offset) env (state_of old) ≡ None → ActsAs (StoreRegister width dst src offset) env es old p more new
+    by : (p : Progress) → StoresAs (element_store es (byte_count width) offset (operand_value src (state_of old).regs) ((state_of old).regs dst)) old p more new → after (Store width dst offset src) env (state_of old) ≡ None →
+        ActsAs (Store width dst offset src) env es old p more new
     by progress.Moved c z = inr (c.0, ap Moves c.1)
     by (progress.Exited k) c z = absurd c
     by progress.Stuck c z = λ out es2 a. elim a [
@@ -189,9 +175,7 @@ pub alone-steps : (i : Insn) (s : maps.Store) (opened : List Section) (run : Run
 alone-steps (Call kinds.Kernel imm) s opened run answer t q k a = absurd cc
 alone-steps (Call kinds.Helper imm) s opened run answer t q k a = absurd cc
 alone-steps (Alu op size dst src) s opened run answer t q k a = a
-alone-steps (MoveSigned extension dst src) s opened run answer t q k a = a
-alone-steps (Negate size dst) s opened run answer t q k a = a
-alone-steps (ByteSwap order width dst) s opened run answer t q k a = a
+alone-steps (Unary op dst) s opened run answer t q k a = a
 alone-steps (LoadNumber dst n) s opened run answer t q k a = a
 alone-steps (LoadMap dst map) s opened run answer t q k a = a
 alone-steps (Jump offset) s opened run answer t q k a = a
@@ -200,8 +184,7 @@ alone-steps (JumpIf condition size dst src offset) s opened run answer t q k a =
 alone-steps Exit s opened run answer t q k a = a
 alone-steps (Load width dst src offset) s opened run answer t q k a = a
 alone-steps (LoadSigned width dst src offset) s opened run answer t q k a = a
-alone-steps (Store width dst offset imm) s opened run answer t q k a = a
-alone-steps (StoreRegister width dst src offset) s opened run answer t q k a = a
+alone-steps (Store width dst offset src) s opened run answer t q k a = a
 
 abbrev pub call-pair : CallKind → ℤ → CallKind × ℤ
 call-pair kind imm = (kind, imm)
@@ -212,9 +195,7 @@ call-is (Call k j) kind imm h =
     let f : call-pair k j ≡ call-pair kind imm = cc in
     ap (λ p. Call p.0 p.1) f
 call-is (Alu op size dst src) kind imm h = absurd cc
-call-is (MoveSigned extension dst src) kind imm h = absurd cc
-call-is (Negate size dst) kind imm h = absurd cc
-call-is (ByteSwap order width dst) kind imm h = absurd cc
+call-is (Unary op dst) kind imm h = absurd cc
 call-is (LoadNumber dst n) kind imm h = absurd cc
 call-is (LoadMap dst map) kind imm h = absurd cc
 call-is (Jump offset) kind imm h = absurd cc
@@ -223,5 +204,4 @@ call-is (JumpIf condition size dst src offset) kind imm h = absurd cc
 call-is Exit kind imm h = absurd cc
 call-is (Load width dst src offset) kind imm h = absurd cc
 call-is (LoadSigned width dst src offset) kind imm h = absurd cc
-call-is (Store width dst offset j) kind imm h = absurd cc
-call-is (StoreRegister width dst src offset) kind imm h = absurd cc
+call-is (Store width dst offset src) kind imm h = absurd cc

@@ -1,7 +1,7 @@
 -- What the steps of a run tell, by what they answer.
 use Rattle.std.specs.Prelude.{◌≡◌, ℕ, List, Option, Some, None, Result, Ok, Err, ℤ}
 use Rattle.bpf_model.specs.declared.insn.Insn.{Insn}
-use Rattle.bpf_model.specs.declared.insn.Insn.TheVariants.{Call, Load, LoadSigned, Store, StoreRegister}
+use Rattle.bpf_model.specs.declared.insn.Insn.TheVariants.{Call, Load, LoadSigned, Store}
 use Rattle.bpf_model.specs.declared.insn.CallKind.{CallKind}
 use Rattle.bpf_model.specs.declared.value.Value.{Value}
 use Rattle.bpf_model.specs.declared.value.Value.TheVariants.{Nothing, Number, Pointer}
@@ -39,8 +39,7 @@ element_in (Pointer (Elem n o)) = Some (n, o)
 abbrev pub base_element : Insn → State → Option (ℕ × ℤ)
 base_element (Load width dst src offset) m = element_in (m.regs src)
 base_element (LoadSigned width dst src offset) m = element_in (m.regs src)
-base_element (Store width dst offset imm) m = element_in (m.regs dst)
-base_element (StoreRegister width dst src offset) m = element_in (m.regs dst)
+base_element (Store width dst offset src) m = element_in (m.regs dst)
 base_element _ m = None
 
 -- what a load leaves, and one that extends a sign

@@ -1,5 +1,6 @@
 //! What an instruction other than a call does: to its run alone, or to an element.
 ghost use Rattle.std.specs.Prelude.{◌≡◌, ℕ, ◌^◌, ◌<◌, ◌≤◌, Some, List, length};
+ghost use Rattle.bpf_model.specs.declared.limits.TheConstants.{CTX_BYTES};
 ghost use Rattle.bpf_model.specs.declared.value.Value.TheVariants.{Pointer};
 ghost use Rattle.bpf_model.specs.declared.value.Reference.TheVariants.{Elem};
 ghost use Rattle.bpf_model.specs.Access.{byte_count};
@@ -8,7 +9,7 @@ ghost use Rattle.plain_interpreter.specs.Plain.{state_of, environment, Comes};
 ghost use Rattle.plain_store.specs.State.{elements_of};
 ghost use Rattle.plain_runs.specs.Acting.{base_element, load_outcome, extended_outcome, StoresAs, ActsAs};
 
-use alu::{immediate, load_signed};
+use alu::load_signed;
 use bpf_model::{Insn, Reference, Reg, SignedWidth, Value, Width};
 use plain_interpreter::{PlainRun, Progress, number};
 use plain_store::Store;
@@ -21,7 +22,6 @@ fn element_at(insn: &Insn, run: &PlainRun) -> Option<(usize, i64)>
         Insn::Load { src, .. } => *src,
         Insn::LoadSigned { src, .. } => *src,
         Insn::Store { dst, .. } => *dst,
-        Insn::StoreRegister { dst, .. } => *dst,
         _ => return None,
     };
     match run.register(base) {
@@ -41,7 +41,8 @@ fn load(
     offset: i16,
 ) -> Progress
     requires { (state_of run.old).place < 2 ^ 40 }
-    ensures { Comes (load_outcome (elements_of store.now.elements.items) (byte_count width) offset (Pointer (Elem n o)) dst (state_of run.old)) result run.old run.new }
+    ensures { Comes (load_outcome (elements_of store.now.elements.items) (byte_count width) offset
+        (Pointer (Elem n o)) dst (state_of run.old)) result run.old run.new }
 {
     match store.load(n, width, o, offset) {
         Some(k) => run.set(1, dst, Value::Number(k)),
@@ -60,7 +61,8 @@ fn load_extended(
     offset: i16,
 ) -> Progress
     requires { (state_of run.old).place < 2 ^ 40 }
-    ensures { Comes (extended_outcome (elements_of store.now.elements.items) width offset (Pointer (Elem n o)) dst (state_of run.old)) result run.old run.new }
+    ensures { Comes (extended_outcome (elements_of store.now.elements.items) width offset
+        (Pointer (Elem n o)) dst (state_of run.old)) result run.old run.new }
 {
     match store.load(n, width.width(), o, offset) {
         Some(k) => run.set(1, dst, Value::Number(load_signed(width, k))),
@@ -79,7 +81,9 @@ fn save(
     offset: i16,
 ) -> Progress
     requires { (state_of run.old).place < 2 ^ 40 }
-    ensures elements { StoresAs (element_store (elements_of store.old.elements.items) (byte_count width) offset value (Pointer (Elem n o))) run.old result (elements_of store.new.elements.items) run.new }
+    ensures elements { StoresAs
+        (element_store (elements_of store.old.elements.items) (byte_count width) offset value
+        (Pointer (Elem n o))) run.old result (elements_of store.new.elements.items) run.new }
     ensures maps { store.new.maps ≡ store.old.maps }
     ensures births { length store.new.elements.items ≡ length store.old.elements.items }
 {
@@ -96,7 +100,9 @@ fn save(
 fn access_element(run: &mut PlainRun, store: &mut Store, insn: &Insn, n: usize, o: i64) -> Progress
     requires place { (state_of run.old).place < 2 ^ 40 }
     requires base { base_element insn.now (state_of run.old) ≡ Some (n, o) }
-    ensures acts { (context : List ℕ) (maps : ℕ) → ActsAs insn.now (environment context maps) (elements_of store.old.elements.items) run.old result (elements_of store.new.elements.items) run.new }
+    ensures acts { (context : List ℕ) (maps : ℕ) →
+        ActsAs insn.now (environment context maps) (elements_of store.old.elements.items) run.old
+        result (elements_of store.new.elements.items) run.new }
     ensures maps { store.new.maps ≡ store.old.maps }
     ensures births { length store.new.elements.items ≡ length store.old.elements.items }
 {
@@ -116,24 +122,10 @@ fn access_element(run: &mut PlainRun, store: &mut Store, insn: &Insn, n: usize, 
         Insn::Store {
             width,
             offset,
-            imm,
-            ..
-        } => save(
-            run,
-            store,
-            *width,
-            Value::Number(immediate(*imm)),
-            n,
-            o,
-            *offset,
-        ),
-        Insn::StoreRegister {
-            width,
             src,
-            offset,
             ..
         } => {
-            let value = run.register(*src);
+            let value = run.operand(src);
             save(run, store, *width, value, n, o, *offset)
         }
         _ => Progress::Stuck,
@@ -150,8 +142,10 @@ pub(crate) fn act(
     insn: &Insn,
 ) -> Progress
     requires place { (state_of run.old).place < 2 ^ 40 }
-    requires context { length context.now ≤ 256 }
-    ensures acts { ActsAs insn.now (environment context.now maps) (elements_of store.old.elements.items) run.old result (elements_of store.new.elements.items) run.new }
+    requires context { length context.now ≤ CTX_BYTES }
+    ensures acts { ActsAs insn.now (environment context.now maps)
+        (elements_of store.old.elements.items) run.old result (elements_of store.new.elements.items)
+        run.new }
     ensures maps { store.new.maps ≡ store.old.maps }
     ensures births { length store.new.elements.items ≡ length store.old.elements.items }
 {

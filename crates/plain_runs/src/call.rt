@@ -1,6 +1,7 @@
 //! Calls: of the kernel's functions, which open and leave sections, and of helpers, which look at maps and
 //! change them.
 ghost use Rattle.std.specs.Prelude.{◌≡◌, ℕ, ◌+◌, ◌^◌, ◌<◌, ◌≤◌, ◌==◌, if◌then◌else◌, Some, None, List, OnOk};
+ghost use Rattle.bpf_model.specs.declared.limits.TheConstants.{FRAME_BYTES};
 ghost use Rattle.bpf_model.specs.declared.value.Value.{Value};
 ghost use Rattle.bpf_model.specs.declared.insn.Insn.TheVariants as insns;
 ghost use Rattle.bpf_model.specs.declared.insn.CallKind.TheVariants as kinds;
@@ -22,8 +23,8 @@ ghost use Rattle.plain_runs.specs.Placing.{IsPlace};
 use crate::run::{Loaded, Run};
 use arrayvec::ArrayVec;
 use bpf_model::{
-    Answer, Cell, Errno, Helper, KernelFunction, KeyBytes, MAX_DEPTH, MapShape, Reference, Reg,
-    Value, ValueBytes,
+    Answer, Cell, Errno, FRAME_BYTES, Helper, KernelFunction, KeyBytes, MAX_DEPTH, MapShape,
+    Reference, Reg, Value, ValueBytes,
 };
 use plain_interpreter::{PlainRun, number};
 use plain_store::{Fault, Section, Store, one_more};
@@ -42,7 +43,10 @@ fn ret_word(ret: Result<(), Errno>) -> u64
 /// After a call r0 is its result and r1 to r5 hold nothing.
 fn returns(run: &mut Run, value: Value) -> Result<Answer, Fault>
     requires { (state_of run.old.state).place < 2 ^ 40 }
-    ensures moves { (program : ModelLoaded) → Tells (λ a. (a ≡ answers.Moved) × (run_with program run.new ≡ moves (run_with program run.old) (returns_of value (state_of run.old.state)))) ⊥ result }
+    ensures moves { (program : ModelLoaded) →
+        Tells (λ a. (a ≡ answers.Moved)
+        × (run_with program run.new
+        ≡ moves (run_with program run.old) (returns_of value (state_of run.old.state)))) ⊥ result }
     ensures program { run.new.program ≡ run.old.program }
 {
     run.moved = one_more(run.moved)?;
@@ -52,7 +56,8 @@ fn returns(run: &mut Run, value: Value) -> Result<Answer, Fault>
 
 /// How many sections the run has opened after a lock: the outermost one opens a section.
 fn locks_after(run: &Run) -> Result<u64, Fault>
-    ensures { Tells (λ n. n ≡ (if run.now.depth == 0 then run.now.locks + 1 else run.now.locks)) ⊥ result }
+    ensures { Tells (λ n. n ≡ (if run.now.depth == 0 then run.now.locks + 1 else run.now.locks)) ⊥
+        result }
 {
     if run.depth == 0 {
         one_more(run.locks)
@@ -63,7 +68,9 @@ fn locks_after(run: &Run) -> Result<u64, Fault>
 
 fn read_lock(run: &mut Run) -> Result<Answer, Fault>
     requires { (state_of run.old.state).place < 2 ^ 40 }
-    ensures locks { (program : ModelLoaded) → KernelsAs (Some functions.ReadLock) (run_with program run.old) result (run_with program run.new) }
+    ensures locks { (program : ModelLoaded) →
+        KernelsAs (Some functions.ReadLock) (run_with program run.old) result
+        (run_with program run.new) }
     ensures program { run.new.program ≡ run.old.program }
 {
     if run.depth >= MAX_DEPTH {
@@ -77,7 +84,9 @@ fn read_lock(run: &mut Run) -> Result<Answer, Fault>
 /// An unlock leaves the innermost section that is open.
 fn read_unlock(run: &mut Run) -> Result<Answer, Fault>
     requires { (state_of run.old.state).place < 2 ^ 40 }
-    ensures unlocks { (program : ModelLoaded) → KernelsAs (Some functions.ReadUnlock) (run_with program run.old) result (run_with program run.new) }
+    ensures unlocks { (program : ModelLoaded) →
+        KernelsAs (Some functions.ReadUnlock) (run_with program run.old) result
+        (run_with program run.new) }
     ensures program { run.new.program ≡ run.old.program }
 {
     if run.depth == 0 {
@@ -90,7 +99,9 @@ fn read_unlock(run: &mut Run) -> Result<Answer, Fault>
 /// A lock or an unlock.
 pub(crate) fn call_kernel(run: &mut Run, imm: i32) -> Result<Answer, Fault>
     requires { (state_of run.old.state).place < 2 ^ 40 }
-    ensures steps { (program : ModelLoaded) → KernelsAs (kernel_function_of imm) (run_with program run.old) result (run_with program run.new) }
+    ensures steps { (program : ModelLoaded) →
+        KernelsAs (kernel_function_of imm) (run_with program run.old) result
+        (run_with program run.new) }
     ensures program { run.new.program ≡ run.old.program }
 {
     match KernelFunction::from_number(imm) {
@@ -115,7 +126,7 @@ fn map_argument(run: &Run, program: &Loaded) -> Option<usize>
 
 /// The byte in a cell of the frame. `None` when it isn't written as a byte.
 fn byte_in(run: &PlainRun, index: usize) -> Option<u8>
-    requires { index < 512 }
+    requires { index < FRAME_BYTES }
     ensures { result ≡ byte_of ((state_of run.now).frame index) }
 {
     match run.cell(index) {
@@ -124,10 +135,11 @@ fn byte_in(run: &PlainRun, index: usize) -> Option<u8>
     }
 }
 
-/// So many bytes of the frame from a place on.
+/// So many bytes of the frame from an index on.
 fn bytes_at<const N: usize>(run: &PlainRun, at: usize, len: usize) -> Result<ArrayVec<u8, N>, Fault>
-    requires { at + len ≤ 512 }
-    ensures { Tells (λ bytes. bytes_of (state_of run.now).frame at len ≡ Some bytes.items) (bytes_of (state_of run.now).frame at len ≡ None) result }
+    requires { at + len ≤ FRAME_BYTES }
+    ensures { Tells (λ bytes. bytes_of (state_of run.now).frame at len ≡ Some bytes.items)
+        (bytes_of (state_of run.now).frame at len ≡ None) result }
 {
     let mut bytes = ArrayVec::new();
     for k in 0..len {
@@ -148,12 +160,13 @@ fn frame_bytes<const N: usize>(
     len: usize,
     value: Value,
 ) -> Result<ArrayVec<u8, N>, Fault>
-    ensures { Tells (λ bytes. frame_bytes_of (state_of run.now).frame len value ≡ Some bytes.items) (frame_bytes_of (state_of run.now).frame len value ≡ None) result }
+    ensures { Tells (λ bytes. frame_bytes_of (state_of run.now).frame len value ≡ Some bytes.items)
+        (frame_bytes_of (state_of run.now).frame len value ≡ None) result }
 {
     let Value::Pointer(Reference::Frame(o)) = value else {
         return Err(Fault::Stuck);
     };
-    if o < 0 || o > 512 || len > 512 || o as usize + len > 512 {
+    if o < 0 || o > FRAME_BYTES as i64 || len > FRAME_BYTES || o as usize + len > FRAME_BYTES {
         return Err(Fault::Stuck);
     }
     bytes_at(run, o as usize, len)
@@ -168,7 +181,12 @@ struct Place {
 }
 
 fn place_argument(run: &Run, program: &Loaded, store: &Store) -> Result<Place, Fault>
-    ensures { Tells (IsPlace (store_of store.now) (run_with (loaded_of program.now) run.now)) ((map : ℕ) (key : List ℕ) → map_argument_of (run_with (loaded_of program.now) run.now) ≡ Some map → key_argument (store_of store.now) (run_with (loaded_of program.now) run.now) map ≡ Some key → ⊥) result }
+    ensures { Tells (IsPlace (store_of store.now) (run_with (loaded_of program.now) run.now))
+        ((map : ℕ) (key : List ℕ) →
+        map_argument_of (run_with (loaded_of program.now) run.now)
+        ≡ Some map →
+        key_argument (store_of store.now) (run_with (loaded_of program.now) run.now) map
+        ≡ Some key → ⊥) result }
 {
     let Some(map) = map_argument(run, program) else {
         return Err(Fault::Stuck);
@@ -181,7 +199,9 @@ fn place_argument(run: &Run, program: &Loaded, store: &Store) -> Result<Place, F
 }
 
 fn lookup(run: &Run, program: &Loaded, store: &Store) -> Result<Value, Fault>
-    ensures { Tells (LookupStep (store_of store.now) (run_with (loaded_of program.now) run.now)) ((ret : Value) → LookupStep (store_of store.now) (run_with (loaded_of program.now) run.now) ret → ⊥) result }
+    ensures { Tells (LookupStep (store_of store.now) (run_with (loaded_of program.now) run.now))
+        ((ret : Value) →
+        LookupStep (store_of store.now) (run_with (loaded_of program.now) run.now) ret → ⊥) result }
 {
     let place = place_argument(run, program, store)?;
     match store.lookup(place.map, place.key.as_slice()) {
@@ -197,7 +217,12 @@ fn update(
     store: &mut Store,
     opened: &[Section],
 ) -> Result<Value, Fault>
-    ensures tells { Tells (λ ret. UpdateStep (store_of store.old) (sections_of opened.now) (run_with (loaded_of program.now) run.now) ret (store_of store.new)) ((ret : Value) (t : ModelStore) → UpdateStep (store_of store.old) (sections_of opened.now) (run_with (loaded_of program.now) run.now) ret t → ⊥) result }
+    ensures tells { Tells (λ ret.
+        UpdateStep (store_of store.old) (sections_of opened.now)
+        (run_with (loaded_of program.now) run.now) ret (store_of store.new))
+        ((ret : Value) (t : ModelStore) →
+        UpdateStep (store_of store.old) (sections_of opened.now)
+        (run_with (loaded_of program.now) run.now) ret t → ⊥) result }
     ensures oldest { OnOk result (TakesOldest (store_of store.old) (store_of store.new)) }
 {
     let place = place_argument(run, program, store)?;
@@ -220,7 +245,12 @@ fn delete(
     store: &mut Store,
     opened: &[Section],
 ) -> Result<Value, Fault>
-    ensures tells { Tells (λ ret. DeleteStep (store_of store.old) (sections_of opened.now) (run_with (loaded_of program.now) run.now) ret (store_of store.new)) ((ret : Value) (t : ModelStore) → DeleteStep (store_of store.old) (sections_of opened.now) (run_with (loaded_of program.now) run.now) ret t → ⊥) result }
+    ensures tells { Tells (λ ret.
+        DeleteStep (store_of store.old) (sections_of opened.now)
+        (run_with (loaded_of program.now) run.now) ret (store_of store.new))
+        ((ret : Value) (t : ModelStore) →
+        DeleteStep (store_of store.old) (sections_of opened.now)
+        (run_with (loaded_of program.now) run.now) ret t → ⊥) result }
     ensures oldest { OnOk result (TakesOldest (store_of store.old) (store_of store.new)) }
 {
     let place = place_argument(run, program, store)?;
@@ -237,7 +267,12 @@ fn helper_value(
     opened: &[Section],
     imm: i32,
 ) -> Result<Value, Fault>
-    ensures tells { Tells (λ ret. HelperStep (helper_of imm) (store_of store.old) (sections_of opened.now) (run_with (loaded_of program.now) run.now) ret (store_of store.new)) ((ret : Value) (t : ModelStore) → HelperStep (helper_of imm) (store_of store.old) (sections_of opened.now) (run_with (loaded_of program.now) run.now) ret t → ⊥) result }
+    ensures tells { Tells (λ ret.
+        HelperStep (helper_of imm) (store_of store.old) (sections_of opened.now)
+        (run_with (loaded_of program.now) run.now) ret (store_of store.new))
+        ((ret : Value) (t : ModelStore) →
+        HelperStep (helper_of imm) (store_of store.old) (sections_of opened.now)
+        (run_with (loaded_of program.now) run.now) ret t → ⊥) result }
     ensures oldest { OnOk result (TakesOldest (store_of store.old) (store_of store.new)) }
 {
     match Helper::from_number(imm) {
@@ -257,7 +292,9 @@ pub(crate) fn call_helper(
     imm: i32,
 ) -> Result<Answer, Fault>
     requires { (state_of run.old.state).place < 2 ^ 40 }
-    ensures steps { InsnStepsAs (insns.Call kinds.Helper imm) (store_of store.old) (sections_of opened.now) (run_with (loaded_of program.now) run.old) result (store_of store.new) (run_with (loaded_of program.now) run.new) }
+    ensures steps { InsnStepsAs (insns.Call kinds.Helper imm) (store_of store.old)
+        (sections_of opened.now) (run_with (loaded_of program.now) run.old) result
+        (store_of store.new) (run_with (loaded_of program.now) run.new) }
     ensures program { run.new.program ≡ run.old.program }
     ensures oldest { OnOk result (TakesOldest (store_of store.old) (store_of store.new)) }
 {

@@ -38,7 +38,8 @@ pub struct Run {
 impl Run {
     /// A run that has made no step.
     pub fn new(name: u64, program: usize, context: CtxBytes) -> Run
-        ensures run { (loaded : ModelLoaded) → run_with loaded result ≡ fresh_run name loaded context.items }
+        ensures run { (loaded : ModelLoaded) → run_with loaded result
+            ≡ fresh_run name loaded context.items }
         ensures program { result.program ≡ program }
     {
         Run {

@@ -13,7 +13,8 @@ use std::alloc::{AllocError, Global};
 
 /// Whether the slot has a run that is inside a section.
 pub fn is_inside(slot: &Option<Run>) -> bool
-    ensures { (programs : List PlainLoaded) → result ≡ is_open (option_map (run_of programs) slot.now) }
+    ensures { (programs : List PlainLoaded) → result
+        ≡ is_open (option_map (run_of programs) slot.now) }
 {
     match slot {
         Some(run) => 0 < run.depth,
@@ -23,7 +24,8 @@ pub fn is_inside(slot: &Option<Run>) -> bool
 
 /// For each run slot whether its run is inside a section.
 pub fn open_flags(alloc: Global, runs: &[Option<Run>]) -> Result<Vec<bool>, AllocError>
-    ensures { (programs : List PlainLoaded) → IfOk result (λ flags. flags.items ≡ open_flags_of (runs_of programs runs.now)) }
+    ensures { (programs : List PlainLoaded) →
+        IfOk result (λ flags. flags.items ≡ open_flags_of (runs_of programs runs.now)) }
 {
     let mut flags = Vec::new(alloc);
     for r in 0..runs.len() {
@@ -34,7 +36,10 @@ pub fn open_flags(alloc: Global, runs: &[Option<Run>]) -> Result<Vec<bool>, Allo
 
 /// The section of the slot's run, where it is inside one.
 fn push_section(sections: &mut Vec<Section>, slot: &Option<Run>) -> Result<(), AllocError>
-    ensures { (programs : List PlainLoaded) → OnOk result (sections_of sections.new.items ≡ sections_of sections.old.items ++ open_sections_of (option_map (run_of programs) slot.now ∷ [])) }
+    ensures { (programs : List PlainLoaded) →
+        OnOk result
+        (sections_of sections.new.items ≡ sections_of sections.old.items
+        ++ open_sections_of (option_map (run_of programs) slot.now ∷ [])) }
 {
     if let Some(run) = slot {
         if 0 < run.depth {
@@ -49,7 +54,9 @@ fn push_section(sections: &mut Vec<Section>, slot: &Option<Run>) -> Result<(), A
 
 /// The sections that are open.
 pub fn open_sections(alloc: Global, runs: &[Option<Run>]) -> Result<Vec<Section>, AllocError>
-    ensures { (programs : List PlainLoaded) → IfOk result (λ sections. sections_of sections.items ≡ open_sections_of (runs_of programs runs.now)) }
+    ensures { (programs : List PlainLoaded) →
+        IfOk result
+        (λ sections. sections_of sections.items ≡ open_sections_of (runs_of programs runs.now)) }
 {
     let mut sections = Vec::new(alloc);
     for r in 0..runs.len() {

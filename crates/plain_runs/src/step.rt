@@ -23,7 +23,8 @@ fn step_alone(
     insn: &Insn,
 ) -> Result<Answer, Fault>
     requires { (state_of run.old.state).place < 2 ^ 40 }
-    ensures steps { AloneAs insn.now (store_of store.old) (run_with (loaded_of program.now) run.old) result (store_of store.new) (run_with (loaded_of program.now) run.new) }
+    ensures steps { AloneAs insn.now (store_of store.old) (run_with (loaded_of program.now) run.old)
+        result (store_of store.new) (run_with (loaded_of program.now) run.new) }
     ensures program { run.new.program ≡ run.old.program }
     ensures oldest { OnOk result (TakesOldest (store_of store.old) (store_of store.new)) }
 {
@@ -71,7 +72,9 @@ fn step_insn(
     insn: &Insn,
 ) -> Result<Answer, Fault>
     requires { (state_of run.old.state).place < 2 ^ 40 }
-    ensures steps { InsnStepsAs insn.now (store_of store.old) (sections_of opened.now) (run_with (loaded_of program.now) run.old) result (store_of store.new) (run_with (loaded_of program.now) run.new) }
+    ensures steps { InsnStepsAs insn.now (store_of store.old) (sections_of opened.now)
+        (run_with (loaded_of program.now) run.old) result (store_of store.new)
+        (run_with (loaded_of program.now) run.new) }
     ensures program { run.new.program ≡ run.old.program }
     ensures oldest { OnOk result (TakesOldest (store_of store.old) (store_of store.new)) }
 {
@@ -90,7 +93,9 @@ fn step_run(
     store: &mut Store,
     opened: &[Section],
 ) -> Result<Answer, Fault>
-    ensures steps { RunStepsAs (store_of store.old) (sections_of opened.now) (run_with (loaded_of program.now) run.old) result (store_of store.new) (run_with (loaded_of program.now) run.new) }
+    ensures steps { RunStepsAs (store_of store.old) (sections_of opened.now)
+        (run_with (loaded_of program.now) run.old) result (store_of store.new)
+        (run_with (loaded_of program.now) run.new) }
     ensures program { run.new.program ≡ run.old.program }
     ensures oldest { OnOk result (TakesOldest (store_of store.old) (store_of store.new)) }
 {
@@ -113,7 +118,9 @@ pub fn step_slot(
     opened: &[Section],
 ) -> Result<Answer, Fault>
     ensures oldest { OnOk result (TakesOldest (store_of store.old) (store_of store.new)) }
-    ensures steps { SlotStepsAs (store_of store.old) (sections_of opened.now) (option_map (run_of programs.now) slot.old) result (store_of store.new) (option_map (run_of programs.now) slot.new) }
+    ensures steps { SlotStepsAs (store_of store.old) (sections_of opened.now)
+        (option_map (run_of programs.now) slot.old) result (store_of store.new)
+        (option_map (run_of programs.now) slot.new) }
 {
     match slot {
         Some(run) => {

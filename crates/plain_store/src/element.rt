@@ -133,7 +133,8 @@ fn is_among(section: &Section, sections: &[Section]) -> bool
 
 /// Stores the low bytes of a number in an element that isn't reclaimed, where they lie in its value.
 pub(crate) fn save(element: &mut Element, width: Width, o: i64, offset: i16, number: u64) -> bool
-    ensures { SavesTo (element_of element.old) (byte_count width) (o +ℤ offset) number result (element_of element.new) }
+    ensures { SavesTo (element_of element.old) (byte_count width) (o +ℤ offset) number result
+        (element_of element.new) }
 {
     if element.life.is_reclaimed() {
         return false;

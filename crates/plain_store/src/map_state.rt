@@ -58,7 +58,8 @@ impl MapState {
 
     /// A slot that was used so often comes back: to the end of the free ones, or it is worn out.
     pub fn give_back(&mut self, uses: u64) -> Result<Given, Fault>
-        ensures { Tells (λ given. (given ≡ given_of uses (map_of self.old)) × (map_of self.new ≡ returned uses (map_of self.old))) ⊥ result }
+        ensures { Tells (λ given. (given ≡ given_of uses (map_of self.old))
+            × (map_of self.new ≡ returned uses (map_of self.old))) ⊥ result }
     {
         let Ok(count) = u32::try_from(uses) else {
             return Err(Fault::OutOfRange);

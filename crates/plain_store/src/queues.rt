@@ -23,7 +23,11 @@ pub fn retire_all(
     before: &[Option<usize>],
     elements: &[Element],
 ) -> Result<(), AllocError>
-    ensures { (olds : List ModelElement) → before.now ≡ map linked_map olds → OnOk result (map queues_of queues.new ≡ retired 0 olds (elements_of elements.now) (map queues_of queues.old)) }
+    ensures { (olds : List ModelElement) → before.now
+        ≡ map linked_map olds →
+        OnOk result
+        (map queues_of queues.new
+        ≡ retired 0 olds (elements_of elements.now) (map queues_of queues.old)) }
 {
     for k in 0..queues.len() {
         retire(&mut queues[k], k, before, elements)?;
@@ -65,7 +69,13 @@ pub fn first_ready(queues: &[Queues]) -> Option<usize>
 
 /// The first ready birth of a map is ready no more.
 fn drop_first(queues: &mut Queues)
-    ensures { queues_of queues.new ≡ record { next = (queues_of queues.old).next; waiting = (queues_of queues.old).waiting; ready = drop 1 (queues_of queues.old).ready } }
+    ensures { queues_of queues.new
+        ≡ record {
+          next = (queues_of queues.old).next;
+          waiting = (queues_of queues.old).waiting;
+          ready
+              = drop 1 (queues_of queues.old).ready;
+        } }
 {
     if !queues.ready.is_empty() {
         let _ = queues.ready.remove(0);
@@ -86,7 +96,9 @@ pub fn take_first(queues: &mut [Queues])
 
 /// Whether an element that was linked in this map, or in none, is one of map k and is unlinked now.
 fn is_retired(before: Option<usize>, k: usize, element: &Element) -> bool
-    ensures { (old : ModelElement) → before ≡ linked_map old → result ≡ (is_linked_of old.life && is_unlinked_of (element_of element.now).life && (old.map == k)) }
+    ensures { (old : ModelElement) → before ≡ linked_map old → result
+        ≡ (is_linked_of old.life && is_unlinked_of (element_of element.now).life
+        && (old.map == k)) }
 {
     match before {
         Some(map) => element.life.is_unlinked() && map == k,
@@ -111,7 +123,11 @@ fn retire(
     before: &[Option<usize>],
     elements: &[Element],
 ) -> Result<(), AllocError>
-    ensures { (olds : List ModelElement) → before.now ≡ map linked_map olds → OnOk result (queues_of queues.new ≡ retire_in olds (elements_of elements.now) k (queues_of queues.old)) }
+    ensures { (olds : List ModelElement) → before.now
+        ≡ map linked_map olds →
+        OnOk result
+        (queues_of queues.new
+        ≡ retire_in olds (elements_of elements.now) k (queues_of queues.old)) }
 {
     for n in 0..before.len().min(elements.len()) {
         push_if(&mut queues.next, is_retired(before[n], k, &elements[n]), n)?;

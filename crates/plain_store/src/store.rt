@@ -32,7 +32,8 @@ pub struct Store {
 impl Store {
     /// No element, and maps of these shapes.
     pub fn new(alloc: Global, shapes: &[MapShape]) -> Result<Store, AllocError>
-        ensures { IfOk result (λ s. store_of s ≡ record { elements = []; maps = map new_map shapes.now }) }
+        ensures { IfOk result
+            (λ s. store_of s ≡ record { elements = []; maps = map new_map shapes.now }) }
     {
         let mut maps = Vec::new(alloc);
         for shape in shapes {
@@ -76,7 +77,8 @@ impl Store {
 
     /// Element n is unlinked, and keeps the sections that are open.
     pub fn unlink(&mut self, n: usize, opened: Vec<Section>)
-        ensures elements { elements_of self.new.elements.items ≡ unlinked (sections_of opened.items) (elements_of self.old.elements.items) (Some n) }
+        ensures elements { elements_of self.new.elements.items
+            ≡ unlinked (sections_of opened.items) (elements_of self.old.elements.items) (Some n) }
         ensures maps { self.new.maps ≡ self.old.maps }
     {
         if n < self.elements.len() {
@@ -95,7 +97,10 @@ impl Store {
         value: ValueBytes,
         flags: u64,
     ) -> Result<Result<(), Errno>, AllocError>
-        ensures updates { IfOk result (λ ret. map < length self.old.maps.items → Updates (store_of self.old) (sections_of opened.now) map key.items value.items flags ret (store_of self.new)) }
+        ensures updates { IfOk result
+            (λ ret. map < length self.old.maps.items →
+            Updates (store_of self.old) (sections_of opened.now) map key.items value.items flags ret
+            (store_of self.new)) }
         ensures oldest { OnOk result (TakesOldest (store_of self.old) (store_of self.new)) }
         ensures err { OnErr result (store_of self.new ≡ store_of self.old) }
     {
@@ -124,8 +129,13 @@ impl Store {
     ) -> Result<(), AllocError>
         requires there { map < length self.old.maps.items }
         requires found { LooksUp (store_of self.old) map key.items found }
-        ensures replaces { OnOk result (HasFree (store_of self.old) map → ReplacesIn (store_of self.old) (sections_of opened.now) map key.items value.items found (store_of self.new)) }
-        ensures oldest { OnOk result (HasFree (store_of self.old) map → TakesOldest (store_of self.old) (store_of self.new)) }
+        ensures replaces { OnOk result
+            (HasFree (store_of self.old) map →
+            ReplacesIn (store_of self.old) (sections_of opened.now) map key.items value.items found
+            (store_of self.new)) }
+        ensures oldest { OnOk result
+            (HasFree (store_of self.old) map →
+            TakesOldest (store_of self.old) (store_of self.new)) }
         ensures err { OnErr result (store_of self.new ≡ store_of self.old) }
     {
         let since = Vec::from_slice(alloc, opened)?;
@@ -175,7 +185,9 @@ impl Store {
         map: usize,
         key: &[u8],
     ) -> Result<Result<(), Errno>, AllocError>
-        ensures deletes { IfOk result (λ ret. Deletes (store_of self.old) (sections_of opened.now) map key.now ret (store_of self.new)) }
+        ensures deletes { IfOk result
+            (λ ret. Deletes (store_of self.old) (sections_of opened.now) map key.now ret
+            (store_of self.new)) }
         ensures oldest { OnOk result (TakesOldest (store_of self.old) (store_of self.new)) }
         ensures err { OnErr result (store_of self.new ≡ store_of self.old) }
     {
@@ -189,7 +201,10 @@ impl Store {
 
     /// The value of the element that the map has under the key.
     pub fn read(&self, map: usize, key: &[u8]) -> Result<Option<ValueBytes>, AllocError>
-        ensures { IfOk result (λ found. Finds (elements_of self.now.elements.items) map key.now (option_map (λ v. v.items) found)) }
+        ensures { IfOk result
+            (λ found.
+            Finds (elements_of self.now.elements.items) map key.now
+            (option_map (λ v. v.items) found)) }
     {
         match self.lookup(map, key) {
             Some(n) => Ok(Some(self.elements[n].value.clone()?)),
@@ -199,7 +214,8 @@ impl Store {
 
     /// Reclaims element n, whose slot comes back. `Early` where it isn't unlinked, or a section of its set is open.
     pub fn reclaim(&mut self, n: usize, opened: &[Section]) -> Result<ReapedElement, Fault>
-        ensures tells { Tells (ReclaimsTo (store_of self.old) (sections_of opened.now) n (store_of self.new)) ⊥ result }
+        ensures tells { Tells (ReclaimsTo (store_of self.old) (sections_of opened.now) n
+            (store_of self.new)) ⊥ result }
         ensures births { length self.new.elements.items ≡ length self.old.elements.items }
     {
         if n >= self.elements.len() {
@@ -224,7 +240,8 @@ impl Store {
     /// The number that a load from element n finds, o bytes and an offset from the start of its value. `None`:
     /// the load is stuck.
     pub fn load(&self, n: usize, width: Width, o: i64, offset: i16) -> Option<u64>
-        ensures { result ≡ element_load (elements_of self.now.elements.items) (byte_count width) offset (Pointer (Elem n o)) }
+        ensures { result ≡ element_load (elements_of self.now.elements.items) (byte_count width)
+            offset (Pointer (Elem n o)) }
     {
         if n >= self.elements.len() {
             return None;
@@ -241,7 +258,9 @@ impl Store {
 
     /// Stores the low bytes of a number in element n. Whether it could: else the store is stuck.
     pub fn store(&mut self, n: usize, width: Width, o: i64, offset: i16, number: u64) -> bool
-        ensures elements { StoresTo (element_store (elements_of self.old.elements.items) (byte_count width) offset (Number number) (Pointer (Elem n o))) result (elements_of self.new.elements.items) }
+        ensures elements { StoresTo
+            (element_store (elements_of self.old.elements.items) (byte_count width) offset
+            (Number number) (Pointer (Elem n o))) result (elements_of self.new.elements.items) }
         ensures maps { self.new.maps ≡ self.old.maps }
         ensures births { length self.new.elements.items ≡ length self.old.elements.items }
     {
@@ -253,7 +272,8 @@ impl Store {
 
     /// For each element the map that it is linked in.
     pub fn linked_maps(&self, alloc: Global) -> Result<Vec<Option<usize>>, AllocError>
-        ensures { IfOk result (λ maps. maps.items ≡ map linked_map (elements_of self.now.elements.items)) }
+        ensures { IfOk result
+            (λ maps. maps.items ≡ map linked_map (elements_of self.now.elements.items)) }
     {
         let mut maps = Vec::new(alloc);
         for n in 0..self.elements.len() {

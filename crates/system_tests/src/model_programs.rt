@@ -71,16 +71,16 @@ pub fn store_k(width: Width, dst: u8, offset: i16, imm: i32) -> Insn {
         width,
         dst: reg(dst),
         offset,
-        imm,
+        src: Operand::Immediate(imm),
     }
 }
 
 pub fn store(width: Width, dst: u8, src: u8, offset: i16) -> Insn {
-    Insn::StoreRegister {
+    Insn::Store {
         width,
         dst: reg(dst),
-        src: reg(src),
         offset,
+        src: Operand::Register(reg(src)),
     }
 }
 

@@ -149,7 +149,7 @@ fn tell(text: &mut String, answer: &Result<Answer, Fault>) -> Result<(), AllocEr
                 first(element.key.as_slice())
             )
         }
-        Ok(Answer::Refused(refusal)) => write!(text, "refused {}", refusal.number()),
+        Ok(Answer::Refused(refusal)) => write!(text, "refused {}", refusal.code()),
     }
 }
 
@@ -738,11 +738,11 @@ const SUM_STORED: [Insn; 4] = [
         dst: Reg::R0,
         src: Operand::Immediate(35),
     },
-    Insn::StoreRegister {
+    Insn::Store {
         width: Width::One,
         dst: Reg::R10,
-        src: Reg::R0,
         offset: -1,
+        src: Operand::Register(Reg::R0),
     },
     Insn::Exit,
 ];
