@@ -13,6 +13,10 @@ mod kinds;
 #[cfg(test)]
 mod long;
 #[cfg(test)]
+mod model_programs;
+#[cfg(test)]
+mod models;
+#[cfg(test)]
 mod orders;
 #[cfg(test)]
 mod rows;
