@@ -5,6 +5,7 @@ pub mod Consistent
 pub mod Drain
 pub mod Element
 pub mod Event
+pub mod Exit
 pub mod Frame
 pub mod Graph
 pub mod Headline
@@ -12,6 +13,7 @@ pub mod Helper
 pub mod Machine
 pub mod MachineStep
 pub mod MapState
+pub mod Near
 pub mod Opcode
 pub mod Operand
 pub mod Places

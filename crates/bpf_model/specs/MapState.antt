@@ -1,5 +1,5 @@
 -- The state of the maps (Linux BPF documentation, "BPF_MAP_TYPE_HASH"; slots and their reuse are this runtime's own).
-use Rattle.std.specs.Prelude.{◌≡◌, ℕ, ◌+◌, ◌≤◌, ◌==◌, List, [], ◌∷◌, ◌++◌, Option, Some, None, slice_get, replicate, if◌then◌else◌}
+use Rattle.std.specs.Prelude.{◌≡◌, ℕ, ◌+◌, ◌*◌, ◌≤◌, ◌==◌, List, [], ◌∷◌, ◌++◌, Option, Some, None, slice_get, replicate, if◌then◌else◌}
 use Rattle.bpf_model.specs.declared.limits.MapShape.{MapShape}
 use Rattle.bpf_model.specs.declared.limits.TheConstants.{KEY_BYTES, VALUE_BYTES, MAX_ENTRIES, MAX_SPARE, MAX_REUSE}
 use Rattle.bpf_model.specs.declared.event.Given.{Given}
@@ -13,6 +13,16 @@ pub record IsShape (shape : MapShape) : Type 0 where
   pub entries : (1 ≤ shape.entries) × (shape.entries ≤ MAX_ENTRIES)
   pub spare : shape.spare ≤ MAX_SPARE
   pub reuse : (1 ≤ shape.reuse_limit) × (shape.reuse_limit ≤ MAX_REUSE)
+
+abbrev pub AreShapes : List MapShape → Type 0
+AreShapes shapes = (k : ℕ) (shape : MapShape) → slice_get shapes k ≡ Some shape → IsShape shape
+
+-- How many slots a map has, and how many elements are born in them at most: each slot is used so often.
+abbrev pub slots_of_shape : MapShape → ℕ
+slots_of_shape shape = shape.entries + shape.spare
+
+abbrev pub most_births : MapShape → ℕ
+most_births shape = slots_of_shape shape * shape.reuse_limit
 
 -- A map: its shape, for each free slot how often it was used (a bag: its order says nothing here), and how many slots are worn out. What it
 -- has under a key stands in the elements.
@@ -28,7 +38,7 @@ pub record Store : Type 0 where
 
 -- a new map: no slot was ever used
 abbrev pub new_map : MapShape → MapState
-new_map shape = record { shape = shape; bag = replicate (shape.entries + shape.spare) 0; worn = 0 }
+new_map shape = record { shape = shape; bag = replicate (slots_of_shape shape) 0; worn = 0 }
 
 abbrev pub with_bag : List ℕ → MapState → MapState
 with_bag bag m = record { shape = m.shape; bag = bag; worn = m.worn }

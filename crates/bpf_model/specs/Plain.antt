@@ -1,13 +1,15 @@
 -- Plain programs, which the verifier owes acceptance: forward jumps, every instruction reached, and on every path each register and each
 -- byte of the frame written as a number before it is read.
 use Rattle.std.specs.Prelude.{◌≡◌, ℕ, ◌+◌, ◌<◌, ◌≤◌, List, [], ◌∷◌, ◌++◌, Some, ℤ, pos, ◌+ℤ◌, ◌⊎◌}
+use Rattle.bpf_model.specs.declared.limits.TheConstants.{FRAME_BYTES}
 use Rattle.bpf_model.specs.declared.insn.Insn.{Insn}
-use Rattle.bpf_model.specs.declared.insn.Insn.TheVariants.{Alu, MoveSigned, Negate, ByteSwap, LoadNumber, LoadMap, JumpIf, Call, Exit, Load, LoadSigned, Store, StoreRegister}
+use Rattle.bpf_model.specs.declared.insn.Insn.TheVariants.{Alu, Unary, LoadNumber, LoadMap, JumpIf, Call, Exit, Load, LoadSigned, Store}
 use Rattle.bpf_model.specs.declared.insn.AluOp.TheVariants.{Move}
 use Rattle.bpf_model.specs.declared.insn.Operand.{Operand}
 use Rattle.bpf_model.specs.declared.insn.Operand.TheVariants.{Register, Immediate}
 use Rattle.bpf_model.specs.declared.opcode.Width.{Width}
 use Rattle.bpf_model.specs.Access.{byte_count, unsigned_width, place_of}
+use Rattle.bpf_model.specs.Operand.{unary_source}
 use Rattle.bpf_model.specs.Graph.{distance, JumpsTo, GoesTo, Reached}
 use Rattle.bpf_model.specs.Step.{insn_at}
 
@@ -20,20 +22,16 @@ Names (Immediate imm) r = ⊥
 abbrev pub Reads : Insn → ℕ → Type 0
 Reads (Alu Move size dst src) r = Names src r
 Reads (Alu op size dst src) r = (r ≡ dst) ⊎ Names src r
-Reads (MoveSigned extension dst src) r = r ≡ src
-Reads (Negate size dst) r = r ≡ dst
-Reads (ByteSwap order width dst) r = r ≡ dst
+Reads (Unary op dst) r = r ≡ unary_source op dst
 Reads (JumpIf condition size dst src offset) r = (r ≡ dst) ⊎ Names src r
 Reads Exit r = r ≡ 0
-Reads (StoreRegister width dst src offset) r = r ≡ src
+Reads (Store width dst offset src) r = Names src r
 Reads _ r = ⊥
 
 -- The instruction writes the register.
 abbrev pub Writes : Insn → ℕ → Type 0
 Writes (Alu op size dst src) r = r ≡ dst
-Writes (MoveSigned extension dst src) r = r ≡ dst
-Writes (Negate size dst) r = r ≡ dst
-Writes (ByteSwap order width dst) r = r ≡ dst
+Writes (Unary op dst) r = r ≡ dst
 Writes (LoadNumber dst n) r = r ≡ dst
 Writes (Load width dst src offset) r = r ≡ dst
 Writes (LoadSigned width dst src offset) r = r ≡ dst
@@ -41,7 +39,7 @@ Writes _ r = ⊥
 
 -- An access with base r10 takes byte k of the frame: an aligned access, all of its bytes inside.
 abbrev pub Takes : Width → ℤ → ℕ → Type 0
-Takes width offset k = (at : ℕ) × (place_of 512 (byte_count width) (pos 512 +ℤ offset) ≡ Some at) × (at ≤ k) × (k < at + byte_count width)
+Takes width offset k = (at : ℕ) × (place_of FRAME_BYTES (byte_count width) (pos FRAME_BYTES +ℤ offset) ≡ Some at) × (at ≤ k) × (k < at + byte_count width)
 
 abbrev pub ReadsByte : Insn → ℕ → Type 0
 ReadsByte (Load width dst src offset) k = Takes width offset k
@@ -49,20 +47,18 @@ ReadsByte (LoadSigned width dst src offset) k = Takes (unsigned_width width) off
 ReadsByte _ k = ⊥
 
 abbrev pub WritesByte : Insn → ℕ → Type 0
-WritesByte (Store width dst offset imm) k = Takes width offset k
-WritesByte (StoreRegister width dst src offset) k = Takes width offset k
+WritesByte (Store width dst offset src) k = Takes width offset k
 WritesByte _ k = ⊥
 
 -- an aligned access to the frame with base r10, all bytes inside
 abbrev pub IsFrameAccess : Width → ℕ → ℤ → Type 0
-IsFrameAccess width base offset = (base ≡ 10) × (at : ℕ) × (place_of 512 (byte_count width) (pos 512 +ℤ offset) ≡ Some at)
+IsFrameAccess width base offset = (base ≡ 10) × (at : ℕ) × (place_of FRAME_BYTES (byte_count width) (pos FRAME_BYTES +ℤ offset) ≡ Some at)
 
 -- The instruction has no call and no map, and its only memory accesses are those to the frame.
 abbrev pub IsSimple : Insn → Type 0
 IsSimple (Load width dst src offset) = IsFrameAccess width src offset
 IsSimple (LoadSigned width dst src offset) = IsFrameAccess (unsigned_width width) src offset
-IsSimple (Store width dst offset imm) = IsFrameAccess width dst offset
-IsSimple (StoreRegister width dst src offset) = IsFrameAccess width dst offset
+IsSimple (Store width dst offset src) = IsFrameAccess width dst offset
 IsSimple (LoadMap dst map) = ⊥
 IsSimple (Call kind imm) = ⊥
 IsSimple _ = Unit {0}

@@ -1,5 +1,6 @@
 -- Plain programs with sections and guarded lookups, which the verifier owes acceptance too. Paths are those of the jump graph.
 use Rattle.std.specs.Prelude.{◌≡◌, ℕ, ◌+◌, ◌<◌, ◌≤◌, Bool, true, false, List, [], ◌∷◌, ◌++◌, Some, slice_get, ℤ, pos, ◌+ℤ◌, ◌⊎◌}
+use Rattle.bpf_model.specs.declared.limits.TheConstants.{FRAME_BYTES}
 use Rattle.bpf_model.specs.declared.limits.MapShape.{MapShape}
 use Rattle.bpf_model.specs.declared.insn.Insn.{Insn}
 use Rattle.bpf_model.specs.declared.insn.Insn.TheVariants.{Alu, LoadMap, JumpIf, Call, Exit, Load, LoadSigned}
@@ -44,7 +45,7 @@ pub record IsGuardedLookup (program : List Insn) (shapes : List MapShape) (start
   pub guard : insn_at program (start + 5) ≡ Some (JumpIf Equal Word64 0 (Immediate (pos 0)) (pos 1))
   pub value : insn_at program (start + 6) ≡ Some load
   pub in_list : slice_get shapes map ≡ Some shape
-  pub in_frame : (pos 512 +ℤ offset ≡ pos at) × (at < 512) × (at + shape.key_len ≤ 512)
+  pub in_frame : (pos FRAME_BYTES +ℤ offset ≡ pos at) × (at < FRAME_BYTES) × (at + shape.key_len ≤ FRAME_BYTES)
   pub in_value : IsValueLoad shape load
   pub entered : (place target : ℕ) (i : Insn) → insn_at program place ≡ Some i → JumpsTo i place target → start < target → target ≤ start + 6 → ⊥
 

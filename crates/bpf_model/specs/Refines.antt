@@ -1,16 +1,18 @@
 -- When a world refines a state of the machine: one naming of births by slots turns what the world keeps into that state.
-use Rattle.std.specs.Prelude.{◌≡◌, ℕ, ◌+◌, ◌<◌, ◌≤◌, ◌==◌, ◌&&◌, true, false, List, Option, Some, None, slice_get, slice_index, map, count_by, length, if◌then◌else◌}
-use Rattle.std.specs.FinMap.{get}
+use Rattle.std.specs.Prelude.{◌≡◌, ℕ, ◌<◌, ◌≤◌, ◌==◌, false, List, Option, Some, None, slice_get, slice_index, map, count_by, length}
+use Rattle.std.specs.List.{sum_by}
+use Rattle.std.specs.FinMap.{get, len}
 use Rattle.bpf_model.specs.declared.limits.MapShape.{MapShape}
+use Rattle.bpf_model.specs.declared.limits.TheConstants.{FRAME_BYTES, MAX_MAPS, MAX_PROGRAMS}
 use Rattle.bpf_model.specs.declared.event.Event.{Event}
 use Rattle.bpf_model.specs.declared.event.Answer.{Answer}
-use Rattle.bpf_model.specs.Section.{Section, Has, AllEnded}
-use Rattle.bpf_model.specs.Element.{Element, Unlinked, IsLinkedAt, is_unlinked, is_reclaimed}
-use Rattle.bpf_model.specs.MapState.{MapState, IsShape}
-use Rattle.bpf_model.specs.Machine.{Loaded, Run, Machine, open_sections, run_at}
+use Rattle.bpf_model.specs.Element.{Element, IsLinkedAt, linked_count, is_reclaimed}
+use Rattle.bpf_model.specs.MapState.{MapState, AreShapes, slots_of_shape, most_births}
+use Rattle.bpf_model.specs.Machine.{Loaded, Run, Machine}
+use Rattle.bpf_model.specs.Event.{AreReal}
 use Rattle.bpf_model.specs.Schedule.{Queues, Schedule, open_flags, IsScheduledHistory, last_scheduled, start_schedule}
-use Rattle.bpf_model.specs.View.{SlotView, MapView, RunView, WorldView}
-use Rattle.bpf_model.specs.Word.{WordIs, ByteIs}
+use Rattle.bpf_model.specs.View.{SlotView, MapView, RunView, WorldView, state_of, shapes_of}
+use Rattle.bpf_model.specs.Word.{WordIs, ByteIs, element_bases}
 
 -- how often a number stands in a list
 abbrev pub times : ℕ → List ℕ → ℕ
@@ -19,58 +21,49 @@ times n xs = count_by (λ x. x == n) xs
 abbrev pub slot_view : Element → SlotView
 slot_view e = record { key = e.key; value = e.value; uses = e.uses }
 
-abbrev pub uses_in : Option SlotView → ℕ
-uses_in None = 0
-uses_in (Some s) = s.uses
-
-abbrev pub uses_at : List SlotView → ℕ → ℕ
-uses_at slots i = uses_in (slice_get slots i)
-
 -- An element of map k that isn't reclaimed.
 pub record IsKept (es : List Element) (k n : ℕ) (e : Element) : Type 0 where
   pub born : slice_get es n ≡ Some e
   pub in_map : e.map ≡ k
   pub kept : is_reclaimed e.life ≡ false
 
--- how often birth n stands in the lists of map k: once, when it is an unlinked element of that map
-abbrev pub queued_in : ℕ → Option Element → ℕ
-queued_in k None = 0
-queued_in k (Some e) = if is_unlinked e.life && (e.map == k) then 1 else 0
+-- The slots of a map: as many as its shape says; each free one is one of them and stands once among the free.
+pub record SlotsStand (v : MapView) : Type 0 where
+  pub room : length v.slots ≡ slots_of_shape v.shape
+  pub once : (i : ℕ) → times i v.free ≤ 1
+  pub inside : (i : ℕ) → 0 < times i v.free → i < length v.slots
 
--- Map k. Its kept elements stand each in a slot of their own, none of them free; its index has the linked ones; its lists have the unlinked
--- ones.
-pub record MapRefines (slots : List ℕ) (k : ℕ) (es : List Element) (q : Queues) (w : MapView) (m : MapState) : Type 0 where
-  pub shape : w.shape ≡ m.shape
-  pub room : length w.slots ≡ m.shape.entries + m.shape.spare
-  pub worn : w.worn ≡ m.worn
-  pub bag : m.bag ≡ map (uses_at w.slots) w.free
-  pub occupied : (n : ℕ) (e : Element) → IsKept es k n e → slice_get w.slots (slice_index slots n) ≡ Some (slot_view e)
+-- The kept elements of map k stand each in a slot of its own, none of them free. The index has the linked ones, and no others.
+pub record ElementsStand (slots : List ℕ) (k : ℕ) (es : List Element) (v : MapView) : Type 0 where
+  pub occupied : (n : ℕ) (e : Element) → IsKept es k n e → slice_get v.slots (slice_index slots n) ≡ Some (slot_view e)
   pub single : (a b : ℕ) (d e : Element) → IsKept es k a d → IsKept es k b e → slice_index slots a ≡ slice_index slots b → a ≡ b
-  pub apart : (n : ℕ) (e : Element) → IsKept es k n e → times (slice_index slots n) w.free ≡ 0
-  pub once : (i : ℕ) → times i w.free ≤ 1
-  pub inside : (i : ℕ) → 0 < times i w.free → i < length w.slots
-  pub found : (key : List ℕ) (i : ℕ) → get w.index key ≡ Some i → (n : ℕ) × IsLinkedAt es k key n × (slice_index slots n ≡ i)
-  pub finds : (key : List ℕ) (n : ℕ) → IsLinkedAt es k key n → get w.index key ≡ Some (slice_index slots n)
-  pub next : w.next ≡ map (slice_index slots) q.next
-  pub waiting : w.waiting ≡ map (slice_index slots) q.waiting
-  pub ready : w.ready ≡ map (slice_index slots) q.ready
-  pub queued : (n : ℕ) → times n q.next + times n q.waiting + times n q.ready ≡ queued_in k (slice_get es n)
+  pub apart : (n : ℕ) (e : Element) → IsKept es k n e → times (slice_index slots n) v.free ≡ 0
+  pub found : (key : List ℕ) (i : ℕ) → get v.index key ≡ Some i → (n : ℕ) × IsLinkedAt es k key n × (slice_index slots n ≡ i)
+  pub finds : (key : List ℕ) (n : ℕ) → IsLinkedAt es k key n → get v.index key ≡ Some (slice_index slots n)
+  pub counted : len v.index ≡ linked_count k es
 
--- Of the sections that unlinked elements keep, a world keeps only this: no section of a ready element is open, and each open section of a
--- waiting one is awaited.
-pub record Waits (s : Schedule) (q : Queues) : Type 0 where
-  pub ended : (n : ℕ) (e : Element) (since : List Section) → 0 < times n q.ready → slice_get s.machine.store.elements n ≡ Some e → e.life ≡ Unlinked since → AllEnded since (open_sections s.machine.runs)
-  pub awaits : (n : ℕ) (e : Element) (since : List Section) (r : ℕ) (run : Run) → 0 < times n q.waiting → slice_get s.machine.store.elements n ≡ Some e → e.life ≡ Unlinked since →
-      run_at s.machine.runs r ≡ Some run → 0 < run.depth → Has since (record { run = run.name; lock = run.locks }) → slice_get s.awaited r ≡ Some true
+-- the lists of a view, and those of the births, each birth by its slot
+abbrev pub lists_of : MapView → Queues
+lists_of v = record { next = v.next; waiting = v.waiting; ready = v.ready }
+
+abbrev pub named : List ℕ → Queues → Queues
+named slots q = record { next = map (slice_index slots) q.next; waiting = map (slice_index slots) q.waiting; ready = map (slice_index slots) q.ready }
+
+-- Map k: its state and its lists are what the view shows, and its slots and elements stand in it.
+pub record MapRefines (slots : List ℕ) (k : ℕ) (es : List Element) (q : Queues) (v : MapView) (m : MapState) : Type 0 where
+  pub state : m ≡ state_of v
+  pub lists : lists_of v ≡ named slots q
+  pub free : SlotsStand v
+  pub elements : ElementsStand slots k es v
 
 -- A run: its words and bytes stand for its registers and its frame.
 pub record RunRefines (slots : List ℕ) (es : List Element) (programs : List Loaded) (w : RunView) (run : Run) : Type 0 where
   pub program : slice_get programs w.program ≡ Some run.program
   pub context : w.context ≡ run.context
   pub eleven : length w.registers ≡ 11
-  pub registers : (r : ℕ) → r < 11 → WordIs slots es (run.state.regs r) (slice_index w.registers r)
-  pub cells : length w.frame ≡ 512
-  pub frame : (k : ℕ) → k < 512 → ByteIs slots es (run.state.frame k) (slice_index w.frame k)
+  pub registers : (r : ℕ) → r < 11 → WordIs (element_bases slots es) (run.state.regs r) (slice_index w.registers r)
+  pub cells : length w.frame ≡ FRAME_BYTES
+  pub frame : (k : ℕ) → k < FRAME_BYTES → ByteIs (element_bases slots es) (run.state.frame k) (slice_index w.frame k)
   pub place : w.place ≡ run.state.place
   pub depth : w.depth ≡ run.depth
   pub moved : w.moved ≡ run.moved
@@ -88,30 +81,36 @@ pub record RefinesSchedule (w : WorldView) (s : Schedule) : Type 0 where
   pub named : length slots ≡ length s.machine.store.elements
   pub maps : (length w.maps ≡ length s.machine.store.maps) × (length s.queues ≡ length s.machine.store.maps)
   pub map : (k : ℕ) (v : MapView) (m : MapState) (q : Queues) → slice_get w.maps k ≡ Some v → slice_get s.machine.store.maps k ≡ Some m → slice_get s.queues k ≡ Some q →
-      MapRefines slots k s.machine.store.elements q v m × Waits s q
+      MapRefines slots k s.machine.store.elements q v m
   pub runs : (r : ℕ) → SlotRefines slots s.machine.store.elements s.machine.programs (slice_get w.runs r) (slice_get s.machine.runs r)
   pub opened : w.opened ≡ open_flags s.machine.runs
   pub awaited : w.awaited ≡ s.awaited
+  pub flags : length s.awaited ≡ length (open_flags s.machine.runs)
   pub programs : w.programs ≡ s.machine.programs
   pub given : w.given ≡ count_by (λ e. is_reclaimed e.life) s.machine.store.elements
 
--- Some run of the machine with this runtime's choices, from the start, ends in the state.
+-- Some run of the machine with this runtime's choices, from the start and with events within their types, ends in the state.
 pub record IsReached (shapes : List MapShape) (programs : List Loaded) (s : Schedule) : Type 0 where
   pub events : List Event
   pub answers : List Answer
   pub states : List Schedule
+  pub real : AreReal events
   pub history : IsScheduledHistory (start_schedule shapes programs) events answers states
   pub last : last_scheduled (start_schedule shapes programs) states ≡ s
-
-abbrev pub shapes_of : WorldView → List MapShape
-shapes_of w = map (λ v. v.shape) w.maps
 
 -- The world tracks a state that it refines and that is reached from the start with its maps and programs. (Words alone don't tell a number
 -- from a reference, nor either from nothing: a world also refines states that no run reaches.)
 pub record TracksSchedule (w : WorldView) (s : Schedule) : Type 0 where
   pub refines : RefinesSchedule w s
-  pub limits : (k : ℕ) (shape : MapShape) → slice_get (shapes_of w) k ≡ Some shape → IsShape shape
+  pub limits : AreShapes (shapes_of w)
   pub reached : IsReached (shapes_of w) w.programs s
 
 abbrev pub Tracks : WorldView → Machine → Type 0
 Tracks w m = (s : Schedule) × (s.machine ≡ m) × TracksSchedule w s
+
+-- Further limits of a world: so many maps and programs at most, and no more reclaimed elements than the maps' slots can ever bear. So every
+-- number that a world counts has room.
+pub record IsBounded (w : WorldView) : Type 0 where
+  pub maps : length w.maps ≤ MAX_MAPS
+  pub programs : length w.programs ≤ MAX_PROGRAMS
+  pub given : w.given ≤ sum_by most_births (shapes_of w)

@@ -4,6 +4,7 @@ use Rattle.bpf_model.specs.declared.limits.TheConstants.{MAX_JOURNAL}
 use Rattle.bpf_model.specs.declared.event.Event.{Event}
 use Rattle.bpf_model.specs.declared.event.Answer.{Answer}
 use Rattle.bpf_model.specs.Machine.{Machine, run_at}
+use Rattle.bpf_model.specs.Event.{AreReal}
 use Rattle.bpf_model.specs.Run.{MachineRun}
 
 -- what a worker did, and the answer
@@ -19,4 +20,5 @@ IsQuiet m = (r : ℕ) → run_at m.runs r ≡ None
 pub record Replays (base : Machine) (entries : List JournalEntry) (m : Machine) : Type 0 where
   pub quiet : IsQuiet base
   pub short : length entries ≤ MAX_JOURNAL
+  pub real : AreReal (map (λ e. e.event) entries)
   pub replay : MachineRun base (map (λ e. e.event) entries) (map (λ e. e.answer) entries) m

@@ -1,9 +1,13 @@
 -- What a world keeps, as plain lists and maps: nothing here says how an index or a list is laid out.
-use Rattle.std.specs.Prelude.{ℕ, List, Bool, Option}
+use Rattle.std.specs.Prelude.{◌≡◌, ℕ, List, [], Bool, false, Option, Some, None, map, replicate, slice_get}
+use Rattle.std.specs.List.{range_with_len}
 use Rattle.std.specs.Ordering.{nat_cmp}
 use Rattle.std.specs.Cmp.Lexicographic.{slice_cmp}
-use Rattle.std.specs.FinMap.{FinMap}
+use Rattle.std.specs.FinMap.{FinMap, empty}
 use Rattle.bpf_model.specs.declared.limits.MapShape.{MapShape}
+use Rattle.bpf_model.specs.declared.limits.TheConstants.{MAX_RUNS}
+use Rattle.bpf_model.specs.declared.insn.Insn.{Insn}
+use Rattle.bpf_model.specs.MapState.{MapState, slots_of_shape}
 use Rattle.bpf_model.specs.Machine.{Loaded}
 
 -- what stands in a slot of a map: key and value bytes, and how often the slot was used
@@ -11,6 +15,14 @@ pub record SlotView : Type 0 where
   pub key : List ℕ
   pub value : List ℕ
   pub uses : ℕ
+
+-- how often the slot of this number was used
+abbrev pub uses_in : Option SlotView → ℕ
+uses_in None = 0
+uses_in (Some s) = s.uses
+
+abbrev pub uses_at : List SlotView → ℕ → ℕ
+uses_at slots i = uses_in (slice_get slots i)
 
 -- A map: its slots, the free ones in the order in which they will be taken, the slot of each key in byte order, and the slots of its unlinked
 -- elements in three lists.
@@ -24,7 +36,28 @@ pub record MapView : Type 0 where
   pub ready : List ℕ
   pub worn : ℕ
 
--- A run: the number of its program, its context, eleven untyped words, 512 bytes, the slot where its next instruction begins, how many of its
+-- What the view shows of the map's state: the bag is the use counts of the free slots.
+abbrev pub state_of : MapView → MapState
+state_of v = record { shape = v.shape; bag = map (uses_at v.slots) v.free; worn = v.worn }
+
+-- a slot that was never used
+abbrev pub unused_slot : SlotView
+unused_slot = record { key = []; value = []; uses = 0 }
+
+-- A new map: its slots are all free and are taken in their order, and it has nothing under any key.
+abbrev pub new_map_view : MapShape → MapView
+new_map_view shape = record {
+  shape = shape;
+  slots = replicate (slots_of_shape shape) unused_slot;
+  free = range_with_len 0 (slots_of_shape shape);
+  index = empty;
+  next = [];
+  waiting = [];
+  ready = [];
+  worn = 0;
+}
+
+-- A run: the number of its program, its context, eleven untyped words, the bytes of its frame, the slot where its next instruction begins, how many of its
 -- locks are open, how many steps it has made, and its exit value.
 pub record RunView : Type 0 where
   pub program : ℕ
@@ -45,3 +78,28 @@ pub record WorldView : Type 0 where
   pub awaited : List Bool
   pub programs : List Loaded
   pub given : ℕ
+
+-- New maps of these shapes and no run.
+abbrev pub start_view : List MapShape → List Loaded → WorldView
+start_view shapes programs = record {
+  maps = map new_map_view shapes;
+  runs = replicate MAX_RUNS None;
+  opened = replicate MAX_RUNS false;
+  awaited = replicate MAX_RUNS false;
+  programs = programs;
+  given = 0;
+}
+
+-- The shapes of a world's maps.
+abbrev pub shapes_of : WorldView → List MapShape
+shapes_of w = map (λ v. v.shape) w.maps
+
+-- What is asked of a run by its slot: it has ended with this value, and was started with this code on this context.
+pub record HasExited (w : WorldView) (r : ℕ) (code : List Insn) (context : List ℕ) (n : ℕ) : Type 0 where
+  pub run : RunView
+  pub there : slice_get w.runs r ≡ Some (Some run)
+  pub program : Loaded
+  pub loaded : slice_get w.programs run.program ≡ Some program
+  pub code_is : program.code ≡ code
+  pub context_is : run.context ≡ context
+  pub ended : run.exit ≡ Some n

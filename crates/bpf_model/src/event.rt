@@ -1,5 +1,7 @@
 //! What may happen to the machine, and what it answers.
 
+ghost use Rattle.bpf_model.specs.Event.{AreBytes, AreReal};
+
 use crate::call::Errno;
 use crate::id::{MapId, ProgId, RunId};
 use crate::limits::{CtxBytes, KeyBytes, ValueBytes};
@@ -95,13 +97,69 @@ pub enum Answer {
     Refused(EventRefusal),
 }
 
+fn are_bytes(bytes: &[u8])
+    ensures { AreBytes bytes.now }
+{}
+
+impl Event {
+    ghost use Rattle.bpf_model.specs.Event.{IsReal};
+
+    /// A law: each event is within its types, so that no caller is asked for it.
+    pub fn is_real(&self)
+        ensures { IsReal self.now }
+    {
+        match self {
+            Event::Start { prog, ctx } => {
+                let _prog = prog.index();
+                are_bytes(ctx);
+            }
+            Event::Step { run } => {
+                let _run = run.index();
+            }
+            Event::Update {
+                map,
+                key,
+                value,
+                flags,
+            } => {
+                let _map = map.index();
+                let _flags = *flags;
+                are_bytes(key);
+                are_bytes(value);
+            }
+            Event::Delete { map, key } => {
+                let _map = map.index();
+                are_bytes(key);
+            }
+            Event::Read { map, key } => {
+                let _map = map.index();
+                are_bytes(key);
+            }
+            Event::Advance => {}
+            Event::Reap => {}
+            Event::Drop { run } => {
+                let _run = run.index();
+            }
+        }
+    }
+}
+
+/// A law: each event of a list is within its types.
+pub fn are_real(events: &[Event])
+    ensures { AreReal events.now }
+{
+    for event in events {
+        event.is_real();
+    }
+}
+
 impl EventRefusal {
     ghost use Rattle.std.specs.Prelude.{◌≡◌};
-    ghost use Rattle.bpf_model.specs.Event.{refusal_number};
+    ghost use Rattle.bpf_model.specs.Event.{event_refusal_code};
 
     /// Its number, 60 to 67.
-    pub fn number(self) -> u8
-        ensures { result ≡ refusal_number self }
+    pub fn code(self) -> u8
+        ensures { result ≡ event_refusal_code self }
     {
         match self {
             EventRefusal::NoRun => 60,

@@ -40,6 +40,18 @@ pub enum SignExtension {
     WordTo64,
 }
 
+/// An operation of one operand. What it reads is the register that it writes, but for a move that extends
+/// a sign, which has a source of its own.
+#[derive(Clone, Copy, Debug, PartialEq, Eq)]
+pub enum UnaryOp {
+    /// NEG
+    Negate(Size),
+    /// END
+    ByteSwap { order: ByteOrder, width: SwapWidth },
+    /// MOVSX
+    MoveSigned { extension: SignExtension, src: Reg },
+}
+
 /// How a called function is named: a helper by its static number, a kernel function by its BTF number.
 #[derive(Clone, Copy, Debug, PartialEq, Eq)]
 pub enum CallKind {
@@ -57,18 +69,8 @@ pub enum Insn {
         dst: Reg,
         src: Operand,
     },
-    MoveSigned {
-        extension: SignExtension,
-        dst: Reg,
-        src: Reg,
-    },
-    Negate {
-        size: Size,
-        dst: Reg,
-    },
-    ByteSwap {
-        order: ByteOrder,
-        width: SwapWidth,
+    Unary {
+        op: UnaryOp,
         dst: Reg,
     },
     /// The wide instruction with a number of 64 bits.
@@ -112,17 +114,12 @@ pub enum Insn {
         src: Reg,
         offset: i16,
     },
+    /// A store of the low bytes of a register, or of the field imm, which is sign-extended.
     Store {
         width: Width,
         dst: Reg,
         offset: i16,
-        imm: i32,
-    },
-    StoreRegister {
-        width: Width,
-        dst: Reg,
-        src: Reg,
-        offset: i16,
+        src: Operand,
     },
 }
 

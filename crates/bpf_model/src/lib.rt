@@ -15,9 +15,9 @@ mod slot;
 mod value;
 
 pub use call::{Errno, Helper, KernelFunction};
-pub use event::{Answer, Event, EventRefusal, Given, ReapedElement};
+pub use event::{Answer, Event, EventRefusal, Given, ReapedElement, are_real};
 pub use id::{MapId, ProgId, RunId};
-pub use insn::{AluOp, CallKind, Insn, Operand, SignExtension};
+pub use insn::{AluOp, CallKind, Insn, Operand, SignExtension, UnaryOp};
 pub use limits::{
     CTX_BYTES, CtxBytes, FRAME_BYTES, KEY_BYTES, KeyBytes, MAX_DEPTH, MAX_ENTRIES, MAX_JOURNAL,
     MAX_MAPS, MAX_PROGRAMS, MAX_REUSE, MAX_RUNS, MAX_SLOTS, MAX_SPARE, MapShape, VALUE_BYTES,

@@ -41,14 +41,14 @@ pub const MAX_REUSE: u32 = 4_294_967_295;
 /// The most entries of a journal.
 pub const MAX_JOURNAL: usize = 16_777_216;
 
-/// The bytes of a context, at most 256.
-pub type CtxBytes = ArrayVec<u8, 256>;
+/// The bytes of a context, at most `CTX_BYTES`.
+pub type CtxBytes = ArrayVec<u8, CTX_BYTES>;
 
-/// The bytes of a key, at most 64.
-pub type KeyBytes = ArrayVec<u8, 64>;
+/// The bytes of a key, at most `KEY_BYTES`.
+pub type KeyBytes = ArrayVec<u8, KEY_BYTES>;
 
-/// The bytes of a value, at most 256.
-pub type ValueBytes = ArrayVec<u8, 256>;
+/// The bytes of a value, at most `VALUE_BYTES`.
+pub type ValueBytes = ArrayVec<u8, VALUE_BYTES>;
 
 /// The shape of a map: key and value lengths in bytes (1 to 64, 1 to 256), the most linked elements (1 to
 /// 4096), the further slots for elements that wait for reclamation (0 to 4096), and how often a slot may

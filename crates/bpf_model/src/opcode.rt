@@ -108,8 +108,8 @@ pub enum Opcode {
     Exit,
     Load(Width),
     LoadSigned(SignedWidth),
-    Store(Width),
-    StoreRegister(Width),
+    /// A store of the field imm (class ST) or of a register (class STX).
+    Store(Width, Source),
     Wide,
     Excluded(Excluded),
 }
