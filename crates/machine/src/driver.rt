@@ -1,8 +1,7 @@
 //! Whole runs.
 ghost use Rattle.std.specs.Prelude.{◌≡◌, ◌<◌, ◌≤◌, length};
 ghost use Rattle.bpf_model.specs.declared.limits.TheConstants.{MAX_SLOTS};
-ghost use Rattle.bpf_model.specs.Step.{ExitsWith, entry};
-ghost use Rattle.machine.specs.Standing.{environment_of};
+ghost use Rattle.machine.specs.Running.{Finishes};
 
 use crate::run::{Local, Run};
 use bpf_model::CtxBytes;
@@ -19,7 +18,7 @@ pub struct Finished {
 /// definition, and the steps are at most as many as it has instructions.
 pub fn run_to_exit(verified: &Verified, ctx: &CtxBytes) -> Finished
     requires { length ctx.now.items ≡ verified.now.ctx_len }
-    ensures exits { ExitsWith verified.now.program (environment_of verified.now ctx.now.items) entry result.steps result.value }
+    ensures exits { Finishes verified.now ctx.now.items result.steps result.value }
     ensures bounded { result.steps ≤ length verified.now.program }
     ensures some { 0 < result.steps }
     ensures limit { result.steps ≤ MAX_SLOTS }

@@ -3,8 +3,7 @@ ghost use Rattle.std.specs.Prelude.{◌≡◌, ℕ, ◌+◌, ◌^◌, ◌<◌, s
 ghost use Rattle.bpf_model.specs.Access.{byte_count, number_at};
 ghost use Rattle.abstract_state.specs.declared.kind.Region.TheVariants as regions;
 ghost use Rattle.bpf_model.specs.declared.insn.Insn.{Insn};
-ghost use Rattle.verifier.specs.Checked.{Checked};
-ghost use Rattle.machine.specs.Performing.{Can, CanIn, CanLoad, DoesIn, DoesInAny, IsLoaded, stored_by};
+ghost use Rattle.machine.specs.Performing.{CanIn, CanInAny, CanLoad, DoesIn, DoesInAny, IsLoaded};
 ghost use Rattle.machine.specs.Writes.{HasRoom, IsCounted, SetsBytes, Reaches, bytes_of};
 ghost use Rattle.machine.specs.declared.run.Local.TheVariants.{Moved};
 
@@ -110,8 +109,8 @@ impl Run {
     #[inline]
     pub(crate) fn store(&mut self, width: Width, dst: Reg, src: &Operand, offset: i16) -> Local
         requires room { HasRoom self.old }
-        requires can { (v : Checked) × Can v (stored_by width dst src.now offset) self.old }
-        ensures does { DoesInAny (stored_by width dst src.now offset) self.old result self.new }
+        requires can { CanInAny (Insn.Store width dst offset src.now) self.old }
+        ensures does { DoesInAny (Insn.Store width dst offset src.now) self.old result self.new }
         ensures counted { IsCounted result self.old self.new }
     {
         let word = self.operand(src);
