@@ -1,6 +1,6 @@
 -- Loads and stores lead from described states to described ones.
 use Rattle.std.proofs.Common.{◌≡◌, ℕ, ◌+◌, ◌-◌, ◌/◌, ◌%◌, ◌^◌, ◌<◌, ◌≤◌, refl, sym, ◌∙◌, ap, subst, arith, inl, inr, Bool, true, false, cond, List}
-use Rattle.std.specs.Prelude.{slice_index_or, slice_get, Some, Ok, ◌&&◌, ℤ, pos, ◌+ℤ◌, nat_lt}
+use Rattle.std.specs.Prelude.{◌⊎◌, slice_index_or, slice_get, Some, Ok, ◌&&◌, ℤ, pos, ◌+ℤ◌, nat_lt}
 use Rattle.std.proofs.lemmas.Bool.{lt-ltb, le-leb}
 use Rattle.std.proofs.lemmas.Nat.{mod_below}
 use Rattle.std.proofs.lemmas.Option.{slice_get-get_or}
@@ -10,11 +10,11 @@ use Rattle.bpf_model.specs.declared.value.Reference.TheVariants as references
 use Rattle.bpf_model.specs.declared.value.Cell.{Cell}
 use Rattle.bpf_model.specs.declared.value.Cell.TheVariants as model
 use Rattle.bpf_model.specs.declared.insn.Insn.{Insn}
-use Rattle.bpf_model.specs.declared.insn.Insn.TheVariants.{Store, StoreRegister}
+use Rattle.bpf_model.specs.declared.insn.Insn.TheVariants.{Store}
 use Rattle.bpf_model.specs.declared.insn.Operand.{Operand}
-use Rattle.bpf_model.specs.declared.insn.Operand.TheVariants.{Register, Immediate}
 use Rattle.bpf_model.specs.declared.opcode.Width.{Width}
 use Rattle.bpf_model.specs.declared.opcode.Width.TheVariants as widths
+use Rattle.bpf_model.specs.declared.limits.TheConstants.{FRAME_BYTES}
 use Rattle.bpf_model.specs.Access.{place_of, number_at, byte_count}
 use Rattle.bpf_model.specs.Frame.{byte_of, found, read, is_within, with_number}
 use Rattle.bpf_model.specs.Value.{◌>>=◌}
@@ -29,8 +29,10 @@ use Rattle.abstract_state.specs.declared.kind.CellKind.{CellKind}
 use Rattle.abstract_state.specs.declared.kind.CellKind.TheVariants as cells
 use Rattle.abstract_state.specs.declared.kind.Region.TheVariants as regions
 use Rattle.abstract_state.specs.declared.state.AbsState.{AbsState}
-use Rattle.abstract_state.specs.State.{IsOf, IsOfCell, IsNumber, Describes, kind_at, cell_at, IsEnvironment, base_of, IsInRegion}
-use Rattle.abstract_state.specs.Steps.{Loads, SetsBytes, Stepped, stored_by}
+use Rattle.abstract_state.specs.declared.environment.EnvironmentShape.{EnvironmentShape}
+use Rattle.abstract_state.specs.State.{IsOf, IsOfCell, IsNumber, Describes, kind_at, cell_at, IsEnvironment, IsInRegion}
+use Rattle.abstract_state.specs.Facts.{Fact, Register, FrameByte, FramePointer, FactHolds, Makes, IsReady}
+use Rattle.abstract_state.specs.Steps.{Loads, SetsBytes, single, Stepped}
 use Rattle.abstract_state.specs.Laws.{number_read}
 use Rattle.abstract_state.proofs.Sound.{flows_transfers}
 
@@ -38,9 +40,9 @@ use Rattle.abstract_state.proofs.Sound.{flows_transfers}
 based : (k : RegKind) (a : AbsState) (m : State) (r : ℕ) → k ≡ kind_at a r → Describes a m → IsOf k (m.regs r)
 based k a m r e d = subst (λ k. IsOf k (m.regs r)) (sym e) (d.regs r)
 
-pub ctx_loads : (len width at src maps : ℕ) (o offset : ℤ) (k : RegKind) (a : AbsState) (env : Environment) (m : State) → k ≡ kind_at a src → k ≡ Ctx o
-    → place_of len width (o +ℤ offset) ≡ Some at → at + width ≤ len → IsEnvironment len maps env → Describes a m → Loads width offset env m (m.regs src)
-ctx_loads len width at src maps o offset k a env m e f p inside i d =
+pub ctx_loads : (shape : EnvironmentShape) (width at src : ℕ) (o offset : ℤ) (k : RegKind) (a : AbsState) (env : Environment) (m : State) → k ≡ kind_at a src → k ≡ Ctx o
+    → place_of shape.ctx_len width (o +ℤ offset) ≡ Some at → at + width ≤ shape.ctx_len → IsEnvironment shape env → Describes a m → Loads width offset env m (m.regs src)
+ctx_loads shape width at src o offset k a env m e f p inside i d =
     let r = number_read (slice_get env.context) at width (λ j h l. (slice_index_or env.context j 0, slice_get-get_or env.context j 0 (omega (arith, i.long)), i.bytes j)) in
     let w : m.regs src ≡ Pointer (references.Ctx o) = subst (λ k. IsOf k (m.regs src)) f (based k a m src e d) in (
       r.0,
@@ -61,7 +63,7 @@ some_bytes widths.Four = omega arith
 some_bytes widths.Eight = omega arith
 
 pub frame_loads : (width : Width) (at src : ℕ) (o offset : ℤ) (k : RegKind) (a : AbsState) (env : Environment) (m : State) → k ≡ kind_at a src → k ≡ Frame o
-    → place_of 512 (byte_count width) (o +ℤ offset) ≡ Some at → ((j : ℕ) → at ≤ j → j < at + byte_count width → cell_at a j ≡ cells.Byte) → Describes a m
+    → place_of FRAME_BYTES (byte_count width) (o +ℤ offset) ≡ Some at → ((j : ℕ) → at ≤ j → j < at + byte_count width → cell_at a j ≡ cells.Byte) → Describes a m
     → Loads (byte_count width) offset env m (m.regs src)
 frame_loads width at src o offset k a env m e f p bytes d =
     let some = some_bytes width in
@@ -91,7 +93,7 @@ number_is (Frame o) v n i = absurd n
 number_is (Map m) v n i = absurd n
 
 pub stores : (width at dst : ℕ) (o offset : ℤ) (src : Operand) (base value : RegKind) (a b : AbsState) (m : State)
-    → base ≡ kind_at a dst → base ≡ Frame o → IsNumber value → IsOf value (operand_value src m.regs) → place_of 512 width (o +ℤ offset) ≡ Some at → SetsBytes at width a b → Describes a m
+    → base ≡ kind_at a dst → base ≡ Frame o → IsNumber value → IsOf value (operand_value src m.regs) → place_of FRAME_BYTES width (o +ℤ offset) ≡ Some at → SetsBytes at width a b → Describes a m
     → (next : State) × (store_to m width offset (operand_value src m.regs) (m.regs dst) ≡ Some (Moves next)) × (next.place ≡ m.place + 1) × Describes b next
 stores width at dst o offset src base value a b m e f n i p sets d =
     let x = number_is value (operand_value src m.regs) n i in
@@ -118,51 +120,52 @@ within : (at width q : ℕ) → at ≤ q → q < at + width → is_within at wid
 within at width q l u = ap (λ t. t && nat_lt q (at + width)) (le-leb at q l) ∙ lt-ltb q (at + width) u
 
 -- an access through r10 is where the base's offset places it
-same_place : (width at dst : ℕ) (o offset : ℤ) (base : RegKind) (a : AbsState) (q at' : ℕ) → base ≡ kind_at a dst → base ≡ Frame o → dst ≡ 10 → kind_at a 10 ≡ Frame (pos 512)
-    → place_of 512 width (o +ℤ offset) ≡ Some at → place_of 512 width (pos 512 +ℤ offset) ≡ Some at' → at' ≡ at
+same_place : (width at dst : ℕ) (o offset : ℤ) (base : RegKind) (a : AbsState) (q at' : ℕ) → base ≡ kind_at a dst → base ≡ Frame o → dst ≡ 10 → kind_at a 10 ≡ Frame (pos FRAME_BYTES)
+    → place_of FRAME_BYTES width (o +ℤ offset) ≡ Some at → place_of FRAME_BYTES width (pos FRAME_BYTES +ℤ offset) ≡ Some at' → at' ≡ at
 same_place width at dst o offset base a q at' e f g h p p' =
-    let t : Frame o ≡ Frame (pos 512) = sym f ∙ e ∙ ap (kind_at a) g ∙ h in
-    let z : o ≡ pos 512 = cc in
-    let r : Some at' ≡ Some at = sym p' ∙ ap (λ o. place_of 512 width (o +ℤ offset)) (sym z) ∙ p in
+    let t : Frame o ≡ Frame (pos FRAME_BYTES) = sym f ∙ e ∙ ap (kind_at a) g ∙ h in
+    let z : o ≡ pos FRAME_BYTES = cc in
+    let r : Some at' ≡ Some at = sym p' ∙ ap (λ o. place_of FRAME_BYTES width (o +ℤ offset)) (sym z) ∙ p in
     cc
 
-access_steps : (i : Insn) (width : Width) (at dst : ℕ) (o offset : ℤ) (src : Operand) (base value : RegKind) (a b : AbsState) (ctx_len maps : ℕ)
-    → falls i ≡ true → slot_count i ≡ 1 → base_of i ≡ Some dst → ((r : ℕ) → Writes i r → ⊥) → ((q : ℕ) → WritesByte i q → Takes width offset q) → (IsSimple i → IsFrameAccess width dst offset)
-    → ((env : Environment) (m : State) → after i env m ≡ store_to m (byte_count width) offset (operand_value src m.regs) (m.regs dst))
+store_keeps : (width : Width) (at dst : ℕ) (o offset : ℤ) (src : Operand) (base : RegKind) (a b : AbsState) → base ≡ kind_at a dst → base ≡ Frame o
+    → place_of FRAME_BYTES (byte_count width) (o +ℤ offset) ≡ Some at → SetsBytes at (byte_count width) a b → IsReady (Store width dst offset src) a
+    → (fact : Fact) → FactHolds fact a ⊎ Makes (Store width dst offset src) fact → FactHolds fact b
+store_keeps width at dst o offset src base a b e f p sets ready (Register r) h =
+    subst (λ (k : List RegKind). IsNumber (slice_index_or k r Unwritten)) (sym sets.regs) (elim h [ inl x ↦ x | inr w ↦ absurd w ])
+store_keeps width at dst o offset src base a b e f p sets ready (FrameByte q) h = sets.cells q ∙ (elim h [
+  | inl x ↦ kept_byte (is_within at (byte_count width) q) (cell_at a q) x
+  | inr k ↦
+      let same = same_place (byte_count width) at dst o offset base a q k.0 e f ready.simple.0 ready.frame p k.1 in
+      ap (λ t. cond t cells.Byte (cell_at a q)) (within at (byte_count width) q (omega (arith, k.2)) (omega (arith, k.3)))
+])
+store_keeps width at dst o offset src base a b e f p sets ready FramePointer h =
+    ap (λ (r : List RegKind). slice_index_or r 10 Unwritten) sets.regs ∙ ready.frame
+
+-- a store of either operand
+pub store_steps : (src : Operand) (width : Width) (at dst : ℕ) (o offset : ℤ) (base value : RegKind) (a b : AbsState) (shape : EnvironmentShape)
     → base ≡ kind_at a dst → base ≡ Frame o → IsNumber value → ((m : State) → Describes a m → IsOf value (operand_value src m.regs))
-    → place_of 512 (byte_count width) (o +ℤ offset) ≡ Some at → SetsBytes at (byte_count width) a b
-    → Stepped i ctx_len maps a b (Ok regions.Frame)
-access_steps i width at dst o offset src base value a b ctx_len maps t slots of_base no_regs takes simple is e f n sound p sets = record {
-  accepts = λ _. refl;
+    → place_of FRAME_BYTES (byte_count width) (o +ℤ offset) ≡ Some at → SetsBytes at (byte_count width) a b
+    → Stepped (Store width dst offset src) shape a b (Ok (single regions.Frame))
+store_steps src width at dst o offset base value a b shape e f n sound p sets = record {
+  accepts = λ _. tt;
   memory = tt;
   unchanged = tt;
   done = record {
-    sound = λ _. flows_transfers i a b ctx_len maps t (λ env m _ d.
-        let s = stores (byte_count width) at dst o offset src base value a b m e f n (sound m d) p sets d in
-        (s.0, is env m ∙ s.1, s.2 ∙ ap (λ k. m.place + k) (sym slots), s.3));
-    reaches = λ r m g d.
+    sound = flows_transfers (Store width dst offset src) a b shape refl
+        (λ env m _ d. stores (byte_count width) at dst o offset src base value a b m e f n (sound m d) p sets d);
+    region = λ r m g d.
         let h : dst ≡ r = cc in
         subst (λ r. IsInRegion regions.Frame (m.regs r)) h (o, subst (λ k. IsOf k (m.regs dst)) f (based base a m dst e d));
-    keeps = λ ready. record {
-      frame = ap (λ (r : List RegKind). slice_index_or r 10 Unwritten) sets.regs ∙ ready.frame;
-      regs = λ r h. subst (λ (k : List RegKind). IsNumber (slice_index_or k r Unwritten)) (sym sets.regs) (elim h [ inl x ↦ x | inr w ↦ absurd (no_regs r w) ]);
-      cells = λ q h. sets.cells q ∙ (elim h [
-        | inl x ↦ kept_byte (is_within at (byte_count width) q) (cell_at a q) x
-        | inr w ↦
-            let k = takes q w in
-            let same = same_place (byte_count width) at dst o offset base a q k.0 e f (simple ready.simple).0 ready.frame p k.1 in
-            ap (λ t. cond t cells.Byte (cell_at a q)) (within at (byte_count width) q (omega (arith, k.2)) (omega (arith, k.3)))
-      ]);
-    };
+    compares = λ r m c d. absurd c;
+    branches = λ x. absurd (x.1 refl);
+    keeps = store_keeps width at dst o offset src base a b e f p sets;
+    keeps_taken = λ _. tt;
+    loads = tt;
+    computes = tt;
+    refines = tt;
+    refines_taken = tt;
+    others = λ r _ _. ap (λ (k : List RegKind). slice_index_or k r Unwritten) sets.regs;
+    others_taken = tt;
   };
 }
-
--- a store of either operand
-pub store_steps : (src : Operand) (width : Width) (at dst : ℕ) (o offset : ℤ) (base value : RegKind) (a b : AbsState) (ctx_len maps : ℕ)
-    → base ≡ kind_at a dst → base ≡ Frame o → IsNumber value → ((m : State) → Describes a m → IsOf value (operand_value src m.regs))
-    → place_of 512 (byte_count width) (o +ℤ offset) ≡ Some at → SetsBytes at (byte_count width) a b
-    → Stepped (stored_by width dst src offset) ctx_len maps a b (Ok regions.Frame)
-store_steps (Register src) width at dst o offset base value a b ctx_len maps = access_steps (StoreRegister width dst src offset) width at dst o offset (Register src) base value a b ctx_len maps
-    refl refl refl (λ r w. w) (λ q w. w) (λ s. s) (λ env m. refl)
-store_steps (Immediate imm) width at dst o offset base value a b ctx_len maps = access_steps (Store width dst offset imm) width at dst o offset (Immediate imm) base value a b ctx_len maps
-    refl refl refl (λ r w. w) (λ q w. w) (λ s. s) (λ env m. refl)

@@ -1,10 +1,11 @@
 -- Jumps and the exit lead from described states to described ones.
 use Rattle.std.proofs.Common.{◌≡◌, ℕ, ◌+◌, ◌^◌, ◌<◌, refl, sym, ◌∙◌, ap, subst, inl, inr, Bool, true, false, List}
-use Rattle.std.specs.Prelude.{slice_index_or, Option, Some, None, Ok, if◌then◌else◌, ℤ, pos, ◌+ℤ◌, unwrap_or}
+use Rattle.std.specs.Prelude.{◌≢◌, slice_index_or, Option, Some, None, Ok, ◌⊎◌, if◌then◌else◌, ℤ, pos, ◌+ℤ◌, unwrap_or}
 use Rattle.bpf_model.specs.declared.value.Value.TheVariants.{Number}
 use Rattle.bpf_model.specs.declared.insn.Insn.{Insn}
 use Rattle.bpf_model.specs.declared.insn.Insn.TheVariants.{Jump, JumpLong, JumpIf, Exit}
 use Rattle.bpf_model.specs.declared.insn.Operand.{Operand}
+use Rattle.bpf_model.specs.declared.insn.Operand.TheVariants.{Register, Immediate}
 use Rattle.bpf_model.specs.declared.opcode.Condition.{Condition}
 use Rattle.bpf_model.specs.declared.opcode.Size.{Size}
 use Rattle.bpf_model.specs.Arithmetic.{compares}
@@ -14,63 +15,96 @@ use Rattle.bpf_model.specs.Step.{State, Outcome, Moves, Exits, forward, jumps_to
 use Rattle.bpf_model.specs.Graph.{distance}
 use Rattle.bpf_model.specs.Plain.{Writes, WritesByte, Names}
 use Rattle.scalar_domain.specs.Scalar.{Holds}
+use Rattle.scalar_domain.specs.Floor.{KeepsEdgeFloor}
 use Rattle.scalar_domain.specs.declared.scalar.Scalar.{Scalar}
 use Rattle.abstract_state.specs.declared.kind.RegKind.TheVariants.{Num}
 use Rattle.abstract_state.specs.declared.kind.CellKind.{CellKind}
 use Rattle.abstract_state.specs.declared.kind.CellKind.TheVariants as cells
 use Rattle.abstract_state.specs.declared.kind.Region.TheVariants as regions
 use Rattle.abstract_state.specs.declared.state.AbsState.{AbsState}
-use Rattle.abstract_state.specs.State.{IsOf, IsNumber, Describes, kind_at, IsForward, IsReady, Keeps, Transfers, Leads}
-use Rattle.abstract_state.specs.Steps.{Done, Stepped}
+use Rattle.abstract_state.specs.declared.environment.EnvironmentShape.{EnvironmentShape}
+use Rattle.abstract_state.specs.State.{IsOf, IsNumber, Describes, kind_at, HasTarget, Transfers, Leads, Compares}
+use Rattle.abstract_state.specs.Facts.{Fact, Register as RegisterFact, FrameByte, FramePointer, FactHolds, Makes, IsReady, KeepsFacts}
+use Rattle.abstract_state.specs.Floor.{KeepsOthers, operand_kind, RefinesKnown}
+use Rattle.abstract_state.specs.Steps.{single, Done, Stepped}
 use Rattle.abstract_state.proofs.Sound.{number_of}
 
 placed : (a : AbsState) (m : State) (place : ℕ) → Describes a m → Describes a (record { regs = m.regs; frame = m.frame; place = place })
 placed a m place d = record { regs = d.regs; cells = d.cells; near = d.near }
 
--- the jump of a forward instruction
-jump_leads : (i : Insn) (offset : ℤ) (new : AbsState) (taken : Option AbsState) (m : State) → distance i ≡ Some offset → IsForward i → Describes (unwrap_or taken new) m
+-- a jump with a target
+jump_leads : (i : Insn) (offset : ℤ) (new : AbsState) (taken : Option AbsState) (m : State) → distance i ≡ Some offset → HasTarget i m.place → Describes (unwrap_or taken new) m
     → (out : Outcome) × (jumps_by offset m ≡ Some out) × Leads i new taken m.place out
-jump_leads i offset new taken m e forwards d =
-    let f = forwards offset e in
-    let next : State = record { regs = m.regs; frame = m.frame; place = m.place + 1 + f.0 } in (
+jump_leads i offset new taken m e targets d =
+    let t = targets offset e in
+    let same : t.1.0 ≡ offset = cc (e, t.1.1) in
+    let next : State = record { regs = m.regs; frame = m.frame; place = t.0 } in (
       Moves next,
-      ap (λ z. jumps_to (pos (m.place + 1) +ℤ z) m) f.1,
-      inr ((offset, e, ap (λ z. pos (m.place + 1) +ℤ z) (sym f.1)), placed (unwrap_or taken new) m next.place d),
+      ap (λ z. jumps_to z m) (sym (t.1.2 ∙ ap (λ z. pos (m.place + 1) +ℤ z) same)),
+      inr (t.1, placed (unwrap_or taken new) m next.place d),
     )
 
--- an instruction that changes nothing keeps the state
-same_keeps : (i : Insn) (a : AbsState) → ((r : ℕ) → Writes i r → ⊥) → ((q : ℕ) → WritesByte i q → ⊥) → IsReady i a → Keeps i a a
-same_keeps i a no_regs no_bytes ready = record {
-  frame = ready.frame;
-  regs = λ r h. elim h [ inl x ↦ x | inr w ↦ absurd (no_regs r w) ];
-  cells = λ q h. elim h [ inl x ↦ x | inr w ↦ absurd (no_bytes q w) ];
+-- an instruction that writes nothing makes no fact
+makes_none : (i : Insn) → ((r : ℕ) → Writes i r → ⊥) → ((q : ℕ) → WritesByte i q → ⊥) → (fact : Fact) → Makes i fact → ⊥
+makes_none i no_regs no_bytes (RegisterFact r) w = no_regs r w
+makes_none i no_regs no_bytes (FrameByte q) w = no_bytes q w
+makes_none i no_regs no_bytes FramePointer w = w
+
+same_keeps : (i : Insn) (a : AbsState) → ((r : ℕ) → Writes i r → ⊥) → ((q : ℕ) → WritesByte i q → ⊥) → KeepsFacts i a a
+same_keeps i a no_regs no_bytes fact h = elim h [ inl x ↦ x | inr w ↦ absurd (makes_none i no_regs no_bytes fact w) ]
+
+pub jump_done : (offset : ℤ) (a : AbsState) (shape : EnvironmentShape) → Done (Jump offset) shape a a (single regions.None)
+jump_done offset a shape = record {
+  sound = λ env m e targets d. jump_leads (Jump offset) offset a None m refl targets d;
+  region = λ r m e d. cc;
+  compares = λ r m c d. absurd c;
+  branches = λ x. cc (x.0);
+  keeps = λ _. same_keeps (Jump offset) a (λ r w. w) (λ q w. w);
+  keeps_taken = λ _. tt;
+  loads = tt;
+  computes = tt;
+  refines = tt;
+  refines_taken = tt;
+  others = λ r _ _. refl;
+  others_taken = tt;
 }
 
-pub jump_done : (offset : ℤ) (a : AbsState) (ctx_len maps : ℕ) → Done (Jump offset) ctx_len maps a a regions.None
-jump_done offset a ctx_len maps = record {
-  sound = λ forwards env m e d. jump_leads (Jump offset) offset a None m refl forwards d;
-  reaches = λ r m e d. cc;
-  keeps = same_keeps (Jump offset) a (λ r w. w) (λ q w. w);
+pub jump_long_done : (imm : ℤ) (a : AbsState) (shape : EnvironmentShape) → Done (JumpLong imm) shape a a (single regions.None)
+jump_long_done imm a shape = record {
+  sound = λ env m e targets d. jump_leads (JumpLong imm) imm a None m refl targets d;
+  region = λ r m e d. cc;
+  compares = λ r m c d. absurd c;
+  branches = λ x. cc (x.0);
+  keeps = λ _. same_keeps (JumpLong imm) a (λ r w. w) (λ q w. w);
+  keeps_taken = λ _. tt;
+  loads = tt;
+  computes = tt;
+  refines = tt;
+  refines_taken = tt;
+  others = λ r _ _. refl;
+  others_taken = tt;
 }
 
-pub jump_long_done : (imm : ℤ) (a : AbsState) (ctx_len maps : ℕ) → Done (JumpLong imm) ctx_len maps a a regions.None
-jump_long_done imm a ctx_len maps = record {
-  sound = λ forwards env m e d. jump_leads (JumpLong imm) imm a None m refl forwards d;
-  reaches = λ r m e d. cc;
-  keeps = same_keeps (JumpLong imm) a (λ r w. w) (λ q w. w);
-}
-
-pub exit_steps : (a : AbsState) (s : Scalar) (ctx_len maps : ℕ) → kind_at a 0 ≡ Num s → Stepped Exit ctx_len maps a a (Ok regions.None)
-exit_steps a s ctx_len maps e = record {
-  accepts = λ _. refl;
+pub exit_steps : (a : AbsState) (s : Scalar) (shape : EnvironmentShape) → kind_at a 0 ≡ Num s → Stepped Exit shape a a (Ok (single regions.None))
+exit_steps a s shape e = record {
+  accepts = λ _. tt;
   memory = tt;
   unchanged = tt;
   done = record {
-    sound = λ _ env m _ d.
+    sound = λ env m _ _ d.
         let n = number_of a 0 s m e d in
         (Exits n.0, ap (λ v. number v >>= λ n. Some (Exits n)) n.1, tt);
-    reaches = λ r m e d. cc;
-    keeps = same_keeps Exit a (λ r w. w) (λ q w. w);
+    region = λ r m e d. cc;
+    compares = λ r m c d. absurd c;
+    branches = λ x. cc (x.0);
+    keeps = λ _. same_keeps Exit a (λ r w. w) (λ q w. w);
+    keeps_taken = λ _. tt;
+    loads = tt;
+    computes = tt;
+    refines = tt;
+    refines_taken = tt;
+    others = λ r _ _. refl;
+    others_taken = tt;
   };
 }
 
@@ -95,13 +129,13 @@ narrows condition size dst src x y x' y' taken old new refined sound m d p q e f
 
 pub fork_transfers : (condition : Condition) (size : Size) (dst : ℕ) (src : Operand) (offset : ℤ) (x y : Scalar) (a b t : AbsState) → kind_at a dst ≡ Num x
     → ((m : State) → Describes a m → IsOf (Num y) (operand_value src m.regs)) → Narrows condition size dst src x y true a t → Narrows condition size dst src x y false a b
-    → (ctx_len maps : ℕ) → IsForward (JumpIf condition size dst src offset) → Transfers (JumpIf condition size dst src offset) ctx_len maps a b (Some t)
-fork_transfers condition size dst src offset x y a b t e o yea nay ctx_len maps forwards env m _ d =
+    → (shape : EnvironmentShape) → Transfers (JumpIf condition size dst src offset) shape a b (Some t)
+fork_transfers condition size dst src offset x y a b t e o yea nay shape env m _ targets d =
     let i : Insn = JumpIf condition size dst src offset in
     let p = number_of a dst x m e d in
     let q = o m d in
     let r = either (compares size condition p.0 q.0) (jumps_by offset m) (Some (Moves (forward 1 m))) (Leads i b (Some t) m.place)
-    (λ h. jump_leads i offset b (Some t) m refl forwards (yea m d p.0 q.0 p.1 q.1 p.2 q.2 p.3 q.3 h))
+    (λ h. jump_leads i offset b (Some t) m refl targets (yea m d p.0 q.0 p.1 q.1 p.2 q.2 p.3 q.3 h))
     (λ h. (Moves (forward 1 m), refl, inl (refl, refl, placed b m (m.place + 1) (nay m d p.0 q.0 p.1 q.1 p.2 q.2 p.3 q.3 h)))) in (
       r.0,
       ap (λ v. decided condition size src v (operand_value src m.regs) >>= λ taken. if taken then jumps_by offset m else Some (Moves (forward 1 m))) p.1
@@ -111,10 +145,38 @@ fork_transfers condition size dst src offset x y a b t e o yea nay ctx_len maps 
     )
 
 pub fork_keeps : (condition : Condition) (size : Size) (dst : ℕ) (src : Operand) (offset : ℤ) (a b : AbsState)
-    → ((r : ℕ) → IsNumber (kind_at a r) → IsNumber (kind_at b r)) → ((r : ℕ) → (r ≡ dst → ⊥) → (Names src r → ⊥) → kind_at b r ≡ kind_at a r) → b.frame ≡ a.frame
-    → IsReady (JumpIf condition size dst src offset) a → Keeps (JumpIf condition size dst src offset) a b
-fork_keeps condition size dst src offset a b numbers others frame ready = record {
-  frame = others 10 (λ e. subst IsNumber ready.frame (ready.regs 10 (inl e))) (λ n. subst IsNumber ready.frame (ready.regs 10 (inr n))) ∙ ready.frame;
-  regs = λ r h. numbers r (elim h [ inl x ↦ x | inr w ↦ absurd w ]);
-  cells = λ q h. ap (λ (f : List CellKind). slice_index_or f q cells.Unwritten) frame ∙ (elim h [ inl x ↦ x | inr w ↦ absurd w ]);
-}
+    → ((r : ℕ) → IsNumber (kind_at a r) → IsNumber (kind_at b r)) → KeepsOthers (JumpIf condition size dst src offset) a b → b.frame ≡ a.frame
+    → IsReady (JumpIf condition size dst src offset) a → (fact : Fact) → FactHolds fact a ⊎ Makes (JumpIf condition size dst src offset) fact
+    → FactHolds fact b
+fork_keeps condition size dst src offset a b numbers others frame ready (RegisterFact r) h = numbers r (elim h [ inl x ↦ x | inr w ↦ absurd w ])
+fork_keeps condition size dst src offset a b numbers others frame ready (FrameByte q) h =
+    ap (λ (f : List CellKind). slice_index_or f q cells.Unwritten) frame ∙ (elim h [ inl x ↦ x | inr w ↦ absurd w ])
+fork_keeps condition size dst src offset a b numbers others frame ready FramePointer h =
+    others 10 (λ e. cc) (λ c. subst IsNumber ready.frame (ready.registers 10 c)) ∙ ready.frame
+
+operand_named : (src : Operand) (r : ℕ) (m : State) → Names src r → m.regs r ≡ operand_value src m.regs
+operand_named (Register s) r m e = ap m.regs e
+operand_named (Immediate imm) r m e = absurd e
+
+-- what a conditional jump compares is a number
+pub fork_compares : (dst : ℕ) (src : Operand) (x y : Scalar) (a : AbsState) (r : ℕ) (m : State) → kind_at a dst ≡ Num x → IsOf (Num y) (operand_value src m.regs)
+    → (r ≡ dst) ⊎ Names src r → Describes a m → (n : ℕ) × (m.regs r ≡ Number n)
+fork_compares dst src x y a r m left right h d = elim h [
+  | inl e ↦ let n = number_of a dst x m left d in (n.0, ap m.regs e ∙ n.1)
+  | inr e ↦ (right.0, operand_named src r m e ∙ right.1)
+]
+
+-- both sides of a comparison, as the scalar domain leaves them
+pub refines_known : (condition : Condition) (size : Size) (taken : Bool) (dst : ℕ) (src : Operand) (x y left right : Scalar) (offset : ℤ) (a b : AbsState)
+    → kind_at a dst ≡ Num x → operand_kind src a ≡ Num y → kind_at b dst ≡ Num left → ((r : ℕ) → Names src r → r ≢ dst → kind_at b r ≡ Num right)
+    → KeepsEdgeFloor size condition taken x y left right → RefinesKnown taken (JumpIf condition size dst src offset) a b
+refines_known condition size taken dst src x y left right offset a b p q first second floor x' y' p' q' =
+    let same_x : x ≡ x' = let e : Num x ≡ Num x' = sym p ∙ p' in cc in
+    let same_y : y ≡ y' = let e : Num y ≡ Num y' = sym q ∙ q' in cc in
+    record {
+      left = left;
+      right = right;
+      first = first;
+      second = second;
+      floor = subst (λ x. KeepsEdgeFloor size condition taken x y' left right) same_x (subst (λ y. KeepsEdgeFloor size condition taken x y left right) same_y floor);
+    }

@@ -1,12 +1,12 @@
 -- Each instruction leads from described states to described ones.
 use Rattle.std.proofs.Common.{◌≡◌, ℕ, ◌+◌, ◌^◌, ◌<◌, refl, sym, ◌∙◌, ap, subst, arith, inl, inr, Bool, true, false, cond, List}
-use Rattle.std.specs.Prelude.{slice_index_or, Some, None, Result, Ok, IfOk, ◌==◌, if◌then◌else◌, ℤ, pos, negsuc, ◌+ℤ◌, ◌-ℤ◌, ◌<ℤ◌}
+use Rattle.std.specs.Prelude.{slice_index_or, ◌⊎◌, Some, None, Result, Ok, Err, IfOk, ◌==◌, if◌then◌else◌, ℤ, pos, negsuc, ◌+ℤ◌, ◌-ℤ◌, ◌<ℤ◌}
 use Rattle.std.proofs.lemmas.Int.{ints}
 use Rattle.std.specs.Int.{w64}
 use Rattle.bpf_model.specs.declared.value.Value.{Value}
 use Rattle.bpf_model.specs.declared.value.Value.TheVariants.{Number, Pointer}
 use Rattle.bpf_model.specs.declared.insn.AluOp.{AluOp}
-use Rattle.bpf_model.specs.declared.insn.AluOp.TheVariants.{Add, Sub, Move}
+use Rattle.bpf_model.specs.declared.insn.AluOp.TheVariants.{Add, Sub, Mul, Div, SignedDiv, Or, And, ShiftLeft, ShiftRight, Mod, SignedMod, Xor, Move, ShiftRightSigned}
 use Rattle.bpf_model.specs.declared.insn.Insn.{Insn}
 use Rattle.bpf_model.specs.declared.opcode.Size.{Size}
 use Rattle.bpf_model.specs.declared.opcode.Size.TheVariants.{Word32, Word64}
@@ -14,6 +14,7 @@ use Rattle.bpf_model.specs.Arithmetic.{alu, signed}
 use Rattle.bpf_model.specs.Access.{place_of}
 use Rattle.bpf_model.specs.Operand.{computed, operand_value}
 use Rattle.scalar_domain.specs.Scalar.{Holds}
+use Rattle.scalar_domain.specs.Floor.{KeepsFloor}
 use Rattle.scalar_domain.specs.declared.scalar.Scalar.{Scalar}
 use Rattle.abstract_state.specs.declared.kind.RegKind.{RegKind}
 use Rattle.abstract_state.specs.declared.kind.RegKind.TheVariants.{Num}
@@ -21,13 +22,17 @@ use Rattle.abstract_state.specs.declared.kind.CellKind.{CellKind}
 use Rattle.abstract_state.specs.declared.kind.CellKind.TheVariants as cells
 use Rattle.abstract_state.specs.declared.kind.Region.{Region}
 use Rattle.abstract_state.specs.declared.state.AbsState.{AbsState}
-use Rattle.abstract_state.specs.State.{IsOf, IsNear, IsOfCell, IsNumber, Describes, kind_at, IsEnvironment, IsReady, Keeps, Transfers, base_of, IsInRegion}
-use Rattle.abstract_state.specs.Steps.{Gives, Computes, Shifts, SetsReg, Yields, Flows, Stepped}
+use Rattle.abstract_state.specs.declared.environment.EnvironmentShape.{EnvironmentShape}
+use Rattle.abstract_state.specs.State.{IsOf, IsOfCell, IsNumber, Describes, kind_at, IsEnvironment, Compares, Transfers, base_of, IsInRegion}
+use Rattle.abstract_state.specs.Facts.{Fact, Register as RegisterFact, FrameByte, FramePointer, FactHolds, Makes, IsReady, KeepsFacts}
+use Rattle.abstract_state.specs.Floor.{set_by, LoadsKnown, ComputesKnown, RefinesKnown, constant_of, IsNumbers, LeavesKnown, KeepsOthers}
+use Rattle.abstract_state.specs.Steps.{Gives, Computes, Shifts, SetsReg, Yields, Flows, single, Done, Stepped}
 use Rattle.bpf_model.specs.Step.{State, Environment, Moves, put, sets, map_value}
+use Rattle.bpf_model.specs.Near.{IsNear}
 use Rattle.bpf_model.specs.Spelling.{slot_count}
 use Rattle.bpf_model.specs.Plain.{Writes, WritesByte}
-use Rattle.bpf_model.specs.Graph.{falls}
-use Rattle.std.proofs.lemmas.Bool.{ne_eqb, eqb-false, lt-ltb}
+use Rattle.bpf_model.specs.Graph.{falls, distance}
+use Rattle.std.proofs.lemmas.Bool.{ne_eqb, eq-eqb, eqb-false, lt-ltb}
 use Rattle.std.proofs.lemmas.Result.{IfOk-weaker}
 use Rattle.bpf_model.specs.declared.insn.Operand.{Operand}
 use Rattle.bpf_model.specs.declared.insn.Operand.TheVariants.{Register, Immediate}
@@ -84,10 +89,23 @@ describes_put r k v place a b m s i n d = record {
   cells = λ q. subst (λ (f : List CellKind). IsOfCell (slice_index_or f q cells.Unwritten) (m.frame q)) (sym s.frame) (d.cells q);
 }
 
+-- The instruction sets this register, goes on, and does nothing else.
+pub record IsSetting (i : Insn) (dst : ℕ) : Type 0 where
+  pub goes_on : falls i ≡ true
+  pub stays : distance i ≡ None
+  pub sets : set_by i ≡ Some dst
+  pub writes : (r : ℕ) → Writes i r → r ≡ dst
+  pub no_bytes : (k : ℕ) → WritesByte i k → ⊥
+  pub no_test : (r : ℕ) → Compares i r → ⊥
+
+-- the register that was set
+pub set_there : (r : ℕ) (k : RegKind) (a b : AbsState) → SetsReg r k a b → kind_at b r ≡ k
+set_there r k a b s = s.regs r ∙ ap (λ t. if t then k else kind_at a r) (eq-eqb r r refl)
+
 -- an instruction that sets a register
-pub write_flows : (i : Insn) (dst : ℕ) (k : RegKind) (a b : AbsState) (ctx_len maps : ℕ) → (10 ≡ dst → ⊥) → SetsReg dst k a b
-    → ((env : Environment) (m : State) → IsEnvironment ctx_len maps env → Describes a m → Yields i dst k env m) → Flows i ctx_len maps a b
-write_flows i dst k a b ctx_len maps ne sets yields env m e d =
+write_flows : (i : Insn) (dst : ℕ) (k : RegKind) (a b : AbsState) (shape : EnvironmentShape) → (10 ≡ dst → ⊥) → SetsReg dst k a b
+    → ((env : Environment) (m : State) → IsEnvironment shape env → Describes a m → Yields i dst k env m) → Flows i shape a b
+write_flows i dst k a b shape ne sets yields env m e d =
     let y = yields env m e d in
     let next : State = record { regs = put dst y.0 m.regs; frame = m.frame; place = m.place + slot_count i } in (
       next,
@@ -97,8 +115,8 @@ write_flows i dst k a b ctx_len maps ne sets yields env m e d =
     )
 
 -- an instruction that falls through alone
-pub flows_transfers : (i : Insn) (a b : AbsState) (ctx_len maps : ℕ) → falls i ≡ true → Flows i ctx_len maps a b → Transfers i ctx_len maps a b None
-flows_transfers i a b ctx_len maps t flows env m e d =
+pub flows_transfers : (i : Insn) (a b : AbsState) (shape : EnvironmentShape) → falls i ≡ true → Flows i shape a b → Transfers i shape a b None
+flows_transfers i a b shape t flows env m e _ d =
     let r = flows env m e d in
     (Moves r.0, r.1, inl (t, r.2, r.3))
 
@@ -106,30 +124,38 @@ number_cond : (t : Bool) (k k' : RegKind) → IsNumber k → (t ≡ false → Is
 number_cond true k k' p q = p
 number_cond false k k' p q = q refl
 
-pub write_keeps : (i : Insn) (dst : ℕ) (k : RegKind) (a b : AbsState) → ((r : ℕ) → Writes i r → r ≡ dst) → ((q : ℕ) → WritesByte i q → ⊥) → (10 ≡ dst → ⊥)
-    → SetsReg dst k a b → IsNumber k → IsReady i a → Keeps i a b
-write_keeps i dst k a b writes no_bytes ne sets n ready = record {
-  frame = sets.regs 10 ∙ ap (λ t. if t then k else kind_at a 10) (ne_eqb 10 dst ne) ∙ ready.frame;
-  regs = λ r h. subst IsNumber (sym (sets.regs r))
-      (number_cond (r == dst) k (kind_at a r) n (λ f. elim h [ inl p ↦ p | inr w ↦ absurd (eqb-false r dst f (writes r w)) ]));
-  cells = λ q h. ap (λ (f : List CellKind). slice_index_or f q cells.Unwritten) sets.frame ∙ (elim h [ inl p ↦ p | inr w ↦ absurd (no_bytes q w) ]);
-}
+write_keeps : (i : Insn) (dst : ℕ) (k : RegKind) (a b : AbsState) → IsSetting i dst → (10 ≡ dst → ⊥) → SetsReg dst k a b → IsNumber k
+    → (fact : Fact) → FactHolds fact a ⊎ Makes i fact → FactHolds fact b
+write_keeps i dst k a b s ne sets n (RegisterFact r) h = subst IsNumber (sym (sets.regs r))
+    (number_cond (r == dst) k (kind_at a r) n (λ f. elim h [ inl p ↦ p | inr w ↦ absurd (eqb-false r dst f (s.writes r w)) ]))
+write_keeps i dst k a b s ne sets n (FrameByte q) h =
+    ap (λ (f : List CellKind). slice_index_or f q cells.Unwritten) sets.frame ∙ (elim h [ inl p ↦ p | inr w ↦ absurd (s.no_bytes q w) ])
+write_keeps i dst k a b s ne sets n FramePointer h =
+    sets.regs 10 ∙ ap (λ t. if t then k else kind_at a 10) (ne_eqb 10 dst ne) ∙ (elim h [ inl p ↦ p | inr w ↦ absurd w ])
 
 -- an instruction that sets a register and is done
-pub write_steps : (i : Insn) (dst : ℕ) (k : RegKind) (a b : AbsState) (area : Region) (ctx_len maps : ℕ)
-    → falls i ≡ true → ((r : ℕ) → Writes i r → r ≡ dst) → ((q : ℕ) → WritesByte i q → ⊥)
-    → (10 ≡ dst → ⊥) → SetsReg dst k a b → (IsReady i a → IsNumber k)
-    → ((r : ℕ) (m : State) → base_of i ≡ Some r → Describes a m → IsInRegion area (m.regs r))
-    → ((env : Environment) (m : State) → IsEnvironment ctx_len maps env → Describes a m → Yields i dst k env m)
-    → Stepped i ctx_len maps a b (Ok area)
-write_steps i dst k a b area ctx_len maps t writes no_bytes ne sets numbers reaches yields = record {
-  accepts = λ _. refl;
+pub write_done : (i : Insn) (dst : ℕ) (k : RegKind) (a b : AbsState) (region : Region) (shape : EnvironmentShape)
+    → IsSetting i dst → (10 ≡ dst → ⊥) → SetsReg dst k a b → (IsReady i a → IsNumber k)
+    → ((r : ℕ) (m : State) → base_of i ≡ Some r → Describes a m → IsInRegion region (m.regs r)) → LoadsKnown i b → ComputesKnown i a b → RefinesKnown false i a b
+    → ((env : Environment) (m : State) → IsEnvironment shape env → Describes a m → Yields i dst k env m)
+    → Stepped i shape a b (Ok (single region))
+write_done i dst k a b region shape s ne sets numbers reaches loads computes refines yields = record {
+  accepts = λ _. tt;
   memory = tt;
   unchanged = tt;
   done = record {
-    sound = λ _. flows_transfers i a b ctx_len maps t (write_flows i dst k a b ctx_len maps ne sets yields);
-    reaches = reaches;
-    keeps = λ ready. write_keeps i dst k a b writes no_bytes ne sets (numbers ready) ready;
+    sound = flows_transfers i a b shape s.goes_on (write_flows i dst k a b shape ne sets yields);
+    region = reaches;
+    compares = λ r m c d. absurd (s.no_test r c);
+    branches = λ x. absurd (x.1 s.stays);
+    keeps = λ ready. write_keeps i dst k a b s ne sets (numbers ready);
+    keeps_taken = λ ready. tt;
+    loads = loads;
+    computes = computes;
+    refines = refines;
+    refines_taken = tt;
+    others = λ r other _. sets.regs r ∙ ap (λ t. if t then k else kind_at a r) (ne_eqb r dst (λ e. other (s.sets ∙ ap Some (sym e))));
+    others_taken = tt;
   };
 }
 
@@ -149,8 +175,8 @@ move_computes op size dst src a y result e o h = IfOk-weaker result _ _
     (λ k f m d. subst (λ (op : AluOp). Gives k (computed size op (m.regs dst) (operand_value src m.regs))) (sym e) (f (m.regs dst) (operand_value src m.regs) (o m d) (near_operand src a m d)))
     h
 
-pub map_found : (map : ℤ) (n ctx_len maps : ℕ) (env : Environment) → map ≡ pos n → n < maps → IsEnvironment ctx_len maps env → map_value env map ≡ Some (Pointer (references.MapRef n))
-map_found map n ctx_len maps env e l i =
+pub map_found : (map : ℤ) (n : ℕ) (shape : EnvironmentShape) (env : Environment) → map ≡ pos n → n < shape.maps → IsEnvironment shape env → map_value env map ≡ Some (Pointer (references.MapRef n))
+map_found map n shape env e l i =
     ap (map_value env) e ∙ ap (λ t. if t then Some (Pointer (references.MapRef n)) else None) (lt-ltb n env.maps (subst (λ k. n < k) (sym i.bound) l))
 
 -- a reference moved forward, and back
@@ -170,3 +196,34 @@ moves_back size op o d by result e f value h =
     let x : o +ℤ (pos 0 -ℤ signed w64 n) ≡ p = omega (arith, ints) in
     (ap (λ z. Some (Pointer (references.Ctx z))) x, ap (λ z. Some (Pointer (references.Frame z))) x)) h in
     subst (λ size. IfOk result (λ p. Shifts size op o by p)) (sym e) (subst (λ op. IfOk result (λ p. Shifts Word64 op o by p)) (sym f) g)
+
+-- an operation that is no move
+pub leaves_known : (op : AluOp) (size : Size) (x y k : RegKind) → (op ≡ Move → ⊥) → ((a b : Scalar) → x ≡ Num a → y ≡ Num b → IsNumbers (KeepsFloor size op a b) k) → LeavesKnown op size x y k
+leaves_known Add size x y k ne h = h
+leaves_known Sub size x y k ne h = h
+leaves_known Mul size x y k ne h = h
+leaves_known Div size x y k ne h = h
+leaves_known SignedDiv size x y k ne h = h
+leaves_known Or size x y k ne h = h
+leaves_known And size x y k ne h = h
+leaves_known ShiftLeft size x y k ne h = h
+leaves_known ShiftRight size x y k ne h = h
+leaves_known Mod size x y k ne h = h
+leaves_known SignedMod size x y k ne h = h
+leaves_known Xor size x y k ne h = h
+leaves_known ShiftRightSigned size x y k ne h = h
+leaves_known Move size x y k ne h = absurd (ne refl)
+
+pub constant_is : (s : Scalar) (n : ℕ) → s.least ≡ n → s.greatest ≡ n → s.may ≡ n → s.must ≡ n → s ≡ constant_of n
+constant_is s n p q r t = ap (λ n. record { least = n; greatest = s.greatest; may = s.may; must = s.must }) p
+    ∙ ap (λ k. record { least = n; greatest = k; may = s.may; must = s.must }) q
+    ∙ ap (λ k. record { least = n; greatest = n; may = k; must = s.must }) r
+    ∙ ap (λ k. record { least = n; greatest = n; may = n; must = k }) t
+
+pub num_of : {a b : Scalar} → Num a ≡ Num b → a ≡ b
+num_of e = cc
+
+pub leaves_if : (op : AluOp) (size : Size) (x y x' y' : RegKind) (result : Result RegKind Fault) → (op ≡ Move → ⊥) → x ≡ x' → y ≡ y'
+    → ((a b : Scalar) → x ≡ Num a → y ≡ Num b → IfOk result (IsNumbers (KeepsFloor size op a b))) → IfOk result (LeavesKnown op size x' y')
+leaves_if op size x y x' y' (Ok k) ne p q h = leaves_known op size x' y' k ne (λ a b e f. h a b (p ∙ e) (q ∙ f))
+leaves_if op size x y x' y' (Err e) ne p q h = tt

@@ -9,6 +9,8 @@ use Rattle.bpf_model.specs.declared.insn.AluOp.{AluOp}
 use Rattle.bpf_model.specs.declared.insn.AluOp.TheVariants.{Add, Sub, Mul, Div, SignedDiv, Or, And, ShiftLeft, ShiftRight, Mod, SignedMod, Xor, Move, ShiftRightSigned}
 use Rattle.bpf_model.specs.declared.insn.SignExtension.{SignExtension}
 use Rattle.bpf_model.specs.declared.insn.SignExtension.TheVariants.{ByteTo32, ShortTo32, ByteTo64, ShortTo64, WordTo64}
+use Rattle.bpf_model.specs.declared.insn.UnaryOp.{UnaryOp}
+use Rattle.bpf_model.specs.declared.insn.UnaryOp.TheVariants.{Negate, ByteSwap, MoveSigned}
 use Rattle.bpf_model.specs.declared.opcode.ByteOrder.{ByteOrder}
 use Rattle.bpf_model.specs.declared.opcode.ByteOrder.TheVariants.{ToLittle, ToBig, Swap}
 use Rattle.bpf_model.specs.declared.opcode.SwapWidth.{SwapWidth}
@@ -19,7 +21,7 @@ use Rattle.bpf_model.specs.declared.opcode.Width as opcode_width
 use Rattle.bpf_model.specs.declared.opcode.Width.TheVariants as widths
 use Rattle.bpf_model.specs.declared.opcode.Size.{Size}
 use Rattle.bpf_model.specs.declared.opcode.Size.TheVariants.{Word32, Word64}
-use Rattle.bpf_model.specs.Arithmetic.{word, signed, operate, alu, negated, swapped_width, reordered, extended, moved_signed, loaded_signed}
+use Rattle.bpf_model.specs.Arithmetic.{word, signed, operate, alu, negated, swapped_width, reordered, extended, moved_signed, loaded_signed, unary}
 use Rattle.bpf_model.specs.Access.{byte_count, number_at}
 use Rattle.bpf_model.specs.Value.{◌>>=◌}
 use Rattle.bpf_model.specs.Operand.{computed}
@@ -33,12 +35,12 @@ reduced : (n w : ℕ) → n % 2 ^ w < 2 ^ w
 reduced n w = mod_below n (2 ^ w) (pow_pos w)
 
 -- a reduced number is a word
-pub word_lt : (w : Width) (z : ℤ) → word w z < 2 ^ bits w
+word_lt : (w : Width) (z : ℤ) → word w z < 2 ^ bits w
 word_lt w (pos a) = reduced a (bits w)
 word_lt w (negsuc a) = let p = pow_pos (bits w) in omega arith
 
 -- the result of an operation on words is a word
-pub operate_lt : (w : Width) (op : AluOp) (x y : ℕ) → x < 2 ^ bits w → y < 2 ^ bits w → operate w op x y < 2 ^ bits w
+operate_lt : (w : Width) (op : AluOp) (x y : ℕ) → x < 2 ^ bits w → y < 2 ^ bits w → operate w op x y < 2 ^ bits w
 operate_lt w Add x y p q = word_lt w (pos x +ℤ pos y)
 operate_lt w Sub x y p q = word_lt w (pos x -ℤ pos y)
 operate_lt w Mul x y p q = word_lt w (pos x *ℤ pos y)
@@ -61,17 +63,17 @@ pub alu_lt : (size : Size) (op : AluOp) (x y : ℕ) → x < 2 ^ 64 → y < 2 ^ 6
 alu_lt Word64 op x y p q = operate_lt w64 op x y p q
 alu_lt Word32 op x y p q = low_word (operate w32 op (x % 2 ^ 32) (y % 2 ^ 32)) (operate_lt w32 op (x % 2 ^ 32) (y % 2 ^ 32) (reduced x 32) (reduced y 32))
 
-pub negated_lt : (size : Size) (x : ℕ) → negated size x < 2 ^ 64
+negated_lt : (size : Size) (x : ℕ) → negated size x < 2 ^ 64
 negated_lt Word64 x = word_lt w64 (neg_ℤ (pos x))
 negated_lt Word32 x = low_word (word w32 (neg_ℤ (pos (x % 2 ^ 32)))) (word_lt w32 (neg_ℤ (pos (x % 2 ^ 32))))
 
-pub extended_64_lt : (w : Width) (x : ℕ) → extended w w64 x < 2 ^ 64
+extended_64_lt : (w : Width) (x : ℕ) → extended w w64 x < 2 ^ 64
 extended_64_lt w x = word_lt w64 (signed w (x % 2 ^ bits w))
 
-pub extended_32_lt : (w : Width) (x : ℕ) → extended w w32 x < 2 ^ 64
+extended_32_lt : (w : Width) (x : ℕ) → extended w w32 x < 2 ^ 64
 extended_32_lt w x = low_word (extended w w32 x) (word_lt w32 (signed w (x % 2 ^ bits w)))
 
-pub moved_signed_lt : (extension : SignExtension) (x : ℕ) → moved_signed extension x < 2 ^ 64
+moved_signed_lt : (extension : SignExtension) (x : ℕ) → moved_signed extension x < 2 ^ 64
 moved_signed_lt ByteTo32 x = extended_32_lt w8 x
 moved_signed_lt ShortTo32 x = extended_32_lt w16 x
 moved_signed_lt ByteTo64 x = extended_64_lt w8 x
@@ -97,10 +99,15 @@ low_lt swap_widths.Two x = let p = reduced x 16 in omega arith
 low_lt swap_widths.Four x = let p = reduced x 32 in omega arith
 low_lt swap_widths.Eight x = reduced x 64
 
-pub reordered_lt : (order : ByteOrder) (width : SwapWidth) (x : ℕ) → reordered order width x < 2 ^ 64
+reordered_lt : (order : ByteOrder) (width : SwapWidth) (x : ℕ) → reordered order width x < 2 ^ 64
 reordered_lt ToLittle width x = low_lt width x
 reordered_lt ToBig width x = swapped_lt width (x % 2 ^ bits (swapped_width width))
 reordered_lt Swap width x = swapped_lt width (x % 2 ^ bits (swapped_width width))
+
+pub unary_lt : (op : UnaryOp) (x : ℕ) → unary op x < 2 ^ 64
+unary_lt (Negate size) x = negated_lt size x
+unary_lt (ByteSwap order width) x = reordered_lt order width x
+unary_lt (MoveSigned extension src) x = moved_signed_lt extension x
 
 -- Where each of so many places holds a byte, a number of so many bytes stands there.
 pub number_read : (bytes : ℕ → Option ℕ) (at width : ℕ) → ((k : ℕ) → at ≤ k → k < at + width → (b : ℕ) × (bytes k ≡ Some b) × (b < 256))

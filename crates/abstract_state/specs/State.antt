@@ -1,17 +1,17 @@
 -- What an abstract state says of the states of a run.
-use Rattle.std.specs.Prelude.{◌≡◌, ◌≢◌, ℕ, ◌+◌, ◌^◌, ◌<◌, length, slice_index_or, Option, Some, None, Result, Ok, Err, true, ◌⊎◌, ℤ, pos, negsuc, ◌≤ℤ◌, unwrap_or}
+use Rattle.std.specs.Prelude.{◌≡◌, ◌≢◌, ℕ, ◌+◌, ◌^◌, ◌<◌, length, slice_index_or, Option, Some, None, Result, Ok, Err, true, ◌⊎◌, ℤ, unwrap_or, option_map}
 use Rattle.bpf_model.specs.declared.value.Value.{Value}
-use Rattle.bpf_model.specs.declared.value.Value.TheVariants.{Nothing, Number, Pointer}
-use Rattle.bpf_model.specs.declared.value.Reference.{Reference}
+use Rattle.bpf_model.specs.declared.value.Value.TheVariants.{Number, Pointer}
 use Rattle.bpf_model.specs.declared.value.Reference.TheVariants as references
 use Rattle.bpf_model.specs.declared.value.Cell.{Cell}
 use Rattle.bpf_model.specs.declared.value.Cell.TheVariants as model
 use Rattle.bpf_model.specs.declared.insn.Insn.{Insn}
-use Rattle.bpf_model.specs.declared.insn.Insn.TheVariants.{Load, LoadSigned, Store, StoreRegister}
+use Rattle.bpf_model.specs.declared.insn.Insn.TheVariants.{JumpIf, Load, LoadSigned, Store}
+use Rattle.bpf_model.specs.Near.{IsNear}
 use Rattle.bpf_model.specs.Spelling.{slot_count}
 use Rattle.bpf_model.specs.Step.{State, Environment, Outcome, Moves, Exits, after}
 use Rattle.bpf_model.specs.Graph.{falls, distance, JumpsTo}
-use Rattle.bpf_model.specs.Plain.{Reads, Writes, ReadsByte, WritesByte, IsSimple}
+use Rattle.bpf_model.specs.Plain.{Names}
 use Rattle.scalar_domain.specs.Scalar.{Holds}
 use Rattle.abstract_state.specs.declared.kind.RegKind.{RegKind}
 use Rattle.abstract_state.specs.declared.kind.RegKind.TheVariants.{Unwritten, Mixed, Num, Ctx, Frame, Map}
@@ -21,7 +21,9 @@ use Rattle.abstract_state.specs.declared.kind.Region.{Region}
 use Rattle.abstract_state.specs.declared.kind.Region.TheVariants as regions
 use Rattle.abstract_state.specs.declared.fault.Fault.{Fault}
 use Rattle.abstract_state.specs.declared.fault.Fault.TheVariants.{Memory}
+use Rattle.abstract_state.specs.declared.environment.EnvironmentShape.{EnvironmentShape}
 use Rattle.abstract_state.specs.declared.state.AbsState.{AbsState}
+use Rattle.abstract_state.specs.declared.state.Flow.{Flow}
 
 -- a value of the kind
 abbrev pub IsOf : RegKind → Value → Type 0
@@ -51,21 +53,6 @@ kind_at a r = slice_index_or a.regs r Unwritten
 abbrev pub cell_at : AbsState → ℕ → CellKind
 cell_at a k = slice_index_or a.frame k cells.Unwritten
 
--- the offset of a reference lies within 2^29 of the start of its region
-abbrev pub InLimits : ℤ → Type 0
-InLimits o = (negsuc 536870911 ≤ℤ o) × (o ≤ℤ pos 536870912)
-
-abbrev pub IsNearReference : Reference → Type 0
-IsNearReference (references.Ctx o) = InLimits o
-IsNearReference (references.Frame o) = InLimits o
-IsNearReference (references.MapRef m) = Unit {0}
-IsNearReference (references.Elem n o) = InLimits o
-
-abbrev pub IsNear : Value → Type 0
-IsNear Nothing = Unit {0}
-IsNear (Number n) = Unit {0}
-IsNear (Pointer r) = IsNearReference r
-
 -- The state of a run is one of those that the abstract state stands for.
 pub record Describes (a : AbsState) (m : State) : Type 0 where
   pub regs : (r : ℕ) → IsOf (kind_at a r) (m.regs r)
@@ -76,33 +63,37 @@ pub record Describes (a : AbsState) (m : State) : Type 0 where
 abbrev pub Wider : AbsState → AbsState → Type 0
 Wider a b = (m : State) → Describes a m → Describes b m
 
--- what a run is started on: a context of this length, and so many maps
-pub record IsEnvironment (ctx_len maps : ℕ) (env : Environment) : Type 0 where
-  pub long : length env.context ≡ ctx_len
+-- What a run is started on has this shape: a context of this length, and so many maps.
+pub record IsEnvironment (shape : EnvironmentShape) (env : Environment) : Type 0 where
+  pub long : length env.context ≡ shape.ctx_len
   pub bytes : (k : ℕ) → slice_index_or env.context k 0 < 256
-  pub bound : env.maps ≡ maps
+  pub bound : env.maps ≡ shape.maps
 
--- jumps go forward
-abbrev pub IsForward : Insn → Type 0
-IsForward i = (d : ℤ) → distance i ≡ Some d → (n : ℕ) × (d ≡ pos n)
+-- Where the instruction jumps from this slot, it leads to a slot, and not before slot 0.
+abbrev pub HasTarget : Insn → ℕ → Type 0
+HasTarget i slot = (d : ℤ) → distance i ≡ Some d → (target : ℕ) × JumpsTo i slot target
 
 -- The outcome is an exit, or described where control falls through, or where it jumps: by the state beside it, where there is one.
 abbrev pub Leads : Insn → AbsState → Option AbsState → ℕ → Outcome → Type 0
-Leads i new taken place (Exits n) = Unit {0}
-Leads i new taken place (Moves m) =
-    ((falls i ≡ true) × (m.place ≡ place + slot_count i) × Describes new m) ⊎ (JumpsTo i place m.place × Describes (unwrap_or taken new) m)
+Leads i new taken slot (Exits n) = Unit {0}
+Leads i new taken slot (Moves m) =
+    ((falls i ≡ true) × (m.place ≡ slot + slot_count i) × Describes new m) ⊎ (JumpsTo i slot m.place × Describes (unwrap_or taken new) m)
 
--- From each described state the instruction isn't stuck, and what comes is described.
-abbrev pub Transfers : Insn → ℕ → ℕ → AbsState → AbsState → Option AbsState → Type 0
-Transfers i ctx_len maps old new taken =
-    (env : Environment) (m : State) → IsEnvironment ctx_len maps env → Describes old m → (out : Outcome) × (after i env m ≡ Some out) × Leads i new taken m.place out
+-- From each described state where its jump has a target the instruction isn't stuck, and what comes is described.
+abbrev pub Transfers : Insn → EnvironmentShape → AbsState → AbsState → Option AbsState → Type 0
+Transfers i shape old new taken =
+    (env : Environment) (m : State) → IsEnvironment shape env → HasTarget i m.place → Describes old m
+    → (out : Outcome) × (after i env m ≡ Some out) × Leads i new taken m.place out
+
+-- the state where a conditional jump is taken
+abbrev pub taken_state : Flow → Option AbsState
+taken_state f = option_map (λ b. b.value) f.taken
 
 -- the register through which a memory instruction reaches memory
 abbrev pub base_of : Insn → Option ℕ
 base_of (Load width dst src offset) = Some src
 base_of (LoadSigned width dst src offset) = Some src
-base_of (Store width dst offset imm) = Some dst
-base_of (StoreRegister width dst src offset) = Some dst
+base_of (Store width dst offset src) = Some dst
 base_of _ = None
 
 abbrev pub IsInRegion : Region → Value → Type 0
@@ -110,23 +101,14 @@ IsInRegion regions.None v = ⊥
 IsInRegion regions.Ctx v = (o : ℤ) × (v ≡ Pointer (references.Ctx o))
 IsInRegion regions.Frame v = (o : ℤ) × (v ≡ Pointer (references.Frame o))
 
+-- A conditional jump compares the register.
+abbrev pub Compares : Insn → ℕ → Type 0
+Compares (JumpIf condition size dst src offset) r = (r ≡ dst) ⊎ Names src r
+Compares _ r = ⊥
+
 -- the instruction both falls through and jumps
 abbrev pub IsBranch : Insn → Type 0
 IsBranch i = (falls i ≡ true) × (distance i ≢ None)
-
--- All that a simple instruction reads is known to be written as a number, and r10 is the frame's end.
-pub record IsReady (i : Insn) (a : AbsState) : Type 0 where
-  pub simple : IsSimple i
-  pub keeps_frame : Writes i 10 → ⊥
-  pub frame : kind_at a 10 ≡ Frame (pos 512)
-  pub regs : (r : ℕ) → Reads i r → IsNumber (kind_at a r)
-  pub cells : (k : ℕ) → ReadsByte i k → cell_at a k ≡ cells.Byte
-
--- numbers and bytes stay so, what is written becomes so, and r10 stays the frame's end
-pub record Keeps (i : Insn) (a b : AbsState) : Type 0 where
-  pub frame : kind_at b 10 ≡ Frame (pos 512)
-  pub regs : (r : ℕ) → IsNumber (kind_at a r) ⊎ Writes i r → IsNumber (kind_at b r)
-  pub cells : (k : ℕ) → (cell_at a k ≡ cells.Byte) ⊎ WritesByte i k → cell_at b k ≡ cells.Byte
 
 -- no refusal but for want of memory
 abbrev pub IsFine : {A : Type 0} → Result A Fault → Type 0

@@ -1,21 +1,20 @@
 -- How states are joined and changed, a part at a time.
-use Rattle.std.specs.Prelude.{◌≡◌, ℕ, ◌+◌, ◌^◌, ◌<◌, Option, Some, None, Result, IfOk, IfErr, OnOk, OnErr, IsOk, IsSome, ℤ, if◌then◌else◌}
+use Rattle.std.specs.Prelude.{◌≡◌, ℕ, ◌+◌, ◌^◌, ◌<◌, Option, Some, None, Result, IfOk, IfErr, IfSome, OnErr, IsOk, IsSome, ℤ, true, false, if◌then◌else◌}
 use Rattle.bpf_model.specs.declared.value.Value.{Value}
 use Rattle.bpf_model.specs.declared.value.Value.TheVariants.{Number, Pointer}
 use Rattle.bpf_model.specs.declared.value.Reference.TheVariants as references
 use Rattle.bpf_model.specs.declared.insn.Insn.{Insn}
-use Rattle.bpf_model.specs.declared.insn.Insn.TheVariants.{Store, StoreRegister}
 use Rattle.bpf_model.specs.declared.insn.AluOp.{AluOp}
 use Rattle.bpf_model.specs.declared.insn.Operand.{Operand}
-use Rattle.bpf_model.specs.declared.insn.Operand.TheVariants.{Register, Immediate}
-use Rattle.bpf_model.specs.declared.opcode.Width.{Width}
 use Rattle.bpf_model.specs.declared.opcode.Size.{Size}
 use Rattle.bpf_model.specs.Frame.{is_within}
+use Rattle.bpf_model.specs.Near.{IsNear}
 use Rattle.bpf_model.specs.Spelling.{slot_count}
 use Rattle.bpf_model.specs.Operand.{operand_value, computed}
 use Rattle.bpf_model.specs.Step.{State, Environment, Moves, after, put, sets, load_from}
 use Rattle.scalar_domain.specs.Scalar.{Holds}
 use Rattle.scalar_domain.specs.declared.scalar.Scalar.{Scalar}
+use Rattle.abstract_state.specs.declared.environment.EnvironmentShape.{EnvironmentShape}
 use Rattle.abstract_state.specs.declared.kind.RegKind.{RegKind}
 use Rattle.abstract_state.specs.declared.kind.RegKind.TheVariants as kinds
 use Rattle.abstract_state.specs.declared.kind.CellKind.{CellKind}
@@ -25,7 +24,9 @@ use Rattle.abstract_state.specs.declared.fault.Fault.{Fault}
 use Rattle.abstract_state.specs.declared.fault.Fault.TheVariants.{Memory}
 use Rattle.abstract_state.specs.declared.state.AbsState.{AbsState}
 use Rattle.abstract_state.specs.declared.state.Flow.{Flow}
-use Rattle.abstract_state.specs.State.{IsOf, IsNumber, IsNear, Describes, IsEnvironment, kind_at, cell_at, IsForward, IsBranch, Transfers, base_of, IsInRegion, IsReady, IsFine, Keeps}
+use Rattle.abstract_state.specs.State.{IsOf, IsNumber, Describes, IsEnvironment, kind_at, cell_at, IsBranch, Compares, Transfers, base_of, IsInRegion, taken_state, IsFine}
+use Rattle.abstract_state.specs.Facts.{IsReady, KeepsFacts}
+use Rattle.abstract_state.specs.Floor.{LoadsKnown, ComputesKnown, RefinesKnown, KeepsOthers}
 
 -- a byte where both are
 abbrev pub join_cell : CellKind → CellKind → CellKind
@@ -74,8 +75,8 @@ abbrev pub Loads : ℕ → ℤ → Environment → State → Value → Type 0
 Loads width offset env m base = (n : ℕ) × (load_from env m width offset base ≡ Some (Number n)) × (n < 256 ^ width)
 
 -- From each described state the instruction leads to the next one, in a state that is described.
-abbrev pub Flows : Insn → ℕ → ℕ → AbsState → AbsState → Type 0
-Flows i ctx_len maps old new = (env : Environment) (m : State) → IsEnvironment ctx_len maps env → Describes old m
+abbrev pub Flows : Insn → EnvironmentShape → AbsState → AbsState → Type 0
+Flows i shape old new = (env : Environment) (m : State) → IsEnvironment shape env → Describes old m
     → (next : State) × (after i env m ≡ Some (Moves next)) × (next.place ≡ m.place + slot_count i) × Describes new next
 
 -- The instruction sets the register to a value of the kind, and goes on.
@@ -86,31 +87,28 @@ Yields i dst k env m = (v : Value) × (after i env m ≡ sets (slot_count i) dst
 abbrev pub HasMemory : {A : Type 0} → Result A Fault → Type 0
 HasMemory r = IfErr r (λ e. e ≡ Memory → ⊥)
 
--- An instruction that has no second state behind it: all that is said of it.
-pub record Done (i : Insn) (ctx_len maps : ℕ) (old new : AbsState) (area : Region) : Type 0 where
-  pub sound : IsForward i → Transfers i ctx_len maps old new None
-  pub reaches : (b : ℕ) (m : State) → base_of i ≡ Some b → Describes old m → IsInRegion area (m.regs b)
-  pub keeps : IsReady i old → Keeps i old new
+-- The flow of an instruction with no second state behind it.
+abbrev pub single : Region → Flow
+single region = record { region = region; taken = None }
+
+-- All that is said of an instruction that isn't refused.
+pub record Done (i : Insn) (shape : EnvironmentShape) (old new : AbsState) (flow : Flow) : Type 0 where
+  pub sound : Transfers i shape old new (taken_state flow)
+  pub region : (b : ℕ) (m : State) → base_of i ≡ Some b → Describes old m → IsInRegion flow.region (m.regs b)
+  pub compares : (r : ℕ) (m : State) → Compares i r → Describes old m → (n : ℕ) × (m.regs r ≡ Number n)
+  pub branches : IsBranch i → IsSome flow.taken
+  pub keeps : IsReady i old → KeepsFacts i old new
+  pub keeps_taken : IsReady i old → IfSome (taken_state flow) (KeepsFacts i old)
+  pub loads : LoadsKnown i new
+  pub computes : ComputesKnown i old new
+  pub refines : RefinesKnown false i old new
+  pub refines_taken : IfSome (taken_state flow) (RefinesKnown true i old)
+  pub others : KeepsOthers i old new
+  pub others_taken : IfSome (taken_state flow) (KeepsOthers i old)
 
 -- It is done, or refused.
-pub record Stepped (i : Insn) (ctx_len maps : ℕ) (old new : AbsState) (result : Result Region Fault) : Type 0 where
-  pub done : IfOk result (λ area. Done i ctx_len maps old new area)
-  pub memory : HasMemory result
-  pub unchanged : OnErr result (new ≡ old)
-  pub accepts : IsReady i old → IsOk result
-
--- the store of an operand
-abbrev pub stored_by : Width → ℕ → Operand → ℤ → Insn
-stored_by width dst (Register src) offset = StoreRegister width dst src offset
-stored_by width dst (Immediate imm) offset = Store width dst offset imm
-
--- A conditional jump: both edges, the one that is taken beside the new state, or refused.
-pub record IsSplit (i : Insn) (ctx_len maps : ℕ) (old new : AbsState) (result : Result Flow Fault) : Type 0 where
-  pub sound : IfOk result (λ f. IsForward i → Transfers i ctx_len maps old new f.taken)
-  pub reaches : IfOk result (λ f. (b : ℕ) (m : State) → base_of i ≡ Some b → Describes old m → IsInRegion f.region (m.regs b))
-  pub branches : IfOk result (λ f. IsBranch i → IsSome f.taken)
-  pub accepts : IsReady i old → IsFine result
+pub record Stepped (i : Insn) (shape : EnvironmentShape) (old new : AbsState) (result : Result Flow Fault) : Type 0 where
+  pub done : IfOk result (Done i shape old new)
   pub memory : IfErr result (λ e. e ≡ Memory → IsBranch i)
   pub unchanged : OnErr result (new ≡ old)
-  pub keeps : OnOk result (IsReady i old → Keeps i old new)
-  pub keeps_taken : IfOk result (λ f. IsReady i old → (t : AbsState) → f.taken ≡ Some t → Keeps i old t)
+  pub accepts : IsReady i old → IsFine result

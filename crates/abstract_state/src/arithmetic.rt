@@ -1,19 +1,22 @@
 //! Instructions that compute, and those that load a number or a map from the program.
 ghost use Rattle.std.specs.Prelude.{◌≡◌, ℕ, ◌<◌, IfOk, IsOk, pos};
+ghost use Rattle.bpf_model.specs.Operand.{unary_source};
 ghost use Rattle.bpf_model.specs.Plain.{Reads};
 ghost use Rattle.abstract_state.specs.State.{IsNumber, kind_at};
+ghost use Rattle.abstract_state.specs.Floor.{operand_kind, LeavesKnown};
 ghost use Rattle.abstract_state.specs.Steps.{Computes, Stepped, HasMemory};
 
 use crate::compute::{combined, copied};
+use crate::environment::EnvironmentShape;
 use crate::fault::Fault;
 use crate::kind::{RegKind, Region};
 use crate::registers::check_writable;
-use crate::state::AbsState;
-use bpf_model::{AluOp, ByteOrder, Insn, Operand, Reg, SignExtension, Size, SwapWidth};
+use crate::state::{AbsState, Flow, single_flow};
+use bpf_model::{AluOp, Insn, Operand, Reg, Size, UnaryOp};
 use scalar_domain::Scalar;
 
-/// The place of a map in the program's list of so many.
-fn map_place(map: i32, maps: usize) -> Result<usize, Fault>
+/// The index of a map in the program's list of so many.
+fn map_index(map: i32, maps: usize) -> Result<usize, Fault>
     ensures value { IfOk result (λ n. map ≡ pos n) }
     ensures bound { IfOk result (λ n. n < maps) }
     ensures memory { HasMemory result }
@@ -24,9 +27,20 @@ fn map_place(map: i32, maps: usize) -> Result<usize, Fault>
     Ok(map as usize)
 }
 
+/// The register that an operation of one operand reads.
+fn source_of(op: &UnaryOp, dst: Reg) -> Reg
+    ensures { result ≡ unary_source op.now dst }
+{
+    match op {
+        UnaryOp::MoveSigned { src, .. } => *src,
+        UnaryOp::Negate(_) | UnaryOp::ByteSwap { .. } => dst,
+    }
+}
+
 impl AbsState {
     fn computed(&self, op: AluOp, size: Size, dst: Reg, src: &Operand) -> Result<RegKind, Fault>
         ensures sound { IfOk result (λ k. Computes size op dst src.now self.now k) }
+        ensures floor { IfOk result (LeavesKnown op size (kind_at self.now dst) (operand_kind src.now self.now)) }
         ensures accepts { ((r : ℕ) → Reads (Insn.Alu op size dst src.now) r → IsNumber (kind_at self.now r)) → IsOk result }
         ensures numbers { ((r : ℕ) → Reads (Insn.Alu op size dst src.now) r → IsNumber (kind_at self.now r)) → IfOk result IsNumber }
         ensures memory { HasMemory result }
@@ -47,66 +61,43 @@ impl AbsState {
         size: Size,
         dst: Reg,
         src: &Operand,
-    ) -> Result<Region, Fault>
-        ensures { (ctx_len maps : ℕ) → Stepped (Insn.Alu op size dst src.now) ctx_len maps self.old self.new result }
+    ) -> Result<Flow, Fault>
+        ensures { (shape : EnvironmentShape) → Stepped (Insn.Alu op size dst src.now) shape self.old self.new result }
     {
         check_writable(dst)?;
         let kind = self.computed(op, size, dst, src)?;
         self.set(dst, kind);
-        Ok(Region::None)
+        Ok(single_flow(Region::None))
     }
 
-    pub(crate) fn move_signed(
-        &mut self,
-        extension: SignExtension,
-        dst: Reg,
-        src: Reg,
-    ) -> Result<Region, Fault>
-        ensures { (ctx_len maps : ℕ) → Stepped (Insn.MoveSigned extension dst src) ctx_len maps self.old self.new result }
+    pub(crate) fn unary(&mut self, op: &UnaryOp, dst: Reg) -> Result<Flow, Fault>
+        ensures { (shape : EnvironmentShape) → Stepped (Insn.Unary op.now dst) shape self.old self.new result }
     {
         check_writable(dst)?;
-        let n = self.number(src)?;
-        self.set(dst, RegKind::Num(Scalar::move_signed(extension, n)));
-        Ok(Region::None)
+        let n = self.number(source_of(op, dst))?;
+        self.set(dst, RegKind::Num(Scalar::unary(*op, n)));
+        Ok(single_flow(Region::None))
     }
 
-    pub(crate) fn negate(&mut self, size: Size, dst: Reg) -> Result<Region, Fault>
-        ensures { (ctx_len maps : ℕ) → Stepped (Insn.Negate size dst) ctx_len maps self.old self.new result }
-    {
-        check_writable(dst)?;
-        let n = self.number(dst)?;
-        self.set(dst, RegKind::Num(Scalar::negate(size, n)));
-        Ok(Region::None)
-    }
-
-    pub(crate) fn byte_swap(
-        &mut self,
-        order: ByteOrder,
-        width: SwapWidth,
-        dst: Reg,
-    ) -> Result<Region, Fault>
-        ensures { (ctx_len maps : ℕ) → Stepped (Insn.ByteSwap order width dst) ctx_len maps self.old self.new result }
-    {
-        check_writable(dst)?;
-        let n = self.number(dst)?;
-        self.set(dst, RegKind::Num(Scalar::byte_swap(order, width, n)));
-        Ok(Region::None)
-    }
-
-    pub(crate) fn load_number(&mut self, dst: Reg, number: u64) -> Result<Region, Fault>
-        ensures { (ctx_len maps : ℕ) → Stepped (Insn.LoadNumber dst number) ctx_len maps self.old self.new result }
+    pub(crate) fn load_number(&mut self, dst: Reg, number: u64) -> Result<Flow, Fault>
+        ensures { (shape : EnvironmentShape) → Stepped (Insn.LoadNumber dst number) shape self.old self.new result }
     {
         check_writable(dst)?;
         self.set(dst, RegKind::Num(Scalar::constant(number)));
-        Ok(Region::None)
+        Ok(single_flow(Region::None))
     }
 
-    pub(crate) fn load_map(&mut self, dst: Reg, map: i32, maps: usize) -> Result<Region, Fault>
-        ensures { (ctx_len : ℕ) → Stepped (Insn.LoadMap dst map) ctx_len maps self.old self.new result }
+    pub(crate) fn load_map(
+        &mut self,
+        dst: Reg,
+        map: i32,
+        shape: EnvironmentShape,
+    ) -> Result<Flow, Fault>
+        ensures { Stepped (Insn.LoadMap dst map) shape self.old self.new result }
     {
         check_writable(dst)?;
-        let place = map_place(map, maps)?;
-        self.set(dst, RegKind::Map(place));
-        Ok(Region::None)
+        let index = map_index(map, shape.maps)?;
+        self.set(dst, RegKind::Map(index));
+        Ok(single_flow(Region::None))
     }
 }

@@ -1,8 +1,11 @@
 //! What operations give, by the kinds of their operands.
-ghost use Rattle.std.specs.Prelude.{◌≡◌, ℕ, IfOk, IsOk};
+ghost use Rattle.std.specs.Prelude.{◌≡◌, IfOk, IsOk};
+ghost use Rattle.bpf_model.specs.Near.{IsNear};
 ghost use Rattle.bpf_model.specs.Operand.{computed};
 ghost use Rattle.bpf_model.specs.declared.value.Value.{Value};
-ghost use Rattle.abstract_state.specs.State.{IsOf, IsNumber, IsNear};
+ghost use Rattle.abstract_state.specs.State.{IsOf, IsNumber};
+ghost use Rattle.scalar_domain.specs.Floor.{KeepsFloor};
+ghost use Rattle.abstract_state.specs.Floor.{IsNumbers, LeavesKnown};
 ghost use Rattle.abstract_state.specs.Steps.{Gives, IsHeld, HasMemory};
 
 use crate::fault::Fault;
@@ -27,6 +30,7 @@ pub(crate) fn numbers(kind: RegKind) -> Result<Scalar, Fault>
 pub(crate) fn copied(size: Size, kind: RegKind) -> Result<RegKind, Fault>
     requires { IsHeld kind }
     ensures sound { IfOk result (λ k. (v w : Value) → IsOf kind w → IsNear w → Gives k (computed size AluOp.Move v w)) }
+    ensures floor { (v : RegKind) → IfOk result (LeavesKnown AluOp.Move size v kind) }
     ensures accepts { IsNumber kind → IsOk result }
     ensures keeps { IsNumber kind → IfOk result IsNumber }
     ensures memory { HasMemory result }
@@ -44,6 +48,7 @@ pub(crate) fn copied(size: Size, kind: RegKind) -> Result<RegKind, Fault>
 /// What any other operation leaves.
 pub(crate) fn combined(size: Size, op: AluOp, x: RegKind, y: RegKind) -> Result<RegKind, Fault>
     ensures sound { IfOk result (λ k. (v w : Value) → IsOf x v → IsOf y w → Gives k (computed size op v w)) }
+    ensures floor { (a b : Scalar) → x ≡ RegKind.Num a → y ≡ RegKind.Num b → IfOk result (IsNumbers (KeepsFloor size op a b)) }
     ensures accepts { IsNumber x → IsNumber y → IsOk result }
     ensures keeps { IsNumber x → IsNumber y → IfOk result IsNumber }
     ensures memory { HasMemory result }

@@ -1,14 +1,13 @@
-//! The 512 bytes of the frame, by what is known of each.
+//! The bytes of the frame, by what is known of each.
 ghost use Rattle.std.specs.Prelude.{◌≡◌, ℕ, ◌+◌, ◌<◌, ◌≤◌, slice_index_or, length, IfOk, IsTrue, if◌then◌else◌};
+ghost use Rattle.bpf_model.specs.declared.limits.TheConstants.{FRAME_BYTES};
 ghost use Rattle.bpf_model.specs.Frame.{is_within};
 ghost use Rattle.abstract_state.specs.Steps.{join_cell};
 
 use crate::kind::CellKind;
+use bpf_model::FRAME_BYTES;
 use std::alloc::{AllocError, Global};
 use std::marker::Model;
-
-/// The length of the frame.
-pub(crate) const FRAME_BYTES: usize = 512;
 
 /// What is known of each byte of the frame.
 #[derive(Drop)]
@@ -18,13 +17,14 @@ pub struct FrameCells {
 
 impl Model for FrameCells {
     ghost use Rattle.std.specs.Prelude.{List, ◌≡◌, length};
+    ghost use Rattle.bpf_model.specs.declared.limits.TheConstants.{FRAME_BYTES};
     ghost use Rattle.abstract_state.specs.declared.kind.CellKind.{CellKind};
 
     ghost Value = { List CellKind };
 
     ghost view = { λ f. f.cells.items };
 
-    ghost invariant = { λ f. length f.cells.items ≡ 512 };
+    ghost invariant = { λ f. length f.cells.items ≡ FRAME_BYTES };
 }
 
 impl FrameCells {
@@ -50,7 +50,7 @@ impl FrameCells {
 
     /// Bytes are written to so many cells from a place on.
     pub(crate) fn write(&mut self, at: usize, width: usize)
-        requires { at + width ≤ 512 }
+        requires { at + width ≤ FRAME_BYTES }
         ensures { (k : ℕ) → slice_index_or self.new k CellKind.Unwritten ≡ (if is_within at width k then CellKind.Byte else slice_index_or self.old k CellKind.Unwritten) }
     {
         write_bytes(&mut self.cells, at, width);
@@ -58,7 +58,7 @@ impl FrameCells {
 
     /// Whether so many cells from a place on are bytes.
     pub(crate) fn is_written(&self, at: usize, width: usize) -> bool
-        requires { at + width ≤ 512 }
+        requires { at + width ≤ FRAME_BYTES }
         ensures sound { IsTrue result → (k : ℕ) → at ≤ k → k < at + width → slice_index_or self.now k CellKind.Unwritten ≡ CellKind.Byte }
         ensures accepts { ((k : ℕ) → at ≤ k → k < at + width → slice_index_or self.now k CellKind.Unwritten ≡ CellKind.Byte) → IsTrue result }
     {

@@ -4,6 +4,7 @@
 mod arithmetic;
 mod compute;
 mod control;
+mod environment;
 mod fault;
 mod frame;
 mod kind;
@@ -12,10 +13,8 @@ mod offset;
 mod registers;
 mod state;
 
+pub use environment::EnvironmentShape;
 pub use fault::Fault;
 pub use frame::FrameCells;
 pub use kind::{CellKind, RegKind, Region};
 pub use state::{AbsState, Flow};
-
-#[cfg(test)]
-mod tests;

@@ -1,18 +1,26 @@
 //! Loads and stores.
 ghost use Rattle.std.specs.Prelude.{◌≡◌, ℕ, ◌+◌, ◌<◌, ◌≤◌, IfOk, IsOk, Some, ℤ, pos, ◌+ℤ◌};
+ghost use Rattle.bpf_model.specs.declared.limits.TheConstants.{FRAME_BYTES};
 ghost use Rattle.bpf_model.specs.Access.{byte_count, place_of};
 ghost use Rattle.bpf_model.specs.Step.{State, Environment};
 ghost use Rattle.abstract_state.specs.State.{Describes, IsEnvironment, IsInRegion, IsNumber, kind_at, cell_at};
-ghost use Rattle.abstract_state.specs.Steps.{Loads, SetsBytes, Stepped, stored_by, IsHeld, HasMemory};
+ghost use Rattle.abstract_state.specs.Steps.{Loads, SetsBytes, Stepped, IsHeld, HasMemory};
 
+use crate::environment::EnvironmentShape;
 use crate::fault::Fault;
-use crate::frame::FRAME_BYTES;
 use crate::kind::{CellKind, RegKind, Region};
 use crate::offset::place_in;
 use crate::registers::check_writable;
-use crate::state::AbsState;
-use bpf_model::{Insn, Operand, Reg, SignedWidth, Width};
+use crate::state::{AbsState, Flow, single_flow};
+use bpf_model::{FRAME_BYTES, Insn, Operand, Reg, SignedWidth, Width};
 use scalar_domain::Scalar;
+
+/// An address as an instruction gives it: an offset in bytes from what a register holds.
+#[derive(Clone, Copy)]
+pub(crate) struct Address {
+    pub base: Reg,
+    pub offset: i16,
+}
 
 /// The offset from the frame's start at which a base points, where the operand may be stored through it.
 fn store_base(base: RegKind, value: RegKind) -> Result<i32, Fault>
@@ -32,19 +40,24 @@ fn store_base(base: RegKind, value: RegKind) -> Result<i32, Fault>
 
 impl AbsState {
     /// Which region a load reads, where every byte of it is written.
-    fn readable(&self, width: Width, src: Reg, offset: i16, ctx_len: usize) -> Result<Region, Fault>
-        ensures loads { IfOk result (λ _. (maps : ℕ) (env : Environment) (m : State) → IsEnvironment ctx_len maps env → Describes self.now m → Loads (byte_count width) offset env m (m.regs src)) }
-        ensures region { IfOk result (λ region. (m : State) → Describes self.now m → IsInRegion region (m.regs src)) }
-        ensures accepts { (at : ℕ) → kind_at self.now src ≡ RegKind.Frame (pos 512) → place_of 512 (byte_count width) (pos 512 +ℤ offset) ≡ Some at → ((k : ℕ) → at ≤ k → k < at + byte_count width → cell_at self.now k ≡ CellKind.Byte) → IsOk result }
+    fn readable(
+        &self,
+        width: Width,
+        from: Address,
+        shape: EnvironmentShape,
+    ) -> Result<Region, Fault>
+        ensures loads { IfOk result (λ _. (env : Environment) (m : State) → IsEnvironment shape env → Describes self.now m → Loads (byte_count width) from.offset env m (m.regs from.base)) }
+        ensures region { IfOk result (λ region. (m : State) → Describes self.now m → IsInRegion region (m.regs from.base)) }
+        ensures accepts { (at : ℕ) → kind_at self.now from.base ≡ RegKind.Frame (pos FRAME_BYTES) → place_of FRAME_BYTES (byte_count width) (pos FRAME_BYTES +ℤ from.offset) ≡ Some at → ((k : ℕ) → at ≤ k → k < at + byte_count width → cell_at self.now k ≡ CellKind.Byte) → IsOk result }
         ensures memory { HasMemory result }
     {
-        match self.held(src)? {
+        match self.held(from.base)? {
             RegKind::Ctx(base) => {
-                let _place = place_in(ctx_len, width, base, offset)?;
+                let _at = place_in(shape.ctx_len, width, base, from.offset)?;
                 Ok(Region::Ctx)
             }
             RegKind::Frame(base) => {
-                let at = place_in(FRAME_BYTES, width, base, offset)?;
+                let at = place_in(FRAME_BYTES, width, base, from.offset)?;
                 if !self.frame.is_written(at, width.bytes()) {
                     return Err(Fault::UnwrittenFrame);
                 }
@@ -58,55 +71,47 @@ impl AbsState {
         &mut self,
         width: Width,
         dst: Reg,
-        src: Reg,
-        offset: i16,
-        ctx_len: usize,
-    ) -> Result<Region, Fault>
-        ensures { (maps : ℕ) → Stepped (Insn.Load width dst src offset) ctx_len maps self.old self.new result }
+        from: Address,
+        shape: EnvironmentShape,
+    ) -> Result<Flow, Fault>
+        ensures { Stepped (Insn.Load width dst from.base from.offset) shape self.old self.new result }
     {
         check_writable(dst)?;
-        let region = self.readable(width, src, offset, ctx_len)?;
+        let region = self.readable(width, from, shape)?;
         self.set(dst, RegKind::Num(Scalar::loaded(width)));
-        Ok(region)
+        Ok(single_flow(region))
     }
 
     pub(crate) fn load_signed(
         &mut self,
         width: SignedWidth,
         dst: Reg,
-        src: Reg,
-        offset: i16,
-        ctx_len: usize,
-    ) -> Result<Region, Fault>
-        ensures { (maps : ℕ) → Stepped (Insn.LoadSigned width dst src offset) ctx_len maps self.old self.new result }
+        from: Address,
+        shape: EnvironmentShape,
+    ) -> Result<Flow, Fault>
+        ensures { Stepped (Insn.LoadSigned width dst from.base from.offset) shape self.old self.new result }
     {
         check_writable(dst)?;
-        let region = self.readable(width.width(), src, offset, ctx_len)?;
+        let region = self.readable(width.width(), from, shape)?;
         self.set(dst, RegKind::Num(Scalar::load_signed(width)));
-        Ok(region)
+        Ok(single_flow(region))
     }
 
     fn write(&mut self, at: usize, width: Width)
-        requires { at + byte_count width ≤ 512 }
+        requires { at + byte_count width ≤ FRAME_BYTES }
         ensures { SetsBytes at (byte_count width) self.old self.new }
     {
         self.frame.write(at, width.bytes());
     }
 
-    pub(crate) fn store(
-        &mut self,
-        width: Width,
-        dst: Reg,
-        src: &Operand,
-        offset: i16,
-    ) -> Result<Region, Fault>
-        ensures { (ctx_len maps : ℕ) → Stepped (stored_by width dst src.now offset) ctx_len maps self.old self.new result }
+    pub(crate) fn store(&mut self, width: Width, to: Address, src: &Operand) -> Result<Flow, Fault>
+        ensures { (shape : EnvironmentShape) → Stepped (Insn.Store width to.base to.offset src.now) shape self.old self.new result }
     {
-        let base = self.held(dst)?;
+        let base = self.held(to.base)?;
         let value = self.operand(src)?;
         let base = store_base(base, value)?;
-        let at = place_in(FRAME_BYTES, width, base, offset)?;
+        let at = place_in(FRAME_BYTES, width, base, to.offset)?;
         self.write(at, width);
-        Ok(Region::Frame)
+        Ok(single_flow(Region::Frame))
     }
 }

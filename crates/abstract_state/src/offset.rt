@@ -3,8 +3,8 @@ ghost use Rattle.std.specs.Prelude.{◌≡◌, ℕ, ◌+◌, ◌≤◌, IfOk, If
 ghost use Rattle.std.specs.Int.{w64};
 ghost use Rattle.bpf_model.specs.Access.{byte_count, place_of};
 ghost use Rattle.bpf_model.specs.Arithmetic.{signed};
+ghost use Rattle.bpf_model.specs.Near.{IsNearOffset};
 ghost use Rattle.scalar_domain.specs.Scalar.{Holds};
-ghost use Rattle.abstract_state.specs.State.{InLimits};
 ghost use Rattle.abstract_state.specs.Steps.{Shifts, HasMemory};
 
 use crate::fault::Fault;
@@ -12,11 +12,11 @@ use bpf_model::{AluOp, Size, Width};
 use scalar_domain::Scalar;
 
 /// How far from the start of its region a reference may point, either way.
-const LIMIT: i64 = 0x2000_0000;
+const LIMIT: i64 = 1 << 29;
 
-fn in_limits(offset: i64) -> Result<i32, Fault>
+fn near(offset: i64) -> Result<i32, Fault>
     ensures value { IfOk result (λ p. p ≡ offset) }
-    ensures near { IfOk result InLimits }
+    ensures near { IfOk result IsNearOffset }
     ensures memory { HasMemory result }
 {
     if offset < -LIMIT || offset > LIMIT {
@@ -28,35 +28,35 @@ fn in_limits(offset: i64) -> Result<i32, Fault>
 /// The one number of the set, as a signed one.
 fn displacement(by: Scalar) -> Result<i32, Fault>
     ensures value { IfOk result (λ d. (n : ℕ) → Holds by n → d ≡ signed w64 n) }
-    ensures near { IfOk result InLimits }
+    ensures near { IfOk result IsNearOffset }
     ensures memory { HasMemory result }
 {
     match by.as_constant() {
-        Some(n) => in_limits(n.cast_signed()),
+        Some(n) => near(n.cast_signed()),
         None => Err(Fault::PointerArithmetic),
     }
 }
 
 fn forward(offset: i32, by: i32) -> Result<i32, Fault>
     ensures value { IfOk result (λ p. p ≡ offset +ℤ by) }
-    ensures near { IfOk result InLimits }
+    ensures near { IfOk result IsNearOffset }
     ensures memory { HasMemory result }
 {
-    in_limits(i64::from(offset) + i64::from(by))
+    near(i64::from(offset) + i64::from(by))
 }
 
 fn back(offset: i32, by: i32) -> Result<i32, Fault>
     ensures value { IfOk result (λ p. p ≡ offset -ℤ by) }
-    ensures near { IfOk result InLimits }
+    ensures near { IfOk result IsNearOffset }
     ensures memory { HasMemory result }
 {
-    in_limits(i64::from(offset) - i64::from(by))
+    near(i64::from(offset) - i64::from(by))
 }
 
 /// The offset of a reference to which a number is added, or from which it is taken.
 pub(crate) fn moved(size: Size, op: AluOp, offset: i32, by: Scalar) -> Result<i32, Fault>
     ensures shifts { IfOk result (λ p. Shifts size op offset by p) }
-    ensures near { IfOk result InLimits }
+    ensures near { IfOk result IsNearOffset }
     ensures memory { HasMemory result }
 {
     let by = displacement(by)?;

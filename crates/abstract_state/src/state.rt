@@ -1,13 +1,16 @@
 //! Abstract states and what instructions make of them.
-ghost use Rattle.std.specs.Prelude.{◌≡◌, ℕ, IfOk, IfErr, OnOk, OnErr, Some, IsSome, pos};
+ghost use Rattle.std.specs.Prelude.{◌≡◌, ℕ, IfOk, IfErr, IfSome, OnOk, OnErr, Some, IsSome, pos, true, false};
+ghost use Rattle.bpf_model.specs.declared.value.Value.TheVariants.{Number};
 ghost use Rattle.bpf_model.specs.Step.{State, entry};
 ghost use Rattle.abstract_state.specs.State.{IsBranch};
-ghost use Rattle.abstract_state.specs.Steps.{Stepped, IsSplit};
+ghost use Rattle.abstract_state.specs.Steps.{single, Stepped};
 
+use crate::environment::EnvironmentShape;
 use crate::fault::Fault;
 use crate::frame::FrameCells;
 use crate::kind::{RegKind, Region, join_kinds};
-use bpf_model::{Insn, Operand};
+use crate::memory::Address;
+use bpf_model::{FRAME_BYTES, Insn};
 use std::alloc::{AllocError, Global};
 
 /// What is known before an instruction.
@@ -22,20 +25,33 @@ pub struct AbsState {
 #[derive(Drop)]
 pub struct Flow {
     pub region: Region,
-    pub taken: Option<AbsState>,
+    pub taken: Option<Box<AbsState>>,
+}
+
+/// The flow of an instruction with no second state behind it.
+pub(crate) fn single_flow(region: Region) -> Flow
+    ensures { result ≡ single region }
+{
+    Flow {
+        region,
+        taken: None,
+    }
 }
 
 impl AbsState {
+    ghost use Rattle.bpf_model.specs.declared.limits.TheConstants.{FRAME_BYTES};
     ghost use Rattle.abstract_state.specs.declared.kind.RegKind.TheVariants as kinds;
-    ghost use Rattle.abstract_state.specs.declared.kind.CellKind.TheVariants as cell_kinds;
-    ghost use Rattle.abstract_state.specs.State.{Describes, Wider, Transfers, IsForward, IsInRegion, base_of, IsReady, IsFine, Keeps, IsNumber, kind_at, cell_at};
+    ghost use Rattle.abstract_state.specs.State.{Describes, Wider, Transfers, IsInRegion, base_of, Compares, taken_state, IsFine, IsNumber, kind_at};
+    ghost use Rattle.abstract_state.specs.Facts.{Fact, FactHolds, IsReady, KeepsFacts};
+    ghost use Rattle.abstract_state.specs.Floor.{LoadsKnown, ComputesKnown, RefinesKnown, KeepsOthers};
 
     /// The state at a program's entry: r1 the context, r10 the end of the frame, all else unwritten.
-    pub fn entry(alloc: Global) -> Result<AbsState, AllocError>
-        ensures sound { IfOk result (λ a. Describes a entry) }
-        ensures frame { IfOk result (λ a. kind_at a 10 ≡ kinds.Frame (pos 512)) }
+    pub fn entry(alloc: Global) -> Result<Box<AbsState>, AllocError>
+        ensures sound { IfOk result (λ a. Describes a.value entry) }
+        ensures context { IfOk result (λ a. kind_at a.value 1 ≡ kinds.Ctx (pos 0)) }
+        ensures frame { IfOk result (λ a. kind_at a.value 10 ≡ kinds.Frame (pos FRAME_BYTES)) }
     {
-        Ok(AbsState {
+        let state = AbsState {
             regs: [
                 RegKind::Unwritten,
                 RegKind::Ctx(0),
@@ -47,38 +63,38 @@ impl AbsState {
                 RegKind::Unwritten,
                 RegKind::Unwritten,
                 RegKind::Unwritten,
-                RegKind::Frame(512),
+                RegKind::Frame(FRAME_BYTES as i32),
             ],
             frame: FrameCells::new(alloc)?,
-        })
+        };
+        Ok(Box::new(alloc, state)?)
     }
 
     /// An equal state.
-    pub fn copy(&self, alloc: Global) -> Result<AbsState, AllocError>
-        ensures { IfOk result (λ a. a ≡ self.now) }
+    pub fn copy(&self, alloc: Global) -> Result<Box<AbsState>, AllocError>
+        ensures { IfOk result (λ a. a.value ≡ self.now) }
     {
-        Ok(AbsState {
+        let state = AbsState {
             regs: self.regs,
             frame: self.frame.copy(alloc)?,
-        })
+        };
+        Ok(Box::new(alloc, state)?)
     }
 
     /// Each register and each byte becomes what is known of it where control comes from either state.
     pub fn join(&mut self, other: &AbsState)
         ensures left { Wider self.old self.new }
         ensures right { Wider other.now self.new }
-        ensures numbers { (r : ℕ) → IsNumber (kind_at self.old r) → IsNumber (kind_at other.now r) → IsNumber (kind_at self.new r) }
-        ensures bytes { (k : ℕ) → cell_at self.old k ≡ cell_kinds.Byte → cell_at other.now k ≡ cell_kinds.Byte → cell_at self.new k ≡ cell_kinds.Byte }
+        ensures facts { (fact : Fact) → FactHolds fact self.old → FactHolds fact other.now → FactHolds fact self.new }
         ensures pointers { (r : ℕ) (k : RegKind) → (IsNumber k → ⊥) → kind_at self.old r ≡ k → kind_at other.now r ≡ k → kind_at self.new r ≡ k }
-        ensures frame { kind_at self.old 10 ≡ kinds.Frame (pos 512) → kind_at other.now 10 ≡ kinds.Frame (pos 512) → kind_at self.new 10 ≡ kinds.Frame (pos 512) }
     {
         join_kinds(&mut self.regs, &other.regs);
         self.frame.join(&other.frame);
     }
 
     /// What holds after the instruction: in the state itself where control falls through, or where it only
-    /// jumps, and in the answer's state where a conditional jump is taken. `maps` is how many maps the
-    /// program's list has, `ctx_len` the bytes of the context.
+    /// jumps, and in the answer's state where a conditional jump is taken. `shape` is what the program is
+    /// verified against.
     ///
     /// Errors: the first of these that holds; the state is then as it was.
     /// - `FramePointerWritten`: the instruction sets r10.
@@ -98,40 +114,52 @@ impl AbsState {
         &mut self,
         alloc: Global,
         insn: &Insn,
-        maps: usize,
-        ctx_len: usize,
+        shape: EnvironmentShape,
     ) -> Result<Flow, Fault>
-        ensures sound { IfOk result (λ f. IsForward insn.now → Transfers insn.now ctx_len maps self.old self.new f.taken) }
+        ensures sound { IfOk result (λ f. Transfers insn.now shape self.old self.new (taken_state f)) }
         ensures region { IfOk result (λ f. (b : ℕ) (m : State) → base_of insn.now ≡ Some b → Describes self.old m → IsInRegion f.region (m.regs b)) }
+        ensures compares { OnOk result ((r : ℕ) (m : State) → Compares insn.now r → Describes self.old m → (n : ℕ) × (m.regs r ≡ Number n)) }
         ensures branches { IfOk result (λ f. IsBranch insn.now → IsSome f.taken) }
         ensures accepts { IsReady insn.now self.old → IsFine result }
         ensures memory { IfErr result (λ e. e ≡ Fault.Memory → IsBranch insn.now) }
         ensures unchanged { OnErr result (self.new ≡ self.old) }
-        ensures keeps { OnOk result (IsReady insn.now self.old → Keeps insn.now self.old self.new) }
-        ensures keeps_taken { IfOk result (λ f. IsReady insn.now self.old → (t : AbsState) → f.taken ≡ Some t → Keeps insn.now self.old t) }
+
+        // What is known at least.
+        ensures keeps { OnOk result (IsReady insn.now self.old → KeepsFacts insn.now self.old self.new) }
+        ensures keeps_taken { IfOk result (λ f. IsReady insn.now self.old → IfSome (taken_state f) (KeepsFacts insn.now self.old)) }
+        ensures loads { OnOk result (LoadsKnown insn.now self.new) }
+        ensures computes { OnOk result (ComputesKnown insn.now self.old self.new) }
+        ensures refines { OnOk result (RefinesKnown false insn.now self.old self.new) }
+        ensures refines_taken { IfOk result (λ f. IfSome (taken_state f) (RefinesKnown true insn.now self.old)) }
+        ensures others { OnOk result (KeepsOthers insn.now self.old self.new) }
+        ensures others_taken { IfOk result (λ f. IfSome (taken_state f) (KeepsOthers insn.now self.old)) }
     {
-        let stepped = match insn {
+        self.perform(alloc, insn, shape)
+    }
+
+    /// Does the instruction.
+    fn perform(
+        &mut self,
+        alloc: Global,
+        insn: &Insn,
+        shape: EnvironmentShape,
+    ) -> Result<Flow, Fault>
+        ensures { Stepped insn.now shape self.old self.new result }
+    {
+        match insn {
             Insn::Alu { op, size, dst, src } => self.alu(*op, *size, *dst, src),
-            Insn::MoveSigned {
-                extension,
-                dst,
-                src,
-            } => self.move_signed(*extension, *dst, *src),
-            Insn::Negate { size, dst } => self.negate(*size, *dst),
-            Insn::ByteSwap { order, width, dst } => self.byte_swap(*order, *width, *dst),
+            Insn::Unary { op, dst } => self.unary(op, *dst),
             Insn::LoadNumber { dst, number } => self.load_number(*dst, *number),
-            Insn::LoadMap { dst, map } => self.load_map(*dst, *map, maps),
-            Insn::Jump { .. } => Ok(Region::None),
-            Insn::JumpLong { .. } => Ok(Region::None),
+            Insn::LoadMap { dst, map } => self.load_map(*dst, *map, shape),
+            Insn::Jump { .. } => Ok(single_flow(Region::None)),
+            Insn::JumpLong { .. } => Ok(single_flow(Region::None)),
             Insn::JumpIf {
                 condition,
                 size,
                 dst,
                 src,
                 ..
-            } => {
-                return self.fork(alloc, *condition, *size, *dst, src);
-            }
+            } => self.fork(alloc, *condition, *size, *dst, src),
             Insn::Call { .. } => Err(Fault::UnknownCall),
             Insn::Exit => self.exit(),
             Insn::Load {
@@ -139,36 +167,37 @@ impl AbsState {
                 dst,
                 src,
                 offset,
-            } => self.load(*width, *dst, *src, *offset, ctx_len),
+            } => {
+                let from = Address {
+                    base: *src,
+                    offset: *offset,
+                };
+                self.load(*width, *dst, from, shape)
+            }
             Insn::LoadSigned {
                 width,
                 dst,
                 src,
                 offset,
-            } => { self.load_signed(*width, *dst, *src, *offset, ctx_len) }
+            } => {
+                let from = Address {
+                    base: *src,
+                    offset: *offset,
+                };
+                self.load_signed(*width, *dst, from, shape)
+            }
             Insn::Store {
                 width,
                 dst,
                 offset,
-                imm,
-            } => { self.store(*width, *dst, &Operand::Immediate(*imm), *offset) }
-            Insn::StoreRegister {
-                width,
-                dst,
                 src,
-                offset,
-            } => { self.store(*width, *dst, &Operand::Register(*src), *offset) }
-        };
-        single_flow(stepped)
+            } => {
+                let to = Address {
+                    base: *dst,
+                    offset: *offset,
+                };
+                self.store(*width, to, src)
+            }
+        }
     }
-}
-
-/// The flow of an instruction with no second state behind it.
-fn single_flow(stepped: Result<Region, Fault>) -> Result<Flow, Fault>
-    ensures { (i : Insn) (ctx_len maps : ℕ) (old new : AbsState) → Stepped i ctx_len maps old new stepped → (IsBranch i → ⊥) → IsSplit i ctx_len maps old new result }
-{
-    Ok(Flow {
-        region: stepped?,
-        taken: None,
-    })
 }

@@ -4,12 +4,12 @@
 #![tactic(auto)]
 
 mod comparison;
-mod extend;
+mod one_word;
 mod operate;
 
 pub use comparison::{compare, compare32, compare64};
-pub use extend::{byte_swap, immediate, load_signed, move_signed};
-pub use operate::{alu, alu32, alu64, negate};
+pub use one_word::{byte_swap, immediate, load_signed, move_signed, negate, unary};
+pub use operate::{alu, alu32, alu64};
 
 #[cfg(test)]
 mod tests;

@@ -1,7 +1,7 @@
 //! Operations on two words.
 ghost use Rattle.std.specs.Prelude.{◌≡◌, ◌%◌, ◌^◌};
 ghost use Rattle.std.specs.Int.{w32, w64};
-ghost use Rattle.bpf_model.specs.Arithmetic.{operate, negated, alu as alu_of};
+ghost use Rattle.bpf_model.specs.Arithmetic.{operate, alu as alu_of};
 
 use bpf_model::{AluOp, Size};
 
@@ -105,16 +105,5 @@ pub fn alu(size: Size, op: AluOp, dst: u64, src: u64) -> u64
     match size {
         Size::Word64 => alu64(op, dst, src),
         Size::Word32 => alu32(op, dst, src),
-    }
-}
-
-/// Zero less the word, on 64 bits or on the low 32; of 32 the high half of the result is 0.
-#[inline]
-pub fn negate(size: Size, dst: u64) -> u64
-    ensures { result ≡ negated size dst }
-{
-    match size {
-        Size::Word64 => dst.wrapping_neg(),
-        Size::Word32 => u64::from(low_half(dst).wrapping_neg()),
     }
 }

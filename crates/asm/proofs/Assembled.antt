@@ -5,9 +5,9 @@ use Rattle.std.specs.List.{AllByRecursion, filter}
 use Rattle.std.proofs.lemmas.List.Concat.{flat_map-cons}
 use Rattle.std.proofs.lemmas.List.Sums.{sum_by-cons}
 use Rattle.bpf_model.specs.declared.insn.Insn.{Insn}
-use Rattle.bpf_model.specs.declared.insn.Insn.TheVariants as insn
 use Rattle.bpf_model.specs.Spelling.{FitsInsn, IsProgram, slot_count, slot_total}
 use Rattle.disasm.specs.Text.{stem_of, suffix_of, name_of, arguments_text, mnemonic_of, arguments_of, statement_of, line_of, program_text}
+use Rattle.insn_codec.proofs.DecodeLoop.{slot_count_pos}
 use Rattle.asm.specs.Reading.{Lacks}
 use Rattle.asm.specs.Grammar.{HasForm}
 use Rattle.asm.specs.Faults.{is_comment, lines_in, statements_in, IsInsnLine, IsFlawed, IsFirstFlaw, IsFault}
@@ -23,28 +23,11 @@ use Rattle.asm.proofs.LinesRead.{keeps, first_line, same_tail, cons_no}
 
 -- a program takes a slot at least
 
-slot_above : (i : Insn) → 1 ≤ slot_count i
-slot_above (insn.Alu op size dst src) = omega arith
-slot_above (insn.MoveSigned x dst src) = omega arith
-slot_above (insn.Negate size dst) = omega arith
-slot_above (insn.ByteSwap order width dst) = omega arith
-slot_above (insn.LoadNumber dst n) = omega arith
-slot_above (insn.LoadMap dst z) = omega arith
-slot_above (insn.Jump z) = omega arith
-slot_above (insn.JumpLong z) = omega arith
-slot_above (insn.JumpIf condition size dst src z) = omega arith
-slot_above (insn.Call kind z) = omega arith
-slot_above insn.Exit = omega arith
-slot_above (insn.Load width dst src z) = omega arith
-slot_above (insn.LoadSigned width dst src z) = omega arith
-slot_above (insn.Store width dst z imm) = omega arith
-slot_above (insn.StoreRegister width dst src z) = omega arith
-
 pub some_slots : (is : List Insn) → 0 < length is → 1 ≤ slot_total is
 some_slots [] h = absurd (omega arith)
 some_slots (i ∷ is) h =
     let whole : slot_total (i ∷ is) ≡ slot_count i + slot_total is = sum_by-cons slot_count i is in
-    let one : 1 ≤ slot_count i = slot_above i in
+    let one : 1 ≤ slot_count i = slot_count_pos i in
     omega arith
 
 -- a flawed line is no line of a program

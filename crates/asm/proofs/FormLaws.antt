@@ -9,9 +9,10 @@ use Rattle.bpf_model.specs.declared.insn.Operand.{Operand}
 use Rattle.bpf_model.specs.declared.insn.Operand.TheVariants as operand
 use Rattle.bpf_model.specs.declared.insn.SignExtension.{SignExtension}
 use Rattle.bpf_model.specs.declared.insn.SignExtension.TheVariants.{ByteTo32, ShortTo32, ByteTo64, ShortTo64, WordTo64}
+use Rattle.bpf_model.specs.declared.insn.UnaryOp.TheVariants.{Negate, ByteSwap, MoveSigned}
 use Rattle.bpf_model.specs.declared.insn.Insn.{Insn}
-use Rattle.bpf_model.specs.declared.insn.Insn.TheVariants.{Alu, MoveSigned, Negate, ByteSwap, LoadNumber, LoadMap, Jump, JumpLong, JumpIf, Call, Exit, Load, LoadSigned, Store, StoreRegister}
-use Rattle.disasm.specs.Text.{number, offset, memory, source, mnemonic_of, arguments_of, statement_of}
+use Rattle.bpf_model.specs.declared.insn.Insn.TheVariants.{Alu, Unary, LoadNumber, LoadMap, Jump, JumpLong, JumpIf, Call, Exit, Load, LoadSigned, Store}
+use Rattle.disasm.specs.Text.{number_argument, offset_argument, memory_argument, source_argument, mnemonic_of, arguments_of, statement_of}
 use Rattle.disasm.specs.declared.mnemonic.Mnemonic.{Mnemonic}
 use Rattle.disasm.specs.declared.statement.Sign.{Sign}
 use Rattle.disasm.specs.declared.statement.Sign.TheVariants.{Plus, Minus}
@@ -25,7 +26,7 @@ use Rattle.asm.specs.declared.form.Class.TheVariants as class
 use Rattle.asm.specs.declared.form.Form.{Form}
 use Rattle.asm.specs.declared.form.Form.TheVariants.{Zero, One, Two, Three}
 use Rattle.asm.specs.Grammar.{is_signed, is_of, form_of, takes, is_formed}
-use Rattle.asm.specs.Reading.{capped, capped_argument, capped_arguments, capped_statement, IsOnly}
+use Rattle.asm.specs.Reading.{capped, capped_argument, capped_arguments, capped_statement, IsOnlyInsn}
 
 pub capped_small : (n : ℕ) → n < 2 ^ 64 → capped n ≡ n
 capped_small n h = grind (arith, nat_tests)
@@ -132,26 +133,26 @@ back_same (arguments.Three a b d) h = rw (back_argument a h.0, back_argument b h
 small_register : (n : ℕ) → n ≤ 10 → IsSmallArgument (Register n)
 small_register n h = omega arith
 
-small_number : (z : ℤ) → FitsSigned w32 z → IsSmallArgument (number z)
+small_number : (z : ℤ) → FitsSigned w32 z → IsSmallArgument (number_argument z)
 small_number (pos n) h = omega (arith, ints)
 small_number (negsuc n) h = omega (arith, ints)
 
-small_long : (z : ℤ) → FitsSigned w32 z → IsSmallArgument (offset z)
+small_long : (z : ℤ) → FitsSigned w32 z → IsSmallArgument (offset_argument z)
 small_long (pos n) h = omega (arith, ints)
 small_long (negsuc n) h = omega (arith, ints)
 
-small_offset : (z : ℤ) → FitsSigned w16 z → IsSmallArgument (offset z)
+small_offset : (z : ℤ) → FitsSigned w16 z → IsSmallArgument (offset_argument z)
 small_offset (pos n) h = omega (arith, ints)
 small_offset (negsuc n) h = omega (arith, ints)
 
-small_memory : (b : ℕ) (z : ℤ) → b ≤ 10 → FitsSigned w16 z → IsSmallArgument (memory b z)
+small_memory : (b : ℕ) (z : ℤ) → b ≤ 10 → FitsSigned w16 z → IsSmallArgument (memory_argument b z)
 small_memory b z h fits = (omega arith, small_offset z fits)
 
-small_source : (o : Operand) → FitsOperand o → IsSmallArgument (source o)
+small_source : (o : Operand) → FitsOperand o → IsSmallArgument (source_argument o)
 small_source (operand.Register n) h = small_register n h
 small_source (operand.Immediate z) h = small_number z h
 
-small_bits : (x : SignExtension) → IsSmallArgument (number (extension_bits x))
+small_bits : (x : SignExtension) → IsSmallArgument (number_argument (extension_bits x))
 small_bits ByteTo32 = omega arith
 small_bits ShortTo32 = omega arith
 small_bits ByteTo64 = omega arith
@@ -160,9 +161,9 @@ small_bits WordTo64 = omega arith
 
 pub small_of : (i : Insn) → FitsInsn i → IsSmall (arguments_of i)
 small_of (Alu op size dst src) h = (small_register dst h.0, small_source src h.1)
-small_of (MoveSigned x dst src) h = (small_register dst h.0, small_register src h.1, small_bits x)
-small_of (Negate size dst) h = small_register dst h
-small_of (ByteSwap order width dst) h = small_register dst h
+small_of (Unary (Negate size) dst) h = small_register dst h.0
+small_of (Unary (ByteSwap order width) dst) h = small_register dst h.0
+small_of (Unary (MoveSigned x src) dst) h = (small_register dst h.0, small_register src h.1, small_bits x)
 small_of (LoadNumber dst n) h = (small_register dst h.0, h.1)
 small_of (LoadMap dst z) h = (small_register dst h.0, small_number z h.1)
 small_of (Jump z) h = small_offset z h
@@ -172,30 +173,29 @@ small_of (Call kind z) h = small_number z h
 small_of Exit h = tt
 small_of (Load width dst src z) h = (small_register dst h.0, small_memory src z h.1 h.2)
 small_of (LoadSigned width dst src z) h = (small_register dst h.0, small_memory src z h.1 h.2)
-small_of (Store width dst z imm) h = (small_memory dst z h.0 h.1, small_number imm h.2)
-small_of (StoreRegister width dst src z) h = (small_memory dst z h.0 h.2, small_register src h.1)
+small_of (Store width dst z src) h = (small_memory dst z h.0 h.2, small_source src h.1)
 
 minus_is_signed : (n : ℕ) → is_signed Minus (n + 1) ≡ true
 minus_is_signed n = grind (arith, nat_tests)
 
-formed_number : (z : ℤ) → is_of class.Number (number z) ≡ true
+formed_number : (z : ℤ) → is_of class.Number (number_argument z) ≡ true
 formed_number (pos n) = refl
 formed_number (negsuc n) = minus_is_signed n
 
-formed_offset : (z : ℤ) → is_of class.Offset (offset z) ≡ true
+formed_offset : (z : ℤ) → is_of class.Offset (offset_argument z) ≡ true
 formed_offset (pos n) = refl
 formed_offset (negsuc n) = minus_is_signed n
 
-formed_memory : (b : ℕ) (z : ℤ) → is_of class.Memory (memory b z) ≡ true
+formed_memory : (b : ℕ) (z : ℤ) → is_of class.Memory (memory_argument b z) ≡ true
 formed_memory b (pos n) = refl
 formed_memory b (negsuc n) = minus_is_signed n
 
-formed_source : (o : Operand) → is_of class.Source (source o) ≡ true
+formed_source : (o : Operand) → is_of class.Source (source_argument o) ≡ true
 formed_source (operand.Register n) = refl
 formed_source (operand.Immediate (pos n)) = refl
 formed_source (operand.Immediate (negsuc n)) = minus_is_signed n
 
-formed_bits : (x : SignExtension) → is_of class.Unsigned (number (extension_bits x)) ≡ true
+formed_bits : (x : SignExtension) → is_of class.Unsigned (number_argument (extension_bits x)) ≡ true
 formed_bits ByteTo32 = refl
 formed_bits ShortTo32 = refl
 formed_bits ByteTo64 = refl
@@ -204,9 +204,9 @@ formed_bits WordTo64 = refl
 
 pub formed_of : (i : Insn) → is_formed (statement_of i) ≡ true
 formed_of (Alu op size dst src) = formed_source src
-formed_of (MoveSigned x dst src) = formed_bits x
-formed_of (Negate size dst) = refl
-formed_of (ByteSwap order width dst) = refl
+formed_of (Unary (Negate size) dst) = refl
+formed_of (Unary (ByteSwap order width) dst) = refl
+formed_of (Unary (MoveSigned x src) dst) = formed_bits x
 formed_of (LoadNumber dst n) = refl
 formed_of (LoadMap dst z) = formed_number z
 formed_of (Jump z) = formed_offset z
@@ -216,27 +216,27 @@ formed_of (Call kind z) = formed_number z
 formed_of Exit = refl
 formed_of (Load width dst src z) = formed_memory src z
 formed_of (LoadSigned width dst src z) = formed_memory src z
-formed_of (Store width dst z imm) = rw (formed_memory dst z, formed_number imm) refl
-formed_of (StoreRegister width dst src z) = rw (formed_memory dst z) refl
+formed_of (Store width dst z (operand.Immediate imm)) = rw (formed_memory dst z, formed_number imm) refl
+formed_of (Store width dst z (operand.Register src)) = rw (formed_memory dst z) refl
 
 pub capped_of : (i : Insn) → FitsInsn i → capped_statement (statement_of i) ≡ statement_of i
 capped_of i h = ap (λ (w : Arguments). let s : Statement = record { mnemonic = mnemonic_of i; arguments = w } in s) (small_same (arguments_of i) (small_of i h))
 
 -- the one instruction of a statement
 
-pub told : (m : Mnemonic) (w : Arguments) (r : Option Insn) → IsOnly m w r → (i : Insn) → FitsInsn i → m ≡ mnemonic_of i → w ≡ arguments_of i → r ≡ Some i
-told m w r only (Alu op size dst src) h em ew = (subst (λ (n : Mnemonic). IsOnly n w r) em only) dst src h.0 h.1 ew
-told m w r only (MoveSigned x dst src) h em ew = (subst (λ (n : Mnemonic). IsOnly n w r) em only) x dst src refl h.0 h.1 ew
-told m w r only (Negate size dst) h em ew = (subst (λ (n : Mnemonic). IsOnly n w r) em only) dst h ew
-told m w r only (ByteSwap order width dst) h em ew = (subst (λ (n : Mnemonic). IsOnly n w r) em only) dst h ew
-told m w r only (LoadNumber dst n) h em ew = (subst (λ (n : Mnemonic). IsOnly n w r) em only) dst n h.0 h.1 ew
-told m w r only (LoadMap dst z) h em ew = (subst (λ (n : Mnemonic). IsOnly n w r) em only) dst z h.0 h.1 ew
-told m w r only (Jump z) h em ew = (subst (λ (n : Mnemonic). IsOnly n w r) em only) z h ew
-told m w r only (JumpLong z) h em ew = (subst (λ (n : Mnemonic). IsOnly n w r) em only) z h ew
-told m w r only (JumpIf condition size dst src z) h em ew = (subst (λ (n : Mnemonic). IsOnly n w r) em only) dst src z h.0 h.1 h.2 ew
-told m w r only (Call kind z) h em ew = (subst (λ (n : Mnemonic). IsOnly n w r) em only) z h ew
-told m w r only Exit h em ew = (subst (λ (n : Mnemonic). IsOnly n w r) em only) ew
-told m w r only (Load width dst src z) h em ew = (subst (λ (n : Mnemonic). IsOnly n w r) em only) dst src z h.0 h.1 h.2 ew
-told m w r only (LoadSigned width dst src z) h em ew = (subst (λ (n : Mnemonic). IsOnly n w r) em only) dst src z h.0 h.1 h.2 ew
-told m w r only (Store width dst z imm) h em ew = (subst (λ (n : Mnemonic). IsOnly n w r) em only) dst z imm h.0 h.1 h.2 ew
-told m w r only (StoreRegister width dst src z) h em ew = (subst (λ (n : Mnemonic). IsOnly n w r) em only) dst src z h.0 h.1 h.2 ew
+pub told : (m : Mnemonic) (w : Arguments) (r : Option Insn) → IsOnlyInsn m w r → (i : Insn) → FitsInsn i → m ≡ mnemonic_of i → w ≡ arguments_of i → r ≡ Some i
+told m w r only (Alu op size dst src) h em ew = (subst (λ (n : Mnemonic). IsOnlyInsn n w r) em only) dst src h.0 h.1 ew
+told m w r only (Unary (MoveSigned x src) dst) h em ew = (subst (λ (n : Mnemonic). IsOnlyInsn n w r) em only) x dst src refl h.0 h.1 ew
+told m w r only (Unary (Negate size) dst) h em ew = (subst (λ (n : Mnemonic). IsOnlyInsn n w r) em only) dst h.0 ew
+told m w r only (Unary (ByteSwap order width) dst) h em ew = (subst (λ (n : Mnemonic). IsOnlyInsn n w r) em only) dst h.0 ew
+told m w r only (LoadNumber dst n) h em ew = (subst (λ (n : Mnemonic). IsOnlyInsn n w r) em only) dst n h.0 h.1 ew
+told m w r only (LoadMap dst z) h em ew = (subst (λ (n : Mnemonic). IsOnlyInsn n w r) em only) dst z h.0 h.1 ew
+told m w r only (Jump z) h em ew = (subst (λ (n : Mnemonic). IsOnlyInsn n w r) em only) z h ew
+told m w r only (JumpLong z) h em ew = (subst (λ (n : Mnemonic). IsOnlyInsn n w r) em only) z h ew
+told m w r only (JumpIf condition size dst src z) h em ew = (subst (λ (n : Mnemonic). IsOnlyInsn n w r) em only) dst src z h.0 h.1 h.2 ew
+told m w r only (Call kind z) h em ew = (subst (λ (n : Mnemonic). IsOnlyInsn n w r) em only) z h ew
+told m w r only Exit h em ew = (subst (λ (n : Mnemonic). IsOnlyInsn n w r) em only) ew
+told m w r only (Load width dst src z) h em ew = (subst (λ (n : Mnemonic). IsOnlyInsn n w r) em only) dst src z h.0 h.1 h.2 ew
+told m w r only (LoadSigned width dst src z) h em ew = (subst (λ (n : Mnemonic). IsOnlyInsn n w r) em only) dst src z h.0 h.1 h.2 ew
+told m w r only (Store width dst z (operand.Immediate imm)) h em ew = (subst (λ (n : Mnemonic). IsOnlyInsn n w r) em only) dst z imm h.0 h.2 h.1 ew
+told m w r only (Store width dst z (operand.Register src)) h em ew = (subst (λ (n : Mnemonic). IsOnlyInsn n w r) em only) dst src z h.0 h.1 h.2 ew

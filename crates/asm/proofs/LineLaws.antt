@@ -8,7 +8,7 @@ use Rattle.disasm.specs.declared.mnemonic.Mnemonic.{Mnemonic}
 use Rattle.disasm.specs.declared.statement.Arguments.{Arguments}
 use Rattle.disasm.specs.declared.statement.Statement.{Statement}
 use Rattle.asm.specs.Grammar.{is_formed, HasForm}
-use Rattle.asm.specs.Reading.{capped_arguments, capped_statement, IsOnly}
+use Rattle.asm.specs.Reading.{capped_arguments, capped_statement, IsOnlyInsn}
 use Rattle.asm.specs.declared.fault.LineFlaw.{LineFlaw}
 use Rattle.asm.proofs.FormLaws.{IsSmall, formed_capped, formed_of, capped_of, small_of, back_same, told}
 
@@ -45,15 +45,15 @@ text_is line s found i fits em ew =
     let same_mnemonic : w.mnemonic ≡ mnemonic_of i = sym (ap (λ (t : Statement). t.mnemonic) found.2) ∙ sym em in
     found.1 ∙ ap (λ (m : Mnemonic). name_of m ++ arguments_text w.arguments) same_mnemonic ∙ ap (λ (a : Arguments). name_of (mnemonic_of i) ++ arguments_text a) same_arguments
 
-pub insn_is : (line : List ℕ) (s : Statement) (r : Option Insn) → Reads line (Some s) → IsOnly s.mnemonic s.arguments r → (i : Insn) → FitsInsn i → line ≡ line_of i → r ≡ Some i
+pub insn_is : (line : List ℕ) (s : Statement) (r : Option Insn) → Reads line (Some s) → IsOnlyInsn s.mnemonic s.arguments r → (i : Insn) → FitsInsn i → line ≡ line_of i → r ≡ Some i
 insn_is line s r reads only i fits e =
     let same : s ≡ statement_of i = insn_statement line s reads i fits e in
     told s.mnemonic s.arguments r only i fits (ap (λ (t : Statement). t.mnemonic) same) (ap (λ (t : Statement). t.arguments) same)
 
-pub ok_is : (line : List ℕ) (s : Statement) (j : Insn) → Reads line (Some s) → IsOnly s.mnemonic s.arguments (Some j) → (i : Insn) → FitsInsn i → line ≡ line_of i → (let r : Result Insn LineFlaw = Ok j in r ≡ Ok i)
+pub ok_is : (line : List ℕ) (s : Statement) (j : Insn) → Reads line (Some s) → IsOnlyInsn s.mnemonic s.arguments (Some j) → (i : Insn) → FitsInsn i → line ≡ line_of i → (let r : Result Insn LineFlaw = Ok j in r ≡ Ok i)
 ok_is line s j reads only i fits e = ap Ok (some_same j i (insn_is line s (Some j) reads only i fits e))
 
-pub not_insn : (line : List ℕ) (s : Statement) → Reads line (Some s) → IsOnly s.mnemonic s.arguments None → (i : Insn) → FitsInsn i → line ≡ line_of i → ⊥
+pub not_insn : (line : List ℕ) (s : Statement) → Reads line (Some s) → IsOnlyInsn s.mnemonic s.arguments None → (i : Insn) → FitsInsn i → line ≡ line_of i → ⊥
 not_insn line s reads only i fits e = none_no i (insn_is line s None reads only i fits e)
 
 pub true_no : (b : Bool) → false ≡ b → b ≡ true → ⊥

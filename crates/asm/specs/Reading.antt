@@ -3,13 +3,15 @@ use Rattle.std.specs.Prelude.{ℕ, ◌≡◌, ◌≢◌, ◌+◌, ◌<◌, ◌�
 use Rattle.std.specs.Int.{w16, w32}
 use Rattle.std.specs.Int.Digits.{digits_of}
 use Rattle.bpf_model.specs.declared.insn.Operand.{Operand}
+use Rattle.bpf_model.specs.declared.insn.Operand.TheVariants as operand
+use Rattle.bpf_model.specs.declared.insn.UnaryOp.TheVariants as unary
 use Rattle.bpf_model.specs.declared.insn.SignExtension.{SignExtension}
 use Rattle.bpf_model.specs.declared.insn.Insn.{Insn}
 use Rattle.bpf_model.specs.declared.insn.Insn.TheVariants as insn
-use Rattle.bpf_model.specs.Spelling.{FitsOperand, extension_size, extension_bits}
+use Rattle.bpf_model.specs.Spelling.{FitsOperand, FitsInsn, extension_size, extension_bits}
 use Rattle.disasm.specs.declared.mnemonic.Mnemonic.{Mnemonic}
 use Rattle.disasm.specs.declared.mnemonic.Mnemonic.TheVariants.{Alu, MoveSigned, Negate, ByteSwap, LoadNumber, LoadMap, Jump, JumpLong, JumpIf, Call, Exit, Load, LoadSigned, Store, StoreRegister}
-use Rattle.disasm.specs.Text.{number, offset, memory, source}
+use Rattle.disasm.specs.Text.{number_argument, offset_argument, memory_argument, source_argument, mnemonic_of, arguments_of}
 use Rattle.disasm.specs.declared.statement.Argument.{Argument}
 use Rattle.disasm.specs.declared.statement.Argument.TheVariants.{Register, Number, Signed, Memory}
 use Rattle.disasm.specs.declared.statement.Arguments.{Arguments}
@@ -42,20 +44,51 @@ Lacks c text = (i : ℕ) → i < length text → slice_index text i ≢ c
 abbrev pub glyphs : ℕ → List ℕ
 glyphs n = map (λ digit. 48 + digit) (digits_of 10 n)
 
--- The one instruction that a mnemonic and its arguments stand for, where its fields are in their ranges.
-abbrev pub IsOnly : Mnemonic → Arguments → Option Insn → Type 0
-IsOnly (Alu op size) w r = (dst : ℕ) (src : Operand) → dst ≤ 10 → FitsOperand src → w ≡ Two (Register dst) (source src) → r ≡ Some (insn.Alu op size dst src)
-IsOnly (MoveSigned size) w r = (extension : SignExtension) (dst src : ℕ) → extension_size extension ≡ size → dst ≤ 10 → src ≤ 10 → w ≡ Three (Register dst) (Register src) (number (extension_bits extension)) → r ≡ Some (insn.MoveSigned extension dst src)
-IsOnly (Negate size) w r = (dst : ℕ) → dst ≤ 10 → w ≡ One (Register dst) → r ≡ Some (insn.Negate size dst)
-IsOnly (ByteSwap order width) w r = (dst : ℕ) → dst ≤ 10 → w ≡ One (Register dst) → r ≡ Some (insn.ByteSwap order width dst)
-IsOnly LoadNumber w r = (dst n : ℕ) → dst ≤ 10 → n < 2 ^ 64 → w ≡ Two (Register dst) (Number n) → r ≡ Some (insn.LoadNumber dst n)
-IsOnly LoadMap w r = (dst : ℕ) (map : ℤ) → dst ≤ 10 → FitsSigned w32 map → w ≡ Two (Register dst) (number map) → r ≡ Some (insn.LoadMap dst map)
-IsOnly Jump w r = (z : ℤ) → FitsSigned w16 z → w ≡ One (offset z) → r ≡ Some (insn.Jump z)
-IsOnly JumpLong w r = (z : ℤ) → FitsSigned w32 z → w ≡ One (offset z) → r ≡ Some (insn.JumpLong z)
-IsOnly (JumpIf condition size) w r = (dst : ℕ) (src : Operand) (z : ℤ) → dst ≤ 10 → FitsOperand src → FitsSigned w16 z → w ≡ Three (Register dst) (source src) (offset z) → r ≡ Some (insn.JumpIf condition size dst src z)
-IsOnly (Call kind) w r = (imm : ℤ) → FitsSigned w32 imm → w ≡ One (number imm) → r ≡ Some (insn.Call kind imm)
-IsOnly Exit w r = w ≡ Zero → r ≡ Some (insn.Exit)
-IsOnly (Load width) w r = (dst src : ℕ) (z : ℤ) → dst ≤ 10 → src ≤ 10 → FitsSigned w16 z → w ≡ Two (Register dst) (memory src z) → r ≡ Some (insn.Load width dst src z)
-IsOnly (LoadSigned width) w r = (dst src : ℕ) (z : ℤ) → dst ≤ 10 → src ≤ 10 → FitsSigned w16 z → w ≡ Two (Register dst) (memory src z) → r ≡ Some (insn.LoadSigned width dst src z)
-IsOnly (Store width) w r = (dst : ℕ) (z imm : ℤ) → dst ≤ 10 → FitsSigned w16 z → FitsSigned w32 imm → w ≡ Two (memory dst z) (number imm) → r ≡ Some (insn.Store width dst z imm)
-IsOnly (StoreRegister width) w r = (dst src : ℕ) (z : ℤ) → dst ≤ 10 → src ≤ 10 → FitsSigned w16 z → w ≡ Two (memory dst z) (Register src) → r ≡ Some (insn.StoreRegister width dst src z)
+-- the instruction has this mnemonic and these arguments, and its fields are in their ranges
+abbrev pub IsInsnOf : Mnemonic → Arguments → Insn → Type 0
+IsInsnOf m w i = FitsInsn i × (mnemonic_of i ≡ m) × (arguments_of i ≡ w)
+
+-- What is read of a mnemonic and its arguments is the one instruction that they stand for, where they
+-- stand for one.
+abbrev pub IsOnlyInsn : Mnemonic → Arguments → Option Insn → Type 0
+IsOnlyInsn (Alu op size) w r =
+    (dst : ℕ) (src : Operand) → dst ≤ 10 → FitsOperand src →
+    w ≡ Two (Register dst) (source_argument src) → r ≡ Some (insn.Alu op size dst src)
+IsOnlyInsn (MoveSigned size) w r =
+    (extension : SignExtension) (dst src : ℕ) → extension_size extension ≡ size → dst ≤ 10 → src ≤ 10 →
+    w ≡ Three (Register dst) (Register src) (number_argument (extension_bits extension)) →
+    r ≡ Some (insn.Unary (unary.MoveSigned extension src) dst)
+IsOnlyInsn (Negate size) w r =
+    (dst : ℕ) → dst ≤ 10 → w ≡ One (Register dst) → r ≡ Some (insn.Unary (unary.Negate size) dst)
+IsOnlyInsn (ByteSwap order width) w r =
+    (dst : ℕ) → dst ≤ 10 → w ≡ One (Register dst) → r ≡ Some (insn.Unary (unary.ByteSwap order width) dst)
+IsOnlyInsn LoadNumber w r =
+    (dst n : ℕ) → dst ≤ 10 → n < 2 ^ 64 → w ≡ Two (Register dst) (Number n) → r ≡ Some (insn.LoadNumber dst n)
+IsOnlyInsn LoadMap w r =
+    (dst : ℕ) (map : ℤ) → dst ≤ 10 → FitsSigned w32 map →
+    w ≡ Two (Register dst) (number_argument map) → r ≡ Some (insn.LoadMap dst map)
+IsOnlyInsn Jump w r =
+    (z : ℤ) → FitsSigned w16 z → w ≡ One (offset_argument z) → r ≡ Some (insn.Jump z)
+IsOnlyInsn JumpLong w r =
+    (z : ℤ) → FitsSigned w32 z → w ≡ One (offset_argument z) → r ≡ Some (insn.JumpLong z)
+IsOnlyInsn (JumpIf condition size) w r =
+    (dst : ℕ) (src : Operand) (z : ℤ) → dst ≤ 10 → FitsOperand src → FitsSigned w16 z →
+    w ≡ Three (Register dst) (source_argument src) (offset_argument z) →
+    r ≡ Some (insn.JumpIf condition size dst src z)
+IsOnlyInsn (Call kind) w r =
+    (imm : ℤ) → FitsSigned w32 imm → w ≡ One (number_argument imm) → r ≡ Some (insn.Call kind imm)
+IsOnlyInsn Exit w r = w ≡ Zero → r ≡ Some (insn.Exit)
+IsOnlyInsn (Load width) w r =
+    (dst src : ℕ) (z : ℤ) → dst ≤ 10 → src ≤ 10 → FitsSigned w16 z →
+    w ≡ Two (Register dst) (memory_argument src z) → r ≡ Some (insn.Load width dst src z)
+IsOnlyInsn (LoadSigned width) w r =
+    (dst src : ℕ) (z : ℤ) → dst ≤ 10 → src ≤ 10 → FitsSigned w16 z →
+    w ≡ Two (Register dst) (memory_argument src z) → r ≡ Some (insn.LoadSigned width dst src z)
+IsOnlyInsn (Store width) w r =
+    (dst : ℕ) (z imm : ℤ) → dst ≤ 10 → FitsSigned w16 z → FitsSigned w32 imm →
+    w ≡ Two (memory_argument dst z) (number_argument imm) →
+    r ≡ Some (insn.Store width dst z (operand.Immediate imm))
+IsOnlyInsn (StoreRegister width) w r =
+    (dst src : ℕ) (z : ℤ) → dst ≤ 10 → src ≤ 10 → FitsSigned w16 z →
+    w ≡ Two (memory_argument dst z) (Register src) →
+    r ≡ Some (insn.Store width dst z (operand.Register src))

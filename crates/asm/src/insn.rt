@@ -1,21 +1,17 @@
 //! Instructions out of statements.
-ghost use Rattle.std.specs.Prelude.{ℕ, ◌≡◌, ◌<◌, ◌≤◌, ◌^◌, ℤ, FitsSigned, IfSome};
-ghost use Rattle.std.specs.Int.{w16, w32};
-ghost use Rattle.bpf_model.specs.Spelling.{FitsInsn, FitsOperand, extension_size, extension_bits};
-ghost use Rattle.bpf_model.specs.declared.insn.Operand.{Operand as OperandOf};
-ghost use Rattle.bpf_model.specs.declared.insn.SignExtension.{SignExtension as SignExtensionOf};
-ghost use Rattle.disasm.specs.Text.{number as number_of, offset as offset_of, memory as memory_of, source as source_of, mnemonic_of, arguments_of};
-ghost use Rattle.asm.specs.Reading.{IsOnly};
+ghost use Rattle.std.specs.Prelude.{IfSome};
+ghost use Rattle.asm.specs.Reading.{IsInsnOf, IsOnlyInsn};
 
 use crate::operand::{extension, long_offset, memory, number, offset, register, source, unsigned};
 use disasm::{Argument, Arguments, Mnemonic, Statement};
 use insn_codec::{
-    AluOp, ByteOrder, CallKind, Condition, Insn, SignedWidth, Size, SwapWidth, Width,
+    AluOp, ByteOrder, CallKind, Condition, Insn, Operand, SignedWidth, Size, SwapWidth, UnaryOp,
+    Width,
 };
 
 fn alu(op: AluOp, size: Size, arguments: &Arguments) -> Option<Insn>
-    ensures found { IfSome result (λ i. FitsInsn i × (mnemonic_of i ≡ Mnemonic.Alu op size) × (arguments_of i ≡ arguments.now)) }
-    ensures only { (dst : ℕ) (src : OperandOf) → dst ≤ 10 → FitsOperand src → arguments.now ≡ Arguments.Two (Argument.Register dst) (source_of src) → result ≡ Some (Insn.Alu op size dst src) }
+    ensures found { IfSome result (IsInsnOf (Mnemonic.Alu op size) arguments.now) }
+    ensures only { IsOnlyInsn (Mnemonic.Alu op size) arguments.now result }
 {
     match arguments {
         Arguments::Two(dst, src) => Some(Insn::Alu {
@@ -29,26 +25,28 @@ fn alu(op: AluOp, size: Size, arguments: &Arguments) -> Option<Insn>
 }
 
 fn move_signed(size: Size, arguments: &Arguments) -> Option<Insn>
-    ensures found { IfSome result (λ i. FitsInsn i × (mnemonic_of i ≡ Mnemonic.MoveSigned size) × (arguments_of i ≡ arguments.now)) }
-    ensures only { (extension : SignExtensionOf) (dst src : ℕ) → extension_size extension ≡ size → dst ≤ 10 → src ≤ 10 → arguments.now ≡ Arguments.Three (Argument.Register dst) (Argument.Register src) (number_of (extension_bits extension)) → result ≡ Some (Insn.MoveSigned extension dst src) }
+    ensures found { IfSome result (IsInsnOf (Mnemonic.MoveSigned size) arguments.now) }
+    ensures only { IsOnlyInsn (Mnemonic.MoveSigned size) arguments.now result }
 {
     match arguments {
-        Arguments::Three(dst, src, bits) => Some(Insn::MoveSigned {
-            extension: extension(size, bits)?,
-            dst: register(dst)?,
-            src: register(src)?,
-        }),
+        Arguments::Three(dst, src, bits) => {
+            let extension = extension(size, bits)?;
+            let dst = register(dst)?;
+            let src = register(src)?;
+            let op = UnaryOp::MoveSigned { extension, src };
+            Some(Insn::Unary { op, dst })
+        }
         _ => None,
     }
 }
 
 fn negate(size: Size, arguments: &Arguments) -> Option<Insn>
-    ensures found { IfSome result (λ i. FitsInsn i × (mnemonic_of i ≡ Mnemonic.Negate size) × (arguments_of i ≡ arguments.now)) }
-    ensures only { (dst : ℕ) → dst ≤ 10 → arguments.now ≡ Arguments.One (Argument.Register dst) → result ≡ Some (Insn.Negate size dst) }
+    ensures found { IfSome result (IsInsnOf (Mnemonic.Negate size) arguments.now) }
+    ensures only { IsOnlyInsn (Mnemonic.Negate size) arguments.now result }
 {
     match arguments {
-        Arguments::One(dst) => Some(Insn::Negate {
-            size,
+        Arguments::One(dst) => Some(Insn::Unary {
+            op: UnaryOp::Negate(size),
             dst: register(dst)?,
         }),
         _ => None,
@@ -56,13 +54,12 @@ fn negate(size: Size, arguments: &Arguments) -> Option<Insn>
 }
 
 fn byte_swap(order: ByteOrder, width: SwapWidth, arguments: &Arguments) -> Option<Insn>
-    ensures found { IfSome result (λ i. FitsInsn i × (mnemonic_of i ≡ Mnemonic.ByteSwap order width) × (arguments_of i ≡ arguments.now)) }
-    ensures only { (dst : ℕ) → dst ≤ 10 → arguments.now ≡ Arguments.One (Argument.Register dst) → result ≡ Some (Insn.ByteSwap order width dst) }
+    ensures found { IfSome result (IsInsnOf (Mnemonic.ByteSwap order width) arguments.now) }
+    ensures only { IsOnlyInsn (Mnemonic.ByteSwap order width) arguments.now result }
 {
     match arguments {
-        Arguments::One(dst) => Some(Insn::ByteSwap {
-            order,
-            width,
+        Arguments::One(dst) => Some(Insn::Unary {
+            op: UnaryOp::ByteSwap { order, width },
             dst: register(dst)?,
         }),
         _ => None,
@@ -70,8 +67,8 @@ fn byte_swap(order: ByteOrder, width: SwapWidth, arguments: &Arguments) -> Optio
 }
 
 fn load_number(arguments: &Arguments) -> Option<Insn>
-    ensures found { IfSome result (λ i. FitsInsn i × (mnemonic_of i ≡ Mnemonic.LoadNumber) × (arguments_of i ≡ arguments.now)) }
-    ensures only { (dst n : ℕ) → dst ≤ 10 → n < 2 ^ 64 → arguments.now ≡ Arguments.Two (Argument.Register dst) (Argument.Number n) → result ≡ Some (Insn.LoadNumber dst n) }
+    ensures found { IfSome result (IsInsnOf Mnemonic.LoadNumber arguments.now) }
+    ensures only { IsOnlyInsn Mnemonic.LoadNumber arguments.now result }
 {
     match arguments {
         Arguments::Two(dst, number) => Some(Insn::LoadNumber {
@@ -83,8 +80,8 @@ fn load_number(arguments: &Arguments) -> Option<Insn>
 }
 
 fn load_map(arguments: &Arguments) -> Option<Insn>
-    ensures found { IfSome result (λ i. FitsInsn i × (mnemonic_of i ≡ Mnemonic.LoadMap) × (arguments_of i ≡ arguments.now)) }
-    ensures only { (dst : ℕ) (map : ℤ) → dst ≤ 10 → FitsSigned w32 map → arguments.now ≡ Arguments.Two (Argument.Register dst) (number_of map) → result ≡ Some (Insn.LoadMap dst map) }
+    ensures found { IfSome result (IsInsnOf Mnemonic.LoadMap arguments.now) }
+    ensures only { IsOnlyInsn Mnemonic.LoadMap arguments.now result }
 {
     match arguments {
         Arguments::Two(dst, map) => Some(Insn::LoadMap {
@@ -96,8 +93,8 @@ fn load_map(arguments: &Arguments) -> Option<Insn>
 }
 
 fn jump(arguments: &Arguments) -> Option<Insn>
-    ensures found { IfSome result (λ i. FitsInsn i × (mnemonic_of i ≡ Mnemonic.Jump) × (arguments_of i ≡ arguments.now)) }
-    ensures only { (z : ℤ) → FitsSigned w16 z → arguments.now ≡ Arguments.One (offset_of z) → result ≡ Some (Insn.Jump z) }
+    ensures found { IfSome result (IsInsnOf Mnemonic.Jump arguments.now) }
+    ensures only { IsOnlyInsn Mnemonic.Jump arguments.now result }
 {
     match arguments {
         Arguments::One(target) => Some(Insn::Jump {
@@ -108,8 +105,8 @@ fn jump(arguments: &Arguments) -> Option<Insn>
 }
 
 fn jump_long(arguments: &Arguments) -> Option<Insn>
-    ensures found { IfSome result (λ i. FitsInsn i × (mnemonic_of i ≡ Mnemonic.JumpLong) × (arguments_of i ≡ arguments.now)) }
-    ensures only { (z : ℤ) → FitsSigned w32 z → arguments.now ≡ Arguments.One (offset_of z) → result ≡ Some (Insn.JumpLong z) }
+    ensures found { IfSome result (IsInsnOf Mnemonic.JumpLong arguments.now) }
+    ensures only { IsOnlyInsn Mnemonic.JumpLong arguments.now result }
 {
     match arguments {
         Arguments::One(target) => Some(Insn::JumpLong {
@@ -120,8 +117,8 @@ fn jump_long(arguments: &Arguments) -> Option<Insn>
 }
 
 fn jump_if(condition: Condition, size: Size, arguments: &Arguments) -> Option<Insn>
-    ensures found { IfSome result (λ i. FitsInsn i × (mnemonic_of i ≡ Mnemonic.JumpIf condition size) × (arguments_of i ≡ arguments.now)) }
-    ensures only { (dst : ℕ) (src : OperandOf) (z : ℤ) → dst ≤ 10 → FitsOperand src → FitsSigned w16 z → arguments.now ≡ Arguments.Three (Argument.Register dst) (source_of src) (offset_of z) → result ≡ Some (Insn.JumpIf condition size dst src z) }
+    ensures found { IfSome result (IsInsnOf (Mnemonic.JumpIf condition size) arguments.now) }
+    ensures only { IsOnlyInsn (Mnemonic.JumpIf condition size) arguments.now result }
 {
     match arguments {
         Arguments::Three(dst, src, target) => Some(Insn::JumpIf {
@@ -136,8 +133,8 @@ fn jump_if(condition: Condition, size: Size, arguments: &Arguments) -> Option<In
 }
 
 fn call(kind: CallKind, arguments: &Arguments) -> Option<Insn>
-    ensures found { IfSome result (λ i. FitsInsn i × (mnemonic_of i ≡ Mnemonic.Call kind) × (arguments_of i ≡ arguments.now)) }
-    ensures only { (imm : ℤ) → FitsSigned w32 imm → arguments.now ≡ Arguments.One (number_of imm) → result ≡ Some (Insn.Call kind imm) }
+    ensures found { IfSome result (IsInsnOf (Mnemonic.Call kind) arguments.now) }
+    ensures only { IsOnlyInsn (Mnemonic.Call kind) arguments.now result }
 {
     match arguments {
         Arguments::One(imm) => Some(Insn::Call {
@@ -149,8 +146,8 @@ fn call(kind: CallKind, arguments: &Arguments) -> Option<Insn>
 }
 
 fn exit(arguments: &Arguments) -> Option<Insn>
-    ensures found { IfSome result (λ i. FitsInsn i × (mnemonic_of i ≡ Mnemonic.Exit) × (arguments_of i ≡ arguments.now)) }
-    ensures only { arguments.now ≡ Arguments.Zero → result ≡ Some (Insn.Exit) }
+    ensures found { IfSome result (IsInsnOf Mnemonic.Exit arguments.now) }
+    ensures only { IsOnlyInsn Mnemonic.Exit arguments.now result }
 {
     match arguments {
         Arguments::Zero => Some(Insn::Exit),
@@ -159,8 +156,8 @@ fn exit(arguments: &Arguments) -> Option<Insn>
 }
 
 fn load(width: Width, arguments: &Arguments) -> Option<Insn>
-    ensures found { IfSome result (λ i. FitsInsn i × (mnemonic_of i ≡ Mnemonic.Load width) × (arguments_of i ≡ arguments.now)) }
-    ensures only { (dst src : ℕ) (z : ℤ) → dst ≤ 10 → src ≤ 10 → FitsSigned w16 z → arguments.now ≡ Arguments.Two (Argument.Register dst) (memory_of src z) → result ≡ Some (Insn.Load width dst src z) }
+    ensures found { IfSome result (IsInsnOf (Mnemonic.Load width) arguments.now) }
+    ensures only { IsOnlyInsn (Mnemonic.Load width) arguments.now result }
 {
     match arguments {
         Arguments::Two(dst, place) => {
@@ -178,8 +175,8 @@ fn load(width: Width, arguments: &Arguments) -> Option<Insn>
 }
 
 fn load_signed(width: SignedWidth, arguments: &Arguments) -> Option<Insn>
-    ensures found { IfSome result (λ i. FitsInsn i × (mnemonic_of i ≡ Mnemonic.LoadSigned width) × (arguments_of i ≡ arguments.now)) }
-    ensures only { (dst src : ℕ) (z : ℤ) → dst ≤ 10 → src ≤ 10 → FitsSigned w16 z → arguments.now ≡ Arguments.Two (Argument.Register dst) (memory_of src z) → result ≡ Some (Insn.LoadSigned width dst src z) }
+    ensures found { IfSome result (IsInsnOf (Mnemonic.LoadSigned width) arguments.now) }
+    ensures only { IsOnlyInsn (Mnemonic.LoadSigned width) arguments.now result }
 {
     match arguments {
         Arguments::Two(dst, place) => {
@@ -197,8 +194,8 @@ fn load_signed(width: SignedWidth, arguments: &Arguments) -> Option<Insn>
 }
 
 fn store(width: Width, arguments: &Arguments) -> Option<Insn>
-    ensures found { IfSome result (λ i. FitsInsn i × (mnemonic_of i ≡ Mnemonic.Store width) × (arguments_of i ≡ arguments.now)) }
-    ensures only { (dst : ℕ) (z imm : ℤ) → dst ≤ 10 → FitsSigned w16 z → FitsSigned w32 imm → arguments.now ≡ Arguments.Two (memory_of dst z) (number_of imm) → result ≡ Some (Insn.Store width dst z imm) }
+    ensures found { IfSome result (IsInsnOf (Mnemonic.Store width) arguments.now) }
+    ensures only { IsOnlyInsn (Mnemonic.Store width) arguments.now result }
 {
     match arguments {
         Arguments::Two(place, imm) => {
@@ -207,7 +204,7 @@ fn store(width: Width, arguments: &Arguments) -> Option<Insn>
                 width,
                 dst,
                 offset,
-                imm: number(imm)?,
+                src: Operand::Immediate(number(imm)?),
             })
         }
         _ => None,
@@ -215,17 +212,17 @@ fn store(width: Width, arguments: &Arguments) -> Option<Insn>
 }
 
 fn store_register(width: Width, arguments: &Arguments) -> Option<Insn>
-    ensures found { IfSome result (λ i. FitsInsn i × (mnemonic_of i ≡ Mnemonic.StoreRegister width) × (arguments_of i ≡ arguments.now)) }
-    ensures only { (dst src : ℕ) (z : ℤ) → dst ≤ 10 → src ≤ 10 → FitsSigned w16 z → arguments.now ≡ Arguments.Two (memory_of dst z) (Argument.Register src) → result ≡ Some (Insn.StoreRegister width dst src z) }
+    ensures found { IfSome result (IsInsnOf (Mnemonic.StoreRegister width) arguments.now) }
+    ensures only { IsOnlyInsn (Mnemonic.StoreRegister width) arguments.now result }
 {
     match arguments {
         Arguments::Two(place, src) => {
             let (dst, offset) = memory(place)?;
-            Some(Insn::StoreRegister {
+            Some(Insn::Store {
                 width,
                 dst,
-                src: register(src)?,
                 offset,
+                src: Operand::Register(register(src)?),
             })
         }
         _ => None,
@@ -234,8 +231,8 @@ fn store_register(width: Width, arguments: &Arguments) -> Option<Insn>
 
 /// The instruction that the statement stands for, where its fields are in their ranges.
 pub fn insn_from(statement: &Statement) -> Option<Insn>
-    ensures found { IfSome result (λ i. FitsInsn i × (mnemonic_of i ≡ statement.now.mnemonic) × (arguments_of i ≡ statement.now.arguments)) }
-    ensures only { IsOnly statement.now.mnemonic statement.now.arguments result }
+    ensures found { IfSome result (IsInsnOf statement.now.mnemonic statement.now.arguments) }
+    ensures only { IsOnlyInsn statement.now.mnemonic statement.now.arguments result }
 {
     let arguments = &statement.arguments;
     match &statement.mnemonic {

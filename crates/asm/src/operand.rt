@@ -4,7 +4,7 @@ ghost use Rattle.std.specs.Int.{w16, w32};
 ghost use Rattle.bpf_model.specs.Spelling.{FitsOperand, extension_size, extension_bits};
 ghost use Rattle.bpf_model.specs.declared.insn.Operand.{Operand as OperandOf};
 ghost use Rattle.bpf_model.specs.declared.insn.SignExtension.{SignExtension as SignExtensionOf};
-ghost use Rattle.disasm.specs.Text.{sign_of, magnitude as magnitude_of, number as number_of, offset as offset_of, memory as memory_of, source as source_of};
+ghost use Rattle.disasm.specs.Text.{sign_of, magnitude as magnitude_of, number_argument, offset_argument, memory_argument, source_argument};
 
 use disasm::{Argument, Sign};
 use insn_codec::{Operand, Reg, SignExtension, Size};
@@ -76,8 +76,8 @@ pub fn register(argument: &Argument) -> Option<Reg>
 }
 
 pub fn number(argument: &Argument) -> Option<i32>
-    ensures found { IfSome result (λ z. (argument.now ≡ number_of z) × FitsSigned w32 z) }
-    ensures only { (z : ℤ) → FitsSigned w32 z → argument.now ≡ number_of z → result ≡ Some z }
+    ensures found { IfSome result (λ z. (argument.now ≡ number_argument z) × FitsSigned w32 z) }
+    ensures only { (z : ℤ) → FitsSigned w32 z → argument.now ≡ number_argument z → result ≡ Some z }
 {
     match argument {
         Argument::Number(magnitude) => signed32(Sign::Plus, *magnitude),
@@ -99,8 +99,8 @@ pub fn unsigned(argument: &Argument) -> Option<u64>
 }
 
 pub fn source(argument: &Argument) -> Option<Operand>
-    ensures found { IfSome result (λ o. (argument.now ≡ source_of o) × FitsOperand o) }
-    ensures only { (o : OperandOf) → FitsOperand o → argument.now ≡ source_of o → result ≡ Some o }
+    ensures found { IfSome result (λ o. (argument.now ≡ source_argument o) × FitsOperand o) }
+    ensures only { (o : OperandOf) → FitsOperand o → argument.now ≡ source_argument o → result ≡ Some o }
 {
     match argument {
         Argument::Register(_) => Some(Operand::Register(register(argument)?)),
@@ -109,8 +109,8 @@ pub fn source(argument: &Argument) -> Option<Operand>
 }
 
 pub fn offset(argument: &Argument) -> Option<i16>
-    ensures found { IfSome result (λ z. (argument.now ≡ offset_of z) × FitsSigned w16 z) }
-    ensures only { (z : ℤ) → FitsSigned w16 z → argument.now ≡ offset_of z → result ≡ Some z }
+    ensures found { IfSome result (λ z. (argument.now ≡ offset_argument z) × FitsSigned w16 z) }
+    ensures only { (z : ℤ) → FitsSigned w16 z → argument.now ≡ offset_argument z → result ≡ Some z }
 {
     match argument {
         Argument::Signed(sign, magnitude) => signed16(*sign, *magnitude),
@@ -119,8 +119,8 @@ pub fn offset(argument: &Argument) -> Option<i16>
 }
 
 pub fn long_offset(argument: &Argument) -> Option<i32>
-    ensures found { IfSome result (λ z. (argument.now ≡ offset_of z) × FitsSigned w32 z) }
-    ensures only { (z : ℤ) → FitsSigned w32 z → argument.now ≡ offset_of z → result ≡ Some z }
+    ensures found { IfSome result (λ z. (argument.now ≡ offset_argument z) × FitsSigned w32 z) }
+    ensures only { (z : ℤ) → FitsSigned w32 z → argument.now ≡ offset_argument z → result ≡ Some z }
 {
     match argument {
         Argument::Signed(sign, magnitude) => signed32(*sign, *magnitude),
@@ -130,8 +130,8 @@ pub fn long_offset(argument: &Argument) -> Option<i32>
 
 /// A base register and an offset.
 pub fn memory(argument: &Argument) -> Option<(Reg, i16)>
-    ensures found { IfSome result (λ x. (argument.now ≡ memory_of x.0 x.1) × (x.0 ≤ 10) × FitsSigned w16 x.1) }
-    ensures only { (base : ℕ) (z : ℤ) → base ≤ 10 → FitsSigned w16 z → argument.now ≡ memory_of base z → result ≡ Some (base, z) }
+    ensures found { IfSome result (λ x. (argument.now ≡ memory_argument x.0 x.1) × (x.0 ≤ 10) × FitsSigned w16 x.1) }
+    ensures only { (base : ℕ) (z : ℤ) → base ≤ 10 → FitsSigned w16 z → argument.now ≡ memory_argument base z → result ≡ Some (base, z) }
 {
     match argument {
         Argument::Memory { base, sign, offset } => {
@@ -143,8 +143,8 @@ pub fn memory(argument: &Argument) -> Option<(Reg, i16)>
 
 /// The sign extension to a size that is written with this many bits.
 pub fn extension(size: Size, argument: &Argument) -> Option<SignExtension>
-    ensures found { IfSome result (λ x. (extension_size x ≡ size) × (argument.now ≡ number_of (extension_bits x))) }
-    ensures only { (x : SignExtensionOf) → extension_size x ≡ size → argument.now ≡ number_of (extension_bits x) → result ≡ Some x }
+    ensures found { IfSome result (λ x. (extension_size x ≡ size) × (argument.now ≡ number_argument (extension_bits x))) }
+    ensures only { (x : SignExtensionOf) → extension_size x ≡ size → argument.now ≡ number_argument (extension_bits x) → result ≡ Some x }
 {
     let bits = number(argument)?;
     match (size, bits) {

@@ -1,18 +1,20 @@
 //! `bpfrt`: the command line over the runtime.
 #![tactic(auto)]
 
+mod program_file;
 mod report;
 mod request;
 mod run;
 mod words;
 
-use report::fault;
+use report::{fault, no_command};
 use request::{Command, UsageFault};
 use run::run as run_command;
 use std::alloc::Global;
+use std::env;
 use std::fs::File;
+use std::io::ErrorKind;
 use std::process::ExitCode;
-use std::{env, io};
 
 /// Opens the file that the command names, and runs the command on it.
 fn run_on_file(rt: &HostRuntime, command: &Command) -> u8 {
@@ -28,27 +30,32 @@ fn run_on_file(rt: &HostRuntime, command: &Command) -> u8 {
     }
 }
 
-/// The words after the program's own, or why there are none.
-fn words_of(rt: &HostRuntime, alloc: Global) -> Result<Vec<String>, io::Error> {
+/// The words of the command line, the program's own name first. A word that is not text is no usage of it.
+fn words_of(rt: &HostRuntime, alloc: Global) -> Result<Vec<String>, UsageFault> {
+    let arguments = match env::args(rt) {
+        Ok(arguments) => arguments,
+        Err(error) if error.kind() == ErrorKind::OutOfMemory => return Err(UsageFault::Memory),
+        Err(_) => return Err(UsageFault::NotText),
+    };
     let mut words = Vec::new(alloc);
-    for word in env::args(rt)? {
+    for word in arguments {
         words.push(word)?;
     }
     Ok(words)
 }
 
-fn main(rt: HostRuntime) -> ExitCode {
+/// Runs the command that the words ask for, and answers the exit status.
+fn status_of(rt: &HostRuntime) -> Result<u8, UsageFault> {
     let alloc = rt.alloc();
-    let Ok(words) = words_of(&rt, alloc) else {
-        return ExitCode::from(fault(&mut rt.stderr(), 13));
-    };
-    let status = match words::command(alloc, &words) {
-        Ok(command) => run_on_file(&rt, &command),
-        Err(UsageFault::Memory) => fault(&mut rt.stderr(), 13),
-        Err(usage) => {
-            let _ = eprintln!(&rt; "{usage}");
-            2
-        }
+    let words = words_of(rt, alloc)?;
+    let command = words::command(alloc, &words)?;
+    Ok(run_on_file(rt, &command))
+}
+
+fn main(rt: HostRuntime) -> ExitCode {
+    let status = match status_of(&rt) {
+        Ok(status) => status,
+        Err(usage) => no_command(&mut rt.stderr(), &usage),
     };
     ExitCode::from(status)
 }

@@ -1,6 +1,8 @@
 //! The lines that refusals and faults make, and the statuses that go with them.
 ghost use Rattle.std.specs.Prelude.{◌≡◌, ◌≢◌, ◌⊎◌};
+ghost use Rattle.bpfrt.specs.declared.request.UsageFault.TheVariants.{Memory};
 
+use crate::request::UsageFault;
 use insn_codec::DecodeFault;
 use std::alloc::AllocError;
 use std::io::Write;
@@ -17,6 +19,10 @@ pub struct Verdict {
 pub const MEMORY: u8 = 13;
 
 impl From<DecodeFault> for Verdict {
+    ghost use Rattle.insn_codec.specs.Faults.{fault_number, fault_slot};
+
+    ghost from_gives = { λ f v. (v.code ≡ fault_number f) × (v.slot ≡ fault_slot f) };
+
     fn from(fault: DecodeFault) -> Verdict {
         Verdict {
             code: fault.code(),
@@ -26,6 +32,10 @@ impl From<DecodeFault> for Verdict {
 }
 
 impl From<Refusal> for Verdict {
+    ghost use Rattle.verifier.specs.Numbers.{refusal_number, refusal_slot};
+
+    ghost from_gives = { λ r v. (v.code ≡ refusal_number r) × (v.slot ≡ refusal_slot r) };
+
     fn from(refusal: Refusal) -> Verdict {
         Verdict {
             code: refusal.code(),
@@ -35,6 +45,10 @@ impl From<Refusal> for Verdict {
 }
 
 impl From<AllocError> for Verdict {
+    ghost use Rattle.std.specs.Prelude.{None};
+
+    ghost from_gives = { λ _ v. (v.code ≡ 13) × (v.slot ≡ None) };
+
     fn from(_: AllocError) -> Verdict {
         Verdict {
             code: MEMORY,
@@ -67,4 +81,16 @@ pub fn refused<W: Write>(err: &mut W, verdict: Verdict) -> u8
         None => writeln!(err, "refused {}", verdict.code),
     };
     1
+}
+
+/// Says on standard error why the words are no command, and answers the status.
+pub fn no_command<W: Write>(err: &mut W, usage: &UsageFault) -> u8
+    ensures memory { usage.now ≡ Memory → result ≡ 3 }
+    ensures other { usage.now ≢ Memory → result ≡ 2 }
+{
+    if matches!(usage, UsageFault::Memory) {
+        return fault(err, MEMORY);
+    }
+    let _ = writeln!(err, "{usage}");
+    2
 }

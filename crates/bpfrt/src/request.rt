@@ -1,6 +1,6 @@
 //! What the program can be asked to do.
 
-use std::alloc::AllocError;
+use std::alloc::{AllocError, AllocFailed};
 use thiserror::Error;
 
 /// What the program is asked to do.
@@ -18,6 +18,10 @@ pub enum UsageFault {
     /// The words are refused; the text says why, or is the help that was asked for.
     #[error("{0}")]
     Usage(String),
+    /// A word is not UTF-8.
+    #[error("a word is not UTF-8 text")]
+    NotText,
+    /// An allocation failed.
     #[error("out of memory")]
     Memory,
 }
@@ -29,6 +33,17 @@ impl From<AllocError> for UsageFault {
     ghost from_gives = { λ _ e. e ≡ Memory };
 
     fn from(_: AllocError) -> UsageFault {
+        UsageFault::Memory
+    }
+}
+
+impl<T: Drop> From<AllocFailed<T>> for UsageFault {
+    ghost use Rattle.std.specs.Prelude.{◌≡◌};
+    ghost use Rattle.bpfrt.specs.declared.request.UsageFault.TheVariants.{Memory};
+
+    ghost from_gives = { λ _ e. e ≡ Memory };
+
+    fn from(_: AllocFailed<T>) -> UsageFault {
         UsageFault::Memory
     }
 }

@@ -1,13 +1,13 @@
 //! Running a command.
-ghost use Rattle.std.specs.Prelude.{◌≡◌, ◌≢◌, ◌⊎◌, List, length, IfOk, string_bytes};
-ghost use Rattle.bpf_model.specs.declared.insn.Insn.{Insn};
-ghost use Rattle.bpf_model.specs.Spelling.{IsProgram, text, slot_total};
-ghost use Rattle.disasm.specs.Text.{program_text};
+ghost use Rattle.std.specs.Prelude.{◌≡◌, ◌≢◌, ◌⊎◌, List, ℕ, IfOk, IfErr, IfSome, OnOk, MatchResult, string_bytes};
+ghost use Rattle.std.specs.Io.KnownBytes.{Appends};
+ghost use Rattle.bpfrt.specs.Files.{Holds};
+ghost use Rattle.bpfrt.specs.Outputs.{IsAccepted, IsTextOf, IsDecodeRefusal, IsCheckedRefusal, IsRefusedByDecode, IsRefusedByCheck, IsRefusedBy, accepted_line, WritesAccepted, WritesText, Writes};
 
+use crate::program_file::{FileBytes, read_file};
 use crate::report::{Verdict, fault, refused};
 use crate::request::Command;
 use disasm::disassemble;
-use insn_codec::decode;
 use std::alloc::Global;
 use std::io;
 use std::io::{ErrorKind, Read, Write};
@@ -20,25 +20,27 @@ struct Accepted {
     slots: usize,
 }
 
-/// Decodes and verifies program bytes, with no maps and no context.
-fn check(alloc: Global, bytes: &[u8]) -> Result<Accepted, Verdict>
-    ensures { IfOk result (λ a. (p : List Insn) × IsProgram p × (bytes.now ≡ text p) × (a.instructions ≡ length p) × (a.slots ≡ slot_total p)) }
+/// Decodes and verifies a file's program, with no maps and no context.
+fn check(alloc: Global, file: &FileBytes) -> Result<Accepted, Verdict>
+    ensures accepted { (bytes : List ℕ) → Holds file.now bytes → IfOk result (IsAccepted bytes) }
+    ensures refused { (bytes : List ℕ) → Holds file.now bytes → IfErr result (IsCheckedRefusal bytes) }
 {
-    let program = decode(alloc, bytes)?;
-    let instructions = program.len();
-    let slots = program.slot_count();
-    let _verified = verify(alloc, program, &[], 0)?;
+    let program = file.decode(alloc)?;
+    let verified = verify(alloc, program, &[], 0)?;
+    let program = verified.program();
     Ok(Accepted {
-        instructions,
-        slots,
+        instructions: program.len(),
+        slots: program.slot_count(),
     })
 }
 
-/// The text of program bytes.
-fn text_of(alloc: Global, bytes: &[u8]) -> Result<String, Verdict>
-    ensures { IfOk result (λ s. (p : List Insn) × IsProgram p × (bytes.now ≡ text p) × (string_bytes s ≡ program_text p)) }
+/// The text of a file's program.
+fn text_of(alloc: Global, file: &FileBytes) -> Result<String, Verdict>
+    ensures text { (bytes : List ℕ) → Holds file.now bytes →
+        IfOk result (λ lines. IsTextOf bytes (string_bytes lines)) }
+    ensures refused { (bytes : List ℕ) → Holds file.now bytes → IfErr result (IsDecodeRefusal bytes) }
 {
-    let program = decode(alloc, bytes)?;
+    let program = file.decode(alloc)?;
     Ok(disassemble(alloc, &program)?)
 }
 
@@ -63,7 +65,10 @@ fn stream_fault(error: &io::Error, side: Side) -> u8
     }
 }
 
-fn write_accepted<W: Write>(out: &mut W, accepted: &Accepted) -> io::Result<()> {
+fn write_accepted<W: Write>(out: &mut W, accepted: &Accepted) -> io::Result<()>
+    ensures { OnOk result (Appends (W.contents out.old) (W.contents out.new)
+        (accepted_line accepted.now.instructions accepted.now.slots)) }
+{
     writeln!(
         out,
         "accepted {} instructions {} slots",
@@ -72,18 +77,64 @@ fn write_accepted<W: Write>(out: &mut W, accepted: &Accepted) -> io::Result<()> 
     out.flush()
 }
 
-fn write_text<W: Write>(out: &mut W, text: &str) -> io::Result<()> {
+fn write_text<W: Write>(out: &mut W, text: &str) -> io::Result<()>
+    ensures { OnOk result (Appends (W.contents out.old) (W.contents out.new) text.now) }
+{
     out.write_all(text.as_bytes())?;
     out.flush()
 }
 
 /// The status of an output that was written, or whose writing failed.
 fn written<E: Write>(err: &mut E, outcome: io::Result<()>) -> u8
-    ensures { (result ≡ 0) ⊎ (result ≡ 3) }
+    ensures { MatchResult outcome (λ _. result ≡ 0) (λ _. result ≡ 3) }
 {
     match outcome {
         Ok(()) => 0,
         Err(error) => fault(err, stream_fault(&error, Side::Output)),
+    }
+}
+
+/// Checks the program that the input's bytes are.
+fn run_check<R: Read, W: Write, E: Write>(
+    alloc: Global,
+    input: &mut R,
+    out: &mut W,
+    err: &mut E,
+) -> u8
+    ensures status { (result ≡ 0) ⊎ (result ≡ 1) ⊎ (result ≡ 3) }
+    ensures accepted { result ≡ 0 → IfSome (R.remaining input.old)
+        (WritesAccepted (W.contents out.old) (W.contents out.new)) }
+    ensures refused { result ≡ 1 → IfSome (R.remaining input.old) IsRefusedByCheck }
+{
+    let file = match read_file(alloc, input) {
+        Ok(file) => file,
+        Err(error) => return fault(err, stream_fault(&error, Side::Input)),
+    };
+    match check(alloc, &file) {
+        Ok(accepted) => written(err, write_accepted(out, &accepted)),
+        Err(verdict) => refused(err, verdict),
+    }
+}
+
+/// Writes the text of the program that the input's bytes are.
+fn run_disasm<R: Read, W: Write, E: Write>(
+    alloc: Global,
+    input: &mut R,
+    out: &mut W,
+    err: &mut E,
+) -> u8
+    ensures status { (result ≡ 0) ⊎ (result ≡ 1) ⊎ (result ≡ 3) }
+    ensures text { result ≡ 0 → IfSome (R.remaining input.old)
+        (WritesText (W.contents out.old) (W.contents out.new)) }
+    ensures refused { result ≡ 1 → IfSome (R.remaining input.old) IsRefusedByDecode }
+{
+    let file = match read_file(alloc, input) {
+        Ok(file) => file,
+        Err(error) => return fault(err, stream_fault(&error, Side::Input)),
+    };
+    match text_of(alloc, &file) {
+        Ok(text) => written(err, write_text(out, &text)),
+        Err(verdict) => refused(err, verdict),
     }
 }
 
@@ -97,20 +148,13 @@ pub fn run<R: Read, W: Write, E: Write>(
     out: &mut W,
     err: &mut E,
 ) -> u8
-    ensures { (result ≡ 0) ⊎ (result ≡ 1) ⊎ (result ≡ 3) }
+    ensures status { (result ≡ 0) ⊎ (result ≡ 1) ⊎ (result ≡ 3) }
+    ensures fine { result ≡ 0 → IfSome (R.remaining input.old)
+        (Writes command.now (W.contents out.old) (W.contents out.new)) }
+    ensures refused { result ≡ 1 → IfSome (R.remaining input.old) (IsRefusedBy command.now) }
 {
-    let mut bytes: Vec<u8> = Vec::new(alloc);
-    if let Err(error) = input.read_to_end(&mut bytes) {
-        return fault(err, stream_fault(&error, Side::Input));
-    }
     match command {
-        Command::Check { .. } => match check(alloc, &bytes) {
-            Ok(accepted) => written(err, write_accepted(out, &accepted)),
-            Err(verdict) => refused(err, verdict),
-        },
-        Command::Disasm { .. } => match text_of(alloc, &bytes) {
-            Ok(text) => written(err, write_text(out, &text)),
-            Err(verdict) => refused(err, verdict),
-        },
+        Command::Check { .. } => run_check(alloc, input, out, err),
+        Command::Disasm { .. } => run_disasm(alloc, input, out, err),
     }
 }

@@ -34,6 +34,24 @@ impl Write for Broken {
     }
 }
 
+/// A stream that is interrupted before each read, and then gives at most 5 bytes.
+#[derive(Drop)]
+struct Halting<'a> {
+    rest: &'a [u8],
+    is_interrupted: bool,
+}
+
+impl Read for Halting<'_> {
+    fn read(&mut self, buf: &mut [u8]) -> io::Result<usize> {
+        self.is_interrupted = !self.is_interrupted;
+        if self.is_interrupted {
+            return Err(io::Error::from(io::ErrorKind::Interrupted));
+        }
+        let most = buf.len().min(5);
+        self.rest.read(&mut buf[..most])
+    }
+}
+
 fn check(alloc: Global) -> Result<Command, Fail> {
     Ok(Command::Check {
         file: String::from_str(alloc, "program")?,
@@ -74,6 +92,59 @@ fn outputs_and_statuses(rt: HostRuntime) -> Result<(), Fail> {
         assert_eq!(rt; found, status);
         assert_eq!(rt; written.as_slice(), out);
         assert_eq!(rt; told.as_slice(), err);
+    }
+    Ok(())
+}
+
+#[test]
+fn files_in_many_pieces(rt: HostRuntime) -> Result<(), Fail> {
+    let alloc = rt.alloc();
+    let disasm = disasm(alloc)?;
+    let mut input = Halting {
+        rest: &WIDE,
+        is_interrupted: false,
+    };
+    let mut out: Vec<u8> = Vec::new(alloc);
+    let mut told: Vec<u8> = Vec::new(alloc);
+    assert_eq!(rt;
+        run_command(alloc, &disasm, &mut input, &mut out, &mut told),
+        0
+    );
+    assert_eq!(rt; out.as_slice(), b"lddw r0, 8589934593\nexit\n".as_slice());
+    assert!(rt; told.is_empty());
+    Ok(())
+}
+
+/// So many bytes: each slot is `mov64 r0, 0`, and what is left over is zero.
+fn moves(alloc: Global, length: usize) -> Result<Vec<u8>, Fail> {
+    let mut bytes: Vec<u8> = vec![in alloc; 0; length]?;
+    for slot in 0..length / 8 {
+        bytes[8 * slot] = 0xb7;
+    }
+    Ok(bytes)
+}
+
+#[test]
+fn files_about_as_long_as_programs(rt: HostRuntime) -> Result<(), Fail> {
+    let alloc = rt.alloc();
+    let check = check(alloc)?;
+    let rows: [(usize, &[u8]); 6] = [
+        (32_767, b"refused 1\n"),
+        (32_768, b"refused 22 at 4095\n"),
+        (32_769, b"refused 1\n"),
+        (32_776, b"refused 3\n"),
+        (100_000, b"refused 3\n"),
+        (100_001, b"refused 1\n"),
+    ];
+    for (length, told) in rows {
+        let bytes = moves(alloc, length)?;
+        let mut input = bytes.as_slice();
+        let mut out: Vec<u8> = Vec::new(alloc);
+        let mut err: Vec<u8> = Vec::new(alloc);
+        let status = run_command(alloc, &check, &mut input, &mut out, &mut err);
+        assert_eq!(rt; status, 1);
+        assert_eq!(rt; err.as_slice(), told);
+        assert!(rt; out.is_empty());
     }
     Ok(())
 }

@@ -16,6 +16,8 @@ use Rattle.bpf_model.specs.declared.opcode.Condition.{Condition}
 use Rattle.bpf_model.specs.declared.opcode.Condition.TheVariants.{Equal, Greater, GreaterOrEqual, SharesBits, NotEqual, SignedGreater, SignedGreaterOrEqual, Less, LessOrEqual, SignedLess, SignedLessOrEqual}
 use Rattle.bpf_model.specs.declared.insn.AluOp.{AluOp}
 use Rattle.bpf_model.specs.declared.insn.AluOp.TheVariants.{Add, Sub, Mul, Div, SignedDiv, Or, And, ShiftLeft, ShiftRight, Mod, SignedMod, Xor, Move, ShiftRightSigned}
+use Rattle.bpf_model.specs.declared.insn.UnaryOp.{UnaryOp}
+use Rattle.bpf_model.specs.declared.insn.UnaryOp.TheVariants as unary
 use Rattle.bpf_model.specs.declared.insn.CallKind.{CallKind}
 use Rattle.bpf_model.specs.declared.insn.CallKind.TheVariants.{Helper, Kernel}
 use Rattle.bpf_model.specs.declared.insn.Operand.{Operand}
@@ -150,13 +152,15 @@ abbrev pub argument_text : Argument → List ℕ
 argument_text (Register number) = codes "r" ++ numeral number
 argument_text (Number magnitude) = numeral magnitude
 argument_text (Signed sign magnitude) = sign_text sign ++ numeral magnitude
-argument_text (Memory base sign offset) = codes "[r" ++ numeral base ++ sign_text sign ++ numeral offset ++ codes "]"
+argument_text (Memory base sign offset) =
+    codes "[r" ++ numeral base ++ sign_text sign ++ numeral offset ++ codes "]"
 
 abbrev pub arguments_text : Arguments → List ℕ
 arguments_text Zero = []
 arguments_text (One a) = codes " " ++ argument_text a
 arguments_text (Two a b) = codes " " ++ argument_text a ++ codes ", " ++ argument_text b
-arguments_text (Three a b c) = codes " " ++ argument_text a ++ codes ", " ++ argument_text b ++ codes ", " ++ argument_text c
+arguments_text (Three a b c) =
+    codes " " ++ argument_text a ++ codes ", " ++ argument_text b ++ codes ", " ++ argument_text c
 
 abbrev pub statement_text : Statement → List ℕ
 statement_text s = name_of s.mnemonic ++ arguments_text s.arguments
@@ -173,26 +177,34 @@ magnitude (pos n) = n
 magnitude (negsuc n) = n + 1
 
 -- a number bears a sign where it is below 0
-abbrev pub number : ℤ → Argument
-number (pos n) = Number n
-number (negsuc n) = Signed Minus (n + 1)
+abbrev pub number_argument : ℤ → Argument
+number_argument (pos n) = Number n
+number_argument (negsuc n) = Signed Minus (n + 1)
 
 -- an offset always bears its sign
-abbrev pub offset : ℤ → Argument
-offset z = Signed (sign_of z) (magnitude z)
+abbrev pub offset_argument : ℤ → Argument
+offset_argument z = Signed (sign_of z) (magnitude z)
 
-abbrev pub memory : ℕ → ℤ → Argument
-memory base z = Memory base (sign_of z) (magnitude z)
+abbrev pub memory_argument : ℕ → ℤ → Argument
+memory_argument base z = Memory base (sign_of z) (magnitude z)
 
-abbrev pub source : Operand → Argument
-source (operand.Register src) = Register src
-source (operand.Immediate imm) = number imm
+abbrev pub source_argument : Operand → Argument
+source_argument (operand.Register src) = Register src
+source_argument (operand.Immediate imm) = number_argument imm
+
+abbrev pub unary_mnemonic : UnaryOp → Mnemonic
+unary_mnemonic (unary.Negate size) = Negate size
+unary_mnemonic (unary.ByteSwap order width) = ByteSwap order width
+unary_mnemonic (unary.MoveSigned extension src) = MoveSigned (extension_size extension)
+
+-- a store of the field imm and one of a register have names of their own
+abbrev pub store_mnemonic : Width → Operand → Mnemonic
+store_mnemonic width (operand.Immediate imm) = Store width
+store_mnemonic width (operand.Register src) = StoreRegister width
 
 abbrev pub mnemonic_of : Insn → Mnemonic
 mnemonic_of (insn.Alu op size dst src) = Alu op size
-mnemonic_of (insn.MoveSigned extension dst src) = MoveSigned (extension_size extension)
-mnemonic_of (insn.Negate size dst) = Negate size
-mnemonic_of (insn.ByteSwap order width dst) = ByteSwap order width
+mnemonic_of (insn.Unary op dst) = unary_mnemonic op
 mnemonic_of (insn.LoadNumber dst n) = LoadNumber
 mnemonic_of (insn.LoadMap dst map) = LoadMap
 mnemonic_of (insn.Jump z) = Jump
@@ -202,25 +214,28 @@ mnemonic_of (insn.Call kind imm) = Call kind
 mnemonic_of insn.Exit = Exit
 mnemonic_of (insn.Load width dst src z) = Load width
 mnemonic_of (insn.LoadSigned width dst src z) = LoadSigned width
-mnemonic_of (insn.Store width dst z imm) = Store width
-mnemonic_of (insn.StoreRegister width dst src z) = StoreRegister width
+mnemonic_of (insn.Store width dst z src) = store_mnemonic width src
+
+abbrev pub unary_arguments : UnaryOp → ℕ → Arguments
+unary_arguments (unary.Negate size) dst = One (Register dst)
+unary_arguments (unary.ByteSwap order width) dst = One (Register dst)
+unary_arguments (unary.MoveSigned extension src) dst =
+    Three (Register dst) (Register src) (number_argument (extension_bits extension))
 
 abbrev pub arguments_of : Insn → Arguments
-arguments_of (insn.Alu op size dst src) = Two (Register dst) (source src)
-arguments_of (insn.MoveSigned extension dst src) = Three (Register dst) (Register src) (number (extension_bits extension))
-arguments_of (insn.Negate size dst) = One (Register dst)
-arguments_of (insn.ByteSwap order width dst) = One (Register dst)
+arguments_of (insn.Alu op size dst src) = Two (Register dst) (source_argument src)
+arguments_of (insn.Unary op dst) = unary_arguments op dst
 arguments_of (insn.LoadNumber dst n) = Two (Register dst) (Number n)
-arguments_of (insn.LoadMap dst map) = Two (Register dst) (number map)
-arguments_of (insn.Jump z) = One (offset z)
-arguments_of (insn.JumpLong imm) = One (offset imm)
-arguments_of (insn.JumpIf condition size dst src z) = Three (Register dst) (source src) (offset z)
-arguments_of (insn.Call kind imm) = One (number imm)
+arguments_of (insn.LoadMap dst map) = Two (Register dst) (number_argument map)
+arguments_of (insn.Jump z) = One (offset_argument z)
+arguments_of (insn.JumpLong imm) = One (offset_argument imm)
+arguments_of (insn.JumpIf condition size dst src z) =
+    Three (Register dst) (source_argument src) (offset_argument z)
+arguments_of (insn.Call kind imm) = One (number_argument imm)
 arguments_of insn.Exit = Zero
-arguments_of (insn.Load width dst src z) = Two (Register dst) (memory src z)
-arguments_of (insn.LoadSigned width dst src z) = Two (Register dst) (memory src z)
-arguments_of (insn.Store width dst z imm) = Two (memory dst z) (number imm)
-arguments_of (insn.StoreRegister width dst src z) = Two (memory dst z) (Register src)
+arguments_of (insn.Load width dst src z) = Two (Register dst) (memory_argument src z)
+arguments_of (insn.LoadSigned width dst src z) = Two (Register dst) (memory_argument src z)
+arguments_of (insn.Store width dst z src) = Two (memory_argument dst z) (source_argument src)
 
 abbrev pub statement_of : Insn → Statement
 statement_of i = record { mnemonic = mnemonic_of i; arguments = arguments_of i }

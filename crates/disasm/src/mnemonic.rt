@@ -28,7 +28,7 @@ impl Mnemonic {
     ghost use Rattle.std.specs.Prelude.{◌≡◌};
     ghost use Rattle.disasm.specs.Text.{stem_of, suffix_of};
 
-    /// What is done.
+    /// The first part of the name, which says what is done: `add` of `add64`.
     pub fn stem(self) -> &'static str
         ensures { result.now ≡ stem_of self }
     {
@@ -50,7 +50,8 @@ impl Mnemonic {
         }
     }
 
-    /// On how many bits or bytes, or which call; may be empty.
+    /// The rest of the name, which says on how many bits or bytes, or which call: `64` of `add64`. It may
+    /// be empty.
     pub fn suffix(self) -> &'static str
         ensures { result.now ≡ suffix_of self }
     {

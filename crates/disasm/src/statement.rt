@@ -1,10 +1,10 @@
 //! Instructions as they are written: a mnemonic with its arguments.
 ghost use Rattle.std.specs.Prelude.{◌≡◌};
-ghost use Rattle.disasm.specs.Text.{number as number_of, offset as offset_of, memory as memory_of, source as source_of, sign_of as sign_of_number, magnitude as magnitude_of, mnemonic_of, arguments_of, statement_of};
+ghost use Rattle.disasm.specs.Text.{number_argument, offset_argument, memory_argument, source_argument, unary_mnemonic as unary_mnemonic_of, store_mnemonic as store_mnemonic_of, unary_arguments as unary_arguments_of, sign_of as sign_of_number, magnitude as magnitude_of, mnemonic_of, arguments_of, statement_of};
 ghost use Rattle.bpf_model.specs.Spelling.{extension_size as extension_size_of, extension_bits as extension_bits_of};
 
 use crate::mnemonic::Mnemonic;
-use bpf_model::{Insn, Operand, Reg, SignExtension, Size};
+use bpf_model::{Insn, Operand, Reg, SignExtension, Size, UnaryOp, Width};
 
 /// The sign that a number is written with.
 #[derive(Clone, Copy, Debug, PartialEq, Eq)]
@@ -61,7 +61,7 @@ fn magnitude(value: i32) -> u128
 
 /// A number bears a sign where it is below 0.
 fn number(value: i32) -> Argument
-    ensures { result ≡ number_of value }
+    ensures { result ≡ number_argument value }
 {
     if value < 0 {
         Argument::Signed(Sign::Minus, magnitude(value))
@@ -78,13 +78,13 @@ fn sign_of(value: i32) -> Sign
 
 /// An offset always bears its sign.
 fn offset(value: i32) -> Argument
-    ensures { result ≡ offset_of value }
+    ensures { result ≡ offset_argument value }
 {
     Argument::Signed(sign_of(value), magnitude(value))
 }
 
 fn memory(base: Reg, offset: i16) -> Argument
-    ensures { result ≡ memory_of base offset }
+    ensures { result ≡ memory_argument base offset }
 {
     let offset = i32::from(offset);
     Argument::Memory {
@@ -95,7 +95,7 @@ fn memory(base: Reg, offset: i16) -> Argument
 }
 
 fn source(operand: &Operand) -> Argument
-    ensures { result ≡ source_of operand.now }
+    ensures { result ≡ source_argument operand.now }
 {
     match operand {
         Operand::Register(src) => register(*src),
@@ -124,14 +124,32 @@ fn extension_bits(extension: SignExtension) -> i32
     }
 }
 
+fn unary_mnemonic(op: &UnaryOp) -> Mnemonic
+    ensures { result ≡ unary_mnemonic_of op.now }
+{
+    match op {
+        UnaryOp::Negate(size) => Mnemonic::Negate(*size),
+        UnaryOp::ByteSwap { order, width } => Mnemonic::ByteSwap(*order, *width),
+        UnaryOp::MoveSigned { extension, .. } => Mnemonic::MoveSigned(extension_size(*extension)),
+    }
+}
+
+/// A store of the field `imm` and one of a register have names of their own.
+fn store_mnemonic(width: Width, src: &Operand) -> Mnemonic
+    ensures { result ≡ store_mnemonic_of width src.now }
+{
+    match src {
+        Operand::Immediate(_) => Mnemonic::Store(width),
+        Operand::Register(_) => Mnemonic::StoreRegister(width),
+    }
+}
+
 fn mnemonic_for(insn: &Insn) -> Mnemonic
     ensures { result ≡ mnemonic_of insn.now }
 {
     match insn {
         Insn::Alu { op, size, .. } => Mnemonic::Alu(*op, *size),
-        Insn::MoveSigned { extension, .. } => Mnemonic::MoveSigned(extension_size(*extension)),
-        Insn::Negate { size, .. } => Mnemonic::Negate(*size),
-        Insn::ByteSwap { order, width, .. } => Mnemonic::ByteSwap(*order, *width),
+        Insn::Unary { op, .. } => unary_mnemonic(op),
         Insn::LoadNumber { .. } => Mnemonic::LoadNumber,
         Insn::LoadMap { .. } => Mnemonic::LoadMap,
         Insn::Jump { .. } => Mnemonic::Jump,
@@ -145,8 +163,20 @@ fn mnemonic_for(insn: &Insn) -> Mnemonic
         Insn::Exit => Mnemonic::Exit,
         Insn::Load { width, .. } => Mnemonic::Load(*width),
         Insn::LoadSigned { width, .. } => Mnemonic::LoadSigned(*width),
-        Insn::Store { width, .. } => Mnemonic::Store(*width),
-        Insn::StoreRegister { width, .. } => Mnemonic::StoreRegister(*width),
+        Insn::Store { width, src, .. } => store_mnemonic(*width, src),
+    }
+}
+
+fn unary_arguments(op: &UnaryOp, dst: Reg) -> Arguments
+    ensures { result ≡ unary_arguments_of op.now dst }
+{
+    match op {
+        UnaryOp::Negate(_) | UnaryOp::ByteSwap { .. } => Arguments::One(register(dst)),
+        UnaryOp::MoveSigned { extension, src } => Arguments::Three(
+            register(dst),
+            register(*src),
+            number(extension_bits(*extension)),
+        ),
     }
 }
 
@@ -155,16 +185,7 @@ fn arguments_for(insn: &Insn) -> Arguments
 {
     match insn {
         Insn::Alu { dst, src, .. } => Arguments::Two(register(*dst), source(src)),
-        Insn::MoveSigned {
-            extension,
-            dst,
-            src,
-        } => Arguments::Three(
-            register(*dst),
-            register(*src),
-            number(extension_bits(*extension)),
-        ),
-        Insn::Negate { dst, .. } | Insn::ByteSwap { dst, .. } => Arguments::One(register(*dst)),
+        Insn::Unary { op, dst } => unary_arguments(op, *dst),
         Insn::LoadNumber { dst, number } => Arguments::Two(
             register(*dst),
             Argument::Number(u128::from(*number)),
@@ -194,16 +215,10 @@ fn arguments_for(insn: &Insn) -> Arguments
         } => Arguments::Two(register(*dst), memory(*src, *offset)),
         Insn::Store {
             dst,
-            offset,
-            imm,
-            ..
-        } => Arguments::Two(memory(*dst, *offset), number(*imm)),
-        Insn::StoreRegister {
-            dst,
             src,
             offset,
             ..
-        } => Arguments::Two(memory(*dst, *offset), register(*src)),
+        } => Arguments::Two(memory(*dst, *offset), source(src)),
     }
 }
 

@@ -25,7 +25,8 @@ fn push_sign(out: &mut String, sign: Sign) -> Result<(), AllocError>
 
 #[tactic(auto, using(std::proofs::Common::append_assoc))]
 fn push_argument(out: &mut String, argument: &Argument) -> Result<(), AllocError>
-    ensures { OnOk result (string_bytes out.new ≡ string_bytes out.old ++ argument_text argument.now) }
+    ensures { OnOk result
+        (string_bytes out.new ≡ string_bytes out.old ++ argument_text argument.now) }
 {
     match argument {
         Argument::Register(number) => {
@@ -49,7 +50,8 @@ fn push_argument(out: &mut String, argument: &Argument) -> Result<(), AllocError
 
 #[tactic(auto, using(std::proofs::Common::append_assoc))]
 fn push_arguments(out: &mut String, arguments: &Arguments) -> Result<(), AllocError>
-    ensures { OnOk result (string_bytes out.new ≡ string_bytes out.old ++ arguments_text arguments.now) }
+    ensures { OnOk result
+        (string_bytes out.new ≡ string_bytes out.old ++ arguments_text arguments.now) }
 {
     match arguments {
         Arguments::Zero => Ok(()),
@@ -76,7 +78,8 @@ fn push_arguments(out: &mut String, arguments: &Arguments) -> Result<(), AllocEr
 
 #[tactic(auto, using(std::proofs::Common::append_assoc))]
 fn push_statement(out: &mut String, statement: &Statement) -> Result<(), AllocError>
-    ensures { OnOk result (string_bytes out.new ≡ string_bytes out.old ++ statement_text statement.now) }
+    ensures { OnOk result
+        (string_bytes out.new ≡ string_bytes out.old ++ statement_text statement.now) }
 {
     out.push_str(statement.mnemonic.stem())?;
     out.push_str(statement.mnemonic.suffix())?;
@@ -85,7 +88,8 @@ fn push_statement(out: &mut String, statement: &Statement) -> Result<(), AllocEr
 
 #[tactic(auto, using(std::proofs::Common::append_assoc))]
 fn push_line(out: &mut String, insn: &Insn) -> Result<(), AllocError>
-    ensures { OnOk result (string_bytes out.new ≡ string_bytes out.old ++ (line_of insn.now ++ 10 ∷ [])) }
+    ensures { OnOk result (
+        string_bytes out.new ≡ string_bytes out.old ++ (line_of insn.now ++ 10 ∷ [])) }
 {
     push_statement(out, &statement_of(insn))?;
     out.push_str("\n")

@@ -1,13 +1,12 @@
 -- What is read so far, and what is left.
-use Rattle.std.proofs.Common.{◌≡◌, ℕ, ◌+◌, ◌*◌, ◌%◌, ◌<◌, ◌≤◌, List, [], ◌∷◌, ◌++◌, length, refl, sym, ap, ◌∙◌, arith, append_assoc, true}
+use Rattle.std.proofs.Common.{◌≡◌, ℕ, ◌+◌, ◌*◌, ◌%◌, ◌<◌, ◌≤◌, List, [], ◌∷◌, ◌++◌, length, refl, sym, ap, ◌∙◌, arith, append_assoc, true, inl, inr}
 use Rattle.std.specs.List.{AllByRecursion}
 use Rattle.std.proofs.lemmas.List.{append-nil, length-append}
 use Rattle.std.proofs.lemmas.List.Sums.{sum_by-cons}
 use Rattle.bpf_model.specs.declared.insn.Insn.{Insn}
-use Rattle.bpf_model.specs.declared.insn.Insn.TheVariants.{Alu, MoveSigned, Negate, ByteSwap, LoadNumber, LoadMap, Jump, JumpLong, JumpIf, Call, Exit, Load, LoadSigned, Store, StoreRegister}
-use Rattle.bpf_model.specs.declared.insn.Operand.TheVariants as operand
 use Rattle.bpf_model.specs.Profile.{is_admitted}
 use Rattle.bpf_model.specs.Spelling.{FitsInsn, IsInProfile, spelling, text, slot_count, slot_total, starts_from}
+use Rattle.insn_codec.proofs.InsnLaws.{shape}
 
 -- the list is what was read and the rest of it
 pub record Continues (is front : List Insn) (rest : List ℕ) : Type 0 where
@@ -28,45 +27,17 @@ pub record ReadSoFar (bytes : List ℕ) (front : List Insn) (starts : List ℕ) 
   pub only : (is : List Insn) → AllByRecursion FitsInsn is → IsInProfile is → bytes ≡ text is → Continues is front rest
 
 length_spelling : (i : Insn) → length (spelling i) ≡ 8 * slot_count i
-length_spelling (Alu operation size dst (operand.Register src)) = refl
-length_spelling (Alu operation size dst (operand.Immediate imm)) = refl
-length_spelling (MoveSigned extension dst src) = refl
-length_spelling (Negate size dst) = refl
-length_spelling (ByteSwap order width dst) = refl
-length_spelling (LoadNumber dst number) = refl
-length_spelling (LoadMap dst map) = refl
-length_spelling (Jump offset) = refl
-length_spelling (JumpLong offset) = refl
-length_spelling (JumpIf condition size dst (operand.Register src) offset) = refl
-length_spelling (JumpIf condition size dst (operand.Immediate imm) offset) = refl
-length_spelling (Call kind function) = refl
-length_spelling Exit = refl
-length_spelling (Load width dst src offset) = refl
-length_spelling (LoadSigned width dst src offset) = refl
-length_spelling (Store width dst offset imm) = refl
-length_spelling (StoreRegister width dst src offset) = refl
+length_spelling i = elim (shape i) [ inl one ↦ rw (one.slots, one.count) refl | inr two ↦ rw (two.slots, two.count) refl ]
 
 pub total_cons : (i : Insn) (is : List Insn) → slot_total (i ∷ is) ≡ slot_count i + slot_total is
 total_cons i is = sum_by-cons slot_count i is
 
 pub slot_count_pos : (i : Insn) → 1 ≤ slot_count i
-slot_count_pos (Alu operation size dst (operand.Register src)) = omega arith
-slot_count_pos (Alu operation size dst (operand.Immediate imm)) = omega arith
-slot_count_pos (MoveSigned extension dst src) = omega arith
-slot_count_pos (Negate size dst) = omega arith
-slot_count_pos (ByteSwap order width dst) = omega arith
-slot_count_pos (LoadNumber dst number) = omega arith
-slot_count_pos (LoadMap dst map) = omega arith
-slot_count_pos (Jump offset) = omega arith
-slot_count_pos (JumpLong offset) = omega arith
-slot_count_pos (JumpIf condition size dst (operand.Register src) offset) = omega arith
-slot_count_pos (JumpIf condition size dst (operand.Immediate imm) offset) = omega arith
-slot_count_pos (Call kind function) = omega arith
-slot_count_pos Exit = omega arith
-slot_count_pos (Load width dst src offset) = omega arith
-slot_count_pos (LoadSigned width dst src offset) = omega arith
-slot_count_pos (Store width dst offset imm) = omega arith
-slot_count_pos (StoreRegister width dst src offset) = omega arith
+slot_count_pos i =
+    elim (shape i) [
+      | inl one ↦ let e : slot_count i ≡ 1 = one.count in omega arith
+      | inr two ↦ let e : slot_count i ≡ 2 = two.count in omega arith
+    ]
 
 pub length_text : (is : List Insn) → length (text is) ≡ 8 * slot_total is
 length_text [] = refl

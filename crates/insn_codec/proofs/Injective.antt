@@ -1,10 +1,11 @@
+-- No two opcodes have one byte.
 use Rattle.std.proofs.Common.{◌≡◌, arith}
 use Rattle.bpf_model.specs.declared.opcode.Size.TheVariants.{Word32, Word64}
 use Rattle.bpf_model.specs.declared.opcode.AluCode.TheVariants.{Add, Sub, Mul, Div, Or, And, ShiftLeft, ShiftRight, Mod, Xor, Move, ShiftRightSigned}
 use Rattle.bpf_model.specs.declared.opcode.Condition.TheVariants.{Equal, Greater, GreaterOrEqual, SharesBits, NotEqual, SignedGreater, SignedGreaterOrEqual, Less, LessOrEqual, SignedLess, SignedLessOrEqual}
 use Rattle.bpf_model.specs.declared.opcode.ByteOrder.TheVariants.{ToLittle, ToBig, Swap}
 use Rattle.bpf_model.specs.declared.opcode.Opcode.{Opcode}
-use Rattle.bpf_model.specs.declared.opcode.Opcode.TheVariants.{Alu, Negate, ByteSwap, Jump, JumpIf, Call, Exit, Load, LoadSigned, Store, StoreRegister, Wide, Excluded}
+use Rattle.bpf_model.specs.declared.opcode.Opcode.TheVariants.{Alu, Negate, ByteSwap, Jump, JumpIf, Call, Exit, Load, LoadSigned, Store, Wide, Excluded}
 use Rattle.bpf_model.specs.declared.opcode.Source.TheVariants as source
 use Rattle.bpf_model.specs.declared.opcode.Width.TheVariants as width
 use Rattle.bpf_model.specs.declared.opcode.SignedWidth.TheVariants as signed
@@ -120,14 +121,14 @@ injective (Load width.Eight) p e = grind arith
 injective (LoadSigned signed.One) p e = grind arith
 injective (LoadSigned signed.Two) p e = grind arith
 injective (LoadSigned signed.Four) p e = grind arith
-injective (Store width.One) p e = grind arith
-injective (Store width.Two) p e = grind arith
-injective (Store width.Four) p e = grind arith
-injective (Store width.Eight) p e = grind arith
-injective (StoreRegister width.One) p e = grind arith
-injective (StoreRegister width.Two) p e = grind arith
-injective (StoreRegister width.Four) p e = grind arith
-injective (StoreRegister width.Eight) p e = grind arith
+injective (Store width.One source.Immediate) p e = grind arith
+injective (Store width.One source.Register) p e = grind arith
+injective (Store width.Two source.Immediate) p e = grind arith
+injective (Store width.Two source.Register) p e = grind arith
+injective (Store width.Four source.Immediate) p e = grind arith
+injective (Store width.Four source.Register) p e = grind arith
+injective (Store width.Eight source.Immediate) p e = grind arith
+injective (Store width.Eight source.Register) p e = grind arith
 injective Wide p e = grind arith
 injective (Excluded excluded.AbsoluteWord) p e = grind arith
 injective (Excluded excluded.AbsoluteHalf) p e = grind arith

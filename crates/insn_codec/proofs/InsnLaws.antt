@@ -1,5 +1,5 @@
 -- An instruction is read again from its slots.
-use Rattle.std.proofs.Common.{◌≡◌, ℕ, ◌+◌, ◌-◌, ◌*◌, ◌/◌, ◌%◌, ◌^◌, ◌<◌, Bool, true, false, cond, eqb, not, List, ◌∷◌, take, drop, Option, Some, None, refl, sym, ap, subst, ◌∙◌, arith, ℤ, pos, of_z}
+use Rattle.std.proofs.Common.{◌≡◌, ℕ, ◌+◌, ◌-◌, ◌*◌, ◌/◌, ◌%◌, ◌^◌, ◌<◌, Bool, true, false, cond, eqb, not, List, [], ◌∷◌, take, drop, Option, Some, None, refl, sym, ap, subst, ◌∙◌, arith, ℤ, pos, of_z, ◌⊎◌, inl, inr}
 use Rattle.std.specs.Ordering.{int_eq}
 use Rattle.std.specs.Int.{w32, cast_signed}
 use Rattle.std.specs.Prelude.{option_to_list}
@@ -20,62 +20,72 @@ use Rattle.bpf_model.specs.declared.insn.AluOp.{AluOp}
 use Rattle.bpf_model.specs.declared.insn.AluOp.TheVariants as operations
 use Rattle.bpf_model.specs.declared.insn.SignExtension.{SignExtension}
 use Rattle.bpf_model.specs.declared.insn.SignExtension.TheVariants.{ByteTo32, ShortTo32, ByteTo64, ShortTo64, WordTo64}
+use Rattle.bpf_model.specs.declared.insn.UnaryOp.TheVariants.{Negate, ByteSwap, MoveSigned}
 use Rattle.bpf_model.specs.declared.insn.CallKind.{CallKind}
 use Rattle.bpf_model.specs.declared.insn.CallKind.TheVariants.{Helper, Kernel}
 use Rattle.bpf_model.specs.declared.insn.Insn.{Insn}
-use Rattle.bpf_model.specs.declared.insn.Insn.TheVariants.{Alu, MoveSigned, Negate, ByteSwap, LoadNumber, LoadMap, Jump, JumpLong, JumpIf, Call, Exit, Load, LoadSigned, Store, StoreRegister}
+use Rattle.bpf_model.specs.declared.insn.Insn.TheVariants.{Alu, Unary, LoadNumber, LoadMap, Jump, JumpLong, JumpIf, Call, Exit, Load, LoadSigned, Store}
 use Rattle.bpf_model.specs.Opcode.{opcode_byte}
 use Rattle.bpf_model.specs.Profile.{is_supported, is_admitted}
-use Rattle.bpf_model.specs.Spelling.{FitsInsn, slots_of, slot_count, first_slot, opcode_of, code_of, offset_of, extension_size, extension_bits, swap_bits, call_source}
+use Rattle.bpf_model.specs.Spelling.{FitsInsn, slots_of, slot_count, first_slot, tail_slot, opcode_of, code_of, offset_of, extension_size, extension_bits, swap_bits, call_source}
+use Rattle.insn_codec.specs.Begins.{BeginsWith}
 use Rattle.insn_codec.specs.Faults.{flaw_with}
 
-abbrev pub Begins : Insn → Slot → Option Slot → Type 0
-Begins i s next = slots_of i ≡ take (slot_count i) (s ∷ option_to_list next)
+-- An instruction has one slot or two.
 
-pub opcode_is : (i : Insn) (s : Slot) (next : Option Slot) → Begins i s next → opcode_byte (opcode_of i) ≡ s.opcode
-opcode_is (Alu operation size dst (operand.Register src)) s next e = cc
-opcode_is (Alu operation size dst (operand.Immediate imm)) s next e = cc
-opcode_is (MoveSigned extension dst src) s next e = cc
-opcode_is (Negate size dst) s next e = cc
-opcode_is (ByteSwap order width dst) s next e = cc
-opcode_is (LoadNumber dst number) s next e = cc
-opcode_is (LoadMap dst map) s next e = cc
-opcode_is (Jump offset) s next e = cc
-opcode_is (JumpLong offset) s next e = cc
-opcode_is (JumpIf condition size dst (operand.Register src) offset) s next e = cc
-opcode_is (JumpIf condition size dst (operand.Immediate imm) offset) s next e = cc
-opcode_is (Call kind function) s next e = cc
-opcode_is Exit s next e = cc
-opcode_is (Load width dst src offset) s next e = cc
-opcode_is (LoadSigned width dst src offset) s next e = cc
-opcode_is (Store width dst offset imm) s next e = cc
-opcode_is (StoreRegister width dst src offset) s next e = cc
+pub record IsOneSlot (i : Insn) : Type 0 where
+  pub slots : slots_of i ≡ first_slot i ∷ []
+  pub count : slot_count i ≡ 1
+
+pub record IsTwoSlots (i : Insn) : Type 0 where
+  pub tail : Slot
+  pub slots : slots_of i ≡ first_slot i ∷ tail ∷ []
+  pub count : slot_count i ≡ 2
+
+pub shape : (i : Insn) → IsOneSlot i ⊎ IsTwoSlots i
+shape (LoadNumber dst number) = inr (record { tail = tail_slot (cast_signed w32 (number / 2 ^ 32)); slots = refl; count = refl })
+shape (LoadMap dst map) = inr (record { tail = tail_slot (pos 0); slots = refl; count = refl })
+shape i = inl (record { slots = refl; count = refl })
+
+pub heads : (a s : Slot) (xs ys : List Slot) → a ∷ xs ≡ s ∷ ys → (a ≡ s) × (xs ≡ ys)
+heads a s xs ys e = (cc, cc)
+
+one_begins : (i : Insn) (s : Slot) (next : Option Slot) → IsOneSlot i → BeginsWith s next i → (first_slot i ≡ s) × (drop 1 (slots_of i) ≡ take (slot_count i - 1) (option_to_list next))
+one_begins i s next one e =
+    let h = heads (first_slot i) s [] [] (sym one.slots ∙ e ∙ ap (λ (n : ℕ). take n (s ∷ option_to_list next)) one.count) in
+    (h.0, rw (one.slots, one.count) refl)
+
+two_begin : (i : Insn) (s : Slot) (next : Option Slot) → (two : IsTwoSlots i) → BeginsWith s next i → (first_slot i ≡ s) × (drop 1 (slots_of i) ≡ take (slot_count i - 1) (option_to_list next))
+two_begin i s next two e =
+    let h = heads (first_slot i) s (two.tail ∷ []) (take 1 (option_to_list next)) (sym two.slots ∙ e ∙ ap (λ (n : ℕ). take n (s ∷ option_to_list next)) two.count) in
+    (h.0, rw (two.slots, two.count) h.1)
+
+-- the first slot, and the rest of the slots
+pub begins_parts : (i : Insn) (s : Slot) (next : Option Slot) → BeginsWith s next i → (first_slot i ≡ s) × (drop 1 (slots_of i) ≡ take (slot_count i - 1) (option_to_list next))
+begins_parts i s next e = elim (shape i) [ inl one ↦ one_begins i s next one e | inr two ↦ two_begin i s next two e ]
+
+first_opcode : (i : Insn) → (first_slot i).opcode ≡ opcode_byte (opcode_of i)
+first_opcode (Unary (Negate size) dst) = refl
+first_opcode (Unary (ByteSwap order width) dst) = refl
+first_opcode (Unary (MoveSigned extension src) dst) = refl
+first_opcode i = refl
+
+pub opcode_is : (i : Insn) (s : Slot) (next : Option Slot) → BeginsWith s next i → opcode_byte (opcode_of i) ≡ s.opcode
+opcode_is i s next e = sym (first_opcode i) ∙ ap (λ (x : Slot). x.opcode) (begins_parts i s next e).0
 
 pub supported : (i : Insn) → is_admitted i ≡ true → is_supported (opcode_of i) ≡ true
-supported (Alu operation size dst (operand.Register src)) h = refl
-supported (Alu operation size dst (operand.Immediate imm)) h = refl
-supported (MoveSigned extension dst src) h = refl
-supported (Negate size dst) h = refl
-supported (ByteSwap order width dst) h = refl
-supported (LoadNumber dst number) h = refl
-supported (LoadMap dst map) h = refl
-supported (Jump offset) h = refl
-supported (JumpLong offset) h = refl
-supported (JumpIf condition size dst (operand.Register src) offset) h = refl
-supported (JumpIf condition size dst (operand.Immediate imm) offset) h = refl
+supported (Unary (Negate size) dst) h = refl
+supported (Unary (ByteSwap order width) dst) h = refl
+supported (Unary (MoveSigned extension src) dst) h = refl
 supported (Call kind imm) h = h
-supported Exit h = refl
-supported (Load width dst src offset) h = refl
-supported (LoadSigned width dst src offset) h = refl
-supported (Store width dst offset imm) h = refl
-supported (StoreRegister width dst src offset) h = refl
+supported i h = refl
 
-pub no_flaw : (i : Insn) (s : Slot) (next : Option Slot) → FitsInsn i → is_admitted i ≡ true → Begins i s next → flaw_with (opcode_of i) s next ≡ None
+pub no_flaw : (i : Insn) (s : Slot) (next : Option Slot) → FitsInsn i → is_admitted i ≡ true → BeginsWith s next i → flaw_with (opcode_of i) s next ≡ None
 no_flaw (Alu operation size dst (operand.Register src)) s next fits h e = grind (arith, nat_tests)
 no_flaw (Alu operation size dst (operand.Immediate imm)) s next fits h e = grind (arith, nat_tests)
-no_flaw (MoveSigned extension dst src) s next fits h e = grind (arith, nat_tests)
-no_flaw (Negate size dst) s next fits h e = grind (arith, nat_tests)
-no_flaw (ByteSwap order width dst) s next fits h e = grind (arith, nat_tests)
+no_flaw (Unary (Negate size) dst) s next fits h e = grind (arith, nat_tests)
+no_flaw (Unary (ByteSwap order width) dst) s next fits h e = grind (arith, nat_tests)
+no_flaw (Unary (MoveSigned extension src) dst) s next fits h e = grind (arith, nat_tests)
 no_flaw (LoadNumber dst number) s None fits h e = absurd cc
 no_flaw (LoadNumber dst number) s (Some t) fits h e = grind (arith, nat_tests)
 no_flaw (LoadMap dst map) s None fits h e = absurd cc
@@ -88,10 +98,11 @@ no_flaw (Call kind function) s next fits h e = grind (arith, nat_tests)
 no_flaw Exit s next fits h e = grind (arith, nat_tests)
 no_flaw (Load width dst src offset) s next fits h e = grind (arith, nat_tests)
 no_flaw (LoadSigned width dst src offset) s next fits h e = grind (arith, nat_tests)
-no_flaw (Store width dst offset imm) s next fits h e = grind (arith, nat_tests)
-no_flaw (StoreRegister width dst src offset) s next fits h e = grind (arith, nat_tests)
+no_flaw (Store width dst offset (operand.Register src)) s next fits h e = grind (arith, nat_tests)
+no_flaw (Store width dst offset (operand.Immediate imm)) s next fits h e = grind (arith, nat_tests)
 
--- ---- the instruction back from its opcode and slots
+-- The instruction back from its opcode and slots.
+
 operation_for : AluCode → ℤ → AluOp
 operation_for codes.Add _ = operations.Add
 operation_for codes.Sub _ = operations.Sub
@@ -158,10 +169,10 @@ half None = 0
 half (Some t) = of_z w32 t.imm
 
 abbrev made : Opcode → Slot → Option Slot → Insn
-made (opcodes.Alu code size sources.Register) s next = cond (is_signed_move code s.offset) (MoveSigned (extension_for size s.offset) s.dst s.src) (Alu (operation_for code s.offset) size s.dst (operand.Register s.src))
+made (opcodes.Alu code size sources.Register) s next = cond (is_signed_move code s.offset) (Unary (MoveSigned (extension_for size s.offset) s.src) s.dst) (Alu (operation_for code s.offset) size s.dst (operand.Register s.src))
 made (opcodes.Alu code size sources.Immediate) s next = Alu (operation_for code s.offset) size s.dst (operand.Immediate s.imm)
-made (opcodes.Negate size) s next = Negate size s.dst
-made (opcodes.ByteSwap order) s next = ByteSwap order (width_for s.imm) s.dst
+made (opcodes.Negate size) s next = Unary (Negate size) s.dst
+made (opcodes.ByteSwap order) s next = Unary (ByteSwap order (width_for s.imm)) s.dst
 made opcodes.Wide s next = cond (eqb s.src 0) (LoadNumber s.dst (of_z w32 s.imm + half next * 2 ^ 32)) (LoadMap s.dst s.imm)
 made (opcodes.Jump Word64) s next = Jump s.offset
 made (opcodes.Jump Word32) s next = JumpLong s.imm
@@ -171,8 +182,8 @@ made opcodes.Call s next = Call (kind_for s.src) s.imm
 made opcodes.Exit s next = Exit
 made (opcodes.Load width) s next = Load width s.dst s.src s.offset
 made (opcodes.LoadSigned width) s next = LoadSigned width s.dst s.src s.offset
-made (opcodes.Store width) s next = Store width s.dst s.offset s.imm
-made (opcodes.StoreRegister width) s next = StoreRegister width s.dst s.src s.offset
+made (opcodes.Store width sources.Register) s next = Store width s.dst s.offset (operand.Register s.src)
+made (opcodes.Store width sources.Immediate) s next = Store width s.dst s.offset (operand.Immediate s.imm)
 made (opcodes.Excluded excluded) s next = Exit
 
 number_again : (n low high : ℕ) → n < 2 ^ 64 → low ≡ n % 2 ^ 32 → high ≡ n / 2 ^ 32 → low + high * 2 ^ 32 ≡ n
@@ -181,15 +192,15 @@ number_again n low high lt e f = omega arith
 made_first : (i : Insn) (next : Option Slot) → FitsInsn i → drop 1 (slots_of i) ≡ take (slot_count i - 1) (option_to_list next) → made (opcode_of i) (first_slot i) next ≡ i
 made_first (Alu operation size dst (operand.Register src)) next fits e = let o = operation_again operation in rw (o.1, o.0) refl
 made_first (Alu operation size dst (operand.Immediate imm)) next fits e = let o = operation_again operation in rw o.0 refl
-made_first (MoveSigned extension dst src) next fits e = let o = extension_again extension in rw (o.1, o.0) refl
-made_first (ByteSwap order width dst) next fits e = rw (width_again width) refl
+made_first (Unary (MoveSigned extension src) dst) next fits e = let o = extension_again extension in rw (o.1, o.0) refl
+made_first (Unary (ByteSwap order width) dst) next fits e = rw (width_again width) refl
 made_first (LoadNumber dst number) None fits e = absurd cc
 made_first (LoadNumber dst number) (Some t) fits e =
     let a = of_z-to_z w32 (number % 2 ^ 32) (omega arith) in
     let b : of_z w32 t.imm ≡ number / 2 ^ 32 = ap (of_z w32) (let k : t.imm ≡ cast_signed w32 (number / 2 ^ 32) = cc in k) ∙ of_z-to_z w32 (number / 2 ^ 32) (omega (arith, fits.1)) in
     ap (LoadNumber dst) (number_again number _ _ fits.1 a b)
 made_first (Call kind function) next fits e = rw (kind_again kind) refl
-made_first (Negate size dst) next fits e = refl
+made_first (Unary (Negate size) dst) next fits e = refl
 made_first (LoadMap dst map) next fits e = refl
 made_first (Jump offset) next fits e = refl
 made_first (JumpLong offset) next fits e = refl
@@ -198,33 +209,11 @@ made_first (JumpIf condition size dst (operand.Immediate imm) offset) next fits 
 made_first Exit next fits e = refl
 made_first (Load width dst src offset) next fits e = refl
 made_first (LoadSigned width dst src offset) next fits e = refl
-made_first (Store width dst offset imm) next fits e = refl
-made_first (StoreRegister width dst src offset) next fits e = refl
+made_first (Store width dst offset (operand.Register src)) next fits e = refl
+made_first (Store width dst offset (operand.Immediate imm)) next fits e = refl
 
-pub heads : (a s : Slot) (xs ys : List Slot) → a ∷ xs ≡ s ∷ ys → (a ≡ s) × (xs ≡ ys)
-heads a s xs ys e = (cc, cc)
-
-begins_parts : (i : Insn) (s : Slot) (next : Option Slot) → Begins i s next → (first_slot i ≡ s) × (drop 1 (slots_of i) ≡ take (slot_count i - 1) (option_to_list next))
-begins_parts (Alu operation size dst (operand.Register src)) s next e = heads _ _ _ _ e
-begins_parts (Alu operation size dst (operand.Immediate imm)) s next e = heads _ _ _ _ e
-begins_parts (MoveSigned extension dst src) s next e = heads _ _ _ _ e
-begins_parts (Negate size dst) s next e = heads _ _ _ _ e
-begins_parts (ByteSwap order width dst) s next e = heads _ _ _ _ e
-begins_parts (LoadNumber dst number) s next e = heads _ _ _ _ e
-begins_parts (LoadMap dst map) s next e = heads _ _ _ _ e
-begins_parts (Jump offset) s next e = heads _ _ _ _ e
-begins_parts (JumpLong offset) s next e = heads _ _ _ _ e
-begins_parts (JumpIf condition size dst (operand.Register src) offset) s next e = heads _ _ _ _ e
-begins_parts (JumpIf condition size dst (operand.Immediate imm) offset) s next e = heads _ _ _ _ e
-begins_parts (Call kind function) s next e = heads _ _ _ _ e
-begins_parts Exit s next e = heads _ _ _ _ e
-begins_parts (Load width dst src offset) s next e = heads _ _ _ _ e
-begins_parts (LoadSigned width dst src offset) s next e = heads _ _ _ _ e
-begins_parts (Store width dst offset imm) s next e = heads _ _ _ _ e
-begins_parts (StoreRegister width dst src offset) s next e = heads _ _ _ _ e
-
-made_again : (i : Insn) (s : Slot) (next : Option Slot) → FitsInsn i → Begins i s next → made (opcode_of i) s next ≡ i
+made_again : (i : Insn) (s : Slot) (next : Option Slot) → FitsInsn i → BeginsWith s next i → made (opcode_of i) s next ≡ i
 made_again i s next fits e = let p = begins_parts i s next e in subst (λ (x : Slot). made (opcode_of i) x next ≡ i) p.0 (made_first i next fits p.1)
 
-pub same : (i j : Insn) (s : Slot) (next : Option Slot) → FitsInsn i → FitsInsn j → Begins i s next → Begins j s next → opcode_of i ≡ opcode_of j → i ≡ j
+pub same : (i j : Insn) (s : Slot) (next : Option Slot) → FitsInsn i → FitsInsn j → BeginsWith s next i → BeginsWith s next j → opcode_of i ≡ opcode_of j → i ≡ j
 same i j s next f g d e o = sym (made_again i s next f d) ∙ ap (λ (k : Opcode). made k s next) o ∙ made_again j s next g e

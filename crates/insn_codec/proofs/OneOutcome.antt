@@ -3,6 +3,7 @@ use Rattle.std.proofs.Common.{◌≡◌, ℕ, ◌*◌, ◌%◌, ◌<◌, ◌≤�
 use Rattle.std.specs.List.{AllByRecursion}
 use Rattle.std.proofs.lemmas.Bool.Decides.{nat_tests}
 use Rattle.std.proofs.lemmas.List.{append-nil, length-append}
+use Rattle.bpf_model.specs.declared.limits.TheConstants.{MAX_SLOTS}
 use Rattle.bpf_model.specs.declared.opcode.Opcode.{Opcode}
 use Rattle.bpf_model.specs.declared.insn.Insn.{Insn}
 use Rattle.bpf_model.specs.Profile.{is_admitted}
@@ -11,7 +12,7 @@ use Rattle.insn_codec.specs.declared.fault.DecodeFault.{DecodeFault}
 use Rattle.insn_codec.specs.declared.fault.DecodeFault.TheVariants as faults
 use Rattle.insn_codec.specs.declared.flaw.Flaw.{Flaw}
 use Rattle.insn_codec.specs.declared.flaw.Flaw.TheVariants.{OutsideProfile}
-use Rattle.insn_codec.specs.Faults.{flaw_with, first_flaw, IsOpcode, IsFlawAt, IsFault, whole_fault}
+use Rattle.insn_codec.specs.Faults.{flaw_with, first_flaw, IsOpcode, IsInsnFlawAt, IsDecodeFault, length_fault}
 use Rattle.insn_codec.proofs.InsnLaws.{opcode_is, supported, no_flaw, same}
 use Rattle.insn_codec.proofs.TextLaws.{Again, again}
 use Rattle.insn_codec.proofs.DecodeLoop.{total_cons, slot_count_pos, length_text}
@@ -35,12 +36,12 @@ opcodes_are byte (Some o) (Some p) h k = ap (λ (x : Opcode). Some x) (injective
 some_is : {A : Type 0} (x y : A) → Some x ≡ Some y → x ≡ y
 some_is x y e = cc
 
-pub one_flaw : (bytes : List ℕ) (f g : Flaw) → IsFlawAt bytes f → IsFlawAt bytes g → f ≡ g
+pub one_flaw : (bytes : List ℕ) (f g : Flaw) → IsInsnFlawAt bytes f → IsInsnFlawAt bytes g → f ≡ g
 one_flaw bytes f g h k =
     let e = opcodes_are _ h.0 k.0 h.1 k.1 in
     some_is f g (sym h.2 ∙ ap (λ (o : Option Opcode). first_flaw o (slot_at bytes) (next_slot_at bytes)) e ∙ k.2)
 
-pub spelled_has_none : (bytes x : List ℕ) (i : Insn) (f : Flaw) → FitsInsn i → is_admitted i ≡ true → bytes ≡ spelling i ++ x → IsFlawAt bytes f → ⊥
+pub spelled_has_none : (bytes x : List ℕ) (i : Insn) (f : Flaw) → FitsInsn i → is_admitted i ≡ true → bytes ≡ spelling i ++ x → IsInsnFlawAt bytes f → ⊥
 spelled_has_none bytes x i f fits admitted p h =
     let a : Again i bytes x = subst (λ (b : List ℕ). Again i b x) (sym p) (again i x fits) in
     let e = opcodes_are _ h.0 (Some (opcode_of i)) h.1 (opcode_is i _ _ a.begins) in
@@ -52,8 +53,8 @@ spelled_has_none bytes x i f fits admitted p h =
     none_some : {u v : Option Flaw} → u ≡ v → v ≡ None → u ≡ Some f → ⊥
     none_some p q r = cc
 
-pub one_place : (bytes r q : List ℕ) (front back : List Insn) (f g : Flaw) → AllByRecursion FitsInsn front → AllByRecursion FitsInsn back → IsInProfile front → IsInProfile back → bytes ≡ text front ++ r → bytes ≡ text back ++ q → IsFlawAt r f → IsFlawAt q g → (f ≡ g) × (slot_total front ≡ slot_total back)
-one_place bytes r q [] [] f g a b c d p s h k = (one_flaw q f g (subst (λ (x : List ℕ). IsFlawAt x f) (sym p ∙ s) h) k, refl)
+pub one_place : (bytes r q : List ℕ) (front back : List Insn) (f g : Flaw) → AllByRecursion FitsInsn front → AllByRecursion FitsInsn back → IsInProfile front → IsInProfile back → bytes ≡ text front ++ r → bytes ≡ text back ++ q → IsInsnFlawAt r f → IsInsnFlawAt q g → (f ≡ g) × (slot_total front ≡ slot_total back)
+one_place bytes r q [] [] f g a b c d p s h k = (one_flaw q f g (subst (λ (x : List ℕ). IsInsnFlawAt x f) (sym p ∙ s) h) k, refl)
 one_place bytes r q [] (j ∷ back) f g a b c d p s h k = absurd (spelled_has_none r (text back ++ q) j f b.0 d.0 (sym p ∙ s ∙ append_assoc (spelling j) (text back) q) h)
 one_place bytes r q (i ∷ front) [] f g a b c d p s h k = absurd (spelled_has_none q (text front ++ r) i g a.0 c.0 (sym s ∙ p ∙ append_assoc (spelling i) (text front) r) k)
 one_place bytes r q (i ∷ front) (j ∷ back) f g a b c d p s h k =
@@ -64,7 +65,7 @@ one_place bytes r q (i ∷ front) (j ∷ back) f g a b c d p s h k =
 fault_is : (f g : Flaw) (s t : ℕ) → f ≡ g → s ≡ t → faults.Insn f s ≡ faults.Insn g t
 fault_is f g s t e d = cc
 
-pub one_fault : (bytes : List ℕ) (f g : DecodeFault) → (f ≡ faults.Memory → ⊥) → (g ≡ faults.Memory → ⊥) → IsFault bytes f → IsFault bytes g → f ≡ g
+pub one_fault : (bytes : List ℕ) (f g : DecodeFault) → (f ≡ faults.Memory → ⊥) → (g ≡ faults.Memory → ⊥) → IsDecodeFault bytes f → IsDecodeFault bytes g → f ≡ g
 one_fault bytes faults.Memory g a b h k = absurd (a refl)
 one_fault bytes f faults.Memory a b h k = absurd (b refl)
 one_fault bytes (faults.Insn f s) (faults.Insn g t) a b h k =
@@ -80,7 +81,7 @@ long_text : (i : Insn) (is : List Insn) (rest : List ℕ) → [] ≡ text (i ∷
 long_text i is rest e = omega (arith, slot_count_pos i, total_cons i is, length_text (i ∷ is), length-append (text (i ∷ is)) rest, ap (λ (x : List ℕ). length x) e)
 
 -- no flaw stands in a text
-text_has_none : (is front : List Insn) (rest : List ℕ) (f : Flaw) → AllByRecursion FitsInsn is → AllByRecursion FitsInsn front → IsInProfile is → text is ≡ text front ++ rest → 0 < length rest → IsFlawAt rest f → ⊥
+text_has_none : (is front : List Insn) (rest : List ℕ) (f : Flaw) → AllByRecursion FitsInsn is → AllByRecursion FitsInsn front → IsInProfile is → text is ≡ text front ++ rest → 0 < length rest → IsInsnFlawAt rest f → ⊥
 text_has_none [] [] rest f a b c p more h = omega (arith, more, ap (λ (x : List ℕ). length x) p)
 text_has_none [] (j ∷ front) rest f a b c p more h = long_text j front rest p
 text_has_none (i ∷ is) [] rest f a b c p more h = spelled_has_none rest (text is) i f a.0 c.0 (sym p) h
@@ -88,17 +89,17 @@ text_has_none (i ∷ is) (j ∷ front) rest f a b c p more h =
     let e = one_first (text (i ∷ is)) (text is) (text front ++ rest) i j a.0 b.0 refl (p ∙ append_assoc (spelling j) (text front) rest) in
     text_has_none is front rest f a.1 b.1 c.1 e.1 more h
 
-whole_none : (bytes : List ℕ) (n : ℕ) → length bytes ≡ 8 * n → 1 ≤ n → n ≤ 4096 → whole_fault bytes ≡ None
-whole_none bytes n e some limit =
+no_length_fault : (bytes : List ℕ) (n : ℕ) → length bytes ≡ 8 * n → 1 ≤ n → n ≤ MAX_SLOTS → length_fault bytes ≡ None
+no_length_fault bytes n e some limit =
     let whole : length bytes % 8 ≡ 0 = omega arith in
     let long : 0 < length bytes = omega arith in
-    let short : length bytes ≤ 32768 = omega arith in
+    let short : length bytes ≤ 8 * MAX_SLOTS = omega arith in
     grind (arith, nat_tests)
 
-pub no_fault : (p : List Insn) → IsProgram p → IsInProfile p → (f : DecodeFault) → (f ≡ faults.Memory → ⊥) → IsFault (text p) f → ⊥
+pub no_fault : (p : List Insn) → IsProgram p → IsInProfile p → (f : DecodeFault) → (f ≡ faults.Memory → ⊥) → IsDecodeFault (text p) f → ⊥
 no_fault p is profile faults.Memory m h = m refl
 no_fault p is profile (faults.Insn flaw slot) m h = let x = h.1 in text_has_none p x.front x.rest flaw is.fits x.fits profile x.parts x.more x.flaw
-no_fault p is profile f m h = let w = whole_none (text p) (slot_total p) (length_text p) is.some is.limit in absurd cc
+no_fault p is profile f m h = let w = no_length_fault (text p) (slot_total p) (length_text p) is.some is.limit in absurd cc
 
 same_text : (p q : List Insn) → AllByRecursion FitsInsn p → AllByRecursion FitsInsn q → text p ≡ text q → p ≡ q
 same_text [] [] f g e = refl

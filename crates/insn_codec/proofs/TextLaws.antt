@@ -1,5 +1,5 @@
 -- An instruction at the front of bytes, and its slots.
-use Rattle.std.proofs.Common.{◌≡◌, ℕ, ◌*◌, ◌/◌, ◌%◌, ◌^◌, ◌<◌, ◌≤◌, List, [], ◌∷◌, ◌++◌, length, take, drop, Option, Some, None, refl, sym, ap, ◌∙◌, arith, ℤ, pos, inl, inr}
+use Rattle.std.proofs.Common.{◌≡◌, ℕ, ◌*◌, ◌/◌, ◌%◌, ◌^◌, ◌<◌, ◌≤◌, List, [], ◌∷◌, ◌++◌, length, take, drop, Option, Some, None, refl, sym, ap, subst, ◌∙◌, arith, ℤ, pos, inl, inr}
 use Rattle.std.specs.Int.{w16, w32, cast_signed}
 use Rattle.std.specs.Prelude.{FitsSigned, option_to_list}
 use Rattle.std.specs.List.{flat_map}
@@ -8,7 +8,9 @@ use Rattle.bpf_model.specs.declared.slot.Slot.{Slot}
 use Rattle.bpf_model.specs.declared.opcode.Opcode.{Opcode}
 use Rattle.bpf_model.specs.declared.opcode.SwapWidth.{SwapWidth}
 use Rattle.bpf_model.specs.declared.opcode.SwapWidth.TheVariants as swap
+use Rattle.bpf_model.specs.declared.insn.Operand.{Operand}
 use Rattle.bpf_model.specs.declared.insn.Operand.TheVariants as operand
+use Rattle.bpf_model.specs.declared.insn.UnaryOp.TheVariants.{Negate, ByteSwap, MoveSigned}
 use Rattle.bpf_model.specs.declared.insn.AluOp.{AluOp}
 use Rattle.bpf_model.specs.declared.insn.AluOp.TheVariants as operations
 use Rattle.bpf_model.specs.declared.insn.SignExtension.{SignExtension}
@@ -16,13 +18,14 @@ use Rattle.bpf_model.specs.declared.insn.SignExtension.TheVariants.{ByteTo32, Sh
 use Rattle.bpf_model.specs.declared.insn.CallKind.{CallKind}
 use Rattle.bpf_model.specs.declared.insn.CallKind.TheVariants.{Helper, Kernel}
 use Rattle.bpf_model.specs.declared.insn.Insn.{Insn}
-use Rattle.bpf_model.specs.declared.insn.Insn.TheVariants.{Alu, MoveSigned, Negate, ByteSwap, LoadNumber, LoadMap, Jump, JumpLong, JumpIf, Call, Exit, Load, LoadSigned, Store, StoreRegister}
+use Rattle.bpf_model.specs.declared.insn.Insn.TheVariants.{Alu, Unary, LoadNumber, LoadMap, Jump, JumpLong, JumpIf, Call, Exit, Load, LoadSigned, Store}
 use Rattle.bpf_model.specs.Opcode.{opcode_byte}
-use Rattle.bpf_model.specs.Spelling.{slot_bytes, slot_at, next_slot_at, FitsSlot, FitsInsn, spelling, slots_of, slot_count, first_slot, tail_slot, opcode_of, offset_of, extension_bits, swap_bits, call_source}
+use Rattle.bpf_model.specs.Spelling.{slot_bytes, slot_at, next_slot_at, FitsSlot, FitsOperand, FitsInsn, spelling, slots_of, slot_count, first_slot, tail_slot, opcode_of, offset_of, operand_src, operand_imm, extension_bits, swap_bits, call_source}
 use Rattle.std.proofs.lemmas.Bool.{cases_lt, lt-ltb, le-ltb}
 use Rattle.std.proofs.lemmas.List.{drop-drop, length-append, length-drop}
 use Rattle.insn_codec.proofs.SlotLaws.{IsBytes, IsBytes-drop, slot_again, slot_at-slot_bytes}
-use Rattle.insn_codec.proofs.InsnLaws.{Begins, heads}
+use Rattle.insn_codec.specs.Begins.{BeginsWith}
+use Rattle.insn_codec.proofs.InsnLaws.{IsOneSlot, IsTwoSlots, shape, begins_parts}
 
 next_none : (bytes : List ℕ) → length bytes < 16 → next_slot_at bytes ≡ None
 next_none bytes lt = rw (lt-ltb _ _ lt) refl
@@ -58,24 +61,12 @@ front_of_two i t bytes small long e n p =
           record { within = rw n le; parts = rw (e, n) (two_slots bytes (first_slot i) t small le a b) }
     ]
 
-pub front_of : (i : Insn) (bytes : List ℕ) → IsBytes bytes → 8 ≤ length bytes → Begins i (slot_at bytes) (next_slot_at bytes) → Front i bytes
-front_of (Alu operation size dst (operand.Register src)) bytes small long e = front_of_one (Alu operation size dst (operand.Register src)) bytes small long refl refl (heads _ _ _ _ e).0
-front_of (Alu operation size dst (operand.Immediate imm)) bytes small long e = front_of_one (Alu operation size dst (operand.Immediate imm)) bytes small long refl refl (heads _ _ _ _ e).0
-front_of (MoveSigned extension dst src) bytes small long e = front_of_one (MoveSigned extension dst src) bytes small long refl refl (heads _ _ _ _ e).0
-front_of (Negate size dst) bytes small long e = front_of_one (Negate size dst) bytes small long refl refl (heads _ _ _ _ e).0
-front_of (ByteSwap order width dst) bytes small long e = front_of_one (ByteSwap order width dst) bytes small long refl refl (heads _ _ _ _ e).0
-front_of (LoadNumber dst number) bytes small long e = front_of_two (LoadNumber dst number) (tail_slot (cast_signed w32 (number / 2 ^ 32))) bytes small long refl refl e
-front_of (LoadMap dst map) bytes small long e = front_of_two (LoadMap dst map) (tail_slot (pos 0)) bytes small long refl refl e
-front_of (Jump offset) bytes small long e = front_of_one (Jump offset) bytes small long refl refl (heads _ _ _ _ e).0
-front_of (JumpLong offset) bytes small long e = front_of_one (JumpLong offset) bytes small long refl refl (heads _ _ _ _ e).0
-front_of (JumpIf condition size dst (operand.Register src) offset) bytes small long e = front_of_one (JumpIf condition size dst (operand.Register src) offset) bytes small long refl refl (heads _ _ _ _ e).0
-front_of (JumpIf condition size dst (operand.Immediate imm) offset) bytes small long e = front_of_one (JumpIf condition size dst (operand.Immediate imm) offset) bytes small long refl refl (heads _ _ _ _ e).0
-front_of (Call kind function) bytes small long e = front_of_one (Call kind function) bytes small long refl refl (heads _ _ _ _ e).0
-front_of Exit bytes small long e = front_of_one Exit bytes small long refl refl (heads _ _ _ _ e).0
-front_of (Load width dst src offset) bytes small long e = front_of_one (Load width dst src offset) bytes small long refl refl (heads _ _ _ _ e).0
-front_of (LoadSigned width dst src offset) bytes small long e = front_of_one (LoadSigned width dst src offset) bytes small long refl refl (heads _ _ _ _ e).0
-front_of (Store width dst offset imm) bytes small long e = front_of_one (Store width dst offset imm) bytes small long refl refl (heads _ _ _ _ e).0
-front_of (StoreRegister width dst src offset) bytes small long e = front_of_one (StoreRegister width dst src offset) bytes small long refl refl (heads _ _ _ _ e).0
+pub front_of : (i : Insn) (bytes : List ℕ) → IsBytes bytes → 8 ≤ length bytes → BeginsWith (slot_at bytes) (next_slot_at bytes) i → Front i bytes
+front_of i bytes small long e =
+    elim (shape i) [
+      | inl one ↦ front_of_one i bytes small long one.slots one.count (begins_parts i _ _ e).0
+      | inr two ↦ front_of_two i two.tail bytes small long two.slots two.count (sym two.slots ∙ e ∙ ap (λ (n : ℕ). take n (slot_at bytes ∷ option_to_list (next_slot_at bytes))) two.count)
+    ]
 
 opcode_fits : (o : Opcode) → opcode_byte o < 256
 opcode_fits o = grind arith
@@ -136,30 +127,40 @@ kind_fits Kernel = omega arith
 five : 5 ≤ 10
 five = omega arith
 
+operand_fits : (o : Operand) → FitsOperand o → (operand_src o ≤ 10) × FitsSigned w32 (operand_imm o)
+operand_fits (operand.Register src) f = (f, zero_32)
+operand_fits (operand.Immediate imm) f = (none, f)
+
 first_slot_fits : (i : Insn) → FitsInsn i → FitsSlot (first_slot i)
-first_slot_fits (Alu operation size dst (operand.Register src)) f = slot_fits (opcode_of (Alu operation size dst (operand.Register src))) _ _ _ _ f.0 f.1 (offset_fits operation) zero_32
-first_slot_fits (Alu operation size dst (operand.Immediate imm)) f = slot_fits (opcode_of (Alu operation size dst (operand.Immediate imm))) _ _ _ _ f.0 none (offset_fits operation) f.1
-first_slot_fits (MoveSigned extension dst src) f = slot_fits (opcode_of (MoveSigned extension dst src)) _ _ _ _ f.0 f.1 (extension_fits extension) zero_32
-first_slot_fits (Negate size dst) f = slot_fits (opcode_of (Negate size dst)) _ _ _ _ f none zero_16 zero_32
-first_slot_fits (ByteSwap order width dst) f = slot_fits (opcode_of (ByteSwap order width dst)) _ _ _ _ f none zero_16 (swap_fits width)
+first_slot_fits (Alu operation size dst src) f = let o = operand_fits src f.1 in slot_fits (opcode_of (Alu operation size dst src)) _ _ _ _ f.0 o.0 (offset_fits operation) o.1
+first_slot_fits (Unary (Negate size) dst) f = slot_fits (opcode_of (Unary (Negate size) dst)) _ _ _ _ f.0 none zero_16 zero_32
+first_slot_fits (Unary (ByteSwap order width) dst) f = slot_fits (opcode_of (Unary (ByteSwap order width) dst)) _ _ _ _ f.0 none zero_16 (swap_fits width)
+first_slot_fits (Unary (MoveSigned extension src) dst) f = slot_fits (opcode_of (Unary (MoveSigned extension src) dst)) _ _ _ _ f.0 f.1 (extension_fits extension) zero_32
 first_slot_fits (LoadNumber dst number) f = slot_fits (opcode_of (LoadNumber dst number)) _ _ _ _ f.0 none zero_16 (low_fits number)
 first_slot_fits (LoadMap dst map) f = slot_fits (opcode_of (LoadMap dst map)) _ _ _ _ f.0 five zero_16 f.1
 first_slot_fits (Jump offset) f = slot_fits (opcode_of (Jump offset)) _ _ _ _ none none f zero_32
 first_slot_fits (JumpLong offset) f = slot_fits (opcode_of (JumpLong offset)) _ _ _ _ none none zero_16 f
-first_slot_fits (JumpIf condition size dst (operand.Register src) offset) f = slot_fits (opcode_of (JumpIf condition size dst (operand.Register src) offset)) _ _ _ _ f.0 f.1 f.2 zero_32
-first_slot_fits (JumpIf condition size dst (operand.Immediate imm) offset) f = slot_fits (opcode_of (JumpIf condition size dst (operand.Immediate imm) offset)) _ _ _ _ f.0 none f.2 f.1
+first_slot_fits (JumpIf condition size dst src offset) f = let o = operand_fits src f.1 in slot_fits (opcode_of (JumpIf condition size dst src offset)) _ _ _ _ f.0 o.0 f.2 o.1
 first_slot_fits (Call kind function) f = slot_fits (opcode_of (Call kind function)) _ _ _ _ none (kind_fits kind) zero_16 f
 first_slot_fits Exit f = slot_fits (opcode_of Exit) _ _ _ _ none none zero_16 zero_32
 first_slot_fits (Load width dst src offset) f = slot_fits (opcode_of (Load width dst src offset)) _ _ _ _ f.0 f.1 f.2 zero_32
 first_slot_fits (LoadSigned width dst src offset) f = slot_fits (opcode_of (LoadSigned width dst src offset)) _ _ _ _ f.0 f.1 f.2 zero_32
-first_slot_fits (Store width dst offset imm) f = slot_fits (opcode_of (Store width dst offset imm)) _ _ _ _ f.0 none f.1 f.2
-first_slot_fits (StoreRegister width dst src offset) f = slot_fits (opcode_of (StoreRegister width dst src offset)) _ _ _ _ f.0 f.1 f.2 zero_32
+first_slot_fits (Store width dst offset src) f = let o = operand_fits src f.1 in slot_fits (opcode_of (Store width dst offset src)) _ _ _ _ f.0 o.0 f.2 o.1
 
-tail_fits : (imm : ℤ) → FitsSigned w32 imm → FitsSlot (tail_slot imm)
-tail_fits imm f = record { opcode = omega arith; dst = omega arith; src = omega arith; offset = zero_16; imm = f }
+tail_slot_fits : (imm : ℤ) → FitsSigned w32 imm → FitsSlot (tail_slot imm)
+tail_slot_fits imm f = record { opcode = omega arith; dst = omega arith; src = omega arith; offset = zero_16; imm = f }
+
+same_tail : (t u a b : Slot) → a ∷ t ∷ [] ≡ b ∷ u ∷ [] → t ≡ u
+same_tail t u a b e = cc
+
+-- the second slot
+tail_fits : (i : Insn) → FitsInsn i → (two : IsTwoSlots i) → FitsSlot two.tail
+tail_fits (LoadNumber dst number) f two = subst FitsSlot (same_tail _ _ _ _ two.slots) (tail_slot_fits _ (high_fits number f.1))
+tail_fits (LoadMap dst map) f two = subst FitsSlot (same_tail _ _ _ _ two.slots) (tail_slot_fits _ zero_32)
+tail_fits i f two = absurd (let e : 1 ≡ 2 = two.count in omega arith)
 
 pub record Again (i : Insn) (bytes rest : List ℕ) : Type 0 where
-  pub begins : Begins i (slot_at bytes) (next_slot_at bytes)
+  pub begins : BeginsWith (slot_at bytes) (next_slot_at bytes) i
   pub rest_is : drop (8 * slot_count i) bytes ≡ rest
 
 one_again : (s : Slot) (rest : List ℕ) → FitsSlot s → s ∷ [] ≡ slot_at (slot_bytes s ++ rest) ∷ []
@@ -173,21 +174,11 @@ two_again s t rest f g =
     let n : next_slot_at bytes ≡ Some t = next_some bytes (omega (arith, length-append (slot_bytes s) (slot_bytes t ++ rest), length-append (slot_bytes t) rest)) ∙ ap (λ (x : Slot). Some x) b in
     ap (λ (x : Slot). x ∷ take 1 (option_to_list (Some t))) (sym a) ∙ ap (λ (o : Option Slot). slot_at bytes ∷ take 1 (option_to_list o)) (sym n)
 
+again_one : (i : Insn) (rest : List ℕ) → IsOneSlot i → FitsSlot (first_slot i) → Again i (spelling i ++ rest) rest
+again_one i rest one f = record { begins = rw (one.slots, one.count) (one_again (first_slot i) rest f); rest_is = rw (one.slots, one.count) refl }
+
+again_two : (i : Insn) (rest : List ℕ) → (two : IsTwoSlots i) → FitsSlot (first_slot i) → FitsSlot two.tail → Again i (spelling i ++ rest) rest
+again_two i rest two f g = record { begins = rw (two.slots, two.count) (two_again (first_slot i) two.tail rest f g); rest_is = rw (two.slots, two.count) refl }
+
 pub again : (i : Insn) (rest : List ℕ) → FitsInsn i → Again i (spelling i ++ rest) rest
-again (Alu operation size dst (operand.Register src)) rest f = record { begins = one_again _ rest (first_slot_fits (Alu operation size dst (operand.Register src)) f); rest_is = refl }
-again (Alu operation size dst (operand.Immediate imm)) rest f = record { begins = one_again _ rest (first_slot_fits (Alu operation size dst (operand.Immediate imm)) f); rest_is = refl }
-again (MoveSigned extension dst src) rest f = record { begins = one_again _ rest (first_slot_fits (MoveSigned extension dst src) f); rest_is = refl }
-again (Negate size dst) rest f = record { begins = one_again _ rest (first_slot_fits (Negate size dst) f); rest_is = refl }
-again (ByteSwap order width dst) rest f = record { begins = one_again _ rest (first_slot_fits (ByteSwap order width dst) f); rest_is = refl }
-again (LoadNumber dst number) rest f = record { begins = two_again (first_slot (LoadNumber dst number)) (tail_slot (cast_signed w32 (number / 2 ^ 32))) rest (first_slot_fits (LoadNumber dst number) f) (tail_fits _ (high_fits number f.1)); rest_is = refl }
-again (LoadMap dst map) rest f = record { begins = two_again (first_slot (LoadMap dst map)) (tail_slot (pos 0)) rest (first_slot_fits (LoadMap dst map) f) (tail_fits _ zero_32); rest_is = refl }
-again (Jump offset) rest f = record { begins = one_again _ rest (first_slot_fits (Jump offset) f); rest_is = refl }
-again (JumpLong offset) rest f = record { begins = one_again _ rest (first_slot_fits (JumpLong offset) f); rest_is = refl }
-again (JumpIf condition size dst (operand.Register src) offset) rest f = record { begins = one_again _ rest (first_slot_fits (JumpIf condition size dst (operand.Register src) offset) f); rest_is = refl }
-again (JumpIf condition size dst (operand.Immediate imm) offset) rest f = record { begins = one_again _ rest (first_slot_fits (JumpIf condition size dst (operand.Immediate imm) offset) f); rest_is = refl }
-again (Call kind function) rest f = record { begins = one_again _ rest (first_slot_fits (Call kind function) f); rest_is = refl }
-again Exit rest f = record { begins = one_again _ rest (first_slot_fits Exit f); rest_is = refl }
-again (Load width dst src offset) rest f = record { begins = one_again _ rest (first_slot_fits (Load width dst src offset) f); rest_is = refl }
-again (LoadSigned width dst src offset) rest f = record { begins = one_again _ rest (first_slot_fits (LoadSigned width dst src offset) f); rest_is = refl }
-again (Store width dst offset imm) rest f = record { begins = one_again _ rest (first_slot_fits (Store width dst offset imm) f); rest_is = refl }
-again (StoreRegister width dst src offset) rest f = record { begins = one_again _ rest (first_slot_fits (StoreRegister width dst src offset) f); rest_is = refl }
+again i rest f = elim (shape i) [ inl one ↦ again_one i rest one (first_slot_fits i f) | inr two ↦ again_two i rest two (first_slot_fits i f) (tail_fits i f two) ]

@@ -1,5 +1,6 @@
--- Why bytes are no program: the whole input is tested first, then each instruction from the first slot on, and the first test that fails is told.
-use Rattle.std.specs.Prelude.{◌≡◌, ◌≢◌, ℕ, ◌<◌, pos, ◌==◌, Bool, true, false, ◌||◌, ◌&&◌, not, nat_lt, Option, Some, None, List, if◌then◌else◌, ◌++◌, ◌%◌, length}
+-- Why bytes are no program: the length is tested first, then each instruction from the first slot on, and the
+-- first test that fails is told. Each test stands with its section of RFC 9669.
+use Rattle.std.specs.Prelude.{◌≡◌, ◌≢◌, ℕ, ◌*◌, ◌<◌, ℤ, pos, ◌==◌, Bool, true, false, ◌||◌, ◌&&◌, not, nat_lt, Option, Some, None, List, [], ◌∷◌, if◌then◌else◌, ◌++◌, ◌%◌, length}
 use Rattle.std.specs.Ordering.{int_eq}
 use Rattle.bpf_model.specs.declared.slot.Slot.{Slot}
 use Rattle.bpf_model.specs.declared.opcode.Source.{Source}
@@ -7,8 +8,9 @@ use Rattle.bpf_model.specs.declared.opcode.Source.TheVariants as source
 use Rattle.bpf_model.specs.declared.opcode.AluCode.{AluCode}
 use Rattle.bpf_model.specs.declared.opcode.AluCode.TheVariants as code
 use Rattle.bpf_model.specs.declared.opcode.Opcode.{Opcode}
-use Rattle.bpf_model.specs.declared.opcode.Opcode.TheVariants.{Alu, Negate, ByteSwap, Jump, JumpIf, Call, Exit, Load, LoadSigned, Store, StoreRegister, Wide, Excluded}
+use Rattle.bpf_model.specs.declared.opcode.Opcode.TheVariants.{Alu, Negate, ByteSwap, Jump, JumpIf, Call, Exit, Load, LoadSigned, Store, Wide, Excluded}
 use Rattle.bpf_model.specs.declared.opcode.Size.TheVariants.{Word32, Word64}
+use Rattle.bpf_model.specs.declared.limits.TheConstants.{MAX_SLOTS}
 use Rattle.bpf_model.specs.Opcode.{opcode_byte}
 use Rattle.bpf_model.specs.Profile.{is_supported, takes_maps}
 use Rattle.std.specs.List.{AllByRecursion}
@@ -19,79 +21,100 @@ use Rattle.insn_codec.specs.declared.fault.DecodeFault.TheVariants as faults
 use Rattle.insn_codec.specs.declared.flaw.Flaw.{Flaw}
 use Rattle.insn_codec.specs.declared.flaw.Flaw.TheVariants.{UnknownOpcode, OutsideProfile, BadRegister, UnsupportedSource, UnusedField, BadOffset, BadWidth, WideCut, WideTail}
 
--- ---- one instruction
--- which fields a form uses besides the opcode
-pub record Form : Type 0 where
+-- One instruction.
+
+-- which fields of its first slot an instruction uses besides the opcode (sections 3.1, 3.2)
+pub record UsedFields : Type 0 where
   pub dst : Bool
   pub src : Bool
   pub offset : Bool
   pub imm : Bool
 
+-- the offset tells signed division and modulo, and moves with sign extension (section 4.1)
 abbrev pub uses_offset : AluCode → Source → Bool
 uses_offset code.Div _ = true
 uses_offset code.Mod _ = true
 uses_offset code.Move source.Register = true
 uses_offset _ _ = false
 
-abbrev pub is_register : Source → Bool
-is_register source.Register = true
-is_register source.Immediate = false
+abbrev pub is_register_source : Source → Bool
+is_register_source source.Register = true
+is_register_source source.Immediate = false
 
-abbrev pub fields : Bool → Bool → Bool → Bool → Form
-fields dst src offset imm = record { dst = dst; src = src; offset = offset; imm = imm }
+-- whether dst, src, offset and imm are used
+abbrev pub used : Bool → Bool → Bool → Bool → UsedFields
+used dst src offset imm = record { dst = dst; src = src; offset = offset; imm = imm }
 
-abbrev pub form_of : Opcode → Form
-form_of (Alu code size source) = fields true (is_register source) (uses_offset code source) (not (is_register source))
-form_of (Negate size) = fields true false false false
-form_of (ByteSwap order) = fields true false false true
-form_of (Jump Word64) = fields false false true false
-form_of (Jump Word32) = fields false false false true
-form_of (JumpIf condition size source) = fields true (is_register source) true (not (is_register source))
-form_of Call = fields false true false true
-form_of Exit = fields false false false false
-form_of (Load width) = fields true true true false
-form_of (LoadSigned width) = fields true true true false
-form_of (Store width) = fields true false true true
-form_of (StoreRegister width) = fields true true true false
-form_of Wide = fields true true false true
-form_of (Excluded excluded) = fields false false false false
+abbrev pub used_fields : Opcode → UsedFields
+used_fields (Alu code size source) =
+    used true (is_register_source source) (uses_offset code source) (not (is_register_source source))
+used_fields (Negate size) = used true false false false
+used_fields (ByteSwap order) = used true false false true
+used_fields (Jump Word64) = used false false true false
+used_fields (Jump Word32) = used false false false true
+used_fields (JumpIf condition size source) =
+    used true (is_register_source source) true (not (is_register_source source))
+used_fields Call = used false true false true
+used_fields Exit = used false false false false
+used_fields (Load width) = used true true true false
+used_fields (LoadSigned width) = used true true true false
+used_fields (Store width source) =
+    used true (is_register_source source) true (not (is_register_source source))
+used_fields Wide = used true true false true
+used_fields (Excluded excluded) = used false false false false
 
--- an unused field is not 0
-abbrev pub has_unused : Form → Slot → Bool
-has_unused f s = (not f.dst && not (s.dst == 0)) || (not f.src && not (s.src == 0)) || (not f.offset && not (int_eq s.offset (pos 0))) || (not f.imm && not (int_eq s.imm (pos 0)))
+-- a field that is not used is not 0 (section 3.1)
+abbrev pub has_unused : UsedFields → Slot → Bool
+has_unused f s =
+    (not f.dst && not (s.dst == 0)) ||
+    (not f.src && not (s.src == 0)) ||
+    (not f.offset && not (int_eq s.offset (pos 0))) ||
+    (not f.imm && not (int_eq s.imm (pos 0)))
 
--- a source field that names no kind of call, or no 64-bit immediate of the profile
+-- a source field that names no kind of call (section 4.3), or no 64-bit immediate of the profile (section 5.4)
 abbrev pub has_unsupported_source : Opcode → Slot → Bool
 has_unsupported_source Call s = not (s.src == 0 || s.src == 2)
 has_unsupported_source Wide s = not (s.src == 0 || (takes_maps && s.src == 5))
 has_unsupported_source _ s = false
 
+abbrev pub is_none_of : ℤ → List ℕ → Bool
+is_none_of z [] = true
+is_none_of z (n ∷ ns) = not (int_eq z (pos n)) && is_none_of z ns
+
+-- an offset that means nothing for a division, a modulo or a move (section 4.1)
 abbrev pub has_bad_offset : Opcode → Slot → Bool
-has_bad_offset (Alu code.Div size source) s = not (int_eq s.offset (pos 0) || int_eq s.offset (pos 1))
-has_bad_offset (Alu code.Mod size source) s = not (int_eq s.offset (pos 0) || int_eq s.offset (pos 1))
-has_bad_offset (Alu code.Move Word32 source.Register) s = not (int_eq s.offset (pos 0) || int_eq s.offset (pos 8) || int_eq s.offset (pos 16))
-has_bad_offset (Alu code.Move Word64 source.Register) s = not (int_eq s.offset (pos 0) || int_eq s.offset (pos 8) || int_eq s.offset (pos 16) || int_eq s.offset (pos 32))
+has_bad_offset (Alu code.Div size source) s = is_none_of s.offset (0 ∷ 1 ∷ [])
+has_bad_offset (Alu code.Mod size source) s = is_none_of s.offset (0 ∷ 1 ∷ [])
+has_bad_offset (Alu code.Move Word32 source.Register) s = is_none_of s.offset (0 ∷ 8 ∷ 16 ∷ [])
+has_bad_offset (Alu code.Move Word64 source.Register) s = is_none_of s.offset (0 ∷ 8 ∷ 16 ∷ 32 ∷ [])
 has_bad_offset _ s = false
 
+-- a byte swap of other than 16, 32 or 64 bits (section 4.2)
 abbrev pub has_bad_width : Opcode → Slot → Bool
-has_bad_width (ByteSwap order) s = not (int_eq s.imm (pos 16) || int_eq s.imm (pos 32) || int_eq s.imm (pos 64))
+has_bad_width (ByteSwap order) s = is_none_of s.imm (16 ∷ 32 ∷ 64 ∷ [])
 has_bad_width _ s = false
 
--- The second slot of a wide instruction is zero but for imm, which is zero too where the source is a map.
+-- The second slot of a wide instruction is zero but for imm, which is zero too where the source is a map
+-- (sections 3.2 and 5.4).
 abbrev pub is_tail : Slot → Slot → Bool
-is_tail s t = (t.opcode == 0) && (t.dst == 0) && (t.src == 0) && int_eq t.offset (pos 0) && (s.src == 0 || int_eq t.imm (pos 0))
+is_tail s t =
+    (t.opcode == 0) &&
+    (t.dst == 0) &&
+    (t.src == 0) &&
+    int_eq t.offset (pos 0) &&
+    (s.src == 0 || int_eq t.imm (pos 0))
 
 abbrev pub tail_flaw : Opcode → Slot → Option Slot → Option Flaw
 tail_flaw Wide s None = Some WideCut
 tail_flaw Wide s (Some t) = if is_tail s t then None else Some WideTail
 tail_flaw _ _ _ = None
 
--- the tests behind that of the opcode, in their order
+-- the first of the tests that follow that of the opcode, in their order
 abbrev pub flaw_with : Opcode → Slot → Option Slot → Option Flaw
 flaw_with o s next =
     if nat_lt 10 s.dst || nat_lt 10 s.src then Some BadRegister else
     if has_unsupported_source o s then Some UnsupportedSource else
-    if has_unused (form_of o) s then Some UnusedField else
+    if has_unused (used_fields o) s then Some UnusedField else
     if has_bad_offset o s then Some BadOffset else
     if has_bad_width o s then Some BadWidth else
     tail_flaw o s next
@@ -106,16 +129,17 @@ first_flaw None s next = Some UnknownOpcode
 first_flaw (Some o) s next = if is_supported o then flaw_with o s next else Some OutsideProfile
 
 -- the first flaw of the instruction that begins with this slot
-abbrev pub IsFlaw : Slot → Option Slot → Flaw → Type 0
-IsFlaw s next f = (o : Option Opcode) × IsOpcode s.opcode o × (first_flaw o s next ≡ Some f)
+abbrev pub IsInsnFlaw : Slot → Option Slot → Flaw → Type 0
+IsInsnFlaw s next f = (o : Option Opcode) × IsOpcode s.opcode o × (first_flaw o s next ≡ Some f)
 
 -- the first flaw of the instruction at the front of the bytes
-abbrev pub IsFlawAt : List ℕ → Flaw → Type 0
-IsFlawAt bytes f = IsFlaw (slot_at bytes) (next_slot_at bytes) f
+abbrev pub IsInsnFlawAt : List ℕ → Flaw → Type 0
+IsInsnFlawAt bytes f = IsInsnFlaw (slot_at bytes) (next_slot_at bytes) f
 
--- ---- the whole input
+-- The whole input.
+
 -- The bytes are the texts of instructions of the profile up to this slot, and there the flaw is the first.
-pub record IsFlawed (bytes : List ℕ) (f : Flaw) (slot : ℕ) : Type 0 where
+pub record IsFirstInsnFlaw (bytes : List ℕ) (f : Flaw) (slot : ℕ) : Type 0 where
   pub front : List Insn
   pub fits : AllByRecursion FitsInsn front
   pub profile : IsInProfile front
@@ -123,47 +147,50 @@ pub record IsFlawed (bytes : List ℕ) (f : Flaw) (slot : ℕ) : Type 0 where
   pub rest : List ℕ
   pub parts : bytes ≡ text front ++ rest
   pub more : 0 < length rest
-  pub flaw : IsFlawAt rest f
+  pub flaw : IsInsnFlawAt rest f
 
-abbrev pub IsFlawFault : List ℕ → DecodeFault → Type 0
-IsFlawFault bytes faults.Memory = Unit {0}
-IsFlawFault bytes (faults.Insn flaw slot) = IsFlawed bytes flaw slot
-IsFlawFault bytes _ = ⊥
+-- the fault of an input whose length is right
+abbrev pub IsInsnFault : List ℕ → DecodeFault → Type 0
+IsInsnFault bytes faults.Memory = Unit {0}
+IsInsnFault bytes (faults.Insn flaw slot) = IsFirstInsnFlaw bytes flaw slot
+IsInsnFault bytes _ = ⊥
 
--- The whole input is tested first.
-abbrev pub whole_fault : List ℕ → Option DecodeFault
-whole_fault bytes =
+-- what the length alone refuses: a slot has eight bytes
+abbrev pub length_fault : List ℕ → Option DecodeFault
+length_fault bytes =
     if not (length bytes % 8 == 0) then Some faults.Length else
     if length bytes == 0 then Some faults.Empty else
-    if nat_lt 32768 (length bytes) then Some faults.TooLong else
+    if nat_lt (8 * MAX_SLOTS) (length bytes) then Some faults.TooLong else
     None
 
-abbrev pub IsFault : List ℕ → DecodeFault → Type 0
-IsFault bytes faults.Memory = Unit {0}
-IsFault bytes (faults.Insn flaw slot) = (whole_fault bytes ≡ None) × IsFlawed bytes flaw slot
-IsFault bytes f = whole_fault bytes ≡ Some f
+-- Why the bytes are no program; that memory ran out may be said of any.
+abbrev pub IsDecodeFault : List ℕ → DecodeFault → Type 0
+IsDecodeFault bytes faults.Memory = Unit {0}
+IsDecodeFault bytes (faults.Insn flaw slot) =
+    (length_fault bytes ≡ None) × IsFirstInsnFlaw bytes flaw slot
+IsDecodeFault bytes f = length_fault bytes ≡ Some f
 
--- ---- how a fault is told
--- the numbers by which faults are known
-abbrev pub flaw_number : Flaw → ℕ
-flaw_number UnknownOpcode = 4
-flaw_number OutsideProfile = 5
-flaw_number BadRegister = 6
-flaw_number UnsupportedSource = 7
-flaw_number UnusedField = 8
-flaw_number BadOffset = 9
-flaw_number BadWidth = 10
-flaw_number WideCut = 11
-flaw_number WideTail = 12
+-- The numbers by which faults are known (docs/REFUSALS.md).
 
-abbrev pub fault_number : DecodeFault → ℕ
-fault_number faults.Length = 1
-fault_number faults.Empty = 2
-fault_number faults.TooLong = 3
-fault_number (faults.Insn flaw slot) = flaw_number flaw
-fault_number faults.Memory = 13
+abbrev pub insn_flaw_number : Flaw → ℕ
+insn_flaw_number UnknownOpcode = 4
+insn_flaw_number OutsideProfile = 5
+insn_flaw_number BadRegister = 6
+insn_flaw_number UnsupportedSource = 7
+insn_flaw_number UnusedField = 8
+insn_flaw_number BadOffset = 9
+insn_flaw_number BadWidth = 10
+insn_flaw_number WideCut = 11
+insn_flaw_number WideTail = 12
+
+abbrev pub decode_fault_number : DecodeFault → ℕ
+decode_fault_number faults.Length = 1
+decode_fault_number faults.Empty = 2
+decode_fault_number faults.TooLong = 3
+decode_fault_number (faults.Insn flaw slot) = insn_flaw_number flaw
+decode_fault_number faults.Memory = 13
 
 -- the slot where the instruction begins that is at fault
-abbrev pub fault_slot : DecodeFault → Option ℕ
-fault_slot (faults.Insn flaw slot) = Some slot
-fault_slot _ = None
+abbrev pub decode_fault_slot : DecodeFault → Option ℕ
+decode_fault_slot (faults.Insn flaw slot) = Some slot
+decode_fault_slot _ = None

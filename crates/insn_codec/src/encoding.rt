@@ -1,14 +1,15 @@
 //! Bytes out of programs.
-ghost use Rattle.std.specs.Prelude.{◌≡◌, ◌<◌, ◌/◌, ◌^◌, ◌++◌, OnOk, IfOk};
+ghost use Rattle.std.specs.Prelude.{◌≡◌, ◌<◌, ◌≤◌, ◌/◌, ◌^◌, ◌++◌, OnOk, IfOk};
 ghost use Rattle.std.specs.Int.{w32, cast_signed};
 ghost use Rattle.bpf_model.specs.Spelling.{FitsInsn, FitsOperand, FitsSlot, slot_bytes, spelling, text, code_of, offset_of, extension_size, extension_bits, swap_bits, source_of, operand_src, operand_imm, slot as slot_of};
-ghost use Rattle.bpf_model.specs.Spelling.{first_slot as first_slot_of, tail_slot as tail_slot_of};
+ghost use Rattle.bpf_model.specs.Spelling.{FitsUnary, IsProgram, first_slot as first_slot_of, unary_slot as unary_slot_of, tail_slot as tail_slot_of};
 
 use crate::opcode::byte_of;
 use crate::program::Program;
 use crate::slots::slot_to;
 use bpf_model::{
-    AluCode, AluOp, CallKind, Insn, Opcode, Operand, SignExtension, Size, Slot, Source, SwapWidth,
+    AluCode, AluOp, CallKind, Insn, Opcode, Operand, Reg, SignExtension, Size, Slot, Source,
+    SwapWidth, UnaryOp,
 };
 use std::alloc::{AllocError, Global};
 
@@ -88,6 +89,32 @@ fn slot(opcode: Opcode, dst: u8, src: u8, offset: i16, imm: i32) -> Slot
     }
 }
 
+/// The slot of an operation of one operand: the bits of a byte swap stand in `imm`, those of a move with
+/// sign extension in `offset`.
+fn unary_slot(op: UnaryOp, dst: Reg) -> Slot
+    requires dst { dst ≤ 10 }
+    requires op { FitsUnary op }
+    ensures value { result ≡ unary_slot_of op dst }
+    ensures fits { FitsSlot result }
+{
+    match op {
+        UnaryOp::Negate(size) => slot(Opcode::Negate(size), dst.number(), 0, 0, 0),
+        UnaryOp::ByteSwap { order, width } => slot(
+            Opcode::ByteSwap(order),
+            dst.number(),
+            0,
+            0,
+            swap_bits(width),
+        ),
+        UnaryOp::MoveSigned { extension, src } => {
+            let (size, bits) = extension_parts(extension);
+            let opcode = Opcode::Alu(AluCode::Move, size, Source::Register);
+            slot(opcode, dst.number(), src.number(), bits, 0)
+        }
+    }
+}
+
+/// The first slot of an instruction, with 0 in each field that it does not use.
 fn first_slot(instruction: Insn) -> Slot
     requires { FitsInsn instruction }
     ensures value { result ≡ first_slot_of instruction }
@@ -99,25 +126,7 @@ fn first_slot(instruction: Insn) -> Slot
             let opcode = Opcode::Alu(code_of(op), size, source);
             slot(opcode, dst.number(), src, offset_of(op), imm)
         }
-        Insn::MoveSigned {
-            extension,
-            dst,
-            src,
-        } => {
-            let (size, bits) = extension_parts(extension);
-            let opcode = Opcode::Alu(AluCode::Move, size, Source::Register);
-            slot(opcode, dst.number(), src.number(), bits, 0)
-        }
-        Insn::Negate { size, dst } => slot(Opcode::Negate(size), dst.number(), 0, 0, 0),
-        Insn::ByteSwap { order, width, dst } => {
-            slot(
-                Opcode::ByteSwap(order),
-                dst.number(),
-                0,
-                0,
-                swap_bits(width),
-            )
-        }
+        Insn::Unary { op, dst } => unary_slot(op, dst),
         Insn::LoadNumber { dst, number } => {
             let low = ((number % 0x1_0000_0000) as u32).cast_signed();
             slot(Opcode::Wide, dst.number(), 0, 0, low)
@@ -166,20 +175,11 @@ fn first_slot(instruction: Insn) -> Slot
             width,
             dst,
             offset,
-            imm,
-        } => slot(Opcode::Store(width), dst.number(), 0, offset, imm),
-        Insn::StoreRegister {
-            width,
-            dst,
             src,
-            offset,
-        } => slot(
-            Opcode::StoreRegister(width),
-            dst.number(),
-            src.number(),
-            offset,
-            0,
-        ),
+        } => {
+            let (source, src, imm) = operand_parts(src);
+            slot(Opcode::Store(width, source), dst.number(), src, offset, imm)
+        }
     }
 }
 
@@ -224,12 +224,15 @@ fn put(out: &mut Vec<u8>, instruction: Insn) -> Result<(), AllocError>
     Ok(())
 }
 
-/// The bytes that spell the program: 8 for each of its slots, little-endian. An error says that an allocation failed.
+/// The bytes that spell the program: 8 for each of its slots, little-endian. An error says that an
+/// allocation failed.
 pub fn encode(alloc: Global, program: &Program) -> Result<Vec<u8>, AllocError>
-    ensures { IfOk result (λ v. v.items ≡ text program.now) }
+    ensures text { IfOk result (λ bytes. bytes.items ≡ text program.now) }
+    ensures program { IsProgram program.now }
 {
+    let instructions = program.instructions();
     let mut out = Vec::with_capacity(alloc, 8 * program.slot_count())?;
-    for instruction in program.instructions() {
+    for instruction in instructions {
         put(&mut out, *instruction)?;
     }
     Ok(out)

@@ -1,7 +1,7 @@
 //! Why bytes are no program.
 
 ghost use Rattle.std.specs.Prelude.{◌≡◌};
-ghost use Rattle.insn_codec.specs.Faults.{fault_number, fault_slot};
+ghost use Rattle.insn_codec.specs.Faults.{decode_fault_number, decode_fault_slot};
 ghost use Rattle.insn_codec.specs.declared.fault.DecodeFault.TheVariants.{Memory};
 
 use crate::flaw::Flaw;
@@ -31,7 +31,7 @@ pub enum DecodeFault {
 impl DecodeFault {
     /// The number by which the fault is known, 1 to 13.
     pub fn code(&self) -> u8
-        ensures { result ≡ fault_number self.now }
+        ensures { result ≡ decode_fault_number self.now }
     {
         match self {
             DecodeFault::Length => 1,
@@ -44,7 +44,7 @@ impl DecodeFault {
 
     /// The slot where the flawed instruction begins, counted from 0, where the fault is of one instruction.
     pub fn slot(&self) -> Option<usize>
-        ensures { result ≡ fault_slot self.now }
+        ensures { result ≡ decode_fault_slot self.now }
     {
         match self {
             DecodeFault::Insn { slot, .. } => Some(*slot),

@@ -1,7 +1,7 @@
 //! What is wrong with an instruction's bytes.
 
 ghost use Rattle.std.specs.Prelude.{◌≡◌};
-ghost use Rattle.insn_codec.specs.Faults.{flaw_number};
+ghost use Rattle.insn_codec.specs.Faults.{insn_flaw_number};
 
 use thiserror::Error;
 
@@ -40,7 +40,7 @@ pub enum Flaw {
 impl Flaw {
     /// The number by which the flaw is known, 4 to 12.
     pub fn code(self) -> u8
-        ensures { result ≡ flaw_number self }
+        ensures { result ≡ insn_flaw_number self }
     {
         match self {
             Flaw::UnknownOpcode => 4,

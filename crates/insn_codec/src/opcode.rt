@@ -1,7 +1,7 @@
 //! The opcode byte.
 ghost use Rattle.std.specs.Prelude.{◌≡◌, IfSome, Some};
 ghost use Rattle.bpf_model.specs.declared.opcode.Opcode.{Opcode};
-ghost use Rattle.bpf_model.specs.Opcode.{opcode_byte, alu_code, alu_class, jump_class, condition_code, source_bit, width_code, signed_width_code, swap_byte, excluded_byte};
+ghost use Rattle.bpf_model.specs.Opcode.{opcode_byte, alu_code, alu_class, jump_class, condition_code, source_bit, width_code, signed_width_code, store_class, swap_byte, excluded_byte};
 
 use bpf_model::{
     AluCode, ByteOrder, Condition, Excluded, Opcode, SignedWidth, Size, Source, Width,
@@ -67,22 +67,22 @@ pub fn opcode_from(byte: u8) -> Option<Opcode>
         0x5e => Opcode::JumpIf(Condition::NotEqual, Size::Word32, Source::Register),
         0x5f => Opcode::Alu(AluCode::And, Size::Word64, Source::Register),
         0x61 => Opcode::Load(Width::Four),
-        0x62 => Opcode::Store(Width::Four),
-        0x63 => Opcode::StoreRegister(Width::Four),
+        0x62 => Opcode::Store(Width::Four, Source::Immediate),
+        0x63 => Opcode::Store(Width::Four, Source::Register),
         0x64 => Opcode::Alu(AluCode::ShiftLeft, Size::Word32, Source::Immediate),
         0x65 => Opcode::JumpIf(Condition::SignedGreater, Size::Word64, Source::Immediate),
         0x66 => Opcode::JumpIf(Condition::SignedGreater, Size::Word32, Source::Immediate),
         0x67 => Opcode::Alu(AluCode::ShiftLeft, Size::Word64, Source::Immediate),
         0x69 => Opcode::Load(Width::Two),
-        0x6a => Opcode::Store(Width::Two),
-        0x6b => Opcode::StoreRegister(Width::Two),
+        0x6a => Opcode::Store(Width::Two, Source::Immediate),
+        0x6b => Opcode::Store(Width::Two, Source::Register),
         0x6c => Opcode::Alu(AluCode::ShiftLeft, Size::Word32, Source::Register),
         0x6d => Opcode::JumpIf(Condition::SignedGreater, Size::Word64, Source::Register),
         0x6e => Opcode::JumpIf(Condition::SignedGreater, Size::Word32, Source::Register),
         0x6f => Opcode::Alu(AluCode::ShiftLeft, Size::Word64, Source::Register),
         0x71 => Opcode::Load(Width::One),
-        0x72 => Opcode::Store(Width::One),
-        0x73 => Opcode::StoreRegister(Width::One),
+        0x72 => Opcode::Store(Width::One, Source::Immediate),
+        0x73 => Opcode::Store(Width::One, Source::Register),
         0x74 => Opcode::Alu(AluCode::ShiftRight, Size::Word32, Source::Immediate),
         0x75 => Opcode::JumpIf(
             Condition::SignedGreaterOrEqual,
@@ -96,8 +96,8 @@ pub fn opcode_from(byte: u8) -> Option<Opcode>
         ),
         0x77 => Opcode::Alu(AluCode::ShiftRight, Size::Word64, Source::Immediate),
         0x79 => Opcode::Load(Width::Eight),
-        0x7a => Opcode::Store(Width::Eight),
-        0x7b => Opcode::StoreRegister(Width::Eight),
+        0x7a => Opcode::Store(Width::Eight, Source::Immediate),
+        0x7b => Opcode::Store(Width::Eight, Source::Register),
         0x7c => Opcode::Alu(AluCode::ShiftRight, Size::Word32, Source::Register),
         0x7d => Opcode::JumpIf(
             Condition::SignedGreaterOrEqual,
@@ -251,6 +251,15 @@ fn signed_width_bits(width: SignedWidth) -> u8
     }
 }
 
+fn store_class_bits(source: Source) -> u8
+    ensures { result ≡ store_class source }
+{
+    match source {
+        Source::Immediate => 0x62,
+        Source::Register => 0x63,
+    }
+}
+
 fn swap_bits(order: ByteOrder) -> u8
     ensures { result ≡ swap_byte order }
 {
@@ -294,8 +303,7 @@ pub fn byte_of(opcode: Opcode) -> u8
         Opcode::Exit => 0x95,
         Opcode::Load(width) => 0x61 + width_bits(width),
         Opcode::LoadSigned(width) => 0x81 + signed_width_bits(width),
-        Opcode::Store(width) => 0x62 + width_bits(width),
-        Opcode::StoreRegister(width) => 0x63 + width_bits(width),
+        Opcode::Store(width, source) => store_class_bits(source) + width_bits(width),
         Opcode::Wide => 0x18,
         Opcode::Excluded(excluded) => excluded_bits(excluded),
     }

@@ -5,14 +5,15 @@ ghost use Rattle.bpf_model.specs.Spelling.{offset_of, extension_size, extension_
 ghost use Rattle.bpf_model.specs.declared.insn.Insn.{Insn};
 ghost use Rattle.bpf_model.specs.Opcode.{opcode_byte};
 ghost use Rattle.bpf_model.specs.Profile.{is_admitted, is_supported as is_supported_opcode};
-ghost use Rattle.insn_codec.specs.Faults.{IsFlaw, flaw_with, has_bad_offset, tail_flaw, has_unused, form_of, has_unsupported_source as unsupported_source};
+ghost use Rattle.insn_codec.specs.Begins.{BeginsWith};
+ghost use Rattle.insn_codec.specs.Faults.{IsInsnFlaw, flaw_with, has_bad_offset, tail_flaw, has_unused, used_fields, has_unsupported_source as unsupported_source};
 
 use crate::flaw::Flaw;
 use crate::opcode::opcode_from;
 use crate::profile::{is_supported, takes_maps};
 use bpf_model::{
     AluCode, AluOp, CallKind, Insn, Opcode, Operand, Reg, SignExtension, Size, Slot, Source,
-    SwapWidth,
+    SwapWidth, UnaryOp,
 };
 
 fn has_unsupported_source(opcode: Opcode, slot: Slot) -> bool
@@ -26,7 +27,7 @@ fn has_unsupported_source(opcode: Opcode, slot: Slot) -> bool
 }
 
 fn has_unused_field(opcode: Opcode, slot: Slot) -> bool
-    ensures { result ≡ has_unused (form_of opcode) slot }
+    ensures { result ≡ has_unused (used_fields opcode) slot }
 {
     match opcode {
         Opcode::Alu(AluCode::Move | AluCode::Div | AluCode::Mod, _, Source::Register) => slot.imm
@@ -44,8 +45,9 @@ fn has_unused_field(opcode: Opcode, slot: Slot) -> bool
         Opcode::Exit | Opcode::Excluded(_) => {
             slot.dst != 0 || slot.src != 0 || slot.offset != 0 || slot.imm != 0
         }
-        Opcode::Load(_) | Opcode::LoadSigned(_) | Opcode::StoreRegister(_) => slot.imm != 0,
-        Opcode::Store(_) => slot.src != 0,
+        Opcode::Load(_) | Opcode::LoadSigned(_) | Opcode::Store(_, Source::Register) => slot.imm
+            != 0,
+        Opcode::Store(_, Source::Immediate) => slot.src != 0,
         Opcode::Wide => slot.offset != 0,
     }
 }
@@ -53,7 +55,8 @@ fn has_unused_field(opcode: Opcode, slot: Slot) -> bool
 /// The operation of a code, which the offset tells where the code has two.
 fn op_of(code: AluCode, offset: i16) -> Option<AluOp>
     ensures some { IfSome result (λ p. (code_of p ≡ code) × (offset_of p ≡ offset)) }
-    ensures none { IsNone result → (offset ≢ pos 0) × ((code ≡ AluCode.Div) ⊎ (code ≡ AluCode.Mod) → offset ≢ pos 1) }
+    ensures none { IsNone result →
+        (offset ≢ pos 0) × ((code ≡ AluCode.Div) ⊎ (code ≡ AluCode.Mod) → offset ≢ pos 1) }
 {
     let op = match (code, offset) {
         (AluCode::Add, 0) => AluOp::Add,
@@ -77,7 +80,8 @@ fn op_of(code: AluCode, offset: i16) -> Option<AluOp>
 
 fn extension_of(size: Size, offset: i16) -> Option<SignExtension>
     ensures some { IfSome result (λ x. (extension_size x ≡ size) × (extension_bits x ≡ offset)) }
-    ensures none { IsNone result → (offset ≢ pos 8) × (offset ≢ pos 16) × (size ≡ Size.Word64 → offset ≢ pos 32) }
+    ensures none { IsNone result →
+        (offset ≢ pos 8) × (offset ≢ pos 16) × (size ≡ Size.Word64 → offset ≢ pos 32) }
 {
     match (size, offset) {
         (Size::Word32, 8) => Some(SignExtension::ByteTo32),
@@ -143,7 +147,7 @@ fn alu(
     requires opcode { opcode_byte (Opcode.Alu code size source) ≡ slot.opcode }
     requires dst { (dst ≡ slot.dst) × (dst ≤ 10) }
     requires src { (src ≡ slot.src) × (src ≤ 10) }
-    requires used { has_unused (form_of (Opcode.Alu code size source)) slot ≡ false }
+    requires used { has_unused (used_fields (Opcode.Alu code size source)) slot ≡ false }
     ensures found { IfOk result (λ i. first_slot i ≡ slot) }
     ensures one { IfOk result (λ i. slots_of i ≡ first_slot i ∷ []) }
     ensures fits { IfOk result FitsInsn }
@@ -162,11 +166,8 @@ fn alu(
     }
     if code == AluCode::Move && source == Source::Register {
         if let Some(extension) = extension_of(size, slot.offset) {
-            return Ok(Insn::MoveSigned {
-                extension,
-                dst,
-                src,
-            });
+            let op = UnaryOp::MoveSigned { extension, src };
+            return Ok(Insn::Unary { op, dst });
         }
     }
     Err(Flaw::BadOffset)
@@ -178,8 +179,8 @@ fn wide(slot: Slot, next: Option<Slot>, dst: Reg) -> Result<Insn, Flaw>
     requires opcode { opcode_byte Opcode.Wide ≡ slot.opcode }
     requires dst { (dst ≡ slot.dst) × (dst ≤ 10) }
     requires source { unsupported_source Opcode.Wide slot ≡ false }
-    requires used { has_unused (form_of Opcode.Wide) slot ≡ false }
-    ensures found { IfOk result (λ i. slots_of i ≡ take (slot_count i) (slot ∷ option_to_list next)) }
+    requires used { has_unused (used_fields Opcode.Wide) slot ≡ false }
+    ensures found { IfOk result (BeginsWith slot next) }
     ensures fits { IfOk result FitsInsn }
     ensures admitted { IfOk result (λ i. is_admitted i ≡ true) }
     ensures kind { IfOk result (λ i. opcode_of i ≡ Opcode.Wide) }
@@ -207,7 +208,7 @@ fn decode_with(opcode: Opcode, slot: Slot, next: Option<Slot>) -> Result<Insn, F
     requires next { IfSome next FitsSlot }
     requires opcode { opcode_byte opcode ≡ slot.opcode }
     requires supported { is_supported_opcode opcode ≡ true }
-    ensures found { IfOk result (λ i. slots_of i ≡ take (slot_count i) (slot ∷ option_to_list next)) }
+    ensures found { IfOk result (BeginsWith slot next) }
     ensures fits { IfOk result FitsInsn }
     ensures admitted { IfOk result (λ i. is_admitted i ≡ true) }
     ensures kind { IfOk result (λ i. opcode_of i ≡ opcode) }
@@ -228,9 +229,15 @@ fn decode_with(opcode: Opcode, slot: Slot, next: Option<Slot>) -> Result<Insn, F
     match opcode {
         Opcode::Alu(code, size, source) => alu(code, size, source, slot, dst, src),
         Opcode::Wide => wide(slot, next, dst),
-        Opcode::Negate(size) => Ok(Insn::Negate { size, dst }),
+        Opcode::Negate(size) => Ok(Insn::Unary {
+            op: UnaryOp::Negate(size),
+            dst,
+        }),
         Opcode::ByteSwap(order) => match swap_width_of(slot.imm) {
-            Some(width) => Ok(Insn::ByteSwap { order, width, dst }),
+            Some(width) => Ok(Insn::Unary {
+                op: UnaryOp::ByteSwap { order, width },
+                dst,
+            }),
             None => Err(Flaw::BadWidth),
         },
         Opcode::Jump(Size::Word64) => Ok(Insn::Jump {
@@ -261,17 +268,11 @@ fn decode_with(opcode: Opcode, slot: Slot, next: Option<Slot>) -> Result<Insn, F
             src,
             offset: slot.offset,
         }),
-        Opcode::Store(width) => Ok(Insn::Store {
+        Opcode::Store(width, source) => Ok(Insn::Store {
             width,
             dst,
             offset: slot.offset,
-            imm: slot.imm,
-        }),
-        Opcode::StoreRegister(width) => Ok(Insn::StoreRegister {
-            width,
-            dst,
-            src,
-            offset: slot.offset,
+            src: operand_of(source, src, slot.imm),
         }),
         Opcode::Excluded(_) => unreachable!(),
     }
@@ -282,12 +283,13 @@ pub fn decode_slot(slot: Slot, next: Option<Slot>) -> Result<Insn, Flaw>
     requires slot { FitsSlot slot }
     requires next { IfSome next FitsSlot }
     // What is found is spelled so.
-    ensures found { IfOk result (λ i. slots_of i ≡ take (slot_count i) (slot ∷ option_to_list next)) }
+    ensures found { IfOk result (BeginsWith slot next) }
     ensures fits { IfOk result FitsInsn }
     ensures admitted { IfOk result (λ i. is_admitted i ≡ true) }
     // What is spelled so is found.
-    ensures only { (i : Insn) → FitsInsn i → is_admitted i ≡ true → slots_of i ≡ take (slot_count i) (slot ∷ option_to_list next) → result ≡ Ok i }
-    ensures flaw { IfErr result (IsFlaw slot next) }
+    ensures only { (i : Insn) → FitsInsn i → is_admitted i ≡ true → BeginsWith slot next i →
+        result ≡ Ok i }
+    ensures flaw { IfErr result (IsInsnFlaw slot next) }
 {
     let Some(opcode) = opcode_from(slot.opcode) else {
         return Err(Flaw::UnknownOpcode);

@@ -4,7 +4,7 @@ use Rattle.std.specs.Prelude.{slice_get, slice_set}
 use Rattle.std.proofs.lemmas.Option.{none-some, same_Some}
 use Rattle.arrayvec.specs.ArrayVec.{ArrayVec}
 use Rattle.bpf_model.specs.declared.insn.Insn.{Insn}
-use Rattle.bpf_model.specs.declared.insn.Insn.TheVariants.{Call, Load, LoadSigned, Store, StoreRegister}
+use Rattle.bpf_model.specs.declared.insn.Insn.TheVariants.{Call, Load, LoadSigned, Store}
 use Rattle.bpf_model.specs.declared.insn.CallKind.TheVariants as kinds
 use Rattle.bpf_model.specs.declared.call.Helper.{Helper}
 use Rattle.bpf_model.specs.declared.call.Helper.TheVariants as helpers
@@ -21,7 +21,8 @@ use Rattle.bpf_model.specs.declared.event.ReapedElement.{ReapedElement}
 use Rattle.bpf_model.specs.declared.value.Value.{Value}
 use Rattle.bpf_model.specs.declared.value.Value.TheVariants.{Nothing, Number, Pointer}
 use Rattle.bpf_model.specs.declared.value.Reference.TheVariants.{Ctx, Frame, MapRef, Elem}
-use Rattle.bpf_model.specs.Arithmetic.{immediate, loaded_signed}
+use Rattle.bpf_model.specs.Arithmetic.{loaded_signed}
+use Rattle.bpf_model.specs.Operand.{operand_value}
 use Rattle.bpf_model.specs.Value.{◌>>=◌}
 use Rattle.bpf_model.specs.Access.{byte_count, unsigned_width}
 use Rattle.bpf_model.specs.Call.{helper_of, kernel_function_of, ret_word}
@@ -181,8 +182,7 @@ store-apart es m width offset (Number v) (Pointer (Elem k o)) new out h g = none
 access-apart : (i : Insn) (env : Environment) (es : List Element) (m : State) (out alone : Outcome) (new : List Element) → AccessesElement i es m out new → after i env m ≡ Some alone → ⊥
 access-apart (Load width dst src offset) env es m out alone new h g = load-apart es env m (byte_count width) offset (m.regs src) _ h.0 alone h.1 g
 access-apart (LoadSigned width dst src offset) env es m out alone new h g = load-apart es env m (byte_count (unsigned_width width)) offset (m.regs src) _ h.0 alone h.1 g
-access-apart (Store width dst offset imm) env es m out alone new h g = store-apart es m (byte_count width) offset (Number (immediate imm)) (m.regs dst) new alone h.0 g
-access-apart (StoreRegister width dst src offset) env es m out alone new h g = store-apart es m (byte_count width) offset (m.regs src) (m.regs dst) new alone h.0 g
+access-apart (Store width dst offset src) env es m out alone new h g = store-apart es m (byte_count width) offset (operand_value src m.regs) (m.regs dst) new alone h.0 g
 access-apart i env es m out alone new h g = h
 
 access-one : (i : Insn) (es : List Element) (m : State) (out told : Outcome) (new other : List Element) → AccessesElement i es m out new → AccessesElement i es m told other → (out ≡ told) × (new ≡ other)
@@ -192,8 +192,7 @@ access-one (Load width dst src offset) es m out told new other h g =
 access-one (LoadSigned width dst src offset) es m out told new other h g =
     let n : h.0 ≡ g.0 = both _ h.0 g.0 h.1 g.1 in
     (both _ out told h.2 (ap (λ x. sets 1 dst (Number (loaded_signed width x)) m) n ∙ g.2), meet _ _ _ h.3 g.3)
-access-one (Store width dst offset imm) es m out told new other h g = (meet _ _ _ h.1 g.1, both _ new other h.0 g.0)
-access-one (StoreRegister width dst src offset) es m out told new other h g = (meet _ _ _ h.1 g.1, both _ new other h.0 g.0)
+access-one (Store width dst offset src) es m out told new other h g = (meet _ _ _ h.1 g.1, both _ new other h.0 g.0)
 access-one i es m out told new other h g = absurd h
 
 acts-one : (i : Insn) (env : Environment) (es : List Element) (m : State) (out told : Outcome) (new other : List Element) → Acts i env es m out new → Acts i env es m told other → (out ≡ told) × (new ≡ other)
@@ -225,7 +224,7 @@ insn-one (Call kinds.Helper imm) s opened run a b new other new_run other_run si
     (meet _ _ _ h.2 g.2, one.1, called-one run h.0 g.0 new_run other_run one.0 h.3 g.3)
 insn-one i s opened run a b new other new_run other_run single old_new old_other h g = alone-one i s run a b new other new_run other_run h.0 g.0 h.1 g.1 h.2 g.2 h.3 g.3 h.4 g.4
 
-run-one : (s : map_state.Store) (opened : List Section) (run : Run) (a b : Answer) (new other : map_state.Store) (new_run other_run : Run) → IsSingle s.elements → TakesOldest s new → TakesOldest s other →
+pub run-one : (s : map_state.Store) (opened : List Section) (run : Run) (a b : Answer) (new other : map_state.Store) (new_run other_run : Run) → IsSingle s.elements → TakesOldest s new → TakesOldest s other →
     RunStep s opened run a new new_run → RunStep s opened run b other other_run → (a ≡ b) × (new ≡ other) × (new_run ≡ other_run)
 run-one s opened run a b new other new_run other_run single old_new old_other h g =
     let insns : g.0 ≡ h.0 = both _ g.0 h.0 g.1 h.1 in

@@ -22,7 +22,7 @@ use Rattle.model_laws.proofs.Past.{all-begun-later, open-begun}
 use Rattle.model_laws.proofs.Lives.{linked≢unlinked, reclaimed≢linked, reclaimed≢unlinked, same-since}
 
 -- at the start
-no-run : (n r : ℕ) (run : Run) → run_at (replicate n None) r ≡ Some run → ⊥
+pub no-run : (n r : ℕ) (run : Run) → run_at (replicate n None) r ≡ Some run → ⊥
 no-run zero r run h = none-some run h
 no-run (suc n) zero run h = none-some run h
 no-run (suc n) (suc r) run h = no-run n r run h

@@ -8,6 +8,7 @@ pub mod Advancing
 pub mod Plains
 pub mod Examples
 pub mod Sections
+pub mod Holding
 pub mod Born
 pub mod Moves
 pub mod Stores
@@ -28,3 +29,6 @@ pub mod Accounting
 pub mod Full
 pub mod Between
 pub mod Deciding
+pub mod Alone
+pub mod Exits
+pub mod Requests

@@ -8,9 +8,9 @@ use Rattle.bpf_model.specs.Element.{Element, Life, Linked, Unlinked, Reclaimed, 
 use Rattle.bpf_model.specs.MapState.{Store}
 use Rattle.bpf_model.specs.Machine.{Run, open_sections, run_in, run_at}
 use Rattle.bpf_model.specs.Schedule.{Queues, Schedule, is_open, open_flags}
-use Rattle.bpf_model.specs.Refines.{times, queued_in, Waits}
+use Rattle.bpf_model.specs.Refines.{times}
 use Rattle.model_laws.specs.Begun.{AllBegun}
-use Rattle.model_laws.specs.Scheduled.{IsScheduled}
+use Rattle.model_laws.specs.Scheduled.{queued_in, Waits, IsScheduled}
 use Rattle.model_laws.proofs.Moves.{RunsMove, run-before}
 use Rattle.model_laws.proofs.Stores.{LifeMoves, Stays, Unlinks, Ends, Alters, StoreMoves}
 use Rattle.model_laws.proofs.Past.{ended-later}

@@ -5,8 +5,8 @@ use Rattle.bpf_model.specs.declared.event.Event.{Event}
 use Rattle.bpf_model.specs.declared.event.Answer.{Answer}
 use Rattle.bpf_model.specs.Machine.{Loaded}
 use Rattle.bpf_model.specs.Schedule.{Schedule, IsScheduledHistory, last_scheduled, start_schedule}
-use Rattle.bpf_model.specs.View.{WorldView}
-use Rattle.bpf_model.specs.Refines.{IsReached, TracksSchedule, shapes_of}
+use Rattle.bpf_model.specs.View.{WorldView, shapes_of}
+use Rattle.bpf_model.specs.Refines.{IsReached, TracksSchedule}
 use Rattle.model_laws.specs.Scheduled.{IsScheduled}
 use Rattle.model_laws.proofs.Scheduling.{starts_scheduled, stays_scheduled}
 

@@ -19,8 +19,8 @@ use Rattle.bpf_model.specs.Machine.{Loaded, Machine, open_sections, with_store}
 use Rattle.bpf_model.specs.Event.{Does}
 use Rattle.bpf_model.specs.Schedule.{Queues, Schedule, open_flags, still_open, is_any, unlinked_between, retired, turned, advanced, first_ready, without_first, reaped, scheduled, TakesFirst, DoesScheduled, start_schedule}
 use Rattle.bpf_model.specs.Consistent.{IsConsistent}
-use Rattle.bpf_model.specs.Refines.{times, queued_in, Waits}
-use Rattle.model_laws.specs.Scheduled.{IsScheduled}
+use Rattle.bpf_model.specs.Refines.{times}
+use Rattle.model_laws.specs.Scheduled.{queued_in, Waits, IsScheduled}
 use Rattle.model_laws.proofs.Lists.{get-set_cases, get-set_other}
 use Rattle.model_laws.proofs.Sections.{OpenAt, open_at}
 use Rattle.model_laws.proofs.Moves.{RunsMove, does-move}

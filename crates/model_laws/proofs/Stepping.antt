@@ -2,7 +2,7 @@
 use Rattle.std.proofs.Common.{◌≡◌, ℕ, zero, suc, List, [], ◌∷◌, length, Option, Some, None, inl, inr, sym, ap, subst}
 use Rattle.std.specs.Prelude.{slice_get, ℤ, ◌+ℤ◌, Result}
 use Rattle.bpf_model.specs.declared.insn.Insn.{Insn}
-use Rattle.bpf_model.specs.declared.insn.Insn.TheVariants.{Call, Load, LoadSigned, Store, StoreRegister}
+use Rattle.bpf_model.specs.declared.insn.Insn.TheVariants.{Call, Load, LoadSigned, Store}
 use Rattle.bpf_model.specs.declared.insn.CallKind.TheVariants as kinds
 use Rattle.bpf_model.specs.declared.call.Helper.{Helper}
 use Rattle.bpf_model.specs.declared.call.Helper.TheVariants as helpers
@@ -15,7 +15,7 @@ use Rattle.bpf_model.specs.declared.event.EventRefusal.{EventRefusal}
 use Rattle.bpf_model.specs.declared.value.Value.{Value}
 use Rattle.bpf_model.specs.declared.value.Value.TheVariants.{Nothing, Number, Pointer}
 use Rattle.bpf_model.specs.declared.value.Reference.TheVariants.{Ctx, Frame, MapRef, Elem}
-use Rattle.bpf_model.specs.Arithmetic.{immediate}
+use Rattle.bpf_model.specs.Operand.{operand_value}
 use Rattle.bpf_model.specs.Access.{byte_count, place_of}
 use Rattle.bpf_model.specs.Call.{helper_of}
 use Rattle.bpf_model.specs.Step.{State, Environment, Outcome}
@@ -56,8 +56,7 @@ grows-store es new width offset (Number v) (Pointer (Elem n o)) h =
 grows-access : (i : Insn) (es : List Element) (m : State) (out : Outcome) (new : List Element) → AccessesElement i es m out new → Grows es new
 grows-access (Load width dst src offset) es m out new h = grows-along es new h.3
 grows-access (LoadSigned width dst src offset) es m out new h = grows-along es new h.3
-grows-access (Store width dst offset imm) es m out new h = grows-store es new (byte_count width) offset (Number (immediate imm)) (m.regs dst) h.0
-grows-access (StoreRegister width dst src offset) es m out new h = grows-store es new (byte_count width) offset (m.regs src) (m.regs dst) h.0
+grows-access (Store width dst offset src) es m out new h = grows-store es new (byte_count width) offset (operand_value src m.regs) (m.regs dst) h.0
 grows-access i es m out new h = absurd h
 
 grows-act : (i : Insn) (env : Environment) (es : List Element) (m : State) (out : Outcome) (new : List Element) → Acts i env es m out new → Grows es new

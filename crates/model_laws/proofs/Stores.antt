@@ -4,7 +4,7 @@ use Rattle.std.specs.Prelude.{slice_get, slice_set, ◌==◌, ◌&&◌, nat_le, 
 use Rattle.std.proofs.lemmas.Bool.{cases_eq, eqb-true}
 use Rattle.std.proofs.lemmas.Option.{none-some, same_Some}
 use Rattle.bpf_model.specs.declared.insn.Insn.{Insn}
-use Rattle.bpf_model.specs.declared.insn.Insn.TheVariants.{Call, Load, LoadSigned, Store, StoreRegister}
+use Rattle.bpf_model.specs.declared.insn.Insn.TheVariants.{Call, Load, LoadSigned, Store}
 use Rattle.bpf_model.specs.declared.insn.CallKind.TheVariants as kinds
 use Rattle.bpf_model.specs.declared.call.Helper.{Helper}
 use Rattle.bpf_model.specs.declared.call.Helper.TheVariants as helpers
@@ -22,7 +22,7 @@ use Rattle.bpf_model.specs.declared.value.Value.{Value}
 use Rattle.bpf_model.specs.declared.value.Value.TheVariants.{Nothing, Number, Pointer}
 use Rattle.bpf_model.specs.declared.value.Reference.TheVariants.{Ctx, Frame, MapRef, Elem}
 use Rattle.bpf_model.specs.declared.value.Cell.{Cell}
-use Rattle.bpf_model.specs.Arithmetic.{immediate}
+use Rattle.bpf_model.specs.Operand.{operand_value}
 use Rattle.bpf_model.specs.Value.{◌>>=◌}
 use Rattle.bpf_model.specs.Access.{byte_count, place_of}
 use Rattle.bpf_model.specs.Frame.{byte_of}
@@ -130,7 +130,7 @@ length-bytes : (at width n : ℕ) (bytes : List ℕ) → length (with_bytes at w
 length-bytes at zero n bytes = refl
 length-bytes at (suc width) n bytes = length-slice_set (with_bytes (suc at) width (n / 256) bytes) at (n % 256) ∙ length-bytes (suc at) width (n / 256) bytes
 
-accessible-born : (es : List Element) (n : ℕ) (o : Option Element) (e : Element) → slice_get es n ≡ o → (o >>= unless_reclaimed) ≡ Some e → slice_get es n ≡ Some e
+pub accessible-born : (es : List Element) (n : ℕ) (o : Option Element) (e : Element) → slice_get es n ≡ o → (o >>= unless_reclaimed) ≡ Some e → slice_get es n ≡ Some e
 accessible-born es n None e at h = absurd (none-some e h)
 accessible-born es n (Some x) e at h = at ∙ ap Some (unless-same x e h)
   where
@@ -141,7 +141,7 @@ accessible-born es n (Some x) e at h = at ∙ ap Some (unless-same x e h)
     unless-same : (x e : Element) → unless_reclaimed x ≡ Some e → x ≡ e
     unless-same x e h = choice _ x e h
 
-touches-stored : (opened : List Section) (es new : List Element) (n width : ℕ) (offset : ℤ) (v : ℕ) (e : Element) → slice_get es n ≡ Some e → stored_in es n width offset v e ≡ Some new → Touches false opened es new
+pub touches-stored : (opened : List Section) (es new : List Element) (n width : ℕ) (offset : ℤ) (v : ℕ) (e : Element) → slice_get es n ≡ Some e → stored_in es n width offset v e ≡ Some new → Touches false opened es new
 touches-stored opened es new n width offset v e at h =
     let s = first-step (place_of (length e.value) width offset) (λ at. Some (changed (with_value (with_bytes at width v e.value)) es n)) new h in
     let same : changed (with_value (with_bytes s.0 width v e.value)) es n ≡ new = same_Some _ _ s.2 in
@@ -165,8 +165,7 @@ touches-along opened es new e = subst (Touches false opened es) (sym e) (touches
 touches-access : (i : Insn) (opened : List Section) (es : List Element) (m : State) (out : Outcome) (new : List Element) → AccessesElement i es m out new → Touches false opened es new
 touches-access (Load width dst src offset) opened es m out new h = touches-along opened es new h.3
 touches-access (LoadSigned width dst src offset) opened es m out new h = touches-along opened es new h.3
-touches-access (Store width dst offset imm) opened es m out new h = touches-store opened es new (byte_count width) offset (Number (immediate imm)) (m.regs dst) h.0
-touches-access (StoreRegister width dst src offset) opened es m out new h = touches-store opened es new (byte_count width) offset (m.regs src) (m.regs dst) h.0
+touches-access (Store width dst offset src) opened es m out new h = touches-store opened es new (byte_count width) offset (operand_value src m.regs) (m.regs dst) h.0
 touches-access i opened es m out new h = absurd h
 
 pub touches-acts : (i : Insn) (opened : List Section) (env : Environment) (es : List Element) (m : State) (out : Outcome) (new : List Element) → Acts i env es m out new → Touches false opened es new
@@ -302,7 +301,7 @@ moves-helper (Some helpers.Update) s opened run ret new single h = moves-updates
 moves-helper (Some helpers.Delete) s opened run ret new single h = moves-deletes s opened h.map h.key h.outcome new h.deleted
 moves-helper None s opened run ret new single h = absurd h
 
-moves-insn : (i : Insn) (s : map_state.Store) (opened : List Section) (run : Run) (answer : Answer) (new : map_state.Store) (new_run : Run) → IsSingle s.elements → InsnStep i s opened run answer new new_run → StoreMoves false opened s new
+pub moves-insn : (i : Insn) (s : map_state.Store) (opened : List Section) (run : Run) (answer : Answer) (new : map_state.Store) (new_run : Run) → IsSingle s.elements → InsnStep i s opened run answer new new_run → StoreMoves false opened s new
 moves-insn (Call kinds.Kernel imm) s opened run answer new new_run single h = moves-same false opened s new h.2
 moves-insn (Call kinds.Helper imm) s opened run answer new new_run single h = moves-helper (helper_of imm) s opened run h.0 new single h.1
 moves-insn i s opened run answer new new_run single h = moves-elements false opened s new h.1 (touches-acts i opened (environment run) s.elements run.state h.0 h.1 h.2) h.3

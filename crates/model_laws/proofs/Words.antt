@@ -1,26 +1,34 @@
 -- The words of near places differ.
-use Rattle.std.proofs.Common.{◌≡◌, ℕ, suc, ◌+◌, ◌-◌, ◌*◌, ◌^◌, ◌<◌, ◌≤◌, List, cond, ℤ, pos, negsuc, ◌+ℤ◌, refl, sym, ap, ◌∙◌, arith, le-ltb}
+use Rattle.std.proofs.Common.{◌≡◌, ℕ, suc, ◌+◌, ◌-◌, ◌*◌, ◌^◌, ◌<◌, ◌≤◌, List, cond, ℤ, pos, negsuc, ◌+ℤ◌, ◌↔◌, refl, sym, ap, ◌∙◌, arith, le-ltb}
+use Rattle.std.proofs.lemmas.Int.{ints}
 use Rattle.bpf_model.specs.declared.value.Reference.{Reference}
 use Rattle.bpf_model.specs.declared.value.Reference.TheVariants.{Ctx, Frame, MapRef, Elem}
 use Rattle.bpf_model.specs.Element.{Element}
 use Rattle.bpf_model.specs.declared.limits.TheConstants.{MAX_MAPS, MAX_ENTRIES, MAX_SPARE}
-use Rattle.bpf_model.specs.Word.{ctx_base, frame_base, map_base, slot_base, IsReferenceWord}
-use Rattle.model_laws.specs.Near.{IsNear, Place, InContext, InFrame, AtMap, InSlot, IsNearPlace, place_word, IsPlaceOf}
+use Rattle.bpf_model.specs.Near.{IsNearOffset}
+use Rattle.bpf_model.specs.Word.{ctx_base, frame_base, map_base, slot_base, IsReferenceWord, element_bases}
+use Rattle.model_laws.specs.Near.{Place, InContext, InFrame, AtMap, InSlot, IsNearPlace, place_word, named_place}
+
+near-pos : (n : ℕ) → IsNearOffset (pos n) → n ≤ 2 ^ 29
+near-pos n h = omega (arith, ints)
+
+near-negsuc : (n : ℕ) → IsNearOffset (negsuc n) → n < 2 ^ 29
+near-negsuc n h = omega (arith, ints)
 
 -- the offset, counted from -2^29
 abbrev shift : ℤ → ℕ
 shift (pos n) = 2 ^ 29 + n
 shift (negsuc n) = 2 ^ 29 - suc n
 
-shift-most : (o : ℤ) → IsNear o → shift o ≤ 2 ^ 30
-shift-most (pos n) h = omega arith
-shift-most (negsuc n) h = omega arith
+shift-most : (o : ℤ) → IsNearOffset o → shift o ≤ 2 ^ 30
+shift-most (pos n) h = let l = near-pos n h in omega arith
+shift-most (negsuc n) h = let l = near-negsuc n h in omega arith
 
-shift-same : (o p : ℤ) → IsNear o → IsNear p → shift o ≡ shift p → o ≡ p
+shift-same : (o p : ℤ) → IsNearOffset o → IsNearOffset p → shift o ≡ shift p → o ≡ p
 shift-same (pos a) (pos b) h g e = let s : a ≡ b = omega arith in ap pos s
-shift-same (pos a) (negsuc b) h g e = absurd (omega arith)
-shift-same (negsuc a) (pos b) h g e = absurd (omega arith)
-shift-same (negsuc a) (negsuc b) h g e = let s : a ≡ b = omega arith in ap negsuc s
+shift-same (pos a) (negsuc b) h g e = let l = near-negsuc b g in absurd (omega arith)
+shift-same (negsuc a) (pos b) h g e = let l = near-negsuc a h in absurd (omega arith)
+shift-same (negsuc a) (negsuc b) h g e = let l = near-negsuc a h in let k = near-negsuc b g in let s : a ≡ b = omega arith in ap negsuc s
 
 -- the word that stands so many bytes further
 pub record WordAt (base : ℕ) (o : ℤ) : Type 0 where
@@ -28,13 +36,15 @@ pub record WordAt (base : ℕ) (o : ℤ) : Type 0 where
   pub is : pos base +ℤ o ≡ pos word
   pub counted : word + 2 ^ 29 ≡ base + shift o
 
-word-at : (base : ℕ) (o : ℤ) → IsNear o → 2 ^ 29 ≤ base → WordAt base o
+word-at : (base : ℕ) (o : ℤ) → IsNearOffset o → 2 ^ 29 ≤ base → WordAt base o
 word-at base (pos n) h room = record { word = base + n; is = refl; counted = omega arith }
-word-at base (negsuc n) h room = record {
-  word = base - suc n;
-  is = ap (λ b. cond b (negsuc (suc n - suc base)) (pos (base - suc n))) (le-ltb base (suc n) (omega arith));
-  counted = omega arith;
-}
+word-at base (negsuc n) h room =
+    let l = near-negsuc n h in
+    record {
+      word = base - suc n;
+      is = ap (λ b. cond b (negsuc (suc n - suc base)) (pos (base - suc n))) (le-ltb base (suc n) (omega arith));
+      counted = omega arith;
+    }
 
 abbrev base_of : Place → ℕ
 base_of (InContext o) = ctx_base
@@ -87,7 +97,7 @@ same-slot m n a b s t ha hb hs ht e =
     let maps : m ≡ n = omega arith in
     (maps, omega arith, omega arith)
 
-slots-agree : (m n a b : ℕ) (o p : ℤ) → IsNear o → IsNear p → (m ≡ n) × (a ≡ b) × (shift o ≡ shift p) → InSlot m a o ≡ InSlot n b p
+slots-agree : (m n a b : ℕ) (o p : ℤ) → IsNearOffset o → IsNearOffset p → (m ≡ n) × (a ≡ b) × (shift o ≡ shift p) → InSlot m a o ≡ InSlot n b p
 slots-agree m n a b o p h g e =
     let third : o ≡ p = shift-same o p h g e.2 in
     ap (λ x. InSlot x a o) e.0 ∙ (ap (λ x. InSlot n x o) e.1 ∙ ap (InSlot n b) third)
@@ -114,8 +124,8 @@ pub near_words_differ : (p q : Place) → IsNearPlace p → IsNearPlace q → pl
 near_words_differ p q h g e = differ p q h g (same-count p q (has-word p h) (has-word q g) e)
 
 -- the words of references
-pub words_of_places : (slots : List ℕ) (es : List Element) (r : Reference) (p : Place) (w : ℕ) → IsPlaceOf slots es r p → IsReferenceWord slots es r w → pos w ≡ place_word p
-words_of_places slots es (Ctx o) p w h g = g ∙ ap place_word (sym h)
-words_of_places slots es (Frame o) p w h g = g ∙ ap place_word (sym h)
-words_of_places slots es (MapRef m) p w h g = ap pos g ∙ ap place_word (sym h)
-words_of_places slots es (Elem n o) p w h g = g.1 h.0 h.1 h.2 ∙ ap place_word (sym h.3)
+pub words_of_places : (slots : List ℕ) (es : List Element) (r : Reference) (w : ℕ) → IsReferenceWord (element_bases slots es) r w ↔ (pos w ≡ place_word (named_place slots es r))
+words_of_places slots es (Ctx o) w = (λ h. h, λ h. h)
+words_of_places slots es (Frame o) w = (λ h. h, λ h. h)
+words_of_places slots es (MapRef m) w = (λ h. h, λ h. h)
+words_of_places slots es (Elem n o) w = (λ h. h, λ h. h)

@@ -1,7 +1,7 @@
 -- What the slots of a map are taken by.
 use Rattle.std.specs.Prelude.{◌≡◌, ℕ, ◌+◌, not, ◌==◌, ◌&&◌, List, count_by}
 use Rattle.bpf_model.specs.Element.{Element, is_unlinked, is_reclaimed, linked_count}
-use Rattle.bpf_model.specs.MapState.{MapState}
+use Rattle.bpf_model.specs.MapState.{MapState, slots_of_shape}
 
 -- how many elements of the map are unlinked and wait for reclamation
 abbrev pub unlinked_count : ℕ → List Element → ℕ
@@ -13,4 +13,4 @@ kept_count map es = count_by (λ e. not (is_reclaimed e.life) && (e.map == map))
 
 -- The map's linked elements, its unlinked ones and its worn-out slots are as many as all its slots.
 abbrev pub IsFull : ℕ → List Element → MapState → Type 0
-IsFull map es m = linked_count map es + unlinked_count map es + m.worn ≡ m.shape.entries + m.shape.spare
+IsFull map es m = linked_count map es + unlinked_count map es + m.worn ≡ slots_of_shape m.shape

@@ -19,7 +19,7 @@ abbrev pub lookup_and_load : List Insn
 lookup_and_load =
     Alu Move Word64 6 (Immediate (pos 0)) ∷
     Call Kernel (pos 1) ∷
-    Store Four 10 (negsuc 3) (pos 0) ∷
+    Store Four 10 (negsuc 3) (Immediate (pos 0)) ∷
     Alu Move Word64 2 (Register 10) ∷
     Alu Add Word64 2 (Immediate (negsuc 3)) ∷
     LoadMap 1 (pos 0) ∷

@@ -2,7 +2,7 @@ pub mod Growth
 pub mod Begun
 pub mod Scheduled
 pub mod Near
-pub mod Start
 pub mod Steps
 pub mod Accounted
+pub mod Alone
 pub mod Example

@@ -3,14 +3,14 @@
 //! Each is a function with an empty body, whose contract is the law.
 #![tactic(auto)]
 
-ghost use Rattle.std.specs.Prelude.{◌≡◌, ℕ, ◌+◌, ◌<◌, ◌^◌, ℤ, pos, Bool, false, List, [], ◌++◌, ◌∷◌, length, slice_get, Some, ◌↔◌, ◌≢◌, Result, Ok, Err};
+ghost use Rattle.std.specs.Prelude.{◌≡◌, ℕ, ◌+◌, ◌<◌, ◌^◌, ℤ, pos, Bool, false, List, [], ◌++◌, ◌∷◌, length, slice_get, Option, Some, None, ◌↔◌, ◌⊎◌, ◌≢◌, Result, Ok, Err};
 ghost use Rattle.bpf_model.specs.declared.call.Errno.{Errno};
 ghost use Rattle.bpf_model.specs.declared.call.Errno.TheVariants.{NoMemory};
 ghost use Rattle.bpf_model.specs.declared.event.Event.{Event};
 ghost use Rattle.bpf_model.specs.declared.event.Answer.{Answer};
 ghost use Rattle.bpf_model.specs.declared.event.EventRefusal.{EventRefusal};
 ghost use Rattle.bpf_model.specs.declared.event.ReapedElement.{ReapedElement};
-ghost use Rattle.bpf_model.specs.MapState.{MapState, Store, given_of};
+ghost use Rattle.bpf_model.specs.MapState.{MapState, Store, AreShapes, slots_of_shape, given_of};
 ghost use Rattle.bpf_model.specs.Helper.{Updates};
 ghost use Rattle.bpf_model.specs.Element.{Element, Linked, Reclaimed, HasLife};
 ghost use Rattle.bpf_model.specs.declared.insn.Insn.{Insn};
@@ -26,42 +26,57 @@ ghost use Rattle.bpf_model.specs.Section.{Section, Has};
 ghost use Rattle.bpf_model.specs.Consistent.{IsConsistent};
 ghost use Rattle.bpf_model.specs.Headline.{ReclaimedLate, AnswersAsMachine, AreMachineAnswers, AreReclaimedLate};
 ghost use Rattle.bpf_model.specs.declared.value.Reference.{Reference};
-ghost use Rattle.bpf_model.specs.View.{WorldView};
+ghost use Rattle.bpf_model.specs.View.{WorldView, start_view};
 ghost use Rattle.bpf_model.specs.Refines.{IsReached, TracksSchedule, Tracks};
-ghost use Rattle.bpf_model.specs.Word.{IsReferenceWord};
+ghost use Rattle.bpf_model.specs.Word.{IsReferenceWord, element_bases};
+ghost use Rattle.bpf_model.specs.Exit.{ExitsWith, HasNoMaps};
+ghost use Rattle.bpf_model.specs.Machine.{Run, fresh_run};
+ghost use Rattle.bpf_model.specs.MachineStep.{InsnStep, RunStep};
+ghost use Rattle.bpf_model.specs.Step.{State, Environment, after};
+ghost use Rattle.bpf_model.specs.declared.call.Helper.{Helper};
+ghost use Rattle.bpf_model.specs.declared.value.Value.{Value};
+ghost use Rattle.bpf_model.specs.Request.{Argument, Request, signature_of, asks, Calls, IsOfKind, StepsAlone, StepsServed};
+ghost use Rattle.model_laws.specs.Alone.{SharesNothing};
 ghost use Rattle.model_laws.specs.Growth.{Grows};
 ghost use Rattle.model_laws.specs.Begun.{HasBegun};
 ghost use Rattle.model_laws.specs.Scheduled.{IsScheduled, IsReapable};
-ghost use Rattle.model_laws.specs.Start.{AreShapes, start_view};
 ghost use Rattle.model_laws.specs.Steps.{AreSteps, AnswersAsHistory};
 ghost use Rattle.model_laws.specs.Accounted.{kept_count, IsFull};
 ghost use Rattle.model_laws.specs.Example.{lookup_and_load, example_shape};
-ghost use Rattle.model_laws.specs.Near.{Place, IsNearPlace, IsPlaceOf, place_word};
+ghost use Rattle.model_laws.specs.Near.{Place, IsNearPlace, named_place, place_word};
 
 /// An event is refused exactly when a test fails, by the first that does, and then nothing changes.
 pub fn refused_exactly()
-    ensures { (m new : Machine) (event : Event) (k : EventRefusal) → Does m event (Answer.Refused k) new ↔ ((refusal m event ≡ Some k) × (new ≡ m)) }
+    ensures { (m new : Machine) (event : Event) (k : EventRefusal) →
+        Does m event (Answer.Refused k) new ↔ ((refusal m event ≡ Some k) × (new ≡ m)) }
 {}
 
 /// A run of the machine can be cut anywhere, and two that meet are one.
 pub fn cut_anywhere()
-    ensures { (m new : Machine) (es fs : List Event) (xs ys : List Answer) → length es ≡ length xs → MachineRun m (es ++ fs) (xs ++ ys) new ↔ ((mid : Machine) × MachineRun m es xs mid × MachineRun mid fs ys new) }
+    ensures { (m new : Machine) (es fs : List Event) (xs ys : List Answer) → length es ≡ length xs →
+        MachineRun m (es ++ fs) (xs ++ ys) new ↔
+        ((mid : Machine) × MachineRun m es xs mid × MachineRun mid fs ys new) }
 {}
 
 /// Elements only grow: none is taken out, its map, key and use count stay, and its life goes on by at most one
 /// step, from linked to unlinked or from unlinked, with the same sections, to reclaimed.
 pub fn elements_only_grow()
-    ensures { (m new : Machine) (event : Event) (answer : Answer) → Does m event answer new → Grows m.store.elements new.store.elements }
+    ensures { (m new : Machine) (event : Event) (answer : Answer) → Does m event answer new →
+        Grows m.store.elements new.store.elements }
 {}
 
 /// An element that is reclaimed stays reclaimed in every later state.
 pub fn reclaimed_for_ever()
-    ensures { (m later : Machine) (events : List Event) (answers : List Answer) (states : List Machine) (j n : ℕ) → IsHistory m events answers states → slice_get states j ≡ Some later → HasLife m.store.elements n Reclaimed → HasLife later.store.elements n Reclaimed }
+    ensures { (m later : Machine) (events : List Event) (answers : List Answer) (states : List Machine)
+        (j n : ℕ) →
+        IsHistory m events answers states → slice_get states j ≡ Some later →
+        HasLife m.store.elements n Reclaimed → HasLife later.store.elements n Reclaimed }
 {}
 
 /// A program that is plain without maps is plain with them.
 pub fn plain_with_maps()
-    ensures { (program : List Insn) (shapes : List MapShape) → IsPlain program → IsPlainWithMaps program shapes }
+    ensures { (program : List Insn) (shapes : List MapShape) → IsPlain program →
+        IsPlainWithMaps program shapes }
 {}
 
 /// A program that looks up a key in a section, and loads from the value where there is one, is plain with maps.
@@ -71,107 +86,149 @@ pub fn lookup_is_plain()
 
 /// The machine with no run and nothing in its maps is consistent.
 pub fn starts_consistent()
-    ensures { (shapes : List MapShape) (programs : List Loaded) → IsConsistent (start_machine shapes programs) }
+    ensures { (shapes : List MapShape) (programs : List Loaded) →
+        IsConsistent (start_machine shapes programs) }
 {}
 
 /// A consistent machine stays consistent, whatever event comes and whatever it answers.
 pub fn stays_consistent()
-    ensures { (m new : Machine) (event : Event) (answer : Answer) → IsConsistent m → Does m event answer new → IsConsistent new }
+    ensures { (m new : Machine) (event : Event) (answer : Answer) → IsConsistent m →
+        Does m event answer new → IsConsistent new }
 {}
 
 /// A section that has begun and is not open is open in no later state.
 pub fn section_never_reopens()
-    ensures { (m later : Machine) (events : List Event) (answers : List Answer) (states : List Machine) (j : ℕ) (s : Section) → IsHistory m events answers states → slice_get states j ≡ Some later → HasBegun m s → (Has (open_sections m.runs) s → ⊥) → Has (open_sections later.runs) s → ⊥ }
+    ensures { (m later : Machine) (events : List Event) (answers : List Answer) (states : List Machine)
+        (j : ℕ) (s : Section) →
+        IsHistory m events answers states → slice_get states j ≡ Some later → HasBegun m s →
+        (Has (open_sections m.runs) s → ⊥) → Has (open_sections later.runs) s → ⊥ }
 {}
 
 /// The grace-period guarantee, of every history from a consistent state: an element that is unlinked keeps the sections
 /// that are open then, is reclaimed only after that, and then each section that it keeps has ended.
 pub fn reclaimed_late()
-    ensures { (m : Machine) (events : List Event) (answers : List Answer) (states : List Machine) → IsConsistent m → IsHistory m events answers states → ReclaimedLate (m ∷ states) }
+    ensures { (m : Machine) (events : List Event) (answers : List Answer) (states : List Machine) →
+        IsConsistent m → IsHistory m events answers states → ReclaimedLate (m ∷ states) }
 {}
 
 /// At the start the lists of the runtime's choices are right: nothing is unlinked, and nothing stands in them.
 pub fn starts_scheduled()
-    ensures { (shapes : List MapShape) (programs : List Loaded) → IsScheduled (start_schedule shapes programs) }
+    ensures { (shapes : List MapShape) (programs : List Loaded) →
+        IsScheduled (start_schedule shapes programs) }
 {}
 
 /// Each step with the runtime's choices keeps the lists right: exactly the unlinked elements stand in them, each
 /// once, those that are ready wait for no open section, and those that wait only for awaited ones.
 pub fn stays_scheduled()
-    ensures { (old new : Schedule) (event : Event) (answer : Answer) → IsScheduled old → DoesScheduled old event answer new → IsScheduled new }
+    ensures { (old new : Schedule) (event : Event) (answer : Answer) → IsScheduled old →
+        DoesScheduled old event answer new → IsScheduled new }
 {}
 
 /// In each state that is reached from the start the lists are right, so that the laws of the runtime's choices
 /// hold of it.
 pub fn reached_is_scheduled()
-    ensures { (shapes : List MapShape) (programs : List Loaded) (s : Schedule) → IsReached shapes programs s → IsScheduled s }
+    ensures { (shapes : List MapShape) (programs : List Loaded) (s : Schedule) →
+        IsReached shapes programs s → IsScheduled s }
 {}
 
 /// With the runtime's choices an event has one answer and leads to one state.
 pub fn one_answer()
-    ensures { (s t u : Schedule) (event : Event) (a b : Answer) → IsScheduled s → DoesScheduled s event a t → DoesScheduled s event b u → (a ≡ b) × (t ≡ u) }
+    ensures { (s t u : Schedule) (event : Event) (a b : Answer) → IsScheduled s →
+        DoesScheduled s event a t → DoesScheduled s event b u → (a ≡ b) × (t ≡ u) }
 {}
 
 /// With the runtime's choices a list of events has one list of answers and leads through one list of states.
 pub fn one_history()
-    ensures { (s : Schedule) (events : List Event) (answers others : List Answer) (states rest : List Schedule) → IsScheduled s → IsScheduledHistory s events answers states → IsScheduledHistory s events others rest → (answers ≡ others) × (states ≡ rest) }
+    ensures { (s : Schedule) (events : List Event) (answers others : List Answer)
+        (states rest : List Schedule) →
+        IsScheduled s → IsScheduledHistory s events answers states →
+        IsScheduledHistory s events others rest → (answers ≡ others) × (states ≡ rest) }
 {}
 
 /// Two advances, one right after the other, with no section open and nothing awaited before them, move what
 /// waits, and what was unlinked last, to the end of the ready ones.
 pub fn two_quiet_advances()
-    ensures { (s t u : Schedule) (a b : Answer) → is_any s.awaited ≡ false → open_sections s.machine.runs ≡ [] → DoesScheduled s Event.Advance a t → DoesScheduled t Event.Advance b u → (k : ℕ) (q : Queues) → slice_get s.queues k ≡ Some q → slice_get u.queues k ≡ Some (record { next = []; waiting = []; ready = (q.ready ++ q.waiting) ++ q.next }) }
+    ensures { (s t u : Schedule) (a b : Answer) → is_any s.awaited ≡ false →
+        open_sections s.machine.runs ≡ [] → DoesScheduled s Event.Advance a t →
+        DoesScheduled t Event.Advance b u → (k : ℕ) (q : Queues) → slice_get s.queues k ≡ Some q →
+        slice_get u.queues k ≡ Some
+        (record { next = []; waiting = []; ready = (q.ready ++ q.waiting) ++ q.next }) }
 {}
 
 /// From any schedule whose lists are right: after two advances that meet no open section, a reap finds nothing
 /// only when each element that was unlinked before the first is reclaimed.
 pub fn drains_from()
-    ensures { (s : Schedule) (events : List Event) (answers : List Answer) (states : List Schedule) → IsScheduled s → IsScheduledHistory s events answers states → Drains (machines (s ∷ states)) events answers }
+    ensures { (s : Schedule) (events : List Event) (answers : List Answer) (states : List Schedule) →
+        IsScheduled s → IsScheduledHistory s events answers states →
+        Drains (machines (s ∷ states)) events answers }
 {}
 
 /// The drain law holds of every history from the start.
 pub fn drains()
-    ensures { (shapes : List MapShape) (programs : List Loaded) (events : List Event) (answers : List Answer) (states : List Schedule) → IsScheduledHistory (start_schedule shapes programs) events answers states → Drains (machines (start_schedule shapes programs ∷ states)) events answers }
+    ensures { (shapes : List MapShape) (programs : List Loaded) (events : List Event)
+        (answers : List Answer) (states : List Schedule) →
+        IsScheduledHistory (start_schedule shapes programs) events answers states →
+        Drains (machines (start_schedule shapes programs ∷ states)) events answers }
 {}
 
 /// The element that a reap takes may be reclaimed: it is unlinked, and each section that it remembers has
 /// ended.
 pub fn reapable_in()
-    ensures { (s : Schedule) (n : ℕ) → IsScheduled s → first_ready s.queues ≡ Some n → IsReapable s.machine n }
+    ensures { (s : Schedule) (n : ℕ) → IsScheduled s → first_ready s.queues ≡ Some n →
+        IsReapable s.machine n }
 {}
 
 /// In each state of every history from the start, the element that a reap would take may be reclaimed.
 pub fn reapable()
-    ensures { (shapes : List MapShape) (programs : List Loaded) (events : List Event) (answers : List Answer) (states : List Schedule) (j n : ℕ) (s : Schedule) → IsScheduledHistory (start_schedule shapes programs) events answers states → slice_get (start_schedule shapes programs ∷ states) j ≡ Some s → first_ready s.queues ≡ Some n → IsReapable s.machine n }
+    ensures { (shapes : List MapShape) (programs : List Loaded) (events : List Event)
+        (answers : List Answer) (states : List Schedule) (j n : ℕ) (s : Schedule) →
+        IsScheduledHistory (start_schedule shapes programs) events answers states →
+        slice_get (start_schedule shapes programs ∷ states) j ≡ Some s →
+        first_ready s.queues ≡ Some n → IsReapable s.machine n }
 {}
 
 /// A reap that takes the first ready element, and answers with its map, its key and what becomes of its slot,
 /// is a step with the runtime's choices.
 pub fn reap_steps()
-    ensures { (s : Schedule) (n : ℕ) (e : Element) (state : MapState) (taken : ReapedElement) → IsScheduled s → first_ready s.queues ≡ Some n → slice_get s.machine.store.elements n ≡ Some e → slice_get s.machine.store.maps e.map ≡ Some state → taken.map ≡ e.map → taken.key.items ≡ e.key → taken.given ≡ given_of e.uses state → (new : Schedule) × DoesScheduled s Event.Reap (Answer.Reaped (Some taken)) new }
+    ensures { (s : Schedule) (n : ℕ) (e : Element) (state : MapState) (taken : ReapedElement) →
+        IsScheduled s → first_ready s.queues ≡ Some n →
+        slice_get s.machine.store.elements n ≡ Some e →
+        slice_get s.machine.store.maps e.map ≡ Some state → taken.map ≡ e.map →
+        taken.key.items ≡ e.key → taken.given ≡ given_of e.uses state →
+        (new : Schedule) × DoesScheduled s Event.Reap (Answer.Reaped (Some taken)) new }
 {}
 
 /// In each state that is reached from the start, each slot of a map is free, holds an element that is not
 /// reclaimed, or is worn out.
 pub fn slots_accounted()
-    ensures { (shapes : List MapShape) (programs : List Loaded) (s : Schedule) (k : ℕ) (m : MapState) → IsReached shapes programs s → slice_get s.machine.store.maps k ≡ Some m → length m.bag + kept_count k s.machine.store.elements + m.worn ≡ m.shape.entries + m.shape.spare }
+    ensures { (shapes : List MapShape) (programs : List Loaded) (s : Schedule) (k : ℕ) (m : MapState) →
+        IsReached shapes programs s → slice_get s.machine.store.maps k ≡ Some m →
+        length m.bag + kept_count k s.machine.store.elements + m.worn ≡ slots_of_shape m.shape }
 {}
 
 /// In such a state a map has no free slot exactly when its linked elements, its unlinked ones and its worn-out
 /// slots are as many as all its slots.
 pub fn enomem_exactly()
-    ensures { (shapes : List MapShape) (programs : List Loaded) (s : Schedule) (k : ℕ) (m : MapState) → IsReached shapes programs s → slice_get s.machine.store.maps k ≡ Some m → (m.bag ≡ []) ↔ IsFull k s.machine.store.elements m }
+    ensures { (shapes : List MapShape) (programs : List Loaded) (s : Schedule) (k : ℕ) (m : MapState) →
+        IsReached shapes programs s → slice_get s.machine.store.maps k ≡ Some m →
+        (m.bag ≡ []) ↔ IsFull k s.machine.store.elements m }
 {}
 
 /// In such a state an update answers that there is no memory only when the map is full so, and none succeeds
 /// while it is.
 pub fn no_memory_when_full()
-    ensures { (shapes : List MapShape) (programs : List Loaded) (s : Schedule) (k : ℕ) (m : MapState) (key value : List ℕ) (flags : ℕ) (ret : Result (Unit {0}) Errno) (new : Store) → IsReached shapes programs s → slice_get s.machine.store.maps k ≡ Some m → Updates s.machine.store (open_sections s.machine.runs) k key value flags ret new → (ret ≡ Err NoMemory → IsFull k s.machine.store.elements m) × (IsFull k s.machine.store.elements m → ret ≢ Ok tt) }
+    ensures { (shapes : List MapShape) (programs : List Loaded) (s : Schedule) (k : ℕ) (m : MapState)
+        (key value : List ℕ) (flags : ℕ) (ret : Result (Unit {0}) Errno) (new : Store) →
+        IsReached shapes programs s → slice_get s.machine.store.maps k ≡ Some m →
+        Updates s.machine.store (open_sections s.machine.runs) k key value flags ret new →
+        (ret ≡ Err NoMemory → IsFull k s.machine.store.elements m)
+        × (IsFull k s.machine.store.elements m → ret ≢ Ok tt) }
 {}
 
 /// The world at the start tracks the state at the start, so that the relation is not empty.
 pub fn start_tracked()
-    ensures { (shapes : List MapShape) (programs : List Loaded) → AreShapes shapes → TracksSchedule (start_view shapes programs) (start_schedule shapes programs) }
+    ensures { (shapes : List MapShape) (programs : List Loaded) → AreShapes shapes →
+        TracksSchedule (start_view shapes programs) (start_schedule shapes programs) }
 {}
 
 /// In each state that a world tracks the lists are right too.
@@ -181,7 +238,8 @@ pub fn tracked_is_scheduled()
 
 /// In every run of the machine from a state that a world tracks, elements are reclaimed late.
 pub fn tracked_reclaimed_late()
-    ensures { (w : WorldView) (events : List Event) (answers : List Answer) → AreReclaimedLate Tracks w events answers }
+    ensures { (w : WorldView) (events : List Event) (answers : List Answer) →
+        AreReclaimedLate Tracks w events answers }
 {}
 
 /// A type of worlds, with the states that each of them tracks.
@@ -192,43 +250,65 @@ pub trait Tracking {
 /// Over any worlds and whatever they track: answers that are steps one after another are those of a run, and the
 /// last world tracks its last state.
 pub fn steps_make_history<World: Tracking>()
-    ensures { (old new : World) (events : List Event) (answers : List Answer) → AreSteps World.tracks old events answers new → AnswersAsHistory World.tracks old events answers new }
+    ensures { (old new : World) (events : List Event) (answers : List Answer) →
+        AreSteps World.tracks old events answers new →
+        AnswersAsHistory World.tracks old events answers new }
 {}
 
 /// Answers that are steps one after another make a run with the runtime's choices, in which the drain law holds.
 pub fn steps_make_runs()
-    ensures { (old new : WorldView) (events : List Event) (answers : List Answer) → AreSteps TracksSchedule old events answers new → AreScheduledAnswers TracksSchedule old events answers new }
+    ensures { (old new : WorldView) (events : List Event) (answers : List Answer) →
+        AreSteps TracksSchedule old events answers new →
+        AreScheduledAnswers TracksSchedule old events answers new }
 {}
 
 /// A run and one more step are a run.
 pub fn runs_grow()
-    ensures { (old mid new : WorldView) (events : List Event) (answers : List Answer) (event : Event) (answer : Answer) → AreScheduledAnswers TracksSchedule old events answers mid → AnswersAsScheduled TracksSchedule mid event answer new → AreScheduledAnswers TracksSchedule old (events ++ event ∷ []) (answers ++ answer ∷ []) new }
+    ensures { (old mid new : WorldView) (events : List Event) (answers : List Answer) (event : Event)
+        (answer : Answer) →
+        AreScheduledAnswers TracksSchedule old events answers mid →
+        AnswersAsScheduled TracksSchedule mid event answer new →
+        AreScheduledAnswers TracksSchedule old (events ++ event ∷ []) (answers ++ answer ∷ []) new }
 {}
 
 /// Answers that are those of a run, and those of a run that goes on from it, are those of one run: the drain law
 /// holds over both.
 pub fn runs_join()
-    ensures { (old mid new : WorldView) (es fs : List Event) (xs ys : List Answer) → AreScheduledAnswers TracksSchedule old es xs mid → AreScheduledAnswers TracksSchedule mid fs ys new → AreScheduledAnswers TracksSchedule old (es ++ fs) (xs ++ ys) new }
+    ensures { (old mid new : WorldView) (es fs : List Event) (xs ys : List Answer) →
+        AreScheduledAnswers TracksSchedule old es xs mid →
+        AreScheduledAnswers TracksSchedule mid fs ys new →
+        AreScheduledAnswers TracksSchedule old (es ++ fs) (xs ++ ys) new }
 {}
 
 /// From a world that tracks the start, answers that are those of a run are those of a run from the start.
 pub fn runs_from_start()
-    ensures { (shapes : List MapShape) (programs : List Loaded) (old new : WorldView) (events : List Event) (answers : List Answer) → TracksSchedule old (start_schedule shapes programs) → AreScheduledAnswers TracksSchedule old events answers new → (states : List Schedule) × IsScheduledHistory (start_schedule shapes programs) events answers states × TracksSchedule new (last_scheduled (start_schedule shapes programs) states) }
+    ensures { (shapes : List MapShape) (programs : List Loaded) (old new : WorldView)
+        (events : List Event) (answers : List Answer) →
+        TracksSchedule old (start_schedule shapes programs) →
+        AreScheduledAnswers TracksSchedule old events answers new →
+        (states : List Schedule)
+        × IsScheduledHistory (start_schedule shapes programs) events answers states
+        × TracksSchedule new (last_scheduled (start_schedule shapes programs) states) }
 {}
 
 /// Answers of a run with the runtime's choices are answers of a run of the machine.
 pub fn scheduled_is_machine()
-    ensures { (old new : WorldView) (events : List Event) (answers : List Answer) → AreScheduledAnswers TracksSchedule old events answers new → AreMachineAnswers Tracks old events answers new }
+    ensures { (old new : WorldView) (events : List Event) (answers : List Answer) →
+        AreScheduledAnswers TracksSchedule old events answers new →
+        AreMachineAnswers Tracks old events answers new }
 {}
 
 /// An answer with the runtime's choices is an answer of the machine.
 pub fn scheduled_is_machine_once()
-    ensures { (old new : WorldView) (event : Event) (answer : Answer) → AnswersAsScheduled TracksSchedule old event answer new → AnswersAsMachine Tracks old event answer new }
+    ensures { (old new : WorldView) (event : Event) (answer : Answer) →
+        AnswersAsScheduled TracksSchedule old event answer new →
+        AnswersAsMachine Tracks old event answer new }
 {}
 
-/// The word that stands for a reference is the word of the place that the reference names.
+/// The word that stands for a reference is the word of the place that the reference names, and no other is.
 pub fn words_of_places()
-    ensures { (slots : List ℕ) (es : List Element) (r : Reference) (p : Place) (w : ℕ) → IsPlaceOf slots es r p → IsReferenceWord slots es r w → pos w ≡ place_word p }
+    ensures { (slots : List ℕ) (es : List Element) (r : Reference) (w : ℕ) →
+        IsReferenceWord (element_bases slots es) r w ↔ (pos w ≡ place_word (named_place slots es r)) }
 {}
 
 /// Two near places with one word are one place: of one region, one slot and one offset.
@@ -239,4 +319,72 @@ pub fn near_words_differ()
 /// Each near place has a word of 64 bits, and it is not 0.
 pub fn near_words_fit()
     ensures { (p : Place) → IsNearPlace p → (w : ℕ) × (place_word p ≡ pos w) × (0 < w) × (w < 2 ^ 64) }
+{}
+
+/// A fresh run of a program without map references shares nothing: it refers to its own context and frame alone.
+pub fn starts_sharing_nothing()
+    ensures own { (name : ℕ) (program : Loaded) (context : List ℕ) → HasNoMaps program.code →
+        SharesNothing (fresh_run name program context) }
+{}
+
+/// And so after each of its steps.
+pub fn stays_sharing_nothing()
+    ensures own { (store new_store : Store) (opened : List Section) (run new : Run) (answer : Answer) →
+        SharesNothing run → RunStep store opened run answer new_store new → SharesNothing new }
+{}
+
+/// Other actors change nothing of a run that shares nothing: a step of it leaves the maps as they are, and it is a
+/// step with the same answer, to the same run, over any other maps and open sections.
+pub fn others_change_nothing()
+    ensures store { (store new_store : Store) (opened : List Section) (run new : Run) (answer : Answer) →
+        SharesNothing run → RunStep store opened run answer new_store new → new_store ≡ store }
+    ensures anywhere { (store new_store other : Store) (opened sections : List Section) (run new : Run)
+        (answer : Answer) →
+        SharesNothing run → RunStep store opened run answer new_store new →
+        RunStep other sections run answer other new }
+{}
+
+/// Such a run has one step at most, whatever the maps and the open sections are.
+pub fn one_step_alone()
+    ensures answer { (store new_store other other_store : Store) (opened sections : List Section)
+        (run new next : Run) (a b : Answer) →
+        SharesNothing run → RunStep store opened run a new_store new →
+        RunStep other sections run b other_store next → a ≡ b }
+    ensures run { (store new_store other other_store : Store) (opened sections : List Section)
+        (run new next : Run) (a b : Answer) →
+        SharesNothing run → RunStep store opened run a new_store new →
+        RunStep other sections run b other_store next → new ≡ next }
+{}
+
+/// A program without map references exits on a context with one value at most, after one number of steps.
+pub fn one_exit()
+    ensures steps { (program : Loaded) (context : List ℕ) (s t n k : ℕ) → HasNoMaps program.code →
+        ExitsWith program context s n → ExitsWith program context t k → s ≡ t }
+    ensures value { (program : Loaded) (context : List ℕ) (s t n k : ℕ) → HasNoMaps program.code →
+        ExitsWith program context s n → ExitsWith program context t k → n ≡ k }
+{}
+
+/// A step of an instruction is what the run does by itself, or a request that the maps serve and with whose reply the
+/// run goes on, and nothing else. A request is an access to an element, the call of a helper, or to enter a section
+/// or leave one.
+pub fn steps_by_request()
+    ensures { (i : Insn) (store new_store : Store) (opened : List Section) (run new : Run)
+        (answer : Answer) →
+        InsnStep i store opened run answer new_store new ↔
+        (StepsAlone i store run answer new_store new ⊎ StepsServed i store opened run answer new_store new) }
+{}
+
+/// An instruction that asks something does nothing by itself.
+pub fn asks_or_acts()
+    ensures { (i : Insn) (shapes : ℕ → Option MapShape) (env : Environment) (m : State)
+        (request : Request) →
+        asks i shapes m ≡ Some request → after i env m ≡ None }
+{}
+
+/// A helper's reply is of the kind of its signature.
+pub fn replies_by_signature()
+    ensures { (helper : Helper) (arguments : List Argument) (bound : List ℕ) (store new_store : Store)
+        (opened : List Section) (reply : Value) →
+        Calls helper arguments bound store opened reply new_store →
+        IsOfKind (signature_of helper).result reply }
 {}

@@ -6,7 +6,7 @@ use Rattle.std.proofs.lemmas.Nat.{and_le_r, and_mask, and_mod, and_shr, and_bloc
 use Rattle.std.specs.Int.Bits.{and_self, and_zero_l}
 use Rattle.std.proofs.lemmas.Nat.Bits.{bit_at_and, bit_at_or, bit_at_xor, same_from_bits, bit_at-lt, ones_shr}
 use Rattle.std.proofs.Math.Nat.{mod-eq_of_lt}
-use Rattle.scalar_domain.specs.Scalar.{Within}
+use Rattle.scalar_domain.specs.Mask.{Within}
 
 pub ap2 : {A B C : Type 0} (f : A → B → C) {a a' : A} {b b' : B} → a ≡ a' → b ≡ b' → f a b ≡ f a' b'
 ap2 f {a' = a'} {b = b} p q = ap (λ a. f a b) p ∙ ap (f a') q

@@ -9,7 +9,7 @@ use Rattle.std.specs.Int.Bits.{and_zero_r}
 use Rattle.std.proofs.lemmas.Nat.Bits.{and_high_mask, bit_at-trailing_zeros, same_from_bits_below, bit_at_cat_low, bit_at-zero}
 use Rattle.std.proofs.Math.Nat.{add-mod, mul-mod_left, zero-mod, mod-eq_of_lt}
 use Rattle.std.proofs.lemmas.Nat.{shr_split}
-use Rattle.scalar_domain.specs.Scalar.{Within}
+use Rattle.scalar_domain.specs.Mask.{Within}
 use Rattle.scalar_domain.proofs.Bits.{ap2, within-both}
 
 -- the low bits are zero where the mask's are

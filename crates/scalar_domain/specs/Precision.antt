@@ -1,7 +1,7 @@
 -- How narrow the results of the operations on 64 bits are, at least.
 use Rattle.std.specs.Prelude.{◌≡◌, ℕ, ◌+◌, ◌*◌, ◌/◌, ◌%◌, ◌^◌, ◌<◌, ◌≤◌}
 use Rattle.scalar_domain.specs.declared.scalar.Scalar.{Scalar}
-use Rattle.scalar_domain.specs.Scalar.{Within}
+use Rattle.scalar_domain.specs.Mask.{Within}
 
 -- A sum: where it does not wrap, the sums of the bounds; low bits that are 0 in both stay 0.
 pub record Adds (a b result : Scalar) : Type 0 where

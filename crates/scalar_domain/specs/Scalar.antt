@@ -1,10 +1,7 @@
--- What a scalar says of a number.
-use Rattle.std.specs.Prelude.{◌≡◌, ℕ, ◌≤◌, bit_and}
+-- What a scalar says of a number, and of another scalar.
+use Rattle.std.specs.Prelude.{◌≡◌, ℕ, ◌≤◌}
 use Rattle.scalar_domain.specs.declared.scalar.Scalar.{Scalar}
-
--- Each bit that is one in the number is one in the mask.
-abbrev pub Within : ℕ → ℕ → Type 0
-Within n mask = bit_and n mask ≡ n
+use Rattle.scalar_domain.specs.Mask.{Within}
 
 -- The number is one of those that the scalar stands for.
 pub record Holds (s : Scalar) (n : ℕ) : Type 0 where
@@ -13,12 +10,16 @@ pub record Holds (s : Scalar) (n : ℕ) : Type 0 where
   pub zeros : Within n s.may
   pub ones : Within s.must n
 
--- It stands for no other number than this one.
+-- It stands for this number alone.
 pub record IsConstant (s : Scalar) (n : ℕ) : Type 0 where
   pub least : s.least ≡ n
   pub greatest : s.greatest ≡ n
+  pub zeros : Within n s.may
+  pub ones : Within s.must n
 
--- Its bounds are in order, and no bit is known to be both 0 and 1.
-pub record IsPossible (s : Scalar) : Type 0 where
-  pub bounds : s.least ≤ s.greatest
-  pub bits : Within s.must s.may
+-- The bounds of the one lie within those of the other, and each bit that is known in the other is known in it.
+pub record IsNoWider (s wide : Scalar) : Type 0 where
+  pub least : wide.least ≤ s.least
+  pub greatest : s.greatest ≤ wide.greatest
+  pub zeros : Within s.may wide.may
+  pub ones : Within wide.must s.must

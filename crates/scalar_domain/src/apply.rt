@@ -6,6 +6,7 @@ ghost use Rattle.bpf_model.specs.declared.insn.AluOp.TheVariants.{Add, And, Shif
 ghost use Rattle.bpf_model.specs.declared.opcode.Size.TheVariants.{Word32, Word64};
 ghost use Rattle.scalar_domain.specs.Scalar.{Holds, IsConstant};
 ghost use Rattle.scalar_domain.specs.Precision.{Adds, Masks, ShiftsLeft, ShiftsRight};
+ghost use Rattle.scalar_domain.specs.Floor.{KeepsFloor};
 ghost use Rattle.scalar_domain.specs.Unsigned.{unsigned_form};
 
 use crate::scalar::Scalar;
@@ -16,13 +17,7 @@ impl Scalar {
     /// on 64 bits it is as narrow as `specs/Precision.antt` says.
     pub fn apply(size: Size, op: AluOp, a: Scalar, b: Scalar) -> Scalar
         ensures sound { (x y : ℕ) → x < 2 ^ 64 → y < 2 ^ 64 → Holds a x → Holds b y → Holds result (alu size op x y) }
-        ensures constant { (x y : ℕ) → IsConstant a x → IsConstant b y → IsConstant result (alu size op x y) }
-        ensures narrow { size ≡ Word32 → result.greatest < 2 ^ 32 }
-        ensures sum { (x y : ℕ) → size ≡ Word64 → op ≡ Add → Holds a x → Holds b y → Adds a b result }
-        ensures mask { (k : ℕ) → size ≡ Word64 → op ≡ And → IsConstant b k → Masks k result }
-        ensures shift_left { (k x : ℕ) → size ≡ Word64 → op ≡ ShiftLeft → IsConstant b k → k < 64 → Holds a x → ShiftsLeft k a result }
-        ensures shift_right { (k : ℕ) → size ≡ Word64 → op ≡ ShiftRight → IsConstant b k → k < 64 → ShiftsRight k a result }
-        ensures remainder { (k : ℕ) → size ≡ Word64 → op ≡ Mod → IsConstant b k → 0 < k → result.greatest < k }
+        ensures floor { KeepsFloor size op a b result }
     {
         match (a.as_constant(), b.as_constant()) {
             (Some(x), Some(y)) => Scalar::constant(alu::alu(size, op, x, y)),
@@ -37,9 +32,9 @@ impl Scalar {
 /// What an operation on 64 bits can give.
 fn apply_wide(op: AluOp, a: Scalar, b: Scalar) -> Scalar
     ensures sound { (x y : ℕ) → x < 2 ^ 64 → y < 2 ^ 64 → Holds a x → Holds b y → Holds result (operate w64 op x y) }
-    ensures sum { (x y : ℕ) → op ≡ Add → Holds a x → Holds b y → Adds a b result }
+    ensures sum { op ≡ Add → Adds a b result }
     ensures mask { (k : ℕ) → op ≡ And → IsConstant b k → Masks k result }
-    ensures shift_left { (k x : ℕ) → op ≡ ShiftLeft → IsConstant b k → k < 64 → Holds a x → ShiftsLeft k a result }
+    ensures shift_left { (k : ℕ) → op ≡ ShiftLeft → IsConstant b k → k < 64 → ShiftsLeft k a result }
     ensures shift_right { (k : ℕ) → op ≡ ShiftRight → IsConstant b k → k < 64 → ShiftsRight k a result }
     ensures remainder { (k : ℕ) → op ≡ Mod → IsConstant b k → 0 < k → result.greatest < k }
 {
@@ -77,9 +72,9 @@ fn without_sign(op: AluOp) -> AluOp
 /// What an operation on 64 bits can give; of a signed one nothing is known.
 fn apply_unsigned(op: AluOp, a: Scalar, b: Scalar) -> Scalar
     ensures sound { (x y : ℕ) → x < 2 ^ 64 → y < 2 ^ 64 → Holds a x → Holds b y → Holds result (operate w64 op x y) }
-    ensures sum { (x y : ℕ) → op ≡ Add → Holds a x → Holds b y → Adds a b result }
+    ensures sum { op ≡ Add → Adds a b result }
     ensures mask { (k : ℕ) → op ≡ And → IsConstant b k → Masks k result }
-    ensures shift_left { (k x : ℕ) → op ≡ ShiftLeft → IsConstant b k → k < 64 → Holds a x → ShiftsLeft k a result }
+    ensures shift_left { (k : ℕ) → op ≡ ShiftLeft → IsConstant b k → k < 64 → ShiftsLeft k a result }
     ensures shift_right { (k : ℕ) → op ≡ ShiftRight → IsConstant b k → k < 64 → ShiftsRight k a result }
     ensures remainder { (k : ℕ) → op ≡ Mod → IsConstant b k → 0 < k → result.greatest < k }
 {

@@ -1,38 +1,50 @@
 //! Operations of one operand.
 ghost use Rattle.std.specs.Prelude.{◌≡◌, ℕ, ◌<◌, ◌^◌};
-ghost use Rattle.bpf_model.specs.Arithmetic.{negated, reordered, moved_signed, loaded_signed};
-ghost use Rattle.scalar_domain.specs.Scalar.{Holds, IsConstant};
+ghost use Rattle.bpf_model.specs.Arithmetic.{negated, reordered, moved_signed, loaded_signed, unary};
+ghost use Rattle.bpf_model.specs.declared.insn.UnaryOp.TheVariants.{Negate, ByteSwap, MoveSigned};
+ghost use Rattle.scalar_domain.specs.Scalar.{Holds};
+ghost use Rattle.scalar_domain.specs.Floor.{KeepsUnaryFloor, result_bits};
 
 use crate::scalar::Scalar;
-use bpf_model::{ByteOrder, SignExtension, SignedWidth, Size, SwapWidth};
+use bpf_model::{ByteOrder, SignExtension, SignedWidth, Size, SwapWidth, UnaryOp};
 
 impl Scalar {
-    /// What a negation can give.
-    pub fn negate(size: Size, a: Scalar) -> Scalar
-        ensures sound { (x : ℕ) → x < 2 ^ 64 → Holds a x → Holds result (negated size x) }
-        ensures constant { (x : ℕ) → IsConstant a x → IsConstant result (negated size x) }
+    /// What an operation of one operand can give: of a constant the constant, and no more bits than the
+    /// operation's result has.
+    pub fn unary(op: UnaryOp, a: Scalar) -> Scalar
+        ensures sound { (x : ℕ) → x < 2 ^ 64 → Holds a x → Holds result (unary op x) }
+        ensures floor { KeepsUnaryFloor op a result }
     {
-        if a.least == a.greatest {
-            return Scalar::constant(alu::negate(size, a.least));
+        match a.as_constant() {
+            Some(n) => Scalar::constant(alu::unary(op, n)),
+            None => match op {
+                UnaryOp::Negate(size) => a.negate(size),
+                UnaryOp::ByteSwap { order, width } => a.byte_swap(order, width),
+                UnaryOp::MoveSigned { extension, .. } => a.move_signed(extension),
+            },
         }
+    }
+
+    /// What a negation can give.
+    fn negate(self, size: Size) -> Scalar
+        ensures sound { (x : ℕ) → x < 2 ^ 64 → Holds self x → Holds result (negated size x) }
+        ensures narrow { result.greatest < 2 ^ result_bits (Negate size) }
+    {
         match size {
-            Size::Word64 => Scalar::constant(0).subtract(a),
-            Size::Word32 => Scalar::constant(0).subtract(a.low_bits(32)).low_bits(32),
+            Size::Word64 => Scalar::constant(0).subtract(self),
+            Size::Word32 => Scalar::constant(0).subtract(self.low_bits(32)).low_bits(32),
         }
     }
 
     /// What a byte swap can give.
-    pub fn byte_swap(order: ByteOrder, width: SwapWidth, a: Scalar) -> Scalar
-        ensures sound { (x : ℕ) → x < 2 ^ 64 → Holds a x → Holds result (reordered order width x) }
-        ensures constant { (x : ℕ) → IsConstant a x → IsConstant result (reordered order width x) }
+    fn byte_swap(self, order: ByteOrder, width: SwapWidth) -> Scalar
+        ensures sound { (x : ℕ) → x < 2 ^ 64 → Holds self x → Holds result (reordered order width x) }
+        ensures narrow { result.greatest < 2 ^ result_bits (ByteSwap order width) }
     {
-        if a.least == a.greatest {
-            return Scalar::constant(alu::byte_swap(order, width, a.least));
-        }
         match (order, width) {
-            (ByteOrder::ToLittle, SwapWidth::Two) => a.low_bits(16),
-            (ByteOrder::ToLittle, SwapWidth::Four) => a.low_bits(32),
-            (ByteOrder::ToLittle, SwapWidth::Eight) => a,
+            (ByteOrder::ToLittle, SwapWidth::Two) => self.low_bits(16),
+            (ByteOrder::ToLittle, SwapWidth::Four) => self.low_bits(32),
+            (ByteOrder::ToLittle, SwapWidth::Eight) => self,
             (_, SwapWidth::Two) => Scalar::between(0, 0xffff),
             (_, SwapWidth::Four) => Scalar::between(0, 0xffff_ffff),
             (_, SwapWidth::Eight) => Scalar::unknown(),
@@ -40,20 +52,17 @@ impl Scalar {
     }
 
     /// What a move with sign extension can give. Numbers whose sign bit is 0 stay as they are.
-    pub fn move_signed(extension: SignExtension, a: Scalar) -> Scalar
-        ensures sound { (x : ℕ) → x < 2 ^ 64 → Holds a x → Holds result (moved_signed extension x) }
-        ensures constant { (x : ℕ) → IsConstant a x → IsConstant result (moved_signed extension x) }
+    fn move_signed(self, extension: SignExtension) -> Scalar
+        ensures sound { (x : ℕ) → x < 2 ^ 64 → Holds self x → Holds result (moved_signed extension x) }
+        ensures narrow { (src : ℕ) → result.greatest < 2 ^ result_bits (MoveSigned extension src) }
     {
-        if a.least == a.greatest {
-            return Scalar::constant(alu::move_signed(extension, a.least));
-        }
         let limit = match extension {
             SignExtension::ByteTo32 | SignExtension::ByteTo64 => 0x80,
             SignExtension::ShortTo32 | SignExtension::ShortTo64 => 0x8000,
             SignExtension::WordTo64 => 0x8000_0000,
         };
-        if a.greatest < limit {
-            return a;
+        if self.greatest < limit {
+            return self;
         }
         match extension {
             SignExtension::ByteTo32 | SignExtension::ShortTo32 => {
@@ -68,6 +77,6 @@ impl Scalar {
     pub fn load_signed(_width: SignedWidth) -> Scalar
         ensures sound { (n : ℕ) → Holds result (loaded_signed _width n) }
     {
-        Scalar::between(0, u64::MAX)
+        Scalar::unknown()
     }
 }

@@ -267,11 +267,11 @@ fn edges(rt: HostRuntime) {
 fn one_operand(rt: HostRuntime) {
     let byte = Scalar::loaded(Width::One);
     assert_eq!(rt;
-        Scalar::negate(Size::Word64, Scalar::constant(1)).as_constant(),
+        Scalar::unary(UnaryOp::Negate(Size::Word64), Scalar::constant(1)).as_constant(),
         Some(u64::MAX)
     );
     assert_eq!(rt;
-        Scalar::negate(Size::Word32, Scalar::constant(1)).as_constant(),
+        Scalar::unary(UnaryOp::Negate(Size::Word32), Scalar::constant(1)).as_constant(),
         Some(0xffff_ffff)
     );
     assert_eq!(rt;

@@ -1,28 +1,40 @@
-use Rattle.std.proofs.Common.{◌≡◌, refl, subst, true, false}
+use Rattle.std.proofs.Common.{◌≡◌, refl, sym, ◌∙◌, subst, true, false, inl, inr}
 use Rattle.bpf_model.specs.declared.insn.Insn.TheVariants.{JumpIf}
-use Rattle.abstract_state.specs.State.{Keeps}
-use Rattle.abstract_state.proofs.Jumps.{narrows, fork_transfers, fork_keeps}
+use Rattle.scalar_domain.specs.Floor.{KeepsEdgeFloor}
+use Rattle.abstract_state.specs.declared.kind.RegKind.TheVariants.{Num}
+use Rattle.abstract_state.proofs.Jumps.{narrows, fork_transfers, fork_keeps, fork_compares, refines_known}
 use Rattle.abstract_state.proofs.state.AbsState.fork.Goals as goal
 
 pub returns : goal.returns
 returns c =
     let a = c.args.self.now in
-    let same = c.in_ok-taken.ensures in
+    let same : c.deref_mut.result.now ≡ a = c.deref_mut.ensures.value ∙ c.in_ok-taken.ensures in
     let yea = rw same at c.narrow.ensures in
-    λ offset ctx_len maps. record {
-      sound = fork_transfers c.args.condition c.args.size c.args.dst c.args.src.now offset c.in_ok-x.x c.in_ok-x.y a c.narrow-2.new.self c.narrow.new.self
-          c.in_ok-x.ensures.left c.in_ok-x.ensures.right
-          (narrows c.args.condition c.args.size c.args.dst c.args.src.now c.in_ok-x.x c.in_ok-x.y _ _ true a c.narrow.new.self c.refine.ensures.sound yea.sound)
-          (narrows c.args.condition c.args.size c.args.dst c.args.src.now c.in_ok-x.x c.in_ok-x.y _ _ false a c.narrow-2.new.self c.refine-2.ensures.sound c.narrow-2.ensures.sound)
-          ctx_len maps;
-      reaches = λ b m e d. cc;
-      branches = λ _. refl;
+    let nay = c.narrow-2.ensures in
+    let condition = c.args.condition in
+    let size = c.args.size in
+    let dst = c.args.dst in
+    let src = c.args.src.now in
+    λ offset shape. record {
       accepts = λ _. tt;
       memory = tt;
       unchanged = tt;
-      keeps = fork_keeps c.args.condition c.args.size c.args.dst c.args.src.now offset a c.narrow-2.new.self c.narrow-2.ensures.numbers c.narrow-2.ensures.others c.narrow-2.ensures.frame;
-      keeps_taken = λ ready t e.
-          let same_t : c.narrow.new.self ≡ t = cc in
-          subst (λ t. Keeps (JumpIf c.args.condition c.args.size c.args.dst c.args.src.now offset) a t) same_t
-          (fork_keeps c.args.condition c.args.size c.args.dst c.args.src.now offset a c.narrow.new.self yea.numbers yea.others yea.frame ready);
+      done = record {
+        sound = fork_transfers condition size dst src offset c.in_ok-x.x c.in_ok-x.y a c.narrow-2.new.self c.narrow.new.self
+            c.in_ok-x.ensures.left c.in_ok-x.ensures.right_sound
+            (narrows condition size dst src c.in_ok-x.x c.in_ok-x.y _ _ true a c.narrow.new.self c.refine.ensures.sound yea.sound)
+            (narrows condition size dst src c.in_ok-x.x c.in_ok-x.y _ _ false a c.narrow-2.new.self c.refine-2.ensures.sound nay.sound)
+            shape;
+        region = λ b m e d. cc;
+        compares = λ r m h d. fork_compares dst src c.in_ok-x.x c.in_ok-x.y a r m c.in_ok-x.ensures.left (c.in_ok-x.ensures.right_sound m d) h d;
+        branches = λ _. refl;
+        keeps = fork_keeps condition size dst src offset a c.narrow-2.new.self nay.numbers (λ r _ t. nay.others r (λ e. t (inl e)) (λ n. t (inr n))) nay.frame;
+        keeps_taken = fork_keeps condition size dst src offset a c.narrow.new.self yea.numbers (λ r _ t. yea.others r (λ e. t (inl e)) (λ n. t (inr n))) yea.frame;
+        loads = tt;
+        computes = tt;
+        refines = refines_known condition size false dst src c.in_ok-x.x c.in_ok-x.y _ _ offset a c.narrow-2.new.self c.in_ok-x.ensures.left c.in_ok-x.ensures.right nay.first nay.second c.refine-2.ensures.floor;
+        refines_taken = refines_known condition size true dst src c.in_ok-x.x c.in_ok-x.y _ _ offset a c.narrow.new.self c.in_ok-x.ensures.left c.in_ok-x.ensures.right yea.first yea.second c.refine.ensures.floor;
+        others = λ r _ t. nay.others r (λ e. t (inl e)) (λ n. t (inr n));
+        others_taken = λ r _ t. yea.others r (λ e. t (inl e)) (λ n. t (inr n));
+      };
     }

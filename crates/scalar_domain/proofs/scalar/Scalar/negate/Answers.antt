@@ -8,7 +8,7 @@ use Rattle.scalar_domain.proofs.scalar.Scalar.negate.Goals as goal
 pub returns-in-Word64-clause-sound : goal.returns-in-Word64-clause-sound
 returns-in-Word64-clause-sound c = λ x p h.
     subst (Holds c.subtract.result) (sym (ap (λ s. negated s x) c.in-Word64.is ∙ negated_difference x p))
-    (c.subtract.ensures 0 x (omega arith) p c.constant-in-Word64.ensures.sound h)
+    (c.subtract.ensures 0 x (omega arith) p c.constant.ensures.sound h)
 
 pub returns-in-Word32-clause-sound : goal.returns-in-Word32-clause-sound
 returns-in-Word32-clause-sound c = λ x p h.

@@ -1,0 +1,165 @@
+-- Calls of a described run.
+use Rattle.std.proofs.Common.{◌≡◌, ℕ, ◌+◌, ◌-◌, ◌<◌, List, Option, Some, None, inl, refl, sym, ap, subst, ◌∙◌, ℤ, arith, true, false}
+use Rattle.std.specs.Prelude.{slice_get}
+use Rattle.bpf_model.specs.declared.limits.MapShape.{MapShape}
+use Rattle.bpf_model.specs.declared.limits.TheConstants.{MAX_DEPTH}
+use Rattle.bpf_model.specs.declared.insn.Insn.{Insn}
+use Rattle.bpf_model.specs.declared.insn.Insn.TheVariants.{Call}
+use Rattle.bpf_model.specs.declared.insn.CallKind.TheVariants as kinds
+use Rattle.bpf_model.specs.declared.call.Helper.TheVariants as helpers
+use Rattle.bpf_model.specs.declared.call.KernelFunction.TheVariants.{ReadLock, ReadUnlock}
+use Rattle.bpf_model.specs.declared.event.Answer.TheVariants.{Moved}
+use Rattle.bpf_model.specs.declared.value.Value.{Value}
+use Rattle.bpf_model.specs.declared.value.Value.TheVariants.{Nothing}
+use Rattle.bpf_model.specs.declared.value.Cell.{Cell}
+use Rattle.bpf_model.specs.Call.{helper_of, kernel_function_of}
+use Rattle.bpf_model.specs.Spelling.{slot_count}
+use Rattle.bpf_model.specs.Graph.{falls}
+use Rattle.bpf_model.specs.Step.{State}
+use Rattle.bpf_model.specs.Section.{Section}
+use Rattle.bpf_model.specs.Element.{Element}
+use Rattle.bpf_model.specs.MapState.{Store}
+use Rattle.bpf_model.specs.Helper.{LooksUp}
+use Rattle.bpf_model.specs.Machine.{Run, section_of, moves, locked, unlocked}
+use Rattle.bpf_model.specs.MachineStep.{KernelStep, HelperStep, LookupStep, found_value, returns, map_argument}
+use Rattle.typed_runs.specs.Kinds.{Kind, Blank, Mixed, Ended, Num, CtxAt, FrameAt, MapAt, ValueAt, MaybeNull, CellKind, BlankCell, MixedCell, EndedCell, ByteCell, PartCell, AbsState}
+use Rattle.typed_runs.specs.Describes.{Scene, scene_of, IsGuarded, Naming, IsNullOrHeld, IsOf, Stored, IsOfCell, Describes, depth_of}
+use Rattle.typed_runs.specs.Effects.{after_call, after_lock, after_unlock, ended_kind, ended_cell, IsFresh, HasMap, HasBytes}
+use Rattle.typed_runs.specs.Verified.{AllBytes, Leads, Transfers}
+use Rattle.typed_runs.proofs.Kept.{HoldsOn, of-kept, cell-kept}
+use Rattle.typed_runs.proofs.Sets.{returned-of, near-returned, named-described}
+use Rattle.typed_runs.proofs.Finding.{looks-up}
+use Rattle.typed_runs.proofs.Arguments.{bound, map-listed, map-is, key-is}
+
+-- control falls through
+pub falls-to : (i : Insn) (new : AbsState) (taken : Option AbsState) (es : List Element) (run : Run) (next : State) (place : ℕ) (new_run : Run) → falls i ≡ true → next.place ≡ place + slot_count i → Describes new (scene_of es run) next →
+    new_run ≡ moves run next → Leads i new taken place es new_run
+falls-to i new taken es run next place new_run f at d e = subst (λ (r : Run). Leads i new taken place es r) (sym e) (λ going. inl (f, at, d))
+
+same-bytes : (s new : Store) → new ≡ s → AllBytes s.elements → AllBytes new.elements
+same-bytes s new e h = subst (λ (x : Store). AllBytes x.elements) (sym e) h
+
+-- what is known inside a section
+inside-deep : (a : AbsState) (c : Scene) (m : State) → Describes a c m → a.inside ≡ true → c.depth ≡ 1
+inside-deep a c m d e = d.inside ∙ ap depth_of e
+
+outside-deep : (a : AbsState) (c : Scene) (m : State) → Describes a c m → a.inside ≡ false → c.depth ≡ 0
+outside-deep a c m d e = d.inside ∙ ap depth_of e
+
+-- a lock: outside every section nothing is held
+lock-described : (a : AbsState) (es : List Element) (run : Run) → a.inside ≡ false → Describes a (scene_of es run) run.state → Describes (after_lock a) (scene_of es (locked run)) (returns Nothing run.state)
+lock-described a es run e d =
+    let c : Scene = scene_of es run in
+    let n : Scene = scene_of es (locked run) in
+    let out : run.depth ≡ 0 = outside-deep a c run.state d e in
+    let k : HoldsOn c n = λ map b h. let inside : 0 < run.depth = h.inside in absurd (omega arith) in record {
+      naming = d.naming;
+      stored = d.stored;
+      inside = ap (λ x. x + 1) out;
+      near = near-returned Nothing run.state tt d.near;
+      regs = λ q. returned-of n d.naming q Blank Nothing a.regs run.state tt (of-kept c n k d.naming (a.regs q) (run.state.regs q) (d.regs q));
+      cells = λ i. cell-kept c n k d.naming d.stored i (a.cells i) (run.state.frame i) (d.cells i);
+    }
+
+kernel-locks : (imm : ℤ) (run new : Run) → kernel_function_of imm ≡ Some ReadLock → KernelStep (kernel_function_of imm) run new → (run.depth < MAX_DEPTH) × (new ≡ moves (locked run) (returns Nothing run.state))
+kernel-locks imm run new e h = subst (λ f. KernelStep f run new) e h
+
+pub lock_transfers : (imm : ℤ) (shapes : List MapShape) (ctx_len : ℕ) (a : AbsState) → kernel_function_of imm ≡ Some ReadLock → a.inside ≡ false → Transfers (Call kinds.Kernel imm) shapes ctx_len a (after_lock a) None
+lock_transfers imm shapes ctx_len a f out = record {
+  goes = λ s opened run w d.
+      let o : run.depth ≡ 0 = outside-deep a (scene_of s.elements run) run.state d out in
+      let one : MAX_DEPTH ≡ 1 = refl in
+      let room : run.depth < MAX_DEPTH = omega arith in
+      (Moved, s, moves (locked run) (returns Nothing run.state), (subst (λ g. KernelStep g run (moves (locked run) (returns Nothing run.state))) (sym f) (room, refl), refl, refl));
+  leads = λ s opened run answer new_store new_run w d h.
+      let k = kernel-locks imm run new_run f h.0 in (
+        same-bytes s new_store h.2 w.bytes,
+        subst (λ (x : Store). Leads (Call kinds.Kernel imm) (after_lock a) None run.state.place x.elements new_run) (sym h.2)
+            (falls-to (Call kinds.Kernel imm) (after_lock a) None s.elements (locked run) (returns Nothing run.state) run.state.place new_run refl refl (lock-described a s.elements run out d) k.1),
+      );
+}
+
+-- an unlock: nothing that may be an element is known any longer
+ended-of : (c n : Scene) (ρ : Naming) (k : Kind) (v : Value) → IsOf c ρ k v → IsOf n ρ (ended_kind k) v
+ended-of c n ρ Blank v h = tt
+ended-of c n ρ Mixed v h = tt
+ended-of c n ρ Ended v h = tt
+ended-of c n ρ (Num s) v h = h
+ended-of c n ρ (CtxAt o) v h = h
+ended-of c n ρ (FrameAt o) v h = h
+ended-of c n ρ (MapAt map) v h = h
+ended-of c n ρ (ValueAt map s) v h = tt
+ended-of c n ρ (MaybeNull map id) v h = tt
+
+ended-cell : (c n : Scene) (ρ : Naming) (σ : Stored) (i : ℕ) (k : CellKind) (x : Cell) → IsOfCell c ρ σ i k x → IsOfCell n ρ σ i (ended_cell k) x
+ended-cell c n ρ σ i BlankCell x h = tt
+ended-cell c n ρ σ i MixedCell x h = tt
+ended-cell c n ρ σ i EndedCell x h = tt
+ended-cell c n ρ σ i ByteCell x h = h
+ended-cell c n ρ σ i (PartCell Blank) x h = h
+ended-cell c n ρ σ i (PartCell Mixed) x h = h
+ended-cell c n ρ σ i (PartCell Ended) x h = h
+ended-cell c n ρ σ i (PartCell (Num s)) x h = h
+ended-cell c n ρ σ i (PartCell (CtxAt o)) x h = h
+ended-cell c n ρ σ i (PartCell (FrameAt o)) x h = h
+ended-cell c n ρ σ i (PartCell (MapAt map)) x h = h
+ended-cell c n ρ σ i (PartCell (ValueAt map s)) x h = tt
+ended-cell c n ρ σ i (PartCell (MaybeNull map id)) x h = tt
+
+unlock-described : (a : AbsState) (es : List Element) (run : Run) → a.inside ≡ true → Describes a (scene_of es run) run.state → Describes (after_unlock a) (scene_of es (unlocked run)) (returns Nothing run.state)
+unlock-described a es run e d =
+    let c : Scene = scene_of es run in
+    let n : Scene = scene_of es (unlocked run) in record {
+      naming = d.naming;
+      stored = d.stored;
+      inside = ap (λ x. x - 1) (inside-deep a c run.state d e);
+      near = near-returned Nothing run.state tt d.near;
+      regs = λ q. returned-of n d.naming q Blank Nothing (λ r. ended_kind (a.regs r)) run.state tt (ended-of c n d.naming (a.regs q) (run.state.regs q) (d.regs q));
+      cells = λ i. ended-cell c n d.naming d.stored i (a.cells i) (run.state.frame i) (d.cells i);
+    }
+
+pub unlock_transfers : (imm : ℤ) (shapes : List MapShape) (ctx_len : ℕ) (a : AbsState) → kernel_function_of imm ≡ Some ReadUnlock → a.inside ≡ true → Transfers (Call kinds.Kernel imm) shapes ctx_len a (after_unlock a) None
+unlock_transfers imm shapes ctx_len a f into = record {
+  goes = λ s opened run w d.
+      let o : run.depth ≡ 1 = inside-deep a (scene_of s.elements run) run.state d into in
+      let deep : 0 < run.depth = omega arith in
+      (Moved, s, moves (unlocked run) (returns Nothing run.state), (subst (λ g. KernelStep g run (moves (unlocked run) (returns Nothing run.state))) (sym f) (deep, refl), refl, refl));
+  leads = λ s opened run answer new_store new_run w d h.
+      let k : KernelStep (Some ReadUnlock) run new_run = subst (λ g. KernelStep g run new_run) f h.0 in (
+        same-bytes s new_store h.2 w.bytes,
+        subst (λ (x : Store). Leads (Call kinds.Kernel imm) (after_unlock a) None run.state.place x.elements new_run) (sym h.2)
+            (falls-to (Call kinds.Kernel imm) (after_unlock a) None s.elements (unlocked run) (returns Nothing run.state) run.state.place new_run refl refl (unlock-described a s.elements run into d) k.1),
+      );
+}
+
+-- a lookup: what is found is linked
+null-or-held : (es : List Element) (run : Run) (map number : ℕ) (s : Store) (key : List ℕ) (found : Option ℕ) → s.elements ≡ es → 0 < run.depth → slice_get run.program.maps map ≡ Some number → LooksUp s number key found → IsNullOrHeld (scene_of s.elements run) map found
+null-or-held es run map number s key None e deep at l = tt
+null-or-held es run map number s key (Some n) e deep at l =
+    record { inside = deep; element = l.element; born = l.born; in_map = at ∙ ap Some (sym l.in_map); guarded = subst (λ x. IsGuarded x (section_of run)) (sym l.linked) tt }
+
+lookup-leads : (imm : ℤ) (a : AbsState) (map id : ℕ) (s : Store) (opened : List Section) (run : Run) (ret : Value) (new_run : Run) → a.inside ≡ true → a.regs 1 ≡ MapAt map → IsFresh id a → (d : Describes a (scene_of s.elements run) run.state) →
+    map_argument run ≡ slice_get run.program.maps map → LookupStep s run ret → new_run ≡ moves run (returns ret run.state) → Leads (Call kinds.Helper imm) (after_call (MaybeNull map id) a) None run.state.place s.elements new_run
+lookup-leads imm a map id s opened run ret new_run into e fresh d listed h same =
+    let o : run.depth ≡ 1 = inside-deep a (scene_of s.elements run) run.state d into in
+    let held : IsNullOrHeld (scene_of s.elements run) map h.found = null-or-held s.elements run map h.map s h.key h.found refl (omega arith) (sym listed ∙ h.map_is) h.looked_up in
+    falls-to (Call kinds.Helper imm) (after_call (MaybeNull map id) a) None s.elements run (returns ret run.state) run.state.place new_run refl refl
+    (subst (λ v. Describes (after_call (MaybeNull map id) a) (scene_of s.elements run) (returns v run.state)) (sym h.ret_is) (named-described a (scene_of s.elements run) run.state map id h.found fresh d held)) same
+
+pub lookup_transfers : (imm : ℤ) (shapes : List MapShape) (ctx_len : ℕ) (a : AbsState) (map id : ℕ) (shape : MapShape) → helper_of imm ≡ Some helpers.Lookup → a.inside ≡ true → HasMap shapes a map shape → HasBytes a 2 shape.key_len → IsFresh id a →
+    Transfers (Call kinds.Helper imm) shapes ctx_len a (after_call (MaybeNull map id) a) None
+lookup_transfers imm shapes ctx_len a map id shape f into m key fresh = record {
+  goes = λ s opened run w d.
+      let b = bound shapes ctx_len s opened run map shape w m.shape_is in
+      let k = key-is shapes s run a map shape d m b key in
+      let l = looks-up s b.number k.0 in
+      let step : LookupStep s run (found_value l.0) = record { map = b.number; key = k.0; found = l.0; map_is = map-is shapes s run a map shape d m b; key_is = k.1; looked_up = l.1; ret_is = refl } in
+      (Moved, s, moves run (returns (found_value l.0) run.state), (found_value l.0, subst (λ g. HelperStep g s opened run (found_value l.0) s) (sym f) (step, refl), refl, refl));
+  leads = λ s opened run answer new_store new_run w d h.
+      let k : HelperStep (Some helpers.Lookup) s opened run h.0 new_store = subst (λ g. HelperStep g s opened run h.0 new_store) f h.1 in
+      let b = bound shapes ctx_len s opened run map shape w m.shape_is in (
+        same-bytes s new_store k.1 w.bytes,
+        subst (λ (x : Store). Leads (Call kinds.Helper imm) (after_call (MaybeNull map id) a) None run.state.place x.elements new_run) (sym k.1)
+            (lookup-leads imm a map id s opened run h.0 new_run into m.map_is fresh d (map-listed shapes s run a map shape d m b) k.0 h.3),
+      );
+}

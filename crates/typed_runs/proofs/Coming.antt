@@ -1,0 +1,93 @@
+-- Where a run that stands in a slot after a step comes from.
+use Rattle.std.proofs.Common.{◌≡◌, ℕ, List, length, Option, Some, None, inl, inr, refl, sym, ap, subst, ◌∙◌, Bool, true, false}
+use Rattle.std.specs.Prelude.{slice_get, slice_set, ◌==◌, if◌then◌else◌}
+use Rattle.std.proofs.lemmas.Bool.{eqb-true}
+use Rattle.std.proofs.lemmas.Option.{none-some, same_Some}
+use Rattle.bpf_model.specs.declared.event.Event.{Event}
+use Rattle.bpf_model.specs.declared.event.Event.TheVariants as events
+use Rattle.bpf_model.specs.declared.event.Answer.{Answer}
+use Rattle.bpf_model.specs.declared.event.Answer.TheVariants as answers
+use Rattle.bpf_model.specs.declared.event.EventRefusal.{EventRefusal}
+use Rattle.bpf_model.specs.declared.event.EventRefusal.TheVariants.{BadContext}
+use Rattle.bpf_model.specs.Machine.{Loaded, Run, Machine, open_sections, fresh_run, lowest_free, run_at}
+use Rattle.bpf_model.specs.MachineStep.{RunStep, StepsRun}
+use Rattle.bpf_model.specs.Event.{Performs, Answers, Does, Starts, refusal, start_refusal, if_full, AreBytes, IsReal}
+use Rattle.model_laws.proofs.Sections.{run-set_cases}
+
+pub record FreshRun (m new : Machine) (run : Run) : Type 0 where
+  pub place : ℕ
+  pub program : Loaded
+  pub loaded : slice_get m.programs place ≡ Some program
+  pub context : List ℕ
+  pub long : length context ≡ program.context_len
+  pub bytes : AreBytes context
+  pub is : fresh_run m.started program context ≡ run
+
+pub record SteppedRun (m new : Machine) (r : ℕ) (run : Run) : Type 0 where
+  pub old : Run
+  pub there : run_at m.runs r ≡ Some old
+  pub going : old.exit ≡ None
+  pub answer : Answer
+  pub step : RunStep m.store (open_sections m.runs) old answer new.store run
+
+pub data Comes (m new : Machine) (r : ℕ) (run : Run) : Type 0 where
+  Stands : run_at m.runs r ≡ Some run → Comes m new r run
+  Starting : FreshRun m new run → Comes m new r run
+  Stepping : SteppedRun m new r run → Comes m new r run
+
+stands : (m new : Machine) (r : ℕ) (run : Run) → new.runs ≡ m.runs → run_at new.runs r ≡ Some run → Comes m new r run
+stands m new r run e at = Stands (ap (λ l. run_at l r) (sym e) ∙ at)
+
+context-fits : (b : Bool) (o : Option ℕ) → (if b then if_full o else Some BadContext) ≡ None → b ≡ true
+context-fits true o h = refl
+context-fits false o h = absurd (cc)
+
+comes-start : (m : Machine) (prog : ℕ) (ctx : List ℕ) (r : ℕ) (new : Machine) → AreBytes ctx → start_refusal (slice_get m.programs prog) (length ctx) (lowest_free m.runs) ≡ None → Starts m prog ctx r new → (q : ℕ) (run : Run) → run_at new.runs q ≡ Some run → Comes m new q run
+comes-start m prog ctx r new real pass h q run at =
+    let runs : new.runs ≡ slice_set m.runs r (Some (fresh_run m.started h.program ctx)) = ap (λ x. x.runs) h.new_is in
+    let fits : (length ctx == h.program.context_len) ≡ true = context-fits _ (lowest_free m.runs) (ap (λ o. start_refusal o (length ctx) (lowest_free m.runs)) (sym h.there) ∙ pass) in
+    elim (run-set_cases m.runs r q (Some (fresh_run m.started h.program ctx)) run (ap (λ l. run_at l q) (sym runs) ∙ at)) [
+      | inl x ↦ Starting (record { place = prog; program = h.program; loaded = h.there; context = ctx; long = eqb-true _ _ fits; bytes = real; is = same_Some _ _ x.1 })
+      | inr x ↦ Stands x.1
+    ]
+
+comes-step : (m : Machine) (r : ℕ) (answer : Answer) (new : Machine) → StepsRun m r answer new → (q : ℕ) (run : Run) → run_at new.runs q ≡ Some run → Comes m new q run
+comes-step m r answer new h q run at =
+    let runs : new.runs ≡ slice_set m.runs r (Some h.new_run) = ap (λ x. x.runs) h.new_is in
+    let store : h.new_store ≡ new.store = ap (λ x. x.store) (sym h.new_is) in
+    elim (run-set_cases m.runs r q (Some h.new_run) run (ap (λ l. run_at l q) (sym runs) ∙ at)) [
+      | inl x ↦ Stepping (record {
+        old = h.run;
+        there = ap (run_at m.runs) x.0 ∙ h.there;
+        going = h.going;
+        answer = answer;
+        step = subst (λ s. RunStep m.store (open_sections m.runs) h.run answer s run) store (subst (λ y. RunStep m.store (open_sections m.runs) h.run answer h.new_store y) (same_Some _ _ x.1) h.step);
+      })
+      | inr x ↦ Stands x.1
+    ]
+
+comes-drop : (m new : Machine) (r : ℕ) → new.runs ≡ slice_set m.runs r None → (q : ℕ) (run : Run) → run_at new.runs q ≡ Some run → Comes m new q run
+comes-drop m new r e q run at = elim (run-set_cases m.runs r q None run (ap (λ l. run_at l q) (sym e) ∙ at)) [
+  | inl x ↦ absurd (none-some run x.1)
+  | inr x ↦ Stands x.1
+]
+
+performs-comes : (m : Machine) (event : Event) (answer : Answer) (new : Machine) → IsReal event → refusal m event ≡ None → Performs m event answer new → (q : ℕ) (run : Run) → run_at new.runs q ≡ Some run → Comes m new q run
+performs-comes m (events.Start prog ctx) (answers.Started r) new real pass h q run at = comes-start m prog ctx.items r new real.1 pass h q run at
+performs-comes m (events.Step r) answer new real pass h q run at = comes-step m r answer new h q run at
+performs-comes m (events.Update map key value flags) (answers.Ret ret) new real pass h q run at = stands m new q run (ap (λ x. x.runs) h.2) at
+performs-comes m (events.Delete map key) (answers.Ret ret) new real pass h q run at = stands m new q run (ap (λ x. x.runs) h.2) at
+performs-comes m (events.Read map key) (answers.Found (Some value)) new real pass h q run at = stands m new q run (ap (λ x. x.runs) h.1) at
+performs-comes m (events.Read map key) (answers.Found None) new real pass h q run at = stands m new q run (ap (λ x. x.runs) h.1) at
+performs-comes m events.Advance answers.Done new real pass h q run at = stands m new q run (ap (λ x. x.runs) h) at
+performs-comes m events.Reap (answers.Reaped None) new real pass h q run at = stands m new q run (ap (λ x. x.runs) h) at
+performs-comes m events.Reap (answers.Reaped (Some reaped)) new real pass h q run at = stands m new q run (ap (λ x. x.runs) h.6) at
+performs-comes m (events.Drop r) answers.Done new real pass h q run at = comes-drop m new r (ap (λ x. x.runs) h) q run at
+performs-comes m event answer new real pass h q run at = absurd h
+
+answers-come : (o : Option EventRefusal) (m : Machine) (event : Event) (answer : Answer) (new : Machine) → IsReal event → refusal m event ≡ o → Answers o m event answer new → (q : ℕ) (run : Run) → run_at new.runs q ≡ Some run → Comes m new q run
+answers-come None m event answer new real pass h q run at = performs-comes m event answer new real pass h q run at
+answers-come (Some k) m event answer new real pass h q run at = stands m new q run (ap (λ x. x.runs) h.1) at
+
+pub does-come : (m new : Machine) (event : Event) (answer : Answer) → IsReal event → Does m event answer new → (q : ℕ) (run : Run) → run_at new.runs q ≡ Some run → Comes m new q run
+does-come m new event answer real h q run at = answers-come (refusal m event) m event answer new real refl h q run at

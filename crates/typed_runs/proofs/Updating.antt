@@ -1,0 +1,131 @@
+-- Updates and deletes by a described run.
+use Rattle.std.proofs.Common.{◌≡◌, ℕ, ◌<◌, ◌^◌, List, [], ◌∷◌, ◌++◌, length, Option, Some, None, refl, sym, ap, subst, ◌∙◌, ℤ, arith, Bool, true, false, Result, Ok, Err}
+use Rattle.std.specs.Prelude.{slice_get, slice_set, if◌then◌else◌, ◌==◌, ◌&&◌, is_some, not, nat_le, nat_lt}
+use Rattle.std.proofs.lemmas.Option.{same_Some}
+use Rattle.bpf_model.specs.declared.limits.MapShape.{MapShape}
+use Rattle.bpf_model.specs.declared.insn.Insn.TheVariants.{Call}
+use Rattle.bpf_model.specs.declared.insn.CallKind.TheVariants as kinds
+use Rattle.bpf_model.specs.declared.call.Helper.TheVariants as helpers
+use Rattle.bpf_model.specs.declared.call.Errno.{Errno}
+use Rattle.bpf_model.specs.declared.call.Errno.TheVariants.{NoEntry, TooBig, NoMemory, Exists, InvalidArgument}
+use Rattle.bpf_model.specs.declared.event.Answer.{Answer}
+use Rattle.bpf_model.specs.declared.event.Answer.TheVariants.{Moved}
+use Rattle.bpf_model.specs.declared.value.Value.{Value}
+use Rattle.bpf_model.specs.declared.value.Value.TheVariants.{Number}
+use Rattle.bpf_model.specs.Value.{number}
+use Rattle.bpf_model.specs.Call.{helper_of, ret_word}
+use Rattle.bpf_model.specs.Section.{Section}
+use Rattle.bpf_model.specs.Element.{linked_count, unlinked}
+use Rattle.bpf_model.specs.MapState.{MapState, Store, with_bag, with_elements}
+use Rattle.bpf_model.specs.Helper.{Updates, Settles, Replaces, Removes, update_error, newborn}
+use Rattle.bpf_model.specs.Machine.{Run, moves}
+use Rattle.bpf_model.specs.MachineStep.{InsnStep, HelperStep, UpdateStep, DeleteStep, returns, value_argument}
+use Rattle.bpf_model.specs.Event.{AreBytes}
+use Rattle.scalar_domain.specs.Scalar.{Holds}
+use Rattle.scalar_domain.specs.declared.scalar.Scalar.{Scalar}
+use Rattle.typed_runs.specs.Kinds.{Num, AbsState}
+use Rattle.bpf_model.specs.Near.{IsNear}
+use Rattle.typed_runs.specs.Describes.{scene_of, Describes}
+use Rattle.typed_runs.specs.Effects.{after_call, HasMap, HasBytes}
+use Rattle.typed_runs.specs.Verified.{Surrounds, HasStep, Leads, Transfers}
+use Rattle.typed_runs.proofs.Kept.{describes-kept, insn-keeps}
+use Rattle.typed_runs.proofs.Valued.{bytes-updates, bytes-deletes}
+use Rattle.typed_runs.proofs.Sets.{returned-described}
+use Rattle.typed_runs.proofs.Finding.{looks-up}
+use Rattle.typed_runs.proofs.Arguments.{reg-is, bound, map-is, key-is, value-is}
+use Rattle.typed_runs.proofs.Calls.{falls-to}
+
+ret-fits : (r : Result (Unit {0}) Errno) → ret_word r < 2 ^ 64
+ret-fits (Ok u) = omega arith
+ret-fits (Err NoEntry) = omega arith
+ret-fits (Err TooBig) = omega arith
+ret-fits (Err NoMemory) = omega arith
+ret-fits (Err Exists) = omega arith
+ret-fits (Err InvalidArgument) = omega arith
+
+-- where each test passes a slot is free
+bag-has : (bag : List ℕ) → (length bag == 0) ≡ false → (c : ℕ) × (rest : List ℕ) × (bag ≡ c ∷ rest)
+bag-has [] h = absurd (cc)
+bag-has (c ∷ rest) h = (c, rest, refl)
+
+last-false : (a b c d e : Bool) (p q r s t : Errno) → (if a then Some p else if b then Some q else if c then Some r else if d then Some s else if e then Some t else None) ≡ None → e ≡ false
+last-false true b c d e p q r s t h = absurd (cc)
+last-false false true c d e p q r s t h = absurd (cc)
+last-false false false true d e p q r s t h = absurd (cc)
+last-false false false false true e p q r s t h = absurd (cc)
+last-false false false false false true p q r s t h = absurd (cc)
+last-false false false false false false p q r s t h = refl
+
+slot-free : (flags : ℕ) (present : Bool) (linked : ℕ) (m : MapState) → update_error flags present linked m ≡ None → (c : ℕ) × (rest : List ℕ) × (m.bag ≡ c ∷ rest)
+slot-free flags present linked m h = bag-has m.bag (last-false (nat_lt 2 flags) ((flags == 1) && present) ((flags == 2) && not present) (not present && nat_le m.shape.entries linked) (length m.bag == 0) _ _ _ _ _ h)
+
+settles : (error : Option Errno) (s : Store) (opened : List Section) (map : ℕ) (m : MapState) (key value : List ℕ) (found : Option ℕ) → (error ≡ None → (c : ℕ) × (rest : List ℕ) × (m.bag ≡ c ∷ rest)) →
+    (ret : Result (Unit {0}) Errno) × (new : Store) × Settles error ret s new (Replaces s opened map m key value found new)
+settles (Some e) s opened map m key value found f = (Err e, s, (refl, refl))
+settles None s opened map m key value found f =
+    let b = f refl in
+    let new : Store = record { elements = unlinked opened s.elements found ++ newborn map key value b.0 ∷ []; maps = slice_set s.maps map (with_bag b.1 m) } in
+    (Ok tt, new, (refl, record { count = b.0; bag = b.1; taken = record { before = []; after = b.1; old_is = b.2; new_is = refl }; new_is = refl }))
+
+updates : (s : Store) (opened : List Section) (map : ℕ) (m : MapState) (key value : List ℕ) (flags : ℕ) → slice_get s.maps map ≡ Some m → (ret : Result (Unit {0}) Errno) × (new : Store) × Updates s opened map key value flags ret new
+updates s opened map m key value flags at =
+    let l = looks-up s map key in
+    let x = settles (update_error flags (is_some l.0) (linked_count map s.elements) m) s opened map m key value l.0 (slot-free flags (is_some l.0) (linked_count map s.elements) m) in
+    (x.0, x.1, record { state = m; there = at; found = l.0; lookup = l.1; settled = x.2 })
+
+removes : (found : Option ℕ) (s : Store) (opened : List Section) → (ret : Result (Unit {0}) Errno) × (new : Store) × Removes found opened ret s new
+removes None s opened = (Err NoEntry, s, (refl, refl))
+removes (Some n) s opened = (Ok tt, with_elements (unlinked opened s.elements (Some n)) s, (refl, refl))
+
+-- the run goes on with a number in r0, among the elements after the call
+call-leads : (imm : ℤ) (t : Scalar) (a : AbsState) (s new_store : Store) (opened : List Section) (run new_run : Run) (answer : Answer) (ret : Value) (r : Result (Unit {0}) Errno) (shapes : List MapShape) (ctx_len : ℕ) → ((n : ℕ) → n < 2 ^ 64 → Holds t n) →
+    Surrounds shapes ctx_len s opened run → Describes a (scene_of s.elements run) run.state → InsnStep (Call kinds.Helper imm) s opened run answer new_store new_run → ret ≡ Number (ret_word r) → new_run ≡ moves run (returns ret run.state) →
+    Leads (Call kinds.Helper imm) (after_call (Num t) a) None run.state.place new_store.elements new_run
+call-leads imm t a s new_store opened run new_run answer ret r shapes ctx_len all w d h is same =
+    let kept = describes-kept (scene_of s.elements run) (scene_of new_store.elements run) (insn-keeps (Call kinds.Helper imm) s opened run answer new_store new_run w.single w.section h) a run.state d in
+    falls-to (Call kinds.Helper imm) (after_call (Num t) a) None new_store.elements run (returns ret run.state) run.state.place new_run refl refl
+    (returned-described a (scene_of new_store.elements run) run.state (Num t) ret kept (ret_word r, is, ret-fits r, all (ret_word r) (ret-fits r)) (subst IsNear (sym is) tt)) same
+
+module _ (imm : ℤ) (shapes : List MapShape) (ctx_len : ℕ) (a : AbsState) (map : ℕ) (shape : MapShape) (t : Scalar) (all : (n : ℕ) → n < 2 ^ 64 → Holds t n) (m : HasMap shapes a map shape) (key : HasBytes a 2 shape.key_len) where
+  delete-goes : helper_of imm ≡ Some helpers.Delete → (s : Store) (opened : List Section) (run : Run) → Surrounds shapes ctx_len s opened run → Describes a (scene_of s.elements run) run.state → HasStep (Call kinds.Helper imm) s opened run
+  delete-goes f s opened run w d =
+      let b = bound shapes ctx_len s opened run map shape w m.shape_is in
+      let k = key-is shapes s run a map shape d m b key in
+      let l = looks-up s b.number k.0 in
+      let x = removes l.0 s opened in
+      let step : DeleteStep s opened run (Number (ret_word x.0)) x.1 = record { map = b.number; key = k.0; outcome = x.0; map_is = map-is shapes s run a map shape d m b; key_is = k.1; deleted = (l.0, l.1, x.2); ret_is = refl } in
+      (Moved, x.1, moves run (returns (Number (ret_word x.0)) run.state), (Number (ret_word x.0), subst (λ g. HelperStep g s opened run (Number (ret_word x.0)) x.1) (sym f) step, refl, refl))
+
+  pub delete_transfers : helper_of imm ≡ Some helpers.Delete → Transfers (Call kinds.Helper imm) shapes ctx_len a (after_call (Num t) a) None
+  delete_transfers f = record {
+    goes = λ s opened run w d. delete-goes f s opened run w d;
+    leads = λ s opened run answer new_store new_run w d h.
+        let k : DeleteStep s opened run h.0 new_store = subst (λ g. HelperStep g s opened run h.0 new_store) f h.1 in
+        (bytes-deletes s opened k.map k.key k.outcome new_store w.bytes k.deleted, call-leads imm t a s new_store opened run new_run answer h.0 k.outcome shapes ctx_len all w d h k.ret_is h.3);
+  }
+
+  module _ (value : HasBytes a 3 shape.value_len) (q : Scalar) (flags_are : a.regs 4 ≡ Num q) where
+    update-goes : helper_of imm ≡ Some helpers.Update → (s : Store) (opened : List Section) (run : Run) → Surrounds shapes ctx_len s opened run → Describes a (scene_of s.elements run) run.state → HasStep (Call kinds.Helper imm) s opened run
+    update-goes f s opened run w d =
+        let b = bound shapes ctx_len s opened run map shape w m.shape_is in
+        let k = key-is shapes s run a map shape d m b key in
+        let v = value-is shapes s run a map shape d m b value in
+        let g = reg-is a (scene_of s.elements run) run.state 4 (Num q) d flags_are in
+        let x = updates s opened b.number b.state k.0 v.0 g.0 b.there in
+        let step : UpdateStep s opened run (Number (ret_word x.0)) x.1 = record { map = b.number; key = k.0; value = v.0; flags = g.0; outcome = x.0; map_is = map-is shapes s run a map shape d m b; key_is = k.1; value_is = v.1; flags_are = ap number g.1; updated = x.2; ret_is = refl } in
+        (Moved, x.1, moves run (returns (Number (ret_word x.0)) run.state), (Number (ret_word x.0), subst (λ g. HelperStep g s opened run (Number (ret_word x.0)) x.1) (sym f) step, refl, refl))
+
+    value-bytes : (s : Store) (opened : List Section) (run : Run) (ret : Value) (new_store : Store) → Surrounds shapes ctx_len s opened run → Describes a (scene_of s.elements run) run.state → (k : UpdateStep s opened run ret new_store) → AreBytes k.value
+    value-bytes s opened run ret new_store w d k =
+        let b = bound shapes ctx_len s opened run map shape w m.shape_is in
+        let v = value-is shapes s run a map shape d m b value in
+        let same : b.number ≡ k.map = same_Some _ _ (sym (map-is shapes s run a map shape d m b) ∙ k.map_is) in
+        subst AreBytes (same_Some v.0 k.value (sym v.1 ∙ (ap (value_argument s run) same ∙ k.value_is))) v.2
+
+    pub update_transfers : helper_of imm ≡ Some helpers.Update → Transfers (Call kinds.Helper imm) shapes ctx_len a (after_call (Num t) a) None
+    update_transfers f = record {
+      goes = λ s opened run w d. update-goes f s opened run w d;
+      leads = λ s opened run answer new_store new_run w d h.
+          let k : UpdateStep s opened run h.0 new_store = subst (λ g. HelperStep g s opened run h.0 new_store) f h.1 in
+          (bytes-updates s opened k.map k.key k.value k.flags k.outcome new_store w.bytes (value-bytes s opened run h.0 new_store w d k) k.updated, call-leads imm t a s new_store opened run new_run answer h.0 k.outcome shapes ctx_len all w d h k.ret_is h.3);
+    }

@@ -1,0 +1,108 @@
+-- The values of all elements stay bytes; the programs stay.
+use Rattle.std.proofs.Common.{◌≡◌, ℕ, List, [], ◌∷◌, ◌++◌, Option, Some, None, inl, inr, refl, sym, ap, subst, ◌∙◌, Result}
+use Rattle.std.specs.Prelude.{slice_get, slice_set}
+use Rattle.bpf_model.specs.declared.call.Errno.{Errno}
+use Rattle.bpf_model.specs.declared.event.Event.{Event}
+use Rattle.bpf_model.specs.declared.event.Event.TheVariants as events
+use Rattle.bpf_model.specs.declared.event.Answer.{Answer}
+use Rattle.bpf_model.specs.declared.event.Answer.TheVariants as answers
+use Rattle.bpf_model.specs.declared.event.EventRefusal.{EventRefusal}
+use Rattle.bpf_model.specs.Section.{Section}
+use Rattle.bpf_model.specs.Element.{Element, Unlinked, Reclaimed, with_life, set_to, changed, unlinked}
+use Rattle.bpf_model.specs.MapState.{MapState, Store}
+use Rattle.bpf_model.specs.Helper.{Replaces, Settles, Updates, Removes, Deletes, newborn}
+use Rattle.bpf_model.specs.Machine.{Machine, open_sections}
+use Rattle.bpf_model.specs.MachineStep.{StepsRun}
+use Rattle.bpf_model.specs.Event.{Performs, Answers, Does, refusal, AreBytes, IsReal}
+use Rattle.model_laws.proofs.Lists.{get-append_cases, get-set_cases}
+use Rattle.typed_runs.specs.Verified.{AllBytes}
+
+bytes-along : (es new : List Element) → new ≡ es → AllBytes es → AllBytes new
+bytes-along es new e h = subst AllBytes (sym e) h
+
+pub bytes-set : (es : List Element) (n : ℕ) (f : Element) → AllBytes es → AreBytes f.value → AllBytes (slice_set es n f)
+bytes-set es n f h b k e at = elim (get-set_cases es n k f e at) [
+  | inl x ↦ subst (λ (y : Element). AreBytes y.value) x.1 b
+  | inr x ↦ h k e x.1
+]
+
+bytes-set_to : (f : Element → Element) (es : List Element) (n : ℕ) (o : Option Element) → AllBytes es → ((e : Element) → o ≡ Some e → AreBytes (f e).value) → AllBytes (set_to f es n o)
+bytes-set_to f es n None h b = h
+bytes-set_to f es n (Some e) h b = bytes-set es n (f e) h (b e refl)
+
+pub bytes-changed : (f : Element → Element) (es : List Element) (n : ℕ) → AllBytes es → ((e : Element) → slice_get es n ≡ Some e → AreBytes (f e).value) → AllBytes (changed f es n)
+bytes-changed f es n h b = bytes-set_to f es n (slice_get es n) h b
+
+bytes-unlinked : (opened : List Section) (es : List Element) (found : Option ℕ) → AllBytes es → AllBytes (unlinked opened es found)
+bytes-unlinked opened es None h = h
+bytes-unlinked opened es (Some n) h = bytes-changed (with_life (Unlinked opened)) es n h (λ e at. h n e at)
+
+bytes-born : (es : List Element) (nb : Element) → AllBytes es → AreBytes nb.value → AllBytes (es ++ nb ∷ [])
+bytes-born es nb h b k e at = elim (get-append_cases es nb k e at) [
+  | inl x ↦ h k e x
+  | inr x ↦ subst (λ (y : Element). AreBytes y.value) x.1 b
+]
+
+bytes-settles : (s : Store) (opened : List Section) (map : ℕ) (m : MapState) (key value : List ℕ) (found : Option ℕ) (new : Store) (error : Option Errno) (ret : Result (Unit {0}) Errno) →
+    AllBytes s.elements → AreBytes value → Settles error ret s new (Replaces s opened map m key value found new) → AllBytes new.elements
+bytes-settles s opened map m key value found new (Some e) ret h b st = bytes-along s.elements new.elements (ap (λ x. x.elements) st.1) h
+bytes-settles s opened map m key value found new None ret h b st =
+    bytes-along _ new.elements (ap (λ x. x.elements) st.1.new_is) (bytes-born (unlinked opened s.elements found) (newborn map key value st.1.count) (bytes-unlinked opened s.elements found h) b)
+
+pub bytes-updates : (s : Store) (opened : List Section) (map : ℕ) (key value : List ℕ) (flags : ℕ) (ret : Result (Unit {0}) Errno) (new : Store) → AllBytes s.elements → AreBytes value → Updates s opened map key value flags ret new → AllBytes new.elements
+bytes-updates s opened map key value flags ret new h b u = bytes-settles s opened map u.state key value u.found new _ ret h b u.settled
+
+bytes-removes : (s : Store) (opened : List Section) (ret : Result (Unit {0}) Errno) (new : Store) (found : Option ℕ) → AllBytes s.elements → Removes found opened ret s new → AllBytes new.elements
+bytes-removes s opened ret new None h r = bytes-along s.elements new.elements (ap (λ x. x.elements) r.1) h
+bytes-removes s opened ret new (Some n) h r = bytes-along _ new.elements (ap (λ x. x.elements) r.1) (bytes-unlinked opened s.elements (Some n) h)
+
+pub bytes-deletes : (s : Store) (opened : List Section) (map : ℕ) (key : List ℕ) (ret : Result (Unit {0}) Errno) (new : Store) → AllBytes s.elements → Deletes s opened map key ret new → AllBytes new.elements
+bytes-deletes s opened map key ret new h d = bytes-removes s opened ret new d.0 h d.2
+
+same-bytes : (m new : Machine) → new.store ≡ m.store → AllBytes m.store.elements → AllBytes new.store.elements
+same-bytes m new e h = bytes-along m.store.elements new.store.elements (ap (λ s. s.elements) e) h
+
+-- of a step of a run it is known by its program's verification
+performs-bytes : (m : Machine) (event : Event) (answer : Answer) (new : Machine) → IsReal event → ((r : ℕ) → StepsRun m r answer new → AllBytes new.store.elements) → AllBytes m.store.elements → Performs m event answer new → AllBytes new.store.elements
+performs-bytes m (events.Start prog ctx) (answers.Started r) new real step h p = same-bytes m new (ap (λ x. x.store) p.new_is) h
+performs-bytes m (events.Step r) answer new real step h p = step r p
+performs-bytes m (events.Update map key value flags) (answers.Ret ret) new real step h p =
+    subst (λ (s : Store). AllBytes s.elements) (ap (λ x. x.store) (sym p.2)) (bytes-updates m.store (open_sections m.runs) map key.items value.items flags ret p.0 h real.2 p.1)
+performs-bytes m (events.Delete map key) (answers.Ret ret) new real step h p =
+    subst (λ (s : Store). AllBytes s.elements) (ap (λ x. x.store) (sym p.2)) (bytes-deletes m.store (open_sections m.runs) map key.items ret p.0 h p.1)
+performs-bytes m (events.Read map key) (answers.Found (Some value)) new real step h p = same-bytes m new (ap (λ x. x.store) p.1) h
+performs-bytes m (events.Read map key) (answers.Found None) new real step h p = same-bytes m new (ap (λ x. x.store) p.1) h
+performs-bytes m events.Advance answers.Done new real step h p = same-bytes m new (ap (λ x. x.store) p) h
+performs-bytes m events.Reap (answers.Reaped None) new real step h p = same-bytes m new (ap (λ x. x.store) p) h
+performs-bytes m events.Reap (answers.Reaped (Some reaped)) new real step h p =
+    subst (λ (s : Store). AllBytes s.elements) (sym p.3.new_is ∙ ap (λ x. x.store) (sym p.6)) (bytes-set m.store.elements p.0 (with_life Reclaimed p.1) h (h p.0 p.1 p.3.born))
+performs-bytes m (events.Drop r) answers.Done new real step h p = same-bytes m new (ap (λ x. x.store) p) h
+performs-bytes m event answer new real step h p = absurd p
+
+answers-bytes : (o : Option EventRefusal) (m : Machine) (event : Event) (answer : Answer) (new : Machine) → IsReal event → ((r : ℕ) → StepsRun m r answer new → AllBytes new.store.elements) → AllBytes m.store.elements → Answers o m event answer new → AllBytes new.store.elements
+answers-bytes None m event answer new real step h p = performs-bytes m event answer new real step h p
+answers-bytes (Some k) m event answer new real step h p = same-bytes m new (ap (λ x. x.store) p.1) h
+
+pub does-bytes : (m new : Machine) (event : Event) (answer : Answer) → IsReal event → ((r : ℕ) → StepsRun m r answer new → AllBytes new.store.elements) → AllBytes m.store.elements → Does m event answer new → AllBytes new.store.elements
+does-bytes m new event answer real step h p = answers-bytes (refusal m event) m event answer new real step h p
+
+-- the programs stay
+performs-programs : (m : Machine) (event : Event) (answer : Answer) (new : Machine) → Performs m event answer new → new.programs ≡ m.programs
+performs-programs m (events.Start prog ctx) (answers.Started r) new h = ap (λ x. x.programs) h.new_is
+performs-programs m (events.Step run) answer new h = ap (λ x. x.programs) h.new_is
+performs-programs m (events.Update map key value flags) (answers.Ret ret) new h = ap (λ x. x.programs) h.2
+performs-programs m (events.Delete map key) (answers.Ret ret) new h = ap (λ x. x.programs) h.2
+performs-programs m (events.Read map key) (answers.Found (Some value)) new h = ap (λ x. x.programs) h.1
+performs-programs m (events.Read map key) (answers.Found None) new h = ap (λ x. x.programs) h.1
+performs-programs m events.Advance answers.Done new h = ap (λ x. x.programs) h
+performs-programs m events.Reap (answers.Reaped None) new h = ap (λ x. x.programs) h
+performs-programs m events.Reap (answers.Reaped (Some reaped)) new h = ap (λ x. x.programs) h.6
+performs-programs m (events.Drop run) answers.Done new h = ap (λ x. x.programs) h
+performs-programs m event answer new h = absurd h
+
+answers-programs : (o : Option EventRefusal) (m : Machine) (event : Event) (answer : Answer) (new : Machine) → Answers o m event answer new → new.programs ≡ m.programs
+answers-programs None m event answer new h = performs-programs m event answer new h
+answers-programs (Some k) m event answer new h = ap (λ x. x.programs) h.1
+
+pub does-programs : (m new : Machine) (event : Event) (answer : Answer) → Does m event answer new → new.programs ≡ m.programs
+does-programs m new event answer h = answers-programs (refusal m event) m event answer new h

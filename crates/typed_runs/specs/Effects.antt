@@ -1,0 +1,139 @@
+-- What the instructions that concern maps do to an abstract state.
+use Rattle.std.specs.Prelude.{◌≡◌, ℕ, ◌+◌, ◌==◌, ◌<◌, ◌≤◌, nat_le, true, false, List, slice_get, Some, ℤ, pos, ◌+ℤ◌, if◌then◌else◌}
+use Rattle.bpf_model.specs.declared.limits.TheConstants.{FRAME_BYTES}
+use Rattle.bpf_model.specs.declared.limits.MapShape.{MapShape}
+use Rattle.bpf_model.specs.declared.insn.Operand.{Operand}
+use Rattle.bpf_model.specs.declared.insn.Operand.TheVariants.{Register, Immediate}
+use Rattle.bpf_model.specs.Access.{place_of}
+use Rattle.bpf_model.specs.Step.{put}
+use Rattle.bpf_model.specs.Frame.{is_within}
+use Rattle.scalar_domain.specs.Scalar.{Holds}
+use Rattle.scalar_domain.specs.declared.scalar.Scalar.{Scalar}
+use Rattle.typed_runs.specs.Kinds.{Kind, Blank, Mixed, Ended, Num, CtxAt, FrameAt, MapAt, ValueAt, MaybeNull, CellKind, BlankCell, MixedCell, EndedCell, ByteCell, PartCell, AbsState}
+use Rattle.typed_runs.specs.Describes.{HasOffset}
+
+-- a register is set
+abbrev pub with_kind : ℕ → Kind → AbsState → AbsState
+with_kind r kind a = record { regs = put r kind a.regs; cells = a.cells; inside = a.inside }
+
+-- after a call
+abbrev pub returned_kind : Kind → (ℕ → Kind) → ℕ → Kind
+returned_kind kind regs r = if r == 0 then kind else if nat_le r 5 then Blank else regs r
+
+abbrev pub after_call : Kind → AbsState → AbsState
+after_call kind a = record { regs = returned_kind kind a.regs; cells = a.cells; inside = a.inside }
+
+-- an unlock ends all that may be an element
+abbrev pub ended_kind : Kind → Kind
+ended_kind (ValueAt map s) = Ended
+ended_kind (MaybeNull map id) = Ended
+ended_kind kind = kind
+
+abbrev pub ended_cell : CellKind → CellKind
+ended_cell (PartCell (ValueAt map s)) = EndedCell
+ended_cell (PartCell (MaybeNull map id)) = EndedCell
+ended_cell cell = cell
+
+abbrev pub after_lock : AbsState → AbsState
+after_lock a = record { regs = returned_kind Blank a.regs; cells = a.cells; inside = true }
+
+abbrev pub after_unlock : AbsState → AbsState
+after_unlock a = record { regs = returned_kind Blank (λ r. ended_kind (a.regs r)); cells = λ k. ended_cell (a.cells k); inside = false }
+
+-- no register and no cell has the identity
+abbrev pub IsOther : ℕ → Kind → Type 0
+IsOther id (MaybeNull map i) = i ≡ id → ⊥
+IsOther id kind = Unit {0}
+
+abbrev pub IsOtherCell : ℕ → CellKind → Type 0
+IsOtherCell id (PartCell kind) = IsOther id kind
+IsOtherCell id cell = Unit {0}
+
+pub record IsFresh (id : ℕ) (a : AbsState) : Type 0 where
+  pub regs : (r : ℕ) → IsOther id (a.regs r)
+  pub cells : (k : ℕ) → IsOtherCell id (a.cells k)
+
+-- A test told that what has the identity is null, or that it isn't. The scalars are those of the number 0 and of the offset 0.
+abbrev pub null_kind : ℕ → Scalar → Kind → Kind
+null_kind id zero (MaybeNull map i) = if i == id then Num zero else MaybeNull map i
+null_kind id zero kind = kind
+
+abbrev pub null_cell : ℕ → CellKind → CellKind
+null_cell id (PartCell (MaybeNull map i)) = if i == id then ByteCell else PartCell (MaybeNull map i)
+null_cell id cell = cell
+
+abbrev pub there_kind : ℕ → Scalar → Kind → Kind
+there_kind id origin (MaybeNull map i) = if i == id then ValueAt map origin else MaybeNull map i
+there_kind id origin kind = kind
+
+abbrev pub there_cell : ℕ → Scalar → CellKind → CellKind
+there_cell id origin (PartCell kind) = PartCell (there_kind id origin kind)
+there_cell id origin cell = cell
+
+abbrev pub when_null : ℕ → Scalar → AbsState → AbsState
+when_null id zero a = record { regs = λ r. null_kind id zero (a.regs r); cells = λ k. null_cell id (a.cells k); inside = a.inside }
+
+abbrev pub when_there : ℕ → Scalar → AbsState → AbsState
+when_there id origin a = record { regs = λ r. there_kind id origin (a.regs r); cells = λ k. there_cell id origin (a.cells k); inside = a.inside }
+
+-- a store to the frame: bytes, or a value of a kind at a group
+abbrev pub with_cells : ℕ → ℕ → CellKind → AbsState → AbsState
+with_cells at width cell a = record { regs = a.regs; cells = λ k. if is_within at width k then cell else a.cells k; inside = a.inside }
+
+-- each access of the width, at one of the offsets, lies in a region of that length
+abbrev pub IsPlaced : Scalar → ℕ → ℤ → ℕ → Type 0
+IsPlaced s width offset len = (o : ℤ) → HasOffset s o → (at : ℕ) × (place_of len width (o +ℤ offset) ≡ Some at)
+
+-- Under a renaming of identities the second kind is of what is of the first. Each side of a join is so, with a renaming of its own.
+abbrev pub IsWiderKind : (ℕ → ℕ) → Kind → Kind → Type 0
+IsWiderKind left (MaybeNull map i) (MaybeNull map' j) = (map' ≡ map) × (left j ≡ i)
+IsWiderKind left (Num s) (Num t) = (n : ℕ) → Holds s n → Holds t n
+IsWiderKind left (ValueAt map s) (ValueAt map' t) = (map' ≡ map) × ((o : ℤ) → HasOffset s o → HasOffset t o)
+IsWiderKind left (CtxAt o) (CtxAt p) = o ≡ p
+IsWiderKind left (FrameAt o) (FrameAt p) = o ≡ p
+IsWiderKind left (MapAt m) (MapAt n) = m ≡ n
+IsWiderKind left kind Blank = Unit {0}
+IsWiderKind left kind Mixed = Unit {0}
+IsWiderKind left kind Ended = Unit {0}
+IsWiderKind left kind other = ⊥
+
+abbrev pub IsWiderCell : (ℕ → ℕ) → CellKind → CellKind → Type 0
+IsWiderCell left ByteCell ByteCell = Unit {0}
+IsWiderCell left (PartCell kind) (PartCell other) = IsWiderKind left kind other
+IsWiderCell left cell BlankCell = Unit {0}
+IsWiderCell left cell MixedCell = Unit {0}
+IsWiderCell left cell EndedCell = Unit {0}
+IsWiderCell left cell other = ⊥
+
+pub record IsWider (left : ℕ → ℕ) (a b : AbsState) : Type 0 where
+  pub regs : (r : ℕ) → IsWiderKind left (a.regs r) (b.regs r)
+  pub cells : (k : ℕ) → IsWiderCell left (a.cells k) (b.cells k)
+  pub inside : b.inside ≡ a.inside
+
+-- What a call asks for: a map in r1, so many bytes of the frame by a register.
+pub record HasMap (shapes : List MapShape) (a : AbsState) (map : ℕ) (shape : MapShape) : Type 0 where
+  pub map_is : a.regs 1 ≡ MapAt map
+  pub shape_is : slice_get shapes map ≡ Some shape
+
+pub record HasBytes (a : AbsState) (r len : ℕ) : Type 0 where
+  pub at : ℕ
+  pub frame : a.regs r ≡ FrameAt (pos at)
+  pub inside : at + len ≤ FRAME_BYTES
+  pub bytes : (k : ℕ) → at ≤ k → k < at + len → a.cells k ≡ ByteCell
+
+-- a kind of which nothing is unwritten: a copy of it may be stored
+abbrev pub IsWritten : Kind → Type 0
+IsWritten Blank = ⊥
+IsWritten Mixed = ⊥
+IsWritten Ended = ⊥
+IsWritten kind = Unit {0}
+
+-- a reference, or null
+abbrev pub IsPointer : Kind → Type 0
+IsPointer (Num s) = ⊥
+IsPointer kind = IsWritten kind
+
+-- an operand that is a number in each described state
+abbrev pub IsNumberOperand : AbsState → Operand → Type 0
+IsNumberOperand a (Register r) = (s : Scalar) × (a.regs r ≡ Num s)
+IsNumberOperand a (Immediate imm) = Unit {0}

@@ -1,0 +1,62 @@
+-- A plan that is kept instruction by instruction: what the verifier's pass builds.
+use Rattle.std.specs.Prelude.{◌≡◌, ℕ, suc, ◌+◌, ◌==◌, ◌<◌, List, length, slice_get, Option, Some, true, false, ℤ, pos, ◌+ℤ◌, unwrap_or, if◌then◌else◌}
+use Rattle.bpf_model.specs.declared.limits.TheConstants.{FRAME_BYTES}
+use Rattle.bpf_model.specs.declared.insn.Insn.{Insn}
+use Rattle.bpf_model.specs.declared.limits.MapShape.{MapShape}
+use Rattle.bpf_model.specs.Graph.{falls, distance}
+use Rattle.bpf_model.specs.Step.{State}
+use Rattle.typed_runs.specs.Kinds.{Kind, Blank, CtxAt, FrameAt, BlankCell, AbsState}
+use Rattle.typed_runs.specs.Describes.{Scene, Describes}
+use Rattle.typed_runs.specs.Effects.{IsWider}
+use Rattle.typed_runs.specs.Verified.{StartsAt, Plan, Transfers}
+
+-- each run that the one describes the other describes too
+abbrev pub Wider : AbsState → AbsState → Type 0
+Wider a b = (c : Scene) (m : State) → Describes a c m → Describes b c m
+
+-- the same kinds, place by place: what an array holds after it was written
+pub record AreAlike (a b : AbsState) : Type 0 where
+  pub regs : (r : ℕ) → b.regs r ≡ a.regs r
+  pub cells : (k : ℕ) → b.cells k ≡ a.cells k
+  pub inside : b.inside ≡ a.inside
+
+-- A join: each identity of the joined state stands for a pair, one identity of either side. An old one may stand for itself and itself; for each pair
+-- of different ones that meets the join takes a new one.
+pub record Joins (pair : ℕ → ℕ × ℕ) (a b c : AbsState) : Type 0 where
+  pub left : IsWider (λ id. (pair id).0) a c
+  pub right : IsWider (λ id. (pair id).1) b c
+
+-- at the entry
+abbrev pub entry_kind : ℕ → Kind
+entry_kind r = if r == 1 then CtxAt (pos 0) else if r == 10 then FrameAt (pos FRAME_BYTES) else Blank
+
+abbrev pub entry_state : AbsState
+entry_state = record { regs = entry_kind; cells = λ k. BlankCell; inside = false }
+
+-- the plan has a wider state at the index
+abbrev pub Covers : Plan → ℕ → AbsState → Type 0
+Covers plan k a = (b : AbsState) × (plan k ≡ Some b) × Wider a b
+
+-- the instruction of index k leads, as a jump over this distance, to that of index t, which stands further on
+pub record LeadsTo (code : List Insn) (k : ℕ) (by : ℤ) (t : ℕ) : Type 0 where
+  pub further : k < t
+  pub from : ℕ
+  pub from_is : StartsAt code k from
+  pub to : ℕ
+  pub to_is : StartsAt code t to
+  pub sum : pos to ≡ pos (from + 1) +ℤ by
+
+-- what the pass does with one instruction
+pub record IsCovered (code : List Insn) (shapes : List MapShape) (ctx_len : ℕ) (plan : Plan) (k : ℕ) (a : AbsState) : Type 0 where
+  pub insn : Insn
+  pub there : slice_get code k ≡ Some insn
+  pub new : AbsState
+  pub taken : Option AbsState
+  pub transfers : Transfers insn shapes ctx_len a new taken
+  pub falls_on : falls insn ≡ true → Covers plan (suc k) new
+  pub jumps_on : (by : ℤ) → distance insn ≡ Some by → (t : ℕ) × LeadsTo code k by t × Covers plan t (unwrap_or taken new)
+
+pub record IsKept (code : List Insn) (shapes : List MapShape) (ctx_len : ℕ) (plan : Plan) : Type 0 where
+  pub start : Covers plan 0 entry_state
+  pub inside : (k : ℕ) (a : AbsState) → plan k ≡ Some a → k < length code
+  pub each : (k : ℕ) (a : AbsState) → plan k ≡ Some a → IsCovered code shapes ctx_len plan k a

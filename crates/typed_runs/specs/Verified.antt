@@ -1,0 +1,113 @@
+-- What the verifier promises of an instruction and of a program, whatever other runs do.
+use Rattle.std.specs.Prelude.{◌≡◌, ℕ, ◌+◌, ◌<◌, List, length, Option, Some, None, slice_get, Bool, true, false, ◌⊎◌, unwrap_or}
+use Rattle.bpf_model.specs.declared.insn.Insn.{Insn}
+use Rattle.bpf_model.specs.declared.insn.Insn.TheVariants.{Call}
+use Rattle.bpf_model.specs.declared.limits.MapShape.{MapShape}
+use Rattle.bpf_model.specs.declared.event.Answer.{Answer}
+use Rattle.bpf_model.specs.Spelling.{slot_count, starts_from}
+use Rattle.bpf_model.specs.Graph.{falls, JumpsTo}
+use Rattle.bpf_model.specs.Step.{State, Environment, Outcome, Moves, Exits, after, entry, insn_at}
+use Rattle.bpf_model.specs.Section.{Section, Has}
+use Rattle.bpf_model.specs.Element.{Element, IsLinkedAt}
+use Rattle.bpf_model.specs.MapState.{MapState, Store}
+use Rattle.bpf_model.specs.Machine.{Run, section_of}
+use Rattle.bpf_model.specs.MachineStep.{AccessesElement, InsnStep}
+use Rattle.bpf_model.specs.Event.{AreBytes}
+use Rattle.typed_runs.specs.Kinds.{AbsState}
+use Rattle.typed_runs.specs.Describes.{Scene, scene_of, Describes}
+
+-- each shape is that of the map to which the program's list binds it
+pub record AreBound (shapes : List MapShape) (maps : List ℕ) (states : List MapState) : Type 0 where
+  pub count : length maps ≡ length shapes
+  pub each : (i : ℕ) (shape : MapShape) → slice_get shapes i ≡ Some shape → (map : ℕ) × (state : MapState) × (slice_get maps i ≡ Some map) × (slice_get states map ≡ Some state) × (state.shape ≡ shape)
+
+abbrev pub AllBytes : List Element → Type 0
+AllBytes es = (n : ℕ) (e : Element) → slice_get es n ≡ Some e → AreBytes e.value
+
+-- What is so around a run that hasn't ended, in each state that is reached, of a program that was verified against these shapes.
+pub record Surrounds (shapes : List MapShape) (ctx_len : ℕ) (s : Store) (opened : List Section) (run : Run) : Type 0 where
+  pub going : run.exit ≡ None
+  pub section : 0 < run.depth → Has opened (section_of run)
+  pub single : (map : ℕ) (key : List ℕ) (a b : ℕ) → IsLinkedAt s.elements map key a → IsLinkedAt s.elements map key b → a ≡ b
+  pub sizes : (n : ℕ) (e : Element) → slice_get s.elements n ≡ Some e → (state : MapState) × (slice_get s.maps e.map ≡ Some state) × (length e.key ≡ state.shape.key_len) × (length e.value ≡ state.shape.value_len)
+  pub bytes : AllBytes s.elements
+  pub bound : AreBound shapes run.program.maps s.maps
+  pub long : length run.context ≡ ctx_len
+  pub context : AreBytes run.context
+
+-- the instruction has a step
+abbrev pub HasStep : Insn → Store → List Section → Run → Type 0
+HasStep i s opened run = (answer : Answer) × (new_store : Store) × (new_run : Run) × InsnStep i s opened run answer new_store new_run
+
+-- The run has ended, or is described where control falls through, or where it jumps: by the state beside it, where there is one.
+abbrev pub Leads : Insn → AbsState → Option AbsState → ℕ → List Element → Run → Type 0
+Leads i new taken place es run = run.exit ≡ None →
+    ((falls i ≡ true) × (run.state.place ≡ place + slot_count i) × Describes new (scene_of es run) run.state)
+    ⊎ (JumpsTo i place run.state.place × Describes (unwrap_or taken new) (scene_of es run) run.state)
+
+-- What `transfer` ensures: from each described state the instruction isn't stuck, each of its steps leads to a described one, and bytes stay bytes.
+pub record Transfers (i : Insn) (shapes : List MapShape) (ctx_len : ℕ) (old new : AbsState) (taken : Option AbsState) : Type 0 where
+  pub goes : (s : Store) (opened : List Section) (run : Run) → Surrounds shapes ctx_len s opened run → Describes old (scene_of s.elements run) run.state → HasStep i s opened run
+  pub leads : (s : Store) (opened : List Section) (run : Run) (answer : Answer) (new_store : Store) (new_run : Run) → Surrounds shapes ctx_len s opened run → Describes old (scene_of s.elements run) run.state →
+      InsnStep i s opened run answer new_store new_run → AllBytes new_store.elements × Leads i new taken run.state.place new_store.elements new_run
+
+-- the instruction of this index begins at this slot
+abbrev pub StartsAt : List Insn → ℕ → ℕ → Type 0
+StartsAt code k place = slice_get (starts_from 0 code) k ≡ Some place
+
+-- what is known before each instruction, by its index
+abbrev pub Plan : Type 0
+Plan = ℕ → Option AbsState
+
+-- the run stands before the instruction of this index, and the plan describes it
+pub record IsPlanned (code : List Insn) (plan : Plan) (k : ℕ) (c : Scene) (m : State) : Type 0 where
+  pub at : StartsAt code k m.place
+  pub known : AbsState
+  pub planned : plan k ≡ Some known
+  pub describes : Describes known c m
+
+-- it does so further on
+pub record IsPlannedAfter (code : List Insn) (plan : Plan) (k : ℕ) (c : Scene) (m : State) : Type 0 where
+  pub index : ℕ
+  pub further : k < index
+  pub planned : IsPlanned code plan index c m
+
+-- The plan holds at the entry, outside every section, and each step keeps it, further on.
+pub record IsClosed (code : List Insn) (shapes : List MapShape) (ctx_len : ℕ) (plan : Plan) : Type 0 where
+  pub start : (c : Scene) → c.depth ≡ 0 → IsPlanned code plan 0 c entry
+  pub goes : (k : ℕ) (s : Store) (opened : List Section) (run : Run) → Surrounds shapes ctx_len s opened run → IsPlanned code plan k (scene_of s.elements run) run.state →
+      (i : Insn) × (insn_at code run.state.place ≡ Some i) × HasStep i s opened run
+  pub leads : (k : ℕ) (i : Insn) (s : Store) (opened : List Section) (run : Run) (answer : Answer) (new_store : Store) (new_run : Run) → Surrounds shapes ctx_len s opened run →
+      IsPlanned code plan k (scene_of s.elements run) run.state → insn_at code run.state.place ≡ Some i → InsnStep i s opened run answer new_store new_run →
+      AllBytes new_store.elements × (new_run.exit ≡ None → IsPlannedAfter code plan k (scene_of new_store.elements new_run) new_run.state)
+
+-- What a `Verified` has as its invariant.
+pub record IsVerified (code : List Insn) (shapes : List MapShape) (ctx_len : ℕ) : Type 0 where
+  pub plan : Plan
+  pub closed : IsClosed code shapes ctx_len plan
+
+-- An instruction that isn't a call, and what is to be shown of one that accesses no element: its one outcome, by `after`. The scene is the same
+-- after it.
+abbrev pub is_call : Insn → Bool
+is_call (Call kind imm) = true
+is_call i = false
+
+pub record IsEnvironment (ctx_len maps : ℕ) (env : Environment) : Type 0 where
+  pub long : length env.context ≡ ctx_len
+  pub bytes : AreBytes env.context
+  pub bound : env.maps ≡ maps
+
+abbrev pub Lands : Insn → AbsState → Option AbsState → Scene → ℕ → Outcome → Type 0
+Lands i new taken c place (Exits n) = c.depth ≡ 0
+Lands i new taken c place (Moves next) =
+    ((falls i ≡ true) × (next.place ≡ place + slot_count i) × Describes new c next)
+    ⊎ (JumpsTo i place next.place × Describes (unwrap_or taken new) c next)
+
+pub record ActsAlone (i : Insn) (new : AbsState) (taken : Option AbsState) (c : Scene) (env : Environment) (m : State) : Type 0 where
+  pub out : Outcome
+  pub after_is : after i env m ≡ Some out
+  pub alone : (es fs : List Element) (other : Outcome) → AccessesElement i es m other fs → ⊥
+  pub lands : Lands i new taken c m.place out
+
+abbrev pub TransfersAlone : Insn → List MapShape → ℕ → AbsState → AbsState → Option AbsState → Type 0
+TransfersAlone i shapes ctx_len old new taken = (c : Scene) (env : Environment) (m : State) → IsEnvironment ctx_len (length shapes) env → Describes old c m → ActsAlone i new taken c env m

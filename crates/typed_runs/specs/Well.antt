@@ -1,0 +1,36 @@
+-- What is so of each state that a machine of verified programs reaches.
+use Rattle.std.specs.Prelude.{◌≡◌, ℕ, ◌<◌, ◌≤◌, List, length, map, Some, None, slice_get}
+use Rattle.bpf_model.specs.declared.limits.MapShape.{MapShape}
+use Rattle.bpf_model.specs.MapState.{MapState, Store, new_map}
+use Rattle.bpf_model.specs.Machine.{Loaded, Run, Machine, run_at}
+use Rattle.bpf_model.specs.Consistent.{IsConsistent}
+use Rattle.bpf_model.specs.Event.{AreBytes}
+use Rattle.typed_runs.specs.Describes.{scene_of}
+use Rattle.typed_runs.specs.Verified.{IsPlanned, AreBound, AllBytes, IsVerified}
+
+-- the program was verified, against the shapes of the maps that it is bound to
+pub record IsVerifiedFor (states : List MapState) (program : Loaded) : Type 0 where
+  pub shapes : List MapShape
+  pub bound : AreBound shapes program.maps states
+  pub verified : IsVerified program.code shapes program.context_len
+
+-- each program, at the start with maps of these shapes
+abbrev pub AreVerified : List MapShape → List Loaded → Type 0
+AreVerified shapes programs = (p : ℕ) (program : Loaded) → slice_get programs p ≡ Some program → IsVerifiedFor (map new_map shapes) program
+
+-- A run of a verified program, described by its plan. The index of the instruction where it stands grows by each step.
+pub record IsTyped (s : Store) (run : Run) : Type 0 where
+  pub safe : IsVerifiedFor s.maps run.program
+  pub long : length run.context ≡ run.program.context_len
+  pub context : AreBytes run.context
+  pub index : ℕ
+  pub planned : IsPlanned run.program.code safe.verified.plan index (scene_of s.elements run) run.state
+  pub moved : run.moved ≤ index
+
+pub record IsWell (m : Machine) : Type 0 where
+  pub consistent : IsConsistent m
+  pub bytes : AllBytes m.store.elements
+  pub programs : (p : ℕ) (program : Loaded) → slice_get m.programs p ≡ Some program → IsVerifiedFor m.store.maps program
+  pub runs : (r : ℕ) (run : Run) → run_at m.runs r ≡ Some run → run.exit ≡ None → IsTyped m.store run
+  -- those that have ended too
+  pub moved : (r : ℕ) (run : Run) → run_at m.runs r ≡ Some run → run.moved < length run.program.code

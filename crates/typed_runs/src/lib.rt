@@ -1,0 +1,296 @@
+//! Laws of typed runs: what is known of a run before an instruction, with references to elements, is kept by its
+//! own step and by the steps of all others; and a run of a verified program is never stuck, exits in time, and
+//! has near references alone.
+//!
+//! `specs/Describes` says what a description of a run means, `specs/Effects` what calls, null tests, accesses to
+//! elements, spills and joins make of one, `specs/Verified` what a verified program promises, `specs/Well` what is
+//! so of each state that a machine of verified programs reaches. Each function has an empty body; its contract is
+//! the law. No code stands on these laws yet: they are what the verifier's and the world's contracts will cite.
+#![tactic(auto)]
+
+ghost use Rattle.std.specs.Prelude.{◌≡◌, ℕ, ◌+◌, ◌^◌, ◌<◌, List, [], ◌∷◌, Option, Some, None, slice_get, unwrap_or, ℤ, pos, ◌+ℤ◌, true, false};
+ghost use Rattle.bpf_model.specs.declared.limits.TheConstants.{FRAME_BYTES};
+ghost use Rattle.bpf_model.specs.declared.limits.MapShape.{MapShape};
+ghost use Rattle.bpf_model.specs.declared.insn.Insn.{Insn};
+ghost use Rattle.bpf_model.specs.declared.insn.Operand.{Operand};
+ghost use Rattle.bpf_model.specs.declared.insn.CallKind.{CallKind};
+ghost use Rattle.bpf_model.specs.declared.call.Helper.{Helper};
+ghost use Rattle.bpf_model.specs.declared.call.KernelFunction.{KernelFunction};
+ghost use Rattle.bpf_model.specs.declared.opcode.Width.{Width};
+ghost use Rattle.bpf_model.specs.declared.opcode.Condition.{Condition};
+ghost use Rattle.bpf_model.specs.declared.opcode.Size.{Size};
+ghost use Rattle.bpf_model.specs.declared.event.Event.{Event};
+ghost use Rattle.bpf_model.specs.declared.event.Answer.{Answer};
+ghost use Rattle.bpf_model.specs.Access.{byte_count, unsigned_width, place_of};
+ghost use Rattle.bpf_model.specs.Arithmetic.{loaded_signed};
+ghost use Rattle.bpf_model.specs.declared.opcode.SignedWidth.{SignedWidth};
+ghost use Rattle.bpf_model.specs.Call.{helper_of, kernel_function_of};
+ghost use Rattle.bpf_model.specs.Machine.{Loaded, Run, Machine, run_at, start_machine};
+ghost use Rattle.bpf_model.specs.MachineStep.{NeverStuck};
+ghost use Rattle.bpf_model.specs.Step.{State};
+ghost use Rattle.bpf_model.specs.Event.{Does, IsReal, AreReal};
+ghost use Rattle.bpf_model.specs.Run.{IsHistory, AllStates};
+ghost use Rattle.bpf_model.specs.Schedule.{Schedule};
+ghost use Rattle.bpf_model.specs.View.{WorldView};
+ghost use Rattle.bpf_model.specs.Refines.{IsReached, Tracks};
+ghost use Rattle.bpf_model.specs.View.{shapes_of};
+ghost use Rattle.bpf_model.specs.Headline.{AreNeverStuck, ExitsInTime, AllExitInTime};
+ghost use Rattle.bpf_model.specs.Consistent.{IsConsistent};
+ghost use Rattle.scalar_domain.specs.Scalar.{Holds};
+ghost use Rattle.scalar_domain.specs.declared.scalar.Scalar.{Scalar};
+ghost use Rattle.model_laws.specs.Example.{lookup_and_load, example_shape};
+ghost use Rattle.typed_runs.specs.Kinds.{Kind, Num, FrameAt, ValueAt, MaybeNull, PartCell, AbsState};
+ghost use Rattle.typed_runs.specs.Describes.{Scene, scene_of, HasOffset, Describes};
+ghost use Rattle.typed_runs.specs.Effects.{with_kind, with_cells, after_call, after_lock, after_unlock, when_null, when_there, IsFresh, IsPlaced, HasMap, HasBytes, IsWritten, IsPointer, IsNumberOperand};
+ghost use Rattle.typed_runs.specs.Verified.{Plan, Transfers, TransfersAlone, is_call, IsClosed, IsVerified};
+ghost use Rattle.typed_runs.specs.Planned.{Wider, AreAlike, Joins, IsKept};
+ghost use Rattle.bpf_model.specs.declared.value.Reference.{Reference};
+ghost use Rattle.bpf_model.specs.Element.{Element};
+ghost use Rattle.bpf_model.specs.Word.{IsReferenceWord, element_bases};
+ghost use Rattle.bpf_model.specs.Near.{IsNearReference};
+ghost use Rattle.model_laws.specs.Near.{named_place};
+ghost use Rattle.typed_runs.specs.Limits.{IsWithinLimits, IsNearMachine};
+ghost use Rattle.typed_runs.specs.Well.{AreVerified, IsWell};
+
+/// Whatever event comes, the run's own step too: what describes a run describes it among the elements after it.
+pub fn stays_described()
+    ensures { (m new : Machine) (event : Event) (answer : Answer) (r : ℕ) (run : Run) (a : AbsState)
+        → IsConsistent m → Does m event answer new → run_at m.runs r ≡ Some run
+        → Describes a (scene_of m.store.elements run) run.state
+        → Describes a (scene_of new.store.elements run) run.state }
+{}
+
+/// A join describes what its first state describes.
+pub fn join_left()
+    ensures { (pair : ℕ → ℕ × ℕ) (a b c : AbsState) → Joins pair a b c → Wider a c }
+{}
+
+/// A join describes what its second state describes.
+pub fn join_right()
+    ensures { (pair : ℕ → ℕ × ℕ) (a b c : AbsState) → Joins pair a b c → Wider b c }
+{}
+
+/// An instruction that is no call and accesses no element transfers where its step alone does.
+pub fn alone_transfers()
+    ensures { (i : Insn) (shapes : List MapShape) (ctx_len : ℕ) (a b : AbsState)
+        (taken : Option AbsState) → is_call i ≡ false → TransfersAlone i shapes ctx_len a b taken
+        → Transfers i shapes ctx_len a b taken }
+{}
+
+/// States with the same kinds, place by place, describe the same runs.
+pub fn alike_wider()
+    ensures { (a b : AbsState) → AreAlike a b → Wider a b }
+{}
+
+/// A narrower state before, and a wider one after, do as well.
+pub fn transfers_wider()
+    ensures { (i : Insn) (shapes : List MapShape) (ctx_len : ℕ) (old before new other : AbsState)
+        (taken also : Option AbsState) → Wider old before → Wider new other
+        → Wider (unwrap_or taken new) (unwrap_or also other)
+        → Transfers i shapes ctx_len before new taken → Transfers i shapes ctx_len old other also }
+{}
+
+/// A lock outside every section.
+pub fn lock_transfers()
+    ensures { (imm : ℤ) (shapes : List MapShape) (ctx_len : ℕ) (a : AbsState)
+        → kernel_function_of imm ≡ Some KernelFunction.ReadLock → a.inside ≡ false
+        → Transfers (Insn.Call CallKind.Kernel imm) shapes ctx_len a (after_lock a) None }
+{}
+
+/// An unlock inside a section ends all that may be an element, in registers and in cells.
+pub fn unlock_transfers()
+    ensures { (imm : ℤ) (shapes : List MapShape) (ctx_len : ℕ) (a : AbsState)
+        → kernel_function_of imm ≡ Some KernelFunction.ReadUnlock → a.inside ≡ true
+        → Transfers (Insn.Call CallKind.Kernel imm) shapes ctx_len a (after_unlock a) None }
+{}
+
+/// A lookup inside a section gives what may be null, with an identity that nothing has.
+pub fn lookup_transfers()
+    ensures { (imm : ℤ) (shapes : List MapShape) (ctx_len : ℕ) (a : AbsState) (map id : ℕ)
+        (shape : MapShape) → helper_of imm ≡ Some Helper.Lookup → a.inside ≡ true
+        → HasMap shapes a map shape → HasBytes a 2 shape.key_len → IsFresh id a
+        → Transfers (Insn.Call CallKind.Helper imm) shapes ctx_len a (after_call (MaybeNull map id) a) None }
+{}
+
+/// A delete: what the run holds it holds on.
+pub fn delete_transfers()
+    ensures { (imm : ℤ) (shapes : List MapShape) (ctx_len : ℕ) (a : AbsState) (map : ℕ)
+        (shape : MapShape) (t : Scalar) → ((n : ℕ) → n < 2 ^ 64 → Holds t n)
+        → HasMap shapes a map shape → HasBytes a 2 shape.key_len
+        → helper_of imm ≡ Some Helper.Delete
+        → Transfers (Insn.Call CallKind.Helper imm) shapes ctx_len a (after_call (Num t) a) None }
+{}
+
+/// An update: what the run holds it holds on, and the new value is bytes.
+pub fn update_transfers()
+    ensures { (imm : ℤ) (shapes : List MapShape) (ctx_len : ℕ) (a : AbsState) (map : ℕ)
+        (shape : MapShape) (t : Scalar) → ((n : ℕ) → n < 2 ^ 64 → Holds t n)
+        → HasMap shapes a map shape → HasBytes a 2 shape.key_len → HasBytes a 3 shape.value_len
+        → (q : Scalar) → a.regs 4 ≡ Num q → helper_of imm ≡ Some Helper.Update
+        → Transfers (Insn.Call CallKind.Helper imm) shapes ctx_len a (after_call (Num t) a) None }
+{}
+
+/// A test for null that jumps where it is null.
+pub fn equal_transfers()
+    ensures { (shapes : List MapShape) (ctx_len dst n map id : ℕ) (a : AbsState) (z origin : Scalar)
+        → Holds z 0 → HasOffset origin (pos 0) → a.regs dst ≡ MaybeNull map id
+        → Transfers (Insn.JumpIf Condition.Equal Size.Word64 dst (Operand.Immediate (pos 0)) (pos n)) shapes ctx_len a (when_there id origin a) (Some (when_null id z a)) }
+{}
+
+/// A test for null that jumps where it isn't.
+pub fn not_equal_transfers()
+    ensures { (shapes : List MapShape) (ctx_len dst n map id : ℕ) (a : AbsState) (z origin : Scalar)
+        → Holds z 0 → HasOffset origin (pos 0) → a.regs dst ≡ MaybeNull map id
+        → Transfers (Insn.JumpIf Condition.NotEqual Size.Word64 dst (Operand.Immediate (pos 0)) (pos n)) shapes ctx_len a (when_null id z a) (Some (when_there id origin a)) }
+{}
+
+/// A load from an element.
+pub fn load_transfers()
+    ensures { (width : Width) (dst src : ℕ) (offset : ℤ) (shapes : List MapShape) (ctx_len : ℕ)
+        (a : AbsState) (map : ℕ) (shape : MapShape) (scalar t : Scalar)
+        → a.regs src ≡ ValueAt map scalar → slice_get shapes map ≡ Some shape
+        → IsPlaced scalar (byte_count width) offset shape.value_len → (10 ≡ dst → ⊥)
+        → ((n : ℕ) → n < 256 ^ byte_count width → Holds t n)
+        → Transfers (Insn.Load width dst src offset) shapes ctx_len a (with_kind dst (Num t) a) None }
+{}
+
+/// A store of a number to an element.
+pub fn store_transfers()
+    ensures { (width : Width) (dst : ℕ) (offset : ℤ) (src : Operand) (shapes : List MapShape)
+        (ctx_len : ℕ) (a : AbsState) (map : ℕ) (shape : MapShape) (scalar : Scalar)
+        → a.regs dst ≡ ValueAt map scalar → IsNumberOperand a src
+        → slice_get shapes map ≡ Some shape
+        → IsPlaced scalar (byte_count width) offset shape.value_len
+        → Transfers (Insn.Store width dst offset src) shapes ctx_len a a None }
+{}
+
+/// A load with sign extension from an element.
+pub fn load_signed_transfers()
+    ensures { (width : SignedWidth) (dst src : ℕ) (offset : ℤ) (shapes : List MapShape) (ctx_len : ℕ)
+        (a : AbsState) (map : ℕ) (shape : MapShape) (scalar t : Scalar)
+        → a.regs src ≡ ValueAt map scalar → slice_get shapes map ≡ Some shape
+        → IsPlaced scalar (byte_count (unsigned_width width)) offset shape.value_len
+        → (10 ≡ dst → ⊥)
+        → ((n : ℕ) → n < 256 ^ byte_count (unsigned_width width) → (loaded_signed width n < 2 ^ 64) × Holds t (loaded_signed width n))
+        → Transfers (Insn.LoadSigned width dst src offset) shapes ctx_len a (with_kind dst (Num t) a) None }
+{}
+
+/// A store of eight bytes to the frame, of a value of any written kind.
+pub fn spill_transfers()
+    ensures { (dst src : ℕ) (offset o : ℤ) (at : ℕ) (shapes : List MapShape) (ctx_len : ℕ)
+        (a : AbsState) (kind : Kind) → a.regs dst ≡ FrameAt o
+        → place_of FRAME_BYTES 8 (o +ℤ offset) ≡ Some at → a.regs src ≡ kind → IsWritten kind
+        → Transfers (Insn.Store Width.Eight dst offset (Operand.Register src)) shapes ctx_len a (with_cells at 8 (PartCell kind) a) None }
+{}
+
+/// A load of the eight parts of what was stored.
+pub fn fill_transfers()
+    ensures { (dst src : ℕ) (offset o : ℤ) (at : ℕ) (shapes : List MapShape) (ctx_len : ℕ)
+        (a : AbsState) (kind : Kind) → a.regs src ≡ FrameAt o
+        → place_of FRAME_BYTES 8 (o +ℤ offset) ≡ Some at
+        → ((j : ℕ) → j < 8 → a.cells (at + j) ≡ PartCell kind) → IsPointer kind → (10 ≡ dst → ⊥)
+        → Transfers (Insn.Load Width.Eight dst src offset) shapes ctx_len a (with_kind dst kind a) None }
+{}
+
+/// A plan that is kept instruction by instruction is closed under the machine's steps.
+pub fn kept_is_closed()
+    ensures { (code : List Insn) (shapes : List MapShape) (ctx_len : ℕ) (plan : Plan)
+        → IsKept code shapes ctx_len plan → IsClosed code shapes ctx_len plan }
+{}
+
+/// At the start of verified programs the machine is well.
+pub fn starts_well()
+    ensures { (shapes : List MapShape) (programs : List Loaded) → AreVerified shapes programs
+        → IsWell (start_machine shapes programs) }
+{}
+
+/// It stays well, whatever event comes and whatever it answers.
+pub fn keeps_well()
+    ensures { (m new : Machine) (event : Event) (answer : Answer) → IsWell m → IsReal event
+        → Does m event answer new → IsWell new }
+{}
+
+/// Then each run that hasn't ended has a step.
+pub fn well_never_stuck()
+    ensures { (m : Machine) → IsWell m → NeverStuck m }
+{}
+
+/// Each reached state of verified programs is well.
+pub fn reached_is_well()
+    ensures { (shapes : List MapShape) (programs : List Loaded) (s : Schedule)
+        → AreVerified shapes programs → IsReached shapes programs s → IsWell s.machine }
+{}
+
+/// No state of a history from a well state is stuck.
+pub fn never_stuck_along()
+    ensures { (m : Machine) (events : List Event) (answers : List Answer) (states : List Machine)
+        → IsWell m → AreReal events → IsHistory m events answers states
+        → AllStates NeverStuck (m ∷ states) }
+{}
+
+/// Nor is one of a history of what a world tracks.
+pub fn tracked_never_stuck()
+    ensures { (w : WorldView) (events : List Event) (answers : List Answer)
+        → AreVerified (shapes_of w) w.programs → AreReal events
+        → AreNeverStuck Tracks w events answers }
+{}
+
+/// In a history from a well state, what a run has moved by the answers is less than its program is long.
+pub fn exits_in_time_along()
+    ensures { (m : Machine) (events : List Event) (answers : List Answer) (states : List Machine)
+        → IsWell m → AreReal events → IsHistory m events answers states
+        → ExitsInTime m events answers states }
+{}
+
+/// So it is in one of what a world tracks, of runs that were there before it too.
+pub fn tracked_exits_in_time()
+    ensures { (w : WorldView) (events : List Event) (answers : List Answer)
+        → AreVerified (shapes_of w) w.programs → AreReal events
+        → AllExitInTime Tracks w events answers }
+{}
+
+/// In a well machine the offsets of all references that runs have, in registers and in their frames, are near.
+pub fn well_is_near()
+    ensures { (m : Machine) → IsWell m → IsNearMachine m }
+{}
+
+/// So they are in each state of a history of what a world tracks.
+pub fn tracked_is_near()
+    ensures { (w : WorldView) (events : List Event) (answers : List Answer)
+        → AreVerified (shapes_of w) w.programs → AreReal events → (m : Machine) → Tracks w m
+        → (states : List Machine) → IsHistory m events answers states
+        → AllStates IsNearMachine (m ∷ states) }
+{}
+
+/// Two near references with one word name one place: of one region, one slot and one offset.
+pub fn near_references_differ()
+    ensures { (slots : List ℕ) (es : List Element) (r q : Reference) (w : ℕ) → IsNearReference r
+        → IsNearReference q → IsWithinLimits slots es r → IsWithinLimits slots es q
+        → IsReferenceWord (element_bases slots es) r w → IsReferenceWord (element_bases slots es) q w
+        → named_place slots es r ≡ named_place slots es q }
+{}
+
+/// A program that looks up a key in a section, and loads from the value where there is one, is verified.
+pub fn lookup_is_verified()
+    ensures { (any : Scalar) → ((n : ℕ) → n < 2 ^ 64 → Holds any n)
+        → IsVerified lookup_and_load (example_shape ∷ []) 0 }
+{}
+
+/// With it, and whatever the control plane does, no run is ever stuck.
+pub fn lookup_never_stuck()
+    ensures { (any : Scalar) → ((n : ℕ) → n < 2 ^ 64 → Holds any n) → (s : Schedule)
+        → IsReached (example_shape ∷ []) (record { code = lookup_and_load; maps = 0 ∷ []; context_len = 0 } ∷ []) s
+        → NeverStuck s.machine }
+{}
+
+/// Outside every section no register is known to be an element.
+pub fn none_outside()
+    ensures { (a : AbsState) (c : Scene) (m : State) (r map : ℕ) (s : Scalar) → Describes a c m
+        → a.inside ≡ false → a.regs r ≡ ValueAt map s → ⊥ }
+{}
+
+/// Nor is a part of what was stored in the frame.
+pub fn no_cell_outside()
+    ensures { (a : AbsState) (c : Scene) (m : State) (k map : ℕ) (s : Scalar) → Describes a c m
+        → a.inside ≡ false → a.cells k ≡ PartCell (ValueAt map s) → ⊥ }
+{}
