@@ -1,12 +1,21 @@
-//! Tests that cross the crates: programs as bytes, from the decoder to the exit value.
+//! Tests that cross the crates: programs as bytes, from the decoder to the exit value; and those of the
+//! public calls of the crates below.
 #![tactic(auto)]
 
+#[cfg(test)]
+mod codec;
 #[cfg(test)]
 mod compared;
 #[cfg(test)]
 mod judged;
 #[cfg(test)]
+mod kinds;
+#[cfg(test)]
 mod long;
+#[cfg(test)]
+mod model_programs;
+#[cfg(test)]
+mod models;
 #[cfg(test)]
 mod numbers;
 #[cfg(test)]
@@ -15,3 +24,5 @@ mod orders;
 mod rows;
 #[cfg(test)]
 mod sets;
+#[cfg(test)]
+mod text;
