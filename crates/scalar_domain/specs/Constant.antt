@@ -12,7 +12,14 @@ le_self n = omega arith
 
 -- the set of this number alone
 abbrev pub constant_of : ℕ → Scalar
-constant_of n = record { least = n; greatest = n; may = n; must = n; ordered = le_self n; consistent = and_self n }
+constant_of n = record {
+  least = n;
+  greatest = n;
+  may = n;
+  must = n;
+  ordered = le_self n;
+  consistent = and_self n;
+}
 
 made : (l g m k : ℕ) → l ≤ g → Within k m → Scalar
 made l g m k o c = record { least = l; greatest = g; may = m; must = k; ordered = o; consistent = c }

@@ -50,8 +50,11 @@ pub record KeepsUnaryFloor (op : UnaryOp) (a result : Scalar) : Type 0 where
   pub constant : (x : ℕ) → IsConstant a x → IsConstant result (unary op x)
   pub narrow : result.greatest < 2 ^ result_bits op
 
--- What remains of both sides of a comparison, on one of its edges, is at least this narrow.
-pub record KeepsEdgeFloor (size : Size) (c : Condition) (taken : Bool) (a b left right : Scalar) : Type 0 where
+-- What remains of both sides of a comparison, on one of its edges, is at least this narrow. By a
+-- constant the unsigned orders and equality move the bounds, where a number between them goes along
+-- the edge; where none does, no bounds could.
+pub record KeepsEdgeFloor (size : Size) (c : Condition) (taken : Bool) (a b left right : Scalar)
+    : Type 0 where
   pub no_wider_left : IsNoWider left a
   pub no_wider_right : IsNoWider right b
   pub bounds : (k x : ℕ) → size ≡ Word64 → MovesBounds c taken → IsConstant b k → IsBetween a x

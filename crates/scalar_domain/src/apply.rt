@@ -13,8 +13,8 @@ use crate::scalar::Scalar;
 use bpf_model::{AluOp, Size};
 
 impl Scalar {
-    /// What an operation can give, on 64 bits or on the low 32. It gives the constant of two
-    /// constants, and on 64 bits it is as narrow as `specs/Precision.antt` says.
+    /// What an operation can give, on 64 bits or on the low 32: at least as narrow as
+    /// `specs/Floor.antt` says, so of two constants the constant.
     pub fn apply(size: Size, op: AluOp, a: Scalar, b: Scalar) -> Scalar
         ensures sound { (x y : ℕ) → x < 2 ^ 64 → y < 2 ^ 64 → Holds a x → Holds b y
             → Holds result (alu size op x y) }
