@@ -25,7 +25,7 @@ use Rattle.abstract_state.specs.declared.state.AbsState.{AbsState}
 use Rattle.abstract_state.specs.declared.environment.EnvironmentShape.{EnvironmentShape}
 use Rattle.abstract_state.specs.State.{IsOf, IsOfCell, IsNumber, Describes, kind_at, IsEnvironment, Compares, Transfers, base_of, IsInRegion}
 use Rattle.abstract_state.specs.Facts.{Fact, Register as RegisterFact, FrameByte, FramePointer, FactHolds, Makes, IsReady}
-use Rattle.abstract_state.specs.Floor.{set_by, LoadsKnown, ComputesKnown, RefinesKnown, constant_of, IsNumbers, LeavesKnown}
+use Rattle.abstract_state.specs.Floor.{set_by, LoadsKnown, ComputesKnown, RefinesKnown, IsNumbers, LeavesKnown}
 use Rattle.abstract_state.specs.Steps.{Gives, Computes, Shifts, SetsReg, Yields, Flows, single, Stepped}
 use Rattle.bpf_model.specs.Step.{State, Environment, Moves, put, sets, map_value}
 use Rattle.bpf_model.specs.Near.{IsNear}
@@ -213,12 +213,6 @@ leaves_known SignedMod size x y k ne h = h
 leaves_known Xor size x y k ne h = h
 leaves_known ShiftRightSigned size x y k ne h = h
 leaves_known Move size x y k ne h = absurd (ne refl)
-
-pub constant_is : (s : Scalar) (n : ℕ) → s.least ≡ n → s.greatest ≡ n → s.may ≡ n → s.must ≡ n → s ≡ constant_of n
-constant_is s n p q r t = ap (λ n. record { least = n; greatest = s.greatest; may = s.may; must = s.must }) p
-    ∙ ap (λ k. record { least = n; greatest = k; may = s.may; must = s.must }) q
-    ∙ ap (λ k. record { least = n; greatest = n; may = k; must = s.must }) r
-    ∙ ap (λ k. record { least = n; greatest = n; may = n; must = k }) t
 
 pub num_of : {a b : Scalar} → Num a ≡ Num b → a ≡ b
 num_of e = cc

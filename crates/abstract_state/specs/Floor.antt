@@ -14,6 +14,7 @@ use Rattle.bpf_model.specs.Operand.{unary_source}
 use Rattle.bpf_model.specs.Plain.{Names}
 use Rattle.scalar_domain.specs.declared.scalar.Scalar.{Scalar}
 use Rattle.scalar_domain.specs.Scalar.{IsConstant}
+use Rattle.scalar_domain.specs.Constant.{constant_of}
 use Rattle.scalar_domain.specs.Floor.{KeepsLoadFloor, KeepsFloor, KeepsUnaryFloor, KeepsEdgeFloor}
 use Rattle.abstract_state.specs.declared.kind.RegKind.{RegKind}
 use Rattle.abstract_state.specs.declared.kind.RegKind.TheVariants.{Num, Map}
@@ -45,10 +46,6 @@ LoadsKnown (LoadSigned width dst src offset) new = IsNumbers (λ s. Unit {0}) (k
 LoadsKnown (LoadNumber dst n) new = IsNumbers (λ s. IsConstant s n) (kind_at new dst)
 LoadsKnown (LoadMap dst map) new = (index : ℕ) × (map ≡ pos index) × (kind_at new dst ≡ Map index)
 LoadsKnown _ new = Unit {0}
-
--- one number alone
-abbrev pub constant_of : ℕ → Scalar
-constant_of n = record { least = n; greatest = n; may = n; must = n }
 
 -- the kind of a second operand
 abbrev pub operand_kind : Operand → AbsState → RegKind
