@@ -10,4 +10,6 @@ mod long;
 #[cfg(test)]
 mod orders;
 #[cfg(test)]
+mod refusals;
+#[cfg(test)]
 mod rows;
