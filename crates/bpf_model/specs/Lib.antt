@@ -23,6 +23,7 @@ pub mod Profile
 pub mod Reclaim
 pub mod Refines
 pub mod Replay
+pub mod Request
 pub mod Run
 pub mod Schedule
 pub mod Section

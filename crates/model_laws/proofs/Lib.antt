@@ -31,3 +31,4 @@ pub mod Between
 pub mod Deciding
 pub mod Alone
 pub mod Exits
+pub mod Requests

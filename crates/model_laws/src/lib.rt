@@ -3,7 +3,7 @@
 //! Each is a function with an empty body, whose contract is the law.
 #![tactic(auto)]
 
-ghost use Rattle.std.specs.Prelude.{◌≡◌, ℕ, ◌+◌, ◌<◌, ◌^◌, ℤ, pos, Bool, false, List, [], ◌++◌, ◌∷◌, length, slice_get, Some, ◌↔◌, ◌≢◌, Result, Ok, Err};
+ghost use Rattle.std.specs.Prelude.{◌≡◌, ℕ, ◌+◌, ◌<◌, ◌^◌, ℤ, pos, Bool, false, List, [], ◌++◌, ◌∷◌, length, slice_get, Option, Some, None, ◌↔◌, ◌⊎◌, ◌≢◌, Result, Ok, Err};
 ghost use Rattle.bpf_model.specs.declared.call.Errno.{Errno};
 ghost use Rattle.bpf_model.specs.declared.call.Errno.TheVariants.{NoMemory};
 ghost use Rattle.bpf_model.specs.declared.event.Event.{Event};
@@ -31,7 +31,11 @@ ghost use Rattle.bpf_model.specs.Refines.{IsReached, TracksSchedule, Tracks};
 ghost use Rattle.bpf_model.specs.Word.{IsReferenceWord, element_bases};
 ghost use Rattle.bpf_model.specs.Exit.{ExitsWith, HasNoMaps};
 ghost use Rattle.bpf_model.specs.Machine.{Run, fresh_run};
-ghost use Rattle.bpf_model.specs.MachineStep.{RunStep};
+ghost use Rattle.bpf_model.specs.MachineStep.{InsnStep, RunStep};
+ghost use Rattle.bpf_model.specs.Step.{State, Environment, after};
+ghost use Rattle.bpf_model.specs.declared.call.Helper.{Helper};
+ghost use Rattle.bpf_model.specs.declared.value.Value.{Value};
+ghost use Rattle.bpf_model.specs.Request.{Argument, Request, signature_of, asks, Calls, IsOfKind, StepsAlone, StepsServed};
 ghost use Rattle.model_laws.specs.Alone.{SharesNothing};
 ghost use Rattle.model_laws.specs.Growth.{Grows};
 ghost use Rattle.model_laws.specs.Begun.{HasBegun};
@@ -358,4 +362,29 @@ pub fn one_exit()
         ExitsWith program context s n → ExitsWith program context t k → s ≡ t }
     ensures value { (program : Loaded) (context : List ℕ) (s t n k : ℕ) → HasNoMaps program.code →
         ExitsWith program context s n → ExitsWith program context t k → n ≡ k }
+{}
+
+/// A step of an instruction is what the run does by itself, or a request that the maps serve and with whose reply the
+/// run goes on, and nothing else. A request is an access to an element, the call of a helper, or to enter a section
+/// or leave one.
+pub fn steps_by_request()
+    ensures { (i : Insn) (store new_store : Store) (opened : List Section) (run new : Run)
+        (answer : Answer) →
+        InsnStep i store opened run answer new_store new ↔
+        (StepsAlone i store run answer new_store new ⊎ StepsServed i store opened run answer new_store new) }
+{}
+
+/// An instruction that asks something does nothing by itself.
+pub fn asks_or_acts()
+    ensures { (i : Insn) (shapes : ℕ → Option MapShape) (env : Environment) (m : State)
+        (request : Request) →
+        asks i shapes m ≡ Some request → after i env m ≡ None }
+{}
+
+/// A helper's reply is of the kind of its signature.
+pub fn replies_by_signature()
+    ensures { (helper : Helper) (arguments : List Argument) (bound : List ℕ) (store new_store : Store)
+        (opened : List Section) (reply : Value) →
+        Calls helper arguments bound store opened reply new_store →
+        IsOfKind (signature_of helper).result reply }
 {}

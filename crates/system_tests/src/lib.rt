@@ -1,6 +1,9 @@
-//! Tests that cross the crates: programs as bytes, from the decoder to the exit value.
+//! Tests that cross the crates: programs as bytes, from the decoder to the exit value; and those of the
+//! public calls of the crates below.
 #![tactic(auto)]
 
+#[cfg(test)]
+mod codec;
 #[cfg(test)]
 mod compared;
 #[cfg(test)]
@@ -13,3 +16,5 @@ mod orders;
 mod refusals;
 #[cfg(test)]
 mod rows;
+#[cfg(test)]
+mod text;
