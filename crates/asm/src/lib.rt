@@ -21,6 +21,3 @@ mod statement;
 pub use assembling::assemble;
 pub use fault::AsmFault;
 pub use law::one_fault;
-
-#[cfg(test)]
-mod tests;

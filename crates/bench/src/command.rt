@@ -1,5 +1,6 @@
 //! The words of the command line.
 ghost use Rattle.std.specs.Prelude.{◌≡◌, ◌≤◌, ◌↔◌, [], IfOk, Ok};
+ghost use Rattle.bpf_model.specs.declared.limits.TheConstants.{CTX_BYTES};
 ghost use Rattle.bench.specs.declared.command.Command.TheVariants.{Samples};
 ghost use Rattle.bench.specs.Words.{HasContextLength};
 
@@ -26,7 +27,7 @@ pub enum UsageFault {
 
 /// The length of a context, in decimal digits.
 fn context_length(word: &str) -> Result<usize, UsageFault>
-    ensures { IfOk result (λ n. n ≤ 256) }
+    ensures { IfOk result (λ n. n ≤ CTX_BYTES) }
 {
     match word.parse::<usize>() {
         Ok(length) if length <= CTX_BYTES => Ok(length),

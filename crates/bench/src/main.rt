@@ -2,6 +2,7 @@
 #![tactic(auto)]
 
 ghost use Rattle.std.specs.Prelude.{◌≤◌};
+ghost use Rattle.bpf_model.specs.declared.limits.TheConstants.{CTX_BYTES};
 
 mod command;
 mod decimal;
@@ -33,7 +34,7 @@ fn print_samples(rt: &HostRuntime) -> Result<()> {
 
 /// Measures the program in a file on a context of this length, and prints four lines.
 fn measure_file(rt: &HostRuntime, file: &str, ctx_len: usize) -> Result<()>
-    requires { ctx_len ≤ 256 }
+    requires { ctx_len ≤ CTX_BYTES }
 {
     let alloc = rt.alloc();
     let bytes = match fs::read(rt, file) {

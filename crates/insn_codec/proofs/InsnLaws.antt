@@ -28,10 +28,10 @@ use Rattle.bpf_model.specs.declared.insn.Insn.TheVariants.{Alu, Unary, LoadNumbe
 use Rattle.bpf_model.specs.Opcode.{opcode_byte}
 use Rattle.bpf_model.specs.Profile.{is_supported, is_admitted}
 use Rattle.bpf_model.specs.Spelling.{FitsInsn, slots_of, slot_count, first_slot, tail_slot, opcode_of, code_of, offset_of, extension_size, extension_bits, swap_bits, call_source}
+use Rattle.insn_codec.specs.Begins.{BeginsWith}
 use Rattle.insn_codec.specs.Faults.{flaw_with}
 
-abbrev pub Begins : Insn → Slot → Option Slot → Type 0
-Begins i s next = slots_of i ≡ take (slot_count i) (s ∷ option_to_list next)
+-- An instruction has one slot or two.
 
 pub record IsOneSlot (i : Insn) : Type 0 where
   pub slots : slots_of i ≡ first_slot i ∷ []
@@ -50,18 +50,18 @@ shape i = inl (record { slots = refl; count = refl })
 pub heads : (a s : Slot) (xs ys : List Slot) → a ∷ xs ≡ s ∷ ys → (a ≡ s) × (xs ≡ ys)
 heads a s xs ys e = (cc, cc)
 
-one_begins : (i : Insn) (s : Slot) (next : Option Slot) → IsOneSlot i → Begins i s next → (first_slot i ≡ s) × (drop 1 (slots_of i) ≡ take (slot_count i - 1) (option_to_list next))
+one_begins : (i : Insn) (s : Slot) (next : Option Slot) → IsOneSlot i → BeginsWith s next i → (first_slot i ≡ s) × (drop 1 (slots_of i) ≡ take (slot_count i - 1) (option_to_list next))
 one_begins i s next one e =
     let h = heads (first_slot i) s [] [] (sym one.slots ∙ e ∙ ap (λ (n : ℕ). take n (s ∷ option_to_list next)) one.count) in
     (h.0, rw (one.slots, one.count) refl)
 
-two_begin : (i : Insn) (s : Slot) (next : Option Slot) → (two : IsTwoSlots i) → Begins i s next → (first_slot i ≡ s) × (drop 1 (slots_of i) ≡ take (slot_count i - 1) (option_to_list next))
+two_begin : (i : Insn) (s : Slot) (next : Option Slot) → (two : IsTwoSlots i) → BeginsWith s next i → (first_slot i ≡ s) × (drop 1 (slots_of i) ≡ take (slot_count i - 1) (option_to_list next))
 two_begin i s next two e =
     let h = heads (first_slot i) s (two.tail ∷ []) (take 1 (option_to_list next)) (sym two.slots ∙ e ∙ ap (λ (n : ℕ). take n (s ∷ option_to_list next)) two.count) in
     (h.0, rw (two.slots, two.count) h.1)
 
 -- the first slot, and the rest of the slots
-pub begins_parts : (i : Insn) (s : Slot) (next : Option Slot) → Begins i s next → (first_slot i ≡ s) × (drop 1 (slots_of i) ≡ take (slot_count i - 1) (option_to_list next))
+pub begins_parts : (i : Insn) (s : Slot) (next : Option Slot) → BeginsWith s next i → (first_slot i ≡ s) × (drop 1 (slots_of i) ≡ take (slot_count i - 1) (option_to_list next))
 begins_parts i s next e = elim (shape i) [ inl one ↦ one_begins i s next one e | inr two ↦ two_begin i s next two e ]
 
 first_opcode : (i : Insn) → (first_slot i).opcode ≡ opcode_byte (opcode_of i)
@@ -70,7 +70,7 @@ first_opcode (Unary (ByteSwap order width) dst) = refl
 first_opcode (Unary (MoveSigned extension src) dst) = refl
 first_opcode i = refl
 
-pub opcode_is : (i : Insn) (s : Slot) (next : Option Slot) → Begins i s next → opcode_byte (opcode_of i) ≡ s.opcode
+pub opcode_is : (i : Insn) (s : Slot) (next : Option Slot) → BeginsWith s next i → opcode_byte (opcode_of i) ≡ s.opcode
 opcode_is i s next e = sym (first_opcode i) ∙ ap (λ (x : Slot). x.opcode) (begins_parts i s next e).0
 
 pub supported : (i : Insn) → is_admitted i ≡ true → is_supported (opcode_of i) ≡ true
@@ -80,7 +80,7 @@ supported (Unary (MoveSigned extension src) dst) h = refl
 supported (Call kind imm) h = h
 supported i h = refl
 
-pub no_flaw : (i : Insn) (s : Slot) (next : Option Slot) → FitsInsn i → is_admitted i ≡ true → Begins i s next → flaw_with (opcode_of i) s next ≡ None
+pub no_flaw : (i : Insn) (s : Slot) (next : Option Slot) → FitsInsn i → is_admitted i ≡ true → BeginsWith s next i → flaw_with (opcode_of i) s next ≡ None
 no_flaw (Alu operation size dst (operand.Register src)) s next fits h e = grind (arith, nat_tests)
 no_flaw (Alu operation size dst (operand.Immediate imm)) s next fits h e = grind (arith, nat_tests)
 no_flaw (Unary (Negate size) dst) s next fits h e = grind (arith, nat_tests)
@@ -101,7 +101,8 @@ no_flaw (LoadSigned width dst src offset) s next fits h e = grind (arith, nat_te
 no_flaw (Store width dst offset (operand.Register src)) s next fits h e = grind (arith, nat_tests)
 no_flaw (Store width dst offset (operand.Immediate imm)) s next fits h e = grind (arith, nat_tests)
 
--- ---- the instruction back from its opcode and slots
+-- The instruction back from its opcode and slots.
+
 operation_for : AluCode → ℤ → AluOp
 operation_for codes.Add _ = operations.Add
 operation_for codes.Sub _ = operations.Sub
@@ -211,8 +212,8 @@ made_first (LoadSigned width dst src offset) next fits e = refl
 made_first (Store width dst offset (operand.Register src)) next fits e = refl
 made_first (Store width dst offset (operand.Immediate imm)) next fits e = refl
 
-made_again : (i : Insn) (s : Slot) (next : Option Slot) → FitsInsn i → Begins i s next → made (opcode_of i) s next ≡ i
+made_again : (i : Insn) (s : Slot) (next : Option Slot) → FitsInsn i → BeginsWith s next i → made (opcode_of i) s next ≡ i
 made_again i s next fits e = let p = begins_parts i s next e in subst (λ (x : Slot). made (opcode_of i) x next ≡ i) p.0 (made_first i next fits p.1)
 
-pub same : (i j : Insn) (s : Slot) (next : Option Slot) → FitsInsn i → FitsInsn j → Begins i s next → Begins j s next → opcode_of i ≡ opcode_of j → i ≡ j
+pub same : (i j : Insn) (s : Slot) (next : Option Slot) → FitsInsn i → FitsInsn j → BeginsWith s next i → BeginsWith s next j → opcode_of i ≡ opcode_of j → i ≡ j
 same i j s next f g d e o = sym (made_again i s next f d) ∙ ap (λ (k : Opcode). made k s next) o ∙ made_again j s next g e

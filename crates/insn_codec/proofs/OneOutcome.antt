@@ -3,6 +3,7 @@ use Rattle.std.proofs.Common.{◌≡◌, ℕ, ◌*◌, ◌%◌, ◌<◌, ◌≤�
 use Rattle.std.specs.List.{AllByRecursion}
 use Rattle.std.proofs.lemmas.Bool.Decides.{nat_tests}
 use Rattle.std.proofs.lemmas.List.{append-nil, length-append}
+use Rattle.bpf_model.specs.declared.limits.TheConstants.{MAX_SLOTS}
 use Rattle.bpf_model.specs.declared.opcode.Opcode.{Opcode}
 use Rattle.bpf_model.specs.declared.insn.Insn.{Insn}
 use Rattle.bpf_model.specs.Profile.{is_admitted}
@@ -88,11 +89,11 @@ text_has_none (i ∷ is) (j ∷ front) rest f a b c p more h =
     let e = one_first (text (i ∷ is)) (text is) (text front ++ rest) i j a.0 b.0 refl (p ∙ append_assoc (spelling j) (text front) rest) in
     text_has_none is front rest f a.1 b.1 c.1 e.1 more h
 
-no_length_fault : (bytes : List ℕ) (n : ℕ) → length bytes ≡ 8 * n → 1 ≤ n → n ≤ 4096 → length_fault bytes ≡ None
+no_length_fault : (bytes : List ℕ) (n : ℕ) → length bytes ≡ 8 * n → 1 ≤ n → n ≤ MAX_SLOTS → length_fault bytes ≡ None
 no_length_fault bytes n e some limit =
     let whole : length bytes % 8 ≡ 0 = omega arith in
     let long : 0 < length bytes = omega arith in
-    let short : length bytes ≤ 32768 = omega arith in
+    let short : length bytes ≤ 8 * MAX_SLOTS = omega arith in
     grind (arith, nat_tests)
 
 pub no_fault : (p : List Insn) → IsProgram p → IsInProfile p → (f : DecodeFault) → (f ≡ faults.Memory → ⊥) → IsDecodeFault (text p) f → ⊥

@@ -24,7 +24,8 @@ use Rattle.bpf_model.specs.Spelling.{slot_bytes, slot_at, next_slot_at, FitsSlot
 use Rattle.std.proofs.lemmas.Bool.{cases_lt, lt-ltb, le-ltb}
 use Rattle.std.proofs.lemmas.List.{drop-drop, length-append, length-drop}
 use Rattle.insn_codec.proofs.SlotLaws.{IsBytes, IsBytes-drop, slot_again, slot_at-slot_bytes}
-use Rattle.insn_codec.proofs.InsnLaws.{Begins, IsOneSlot, IsTwoSlots, shape, begins_parts}
+use Rattle.insn_codec.specs.Begins.{BeginsWith}
+use Rattle.insn_codec.proofs.InsnLaws.{IsOneSlot, IsTwoSlots, shape, begins_parts}
 
 next_none : (bytes : List ℕ) → length bytes < 16 → next_slot_at bytes ≡ None
 next_none bytes lt = rw (lt-ltb _ _ lt) refl
@@ -60,7 +61,7 @@ front_of_two i t bytes small long e n p =
           record { within = rw n le; parts = rw (e, n) (two_slots bytes (first_slot i) t small le a b) }
     ]
 
-pub front_of : (i : Insn) (bytes : List ℕ) → IsBytes bytes → 8 ≤ length bytes → Begins i (slot_at bytes) (next_slot_at bytes) → Front i bytes
+pub front_of : (i : Insn) (bytes : List ℕ) → IsBytes bytes → 8 ≤ length bytes → BeginsWith (slot_at bytes) (next_slot_at bytes) i → Front i bytes
 front_of i bytes small long e =
     elim (shape i) [
       | inl one ↦ front_of_one i bytes small long one.slots one.count (begins_parts i _ _ e).0
@@ -159,7 +160,7 @@ tail_fits (LoadMap dst map) f two = subst FitsSlot (same_tail _ _ _ _ two.slots)
 tail_fits i f two = absurd (let e : 1 ≡ 2 = two.count in omega arith)
 
 pub record Again (i : Insn) (bytes rest : List ℕ) : Type 0 where
-  pub begins : Begins i (slot_at bytes) (next_slot_at bytes)
+  pub begins : BeginsWith (slot_at bytes) (next_slot_at bytes) i
   pub rest_is : drop (8 * slot_count i) bytes ≡ rest
 
 one_again : (s : Slot) (rest : List ℕ) → FitsSlot s → s ∷ [] ≡ slot_at (slot_bytes s ++ rest) ∷ []

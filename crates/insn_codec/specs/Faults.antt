@@ -1,6 +1,6 @@
 -- Why bytes are no program: the length is tested first, then each instruction from the first slot on, and the
 -- first test that fails is told. Each test stands with its section of RFC 9669.
-use Rattle.std.specs.Prelude.{◌≡◌, ◌≢◌, ℕ, ◌*◌, ◌<◌, pos, ◌==◌, Bool, true, false, ◌||◌, ◌&&◌, not, nat_lt, Option, Some, None, List, if◌then◌else◌, ◌++◌, ◌%◌, length}
+use Rattle.std.specs.Prelude.{◌≡◌, ◌≢◌, ℕ, ◌*◌, ◌<◌, ℤ, pos, ◌==◌, Bool, true, false, ◌||◌, ◌&&◌, not, nat_lt, Option, Some, None, List, [], ◌∷◌, if◌then◌else◌, ◌++◌, ◌%◌, length}
 use Rattle.std.specs.Ordering.{int_eq}
 use Rattle.bpf_model.specs.declared.slot.Slot.{Slot}
 use Rattle.bpf_model.specs.declared.opcode.Source.{Source}
@@ -77,19 +77,21 @@ has_unsupported_source Call s = not (s.src == 0 || s.src == 2)
 has_unsupported_source Wide s = not (s.src == 0 || (takes_maps && s.src == 5))
 has_unsupported_source _ s = false
 
+abbrev pub is_none_of : ℤ → List ℕ → Bool
+is_none_of z [] = true
+is_none_of z (n ∷ ns) = not (int_eq z (pos n)) && is_none_of z ns
+
 -- an offset that means nothing for a division, a modulo or a move (section 4.1)
 abbrev pub has_bad_offset : Opcode → Slot → Bool
-has_bad_offset (Alu code.Div size source) s = not (int_eq s.offset (pos 0) || int_eq s.offset (pos 1))
-has_bad_offset (Alu code.Mod size source) s = not (int_eq s.offset (pos 0) || int_eq s.offset (pos 1))
-has_bad_offset (Alu code.Move Word32 source.Register) s =
-    not (int_eq s.offset (pos 0) || int_eq s.offset (pos 8) || int_eq s.offset (pos 16))
-has_bad_offset (Alu code.Move Word64 source.Register) s =
-    not (int_eq s.offset (pos 0) || int_eq s.offset (pos 8) || int_eq s.offset (pos 16) || int_eq s.offset (pos 32))
+has_bad_offset (Alu code.Div size source) s = is_none_of s.offset (0 ∷ 1 ∷ [])
+has_bad_offset (Alu code.Mod size source) s = is_none_of s.offset (0 ∷ 1 ∷ [])
+has_bad_offset (Alu code.Move Word32 source.Register) s = is_none_of s.offset (0 ∷ 8 ∷ 16 ∷ [])
+has_bad_offset (Alu code.Move Word64 source.Register) s = is_none_of s.offset (0 ∷ 8 ∷ 16 ∷ 32 ∷ [])
 has_bad_offset _ s = false
 
 -- a byte swap of other than 16, 32 or 64 bits (section 4.2)
 abbrev pub has_bad_width : Opcode → Slot → Bool
-has_bad_width (ByteSwap order) s = not (int_eq s.imm (pos 16) || int_eq s.imm (pos 32) || int_eq s.imm (pos 64))
+has_bad_width (ByteSwap order) s = is_none_of s.imm (16 ∷ 32 ∷ 64 ∷ [])
 has_bad_width _ s = false
 
 -- The second slot of a wide instruction is zero but for imm, which is zero too where the source is a map
@@ -164,7 +166,8 @@ length_fault bytes =
 -- Why the bytes are no program; that memory ran out may be said of any.
 abbrev pub IsDecodeFault : List ℕ → DecodeFault → Type 0
 IsDecodeFault bytes faults.Memory = Unit {0}
-IsDecodeFault bytes (faults.Insn flaw slot) = (length_fault bytes ≡ None) × IsFirstInsnFlaw bytes flaw slot
+IsDecodeFault bytes (faults.Insn flaw slot) =
+    (length_fault bytes ≡ None) × IsFirstInsnFlaw bytes flaw slot
 IsDecodeFault bytes f = length_fault bytes ≡ Some f
 
 -- The numbers by which faults are known (docs/REFUSALS.md).

@@ -21,7 +21,9 @@ fn decode_first(bytes: &[u8]) -> Result<(Insn, &[u8]), Flaw>
     ensures found { IfOk result (λ x. bytes.now ≡ spelling x.0 ++ x.1.now) }
     ensures fits { IfOk result (λ x. FitsInsn x.0) }
     ensures admitted { IfOk result (λ x. is_admitted x.0 ≡ true) }
-    ensures only { (i : Insn) → (rest : List ℕ) → FitsInsn i → is_admitted i ≡ true → bytes.now ≡ spelling i ++ rest → IfOk result (λ x. (x.0 ≡ i) × (x.1.now ≡ rest)) × IsOk result }
+    ensures only { (i : Insn) (rest : List ℕ) →
+        FitsInsn i → is_admitted i ≡ true → bytes.now ≡ spelling i ++ rest →
+        IfOk result (λ x. (x.0 ≡ i) × (x.1.now ≡ rest)) × IsOk result }
     ensures flaw { IfErr result (IsInsnFlawAt bytes.now) }
 {
     let instruction = decode_slot(slot_from(bytes), next_slot_from(bytes))?;
@@ -35,7 +37,9 @@ fn decode_all(alloc: Global, bytes: &[u8]) -> Result<(Vec<Insn>, Vec<usize>), De
     ensures fits { IfOk result (λ x. AllByRecursion FitsInsn x.0.items) }
     ensures profile { IfOk result (λ x. IsInProfile x.0.items) }
     ensures starts { IfOk result (λ x. x.1.items ≡ starts_from 0 x.0.items) }
-    ensures only { (is : List Insn) → AllByRecursion FitsInsn is → IsInProfile is → bytes.now ≡ text is → MatchResult result (λ x. x.0.items ≡ is) (λ e. e ≡ Memory) }
+    ensures only { (is : List Insn) →
+        AllByRecursion FitsInsn is → IsInProfile is → bytes.now ≡ text is →
+        MatchResult result (λ x. x.0.items ≡ is) (λ e. e ≡ Memory) }
     ensures flaw { IfErr result (IsInsnFault bytes.now) }
 {
     let mut instructions = Vec::with_capacity(alloc, bytes.len() / 8)?;
@@ -66,7 +70,8 @@ pub fn decode(alloc: Global, bytes: &[u8]) -> Result<Program, DecodeFault>
     ensures program { IfOk result IsProgram }
     ensures profile { IfOk result IsInProfile }
     // What is spelled so is read, unless memory runs out.
-    ensures only { (p : List Insn) → IsProgram p → IsInProfile p → bytes.now ≡ text p → (result ≡ Ok p) ⊎ (result ≡ Err Memory) }
+    ensures only { (p : List Insn) → IsProgram p → IsInProfile p → bytes.now ≡ text p →
+        (result ≡ Ok p) ⊎ (result ≡ Err Memory) }
     // Which fault it is, and where.
     ensures fault { IfErr result (IsDecodeFault bytes.now) }
 {

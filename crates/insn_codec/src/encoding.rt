@@ -2,7 +2,7 @@
 ghost use Rattle.std.specs.Prelude.{◌≡◌, ◌<◌, ◌≤◌, ◌/◌, ◌^◌, ◌++◌, OnOk, IfOk};
 ghost use Rattle.std.specs.Int.{w32, cast_signed};
 ghost use Rattle.bpf_model.specs.Spelling.{FitsInsn, FitsOperand, FitsSlot, slot_bytes, spelling, text, code_of, offset_of, extension_size, extension_bits, swap_bits, source_of, operand_src, operand_imm, slot as slot_of};
-ghost use Rattle.bpf_model.specs.Spelling.{FitsUnary, first_slot as first_slot_of, unary_slot as unary_slot_of, tail_slot as tail_slot_of};
+ghost use Rattle.bpf_model.specs.Spelling.{FitsUnary, IsProgram, first_slot as first_slot_of, unary_slot as unary_slot_of, tail_slot as tail_slot_of};
 
 use crate::opcode::byte_of;
 use crate::program::Program;
@@ -224,12 +224,15 @@ fn put(out: &mut Vec<u8>, instruction: Insn) -> Result<(), AllocError>
     Ok(())
 }
 
-/// The bytes that spell the program: 8 for each of its slots, little-endian. An error says that an allocation failed.
+/// The bytes that spell the program: 8 for each of its slots, little-endian. An error says that an
+/// allocation failed.
 pub fn encode(alloc: Global, program: &Program) -> Result<Vec<u8>, AllocError>
-    ensures { IfOk result (λ v. v.items ≡ text program.now) }
+    ensures text { IfOk result (λ bytes. bytes.items ≡ text program.now) }
+    ensures program { IsProgram program.now }
 {
+    let instructions = program.instructions();
     let mut out = Vec::with_capacity(alloc, 8 * program.slot_count())?;
-    for instruction in program.instructions() {
+    for instruction in instructions {
         put(&mut out, *instruction)?;
     }
     Ok(out)

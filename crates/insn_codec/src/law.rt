@@ -1,18 +1,54 @@
-//! What the definitions say of every input and every program.
-ghost use Rattle.std.specs.Prelude.{◌≡◌, ◌≢◌, ℕ, List};
+//! What the definitions say of every input and every program, and that `decode` and `encode` are inverse to
+//! each other.
+ghost use Rattle.std.specs.Prelude.{◌≡◌, ◌≢◌, ℕ, List, IfOk, IfErr};
 ghost use Rattle.bpf_model.specs.declared.insn.Insn.{Insn};
 ghost use Rattle.bpf_model.specs.Spelling.{text, IsProgram, IsInProfile};
-ghost use Rattle.insn_codec.specs.declared.fault.DecodeFault.{DecodeFault};
 ghost use Rattle.insn_codec.specs.Faults.{IsDecodeFault};
+
+use crate::decoding::decode;
+use crate::encoding::encode;
+use crate::fault::DecodeFault;
+use crate::program::Program;
+use std::alloc::Global;
+
+/// `encode(decode(b)) = b`: a program is encoded to the bytes that it was decoded from.
+///
+/// # Errors
+///
+/// That of `decode`, or `Memory` where an allocation failed.
+pub fn encode_undoes_decode(alloc: Global, bytes: &[u8]) -> Result<Vec<u8>, DecodeFault>
+    ensures same { IfOk result (λ again. again.items ≡ bytes.now) }
+    ensures fault { IfErr result (IsDecodeFault bytes.now) }
+{
+    let program = decode(alloc, bytes)?;
+    Ok(encode(alloc, &program)?)
+}
+
+/// `decode(encode(p)) = p`: a program of the profile is decoded from the bytes that it is encoded to.
+///
+/// # Errors
+///
+/// `Memory` where an allocation failed.
+pub fn decode_undoes_encode(alloc: Global, program: &Program) -> Result<Program, DecodeFault>
+    requires { IsInProfile program.now }
+    ensures same { IfOk result (λ again. again ≡ program.now) }
+    ensures fault { IfErr result (λ fault. fault ≡ DecodeFault.Memory) }
+{
+    let bytes = encode(alloc, program)?;
+    decode(alloc, &bytes)
+}
 
 /// No input has two faults.
 pub fn one_fault()
-    ensures { (bytes : List ℕ) → (f g : DecodeFault) → f ≢ DecodeFault.Memory → g ≢ DecodeFault.Memory → IsDecodeFault bytes f → IsDecodeFault bytes g → f ≡ g }
+    ensures { (bytes : List ℕ) (f g : DecodeFault) →
+        f ≢ DecodeFault.Memory → g ≢ DecodeFault.Memory →
+        IsDecodeFault bytes f → IsDecodeFault bytes g → f ≡ g }
 {}
 
 /// The text of a program of the profile has no fault.
 pub fn no_fault()
-    ensures { (p : List Insn) → IsProgram p → IsInProfile p → (f : DecodeFault) → f ≢ DecodeFault.Memory → IsDecodeFault (text p) f → ⊥ }
+    ensures { (p : List Insn) → IsProgram p → IsInProfile p →
+        (f : DecodeFault) → f ≢ DecodeFault.Memory → IsDecodeFault (text p) f → ⊥ }
 {}
 
 /// No two programs have one text.

@@ -1,8 +1,9 @@
 //! Programs as bytes: the instruction encoding of RFC 9669, little-endian.
 //!
 //! `decode` and `encode` are inverse to each other: the bytes that a program was decoded from are its
-//! encoding, and the encoding of a program of the profile decodes to that program. Where the bytes are no
-//! program, `DecodeFault` tells the first thing that is wrong, and its slot.
+//! encoding (`encode_undoes_decode`), and the encoding of a program of the profile decodes to that program
+//! (`decode_undoes_encode`). Where the bytes are no program, `DecodeFault` tells the first thing that is
+//! wrong, and its slot.
 #![tactic(auto)]
 
 mod decoding;
@@ -24,8 +25,5 @@ pub use decoding::decode;
 pub use encoding::encode;
 pub use fault::DecodeFault;
 pub use flaw::Flaw;
-pub use law::{no_fault, one_fault, one_program};
+pub use law::{decode_undoes_encode, encode_undoes_decode, no_fault, one_fault, one_program};
 pub use program::Program;
-
-#[cfg(test)]
-mod tests;

@@ -1,13 +1,14 @@
 //! A program: its instructions, and the slot where each begins.
 
 ghost use Rattle.std.specs.Prelude.{◌≡◌, ◌≤◌, IfOk};
+ghost use Rattle.bpf_model.specs.declared.limits.TheConstants.{MAX_SLOTS};
 ghost use Rattle.bpf_model.specs.Spelling.{slot_total, starts_from as starts_from_slot};
 
 use bpf_model::Insn;
 use std::alloc::{AllocError, Global};
 use std::marker::Model;
 
-/// Instructions that take 1 to 4096 slots. Contracts see a program as the list of its instructions.
+/// Instructions that take 1 to `MAX_SLOTS` slots. Contracts see a program as the list of its instructions.
 #[derive(Debug, Drop)]
 pub struct Program {
     instructions: Vec<Insn>,
@@ -24,12 +25,14 @@ impl Model for Program {
 
     ghost view = { λ p. p.instructions.items };
 
-    ghost invariant = { λ p. IsProgram p.instructions.items × (p.starts.items ≡ starts_from 0 p.instructions.items) × (p.slots ≡ slot_total p.instructions.items) };
+    ghost invariant = { λ p. IsProgram p.instructions.items ×
+        (p.starts.items ≡ starts_from 0 p.instructions.items) ×
+        (p.slots ≡ slot_total p.instructions.items) };
 }
 
 /// The slot where each instruction begins, and how many slots there are.
 fn starts_of(alloc: Global, instructions: &[Insn]) -> Result<(Vec<usize>, usize), AllocError>
-    requires limit { slot_total instructions.now ≤ 4096 }
+    requires limit { slot_total instructions.now ≤ MAX_SLOTS }
     ensures starts { IfOk result (λ x. x.0.items ≡ starts_from_slot 0 instructions.now) }
     ensures slots { IfOk result (λ x. x.1 ≡ slot_total instructions.now) }
 {
@@ -44,8 +47,10 @@ fn starts_of(alloc: Global, instructions: &[Insn]) -> Result<(Vec<usize>, usize)
 
 impl Program {
     ghost use Rattle.std.specs.Prelude.{◌≡◌, ◌<◌, ◌≤◌, ◌==◌, length, slice_index, IfOk};
+    ghost use Rattle.bpf_model.specs.declared.limits.TheConstants.{MAX_SLOTS};
     ghost use Rattle.bpf_model.specs.Spelling.{IsProgram, starts_from, slot_total};
 
+    /// The program of these parts.
     pub(crate) fn from_parts(instructions: Vec<Insn>, starts: Vec<usize>, slots: usize) -> Program
         requires program { IsProgram instructions.items }
         requires starts { starts.items ≡ starts_from 0 instructions.items }
@@ -91,11 +96,11 @@ impl Program {
         self.instructions.is_empty()
     }
 
-    /// How many slots of 8 bytes the instructions take, 1 to 4096.
+    /// How many slots of 8 bytes the instructions take, 1 to `MAX_SLOTS`.
     pub fn slot_count(&self) -> usize
         ensures value { result ≡ slot_total self.now }
         ensures least { 1 ≤ result }
-        ensures limit { result ≤ 4096 }
+        ensures limit { result ≤ MAX_SLOTS }
     {
         self.slots
     }

@@ -5,6 +5,7 @@ ghost use Rattle.bpf_model.specs.Spelling.{offset_of, extension_size, extension_
 ghost use Rattle.bpf_model.specs.declared.insn.Insn.{Insn};
 ghost use Rattle.bpf_model.specs.Opcode.{opcode_byte};
 ghost use Rattle.bpf_model.specs.Profile.{is_admitted, is_supported as is_supported_opcode};
+ghost use Rattle.insn_codec.specs.Begins.{BeginsWith};
 ghost use Rattle.insn_codec.specs.Faults.{IsInsnFlaw, flaw_with, has_bad_offset, tail_flaw, has_unused, used_fields, has_unsupported_source as unsupported_source};
 
 use crate::flaw::Flaw;
@@ -54,7 +55,8 @@ fn has_unused_field(opcode: Opcode, slot: Slot) -> bool
 /// The operation of a code, which the offset tells where the code has two.
 fn op_of(code: AluCode, offset: i16) -> Option<AluOp>
     ensures some { IfSome result (λ p. (code_of p ≡ code) × (offset_of p ≡ offset)) }
-    ensures none { IsNone result → (offset ≢ pos 0) × ((code ≡ AluCode.Div) ⊎ (code ≡ AluCode.Mod) → offset ≢ pos 1) }
+    ensures none { IsNone result →
+        (offset ≢ pos 0) × ((code ≡ AluCode.Div) ⊎ (code ≡ AluCode.Mod) → offset ≢ pos 1) }
 {
     let op = match (code, offset) {
         (AluCode::Add, 0) => AluOp::Add,
@@ -78,7 +80,8 @@ fn op_of(code: AluCode, offset: i16) -> Option<AluOp>
 
 fn extension_of(size: Size, offset: i16) -> Option<SignExtension>
     ensures some { IfSome result (λ x. (extension_size x ≡ size) × (extension_bits x ≡ offset)) }
-    ensures none { IsNone result → (offset ≢ pos 8) × (offset ≢ pos 16) × (size ≡ Size.Word64 → offset ≢ pos 32) }
+    ensures none { IsNone result →
+        (offset ≢ pos 8) × (offset ≢ pos 16) × (size ≡ Size.Word64 → offset ≢ pos 32) }
 {
     match (size, offset) {
         (Size::Word32, 8) => Some(SignExtension::ByteTo32),
@@ -177,7 +180,7 @@ fn wide(slot: Slot, next: Option<Slot>, dst: Reg) -> Result<Insn, Flaw>
     requires dst { (dst ≡ slot.dst) × (dst ≤ 10) }
     requires source { unsupported_source Opcode.Wide slot ≡ false }
     requires used { has_unused (used_fields Opcode.Wide) slot ≡ false }
-    ensures found { IfOk result (λ i. slots_of i ≡ take (slot_count i) (slot ∷ option_to_list next)) }
+    ensures found { IfOk result (BeginsWith slot next) }
     ensures fits { IfOk result FitsInsn }
     ensures admitted { IfOk result (λ i. is_admitted i ≡ true) }
     ensures kind { IfOk result (λ i. opcode_of i ≡ Opcode.Wide) }
@@ -205,7 +208,7 @@ fn decode_with(opcode: Opcode, slot: Slot, next: Option<Slot>) -> Result<Insn, F
     requires next { IfSome next FitsSlot }
     requires opcode { opcode_byte opcode ≡ slot.opcode }
     requires supported { is_supported_opcode opcode ≡ true }
-    ensures found { IfOk result (λ i. slots_of i ≡ take (slot_count i) (slot ∷ option_to_list next)) }
+    ensures found { IfOk result (BeginsWith slot next) }
     ensures fits { IfOk result FitsInsn }
     ensures admitted { IfOk result (λ i. is_admitted i ≡ true) }
     ensures kind { IfOk result (λ i. opcode_of i ≡ opcode) }
@@ -280,11 +283,12 @@ pub fn decode_slot(slot: Slot, next: Option<Slot>) -> Result<Insn, Flaw>
     requires slot { FitsSlot slot }
     requires next { IfSome next FitsSlot }
     // What is found is spelled so.
-    ensures found { IfOk result (λ i. slots_of i ≡ take (slot_count i) (slot ∷ option_to_list next)) }
+    ensures found { IfOk result (BeginsWith slot next) }
     ensures fits { IfOk result FitsInsn }
     ensures admitted { IfOk result (λ i. is_admitted i ≡ true) }
     // What is spelled so is found.
-    ensures only { (i : Insn) → FitsInsn i → is_admitted i ≡ true → slots_of i ≡ take (slot_count i) (slot ∷ option_to_list next) → result ≡ Ok i }
+    ensures only { (i : Insn) → FitsInsn i → is_admitted i ≡ true → BeginsWith slot next i →
+        result ≡ Ok i }
     ensures flaw { IfErr result (IsInsnFlaw slot next) }
 {
     let Some(opcode) = opcode_from(slot.opcode) else {

@@ -5,23 +5,18 @@ use Rattle.std.specs.Int.Bits.{and_self}
 use Rattle.std.proofs.lemmas.Nat.{and_le_r}
 use Rattle.std.proofs.Math.Nat.{mod-eq_of_lt}
 use Rattle.scalar_domain.specs.declared.scalar.Scalar.{Scalar}
-use Rattle.scalar_domain.specs.Scalar.{Holds, IsConstant}
+use Rattle.scalar_domain.specs.Scalar.{IsConstant}
 use Rattle.scalar_domain.specs.Mask.{Within}
 use Rattle.scalar_domain.specs.Precision.{Adds, Masks, ShiftsLeft}
 use Rattle.scalar_domain.proofs.Bits.{and-within_r}
 use Rattle.scalar_domain.proofs.Multiples.{sum_low, low_zero}
 use Rattle.scalar_domain.proofs.Shifts.{low_zeros}
 
-pub only : (s : Scalar) (n m : ℕ) → IsConstant s n → Holds s m → m ≡ n
-only s n m c h = omega (arith, c.least, c.greatest, h.least, h.greatest)
-
-pub sum_of_constants : (a b r : Scalar) (x y u v : ℕ) → IsConstant a u → IsConstant b v → IsConstant r ((u + v) % 2 ^ 64) → r.may ≡ (u + v) % 2 ^ 64 → Holds a x → Holds b y → Adds a b r
-sum_of_constants a b r x y u v c d e f h k = record {
+pub sum_of_constants : (a b r : Scalar) (u v : ℕ) → IsConstant a u → IsConstant b v → IsConstant r ((u + v) % 2 ^ 64) → r.may ≡ (u + v) % 2 ^ 64 → Adds a b r
+sum_of_constants a b r u v c d e f = record {
   least = λ l. let g : (u + v) % 2 ^ 64 ≡ u + v = mod-eq_of_lt (omega (arith, c.greatest, d.greatest, l)) in omega (arith, g, c.least, d.least, e.least);
   greatest = λ l. let g : (u + v) % 2 ^ 64 ≡ u + v = mod-eq_of_lt (omega (arith, c.greatest, d.greatest, l)) in omega (arith, g, c.greatest, d.greatest, e.greatest);
-  zeros = λ t l i j. ap (λ n. n % 2 ^ t) f ∙ sum_low u v t l
-      (low_zero u a.may t (subst (λ n. Within n a.may) (only a u x c h) h.zeros) i)
-      (low_zero v b.may t (subst (λ n. Within n b.may) (only b v y d k) k.zeros) j);
+  zeros = λ t l i j. ap (λ n. n % 2 ^ t) f ∙ sum_low u v t l (low_zero u a.may t c.zeros i) (low_zero v b.may t d.zeros j);
 }
 
 pub mask_of_constants : (r : Scalar) (u v : ℕ) → IsConstant r (bit_and u v) → r.may ≡ bit_and u v → Masks v r

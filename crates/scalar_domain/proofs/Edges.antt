@@ -1,6 +1,6 @@
 -- What the edges of a conditional jump say.
 use Rattle.std.proofs.Common.{◌≡◌, ℕ, suc, pos, negsuc, ap, inl, inr, ◌-◌, ◌%◌, ◌^◌, ◌<◌, ◌≤◌, sym, ◌∙◌, subst, arith, Bool, true, false}
-use Rattle.std.specs.Prelude.{bit_and, ◌==◌, int_lt, int_le}
+use Rattle.std.specs.Prelude.{bit_and, ◌==◌, int_lt, int_le, Option, Some, None, IsSomeAnd}
 use Rattle.std.specs.Int.{Width, w32, w64}
 use mir.Val.{bits, hbits, sel}
 use Rattle.std.proofs.lemmas.Bool.{eqb-true, eq-eqb, ltb-true, ltb-false, leb-true, leb-false, lt-ltb, le-ltb, le-leb, lt-leb, not-false, not_from_true, false≢true, cases_lt}
@@ -12,7 +12,7 @@ use Rattle.bpf_model.specs.declared.opcode.Condition.{Condition}
 use Rattle.bpf_model.specs.declared.opcode.Condition.TheVariants as condition
 use Rattle.scalar_domain.specs.declared.scalar.Scalar.{Scalar}
 use Rattle.scalar_domain.specs.declared.relation.Relation.{Relation}
-use Rattle.scalar_domain.specs.Scalar.{Holds, IsPossible, IsNoWider}
+use Rattle.scalar_domain.specs.Scalar.{IsNoWider}
 use Rattle.scalar_domain.specs.Mask.{Within}
 use Rattle.scalar_domain.specs.Relation.{Related, Bounding, relation_on, unsigned_condition, signed_order, SignedRelated, MovesBounds, GoesAlong}
 use Rattle.scalar_domain.proofs.Bits.{ap2, within-and, within_le, within-trans}
@@ -166,11 +166,19 @@ not_signed condition.SignedLess false m s = absurd m
 not_signed condition.SignedLessOrEqual true m s = absurd m
 not_signed condition.SignedLessOrEqual false m s = absurd m
 
-pub goes_along : (c : Condition) (t : Bool) (r : Relation) (s : Scalar) (k x : ℕ) → r ≡ relation_on c t → MovesBounds c t →
-    (Bounding r → Related r x k → Related r s.least k × Related r s.greatest k) → holds w64 c x k ≡ t → GoesAlong c t s k
-goes_along c t r s k x e m f h =
-    let g = subst (λ q. Bounding q → Related q x k → Related q s.least k × Related q s.greatest k) e f (bounding c t m) (related w64 c t x k h) in
-    record { least = along c t s.least k m g.0; greatest = along c t s.greatest k m g.1 }
+some_and : {A : Type 0} {P Q : A → Type 0} (o : Option A) → ((x : A) → P x → Q x) → IsSomeAnd o P → IsSomeAnd o Q
+some_and (Some x) f h = f x h
+some_and None f h = absurd h
+
+-- both bounds of the left side stand in the relation to a number
+abbrev pub BothRelated : Relation → ℕ → Scalar × Scalar → Type 0
+BothRelated r k p = Related r p.0.least k × Related r p.0.greatest k
+
+pub goes_along : (c : Condition) (t : Bool) (r : Relation) (o : Option (Scalar × Scalar)) (k x : ℕ) → r ≡ relation_on c t → MovesBounds c t →
+    (Bounding r → Related r x k → IsSomeAnd o (BothRelated r k)) → holds w64 c x k ≡ t → IsSomeAnd o (λ p. GoesAlong c t p.0 k)
+goes_along c t r o k x e m f h =
+    let g = subst (λ q. Bounding q → Related q x k → IsSomeAnd o (BothRelated q k)) e f (bounding c t m) (related w64 c t x k h) in
+    some_and {P = BothRelated (relation_on c t) k} o (λ p b. record { least = along c t p.0.least k m b.0; greatest = along c t p.0.greatest k m b.1 }) g
 
 pub short_compares : (c : Condition) (x y : ℕ) → x < 2 ^ 32 → y < 2 ^ 32 → holds w32 c (x % 2 ^ 32) (y % 2 ^ 32) ≡ holds w32 c x y
 short_compares c x y p q = ap2 (holds w32 c) (mod-eq_of_lt p) (mod-eq_of_lt q)
@@ -182,10 +190,6 @@ pub apart : (m x y : ℕ) → Within m y → bit_and x y ≡ 0 → bit_and m x �
 apart m x y h e =
     let l : bit_and m x ≤ bit_and y x = within_le (bit_and m x) (bit_and y x) (within-and m x y x h (and_self x)) in
     omega (arith, l, and_comm x y, e)
-
--- a scalar that holds a number is possible
-pub held_possible : (s : Scalar) (n : ℕ) → Holds s n → IsPossible s
-held_possible s n h = record { bounds = omega (arith, h.least, h.greatest); bits = within-trans s.must n s.may h.ones h.zeros }
 
 pub no_wider-refl : (s : Scalar) → IsNoWider s s
 no_wider-refl s = record { least = omega arith; greatest = omega arith; zeros = and_self s.may; ones = and_self s.must }

@@ -14,9 +14,9 @@ use Rattle.bpf_model.specs.declared.opcode.Size.{Size}
 use Rattle.bpf_model.specs.declared.opcode.Width.{Width}
 use Rattle.bpf_model.specs.declared.opcode.Size.TheVariants.{Word32, Word64}
 use Rattle.scalar_domain.specs.declared.scalar.Scalar.{Scalar}
-use Rattle.scalar_domain.specs.Scalar.{Holds, IsConstant, IsNoWider}
+use Rattle.scalar_domain.specs.Scalar.{IsConstant, IsNoWider}
 use Rattle.scalar_domain.specs.Precision.{Adds, Masks, ShiftsLeft, ShiftsRight}
-use Rattle.scalar_domain.specs.Relation.{MovesBounds, GoesAlong}
+use Rattle.scalar_domain.specs.Relation.{MovesBounds, GoesAlong, IsBetween}
 
 -- A load without sign gives a number of so many bytes.
 abbrev pub KeepsLoadFloor : Width → Scalar → Type 0
@@ -26,9 +26,9 @@ KeepsLoadFloor width result = result.greatest < 256 ^ byte_count width
 pub record KeepsFloor (size : Size) (op : AluOp) (a b result : Scalar) : Type 0 where
   pub constant : (x y : ℕ) → IsConstant a x → IsConstant b y → IsConstant result (alu size op x y)
   pub narrow : size ≡ Word32 → result.greatest < 2 ^ 32
-  pub sum : (x y : ℕ) → size ≡ Word64 → op ≡ Add → Holds a x → Holds b y → Adds a b result
+  pub sum : size ≡ Word64 → op ≡ Add → Adds a b result
   pub mask : (k : ℕ) → size ≡ Word64 → op ≡ And → IsConstant b k → Masks k result
-  pub shift_left : (k x : ℕ) → size ≡ Word64 → op ≡ ShiftLeft → IsConstant b k → k < 64 → Holds a x → ShiftsLeft k a result
+  pub shift_left : (k : ℕ) → size ≡ Word64 → op ≡ ShiftLeft → IsConstant b k → k < 64 → ShiftsLeft k a result
   pub shift_right : (k : ℕ) → size ≡ Word64 → op ≡ ShiftRight → IsConstant b k → k < 64 → ShiftsRight k a result
   pub remainder : (k : ℕ) → size ≡ Word64 → op ≡ Mod → IsConstant b k → 0 < k → result.greatest < k
 
@@ -50,4 +50,4 @@ pub record KeepsUnaryFloor (op : UnaryOp) (a result : Scalar) : Type 0 where
 pub record KeepsEdgeFloor (size : Size) (c : Condition) (taken : Bool) (a b left right : Scalar) : Type 0 where
   pub no_wider_left : IsNoWider left a
   pub no_wider_right : IsNoWider right b
-  pub bounds : (k x : ℕ) → size ≡ Word64 → MovesBounds c taken → IsConstant b k → Holds a x → Holds b k → holds w64 c x k ≡ taken → GoesAlong c taken left k
+  pub bounds : (k x : ℕ) → size ≡ Word64 → MovesBounds c taken → IsConstant b k → IsBetween a x → holds w64 c x k ≡ taken → GoesAlong c taken left k

@@ -7,6 +7,7 @@ use Rattle.bpf_model.specs.declared.opcode.Condition.TheVariants as condition
 use Rattle.scalar_domain.specs.declared.scalar.Scalar.{Scalar}
 use Rattle.scalar_domain.specs.declared.relation.Relation.{Relation}
 use Rattle.scalar_domain.specs.declared.relation.Relation.TheVariants.{Below, AtMost, Above, AtLeast, Equal, Apart, Unknown}
+use Rattle.scalar_domain.specs.Scalar.{Holds, IsNoWider}
 
 abbrev pub Related : Relation → ℕ → ℕ → Type 0
 Related Below x y = x < y
@@ -76,3 +77,16 @@ MovesBounds other taken = ⊥
 pub record GoesAlong (c : Condition) (taken : Bool) (s : Scalar) (k : ℕ) : Type 0 where
   pub least : holds w64 c s.least k ≡ taken
   pub greatest : holds w64 c s.greatest k ≡ taken
+
+-- The number lies between the bounds.
+pub record IsBetween (s : Scalar) (n : ℕ) : Type 0 where
+  pub least : s.least ≤ n
+  pub greatest : n ≤ s.greatest
+
+-- Two sides hold these numbers.
+abbrev pub AreHeld : ℕ → ℕ → Scalar × Scalar → Type 0
+AreHeld x y p = Holds p.0 x × Holds p.1 y
+
+-- Two sides are no wider than these.
+abbrev pub AreNoWider : Scalar → Scalar → Scalar × Scalar → Type 0
+AreNoWider a b p = IsNoWider p.0 a × IsNoWider p.1 b

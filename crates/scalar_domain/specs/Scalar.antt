@@ -10,15 +10,12 @@ pub record Holds (s : Scalar) (n : ℕ) : Type 0 where
   pub zeros : Within n s.may
   pub ones : Within s.must n
 
--- It stands for no other number than this one.
+-- It stands for this number alone.
 pub record IsConstant (s : Scalar) (n : ℕ) : Type 0 where
   pub least : s.least ≡ n
   pub greatest : s.greatest ≡ n
-
--- Its bounds are in order, and no bit is known to be both 0 and 1.
-pub record IsPossible (s : Scalar) : Type 0 where
-  pub bounds : s.least ≤ s.greatest
-  pub bits : Within s.must s.may
+  pub zeros : Within n s.may
+  pub ones : Within s.must n
 
 -- The bounds of the one lie within those of the other, and each bit that is known in the other is known in it.
 pub record IsNoWider (s wide : Scalar) : Type 0 where

@@ -32,9 +32,9 @@ impl Scalar {
 /// What an operation on 64 bits can give.
 fn apply_wide(op: AluOp, a: Scalar, b: Scalar) -> Scalar
     ensures sound { (x y : ℕ) → x < 2 ^ 64 → y < 2 ^ 64 → Holds a x → Holds b y → Holds result (operate w64 op x y) }
-    ensures sum { (x y : ℕ) → op ≡ Add → Holds a x → Holds b y → Adds a b result }
+    ensures sum { op ≡ Add → Adds a b result }
     ensures mask { (k : ℕ) → op ≡ And → IsConstant b k → Masks k result }
-    ensures shift_left { (k x : ℕ) → op ≡ ShiftLeft → IsConstant b k → k < 64 → Holds a x → ShiftsLeft k a result }
+    ensures shift_left { (k : ℕ) → op ≡ ShiftLeft → IsConstant b k → k < 64 → ShiftsLeft k a result }
     ensures shift_right { (k : ℕ) → op ≡ ShiftRight → IsConstant b k → k < 64 → ShiftsRight k a result }
     ensures remainder { (k : ℕ) → op ≡ Mod → IsConstant b k → 0 < k → result.greatest < k }
 {
@@ -72,9 +72,9 @@ fn without_sign(op: AluOp) -> AluOp
 /// What an operation on 64 bits can give; of a signed one nothing is known.
 fn apply_unsigned(op: AluOp, a: Scalar, b: Scalar) -> Scalar
     ensures sound { (x y : ℕ) → x < 2 ^ 64 → y < 2 ^ 64 → Holds a x → Holds b y → Holds result (operate w64 op x y) }
-    ensures sum { (x y : ℕ) → op ≡ Add → Holds a x → Holds b y → Adds a b result }
+    ensures sum { op ≡ Add → Adds a b result }
     ensures mask { (k : ℕ) → op ≡ And → IsConstant b k → Masks k result }
-    ensures shift_left { (k x : ℕ) → op ≡ ShiftLeft → IsConstant b k → k < 64 → Holds a x → ShiftsLeft k a result }
+    ensures shift_left { (k : ℕ) → op ≡ ShiftLeft → IsConstant b k → k < 64 → ShiftsLeft k a result }
     ensures shift_right { (k : ℕ) → op ≡ ShiftRight → IsConstant b k → k < 64 → ShiftsRight k a result }
     ensures remainder { (k : ℕ) → op ≡ Mod → IsConstant b k → 0 < k → result.greatest < k }
 {

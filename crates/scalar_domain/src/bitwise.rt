@@ -19,31 +19,25 @@ pub(crate) fn ones_up_to(n: u64) -> u64
 
 impl Scalar {
     /// The numbers whose ones stand in `may` and that have those of `must`.
+    #[tactic(auto, using(crate::proofs::Bits::bits_laws))]
     pub(crate) fn from_bits(may: u64, must: u64) -> Scalar
+        requires { Within must may }
         ensures sound { (n : ℕ) → Within n may → Within must n → Holds result n }
         ensures zeros { result.may ≡ may }
         ensures greatest { result.greatest ≡ may }
     {
-        Scalar {
-            least: must,
-            greatest: may,
-            may,
-            must,
-        }
+        Scalar::new(must, may, may, must)
     }
 
     /// The numbers between two bounds.
+    #[tactic(auto, using(crate::proofs::Bits::bits_laws))]
     pub(crate) fn between(least: u64, greatest: u64) -> Scalar
+        requires { least ≤ greatest }
         ensures sound { (n : ℕ) → least ≤ n → n ≤ greatest → Holds result n }
         ensures least { result.least ≡ least }
         ensures greatest { result.greatest ≡ greatest }
     {
-        Scalar {
-            least,
-            greatest,
-            may: ones_up_to(greatest),
-            must: 0,
-        }
+        Scalar::new(least, greatest, ones_up_to(greatest), 0)
     }
 
     /// The bits that may be one, by the mask and by the greatest number.
@@ -54,22 +48,15 @@ impl Scalar {
     }
 
     /// The same numbers; of a constant all bits are known.
-    pub(crate) fn with_known_bits(self) -> Scalar
+    fn with_known_bits(self) -> Scalar
         ensures sound { (n : ℕ) → Holds self n → Holds result n }
         ensures least { result.least ≡ self.least }
         ensures greatest { result.greatest ≡ self.greatest }
-        ensures zeros { Within result.may self.may }
         ensures constant { (n : ℕ) → IsConstant self n → Within result.may n }
     {
-        if self.least == self.greatest {
-            Scalar {
-                least: self.least,
-                greatest: self.greatest,
-                may: self.may & self.least,
-                must: self.least,
-            }
-        } else {
-            self
+        match self.as_constant() {
+            Some(n) => Scalar::constant(n),
+            None => self,
         }
     }
 
@@ -81,12 +68,8 @@ impl Scalar {
     {
         let may = self.may & other.may;
         let must = self.must & other.must;
-        Scalar {
-            least: must,
-            greatest: self.greatest.min(other.greatest).min(may),
-            may,
-            must,
-        }
+        let greatest = self.greatest.min(other.greatest).min(may);
+        Scalar::new(must.min(greatest), greatest, may, must)
     }
 
     /// The same; of a mask that is constant all bits are known.
@@ -102,13 +85,13 @@ impl Scalar {
         ensures sound { (x y : ℕ) → Holds self x → Holds other y → Holds result (bit_or x y) }
     {
         let may = self.possible_ones() | other.possible_ones();
-        let must = self.must | other.must;
-        Scalar {
-            least: self.least.max(other.least).max(must),
-            greatest: may,
+        let must = (self.must | other.must) & may;
+        Scalar::new(
+            self.least.max(other.least).max(must).min(may),
+            may,
             may,
             must,
-        }
+        )
     }
 
     pub(crate) fn xor(self, other: Scalar) -> Scalar
@@ -122,18 +105,12 @@ impl Scalar {
         requires { count < 64 }
         ensures sound { (x : ℕ) → Holds self x → Holds result (x % 2 ^ count) }
         ensures greatest { result.greatest < 2 ^ count }
-        ensures constant { (x : ℕ) → IsConstant self x → IsConstant result (x % 2 ^ count) }
     {
         let modulus = 1 << count;
         let may = self.may % modulus;
         let must = self.must % modulus;
         if self.least / modulus == self.greatest / modulus {
-            Scalar {
-                least: self.least % modulus,
-                greatest: self.greatest % modulus,
-                may,
-                must,
-            }
+            Scalar::new(self.least % modulus, self.greatest % modulus, may, must)
         } else {
             Scalar::from_bits(may, must)
         }
@@ -142,17 +119,12 @@ impl Scalar {
     pub(crate) fn shift_left(self, by: u32) -> Scalar
         requires { by < 64 }
         ensures sound { (x : ℕ) → x < 2 ^ 64 → Holds self x → Holds result ((x * 2 ^ by) % 2 ^ 64) }
-        ensures precise { (x : ℕ) → Holds self x → ShiftsLeft by self result }
+        ensures precise { ShiftsLeft by self result }
     {
         let may = self.may << by;
         let must = self.must << by;
         if self.greatest <= u64::MAX >> by {
-            Scalar {
-                least: self.least << by,
-                greatest: self.greatest << by,
-                may,
-                must,
-            }
+            Scalar::new(self.least << by, self.greatest << by, may, must)
         } else {
             Scalar::from_bits(may, must)
         }
@@ -163,12 +135,12 @@ impl Scalar {
         ensures sound { (x : ℕ) → Holds self x → Holds result (x / 2 ^ by) }
         ensures precise { ShiftsRight by self result }
     {
-        Scalar {
-            least: self.least >> by,
-            greatest: self.greatest >> by,
-            may: self.may >> by,
-            must: self.must >> by,
-        }
+        Scalar::new(
+            self.least >> by,
+            self.greatest >> by,
+            self.may >> by,
+            self.must >> by,
+        )
     }
 
     /// By the amount modulo a size; an unknown amount gives any number.
@@ -176,7 +148,7 @@ impl Scalar {
         requires positive { 0 < size }
         requires word { size ≤ 64 }
         ensures sound { (x y : ℕ) → x < 2 ^ 64 → Holds self x → Holds amount y → Holds result ((x * 2 ^ (y % size)) % 2 ^ 64) }
-        ensures precise { (k x : ℕ) → IsConstant amount k → k < size → Holds self x → ShiftsLeft k self result }
+        ensures precise { (k : ℕ) → IsConstant amount k → k < size → ShiftsLeft k self result }
     {
         match amount.as_constant() {
             Some(k) => self.shift_left((k % size) as u32),

@@ -1,12 +1,12 @@
 //! What a conditional jump tells.
-ghost use Rattle.std.specs.Prelude.{◌≡◌, ℕ, ◌+◌, ◌<◌, ◌≤◌, ◌^◌, ◌⊎◌, bit_and, min, max};
+ghost use Rattle.std.specs.Prelude.{◌≡◌, ℕ, ◌<◌, ◌≤◌, ◌^◌, bit_and, IfSome, IsSome, IsSomeAnd};
 ghost use Rattle.std.specs.Int.{w32, w64};
 ghost use Rattle.bpf_model.specs.Arithmetic.{compares, holds};
 ghost use Rattle.bpf_model.specs.declared.opcode.Size.TheVariants.{Word64};
-ghost use Rattle.scalar_domain.specs.Scalar.{Holds, IsConstant, IsPossible, IsNoWider};
 ghost use Rattle.scalar_domain.specs.Mask.{Within};
+ghost use Rattle.scalar_domain.specs.Scalar.{Holds, IsConstant, IsNoWider};
 ghost use Rattle.scalar_domain.specs.Floor.{KeepsEdgeFloor};
-ghost use Rattle.scalar_domain.specs.Relation.{Related, SignedRelated, Bounding, MovesBounds, GoesAlong};
+ghost use Rattle.scalar_domain.specs.Relation.{Related, SignedRelated, Bounding, MovesBounds, GoesAlong, AreHeld, AreNoWider, IsBetween};
 
 use crate::relation::{Relation, condition_without_sign, is_signed, relation_of};
 use crate::scalar::Scalar;
@@ -14,7 +14,7 @@ use bpf_model::{Condition, Size};
 
 impl Scalar {
     /// What remains of two sets on the edge of a conditional jump where it is taken, or where it is not.
-    /// Where no number would remain on a side, both stay as they are.
+    /// Where no number remains between the bounds of a side, both sets stay as they are.
     pub fn refine(
         size: Size,
         condition: Condition,
@@ -22,88 +22,57 @@ impl Scalar {
         b: Scalar,
         taken: bool,
     ) -> (Scalar, Scalar)
-        ensures sound { (x y : ℕ) → x < 2 ^ 64 → y < 2 ^ 64 → Holds a x → Holds b y → compares size condition x y ≡ taken → Holds result.0 x × Holds result.1 y }
-        ensures possible { (IsPossible result.0 × IsPossible result.1) ⊎ ((result.0 ≡ a) × (result.1 ≡ b)) }
+        ensures sound { (x y : ℕ) → x < 2 ^ 64 → y < 2 ^ 64 → Holds a x → Holds b y → compares size condition x y ≡ taken → AreHeld x y result }
         ensures floor { KeepsEdgeFloor size condition taken a b result.0 result.1 }
     {
-        let (left, right) = refine_words(size, condition, a, b, taken);
-        if left.is_possible() && right.is_possible() {
-            (left, right)
-        } else {
-            (a, b)
+        match refine_words(size, condition, a, b, taken) {
+            Some(sides) => sides,
+            None => (a, b),
         }
     }
 
-    /// The numbers up to a bound.
-    fn up_to(self, bound: u64) -> Scalar
-        ensures sound { (x : ℕ) → Holds self x → x ≤ bound → Holds result x }
+    /// The numbers between two bounds, where any are left.
+    fn clip(self, least: u64, greatest: u64) -> Option<Scalar>
+        ensures sound { (x : ℕ) → Holds self x → least ≤ x → x ≤ greatest → IfSome result (λ r. Holds r x) }
+        ensures no_wider { IfSome result (λ r. IsNoWider r self) }
+        ensures bounds { IfSome result (λ r. (least ≤ r.least) × (r.greatest ≤ greatest)) }
+        ensures found { (x : ℕ) → IsBetween self x → least ≤ x → x ≤ greatest → IsSome result }
+    {
+        let least = self.least.max(least);
+        let greatest = self.greatest.min(greatest);
+        if least > greatest {
+            return None;
+        }
+        Some(Scalar::new(least, greatest, self.may, self.must))
+    }
+
+    /// The numbers whose bits are also within these masks. Where no number has such bits, it stays as it is.
+    fn with_bits(self, may: u64, must: u64) -> Scalar
+        ensures sound { (x : ℕ) → Holds self x → Within x may → Within must x → Holds result x }
         ensures no_wider { IsNoWider result self }
         ensures least { result.least ≡ self.least }
-        ensures greatest { result.greatest ≤ bound }
-    {
-        Scalar {
-            least: self.least,
-            greatest: self.greatest.min(bound),
-            may: self.may,
-            must: self.must,
-        }
-    }
-
-    /// The numbers from a bound on.
-    fn from_bound(self, bound: u64) -> Scalar
-        ensures sound { (x : ℕ) → Holds self x → bound ≤ x → Holds result x }
-        ensures no_wider { IsNoWider result self }
-        ensures least { bound ≤ result.least }
         ensures greatest { result.greatest ≡ self.greatest }
     {
-        Scalar {
-            least: self.least.max(bound),
-            greatest: self.greatest,
-            may: self.may,
-            must: self.must,
+        let may = self.may & may;
+        let must = self.must | must;
+        if must & may != must {
+            return self;
         }
-    }
-
-    /// The numbers of both.
-    fn meet(self, other: Scalar) -> Scalar
-        ensures sound { (x : ℕ) → Holds self x → Holds other x → Holds result x }
-        ensures no_wider { IsNoWider result self × IsNoWider result other }
-        ensures least { result.least ≡ max self.least other.least }
-        ensures greatest { result.greatest ≡ min self.greatest other.greatest }
-    {
-        Scalar {
-            least: self.least.max(other.least),
-            greatest: self.greatest.min(other.greatest),
-            may: self.may & other.may,
-            must: self.must | other.must,
-        }
-    }
-
-    /// The numbers that have none of these bits.
-    fn without_bits(self, bits: u64) -> Scalar
-        ensures sound { (x : ℕ) → x < 2 ^ 64 → Holds self x → bit_and bits x ≡ 0 → Holds result x }
-        ensures no_wider { IsNoWider result self }
-    {
-        Scalar {
-            least: self.least,
-            greatest: self.greatest,
-            may: self.may & !bits,
-            must: self.must,
-        }
+        Scalar::new(self.least, self.greatest, may, must)
     }
 }
 
-/// What remains, also where nothing does.
+/// What remains, by 64 bits or by the low 32; of 32 nothing is told of numbers with a high half.
 fn refine_words(
     size: Size,
     condition: Condition,
     a: Scalar,
     b: Scalar,
     taken: bool,
-) -> (Scalar, Scalar)
-    ensures sound { (x y : ℕ) → x < 2 ^ 64 → y < 2 ^ 64 → Holds a x → Holds b y → compares size condition x y ≡ taken → Holds result.0 x × Holds result.1 y }
-    ensures no_wider { IsNoWider result.0 a × IsNoWider result.1 b }
-    ensures bounds { (k x : ℕ) → size ≡ Word64 → MovesBounds condition taken → IsConstant b k → Holds a x → holds w64 condition x k ≡ taken → GoesAlong condition taken result.0 k }
+) -> Option<(Scalar, Scalar)>
+    ensures sound { (x y : ℕ) → x < 2 ^ 64 → y < 2 ^ 64 → Holds a x → Holds b y → compares size condition x y ≡ taken → IfSome result (AreHeld x y) }
+    ensures no_wider { IfSome result (AreNoWider a b) }
+    ensures bounds { (k x : ℕ) → size ≡ Word64 → MovesBounds condition taken → IsConstant b k → IsBetween a x → holds w64 condition x k ≡ taken → IsSomeAnd result (λ p. GoesAlong condition taken p.0 k) }
 {
     match size {
         Size::Word64 => refine_wide(condition, a, b, taken),
@@ -111,16 +80,16 @@ fn refine_words(
             if a.greatest < 0x1_0000_0000 && b.greatest < 0x1_0000_0000 {
                 refine_narrow(condition, a, b, taken)
             } else {
-                (a, b)
+                None
             }
         }
     }
 }
 
-fn refine_wide(condition: Condition, a: Scalar, b: Scalar, taken: bool) -> (Scalar, Scalar)
-    ensures sound { (x y : ℕ) → x < 2 ^ 64 → y < 2 ^ 64 → Holds a x → Holds b y → holds w64 condition x y ≡ taken → Holds result.0 x × Holds result.1 y }
-    ensures no_wider { IsNoWider result.0 a × IsNoWider result.1 b }
-    ensures bounds { (k x : ℕ) → MovesBounds condition taken → IsConstant b k → Holds a x → holds w64 condition x k ≡ taken → GoesAlong condition taken result.0 k }
+fn refine_wide(condition: Condition, a: Scalar, b: Scalar, taken: bool) -> Option<(Scalar, Scalar)>
+    ensures sound { (x y : ℕ) → x < 2 ^ 64 → y < 2 ^ 64 → Holds a x → Holds b y → holds w64 condition x y ≡ taken → IfSome result (AreHeld x y) }
+    ensures no_wider { IfSome result (AreNoWider a b) }
+    ensures bounds { (k x : ℕ) → MovesBounds condition taken → IsConstant b k → IsBetween a x → holds w64 condition x k ≡ taken → IsSomeAnd result (λ p. GoesAlong condition taken p.0 k) }
 {
     if is_signed(condition) {
         let relation = relation_of(condition_without_sign(condition), taken);
@@ -131,9 +100,14 @@ fn refine_wide(condition: Condition, a: Scalar, b: Scalar, taken: bool) -> (Scal
 }
 
 /// Of numbers below 2^32.
-fn refine_narrow(condition: Condition, a: Scalar, b: Scalar, taken: bool) -> (Scalar, Scalar)
-    ensures sound { (x y : ℕ) → x < 2 ^ 32 → y < 2 ^ 32 → Holds a x → Holds b y → holds w32 condition x y ≡ taken → Holds result.0 x × Holds result.1 y }
-    ensures no_wider { IsNoWider result.0 a × IsNoWider result.1 b }
+fn refine_narrow(
+    condition: Condition,
+    a: Scalar,
+    b: Scalar,
+    taken: bool,
+) -> Option<(Scalar, Scalar)>
+    ensures sound { (x y : ℕ) → x < 2 ^ 32 → y < 2 ^ 32 → Holds a x → Holds b y → holds w32 condition x y ≡ taken → IfSome result (AreHeld x y) }
+    ensures no_wider { IfSome result (AreNoWider a b) }
 {
     if is_signed(condition) {
         let relation = relation_of(condition_without_sign(condition), taken);
@@ -143,72 +117,87 @@ fn refine_narrow(condition: Condition, a: Scalar, b: Scalar, taken: bool) -> (Sc
     }
 }
 
-/// The same by the order of signed numbers, which tells something where the lesser side has no sign.
-fn relate_signed(relation: Relation, a: Scalar, b: Scalar, sign: u64) -> (Scalar, Scalar)
+/// As `relate`, by the order of signed numbers, which tells something where the lesser side has no sign.
+fn relate_signed(relation: Relation, a: Scalar, b: Scalar, sign: u64) -> Option<(Scalar, Scalar)>
     requires { 0 < sign }
-    ensures sound { (x y : ℕ) → x < 2 ^ 64 → y < 2 ^ 64 → Holds a x → Holds b y → SignedRelated sign relation x y → Holds result.0 x × Holds result.1 y }
-    ensures no_wider { IsNoWider result.0 a × IsNoWider result.1 b }
+    ensures sound { (x y : ℕ) → x < 2 ^ 64 → y < 2 ^ 64 → Holds a x → Holds b y → SignedRelated sign relation x y → IfSome result (AreHeld x y) }
+    ensures no_wider { IfSome result (AreNoWider a b) }
 {
     match relation {
-        Relation::Below if a.greatest < sign => below(a, b.up_to(sign - 1)),
-        Relation::AtMost if a.greatest < sign => at_most(a, b.up_to(sign - 1)),
+        Relation::Below if a.greatest < sign => below(a, b.clip(0, sign - 1)?),
+        Relation::AtMost if a.greatest < sign => at_most(a, b.clip(0, sign - 1)?),
         Relation::Above if b.greatest < sign => {
-            let (right, left) = below(b, a.up_to(sign - 1));
-            (left, right)
+            let (right, left) = below(b, a.clip(0, sign - 1)?)?;
+            Some((left, right))
         }
         Relation::AtLeast if b.greatest < sign => {
-            let (right, left) = at_most(b, a.up_to(sign - 1));
-            (left, right)
+            let (right, left) = at_most(b, a.clip(0, sign - 1)?)?;
+            Some((left, right))
         }
-        _ => (a, b),
+        _ => None,
     }
 }
 
-/// The numbers that stand in this relation to one of the other side.
-fn relate(relation: Relation, a: Scalar, b: Scalar) -> (Scalar, Scalar)
-    ensures sound { (x y : ℕ) → x < 2 ^ 64 → y < 2 ^ 64 → Holds a x → Holds b y → Related relation x y → Holds result.0 x × Holds result.1 y }
-    ensures no_wider { IsNoWider result.0 a × IsNoWider result.1 b }
-    ensures bounds { (k x : ℕ) → IsConstant b k → Holds a x → Bounding relation → Related relation x k → Related relation result.0.least k × Related relation result.0.greatest k }
+/// The numbers that stand in this relation to one of the other side; `None` where there are none by the bounds.
+fn relate(relation: Relation, a: Scalar, b: Scalar) -> Option<(Scalar, Scalar)>
+    ensures sound { (x y : ℕ) → x < 2 ^ 64 → y < 2 ^ 64 → Holds a x → Holds b y → Related relation x y → IfSome result (AreHeld x y) }
+    ensures no_wider { IfSome result (AreNoWider a b) }
+    ensures bounds { (k x : ℕ) → IsConstant b k → IsBetween a x → Bounding relation → Related relation x k → IsSomeAnd result (λ p. Related relation p.0.least k × Related relation p.0.greatest k) }
 {
     match relation {
         Relation::Below => below(a, b),
         Relation::AtMost => at_most(a, b),
         Relation::Above => {
-            let (right, left) = below(b, a);
-            (left, right)
+            let (right, left) = below(b, a)?;
+            Some((left, right))
         }
         Relation::AtLeast => {
-            let (right, left) = at_most(b, a);
-            (left, right)
+            let (right, left) = at_most(b, a)?;
+            Some((left, right))
         }
-        Relation::Equal => {
-            let both = a.meet(b);
-            (both, both)
-        }
-        Relation::Apart => (a.without_bits(b.must), b.without_bits(a.must)),
-        Relation::Unknown => (a, b),
+        Relation::Equal => equal(a, b),
+        Relation::Apart => Some((a.with_bits(!b.must, 0), b.with_bits(!a.must, 0))),
+        Relation::Unknown => None,
     }
 }
 
-/// The numbers that are at most one of the other side, and those that are at least one.
-fn at_most(a: Scalar, b: Scalar) -> (Scalar, Scalar)
-    ensures sound { (x y : ℕ) → Holds a x → Holds b y → x ≤ y → Holds result.0 x × Holds result.1 y }
-    ensures no_wider { IsNoWider result.0 a × IsNoWider result.1 b }
-    ensures left { (result.0.least ≡ a.least) × (result.0.greatest ≤ b.greatest) }
-    ensures right { (a.least ≤ result.1.least) × (result.1.greatest ≡ b.greatest) }
+/// The numbers of both.
+fn equal(a: Scalar, b: Scalar) -> Option<(Scalar, Scalar)>
+    ensures sound { (x : ℕ) → Holds a x → Holds b x → IfSome result (AreHeld x x) }
+    ensures no_wider { IfSome result (AreNoWider a b) }
+    ensures bounds { IfSome result (λ p. (b.least ≤ p.0.least) × (p.0.greatest ≤ b.greatest)) }
+    ensures found { (x : ℕ) → IsBetween a x → IsBetween b x → IsSome result }
 {
-    (a.up_to(b.greatest), b.from_bound(a.least))
+    let left = a.clip(b.least, b.greatest)?;
+    let right = b.clip(a.least, a.greatest)?;
+    Some((
+        left.with_bits(b.may, b.must),
+        right.with_bits(a.may, a.must),
+    ))
+}
+
+/// The numbers that are at most one of the other side, and those that are at least one.
+fn at_most(a: Scalar, b: Scalar) -> Option<(Scalar, Scalar)>
+    ensures sound { (x y : ℕ) → y < 2 ^ 64 → Holds a x → Holds b y → x ≤ y → IfSome result (AreHeld x y) }
+    ensures no_wider { IfSome result (AreNoWider a b) }
+    ensures left { IfSome result (λ p. p.0.greatest ≤ b.greatest) }
+    ensures right { IfSome result (λ p. a.least ≤ p.1.least) }
+    ensures found { (x y : ℕ) → IsBetween a x → IsBetween b y → x ≤ y → IsSome result }
+{
+    let left = a.clip(0, b.greatest)?;
+    let right = b.clip(a.least, u64::MAX)?;
+    Some((left, right))
 }
 
 /// The numbers that are below one of the other side, and those that are above one.
-fn below(a: Scalar, b: Scalar) -> (Scalar, Scalar)
-    ensures sound { (x y : ℕ) → y < 2 ^ 64 → Holds a x → Holds b y → x < y → Holds result.0 x × Holds result.1 y }
-    ensures no_wider { IsNoWider result.0 a × IsNoWider result.1 b }
-    ensures left { (result.0.least ≡ a.least) × (0 < b.greatest → result.0.greatest < b.greatest) }
-    ensures right { (a.least + 1 < 2 ^ 64 → a.least < result.1.least) × (result.1.greatest ≡ b.greatest) }
+fn below(a: Scalar, b: Scalar) -> Option<(Scalar, Scalar)>
+    ensures sound { (x y : ℕ) → y < 2 ^ 64 → Holds a x → Holds b y → x < y → IfSome result (AreHeld x y) }
+    ensures no_wider { IfSome result (AreNoWider a b) }
+    ensures left { IfSome result (λ p. p.0.greatest < b.greatest) }
+    ensures right { IfSome result (λ p. a.least < p.1.least) }
+    ensures found { (x y : ℕ) → IsBetween a x → IsBetween b y → x < y → IsSome result }
 {
-    (
-        a.up_to(b.greatest.saturating_sub(1)),
-        b.from_bound(a.least.saturating_add(1)),
-    )
+    let left = a.clip(0, b.greatest.checked_sub(1)?)?;
+    let right = b.clip(a.least.checked_add(1)?, u64::MAX)?;
+    Some((left, right))
 }

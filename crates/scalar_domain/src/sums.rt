@@ -20,25 +20,22 @@ pub(crate) fn ones_from(mask: u64) -> u64
 
 impl Scalar {
     /// The numbers between two bounds whose ones stand in a mask.
+    #[tactic(auto, using(crate::proofs::Bits::bits_laws))]
     fn masked(least: u64, greatest: u64, may: u64) -> Scalar
+        requires { least ≤ greatest }
         ensures sound { (n : ℕ) → least ≤ n → n ≤ greatest → Within n may → Holds result n }
         ensures least { result.least ≡ least }
         ensures greatest { result.greatest ≡ greatest }
         ensures zeros { result.may ≡ may }
     {
-        Scalar {
-            least,
-            greatest,
-            may,
-            must: 0,
-        }
+        Scalar::new(least, greatest, may, 0)
     }
 
     /// Low bits that are 0 in both stay 0 in the sum. The bounds are those of the sum where none of the
     /// sums wraps, or where all do.
     pub(crate) fn add(self, other: Scalar) -> Scalar
         ensures sound { (x y : ℕ) → x < 2 ^ 64 → y < 2 ^ 64 → Holds self x → Holds other y → Holds result ((x + y) % 2 ^ 64) }
-        ensures precise { (x y : ℕ) → Holds self x → Holds other y → Adds self other result }
+        ensures precise { Adds self other result }
     {
         let may = ones_from(self.may | other.may);
         let least = self.least.wrapping_add(other.least);

@@ -150,8 +150,8 @@ fn same_frame(plain: &PlainRun, run: &Run) -> bool {
 /// Whether both stand before the same instruction, with the same numbers.
 fn same(plain: &PlainRun, run: &Run, verified: &Verified) -> bool {
     let program = verified.program();
-    run.place() < program.len()
-        && program.start(run.place()) == plain.place()
+    run.index() < program.len()
+        && program.start(run.index()) == plain.place()
         && same_registers(plain, run)
         && same_frame(plain, run)
 }

@@ -1,13 +1,26 @@
-//! Tests that cross the crates: programs as bytes, from the decoder to the exit value.
+//! Tests that cross the crates: programs as bytes, from the decoder to the exit value; and those of the
+//! public calls of the crates below.
 #![tactic(auto)]
 
+#[cfg(test)]
+mod codec;
 #[cfg(test)]
 mod compared;
 #[cfg(test)]
 mod judged;
 #[cfg(test)]
+mod kinds;
+#[cfg(test)]
 mod long;
+#[cfg(test)]
+mod model_programs;
+#[cfg(test)]
+mod models;
 #[cfg(test)]
 mod orders;
 #[cfg(test)]
+mod refusals;
+#[cfg(test)]
 mod rows;
+#[cfg(test)]
+mod text;

@@ -6,21 +6,22 @@ use Rattle.bpf_model.specs.declared.insn.Insn.{Insn}
 use Rattle.bpf_model.specs.Spelling.{FitsInsn, spelling, slot_count, slot_at, next_slot_at}
 use Rattle.insn_codec.specs.declared.flaw.Flaw.{Flaw}
 use Rattle.insn_codec.specs.Faults.{IsInsnFlaw, IsInsnFlawAt}
-use Rattle.insn_codec.proofs.InsnLaws.{Begins}
+use Rattle.insn_codec.specs.Begins.{BeginsWith}
+use Rattle.insn_codec.proofs.InsnLaws.{}
 use Rattle.insn_codec.proofs.TextLaws.{front_of, again}
 use Rattle.insn_codec.proofs.decoding.decode_first.Goals as goal
 
 flaw_at : (bytes : List ℕ) (s : Slot) (next : Option Slot) (f : Flaw) → s ≡ slot_at bytes → next ≡ next_slot_at bytes → IsInsnFlaw s next f → IsInsnFlawAt bytes f
 flaw_at bytes s next f e d h = subst (λ (n : Option Slot). IsInsnFlaw (slot_at bytes) n f) d (subst (λ (x : Slot). IsInsnFlaw x next f) e h)
 
-begins_at : (bytes : List ℕ) (s : Slot) (next : Option Slot) (i : Insn) → s ≡ slot_at bytes → next ≡ next_slot_at bytes → Begins i s next → Begins i (slot_at bytes) (next_slot_at bytes)
-begins_at bytes s next i e d h = subst (λ (n : Option Slot). Begins i (slot_at bytes) n) d (subst (λ (x : Slot). Begins i x next) e h)
+begins_at : (bytes : List ℕ) (s : Slot) (next : Option Slot) (i : Insn) → s ≡ slot_at bytes → next ≡ next_slot_at bytes → BeginsWith s next i → BeginsWith (slot_at bytes) (next_slot_at bytes) i
+begins_at bytes s next i e d h = subst (λ (n : Option Slot). BeginsWith (slot_at bytes) n i) d (subst (λ (x : Slot). BeginsWith x next i) e h)
 
-begins_from : (bytes : List ℕ) (s : Slot) (next : Option Slot) (i : Insn) → s ≡ slot_at bytes → next ≡ next_slot_at bytes → Begins i (slot_at bytes) (next_slot_at bytes) → Begins i s next
-begins_from bytes s next i e d h = subst (λ (n : Option Slot). Begins i s n) (sym d) (subst (λ (x : Slot). Begins i x (next_slot_at bytes)) (sym e) h)
+begins_from : (bytes : List ℕ) (s : Slot) (next : Option Slot) (i : Insn) → s ≡ slot_at bytes → next ≡ next_slot_at bytes → BeginsWith (slot_at bytes) (next_slot_at bytes) i → BeginsWith s next i
+begins_from bytes s next i e d h = subst (λ (n : Option Slot). BeginsWith s n i) (sym d) (subst (λ (x : Slot). BeginsWith x (next_slot_at bytes) i) (sym e) h)
 
-spelled : (bytes : List ℕ) (s : Slot) (next : Option Slot) (i : Insn) (rest : List ℕ) → s ≡ slot_at bytes → next ≡ next_slot_at bytes → FitsInsn i → bytes ≡ spelling i ++ rest → Begins i s next
-spelled bytes s next i rest e d f p = begins_from bytes s next i e d (subst (λ (b : List ℕ). Begins i (slot_at b) (next_slot_at b)) (sym p) (again i rest f).begins)
+spelled : (bytes : List ℕ) (s : Slot) (next : Option Slot) (i : Insn) (rest : List ℕ) → s ≡ slot_at bytes → next ≡ next_slot_at bytes → FitsInsn i → bytes ≡ spelling i ++ rest → BeginsWith s next i
+spelled bytes s next i rest e d f p = begins_from bytes s next i e d (subst (λ (b : List ℕ). BeginsWith (slot_at b) (next_slot_at b) i) (sym p) (again i rest f).begins)
 
 rest_of : (bytes : List ℕ) (n : ℕ) → take (length bytes - n) (drop n bytes) ≡ drop n bytes
 rest_of bytes n = take_all (length bytes - n) (drop n bytes) (omega (arith, length-drop n bytes))

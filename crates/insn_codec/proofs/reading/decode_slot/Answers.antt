@@ -7,7 +7,8 @@ use Rattle.bpf_model.specs.Profile.{is_admitted}
 use Rattle.bpf_model.specs.Spelling.{FitsInsn, opcode_of}
 use Rattle.insn_codec.specs.declared.flaw.Flaw.{Flaw}
 use Rattle.insn_codec.specs.Faults.{flaw_with}
-use Rattle.insn_codec.proofs.InsnLaws.{Begins, opcode_is, supported, no_flaw, same}
+use Rattle.insn_codec.specs.Begins.{BeginsWith}
+use Rattle.insn_codec.proofs.InsnLaws.{opcode_is, supported, no_flaw, same}
 use Rattle.insn_codec.proofs.reading.decode_slot.Goals as goal
 
 some_is : {A : Type 0} (x y : A) → Some x ≡ Some y → x ≡ y
@@ -22,14 +23,14 @@ returns-then-not-is_supported-clause-only c = λ i fits a begins.
     let s = supported i a in absurd cc
 
 abbrev Fine : Opcode → Slot → Option Slot → Result Insn Flaw → Type 0
-Fine o s next (Ok j) = Begins j s next × FitsInsn j × (opcode_of j ≡ o)
+Fine o s next (Ok j) = BeginsWith s next j × FitsInsn j × (opcode_of j ≡ o)
 Fine o s next (Err f) = flaw_with o s next ≡ Some f
 
-is_only : (o : Opcode) (s : Slot) (next : Option Slot) (r : Result Insn Flaw) → Fine o s next r → (i : Insn) → o ≡ opcode_of i → FitsInsn i → is_admitted i ≡ true → Begins i s next → r ≡ Ok i
+is_only : (o : Opcode) (s : Slot) (next : Option Slot) (r : Result Insn Flaw) → Fine o s next r → (i : Insn) → o ≡ opcode_of i → FitsInsn i → is_admitted i ≡ true → BeginsWith s next i → r ≡ Ok i
 is_only o s next (Ok j) h i e fits a begins = ap Ok (same j i s next h.1 fits h.0 begins (h.2 ∙ e))
 is_only o s next (Err f) h i e fits a begins = let n = no_flaw i s next fits a begins in let k = ap (λ (p : Opcode). flaw_with p s next) e in absurd cc
 
-fine : (o : Opcode) (s : Slot) (next : Option Slot) (r : Result Insn Flaw) → IfOk r (λ i. Begins i s next) → IfOk r FitsInsn → IfOk r (λ i. opcode_of i ≡ o) → IfErr r (λ f. flaw_with o s next ≡ Some f) → Fine o s next r
+fine : (o : Opcode) (s : Slot) (next : Option Slot) (r : Result Insn Flaw) → IfOk r (λ i. BeginsWith s next i) → IfOk r FitsInsn → IfOk r (λ i. opcode_of i ≡ o) → IfErr r (λ f. flaw_with o s next ≡ Some f) → Fine o s next r
 fine o s next (Ok j) a b c d = (a, b, c)
 fine o s next (Err f) a b c d = d
 

@@ -19,5 +19,5 @@ returns-else-is_signed-clause-sound c = λ x y p q h k e.
     (subst (λ r. Related r x y) (sym c.relation_of.ensures) (related w64 c.args.condition c.args.taken x y e))
 
 pub returns-else-is_signed-clause-bounds : goal.returns-else-is_signed-clause-bounds
-returns-else-is_signed-clause-bounds c = λ k x m j h e.
-    goes_along c.args.condition c.args.taken c.relation_of.result c.relate.result.0 k x c.relation_of.ensures m (c.relate.ensures.bounds k x j h) e
+returns-else-is_signed-clause-bounds c = λ k x m j i e.
+    goes_along c.args.condition c.args.taken c.relation_of.result c.relate.result k x c.relation_of.ensures m (c.relate.ensures.bounds k x j i) e

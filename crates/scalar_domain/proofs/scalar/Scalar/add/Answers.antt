@@ -16,10 +16,10 @@ returns-then-self-other-clause-sound c = λ x y p q h k.
     (sum_within x y a.may b.may c.ones_from-may.result c.ones_from-may.ensures.multiples h.zeros k.zeros)
 
 pub returns-then-self-other-clause-precise : goal.returns-then-self-other-clause-precise
-returns-then-self-other-clause-precise c = λ x y h k.
+returns-then-self-other-clause-precise c =
     let a = c.args.self in
     let b = c.args.other in
-    let f : (a.least + b.least) % 2 ^ 64 ≡ a.least + b.least = mod-eq_of_lt (omega (arith, h.least, k.least, h.greatest, k.greatest, c.if-self-other.true)) in
+    let f : (a.least + b.least) % 2 ^ 64 ≡ a.least + b.least = mod-eq_of_lt (omega (arith, a.ordered, b.ordered, c.if-self-other.true)) in
     let g : (a.greatest + b.greatest) % 2 ^ 64 ≡ a.greatest + b.greatest = mod-eq_of_lt (omega (arith, c.if-self-other.true)) in
     record {
       least = λ l. omega (arith, c.masked.ensures.least, f);
@@ -38,7 +38,7 @@ returns-then-other-self-clause-sound c = λ x y p q h k.
     (sum_within x y a.may b.may c.ones_from-may.result c.ones_from-may.ensures.multiples h.zeros k.zeros)
 
 pub returns-then-other-self-clause-precise : goal.returns-then-other-self-clause-precise
-returns-then-other-self-clause-precise c = λ x y h k. record {
+returns-then-other-self-clause-precise c = record {
   least = λ l. absurd (omega (arith, l, c.if-self-other.false));
   greatest = λ l. absurd (omega (arith, l, c.if-self-other.false));
   zeros = λ t l e i. ap (λ n. n % 2 ^ t) c.masked-then-other-self.ensures.zeros ∙ c.ones_from-may.ensures.zeros t l (low_or c.args.self.may c.args.other.may t e i);
@@ -50,7 +50,7 @@ returns-else-other-self-clause-sound c = λ x y p q h k.
     (sum_within x y c.args.self.may c.args.other.may c.ones_from-may.result c.ones_from-may.ensures.multiples h.zeros k.zeros)
 
 pub returns-else-other-self-clause-precise : goal.returns-else-other-self-clause-precise
-returns-else-other-self-clause-precise c = λ x y h k. record {
+returns-else-other-self-clause-precise c = record {
   least = λ l. absurd (omega (arith, l, c.if-self-other.false));
   greatest = λ l. absurd (omega (arith, l, c.if-self-other.false));
   zeros = λ t l e i. ap (λ n. n % 2 ^ t) c.masked-else-other-self.ensures.zeros ∙ c.ones_from-may.ensures.zeros t l (low_or c.args.self.may c.args.other.may t e i);

@@ -20,16 +20,16 @@ returns-in-Some-Some-clause-floor c =
       narrow = λ s.
           let e : c.alu.result ≡ alu Word32 c.args.op u v = c.alu.ensures ∙ ap (λ z. alu z c.args.op u v) s in
           omega (arith, c.constant.ensures.exact.greatest, e, narrow_lt c.args.op u v);
-      sum = λ x y s o h k.
+      sum = λ s o.
           let e : c.alu.result ≡ (u + v) % 2 ^ 64 = c.alu.ensures ∙ ap2 (λ z op. alu z op u v) s o in
-          sum_of_constants c.args.a c.args.b c.constant.result x y u v c.in-Some-Some.ensures c.in-Some-Some.ensures'
-          (subst (IsConstant c.constant.result) e c.constant.ensures.exact) (c.constant.ensures.zeros ∙ e) h k;
+          sum_of_constants c.args.a c.args.b c.constant.result u v c.in-Some-Some.ensures c.in-Some-Some.ensures'
+          (subst (IsConstant c.constant.result) e c.constant.ensures.exact) (c.constant.ensures.zeros ∙ e);
       mask = λ k s o i.
           let e : c.alu.result ≡ bit_and u v = c.alu.ensures ∙ ap2 (λ z op. alu z op u v) s o in
           let f : v ≡ k = sym c.in-Some-Some.ensures'.least ∙ i.least in
           subst (λ n. Masks n c.constant.result) f (mask_of_constants c.constant.result u v
           (subst (IsConstant c.constant.result) e c.constant.ensures.exact) (c.constant.ensures.zeros ∙ e));
-      shift_left = λ k x s o i l h.
+      shift_left = λ k s o i l.
           let f : v ≡ k = sym c.in-Some-Some.ensures'.least ∙ i.least in
           let g : v % 64 ≡ k = ap (λ n. n % 64) f ∙ mod-eq_of_lt l in
           let e : c.alu.result ≡ (u * 2 ^ k) % 2 ^ 64 = c.alu.ensures ∙ ap2 (λ z op. alu z op u v) s o ∙ ap (λ (n : ℕ). (u * 2 ^ n) % 2 ^ 64) g in
@@ -45,9 +45,9 @@ returns-in-Word64-clause-floor c =
     record {
       constant = λ x y h k. grind (arith, common_steps);
       narrow = λ s. grind (arith, common_steps);
-      sum = λ x y s o h k. r.sum x y o h k;
+      sum = λ s. r.sum;
       mask = λ k s. r.mask k;
-      shift_left = λ k x s. r.shift_left k x;
+      shift_left = λ k s. r.shift_left k;
       shift_right = λ k s. r.shift_right k;
       remainder = λ k s. r.remainder k;
     }
