@@ -23,7 +23,7 @@ use Rattle.abstract_state.specs.declared.kind.CellKind.TheVariants as cells
 use Rattle.abstract_state.specs.declared.kind.Region.TheVariants as regions
 use Rattle.abstract_state.specs.declared.state.AbsState.{AbsState}
 use Rattle.abstract_state.specs.declared.environment.EnvironmentShape.{EnvironmentShape}
-use Rattle.abstract_state.specs.State.{IsOf, IsNumber, Describes, kind_at, HasTarget, Transfers, Leads, Compares}
+use Rattle.abstract_state.specs.State.{IsOf, IsNumber, Describes, kind_at, HasTarget, Transfers, Leads}
 use Rattle.abstract_state.specs.Facts.{Fact, Register as RegisterFact, FrameByte, FramePointer, FactHolds, Makes, IsReady, KeepsFacts}
 use Rattle.abstract_state.specs.Floor.{KeepsOthers, operand_kind, RefinesKnown}
 use Rattle.abstract_state.specs.Steps.{single, Done, Stepped}

@@ -24,9 +24,9 @@ use Rattle.abstract_state.specs.declared.kind.Region.{Region}
 use Rattle.abstract_state.specs.declared.state.AbsState.{AbsState}
 use Rattle.abstract_state.specs.declared.environment.EnvironmentShape.{EnvironmentShape}
 use Rattle.abstract_state.specs.State.{IsOf, IsOfCell, IsNumber, Describes, kind_at, IsEnvironment, Compares, Transfers, base_of, IsInRegion}
-use Rattle.abstract_state.specs.Facts.{Fact, Register as RegisterFact, FrameByte, FramePointer, FactHolds, Makes, IsReady, KeepsFacts}
-use Rattle.abstract_state.specs.Floor.{set_by, LoadsKnown, ComputesKnown, RefinesKnown, constant_of, IsNumbers, LeavesKnown, KeepsOthers}
-use Rattle.abstract_state.specs.Steps.{Gives, Computes, Shifts, SetsReg, Yields, Flows, single, Done, Stepped}
+use Rattle.abstract_state.specs.Facts.{Fact, Register as RegisterFact, FrameByte, FramePointer, FactHolds, Makes, IsReady}
+use Rattle.abstract_state.specs.Floor.{set_by, LoadsKnown, ComputesKnown, RefinesKnown, constant_of, IsNumbers, LeavesKnown}
+use Rattle.abstract_state.specs.Steps.{Gives, Computes, Shifts, SetsReg, Yields, Flows, single, Stepped}
 use Rattle.bpf_model.specs.Step.{State, Environment, Moves, put, sets, map_value}
 use Rattle.bpf_model.specs.Near.{IsNear}
 use Rattle.bpf_model.specs.Spelling.{slot_count}

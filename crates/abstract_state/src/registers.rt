@@ -53,10 +53,13 @@ impl AbsState {
     /// What a second operand may be.
     pub(crate) fn operand(&self, src: &Operand) -> Result<RegKind, Fault>
         ensures value { IfOk result (λ k. k ≡ operand_kind src.now self.now) }
-        ensures sound { IfOk result (λ k. (m : State) → Describes self.now m → IsOf k (operand_value src.now m.regs)) }
+        ensures sound { IfOk result (λ k. (m : State) → Describes self.now m
+            → IsOf k (operand_value src.now m.regs)) }
         ensures held { IfOk result IsHeld }
-        ensures accepts { ((r : ℕ) → Names src.now r → IsNumber (kind_at self.now r)) → IsOk result }
-        ensures numbers { ((r : ℕ) → Names src.now r → IsNumber (kind_at self.now r)) → IfOk result IsNumber }
+        ensures accepts { ((r : ℕ) → Names src.now r → IsNumber (kind_at self.now r))
+            → IsOk result }
+        ensures numbers { ((r : ℕ) → Names src.now r → IsNumber (kind_at self.now r))
+            → IfOk result IsNumber }
         ensures memory { HasMemory result }
     {
         match src {

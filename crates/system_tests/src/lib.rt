@@ -9,7 +9,13 @@ mod compared;
 #[cfg(test)]
 mod judged;
 #[cfg(test)]
+mod kinds;
+#[cfg(test)]
 mod long;
+#[cfg(test)]
+mod model_programs;
+#[cfg(test)]
+mod models;
 #[cfg(test)]
 mod orders;
 #[cfg(test)]

@@ -1,7 +1,4 @@
-use Rattle.std.proofs.Common.{◌≡◌, refl, sym, ◌∙◌, subst, true, false, inl, inr}
-use Rattle.bpf_model.specs.declared.insn.Insn.TheVariants.{JumpIf}
-use Rattle.scalar_domain.specs.Floor.{KeepsEdgeFloor}
-use Rattle.abstract_state.specs.declared.kind.RegKind.TheVariants.{Num}
+use Rattle.std.proofs.Common.{◌≡◌, refl, ◌∙◌, true, false, inl, inr}
 use Rattle.abstract_state.proofs.Jumps.{narrows, fork_transfers, fork_keeps, fork_compares, refines_known}
 use Rattle.abstract_state.proofs.state.AbsState.fork.Goals as goal
 
