@@ -19,6 +19,8 @@ mod models;
 #[cfg(test)]
 mod orders;
 #[cfg(test)]
+mod refusals;
+#[cfg(test)]
 mod rows;
 #[cfg(test)]
 mod text;

@@ -1,45 +1,45 @@
 -- What a new life of an element, and a birth, leave as it was.
 use Rattle.std.proofs.Common.{◌≡◌, ◌≢◌, ◌∙◌, ℕ, ◌+◌, ◌<◌, ◌≤◌, List, [], ◌∷◌, ◌++◌, length, Some, ◌⊎◌, inl, inr, refl, sym, ap, arith, cond, Bool, true, false, subst}
-use Rattle.std.specs.Prelude.{slice_get, slice_set, slice_index, ◌==◌, ◌&&◌}
+use Rattle.std.specs.Prelude.{slice_get, slice_set, slice_index, count_by, ◌==◌, ◌&&◌}
 use Rattle.std.proofs.lemmas.Bool.{cases_eq, cases_lt, eqb-true, false_from_ne_true, false≢true}
 use Rattle.std.proofs.lemmas.Option.{same_Some, slice_get_within}
 use Rattle.std.proofs.lemmas.List.{length-append}
 use Rattle.std.proofs.lemmas.List.Sums.{sum_by_push}
-use Rattle.bpf_model.specs.Element.{Element, Life, IsLinkedAt, is_linked, is_reclaimed, linked_count, with_life}
+use Rattle.bpf_model.specs.Element.{Element, Life, IsLinkedAt, is_linked, is_reclaimed, linked_count, with_life, with_value}
 use Rattle.bpf_model.specs.Helper.{newborn}
 use Rattle.bpf_model.specs.Word.{map_in}
 use Rattle.model_laws.proofs.Lists.{get-below, get-append, get-append_cases, get-set_same, get-set_other, get-set_cases, length-slice_set}
 use Rattle.bpf_model.specs.Refines.{slot_view}
 use Rattle.view_laws.proofs.Lists.{one_of, count-set, index-append}
 
--- An element that was there before: not reclaimed, with the same map, key, value and use count.
-pub record Was (es : List Element) (n : ℕ) (f : Element) : Type 0 where
+-- An element that was there before: not reclaimed, in the same map, and outside map k with the same key, value and use count.
+pub record Was (k : ℕ) (es : List Element) (n : ℕ) (f : Element) : Type 0 where
   pub element : Element
   pub born : slice_get es n ≡ Some element
   pub kept : is_reclaimed element.life ≡ false
   pub in_map : element.map ≡ f.map
-  pub view : slot_view element ≡ slot_view f
+  pub view : f.map ≢ k → slot_view element ≡ slot_view f
 
 -- The elements change in map k alone, as far as a view can tell, and births keep their slots.
 pub record Changes (k : ℕ) (slots names : List ℕ) (es fs : List Element) : Type 0 where
   pub grows : (n : ℕ) → n < length es → n < length fs
   pub named : (n : ℕ) → n < length es → slice_index names n ≡ slice_index slots n
   pub maps : (n : ℕ) → n < length es → map_in (slice_get fs n) ≡ map_in (slice_get es n)
-  pub back : (n : ℕ) (f : Element) → n < length es → slice_get fs n ≡ Some f → is_reclaimed f.life ≡ false → Was es n f
+  pub back : (n : ℕ) (f : Element) → n < length es → slice_get fs n ≡ Some f → is_reclaimed f.life ≡ false → Was k es n f
   pub newborns : (n : ℕ) (f : Element) → length es ≤ n → slice_get fs n ≡ Some f → is_reclaimed f.life ≡ false → f.map ≡ k
   pub links : (j : ℕ) (key : List ℕ) (n : ℕ) → j ≢ k → IsLinkedAt es j key n → IsLinkedAt fs j key n
   pub linked : (j : ℕ) (key : List ℕ) (n : ℕ) → j ≢ k → IsLinkedAt fs j key n → IsLinkedAt es j key n
   pub counts : (j : ℕ) → j ≢ k → linked_count j fs ≡ linked_count j es
 
-was-same : (es : List Element) (n : ℕ) (f : Element) → slice_get es n ≡ Some f → is_reclaimed f.life ≡ false → Was es n f
-was-same es n f at kept = record { element = f; born = at; kept = kept; in_map = refl; view = refl }
+was-same : (k : ℕ) (es : List Element) (n : ℕ) (f : Element) → slice_get es n ≡ Some f → is_reclaimed f.life ≡ false → Was k es n f
+was-same k es n f at kept = record { element = f; born = at; kept = kept; in_map = refl; view = λ ne. refl }
 
 pub changes-same : (k : ℕ) (slots : List ℕ) (es : List Element) → Changes k slots slots es es
 changes-same k slots es = record {
   grows = λ n h. h;
   named = λ n h. refl;
   maps = λ n h. refl;
-  back = λ n f h at kept. was-same es n f at kept;
+  back = λ n f h at kept. was-same k es n f at kept;
   newborns = λ n f h at kept. let z : n < length es = slice_get_within es n f at in absurd (omega arith);
   links = λ j key n ne h. h;
   linked = λ j key n ne h. h;
@@ -54,7 +54,7 @@ changes-trans k slots names more es fs gs a b = record {
   back = λ n g h at kept.
       let x = b.back n g (a.grows n h) at kept in
       let y = a.back n x.element h x.born x.kept in
-      record { element = y.element; born = y.born; kept = y.kept; in_map = y.in_map ∙ x.in_map; view = y.view ∙ x.view };
+      record { element = y.element; born = y.born; kept = y.kept; in_map = y.in_map ∙ x.in_map; view = λ ne. y.view (λ e. ne (sym x.in_map ∙ e)) ∙ x.view ne };
   newborns = λ n g h at kept. newborn-of n g h at kept;
   links = λ j key n ne h. b.links j key n ne (a.links j key n ne h);
   linked = λ j key n ne h. a.linked j key n ne (b.linked j key n ne h);
@@ -121,8 +121,8 @@ module _ (k : ℕ) (es : List Element) (n : ℕ) (e : Element) (l : Life) (born 
       | inr ne ↦ ap map_in (at-other a ne)
     ];
     back = λ a f h at kept_now. elim (get-set_cases es n a (with_life l e) f at) [
-      | inl x ↦ record { element = e; born = ap (slice_get es) x.0 ∙ born; kept = kept; in_map = ap (λ z. z.map) x.1; view = ap slot_view x.1 }
-      | inr x ↦ was-same es a f x.1 kept_now
+      | inl x ↦ record { element = e; born = ap (slice_get es) x.0 ∙ born; kept = kept; in_map = ap (λ z. z.map) x.1; view = λ ne. ap slot_view x.1 }
+      | inr x ↦ was-same k es a f x.1 kept_now
     ];
     newborns = λ a f h at kept_now. let z : a < length fs = slice_get_within fs a f at in let s : length fs ≡ length es = length-slice_set es n (with_life l e) in absurd (omega arith);
     links = λ j key a ne h. link-kept j key a (away j key a ne h) h;
@@ -132,6 +132,63 @@ module _ (k : ℕ) (es : List Element) (n : ℕ) (e : Element) (l : Life) (born 
         let x : one_of (counts_as j e) ≡ 0 = no-count e j (λ h. ne (sym h ∙ in_map)) in
         let y : one_of (counts_as j (with_life l e)) ≡ 0 = no-count (with_life l e) j (λ h. ne (sym h ∙ in_map)) in
         omega arith;
+  }
+
+-- a new value
+module _ (k : ℕ) (es : List Element) (n : ℕ) (e : Element) (value : List ℕ) (born : slice_get es n ≡ Some e) (in_map : e.map ≡ k) where
+  abbrev vs : List Element
+  vs = slice_set es n (with_value value e)
+
+  written-here : (x : Element) → slice_get vs n ≡ Some x → with_value value e ≡ x
+  written-here x at = same_Some (with_value value e) x (sym (get-set_same es n e (with_value value e) born) ∙ at)
+
+  pub link-written : (j : ℕ) (key : List ℕ) (a : ℕ) → IsLinkedAt es j key a → IsLinkedAt vs j key a
+  link-written j key a h = elim (cases_eq a n) [
+    | inl same ↦
+        let x : h.element ≡ e = same_Some h.element e (sym h.born ∙ (ap (slice_get es) same ∙ born)) in
+        record {
+          element = with_value value e;
+          born = ap (slice_get vs) same ∙ get-set_same es n e (with_value value e) born;
+          linked = ap (λ z. z.life) (sym x) ∙ h.linked;
+          in_map = ap (λ z. z.map) (sym x) ∙ h.in_map;
+          under = ap (λ z. z.key) (sym x) ∙ h.under;
+        }
+    | inr ne ↦ record { element = h.element; born = get-set_other es n a (with_value value e) ne ∙ h.born; linked = h.linked; in_map = h.in_map; under = h.under }
+  ]
+
+  pub link-unwritten : (j : ℕ) (key : List ℕ) (a : ℕ) → IsLinkedAt vs j key a → IsLinkedAt es j key a
+  link-unwritten j key a h = elim (cases_eq a n) [
+    | inl same ↦
+        let x : with_value value e ≡ h.element = written-here h.element (ap (slice_get vs) (sym same) ∙ h.born) in
+        record {
+          element = e;
+          born = ap (slice_get es) same ∙ born;
+          linked = ap (λ (z : Element). z.life) x ∙ h.linked;
+          in_map = ap (λ (z : Element). z.map) x ∙ h.in_map;
+          under = ap (λ (z : Element). z.key) x ∙ h.under;
+        }
+    | inr ne ↦ record { element = h.element; born = sym (get-set_other es n a (with_value value e) ne) ∙ h.born; linked = h.linked; in_map = h.in_map; under = h.under }
+  ]
+
+  pub count-written : (p : Life → ℕ → Bool) → count_by (λ x. p x.life x.map) vs ≡ count_by (λ x. p x.life x.map) es
+  count-written p = let c = count-set (λ (x : Element). p x.life x.map) es n e (with_value value e) born in omega arith
+
+  pub changes-value : (slots : List ℕ) → is_reclaimed e.life ≡ false → Changes k slots slots es vs
+  changes-value slots kept = record {
+    grows = λ a h. subst (λ x. a < x) (sym (length-slice_set es n (with_value value e))) h;
+    named = λ a h. refl;
+    maps = λ a h. elim (cases_eq a n) [
+      | inl same ↦ ap (λ b. map_in (slice_get vs b)) same ∙ (ap map_in (get-set_same es n e (with_value value e) born) ∙ (ap map_in (sym born) ∙ ap (λ b. map_in (slice_get es b)) (sym same)))
+      | inr ne ↦ ap map_in (get-set_other es n a (with_value value e) ne)
+    ];
+    back = λ a f h at kept_now. elim (get-set_cases es n a (with_value value e) f at) [
+      | inl x ↦ record { element = e; born = ap (slice_get es) x.0 ∙ born; kept = kept; in_map = ap (λ (z : Element). z.map) x.1; view = λ ne. absurd (ne (ap (λ (z : Element). z.map) (sym x.1) ∙ in_map)) }
+      | inr x ↦ was-same k es a f x.1 kept_now
+    ];
+    newborns = λ a f h at kept_now. let z : a < length vs = slice_get_within vs a f at in let s : length vs ≡ length es = length-slice_set es n (with_value value e) in absurd (omega arith);
+    links = λ j key a ne h. link-written j key a h;
+    linked = λ j key a ne h. link-unwritten j key a h;
+    counts = λ j ne. count-written (λ life map. is_linked life && (map == j));
   }
 
 -- a birth
@@ -164,7 +221,7 @@ module _ (k : ℕ) (slots : List ℕ) (es : List Element) (births : length slots
     named = λ a h. index-append slots i a (omega arith);
     maps = λ a h. let x = get-below es a h in ap map_in (get-append es (child ∷ []) a x.0 x.1 ∙ sym x.1);
     back = λ a f h at kept. elim (get-append_cases es child a f at) [
-      | inl x ↦ was-same es a f x kept
+      | inl x ↦ was-same k es a f x kept
       | inr x ↦ absurd (let z : a ≡ length es = x.0 in omega arith)
     ];
     newborns = λ a f h at kept. elim (get-append_cases es child a f at) [

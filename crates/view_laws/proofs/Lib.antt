@@ -13,3 +13,4 @@ pub mod Running
 pub mod Starting
 pub mod Tracking
 pub mod Reacting
+pub mod Storing

@@ -5,7 +5,7 @@ use Rattle.std.proofs.lemmas.Bool.{eqb-true, eq-eqb, false_from_ne_true, false�
 use Rattle.std.proofs.lemmas.Option.{none-some, same_Some, slice_get_within}
 use Rattle.std.proofs.lemmas.List.{map-append, append-nil}
 use Rattle.bpf_model.specs.Section.{Section}
-use Rattle.bpf_model.specs.Element.{Element, Life, Linked, Unlinked, Reclaimed, is_linked, is_unlinked, with_life}
+use Rattle.bpf_model.specs.Element.{Element, Life, Linked, Unlinked, Reclaimed, is_linked, is_unlinked, with_life, with_value}
 use Rattle.bpf_model.specs.Schedule.{Queues, Schedule, unlinked_between, turned, still_open}
 use Rattle.model_laws.specs.Scheduled.{IsScheduled}
 use Rattle.model_laws.proofs.Counting.{with_more}
@@ -60,6 +60,14 @@ pub between-other : (j b : ℕ) (es more : List Element) (n : ℕ) (e : Element)
 between-other j b [] more n e l at ne = absurd (none-some e at)
 between-other j b (x ∷ es) more zero e l at ne = pick (is_linked x.life && is_unlinked l && (x.map == j)) b _ (test-none x e j l (same_Some x e at) ne) ∙ between-more j (suc b) es more
 between-other j b (x ∷ es) more (suc n) e l at ne = pick (is_linked x.life && is_unlinked x.life && (x.map == j)) b _ (same-life x.life (x.map == j)) ∙ between-other j (suc b) es more n e l at ne
+
+-- one has another value
+pub between-value : (j b : ℕ) (es : List Element) (n : ℕ) (e : Element) (value : List ℕ) → slice_get es n ≡ Some e → unlinked_between j b es (slice_set es n (with_value value e)) ≡ []
+between-value j b [] n e value at = absurd (none-some e at)
+between-value j b (x ∷ es) zero e value at =
+    let t : (is_linked x.life && is_unlinked e.life && (x.map == j)) ≡ false = ap (λ (z : Element). is_linked x.life && is_unlinked z.life && (x.map == j)) (sym (same_Some x e at)) ∙ same-life x.life (x.map == j) in
+    pick (is_linked x.life && is_unlinked e.life && (x.map == j)) b _ t ∙ between-same j (suc b) es
+between-value j b (x ∷ es) (suc n) e value at = pick (is_linked x.life && is_unlinked x.life && (x.map == j)) b _ (same-life x.life (x.map == j)) ∙ between-value j (suc b) es n e value at
 
 -- births that stand in the lists keep their slots
 module _ (s : Schedule) (w : IsScheduled s) (k : ℕ) (q : Queues) (at : slice_get s.queues k ≡ Some q) (slots names : List ℕ) (h : (n : ℕ) → n < length s.machine.store.elements → slice_index names n ≡ slice_index slots n) where

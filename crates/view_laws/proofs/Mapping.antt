@@ -1,5 +1,5 @@
 -- The elements of a map stand in its view, through each change of them.
-use Rattle.std.proofs.Common.{◌≡◌, ◌≢◌, ◌∙◌, ℕ, ◌+◌, ◌<◌, ◌≤◌, List, [], ◌∷◌, ◌++◌, length, Some, None, ◌⊎◌, inl, inr, refl, sym, ap, arith, subst}
+use Rattle.std.proofs.Common.{◌≡◌, ◌≢◌, ◌∙◌, ℕ, ◌+◌, ◌<◌, ◌≤◌, List, [], ◌∷◌, ◌++◌, length, Some, None, ◌⊎◌, inl, inr, refl, sym, ap, arith, subst, false}
 use Rattle.std.specs.Prelude.{slice_get, slice_set, slice_index, ◌==◌, ◌&&◌}
 use Rattle.std.specs.FinMap.{get, insert, remove, len}
 use Rattle.std.proofs.lemmas.Bool.{cases_eq, cases_lt, eq-eqb, false≢true}
@@ -7,9 +7,9 @@ use Rattle.std.proofs.lemmas.Option.{none-some, same_Some, slice_get_within}
 use Rattle.bpf_model.specs.declared.event.Given.{Given}
 use Rattle.bpf_model.specs.declared.event.Given.TheVariants.{Free, Worn}
 use Rattle.bpf_model.specs.Section.{Section}
-use Rattle.bpf_model.specs.Element.{Element, Unlinked, Reclaimed, IsLinkedAt, is_linked, is_reclaimed, linked_count, with_life}
+use Rattle.bpf_model.specs.Element.{Element, Life, Unlinked, Reclaimed, IsLinkedAt, is_linked, is_reclaimed, linked_count, with_life}
 use Rattle.bpf_model.specs.Helper.{newborn}
-use Rattle.model_laws.proofs.Lists.{get-append_cases, get-append_last, get-set_same, get-set_other, get-below, length-slice_set}
+use Rattle.model_laws.proofs.Lists.{get-set_cases, get-append_cases, get-append_last, get-set_same, get-set_other, get-below, length-slice_set}
 use Rattle.model_laws.proofs.Counting.{times-first, times-other, times-append}
 use Rattle.bpf_model.specs.View.{MapView, uses_at}
 use Rattle.bpf_model.specs.Refines.{times, slot_view, IsKept, ElementsStand, SlotsStand}
@@ -25,16 +25,23 @@ record Kin (slots names : List ℕ) (k : ℕ) (es : List Element) (n : ℕ) (f :
   pub view : slot_view old ≡ slot_view f
   pub slot : slice_index names n ≡ slice_index slots n
 
-kin-old : (j k : ℕ) (slots names : List ℕ) (es fs : List Element) → Changes k slots names es fs → (n : ℕ) (f : Element) → n < length es → IsKept fs j n f → Kin slots names j es n f
-kin-old j k slots names es fs c n f less h =
+kin-old : (j k : ℕ) (slots names : List ℕ) (es fs : List Element) → Changes k slots names es fs → j ≢ k → (n : ℕ) (f : Element) → n < length es → IsKept fs j n f → Kin slots names j es n f
+kin-old j k slots names es fs c ne n f less h =
     let x = c.back n f less h.born h.kept in
-    record { old = x.element; was = record { born = x.born; in_map = x.in_map ∙ h.in_map; kept = x.kept }; view = x.view; slot = c.named n less }
+    record { old = x.element; was = record { born = x.born; in_map = x.in_map ∙ h.in_map; kept = x.kept }; view = x.view (λ e. ne (sym h.in_map ∙ e)); slot = c.named n less }
+
+-- and so it is of the same map, where one element has a new life
+kin-life : (slots : List ℕ) (k : ℕ) (es : List Element) (n : ℕ) (e : Element) (l : Life) → slice_get es n ≡ Some e → e.map ≡ k → is_reclaimed e.life ≡ false → (a : ℕ) (f : Element) → IsKept (slice_set es n (with_life l e)) k a f → Kin slots slots k es a f
+kin-life slots k es n e l born in_map kept a f g = elim (get-set_cases es n a (with_life l e) f g.born) [
+  | inl x ↦ record { old = e; was = record { born = ap (slice_get es) x.0 ∙ born; in_map = in_map; kept = kept }; view = ap slot_view x.1; slot = refl }
+  | inr x ↦ record { old = f; was = record { born = x.1; in_map = g.in_map; kept = g.kept }; view = refl; slot = refl }
+]
 
 -- the elements of another map stand as they did
 module _ (j k : ℕ) (slots names : List ℕ) (es fs : List Element) (v : MapView) (c : Changes k slots names es fs) (ne : j ≢ k) (s : ElementsStand slots j es v) where
   kin : (n : ℕ) (f : Element) → IsKept fs j n f → Kin slots names j es n f
   kin n f h = elim (cases_lt n (length es)) [
-    | inl y ↦ kin-old j k slots names es fs c n f y h
+    | inl y ↦ kin-old j k slots names es fs c ne n f y h
     | inr z ↦ absurd (ne (sym h.in_map ∙ c.newborns n f (omega arith) h.born h.kept))
   ]
 
@@ -63,7 +70,7 @@ module _ (slots : List ℕ) (k : ℕ) (es : List Element) (v : MapView) (key : L
   unlinks = changes-life k es n h.element (Unlinked opened) h.born h.in_map slots (ap is_reclaimed h.linked)
 
   back : (a : ℕ) (f : Element) → IsKept fs k a f → Kin slots slots k es a f
-  back a f g = kin-old k k slots slots es fs unlinks a f (subst (λ x. a < x) (length-slice_set es n _) (slice_get_within fs a f g.born)) g
+  back a f g = kin-life slots k es n h.element (Unlinked opened) h.born h.in_map (ap is_reclaimed h.linked) a f g
 
   other-key : (q : List ℕ) (a : ℕ) → IsLinkedAt es k q a → a ≢ n → q ≢ key
   other-key q a g ne same =
@@ -117,7 +124,7 @@ module _ (slots : List ℕ) (k : ℕ) (es : List Element) (v : MapView) (n : ℕ
   kept-one = record { born = born; in_map = in_map; kept = ap is_reclaimed life }
 
   was : (a : ℕ) (f : Element) → IsKept rs k a f → Kin slots slots k es a f
-  was a f g = kin-old k k slots slots es rs reclaims a f (subst (λ x. a < x) (length-slice_set es n _) (slice_get_within rs a f g.born)) g
+  was a f g = kin-life slots k es n e Reclaimed born in_map (ap is_reclaimed life) a f g
 
   another : (a : ℕ) (f : Element) → IsKept rs k a f → a ≢ n
   another a f g same = false≢true (sym g.kept ∙ ap (λ (z : Element). is_reclaimed z.life) (same_Some f (with_life Reclaimed e) (sym g.born ∙ (ap (slice_get rs) same ∙ get-set_same es n e (with_life Reclaimed e) born))))

@@ -1,11 +1,14 @@
 -- When a world's own step is one of the schedule.
-use Rattle.std.specs.Prelude.{ℕ, List, Result}
+use Rattle.std.specs.Prelude.{◌≡◌, ℕ, List, Some, Result, ℤ}
 use Rattle.bpf_model.specs.declared.call.Errno.{Errno}
 use Rattle.bpf_model.specs.declared.event.Event.{Event}
 use Rattle.bpf_model.specs.declared.event.Answer.{Answer}
-use Rattle.bpf_model.specs.MapState.{Store}
+use Rattle.bpf_model.specs.Value.{◌>>=◌}
+use Rattle.bpf_model.specs.Element.{Element, accessible}
+use Rattle.bpf_model.specs.MapState.{Store, with_elements}
 use Rattle.bpf_model.specs.Helper.{Updates, Deletes}
 use Rattle.bpf_model.specs.Machine.{open_sections, with_store}
+use Rattle.bpf_model.specs.MachineStep.{stored_in}
 use Rattle.bpf_model.specs.Schedule.{Schedule, retired, TakesOldest, DoesScheduled}
 use Rattle.bpf_model.specs.View.{WorldView}
 use Rattle.bpf_model.specs.Refines.{RefinesSchedule}
@@ -22,11 +25,11 @@ pub record Simulates (s : Schedule) (event : Event) (reaction : Answer × WorldV
   pub does : DoesScheduled s event reaction.0 next
   pub matches : Matches reaction.1 next
 
--- A step of a run that calls a helper, in two halves: first the maps, with the lists; then the run.
+-- A step of a run that changes the maps, in two halves: first the maps, with the lists; then the run.
 abbrev pub half : Schedule → Store → Schedule
 half s store = record { machine = with_store s.machine store; queues = retired 0 s.machine.store.elements store.elements s.queues; awaited = s.awaited }
 
--- The first half of a delete with this result, and of an update: the view refines the schedule after it.
+-- The first half of a delete with this result, of an update, and of a store of a number to element n: the view refines the schedule after it.
 pub record DeletesHalf (w : WorldView) (s : Schedule) (k : ℕ) (key : List ℕ) (ret : Result (Unit {0}) Errno) : Type 0 where
   pub store : Store
   pub deletes : Deletes s.machine.store (open_sections s.machine.runs) k key ret store
@@ -38,3 +41,9 @@ pub record UpdatesHalf (w : WorldView) (s : Schedule) (k : ℕ) (key value : Lis
   pub updates : Updates s.machine.store (open_sections s.machine.runs) k key value flags ret store
   pub oldest : TakesOldest s.machine.store store
   pub refines : RefinesSchedule w (half s store)
+
+pub record StoresHalf (w : WorldView) (s : Schedule) (n width : ℕ) (offset : ℤ) (x : ℕ) : Type 0 where
+  pub elements : List Element
+  pub stored : (accessible s.machine.store.elements n >>= stored_in s.machine.store.elements n width offset x) ≡ Some elements
+  pub oldest : TakesOldest s.machine.store (with_elements elements s.machine.store)
+  pub refines : RefinesSchedule w (half s (with_elements elements s.machine.store))

@@ -48,6 +48,19 @@ delete_result (Some i) = Ok tt
 abbrev pub deleted : MapView → List ℕ → Result (Unit {0}) Errno × MapView
 deleted v key = (delete_result (get v.index key), retired_key v key)
 
+-- A store to the value in a slot.
+abbrev pub written : MapView → ℕ → List ℕ → MapView
+written v i value = record {
+  shape = v.shape;
+  slots = slice_set v.slots i (record { key = key_in (slice_get v.slots i); value = value; uses = uses_at v.slots i });
+  free = v.free;
+  index = v.index;
+  next = v.next;
+  waiting = v.waiting;
+  ready = v.ready;
+  worn = v.worn;
+}
+
 -- A new element takes the slot that has been free longest, and the index has it for the key.
 abbrev pub filled : MapView → ℕ → List ℕ → List ℕ → List ℕ → MapView
 filled v i rest key value = record {

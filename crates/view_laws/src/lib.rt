@@ -3,7 +3,7 @@
 //! Each is a function with an empty body, whose contract is the law.
 #![tactic(auto)]
 
-ghost use Rattle.std.specs.Prelude.{◌≡◌, ℕ, ◌<◌, ℤ, List, Some, None, slice_get, slice_set};
+ghost use Rattle.std.specs.Prelude.{◌≡◌, ℕ, ◌<◌, ℤ, List, Some, None, length, slice_get, slice_index, slice_set};
 ghost use Rattle.arrayvec.specs.ArrayVec.{ArrayVec};
 ghost use Rattle.bpf_model.specs.declared.call.KernelFunction.{KernelFunction};
 ghost use Rattle.bpf_model.specs.declared.event.Event.{Event};
@@ -11,19 +11,22 @@ ghost use Rattle.bpf_model.specs.declared.event.Answer.{Answer};
 ghost use Rattle.bpf_model.specs.declared.insn.CallKind.{CallKind};
 ghost use Rattle.bpf_model.specs.declared.insn.Insn.{Insn};
 ghost use Rattle.bpf_model.specs.declared.limits.TheConstants.{MAX_DEPTH};
+ghost use Rattle.bpf_model.specs.Access.{place_of};
 ghost use Rattle.bpf_model.specs.Call.{kernel_function_of};
 ghost use Rattle.bpf_model.specs.Drain.{AnswersAsScheduled};
+ghost use Rattle.bpf_model.specs.Element.{Element, accessible};
 ghost use Rattle.bpf_model.specs.Event.{IsReal};
 ghost use Rattle.bpf_model.specs.Machine.{Run, run_at, with_runs, with_store};
-ghost use Rattle.bpf_model.specs.MachineStep.{StepsRun};
+ghost use Rattle.bpf_model.specs.MachineStep.{StepsRun, with_bytes};
 ghost use Rattle.bpf_model.specs.MapState.{Store};
-ghost use Rattle.bpf_model.specs.Refines.{RunRefines, RefinesSchedule, TracksSchedule};
+ghost use Rattle.bpf_model.specs.Refines.{slot_view, RunRefines, RefinesSchedule, TracksSchedule};
 ghost use Rattle.bpf_model.specs.Schedule.{Schedule, TakesOldest};
 ghost use Rattle.bpf_model.specs.Step.{insn_at};
 ghost use Rattle.bpf_model.specs.View.{MapView, RunView, WorldView, shapes_of};
-ghost use Rattle.view_laws.specs.Views.{deleted, updated};
+ghost use Rattle.bpf_model.specs.Word.{slot_base, element_bases};
+ghost use Rattle.view_laws.specs.Views.{deleted, updated, value_in, written};
 ghost use Rattle.view_laws.specs.Reactions.{with_map, with_run, delete_reaction, update_reaction, read_reaction, advance_reaction, reap_reaction, start_reaction, drop_reaction, locked_view, unlocked_view, reaction};
-ghost use Rattle.view_laws.specs.Matching.{Matches, Simulates, half, DeletesHalf, UpdatesHalf};
+ghost use Rattle.view_laws.specs.Matching.{Matches, Simulates, half, DeletesHalf, UpdatesHalf, StoresHalf};
 
 /// A world matches each schedule that it tracks.
 pub fn tracked_matches()
@@ -146,6 +149,28 @@ pub fn update_half()
         (k : ℕ) (v : MapView) (key value : List ℕ) (flags : ℕ) → slice_get w.maps k ≡ Some v →
         UpdatesHalf (with_map k (updated v key value flags).1 w) s k key value flags
         (updated v key value flags).0 }
+{}
+
+/// An element that may be accessed stands in the slot that its birth took, and a reference to it is that slot's word.
+pub fn element_shown()
+    ensures slot { (w : WorldView) (s : Schedule) → (m : Matches w s) → (n : ℕ) (e : Element) (v : MapView) →
+        accessible s.machine.store.elements n ≡ Some e → slice_get w.maps e.map ≡ Some v →
+        slice_get v.slots (slice_index m.refines.slots n) ≡ Some (slot_view e) }
+    ensures word { (w : WorldView) (s : Schedule) → (m : Matches w s) → (n : ℕ) (e : Element) →
+        accessible s.machine.store.elements n ≡ Some e →
+        element_bases m.refines.slots s.machine.store.elements n ≡ slot_base e.map
+        (slice_index m.refines.slots n) }
+{}
+
+/// The first half of a run's step that stores to an element: the low bytes of a number take their place in its slot.
+pub fn store_half()
+    ensures { (w : WorldView) (s : Schedule) → (m : Matches w s) →
+        (n : ℕ) (e : Element) (v : MapView) (offset : ℤ) (width at x : ℕ) →
+        accessible s.machine.store.elements n ≡ Some e → slice_get w.maps e.map ≡ Some v →
+        place_of (length e.value) width offset ≡ Some at →
+        StoresHalf
+        (with_map e.map (written v (slice_index m.refines.slots n) (with_bytes at width x (value_in (slice_get v.slots (slice_index m.refines.slots n))))) w)
+        s n width offset x }
 {}
 
 /// Both halves are a step of the run: a view that refines the first, and the run's own view after the step.
