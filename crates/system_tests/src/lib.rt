@@ -17,10 +17,14 @@ mod model_programs;
 #[cfg(test)]
 mod models;
 #[cfg(test)]
+mod numbers;
+#[cfg(test)]
 mod orders;
 #[cfg(test)]
 mod refusals;
 #[cfg(test)]
 mod rows;
+#[cfg(test)]
+mod sets;
 #[cfg(test)]
 mod text;

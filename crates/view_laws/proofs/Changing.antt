@@ -10,7 +10,8 @@ use Rattle.bpf_model.specs.Helper.{newborn}
 use Rattle.bpf_model.specs.Word.{map_in}
 use Rattle.model_laws.proofs.Lists.{get-below, get-append, get-append_cases, get-set_same, get-set_other, get-set_cases, length-slice_set}
 use Rattle.bpf_model.specs.Refines.{slot_view}
-use Rattle.view_laws.proofs.Lists.{one_of, count-set, index-append}
+use Rattle.model_laws.proofs.Tallies.{one_of, count-set}
+use Rattle.view_laws.proofs.Lists.{index-append}
 
 -- An element that was there before: not reclaimed, in the same map, and outside map k with the same key, value and use count.
 pub record Was (k : ℕ) (es : List Element) (n : ℕ) (f : Element) : Type 0 where

@@ -25,7 +25,8 @@ use Rattle.view_laws.specs.Views.{retired_key, retired_slot, delete_result, dele
 use Rattle.view_laws.specs.Reactions.{shape_shown, with_map, delete_at, delete_reaction}
 use Rattle.view_laws.specs.Matching.{Matches, Simulates, DeletesHalf}
 use Rattle.view_laws.proofs.Changing.{Changes}
-use Rattle.view_laws.proofs.Lists.{count-set, one_of, remove-same}
+use Rattle.model_laws.proofs.Tallies.{count-set, one_of}
+use Rattle.view_laws.proofs.Lists.{remove-same}
 use Rattle.view_laws.proofs.Changing.{changes-same}
 use Rattle.view_laws.proofs.Mapping.{unlinks, elements-retired}
 use Rattle.view_laws.proofs.Listing.{named-kept, between-more, between-one, between-other, more-none, more-one}

@@ -15,7 +15,8 @@ use Rattle.bpf_model.specs.View.{MapView, uses_at}
 use Rattle.bpf_model.specs.Refines.{times, slot_view, IsKept, ElementsStand, SlotsStand}
 use Rattle.view_laws.specs.Views.{retired_slot, filled, given_back}
 use Rattle.view_laws.proofs.Changing.{Changes}
-use Rattle.view_laws.proofs.Lists.{key_cases, insert-same, insert-other, remove-same, remove-other, len-remove_found, len-insert_new, index-append, index-last, one_of, count-set}
+use Rattle.model_laws.proofs.Tallies.{one_of, count-set}
+use Rattle.view_laws.proofs.Lists.{key_cases, insert-same, insert-other, remove-same, remove-other, len-remove_found, len-insert_new, index-append, index-last}
 use Rattle.view_laws.proofs.Changing.{changes-life, link-kept, link-back, not-linked, link-grown, link-cases, count-born}
 
 -- a kept element of the map was one before

@@ -22,7 +22,7 @@ use Rattle.bpf_model.specs.Refines.{times, slot_view, IsKept, lists_of, named, S
 use Rattle.view_laws.specs.Views.{given_back, given_at, reaped_view, key_in}
 use Rattle.view_laws.specs.Reactions.{Pick, or_pick, first_pick, with_reaped, reap_by, reap_reaction}
 use Rattle.view_laws.specs.Matching.{Matches, Simulates}
-use Rattle.view_laws.proofs.Lists.{count-set, one_of}
+use Rattle.model_laws.proofs.Tallies.{count-set, one_of}
 use Rattle.view_laws.proofs.Mapping.{reclaims, elements-given}
 use Rattle.view_laws.proofs.Worlds.{Here, here, Turns, turned-world, oldest-none, steps}
 

@@ -1,9 +1,16 @@
-//! The expected numbers were computed apart from this code, with whole numbers of any size.
-use super::*;
-use bpf_model::{AluOp, ByteOrder, Condition, SignExtension, SignedWidth, Size, SwapWidth};
+//! Operations on words. The expected numbers were computed apart from this code, with whole numbers
+//! of any size, but for those of which the standard speaks (RFC 9669, section 4.1): what a signed
+//! remainder of -13 by 3 is, and what a division by zero leaves.
+use alu::{
+    alu, alu32, alu64, byte_swap, compare, compare32, compare64, immediate, load_signed,
+    move_signed, negate, unary,
+};
+use bpf_model::{
+    AluOp, ByteOrder, Condition, Reg, SignExtension, SignedWidth, Size, SwapWidth, UnaryOp,
+};
 
-/// The operands of each row: zero, one, minus one, the least and the greatest words, and the numbers on
-/// either side of 2^31 and 2^32.
+/// The operands of each row: zero, one, minus one, the least and the greatest words, and the
+/// numbers on either side of 2^31 and 2^32.
 const OPERANDS: [(u64, u64); 6] = [
     (7, 0),
     (0x8000_0000_0000_0000, 0xffff_ffff_ffff_ffff),
@@ -332,73 +339,155 @@ fn conditions(rt: HostRuntime) {
     }
 }
 
+/// A word, and what each operation of one operand leaves of it.
+const WORD: u64 = 0x1234_5678_9abc_def0;
+
+const UNARY: [(UnaryOp, u64); 16] = [
+    (UnaryOp::Negate(Size::Word64), 0xedcb_a987_6543_2110),
+    (UnaryOp::Negate(Size::Word32), 0x6543_2110),
+    (
+        UnaryOp::ByteSwap {
+            order: ByteOrder::ToLittle,
+            width: SwapWidth::Two,
+        },
+        0xdef0,
+    ),
+    (
+        UnaryOp::ByteSwap {
+            order: ByteOrder::ToLittle,
+            width: SwapWidth::Four,
+        },
+        0x9abc_def0,
+    ),
+    (
+        UnaryOp::ByteSwap {
+            order: ByteOrder::ToLittle,
+            width: SwapWidth::Eight,
+        },
+        0x1234_5678_9abc_def0,
+    ),
+    (
+        UnaryOp::ByteSwap {
+            order: ByteOrder::ToBig,
+            width: SwapWidth::Two,
+        },
+        0xf0de,
+    ),
+    (
+        UnaryOp::ByteSwap {
+            order: ByteOrder::ToBig,
+            width: SwapWidth::Four,
+        },
+        0xf0de_bc9a,
+    ),
+    (
+        UnaryOp::ByteSwap {
+            order: ByteOrder::ToBig,
+            width: SwapWidth::Eight,
+        },
+        0xf0de_bc9a_7856_3412,
+    ),
+    (
+        UnaryOp::ByteSwap {
+            order: ByteOrder::Swap,
+            width: SwapWidth::Two,
+        },
+        0xf0de,
+    ),
+    (
+        UnaryOp::ByteSwap {
+            order: ByteOrder::Swap,
+            width: SwapWidth::Four,
+        },
+        0xf0de_bc9a,
+    ),
+    (
+        UnaryOp::ByteSwap {
+            order: ByteOrder::Swap,
+            width: SwapWidth::Eight,
+        },
+        0xf0de_bc9a_7856_3412,
+    ),
+    (
+        UnaryOp::MoveSigned {
+            extension: SignExtension::ByteTo32,
+            src: Reg::R3,
+        },
+        0xffff_fff0,
+    ),
+    (
+        UnaryOp::MoveSigned {
+            extension: SignExtension::ShortTo32,
+            src: Reg::R3,
+        },
+        0xffff_def0,
+    ),
+    (
+        UnaryOp::MoveSigned {
+            extension: SignExtension::ByteTo64,
+            src: Reg::R3,
+        },
+        0xffff_ffff_ffff_fff0,
+    ),
+    (
+        UnaryOp::MoveSigned {
+            extension: SignExtension::ShortTo64,
+            src: Reg::R3,
+        },
+        0xffff_ffff_ffff_def0,
+    ),
+    (
+        UnaryOp::MoveSigned {
+            extension: SignExtension::WordTo64,
+            src: Reg::R3,
+        },
+        0xffff_ffff_9abc_def0,
+    ),
+];
+
 #[test]
-fn one_operand(rt: HostRuntime) {
-    let word = 0x1234_5678_9abc_def0;
-    assert_eq!(rt; alu64(AluOp::Add, u64::MAX, 2), 1);
+fn operations_of_one_operand(rt: HostRuntime) {
+    for (op, result) in UNARY {
+        assert_eq!(rt; unary(op, WORD), result, "{op:?}");
+    }
+    assert_eq!(rt; negate(Size::Word32, 0x1_8000_0000), 0x8000_0000);
+    assert_eq!(rt; negate(Size::Word64, 1), u64::MAX);
+    assert_eq!(rt;
+        byte_swap(ByteOrder::ToBig, SwapWidth::Two, 0x1_1234),
+        0x3412
+    );
+    assert_eq!(rt; move_signed(SignExtension::ByteTo32, 0x17f), 0x7f);
+}
+
+/// Loads that extend a sign, by their width, of the least negative and the greatest positive
+/// number.
+#[test]
+fn loads_with_sign(rt: HostRuntime) {
+    let rows = [
+        (SignedWidth::One, 0x80, 0xffff_ffff_ffff_ff80),
+        (SignedWidth::One, 0x7f, 0x7f),
+        (SignedWidth::Two, 0x8000, 0xffff_ffff_ffff_8000),
+        (SignedWidth::Two, 0x7fff, 0x7fff),
+        (SignedWidth::Four, 0x8000_0000, 0xffff_ffff_8000_0000),
+        (SignedWidth::Four, 0x7fff_ffff, 0x7fff_ffff),
+    ];
+    for (width, number, loaded) in rows {
+        assert_eq!(rt; load_signed(width, number), loaded, "{width:?}");
+    }
+}
+
+/// What the standard says itself, and fields imm as words.
+#[test]
+fn as_in_the_standard(rt: HostRuntime) {
+    let minus_13 = immediate(-13);
+    assert_eq!(rt; minus_13, 0xffff_ffff_ffff_fff3);
+    assert_eq!(rt; alu64(AluOp::SignedMod, minus_13, 3), immediate(-1));
+    assert_eq!(rt; alu64(AluOp::Div, 7, 0), 0);
+    assert_eq!(rt; alu64(AluOp::Mod, 7, 0), 7);
     assert_eq!(rt; alu32(AluOp::Mod, 0x1_0000_0007, 0), 7);
+    assert_eq!(rt; alu64(AluOp::ShiftLeft, 1, 0x41), 2);
     assert!(rt; compare64(Condition::SignedLess, u64::MAX, 0));
     assert!(rt; compare32(Condition::Equal, 0x1_0000_0007, 7));
-    assert_eq!(rt; negate(Size::Word64, 1), 0xffff_ffff_ffff_ffff);
-    assert_eq!(rt; negate(Size::Word32, 0x1_8000_0000), 0x8000_0000);
-    assert_eq!(rt; negate(Size::Word32, 0x1_0000_0001), 0xffff_ffff);
-    assert_eq!(rt;
-        byte_swap(ByteOrder::ToLittle, SwapWidth::Two, word),
-        0xdef0
-    );
-    assert_eq!(rt;
-        byte_swap(ByteOrder::ToLittle, SwapWidth::Four, word),
-        0x9abc_def0
-    );
-    assert_eq!(rt;
-        byte_swap(ByteOrder::ToLittle, SwapWidth::Eight, word),
-        0x1234_5678_9abc_def0
-    );
-    assert_eq!(rt; byte_swap(ByteOrder::ToBig, SwapWidth::Two, word), 0xf0de);
-    assert_eq!(rt;
-        byte_swap(ByteOrder::ToBig, SwapWidth::Four, word),
-        0xf0de_bc9a
-    );
-    assert_eq!(rt;
-        byte_swap(ByteOrder::ToBig, SwapWidth::Eight, word),
-        0xf0de_bc9a_7856_3412
-    );
-    assert_eq!(rt; byte_swap(ByteOrder::Swap, SwapWidth::Two, word), 0xf0de);
-    assert_eq!(rt;
-        byte_swap(ByteOrder::Swap, SwapWidth::Four, word),
-        0xf0de_bc9a
-    );
-    assert_eq!(rt;
-        byte_swap(ByteOrder::Swap, SwapWidth::Eight, word),
-        0xf0de_bc9a_7856_3412
-    );
-    assert_eq!(rt; move_signed(SignExtension::ByteTo32, word), 0xffff_fff0);
-    assert_eq!(rt; move_signed(SignExtension::ShortTo32, word), 0xffff_def0);
-    assert_eq!(rt;
-        move_signed(SignExtension::ByteTo64, word),
-        0xffff_ffff_ffff_fff0
-    );
-    assert_eq!(rt;
-        move_signed(SignExtension::ShortTo64, word),
-        0xffff_ffff_ffff_def0
-    );
-    assert_eq!(rt;
-        move_signed(SignExtension::WordTo64, word),
-        0xffff_ffff_9abc_def0
-    );
-    assert_eq!(rt; load_signed(SignedWidth::One, 0x80), 0xffff_ffff_ffff_ff80);
-    assert_eq!(rt; load_signed(SignedWidth::One, 0x7f), 0x7f);
-    assert_eq!(rt;
-        load_signed(SignedWidth::Two, 0x8000),
-        0xffff_ffff_ffff_8000
-    );
-    assert_eq!(rt; load_signed(SignedWidth::Two, 0x7fff), 0x7fff);
-    assert_eq!(rt;
-        load_signed(SignedWidth::Four, 0x80000000),
-        0xffff_ffff_8000_0000
-    );
-    assert_eq!(rt; load_signed(SignedWidth::Four, 0x7fffffff), 0x7fff_ffff);
-    assert_eq!(rt; immediate(-1), 0xffff_ffff_ffff_ffff);
     assert_eq!(rt; immediate(i32::MIN), 0xffff_ffff_8000_0000);
     assert_eq!(rt; immediate(i32::MAX), 0x7fff_ffff);
 }

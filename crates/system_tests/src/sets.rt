@@ -1,114 +1,23 @@
-use super::*;
-use bpf_model::{AluOp, ByteOrder, Condition, SignExtension, SignedWidth, Size, SwapWidth, Width};
+//! Sets of numbers: how narrow results are, worked out by hand.
+use bpf_model::{
+    AluOp, ByteOrder, Condition, Reg, SignExtension, SignedWidth, Size, SwapWidth, UnaryOp, Width,
+};
+use scalar_domain::Scalar;
 
-/// Zero, one, minus one, the least and the greatest, and the numbers on either side of 2^31 and 2^32.
-const NUMBERS: [u64; 9] = [
-    0,
-    1,
-    7,
-    0x7fff_ffff,
-    0x8000_0000,
-    0xffff_ffff,
-    0x1_0000_0000,
-    0x7fff_ffff_ffff_ffff,
-    u64::MAX,
-];
-
-const OPERATIONS: [AluOp; 14] = [
-    AluOp::Add,
-    AluOp::Sub,
-    AluOp::Mul,
-    AluOp::Div,
-    AluOp::SignedDiv,
-    AluOp::Or,
-    AluOp::And,
-    AluOp::ShiftLeft,
-    AluOp::ShiftRight,
-    AluOp::Mod,
-    AluOp::SignedMod,
-    AluOp::Xor,
-    AluOp::Move,
-    AluOp::ShiftRightSigned,
-];
-
-const CONDITIONS: [Condition; 11] = [
-    Condition::Equal,
-    Condition::Greater,
-    Condition::GreaterOrEqual,
-    Condition::SharesBits,
-    Condition::NotEqual,
-    Condition::SignedGreater,
-    Condition::SignedGreaterOrEqual,
-    Condition::Less,
-    Condition::LessOrEqual,
-    Condition::SignedLess,
-    Condition::SignedLessOrEqual,
-];
-
-fn sets() -> [Scalar; 5] {
-    [
-        Scalar::unknown(),
-        Scalar::loaded(Width::One),
-        Scalar::loaded(Width::Four),
-        Scalar::constant(7).join(Scalar::constant(0x8000_0000)),
-        Scalar::constant(0x1_0000_0000).join(Scalar::constant(u64::MAX)),
-    ]
-}
-
-/// Each result of numbers of two sets is in the result of the sets.
 #[test]
-fn holds_each_result(rt: HostRuntime) {
-    for size in [Size::Word32, Size::Word64] {
-        for op in OPERATIONS {
-            for a in sets() {
-                for b in sets() {
-                    let result = Scalar::apply(size, op, a, b);
-                    for x in NUMBERS {
-                        for y in NUMBERS {
-                            if a.contains(x) && b.contains(y) {
-                                assert!(rt;
-                                    result.contains(alu::alu(size, op, x, y)),
-                                    "{op:?} {x:x} {y:x}"
-                                );
-                            }
-                        }
-                    }
-                }
-            }
-        }
-    }
+fn sets_of_numbers(rt: HostRuntime) {
+    let byte = Scalar::loaded(Width::One);
+    assert!(rt; byte.contains(255) && !byte.contains(256));
+    assert!(rt; Scalar::unknown().contains(u64::MAX));
+    assert_eq!(rt; Scalar::constant(7).as_constant(), Some(7));
+    assert_eq!(rt; byte.as_constant(), None);
+    let both = Scalar::constant(12).join(Scalar::constant(300));
+    assert_eq!(rt; (both.least, both.greatest), (12, 300));
+    assert!(rt; both.contains(12) && both.contains(300) && !both.contains(13));
+    assert!(rt; Scalar::load_signed(SignedWidth::One).contains(u64::MAX));
 }
 
-/// Numbers that go along an edge remain there.
-#[test]
-fn keeps_each_number_of_an_edge(rt: HostRuntime) {
-    for size in [Size::Word32, Size::Word64] {
-        for condition in CONDITIONS {
-            for a in sets() {
-                for x in NUMBERS {
-                    for y in NUMBERS {
-                        let taken = alu::compare(size, condition, x, y);
-                        let (left, right) = Scalar::refine(
-                            size,
-                            condition,
-                            a,
-                            Scalar::constant(y),
-                            taken,
-                        );
-                        if a.contains(x) {
-                            assert!(rt;
-                                left.contains(x) && right.contains(y),
-                                "{condition:?} {x:x} {y:x}"
-                            );
-                        }
-                    }
-                }
-            }
-        }
-    }
-}
-
-/// The bounds are as narrow as can be.
+/// The bounds of results of a byte, or of what was made of one.
 #[test]
 fn bounds_of_results(rt: HostRuntime) {
     let byte = Scalar::loaded(Width::One);
@@ -264,33 +173,39 @@ fn edges(rt: HostRuntime) {
 }
 
 #[test]
-fn one_operand(rt: HostRuntime) {
+fn operations_of_one_operand(rt: HostRuntime) {
     let byte = Scalar::loaded(Width::One);
-    assert_eq!(rt;
-        Scalar::unary(UnaryOp::Negate(Size::Word64), Scalar::constant(1)).as_constant(),
-        Some(u64::MAX)
-    );
-    assert_eq!(rt;
-        Scalar::unary(UnaryOp::Negate(Size::Word32), Scalar::constant(1)).as_constant(),
-        Some(0xffff_ffff)
-    );
-    assert_eq!(rt;
-        Scalar::byte_swap(ByteOrder::Swap, SwapWidth::Two, byte).greatest,
-        0xffff
-    );
-    assert_eq!(rt;
-        Scalar::byte_swap(ByteOrder::ToLittle, SwapWidth::Two, byte),
-        byte
-    );
-    assert_eq!(rt;
-        Scalar::byte_swap(ByteOrder::ToBig, SwapWidth::Two, Scalar::constant(0x1234)).as_constant(),
-        Some(0x3412)
-    );
-    assert_eq!(rt; Scalar::move_signed(SignExtension::ShortTo64, byte), byte);
-    assert_eq!(rt;
-        Scalar::move_signed(SignExtension::ByteTo32, byte).greatest,
-        0xffff_ffff
-    );
-    assert!(rt; Scalar::load_signed(SignedWidth::One).contains(u64::MAX));
-    assert!(rt; byte.join(Scalar::constant(300)).is_possible());
+    let swap = UnaryOp::ByteSwap {
+        order: ByteOrder::Swap,
+        width: SwapWidth::Two,
+    };
+    let low = UnaryOp::ByteSwap {
+        order: ByteOrder::ToLittle,
+        width: SwapWidth::Two,
+    };
+    let to_64 = UnaryOp::MoveSigned {
+        extension: SignExtension::ShortTo64,
+        src: Reg::R3,
+    };
+    let to_32 = UnaryOp::MoveSigned {
+        extension: SignExtension::ByteTo32,
+        src: Reg::R3,
+    };
+    let constants = [
+        (UnaryOp::Negate(Size::Word64), 1, u64::MAX),
+        (UnaryOp::Negate(Size::Word32), 1, 0xffff_ffff),
+        (swap, 0x1234, 0x3412),
+        (to_64, 0x8000, 0xffff_ffff_ffff_8000),
+    ];
+    for (op, n, result) in constants {
+        assert_eq!(rt;
+            Scalar::unary(op, Scalar::constant(n)),
+            Scalar::constant(result),
+            "{op:?}"
+        );
+    }
+    assert_eq!(rt; Scalar::unary(swap, byte).greatest, 0xffff);
+    assert_eq!(rt; Scalar::unary(low, byte), byte);
+    assert_eq!(rt; Scalar::unary(to_64, byte), byte);
+    assert_eq!(rt; Scalar::unary(to_32, byte).greatest, 0xffff_ffff);
 }
