@@ -2,8 +2,7 @@
 ghost use Rattle.std.specs.Prelude.{◌≡◌, ℕ, ◌<◌, ◌≤◌, length, slice_index, IfOk};
 ghost use Rattle.bpf_model.specs.declared.limits.TheConstants.{CTX_BYTES, MAX_SLOTS};
 ghost use Rattle.bpf_model.specs.Spelling.{text};
-ghost use Rattle.bpf_model.specs.Step.{ExitsWith, entry};
-ghost use Rattle.machine.specs.Standing.{environment_of};
+ghost use Rattle.machine.specs.Running.{Finishes};
 ghost use Rattle.bench.specs.Trials.{IsReady};
 
 use anyhow::Result;
@@ -62,7 +61,7 @@ pub fn counted_run(trial: &Trial) -> Outcome
     requires { IsReady trial.now }
     ensures least { 0 < result.instructions }
     ensures limit { result.instructions ≤ MAX_SLOTS }
-    ensures exits { ExitsWith trial.now.verified.program (environment_of trial.now.verified trial.now.ctx.items) entry result.instructions result.exit }
+    ensures exits { Finishes trial.now.verified trial.now.ctx.items result.instructions result.exit }
 {
     let finished = run_to_exit(&trial.verified, &trial.ctx);
     Outcome {
