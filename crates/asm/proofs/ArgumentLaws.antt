@@ -7,7 +7,7 @@ use Rattle.disasm.specs.declared.statement.Sign.{Sign}
 use Rattle.disasm.specs.declared.statement.Sign.TheVariants.{Plus, Minus}
 use Rattle.disasm.specs.declared.statement.Argument.{Argument}
 use Rattle.disasm.specs.declared.statement.Argument.TheVariants.{Register, Number, Signed, Memory}
-use Rattle.asm.specs.Reading.{IsArgumentRead, ReadsArgument, capped, capped_argument, Lacks}
+use Rattle.asm.specs.Reading.{IsArgumentRead, ReadsArgument, capped, Lacks}
 use Rattle.asm.proofs.Numerals.{numeral_digit, numeral_some}
 use Rattle.asm.proofs.Lacking.{not_lacks, numeral_lacks, lacks_append, lacks_cons}
 

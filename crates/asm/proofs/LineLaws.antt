@@ -3,7 +3,7 @@ use Rattle.std.proofs.Common.{ℕ, ◌≡◌, ◌++◌, List, Bool, true, false,
 use Rattle.std.specs.Prelude.{Option, Some, None, Result, Ok}
 use Rattle.bpf_model.specs.Spelling.{FitsInsn}
 use Rattle.bpf_model.specs.declared.insn.Insn.{Insn}
-use Rattle.disasm.specs.Text.{name_of, arguments_text, statement_text, line_of, mnemonic_of, arguments_of, statement_of}
+use Rattle.disasm.specs.Text.{name_of, arguments_text, line_of, mnemonic_of, arguments_of, statement_of}
 use Rattle.disasm.specs.declared.mnemonic.Mnemonic.{Mnemonic}
 use Rattle.disasm.specs.declared.statement.Arguments.{Arguments}
 use Rattle.disasm.specs.declared.statement.Statement.{Statement}

@@ -2,13 +2,13 @@
 use Rattle.std.proofs.Common.{ℕ, ◌≡◌, List, [], ◌∷◌, ◌++◌, refl, sym, ap, ◌∙◌, append_assoc}
 use Rattle.std.specs.Prelude.{Option, Some, None, IfSome}
 use Rattle.std.proofs.lemmas.List.{append-nil}
-use Rattle.disasm.specs.Text.{name_of, argument_text, arguments_text, statement_text}
+use Rattle.disasm.specs.Text.{name_of, argument_text, arguments_text}
 use Rattle.disasm.specs.declared.mnemonic.Mnemonic.{Mnemonic}
 use Rattle.disasm.specs.declared.statement.Argument.{Argument}
 use Rattle.disasm.specs.declared.statement.Arguments.{Arguments}
 use Rattle.disasm.specs.declared.statement.Arguments.TheVariants.{Zero, One, Two, Three}
 use Rattle.disasm.specs.declared.statement.Statement.{Statement}
-use Rattle.asm.specs.Reading.{IsArgumentsRead, ReadsArguments, IsStatementRead, capped_argument, capped_arguments, capped_statement, Lacks}
+use Rattle.asm.specs.Reading.{IsArgumentsRead, ReadsArguments, IsStatementRead, capped_argument, capped_arguments, Lacks}
 use Rattle.asm.proofs.Lacking.{not_lacks, argument_lacks}
 use Rattle.asm.proofs.PlainNames.{name_lacks}
 

@@ -1,8 +1,7 @@
 -- Words of the reader's own contracts. It keeps numbers up to 2 ^ 64, which is above what any instruction
 -- takes.
-use Rattle.std.specs.Prelude.{ℕ, ◌≡◌, ◌≢◌, ◌+◌, ◌<◌, ◌≤◌, ◌^◌, ℤ, FitsSigned, Option, Some, List, ◌∷◌, length, slice_index, map, nat_lt, if◌then◌else◌}
+use Rattle.std.specs.Prelude.{ℕ, ◌≡◌, ◌≢◌, ◌<◌, ◌≤◌, ◌^◌, ℤ, FitsSigned, Option, Some, List, ◌∷◌, length, slice_index, nat_lt, if◌then◌else◌}
 use Rattle.std.specs.Int.{w16, w32}
-use Rattle.std.specs.Int.Digits.{digits_of}
 use Rattle.bpf_model.specs.declared.insn.Operand.{Operand}
 use Rattle.bpf_model.specs.declared.insn.Operand.TheVariants as operand
 use Rattle.bpf_model.specs.declared.insn.UnaryOp.TheVariants as unary
@@ -63,10 +62,6 @@ ReadsStatement line r = (w : Statement) → line ≡ statement_text w → r ≡ 
 -- no byte of the text is c
 abbrev pub Lacks : ℕ → List ℕ → Type 0
 Lacks c text = (i : ℕ) → i < length text → slice_index text i ≢ c
-
--- the digits of a number, none for 0
-abbrev pub glyphs : ℕ → List ℕ
-glyphs n = map (λ digit. 48 + digit) (digits_of 10 n)
 
 -- the instruction has this mnemonic and these arguments, and its fields are in their ranges
 abbrev pub IsInsnOf : Mnemonic → Arguments → Insn → Type 0

@@ -1,8 +1,8 @@
 //! Numbers in decimal, of any size.
 ghost use Rattle.std.specs.Prelude.{ℕ, ◌≡◌, ◌≢◌, ◌+◌, ◌*◌, ◌<◌, ◌≤◌, ◌^◌, length, slice_index, IfSome, IfNone};
 ghost use Rattle.std.specs.Int.{IsInRange};
-ghost use Rattle.disasm.specs.Text.{numeral};
-ghost use Rattle.asm.specs.Reading.{capped, glyphs};
+ghost use Rattle.disasm.specs.Text.{glyphs, numeral};
+ghost use Rattle.asm.specs.Reading.{capped};
 
 /// Stands for each number from it on: no instruction takes one.
 const LIMIT: u128 = 0x1_0000_0000_0000_0000;

@@ -34,30 +34,17 @@ fn signed32(sign: Sign, magnitude: u128) -> Option<i32>
     }
 }
 
+/// The number of this sign and magnitude, where it has 16 bits.
 fn signed16(sign: Sign, magnitude: u128) -> Option<i16>
     ensures found { IfSome result (λ z.
         (sign_of z ≡ sign) × (magnitude_of z ≡ magnitude) × FitsSigned w16 z) }
     ensures only { (z : ℤ) →
         FitsSigned w16 z → sign ≡ sign_of z → magnitude ≡ magnitude_of z → result ≡ Some z }
 {
-    match sign {
-        Sign::Plus => {
-            if magnitude < 0x8000 {
-                Some(magnitude as i16)
-            } else {
-                None
-            }
-        }
-        Sign::Minus => {
-            if 0 < magnitude && magnitude <= 0x8000 {
-                Some(-(magnitude as i64) as i16)
-            } else {
-                None
-            }
-        }
-    }
+    i16::try_from(signed32(sign, magnitude)?).ok()
 }
 
+/// The register of this number.
 fn numbered(number: u128) -> Option<Reg>
     ensures found { IfSome result (λ r. (r ≡ number) × (r ≤ 10)) }
     ensures only { number ≤ 10 → result ≡ Some number }
