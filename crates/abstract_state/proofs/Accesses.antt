@@ -28,6 +28,7 @@ use Rattle.abstract_state.specs.declared.state.AbsState.{AbsState}
 use Rattle.abstract_state.specs.declared.environment.EnvironmentShape.{EnvironmentShape}
 use Rattle.abstract_state.specs.State.{IsOf, IsOfCell, IsNumber, Describes, kind_at, cell_at, IsEnvironment, IsInRegion}
 use Rattle.abstract_state.specs.Facts.{Fact, Register, FrameByte, FramePointer, FactHolds, Makes, IsReady}
+use Rattle.abstract_state.specs.Floor.{StoresKnown}
 use Rattle.abstract_state.specs.Steps.{Loads, SetsBytes, single, Stepped}
 use Rattle.abstract_state.specs.Laws.{number_read}
 use Rattle.abstract_state.proofs.Sound.{flows_transfers}
@@ -138,6 +139,16 @@ store_keeps width at dst o offset src base a b e f p sets ready (FrameByte q) h 
 store_keeps width at dst o offset src base a b e f p sets ready FramePointer h =
     ap (λ (r : List RegKind). slice_index_or r 10 Unwritten) sets.regs ∙ ready.frame
 
+store_known : (width : Width) (at dst : ℕ) (o offset : ℤ) (src : Operand) (base : RegKind) (a b : AbsState) → base ≡ kind_at a dst → base ≡ Frame o
+    → place_of FRAME_BYTES (byte_count width) (o +ℤ offset) ≡ Some at → SetsBytes at (byte_count width) a b → StoresKnown (Store width dst offset src) a b
+store_known width at dst o offset src base a b e f p sets o' e' =
+    let t : Frame o ≡ Frame o' = sym f ∙ e ∙ e' in
+    let z : o ≡ o' = cc in (
+      at,
+      subst (λ o. place_of FRAME_BYTES (byte_count width) (o +ℤ offset) ≡ Some at) z p,
+      λ q l u. sets.cells q ∙ ap (λ t. cond t cells.Byte (cell_at a q)) (within at (byte_count width) q l u),
+    )
+
 -- a store of either operand
 pub store_steps : (src : Operand) (width : Width) (at dst : ℕ) (o offset : ℤ) (base value : RegKind) (a b : AbsState) (shape : EnvironmentShape)
     → base ≡ kind_at a dst → base ≡ Frame o → IsNumber value → ((m : State) → Describes a m → IsOf value (operand_value src m.regs))
@@ -161,7 +172,11 @@ store_steps src width at dst o offset base value a b shape e f n sound p sets = 
     computes = tt;
     refines = tt;
     refines_taken = tt;
-    others = λ r _ _. ap (λ (k : List RegKind). slice_index_or k r Unwritten) sets.regs;
+    stores = store_known width at dst o offset src base a b e f p sets;
+    others = record {
+      regs = λ r _ _. ap (λ (k : List RegKind). slice_index_or k r Unwritten) sets.regs;
+      bytes = λ q x. sets.cells q ∙ kept_byte (is_within at (byte_count width) q) (cell_at a q) x;
+    };
     others_taken = tt;
   };
 }

@@ -64,7 +64,8 @@ jump_done offset a shape = record {
   computes = tt;
   refines = tt;
   refines_taken = tt;
-  others = λ r _ _. refl;
+  stores = tt;
+  others = record { regs = λ r _ _. refl; bytes = λ k e. e };
   others_taken = tt;
 }
 
@@ -80,7 +81,8 @@ jump_long_done imm a shape = record {
   computes = tt;
   refines = tt;
   refines_taken = tt;
-  others = λ r _ _. refl;
+  stores = tt;
+  others = record { regs = λ r _ _. refl; bytes = λ k e. e };
   others_taken = tt;
 }
 
@@ -102,7 +104,8 @@ exit_steps a s shape e = record {
     computes = tt;
     refines = tt;
     refines_taken = tt;
-    others = λ r _ _. refl;
+    stores = tt;
+  others = record { regs = λ r _ _. refl; bytes = λ k e. e };
     others_taken = tt;
   };
 }
@@ -144,14 +147,14 @@ fork_transfers condition size dst src offset x y a b t e o yea nay shape env m _
     )
 
 pub fork_keeps : (condition : Condition) (size : Size) (dst : ℕ) (src : Operand) (offset : ℤ) (a b : AbsState)
-    → ((r : ℕ) → IsNumber (kind_at a r) → IsNumber (kind_at b r)) → KeepsOthers (JumpIf condition size dst src offset) a b → b.frame ≡ a.frame
+    → ((r : ℕ) → IsNumber (kind_at a r) → IsNumber (kind_at b r)) → ((r : ℕ) → (r ≡ dst → ⊥) → (Names src r → ⊥) → kind_at b r ≡ kind_at a r) → b.frame ≡ a.frame
     → IsReady (JumpIf condition size dst src offset) a → (fact : Fact) → FactHolds fact a ⊎ Makes (JumpIf condition size dst src offset) fact
     → FactHolds fact b
 fork_keeps condition size dst src offset a b numbers others frame ready (RegisterFact r) h = numbers r (elim h [ inl x ↦ x | inr w ↦ absurd w ])
 fork_keeps condition size dst src offset a b numbers others frame ready (FrameByte q) h =
     ap (λ (f : List CellKind). slice_index_or f q cells.Unwritten) frame ∙ (elim h [ inl x ↦ x | inr w ↦ absurd w ])
 fork_keeps condition size dst src offset a b numbers others frame ready FramePointer h =
-    others 10 (λ e. cc) (λ c. subst IsNumber ready.frame (ready.registers 10 c)) ∙ ready.frame
+    others 10 (λ e. subst IsNumber ready.frame (ready.registers 10 (inl e))) (λ n. subst IsNumber ready.frame (ready.registers 10 (inr n))) ∙ ready.frame
 
 operand_named : (src : Operand) (r : ℕ) (m : State) → Names src r → m.regs r ≡ operand_value src m.regs
 operand_named (Register s) r m e = ap m.regs e
@@ -164,3 +167,11 @@ fork_compares dst src x y a r m left right h d = elim h [
   | inl e ↦ let n = number_of a dst x m left d in (n.0, ap m.regs e ∙ n.1)
   | inr e ↦ (right.0, operand_named src r m e ∙ right.1)
 ]
+
+-- what a comparison leaves alone
+pub fork_others : (condition : Condition) (size : Size) (dst : ℕ) (src : Operand) (offset : ℤ) (a b : AbsState)
+    → ((r : ℕ) → (r ≡ dst → ⊥) → (Names src r → ⊥) → kind_at b r ≡ kind_at a r) → b.frame ≡ a.frame → KeepsOthers (JumpIf condition size dst src offset) a b
+fork_others condition size dst src offset a b others frame = record {
+  regs = λ r _ t. others r (λ e. t (inl e)) (λ n. t (inr n));
+  bytes = λ k e. ap (λ (f : List CellKind). slice_index_or f k cells.Unwritten) frame ∙ e;
+}

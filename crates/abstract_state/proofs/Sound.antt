@@ -25,7 +25,7 @@ use Rattle.abstract_state.specs.declared.state.AbsState.{AbsState}
 use Rattle.abstract_state.specs.declared.environment.EnvironmentShape.{EnvironmentShape}
 use Rattle.abstract_state.specs.State.{IsOf, IsOfCell, IsNumber, Describes, kind_at, IsEnvironment, Compares, Transfers, base_of, IsInRegion}
 use Rattle.abstract_state.specs.Facts.{Fact, Register as RegisterFact, FrameByte, FramePointer, FactHolds, Makes, IsReady}
-use Rattle.abstract_state.specs.Floor.{set_by, LoadsKnown, ComputesKnown, RefinesKnown, IsAlone, IsNumbers, IsOperandKind, LeavesKnown, LeavesKnownBy}
+use Rattle.abstract_state.specs.Floor.{set_by, LoadsKnown, StoresKnown, ComputesKnown, RefinesKnown, IsAlone, IsNumbers, IsOperandKind, LeavesKnown, LeavesKnownBy}
 use Rattle.abstract_state.specs.Steps.{Gives, Computes, Shifts, SetsReg, Yields, Flows, single, Stepped}
 use Rattle.bpf_model.specs.Step.{State, Environment, Moves, put, sets, map_value}
 use Rattle.bpf_model.specs.Near.{IsNear}
@@ -136,10 +136,10 @@ write_keeps i dst k a b s ne sets n FramePointer h =
 -- an instruction that sets a register and is done
 pub write_done : (i : Insn) (dst : ℕ) (k : RegKind) (a b : AbsState) (region : Region) (shape : EnvironmentShape)
     → IsSetting i dst → (10 ≡ dst → ⊥) → SetsReg dst k a b → (IsReady i a → IsNumber k)
-    → ((r : ℕ) (m : State) → base_of i ≡ Some r → Describes a m → IsInRegion region (m.regs r)) → LoadsKnown i b → ComputesKnown i a b → RefinesKnown false i a b
+    → ((r : ℕ) (m : State) → base_of i ≡ Some r → Describes a m → IsInRegion region (m.regs r)) → LoadsKnown i b → StoresKnown i a b → ComputesKnown i a b → RefinesKnown false i a b
     → ((env : Environment) (m : State) → IsEnvironment shape env → Describes a m → Yields i dst k env m)
     → Stepped i shape a b (Ok (single region))
-write_done i dst k a b region shape s ne sets numbers reaches loads computes refines yields = record {
+write_done i dst k a b region shape s ne sets numbers reaches loads stores computes refines yields = record {
   accepts = λ _. tt;
   memory = tt;
   unchanged = tt;
@@ -154,7 +154,11 @@ write_done i dst k a b region shape s ne sets numbers reaches loads computes ref
     computes = computes;
     refines = refines;
     refines_taken = tt;
-    others = λ r other _. sets.regs r ∙ ap (λ t. if t then k else kind_at a r) (ne_eqb r dst (λ e. other (s.sets ∙ ap Some (sym e))));
+    stores = stores;
+    others = record {
+      regs = λ r other _. sets.regs r ∙ ap (λ t. if t then k else kind_at a r) (ne_eqb r dst (λ e. other (s.sets ∙ ap Some (sym e))));
+      bytes = λ q e. ap (λ (f : List CellKind). slice_index_or f q cells.Unwritten) sets.frame ∙ e;
+    };
     others_taken = tt;
   };
 }

@@ -1,7 +1,7 @@
 -- How much is known, at least, after an instruction: of what it sets, of what it compares, and of all else.
-use Rattle.std.specs.Prelude.{◌≡◌, ◌≢◌, ℕ, Bool, Option, Some, None, pos}
+use Rattle.std.specs.Prelude.{◌≡◌, ◌≢◌, ℕ, Bool, Option, Some, None, ℤ, pos, ◌+ℤ◌}
 use Rattle.bpf_model.specs.declared.insn.Insn.{Insn}
-use Rattle.bpf_model.specs.declared.insn.Insn.TheVariants.{Alu, Unary, LoadNumber, LoadMap, JumpIf, Load, LoadSigned}
+use Rattle.bpf_model.specs.declared.insn.Insn.TheVariants.{Alu, Unary, LoadNumber, LoadMap, JumpIf, Load, LoadSigned, Store}
 use Rattle.bpf_model.specs.declared.insn.AluOp.{AluOp}
 use Rattle.bpf_model.specs.declared.insn.AluOp.TheVariants.{Move}
 use Rattle.bpf_model.specs.declared.insn.Operand.{Operand}
@@ -9,6 +9,8 @@ use Rattle.bpf_model.specs.declared.insn.Operand.TheVariants.{Register, Immediat
 use Rattle.bpf_model.specs.declared.opcode.Condition.{Condition}
 use Rattle.bpf_model.specs.declared.opcode.Size.{Size}
 use Rattle.bpf_model.specs.declared.opcode.Size.TheVariants.{Word32, Word64}
+use Rattle.bpf_model.specs.declared.limits.TheConstants.{FRAME_BYTES}
+use Rattle.bpf_model.specs.Access.{byte_count, place_of}
 use Rattle.bpf_model.specs.Arithmetic.{immediate}
 use Rattle.bpf_model.specs.Operand.{unary_source}
 use Rattle.bpf_model.specs.Plain.{Names}
@@ -16,9 +18,10 @@ use Rattle.scalar_domain.specs.declared.scalar.Scalar.{Scalar}
 use Rattle.scalar_domain.specs.Scalar.{IsConstant}
 use Rattle.scalar_domain.specs.Floor.{KeepsLoadFloor, KeepsFloor, KeepsUnaryFloor, KeepsEdgeFloor}
 use Rattle.abstract_state.specs.declared.kind.RegKind.{RegKind}
-use Rattle.abstract_state.specs.declared.kind.RegKind.TheVariants.{Num, Map}
+use Rattle.abstract_state.specs.declared.kind.RegKind.TheVariants.{Num, Frame, Map}
+use Rattle.abstract_state.specs.declared.kind.CellKind.TheVariants.{Byte}
 use Rattle.abstract_state.specs.declared.state.AbsState.{AbsState}
-use Rattle.abstract_state.specs.State.{kind_at, Compares}
+use Rattle.abstract_state.specs.State.{kind_at, cell_at, AreBytes, Compares}
 
 -- the register that the instruction sets
 abbrev pub set_by : Insn → Option ℕ
@@ -30,9 +33,16 @@ set_by (Load width dst src offset) = Some dst
 set_by (LoadSigned width dst src offset) = Some dst
 set_by _ = None
 
--- Registers that the instruction neither sets nor compares stay as they were.
-abbrev pub KeepsOthers : Insn → AbsState → AbsState → Type 0
-KeepsOthers i old new = (r : ℕ) → (set_by i ≡ Some r → ⊥) → (Compares i r → ⊥) → kind_at new r ≡ kind_at old r
+-- Registers that the instruction neither sets nor compares stay as they were, and written bytes of the frame stay so.
+pub record KeepsOthers (i : Insn) (old new : AbsState) : Type 0 where
+  pub regs : (r : ℕ) → (set_by i ≡ Some r → ⊥) → (Compares i r → ⊥) → kind_at new r ≡ kind_at old r
+  pub bytes : (k : ℕ) → cell_at old k ≡ Byte → cell_at new k ≡ Byte
+
+-- The bytes of a store through a pointer to the frame are written.
+abbrev pub StoresKnown : Insn → AbsState → AbsState → Type 0
+StoresKnown (Store width dst offset src) old new = (o : ℤ) → kind_at old dst ≡ Frame o
+    → (n : ℕ) × (place_of FRAME_BYTES (byte_count width) (o +ℤ offset) ≡ Some n) × AreBytes new.frame n (byte_count width)
+StoresKnown _ old new = Unit {0}
 
 -- The kind is that of numbers of which this is known.
 abbrev pub IsNumbers : (Scalar → Type 0) → RegKind → Type 0

@@ -1,5 +1,5 @@
 -- What an abstract state says of the states of a run.
-use Rattle.std.specs.Prelude.{◌≡◌, ◌≢◌, ℕ, ◌+◌, ◌^◌, ◌<◌, List, length, slice_index_or, Option, Some, None, Result, Ok, Err, true, ◌⊎◌, ℤ, unwrap_or, option_map}
+use Rattle.std.specs.Prelude.{◌≡◌, ◌≢◌, ℕ, ◌+◌, ◌^◌, ◌<◌, ◌≤◌, List, length, slice_index_or, Option, Some, None, Result, Ok, Err, true, ◌⊎◌, ℤ, unwrap_or, option_map}
 use Rattle.bpf_model.specs.declared.value.Value.{Value}
 use Rattle.bpf_model.specs.declared.value.Value.TheVariants.{Number, Pointer}
 use Rattle.bpf_model.specs.declared.value.Reference.TheVariants as references
@@ -53,6 +53,10 @@ kind_in kinds r = slice_index_or kinds r Unwritten
 
 abbrev pub cell_in : List CellKind → ℕ → CellKind
 cell_in frame k = slice_index_or frame k cells.Unwritten
+
+-- each cell of an access is a written byte
+abbrev pub AreBytes : List CellKind → ℕ → ℕ → Type 0
+AreBytes frame offset width = (k : ℕ) → offset ≤ k → k < offset + width → cell_in frame k ≡ cells.Byte
 
 abbrev pub kind_at : AbsState → ℕ → RegKind
 kind_at a r = kind_in a.regs r

@@ -26,16 +26,12 @@ use Rattle.abstract_state.specs.declared.state.AbsState.{AbsState}
 use Rattle.abstract_state.specs.declared.state.Flow.{Flow}
 use Rattle.abstract_state.specs.State.{IsOf, IsNumber, Describes, IsEnvironment, cell_in, kind_at, cell_at, IsBranch, Compares, Transfers, base_of, IsInRegion, taken_state, IsFine}
 use Rattle.abstract_state.specs.Facts.{IsReady, KeepsFacts}
-use Rattle.abstract_state.specs.Floor.{LoadsKnown, ComputesKnown, RefinesKnown, KeepsOthers}
+use Rattle.abstract_state.specs.Floor.{LoadsKnown, StoresKnown, ComputesKnown, RefinesKnown, KeepsOthers}
 
 -- a byte where both are
 abbrev pub join_cell : CellKind → CellKind → CellKind
 join_cell Byte Byte = Byte
 join_cell a b = Unwritten
-
--- each cell of an access is a byte
-abbrev pub AreBytes : List CellKind → ℕ → ℕ → Type 0
-AreBytes frame offset width = (k : ℕ) → offset ≤ k → k < offset + width → cell_in frame k ≡ Byte
 
 -- the cells of an access become bytes
 abbrev pub written_cell : ℕ → ℕ → (ℕ → CellKind) → ℕ → CellKind
@@ -108,6 +104,7 @@ pub record Done (i : Insn) (shape : EnvironmentShape) (old new : AbsState) (flow
   pub keeps : IsReady i old → KeepsFacts i old new
   pub keeps_taken : IsReady i old → IfSome (taken_state flow) (KeepsFacts i old)
   pub loads : LoadsKnown i new
+  pub stores : StoresKnown i old new
   pub computes : ComputesKnown i old new
   pub refines : RefinesKnown false i old new
   pub refines_taken : IfSome (taken_state flow) (RefinesKnown true i old)

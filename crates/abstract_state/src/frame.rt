@@ -1,8 +1,8 @@
 //! The bytes of the frame, by what is known of each.
 ghost use Rattle.std.specs.Prelude.{◌≡◌, ℕ, ◌+◌, ◌≤◌, length, IfOk, IsTrue};
 ghost use Rattle.bpf_model.specs.declared.limits.TheConstants.{FRAME_BYTES};
-ghost use Rattle.abstract_state.specs.State.{cell_in};
-ghost use Rattle.abstract_state.specs.Steps.{AreBytes, written_cell, join_cell};
+ghost use Rattle.abstract_state.specs.State.{cell_in, AreBytes};
+ghost use Rattle.abstract_state.specs.Steps.{written_cell, join_cell};
 
 use crate::kind::CellKind;
 use bpf_model::FRAME_BYTES;
@@ -67,7 +67,8 @@ impl FrameCells {
 
     /// Each cell becomes what is known where it comes from either frame.
     pub(crate) fn join(&mut self, other: &FrameCells)
-        ensures { (k : ℕ) → cell_in self.new k ≡ join_cell (cell_in self.old k) (cell_in other.now k) }
+        ensures { (k : ℕ)
+            → cell_in self.new k ≡ join_cell (cell_in self.old k) (cell_in other.now k) }
     {
         join_cells(self.cells.as_mut_slice(), other.cells.as_slice());
     }
@@ -106,7 +107,8 @@ fn joined(a: CellKind, b: CellKind) -> CellKind
 
 fn join_cells(cells: &mut [CellKind], others: &[CellKind])
     requires { length cells.old ≡ length others.now }
-    ensures { (k : ℕ) → cell_in cells.new k ≡ join_cell (cell_in cells.old k) (cell_in others.now k) }
+    ensures { (k : ℕ)
+        → cell_in cells.new k ≡ join_cell (cell_in cells.old k) (cell_in others.now k) }
 {
     for i in 0..others.len() {
         cells[i] = joined(cells[i], others[i]);

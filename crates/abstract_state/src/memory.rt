@@ -3,8 +3,8 @@ ghost use Rattle.std.specs.Prelude.{◌≡◌, ℕ, ◌+◌, ◌≤◌, IfOk, Is
 ghost use Rattle.bpf_model.specs.declared.limits.TheConstants.{FRAME_BYTES};
 ghost use Rattle.bpf_model.specs.Access.{byte_count, place_of};
 ghost use Rattle.bpf_model.specs.Step.{State, Environment};
-ghost use Rattle.abstract_state.specs.State.{Describes, IsEnvironment, IsInRegion, IsNumber, kind_at};
-ghost use Rattle.abstract_state.specs.Steps.{AreBytes, Loads, SetsBytes, Stepped, IsHeld, HasMemory};
+ghost use Rattle.abstract_state.specs.State.{Describes, IsEnvironment, IsInRegion, IsNumber, kind_at, AreBytes};
+ghost use Rattle.abstract_state.specs.Steps.{Loads, SetsBytes, Stepped, IsHeld, HasMemory};
 
 use crate::environment::EnvironmentShape;
 use crate::fault::Fault;

@@ -43,7 +43,7 @@ impl AbsState {
     ghost use Rattle.abstract_state.specs.declared.kind.RegKind.TheVariants as kinds;
     ghost use Rattle.abstract_state.specs.State.{Describes, Wider, Transfers, IsInRegion, base_of, Compares, taken_state, IsFine, IsNumber, kind_at};
     ghost use Rattle.abstract_state.specs.Facts.{Fact, FactHolds, IsReady, KeepsFacts};
-    ghost use Rattle.abstract_state.specs.Floor.{LoadsKnown, ComputesKnown, RefinesKnown, KeepsOthers};
+    ghost use Rattle.abstract_state.specs.Floor.{LoadsKnown, StoresKnown, ComputesKnown, RefinesKnown, KeepsOthers};
 
     /// The state at a program's entry: r1 the context, r10 the end of the frame, all else unwritten.
     pub fn entry(alloc: Global) -> Result<Box<AbsState>, AllocError>
@@ -118,8 +118,9 @@ impl AbsState {
         insn: &Insn,
         shape: EnvironmentShape,
     ) -> Result<Flow, Fault>
-        // From each described state the instruction is not stuck, and leads to one that is described.
-        ensures sound { IfOk result (λ f. Transfers insn.now shape self.old self.new (taken_state f)) }
+        // From each described state the instruction isn't stuck, and leads to one that is described.
+        ensures sound { IfOk result (λ f.
+            Transfers insn.now shape self.old self.new (taken_state f)) }
         ensures branches { IfOk result (λ f. IsBranch insn.now → IsSome f.taken) }
         ensures region { IfOk result (λ f. (b : ℕ) (m : State)
             → base_of insn.now ≡ Some b → Describes self.old m → IsInRegion f.region (m.regs b)) }
@@ -131,12 +132,13 @@ impl AbsState {
         ensures memory { IfErr result (λ e. e ≡ Fault.Memory → IsBranch insn.now) }
         ensures unchanged { OnErr result (self.new ≡ self.old) }
 
-        // What is known at least, in the state itself and in that where a conditional jump is taken.
+        // What is known at least, in the state itself and where a conditional jump is taken.
         ensures keeps { OnOk result (IsReady insn.now self.old
             → KeepsFacts insn.now self.old self.new) }
         ensures keeps_taken { IfOk result (λ f. IsReady insn.now self.old
             → IfSome (taken_state f) (KeepsFacts insn.now self.old)) }
         ensures loads { OnOk result (LoadsKnown insn.now self.new) }
+        ensures stores { OnOk result (StoresKnown insn.now self.old self.new) }
         ensures computes { OnOk result (ComputesKnown insn.now self.old self.new) }
         ensures refines { OnOk result (RefinesKnown false insn.now self.old self.new) }
         ensures refines_taken { IfOk result (λ f.

@@ -1,5 +1,5 @@
 use Rattle.std.proofs.Common.{◌≡◌, refl, ◌∙◌, true, false, inl, inr}
-use Rattle.abstract_state.proofs.Jumps.{narrows, fork_transfers, fork_keeps, fork_compares}
+use Rattle.abstract_state.proofs.Jumps.{narrows, fork_transfers, fork_keeps, fork_compares, fork_others}
 use Rattle.abstract_state.proofs.state.AbsState.fork.Goals as goal
 
 pub returns : goal.returns
@@ -25,8 +25,8 @@ returns c =
         region = λ b m e d. cc;
         compares = λ r m h d. fork_compares dst src c.in_ok-x.x c.in_ok-x.y a r m c.in_ok-x.ensures.left (c.in_ok-x.ensures.right_sound m d) h d;
         branches = λ _. refl;
-        keeps = fork_keeps condition size dst src offset a c.narrow-2.new.self nay.numbers (λ r _ t. nay.others r (λ e. t (inl e)) (λ n. t (inr n))) nay.frame;
-        keeps_taken = fork_keeps condition size dst src offset a c.narrow.new.self yea.numbers (λ r _ t. yea.others r (λ e. t (inl e)) (λ n. t (inr n))) yea.frame;
+        keeps = fork_keeps condition size dst src offset a c.narrow-2.new.self nay.numbers nay.others nay.frame;
+        keeps_taken = fork_keeps condition size dst src offset a c.narrow.new.self yea.numbers yea.others yea.frame;
         loads = tt;
         computes = tt;
         refines = record {
@@ -51,7 +51,8 @@ returns c =
           second = yea.second;
           floor = c.refine.ensures.floor;
         };
-        others = λ r _ t. nay.others r (λ e. t (inl e)) (λ n. t (inr n));
-        others_taken = λ r _ t. yea.others r (λ e. t (inl e)) (λ n. t (inr n));
+        stores = tt;
+        others = fork_others condition size dst src offset a c.narrow-2.new.self nay.others nay.frame;
+        others_taken = fork_others condition size dst src offset a c.narrow.new.self yea.others yea.frame;
       };
     }

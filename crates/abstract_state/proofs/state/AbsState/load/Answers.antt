@@ -15,7 +15,7 @@ returns c = rw c.single_flow.ensures
     (record { goes_on = refl; stays = refl; sets = refl; writes = λ r w. w; no_bytes = λ k w. w; no_test = λ r t. t })
     c.in_ok-check_writable.ensures.value c.set.ensures (λ _. tt)
     (λ r m e d. let g : c.args.from.base ≡ r = cc in subst (λ r. IsInRegion c.in_ok-region.region (m.regs r)) g (c.in_ok-region.ensures.region m d))
-    (c.loaded.result, set_there _ _ _ _ c.set.ensures, c.loaded.ensures.floor) tt tt
+    (c.loaded.result, set_there _ _ _ _ c.set.ensures, c.loaded.ensures.floor) tt tt tt
     (λ env m i d.
     let n = c.in_ok-region.ensures.loads env m i d in (
       Number n.0,

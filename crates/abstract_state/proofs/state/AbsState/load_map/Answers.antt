@@ -19,7 +19,7 @@ returns c =
     (write_done (LoadMap c.args.dst c.args.map) c.args.dst (Map c.in_ok-index.index) c.args.self.now c.set.new.self regions.None c.args.shape
     (record { goes_on = refl; stays = refl; sets = refl; writes = λ r w. absurd w; no_bytes = λ k w. w; no_test = λ r t. t })
     c.in_ok-check_writable.ensures.value c.set.ensures (λ ready. absurd ready.simple) (λ r m e d. cc)
-    (c.in_ok-index.index, e, set_there _ _ _ _ c.set.ensures) tt tt
+    (c.in_ok-index.index, e, set_there _ _ _ _ c.set.ensures) tt tt tt
     (λ env m i d. (
       Pointer (MapRef c.in_ok-index.index),
       ap (λ o. o >>= λ v. sets 2 c.args.dst v m) (map_found c.args.map c.in_ok-index.index c.args.shape env e c.in_ok-index.ensures.bound i),

@@ -16,6 +16,7 @@ returns c =
       keeps = IfOk-weaker r _ _ (λ f d. d.keeps) done;
       keeps_taken = IfOk-weaker r _ _ (λ f d. d.keeps_taken) done;
       loads = IfOk-weaker r _ _ (λ f d. d.loads) done;
+      stores = IfOk-weaker r _ _ (λ f d. d.stores) done;
       computes = IfOk-weaker r _ _ (λ f d. d.computes) done;
       refines = IfOk-weaker r _ _ (λ f d. d.refines) done;
       refines_taken = IfOk-weaker r _ _ (λ f d. d.refines_taken) done;

@@ -17,7 +17,7 @@ returns c =
     λ shape. rw c.single_flow.ensures
     (write_done (Unary c.args.op.now c.args.dst) c.args.dst (Num c.unary.result) c.args.self.now c.set.new.self regions.None shape
     (record { goes_on = refl; stays = refl; sets = refl; writes = λ r w. w; no_bytes = λ k w. w; no_test = λ r t. t })
-    c.in_ok-check_writable.ensures.value c.set.ensures (λ _. tt) (λ r m e d. cc) tt
+    c.in_ok-check_writable.ensures.value c.set.ensures (λ _. tt) (λ r m e d. cc) tt tt
     (c.in_ok-n.n, read, (c.unary.result, set_there _ _ _ _ c.set.ensures, c.unary.ensures.floor)) tt
     (λ env m e d.
     let n = number_of c.args.self.now (unary_source c.args.op.now c.args.dst) c.in_ok-n.n m read d in
