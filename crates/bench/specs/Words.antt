@@ -9,4 +9,5 @@ use Rattle.bench.specs.declared.command.Command.TheVariants.{Run, Samples}
 abbrev pub IsAskedBy : {A : Type 0} → List (String A) → Command → Type 0
 IsAskedBy words Samples = words ≡ []
 IsAskedBy words (Run file ctx_len) =
-    (length : List ℕ) × (map string_bytes words ≡ codes "run" ∷ file.now ∷ length ∷ []) × (digits_value 10 (without_leading_plus length) ≡ ctx_len) × (ctx_len ≤ CTX_BYTES)
+    (length : List ℕ) × (map string_bytes words ≡ codes "run" ∷ file.now ∷ length ∷ [])
+    × (digits_value 10 (without_leading_plus length) ≡ ctx_len) × (ctx_len ≤ CTX_BYTES)

@@ -7,7 +7,9 @@ use std::alloc::{AllocError, Global};
 
 /// The line of a program that is built in: its name, and what it came to.
 pub fn sample_line(alloc: Global, name: &str, outcome: Outcome) -> Result<String, AllocError>
-    ensures { IfOk result (λ s. string_bytes s ≡ name.now ++ (codes " exit " ++ (decimal outcome.exit ++ (codes " instructions " ++ decimal outcome.instructions)))) }
+    ensures { IfOk result (λ s. string_bytes s ≡ name.now
+        ++ (codes " exit " ++ (decimal outcome.exit
+        ++ (codes " instructions " ++ decimal outcome.instructions)))) }
 {
     let exit = outcome.exit;
     let instructions = outcome.instructions;
@@ -16,7 +18,9 @@ pub fn sample_line(alloc: Global, name: &str, outcome: Outcome) -> Result<String
 
 /// The line of a measurement: its name, and the number with two decimal places.
 pub fn measurement_line(alloc: Global, name: &str, value: Decimal) -> Result<String, AllocError>
-    ensures { IfOk result (λ s. string_bytes s ≡ name.now ++ (codes " " ++ (decimal value.whole ++ (codes "." ++ (decimal (value.hundredths / 10) ++ decimal (value.hundredths % 10)))))) }
+    ensures { IfOk result (λ s. string_bytes s ≡ name.now
+        ++ (codes " " ++ (decimal value.whole
+        ++ (codes "." ++ (decimal (value.hundredths / 10) ++ decimal (value.hundredths % 10)))))) }
 {
     let whole = value.whole;
     let tenths = value.hundredths / 10;

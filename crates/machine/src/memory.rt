@@ -1,10 +1,11 @@
 //! Addresses, and the bytes that they name.
-ghost use Rattle.std.specs.Prelude.{◌≡◌, ℕ, ◌+◌, ◌^◌, ◌<◌, slice_get, Some, pos, ◌+ℤ◌};
-ghost use Rattle.bpf_model.specs.Access.{byte_count, number_at};
+ghost use Rattle.std.specs.Prelude.{◌≡◌, ℕ, ◌^◌, ◌<◌, pos, ◌+ℤ◌};
+ghost use Rattle.bpf_model.specs.Access.{byte_count};
 ghost use Rattle.abstract_state.specs.declared.kind.Region.TheVariants as regions;
 ghost use Rattle.bpf_model.specs.declared.insn.Insn.{Insn};
-ghost use Rattle.machine.specs.Performing.{CanIn, CanInAny, CanLoad, DoesIn, DoesInAny, IsLoaded};
-ghost use Rattle.machine.specs.Writes.{HasRoom, IsCounted, SetsBytes, Reaches, bytes_of};
+ghost use Rattle.machine.specs.Performing.{CanIn, CanInAny, CanLoad, DoesIn, DoesInAny};
+ghost use Rattle.machine.specs.Performing.{IsLoaded};
+ghost use Rattle.machine.specs.Writes.{HasRoom, IsCounted, IsInside, IsNumberAt, StoresAt};
 ghost use Rattle.machine.specs.declared.run.Local.TheVariants.{Moved};
 
 use crate::bytes::{number_of, write_number};
@@ -25,8 +26,8 @@ impl Run {
     /// The number that stands at an address of the region.
     #[inline]
     pub(crate) fn load_number(&self, region: Region, width: Width, address: u64) -> u64
-        requires { (at : ℕ) × Reaches region self.now address (byte_count width) at }
-        ensures { (at : ℕ) → Reaches region self.now address (byte_count width) at → number_at (slice_get (bytes_of region self.now)) at (byte_count width) ≡ Some result }
+        requires { IsInside region self.now address (byte_count width) }
+        ensures { IsNumberAt region self.now address (byte_count width) result }
     {
         match region {
             Region::Ctx => number_of(
@@ -43,8 +44,8 @@ impl Run {
     #[inline]
     pub(crate) fn store_number(&mut self, width: Width, address: u64, word: u64) -> Local
         requires room { HasRoom self.old }
-        requires reaches { (at : ℕ) × Reaches regions.Frame self.old address (byte_count width) at }
-        ensures set { (at : ℕ) → Reaches regions.Frame self.old address (byte_count width) at → SetsBytes at (byte_count width) word self.old self.new }
+        requires inside { IsInside regions.Frame self.old address (byte_count width) }
+        ensures set { StoresAt address (byte_count width) word self.old self.new }
         ensures moved { result ≡ Moved }
         ensures counted { IsCounted result self.old self.new }
     {

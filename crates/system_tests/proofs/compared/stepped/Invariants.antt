@@ -1,5 +1,5 @@
-use Rattle.machine.specs.Standing.{IsRunOf}
+use Rattle.machine.specs.Standing.{StandsForRun}
 use Rattle.system_tests.proofs.compared.stepped.Given as goal
 
-abbrev pub invariant-loop : goal.invariant-loop
-invariant-loop l = IsRunOf l.verified l.run
+abbrev pub invariant-loop-moves : goal.invariant-loop-moves
+invariant-loop-moves l = StandsForRun l.verified l.run
