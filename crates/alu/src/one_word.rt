@@ -17,7 +17,8 @@ pub fn negate(size: Size, dst: u64) -> u64
     }
 }
 
-/// The low bytes, in the order of a little-endian host, in big-endian order, or swapped; the rest is 0.
+/// The low bytes, in the order of a little-endian host, in big-endian order, or swapped; the rest
+/// is 0.
 pub fn byte_swap(order: ByteOrder, width: SwapWidth, dst: u64) -> u64
     ensures { result ≡ reordered order width dst }
 {
@@ -35,7 +36,8 @@ pub fn byte_swap(order: ByteOrder, width: SwapWidth, dst: u64) -> u64
     }
 }
 
-/// The low 8, 16 or 32 bits as a signed number, as a word of 32 or 64 bits; of 32 the high half is 0.
+/// The low 8, 16 or 32 bits as a signed number, as a word of 32 or 64 bits; of 32 the high half is
+/// 0.
 pub fn move_signed(extension: SignExtension, src: u64) -> u64
     ensures { result ≡ moved_signed extension src }
 {
@@ -68,8 +70,8 @@ pub fn unary(op: UnaryOp, word: u64) -> u64
     }
 }
 
-/// What a sign-extending load of this width leaves: the low 8, 16 or 32 bits of the number as a signed
-/// number, as a word of 64 bits.
+/// What a sign-extending load of this width leaves: the low 8, 16 or 32 bits of the number as a
+/// signed number, as a word of 64 bits.
 pub fn load_signed(width: SignedWidth, number: u64) -> u64
     ensures { result ≡ loaded_signed width number }
 {

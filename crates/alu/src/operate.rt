@@ -5,8 +5,8 @@ ghost use Rattle.bpf_model.specs.Arithmetic.{operate, alu as alu_of};
 
 use bpf_model::{AluOp, Size};
 
-/// The operation on all 64 bits. Division by zero gives 0 and the remainder by zero leaves `dst`; signed
-/// division truncates toward zero; a shift takes its amount modulo 64.
+/// The operation on all 64 bits. Division by zero gives 0 and the remainder by zero leaves `dst`;
+/// signed division truncates toward zero; a shift takes its amount modulo 64.
 pub fn alu64(op: AluOp, dst: u64, src: u64) -> u64
     ensures { result ≡ operate w64 op dst src }
 {

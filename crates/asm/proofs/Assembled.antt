@@ -5,12 +5,13 @@ use Rattle.std.specs.List.{AllByRecursion, filter}
 use Rattle.std.proofs.lemmas.List.Concat.{flat_map-cons}
 use Rattle.std.proofs.lemmas.List.Sums.{sum_by-cons}
 use Rattle.bpf_model.specs.declared.insn.Insn.{Insn}
+use Rattle.bpf_model.specs.declared.limits.TheConstants.{MAX_SLOTS}
 use Rattle.bpf_model.specs.Spelling.{FitsInsn, IsProgram, slot_count, slot_total}
 use Rattle.disasm.specs.Text.{stem_of, suffix_of, name_of, arguments_text, mnemonic_of, arguments_of, statement_of, line_of, program_text}
 use Rattle.insn_codec.proofs.DecodeLoop.{slot_count_pos}
 use Rattle.asm.specs.Reading.{Lacks}
-use Rattle.asm.specs.Grammar.{HasForm}
-use Rattle.asm.specs.Faults.{is_comment, lines_in, statements_in, IsInsnLine, IsFlawed, IsFirstFlaw, IsFault}
+use Rattle.asm.specs.Grammar.{IsFormedLine}
+use Rattle.asm.specs.Faults.{is_comment, lines_in, statements_in, IsInsnLine, IsLineFlaw, IsFirstLineFlaw, IsAsmFault}
 use Rattle.asm.specs.Assembling.{IsTextFault, IsSizeFault}
 use Rattle.asm.specs.declared.fault.LineFlaw.{LineFlaw}
 use Rattle.asm.specs.declared.fault.LineFlaw.TheVariants.{NoForm, OutOfRange}
@@ -32,10 +33,10 @@ some_slots (i ∷ is) h =
 
 -- a flawed line is no line of a program
 
-has_form : (line : List ℕ) → IsInsnLine line → HasForm line
+has_form : (line : List ℕ) → IsInsnLine line → IsFormedLine line
 has_form line h = record { statement = statement_of h.instruction; text = h.text; formed = formed_of h.instruction }
 
-pub flaw_no : (line : List ℕ) (f : LineFlaw) → IsFlawed line f → IsInsnLine line → ⊥
+pub flaw_no : (line : List ℕ) (f : LineFlaw) → IsLineFlaw line f → IsInsnLine line → ⊥
 flaw_no line NoForm flawed h = flawed (has_form line h)
 flaw_no line OutOfRange flawed h = flawed.1 h
 
@@ -56,7 +57,7 @@ is_insn_line [] line rest is s fits e = head_line line (filter keeps rest) is fi
 is_insn_line (first ∷ front) line rest is s fits e =
     step_line first (front ++ line ∷ rest) line is (is_comment first) refl (λ is2 fits2 e2. is_insn_line front line rest is2 s fits2 e2) fits e
 
-flaw_of : (text : List ℕ) (f : LineFlaw) (n : ℕ) → IsFirstFlaw text f n → (p : List Insn) → IsProgram p → statements_in text ≡ map line_of p → ⊥
+flaw_of : (text : List ℕ) (f : LineFlaw) (n : ℕ) → IsFirstLineFlaw text f n → (p : List Insn) → IsProgram p → statements_in text ≡ map line_of p → ⊥
 flaw_of text f n h p program e =
     flaw_no h.line f h.flawed (is_insn_line h.front h.line h.rest p h.statement program.fits (sym (ap (filter keeps) h.parts) ∙ e))
 
@@ -67,7 +68,7 @@ text_fault_only text TooLong h p program e = absurd h
 text_fault_only text Empty h p program e = absurd h
 text_fault_only text Memory h p program e = refl
 
-pub text_fault : (text : List ℕ) (f : AsmFault) → IsTextFault text f → IsFault text f
+pub text_fault : (text : List ℕ) (f : AsmFault) → IsTextFault text f → IsAsmFault text f
 text_fault text (BadLine n) h = h
 text_fault text (BadOperand n) h = h
 text_fault text TooLong h = absurd h
@@ -79,11 +80,11 @@ text_fault text Memory h = tt
 size_fault_only : (items : List Insn) (f : AsmFault) → IsSizeFault items f → (p : List Insn) → IsProgram p → items ≡ p → f ≡ Memory
 size_fault_only items (BadLine n) h p program e = absurd h
 size_fault_only items (BadOperand n) h p program e = absurd h
-size_fault_only items TooLong h p program e = absurd (let same : slot_total items ≡ slot_total p = ap slot_total e in let limit : slot_total p ≤ 4096 = program.limit in omega arith)
+size_fault_only items TooLong h p program e = absurd (let same : slot_total items ≡ slot_total p = ap slot_total e in let limit : slot_total p ≤ MAX_SLOTS = program.limit in omega arith)
 size_fault_only items Empty h p program e = absurd (let none : slot_total p ≡ 0 = ap slot_total (sym e ∙ h) in let some : 1 ≤ slot_total p = program.some in omega arith)
 size_fault_only items Memory h p program e = refl
 
-pub size_fault : (text : List ℕ) (items : List Insn) (f : AsmFault) → AllByRecursion FitsInsn items → statements_in text ≡ map line_of items → IsSizeFault items f → IsFault text f
+pub size_fault : (text : List ℕ) (items : List Insn) (f : AsmFault) → AllByRecursion FitsInsn items → statements_in text ≡ map line_of items → IsSizeFault items f → IsAsmFault text f
 size_fault text items (BadLine n) fits e h = absurd h
 size_fault text items (BadOperand n) fits e h = absurd h
 size_fault text items TooLong fits e h = record { instructions = items; fits = fits; lines = e; long = h }

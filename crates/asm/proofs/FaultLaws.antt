@@ -3,10 +3,11 @@ use Rattle.std.proofs.Common.{ℕ, ◌≡◌, ◌≢◌, ◌+◌, ◌<◌, false
 use Rattle.std.specs.Prelude.{map}
 use Rattle.std.specs.List.{AllByRecursion, filter}
 use Rattle.bpf_model.specs.declared.insn.Insn.{Insn}
+use Rattle.bpf_model.specs.declared.limits.TheConstants.{MAX_SLOTS}
 use Rattle.bpf_model.specs.Spelling.{FitsInsn, slot_total}
 use Rattle.disasm.specs.Text.{line_of}
-use Rattle.asm.specs.Grammar.{HasForm}
-use Rattle.asm.specs.Faults.{is_comment, statements_in, IsSound, IsInsnLine, IsFirstFlaw, IsFault}
+use Rattle.asm.specs.Grammar.{IsFormedLine}
+use Rattle.asm.specs.Faults.{is_comment, statements_in, IsSoundLine, IsInsnLine, IsFirstLineFlaw, IsAsmFault}
 use Rattle.asm.specs.declared.fault.LineFlaw.{LineFlaw}
 use Rattle.asm.specs.declared.fault.LineFlaw.TheVariants.{NoForm, OutOfRange}
 use Rattle.asm.specs.declared.fault.AsmFault.{AsmFault}
@@ -15,37 +16,37 @@ use Rattle.asm.proofs.LinesRead.{keeps, same_tail, cons_no}
 use Rattle.asm.proofs.Assembled.{flaw_no, is_insn_line}
 
 -- Of two faulty lines behind sound ones neither stands before the other.
-same_place : (front front2 : List (List ℕ)) (line line2 : List ℕ) (rest rest2 : List (List ℕ)) → (front ++ line ∷ rest) ≡ front2 ++ line2 ∷ rest2 → AllByRecursion IsSound front → AllByRecursion IsSound front2 → is_comment line ≡ false → is_comment line2 ≡ false → ¬ (IsInsnLine line) → ¬ (IsInsnLine line2) → (length front ≡ length front2) × (line ≡ line2)
-same_place [] [] line line2 rest rest2 e sound sound2 s s2 bad bad2 = (refl, (same_tail line line2 rest rest2 e).0)
-same_place [] (first ∷ front2) line line2 rest rest2 e sound sound2 s s2 bad bad2 =
+same_faulty_line : (front front2 : List (List ℕ)) (line line2 : List ℕ) (rest rest2 : List (List ℕ)) → (front ++ line ∷ rest) ≡ front2 ++ line2 ∷ rest2 → AllByRecursion IsSoundLine front → AllByRecursion IsSoundLine front2 → is_comment line ≡ false → is_comment line2 ≡ false → ¬ (IsInsnLine line) → ¬ (IsInsnLine line2) → (length front ≡ length front2) × (line ≡ line2)
+same_faulty_line [] [] line line2 rest rest2 e sound sound2 s s2 bad bad2 = (refl, (same_tail line line2 rest rest2 e).0)
+same_faulty_line [] (first ∷ front2) line line2 rest rest2 e sound sound2 s s2 bad bad2 =
     let same : line ≡ first = (same_tail line first rest (front2 ++ line2 ∷ rest2) e).0 in
     absurd (bad (subst (λ (l : List ℕ). IsInsnLine l) (sym same) (sound2.0 (sym (ap is_comment same) ∙ s))))
-same_place (first ∷ front) [] line line2 rest rest2 e sound sound2 s s2 bad bad2 =
+same_faulty_line (first ∷ front) [] line line2 rest rest2 e sound sound2 s s2 bad bad2 =
     let same : first ≡ line2 = (same_tail first line2 (front ++ line ∷ rest) rest2 e).0 in
     absurd (bad2 (subst (λ (l : List ℕ). IsInsnLine l) same (sound.0 (ap is_comment same ∙ s2))))
-same_place (first ∷ front) (first2 ∷ front2) line line2 rest rest2 e sound sound2 s s2 bad bad2 =
-    let more : (length front ≡ length front2) × (line ≡ line2) = same_place front front2 line line2 rest rest2 (same_tail first first2 (front ++ line ∷ rest) (front2 ++ line2 ∷ rest2) e).1 sound.1 sound2.1 s s2 bad bad2 in
+same_faulty_line (first ∷ front) (first2 ∷ front2) line line2 rest rest2 e sound sound2 s s2 bad bad2 =
+    let more : (length front ≡ length front2) × (line ≡ line2) = same_faulty_line front front2 line line2 rest rest2 (same_tail first first2 (front ++ line ∷ rest) (front2 ++ line2 ∷ rest2) e).1 sound.1 sound2.1 s s2 bad bad2 in
     (omega (arith, more.0), more.1)
 
-flaws_meet : (text : List ℕ) (f g : LineFlaw) (n m : ℕ) → (h : IsFirstFlaw text f n) → (k : IsFirstFlaw text g m) → (n ≡ m) × (h.line ≡ k.line)
+flaws_meet : (text : List ℕ) (f g : LineFlaw) (n m : ℕ) → (h : IsFirstLineFlaw text f n) → (k : IsFirstLineFlaw text g m) → (n ≡ m) × (h.line ≡ k.line)
 flaws_meet text f g n m h k =
-    let met : (length h.front ≡ length k.front) × (h.line ≡ k.line) = same_place h.front k.front h.line k.line h.rest k.rest (sym h.parts ∙ k.parts) h.sound k.sound h.statement k.statement (flaw_no h.line f h.flawed) (flaw_no k.line g k.flawed) in
+    let met : (length h.front ≡ length k.front) × (h.line ≡ k.line) = same_faulty_line h.front k.front h.line k.line h.rest k.rest (sym h.parts ∙ k.parts) h.sound k.sound h.statement k.statement (flaw_no h.line f h.flawed) (flaw_no k.line g k.flawed) in
     (h.number ∙ ap (λ (j : ℕ). j + 1) met.0 ∙ sym k.number, met.1)
 
-no_both : (text : List ℕ) (n m : ℕ) → IsFirstFlaw text NoForm n → IsFirstFlaw text OutOfRange m → ⊥
+no_both : (text : List ℕ) (n m : ℕ) → IsFirstLineFlaw text NoForm n → IsFirstLineFlaw text OutOfRange m → ⊥
 no_both text n m h k =
     let met : (n ≡ m) × (h.line ≡ k.line) = flaws_meet text NoForm OutOfRange n m h k in
-    h.flawed (subst (λ (l : List ℕ). HasForm l) (sym met.1) k.flawed.0)
+    h.flawed (subst (λ (l : List ℕ). IsFormedLine l) (sym met.1) k.flawed.0)
 
-no_flaw : (text : List ℕ) (f : LineFlaw) (n : ℕ) → IsFirstFlaw text f n → (is : List Insn) → AllByRecursion FitsInsn is → statements_in text ≡ map line_of is → ⊥
+no_flaw : (text : List ℕ) (f : LineFlaw) (n : ℕ) → IsFirstLineFlaw text f n → (is : List Insn) → AllByRecursion FitsInsn is → statements_in text ≡ map line_of is → ⊥
 no_flaw text f n h is fits e =
     flaw_no h.line f h.flawed (is_insn_line h.front h.line h.rest is h.statement fits (sym (ap (filter keeps) h.parts) ∙ e))
 
-none_long : (is : List Insn) → [] ≡ map line_of is → 4096 < slot_total is → ⊥
+none_long : (is : List Insn) → [] ≡ map line_of is → MAX_SLOTS < slot_total is → ⊥
 none_long [] e long = omega arith
 none_long (i ∷ is) e long = cons_no (line_of i) (map line_of is) (sym e)
 
-pub one_fault : (text : List ℕ) (f g : AsmFault) → f ≢ Memory → g ≢ Memory → IsFault text f → IsFault text g → f ≡ g
+pub one_fault : (text : List ℕ) (f g : AsmFault) → f ≢ Memory → g ≢ Memory → IsAsmFault text f → IsAsmFault text g → f ≡ g
 one_fault text (BadLine n) (BadLine m) a b h k = ap BadLine (flaws_meet text NoForm NoForm n m h k).0
 one_fault text (BadLine n) (BadOperand m) a b h k = absurd (no_both text n m h k)
 one_fault text (BadLine n) TooLong a b h k = absurd (no_flaw text NoForm n h k.instructions k.fits k.lines)

@@ -10,8 +10,8 @@ use Rattle.bpf_model.specs.declared.insn.Insn.{Insn}
 use Rattle.bpf_model.specs.Spelling.{FitsInsn}
 use Rattle.disasm.specs.Text.{line_of}
 use Rattle.asm.specs.Reading.{Lacks}
-use Rattle.asm.specs.Faults.{is_comment, lines_in, statements_in, IsSound, IsInsnLine}
-use Rattle.asm.specs.Assembling.{IsLineOf, Adds, IsLineFault, IsTextFault}
+use Rattle.asm.specs.Faults.{is_comment, lines_in, statements_in, IsSoundLine, IsInsnLine}
+use Rattle.asm.specs.Assembling.{IsLineOf, AddsLine, IsLineFault, IsTextFault}
 use Rattle.asm.specs.declared.fault.AsmFault.{AsmFault}
 use Rattle.asm.specs.declared.fault.AsmFault.TheVariants.{BadLine, BadOperand, TooLong, Empty, Memory}
 
@@ -26,7 +26,7 @@ pub record LinesRead (text : List ℕ) (left : List (List ℕ)) (items : List In
   pub front : List (List ℕ)
   pub parts : lines_in text ≡ front ++ left
   pub number : index ≡ length front
-  pub sound : AllByRecursion IsSound front
+  pub sound : AllByRecursion IsSoundLine front
   pub unique : AllByRecursion IsUnique front
   pub lines : filter keeps front ≡ map line_of items
   pub fits : AllByRecursion FitsInsn items
@@ -87,7 +87,7 @@ comment_read text line left items index read e =
       front = read.front ++ line ∷ [];
       parts = read.parts ∙ sym (append_assoc read.front (line ∷ []) left);
       number = rw (read.number) (sym (length-append read.front (line ∷ [])));
-      sound = all_more IsSound read.front line read.sound (λ f. false_true (is_comment line) e f);
+      sound = all_more IsSoundLine read.front line read.sound (λ f. false_true (is_comment line) e f);
       unique = all_more IsUnique read.front line read.unique (λ f. false_true (is_comment line) e f);
       lines = filter-append keeps read.front (line ∷ []) ∙ left_out line (filter keeps read.front) e ∙ append-nil (filter keeps read.front) ∙ read.lines;
       fits = read.fits;
@@ -99,20 +99,20 @@ statement_read text line left items index read e i is =
       front = read.front ++ line ∷ [];
       parts = read.parts ∙ sym (append_assoc read.front (line ∷ []) left);
       number = rw (read.number) (sym (length-append read.front (line ∷ [])));
-      sound = all_more IsSound read.front line read.sound (λ _. insn_line line i is);
+      sound = all_more IsSoundLine read.front line read.sound (λ _. insn_line line i is);
       unique = all_more IsUnique read.front line read.unique (unique_line line i is);
       lines = filter-append keeps read.front (line ∷ []) ∙ kept line (filter keeps read.front) items i e read.lines is.text ∙ sym (map-append line_of items (i ∷ []));
       fits = all_more FitsInsn items i read.fits is.fits;
     }
 
-by_kind : (text line : List ℕ) (left : List (List ℕ)) (items new : List Insn) (index : ℕ) → LinesRead text (line ∷ left) items index → Adds line items new → (b : Bool) → is_comment line ≡ b → LinesRead text left new (index + 1)
+by_kind : (text line : List ℕ) (left : List (List ℕ)) (items new : List Insn) (index : ℕ) → LinesRead text (line ∷ left) items index → AddsLine line items new → (b : Bool) → is_comment line ≡ b → LinesRead text left new (index + 1)
 by_kind text line left items new index read adds true e =
     subst (λ (is : List Insn). LinesRead text left is (index + 1)) (sym (adds.comment e)) (comment_read text line left items index read e)
 by_kind text line left items new index read adds false e =
     let h = adds.statement e in
     subst (λ (is : List Insn). LinesRead text left is (index + 1)) (sym h.2) (statement_read text line left items index read e h.0 h.1)
 
-pub line_read : (text line : List ℕ) (left : List (List ℕ)) (items new : List Insn) (index : ℕ) → LinesRead text (line ∷ left) items index → Adds line items new → LinesRead text left new (index + 1)
+pub line_read : (text line : List ℕ) (left : List (List ℕ)) (items new : List Insn) (index : ℕ) → LinesRead text (line ∷ left) items index → AddsLine line items new → LinesRead text left new (index + 1)
 line_read text line left items new index read adds = by_kind text line left items new index read adds (is_comment line) refl
 
 -- a fault is that of the first faulty line
@@ -174,7 +174,7 @@ first_left : (text rest line more : List ℕ) (items : List Insn) (index : ℕ) 
 first_left text rest line more items index read parts lacks =
     left_is text (lines_in rest) (line ∷ lines_in more) items index (ap lines_in parts ∙ first_line line more lacks) read
 
-pub next_read : (text rest line more : List ℕ) (items new : List Insn) (index : ℕ) → LinesRead text (lines_in rest) items index → rest ≡ line ++ 10 ∷ more → Lacks 10 line → Adds line items new → LinesRead text (lines_in more) new (index + 1)
+pub next_read : (text rest line more : List ℕ) (items new : List Insn) (index : ℕ) → LinesRead text (lines_in rest) items index → rest ≡ line ++ 10 ∷ more → Lacks 10 line → AddsLine line items new → LinesRead text (lines_in more) new (index + 1)
 next_read text rest line more items new index read parts lacks adds =
     line_read text line (lines_in more) items new index (first_left text rest line more items index read parts lacks) adds
 
@@ -185,7 +185,7 @@ next_fault text rest line more items index f read parts lacks h =
 last_left : (text rest : List ℕ) (items : List Insn) (index : ℕ) → LinesRead text (lines_in rest) items index → Lacks 10 rest → LinesRead text (rest ∷ []) items index
 last_left text rest items index read lacks = left_is text (lines_in rest) (rest ∷ []) items index (last_line rest lacks) read
 
-pub last_read : (text rest : List ℕ) (items new : List Insn) (index : ℕ) → LinesRead text (lines_in rest) items index → Lacks 10 rest → Adds rest items new → LinesRead text [] new (index + 1)
+pub last_read : (text rest : List ℕ) (items new : List Insn) (index : ℕ) → LinesRead text (lines_in rest) items index → Lacks 10 rest → AddsLine rest items new → LinesRead text [] new (index + 1)
 last_read text rest items new index read lacks adds =
     line_read text rest [] items new index (last_left text rest items index read lacks) adds
 

@@ -3,24 +3,20 @@ use Rattle.std.proofs.Common.{ℕ, zero, suc, ◌≡◌, ◌≢◌, ◌+◌, ◌
 use Rattle.std.specs.Prelude.{map, Option, Some, None, IfSome, IfNone}
 use Rattle.std.specs.Int.{IsInRange}
 use Rattle.std.specs.Int.Digits.{digits_of, AllBelowBase}
-use Rattle.std.proofs.lemmas.Int.Digits.{digits_of_step, first_digits_of, all_below_base_digits_of, same_from_digits_of}
-use Rattle.std.proofs.lemmas.Bool.Decides.{nat_tests}
-use Rattle.std.proofs.lemmas.List.{take_more, map_push, length-map}
-use Rattle.disasm.specs.Text.{numeral}
-use Rattle.asm.specs.Reading.{capped, glyphs}
+use Rattle.std.proofs.lemmas.Int.Digits.{first_digits_of, all_below_base_digits_of, same_from_digits_of}
+use Rattle.std.proofs.lemmas.List.{take_more, length-map}
+use Rattle.disasm.specs.Text.{glyphs, numeral}
+use Rattle.disasm.proofs.Numerals.{above_zero, last_digit}
+use Rattle.asm.specs.Reading.{capped}
 
 abbrev glyph : ℕ → ℕ
 glyph digit = 48 + digit
-
-pub numeral_above : (n : ℕ) → 0 < n → numeral n ≡ glyphs n
-numeral_above n h = grind (arith, nat_tests)
 
 pub glyphs_push : (n d : ℕ) → d < 10 → 0 < n * 10 + d → glyphs (n * 10 + d) ≡ glyphs n ++ (48 + d) ∷ []
 glyphs_push n d small some =
     let high : (n * 10 + d) / 10 ≡ n = omega arith in
     let low : (n * 10 + d) % 10 ≡ d = omega arith in
-    let step : glyphs (n * 10 + d) ≡ glyphs ((n * 10 + d) / 10) ++ ((48 + (n * 10 + d) % 10) ∷ []) = ap (map glyph) (digits_of_step 10 (n * 10 + d) (omega arith) some) ∙ map_push glyph (digits_of 10 ((n * 10 + d) / 10)) ((n * 10 + d) % 10) in
-    step ∙ rw (high, low) refl
+    last_digit (n * 10 + d) some ∙ rw (high, low) refl
 
 digit_at : (ds : List ℕ) (k : ℕ) → AllBelowBase 10 ds → k < length (map glyph ds) → IsInRange 48 57 (get_or (map glyph ds) k 0)
 digit_at [] k all h = absurd (omega arith)
@@ -70,23 +66,23 @@ zero_digit : (n k : ℕ) → n ≡ 0 → k < length (numeral n) → IsInRange 48
 zero_digit n k e = rw e (λ (h : k < 1). let f : k ≡ 0 = omega arith in rw f (omega arith, omega arith))
 
 above_digit : (n k : ℕ) → 0 < n → k < length (numeral n) → IsInRange 48 57 (get_or (numeral n) k 0)
-above_digit n k p = rw (numeral_above n p) (glyphs_digit n k)
+above_digit n k p = rw (above_zero n p) (glyphs_digit n k)
 
 pub numeral_digit : (n k : ℕ) → k < length (numeral n) → IsInRange 48 57 (get_or (numeral n) k 0)
 numeral_digit n k h = elim (by_sign n) [ inl e ↦ zero_digit n k e h | inr p ↦ above_digit n k p h ]
 
 pub numeral_some : (n : ℕ) → 0 < length (numeral n)
-numeral_some n = elim (by_sign n) [ inl e ↦ rw e (omega arith) | inr p ↦ rw (numeral_above n p) (glyphs_some n p) ]
+numeral_some n = elim (by_sign n) [ inl e ↦ rw e (omega arith) | inr p ↦ rw (above_zero n p) (glyphs_some n p) ]
 
 pub numeral_first : (n : ℕ) → get_or (numeral n) 0 0 ≡ 48 → n ≡ 0
-numeral_first n h = elim (by_sign n) [ inl e ↦ e | inr p ↦ absurd (let q : 48 < get_or (glyphs n) 0 0 = glyphs_first n p in let r : get_or (glyphs n) 0 0 ≡ 48 = sym (ap (λ ds. get_or ds 0 0) (numeral_above n p)) ∙ h in omega arith) ]
+numeral_first n h = elim (by_sign n) [ inl e ↦ e | inr p ↦ absurd (let q : 48 < get_or (glyphs n) 0 0 = glyphs_first n p in let r : get_or (glyphs n) 0 0 ≡ 48 = sym (ap (λ ds. get_or ds 0 0) (above_zero n p)) ∙ h in omega arith) ]
 
 pub numeral_injective : (m n : ℕ) → numeral m ≡ numeral n → m ≡ n
 numeral_injective m n e = elim (by_sign m) [
   | inl mz ↦ mz ∙ sym (numeral_first n (sym (ap (λ ds. get_or ds 0 0) e) ∙ rw mz refl))
   | inr mp ↦ elim (by_sign n) [
     | inl nz ↦ numeral_first m (ap (λ ds. get_or ds 0 0) e ∙ rw nz refl) ∙ sym nz
-    | inr np ↦ glyphs_injective m n (sym (numeral_above m mp) ∙ e ∙ numeral_above n np)
+    | inr np ↦ glyphs_injective m n (sym (above_zero m mp) ∙ e ∙ above_zero n np)
   ]
 ]
 
@@ -134,7 +130,7 @@ numeral_not_long text n first long e =
 
 pub digits_only : (text : List ℕ) (r : Option ℕ) → IfSome r (λ value. (n : ℕ) × (0 < n) × (text ≡ glyphs n) × (value ≡ capped n)) → IfNone r ((k : ℕ) × (k < length text) × ¬ (IsInRange 48 57 (get_or text k 0))) → (n : ℕ) → text ≡ numeral n → r ≡ Some (capped n)
 digits_only text (Some value) found none n e =
-    let same : found.0 ≡ n = numeral_injective found.0 n (numeral_above found.0 found.1 ∙ sym found.2 ∙ e) in
+    let same : found.0 ≡ n = numeral_injective found.0 n (above_zero found.0 found.1 ∙ sym found.2 ∙ e) in
     rw (found.3, same) refl
 digits_only text None found none n e =
     absurd (none.2 (rw e (numeral_digit n none.0 (let l : length text ≡ length (numeral n) = ap length e in let inside : none.0 < length text = none.1 in omega arith))))

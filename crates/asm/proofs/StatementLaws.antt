@@ -2,13 +2,13 @@
 use Rattle.std.proofs.Common.{ℕ, ◌≡◌, List, [], ◌∷◌, ◌++◌, refl, sym, ap, ◌∙◌, append_assoc}
 use Rattle.std.specs.Prelude.{Option, Some, None, IfSome}
 use Rattle.std.proofs.lemmas.List.{append-nil}
-use Rattle.disasm.specs.Text.{name_of, argument_text, arguments_text, statement_text}
+use Rattle.disasm.specs.Text.{name_of, argument_text, arguments_text}
 use Rattle.disasm.specs.declared.mnemonic.Mnemonic.{Mnemonic}
 use Rattle.disasm.specs.declared.statement.Argument.{Argument}
 use Rattle.disasm.specs.declared.statement.Arguments.{Arguments}
 use Rattle.disasm.specs.declared.statement.Arguments.TheVariants.{Zero, One, Two, Three}
 use Rattle.disasm.specs.declared.statement.Statement.{Statement}
-use Rattle.asm.specs.Reading.{capped_argument, capped_arguments, capped_statement, Lacks}
+use Rattle.asm.specs.Reading.{IsArgumentsRead, ReadsArguments, IsStatementRead, capped_argument, capped_arguments, Lacks}
 use Rattle.asm.proofs.Lacking.{not_lacks, argument_lacks}
 use Rattle.asm.proofs.PlainNames.{name_lacks}
 
@@ -43,7 +43,7 @@ IsCut text x y = (front back : List ℕ) → Lacks 44 front → text ≡ front +
 one_not_cut : (text x y : List ℕ) (a : Argument) → text ≡ x ++ 44 ∷ 32 ∷ y → text ≡ argument_text a → ⊥
 one_not_cut text x y a parts e = not_lacks 44 x (32 ∷ y) (rw (sym parts ∙ e) (argument_lacks a))
 
-pub one_only : (text : List ℕ) (r : Option Arguments) → NoCut text → ((a : Argument) → text ≡ argument_text a → r ≡ Some (One (capped_argument a))) → (w : Arguments) → (32 ∷ text) ≡ arguments_text w → r ≡ Some (capped_arguments w)
+pub one_only : (text : List ℕ) (r : Option Arguments) → NoCut text → ((a : Argument) → text ≡ argument_text a → r ≡ Some (One (capped_argument a))) → ReadsArguments text r
 one_only text r uncut read Zero e = absurd (not_empty 32 text e)
 one_only text r uncut read (One a) e = read a (after 32 text (argument_text a) e)
 one_only text r uncut read (Two a b) e =
@@ -51,7 +51,7 @@ one_only text r uncut read (Two a b) e =
 one_only text r uncut read (Three a b d) e =
     absurd (uncut (argument_text a) (argument_text b ++ 44 ∷ 32 ∷ argument_text d) (argument_lacks a) (after 32 text (argument_text a ++ 44 ∷ 32 ∷ (argument_text b ++ 44 ∷ 32 ∷ argument_text d)) (e ∙ three_text a b d)))
 
-pub two_only : (text x y : List ℕ) (r : Option Arguments) → text ≡ x ++ 44 ∷ 32 ∷ y → IsCut text x y → NoCut y → ((a b : Argument) → x ≡ argument_text a → y ≡ argument_text b → r ≡ Some (Two (capped_argument a) (capped_argument b))) → (w : Arguments) → (32 ∷ text) ≡ arguments_text w → r ≡ Some (capped_arguments w)
+pub two_only : (text x y : List ℕ) (r : Option Arguments) → text ≡ x ++ 44 ∷ 32 ∷ y → IsCut text x y → NoCut y → ((a b : Argument) → x ≡ argument_text a → y ≡ argument_text b → r ≡ Some (Two (capped_argument a) (capped_argument b))) → ReadsArguments text r
 two_only text x y r parts first uncut read Zero e = absurd (not_empty 32 text e)
 two_only text x y r parts first uncut read (One a) e = absurd (one_not_cut text x y a parts (after 32 text (argument_text a) e))
 two_only text x y r parts first uncut read (Two a b) e =
@@ -62,7 +62,7 @@ two_only text x y r parts first uncut read (Three a b d) e =
     let same : (x ≡ argument_text a) × (y ≡ rest) = first (argument_text a) rest (argument_lacks a) (after 32 text (argument_text a ++ 44 ∷ 32 ∷ rest) (e ∙ three_text a b d)) in
     absurd (uncut (argument_text b) (argument_text d) (argument_lacks b) same.1)
 
-pub three_only : (text x rest y z : List ℕ) (r : Option Arguments) → text ≡ x ++ 44 ∷ 32 ∷ rest → IsCut text x rest → rest ≡ y ++ 44 ∷ 32 ∷ z → IsCut rest y z → ((a b d : Argument) → x ≡ argument_text a → y ≡ argument_text b → z ≡ argument_text d → r ≡ Some (Three (capped_argument a) (capped_argument b) (capped_argument d))) → (w : Arguments) → (32 ∷ text) ≡ arguments_text w → r ≡ Some (capped_arguments w)
+pub three_only : (text x rest y z : List ℕ) (r : Option Arguments) → text ≡ x ++ 44 ∷ 32 ∷ rest → IsCut text x rest → rest ≡ y ++ 44 ∷ 32 ∷ z → IsCut rest y z → ((a b d : Argument) → x ≡ argument_text a → y ≡ argument_text b → z ≡ argument_text d → r ≡ Some (Three (capped_argument a) (capped_argument b) (capped_argument d))) → ReadsArguments text r
 three_only text x rest y z r parts first parts2 second read Zero e = absurd (not_empty 32 text e)
 three_only text x rest y z r parts first parts2 second read (One a) e = absurd (one_not_cut text x rest a parts (after 32 text (argument_text a) e))
 three_only text x rest y z r parts first parts2 second read (Two a b) e =
@@ -74,20 +74,17 @@ three_only text x rest y z r parts first parts2 second read (Three a b d) e =
     let last : (y ≡ argument_text b) × (z ≡ argument_text d) = second (argument_text b) (argument_text d) (argument_lacks b) same.1 in
     read a b d same.0 last.0 last.1
 
-abbrev pub Found : List ℕ → Option Arguments → Type 0
-Found text r = IfSome r (λ s. (w : Arguments) × ((32 ∷ text) ≡ arguments_text w) × (s ≡ capped_arguments w))
-
-pub one_found : (text : List ℕ) (r : Option Arguments) → IfSome r (λ s. (a : Argument) × (text ≡ argument_text a) × (s ≡ One (capped_argument a))) → Found text r
+pub one_found : (text : List ℕ) (r : Option Arguments) → IfSome r (λ s. (a : Argument) × (text ≡ argument_text a) × (s ≡ One (capped_argument a))) → IfSome r (IsArgumentsRead text)
 one_found text None h = tt
 one_found text (Some s) h = (One h.0, ap (λ t. 32 ∷ t) h.1, h.2)
 
-pub two_found : (text x y : List ℕ) (r : Option Arguments) → text ≡ x ++ 44 ∷ 32 ∷ y → IfSome r (λ s. (a : Argument) × (b : Argument) × (x ≡ argument_text a) × (y ≡ argument_text b) × (s ≡ Two (capped_argument a) (capped_argument b))) → Found text r
+pub two_found : (text x y : List ℕ) (r : Option Arguments) → text ≡ x ++ 44 ∷ 32 ∷ y → IfSome r (λ s. (a : Argument) × (b : Argument) × (x ≡ argument_text a) × (y ≡ argument_text b) × (s ≡ Two (capped_argument a) (capped_argument b))) → IfSome r (IsArgumentsRead text)
 two_found text x y None parts h = tt
 two_found text x y (Some s) parts h =
     let whole : text ≡ argument_text h.0 ++ 44 ∷ 32 ∷ argument_text h.1 = parts ∙ joined x y (argument_text h.0) (argument_text h.1) h.2 h.3 in
     (Two h.0 h.1, ap (λ t. 32 ∷ t) whole ∙ sym (two_text h.0 h.1), h.4)
 
-pub three_found : (text x rest y z : List ℕ) (r : Option Arguments) → text ≡ x ++ 44 ∷ 32 ∷ rest → rest ≡ y ++ 44 ∷ 32 ∷ z → IfSome r (λ s. (a : Argument) × (b : Argument) × (d : Argument) × (x ≡ argument_text a) × (y ≡ argument_text b) × (z ≡ argument_text d) × (s ≡ Three (capped_argument a) (capped_argument b) (capped_argument d))) → Found text r
+pub three_found : (text x rest y z : List ℕ) (r : Option Arguments) → text ≡ x ++ 44 ∷ 32 ∷ rest → rest ≡ y ++ 44 ∷ 32 ∷ z → IfSome r (λ s. (a : Argument) × (b : Argument) × (d : Argument) × (x ≡ argument_text a) × (y ≡ argument_text b) × (z ≡ argument_text d) × (s ≡ Three (capped_argument a) (capped_argument b) (capped_argument d))) → IfSome r (IsArgumentsRead text)
 three_found text x rest y z None parts parts2 h = tt
 three_found text x rest y z (Some s) parts parts2 h =
     let back : rest ≡ argument_text h.1 ++ 44 ∷ 32 ∷ argument_text h.2 = parts2 ∙ joined y z (argument_text h.1) (argument_text h.2) h.4 h.5 in
@@ -122,7 +119,7 @@ both_only line name text r parts first read m (Three a b d) e =
     let same : (name ≡ name_of m) × (text ≡ rest) = first (name_of m) rest (name_lacks m) e in
     read m (Three a b d) same.0 (ap (λ t. 32 ∷ t) same.1)
 
-pub both_found : (line name text : List ℕ) (r : Option Statement) → line ≡ name ++ 32 ∷ text → IfSome r (λ s. (m : Mnemonic) × (w : Arguments) × (name ≡ name_of m) × ((32 ∷ text) ≡ arguments_text w) × (s ≡ both m (capped_arguments w))) → IfSome r (λ s. (w : Statement) × (line ≡ statement_text w) × (s ≡ capped_statement w))
+pub both_found : (line name text : List ℕ) (r : Option Statement) → line ≡ name ++ 32 ∷ text → IfSome r (λ s. (m : Mnemonic) × (w : Arguments) × (name ≡ name_of m) × ((32 ∷ text) ≡ arguments_text w) × (s ≡ both m (capped_arguments w))) → IfSome r (IsStatementRead line)
 both_found line name text None parts h = tt
 both_found line name text (Some s) parts h =
     (both h.0 h.1, parts ∙ appended name (32 ∷ text) (name_of h.0) (arguments_text h.1) h.2 h.3, h.4)

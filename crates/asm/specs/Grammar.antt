@@ -81,7 +81,7 @@ abbrev pub is_formed : Statement → Bool
 is_formed s = takes (form_of s.mnemonic) s.arguments
 
 -- the line has one of the forms
-pub record HasForm (line : List ℕ) : Type 0 where
+pub record IsFormedLine (line : List ℕ) : Type 0 where
   pub statement : Statement
   pub text : line ≡ statement_text statement
   pub formed : is_formed statement ≡ true

@@ -1,7 +1,7 @@
--- Words of the reader's own contracts. It keeps numbers up to 2 ^ 64, which is above what any instruction takes.
-use Rattle.std.specs.Prelude.{ℕ, ◌≡◌, ◌≢◌, ◌+◌, ◌<◌, ◌≤◌, ◌^◌, ℤ, FitsSigned, Option, Some, List, length, slice_index, map, nat_lt, if◌then◌else◌}
+-- Words of the reader's own contracts. It keeps numbers up to 2 ^ 64, which is above what any instruction
+-- takes.
+use Rattle.std.specs.Prelude.{ℕ, ◌≡◌, ◌≢◌, ◌<◌, ◌≤◌, ◌^◌, ℤ, FitsSigned, Option, Some, List, ◌∷◌, length, slice_index, nat_lt, if◌then◌else◌}
 use Rattle.std.specs.Int.{w16, w32}
-use Rattle.std.specs.Int.Digits.{digits_of}
 use Rattle.bpf_model.specs.declared.insn.Operand.{Operand}
 use Rattle.bpf_model.specs.declared.insn.Operand.TheVariants as operand
 use Rattle.bpf_model.specs.declared.insn.UnaryOp.TheVariants as unary
@@ -11,13 +11,14 @@ use Rattle.bpf_model.specs.declared.insn.Insn.TheVariants as insn
 use Rattle.bpf_model.specs.Spelling.{FitsOperand, FitsInsn, extension_size, extension_bits}
 use Rattle.disasm.specs.declared.mnemonic.Mnemonic.{Mnemonic}
 use Rattle.disasm.specs.declared.mnemonic.Mnemonic.TheVariants.{Alu, MoveSigned, Negate, ByteSwap, LoadNumber, LoadMap, Jump, JumpLong, JumpIf, Call, Exit, Load, LoadSigned, Store, StoreRegister}
-use Rattle.disasm.specs.Text.{number_argument, offset_argument, memory_argument, source_argument, mnemonic_of, arguments_of}
+use Rattle.disasm.specs.Text.{argument_text, arguments_text, statement_text, number_argument, offset_argument, memory_argument, source_argument, mnemonic_of, arguments_of}
 use Rattle.disasm.specs.declared.statement.Argument.{Argument}
 use Rattle.disasm.specs.declared.statement.Argument.TheVariants.{Register, Number, Signed, Memory}
 use Rattle.disasm.specs.declared.statement.Arguments.{Arguments}
 use Rattle.disasm.specs.declared.statement.Arguments.TheVariants.{Zero, One, Two, Three}
 use Rattle.disasm.specs.declared.statement.Statement.{Statement}
 
+-- a number as the reader keeps it: 2 ^ 64 stands for each above
 abbrev pub capped : ℕ → ℕ
 capped n = if nat_lt n (2 ^ 64) then n else 2 ^ 64
 
@@ -36,13 +37,31 @@ capped_arguments (Three a b c) = Three (capped_argument a) (capped_argument b) (
 abbrev pub capped_statement : Statement → Statement
 capped_statement s = record { mnemonic = s.mnemonic; arguments = capped_arguments s.arguments }
 
+-- What is read of a text is what the text is of, with its numbers capped, and what the text is of is read.
+
+abbrev pub IsArgumentRead : List ℕ → Argument → Type 0
+IsArgumentRead text a = (w : Argument) × (text ≡ argument_text w) × (a ≡ capped_argument w)
+
+abbrev pub ReadsArgument : List ℕ → Option Argument → Type 0
+ReadsArgument text r = (w : Argument) → text ≡ argument_text w → r ≡ Some (capped_argument w)
+
+-- the arguments behind a mnemonic and a space, which is byte 32
+abbrev pub IsArgumentsRead : List ℕ → Arguments → Type 0
+IsArgumentsRead text s = (w : Arguments) × (32 ∷ text ≡ arguments_text w) × (s ≡ capped_arguments w)
+
+abbrev pub ReadsArguments : List ℕ → Option Arguments → Type 0
+ReadsArguments text r =
+    (w : Arguments) → 32 ∷ text ≡ arguments_text w → r ≡ Some (capped_arguments w)
+
+abbrev pub IsStatementRead : List ℕ → Statement → Type 0
+IsStatementRead line s = (w : Statement) × (line ≡ statement_text w) × (s ≡ capped_statement w)
+
+abbrev pub ReadsStatement : List ℕ → Option Statement → Type 0
+ReadsStatement line r = (w : Statement) → line ≡ statement_text w → r ≡ Some (capped_statement w)
+
 -- no byte of the text is c
 abbrev pub Lacks : ℕ → List ℕ → Type 0
 Lacks c text = (i : ℕ) → i < length text → slice_index text i ≢ c
-
--- the digits of a number, none for 0
-abbrev pub glyphs : ℕ → List ℕ
-glyphs n = map (λ digit. 48 + digit) (digits_of 10 n)
 
 -- the instruction has this mnemonic and these arguments, and its fields are in their ranges
 abbrev pub IsInsnOf : Mnemonic → Arguments → Insn → Type 0
@@ -55,15 +74,18 @@ IsOnlyInsn (Alu op size) w r =
     (dst : ℕ) (src : Operand) → dst ≤ 10 → FitsOperand src →
     w ≡ Two (Register dst) (source_argument src) → r ≡ Some (insn.Alu op size dst src)
 IsOnlyInsn (MoveSigned size) w r =
-    (extension : SignExtension) (dst src : ℕ) → extension_size extension ≡ size → dst ≤ 10 → src ≤ 10 →
+    (extension : SignExtension) (dst src : ℕ) →
+    extension_size extension ≡ size → dst ≤ 10 → src ≤ 10 →
     w ≡ Three (Register dst) (Register src) (number_argument (extension_bits extension)) →
     r ≡ Some (insn.Unary (unary.MoveSigned extension src) dst)
 IsOnlyInsn (Negate size) w r =
     (dst : ℕ) → dst ≤ 10 → w ≡ One (Register dst) → r ≡ Some (insn.Unary (unary.Negate size) dst)
 IsOnlyInsn (ByteSwap order width) w r =
-    (dst : ℕ) → dst ≤ 10 → w ≡ One (Register dst) → r ≡ Some (insn.Unary (unary.ByteSwap order width) dst)
+    (dst : ℕ) → dst ≤ 10 →
+    w ≡ One (Register dst) → r ≡ Some (insn.Unary (unary.ByteSwap order width) dst)
 IsOnlyInsn LoadNumber w r =
-    (dst n : ℕ) → dst ≤ 10 → n < 2 ^ 64 → w ≡ Two (Register dst) (Number n) → r ≡ Some (insn.LoadNumber dst n)
+    (dst n : ℕ) → dst ≤ 10 → n < 2 ^ 64 →
+    w ≡ Two (Register dst) (Number n) → r ≡ Some (insn.LoadNumber dst n)
 IsOnlyInsn LoadMap w r =
     (dst : ℕ) (map : ℤ) → dst ≤ 10 → FitsSigned w32 map →
     w ≡ Two (Register dst) (number_argument map) → r ≡ Some (insn.LoadMap dst map)

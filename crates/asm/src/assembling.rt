@@ -1,11 +1,12 @@
 //! Programs out of text.
 ghost use Rattle.std.specs.Prelude.{ℕ, ◌≡◌, ◌+◌, ◌<◌, ◌≤◌, ◌^◌, ◌++◌, List, length, map, OnOk, IfOk, IfErr, ◌⊎◌, ◌↔◌, IsTrue};
 ghost use Rattle.std.specs.List.{AllByRecursion};
+ghost use Rattle.bpf_model.specs.declared.limits.TheConstants.{MAX_SLOTS};
 ghost use Rattle.bpf_model.specs.Spelling.{FitsInsn, IsProgram, slot_total};
 ghost use Rattle.bpf_model.specs.declared.insn.Insn.{Insn as InsnOf};
 ghost use Rattle.disasm.specs.Text.{line_of, program_text};
-ghost use Rattle.asm.specs.Faults.{is_comment as is_comment_line, statements_in, IsFault};
-ghost use Rattle.asm.specs.Assembling.{Adds, IsLineFault, IsTextFault, IsSizeFault};
+ghost use Rattle.asm.specs.Faults.{is_comment as is_comment_line, statements_in, IsAsmFault};
+ghost use Rattle.asm.specs.Assembling.{AddsLine, IsLineFault, IsTextFault, IsSizeFault};
 
 use crate::fault::{AsmFault, LineFlaw};
 use crate::line::read_insn;
@@ -24,10 +25,10 @@ fn is_comment(line: &str) -> bool
     }
 }
 
-/// Adds the instruction of the line.
+/// Adds the instruction of the line with this index; a comment adds none.
 fn add_line(instructions: &mut Vec<Insn>, index: usize, line: &str) -> Result<(), AsmFault>
     requires { index + length line.now < 2 ^ 64 }
-    ensures added { OnOk result (Adds line.now instructions.old.items instructions.new.items) }
+    ensures added { OnOk result (AddsLine line.now instructions.old.items instructions.new.items) }
     ensures fault { IfErr result (IsLineFault index line.now) }
 {
     if is_comment(line) {
@@ -47,7 +48,8 @@ fn add_line(instructions: &mut Vec<Insn>, index: usize, line: &str) -> Result<()
 fn read_lines(alloc: Global, text: &str) -> Result<Vec<Insn>, AsmFault>
     ensures fits { IfOk result (λ v. AllByRecursion FitsInsn v.items) }
     ensures found { IfOk result (λ v. statements_in text.now ≡ map line_of v.items) }
-    ensures only { IfOk result (λ v. (is : List InsnOf) → AllByRecursion FitsInsn is → statements_in text.now ≡ map line_of is → v.items ≡ is) }
+    ensures only { IfOk result (λ v. (is : List InsnOf) →
+        AllByRecursion FitsInsn is → statements_in text.now ≡ map line_of is → v.items ≡ is) }
     ensures fault { IfErr result (IsTextFault text.now) }
 {
     let mut instructions = Vec::new(alloc);
@@ -62,9 +64,9 @@ fn read_lines(alloc: Global, text: &str) -> Result<Vec<Insn>, AsmFault>
     Ok(instructions)
 }
 
-/// Whether the instructions take at most 4096 slots.
+/// Whether the instructions take at most `MAX_SLOTS` slots.
 fn has_room(instructions: &[Insn]) -> bool
-    ensures { IsTrue result ↔ (slot_total instructions.now ≤ 4096) }
+    ensures { IsTrue result ↔ (slot_total instructions.now ≤ MAX_SLOTS) }
 {
     let mut slots = 0;
     for instruction in instructions {
@@ -98,17 +100,19 @@ fn program_of(alloc: Global, instructions: Vec<Insn>) -> Result<Program, AsmFaul
 /// # Errors
 ///
 /// `BadLine` and `BadOperand` for the first line that is the text of no instruction. Where each line is,
-/// `TooLong` above 4096 slots, and `Empty` without an instruction. `Memory` where memory runs out.
+/// `TooLong` above `MAX_SLOTS` slots, and `Empty` without an instruction. `Memory` where memory runs out.
 pub fn assemble(alloc: Global, text: &str) -> Result<Program, AsmFault>
     // The lines are the texts of the program's instructions.
     ensures found { IfOk result (λ p. statements_in text.now ≡ map line_of p) }
     ensures program { IfOk result IsProgram }
     // The lines of a program give that program, unless memory runs out.
-    ensures only { (p : List InsnOf) → IsProgram p → statements_in text.now ≡ map line_of p → (result ≡ Ok p) ⊎ (result ≡ Err AsmFault.Memory) }
+    ensures only { (p : List InsnOf) → IsProgram p → statements_in text.now ≡ map line_of p →
+        (result ≡ Ok p) ⊎ (result ≡ Err AsmFault.Memory) }
     // What a program was disassembled to gives it back, unless memory runs out.
-    ensures again { (p : List InsnOf) → IsProgram p → text.now ≡ program_text p → (result ≡ Ok p) ⊎ (result ≡ Err AsmFault.Memory) }
+    ensures again { (p : List InsnOf) → IsProgram p → text.now ≡ program_text p →
+        (result ≡ Ok p) ⊎ (result ≡ Err AsmFault.Memory) }
     // Which fault it is.
-    ensures fault { IfErr result (IsFault text.now) }
+    ensures fault { IfErr result (IsAsmFault text.now) }
 {
     let instructions = read_lines(alloc, text)?;
     program_of(alloc, instructions)

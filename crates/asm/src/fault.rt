@@ -1,6 +1,6 @@
 //! Why a text is no program.
 ghost use Rattle.std.specs.Prelude.{◌≡◌};
-ghost use Rattle.asm.specs.Faults.{fault_number, fault_line};
+ghost use Rattle.asm.specs.Faults.{asm_fault_number, asm_fault_line};
 ghost use Rattle.asm.specs.declared.fault.AsmFault.TheVariants.{Memory};
 
 use std::alloc::{AllocError, AllocFailed};
@@ -24,7 +24,7 @@ pub enum AsmFault {
     /// out of its range.
     #[error("line {0} has a register or a number out of range")]
     BadOperand(usize),
-    /// The instructions take more than 4096 slots.
+    /// The instructions take more than `MAX_SLOTS` slots.
     #[error("there are more than 4096 slots")]
     TooLong,
     /// There is no instruction.
@@ -38,7 +38,7 @@ pub enum AsmFault {
 impl AsmFault {
     /// The number by which the fault is known.
     pub fn code(&self) -> u8
-        ensures { result ≡ fault_number self.now }
+        ensures { result ≡ asm_fault_number self.now }
     {
         match self {
             AsmFault::BadLine(_) => 14,
@@ -51,7 +51,7 @@ impl AsmFault {
 
     /// The faulty line, where the fault is of one line.
     pub fn line(&self) -> Option<usize>
-        ensures { result ≡ fault_line self.now }
+        ensures { result ≡ asm_fault_line self.now }
     {
         match self {
             AsmFault::BadLine(line) | AsmFault::BadOperand(line) => Some(*line),

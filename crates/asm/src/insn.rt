@@ -160,9 +160,9 @@ fn load(width: Width, arguments: &Arguments) -> Option<Insn>
     ensures only { IsOnlyInsn (Mnemonic.Load width) arguments.now result }
 {
     match arguments {
-        Arguments::Two(dst, place) => {
+        Arguments::Two(dst, access) => {
             let dst = register(dst)?;
-            let (src, offset) = memory(place)?;
+            let (src, offset) = memory(access)?;
             Some(Insn::Load {
                 width,
                 dst,
@@ -179,9 +179,9 @@ fn load_signed(width: SignedWidth, arguments: &Arguments) -> Option<Insn>
     ensures only { IsOnlyInsn (Mnemonic.LoadSigned width) arguments.now result }
 {
     match arguments {
-        Arguments::Two(dst, place) => {
+        Arguments::Two(dst, access) => {
             let dst = register(dst)?;
-            let (src, offset) = memory(place)?;
+            let (src, offset) = memory(access)?;
             Some(Insn::LoadSigned {
                 width,
                 dst,
@@ -198,8 +198,8 @@ fn store(width: Width, arguments: &Arguments) -> Option<Insn>
     ensures only { IsOnlyInsn (Mnemonic.Store width) arguments.now result }
 {
     match arguments {
-        Arguments::Two(place, imm) => {
-            let (dst, offset) = memory(place)?;
+        Arguments::Two(access, imm) => {
+            let (dst, offset) = memory(access)?;
             Some(Insn::Store {
                 width,
                 dst,
@@ -216,8 +216,8 @@ fn store_register(width: Width, arguments: &Arguments) -> Option<Insn>
     ensures only { IsOnlyInsn (Mnemonic.StoreRegister width) arguments.now result }
 {
     match arguments {
-        Arguments::Two(place, src) => {
-            let (dst, offset) = memory(place)?;
+        Arguments::Two(access, src) => {
+            let (dst, offset) = memory(access)?;
             Some(Insn::Store {
                 width,
                 dst,

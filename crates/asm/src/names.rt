@@ -99,7 +99,9 @@ const MNEMONICS: [Mnemonic; 85] = [
 
 /// What stands after the front.
 fn rest_after<'a>(text: &'a str, front: &str) -> Option<&'a str>
-    ensures { MatchOption result ((rest : List ℕ) → text.now ≢ front.now ++ rest) (λ rest. text.now ≡ front.now ++ rest.now) }
+    ensures { MatchOption result
+        ((rest : List ℕ) → text.now ≢ front.now ++ rest)
+        (λ rest. text.now ≡ front.now ++ rest.now) }
 {
     text.strip_prefix(front)
 }

@@ -1,8 +1,8 @@
 //! Numbers in decimal, of any size.
 ghost use Rattle.std.specs.Prelude.{ℕ, ◌≡◌, ◌≢◌, ◌+◌, ◌*◌, ◌<◌, ◌≤◌, ◌^◌, length, slice_index, IfSome, IfNone};
 ghost use Rattle.std.specs.Int.{IsInRange};
-ghost use Rattle.disasm.specs.Text.{numeral};
-ghost use Rattle.asm.specs.Reading.{capped, glyphs};
+ghost use Rattle.disasm.specs.Text.{glyphs, numeral};
+ghost use Rattle.asm.specs.Reading.{capped};
 
 /// Stands for each number from it on: no instruction takes one.
 const LIMIT: u128 = 0x1_0000_0000_0000_0000;
@@ -22,8 +22,10 @@ fn push_digit(value: u128, digit: u8) -> u128
 fn read_digits(digits: &[u8]) -> Option<u128>
     requires some { 0 < length digits.now }
     requires first { slice_index digits.now 0 ≢ 48 }
-    ensures found { IfSome result (λ value. (n : ℕ) × (0 < n) × (digits.now ≡ glyphs n) × (value ≡ capped n)) }
-    ensures none { IfNone result ((k : ℕ) × (k < length digits.now) × ¬ (IsInRange 48 57 (slice_index digits.now k))) }
+    ensures found { IfSome result (λ value. (n : ℕ) ×
+        (0 < n) × (digits.now ≡ glyphs n) × (value ≡ capped n)) }
+    ensures none { IfNone result ((k : ℕ) ×
+        (k < length digits.now) × ¬ (IsInRange 48 57 (slice_index digits.now k))) }
 {
     let mut value = 0;
     for digit in digits {
@@ -37,7 +39,8 @@ fn read_digits(digits: &[u8]) -> Option<u128>
 
 /// The number that the text is the numeral of, without leading zeros.
 pub fn read_numeral(text: &str) -> Option<u128>
-    ensures found { IfSome result (λ value. (n : ℕ) × (text.now ≡ numeral n) × (value ≡ capped n)) }
+    ensures found { IfSome result (λ value. (n : ℕ) ×
+        (text.now ≡ numeral n) × (value ≡ capped n)) }
     ensures only { (n : ℕ) → text.now ≡ numeral n → result ≡ Some (capped n) }
 {
     match text.as_bytes() {

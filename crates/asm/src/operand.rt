@@ -11,8 +11,10 @@ use insn_codec::{Operand, Reg, SignExtension, Size};
 
 /// The number of this sign and magnitude, where it has 32 bits. 0 has no minus.
 fn signed32(sign: Sign, magnitude: u128) -> Option<i32>
-    ensures found { IfSome result (λ z. (sign_of z ≡ sign) × (magnitude_of z ≡ magnitude) × FitsSigned w32 z) }
-    ensures only { (z : ℤ) → FitsSigned w32 z → sign ≡ sign_of z → magnitude ≡ magnitude_of z → result ≡ Some z }
+    ensures found { IfSome result (λ z.
+        (sign_of z ≡ sign) × (magnitude_of z ≡ magnitude) × FitsSigned w32 z) }
+    ensures only { (z : ℤ) →
+        FitsSigned w32 z → sign ≡ sign_of z → magnitude ≡ magnitude_of z → result ≡ Some z }
 {
     match sign {
         Sign::Plus => {
@@ -32,28 +34,17 @@ fn signed32(sign: Sign, magnitude: u128) -> Option<i32>
     }
 }
 
+/// The number of this sign and magnitude, where it has 16 bits.
 fn signed16(sign: Sign, magnitude: u128) -> Option<i16>
-    ensures found { IfSome result (λ z. (sign_of z ≡ sign) × (magnitude_of z ≡ magnitude) × FitsSigned w16 z) }
-    ensures only { (z : ℤ) → FitsSigned w16 z → sign ≡ sign_of z → magnitude ≡ magnitude_of z → result ≡ Some z }
+    ensures found { IfSome result (λ z.
+        (sign_of z ≡ sign) × (magnitude_of z ≡ magnitude) × FitsSigned w16 z) }
+    ensures only { (z : ℤ) →
+        FitsSigned w16 z → sign ≡ sign_of z → magnitude ≡ magnitude_of z → result ≡ Some z }
 {
-    match sign {
-        Sign::Plus => {
-            if magnitude < 0x8000 {
-                Some(magnitude as i16)
-            } else {
-                None
-            }
-        }
-        Sign::Minus => {
-            if 0 < magnitude && magnitude <= 0x8000 {
-                Some(-(magnitude as i64) as i16)
-            } else {
-                None
-            }
-        }
-    }
+    i16::try_from(signed32(sign, magnitude)?).ok()
 }
 
+/// The register of this number.
 fn numbered(number: u128) -> Option<Reg>
     ensures found { IfSome result (λ r. (r ≡ number) × (r ≤ 10)) }
     ensures only { number ≤ 10 → result ≡ Some number }
@@ -77,7 +68,8 @@ pub fn register(argument: &Argument) -> Option<Reg>
 
 pub fn number(argument: &Argument) -> Option<i32>
     ensures found { IfSome result (λ z. (argument.now ≡ number_argument z) × FitsSigned w32 z) }
-    ensures only { (z : ℤ) → FitsSigned w32 z → argument.now ≡ number_argument z → result ≡ Some z }
+    ensures only { (z : ℤ) →
+        FitsSigned w32 z → argument.now ≡ number_argument z → result ≡ Some z }
 {
     match argument {
         Argument::Number(magnitude) => signed32(Sign::Plus, *magnitude),
@@ -100,7 +92,8 @@ pub fn unsigned(argument: &Argument) -> Option<u64>
 
 pub fn source(argument: &Argument) -> Option<Operand>
     ensures found { IfSome result (λ o. (argument.now ≡ source_argument o) × FitsOperand o) }
-    ensures only { (o : OperandOf) → FitsOperand o → argument.now ≡ source_argument o → result ≡ Some o }
+    ensures only { (o : OperandOf) →
+        FitsOperand o → argument.now ≡ source_argument o → result ≡ Some o }
 {
     match argument {
         Argument::Register(_) => Some(Operand::Register(register(argument)?)),
@@ -110,7 +103,8 @@ pub fn source(argument: &Argument) -> Option<Operand>
 
 pub fn offset(argument: &Argument) -> Option<i16>
     ensures found { IfSome result (λ z. (argument.now ≡ offset_argument z) × FitsSigned w16 z) }
-    ensures only { (z : ℤ) → FitsSigned w16 z → argument.now ≡ offset_argument z → result ≡ Some z }
+    ensures only { (z : ℤ) →
+        FitsSigned w16 z → argument.now ≡ offset_argument z → result ≡ Some z }
 {
     match argument {
         Argument::Signed(sign, magnitude) => signed16(*sign, *magnitude),
@@ -120,7 +114,8 @@ pub fn offset(argument: &Argument) -> Option<i16>
 
 pub fn long_offset(argument: &Argument) -> Option<i32>
     ensures found { IfSome result (λ z. (argument.now ≡ offset_argument z) × FitsSigned w32 z) }
-    ensures only { (z : ℤ) → FitsSigned w32 z → argument.now ≡ offset_argument z → result ≡ Some z }
+    ensures only { (z : ℤ) →
+        FitsSigned w32 z → argument.now ≡ offset_argument z → result ≡ Some z }
 {
     match argument {
         Argument::Signed(sign, magnitude) => signed32(*sign, *magnitude),
@@ -130,8 +125,11 @@ pub fn long_offset(argument: &Argument) -> Option<i32>
 
 /// A base register and an offset.
 pub fn memory(argument: &Argument) -> Option<(Reg, i16)>
-    ensures found { IfSome result (λ x. (argument.now ≡ memory_argument x.0 x.1) × (x.0 ≤ 10) × FitsSigned w16 x.1) }
-    ensures only { (base : ℕ) (z : ℤ) → base ≤ 10 → FitsSigned w16 z → argument.now ≡ memory_argument base z → result ≡ Some (base, z) }
+    ensures found { IfSome result (λ x.
+        (argument.now ≡ memory_argument x.0 x.1) × (x.0 ≤ 10) × FitsSigned w16 x.1) }
+    ensures only { (base : ℕ) (z : ℤ) →
+        base ≤ 10 → FitsSigned w16 z → argument.now ≡ memory_argument base z →
+        result ≡ Some (base, z) }
 {
     match argument {
         Argument::Memory { base, sign, offset } => {
@@ -143,8 +141,11 @@ pub fn memory(argument: &Argument) -> Option<(Reg, i16)>
 
 /// The sign extension to a size that is written with this many bits.
 pub fn extension(size: Size, argument: &Argument) -> Option<SignExtension>
-    ensures found { IfSome result (λ x. (extension_size x ≡ size) × (argument.now ≡ number_argument (extension_bits x))) }
-    ensures only { (x : SignExtensionOf) → extension_size x ≡ size → argument.now ≡ number_argument (extension_bits x) → result ≡ Some x }
+    ensures found { IfSome result (λ x.
+        (extension_size x ≡ size) × (argument.now ≡ number_argument (extension_bits x))) }
+    ensures only { (x : SignExtensionOf) →
+        extension_size x ≡ size → argument.now ≡ number_argument (extension_bits x) →
+        result ≡ Some x }
 {
     let bits = number(argument)?;
     match (size, bits) {

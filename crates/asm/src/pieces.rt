@@ -8,7 +8,9 @@ pub fn cut(text: &str, separator: char) -> Option<(&str, &str)>
     ensures none { IfNone result (Lacks separator text.now) }
     ensures parts { IfSome result (λ x. text.now ≡ x.0.now ++ separator ∷ x.1.now) }
     ensures first { IfSome result (λ x. Lacks separator x.0.now) }
-    ensures only { (front back : List ℕ) → Lacks separator front → text.now ≡ front ++ separator ∷ back → MatchOption result ⊥ (λ x. (x.0.now ≡ front) × (x.1.now ≡ back)) }
+    ensures only { (front back : List ℕ) →
+        Lacks separator front → text.now ≡ front ++ separator ∷ back →
+        MatchOption result ⊥ (λ x. (x.0.now ≡ front) × (x.1.now ≡ back)) }
 {
     text.split_once(separator)
 }
@@ -17,7 +19,8 @@ pub fn cut(text: &str, separator: char) -> Option<(&str, &str)>
 pub fn without_first(text: &str, first: char) -> Option<&str>
     requires { first < 128 }
     ensures found { IfSome result (λ x. text.now ≡ first ∷ x.now) }
-    ensures only { (rest : List ℕ) → text.now ≡ first ∷ rest → MatchOption result ⊥ (λ x. x.now ≡ rest) }
+    ensures only { (rest : List ℕ) → text.now ≡ first ∷ rest →
+        MatchOption result ⊥ (λ x. x.now ≡ rest) }
 {
     text.strip_prefix(first)
 }
@@ -26,7 +29,8 @@ pub fn without_first(text: &str, first: char) -> Option<&str>
 pub fn without_last(text: &str, last: char) -> Option<&str>
     requires { last < 128 }
     ensures found { IfSome result (λ x. text.now ≡ x.now ++ last ∷ []) }
-    ensures only { (front : List ℕ) → text.now ≡ front ++ last ∷ [] → MatchOption result ⊥ (λ x. x.now ≡ front) }
+    ensures only { (front : List ℕ) → text.now ≡ front ++ last ∷ [] →
+        MatchOption result ⊥ (λ x. x.now ≡ front) }
 {
     text.strip_suffix(last)
 }

@@ -1,43 +1,54 @@
 //! Statements out of lines.
 ghost use Rattle.std.specs.Prelude.{ℕ, ◌≡◌, ◌∷◌, ◌++◌, List, IfSome, MatchOption};
-ghost use Rattle.disasm.specs.Text.{name_of, argument_text, arguments_text, statement_text};
+ghost use Rattle.disasm.specs.Text.{name_of, argument_text, arguments_text};
 ghost use Rattle.disasm.specs.declared.mnemonic.Mnemonic.{Mnemonic as MnemonicOf};
 ghost use Rattle.disasm.specs.declared.statement.Argument.{Argument as ArgumentOf};
 ghost use Rattle.disasm.specs.declared.statement.Arguments.{Arguments as ArgumentsOf};
-ghost use Rattle.disasm.specs.declared.statement.Statement.{Statement as StatementOf};
-ghost use Rattle.asm.specs.Reading.{capped_argument, capped_arguments, capped_statement, Lacks};
+ghost use Rattle.asm.specs.Reading.{capped_argument, capped_arguments, IsArgumentsRead, ReadsArguments, IsStatementRead, ReadsStatement, Lacks};
 
 use crate::argument::read_argument;
 use crate::names::mnemonic_named;
 use crate::pieces::{cut, without_first};
 use disasm::{Arguments, Statement};
 
-/// What stands before and after the first comma, which a space follows.
+/// What stands before and after the first comma (byte 44), which a space (byte 32) follows.
 fn cut_comma(text: &str) -> Option<(&str, &str)>
     ensures parts { IfSome result (λ x. text.now ≡ x.0.now ++ 44 ∷ 32 ∷ x.1.now) }
-    ensures only { (front back : List ℕ) → Lacks 44 front → text.now ≡ front ++ 44 ∷ 32 ∷ back → MatchOption result ⊥ (λ x. (x.0.now ≡ front) × (x.1.now ≡ back)) }
+    ensures only { (front back : List ℕ) → Lacks 44 front → text.now ≡ front ++ 44 ∷ 32 ∷ back →
+        MatchOption result ⊥ (λ x. (x.0.now ≡ front) × (x.1.now ≡ back)) }
 {
     let (front, rest) = cut(text, ',')?;
     Some((front, without_first(rest, ' ')?))
 }
 
 fn read_one(first: &str) -> Option<Arguments>
-    ensures found { IfSome result (λ s. (a : ArgumentOf) × (first.now ≡ argument_text a) × (s ≡ Arguments.One (capped_argument a))) }
-    ensures only { (a : ArgumentOf) → first.now ≡ argument_text a → result ≡ Some (Arguments.One (capped_argument a)) }
+    ensures found { IfSome result (λ s. (a : ArgumentOf) ×
+        (first.now ≡ argument_text a) × (s ≡ Arguments.One (capped_argument a))) }
+    ensures only { (a : ArgumentOf) → first.now ≡ argument_text a →
+        result ≡ Some (Arguments.One (capped_argument a)) }
 {
     Some(Arguments::One(read_argument(first)?))
 }
 
 fn read_two(first: &str, second: &str) -> Option<Arguments>
-    ensures found { IfSome result (λ s. (a : ArgumentOf) × (b : ArgumentOf) × (first.now ≡ argument_text a) × (second.now ≡ argument_text b) × (s ≡ Arguments.Two (capped_argument a) (capped_argument b))) }
-    ensures only { (a b : ArgumentOf) → first.now ≡ argument_text a → second.now ≡ argument_text b → result ≡ Some (Arguments.Two (capped_argument a) (capped_argument b)) }
+    ensures found { IfSome result (λ s. (a : ArgumentOf) × (b : ArgumentOf) ×
+        (first.now ≡ argument_text a) × (second.now ≡ argument_text b) ×
+        (s ≡ Arguments.Two (capped_argument a) (capped_argument b))) }
+    ensures only { (a b : ArgumentOf) → first.now ≡ argument_text a → second.now ≡ argument_text b →
+        result ≡ Some (Arguments.Two (capped_argument a) (capped_argument b)) }
 {
     Some(Arguments::Two(read_argument(first)?, read_argument(second)?))
 }
 
 fn read_three(first: &str, second: &str, third: &str) -> Option<Arguments>
-    ensures found { IfSome result (λ s. (a : ArgumentOf) × (b : ArgumentOf) × (d : ArgumentOf) × (first.now ≡ argument_text a) × (second.now ≡ argument_text b) × (third.now ≡ argument_text d) × (s ≡ Arguments.Three (capped_argument a) (capped_argument b) (capped_argument d))) }
-    ensures only { (a b d : ArgumentOf) → first.now ≡ argument_text a → second.now ≡ argument_text b → third.now ≡ argument_text d → result ≡ Some (Arguments.Three (capped_argument a) (capped_argument b) (capped_argument d)) }
+    ensures found { IfSome result (λ s. (a : ArgumentOf) × (b : ArgumentOf) × (d : ArgumentOf) ×
+        (first.now ≡ argument_text a) × (second.now ≡ argument_text b) ×
+        (third.now ≡ argument_text d) ×
+        (s ≡ Arguments.Three (capped_argument a) (capped_argument b) (capped_argument d))) }
+    ensures only { (a b d : ArgumentOf) →
+        first.now ≡ argument_text a → second.now ≡ argument_text b → third.now ≡ argument_text d →
+        result ≡
+        Some (Arguments.Three (capped_argument a) (capped_argument b) (capped_argument d)) }
 {
     Some(Arguments::Three(
         read_argument(first)?,
@@ -48,8 +59,8 @@ fn read_three(first: &str, second: &str, third: &str) -> Option<Arguments>
 
 /// The arguments that stand after a mnemonic and a space.
 fn read_arguments(text: &str) -> Option<Arguments>
-    ensures found { IfSome result (λ s. (w : ArgumentsOf) × (32 ∷ text.now ≡ arguments_text w) × (s ≡ capped_arguments w)) }
-    ensures only { (w : ArgumentsOf) → 32 ∷ text.now ≡ arguments_text w → result ≡ Some (capped_arguments w) }
+    ensures found { IfSome result (IsArgumentsRead text.now) }
+    ensures only { ReadsArguments text.now result }
 {
     let Some((first, rest)) = cut_comma(text) else {
         return read_one(text);
@@ -61,8 +72,10 @@ fn read_arguments(text: &str) -> Option<Arguments>
 }
 
 fn read_bare(name: &str) -> Option<Statement>
-    ensures found { IfSome result (λ s. (m : MnemonicOf) × (name.now ≡ name_of m) × (s ≡ record { mnemonic = m; arguments = Arguments.Zero })) }
-    ensures only { (m : MnemonicOf) → name.now ≡ name_of m → result ≡ Some (record { mnemonic = m; arguments = Arguments.Zero }) }
+    ensures found { IfSome result (λ s. (m : MnemonicOf) ×
+        (name.now ≡ name_of m) × (s ≡ record { mnemonic = m; arguments = Arguments.Zero })) }
+    ensures only { (m : MnemonicOf) → name.now ≡ name_of m →
+        result ≡ Some (record { mnemonic = m; arguments = Arguments.Zero }) }
 {
     Some(Statement {
         mnemonic: mnemonic_named(name)?,
@@ -71,8 +84,12 @@ fn read_bare(name: &str) -> Option<Statement>
 }
 
 fn read_both(name: &str, text: &str) -> Option<Statement>
-    ensures found { IfSome result (λ s. (m : MnemonicOf) × (w : ArgumentsOf) × (name.now ≡ name_of m) × (32 ∷ text.now ≡ arguments_text w) × (s ≡ record { mnemonic = m; arguments = capped_arguments w })) }
-    ensures only { (m : MnemonicOf) (w : ArgumentsOf) → name.now ≡ name_of m → 32 ∷ text.now ≡ arguments_text w → result ≡ Some (record { mnemonic = m; arguments = capped_arguments w }) }
+    ensures found { IfSome result (λ s. (m : MnemonicOf) × (w : ArgumentsOf) ×
+        (name.now ≡ name_of m) × (32 ∷ text.now ≡ arguments_text w) ×
+        (s ≡ record { mnemonic = m; arguments = capped_arguments w })) }
+    ensures only { (m : MnemonicOf) (w : ArgumentsOf) →
+        name.now ≡ name_of m → 32 ∷ text.now ≡ arguments_text w →
+        result ≡ Some (record { mnemonic = m; arguments = capped_arguments w }) }
 {
     Some(Statement {
         mnemonic: mnemonic_named(name)?,
@@ -82,8 +99,8 @@ fn read_both(name: &str, text: &str) -> Option<Statement>
 
 /// The statement that the line is the text of.
 pub fn read_statement(line: &str) -> Option<Statement>
-    ensures found { IfSome result (λ s. (w : StatementOf) × (line.now ≡ statement_text w) × (s ≡ capped_statement w)) }
-    ensures only { (w : StatementOf) → line.now ≡ statement_text w → result ≡ Some (capped_statement w) }
+    ensures found { IfSome result (IsStatementRead line.now) }
+    ensures only { ReadsStatement line.now result }
 {
     match cut(line, ' ') {
         None => read_bare(line),

@@ -1,9 +1,13 @@
--- What a command is.
-use Rattle.std.specs.Prelude.{◌≤◌}
+-- Which words ask for a command.
+use Rattle.std.specs.Prelude.{◌≡◌, ℕ, ◌≤◌, List, [], ◌∷◌, map, codes, String, string_bytes}
+use Rattle.std.specs.Str.Parse.{digits_value, without_leading_plus}
+use Rattle.bpf_model.specs.declared.limits.TheConstants.{CTX_BYTES}
 use Rattle.bench.specs.declared.command.Command.{Command}
 use Rattle.bench.specs.declared.command.Command.TheVariants.{Run, Samples}
 
--- a context of that length can be given
-abbrev pub HasContextLength : Command → Type 0
-HasContextLength Samples = Unit {0}
-HasContextLength (Run file ctx_len) = ctx_len ≤ 256
+-- No words, or `run`, a file and the decimal digits of a length that a context may have.
+abbrev pub IsAskedBy : {A : Type 0} → List (String A) → Command → Type 0
+IsAskedBy words Samples = words ≡ []
+IsAskedBy words (Run file ctx_len) =
+    (length : List ℕ) × (map string_bytes words ≡ codes "run" ∷ file.now ∷ length ∷ [])
+    × (digits_value 10 (without_leading_plus length) ≡ ctx_len) × (ctx_len ≤ CTX_BYTES)

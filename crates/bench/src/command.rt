@@ -1,7 +1,9 @@
 //! The words of the command line.
 ghost use Rattle.std.specs.Prelude.{◌≡◌, ◌≤◌, ◌↔◌, [], IfOk, Ok};
+ghost use Rattle.std.specs.Str.Parse.{digits_value, without_leading_plus};
+ghost use Rattle.bpf_model.specs.declared.limits.TheConstants.{CTX_BYTES};
 ghost use Rattle.bench.specs.declared.command.Command.TheVariants.{Samples};
-ghost use Rattle.bench.specs.Words.{HasContextLength};
+ghost use Rattle.bench.specs.Words.{IsAskedBy};
 
 use bpf_model::CTX_BYTES;
 use thiserror::Error;
@@ -11,7 +13,7 @@ use thiserror::Error;
 pub enum Command<'a> {
     /// Run the programs that are built in, and print what they computed.
     Samples,
-    /// Measure the program in a file on a context of this many bytes, at most 256.
+    /// Measure the program in a file on a context of this many bytes, at most `CTX_BYTES`.
     Run { file: &'a str, ctx_len: usize },
 }
 
@@ -26,7 +28,8 @@ pub enum UsageFault {
 
 /// The length of a context, in decimal digits.
 fn context_length(word: &str) -> Result<usize, UsageFault>
-    ensures { IfOk result (λ n. n ≤ 256) }
+    ensures value { IfOk result (λ n. digits_value 10 (without_leading_plus word.now) ≡ n) }
+    ensures limit { IfOk result (λ n. n ≤ CTX_BYTES) }
 {
     match word.parse::<usize>() {
         Ok(length) if length <= CTX_BYTES => Ok(length),
@@ -37,7 +40,7 @@ fn context_length(word: &str) -> Result<usize, UsageFault>
 /// The command that the words after the program's own ask for: none, or `run FILE CTX_LEN`.
 pub fn parse_words<'a>(words: &'a [String]) -> Result<Command<'a>, UsageFault>
     ensures samples { (words.now ≡ []) ↔ (result ≡ Ok Samples) }
-    ensures length { IfOk result (λ c. HasContextLength c) }
+    ensures asked { IfOk result (λ c. IsAskedBy words.now c) }
 {
     match words {
         [] => Ok(Command::Samples),

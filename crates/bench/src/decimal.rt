@@ -1,21 +1,11 @@
 //! Numbers with two decimal places.
 ghost use Rattle.std.specs.Prelude.{◌≡◌, ◌<◌, ◌*◌, ◌/◌, ◌%◌, ◌^◌};
 
-use std::fmt;
-
 /// A number with two decimal places: a whole number, and hundredths from 0 to 99.
 #[derive(Clone, Copy, Debug, PartialEq, Eq)]
 pub struct Decimal {
     pub whole: u128,
     pub hundredths: u128,
-}
-
-impl fmt::Display for Decimal {
-    fn fmt<W: fmt::Write>(&self, f: &mut fmt::Formatter<W>) -> fmt::Result {
-        let whole = self.whole;
-        let hundredths = self.hundredths;
-        write!(f, "{whole}.{hundredths:02}")
-    }
 }
 
 /// A quotient to two decimal places, rounded down.

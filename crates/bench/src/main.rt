@@ -2,20 +2,19 @@
 #![tactic(auto)]
 
 ghost use Rattle.std.specs.Prelude.{◌≤◌};
+ghost use Rattle.bpf_model.specs.declared.limits.TheConstants.{CTX_BYTES};
 
 mod command;
 mod decimal;
 mod measure;
 mod report;
 mod samples;
-#[cfg(test)]
-mod tests;
 mod trial;
 
 use anyhow::{Result, bail};
 use command::{Command, parse_words};
 use measure::{Activity, time_per_part};
-use report::sample_line;
+use report::{measurement_line, sample_line};
 use samples::samples;
 use std::process::ExitCode;
 use std::{env, fs};
@@ -33,7 +32,7 @@ fn print_samples(rt: &HostRuntime) -> Result<()> {
 
 /// Measures the program in a file on a context of this length, and prints four lines.
 fn measure_file(rt: &HostRuntime, file: &str, ctx_len: usize) -> Result<()>
-    requires { ctx_len ≤ 256 }
+    requires { ctx_len ≤ CTX_BYTES }
 {
     let alloc = rt.alloc();
     let bytes = match fs::read(rt, file) {
@@ -48,8 +47,8 @@ fn measure_file(rt: &HostRuntime, file: &str, ctx_len: usize) -> Result<()>
     let verify_time = time_per_part(alloc, rt, Activity::Verifications, &trial, 1000)?;
     println!(rt; "exit {exit}")?;
     println!(rt; "instructions {instructions}")?;
-    println!(rt; "run_ns_per_instruction {run_time}")?;
-    println!(rt; "verify_us {verify_time}")?;
+    rt.println(measurement_line(alloc, "run_ns_per_instruction", run_time)?)?;
+    rt.println(measurement_line(alloc, "verify_us", verify_time)?)?;
     Ok(())
 }
 

@@ -1,8 +1,8 @@
 //! A verified program and a context to run it on.
 ghost use Rattle.std.specs.Prelude.{◌≡◌, ℕ, ◌<◌, ◌≤◌, length, slice_index, IfOk};
+ghost use Rattle.bpf_model.specs.declared.limits.TheConstants.{CTX_BYTES, MAX_SLOTS};
 ghost use Rattle.bpf_model.specs.Spelling.{text};
-ghost use Rattle.bpf_model.specs.Step.{ExitsWith, entry};
-ghost use Rattle.machine.specs.Running.{environment_of};
+ghost use Rattle.machine.specs.Running.{Finishes};
 ghost use Rattle.bench.specs.Trials.{IsReady};
 
 use anyhow::Result;
@@ -28,7 +28,7 @@ pub struct Outcome {
 
 /// The context bytes 0, 1, 2 and so on.
 pub fn counting_bytes(ctx_len: usize) -> CtxBytes
-    requires { ctx_len ≤ 256 }
+    requires { ctx_len ≤ CTX_BYTES }
     ensures length { length result.items ≡ ctx_len }
     ensures bytes { (k : ℕ) → k < ctx_len → slice_index result.items k ≡ k }
 {
@@ -42,7 +42,7 @@ pub fn counting_bytes(ctx_len: usize) -> CtxBytes
 /// Decodes and verifies program bytes, with no maps, for a context of this length with the bytes 0, 1, 2
 /// and so on. The error says what is wrong with the bytes or the program, or that memory ran out.
 pub fn trial_of(alloc: Global, bytes: &[u8], ctx_len: usize) -> Result<Trial>
-    requires { ctx_len ≤ 256 }
+    requires { ctx_len ≤ CTX_BYTES }
     ensures program { IfOk result (λ t. bytes.now ≡ text t.verified.program) }
     ensures length { IfOk result (λ t. t.verified.ctx_len ≡ ctx_len) }
     ensures bytes { IfOk result (λ t. (k : ℕ) → k < ctx_len → slice_index t.ctx.items k ≡ k) }
@@ -60,8 +60,8 @@ pub fn trial_of(alloc: Global, bytes: &[u8], ctx_len: usize) -> Result<Trial>
 pub fn counted_run(trial: &Trial) -> Outcome
     requires { IsReady trial.now }
     ensures least { 0 < result.instructions }
-    ensures limit { result.instructions ≤ 4096 }
-    ensures exits { ExitsWith trial.now.verified.program (environment_of trial.now.verified trial.now.ctx.items) entry result.instructions result.exit }
+    ensures limit { result.instructions ≤ MAX_SLOTS }
+    ensures exits { Finishes trial.now.verified trial.now.ctx.items result.instructions result.exit }
 {
     let finished = run_to_exit(&trial.verified, &trial.ctx);
     Outcome {

@@ -6,12 +6,11 @@ use Rattle.bpf_model.specs.declared.insn.Insn.{Insn}
 use Rattle.bpf_model.specs.Spelling.{IsProgram, text, slot_total}
 use Rattle.disasm.specs.Text.{program_text}
 use Rattle.insn_codec.specs.declared.fault.DecodeFault.{DecodeFault}
-use Rattle.insn_codec.specs.Faults.{IsFault, fault_number, fault_slot}
+use Rattle.insn_codec.specs.Faults.{IsDecodeFault, decode_fault_number, decode_fault_slot}
 use Rattle.verifier.specs.declared.refusal.Refusal.{Refusal}
 use Rattle.verifier.specs.Checked.{Checked}
 use Rattle.verifier.specs.Numbers.{refusal_number, refusal_slot}
-use Rattle.verifier.specs.Passes.{IsToldOf}
-use Rattle.verifier.specs.Valid.{IsVerified}
+use Rattle.verifier.specs.Verdict.{IsToldOf, IsVerified}
 use Rattle.bpfrt.specs.declared.report.Verdict.{Verdict}
 use Rattle.bpfrt.specs.declared.request.Command.{Command}
 use Rattle.bpfrt.specs.declared.request.Command.TheVariants.{Check, Disasm}
@@ -41,9 +40,9 @@ pub record IsTextOf (bytes lines : List ℕ) : Type 0 where
 -- The verdict is the first fault of the bytes.
 pub record IsFaultVerdict (bytes : List ℕ) (v : Verdict) : Type 0 where
   pub fault : DecodeFault
-  pub is : IsFault bytes fault
-  pub code : v.code ≡ fault_number fault
-  pub slot : v.slot ≡ fault_slot fault
+  pub is : IsDecodeFault bytes fault
+  pub code : v.code ≡ decode_fault_number fault
+  pub slot : v.slot ≡ decode_fault_slot fault
 
 -- The bytes are the text of a program, and the verdict is the verifier's of it.
 pub record IsVerifierVerdict (bytes : List ℕ) (v : Verdict) : Type 0 where

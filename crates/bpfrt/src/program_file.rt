@@ -1,7 +1,7 @@
 //! The bytes of a program file, read in bounded memory.
 ghost use Rattle.std.specs.Prelude.{◌≡◌, List, [], ℕ, ◌++◌, IfOk, IfErr, IfSome, OnOk};
 ghost use Rattle.bpf_model.specs.Spelling.{IsProgram, text};
-ghost use Rattle.insn_codec.specs.Faults.{IsFault};
+ghost use Rattle.insn_codec.specs.Faults.{IsDecodeFault};
 ghost use Rattle.bpfrt.specs.Files.{Holds, HasRead};
 
 use bpf_model::MAX_SLOTS;
@@ -52,7 +52,7 @@ impl FileBytes {
     pub fn decode(&self, alloc: Global) -> Result<Program, DecodeFault>
         ensures found { (bytes : List ℕ) → Holds self.now bytes →
             IfOk result (λ p. IsProgram p × (bytes ≡ text p)) }
-        ensures fault { (bytes : List ℕ) → Holds self.now bytes → IfErr result (IsFault bytes) }
+        ensures fault { (bytes : List ℕ) → Holds self.now bytes → IfErr result (IsDecodeFault bytes) }
     {
         match self {
             FileBytes::Whole(bytes) => decode(alloc, bytes),

@@ -19,9 +19,9 @@ pub struct Verdict {
 pub const MEMORY: u8 = 13;
 
 impl From<DecodeFault> for Verdict {
-    ghost use Rattle.insn_codec.specs.Faults.{fault_number, fault_slot};
+    ghost use Rattle.insn_codec.specs.Faults.{decode_fault_number, decode_fault_slot};
 
-    ghost from_gives = { λ f v. (v.code ≡ fault_number f) × (v.slot ≡ fault_slot f) };
+    ghost from_gives = { λ f v. (v.code ≡ decode_fault_number f) × (v.slot ≡ decode_fault_slot f) };
 
     fn from(fault: DecodeFault) -> Verdict {
         Verdict {

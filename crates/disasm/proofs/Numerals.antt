@@ -1,4 +1,4 @@
--- What std prints of a number is its numeral.
+-- The last digit of a numeral, and that what std prints of a number is its numeral.
 use Rattle.std.proofs.Common.{ℕ, zero, suc, ◌≡◌, ◌+◌, ◌/◌, ◌%◌, ◌^◌, ◌<◌, ◌≤◌, List, [], ◌∷◌, ◌++◌, refl, sym, ap, ◌∙◌, arith}
 use Rattle.std.specs.Prelude.{map}
 use Rattle.std.specs.Int.Digits.{digits_of}
@@ -7,15 +7,15 @@ use Rattle.std.proofs.lemmas.Int.Digits.{digits_of_step}
 use Rattle.std.proofs.lemmas.Fmt.{decimal_by_steps_wide}
 use Rattle.std.proofs.lemmas.Bool.Decides.{nat_tests}
 use Rattle.std.proofs.lemmas.List.{map_push}
-use Rattle.disasm.specs.Text.{numeral}
+use Rattle.disasm.specs.Text.{glyphs, numeral}
 
 abbrev glyph : ℕ → ℕ
 glyph digit = 48 + digit
 
-above_zero : (n : ℕ) → 0 < n → numeral n ≡ map glyph (digits_of 10 n)
+pub above_zero : (n : ℕ) → 0 < n → numeral n ≡ glyphs n
 above_zero n h = grind (arith, nat_tests)
 
-last_digit : (n : ℕ) → 0 < n → map glyph (digits_of 10 n) ≡ map glyph (digits_of 10 (n / 10)) ++ ((48 + n % 10) ∷ [])
+pub last_digit : (n : ℕ) → 0 < n → glyphs n ≡ glyphs (n / 10) ++ ((48 + n % 10) ∷ [])
 last_digit n h = ap (map glyph) (digits_of_step 10 n (omega arith) h) ∙ map_push glyph (digits_of 10 (n / 10)) (n % 10)
 
 one : (n : ℕ) → n < 10 → ((48 + n) ∷ []) ≡ numeral n
@@ -23,13 +23,13 @@ one zero h = refl
 one (suc n) h =
     let high : suc n / 10 ≡ 0 = omega arith in
     let low : suc n % 10 ≡ suc n = omega arith in
-    let step : map glyph (digits_of 10 (suc n)) ≡ map glyph (digits_of 10 (suc n / 10)) ++ ((48 + suc n % 10) ∷ []) = last_digit (suc n) (omega arith) in
+    let step : glyphs (suc n) ≡ glyphs (suc n / 10) ++ ((48 + suc n % 10) ∷ []) = last_digit (suc n) (omega arith) in
     sym (above_zero (suc n) (omega arith) ∙ step ∙ rw (high, low) refl)
 
 more : (n : ℕ) (ds : List ℕ) → 10 ≤ n → ds ≡ numeral (n / 10) → (ds ++ ((48 + n % 10) ∷ [])) ≡ numeral n
 more n ds h e =
-    let front : numeral (n / 10) ≡ map glyph (digits_of 10 (n / 10)) = above_zero (n / 10) (omega arith) in
-    let whole : numeral n ≡ map glyph (digits_of 10 n) = above_zero n (omega arith) in
+    let front : numeral (n / 10) ≡ glyphs (n / 10) = above_zero (n / 10) (omega arith) in
+    let whole : numeral n ≡ glyphs n = above_zero n (omega arith) in
     rw (e, front, whole, last_digit n (omega arith)) refl
 
 pub decimal_is_numeral : (n : ℕ) → n < 10 ^ 64 → decimal n ≡ numeral n

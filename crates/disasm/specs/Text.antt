@@ -139,9 +139,13 @@ name_of m = stem_of m ++ suffix_of m
 
 -- Arguments, with numbers of any size.
 
--- a number in decimal, without leading zeros
+-- the decimal digits of a number as bytes, without leading zeros: none for 0, whose digit is byte 48
+abbrev pub glyphs : ℕ → List ℕ
+glyphs n = map (λ digit. 48 + digit) (digits_of 10 n)
+
+-- a number in decimal
 abbrev pub numeral : ℕ → List ℕ
-numeral n = if n == 0 then codes "0" else map (λ digit. 48 + digit) (digits_of 10 n)
+numeral n = if n == 0 then codes "0" else glyphs n
 
 abbrev pub sign_text : Sign → List ℕ
 sign_text Plus = codes "+"

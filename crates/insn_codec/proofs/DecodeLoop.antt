@@ -1,12 +1,21 @@
 -- What is read so far, and what is left.
-use Rattle.std.proofs.Common.{◌≡◌, ℕ, ◌+◌, ◌*◌, ◌%◌, ◌<◌, ◌≤◌, List, [], ◌∷◌, ◌++◌, length, refl, sym, ap, ◌∙◌, arith, append_assoc, true, inl, inr}
+use Rattle.std.proofs.Common.{◌≡◌, ℕ, ◌+◌, ◌*◌, ◌%◌, ◌<◌, ◌≤◌, List, [], ◌∷◌, ◌++◌, length, refl, sym, ap, ◌∙◌, arith, append_assoc, true, false, eqb, inl, inr}
 use Rattle.std.specs.List.{AllByRecursion}
+use Rattle.std.proofs.lemmas.Bool.Decides.{nat_tests}
 use Rattle.std.proofs.lemmas.List.{append-nil, length-append}
 use Rattle.std.proofs.lemmas.List.Sums.{sum_by-cons}
 use Rattle.bpf_model.specs.declared.insn.Insn.{Insn}
 use Rattle.bpf_model.specs.Profile.{is_admitted}
 use Rattle.bpf_model.specs.Spelling.{FitsInsn, IsInProfile, spelling, text, slot_count, slot_total, starts_from}
 use Rattle.insn_codec.proofs.InsnLaws.{shape}
+
+-- what a test of a length for 0 says
+
+pub none_from : (n : ℕ) → true ≡ eqb n 0 → n ≡ 0
+none_from n e = grind (arith, nat_tests)
+
+pub some_from : (n : ℕ) → false ≡ eqb n 0 → 0 < n
+some_from n e = grind (arith, nat_tests)
 
 -- the list is what was read and the rest of it
 pub record Continues (is front : List Insn) (rest : List ℕ) : Type 0 where

@@ -13,7 +13,7 @@ use Rattle.insn_codec.specs.declared.fault.DecodeFault.TheVariants as faults
 use Rattle.insn_codec.specs.declared.flaw.Flaw.{Flaw}
 use Rattle.insn_codec.specs.declared.flaw.Flaw.TheVariants.{OutsideProfile}
 use Rattle.insn_codec.specs.Faults.{flaw_with, first_flaw, IsOpcode, IsInsnFlawAt, IsDecodeFault, length_fault}
-use Rattle.insn_codec.proofs.InsnLaws.{opcode_is, supported, no_flaw, same}
+use Rattle.insn_codec.proofs.InsnLaws.{some_is, opcode_is, supported, no_flaw, same}
 use Rattle.insn_codec.proofs.TextLaws.{Again, again}
 use Rattle.insn_codec.proofs.DecodeLoop.{total_cons, slot_count_pos, length_text}
 use Rattle.insn_codec.proofs.Injective.{injective}
@@ -33,9 +33,6 @@ opcodes_are byte None (Some p) h k = absurd (h p k)
 opcodes_are byte (Some o) None h k = absurd (k o h)
 opcodes_are byte (Some o) (Some p) h k = ap (λ (x : Opcode). Some x) (injective o p (h ∙ sym k))
 
-some_is : {A : Type 0} (x y : A) → Some x ≡ Some y → x ≡ y
-some_is x y e = cc
-
 pub one_flaw : (bytes : List ℕ) (f g : Flaw) → IsInsnFlawAt bytes f → IsInsnFlawAt bytes g → f ≡ g
 one_flaw bytes f g h k =
     let e = opcodes_are _ h.0 k.0 h.1 k.1 in
@@ -53,13 +50,13 @@ spelled_has_none bytes x i f fits admitted p h =
     none_some : {u v : Option Flaw} → u ≡ v → v ≡ None → u ≡ Some f → ⊥
     none_some p q r = cc
 
-pub one_place : (bytes r q : List ℕ) (front back : List Insn) (f g : Flaw) → AllByRecursion FitsInsn front → AllByRecursion FitsInsn back → IsInProfile front → IsInProfile back → bytes ≡ text front ++ r → bytes ≡ text back ++ q → IsInsnFlawAt r f → IsInsnFlawAt q g → (f ≡ g) × (slot_total front ≡ slot_total back)
-one_place bytes r q [] [] f g a b c d p s h k = (one_flaw q f g (subst (λ (x : List ℕ). IsInsnFlawAt x f) (sym p ∙ s) h) k, refl)
-one_place bytes r q [] (j ∷ back) f g a b c d p s h k = absurd (spelled_has_none r (text back ++ q) j f b.0 d.0 (sym p ∙ s ∙ append_assoc (spelling j) (text back) q) h)
-one_place bytes r q (i ∷ front) [] f g a b c d p s h k = absurd (spelled_has_none q (text front ++ r) i g a.0 c.0 (sym s ∙ p ∙ append_assoc (spelling i) (text front) r) k)
-one_place bytes r q (i ∷ front) (j ∷ back) f g a b c d p s h k =
+pub one_first_flaw : (bytes r q : List ℕ) (front back : List Insn) (f g : Flaw) → AllByRecursion FitsInsn front → AllByRecursion FitsInsn back → IsInProfile front → IsInProfile back → bytes ≡ text front ++ r → bytes ≡ text back ++ q → IsInsnFlawAt r f → IsInsnFlawAt q g → (f ≡ g) × (slot_total front ≡ slot_total back)
+one_first_flaw bytes r q [] [] f g a b c d p s h k = (one_flaw q f g (subst (λ (x : List ℕ). IsInsnFlawAt x f) (sym p ∙ s) h) k, refl)
+one_first_flaw bytes r q [] (j ∷ back) f g a b c d p s h k = absurd (spelled_has_none r (text back ++ q) j f b.0 d.0 (sym p ∙ s ∙ append_assoc (spelling j) (text back) q) h)
+one_first_flaw bytes r q (i ∷ front) [] f g a b c d p s h k = absurd (spelled_has_none q (text front ++ r) i g a.0 c.0 (sym s ∙ p ∙ append_assoc (spelling i) (text front) r) k)
+one_first_flaw bytes r q (i ∷ front) (j ∷ back) f g a b c d p s h k =
     let e = one_first bytes (text front ++ r) (text back ++ q) i j a.0 b.0 (p ∙ append_assoc (spelling i) (text front) r) (s ∙ append_assoc (spelling j) (text back) q) in
-    let t = one_place (text front ++ r) r q front back f g a.1 b.1 c.1 d.1 refl e.1 h k in
+    let t = one_first_flaw (text front ++ r) r q front back f g a.1 b.1 c.1 d.1 refl e.1 h k in
     (t.0, omega (arith, total_cons i front, total_cons j back, t.1, ap slot_count e.0))
 
 fault_is : (f g : Flaw) (s t : ℕ) → f ≡ g → s ≡ t → faults.Insn f s ≡ faults.Insn g t
@@ -71,7 +68,7 @@ one_fault bytes f faults.Memory a b h k = absurd (b refl)
 one_fault bytes (faults.Insn f s) (faults.Insn g t) a b h k =
     let x = h.1 in
     let y = k.1 in
-    let e = one_place bytes x.rest y.rest x.front y.front f g x.fits y.fits x.profile y.profile x.parts y.parts x.flaw y.flaw in
+    let e = one_first_flaw bytes x.rest y.rest x.front y.front f g x.fits y.fits x.profile y.profile x.parts y.parts x.flaw y.flaw in
     fault_is f g s t e.0 (sym x.slot_is ∙ e.1 ∙ y.slot_is)
 one_fault bytes (faults.Insn f s) g a b h k = let w = h.0 in absurd cc
 one_fault bytes f (faults.Insn g t) a b h k = let w = k.0 in absurd cc

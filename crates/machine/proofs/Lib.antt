@@ -1,8 +1,8 @@
-pub mod Exits
 pub mod LittleEndian
 pub mod Words
 pub mod Steps
 pub mod Whole
-pub mod Good
+pub mod Going
 pub mod Accesses
 pub mod Cells
+pub mod Refining

@@ -1,3 +1,6 @@
+pub mod Performing
+pub mod Refining
+pub mod RunWords
 pub mod Running
-pub mod Words
+pub mod Standing
 pub mod Writes

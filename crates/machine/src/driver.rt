@@ -1,7 +1,7 @@
 //! Whole runs.
 ghost use Rattle.std.specs.Prelude.{◌≡◌, ◌<◌, ◌≤◌, length};
-ghost use Rattle.bpf_model.specs.Step.{ExitsWith, entry};
-ghost use Rattle.machine.specs.Running.{environment_of};
+ghost use Rattle.bpf_model.specs.declared.limits.TheConstants.{MAX_SLOTS};
+ghost use Rattle.machine.specs.Running.{Finishes};
 
 use crate::run::{Local, Run};
 use bpf_model::CtxBytes;
@@ -18,10 +18,10 @@ pub struct Finished {
 /// definition, and the steps are at most as many as it has instructions.
 pub fn run_to_exit(verified: &Verified, ctx: &CtxBytes) -> Finished
     requires { length ctx.now.items ≡ verified.now.ctx_len }
-    ensures exits { ExitsWith verified.now.program (environment_of verified.now ctx.now.items) entry result.steps result.value }
+    ensures exits { Finishes verified.now ctx.now.items result.steps result.value }
     ensures bounded { result.steps ≤ length verified.now.program }
     ensures some { 0 < result.steps }
-    ensures limit { result.steps ≤ 4096 }
+    ensures limit { result.steps ≤ MAX_SLOTS }
 {
     let _program = verified.program();
     let mut run = Run::start(verified, ctx);
@@ -31,7 +31,7 @@ pub fn run_to_exit(verified: &Verified, ctx: &CtxBytes) -> Finished
             Local::Exit(value) => {
                 return Finished {
                     value,
-                    steps: run.steps(),
+                    steps: run.moved() + 1,
                 };
             }
         }

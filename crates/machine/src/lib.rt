@@ -16,5 +16,5 @@ mod run;
 mod step;
 
 pub use driver::{Finished, run_to_exit};
-pub use law::one_exit;
+pub use law::{refined_stands, standing_refines};
 pub use run::{Local, Run};

@@ -1,14 +1,11 @@
 //! Addresses, and the bytes that they name.
-ghost use Rattle.std.specs.Prelude.{◌≡◌, ℕ, ◌+◌, ◌^◌, ◌<◌, ◌≤◌, length, slice_get, Some, pos, ◌+ℤ◌};
-ghost use Rattle.bpf_model.specs.Access.{byte_count, number_at};
+ghost use Rattle.std.specs.Prelude.{◌≡◌, ℕ, ◌^◌, ◌<◌, pos, ◌+ℤ◌};
+ghost use Rattle.bpf_model.specs.Access.{byte_count};
 ghost use Rattle.abstract_state.specs.declared.kind.Region.TheVariants as regions;
 ghost use Rattle.bpf_model.specs.declared.insn.Insn.{Insn};
-ghost use Rattle.bpf_model.specs.declared.value.Value.{Value};
-ghost use Rattle.bpf_model.specs.Step.{State};
-ghost use Rattle.verifier.specs.Checked.{Checked};
-ghost use Rattle.machine.specs.Running.{Can, Does, Loads, stored_by};
-ghost use Rattle.machine.specs.Words.{WordIs};
-ghost use Rattle.machine.specs.Writes.{HasRoom, IsCounted, SetsBytes, Reaches, bytes_of};
+ghost use Rattle.machine.specs.Performing.{CanIn, CanInAny, CanLoad, DoesIn, DoesInAny};
+ghost use Rattle.machine.specs.Performing.{IsLoaded};
+ghost use Rattle.machine.specs.Writes.{HasRoom, IsCounted, IsInside, IsNumberAt, StoresAt};
 ghost use Rattle.machine.specs.declared.run.Local.TheVariants.{Moved};
 
 use crate::bytes::{number_of, write_number};
@@ -29,11 +26,15 @@ impl Run {
     /// The number that stands at an address of the region.
     #[inline]
     pub(crate) fn load_number(&self, region: Region, width: Width, address: u64) -> u64
-        requires { (at : ℕ) × Reaches region self.now address (byte_count width) at }
-        ensures { (at : ℕ) → Reaches region self.now address (byte_count width) at → number_at (slice_get (bytes_of region self.now)) at (byte_count width) ≡ Some result }
+        requires { IsInside region self.now address (byte_count width) }
+        ensures { IsNumberAt region self.now address (byte_count width) result }
     {
         match region {
-            Region::Ctx => number_of(self.ctx.as_slice(), (address - CTX_BASE) as usize, width),
+            Region::Ctx => number_of(
+                self.context.as_slice(),
+                (address - CTX_BASE) as usize,
+                width,
+            ),
             Region::Frame => number_of(&self.frame, (address - FRAME_BASE) as usize, width),
             Region::None => unreachable!(),
         }
@@ -43,10 +44,10 @@ impl Run {
     #[inline]
     pub(crate) fn store_number(&mut self, width: Width, address: u64, word: u64) -> Local
         requires room { HasRoom self.old }
-        requires reaches { (at : ℕ) × Reaches regions.Frame self.old address (byte_count width) at }
-        ensures set { (at : ℕ) → Reaches regions.Frame self.old address (byte_count width) at → SetsBytes at (byte_count width) word self.old self.new }
+        requires inside { IsInside regions.Frame self.old address (byte_count width) }
+        ensures set { StoresAt address (byte_count width) word self.old self.new }
         ensures moved { result ≡ Moved }
-        ensures counted { IsCounted self.old self.new }
+        ensures counted { IsCounted result self.old self.new }
     {
         write_number(
             &mut self.frame,
@@ -54,16 +55,16 @@ impl Run {
             width,
             word,
         );
-        self.place += 1;
-        self.steps += 1;
+        self.index += 1;
+        self.moved += 1;
         Local::Moved
     }
 
     /// The word of what a load through a register finds.
     #[inline]
     fn loaded(&self, region: Region, width: Width, src: Reg, offset: i16) -> u64
-        requires { (v : Checked) × (bases : ℕ → ℕ) × (m : State) × (u : Value) × Loads v self.now region (byte_count width) src offset bases m u }
-        ensures { (v : Checked) (bases : ℕ → ℕ) (m : State) (u : Value) → Loads v self.now region (byte_count width) src offset bases m u → WordIs bases result u }
+        requires { CanLoad region (byte_count width) src offset self.now }
+        ensures { IsLoaded region (byte_count width) src offset self.now result }
     {
         let address = address_of(self.register(src), offset);
         self.load_number(region, width, address)
@@ -79,9 +80,9 @@ impl Run {
         offset: i16,
     ) -> Local
         requires room { HasRoom self.old }
-        requires can { (v : Checked) × (slice_get v.regions self.old.place ≡ Some region) × Can v (Insn.Load width dst src offset) self.old }
-        ensures does { (v : Checked) → slice_get v.regions self.old.place ≡ Some region → Does v (Insn.Load width dst src offset) self.old result self.new }
-        ensures counted { IsCounted self.old self.new }
+        requires can { CanIn region (Insn.Load width dst src offset) self.old }
+        ensures does { DoesIn region (Insn.Load width dst src offset) self.old result self.new }
+        ensures counted { IsCounted result self.old self.new }
     {
         let word = self.loaded(region, width, src, offset);
         self.set(dst, word)
@@ -97,9 +98,9 @@ impl Run {
         offset: i16,
     ) -> Local
         requires room { HasRoom self.old }
-        requires can { (v : Checked) × (slice_get v.regions self.old.place ≡ Some region) × Can v (Insn.LoadSigned width dst src offset) self.old }
-        ensures does { (v : Checked) → slice_get v.regions self.old.place ≡ Some region → Does v (Insn.LoadSigned width dst src offset) self.old result self.new }
-        ensures counted { IsCounted self.old self.new }
+        requires can { CanIn region (Insn.LoadSigned width dst src offset) self.old }
+        ensures does { DoesIn region (Insn.LoadSigned width dst src offset) self.old result self.new }
+        ensures counted { IsCounted result self.old self.new }
     {
         let number = self.loaded(region, width.width(), src, offset);
         let word = load_signed(width, number);
@@ -109,9 +110,9 @@ impl Run {
     #[inline]
     pub(crate) fn store(&mut self, width: Width, dst: Reg, src: &Operand, offset: i16) -> Local
         requires room { HasRoom self.old }
-        requires can { (v : Checked) × Can v (stored_by width dst src.now offset) self.old }
-        ensures does { (v : Checked) → Does v (stored_by width dst src.now offset) self.old result self.new }
-        ensures counted { IsCounted self.old self.new }
+        requires can { CanInAny (Insn.Store width dst offset src.now) self.old }
+        ensures does { DoesInAny (Insn.Store width dst offset src.now) self.old result self.new }
+        ensures counted { IsCounted result self.old self.new }
     {
         let word = self.operand(src);
         let address = address_of(self.register(dst), offset);

@@ -1,6 +1,6 @@
 //! Reading operands, and going on.
 ghost use Rattle.std.specs.Prelude.{◌≡◌, ◌<◌};
-ghost use Rattle.machine.specs.Writes.{HasRoom, SetsWord, Leads, operand_word, IsOperand};
+ghost use Rattle.machine.specs.Writes.{HasRoom, IsCounted, SetsWord, Leads, operand_word, IsOperand};
 ghost use Rattle.machine.specs.declared.run.Local.TheVariants.{Moved};
 
 use crate::run::{Local, Run};
@@ -11,7 +11,7 @@ impl Run {
     /// The word of a second operand.
     #[inline]
     pub(crate) fn operand(&self, src: &Operand) -> u64
-        ensures value { result ≡ operand_word src.now self.now.regs }
+        ensures value { result ≡ operand_word src.now self.now.registers }
         ensures range { IsOperand src.now }
     {
         match src {
@@ -26,23 +26,25 @@ impl Run {
         requires { HasRoom self.old }
         ensures set { SetsWord dst word self.old self.new }
         ensures moved { result ≡ Moved }
+        ensures counted { IsCounted result self.old self.new }
         ensures range { dst < 11 }
     {
-        self.regs[dst.index()] = word;
-        self.place += 1;
-        self.steps += 1;
+        self.registers[dst.index()] = word;
+        self.index += 1;
+        self.moved += 1;
         Local::Moved
     }
 
     /// Goes to the instruction of this index.
     #[inline]
-    pub(crate) fn go_to(&mut self, place: usize) -> Local
+    pub(crate) fn go_to(&mut self, index: usize) -> Local
         requires { HasRoom self.old }
-        ensures set { Leads place self.old self.new }
+        ensures set { Leads index self.old self.new }
         ensures moved { result ≡ Moved }
+        ensures counted { IsCounted result self.old self.new }
     {
-        self.place = place;
-        self.steps += 1;
+        self.index = index;
+        self.moved += 1;
         Local::Moved
     }
 }

@@ -1,6 +1,13 @@
 -- Each slot of a map is free, holds an element that isn't reclaimed, or is worn out.
-use Rattle.std.proofs.Common.{◌≡◌, ◌≢◌, ℕ, ◌+◌, List, [], ◌∷◌, ◌++◌, length, replicate, Option, Some, None, inl, inr, refl, sym, ap, ◌∙◌, arith, subst, Result, false}
-use Rattle.std.specs.Prelude.{slice_get, slice_set, ◌↔◌}
+use Rattle.std.proofs.Common.{◌≡◌, ◌≢◌, ℕ, zero, suc, ◌+◌, ◌*◌, ◌<◌, ◌≤◌, List, [], ◌∷◌, ◌++◌, length, replicate, Option, Some, None, inl, inr, refl, sym, ap, ◌∙◌, arith, subst, Result, Bool, true, false}
+use Rattle.std.specs.Prelude.{slice_get, slice_set, ◌↔◌, ◌==◌, ◌&&◌, not, if◌then◌else◌}
+use Rattle.std.specs.List.{sum_by}
+use Rattle.std.proofs.Math.Nat.{add-mul}
+use Rattle.std.proofs.Math.Numerals.{lt_of_le_of_ne}
+use Rattle.std.proofs.lemmas.Bool.{cases_eq, eqb-true, eq-eqb, false≢true}
+use Rattle.std.proofs.lemmas.Option.{none-some}
+use Rattle.std.proofs.lemmas.List.Sums.{sum_by-cons, sum_by-append, sum_by_push}
+use Rattle.std.proofs.lemmas.List.Folds.{sum_by-replicate}
 use Rattle.std.proofs.lemmas.List.{length-append, length-replicate, nil_from_length}
 use Rattle.bpf_model.specs.declared.insn.Insn.{Insn}
 use Rattle.bpf_model.specs.declared.insn.Insn.TheVariants.{Call}
@@ -19,32 +26,49 @@ use Rattle.bpf_model.specs.declared.limits.MapShape.{MapShape}
 use Rattle.bpf_model.specs.declared.value.Value.{Value}
 use Rattle.bpf_model.specs.Call.{helper_of}
 use Rattle.bpf_model.specs.Section.{Section}
-use Rattle.bpf_model.specs.Element.{Element, Unlinked, Reclaimed, unlinked, with_life}
-use Rattle.bpf_model.specs.MapState.{MapState, Store, TakesOut, new_map, with_bag, with_elements, with_given, given_of, returned}
+use Rattle.bpf_model.specs.Element.{Element, Linked, is_reclaimed, Unlinked, Reclaimed, unlinked, with_life}
+use Rattle.bpf_model.specs.MapState.{MapState, Store, TakesOut, most_births, new_map, with_bag, with_elements, with_given, given_of, returned}
 use Rattle.bpf_model.specs.Helper.{LooksUp, Replaces, Settles, Updates, Removes, Deletes, newborn}
 use Rattle.bpf_model.specs.Reclaim.{Reclaims}
 use Rattle.bpf_model.specs.Machine.{Run, Machine, Loaded, environment, open_sections, start_machine}
 use Rattle.bpf_model.specs.MachineStep.{HelperStep, InsnStep}
 use Rattle.bpf_model.specs.Event.{Performs, Answers, refusal}
 use Rattle.bpf_model.specs.Schedule.{Schedule, IsScheduledHistory, last_scheduled, start_schedule}
-use Rattle.bpf_model.specs.Refines.{IsReached}
-use Rattle.model_laws.specs.Accounted.{kept_count, IsFull}
-use Rattle.model_laws.proofs.Lists.{get-set_cases}
+use Rattle.bpf_model.specs.Refines.{times, IsReached}
+use Rattle.model_laws.specs.Accounted.{kept_count, born_count, IsFull}
+use Rattle.model_laws.proofs.Lists.{get-set_cases, get-append_cases}
 use Rattle.model_laws.proofs.Stores.{Touches, touches-found, touches-acts, shape-given}
-use Rattle.model_laws.proofs.Counting.{map-back}
-use Rattle.model_laws.proofs.Tallies.{of_map, of-same, of-other, kept-touched, kept-born, kept-reclaimed, kept-kinds}
+use Rattle.model_laws.proofs.Counting.{map-back, times-append, times-first, times-other}
+use Rattle.model_laws.proofs.Tallies.{is_kept, of-same, of-other, kept-touched, kept-born, kept-reclaimed, kept-kinds, kept_uses, uses-touched, born-touched, kept-was, kept-is, uses-here, uses-away, uses-born, born-born, uses-reclaimed, born-reclaimed, uses-most}
 
-abbrev AddsUp : ℕ → List Element → MapState → Type 0
-AddsUp k es m = length m.bag + kept_count k es + m.worn ≡ m.shape.entries + m.shape.spare
+abbrev total : List ℕ → ℕ
+total counts = sum_by (λ c. c) counts
+
+-- The slots of a map, and the uses of all of them: each birth was one. No slot is used more often than the map's shape allows.
+pub record AddsUp (k : ℕ) (es : List Element) (m : MapState) : Type 0 where
+  pub slots : length m.bag + kept_count k es + m.worn ≡ m.shape.entries + m.shape.spare
+  pub births : total m.bag + kept_uses k es + m.worn * m.shape.reuse_limit ≡ born_count k es
+  pub free : 1 ≤ m.shape.reuse_limit → (c : ℕ) → 0 < times c m.bag → c < m.shape.reuse_limit
+  pub kept : 1 ≤ m.shape.reuse_limit → (n : ℕ) (e : Element) → slice_get es n ≡ Some e → is_kept k e ≡ true → e.uses ≤ m.shape.reuse_limit
 
 abbrev Accounted : Store → Type 0
 Accounted s = (k : ℕ) (m : MapState) → slice_get s.maps k ≡ Some m → AddsUp k s.elements m
 
 -- the start
+unused-free : (n c : ℕ) → 0 < times c (replicate n 0) → c ≡ 0
+unused-free zero c h = absurd (omega arith)
+unused-free (suc n) c h = elim (cases_eq 0 c) [
+  | inl same ↦ sym same
+  | inr ne ↦ let t = times-other c 0 (replicate n 0) ne in unused-free n c (omega arith)
+]
+
 new-map-adds : (k : ℕ) (shape : MapShape) → AddsUp k [] (new_map shape)
-new-map-adds k shape =
-    let free : length (replicate {A = ℕ} (shape.entries + shape.spare) 0) ≡ shape.entries + shape.spare = length-replicate (shape.entries + shape.spare) 0 in
-    omega arith
+new-map-adds k shape = record {
+  slots = let free : length (replicate {A = ℕ} (shape.entries + shape.spare) 0) ≡ shape.entries + shape.spare = length-replicate (shape.entries + shape.spare) 0 in omega arith;
+  births = let a : total (replicate (shape.entries + shape.spare) 0) ≡ (shape.entries + shape.spare) * 0 = sum_by-replicate (λ c. c) (shape.entries + shape.spare) 0 in omega arith;
+  free = λ some c h. let z = unused-free (shape.entries + shape.spare) c h in omega arith;
+  kept = λ some n e at kept. absurd (none-some e at);
+}
 
 accounted-start : (shapes : List MapShape) (programs : List Loaded) → Accounted (start_machine shapes programs).store
 accounted-start shapes programs k m at = let b = map-back new_map shapes k m at in subst (AddsUp k []) b.2 (new-map-adds k b.0)
@@ -56,8 +80,20 @@ Accounts s new = Accounted s → Accounted new
 accounts-same : (s new : Store) → new ≡ s → Accounts s new
 accounts-same s new e h = subst Accounted (sym e) h
 
+adds-touched : (opened : List Section) (es fs : List Element) (k : ℕ) (m : MapState) → Touches false opened es fs → AddsUp k es m → AddsUp k fs m
+adds-touched opened es fs k m t a = record {
+  slots = ap (λ n. length m.bag + n + m.worn) (kept-touched opened es fs t k) ∙ a.slots;
+  births = ap (λ n. total m.bag + n + m.worn * m.shape.reuse_limit) (uses-touched opened es fs t k) ∙ (a.births ∙ sym (born-touched opened es fs t k));
+  free = a.free;
+  kept = λ some n f at kept. let x = kept-was opened es fs k n f t at kept in subst (λ u. u ≤ m.shape.reuse_limit) (sym x.3) (a.kept some n x.0 x.1 x.2);
+}
+
 accounts-elements : (opened : List Section) (s new : Store) (es : List Element) → Touches false opened s.elements es → new ≡ with_elements es s → Accounts s new
-accounts-elements opened s new es t e h = subst Accounted (sym e) (λ k m at. ap (λ n. length m.bag + n + m.worn) (kept-touched opened s.elements es t k) ∙ h k m at)
+accounts-elements opened s new es t e h = subst Accounted (sym e) (λ k m at. adds-touched opened s.elements es k m t (h k m at))
+
+and-right : (a b : Bool) → (a && b) ≡ true → b ≡ true
+and-right true b h = h
+and-right false b h = absurd (false≢true h)
 
 -- a birth takes a slot out of the bag
 taken-one : (old new : List ℕ) (count : ℕ) → TakesOut old count new → length old ≡ length new + 1
@@ -68,33 +104,102 @@ taken-one old new count t =
     let d = length-append t.before t.after in
     omega arith
 
-module _ (s : Store) (map : ℕ) (m : MapState) (h : Accounted s) where
-  born-here : (es : List Element) (bag : List ℕ) (count : ℕ) → slice_get s.maps map ≡ Some m → TakesOut m.bag count bag → kept_count map es ≡ kept_count map s.elements + 1 → AddsUp map es (with_bag bag m)
-  born-here es bag count there taken more =
-      let a = h map m there in
-      let b = taken-one m.bag bag count taken in
+-- and its uses
+module _ (old new : List ℕ) (count : ℕ) (t : TakesOut old count new) where
+  taken-total : total old ≡ total new + count
+  taken-total =
+      let a : total old ≡ total (t.before ++ count ∷ t.after) = ap total t.old_is in
+      let b : total new ≡ total (t.before ++ t.after) = ap total t.new_is in
+      let c = sum_by-append (λ (c : ℕ). c) t.before (count ∷ t.after) in
+      let d = sum_by-append (λ (c : ℕ). c) t.before t.after in
+      let e = sum_by-cons (λ (c : ℕ). c) count t.after in
       omega arith
 
-  accounts-born : (mid : List Element) (nb : Element) (bag : List ℕ) (count : ℕ) (new : Store) → slice_get s.maps map ≡ Some m → TakesOut m.bag count bag → ((k : ℕ) → kept_count k (mid ++ nb ∷ []) ≡ kept_count k s.elements + of_map map k) →
-      new ≡ record { elements = mid ++ nb ∷ []; maps = slice_set s.maps map (with_bag bag m) } → Accounted new
-  accounts-born mid nb bag count new there taken more e =
-      let all : Store = record { elements = mid ++ nb ∷ []; maps = slice_set s.maps map (with_bag bag m) } in
-      let holds : Accounted all = λ k state at. elim (get-set_cases s.maps map k (with_bag bag m) state at) [
-        | inl x ↦
-            let one : kept_count map (mid ++ nb ∷ []) ≡ kept_count map s.elements + 1 = more map ∙ ap (λ n. kept_count map s.elements + n) (of-same map) in
-            subst (λ z. AddsUp z (mid ++ nb ∷ []) state) (sym x.0) (subst (AddsUp map (mid ++ nb ∷ [])) x.1 (born-here (mid ++ nb ∷ []) bag count there taken one))
-        | inr x ↦
-            let a = h k state x.1 in
-            let b = more k in
-            let c = of-other map k (λ same. x.0 (sym same)) in
-            omega arith
+  taken-times : (c : ℕ) → times c new ≤ times c old
+  taken-times c =
+      let a : times c old ≡ times c (t.before ++ count ∷ t.after) = ap (times c) t.old_is in
+      let b : times c new ≡ times c (t.before ++ t.after) = ap (times c) t.new_is in
+      let d = times-append c t.before (count ∷ t.after) in
+      let e = times-append c t.before t.after in
+      let f : times c t.after ≤ times c (count ∷ t.after) = elim (cases_eq count c) [
+        | inl same ↦ let x = times-first c count t.after same in omega arith
+        | inr ne ↦ let x = times-other c count t.after ne in omega arith
+      ] in
+      omega arith
+
+  taken-there : 0 < times count old
+  taken-there =
+      let a : times count old ≡ times count (t.before ++ count ∷ t.after) = ap (times count) t.old_is in
+      let d = times-append count t.before (count ∷ t.after) in
+      let e = times-first count count t.after refl in
+      omega arith
+
+module _ (s : Store) (map : ℕ) (m : MapState) (h : Accounted s) (opened : List Section) (mid : List Element) (key value bag : List ℕ) (count : ℕ) (there : slice_get s.maps map ≡ Some m) (taken : TakesOut m.bag count bag) (touched : Touches false opened s.elements mid) where
+  abbrev nb : Element
+  nb = newborn map key value count
+
+  abbrev es : List Element
+  es = mid ++ nb ∷ []
+
+  before : (k : ℕ) (state : MapState) → slice_get s.maps k ≡ Some state → AddsUp k mid state
+  before k state at = adds-touched opened s.elements mid k state touched (h k state at)
+
+  born-here : AddsUp map es (with_bag bag m)
+  born-here =
+      let a = before map m there in
+      let one = kept-born mid nb map refl in
+      let same = of-same map in
+      let uses = uses-born mid nb map in
+      let own = uses-here map nb Linked refl refl refl in
+      let births = born-born mid nb map in
+      let less = taken-one m.bag bag count taken in
+      let sum = taken-total m.bag bag count taken in
+      let old : total m.bag + kept_uses map mid + m.worn * m.shape.reuse_limit ≡ born_count map mid = a.births in
+      let slots : length m.bag + kept_count map mid + m.worn ≡ m.shape.entries + m.shape.spare = a.slots in
+      record {
+        slots = omega arith;
+        births = omega arith;
+        free = λ some c h. let t = taken-times m.bag bag count taken c in a.free some c (omega arith);
+        kept = λ some n e at kept. elim (get-append_cases mid nb n e at) [
+          | inl x ↦ a.kept some n e x kept
+          | inr x ↦
+              let low = a.free some count (taken-there m.bag bag count taken) in
+              let is : count + 1 ≡ e.uses = ap (λ (z : Element). z.uses) x.1 in
+              omega arith
+        ];
+      }
+
+  born-elsewhere : (k : ℕ) (state : MapState) → k ≢ map → slice_get s.maps k ≡ Some state → AddsUp k es state
+  born-elsewhere k state away at =
+      let a = before k state at in
+      let one = kept-born mid nb k refl in
+      let none = of-other map k (λ same. away (sym same)) in
+      let uses = uses-born mid nb k in
+      let own = uses-away k nb (λ same. away (sym same)) in
+      let births = born-born mid nb k in
+      let old : total state.bag + kept_uses k mid + state.worn * state.shape.reuse_limit ≡ born_count k mid = a.births in
+      let slots : length state.bag + kept_count k mid + state.worn ≡ state.shape.entries + state.shape.spare = a.slots in
+      record {
+        slots = omega arith;
+        births = omega arith;
+        free = a.free;
+        kept = λ some n e g kept. elim (get-append_cases mid nb n e g) [
+          | inl x ↦ a.kept some n e x kept
+          | inr x ↦ absurd (away (sym (eqb-true e.map k (and-right (not (is_reclaimed e.life)) (e.map == k) kept)) ∙ ap (λ (z : Element). z.map) (sym x.1)))
+        ];
+      }
+
+  accounts-born : (new : Store) → new ≡ record { elements = es; maps = slice_set s.maps map (with_bag bag m) } → Accounted new
+  accounts-born new e =
+      let holds : Accounted (record { elements = es; maps = slice_set s.maps map (with_bag bag m) }) = λ k state at. elim (get-set_cases s.maps map k (with_bag bag m) state at) [
+        | inl x ↦ subst (λ z. AddsUp z es state) (sym x.0) (subst (AddsUp map es) x.1 born-here)
+        | inr x ↦ born-elsewhere k state x.0 x.1
       ] in
       subst Accounted (sym e) holds
 
 accounts-replaces : (s : Store) (opened : List Section) (map : ℕ) (m : MapState) (key value : List ℕ) (found : Option ℕ) (new : Store) → slice_get s.maps map ≡ Some m → LooksUp s map key found → Replaces s opened map m key value found new → Accounts s new
 accounts-replaces s opened map m key value found new there l r h =
-    accounts-born s map m h (unlinked opened s.elements found) (newborn map key value r.count) r.bag r.count new there r.taken
-    (λ k. kept-born (unlinked opened s.elements found) (newborn map key value r.count) k refl ∙ ap (λ n. n + of_map map k) (kept-touched opened s.elements (unlinked opened s.elements found) (touches-found false opened s map key found l) k)) r.new_is
+    accounts-born s map m h opened (unlinked opened s.elements found) key value r.bag r.count there r.taken (touches-found false opened s map key found l) new r.new_is
 
 accounts-settles : (s : Store) (opened : List Section) (map : ℕ) (m : MapState) (key value : List ℕ) (found : Option ℕ) (new : Store) (error : Option Errno) (ret : Result (Unit {0}) Errno) → slice_get s.maps map ≡ Some m → LooksUp s map key found →
     Settles error ret s new (Replaces s opened map m key value found new) → Accounts s new
@@ -116,31 +221,80 @@ given-one : (given : Given) (uses : ℕ) (m : MapState) → length (with_given g
 given-one Free uses m = let a = length-append m.bag (uses ∷ []) in omega arith
 given-one Worn uses m = omega arith
 
-given-adds : (given : Given) (uses k : ℕ) (m : MapState) (old new : List Element) → kept_count k new + 1 ≡ kept_count k old → AddsUp k old m → AddsUp k new (with_given given uses m)
-given-adds given uses k m old new less h =
-    let a = given-one given uses m in
-    let b : (with_given given uses m).shape.entries + (with_given given uses m).shape.spare ≡ m.shape.entries + m.shape.spare = ap (λ x. x.entries + x.spare) (shape-given given uses m) in
+abbrev spent : MapState → ℕ
+spent m = total m.bag + m.worn * m.shape.reuse_limit
+
+given-uses : (b : Bool) (uses : ℕ) (m : MapState) → (uses == m.shape.reuse_limit) ≡ b → spent (with_given (if b then Worn else Free) uses m) ≡ spent m + uses
+given-uses true uses m is =
+    let same : uses ≡ m.shape.reuse_limit = eqb-true uses m.shape.reuse_limit is in
+    let more : (m.worn + 1) * m.shape.reuse_limit ≡ m.worn * m.shape.reuse_limit + 1 * m.shape.reuse_limit = add-mul m.worn 1 m.shape.reuse_limit in
     omega arith
+given-uses false uses m is = let a : total (m.bag ++ uses ∷ []) ≡ total m.bag + uses = sum_by_push (λ (c : ℕ). c) m.bag uses in omega arith
+
+given-free : (b : Bool) (uses : ℕ) (m : MapState) → (uses == m.shape.reuse_limit) ≡ b → uses ≤ m.shape.reuse_limit → ((c : ℕ) → 0 < times c m.bag → c < m.shape.reuse_limit) → (c : ℕ) → 0 < times c (with_given (if b then Worn else Free) uses m).bag → c < m.shape.reuse_limit
+given-free true uses m is most h c g = h c g
+given-free false uses m is most h c g = elim (cases_eq uses c) [
+  | inl same ↦
+      let ne : uses ≢ m.shape.reuse_limit = λ e. false≢true (sym is ∙ eq-eqb uses m.shape.reuse_limit e) in
+      let less : uses < m.shape.reuse_limit = lt_of_le_of_ne most ne in
+      subst (λ z. z < m.shape.reuse_limit) same less
+  | inr ne ↦
+      let a = times-append c m.bag (uses ∷ []) in
+      let b : times c (uses ∷ []) ≡ 0 = times-other c uses [] ne in
+      h c (omega arith)
+]
 
 module _ (s : Store) (n : ℕ) (e : Element) (since : List Section) (m : MapState) (born : slice_get s.elements n ≡ Some e) (life : e.life ≡ Unlinked since) (there : slice_get s.maps e.map ≡ Some m) (h : Accounted s) where
-  given-here : AddsUp e.map (slice_set s.elements n (with_life Reclaimed e)) (returned e.uses m)
+  abbrev rs : List Element
+  rs = slice_set s.elements n (with_life Reclaimed e)
+
+  -- what is kept afterwards was so before
+  still-kept : (k a : ℕ) (f : Element) → slice_get rs a ≡ Some f → is_kept k f ≡ true → slice_get s.elements a ≡ Some f
+  still-kept k a f at kept = elim (get-set_cases s.elements n a (with_life Reclaimed e) f at) [
+    | inl x ↦ absurd (false≢true (ap (is_kept k) x.1 ∙ kept))
+    | inr x ↦ x.1
+  ]
+
+  given-here : AddsUp e.map rs (returned e.uses m)
   given-here =
+      let a = h e.map m there in
+      let b : Bool = e.uses == m.shape.reuse_limit in
       let less = kept-reclaimed s.elements n e since e.map born life in
       let one = of-same e.map in
-      given-adds (given_of e.uses m) e.uses e.map m s.elements (slice_set s.elements n (with_life Reclaimed e)) (omega arith) (h e.map m there)
+      let uses = uses-reclaimed s.elements n e e.map born in
+      let own = uses-here e.map e (Unlinked since) life refl refl in
+      let births = born-reclaimed s.elements n e e.map born in
+      let back = given-one (given_of e.uses m) e.uses m in
+      let sum : spent (returned e.uses m) ≡ spent m + e.uses = given-uses b e.uses m refl in
+      let shape : (returned e.uses m).shape ≡ m.shape = shape-given (given_of e.uses m) e.uses m in
+      let limits : (returned e.uses m).shape.reuse_limit ≡ m.shape.reuse_limit = ap (λ x. x.reuse_limit) shape in
+      let rooms : (returned e.uses m).shape.entries + (returned e.uses m).shape.spare ≡ m.shape.entries + m.shape.spare = ap (λ x. x.entries + x.spare) shape in
+      let old : total m.bag + kept_uses e.map s.elements + m.worn * m.shape.reuse_limit ≡ born_count e.map s.elements = a.births in
+      let slots : length m.bag + kept_count e.map s.elements + m.worn ≡ m.shape.entries + m.shape.spare = a.slots in
+      record {
+        slots = omega arith;
+        births = omega arith;
+        free = λ some c g.
+            let low : 1 ≤ m.shape.reuse_limit = subst (λ l. 1 ≤ l) limits some in
+            subst (λ l. c < l) (sym limits) (given-free b e.uses m refl (a.kept low n e born (kept-is e.map e (Unlinked since) life refl refl)) (a.free low) c g);
+        kept = λ some i f at kept. subst (λ l. f.uses ≤ l) (sym limits) (a.kept (subst (λ l. 1 ≤ l) limits some) i f (still-kept e.map i f at kept) kept);
+      }
 
-  given-elsewhere : (k : ℕ) (state : MapState) → k ≢ e.map → slice_get s.maps k ≡ Some state → AddsUp k (slice_set s.elements n (with_life Reclaimed e)) state
+  given-elsewhere : (k : ℕ) (state : MapState) → k ≢ e.map → slice_get s.maps k ≡ Some state → AddsUp k rs state
   given-elsewhere k state away at =
       let a = h k state at in
       let b = kept-reclaimed s.elements n e since k born life in
       let c = of-other e.map k (λ same. away (sym same)) in
-      omega arith
+      let uses = uses-reclaimed s.elements n e k born in
+      let own = uses-away k e (λ same. away (sym same)) in
+      let births = born-reclaimed s.elements n e k born in
+      let old : total state.bag + kept_uses k s.elements + state.worn * state.shape.reuse_limit ≡ born_count k s.elements = a.births in
+      let slots : length state.bag + kept_count k s.elements + state.worn ≡ state.shape.entries + state.shape.spare = a.slots in
+      record { slots = omega arith; births = omega arith; free = a.free; kept = λ some i f g kept. a.kept some i f (still-kept k i f g kept) kept }
 
-  accounted-given : Accounted (record { elements = slice_set s.elements n (with_life Reclaimed e); maps = slice_set s.maps e.map (returned e.uses m) })
+  accounted-given : Accounted (record { elements = rs; maps = slice_set s.maps e.map (returned e.uses m) })
   accounted-given k state at = elim (get-set_cases s.maps e.map k (returned e.uses m) state at) [
-    | inl x ↦
-        let es : List Element = slice_set s.elements n (with_life Reclaimed e) in
-        subst (λ z. AddsUp z es state) (sym x.0) (subst (AddsUp e.map es) x.1 given-here)
+    | inl x ↦ subst (λ z. AddsUp z rs state) (sym x.0) (subst (AddsUp e.map rs) x.1 given-here)
     | inr x ↦ given-elsewhere k state x.0 x.1
   ]
 
@@ -186,10 +340,13 @@ accounted-along s (event ∷ events) (answer ∷ answers) (next ∷ states) a h 
     accounted-along next events answers states (accounts-answers (refusal s.machine event) s.machine event answer next.machine h.0.step a) h.1
 accounted-along s events answers states a h = absurd h
 
+reached-adds : (shapes : List MapShape) (programs : List Loaded) (s : Schedule) → IsReached shapes programs s → Accounted s.machine.store
+reached-adds shapes programs s r = subst (λ (x : Schedule). Accounted x.machine.store) r.last (accounted-along (start_schedule shapes programs) r.events r.answers r.states (accounted-start shapes programs) r.history)
+
 pub slots_accounted : (shapes : List MapShape) (programs : List Loaded) (s : Schedule) (k : ℕ) (m : MapState) → IsReached shapes programs s → slice_get s.machine.store.maps k ≡ Some m →
     length m.bag + kept_count k s.machine.store.elements + m.worn ≡ m.shape.entries + m.shape.spare
 slots_accounted shapes programs s k m r at =
-    subst (λ (x : Schedule). Accounted x.machine.store) r.last (accounted-along (start_schedule shapes programs) r.events r.answers r.states (accounted-start shapes programs) r.history) k m at
+    (reached-adds shapes programs s r k m at).slots
 
 pub enomem_exactly : (shapes : List MapShape) (programs : List Loaded) (s : Schedule) (k : ℕ) (m : MapState) → IsReached shapes programs s → slice_get s.machine.store.maps k ≡ Some m →
     (m.bag ≡ []) ↔ IsFull k s.machine.store.elements m
@@ -197,3 +354,33 @@ enomem_exactly shapes programs s k m r at =
     let total = slots_accounted shapes programs s k m r at in
     let kinds = kept-kinds k s.machine.store.elements in
     (λ h. let none : length m.bag ≡ 0 = ap length h in omega arith, λ h. nil_from_length m.bag (omega arith))
+
+-- no more births than the slots bear
+free-most : (counts : List ℕ) (limit : ℕ) → ((c : ℕ) → 0 < times c counts → c < limit) → total counts ≤ length counts * limit
+free-most [] limit h = omega arith
+free-most (c ∷ counts) limit h =
+    let a = sum_by-cons (λ (x : ℕ). x) c counts in
+    let rest = free-most counts limit (λ x g. h x (more c x counts g)) in
+    let first = h c (let t = times-first c c counts refl in omega arith) in
+    let b : (1 + length counts) * limit ≡ 1 * limit + length counts * limit = add-mul 1 (length counts) limit in
+    omega arith
+  where
+    more : (c x : ℕ) (counts : List ℕ) → 0 < times x counts → 0 < times x (c ∷ counts)
+    more c x counts g = elim (cases_eq c x) [
+      | inl same ↦ let t = times-first x c counts same in omega arith
+      | inr ne ↦ let t = times-other x c counts ne in omega arith
+    ]
+
+adds-most : (k : ℕ) (es : List Element) (m : MapState) → AddsUp k es m → 1 ≤ m.shape.reuse_limit → born_count k es ≤ most_births m.shape
+adds-most k es m a some =
+    let limit : ℕ = m.shape.reuse_limit in
+    let free : total m.bag ≤ length m.bag * m.shape.reuse_limit = free-most m.bag m.shape.reuse_limit (a.free some) in
+    let kept : kept_uses k es ≤ kept_count k es * m.shape.reuse_limit = uses-most k m.shape.reuse_limit es (a.kept some) in
+    let births : total m.bag + kept_uses k es + m.worn * m.shape.reuse_limit ≡ born_count k es = a.births in
+    let one : (length m.bag + kept_count k es) * m.shape.reuse_limit ≡ length m.bag * m.shape.reuse_limit + kept_count k es * m.shape.reuse_limit = add-mul (length m.bag) (kept_count k es) m.shape.reuse_limit in
+    let two : (length m.bag + kept_count k es + m.worn) * m.shape.reuse_limit ≡ (length m.bag + kept_count k es) * m.shape.reuse_limit + m.worn * m.shape.reuse_limit = add-mul (length m.bag + kept_count k es) m.worn m.shape.reuse_limit in
+    let slots : (length m.bag + kept_count k es + m.worn) * m.shape.reuse_limit ≡ most_births m.shape = ap (λ n. n * m.shape.reuse_limit) a.slots in
+    omega arith
+
+pub births_bounded : (shapes : List MapShape) (programs : List Loaded) (s : Schedule) (k : ℕ) (m : MapState) → IsReached shapes programs s → slice_get s.machine.store.maps k ≡ Some m → 1 ≤ m.shape.reuse_limit → born_count k s.machine.store.elements ≤ most_births m.shape
+births_bounded shapes programs s k m r at some = adds-most k s.machine.store.elements m (reached-adds shapes programs s r k m at) some

@@ -32,3 +32,4 @@ pub mod Deciding
 pub mod Alone
 pub mod Exits
 pub mod Requests
+pub mod Bounded

@@ -125,6 +125,34 @@ module _ (s : map_state.Store) (run : Run) where
     map-bound : (i map : ℕ) → run.state.regs 1 ≡ Pointer (MapRef i) → slice_get run.program.maps i ≡ Some map → map_argument run ≡ Some map
     map-bound i map e at = ap (λ v. reference v >>= bound_map run.program.maps) e ∙ at
 
+    -- the arguments one after another, from the last
+    flags-taken : (args : List Argument) → arguments_of (AnyNumber ∷ []) here run.state 4 ≡ Some args → (n : ℕ) × (number (run.state.regs 4) ≡ Some n) × (NumberArgument n ∷ [] ≡ args)
+    flags-taken args h =
+        let f = first-argument here run.state AnyNumber [] 4 args h in
+        let n = number-taken 4 f.0 f.2 in
+        (n.0, n.1, ap (λ x. x ∷ []) n.2 ∙ (ap (λ x. f.0 ∷ x) (no-argument here run.state 5 f.1 f.3) ∙ f.4))
+
+    value-taken : (args : List Argument) → arguments_of (ValueOfMap ∷ AnyNumber ∷ []) here run.state 3 ≡ Some args →
+        (bytes : List ℕ) × (more : List Argument) × ((called_shape here run.state >>= bytes_of value 3) ≡ Some bytes) × (arguments_of (AnyNumber ∷ []) here run.state 4 ≡ Some more) × (BytesArgument bytes ∷ more ≡ args)
+    value-taken args h =
+        let f = first-argument here run.state ValueOfMap (AnyNumber ∷ []) 3 args h in
+        let d = bytes-taken value 3 f.0 f.2 in
+        (d.0, f.1, d.1, f.3, ap (λ x. x ∷ f.1) d.2 ∙ f.4)
+
+    key-taken : (args : List Argument) (kinds : List ArgumentKind) → arguments_of (KeyOfMap ∷ kinds) here run.state 2 ≡ Some args →
+        (bytes : List ℕ) × (more : List Argument) × ((called_shape here run.state >>= bytes_of key 2) ≡ Some bytes) × (arguments_of kinds here run.state 3 ≡ Some more) × (BytesArgument bytes ∷ more ≡ args)
+    key-taken args kinds h =
+        let f = first-argument here run.state KeyOfMap kinds 2 args h in
+        let d = bytes-taken key 2 f.0 f.2 in
+        (d.0, f.1, d.1, f.3, ap (λ x. x ∷ f.1) d.2 ∙ f.4)
+
+    named-taken : (args : List Argument) (kinds : List ArgumentKind) → arguments_of (MapOfProgram ∷ kinds) here run.state 1 ≡ Some args →
+        (i : ℕ) × (more : List Argument) × (run.state.regs 1 ≡ Pointer (MapRef i)) × (arguments_of kinds here run.state 2 ≡ Some more) × (MapArgument i ∷ more ≡ args)
+    named-taken args kinds h =
+        let f = first-argument here run.state MapOfProgram kinds 1 args h in
+        let a = map-taken f.0 f.2 in
+        (a.0, f.1, a.1, f.3, ap (λ x. x ∷ f.1) a.2 ∙ f.4)
+
     -- a map and a key
     keyed-given : (i map : ℕ) (bytes : List ℕ) → run.state.regs 1 ≡ Pointer (MapRef i) → slice_get run.program.maps i ≡ Some map → key_argument s run map ≡ Some bytes →
         arguments_of (MapOfProgram ∷ KeyOfMap ∷ []) here run.state 1 ≡ Some (MapArgument i ∷ BytesArgument bytes ∷ [])
@@ -140,18 +168,20 @@ module _ (s : map_state.Store) (run : Run) where
       pub are : MapArgument i ∷ BytesArgument bytes ∷ [] ≡ args
 
     keyed-taken : (args : List Argument) → arguments_of (MapOfProgram ∷ KeyOfMap ∷ []) here run.state 1 ≡ Some args → Keyed args
-    keyed-taken args h =
-        let p = first-argument here run.state MapOfProgram (KeyOfMap ∷ []) 1 args h in
-        let q = first-argument here run.state KeyOfMap [] 2 p.1 p.3 in
-        let a = map-taken p.0 p.2 in
-        let b = bytes-taken key 2 q.0 q.2 in
-        record {
-          i = a.0;
-          bytes = b.0;
-          named = a.1;
-          written = b.1;
-          are = ap (λ x. x ∷ BytesArgument b.0 ∷ []) a.2 ∙ (ap (λ x. p.0 ∷ x ∷ []) b.2 ∙ (ap (λ x. p.0 ∷ q.0 ∷ x) (no-argument here run.state 3 q.1 q.3) ∙ (ap (λ x. p.0 ∷ x) q.4 ∙ p.4)));
+    keyed-taken args h = from_map (named-taken args (KeyOfMap ∷ []) h)
+      where
+        from_key : (i : ℕ) (more : List Argument) → run.state.regs 1 ≡ Pointer (MapRef i) → MapArgument i ∷ more ≡ args →
+            (bytes : List ℕ) × (rest : List Argument) × ((called_shape here run.state >>= bytes_of key 2) ≡ Some bytes) × (arguments_of [] here run.state 3 ≡ Some rest) × (BytesArgument bytes ∷ rest ≡ more) → Keyed args
+        from_key i more named a (bytes, rest, written, none, b) = record {
+          i = i;
+          bytes = bytes;
+          named = named;
+          written = written;
+          are = ap (λ x. MapArgument i ∷ BytesArgument bytes ∷ x) (no-argument here run.state 3 rest none) ∙ (ap (λ x. MapArgument i ∷ x) b ∙ a);
         }
+
+        from_map : (i : ℕ) × (more : List Argument) × (run.state.regs 1 ≡ Pointer (MapRef i)) × (arguments_of (KeyOfMap ∷ []) here run.state 2 ≡ Some more) × (MapArgument i ∷ more ≡ args) → Keyed args
+        from_map (i, more, named, others, a) = from_key i more named a (key-taken more [] others)
 
     lookup-called : LookupStep s run ret → new ≡ s → Called Lookup
     lookup-called l same =
@@ -164,16 +194,20 @@ module _ (s : map_state.Store) (run : Run) where
         (MapArgument m.0 ∷ BytesArgument d.key ∷ [], keyed-given m.0 d.map d.key m.1 m.2 d.key_is, (d.map, d.outcome, m.2, d.deleted, d.ret_is))
 
     called-lookup : Called Lookup → LookupStep s run ret × (new ≡ s)
-    called-lookup c =
-        let k = keyed-taken c.0 c.1 in
-        let done = subst (λ args. Calls Lookup args run.program.maps s opened ret new) (sym k.are) c.2 in
-        (record { map = done.0; key = k.bytes; found = done.1; map_is = map-bound k.i done.0 k.named done.2; key_is = bytes-by_map key 2 k.i done.0 k.bytes k.named done.2 k.written; looked_up = done.3; ret_is = done.4 }, done.5)
+    called-lookup c = by c.0 (keyed-taken c.0 c.1) c.2
+      where
+        by : (args : List Argument) (k : Keyed args) → Calls Lookup args run.program.maps s opened ret new → LookupStep s run ret × (new ≡ s)
+        by args k h =
+            let done = subst (λ l. Calls Lookup l run.program.maps s opened ret new) (sym k.are) h in
+            (record { map = done.0; key = k.bytes; found = done.1; map_is = map-bound k.i done.0 k.named done.2; key_is = bytes-by_map key 2 k.i done.0 k.bytes k.named done.2 k.written; looked_up = done.3; ret_is = done.4 }, done.5)
 
     called-delete : Called Delete → DeleteStep s opened run ret new
-    called-delete c =
-        let k = keyed-taken c.0 c.1 in
-        let done = subst (λ args. Calls Delete args run.program.maps s opened ret new) (sym k.are) c.2 in
-        record { map = done.0; key = k.bytes; outcome = done.1; map_is = map-bound k.i done.0 k.named done.2; key_is = bytes-by_map key 2 k.i done.0 k.bytes k.named done.2 k.written; deleted = done.3; ret_is = done.4 }
+    called-delete c = by c.0 (keyed-taken c.0 c.1) c.2
+      where
+        by : (args : List Argument) (k : Keyed args) → Calls Delete args run.program.maps s opened ret new → DeleteStep s opened run ret new
+        by args k h =
+            let done = subst (λ l. Calls Delete l run.program.maps s opened ret new) (sym k.are) h in
+            record { map = done.0; key = k.bytes; outcome = done.1; map_is = map-bound k.i done.0 k.named done.2; key_is = bytes-by_map key 2 k.i done.0 k.bytes k.named done.2 k.written; deleted = done.3; ret_is = done.4 }
 
     -- a map, a key, a value and flags
     update-called : UpdateStep s opened run ret new → Called Update
@@ -185,34 +219,59 @@ module _ (s : map_state.Store) (run : Run) where
         let all = with-argument here run.state MapOfProgram (KeyOfMap ∷ ValueOfMap ∷ AnyNumber ∷ []) 1 (MapArgument m.0) (BytesArgument u.key ∷ BytesArgument u.value ∷ NumberArgument u.flags ∷ []) (map-given m.0 m.1) keys in
         (MapArgument m.0 ∷ BytesArgument u.key ∷ BytesArgument u.value ∷ NumberArgument u.flags ∷ [], all, (u.map, u.outcome, m.2, u.updated, u.ret_is))
 
-    called-update : Called Update → UpdateStep s opened run ret new
-    called-update c =
-        let p = first-argument here run.state MapOfProgram (KeyOfMap ∷ ValueOfMap ∷ AnyNumber ∷ []) 1 c.0 c.1 in
-        let q = first-argument here run.state KeyOfMap (ValueOfMap ∷ AnyNumber ∷ []) 2 p.1 p.3 in
-        let v = first-argument here run.state ValueOfMap (AnyNumber ∷ []) 3 q.1 q.3 in
-        let f = first-argument here run.state AnyNumber [] 4 v.1 v.3 in
-        let a = map-taken p.0 p.2 in
-        let b = bytes-taken key 2 q.0 q.2 in
-        let d = bytes-taken value 3 v.0 v.2 in
-        let n = number-taken 4 f.0 f.2 in
-        let last : NumberArgument n.0 ∷ [] ≡ v.1 = ap (λ x. x ∷ []) n.2 ∙ (ap (λ x. f.0 ∷ x) (no-argument here run.state 5 f.1 f.3) ∙ f.4) in
-        let two : BytesArgument d.0 ∷ NumberArgument n.0 ∷ [] ≡ q.1 = ap (λ x. x ∷ NumberArgument n.0 ∷ []) d.2 ∙ (ap (λ x. v.0 ∷ x) last ∙ v.4) in
-        let three : BytesArgument b.0 ∷ BytesArgument d.0 ∷ NumberArgument n.0 ∷ [] ≡ p.1 = ap (λ x. x ∷ BytesArgument d.0 ∷ NumberArgument n.0 ∷ []) b.2 ∙ (ap (λ x. q.0 ∷ x) two ∙ q.4) in
-        let all : MapArgument a.0 ∷ BytesArgument b.0 ∷ BytesArgument d.0 ∷ NumberArgument n.0 ∷ [] ≡ c.0 = ap (λ x. x ∷ BytesArgument b.0 ∷ BytesArgument d.0 ∷ NumberArgument n.0 ∷ []) a.2 ∙ (ap (λ x. p.0 ∷ x) three ∙ p.4) in
-        let done = subst (λ args. Calls Update args run.program.maps s opened ret new) (sym all) c.2 in
-        record {
-          map = done.0;
-          key = b.0;
-          value = d.0;
+    pub record Whole (args : List Argument) : Type 0 where
+      pub i : ℕ
+      pub bytes : List ℕ
+      pub new_value : List ℕ
+      pub flags : ℕ
+      pub named : run.state.regs 1 ≡ Pointer (MapRef i)
+      pub key_written : (called_shape here run.state >>= bytes_of key 2) ≡ Some bytes
+      pub value_written : (called_shape here run.state >>= bytes_of value 3) ≡ Some new_value
+      pub flags_are : number (run.state.regs 4) ≡ Some flags
+      pub are : MapArgument i ∷ BytesArgument bytes ∷ BytesArgument new_value ∷ NumberArgument flags ∷ [] ≡ args
+
+    whole-taken : (args : List Argument) → arguments_of (MapOfProgram ∷ KeyOfMap ∷ ValueOfMap ∷ AnyNumber ∷ []) here run.state 1 ≡ Some args → Whole args
+    whole-taken args h = from_map (named-taken args (KeyOfMap ∷ ValueOfMap ∷ AnyNumber ∷ []) h)
+      where
+        from_flags : (i : ℕ) (more : List Argument) (bytes : List ℕ) (rest : List Argument) (v : List ℕ) (last : List Argument) → run.state.regs 1 ≡ Pointer (MapRef i) → MapArgument i ∷ more ≡ args → (called_shape here run.state >>= bytes_of key 2) ≡ Some bytes → BytesArgument bytes ∷ rest ≡ more →
+            (called_shape here run.state >>= bytes_of value 3) ≡ Some v → BytesArgument v ∷ last ≡ rest → (n : ℕ) × (number (run.state.regs 4) ≡ Some n) × (NumberArgument n ∷ [] ≡ last) → Whole args
+        from_flags i more bytes rest v last named a written b value_is c n = record {
+          i = i;
+          bytes = bytes;
+          new_value = v;
           flags = n.0;
-          outcome = done.1;
-          map_is = map-bound a.0 done.0 a.1 done.2;
-          key_is = bytes-by_map key 2 a.0 done.0 b.0 a.1 done.2 b.1;
-          value_is = bytes-by_map value 3 a.0 done.0 d.0 a.1 done.2 d.1;
+          named = named;
+          key_written = written;
+          value_written = value_is;
           flags_are = n.1;
-          updated = done.3;
-          ret_is = done.4;
+          are = ap (λ x. MapArgument i ∷ BytesArgument bytes ∷ BytesArgument v ∷ x) n.2 ∙ (ap (λ x. MapArgument i ∷ BytesArgument bytes ∷ x) c ∙ (ap (λ x. MapArgument i ∷ x) b ∙ a));
         }
+
+        from_map : (i : ℕ) × (more : List Argument) × (run.state.regs 1 ≡ Pointer (MapRef i)) × (arguments_of (KeyOfMap ∷ ValueOfMap ∷ AnyNumber ∷ []) here run.state 2 ≡ Some more) × (MapArgument i ∷ more ≡ args) → Whole args
+        from_map (i, more, named, others, a) =
+            let k = key-taken more (ValueOfMap ∷ AnyNumber ∷ []) others in
+            let v = value-taken k.1 k.3 in
+            from_flags i more k.0 k.1 v.0 v.1 named a k.2 k.4 v.2 v.4 (flags-taken v.1 v.3)
+
+    called-update : Called Update → UpdateStep s opened run ret new
+    called-update c = by c.0 (whole-taken c.0 c.1) c.2
+      where
+        by : (args : List Argument) (k : Whole args) → Calls Update args run.program.maps s opened ret new → UpdateStep s opened run ret new
+        by args k h =
+            let done = subst (λ l. Calls Update l run.program.maps s opened ret new) (sym k.are) h in
+            record {
+              map = done.0;
+              key = k.bytes;
+              value = k.new_value;
+              flags = k.flags;
+              outcome = done.1;
+              map_is = map-bound k.i done.0 k.named done.2;
+              key_is = bytes-by_map key 2 k.i done.0 k.bytes k.named done.2 k.key_written;
+              value_is = bytes-by_map value 3 k.i done.0 k.new_value k.named done.2 k.value_written;
+              flags_are = k.flags_are;
+              updated = done.3;
+              ret_is = done.4;
+            }
 
     helper-called : (f : Option Helper) → HelperStep f s opened run ret new → (helper : Helper) × (f ≡ Some helper) × Called helper
     helper-called (Some Lookup) h = (Lookup, refl, lookup-called h.0 h.1)

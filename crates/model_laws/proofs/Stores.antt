@@ -49,11 +49,12 @@ pub data LifeMoves (reap : Bool) (opened : List Section) (old new : Life) : Type
 pub record Alters (reap : Bool) (opened : List Section) (old new : Element) : Type 0 where
   pub in_map : new.map ≡ old.map
   pub under : new.key ≡ old.key
+  pub uses : new.uses ≡ old.uses
   pub size : length new.value ≡ length old.value
   pub life : LifeMoves reap opened old.life new.life
 
 alters-same : (reap : Bool) (opened : List Section) (e : Element) → Alters reap opened e e
-alters-same reap opened e = record { in_map = refl; under = refl; size = refl; life = Stays refl }
+alters-same reap opened e = record { in_map = refl; under = refl; uses = refl; size = refl; life = Stays refl }
 
 -- elements that only alter
 pub record Touches (reap : Bool) (opened : List Section) (old new : List Element) : Type 0 where
@@ -87,7 +88,7 @@ touches-changed reap opened f es n e h a = subst (Touches reap opened es) (sym (
 
 pub touches-found : (reap : Bool) (opened : List Section) (s : map_state.Store) (map : ℕ) (key : List ℕ) (found : Option ℕ) → LooksUp s map key found → Touches reap opened s.elements (unlinked opened s.elements found)
 touches-found reap opened s map key None h = touches-same reap opened s.elements
-touches-found reap opened s map key (Some n) h = touches-changed reap opened (with_life (Unlinked opened)) s.elements n h.element h.born (record { in_map = refl; under = refl; size = refl; life = Unlinks h.linked refl })
+touches-found reap opened s map key (Some n) h = touches-changed reap opened (with_life (Unlinked opened)) s.elements n h.element h.born (record { in_map = refl; under = refl; uses = refl; size = refl; life = Unlinks h.linked refl })
 
 -- An element that is born in a step: the last one, linked, alone under its key, of the lengths of its map.
 pub record Born (s new : map_state.Store) (n : ℕ) (f : Element) : Type 0 where
@@ -145,7 +146,7 @@ pub touches-stored : (opened : List Section) (es new : List Element) (n width : 
 touches-stored opened es new n width offset v e at h =
     let s = first-step (place_of (length e.value) width offset) (λ at. Some (changed (with_value (with_bytes at width v e.value)) es n)) new h in
     let same : changed (with_value (with_bytes s.0 width v e.value)) es n ≡ new = same_Some _ _ s.2 in
-    subst (Touches false opened es) same (touches-changed false opened (with_value (with_bytes s.0 width v e.value)) es n e at (record { in_map = refl; under = refl; size = length-bytes s.0 width v e.value; life = Stays refl }))
+    subst (Touches false opened es) same (touches-changed false opened (with_value (with_bytes s.0 width v e.value)) es n e at (record { in_map = refl; under = refl; uses = refl; size = length-bytes s.0 width v e.value; life = Stays refl }))
 
 touches-store : (opened : List Section) (es new : List Element) (width : ℕ) (offset : ℤ) (v base : Value) → element_store es width offset v base ≡ Some new → Touches false opened es new
 touches-store opened es new width offset Nothing base h = absurd (none-some new h)
@@ -247,7 +248,7 @@ moves-reclaims s opened n e given new r =
     let maps : List MapState = slice_set s.maps e.map (returned e.uses r.state) in
     let all : map_state.Store = record { elements = slice_set s.elements n (with_life Reclaimed e); maps = maps } in
     subst (StoreMoves true opened s) (sym r.new_is) (moves-touches true opened s all
-    (touches-set true opened s.elements n e (with_life Reclaimed e) r.born (record { in_map = refl; under = refl; size = refl; life = Ends r.since refl r.unlinked r.ended refl }))
+    (touches-set true opened s.elements n e (with_life Reclaimed e) r.born (record { in_map = refl; under = refl; uses = refl; size = refl; life = Ends r.since refl r.unlinked r.ended refl }))
     (shapes-set s.maps e.map r.state (returned e.uses r.state) r.there (shape-given (given_of e.uses r.state) e.uses r.state)) (length-slice_set s.maps e.map (returned e.uses r.state)))
 
 -- the lengths of keys and values

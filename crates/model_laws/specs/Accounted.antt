@@ -11,6 +11,10 @@ unlinked_count map es = count_by (λ e. is_unlinked e.life && (e.map == map)) es
 abbrev pub kept_count : ℕ → List Element → ℕ
 kept_count map es = count_by (λ e. not (is_reclaimed e.life) && (e.map == map)) es
 
+-- how many elements were ever born in the map
+abbrev pub born_count : ℕ → List Element → ℕ
+born_count map es = count_by (λ e. e.map == map) es
+
 -- The map's linked elements, its unlinked ones and its worn-out slots are as many as all its slots.
 abbrev pub IsFull : ℕ → List Element → MapState → Type 0
 IsFull map es m = linked_count map es + unlinked_count map es + m.worn ≡ slots_of_shape m.shape

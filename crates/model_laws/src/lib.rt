@@ -3,14 +3,15 @@
 //! Each is a function with an empty body, whose contract is the law.
 #![tactic(auto)]
 
-ghost use Rattle.std.specs.Prelude.{◌≡◌, ℕ, ◌+◌, ◌<◌, ◌^◌, ℤ, pos, Bool, false, List, [], ◌++◌, ◌∷◌, length, slice_get, Option, Some, None, ◌↔◌, ◌⊎◌, ◌≢◌, Result, Ok, Err};
+ghost use Rattle.std.specs.Prelude.{◌≡◌, ℕ, ◌+◌, ◌<◌, ◌≤◌, ◌^◌, ℤ, pos, Bool, false, List, [], ◌++◌, ◌∷◌, length, slice_get, Option, Some, None, ◌↔◌, ◌⊎◌, ◌≢◌, Result, Ok, Err};
+ghost use Rattle.std.specs.List.{sum_by};
 ghost use Rattle.bpf_model.specs.declared.call.Errno.{Errno};
 ghost use Rattle.bpf_model.specs.declared.call.Errno.TheVariants.{NoMemory};
 ghost use Rattle.bpf_model.specs.declared.event.Event.{Event};
 ghost use Rattle.bpf_model.specs.declared.event.Answer.{Answer};
 ghost use Rattle.bpf_model.specs.declared.event.EventRefusal.{EventRefusal};
 ghost use Rattle.bpf_model.specs.declared.event.ReapedElement.{ReapedElement};
-ghost use Rattle.bpf_model.specs.MapState.{MapState, Store, AreShapes, slots_of_shape, given_of};
+ghost use Rattle.bpf_model.specs.MapState.{MapState, Store, AreShapes, slots_of_shape, most_births, given_of};
 ghost use Rattle.bpf_model.specs.Helper.{Updates};
 ghost use Rattle.bpf_model.specs.Element.{Element, Linked, Reclaimed, HasLife};
 ghost use Rattle.bpf_model.specs.declared.insn.Insn.{Insn};
@@ -26,7 +27,7 @@ ghost use Rattle.bpf_model.specs.Section.{Section, Has};
 ghost use Rattle.bpf_model.specs.Consistent.{IsConsistent};
 ghost use Rattle.bpf_model.specs.Headline.{ReclaimedLate, AnswersAsMachine, AreMachineAnswers, AreReclaimedLate};
 ghost use Rattle.bpf_model.specs.declared.value.Reference.{Reference};
-ghost use Rattle.bpf_model.specs.View.{WorldView, start_view};
+ghost use Rattle.bpf_model.specs.View.{WorldView, start_view, shapes_of};
 ghost use Rattle.bpf_model.specs.Refines.{IsReached, TracksSchedule, Tracks};
 ghost use Rattle.bpf_model.specs.Word.{IsReferenceWord, element_bases};
 ghost use Rattle.bpf_model.specs.Exit.{ExitsWith, HasNoMaps};
@@ -41,7 +42,7 @@ ghost use Rattle.model_laws.specs.Growth.{Grows};
 ghost use Rattle.model_laws.specs.Begun.{HasBegun};
 ghost use Rattle.model_laws.specs.Scheduled.{IsScheduled, IsReapable};
 ghost use Rattle.model_laws.specs.Steps.{AreSteps, AnswersAsHistory};
-ghost use Rattle.model_laws.specs.Accounted.{kept_count, IsFull};
+ghost use Rattle.model_laws.specs.Accounted.{kept_count, born_count, IsFull};
 ghost use Rattle.model_laws.specs.Example.{lookup_and_load, example_shape};
 ghost use Rattle.model_laws.specs.Near.{Place, IsNearPlace, named_place, place_word};
 
@@ -223,6 +224,19 @@ pub fn no_memory_when_full()
         Updates s.machine.store (open_sections s.machine.runs) k key value flags ret new →
         (ret ≡ Err NoMemory → IsFull k s.machine.store.elements m)
         × (IsFull k s.machine.store.elements m → ret ≢ Ok tt) }
+{}
+
+/// In such a state no more elements were born in a map than its slots can bear: each of them is used so often.
+pub fn births_bounded()
+    ensures { (shapes : List MapShape) (programs : List Loaded) (s : Schedule) (k : ℕ) (m : MapState) →
+        IsReached shapes programs s → slice_get s.machine.store.maps k ≡ Some m →
+        1 ≤ m.shape.reuse_limit → born_count k s.machine.store.elements ≤ most_births m.shape }
+{}
+
+/// A world has reclaimed no more elements than the slots of its maps can bear, so that their number has room.
+pub fn given_bounded()
+    ensures { (w : WorldView) (s : Schedule) → TracksSchedule w s →
+        w.given ≤ sum_by most_births (shapes_of w) }
 {}
 
 /// The world at the start tracks the state at the start, so that the relation is not empty.

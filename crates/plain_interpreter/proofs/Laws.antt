@@ -8,6 +8,7 @@ use Rattle.std.proofs.lemmas.List.{get_or-set_same, get_or-set_other}
 use borrow.Author.Tests.{lt-ltb, le-ltb}
 use Rattle.bpf_model.specs.declared.value.Cell.{Cell}
 use Rattle.bpf_model.specs.declared.value.Cell.TheVariants.{Unwritten}
+use Rattle.bpf_model.specs.declared.limits.TheConstants.{FRAME_BYTES, MAX_SLOTS}
 use Rattle.bpf_model.specs.Frame.{is_within}
 use Rattle.bpf_model.specs.declared.insn.Insn.{Insn}
 use Rattle.bpf_model.specs.declared.value.Value.{Value}
@@ -35,12 +36,12 @@ bind_none o f e = ap (λ o. o >>= f) e
 pub bind_computes : {A : Type 0} (o : Option A) (f : A → Option Value) (x : A) (c : Computed) → o ≡ Some x → Computes (f x) c → Computes (o >>= f) c
 bind_computes o f x c e h = subst (λ o. Computes (o >>= f) c) (sym e) h
 
-pub inside : (is : List Insn) (p : ℕ) (i : Insn) → insn_at is p ≡ Some i → slot_total is ≤ 4096 → p < 4096
+pub inside : (is : List Insn) (p : ℕ) (i : Insn) → insn_at is p ≡ Some i → slot_total is ≤ MAX_SLOTS → p < MAX_SLOTS
 inside is p i e l =
     let s = start-insn_at 0 is p i e in
     omega (arith, starts_inside 0 is s.0 (0 + p) i s.1 s.2, slot_count_some i)
 
-pub entry_reg : (r : ℕ) → slice_index_or (Nothing ∷ Pointer (Ctx (pos 0)) ∷ Nothing ∷ Nothing ∷ Nothing ∷ Nothing ∷ Nothing ∷ Nothing ∷ Nothing ∷ Nothing ∷ Pointer (Frame (pos 512)) ∷ []) r Nothing ≡ entry_value r
+pub entry_reg : (r : ℕ) → slice_index_or (Nothing ∷ Pointer (Ctx (pos 0)) ∷ Nothing ∷ Nothing ∷ Nothing ∷ Nothing ∷ Nothing ∷ Nothing ∷ Nothing ∷ Nothing ∷ Pointer (Frame (pos FRAME_BYTES)) ∷ []) r Nothing ≡ entry_value r
 entry_reg zero = refl
 entry_reg (suc zero) = refl
 entry_reg (suc (suc zero)) = refl
@@ -55,8 +56,8 @@ entry_reg (suc (suc (suc (suc (suc (suc (suc (suc (suc (suc zero)))))))))) = ref
 entry_reg (suc (suc (suc (suc (suc (suc (suc (suc (suc (suc (suc r))))))))))) = sym (beyond (suc (suc (suc (suc (suc (suc (suc (suc (suc (suc (suc r))))))))))) (omega arith))
   where
     beyond : (n : ℕ) → 11 ≤ n → entry_value n ≡ Nothing
-    beyond n h = ap (λ t. if t then Pointer (Ctx (pos 0)) else if n == 10 then Pointer (Frame (pos 512)) else Nothing) (ne_eqb n 1 (λ e. omega arith))
-        ∙ ap (λ t. if t then Pointer (Frame (pos 512)) else Nothing) (ne_eqb n 10 (λ e. omega arith))
+    beyond n h = ap (λ t. if t then Pointer (Ctx (pos 0)) else if n == 10 then Pointer (Frame (pos FRAME_BYTES)) else Nothing) (ne_eqb n 1 (λ e. omega arith))
+        ∙ ap (λ t. if t then Pointer (Frame (pos FRAME_BYTES)) else Nothing) (ne_eqb n 10 (λ e. omega arith))
 
 pub far_moved : (r : Reference) (offset : Option ℤ) (d : ℤ) → offset ≡ None → ((k : ℕ) → r ≡ MapRef k → ⊥) → IsSum (offset_of r +ℤ d) offset → (v : Value) × (moved r d ≡ Some v) × IsFar v
 far_moved (Ctx o) offset d e other s = (Pointer (Ctx (o +ℤ d)), refl, subst (IsSum (o +ℤ d)) e s)
@@ -105,7 +106,7 @@ sum_known x y r b c e f h = subst (λ x. Computes (sum_of x y) c) (sym e) (bind_
 pub difference_known : (x y : Value) (r : Reference) (b : ℕ) (c : Computed) → x ≡ Pointer r → number y ≡ Some b → Computes (moved r (pos 0 -ℤ signed w64 b)) c → Computes (difference_of x y) c
 difference_known x y r b c e f h = subst (λ x. Computes (difference_of x y) c) (sym e) (bind_computes (number y) (λ b. moved r (pos 0 -ℤ signed w64 b)) b c f h)
 
-pub store_known : (m : State) (width : ℕ) (offset : ℤ) (v : Value) (r : Reference) (o : ℤ) (at : ℕ) (frame : ℕ → Cell) → r ≡ Frame o → place_of 512 width (o +ℤ offset) ≡ Some at → frame_after at width v m.frame ≡ Some frame
+pub store_known : (m : State) (width : ℕ) (offset : ℤ) (v : Value) (r : Reference) (o : ℤ) (at : ℕ) (frame : ℕ → Cell) → r ≡ Frame o → place_of FRAME_BYTES width (o +ℤ offset) ≡ Some at → frame_after at width v m.frame ≡ Some frame
     → stored m width offset v r ≡ Some (Moves (record { regs = m.regs; frame = frame; place = m.place + 1 }))
 store_known m width offset v r o at frame e f g =
     ap (stored m width offset v) e

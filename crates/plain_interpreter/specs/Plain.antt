@@ -8,7 +8,7 @@ use Rattle.bpf_model.specs.declared.value.Reference.{Reference}
 use Rattle.bpf_model.specs.declared.value.Reference.TheVariants.{Ctx, Frame, MapRef, Elem}
 use Rattle.bpf_model.specs.declared.value.Cell.{Cell}
 use Rattle.bpf_model.specs.declared.value.Cell.TheVariants as cells
-use Rattle.bpf_model.specs.Step.{State, Environment, Outcome, Moves, Exits, Steps, after, frame_after}
+use Rattle.bpf_model.specs.Step.{State, Environment, Outcome, Moves, Exits, after, frame_after, insn_at}
 use Rattle.plain_interpreter.specs.declared.plain_run.PlainRun.{PlainRun}
 use Rattle.plain_interpreter.specs.declared.plain_run.Progress.{Progress}
 use Rattle.plain_interpreter.specs.declared.plain_run.Progress.TheVariants.{Moved, Exited, Stuck, OutOfRange}
@@ -67,10 +67,13 @@ Comes o OutOfRange old new = (next : State) × (o ≡ Some (Moves next)) × (r :
 pub record Performs (i : Insn) (env : Environment) (old : PlainRun) (answer : Progress) (new : PlainRun) : Type 0 where
   pub comes : Comes (after i env (state_of old)) answer old new
 
--- The answer is the step of the definition. A stuck run has none, and out of range is a step to a far reference;
--- only a run that moves changes.
+-- A run by itself steps by the instruction that begins at its slot; where none begins, or that does nothing by itself, it is stuck.
+abbrev pub StepsAlone : List Insn → Environment → State → Outcome → Type 0
+StepsAlone program env m out = (i : Insn) × (insn_at program m.place ≡ Some i) × (after i env m ≡ Some out)
+
+-- The answer is that step. A stuck run has none, and out of range is a step to a far reference; only a run that moves changes.
 abbrev pub Tells : List Insn → Environment → PlainRun → Progress → PlainRun → Type 0
-Tells program env old Moved new = Steps program env (state_of old) (Moves (state_of new))
-Tells program env old (Exited n) new = Steps program env (state_of old) (Exits n) × (new ≡ old)
-Tells program env old Stuck new = ((out : Outcome) → Steps program env (state_of old) out → ⊥) × (new ≡ old)
-Tells program env old OutOfRange new = (next : State) × Steps program env (state_of old) (Moves next) × (r : ℕ) × IsFar (next.regs r) × (new ≡ old)
+Tells program env old Moved new = StepsAlone program env (state_of old) (Moves (state_of new))
+Tells program env old (Exited n) new = StepsAlone program env (state_of old) (Exits n) × (new ≡ old)
+Tells program env old Stuck new = ((out : Outcome) → StepsAlone program env (state_of old) out → ⊥) × (new ≡ old)
+Tells program env old OutOfRange new = (next : State) × StepsAlone program env (state_of old) (Moves next) × (r : ℕ) × IsFar (next.regs r) × (new ≡ old)

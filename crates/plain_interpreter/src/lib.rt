@@ -17,6 +17,3 @@ pub use plain_run::{PlainRun, Progress};
 pub use step::insn_at;
 pub use value::number;
 pub use whole::Ending;
-
-#[cfg(test)]
-mod tests;

@@ -1,21 +1,22 @@
 //! The context and the frame.
 ghost use Rattle.std.specs.Prelude.{◌≡◌, ℕ, ◌+◌, ◌-◌, ◌*◌, ◌/◌, ◌%◌, ◌^◌, ◌<◌, ◌≤◌, length, slice_get, IfSome, Option, Some, None, true, false, ◌+ℤ◌, if◌then◌else◌};
+ghost use Rattle.bpf_model.specs.declared.limits.TheConstants.{FRAME_BYTES};
 ghost use Rattle.bpf_model.specs.Access.{byte_count, place_of as place_in, number_at};
 ghost use Rattle.bpf_model.specs.Frame.{byte_of, is_same_reference as is_same, is_part as is_part_of, are_parts as are_parts_of, is_within, read as read_from};
 ghost use Rattle.bpf_model.specs.declared.value.Cell.TheVariants as cells;
 ghost use Rattle.plain_interpreter.specs.Plain.{cells_of, Writes};
 
-use bpf_model::{Cell, Reference, Value, Width};
+use bpf_model::{Cell, FRAME_BYTES, Reference, Value, Width};
 
-/// Where an access lies in a region of this length (at most 512 bytes), if it is aligned and all inside.
+/// Where an access lies in a region of this length (at most FRAME_BYTES), if it is aligned and all inside.
 pub fn place_of(len: usize, width: Width, base: i64, offset: i16) -> Option<usize>
-    requires { len ≤ 512 }
+    requires { len ≤ FRAME_BYTES }
     ensures value { result ≡ place_in len (byte_count width) (base +ℤ offset) }
     ensures bound { IfSome result (λ at. at + byte_count width ≤ len) }
 {
     let width = width.bytes();
     match base.checked_add(i64::from(offset)) {
-        Some(place) if place >= 0 && place <= 512 => {
+        Some(place) if place >= 0 && place <= FRAME_BYTES as i64 => {
             let at = place as usize;
             if at + width <= len && at % width == 0 {
                 Some(at)
@@ -130,7 +131,7 @@ fn are_parts(i: u8, r: Reference, frame: &[Cell], at: usize, n: u8) -> bool
 
 /// What a load of so many bytes finds.
 pub(crate) fn read(frame: &[Cell], at: usize, width: Width) -> Option<Value>
-    requires { at ≤ 512 }
+    requires { at ≤ FRAME_BYTES }
     ensures { result ≡ read_from (cells_of frame.now) at (byte_count width) }
 {
     let width = width.bytes();
@@ -152,7 +153,9 @@ pub(crate) fn read(frame: &[Cell], at: usize, width: Width) -> Option<Value>
 
 fn write_number(frame: &mut [Cell], at: usize, width: usize, n: u64)
     requires { at + width ≤ length frame.old }
-    ensures { (k : ℕ) → cells_of frame.new k ≡ (if is_within at width k then cells.Byte (n / 256 ^ (k - at) % 256) else cells_of frame.old k) }
+    ensures { (k : ℕ) → cells_of frame.new k
+        ≡ (if is_within at width k then cells.Byte (n / 256 ^ (k - at) % 256) else cells_of
+        frame.old k) }
 {
     let mut rest = n;
     for i in 0..width {
@@ -163,7 +166,8 @@ fn write_number(frame: &mut [Cell], at: usize, width: usize, n: u64)
 
 fn write_reference(frame: &mut [Cell], at: usize, r: Reference)
     requires { at + 8 ≤ length frame.old }
-    ensures { (k : ℕ) → cells_of frame.new k ≡ (if is_within at 8 k then cells.Part (k - at) r else cells_of frame.old k) }
+    ensures { (k : ℕ) → cells_of frame.new k
+        ≡ (if is_within at 8 k then cells.Part (k - at) r else cells_of frame.old k) }
 {
     for i in 0..8 {
         frame[at + usize::from(i)] = Cell::Part(i, r);

@@ -1,12 +1,13 @@
 //! The state of a plain run.
 ghost use Rattle.std.specs.Prelude.{◌≡◌, ℕ, ◌<◌};
+ghost use Rattle.bpf_model.specs.declared.limits.TheConstants.{FRAME_BYTES};
 ghost use Rattle.bpf_model.specs.declared.value.Cell.TheVariants as cells;
 ghost use Rattle.bpf_model.specs.Operand.{operand_value};
 ghost use Rattle.bpf_model.specs.Step.{entry};
 ghost use Rattle.plain_interpreter.specs.Plain.{state_of, cells_of};
 
 use alu::immediate;
-use bpf_model::{Cell, Operand, Reference, Reg, Value};
+use bpf_model::{Cell, FRAME_BYTES, Operand, Reference, Reg, Value};
 
 /// What a step came to: the run goes on, it has exited with this value, it is stuck, or a register would
 /// hold a reference whose offset leaves 64 bits.
@@ -18,12 +19,12 @@ pub enum Progress {
     OutOfRange,
 }
 
-/// A run with values of known kinds: eleven registers, the frame's 512 cells, and the slot where the next
-/// instruction begins.
+/// A run with values of known kinds: eleven registers, the frame's FRAME_BYTES cells, and the slot where
+/// the next instruction begins.
 #[derive(Drop)]
 pub struct PlainRun {
     pub(crate) regs: [Value; 11],
-    pub(crate) frame: [Cell; 512],
+    pub(crate) frame: [Cell; FRAME_BYTES],
     pub(crate) place: usize,
 }
 
@@ -36,10 +37,10 @@ fn clear(frame: &mut [Cell])
 }
 
 /// A frame of which nothing is written.
-fn empty_frame() -> [Cell; 512]
+fn empty_frame() -> [Cell; FRAME_BYTES]
     ensures { (k : ℕ) → cells_of result k ≡ cells.Unwritten }
 {
-    let mut frame = [Cell::Unwritten; 512];
+    let mut frame = [Cell::Unwritten; FRAME_BYTES];
     clear(&mut frame);
     frame
 }
@@ -61,7 +62,7 @@ impl PlainRun {
                 Value::Nothing,
                 Value::Nothing,
                 Value::Nothing,
-                Value::Pointer(Reference::Frame(512)),
+                Value::Pointer(Reference::Frame(FRAME_BYTES as i64)),
             ],
             frame: empty_frame(),
             place: 0,
@@ -75,9 +76,9 @@ impl PlainRun {
         self.regs[r.index()]
     }
 
-    /// A cell of the frame, from 0 to 511.
+    /// A cell of the frame, by its index there.
     pub fn cell(&self, index: usize) -> Cell
-        requires { index < 512 }
+        requires { index < FRAME_BYTES }
         ensures { result ≡ (state_of self.now).frame index }
     {
         self.frame[index]
@@ -90,7 +91,8 @@ impl PlainRun {
         self.place
     }
 
-    pub(crate) fn operand(&self, src: &Operand) -> Value
+    /// The value of a second operand.
+    pub fn operand(&self, src: &Operand) -> Value
         ensures { result ≡ operand_value src.now (state_of self.now).regs }
     {
         match src {

@@ -1,7 +1,9 @@
 //! The steps of a plain run.
 ghost use Rattle.std.specs.Prelude.{◌≡◌, ℕ, ◌+◌, ◌^◌, ◌<◌, ◌≤◌, length, List, MatchOption, Some, None};
 ghost use Rattle.bpf_model.specs.declared.insn.Insn.{Insn};
+ghost use Rattle.bpf_model.specs.declared.limits.TheConstants.{CTX_BYTES, MAX_SLOTS};
 ghost use Rattle.bpf_model.specs.Access.{byte_count};
+ghost use Rattle.bpf_model.specs.Operand.{unary_source as unary_source_of};
 ghost use Rattle.bpf_model.specs.Spelling.{slot_total};
 ghost use Rattle.bpf_model.specs.Step.{Environment, sets, forward, jumps_by, load_from, store_to, stored, after, insn_at as insn_of};
 ghost use Rattle.bpf_model.specs.MachineStep.{returns};
@@ -10,15 +12,16 @@ ghost use Rattle.plain_interpreter.specs.Plain.{state_of, Comes, Performs, Tells
 use crate::memory::{number_in, place_of, read, write};
 use crate::plain_run::{PlainRun, Progress};
 use crate::value::{Computed, compute, decided, number};
-use alu::{byte_swap, immediate, load_signed, move_signed, negate};
+use alu::{load_signed, unary};
 use bpf_model::{
-    AluOp, ByteOrder, Condition, Insn, Operand, Reference, Reg, SignExtension, SignedWidth, Size,
-    SwapWidth, Value, Width,
+    AluOp, Condition, FRAME_BYTES, Insn, Operand, Reference, Reg, SignedWidth, Size, UnaryOp,
+    Value, Width,
 };
 
 /// The instruction that begins at a slot, where one does.
 pub fn insn_at(program: &[Insn], place: usize) -> Option<&Insn>
-    ensures { MatchOption result (insn_of program.now place ≡ None) (λ i. insn_of program.now place ≡ Some i.now) }
+    ensures { MatchOption result (insn_of program.now place ≡ None)
+        (λ i. insn_of program.now place ≡ Some i.now) }
 {
     let mut left = place;
     for insn in program {
@@ -32,6 +35,16 @@ pub fn insn_at(program: &[Insn], place: usize) -> Option<&Insn>
         left -= slots;
     }
     None
+}
+
+/// The register that an operation of one operand reads.
+fn unary_source(op: &UnaryOp, dst: Reg) -> Reg
+    ensures { result ≡ unary_source_of op.now dst }
+{
+    match op {
+        UnaryOp::MoveSigned { src, .. } => *src,
+        UnaryOp::Negate(_) | UnaryOp::ByteSwap { .. } => dst,
+    }
 }
 
 impl PlainRun {
@@ -50,7 +63,8 @@ impl PlainRun {
 
     fn alu(&mut self, op: AluOp, size: Size, dst: Reg, src: &Operand) -> Progress
         requires { self.old.place < 2 ^ 40 }
-        ensures { (env : Environment) → Performs (Insn.Alu op size dst src.now) env self.old result self.new }
+        ensures { (env : Environment) →
+            Performs (Insn.Alu op size dst src.now) env self.old result self.new }
     {
         match compute(size, op, self.register(dst), self.operand(src)) {
             Computed::Known(v) => self.set(1, dst, v),
@@ -65,39 +79,21 @@ impl PlainRun {
         }
     }
 
-    fn move_signed(&mut self, extension: SignExtension, dst: Reg, src: Reg) -> Progress
+    fn unary(&mut self, op: &UnaryOp, dst: Reg) -> Progress
         requires { self.old.place < 2 ^ 40 }
-        ensures { (env : Environment) → Performs (Insn.MoveSigned extension dst src) env self.old result self.new }
+        ensures { (env : Environment) →
+            Performs (Insn.Unary op.now dst) env self.old result self.new }
     {
-        match number(self.register(src)) {
-            Some(n) => self.set(1, dst, Value::Number(move_signed(extension, n))),
-            None => Progress::Stuck,
-        }
-    }
-
-    fn negate(&mut self, size: Size, dst: Reg) -> Progress
-        requires { self.old.place < 2 ^ 40 }
-        ensures { (env : Environment) → Performs (Insn.Negate size dst) env self.old result self.new }
-    {
-        match number(self.register(dst)) {
-            Some(n) => self.set(1, dst, Value::Number(negate(size, n))),
-            None => Progress::Stuck,
-        }
-    }
-
-    fn byte_swap(&mut self, order: ByteOrder, width: SwapWidth, dst: Reg) -> Progress
-        requires { self.old.place < 2 ^ 40 }
-        ensures { (env : Environment) → Performs (Insn.ByteSwap order width dst) env self.old result self.new }
-    {
-        match number(self.register(dst)) {
-            Some(n) => self.set(1, dst, Value::Number(byte_swap(order, width, n))),
+        match number(self.register(unary_source(op, dst))) {
+            Some(n) => self.set(1, dst, Value::Number(unary(*op, n))),
             None => Progress::Stuck,
         }
     }
 
     fn load_map(&mut self, dst: Reg, map: i32, maps: usize) -> Progress
         requires { self.old.place < 2 ^ 40 }
-        ensures { (context : List ℕ) → Performs (Insn.LoadMap dst map) (environment context maps) self.old result self.new }
+        ensures { (context : List ℕ) →
+            Performs (Insn.LoadMap dst map) (environment context maps) self.old result self.new }
     {
         if map < 0 || map as usize >= maps {
             return Progress::Stuck;
@@ -126,7 +122,8 @@ impl PlainRun {
         offset: i16,
     ) -> Progress
         requires { self.old.place < 2 ^ 40 }
-        ensures { (env : Environment) → Performs (Insn.JumpIf condition size dst src.now offset) env self.old result self.new }
+        ensures { (env : Environment) →
+            Performs (Insn.JumpIf condition size dst src.now offset) env self.old result self.new }
     {
         match decided(condition, size, src, self.register(dst), self.operand(src)) {
             Some(true) => self.jump(i32::from(offset)),
@@ -139,8 +136,10 @@ impl PlainRun {
     }
 
     fn load_from(&self, context: &[u8], width: Width, offset: i16, base: Value) -> Option<Value>
-        requires { length context.now ≤ 256 }
-        ensures { (maps : ℕ) → result ≡ load_from (environment context.now maps) (state_of self.now) (byte_count width) offset base }
+        requires { length context.now ≤ CTX_BYTES }
+        ensures { (maps : ℕ) → result
+            ≡ load_from (environment context.now maps) (state_of self.now) (byte_count width) offset
+            base }
     {
         match base {
             Value::Pointer(Reference::Ctx(o)) => {
@@ -149,7 +148,7 @@ impl PlainRun {
                 Some(Value::Number(n))
             }
             Value::Pointer(Reference::Frame(o)) => {
-                let at = place_of(512, width, o, offset)?;
+                let at = place_of(FRAME_BYTES, width, o, offset)?;
                 read(&self.frame, at, width)
             }
             _ => None,
@@ -158,8 +157,10 @@ impl PlainRun {
 
     fn load(&mut self, context: &[u8], width: Width, dst: Reg, src: Reg, offset: i16) -> Progress
         requires place { self.old.place < 2 ^ 40 }
-        requires context { length context.now ≤ 256 }
-        ensures { (maps : ℕ) → Performs (Insn.Load width dst src offset) (environment context.now maps) self.old result self.new }
+        requires context { length context.now ≤ CTX_BYTES }
+        ensures { (maps : ℕ) →
+            Performs (Insn.Load width dst src offset) (environment context.now maps) self.old result
+            self.new }
     {
         match self.load_from(context, width, offset, self.register(src)) {
             Some(v) => self.set(1, dst, v),
@@ -176,8 +177,10 @@ impl PlainRun {
         offset: i16,
     ) -> Progress
         requires place { self.old.place < 2 ^ 40 }
-        requires context { length context.now ≤ 256 }
-        ensures { (maps : ℕ) → Performs (Insn.LoadSigned width dst src offset) (environment context.now maps) self.old result self.new }
+        requires context { length context.now ≤ CTX_BYTES }
+        ensures { (maps : ℕ) →
+            Performs (Insn.LoadSigned width dst src offset) (environment context.now maps) self.old
+            result self.new }
     {
         match self.load_from(context, width.width(), offset, self.register(src)) {
             Some(v) => match number(v) {
@@ -190,13 +193,14 @@ impl PlainRun {
 
     fn store_through(&mut self, width: Width, offset: i16, v: Value, r: Reference) -> Progress
         requires { self.old.place < 2 ^ 40 }
-        ensures { Comes (stored (state_of self.old) (byte_count width) offset v r) result self.old self.new }
+        ensures { Comes (stored (state_of self.old) (byte_count width) offset v r) result self.old
+            self.new }
     {
         let o = match r {
             Reference::Frame(o) => o,
             _ => return Progress::Stuck,
         };
-        match place_of(512, width, o, offset) {
+        match place_of(FRAME_BYTES, width, o, offset) {
             Some(at) if write(&mut self.frame, at, width, v) => {
                 self.place += 1;
                 Progress::Moved
@@ -207,7 +211,8 @@ impl PlainRun {
 
     fn store(&mut self, width: Width, offset: i16, v: Value, base: Value) -> Progress
         requires { self.old.place < 2 ^ 40 }
-        ensures { Comes (store_to (state_of self.old) (byte_count width) offset v base) result self.old self.new }
+        ensures { Comes (store_to (state_of self.old) (byte_count width) offset v base) result
+            self.old self.new }
     {
         match base {
             Value::Pointer(r) => self.store_through(width, offset, v, r),
@@ -227,18 +232,12 @@ impl PlainRun {
     /// What an instruction does to the run by itself. `Stuck` where it does nothing, as a call.
     pub fn perform(&mut self, insn: &Insn, context: &[u8], maps: usize) -> Progress
         requires place { self.old.place < 2 ^ 40 }
-        requires context { length context.now ≤ 256 }
+        requires context { length context.now ≤ CTX_BYTES }
         ensures { Performs insn.now (environment context.now maps) self.old result self.new }
     {
         match insn {
             Insn::Alu { op, size, dst, src } => self.alu(*op, *size, *dst, src),
-            Insn::MoveSigned {
-                extension,
-                dst,
-                src,
-            } => self.move_signed(*extension, *dst, *src),
-            Insn::Negate { size, dst } => self.negate(*size, *dst),
-            Insn::ByteSwap { order, width, dst } => self.byte_swap(*order, *width, *dst),
+            Insn::Unary { op, dst } => self.unary(op, *dst),
             Insn::LoadNumber { dst, number } => self.set(2, *dst, Value::Number(*number)),
             Insn::LoadMap { dst, map } => self.load_map(*dst, *map, maps),
             Insn::Jump { offset } => self.jump(i32::from(*offset)),
@@ -268,19 +267,10 @@ impl PlainRun {
                 width,
                 dst,
                 offset,
-                imm,
-            } => {
-                let base = self.register(*dst);
-                self.store(*width, *offset, Value::Number(immediate(*imm)), base)
-            }
-            Insn::StoreRegister {
-                width,
-                dst,
                 src,
-                offset,
             } => {
                 let base = self.register(*dst);
-                self.store(*width, *offset, self.register(*src), base)
+                self.store(*width, *offset, self.operand(src), base)
             }
         }
     }
@@ -312,8 +302,8 @@ impl PlainRun {
     /// `Stuck` where the definition has no step. `OutOfRange` where the step would leave a register with a
     /// reference whose offset does not fit 64 bits.
     pub fn step(&mut self, program: &[Insn], context: &[u8], maps: usize) -> Progress
-        requires program { slot_total program.now ≤ 4096 }
-        requires context { length context.now ≤ 256 }
+        requires program { slot_total program.now ≤ MAX_SLOTS }
+        requires context { length context.now ≤ CTX_BYTES }
         ensures { Tells program.now (environment context.now maps) self.old result self.new }
     {
         match insn_at(program, self.place) {

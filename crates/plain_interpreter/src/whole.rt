@@ -1,5 +1,6 @@
 //! Whole runs.
 ghost use Rattle.std.specs.Prelude.{◌≤◌, length};
+ghost use Rattle.bpf_model.specs.declared.limits.TheConstants.{CTX_BYTES, MAX_SLOTS};
 ghost use Rattle.bpf_model.specs.Spelling.{slot_total};
 ghost use Rattle.plain_interpreter.specs.Plain.{state_of, environment};
 ghost use Rattle.plain_interpreter.specs.Runs.{Ends};
@@ -20,8 +21,8 @@ pub enum Ending {
 impl PlainRun {
     /// Steps on until the run ends, or has made so many steps.
     pub fn run(&mut self, program: &[Insn], context: &[u8], maps: usize, limit: usize) -> Ending
-        requires program { slot_total program.now ≤ 4096 }
-        requires context { length context.now ≤ 256 }
+        requires program { slot_total program.now ≤ MAX_SLOTS }
+        requires context { length context.now ≤ CTX_BYTES }
         ensures { Ends program.now (environment context.now maps) (state_of self.old) limit result }
     {
         for done in 0..limit {

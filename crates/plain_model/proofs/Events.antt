@@ -6,22 +6,22 @@ use Rattle.bpf_model.specs.declared.event.Event.TheVariants as events
 use Rattle.bpf_model.specs.declared.event.Answer.{Answer}
 use Rattle.bpf_model.specs.declared.event.Answer.TheVariants.{Refused}
 use Rattle.bpf_model.specs.declared.event.EventRefusal.{EventRefusal}
-use Rattle.bpf_model.specs.Section.{Section}
 use Rattle.std.specs.Option.{option_map}
 use Rattle.bpf_model.specs.declared.event.Answer.TheVariants.{Found}
-use Rattle.plain_model.specs.Births.{Finds}
+use Rattle.plain_store.specs.Births.{Finds}
 use Rattle.bpf_model.specs.MapState.{Store, shape_of}
 use Rattle.bpf_model.specs.Machine.{Run, Machine, run_in, run_at, open_sections, with_runs, with_store}
-use Rattle.bpf_model.specs.MachineStep.{RunStep, StepsRun}
+use Rattle.bpf_model.specs.MachineStep.{StepsRun}
 use Rattle.std.proofs.lemmas.Bool.{eq-eqb}
 use Rattle.bpf_model.specs.declared.event.Answer.TheVariants.{Started}
 use Rattle.bpf_model.specs.declared.event.EventRefusal.TheVariants.{BadContext}
 use Rattle.bpf_model.specs.Machine.{Loaded, lowest_free, begins}
 use Rattle.arrayvec.specs.ArrayVec.{ArrayVec}
 use Rattle.bpf_model.specs.Event.{refusal, key_refusal, start_refusal, if_full, step_refusal, if_ended, Answers, Performs, Does}
-use Rattle.plain_model.specs.declared.steps.Fault.{Fault}
-use Rattle.plain_model.specs.Acting.{RunStepsAs, SlotStep, SlotStepsAs, DoesAs}
-use Rattle.plain_model.proofs.Telling.{tells-map}
+use Rattle.plain_store.specs.declared.fault.Fault.{Fault}
+use Rattle.plain_runs.specs.Acting.{SlotStep, SlotStepsAs}
+use Rattle.plain_model.specs.Following.{DoesAs}
+use Rattle.plain_store.proofs.Telling.{tells-map}
 
 pub does-refused : (m : Machine) (event : Event) (k : EventRefusal) → refusal m event ≡ Some k → Does m event (Refused k) m
 does-refused m event k h = subst (λ o. Answers o m event (Refused k) m) (sym h) (refl, refl)
@@ -31,11 +31,6 @@ does-performs m event answer new h p = subst (λ o. Answers o m event answer new
 
 does-only : (m : Machine) (event : Event) (answer : Answer) (new : Machine) → refusal m event ≡ None → Does m event answer new → Performs m event answer new
 does-only m event answer new h d = subst (λ o. Answers o m event answer new) h d
-
--- a step of the run that a slot has, under another name
-pub slot-steps : (s : Store) (opened : List Section) (run old new next : Run) (answer : Result Answer Fault) (t : Store) → old ≡ run → next ≡ new → RunStepsAs s opened run answer t new → SlotStepsAs s opened (Some old) answer t (Some next)
-slot-steps s opened run old new next answer t e f h =
-    tells-map _ _ _ _ answer (λ a k. (new, ap Some f, subst (λ r. RunStep s opened r a t new) (sym e) k)) (λ none a u q k. none a u k.0 (subst (λ r. RunStep s opened r a u k.0) e k.2)) h
 
 -- the run that is in a slot
 in-slot : (o : Option Run) (run : Run) → run_in (Some o) ≡ Some run → o ≡ Some run

@@ -13,11 +13,12 @@ use Rattle.bpf_model.specs.Schedule.{Schedule, advanced, is_any, first_ready, wi
 use Rattle.std.proofs.Common.{Ok, Err}
 use Rattle.std.specs.Prelude.{Result, IfOk, OnOk}
 use Rattle.bpf_model.specs.Schedule.{TakesOldest, DoesScheduled}
-use Rattle.plain_model.specs.declared.steps.Fault.{Fault}
-use Rattle.plain_model.specs.Acting.{DoesAs}
-use Rattle.plain_model.specs.Births.{ReclaimsTo}
-use Rattle.plain_model.specs.Listing.{settled, is_turn, FollowsLists}
-use Rattle.plain_model.proofs.Listing.{none-taken, set-get}
+use Rattle.plain_store.specs.declared.fault.Fault.{Fault}
+use Rattle.plain_model.specs.Following.{DoesAs}
+use Rattle.plain_store.specs.Births.{ReclaimsTo}
+use Rattle.plain_model.specs.Following.{settled, is_turn, FollowsLists}
+use Rattle.plain_store.proofs.Queueing.{none-taken}
+use Rattle.plain_store.proofs.Lists.{set-get}
 
 pub advance-follows : (s new : Schedule) → new.machine ≡ s.machine → new ≡ advanced s s.machine (is_any s.awaited) → FollowsLists s Advance Done new
 advance-follows s new same lists = record { first = tt; lists = lists ∙ ap (λ m. advanced s m (is_any s.awaited)) (sym same) }

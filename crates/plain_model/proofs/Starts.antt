@@ -4,8 +4,8 @@ use Rattle.std.specs.Prelude.{replicate}
 use Rattle.std.proofs.lemmas.List.{replicate-append-replicate}
 use Rattle.bpf_model.specs.declared.limits.MapShape.{MapShape}
 use Rattle.bpf_model.specs.Schedule.{Queues}
-use Rattle.plain_model.specs.declared.steps.Loaded.{Loaded}
-use Rattle.plain_model.specs.State.{runs_of}
+use Rattle.plain_runs.specs.declared.run.Loaded.{Loaded}
+use Rattle.plain_runs.specs.State.{runs_of}
 
 abbrev pub no_queues : Queues
 no_queues = record { next = []; waiting = []; ready = [] }

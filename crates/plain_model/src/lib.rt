@@ -9,19 +9,11 @@
 //! where that machine has no step. It tests at run time what a runtime would have proved beforehand: the
 //! kinds of values, and that the grace period of an element has ended. Where a count or an offset would
 //! leave 64 bits it gives up and says so.
+//!
+//! Elements, maps and lists are those of `plain_store`, runs and their steps those of `plain_runs`.
 #![tactic(auto)]
 
+mod grace;
 mod machine;
-mod run;
-mod steps;
-mod store;
 
-pub use machine::{Machine, Queues, Totals};
-pub use run::Run;
-pub use steps::{Fault, Loaded};
-pub use store::{Element, Life, MapState, Section, Store};
-
-#[cfg(test)]
-mod programs;
-#[cfg(test)]
-mod tests;
+pub use machine::{Machine, Totals};

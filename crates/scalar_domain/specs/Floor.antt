@@ -1,4 +1,5 @@
--- How narrow the results are, at least: what `apply` and `refine` promise, and what a crate above can promise of registers.
+-- How narrow the results are, at least: what `apply` and `refine` promise, and what a crate above
+-- can promise of registers.
 use Rattle.std.specs.Prelude.{◌≡◌, ℕ, ◌<◌, ◌^◌, Bool}
 use Rattle.std.specs.Int.{w64}
 use mir.Val.{bits}
@@ -28,11 +29,14 @@ pub record KeepsFloor (size : Size) (op : AluOp) (a b result : Scalar) : Type 0 
   pub narrow : size ≡ Word32 → result.greatest < 2 ^ 32
   pub sum : size ≡ Word64 → op ≡ Add → Adds a b result
   pub mask : (k : ℕ) → size ≡ Word64 → op ≡ And → IsConstant b k → Masks k result
-  pub shift_left : (k : ℕ) → size ≡ Word64 → op ≡ ShiftLeft → IsConstant b k → k < 64 → ShiftsLeft k a result
-  pub shift_right : (k : ℕ) → size ≡ Word64 → op ≡ ShiftRight → IsConstant b k → k < 64 → ShiftsRight k a result
+  pub shift_left : (k : ℕ) → size ≡ Word64 → op ≡ ShiftLeft → IsConstant b k → k < 64
+      → ShiftsLeft k a result
+  pub shift_right : (k : ℕ) → size ≡ Word64 → op ≡ ShiftRight → IsConstant b k → k < 64
+      → ShiftsRight k a result
   pub remainder : (k : ℕ) → size ≡ Word64 → op ≡ Mod → IsConstant b k → 0 < k → result.greatest < k
 
--- How many bits the result of an operation of one operand has; a byte swap of 64 bits has them all, whatever its class.
+-- How many bits the result of an operation of one operand has; a byte swap of 64 bits has them all,
+-- whatever its class.
 abbrev pub result_bits : UnaryOp → ℕ
 result_bits (Negate Word32) = 32
 result_bits (Negate Word64) = 64
@@ -46,8 +50,12 @@ pub record KeepsUnaryFloor (op : UnaryOp) (a result : Scalar) : Type 0 where
   pub constant : (x : ℕ) → IsConstant a x → IsConstant result (unary op x)
   pub narrow : result.greatest < 2 ^ result_bits op
 
--- What remains of both sides of a comparison, on one of its edges, is at least this narrow.
-pub record KeepsEdgeFloor (size : Size) (c : Condition) (taken : Bool) (a b left right : Scalar) : Type 0 where
+-- What remains of both sides of a comparison, on one of its edges, is at least this narrow. By a
+-- constant the unsigned orders and equality move the bounds, where a number between them goes along
+-- the edge; where none does, no bounds could.
+pub record KeepsEdgeFloor (size : Size) (c : Condition) (taken : Bool) (a b left right : Scalar)
+    : Type 0 where
   pub no_wider_left : IsNoWider left a
   pub no_wider_right : IsNoWider right b
-  pub bounds : (k x : ℕ) → size ≡ Word64 → MovesBounds c taken → IsConstant b k → IsBetween a x → holds w64 c x k ≡ taken → GoesAlong c taken left k
+  pub bounds : (k x : ℕ) → size ≡ Word64 → MovesBounds c taken → IsConstant b k → IsBetween a x
+      → holds w64 c x k ≡ taken → GoesAlong c taken left k

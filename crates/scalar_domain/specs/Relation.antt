@@ -24,7 +24,8 @@ Bounding Apart = ⊥
 Bounding Unknown = ⊥
 Bounding relation = Unit {0}
 
--- The relation on the edge where a condition holds, or where it does not; of a signed one nothing is said.
+-- The relation on the edge where a condition holds, or where it does not; of a signed one nothing
+-- is said.
 abbrev pub relation_on : Condition → Bool → Relation
 relation_on condition.Equal true = Equal
 relation_on condition.NotEqual false = Equal
@@ -54,8 +55,8 @@ signed_order condition.SignedGreater = true
 signed_order condition.SignedGreaterOrEqual = true
 signed_order other = false
 
--- An order of two numbers as signed words, whose sign bit is worth this much: where the lesser has no sign, the greater
--- has none, and they are in that order.
+-- An order of two numbers as signed words, whose sign bit is worth this much: where the lesser has
+-- no sign, the greater has none, and they are in that order.
 abbrev pub SignedRelated : ℕ → Relation → ℕ → ℕ → Type 0
 SignedRelated sign Below x y = x < sign → (x < y) × (y < sign)
 SignedRelated sign AtMost x y = x < sign → (x ≤ y) × (y < sign)
@@ -63,7 +64,8 @@ SignedRelated sign Above x y = y < sign → (y < x) × (x < sign)
 SignedRelated sign AtLeast x y = y < sign → (y ≤ x) × (x < sign)
 SignedRelated sign other x y = Unit {0}
 
--- The edges on which a comparison with a constant moves the bounds: those of the unsigned orders, and of equality.
+-- The edges on which a comparison with a constant moves the bounds: those of the unsigned orders,
+-- and of equality.
 abbrev pub MovesBounds : Condition → Bool → Type 0
 MovesBounds condition.Less taken = Unit {0}
 MovesBounds condition.LessOrEqual taken = Unit {0}

@@ -17,7 +17,8 @@ pub record IsConstant (s : Scalar) (n : ℕ) : Type 0 where
   pub zeros : Within n s.may
   pub ones : Within s.must n
 
--- The bounds of the one lie within those of the other, and each bit that is known in the other is known in it.
+-- The bounds of the one lie within those of the other, and each bit that is known in the other is
+-- known in it.
 pub record IsNoWider (s wide : Scalar) : Type 0 where
   pub least : wide.least ≤ s.least
   pub greatest : s.greatest ≤ wide.greatest

@@ -13,10 +13,11 @@ use crate::scalar::Scalar;
 use bpf_model::{AluOp, Size};
 
 impl Scalar {
-    /// What an operation can give, on 64 bits or on the low 32. It gives the constant of two constants, and
-    /// on 64 bits it is as narrow as `specs/Precision.antt` says.
+    /// What an operation can give, on 64 bits or on the low 32: at least as narrow as
+    /// `specs/Floor.antt` says, so of two constants the constant.
     pub fn apply(size: Size, op: AluOp, a: Scalar, b: Scalar) -> Scalar
-        ensures sound { (x y : ℕ) → x < 2 ^ 64 → y < 2 ^ 64 → Holds a x → Holds b y → Holds result (alu size op x y) }
+        ensures sound { (x y : ℕ) → x < 2 ^ 64 → y < 2 ^ 64 → Holds a x → Holds b y
+            → Holds result (alu size op x y) }
         ensures floor { KeepsFloor size op a b result }
     {
         match (a.as_constant(), b.as_constant()) {
@@ -31,11 +32,14 @@ impl Scalar {
 
 /// What an operation on 64 bits can give.
 fn apply_wide(op: AluOp, a: Scalar, b: Scalar) -> Scalar
-    ensures sound { (x y : ℕ) → x < 2 ^ 64 → y < 2 ^ 64 → Holds a x → Holds b y → Holds result (operate w64 op x y) }
+    ensures sound { (x y : ℕ) → x < 2 ^ 64 → y < 2 ^ 64 → Holds a x → Holds b y
+        → Holds result (operate w64 op x y) }
     ensures sum { op ≡ Add → Adds a b result }
     ensures mask { (k : ℕ) → op ≡ And → IsConstant b k → Masks k result }
-    ensures shift_left { (k : ℕ) → op ≡ ShiftLeft → IsConstant b k → k < 64 → ShiftsLeft k a result }
-    ensures shift_right { (k : ℕ) → op ≡ ShiftRight → IsConstant b k → k < 64 → ShiftsRight k a result }
+    ensures shift_left { (k : ℕ) → op ≡ ShiftLeft → IsConstant b k → k < 64
+        → ShiftsLeft k a result }
+    ensures shift_right { (k : ℕ) → op ≡ ShiftRight → IsConstant b k → k < 64
+        → ShiftsRight k a result }
     ensures remainder { (k : ℕ) → op ≡ Mod → IsConstant b k → 0 < k → result.greatest < k }
 {
     if a.greatest < 1 << 63 && b.greatest < 1 << 63 {
@@ -47,7 +51,8 @@ fn apply_wide(op: AluOp, a: Scalar, b: Scalar) -> Scalar
 
 /// What an operation on the low 32 bits can give, of numbers below 2^32.
 fn apply_narrow(op: AluOp, a: Scalar, b: Scalar) -> Scalar
-    ensures sound { (x y : ℕ) → x < 2 ^ 32 → y < 2 ^ 32 → Holds a x → Holds b y → Holds result (operate w32 op x y) }
+    ensures sound { (x y : ℕ) → x < 2 ^ 32 → y < 2 ^ 32 → Holds a x → Holds b y
+        → Holds result (operate w32 op x y) }
     ensures bound { result.greatest < 2 ^ 32 }
 {
     if a.greatest < 1 << 31 && b.greatest < 1 << 31 {
@@ -71,11 +76,14 @@ fn without_sign(op: AluOp) -> AluOp
 
 /// What an operation on 64 bits can give; of a signed one nothing is known.
 fn apply_unsigned(op: AluOp, a: Scalar, b: Scalar) -> Scalar
-    ensures sound { (x y : ℕ) → x < 2 ^ 64 → y < 2 ^ 64 → Holds a x → Holds b y → Holds result (operate w64 op x y) }
+    ensures sound { (x y : ℕ) → x < 2 ^ 64 → y < 2 ^ 64 → Holds a x → Holds b y
+        → Holds result (operate w64 op x y) }
     ensures sum { op ≡ Add → Adds a b result }
     ensures mask { (k : ℕ) → op ≡ And → IsConstant b k → Masks k result }
-    ensures shift_left { (k : ℕ) → op ≡ ShiftLeft → IsConstant b k → k < 64 → ShiftsLeft k a result }
-    ensures shift_right { (k : ℕ) → op ≡ ShiftRight → IsConstant b k → k < 64 → ShiftsRight k a result }
+    ensures shift_left { (k : ℕ) → op ≡ ShiftLeft → IsConstant b k → k < 64
+        → ShiftsLeft k a result }
+    ensures shift_right { (k : ℕ) → op ≡ ShiftRight → IsConstant b k → k < 64
+        → ShiftsRight k a result }
     ensures remainder { (k : ℕ) → op ≡ Mod → IsConstant b k → 0 < k → result.greatest < k }
 {
     match op {
@@ -96,7 +104,8 @@ fn apply_unsigned(op: AluOp, a: Scalar, b: Scalar) -> Scalar
 
 /// What an operation on 32 bits can give, of numbers below 2^32; of a signed one nothing is known.
 fn apply_short(op: AluOp, a: Scalar, b: Scalar) -> Scalar
-    ensures sound { (x y : ℕ) → x < 2 ^ 32 → y < 2 ^ 32 → Holds a x → Holds b y → Holds result (operate w32 op x y) }
+    ensures sound { (x y : ℕ) → x < 2 ^ 32 → y < 2 ^ 32 → Holds a x → Holds b y
+        → Holds result (operate w32 op x y) }
     ensures bound { result.greatest < 2 ^ 32 }
 {
     match op {

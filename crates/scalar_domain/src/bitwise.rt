@@ -147,7 +147,8 @@ impl Scalar {
     pub(crate) fn shift_left_by(self, amount: Scalar, size: u64) -> Scalar
         requires positive { 0 < size }
         requires word { size ≤ 64 }
-        ensures sound { (x y : ℕ) → x < 2 ^ 64 → Holds self x → Holds amount y → Holds result ((x * 2 ^ (y % size)) % 2 ^ 64) }
+        ensures sound { (x y : ℕ) → x < 2 ^ 64 → Holds self x → Holds amount y
+            → Holds result ((x * 2 ^ (y % size)) % 2 ^ 64) }
         ensures precise { (k : ℕ) → IsConstant amount k → k < size → ShiftsLeft k self result }
     {
         match amount.as_constant() {
@@ -160,7 +161,8 @@ impl Scalar {
     pub(crate) fn shift_right_by(self, amount: Scalar, size: u64) -> Scalar
         requires positive { 0 < size }
         requires word { size ≤ 64 }
-        ensures sound { (x y : ℕ) → Holds self x → Holds amount y → Holds result (x / 2 ^ (y % size)) }
+        ensures sound { (x y : ℕ) → Holds self x → Holds amount y
+            → Holds result (x / 2 ^ (y % size)) }
         ensures precise { (k : ℕ) → IsConstant amount k → k < size → ShiftsRight k self result }
     {
         match amount.as_constant() {

@@ -1,7 +1,8 @@
-//! Sets of 64-bit numbers, for the verifier: bounds and known bits, with every operation of the machine.
+//! Sets of 64-bit numbers, for the verifier: bounds and known bits, with every operation of the
+//! machine.
 //!
-//! `specs/Scalar.antt` says when a scalar holds a number. Each operation is sound: what it returns holds
-//! every result of the operation of numbers that its arguments hold.
+//! `specs/Scalar.antt` says when a scalar holds a number. Each operation is sound: what it returns
+//! holds every result of the operation of numbers that its arguments hold.
 #![tactic(auto)]
 
 mod apply;
@@ -13,6 +14,3 @@ mod scalar;
 mod sums;
 
 pub use scalar::Scalar;
-
-#[cfg(test)]
-mod tests;

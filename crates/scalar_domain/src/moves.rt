@@ -9,8 +9,8 @@ use crate::scalar::Scalar;
 use bpf_model::{ByteOrder, SignExtension, SignedWidth, Size, SwapWidth, UnaryOp};
 
 impl Scalar {
-    /// What an operation of one operand can give: of a constant the constant, and no more bits than the
-    /// operation's result has.
+    /// What an operation of one operand can give: of a constant the constant, and no more bits than
+    /// the operation's result has.
     pub fn unary(op: UnaryOp, a: Scalar) -> Scalar
         ensures sound { (x : ℕ) → x < 2 ^ 64 → Holds a x → Holds result (unary op x) }
         ensures floor { KeepsUnaryFloor op a result }
@@ -38,7 +38,8 @@ impl Scalar {
 
     /// What a byte swap can give.
     fn byte_swap(self, order: ByteOrder, width: SwapWidth) -> Scalar
-        ensures sound { (x : ℕ) → x < 2 ^ 64 → Holds self x → Holds result (reordered order width x) }
+        ensures sound { (x : ℕ) → x < 2 ^ 64 → Holds self x
+            → Holds result (reordered order width x) }
         ensures narrow { result.greatest < 2 ^ result_bits (ByteSwap order width) }
     {
         match (order, width) {
@@ -53,7 +54,8 @@ impl Scalar {
 
     /// What a move with sign extension can give. Numbers whose sign bit is 0 stay as they are.
     fn move_signed(self, extension: SignExtension) -> Scalar
-        ensures sound { (x : ℕ) → x < 2 ^ 64 → Holds self x → Holds result (moved_signed extension x) }
+        ensures sound { (x : ℕ) → x < 2 ^ 64 → Holds self x
+            → Holds result (moved_signed extension x) }
         ensures narrow { (src : ℕ) → result.greatest < 2 ^ result_bits (MoveSigned extension src) }
     {
         let limit = match extension {
@@ -72,8 +74,8 @@ impl Scalar {
         }
     }
 
-    /// What a sign-extending load of this width can give, whatever it reads. A negative number has its high
-    /// bits, so no bound is known.
+    /// What a sign-extending load of this width can give, whatever it reads. A negative number has
+    /// its high bits, so no bound is known.
     pub fn load_signed(_width: SignedWidth) -> Scalar
         ensures sound { (n : ℕ) → Holds result (loaded_signed _width n) }
     {

@@ -13,8 +13,8 @@ use crate::scalar::Scalar;
 use bpf_model::{Condition, Size};
 
 impl Scalar {
-    /// What remains of two sets on the edge of a conditional jump where it is taken, or where it is not.
-    /// Where no number remains between the bounds of a side, both sets stay as they are.
+    /// What remains of two sets on the edge of a conditional jump where it is taken, or where it is
+    /// not. Where no number remains between the bounds of a side, both sets stay as they are.
     pub fn refine(
         size: Size,
         condition: Condition,
@@ -22,7 +22,8 @@ impl Scalar {
         b: Scalar,
         taken: bool,
     ) -> (Scalar, Scalar)
-        ensures sound { (x y : ℕ) → x < 2 ^ 64 → y < 2 ^ 64 → Holds a x → Holds b y → compares size condition x y ≡ taken → AreHeld x y result }
+        ensures sound { (x y : ℕ) → x < 2 ^ 64 → y < 2 ^ 64 → Holds a x → Holds b y
+            → compares size condition x y ≡ taken → AreHeld x y result }
         ensures floor { KeepsEdgeFloor size condition taken a b result.0 result.1 }
     {
         match refine_words(size, condition, a, b, taken) {
@@ -33,7 +34,8 @@ impl Scalar {
 
     /// The numbers between two bounds, where any are left.
     fn clip(self, least: u64, greatest: u64) -> Option<Scalar>
-        ensures sound { (x : ℕ) → Holds self x → least ≤ x → x ≤ greatest → IfSome result (λ r. Holds r x) }
+        ensures sound { (x : ℕ) → Holds self x → least ≤ x → x ≤ greatest
+            → IfSome result (λ r. Holds r x) }
         ensures no_wider { IfSome result (λ r. IsNoWider r self) }
         ensures bounds { IfSome result (λ r. (least ≤ r.least) × (r.greatest ≤ greatest)) }
         ensures found { (x : ℕ) → IsBetween self x → least ≤ x → x ≤ greatest → IsSome result }
@@ -46,7 +48,8 @@ impl Scalar {
         Some(Scalar::new(least, greatest, self.may, self.must))
     }
 
-    /// The numbers whose bits are also within these masks. Where no number has such bits, it stays as it is.
+    /// The numbers whose bits are also within these masks. Where no number has such bits, it stays
+    /// as it is.
     fn with_bits(self, may: u64, must: u64) -> Scalar
         ensures sound { (x : ℕ) → Holds self x → Within x may → Within must x → Holds result x }
         ensures no_wider { IsNoWider result self }
@@ -70,9 +73,12 @@ fn refine_words(
     b: Scalar,
     taken: bool,
 ) -> Option<(Scalar, Scalar)>
-    ensures sound { (x y : ℕ) → x < 2 ^ 64 → y < 2 ^ 64 → Holds a x → Holds b y → compares size condition x y ≡ taken → IfSome result (AreHeld x y) }
+    ensures sound { (x y : ℕ) → x < 2 ^ 64 → y < 2 ^ 64 → Holds a x → Holds b y
+        → compares size condition x y ≡ taken → IfSome result (AreHeld x y) }
     ensures no_wider { IfSome result (AreNoWider a b) }
-    ensures bounds { (k x : ℕ) → size ≡ Word64 → MovesBounds condition taken → IsConstant b k → IsBetween a x → holds w64 condition x k ≡ taken → IsSomeAnd result (λ p. GoesAlong condition taken p.0 k) }
+    ensures bounds { (k x : ℕ) → size ≡ Word64 → MovesBounds condition taken → IsConstant b k
+        → IsBetween a x → holds w64 condition x k ≡ taken
+        → IsSomeAnd result (λ p. GoesAlong condition taken p.0 k) }
 {
     match size {
         Size::Word64 => refine_wide(condition, a, b, taken),
@@ -87,9 +93,12 @@ fn refine_words(
 }
 
 fn refine_wide(condition: Condition, a: Scalar, b: Scalar, taken: bool) -> Option<(Scalar, Scalar)>
-    ensures sound { (x y : ℕ) → x < 2 ^ 64 → y < 2 ^ 64 → Holds a x → Holds b y → holds w64 condition x y ≡ taken → IfSome result (AreHeld x y) }
+    ensures sound { (x y : ℕ) → x < 2 ^ 64 → y < 2 ^ 64 → Holds a x → Holds b y
+        → holds w64 condition x y ≡ taken → IfSome result (AreHeld x y) }
     ensures no_wider { IfSome result (AreNoWider a b) }
-    ensures bounds { (k x : ℕ) → MovesBounds condition taken → IsConstant b k → IsBetween a x → holds w64 condition x k ≡ taken → IsSomeAnd result (λ p. GoesAlong condition taken p.0 k) }
+    ensures bounds { (k x : ℕ) → MovesBounds condition taken → IsConstant b k → IsBetween a x
+        → holds w64 condition x k ≡ taken
+        → IsSomeAnd result (λ p. GoesAlong condition taken p.0 k) }
 {
     if is_signed(condition) {
         let relation = relation_of(condition_without_sign(condition), taken);
@@ -106,7 +115,8 @@ fn refine_narrow(
     b: Scalar,
     taken: bool,
 ) -> Option<(Scalar, Scalar)>
-    ensures sound { (x y : ℕ) → x < 2 ^ 32 → y < 2 ^ 32 → Holds a x → Holds b y → holds w32 condition x y ≡ taken → IfSome result (AreHeld x y) }
+    ensures sound { (x y : ℕ) → x < 2 ^ 32 → y < 2 ^ 32 → Holds a x → Holds b y
+        → holds w32 condition x y ≡ taken → IfSome result (AreHeld x y) }
     ensures no_wider { IfSome result (AreNoWider a b) }
 {
     if is_signed(condition) {
@@ -117,10 +127,12 @@ fn refine_narrow(
     }
 }
 
-/// As `relate`, by the order of signed numbers, which tells something where the lesser side has no sign.
+/// As `relate`, by the order of signed numbers, which tells something where the lesser side has no
+/// sign.
 fn relate_signed(relation: Relation, a: Scalar, b: Scalar, sign: u64) -> Option<(Scalar, Scalar)>
     requires { 0 < sign }
-    ensures sound { (x y : ℕ) → x < 2 ^ 64 → y < 2 ^ 64 → Holds a x → Holds b y → SignedRelated sign relation x y → IfSome result (AreHeld x y) }
+    ensures sound { (x y : ℕ) → x < 2 ^ 64 → y < 2 ^ 64 → Holds a x → Holds b y
+        → SignedRelated sign relation x y → IfSome result (AreHeld x y) }
     ensures no_wider { IfSome result (AreNoWider a b) }
 {
     match relation {
@@ -138,11 +150,15 @@ fn relate_signed(relation: Relation, a: Scalar, b: Scalar, sign: u64) -> Option<
     }
 }
 
-/// The numbers that stand in this relation to one of the other side; `None` where there are none by the bounds.
+/// The numbers that stand in this relation to one of the other side; `None` where there are none by
+/// the bounds.
 fn relate(relation: Relation, a: Scalar, b: Scalar) -> Option<(Scalar, Scalar)>
-    ensures sound { (x y : ℕ) → x < 2 ^ 64 → y < 2 ^ 64 → Holds a x → Holds b y → Related relation x y → IfSome result (AreHeld x y) }
+    ensures sound { (x y : ℕ) → x < 2 ^ 64 → y < 2 ^ 64 → Holds a x → Holds b y
+        → Related relation x y → IfSome result (AreHeld x y) }
     ensures no_wider { IfSome result (AreNoWider a b) }
-    ensures bounds { (k x : ℕ) → IsConstant b k → IsBetween a x → Bounding relation → Related relation x k → IsSomeAnd result (λ p. Related relation p.0.least k × Related relation p.0.greatest k) }
+    ensures bounds { (k x : ℕ) → IsConstant b k → IsBetween a x → Bounding relation
+        → Related relation x k
+        → IsSomeAnd result (λ p. Related relation p.0.least k × Related relation p.0.greatest k) }
 {
     match relation {
         Relation::Below => below(a, b),
@@ -178,7 +194,8 @@ fn equal(a: Scalar, b: Scalar) -> Option<(Scalar, Scalar)>
 
 /// The numbers that are at most one of the other side, and those that are at least one.
 fn at_most(a: Scalar, b: Scalar) -> Option<(Scalar, Scalar)>
-    ensures sound { (x y : ℕ) → y < 2 ^ 64 → Holds a x → Holds b y → x ≤ y → IfSome result (AreHeld x y) }
+    ensures sound { (x y : ℕ) → y < 2 ^ 64 → Holds a x → Holds b y → x ≤ y
+        → IfSome result (AreHeld x y) }
     ensures no_wider { IfSome result (AreNoWider a b) }
     ensures left { IfSome result (λ p. p.0.greatest ≤ b.greatest) }
     ensures right { IfSome result (λ p. a.least ≤ p.1.least) }
@@ -191,7 +208,8 @@ fn at_most(a: Scalar, b: Scalar) -> Option<(Scalar, Scalar)>
 
 /// The numbers that are below one of the other side, and those that are above one.
 fn below(a: Scalar, b: Scalar) -> Option<(Scalar, Scalar)>
-    ensures sound { (x y : ℕ) → y < 2 ^ 64 → Holds a x → Holds b y → x < y → IfSome result (AreHeld x y) }
+    ensures sound { (x y : ℕ) → y < 2 ^ 64 → Holds a x → Holds b y → x < y
+        → IfSome result (AreHeld x y) }
     ensures no_wider { IfSome result (AreNoWider a b) }
     ensures left { IfSome result (λ p. p.0.greatest < b.greatest) }
     ensures right { IfSome result (λ p. a.least < p.1.least) }

@@ -5,9 +5,9 @@ ghost use Rattle.scalar_domain.specs.Mask.{Within};
 
 use bpf_model::Width;
 
-/// A set of 64-bit numbers: those from `least` to `greatest` whose ones all stand in `may` and which have
-/// all the ones of `must`. So a bit that is 0 in `may` is known to be 0, and one that is 1 in `must` is
-/// known to be 1. The bounds are in order, and no bit is known to be both.
+/// A set of 64-bit numbers: those from `least` to `greatest` whose ones all stand in `may` and
+/// which have all the ones of `must`. So a bit that is 0 in `may` is known to be 0, and one that is
+/// 1 in `must` is known to be 1. The bounds are in order, and no bit is known to be both.
 #[derive(Clone, Copy, Debug, PartialEq, Eq)]
 pub struct Scalar {
     pub least: u64,
@@ -20,13 +20,15 @@ pub struct Scalar {
 
 impl Scalar {
     ghost use Rattle.scalar_domain.specs.Scalar.{Holds, IsConstant};
+    ghost use Rattle.scalar_domain.specs.Constant.{constant_of};
     ghost use Rattle.scalar_domain.specs.Floor.{KeepsLoadFloor};
 
     /// The numbers between two bounds, by what bits may and must be one.
     pub(crate) fn new(least: u64, greatest: u64, may: u64, must: u64) -> Scalar
         requires ordered { least ≤ greatest }
         requires consistent { Within must may }
-        ensures sound { (n : ℕ) → least ≤ n → n ≤ greatest → Within n may → Within must n → Holds result n }
+        ensures sound { (n : ℕ) → least ≤ n → n ≤ greatest → Within n may → Within must n
+            → Holds result n }
         ensures least { result.least ≡ least }
         ensures greatest { result.greatest ≡ greatest }
         ensures zeros { result.may ≡ may }
@@ -43,6 +45,7 @@ impl Scalar {
     /// This number alone.
     #[tactic(auto, using(crate::proofs::Bits::bits_laws))]
     pub fn constant(n: u64) -> Scalar
+        ensures value { result ≡ constant_of n }
         ensures sound { Holds result n }
         ensures exact { IsConstant result n }
         ensures zeros { result.may ≡ n }
@@ -76,7 +79,8 @@ impl Scalar {
         Scalar::new(0, greatest, greatest, 0)
     }
 
-    /// The numbers of both sets, and those between: the hull of the bounds, and the bits that agree.
+    /// The numbers of both sets, and those between: the hull of the bounds, and the bits that
+    /// agree.
     #[tactic(auto, using(crate::proofs::Bits::bits_laws))]
     pub fn join(self, other: Scalar) -> Scalar
         ensures left { (n : ℕ) → Holds self n → Holds result n }

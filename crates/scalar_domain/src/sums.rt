@@ -8,7 +8,8 @@ use crate::scalar::Scalar;
 
 /// All ones from the lowest one of the mask up.
 pub(crate) fn ones_from(mask: u64) -> u64
-    ensures multiples { (n : ℕ) → n < 2 ^ 64 → ((t : ℕ) → t ≤ 64 → mask % 2 ^ t ≡ 0 → n % 2 ^ t ≡ 0) → Within n result }
+    ensures multiples { (n : ℕ) → n < 2 ^ 64
+        → ((t : ℕ) → t ≤ 64 → mask % 2 ^ t ≡ 0 → n % 2 ^ t ≡ 0) → Within n result }
     ensures zeros { (t : ℕ) → t ≤ 64 → mask % 2 ^ t ≡ 0 → result % 2 ^ t ≡ 0 }
 {
     if mask == 0 {
@@ -31,10 +32,11 @@ impl Scalar {
         Scalar::new(least, greatest, may, 0)
     }
 
-    /// Low bits that are 0 in both stay 0 in the sum. The bounds are those of the sum where none of the
-    /// sums wraps, or where all do.
+    /// Low bits that are 0 in both stay 0 in the sum. The bounds are those of the sum where none of
+    /// the sums wraps, or where all do.
     pub(crate) fn add(self, other: Scalar) -> Scalar
-        ensures sound { (x y : ℕ) → x < 2 ^ 64 → y < 2 ^ 64 → Holds self x → Holds other y → Holds result ((x + y) % 2 ^ 64) }
+        ensures sound { (x y : ℕ) → x < 2 ^ 64 → y < 2 ^ 64 → Holds self x → Holds other y
+            → Holds result ((x + y) % 2 ^ 64) }
         ensures precise { Adds self other result }
     {
         let may = ones_from(self.may | other.may);
@@ -51,7 +53,8 @@ impl Scalar {
 
     /// As for a sum, by whether a difference is below zero.
     pub(crate) fn subtract(self, other: Scalar) -> Scalar
-        ensures { (x y : ℕ) → x < 2 ^ 64 → y < 2 ^ 64 → Holds self x → Holds other y → Holds result ((x + (2 ^ 64 - y)) % 2 ^ 64) }
+        ensures { (x y : ℕ) → x < 2 ^ 64 → y < 2 ^ 64 → Holds self x → Holds other y
+            → Holds result ((x + (2 ^ 64 - y)) % 2 ^ 64) }
     {
         let may = ones_from(self.may | other.may);
         let least = self.least.wrapping_sub(other.greatest);
@@ -67,7 +70,8 @@ impl Scalar {
 
     /// Low bits that are 0 in a factor are 0 in the product.
     pub(crate) fn multiply(self, other: Scalar) -> Scalar
-        ensures { (x y : ℕ) → x < 2 ^ 64 → y < 2 ^ 64 → Holds self x → Holds other y → Holds result ((x * y) % 2 ^ 64) }
+        ensures { (x y : ℕ) → x < 2 ^ 64 → y < 2 ^ 64 → Holds self x → Holds other y
+            → Holds result ((x * y) % 2 ^ 64) }
     {
         let may = ones_from(self.may) & ones_from(other.may);
         match self.greatest.checked_mul(other.greatest) {
@@ -78,7 +82,8 @@ impl Scalar {
 
     /// A quotient by zero is 0.
     pub(crate) fn divide(self, other: Scalar) -> Scalar
-        ensures { (x y : ℕ) → Holds self x → Holds other y → Holds result (if y == 0 then 0 else x / y) }
+        ensures { (x y : ℕ) → Holds self x → Holds other y
+            → Holds result (if y == 0 then 0 else x / y) }
     {
         if other.least == 0 {
             Scalar::between(0, self.greatest)
@@ -92,7 +97,8 @@ impl Scalar {
 
     /// A remainder by zero is the dividend.
     pub(crate) fn remainder(self, other: Scalar) -> Scalar
-        ensures sound { (x y : ℕ) → Holds self x → Holds other y → Holds result (if y == 0 then x else x % y) }
+        ensures sound { (x y : ℕ) → Holds self x → Holds other y
+            → Holds result (if y == 0 then x else x % y) }
         ensures precise { (k : ℕ) → IsConstant other k → 0 < k → result.greatest < k }
     {
         if other.least == 0 {

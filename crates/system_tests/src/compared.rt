@@ -147,11 +147,12 @@ fn same_frame(plain: &PlainRun, run: &Run) -> bool {
     true
 }
 
-/// Whether both stand before the same instruction, with the same numbers.
-fn same(plain: &PlainRun, run: &Run, verified: &Verified) -> bool {
+/// Whether both stand before the same instruction, with the same numbers, after so many moves.
+fn same(plain: &PlainRun, run: &Run, verified: &Verified, moves: usize) -> bool {
     let program = verified.program();
-    run.place() < program.len()
-        && program.start(run.place()) == plain.place()
+    run.index() < program.len()
+        && program.start(run.index()) == plain.place()
+        && run.moved() == moves
         && same_registers(plain, run)
         && same_frame(plain, run)
 }
@@ -163,16 +164,17 @@ fn stepped(verified: &Verified, ctx: &CtxBytes) -> Option<u64>
     let mut run = Run::start(verified, ctx);
     let mut plain = PlainRun::entry();
     let instructions = verified.program().instructions();
-    for _ in 0..instructions.len() {
+    for moves in 0..instructions.len() {
         let progress = plain.step(instructions, ctx.as_slice(), verified.shapes().len());
         match run.local_step(verified) {
             Local::Moved => {
-                if progress != Progress::Moved || !same(&plain, &run, verified) {
+                if progress != Progress::Moved || !same(&plain, &run, verified, moves + 1) {
                     return None;
                 }
             }
             Local::Exit(value) => {
-                return if progress == Progress::Exited(value) {
+                let same_context = run.context().as_slice() == ctx.as_slice();
+                return if progress == Progress::Exited(value) && same_context {
                     Some(value)
                 } else {
                     None

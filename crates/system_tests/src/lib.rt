@@ -13,8 +13,18 @@ mod kinds;
 #[cfg(test)]
 mod long;
 #[cfg(test)]
+mod model_programs;
+#[cfg(test)]
+mod models;
+#[cfg(test)]
+mod numbers;
+#[cfg(test)]
 mod orders;
 #[cfg(test)]
+mod refusals;
+#[cfg(test)]
 mod rows;
+#[cfg(test)]
+mod sets;
 #[cfg(test)]
 mod text;

@@ -32,6 +32,7 @@ use Rattle.bpf_model.specs.MachineStep.{AccessesElement, element_store, NeverStu
 use Rattle.model_laws.specs.Example.{lookup_and_load, example_shape}
 use Rattle.scalar_domain.specs.Scalar.{Holds}
 use Rattle.scalar_domain.specs.declared.scalar.Scalar.{Scalar}
+use Rattle.scalar_domain.specs.Constant.{constant_of}
 use Rattle.typed_runs.specs.Kinds.{Kind, Blank, Num, FrameAt, MapAt, MaybeNull, CellKind, BlankCell, ByteCell, AbsState}
 use Rattle.bpf_model.specs.Near.{IsNear}
 use Rattle.typed_runs.specs.Describes.{Scene, Naming, Stored, HasOffset, IsOf, IsOfCell, AreNear, Describes}
@@ -80,10 +81,10 @@ computes i dst kind v a c env m f one alone ne is d p n = record {
 }
 
 abbrev pub zero_scalar : Scalar
-zero_scalar = record { least = 0; greatest = 0; may = 0; must = 0 }
+zero_scalar = constant_of 0
 
 abbrev pub origin : Scalar
-origin = record { least = 536870912; greatest = 536870912; may = 536870912; must = 536870912 }
+origin = constant_of 536870912
 
 holds-zero : Holds zero_scalar 0
 holds-zero = record { least = omega arith; greatest = omega arith; zeros = refl; ones = refl }

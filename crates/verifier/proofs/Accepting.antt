@@ -1,9 +1,10 @@
 -- A plain program meets no refusal but for want of memory.
 use Rattle.std.proofs.Common.{◌≡◌, ◌≢◌, ℕ, zero, suc, ◌+◌, ◌<◌, ◌≤◌, refl, sym, ◌∙◌, ap, subst, arith, inl, inr, true, false, List, length}
-use Rattle.std.specs.Prelude.{slice_get, Option, Some, None, ◌⊎◌, unwrap_or, ℤ, pos, ◌+ℤ◌}
+use Rattle.std.specs.Prelude.{slice_get, Option, Some, None, ◌⊎◌, unwrap_or, IfSome, ℤ, pos, ◌+ℤ◌}
 use Rattle.std.proofs.lemmas.Bool.{cases_lt, cases_eq}
 use Rattle.bpf_model.specs.declared.insn.Insn.{Insn}
-use Rattle.bpf_model.specs.declared.insn.Insn.TheVariants.{Alu, MoveSigned, Negate, ByteSwap, LoadNumber, LoadMap, Jump, JumpLong, JumpIf, Call, Exit, Load, LoadSigned, Store, StoreRegister}
+use Rattle.bpf_model.specs.declared.insn.Insn.TheVariants.{Alu, Unary, LoadNumber, LoadMap, Jump, JumpLong, JumpIf, Call, Exit, Load, LoadSigned, Store}
+use Rattle.bpf_model.specs.declared.limits.TheConstants.{FRAME_BYTES}
 use Rattle.bpf_model.specs.declared.opcode.Width.{Width}
 use Rattle.bpf_model.specs.Access.{byte_count, place_of}
 use Rattle.bpf_model.specs.Graph.{falls, GoesTo}
@@ -12,25 +13,27 @@ use Rattle.bpf_model.specs.Spelling.{starts_from}
 use Rattle.bpf_model.specs.Step.{insn_at}
 use Rattle.bpf_model.specs.Places.{start_of-insn}
 use Rattle.abstract_state.specs.declared.state.AbsState.{AbsState}
+use Rattle.abstract_state.specs.declared.environment.EnvironmentShape.{EnvironmentShape}
 use Rattle.abstract_state.specs.declared.kind.Region.{Region}
-use Rattle.verifier.specs.Facts.{Fact, Register, FrameByte, FramePointer, Holds, Makes, WithoutFact, Knows, KeepsFacts, IsReadyFor}
+use Rattle.abstract_state.specs.Facts.{Fact, Register, FrameByte, FramePointer, FactHolds, Makes, IsReady, KeepsFacts}
+use Rattle.verifier.specs.Facts.{Knows, WithoutFact}
+use Rattle.verifier.specs.FirstPass.{Follows}
+use Rattle.verifier.specs.Indexes.{HasTargets, StartsAt}
+use Rattle.verifier.specs.SecondPass.{Advances, CanAccept, Fell, Jumped, Known, Merged, refusal_of}
+use Rattle.verifier.specs.Verdict.{Plan}
 use Rattle.abstract_state.specs.declared.fault.Fault.{Fault}
 use Rattle.abstract_state.specs.declared.fault.Fault.TheVariants as faults
 use Rattle.verifier.specs.declared.refusal.Refusal.{Refusal}
 use Rattle.verifier.specs.declared.refusal.Refusal.TheVariants.{Memory}
-use Rattle.verifier.specs.Passes.{Merged, Fell, Jumped, Advances, Known, CanAccept, refusal_of}
-use Rattle.verifier.specs.Places.{StartsAt, HasTargets, Follows}
-use Rattle.verifier.specs.Valid.{Plan}
 use Rattle.verifier.proofs.Edges.{insn_here}
 use Rattle.verifier.proofs.Lists.{same_some}
+use Rattle.verifier.proofs.Merging.{merged_other}
 use Rattle.verifier.proofs.Marking.{edge_from, first_start}
 
 -- whether a register is written can be decided
 writes_or_not : (i : Insn) (r : ℕ) → Writes i r ⊎ (Writes i r → ⊥)
 writes_or_not (Alu op size dst src) r = cases_eq r dst
-writes_or_not (MoveSigned extension dst src) r = cases_eq r dst
-writes_or_not (Negate size dst) r = cases_eq r dst
-writes_or_not (ByteSwap order width dst) r = cases_eq r dst
+writes_or_not (Unary op dst) r = cases_eq r dst
 writes_or_not (LoadNumber dst n) r = cases_eq r dst
 writes_or_not (LoadMap dst map) r = inr (λ h. h)
 writes_or_not (Jump offset) r = inr (λ h. h)
@@ -40,14 +43,13 @@ writes_or_not (Call kind imm) r = inr (λ h. h)
 writes_or_not Exit r = inr (λ h. h)
 writes_or_not (Load width dst src offset) r = cases_eq r dst
 writes_or_not (LoadSigned width dst src offset) r = cases_eq r dst
-writes_or_not (Store width dst offset imm) r = inr (λ h. h)
-writes_or_not (StoreRegister width dst src offset) r = inr (λ h. h)
+writes_or_not (Store width dst offset src) r = inr (λ h. h)
 
 -- and whether an access takes a byte
 takes_or_not : (width : Width) (offset : ℤ) (k : ℕ) → Takes width offset k ⊎ (Takes width offset k → ⊥)
-takes_or_not width offset k = at (place_of 512 (byte_count width) (pos 512 +ℤ offset)) refl
+takes_or_not width offset k = at (place_of FRAME_BYTES (byte_count width) (pos FRAME_BYTES +ℤ offset)) refl
   where
-    at : (o : Option ℕ) → place_of 512 (byte_count width) (pos 512 +ℤ offset) ≡ o → Takes width offset k ⊎ (Takes width offset k → ⊥)
+    at : (o : Option ℕ) → place_of FRAME_BYTES (byte_count width) (pos FRAME_BYTES +ℤ offset) ≡ o → Takes width offset k ⊎ (Takes width offset k → ⊥)
     at None e = inr (λ t. let f : None ≡ Some t.0 = sym e ∙ t.1 in cc)
     at (Some p) e = elim (cases_lt k p) [
       | inl h ↦ inr (λ t. let same : p ≡ t.0 = same_some (sym e ∙ t.1) in let l : t.0 ≤ k = t.2 in omega arith)
@@ -59,9 +61,7 @@ takes_or_not width offset k = at (place_of 512 (byte_count width) (pos 512 +ℤ 
 
 writes_byte_or_not : (i : Insn) (k : ℕ) → WritesByte i k ⊎ (WritesByte i k → ⊥)
 writes_byte_or_not (Alu op size dst src) k = inr (λ h. h)
-writes_byte_or_not (MoveSigned extension dst src) k = inr (λ h. h)
-writes_byte_or_not (Negate size dst) k = inr (λ h. h)
-writes_byte_or_not (ByteSwap order width dst) k = inr (λ h. h)
+writes_byte_or_not (Unary op dst) k = inr (λ h. h)
 writes_byte_or_not (LoadNumber dst n) k = inr (λ h. h)
 writes_byte_or_not (LoadMap dst map) k = inr (λ h. h)
 writes_byte_or_not (Jump offset) k = inr (λ h. h)
@@ -71,8 +71,7 @@ writes_byte_or_not (Call kind imm) k = inr (λ h. h)
 writes_byte_or_not Exit k = inr (λ h. h)
 writes_byte_or_not (Load width dst src offset) k = inr (λ h. h)
 writes_byte_or_not (LoadSigned width dst src offset) k = inr (λ h. h)
-writes_byte_or_not (Store width dst offset imm) k = takes_or_not width offset k
-writes_byte_or_not (StoreRegister width dst src offset) k = takes_or_not width offset k
+writes_byte_or_not (Store width dst offset src) k = takes_or_not width offset k
 
 makes_or_not : (i : Insn) (fact : Fact) → Makes i fact ⊎ (Makes i fact → ⊥)
 makes_or_not i (Register r) = writes_or_not i r
@@ -102,7 +101,7 @@ knows_on program targets long all k m i t a b e f follows knows keeps fact = eli
 -- a join of states of which this is known keeps it known
 merged_knows : (program : List Insn) (k at : ℕ) (state : AbsState) (old new : Plan) → Merged at state old new → Knows program at state
     → ((m : ℕ) (a : AbsState) → k < m → old m ≡ Some a → Knows program m a) → (m : ℕ) (a : AbsState) → k < m → new m ≡ Some a → Knows program m a
-merged_knows program k at state old new merged known before m a l e = elim (merged.other m a e) [
+merged_knows program k at state old new merged known before m a l e = elim (merged_other at state old new merged m a e) [
   | inl f ↦ before m a l f
   | inr f ↦ λ fact. elim (known fact) [
     | inl holds ↦ among (old m) refl fact (f.1 fact holds)
@@ -110,15 +109,15 @@ merged_knows program k at state old new merged known before m a l e = elim (merg
   ]
 ]
   where
-    among : (o : Option AbsState) → old m ≡ o → (fact : Fact) → (((b : AbsState) → old m ≡ Some b → Holds fact b) → Holds fact a) → Holds fact a ⊎ ((p : ℕ) → StartsAt program m p → WithoutFact program fact p)
+    among : (o : Option AbsState) → old m ≡ o → (fact : Fact) → (((b : AbsState) → old m ≡ Some b → FactHolds fact b) → FactHolds fact a) → FactHolds fact a ⊎ ((p : ℕ) → StartsAt program m p → WithoutFact program fact p)
     among None g fact n = inl (n (λ b h. absurd (let c : Some b ≡ None = sym h ∙ g in cc)))
     among (Some b) g fact n = elim (before m b l g fact) [
-      | inl q ↦ inl (n (λ c h. let same : b ≡ c = same_some (sym g ∙ h) in subst (Holds fact) same q))
+      | inl q ↦ inl (n (λ c h. let same : b ≡ c = same_some (sym g ∙ h) in subst (FactHolds fact) same q))
       | inr w ↦ inr w
     ]
 
 -- an instruction of a plain program is ready where this is known
-pub ready_here : (program : List Insn) (k : ℕ) (i : Insn) (a : AbsState) → IsPlain program → slice_get program k ≡ Some i → Knows program k a → IsReadyFor i a
+pub ready_here : (program : List Insn) (k : ℕ) (i : Insn) (a : AbsState) → IsPlain program → slice_get program k ≡ Some i → Knows program k a → IsReady i a
 ready_here program k i a plain e knows = record {
   simple = plain.simple s.0 i here;
   keeps_frame = (plain.frame_pointer s.0 i here).0;
@@ -137,22 +136,25 @@ pub can_accept : (program : List Insn) (k : ℕ) (plan : Plan) → IsPlain progr
 can_accept program k plan plain known i a e f = ready_here program k i a plain e (known k a (omega arith) f)
 
 module _ (program : List Insn) (targets : List (Option ℕ)) (long : length targets ≡ length program) (all : HasTargets program targets)
-    (k maps ctx_len : ℕ) (region : Region) (old new : Plan) (done : Advances program targets k maps ctx_len region old new) (plain : IsPlain program) (known : Known program k old) where
+    (k : ℕ) (shape : EnvironmentShape) (region : Region) (old new : Plan) (done : Advances program targets k shape region old new) (plain : IsPlain program) (known : Known program k old) where
   here : Knows program k done.state
   here = known k done.state (omega arith) done.waited
 
-  ready : IsReadyFor done.insn done.state
+  ready : IsReady done.insn done.state
   ready = ready_here program k done.insn done.state plain done.insn_is here
+
+  keeps_taken_of : (s : AbsState) → done.spreads.taken ≡ Some s → KeepsFacts done.insn done.state s
+  keeps_taken_of s e = subst (λ t. IfSome t (KeepsFacts done.insn done.state)) e (done.spreads.keeps_taken ready)
 
   keeps_jump : (falls done.insn ≡ true → done.spreads.jumping ≡ done.spreads.taken) → (s : AbsState) → done.spreads.jumping ≡ Some s → KeepsFacts done.insn done.state s
   keeps_jump e s f = by done.spreads.fell
     where
       of_unwrapped : (o : Option AbsState) → done.spreads.taken ≡ o → unwrap_or o done.spreads.next ≡ s → KeepsFacts done.insn done.state s
       of_unwrapped None g h = subst (KeepsFacts done.insn done.state) h (done.spreads.keeps ready)
-      of_unwrapped (Some t) g h = done.spreads.keeps_taken ready s (g ∙ ap Some h)
+      of_unwrapped (Some t) g h = keeps_taken_of s (g ∙ ap Some h)
 
       by : Fell done.insn k done.spreads.next done.spreads.taken done.spreads.jumping done.rest done.spreads.mid → KeepsFacts done.insn done.state s
-      by (inl g) = done.spreads.keeps_taken ready s (sym g.2 ∙ f)
+      by (inl g) = keeps_taken_of s (sym g.2 ∙ f)
       by (inr g) = of_unwrapped done.spreads.taken refl (same_some (sym g.2 ∙ f))
 
   before : (m : ℕ) (a : AbsState) → k < m → done.rest m ≡ Some a → Knows program m a
@@ -180,14 +182,14 @@ pub memory_refused : (f : Fault) (e : Refusal) (slot : ℕ) → f ≡ faults.Mem
 memory_refused f e slot g h = h ∙ ap (λ f. refusal_of f slot) g
 
 -- only the entry's state is known, at the start
-pub known_first : (program : List Insn) (pending : Plan) (a : AbsState) → pending 0 ≡ Some a → Holds FramePointer a → ((k : ℕ) → 0 < k → pending k ≡ None) → Known program 0 pending
+pub known_first : (program : List Insn) (pending : Plan) (a : AbsState) → pending 0 ≡ Some a → FactHolds FramePointer a → ((k : ℕ) → 0 < k → pending k ≡ None) → Known program 0 pending
 known_first program pending a e frame only zero b l f fact = first fact
   where
     same : a ≡ b
     same = same_some (sym e ∙ f)
 
-    first : (fact : Fact) → Holds fact b ⊎ ((p : ℕ) → StartsAt program 0 p → WithoutFact program fact p)
+    first : (fact : Fact) → FactHolds fact b ⊎ ((p : ℕ) → StartsAt program 0 p → WithoutFact program fact p)
     first (Register r) = inr (λ p at. subst (WithoutRegister program r) (sym (first_start program p at)) unwritten_entry)
     first (FrameByte k) = inr (λ p at. subst (WithoutByte program k) (sym (first_start program p at)) bare_entry)
-    first FramePointer = inl (subst (Holds FramePointer) same frame)
+    first FramePointer = inl (subst (FactHolds FramePointer) same frame)
 known_first program pending a e frame only (suc k) b l f fact = absurd (let c : None ≡ Some b = sym (only (suc k) (omega arith)) ∙ f in cc)

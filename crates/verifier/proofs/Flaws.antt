@@ -13,7 +13,7 @@ use Rattle.verifier.specs.declared.refusal.GraphFlaw.TheVariants.{JumpTarget, Ba
 use Rattle.verifier.specs.declared.refusal.Refusal.{Refusal}
 use Rattle.verifier.specs.declared.refusal.Refusal.TheVariants.{Graph, Instruction, Memory}
 use Rattle.verifier.specs.GraphFlaws.{missing, landing_flaw, distance_flaw, jump_flaw, JumpsWell, EndsWithExit, IsFirstBadJump, IsBadEnd, IsFirstUnreachable, HasGraphFlaw, HasGoodGraph}
-use Rattle.verifier.specs.Passes.{TellsFlaw, IsAccepted}
+use Rattle.verifier.specs.Verdict.{IsAccepted, IsToldOf}
 use Rattle.verifier.proofs.Edges.{nat_le_false}
 use Rattle.verifier.proofs.Lists.{same_some}
 
@@ -50,7 +50,7 @@ bad_end_not_exit : (program : List Insn) (s : ℕ) → IsBadEnd program s → En
 bad_end_not_exit program s a last = a.other (snoc_inj a.front last.0 a.insn Exit (sym a.last ∙ last.1)).1
 
 bad_ends_same : (program : List Insn) (s t : ℕ) → IsBadEnd program s → IsBadEnd program t → s ≡ t
-bad_ends_same program s t a b = a.place_is ∙ ap slot_total (snoc_inj a.front b.front a.insn b.insn (sym a.last ∙ b.last)).0 ∙ sym b.place_is
+bad_ends_same program s t a b = a.slot_is ∙ ap slot_total (snoc_inj a.front b.front a.insn b.insn (sym a.last ∙ b.last)).0 ∙ sym b.slot_is
 
 unreachable_same : (program : List Insn) (s t : ℕ) → IsFirstUnreachable program s → IsFirstUnreachable program t → s ≡ t
 unreachable_same program s t a b = elim (cases_lt s t) [
@@ -85,37 +85,32 @@ good_has_none program FallsOff s good a = bad_end_not_exit program s a good.last
 good_has_none program Unreachable s good a = a.unreached (good.reached s a.insn a.at)
 
 -- nor has a plain program
-plain_jump : (program : List Insn) (place : ℕ) (i : Insn) → IsPlain program → insn_at program place ≡ Some i → jump_flaw program place i ≡ None
-plain_jump program place i plain at = by (distance i) refl
+plain_jump : (program : List Insn) (slot : ℕ) (i : Insn) → IsPlain program → insn_at program slot ≡ Some i → jump_flaw program slot i ≡ None
+plain_jump program slot i plain at = by (distance i) refl
   where
-    by : (d : Option ℤ) → distance i ≡ d → distance_flaw program place d ≡ None
+    by : (d : Option ℤ) → distance i ≡ d → distance_flaw program slot d ≡ None
     by None e = refl
     by (Some d) e =
-        let j = plain.jumps place i d at e in
-        let jump : JumpsTo i place j.0 = j.2 in
+        let j = plain.jumps slot i d at e in
+        let jump : JumpsTo i slot j.0 = j.2 in
         let same : jump.0 ≡ d = same_some (sym jump.1 ∙ e) in
-        let lands : pos j.0 ≡ pos (place + 1) +ℤ d = jump.2 ∙ ap (λ d. pos (place + 1) +ℤ d) same in
-        ap (landing_flaw program place) (sym lands)
-        ∙ ap (λ b. cond b (Some BackJump) (missing (insn_at program j.0))) (nat_le_false j.0 place j.3)
+        let lands : pos j.0 ≡ pos (slot + 1) +ℤ d = jump.2 ∙ ap (λ d. pos (slot + 1) +ℤ d) same in
+        ap (landing_flaw program slot) (sym lands)
+        ∙ ap (λ b. cond b (Some BackJump) (missing (insn_at program j.0))) (nat_le_false j.0 slot j.3)
         ∙ ap missing j.4
 
 pub plain_graph : (program : List Insn) → IsPlain program → HasGoodGraph program
 plain_graph program plain = record { jumps = λ q i at. plain_jump program q i plain at; last = plain.last; reached = plain.reached }
 
--- what a refusal of pass 1 tells is the flaw that the graph has
-pub told : (program : List Insn) (e : Refusal) → TellsFlaw program e → (f : GraphFlaw) (s : ℕ) → HasGraphFlaw program f s → (e ≡ Graph f s) ⊎ (e ≡ Memory)
+-- a refusal tells the flaw that the graph has, where it has one
+pub told : (program : List Insn) (e : Refusal) → IsToldOf program e → (f : GraphFlaw) (s : ℕ) → HasGraphFlaw program f s → (e ≡ Graph f s) ⊎ (e ≡ Memory)
 told program (Graph g t) a f s b =
     let same = one_flaw program g f t s a b in
     inl (ap (λ g. Graph g t) same.0 ∙ ap (Graph f) same.1)
-told program (Instruction fault t) a f s b = absurd a
+told program (Instruction fault t) a f s b = absurd (good_has_none program f s a b)
 told program Memory a f s b = inr refl
 
-pub plain_told : (program : List Insn) (e : Refusal) → TellsFlaw program e → IsPlain program → e ≡ Memory
-plain_told program (Graph g t) a plain = absurd (good_has_none program g t (plain_graph program plain) a)
-plain_told program (Instruction fault t) a plain = absurd a
-plain_told program Memory a plain = refl
-
-pub told_result : {A : Type 0} (program : List Insn) (r : Result A Refusal) (e e' : Refusal) → r ≡ Err e → e ≡ e' → TellsFlaw program e' → (f : GraphFlaw) (s : ℕ) → HasGraphFlaw program f s → (r ≡ Err (Graph f s)) ⊎ (r ≡ Err Memory)
+pub told_result : {A : Type 0} (program : List Insn) (r : Result A Refusal) (e e' : Refusal) → r ≡ Err e → e ≡ e' → IsToldOf program e' → (f : GraphFlaw) (s : ℕ) → HasGraphFlaw program f s → (r ≡ Err (Graph f s)) ⊎ (r ≡ Err Memory)
 told_result program r e e' g h a f s b = elim (told program e' a f s b) [ inl t ↦ inl (g ∙ ap Err (h ∙ t)) | inr t ↦ inr (g ∙ ap Err (h ∙ t)) ]
 
 pub accepted_result : {A : Type 0} (r : Result A Refusal) (e e' : Refusal) → r ≡ Err e → e ≡ e' → e' ≡ Memory → IsAccepted r

@@ -1,6 +1,7 @@
 pub mod Accepting
 pub mod Edges
 pub mod Flaws
+pub mod Justifying
 pub mod Lists
 pub mod Marking
 pub mod Merging

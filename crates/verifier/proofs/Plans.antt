@@ -1,8 +1,7 @@
 -- Pass 2 keeps a plan that each step keeps.
 use Rattle.std.proofs.Common.{◌≡◌, ◌≢◌, ℕ, zero, suc, ◌+◌, ◌<◌, ◌≤◌, refl, sym, ◌∙◌, ap, subst, arith, inl, inr, true, false, cond, List, [], ◌∷◌, ◌++◌, length}
-use Rattle.std.specs.Prelude.{slice_get, Option, Some, None, ltb, unwrap_or, IsSome, ℤ, pos, negsuc, ◌+ℤ◌}
+use Rattle.std.specs.Prelude.{slice_get, Option, Some, None, ltb, unwrap_or, IsSome, pos, ◌+ℤ◌, Box}
 use Rattle.std.proofs.lemmas.Bool.{cases_lt, cases_eq}
-use Rattle.std.proofs.lemmas.Int.{ints}
 use Rattle.std.proofs.lemmas.Option.{slice_get_within}
 use borrow.Author.Tests.{le-ltb, lt-ltb}
 use Rattle.bpf_model.specs.declared.insn.Insn.{Insn}
@@ -10,29 +9,28 @@ use Rattle.bpf_model.specs.declared.insn.Insn.TheVariants.{Exit}
 use Rattle.bpf_model.specs.Graph.{falls, distance, JumpsTo}
 use Rattle.bpf_model.specs.Spelling.{slot_count}
 use Rattle.bpf_model.specs.Step.{State, Outcome, Moves, Exits, entry}
-use Rattle.bpf_model.specs.Places.{starts-next, starts_increase, starts_apart, start_of-insn}
+use Rattle.bpf_model.specs.Places.{starts-next, starts_apart, start_of-insn}
 use Rattle.abstract_state.specs.declared.state.AbsState.{AbsState}
 use Rattle.abstract_state.specs.declared.kind.Region.{Region}
-use Rattle.abstract_state.specs.State.{Describes, Wider, IsForward, Leads, base_of}
+use Rattle.abstract_state.specs.State.{Describes, Wider, HasTarget, Leads}
+use Rattle.abstract_state.specs.declared.environment.EnvironmentShape.{EnvironmentShape}
 use Rattle.verifier.specs.GraphFlaws.{EndsWithExit, HasGoodGraph}
-use Rattle.verifier.specs.Passes.{Fell, Jumped, Spreads, Advances, Passed, Awaits, StartsFrom, plan_of}
-use Rattle.verifier.specs.Places.{StartsAt, LeadsTo, IsTarget, HasTargets, Follows}
-use Rattle.verifier.specs.Valid.{Plan, IsDescribedAt, Lands, Covers, Justifies}
+use Rattle.verifier.specs.FirstPass.{Follows}
+use Rattle.verifier.specs.Indexes.{HasTargets, IsTarget, LeadsTo, StartsAt}
+use Rattle.verifier.specs.SecondPass.{Advances, Awaits, Covers, Fell, IsCovered, Jumped, Lands, Passed, Spreads, StartsFrom, plan_of, state_of}
+use Rattle.verifier.specs.Verdict.{IsDescribedAt, Plan}
 use Rattle.std.proofs.lemmas.List.{get_or_past}
 use Rattle.verifier.proofs.Edges.{insn_here, insn_read}
 use Rattle.verifier.proofs.Lists.{same_some, get-append_cases}
+use Rattle.verifier.proofs.Merging.{merged_stays}
 use Rattle.verifier.proofs.Marking.{edge_into, reached_by, pos_same, starts_at_0}
 
--- a jump to a later slot has a distance that is not negative
-distance_ahead : (from to : ℕ) (d : ℤ) → pos to ≡ pos (from + 1) +ℤ d → from < to → (n : ℕ) × (d ≡ pos n)
-distance_ahead from to (pos n) e h = (n, refl)
-distance_ahead from to (negsuc n) e h = absurd (omega (arith, ints))
-
-pub goes_forward : (program : List Insn) (k : ℕ) (i : Insn) (t : Option ℕ) → IsTarget program k i t → (from_below : (u : ℕ) → (l : LeadsTo program k i u) → l.from < l.to) → IsForward i
-goes_forward program k i None none below d e = absurd (let f : None ≡ Some d = sym none ∙ e in cc)
-goes_forward program k i (Some u) leads below d e =
-    let same : leads.by ≡ d = same_some (sym leads.by_is ∙ e) in
-    distance_ahead leads.from leads.to d (leads.sum ∙ ap (λ d. pos (leads.from + 1) +ℤ d) same) (below u leads)
+-- a jump has a target, by the slots
+pub target_found : (program : List Insn) (k slot : ℕ) (i : Insn) (t : Option ℕ) → IsTarget program k i t → StartsAt program k slot → HasTarget i slot
+target_found program k slot i None none at d e = absurd (let f : None ≡ Some d = sym none ∙ e in cc)
+target_found program k slot i (Some u) leads at d e =
+    let from : leads.from ≡ slot = same_some (sym leads.from_is ∙ at) in
+    (leads.to, (leads.by, leads.by_is, leads.sum ∙ ap (λ f. pos (f + 1) +ℤ leads.by) from))
 
 -- an instruction that falls through isn't the last
 exit_last : (program front : List Insn) (k : ℕ) (i : Insn) → program ≡ front ++ Exit ∷ [] → slice_get program k ≡ Some i → falls i ≡ true → suc k < length program
@@ -60,11 +58,11 @@ both_stay next taken_state i target k taken jumping old mid new fell jumped m a 
     (j.0, j.1, λ s d. j.2 s (f.2 s d))
   where
     fell_stays : Fell i k next taken jumping old mid → (b : AbsState) × (mid m ≡ Some b) × Wider a b
-    fell_stays (inl f) = f.1.stays m a e
+    fell_stays (inl f) = merged_stays (suc k) next old mid f.1 m a e
     fell_stays (inr f) = (a, ap (λ p. p m) f.1 ∙ e, λ s d. d)
 
     jumped_stays : Jumped target jumping mid new → (b : AbsState) → mid m ≡ Some b → (c : AbsState) × (new m ≡ Some c) × Wider b c
-    jumped_stays (inl f) b g = f.4.stays m b g
+    jumped_stays (inl f) b g = merged_stays f.0 f.1 mid new f.4 m b g
     jumped_stays (inr f) b g = (b, ap (λ p. p m) f.1 ∙ g, λ s d. d)
 
 -- what falls through waits behind the instruction
@@ -73,11 +71,11 @@ fell_there : (next : AbsState) (i : Insn) (target : Option ℕ) (k : ℕ) (taken
 fell_there next i target k taken jumping old mid new (inr f) jumped t = absurd (let e : false ≡ true = sym f.0 ∙ t in cc)
 fell_there next i target k taken jumping old mid new (inl f) jumped t =
     let j = on jumped in
-    (j.0, j.1, λ s d. j.2 s (f.1.there.2 s d))
+    (j.0, j.1, λ s d. j.2 s (f.1.here.state_stays s d))
   where
-    on : Jumped target jumping mid new → (c : AbsState) × (new (suc k) ≡ Some c) × Wider f.1.there.0 c
-    on (inl g) = g.4.stays (suc k) f.1.there.0 f.1.there.1
-    on (inr g) = (f.1.there.0, ap (λ p. p (suc k)) g.1 ∙ f.1.there.1, λ s d. d)
+    on : Jumped target jumping mid new → (c : AbsState) × (new (suc k) ≡ Some c) × Wider f.1.here.joined c
+    on (inl g) = merged_stays g.0 g.1 mid new g.4 (suc k) f.1.here.joined f.1.here.joined_is
+    on (inr g) = (f.1.here.joined, ap (λ p. p (suc k)) g.1 ∙ f.1.here.joined_is, λ s d. d)
 
 some_unwrapped : {A : Type 0} (o : Option A) (d : A) → IsSome o → o ≡ Some (unwrap_or o d)
 some_unwrapped None d h = absurd (let e : false ≡ true = h in cc)
@@ -96,26 +94,17 @@ jumped_there next i k t target taken jumping old mid new fell jumped e both = at
     at (inl g) =
         let same_t : g.0 ≡ t = same_some (sym g.2 ∙ e) in
         let same_s : g.1 ≡ unwrap_or taken next = same_some (sym g.3 ∙ jumping_is fell) in
-        (g.4.there.0, ap new (sym same_t) ∙ g.4.there.1, subst (λ s. Wider s g.4.there.0) same_s g.4.there.2)
+        (g.4.here.joined, ap new (sym same_t) ∙ g.4.here.joined_is, subst (λ s. Wider s g.4.here.joined) same_s g.4.here.state_stays)
     at (inr (inl f, g)) = absurd (let h : None ≡ Some t = sym f ∙ e in cc)
     at (inr (inr f, g)) = absurd (let h : None ≡ Some (unwrap_or taken next) = sym f ∙ jumping_is fell in cc)
 
 module _ (program : List Insn) (targets : List (Option ℕ)) (long : length targets ≡ length program) (all : HasTargets program targets) (last : EndsWithExit program)
-    (k maps ctx_len : ℕ) (region : Region) (old new : Plan) (done : Advances program targets k maps ctx_len region old new) where
-  spread : Spreads done.insn done.target k maps ctx_len done.state region done.rest new
+    (k : ℕ) (shape : EnvironmentShape) (region : Region) (old new : Plan) (done : Advances program targets k shape region old new) where
+  spread : Spreads done.insn done.target k shape done.state region done.rest new
   spread = done.spreads
 
   is_target : IsTarget program k done.insn done.target
   is_target = all.each k done.insn done.target done.insn_is done.target_is
-
-  leads_below : (u : ℕ) (l : LeadsTo program k done.insn u) → l.from < l.to
-  leads_below u l = starts_below l.from l.to k u l.from_is l.to_is l.further
-    where
-      starts_below : (p q j m : ℕ) → StartsAt program j p → StartsAt program m q → j < m → p < q
-      starts_below p q j m e f h = starts_increase 0 program j m p q e f h
-
-  forward : IsForward done.insn
-  forward = goes_forward program k done.insn done.target is_target leads_below
 
   -- an instruction with a target is a jump
   has_distance : (t : ℕ) → done.target ≡ Some t → distance done.insn ≢ None
@@ -145,7 +134,7 @@ module _ (program : List Insn) (targets : List (Option ℕ)) (long : length targ
   described_by : (p q : Plan) (m : ℕ) (s : State) (b : AbsState) → (d : IsDescribedAt program p m s) → q m ≡ Some b → Wider d.known b → IsDescribedAt program q m s
   described_by p q m s b d e w = record { at = d.at; known = b; planned = e; describes = w s d.describes }
 
-  module _ (regions : List Region) (plan : Plan) (before : Passed program regions ctx_len maps k plan old) (count : length regions ≡ k) where
+  module _ (regions : List Region) (plan : Plan) (before : Passed program regions shape k plan old) (count : length regions ≡ k) where
     keep : (m : ℕ) (s : State) → IsDescribedAt program plan m s → IsDescribedAt program (spliced plan) m s
     keep m s d = elim (cases_lt k m) [
       | inl h ↦
@@ -161,10 +150,11 @@ module _ (program : List Insn) (targets : List (Option ℕ)) (long : length targ
     lands_keep j (Exits n) l = tt
     lands_keep j (Moves m) l = (l.0, l.1, keep l.0 m l.2)
 
-    covers_keep : (j : ℕ) (r : Region) → j < k → Covers program ctx_len maps plan plan j r → Covers program ctx_len maps (spliced plan) (spliced plan) j r
-    covers_keep j r h c = record {
+    covers_keep : (j : ℕ) (i : Insn) (r : Region) → j < k → Covers program shape plan j i r → Covers program shape (spliced plan) j i r
+    covers_keep j i r h c = record {
       moves = λ env m e d. (let o = c.moves env m e (back j m (omega arith) d) in (o.0, o.1, lands_keep j o.0 o.2));
-      reaches = λ i b m e f d. c.reaches i b m e f (back j m (omega arith) d);
+      reaches = λ b m f d. c.reaches b m f (back j m (omega arith) d);
+      compares = λ q m f d. c.compares q m f (back j m (omega arith) d);
     }
 
     describes_here : (m : State) → IsDescribedAt program (spliced plan) k m → Describes done.state m
@@ -205,29 +195,32 @@ module _ (program : List Insn) (targets : List (Option ℕ)) (long : length targ
     lands_here m (Moves next) at (inl l) = lands_next m next at l.0 l.1 l.2
     lands_here m (Moves next) at (inr l) = lands_target m next done.target refl at l.0 l.1
 
-    covers_here : Covers program ctx_len maps (spliced plan) (spliced plan) k region
+    covers_here : Covers program shape (spliced plan) k done.insn region
     covers_here = record {
       moves = λ env m e d. (
-          let o = spread.moves forward env m e (describes_here m d) in
-          (o.0, (done.insn, insn_here program k m.place done.insn done.insn_is d.at, o.1), lands_here m o.0 d.at o.2)
+          let o = spread.moves env m e (target_found program k m.place done.insn done.target is_target d.at) (describes_here m d) in
+          (o.0, o.1, lands_here m o.0 d.at o.2)
           );
-      reaches = λ i b m e f d. (
-          let same : i ≡ done.insn = same_some (sym e ∙ done.insn_is) in
-          spread.reaches b m (ap base_of (sym same) ∙ f) (describes_here m d)
-          );
+      reaches = λ b m f d. spread.reaches b m f (describes_here m d);
+      compares = λ q m f d. spread.compares q m f (describes_here m d);
     }
 
-    pub passed_more : (plan : Plan) × Passed program (regions ++ region ∷ []) ctx_len maps (k + 1) plan new
+    -- the instruction of this index, where it is the one at hand
+    covers_at : (j : ℕ) (i : Insn) (r : Region) → j ≡ k → slice_get program j ≡ Some i → region ≡ r → Covers program shape (spliced plan) j i r
+    covers_at j i r e f g =
+        let same : done.insn ≡ i = same_some (sym done.insn_is ∙ ap (slice_get program) (sym e) ∙ f) in
+        subst (λ j. Covers program shape (spliced plan) j i r) (sym e)
+        (subst (λ i. Covers program shape (spliced plan) k i r) same (subst (Covers program shape (spliced plan) k done.insn) g covers_here))
+
+    pub passed_more : (plan : Plan) × Passed program (regions ++ region ∷ []) shape (k + 1) plan new
     passed_more = (
       spliced plan,
       record {
         start = keep 0 entry before.start;
         rest = λ m h. spliced_after plan m (omega arith);
-        each = λ j r e. elim (get-append_cases regions region j r e) [
-          | inl h ↦ covers_keep j r (omega (arith, slice_get_within regions j r h)) (before.each j r h)
-          | inr h ↦
-              let here : Covers program ctx_len maps (spliced plan) (spliced plan) j region = subst (λ j. Covers program ctx_len maps (spliced plan) (spliced plan) j region) (sym (h.0 ∙ count)) covers_here in
-              subst (Covers program ctx_len maps (spliced plan) (spliced plan) j) h.1 here
+        each = λ j i r e f. elim (get-append_cases regions region j r f) [
+          | inl h ↦ covers_keep j i r (omega (arith, slice_get_within regions j r h)) (before.each j i r e h)
+          | inr h ↦ covers_at j i r (h.0 ∙ count) e h.1
         ];
       },
     )
@@ -260,11 +253,11 @@ module _ (program : List Insn) (targets : List (Option ℕ)) (long : length targ
       further m h s = at m (old m) refl h s
 
 -- before the first instruction
-pub passed_none : (program : List Insn) (ctx_len maps : ℕ) (pending : Plan) → StartsFrom program pending → Passed program [] ctx_len maps 0 pending pending
-passed_none program ctx_len maps pending s = record {
+pub passed_none : (program : List Insn) (shape : EnvironmentShape) (pending : Plan) → StartsFrom program pending → Passed program [] shape 0 pending pending
+passed_none program shape pending s = record {
   start = record { at = starts_at_0 program s.some; known = s.state; planned = s.waits; describes = s.describes };
   rest = λ m h. refl;
-  each = λ j r e. absurd (cc);
+  each = λ j i r e f. absurd (cc);
 }
 
 pub awaits_none : (program : List Insn) (targets : List (Option ℕ)) (pending : Plan) → StartsFrom program pending → Awaits program targets 0 pending
@@ -292,14 +285,14 @@ waits_here program targets long all k pending graph w h = elim (reached_by (grap
     s = start_of-insn 0 program k i.0 i.1
 
 -- all instructions are done
-pub passed_all : (program : List Insn) (regions : List Region) (ctx_len maps k : ℕ) (plan : Plan) (pending : List (Option AbsState))
-    → length program ≤ k → length pending ≡ length program → Passed program regions ctx_len maps k plan (plan_of pending) → k ≤ length program → Justifies program regions ctx_len maps plan
-passed_all program regions ctx_len maps k plan pending e f p g = record { start = p.start; inside = inside; each = p.each }
+pub passed_all : (program : List Insn) (regions : List Region) (shape : EnvironmentShape) (k : ℕ) (plan : Plan) {Z : Type 0} (pending : List (Option (Box AbsState Z)))
+    → length program ≤ k → length pending ≡ length program → Passed program regions shape k plan (plan_of pending) → k ≤ length program → IsCovered program regions shape plan
+passed_all program regions shape k plan pending e f p g = record { start = p.start; inside = inside; each = p.each }
   where
     inside : (m : ℕ) (a : AbsState) → plan m ≡ Some a → m < length program
     inside m a h = elim (cases_lt m (length program)) [
       | inl l ↦ l
       | inr l ↦
-          let none : plan_of pending m ≡ None = get_or_past pending m None (omega arith) in
+          let none : plan_of pending m ≡ None = ap state_of (get_or_past pending m None (omega arith)) in
           absurd (let b : None ≡ Some a = sym none ∙ sym (p.rest m (omega arith)) ∙ h in cc)
     ]

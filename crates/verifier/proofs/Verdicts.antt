@@ -8,7 +8,8 @@ use Rattle.bpf_model.specs.Places.{insn_of-start, starts_ordered}
 use Rattle.std.proofs.lemmas.Option.{slice_get_within}
 use Rattle.verifier.specs.declared.refusal.GraphFlaw.TheVariants.{FallsOff, Unreachable}
 use Rattle.verifier.specs.GraphFlaws.{JumpsWell, EndsWithExit, HasGraphFlaw, HasGoodGraph}
-use Rattle.verifier.specs.Places.{StartsAt, IsReached, IsFirstUnreached}
+use Rattle.verifier.specs.FirstPass.{IsFirstUnreached, IsReached}
+use Rattle.verifier.specs.Indexes.{StartsAt}
 use Rattle.verifier.proofs.Edges.{start_read, insn_here, index_here}
 
 -- a program that isn't empty has a last instruction, at the start of the last index
@@ -16,11 +17,11 @@ pub record HasLast (n k : ℕ) (program : List Insn) : Type 0 where
   pub front : List Insn
   pub last : Insn
   pub parts : program ≡ front ++ last ∷ []
-  pub place : slice_index_or (starts_from n program) k 0 ≡ n + slot_total front
+  pub slot : slice_index_or (starts_from n program) k 0 ≡ n + slot_total front
 
 pub last_of : (n k : ℕ) (program : List Insn) → suc k ≡ length program → HasLast n k program
 last_of n k [] h = absurd (omega arith)
-last_of n zero (i ∷ []) h = record { front = []; last = i; parts = refl; place = omega arith }
+last_of n zero (i ∷ []) h = record { front = []; last = i; parts = refl; slot = omega arith }
 last_of n (suc k) (i ∷ []) h = absurd (omega arith)
 last_of n zero (i ∷ j ∷ is) h = absurd (omega arith)
 last_of n (suc k) (i ∷ j ∷ is) h =
@@ -29,7 +30,7 @@ last_of n (suc k) (i ∷ j ∷ is) h =
       front = i ∷ r.front;
       last = r.last;
       parts = ap (λ is. i ∷ is) r.parts;
-      place = r.place ∙ (let g : n + slot_count i + slot_total r.front ≡ n + slot_total (i ∷ r.front) = omega (arith, sum_by-cons slot_count i r.front) in g);
+      slot = r.slot ∙ (let g : n + slot_count i + slot_total r.front ≡ n + slot_total (i ∷ r.front) = omega (arith, sum_by-cons slot_count i r.front) in g);
     }
 
 pub some_insn : (program : List Insn) → IsProgram program → 0 < length program
@@ -45,9 +46,9 @@ bad_end program starts k p e at jumps not_exit =
       insn = r.last;
       last = r.parts;
       other = λ f. not_exit (r.front, r.parts ∙ ap (λ i. r.front ++ i ∷ []) f);
-      place_is =
+      slot_is =
           let g : 0 + slot_total r.front ≡ slot_total r.front = omega arith in
-          ap (λ xs. slice_index_or xs k 0) e ∙ r.place ∙ g;
+          ap (λ xs. slice_index_or xs k 0) e ∙ r.slot ∙ g;
     }
 
 pub unreachable_at : (program : List Insn) (starts : List ℕ) (k : ℕ) → starts ≡ starts_from 0 program → JumpsWell program → EndsWithExit program → IsFirstUnreached program k → HasGraphFlaw program Unreachable (slice_index_or starts k 0)

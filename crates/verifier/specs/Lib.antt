@@ -1,7 +1,9 @@
 pub mod Checked
 pub mod Facts
+pub mod FirstPass
 pub mod GraphFlaws
+pub mod Indexes
 pub mod Numbers
-pub mod Passes
-pub mod Places
-pub mod Valid
+pub mod OwnSteps
+pub mod SecondPass
+pub mod Verdict

@@ -2,11 +2,13 @@
 //! instruction is reached.
 ghost use Rattle.std.specs.Prelude.{◌≡◌, ◌≢◌, ℕ, ◌+◌, ◌<◌, ◌^◌, ◌≤◌, ◌↔◌, true, length, slice_get, IfOk, IfErr, IfSome, OnOk, IsErr, IsTrue, Some, None, Option, Ok, Err, pos, ◌+ℤ◌, ◌≤ℤ◌, ℤ, MatchOption};
 ghost use Rattle.bpf_model.specs.declared.insn.Insn.{Insn};
+ghost use Rattle.bpf_model.specs.declared.limits.TheConstants.{MAX_SLOTS};
 ghost use Rattle.bpf_model.specs.Spelling.{starts_from, slot_total, IsProgram};
 ghost use Rattle.bpf_model.specs.Graph.{falls as falls_of, distance as distance_of};
 ghost use Rattle.verifier.specs.GraphFlaws.{JumpsWell, EndsWithExit, HasGoodGraph};
-ghost use Rattle.verifier.specs.Places.{IsIndex, HasTargets, landing, landed, IsFirstUnreached, IsReached, Marks, IsTarget};
-ghost use Rattle.verifier.specs.Passes.{TellsFlaw, target_of as target_spec};
+ghost use Rattle.verifier.specs.Indexes.{HasTargets};
+ghost use Rattle.verifier.specs.FirstPass.{IsIndexBySlot, landing, landed, target_of as target_spec, Marks, IsReached, AreReached, IsFirstUnreached};
+ghost use Rattle.verifier.specs.Verdict.{IsToldOf, IsAccepted};
 
 use crate::refusal::{GraphFlaw, Refusal};
 use bpf_model::Insn;
@@ -35,68 +37,73 @@ fn distance(insn: &Insn) -> Option<i32>
 }
 
 /// The slot to which a jump over a distance leads, where it is further on.
-fn slot_ahead(place: usize, distance: i32) -> Option<usize>
-    requires { place < 2 ^ 32 }
-    ensures { MatchOption result ((pos (place + 1) +ℤ distance) ≤ℤ pos place) (λ t. (pos t ≡ pos (place + 1) +ℤ distance) × (place < t)) }
+fn slot_ahead(slot: usize, distance: i32) -> Option<usize>
+    requires { slot < 2 ^ 32 }
+    ensures { MatchOption result ((pos (slot + 1) +ℤ distance) ≤ℤ pos slot)
+        (λ to. (pos to ≡ pos (slot + 1) +ℤ distance) × (slot < to)) }
 {
-    let target = place as i64 + 1 + i64::from(distance);
-    if target <= place as i64 {
+    let to = slot as i64 + 1 + i64::from(distance);
+    if to <= slot as i64 {
         return None;
     }
-    Some(target as usize)
+    Some(to as usize)
 }
 
 /// The index of the instruction that begins at a slot.
-fn index_at(index: &[Option<usize>], slot: usize) -> Result<usize, GraphFlaw>
-    ensures { result ≡ landed (slice_get index.now slot) }
+fn index_at(indexes: &[Option<usize>], slot: usize) -> Result<usize, GraphFlaw>
+    ensures { result ≡ landed (slice_get indexes.now slot) }
 {
-    if slot >= index.len() {
+    if slot >= indexes.len() {
         return Err(GraphFlaw::JumpTarget);
     }
-    match index[slot] {
-        Some(k) => Ok(k),
+    match indexes[slot] {
+        Some(index) => Ok(index),
         None => Err(GraphFlaw::JumpTarget),
     }
 }
 
 /// The index of the instruction to which a jump from a slot leads.
-fn landing_from(index: &[Option<usize>], place: usize, distance: i32) -> Result<usize, GraphFlaw>
-    requires { place < 2 ^ 32 }
-    ensures { result ≡ landing index.now place (pos (place + 1) +ℤ distance) }
+fn landing_from(indexes: &[Option<usize>], slot: usize, distance: i32) -> Result<usize, GraphFlaw>
+    requires { slot < 2 ^ 32 }
+    ensures { result ≡ landing indexes.now slot (pos (slot + 1) +ℤ distance) }
 {
-    match slot_ahead(place, distance) {
-        Some(slot) => index_at(index, slot),
+    match slot_ahead(slot, distance) {
+        Some(to) => index_at(indexes, to),
         None => Err(GraphFlaw::BackJump),
     }
 }
 
-/// The index to which an instruction jumps, if it is a jump.
-fn target_of(insn: &Insn, index: &[Option<usize>], place: usize) -> Result<Option<usize>, GraphFlaw>
-    requires { place < 2 ^ 32 }
-    ensures { result ≡ target_spec index.now place (distance_of insn.now) }
+/// The index to which an instruction at a slot jumps, if it is a jump.
+fn target_of(
+    insn: &Insn,
+    indexes: &[Option<usize>],
+    slot: usize,
+) -> Result<Option<usize>, GraphFlaw>
+    requires { slot < 2 ^ 32 }
+    ensures { result ≡ target_spec indexes.now slot (distance_of insn.now) }
 {
     match distance(insn) {
-        Some(by) => Ok(Some(landing_from(index, place, by)?)),
+        Some(by) => Ok(Some(landing_from(indexes, slot, by)?)),
         None => Ok(None),
     }
 }
 
 /// For each slot the index of the instruction that begins there.
-fn index_of(
+fn indexes_of(
     alloc: Global,
     instructions: &[Insn],
     starts: &[usize],
-    slots: usize,
+    slot_count: usize,
 ) -> Result<Vec<Option<usize>>, AllocError>
     requires starts { starts.now ≡ starts_from 0 instructions.now }
-    requires slots { slots ≡ slot_total instructions.now }
-    ensures { IfOk result (λ v. IsIndex instructions.now v.items) }
+    requires slots { slot_count ≡ slot_total instructions.now }
+    ensures { IfOk result (λ v. IsIndexBySlot instructions.now v.items) }
 {
-    let mut index: Vec<Option<usize>> = vec![in alloc; None; slots]?;
-    for k in 0..starts.len() {
-        index[starts[k]] = Some(k);
+    let mut indexes: Vec<Option<usize>> = vec![in alloc; None; slot_count]?;
+    for index in 0..starts.len() {
+        indexes[starts[index]] = Some(index);
     }
-    Ok(index)
+    Ok(indexes)
 }
 
 /// For each instruction the index to which it jumps, if it is a jump.
@@ -104,24 +111,25 @@ fn targets_of(
     alloc: Global,
     instructions: &[Insn],
     starts: &[usize],
-    index: &[Option<usize>],
+    indexes: &[Option<usize>],
 ) -> Result<Vec<Option<usize>>, Refusal>
     requires starts { starts.now ≡ starts_from 0 instructions.now }
-    requires small { slot_total instructions.now ≤ 4096 }
-    requires index { IsIndex instructions.now index.now }
+    requires small { slot_total instructions.now ≤ MAX_SLOTS }
+    requires indexes { IsIndexBySlot instructions.now indexes.now }
     ensures targets { IfOk result (λ v. HasTargets instructions.now v.items) }
     ensures long { IfOk result (λ v. length v.items ≡ length instructions.now) }
     ensures jumps { OnOk result (JumpsWell instructions.now) }
-    ensures flaw { IfErr result (TellsFlaw instructions.now) }
+    ensures told { IfErr result (IsToldOf instructions.now) }
+    ensures accepts { HasGoodGraph instructions.now → IsAccepted result }
 {
     let mut targets = Vec::with_capacity(alloc, instructions.len())?;
-    for k in 0..instructions.len() {
-        match target_of(&instructions[k], index, starts[k]) {
+    for index in 0..instructions.len() {
+        match target_of(&instructions[index], indexes, starts[index]) {
             Ok(target) => targets.push(target)?,
             Err(flaw) => {
                 return Err(Refusal::Graph {
                     flaw,
-                    slot: starts[k],
+                    slot: starts[index],
                 });
             }
         }
@@ -129,20 +137,21 @@ fn targets_of(
     Ok(targets)
 }
 
+/// Whether the last instruction is EXIT.
 fn ends_with_exit(instructions: &[Insn]) -> bool
     ensures { IsTrue result ↔ EndsWithExit instructions.now }
 {
     matches!(instructions.last(), Some(Insn::Exit))
 }
 
-/// Marks the instructions to which control may go on.
-fn mark(reached: &mut [bool], insn: &Insn, target: Option<usize>, k: usize)
-    requires next { falls_of insn.now ≡ true → k + 1 < length reached.old }
+/// Marks the instructions to which control may go on from that of this index.
+fn mark(reached: &mut [bool], insn: &Insn, target: Option<usize>, index: usize)
+    requires next { falls_of insn.now ≡ true → index + 1 < length reached.old }
     requires target { IfSome target (λ t. t < length reached.old) }
-    ensures { Marks insn.now target k reached.old reached.new }
+    ensures { Marks insn.now target index reached.old reached.new }
 {
     if falls(insn) {
-        reached[k + 1] = true;
+        reached[index + 1] = true;
     }
     if let Some(t) = target {
         reached[t] = true;
@@ -161,13 +170,13 @@ fn first_unmarked(
     requires last { EndsWithExit instructions.now }
     requires entry { slice_get reached.old 0 ≡ Some true }
     requires only { (k : ℕ) → slice_get reached.old k ≡ Some true → k ≡ 0 }
-    ensures { MatchOption result ((k : ℕ) → k < length instructions.now → IsReached instructions.now k) (IsFirstUnreached instructions.now) }
+    ensures { MatchOption result (AreReached instructions.now) (IsFirstUnreached instructions.now) }
 {
-    for k in 0..instructions.len() {
-        if !reached[k] {
-            return Some(k);
+    for index in 0..instructions.len() {
+        if !reached[index] {
+            return Some(index);
         }
-        mark(reached, &instructions[k], targets[k], k);
+        mark(reached, &instructions[index], targets[index], index);
     }
     None
 }
@@ -182,7 +191,8 @@ fn first_unreached(
     requires long { length targets.now ≡ length instructions.now }
     requires targets { HasTargets instructions.now targets.now }
     requires last { EndsWithExit instructions.now }
-    ensures { IfOk result (λ r. MatchOption r ((k : ℕ) → k < length instructions.now → IsReached instructions.now k) (IsFirstUnreached instructions.now)) }
+    ensures { IfOk result (λ r. MatchOption r (AreReached instructions.now)
+        (IsFirstUnreached instructions.now)) }
 {
     let mut reached = first_marked(alloc, instructions.len())?;
     Ok(first_unmarked(&mut reached, instructions, targets))
@@ -205,18 +215,19 @@ pub fn judge(
     alloc: Global,
     instructions: &[Insn],
     starts: &[usize],
-    slots: usize,
+    slot_count: usize,
 ) -> Result<Vec<Option<usize>>, Refusal>
     requires program { IsProgram instructions.now }
     requires starts { starts.now ≡ starts_from 0 instructions.now }
-    requires slots { slots ≡ slot_total instructions.now }
+    requires slots { slot_count ≡ slot_total instructions.now }
     ensures targets { IfOk result (λ v. HasTargets instructions.now v.items) }
     ensures long { IfOk result (λ v. length v.items ≡ length instructions.now) }
     ensures good { OnOk result (HasGoodGraph instructions.now) }
-    ensures flaw { IfErr result (TellsFlaw instructions.now) }
+    ensures told { IfErr result (IsToldOf instructions.now) }
+    ensures accepts { HasGoodGraph instructions.now → IsAccepted result }
 {
-    let index = index_of(alloc, instructions, starts, slots)?;
-    let targets = targets_of(alloc, instructions, starts, &index)?;
+    let indexes = indexes_of(alloc, instructions, starts, slot_count)?;
+    let targets = targets_of(alloc, instructions, starts, &indexes)?;
     if !ends_with_exit(instructions) {
         return Err(Refusal::Graph {
             flaw: GraphFlaw::FallsOff,
@@ -224,9 +235,9 @@ pub fn judge(
         });
     }
     match first_unreached(alloc, instructions, &targets)? {
-        Some(k) => Err(Refusal::Graph {
+        Some(index) => Err(Refusal::Graph {
             flaw: GraphFlaw::Unreachable,
-            slot: starts[k],
+            slot: starts[index],
         }),
         None => Ok(targets),
     }

@@ -1,18 +1,11 @@
-use Rattle.std.proofs.Common.{◌≡◌, ℕ, ◌*◌, ◌<◌, List, length, true, false, eqb, ap, ◌∙◌, arith}
+use Rattle.std.proofs.Common.{◌≡◌, ℕ, ◌*◌, List, length, ap, ◌∙◌, arith}
 use Rattle.bpf_model.specs.declared.insn.Insn.{Insn}
 use Rattle.bpf_model.specs.Spelling.{text, slot_total}
-use Rattle.insn_codec.proofs.DecodeLoop.{length_text}
-use Rattle.std.proofs.lemmas.Bool.Decides.{nat_tests}
+use Rattle.insn_codec.proofs.DecodeLoop.{length_text, none_from, some_from}
 use Rattle.insn_codec.proofs.decoding.decode.Goals as goal
 
 program_length : (bytes : List ℕ) (p : List Insn) → bytes ≡ text p → length bytes ≡ 8 * slot_total p
 program_length bytes p e = ap (λ (x : List ℕ). length x) e ∙ length_text p
-
-none_from : (n : ℕ) → true ≡ eqb n 0 → n ≡ 0
-none_from n e = grind (arith, nat_tests)
-
-some_from : (n : ℕ) → false ≡ eqb n 0 → 0 < n
-some_from n e = grind (arith, nat_tests)
 
 pub returns-then-bytes-ne0-clause-only : goal.returns-then-bytes-ne0-clause-only
 returns-then-bytes-ne0-clause-only c = λ p is a e. let l = program_length c.args.bytes.now p e in absurd (omega (arith, is.limit))

@@ -1,15 +1,8 @@
-use Rattle.std.proofs.Common.{◌≡◌, ℕ, ◌<◌, true, false, eqb, Result, Ok, Err, arith}
+use Rattle.std.proofs.Common.{◌≡◌, Result, Ok, Err}
 use Rattle.std.specs.Prelude.{IfOk, IsOk}
-use Rattle.insn_codec.proofs.DecodeLoop.{goes_on, stops, ends}
+use Rattle.insn_codec.proofs.DecodeLoop.{goes_on, stops, ends, none_from, some_from}
 use Rattle.insn_codec.proofs.decoding.decode_all.Goals as goal
-use Rattle.std.proofs.lemmas.Bool.Decides.{nat_tests}
 use Rattle.std.proofs.lemmas.Result.{IfOk-at_ok}
-
-long_from : (n : ℕ) → false ≡ eqb n 0 → 0 < n
-long_from n e = grind (arith, nat_tests)
-
-none_from : (n : ℕ) → true ≡ eqb n 0 → n ≡ 0
-none_from n e = grind (arith, nat_tests)
 
 is_err : {A E : Type 0} (P : A → Type 0) (r : Result A E) (d : E) → r ≡ Err d → IfOk r P × IsOk r → ⊥
 is_err P (Ok x) d e h = cc
@@ -17,11 +10,11 @@ is_err P (Err d) f e h = absurd (let k = h.1 in cc)
 
 pub returns-in-Err-clause-only : goal.returns-in-Err-clause-only
 returns-in-Err-clause-only c = λ is fits profile e.
-    absurd (stops is c.loop-rest.instructions.items c.loop-rest.rest.now (long_from _ c.loop-rest-test.ensures) (λ j r f a p. is_err (λ x. (x.0 ≡ j) × (x.1.now ≡ r)) c.decode_first.result c.in-Err.flaw c.in-Err.is (c.decode_first.ensures.only j r f a p)) (c.loop-rest.invariant.only is fits profile e))
+    absurd (stops is c.loop-rest.instructions.items c.loop-rest.rest.now (some_from _ c.loop-rest-test.ensures) (λ j r f a p. is_err (λ x. (x.0 ≡ j) × (x.1.now ≡ r)) c.decode_first.result c.in-Err.flaw c.in-Err.is (c.decode_first.ensures.only j r f a p)) (c.loop-rest.invariant.only is fits profile e))
 
 pub loop-rest-preserved : goal.loop-rest-preserved
 loop-rest-preserved c =
-    let r = goes_on c.args.bytes.now c.loop-rest.instructions.items c.loop-rest.starts.items c.loop-rest.slot c.loop-rest.rest.now c.in-Ok.first.1.now c.in-Ok.first.0 c.loop-rest.invariant (long_from _ c.loop-rest-test.ensures) c.in-Ok.ensures.fits c.in-Ok.ensures.admitted c.in-Ok.ensures.found
+    let r = goes_on c.args.bytes.now c.loop-rest.instructions.items c.loop-rest.starts.items c.loop-rest.slot c.loop-rest.rest.now c.in-Ok.first.1.now c.in-Ok.first.0 c.loop-rest.invariant (some_from _ c.loop-rest-test.ensures) c.in-Ok.ensures.fits c.in-Ok.ensures.admitted c.in-Ok.ensures.found
     (λ j r f a p. IfOk-at_ok (λ x. (x.0 ≡ j) × (x.1.now ≡ r)) c.in-Ok.is (c.decode_first.ensures.only j r f a p).0) in
     rw (c.in_ok-push.ensures.items, c.in_ok-push-2.ensures.items, c.slot_count-slot.ensures.value) r
 

@@ -8,11 +8,8 @@ use Rattle.bpf_model.specs.Spelling.{FitsInsn, opcode_of}
 use Rattle.insn_codec.specs.declared.flaw.Flaw.{Flaw}
 use Rattle.insn_codec.specs.Faults.{flaw_with}
 use Rattle.insn_codec.specs.Begins.{BeginsWith}
-use Rattle.insn_codec.proofs.InsnLaws.{opcode_is, supported, no_flaw, same}
+use Rattle.insn_codec.proofs.InsnLaws.{some_is, opcode_is, supported, no_flaw, same}
 use Rattle.insn_codec.proofs.reading.decode_slot.Goals as goal
-
-some_is : {A : Type 0} (x y : A) → Some x ≡ Some y → x ≡ y
-some_is x y e = cc
 
 pub returns-in_default-clause-only : goal.returns-in_default-clause-only
 returns-in_default-clause-only c = λ i fits a begins. let e = c.opcode_from.ensures.only (opcode_of i) (opcode_is i _ _ begins) in absurd cc

@@ -6,4 +6,4 @@ abbrev pub invariant-steps : goal.invariant-steps
 invariant-steps l = Runs l.verified l.ctx.items l.run
 
 abbrev pub decreases-steps : goal.decreases-steps
-decreases-steps l = length l.verified.program - l.run.place
+decreases-steps l = length l.verified.program - l.run.index

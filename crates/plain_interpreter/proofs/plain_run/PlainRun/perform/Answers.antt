@@ -8,14 +8,8 @@ use Rattle.plain_interpreter.proofs.plain_run.PlainRun.perform.Goals as goal
 pub returns-in-Alu : goal.returns-in-Alu
 returns-in-Alu c = subst (λ i. Performs i (environment c.args.context.now c.args.maps) c.args.self.now c.alu.result c.alu.new.self) (sym c.in-Alu.is) (c.alu.ensures (environment c.args.context.now c.args.maps))
 
-pub returns-in-MoveSigned : goal.returns-in-MoveSigned
-returns-in-MoveSigned c = subst (λ i. Performs i (environment c.args.context.now c.args.maps) c.args.self.now c.move_signed.result c.move_signed.new.self) (sym c.in-MoveSigned.is) (c.move_signed.ensures (environment c.args.context.now c.args.maps))
-
-pub returns-in-Negate : goal.returns-in-Negate
-returns-in-Negate c = subst (λ i. Performs i (environment c.args.context.now c.args.maps) c.args.self.now c.negate.result c.negate.new.self) (sym c.in-Negate.is) (c.negate.ensures (environment c.args.context.now c.args.maps))
-
-pub returns-in-ByteSwap : goal.returns-in-ByteSwap
-returns-in-ByteSwap c = subst (λ i. Performs i (environment c.args.context.now c.args.maps) c.args.self.now c.byte_swap.result c.byte_swap.new.self) (sym c.in-ByteSwap.is) (c.byte_swap.ensures (environment c.args.context.now c.args.maps))
+pub returns-in-Unary : goal.returns-in-Unary
+returns-in-Unary c = subst (λ i. Performs i (environment c.args.context.now c.args.maps) c.args.self.now c.unary.result c.unary.new.self) (sym c.in-Unary.is) (c.unary.ensures (environment c.args.context.now c.args.maps))
 
 pub returns-in-LoadMap : goal.returns-in-LoadMap
 returns-in-LoadMap c =

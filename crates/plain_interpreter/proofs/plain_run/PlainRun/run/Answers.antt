@@ -1,7 +1,7 @@
 use Rattle.std.proofs.Common.{◌≡◌, ◌+◌, subst, arith}
 use Rattle.plain_interpreter.specs.Plain.{Tells, state_of, environment}
 use Rattle.plain_interpreter.specs.Runs.{Walks, walks_none}
-use Rattle.plain_interpreter.proofs.Walking.{exits_walked, walked_on}
+use Rattle.plain_interpreter.proofs.Walking.{walked_on}
 use Rattle.plain_interpreter.proofs.plain_run.PlainRun.run.Goals as goal
 
 pub loop-done-init : goal.loop-done-init
@@ -11,7 +11,7 @@ pub returns-in-Exited : goal.returns-in-Exited
 returns-in-Exited c =
     let env = environment c.args.context.now c.args.maps in
     let s = subst (λ a. Tells c.args.program.now env c.loop-done.self a c.step.new.self) c.in-Exited.is c.step.ensures in
-    (c.loop-done.done + 1, omega arith, exits_walked c.args.program.now env (state_of c.args.self.now) c.loop-done.done (state_of c.loop-done.self) c.in-Exited.n c.loop-done.invariant s.0)
+    (c.loop-done.done, state_of c.loop-done.self, c.loop-done-test.true, c.loop-done.invariant, s.0)
 
 pub loop-done-preserved : goal.loop-done-preserved
 loop-done-preserved c =

@@ -2,7 +2,9 @@ use Rattle.std.proofs.Common.{◌≡◌, List, Bool, false, map, sym, ap, ◌∙
 use Rattle.std.proofs.lemmas.List.{with_items_is}
 use Rattle.std.specs.Vec.{with_items}
 use Rattle.bpf_model.specs.Schedule.{Queues, Schedule, advanced, is_any, turned, open_flags}
-use Rattle.plain_model.specs.State.{machine_of, schedule_of, queues_of, runs_of}
+use Rattle.plain_model.specs.State.{machine_of, schedule_of}
+use Rattle.plain_store.specs.State.{queues_of}
+use Rattle.plain_runs.specs.State.{runs_of}
 use Rattle.plain_model.proofs.machine.Machine.advance.Goals as goal
 
 pub returns-clause-lists : goal.returns-clause-lists

@@ -3,7 +3,8 @@ use Rattle.std.specs.Prelude.{replicate}
 use Rattle.bpf_model.specs.Schedule.{Queues, Schedule}
 use Rattle.bpf_model.specs.MapState.{Store, new_map}
 use Rattle.bpf_model.specs.Machine.{Run}
-use Rattle.plain_model.specs.State.{runs_of, loaded_of, queues_of}
+use Rattle.plain_runs.specs.State.{runs_of, loaded_of}
+use Rattle.plain_store.specs.State.{queues_of}
 use Rattle.plain_model.proofs.Starts.{no_queues, same-for-each, no-runs}
 use Rattle.plain_model.proofs.machine.Machine.new.Goals as goal
 

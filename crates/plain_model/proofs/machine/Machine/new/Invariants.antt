@@ -1,6 +1,6 @@
 use Rattle.std.proofs.Common.{◌≡◌, None, false, map}
 use Rattle.std.specs.Prelude.{replicate}
-use Rattle.plain_model.specs.State.{queues_of}
+use Rattle.plain_store.specs.State.{queues_of}
 use Rattle.plain_model.proofs.Starts.{no_queues}
 use Rattle.plain_model.proofs.machine.Machine.new.Given as goal
 

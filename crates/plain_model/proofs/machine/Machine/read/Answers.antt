@@ -2,8 +2,9 @@ use Rattle.std.proofs.Common.{◌≡◌, None, refl, sym, ap, ◌∙◌, subst, 
 use Rattle.std.specs.Option.{option_map}
 use Rattle.bpf_model.specs.Event.{key_refusal}
 use Rattle.bpf_model.specs.MapState.{shape_of}
-use Rattle.plain_model.specs.State.{machine_of, store_of, elements_of}
-use Rattle.plain_model.specs.Births.{Finds}
+use Rattle.plain_model.specs.State.{machine_of}
+use Rattle.plain_store.specs.State.{store_of, elements_of}
+use Rattle.plain_store.specs.Births.{Finds}
 use Rattle.plain_model.proofs.Events.{read-does, bytes_of}
 use Rattle.plain_model.proofs.machine.Machine.read.Goals as goal
 

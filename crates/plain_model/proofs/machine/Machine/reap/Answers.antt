@@ -3,8 +3,10 @@ use Rattle.std.proofs.lemmas.List.{with_items_is}
 use Rattle.std.specs.Vec.{with_items}
 use Rattle.bpf_model.specs.Machine.{open_sections}
 use Rattle.bpf_model.specs.Schedule.{first_ready, without_first}
-use Rattle.plain_model.specs.State.{runs_of, store_of, sections_of, queues_of, schedule_of}
-use Rattle.plain_model.specs.Births.{ReclaimsTo}
+use Rattle.plain_runs.specs.State.{runs_of}
+use Rattle.plain_store.specs.State.{store_of, sections_of, queues_of}
+use Rattle.plain_model.specs.State.{schedule_of}
+use Rattle.plain_store.specs.Births.{ReclaimsTo}
 use Rattle.plain_model.proofs.Following.{none-follows, reap-follows}
 use Rattle.plain_model.proofs.machine.Machine.reap.Goals as goal
 use Rattle.plain_model.proofs.machine.Machine.reap.Goals.{In-Ok}

@@ -5,9 +5,11 @@ use Rattle.bpf_model.specs.Machine.{Machine, begins, fresh_run, lowest_free}
 use Rattle.bpf_model.specs.declared.event.Event.TheVariants as events
 use Rattle.bpf_model.specs.declared.event.Answer.TheVariants.{Started}
 use Rattle.bpf_model.specs.Event.{Does}
-use Rattle.plain_model.specs.State.{machine_of, run_of, runs_of, run_with, loaded_of, or_no_program}
-use Rattle.plain_model.proofs.Lists.{get-map, read-at, map-slice_set, length-map-own}
-use Rattle.plain_model.proofs.Runs.{lowest-within}
+use Rattle.plain_model.specs.State.{machine_of}
+use Rattle.plain_runs.specs.State.{run_of, runs_of, run_with, loaded_of, or_no_program}
+use Rattle.plain_store.proofs.Lists.{get-map, read-at, length-map-own}
+use Rattle.std.proofs.lemmas.List.{map-set}
+use Rattle.plain_runs.proofs.BySlot.{lowest-within}
 use Rattle.plain_model.proofs.Events.{start-does}
 use Rattle.plain_model.proofs.machine.Machine.start.Goals as goal
 
@@ -34,7 +36,7 @@ returns-clause-machine c =
     let one : slice_get programs p ≡ Some x = read-at programs p x bound c.index.ensures in
     let there : slice_get (map loaded_of programs) p ≡ Some (loaded_of x) = get-map loaded_of programs p x one in
     let fresh : run_of programs run ≡ fresh_run self.started (loaded_of x) c.args.ctx.items = ap (λ k. run_with (or_no_program (slice_get programs k)) run) c.new.ensures.program ∙ ap (λ o. run_with (or_no_program o) run) one ∙ c.new.ensures.run (loaded_of x) in
-    let runs : runs_of programs (slice_set items r (Some run)) ≡ slice_set m.runs r (Some (fresh_run self.started (loaded_of x) c.args.ctx.items)) = map-slice_set (option_map (run_of programs)) items r (Some run) ∙ ap (λ f. slice_set m.runs r (Some f)) fresh in
+    let runs : runs_of programs (slice_set items r (Some run)) ≡ slice_set m.runs r (Some (fresh_run self.started (loaded_of x) c.args.ctx.items)) = map-set (option_map (run_of programs)) items r (Some run) ∙ ap (λ f. slice_set m.runs r (Some f)) fresh in
     let at : ℕ → Machine = λ n. record { store = m.store; runs = runs_of programs (slice_set items r (Some run)); started = n; programs = m.programs } in
     let new : Machine = at c.in_ok-next.next in
     let is : new ≡ begins m r (loaded_of x) c.args.ctx.items = ap at c.in_ok-next.ensures ∙ ap (λ rs. record { store = m.store; runs = rs; started = m.started + 1; programs = m.programs }) runs in

@@ -3,9 +3,13 @@ use Rattle.std.specs.Prelude.{slice_get, slice_set}
 use Rattle.std.specs.Option.{option_map}
 use Rattle.bpf_model.specs.Machine.{with_runs, with_store, open_sections}
 use Rattle.bpf_model.specs.declared.event.Event.TheVariants as events
-use Rattle.plain_model.specs.State.{machine_of, run_of, runs_of, store_of, sections_of}
-use Rattle.plain_model.specs.Acting.{SlotStepsAs, DoesAs}
-use Rattle.plain_model.proofs.Lists.{get-map, read-at, map-slice_set}
+use Rattle.plain_model.specs.State.{machine_of}
+use Rattle.plain_runs.specs.State.{run_of, runs_of}
+use Rattle.plain_store.specs.State.{store_of, sections_of}
+use Rattle.plain_runs.specs.Acting.{SlotStepsAs}
+use Rattle.plain_model.specs.Following.{DoesAs}
+use Rattle.plain_store.proofs.Lists.{get-map, read-at}
+use Rattle.std.proofs.lemmas.List.{map-set}
 use Rattle.plain_model.proofs.Events.{step-does}
 use Rattle.plain_model.proofs.machine.Machine.step.Goals as goal
 
@@ -25,7 +29,7 @@ returns-clause-machine c =
     let opened : sections_of c.as_slice-2.result.now ≡ open_sections (runs_of programs items) = ap sections_of c.as_slice-2.ensures.value ∙ c.in_ok-opened.ensures in
     let by_programs = subst (λ ps. SlotStepsAs (store_of self.store) (sections_of c.as_slice-2.result.now) (option_map (run_of ps) x) c.step_slot.result t (option_map (run_of ps) after)) c.as_slice.ensures.value c.step_slot.ensures.steps in
     let by_sections = subst (λ o. SlotStepsAs (store_of self.store) o (option_map (run_of programs) x) c.step_slot.result t (option_map (run_of programs) after)) opened by_programs in
-    let runs = map-slice_set (option_map (run_of programs)) items r after in
+    let runs = map-set (option_map (run_of programs)) items r after in
     subst (λ k. DoesAs m (events.Step k) c.step_slot.result (with_runs (with_store m t) (runs_of programs (slice_set items r after)))) c.index-r.ensures
     (step-does m r (option_map (run_of programs) x) c.step_slot.result t (option_map (run_of programs) after) (with_runs (with_store m t) (runs_of programs (slice_set items r after))) there (sym c.step_refusal.ensures ∙ c.in_default.is)
     (ap (with_runs (with_store m t)) runs) by_sections)

@@ -2,8 +2,8 @@ use Rattle.std.proofs.Common.{sym, subst}
 use Rattle.std.specs.Prelude.{IfOk}
 use Rattle.bpf_model.specs.declared.event.Answer.TheVariants.{Done}
 use Rattle.plain_model.specs.State.{machine_of, schedule_of}
-use Rattle.plain_model.specs.Acting.{DoesAs}
-use Rattle.plain_model.specs.Listing.{FollowsLists}
+use Rattle.plain_model.specs.Following.{DoesAs}
+use Rattle.plain_model.specs.Following.{FollowsLists}
 use Rattle.plain_model.proofs.Following.{advance-follows}
 use Rattle.plain_model.proofs.machine.Machine.take_turn.Goals as goal
 

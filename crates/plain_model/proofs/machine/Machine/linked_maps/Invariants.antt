@@ -1,8 +1,0 @@
-use Rattle.std.proofs.Common.{◌≡◌, ◌++◌, map}
-use Rattle.std.specs.Prelude.{drop}
-use Rattle.plain_model.specs.State.{elements_of}
-use Rattle.plain_model.specs.Listing.{linked_map}
-use Rattle.plain_model.proofs.machine.Machine.linked_maps.Given as goal
-
-abbrev pub invariant-loop-n : goal.invariant-loop-n
-invariant-loop-n l = map linked_map (elements_of l.self.store.elements.items) ≡ l.maps.items ++ map linked_map (drop l.n (elements_of l.self.store.elements.items))

@@ -1,0 +1,207 @@
+-- Instructions other than calls.
+use Rattle.std.proofs.Common.{◌≡◌, ℕ, List, Option, Some, None, refl, sym, ap, ◌∙◌, subst, inl, inr}
+use Rattle.std.specs.Prelude.{ℤ, Result}
+use Rattle.bpf_model.specs.Value.{◌>>=◌, number}
+use Rattle.bpf_model.specs.declared.insn.Insn.{Insn}
+use Rattle.bpf_model.specs.declared.insn.Insn.TheVariants.{Alu, Unary, LoadNumber, LoadMap, Jump, JumpLong, JumpIf, Call, Exit, Load, LoadSigned, Store}
+use Rattle.bpf_model.specs.declared.value.Value.{Value}
+use Rattle.bpf_model.specs.declared.value.Value.TheVariants.{Nothing, Number, Pointer}
+use Rattle.bpf_model.specs.declared.value.Reference.TheVariants.{Ctx, Frame, MapRef, Elem}
+use Rattle.bpf_model.specs.declared.opcode.Width.{Width}
+use Rattle.bpf_model.specs.declared.opcode.SignedWidth.{SignedWidth}
+use Rattle.bpf_model.specs.Access.{byte_count, unsigned_width}
+use Rattle.bpf_model.specs.Arithmetic.{loaded_signed}
+use Rattle.bpf_model.specs.Operand.{operand_value}
+use Rattle.bpf_model.specs.declared.insn.Operand.{Operand}
+use Rattle.bpf_model.specs.Element.{Element}
+use Rattle.bpf_model.specs.Step.{State, Environment, Outcome, Moves, Exits, after, load_from, store_to, sets}
+use Rattle.bpf_model.specs.MachineStep.{AccessesElement, element_load, element_store}
+use Rattle.plain_interpreter.specs.declared.plain_run.PlainRun.{PlainRun}
+use Rattle.plain_interpreter.specs.declared.plain_run.Progress.{Progress}
+use Rattle.plain_interpreter.specs.declared.plain_run.Progress.TheVariants as progress
+use Rattle.plain_interpreter.specs.Plain.{state_of, Comes, Performs}
+use Rattle.plain_runs.specs.Acting.{element_in, base_element, load_outcome, extended_outcome, StoresAs, ActsAs, AloneAs, KernelsAs, InsnStepsAs, call_in}
+use Rattle.bpf_model.specs.Call.{kernel_function_of}
+use Rattle.plain_store.proofs.Telling.{tells-map}
+use Rattle.bpf_model.specs.declared.insn.CallKind.{CallKind}
+use Rattle.bpf_model.specs.declared.insn.CallKind.TheVariants as kinds
+use Rattle.bpf_model.specs.declared.event.Answer.{Answer}
+use Rattle.bpf_model.specs.Section.{Section}
+use Rattle.bpf_model.specs.MapState as maps
+use Rattle.bpf_model.specs.Machine.{Run}
+use Rattle.plain_store.specs.declared.fault.Fault.{Fault}
+
+-- where the base is no element, nothing is accessed there
+no-load : (es : List Element) (width : ℕ) (offset : ℤ) (v : Value) (n : ℕ) → element_in v ≡ None → element_load es width offset v ≡ Some n → ⊥
+no-load es width offset Nothing n h e = absurd cc
+no-load es width offset (Number k) n h e = absurd cc
+no-load es width offset (Pointer (Ctx o)) n h e = absurd cc
+no-load es width offset (Pointer (Frame o)) n h e = absurd cc
+no-load es width offset (Pointer (MapRef m)) n h e = absurd cc
+no-load es width offset (Pointer (Elem k o)) n h e = absurd cc
+
+no-store : (es new : List Element) (width : ℕ) (offset : ℤ) (x v : Value) → element_in v ≡ None → element_store es width offset x v ≡ Some new → ⊥
+no-store es new width offset Nothing v h e = absurd cc
+no-store es new width offset (Pointer r) v h e = absurd cc
+no-store es new width offset (Number k) Nothing h e = absurd cc
+no-store es new width offset (Number k) (Number m) h e = absurd cc
+no-store es new width offset (Number k) (Pointer (Ctx o)) h e = absurd cc
+no-store es new width offset (Number k) (Pointer (Frame o)) h e = absurd cc
+no-store es new width offset (Number k) (Pointer (MapRef m)) h e = absurd cc
+no-store es new width offset (Number k) (Pointer (Elem n o)) h e = absurd cc
+
+pub no-access : (i : Insn) (es : List Element) (m : State) (out : Outcome) (new : List Element) → base_element i m ≡ None → AccessesElement i es m out new → ⊥
+no-access (Load width dst src offset) es m out new h a = no-load es (byte_count width) offset (m.regs src) a.0 h a.1
+no-access (LoadSigned width dst src offset) es m out new h a = no-load es (byte_count (unsigned_width width)) offset (m.regs src) a.0 h a.1
+no-access (Store width dst offset src) es m out new h a = no-store es new (byte_count width) offset (operand_value src m.regs) (m.regs dst) h a.0
+no-access (Alu op size dst src) es m out new h a = a
+no-access (Unary op dst) es m out new h a = a
+no-access (LoadNumber dst n) es m out new h a = a
+no-access (LoadMap dst map) es m out new h a = a
+no-access (Jump offset) es m out new h a = a
+no-access (JumpLong imm) es m out new h a = a
+no-access (JumpIf condition size dst src offset) es m out new h a = a
+no-access (Call kind imm) es m out new h a = a
+no-access Exit es m out new h a = a
+
+-- an instruction that does something to the run by itself
+acts-comes : (i : Insn) (env : Environment) (es : List Element) (old new : PlainRun) (p : Progress) → (base_element i (state_of old) ≡ None) → Comes (after i env (state_of old)) p old new → ActsAs i env es old p es new
+acts-comes i env es old new progress.Moved b h = inl (h, refl)
+acts-comes i env es old new (progress.Exited n) b h = (inl (h.0, refl), ap state_of h.1)
+acts-comes i env es old new progress.Stuck b h = λ out more a. elim a [
+  | inl x ↦ let e : None ≡ Some out = sym h.0 ∙ x.0 in absurd cc
+  | inr x ↦ no-access i es (state_of old) out more b x
+]
+acts-comes i env es old new progress.OutOfRange b h = tt
+
+pub performed : (i : Insn) (env : Environment) (es : List Element) (old new : PlainRun) (p : Progress) → base_element i (state_of old) ≡ None → Performs i env old p new → ActsAs i env es old p es new
+performed i env es old new p b h = acts-comes i env es old new p b h.comes
+
+-- where the base is an element, a load or a store does nothing by itself
+from-element : (env : Environment) (m : State) (width : ℕ) (offset : ℤ) (v : Value) (n : ℕ) (o : ℤ) → v ≡ Pointer (Elem n o) → load_from env m width offset v ≡ None
+from-element env m width offset v n o e = ap (load_from env m width offset) e
+
+to-element : (m : State) (width : ℕ) (offset : ℤ) (x v : Value) (n : ℕ) (o : ℤ) → v ≡ Pointer (Elem n o) → store_to m width offset x v ≡ None
+to-element m width offset x v n o e = ap (store_to m width offset x) e
+
+abbrev pair : ℕ → ℤ → ℕ × ℤ
+pair n o = (n, o)
+
+pub element-is : (v : Value) (n : ℕ) (o : ℤ) → element_in v ≡ Some (n, o) → v ≡ Pointer (Elem n o)
+element-is Nothing n o h = absurd cc
+element-is (Number k) n o h = absurd cc
+element-is (Pointer (Ctx p)) n o h = absurd cc
+element-is (Pointer (Frame p)) n o h = absurd cc
+element-is (Pointer (MapRef m)) n o h = absurd cc
+element-is (Pointer (Elem k p)) n o h =
+    let e : Some (pair k p) ≡ Some (pair n o) = h in
+    let f : pair k p ≡ pair n o = cc in
+    ap (λ q. Pointer (Elem q.0 q.1)) f
+
+pub loaded-acts : (width : Width) (dst src : ℕ) (offset : ℤ) (env : Environment) (es : List Element) (old new : PlainRun) (p : Progress) (n : ℕ) (o : ℤ) → element_in ((state_of old).regs src) ≡ Some (n, o) →
+    Comes (load_outcome es (byte_count width) offset (Pointer (Elem n o)) dst (state_of old)) p old new → ActsAs (Load width dst src offset) env es old p es new
+loaded-acts width dst src offset env es old new p n o b h =
+    let base = element-is ((state_of old).regs src) n o b in
+    by p (subst (λ v. Comes (load_outcome es (byte_count width) offset v dst (state_of old)) p old new) (sym base) h) (ap (λ q. q >>= λ v. sets 1 dst v (state_of old)) (from-element env (state_of old) (byte_count width) offset ((state_of old).regs src) n o base))
+  where
+    found : (q : Option ℕ) (out : Outcome) → (q >>= λ k. sets 1 dst (Number k) (state_of old)) ≡ Some out → (k : ℕ) × (q ≡ Some k) × (sets 1 dst (Number k) (state_of old) ≡ Some out)
+    found None out e = absurd cc
+    found (Some k) out e = (k, refl, e)
+
+    by : (p : Progress) → Comes (load_outcome es (byte_count width) offset ((state_of old).regs src) dst (state_of old)) p old new → after (Load width dst src offset) env (state_of old) ≡ None → ActsAs (Load width dst src offset) env es old p es new
+    by progress.Moved c z =
+        let f = found (element_load es (byte_count width) offset ((state_of old).regs src)) (Moves (state_of new)) c in
+        inr (f.0, f.1, f.2, refl)
+    by (progress.Exited k) c z =
+        let f = found (element_load es (byte_count width) offset ((state_of old).regs src)) (Exits k) c.0 in
+        (inr (f.0, f.1, f.2, refl), ap state_of c.1)
+    by progress.Stuck c z = λ out more a. elim a [
+      | inl x ↦ let e : None ≡ Some out = sym z ∙ x.0 in absurd cc
+      | inr x ↦
+          let e : None ≡ Some out = sym c.0 ∙ ap (λ q. q >>= λ k. sets 1 dst (Number k) (state_of old)) x.1 ∙ x.2 in absurd cc
+    ]
+    by progress.OutOfRange c z = tt
+
+pub extended-acts : (width : SignedWidth) (dst src : ℕ) (offset : ℤ) (env : Environment) (es : List Element) (old new : PlainRun) (p : Progress) (n : ℕ) (o : ℤ) → element_in ((state_of old).regs src) ≡ Some (n, o) →
+    Comes (extended_outcome es width offset (Pointer (Elem n o)) dst (state_of old)) p old new → ActsAs (LoadSigned width dst src offset) env es old p es new
+extended-acts width dst src offset env es old new p n o b h =
+    let base = element-is ((state_of old).regs src) n o b in
+    by p (subst (λ v. Comes (extended_outcome es width offset v dst (state_of old)) p old new) (sym base) h)
+    (ap (λ q. q >>= λ v. number v >>= λ k. sets 1 dst (Number (loaded_signed width k)) (state_of old)) (from-element env (state_of old) (byte_count (unsigned_width width)) offset ((state_of old).regs src) n o base))
+  where
+    found : (q : Option ℕ) (out : Outcome) → (q >>= λ k. sets 1 dst (Number (loaded_signed width k)) (state_of old)) ≡ Some out → (k : ℕ) × (q ≡ Some k) × (sets 1 dst (Number (loaded_signed width k)) (state_of old) ≡ Some out)
+    found None out e = absurd cc
+    found (Some k) out e = (k, refl, e)
+
+    by : (p : Progress) → Comes (extended_outcome es width offset ((state_of old).regs src) dst (state_of old)) p old new → after (LoadSigned width dst src offset) env (state_of old) ≡ None → ActsAs (LoadSigned width dst src offset) env es old p es new
+    by progress.Moved c z =
+        let f = found (element_load es (byte_count (unsigned_width width)) offset ((state_of old).regs src)) (Moves (state_of new)) c in
+        inr (f.0, f.1, f.2, refl)
+    by (progress.Exited k) c z =
+        let f = found (element_load es (byte_count (unsigned_width width)) offset ((state_of old).regs src)) (Exits k) c.0 in
+        (inr (f.0, f.1, f.2, refl), ap state_of c.1)
+    by progress.Stuck c z = λ out more a. elim a [
+      | inl x ↦ let e : None ≡ Some out = sym z ∙ x.0 in absurd cc
+      | inr x ↦
+          let e : None ≡ Some out = sym c.0 ∙ ap (λ q. q >>= λ k. sets 1 dst (Number (loaded_signed width k)) (state_of old)) x.1 ∙ x.2 in absurd cc
+    ]
+    by progress.OutOfRange c z = tt
+
+-- a store to an element
+pub stored-acts : (width : Width) (dst : ℕ) (offset : ℤ) (src : Operand) (env : Environment) (es more : List Element) (old new : PlainRun) (p : Progress) (n : ℕ) (o : ℤ) → element_in ((state_of old).regs dst) ≡ Some (n, o) →
+    StoresAs (element_store es (byte_count width) offset (operand_value src (state_of old).regs) (Pointer (Elem n o))) old p more new → ActsAs (Store width dst offset src) env es old p more new
+stored-acts width dst offset src env es more old new p n o b h =
+    let base = element-is ((state_of old).regs dst) n o b in
+    let v = operand_value src (state_of old).regs in
+    by p (subst (λ r. StoresAs (element_store es (byte_count width) offset v r) old p more new) (sym base) h) (to-element (state_of old) (byte_count width) offset v ((state_of old).regs dst) n o base)
+  where
+    by : (p : Progress) → StoresAs (element_store es (byte_count width) offset (operand_value src (state_of old).regs) ((state_of old).regs dst)) old p more new → after (Store width dst offset src) env (state_of old) ≡ None →
+        ActsAs (Store width dst offset src) env es old p more new
+    by progress.Moved c z = inr (c.0, ap Moves c.1)
+    by (progress.Exited k) c z = absurd c
+    by progress.Stuck c z = λ out es2 a. elim a [
+      | inl x ↦ let e : None ≡ Some out = sym z ∙ x.0 in absurd cc
+      | inr x ↦ let e : None ≡ Some es2 = sym c ∙ x.0 in absurd cc
+    ]
+    by progress.OutOfRange c z = tt
+
+-- a lock or an unlock is the step of its call
+pub kernel-steps : (imm : ℤ) (s : maps.Store) (opened : List Section) (run : Run) (answer : Result Answer Fault) (q : Run) → KernelsAs (kernel_function_of imm) run answer q → InsnStepsAs (Call kinds.Kernel imm) s opened run answer s q
+kernel-steps imm s opened run answer q h = tells-map _ _ _ _ answer (λ a k. (k.0, k.1, refl)) (λ none a t q k. none q k.0) h
+
+-- what an instruction other than a call does is its step
+pub alone-steps : (i : Insn) (s : maps.Store) (opened : List Section) (run : Run) (answer : Result Answer Fault) (t : maps.Store) (q : Run) →
+    call_in i ≡ None → AloneAs i s run answer t q → InsnStepsAs i s opened run answer t q
+alone-steps (Call kinds.Kernel imm) s opened run answer t q k a = absurd cc
+alone-steps (Call kinds.Helper imm) s opened run answer t q k a = absurd cc
+alone-steps (Alu op size dst src) s opened run answer t q k a = a
+alone-steps (Unary op dst) s opened run answer t q k a = a
+alone-steps (LoadNumber dst n) s opened run answer t q k a = a
+alone-steps (LoadMap dst map) s opened run answer t q k a = a
+alone-steps (Jump offset) s opened run answer t q k a = a
+alone-steps (JumpLong imm) s opened run answer t q k a = a
+alone-steps (JumpIf condition size dst src offset) s opened run answer t q k a = a
+alone-steps Exit s opened run answer t q k a = a
+alone-steps (Load width dst src offset) s opened run answer t q k a = a
+alone-steps (LoadSigned width dst src offset) s opened run answer t q k a = a
+alone-steps (Store width dst offset src) s opened run answer t q k a = a
+
+abbrev pub call-pair : CallKind → ℤ → CallKind × ℤ
+call-pair kind imm = (kind, imm)
+
+pub call-is : (i : Insn) (kind : CallKind) (imm : ℤ) → call_in i ≡ Some (kind, imm) → i ≡ Call kind imm
+call-is (Call k j) kind imm h =
+    let e : Some (call-pair k j) ≡ Some (call-pair kind imm) = h in
+    let f : call-pair k j ≡ call-pair kind imm = cc in
+    ap (λ p. Call p.0 p.1) f
+call-is (Alu op size dst src) kind imm h = absurd cc
+call-is (Unary op dst) kind imm h = absurd cc
+call-is (LoadNumber dst n) kind imm h = absurd cc
+call-is (LoadMap dst map) kind imm h = absurd cc
+call-is (Jump offset) kind imm h = absurd cc
+call-is (JumpLong j) kind imm h = absurd cc
+call-is (JumpIf condition size dst src offset) kind imm h = absurd cc
+call-is Exit kind imm h = absurd cc
+call-is (Load width dst src offset) kind imm h = absurd cc
+call-is (LoadSigned width dst src offset) kind imm h = absurd cc
+call-is (Store width dst offset src) kind imm h = absurd cc

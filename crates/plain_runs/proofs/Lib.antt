@@ -1,0 +1,4 @@
+pub mod Acting
+pub mod Bytes
+pub mod Stores
+pub mod BySlot

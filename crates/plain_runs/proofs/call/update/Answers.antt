@@ -1,0 +1,30 @@
+use Rattle.std.proofs.Common.{◌≡◌, Some, sym, ap, ◌∙◌}
+use Rattle.bpf_model.specs.declared.value.Value.TheVariants.{Number}
+use Rattle.bpf_model.specs.Value.{◌>>=◌, number}
+use Rattle.bpf_model.specs.MachineStep.{frame_bytes, value_argument}
+use Rattle.plain_store.specs.State.{store_of}
+use Rattle.plain_runs.specs.State.{run_with, loaded_of}
+use Rattle.plain_runs.proofs.Stores.{shape-within}
+use Rattle.plain_runs.proofs.call.update.Goals as goal
+
+pub returns-clause-tells : goal.returns-clause-tells
+returns-clause-tells c =
+    let s = store_of c.args.store.now in
+    let run = run_with (loaded_of c.args.program.now) c.args.run.now in
+    let place = c.in_ok-place.place in
+    let is = c.in_ok-place.ensures in
+    let frame = run.state.frame in
+    let value : value_argument s run place.map ≡ Some c.in_ok-value.value.items = ap (λ o. o >>= λ shape. frame_bytes frame shape.value_len (run.state.regs 3)) is.shape ∙ ap (frame_bytes frame place.shape.value_len) (sym c.register.ensures) ∙ c.in_ok-value.ensures in
+    record {
+      map = place.map;
+      key = place.key.items;
+      value = c.in_ok-value.value.items;
+      flags = c.in-Some.flags;
+      outcome = c.in_ok-outcome.outcome;
+      map_is = is.map;
+      key_is = is.key;
+      value_is = value;
+      flags_are = ap number (sym c.register-2.ensures) ∙ sym c.number.ensures ∙ c.in-Some.is;
+      updated = c.in_ok-outcome.ensures.updates (shape-within c.args.store.now.maps.items place.map place.shape is.shape);
+      ret_is = ap Number c.ret_word.ensures;
+    }

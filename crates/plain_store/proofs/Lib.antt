@@ -1,0 +1,9 @@
+pub mod Telling
+pub mod Lists
+pub mod Elements
+pub mod Births
+pub mod Sections
+pub mod Reclaims
+pub mod Oldest
+pub mod Accesses
+pub mod Queueing

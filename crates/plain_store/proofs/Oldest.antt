@@ -1,0 +1,56 @@
+-- A new element takes the slot that has been free longest.
+use Rattle.std.proofs.Common.{◌≡◌, ℕ, zero, suc, ◌+◌, ◌<◌, List, [], ◌∷◌, ◌++◌, Option, Some, None, refl, sym, ap, ◌∙◌, arith, length}
+use Rattle.std.specs.Prelude.{slice_get, slice_set, drop, ◌-◌}
+use Rattle.bpf_model.specs.Section.{Section}
+use Rattle.bpf_model.specs.Element.{Element, Unlinked, Linked, with_life, set_to, unlinked}
+use Rattle.bpf_model.specs.MapState.{MapState, Store, with_bag}
+use Rattle.bpf_model.specs.Schedule.{TakesOldest}
+use Rattle.plain_store.specs.Births.{after_first, without_first}
+use Rattle.plain_store.proofs.Births.{without_first-at}
+use Rattle.plain_store.proofs.Lists.{first-of, get-within}
+use Rattle.plain_store.proofs.Lists.{set-get}
+
+-- where no element was born
+pub no-birth : (s t : Store) → length t.elements ≡ length s.elements → TakesOldest s t
+no-birth s t h e before after born old new = absurd (let inside = get-within t.elements (length s.elements) e born in omega (arith, inside, h))
+
+pub same-store : (s t : Store) → t ≡ s → TakesOldest s t
+same-store s t h = no-birth s t (ap (λ x. length x.elements) h)
+
+set-length : {A : Type 0} (xs : List A) (n : ℕ) (x : A) → length (slice_set xs n x) ≡ length xs
+set-length [] n x = refl
+set-length (y ∷ xs) zero x = refl
+set-length (y ∷ xs) (suc n) x = ap suc (set-length xs n x)
+
+changed-length : (f : Element → Element) (es : List Element) (n : ℕ) (o : Option Element) → length (set_to f es n o) ≡ length es
+changed-length f es n None = refl
+changed-length f es n (Some e) = set-length es n (f e)
+
+pub unlinked-length : (opened : List Section) (es : List Element) (found : Option ℕ) → length (unlinked opened es found) ≡ length es
+unlinked-length opened es None = refl
+unlinked-length opened es (Some n) = changed-length (with_life (Unlinked opened)) es n (slice_get es n)
+
+last-is : (xs : List Element) (x : Element) (n : ℕ) → n ≡ length xs → slice_get (xs ++ x ∷ []) n ≡ Some x
+last-is [] x n h = ap (slice_get (x ∷ [])) h
+last-is (y ∷ xs) x zero h = absurd (omega arith)
+last-is (y ∷ xs) x (suc n) h = last-is xs x n (omega arith)
+
+pub birth : (s t : Store) (opened : List Section) (k : ℕ) (m : MapState) (key value : List ℕ) (found : Option ℕ) (use_count : ℕ) → slice_get s.maps k ≡ Some m → 0 < length m.bag → use_count ≡ after_first m.bag →
+    t.elements ≡ unlinked opened s.elements found ++ record { map = k; key = key; value = value; uses = use_count; life = Linked } ∷ [] → t.maps ≡ without_first s.maps k → TakesOldest s t
+birth s t opened k m key value found use_count h free uses elements maps e before after born old new =
+    let x : Element = record { map = k; key = key; value = value; uses = use_count; life = Linked } in
+    let at : slice_get t.elements (length s.elements) ≡ Some x = ap (λ l. slice_get l (length s.elements)) elements ∙ last-is (unlinked opened s.elements found) x (length s.elements) (sym (unlinked-length opened s.elements found)) in
+    let both : Some e ≡ Some x = sym born ∙ at in
+    let is_x : e ≡ x = cc in
+    let old_k : slice_get s.maps k ≡ Some before = ap (λ y. slice_get s.maps y.map) (sym is_x) ∙ old in
+    let one : Some before ≡ Some m = sym old_k ∙ h in
+    let is_m : before ≡ m = cc in
+    let new_k : slice_get t.maps k ≡ Some after = ap (λ y. slice_get t.maps y.map) (sym is_x) ∙ new in
+    let taken : slice_get t.maps k ≡ Some (with_bag (drop 1 m.bag) m) = ap (λ l. slice_get l k) (maps ∙ without_first-at s.maps k m h) ∙ set-get s.maps k m (with_bag (drop 1 m.bag) m) h in
+    let two : Some after ≡ Some (with_bag (drop 1 m.bag) m) = sym new_k ∙ taken in
+    let is_after : after ≡ with_bag (drop 1 m.bag) m = cc in
+    let f = first-of m.bag free in
+    let bag : m.bag ≡ f.0 ∷ f.1 = f.2 in
+    let count : e.uses ≡ f.0 + 1 = ap (λ y. y.uses) is_x ∙ uses ∙ ap after_first bag in
+    let less : e.uses - 1 ≡ f.0 = omega arith in
+    ap (λ y. y.bag) is_m ∙ bag ∙ ap (λ n. n ∷ f.1) (sym less) ∙ ap (λ l. (e.uses - 1) ∷ drop 1 l) (sym bag) ∙ ap (λ y. (e.uses - 1) ∷ y.bag) (sym is_after)

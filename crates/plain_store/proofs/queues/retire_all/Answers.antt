@@ -1,0 +1,22 @@
+use Rattle.std.proofs.Common.{◌<◌, length, map, sym, ap, ◌∙◌, arith}
+use Rattle.plain_store.specs.State.{queues_of, elements_of}
+use Rattle.plain_store.specs.Retiring.{retire_in}
+use Rattle.plain_store.proofs.Lists.{read-at, length-map-own}
+use Rattle.plain_store.proofs.Queueing.{all-retired}
+use Rattle.plain_store.proofs.Queueing.{changed-one}
+use Rattle.plain_store.proofs.queues.retire_all.Goals as goal
+
+pub loop-k-preserved : goal.loop-k-preserved
+loop-k-preserved c = λ olds h.
+    let xs = c.loop-k.queues in
+    let k = c.loop-k.k in
+    let x = c.index-queues-k.result in
+    let news = elements_of c.args.elements.now in
+    let bound : k < length xs = omega (arith, c.loop-k-test.true, c.loop-k.auto.queues) in
+    let done = c.in_ok-retire.ensures olds h ∙ ap (λ q. retire_in olds news k (queues_of q)) (sym c.index-queues-k.is) in
+    changed-one (retire_in olds news) c.args.queues.now xs k x c.retire.new.queues (c.loop-k.invariant olds h) (read-at xs k x bound c.index-queues-k.is) done
+
+pub returns : goal.returns
+returns c = λ olds h.
+    let items = c.args.queues.now in
+    c.loop-k.invariant olds h ∙ all-retired olds (elements_of c.args.elements.now) (map queues_of items) c.loop-k.k 0 (omega (arith, length-map-own queues_of items, c.loop-k-test.false))

@@ -1,0 +1,77 @@
+//! Maps: their shapes and their free slots.
+ghost use Rattle.std.specs.Prelude.{◌≡◌, IfOk};
+ghost use Rattle.bpf_model.specs.MapState.{given_of, returned, new_map};
+ghost use Rattle.bpf_model.specs.Helper.{update_error as first_error};
+ghost use Rattle.plain_store.specs.Telling.{Tells};
+ghost use Rattle.plain_store.specs.State.{map_of};
+
+use crate::fault::{Fault, one_more};
+use bpf_model::{Errno, Given, MapShape};
+use std::alloc::{AllocError, Global};
+
+/// A map: its shape, the use counts of its free slots, the one that has been free longest first, and how
+/// many slots are worn out.
+#[derive(Drop)]
+pub struct MapState {
+    pub shape: MapShape,
+    pub bag: Vec<u32>,
+    pub worn: u64,
+}
+
+impl MapState {
+    /// A map of which no slot was ever used.
+    pub fn new(alloc: Global, shape: MapShape) -> Result<MapState, AllocError>
+        ensures { IfOk result (λ m. map_of m ≡ new_map shape) }
+    {
+        let mut bag = Vec::new(alloc);
+        for _ in 0..shape.entries {
+            bag.push(0)?;
+        }
+        for _ in 0..shape.spare {
+            bag.push(0)?;
+        }
+        Ok(MapState {
+            shape,
+            bag,
+            worn: 0,
+        })
+    }
+
+    /// The first test of an update that fails.
+    pub fn update_error(&self, flags: u64, present: bool, linked: usize) -> Option<Errno>
+        ensures { result ≡ first_error flags present linked (map_of self.now) }
+    {
+        if 2 < flags {
+            Some(Errno::InvalidArgument)
+        } else if flags == 1 && present {
+            Some(Errno::Exists)
+        } else if flags == 2 && !present {
+            Some(Errno::NoEntry)
+        } else if !present && self.shape.entries <= linked {
+            Some(Errno::TooBig)
+        } else if self.bag.is_empty() {
+            Some(Errno::NoMemory)
+        } else {
+            None
+        }
+    }
+
+    /// A slot that was used so often comes back: to the end of the free ones, or it is worn out.
+    pub fn give_back(&mut self, uses: u64) -> Result<Given, Fault>
+        ensures { Tells (λ given. (given ≡ given_of uses (map_of self.old))
+            × (map_of self.new ≡ returned uses (map_of self.old))) ⊥ result }
+    {
+        let Ok(count) = u32::try_from(uses) else {
+            return Err(Fault::OutOfRange);
+        };
+        if count == self.shape.reuse_limit {
+            self.worn = one_more(self.worn)?;
+            Ok(Given::Worn)
+        } else {
+            match self.bag.push(count) {
+                Ok(()) => Ok(Given::Free),
+                Err(_) => Err(Fault::Memory),
+            }
+        }
+    }
+}

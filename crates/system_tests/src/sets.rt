@@ -1,0 +1,211 @@
+//! Sets of numbers: how narrow results are, worked out by hand.
+use bpf_model::{
+    AluOp, ByteOrder, Condition, Reg, SignExtension, SignedWidth, Size, SwapWidth, UnaryOp, Width,
+};
+use scalar_domain::Scalar;
+
+#[test]
+fn sets_of_numbers(rt: HostRuntime) {
+    let byte = Scalar::loaded(Width::One);
+    assert!(rt; byte.contains(255) && !byte.contains(256));
+    assert!(rt; Scalar::unknown().contains(u64::MAX));
+    assert_eq!(rt; Scalar::constant(7).as_constant(), Some(7));
+    assert_eq!(rt; byte.as_constant(), None);
+    let both = Scalar::constant(12).join(Scalar::constant(300));
+    assert_eq!(rt; (both.least, both.greatest), (12, 300));
+    assert!(rt; both.contains(12) && both.contains(300) && !both.contains(13));
+    assert!(rt; Scalar::load_signed(SignedWidth::One).contains(u64::MAX));
+}
+
+/// The bounds of results of a byte, or of what was made of one.
+#[test]
+fn bounds_of_results(rt: HostRuntime) {
+    let byte = Scalar::loaded(Width::One);
+    let rows = [
+        (Size::Word64, AluOp::And, Scalar::unknown(), 7, 0, 7),
+        (Size::Word64, AluOp::Add, byte, 8, 8, 263),
+        (
+            Size::Word64,
+            AluOp::Add,
+            Scalar::apply(Size::Word64, AluOp::Add, byte, Scalar::constant(1)),
+            u64::MAX,
+            0,
+            255,
+        ),
+        (Size::Word64, AluOp::Add, byte, u64::MAX, 0, u64::MAX),
+        (
+            Size::Word64,
+            AluOp::Sub,
+            Scalar::apply(Size::Word64, AluOp::Add, byte, Scalar::constant(9)),
+            4,
+            5,
+            260,
+        ),
+        (Size::Word64, AluOp::Mul, byte, 8, 0, 2040),
+        (Size::Word64, AluOp::Div, byte, 10, 0, 25),
+        (Size::Word64, AluOp::Mod, Scalar::unknown(), 10, 0, 9),
+        (
+            Size::Word64,
+            AluOp::Or,
+            Scalar::apply(
+                Size::Word64,
+                AluOp::And,
+                Scalar::unknown(),
+                Scalar::constant(3),
+            ),
+            8,
+            8,
+            11,
+        ),
+        (Size::Word64, AluOp::Xor, byte, 1, 0, 255),
+        (Size::Word64, AluOp::ShiftLeft, byte, 3, 0, 2040),
+        (Size::Word64, AluOp::ShiftLeft, byte, 67, 0, 2040),
+        (
+            Size::Word64,
+            AluOp::ShiftRight,
+            Scalar::unknown(),
+            60,
+            0,
+            15,
+        ),
+        (Size::Word64, AluOp::ShiftRightSigned, byte, 4, 0, 15),
+        (Size::Word32, AluOp::Add, byte, 5, 5, 260),
+        (Size::Word32, AluOp::Add, byte, 0xffff_ffff, 0, 0xffff_ffff),
+        (Size::Word32, AluOp::Move, byte, 0x1_0000_0003, 3, 3),
+        (Size::Word32, AluOp::ShiftLeft, byte, 35, 0, 2040),
+        (Size::Word32, AluOp::SignedDiv, byte, 10, 0, 25),
+    ];
+    for (size, op, a, k, least, greatest) in rows {
+        let result = Scalar::apply(size, op, a, Scalar::constant(k));
+        assert_eq!(rt;
+            (result.least, result.greatest),
+            (least, greatest),
+            "{op:?} {k:x}"
+        );
+    }
+    assert_eq!(rt;
+        Scalar::apply(
+            Size::Word64,
+            AluOp::ShiftLeft,
+            Scalar::unknown(),
+            Scalar::constant(3)
+        )
+        .may % 8,
+        0
+    );
+    assert_eq!(rt;
+        Scalar::apply(
+            Size::Word64,
+            AluOp::Add,
+            Scalar::constant(1),
+            Scalar::constant(u64::MAX)
+        )
+        .as_constant(),
+        Some(0)
+    );
+}
+
+#[test]
+fn edges(rt: HostRuntime) {
+    let byte = Scalar::loaded(Width::One);
+    let rows = [
+        (Size::Word64, Condition::Less, 10, true, 0, 9),
+        (Size::Word64, Condition::Less, 10, false, 10, 255),
+        (Size::Word64, Condition::LessOrEqual, 10, true, 0, 10),
+        (Size::Word64, Condition::LessOrEqual, 10, false, 11, 255),
+        (Size::Word64, Condition::Greater, 10, true, 11, 255),
+        (Size::Word64, Condition::Greater, 10, false, 0, 10),
+        (Size::Word64, Condition::GreaterOrEqual, 10, true, 10, 255),
+        (Size::Word64, Condition::GreaterOrEqual, 10, false, 0, 9),
+        (Size::Word64, Condition::Equal, 10, true, 10, 10),
+        (Size::Word64, Condition::NotEqual, 10, false, 10, 10),
+        (Size::Word64, Condition::NotEqual, 10, true, 0, 255),
+        (Size::Word64, Condition::SignedLess, 10, true, 0, 9),
+        (Size::Word32, Condition::Less, 10, true, 0, 9),
+        // no number is left
+        (Size::Word64, Condition::Less, 0, true, 0, 255),
+        (Size::Word64, Condition::Greater, u64::MAX, true, 0, 255),
+        (Size::Word64, Condition::Equal, 256, true, 0, 255),
+    ];
+    for (size, condition, k, taken, least, greatest) in rows {
+        let (left, _) = Scalar::refine(size, condition, byte, Scalar::constant(k), taken);
+        assert_eq!(rt;
+            (left.least, left.greatest),
+            (least, greatest),
+            "{condition:?} {k} {taken}"
+        );
+    }
+    let (wide, _) = Scalar::refine(
+        Size::Word32,
+        Condition::Less,
+        Scalar::unknown(),
+        Scalar::constant(10),
+        true,
+    );
+    assert_eq!(rt; wide, Scalar::unknown());
+    let (positive, _) = Scalar::refine(
+        Size::Word64,
+        Condition::SignedGreater,
+        Scalar::unknown(),
+        Scalar::constant(0),
+        true,
+    );
+    assert_eq!(rt;
+        (positive.least, positive.greatest),
+        (1, 0x7fff_ffff_ffff_ffff)
+    );
+    let (either, _) = Scalar::refine(
+        Size::Word64,
+        Condition::SignedLess,
+        Scalar::unknown(),
+        Scalar::constant(10),
+        true,
+    );
+    assert_eq!(rt; either, Scalar::unknown());
+    let (even, _) = Scalar::refine(
+        Size::Word64,
+        Condition::SharesBits,
+        byte,
+        Scalar::constant(1),
+        false,
+    );
+    assert!(rt; !even.contains(7) && even.contains(6));
+}
+
+#[test]
+fn operations_of_one_operand(rt: HostRuntime) {
+    let byte = Scalar::loaded(Width::One);
+    let swap = UnaryOp::ByteSwap {
+        order: ByteOrder::Swap,
+        width: SwapWidth::Two,
+    };
+    let low = UnaryOp::ByteSwap {
+        order: ByteOrder::ToLittle,
+        width: SwapWidth::Two,
+    };
+    let to_64 = UnaryOp::MoveSigned {
+        extension: SignExtension::ShortTo64,
+        src: Reg::R3,
+    };
+    let to_32 = UnaryOp::MoveSigned {
+        extension: SignExtension::ByteTo32,
+        src: Reg::R3,
+    };
+    let constants = [
+        (UnaryOp::Negate(Size::Word64), 1, u64::MAX),
+        (UnaryOp::Negate(Size::Word32), 1, 0xffff_ffff),
+        (swap, 0x1234, 0x3412),
+        (to_64, 0x8000, 0xffff_ffff_ffff_8000),
+    ];
+    for (op, n, result) in constants {
+        assert_eq!(rt;
+            Scalar::unary(op, Scalar::constant(n)),
+            Scalar::constant(result),
+            "{op:?}"
+        );
+    }
+    assert_eq!(rt; Scalar::unary(swap, byte).greatest, 0xffff);
+    assert_eq!(rt; Scalar::unary(low, byte), byte);
+    assert_eq!(rt; Scalar::unary(to_64, byte), byte);
+    assert_eq!(rt; Scalar::unary(to_32, byte).greatest, 0xffff_ffff);
+}

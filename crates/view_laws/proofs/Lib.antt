@@ -1,0 +1,16 @@
+pub mod Lists
+pub mod Changing
+pub mod Mapping
+pub mod Wording
+pub mod Listing
+pub mod Worlds
+pub mod Deleting
+pub mod Updating
+pub mod Advancing
+pub mod Reaping
+pub mod Reading
+pub mod Running
+pub mod Starting
+pub mod Tracking
+pub mod Reacting
+pub mod Storing

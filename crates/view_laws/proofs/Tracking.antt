@@ -1,0 +1,54 @@
+-- A step leads on from the schedule that a world tracks.
+use Rattle.std.proofs.Common.{◌≡◌, ℕ, List, [], ◌∷◌, ◌++◌, Some, inl, inr, refl, sym, subst}
+use Rattle.std.specs.Prelude.{slice_get}
+use Rattle.bpf_model.specs.declared.limits.MapShape.{MapShape}
+use Rattle.bpf_model.specs.declared.event.Event.{Event}
+use Rattle.bpf_model.specs.declared.event.Answer.{Answer}
+use Rattle.bpf_model.specs.Event.{IsReal, AreReal}
+use Rattle.bpf_model.specs.Machine.{Loaded}
+use Rattle.bpf_model.specs.MapState.{IsShape}
+use Rattle.bpf_model.specs.Schedule.{Schedule, DoesScheduled, IsScheduledHistory, last_scheduled, start_schedule}
+use Rattle.model_laws.proofs.Lists.{get-append_cases}
+use Rattle.bpf_model.specs.View.{WorldView, shapes_of}
+use Rattle.bpf_model.specs.Refines.{IsReached, TracksSchedule}
+use Rattle.view_laws.specs.Matching.{Matches, Simulates}
+
+history-more : (s : Schedule) (events : List Event) (answers : List Answer) (states : List Schedule) (event : Event) (answer : Answer) (t : Schedule) → IsScheduledHistory s events answers states → DoesScheduled (last_scheduled s states) event answer t →
+    IsScheduledHistory s (events ++ event ∷ []) (answers ++ answer ∷ []) (states ++ t ∷ [])
+history-more s [] [] [] event answer t h d = (d, tt)
+history-more s (e ∷ events) (a ∷ answers) (next ∷ states) event answer t h d = (h.0, history-more next events answers states event answer t h.1 d)
+history-more s events answers states event answer t h d = absurd h
+
+last-more : (s : Schedule) (states : List Schedule) (t : Schedule) → last_scheduled s (states ++ t ∷ []) ≡ t
+last-more s [] t = refl
+last-more s (next ∷ states) t = last-more next states t
+
+real-more : (events : List Event) (event : Event) → AreReal events → IsReal event → AreReal (events ++ event ∷ [])
+real-more events event all real k e at = elim (get-append_cases events event k e at) [
+  | inl x ↦ all k e x
+  | inr x ↦ subst IsReal x.1 real
+]
+
+reached-more : (shapes : List MapShape) (programs : List Loaded) (s t : Schedule) (event : Event) (answer : Answer) → IsReached shapes programs s → IsReal event → DoesScheduled s event answer t → IsReached shapes programs t
+reached-more shapes programs s t event answer r real d = record {
+  events = r.events ++ event ∷ [];
+  answers = r.answers ++ answer ∷ [];
+  states = r.states ++ t ∷ [];
+  real = real-more r.events event r.real real;
+  history = history-more (start_schedule shapes programs) r.events r.answers r.states event answer t r.history (subst (λ z. DoesScheduled z event answer t) (sym r.last) d);
+  last = last-more (start_schedule shapes programs) r.states t;
+}
+
+pub simulates_tracks : (w new : WorldView) (s : Schedule) (event : Event) (answer : Answer) → TracksSchedule w s → IsReal event → shapes_of new ≡ shapes_of w → new.programs ≡ w.programs → Simulates s event (answer, new) →
+    (next : Schedule) × DoesScheduled s event answer next × TracksSchedule new next × Matches new next
+simulates_tracks w new s event answer t real shapes programs h =
+    let Limits : List MapShape → Type 0 = λ l. (k : ℕ) (shape : MapShape) → slice_get l k ≡ Some shape → IsShape shape in (
+      h.next,
+      h.does,
+      record {
+        refines = h.matches.refines;
+        limits = subst Limits (sym shapes) t.limits;
+        reached = subst (λ l. IsReached l new.programs h.next) (sym shapes) (subst (λ l. IsReached (shapes_of w) l h.next) (sym programs) (reached-more (shapes_of w) w.programs s h.next event answer t.reached real h.does));
+      },
+      h.matches,
+    )

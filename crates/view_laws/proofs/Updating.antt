@@ -1,0 +1,246 @@
+-- An update: what the key had leaves, and an element is born in the slot that has been free longest.
+use Rattle.std.proofs.Common.{◌≡◌, ◌∙◌, ℕ, zero, suc, ◌+◌, ◌-◌, ◌<◌, ◌≤◌, List, [], ◌∷◌, ◌++◌, map, length, Option, Some, None, refl, sym, ap, arith, Bool, true, false, subst, Result, Ok, Err}
+use Rattle.std.specs.Prelude.{slice_get, slice_set, slice_index, count_by, is_some, cond, not, nat_lt, nat_le, ◌==◌, ◌&&◌, if◌then◌else◌}
+use Rattle.std.specs.FinMap.{get, len}
+use Rattle.std.proofs.lemmas.Option.{none-some, same_Some}
+use Rattle.std.proofs.lemmas.List.{length-append}
+use Rattle.std.proofs.lemmas.List.Sums.{sum_by_push}
+use Rattle.bpf_model.specs.declared.call.Errno.{Errno}
+use Rattle.bpf_model.specs.declared.event.Event.TheVariants as events
+use Rattle.bpf_model.specs.declared.event.Answer.TheVariants.{Ret}
+use Rattle.bpf_model.specs.declared.event.EventRefusal.{EventRefusal}
+use Rattle.bpf_model.specs.declared.event.EventRefusal.TheVariants.{NoMap}
+use Rattle.arrayvec.specs.ArrayVec.{ArrayVec}
+use Rattle.bpf_model.specs.Element.{Element, linked_count, is_reclaimed}
+use Rattle.bpf_model.specs.MapState.{MapState, Store, with_bag}
+use Rattle.bpf_model.specs.Helper.{Replaces, Settles, Updates, newborn, update_error}
+use Rattle.bpf_model.specs.Machine.{open_sections, with_store}
+use Rattle.bpf_model.specs.Event.{Answers, update_refusal, refusal}
+use Rattle.bpf_model.specs.Schedule.{Queues, Schedule, retired, still_open, open_flags, TakesOldest, DoesScheduled}
+use Rattle.model_laws.specs.Scheduled.{IsScheduled}
+use Rattle.model_laws.proofs.Lists.{length-slice_set, get-set_same, get-set_other, get-append_last}
+use Rattle.model_laws.proofs.Counting.{length-retired, times-first}
+use Rattle.bpf_model.specs.View.{SlotView, MapView, WorldView, uses_in, uses_at, state_of}
+use Rattle.bpf_model.specs.Refines.{times, RefinesSchedule}
+use Rattle.view_laws.specs.Views.{retired_key, filled, filled_from, updated_by, updated, shown_error}
+use Rattle.view_laws.specs.Reactions.{shape_shown, with_map, update_at, update_reaction}
+use Rattle.view_laws.specs.Matching.{Matches, Simulates, half, UpdatesHalf}
+use Rattle.view_laws.proofs.Changing.{Changes}
+use Rattle.view_laws.proofs.Lists.{map-same, index-append, stands-in}
+use Rattle.view_laws.proofs.Changing.{changes-trans, changes-born}
+use Rattle.view_laws.proofs.Mapping.{elements-born, slots-born}
+use Rattle.view_laws.proofs.Worlds.{Here, Turns, turned-world, shapes-agree, awaited-same, oldest-none, refuses, unchanged, retired-same, steps}
+use Rattle.view_laws.proofs.Deleting.{Dropped, h, drop, lists-left, lists-others}
+
+pub set-same : {A : Type 0} (xs : List A) (i : ℕ) (y : A) → slice_get xs i ≡ Some y → slice_set xs i y ≡ xs
+set-same [] i y h = refl
+set-same (z ∷ xs) zero y h = ap (λ w. w ∷ xs) (sym (same_Some _ _ h))
+set-same (z ∷ xs) (suc i) y h = ap (λ l. z ∷ l) (set-same xs i y h)
+
+-- an update that passes has a free slot
+bag-has : (bag : List ℕ) → (length bag == 0) ≡ false → (c : ℕ) × (rest : List ℕ) × (bag ≡ c ∷ rest)
+bag-has [] h = absurd (cc)
+bag-has (c ∷ rest) h = (c, rest, refl)
+
+last-false : (a b c d e : Bool) (p q r s t : Errno) → (if a then Some p else if b then Some q else if c then Some r else if d then Some s else if e then Some t else None) ≡ None → e ≡ false
+last-false true b c d e p q r s t h = absurd (cc)
+last-false false true c d e p q r s t h = absurd (cc)
+last-false false false true d e p q r s t h = absurd (cc)
+last-false false false false true e p q r s t h = absurd (cc)
+last-false false false false false true p q r s t h = absurd (cc)
+last-false false false false false false p q r s t h = refl
+
+free-has : (v : MapView) (free : List ℕ) → v.free ≡ free → (length (map (uses_at v.slots) free) == 0) ≡ false → (i : ℕ) × (rest : List ℕ) × (free ≡ i ∷ rest)
+free-has v [] e h = absurd (cc)
+free-has v (i ∷ rest) e h = (i, rest, refl)
+
+passes : (v : MapView) (key : List ℕ) (flags : ℕ) → shown_error v key flags ≡ None → (i : ℕ) × (rest : List ℕ) × (v.free ≡ i ∷ rest)
+passes v key flags h = free-has v v.free refl (last-false (nat_lt 2 flags) ((flags == 1) && is_some (get v.index key)) ((flags == 2) && not (is_some (get v.index key))) (not (is_some (get v.index key)) && nat_le v.shape.entries (len v.index)) (length (map (uses_at v.slots) v.free) == 0) _ _ _ _ _ h)
+
+-- the use counts of the other free slots
+uses-other : (slots : List SlotView) (i : ℕ) (free rest : List ℕ) (new : SlotView) → times i free ≤ 1 → free ≡ i ∷ rest → map (uses_at slots) rest ≡ map (uses_at (slice_set slots i new)) rest
+uses-other slots i free rest new once first = map-same (uses_at slots) (uses_at (slice_set slots i new)) rest (λ a x at. ap uses_in (sym (get-set_other slots i x new (λ same.
+    let t : times i free ≡ 1 + times i rest = ap (times i) first ∙ times-first i i rest refl in
+    let z : 0 < times x rest = stands-in rest a x at in
+    let u : times i rest ≡ times x rest = ap (λ y. times y rest) (sym same) in
+    absurd (omega arith)))))
+
+module _ (w : WorldView) (s : Schedule) (x : RefinesSchedule w s) (i : IsScheduled s) (k : ℕ) (v : MapView) (at : slice_get w.maps k ≡ Some v) (key value : List ℕ) (flags : ℕ) (d : Dropped w s x i k v at key) where
+  abbrev here : Here w s x k v
+  here = h w s x i k v at key
+
+  abbrev v' : MapView
+  v' = retired_key v key
+
+  error-is : update_error flags (is_some d.found) (linked_count k s.machine.store.elements) here.state ≡ shown_error v key flags
+  error-is = ap (λ b. update_error flags b (linked_count k s.machine.store.elements) here.state) (sym d.shown)
+      ∙ (ap (λ n. update_error flags (is_some (get v.index key)) n here.state) (sym here.stands.elements.counted)
+      ∙ ap (update_error flags (is_some (get v.index key)) (len v.index)) here.stands.state)
+
+  updates-as : (ret : Result (Unit {0}) Errno) (new : Store) → Settles (shown_error v key flags) ret s.machine.store new (Replaces s.machine.store (open_sections s.machine.runs) k here.state key value d.found new) → Updates s.machine.store (open_sections s.machine.runs) k key value flags ret new
+  updates-as ret new settled = record { state = here.state; there = here.there; found = d.found; lookup = d.looks; settled = subst (λ o. Settles o ret s.machine.store new (Replaces s.machine.store (open_sections s.machine.runs) k here.state key value d.found new)) (sym error-is) settled }
+
+  does-update : (kb vb : ArrayVec ℕ) (ret : Result (Unit {0}) Errno) (new : Store) (t : Schedule) → kb.items ≡ key → vb.items ≡ value → refusal s.machine (events.Update k kb vb flags) ≡ None → Updates s.machine.store (open_sections s.machine.runs) k key value flags ret new →
+      TakesOldest s.machine.store new → t ≡ record { machine = with_store s.machine new; queues = retired 0 s.machine.store.elements new.elements s.queues; awaited = still_open s.awaited (open_flags s.machine.runs) } → DoesScheduled s (events.Update k kb vb flags) (Ret ret) t
+  does-update kb vb ret new t ke ve pass u oldest is = subst (DoesScheduled s (events.Update k kb vb flags) (Ret ret)) (sym is) (record {
+    step = subst (λ z. Answers z s.machine (events.Update k kb vb flags) (Ret ret) (with_store s.machine new)) (sym pass)
+        (new, subst (λ l. Updates s.machine.store (open_sections s.machine.runs) k kb.items l flags ret new) (sym ve) (subst (λ l. Updates s.machine.store (open_sections s.machine.runs) k l value flags ret new) (sym ke) u), refl);
+    first = tt;
+    oldest = oldest;
+    lists = refl;
+  })
+
+  -- after an error all is as it was
+  world-same : with_map k v w ≡ w
+  world-same = λ j. record { maps = set-same w.maps k v at j; runs = w.runs; opened = w.opened; awaited = w.awaited; programs = w.programs; given = w.given }
+
+  pub errs : (kb vb : ArrayVec ℕ) (e : Errno) → kb.items ≡ key → vb.items ≡ value → refusal s.machine (events.Update k kb vb flags) ≡ None → shown_error v key flags ≡ Some e → Simulates s (events.Update k kb vb flags) (Ret (Err e), with_map k v w)
+  errs kb vb e ke ve pass is = record {
+    next = s;
+    does = does-update kb vb (Err e) s.machine.store s ke ve pass (updates-as (Err e) s.machine.store (subst (λ o. Settles o (Err e) s.machine.store s.machine.store (Replaces s.machine.store (open_sections s.machine.runs) k here.state key value d.found s.machine.store)) (sym is) (refl, refl)))
+        (oldest-none s.machine.store s.machine.store refl) (unchanged w s x i);
+    matches = record { refines = subst (λ z. RefinesSchedule z s) (sym world-same) x; scheduled = i };
+  }
+
+  -- the birth
+  module _ (slot : ℕ) (rest : List ℕ) (first : v.free ≡ slot ∷ rest) where
+    abbrev count : ℕ
+    count = uses_at v'.slots slot
+
+    abbrev child : Element
+    child = newborn k key value count
+
+    abbrev bag : List ℕ
+    bag = map (uses_at v'.slots) rest
+
+    abbrev state : MapState
+    state = with_bag bag here.state
+
+    abbrev after : Store
+    after = record { elements = d.left ++ child ∷ []; maps = slice_set s.machine.store.maps k state }
+
+    abbrev names : List ℕ
+    names = x.slots ++ slot ∷ []
+
+    abbrev queues : List Queues
+    queues = retired 0 s.machine.store.elements (d.left ++ child ∷ []) s.queues
+
+    first' : v'.free ≡ slot ∷ rest
+    first' = d.free ∙ first
+
+    state-is : here.state ≡ state_of v'
+    state-is = here.stands.state ∙ sym d.state
+
+    old-bag : here.state.bag ≡ count ∷ bag
+    old-bag = ap (λ (m : MapState). m.bag) state-is ∙ ap (map (uses_at v'.slots)) first'
+
+    births-left : length x.slots ≡ length d.left
+    births-left = x.named ∙ sym d.long
+
+    renames : (n : ℕ) → n < length s.machine.store.elements → slice_index names n ≡ slice_index x.slots n
+    renames n less = let b : length x.slots ≡ length s.machine.store.elements = x.named in index-append x.slots slot n (omega arith)
+
+    changes : Changes k x.slots names s.machine.store.elements after.elements
+    changes = changes-trans k x.slots x.slots names s.machine.store.elements d.left after.elements d.changes (changes-born k x.slots d.left births-left slot key value count)
+
+    replaces : Replaces s.machine.store (open_sections s.machine.runs) k here.state key value d.found after
+    replaces = record {
+      count = count;
+      bag = bag;
+      taken = record { before = []; after = bag; old_is = old-bag; new_is = refl };
+      new_is = ap (λ l. let z : Store = record { elements = l ++ child ∷ []; maps = slice_set s.machine.store.maps k state } in z) d.left_is;
+    }
+
+    less-one : (c : ℕ) → c ≡ (c + 1) - 1
+    less-one c = omega arith
+
+    oldest : TakesOldest s.machine.store after
+    oldest e before later born old new =
+        let same : child ≡ e = same_Some child e (sym (get-append_last d.left child) ∙ (ap (slice_get after.elements) d.long ∙ born)) in
+        let m : k ≡ e.map = ap (λ (z : Element). z.map) same in
+        let b : before ≡ here.state = same_Some before here.state (sym old ∙ (ap (slice_get s.machine.store.maps) (sym m) ∙ here.there)) in
+        let a : later ≡ state = same_Some later state (sym new ∙ (ap (slice_get after.maps) (sym m) ∙ get-set_same s.machine.store.maps k here.state state here.there)) in
+        ap (λ (z : MapState). z.bag) b ∙ (old-bag ∙ (ap (λ c. c ∷ bag) (less-one count ∙ ap (λ (z : Element). z.uses - 1) same) ∙ ap (λ (z : MapState). (e.uses - 1) ∷ z.bag) (sym a)))
+
+    next-state : state ≡ state_of (filled v' slot rest key value)
+    next-state = ap (with_bag bag) state-is ∙ ap (λ l. let z : MapState = record { shape = v'.shape; bag = l; worn = v'.worn } in z) (uses-other v'.slots slot v'.free rest _ (d.slots_stand.once slot) first')
+
+    turns : Turns w s x k (filled v' slot rest key value) after queues
+    turns = record {
+      names = names;
+      births = (let a : length names ≡ length x.slots + 1 = length-append x.slots (slot ∷ []) in let b : length after.elements ≡ length d.left + 1 = length-append d.left (child ∷ []) in let c = births-left in omega arith);
+      changes = changes;
+      maps = length-slice_set s.machine.store.maps k state;
+      others = λ j ne. get-set_other s.machine.store.maps k j state ne;
+      queued = length-retired s.machine.store.elements after.elements s.queues 0;
+      lists = λ j q ne g. lists-others w s x i k v at key d (child ∷ []) j q ne g;
+      stands = λ m q there g. record {
+        state = same_Some m state (sym there ∙ get-set_same s.machine.store.maps k here.state state here.there) ∙ next-state;
+        lists = lists-left w s x i k v at key d (child ∷ []) names renames q g;
+        free = slots-born x.slots k d.left v' slot rest key value d.elements d.slots_stand births-left first' d.absent;
+        elements = elements-born x.slots k d.left v' slot rest key value d.elements d.slots_stand births-left first' d.absent;
+      };
+    }
+
+    abbrev next : Schedule
+    next = record { machine = with_store s.machine after; queues = queues; awaited = still_open s.awaited (open_flags s.machine.runs) }
+
+    given-same : count_by (λ e. is_reclaimed e.life) after.elements ≡ count_by (λ e. is_reclaimed e.life) s.machine.store.elements
+    given-same = let a : count_by (λ e. is_reclaimed e.life) after.elements ≡ count_by (λ e. is_reclaimed e.life) d.left + 0 = sum_by_push (λ (e : Element). cond (is_reclaimed e.life) 1 0) d.left child in let b = d.given in omega arith
+
+    pub births : (kb vb : ArrayVec ℕ) → kb.items ≡ key → vb.items ≡ value → refusal s.machine (events.Update k kb vb flags) ≡ None → shown_error v key flags ≡ None → Simulates s (events.Update k kb vb flags) (Ret (Ok tt), with_map k (filled v' slot rest key value) w)
+    births kb vb ke ve pass is =
+        let does = does-update kb vb (Ok tt) after next ke ve pass (updates-as (Ok tt) after (subst (λ o. Settles o (Ok tt) s.machine.store after (Replaces s.machine.store (open_sections s.machine.runs) k here.state key value d.found after)) (sym is) (refl, replaces))) oldest refl in
+        record {
+          next = next;
+          does = does;
+          matches = steps (with_map k (filled v' slot rest key value) w) s next (events.Update k kb vb flags) (Ret (Ok tt)) i does
+              (turned-world w s x i k (filled v' slot rest key value) after queues next.awaited w.given turns (awaited-same w s x i) (x.given ∙ sym given-same));
+        }
+
+    pub births-half : shown_error v key flags ≡ None → UpdatesHalf (with_map k (filled v' slot rest key value) w) s k key value flags (Ok tt)
+    births-half is = record {
+      store = after;
+      updates = updates-as (Ok tt) after (subst (λ o. Settles o (Ok tt) s.machine.store after (Replaces s.machine.store (open_sections s.machine.runs) k here.state key value d.found after)) (sym is) (refl, replaces));
+      oldest = oldest;
+      refines = turned-world w s x i k (filled v' slot rest key value) after queues s.awaited w.given turns refl (x.given ∙ sym given-same);
+    }
+
+  pub errs-half : (e : Errno) → shown_error v key flags ≡ Some e → UpdatesHalf (with_map k v w) s k key value flags (Err e)
+  errs-half e is = record {
+    store = s.machine.store;
+    updates = updates-as (Err e) s.machine.store (subst (λ o. Settles o (Err e) s.machine.store s.machine.store (Replaces s.machine.store (open_sections s.machine.runs) k here.state key value d.found s.machine.store)) (sym is) (refl, refl));
+    oldest = oldest-none s.machine.store s.machine.store refl;
+    refines = subst (λ z. RefinesSchedule z (half s s.machine.store)) (sym world-same) (subst (RefinesSchedule w) (λ j. record { machine = s.machine; queues = sym (retired-same 0 s.machine.store.elements s.queues) j; awaited = s.awaited }) x);
+  }
+
+pub update_half : (w : WorldView) (s : Schedule) → Matches w s → (k : ℕ) (v : MapView) (key value : List ℕ) (flags : ℕ) → slice_get w.maps k ≡ Some v → UpdatesHalf (with_map k (updated v key value flags).1 w) s k key value flags (updated v key value flags).0
+update_half w s sim k v key value flags at = by (shown_error v key flags) refl
+  where
+    by : (o : Option Errno) → shown_error v key flags ≡ o → UpdatesHalf (with_map k (updated_by o v key value).1 w) s k key value flags (updated_by o v key value).0
+    by (Some e) is = errs-half w s sim.refines sim.scheduled k v at key value flags (drop w s sim.refines sim.scheduled k v at key) e is
+    by None is =
+        let f = passes v key flags is in
+        subst (λ l. UpdatesHalf (with_map k (filled_from l (retired_key v key) key value) w) s k key value flags (Ok tt)) (sym f.2)
+        (births-half w s sim.refines sim.scheduled k v at key value flags (drop w s sim.refines sim.scheduled k v at key) f.0 f.1 f.2 is)
+
+module _ (w : WorldView) (s : Schedule) (sim : Matches w s) (k : ℕ) (key value : ArrayVec ℕ) (flags : ℕ) where
+  refusal-is : (r : Option EventRefusal) → update_refusal (shape_shown (slice_get w.maps k)) (length key.items) (length value.items) ≡ r → refusal s.machine (events.Update k key value flags) ≡ r
+  refusal-is r e = ap (λ shape. update_refusal shape (length key.items) (length value.items)) (shapes-agree w s sim.refines k) ∙ e
+
+  settled : (v : MapView) → slice_get w.maps k ≡ Some v → refusal s.machine (events.Update k key value flags) ≡ None → (o : Option Errno) → shown_error v key.items flags ≡ o →
+      Simulates s (events.Update k key value flags) (Ret (updated_by o v key.items value.items).0, with_map k (updated_by o v key.items value.items).1 w)
+  settled v at pass (Some e) is = errs w s sim.refines sim.scheduled k v at key.items value.items flags (drop w s sim.refines sim.scheduled k v at key.items) key value e refl refl pass is
+  settled v at pass None is =
+      let f = passes v key.items flags is in
+      subst (λ l. Simulates s (events.Update k key value flags) (Ret (Ok tt), with_map k (filled_from l (retired_key v key.items) key.items value.items) w)) (sym f.2)
+      (births w s sim.refines sim.scheduled k v at key.items value.items flags (drop w s sim.refines sim.scheduled k v at key.items) f.0 f.1 f.2 key value refl refl pass is)
+
+  update-cases : (r : Option EventRefusal) (o : Option MapView) → update_refusal (shape_shown (slice_get w.maps k)) (length key.items) (length value.items) ≡ r → slice_get w.maps k ≡ o →
+      Simulates s (events.Update k key value flags) (update_at r o w k key.items value.items flags)
+  update-cases (Some r) o e at = record { next = s; does = refuses w s sim.refines sim.scheduled r (events.Update k key value flags) (refusal-is (Some r) e); matches = sim }
+  update-cases None None e at = absurd (none-some NoMap (sym e ∙ ap (λ z. update_refusal (shape_shown z) (length key.items) (length value.items)) at))
+  update-cases None (Some v) e at = settled v at (refusal-is None e) (shown_error v key.items flags) refl
+
+  pub update_simulates : Simulates s (events.Update k key value flags) (update_reaction w k key.items value.items flags)
+  update_simulates = update-cases (update_refusal (shape_shown (slice_get w.maps k)) (length key.items) (length value.items)) (slice_get w.maps k) refl refl

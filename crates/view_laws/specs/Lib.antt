@@ -1,0 +1,3 @@
+pub mod Views
+pub mod Reactions
+pub mod Matching
