@@ -9,7 +9,6 @@ use Rattle.bpf_model.specs.declared.value.Value.TheVariants.{Number, Pointer}
 use Rattle.bpf_model.specs.declared.value.Reference.TheVariants as references
 use Rattle.bpf_model.specs.declared.value.Cell.{Cell}
 use Rattle.bpf_model.specs.declared.value.Cell.TheVariants as model
-use Rattle.bpf_model.specs.declared.insn.Insn.{Insn}
 use Rattle.bpf_model.specs.declared.insn.Insn.TheVariants.{Store}
 use Rattle.bpf_model.specs.declared.insn.Operand.{Operand}
 use Rattle.bpf_model.specs.declared.opcode.Width.{Width}
@@ -19,10 +18,7 @@ use Rattle.bpf_model.specs.Access.{place_of, number_at, byte_count}
 use Rattle.bpf_model.specs.Frame.{byte_of, found, read, is_within, with_number}
 use Rattle.bpf_model.specs.Value.{◌>>=◌}
 use Rattle.bpf_model.specs.Operand.{operand_value}
-use Rattle.bpf_model.specs.Step.{State, Environment, Moves, after, load_from, frame_after, stored, store_to}
-use Rattle.bpf_model.specs.Spelling.{slot_count}
-use Rattle.bpf_model.specs.Plain.{Takes, IsFrameAccess, IsSimple, Writes, WritesByte}
-use Rattle.bpf_model.specs.Graph.{falls}
+use Rattle.bpf_model.specs.Step.{State, Environment, Moves, load_from, frame_after, stored, store_to}
 use Rattle.abstract_state.specs.declared.kind.RegKind.{RegKind}
 use Rattle.abstract_state.specs.declared.kind.RegKind.TheVariants.{Unwritten, Mixed, Num, Ctx, Frame, Map}
 use Rattle.abstract_state.specs.declared.kind.CellKind.{CellKind}

@@ -15,7 +15,6 @@ use Rattle.bpf_model.specs.Step.{State, Outcome, Moves, Exits, forward, jumps_to
 use Rattle.bpf_model.specs.Graph.{distance}
 use Rattle.bpf_model.specs.Plain.{Writes, WritesByte, Names}
 use Rattle.scalar_domain.specs.Scalar.{Holds}
-use Rattle.scalar_domain.specs.Floor.{KeepsEdgeFloor}
 use Rattle.scalar_domain.specs.declared.scalar.Scalar.{Scalar}
 use Rattle.abstract_state.specs.declared.kind.RegKind.TheVariants.{Num}
 use Rattle.abstract_state.specs.declared.kind.CellKind.{CellKind}
@@ -23,9 +22,9 @@ use Rattle.abstract_state.specs.declared.kind.CellKind.TheVariants as cells
 use Rattle.abstract_state.specs.declared.kind.Region.TheVariants as regions
 use Rattle.abstract_state.specs.declared.state.AbsState.{AbsState}
 use Rattle.abstract_state.specs.declared.environment.EnvironmentShape.{EnvironmentShape}
-use Rattle.abstract_state.specs.State.{IsOf, IsNumber, Describes, kind_at, HasTarget, Transfers, Leads, Compares}
+use Rattle.abstract_state.specs.State.{IsOf, IsNumber, Describes, kind_at, HasTarget, Transfers, Leads}
 use Rattle.abstract_state.specs.Facts.{Fact, Register as RegisterFact, FrameByte, FramePointer, FactHolds, Makes, IsReady, KeepsFacts}
-use Rattle.abstract_state.specs.Floor.{KeepsOthers, operand_kind, RefinesKnown}
+use Rattle.abstract_state.specs.Floor.{KeepsOthers}
 use Rattle.abstract_state.specs.Steps.{single, Done, Stepped}
 use Rattle.abstract_state.proofs.Sound.{number_of}
 
@@ -165,18 +164,3 @@ fork_compares dst src x y a r m left right h d = elim h [
   | inl e ↦ let n = number_of a dst x m left d in (n.0, ap m.regs e ∙ n.1)
   | inr e ↦ (right.0, operand_named src r m e ∙ right.1)
 ]
-
--- both sides of a comparison, as the scalar domain leaves them
-pub refines_known : (condition : Condition) (size : Size) (taken : Bool) (dst : ℕ) (src : Operand) (x y left right : Scalar) (offset : ℤ) (a b : AbsState)
-    → kind_at a dst ≡ Num x → operand_kind src a ≡ Num y → kind_at b dst ≡ Num left → ((r : ℕ) → Names src r → r ≢ dst → kind_at b r ≡ Num right)
-    → KeepsEdgeFloor size condition taken x y left right → RefinesKnown taken (JumpIf condition size dst src offset) a b
-refines_known condition size taken dst src x y left right offset a b p q first second floor x' y' p' q' =
-    let same_x : x ≡ x' = let e : Num x ≡ Num x' = sym p ∙ p' in cc in
-    let same_y : y ≡ y' = let e : Num y ≡ Num y' = sym q ∙ q' in cc in
-    record {
-      left = left;
-      right = right;
-      first = first;
-      second = second;
-      floor = subst (λ x. KeepsEdgeFloor size condition taken x y' left right) same_x (subst (λ y. KeepsEdgeFloor size condition taken x y left right) same_y floor);
-    }

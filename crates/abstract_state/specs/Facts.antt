@@ -30,10 +30,14 @@ Makes i FramePointer = ⊥
 abbrev pub KeepsFacts : Insn → AbsState → AbsState → Type 0
 KeepsFacts i a b = (fact : Fact) → FactHolds fact a ⊎ Makes i fact → FactHolds fact b
 
+-- each register that the instruction reads as a number is known to be one
+abbrev pub ReadsNumbers : Insn → AbsState → Type 0
+ReadsNumbers i a = (r : ℕ) → Reads i r → FactHolds (Register r) a
+
 -- a simple instruction that leaves r10 alone, of which all that it reads is known
 pub record IsReady (i : Insn) (a : AbsState) : Type 0 where
   pub simple : IsSimple i
   pub keeps_frame : Writes i 10 → ⊥
   pub frame : FactHolds FramePointer a
-  pub registers : (r : ℕ) → Reads i r → FactHolds (Register r) a
+  pub registers : ReadsNumbers i a
   pub bytes : (k : ℕ) → ReadsByte i k → FactHolds (FrameByte k) a

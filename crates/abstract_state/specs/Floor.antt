@@ -46,36 +46,47 @@ LoadsKnown (LoadNumber dst n) new = IsNumbers (λ s. IsConstant s n) (kind_at ne
 LoadsKnown (LoadMap dst map) new = (index : ℕ) × (map ≡ pos index) × (kind_at new dst ≡ Map index)
 LoadsKnown _ new = Unit {0}
 
--- one number alone
-abbrev pub constant_of : ℕ → Scalar
-constant_of n = record { least = n; greatest = n; may = n; must = n }
+-- one number alone, of which each bit is known
+pub record IsAlone (s : Scalar) (n : ℕ) : Type 0 where
+  pub least : s.least ≡ n
+  pub greatest : s.greatest ≡ n
+  pub zeros : s.may ≡ n
+  pub ones : s.must ≡ n
 
 -- the kind of a second operand
-abbrev pub operand_kind : Operand → AbsState → RegKind
-operand_kind (Register r) a = kind_at a r
-operand_kind (Immediate imm) a = Num (constant_of (immediate imm))
+abbrev pub IsOperandKind : Operand → AbsState → RegKind → Type 0
+IsOperandKind (Register r) a k = k ≡ kind_at a r
+IsOperandKind (Immediate imm) a k = IsNumbers (λ s. IsAlone s (immediate imm)) k
 
--- What an operation leaves: a move of 64 bits copies the kind; any other operation of numbers gives numbers no wider than the scalar domain's.
+-- What an operation leaves: a move of 64 bits copies the kind; any other operation of numbers gives numbers no wider than the scalar domain's
+-- (a move of 32 bits as if the first operand were 0).
 abbrev pub LeavesKnown : AluOp → Size → RegKind → RegKind → RegKind → Type 0
 LeavesKnown Move Word64 x y k = k ≡ y
-LeavesKnown Move Word32 x y k = (b : Scalar) → y ≡ Num b → IsNumbers (KeepsFloor Word32 Move (constant_of 0) b) k
+LeavesKnown Move Word32 x y k = (b : Scalar) → y ≡ Num b → (zero : Scalar) × IsConstant zero 0 × IsNumbers (KeepsFloor Word32 Move zero b) k
 LeavesKnown op size x y k = (a b : Scalar) → x ≡ Num a → y ≡ Num b → IsNumbers (KeepsFloor size op a b) k
 
+-- What an operation on a second operand leaves.
+abbrev pub LeavesKnownBy : AluOp → Size → ℕ → Operand → AbsState → RegKind → Type 0
+LeavesKnownBy op size dst src a k = (y : RegKind) × IsOperandKind src a y × LeavesKnown op size (kind_at a dst) y k
+
 abbrev pub ComputesKnown : Insn → AbsState → AbsState → Type 0
-ComputesKnown (Alu op size dst src) old new = LeavesKnown op size (kind_at old dst) (operand_kind src old) (kind_at new dst)
-ComputesKnown (Unary op dst) old new = (a : Scalar) → kind_at old (unary_source op dst) ≡ Num a → IsNumbers (KeepsUnaryFloor op a) (kind_at new dst)
+ComputesKnown (Alu op size dst src) old new = LeavesKnownBy op size dst src old (kind_at new dst)
+ComputesKnown (Unary op dst) old new = (a : Scalar) × (kind_at old (unary_source op dst) ≡ Num a) × IsNumbers (KeepsUnaryFloor op a) (kind_at new dst)
 ComputesKnown _ old new = Unit {0}
 
--- What is known on one edge of a comparison of numbers is no wider than the scalar domain's. (Of a register compared with itself the first
--- operand's numbers are kept.)
-pub record IsEdge (size : Size) (c : Condition) (taken : Bool) (dst : ℕ) (src : Operand) (a b : Scalar) (new : AbsState) : Type 0 where
+-- Both sides of a comparison were numbers, and what is known of them on an edge is no wider than the scalar domain's. (Of a register compared
+-- with itself the first side is kept.)
+pub record IsEdge (size : Size) (c : Condition) (taken : Bool) (dst : ℕ) (src : Operand) (old new : AbsState) : Type 0 where
+  pub a : Scalar
+  pub b : Scalar
   pub left : Scalar
   pub right : Scalar
+  pub first_was : kind_at old dst ≡ Num a
+  pub second_was : IsOperandKind src old (Num b)
   pub first : kind_at new dst ≡ Num left
   pub second : (r : ℕ) → Names src r → r ≢ dst → kind_at new r ≡ Num right
   pub floor : KeepsEdgeFloor size c taken a b left right
 
 abbrev pub RefinesKnown : Bool → Insn → AbsState → AbsState → Type 0
-RefinesKnown taken (JumpIf condition size dst src offset) old new =
-    (a b : Scalar) → kind_at old dst ≡ Num a → operand_kind src old ≡ Num b → IsEdge size condition taken dst src a b new
+RefinesKnown taken (JumpIf condition size dst src offset) old new = IsEdge size condition taken dst src old new
 RefinesKnown taken _ old new = Unit {0}

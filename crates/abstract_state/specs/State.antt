@@ -1,5 +1,5 @@
 -- What an abstract state says of the states of a run.
-use Rattle.std.specs.Prelude.{◌≡◌, ◌≢◌, ℕ, ◌+◌, ◌^◌, ◌<◌, length, slice_index_or, Option, Some, None, Result, Ok, Err, true, ◌⊎◌, ℤ, unwrap_or, option_map}
+use Rattle.std.specs.Prelude.{◌≡◌, ◌≢◌, ℕ, ◌+◌, ◌^◌, ◌<◌, List, length, slice_index_or, Option, Some, None, Result, Ok, Err, true, ◌⊎◌, ℤ, unwrap_or, option_map}
 use Rattle.bpf_model.specs.declared.value.Value.{Value}
 use Rattle.bpf_model.specs.declared.value.Value.TheVariants.{Number, Pointer}
 use Rattle.bpf_model.specs.declared.value.Reference.TheVariants as references
@@ -47,11 +47,18 @@ IsNumber (Ctx o) = ⊥
 IsNumber (Frame o) = ⊥
 IsNumber (Map m) = ⊥
 
+-- past the end nothing is known
+abbrev pub kind_in : List RegKind → ℕ → RegKind
+kind_in kinds r = slice_index_or kinds r Unwritten
+
+abbrev pub cell_in : List CellKind → ℕ → CellKind
+cell_in frame k = slice_index_or frame k cells.Unwritten
+
 abbrev pub kind_at : AbsState → ℕ → RegKind
-kind_at a r = slice_index_or a.regs r Unwritten
+kind_at a r = kind_in a.regs r
 
 abbrev pub cell_at : AbsState → ℕ → CellKind
-cell_at a k = slice_index_or a.frame k cells.Unwritten
+cell_at a k = cell_in a.frame k
 
 -- The state of a run is one of those that the abstract state stands for.
 pub record Describes (a : AbsState) (m : State) : Type 0 where

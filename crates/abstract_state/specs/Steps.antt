@@ -1,5 +1,5 @@
 -- How states are joined and changed, a part at a time.
-use Rattle.std.specs.Prelude.{◌≡◌, ℕ, ◌+◌, ◌^◌, ◌<◌, Option, Some, None, Result, IfOk, IfErr, IfSome, OnErr, IsOk, IsSome, ℤ, true, false, if◌then◌else◌}
+use Rattle.std.specs.Prelude.{◌≡◌, ℕ, ◌+◌, ◌^◌, ◌<◌, ◌≤◌, List, Option, Some, None, Result, IfOk, IfErr, IfSome, OnErr, IsSome, ℤ, true, false, if◌then◌else◌}
 use Rattle.bpf_model.specs.declared.value.Value.{Value}
 use Rattle.bpf_model.specs.declared.value.Value.TheVariants.{Number, Pointer}
 use Rattle.bpf_model.specs.declared.value.Reference.TheVariants as references
@@ -24,7 +24,7 @@ use Rattle.abstract_state.specs.declared.fault.Fault.{Fault}
 use Rattle.abstract_state.specs.declared.fault.Fault.TheVariants.{Memory}
 use Rattle.abstract_state.specs.declared.state.AbsState.{AbsState}
 use Rattle.abstract_state.specs.declared.state.Flow.{Flow}
-use Rattle.abstract_state.specs.State.{IsOf, IsNumber, Describes, IsEnvironment, kind_at, cell_at, IsBranch, Compares, Transfers, base_of, IsInRegion, taken_state, IsFine}
+use Rattle.abstract_state.specs.State.{IsOf, IsNumber, Describes, IsEnvironment, cell_in, kind_at, cell_at, IsBranch, Compares, Transfers, base_of, IsInRegion, taken_state, IsFine}
 use Rattle.abstract_state.specs.Facts.{IsReady, KeepsFacts}
 use Rattle.abstract_state.specs.Floor.{LoadsKnown, ComputesKnown, RefinesKnown, KeepsOthers}
 
@@ -32,6 +32,14 @@ use Rattle.abstract_state.specs.Floor.{LoadsKnown, ComputesKnown, RefinesKnown, 
 abbrev pub join_cell : CellKind → CellKind → CellKind
 join_cell Byte Byte = Byte
 join_cell a b = Unwritten
+
+-- each cell of an access is a byte
+abbrev pub AreBytes : List CellKind → ℕ → ℕ → Type 0
+AreBytes frame offset width = (k : ℕ) → offset ≤ k → k < offset + width → cell_in frame k ≡ Byte
+
+-- the cells of an access become bytes
+abbrev pub written_cell : ℕ → ℕ → (ℕ → CellKind) → ℕ → CellKind
+written_cell offset width cells k = if is_within offset width k then Byte else cells k
 
 -- The third kind is of what is of the first or of the second.
 pub record Joins (a b c : RegKind) : Type 0 where
@@ -51,10 +59,10 @@ pub record SetsReg (r : ℕ) (k : RegKind) (old new : AbsState) : Type 0 where
   pub regs : (q : ℕ) → kind_at new q ≡ put r k (kind_at old) q
   pub frame : new.frame ≡ old.frame
 
--- The new state is the old one with bytes in these cells.
-pub record SetsBytes (at width : ℕ) (old new : AbsState) : Type 0 where
+-- The new state is the old one with bytes in the cells of an access.
+pub record SetsBytes (offset width : ℕ) (old new : AbsState) : Type 0 where
   pub regs : new.regs ≡ old.regs
-  pub cells : (k : ℕ) → cell_at new k ≡ (if is_within at width k then Byte else cell_at old k)
+  pub cells : (k : ℕ) → cell_at new k ≡ written_cell offset width (cell_at old) k
 
 -- the computation gives a value of the kind
 abbrev pub Gives : RegKind → Option Value → Type 0

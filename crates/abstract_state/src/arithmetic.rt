@@ -1,9 +1,9 @@
 //! Instructions that compute, and those that load a number or a map from the program.
-ghost use Rattle.std.specs.Prelude.{◌≡◌, ℕ, ◌<◌, IfOk, IsOk, pos};
+ghost use Rattle.std.specs.Prelude.{◌≡◌, ◌<◌, IfOk, IsOk, pos};
 ghost use Rattle.bpf_model.specs.Operand.{unary_source};
-ghost use Rattle.bpf_model.specs.Plain.{Reads};
-ghost use Rattle.abstract_state.specs.State.{IsNumber, kind_at};
-ghost use Rattle.abstract_state.specs.Floor.{operand_kind, LeavesKnown};
+ghost use Rattle.abstract_state.specs.State.{IsNumber};
+ghost use Rattle.abstract_state.specs.Facts.{ReadsNumbers};
+ghost use Rattle.abstract_state.specs.Floor.{LeavesKnownBy};
 ghost use Rattle.abstract_state.specs.Steps.{Computes, Stepped, HasMemory};
 
 use crate::compute::{combined, copied};
@@ -38,11 +38,13 @@ fn source_of(op: &UnaryOp, dst: Reg) -> Reg
 }
 
 impl AbsState {
+    /// What an operation of two operands leaves.
     fn computed(&self, op: AluOp, size: Size, dst: Reg, src: &Operand) -> Result<RegKind, Fault>
         ensures sound { IfOk result (λ k. Computes size op dst src.now self.now k) }
-        ensures floor { IfOk result (LeavesKnown op size (kind_at self.now dst) (operand_kind src.now self.now)) }
-        ensures accepts { ((r : ℕ) → Reads (Insn.Alu op size dst src.now) r → IsNumber (kind_at self.now r)) → IsOk result }
-        ensures numbers { ((r : ℕ) → Reads (Insn.Alu op size dst src.now) r → IsNumber (kind_at self.now r)) → IfOk result IsNumber }
+        ensures floor { IfOk result (LeavesKnownBy op size dst src.now self.now) }
+        ensures accepts { ReadsNumbers (Insn.Alu op size dst src.now) self.now → IsOk result }
+        ensures numbers { ReadsNumbers (Insn.Alu op size dst src.now) self.now
+            → IfOk result IsNumber }
         ensures memory { HasMemory result }
     {
         match op {
@@ -55,6 +57,7 @@ impl AbsState {
         }
     }
 
+    /// An operation of two operands.
     pub(crate) fn alu(
         &mut self,
         op: AluOp,
@@ -62,7 +65,8 @@ impl AbsState {
         dst: Reg,
         src: &Operand,
     ) -> Result<Flow, Fault>
-        ensures { (shape : EnvironmentShape) → Stepped (Insn.Alu op size dst src.now) shape self.old self.new result }
+        ensures { (shape : EnvironmentShape)
+            → Stepped (Insn.Alu op size dst src.now) shape self.old self.new result }
     {
         check_writable(dst)?;
         let kind = self.computed(op, size, dst, src)?;
@@ -70,8 +74,10 @@ impl AbsState {
         Ok(single_flow(Region::None))
     }
 
+    /// An operation of one operand.
     pub(crate) fn unary(&mut self, op: &UnaryOp, dst: Reg) -> Result<Flow, Fault>
-        ensures { (shape : EnvironmentShape) → Stepped (Insn.Unary op.now dst) shape self.old self.new result }
+        ensures { (shape : EnvironmentShape)
+            → Stepped (Insn.Unary op.now dst) shape self.old self.new result }
     {
         check_writable(dst)?;
         let n = self.number(source_of(op, dst))?;
@@ -79,14 +85,17 @@ impl AbsState {
         Ok(single_flow(Region::None))
     }
 
+    /// The wide instruction with a number.
     pub(crate) fn load_number(&mut self, dst: Reg, number: u64) -> Result<Flow, Fault>
-        ensures { (shape : EnvironmentShape) → Stepped (Insn.LoadNumber dst number) shape self.old self.new result }
+        ensures { (shape : EnvironmentShape)
+            → Stepped (Insn.LoadNumber dst number) shape self.old self.new result }
     {
         check_writable(dst)?;
         self.set(dst, RegKind::Num(Scalar::constant(number)));
         Ok(single_flow(Region::None))
     }
 
+    /// The wide instruction with a map.
     pub(crate) fn load_map(
         &mut self,
         dst: Reg,

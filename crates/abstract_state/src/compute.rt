@@ -29,7 +29,8 @@ pub(crate) fn numbers(kind: RegKind) -> Result<Scalar, Fault>
 /// What a move leaves.
 pub(crate) fn copied(size: Size, kind: RegKind) -> Result<RegKind, Fault>
     requires { IsHeld kind }
-    ensures sound { IfOk result (λ k. (v w : Value) → IsOf kind w → IsNear w → Gives k (computed size AluOp.Move v w)) }
+    ensures sound { IfOk result (λ k. (v w : Value) → IsOf kind w → IsNear w
+        → Gives k (computed size AluOp.Move v w)) }
     ensures floor { (v : RegKind) → IfOk result (LeavesKnown AluOp.Move size v kind) }
     ensures accepts { IsNumber kind → IsOk result }
     ensures keeps { IsNumber kind → IfOk result IsNumber }
@@ -47,8 +48,10 @@ pub(crate) fn copied(size: Size, kind: RegKind) -> Result<RegKind, Fault>
 
 /// What any other operation leaves.
 pub(crate) fn combined(size: Size, op: AluOp, x: RegKind, y: RegKind) -> Result<RegKind, Fault>
-    ensures sound { IfOk result (λ k. (v w : Value) → IsOf x v → IsOf y w → Gives k (computed size op v w)) }
-    ensures floor { (a b : Scalar) → x ≡ RegKind.Num a → y ≡ RegKind.Num b → IfOk result (IsNumbers (KeepsFloor size op a b)) }
+    ensures sound { IfOk result (λ k. (v w : Value) → IsOf x v → IsOf y w
+        → Gives k (computed size op v w)) }
+    ensures floor { (a b : Scalar) → x ≡ RegKind.Num a → y ≡ RegKind.Num b
+        → IfOk result (IsNumbers (KeepsFloor size op a b)) }
     ensures accepts { IsNumber x → IsNumber y → IsOk result }
     ensures keeps { IsNumber x → IsNumber y → IfOk result IsNumber }
     ensures memory { HasMemory result }

@@ -4,7 +4,7 @@ ghost use Rattle.bpf_model.specs.Operand.{operand_value};
 ghost use Rattle.bpf_model.specs.Plain.{Names};
 ghost use Rattle.bpf_model.specs.Step.{State};
 ghost use Rattle.abstract_state.specs.State.{Describes, IsOf, IsNumber, kind_at};
-ghost use Rattle.abstract_state.specs.Floor.{operand_kind};
+ghost use Rattle.abstract_state.specs.Floor.{IsOperandKind};
 ghost use Rattle.abstract_state.specs.Steps.{Stepped, HasMemory};
 
 use crate::compute::numbers;
@@ -30,9 +30,11 @@ impl AbsState {
     /// The two sides of a comparison.
     fn compared(&self, dst: Reg, src: &Operand) -> Result<(Scalar, Scalar), Fault>
         ensures left { IfOk result (λ p. kind_at self.now dst ≡ RegKind.Num p.0) }
-        ensures right { IfOk result (λ p. operand_kind src.now self.now ≡ RegKind.Num p.1) }
-        ensures right_sound { IfOk result (λ p. (m : State) → Describes self.now m → IsOf (RegKind.Num p.1) (operand_value src.now m.regs)) }
-        ensures accepts { IsNumber (kind_at self.now dst) → ((r : ℕ) → Names src.now r → IsNumber (kind_at self.now r)) → IsOk result }
+        ensures right { IfOk result (λ p. IsOperandKind src.now self.now (RegKind.Num p.1)) }
+        ensures right_sound { IfOk result (λ p. (m : State) → Describes self.now m
+            → IsOf (RegKind.Num p.1) (operand_value src.now m.regs)) }
+        ensures accepts { IsNumber (kind_at self.now dst)
+            → ((r : ℕ) → Names src.now r → IsNumber (kind_at self.now r)) → IsOk result }
         ensures memory { HasMemory result }
     {
         let x = self.held(dst)?;
@@ -44,9 +46,11 @@ impl AbsState {
     fn narrow(&mut self, dst: Reg, src: &Operand, x: Scalar, y: Scalar)
         ensures first { kind_at self.new dst ≡ RegKind.Num x }
         ensures second { (r : ℕ) → Names src.now r → r ≢ dst → kind_at self.new r ≡ RegKind.Num y }
-        ensures sound { (m : State) → Describes self.old m → IsOf (RegKind.Num x) (m.regs dst) → IsOf (RegKind.Num y) (operand_value src.now m.regs) → Describes self.new m }
+        ensures sound { (m : State) → Describes self.old m → IsOf (RegKind.Num x) (m.regs dst)
+            → IsOf (RegKind.Num y) (operand_value src.now m.regs) → Describes self.new m }
         ensures numbers { (r : ℕ) → IsNumber (kind_at self.old r) → IsNumber (kind_at self.new r) }
-        ensures others { (r : ℕ) → (r ≡ dst → ⊥) → (Names src.now r → ⊥) → kind_at self.new r ≡ kind_at self.old r }
+        ensures others { (r : ℕ) → (r ≡ dst → ⊥) → (Names src.now r → ⊥)
+            → kind_at self.new r ≡ kind_at self.old r }
         ensures frame { self.new.frame ≡ self.old.frame }
     {
         if let Operand::Register(r) = src {
@@ -64,7 +68,9 @@ impl AbsState {
         dst: Reg,
         src: &Operand,
     ) -> Result<Flow, Fault>
-        ensures { (offset : ℤ) (shape : EnvironmentShape) → Stepped (Insn.JumpIf condition size dst src.now offset) shape self.old self.new result }
+        ensures { (offset : ℤ) (shape : EnvironmentShape)
+            → Stepped (Insn.JumpIf condition size dst src.now offset) shape
+            self.old self.new result }
     {
         let (x, y) = self.compared(dst, src)?;
         let mut taken = self.copy(alloc)?;

@@ -1,8 +1,8 @@
 //! The bytes of the frame, by what is known of each.
-ghost use Rattle.std.specs.Prelude.{◌≡◌, ℕ, ◌+◌, ◌<◌, ◌≤◌, slice_index_or, length, IfOk, IsTrue, if◌then◌else◌};
+ghost use Rattle.std.specs.Prelude.{◌≡◌, ℕ, ◌+◌, ◌≤◌, length, IfOk, IsTrue};
 ghost use Rattle.bpf_model.specs.declared.limits.TheConstants.{FRAME_BYTES};
-ghost use Rattle.bpf_model.specs.Frame.{is_within};
-ghost use Rattle.abstract_state.specs.Steps.{join_cell};
+ghost use Rattle.abstract_state.specs.State.{cell_in};
+ghost use Rattle.abstract_state.specs.Steps.{AreBytes, written_cell, join_cell};
 
 use crate::kind::CellKind;
 use bpf_model::FRAME_BYTES;
@@ -30,7 +30,7 @@ impl Model for FrameCells {
 impl FrameCells {
     /// A frame of which nothing is written.
     pub fn new(alloc: Global) -> Result<FrameCells, AllocError>
-        ensures { IfOk result (λ f. (k : ℕ) → slice_index_or f k CellKind.Unwritten ≡ CellKind.Unwritten) }
+        ensures { IfOk result (λ f. (k : ℕ) → cell_in f k ≡ CellKind.Unwritten) }
     {
         let mut cells: Vec<CellKind> = Vec::new(alloc);
         for _ in 0..FRAME_BYTES {
@@ -48,46 +48,46 @@ impl FrameCells {
         })
     }
 
-    /// Bytes are written to so many cells from a place on.
-    pub(crate) fn write(&mut self, at: usize, width: usize)
-        requires { at + width ≤ FRAME_BYTES }
-        ensures { (k : ℕ) → slice_index_or self.new k CellKind.Unwritten ≡ (if is_within at width k then CellKind.Byte else slice_index_or self.old k CellKind.Unwritten) }
+    /// The cells of an access become bytes.
+    pub(crate) fn write(&mut self, offset: usize, width: usize)
+        requires { offset + width ≤ FRAME_BYTES }
+        ensures { (k : ℕ) → cell_in self.new k ≡ written_cell offset width (cell_in self.old) k }
     {
-        write_bytes(&mut self.cells, at, width);
+        write_bytes(&mut self.cells, offset, width);
     }
 
-    /// Whether so many cells from a place on are bytes.
-    pub(crate) fn is_written(&self, at: usize, width: usize) -> bool
-        requires { at + width ≤ FRAME_BYTES }
-        ensures sound { IsTrue result → (k : ℕ) → at ≤ k → k < at + width → slice_index_or self.now k CellKind.Unwritten ≡ CellKind.Byte }
-        ensures accepts { ((k : ℕ) → at ≤ k → k < at + width → slice_index_or self.now k CellKind.Unwritten ≡ CellKind.Byte) → IsTrue result }
+    /// Whether the cells of an access are bytes.
+    pub(crate) fn is_written(&self, offset: usize, width: usize) -> bool
+        requires { offset + width ≤ FRAME_BYTES }
+        ensures sound { IsTrue result → AreBytes self.now offset width }
+        ensures accepts { AreBytes self.now offset width → IsTrue result }
     {
-        are_bytes(self.cells.as_slice(), at, width)
+        are_bytes(self.cells.as_slice(), offset, width)
     }
 
     /// Each cell becomes what is known where it comes from either frame.
     pub(crate) fn join(&mut self, other: &FrameCells)
-        ensures { (k : ℕ) → slice_index_or self.new k CellKind.Unwritten ≡ join_cell (slice_index_or self.old k CellKind.Unwritten) (slice_index_or other.now k CellKind.Unwritten) }
+        ensures { (k : ℕ) → cell_in self.new k ≡ join_cell (cell_in self.old k) (cell_in other.now k) }
     {
         join_cells(self.cells.as_mut_slice(), other.cells.as_slice());
     }
 }
 
-fn write_bytes(cells: &mut [CellKind], at: usize, width: usize)
-    requires { at + width ≤ length cells.old }
-    ensures { (k : ℕ) → slice_index_or cells.new k CellKind.Unwritten ≡ (if is_within at width k then CellKind.Byte else slice_index_or cells.old k CellKind.Unwritten) }
+fn write_bytes(cells: &mut [CellKind], offset: usize, width: usize)
+    requires { offset + width ≤ length cells.old }
+    ensures { (k : ℕ) → cell_in cells.new k ≡ written_cell offset width (cell_in cells.old) k }
 {
-    for i in at..at + width {
+    for i in offset..offset + width {
         cells[i] = CellKind::Byte;
     }
 }
 
-fn are_bytes(cells: &[CellKind], at: usize, width: usize) -> bool
-    requires { at + width ≤ length cells.now }
-    ensures sound { IsTrue result → (k : ℕ) → at ≤ k → k < at + width → slice_index_or cells.now k CellKind.Unwritten ≡ CellKind.Byte }
-    ensures accepts { ((k : ℕ) → at ≤ k → k < at + width → slice_index_or cells.now k CellKind.Unwritten ≡ CellKind.Byte) → IsTrue result }
+fn are_bytes(cells: &[CellKind], offset: usize, width: usize) -> bool
+    requires { offset + width ≤ length cells.now }
+    ensures sound { IsTrue result → AreBytes cells.now offset width }
+    ensures accepts { AreBytes cells.now offset width → IsTrue result }
 {
-    for i in at..at + width {
+    for i in offset..offset + width {
         if cells[i] != CellKind::Byte {
             return false;
         }
@@ -106,7 +106,7 @@ fn joined(a: CellKind, b: CellKind) -> CellKind
 
 fn join_cells(cells: &mut [CellKind], others: &[CellKind])
     requires { length cells.old ≡ length others.now }
-    ensures { (k : ℕ) → slice_index_or cells.new k CellKind.Unwritten ≡ join_cell (slice_index_or cells.old k CellKind.Unwritten) (slice_index_or others.now k CellKind.Unwritten) }
+    ensures { (k : ℕ) → cell_in cells.new k ≡ join_cell (cell_in cells.old k) (cell_in others.now k) }
 {
     for i in 0..others.len() {
         cells[i] = joined(cells[i], others[i]);

@@ -1,5 +1,6 @@
 //! The kinds of registers and of frame bytes.
-ghost use Rattle.std.specs.Prelude.{◌≡◌, ℕ, length, slice_index_or};
+ghost use Rattle.std.specs.Prelude.{◌≡◌, ℕ, length};
+ghost use Rattle.abstract_state.specs.State.{kind_in};
 ghost use Rattle.abstract_state.specs.Steps.{Joins};
 
 use scalar_domain::Scalar;
@@ -17,7 +18,7 @@ pub enum RegKind {
     Ctx(i32),
     /// The frame, at this offset.
     Frame(i32),
-    /// The map of this place in the program's list.
+    /// The map of this index in the program's list.
     Map(usize),
 }
 
@@ -56,7 +57,7 @@ fn join_kind(a: RegKind, b: RegKind) -> RegKind
 /// Each kind becomes that of what is of either kind.
 pub(crate) fn join_kinds(kinds: &mut [RegKind], others: &[RegKind])
     requires { length kinds.old ≡ length others.now }
-    ensures { (r : ℕ) → Joins (slice_index_or kinds.old r RegKind.Unwritten) (slice_index_or others.now r RegKind.Unwritten) (slice_index_or kinds.new r RegKind.Unwritten) }
+    ensures { (r : ℕ) → Joins (kind_in kinds.old r) (kind_in others.now r) (kind_in kinds.new r) }
 {
     for i in 0..others.len() {
         kinds[i] = join_kind(kinds[i], others[i]);

@@ -14,6 +14,7 @@ use scalar_domain::Scalar;
 /// How far from the start of its region a reference may point, either way.
 const LIMIT: i64 = 1 << 29;
 
+/// The offset again, where it is near.
 fn near(offset: i64) -> Result<i32, Fault>
     ensures value { IfOk result (λ p. p ≡ offset) }
     ensures near { IfOk result IsNearOffset }
@@ -37,6 +38,7 @@ fn displacement(by: Scalar) -> Result<i32, Fault>
     }
 }
 
+/// The offset that is so many bytes further on.
 fn forward(offset: i32, by: i32) -> Result<i32, Fault>
     ensures value { IfOk result (λ p. p ≡ offset +ℤ by) }
     ensures near { IfOk result IsNearOffset }
@@ -45,6 +47,7 @@ fn forward(offset: i32, by: i32) -> Result<i32, Fault>
     near(i64::from(offset) + i64::from(by))
 }
 
+/// The offset that is so many bytes further back.
 fn back(offset: i32, by: i32) -> Result<i32, Fault>
     ensures value { IfOk result (λ p. p ≡ offset -ℤ by) }
     ensures near { IfOk result IsNearOffset }
@@ -67,41 +70,46 @@ pub(crate) fn moved(size: Size, op: AluOp, offset: i32, by: Scalar) -> Result<i3
     }
 }
 
-/// The start of an access, or `None` before the region's start.
-fn start(base: i32, offset: i16) -> Option<usize>
-    ensures { MatchOption result ((base +ℤ offset) <ℤ pos 0) (λ at. (base +ℤ offset) ≡ pos at) }
+/// Where an access begins in its region, or `None` before the region's start.
+fn first_byte(base: i32, offset: i16) -> Option<usize>
+    ensures { MatchOption result ((base +ℤ offset) <ℤ pos 0) (λ n. (base +ℤ offset) ≡ pos n) }
 {
-    let at = i64::from(base) + i64::from(offset);
-    if at < 0 { None } else { Some(at as usize) }
+    let first = i64::from(base) + i64::from(offset);
+    if first < 0 {
+        None
+    } else {
+        Some(first as usize)
+    }
 }
 
-/// The start again, where all of the access lies inside, and aligned.
-fn inside(len: usize, width: Width, at: usize) -> Result<usize, Fault>
-    ensures place { IfOk result (λ p. place_of len (byte_count width) (pos at) ≡ Some p) }
-    ensures inside { IfOk result (λ p. p + byte_count width ≤ len) }
-    ensures refuses { IfErr result (λ _. place_of len (byte_count width) (pos at) ≡ None) }
+/// Where an access begins, again, if all of it lies inside a region of this length, and aligned.
+fn inside(len: usize, width: Width, first: usize) -> Result<usize, Fault>
+    ensures place { IfOk result (λ n. place_of len (byte_count width) (pos first) ≡ Some n) }
+    ensures inside { IfOk result (λ n. n + byte_count width ≤ len) }
+    ensures refuses { IfErr result (λ _. place_of len (byte_count width) (pos first) ≡ None) }
     ensures memory { HasMemory result }
 {
     let bytes = width.bytes();
-    if at > len || len - at < bytes {
+    if first > len || len - first < bytes {
         return Err(Fault::OutOfBounds);
     }
-    if at % bytes != 0 {
+    if first % bytes != 0 {
         return Err(Fault::Misaligned);
     }
-    Ok(at)
+    Ok(first)
 }
 
-/// The place of an access in a region of this length, where all of it lies inside, and aligned.
+/// Where an access through a base at this offset begins in a region of this length, if all of it lies
+/// inside, and aligned.
 #[tactic(auto, using(crate::proofs::Sound::no_place_before))]
-pub(crate) fn place_in(len: usize, width: Width, base: i32, offset: i16) -> Result<usize, Fault>
-    ensures place { IfOk result (λ at. place_of len (byte_count width) (base +ℤ offset) ≡ Some at) }
-    ensures inside { IfOk result (λ at. at + byte_count width ≤ len) }
+pub(crate) fn offset_in(len: usize, width: Width, base: i32, offset: i16) -> Result<usize, Fault>
+    ensures place { IfOk result (λ n. place_of len (byte_count width) (base +ℤ offset) ≡ Some n) }
+    ensures inside { IfOk result (λ n. n + byte_count width ≤ len) }
     ensures refuses { IfErr result (λ _. place_of len (byte_count width) (base +ℤ offset) ≡ None) }
     ensures memory { HasMemory result }
 {
-    match start(base, offset) {
-        Some(at) => inside(len, width, at),
+    match first_byte(base, offset) {
+        Some(first) => inside(len, width, first),
         None => Err(Fault::OutOfBounds),
     }
 }

@@ -85,8 +85,10 @@ impl AbsState {
     pub fn join(&mut self, other: &AbsState)
         ensures left { Wider self.old self.new }
         ensures right { Wider other.now self.new }
-        ensures facts { (fact : Fact) → FactHolds fact self.old → FactHolds fact other.now → FactHolds fact self.new }
-        ensures pointers { (r : ℕ) (k : RegKind) → (IsNumber k → ⊥) → kind_at self.old r ≡ k → kind_at other.now r ≡ k → kind_at self.new r ≡ k }
+        ensures facts { (fact : Fact) → FactHolds fact self.old → FactHolds fact other.now
+            → FactHolds fact self.new }
+        ensures pointers { (r : ℕ) (k : RegKind) → (IsNumber k → ⊥) → kind_at self.old r ≡ k
+            → kind_at other.now r ≡ k → kind_at self.new r ≡ k }
     {
         join_kinds(&mut self.regs, &other.regs);
         self.frame.join(&other.frame);
@@ -116,23 +118,32 @@ impl AbsState {
         insn: &Insn,
         shape: EnvironmentShape,
     ) -> Result<Flow, Fault>
+        // From each described state the instruction is not stuck, and leads to one that is described.
         ensures sound { IfOk result (λ f. Transfers insn.now shape self.old self.new (taken_state f)) }
-        ensures region { IfOk result (λ f. (b : ℕ) (m : State) → base_of insn.now ≡ Some b → Describes self.old m → IsInRegion f.region (m.regs b)) }
-        ensures compares { OnOk result ((r : ℕ) (m : State) → Compares insn.now r → Describes self.old m → (n : ℕ) × (m.regs r ≡ Number n)) }
         ensures branches { IfOk result (λ f. IsBranch insn.now → IsSome f.taken) }
+        ensures region { IfOk result (λ f. (b : ℕ) (m : State)
+            → base_of insn.now ≡ Some b → Describes self.old m → IsInRegion f.region (m.regs b)) }
+        ensures compares { OnOk result ((r : ℕ) (m : State)
+            → Compares insn.now r → Describes self.old m → (n : ℕ) × (m.regs r ≡ Number n)) }
+
+        // What is refused, and what is not.
         ensures accepts { IsReady insn.now self.old → IsFine result }
         ensures memory { IfErr result (λ e. e ≡ Fault.Memory → IsBranch insn.now) }
         ensures unchanged { OnErr result (self.new ≡ self.old) }
 
-        // What is known at least.
-        ensures keeps { OnOk result (IsReady insn.now self.old → KeepsFacts insn.now self.old self.new) }
-        ensures keeps_taken { IfOk result (λ f. IsReady insn.now self.old → IfSome (taken_state f) (KeepsFacts insn.now self.old)) }
+        // What is known at least, in the state itself and in that where a conditional jump is taken.
+        ensures keeps { OnOk result (IsReady insn.now self.old
+            → KeepsFacts insn.now self.old self.new) }
+        ensures keeps_taken { IfOk result (λ f. IsReady insn.now self.old
+            → IfSome (taken_state f) (KeepsFacts insn.now self.old)) }
         ensures loads { OnOk result (LoadsKnown insn.now self.new) }
         ensures computes { OnOk result (ComputesKnown insn.now self.old self.new) }
         ensures refines { OnOk result (RefinesKnown false insn.now self.old self.new) }
-        ensures refines_taken { IfOk result (λ f. IfSome (taken_state f) (RefinesKnown true insn.now self.old)) }
+        ensures refines_taken { IfOk result (λ f.
+            IfSome (taken_state f) (RefinesKnown true insn.now self.old)) }
         ensures others { OnOk result (KeepsOthers insn.now self.old self.new) }
-        ensures others_taken { IfOk result (λ f. IfSome (taken_state f) (KeepsOthers insn.now self.old)) }
+        ensures others_taken { IfOk result (λ f.
+            IfSome (taken_state f) (KeepsOthers insn.now self.old)) }
     {
         self.perform(alloc, insn, shape)
     }

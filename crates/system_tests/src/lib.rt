@@ -9,6 +9,8 @@ mod compared;
 #[cfg(test)]
 mod judged;
 #[cfg(test)]
+mod kinds;
+#[cfg(test)]
 mod long;
 #[cfg(test)]
 mod orders;

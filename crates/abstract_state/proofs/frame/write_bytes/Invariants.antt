@@ -5,4 +5,4 @@ use Rattle.abstract_state.specs.declared.kind.CellKind.TheVariants.{Unwritten, B
 use Rattle.abstract_state.proofs.frame.write_bytes.Given as goal
 
 abbrev pub invariant-loop-i : goal.invariant-loop-i
-invariant-loop-i l = (k : ℕ) → slice_index_or l.cells k Unwritten ≡ (if is_within l.at (l.i - l.at) k then Byte else slice_index_or l.fn.cells k Unwritten)
+invariant-loop-i l = (k : ℕ) → slice_index_or l.cells k Unwritten ≡ (if is_within l.offset (l.i - l.offset) k then Byte else slice_index_or l.fn.cells k Unwritten)

@@ -1,8 +1,5 @@
-use Rattle.std.proofs.Common.{◌≡◌, refl, sym, ◌∙◌, subst, true, false, inl, inr}
-use Rattle.bpf_model.specs.declared.insn.Insn.TheVariants.{JumpIf}
-use Rattle.scalar_domain.specs.Floor.{KeepsEdgeFloor}
-use Rattle.abstract_state.specs.declared.kind.RegKind.TheVariants.{Num}
-use Rattle.abstract_state.proofs.Jumps.{narrows, fork_transfers, fork_keeps, fork_compares, refines_known}
+use Rattle.std.proofs.Common.{◌≡◌, refl, ◌∙◌, true, false, inl, inr}
+use Rattle.abstract_state.proofs.Jumps.{narrows, fork_transfers, fork_keeps, fork_compares}
 use Rattle.abstract_state.proofs.state.AbsState.fork.Goals as goal
 
 pub returns : goal.returns
@@ -32,8 +29,28 @@ returns c =
         keeps_taken = fork_keeps condition size dst src offset a c.narrow.new.self yea.numbers (λ r _ t. yea.others r (λ e. t (inl e)) (λ n. t (inr n))) yea.frame;
         loads = tt;
         computes = tt;
-        refines = refines_known condition size false dst src c.in_ok-x.x c.in_ok-x.y _ _ offset a c.narrow-2.new.self c.in_ok-x.ensures.left c.in_ok-x.ensures.right nay.first nay.second c.refine-2.ensures.floor;
-        refines_taken = refines_known condition size true dst src c.in_ok-x.x c.in_ok-x.y _ _ offset a c.narrow.new.self c.in_ok-x.ensures.left c.in_ok-x.ensures.right yea.first yea.second c.refine.ensures.floor;
+        refines = record {
+          a = c.in_ok-x.x;
+          b = c.in_ok-x.y;
+          left = _;
+          right = _;
+          first_was = c.in_ok-x.ensures.left;
+          second_was = c.in_ok-x.ensures.right;
+          first = nay.first;
+          second = nay.second;
+          floor = c.refine-2.ensures.floor;
+        };
+        refines_taken = record {
+          a = c.in_ok-x.x;
+          b = c.in_ok-x.y;
+          left = _;
+          right = _;
+          first_was = c.in_ok-x.ensures.left;
+          second_was = c.in_ok-x.ensures.right;
+          first = yea.first;
+          second = yea.second;
+          floor = c.refine.ensures.floor;
+        };
         others = λ r _ t. nay.others r (λ e. t (inl e)) (λ n. t (inr n));
         others_taken = λ r _ t. yea.others r (λ e. t (inl e)) (λ n. t (inr n));
       };

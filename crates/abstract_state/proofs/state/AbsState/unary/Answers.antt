@@ -1,15 +1,14 @@
-use Rattle.std.proofs.Common.{◌≡◌, refl, sym, ◌∙◌, ap, subst}
+use Rattle.std.proofs.Common.{refl, ap}
 use Rattle.bpf_model.specs.declared.insn.Insn.TheVariants.{Unary}
 use Rattle.bpf_model.specs.declared.value.Value.TheVariants.{Number}
 use Rattle.bpf_model.specs.Arithmetic.{unary}
 use Rattle.bpf_model.specs.Operand.{unary_source}
 use Rattle.bpf_model.specs.Value.{◌>>=◌, number}
 use Rattle.bpf_model.specs.Step.{sets}
-use Rattle.scalar_domain.specs.Floor.{KeepsUnaryFloor}
 use Rattle.abstract_state.specs.Laws.{unary_lt}
 use Rattle.abstract_state.specs.declared.kind.RegKind.TheVariants.{Num}
 use Rattle.abstract_state.specs.declared.kind.Region.TheVariants as regions
-use Rattle.abstract_state.proofs.Sound.{write_done, set_there, number_of, num_of}
+use Rattle.abstract_state.proofs.Sound.{write_done, set_there, number_of}
 use Rattle.abstract_state.proofs.state.AbsState.unary.Goals as goal
 
 pub returns : goal.returns
@@ -19,7 +18,7 @@ returns c =
     (write_done (Unary c.args.op.now c.args.dst) c.args.dst (Num c.unary.result) c.args.self.now c.set.new.self regions.None shape
     (record { goes_on = refl; stays = refl; sets = refl; writes = λ r w. w; no_bytes = λ k w. w; no_test = λ r t. t })
     c.in_ok-check_writable.ensures.value c.set.ensures (λ _. tt) (λ r m e d. cc) tt
-    (λ a e. let f : c.in_ok-n.n ≡ a = num_of (sym read ∙ e) in (c.unary.result, set_there _ _ _ _ c.set.ensures, subst (λ a. KeepsUnaryFloor c.args.op.now a c.unary.result) f c.unary.ensures.floor)) tt
+    (c.in_ok-n.n, read, (c.unary.result, set_there _ _ _ _ c.set.ensures, c.unary.ensures.floor)) tt
     (λ env m e d.
     let n = number_of c.args.self.now (unary_source c.args.op.now c.args.dst) c.in_ok-n.n m read d in
     let v = unary c.args.op.now n.0 in (
