@@ -1,13 +1,10 @@
 -- A run of a verified program is never stuck, and exits in time.
-use Rattle.std.proofs.Common.{◌≡◌, ℕ, suc, ◌<◌, ◌≤◌, refl, arith, length}
+use Rattle.std.proofs.Common.{◌≡◌, ℕ, ◌≤◌, refl, arith}
 use Rattle.bpf_model.specs.declared.event.Answer.TheVariants.{Moved}
-use Rattle.bpf_model.specs.Section.{Section}
-use Rattle.bpf_model.specs.MapState.{Store}
 use Rattle.bpf_model.specs.Machine.{Run}
-use Rattle.bpf_model.specs.MachineStep.{RunStep}
 use Rattle.bpf_model.specs.Step.{entry}
 use Rattle.verifier.specs.Checked.{Checked}
-use Rattle.verifier.specs.Verdict.{Plan, IsDescribedAt, IsRunOf, HasStep, Justifies, IsVerified, ComesTo, comes_first, comes_next, RunsSafely}
+use Rattle.verifier.specs.Verdict.{Plan, IsDescribedAt, IsRunOf, Justifies, IsVerified, ComesTo, comes_first, comes_next, RunsSafely}
 
 -- a run that has made so many steps is described no less far on
 pub record IsPaced (c : Checked) (plan : Plan) (steps : ℕ) (run : Run) : Type 0 where
@@ -27,6 +24,7 @@ module _ (c : Checked) (plan : Plan) (j : Justifies c plan) (start : Run) (is_ru
 pub runs_safely : (c : Checked) → IsVerified c → RunsSafely c
 runs_safely c v program context name steps run code shape to =
     let is_run : IsRunOf c _ = record { code = code; shape = shape; outside = refl } in
-    let p = comes c v.plan v.justified _ is_run refl to in
-    (omega (arith, p.paced, v.justified.inside p.index p.described.known p.described.planned),
-      λ s opened. v.justified.goes p.index s opened run p.is_run p.described)
+    let p = comes c v.plan v.justified _ is_run refl to in (
+      omega (arith, p.paced, v.justified.inside p.index p.described.known p.described.planned),
+      λ s opened. v.justified.goes p.index s opened run p.is_run p.described,
+    )

@@ -155,8 +155,8 @@ pub own_step : (c : Checked) (plan : Plan) → Justifies c plan → (index : ℕ
 own_step c plan j index i region e f s new_store opened run new answer r d t =
     let same : t.0 ≡ i = (let g : Some t.0 ≡ Some i = sym t.1 ∙ insn_of_run c plan index i run e r d in cc) in
     let step : InsnStep i s opened run answer new_store new =
-        subst (λ i. InsnStep i s opened run answer new_store new) same t.2 in
+    subst (λ i. InsnStep i s opened run answer new_store new) same t.2 in
     let o = j.alone index i run e r d in
     let base : HasBaseElsewhere i run.state =
-        λ b g. region_elsewhere region (run.state.regs b) (j.regions index i b region run.state e g f d) in
+    λ b g. region_elsewhere region (run.state.regs b) (j.regions index i b region run.state e g f d) in
     (o.0, o.1, step_is_own i s new_store opened run new answer o.0 o.1 base step)
