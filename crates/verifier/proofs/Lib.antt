@@ -6,4 +6,5 @@ pub mod Lists
 pub mod Marking
 pub mod Merging
 pub mod Plans
+pub mod Safety
 pub mod Verdicts

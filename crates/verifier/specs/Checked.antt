@@ -6,8 +6,12 @@ use Rattle.abstract_state.specs.declared.kind.Region.{Region}
 
 pub record Checked : Type 0 where
   pub program : List Insn
-  -- for each instruction the region that it reaches, and the index of the instruction to which it jumps
+  -- for each instruction the region that it reaches, and the index to which it jumps
   pub regions : List Region
   pub targets : List (Option ℕ)
   pub shapes : List MapShape
   pub ctx_len : ℕ
+
+abbrev pub checked : List Insn → List Region → List (Option ℕ) → List MapShape → ℕ → Checked
+checked program regions targets shapes ctx_len =
+    record { program = program; regions = regions; targets = targets; shapes = shapes; ctx_len = ctx_len }

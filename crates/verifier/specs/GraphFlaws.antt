@@ -1,5 +1,5 @@
--- What may be wrong with a program's jump graph, in the order in which it is told: a bad jump, an end that is no EXIT, an instruction that no
--- path reaches.
+-- What may be wrong with a program's jump graph, in the order in which it is told: a bad jump, an end
+-- that is no EXIT, an instruction that no path reaches.
 use Rattle.std.specs.Prelude.{◌≡◌, ◌≢◌, ℕ, ◌+◌, ◌<◌, nat_le, List, [], ◌∷◌, ◌++◌, Option, Some, None, ℤ, pos, negsuc, ◌+ℤ◌, if◌then◌else◌}
 use Rattle.bpf_model.specs.declared.insn.Insn.{Insn}
 use Rattle.bpf_model.specs.declared.insn.Insn.TheVariants.{Exit}
@@ -13,10 +13,12 @@ abbrev pub missing : Option Insn → Option GraphFlaw
 missing None = Some JumpTarget
 missing (Some i) = None
 
--- A jump that leads to its own slot or before it goes back; another that leads to no instruction's start has a bad target.
+-- A jump that leads to its own slot or before it goes back; another that leads to no instruction's
+-- start has a bad target.
 abbrev pub landing_flaw : List Insn → ℕ → ℤ → Option GraphFlaw
 landing_flaw program slot (negsuc n) = Some BackJump
-landing_flaw program slot (pos target) = if nat_le target slot then Some BackJump else missing (insn_at program target)
+landing_flaw program slot (pos target) =
+    if nat_le target slot then Some BackJump else missing (insn_at program target)
 
 abbrev pub distance_flaw : List Insn → ℕ → Option ℤ → Option GraphFlaw
 distance_flaw program slot None = None
@@ -28,7 +30,8 @@ jump_flaw program slot i = distance_flaw program slot (distance i)
 
 -- no jump before the slot is bad
 abbrev pub JumpsWellBefore : List Insn → ℕ → Type 0
-JumpsWellBefore program slot = (q : ℕ) (i : Insn) → q < slot → insn_at program q ≡ Some i → jump_flaw program q i ≡ None
+JumpsWellBefore program slot =
+    (q : ℕ) (i : Insn) → q < slot → insn_at program q ≡ Some i → jump_flaw program q i ≡ None
 
 abbrev pub JumpsWell : List Insn → Type 0
 JumpsWell program = (q : ℕ) (i : Insn) → insn_at program q ≡ Some i → jump_flaw program q i ≡ None

@@ -1,4 +1,4 @@
--- Laws: where an instruction is no call and accesses no element, a step of the machine is the one that the run makes by itself.
+-- Laws: a run of a verified program makes each step by itself, with no call and no access to an element.
 use Rattle.std.proofs.Common.{◌≡◌, ℕ, ◌-◌, refl, sym, ◌∙◌, ap, subst, arith, inl, inr, List}
 use Rattle.std.specs.Prelude.{slice_get, Option, Some, None, ℤ}
 use Rattle.bpf_model.specs.declared.insn.Insn.{Insn}
@@ -26,7 +26,8 @@ use Rattle.verifier.specs.Verdict.{Plan, IsDescribedAt, IsRunOf, Justifies}
 abbrev pub IsElsewhere : Value → Type 0
 IsElsewhere v = (n : ℕ) (o : ℤ) → v ≡ Pointer (Elem n o) → ⊥
 
-load_elsewhere : (es : List Element) (width : ℕ) (offset : ℤ) (base : Value) → IsElsewhere base → element_load es width offset base ≡ None
+load_elsewhere : (es : List Element) (width : ℕ) (offset : ℤ) (base : Value) → IsElsewhere base
+    → element_load es width offset base ≡ None
 load_elsewhere es width offset Nothing h = refl
 load_elsewhere es width offset (Number n) h = refl
 load_elsewhere es width offset (Pointer (Ctx o)) h = refl
@@ -34,7 +35,8 @@ load_elsewhere es width offset (Pointer (Frame o)) h = refl
 load_elsewhere es width offset (Pointer (MapRef m)) h = refl
 load_elsewhere es width offset (Pointer (Elem n o)) h = absurd (h n o refl)
 
-store_elsewhere : (es : List Element) (width : ℕ) (offset : ℤ) (v base : Value) → IsElsewhere base → element_store es width offset v base ≡ None
+store_elsewhere : (es : List Element) (width : ℕ) (offset : ℤ) (v base : Value) → IsElsewhere base
+    → element_store es width offset v base ≡ None
 store_elsewhere es width offset Nothing base h = refl
 store_elsewhere es width offset (Pointer r) base h = refl
 store_elsewhere es width offset (Number v) Nothing h = refl
@@ -51,7 +53,8 @@ no_value e f = (let g : None ≡ Some _ = sym e ∙ f in cc)
 abbrev pub HasBaseElsewhere : Insn → State → Type 0
 HasBaseElsewhere i m = (b : ℕ) → base_of i ≡ Some b → IsElsewhere (m.regs b)
 
-no_access : (i : Insn) (es new : List Element) (m : State) (out : Outcome) → HasBaseElsewhere i m → AccessesElement i es m out new → ⊥
+no_access : (i : Insn) (es new : List Element) (m : State) (out : Outcome) → HasBaseElsewhere i m
+    → AccessesElement i es m out new → ⊥
 no_access (Load width dst src offset) es new m out h a = no_value (load_elsewhere es (byte_count width) offset (m.regs src) (h src refl)) a.1
 no_access (LoadSigned width dst src offset) es new m out h a = no_value (load_elsewhere es (byte_count (unsigned_width width)) offset (m.regs src) (h src refl)) a.1
 no_access (Store width dst offset src) es new m out h a = no_value (store_elsewhere es (byte_count width) offset (operand_value src m.regs) (m.regs dst) (h dst refl)) a.0
@@ -65,52 +68,69 @@ no_access (JumpIf condition size dst src offset) es new m out h a = a
 no_access (Call kind imm) es new m out h a = a
 no_access Exit es new m out h a = a
 
--- What a run does by itself is a step of the machine that leaves the elements as they are.
-pub own_is_step : (i : Insn) (s : map_state.Store) (opened : List Section) (run new_run : Run) (answer : Answer) (out : Outcome)
-    → after i (environment run) run.state ≡ Some out → Ends out run answer new_run
-    → InsnStep i s opened run answer (map_state.with_elements s.elements s) new_run
-own_is_step (Alu op size dst src) s opened run new_run answer out e f = (out, s.elements, inl (e, refl), refl, f)
-own_is_step (Unary op dst) s opened run new_run answer out e f = (out, s.elements, inl (e, refl), refl, f)
-own_is_step (LoadNumber dst n) s opened run new_run answer out e f = (out, s.elements, inl (e, refl), refl, f)
-own_is_step (LoadMap dst map) s opened run new_run answer out e f = (out, s.elements, inl (e, refl), refl, f)
-own_is_step (Jump offset) s opened run new_run answer out e f = (out, s.elements, inl (e, refl), refl, f)
-own_is_step (JumpLong imm) s opened run new_run answer out e f = (out, s.elements, inl (e, refl), refl, f)
-own_is_step (JumpIf condition size dst src offset) s opened run new_run answer out e f = (out, s.elements, inl (e, refl), refl, f)
-own_is_step (Call kind imm) s opened run new_run answer out e f = absurd (no_value refl e)
-own_is_step Exit s opened run new_run answer out e f = (out, s.elements, inl (e, refl), refl, f)
-own_is_step (Load width dst src offset) s opened run new_run answer out e f = (out, s.elements, inl (e, refl), refl, f)
-own_is_step (LoadSigned width dst src offset) s opened run new_run answer out e f = (out, s.elements, inl (e, refl), refl, f)
-own_is_step (Store width dst offset src) s opened run new_run answer out e f = (out, s.elements, inl (e, refl), refl, f)
-
 -- the answer and the run are those of the outcome, and the elements are as they were
 abbrev pub IsOwnStep : Outcome → map_state.Store → Run → Answer → map_state.Store → Run → Type 0
-IsOwnStep out s run answer new_store new_run = Ends out run answer new_run × (new_store ≡ map_state.with_elements s.elements s)
+IsOwnStep out s run answer new_store new =
+    Ends out run answer new × (new_store ≡ map_state.with_elements s.elements s)
 
-acting_is_own : (i : Insn) (s new_store : map_state.Store) (run new_run : Run) (answer : Answer) (out : Outcome)
+module _ (s new_store : map_state.Store) (opened : List Section) (run new : Run) (answer : Answer) (out : Outcome) where
+  -- what an instruction that is no call does
+  abbrev IsActing : Insn → Type 0
+  IsActing i = (found : Outcome) × (es : List Element) × Acts i (environment run) s.elements run.state found es
+      × (new_store ≡ map_state.with_elements es s) × Ends found run answer new
+
+  -- an instruction that a run does by itself is no call, so that this is its step
+  acting : (i : Insn) → after i (environment run) run.state ≡ Some out → InsnStep i s opened run answer new_store new → IsActing i
+  acting (Alu op size dst src) e t = t
+  acting (Unary op dst) e t = t
+  acting (LoadNumber dst n) e t = t
+  acting (LoadMap dst map) e t = t
+  acting (Jump offset) e t = t
+  acting (JumpLong imm) e t = t
+  acting (JumpIf condition size dst src offset) e t = t
+  acting (Call kind imm) e t = absurd (no_value refl e)
+  acting Exit e t = t
+  acting (Load width dst src offset) e t = t
+  acting (LoadSigned width dst src offset) e t = t
+  acting (Store width dst offset src) e t = t
+
+  stepping : (i : Insn) → after i (environment run) run.state ≡ Some out → IsActing i → InsnStep i s opened run answer new_store new
+  stepping (Alu op size dst src) e t = t
+  stepping (Unary op dst) e t = t
+  stepping (LoadNumber dst n) e t = t
+  stepping (LoadMap dst map) e t = t
+  stepping (Jump offset) e t = t
+  stepping (JumpLong imm) e t = t
+  stepping (JumpIf condition size dst src offset) e t = t
+  stepping (Call kind imm) e t = absurd (no_value refl e)
+  stepping Exit e t = t
+  stepping (Load width dst src offset) e t = t
+  stepping (LoadSigned width dst src offset) e t = t
+  stepping (Store width dst offset src) e t = t
+
+-- What a run does by itself is a step of the machine that leaves the elements as they are.
+pub own_is_step : (i : Insn) (s : map_state.Store) (opened : List Section) (run new : Run) (answer : Answer) (out : Outcome)
+    → after i (environment run) run.state ≡ Some out → Ends out run answer new
+    → InsnStep i s opened run answer (map_state.with_elements s.elements s) new
+own_is_step i s opened run new answer out e f =
+    stepping s (map_state.with_elements s.elements s) opened run new answer out i e (out, s.elements, inl (e, refl), refl, f)
+
+only_own : (i : Insn) (s new_store : map_state.Store) (run new : Run) (answer : Answer) (out : Outcome)
     → after i (environment run) run.state ≡ Some out → HasBaseElsewhere i run.state
     → (found : Outcome) (es : List Element) → Acts i (environment run) s.elements run.state found es
-    → new_store ≡ map_state.with_elements es s → Ends found run answer new_run → IsOwnStep out s run answer new_store new_run
-acting_is_own i s new_store run new_run answer out e h found es (inl a) f g =
+    → new_store ≡ map_state.with_elements es s → Ends found run answer new → IsOwnStep out s run answer new_store new
+only_own i s new_store run new answer out e h found es (inl a) f g =
     let same : found ≡ out = (let k : Some found ≡ Some out = sym a.0 ∙ e in cc) in
-    (subst (λ o. Ends o run answer new_run) same g, f ∙ ap (λ es. map_state.with_elements es s) a.1)
-acting_is_own i s new_store run new_run answer out e h found es (inr a) f g = absurd (no_access i s.elements es run.state found h a)
+    (subst (λ o. Ends o run answer new) same g, f ∙ ap (λ es. map_state.with_elements es s) a.1)
+only_own i s new_store run new answer out e h found es (inr a) f g = absurd (no_access i s.elements es run.state found h a)
 
--- Where a run has a step by itself and its base is elsewhere, that is the only step of the machine.
-pub step_is_own : (i : Insn) (s new_store : map_state.Store) (opened : List Section) (run new_run : Run) (answer : Answer) (out : Outcome)
+-- Where its base is elsewhere, that is the only step of the machine.
+pub step_is_own : (i : Insn) (s new_store : map_state.Store) (opened : List Section) (run new : Run) (answer : Answer) (out : Outcome)
     → after i (environment run) run.state ≡ Some out → HasBaseElsewhere i run.state
-    → InsnStep i s opened run answer new_store new_run → IsOwnStep out s run answer new_store new_run
-step_is_own (Alu op size dst src) s new_store opened run new_run answer out e h t = acting_is_own (Alu op size dst src) s new_store run new_run answer out e h t.0 t.1 t.2 t.3 t.4
-step_is_own (Unary op dst) s new_store opened run new_run answer out e h t = acting_is_own (Unary op dst) s new_store run new_run answer out e h t.0 t.1 t.2 t.3 t.4
-step_is_own (LoadNumber dst n) s new_store opened run new_run answer out e h t = acting_is_own (LoadNumber dst n) s new_store run new_run answer out e h t.0 t.1 t.2 t.3 t.4
-step_is_own (LoadMap dst map) s new_store opened run new_run answer out e h t = acting_is_own (LoadMap dst map) s new_store run new_run answer out e h t.0 t.1 t.2 t.3 t.4
-step_is_own (Jump offset) s new_store opened run new_run answer out e h t = acting_is_own (Jump offset) s new_store run new_run answer out e h t.0 t.1 t.2 t.3 t.4
-step_is_own (JumpLong imm) s new_store opened run new_run answer out e h t = acting_is_own (JumpLong imm) s new_store run new_run answer out e h t.0 t.1 t.2 t.3 t.4
-step_is_own (JumpIf condition size dst src offset) s new_store opened run new_run answer out e h t = acting_is_own (JumpIf condition size dst src offset) s new_store run new_run answer out e h t.0 t.1 t.2 t.3 t.4
-step_is_own (Call kind imm) s new_store opened run new_run answer out e h t = absurd (no_value refl e)
-step_is_own Exit s new_store opened run new_run answer out e h t = acting_is_own Exit s new_store run new_run answer out e h t.0 t.1 t.2 t.3 t.4
-step_is_own (Load width dst src offset) s new_store opened run new_run answer out e h t = acting_is_own (Load width dst src offset) s new_store run new_run answer out e h t.0 t.1 t.2 t.3 t.4
-step_is_own (LoadSigned width dst src offset) s new_store opened run new_run answer out e h t = acting_is_own (LoadSigned width dst src offset) s new_store run new_run answer out e h t.0 t.1 t.2 t.3 t.4
-step_is_own (Store width dst offset src) s new_store opened run new_run answer out e h t = acting_is_own (Store width dst offset src) s new_store run new_run answer out e h t.0 t.1 t.2 t.3 t.4
+    → InsnStep i s opened run answer new_store new → IsOwnStep out s run answer new_store new
+step_is_own i s new_store opened run new answer out e h t =
+    let a = acting s new_store opened run new answer out i e t in
+    only_own i s new_store run new answer out e h a.0 a.1 a.2 a.3 a.4
 
 -- what lies in a region of the context or of the frame is elsewhere
 pub region_elsewhere : (region : Region) (v : Value) → IsInRegion region v → IsElsewhere v
@@ -123,7 +143,8 @@ pub insn_of_run : (c : Checked) (plan : Plan) (index : ℕ) (i : Insn) (run : Ru
     → IsRunOf c run → IsDescribedAt c.program plan index run.state → insn_at run.program.code run.state.place ≡ Some i
 insn_of_run c plan index i run e r d =
     let zero_off : run.state.place ≡ run.state.place - 0 = omega arith in
-    ap (λ p. insn_at p run.state.place) r.code ∙ ap (insn_at c.program) zero_off ∙ insn_at-start 0 c.program index run.state.place i e d.at
+    ap (λ p. insn_at p run.state.place) r.code ∙ ap (insn_at c.program) zero_off
+    ∙ insn_at-start 0 c.program index run.state.place i e d.at
 
 -- Each step of a described run of a justified program is the one that it makes by itself.
 pub own_step : (c : Checked) (plan : Plan) → Justifies c plan → (index : ℕ) (i : Insn) (region : Region)
@@ -133,7 +154,9 @@ pub own_step : (c : Checked) (plan : Plan) → Justifies c plan → (index : ℕ
     → (out : Outcome) × (after i (environment run) run.state ≡ Some out) × IsOwnStep out s run answer new_store new
 own_step c plan j index i region e f s new_store opened run new answer r d t =
     let same : t.0 ≡ i = (let g : Some t.0 ≡ Some i = sym t.1 ∙ insn_of_run c plan index i run e r d in cc) in
-    let step : InsnStep i s opened run answer new_store new = subst (λ i. InsnStep i s opened run answer new_store new) same t.2 in
+    let step : InsnStep i s opened run answer new_store new =
+    subst (λ i. InsnStep i s opened run answer new_store new) same t.2 in
     let o = j.alone index i run e r d in
-    let base : HasBaseElsewhere i run.state = λ b g. region_elsewhere region (run.state.regs b) (j.regions index i b region run.state e g f d) in
+    let base : HasBaseElsewhere i run.state =
+    λ b g. region_elsewhere region (run.state.regs b) (j.regions index i b region run.state e g f d) in
     (o.0, o.1, step_is_own i s new_store opened run new answer o.0 o.1 base step)

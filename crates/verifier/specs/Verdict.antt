@@ -1,5 +1,5 @@
 -- What `verify` answers: what a verified program is, and what a refusal tells.
-use Rattle.std.specs.Prelude.{◌≡◌, ℕ, ◌<◌, ◌≤◌, List, length, slice_get, Option, Some, Result, Ok, Err}
+use Rattle.std.specs.Prelude.{◌≡◌, ℕ, suc, ◌<◌, ◌≤◌, List, length, slice_get, Option, Some, Result, Ok, Err}
 use Rattle.bpf_model.specs.declared.insn.Insn.{Insn}
 use Rattle.bpf_model.specs.declared.limits.TheConstants.{CTX_BYTES}
 use Rattle.bpf_model.specs.declared.event.Answer.{Answer}
@@ -9,7 +9,7 @@ use Rattle.bpf_model.specs.Spelling.{IsProgram}
 use Rattle.bpf_model.specs.Step.{State, Outcome, after, entry}
 use Rattle.bpf_model.specs.Section.{Section}
 use Rattle.bpf_model.specs.MapState.{Store}
-use Rattle.bpf_model.specs.Machine.{Run, environment}
+use Rattle.bpf_model.specs.Machine.{Loaded, Run, environment, fresh_run}
 use Rattle.bpf_model.specs.MachineStep.{RunStep}
 use Rattle.abstract_state.specs.declared.state.AbsState.{AbsState}
 use Rattle.abstract_state.specs.declared.environment.EnvironmentShape.{EnvironmentShape}
@@ -44,12 +44,15 @@ pub record IsRunOf (c : Checked) (run : Run) : Type 0 where
 
 -- The run has a step of the machine, with these maps and these open sections.
 abbrev pub HasStep : Store → List Section → Run → Type 0
-HasStep s opened run = (answer : Answer) × (new_store : Store) × (new : Run) × RunStep s opened run answer new_store new
+HasStep s opened run =
+    (answer : Answer) × (new_store : Store) × (new : Run)
+    × RunStep s opened run answer new_store new
 
 -- After a step from this index the run has ended, or the plan describes it further on.
 abbrev pub LeadsOn : Checked → Plan → ℕ → Answer → Run → Type 0
 LeadsOn c plan index (Exited n) new = Unit {0}
-LeadsOn c plan index Moved new = (next : ℕ) × (index < next) × IsRunOf c new × IsDescribedAt c.program plan next new.state
+LeadsOn c plan index Moved new =
+    (next : ℕ) × (index < next) × IsRunOf c new × IsDescribedAt c.program plan next new.state
 LeadsOn c plan index answer new = ⊥
 
 -- By the plan each run of the program, once described, is never stuck and goes on to an exit.
@@ -57,21 +60,26 @@ pub record Justifies (c : Checked) (plan : Plan) : Type 0 where
   -- the plan describes the state at the entry, and speaks of the program's instructions alone
   pub start : IsDescribedAt c.program plan 0 entry
   pub inside : (index : ℕ) (a : AbsState) → plan index ≡ Some a → index < length c.program
-  -- whatever the maps hold and whichever sections are open, a described run has a step, and each of its steps leads on
+  -- whatever the maps hold and whichever sections are open, a described run has a step, and each of
+  -- its steps leads on
   pub goes : (index : ℕ) (s : Store) (opened : List Section) (run : Run)
       → IsRunOf c run → IsDescribedAt c.program plan index run.state → HasStep s opened run
-  pub leads : (index : ℕ) (s : Store) (opened : List Section) (run : Run) (answer : Answer) (new_store : Store) (new : Run)
-      → IsRunOf c run → IsDescribedAt c.program plan index run.state → RunStep s opened run answer new_store new
-      → LeadsOn c plan index answer new
+  pub leads : (index : ℕ) (s : Store) (opened : List Section) (run : Run)
+      (answer : Answer) (new_store : Store) (new : Run)
+      → IsRunOf c run → IsDescribedAt c.program plan index run.state
+      → RunStep s opened run answer new_store new → LeadsOn c plan index answer new
   -- it makes its step by itself, with no call
   pub alone : (index : ℕ) (i : Insn) (run : Run) → slice_get c.program index ≡ Some i
-      → IsRunOf c run → IsDescribedAt c.program plan index run.state → (out : Outcome) × (after i (environment run) run.state ≡ Some out)
+      → IsRunOf c run → IsDescribedAt c.program plan index run.state
+      → (out : Outcome) × (after i (environment run) run.state ≡ Some out)
   -- a memory instruction reaches the region that is noted for it
-  pub regions : (index : ℕ) (i : Insn) (b : ℕ) (region : Region) (m : State) → slice_get c.program index ≡ Some i
-      → base_of i ≡ Some b → slice_get c.regions index ≡ Some region → IsDescribedAt c.program plan index m → IsInRegion region (m.regs b)
+  pub regions : (index : ℕ) (i : Insn) (b : ℕ) (region : Region) (m : State)
+      → slice_get c.program index ≡ Some i → base_of i ≡ Some b → slice_get c.regions index ≡ Some region
+      → IsDescribedAt c.program plan index m → IsInRegion region (m.regs b)
   -- and a conditional jump compares numbers
-  pub compared : (index : ℕ) (i : Insn) (r : ℕ) (m : State) → slice_get c.program index ≡ Some i
-      → Compares i r → IsDescribedAt c.program plan index m → (n : ℕ) × (m.regs r ≡ Number n)
+  pub compared : (index : ℕ) (i : Insn) (r : ℕ) (m : State)
+      → slice_get c.program index ≡ Some i → Compares i r
+      → IsDescribedAt c.program plan index m → (n : ℕ) × (m.regs r ≡ Number n)
 
 -- The program is verified: some plan justifies it.
 pub record IsVerified (c : Checked) : Type 0 where
@@ -83,7 +91,25 @@ pub record IsVerified (c : Checked) : Type 0 where
   pub plan : Plan
   pub justified : Justifies c plan
 
--- A refusal tells a flaw of the graph only where the graph has it, and a fault of an instruction only where the graph has no flaw.
+-- From its start a run has come to this after so many steps, whatever the maps held and whichever
+-- sections were open before each of them.
+pub data ComesTo (start : Run) : ℕ → Run → Type 0 where
+  comes_first : ComesTo start 0 start
+  comes_next : (s new_store : Store) (opened : List Section) (run new : Run) (steps : ℕ)
+      → ComesTo start steps run → RunStep s opened run Moved new_store new → ComesTo start (suc steps) new
+
+-- What a verified program promises: a run of it, started on a context of its length, has a step
+-- wherever it has come to, whatever others do; and as it comes so far by fewer steps than the program
+-- has instructions, it exits in time.
+abbrev pub RunsSafely : Checked → Type 0
+RunsSafely c =
+    (program : Loaded) (context : List ℕ) (name steps : ℕ) (run : Run)
+    → program.code ≡ c.program → IsEnvironment (shape_of c) (environment (fresh_run name program context))
+    → ComesTo (fresh_run name program context) steps run
+    → (steps < length c.program) × ((s : Store) (opened : List Section) → HasStep s opened run)
+
+-- A refusal tells a flaw of the graph only where the graph has it, and a fault of an instruction
+-- only where the graph has no flaw.
 abbrev pub IsToldOf : List Insn → Refusal → Type 0
 IsToldOf program (Graph flaw slot) = HasGraphFlaw program flaw slot
 IsToldOf program (Instruction fault slot) = HasGoodGraph program

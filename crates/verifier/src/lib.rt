@@ -1,7 +1,7 @@
 //! The verifier: it accepts a program only when no run of it can ever be stuck.
 //!
-//! Pass 1 judges the jump graph; pass 2 goes through the instructions in order with an abstract state
-//! for each, joined over all edges that lead to it.
+//! Pass 1 judges the jump graph; pass 2 goes through the instructions in order with an abstract
+//! state for each, joined over all edges that lead to it.
 #![tactic(auto)]
 
 mod graph;
