@@ -13,7 +13,8 @@ use Rattle.bpf_model.specs.declared.opcode.Size.TheVariants.{Word32, Word64}
 use Rattle.bpf_model.specs.Arithmetic.{alu, signed, immediate}
 use Rattle.bpf_model.specs.Access.{place_of}
 use Rattle.bpf_model.specs.Operand.{computed, operand_value}
-use Rattle.scalar_domain.specs.Scalar.{Holds, IsConstant}
+use Rattle.scalar_domain.specs.Scalar.{Holds}
+use Rattle.scalar_domain.specs.Constant.{constant_of}
 use Rattle.scalar_domain.specs.Floor.{KeepsFloor}
 use Rattle.scalar_domain.specs.declared.scalar.Scalar.{Scalar}
 use Rattle.abstract_state.specs.declared.kind.RegKind.{RegKind}
@@ -25,7 +26,7 @@ use Rattle.abstract_state.specs.declared.state.AbsState.{AbsState}
 use Rattle.abstract_state.specs.declared.environment.EnvironmentShape.{EnvironmentShape}
 use Rattle.abstract_state.specs.State.{IsOf, IsOfCell, IsNumber, Describes, kind_at, IsEnvironment, Compares, Transfers, base_of, IsInRegion}
 use Rattle.abstract_state.specs.Facts.{Fact, Register as RegisterFact, FrameByte, FramePointer, FactHolds, Makes, IsReady}
-use Rattle.abstract_state.specs.Floor.{set_by, LoadsKnown, StoresKnown, ComputesKnown, RefinesKnown, IsNumbers, IsOperandKind, LeavesKnown, LeavesKnownBy}
+use Rattle.abstract_state.specs.Floor.{set_by, LoadsKnown, StoresKnown, ComputesKnown, RefinesKnown, operand_kind, IsNumbers, LeavesKnown}
 use Rattle.abstract_state.specs.Steps.{Gives, Computes, Shifts, SetsReg, Yields, Flows, single, Stepped}
 use Rattle.bpf_model.specs.Step.{State, Environment, Moves, put, sets, map_value}
 use Rattle.bpf_model.specs.Near.{IsNear}
@@ -218,27 +219,27 @@ leaves_known Xor size x y k ne h = h
 leaves_known ShiftRightSigned size x y k ne h = h
 leaves_known Move size x y k ne h = absurd (ne refl)
 
-pub leaves_if : (op : AluOp) (size : Size) (dst : ℕ) (src : Operand) (state : AbsState) (x y : RegKind) (result : Result RegKind Fault) → (op ≡ Move → ⊥)
-    → x ≡ kind_at state dst → IsOperandKind src state y → ((a b : Scalar) → x ≡ Num a → y ≡ Num b → IfOk result (IsNumbers (KeepsFloor size op a b)))
-    → IfOk result (LeavesKnownBy op size dst src state)
-leaves_if op size dst src state x y (Ok k) ne p q h = (y, q, leaves_known op size (kind_at state dst) y k ne (λ a b e f. h a b (p ∙ e) f))
-leaves_if op size dst src state x y (Err e) ne p q h = tt
+pub leaves_if : (op : AluOp) (size : Size) (x y x' y' : RegKind) (result : Result RegKind Fault) → (op ≡ Move → ⊥) → x ≡ x' → y ≡ y'
+    → ((a b : Scalar) → x ≡ Num a → y ≡ Num b → IfOk result (IsNumbers (KeepsFloor size op a b))) → IfOk result (LeavesKnown op size x' y')
+leaves_if op size x y x' y' (Ok k) ne p q h = leaves_known op size x' y' k ne (λ a b e f. h a b (p ∙ e) (q ∙ f))
+leaves_if op size x y x' y' (Err e) ne p q h = tt
 
 -- a move
-pub move_leaves : (op : AluOp) (size : Size) (dst : ℕ) (src : Operand) (state : AbsState) (y : RegKind) (result : Result RegKind Fault) → op ≡ Move
-    → IsOperandKind src state y → ((v : RegKind) → IfOk result (LeavesKnown Move size v y)) → IfOk result (LeavesKnownBy op size dst src state)
-move_leaves op size dst src state y result e q h = subst (λ op. IfOk result (LeavesKnownBy op size dst src state)) (sym e)
-    (IfOk-weaker result _ _ (λ k f. (y, q, f)) (h (kind_at state dst)))
+pub move_leaves : (op : AluOp) (size : Size) (x y y' : RegKind) (result : Result RegKind Fault) → op ≡ Move → y ≡ y'
+    → ((v : RegKind) → IfOk result (LeavesKnown Move size v y)) → IfOk result (LeavesKnown op size x y')
+move_leaves op size x y y' result e q h =
+    subst (λ op. IfOk result (LeavesKnown op size x y')) (sym e) (subst (λ y. IfOk result (LeavesKnown Move size x y)) q (h x))
 
 pub num_of : {a b : Scalar} → Num a ≡ Num b → a ≡ b
 num_of e = cc
 
 -- a move of 32 bits
-pub low_leaves : (size : Size) (y : RegKind) (zero low r : Scalar) → size ≡ Word32 → y ≡ Num low → IsConstant zero 0 → KeepsFloor size Move zero low r → (v : RegKind)
+pub low_leaves : (size : Size) (y : RegKind) (zero low r : Scalar) → size ≡ Word32 → y ≡ Num low → zero ≡ constant_of 0 → KeepsFloor size Move zero low r → (v : RegKind)
     → LeavesKnown Move size v y (Num r)
 low_leaves size y zero low r s f z floor v =
-    let floor' : KeepsFloor Word32 Move zero low r = subst (λ size. KeepsFloor size Move zero low r) s floor in
-    let h : LeavesKnown Move Word32 v y (Num r) = λ b e. (zero, z, (r, refl, subst (λ low. KeepsFloor Word32 Move zero low r) (num_of (sym f ∙ e)) floor')) in
+    let at_size : KeepsFloor Word32 Move zero low r = subst (λ size. KeepsFloor size Move zero low r) s floor in
+    let at_zero : KeepsFloor Word32 Move (constant_of 0) low r = subst (λ zero. KeepsFloor Word32 Move zero low r) z at_size in
+    let h : LeavesKnown Move Word32 v y (Num r) = λ b e. (r, refl, subst (λ low. KeepsFloor Word32 Move (constant_of 0) low r) (num_of (sym f ∙ e)) at_zero) in
     subst (λ size. LeavesKnown Move size v y (Num r)) (sym s) h
 
 -- an operation of two numbers
@@ -247,8 +248,6 @@ pub both_leave : (size : Size) (op : AluOp) (x y : RegKind) (p q r : Scalar) →
 both_leave size op x y p q r e f floor a b e' f' =
     (r, refl, subst (λ a. KeepsFloor size op a b r) (num_of (sym e ∙ e')) (subst (λ b. KeepsFloor size op p b r) (num_of (sym f ∙ f')) floor))
 
-pub immediate_kind : (src : Operand) (imm : ℤ) (a : AbsState) (s : Scalar) (n : ℕ) → src ≡ Immediate imm → n ≡ immediate imm → IsConstant s n → s.may ≡ n → s.must ≡ n
-    → IsOperandKind src a (Num s)
-immediate_kind src imm a s n is e exact zeros ones =
-    let h : IsOperandKind (Immediate imm) a (Num s) = (s, refl, record { least = exact.least ∙ e; greatest = exact.greatest ∙ e; zeros = zeros ∙ e; ones = ones ∙ e }) in
-    subst (λ src. IsOperandKind src a (Num s)) (sym is) h
+pub immediate_kind : (src : Operand) (imm : ℤ) (a : AbsState) (s : Scalar) (n : ℕ) → src ≡ Immediate imm → n ≡ immediate imm → s ≡ constant_of n
+    → Num s ≡ operand_kind src a
+immediate_kind src imm a s n is e value = ap Num (value ∙ ap constant_of e) ∙ ap (λ src. operand_kind src a) (sym is)

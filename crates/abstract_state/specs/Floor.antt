@@ -16,6 +16,7 @@ use Rattle.bpf_model.specs.Operand.{unary_source}
 use Rattle.bpf_model.specs.Plain.{Names}
 use Rattle.scalar_domain.specs.declared.scalar.Scalar.{Scalar}
 use Rattle.scalar_domain.specs.Scalar.{IsConstant}
+use Rattle.scalar_domain.specs.Constant.{constant_of}
 use Rattle.scalar_domain.specs.Floor.{KeepsLoadFloor, KeepsFloor, KeepsUnaryFloor, KeepsEdgeFloor}
 use Rattle.abstract_state.specs.declared.kind.RegKind.{RegKind}
 use Rattle.abstract_state.specs.declared.kind.RegKind.TheVariants.{Num, Frame, Map}
@@ -56,31 +57,20 @@ LoadsKnown (LoadNumber dst n) new = IsNumbers (λ s. IsConstant s n) (kind_at ne
 LoadsKnown (LoadMap dst map) new = (index : ℕ) × (map ≡ pos index) × (kind_at new dst ≡ Map index)
 LoadsKnown _ new = Unit {0}
 
--- one number alone, of which each bit is known
-pub record IsAlone (s : Scalar) (n : ℕ) : Type 0 where
-  pub least : s.least ≡ n
-  pub greatest : s.greatest ≡ n
-  pub zeros : s.may ≡ n
-  pub ones : s.must ≡ n
-
 -- the kind of a second operand
-abbrev pub IsOperandKind : Operand → AbsState → RegKind → Type 0
-IsOperandKind (Register r) a k = k ≡ kind_at a r
-IsOperandKind (Immediate imm) a k = IsNumbers (λ s. IsAlone s (immediate imm)) k
+abbrev pub operand_kind : Operand → AbsState → RegKind
+operand_kind (Register r) a = kind_at a r
+operand_kind (Immediate imm) a = Num (constant_of (immediate imm))
 
 -- What an operation leaves: a move of 64 bits copies the kind; any other operation of numbers gives numbers no wider than the scalar domain's
 -- (a move of 32 bits as if the first operand were 0).
 abbrev pub LeavesKnown : AluOp → Size → RegKind → RegKind → RegKind → Type 0
 LeavesKnown Move Word64 x y k = k ≡ y
-LeavesKnown Move Word32 x y k = (b : Scalar) → y ≡ Num b → (zero : Scalar) × IsConstant zero 0 × IsNumbers (KeepsFloor Word32 Move zero b) k
+LeavesKnown Move Word32 x y k = (b : Scalar) → y ≡ Num b → IsNumbers (KeepsFloor Word32 Move (constant_of 0) b) k
 LeavesKnown op size x y k = (a b : Scalar) → x ≡ Num a → y ≡ Num b → IsNumbers (KeepsFloor size op a b) k
 
--- What an operation on a second operand leaves.
-abbrev pub LeavesKnownBy : AluOp → Size → ℕ → Operand → AbsState → RegKind → Type 0
-LeavesKnownBy op size dst src a k = (y : RegKind) × IsOperandKind src a y × LeavesKnown op size (kind_at a dst) y k
-
 abbrev pub ComputesKnown : Insn → AbsState → AbsState → Type 0
-ComputesKnown (Alu op size dst src) old new = LeavesKnownBy op size dst src old (kind_at new dst)
+ComputesKnown (Alu op size dst src) old new = LeavesKnown op size (kind_at old dst) (operand_kind src old) (kind_at new dst)
 ComputesKnown (Unary op dst) old new = (a : Scalar) × (kind_at old (unary_source op dst) ≡ Num a) × IsNumbers (KeepsUnaryFloor op a) (kind_at new dst)
 ComputesKnown _ old new = Unit {0}
 
@@ -92,7 +82,7 @@ pub record IsEdge (size : Size) (c : Condition) (taken : Bool) (dst : ℕ) (src 
   pub left : Scalar
   pub right : Scalar
   pub first_was : kind_at old dst ≡ Num a
-  pub second_was : IsOperandKind src old (Num b)
+  pub second_was : operand_kind src old ≡ Num b
   pub first : kind_at new dst ≡ Num left
   pub second : (r : ℕ) → Names src r → r ≢ dst → kind_at new r ≡ Num right
   pub floor : KeepsEdgeFloor size c taken a b left right

@@ -1,9 +1,9 @@
 //! Instructions that compute, and those that load a number or a map from the program.
 ghost use Rattle.std.specs.Prelude.{◌≡◌, ◌<◌, IfOk, IsOk, pos};
 ghost use Rattle.bpf_model.specs.Operand.{unary_source};
-ghost use Rattle.abstract_state.specs.State.{IsNumber};
+ghost use Rattle.abstract_state.specs.State.{IsNumber, kind_at};
 ghost use Rattle.abstract_state.specs.Facts.{ReadsNumbers};
-ghost use Rattle.abstract_state.specs.Floor.{LeavesKnownBy};
+ghost use Rattle.abstract_state.specs.Floor.{LeavesKnown, operand_kind};
 ghost use Rattle.abstract_state.specs.Steps.{Computes, Stepped, HasMemory};
 
 use crate::compute::{combined, copied};
@@ -41,7 +41,8 @@ impl AbsState {
     /// What an operation of two operands leaves.
     fn computed(&self, op: AluOp, size: Size, dst: Reg, src: &Operand) -> Result<RegKind, Fault>
         ensures sound { IfOk result (λ k. Computes size op dst src.now self.now k) }
-        ensures floor { IfOk result (LeavesKnownBy op size dst src.now self.now) }
+        ensures floor { IfOk result
+            (LeavesKnown op size (kind_at self.now dst) (operand_kind src.now self.now)) }
         ensures accepts { ReadsNumbers (Insn.Alu op size dst src.now) self.now → IsOk result }
         ensures numbers { ReadsNumbers (Insn.Alu op size dst src.now) self.now
             → IfOk result IsNumber }

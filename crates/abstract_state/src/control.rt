@@ -4,7 +4,7 @@ ghost use Rattle.bpf_model.specs.Operand.{operand_value};
 ghost use Rattle.bpf_model.specs.Plain.{Names};
 ghost use Rattle.bpf_model.specs.Step.{State};
 ghost use Rattle.abstract_state.specs.State.{Describes, IsOf, IsNumber, kind_at};
-ghost use Rattle.abstract_state.specs.Floor.{IsOperandKind};
+ghost use Rattle.abstract_state.specs.Floor.{operand_kind};
 ghost use Rattle.abstract_state.specs.Steps.{Stepped, HasMemory};
 
 use crate::compute::numbers;
@@ -30,7 +30,7 @@ impl AbsState {
     /// The two sides of a comparison.
     fn compared(&self, dst: Reg, src: &Operand) -> Result<(Scalar, Scalar), Fault>
         ensures left { IfOk result (λ p. kind_at self.now dst ≡ RegKind.Num p.0) }
-        ensures right { IfOk result (λ p. IsOperandKind src.now self.now (RegKind.Num p.1)) }
+        ensures right { IfOk result (λ p. operand_kind src.now self.now ≡ RegKind.Num p.1) }
         ensures right_sound { IfOk result (λ p. (m : State) → Describes self.now m
             → IsOf (RegKind.Num p.1) (operand_value src.now m.regs)) }
         ensures accepts { IsNumber (kind_at self.now dst)

@@ -4,7 +4,7 @@ ghost use Rattle.bpf_model.specs.Operand.{operand_value};
 ghost use Rattle.bpf_model.specs.Plain.{Names};
 ghost use Rattle.bpf_model.specs.Step.{State};
 ghost use Rattle.abstract_state.specs.State.{Describes, IsOf, IsNumber, kind_at};
-ghost use Rattle.abstract_state.specs.Floor.{IsOperandKind};
+ghost use Rattle.abstract_state.specs.Floor.{operand_kind};
 ghost use Rattle.abstract_state.specs.Steps.{IsHeld, SetsReg, HasMemory};
 
 use crate::compute::numbers;
@@ -52,7 +52,7 @@ impl AbsState {
 
     /// What a second operand may be.
     pub(crate) fn operand(&self, src: &Operand) -> Result<RegKind, Fault>
-        ensures value { IfOk result (IsOperandKind src.now self.now) }
+        ensures value { IfOk result (λ k. k ≡ operand_kind src.now self.now) }
         ensures sound { IfOk result (λ k. (m : State) → Describes self.now m
             → IsOf k (operand_value src.now m.regs)) }
         ensures held { IfOk result IsHeld }

@@ -7,4 +7,4 @@ returns-in_ok-low-in-Word32-clause-sound c =
 
 pub returns-in_ok-low-in-Word32-clause-floor : goal.returns-in_ok-low-in-Word32-clause-floor
 returns-in_ok-low-in-Word32-clause-floor c =
-    low_leaves c.args.size c.args.kind c.constant-zero.result c.in_ok-low-in-Word32.low c.apply.result c.in-Word32.is c.in_ok-low-in-Word32.ensures.value c.constant-zero.ensures.exact c.apply.ensures.floor
+    low_leaves c.args.size c.args.kind c.constant-zero.result c.in_ok-low-in-Word32.low c.apply.result c.in-Word32.is c.in_ok-low-in-Word32.ensures.value c.constant-zero.ensures.value c.apply.ensures.floor

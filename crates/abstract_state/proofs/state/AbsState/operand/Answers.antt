@@ -8,4 +8,4 @@ pub returns-in-Immediate-clause-value : goal.returns-in-Immediate-clause-value
 returns-in-Immediate-clause-value c =
     let f : SFits w32 c.in-Immediate.imm = search rules in
     let e = simp to_z-of_z at c.immediate.ensures in
-    immediate_kind c.args.src.now c.in-Immediate.imm c.args.self.now c.constant.result c.immediate.result c.in-Immediate.is e c.constant.ensures.exact c.constant.ensures.zeros c.constant.ensures.ones
+    immediate_kind c.args.src.now c.in-Immediate.imm c.args.self.now c.constant.result c.immediate.result c.in-Immediate.is e c.constant.ensures.value
