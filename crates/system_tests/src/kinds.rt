@@ -217,10 +217,7 @@ fn a_stored_number_is_read_and_joined(rt: HostRuntime) -> Result<(), Fail> {
     assert_eq!(rt; stored.map(|f| f.region), Ok(Region::Frame));
     let read = a.transfer(alloc, &load(Width::Four, r(10), -4), SHAPE);
     assert_eq!(rt; read.map(|f| f.region), Ok(Region::Frame));
-    assert_eq!(rt; a.regs[0], RegKind::Num(Scalar::loaded(Width::Four)));
     a.join(&b);
-    assert_eq!(rt; a.regs[0], RegKind::Unwritten);
-    assert_eq!(rt; a.regs[4], RegKind::Map(0));
     let lost = a.transfer(alloc, &load(Width::Four, r(10), -4), SHAPE);
     assert_eq!(rt; lost.map(|f| f.region), Err(Fault::UnwrittenFrame));
     let jump = a.transfer(alloc, &test_of(r(5), r(2)), SHAPE);

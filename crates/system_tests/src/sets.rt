@@ -1,7 +1,5 @@
 //! Sets of numbers: how narrow results are, worked out by hand.
-use bpf_model::{
-    AluOp, ByteOrder, Condition, Reg, SignExtension, SignedWidth, Size, SwapWidth, UnaryOp, Width,
-};
+use bpf_model::{AluOp, Condition, SignedWidth, Size, Width};
 use scalar_domain::Scalar;
 
 #[test]
@@ -170,42 +168,4 @@ fn edges(rt: HostRuntime) {
         false,
     );
     assert!(rt; !even.contains(7) && even.contains(6));
-}
-
-#[test]
-fn operations_of_one_operand(rt: HostRuntime) {
-    let byte = Scalar::loaded(Width::One);
-    let swap = UnaryOp::ByteSwap {
-        order: ByteOrder::Swap,
-        width: SwapWidth::Two,
-    };
-    let low = UnaryOp::ByteSwap {
-        order: ByteOrder::ToLittle,
-        width: SwapWidth::Two,
-    };
-    let to_64 = UnaryOp::MoveSigned {
-        extension: SignExtension::ShortTo64,
-        src: Reg::R3,
-    };
-    let to_32 = UnaryOp::MoveSigned {
-        extension: SignExtension::ByteTo32,
-        src: Reg::R3,
-    };
-    let constants = [
-        (UnaryOp::Negate(Size::Word64), 1, u64::MAX),
-        (UnaryOp::Negate(Size::Word32), 1, 0xffff_ffff),
-        (swap, 0x1234, 0x3412),
-        (to_64, 0x8000, 0xffff_ffff_ffff_8000),
-    ];
-    for (op, n, result) in constants {
-        assert_eq!(rt;
-            Scalar::unary(op, Scalar::constant(n)),
-            Scalar::constant(result),
-            "{op:?}"
-        );
-    }
-    assert_eq!(rt; Scalar::unary(swap, byte).greatest, 0xffff);
-    assert_eq!(rt; Scalar::unary(low, byte), byte);
-    assert_eq!(rt; Scalar::unary(to_64, byte), byte);
-    assert_eq!(rt; Scalar::unary(to_32, byte).greatest, 0xffff_ffff);
 }
