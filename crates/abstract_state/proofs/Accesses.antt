@@ -14,7 +14,7 @@ use Rattle.bpf_model.specs.declared.insn.Operand.{Operand}
 use Rattle.bpf_model.specs.declared.opcode.Width.{Width}
 use Rattle.bpf_model.specs.declared.opcode.Width.TheVariants as widths
 use Rattle.bpf_model.specs.declared.limits.TheConstants.{FRAME_BYTES}
-use Rattle.bpf_model.specs.Access.{place_of, number_at, byte_count}
+use Rattle.bpf_model.specs.Access.{region_offset, number_at, byte_count}
 use Rattle.bpf_model.specs.Frame.{byte_of, found, read, is_within, with_number}
 use Rattle.bpf_model.specs.Value.{◌>>=◌}
 use Rattle.bpf_model.specs.Operand.{operand_value}
@@ -30,7 +30,7 @@ use Rattle.abstract_state.specs.State.{IsOf, IsOfCell, IsNumber, Describes, kind
 use Rattle.abstract_state.specs.Facts.{Fact, Register, FrameByte, FramePointer, FactHolds, Makes, IsReady}
 use Rattle.abstract_state.specs.Floor.{StoresKnown}
 use Rattle.abstract_state.specs.Steps.{Loads, SetsBytes, single, Stepped}
-use Rattle.abstract_state.specs.Laws.{number_read}
+use Rattle.abstract_state.proofs.Laws.{number_read}
 use Rattle.abstract_state.proofs.Sound.{flows_transfers}
 
 -- a base that is known
@@ -38,13 +38,13 @@ based : (k : RegKind) (a : AbsState) (m : State) (r : ℕ) → k ≡ kind_at a r
 based k a m r e d = subst (λ k. IsOf k (m.regs r)) (sym e) (d.regs r)
 
 pub ctx_loads : (shape : EnvironmentShape) (width at src : ℕ) (o offset : ℤ) (k : RegKind) (a : AbsState) (env : Environment) (m : State) → k ≡ kind_at a src → k ≡ Ctx o
-    → place_of shape.ctx_len width (o +ℤ offset) ≡ Some at → at + width ≤ shape.ctx_len → IsEnvironment shape env → Describes a m → Loads width offset env m (m.regs src)
+    → region_offset shape.ctx_len width (o +ℤ offset) ≡ Some at → at + width ≤ shape.ctx_len → IsEnvironment shape env → Describes a m → Loads width offset env m (m.regs src)
 ctx_loads shape width at src o offset k a env m e f p inside i d =
     let r = number_read (slice_get env.context) at width (λ j h l. (slice_index_or env.context j 0, slice_get-get_or env.context j 0 (omega (arith, i.long)), i.bytes j)) in
     let w : m.regs src ≡ Pointer (references.Ctx o) = subst (λ k. IsOf k (m.regs src)) f (based k a m src e d) in (
       r.0,
       ap (load_from env m width offset) w
-          ∙ ap (λ len. place_of len width (o +ℤ offset) >>= λ at. number_at (slice_get env.context) at width >>= λ n. Some (Number n)) i.long
+          ∙ ap (λ len. region_offset len width (o +ℤ offset) >>= λ at. number_at (slice_get env.context) at width >>= λ n. Some (Number n)) i.long
           ∙ ap (λ p. p >>= λ at. number_at (slice_get env.context) at width >>= λ n. Some (Number n)) p
           ∙ ap (λ n. n >>= λ n. Some (Number n)) r.1,
       r.2,
@@ -60,7 +60,7 @@ some_bytes widths.Four = omega arith
 some_bytes widths.Eight = omega arith
 
 pub frame_loads : (width : Width) (at src : ℕ) (o offset : ℤ) (k : RegKind) (a : AbsState) (env : Environment) (m : State) → k ≡ kind_at a src → k ≡ Frame o
-    → place_of FRAME_BYTES (byte_count width) (o +ℤ offset) ≡ Some at → ((j : ℕ) → at ≤ j → j < at + byte_count width → cell_at a j ≡ cells.Byte) → Describes a m
+    → region_offset FRAME_BYTES (byte_count width) (o +ℤ offset) ≡ Some at → ((j : ℕ) → at ≤ j → j < at + byte_count width → cell_at a j ≡ cells.Byte) → Describes a m
     → Loads (byte_count width) offset env m (m.regs src)
 frame_loads width at src o offset k a env m e f p bytes d =
     let some = some_bytes width in
@@ -90,7 +90,7 @@ number_is (Frame o) v n i = absurd n
 number_is (Map m) v n i = absurd n
 
 pub stores : (width at dst : ℕ) (o offset : ℤ) (src : Operand) (base value : RegKind) (a b : AbsState) (m : State)
-    → base ≡ kind_at a dst → base ≡ Frame o → IsNumber value → IsOf value (operand_value src m.regs) → place_of FRAME_BYTES width (o +ℤ offset) ≡ Some at → SetsBytes at width a b → Describes a m
+    → base ≡ kind_at a dst → base ≡ Frame o → IsNumber value → IsOf value (operand_value src m.regs) → region_offset FRAME_BYTES width (o +ℤ offset) ≡ Some at → SetsBytes at width a b → Describes a m
     → (next : State) × (store_to m width offset (operand_value src m.regs) (m.regs dst) ≡ Some (Moves next)) × (next.place ≡ m.place + 1) × Describes b next
 stores width at dst o offset src base value a b m e f n i p sets d =
     let x = number_is value (operand_value src m.regs) n i in
@@ -118,15 +118,15 @@ within at width q l u = ap (λ t. t && nat_lt q (at + width)) (le-leb at q l) �
 
 -- an access through r10 is where the base's offset places it
 same_place : (width at dst : ℕ) (o offset : ℤ) (base : RegKind) (a : AbsState) (q at' : ℕ) → base ≡ kind_at a dst → base ≡ Frame o → dst ≡ 10 → kind_at a 10 ≡ Frame (pos FRAME_BYTES)
-    → place_of FRAME_BYTES width (o +ℤ offset) ≡ Some at → place_of FRAME_BYTES width (pos FRAME_BYTES +ℤ offset) ≡ Some at' → at' ≡ at
+    → region_offset FRAME_BYTES width (o +ℤ offset) ≡ Some at → region_offset FRAME_BYTES width (pos FRAME_BYTES +ℤ offset) ≡ Some at' → at' ≡ at
 same_place width at dst o offset base a q at' e f g h p p' =
     let t : Frame o ≡ Frame (pos FRAME_BYTES) = sym f ∙ e ∙ ap (kind_at a) g ∙ h in
     let z : o ≡ pos FRAME_BYTES = cc in
-    let r : Some at' ≡ Some at = sym p' ∙ ap (λ o. place_of FRAME_BYTES width (o +ℤ offset)) (sym z) ∙ p in
+    let r : Some at' ≡ Some at = sym p' ∙ ap (λ o. region_offset FRAME_BYTES width (o +ℤ offset)) (sym z) ∙ p in
     cc
 
 store_keeps : (width : Width) (at dst : ℕ) (o offset : ℤ) (src : Operand) (base : RegKind) (a b : AbsState) → base ≡ kind_at a dst → base ≡ Frame o
-    → place_of FRAME_BYTES (byte_count width) (o +ℤ offset) ≡ Some at → SetsBytes at (byte_count width) a b → IsReady (Store width dst offset src) a
+    → region_offset FRAME_BYTES (byte_count width) (o +ℤ offset) ≡ Some at → SetsBytes at (byte_count width) a b → IsReady (Store width dst offset src) a
     → (fact : Fact) → FactHolds fact a ⊎ Makes (Store width dst offset src) fact → FactHolds fact b
 store_keeps width at dst o offset src base a b e f p sets ready (Register r) h =
     subst (λ (k : List RegKind). IsNumber (slice_index_or k r Unwritten)) (sym sets.regs) (elim h [ inl x ↦ x | inr w ↦ absurd w ])
@@ -140,19 +140,19 @@ store_keeps width at dst o offset src base a b e f p sets ready FramePointer h =
     ap (λ (r : List RegKind). slice_index_or r 10 Unwritten) sets.regs ∙ ready.frame
 
 store_known : (width : Width) (at dst : ℕ) (o offset : ℤ) (src : Operand) (base : RegKind) (a b : AbsState) → base ≡ kind_at a dst → base ≡ Frame o
-    → place_of FRAME_BYTES (byte_count width) (o +ℤ offset) ≡ Some at → SetsBytes at (byte_count width) a b → StoresKnown (Store width dst offset src) a b
+    → region_offset FRAME_BYTES (byte_count width) (o +ℤ offset) ≡ Some at → SetsBytes at (byte_count width) a b → StoresKnown (Store width dst offset src) a b
 store_known width at dst o offset src base a b e f p sets o' e' =
     let t : Frame o ≡ Frame o' = sym f ∙ e ∙ e' in
     let z : o ≡ o' = cc in (
       at,
-      subst (λ o. place_of FRAME_BYTES (byte_count width) (o +ℤ offset) ≡ Some at) z p,
+      subst (λ o. region_offset FRAME_BYTES (byte_count width) (o +ℤ offset) ≡ Some at) z p,
       λ q l u. sets.cells q ∙ ap (λ t. cond t cells.Byte (cell_at a q)) (within at (byte_count width) q l u),
     )
 
 -- a store of either operand
 pub store_steps : (src : Operand) (width : Width) (at dst : ℕ) (o offset : ℤ) (base value : RegKind) (a b : AbsState) (shape : EnvironmentShape)
     → base ≡ kind_at a dst → base ≡ Frame o → IsNumber value → ((m : State) → Describes a m → IsOf value (operand_value src m.regs))
-    → place_of FRAME_BYTES (byte_count width) (o +ℤ offset) ≡ Some at → SetsBytes at (byte_count width) a b
+    → region_offset FRAME_BYTES (byte_count width) (o +ℤ offset) ≡ Some at → SetsBytes at (byte_count width) a b
     → Stepped (Store width dst offset src) shape a b (Ok (single regions.Frame))
 store_steps src width at dst o offset base value a b shape e f n sound p sets = record {
   accepts = λ _. tt;

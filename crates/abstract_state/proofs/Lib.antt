@@ -2,4 +2,5 @@ pub mod Accesses
 pub mod Dispatch
 pub mod Join
 pub mod Jumps
+pub mod Laws
 pub mod Sound

@@ -11,7 +11,7 @@ use Rattle.bpf_model.specs.declared.insn.Insn.{Insn}
 use Rattle.bpf_model.specs.declared.opcode.Size.{Size}
 use Rattle.bpf_model.specs.declared.opcode.Size.TheVariants.{Word32, Word64}
 use Rattle.bpf_model.specs.Arithmetic.{alu, signed, immediate}
-use Rattle.bpf_model.specs.Access.{place_of}
+use Rattle.bpf_model.specs.Access.{region_offset}
 use Rattle.bpf_model.specs.Operand.{computed, operand_value}
 use Rattle.scalar_domain.specs.Scalar.{Holds}
 use Rattle.scalar_domain.specs.Constant.{constant_of}
@@ -39,14 +39,15 @@ use Rattle.bpf_model.specs.declared.insn.Operand.{Operand}
 use Rattle.bpf_model.specs.declared.insn.Operand.TheVariants.{Register, Immediate}
 use Rattle.bpf_model.specs.declared.value.Reference.TheVariants as references
 use Rattle.abstract_state.specs.declared.fault.Fault.{Fault}
-use Rattle.abstract_state.specs.Laws.{alu_lt, computed_numbers}
+use Rattle.scalar_domain.proofs.Words.{alu_lt}
+use Rattle.abstract_state.proofs.Laws.{computed_numbers}
 
 ap2 : {A B C : Type 0} (f : A → B → C) {a a' : A} {b b' : B} → a ≡ a' → b ≡ b' → f a b ≡ f a' b'
 ap2 f {a' = a'} {b = b} p q = ap (λ a. f a b) p ∙ ap (f a') q
 
-pub no_place_before : (len width : ℕ) (z : ℤ) → z <ℤ pos 0 → place_of len width z ≡ None
-no_place_before len width (pos o) h = absurd (omega (arith, ints))
-no_place_before len width (negsuc o) h = refl
+pub no_offset_before : (len width : ℕ) (z : ℤ) → z <ℤ pos 0 → region_offset len width z ≡ None
+no_offset_before len width (pos o) h = absurd (omega (arith, ints))
+no_offset_before len width (negsuc o) h = refl
 
 -- an operation of two numbers
 pub numbers_sound : (size : Size) (op : AluOp) (x y : RegKind) (a b r : Scalar) → x ≡ Num a → y ≡ Num b

@@ -10,7 +10,7 @@ use Rattle.bpf_model.specs.declared.opcode.Condition.{Condition}
 use Rattle.bpf_model.specs.declared.opcode.Size.{Size}
 use Rattle.bpf_model.specs.declared.opcode.Size.TheVariants.{Word32, Word64}
 use Rattle.bpf_model.specs.declared.limits.TheConstants.{FRAME_BYTES}
-use Rattle.bpf_model.specs.Access.{byte_count, place_of}
+use Rattle.bpf_model.specs.Access.{byte_count, region_offset}
 use Rattle.bpf_model.specs.Arithmetic.{immediate}
 use Rattle.bpf_model.specs.Operand.{unary_source}
 use Rattle.bpf_model.specs.Plain.{Names}
@@ -42,7 +42,7 @@ pub record KeepsOthers (i : Insn) (old new : AbsState) : Type 0 where
 -- The bytes of a store through a pointer to the frame are written.
 abbrev pub StoresKnown : Insn → AbsState → AbsState → Type 0
 StoresKnown (Store width dst offset src) old new = (o : ℤ) → kind_at old dst ≡ Frame o
-    → (n : ℕ) × (place_of FRAME_BYTES (byte_count width) (o +ℤ offset) ≡ Some n) × AreBytes new.frame n (byte_count width)
+    → (n : ℕ) × (region_offset FRAME_BYTES (byte_count width) (o +ℤ offset) ≡ Some n) × AreBytes new.frame n (byte_count width)
 StoresKnown _ old new = Unit {0}
 
 -- The kind is that of numbers of which this is known.

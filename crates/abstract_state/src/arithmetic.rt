@@ -1,6 +1,5 @@
 //! Instructions that compute, and those that load a number or a map from the program.
 ghost use Rattle.std.specs.Prelude.{◌≡◌, ◌<◌, IfOk, IsOk, pos};
-ghost use Rattle.bpf_model.specs.Operand.{unary_source};
 ghost use Rattle.abstract_state.specs.State.{IsNumber, kind_at};
 ghost use Rattle.abstract_state.specs.Facts.{ReadsNumbers};
 ghost use Rattle.abstract_state.specs.Floor.{LeavesKnown, operand_kind};
@@ -25,16 +24,6 @@ fn map_index(map: i32, maps: usize) -> Result<usize, Fault>
         return Err(Fault::NoSuchMap);
     }
     Ok(map as usize)
-}
-
-/// The register that an operation of one operand reads.
-fn source_of(op: &UnaryOp, dst: Reg) -> Reg
-    ensures { result ≡ unary_source op.now dst }
-{
-    match op {
-        UnaryOp::MoveSigned { src, .. } => *src,
-        UnaryOp::Negate(_) | UnaryOp::ByteSwap { .. } => dst,
-    }
 }
 
 impl AbsState {
@@ -81,7 +70,7 @@ impl AbsState {
             → Stepped (Insn.Unary op.now dst) shape self.old self.new result }
     {
         check_writable(dst)?;
-        let n = self.number(source_of(op, dst))?;
+        let n = self.number(op.source(dst))?;
         self.set(dst, RegKind::Num(Scalar::unary(*op, n)));
         Ok(single_flow(Region::None))
     }

@@ -1,7 +1,7 @@
 //! Loads and stores.
 ghost use Rattle.std.specs.Prelude.{◌≡◌, ℕ, ◌+◌, ◌≤◌, IfOk, IsOk, Some, ℤ, pos, ◌+ℤ◌};
 ghost use Rattle.bpf_model.specs.declared.limits.TheConstants.{FRAME_BYTES};
-ghost use Rattle.bpf_model.specs.Access.{byte_count, place_of};
+ghost use Rattle.bpf_model.specs.Access.{byte_count, region_offset};
 ghost use Rattle.bpf_model.specs.Step.{State, Environment};
 ghost use Rattle.abstract_state.specs.State.{Describes, IsEnvironment, IsInRegion, IsNumber, kind_at, AreBytes};
 ghost use Rattle.abstract_state.specs.Steps.{Loads, SetsBytes, Stepped, IsHeld, HasMemory};
@@ -52,7 +52,7 @@ impl AbsState {
         ensures region { IfOk result (λ region. (m : State) → Describes self.now m
             → IsInRegion region (m.regs from.base)) }
         ensures accepts { (n : ℕ) → kind_at self.now from.base ≡ RegKind.Frame (pos FRAME_BYTES)
-            → place_of FRAME_BYTES (byte_count width) (pos FRAME_BYTES +ℤ from.offset) ≡ Some n
+            → region_offset FRAME_BYTES (byte_count width) (pos FRAME_BYTES +ℤ from.offset) ≡ Some n
             → AreBytes self.now.frame n (byte_count width) → IsOk result }
         ensures memory { HasMemory result }
     {

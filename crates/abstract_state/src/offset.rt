@@ -1,7 +1,7 @@
 //! Offsets of references.
 ghost use Rattle.std.specs.Prelude.{◌≡◌, ℕ, ◌+◌, ◌≤◌, IfOk, IfErr, MatchOption, Some, None, ◌+ℤ◌, ◌-ℤ◌, pos, ◌<ℤ◌};
 ghost use Rattle.std.specs.Int.{w64};
-ghost use Rattle.bpf_model.specs.Access.{byte_count, place_of};
+ghost use Rattle.bpf_model.specs.Access.{byte_count, region_offset};
 ghost use Rattle.bpf_model.specs.Arithmetic.{signed};
 ghost use Rattle.bpf_model.specs.Near.{IsNearOffset};
 ghost use Rattle.scalar_domain.specs.Scalar.{Holds};
@@ -84,9 +84,9 @@ fn first_byte(base: i32, offset: i16) -> Option<usize>
 
 /// Where an access begins, again, if all of it lies inside a region of this length, and aligned.
 fn inside(len: usize, width: Width, first: usize) -> Result<usize, Fault>
-    ensures place { IfOk result (λ n. place_of len (byte_count width) (pos first) ≡ Some n) }
+    ensures offset { IfOk result (λ n. region_offset len (byte_count width) (pos first) ≡ Some n) }
     ensures inside { IfOk result (λ n. n + byte_count width ≤ len) }
-    ensures refuses { IfErr result (λ _. place_of len (byte_count width) (pos first) ≡ None) }
+    ensures refuses { IfErr result (λ _. region_offset len (byte_count width) (pos first) ≡ None) }
     ensures memory { HasMemory result }
 {
     let bytes = width.bytes();
@@ -101,11 +101,11 @@ fn inside(len: usize, width: Width, first: usize) -> Result<usize, Fault>
 
 /// Where an access through a base at this offset begins in a region of this length, if all of it lies
 /// inside, and aligned.
-#[tactic(auto, using(crate::proofs::Sound::no_place_before))]
+#[tactic(auto, using(crate::proofs::Sound::no_offset_before))]
 pub(crate) fn offset_in(len: usize, width: Width, base: i32, offset: i16) -> Result<usize, Fault>
-    ensures place { IfOk result (λ n. place_of len (byte_count width) (base +ℤ offset) ≡ Some n) }
+    ensures offset { IfOk result (λ n. region_offset len (byte_count width) (base +ℤ offset) ≡ Some n) }
     ensures inside { IfOk result (λ n. n + byte_count width ≤ len) }
-    ensures refuses { IfErr result (λ _. place_of len (byte_count width) (base +ℤ offset) ≡ None) }
+    ensures refuses { IfErr result (λ _. region_offset len (byte_count width) (base +ℤ offset) ≡ None) }
     ensures memory { HasMemory result }
 {
     match first_byte(base, offset) {

@@ -10,13 +10,13 @@ use crate::fault::Fault;
 use crate::frame::FrameCells;
 use crate::kind::{RegKind, Region, join_kinds};
 use crate::memory::Address;
-use bpf_model::{FRAME_BYTES, Insn};
+use bpf_model::{FRAME_BYTES, Insn, REGISTERS};
 use std::alloc::{AllocError, Global};
 
 /// What is known before an instruction.
 #[derive(Drop)]
 pub struct AbsState {
-    pub regs: [RegKind; 11],
+    pub regs: [RegKind; REGISTERS],
     pub frame: FrameCells,
 }
 

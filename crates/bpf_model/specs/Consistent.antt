@@ -31,17 +31,24 @@ IsBornCell births (Part i r) = IsBorn births r
 
 pub record IsConsistent (m : Machine) : Type 0 where
   -- a key has at most one linked element
-  pub single : (map : ℕ) (key : List ℕ) (a b : ℕ) → IsLinkedAt m.store.elements map key a → IsLinkedAt m.store.elements map key b → a ≡ b
+  pub single : (map : ℕ) (key : List ℕ) (a b : ℕ) → IsLinkedAt m.store.elements map key a
+      → IsLinkedAt m.store.elements map key b → a ≡ b
   -- an element is of a map, with a key and a value of that map's lengths
-  pub lengths : (n : ℕ) (e : Element) → slice_get m.store.elements n ≡ Some e → (state : MapState) × (slice_get m.store.maps e.map ≡ Some state) × (length e.key ≡ state.shape.key_len) × (length e.value ≡ state.shape.value_len)
+  pub lengths : (n : ℕ) (e : Element) → slice_get m.store.elements n ≡ Some e → (state : MapState)
+      × (slice_get m.store.maps e.map ≡ Some state) × (length e.key ≡ state.shape.key_len)
+      × (length e.value ≡ state.shape.value_len)
   -- no two runs have one name
   pub named : (r : ℕ) (run : Run) → run_at m.runs r ≡ Some run → run.name < m.started
   pub apart : (q r : ℕ) (a b : Run) → run_at m.runs q ≡ Some a → run_at m.runs r ≡ Some b → a.name ≡ b.name → q ≡ r
   -- each section that an unlinked element keeps began before, so that no later lock opens it again
-  pub past : (n : ℕ) (e : Element) (since : List Section) (s : Section) → slice_get m.store.elements n ≡ Some e → e.life ≡ Unlinked since → Has since s → s.run < m.started
-  pub begun : (n : ℕ) (e : Element) (since : List Section) (s : Section) (r : ℕ) (run : Run) → slice_get m.store.elements n ≡ Some e → e.life ≡ Unlinked since → Has since s → run_at m.runs r ≡ Some run → run.name ≡ s.run → s.lock ≤ run.locks
+  pub past : (n : ℕ) (e : Element) (since : List Section) (s : Section) → slice_get m.store.elements n ≡ Some e
+      → e.life ≡ Unlinked since → Has since s → s.run < m.started
+  pub begun : (n : ℕ) (e : Element) (since : List Section) (s : Section) (r : ℕ) (run : Run)
+      → slice_get m.store.elements n ≡ Some e → e.life ≡ Unlinked since → Has since s
+      → run_at m.runs r ≡ Some run → run.name ≡ s.run → s.lock ≤ run.locks
   pub deep : (r : ℕ) (run : Run) → run_at m.runs r ≡ Some run → run.depth ≤ MAX_DEPTH
   -- a run that has ended is outside every section
   pub ended : (r : ℕ) (run : Run) → run_at m.runs r ≡ Some run → run.exit ≢ None → run.depth ≡ 0
-  pub registers : (r : ℕ) (run : Run) (i : ℕ) → run_at m.runs r ≡ Some run → IsBornValue (length m.store.elements) (run.state.regs i)
+  pub registers : (r : ℕ) (run : Run) (i : ℕ) → run_at m.runs r ≡ Some run
+      → IsBornValue (length m.store.elements) (run.state.regs i)
   pub cells : (r : ℕ) (run : Run) (k : ℕ) → run_at m.runs r ≡ Some run → IsBornCell (length m.store.elements) (run.state.frame k)

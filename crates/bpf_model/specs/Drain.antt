@@ -38,4 +38,5 @@ module _ {World : Type 0} where
   abbrev pub AreScheduledAnswers : (World → Schedule → Type 0) → World → List Event → List Answer → World → Type 0
   AreScheduledAnswers Tracks old events answers new =
       (s : Schedule) → Tracks old s →
-      (states : List Schedule) × IsScheduledHistory s events answers states × Drains (machines (s ∷ states)) events answers × Tracks new (last_scheduled s states)
+      (states : List Schedule) × IsScheduledHistory s events answers states
+      × Drains (machines (s ∷ states)) events answers × Tracks new (last_scheduled s states)

@@ -106,7 +106,8 @@ abbrev pub Performs : Machine → Event → Answer → Machine → Type 0
 Performs m (events.Start prog ctx) (Started r) new = Starts m prog ctx.items r new
 Performs m (events.Step run) answer new = StepsRun m run answer new
 Performs m (events.Update map key value flags) (Ret ret) new =
-    (store : Store) × Updates m.store (open_sections m.runs) map key.items value.items flags ret store × (new ≡ with_store m store)
+    (store : Store) × Updates m.store (open_sections m.runs) map key.items value.items flags ret store
+    × (new ≡ with_store m store)
 Performs m (events.Delete map key) (Ret ret) new =
     (store : Store) × Deletes m.store (open_sections m.runs) map key.items ret store × (new ≡ with_store m store)
 Performs m (events.Read map key) (Found (Some value)) new = Reads m map key.items value.items × (new ≡ m)

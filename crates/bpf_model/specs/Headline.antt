@@ -43,23 +43,26 @@ ExitsInTime m events answers states =
 
 -- The element is unlinked in a state between two others.
 pub record IsUnlinkedBetween (states : List Machine) (i j n : ℕ) : Type 0 where
-  pub place : ℕ
+  pub index : ℕ
   pub state : Machine
   pub since : List Section
-  pub after : i < place
-  pub before : place < j
-  pub there : slice_get states place ≡ Some state
+  pub after : i < index
+  pub before : index < j
+  pub there : slice_get states index ≡ Some state
   pub life : HasLife state.store.elements n (Unlinked since)
 
 -- An element is unlinked before it is reclaimed; it keeps the sections that are open at that moment, and it is reclaimed only when each of
 -- them has ended.
 pub record ReclaimedLate (states : List Machine) : Type 0 where
   -- where it is linked in one state and unlinked in the next, it keeps the sections that are open in the first
-  pub keeps : (i n : ℕ) (before after : Machine) (since : List Section) → slice_get states i ≡ Some before → slice_get states (suc i) ≡ Some after →
+  pub keeps : (i n : ℕ) (before after : Machine) (since : List Section) → slice_get states i ≡ Some before
+      → slice_get states (suc i) ≡ Some after →
       HasLife before.store.elements n Linked → HasLife after.store.elements n (Unlinked since) → since ≡ open_sections before.runs
   -- where it is unlinked in one state and reclaimed in a later one, each section that it keeps has ended there
-  pub ended : (i j n : ℕ) (m later : Machine) (since : List Section) → slice_get states i ≡ Some m → slice_get states j ≡ Some later → i < j →
-      HasLife m.store.elements n (Unlinked since) → HasLife later.store.elements n Reclaimed → AllEnded since (open_sections later.runs)
+  pub ended : (i j n : ℕ) (m later : Machine) (since : List Section) → slice_get states i ≡ Some m
+      → slice_get states j ≡ Some later → i < j →
+      HasLife m.store.elements n (Unlinked since) → HasLife later.store.elements n Reclaimed
+      → AllEnded since (open_sections later.runs)
   -- where it is linked in one state and reclaimed in a later one, it is unlinked in a state between them
   pub between : (i j n : ℕ) (m later : Machine) → slice_get states i ≡ Some m → slice_get states j ≡ Some later → i < j →
       HasLife m.store.elements n Linked → HasLife later.store.elements n Reclaimed → IsUnlinkedBetween states i j n
@@ -78,11 +81,13 @@ module _ {World : Type 0} where
   -- In every run of the machine with these answers, each run that hasn't ended has a step, in each state.
   abbrev pub AreNeverStuck : (World → Machine → Type 0) → World → List Event → List Answer → Type 0
   AreNeverStuck Tracks old events answers =
-      (m : Machine) → Tracks old m → (states : List Machine) → IsHistory m events answers states → AllStates NeverStuck (m ∷ states)
+      (m : Machine) → Tracks old m → (states : List Machine) → IsHistory m events answers states
+      → AllStates NeverStuck (m ∷ states)
 
   abbrev pub AllExitInTime : (World → Machine → Type 0) → World → List Event → List Answer → Type 0
   AllExitInTime Tracks old events answers =
-      (m : Machine) → Tracks old m → (states : List Machine) → IsHistory m events answers states → ExitsInTime m events answers states
+      (m : Machine) → Tracks old m → (states : List Machine) → IsHistory m events answers states
+      → ExitsInTime m events answers states
 
   abbrev pub AreReclaimedLate : (World → Machine → Type 0) → World → List Event → List Answer → Type 0
   AreReclaimedLate Tracks old events answers =

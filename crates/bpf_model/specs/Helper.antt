@@ -31,7 +31,10 @@ pub record Replaces (s : Store) (opened : List Section) (map : ℕ) (m : MapStat
   pub count : ℕ
   pub bag : List ℕ
   pub taken : TakesOut m.bag count bag
-  pub new_is : new ≡ record { elements = unlinked opened s.elements found ++ newborn map key value count ∷ []; maps = slice_set s.maps map (with_bag bag m) }
+  pub new_is : new ≡ record {
+    elements = unlinked opened s.elements found ++ newborn map key value count ∷ [];
+    maps = slice_set s.maps map (with_bag bag m);
+  }
 
 -- what is done when this test was the first to fail, or none failed
 abbrev pub Settles : Option Errno → Result (Unit {0}) Errno → Store → Store → Type 0 → Type 0

@@ -19,7 +19,6 @@ pub mod Operand
 pub mod Places
 pub mod Plain
 pub mod PlainMaps
-pub mod Profile
 pub mod Reclaim
 pub mod Refines
 pub mod Replay

@@ -8,7 +8,7 @@ use Rattle.bpf_model.specs.declared.insn.AluOp.TheVariants.{Move}
 use Rattle.bpf_model.specs.declared.insn.Operand.{Operand}
 use Rattle.bpf_model.specs.declared.insn.Operand.TheVariants.{Register, Immediate}
 use Rattle.bpf_model.specs.declared.opcode.Width.{Width}
-use Rattle.bpf_model.specs.Access.{byte_count, unsigned_width, place_of}
+use Rattle.bpf_model.specs.Access.{byte_count, unsigned_width, region_offset}
 use Rattle.bpf_model.specs.Operand.{unary_source}
 use Rattle.bpf_model.specs.Graph.{distance, JumpsTo, GoesTo, Reached}
 use Rattle.bpf_model.specs.Step.{insn_at}
@@ -39,7 +39,7 @@ Writes _ r = ⊥
 
 -- An access with base r10 takes byte k of the frame: an aligned access, all of its bytes inside.
 abbrev pub Takes : Width → ℤ → ℕ → Type 0
-Takes width offset k = (at : ℕ) × (place_of FRAME_BYTES (byte_count width) (pos FRAME_BYTES +ℤ offset) ≡ Some at) × (at ≤ k) × (k < at + byte_count width)
+Takes width offset k = (at : ℕ) × (region_offset FRAME_BYTES (byte_count width) (pos FRAME_BYTES +ℤ offset) ≡ Some at) × (at ≤ k) × (k < at + byte_count width)
 
 abbrev pub ReadsByte : Insn → ℕ → Type 0
 ReadsByte (Load width dst src offset) k = Takes width offset k
@@ -52,7 +52,8 @@ WritesByte _ k = ⊥
 
 -- an aligned access to the frame with base r10, all bytes inside
 abbrev pub IsFrameAccess : Width → ℕ → ℤ → Type 0
-IsFrameAccess width base offset = (base ≡ 10) × (at : ℕ) × (place_of FRAME_BYTES (byte_count width) (pos FRAME_BYTES +ℤ offset) ≡ Some at)
+IsFrameAccess width base offset = (base ≡ 10) × (at : ℕ)
+    × (region_offset FRAME_BYTES (byte_count width) (pos FRAME_BYTES +ℤ offset) ≡ Some at)
 
 -- The instruction has no call and no map, and its only memory accesses are those to the frame.
 abbrev pub IsSimple : Insn → Type 0
@@ -66,20 +67,24 @@ IsSimple _ = Unit {0}
 -- A path leads to the slot on which the register isn't written.
 pub data WithoutRegister (program : List Insn) (r : ℕ) : ℕ → Type 0 where
   unwritten_entry : WithoutRegister program r 0
-  unwritten_next : (place target : ℕ) (i : Insn) → WithoutRegister program r place → insn_at program place ≡ Some i → (Writes i r → ⊥) → GoesTo i place target → WithoutRegister program r target
+  unwritten_next : (place target : ℕ) (i : Insn) → WithoutRegister program r place
+      → insn_at program place ≡ Some i → (Writes i r → ⊥) → GoesTo i place target → WithoutRegister program r target
 
 -- A path leads to the slot on which the byte of the frame isn't written.
 pub data WithoutByte (program : List Insn) (k : ℕ) : ℕ → Type 0 where
   bare_entry : WithoutByte program k 0
-  bare_next : (place target : ℕ) (i : Insn) → WithoutByte program k place → insn_at program place ≡ Some i → (WritesByte i k → ⊥) → GoesTo i place target → WithoutByte program k target
+  bare_next : (place target : ℕ) (i : Insn) → WithoutByte program k place → insn_at program place ≡ Some i
+      → (WritesByte i k → ⊥) → GoesTo i place target → WithoutByte program k target
 
 pub record IsPlain (program : List Insn) : Type 0 where
   -- every jump goes forward to the start of an instruction
-  pub jumps : (place : ℕ) (i : Insn) (d : ℤ) → insn_at program place ≡ Some i → distance i ≡ Some d → (target : ℕ) × (next : Insn) × JumpsTo i place target × (place < target) × (insn_at program target ≡ Some next)
+  pub jumps : (place : ℕ) (i : Insn) (d : ℤ) → insn_at program place ≡ Some i → distance i ≡ Some d
+      → (target : ℕ) × (next : Insn) × JumpsTo i place target × (place < target) × (insn_at program target ≡ Some next)
   pub reached : (place : ℕ) (i : Insn) → insn_at program place ≡ Some i → Reached program place
   pub last : (front : List Insn) × (program ≡ front ++ Exit ∷ [])
   pub simple : (place : ℕ) (i : Insn) → insn_at program place ≡ Some i → IsSimple i
   -- r10 isn't written, and only the accesses to the frame read it
   pub frame_pointer : (place : ℕ) (i : Insn) → insn_at program place ≡ Some i → (Writes i 10 → ⊥) × (Reads i 10 → ⊥)
-  pub registers : (place : ℕ) (i : Insn) (r : ℕ) → insn_at program place ≡ Some i → Reads i r → WithoutRegister program r place → ⊥
+  pub registers : (place : ℕ) (i : Insn) (r : ℕ) → insn_at program place ≡ Some i → Reads i r
+      → WithoutRegister program r place → ⊥
   pub bytes : (place : ℕ) (i : Insn) (k : ℕ) → insn_at program place ≡ Some i → ReadsByte i k → WithoutByte program k place → ⊥

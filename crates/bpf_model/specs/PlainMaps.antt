@@ -9,7 +9,7 @@ use Rattle.bpf_model.specs.declared.insn.CallKind.TheVariants.{Helper, Kernel}
 use Rattle.bpf_model.specs.declared.insn.Operand.TheVariants.{Register, Immediate}
 use Rattle.bpf_model.specs.declared.opcode.Size.TheVariants.{Word64}
 use Rattle.bpf_model.specs.declared.opcode.Condition.TheVariants.{Equal}
-use Rattle.bpf_model.specs.Access.{byte_count, unsigned_width, place_of}
+use Rattle.bpf_model.specs.Access.{byte_count, unsigned_width, region_offset}
 use Rattle.bpf_model.specs.Step.{insn_at}
 use Rattle.bpf_model.specs.Graph.{distance, JumpsTo, GoesTo, Reached}
 use Rattle.bpf_model.specs.Plain.{Reads, Writes, ReadsByte, IsSimple, WithoutByte}
@@ -26,11 +26,13 @@ unlock_call = Call Kernel (pos 2)
 
 -- an aligned load of the value whose reference r0 has, into one of r6 to r9
 abbrev pub IsValueLoad : MapShape → Insn → Type 0
-IsValueLoad shape (Load width dst src offset) = (src ≡ 0) × (6 ≤ dst) × (dst ≤ 9) × (at : ℕ) × (place_of shape.value_len (byte_count width) offset ≡ Some at)
-IsValueLoad shape (LoadSigned width dst src offset) = (src ≡ 0) × (6 ≤ dst) × (dst ≤ 9) × (at : ℕ) × (place_of shape.value_len (byte_count (unsigned_width width)) offset ≡ Some at)
+IsValueLoad shape (Load width dst src offset) = (src ≡ 0) × (6 ≤ dst) × (dst ≤ 9) × (at : ℕ)
+    × (region_offset shape.value_len (byte_count width) offset ≡ Some at)
+IsValueLoad shape (LoadSigned width dst src offset) = (src ≡ 0) × (6 ≤ dst) × (dst ≤ 9) × (at : ℕ)
+    × (region_offset shape.value_len (byte_count (unsigned_width width)) offset ≡ Some at)
 IsValueLoad shape i = ⊥
 
--- A guarded lookup: r2 is the key's place in the frame, r1 a map of the list, then the call, a test for null that skips the load, and the
+-- A guarded lookup: r2 is the key's address in the frame, r1 a map of the list, then the call, a test for null that skips the load, and the
 -- load. No jump leads into its middle.
 pub record IsGuardedLookup (program : List Insn) (shapes : List MapShape) (start : ℕ) : Type 0 where
   pub offset : ℤ
@@ -47,7 +49,8 @@ pub record IsGuardedLookup (program : List Insn) (shapes : List MapShape) (start
   pub in_list : slice_get shapes map ≡ Some shape
   pub in_frame : (pos FRAME_BYTES +ℤ offset ≡ pos at) × (at < FRAME_BYTES) × (at + shape.key_len ≤ FRAME_BYTES)
   pub in_value : IsValueLoad shape load
-  pub entered : (place target : ℕ) (i : Insn) → insn_at program place ≡ Some i → JumpsTo i place target → start < target → target ≤ start + 6 → ⊥
+  pub entered : (place target : ℕ) (i : Insn) → insn_at program place ≡ Some i → JumpsTo i place target
+      → start < target → target ≤ start + 6 → ⊥
 
 -- the instruction at the slot is part of a guarded lookup
 abbrev pub IsPart : List Insn → List MapShape → ℕ → Type 0
@@ -63,20 +66,28 @@ Keeps i = ((i ≡ lock_call) → ⊥) × ((i ≡ unlock_call) → ⊥)
 
 pub data InSection (program : List Insn) : Bool → ℕ → Type 0 where
   section_entry : InSection program false 0
-  section_lock : (open_before : Bool) (place target : ℕ) → InSection program open_before place → insn_at program place ≡ Some lock_call → GoesTo lock_call place target → InSection program true target
-  section_unlock : (open_before : Bool) (place target : ℕ) → InSection program open_before place → insn_at program place ≡ Some unlock_call → GoesTo unlock_call place target → InSection program false target
-  section_next : (open_before : Bool) (place target : ℕ) (i : Insn) → InSection program open_before place → insn_at program place ≡ Some i → Keeps i → GoesTo i place target → InSection program open_before target
+  section_lock : (open_before : Bool) (place target : ℕ) → InSection program open_before place
+      → insn_at program place ≡ Some lock_call → GoesTo lock_call place target → InSection program true target
+  section_unlock : (open_before : Bool) (place target : ℕ) → InSection program open_before place
+      → insn_at program place ≡ Some unlock_call → GoesTo unlock_call place target → InSection program false target
+  section_next : (open_before : Bool) (place target : ℕ) (i : Insn) → InSection program open_before place
+      → insn_at program place ≡ Some i → Keeps i → GoesTo i place target → InSection program open_before target
 
 -- A path leads to the slot on which the register isn't written since the entry or the last call, which leaves r0 to r5 unwritten. The writes of
 -- a guarded lookup don't count.
 pub data LacksRegister (program : List Insn) (shapes : List MapShape) (r : ℕ) : ℕ → Type 0 where
   lacks_entry : LacksRegister program shapes r 0
-  lacks_call : (place target : ℕ) (i : Insn) → Reached program place → insn_at program place ≡ Some i → (i ≡ lock_call) ⊎ ((i ≡ unlock_call) ⊎ (i ≡ lookup_call)) → r ≤ 5 → GoesTo i place target → LacksRegister program shapes r target
-  lacks_next : (place target : ℕ) (i : Insn) → LacksRegister program shapes r place → insn_at program place ≡ Some i → (Writes i r → IsPart program shapes place) → GoesTo i place target → LacksRegister program shapes r target
+  lacks_call : (place target : ℕ) (i : Insn) → Reached program place → insn_at program place ≡ Some i
+      → (i ≡ lock_call) ⊎ ((i ≡ unlock_call) ⊎ (i ≡ lookup_call)) → r ≤ 5 → GoesTo i place target
+      → LacksRegister program shapes r target
+  lacks_next : (place target : ℕ) (i : Insn) → LacksRegister program shapes r place
+      → insn_at program place ≡ Some i → (Writes i r → IsPart program shapes place) → GoesTo i place target
+      → LacksRegister program shapes r target
 
 pub record IsPlainWithMaps (program : List Insn) (shapes : List MapShape) : Type 0 where
   -- every jump goes forward to the start of an instruction
-  pub jumps : (place : ℕ) (i : Insn) (d : ℤ) → insn_at program place ≡ Some i → distance i ≡ Some d → (target : ℕ) × (next : Insn) × JumpsTo i place target × (place < target) × (insn_at program target ≡ Some next)
+  pub jumps : (place : ℕ) (i : Insn) (d : ℤ) → insn_at program place ≡ Some i → distance i ≡ Some d
+      → (target : ℕ) × (next : Insn) × JumpsTo i place target × (place < target) × (insn_at program target ≡ Some next)
   pub reached : (place : ℕ) (i : Insn) → insn_at program place ≡ Some i → Reached program place
   pub last : (front : List Insn) × (program ≡ front ++ Exit ∷ [])
   pub forms : (place : ℕ) (i : Insn) → insn_at program place ≡ Some i → HasForm program shapes place i
@@ -87,8 +98,12 @@ pub record IsPlainWithMaps (program : List Insn) (shapes : List MapShape) : Type
   pub exit_outside : (place : ℕ) → insn_at program place ≡ Some Exit → InSection program true place → ⊥
   pub lookup_inside : (place : ℕ) → IsPart program shapes place → InSection program false place → ⊥
   -- r10 isn't written, and only the accesses to the frame and the guarded lookups read it
-  pub frame_pointer : (place : ℕ) (i : Insn) → insn_at program place ≡ Some i → (IsPart program shapes place → ⊥) → (Writes i 10 → ⊥) × (Reads i 10 → ⊥)
+  pub frame_pointer : (place : ℕ) (i : Insn) → insn_at program place ≡ Some i
+      → (IsPart program shapes place → ⊥) → (Writes i 10 → ⊥) × (Reads i 10 → ⊥)
   -- each register and each byte of the frame is written before it is read
-  pub registers : (place : ℕ) (i : Insn) (r : ℕ) → insn_at program place ≡ Some i → (IsPart program shapes place → ⊥) → Reads i r → LacksRegister program shapes r place → ⊥
-  pub bytes : (place : ℕ) (i : Insn) (k : ℕ) → insn_at program place ≡ Some i → (IsPart program shapes place → ⊥) → ReadsByte i k → WithoutByte program k place → ⊥
-  pub keys : (start k : ℕ) (lookup : IsGuardedLookup program shapes start) → lookup.at ≤ k → k < lookup.at + lookup.shape.key_len → WithoutByte program k start → ⊥
+  pub registers : (place : ℕ) (i : Insn) (r : ℕ) → insn_at program place ≡ Some i
+      → (IsPart program shapes place → ⊥) → Reads i r → LacksRegister program shapes r place → ⊥
+  pub bytes : (place : ℕ) (i : Insn) (k : ℕ) → insn_at program place ≡ Some i
+      → (IsPart program shapes place → ⊥) → ReadsByte i k → WithoutByte program k place → ⊥
+  pub keys : (start k : ℕ) (lookup : IsGuardedLookup program shapes start) → lookup.at ≤ k
+      → k < lookup.at + lookup.shape.key_len → WithoutByte program k start → ⊥

@@ -15,4 +15,7 @@ pub record Reclaims (s : Store) (opened : List Section) (n : ℕ) (element : Ele
   pub ended : AllEnded since opened
   pub there : slice_get s.maps element.map ≡ Some state
   pub given_is : given ≡ given_of element.uses state
-  pub new_is : new ≡ record { elements = slice_set s.elements n (with_life Reclaimed element); maps = slice_set s.maps element.map (returned element.uses state) }
+  pub new_is : new ≡ record {
+    elements = slice_set s.elements n (with_life Reclaimed element);
+    maps = slice_set s.maps element.map (returned element.uses state);
+  }

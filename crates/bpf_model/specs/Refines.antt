@@ -3,7 +3,7 @@ use Rattle.std.specs.Prelude.{◌≡◌, ℕ, ◌<◌, ◌≤◌, ◌==◌, fals
 use Rattle.std.specs.List.{sum_by}
 use Rattle.std.specs.FinMap.{get, len}
 use Rattle.bpf_model.specs.declared.limits.MapShape.{MapShape}
-use Rattle.bpf_model.specs.declared.limits.TheConstants.{FRAME_BYTES, MAX_MAPS, MAX_PROGRAMS}
+use Rattle.bpf_model.specs.declared.limits.TheConstants.{FRAME_BYTES, MAX_MAPS, MAX_PROGRAMS, REGISTERS}
 use Rattle.bpf_model.specs.declared.event.Event.{Event}
 use Rattle.bpf_model.specs.declared.event.Answer.{Answer}
 use Rattle.bpf_model.specs.Element.{Element, IsLinkedAt, linked_count, is_reclaimed}
@@ -47,7 +47,11 @@ abbrev pub lists_of : MapView → Queues
 lists_of v = record { next = v.next; waiting = v.waiting; ready = v.ready }
 
 abbrev pub named : List ℕ → Queues → Queues
-named slots q = record { next = map (slice_index slots) q.next; waiting = map (slice_index slots) q.waiting; ready = map (slice_index slots) q.ready }
+named slots q = record {
+  next = map (slice_index slots) q.next;
+  waiting = map (slice_index slots) q.waiting;
+  ready = map (slice_index slots) q.ready;
+}
 
 -- Map k: its state and its lists are what the view shows, and its slots and elements stand in it.
 pub record MapRefines (slots : List ℕ) (k : ℕ) (es : List Element) (q : Queues) (v : MapView) (m : MapState) : Type 0 where
@@ -60,8 +64,8 @@ pub record MapRefines (slots : List ℕ) (k : ℕ) (es : List Element) (q : Queu
 pub record RunRefines (slots : List ℕ) (es : List Element) (programs : List Loaded) (w : RunView) (run : Run) : Type 0 where
   pub program : slice_get programs w.program ≡ Some run.program
   pub context : w.context ≡ run.context
-  pub eleven : length w.registers ≡ 11
-  pub registers : (r : ℕ) → r < 11 → WordIs (element_bases slots es) (run.state.regs r) (slice_index w.registers r)
+  pub eleven : length w.registers ≡ REGISTERS
+  pub registers : (r : ℕ) → r < REGISTERS → WordIs (element_bases slots es) (run.state.regs r) (slice_index w.registers r)
   pub cells : length w.frame ≡ FRAME_BYTES
   pub frame : (k : ℕ) → k < FRAME_BYTES → ByteIs (element_bases slots es) (run.state.frame k) (slice_index w.frame k)
   pub place : w.place ≡ run.state.place
@@ -80,7 +84,8 @@ pub record RefinesSchedule (w : WorldView) (s : Schedule) : Type 0 where
   pub slots : List ℕ
   pub named : length slots ≡ length s.machine.store.elements
   pub maps : (length w.maps ≡ length s.machine.store.maps) × (length s.queues ≡ length s.machine.store.maps)
-  pub map : (k : ℕ) (v : MapView) (m : MapState) (q : Queues) → slice_get w.maps k ≡ Some v → slice_get s.machine.store.maps k ≡ Some m → slice_get s.queues k ≡ Some q →
+  pub map : (k : ℕ) (v : MapView) (m : MapState) (q : Queues) → slice_get w.maps k ≡ Some v
+      → slice_get s.machine.store.maps k ≡ Some m → slice_get s.queues k ≡ Some q →
       MapRefines slots k s.machine.store.elements q v m
   pub runs : (r : ℕ) → SlotRefines slots s.machine.store.elements s.machine.programs (slice_get w.runs r) (slice_get s.machine.runs r)
   pub opened : w.opened ≡ open_flags s.machine.runs

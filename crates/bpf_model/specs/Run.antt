@@ -24,5 +24,6 @@ AllStates P (m ∷ states) = P m × AllStates P states
 -- Some run of the machine from m has these answers to these events, and ends in new.
 abbrev pub MachineRun : Machine → List Event → List Answer → Machine → Type 0
 MachineRun m [] [] new = new ≡ m
-MachineRun m (event ∷ events) (answer ∷ answers) new = (next : Machine) × Does m event answer next × MachineRun next events answers new
+MachineRun m (event ∷ events) (answer ∷ answers) new = (next : Machine) × Does m event answer next
+    × MachineRun next events answers new
 MachineRun m events answers new = ⊥

@@ -51,7 +51,11 @@ unlinked_between map n olds news = []
 -- An unlinked element goes to the end of its map's list next; the first of these lists is that of map k.
 abbrev pub retired : ℕ → List Element → List Element → List Queues → List Queues
 retired k old new [] = []
-retired k old new (q ∷ qs) = record { next = q.next ++ unlinked_between k 0 old new; waiting = q.waiting; ready = q.ready } ∷ retired (suc k) old new qs
+retired k old new (q ∷ qs) = record {
+  next = q.next ++ unlinked_between k 0 old new;
+  waiting = q.waiting;
+  ready = q.ready;
+} ∷ retired (suc k) old new qs
 
 -- A grace period ends and the next begins: those that waited are ready, and those unlinked meanwhile wait.
 abbrev pub turned : Queues → Queues
@@ -73,7 +77,11 @@ first_ready (q ∷ qs) = or_first q.ready (first_ready qs)
 
 abbrev pub without_first : List Queues → List Queues
 without_first [] = []
-without_first (q ∷ qs) = if length q.ready == 0 then q ∷ without_first qs else record { next = q.next; waiting = q.waiting; ready = drop 1 q.ready } ∷ qs
+without_first (q ∷ qs) = if length q.ready == 0 then q ∷ without_first qs else record {
+  next = q.next;
+  waiting = q.waiting;
+  ready = drop 1 q.ready;
+} ∷ qs
 
 abbrev pub reaped : Schedule → Machine → Schedule
 reaped s m = record { machine = m; queues = without_first s.queues; awaited = s.awaited }
@@ -82,13 +90,18 @@ reaped s m = record { machine = m; queues = without_first s.queues; awaited = s.
 abbrev pub scheduled : Schedule → Event → Machine → Schedule
 scheduled s Advance m = advanced s m (is_any s.awaited)
 scheduled s Reap m = reaped s m
-scheduled s event m = record { machine = m; queues = retired 0 s.machine.store.elements m.store.elements s.queues; awaited = still_open s.awaited (open_flags m.runs) }
+scheduled s event m = record {
+  machine = m;
+  queues = retired 0 s.machine.store.elements m.store.elements s.queues;
+  awaited = still_open s.awaited (open_flags m.runs);
+}
 
 -- A reap takes that birth, and finds nothing only when no list has one.
 abbrev pub TakesFirst : Schedule → Event → Answer → Machine → Type 0
 TakesFirst s Reap (Reaped None) m = first_ready s.queues ≡ None
 TakesFirst s Reap (Reaped (Some element)) m =
-    (n : ℕ) × (since : List Section) × (first_ready s.queues ≡ Some n) × HasLife s.machine.store.elements n (Unlinked since) × HasLife m.store.elements n Reclaimed
+    (n : ℕ) × (since : List Section) × (first_ready s.queues ≡ Some n)
+    × HasLife s.machine.store.elements n (Unlinked since) × HasLife m.store.elements n Reclaimed
 TakesFirst s event answer m = Unit {0}
 
 -- A new element takes the slot of its map that has been free longest: the bag is a queue, to whose end a reclaimed slot goes.
@@ -106,7 +119,8 @@ pub record DoesScheduled (s : Schedule) (event : Event) (answer : Answer) (new :
 
 abbrev pub IsScheduledHistory : Schedule → List Event → List Answer → List Schedule → Type 0
 IsScheduledHistory s [] [] [] = Unit {0}
-IsScheduledHistory s (event ∷ events) (answer ∷ answers) (next ∷ states) = DoesScheduled s event answer next × IsScheduledHistory next events answers states
+IsScheduledHistory s (event ∷ events) (answer ∷ answers) (next ∷ states) = DoesScheduled s event answer next
+    × IsScheduledHistory next events answers states
 IsScheduledHistory s events answers states = ⊥
 
 abbrev pub last_scheduled : Schedule → List Schedule → Schedule
@@ -116,4 +130,8 @@ last_scheduled s (next ∷ states) = last_scheduled next states
 -- the start: nothing waits, and no run is awaited
 abbrev pub start_schedule : List MapShape → List Loaded → Schedule
 start_schedule shapes programs =
-    record { machine = start_machine shapes programs; queues = map (λ _. record { next = []; waiting = []; ready = [] }) shapes; awaited = replicate MAX_RUNS false }
+    record {
+      machine = start_machine shapes programs;
+      queues = map (λ _. record { next = []; waiting = []; ready = [] }) shapes;
+      awaited = replicate MAX_RUNS false;
+    }

@@ -3,7 +3,7 @@ ghost use Rattle.std.specs.Prelude.{ℕ, ◌≡◌};
 
 use std::marker::Model;
 
-/// A loaded program: its place in the list of programs. Contracts see it as that number.
+/// A loaded program: its index in the list of programs. Contracts see it as that number.
 #[derive(Clone, Copy, Debug, PartialEq, Eq)]
 pub struct ProgId {
     number: usize,
@@ -53,7 +53,7 @@ impl ProgId {
         ProgId { number }
     }
 
-    /// Its place in the list of programs.
+    /// Its index in the list of programs.
     pub fn index(self) -> usize
         ensures { result ≡ self }
     {
@@ -85,7 +85,7 @@ impl MapId {
         MapId { number }
     }
 
-    /// Its place in the registry.
+    /// Its number in the registry.
     pub fn index(self) -> usize
         ensures { result ≡ self }
     {

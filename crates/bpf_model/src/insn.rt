@@ -52,6 +52,22 @@ pub enum UnaryOp {
     MoveSigned { extension: SignExtension, src: Reg },
 }
 
+impl UnaryOp {
+    ghost use Rattle.std.specs.Prelude.{◌≡◌};
+    ghost use Rattle.bpf_model.specs.Operand.{unary_source};
+
+    /// The register that the operation reads, where it writes `dst`.
+    #[inline]
+    pub fn source(&self, dst: Reg) -> Reg
+        ensures { result ≡ unary_source self.now dst }
+    {
+        match self {
+            UnaryOp::MoveSigned { src, .. } => *src,
+            UnaryOp::Negate(_) | UnaryOp::ByteSwap { .. } => dst,
+        }
+    }
+}
+
 /// How a called function is named: a helper by its static number, a kernel function by its BTF number.
 #[derive(Clone, Copy, Debug, PartialEq, Eq)]
 pub enum CallKind {
@@ -78,7 +94,7 @@ pub enum Insn {
         dst: Reg,
         number: u64,
     },
-    /// The wide instruction with a map: its place in the program's own list of maps.
+    /// The wide instruction with a map: its index in the program's own list of maps.
     LoadMap {
         dst: Reg,
         map: i32,

@@ -5,6 +5,9 @@ use arrayvec::ArrayVec;
 /// The most slots of a program.
 pub const MAX_SLOTS: usize = 4096;
 
+/// How many registers there are, r0 to r10.
+pub const REGISTERS: usize = 11;
+
 /// The bytes of a stack frame.
 pub const FRAME_BYTES: usize = 512;
 

@@ -1,5 +1,6 @@
 //! The eleven registers (RFC 9669, section 3.1; Linux BPF documentation, "Registers and calling convention").
 ghost use Rattle.std.specs.Prelude.{ℕ, ◌≡◌, ◌≤◌, ◌<◌, MatchOption};
+ghost use Rattle.bpf_model.specs.declared.limits.TheConstants.{REGISTERS};
 
 use std::marker::Model;
 
@@ -57,7 +58,7 @@ impl Reg {
     /// Its number as an index into eleven registers.
     pub fn index(self) -> usize
         ensures value { result ≡ self }
-        ensures bound { result < 11 }
+        ensures bound { result < REGISTERS }
     {
         usize::from(self.number)
     }

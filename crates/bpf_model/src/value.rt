@@ -2,7 +2,7 @@
 //! speak of, and what the plain model computes with.
 
 /// A reference: to the context, the frame or an element, at an offset in bytes from the start of its
-/// region, or to a map. An element is named by its birth number, a map by its place in the program's list.
+/// region, or to a map. An element is named by its birth number, a map by its index in the program's list.
 #[derive(Clone, Copy, Debug, PartialEq, Eq)]
 pub enum Reference {
     Ctx(i64),

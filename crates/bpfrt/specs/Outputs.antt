@@ -4,6 +4,7 @@ use Rattle.std.specs.Fmt.{decimal}
 use Rattle.std.specs.Io.KnownBytes.{Appends}
 use Rattle.bpf_model.specs.declared.insn.Insn.{Insn}
 use Rattle.bpf_model.specs.Spelling.{IsProgram, text, slot_total}
+use Rattle.bpf_model.specs.Plain.{IsPlain}
 use Rattle.disasm.specs.Text.{program_text}
 use Rattle.insn_codec.specs.declared.fault.DecodeFault.{DecodeFault}
 use Rattle.insn_codec.specs.Faults.{IsDecodeFault, decode_fault_number, decode_fault_slot}
@@ -44,13 +45,14 @@ pub record IsFaultVerdict (bytes : List ℕ) (v : Verdict) : Type 0 where
   pub code : v.code ≡ decode_fault_number fault
   pub slot : v.slot ≡ decode_fault_slot fault
 
--- The bytes are the text of a program, and the verdict is the verifier's of it.
+-- The bytes are the text of a program, and the verdict is the verifier's of it. Unless memory ran out, the program isn't plain.
 pub record IsVerifierVerdict (bytes : List ℕ) (v : Verdict) : Type 0 where
   pub program : List Insn
   pub is : IsProgram program
   pub text_is : bytes ≡ text program
   pub refusal : Refusal
   pub told : IsToldOf program refusal
+  pub not_plain : v.code ≢ 13 → IsPlain program → ⊥
   pub code : v.code ≡ refusal_number refusal
   pub slot : v.slot ≡ refusal_slot refusal
 

@@ -1,5 +1,5 @@
 //! The lines that refusals and faults make, and the statuses that go with them.
-ghost use Rattle.std.specs.Prelude.{◌≡◌, ◌≢◌, ◌⊎◌};
+ghost use Rattle.std.specs.Prelude.{◌≡◌, ◌≢◌};
 ghost use Rattle.bpfrt.specs.declared.request.UsageFault.TheVariants.{Memory};
 
 use crate::request::UsageFault;
@@ -57,14 +57,12 @@ impl From<AllocError> for Verdict {
     }
 }
 
-/// Writes `fault C` on standard error, and answers its status: 1 where the input is at fault (94, 95), else 3.
+/// Writes `fault C` on standard error, and answers its status.
 pub fn fault<W: Write>(err: &mut W, code: u8) -> u8
-    ensures input { (code ≡ 94) ⊎ (code ≡ 95) → result ≡ 1 }
-    ensures other { code ≢ 94 → code ≢ 95 → result ≡ 3 }
-    ensures status { (result ≡ 1) ⊎ (result ≡ 3) }
+    ensures { result ≡ 3 }
 {
     let _ = writeln!(err, "fault {code}");
-    if code == 94 || code == 95 { 1 } else { 3 }
+    3
 }
 
 /// Writes `refused C` or `refused C at S` on standard error, or the fault where memory ran out, and answers

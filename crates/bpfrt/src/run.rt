@@ -52,10 +52,7 @@ enum Side {
 }
 
 /// The fault of a stream: want of memory, or that of its side.
-fn stream_fault(error: &io::Error, side: Side) -> u8
-    ensures not_a_file { result ≢ 94 }
-    ensures not_a_script { result ≢ 95 }
-{
+fn stream_fault(error: &io::Error, side: Side) -> u8 {
     if error.kind() == ErrorKind::OutOfMemory {
         return 13;
     }
@@ -105,6 +102,7 @@ fn run_check<R: Read, W: Write, E: Write>(
     ensures accepted { result ≡ 0 → IfSome (R.remaining input.old)
         (WritesAccepted (W.contents out.old) (W.contents out.new)) }
     ensures refused { result ≡ 1 → IfSome (R.remaining input.old) IsRefusedByCheck }
+    ensures silent { result ≡ 1 → out.new ≡ out.old }
 {
     let file = match read_file(alloc, input) {
         Ok(file) => file,
@@ -127,6 +125,7 @@ fn run_disasm<R: Read, W: Write, E: Write>(
     ensures text { result ≡ 0 → IfSome (R.remaining input.old)
         (WritesText (W.contents out.old) (W.contents out.new)) }
     ensures refused { result ≡ 1 → IfSome (R.remaining input.old) IsRefusedByDecode }
+    ensures silent { result ≡ 1 → out.new ≡ out.old }
 {
     let file = match read_file(alloc, input) {
         Ok(file) => file,
@@ -139,8 +138,9 @@ fn run_disasm<R: Read, W: Write, E: Write>(
 }
 
 /// Runs a command on its file's bytes, and answers the exit status: 0 fine, 1 refused, 3 a fault of memory
-/// (13), of reading (96) or of writing (97). A refusal or a fault is one line on `err`, and then nothing is
-/// written on `out`.
+/// (13), of reading (96) or of writing (97). A refusal or a fault is one line on `err`. After a refusal
+/// nothing was written on `out`; after a fault of writing a part may have been. Which fault it was, and that
+/// there was one, no clause says: status 3 tells nothing.
 pub fn run<R: Read, W: Write, E: Write>(
     alloc: Global,
     command: &Command,
@@ -152,6 +152,7 @@ pub fn run<R: Read, W: Write, E: Write>(
     ensures fine { result ≡ 0 → IfSome (R.remaining input.old)
         (Writes command.now (W.contents out.old) (W.contents out.new)) }
     ensures refused { result ≡ 1 → IfSome (R.remaining input.old) (IsRefusedBy command.now) }
+    ensures silent { result ≡ 1 → out.new ≡ out.old }
 {
     match command {
         Command::Check { .. } => run_check(alloc, input, out, err),

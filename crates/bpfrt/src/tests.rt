@@ -14,6 +14,18 @@ const WIDE: [u8; 24] = [
     0x18, 0, 0, 0, 1, 0, 0, 0, 0, 0, 0, 0, 2, 0, 0, 0, 0x95, 0, 0, 0, 0, 0, 0, 0,
 ];
 
+/// A lookup in a section, which needs a map.
+const LOOKUP: [u8; 104] = [
+    0xb7, 0x06, 0, 0, 0, 0, 0, 0, 0x85, 0x20, 0, 0, 1, 0, 0, 0, 0x62, 0x0a, 0xfc, 0xff, 0, 0, 0, 0,
+    0xbf, 0xa2, 0, 0, 0, 0, 0, 0, 0x07, 0x02, 0, 0, 0xfc, 0xff, 0xff, 0xff, 0x18, 0x51, 0, 0, 0, 0,
+    0, 0, 0, 0, 0, 0, 0, 0, 0, 0, 0x85, 0, 0, 0, 1, 0, 0, 0, 0x15, 0, 1, 0, 0, 0, 0, 0, 0x79, 0x06,
+    0, 0, 0, 0, 0, 0, 0x85, 0x20, 0, 0, 2, 0, 0, 0, 0xbf, 0x60, 0, 0, 0, 0, 0, 0, 0x95, 0, 0, 0, 0,
+    0, 0, 0,
+];
+
+const LOOKUP_LINES: &[u8] = b"mov64 r6, 0\ncallbtf 1\nstw [r10-4], 0\nmov64 r2, r10\nadd64 r2, -4\n\
+ldmap r1, 0\ncall 1\njeq r0, 0, +1\nldxdw r6, [r0+0]\ncallbtf 2\nmov64 r0, r6\nexit\n";
+
 /// A stream that fails at every call.
 #[derive(Drop)]
 struct Broken;
@@ -70,7 +82,7 @@ fn outputs_and_statuses(rt: HostRuntime) -> Result<(), Fail> {
     let check = check(alloc)?;
     let disasm = disasm(alloc)?;
     let no_bytes: [u8; 0] = [];
-    let rows: [(&Command, &[u8], u8, &[u8], &[u8]); 6] = [
+    let rows: [(&Command, &[u8], u8, &[u8], &[u8]); 8] = [
         (
             &check,
             &EXIT_ONE,
@@ -83,6 +95,8 @@ fn outputs_and_statuses(rt: HostRuntime) -> Result<(), Fail> {
         (&check, &no_bytes, 1, b"", b"refused 2\n"),
         (&disasm, &WIDE, 0, b"lddw r0, 8589934593\nexit\n", b""),
         (&disasm, &EXIT_ONE[..9], 1, b"", b"refused 1\n"),
+        (&disasm, &LOOKUP, 0, LOOKUP_LINES, b""),
+        (&check, &LOOKUP, 1, b"", b"refused 35 at 1\n"),
     ];
     for (command, bytes, status, out, err) in rows {
         let mut input = bytes;

@@ -5,8 +5,7 @@ use Rattle.std.proofs.lemmas.Bool.Decides.{nat_tests}
 use Rattle.std.proofs.lemmas.List.{append-nil, length-append}
 use Rattle.std.proofs.lemmas.List.Sums.{sum_by-cons}
 use Rattle.bpf_model.specs.declared.insn.Insn.{Insn}
-use Rattle.bpf_model.specs.Profile.{is_admitted}
-use Rattle.bpf_model.specs.Spelling.{FitsInsn, IsInProfile, spelling, text, slot_count, slot_total, starts_from}
+use Rattle.bpf_model.specs.Spelling.{FitsInsn, spelling, text, slot_count, slot_total, starts_from}
 use Rattle.insn_codec.proofs.InsnLaws.{shape}
 
 -- what a test of a length for 0 says
@@ -23,17 +22,15 @@ pub record Continues (is front : List Insn) (rest : List ℕ) : Type 0 where
   pub whole : is ≡ front ++ back
   pub rest_is : rest ≡ text back
   pub fits : AllByRecursion FitsInsn back
-  pub profile : IsInProfile back
 
 pub record ReadSoFar (bytes : List ℕ) (front : List Insn) (starts : List ℕ) (slot : ℕ) (rest : List ℕ) : Type 0 where
   pub parts : bytes ≡ text front ++ rest
   pub fits : AllByRecursion FitsInsn front
-  pub profile : IsInProfile front
   pub slot_is : slot_total front ≡ slot
   pub starts_are : starts ≡ starts_from 0 front
   pub left : length rest % 8 ≡ 0
   pub bound : 8 * slot + length rest ≡ length bytes
-  pub only : (is : List Insn) → AllByRecursion FitsInsn is → IsInProfile is → bytes ≡ text is → Continues is front rest
+  pub only : (is : List Insn) → AllByRecursion FitsInsn is → bytes ≡ text is → Continues is front rest
 
 length_spelling : (i : Insn) → length (spelling i) ≡ 8 * slot_count i
 length_spelling i = elim (shape i) [ inl one ↦ rw (one.slots, one.count) refl | inr two ↦ rw (two.slots, two.count) refl ]
@@ -56,10 +53,6 @@ fits_push : (front : List Insn) (i : Insn) → AllByRecursion FitsInsn front →
 fits_push [] i h f = (f, tt)
 fits_push (x ∷ front) i h f = (h.0, fits_push front i h.1 f)
 
-profile_push : (front : List Insn) (i : Insn) → IsInProfile front → is_admitted i ≡ true → IsInProfile (front ++ i ∷ [])
-profile_push [] i h a = (a, tt)
-profile_push (x ∷ front) i h a = (h.0, profile_push front i h.1 a)
-
 text_push : (front : List Insn) (i : Insn) → text (front ++ i ∷ []) ≡ text front ++ spelling i
 text_push [] i = append-nil (spelling i)
 text_push (x ∷ front) i = ap (λ (t : List ℕ). spelling x ++ t) (text_push front i) ∙ sym (append_assoc (spelling x) (text front) (spelling i))
@@ -76,37 +69,36 @@ starts_push n (x ∷ front) i =
 
 -- what decode_first says of what is spelled
 abbrev pub Only : List ℕ → Insn → List ℕ → Type 0
-Only rest i after = (j : Insn) → (r : List ℕ) → FitsInsn j → is_admitted j ≡ true → rest ≡ spelling j ++ r → (i ≡ j) × (after ≡ r)
+Only rest i after = (j : Insn) → (r : List ℕ) → FitsInsn j → rest ≡ spelling j ++ r → (i ≡ j) × (after ≡ r)
 
-continues : (is front back : List Insn) (i : Insn) (rest after : List ℕ) → is ≡ front ++ back → rest ≡ text back → AllByRecursion FitsInsn back → IsInProfile back → 0 < length rest → Only rest i after → Continues is (front ++ i ∷ []) after
-continues is front [] i rest after whole r fits profile long only = absurd (omega (arith, ap (λ (x : List ℕ). length x) r))
-continues is front (j ∷ back) i rest after whole r fits profile long only =
-    let e = only j (text back) fits.0 profile.0 r in
-    record { back = back; whole = whole ∙ rw e.0 (sym (append_assoc front (j ∷ []) back)); rest_is = e.1; fits = fits.1; profile = profile.1 }
+continues : (is front back : List Insn) (i : Insn) (rest after : List ℕ) → is ≡ front ++ back → rest ≡ text back → AllByRecursion FitsInsn back → 0 < length rest → Only rest i after → Continues is (front ++ i ∷ []) after
+continues is front [] i rest after whole r fits long only = absurd (omega (arith, ap (λ (x : List ℕ). length x) r))
+continues is front (j ∷ back) i rest after whole r fits long only =
+    let e = only j (text back) fits.0 r in
+    record { back = back; whole = whole ∙ rw e.0 (sym (append_assoc front (j ∷ []) back)); rest_is = e.1; fits = fits.1 }
 
-pub goes_on : (bytes : List ℕ) (front : List Insn) (starts : List ℕ) (slot : ℕ) (rest after : List ℕ) (i : Insn) → ReadSoFar bytes front starts slot rest → 0 < length rest → FitsInsn i → is_admitted i ≡ true → rest ≡ spelling i ++ after → Only rest i after → ReadSoFar bytes (front ++ i ∷ []) (starts ++ slot ∷ []) (slot + slot_count i) after
-goes_on bytes front starts slot rest after i so_far long fits admitted parts only =
+pub goes_on : (bytes : List ℕ) (front : List Insn) (starts : List ℕ) (slot : ℕ) (rest after : List ℕ) (i : Insn) → ReadSoFar bytes front starts slot rest → 0 < length rest → FitsInsn i → rest ≡ spelling i ++ after → Only rest i after → ReadSoFar bytes (front ++ i ∷ []) (starts ++ slot ∷ []) (slot + slot_count i) after
+goes_on bytes front starts slot rest after i so_far long fits parts only =
     let l : length rest ≡ 8 * slot_count i + length after = ap (λ (x : List ℕ). length x) parts ∙ length-append (spelling i) after ∙ ap (λ (k : ℕ). k + length after) (length_spelling i) in
     record {
       parts = so_far.parts ∙ ap (λ (r : List ℕ). text front ++ r) parts ∙ sym (append_assoc (text front) (spelling i) after) ∙ ap (λ (t : List ℕ). t ++ after) (sym (text_push front i));
       fits = fits_push front i so_far.fits fits;
-      profile = profile_push front i so_far.profile admitted;
       slot_is = total_push front i ∙ ap (λ (k : ℕ). k + slot_count i) so_far.slot_is;
       starts_are = rw (so_far.starts_are, starts_push 0 front i, ← so_far.slot_is) (ap (λ (k : ℕ). starts_from 0 front ++ k ∷ []) (let z : slot_total front ≡ 0 + slot_total front = omega arith in z));
       left = omega (arith, so_far.left);
       bound = omega (arith, so_far.bound);
-      only = λ is f a e. let k = so_far.only is f a e in continues is front k.back i rest after k.whole k.rest_is k.fits k.profile long only;
+      only = λ is f e. let k = so_far.only is f e in continues is front k.back i rest after k.whole k.rest_is k.fits long only;
     }
 
 abbrev pub NotSpelled : List ℕ → Type 0
-NotSpelled rest = (j : Insn) → (r : List ℕ) → FitsInsn j → is_admitted j ≡ true → rest ≡ spelling j ++ r → ⊥
+NotSpelled rest = (j : Insn) → (r : List ℕ) → FitsInsn j → rest ≡ spelling j ++ r → ⊥
 
 pub stops : (is front : List Insn) (rest : List ℕ) → 0 < length rest → NotSpelled rest → Continues is front rest → ⊥
-stops is front rest long never k = stops_at k.back k.rest_is k.fits k.profile
+stops is front rest long never k = stops_at k.back k.rest_is k.fits
   where
-    stops_at : (back : List Insn) → rest ≡ text back → AllByRecursion FitsInsn back → IsInProfile back → ⊥
-    stops_at [] e f a = absurd (omega (arith, ap (λ (x : List ℕ). length x) e))
-    stops_at (j ∷ back) e f a = never j (text back) f.0 a.0 e
+    stops_at : (back : List Insn) → rest ≡ text back → AllByRecursion FitsInsn back → ⊥
+    stops_at [] e f = absurd (omega (arith, ap (λ (x : List ℕ). length x) e))
+    stops_at (j ∷ back) e f = never j (text back) f.0 e
 
 pub ends : (is front : List Insn) (rest : List ℕ) → length rest ≡ 0 → Continues is front rest → front ≡ is
 ends is front rest none k = ends_at k.back k.whole k.rest_is

@@ -1,5 +1,5 @@
 -- An instruction is read again from its slots.
-use Rattle.std.proofs.Common.{◌≡◌, ℕ, ◌+◌, ◌-◌, ◌*◌, ◌/◌, ◌%◌, ◌^◌, ◌<◌, Bool, true, false, cond, eqb, not, List, [], ◌∷◌, take, drop, Option, Some, None, refl, sym, ap, subst, ◌∙◌, arith, ℤ, pos, of_z, ◌⊎◌, inl, inr}
+use Rattle.std.proofs.Common.{◌≡◌, ℕ, ◌+◌, ◌-◌, ◌*◌, ◌/◌, ◌%◌, ◌^◌, ◌<◌, Bool, false, cond, eqb, not, List, [], ◌∷◌, take, drop, Option, Some, None, refl, sym, ap, subst, ◌∙◌, arith, ℤ, pos, of_z, ◌⊎◌, inl, inr}
 use Rattle.std.specs.Ordering.{int_eq}
 use Rattle.std.specs.Int.{w32, cast_signed}
 use Rattle.std.specs.Prelude.{option_to_list}
@@ -26,10 +26,9 @@ use Rattle.bpf_model.specs.declared.insn.CallKind.TheVariants.{Helper, Kernel}
 use Rattle.bpf_model.specs.declared.insn.Insn.{Insn}
 use Rattle.bpf_model.specs.declared.insn.Insn.TheVariants.{Alu, Unary, LoadNumber, LoadMap, Jump, JumpLong, JumpIf, Call, Exit, Load, LoadSigned, Store}
 use Rattle.bpf_model.specs.Opcode.{opcode_byte}
-use Rattle.bpf_model.specs.Profile.{is_supported, is_admitted}
 use Rattle.bpf_model.specs.Spelling.{FitsInsn, slots_of, slot_count, first_slot, tail_slot, opcode_of, code_of, offset_of, extension_size, extension_bits, swap_bits, call_source}
 use Rattle.insn_codec.specs.Begins.{BeginsWith}
-use Rattle.insn_codec.specs.Faults.{flaw_with}
+use Rattle.insn_codec.specs.Faults.{flaw_with, is_excluded}
 
 pub some_is : {A : Type 0} (x y : A) → Some x ≡ Some y → x ≡ y
 some_is x y e = cc
@@ -76,33 +75,32 @@ first_opcode i = refl
 pub opcode_is : (i : Insn) (s : Slot) (next : Option Slot) → BeginsWith s next i → opcode_byte (opcode_of i) ≡ s.opcode
 opcode_is i s next e = sym (first_opcode i) ∙ ap (λ (x : Slot). x.opcode) (begins_parts i s next e).0
 
-pub supported : (i : Insn) → is_admitted i ≡ true → is_supported (opcode_of i) ≡ true
-supported (Unary (Negate size) dst) h = refl
-supported (Unary (ByteSwap order width) dst) h = refl
-supported (Unary (MoveSigned extension src) dst) h = refl
-supported (Call kind imm) h = h
-supported i h = refl
+pub included : (i : Insn) → is_excluded (opcode_of i) ≡ false
+included (Unary (Negate size) dst) = refl
+included (Unary (ByteSwap order width) dst) = refl
+included (Unary (MoveSigned extension src) dst) = refl
+included i = refl
 
-pub no_flaw : (i : Insn) (s : Slot) (next : Option Slot) → FitsInsn i → is_admitted i ≡ true → BeginsWith s next i → flaw_with (opcode_of i) s next ≡ None
-no_flaw (Alu operation size dst (operand.Register src)) s next fits h e = grind (arith, nat_tests)
-no_flaw (Alu operation size dst (operand.Immediate imm)) s next fits h e = grind (arith, nat_tests)
-no_flaw (Unary (Negate size) dst) s next fits h e = grind (arith, nat_tests)
-no_flaw (Unary (ByteSwap order width) dst) s next fits h e = grind (arith, nat_tests)
-no_flaw (Unary (MoveSigned extension src) dst) s next fits h e = grind (arith, nat_tests)
-no_flaw (LoadNumber dst number) s None fits h e = absurd cc
-no_flaw (LoadNumber dst number) s (Some t) fits h e = grind (arith, nat_tests)
-no_flaw (LoadMap dst map) s None fits h e = absurd cc
-no_flaw (LoadMap dst map) s (Some t) fits h e = grind (arith, nat_tests)
-no_flaw (Jump offset) s next fits h e = grind (arith, nat_tests)
-no_flaw (JumpLong offset) s next fits h e = grind (arith, nat_tests)
-no_flaw (JumpIf condition size dst (operand.Register src) offset) s next fits h e = grind (arith, nat_tests)
-no_flaw (JumpIf condition size dst (operand.Immediate imm) offset) s next fits h e = grind (arith, nat_tests)
-no_flaw (Call kind function) s next fits h e = grind (arith, nat_tests)
-no_flaw Exit s next fits h e = grind (arith, nat_tests)
-no_flaw (Load width dst src offset) s next fits h e = grind (arith, nat_tests)
-no_flaw (LoadSigned width dst src offset) s next fits h e = grind (arith, nat_tests)
-no_flaw (Store width dst offset (operand.Register src)) s next fits h e = grind (arith, nat_tests)
-no_flaw (Store width dst offset (operand.Immediate imm)) s next fits h e = grind (arith, nat_tests)
+pub no_flaw : (i : Insn) (s : Slot) (next : Option Slot) → FitsInsn i → BeginsWith s next i → flaw_with (opcode_of i) s next ≡ None
+no_flaw (Alu operation size dst (operand.Register src)) s next fits e = grind (arith, nat_tests)
+no_flaw (Alu operation size dst (operand.Immediate imm)) s next fits e = grind (arith, nat_tests)
+no_flaw (Unary (Negate size) dst) s next fits e = grind (arith, nat_tests)
+no_flaw (Unary (ByteSwap order width) dst) s next fits e = grind (arith, nat_tests)
+no_flaw (Unary (MoveSigned extension src) dst) s next fits e = grind (arith, nat_tests)
+no_flaw (LoadNumber dst number) s None fits e = absurd cc
+no_flaw (LoadNumber dst number) s (Some t) fits e = grind (arith, nat_tests)
+no_flaw (LoadMap dst map) s None fits e = absurd cc
+no_flaw (LoadMap dst map) s (Some t) fits e = grind (arith, nat_tests)
+no_flaw (Jump offset) s next fits e = grind (arith, nat_tests)
+no_flaw (JumpLong offset) s next fits e = grind (arith, nat_tests)
+no_flaw (JumpIf condition size dst (operand.Register src) offset) s next fits e = grind (arith, nat_tests)
+no_flaw (JumpIf condition size dst (operand.Immediate imm) offset) s next fits e = grind (arith, nat_tests)
+no_flaw (Call kind function) s next fits e = grind (arith, nat_tests)
+no_flaw Exit s next fits e = grind (arith, nat_tests)
+no_flaw (Load width dst src offset) s next fits e = grind (arith, nat_tests)
+no_flaw (LoadSigned width dst src offset) s next fits e = grind (arith, nat_tests)
+no_flaw (Store width dst offset (operand.Register src)) s next fits e = grind (arith, nat_tests)
+no_flaw (Store width dst offset (operand.Immediate imm)) s next fits e = grind (arith, nat_tests)
 
 -- The instruction back from its opcode and slots.
 

@@ -1,19 +1,18 @@
 -- No two faults of one input, none where it is a text, and no two programs with one text.
-use Rattle.std.proofs.Common.{◌≡◌, ℕ, ◌*◌, ◌%◌, ◌<◌, ◌≤◌, Bool, true, List, [], ◌∷◌, ◌++◌, length, Option, Some, None, refl, sym, ap, subst, ◌∙◌, arith, append_assoc, drop, cond}
+use Rattle.std.proofs.Common.{◌≡◌, ℕ, ◌*◌, ◌%◌, ◌<◌, ◌≤◌, Bool, List, [], ◌∷◌, ◌++◌, length, Option, Some, None, refl, sym, ap, subst, ◌∙◌, arith, append_assoc, drop, cond}
 use Rattle.std.specs.List.{AllByRecursion}
 use Rattle.std.proofs.lemmas.Bool.Decides.{nat_tests}
 use Rattle.std.proofs.lemmas.List.{append-nil, length-append}
 use Rattle.bpf_model.specs.declared.limits.TheConstants.{MAX_SLOTS}
 use Rattle.bpf_model.specs.declared.opcode.Opcode.{Opcode}
 use Rattle.bpf_model.specs.declared.insn.Insn.{Insn}
-use Rattle.bpf_model.specs.Profile.{is_admitted}
-use Rattle.bpf_model.specs.Spelling.{FitsInsn, IsInProfile, IsProgram, spelling, text, slot_at, next_slot_at, slot_count, slot_total, opcode_of}
+use Rattle.bpf_model.specs.Spelling.{FitsInsn, IsProgram, spelling, text, slot_at, next_slot_at, slot_count, slot_total, opcode_of}
 use Rattle.insn_codec.specs.declared.fault.DecodeFault.{DecodeFault}
 use Rattle.insn_codec.specs.declared.fault.DecodeFault.TheVariants as faults
 use Rattle.insn_codec.specs.declared.flaw.Flaw.{Flaw}
 use Rattle.insn_codec.specs.declared.flaw.Flaw.TheVariants.{OutsideProfile}
 use Rattle.insn_codec.specs.Faults.{flaw_with, first_flaw, IsOpcode, IsInsnFlawAt, IsDecodeFault, length_fault}
-use Rattle.insn_codec.proofs.InsnLaws.{some_is, opcode_is, supported, no_flaw, same}
+use Rattle.insn_codec.proofs.InsnLaws.{some_is, opcode_is, included, no_flaw, same}
 use Rattle.insn_codec.proofs.TextLaws.{Again, again}
 use Rattle.insn_codec.proofs.DecodeLoop.{total_cons, slot_count_pos, length_text}
 use Rattle.insn_codec.proofs.Injective.{injective}
@@ -38,25 +37,25 @@ one_flaw bytes f g h k =
     let e = opcodes_are _ h.0 k.0 h.1 k.1 in
     some_is f g (sym h.2 ∙ ap (λ (o : Option Opcode). first_flaw o (slot_at bytes) (next_slot_at bytes)) e ∙ k.2)
 
-pub spelled_has_none : (bytes x : List ℕ) (i : Insn) (f : Flaw) → FitsInsn i → is_admitted i ≡ true → bytes ≡ spelling i ++ x → IsInsnFlawAt bytes f → ⊥
-spelled_has_none bytes x i f fits admitted p h =
+pub spelled_has_none : (bytes x : List ℕ) (i : Insn) (f : Flaw) → FitsInsn i → bytes ≡ spelling i ++ x → IsInsnFlawAt bytes f → ⊥
+spelled_has_none bytes x i f fits p h =
     let a : Again i bytes x = subst (λ (b : List ℕ). Again i b x) (sym p) (again i x fits) in
     let e = opcodes_are _ h.0 (Some (opcode_of i)) h.1 (opcode_is i _ _ a.begins) in
-    let n = no_flaw i _ _ fits admitted a.begins in
-    let s = supported i admitted in
+    let n = no_flaw i _ _ fits a.begins in
+    let s = included i in
     let k : first_flaw (Some (opcode_of i)) (slot_at bytes) (next_slot_at bytes) ≡ Some f = ap (λ (o : Option Opcode). first_flaw o (slot_at bytes) (next_slot_at bytes)) (sym e) ∙ h.2 in
-    none_some (ap (λ (b : Bool). cond b (flaw_with (opcode_of i) (slot_at bytes) (next_slot_at bytes)) (Some OutsideProfile)) s) n k
+    none_some (ap (λ (b : Bool). cond b (Some OutsideProfile) (flaw_with (opcode_of i) (slot_at bytes) (next_slot_at bytes))) s) n k
   where
     none_some : {u v : Option Flaw} → u ≡ v → v ≡ None → u ≡ Some f → ⊥
     none_some p q r = cc
 
-pub one_first_flaw : (bytes r q : List ℕ) (front back : List Insn) (f g : Flaw) → AllByRecursion FitsInsn front → AllByRecursion FitsInsn back → IsInProfile front → IsInProfile back → bytes ≡ text front ++ r → bytes ≡ text back ++ q → IsInsnFlawAt r f → IsInsnFlawAt q g → (f ≡ g) × (slot_total front ≡ slot_total back)
-one_first_flaw bytes r q [] [] f g a b c d p s h k = (one_flaw q f g (subst (λ (x : List ℕ). IsInsnFlawAt x f) (sym p ∙ s) h) k, refl)
-one_first_flaw bytes r q [] (j ∷ back) f g a b c d p s h k = absurd (spelled_has_none r (text back ++ q) j f b.0 d.0 (sym p ∙ s ∙ append_assoc (spelling j) (text back) q) h)
-one_first_flaw bytes r q (i ∷ front) [] f g a b c d p s h k = absurd (spelled_has_none q (text front ++ r) i g a.0 c.0 (sym s ∙ p ∙ append_assoc (spelling i) (text front) r) k)
-one_first_flaw bytes r q (i ∷ front) (j ∷ back) f g a b c d p s h k =
+pub one_first_flaw : (bytes r q : List ℕ) (front back : List Insn) (f g : Flaw) → AllByRecursion FitsInsn front → AllByRecursion FitsInsn back → bytes ≡ text front ++ r → bytes ≡ text back ++ q → IsInsnFlawAt r f → IsInsnFlawAt q g → (f ≡ g) × (slot_total front ≡ slot_total back)
+one_first_flaw bytes r q [] [] f g a b p s h k = (one_flaw q f g (subst (λ (x : List ℕ). IsInsnFlawAt x f) (sym p ∙ s) h) k, refl)
+one_first_flaw bytes r q [] (j ∷ back) f g a b p s h k = absurd (spelled_has_none r (text back ++ q) j f b.0 (sym p ∙ s ∙ append_assoc (spelling j) (text back) q) h)
+one_first_flaw bytes r q (i ∷ front) [] f g a b p s h k = absurd (spelled_has_none q (text front ++ r) i g a.0 (sym s ∙ p ∙ append_assoc (spelling i) (text front) r) k)
+one_first_flaw bytes r q (i ∷ front) (j ∷ back) f g a b p s h k =
     let e = one_first bytes (text front ++ r) (text back ++ q) i j a.0 b.0 (p ∙ append_assoc (spelling i) (text front) r) (s ∙ append_assoc (spelling j) (text back) q) in
-    let t = one_first_flaw (text front ++ r) r q front back f g a.1 b.1 c.1 d.1 refl e.1 h k in
+    let t = one_first_flaw (text front ++ r) r q front back f g a.1 b.1 refl e.1 h k in
     (t.0, omega (arith, total_cons i front, total_cons j back, t.1, ap slot_count e.0))
 
 fault_is : (f g : Flaw) (s t : ℕ) → f ≡ g → s ≡ t → faults.Insn f s ≡ faults.Insn g t
@@ -68,7 +67,7 @@ one_fault bytes f faults.Memory a b h k = absurd (b refl)
 one_fault bytes (faults.Insn f s) (faults.Insn g t) a b h k =
     let x = h.1 in
     let y = k.1 in
-    let e = one_first_flaw bytes x.rest y.rest x.front y.front f g x.fits y.fits x.profile y.profile x.parts y.parts x.flaw y.flaw in
+    let e = one_first_flaw bytes x.rest y.rest x.front y.front f g x.fits y.fits x.parts y.parts x.flaw y.flaw in
     fault_is f g s t e.0 (sym x.slot_is ∙ e.1 ∙ y.slot_is)
 one_fault bytes (faults.Insn f s) g a b h k = let w = h.0 in absurd cc
 one_fault bytes f (faults.Insn g t) a b h k = let w = k.0 in absurd cc
@@ -78,13 +77,13 @@ long_text : (i : Insn) (is : List Insn) (rest : List ℕ) → [] ≡ text (i ∷
 long_text i is rest e = omega (arith, slot_count_pos i, total_cons i is, length_text (i ∷ is), length-append (text (i ∷ is)) rest, ap (λ (x : List ℕ). length x) e)
 
 -- no flaw stands in a text
-text_has_none : (is front : List Insn) (rest : List ℕ) (f : Flaw) → AllByRecursion FitsInsn is → AllByRecursion FitsInsn front → IsInProfile is → text is ≡ text front ++ rest → 0 < length rest → IsInsnFlawAt rest f → ⊥
-text_has_none [] [] rest f a b c p more h = omega (arith, more, ap (λ (x : List ℕ). length x) p)
-text_has_none [] (j ∷ front) rest f a b c p more h = long_text j front rest p
-text_has_none (i ∷ is) [] rest f a b c p more h = spelled_has_none rest (text is) i f a.0 c.0 (sym p) h
-text_has_none (i ∷ is) (j ∷ front) rest f a b c p more h =
+text_has_none : (is front : List Insn) (rest : List ℕ) (f : Flaw) → AllByRecursion FitsInsn is → AllByRecursion FitsInsn front → text is ≡ text front ++ rest → 0 < length rest → IsInsnFlawAt rest f → ⊥
+text_has_none [] [] rest f a b p more h = omega (arith, more, ap (λ (x : List ℕ). length x) p)
+text_has_none [] (j ∷ front) rest f a b p more h = long_text j front rest p
+text_has_none (i ∷ is) [] rest f a b p more h = spelled_has_none rest (text is) i f a.0 (sym p) h
+text_has_none (i ∷ is) (j ∷ front) rest f a b p more h =
     let e = one_first (text (i ∷ is)) (text is) (text front ++ rest) i j a.0 b.0 refl (p ∙ append_assoc (spelling j) (text front) rest) in
-    text_has_none is front rest f a.1 b.1 c.1 e.1 more h
+    text_has_none is front rest f a.1 b.1 e.1 more h
 
 no_length_fault : (bytes : List ℕ) (n : ℕ) → length bytes ≡ 8 * n → 1 ≤ n → n ≤ MAX_SLOTS → length_fault bytes ≡ None
 no_length_fault bytes n e some limit =
@@ -93,10 +92,10 @@ no_length_fault bytes n e some limit =
     let short : length bytes ≤ 8 * MAX_SLOTS = omega arith in
     grind (arith, nat_tests)
 
-pub no_fault : (p : List Insn) → IsProgram p → IsInProfile p → (f : DecodeFault) → (f ≡ faults.Memory → ⊥) → IsDecodeFault (text p) f → ⊥
-no_fault p is profile faults.Memory m h = m refl
-no_fault p is profile (faults.Insn flaw slot) m h = let x = h.1 in text_has_none p x.front x.rest flaw is.fits x.fits profile x.parts x.more x.flaw
-no_fault p is profile f m h = let w = no_length_fault (text p) (slot_total p) (length_text p) is.some is.limit in absurd cc
+pub no_fault : (p : List Insn) → IsProgram p → (f : DecodeFault) → (f ≡ faults.Memory → ⊥) → IsDecodeFault (text p) f → ⊥
+no_fault p is faults.Memory m h = m refl
+no_fault p is (faults.Insn flaw slot) m h = let x = h.1 in text_has_none p x.front x.rest flaw is.fits x.fits x.parts x.more x.flaw
+no_fault p is f m h = let w = no_length_fault (text p) (slot_total p) (length_text p) is.some is.limit in absurd cc
 
 same_text : (p q : List Insn) → AllByRecursion FitsInsn p → AllByRecursion FitsInsn q → text p ≡ text q → p ≡ q
 same_text [] [] f g e = refl

@@ -12,10 +12,9 @@ use Rattle.bpf_model.specs.declared.opcode.Opcode.TheVariants.{Alu, Negate, Byte
 use Rattle.bpf_model.specs.declared.opcode.Size.TheVariants.{Word32, Word64}
 use Rattle.bpf_model.specs.declared.limits.TheConstants.{MAX_SLOTS}
 use Rattle.bpf_model.specs.Opcode.{opcode_byte}
-use Rattle.bpf_model.specs.Profile.{is_supported, takes_maps}
 use Rattle.std.specs.List.{AllByRecursion}
 use Rattle.bpf_model.specs.declared.insn.Insn.{Insn}
-use Rattle.bpf_model.specs.Spelling.{slot_at, next_slot_at, FitsInsn, text, slot_total, IsInProfile}
+use Rattle.bpf_model.specs.Spelling.{slot_at, next_slot_at, FitsInsn, text, slot_total}
 use Rattle.insn_codec.specs.declared.fault.DecodeFault.{DecodeFault}
 use Rattle.insn_codec.specs.declared.fault.DecodeFault.TheVariants as faults
 use Rattle.insn_codec.specs.declared.flaw.Flaw.{Flaw}
@@ -71,10 +70,11 @@ has_unused f s =
     (not f.offset && not (int_eq s.offset (pos 0))) ||
     (not f.imm && not (int_eq s.imm (pos 0)))
 
--- a source field that names no kind of call (section 4.3), or no 64-bit immediate of the profile (section 5.4)
+-- A source field that is not taken: calls are of helpers (0) and of kernel functions (2; section 4.3), and wide
+-- instructions load a number (0) or a map of the program's list (5; section 5.4).
 abbrev pub has_unsupported_source : Opcode → Slot → Bool
 has_unsupported_source Call s = not (s.src == 0 || s.src == 2)
-has_unsupported_source Wide s = not (s.src == 0 || (takes_maps && s.src == 5))
+has_unsupported_source Wide s = not (s.src == 0 || s.src == 5)
 has_unsupported_source _ s = false
 
 abbrev pub is_none_of : ℤ → List ℕ → Bool
@@ -124,9 +124,14 @@ abbrev pub IsOpcode : ℕ → Option Opcode → Type 0
 IsOpcode byte None = (o : Opcode) → opcode_byte o ≢ byte
 IsOpcode byte (Some o) = opcode_byte o ≡ byte
 
+-- the opcodes of the groups packet and atomic, which this runtime leaves out (section 2.4)
+abbrev pub is_excluded : Opcode → Bool
+is_excluded (Excluded excluded) = true
+is_excluded _ = false
+
 abbrev pub first_flaw : Option Opcode → Slot → Option Slot → Option Flaw
 first_flaw None s next = Some UnknownOpcode
-first_flaw (Some o) s next = if is_supported o then flaw_with o s next else Some OutsideProfile
+first_flaw (Some o) s next = if is_excluded o then Some OutsideProfile else flaw_with o s next
 
 -- the first flaw of the instruction that begins with this slot
 abbrev pub IsInsnFlaw : Slot → Option Slot → Flaw → Type 0
@@ -138,11 +143,10 @@ IsInsnFlawAt bytes f = IsInsnFlaw (slot_at bytes) (next_slot_at bytes) f
 
 -- The whole input.
 
--- The bytes are the texts of instructions of the profile up to this slot, and there the flaw is the first.
+-- The bytes are the texts of instructions up to this slot, and there the flaw is the first.
 pub record IsFirstInsnFlaw (bytes : List ℕ) (f : Flaw) (slot : ℕ) : Type 0 where
   pub front : List Insn
   pub fits : AllByRecursion FitsInsn front
-  pub profile : IsInProfile front
   pub slot_is : slot_total front ≡ slot
   pub rest : List ℕ
   pub parts : bytes ≡ text front ++ rest

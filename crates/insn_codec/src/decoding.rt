@@ -1,9 +1,8 @@
 //! Programs out of bytes.
-ghost use Rattle.std.specs.Prelude.{◌≡◌, ℕ, true, ◌%◌, ◌≤◌, ◌<◌, ◌⊎◌, List, ◌++◌, length, IfOk, IfErr, IsOk, Ok, Err, MatchResult};
+ghost use Rattle.std.specs.Prelude.{◌≡◌, ℕ, ◌%◌, ◌≤◌, ◌<◌, ◌⊎◌, List, ◌++◌, length, IfOk, IfErr, IsOk, Ok, Err, MatchResult};
 ghost use Rattle.std.specs.List.{AllByRecursion};
 ghost use Rattle.bpf_model.specs.declared.insn.Insn.{Insn};
-ghost use Rattle.bpf_model.specs.Spelling.{FitsInsn, spelling, text, starts_from, IsProgram, IsInProfile};
-ghost use Rattle.bpf_model.specs.Profile.{is_admitted};
+ghost use Rattle.bpf_model.specs.Spelling.{FitsInsn, spelling, text, starts_from, IsProgram};
 ghost use Rattle.insn_codec.specs.Faults.{IsInsnFlawAt, IsDecodeFault, IsInsnFault};
 ghost use Rattle.insn_codec.specs.declared.fault.DecodeFault.TheVariants.{Memory};
 
@@ -20,9 +19,7 @@ fn decode_first(bytes: &[u8]) -> Result<(Insn, &[u8]), Flaw>
     requires { 8 ≤ length bytes.now }
     ensures found { IfOk result (λ x. bytes.now ≡ spelling x.0 ++ x.1.now) }
     ensures fits { IfOk result (λ x. FitsInsn x.0) }
-    ensures admitted { IfOk result (λ x. is_admitted x.0 ≡ true) }
-    ensures only { (i : Insn) (rest : List ℕ) →
-        FitsInsn i → is_admitted i ≡ true → bytes.now ≡ spelling i ++ rest →
+    ensures only { (i : Insn) (rest : List ℕ) → FitsInsn i → bytes.now ≡ spelling i ++ rest →
         IfOk result (λ x. (x.0 ≡ i) × (x.1.now ≡ rest)) × IsOk result }
     ensures flaw { IfErr result (IsInsnFlawAt bytes.now) }
 {
@@ -35,10 +32,8 @@ fn decode_all(alloc: Global, bytes: &[u8]) -> Result<(Vec<Insn>, Vec<usize>), De
     requires whole { length bytes.now % 8 ≡ 0 }
     ensures found { IfOk result (λ x. bytes.now ≡ text x.0.items) }
     ensures fits { IfOk result (λ x. AllByRecursion FitsInsn x.0.items) }
-    ensures profile { IfOk result (λ x. IsInProfile x.0.items) }
     ensures starts { IfOk result (λ x. x.1.items ≡ starts_from 0 x.0.items) }
-    ensures only { (is : List Insn) →
-        AllByRecursion FitsInsn is → IsInProfile is → bytes.now ≡ text is →
+    ensures only { (is : List Insn) → AllByRecursion FitsInsn is → bytes.now ≡ text is →
         MatchResult result (λ x. x.0.items ≡ is) (λ e. e ≡ Memory) }
     ensures flaw { IfErr result (IsInsnFault bytes.now) }
 {
@@ -68,9 +63,8 @@ pub fn decode(alloc: Global, bytes: &[u8]) -> Result<Program, DecodeFault>
     // What is read is spelled so.
     ensures found { IfOk result (λ p. bytes.now ≡ text p) }
     ensures program { IfOk result IsProgram }
-    ensures profile { IfOk result IsInProfile }
     // What is spelled so is read, unless memory runs out.
-    ensures only { (p : List Insn) → IsProgram p → IsInProfile p → bytes.now ≡ text p →
+    ensures only { (p : List Insn) → IsProgram p → bytes.now ≡ text p →
         (result ≡ Ok p) ⊎ (result ≡ Err Memory) }
     // Which fault it is, and where.
     ensures fault { IfErr result (IsDecodeFault bytes.now) }

@@ -11,13 +11,13 @@ pub enum Flaw {
     /// The opcode byte stands for nothing.
     #[error("unknown opcode")]
     UnknownOpcode,
-    /// The instruction set has the opcode, and this runtime does not take it.
+    /// The opcode is of a packet or an atomic instruction, which this runtime leaves out.
     #[error("opcode outside the profile")]
     OutsideProfile,
     /// A register field is above 10, whether the instruction uses it or not.
     #[error("register above r10")]
     BadRegister,
-    /// The source field names a kind of call, or of 64-bit immediate, that is not taken.
+    /// The source field of a call is not 0 or 2, or that of a wide instruction not 0 or 5.
     #[error("unsupported source field")]
     UnsupportedSource,
     /// A field that the instruction does not use is not zero.

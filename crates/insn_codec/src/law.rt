@@ -2,7 +2,7 @@
 //! each other.
 ghost use Rattle.std.specs.Prelude.{◌≡◌, ◌≢◌, ℕ, List, IfOk, IfErr};
 ghost use Rattle.bpf_model.specs.declared.insn.Insn.{Insn};
-ghost use Rattle.bpf_model.specs.Spelling.{text, IsProgram, IsInProfile};
+ghost use Rattle.bpf_model.specs.Spelling.{text, IsProgram};
 ghost use Rattle.insn_codec.specs.Faults.{IsDecodeFault};
 
 use crate::decoding::decode;
@@ -24,13 +24,12 @@ pub fn encode_undoes_decode(alloc: Global, bytes: &[u8]) -> Result<Vec<u8>, Deco
     Ok(encode(alloc, &program)?)
 }
 
-/// `decode(encode(p)) = p`: a program of the profile is decoded from the bytes that it is encoded to.
+/// `decode(encode(p)) = p`: a program is decoded from the bytes that it is encoded to.
 ///
 /// # Errors
 ///
 /// `Memory` where an allocation failed.
 pub fn decode_undoes_encode(alloc: Global, program: &Program) -> Result<Program, DecodeFault>
-    requires { IsInProfile program.now }
     ensures same { IfOk result (λ again. again ≡ program.now) }
     ensures fault { IfErr result (λ fault. fault ≡ DecodeFault.Memory) }
 {
@@ -45,10 +44,10 @@ pub fn one_fault()
         IsDecodeFault bytes f → IsDecodeFault bytes g → f ≡ g }
 {}
 
-/// The text of a program of the profile has no fault.
+/// The text of a program has no fault.
 pub fn no_fault()
-    ensures { (p : List Insn) → IsProgram p → IsInProfile p →
-        (f : DecodeFault) → f ≢ DecodeFault.Memory → IsDecodeFault (text p) f → ⊥ }
+    ensures { (p : List Insn) → IsProgram p → (f : DecodeFault) →
+        f ≢ DecodeFault.Memory → IsDecodeFault (text p) f → ⊥ }
 {}
 
 /// No two programs have one text.

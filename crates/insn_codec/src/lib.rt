@@ -1,7 +1,7 @@
 //! Programs as bytes: the instruction encoding of RFC 9669, little-endian.
 //!
 //! `decode` and `encode` are inverse to each other: the bytes that a program was decoded from are its
-//! encoding (`encode_undoes_decode`), and the encoding of a program of the profile decodes to that program
+//! encoding (`encode_undoes_decode`), and the encoding of a program decodes to that program
 //! (`decode_undoes_encode`). Where the bytes are no program, `DecodeFault` tells the first thing that is
 //! wrong, and its slot.
 #![tactic(auto)]
@@ -12,7 +12,6 @@ mod fault;
 mod flaw;
 mod law;
 mod opcode;
-mod profile;
 mod program;
 mod reading;
 mod slots;

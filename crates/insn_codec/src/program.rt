@@ -64,8 +64,7 @@ impl Program {
         }
     }
 
-    /// The program of these instructions, whatever the profile of the decoder. An error says that an
-    /// allocation failed.
+    /// The program of these instructions. An error says that an allocation failed.
     pub fn from_instructions(alloc: Global, instructions: Vec<Insn>) -> Result<Program, AllocError>
         requires { IsProgram instructions.items }
         ensures { IfOk result (λ p. p ≡ instructions.items) }

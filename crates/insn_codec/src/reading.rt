@@ -4,24 +4,29 @@ ghost use Rattle.std.specs.Int.{w32, cast_signed};
 ghost use Rattle.bpf_model.specs.Spelling.{offset_of, extension_size, extension_bits, swap_bits, FitsSlot, FitsInsn, slots_of, call_source, source_of, first_slot, slot_count, code_of, opcode_of};
 ghost use Rattle.bpf_model.specs.declared.insn.Insn.{Insn};
 ghost use Rattle.bpf_model.specs.Opcode.{opcode_byte};
-ghost use Rattle.bpf_model.specs.Profile.{is_admitted, is_supported as is_supported_opcode};
 ghost use Rattle.insn_codec.specs.Begins.{BeginsWith};
-ghost use Rattle.insn_codec.specs.Faults.{IsInsnFlaw, flaw_with, has_bad_offset, tail_flaw, has_unused, used_fields, has_unsupported_source as unsupported_source};
+ghost use Rattle.insn_codec.specs.Faults.{IsInsnFlaw, flaw_with, has_bad_offset, tail_flaw, has_unused, used_fields, has_unsupported_source as unsupported_source, is_excluded as is_excluded_opcode};
 
 use crate::flaw::Flaw;
 use crate::opcode::opcode_from;
-use crate::profile::{is_supported, takes_maps};
 use bpf_model::{
     AluCode, AluOp, CallKind, Insn, Opcode, Operand, Reg, SignExtension, Size, Slot, Source,
     SwapWidth, UnaryOp,
 };
+
+/// Whether the opcode is of the groups packet and atomic.
+fn is_excluded(opcode: Opcode) -> bool
+    ensures { result ≡ is_excluded_opcode opcode }
+{
+    matches!(opcode, Opcode::Excluded(_))
+}
 
 fn has_unsupported_source(opcode: Opcode, slot: Slot) -> bool
     ensures { result ≡ unsupported_source opcode slot }
 {
     match opcode {
         Opcode::Call => slot.src != 0 && slot.src != 2,
-        Opcode::Wide => slot.src != 0 && !(takes_maps() && slot.src == 5),
+        Opcode::Wide => slot.src != 0 && slot.src != 5,
         _ => false,
     }
 }
@@ -151,7 +156,6 @@ fn alu(
     ensures found { IfOk result (λ i. first_slot i ≡ slot) }
     ensures one { IfOk result (λ i. slots_of i ≡ first_slot i ∷ []) }
     ensures fits { IfOk result FitsInsn }
-    ensures admitted { IfOk result (λ i. is_admitted i ≡ true) }
     ensures kind { IfOk result (λ i. opcode_of i ≡ Opcode.Alu code size source) }
     ensures flaw { IfErr result (λ f. f ≡ Flaw.BadOffset) }
     ensures bad { OnErr result (has_bad_offset (Opcode.Alu code size source) slot ≡ true) }
@@ -182,7 +186,6 @@ fn wide(slot: Slot, next: Option<Slot>, dst: Reg) -> Result<Insn, Flaw>
     requires used { has_unused (used_fields Opcode.Wide) slot ≡ false }
     ensures found { IfOk result (BeginsWith slot next) }
     ensures fits { IfOk result FitsInsn }
-    ensures admitted { IfOk result (λ i. is_admitted i ≡ true) }
     ensures kind { IfOk result (λ i. opcode_of i ≡ Opcode.Wide) }
     ensures flaw { IfErr result (λ f. tail_flaw Opcode.Wide slot next ≡ Some f) }
 {
@@ -207,10 +210,9 @@ fn decode_with(opcode: Opcode, slot: Slot, next: Option<Slot>) -> Result<Insn, F
     requires slot { FitsSlot slot }
     requires next { IfSome next FitsSlot }
     requires opcode { opcode_byte opcode ≡ slot.opcode }
-    requires supported { is_supported_opcode opcode ≡ true }
+    requires included { is_excluded_opcode opcode ≡ false }
     ensures found { IfOk result (BeginsWith slot next) }
     ensures fits { IfOk result FitsInsn }
-    ensures admitted { IfOk result (λ i. is_admitted i ≡ true) }
     ensures kind { IfOk result (λ i. opcode_of i ≡ opcode) }
     ensures flaw { IfErr result (λ f. flaw_with opcode slot next ≡ Some f) }
 {
@@ -285,16 +287,14 @@ pub fn decode_slot(slot: Slot, next: Option<Slot>) -> Result<Insn, Flaw>
     // What is found is spelled so.
     ensures found { IfOk result (BeginsWith slot next) }
     ensures fits { IfOk result FitsInsn }
-    ensures admitted { IfOk result (λ i. is_admitted i ≡ true) }
     // What is spelled so is found.
-    ensures only { (i : Insn) → FitsInsn i → is_admitted i ≡ true → BeginsWith slot next i →
-        result ≡ Ok i }
+    ensures only { (i : Insn) → FitsInsn i → BeginsWith slot next i → result ≡ Ok i }
     ensures flaw { IfErr result (IsInsnFlaw slot next) }
 {
     let Some(opcode) = opcode_from(slot.opcode) else {
         return Err(Flaw::UnknownOpcode);
     };
-    if !is_supported(opcode) {
+    if is_excluded(opcode) {
         return Err(Flaw::OutsideProfile);
     }
     decode_with(opcode, slot, next)

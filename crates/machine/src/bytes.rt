@@ -1,11 +1,11 @@
-//! Little-endian numbers in memory (RFC 9669, section 2.1).
+//! Little-endian numbers in memory (RFC 9669, section 5.1; that memory is little-endian is own).
 ghost use Rattle.std.specs.Prelude.{◌≡◌, ℕ, ◌+◌, ◌^◌, ◌<◌, ◌≤◌, length, slice_get, Some};
 ghost use Rattle.bpf_model.specs.Access.{byte_count, number_at};
 ghost use Rattle.machine.specs.Writes.{HasNumber};
 
 use bpf_model::Width;
 
-/// The number of so many bytes from a place on.
+/// The number of so many bytes from an offset on.
 #[inline]
 pub(crate) fn number_of(bytes: &[u8], at: usize, width: Width) -> u64
     requires { at + byte_count width ≤ length bytes.now }
@@ -68,7 +68,7 @@ fn write_eight(bytes: &mut [u8], at: usize, n: u64)
     write_four(bytes, at + 4, n / 0x1_0000_0000);
 }
 
-/// Writes the low bytes of a number from a place on.
+/// Writes the low bytes of a number from an offset on.
 #[inline]
 pub(crate) fn write_number(bytes: &mut [u8], at: usize, width: Width, n: u64)
     requires { at + byte_count width ≤ length bytes.old }

@@ -1,7 +1,7 @@
 //! Whole runs.
 ghost use Rattle.std.specs.Prelude.{◌≡◌, ◌<◌, ◌≤◌, length};
 ghost use Rattle.bpf_model.specs.declared.limits.TheConstants.{MAX_SLOTS};
-ghost use Rattle.machine.specs.Running.{Finishes};
+ghost use Rattle.machine.specs.Running.{Finishes, FinishesOnly};
 
 use crate::run::{Local, Run};
 use bpf_model::CtxBytes;
@@ -15,10 +15,12 @@ pub struct Finished {
 }
 
 /// Runs a verified program on a context to its exit. The value and the steps are those of the program's
-/// definition, and the steps are at most as many as it has instructions.
+/// definition, which has no others, whatever other actors do; and the steps are at most as many as it has
+/// instructions.
 pub fn run_to_exit(verified: &Verified, ctx: &CtxBytes) -> Finished
     requires { length ctx.now.items ≡ verified.now.ctx_len }
     ensures exits { Finishes verified.now ctx.now.items result.steps result.value }
+    ensures only { FinishesOnly verified.now ctx.now.items result.steps result.value }
     ensures bounded { result.steps ≤ length verified.now.program }
     ensures some { 0 < result.steps }
     ensures limit { result.steps ≤ MAX_SLOTS }

@@ -1,5 +1,6 @@
 //! Reading operands, and going on.
 ghost use Rattle.std.specs.Prelude.{◌≡◌, ◌<◌};
+ghost use Rattle.bpf_model.specs.declared.limits.TheConstants.{REGISTERS};
 ghost use Rattle.machine.specs.Writes.{HasRoom, IsCounted, SetsWord, Leads, operand_word, IsOperand};
 ghost use Rattle.machine.specs.declared.run.Local.TheVariants.{Moved};
 
@@ -27,7 +28,7 @@ impl Run {
         ensures set { SetsWord dst word self.old self.new }
         ensures moved { result ≡ Moved }
         ensures counted { IsCounted result self.old self.new }
-        ensures range { dst < 11 }
+        ensures range { dst < REGISTERS }
     {
         self.registers[dst.index()] = word;
         self.index += 1;

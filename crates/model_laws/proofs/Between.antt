@@ -45,11 +45,11 @@ unlinked_before_reclaimed m [] [] [] (suc j) n later w h at old new = absurd (no
 unlinked_before_reclaimed m (event ∷ events) (answer ∷ answers) (next ∷ states) (suc j) n later w h at old new = elim (linked-next m next event answer n w h.0 old) [
   | inl x ↦
       let r = unlinked_before_reclaimed next events answers states j n later (stays_consistent m next event answer w h.0) h.1 at x new in
-      let less : r.place < j = r.before in
-      record { place = suc r.place; state = r.state; since = r.since; after = omega arith; before = omega arith; there = r.there; life = r.life }
+      let less : r.index < j = r.before in
+      record { index = suc r.index; state = r.state; since = r.since; after = omega arith; before = omega arith; there = r.there; life = r.life }
   | inr x ↦
       let less : 0 < j = not-yet next states j n later (open_sections m.runs) at x new in
-      record { place = 1; state = next; since = open_sections m.runs; after = omega arith; before = omega arith; there = refl; life = x }
+      record { index = 1; state = next; since = open_sections m.runs; after = omega arith; before = omega arith; there = refl; life = x }
 ]
 unlinked_before_reclaimed m events answers states (suc j) n later w h at old new = absurd h
 
@@ -62,7 +62,7 @@ between-along m events answers states w h (suc i) zero n first later ai bj less 
 between-along m [] [] [] w h (suc i) (suc j) n first later ai bj less la lb = absurd (none-some first ai)
 between-along m (event ∷ events) (answer ∷ answers) (next ∷ states) w h (suc i) (suc j) n first later ai bj less la lb =
     let r = between-along next events answers states (stays_consistent m next event answer w h.0) h.1 i j n first later ai bj (omega arith) la lb in
-    let after : i < r.place = r.after in
-    let before : r.place < j = r.before in
-    record { place = suc r.place; state = r.state; since = r.since; after = omega arith; before = omega arith; there = r.there; life = r.life }
+    let after : i < r.index = r.after in
+    let before : r.index < j = r.before in
+    record { index = suc r.index; state = r.state; since = r.since; after = omega arith; before = omega arith; there = r.there; life = r.life }
 between-along m events answers states w h (suc i) (suc j) n first later ai bj less la lb = absurd h

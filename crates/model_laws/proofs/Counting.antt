@@ -117,7 +117,7 @@ place-any (false ∷ flags) (suc r) h = place-any flags r h
 abbrev pub shortened : List ℕ → Queues → Queues
 shortened rest q = record { next = q.next; waiting = q.waiting; ready = rest }
 
-pub record FirstPlace (qs : List Queues) (n : ℕ) : Type 0 where
+pub record FirstIndex (qs : List Queues) (n : ℕ) : Type 0 where
   pub map_at : ℕ
   pub lists : Queues
   pub rest : List ℕ
@@ -134,16 +134,16 @@ without-empty q qs e = ap (without_at q qs) e
 without-here : (q : Queues) (qs : List Queues) (n : ℕ) (rest : List ℕ) → q.ready ≡ n ∷ rest → without_first (q ∷ qs) ≡ shortened rest q ∷ qs
 without-here q qs n rest e = ap (without_at q qs) e ∙ ap (λ b. if b then q ∷ without_first qs else shortened rest q ∷ qs) (eqb-suc-zero (length rest))
 
-first-place_at : (ready : List ℕ) (q : Queues) (qs : List Queues) (n : ℕ) → q.ready ≡ ready → or_first ready (first_ready qs) ≡ Some n → (first_ready qs ≡ Some n → FirstPlace qs n) → FirstPlace (q ∷ qs) n
-first-place_at [] q qs n e h more =
+first-index_at : (ready : List ℕ) (q : Queues) (qs : List Queues) (n : ℕ) → q.ready ≡ ready → or_first ready (first_ready qs) ≡ Some n → (first_ready qs ≡ Some n → FirstIndex qs n) → FirstIndex (q ∷ qs) n
+first-index_at [] q qs n e h more =
     let p = more h in
     record { map_at = suc p.map_at; lists = p.lists; rest = p.rest; there = p.there; ready_is = p.ready_is; without = without-empty q qs e ∙ ap (λ l. q ∷ l) p.without }
-first-place_at (m ∷ ms) q qs n e h more =
+first-index_at (m ∷ ms) q qs n e h more =
     record { map_at = 0; lists = q; rest = ms; there = refl; ready_is = e ∙ ap (λ z. z ∷ ms) (same_Some m n h); without = without-here q qs m ms e }
 
-pub first-place : (qs : List Queues) (n : ℕ) → first_ready qs ≡ Some n → FirstPlace qs n
-first-place [] n h = absurd (none-some n h)
-first-place (q ∷ qs) n h = first-place_at q.ready q qs n refl h (λ g. first-place qs n g)
+pub first-index : (qs : List Queues) (n : ℕ) → first_ready qs ≡ Some n → FirstIndex qs n
+first-index [] n h = absurd (none-some n h)
+first-index (q ∷ qs) n h = first-index_at q.ready q qs n refl h (λ g. first-index qs n g)
 
 none-at : (ready : List ℕ) (later : Option ℕ) → or_first ready later ≡ None → (ready ≡ []) × (later ≡ None)
 none-at [] later h = (refl, h)
@@ -181,7 +181,7 @@ pub without-back : (qs : List Queues) (k : ℕ) (new : Queues) → slice_get (wi
 without-back qs k new h = elim (option-cases (first_ready qs)) [
   | inl none ↦ (new, ap (λ l. slice_get l k) (sym (none-without qs none)) ∙ h, shrinks-same new new refl)
   | inr some ↦
-      let p = first-place qs some.0 some.1 in
+      let p = first-index qs some.0 some.1 in
       elim (get-set_cases qs p.map_at k (shortened p.rest p.lists) new (ap (λ l. slice_get l k) (sym p.without) ∙ h)) [
         | inl x ↦ (p.lists, ap (slice_get qs) x.0 ∙ p.there, subst (Shrinks p.lists) x.1 (shrinks-shortened p.lists some.0 p.rest p.ready_is))
         | inr x ↦ (new, x.1, shrinks-same new new refl)

@@ -43,14 +43,14 @@ use Rattle.model_laws.proofs.Stores.{IsSingle, touches-found}
 use Rattle.model_laws.proofs.Scheduling.{same-element, stays_scheduled}
 
 -- two equal options have one content
-both : {A : Type 0} (o : Option A) (x y : A) → o ≡ Some x → o ≡ Some y → x ≡ y
+pub both : {A : Type 0} (o : Option A) (x y : A) → o ≡ Some x → o ≡ Some y → x ≡ y
 both o x y h g = same_Some x y (sym h ∙ g)
 
 never : {A B : Type 0} (o : Option A) (x : A) → o ≡ None → o ≡ Some x → B
 never o x h g = absurd (none-some x (sym h ∙ g))
 
 -- two that are one third
-meet : {A : Type 0} (x y z : A) → x ≡ z → y ≡ z → x ≡ y
+pub meet : {A : Type 0} (x y z : A) → x ≡ z → y ≡ z → x ≡ y
 meet x y z h g = h ∙ sym g
 
 -- lookups
@@ -155,7 +155,7 @@ helper-one (Some helpers.Delete) s opened run ret told new other single old_new 
 helper-one None s opened run ret told new other single old_new old_other h g = absurd h
 
 -- locks and unlocks
-kernel-one : (f : Option KernelFunction) (run new other : Run) → KernelStep f run new → KernelStep f run other → new ≡ other
+pub kernel-one : (f : Option KernelFunction) (run new other : Run) → KernelStep f run new → KernelStep f run other → new ≡ other
 kernel-one (Some ReadLock) run new other h g = meet _ _ _ h.1 g.1
 kernel-one (Some ReadUnlock) run new other h g = meet _ _ _ h.1 g.1
 kernel-one None run new other h g = absurd h
@@ -209,7 +209,7 @@ ends-one (Exits n) run a b new other h g = (meet _ _ _ h.1 g.1, meet _ _ _ h.2 g
 called-one : (run : Run) (v w : Value) (new other : Run) → v ≡ w → new ≡ moves run (returns v run.state) → other ≡ moves run (returns w run.state) → new ≡ other
 called-one run v w new other e h g = h ∙ (ap (λ x. moves run (returns x run.state)) e ∙ sym g)
 
-alone-one : (i : Insn) (s : map_state.Store) (run : Run) (a b : Answer) (new other : map_state.Store) (new_run other_run : Run) (out told : Outcome) (es fs : List Element) →
+pub alone-one : (i : Insn) (s : map_state.Store) (run : Run) (a b : Answer) (new other : map_state.Store) (new_run other_run : Run) (out told : Outcome) (es fs : List Element) →
     Acts i (environment run) s.elements run.state out es → Acts i (environment run) s.elements run.state told fs → new ≡ with_elements es s → other ≡ with_elements fs s → Ends out run a new_run → Ends told run b other_run → (a ≡ b) × (new ≡ other) × (new_run ≡ other_run)
 alone-one i s run a b new other new_run other_run out told es fs h g new_is other_is ends ended =
     let one = acts-one i (environment run) s.elements run.state out told es fs h g in

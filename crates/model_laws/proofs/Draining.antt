@@ -22,7 +22,7 @@ use Rattle.model_laws.specs.Scheduled.{IsScheduled, IsReapable}
 use Rattle.model_laws.proofs.Lists.{get-below, get-set_same, length-slice_set}
 use Rattle.model_laws.proofs.Advancing.{no_flag}
 use Rattle.model_laws.proofs.Stores.{LifeMoves, Stays, Unlinks, Ends, StoreMoves, is_reap, does-moves}
-use Rattle.model_laws.proofs.Counting.{newly, times-append, times-first, between-is, with_more, retired-back, map-back, any-place, place-any, first-place, none-ready, without-back}
+use Rattle.model_laws.proofs.Counting.{newly, times-append, times-first, between-is, with_more, retired-back, map-back, any-place, place-any, first-index, none-ready, without-back}
 use Rattle.model_laws.proofs.Queueing.{Queued, queued-here}
 use Rattle.model_laws.proofs.Scheduling.{plain, first-queued, starts_scheduled, stays_scheduled}
 use Rattle.model_laws.proofs.Lives.{linked≢unlinked, reclaimed≢linked, one_if}
@@ -242,7 +242,7 @@ reclaims-first s n k w d ended =
 
 pub reapable_in : (s : Schedule) (n : ℕ) → IsScheduled s → first_ready s.queues ≡ Some n → IsReapable s.machine n
 reapable_in s n w first =
-    let p = first-place s.queues n first in
+    let p = first-index s.queues n first in
     let d = first-queued s n w p in
     let has : 0 < times n p.lists.ready = let a : times n p.lists.ready ≡ 1 + times n p.rest = ap (times n) p.ready_is ∙ times-first n n p.rest refl in omega arith in
     reclaims-first s n p.map_at w d ((w.waits p.map_at p.lists p.there).ended n d.element d.since has d.born d.life)

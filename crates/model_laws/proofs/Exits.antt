@@ -1,5 +1,5 @@
--- A program without map references has one exit at most on a context.
-use Rattle.std.proofs.Common.{◌≡◌, ℕ, suc, List, [], Option, Some, None, ◌⊎◌, inl, inr, refl, sym, ap, ◌∙◌, subst, length, ◌<◌, arith}
+-- A run has one exit at most where its steps need no others, and without map references they never do.
+use Rattle.std.proofs.Common.{◌≡◌, ℕ, suc, List, [], Option, Some, None, refl, sym, ap, ◌∙◌, subst, length, ◌<◌, arith}
 use Rattle.std.proofs.lemmas.Option.{none-some, slice_get_within}
 use Rattle.bpf_model.specs.declared.insn.Insn.{Insn}
 use Rattle.bpf_model.specs.declared.insn.Insn.TheVariants.{Call}
@@ -13,14 +13,14 @@ use Rattle.bpf_model.specs.declared.event.Answer.TheVariants.{Moved, Exited}
 use Rattle.bpf_model.specs.declared.value.Value.{Value}
 use Rattle.bpf_model.specs.Step.{Outcome, Moves, Exits}
 use Rattle.bpf_model.specs.Call.{helper_of, kernel_function_of}
-use Rattle.bpf_model.specs.Exit.{ExitsFrom, exits_now, exits_later, ExitsWith, HasNoMaps}
+use Rattle.bpf_model.specs.Exit.{ExitsFrom, exits_now, exits_later, ExitsWith, MayExitFrom, may_exit_now, may_exit_later, MayExitWith, HasNoMaps}
 use Rattle.bpf_model.specs.Section.{Section}
 use Rattle.bpf_model.specs.MapState.{Store}
 use Rattle.bpf_model.specs.Machine.{Loaded, Run, fresh_run}
 use Rattle.bpf_model.specs.MachineStep.{Ends, KernelStep, HelperStep, InsnStep, RunStep}
 use Rattle.bpf_model.specs.Schedule.{TakesOldest}
 use Rattle.model_laws.specs.Alone.{SharesNothing}
-use Rattle.model_laws.proofs.Deciding.{run-one}
+use Rattle.model_laws.proofs.Deciding.{both, meet, kernel-one, alone-one, run-one}
 use Rattle.model_laws.proofs.Alone.{others_change_nothing, starts_sharing_nothing, stays_sharing_nothing}
 
 -- one step: where no element is, every lookup and every birth has one answer
@@ -69,24 +69,34 @@ module _ (name : ℕ) (s : Store) (opened : List Section) (run : Run) where
   run-renamed : (answer : Answer) (new_store : Store) (new : Run) → RunStep s opened run answer new_store new → RunStep s opened (renamed name run) answer new_store (renamed name new)
   run-renamed answer new_store new h = (h.0, h.1, insn-renamed h.0 answer new_store new h.2)
 
-exits-renamed : (name : ℕ) (run : Run) (steps n : ℕ) → ExitsFrom run steps n → ExitsFrom (renamed name run) steps n
-exits-renamed name run steps n (exits_now store new_store opened _ new _ h) = exits_now store new_store opened (renamed name run) (renamed name new) n (run-renamed name store opened run (Exited n) new_store new h)
-exits-renamed name run steps n (exits_later store new_store opened _ next rest _ h x) =
-    exits_later store new_store opened (renamed name run) (renamed name next) rest n (run-renamed name store opened run Moved new_store next h) (exits-renamed name next rest n x)
+may_exit-renamed : (name : ℕ) (run : Run) (steps n : ℕ) → MayExitFrom run steps n → MayExitFrom (renamed name run) steps n
+may_exit-renamed name run steps n (may_exit_now store new_store opened _ new _ h) = may_exit_now store new_store opened (renamed name run) (renamed name new) n (run-renamed name store opened run (Exited n) new_store new h)
+may_exit-renamed name run steps n (may_exit_later store new_store opened _ next rest _ h x) =
+    may_exit_later store new_store opened (renamed name run) (renamed name next) rest n (run-renamed name store opened run Moved new_store next h) (may_exit-renamed name next rest n x)
 
--- a run has one exit at most
-pub record FirstStep (run : Run) (answer : Answer) (new : Run) : Type 0 where
-  pub store : Store
-  pub new_store : Store
-  pub opened : List Section
-  pub step : RunStep store opened run answer new_store new
+-- A step that a run makes whatever the maps are is its only one. It is no helper's, which without maps has none.
+abbrev Anywhere : Run → Answer → Run → Type 0
+Anywhere run answer new = (store : Store) (opened : List Section) → RunStep store opened run answer store new
 
-exit-cases : (run : Run) (t k : ℕ) → ExitsFrom run t k → ((new : Run) × FirstStep run (Exited k) new × (t ≡ 1)) ⊎ ((next : Run) × (rest : ℕ) × FirstStep run Moved next × ExitsFrom next rest k × (t ≡ suc rest))
-exit-cases run t k (exits_now store new_store opened _ new _ h) = inl (new, record { store = store; new_store = new_store; opened = opened; step = h }, refl)
-exit-cases run t k (exits_later store new_store opened _ next rest _ h x) = inr (next, rest, record { store = store; new_store = new_store; opened = opened; step = h }, x, refl)
+no_helper : (f : Option Helper) (opened : List Section) (run : Run) (ret : Value) (new : Store) → HelperStep f no_maps opened run ret new → ⊥
+no_helper (Some helpers.Lookup) opened run ret new h = none-some h.0.key h.0.key_is
+no_helper (Some helpers.Update) opened run ret new h = none-some h.key h.key_is
+no_helper (Some helpers.Delete) opened run ret new h = none-some h.key h.key_is
+no_helper None opened run ret new h = h
 
-first-one : (run new next : Run) (a b : Answer) → SharesNothing run → FirstStep run a new → FirstStep run b next → (a ≡ b) × (new ≡ next)
-first-one run new next a b p h g = one_step_alone h.store h.new_store g.store g.new_store h.opened g.opened run new next a b p h.step g.step
+module _ (s other : Store) (opened : List Section) (run new next : Run) (a b : Answer) where
+  insn-only : (i : Insn) → InsnStep i no_maps [] run a no_maps new → InsnStep i s opened run a s new → InsnStep i s opened run b other next → (a ≡ b) × (new ≡ next)
+  insn-only (Call kinds.Kernel imm) p h g = (meet _ _ _ h.1 g.1, kernel-one (kernel_function_of imm) run new next h.0 g.0)
+  insn-only (Call kinds.Helper imm) p h g = absurd (no_helper (helper_of imm) [] run p.0 no_maps p.1)
+  insn-only i p h g = let one = alone-one i s run a b s other new next h.0 g.0 h.1 g.1 h.2 g.2 h.3 g.3 h.4 g.4 in (one.0, one.2)
+
+  only-step : Anywhere run a new → RunStep s opened run b other next → (a ≡ b) × (new ≡ next)
+  only-step p g =
+      let x = p no_maps [] in
+      let y = p s opened in
+      let first : x.0 ≡ g.0 = both _ x.0 g.0 x.1 g.1 in
+      let second : y.0 ≡ g.0 = both _ y.0 g.0 y.1 g.1 in
+      insn-only g.0 (subst (λ i. InsnStep i no_maps [] run a no_maps new) first x.2) (subst (λ i. InsnStep i s opened run a s new) second y.2) g.2
 
 same-exit : (n k : ℕ) → Exited n ≡ Exited k → n ≡ k
 same-exit n k h = cc
@@ -94,23 +104,34 @@ same-exit n k h = cc
 moved≢exited : (n : ℕ) → Moved ≡ Exited n → ⊥
 moved≢exited n h = absurd (cc)
 
-exit-one : (run : Run) (s t n k : ℕ) → SharesNothing run → ExitsFrom run s n → ExitsFrom run t k → (s ≡ t) × (n ≡ k)
-exit-one run s t n k p (exits_now store new_store opened _ new _ h) y =
-    let first : FirstStep run (Exited n) new = record { store = store; new_store = new_store; opened = opened; step = h } in
-    elim (exit-cases run t k y) [
-      | inl b ↦ (sym b.2, same-exit n k (first-one run new b.0 (Exited n) (Exited k) p first b.1).0)
-      | inr b ↦ absurd (moved≢exited n (first-one run b.0 new Moved (Exited n) p b.2 first).0)
-    ]
-exit-one run s t n k p (exits_later store new_store opened _ next rest _ h x) y =
-    let first : FirstStep run Moved next = record { store = store; new_store = new_store; opened = opened; step = h } in
-    elim (exit-cases run t k y) [
-      | inl b ↦ absurd (moved≢exited k (first-one run next b.0 Moved (Exited k) p first b.1).0)
-      | inr b ↦
-          let same = (first-one run next b.0 Moved Moved p first b.2).1 in
-          let one = exit-one next rest b.1 n k (stays_sharing_nothing store new_store opened run next Moved p h) x (subst (λ z. ExitsFrom z b.1 k) (sym same) b.3) in
-          (ap suc one.0 ∙ sym b.4, one.1)
-    ]
+now-one : (run new : Run) (t n k : ℕ) → Anywhere run (Exited n) new → MayExitFrom run t k → (1 ≡ t) × (n ≡ k)
+now-one run new t n k p (may_exit_now store new_store opened _ next _ g) = (refl, same-exit n k (only-step store new_store opened run new next (Exited n) (Exited k) p g).0)
+now-one run new t n k p (may_exit_later store new_store opened _ next rest _ g y) = absurd (moved≢exited n (sym (only-step store new_store opened run new next (Exited n) Moved p g).0))
 
-pub one_exit : (program : Loaded) (context : List ℕ) (s t n k : ℕ) → HasNoMaps program.code → ExitsWith program context s n → ExitsWith program context t k → (s ≡ t) × (n ≡ k)
-one_exit program context s t n k none x y =
-    exit-one (fresh_run x.0 program context) s t n k (starts_sharing_nothing x.0 program context none) x.1 (exits-renamed x.0 (fresh_run y.0 program context) t k y.1)
+abbrev HasRest : Run → ℕ → ℕ → Type 0
+HasRest next t k = (rest : ℕ) × (suc rest ≡ t) × MayExitFrom next rest k
+
+later-rest : (run next : Run) (t k : ℕ) → Anywhere run Moved next → MayExitFrom run t k → HasRest next t k
+later-rest run next t k p (may_exit_now store new_store opened _ new _ g) = absurd (moved≢exited k (only-step store new_store opened run next new Moved (Exited k) p g).0)
+later-rest run next t k p (may_exit_later store new_store opened _ other rest _ g y) =
+    let same : next ≡ other = (only-step store new_store opened run next other Moved Moved p g).1 in
+    (rest, refl, subst (λ z. MayExitFrom z rest k) (sym same) y)
+
+exit-one : (run : Run) (s t n k : ℕ) → ExitsFrom run s n → MayExitFrom run t k → (s ≡ t) × (n ≡ k)
+exit-one run s t n k (exits_now _ new _ h) y = now-one run new t n k h y
+exit-one run s t n k (exits_later _ next rest _ h x) y =
+    let r = later-rest run next t k h y in
+    let one = exit-one next rest r.0 n k x r.2 in
+    (ap suc one.0 ∙ r.1, one.1)
+
+pub one_exit : (program : Loaded) (context : List ℕ) (s t n k : ℕ) → ExitsWith program context s n → MayExitWith program context t k → (s ≡ t) × (n ≡ k)
+one_exit program context s t n k x y = exit-one (fresh_run x.0 program context) s t n k x.1 (may_exit-renamed x.0 (fresh_run y.0 program context) t k y.1)
+
+-- a run that shares nothing makes each of its steps whatever the maps are
+exits-alone : (run : Run) (s n : ℕ) → SharesNothing run → MayExitFrom run s n → ExitsFrom run s n
+exits-alone run s n p (may_exit_now store new_store opened _ new _ h) = exits_now run new n ((others_change_nothing store new_store opened run new (Exited n) p h).1)
+exits-alone run s n p (may_exit_later store new_store opened _ next rest _ h x) =
+    exits_later run next rest n ((others_change_nothing store new_store opened run next Moved p h).1) (exits-alone next rest n (stays_sharing_nothing store new_store opened run next Moved p h) x)
+
+pub exits_alone : (program : Loaded) (context : List ℕ) (s n : ℕ) → HasNoMaps program.code → MayExitWith program context s n → ExitsWith program context s n
+exits_alone program context s n none x = (x.0, exits-alone (fresh_run x.0 program context) s n (starts_sharing_nothing x.0 program context none) x.1)

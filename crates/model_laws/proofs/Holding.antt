@@ -19,7 +19,7 @@ use Rattle.bpf_model.specs.declared.value.Cell.{Cell}
 use Rattle.bpf_model.specs.declared.value.Cell.TheVariants.{Unwritten, Byte, Part}
 use Rattle.bpf_model.specs.Arithmetic.{alu, signed, unary, loaded_signed}
 use Rattle.bpf_model.specs.Value.{◌>>=◌, held, number, reference}
-use Rattle.bpf_model.specs.Access.{byte_count, unsigned_width, place_of, number_at}
+use Rattle.bpf_model.specs.Access.{byte_count, unsigned_width, region_offset, number_at}
 use Rattle.bpf_model.specs.Frame.{byte_of, are_parts, found, read, is_within, with_number, with_reference}
 use Rattle.bpf_model.specs.Operand.{operand_value, unary_source, moved, of_numbers, sum_of, difference_of, computed, decided}
 use Rattle.bpf_model.specs.Step.{State, Environment, Outcome, Moves, Exits, entry, forward, sets, jumps_to, jumps_by, loaded, load_from, frame_after, stored, store_to, map_value, after}
@@ -136,10 +136,10 @@ module _ (P : Reference → Type 0) (c : Closed P) where
 
   holds-loaded : (env : Environment) (m : State) (width : ℕ) (offset : ℤ) (r : Reference) (v : Value) → HoldsState P m → loaded env m width offset r ≡ Some v → HoldsValue P v
   holds-loaded env m width offset (Ctx o) v p h =
-      let s = first-step (place_of (length env.context) width (o +ℤ offset)) (λ at. number_at (slice_get env.context) at width >>= λ n. Some (Number n)) v h in
+      let s = first-step (region_offset (length env.context) width (o +ℤ offset)) (λ at. number_at (slice_get env.context) at width >>= λ n. Some (Number n)) v h in
       one-number (number_at (slice_get env.context) s.0 width) (λ n. n) v s.2
   holds-loaded env m width offset (Frame o) v p h =
-      let s = first-step (place_of 512 width (o +ℤ offset)) (λ at. read m.frame at width) v h in
+      let s = first-step (region_offset 512 width (o +ℤ offset)) (λ at. read m.frame at width) v h in
       holds-found m.frame s.0 width (m.frame s.0) v (p.1 s.0) s.2
   holds-loaded env m width offset (MapRef n) v p h = absurd (none-some v h)
   holds-loaded env m width offset (Elem n o) v p h = absurd (none-some v h)
@@ -160,7 +160,7 @@ module _ (P : Reference → Type 0) (c : Closed P) where
   holds-stored : (m : State) (width : ℕ) (offset : ℤ) (v : Value) (r : Reference) (out : Outcome) → HoldsState P m → HoldsValue P v → stored m width offset v r ≡ Some out → HoldsOutcome P out
   holds-stored m width offset v (Frame o) out p q h =
       let goes : (ℕ → Cell) → Option Outcome = λ frame. Some (Moves (record { regs = m.regs; frame = frame; place = m.place + 1 })) in
-      let s = first-step (place_of 512 width (o +ℤ offset)) (λ at. frame_after at width v m.frame >>= goes) out h in
+      let s = first-step (region_offset 512 width (o +ℤ offset)) (λ at. frame_after at width v m.frame >>= goes) out h in
       let t = first-step (frame_after s.0 width v m.frame) goes out s.2 in
       some-outcome (Moves (record { regs = m.regs; frame = t.0; place = m.place + 1 })) out t.2 (p.0, holds-frame s.0 width v m.frame t.0 q p.1 t.1)
   holds-stored m width offset v (Ctx o) out p q h = absurd (none-some out h)

@@ -26,7 +26,7 @@ use Rattle.model_laws.proofs.Sections.{OpenAt, open_at}
 use Rattle.model_laws.proofs.Moves.{RunsMove, does-move}
 use Rattle.model_laws.proofs.Stores.{StoreMoves, is_reap, does-moves}
 use Rattle.model_laws.proofs.Keeping.{starts_consistent, stays_consistent}
-use Rattle.model_laws.proofs.Counting.{times-append, times-first, times-other, between-is, with_more, retired-back, length-retired, map-back, still-forth, still-back, place-any, shortened, FirstPlace, first-place, none-without, without-back, length-without}
+use Rattle.model_laws.proofs.Counting.{times-append, times-first, times-other, between-is, with_more, retired-back, length-retired, map-back, still-forth, still-back, place-any, shortened, FirstIndex, first-index, none-without, without-back, length-without}
 use Rattle.model_laws.proofs.Queueing.{Queued, queued-of, queued-most, queued-reclaimed, queued-elsewhere, open-flag, keeps-waits, count-step}
 use Rattle.model_laws.proofs.Lives.{reclaimed≢unlinked}
 
@@ -129,7 +129,7 @@ keeps-none s m w e none =
     subst P (sym (none-without s.queues none)) (subst Q (sym e) w)
 
 -- a reap that takes an element
-pub first-queued : (s : Schedule) (n : ℕ) → IsScheduled s → (p : FirstPlace s.queues n) → Queued s.machine.store.elements p.map_at n
+pub first-queued : (s : Schedule) (n : ℕ) → IsScheduled s → (p : FirstIndex s.queues n) → Queued s.machine.store.elements p.map_at n
 first-queued s n w p = queued-of s p.map_at n p.lists w p.there (let a : times n p.lists.ready ≡ 1 + times n p.rest = ap (times n) p.ready_is ∙ times-first n n p.rest refl in omega arith)
 
 -- only the element that is reclaimed changes
@@ -145,7 +145,7 @@ same-element es new k n a e q is life = elim (cases_eq n a) [
 others-stay : (es new : List Element) (n a : ℕ) (e : Element) → n ≡ a → new ≡ slice_set es a (with_life Reclaimed e) → (x : ℕ) → x ≢ n → slice_get new x ≡ slice_get es x
 others-stay es new n a e same is x ne = ap (λ l. slice_get l x) is ∙ get-set_other es a x (with_life Reclaimed e) (λ h. ne (h ∙ sym same))
 
-module _ (s : Schedule) (m : Machine) (n : ℕ) (w : IsScheduled s) (p : FirstPlace s.queues n) (life : HasLife m.store.elements n Reclaimed) (others : (x : ℕ) → x ≢ n → slice_get m.store.elements x ≡ slice_get s.machine.store.elements x) where
+module _ (s : Schedule) (m : Machine) (n : ℕ) (w : IsScheduled s) (p : FirstIndex s.queues n) (life : HasLife m.store.elements n Reclaimed) (others : (x : ℕ) → x ≢ n → slice_get m.store.elements x ≡ slice_get s.machine.store.elements x) where
   ready-times : (x : ℕ) → x ≢ n → times x p.rest ≡ times x p.lists.ready
   ready-times x ne = sym (ap (times x) p.ready_is ∙ times-other x n p.rest (λ e. ne (sym e)))
 
@@ -194,7 +194,7 @@ module _ (s : Schedule) (m : Machine) (n : ℕ) (w : IsScheduled s) (p : FirstPl
 keeps-taken : (s : Schedule) (m : Machine) (n a : ℕ) (e : Element) (given : Given) (store : Store) → IsScheduled s → IsConsistent m → RunsMove s.machine m → StoreMoves true (open_sections s.machine.runs) s.machine.store m.store →
     Reclaims s.machine.store (open_sections s.machine.runs) a e given store → m ≡ with_store s.machine store → first_ready s.queues ≡ Some n → HasLife m.store.elements n Reclaimed → IsScheduled (reaped s m)
 keeps-taken s m n a e given store w consistent runs mv r is first life =
-    let p = first-place s.queues n first in
+    let p = first-index s.queues n first in
     let es : m.store.elements ≡ slice_set s.machine.store.elements a (with_life Reclaimed e) = ap (λ z. z.store.elements) is ∙ ap (λ z. z.elements) r.new_is in
     let same : n ≡ a = same-element s.machine.store.elements m.store.elements p.map_at n a e (first-queued s n w p) es life in
     keeps-reaped s m n w p life (others-stay s.machine.store.elements m.store.elements n a e same es) consistent runs mv (ap (λ z. z.runs) is)

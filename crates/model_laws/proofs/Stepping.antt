@@ -16,7 +16,7 @@ use Rattle.bpf_model.specs.declared.value.Value.{Value}
 use Rattle.bpf_model.specs.declared.value.Value.TheVariants.{Nothing, Number, Pointer}
 use Rattle.bpf_model.specs.declared.value.Reference.TheVariants.{Ctx, Frame, MapRef, Elem}
 use Rattle.bpf_model.specs.Operand.{operand_value}
-use Rattle.bpf_model.specs.Access.{byte_count, place_of}
+use Rattle.bpf_model.specs.Access.{byte_count, region_offset}
 use Rattle.bpf_model.specs.Call.{helper_of}
 use Rattle.bpf_model.specs.Step.{State, Environment, Outcome}
 use Rattle.bpf_model.specs.Section.{Section}
@@ -36,7 +36,7 @@ use Rattle.model_laws.proofs.Growing.{grows-same, grows-along, grows-append, gro
 -- a store to an element
 grows-stored : (es new : List Element) (n width : ℕ) (offset : ℤ) (v : ℕ) (e : Element) → stored_in es n width offset v e ≡ Some new → Grows es new
 grows-stored es new n width offset v e h =
-    let s = first-step (place_of (length e.value) width offset) (λ at. Some (changed (with_value (with_bytes at width v e.value)) es n)) new h in
+    let s = first-step (region_offset (length e.value) width offset) (λ at. Some (changed (with_value (with_bytes at width v e.value)) es n)) new h in
     let same : changed (with_value (with_bytes s.0 width v e.value)) es n ≡ new = cc in
     subst (Grows es) same (grows-changed (with_value (with_bytes s.0 width v e.value)) es n (λ x g. follows-value (with_bytes s.0 width v e.value) x))
 

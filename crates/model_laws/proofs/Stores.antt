@@ -24,7 +24,7 @@ use Rattle.bpf_model.specs.declared.value.Reference.TheVariants.{Ctx, Frame, Map
 use Rattle.bpf_model.specs.declared.value.Cell.{Cell}
 use Rattle.bpf_model.specs.Operand.{operand_value}
 use Rattle.bpf_model.specs.Value.{◌>>=◌}
-use Rattle.bpf_model.specs.Access.{byte_count, place_of}
+use Rattle.bpf_model.specs.Access.{byte_count, region_offset}
 use Rattle.bpf_model.specs.Frame.{byte_of}
 use Rattle.bpf_model.specs.Call.{helper_of}
 use Rattle.bpf_model.specs.Step.{State, Environment, Outcome}
@@ -144,7 +144,7 @@ accessible-born es n (Some x) e at h = at ∙ ap Some (unless-same x e h)
 
 pub touches-stored : (opened : List Section) (es new : List Element) (n width : ℕ) (offset : ℤ) (v : ℕ) (e : Element) → slice_get es n ≡ Some e → stored_in es n width offset v e ≡ Some new → Touches false opened es new
 touches-stored opened es new n width offset v e at h =
-    let s = first-step (place_of (length e.value) width offset) (λ at. Some (changed (with_value (with_bytes at width v e.value)) es n)) new h in
+    let s = first-step (region_offset (length e.value) width offset) (λ at. Some (changed (with_value (with_bytes at width v e.value)) es n)) new h in
     let same : changed (with_value (with_bytes s.0 width v e.value)) es n ≡ new = same_Some _ _ s.2 in
     subst (Touches false opened es) same (touches-changed false opened (with_value (with_bytes s.0 width v e.value)) es n e at (record { in_map = refl; under = refl; uses = refl; size = length-bytes s.0 width v e.value; life = Stays refl }))
 

@@ -1,4 +1,4 @@
--- The words of near places differ.
+-- The words of near locations differ.
 use Rattle.std.proofs.Common.{◌≡◌, ℕ, suc, ◌+◌, ◌-◌, ◌*◌, ◌^◌, ◌<◌, ◌≤◌, List, cond, ℤ, pos, negsuc, ◌+ℤ◌, ◌↔◌, refl, sym, ap, ◌∙◌, arith, le-ltb}
 use Rattle.std.proofs.lemmas.Int.{ints}
 use Rattle.bpf_model.specs.declared.value.Reference.{Reference}
@@ -7,7 +7,7 @@ use Rattle.bpf_model.specs.Element.{Element}
 use Rattle.bpf_model.specs.declared.limits.TheConstants.{MAX_MAPS, MAX_ENTRIES, MAX_SPARE}
 use Rattle.bpf_model.specs.Near.{IsNearOffset}
 use Rattle.bpf_model.specs.Word.{ctx_base, frame_base, map_base, slot_base, IsReferenceWord, element_bases}
-use Rattle.model_laws.specs.Near.{Place, InContext, InFrame, AtMap, InSlot, IsNearPlace, place_word, named_place}
+use Rattle.model_laws.specs.Near.{Location, InContext, InFrame, AtMap, InSlot, IsNearLocation, location_word, named_location}
 
 near-pos : (n : ℕ) → IsNearOffset (pos n) → n ≤ 2 ^ 29
 near-pos n h = omega (arith, ints)
@@ -46,37 +46,37 @@ word-at base (negsuc n) h room =
       counted = omega arith;
     }
 
-abbrev base_of : Place → ℕ
+abbrev base_of : Location → ℕ
 base_of (InContext o) = ctx_base
 base_of (InFrame o) = frame_base
 base_of (AtMap m) = map_base
 base_of (InSlot m slot o) = slot_base m slot
 
-abbrev shift_of : Place → ℕ
+abbrev shift_of : Location → ℕ
 shift_of (InContext o) = shift o
 shift_of (InFrame o) = shift o
 shift_of (AtMap m) = 2 ^ 29 + m
 shift_of (InSlot m slot o) = shift o
 
-pub record HasWord (p : Place) : Type 0 where
+pub record HasWord (p : Location) : Type 0 where
   pub word : ℕ
-  pub is : place_word p ≡ pos word
+  pub is : location_word p ≡ pos word
   pub counted : word + 2 ^ 29 ≡ base_of p + shift_of p
 
-has-word : (p : Place) → IsNearPlace p → HasWord p
+has-word : (p : Location) → IsNearLocation p → HasWord p
 has-word (InContext o) h = let w = word-at ctx_base o h (omega arith) in record { word = w.word; is = w.is; counted = w.counted }
 has-word (InFrame o) h = let w = word-at frame_base o h (omega arith) in record { word = w.word; is = w.is; counted = w.counted }
 has-word (AtMap m) h = record { word = map_base + m; is = refl; counted = omega arith }
 has-word (InSlot m slot o) h = let w = word-at (slot_base m slot) o h.2 (omega arith) in record { word = w.word; is = w.is; counted = w.counted }
 
-near-bounds : (p : Place) → IsNearPlace p → (2 ^ 40 ≤ base_of p) × (base_of p + shift_of p < 2 ^ 50)
+near-bounds : (p : Location) → IsNearLocation p → (2 ^ 40 ≤ base_of p) × (base_of p + shift_of p < 2 ^ 50)
 near-bounds (InContext o) h = let s : shift o ≤ 2 ^ 30 = shift-most o h in (omega arith, omega arith)
 near-bounds (InFrame o) h = let s : shift o ≤ 2 ^ 30 = shift-most o h in (omega arith, omega arith)
 near-bounds (AtMap m) h = (omega arith, omega arith)
 near-bounds (InSlot m slot o) h = let s : shift o ≤ 2 ^ 30 = shift-most o h.2 in let a : m < MAX_MAPS = h.0 in let b : slot < MAX_ENTRIES + MAX_SPARE = h.1 in (omega arith, omega arith)
 
--- each near place has a word, which is not 0
-pub near_words_fit : (p : Place) → IsNearPlace p → (w : ℕ) × (place_word p ≡ pos w) × (0 < w) × (w < 2 ^ 64)
+-- each near location has a word, which is not 0
+pub near_words_fit : (p : Location) → IsNearLocation p → (w : ℕ) × (location_word p ≡ pos w) × (0 < w) × (w < 2 ^ 64)
 near_words_fit p h =
     let w = has-word p h in
     let b = near-bounds p h in
@@ -88,7 +88,7 @@ near_words_fit p h =
 same-pos : (a b : ℕ) → pos a ≡ pos b → a ≡ b
 same-pos a b h = cc
 
-same-count : (p q : Place) → HasWord p → HasWord q → place_word p ≡ place_word q → base_of p + shift_of p ≡ base_of q + shift_of q
+same-count : (p q : Location) → HasWord p → HasWord q → location_word p ≡ location_word q → base_of p + shift_of p ≡ base_of q + shift_of q
 same-count p q v w e = let s : v.word ≡ w.word = same-pos v.word w.word (sym v.is ∙ (e ∙ w.is)) in sym v.counted ∙ (ap (λ x. x + 2 ^ 29) s ∙ w.counted)
 
 same-slot : (m n a b s t : ℕ) → a < 8192 → b < 8192 → s ≤ 2 ^ 30 → t ≤ 2 ^ 30 → slot_base m a + s ≡ slot_base n b + t → (m ≡ n) × (a ≡ b) × (s ≡ t)
@@ -102,7 +102,7 @@ slots-agree m n a b o p h g e =
     let third : o ≡ p = shift-same o p h g e.2 in
     ap (λ x. InSlot x a o) e.0 ∙ (ap (λ x. InSlot n x o) e.1 ∙ ap (InSlot n b) third)
 
-differ : (p q : Place) → IsNearPlace p → IsNearPlace q → base_of p + shift_of p ≡ base_of q + shift_of q → p ≡ q
+differ : (p q : Location) → IsNearLocation p → IsNearLocation q → base_of p + shift_of p ≡ base_of q + shift_of q → p ≡ q
 differ (InContext o) (InContext p) h g e = let s : shift o ≡ shift p = omega arith in ap InContext (shift-same o p h g s)
 differ (InFrame o) (InFrame p) h g e = let s : shift o ≡ shift p = omega arith in ap InFrame (shift-same o p h g s)
 differ (AtMap m) (AtMap n) h g e = let s : m ≡ n = omega arith in ap AtMap s
@@ -120,12 +120,12 @@ differ (InSlot m a o) (InContext p) h g e = let s : shift p ≤ 2 ^ 30 = shift-m
 differ (InSlot m a o) (InFrame p) h g e = let s : shift p ≤ 2 ^ 30 = shift-most p g in absurd (omega arith)
 differ (InSlot m a o) (AtMap n) h g e = absurd (omega arith)
 
-pub near_words_differ : (p q : Place) → IsNearPlace p → IsNearPlace q → place_word p ≡ place_word q → p ≡ q
+pub near_words_differ : (p q : Location) → IsNearLocation p → IsNearLocation q → location_word p ≡ location_word q → p ≡ q
 near_words_differ p q h g e = differ p q h g (same-count p q (has-word p h) (has-word q g) e)
 
 -- the words of references
-pub words_of_places : (slots : List ℕ) (es : List Element) (r : Reference) (w : ℕ) → IsReferenceWord (element_bases slots es) r w ↔ (pos w ≡ place_word (named_place slots es r))
-words_of_places slots es (Ctx o) w = (λ h. h, λ h. h)
-words_of_places slots es (Frame o) w = (λ h. h, λ h. h)
-words_of_places slots es (MapRef m) w = (λ h. h, λ h. h)
-words_of_places slots es (Elem n o) w = (λ h. h, λ h. h)
+pub words_of_locations : (slots : List ℕ) (es : List Element) (r : Reference) (w : ℕ) → IsReferenceWord (element_bases slots es) r w ↔ (pos w ≡ location_word (named_location slots es r))
+words_of_locations slots es (Ctx o) w = (λ h. h, λ h. h)
+words_of_locations slots es (Frame o) w = (λ h. h, λ h. h)
+words_of_locations slots es (MapRef m) w = (λ h. h, λ h. h)
+words_of_locations slots es (Elem n o) w = (λ h. h, λ h. h)

@@ -9,10 +9,12 @@ module _ {World : Type 0} where
   -- Each answer is a step with the runtime's choices, from the world after the answer before it; the first world is old and the last is new.
   abbrev pub AreSteps : (World → Schedule → Type 0) → World → List Event → List Answer → World → Type 0
   AreSteps Tracks old [] [] new = new ≡ old
-  AreSteps Tracks old (event ∷ events) (answer ∷ answers) new = (next : World) × AnswersAsScheduled Tracks old event answer next × AreSteps Tracks next events answers new
+  AreSteps Tracks old (event ∷ events) (answer ∷ answers) new = (next : World)
+      × AnswersAsScheduled Tracks old event answer next × AreSteps Tracks next events answers new
   AreSteps Tracks old events answers new = ⊥
 
   -- The answers are those of a run with the runtime's choices, and the last world tracks its last state.
   abbrev pub AnswersAsHistory : (World → Schedule → Type 0) → World → List Event → List Answer → World → Type 0
   AnswersAsHistory Tracks old events answers new =
-      (s : Schedule) → Tracks old s → (states : List Schedule) × IsScheduledHistory s events answers states × Tracks new (last_scheduled s states)
+      (s : Schedule) → Tracks old s → (states : List Schedule) × IsScheduledHistory s events answers states
+      × Tracks new (last_scheduled s states)

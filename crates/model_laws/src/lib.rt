@@ -30,7 +30,7 @@ ghost use Rattle.bpf_model.specs.declared.value.Reference.{Reference};
 ghost use Rattle.bpf_model.specs.View.{WorldView, start_view, shapes_of};
 ghost use Rattle.bpf_model.specs.Refines.{IsReached, TracksSchedule, Tracks};
 ghost use Rattle.bpf_model.specs.Word.{IsReferenceWord, element_bases};
-ghost use Rattle.bpf_model.specs.Exit.{ExitsWith, HasNoMaps};
+ghost use Rattle.bpf_model.specs.Exit.{ExitsWith, MayExitWith, HasNoMaps};
 ghost use Rattle.bpf_model.specs.Machine.{Run, fresh_run};
 ghost use Rattle.bpf_model.specs.MachineStep.{InsnStep, RunStep};
 ghost use Rattle.bpf_model.specs.Step.{State, Environment, after};
@@ -44,7 +44,7 @@ ghost use Rattle.model_laws.specs.Scheduled.{IsScheduled, IsReapable};
 ghost use Rattle.model_laws.specs.Steps.{AreSteps, AnswersAsHistory};
 ghost use Rattle.model_laws.specs.Accounted.{kept_count, born_count, IsFull};
 ghost use Rattle.model_laws.specs.Example.{lookup_and_load, example_shape};
-ghost use Rattle.model_laws.specs.Near.{Place, IsNearPlace, named_place, place_word};
+ghost use Rattle.model_laws.specs.Near.{Location, IsNearLocation, named_location, location_word};
 
 /// An event is refused exactly when a test fails, by the first that does, and then nothing changes.
 pub fn refused_exactly()
@@ -319,20 +319,20 @@ pub fn scheduled_is_machine_once()
         AnswersAsMachine Tracks old event answer new }
 {}
 
-/// The word that stands for a reference is the word of the place that the reference names, and no other is.
-pub fn words_of_places()
+/// The word that stands for a reference is the word of the location that the reference names, and no other is.
+pub fn words_of_locations()
     ensures { (slots : List ℕ) (es : List Element) (r : Reference) (w : ℕ) →
-        IsReferenceWord (element_bases slots es) r w ↔ (pos w ≡ place_word (named_place slots es r)) }
+        IsReferenceWord (element_bases slots es) r w ↔ (pos w ≡ location_word (named_location slots es r)) }
 {}
 
-/// Two near places with one word are one place: of one region, one slot and one offset.
+/// Two near locations with one word are one location: of one region, one slot and one offset.
 pub fn near_words_differ()
-    ensures { (p q : Place) → IsNearPlace p → IsNearPlace q → place_word p ≡ place_word q → p ≡ q }
+    ensures { (p q : Location) → IsNearLocation p → IsNearLocation q → location_word p ≡ location_word q → p ≡ q }
 {}
 
-/// Each near place has a word of 64 bits, and it is not 0.
+/// Each near location has a word of 64 bits, and it is not 0.
 pub fn near_words_fit()
-    ensures { (p : Place) → IsNearPlace p → (w : ℕ) × (place_word p ≡ pos w) × (0 < w) × (w < 2 ^ 64) }
+    ensures { (p : Location) → IsNearLocation p → (w : ℕ) × (location_word p ≡ pos w) × (0 < w) × (w < 2 ^ 64) }
 {}
 
 /// A fresh run of a program without map references shares nothing: it refers to its own context and frame alone.
@@ -341,7 +341,7 @@ pub fn starts_sharing_nothing()
         SharesNothing (fresh_run name program context) }
 {}
 
-/// And so after each of its steps.
+/// A run that shares nothing shares nothing after each of its steps.
 pub fn stays_sharing_nothing()
     ensures own { (store new_store : Store) (opened : List Section) (run new : Run) (answer : Answer) →
         SharesNothing run → RunStep store opened run answer new_store new → SharesNothing new }
@@ -370,12 +370,20 @@ pub fn one_step_alone()
         RunStep other sections run b other_store next → new ≡ next }
 {}
 
-/// A program without map references exits on a context with one value at most, after one number of steps.
+/// Where a program exits on a context whatever other actors do, it has no other exit: no run of it, over any maps
+/// and open sections, exits after another number of steps or with another value.
 pub fn one_exit()
-    ensures steps { (program : Loaded) (context : List ℕ) (s t n k : ℕ) → HasNoMaps program.code →
-        ExitsWith program context s n → ExitsWith program context t k → s ≡ t }
-    ensures value { (program : Loaded) (context : List ℕ) (s t n k : ℕ) → HasNoMaps program.code →
-        ExitsWith program context s n → ExitsWith program context t k → n ≡ k }
+    ensures steps { (program : Loaded) (context : List ℕ) (s t n k : ℕ) →
+        ExitsWith program context s n → MayExitWith program context t k → s ≡ t }
+    ensures value { (program : Loaded) (context : List ℕ) (s t n k : ℕ) →
+        ExitsWith program context s n → MayExitWith program context t k → n ≡ k }
+{}
+
+/// A program without map references exits, where it does over some maps and open sections, so whatever other
+/// actors do.
+pub fn exits_alone()
+    ensures { (program : Loaded) (context : List ℕ) (s n : ℕ) → HasNoMaps program.code →
+        MayExitWith program context s n → ExitsWith program context s n }
 {}
 
 /// A step of an instruction is what the run does by itself, or a request that the maps serve and with whose reply the

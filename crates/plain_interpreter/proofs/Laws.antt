@@ -16,7 +16,7 @@ use Rattle.bpf_model.specs.declared.value.Value.TheVariants.{Nothing, Pointer}
 use Rattle.bpf_model.specs.declared.value.Reference.{Reference}
 use Rattle.bpf_model.specs.declared.value.Reference.TheVariants.{Ctx, Frame, MapRef, Elem}
 use Rattle.bpf_model.specs.Operand.{moved, sum_of, difference_of}
-use Rattle.bpf_model.specs.Access.{place_of}
+use Rattle.bpf_model.specs.Access.{region_offset}
 use Rattle.bpf_model.specs.Arithmetic.{signed}
 use Rattle.bpf_model.specs.Places.{start-insn_at, starts_inside, slot_count_some}
 use Rattle.bpf_model.specs.Spelling.{slot_total}
@@ -106,7 +106,7 @@ sum_known x y r b c e f h = subst (λ x. Computes (sum_of x y) c) (sym e) (bind_
 pub difference_known : (x y : Value) (r : Reference) (b : ℕ) (c : Computed) → x ≡ Pointer r → number y ≡ Some b → Computes (moved r (pos 0 -ℤ signed w64 b)) c → Computes (difference_of x y) c
 difference_known x y r b c e f h = subst (λ x. Computes (difference_of x y) c) (sym e) (bind_computes (number y) (λ b. moved r (pos 0 -ℤ signed w64 b)) b c f h)
 
-pub store_known : (m : State) (width : ℕ) (offset : ℤ) (v : Value) (r : Reference) (o : ℤ) (at : ℕ) (frame : ℕ → Cell) → r ≡ Frame o → place_of FRAME_BYTES width (o +ℤ offset) ≡ Some at → frame_after at width v m.frame ≡ Some frame
+pub store_known : (m : State) (width : ℕ) (offset : ℤ) (v : Value) (r : Reference) (o : ℤ) (at : ℕ) (frame : ℕ → Cell) → r ≡ Frame o → region_offset FRAME_BYTES width (o +ℤ offset) ≡ Some at → frame_after at width v m.frame ≡ Some frame
     → stored m width offset v r ≡ Some (Moves (record { regs = m.regs; frame = frame; place = m.place + 1 }))
 store_known m width offset v r o at frame e f g =
     ap (stored m width offset v) e

@@ -12,7 +12,7 @@ mod step;
 mod value;
 mod whole;
 
-pub use memory::{number_in, place_of};
+pub use memory::{number_in, region_offset};
 pub use plain_run::{PlainRun, Progress};
 pub use step::insn_at;
 pub use value::number;

@@ -1,7 +1,7 @@
 //! The context and the frame.
 ghost use Rattle.std.specs.Prelude.{◌≡◌, ℕ, ◌+◌, ◌-◌, ◌*◌, ◌/◌, ◌%◌, ◌^◌, ◌<◌, ◌≤◌, length, slice_get, IfSome, Option, Some, None, true, false, ◌+ℤ◌, if◌then◌else◌};
 ghost use Rattle.bpf_model.specs.declared.limits.TheConstants.{FRAME_BYTES};
-ghost use Rattle.bpf_model.specs.Access.{byte_count, place_of as place_in, number_at};
+ghost use Rattle.bpf_model.specs.Access.{byte_count, region_offset as offset_within, number_at};
 ghost use Rattle.bpf_model.specs.Frame.{byte_of, is_same_reference as is_same, is_part as is_part_of, are_parts as are_parts_of, is_within, read as read_from};
 ghost use Rattle.bpf_model.specs.declared.value.Cell.TheVariants as cells;
 ghost use Rattle.plain_interpreter.specs.Plain.{cells_of, Writes};
@@ -9,15 +9,15 @@ ghost use Rattle.plain_interpreter.specs.Plain.{cells_of, Writes};
 use bpf_model::{Cell, FRAME_BYTES, Reference, Value, Width};
 
 /// Where an access lies in a region of this length (at most FRAME_BYTES), if it is aligned and all inside.
-pub fn place_of(len: usize, width: Width, base: i64, offset: i16) -> Option<usize>
+pub fn region_offset(len: usize, width: Width, base: i64, offset: i16) -> Option<usize>
     requires { len ≤ FRAME_BYTES }
-    ensures value { result ≡ place_in len (byte_count width) (base +ℤ offset) }
+    ensures value { result ≡ offset_within len (byte_count width) (base +ℤ offset) }
     ensures bound { IfSome result (λ at. at + byte_count width ≤ len) }
 {
     let width = width.bytes();
     match base.checked_add(i64::from(offset)) {
-        Some(place) if place >= 0 && place <= FRAME_BYTES as i64 => {
-            let at = place as usize;
+        Some(first) if first >= 0 && first <= FRAME_BYTES as i64 => {
+            let at = first as usize;
             if at + width <= len && at % width == 0 {
                 Some(at)
             } else {

@@ -7,7 +7,7 @@ ghost use Rattle.bpf_model.specs.Step.{entry};
 ghost use Rattle.plain_interpreter.specs.Plain.{state_of, cells_of};
 
 use alu::immediate;
-use bpf_model::{Cell, FRAME_BYTES, Operand, Reference, Reg, Value};
+use bpf_model::{Cell, FRAME_BYTES, Operand, REGISTERS, Reference, Reg, Value};
 
 /// What a step came to: the run goes on, it has exited with this value, it is stuck, or a register would
 /// hold a reference whose offset leaves 64 bits.
@@ -23,7 +23,7 @@ pub enum Progress {
 /// the next instruction begins.
 #[derive(Drop)]
 pub struct PlainRun {
-    pub(crate) regs: [Value; 11],
+    pub(crate) regs: [Value; REGISTERS],
     pub(crate) frame: [Cell; FRAME_BYTES],
     pub(crate) place: usize,
 }

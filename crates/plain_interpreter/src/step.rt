@@ -3,13 +3,12 @@ ghost use Rattle.std.specs.Prelude.{◌≡◌, ℕ, ◌+◌, ◌^◌, ◌<◌, �
 ghost use Rattle.bpf_model.specs.declared.insn.Insn.{Insn};
 ghost use Rattle.bpf_model.specs.declared.limits.TheConstants.{CTX_BYTES, MAX_SLOTS};
 ghost use Rattle.bpf_model.specs.Access.{byte_count};
-ghost use Rattle.bpf_model.specs.Operand.{unary_source as unary_source_of};
 ghost use Rattle.bpf_model.specs.Spelling.{slot_total};
 ghost use Rattle.bpf_model.specs.Step.{Environment, sets, forward, jumps_by, load_from, store_to, stored, after, insn_at as insn_of};
 ghost use Rattle.bpf_model.specs.MachineStep.{returns};
 ghost use Rattle.plain_interpreter.specs.Plain.{state_of, Comes, Performs, Tells, environment};
 
-use crate::memory::{number_in, place_of, read, write};
+use crate::memory::{number_in, read, region_offset, write};
 use crate::plain_run::{PlainRun, Progress};
 use crate::value::{Computed, compute, decided, number};
 use alu::{load_signed, unary};
@@ -35,16 +34,6 @@ pub fn insn_at(program: &[Insn], place: usize) -> Option<&Insn>
         left -= slots;
     }
     None
-}
-
-/// The register that an operation of one operand reads.
-fn unary_source(op: &UnaryOp, dst: Reg) -> Reg
-    ensures { result ≡ unary_source_of op.now dst }
-{
-    match op {
-        UnaryOp::MoveSigned { src, .. } => *src,
-        UnaryOp::Negate(_) | UnaryOp::ByteSwap { .. } => dst,
-    }
 }
 
 impl PlainRun {
@@ -84,7 +73,7 @@ impl PlainRun {
         ensures { (env : Environment) →
             Performs (Insn.Unary op.now dst) env self.old result self.new }
     {
-        match number(self.register(unary_source(op, dst))) {
+        match number(self.register(op.source(dst))) {
             Some(n) => self.set(1, dst, Value::Number(unary(*op, n))),
             None => Progress::Stuck,
         }
@@ -143,12 +132,12 @@ impl PlainRun {
     {
         match base {
             Value::Pointer(Reference::Ctx(o)) => {
-                let at = place_of(context.len(), width, o, offset)?;
+                let at = region_offset(context.len(), width, o, offset)?;
                 let n = number_in(context, at, width.bytes())?;
                 Some(Value::Number(n))
             }
             Value::Pointer(Reference::Frame(o)) => {
-                let at = place_of(FRAME_BYTES, width, o, offset)?;
+                let at = region_offset(FRAME_BYTES, width, o, offset)?;
                 read(&self.frame, at, width)
             }
             _ => None,
@@ -200,7 +189,7 @@ impl PlainRun {
             Reference::Frame(o) => o,
             _ => return Progress::Stuck,
         };
-        match place_of(FRAME_BYTES, width, o, offset) {
+        match region_offset(FRAME_BYTES, width, o, offset) {
             Some(at) if write(&mut self.frame, at, width, v) => {
                 self.place += 1;
                 Progress::Moved

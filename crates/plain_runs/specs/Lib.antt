@@ -1,3 +1,3 @@
 pub mod State
 pub mod Acting
-pub mod Placing
+pub mod MapKeys

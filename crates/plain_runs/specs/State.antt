@@ -9,7 +9,7 @@ use Rattle.plain_runs.specs.declared.run.Loaded.{Loaded}
 abbrev pub loaded_of : Loaded → machine.Loaded
 loaded_of l = record { code = l.code.items; maps = l.maps.items; context_len = l.context_len }
 
--- a run's program is named by its place in the list
+-- a run's program is named by its index in the list
 abbrev pub or_no_program : Option Loaded → machine.Loaded
 or_no_program None = record { code = []; maps = []; context_len = 0 }
 or_no_program (Some l) = loaded_of l

@@ -18,7 +18,7 @@ ghost use Rattle.plain_store.specs.State.{store_of, sections_of};
 ghost use Rattle.plain_store.specs.Telling.{Tells};
 ghost use Rattle.plain_runs.specs.State.{loaded_of, run_with};
 ghost use Rattle.plain_runs.specs.Acting.{KernelsAs, InsnStepsAs};
-ghost use Rattle.plain_runs.specs.Placing.{IsPlace};
+ghost use Rattle.plain_runs.specs.MapKeys.{IsMapKey};
 
 use crate::run::{Loaded, Run};
 use arrayvec::ArrayVec;
@@ -174,14 +174,14 @@ fn frame_bytes<const N: usize>(
 
 /// The map and the key that a helper was called with, and the map's shape.
 #[derive(Drop)]
-struct Place {
+struct MapKey {
     map: usize,
     shape: MapShape,
     key: KeyBytes,
 }
 
-fn place_argument(run: &Run, program: &Loaded, store: &Store) -> Result<Place, Fault>
-    ensures { Tells (IsPlace (store_of store.now) (run_with (loaded_of program.now) run.now))
+fn map_key_argument(run: &Run, program: &Loaded, store: &Store) -> Result<MapKey, Fault>
+    ensures { Tells (IsMapKey (store_of store.now) (run_with (loaded_of program.now) run.now))
         ((map : ℕ) (key : List ℕ) →
         map_argument_of (run_with (loaded_of program.now) run.now)
         ≡ Some map →
@@ -195,7 +195,7 @@ fn place_argument(run: &Run, program: &Loaded, store: &Store) -> Result<Place, F
         return Err(Fault::Stuck);
     };
     let key = frame_bytes(&run.state, shape.key_len, run.state.register(Reg::R2))?;
-    Ok(Place { map, shape, key })
+    Ok(MapKey { map, shape, key })
 }
 
 fn lookup(run: &Run, program: &Loaded, store: &Store) -> Result<Value, Fault>
@@ -203,8 +203,8 @@ fn lookup(run: &Run, program: &Loaded, store: &Store) -> Result<Value, Fault>
         ((ret : Value) →
         LookupStep (store_of store.now) (run_with (loaded_of program.now) run.now) ret → ⊥) result }
 {
-    let place = place_argument(run, program, store)?;
-    match store.lookup(place.map, place.key.as_slice()) {
+    let at = map_key_argument(run, program, store)?;
+    match store.lookup(at.map, at.key.as_slice()) {
         Some(n) => Ok(Value::Pointer(Reference::Elem(n, 0))),
         None => Ok(Value::Number(0)),
     }
@@ -225,16 +225,16 @@ fn update(
         (run_with (loaded_of program.now) run.now) ret t → ⊥) result }
     ensures oldest { OnOk result (TakesOldest (store_of store.old) (store_of store.new)) }
 {
-    let place = place_argument(run, program, store)?;
+    let at = map_key_argument(run, program, store)?;
     let value: ValueBytes = frame_bytes(
         &run.state,
-        place.shape.value_len,
+        at.shape.value_len,
         run.state.register(Reg::R3),
     )?;
     let Some(flags) = number(run.state.register(Reg::R4)) else {
         return Err(Fault::Stuck);
     };
-    let outcome = store.update(alloc, opened, place.map, place.key, value, flags)?;
+    let outcome = store.update(alloc, opened, at.map, at.key, value, flags)?;
     Ok(Value::Number(ret_word(outcome)))
 }
 
@@ -253,8 +253,8 @@ fn delete(
         (run_with (loaded_of program.now) run.now) ret t → ⊥) result }
     ensures oldest { OnOk result (TakesOldest (store_of store.old) (store_of store.new)) }
 {
-    let place = place_argument(run, program, store)?;
-    let outcome = store.delete(alloc, opened, place.map, place.key.as_slice())?;
+    let at = map_key_argument(run, program, store)?;
+    let outcome = store.delete(alloc, opened, at.map, at.key.as_slice())?;
     Ok(Value::Number(ret_word(outcome)))
 }
 

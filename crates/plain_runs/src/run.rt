@@ -20,7 +20,7 @@ pub struct Loaded {
 pub struct Run {
     /// The number of its start.
     pub name: u64,
-    /// Its program's place in the list of programs.
+    /// Its program's index in the list of programs.
     pub program: usize,
     pub context: CtxBytes,
     /// Its registers, its frame, and the slot of its next instruction.

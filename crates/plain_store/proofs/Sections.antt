@@ -1,8 +1,8 @@
 -- Sections, compared and listed.
-use Rattle.std.proofs.Common.{◌≡◌, ℕ, ◌+◌, ◌<◌, ◌≤◌, Bool, List, Some, None, sym, ap, ◌∙◌, subst, arith, length, true, false, inl, inr}
+use Rattle.std.proofs.Common.{◌≡◌, ℕ, ◌+◌, ◌<◌, ◌≤◌, Bool, List, Some, None, refl, sym, ap, ◌∙◌, subst, arith, length, true, false, inl, inr}
 use Rattle.std.specs.Prelude.{slice_get, slice_index_or, ◌==◌, ◌&&◌}
 use Rattle.std.proofs.lemmas.Option.{slice_get-get_or}
-use Rattle.std.proofs.lemmas.Bool.{eq-eqb, false≢true, cases_lt}
+use Rattle.std.proofs.lemmas.Bool.{eq-eqb, eqb-true, false≢true, cases_lt}
 use Rattle.bpf_model.specs.Section as model
 use Rattle.plain_store.specs.declared.element.Section.{Section}
 use Rattle.plain_store.specs.State.{section_of, sections_of}
@@ -35,6 +35,28 @@ none-among xs s j h before has = elim (cases_lt has.0 j) [
       let e : Some (section_of s) ≡ None = sym has.1 ∙ slice_get_past (sections_of xs) has.0 far in
       absurd cc
 ]
+
+-- this section is one of them
+both-true : (a b : Bool) → (a && b) ≡ true → (a ≡ true) × (b ≡ true)
+both-true true b h = (refl, h)
+both-true false b h = absurd (false≢true h)
+
+pub is-among : (xs : List Section) (s d : Section) (j : ℕ) (b : Bool) → j < length xs →
+    b ≡ ((slice_index_or xs j d).run == s.run) && ((slice_index_or xs j d).lock == s.lock) → b ≡ true → model.Has (sections_of xs) (section_of s)
+is-among xs s d j b h e f =
+    let x = slice_index_or xs j d in
+    let parts = both-true (x.run == s.run) (x.lock == s.lock) (sym e ∙ f) in
+    let run : x.run ≡ s.run = eqb-true x.run s.run parts.0 in
+    let lock : x.lock ≡ s.lock = eqb-true x.lock s.lock parts.1 in
+    let same : section_of x ≡ section_of s = ap (λ r. record { run = r; lock = x.lock }) run ∙ ap (λ l. record { run = s.run; lock = l }) lock in
+    (j, get-map section_of xs j x (slice_get-get_or xs j d h) ∙ ap Some same)
+
+-- one section that is open keeps the others
+pub not-ended : (xs opened : List Section) (d : Section) (i : ℕ) → i < length xs → model.Has (sections_of opened) (section_of (slice_index_or xs i d)) →
+    model.AllEnded (sections_of xs) (sections_of opened) → ⊥
+not-ended xs opened d i h has ended =
+    let x = slice_index_or xs i d in
+    ended (section_of x) (i, get-map section_of xs i x (slice_get-get_or xs i d h)) has
 
 -- one more section has ended
 pub apart-more : (xs opened : List Section) (d : Section) (i : ℕ) → i < length xs → (model.Has (sections_of opened) (section_of (slice_index_or xs i d)) → ⊥) →

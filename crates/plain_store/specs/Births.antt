@@ -39,6 +39,10 @@ MayReclaim life opened = (since : List Section) × (life ≡ Unlinked since) × 
 abbrev pub ReclaimsTo : Store → List Section → ℕ → Store → ReapedElement → Type 0
 ReclaimsTo s opened n new reaped = (e : Element) × Reclaims s opened n e reaped.given new × (reaped.map ≡ e.map) × (reaped.key.items ≡ e.key)
 
+-- element n may be reclaimed: there is a step that does
+abbrev pub CanReclaim : Store → List Section → ℕ → Type 0
+CanReclaim s opened n = (new : Store) × (reaped : ReapedElement) × ReclaimsTo s opened n new reaped
+
 -- the value that was found under a key
 abbrev pub Finds : List Element → ℕ → List ℕ → Option (List ℕ) → Type 0
 Finds es map key None = IsAbsent es map key

@@ -10,7 +10,7 @@ ghost use Rattle.plain_store.specs.Retiring.{linked_map as linked_map_of};
 ghost use Rattle.plain_store.specs.State.{section_of, sections_of, life_of, element_of, IsLinkedHere};
 
 use bpf_model::{KeyBytes, ValueBytes, Width};
-use plain_interpreter::place_of;
+use plain_interpreter::region_offset;
 
 /// A read-side critical section: the number of its run's start, and how many sections the run had opened
 /// with it.
@@ -99,7 +99,7 @@ impl Element {
 
 /// Whether an element is unlinked, and no section that was open then is open now.
 pub(crate) fn has_ended(life: &Life, opened: &[Section]) -> bool
-    ensures { IsTrue result → MayReclaim (life_of life.now) (sections_of opened.now) }
+    ensures { IsTrue result ↔ MayReclaim (life_of life.now) (sections_of opened.now) }
 {
     match life {
         Life::Unlinked(since) => are_apart(since.as_slice(), opened),
@@ -109,7 +109,7 @@ pub(crate) fn has_ended(life: &Life, opened: &[Section]) -> bool
 
 /// Whether no section of the first is one of the second.
 fn are_apart(since: &[Section], opened: &[Section]) -> bool
-    ensures { IsTrue result → AllEnded (sections_of since.now) (sections_of opened.now) }
+    ensures { IsTrue result ↔ AllEnded (sections_of since.now) (sections_of opened.now) }
 {
     for i in 0..since.len() {
         if is_among(&since[i], opened) {
@@ -121,7 +121,8 @@ fn are_apart(since: &[Section], opened: &[Section]) -> bool
 
 /// Whether the section is one of these.
 fn is_among(section: &Section, sections: &[Section]) -> bool
-    ensures { result ≡ false → Has (sections_of sections.now) (section_of section.now) → ⊥ }
+    ensures among { IsTrue result → Has (sections_of sections.now) (section_of section.now) }
+    ensures apart { result ≡ false → Has (sections_of sections.now) (section_of section.now) → ⊥ }
 {
     for j in 0..sections.len() {
         if sections[j] == *section {
@@ -139,7 +140,7 @@ pub(crate) fn save(element: &mut Element, width: Width, o: i64, offset: i16, num
     if element.life.is_reclaimed() {
         return false;
     }
-    match place_of(element.value.len(), width, o, offset) {
+    match region_offset(element.value.len(), width, o, offset) {
         Some(at) => {
             put_bytes(element.value.as_mut_slice(), at, width.bytes(), number);
             true
@@ -148,7 +149,7 @@ pub(crate) fn save(element: &mut Element, width: Width, o: i64, offset: i16, num
     }
 }
 
-/// Writes so many low bytes of a number from a place on.
+/// Writes so many low bytes of a number from an offset on.
 fn put_bytes(bytes: &mut [u8], at: usize, width: usize, number: u64)
     requires inside { at + width ≤ length bytes.old }
     requires small { at + width ≤ 1024 }

@@ -1,11 +1,12 @@
 //! Maps: their shapes and their free slots.
-ghost use Rattle.std.specs.Prelude.{◌≡◌, IfOk};
+ghost use Rattle.std.specs.Prelude.{◌≡◌, ◌≢◌, IfOk, Err};
 ghost use Rattle.bpf_model.specs.MapState.{given_of, returned, new_map};
 ghost use Rattle.bpf_model.specs.Helper.{update_error as first_error};
 ghost use Rattle.plain_store.specs.Telling.{Tells};
+ghost use Rattle.plain_store.specs.declared.fault.Fault.TheVariants.{Early};
 ghost use Rattle.plain_store.specs.State.{map_of};
 
-use crate::fault::{Fault, one_more};
+use crate::fault::Fault;
 use bpf_model::{Errno, Given, MapShape};
 use std::alloc::{AllocError, Global};
 
@@ -58,14 +59,18 @@ impl MapState {
 
     /// A slot that was used so often comes back: to the end of the free ones, or it is worn out.
     pub fn give_back(&mut self, uses: u64) -> Result<Given, Fault>
-        ensures { Tells (λ given. (given ≡ given_of uses (map_of self.old))
+        ensures tells { Tells (λ given. (given ≡ given_of uses (map_of self.old))
             × (map_of self.new ≡ returned uses (map_of self.old))) ⊥ result }
+        ensures early { result ≢ Err Early }
     {
         let Ok(count) = u32::try_from(uses) else {
             return Err(Fault::OutOfRange);
         };
         if count == self.shape.reuse_limit {
-            self.worn = one_more(self.worn)?;
+            let Some(worn) = self.worn.checked_add(1) else {
+                return Err(Fault::OutOfRange);
+            };
+            self.worn = worn;
             Ok(Given::Worn)
         } else {
             match self.bag.push(count) {

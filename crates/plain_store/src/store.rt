@@ -1,5 +1,5 @@
 //! The elements of all maps, and the maps.
-ghost use Rattle.std.specs.Prelude.{ℕ, ◌≡◌, ◌+ℤ◌, [], ◌<◌, IfOk, OnErr, OnOk, Some, length, map};
+ghost use Rattle.std.specs.Prelude.{ℕ, ◌≡◌, ◌+ℤ◌, [], ◌<◌, IfOk, OnErr, OnOk, Some, Err, length, map};
 ghost use Rattle.std.specs.Option.{option_map};
 ghost use Rattle.bpf_model.specs.Element.{linked_count as linked_count_of, unlinked};
 ghost use Rattle.bpf_model.specs.MapState.{shape_of, new_map};
@@ -10,8 +10,9 @@ ghost use Rattle.bpf_model.specs.declared.value.Value.TheVariants.{Number, Point
 ghost use Rattle.bpf_model.specs.declared.value.Reference.TheVariants.{Elem};
 ghost use Rattle.bpf_model.specs.Schedule.{TakesOldest};
 ghost use Rattle.plain_store.specs.Telling.{Tells};
+ghost use Rattle.plain_store.specs.declared.fault.Fault.TheVariants.{Early};
 ghost use Rattle.plain_store.specs.Storing.{StoresTo};
-ghost use Rattle.plain_store.specs.Births.{HasFree, ReplacesIn, NextUse, without_first, ReclaimsTo, Finds};
+ghost use Rattle.plain_store.specs.Births.{HasFree, ReplacesIn, NextUse, without_first, ReclaimsTo, CanReclaim, Finds};
 ghost use Rattle.plain_store.specs.Retiring.{linked_map};
 ghost use Rattle.plain_store.specs.State.{sections_of, elements_of, store_of};
 
@@ -19,7 +20,7 @@ use crate::element::{Element, Life, Section, has_ended, save};
 use crate::fault::Fault;
 use crate::map_state::MapState;
 use bpf_model::{Errno, KeyBytes, MapId, MapShape, ReapedElement, ValueBytes, Width};
-use plain_interpreter::{number_in, place_of};
+use plain_interpreter::{number_in, region_offset};
 use std::alloc::{AllocError, Global};
 
 /// The elements of all maps by birth number, and the maps.
@@ -212,10 +213,13 @@ impl Store {
         }
     }
 
-    /// Reclaims element n, whose slot comes back. `Early` where it isn't unlinked, or a section of its set is open.
+    /// Reclaims element n, whose slot comes back. `Early` only where it may not be reclaimed: it isn't
+    /// unlinked, or a section of its set is open.
     pub fn reclaim(&mut self, n: usize, opened: &[Section]) -> Result<ReapedElement, Fault>
         ensures tells { Tells (ReclaimsTo (store_of self.old) (sections_of opened.now) n
             (store_of self.new)) ⊥ result }
+        ensures early { result ≡ Err Early
+            → CanReclaim (store_of self.old) (sections_of opened.now) n → ⊥ }
         ensures births { length self.new.elements.items ≡ length self.old.elements.items }
     {
         if n >= self.elements.len() {
@@ -250,7 +254,7 @@ impl Store {
         if element.life.is_reclaimed() {
             return None;
         }
-        match place_of(element.value.len(), width, o, offset) {
+        match region_offset(element.value.len(), width, o, offset) {
             Some(at) => number_in(element.value.as_slice(), at, width.bytes()),
             None => None,
         }

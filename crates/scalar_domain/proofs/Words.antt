@@ -53,14 +53,14 @@ pub negated_lt : (size : Size) (x : ℕ) → negated size x < 2 ^ 64
 negated_lt Word64 x = word_lt w64 (neg_ℤ (pos x))
 negated_lt Word32 x = omega (arith, word_lt w32 (neg_ℤ (pos (x % 2 ^ 32))))
 
-pub moved_lt : (extension : SignExtension) (x : ℕ) → moved_signed extension x < 2 ^ 64
-moved_lt ByteTo32 x = omega (arith, word_lt w32 (signed w8 (x % 2 ^ 8)))
-moved_lt ShortTo32 x = omega (arith, word_lt w32 (signed w16 (x % 2 ^ 16)))
-moved_lt ByteTo64 x = word_lt w64 (signed w8 (x % 2 ^ 8))
-moved_lt ShortTo64 x = word_lt w64 (signed w16 (x % 2 ^ 16))
-moved_lt WordTo64 x = word_lt w64 (signed w32 (x % 2 ^ 32))
+pub moved_signed_lt : (extension : SignExtension) (x : ℕ) → moved_signed extension x < 2 ^ 64
+moved_signed_lt ByteTo32 x = omega (arith, word_lt w32 (signed w8 (x % 2 ^ 8)))
+moved_signed_lt ShortTo32 x = omega (arith, word_lt w32 (signed w16 (x % 2 ^ 16)))
+moved_signed_lt ByteTo64 x = word_lt w64 (signed w8 (x % 2 ^ 8))
+moved_signed_lt ShortTo64 x = word_lt w64 (signed w16 (x % 2 ^ 16))
+moved_signed_lt WordTo64 x = word_lt w64 (signed w32 (x % 2 ^ 32))
 
-pub loaded_lt : (width : SignedWidth) (x : ℕ) → loaded_signed width x < 2 ^ 64
-loaded_lt signed_width.One x = word_lt w64 (signed w8 (x % 2 ^ 8))
-loaded_lt signed_width.Two x = word_lt w64 (signed w16 (x % 2 ^ 16))
-loaded_lt signed_width.Four x = word_lt w64 (signed w32 (x % 2 ^ 32))
+pub loaded_signed_lt : (width : SignedWidth) (x : ℕ) → loaded_signed width x < 2 ^ 64
+loaded_signed_lt signed_width.One x = word_lt w64 (signed w8 (x % 2 ^ 8))
+loaded_signed_lt signed_width.Two x = word_lt w64 (signed w16 (x % 2 ^ 16))
+loaded_signed_lt signed_width.Four x = word_lt w64 (signed w32 (x % 2 ^ 32))

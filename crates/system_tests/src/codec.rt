@@ -53,6 +53,10 @@ fn every_form_and_back(rt: HostRuntime) -> Result<(), Fail> {
         0x8921_0200_0000_0000,
         0x720a_f8ff_0500_0000,
         0x632a_fcff_0000_0000,
+        0x185a_0000_0300_0000,
+        0x0000_0000_0000_0000,
+        0x8500_0000_0200_0000,
+        0x8520_0000_ffff_ffff,
         EXIT,
     ];
     let wanted = [
@@ -170,16 +174,25 @@ fn every_form_and_back(rt: HostRuntime) -> Result<(), Fail> {
             offset: -4,
             src: Operand::Register(r(2)),
         },
+        Insn::LoadMap { dst: r(10), map: 3 },
+        Insn::Call {
+            kind: CallKind::Helper,
+            imm: 2,
+        },
+        Insn::Call {
+            kind: CallKind::Kernel,
+            imm: -1,
+        },
         Insn::Exit,
     ];
     let bytes = spelled(rt.alloc(), &slots)?;
     let program = decode(rt.alloc(), &bytes)?;
     assert_eq!(rt; program.instructions(), wanted.as_slice());
-    assert_eq!(rt; program.len(), 21);
+    assert_eq!(rt; program.len(), 24);
     assert!(rt; !program.is_empty());
-    assert_eq!(rt; program.slot_count(), 22);
+    assert_eq!(rt; program.slot_count(), 26);
     let starts = [
-        0, 1, 2, 3, 4, 5, 6, 7, 8, 9, 10, 11, 13, 14, 15, 16, 17, 18, 19, 20, 21,
+        0, 1, 2, 3, 4, 5, 6, 7, 8, 9, 10, 11, 13, 14, 15, 16, 17, 18, 19, 20, 21, 23, 24, 25,
     ];
     assert_eq!(rt; program.starts(), starts.as_slice());
     let copy = program.copy(rt.alloc())?;
@@ -238,11 +251,32 @@ fn each_flaw(rt: HostRuntime) -> Result<(), Fail> {
     for (slot, number) in [
         (0xff00_0000_0000_0000, 4),
         (0x8c00_0000_0000_0000, 4),
+        // a call by register, and one of class JMP32
+        (0x8d00_0000_0000_0000, 4),
+        (0x8600_0000_0100_0000, 4),
         (0x2000_0000_0000_0000, 5),
+        (0x2800_0000_0000_0000, 5),
+        (0x3000_0000_0000_0000, 5),
+        (0x4000_0000_0000_0000, 5),
+        (0x4800_0000_0000_0000, 5),
+        (0x50bb_0000_0000_0000, 5),
         (0xc300_0000_0000_0000, 5),
+        (0xdb10_0000_0000_0000, 5),
         (0xb70b_0000_0000_0000, 6),
         (0x0fb1_0000_0000_0000, 6),
+        (0x851b_0000_0100_0000, 6),
+        (0x85b0_0000_0100_0000, 6),
+        // a call within the program, one of no kind, and wide instructions of other sources
+        (0x8510_0000_0100_0000, 7),
+        (0x8531_0100_0100_0000, 7),
+        (0x1810_0000_0000_0000, 7),
+        (0x1820_0000_0000_0000, 7),
         (0x1830_0000_0000_0000, 7),
+        (0x1840_0000_0000_0000, 7),
+        (0x1860_0100_0000_0000, 7),
+        (0x8501_0000_0100_0000, 8),
+        (0x8520_0100_0100_0000, 8),
+        (0x1850_0100_0000_0000, 8),
         (0xb700_0001_0700_0000, 8),
         (0x0f10_0000_0100_0000, 8),
         (0x3700_0200_0100_0000, 9),
@@ -250,14 +284,20 @@ fn each_flaw(rt: HostRuntime) -> Result<(), Fail> {
         (0xd400_0000_0800_0000, 10),
         // a wide instruction before an exit, which is no second slot
         (0x1800_0000_0000_0000, 12),
+        (0x1850_0000_0000_0000, 12),
     ] {
         let first = fault_of(rt.alloc(), &[slot, EXIT])?;
         assert_eq!(rt; first, Some((number, Some(0))), "at {slot}");
         let third = fault_of(rt.alloc(), &[0x1800_0000_0100_0000, 0, slot, EXIT])?;
         assert_eq!(rt; third, Some((number, Some(2))), "behind, at {slot}");
     }
-    let cut = fault_of(rt.alloc(), &[EXIT, 0x1800_0000_0000_0000])?;
-    assert_eq!(rt; cut, Some((11, Some(1))));
+    for wide in [0x1800_0000_0000_0000, 0x1850_0000_0000_0000] {
+        let cut = fault_of(rt.alloc(), &[EXIT, wide])?;
+        assert_eq!(rt; cut, Some((11, Some(1))), "at {wide}");
+    }
+    // a map, and a number in the second slot
+    let numbered = [0x1850_0000_0000_0000, 0x0000_0000_0100_0000, EXIT];
+    assert_eq!(rt; fault_of(rt.alloc(), &numbered)?, Some((12, Some(0))));
     Ok(())
 }
 

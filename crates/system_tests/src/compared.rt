@@ -2,7 +2,7 @@
 //! interpreter, written apart from this repository, computed.
 ghost use Rattle.std.specs.Prelude.{◌≡◌, length};
 
-use crate::judged::{bytes_of, context_of};
+use crate::judged::{SHAPE, bytes_of, context_of};
 use bpf_model::{Cell, CtxBytes, Reg, Value};
 use insn_codec::decode;
 use machine::{Local, Run};
@@ -22,7 +22,7 @@ struct Compared {
 
 static BYTES: [u8; 5] = [0, 1, 7, 0x80, 0xff];
 
-static PROGRAMS: [Compared; 16] = [
+static PROGRAMS: [Compared; 17] = [
     Compared {
         name: "constant",
         ctx_len: 0,
@@ -118,6 +118,12 @@ static PROGRAMS: [Compared; 16] = [
         ctx_len: 2,
         code: "7112000000000000 7113010000000000 632af0ff00000000 633af4ff00000000 79a4f0ff00000000 bf40000000000000 c400000004000000 0f40000000000000 9500000000000000",
         sum: 8396661065750,
+    },
+    Compared {
+        name: "map_in_a_register",
+        ctx_len: 0,
+        code: "1852000000000000 0000000000000000 bf23000000000000 b700000007000000 9500000000000000",
+        sum: 7,
     },
 ];
 
@@ -221,7 +227,7 @@ fn verified_of(alloc: Global, case: &Compared) -> Result<Verified, Fail> {
     }
     let code = bytes_of(alloc, case.code)?;
     let program = decode(alloc, &code)?;
-    Ok(verify(alloc, program, &[], case.ctx_len)?)
+    Ok(verify(alloc, program, &[SHAPE], case.ctx_len)?)
 }
 
 #[test]

@@ -1,7 +1,7 @@
 //! What becomes of program bytes: a fault of the decoder, a refusal of the verifier, or an exit.
 ghost use Rattle.std.specs.Prelude.{◌≡◌, IfOk, length};
 
-use bpf_model::CtxBytes;
+use bpf_model::{CtxBytes, MapShape};
 use insn_codec::decode;
 use machine::run_to_exit;
 use std::alloc::Global;
@@ -23,6 +23,15 @@ pub struct Case {
     pub ctx: &'static str,
     pub wanted: Wanted,
 }
+
+/// The one map of a program's list, where it has one.
+pub const SHAPE: MapShape = MapShape {
+    key_len: 4,
+    value_len: 8,
+    entries: 1,
+    spare: 1,
+    reuse_limit: 2,
+};
 
 /// The bytes of hexadecimal digits; spaces are left out.
 pub fn bytes_of(alloc: Global, text: &str) -> Result<Vec<u8>, Fail> {

@@ -172,7 +172,7 @@ fn registers_before_kinds(rt: HostRuntime) -> Result<(), Fail> {
 }
 
 #[test]
-fn bases_before_places(rt: HostRuntime) -> Result<(), Fail> {
+fn bases_before_offsets(rt: HostRuntime) -> Result<(), Fail> {
     let signed = Insn::LoadSigned {
         width: SignedWidth::Two,
         dst: r(10),
@@ -208,6 +208,22 @@ fn bases_before_places(rt: HostRuntime) -> Result<(), Fail> {
     Ok(())
 }
 
+/// r0 is a number from 0 to this one.
+fn r0_is_to(state: &AbsState, greatest: u64) -> bool {
+    match state.regs.first() {
+        Some(RegKind::Num(set)) => set.least == 0 && set.greatest == greatest,
+        _ => false,
+    }
+}
+
+fn r0_is_unwritten(state: &AbsState) -> bool {
+    matches!(state.regs.first(), Some(RegKind::Unwritten))
+}
+
+fn r4_is_a_map(state: &AbsState) -> bool {
+    matches!(state.regs.get(4), Some(RegKind::Map(0)))
+}
+
 #[test]
 fn a_stored_number_is_read_and_joined(rt: HostRuntime) -> Result<(), Fail> {
     let alloc = rt.alloc();
@@ -217,7 +233,9 @@ fn a_stored_number_is_read_and_joined(rt: HostRuntime) -> Result<(), Fail> {
     assert_eq!(rt; stored.map(|f| f.region), Ok(Region::Frame));
     let read = a.transfer(alloc, &load(Width::Four, r(10), -4), SHAPE);
     assert_eq!(rt; read.map(|f| f.region), Ok(Region::Frame));
+    assert!(rt; r0_is_to(&a, 0xffff_ffff));
     a.join(&b);
+    assert!(rt; r0_is_unwritten(&a) && r4_is_a_map(&a));
     let lost = a.transfer(alloc, &load(Width::Four, r(10), -4), SHAPE);
     assert_eq!(rt; lost.map(|f| f.region), Err(Fault::UnwrittenFrame));
     let jump = a.transfer(alloc, &test_of(r(5), r(2)), SHAPE);

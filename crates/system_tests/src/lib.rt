@@ -13,10 +13,6 @@ mod kinds;
 #[cfg(test)]
 mod long;
 #[cfg(test)]
-mod model_programs;
-#[cfg(test)]
-mod models;
-#[cfg(test)]
 mod numbers;
 #[cfg(test)]
 mod orders;

@@ -2,9 +2,8 @@
 //! the same programs in the same order; `docs/refusals_agree` compares the two.
 ghost use Rattle.std.specs.Prelude.{◌≡◌};
 
-use crate::judged::bytes_of;
+use crate::judged::{SHAPE, bytes_of};
 use asm::assemble;
-use bpf_model::MapShape;
 use insn_codec::{Program, decode};
 use std::alloc::Global;
 use std::test::Fail;
@@ -37,15 +36,6 @@ struct Row {
     refused: Source,
     instead: Source,
 }
-
-/// The one map of the programs' list.
-const SHAPE: MapShape = MapShape {
-    key_len: 4,
-    value_len: 8,
-    entries: 1,
-    spare: 1,
-    reuse_limit: 2,
-};
 
 /// The bytes of the context.
 const CONTEXT: usize = 8;

@@ -2,7 +2,7 @@
 use crate::judged::{Case, Wanted, judged_case};
 use std::test::Fail;
 
-static ROWS: [Case; 46] = [
+static ROWS: [Case; 51] = [
     Case {
         name: "exit_one",
         code: "b700000001000000 9500000000000000",
@@ -67,7 +67,37 @@ static ROWS: [Case; 46] = [
         name: "call_source_1",
         code: "8510000000000000 9500000000000000",
         ctx: "",
-        wanted: Wanted::Flawed(5, Some(0)),
+        wanted: Wanted::Flawed(7, Some(0)),
+    },
+    Case {
+        name: "wide_source_1",
+        code: "1810000000000000 0000000000000000 9500000000000000",
+        ctx: "",
+        wanted: Wanted::Flawed(7, Some(0)),
+    },
+    Case {
+        name: "map_and_number",
+        code: "1850000000000000 0000000001000000 9500000000000000",
+        ctx: "",
+        wanted: Wanted::Flawed(12, Some(0)),
+    },
+    Case {
+        name: "call_of_a_helper",
+        code: "b700000000000000 8500000001000000 9500000000000000",
+        ctx: "",
+        wanted: Wanted::Refused(35, Some(1)),
+    },
+    Case {
+        name: "call_of_a_kernel_function",
+        code: "b700000000000000 8520000001000000 9500000000000000",
+        ctx: "",
+        wanted: Wanted::Refused(35, Some(1)),
+    },
+    Case {
+        name: "map_without_a_list",
+        code: "b700000000000000 1851000000000000 0000000000000000 9500000000000000",
+        ctx: "",
+        wanted: Wanted::Refused(37, Some(1)),
     },
     Case {
         name: "div_offset_2",

@@ -1,5 +1,7 @@
 //! Sets of numbers: how narrow results are, worked out by hand.
-use bpf_model::{AluOp, Condition, SignedWidth, Size, Width};
+use bpf_model::{
+    AluOp, ByteOrder, Condition, Reg, SignExtension, SignedWidth, Size, SwapWidth, UnaryOp, Width,
+};
 use scalar_domain::Scalar;
 
 #[test]
@@ -168,4 +170,46 @@ fn edges(rt: HostRuntime) {
         false,
     );
     assert!(rt; !even.contains(7) && even.contains(6));
+}
+
+fn extended(extension: SignExtension) -> UnaryOp {
+    UnaryOp::MoveSigned {
+        extension,
+        src: Reg::R3,
+    }
+}
+
+fn ordered(order: ByteOrder) -> UnaryOp {
+    UnaryOp::ByteSwap {
+        order,
+        width: SwapWidth::Two,
+    }
+}
+
+/// Negation, sign extension and byte order, of a constant and of a byte.
+#[test]
+fn operations_of_one_operand(rt: HostRuntime) {
+    let byte = Scalar::loaded(Width::One);
+    let one = Scalar::constant(1);
+    let wide = Scalar::unary(UnaryOp::Negate(Size::Word64), one);
+    assert_eq!(rt; wide.as_constant(), Some(u64::MAX));
+    let narrow = Scalar::unary(UnaryOp::Negate(Size::Word32), one);
+    assert_eq!(rt; narrow.as_constant(), Some(0xffff_ffff));
+    let swapped = Scalar::unary(ordered(ByteOrder::Swap), Scalar::constant(0x1234));
+    assert_eq!(rt; swapped.as_constant(), Some(0x3412));
+    let short = Scalar::constant(0x8000);
+    let signed = Scalar::unary(extended(SignExtension::ShortTo64), short);
+    assert_eq!(rt; signed.as_constant(), Some(0xffff_ffff_ffff_8000));
+    assert_eq!(rt;
+        Scalar::unary(ordered(ByteOrder::Swap), byte).greatest,
+        0xffff
+    );
+    assert_eq!(rt;
+        Scalar::unary(ordered(ByteOrder::ToLittle), byte).greatest,
+        255
+    );
+    let kept = Scalar::unary(extended(SignExtension::ShortTo64), byte);
+    assert_eq!(rt; (kept.least, kept.greatest), (0, 255));
+    let low = Scalar::unary(extended(SignExtension::ByteTo32), byte);
+    assert_eq!(rt; low.greatest, 0xffff_ffff);
 }

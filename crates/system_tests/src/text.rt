@@ -1,7 +1,8 @@
 //! Lines against their bytes, which were spelled by hand from RFC 9669, and lines that are refused.
+use crate::judged::bytes_of;
 use asm::{AsmFault, assemble};
 use disasm::disassemble;
-use insn_codec::encode;
+use insn_codec::{decode, encode};
 use std::alloc::Global;
 use std::test::Fail;
 
@@ -220,8 +221,50 @@ fn every_mnemonic_and_back(rt: HostRuntime) -> Result<(), Fail> {
         write!(&mut shown, "{byte:02x}")?;
     }
     assert_eq!(rt; shown.as_str(), EVERY_SLOT);
-    let text = disassemble(rt.alloc(), &program)?;
+    let decoded = decode(rt.alloc(), &encoded)?;
+    let text = disassemble(rt.alloc(), &decoded)?;
     assert_eq!(rt; text.as_str(), EVERY_LINE);
+    Ok(())
+}
+
+/// In a section, the value of key 0 in the program's first map, or 0 where there is none.
+const LOOKUP_LINES: &str = "mov64 r6, 0\n\
+callbtf 1\n\
+stw [r10-4], 0\n\
+mov64 r2, r10\n\
+add64 r2, -4\n\
+ldmap r1, 0\n\
+call 1\n\
+jeq r0, 0, +1\n\
+ldxdw r6, [r0+0]\n\
+callbtf 2\n\
+mov64 r0, r6\n\
+exit\n";
+
+const LOOKUP_SLOTS: &str = "b706000000000000\
+8520000001000000\
+620afcff00000000\
+bfa2000000000000\
+07020000fcffffff\
+18510000000000000000000000000000\
+8500000001000000\
+1500010000000000\
+7906000000000000\
+8520000002000000\
+bf60000000000000\
+9500000000000000";
+
+#[test]
+fn lookup_both_ways(rt: HostRuntime) -> Result<(), Fail> {
+    let bytes = bytes_of(rt.alloc(), LOOKUP_SLOTS)?;
+    let decoded = decode(rt.alloc(), &bytes)?;
+    assert_eq!(rt; decoded.len(), 12);
+    assert_eq!(rt; decoded.slot_count(), 13);
+    let text = disassemble(rt.alloc(), &decoded)?;
+    assert_eq!(rt; text.as_str(), LOOKUP_LINES);
+    let assembled = assemble(rt.alloc(), LOOKUP_LINES)?;
+    let encoded = encode(rt.alloc(), &assembled)?;
+    assert_eq!(rt; encoded.as_slice(), bytes.as_slice());
     Ok(())
 }
 

@@ -18,7 +18,7 @@ use Rattle.bpf_model.specs.Value.{◌>>=◌, number}
 use Rattle.bpf_model.specs.declared.opcode.SignedWidth.{SignedWidth}
 use Rattle.bpf_model.specs.Arithmetic.{immediate, loaded_signed}
 use Rattle.bpf_model.specs.Operand.{operand_value}
-use Rattle.bpf_model.specs.Access.{byte_count, unsigned_width, place_of, number_at}
+use Rattle.bpf_model.specs.Access.{byte_count, unsigned_width, region_offset, number_at}
 use Rattle.bpf_model.specs.Step.{State, Environment, Outcome, Moves, put, sets, forward, load_from, store_to}
 use Rattle.bpf_model.specs.Section.{Section}
 use Rattle.bpf_model.specs.Element.{Element, Life, Linked, Unlinked, Reclaimed, is_reclaimed, with_value, changed, unless_reclaimed, accessible}
@@ -32,7 +32,7 @@ use Rattle.scalar_domain.specs.Scalar.{Holds}
 use Rattle.scalar_domain.specs.declared.scalar.Scalar.{Scalar}
 use Rattle.typed_runs.specs.Kinds.{Num, ValueAt, AbsState}
 use Rattle.typed_runs.specs.Describes.{Scene, scene_of, IsGuarded, IsHeld, IsElementOf, Describes}
-use Rattle.typed_runs.specs.Effects.{with_kind, IsPlaced, IsNumberOperand}
+use Rattle.typed_runs.specs.Effects.{with_kind, IsAlwaysInside, IsNumberOperand}
 use Rattle.typed_runs.specs.Verified.{AllBytes, Surrounds, Transfers}
 use Rattle.typed_runs.proofs.Kept.{Keeps, keeps-touches, describes-kept}
 use Rattle.typed_runs.proofs.Valued.{bytes-changed}
@@ -63,13 +63,13 @@ inside-or true true o at h = (refl, same_Some o at h)
 inside-or true false o at h = absurd (none-some at h)
 inside-or false b o at h = absurd (none-some at h)
 
-pub place-inside : (len width : ℕ) (o : ℤ) (at : ℕ) → place_of len width o ≡ Some at → at + width ≤ len
-place-inside len width (pos o) at h =
+pub offset-inside : (len width : ℕ) (o : ℤ) (at : ℕ) → region_offset len width o ≡ Some at → at + width ≤ len
+offset-inside len width (pos o) at h =
     let x = inside-or (nat_le (o + width) len) (o % width == 0) o at h in
     let l : o + width ≤ len = leb-true _ _ x.0 in
     let e : o ≡ at = x.1 in
     omega arith
-place-inside len width (negsuc o) at h = absurd (none-some at h)
+offset-inside len width (negsuc o) at h = absurd (none-some at h)
 
 pub number_read : (bytes : ℕ → Option ℕ) (at width : ℕ) → ((k : ℕ) → at ≤ k → k < at + width → (b : ℕ) × (bytes k ≡ Some b) × (b < 256))
     → (n : ℕ) × (number_at bytes at width ≡ Some n) × (n < 256 ^ width)
@@ -88,12 +88,12 @@ value-bytes value at width bytes fits k p q = let x = get-below value k (omega a
 
 -- what a load finds
 pub element-loads : (shapes : List MapShape) (ctx_len : ℕ) (s : Maps) (opened : List Section) (run : Run) (map : ℕ) (shape : MapShape) (scalar : Scalar) (width : ℕ) (offset : ℤ) (v : Value) → Surrounds shapes ctx_len s opened run → slice_get shapes map ≡ Some shape →
-    IsPlaced scalar width offset shape.value_len → IsElementOf (scene_of s.elements run) map scalar v → (n : ℕ) × (element_load s.elements width offset v ≡ Some n) × (n < 256 ^ width)
+    IsAlwaysInside scalar width offset shape.value_len → IsElementOf (scene_of s.elements run) map scalar v → (n : ℕ) × (element_load s.elements width offset v ≡ Some n) × (n < 256 ^ width)
 element-loads shapes ctx_len s opened run map shape scalar width offset v w at placed x =
     let long = value-long shapes ctx_len s opened run map x.n shape w at x.held in
     let p = placed x.offset x.there in
-    let place : place_of (length x.held.element.value) width (x.offset +ℤ offset) ≡ Some p.0 = ap (λ l. place_of l width (x.offset +ℤ offset)) long ∙ p.1 in
-    let r = number_read (slice_get x.held.element.value) p.0 width (value-bytes x.held.element.value p.0 width (w.bytes x.n x.held.element x.held.born) (place-inside _ _ _ _ place)) in (
+    let place : region_offset (length x.held.element.value) width (x.offset +ℤ offset) ≡ Some p.0 = ap (λ l. region_offset l width (x.offset +ℤ offset)) long ∙ p.1 in
+    let r = number_read (slice_get x.held.element.value) p.0 width (value-bytes x.held.element.value p.0 width (w.bytes x.n x.held.element x.held.born) (offset-inside _ _ _ _ place)) in (
       r.0,
       ap (element_load s.elements width offset) x.is
           ∙ (ap (λ o. o >>= loaded_from width (x.offset +ℤ offset)) (accessible-held (scene_of s.elements run) map x.n x.held)
@@ -118,7 +118,7 @@ pub set-is : (dst : ℕ) (v : Value) (m : State) → (10 ≡ dst → ⊥) → se
 set-is dst v m ne = ap (λ b. if b then None else Some (Moves (record { regs = put dst v m.regs; frame = m.frame; place = m.place + 1 }))) (ne_eqb dst 10 (λ e. ne (sym e)))
 
 module _ (width : Width) (dst src : ℕ) (offset : ℤ) (shapes : List MapShape) (ctx_len : ℕ) (a : AbsState) (map : ℕ) (shape : MapShape) (scalar t : Scalar) where
-  load-acts : a.regs src ≡ ValueAt map scalar → slice_get shapes map ≡ Some shape → IsPlaced scalar (byte_count width) offset shape.value_len → (10 ≡ dst → ⊥) → ((n : ℕ) → n < 256 ^ byte_count width → Holds t n) →
+  load-acts : a.regs src ≡ ValueAt map scalar → slice_get shapes map ≡ Some shape → IsAlwaysInside scalar (byte_count width) offset shape.value_len → (10 ≡ dst → ⊥) → ((n : ℕ) → n < 256 ^ byte_count width → Holds t n) →
       (s : Maps) (opened : List Section) (run : Run) → Surrounds shapes ctx_len s opened run → Describes a (scene_of s.elements run) run.state → Acting (Load width dst src offset) s run (with_kind dst (Num t) a) None
   load-acts e at placed ne all s opened run w d =
       let x : IsElementOf (scene_of s.elements run) map scalar (run.state.regs src) = reg-is a (scene_of s.elements run) run.state src (ValueAt map scalar) d e in
@@ -136,7 +136,7 @@ module _ (width : Width) (dst src : ℕ) (offset : ℤ) (shapes : List MapShape)
         reaches = inl (refl, refl, set-described a (scene_of s.elements run) run.state dst (run.state.place + 1) (Num t) (Number l.0) d (l.0, refl, wide-fits width l.0 l.2, all l.0 l.2) tt);
       }
 
-  pub load_transfers : a.regs src ≡ ValueAt map scalar → slice_get shapes map ≡ Some shape → IsPlaced scalar (byte_count width) offset shape.value_len → (10 ≡ dst → ⊥) → ((n : ℕ) → n < 256 ^ byte_count width → Holds t n) →
+  pub load_transfers : a.regs src ≡ ValueAt map scalar → slice_get shapes map ≡ Some shape → IsAlwaysInside scalar (byte_count width) offset shape.value_len → (10 ≡ dst → ⊥) → ((n : ℕ) → n < 256 ^ byte_count width → Holds t n) →
       Transfers (Load width dst src offset) shapes ctx_len a (with_kind dst (Num t) a) None
   load_transfers e at placed ne all = acts-transfers (Load width dst src offset) shapes ctx_len a (with_kind dst (Num t) a) None (λ s opened run answer ns nr. (λ h. h, λ h. h)) (load-acts e at placed ne all)
 
@@ -159,11 +159,11 @@ pub record StoredIn (s : Maps) (run : Run) (width : ℕ) (offset : ℤ) (v base 
   pub keeps : Keeps (scene_of s.elements run) (scene_of es run)
 
 pub element-stores : (shapes : List MapShape) (ctx_len : ℕ) (s : Maps) (opened : List Section) (run : Run) (map : ℕ) (shape : MapShape) (scalar : Scalar) (width : ℕ) (offset : ℤ) (n : ℕ) (v base : Value) → Surrounds shapes ctx_len s opened run → slice_get shapes map ≡ Some shape →
-    IsPlaced scalar width offset shape.value_len → v ≡ Number n → IsElementOf (scene_of s.elements run) map scalar base → StoredIn s run width offset v base
+    IsAlwaysInside scalar width offset shape.value_len → v ≡ Number n → IsElementOf (scene_of s.elements run) map scalar base → StoredIn s run width offset v base
 element-stores shapes ctx_len s opened run map shape scalar width offset n v base w at placed number x =
     let long = value-long shapes ctx_len s opened run map x.n shape w at x.held in
     let p = placed x.offset x.there in
-    let place : place_of (length x.held.element.value) width (x.offset +ℤ offset) ≡ Some p.0 = ap (λ l. place_of l width (x.offset +ℤ offset)) long ∙ p.1 in
+    let place : region_offset (length x.held.element.value) width (x.offset +ℤ offset) ≡ Some p.0 = ap (λ l. region_offset l width (x.offset +ℤ offset)) long ∙ p.1 in
     let es : List Element = changed (with_value (with_bytes p.0 width n x.held.element.value)) s.elements x.n in
     let stored : stored_in s.elements x.n width (x.offset +ℤ offset) n x.held.element ≡ Some es = ap (λ o. o >>= λ k. Some (changed (with_value (with_bytes k width n x.held.element.value)) s.elements x.n)) place in record {
       es = es;
@@ -179,7 +179,7 @@ operand-number a c m (Register r) d k = let y = reg-is a c m r (Num k.0) d k.1 i
 operand-number a c m (Immediate imm) d k = (immediate imm, refl)
 
 module _ (width : Width) (dst : ℕ) (offset : ℤ) (src : Operand) (shapes : List MapShape) (ctx_len : ℕ) (a : AbsState) (map : ℕ) (shape : MapShape) (scalar : Scalar) where
-  store-acts : a.regs dst ≡ ValueAt map scalar → IsNumberOperand a src → slice_get shapes map ≡ Some shape → IsPlaced scalar (byte_count width) offset shape.value_len →
+  store-acts : a.regs dst ≡ ValueAt map scalar → IsNumberOperand a src → slice_get shapes map ≡ Some shape → IsAlwaysInside scalar (byte_count width) offset shape.value_len →
       (s : Maps) (opened : List Section) (run : Run) → Surrounds shapes ctx_len s opened run → Describes a (scene_of s.elements run) run.state → Acting (Store width dst offset src) s run a None
   store-acts e f at placed s opened run w d =
       let x : IsElementOf (scene_of s.elements run) map scalar (run.state.regs dst) = reg-is a (scene_of s.elements run) run.state dst (ValueAt map scalar) d e in
@@ -198,12 +198,12 @@ module _ (width : Width) (dst : ℕ) (offset : ℤ) (src : Operand) (shapes : Li
         reaches = inl (refl, refl, placed-described a (scene_of z.es run) run.state (run.state.place + 1) (describes-kept (scene_of s.elements run) (scene_of z.es run) z.keeps a run.state d));
       }
 
-  pub store_transfers : a.regs dst ≡ ValueAt map scalar → IsNumberOperand a src → slice_get shapes map ≡ Some shape → IsPlaced scalar (byte_count width) offset shape.value_len → Transfers (Store width dst offset src) shapes ctx_len a a None
+  pub store_transfers : a.regs dst ≡ ValueAt map scalar → IsNumberOperand a src → slice_get shapes map ≡ Some shape → IsAlwaysInside scalar (byte_count width) offset shape.value_len → Transfers (Store width dst offset src) shapes ctx_len a a None
   store_transfers e f at placed = acts-transfers (Store width dst offset src) shapes ctx_len a a None (λ s opened run answer ns nr. (λ h. h, λ h. h)) (store-acts e f at placed)
 
 -- a load with sign extension
 module _ (width : SignedWidth) (dst src : ℕ) (offset : ℤ) (shapes : List MapShape) (ctx_len : ℕ) (a : AbsState) (map : ℕ) (shape : MapShape) (scalar t : Scalar) where
-  signed-acts : a.regs src ≡ ValueAt map scalar → slice_get shapes map ≡ Some shape → IsPlaced scalar (byte_count (unsigned_width width)) offset shape.value_len → (10 ≡ dst → ⊥) →
+  signed-acts : a.regs src ≡ ValueAt map scalar → slice_get shapes map ≡ Some shape → IsAlwaysInside scalar (byte_count (unsigned_width width)) offset shape.value_len → (10 ≡ dst → ⊥) →
       ((n : ℕ) → n < 256 ^ byte_count (unsigned_width width) → (loaded_signed width n < 2 ^ 64) × Holds t (loaded_signed width n)) →
       (s : Maps) (opened : List Section) (run : Run) → Surrounds shapes ctx_len s opened run → Describes a (scene_of s.elements run) run.state → Acting (LoadSigned width dst src offset) s run (with_kind dst (Num t) a) None
   signed-acts e at placed ne all s opened run w d =
@@ -225,6 +225,6 @@ module _ (width : SignedWidth) (dst src : ℕ) (offset : ℤ) (shapes : List Map
         reaches = inl (refl, refl, set-described a (scene_of s.elements run) run.state dst (run.state.place + 1) (Num t) v d (loaded_signed width l.0, refl, fits.0, fits.1) tt);
       }
 
-  pub load_signed_transfers : a.regs src ≡ ValueAt map scalar → slice_get shapes map ≡ Some shape → IsPlaced scalar (byte_count (unsigned_width width)) offset shape.value_len → (10 ≡ dst → ⊥) →
+  pub load_signed_transfers : a.regs src ≡ ValueAt map scalar → slice_get shapes map ≡ Some shape → IsAlwaysInside scalar (byte_count (unsigned_width width)) offset shape.value_len → (10 ≡ dst → ⊥) →
       ((n : ℕ) → n < 256 ^ byte_count (unsigned_width width) → (loaded_signed width n < 2 ^ 64) × Holds t (loaded_signed width n)) → Transfers (LoadSigned width dst src offset) shapes ctx_len a (with_kind dst (Num t) a) None
   load_signed_transfers e at placed ne all = acts-transfers (LoadSigned width dst src offset) shapes ctx_len a (with_kind dst (Num t) a) None (λ s opened run answer ns nr. (λ h. h, λ h. h)) (signed-acts e at placed ne all)

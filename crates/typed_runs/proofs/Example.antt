@@ -21,11 +21,12 @@ use Rattle.bpf_model.specs.declared.value.Cell.{Cell}
 use Rattle.bpf_model.specs.declared.value.Cell.TheVariants.{Byte}
 use Rattle.bpf_model.specs.Arithmetic.{immediate}
 use Rattle.bpf_model.specs.Value.{◌>>=◌, number}
-use Rattle.bpf_model.specs.Access.{place_of}
+use Rattle.bpf_model.specs.Access.{region_offset}
 use Rattle.bpf_model.specs.Frame.{is_within, with_number}
 use Rattle.bpf_model.specs.Operand.{computed}
 use Rattle.bpf_model.specs.Spelling.{slot_count}
 use Rattle.bpf_model.specs.Graph.{falls, distance}
+use Rattle.bpf_model.specs.Places.{LeadsTo}
 use Rattle.bpf_model.specs.Step.{State, Environment, Outcome, Moves, Exits, after, put, sets, store_to}
 use Rattle.bpf_model.specs.Element.{Element}
 use Rattle.bpf_model.specs.MachineStep.{AccessesElement, element_store, NeverStuck}
@@ -36,9 +37,9 @@ use Rattle.scalar_domain.specs.Constant.{constant_of}
 use Rattle.typed_runs.specs.Kinds.{Kind, Blank, Num, FrameAt, MapAt, MaybeNull, CellKind, BlankCell, ByteCell, AbsState}
 use Rattle.bpf_model.specs.Near.{IsNear}
 use Rattle.typed_runs.specs.Describes.{Scene, Naming, Stored, HasOffset, IsOf, IsOfCell, AreNear, Describes}
-use Rattle.typed_runs.specs.Effects.{with_kind, with_cells, after_call, after_lock, after_unlock, when_null, when_there, IsFresh, IsOther, IsOtherCell, IsPlaced, HasBytes}
+use Rattle.typed_runs.specs.Effects.{with_kind, with_cells, after_call, after_lock, after_unlock, when_null, when_there, IsFresh, IsOther, IsOtherCell, IsAlwaysInside, HasBytes}
 use Rattle.typed_runs.specs.Verified.{Plan, Transfers, ActsAlone, IsVerified}
-use Rattle.typed_runs.specs.Planned.{Wider, entry_state, LeadsTo, IsCovered}
+use Rattle.typed_runs.specs.Planned.{Wider, entry_state, IsCovered}
 use Rattle.typed_runs.proofs.Sets.{set-described}
 use Rattle.typed_runs.proofs.Arguments.{reg-is}
 use Rattle.typed_runs.proofs.Calls.{lock_transfers, unlock_transfers, lookup_transfers}
@@ -101,8 +102,8 @@ only-origin o h =
     let f : pos 536870912 ≡ o +ℤ pos 536870912 = ap pos (sym r) ∙ e in
     omega (arith, ints)
 
-placed-origin : IsPlaced origin 8 (pos 0) 8
-placed-origin o h = (0, ap (λ z. place_of 8 8 (z +ℤ pos 0)) (only-origin o h))
+placed-origin : IsAlwaysInside origin 8 (pos 0) 8
+placed-origin o h = (0, ap (λ z. region_offset 8 8 (z +ℤ pos 0)) (only-origin o h))
 
 -- the states
 module _ (any : Scalar) where
@@ -307,8 +308,8 @@ module _ (any : Scalar) (all : (n : ℕ) → n < 2 ^ 64 → Holds any n) where
   from-load : Wider (with_kind 6 (Num any) (s9 any)) (s10 any)
   from-load = wide-ten (with_kind 6 (Num any) (s9 any)) refl (λ c m d. reg-is (with_kind 6 (Num any) (s9 any)) c m 6 (Num any) d refl)
 
-  jump-to : (by : ℤ) → distance (JumpIf Equal Word64 0 (Immediate (pos 0)) (pos 1)) ≡ Some by → LeadsTo lookup_and_load 7 by 9
-  jump-to by j = record { further = omega arith; from = 8; from_is = refl; to = 10; to_is = refl; sum = ap (λ z. pos 9 +ℤ z) (same_Some (pos 1) by j) }
+  jump-to : LeadsTo lookup_and_load 7 (JumpIf Equal Word64 0 (Immediate (pos 0)) (pos 1)) 9
+  jump-to = record { further = omega arith; by = pos 1; by_is = refl; from = 8; from_is = refl; to = 10; to_is = refl; sum = refl }
 
   all-covered : AllCovered plan entries
   all-covered = (
@@ -341,7 +342,7 @@ module _ (any : Scalar) (all : (n : ℕ) → n < 2 ^ 64 → Holds any n) where
                     taken = Some (when_null 0 zero_scalar (s8 any));
                     transfers = t8;
                     falls_on = λ f. (s9 any, refl, same (s9 any));
-                    jumps_on = λ by j. (9, jump-to by j, (s10 any, refl, from-null));
+                    jumps_on = λ by j. (9, jump-to, (s10 any, refl, from-null));
                   },
                   (
                     omega arith,

@@ -1,4 +1,4 @@
--- The references of runs of verified programs are near, so that two of them with one word name one place.
+-- The references of runs of verified programs are near, so that two of them with one word name one location.
 use Rattle.std.proofs.Common.{◌≡◌, ℕ, List, ◌∷◌, sym, subst, ◌∙◌}
 use Rattle.bpf_model.specs.declared.value.Reference.{Reference}
 use Rattle.bpf_model.specs.declared.value.Reference.TheVariants.{Ctx, Frame, MapRef, Elem}
@@ -12,8 +12,8 @@ use Rattle.bpf_model.specs.Run.{IsHistory, AllStates}
 use Rattle.bpf_model.specs.View.{WorldView}
 use Rattle.bpf_model.specs.Refines.{Tracks}
 use Rattle.bpf_model.specs.View.{shapes_of}
-use Rattle.model_laws.specs.Near.{IsNearPlace, named_place}
-use Rattle.model_laws.proofs.Words.{words_of_places, near_words_differ}
+use Rattle.model_laws.specs.Near.{IsNearLocation, named_location}
+use Rattle.model_laws.proofs.Words.{words_of_locations, near_words_differ}
 use Rattle.bpf_model.specs.Near.{IsNearReference}
 use Rattle.typed_runs.specs.Limits.{IsWithinLimits, IsNearMachine}
 use Rattle.typed_runs.specs.Well.{AreVerified, IsWell}
@@ -26,14 +26,14 @@ pub tracked_is_near : (w : WorldView) (events : List Event) (answers : List Answ
 tracked_is_near w events answers safe real m t states h =
     all-states IsWell IsNearMachine (m ∷ states) well_is_near (well_along m events answers states (subst IsWell t.1 (reached_is_well (shapes_of w) w.programs t.0 safe t.2.reached)) real h)
 
-near-place : (slots : List ℕ) (es : List Element) (r : Reference) → IsNearReference r → IsWithinLimits slots es r → IsNearPlace (named_place slots es r)
-near-place slots es (Ctx o) n l = n
-near-place slots es (Frame o) n l = n
-near-place slots es (MapRef map) n l = l
-near-place slots es (Elem b o) n l = (l.0, l.1, n)
+near-location : (slots : List ℕ) (es : List Element) (r : Reference) → IsNearReference r → IsWithinLimits slots es r → IsNearLocation (named_location slots es r)
+near-location slots es (Ctx o) n l = n
+near-location slots es (Frame o) n l = n
+near-location slots es (MapRef map) n l = l
+near-location slots es (Elem b o) n l = (l.0, l.1, n)
 
 pub near_references_differ : (slots : List ℕ) (es : List Element) (r q : Reference) (w : ℕ) → IsNearReference r → IsNearReference q → IsWithinLimits slots es r → IsWithinLimits slots es q →
-    IsReferenceWord (element_bases slots es) r w → IsReferenceWord (element_bases slots es) q w → named_place slots es r ≡ named_place slots es q
+    IsReferenceWord (element_bases slots es) r w → IsReferenceWord (element_bases slots es) q w → named_location slots es r ≡ named_location slots es q
 near_references_differ slots es r q w n o l k a b =
-    near_words_differ (named_place slots es r) (named_place slots es q) (near-place slots es r n l) (near-place slots es q o k)
-    (sym ((words_of_places slots es r w).0 a) ∙ (words_of_places slots es q w).0 b)
+    near_words_differ (named_location slots es r) (named_location slots es q) (near-location slots es r n l) (near-location slots es q o k)
+    (sym ((words_of_locations slots es r w).0 a) ∙ (words_of_locations slots es q w).0 b)

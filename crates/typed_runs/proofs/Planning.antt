@@ -1,5 +1,5 @@
 -- A plan that is kept instruction by instruction is closed.
-use Rattle.std.proofs.Common.{◌≡◌, ℕ, suc, ◌+◌, ◌-◌, ◌<◌, List, [], ◌∷◌, length, Option, Some, None, ℤ, inl, inr, refl, sym, ap, subst, ◌∙◌, arith}
+use Rattle.std.proofs.Common.{◌≡◌, ℕ, suc, ◌+◌, ◌-◌, ◌^◌, ◌<◌, List, [], ◌∷◌, length, Option, Some, None, ℤ, inl, inr, refl, sym, ap, subst, ◌∙◌, arith}
 use Rattle.std.specs.Prelude.{if◌then◌else◌, ◌==◌, slice_get, pos, ◌+ℤ◌, unwrap_or}
 use Rattle.std.proofs.lemmas.Option.{same_Some, slice_get_within}
 use Rattle.std.proofs.lemmas.Int.{ints}
@@ -10,17 +10,20 @@ use Rattle.bpf_model.specs.declared.value.Value.TheVariants.{Nothing, Pointer}
 use Rattle.bpf_model.specs.declared.value.Reference.TheVariants.{Ctx, Frame}
 use Rattle.bpf_model.specs.declared.value.Cell.TheVariants.{Unwritten}
 use Rattle.bpf_model.specs.Spelling.{slot_count}
-use Rattle.bpf_model.specs.Places.{insn_at-start, starts-next, insn_of-start}
+use Rattle.bpf_model.specs.Graph.{distance}
+use Rattle.bpf_model.specs.Places.{StartsAt, LeadsTo, insn_at-start, starts-next, insn_of-start}
 use Rattle.bpf_model.specs.Step.{State, entry, put, insn_at}
 use Rattle.bpf_model.specs.Section.{Section}
 use Rattle.bpf_model.specs.Element.{Element}
 use Rattle.bpf_model.specs.MapState.{Store}
 use Rattle.bpf_model.specs.Machine.{Run}
 use Rattle.bpf_model.specs.MachineStep.{InsnStep}
+use Rattle.std.specs.Int.Bits.{and_self}
+use Rattle.scalar_domain.specs.Constant.{le_self}
 use Rattle.typed_runs.specs.Kinds.{Blank, CtxAt, FrameAt, AbsState}
-use Rattle.typed_runs.specs.Describes.{Scene, scene_of, IsOf, IsOfCell, AreNear, Describes, depth_of}
-use Rattle.typed_runs.specs.Verified.{StartsAt, Plan, AllBytes, Surrounds, Leads, Transfers, IsPlanned, IsPlannedAfter, IsClosed}
-use Rattle.typed_runs.specs.Planned.{Wider, AreAlike, Joins, entry_state, Covers, LeadsTo, IsCovered, IsKept}
+use Rattle.typed_runs.specs.Describes.{Scene, scene_of, HasOffset, IsContextAt, IsOf, IsOfCell, AreNear, Describes, depth_of}
+use Rattle.typed_runs.specs.Verified.{Plan, AllBytes, Surrounds, Leads, Transfers, IsPlanned, IsPlannedAfter, IsClosed}
+use Rattle.typed_runs.specs.Planned.{origin, Wider, AreAlike, Joins, entry_state, Covers, IsCovered, IsKept}
 use Rattle.typed_runs.proofs.Sets.{choice-of, near-set, widened}
 
 pub join_left : (pair : ℕ → ℕ × ℕ) (a b c : AbsState) → Joins pair a b c → Wider a c
@@ -59,13 +62,20 @@ entry-near : AreNear entry.regs entry.frame
 entry-near = near-set 1 (Pointer (Ctx (pos 0))) (put 10 (Pointer (Frame (pos 512))) (λ r. Nothing)) (λ k. Unwritten) (omega arith)
     (near-set 10 (Pointer (Frame (pos 512))) (λ r. Nothing) (λ k. Unwritten) (omega arith) (record { regs_near = λ r. tt; cells_near = λ k. tt }))
 
+-- the offset 0 is the one of the scalar
+pub origin_has : HasOffset origin (pos 0)
+origin_has = record { raised = 2 ^ 29; is = refl; limit = omega arith; holds = record { least = le_self (2 ^ 29); greatest = le_self (2 ^ 29); zeros = and_self (2 ^ 29); ones = and_self (2 ^ 29) } }
+
+context-start : IsContextAt origin (Pointer (Ctx (pos 0)))
+context-start = record { offset = pos 0; is = refl; there = origin_has }
+
 pub entry_described : (c : Scene) → c.depth ≡ 0 → Describes entry_state c entry
 entry_described c out = record {
   naming = λ id. None;
   stored = λ k. Nothing;
   inside = out;
   near = entry-near;
-  regs = λ r. choice-of c (λ id. None) (r == 1) (CtxAt (pos 0)) (if r == 10 then FrameAt (pos 512) else Blank) (Pointer (Ctx (pos 0))) (if r == 10 then Pointer (Frame (pos 512)) else Nothing) refl
+  regs = λ r. choice-of c (λ id. None) (r == 1) (CtxAt origin) (if r == 10 then FrameAt (pos 512) else Blank) (Pointer (Ctx (pos 0))) (if r == 10 then Pointer (Frame (pos 512)) else Nothing) context-start
       (choice-of c (λ id. None) (r == 10) (FrameAt (pos 512)) Blank (Pointer (Frame (pos 512))) Nothing refl tt);
   cells = λ k. tt;
 }
@@ -92,10 +102,11 @@ module _ (code : List Insn) (shapes : List MapShape) (ctx_len : ℕ) (plan : Pla
   fallen : (k place : ℕ) (i : Insn) (new : AbsState) → slice_get code k ≡ Some i → StartsAt code k place → Covers plan (suc k) new → StartsAt code (suc k) (place + slot_count i)
   fallen k place i new there at v = starts-next 0 code k place i there at (kept.inside (suc k) v.0 v.1)
 
-  jumped : (k place target t : ℕ) (by : ℤ) → StartsAt code k place → pos target ≡ pos (place + 1) +ℤ by → LeadsTo code k by t → StartsAt code t target
-  jumped k place target t by at sum l =
+  jumped : (k place target t : ℕ) (i : Insn) (by : ℤ) → StartsAt code k place → distance i ≡ Some by → pos target ≡ pos (place + 1) +ℤ by → LeadsTo code k i t → StartsAt code t target
+  jumped k place target t i by at far sum l =
       let e : place ≡ l.from = start-one code k place l.from at l.from_is in
-      let f : pos l.to ≡ pos target = l.sum ∙ (ap (λ p. pos (p + 1) +ℤ by) (sym e) ∙ sym sum) in
+      let d : by ≡ l.by = same_Some by l.by (sym far ∙ l.by_is) in
+      let f : pos l.to ≡ pos target = l.sum ∙ (ap (λ p. pos (p + 1) +ℤ l.by) (sym e) ∙ (ap (λ d. pos (place + 1) +ℤ d) (sym d) ∙ sym sum)) in
       let g : l.to ≡ target = omega (arith, ints) in
       subst (StartsAt code t) g l.to_is
 
@@ -111,7 +122,7 @@ module _ (code : List Insn) (shapes : List MapShape) (ctx_len : ℕ) (plan : Pla
         let t = v.jumps_on x.0.0 x.0.1 in record {
           index = t.0;
           further = t.1.further;
-          planned = planned-at code plan t.0 (unwrap_or v.taken v.new) (scene_of es run) run.state (jumped k place run.state.place t.0 x.0.0 at x.0.2 t.1) t.2 x.1;
+          planned = planned-at code plan t.0 (unwrap_or v.taken v.new) (scene_of es run) run.state (jumped k place run.state.place t.0 v.insn x.0.0 at x.0.1 x.0.2 t.1) t.2 x.1;
         }
   ]
 

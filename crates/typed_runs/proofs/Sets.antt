@@ -108,7 +108,7 @@ module _ (c : Scene) (ρ : Naming) (left : ℕ → ℕ) where
       subst (λ (y : ℕ). (v ≡ found_value (ρ (left j))) × IsNullOrHeld c y (ρ (left j))) (sym w.0) (subst (λ (x : ℕ). (v ≡ found_value (ρ x)) × IsNullOrHeld c map (ρ x)) (sym w.1) h)
   wider-of (Num s) (Num t) v w h = (h.0, h.1, h.2, w h.0 h.3)
   wider-of (ValueAt map s) (ValueAt map' t) v w h = record { n = h.n; offset = h.offset; is = h.is; there = w.1 h.offset h.there; held = subst (λ y. IsHeld c y h.n) (sym w.0) h.held }
-  wider-of (CtxAt o) (CtxAt p) v w h = subst (λ z. IsOf c ρ (CtxAt z) v) w h
+  wider-of (CtxAt s) (CtxAt t) v w h = record { offset = h.offset; is = h.is; there = w h.offset h.there }
   wider-of (FrameAt o) (FrameAt p) v w h = subst (λ z. IsOf c ρ (FrameAt z) v) w h
   wider-of (MapAt o) (MapAt p) v w h = subst (λ z. IsOf c ρ (MapAt z) v) w h
   wider-of k Blank v w h = tt

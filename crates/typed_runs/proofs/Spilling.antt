@@ -17,7 +17,7 @@ use Rattle.bpf_model.specs.declared.value.Reference.TheVariants.{Ctx, Frame, Map
 use Rattle.bpf_model.specs.declared.value.Cell.{Cell}
 use Rattle.bpf_model.specs.declared.value.Cell.TheVariants.{Byte, Part}
 use Rattle.bpf_model.specs.Value.{◌>>=◌}
-use Rattle.bpf_model.specs.Access.{place_of, number_at}
+use Rattle.bpf_model.specs.Access.{region_offset, number_at}
 use Rattle.bpf_model.specs.Frame.{byte_of, is_same_reference, is_part, are_parts, found, read, is_within}
 use Rattle.bpf_model.specs.Step.{State, Outcome, Moves, put, sets, load_from, frame_after, store_to}
 use Rattle.bpf_model.specs.Element.{Element}
@@ -40,7 +40,7 @@ both-true true true o at h = (refl, same_Some o at h)
 both-true true false o at h = absurd (none-some at h)
 both-true false b o at h = absurd (none-some at h)
 
-aligned : (o : ℤ) (at : ℕ) → place_of 512 8 o ≡ Some at → at % 8 ≡ 0
+aligned : (o : ℤ) (at : ℕ) → region_offset 512 8 o ≡ Some at → at % 8 ≡ 0
 aligned (pos o) at h =
     let x = both-true (nat_le (o + 8) 512) (o % 8 == 0) o at h in
     let m : o % 8 ≡ 0 = eqb-true _ _ x.0 in
@@ -85,7 +85,7 @@ written c ρ Blank v w h e = absurd w
 written c ρ Mixed v w h e = absurd w
 written c ρ Ended v w h e = absurd w
 written c ρ (Num s) v w h e = number-not h.0 v h.1 e
-written c ρ (CtxAt o) v w h e = pointer-not (Ctx o) v h e
+written c ρ (CtxAt s) v w h e = pointer-not (Ctx h.offset) v h.is e
 written c ρ (FrameAt o) v w h e = pointer-not (Frame o) v h e
 written c ρ (MapAt map) v w h e = pointer-not (MapRef map) v h e
 written c ρ (ValueAt map s) v w h e = pointer-not (Elem h.n h.offset) v h.is e
@@ -149,7 +149,7 @@ no-element-load : (es : List Element) (width : ℕ) (offset : ℤ) (base : Value
 no-element-load es width offset base o n e h = none-some n (sym (ap (element_load es width offset) e) ∙ h)
 
 module _ (dst src : ℕ) (offset o : ℤ) (at : ℕ) (shapes : List MapShape) (ctx_len : ℕ) (a : AbsState) (kind : Kind) where
-  spill-acts : a.regs dst ≡ FrameAt o → place_of 512 8 (o +ℤ offset) ≡ Some at → a.regs src ≡ kind → IsWritten kind → (s : Maps) (run : Run) → AllBytes s.elements → Describes a (scene_of s.elements run) run.state →
+  spill-acts : a.regs dst ≡ FrameAt o → region_offset 512 8 (o +ℤ offset) ≡ Some at → a.regs src ≡ kind → IsWritten kind → (s : Maps) (run : Run) → AllBytes s.elements → Describes a (scene_of s.elements run) run.state →
       Acting (Store Eight dst offset (Register src)) s run (with_cells at 8 (PartCell kind) a) None
   spill-acts e p f w s run bytes d =
       let base : run.state.regs dst ≡ Pointer (Frame o) = reg-is a (scene_of s.elements run) run.state dst (FrameAt o) d e in
@@ -160,7 +160,7 @@ module _ (dst src : ℕ) (offset o : ℤ) (at : ℕ) (shapes : List MapShape) (c
       (λ other fs h. no-element s.elements 8 offset (run.state.regs src) (run.state.regs dst) o fs base h.0)
       (inl (refl, refl, spilled-described a (scene_of s.elements run) run.state at (run.state.place + 1) kind (run.state.regs src) (aligned (o +ℤ offset) at p) d v (d.near.regs_near src)))
 
-  pub spill_transfers : a.regs dst ≡ FrameAt o → place_of 512 8 (o +ℤ offset) ≡ Some at → a.regs src ≡ kind → IsWritten kind → Transfers (Store Eight dst offset (Register src)) shapes ctx_len a (with_cells at 8 (PartCell kind) a) None
+  pub spill_transfers : a.regs dst ≡ FrameAt o → region_offset 512 8 (o +ℤ offset) ≡ Some at → a.regs src ≡ kind → IsWritten kind → Transfers (Store Eight dst offset (Register src)) shapes ctx_len a (with_cells at 8 (PartCell kind) a) None
   spill_transfers e p f w = acts-transfers (Store Eight dst offset (Register src)) shapes ctx_len a (with_cells at 8 (PartCell kind) a) None (λ s opened run answer ns nr. (λ h. h, λ h. h)) (λ s opened run x d. spill-acts e p f w s run x.bytes d)
 
 -- eight parts are read back
@@ -213,7 +213,7 @@ pointer-value c ρ Blank v w h = absurd w
 pointer-value c ρ Mixed v w h = absurd w
 pointer-value c ρ Ended v w h = absurd w
 pointer-value c ρ (Num s) v w h = absurd w
-pointer-value c ρ (CtxAt o) v w h = inr (Ctx o, h)
+pointer-value c ρ (CtxAt s) v w h = inr (Ctx h.offset, h.is)
 pointer-value c ρ (FrameAt o) v w h = inr (Frame o, h)
 pointer-value c ρ (MapAt map) v w h = inr (MapRef map, h)
 pointer-value c ρ (ValueAt map s) v w h = inr (Elem h.n h.offset, h.is)
@@ -232,7 +232,7 @@ read-back frame at v (inr x) h =
     ∙ (ap (λ b. if b then Some (Pointer x.0) else None) (parts-are x.0 frame 8 0 at (λ j l. let z : j ≡ 0 + j = omega arith in cell j l ∙ ap (λ k. Part k x.0) z)) ∙ ap Some (sym x.1))
 
 module _ (dst src : ℕ) (offset o : ℤ) (at : ℕ) (shapes : List MapShape) (ctx_len : ℕ) (a : AbsState) (kind : Kind) where
-  fill-acts : a.regs src ≡ FrameAt o → place_of 512 8 (o +ℤ offset) ≡ Some at → ((j : ℕ) → j < 8 → a.cells (at + j) ≡ PartCell kind) → IsPointer kind → (10 ≡ dst → ⊥) →
+  fill-acts : a.regs src ≡ FrameAt o → region_offset 512 8 (o +ℤ offset) ≡ Some at → ((j : ℕ) → j < 8 → a.cells (at + j) ≡ PartCell kind) → IsPointer kind → (10 ≡ dst → ⊥) →
       (s : Maps) (run : Run) → AllBytes s.elements → Describes a (scene_of s.elements run) run.state → Acting (Load Eight dst src offset) s run (with_kind dst kind a) None
   fill-acts e p cells w ne s run bytes d =
       let m : State = run.state in
@@ -252,5 +252,5 @@ module _ (dst src : ℕ) (offset o : ℤ) (at : ℕ) (shapes : List MapShape) (c
       (λ other fs h. no-element-load s.elements 8 offset (m.regs src) o h.0 base h.1)
       (inl (refl, refl, set-described a c m dst (m.place + 1) kind v d of_kind (part-near 0 v (subst IsNearCell (part 0 (omega arith)).0 (d.near.cells_near (at + 0))))))
 
-  pub fill_transfers : a.regs src ≡ FrameAt o → place_of 512 8 (o +ℤ offset) ≡ Some at → ((j : ℕ) → j < 8 → a.cells (at + j) ≡ PartCell kind) → IsPointer kind → (10 ≡ dst → ⊥) → Transfers (Load Eight dst src offset) shapes ctx_len a (with_kind dst kind a) None
+  pub fill_transfers : a.regs src ≡ FrameAt o → region_offset 512 8 (o +ℤ offset) ≡ Some at → ((j : ℕ) → j < 8 → a.cells (at + j) ≡ PartCell kind) → IsPointer kind → (10 ≡ dst → ⊥) → Transfers (Load Eight dst src offset) shapes ctx_len a (with_kind dst kind a) None
   fill_transfers e p cells w ne = acts-transfers (Load Eight dst src offset) shapes ctx_len a (with_kind dst kind a) None (λ s opened run answer ns nr. (λ h. h, λ h. h)) (λ s opened run x d. fill-acts e p cells w ne s run x.bytes d)

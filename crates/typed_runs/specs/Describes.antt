@@ -31,7 +31,7 @@ IsGuarded Linked s = Unit {0}
 IsGuarded (Unlinked since) s = Has since s
 IsGuarded Reclaimed s = ⊥
 
--- The run is inside a section, which guards element n, one of the map at this place of its program's list.
+-- The run is inside a section, which guards element n, one of the map at this index of its program's list.
 pub record IsHeld (c : Scene) (map n : ℕ) : Type 0 where
   pub inside : 0 < c.depth
   pub element : Element
@@ -54,6 +54,12 @@ pub record HasOffset (s : Scalar) (o : ℤ) : Type 0 where
   pub limit : raised ≤ 2 ^ 30
   pub holds : Holds s raised
 
+-- the context, at one of those offsets
+pub record IsContextAt (s : Scalar) (v : Value) : Type 0 where
+  pub offset : ℤ
+  pub is : v ≡ Pointer (Ctx offset)
+  pub there : HasOffset s offset
+
 pub record IsElementOf (c : Scene) (map : ℕ) (s : Scalar) (v : Value) : Type 0 where
   pub n : ℕ
   pub offset : ℤ
@@ -67,7 +73,7 @@ IsOf c ρ Blank v = Unit {0}
 IsOf c ρ Mixed v = Unit {0}
 IsOf c ρ Ended v = Unit {0}
 IsOf c ρ (Num s) v = (n : ℕ) × (v ≡ Number n) × (n < 2 ^ 64) × Holds s n
-IsOf c ρ (CtxAt o) v = v ≡ Pointer (Ctx o)
+IsOf c ρ (CtxAt s) v = IsContextAt s v
 IsOf c ρ (FrameAt o) v = v ≡ Pointer (Frame o)
 IsOf c ρ (MapAt map) v = v ≡ Pointer (MapRef map)
 IsOf c ρ (ValueAt map s) v = IsElementOf c map s v

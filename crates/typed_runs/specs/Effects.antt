@@ -4,7 +4,7 @@ use Rattle.bpf_model.specs.declared.limits.TheConstants.{FRAME_BYTES}
 use Rattle.bpf_model.specs.declared.limits.MapShape.{MapShape}
 use Rattle.bpf_model.specs.declared.insn.Operand.{Operand}
 use Rattle.bpf_model.specs.declared.insn.Operand.TheVariants.{Register, Immediate}
-use Rattle.bpf_model.specs.Access.{place_of}
+use Rattle.bpf_model.specs.Access.{region_offset}
 use Rattle.bpf_model.specs.Step.{put}
 use Rattle.bpf_model.specs.Frame.{is_within}
 use Rattle.scalar_domain.specs.Scalar.{Holds}
@@ -38,7 +38,11 @@ abbrev pub after_lock : AbsState → AbsState
 after_lock a = record { regs = returned_kind Blank a.regs; cells = a.cells; inside = true }
 
 abbrev pub after_unlock : AbsState → AbsState
-after_unlock a = record { regs = returned_kind Blank (λ r. ended_kind (a.regs r)); cells = λ k. ended_cell (a.cells k); inside = false }
+after_unlock a = record {
+  regs = returned_kind Blank (λ r. ended_kind (a.regs r));
+  cells = λ k. ended_cell (a.cells k);
+  inside = false;
+}
 
 -- no register and no cell has the identity
 abbrev pub IsOther : ℕ → Kind → Type 0
@@ -71,25 +75,37 @@ there_cell id origin (PartCell kind) = PartCell (there_kind id origin kind)
 there_cell id origin cell = cell
 
 abbrev pub when_null : ℕ → Scalar → AbsState → AbsState
-when_null id zero a = record { regs = λ r. null_kind id zero (a.regs r); cells = λ k. null_cell id (a.cells k); inside = a.inside }
+when_null id zero a = record {
+  regs = λ r. null_kind id zero (a.regs r);
+  cells = λ k. null_cell id (a.cells k);
+  inside = a.inside;
+}
 
 abbrev pub when_there : ℕ → Scalar → AbsState → AbsState
-when_there id origin a = record { regs = λ r. there_kind id origin (a.regs r); cells = λ k. there_cell id origin (a.cells k); inside = a.inside }
+when_there id origin a = record {
+  regs = λ r. there_kind id origin (a.regs r);
+  cells = λ k. there_cell id origin (a.cells k);
+  inside = a.inside;
+}
 
 -- a store to the frame: bytes, or a value of a kind at a group
 abbrev pub with_cells : ℕ → ℕ → CellKind → AbsState → AbsState
-with_cells at width cell a = record { regs = a.regs; cells = λ k. if is_within at width k then cell else a.cells k; inside = a.inside }
+with_cells at width cell a = record {
+  regs = a.regs;
+  cells = λ k. if is_within at width k then cell else a.cells k;
+  inside = a.inside;
+}
 
 -- each access of the width, at one of the offsets, lies in a region of that length
-abbrev pub IsPlaced : Scalar → ℕ → ℤ → ℕ → Type 0
-IsPlaced s width offset len = (o : ℤ) → HasOffset s o → (at : ℕ) × (place_of len width (o +ℤ offset) ≡ Some at)
+abbrev pub IsAlwaysInside : Scalar → ℕ → ℤ → ℕ → Type 0
+IsAlwaysInside s width offset len = (o : ℤ) → HasOffset s o → (at : ℕ) × (region_offset len width (o +ℤ offset) ≡ Some at)
 
 -- Under a renaming of identities the second kind is of what is of the first. Each side of a join is so, with a renaming of its own.
 abbrev pub IsWiderKind : (ℕ → ℕ) → Kind → Kind → Type 0
 IsWiderKind left (MaybeNull map i) (MaybeNull map' j) = (map' ≡ map) × (left j ≡ i)
 IsWiderKind left (Num s) (Num t) = (n : ℕ) → Holds s n → Holds t n
 IsWiderKind left (ValueAt map s) (ValueAt map' t) = (map' ≡ map) × ((o : ℤ) → HasOffset s o → HasOffset t o)
-IsWiderKind left (CtxAt o) (CtxAt p) = o ≡ p
+IsWiderKind left (CtxAt s) (CtxAt t) = (o : ℤ) → HasOffset s o → HasOffset t o
 IsWiderKind left (FrameAt o) (FrameAt p) = o ≡ p
 IsWiderKind left (MapAt m) (MapAt n) = m ≡ n
 IsWiderKind left kind Blank = Unit {0}

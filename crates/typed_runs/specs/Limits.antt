@@ -1,4 +1,4 @@
--- References to places inside the limits, of which each near one has a word of its own.
+-- References to locations inside the limits, of which each near one has a word of its own.
 use Rattle.std.specs.Prelude.{◌≡◌, ℕ, ◌+◌, ◌<◌, List, Some, None, slice_get, slice_index}
 use Rattle.bpf_model.specs.declared.value.Reference.{Reference}
 use Rattle.bpf_model.specs.declared.value.Reference.TheVariants.{Ctx, Frame, MapRef, Elem}

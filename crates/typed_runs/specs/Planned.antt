@@ -1,20 +1,23 @@
 -- A plan that is kept instruction by instruction: what the verifier's pass builds.
-use Rattle.std.specs.Prelude.{◌≡◌, ℕ, suc, ◌+◌, ◌==◌, ◌<◌, List, length, slice_get, Option, Some, true, false, ℤ, pos, ◌+ℤ◌, unwrap_or, if◌then◌else◌}
+use Rattle.std.specs.Prelude.{◌≡◌, ℕ, suc, ◌+◌, ◌^◌, ◌==◌, ◌<◌, List, length, slice_get, Option, Some, true, false, ℤ, pos, unwrap_or, if◌then◌else◌}
 use Rattle.bpf_model.specs.declared.limits.TheConstants.{FRAME_BYTES}
 use Rattle.bpf_model.specs.declared.insn.Insn.{Insn}
 use Rattle.bpf_model.specs.declared.limits.MapShape.{MapShape}
 use Rattle.bpf_model.specs.Graph.{falls, distance}
+use Rattle.bpf_model.specs.Places.{LeadsTo}
 use Rattle.bpf_model.specs.Step.{State}
+use Rattle.scalar_domain.specs.declared.scalar.Scalar.{Scalar}
+use Rattle.scalar_domain.specs.Constant.{constant_of}
 use Rattle.typed_runs.specs.Kinds.{Kind, Blank, CtxAt, FrameAt, BlankCell, AbsState}
 use Rattle.typed_runs.specs.Describes.{Scene, Describes}
 use Rattle.typed_runs.specs.Effects.{IsWider}
-use Rattle.typed_runs.specs.Verified.{StartsAt, Plan, Transfers}
+use Rattle.typed_runs.specs.Verified.{Plan, Transfers}
 
 -- each run that the one describes the other describes too
 abbrev pub Wider : AbsState → AbsState → Type 0
 Wider a b = (c : Scene) (m : State) → Describes a c m → Describes b c m
 
--- the same kinds, place by place: what an array holds after it was written
+-- the same kinds, index by index: what an array holds after it was written
 pub record AreAlike (a b : AbsState) : Type 0 where
   pub regs : (r : ℕ) → b.regs r ≡ a.regs r
   pub cells : (k : ℕ) → b.cells k ≡ a.cells k
@@ -26,9 +29,13 @@ pub record Joins (pair : ℕ → ℕ × ℕ) (a b c : AbsState) : Type 0 where
   pub left : IsWider (λ id. (pair id).0) a c
   pub right : IsWider (λ id. (pair id).1) b c
 
+-- the offset 0 alone
+abbrev pub origin : Scalar
+origin = constant_of (2 ^ 29)
+
 -- at the entry
 abbrev pub entry_kind : ℕ → Kind
-entry_kind r = if r == 1 then CtxAt (pos 0) else if r == 10 then FrameAt (pos FRAME_BYTES) else Blank
+entry_kind r = if r == 1 then CtxAt origin else if r == 10 then FrameAt (pos FRAME_BYTES) else Blank
 
 abbrev pub entry_state : AbsState
 entry_state = record { regs = entry_kind; cells = λ k. BlankCell; inside = false }
@@ -36,15 +43,6 @@ entry_state = record { regs = entry_kind; cells = λ k. BlankCell; inside = fals
 -- the plan has a wider state at the index
 abbrev pub Covers : Plan → ℕ → AbsState → Type 0
 Covers plan k a = (b : AbsState) × (plan k ≡ Some b) × Wider a b
-
--- the instruction of index k leads, as a jump over this distance, to that of index t, which stands further on
-pub record LeadsTo (code : List Insn) (k : ℕ) (by : ℤ) (t : ℕ) : Type 0 where
-  pub further : k < t
-  pub from : ℕ
-  pub from_is : StartsAt code k from
-  pub to : ℕ
-  pub to_is : StartsAt code t to
-  pub sum : pos to ≡ pos (from + 1) +ℤ by
 
 -- what the pass does with one instruction
 pub record IsCovered (code : List Insn) (shapes : List MapShape) (ctx_len : ℕ) (plan : Plan) (k : ℕ) (a : AbsState) : Type 0 where
@@ -54,7 +52,7 @@ pub record IsCovered (code : List Insn) (shapes : List MapShape) (ctx_len : ℕ)
   pub taken : Option AbsState
   pub transfers : Transfers insn shapes ctx_len a new taken
   pub falls_on : falls insn ≡ true → Covers plan (suc k) new
-  pub jumps_on : (by : ℤ) → distance insn ≡ Some by → (t : ℕ) × LeadsTo code k by t × Covers plan t (unwrap_or taken new)
+  pub jumps_on : (by : ℤ) → distance insn ≡ Some by → (t : ℕ) × LeadsTo code k insn t × Covers plan t (unwrap_or taken new)
 
 pub record IsKept (code : List Insn) (shapes : List MapShape) (ctx_len : ℕ) (plan : Plan) : Type 0 where
   pub start : Covers plan 0 entry_state

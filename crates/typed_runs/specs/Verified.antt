@@ -4,7 +4,8 @@ use Rattle.bpf_model.specs.declared.insn.Insn.{Insn}
 use Rattle.bpf_model.specs.declared.insn.Insn.TheVariants.{Call}
 use Rattle.bpf_model.specs.declared.limits.MapShape.{MapShape}
 use Rattle.bpf_model.specs.declared.event.Answer.{Answer}
-use Rattle.bpf_model.specs.Spelling.{slot_count, starts_from}
+use Rattle.bpf_model.specs.Spelling.{slot_count}
+use Rattle.bpf_model.specs.Places.{StartsAt}
 use Rattle.bpf_model.specs.Graph.{falls, JumpsTo}
 use Rattle.bpf_model.specs.Step.{State, Environment, Outcome, Moves, Exits, after, entry, insn_at}
 use Rattle.bpf_model.specs.Section.{Section, Has}
@@ -19,7 +20,8 @@ use Rattle.typed_runs.specs.Describes.{Scene, scene_of, Describes}
 -- each shape is that of the map to which the program's list binds it
 pub record AreBound (shapes : List MapShape) (maps : List ℕ) (states : List MapState) : Type 0 where
   pub count : length maps ≡ length shapes
-  pub each : (i : ℕ) (shape : MapShape) → slice_get shapes i ≡ Some shape → (map : ℕ) × (state : MapState) × (slice_get maps i ≡ Some map) × (slice_get states map ≡ Some state) × (state.shape ≡ shape)
+  pub each : (i : ℕ) (shape : MapShape) → slice_get shapes i ≡ Some shape → (map : ℕ) × (state : MapState)
+      × (slice_get maps i ≡ Some map) × (slice_get states map ≡ Some state) × (state.shape ≡ shape)
 
 abbrev pub AllBytes : List Element → Type 0
 AllBytes es = (n : ℕ) (e : Element) → slice_get es n ≡ Some e → AreBytes e.value
@@ -29,7 +31,9 @@ pub record Surrounds (shapes : List MapShape) (ctx_len : ℕ) (s : Store) (opene
   pub going : run.exit ≡ None
   pub section : 0 < run.depth → Has opened (section_of run)
   pub single : (map : ℕ) (key : List ℕ) (a b : ℕ) → IsLinkedAt s.elements map key a → IsLinkedAt s.elements map key b → a ≡ b
-  pub sizes : (n : ℕ) (e : Element) → slice_get s.elements n ≡ Some e → (state : MapState) × (slice_get s.maps e.map ≡ Some state) × (length e.key ≡ state.shape.key_len) × (length e.value ≡ state.shape.value_len)
+  pub sizes : (n : ℕ) (e : Element) → slice_get s.elements n ≡ Some e → (state : MapState)
+      × (slice_get s.maps e.map ≡ Some state) × (length e.key ≡ state.shape.key_len)
+      × (length e.value ≡ state.shape.value_len)
   pub bytes : AllBytes s.elements
   pub bound : AreBound shapes run.program.maps s.maps
   pub long : length run.context ≡ ctx_len
@@ -37,7 +41,8 @@ pub record Surrounds (shapes : List MapShape) (ctx_len : ℕ) (s : Store) (opene
 
 -- the instruction has a step
 abbrev pub HasStep : Insn → Store → List Section → Run → Type 0
-HasStep i s opened run = (answer : Answer) × (new_store : Store) × (new_run : Run) × InsnStep i s opened run answer new_store new_run
+HasStep i s opened run = (answer : Answer) × (new_store : Store) × (new_run : Run)
+    × InsnStep i s opened run answer new_store new_run
 
 -- The run has ended, or is described where control falls through, or where it jumps: by the state beside it, where there is one.
 abbrev pub Leads : Insn → AbsState → Option AbsState → ℕ → List Element → Run → Type 0
@@ -47,13 +52,11 @@ Leads i new taken place es run = run.exit ≡ None →
 
 -- What `transfer` ensures: from each described state the instruction isn't stuck, each of its steps leads to a described one, and bytes stay bytes.
 pub record Transfers (i : Insn) (shapes : List MapShape) (ctx_len : ℕ) (old new : AbsState) (taken : Option AbsState) : Type 0 where
-  pub goes : (s : Store) (opened : List Section) (run : Run) → Surrounds shapes ctx_len s opened run → Describes old (scene_of s.elements run) run.state → HasStep i s opened run
+  pub goes : (s : Store) (opened : List Section) (run : Run) → Surrounds shapes ctx_len s opened run
+      → Describes old (scene_of s.elements run) run.state → HasStep i s opened run
   pub leads : (s : Store) (opened : List Section) (run : Run) (answer : Answer) (new_store : Store) (new_run : Run) → Surrounds shapes ctx_len s opened run → Describes old (scene_of s.elements run) run.state →
-      InsnStep i s opened run answer new_store new_run → AllBytes new_store.elements × Leads i new taken run.state.place new_store.elements new_run
-
--- the instruction of this index begins at this slot
-abbrev pub StartsAt : List Insn → ℕ → ℕ → Type 0
-StartsAt code k place = slice_get (starts_from 0 code) k ≡ Some place
+      InsnStep i s opened run answer new_store new_run → AllBytes new_store.elements
+      × Leads i new taken run.state.place new_store.elements new_run
 
 -- what is known before each instruction, by its index
 abbrev pub Plan : Type 0
@@ -75,11 +78,14 @@ pub record IsPlannedAfter (code : List Insn) (plan : Plan) (k : ℕ) (c : Scene)
 -- The plan holds at the entry, outside every section, and each step keeps it, further on.
 pub record IsClosed (code : List Insn) (shapes : List MapShape) (ctx_len : ℕ) (plan : Plan) : Type 0 where
   pub start : (c : Scene) → c.depth ≡ 0 → IsPlanned code plan 0 c entry
-  pub goes : (k : ℕ) (s : Store) (opened : List Section) (run : Run) → Surrounds shapes ctx_len s opened run → IsPlanned code plan k (scene_of s.elements run) run.state →
+  pub goes : (k : ℕ) (s : Store) (opened : List Section) (run : Run) → Surrounds shapes ctx_len s opened run
+      → IsPlanned code plan k (scene_of s.elements run) run.state →
       (i : Insn) × (insn_at code run.state.place ≡ Some i) × HasStep i s opened run
   pub leads : (k : ℕ) (i : Insn) (s : Store) (opened : List Section) (run : Run) (answer : Answer) (new_store : Store) (new_run : Run) → Surrounds shapes ctx_len s opened run →
-      IsPlanned code plan k (scene_of s.elements run) run.state → insn_at code run.state.place ≡ Some i → InsnStep i s opened run answer new_store new_run →
-      AllBytes new_store.elements × (new_run.exit ≡ None → IsPlannedAfter code plan k (scene_of new_store.elements new_run) new_run.state)
+      IsPlanned code plan k (scene_of s.elements run) run.state → insn_at code run.state.place ≡ Some i
+      → InsnStep i s opened run answer new_store new_run →
+      AllBytes new_store.elements × (new_run.exit ≡ None
+      → IsPlannedAfter code plan k (scene_of new_store.elements new_run) new_run.state)
 
 -- What a `Verified` has as its invariant.
 pub record IsVerified (code : List Insn) (shapes : List MapShape) (ctx_len : ℕ) : Type 0 where
@@ -110,4 +116,5 @@ pub record ActsAlone (i : Insn) (new : AbsState) (taken : Option AbsState) (c : 
   pub lands : Lands i new taken c m.place out
 
 abbrev pub TransfersAlone : Insn → List MapShape → ℕ → AbsState → AbsState → Option AbsState → Type 0
-TransfersAlone i shapes ctx_len old new taken = (c : Scene) (env : Environment) (m : State) → IsEnvironment ctx_len (length shapes) env → Describes old c m → ActsAlone i new taken c env m
+TransfersAlone i shapes ctx_len old new taken = (c : Scene) (env : Environment) (m : State)
+    → IsEnvironment ctx_len (length shapes) env → Describes old c m → ActsAlone i new taken c env m

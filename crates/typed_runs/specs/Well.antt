@@ -16,7 +16,8 @@ pub record IsVerifiedFor (states : List MapState) (program : Loaded) : Type 0 wh
 
 -- each program, at the start with maps of these shapes
 abbrev pub AreVerified : List MapShape → List Loaded → Type 0
-AreVerified shapes programs = (p : ℕ) (program : Loaded) → slice_get programs p ≡ Some program → IsVerifiedFor (map new_map shapes) program
+AreVerified shapes programs = (p : ℕ) (program : Loaded) → slice_get programs p ≡ Some program
+    → IsVerifiedFor (map new_map shapes) program
 
 -- A run of a verified program, described by its plan. The index of the instruction where it stands grows by each step.
 pub record IsTyped (s : Store) (run : Run) : Type 0 where

@@ -21,7 +21,7 @@ ghost use Rattle.bpf_model.specs.declared.opcode.Condition.{Condition};
 ghost use Rattle.bpf_model.specs.declared.opcode.Size.{Size};
 ghost use Rattle.bpf_model.specs.declared.event.Event.{Event};
 ghost use Rattle.bpf_model.specs.declared.event.Answer.{Answer};
-ghost use Rattle.bpf_model.specs.Access.{byte_count, unsigned_width, place_of};
+ghost use Rattle.bpf_model.specs.Access.{byte_count, unsigned_width, region_offset};
 ghost use Rattle.bpf_model.specs.Arithmetic.{loaded_signed};
 ghost use Rattle.bpf_model.specs.declared.opcode.SignedWidth.{SignedWidth};
 ghost use Rattle.bpf_model.specs.Call.{helper_of, kernel_function_of};
@@ -41,14 +41,14 @@ ghost use Rattle.scalar_domain.specs.declared.scalar.Scalar.{Scalar};
 ghost use Rattle.model_laws.specs.Example.{lookup_and_load, example_shape};
 ghost use Rattle.typed_runs.specs.Kinds.{Kind, Num, FrameAt, ValueAt, MaybeNull, PartCell, AbsState};
 ghost use Rattle.typed_runs.specs.Describes.{Scene, scene_of, HasOffset, Describes};
-ghost use Rattle.typed_runs.specs.Effects.{with_kind, with_cells, after_call, after_lock, after_unlock, when_null, when_there, IsFresh, IsPlaced, HasMap, HasBytes, IsWritten, IsPointer, IsNumberOperand};
+ghost use Rattle.typed_runs.specs.Effects.{with_kind, with_cells, after_call, after_lock, after_unlock, when_null, when_there, IsFresh, IsAlwaysInside, HasMap, HasBytes, IsWritten, IsPointer, IsNumberOperand};
 ghost use Rattle.typed_runs.specs.Verified.{Plan, Transfers, TransfersAlone, is_call, IsClosed, IsVerified};
 ghost use Rattle.typed_runs.specs.Planned.{Wider, AreAlike, Joins, IsKept};
 ghost use Rattle.bpf_model.specs.declared.value.Reference.{Reference};
 ghost use Rattle.bpf_model.specs.Element.{Element};
 ghost use Rattle.bpf_model.specs.Word.{IsReferenceWord, element_bases};
 ghost use Rattle.bpf_model.specs.Near.{IsNearReference};
-ghost use Rattle.model_laws.specs.Near.{named_place};
+ghost use Rattle.model_laws.specs.Near.{named_location};
 ghost use Rattle.typed_runs.specs.Limits.{IsWithinLimits, IsNearMachine};
 ghost use Rattle.typed_runs.specs.Well.{AreVerified, IsWell};
 
@@ -77,7 +77,7 @@ pub fn alone_transfers()
         → Transfers i shapes ctx_len a b taken }
 {}
 
-/// States with the same kinds, place by place, describe the same runs.
+/// States with the same kinds, index by index, describe the same runs.
 pub fn alike_wider()
     ensures { (a b : AbsState) → AreAlike a b → Wider a b }
 {}
@@ -149,7 +149,7 @@ pub fn load_transfers()
     ensures { (width : Width) (dst src : ℕ) (offset : ℤ) (shapes : List MapShape) (ctx_len : ℕ)
         (a : AbsState) (map : ℕ) (shape : MapShape) (scalar t : Scalar)
         → a.regs src ≡ ValueAt map scalar → slice_get shapes map ≡ Some shape
-        → IsPlaced scalar (byte_count width) offset shape.value_len → (10 ≡ dst → ⊥)
+        → IsAlwaysInside scalar (byte_count width) offset shape.value_len → (10 ≡ dst → ⊥)
         → ((n : ℕ) → n < 256 ^ byte_count width → Holds t n)
         → Transfers (Insn.Load width dst src offset) shapes ctx_len a (with_kind dst (Num t) a) None }
 {}
@@ -160,7 +160,7 @@ pub fn store_transfers()
         (ctx_len : ℕ) (a : AbsState) (map : ℕ) (shape : MapShape) (scalar : Scalar)
         → a.regs dst ≡ ValueAt map scalar → IsNumberOperand a src
         → slice_get shapes map ≡ Some shape
-        → IsPlaced scalar (byte_count width) offset shape.value_len
+        → IsAlwaysInside scalar (byte_count width) offset shape.value_len
         → Transfers (Insn.Store width dst offset src) shapes ctx_len a a None }
 {}
 
@@ -169,7 +169,7 @@ pub fn load_signed_transfers()
     ensures { (width : SignedWidth) (dst src : ℕ) (offset : ℤ) (shapes : List MapShape) (ctx_len : ℕ)
         (a : AbsState) (map : ℕ) (shape : MapShape) (scalar t : Scalar)
         → a.regs src ≡ ValueAt map scalar → slice_get shapes map ≡ Some shape
-        → IsPlaced scalar (byte_count (unsigned_width width)) offset shape.value_len
+        → IsAlwaysInside scalar (byte_count (unsigned_width width)) offset shape.value_len
         → (10 ≡ dst → ⊥)
         → ((n : ℕ) → n < 256 ^ byte_count (unsigned_width width) → (loaded_signed width n < 2 ^ 64) × Holds t (loaded_signed width n))
         → Transfers (Insn.LoadSigned width dst src offset) shapes ctx_len a (with_kind dst (Num t) a) None }
@@ -179,7 +179,7 @@ pub fn load_signed_transfers()
 pub fn spill_transfers()
     ensures { (dst src : ℕ) (offset o : ℤ) (at : ℕ) (shapes : List MapShape) (ctx_len : ℕ)
         (a : AbsState) (kind : Kind) → a.regs dst ≡ FrameAt o
-        → place_of FRAME_BYTES 8 (o +ℤ offset) ≡ Some at → a.regs src ≡ kind → IsWritten kind
+        → region_offset FRAME_BYTES 8 (o +ℤ offset) ≡ Some at → a.regs src ≡ kind → IsWritten kind
         → Transfers (Insn.Store Width.Eight dst offset (Operand.Register src)) shapes ctx_len a (with_cells at 8 (PartCell kind) a) None }
 {}
 
@@ -187,7 +187,7 @@ pub fn spill_transfers()
 pub fn fill_transfers()
     ensures { (dst src : ℕ) (offset o : ℤ) (at : ℕ) (shapes : List MapShape) (ctx_len : ℕ)
         (a : AbsState) (kind : Kind) → a.regs src ≡ FrameAt o
-        → place_of FRAME_BYTES 8 (o +ℤ offset) ≡ Some at
+        → region_offset FRAME_BYTES 8 (o +ℤ offset) ≡ Some at
         → ((j : ℕ) → j < 8 → a.cells (at + j) ≡ PartCell kind) → IsPointer kind → (10 ≡ dst → ⊥)
         → Transfers (Insn.Load Width.Eight dst src offset) shapes ctx_len a (with_kind dst kind a) None }
 {}
@@ -228,7 +228,7 @@ pub fn never_stuck_along()
         → AllStates NeverStuck (m ∷ states) }
 {}
 
-/// Nor is one of a history of what a world tracks.
+/// No run is stuck in a history of what a world tracks.
 pub fn tracked_never_stuck()
     ensures { (w : WorldView) (events : List Event) (answers : List Answer)
         → AreVerified (shapes_of w) w.programs → AreReal events
@@ -242,7 +242,7 @@ pub fn exits_in_time_along()
         → ExitsInTime m events answers states }
 {}
 
-/// So it is in one of what a world tracks, of runs that were there before it too.
+/// Runs exit in time in a history of what a world tracks, also those that were there before it.
 pub fn tracked_exits_in_time()
     ensures { (w : WorldView) (events : List Event) (answers : List Answer)
         → AreVerified (shapes_of w) w.programs → AreReal events
@@ -254,7 +254,7 @@ pub fn well_is_near()
     ensures { (m : Machine) → IsWell m → IsNearMachine m }
 {}
 
-/// So they are in each state of a history of what a world tracks.
+/// All references of runs are near in each state of a history of what a world tracks.
 pub fn tracked_is_near()
     ensures { (w : WorldView) (events : List Event) (answers : List Answer)
         → AreVerified (shapes_of w) w.programs → AreReal events → (m : Machine) → Tracks w m
@@ -262,12 +262,12 @@ pub fn tracked_is_near()
         → AllStates IsNearMachine (m ∷ states) }
 {}
 
-/// Two near references with one word name one place: of one region, one slot and one offset.
+/// Two near references with one word name one location: of one region, one slot and one offset.
 pub fn near_references_differ()
     ensures { (slots : List ℕ) (es : List Element) (r q : Reference) (w : ℕ) → IsNearReference r
         → IsNearReference q → IsWithinLimits slots es r → IsWithinLimits slots es q
         → IsReferenceWord (element_bases slots es) r w → IsReferenceWord (element_bases slots es) q w
-        → named_place slots es r ≡ named_place slots es q }
+        → named_location slots es r ≡ named_location slots es q }
 {}
 
 /// A program that looks up a key in a section, and loads from the value where there is one, is verified.
@@ -289,7 +289,7 @@ pub fn none_outside()
         → a.inside ≡ false → a.regs r ≡ ValueAt map s → ⊥ }
 {}
 
-/// Nor is a part of what was stored in the frame.
+/// Outside a section no part of what was stored in the frame is that of an element's address.
 pub fn no_cell_outside()
     ensures { (a : AbsState) (c : Scene) (m : State) (k map : ℕ) (s : Scalar) → Describes a c m
         → a.inside ≡ false → a.cells k ≡ PartCell (ValueAt map s) → ⊥ }

@@ -6,19 +6,19 @@ use Rattle.bpf_model.specs.declared.insn.Insn.{Insn}
 use Rattle.bpf_model.specs.declared.insn.Insn.TheVariants.{Alu, Unary, LoadNumber, LoadMap, Jump, JumpLong, JumpIf, Call, Exit, Load, LoadSigned, Store}
 use Rattle.bpf_model.specs.declared.limits.TheConstants.{FRAME_BYTES}
 use Rattle.bpf_model.specs.declared.opcode.Width.{Width}
-use Rattle.bpf_model.specs.Access.{byte_count, place_of}
+use Rattle.bpf_model.specs.Access.{byte_count, region_offset}
 use Rattle.bpf_model.specs.Graph.{falls, GoesTo}
 use Rattle.bpf_model.specs.Plain.{IsPlain, Writes, WritesByte, Takes, WithoutRegister, WithoutByte, unwritten_entry, unwritten_next, bare_entry, bare_next}
 use Rattle.bpf_model.specs.Spelling.{starts_from}
 use Rattle.bpf_model.specs.Step.{insn_at}
-use Rattle.bpf_model.specs.Places.{start_of-insn}
+use Rattle.bpf_model.specs.Places.{start_of-insn, StartsAt}
 use Rattle.abstract_state.specs.declared.state.AbsState.{AbsState}
 use Rattle.abstract_state.specs.declared.environment.EnvironmentShape.{EnvironmentShape}
 use Rattle.abstract_state.specs.declared.kind.Region.{Region}
 use Rattle.abstract_state.specs.Facts.{Fact, Register, FrameByte, FramePointer, FactHolds, Makes, IsReady, KeepsFacts}
 use Rattle.verifier.specs.Facts.{Knows, WithoutFact}
 use Rattle.verifier.specs.FirstPass.{Follows}
-use Rattle.verifier.specs.Indexes.{HasTargets, StartsAt}
+use Rattle.verifier.specs.Indexes.{HasTargets}
 use Rattle.verifier.specs.SecondPass.{Advances, CanAccept, Fell, Jumped, Known, Merged, refusal_of}
 use Rattle.verifier.specs.Verdict.{Plan}
 use Rattle.abstract_state.specs.declared.fault.Fault.{Fault}
@@ -47,9 +47,9 @@ writes_or_not (Store width dst offset src) r = inr (λ h. h)
 
 -- and whether an access takes a byte
 takes_or_not : (width : Width) (offset : ℤ) (k : ℕ) → Takes width offset k ⊎ (Takes width offset k → ⊥)
-takes_or_not width offset k = at (place_of FRAME_BYTES (byte_count width) (pos FRAME_BYTES +ℤ offset)) refl
+takes_or_not width offset k = at (region_offset FRAME_BYTES (byte_count width) (pos FRAME_BYTES +ℤ offset)) refl
   where
-    at : (o : Option ℕ) → place_of FRAME_BYTES (byte_count width) (pos FRAME_BYTES +ℤ offset) ≡ o → Takes width offset k ⊎ (Takes width offset k → ⊥)
+    at : (o : Option ℕ) → region_offset FRAME_BYTES (byte_count width) (pos FRAME_BYTES +ℤ offset) ≡ o → Takes width offset k ⊎ (Takes width offset k → ⊥)
     at None e = inr (λ t. let f : None ≡ Some t.0 = sym e ∙ t.1 in cc)
     at (Some p) e = elim (cases_lt k p) [
       | inl h ↦ inr (λ t. let same : p ≡ t.0 = same_some (sym e ∙ t.1) in let l : t.0 ≤ k = t.2 in omega arith)

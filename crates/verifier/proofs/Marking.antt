@@ -8,9 +8,9 @@ use Rattle.bpf_model.specs.declared.insn.Insn.{Insn}
 use Rattle.bpf_model.specs.Graph.{JumpsTo, GoesTo, Reached, reached_entry, reached_next}
 use Rattle.bpf_model.specs.Spelling.{starts_from, slot_count}
 use Rattle.bpf_model.specs.Step.{insn_at}
-use Rattle.bpf_model.specs.Places.{starts-next, starts_ordered, starts_apart, start_of-insn, slot_count_some}
+use Rattle.bpf_model.specs.Places.{starts-next, starts_ordered, starts_apart, start_of-insn, slot_count_some, LeadsTo, StartsAt}
 use Rattle.verifier.specs.FirstPass.{Follows, IsReached, Marks}
-use Rattle.verifier.specs.Indexes.{HasTargets, IsTarget, LeadsTo, StartsAt}
+use Rattle.verifier.specs.Indexes.{HasTargets, IsTarget}
 use Rattle.verifier.proofs.Edges.{insn_here, index_here, start_within}
 use Rattle.verifier.proofs.Lists.{same_some}
 

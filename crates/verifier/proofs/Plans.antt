@@ -9,14 +9,14 @@ use Rattle.bpf_model.specs.declared.insn.Insn.TheVariants.{Exit}
 use Rattle.bpf_model.specs.Graph.{falls, distance, JumpsTo}
 use Rattle.bpf_model.specs.Spelling.{slot_count}
 use Rattle.bpf_model.specs.Step.{State, Outcome, Moves, Exits, entry}
-use Rattle.bpf_model.specs.Places.{starts-next, starts_apart, start_of-insn}
+use Rattle.bpf_model.specs.Places.{starts-next, starts_apart, start_of-insn, LeadsTo, StartsAt}
 use Rattle.abstract_state.specs.declared.state.AbsState.{AbsState}
 use Rattle.abstract_state.specs.declared.kind.Region.{Region}
 use Rattle.abstract_state.specs.State.{Describes, Wider, HasTarget, Leads}
 use Rattle.abstract_state.specs.declared.environment.EnvironmentShape.{EnvironmentShape}
 use Rattle.verifier.specs.GraphFlaws.{EndsWithExit, HasGoodGraph}
 use Rattle.verifier.specs.FirstPass.{Follows}
-use Rattle.verifier.specs.Indexes.{HasTargets, IsTarget, LeadsTo, StartsAt}
+use Rattle.verifier.specs.Indexes.{HasTargets, IsTarget}
 use Rattle.verifier.specs.SecondPass.{Advances, Awaits, Covers, Fell, IsCovered, Jumped, Lands, Passed, Spreads, StartsFrom, plan_of, state_of}
 use Rattle.verifier.specs.Verdict.{IsDescribedAt, Plan}
 use Rattle.std.proofs.lemmas.List.{get_or_past}

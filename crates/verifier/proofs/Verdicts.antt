@@ -4,12 +4,11 @@ use Rattle.std.specs.Prelude.{slice_index_or}
 use Rattle.std.proofs.lemmas.List.Sums.{sum_by-cons}
 use Rattle.bpf_model.specs.declared.insn.Insn.{Insn}
 use Rattle.bpf_model.specs.Spelling.{starts_from, slot_count, slot_total, IsProgram}
-use Rattle.bpf_model.specs.Places.{insn_of-start, starts_ordered}
+use Rattle.bpf_model.specs.Places.{insn_of-start, starts_ordered, StartsAt}
 use Rattle.std.proofs.lemmas.Option.{slice_get_within}
 use Rattle.verifier.specs.declared.refusal.GraphFlaw.TheVariants.{FallsOff, Unreachable}
 use Rattle.verifier.specs.GraphFlaws.{JumpsWell, EndsWithExit, HasGraphFlaw, HasGoodGraph}
 use Rattle.verifier.specs.FirstPass.{IsFirstUnreached, IsReached}
-use Rattle.verifier.specs.Indexes.{StartsAt}
 use Rattle.verifier.proofs.Edges.{start_read, insn_here, index_here}
 
 -- a program that isn't empty has a last instruction, at the start of the last index

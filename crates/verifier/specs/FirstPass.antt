@@ -1,34 +1,39 @@
 -- What the first pass keeps: which slots begin an instruction, where jumps land, and which instructions are reached.
-use Rattle.std.specs.Prelude.{◌≡◌, ℕ, suc, ◌+◌, ◌<◌, nat_le, List, length, slice_get, Option, Some, None, Result, Ok, Err, ℤ, pos, negsuc, ◌+ℤ◌, Bool, true, ◌⊎◌, if◌then◌else◌}
+use Rattle.std.specs.Prelude.{◌≡◌, ℕ, suc, ◌<◌, List, length, slice_get, Option, Some, Result, Ok, Err, ℤ, pos, Bool, true, ◌⊎◌}
 use Rattle.bpf_model.specs.declared.insn.Insn.{Insn}
 use Rattle.bpf_model.specs.Graph.{falls, Reached}
+use Rattle.bpf_model.specs.Places.{StartsAt}
+use Rattle.bpf_model.specs.Step.{insn_at}
 use Rattle.verifier.specs.declared.refusal.GraphFlaw.{GraphFlaw}
-use Rattle.verifier.specs.declared.refusal.GraphFlaw.TheVariants.{JumpTarget, BackJump}
-use Rattle.verifier.specs.Indexes.{StartsAt}
+use Rattle.verifier.specs.GraphFlaws.{missing, landing_flaw, jump_flaw}
+use Rattle.verifier.specs.Indexes.{IsTarget}
 
 -- for each slot the index of the instruction that begins there
 pub record IsIndexBySlot (program : List Insn) (indexes : List (Option ℕ)) : Type 0 where
   pub found : (index slot : ℕ) → StartsAt program index slot → slice_get indexes slot ≡ Some (Some index)
   pub only : (slot index : ℕ) → slice_get indexes slot ≡ Some (Some index) → StartsAt program index slot
 
--- where a jump over a distance lands, by the indexes of the slots
-abbrev pub landed : Option (Option ℕ) → Result ℕ GraphFlaw
-landed (Some (Some target)) = Ok target
-landed (Some None) = Err JumpTarget
-landed None = Err JumpTarget
+-- an instruction begins at the slot, or none does
+abbrev pub BeginsAt : List Insn → ℕ → Result ℕ GraphFlaw → Type 0
+BeginsAt program slot (Ok index) = StartsAt program index slot
+BeginsAt program slot (Err flaw) = missing (insn_at program slot) ≡ Some flaw
 
-abbrev pub landing : List (Option ℕ) → ℕ → ℤ → Result ℕ GraphFlaw
-landing indexes slot (negsuc n) = Err BackJump
-landing indexes slot (pos to) = if nat_le to slot then Err BackJump else landed (slice_get indexes to)
+-- a jump from a slot that would lead there lands further on, at the start of the target's instruction
+pub record IsLanding (program : List Insn) (slot : ℕ) (there : ℤ) (target : ℕ) : Type 0 where
+  pub to : ℕ
+  pub to_is : pos to ≡ there
+  pub ahead : slot < to
+  pub starts : StartsAt program target to
 
-abbrev pub target_at : Result ℕ GraphFlaw → Result (Option ℕ) GraphFlaw
-target_at (Ok target) = Ok (Some target)
-target_at (Err flaw) = Err flaw
+-- it does, or it has this flaw
+abbrev pub Lands : List Insn → ℕ → ℤ → Result ℕ GraphFlaw → Type 0
+Lands program slot there (Ok target) = IsLanding program slot there target
+Lands program slot there (Err flaw) = landing_flaw program slot there ≡ Some flaw
 
--- the index to which an instruction at this slot jumps over this distance, if it is a jump
-abbrev pub target_of : List (Option ℕ) → ℕ → Option ℤ → Result (Option ℕ) GraphFlaw
-target_of indexes slot None = Ok None
-target_of indexes slot (Some d) = target_at (landing indexes slot (pos (slot + 1) +ℤ d))
+-- the instruction of an index, which begins at the slot, leads to its target, or has a flaw as a jump
+abbrev pub FindsTarget : List Insn → ℕ → ℕ → Insn → Result (Option ℕ) GraphFlaw → Type 0
+FindsTarget program index slot i (Ok target) = IsTarget program index i target
+FindsTarget program index slot i (Err flaw) = jump_flaw program slot i ≡ Some flaw
 
 -- control may go from an instruction with this target, at one index, to another index
 abbrev pub Follows : Insn → Option ℕ → ℕ → ℕ → Type 0

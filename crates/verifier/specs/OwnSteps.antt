@@ -14,13 +14,13 @@ use Rattle.bpf_model.specs.Section.{Section}
 use Rattle.bpf_model.specs.MapState as map_state
 use Rattle.bpf_model.specs.Step.{State, Outcome, after, insn_at}
 use Rattle.bpf_model.specs.Machine.{Run, environment}
-use Rattle.bpf_model.specs.MachineStep.{element_load, element_store, AccessesElement, Acts, Ends, InsnStep, RunStep}
+use Rattle.bpf_model.specs.MachineStep.{element_load, element_store, AccessesElement, Acts, Ends, InsnStep}
 use Rattle.bpf_model.specs.Places.{insn_at-start}
 use Rattle.abstract_state.specs.declared.kind.Region.{Region}
 use Rattle.abstract_state.specs.declared.kind.Region.TheVariants as regions
 use Rattle.abstract_state.specs.State.{base_of, IsInRegion}
 use Rattle.verifier.specs.Checked.{Checked}
-use Rattle.verifier.specs.Verdict.{Plan, IsDescribedAt, IsRunOf, Justifies}
+use Rattle.verifier.specs.Verdict.{Plan, IsDescribedAt, IsRunOf}
 
 -- the value is no reference to an element
 abbrev pub IsElsewhere : Value → Type 0
@@ -145,18 +145,3 @@ insn_of_run c plan index i run e r d =
     let zero_off : run.state.place ≡ run.state.place - 0 = omega arith in
     ap (λ p. insn_at p run.state.place) r.code ∙ ap (insn_at c.program) zero_off
     ∙ insn_at-start 0 c.program index run.state.place i e d.at
-
--- Each step of a described run of a justified program is the one that it makes by itself.
-pub own_step : (c : Checked) (plan : Plan) → Justifies c plan → (index : ℕ) (i : Insn) (region : Region)
-    → slice_get c.program index ≡ Some i → slice_get c.regions index ≡ Some region
-    → (s new_store : map_state.Store) (opened : List Section) (run new : Run) (answer : Answer)
-    → IsRunOf c run → IsDescribedAt c.program plan index run.state → RunStep s opened run answer new_store new
-    → (out : Outcome) × (after i (environment run) run.state ≡ Some out) × IsOwnStep out s run answer new_store new
-own_step c plan j index i region e f s new_store opened run new answer r d t =
-    let same : t.0 ≡ i = (let g : Some t.0 ≡ Some i = sym t.1 ∙ insn_of_run c plan index i run e r d in cc) in
-    let step : InsnStep i s opened run answer new_store new =
-    subst (λ i. InsnStep i s opened run answer new_store new) same t.2 in
-    let o = j.alone index i run e r d in
-    let base : HasBaseElsewhere i run.state =
-    λ b g. region_elsewhere region (run.state.regs b) (j.regions index i b region run.state e g f d) in
-    (o.0, o.1, step_is_own i s new_store opened run new answer o.0 o.1 base step)

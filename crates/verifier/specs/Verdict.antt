@@ -19,7 +19,8 @@ use Rattle.verifier.specs.declared.refusal.Refusal.{Refusal}
 use Rattle.verifier.specs.declared.refusal.Refusal.TheVariants.{Graph, Instruction, Memory}
 use Rattle.verifier.specs.Checked.{Checked}
 use Rattle.verifier.specs.GraphFlaws.{HasGraphFlaw, HasGoodGraph}
-use Rattle.verifier.specs.Indexes.{StartsAt, HasTargets}
+use Rattle.bpf_model.specs.Places.{StartsAt}
+use Rattle.verifier.specs.Indexes.{HasTargets}
 
 -- A plan: what is known before each instruction, by its index.
 abbrev pub Plan : Type 0

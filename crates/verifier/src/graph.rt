@@ -1,13 +1,14 @@
 //! Pass 1: the jump graph. Where jumps lead, whether the last instruction is EXIT, and whether each
 //! instruction is reached.
-ghost use Rattle.std.specs.Prelude.{◌≡◌, ◌≢◌, ℕ, ◌+◌, ◌<◌, ◌^◌, ◌≤◌, ◌↔◌, true, length, slice_get, IfOk, IfErr, IfSome, OnOk, IsErr, IsTrue, Some, None, Option, Ok, Err, pos, ◌+ℤ◌, ◌≤ℤ◌, ℤ, MatchOption};
+ghost use Rattle.std.specs.Prelude.{List, ◌≡◌, ◌≢◌, ℕ, ◌+◌, ◌<◌, ◌^◌, ◌≤◌, ◌↔◌, true, length, slice_get, IfOk, IfErr, IfSome, OnOk, IsErr, IsTrue, Some, None, Option, Ok, Err, pos, ◌+ℤ◌, ◌≤ℤ◌, ℤ, MatchOption};
 ghost use Rattle.bpf_model.specs.declared.insn.Insn.{Insn};
 ghost use Rattle.bpf_model.specs.declared.limits.TheConstants.{MAX_SLOTS};
+ghost use Rattle.bpf_model.specs.Places.{StartsAt};
 ghost use Rattle.bpf_model.specs.Spelling.{starts_from, slot_total, IsProgram};
 ghost use Rattle.bpf_model.specs.Graph.{falls as falls_of, distance as distance_of};
 ghost use Rattle.verifier.specs.GraphFlaws.{JumpsWell, EndsWithExit, HasGoodGraph};
 ghost use Rattle.verifier.specs.Indexes.{HasTargets};
-ghost use Rattle.verifier.specs.FirstPass.{IsIndexBySlot, landing, landed, target_of as target_spec, Marks, IsReached, AreReached, IsFirstUnreached};
+ghost use Rattle.verifier.specs.FirstPass.{IsIndexBySlot, BeginsAt, Lands, FindsTarget, Marks, IsReached, AreReached, IsFirstUnreached};
 ghost use Rattle.verifier.specs.Verdict.{IsToldOf, IsAccepted};
 
 use crate::refusal::{GraphFlaw, Refusal};
@@ -51,7 +52,8 @@ fn slot_ahead(slot: usize, distance: i32) -> Option<usize>
 
 /// The index of the instruction that begins at a slot.
 fn index_at(indexes: &[Option<usize>], slot: usize) -> Result<usize, GraphFlaw>
-    ensures { result ≡ landed (slice_get indexes.now slot) }
+    ensures { (program : List Insn) → IsIndexBySlot program indexes.now
+        → BeginsAt program slot result }
 {
     if slot >= indexes.len() {
         return Err(GraphFlaw::JumpTarget);
@@ -65,7 +67,8 @@ fn index_at(indexes: &[Option<usize>], slot: usize) -> Result<usize, GraphFlaw>
 /// The index of the instruction to which a jump from a slot leads.
 fn landing_from(indexes: &[Option<usize>], slot: usize, distance: i32) -> Result<usize, GraphFlaw>
     requires { slot < 2 ^ 32 }
-    ensures { result ≡ landing indexes.now slot (pos (slot + 1) +ℤ distance) }
+    ensures { (program : List Insn) → IsIndexBySlot program indexes.now
+        → Lands program slot (pos (slot + 1) +ℤ distance) result }
 {
     match slot_ahead(slot, distance) {
         Some(to) => index_at(indexes, to),
@@ -80,7 +83,8 @@ fn target_of(
     slot: usize,
 ) -> Result<Option<usize>, GraphFlaw>
     requires { slot < 2 ^ 32 }
-    ensures { result ≡ target_spec indexes.now slot (distance_of insn.now) }
+    ensures { (program : List Insn) (index : ℕ) → IsIndexBySlot program indexes.now
+        → StartsAt program index slot → FindsTarget program index slot insn.now result }
 {
     match distance(insn) {
         Some(by) => Ok(Some(landing_from(indexes, slot, by)?)),

@@ -4,7 +4,7 @@ use Rattle.std.specs.Prelude.{slice_get, slice_set, slice_index, ◌==◌, ◌&&
 use Rattle.std.proofs.lemmas.Bool.{cases_eq}
 use Rattle.std.proofs.lemmas.Option.{none-some, same_Some}
 use Rattle.bpf_model.specs.Value.{◌>>=◌}
-use Rattle.bpf_model.specs.Access.{place_of}
+use Rattle.bpf_model.specs.Access.{region_offset}
 use Rattle.bpf_model.specs.Element.{Element, is_linked, is_reclaimed, with_value, set_to, changed, unless_reclaimed, accessible}
 use Rattle.bpf_model.specs.MapState.{MapState, Store, with_elements}
 use Rattle.bpf_model.specs.MachineStep.{stored_in, with_bytes}
@@ -171,7 +171,7 @@ module _ (w : WorldView) (s : Schedule) (m : Matches w s) (n : ℕ) (e : Element
   pub written-half : RefinesSchedule (with_map e.map view w) (half s store)
   written-half = turned-world w s x m.scheduled e.map view store queues s.awaited w.given turns refl (x.given ∙ sym (count-written e.map all n e value is-born refl (λ life map. is_reclaimed life)))
 
-pub store_half : (w : WorldView) (s : Schedule) (m : Matches w s) (n : ℕ) (e : Element) (v : MapView) (offset : ℤ) (width place x : ℕ) → accessible s.machine.store.elements n ≡ Some e → slice_get w.maps e.map ≡ Some v → place_of (length e.value) width offset ≡ Some place →
+pub store_half : (w : WorldView) (s : Schedule) (m : Matches w s) (n : ℕ) (e : Element) (v : MapView) (offset : ℤ) (width place x : ℕ) → accessible s.machine.store.elements n ≡ Some e → slice_get w.maps e.map ≡ Some v → region_offset (length e.value) width offset ≡ Some place →
     StoresHalf (with_map e.map (written v (slice_index m.refines.slots n) (with_bytes place width x (value_in (slice_get v.slots (slice_index m.refines.slots n))))) w) s n width offset x
 store_half w s m n e v offset width place x access at inside =
     let es = s.machine.store.elements in

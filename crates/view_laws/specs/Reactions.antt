@@ -27,7 +27,7 @@ shape_shown (Some v) = Some v.shape
 abbrev pub refused_as : EventRefusal → WorldView → Answer × WorldView
 refused_as refusal w = (Refused refusal, w)
 
--- A delete.
+-- Delete: refused by the map or the key's length, else as the map deletes.
 abbrev pub delete_at : Option EventRefusal → Option MapView → WorldView → ℕ → List ℕ → Answer × WorldView
 delete_at (Some refusal) o w k key = refused_as refusal w
 delete_at None None w k key = refused_as NoMap w
@@ -36,7 +36,7 @@ delete_at None (Some v) w k key = (Ret (deleted v key).0, with_map k (deleted v 
 abbrev pub delete_reaction : WorldView → ℕ → List ℕ → Answer × WorldView
 delete_reaction w k key = delete_at (key_refusal (shape_shown (slice_get w.maps k)) (length key)) (slice_get w.maps k) w k key
 
--- An update.
+-- Update: refused by the map or a length, else as the map updates.
 abbrev pub update_at : Option EventRefusal → Option MapView → WorldView → ℕ → List ℕ → List ℕ → ℕ → Answer × WorldView
 update_at (Some refusal) o w k key value flags = refused_as refusal w
 update_at None None w k key value flags = refused_as NoMap w

@@ -11,7 +11,7 @@ ghost use Rattle.bpf_model.specs.declared.event.Answer.{Answer};
 ghost use Rattle.bpf_model.specs.declared.insn.CallKind.{CallKind};
 ghost use Rattle.bpf_model.specs.declared.insn.Insn.{Insn};
 ghost use Rattle.bpf_model.specs.declared.limits.TheConstants.{MAX_DEPTH};
-ghost use Rattle.bpf_model.specs.Access.{place_of};
+ghost use Rattle.bpf_model.specs.Access.{region_offset};
 ghost use Rattle.bpf_model.specs.Call.{kernel_function_of};
 ghost use Rattle.bpf_model.specs.Drain.{AnswersAsScheduled};
 ghost use Rattle.bpf_model.specs.Element.{Element, accessible};
@@ -116,7 +116,7 @@ pub fn move_simulates()
         Simulates s (Event.Step r) (answer, with_run r (Some new) w) }
 {}
 
-/// A lock.
+/// A run's step that opens a section.
 pub fn lock_simulates()
     ensures { (w : WorldView) (s : Schedule) → Matches w s →
         (r : ℕ) (run : Run) (old : RunView) (imm : ℤ) → run_at s.machine.runs r ≡ Some run →
@@ -126,7 +126,7 @@ pub fn lock_simulates()
         Simulates s (Event.Step r) (Answer.Moved, with_run r (Some (locked_view old)) w) }
 {}
 
-/// An unlock.
+/// A run's step that ends its section.
 pub fn unlock_simulates()
     ensures { (w : WorldView) (s : Schedule) → Matches w s →
         (r : ℕ) (run : Run) (old : RunView) (imm : ℤ) → run_at s.machine.runs r ≡ Some run →
@@ -167,7 +167,7 @@ pub fn store_half()
     ensures { (w : WorldView) (s : Schedule) → (m : Matches w s) →
         (n : ℕ) (e : Element) (v : MapView) (offset : ℤ) (width at x : ℕ) →
         accessible s.machine.store.elements n ≡ Some e → slice_get w.maps e.map ≡ Some v →
-        place_of (length e.value) width offset ≡ Some at →
+        region_offset (length e.value) width offset ≡ Some at →
         StoresHalf
         (with_map e.map (written v (slice_index m.refines.slots n) (with_bytes at width x (value_in (slice_get v.slots (slice_index m.refines.slots n))))) w)
         s n width offset x }

@@ -8,13 +8,13 @@ program_length : (bytes : List ℕ) (p : List Insn) → bytes ≡ text p → len
 program_length bytes p e = ap (λ (x : List ℕ). length x) e ∙ length_text p
 
 pub returns-then-bytes-ne0-clause-only : goal.returns-then-bytes-ne0-clause-only
-returns-then-bytes-ne0-clause-only c = λ p is a e. let l = program_length c.args.bytes.now p e in absurd (omega (arith, is.limit))
+returns-then-bytes-ne0-clause-only c = λ p is e. let l = program_length c.args.bytes.now p e in absurd (omega (arith, is.limit))
 
 pub returns-then-is_empty-clause-only : goal.returns-then-is_empty-clause-only
-returns-then-is_empty-clause-only c = λ p is a e. let l = program_length c.args.bytes.now p e in absurd (omega (arith, is.some, none_from _ c.if-is_empty.ensures))
+returns-then-is_empty-clause-only c = λ p is e. let l = program_length c.args.bytes.now p e in absurd (omega (arith, is.some, none_from _ c.if-is_empty.ensures))
 
 pub returns-then-bytes-clause-only : goal.returns-then-bytes-clause-only
-returns-then-bytes-clause-only c = λ p is a e. let l = program_length c.args.bytes.now p e in absurd (omega (arith, is.limit))
+returns-then-bytes-clause-only c = λ p is e. let l = program_length c.args.bytes.now p e in absurd (omega (arith, is.limit))
 
 pub from_parts-requires-clause-program : goal.from_parts-requires-clause-program
 from_parts-requires-clause-program c =

@@ -31,8 +31,8 @@ returns-in_err-instruction-clause-flaw c = let p = err_from_is_err_and c.from_re
     rw (p.1, p.2) (flaw_at c.args.bytes.now _ _ _ c.slot_from.ensures.value c.next_slot_from.ensures.value c.in_err-instruction.ensures.flaw)
 
 pub returns-in_err-instruction-clause-only : goal.returns-in_err-instruction-clause-only
-returns-in_err-instruction-clause-only c = λ i rest fits a parts.
-    let e = c.decode_slot.ensures.only i fits a (spelled c.args.bytes.now _ _ i rest c.slot_from.ensures.value c.next_slot_from.ensures.value fits parts) in
+returns-in_err-instruction-clause-only c = λ i rest fits parts.
+    let e = c.decode_slot.ensures.only i fits (spelled c.args.bytes.now _ _ i rest c.slot_from.ensures.value c.next_slot_from.ensures.value fits parts) in
     let w = c.in_err-instruction.was in
     absurd cc
 
@@ -46,8 +46,8 @@ same_start : (bytes : List ℕ) (i j : Insn) (rest : List ℕ) (n : ℕ) → Fit
 same_start bytes i j rest n f e k p = rw (k, e, p) (again i rest f).rest_is
 
 pub returns-clause-only : goal.returns-clause-only
-returns-clause-only c = λ i rest fits a parts.
-    let e = c.decode_slot.ensures.only i fits a (spelled c.args.bytes.now _ _ i rest c.slot_from.ensures.value c.next_slot_from.ensures.value fits parts) in
+returns-clause-only c = λ i rest fits parts.
+    let e = c.decode_slot.ensures.only i fits (spelled c.args.bytes.now _ _ i rest c.slot_from.ensures.value c.next_slot_from.ensures.value fits parts) in
     let w = c.in_ok-instruction.was in
     let same : c.in_ok-instruction.instruction ≡ i = cc in
     ((same, rw (rest_of c.args.bytes.now (8 * c.slot_count.result)) (same_start c.args.bytes.now i _ rest _ fits same c.slot_count.ensures.value parts)), refl)

@@ -1,5 +1,5 @@
-use Rattle.std.proofs.Common.{arith}
-use Rattle.machine.proofs.Whole.{runs_start, runs_is, runs_on, runs_further, runs_end, moves_below}
+use Rattle.std.proofs.Common.{◌+◌, arith}
+use Rattle.machine.proofs.Whole.{runs_start, runs_is, runs_on, runs_further, runs_end, ends_only, moves_below}
 use Rattle.machine.proofs.driver.run_to_exit.Goals as goal
 
 pub steps-init : goal.steps-init
@@ -19,9 +19,11 @@ steps-preserved c = runs_on c.args.verified.now c.args.ctx.now.items c.steps.run
 pub returns-in-Exit : goal.returns-in-Exit
 returns-in-Exit c =
     let x = runs_end c.args.verified.now c.args.ctx.now.items c.steps.run c.local_step.new.self c.in-Exit.value c.steps.invariant c.in-Exit.ensures.serves c.in-Exit.ensures.moved in
+    let one = ends_only c.args.verified.now c.args.ctx.now.items (c.local_step.new.self.moved + 1) c.in-Exit.value x in
     let below = moves_below c.args.verified.now c.args.ctx.now.items c.steps.run c.program-program.ensures.verified c.steps.invariant in
     record {
       exits = rw c.moved.ensures x;
+      only = rw c.moved.ensures one;
       bounded = omega (arith, below.0, c.in-Exit.ensures.moved, c.moved.ensures);
       some = omega (arith, c.moved.ensures);
       limit = omega (arith, below.1, c.in-Exit.ensures.moved, c.moved.ensures);

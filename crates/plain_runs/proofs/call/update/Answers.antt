@@ -11,13 +11,13 @@ pub returns-clause-tells : goal.returns-clause-tells
 returns-clause-tells c =
     let s = store_of c.args.store.now in
     let run = run_with (loaded_of c.args.program.now) c.args.run.now in
-    let place = c.in_ok-place.place in
-    let is = c.in_ok-place.ensures in
+    let at = c.in_ok-at.at in
+    let is = c.in_ok-at.ensures in
     let frame = run.state.frame in
-    let value : value_argument s run place.map ≡ Some c.in_ok-value.value.items = ap (λ o. o >>= λ shape. frame_bytes frame shape.value_len (run.state.regs 3)) is.shape ∙ ap (frame_bytes frame place.shape.value_len) (sym c.register.ensures) ∙ c.in_ok-value.ensures in
+    let value : value_argument s run at.map ≡ Some c.in_ok-value.value.items = ap (λ o. o >>= λ shape. frame_bytes frame shape.value_len (run.state.regs 3)) is.shape ∙ ap (frame_bytes frame at.shape.value_len) (sym c.register.ensures) ∙ c.in_ok-value.ensures in
     record {
-      map = place.map;
-      key = place.key.items;
+      map = at.map;
+      key = at.key.items;
       value = c.in_ok-value.value.items;
       flags = c.in-Some.flags;
       outcome = c.in_ok-outcome.outcome;
@@ -25,6 +25,6 @@ returns-clause-tells c =
       key_is = is.key;
       value_is = value;
       flags_are = ap number (sym c.register-2.ensures) ∙ sym c.number.ensures ∙ c.in-Some.is;
-      updated = c.in_ok-outcome.ensures.updates (shape-within c.args.store.now.maps.items place.map place.shape is.shape);
+      updated = c.in_ok-outcome.ensures.updates (shape-within c.args.store.now.maps.items at.map at.shape is.shape);
       ret_is = ap Number c.ret_word.ensures;
     }

@@ -1,7 +1,17 @@
-use Rattle.std.proofs.Common.{ap, subst}
-use Rattle.bpf_model.specs.Section.{AllEnded}
+use Rattle.std.proofs.Common.{◌≡◌, List, ap, subst, sym, ◌∙◌}
+use Rattle.bpf_model.specs.Section.{Section, AllEnded}
+use Rattle.bpf_model.specs.Element.{Unlinked}
 use Rattle.plain_store.specs.State.{life_of, sections_of}
 use Rattle.plain_store.proofs.element.has_ended.Goals as goal
 
+same-since : (a b : List Section) → Unlinked a ≡ Unlinked b → a ≡ b
+same-since a b h = cc
+
 pub returns-in-Unlinked : goal.returns-in-Unlinked
-returns-in-Unlinked c = λ t. (sections_of c.in-Unlinked.since.items, ap life_of c.in-Unlinked.is, subst (λ l. AllEnded (sections_of l) (sections_of c.args.opened.now)) c.as_slice.ensures.value (c.are_apart.ensures t))
+returns-in-Unlinked c =
+    let opened = sections_of c.args.opened.now in
+    let since = sections_of c.in-Unlinked.since.items in (
+      λ t. (since, ap life_of c.in-Unlinked.is, subst (λ l. AllEnded (sections_of l) opened) c.as_slice.ensures.value (c.are_apart.ensures.0 t)),
+      λ m. c.are_apart.ensures.1 (subst (λ l. AllEnded (sections_of l) opened) (sym c.as_slice.ensures.value)
+          (subst (λ l. AllEnded l opened) (same-since m.0 since (sym m.1 ∙ ap life_of c.in-Unlinked.is)) m.2)),
+    )

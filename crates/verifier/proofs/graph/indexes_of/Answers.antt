@@ -1,7 +1,6 @@
 use Rattle.std.proofs.Common.{ℕ, ◌<◌, length, arith, ap}
 use Rattle.std.specs.Prelude.{slice_index_or}
-use Rattle.bpf_model.specs.Places.{length-starts_from}
-use Rattle.verifier.specs.Indexes.{StartsAt}
+use Rattle.bpf_model.specs.Places.{length-starts_from, StartsAt}
 use Rattle.verifier.proofs.Edges.{start_read, start_below, start_within, index_found, index_only}
 use Rattle.std.proofs.lemmas.List.{length-set}
 use Rattle.std.specs.Prelude.{Option}

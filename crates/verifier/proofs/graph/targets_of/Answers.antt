@@ -1,11 +1,9 @@
 use Rattle.std.proofs.Common.{◌≡◌, length, arith, ap, sym, refl, subst}
-use Rattle.std.specs.Prelude.{slice_index_or, slice_get, Some, Ok}
+use Rattle.std.specs.Prelude.{slice_index_or, slice_get, Some}
 use Rattle.std.proofs.lemmas.Option.{slice_get_read}
-use Rattle.bpf_model.specs.Graph.{distance}
-use Rattle.bpf_model.specs.Places.{length-starts_from}
-use Rattle.verifier.specs.FirstPass.{target_of}
-use Rattle.verifier.specs.Indexes.{HasTargets, StartsAt}
-use Rattle.verifier.proofs.Edges.{start_read, start_below, insn_here, flaw_found, bad_jump, jumps_before, jumps_all, targets_more, is_target, jumps_more}
+use Rattle.bpf_model.specs.Places.{length-starts_from, StartsAt}
+use Rattle.verifier.specs.Indexes.{HasTargets, IsTarget}
+use Rattle.verifier.proofs.Edges.{start_read, start_below, insn_here, bad_jump, jumps_before, jumps_all, targets_more, jumps_more}
 use Rattle.verifier.proofs.Flaws.{good_has_none}
 use Rattle.verifier.specs.GraphFlaws.{HasGraphFlaw}
 use Rattle.verifier.proofs.graph.targets_of.Goals as goal
@@ -30,7 +28,7 @@ bad_here c =
     bad_jump c.args.instructions.now c.in-Err.flaw (slice_index_or c.args.starts.now c.loop-index.index 0) (record {
       insn = c.index-instructions-index.result;
       at = insn_here c.args.instructions.now c.loop-index.index (slice_index_or c.args.starts.now c.loop-index.index 0) c.index-instructions-index.result here at;
-      bad = flaw_found c.args.instructions.now c.args.indexes.now c.requires.indexes (slice_index_or c.args.starts.now c.loop-index.index 0) c.index-instructions-index.result c.in-Err.flaw (sym c.in-Err.ensures);
+      bad = c.in-Err.ensures c.args.instructions.now c.loop-index.index c.requires.indexes at;
       first = jumps_before c.args.instructions.now c.loop-index.index (slice_index_or c.args.starts.now c.loop-index.index 0) at c.loop-index.invariant.jumps;
     })
 
@@ -41,13 +39,13 @@ pub loop-index-preserved : goal.loop-index-preserved
 loop-index-preserved c =
     let at : StartsAt c.args.instructions.now c.loop-index.index (slice_index_or c.args.starts.now c.loop-index.index 0) = start_read c.args.instructions.now c.args.starts.now c.loop-index.index c.requires.starts (omega arith) in
     let here : slice_get c.args.instructions.now c.loop-index.index ≡ Some c.index-instructions-index.result = slice_get_read c.args.instructions.now (length c.args.instructions.now) c.loop-index.index c.index-instructions-index.result refl (omega arith) c.index-instructions-index.is in
-    let found : target_of c.args.indexes.now (slice_index_or c.args.starts.now c.loop-index.index 0) (distance c.index-instructions-index.result) ≡ Ok c.in-Ok.target = sym c.in-Ok.ensures in
+    let found : IsTarget c.args.instructions.now c.loop-index.index c.index-instructions-index.result c.in-Ok.target = c.in-Ok.ensures c.args.instructions.now c.loop-index.index c.requires.indexes at in
     record {
       long = omega (arith, c.in_ok-push-in-Ok.ensures.len, c.loop-index.invariant.long);
       targets = subst (HasTargets c.args.instructions.now) (sym c.in_ok-push-in-Ok.ensures.items)
           (targets_more c.args.instructions.now c.loop-index.targets.items c.loop-index.index c.index-instructions-index.result c.in-Ok.target c.loop-index.invariant.long here c.loop-index.invariant.targets
-          (is_target c.args.instructions.now c.args.indexes.now c.requires.indexes c.loop-index.index (slice_index_or c.args.starts.now c.loop-index.index 0) c.index-instructions-index.result c.in-Ok.target at found));
-      jumps = jumps_more c.args.instructions.now c.args.indexes.now c.requires.indexes c.loop-index.index (slice_index_or c.args.starts.now c.loop-index.index 0) c.index-instructions-index.result c.in-Ok.target here at found c.loop-index.invariant.jumps;
+          found);
+      jumps = jumps_more c.args.instructions.now c.loop-index.index (slice_index_or c.args.starts.now c.loop-index.index 0) c.index-instructions-index.result c.in-Ok.target here at found c.loop-index.invariant.jumps;
     }
 
 pub returns-clause-jumps : goal.returns-clause-jumps

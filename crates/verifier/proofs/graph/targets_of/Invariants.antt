@@ -2,7 +2,8 @@ use Rattle.std.proofs.Common.{◌≡◌, ℕ, ◌<◌, length}
 use Rattle.std.specs.Prelude.{slice_get, Some, None}
 use Rattle.bpf_model.specs.declared.insn.Insn.{Insn}
 use Rattle.verifier.specs.GraphFlaws.{jump_flaw}
-use Rattle.verifier.specs.Indexes.{HasTargets, StartsAt}
+use Rattle.bpf_model.specs.Places.{StartsAt}
+use Rattle.verifier.specs.Indexes.{HasTargets}
 use Rattle.verifier.proofs.graph.targets_of.Given as goal
 
 abbrev pub invariant-loop-index : goal.invariant-loop-index

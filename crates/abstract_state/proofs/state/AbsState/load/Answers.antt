@@ -5,7 +5,7 @@ use Rattle.bpf_model.specs.Value.{◌>>=◌}
 use Rattle.bpf_model.specs.Step.{sets}
 use Rattle.abstract_state.specs.declared.kind.RegKind.TheVariants.{Num}
 use Rattle.abstract_state.specs.State.{IsInRegion}
-use Rattle.abstract_state.specs.Laws.{loaded_lt}
+use Rattle.abstract_state.proofs.Laws.{loaded_lt}
 use Rattle.abstract_state.proofs.Sound.{write_done, set_there}
 use Rattle.abstract_state.proofs.state.AbsState.load.Goals as goal
 

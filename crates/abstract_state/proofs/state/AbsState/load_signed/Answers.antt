@@ -6,7 +6,7 @@ use Rattle.bpf_model.specs.Step.{sets}
 use Rattle.bpf_model.specs.Arithmetic.{loaded_signed}
 use Rattle.abstract_state.specs.declared.kind.RegKind.TheVariants.{Num}
 use Rattle.abstract_state.specs.State.{IsInRegion}
-use Rattle.abstract_state.specs.Laws.{loaded_signed_lt}
+use Rattle.scalar_domain.proofs.Words.{loaded_signed_lt}
 use Rattle.abstract_state.proofs.Sound.{write_done, set_there}
 use Rattle.abstract_state.proofs.state.AbsState.load_signed.Goals as goal
 

@@ -5,7 +5,7 @@ use Rattle.bpf_model.specs.Arithmetic.{unary}
 use Rattle.bpf_model.specs.Operand.{unary_source}
 use Rattle.bpf_model.specs.Value.{◌>>=◌, number}
 use Rattle.bpf_model.specs.Step.{sets}
-use Rattle.abstract_state.specs.Laws.{unary_lt}
+use Rattle.abstract_state.proofs.Laws.{unary_lt}
 use Rattle.abstract_state.specs.declared.kind.RegKind.TheVariants.{Num}
 use Rattle.abstract_state.specs.declared.kind.Region.TheVariants as regions
 use Rattle.abstract_state.proofs.Sound.{write_done, set_there, number_of}
@@ -13,7 +13,7 @@ use Rattle.abstract_state.proofs.state.AbsState.unary.Goals as goal
 
 pub returns : goal.returns
 returns c =
-    let read = rw c.source_of.ensures at c.in_ok-n.ensures.value in
+    let read = rw c.source.ensures at c.in_ok-n.ensures.value in
     λ shape. rw c.single_flow.ensures
     (write_done (Unary c.args.op.now c.args.dst) c.args.dst (Num c.unary.result) c.args.self.now c.set.new.self regions.None shape
     (record { goes_on = refl; stays = refl; sets = refl; writes = λ r w. w; no_bytes = λ k w. w; no_test = λ r t. t })

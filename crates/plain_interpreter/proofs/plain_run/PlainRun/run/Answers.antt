@@ -1,4 +1,4 @@
-use Rattle.std.proofs.Common.{◌≡◌, ◌+◌, subst, arith}
+use Rattle.std.proofs.Common.{◌≡◌, subst, arith}
 use Rattle.plain_interpreter.specs.Plain.{Tells, state_of, environment}
 use Rattle.plain_interpreter.specs.Runs.{Walks, walks_none}
 use Rattle.plain_interpreter.proofs.Walking.{walked_on}

@@ -30,7 +30,7 @@ returns-clause-tells c =
     let new_maps = map-set map_of maps x.map z in
     let new : Store = record { elements = elements_of (slice_set items c.args.n (record again { life = lives.Reclaimed })); maps = map map_of (slice_set maps x.map z) } in (
       element_of x,
-      reclaims-at (store_of old) (sections_of c.args.opened.now) c.args.n (element_of x) (map_of y) (map_of z) c.in_ok-given.given new hx hy (c.has_ended.ensures c.if-not-has_ended.false) c.in_ok-given.ensures.0 c.in_ok-given.ensures.1 elements new_maps,
+      reclaims-at (store_of old) (sections_of c.args.opened.now) c.args.n (element_of x) (map_of y) (map_of z) c.in_ok-given.given new hx hy (c.has_ended.ensures.0 c.if-not-has_ended.false) c.in_ok-given.ensures.tells.0 c.in_ok-given.ensures.tells.1 elements new_maps,
       c.new-map.ensures,
       cloned x.key.items c.in_ok-key.key.items c.in_ok-key.ensures.cases,
     )

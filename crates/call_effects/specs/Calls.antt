@@ -1,0 +1,63 @@
+-- Calls and tests for null in words of the laws.
+use Rattle.std.specs.Prelude.{◌≡◌, ℕ, ◌≤◌, ◌+◌, List, Option, Some, None, Result, Ok, Err, ℤ, pos, Bool, if◌then◌else◌}
+use Rattle.bpf_model.specs.declared.limits.MapShape.{MapShape}
+use Rattle.bpf_model.specs.declared.insn.CallKind.{CallKind}
+use Rattle.bpf_model.specs.declared.insn.CallKind.TheVariants as callee
+use Rattle.bpf_model.specs.declared.call.Helper.{Helper}
+use Rattle.bpf_model.specs.declared.call.Helper.TheVariants.{Lookup, Update, Delete}
+use Rattle.bpf_model.specs.declared.call.KernelFunction.{KernelFunction}
+use Rattle.bpf_model.specs.declared.call.KernelFunction.TheVariants.{ReadLock, ReadUnlock}
+use Rattle.bpf_model.specs.Call.{helper_of, kernel_function_of}
+use Rattle.kind_tests.specs.declared.fault.Fault.{Fault}
+use Rattle.kind_tests.specs.declared.fault.Fault.TheVariants.{UnknownCall, OutsideSection, UnpairedSection}
+use Rattle.bpf_model.specs.declared.insn.Insn.{Insn}
+use Rattle.bpf_model.specs.declared.insn.Insn.TheVariants.{Call, JumpIf}
+use Rattle.bpf_model.specs.declared.insn.Operand.TheVariants.{Immediate}
+use Rattle.bpf_model.specs.declared.opcode.Condition.TheVariants.{Equal, NotEqual}
+use Rattle.bpf_model.specs.declared.opcode.Size.TheVariants.{Word64}
+use Rattle.typed_runs.specs.Verified.{Transfers}
+use Rattle.register_kinds.specs.declared.state.AbsState.{AbsState}
+use Rattle.bpf_model.specs.declared.limits.TheConstants.{FRAME_BYTES}
+use Rattle.register_kinds.specs.declared.kind.RegKind.TheVariants.{Frame}
+use Rattle.register_kinds.specs.declared.kind.CellKind.TheVariants.{Byte}
+use Rattle.register_kinds.specs.States.{kind_in, state_of}
+use Rattle.kind_tests.specs.Tests.{AreAll}
+
+-- From each run that the old state describes the call has a step, and each leads to one that the new state describes.
+abbrev pub Performs : CallKind → ℤ → List MapShape → AbsState → AbsState → Type 0
+Performs kind imm shapes old new = (ctx_len : ℕ) → Transfers (Call kind imm) shapes ctx_len (state_of old) (state_of new) None
+
+-- a jump on the number 0, or on any other, to a slot further on
+abbrev pub null_jump : Bool → ℕ → ℕ → Insn
+null_jump equal dst n = JumpIf (if equal then Equal else NotEqual) Word64 dst (Immediate (pos 0)) (pos n)
+
+-- So it is of a jump, with another state where it is taken.
+abbrev pub Forks : Bool → ℕ → AbsState → AbsState → AbsState → Type 0
+Forks equal dst old new taken = (shapes : List MapShape) (ctx_len n : ℕ) → Transfers (null_jump equal dst n) shapes ctx_len (state_of old) (state_of new) (Some (state_of taken))
+
+-- The first tests of a call, of its number and of the section: the first that fails, if one does.
+abbrev pub helper_fault : Option Helper → Bool → Option Fault
+helper_fault None inside = Some UnknownCall
+helper_fault (Some Lookup) inside = if inside then None else Some OutsideSection
+helper_fault (Some Update) inside = None
+helper_fault (Some Delete) inside = None
+
+abbrev pub kernel_fault : Option KernelFunction → Bool → Option Fault
+kernel_fault None inside = Some UnknownCall
+kernel_fault (Some ReadLock) inside = if inside then Some UnpairedSection else None
+kernel_fault (Some ReadUnlock) inside = if inside then None else Some UnpairedSection
+
+abbrev pub section_fault : CallKind → ℤ → Bool → Option Fault
+section_fault callee.Helper imm inside = helper_fault (helper_of imm) inside
+section_fault callee.Kernel imm inside = kernel_fault (kernel_function_of imm) inside
+
+abbrev pub outcome_of : Option Fault → Result (Unit {0}) Fault
+outcome_of None = Ok tt
+outcome_of (Some e) = Err e
+
+-- A register points to so many bytes of the frame, each a byte of a number.
+pub record PointsToBytes (a : AbsState) (r len : ℕ) : Type 0 where
+  pub at : ℕ
+  pub start : kind_in a.regs r ≡ Frame (pos at)
+  pub inside : at + len ≤ FRAME_BYTES
+  pub bytes : AreAll a.frame.cells at len Byte

@@ -1,0 +1,4 @@
+pub mod Offsets
+pub mod Laws
+pub mod Combining
+pub mod Numbers

@@ -1,0 +1,31 @@
+use Rattle.std.proofs.Common.{sym, ◌∙◌, inl, inr}
+use Rattle.compute_effects.proofs.Numbers.{number_kind, ok_is}
+use Rattle.std.proofs.lemmas.Result.{IfOk-weaker}
+use Rattle.register_kinds.specs.States.{kind_of, state_of}
+use Rattle.compute_effects.proofs.Combining.{moves_compute, others_compute}
+use Rattle.compute_effects.proofs.arithmetic.computed_kind.Goals as goal
+
+pub returns-in_ok-operand-in-Move-clause-sound : goal.returns-in_ok-operand-in-Move-clause-sound
+returns-in_ok-operand-in-Move-clause-sound c = IfOk-weaker c.copied.result _ _
+    (λ k f. moves_compute c.args.size c.args.op c.args.dst c.args.src.now (state_of c.args.state.now) (kind_of c.in_ok-operand-in-Move.field-0) (kind_of k) c.in-Move.is c.in_ok-operand-in-Move.ensures.value f) c.copied.ensures.sound
+
+pub returns-in_ok-operand-in-Move-clause-below : goal.returns-in_ok-operand-in-Move-clause-below
+returns-in_ok-operand-in-Move-clause-below c = IfOk-weaker c.copied.result _ _ (λ k f top b. f top (c.in_ok-operand-in-Move.ensures.below top b)) c.copied.ensures.below
+
+pub returns-in_ok-y-in_default : goal.returns-in_ok-y-in_default
+returns-in_ok-y-in_default c = record {
+  sound = IfOk-weaker c.combined.result _ _
+      (λ k f. others_compute c.args.size c.args.op c.args.dst c.args.src.now c.args.state.now c.in_ok-x-in_default.x (kind_of c.in_ok-y-in_default.y) (kind_of k) c.in_ok-x-in_default.ensures.value c.in_ok-y-in_default.ensures.value f) c.combined.ensures.sound;
+  below = IfOk-weaker c.combined.result _ _ (λ k f top b. f top) c.combined.ensures.below;
+  numbers = λ reads src. elim reads [
+    | inl e ↦ absurd (c.in_default.not-Move e)
+    | inr p ↦
+        let y = c.in_ok-y-in_default.ensures.numbers src in
+        c.combined.ensures.numbers p.0 y.0 (sym c.in_ok-x-in_default.ensures.value ∙ number_kind _ p.0 p.1) (ok_is _ _ y.1)
+  ];
+}
+
+pub returns-in_ok-operand-in-Move-clause-numbers : goal.returns-in_ok-operand-in-Move-clause-numbers
+returns-in_ok-operand-in-Move-clause-numbers c = λ reads src.
+    let y = c.in_ok-operand-in-Move.ensures.numbers src in
+    c.copied.ensures.numbers y.0 (ok_is _ _ y.1)

@@ -1,0 +1,12 @@
+use Rattle.std.proofs.Common.{refl, ap, Ok}
+use Rattle.compute_effects.proofs.Combining.{low_combines}
+use Rattle.compute_effects.proofs.kinds.copied.Goals as goal
+
+pub returns-in_ok-low-in-Word32-clause-sound : goal.returns-in_ok-low-in-Word32-clause-sound
+returns-in_ok-low-in-Word32-clause-sound c = low_combines c.args.size c.args.kind c.constant-zero.result c.in_ok-low-in-Word32.low c.apply.result c.in-Word32.is c.in_ok-low-in-Word32.ensures.value c.constant-zero.ensures.sound c.apply.ensures.sound
+
+pub returns-in-Word64-clause-numbers : goal.returns-in-Word64-clause-numbers
+returns-in-Word64-clause-numbers c = λ s e. (s, ap Ok e)
+
+pub returns-in_ok-low-in-Word32-clause-numbers : goal.returns-in_ok-low-in-Word32-clause-numbers
+returns-in_ok-low-in-Word32-clause-numbers c = λ s e. (c.apply.result, refl)

@@ -1,0 +1,90 @@
+-- What operations give, by the kinds of their operands.
+use Rattle.std.specs.Prelude.{◌≡◌, ℕ, ◌-◌, ◌^◌, ◌<◌, ◌≤◌, ◌⊎◌, List, Option, Some, None, ℤ, pos, ◌+ℤ◌, ◌-ℤ◌, Result, Ok, IsOk, ◌+◌}
+use Rattle.std.specs.Int.{w64}
+use Rattle.bpf_model.specs.declared.limits.MapShape.{MapShape}
+use Rattle.bpf_model.specs.declared.value.Value.{Value}
+use Rattle.bpf_model.specs.declared.insn.Insn.{Insn}
+use Rattle.bpf_model.specs.declared.insn.AluOp.{AluOp}
+use Rattle.bpf_model.specs.declared.insn.Operand.{Operand}
+use Rattle.bpf_model.specs.declared.opcode.Size.{Size}
+use Rattle.bpf_model.specs.declared.opcode.Size.TheVariants.{Word64}
+use Rattle.bpf_model.specs.declared.insn.AluOp.TheVariants.{Add, Sub, Move}
+use Rattle.bpf_model.specs.Arithmetic.{signed, word}
+use Rattle.bpf_model.specs.Operand.{operand_value, computed}
+use Rattle.bpf_model.specs.Near.{IsNear}
+use Rattle.bpf_model.specs.Step.{State}
+use Rattle.scalar_domain.specs.declared.scalar.Scalar.{Scalar}
+use Rattle.scalar_domain.specs.Scalar.{Holds}
+use Rattle.typed_runs.specs.Kinds.{Kind, Num, AbsState as Known}
+use Rattle.typed_runs.specs.Effects.{with_kind}
+use Rattle.typed_runs.specs.Planned.{AreAlike}
+use Rattle.kind_tests.specs.declared.fault.Fault.{Fault}
+use Rattle.register_kinds.specs.declared.kind.RegKind.{RegKind}
+use Rattle.register_kinds.specs.declared.kind.RegKind.TheVariants as kinds
+use Rattle.typed_runs.specs.Describes.{Scene, Naming, HasOffset, IsOf, Describes}
+use Rattle.typed_runs.specs.Verified.{Transfers}
+use Rattle.register_kinds.specs.declared.state.AbsState.{AbsState}
+use Rattle.register_kinds.specs.States.{state_of}
+use Rattle.compute_effects.specs.declared.moving.Way.{Way}
+use Rattle.compute_effects.specs.declared.moving.Way.TheVariants.{Forward, Back}
+
+-- From each run that the old state describes the instruction has a step, and each leads to one that the new state describes.
+abbrev pub Performs : Insn → AbsState → AbsState → Type 0
+Performs insn old new = (shapes : List MapShape) (ctx_len : ℕ) → Transfers insn shapes ctx_len (state_of old) (state_of new) None
+
+-- how many bytes forward a sum or a difference moves a reference
+abbrev pub step_of : Way → ℕ → ℤ
+step_of Forward n = signed w64 n
+step_of Back n = pos 0 -ℤ signed w64 n
+
+-- a word forward or back by so many, reduced
+abbrev pub shifted_word : Way → ℕ → ℕ → ℕ
+shifted_word Forward x n = word w64 (pos x +ℤ pos n)
+shifted_word Back x n = word w64 (pos x -ℤ pos n)
+
+-- a word that, read as a signed number, lies within 2^29 either way
+abbrev pub IsStep : ℕ → Type 0
+IsStep n = (n ≤ 2 ^ 29) ⊎ (2 ^ 64 - 2 ^ 29 ≤ n)
+
+-- Each of the offsets, moved by each of the numbers, is one of the new ones.
+abbrev pub Moves : Way → Scalar → Scalar → Scalar → Type 0
+Moves way s by t = (o : ℤ) (n : ℕ) → HasOffset s o → n < 2 ^ 64 → Holds by n → HasOffset t (o +ℤ step_of way n)
+
+-- the computation gives a value of the kind
+abbrev pub Gives : Scene → Naming → Kind → Option Value → Type 0
+Gives c ρ k o = (v : Value) × (o ≡ Some v) × IsOf c ρ k v × IsNear v
+
+-- From operands of these kinds the operation gives a value of the third.
+abbrev pub Combines : Size → AluOp → Kind → Kind → Kind → Type 0
+Combines size op x y k = (c : Scene) (ρ : Naming) (v w : Value) → IsOf c ρ x v → IsOf c ρ y w → IsNear w → Gives c ρ k (computed size op v w)
+
+-- From each described state it does so.
+abbrev pub Computes : Size → AluOp → ℕ → Operand → Known → Kind → Type 0
+Computes size op dst src a k = (c : Scene) (m : State) (d : Describes a c m) → Gives c d.naming k (computed size op (m.regs dst) (operand_value src m.regs))
+
+-- what an operand holds is of the kind
+abbrev pub HasValue : Known → Operand → Kind → Type 0
+HasValue a src k = (c : Scene) (m : State) (d : Describes a c m) → IsOf c d.naming k (operand_value src m.regs)
+
+-- the operation moves a reference that way
+abbrev pub IsMove : Way → Size → AluOp → Type 0
+IsMove Forward size op = (size ≡ Word64) × (op ≡ Add)
+IsMove Back size op = (size ≡ Word64) × (op ≡ Sub)
+
+-- a register that is known to be a number
+abbrev pub HasNumber : Known → ℕ → Type 0
+HasNumber a r = (s : Scalar) × (a.regs r ≡ Num s)
+
+-- a number is answered
+abbrev pub GivesNumber : Result RegKind Fault → Type 0
+GivesNumber r = (t : Scalar) × (r ≡ Ok (kinds.Num t))
+
+-- The instruction is not refused, and the register becomes a number.
+pub record SetsNumber (r : Result (Unit {0}) Fault) (dst : ℕ) (a b : Known) : Type 0 where
+  pub fine : IsOk r
+  pub number : Scalar
+  pub alike : AreAlike (with_kind dst (Num number) a) b
+
+-- What an operation reads of the register that it writes is a number: a move reads nothing of it.
+abbrev pub ReadsNumber : AluOp → Known → ℕ → Type 0
+ReadsNumber op a dst = (op ≡ Move) ⊎ HasNumber a dst

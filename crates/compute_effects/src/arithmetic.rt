@@ -1,0 +1,135 @@
+//! Instructions that compute, and those that load a number or a map from the program.
+ghost use Rattle.std.specs.Prelude.{◌≡◌, ℕ, ◌<◌, OnOk, OnErr, IfOk, pos, List, length, None};
+ghost use Rattle.bpf_model.specs.declared.limits.MapShape.{MapShape};
+ghost use Rattle.bpf_model.specs.Operand.{unary_source};
+ghost use Rattle.typed_runs.specs.Effects.{IsNumberOperand};
+ghost use Rattle.typed_runs.specs.Verified.{Transfers};
+ghost use Rattle.register_kinds.specs.States.{kind_in, kind_of, state_of};
+ghost use Rattle.register_kinds.specs.Pairs.{IsBelow, AreBelow};
+ghost use Rattle.compute_effects.specs.Computes.{Performs, Computes, HasNumber, ReadsNumber, GivesNumber, SetsNumber};
+
+use crate::kinds::{combined, copied, numbers, operand};
+use bpf_model::{AluOp, Insn, Operand, Reg, Size, UnaryOp};
+use kind_tests::{Fault, check_writable, held};
+use register_kinds::{AbsState, RegKind};
+use scalar_domain::Scalar;
+
+/// What an operation of two operands leaves.
+fn computed_kind(
+    state: &AbsState,
+    op: AluOp,
+    size: Size,
+    dst: Reg,
+    src: &Operand,
+) -> Result<RegKind, Fault>
+    ensures sound { IfOk result
+        (λ k. Computes size op dst src.now (state_of state.now) (kind_of k)) }
+    ensures below { IfOk result (λ k. (top : ℕ) → AreBelow top state.now
+        → IsBelow top (kind_of k)) }
+    ensures numbers { ReadsNumber op (state_of state.now) dst
+        → IsNumberOperand (state_of state.now) src.now → GivesNumber result }
+{
+    match op {
+        AluOp::Move => copied(size, operand(state, src)?),
+        _ => {
+            let x = held(state, dst)?;
+            let y = operand(state, src)?;
+            combined(size, op, x, y)
+        }
+    }
+}
+
+/// An operation of two operands. A move of 64 bits copies any value; a sum or a difference of 64
+/// bits moves a reference to the context, to the frame or to an element's value by a number.
+///
+/// Errors, in this order; the state is then as it was.
+/// - `FramePointerWritten`: it sets r10.
+/// - `UnwrittenRegister`, `OutsideSection`, `MixedRegions`: a register that it reads is so, the
+///   destination before the source.
+/// - `MaybeNull`: it computes with what may be null.
+/// - `PointerArithmetic`: it computes otherwise with a reference or a map; or moves a reference by
+///   a number that may lie outside 2^29 either way, or of which the sign is not known, or to an
+///   offset that may lie outside it, or one to the frame by more than one number.
+pub fn alu(
+    state: &mut AbsState,
+    op: AluOp,
+    size: Size,
+    dst: Reg,
+    src: &Operand,
+) -> Result<(), Fault>
+    ensures sound { OnOk result (Performs (Insn.Alu op size dst src.now) state.old state.new) }
+    ensures numbers { (10 ≡ dst → ⊥) → ReadsNumber op (state_of state.old) dst
+        → IsNumberOperand (state_of state.old) src.now
+        → SetsNumber result dst (state_of state.old) (state_of state.new) }
+    ensures below { (top : ℕ) → AreBelow top state.old → AreBelow top state.new }
+    ensures unchanged { OnErr result (state.new ≡ state.old) }
+{
+    check_writable(dst)?;
+    let kind = computed_kind(state, op, size, dst, src)?;
+    state.set(dst, kind);
+    Ok(())
+}
+
+/// The register that an operation of one operand reads.
+fn source_of(op: &UnaryOp, dst: Reg) -> Reg
+    ensures { result ≡ unary_source op.now dst }
+{
+    match op {
+        UnaryOp::MoveSigned { src, .. } => *src,
+        UnaryOp::Negate(_) | UnaryOp::ByteSwap { .. } => dst,
+    }
+}
+
+/// An operation of one operand, a number. Errors as `alu`.
+pub fn unary(state: &mut AbsState, op: &UnaryOp, dst: Reg) -> Result<(), Fault>
+    ensures sound { OnOk result (Performs (Insn.Unary op.now dst) state.old state.new) }
+    ensures numbers { (10 ≡ dst → ⊥) → HasNumber (state_of state.old) (unary_source op.now dst)
+        → SetsNumber result dst (state_of state.old) (state_of state.new) }
+    ensures below { (top : ℕ) → AreBelow top state.old → AreBelow top state.new }
+    ensures unchanged { OnErr result (state.new ≡ state.old) }
+{
+    check_writable(dst)?;
+    let kind = held(state, source_of(op, dst))?;
+    let n = numbers(kind)?;
+    state.set(dst, RegKind::Num(Scalar::unary(*op, n)));
+    Ok(())
+}
+
+/// The wide instruction with a number. Error: `FramePointerWritten`.
+pub fn load_number(state: &mut AbsState, dst: Reg, number: u64) -> Result<(), Fault>
+    ensures sound { OnOk result (Performs (Insn.LoadNumber dst number) state.old state.new) }
+    ensures numbers { (10 ≡ dst → ⊥)
+        → SetsNumber result dst (state_of state.old) (state_of state.new) }
+    ensures below { (top : ℕ) → AreBelow top state.old → AreBelow top state.new }
+    ensures unchanged { OnErr result (state.new ≡ state.old) }
+{
+    check_writable(dst)?;
+    state.set(dst, RegKind::Num(Scalar::constant(number)));
+    Ok(())
+}
+
+/// The index of a map in the program's list of so many.
+fn map_index(map: i32, maps: usize) -> Result<u32, Fault>
+    ensures value { IfOk result (λ n. map ≡ pos n) }
+    ensures bound { IfOk result (λ n. n < maps) }
+{
+    if map < 0 || map as usize >= maps {
+        return Err(Fault::NoSuchMap);
+    }
+    Ok(map as u32)
+}
+
+/// The wide instruction with a map, of a list of so many. Errors: `FramePointerWritten`,
+/// `NoSuchMap`.
+pub fn load_map(state: &mut AbsState, dst: Reg, map: i32, maps: usize) -> Result<(), Fault>
+    ensures sound { OnOk result ((shapes : List MapShape) (ctx_len : ℕ) → length shapes ≡ maps
+        → Transfers (Insn.LoadMap dst map) shapes ctx_len (state_of state.old)
+        (state_of state.new) None) }
+    ensures below { (top : ℕ) → AreBelow top state.old → AreBelow top state.new }
+    ensures unchanged { OnErr result (state.new ≡ state.old) }
+{
+    check_writable(dst)?;
+    let index = map_index(map, maps)?;
+    state.set(dst, RegKind::Map(index));
+    Ok(())
+}

@@ -1,0 +1,101 @@
+//! What operations give, by the kinds of their operands.
+ghost use Rattle.std.specs.Prelude.{◌≡◌, ℕ, IfOk, Ok};
+ghost use Rattle.typed_runs.specs.Kinds as model;
+ghost use Rattle.typed_runs.specs.Effects.{IsWritten, IsNumberOperand};
+ghost use Rattle.register_kinds.specs.States.{kind_of, state_of};
+ghost use Rattle.register_kinds.specs.Pairs.{IsBelow, AreBelow};
+ghost use Rattle.compute_effects.specs.Computes.{Combines, HasValue, IsMove, GivesNumber};
+
+use crate::moving::{Way, moved, moved_in_frame};
+use bpf_model::{AluOp, Operand, Size};
+use kind_tests::{Fault, held};
+use register_kinds::{AbsState, RegKind};
+use scalar_domain::Scalar;
+
+/// Which way an operation moves a reference.
+fn way_of(size: Size, op: AluOp) -> Result<Way, Fault>
+    ensures { IfOk result (λ way. IsMove way size op) }
+{
+    match (size, op) {
+        (Size::Word64, AluOp::Add) => Ok(Way::Forward),
+        (Size::Word64, AluOp::Sub) => Ok(Way::Back),
+        _ => Err(Fault::PointerArithmetic),
+    }
+}
+
+/// What a reference becomes that is moved.
+fn moved_kind(way: Way, x: RegKind, by: Scalar) -> Result<RegKind, Fault>
+    ensures sound { IfOk result (λ k. (size : Size) (op : AluOp) → IsMove way size op
+        → Combines size op (kind_of x) (model.Num by) (kind_of k)) }
+    ensures below { IfOk result (λ k. (top : ℕ) → IsBelow top (kind_of k)) }
+{
+    match x {
+        RegKind::Ctx(offset) => Ok(RegKind::Ctx(moved(way, offset, by)?)),
+        RegKind::Value { map, offset } => Ok(RegKind::Value {
+            map,
+            offset: moved(way, offset, by)?,
+        }),
+        RegKind::Frame(offset) => Ok(RegKind::Frame(moved_in_frame(way, offset, by)?)),
+        _ => Err(Fault::PointerArithmetic),
+    }
+}
+
+/// What an operation of two operands leaves that is no move.
+pub(crate) fn combined(size: Size, op: AluOp, x: RegKind, y: RegKind) -> Result<RegKind, Fault>
+    ensures sound { IfOk result (λ k. Combines size op (kind_of x) (kind_of y) (kind_of k)) }
+    ensures below { IfOk result (λ k. (top : ℕ) → IsBelow top (kind_of k)) }
+    ensures numbers { (a b : Scalar) → x ≡ RegKind.Num a → y ≡ RegKind.Num b → GivesNumber result }
+{
+    match (x, y) {
+        (RegKind::Num(a), RegKind::Num(b)) => Ok(RegKind::Num(Scalar::apply(size, op, a, b))),
+        (RegKind::MaybeNull { .. }, _) => Err(Fault::MaybeNull),
+        (_, RegKind::MaybeNull { .. }) => Err(Fault::MaybeNull),
+        (_, RegKind::Num(by)) => moved_kind(way_of(size, op)?, x, by),
+        _ => Err(Fault::PointerArithmetic),
+    }
+}
+
+/// The numbers of a register that is read as one.
+pub(crate) fn numbers(kind: RegKind) -> Result<Scalar, Fault>
+    ensures value { IfOk result (λ s. kind ≡ RegKind.Num s) }
+    ensures accepts { (s : Scalar) → kind ≡ RegKind.Num s → result ≡ Ok s }
+{
+    match kind {
+        RegKind::Num(s) => Ok(s),
+        RegKind::MaybeNull { .. } => Err(Fault::MaybeNull),
+        _ => Err(Fault::PointerArithmetic),
+    }
+}
+
+/// What a move leaves.
+pub(crate) fn copied(size: Size, kind: RegKind) -> Result<RegKind, Fault>
+    requires { IsWritten (kind_of kind) }
+    ensures sound { IfOk result
+        (λ k. Combines size AluOp.Move model.Blank (kind_of kind) (kind_of k)) }
+    ensures below { IfOk result (λ k. (top : ℕ) → IsBelow top (kind_of kind)
+        → IsBelow top (kind_of k)) }
+    ensures numbers { (s : Scalar) → kind ≡ RegKind.Num s → GivesNumber result }
+{
+    match size {
+        Size::Word64 => Ok(kind),
+        Size::Word32 => {
+            let low = numbers(kind)?;
+            let zero = Scalar::constant(0);
+            Ok(RegKind::Num(Scalar::apply(size, AluOp::Move, zero, low)))
+        }
+    }
+}
+
+/// What a second operand may be.
+pub fn operand(state: &AbsState, src: &Operand) -> Result<RegKind, Fault>
+    ensures value { IfOk result (λ k. HasValue (state_of state.now) src.now (kind_of k)) }
+    ensures written { IfOk result (λ k. IsWritten (kind_of k)) }
+    ensures below { IfOk result (λ k. (top : ℕ) → AreBelow top state.now
+        → IsBelow top (kind_of k)) }
+    ensures numbers { IsNumberOperand (state_of state.now) src.now → GivesNumber result }
+{
+    match src {
+        Operand::Register(r) => held(state, *r),
+        Operand::Immediate(imm) => Ok(RegKind::Num(Scalar::constant(alu::immediate(*imm)))),
+    }
+}

@@ -1,0 +1,175 @@
+-- Conditional jumps and exits lead from described runs to described ones.
+use Rattle.std.proofs.Common.{◌≡◌, ℕ, ◌+◌, ◌^◌, ◌<◌, List, Some, None, inl, inr, refl, sym, ap, subst, ◌∙◌, ℤ, pos, true, false, Bool}
+use Rattle.std.specs.Prelude.{if◌then◌else◌}
+use Rattle.std.proofs.lemmas.Bool.{cases_eq, eq-eqb, ne_eqb}
+use Rattle.bpf_model.specs.declared.limits.MapShape.{MapShape}
+use Rattle.bpf_model.specs.declared.insn.Insn.TheVariants.{Jump, JumpLong, JumpIf, Exit}
+use Rattle.bpf_model.specs.declared.insn.Operand.{Operand}
+use Rattle.bpf_model.specs.declared.insn.Operand.TheVariants.{Register, Immediate}
+use Rattle.bpf_model.specs.declared.opcode.Condition.{Condition}
+use Rattle.bpf_model.specs.declared.opcode.Condition.TheVariants.{Equal, NotEqual}
+use Rattle.bpf_model.specs.declared.opcode.Size.{Size}
+use Rattle.bpf_model.specs.declared.opcode.Size.TheVariants.{Word64}
+use Rattle.bpf_model.specs.declared.value.Value.TheVariants.{Number}
+use Rattle.bpf_model.specs.Arithmetic.{compares, immediate}
+use Rattle.bpf_model.specs.Value.{◌>>=◌, number}
+use Rattle.bpf_model.specs.Operand.{operand_value, decided}
+use Rattle.bpf_model.specs.Step.{State, Environment, Moves, Exits, forward, jumps_by}
+use Rattle.scalar_domain.specs.declared.scalar.Scalar.{Scalar}
+use Rattle.scalar_domain.specs.Scalar.{Holds}
+use Rattle.typed_runs.specs.Kinds.{Kind, Num, ValueAt, AbsState}
+use Rattle.typed_runs.specs.Describes.{Scene, IsOf, Describes, depth_of}
+use Rattle.typed_runs.specs.Effects.{with_kind}
+use Rattle.typed_runs.specs.Verified.{ActsAlone, Transfers}
+use Rattle.typed_runs.specs.Planned.{AreAlike}
+use Rattle.typed_runs.proofs.Sets.{placed-described}
+use Rattle.typed_runs.proofs.Arguments.{reg-is}
+use Rattle.typed_runs.proofs.Local.{alone_transfers}
+use Rattle.typed_runs.proofs.Planning.{alike_wider}
+use Rattle.register_kinds.specs.declared.kind.RegKind.{RegKind}
+use Rattle.register_kinds.specs.declared.kind.RegKind.TheVariants as kinds
+use Rattle.register_kinds.specs.declared.state.AbsState.{AbsState as StateHere}
+use Rattle.register_kinds.specs.States.{kind_of, kind_in, state_of}
+use Rattle.compute_effects.specs.Computes.{HasValue}
+use Rattle.control_effects.specs.Forks.{Forks, ForksOnNull, ComparesNumbers, Narrows, AreNarrowed}
+
+-- a register of which more is known
+known-more : (a : AbsState) (c : Scene) (m : State) (r : ℕ) (k : Kind) (d : Describes a c m) → IsOf c d.naming k (m.regs r) → Describes (with_kind r k a) c m
+known-more a c m r k d h = record {
+  naming = d.naming;
+  stored = d.stored;
+  inside = d.inside;
+  near = d.near;
+  regs = λ q. elim (cases_eq q r) [
+    | inl e ↦ subst (λ b. IsOf c d.naming (if b then k else a.regs q) (m.regs q)) (sym (eq-eqb q r e)) (subst (λ i. IsOf c d.naming k (m.regs i)) (sym e) h)
+    | inr n ↦ subst (λ b. IsOf c d.naming (if b then k else a.regs q) (m.regs q)) (sym (ne_eqb q r n)) (d.regs q)
+  ];
+  cells = d.cells;
+}
+
+pub narrows_one : (dst : ℕ) (src : Operand) (x y : Scalar) (a b : StateHere) → AreAlike (with_kind dst (Num x) (state_of a)) (state_of b) → Narrows dst src x y (state_of a) (state_of b)
+narrows_one dst src x y a b e c m d p q = alike_wider (with_kind dst (Num x) (state_of a)) (state_of b) e c m (known-more (state_of a) c m dst (Num x) d p)
+
+pub narrows_both : (dst r : ℕ) (src : Operand) (x y : Scalar) (a b t : StateHere) → src ≡ Register r → AreAlike (with_kind r (Num y) (state_of a)) (state_of b) → AreAlike (with_kind dst (Num x) (state_of b)) (state_of t)
+    → Narrows dst src x y (state_of a) (state_of t)
+narrows_both dst r src x y a b t is e f c m d p q =
+    let held = subst (λ (o : Operand). IsOf c d.naming (Num y) (operand_value o m.regs)) is q in
+    let first = alike_wider (with_kind r (Num y) (state_of a)) (state_of b) e c m (known-more (state_of a) c m r (Num y) d held) in
+    alike_wider (with_kind dst (Num x) (state_of b)) (state_of t) f c m (known-more (state_of b) c m dst (Num x) first p)
+
+-- what is set, and what stays
+set-there : (r q : ℕ) (k : Kind) (a b : AbsState) → AreAlike (with_kind r k a) b → q ≡ r → b.regs q ≡ k
+set-there r q k a b e p = e.regs q ∙ ap (λ t. if t then k else a.regs q) (eq-eqb q r p)
+
+set-elsewhere : (r q : ℕ) (k : Kind) (a b : AbsState) → AreAlike (with_kind r k a) b → (q ≡ r → ⊥) → b.regs q ≡ a.regs q
+set-elsewhere r q k a b e n = e.regs q ∙ ap (λ t. if t then k else a.regs q) (ne_eqb q r n)
+
+pub narrowed_one : (dst : ℕ) (src : Operand) (imm : ℤ) (x : Scalar) (a b : StateHere) → src ≡ Immediate imm → AreAlike (with_kind dst (Num x) (state_of a)) (state_of b) → AreNarrowed dst src (state_of a) (state_of b)
+narrowed_one dst src imm x a b is e = subst (λ (o : Operand). AreNarrowed dst o (state_of a) (state_of b)) (sym is) (record {
+  sides = λ r p. elim p [
+    | inl q ↦ (x, set-there dst r (Num x) (state_of a) (state_of b) e q)
+    | inr q ↦ absurd q
+  ];
+  others = λ r n. set-elsewhere dst r (Num x) (state_of a) (state_of b) e (λ q. n (inl q));
+  cells = e.cells;
+  inside = e.inside;
+})
+
+pub narrowed_both : (dst r : ℕ) (src : Operand) (x y : Scalar) (a b t : StateHere) → src ≡ Register r → AreAlike (with_kind r (Num y) (state_of a)) (state_of b) → AreAlike (with_kind dst (Num x) (state_of b)) (state_of t)
+    → AreNarrowed dst src (state_of a) (state_of t)
+narrowed_both dst r src x y a b t is e f = subst (λ (o : Operand). AreNarrowed dst o (state_of a) (state_of t)) (sym is) (record {
+  sides = λ s p. elim (cases_eq s dst) [
+    | inl q ↦ (x, set-there dst s (Num x) (state_of b) (state_of t) f q)
+    | inr n ↦ (y, set-elsewhere dst s (Num x) (state_of b) (state_of t) f n ∙ set-there r s (Num y) (state_of a) (state_of b) e (elim p [ inl q ↦ absurd (n q) | inr q ↦ q ]))
+  ];
+  others = λ s n. set-elsewhere dst s (Num x) (state_of b) (state_of t) f (λ q. n (inl q)) ∙ set-elsewhere r s (Num y) (state_of a) (state_of b) e (λ q. n (inr q));
+  cells = λ k. f.cells k ∙ e.cells k;
+  inside = f.inside ∙ e.inside;
+})
+
+-- one of both edges
+module _ (condition : Condition) (size : Size) (dst : ℕ) (src : Operand) (n : ℕ) (b t : AbsState) (c : Scene) (env : Environment) (m : State) where
+  branch : (p q : ℕ) (taken : Bool) → compares size condition p q ≡ taken → m.regs dst ≡ Number p → operand_value src m.regs ≡ Number q → (taken ≡ true → Describes t c m) → (taken ≡ false → Describes b c m)
+      → ActsAlone (JumpIf condition size dst src (pos n)) b (Some t) c env m
+  branch p q true is e f yea nay = record {
+    out = Moves (record { regs = m.regs; frame = m.frame; place = m.place + 1 + n });
+    after_is = ap (λ v. decided condition size src v (operand_value src m.regs) >>= λ taken. if taken then jumps_by (pos n) m else Some (Moves (forward 1 m))) e
+        ∙ (ap (λ v. (number v >>= λ k. Some (compares size condition p k)) >>= λ taken. if taken then jumps_by (pos n) m else Some (Moves (forward 1 m))) f
+        ∙ ap (λ (taken : Bool). if taken then jumps_by (pos n) m else Some (Moves (forward 1 m))) is);
+    alone = λ es fs other h. h;
+    lands = inr ((pos n, refl, refl), placed-described t c m (m.place + 1 + n) (yea refl));
+  }
+  branch p q false is e f yea nay = record {
+    out = Moves (forward 1 m);
+    after_is = ap (λ v. decided condition size src v (operand_value src m.regs) >>= λ taken. if taken then jumps_by (pos n) m else Some (Moves (forward 1 m))) e
+        ∙ (ap (λ v. (number v >>= λ k. Some (compares size condition p k)) >>= λ taken. if taken then jumps_by (pos n) m else Some (Moves (forward 1 m))) f
+        ∙ ap (λ (taken : Bool). if taken then jumps_by (pos n) m else Some (Moves (forward 1 m))) is);
+    alone = λ es fs other h. h;
+    lands = inl (refl, refl, placed-described b c m (m.place + 1) (nay refl));
+  }
+
+-- what is left of the numbers where a condition comes out so
+abbrev pub Refines : Size → Condition → Scalar → Scalar → Scalar → Scalar → Bool → Type 0
+Refines size condition x y x' y' taken = (p q : ℕ) → p < 2 ^ 64 → q < 2 ^ 64 → Holds x p → Holds y q → compares size condition p q ≡ taken → Holds x' p × Holds y' q
+
+pub fork_sound : (condition : Condition) (size : Size) (dst : ℕ) (src : Operand) (x y tx ty fx fy : Scalar) (a b t : StateHere) → kind_in a.regs dst ≡ kinds.Num x → HasValue (state_of a) src (Num y)
+    → Refines size condition x y tx ty true → Refines size condition x y fx fy false → Narrows dst src tx ty (state_of a) (state_of t) → Narrows dst src fx fy (state_of a) (state_of b) → Forks condition size dst src a b t
+fork_sound condition size dst src x y tx ty fx fy a b t e value yea nay tn fn shapes ctx_len n =
+    alone_transfers (JumpIf condition size dst src (pos n)) shapes ctx_len (state_of a) (state_of b) (Some (state_of t)) refl (λ c env m i d.
+    let p = reg-is (state_of a) c m dst (Num x) d (ap kind_of e) in
+    let q = value c m d in
+    branch condition size dst src n (state_of b) (state_of t) c env m p.0 q.0 (compares size condition p.0 q.0) refl p.1 q.1
+    (λ h. let r = yea p.0 q.0 p.2 q.2 p.3 q.3 h in tn c m d (p.0, p.1, p.2, r.0) (q.0, q.1, q.2, r.1))
+    (λ h. let r = nay p.0 q.0 p.2 q.2 p.3 q.3 h in fn c m d (p.0, p.1, p.2, r.0) (q.0, q.1, q.2, r.1)))
+
+pub numbers_compared : (dst : ℕ) (src : Operand) (x y : Scalar) (a : StateHere) → kind_in a.regs dst ≡ kinds.Num x → HasValue (state_of a) src (Num y) → ComparesNumbers (state_of a) dst src
+numbers_compared dst src x y a e value c m d =
+    let p = reg-is (state_of a) c m dst (Num x) d (ap kind_of e) in
+    let q = value c m d in
+    ((p.0, p.1), (q.0, q.1))
+
+-- a value is never null
+pub value_forks : (equal : Bool) (dst map : ℕ) (s : Scalar) (a t : StateHere) → kind_in a.regs dst ≡ kinds.Value map s → t ≡ a → ForksOnNull equal dst a a t
+value_forks true dst map s a t e same shapes ctx_len n =
+    alone_transfers (JumpIf Equal Word64 dst (Immediate (pos 0)) (pos n)) shapes ctx_len (state_of a) (state_of a) (Some (state_of t)) refl (λ c env m i d.
+    let x = reg-is (state_of a) c m dst (ValueAt map s) d (ap kind_of e) in record {
+      out = Moves (forward 1 m);
+      after_is = ap (λ v. decided Equal Word64 (Immediate (pos 0)) v (Number (immediate (pos 0))) >>= λ taken. if taken then jumps_by (pos n) m else Some (Moves (forward 1 m))) x.is;
+      alone = λ es fs other h. h;
+      lands = inl (refl, refl, placed-described (state_of a) c m (m.place + 1) d);
+    })
+value_forks false dst map s a t e same shapes ctx_len n =
+    alone_transfers (JumpIf NotEqual Word64 dst (Immediate (pos 0)) (pos n)) shapes ctx_len (state_of a) (state_of a) (Some (state_of t)) refl (λ c env m i d.
+    let x = reg-is (state_of a) c m dst (ValueAt map s) d (ap kind_of e) in record {
+      out = Moves (record { regs = m.regs; frame = m.frame; place = m.place + 1 + n });
+      after_is = ap (λ v. decided NotEqual Word64 (Immediate (pos 0)) v (Number (immediate (pos 0))) >>= λ taken. if taken then jumps_by (pos n) m else Some (Moves (forward 1 m))) x.is;
+      alone = λ es fs other h. h;
+      lands = inr ((pos n, refl, refl), placed-described (state_of t) c m (m.place + 1 + n) (subst (λ (b : StateHere). Describes (state_of b) c m) (sym same) d));
+    })
+
+-- the end of a run
+pub exit_sound : (a : StateHere) (k : RegKind) (s : Scalar) → kind_in a.regs 0 ≡ k → k ≡ kinds.Num s → a.inside ≡ false → (shapes : List MapShape) (ctx_len : ℕ) → Transfers Exit shapes ctx_len (state_of a) (state_of a) None
+exit_sound a k s e f out shapes ctx_len = alone_transfers Exit shapes ctx_len (state_of a) (state_of a) None refl (λ c env m i d.
+    let n = reg-is (state_of a) c m 0 (Num s) d (ap kind_of (e ∙ f)) in record {
+      out = Exits n.0;
+      after_is = ap (λ v. number v >>= λ k. Some (Exits k)) n.1;
+      alone = λ es fs other h. h;
+      lands = d.inside ∙ ap depth_of out;
+    })
+
+-- jumps without a condition
+pub jump_transfers : (n : ℕ) (shapes : List MapShape) (ctx_len : ℕ) (a : AbsState) → Transfers (Jump (pos n)) shapes ctx_len a a None
+jump_transfers n shapes ctx_len a = alone_transfers (Jump (pos n)) shapes ctx_len a a None refl (λ c env m i d. record {
+  out = Moves (record { regs = m.regs; frame = m.frame; place = m.place + 1 + n });
+  after_is = refl;
+  alone = λ es fs other h. h;
+  lands = inr ((pos n, refl, refl), placed-described a c m (m.place + 1 + n) d);
+})
+
+pub jump_long_transfers : (n : ℕ) (shapes : List MapShape) (ctx_len : ℕ) (a : AbsState) → Transfers (JumpLong (pos n)) shapes ctx_len a a None
+jump_long_transfers n shapes ctx_len a = alone_transfers (JumpLong (pos n)) shapes ctx_len a a None refl (λ c env m i d. record {
+  out = Moves (record { regs = m.regs; frame = m.frame; place = m.place + 1 + n });
+  after_is = refl;
+  alone = λ es fs other h. h;
+  lands = inr ((pos n, refl, refl), placed-described a c m (m.place + 1 + n) d);
+})

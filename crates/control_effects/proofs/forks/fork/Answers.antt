@@ -1,0 +1,18 @@
+use Rattle.std.proofs.Common.{◌≡◌, subst, ◌∙◌}
+use Rattle.register_kinds.specs.declared.state.AbsState.{AbsState}
+use Rattle.register_kinds.specs.States.{state_of}
+use Rattle.control_effects.specs.Forks.{Narrows}
+use Rattle.control_effects.proofs.Branches.{fork_sound, numbers_compared}
+use Rattle.control_effects.proofs.forks.fork.Goals as goal
+
+pub returns-clause-sound : goal.returns-clause-sound
+returns-clause-sound c =
+    let same : c.deref_mut.result.now ≡ c.args.state.now = c.deref_mut.ensures.value ∙ c.in_ok-taken.ensures in
+    let t = c.refine.result in
+    let f = c.refine-2.result in
+    let taken = subst (λ (a : AbsState). Narrows c.args.dst c.args.src.now t.0 t.1 (state_of a) (state_of c.narrow.new.state)) same c.narrow.ensures.sound in
+    fork_sound c.args.condition c.args.size c.args.dst c.args.src.now c.in_ok-x.x c.in_ok-x.y t.0 t.1 f.0 f.1 c.args.state.now c.narrow-2.new.state c.narrow.new.state
+    c.in_ok-x.ensures.left c.in_ok-x.ensures.right c.refine.ensures.sound c.refine-2.ensures.sound taken c.narrow-2.ensures.sound
+
+pub returns-clause-compares : goal.returns-clause-compares
+returns-clause-compares c = numbers_compared c.args.dst c.args.src.now c.in_ok-x.x c.in_ok-x.y c.args.state.now c.in_ok-x.ensures.left c.in_ok-x.ensures.right

@@ -1,0 +1,50 @@
+//! Jumps without a condition, and the exit.
+ghost use Rattle.std.specs.Prelude.{◌≡◌, ℕ, List, None, OnOk, IsOk, pos, false};
+ghost use Rattle.compute_effects.specs.Computes.{HasNumber};
+ghost use Rattle.bpf_model.specs.declared.limits.MapShape.{MapShape};
+ghost use Rattle.typed_runs.specs.Kinds as model;
+ghost use Rattle.typed_runs.specs.Verified.{Transfers};
+ghost use Rattle.register_kinds.specs.States.{state_of};
+
+use bpf_model::{Insn, Reg};
+use kind_tests::{Fault, held};
+use register_kinds::{AbsState, RegKind};
+
+/// A run ends outside every section.
+fn check_outside(state: &AbsState) -> Result<(), Fault>
+    ensures outside { OnOk result (state.now.inside ≡ false) }
+    ensures accepts { state.now.inside ≡ false → IsOk result }
+{
+    match state.inside {
+        false => Ok(()),
+        true => Err(Fault::UnpairedSection),
+    }
+}
+
+/// The end of a run. Errors, in this order: those of r0 as a register that is read; `PointerLeak`
+/// where it is no number; `UnpairedSection` inside a section.
+pub fn exit(state: &AbsState) -> Result<(), Fault>
+    ensures sound { OnOk result ((shapes : List MapShape) (ctx_len : ℕ)
+        → Transfers Insn.Exit shapes ctx_len (state_of state.now) (state_of state.now) None) }
+    ensures accepts { HasNumber (state_of state.now) 0 → state.now.inside ≡ false → IsOk result }
+{
+    match held(state, Reg::R0)? {
+        RegKind::Num(_) => {
+            check_outside(state)?;
+            Ok(())
+        }
+        _ => Err(Fault::PointerLeak),
+    }
+}
+
+/// A jump without a condition, to a slot further on, leaves all that is known as it is.
+pub fn jump_transfers()
+    ensures { (n : ℕ) (shapes : List MapShape) (ctx_len : ℕ) (a : model.AbsState)
+        → Transfers (Insn.Jump (pos n)) shapes ctx_len a a None }
+{}
+
+/// So does one of class JMP32.
+pub fn jump_long_transfers()
+    ensures { (n : ℕ) (shapes : List MapShape) (ctx_len : ℕ) (a : model.AbsState)
+        → Transfers (Insn.JumpLong (pos n)) shapes ctx_len a a None }
+{}

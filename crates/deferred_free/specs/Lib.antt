@@ -1,0 +1,5 @@
+pub mod Queued
+pub mod Lines
+pub mod Fits
+pub mod Frame
+pub mod Rooms

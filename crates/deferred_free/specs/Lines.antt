@@ -1,0 +1,29 @@
+-- Queues with a first and a last slot.
+use Rattle.std.specs.Prelude.{◌≡◌, ◌≢◌, ℕ, List, Option, Some, None, length}
+use Rattle.element_arena.specs.State.{ArenaState, link_at}
+use Rattle.element_arena.specs.Threads.{walk}
+use Rattle.deferred_free.specs.declared.threaded.Line.{Line}
+
+abbrev pub last_left : Option ℕ → Option ℕ → Option ℕ
+last_left None last = None
+last_left (Some i) last = last
+
+abbrev pub joined_to : Line → Option ℕ → Line
+joined_to front None = front
+joined_to front (Some l) = record { first = front.first; last = Some l }
+
+abbrev pub joined_from : Option ℕ → Line → Line → Line
+joined_from None front back = back
+joined_from (Some l) front back = joined_to front back.last
+
+abbrev pub joined : Line → Line → Line
+joined front back = joined_from front.last front back
+
+-- the links of b are those of a, but that the last slot is linked to the first
+pub record IsJoined (a b : ArenaState) (last first : Option ℕ) : Type 0 where
+  pub rest : b ≡ record a { links = b.links }
+  pub at_last : (l : ℕ) → last ≡ Some l → link_at b.links l ≡ first
+  pub others : (j : ℕ) → last ≢ Some j → link_at b.links j ≡ link_at a.links j
+
+abbrev pub line_of : ArenaState → Line → List ℕ
+line_of a l = walk (length a.slots) (link_at a.links) l.first

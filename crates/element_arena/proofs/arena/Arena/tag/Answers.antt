@@ -1,0 +1,24 @@
+use Rattle.std.proofs.Common.{◌≡◌, ◌∙◌, ◌<◌, sym, ap, rules, length, refl}
+use Rattle.std.specs.Prelude.{slice_index}
+use Rattle.std.proofs.lemmas.Option.{slice_get_read}
+use Rattle.element_arena.specs.State.{ArenaState}
+use Rattle.element_arena.specs.declared.cell.Cell.{Cell}
+use Rattle.element_arena.proofs.Views.{get-map, index-get}
+use Rattle.element_arena.proofs.Slots.{inside_from}
+use Rattle.element_arena.proofs.arena.Arena.tag.Goals as goal
+
+pub index-requires : goal.index-requires
+index-requires c =
+    let s = c.self.inside in
+    let w : c.args.slot < length s.cells.items = inside_from s.key_len s.value_len s.limit s.cells.items s.first s.keys.items s.values.items c.args.slot c.args.self.now c.self.view_is c.requires in
+    search rules
+
+pub returns : goal.returns
+returns c =
+    let s = c.self.inside in
+    let w : c.args.slot < length s.cells.items = inside_from s.key_len s.value_len s.limit s.cells.items s.first s.keys.items s.values.items c.args.slot c.args.self.now c.self.view_is c.requires in
+    let at = slice_get_read s.cells.items (length s.cells.items) c.args.slot c.index.result.now refl w c.index.ensures in
+    let e : c.index.result.now.generation ≡ slice_index c.args.self.now.generations c.args.slot =
+    sym (ap (λ (a : ArenaState). slice_index a.generations c.args.slot) (sym c.self.view_is)
+    ∙ index-get _ c.args.slot c.index.result.now.generation (get-map (λ (z : Cell). z.generation) s.cells.items c.args.slot c.index.result.now at)) in
+    cc

@@ -1,0 +1,5 @@
+pub mod Blocks
+pub mod Fresh
+pub mod Kept
+pub mod State
+pub mod Threads

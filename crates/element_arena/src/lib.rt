@@ -1,0 +1,14 @@
+//! The slots of one map: a key, a value, a count of uses, a link and a generation for each.
+//!
+//! Everything is allocated when an arena is made. Keys and values lie in two arrays of bytes, each slot's
+//! at its own multiple of their length, so they are compared, read and written where they lie. The free
+//! slots are threaded through the links, which a taken slot leaves to its user.
+#![tactic(auto)]
+
+mod arena;
+mod blocks;
+mod bytes;
+mod cell;
+mod make;
+
+pub use arena::{Arena, Stale, Tag};

@@ -1,0 +1,65 @@
+//! What a new arena is made of.
+ghost use Rattle.std.specs.Prelude.{◌≡◌, ◌*◌, ◌≤◌, length, IfOk};
+ghost use Rattle.bpf_model.specs.declared.limits.TheConstants.{KEY_BYTES, VALUE_BYTES};
+ghost use Rattle.element_arena.specs.Fresh.{below, fresh_cells};
+
+use crate::cell::{Cell, Standing};
+use bpf_model::{KeyBytes, ValueBytes};
+use std::alloc::{AllocError, Global};
+
+/// The slot, where there are more than so many.
+pub(crate) fn below(slot: usize, slots: usize) -> Option<usize>
+    ensures { result ≡ below slot slots }
+{
+    if slot < slots { Some(slot) } else { None }
+}
+
+/// Cells that were never used, each linked to the next.
+pub(crate) fn fresh_cells(alloc: Global, slots: usize) -> Result<Vec<Cell>, AllocError>
+    ensures { IfOk result (λ cells. cells.items ≡ fresh_cells slots slots) }
+{
+    let mut cells = Vec::with_capacity(alloc, slots)?;
+    for slot in 0..slots {
+        cells.push(Cell {
+            uses: 0,
+            generation: 0,
+            standing: Standing::Free,
+            link: below(slot + 1, slots),
+        })?;
+    }
+    Ok(cells)
+}
+
+/// Room for so many byte strings of a length.
+pub(crate) fn room_for(alloc: Global, slots: usize, len: usize) -> Result<Vec<u8>, AllocError>
+    ensures { IfOk result (λ bytes. length bytes.items ≡ slots * len) }
+{
+    match slots.checked_mul(len) {
+        Some(room) => vec![in alloc; 0; room],
+        None => Err(AllocError),
+    }
+}
+
+/// A key of these bytes.
+pub(crate) fn key_of(bytes: &[u8]) -> KeyBytes
+    requires { length bytes.now ≤ KEY_BYTES }
+    ensures { result.items ≡ bytes.now }
+{
+    let mut key = KeyBytes::new();
+    match key.try_extend_from_slice(bytes) {
+        Ok(()) => key,
+        Err(_) => unreachable!(),
+    }
+}
+
+/// A value of these bytes.
+pub(crate) fn value_of(bytes: &[u8]) -> ValueBytes
+    requires { length bytes.now ≤ VALUE_BYTES }
+    ensures { result.items ≡ bytes.now }
+{
+    let mut value = ValueBytes::new();
+    match value.try_extend_from_slice(bytes) {
+        Ok(()) => value,
+        Err(_) => unreachable!(),
+    }
+}

@@ -1,0 +1,71 @@
+-- Runs of commands.
+use Rattle.std.proofs.Common.{◌≡◌, ◌∙◌, ℕ, List, [], ◌∷◌, ◌++◌, Option, None, inl, inr, sym, ap, cond, subst, Bool, true, false, append_assoc}
+use Rattle.std.specs.Prelude.{is_some}
+use Rattle.std.specs.Ordering.{nat_cmp}
+use Rattle.std.specs.Cmp.Lexicographic.{slice_cmp}
+use Rattle.std.specs.FinMap.{FinMap, get, insert, remove, empty, same_map, get-empty}
+use Rattle.std.proofs.lemmas.Bool.{cond-true, cond-false}
+use Rattle.std.proofs.lemmas.Cmp.{nat_list_cmp_total}
+use Rattle.std.proofs.lemmas.Map.Lookups.{exact_bytes}
+use Rattle.std.proofs.lemmas.Option.{none-some, same_Some}
+use Rattle.element_arena.specs.State.{ArenaState, key_at}
+use Rattle.element_arena.proofs.Counts.{bool_cases}
+use Rattle.element_arena.proofs.Indexing.{same_key, same_key-true, get_at-insert, get_at-remove}
+use Rattle.hash_index.specs.declared.commands.Command.{Command}
+use Rattle.hash_index.specs.declared.commands.Command.TheVariants.{Link, Find, Unlink, Above}
+use Rattle.hash_index.specs.Replies.{IsReady, IsKeyed, reply_of, after, replies}
+
+pub remove_absent : (m : FinMap (slice_cmp nat_cmp) ℕ) (k : List ℕ) → get m k ≡ None → remove m k ≡ m
+remove_absent m k h = same_map nat_list_cmp_total exact_bytes _ _ (λ q. get_at-remove m k q ∙ elim (bool_cases (same_key q k)) [
+  | inl y ↦ cond-true _ _ _ y ∙ sym (ap (get m) (same_key-true q k y) ∙ h)
+  | inr n ↦ cond-false _ _ _ n
+])
+
+keyed_if : (key : ℕ → List ℕ) (m : FinMap (slice_cmp nat_cmp) ℕ) (i : ℕ) (b : Bool) → IsKeyed key m → IsKeyed key (cond b m (insert m (key i) i))
+keyed_if key m i true h = h
+keyed_if key m i false h = λ q j g. elim (bool_cases (same_key q (key i))) [
+  | inl y ↦ ap key (sym (same_Some i j (sym (cond-true _ _ _ y) ∙ (sym (get_at-insert m (key i) i q) ∙ g)))) ∙ sym (same_key-true q (key i) y)
+  | inr n ↦ h q j (sym (cond-false _ _ _ n) ∙ (sym (get_at-insert m (key i) i q) ∙ g))
+]
+
+-- the slots of the map stand under their own keys after a command too
+keyed_after : (key : ℕ → List ℕ) (m : FinMap (slice_cmp nat_cmp) ℕ) (command : Command) → IsKeyed key m → IsKeyed key (after key command m)
+keyed_after key m (Link i) h = keyed_if key m i (is_some (get m (key i))) h
+keyed_after key m (Find k) h = h
+keyed_after key m (Above bound) h = h
+keyed_after key m (Unlink k) h = λ q j g. elim (bool_cases (same_key q k.items)) [
+  | inl y ↦ absurd (none-some j (sym (cond-true _ _ _ y) ∙ (sym (get_at-remove m k.items q) ∙ g)))
+  | inr n ↦ h q j (sym (cond-false _ _ _ n) ∙ (sym (get_at-remove m k.items q) ∙ g))
+]
+
+pub keyed_step : (key was : ℕ → List ℕ) (m n : FinMap (slice_cmp nat_cmp) ℕ) (command : Command) → was ≡ key → n ≡ after was command m → IsKeyed key m → IsKeyed key n
+keyed_step key was m n command same step h = subst (IsKeyed key) (sym (step ∙ ap (λ f. after f command m) same)) (keyed_after key m command h)
+
+pub keyed_empty : (key : ℕ → List ℕ) → IsKeyed key empty
+keyed_empty key k i g = absurd (none-some i (sym (get-empty (slice_cmp nat_cmp) k) ∙ g))
+
+ready_with : (a : ArenaState) (ls : List (Option ℕ)) (command : Command) → IsReady a command → IsReady (record a { links = ls }) command
+ready_with a ls (Link i) h = record { inside = h.inside; not_free = h.not_free; not_worn = h.not_worn }
+ready_with a ls (Find k) h = h
+ready_with a ls (Unlink k) h = h
+ready_with a ls (Above bound) h = h
+
+-- links alone have changed
+pub ready_still : (a b : ArenaState) (command : Command) → b ≡ record a { links = b.links } → IsReady a command → IsReady b command
+ready_still a b command e h = subst (λ z. IsReady z command) (sym e) (ready_with a b.links command h)
+
+pub keys_still : (a b : ArenaState) → b ≡ record a { links = b.links } → key_at b.slots ≡ key_at a.slots
+keys_still a b e = ap (λ (z : ArenaState). key_at z.slots) e
+
+pub links_still : (a b c : ArenaState) → b ≡ record a { links = b.links } → c ≡ record b { links = c.links } → c ≡ record a { links = c.links }
+links_still a b c e f = f ∙ ap (λ (z : ArenaState). let w : ArenaState = record z { links = c.links } in w) e
+
+-- one reply more: those so far and those to what is left are those to all
+pub told_more : (key was : ℕ → List ℕ) (commands rest left : List Command) (told new : List (Option ℕ)) (command : Command) (r : Option ℕ) (m n : FinMap (slice_cmp nat_cmp) ℕ) →
+    was ≡ key → rest ≡ command ∷ left → new ≡ told ++ r ∷ [] → r ≡ reply_of was command m → n ≡ after was command m → told ++ replies key rest m ≡ replies key commands empty → new ++ replies key left n ≡ replies key commands empty
+told_more key was commands rest left told new command r m n same split items reply step h =
+    ap (λ l. l ++ replies key left n) items
+    ∙ (append_assoc told (r ∷ []) (replies key left n)
+    ∙ (ap (λ x. told ++ x ∷ replies key left n) (reply ∙ ap (λ f. reply_of f command m) same)
+    ∙ (ap (λ x. told ++ reply_of key command m ∷ replies key left x) (step ∙ ap (λ f. after f command m) same)
+    ∙ (ap (λ l. told ++ replies key l m) (sym split) ∙ h))))

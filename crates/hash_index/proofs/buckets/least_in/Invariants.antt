@@ -1,0 +1,10 @@
+use Rattle.std.proofs.Common.{◌<◌, length, drop}
+use Rattle.std.specs.Prelude.{IfSome, option_copied}
+use Rattle.hash_index.specs.Buckets.{IsGathered}
+use Rattle.hash_index.proofs.buckets.least_in.Given as goal
+
+abbrev pub invariant-loop-head : goal.invariant-loop-head
+invariant-loop-head l = record {
+  gathered : IsGathered l.arena (option_copied l.bound) l.heads (drop l.head-index l.heads) l.least;
+  inside : IfSome l.least (λ i. i < length l.arena.slots);
+}

@@ -1,0 +1,14 @@
+use Rattle.std.proofs.Common.{◌<◌, length}
+use Rattle.std.specs.Prelude.{IfSome, option_copied}
+use Rattle.hash_index.specs.Chains.{IsChain, IsScanned, chain_of}
+use Rattle.hash_index.proofs.chain.least_with.Given as goal
+
+abbrev pub invariant-loop-at : goal.invariant-loop-at
+invariant-loop-at l = record {
+  chain : IsChain l.arena l.at;
+  scan : IsScanned l.arena (option_copied l.bound) l.fn.first l.fn.before l.at l.least;
+  inside : IfSome l.least (λ i. i < length l.arena.slots);
+}
+
+abbrev pub decreases-loop-at : goal.decreases-loop-at
+decreases-loop-at l = length (chain_of l.arena l.at)

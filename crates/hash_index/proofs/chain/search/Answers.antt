@@ -1,0 +1,19 @@
+use Rattle.std.proofs.Common.{◌∙◌, sym}
+use Rattle.element_arena.specs.State.{key_at}
+use Rattle.element_arena.proofs.Indexing.{same_key-false}
+use Rattle.hash_index.proofs.Steps.{chain_step, chain_at, searched, shorter}
+use Rattle.hash_index.proofs.chain.search.Goals as goal
+
+pub has_key-requires : goal.has_key-requires
+has_key-requires c = (chain_step c.args.arena.now c.in-Some.slot (chain_at c.args.arena.now c.loop-at.at c.in-Some.slot c.loop-at.invariant.chain c.in-Some.is)).2.inside
+
+pub next_of-at-requires : goal.next_of-at-requires
+next_of-at-requires c = (chain_step c.args.arena.now c.in-Some.slot (chain_at c.args.arena.now c.loop-at.at c.in-Some.slot c.loop-at.invariant.chain c.in-Some.is)).2
+
+pub loop-at-smaller : goal.loop-at-smaller
+loop-at-smaller c = shorter c.args.arena.now c.loop-at.at c.next_of-at.result c.in-Some.slot c.loop-at.invariant.chain c.in-Some.is c.next_of-at.ensures
+
+pub loop-at-preserved : goal.loop-at-preserved
+loop-at-preserved c =
+    let s = searched c.args.arena.now c.args.first c.loop-at.at c.next_of-at.result c.in-Some.slot c.args.key.now c.loop-at.invariant.chain c.in-Some.is c.next_of-at.ensures (λ e. same_key-false c.args.key.now (key_at c.args.arena.now.slots c.in-Some.slot) (sym c.has_key.ensures ∙ c.if-has_key.false) (sym e)) c.loop-at.invariant.same in
+    record { chain = s.0; same = s.1 }

@@ -1,0 +1,13 @@
+use Rattle.std.proofs.Common.{◌≡◌, length}
+use Rattle.element_arena.specs.State.{key_at, slot_of}
+use Rattle.hash_index.specs.Chains.{IsChain, chain_of}
+use Rattle.hash_index.proofs.chain.search.Given as goal
+
+abbrev pub invariant-loop-at : goal.invariant-loop-at
+invariant-loop-at l = record {
+  chain : IsChain l.arena l.at;
+  same : slot_of (key_at l.arena.slots) (chain_of l.arena l.fn.first) l.key ≡ slot_of (key_at l.arena.slots) (chain_of l.arena l.at) l.key;
+}
+
+abbrev pub decreases-loop-at : goal.decreases-loop-at
+decreases-loop-at l = length (chain_of l.arena l.at)

@@ -1,0 +1,57 @@
+-- Chains of slots, and the slots of many chains.
+use Rattle.std.specs.Prelude.{◌≡◌, ℕ, ◌+◌, ◌<◌, ◌-◌, ◌*◌, ◌%◌, ◌^◌, bit_and, bit_xor, List, [], ◌∷◌, ◌++◌, Option, cond, eqb, length}
+use Rattle.element_arena.specs.State.{ArenaState, IsTaken, link_at, key_at, times}
+use Rattle.element_arena.specs.Threads.{IsThread, walk}
+use Rattle.hash_index.specs.Order.{IsLeastOf}
+
+-- FNV-1a of these bytes, in 64 bits, going on from h
+abbrev pub hash_from : ℕ → List ℕ → ℕ
+hash_from h [] = h
+hash_from h (byte ∷ bytes) = hash_from ((bit_xor h byte * 1099511628211) % 2 ^ 64) bytes
+
+abbrev pub hash_of : List ℕ → ℕ
+hash_of key = hash_from 14695981039346656037 key
+
+-- the bucket of a key, of a power of two of them
+abbrev pub bucket_of : ℕ → List ℕ → ℕ
+bucket_of count key = bit_and (hash_of key) (count - 1)
+
+-- the slots that the links lead through from the first one
+abbrev pub chain_of : ArenaState → Option ℕ → List ℕ
+chain_of a first = walk (length a.slots) (link_at a.links) first
+
+-- it ends, and its slots are taken
+pub record IsChain (a : ArenaState) (first : Option ℕ) : Type 0 where
+  pub thread : IsThread (link_at a.links) first (chain_of a first)
+  pub taken : (j : ℕ) → 0 < times j (chain_of a first) → IsTaken a j
+
+-- the last slot before another
+pub record IsBefore (chain : List ℕ) (last slot : ℕ) : Type 0 where
+  pub front : List ℕ
+  pub back : List ℕ
+  pub split : chain ≡ front ++ last ∷ slot ∷ back
+
+-- how far the search for a slot has come
+pub record IsOn (a : ArenaState) (chain : List ℕ) (last : ℕ) (at : Option ℕ) (slot : ℕ)
+    : Type 0 where
+  pub front : List ℕ
+  pub back : List ℕ
+  pub split : chain ≡ front ++ last ∷ back
+  pub thread : IsThread (link_at a.links) at back
+  pub held : 0 < times slot back
+
+-- A slot was taken out of the chain from first, which begins with result now. Links of the chain alone have changed.
+pub record IsCut (a b : ArenaState) (first : Option ℕ) (slot : ℕ) (result : Option ℕ) : Type 0 where
+  pub rest : b ≡ record a { links = b.links }
+  pub others : (j : ℕ) → times j (chain_of a first) ≡ 0 → link_at b.links j ≡ link_at a.links j
+  pub left : List ℕ
+  pub thread : IsThread (link_at b.links) result left
+  pub fewer : (j : ℕ) → times j (chain_of a first) ≡ times j left + cond (eqb slot j) 1 0
+
+-- how far the search for the least key has come: what is the least of the slots of front too
+pub record IsScanned (a : ArenaState) (bound : Option (List ℕ)) (first before at least : Option ℕ)
+    : Type 0 where
+  pub front : List ℕ
+  pub split : chain_of a first ≡ front ++ chain_of a at
+  pub least_of : (xs : List ℕ) → IsLeastOf (key_at a.slots) bound xs before →
+      IsLeastOf (key_at a.slots) bound (xs ++ front) least

@@ -1,0 +1,80 @@
+//! What an index of slots is.
+ghost use Rattle.std.specs.Prelude.{◌≡◌, ◌≤◌, ℕ, None, Some, length, IfOk, IfSome, IfNone, option_copied};
+ghost use Rattle.std.specs.FinMap as map;
+ghost use Rattle.std.specs.Ordering.{nat_cmp};
+ghost use Rattle.std.specs.Cmp.Lexicographic.{slice_cmp};
+ghost use Rattle.element_arena.specs.State.{ArenaState, IsTaken, LinksOf, SameAt, indexed, key_at};
+ghost use Rattle.hash_index.specs.Order.{IsAbove, NoneAbove, NoneBetween};
+
+use element_arena::Arena;
+use std::alloc::{AllocError, Global};
+
+/// Slots of an arena by their keys, at most one of a key. What an index has is read over the arena's state:
+/// each call takes the arena in which the index stands.
+pub trait Index {
+    /// The slot of each key, over this arena.
+    ghost contents: { Self → ArenaState → map.FinMap (slice_cmp nat_cmp) ℕ };
+
+    /// That the index stands in this arena, and has room for each of its slots.
+    ghost fits: { Self → ArenaState → Type 0 };
+
+    /// An index that has nothing. It is made for any arena of at most so many slots, and for about so many
+    /// entries; it may come to have more. No other call but `copy` takes memory. The error is that there is
+    /// none left.
+    fn new(alloc: Global, entries: usize, slots: usize) -> Result<Self, AllocError>
+        ensures fits { IfOk result (λ x. (a : ArenaState) → length a.slots ≤ slots → fits x a) }
+        ensures empty { IfOk result (λ x. (a : ArenaState) → length a.slots ≤ slots →
+            contents x a ≡ map.empty) };
+
+    /// The slot of a key, if there is one. A key of another length than the arena's keys has none.
+    fn find(&self, arena: &Arena, key: &[u8]) -> Option<usize>
+        requires { fits self.now arena.now }
+        ensures { result ≡ map.get (contents self.now arena.now) key.now };
+
+    /// A taken slot joins, whose key the index does not have.
+    fn link(&mut self, arena: &mut Arena, slot: usize)
+        requires fits { fits self.old arena.old }
+        requires taken { IsTaken arena.old slot }
+        requires absent { map.get (contents self.old arena.old) (key_at arena.old.slots slot)
+            ≡ None }
+        ensures contents { contents self.new arena.new
+            ≡ map.insert (contents self.old arena.old) (key_at arena.old.slots slot) slot }
+        ensures fits { fits self.new arena.new }
+        ensures links { LinksOf (indexed (contents self.new arena.new) arena.new.slots)
+            arena.old arena.new };
+
+    /// A slot that the index has leaves it.
+    fn unlink(&mut self, arena: &mut Arena, slot: usize)
+        requires fits { fits self.old arena.old }
+        requires linked { map.get (contents self.old arena.old) (key_at arena.old.slots slot)
+            ≡ Some slot }
+        ensures contents { contents self.new arena.new
+            ≡ map.remove (contents self.old arena.old) (key_at arena.old.slots slot) }
+        ensures fits { fits self.new arena.new }
+        ensures links { LinksOf (indexed (contents self.old arena.old) arena.old.slots)
+            arena.old arena.new };
+
+    /// The slot of the least key above a bound, in byte order, if there is one. Every key is above no bound,
+    /// and a bound may have any length.
+    fn next_above(&self, arena: &Arena, bound: Option<&[u8]>) -> Option<usize>
+        requires { fits self.now arena.now }
+        ensures some { IfSome result (λ i.
+            map.get (contents self.now arena.now) (key_at arena.now.slots i) ≡ Some i) }
+        ensures above { IfSome result (λ i.
+            IsAbove (option_copied bound.entry) (key_at arena.now.slots i)) }
+        ensures least { IfSome result (λ i.
+            NoneBetween (contents self.now arena.now) (option_copied bound.entry)
+            (key_at arena.now.slots i)) }
+        ensures none { IfNone result
+            (NoneAbove (contents self.now arena.now) (option_copied bound.entry)) };
+
+    /// The same slots in an index of its own, which stands wherever this one does. The error is that there is
+    /// no memory left.
+    fn copy(&self, alloc: Global) -> Result<Self, AllocError>
+        ensures { IfOk result (λ y. (a : ArenaState) → fits self.now a →
+            fits y a × (contents y a ≡ contents self.now a)) };
+
+    /// An index reads nothing of the arena but what stands in its own slots.
+    ghost frame: { (x : Self) (a b : ArenaState) → fits x a →
+        SameAt (indexed (contents x a) a.slots) a b → fits x b × (contents x b ≡ contents x a) };
+}

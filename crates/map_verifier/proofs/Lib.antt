@@ -1,0 +1,7 @@
+pub mod Accepting
+pub mod Below
+pub mod Counting
+pub mod Justifying
+pub mod Merging
+pub mod Peaks
+pub mod Plans

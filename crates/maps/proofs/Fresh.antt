@@ -1,0 +1,95 @@
+-- A new arena, with nothing linked and nothing in a list.
+use Rattle.std.proofs.Common.{◌≡◌, ◌∙◌, ℕ, zero, suc, ◌+◌, ◌<◌, ◌≤◌, List, [], length, None, inl, inr, refl, sym, ap, arith, cond, eqb, Bool, false}
+use Rattle.std.specs.Prelude.{replicate, count_by}
+use Rattle.std.specs.List.{range_with_len}
+use Rattle.std.specs.Ordering.{nat_cmp}
+use Rattle.std.specs.Cmp.Lexicographic.{slice_cmp}
+use Rattle.std.specs.FinMap as map
+use Rattle.std.specs.FinMap.{get, get-empty, len-empty}
+use Rattle.std.proofs.lemmas.List.Folds.{sum_by-replicate}
+use Rattle.std.proofs.Math.Nat.{mul-zero}
+use Rattle.bpf_model.specs.declared.limits.MapShape.{MapShape}
+use Rattle.bpf_model.specs.MapState.{IsShape}
+use Rattle.std.proofs.lemmas.Option.{none-some}
+use Rattle.bpf_model.specs.View.{MapView, unused_slot, new_map_view}
+use Rattle.element_arena.specs.State.{times, is_at, indexed, key_at, value_at, worn_at, new_arena}
+use Rattle.element_arena.proofs.Counts.{one_cases}
+use Rattle.maps.specs.Parted.{PartsView, IsParted}
+use Rattle.maps.specs.Shown.{map_view, IsMap}
+
+range-times : (a n i : ℕ) → (times i (range_with_len a n) ≤ 1) × (0 < times i (range_with_len a n) → (a ≤ i) × (i < a + n))
+range-times a zero i = (omega arith, λ h. absurd (omega arith))
+range-times a (suc n) i =
+    let r = range-times (a + 1) n i in
+    elim (one_cases a i) [
+      | inl y ↦
+          let c : cond {A = ℕ} (eqb a i) 1 0 ≡ 1 = y.1 in
+          let e : a ≡ i = y.0 in
+          let z : times i (range_with_len (a + 1) n) ≡ 0 = none (times i (range_with_len (a + 1) n)) (λ h. let b = (r.1 h).0 in omega arith) in
+          (omega arith, λ h. (omega arith, omega arith))
+      | inr ne ↦
+          let c : cond {A = ℕ} (eqb a i) 1 0 ≡ 0 = ne.1 in
+          let o : times i (range_with_len (a + 1) n) ≤ 1 = r.0 in
+          (omega arith, λ h. let b = r.1 (omega arith) in let b0 : a + 1 ≤ i = b.0 in let b1 : i < a + 1 + n = b.1 in (omega arith, omega arith))
+    ]
+  where
+    none : (k : ℕ) → (0 < k → ⊥) → k ≡ 0
+    none zero h = refl
+    none (suc k) h = absurd (h (omega arith))
+
+none-worn : (n i : ℕ) → worn_at (replicate n false) i ≡ 0
+none-worn zero i = refl
+none-worn (suc n) zero = refl
+none-worn (suc n) (suc i) = none-worn n i
+
+pub length-replicate : {A : Type 0} (n : ℕ) (x : A) → length (replicate n x) ≡ n
+length-replicate zero x = refl
+length-replicate (suc n) x = ap suc (length-replicate n x)
+
+no-key : (key : List ℕ) → get (map.empty {K = List ℕ} {X = ℕ} {R = slice_cmp nat_cmp}) key ≡ None
+no-key key = get-empty (slice_cmp nat_cmp) key
+
+abbrev pub fresh : ℕ → ℕ → ℕ → ℕ → PartsView
+fresh n key_len value_len limit = record { index = map.empty; lists = record { next = []; waiting = []; ready = [] }; arena = new_arena n key_len value_len limit }
+
+pub parted-fresh : (n key_len value_len limit : ℕ) → IsParted (fresh n key_len value_len limit)
+parted-fresh n key_len value_len limit =
+    let unlinked : (i : ℕ) → indexed (map.empty {K = List ℕ} {X = ℕ} {R = slice_cmp nat_cmp}) (replicate n unused_slot) i ≡ 0 = λ i. ap (λ o. is_at o i) (no-key (key_at (replicate n unused_slot) i)) in
+    let long : length (replicate n unused_slot) ≡ n = length-replicate n unused_slot in
+    let flags : length (replicate n false) ≡ n = length-replicate n false in
+    record {
+      once = λ i. let o = (range-times 0 n i).0 in omega (arith, unlinked i, none-worn n i);
+      inside = λ i h. let b = ((range-times 0 n i).1 (omega (arith, unlinked i, none-worn n i))).1 in omega arith;
+      keyed = λ key i h. absurd (none-some i (sym (no-key key) ∙ h));
+      flags = omega arith;
+    }
+
+none-counted : (n : ℕ) → count_by (λ b. b) (replicate n false) ≡ 0
+none-counted n = sum_by-replicate (λ (x : Bool). cond {A = ℕ} x 1 0) n false ∙ mul-zero n
+
+pub fresh-view : (shape : MapShape) → map_view shape (fresh (shape.entries + shape.spare) shape.key_len shape.value_len shape.reuse_limit) ≡ new_map_view shape
+fresh-view shape = ap (λ n. let v : MapView = record { shape = shape; slots = replicate (shape.entries + shape.spare) unused_slot; free = range_with_len 0 (shape.entries + shape.spare); index = map.empty; next = []; waiting = []; ready = []; worn = n } in v) (none-counted (shape.entries + shape.spare))
+
+unused-key : (n i : ℕ) → length (key_at (replicate n unused_slot) i) ≡ 0
+unused-key zero i = refl
+unused-key (suc n) zero = refl
+unused-key (suc n) (suc i) = unused-key n i
+
+unused-value : (n i : ℕ) → length (value_at (replicate n unused_slot) i) ≡ 0
+unused-value zero i = refl
+unused-value (suc n) zero = refl
+unused-value (suc n) (suc i) = unused-value n i
+
+pub fresh-map : (shape : MapShape) → IsShape shape → IsMap shape (fresh (shape.entries + shape.spare) shape.key_len shape.value_len shape.reuse_limit) 0
+fresh-map shape h = record {
+  valid = h;
+  arena = record {
+    slots = length-replicate (shape.entries + shape.spare) unused_slot;
+    key_len = refl;
+    value_len = refl;
+    limit = refl;
+    keys = λ i. omega (arith, unused-key (shape.entries + shape.spare) i);
+    values = λ i. omega (arith, unused-value (shape.entries + shape.spare) i);
+  };
+  count = sym (len-empty (slice_cmp nat_cmp) ℕ);
+}

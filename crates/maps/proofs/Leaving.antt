@@ -1,0 +1,72 @@
+-- What a delete and a reap leave of a map.
+use Rattle.std.proofs.Common.{◌≡◌, ◌∙◌, ℕ, zero, suc, ◌+◌, ◌-◌, ◌<◌, List, [], ◌∷◌, ◌++◌, length, Option, Some, inl, inr, sym, ap, arith, Bool, true, false, subst, cond}
+use Rattle.std.specs.Prelude.{slice_set, count_by, ◌==◌}
+use Rattle.std.specs.FinMap.{get, remove}
+use Rattle.std.proofs.lemmas.Bool.{cond-true, cond-false}
+use Rattle.std.proofs.lemmas.List.Sums.{sum_by-cons}
+use Rattle.bpf_model.specs.declared.event.Given.{Given}
+use Rattle.bpf_model.specs.declared.event.Given.TheVariants.{Free, Worn}
+use Rattle.bpf_model.specs.declared.limits.MapShape.{MapShape}
+use Rattle.bpf_model.specs.View.{MapView, uses_at}
+use Rattle.element_arena.specs.State.{key_at, worn_at, is_last_use, given_back}
+use Rattle.element_arena.proofs.Counts.{bool_cases}
+use Rattle.view_laws.specs.Views.{given_at, reaped_view}
+use Rattle.view_laws.specs.Views as views
+use Rattle.view_laws.proofs.Lists.{len-remove_found}
+use Rattle.deferred_free.specs.Queued.{retired_slot, reaped_lists}
+use Rattle.maps.specs.Parted.{PartsView}
+use Rattle.maps.specs.Shown.{map_view, IsMap, IsOfShape}
+
+pub retired-kept : (shape : MapShape) (p r : PartsView) (i n : ℕ) → IsMap shape p n → get p.index (key_at p.arena.slots i) ≡ Some i →
+    r ≡ record { index = remove p.index (key_at p.arena.slots i); lists = retired_slot p.lists i; arena = record p.arena { links = r.arena.links } } → IsMap shape r (n - 1)
+retired-kept shape p r i n h g e =
+    let k : IsMap shape (record { index = remove p.index (key_at p.arena.slots i); lists = retired_slot p.lists i; arena = record p.arena { links = r.arena.links } }) (n - 1) = record {
+      valid = h.valid;
+      arena = record { slots = h.arena.slots; key_len = h.arena.key_len; value_len = h.arena.value_len; limit = h.arena.limit; keys = h.arena.keys; values = h.arena.values };
+      count = ap (λ m. m - 1) h.count ∙ sym (len-remove_found p.index (key_at p.arena.slots i) i g);
+    } in
+    subst (λ (z : PartsView). IsMap shape z (n - 1)) (sym e) k
+
+count-cons : (b : Bool) (xs : List Bool) → count_by (λ b. b) (b ∷ xs) ≡ cond b 1 0 + count_by (λ b. b) xs
+count-cons b xs = sum_by-cons (λ (x : Bool). cond {A = ℕ} x 1 0) b xs
+
+count-set : (xs : List Bool) (i : ℕ) → worn_at xs i ≡ 0 → i < length xs → count_by (λ b. b) (slice_set xs i true) ≡ count_by (λ b. b) xs + 1
+count-set [] i w h = absurd (omega arith)
+count-set (true ∷ xs) zero w h = absurd (omega arith)
+count-set (false ∷ xs) zero w h =
+    let n : count_by (λ b. b) (true ∷ xs) ≡ 1 + count_by (λ b. b) xs = count-cons true xs in
+    let o : count_by (λ b. b) (false ∷ xs) ≡ 0 + count_by (λ b. b) xs = count-cons false xs in
+    n ∙ omega arith
+count-set (b ∷ xs) (suc i) w h =
+    let n : count_by (λ b. b) (b ∷ slice_set xs i true) ≡ cond b 1 0 + count_by (λ b. b) (slice_set xs i true) = count-cons b (slice_set xs i true) in
+    let o : count_by (λ b. b) (b ∷ xs) ≡ cond b 1 0 + count_by (λ b. b) xs = count-cons b xs in
+    let r : count_by (λ b. b) (slice_set xs i true) ≡ count_by (λ b. b) xs + 1 = count-set xs i w (omega arith) in
+    n ∙ omega arith
+
+module _ (shape : MapShape) (p : PartsView) (i : ℕ) (l : List (Option ℕ)) (a : IsOfShape shape p.arena) where
+  pub given-is : given_at (map_view shape p) i ≡ cond (is_last_use p.arena i) Worn Free
+  given-is = ap (λ n. cond {A = Given} (uses_at p.arena.slots i == n) Worn Free) (sym a.limit)
+
+  abbrev by_last : Bool → MapView
+  by_last b = record {
+    shape = shape;
+    slots = p.arena.slots;
+    free = cond b p.arena.free (p.arena.free ++ i ∷ []);
+    index = p.index;
+    next = p.lists.next;
+    waiting = p.lists.waiting;
+    ready = (reaped_lists p.lists).ready;
+    worn = count_by (λ b. b) (cond b (slice_set p.arena.worn i true) p.arena.worn);
+  }
+
+  abbrev with_worn : ℕ → MapView
+  with_worn n = record { shape = shape; slots = p.arena.slots; free = p.arena.free; index = p.index; next = p.lists.next; waiting = p.lists.waiting; ready = (reaped_lists p.lists).ready; worn = n }
+
+  pub reaped-shown : worn_at p.arena.worn i ≡ 0 → i < length p.arena.worn → map_view shape (record { index = p.index; lists = reaped_lists p.lists; arena = given_back (record p.arena { links = l }) i }) ≡ reaped_view (map_view shape p) i
+  reaped-shown w h = elim (bool_cases (is_last_use p.arena i)) [
+    | inl y ↦
+        ap (λ b. by_last b) y
+        ∙ (ap (λ n. with_worn n) (count-set p.arena.worn i w h)
+        ∙ sym (ap (λ gv. views.given_back gv i (map_view shape p)) (given-is ∙ cond-true _ _ _ y)))
+    | inr n ↦ ap (λ b. by_last b) n ∙ sym (ap (λ gv. views.given_back gv i (map_view shape p)) (given-is ∙ cond-false _ _ _ n))
+  ]

@@ -1,0 +1,193 @@
+-- Each call of a part keeps the parts fitting the arena, and its slots in their standings.
+use Rattle.std.proofs.Common.{◌≡◌, ◌≢◌, ◌∙◌, ℕ, ◌+◌, ◌<◌, ◌≤◌, List, [], ◌∷◌, ◌++◌, length, Some, None, refl, sym, ap, arith, cond, eqb, subst}
+use Rattle.std.specs.FinMap.{get, insert, remove}
+use Rattle.bpf_model.specs.Schedule.{Queues, turned}
+use Rattle.element_arena.specs.State.{ArenaState, IsTaken, LinksOf, SameAt, is_at, indexed, times, link_in, key_at, taken, given_back, with_value}
+use Rattle.element_arena.proofs.Counts.{one_same, one_other, times-append, length-set, get-set_other}
+use Rattle.deferred_free.specs.Queued.{queued, retired_slot, reaped_lists}
+use Rattle.maps.specs.Parted.{KeyMap, PartsView, standings, IsParted, IsHeld}
+use Rattle.maps.proofs.Parting.{standing-taken, indexed-insert, parted-links, parted-inserted, parted-removed, removed-held, parted-retired, parted-turned, parted-reaped, parted-taken, taken-held, taken-indexed, other-key, taken-key, parted-given, written-key, parted-written}
+
+-- an arena that is another but for its links has the same slots taken
+pub taken-links : (a b : ArenaState) (j : ℕ) → b ≡ record a { links = b.links } → IsTaken a j → IsTaken b j
+taken-links a b j e t =
+    let c : IsTaken (record a { links = b.links }) j = record { inside = t.inside; not_free = t.not_free; not_worn = t.not_worn } in
+    subst (λ z. IsTaken z j) (sym e) c
+
+-- and the same slots in hand
+pub held-links : (m : KeyMap) (q : Queues) (a b : ArenaState) (j : ℕ) → b ≡ record a { links = b.links } → IsHeld (record { index = m; lists = q; arena = a }) j → IsHeld (record { index = m; lists = q; arena = b }) j
+held-links m q a b j e h = record {
+  taken = taken-links a b j e h.taken;
+  unlinked = ap (λ (z : ArenaState). indexed m z.slots j) e ∙ h.unlinked;
+  unlisted = h.unlisted;
+}
+
+-- slots whose links have not changed are as they were
+links-same : (own mine : ℕ → ℕ) (a b : ArenaState) → LinksOf own a b → ((j : ℕ) → 0 < mine j → own j ≡ 0) → ((j : ℕ) → 0 < mine j → IsTaken a j) → SameAt mine a b
+links-same own mine a b l apart taken = record {
+  long = ap (λ (z : ArenaState). length z.slots) l.rest;
+  key = λ j h. ap (λ (z : ArenaState). key_at z.slots j) l.rest;
+  link = λ j h. l.others j (apart j h);
+  taken = λ j h. taken-links a b j l.rest (taken j h);
+}
+
+module _ (X Y : Type 0) (contents : X → ArenaState → KeyMap) (fits_index : X → ArenaState → Type 0) (lists : Y → ArenaState → Queues) (fits_lists : Y → ArenaState → Type 0)
+    (index_frame : (x : X) (a b : ArenaState) → fits_index x a → SameAt (indexed (contents x a) a.slots) a b → fits_index x b × (contents x b ≡ contents x a))
+    (lists_frame : (y : Y) (a b : ArenaState) → fits_lists y a → SameAt (queued (lists y a)) a b → fits_lists y b × (lists y b ≡ lists y a)) where
+  -- parts that fit and read as these, in whose standings the slots stand
+  settle : (x : X) (y : Y) (b : ArenaState) (m : KeyMap) (q : Queues) → fits_index x b → fits_lists y b → contents x b ≡ m → lists y b ≡ q → IsParted (record { index = m; lists = q; arena = b }) →
+      let r : PartsView = record { index = contents x b; lists = lists y b; arena = b } in let s : PartsView = record { index = m; lists = q; arena = b } in ((fits_index x b × fits_lists y b) × IsParted r) × (r ≡ s)
+  settle x y b m q fi fl ei el p =
+      let e1 = ap (λ (z : KeyMap). let r : PartsView = record { index = z; lists = lists y b; arena = b } in r) ei in
+      let e2 = ap (λ (z : Queues). let r : PartsView = record { index = m; lists = z; arena = b } in r) el in
+      (((fi, fl), subst IsParted (sym (e1 ∙ e2)) p), e1 ∙ e2)
+
+  pub unlinked-step : (x x' : X) (y : Y) (a b : ArenaState) (i : ℕ) → (fits_index x a × fits_lists y a) × IsParted (record { index = contents x a; lists = lists y a; arena = a }) →
+      get (contents x a) (key_at a.slots i) ≡ Some i → contents x' b ≡ remove (contents x a) (key_at a.slots i) → fits_index x' b → LinksOf (indexed (contents x a) a.slots) a b →
+      let r : PartsView = record { index = contents x' b; lists = lists y b; arena = b } in let s : PartsView = record { index = remove (contents x a) (key_at a.slots i); lists = lists y a; arena = b } in
+      (((fits_index x' b × fits_lists y b) × IsParted r) × (r ≡ s)) × IsHeld r i
+  unlinked-step x x' y a b i w found e f l =
+      let p : PartsView = record { index = contents x a; lists = lists y a; arena = a } in
+      let h : IsParted (record { index = contents x a; lists = lists y a; arena = a }) = w.1 in
+      let fd = lists_frame y a b w.0.1 (links-same (indexed (contents x a) a.slots) (queued (lists y a)) a b l
+      (λ j g. let o : standings (record { index = contents x a; lists = lists y a; arena = a }) j ≤ 1 = h.once j in omega arith)
+      (λ j g. standing-taken (record { index = contents x a; lists = lists y a; arena = a }) j h (omega arith))) in
+      let pb = parted-links (remove (contents x a) (key_at a.slots i)) (lists y a) a b l.rest (parted-removed (record { index = contents x a; lists = lists y a; arena = a }) i h found) in
+      let s = settle x' y b (remove (contents x a) (key_at a.slots i)) (lists y a) f fd.0 e fd.1 pb in
+      (s, subst (λ (z : PartsView). IsHeld z i) (sym s.1) (held-links (remove (contents x a) (key_at a.slots i)) (lists y a) a b i l.rest (removed-held (record { index = contents x a; lists = lists y a; arena = a }) i h found)))
+
+  pub retired-step : (x : X) (y y' : Y) (a b : ArenaState) (i : ℕ) → (fits_index x a × fits_lists y a) × IsParted (record { index = contents x a; lists = lists y a; arena = a }) →
+      IsHeld (record { index = contents x a; lists = lists y a; arena = a }) i → lists y' b ≡ retired_slot (lists y a) i → fits_lists y' b → LinksOf (queued (lists y' b)) a b →
+      let r : PartsView = record { index = contents x b; lists = lists y' b; arena = b } in let s : PartsView = record { index = contents x a; lists = retired_slot (lists y a) i; arena = b } in
+      ((fits_index x b × fits_lists y' b) × IsParted r) × (r ≡ s)
+  retired-step x y y' a b i w held e f l0 =
+      let h : IsParted (record { index = contents x a; lists = lists y a; arena = a }) = w.1 in
+      let l : LinksOf (queued (retired_slot (lists y a) i)) a b = subst (λ z. LinksOf (queued z) a b) e l0 in
+      let more : (j : ℕ) → times j ((lists y a).next ++ i ∷ []) ≡ times j (lists y a).next + (cond {A = ℕ} (eqb i j) 1 0 + 0) = λ j. times-append j (lists y a).next (i ∷ []) in
+      let unlinked : indexed (contents x a) a.slots i ≡ 0 = held.unlinked in
+      let not_i : (j : ℕ) → 0 < indexed (contents x a) a.slots j → cond {A = ℕ} (eqb i j) 1 0 ≡ 0 = (λ j g. one_other i j (λ s. let z : 0 < indexed (contents x a) a.slots i = subst (λ k. 0 < indexed (contents x a) a.slots k) (sym s) g in absurd (omega arith))) in
+      let fi = index_frame x a b w.0.0 (links-same (queued (retired_slot (lists y a) i)) (indexed (contents x a) a.slots) a b l
+      (λ j g. let o : standings (record { index = contents x a; lists = lists y a; arena = a }) j ≤ 1 = h.once j in let c = not_i j g in omega (arith, more j))
+      (λ j g. standing-taken (record { index = contents x a; lists = lists y a; arena = a }) j h (omega arith))) in
+      let pb = parted-links (contents x a) (retired_slot (lists y a) i) a b l.rest (parted-retired (record { index = contents x a; lists = lists y a; arena = a }) i h held) in
+      settle x y' b (contents x a) (retired_slot (lists y a) i) fi.0 f fi.1 e pb
+
+  pub linked-step : (x x' : X) (y : Y) (a b : ArenaState) (i : ℕ) → (fits_index x a × fits_lists y a) × IsParted (record { index = contents x a; lists = lists y a; arena = a }) →
+      IsHeld (record { index = contents x a; lists = lists y a; arena = a }) i → get (contents x a) (key_at a.slots i) ≡ None →
+      contents x' b ≡ insert (contents x a) (key_at a.slots i) i → fits_index x' b → LinksOf (indexed (contents x' b) b.slots) a b →
+      let r : PartsView = record { index = contents x' b; lists = lists y b; arena = b } in let s : PartsView = record { index = insert (contents x a) (key_at a.slots i) i; lists = lists y a; arena = b } in
+      ((fits_index x' b × fits_lists y b) × IsParted r) × (r ≡ s)
+  linked-step x x' y a b i w held none e f l0 =
+      let h : IsParted (record { index = contents x a; lists = lists y a; arena = a }) = w.1 in
+      let l : LinksOf (indexed (insert (contents x a) (key_at a.slots i) i) b.slots) a b = subst (λ z. LinksOf (indexed z b.slots) a b) e l0 in
+      let same : (j : ℕ) → indexed (insert (contents x a) (key_at a.slots i) i) b.slots j ≡ indexed (insert (contents x a) (key_at a.slots i) i) a.slots j = λ j. ap (λ (z : ArenaState). indexed (insert (contents x a) (key_at a.slots i) i) z.slots j) l.rest in
+      let more : (j : ℕ) → indexed (insert (contents x a) (key_at a.slots i) i) a.slots j ≡ indexed (contents x a) a.slots j + cond {A = ℕ} (eqb i j) 1 0 = λ j. indexed-insert (contents x a) a.slots (key_at a.slots i) i j none refl in
+      let unlisted : queued (lists y a) i ≡ 0 = held.unlisted in
+      let not_i : (j : ℕ) → 0 < queued (lists y a) j → cond {A = ℕ} (eqb i j) 1 0 ≡ 0 = (λ j g. one_other i j (λ s. let z : 0 < queued (lists y a) i = subst (λ k. 0 < queued (lists y a) k) (sym s) g in absurd (omega arith))) in
+      let fd = lists_frame y a b w.0.1 (links-same (indexed (insert (contents x a) (key_at a.slots i) i) b.slots) (queued (lists y a)) a b l
+      (λ j g. let o : standings (record { index = contents x a; lists = lists y a; arena = a }) j ≤ 1 = h.once j in let c = not_i j g in omega (arith, more j, same j))
+      (λ j g. standing-taken (record { index = contents x a; lists = lists y a; arena = a }) j h (omega arith))) in
+      let pb = parted-links (insert (contents x a) (key_at a.slots i) i) (lists y a) a b l.rest (parted-inserted (record { index = contents x a; lists = lists y a; arena = a }) i h held none) in
+      settle x' y b (insert (contents x a) (key_at a.slots i) i) (lists y a) f fd.0 e fd.1 pb
+
+  -- a call of the lists that links none but their own slots, and leaves q of them
+  moved-step : (x : X) (y y' : Y) (a b : ArenaState) (q : Queues) → (fits_index x a × fits_lists y a) × IsParted (record { index = contents x a; lists = lists y a; arena = a }) →
+      IsParted (record { index = contents x a; lists = q; arena = a }) → lists y' b ≡ q → fits_lists y' b → LinksOf (queued (lists y a)) a b →
+      let r : PartsView = record { index = contents x b; lists = lists y' b; arena = b } in let s : PartsView = record { index = contents x a; lists = q; arena = b } in
+      ((fits_index x b × fits_lists y' b) × IsParted r) × (r ≡ s)
+  moved-step x y y' a b q w parted e f l =
+      let h : IsParted (record { index = contents x a; lists = lists y a; arena = a }) = w.1 in
+      let fi = index_frame x a b w.0.0 (links-same (queued (lists y a)) (indexed (contents x a) a.slots) a b l
+      (λ j g. let o : standings (record { index = contents x a; lists = lists y a; arena = a }) j ≤ 1 = h.once j in omega arith)
+      (λ j g. standing-taken (record { index = contents x a; lists = lists y a; arena = a }) j h (omega arith))) in
+      settle x y' b (contents x a) q fi.0 f fi.1 e (parted-links (contents x a) q a b l.rest parted)
+
+  pub turned-step : (x : X) (y y' : Y) (a b : ArenaState) → (fits_index x a × fits_lists y a) × IsParted (record { index = contents x a; lists = lists y a; arena = a }) →
+      lists y' b ≡ turned (lists y a) → fits_lists y' b → LinksOf (queued (lists y a)) a b →
+      let r : PartsView = record { index = contents x b; lists = lists y' b; arena = b } in let s : PartsView = record { index = contents x a; lists = turned (lists y a); arena = b } in
+      ((fits_index x b × fits_lists y' b) × IsParted r) × (r ≡ s)
+  turned-step x y y' a b w e f l = moved-step x y y' a b (turned (lists y a)) w (parted-turned (record { index = contents x a; lists = lists y a; arena = a }) w.1) e f l
+
+  pub reaped-step : (x : X) (y y' : Y) (a b : ArenaState) → (fits_index x a × fits_lists y a) × IsParted (record { index = contents x a; lists = lists y a; arena = a }) →
+      lists y' b ≡ reaped_lists (lists y a) → fits_lists y' b → LinksOf (queued (lists y a)) a b →
+      let r : PartsView = record { index = contents x b; lists = lists y' b; arena = b } in let s : PartsView = record { index = contents x a; lists = reaped_lists (lists y a); arena = b } in
+      ((fits_index x b × fits_lists y' b) × IsParted r) × (r ≡ s)
+  reaped-step x y y' a b w e f l = moved-step x y y' a b (reaped_lists (lists y a)) w (parted-reaped (record { index = contents x a; lists = lists y a; arena = a }) w.1) e f l
+
+  -- an arena in which the slots that stand are as they were
+  kept-step : (x : X) (y : Y) (a b : ArenaState) → (fits_index x a × fits_lists y a) × IsParted (record { index = contents x a; lists = lists y a; arena = a }) →
+      IsParted (record { index = contents x a; lists = lists y a; arena = b }) → SameAt (indexed (contents x a) a.slots) a b → SameAt (queued (lists y a)) a b →
+      let r : PartsView = record { index = contents x b; lists = lists y b; arena = b } in let s : PartsView = record { index = contents x a; lists = lists y a; arena = b } in
+      ((fits_index x b × fits_lists y b) × IsParted r) × (r ≡ s)
+  kept-step x y a b w parted si sq =
+      let fi = index_frame x a b w.0.0 si in
+      let fd = lists_frame y a b w.0.1 sq in
+      settle x y b (contents x a) (lists y a) fi.0 fd.0 fi.1 fd.1 parted
+
+  pub taken-step : (x : X) (y : Y) (a b : ArenaState) (i : ℕ) (rest key value : List ℕ) → (fits_index x a × fits_lists y a) × IsParted (record { index = contents x a; lists = lists y a; arena = a }) →
+      a.free ≡ i ∷ rest → b ≡ taken a i rest key value →
+      let r : PartsView = record { index = contents x b; lists = lists y b; arena = b } in let s : PartsView = record { index = contents x a; lists = lists y a; arena = b } in
+      (((fits_index x b × fits_lists y b) × IsParted r) × (r ≡ s)) × (IsHeld r i × (key_at b.slots i ≡ key))
+  taken-step x y a b i rest key value w split e =
+      let h : IsParted (record { index = contents x a; lists = lists y a; arena = a }) = w.1 in
+      let free : (j : ℕ) → times j a.free ≡ cond {A = ℕ} (eqb i j) 1 0 + times j rest = λ j. ap (times j) split in
+      let pt : IsParted (record { index = contents x a; lists = lists y a; arena = taken a i rest key value }) = parted-taken (record { index = contents x a; lists = lists y a; arena = a }) i rest key value h split in
+      let nowhere : (j : ℕ) → 0 < indexed (contents x a) a.slots j + queued (lists y a) j → j ≢ i = (λ j g s.
+      let z : 0 < indexed (contents x a) a.slots i + queued (lists y a) i = subst (λ k. 0 < indexed (contents x a) a.slots k + queued (lists y a) k) s g in
+      let o : standings (record { index = contents x a; lists = lists y a; arena = a }) i ≤ 1 = h.once i in absurd (omega (arith, free i, one_same i))) in
+      let agree : (own : ℕ → ℕ) → ((j : ℕ) → 0 < own j → (j ≢ i) × IsTaken (taken a i rest key value) j) → SameAt own a (taken a i rest key value) = (λ own g. record {
+        long = length-set a.slots i _;
+        key = λ j o. other-key (record { index = contents x a; lists = lists y a; arena = a }) i rest key value h split j (g j o).0;
+        link = λ j o. ap link_in (get-set_other a.links i j None (g j o).0);
+        taken = λ j o. (g j o).1;
+      }) in
+      let same : (j : ℕ) → indexed (contents x a) (taken a i rest key value).slots j ≡ indexed (contents x a) a.slots j = taken-indexed (record { index = contents x a; lists = lists y a; arena = a }) i rest key value h split in
+      let si = agree (indexed (contents x a) a.slots) (λ j g. (nowhere j (omega arith), standing-taken (record { index = contents x a; lists = lists y a; arena = taken a i rest key value }) j pt (omega (arith, same j)))) in
+      let sq = agree (queued (lists y a)) (λ j g. (nowhere j (omega arith), standing-taken (record { index = contents x a; lists = lists y a; arena = taken a i rest key value }) j pt (omega arith))) in
+      let held = taken-held (record { index = contents x a; lists = lists y a; arena = a }) i rest key value h split in
+      let k = taken-key (record { index = contents x a; lists = lists y a; arena = a }) i rest key value h split in
+      let pb = subst (λ (z : ArenaState). IsParted (record { index = contents x a; lists = lists y a; arena = z })) (sym e) pt in
+      let s = kept-step x y a b w pb (subst (SameAt (indexed (contents x a) a.slots) a) (sym e) si) (subst (SameAt (queued (lists y a)) a) (sym e) sq) in
+      let hb = subst (λ (z : ArenaState). IsHeld (record { index = contents x a; lists = lists y a; arena = z }) i) (sym e) held in
+      (s, (subst (λ (z : PartsView). IsHeld z i) (sym s.1) hb, ap (λ (z : ArenaState). key_at z.slots i) e ∙ k))
+
+  pub given-step : (x : X) (y : Y) (a b : ArenaState) (i : ℕ) → (fits_index x a × fits_lists y a) × IsParted (record { index = contents x a; lists = lists y a; arena = a }) →
+      IsHeld (record { index = contents x a; lists = lists y a; arena = a }) i → b ≡ given_back a i →
+      let r : PartsView = record { index = contents x b; lists = lists y b; arena = b } in let s : PartsView = record { index = contents x a; lists = lists y a; arena = b } in
+      ((fits_index x b × fits_lists y b) × IsParted r) × (r ≡ s)
+  given-step x y a b i w held e =
+      let h : IsParted (record { index = contents x a; lists = lists y a; arena = a }) = w.1 in
+      let pt : IsParted (record { index = contents x a; lists = lists y a; arena = given_back a i }) = parted-given (record { index = contents x a; lists = lists y a; arena = a }) i h held in
+      let ul : indexed (contents x a) a.slots i ≡ 0 = held.unlinked in
+      let uq : queued (lists y a) i ≡ 0 = held.unlisted in
+      let nowhere : (j : ℕ) → 0 < indexed (contents x a) a.slots j + queued (lists y a) j → j ≢ i = (λ j g s.
+      let z : 0 < indexed (contents x a) a.slots i + queued (lists y a) i = subst (λ k. 0 < indexed (contents x a) a.slots k + queued (lists y a) k) s g in absurd (omega arith)) in
+      let agree : (own : ℕ → ℕ) → ((j : ℕ) → 0 < own j → (j ≢ i) × IsTaken (given_back a i) j) → SameAt own a (given_back a i) = (λ own g. record {
+        long = refl;
+        key = λ j o. refl;
+        link = λ j o. ap link_in (get-set_other a.links i j None (g j o).0);
+        taken = λ j o. (g j o).1;
+      }) in
+      let si = agree (indexed (contents x a) a.slots) (λ j g. (nowhere j (omega arith), standing-taken (record { index = contents x a; lists = lists y a; arena = given_back a i }) j pt (omega arith))) in
+      let sq = agree (queued (lists y a)) (λ j g. (nowhere j (omega arith), standing-taken (record { index = contents x a; lists = lists y a; arena = given_back a i }) j pt (omega arith))) in
+      let pb = subst (λ (z : ArenaState). IsParted (record { index = contents x a; lists = lists y a; arena = z })) (sym e) pt in
+      kept-step x y a b w pb (subst (SameAt (indexed (contents x a) a.slots) a) (sym e) si) (subst (SameAt (queued (lists y a)) a) (sym e) sq)
+
+  pub written-step : (x : X) (y : Y) (a b : ArenaState) (i : ℕ) (value : List ℕ) → (fits_index x a × fits_lists y a) × IsParted (record { index = contents x a; lists = lists y a; arena = a }) →
+      i < length a.slots → b ≡ with_value a i value →
+      let r : PartsView = record { index = contents x b; lists = lists y b; arena = b } in let s : PartsView = record { index = contents x a; lists = lists y a; arena = b } in
+      ((fits_index x b × fits_lists y b) × IsParted r) × (r ≡ s)
+  written-step x y a b i value w in_ e =
+      let h : IsParted (record { index = contents x a; lists = lists y a; arena = a }) = w.1 in
+      let pt : IsParted (record { index = contents x a; lists = lists y a; arena = with_value a i value }) = parted-written (record { index = contents x a; lists = lists y a; arena = a }) i value h in_ in
+      let agree : (own : ℕ → ℕ) → ((j : ℕ) → 0 < own j → IsTaken (with_value a i value) j) → SameAt own a (with_value a i value) = (λ own g. record {
+        long = length-set a.slots i _;
+        key = λ j o. written-key a.slots i j value in_;
+        link = λ j o. refl;
+        taken = g;
+      }) in
+      let same : (j : ℕ) → indexed (contents x a) (with_value a i value).slots j ≡ indexed (contents x a) a.slots j = λ j. ap (λ k. is_at (get (contents x a) k) j) (written-key a.slots i j value in_) in
+      let si = agree (indexed (contents x a) a.slots) (λ j g. standing-taken (record { index = contents x a; lists = lists y a; arena = with_value a i value }) j pt (omega (arith, same j))) in
+      let sq = agree (queued (lists y a)) (λ j g. standing-taken (record { index = contents x a; lists = lists y a; arena = with_value a i value }) j pt (omega arith)) in
+      let pb = subst (λ (z : ArenaState). IsParted (record { index = contents x a; lists = lists y a; arena = z })) (sym e) pt in
+      kept-step x y a b w pb (subst (SameAt (indexed (contents x a) a.slots) a) (sym e) si) (subst (SameAt (queued (lists y a)) a) (sym e) sq)

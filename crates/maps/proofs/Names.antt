@@ -1,0 +1,31 @@
+-- Names of maps among the texts that a set keeps.
+use Rattle.std.proofs.Common.{rules, arith, ◌≡◌, ap, ◌∙◌, refl, sym, Bool, List, map, ℕ}
+use Rattle.std.specs.Prelude.{[], ◌∷◌, ◌++◌, ◌||◌, Option, Some, None, not, ◌+◌, position, suc, cond, nat_lt, length}
+use Rattle.std.specs.List.{list_any, position_or_len, prefix_len}
+use Rattle.std.proofs.lemmas.List.{map-append, length-append}
+
+pub any_named : {A B : Type 0} (v : A → B) (test : B → Bool) (xs : List A) → list_any (λ x. test (v x)) xs ≡ list_any test (map v xs)
+any_named v test [] = refl
+any_named v test (x ∷ xs) = ap (λ b. test (v x) || b) (any_named v test xs)
+
+length_named : {A B : Type 0} (v : A → B) (xs : List A) → length (map v xs) ≡ length xs
+length_named v [] = refl
+length_named v (x ∷ xs) = ap suc (length_named v xs)
+
+pub prefix_named : {A B : Type 0} (v : A → B) (test : B → Bool) (xs : List A) → prefix_len (λ x. test (v x)) xs ≡ prefix_len test (map v xs)
+prefix_named v test [] = refl
+prefix_named v test (x ∷ xs) = ap (λ n. cond (test (v x)) (1 + n) 0) (prefix_named v test xs)
+
+or_len_named : {A B : Type 0} (v : A → B) (test : B → Bool) (xs : List A) → position_or_len (λ x. test (v x)) xs ≡ position_or_len test (map v xs)
+or_len_named v test xs = prefix_named v (λ y. not (test y)) xs
+
+pub position_named : {A B : Type 0} (v : A → B) (test : B → Bool) (xs : List A) → position (λ x. test (v x)) xs ≡ position test (map v xs)
+position_named v test xs =
+    ap (λ n. cond (nat_lt n (length xs)) (Some n) None) (or_len_named v test xs)
+    ∙ ap (λ l. cond (nat_lt (position_or_len test (map v xs)) l) (Some (position_or_len test (map v xs))) None) (sym (length_named v xs))
+
+pub added : {A B : Type 0} (v : A → B) (keys new : List A) (x : A) (y : B) → new ≡ keys ++ x ∷ [] → v x ≡ y → map v new ≡ map v keys ++ y ∷ []
+added v keys new x y e f = ap (map v) e ∙ map-append v keys (x ∷ []) ∙ ap (λ z. map v keys ++ z ∷ []) f
+
+pub one_longer : {A : Type 0} (keys new : List A) (x : A) → new ≡ keys ++ x ∷ [] → length new ≡ length keys + 1
+one_longer keys new x e = ap length e ∙ length-append keys (x ∷ [])

@@ -1,0 +1,36 @@
+use Rattle.std.proofs.Common.{◌≡◌, ◌∙◌, ◌<◌, sym, ap, subst, arith, length, cond}
+use Rattle.std.specs.Prelude.{slice_get}
+use Rattle.bpf_model.specs.declared.event.Given.{Given}
+use Rattle.bpf_model.specs.declared.event.Given.TheVariants.{Free, Worn}
+use Rattle.bpf_model.specs.View.{MapView}
+use Rattle.element_arena.specs.State.{key_at, worn_at, is_last_use, given_back}
+use Rattle.view_laws.specs.Views.{given_at, reaped_view}
+use Rattle.maps.specs.Parted.{PartsView}
+use Rattle.maps.specs.Shown.{map_view}
+use Rattle.maps.proofs.Leaving.{given-is, reaped-shown}
+use Rattle.maps.proofs.hash_map.HashMap.reap.Goals as goal
+
+pub returns-in-Some-clause-some : goal.returns-in-Some-clause-some
+returns-in-Some-clause-some g c =
+    let held = c.in-Some.ensures.held in
+    let parted = c.in-Some.ensures.parted in
+    let worn : worn_at c.self.inside.parts.arena.worn c.in-Some.slot ≡ 0 = ap (λ (p : PartsView). worn_at p.arena.worn c.in-Some.slot) (sym c.in-Some.ensures.new) ∙ held.taken.not_worn in
+    let in_slots : c.in-Some.slot < length c.reap.new.self.arena.slots = held.taken.inside in
+    let flags : length c.reap.new.self.arena.worn ≡ length c.reap.new.self.arena.slots = parted.flags in
+    let in_worn : c.in-Some.slot < length c.reap.new.self.arena.worn = omega arith in
+    let in_ : c.in-Some.slot < length c.self.inside.parts.arena.worn = subst (λ (p : PartsView). c.in-Some.slot < length p.arena.worn) c.in-Some.ensures.new in_worn in
+    record {
+      slot = c.in-Some.slot;
+      first = ap (λ (v : MapView). slice_get v.ready 0) (sym c.self.view_is) ∙ sym c.in-Some.ensures.first;
+      key_is = c.key_of-key.ensures ∙ (c.key.ensures ∙ (ap (λ (p : PartsView). key_at p.arena.slots c.in-Some.slot) c.in-Some.ensures.new ∙ ap (λ (v : MapView). key_at v.slots c.in-Some.slot) c.self.view_is));
+      given_is =
+          c.give-given.ensures.given
+          ∙ (ap (λ (p : PartsView). cond {A = Given} (is_last_use p.arena c.in-Some.slot) Worn Free) c.in-Some.ensures.new
+          ∙ (sym (given-is c.self.inside.shape c.self.inside.parts c.in-Some.slot c.reap.new.self.arena.links c.self.invariant.arena)
+          ∙ ap (λ (v : MapView). given_at v c.in-Some.slot) c.self.view_is));
+      new_is =
+          ap (map_view c.self.inside.shape) c.give-given.ensures.new
+          ∙ (ap (λ (p : PartsView). map_view c.self.inside.shape (record { index = p.index; lists = p.lists; arena = given_back p.arena c.in-Some.slot })) c.in-Some.ensures.new
+          ∙ (reaped-shown c.self.inside.shape c.self.inside.parts c.in-Some.slot c.reap.new.self.arena.links c.self.invariant.arena worn in_
+          ∙ ap (λ (v : MapView). reaped_view v c.in-Some.slot) c.self.view_is));
+    }

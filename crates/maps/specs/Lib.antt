@@ -1,0 +1,5 @@
+pub mod Parted
+pub mod Codes
+pub mod Shown
+pub mod Lending
+pub mod Registry

@@ -1,0 +1,44 @@
+-- The parts of a map, and where its slots stand.
+use Rattle.std.specs.Prelude.{◌≡◌, ℕ, ◌+◌, ◌<◌, ◌≤◌, List, Option, Some, None, length}
+use Rattle.std.specs.Ordering.{nat_cmp}
+use Rattle.std.specs.Cmp.Lexicographic.{slice_cmp}
+use Rattle.std.specs.FinMap.{FinMap, get, remove}
+use Rattle.bpf_model.specs.Schedule.{Queues}
+use Rattle.element_arena.specs.State.{ArenaState, IsTaken, times, indexed, key_at, worn_at}
+use Rattle.deferred_free.specs.Queued.{queued, retired_slot}
+
+-- slots by their keys
+abbrev pub KeyMap : Type 0
+KeyMap = FinMap (slice_cmp nat_cmp) ℕ
+
+-- what the index has, the three lists, and the arena over which both are read
+pub record PartsView : Type 0 where
+  pub index : KeyMap
+  pub lists : Queues
+  pub arena : ArenaState
+
+-- How often a slot stands somewhere: free, linked, in the three lists, worn.
+abbrev pub standings : PartsView → ℕ → ℕ
+standings p i = times i p.arena.free + indexed p.index p.arena.slots i + queued p.lists i + worn_at p.arena.worn i
+
+-- A slot stands once at most, and none but the arena's slots do. A key's slot has that key.
+pub record IsParted (p : PartsView) : Type 0 where
+  pub once : (i : ℕ) → standings p i ≤ 1
+  pub inside : (i : ℕ) → 0 < standings p i → i < length p.arena.slots
+  pub keyed : (key : List ℕ) (i : ℕ) → get p.index key ≡ Some i → key_at p.arena.slots i ≡ key
+  pub flags : length p.arena.worn ≡ length p.arena.slots
+
+-- A slot in hand, between two calls: it is taken, and stands nowhere.
+pub record IsHeld (p : PartsView) (i : ℕ) : Type 0 where
+  pub taken : IsTaken p.arena i
+  pub unlinked : indexed p.index p.arena.slots i ≡ 0
+  pub unlisted : queued p.lists i ≡ 0
+
+-- the slot is linked or in one of the three lists
+abbrev pub Stands : PartsView → ℕ → Type 0
+Stands p i = 0 < indexed p.index p.arena.slots i + queued p.lists i
+
+-- the key's slot, if there is one, leaves the index and goes to the end of next
+abbrev pub without_key : PartsView → List ℕ → Option ℕ → PartsView
+without_key p key None = p
+without_key p key (Some i) = record { index = remove p.index key; lists = retired_slot p.lists i; arena = p.arena }

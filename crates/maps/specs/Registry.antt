@@ -1,0 +1,66 @@
+-- The maps of a registry, in order of creation, each with its name.
+use Rattle.std.specs.Prelude.{◌≡◌, ℕ, Bool, true, false, not, ◌&&◌, ◌||◌, ◌==◌, if◌then◌else◌, List, length, map, Option, Some, None, slice_get, bytes_eq, nat_le, refl}
+use Rattle.std.specs.List.{list_any, list_all}
+use Rattle.bpf_model.specs.declared.limits.MapShape.{MapShape}
+use Rattle.bpf_model.specs.declared.limits.TheConstants.{MAX_MAPS, KEY_BYTES, VALUE_BYTES, MAX_ENTRIES, MAX_SPARE, MAX_REUSE}
+use Rattle.bpf_model.specs.View.{MapView}
+use Rattle.maps.specs.Codes.{view_code}
+use Rattle.std.specs.Coded.{Coded, code_by, coded×, coded_ℕ, coded_list}
+use Rattle.maps.specs.declared.fault.MapFault.{MapFault}
+use Rattle.maps.specs.declared.fault.MapFault.TheVariants.{BadName, NameTaken, BadShape, TooMany, Memory}
+use Rattle.maps.specs.declared.name.TheConstants.{NAME_BYTES}
+
+pub record RegistryView : Type 0 where
+  pub names : List (List ℕ)
+  pub maps : List MapView
+
+abbrev pub registry_code : Coded RegistryView
+registry_code = code_by (List (List ℕ) × List MapView) (coded× (coded_list (coded_list coded_ℕ)) (coded_list view_code)) (λ r. (r.names, r.maps)) (λ p. record { names = p.0; maps = p.1 }) (λ _. refl)
+
+-- `a` to `z`
+abbrev pub is_letter : ℕ → Bool
+is_letter c = nat_le 97 c && nat_le c 122
+
+-- `0` to `9`
+abbrev pub is_digit : ℕ → Bool
+is_digit c = nat_le 48 c && nat_le c 57
+
+-- a letter, a digit or `_`
+abbrev pub is_name_character : ℕ → Bool
+is_name_character c = is_letter c || (is_digit c || (c == 95))
+
+abbrev pub begins_with_letter : Option ℕ → Bool
+begins_with_letter None = false
+begins_with_letter (Some c) = is_letter c
+
+-- A name of a map: 1 to NAME_BYTES of these characters, the first a letter.
+abbrev pub is_name : List ℕ → Bool
+is_name name = begins_with_letter (slice_get name 0) && (nat_le (length name) NAME_BYTES && list_all is_name_character name)
+
+abbrev pub is_within : ℕ → ℕ → ℕ → Bool
+is_within least n greatest = nat_le least n && nat_le n greatest
+
+-- whether a map may have the shape
+abbrev pub is_shape : MapShape → Bool
+is_shape shape =
+    is_within 1 shape.key_len KEY_BYTES && (is_within 1 shape.value_len VALUE_BYTES
+    && (is_within 1 shape.entries MAX_ENTRIES && (nat_le shape.spare MAX_SPARE && is_within 1 shape.reuse_limit MAX_REUSE)))
+
+abbrev pub has_name : RegistryView → List ℕ → Bool
+has_name r name = list_any (bytes_eq name) r.names
+
+-- The first of the tests of a new map that fails.
+abbrev pub creation_fault : RegistryView → List ℕ → MapShape → Option MapFault
+creation_fault r name shape =
+    if not (is_name name) then Some BadName else
+    if has_name r name then Some NameTaken else
+    if not (is_shape shape) then Some BadShape else
+    if nat_le MAX_MAPS (length r.maps) then Some TooMany else
+    None
+
+abbrev pub map_fault_number : MapFault → ℕ
+map_fault_number BadName = 50
+map_fault_number NameTaken = 51
+map_fault_number BadShape = 52
+map_fault_number TooMany = 53
+map_fault_number Memory = 13

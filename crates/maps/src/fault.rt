@@ -1,0 +1,57 @@
+//! Why a map is not created.
+ghost use Rattle.std.specs.Prelude.{◌≡◌};
+
+use std::alloc::{AllocError, AllocFailed};
+use thiserror::Error;
+
+/// Why a map is not created.
+#[derive(Clone, Copy, Debug, PartialEq, Eq, Error)]
+pub enum MapFault {
+    #[error("not a name of a map")]
+    BadName,
+    #[error("a map has that name")]
+    NameTaken,
+    #[error("no map may have that shape")]
+    BadShape,
+    #[error("there are as many maps as there may be")]
+    TooMany,
+    #[error("out of memory")]
+    Memory,
+}
+
+impl MapFault {
+    ghost use Rattle.maps.specs.Registry.{map_fault_number};
+
+    /// The number by which the fault is known: 50 to 53, or 13 for want of memory.
+    pub fn code(self) -> u8
+        ensures { result ≡ map_fault_number self }
+    {
+        match self {
+            MapFault::BadName => 50,
+            MapFault::NameTaken => 51,
+            MapFault::BadShape => 52,
+            MapFault::TooMany => 53,
+            MapFault::Memory => 13,
+        }
+    }
+}
+
+impl From<AllocError> for MapFault {
+    ghost use Rattle.maps.specs.declared.fault.MapFault.TheVariants.{Memory};
+
+    ghost from_gives = { λ _ e. e ≡ Memory };
+
+    fn from(_: AllocError) -> MapFault {
+        MapFault::Memory
+    }
+}
+
+impl<T: Drop> From<AllocFailed<T>> for MapFault {
+    ghost use Rattle.maps.specs.declared.fault.MapFault.TheVariants.{Memory};
+
+    ghost from_gives = { λ _ e. e ≡ Memory };
+
+    fn from(_: AllocFailed<T>) -> MapFault {
+        MapFault::Memory
+    }
+}

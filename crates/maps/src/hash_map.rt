@@ -1,0 +1,275 @@
+//! A map of a fixed number of slots.
+ghost use Rattle.std.specs.Prelude.{false, ◌≡◌, ◌<◌, ◌≤◌, ◌+◌, [], ℕ, length, slice_get, None, Some, IfSome, IfNone, IfOk, OnErr, option_copied};
+ghost use Rattle.std.specs.FinMap as map;
+ghost use Rattle.bpf_model.specs.declared.limits.TheConstants.{KEY_BYTES, VALUE_BYTES, MAX_ENTRIES};
+ghost use Rattle.bpf_model.specs.Access.{byte_count, number_at};
+ghost use Rattle.bpf_model.specs.Helper.{update_error};
+ghost use Rattle.bpf_model.specs.MachineStep.{with_bytes};
+ghost use Rattle.bpf_model.specs.MapState.{MapState, IsShape};
+ghost use Rattle.bpf_model.specs.View.{new_map_view};
+ghost use Rattle.element_arena.specs.State.{value_at};
+ghost use Rattle.hash_index.specs.Order.{NoneAbove};
+ghost use Rattle.view_laws.specs.Views.{updated, deleted, written, turned_view};
+ghost use Rattle.maps.specs.Shown.{IsOccupied, IsReaped, IsNext, or_no_memory, linked_with, put_in};
+
+use crate::parts::Parts;
+use bpf_model::{Errno, Given, KeyBytes, MapShape, ValueBytes, Width};
+use deferred_free::Deferred;
+use hash_index::Index;
+use std::alloc::{AllocError, Global};
+use std::marker::Model;
+
+/// Elements by key, in slots that were all allocated when the map was made. An element that is unlinked
+/// keeps its slot until a grace period has passed.
+#[derive(Drop)]
+pub struct HashMap<I: Index, D: Deferred> {
+    shape: MapShape,
+    parts: Parts<I, D>,
+    /// How many elements are linked.
+    linked: usize,
+}
+
+impl<I: Index, D: Deferred> Model for HashMap<I, D> {
+    ghost use Rattle.bpf_model.specs.View.{MapView};
+    ghost use Rattle.maps.specs.Codes.{view_code};
+    ghost use Rattle.maps.specs.Shown.{map_view, IsMap};
+
+    ghost Value = { MapView };
+
+    ghost coded = { view_code };
+
+    ghost view = { λ h. map_view h.shape h.parts };
+
+    ghost invariant = { λ h. IsMap h.shape h.parts h.linked };
+}
+
+/// Which test of an update fails first, but for the last: that a slot is free.
+fn refusal(flags: u64, present: bool, linked: usize, entries: usize) -> Option<Errno>
+    ensures tested { (m : MapState) → m.shape.entries ≡ entries →
+        update_error flags present linked m ≡ or_no_memory result m }
+    ensures room { IfNone result (present ≡ false → linked < entries) }
+{
+    if flags > 2 {
+        Some(Errno::InvalidArgument)
+    } else if flags == 1 && present {
+        Some(Errno::Exists)
+    } else if flags == 2 && !present {
+        Some(Errno::NoEntry)
+    } else if !present && entries <= linked {
+        Some(Errno::TooBig)
+    } else {
+        None
+    }
+}
+
+/// How many elements are linked after an update of a key that was found or not.
+fn count_with(found: Option<usize>, linked: usize) -> usize
+    requires { IfNone found (linked < MAX_ENTRIES) }
+    ensures { result ≡ linked_with found linked }
+{
+    match found {
+        None => linked + 1,
+        Some(_) => linked,
+    }
+}
+
+/// A key of these bytes.
+fn key_of(bytes: &[u8]) -> KeyBytes
+    requires { length bytes.now ≤ KEY_BYTES }
+    ensures { result.items ≡ bytes.now }
+{
+    let mut key = KeyBytes::new();
+    match key.try_extend_from_slice(bytes) {
+        Ok(()) => key,
+        Err(_) => unreachable!(),
+    }
+}
+
+/// A value of these bytes.
+fn value_of(bytes: &[u8]) -> ValueBytes
+    requires { length bytes.now ≤ VALUE_BYTES }
+    ensures { result.items ≡ bytes.now }
+{
+    let mut value = ValueBytes::new();
+    match value.try_extend_from_slice(bytes) {
+        Ok(()) => value,
+        Err(_) => unreachable!(),
+    }
+}
+
+impl<I: Index, D: Deferred> HashMap<I, D> {
+    /// The lengths of its keys and values, and its limits.
+    pub fn shape(&self) -> MapShape
+        ensures { result ≡ self.now.shape }
+    {
+        self.shape
+    }
+
+    /// The slot of a key. A key of another length than the map's has none.
+    pub fn lookup(&self, key: &[u8]) -> Option<usize>
+        ensures { result ≡ map.get self.now.index key.now }
+    {
+        self.parts.find(key)
+    }
+
+    /// Links a new element under a key, in the slot that has been free longest. The element that the key
+    /// had is unlinked. Flags: any (0), only a new key (1), only a present one (2). Refused, in this order:
+    /// `InvalidArgument` for other flags, `Exists`, `NoEntry`, `TooBig` where the map has as many elements
+    /// as its shape allows, and `NoMemory` where no slot is free. It takes no memory.
+    pub fn update(&mut self, key: &[u8], value: &[u8], flags: u64) -> Result<(), Errno>
+        requires key { length key.now ≡ self.old.shape.key_len }
+        requires value { length value.now ≡ self.old.shape.value_len }
+        ensures result { result ≡ (updated self.old key.now value.now flags).0 }
+        ensures new { self.new ≡ (updated self.old key.now value.now flags).1 }
+        ensures err { OnErr result (self.new ≡ self.old) }
+        ensures shape { self.new.shape ≡ self.old.shape }
+    {
+        let found = self.parts.find(key);
+        match refusal(flags, found.is_some(), self.linked, self.shape.entries) {
+            Some(errno) => Err(errno),
+            None => self.put(found, key, value),
+        }
+    }
+
+    /// Links a new element under a key, whose slot was found, where a slot is free.
+    fn put(&mut self, found: Option<usize>, key: &[u8], value: &[u8]) -> Result<(), Errno>
+        requires found { map.get self.old.index key.now ≡ found }
+        requires room { IfNone found (map.len self.old.index < self.old.shape.entries) }
+        requires key { length key.now ≡ self.old.shape.key_len }
+        requires value { length value.now ≡ self.old.shape.value_len }
+        ensures result { result ≡ (put_in self.old.free self.old found key.now value.now).0 }
+        ensures new { self.new ≡ (put_in self.old.free self.old found key.now value.now).1 }
+        ensures shape { self.new.shape ≡ self.old.shape }
+    {
+        match self.parts.take(key, value) {
+            None => Err(Errno::NoMemory),
+            Some(slot) => {
+                self.parts.replace(found, slot);
+                self.linked = count_with(found, self.linked);
+                Ok(())
+            }
+        }
+    }
+
+    /// Unlinks the element of a key. `NoEntry` where the key has none. It takes no memory.
+    pub fn delete(&mut self, key: &[u8]) -> Result<(), Errno>
+        ensures result { result ≡ (deleted self.old key.now).0 }
+        ensures new { self.new ≡ (deleted self.old key.now).1 }
+        ensures err { OnErr result (self.new ≡ self.old) }
+        ensures shape { self.new.shape ≡ self.old.shape }
+    {
+        match self.parts.find(key) {
+            None => Err(Errno::NoEntry),
+            Some(slot) => {
+                self.parts.retire(slot);
+                self.linked -= 1;
+                Ok(())
+            }
+        }
+    }
+
+    /// A grace period ends, and the next begins: the elements that waited for its end may be reclaimed, and
+    /// those unlinked meanwhile wait.
+    pub fn advance(&mut self)
+        ensures { self.new ≡ turned_view self.old }
+    {
+        self.parts.advance();
+    }
+
+    /// Reclaims the element that has been ready longest, and answers its key and whether its slot may be
+    /// used again. `None` where no element is ready.
+    pub fn reap(&mut self) -> Option<(KeyBytes, Given)>
+        ensures none { IfNone result (self.old.ready ≡ []) }
+        ensures unchanged { IfNone result (self.new ≡ self.old) }
+        ensures some { IfSome result (λ r. IsReaped self.old self.new r.0.items r.1) }
+        ensures shape { self.new.shape ≡ self.old.shape }
+    {
+        match self.parts.reap() {
+            None => None,
+            Some(slot) => {
+                let key = key_of(self.parts.key(slot));
+                let given = self.parts.give(slot);
+                Some((key, given))
+            }
+        }
+    }
+
+    /// The number in the value of an element, from an offset in bytes on.
+    pub fn load(&self, slot: usize, offset: usize, width: Width) -> u64
+        requires occupied { IsOccupied self.now slot }
+        requires inside { offset + byte_count width ≤ self.now.shape.value_len }
+        ensures { number_at (slice_get (value_at self.now.slots slot)) offset (byte_count width)
+            ≡ Some result }
+    {
+        self.parts.load(slot, offset, width)
+    }
+
+    /// Stores the low bytes of a number in the value of an element, from an offset in bytes on.
+    pub fn store(&mut self, slot: usize, offset: usize, width: Width, number: u64)
+        requires occupied { IsOccupied self.old slot }
+        requires inside { offset + byte_count width ≤ self.old.shape.value_len }
+        ensures { self.new ≡ written self.old slot
+            (with_bytes offset (byte_count width) number (value_at self.old.slots slot)) }
+    {
+        self.parts.store(slot, offset, width, number);
+    }
+
+    /// The value of an element.
+    pub fn value(&self, slot: usize) -> ValueBytes
+        requires { IsOccupied self.now slot }
+        ensures { result.items ≡ value_at self.now.slots slot }
+    {
+        value_of(self.parts.value(slot))
+    }
+
+    /// The element with the least key above a bound, in byte order. Every key is above no bound.
+    pub fn next_above(&self, bound: Option<&[u8]>) -> Option<(KeyBytes, ValueBytes)>
+        ensures some { IfSome result (λ r.
+            IsNext self.now (option_copied bound.entry) r.0.items r.1.items) }
+        ensures none { IfNone result (NoneAbove self.now.index (option_copied bound.entry)) }
+    {
+        match self.parts.next_above(bound) {
+            None => None,
+            Some(slot) => {
+                let key = key_of(self.parts.key(slot));
+                let value = value_of(self.parts.value(slot));
+                Some((key, value))
+            }
+        }
+    }
+}
+
+impl<I: Index + Drop, D: Deferred + Drop> HashMap<I, D> {
+    /// A map that has nothing. All the memory that it ever takes is taken here.
+    pub fn new(alloc: Global, shape: MapShape) -> Result<HashMap<I, D>, AllocError>
+        requires { IsShape shape }
+        ensures { IfOk result (λ m. m ≡ new_map_view shape) }
+    {
+        let slots = shape.entries + shape.spare;
+        let parts = Parts::new(
+            alloc,
+            shape.entries,
+            slots,
+            shape.key_len,
+            shape.value_len,
+            shape.reuse_limit,
+        )?;
+        Ok(HashMap {
+            shape,
+            parts,
+            linked: 0,
+        })
+    }
+
+    /// Another map in the same state.
+    pub fn copy(&self, alloc: Global) -> Result<HashMap<I, D>, AllocError>
+        ensures { IfOk result (λ m. m ≡ self.now) }
+    {
+        let parts = self.parts.copy(alloc)?;
+        Ok(HashMap {
+            shape: self.shape,
+            parts,
+            linked: self.linked,
+        })
+    }
+}

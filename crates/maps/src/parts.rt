@@ -1,0 +1,243 @@
+//! An arena with an index and the lists that stand in it.
+ghost use Rattle.std.specs.Prelude.{◌≡◌, ◌≢◌, ◌<◌, ◌≤◌, ◌+◌, ◌++◌, ◌∷◌, [], ℕ, List, length, slice_get, None, Some, IfSome, IfNone, IfOk, drop, if◌then◌else◌, option_copied};
+ghost use Rattle.std.specs.FinMap as map;
+ghost use Rattle.bpf_model.specs.Schedule.{turned};
+ghost use Rattle.bpf_model.specs.declared.event.Given.TheVariants as given;
+ghost use Rattle.bpf_model.specs.Access.{byte_count, number_at};
+ghost use Rattle.bpf_model.specs.MachineStep.{with_bytes};
+ghost use Rattle.bpf_model.specs.declared.limits.TheConstants.{KEY_BYTES, VALUE_BYTES};
+ghost use Rattle.element_arena.specs.State.{IsTaken, key_at, value_at, is_last_use, taken, given_back, with_value, new_arena};
+ghost use Rattle.hash_index.specs.Order.{IsAbove, NoneAbove, NoneBetween};
+ghost use Rattle.deferred_free.specs.Queued.{retired_slot, reaped_lists};
+ghost use Rattle.maps.specs.Parted.{IsParted, IsHeld, Stands, without_key};
+
+use bpf_model::{Given, Width};
+use deferred_free::Deferred;
+use element_arena::Arena;
+use hash_index::Index;
+use std::alloc::{AllocError, Global};
+use std::marker::Model;
+
+/// The slots of a map, each of which stands in one place at most. Between two calls a slot may be in hand:
+/// taken, and in none.
+#[derive(Drop)]
+pub struct Parts<I: Index, D: Deferred> {
+    arena: Arena,
+    index: I,
+    deferred: D,
+}
+
+impl<I: Index, D: Deferred> Model for Parts<I, D> {
+    ghost use Rattle.maps.specs.Parted.{PartsView, IsParted};
+    ghost use Rattle.maps.specs.Codes.{parts_code};
+
+    ghost Value = { PartsView };
+
+    ghost coded = { parts_code };
+
+    ghost view = { λ p. record { index = I.contents p.index p.arena; lists = D.lists p.deferred p.arena; arena = p.arena } };
+
+    ghost invariant = { λ p. (I.fits p.index p.arena × D.fits p.deferred p.arena) × IsParted (record { index = I.contents p.index p.arena; lists = D.lists p.deferred p.arena; arena = p.arena }) };
+}
+
+impl<I: Index, D: Deferred> Parts<I, D> {
+    /// The slot of a key.
+    pub fn find(&self, key: &[u8]) -> Option<usize>
+        ensures found { result ≡ map.get self.now.index key.now }
+        ensures parted { IsParted self.now }
+    {
+        self.index.find(&self.arena, key)
+    }
+
+    /// Takes the slot that has been free longest. It is in hand then.
+    pub fn take(&mut self, key: &[u8], value: &[u8]) -> Option<usize>
+        requires key { length key.now ≡ self.old.arena.key_len }
+        requires value { length value.now ≡ self.old.arena.value_len }
+        ensures none { IfNone result (self.old.arena.free ≡ []) }
+        ensures unchanged { IfNone result (self.new ≡ self.old) }
+        ensures slot { IfSome result (λ i. self.old.arena.free ≡ i ∷ self.new.arena.free) }
+        ensures new { IfSome result (λ i. self.new ≡ record self.old { arena = taken self.old.arena i self.new.arena.free key.now value.now }) }
+        ensures held { IfSome result (IsHeld self.new) }
+        ensures keyed { IfSome result (λ i. key_at self.new.arena.slots i ≡ key.now) }
+        ensures parted { IsParted self.new }
+    {
+        self.arena.take(key, value)
+    }
+
+    /// Links a slot in hand, whose key the index does not have.
+    pub fn link(&mut self, slot: usize)
+        requires held { IsHeld self.old slot }
+        requires absent { map.get self.old.index (key_at self.old.arena.slots slot) ≡ None }
+        ensures { let old = self.old in self.new ≡ record {
+          index = map.insert old.index (key_at old.arena.slots slot) slot;
+          lists = old.lists;
+          arena = record old.arena { links = self.new.arena.links };
+        } }
+    {
+        self.index.link(&mut self.arena, slot);
+    }
+
+    /// Unlinks a slot, which joins the end of next.
+    pub fn retire(&mut self, slot: usize)
+        requires { map.get self.old.index (key_at self.old.arena.slots slot) ≡ Some slot }
+        ensures { let old = self.old in self.new ≡ record {
+          index = map.remove old.index (key_at old.arena.slots slot);
+          lists = retired_slot old.lists slot;
+          arena = record old.arena { links = self.new.arena.links };
+        } }
+    {
+        self.index.unlink(&mut self.arena, slot);
+        self.deferred.retire(&mut self.arena, slot);
+    }
+
+    /// Links a slot in hand. The slot that its key had is unlinked, and joins the end of next.
+    pub fn replace(&mut self, found: Option<usize>, slot: usize)
+        requires parted { IsParted self.old }
+        requires held { IsHeld self.old slot }
+        requires found { map.get self.old.index (key_at self.old.arena.slots slot) ≡ found }
+        ensures { let key = key_at self.old.arena.slots slot in
+            let old = without_key self.old key found in self.new ≡ record {
+              index = map.insert old.index key slot;
+              lists = old.lists;
+              arena = record self.old.arena { links = self.new.arena.links };
+            } }
+    {
+        match found {
+            None => self.link(slot),
+            Some(old) => {
+                self.retire(old);
+                self.link(slot);
+            }
+        }
+    }
+
+    /// A grace period ends, and the next begins.
+    pub fn advance(&mut self)
+        ensures { let old = self.old in self.new ≡ record {
+          index = old.index;
+          lists = turned old.lists;
+          arena = record old.arena { links = self.new.arena.links };
+        } }
+    {
+        self.deferred.advance(&mut self.arena);
+    }
+
+    /// The first ready slot, which is in hand then.
+    pub fn reap(&mut self) -> Option<usize>
+        ensures first { result ≡ slice_get self.old.lists.ready 0 }
+        ensures new { let old = self.old in self.new ≡ record {
+          index = old.index;
+          lists = reaped_lists old.lists;
+          arena = record old.arena { links = self.new.arena.links };
+        } }
+        ensures held { IfSome result (IsHeld self.new) }
+        ensures parted { IsParted self.new }
+    {
+        self.deferred.reap(&mut self.arena)
+    }
+
+    /// Gives a slot in hand back.
+    pub fn give(&mut self, slot: usize) -> Given
+        requires held { IsHeld self.old slot }
+        ensures given { result ≡ (if is_last_use self.old.arena slot then given.Worn else given.Free) }
+        ensures new { self.new ≡ record self.old { arena = given_back self.old.arena slot } }
+    {
+        self.arena.give(slot)
+    }
+
+    /// The key in a slot.
+    pub fn key(&self, slot: usize) -> &[u8]
+        requires { slot < length self.now.arena.slots }
+        ensures { result.now ≡ key_at self.now.arena.slots slot }
+    {
+        self.arena.key(slot)
+    }
+
+    /// The value in a slot that stands.
+    pub fn value(&self, slot: usize) -> &[u8]
+        requires { Stands self.now slot }
+        ensures { result.now ≡ value_at self.now.arena.slots slot }
+    {
+        self.arena.value(slot)
+    }
+
+    /// The number in the value of a slot that stands, from an offset on.
+    pub fn load(&self, slot: usize, offset: usize, width: Width) -> u64
+        requires stands { Stands self.now slot }
+        requires inside { offset + byte_count width ≤ self.now.arena.value_len }
+        ensures { number_at (slice_get (value_at self.now.arena.slots slot)) offset (byte_count width)
+            ≡ Some result }
+    {
+        self.arena.load(slot, offset, width)
+    }
+
+    /// Stores the low bytes of a number in the value of a slot that stands, from an offset on.
+    pub fn store(&mut self, slot: usize, offset: usize, width: Width, number: u64)
+        requires stands { Stands self.old slot }
+        requires inside { offset + byte_count width ≤ self.old.arena.value_len }
+        ensures { self.new ≡ record self.old {
+          arena = with_value self.old.arena slot
+              (with_bytes offset (byte_count width) number (value_at self.old.arena.slots slot));
+        } }
+    {
+        self.arena.store(slot, offset, width, number);
+    }
+
+    /// The slot of the least key above a bound, in byte order. Every key is above no bound.
+    pub fn next_above(&self, bound: Option<&[u8]>) -> Option<usize>
+        ensures some { IfSome result (λ i.
+            map.get self.now.index (key_at self.now.arena.slots i) ≡ Some i) }
+        ensures above { IfSome result (λ i.
+            IsAbove (option_copied bound.entry) (key_at self.now.arena.slots i)) }
+        ensures least { IfSome result (λ i.
+            NoneBetween self.now.index (option_copied bound.entry) (key_at self.now.arena.slots i)) }
+        ensures none { IfNone result (NoneAbove self.now.index (option_copied bound.entry)) }
+        ensures parted { IsParted self.now }
+    {
+        self.index.next_above(&self.arena, bound)
+    }
+}
+
+impl<I: Index + Drop, D: Deferred + Drop> Parts<I, D> {
+    /// So many free slots and an index for so many keys, which has nothing.
+    pub fn new(
+        alloc: Global,
+        entries: usize,
+        slots: usize,
+        key_len: usize,
+        value_len: usize,
+        limit: u32,
+    ) -> Result<Parts<I, D>, AllocError>
+        requires key_len { key_len ≤ KEY_BYTES }
+        requires value_len { value_len ≤ VALUE_BYTES }
+        requires limit { 1 ≤ limit }
+        ensures { IfOk result (λ p. p ≡ record {
+          index = map.empty;
+          lists = record { next = []; waiting = []; ready = [] };
+          arena = new_arena slots key_len value_len limit;
+        }) }
+    {
+        let arena = Arena::new(alloc, slots, key_len, value_len, limit)?;
+        let index = I::new(alloc, entries, slots)?;
+        let deferred = D::new(alloc, slots)?;
+        Ok(Parts {
+            arena,
+            index,
+            deferred,
+        })
+    }
+
+    /// Other parts in the same state.
+    pub fn copy(&self, alloc: Global) -> Result<Parts<I, D>, AllocError>
+        ensures { IfOk result (λ p. p ≡ self.now) }
+    {
+        let arena = self.arena.copy()?;
+        let index = self.index.copy(alloc)?;
+        let deferred = self.deferred.copy(alloc)?;
+        Ok(Parts {
+            arena,
+            index,
+            deferred,
+        })
+    }
+}

@@ -1,0 +1,4 @@
+pub mod Placing
+pub mod Reading
+pub mod Writing
+pub mod Numbers

@@ -1,0 +1,76 @@
+-- Stores lead from described runs to described ones.
+use Rattle.std.proofs.Common.{◌≡◌, ℕ, ◌+◌, ◌-◌, ◌/◌, ◌%◌, ◌^◌, ◌<◌, List, Option, Some, None, inl, refl, sym, ap, subst, ◌∙◌, ℤ, arith, true, false, Bool}
+use Rattle.std.specs.Prelude.{◌+ℤ◌, if◌then◌else◌}
+use Rattle.std.proofs.lemmas.Option.{none-some}
+use Rattle.std.proofs.lemmas.Nat.{mod_below}
+use Rattle.bpf_model.specs.declared.limits.MapShape.{MapShape}
+use Rattle.bpf_model.specs.declared.limits.TheConstants.{FRAME_BYTES}
+use Rattle.bpf_model.specs.declared.insn.Insn.TheVariants.{Store}
+use Rattle.bpf_model.specs.declared.insn.Operand.{Operand}
+use Rattle.bpf_model.specs.declared.insn.Operand.TheVariants.{Register, Immediate}
+use Rattle.bpf_model.specs.declared.opcode.Width.{Width}
+use Rattle.bpf_model.specs.declared.opcode.Width.TheVariants.{Eight}
+use Rattle.bpf_model.specs.declared.value.Value.{Value}
+use Rattle.bpf_model.specs.declared.value.Value.TheVariants.{Number, Pointer}
+use Rattle.bpf_model.specs.declared.value.Reference.TheVariants.{Frame}
+use Rattle.bpf_model.specs.declared.value.Cell.{Cell}
+use Rattle.bpf_model.specs.declared.value.Cell.TheVariants.{Byte}
+use Rattle.bpf_model.specs.Value.{◌>>=◌}
+use Rattle.bpf_model.specs.Arithmetic.{immediate}
+use Rattle.bpf_model.specs.Operand.{operand_value}
+use Rattle.bpf_model.specs.Access.{byte_count, region_offset}
+use Rattle.bpf_model.specs.Frame.{is_within, with_number}
+use Rattle.bpf_model.specs.Step.{State, Outcome, Moves, stored, frame_after, store_to}
+use Rattle.bpf_model.specs.Element.{Element}
+use Rattle.bpf_model.specs.MachineStep.{element_store}
+use Rattle.typed_runs.specs.Kinds.{Kind, Num, FrameAt, ByteCell, PartCell, CellKind, AbsState}
+use Rattle.typed_runs.specs.Describes.{Scene, Naming, Stored, IsOfCell, Describes}
+use Rattle.typed_runs.specs.Effects.{with_cells, IsNumberOperand, IsWritten}
+use Rattle.typed_runs.specs.Verified.{Transfers}
+use Rattle.typed_runs.proofs.Arguments.{reg-is}
+use Rattle.typed_runs.proofs.Local.{alone_transfers}
+use Rattle.typed_runs.proofs.Spilling.{near-cell, spill_transfers}
+
+-- an operand that is known to be a number is one
+operand-number : (a : AbsState) (c : Scene) (m : State) (src : Operand) → Describes a c m → IsNumberOperand a src → (n : ℕ) × (operand_value src m.regs ≡ Number n)
+operand-number a c m (Register r) d k = let y = reg-is a c m r (Num k.0) d k.1 in (y.0, y.1)
+operand-number a c m (Immediate imm) d k = (immediate imm, refl)
+
+byte-cell : (c : Scene) (ρ : Naming) (σ : Stored) (k : ℕ) (t : Bool) (cell : CellKind) (x : Cell) (b : ℕ) → b < 256 → IsOfCell c ρ σ k cell x → IsOfCell c ρ σ k (if t then ByteCell else cell) (if t then Byte b else x)
+byte-cell c ρ σ k true cell x b l h = (b, refl, l)
+byte-cell c ρ σ k false cell x b l h = h
+
+bytes-described : (a : AbsState) (c : Scene) (m : State) (at width n place : ℕ) → Describes a c m → Describes (with_cells at width ByteCell a) c (record { regs = m.regs; frame = with_number at width n m.frame; place = place })
+bytes-described a c m at width n place d = record {
+  naming = d.naming;
+  stored = d.stored;
+  inside = d.inside;
+  near = record { regs_near = d.near.regs_near; cells_near = λ k. near-cell (is_within at width k) (Byte (n / 256 ^ (k - at) % 256)) (m.frame k) tt (d.near.cells_near k) };
+  regs = d.regs;
+  cells = λ k. byte-cell c d.naming d.stored k (is_within at width k) (a.cells k) (m.frame k) (n / 256 ^ (k - at) % 256) (mod_below _ 256 (omega arith)) (d.cells k);
+}
+
+not-element : (es : List Element) (width : ℕ) (offset : ℤ) (v base : Value) (n : ℕ) (o : ℤ) (new : List Element) → v ≡ Number n → base ≡ Pointer (Frame o) → element_store es width offset v base ≡ Some new → ⊥
+not-element es width offset v base n o new e f h =
+    none-some new (sym (ap (λ x. element_store es width offset x base) e ∙ ap (element_store es width offset (Number n)) f) ∙ h)
+
+pub number_stored : (width : Width) (dst : ℕ) (offset : ℤ) (src : Operand) (shapes : List MapShape) (ctx_len : ℕ) (a : AbsState) (o : ℤ) (at : ℕ) → a.regs dst ≡ FrameAt o
+    → region_offset FRAME_BYTES (byte_count width) (o +ℤ offset) ≡ Some at → IsNumberOperand a src → Transfers (Store width dst offset src) shapes ctx_len a (with_cells at (byte_count width) ByteCell a) None
+number_stored width dst offset src shapes ctx_len a o at e p number = alone_transfers (Store width dst offset src) shapes ctx_len a (with_cells at (byte_count width) ByteCell a) None refl (λ c env m i d.
+    let w : ℕ = byte_count width in
+    let base : m.regs dst ≡ Pointer (Frame o) = reg-is a c m dst (FrameAt o) d e in
+    let x = operand-number a c m src d number in
+    let goes : (ℕ → Cell) → Option Outcome = λ frame. Some (Moves (record { regs = m.regs; frame = frame; place = m.place + 1 })) in record {
+      out = Moves (record { regs = m.regs; frame = with_number at w x.0 m.frame; place = m.place + 1 });
+      after_is = ap (store_to m w offset (operand_value src m.regs)) base
+          ∙ (ap (λ v. stored m w offset v (Frame o)) x.1 ∙ ap (λ q. q >>= λ k. frame_after k w (Number x.0) m.frame >>= goes) p);
+      alone = λ es fs other h. not-element es w offset (operand_value src m.regs) (m.regs dst) x.0 o fs x.1 base h.0;
+      lands = inl (refl, refl, bytes-described a c m at w x.0 (m.place + 1) d);
+    })
+
+pub spill_stored : (width : Width) (dst : ℕ) (offset : ℤ) (src : Operand) (shapes : List MapShape) (ctx_len : ℕ) (a : AbsState) (o : ℤ) (at r : ℕ) (kind : Kind) → width ≡ Eight → src ≡ Register r → a.regs dst ≡ FrameAt o
+    → region_offset FRAME_BYTES 8 (o +ℤ offset) ≡ Some at → a.regs r ≡ kind → IsWritten kind → Transfers (Store width dst offset src) shapes ctx_len a (with_cells at 8 (PartCell kind) a) None
+spill_stored width dst offset src shapes ctx_len a o at r kind e f base p value written =
+    subst (λ (w : Width). Transfers (Store w dst offset src) shapes ctx_len a (with_cells at 8 (PartCell kind) a) None) (sym e)
+    (subst (λ (x : Operand). Transfers (Store Eight dst offset x) shapes ctx_len a (with_cells at 8 (PartCell kind) a) None) (sym f)
+    (spill_transfers dst r offset o at shapes ctx_len a kind base p value written))

@@ -1,0 +1,26 @@
+use Rattle.std.proofs.Common.{refl, subst, ap, ◌∙◌}
+use Rattle.memory_effects.proofs.Numbers.{reads_is}
+use Rattle.bpf_model.specs.declared.insn.Insn.TheVariants.{Load}
+use Rattle.typed_runs.specs.Kinds.{Kind}
+use Rattle.typed_runs.specs.Effects.{with_kind}
+use Rattle.typed_runs.specs.Planned.{AreAlike}
+use Rattle.register_kinds.specs.States.{state_of}
+use Rattle.memory_effects.specs.Accesses.{read_kind}
+use Rattle.memory_effects.proofs.Reading.{read_transfers, to_alike}
+use Rattle.memory_effects.proofs.loads.load.Goals as goal
+
+pub returns-clause-sound : goal.returns-clause-sound
+returns-clause-sound c =
+    let a = state_of c.args.state.now in
+    let kind = read_kind c.in_ok-reads.reads c.loaded.result in
+    to_alike (Load c.args.width c.args.dst c.args.from.base c.args.from.offset) c.args.shapes.now c.args.ctx_len a (with_kind c.args.dst kind a) (state_of c.set.new.self)
+    (subst (λ (k : Kind). AreAlike (with_kind c.args.dst k a) (state_of c.set.new.self)) c.kind.ensures c.set.ensures.alike)
+    (read_transfers c.args.dst c.args.from c.args.ctx_len c.args.shapes.now a c.loaded.result c.in_ok-check_writable.ensures.value c.in_ok-reads.reads c.args.width c.loaded.ensures.sound c.in_ok-reads.ensures.reads)
+
+pub returns-clause-bytes : goal.returns-clause-bytes
+returns-clause-bytes c = λ ne b. record {
+  fine = refl;
+  number = c.loaded.result;
+  alike = subst (λ (k : Kind). AreAlike (with_kind c.args.dst k (state_of c.args.state.now)) (state_of c.set.new.self))
+      (c.kind.ensures ∙ ap (λ x. read_kind x c.loaded.result) (reads_is _ _ (c.in_ok-reads.ensures.bytes b))) c.set.ensures.alike;
+}

@@ -1,0 +1,31 @@
+use Rattle.std.proofs.Common.{refl, subst, sym, ap, ◌∙◌}
+use Rattle.memory_effects.specs.Accesses.{ReadsBytes}
+use Rattle.memory_effects.proofs.Numbers.{reads_is}
+use Rattle.bpf_model.specs.declared.insn.Insn.TheVariants.{LoadSigned}
+use Rattle.bpf_model.specs.declared.opcode.Width.{Width}
+use Rattle.bpf_model.specs.Access.{byte_count}
+use Rattle.typed_runs.specs.Kinds.{Kind}
+use Rattle.typed_runs.specs.Effects.{with_kind}
+use Rattle.typed_runs.specs.Planned.{AreAlike}
+use Rattle.register_kinds.specs.States.{state_of}
+use Rattle.memory_effects.specs.Accesses.{read_kind, IsRead}
+use Rattle.memory_effects.proofs.Reading.{read_signed_transfers, to_alike, loaded_signed_lt}
+use Rattle.memory_effects.proofs.loads.load_signed.Goals as goal
+
+pub returns-clause-sound : goal.returns-clause-sound
+returns-clause-sound c =
+    let a = state_of c.args.state.now in
+    let kind = read_kind c.in_ok-reads.reads c.load_signed.result in
+    to_alike (LoadSigned c.args.width c.args.dst c.args.from.base c.args.from.offset) c.args.shapes.now c.args.ctx_len a (with_kind c.args.dst kind a) (state_of c.set.new.self)
+    (subst (λ (k : Kind). AreAlike (with_kind c.args.dst k a) (state_of c.set.new.self)) c.kind.ensures c.set.ensures.alike)
+    (read_signed_transfers c.args.dst c.args.from c.args.ctx_len c.args.shapes.now a c.load_signed.result c.in_ok-check_writable.ensures.value c.in_ok-reads.reads c.args.width (λ n. (loaded_signed_lt c.args.width n, c.load_signed.ensures.sound n))
+    (subst (λ (w : Width). IsRead c.in_ok-reads.reads a (byte_count w) c.args.from c.args.ctx_len c.args.shapes.now) c.width.ensures c.in_ok-reads.ensures.reads))
+
+pub returns-clause-bytes : goal.returns-clause-bytes
+returns-clause-bytes c = λ ne b.
+    let read = subst (λ (w : Width). ReadsBytes (state_of c.args.state.now) c.args.from.base (byte_count w) c.args.from.offset) (sym c.width.ensures) b in record {
+      fine = refl;
+      number = c.load_signed.result;
+      alike = subst (λ (k : Kind). AreAlike (with_kind c.args.dst k (state_of c.args.state.now)) (state_of c.set.new.self))
+          (c.kind.ensures ∙ ap (λ x. read_kind x c.load_signed.result) (reads_is _ _ (c.in_ok-reads.ensures.bytes read))) c.set.ensures.alike;
+    }

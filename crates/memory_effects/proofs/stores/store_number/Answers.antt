@@ -1,0 +1,23 @@
+use Rattle.std.proofs.Common.{rules, subst, ap, ℕ, w16, w32}
+use mir.Val.{SFits}
+use Rattle.std.proofs.lemmas.Int.{to_z-of_z}
+use Rattle.bpf_model.specs.declared.insn.Insn.TheVariants.{Store}
+use Rattle.bpf_model.specs.Access.{byte_count}
+use Rattle.typed_runs.specs.Kinds.{ByteCell}
+use Rattle.typed_runs.specs.Effects.{with_cells}
+use Rattle.typed_runs.specs.Planned.{AreAlike}
+use Rattle.register_kinds.specs.States.{kind_of, state_of}
+use Rattle.memory_effects.proofs.Reading.{to_alike}
+use Rattle.memory_effects.proofs.Writing.{number_stored}
+use Rattle.memory_effects.proofs.stores.store_number.Goals as goal
+
+pub returns-clause-sound : goal.returns-clause-sound
+returns-clause-sound c =
+    let f : SFits w32 c.args.start = search rules in
+    let g : SFits w16 c.args.to.offset = search rules in
+    let place = simp to_z-of_z at c.in_ok-at.ensures.place in
+    let a = state_of c.args.state.now in
+    let at = c.in_ok-at.at in
+    λ ctx_len shapes. to_alike (Store c.args.width c.args.to.base c.args.to.offset c.args.src.now) shapes ctx_len a (with_cells at (byte_count c.args.width) ByteCell a) (state_of c.write.new.self)
+    (subst (λ (w : ℕ). AreAlike (with_cells at w ByteCell a) (state_of c.write.new.self)) c.bytes.ensures.value c.write.ensures.alike)
+    (number_stored c.args.width c.args.to.base c.args.to.offset c.args.src.now shapes ctx_len a c.args.start at (ap kind_of c.requires.base) place c.requires.number)

@@ -1,0 +1,84 @@
+-- What loads and stores reach, in words of the laws.
+use Rattle.std.specs.Prelude.{◌≡◌, ℕ, ◌+◌, ◌<◌, ◌≤◌, List, Some, None, slice_get, ℤ, ◌+ℤ◌, Result, IsOk, pos}
+use Rattle.bpf_model.specs.declared.limits.TheConstants.{FRAME_BYTES}
+use Rattle.bpf_model.specs.declared.limits.MapShape.{MapShape}
+use Rattle.bpf_model.specs.declared.insn.Insn.{Insn}
+use Rattle.bpf_model.specs.Access.{region_offset}
+use Rattle.scalar_domain.specs.declared.scalar.Scalar.{Scalar}
+use Rattle.typed_runs.specs.Kinds.{Kind, Num, CtxAt, FrameAt, ValueAt, ByteCell, PartCell, AbsState as Known}
+use Rattle.typed_runs.specs.Effects.{IsAlwaysInside, IsPointer, with_kind, with_cells}
+use Rattle.typed_runs.specs.Planned.{AreAlike}
+use Rattle.kind_tests.specs.declared.fault.Fault.{Fault}
+use Rattle.typed_runs.specs.Verified.{Transfers}
+use Rattle.register_kinds.specs.declared.state.AbsState.{AbsState}
+use Rattle.register_kinds.specs.States.{kind_of, state_of}
+use Rattle.memory_effects.specs.declared.region.Address.{Address}
+use Rattle.memory_effects.specs.declared.region.Region.{Region}
+use Rattle.memory_effects.specs.declared.region.Region.TheVariants as regions
+use Rattle.memory_effects.specs.declared.reads.Reads.{Reads}
+use Rattle.memory_effects.specs.declared.reads.Reads.TheVariants as reads
+
+-- From each run that the old state describes the instruction has a step, and each leads to one that the new state describes.
+abbrev pub Performs : Insn → ℕ → List MapShape → AbsState → AbsState → Type 0
+Performs insn ctx_len shapes old new = Transfers insn shapes ctx_len (state_of old) (state_of new) None
+
+-- a reference into the region
+abbrev pub IsBase : Region → Kind → Type 0
+IsBase regions.Ctx kind = (s : Scalar) × (kind ≡ CtxAt s)
+IsBase regions.Frame kind = (o : ℤ) × (kind ≡ FrameAt o)
+IsBase (regions.Value map) kind = (s : Scalar) × (kind ≡ ValueAt map s)
+
+-- each access through the register lies in the context
+pub record ReachesContext (a : Known) (r width : ℕ) (offset : ℤ) (ctx_len : ℕ) : Type 0 where
+  pub offsets : Scalar
+  pub base : a.regs r ≡ CtxAt offsets
+  pub inside : IsAlwaysInside offsets width offset ctx_len
+
+-- in the value of an element of a map of the program's list
+pub record ReachesValue (a : Known) (r width : ℕ) (offset : ℤ) (shapes : List MapShape) (map : ℕ) : Type 0 where
+  pub shape : MapShape
+  pub offsets : Scalar
+  pub base : a.regs r ≡ ValueAt map offsets
+  pub shape_is : slice_get shapes map ≡ Some shape
+  pub inside : IsAlwaysInside offsets width offset shape.value_len
+
+-- in the frame, from this byte on
+pub record ReachesFrame (a : Known) (r width : ℕ) (offset : ℤ) (at : ℕ) : Type 0 where
+  pub start : ℤ
+  pub base : a.regs r ≡ FrameAt start
+  pub inside : region_offset FRAME_BYTES width (start +ℤ offset) ≡ Some at
+
+pub record ReadsBytes (a : Known) (r width : ℕ) (offset : ℤ) : Type 0 where
+  pub at : ℕ
+  pub reaches : ReachesFrame a r width offset at
+  pub bytes : (k : ℕ) → at ≤ k → k < at + width → a.cells k ≡ ByteCell
+
+pub record ReadsParts (a : Known) (r width : ℕ) (offset : ℤ) (kind : Kind) : Type 0 where
+  pub at : ℕ
+  pub reaches : ReachesFrame a r width offset at
+  pub wide : width ≡ 8
+  pub parts : (j : ℕ) → j < 8 → a.cells (at + j) ≡ PartCell kind
+  pub pointer : IsPointer kind
+
+-- What a load reads.
+abbrev pub IsRead : Reads → Known → ℕ → Address → ℕ → List MapShape → Type 0
+IsRead reads.Context a width from ctx_len shapes = ReachesContext a from.base width from.offset ctx_len
+IsRead (reads.Value map) a width from ctx_len shapes = ReachesValue a from.base width from.offset shapes map
+IsRead reads.FrameBytes a width from ctx_len shapes = ReadsBytes a from.base width from.offset
+IsRead (reads.FramePointer kind) a width from ctx_len shapes = ReadsParts a from.base width from.offset (kind_of kind)
+
+-- the kind of what is read
+abbrev pub read_kind : Reads → Scalar → Kind
+read_kind (reads.FramePointer kind) numbers = kind_of kind
+read_kind other numbers = Num numbers
+
+-- The load is not refused, and the register becomes a number.
+pub record LoadsNumber (r : Result Region Fault) (dst : ℕ) (a b : Known) : Type 0 where
+  pub fine : IsOk r
+  pub number : Scalar
+  pub alike : AreAlike (with_kind dst (Num number) a) b
+
+-- The store is not refused, and so many bytes of the frame become bytes of a number.
+pub record StoresBytes {A : Type 0} (r : Result A Fault) (at width : ℕ) (a b : Known) : Type 0 where
+  pub fine : IsOk r
+  pub alike : AreAlike (with_cells at width ByteCell a) b

@@ -1,0 +1,135 @@
+//! Where accesses lie, at each offset that their base may have.
+ghost use Rattle.std.specs.Prelude.{◌≡◌, ℕ, ◌+◌, ◌%◌, ◌^◌, ◌<◌, ◌≤◌, IfOk, OnOk, IfSome, MatchOption, Some, Ok, ◌+ℤ◌, pos, ◌<ℤ◌};
+ghost use Rattle.bpf_model.specs.Access.{byte_count, region_offset};
+ghost use Rattle.scalar_domain.specs.Scalar.{Holds};
+ghost use Rattle.typed_runs.specs.Effects.{IsAlwaysInside};
+
+use bpf_model::Width;
+use kind_tests::Fault;
+use scalar_domain::Scalar;
+
+/// Offsets of the context and of values are kept so much higher.
+const RAISED: u64 = 1 << 29;
+
+/// Displacements are taken so much higher here.
+const SHIFT: u64 = 1 << 15;
+
+/// A displacement, so much higher.
+fn raised(offset: i16) -> u64
+    ensures value { pos result ≡ offset +ℤ pos (2 ^ 15) }
+    ensures bound { result < 2 ^ 16 }
+{
+    (i64::from(offset) + (1 << 15)) as u64
+}
+
+/// Each access begins at or after the region's start, and ends at or before its end.
+fn check_bounds(offsets: Scalar, by: u64, bytes: usize, len: usize) -> Result<(), Fault>
+    requires by { by < 2 ^ 16 }
+    requires bytes { bytes ≤ 8 }
+    ensures start { OnOk result ((n : ℕ) → Holds offsets n → 2 ^ 29 + 2 ^ 15 ≤ n + by) }
+    ensures end { OnOk result ((n : ℕ) → Holds offsets n
+        → n + by + bytes ≤ len + (2 ^ 29 + 2 ^ 15)) }
+{
+    if offsets.greatest > 2 * RAISED || offsets.least + by < RAISED + SHIFT {
+        return Err(Fault::OutOfBounds);
+    }
+    let end = offsets.greatest + by + bytes as u64;
+    if end < RAISED + SHIFT || end - (RAISED + SHIFT) > len as u64 {
+        return Err(Fault::OutOfBounds);
+    }
+    Ok(())
+}
+
+/// What all numbers of the set leave, divided by the width, where they all leave the same.
+fn remainder(offsets: Scalar, width: Width) -> Option<u64>
+    ensures { IfSome result (λ r. (n : ℕ) → Holds offsets n → n % byte_count width ≡ r) }
+{
+    let bytes = width.bytes() as u64;
+    if offsets.least == offsets.greatest {
+        return Some(offsets.least % bytes);
+    }
+    if offsets.may % bytes == offsets.must % bytes {
+        return Some(offsets.must % bytes);
+    }
+    None
+}
+
+/// Each access begins at a multiple of its width.
+fn check_aligned(offsets: Scalar, by: u64, width: Width) -> Result<(), Fault>
+    requires { by < 2 ^ 16 }
+    ensures { OnOk result ((n : ℕ) → Holds offsets n → (n + by) % byte_count width ≡ 0) }
+{
+    let bytes = width.bytes() as u64;
+    match remainder(offsets, width) {
+        Some(rest) => {
+            if (rest % bytes + by) % bytes == 0 {
+                Ok(())
+            } else {
+                Err(Fault::Misaligned)
+            }
+        }
+        None => Err(Fault::Misaligned),
+    }
+}
+
+/// At each of the offsets the access lies inside a region of this length, and aligned. Errors, in
+/// this order: `OutOfBounds`, `Misaligned`, where at some it does not.
+pub(crate) fn check_placed(
+    offsets: Scalar,
+    width: Width,
+    offset: i16,
+    len: usize,
+) -> Result<(), Fault>
+    ensures { OnOk result (IsAlwaysInside offsets (byte_count width) offset len) }
+{
+    let by = raised(offset);
+    check_bounds(offsets, by, width.bytes(), len)?;
+    check_aligned(offsets, by, width)?;
+    Ok(())
+}
+
+/// Where an access begins in its region, or `None` before the region's start.
+fn first_byte(base: i32, offset: i16) -> Option<usize>
+    ensures { MatchOption result ((base +ℤ offset) <ℤ pos 0) (λ n. (base +ℤ offset) ≡ pos n) }
+{
+    let first = i64::from(base) + i64::from(offset);
+    if first < 0 {
+        None
+    } else {
+        Some(first as usize)
+    }
+}
+
+/// Where an access begins, again, if all of it lies inside a region of this length, and aligned.
+fn inside(len: usize, width: Width, first: usize) -> Result<usize, Fault>
+    ensures place { IfOk result (λ n. region_offset len (byte_count width) (pos first) ≡ Some n) }
+    ensures inside { IfOk result (λ n. n + byte_count width ≤ len) }
+    ensures aligned { IfOk result (λ n. n % byte_count width ≡ 0) }
+    ensures accepts { (n : ℕ) → region_offset len (byte_count width) (pos first) ≡ Some n
+        → result ≡ Ok n }
+{
+    let bytes = width.bytes();
+    if first > len || len - first < bytes {
+        return Err(Fault::OutOfBounds);
+    }
+    if first % bytes != 0 {
+        return Err(Fault::Misaligned);
+    }
+    Ok(first)
+}
+
+/// Where an access through a base at this offset begins in a region of this length, if all of it
+/// lies inside, and aligned.
+pub(crate) fn offset_in(len: usize, width: Width, base: i32, offset: i16) -> Result<usize, Fault>
+    ensures place { IfOk result (λ n. region_offset len (byte_count width) (base +ℤ offset)
+        ≡ Some n) }
+    ensures inside { IfOk result (λ n. n + byte_count width ≤ len) }
+    ensures aligned { IfOk result (λ n. n % byte_count width ≡ 0) }
+    ensures accepts { (n : ℕ) → region_offset len (byte_count width) (base +ℤ offset) ≡ Some n
+        → result ≡ Ok n }
+{
+    match first_byte(base, offset) {
+        Some(first) => inside(len, width, first),
+        None => Err(Fault::OutOfBounds),
+    }
+}

@@ -1,0 +1,198 @@
+//! Stores.
+ghost use Rattle.std.specs.Prelude.{◌≡◌, ℕ, List, OnOk, OnErr, IfOk, Ok};
+ghost use Rattle.bpf_model.specs.Access.{byte_count};
+ghost use Rattle.typed_runs.specs.Effects.{IsNumberOperand, IsWritten};
+ghost use Rattle.register_kinds.specs.States.{kind_in, kind_at, kind_of, state_of};
+ghost use Rattle.register_kinds.specs.Pairs.{AreBelow};
+ghost use Rattle.memory_effects.specs.Accesses.{Performs, IsBase, ReachesFrame, StoresBytes};
+
+use crate::offset::offset_in;
+use crate::reads::check_value;
+use crate::region::{Address, Region};
+use bpf_model::{FRAME_BYTES, Insn, MapShape, Operand, Reg, Width};
+use kind_tests::{Fault, held};
+use register_kinds::{AbsState, RegKind};
+use scalar_domain::Scalar;
+
+/// What is stored.
+#[derive(Clone, Copy, Debug, PartialEq, Eq)]
+enum Stored {
+    /// A number.
+    Number,
+    /// A reference or a map, or what may be null: what this register holds.
+    Pointer(Reg, RegKind),
+}
+
+/// What a register holds, or a constant.
+fn stored_value(state: &AbsState, src: &Operand) -> Result<Stored, Fault>
+    ensures number { IfOk result (λ x. x ≡ Stored.Number
+        → IsNumberOperand (state_of state.now) src.now) }
+    ensures pointer { IfOk result (λ x. (r : ℕ) (kind : RegKind) → x ≡ Stored.Pointer r kind
+        → (src.now ≡ Operand.Register r) × (kind_in state.now.regs r ≡ kind)
+        × IsWritten (kind_of kind)) }
+    ensures accepts { IsNumberOperand (state_of state.now) src.now → result ≡ Ok Stored.Number }
+{
+    match src {
+        Operand::Register(r) => match held(state, *r)? {
+            RegKind::Num(_) => Ok(Stored::Number),
+            kind => Ok(Stored::Pointer(*r, kind)),
+        },
+        Operand::Immediate(_) => Ok(Stored::Number),
+    }
+}
+
+/// A store of a number to the frame.
+fn store_number(
+    state: &mut AbsState,
+    width: Width,
+    to: Address,
+    src: &Operand,
+    start: i32,
+) -> Result<(), Fault>
+    requires base { kind_in state.old.regs to.base ≡ RegKind.Frame start }
+    requires number { IsNumberOperand (state_of state.old) src.now }
+    ensures sound { OnOk result ((ctx_len : ℕ) (shapes : List MapShape)
+        → Performs (Insn.Store width to.base to.offset src.now) ctx_len shapes state.old state.new) }
+    ensures bytes { (at : ℕ)
+        → ReachesFrame (state_of state.old) to.base (byte_count width) to.offset at
+        → StoresBytes result at (byte_count width) (state_of state.old) (state_of state.new) }
+    ensures below { (top : ℕ) → AreBelow top state.old → AreBelow top state.new }
+    ensures unchanged { OnErr result (state.new ≡ state.old) }
+{
+    let at = offset_in(FRAME_BYTES, width, start, to.offset)?;
+    state.write(at, width.bytes());
+    Ok(())
+}
+
+/// A store to the frame of what is no number.
+fn store_pointer(
+    state: &mut AbsState,
+    width: Width,
+    to: Address,
+    src: &Operand,
+    start: i32,
+    kind: RegKind,
+) -> Result<(), Fault>
+    requires base { kind_in state.old.regs to.base ≡ RegKind.Frame start }
+    requires value { (r : ℕ) × (src.now ≡ Operand.Register r) × (kind_in state.old.regs r ≡ kind) }
+    requires written { IsWritten (kind_of kind) }
+    ensures sound { OnOk result ((ctx_len : ℕ) (shapes : List MapShape)
+        → Performs (Insn.Store width to.base to.offset src.now) ctx_len shapes state.old state.new) }
+    ensures below { (top : ℕ) → AreBelow top state.old → AreBelow top state.new }
+    ensures unchanged { OnErr result (state.new ≡ state.old) }
+{
+    match width {
+        Width::Eight => {
+            let at = offset_in(FRAME_BYTES, Width::Eight, start, to.offset)?;
+            state.spill(at, kind);
+            Ok(())
+        }
+        _ => Err(Fault::PointerLeak),
+    }
+}
+
+/// A store of a number to the value of an element of this map.
+fn check_store(
+    state: &AbsState,
+    width: Width,
+    to: Address,
+    src: &Operand,
+    map: u32,
+    offset: Scalar,
+    shapes: &[MapShape],
+) -> Result<(), Fault>
+    requires base { kind_in state.now.regs to.base ≡ RegKind.Value map offset }
+    requires number { IsNumberOperand (state_of state.now) src.now }
+    ensures sound { OnOk result ((ctx_len : ℕ)
+        → Performs (Insn.Store width to.base to.offset src.now) ctx_len shapes.now state.now state.now) }
+{
+    let _shape = check_value(offset, width, to.offset, map, shapes)?;
+    Ok(())
+}
+
+/// A store to the frame: the bytes of a number, or by a width of 8 the parts of a reference.
+fn store_frame(
+    state: &mut AbsState,
+    width: Width,
+    to: Address,
+    src: &Operand,
+    start: i32,
+) -> Result<(), Fault>
+    requires base { kind_in state.old.regs to.base ≡ RegKind.Frame start }
+    ensures sound { OnOk result ((ctx_len : ℕ) (shapes : List MapShape)
+        → Performs (Insn.Store width to.base to.offset src.now) ctx_len shapes state.old state.new) }
+    ensures bytes { (at : ℕ) → IsNumberOperand (state_of state.old) src.now
+        → ReachesFrame (state_of state.old) to.base (byte_count width) to.offset at
+        → StoresBytes result at (byte_count width) (state_of state.old) (state_of state.new) }
+    ensures below { (top : ℕ) → AreBelow top state.old → AreBelow top state.new }
+    ensures unchanged { OnErr result (state.new ≡ state.old) }
+{
+    match stored_value(state, src)? {
+        Stored::Number => store_number(state, width, to, src, start),
+        Stored::Pointer(_, kind) => store_pointer(state, width, to, src, start, kind),
+    }
+}
+
+/// A store to the value of an element, of a number alone.
+fn store_value(
+    state: &AbsState,
+    width: Width,
+    to: Address,
+    src: &Operand,
+    map: u32,
+    offset: Scalar,
+    shapes: &[MapShape],
+) -> Result<(), Fault>
+    requires base { kind_in state.now.regs to.base ≡ RegKind.Value map offset }
+    ensures sound { OnOk result ((ctx_len : ℕ)
+        → Performs (Insn.Store width to.base to.offset src.now) ctx_len shapes.now state.now state.now) }
+{
+    match stored_value(state, src)? {
+        Stored::Number => check_store(state, width, to, src, map, offset, shapes),
+        Stored::Pointer(_, _) => Err(Fault::PointerLeak),
+    }
+}
+
+/// A store: of the low bytes of a number, or by a width of 8 to the frame of a reference, of a map
+/// or of what may be null, whose eight parts are then in the frame. `shapes` are those of the maps
+/// of the program's list. The answer is the region that is written.
+///
+/// Errors, in this order; the state is then as it was.
+/// - `UnwrittenRegister`, `OutsideSection`, `MixedRegions`: the base is so, then what is stored.
+/// - `NotAPointer`, `MaybeNull`: the base is a number or a map, or may be null.
+/// - `ContextWrite`: the base is the context.
+/// - `PointerLeak`: what is stored is no number, to an element or by a width below 8.
+/// - `OutOfBounds`, then `Misaligned`: at some of its offsets the access does not lie inside its
+///   region, or not at a multiple of its width from the region's start.
+pub fn store(
+    state: &mut AbsState,
+    width: Width,
+    to: Address,
+    src: &Operand,
+    shapes: &[MapShape],
+) -> Result<Region, Fault>
+    ensures sound { OnOk result ((ctx_len : ℕ)
+        → Performs (Insn.Store width to.base to.offset src.now) ctx_len shapes.now state.old state.new) }
+    ensures region { IfOk result (λ region. IsBase region (kind_at state.old.regs to.base)) }
+    ensures bytes { (at : ℕ) → IsNumberOperand (state_of state.old) src.now
+        → ReachesFrame (state_of state.old) to.base (byte_count width) to.offset at
+        → StoresBytes result at (byte_count width) (state_of state.old) (state_of state.new) }
+    ensures below { (top : ℕ) → AreBelow top state.old → AreBelow top state.new }
+    ensures unchanged { OnErr result (state.new ≡ state.old) }
+{
+    let base = held(state, to.base)?;
+    let _value = stored_value(state, src)?;
+    match base {
+        RegKind::Frame(start) => {
+            store_frame(state, width, to, src, start)?;
+            Ok(Region::Frame)
+        }
+        RegKind::Value { map, offset } => {
+            store_value(state, width, to, src, map, offset, shapes)?;
+            Ok(Region::Value(map))
+        }
+        RegKind::Ctx(_) => Err(Fault::ContextWrite),
+        RegKind::MaybeNull { .. } => Err(Fault::MaybeNull),
+        _ => Err(Fault::NotAPointer),
+    }
+}

@@ -1,0 +1,5 @@
+pub mod Edges
+pub mod Flaws
+pub mod Lists
+pub mod Marking
+pub mod Verdicts

@@ -1,0 +1,151 @@
+-- Edges of the jump graph by slots and by indexes, and which instructions are reached.
+use Rattle.std.proofs.Common.{◌≡◌, ℕ, suc, ◌+◌, ◌<◌, refl, sym, ◌∙◌, ap, subst, arith, inl, inr, Bool, true, List, [], ◌∷◌, length}
+use Rattle.std.specs.Prelude.{slice_get, slice_index_or, Option, Some, None, ◌⊎◌, pos, ◌+ℤ◌, IfSome}
+use Rattle.std.proofs.lemmas.Bool.{cases_eq}
+use Rattle.std.proofs.lemmas.Int.{ints}
+use Rattle.std.proofs.lemmas.Option.{slice_get-get_or, slice_get_within}
+use Rattle.bpf_model.specs.declared.insn.Insn.{Insn}
+use Rattle.bpf_model.specs.Graph.{JumpsTo, GoesTo, Reached, reached_entry, reached_next}
+use Rattle.bpf_model.specs.Spelling.{starts_from, slot_count}
+use Rattle.bpf_model.specs.Step.{insn_at}
+use Rattle.bpf_model.specs.Places.{starts-next, starts_ordered, starts_apart, start_of-insn, slot_count_some, LeadsTo, StartsAt}
+use Rattle.program_graph.specs.FirstPass.{Follows, IsReached, Marks}
+use Rattle.program_graph.specs.Indexes.{HasTargets, IsTarget}
+use Rattle.program_graph.proofs.Edges.{insn_here, index_here, start_within}
+use Rattle.program_graph.proofs.Lists.{same_some}
+
+-- the first instruction begins at slot 0
+pub first_start : (program : List Insn) (p : ℕ) → StartsAt program 0 p → p ≡ 0
+first_start [] p e = absurd (cc)
+first_start (i ∷ is) p e = sym (same_some e)
+
+pub starts_at_0 : (program : List Insn) → 0 < length program → StartsAt program 0 0
+starts_at_0 [] h = absurd (omega arith)
+starts_at_0 (i ∷ is) h = refl
+
+pub target_read : (targets : List (Option ℕ)) (k : ℕ) → k < length targets → (t : Option ℕ) × (slice_get targets k ≡ Some t)
+target_read targets k h = (slice_index_or targets k None, slice_get-get_or targets k None h)
+
+-- an edge between instructions by their indexes
+pub record HasEdge (program : List Insn) (targets : List (Option ℕ)) (j k : ℕ) (i : Insn) (place : ℕ) : Type 0 where
+  pub insn : slice_get program j ≡ Some i
+  pub start : StartsAt program j place
+  pub target : Option ℕ
+  pub target_is : slice_get targets j ≡ Some target
+  pub follows : Follows i target j k
+  pub before : j < k
+
+pub pos_same : (a b : ℕ) → pos a ≡ pos b → a ≡ b
+pos_same a b e = omega (arith, ints)
+
+module _ (program : List Insn) (targets : List (Option ℕ)) (long : length targets ≡ length program) (all : HasTargets program targets) where
+  falls_into : (j k place p : ℕ) (i : Insn) → slice_get program j ≡ Some i → StartsAt program j place → StartsAt program k p → p ≡ place + slot_count i → (k ≡ suc j) × (j < k)
+  falls_into j k place p i e at there f =
+      let before : place < p = omega (arith, slot_count_some i) in
+      let h : j < k = starts_ordered 0 program j k place p at there before in
+      let inside : suc j < length program = omega (arith, start_within program k p there) in
+      let next : StartsAt program (suc j) (place + slot_count i) = starts-next 0 program j place i e at inside in
+      (starts_apart 0 program k (suc j) p there (next ∙ ap Some (sym f)), h)
+
+  jumps_into : (j k place p : ℕ) (i : Insn) (t : Option ℕ) → StartsAt program j place → StartsAt program k p → JumpsTo i place p → IsTarget program j i t → (t ≡ Some k) × (j < k)
+  jumps_into j k place p i None at there jumps none = absurd (let e : Some jumps.0 ≡ None = sym jumps.1 ∙ none in cc)
+  jumps_into j k place p i (Some u) at there jumps leads =
+      let by : jumps.0 ≡ leads.by = same_some (sym jumps.1 ∙ leads.by_is) in
+      let from : place ≡ leads.from = same_some (sym at ∙ leads.from_is) in
+      let to : pos p ≡ pos leads.to = jumps.2 ∙ ap (λ d. pos (place + 1) +ℤ d) by ∙ ap (λ f. pos (f + 1) +ℤ leads.by) from ∙ sym leads.sum in
+      let same : u ≡ k = starts_apart 0 program u k p (leads.to_is ∙ ap Some (sym (pos_same p leads.to to))) there in
+      (ap Some same, subst (λ u. j < u) same leads.further)
+
+  -- an edge by slots into an instruction's start is one by indexes
+  pub edge_into : (k place p : ℕ) (i : Insn) → insn_at program place ≡ Some i → GoesTo i place p → StartsAt program k p → (j : ℕ) × HasEdge program targets j k i place
+  edge_into k place p i e goes there = at goes
+    where
+      j : (j : ℕ) × (slice_get program j ≡ Some i) × StartsAt program j place
+      j = index_here program place i e
+
+      t : (t : Option ℕ) × (slice_get targets j.0 ≡ Some t)
+      t = target_read targets j.0 (omega (arith, slice_get_within program j.0 i j.1))
+
+      at : GoesTo i place p → (j : ℕ) × HasEdge program targets j k i place
+      at (inl f) =
+          let r = falls_into j.0 k place p i j.1 j.2 there f.1 in
+          (j.0, record { insn = j.1; start = j.2; target = t.0; target_is = t.1; follows = inl (f.0, r.0); before = r.1 })
+      at (inr f) =
+          let r = jumps_into j.0 k place p i t.0 j.2 there f (all.each j.0 i t.0 j.1 t.1) in
+          (j.0, record { insn = j.1; start = j.2; target = t.0; target_is = t.1; follows = inr r.0; before = r.1 })
+
+  -- and back
+  pub edge_from : (j k place p : ℕ) (i : Insn) (t : Option ℕ) → slice_get program j ≡ Some i → slice_get targets j ≡ Some t → Follows i t j k → StartsAt program j place → StartsAt program k p → GoesTo i place p
+  edge_from j k place p i t e f (inl g) at there =
+      let inside : suc j < length program = omega (arith, start_within program k p there, g.1) in
+      let next : StartsAt program (suc j) (place + slot_count i) = starts-next 0 program j place i e at inside in
+      inl (g.0, same_some (sym there ∙ ap (slice_get (starts_from 0 program)) g.1 ∙ next))
+  edge_from j k place p i t e f (inr g) at there =
+      let leads : LeadsTo program j i k = subst (IsTarget program j i) g (all.each j i t e f) in
+      let from : leads.from ≡ place = same_some (sym leads.from_is ∙ at) in
+      let to : leads.to ≡ p = same_some (sym leads.to_is ∙ there) in
+      inr (leads.by, leads.by_is, ap pos (sym to) ∙ leads.sum ∙ ap (λ f. pos (f + 1) +ℤ leads.by) from)
+
+  pub follows_further : (j k : ℕ) (i : Insn) (t : Option ℕ) → slice_get program j ≡ Some i → slice_get targets j ≡ Some t → Follows i t j k → j < k
+  follows_further j k i t e f (inl g) = omega (arith, g.1)
+  follows_further j k i t e f (inr g) = let leads : LeadsTo program j i k = subst (IsTarget program j i) g (all.each j i t e f) in leads.further
+
+  pub target_inside : (j k : ℕ) (i : Insn) → slice_get program j ≡ Some i → slice_get targets j ≡ Some (Some k) → k < length program
+  target_inside j k i e f = let leads : LeadsTo program j i k = all.each j i (Some k) e f in start_within program k leads.to leads.to_is
+
+  pub target_fits : (j : ℕ) (i : Insn) (t : Option ℕ) → slice_get program j ≡ Some i → slice_get targets j ≡ Some t → IfSome t (λ k. k < length program)
+  target_fits j i None e f = tt
+  target_fits j i (Some k) e f = target_inside j k i e f
+
+-- a slot that is reached and isn't the first is reached along an edge
+pub reached_by : {program : List Insn} {p : ℕ} → Reached program p → (p ≡ 0) ⊎ ((place : ℕ) × (i : Insn) × Reached program place × (insn_at program place ≡ Some i) × GoesTo i place p)
+reached_by reached_entry = inl refl
+reached_by (reached_next place target i r e g) = inr (place, i, r, e, g)
+
+-- an instruction that follows a reached one is reached
+pub reached_on : (program : List Insn) (targets : List (Option ℕ)) (long : length targets ≡ length program) (all : HasTargets program targets) (j k : ℕ) (i : Insn) (t : Option ℕ)
+    → slice_get program j ≡ Some i → slice_get targets j ≡ Some t → Follows i t j k → IsReached program j → IsReached program k
+reached_on program targets long all j k i t e f follows r p there =
+    let s = start_of-insn 0 program j i e in
+    reached_next s.0 p i (r s.0 s.1) (insn_here program j s.0 i e s.1) (edge_from program targets long all j k s.0 p i t e f follows s.1 there)
+
+-- what is reached and lies behind instructions that are all done is marked
+module _ (program : List Insn) (targets : List (Option ℕ)) (long : length targets ≡ length program) (all : HasTargets program targets) (reached : List Bool) (k : ℕ)
+    (first : slice_get reached 0 ≡ Some true)
+    (ahead : (j m : ℕ) (i : Insn) (t : Option ℕ) → j < k → slice_get program j ≡ Some i → slice_get targets j ≡ Some t → Follows i t j m → slice_get reached m ≡ Some true) where
+  pub marked : (p : ℕ) → StartsAt program k p → Reached program p → slice_get reached k ≡ Some true
+  marked p there r = elim (reached_by r) [
+    | inl e ↦
+        let zero_there : StartsAt program k 0 = there ∙ ap Some e in
+        let k0 : k ≡ 0 = starts_apart 0 program k 0 0 zero_there (starts_at_0 program (omega (arith, start_within program k p there))) in
+        ap (slice_get reached) k0 ∙ first
+    | inr e ↦
+        let edge = edge_into program targets long all k e.0 p e.1 e.3 e.4 there in
+        ahead edge.0 k e.1 edge.1.target edge.1.before edge.1.insn edge.1.target_is edge.1.follows
+  ]
+
+-- one more instruction was marked from
+pub marks_sound : (program : List Insn) (targets : List (Option ℕ)) (long : length targets ≡ length program) (all : HasTargets program targets) (old new : List Bool) (k : ℕ) (i : Insn) (t : Option ℕ)
+    → slice_get program k ≡ Some i → slice_get targets k ≡ Some t → IsReached program k
+    → ((j : ℕ) → slice_get old j ≡ Some true → IsReached program j) → Marks i t k old new
+    → (j : ℕ) → slice_get new j ≡ Some true → IsReached program j
+marks_sound program targets long all old new k i t e f r sound marks j g = elim (marks.other j g) [
+  | inl h ↦ sound j h
+  | inr h ↦ reached_on program targets long all k j i t e f h r
+]
+
+pub marks_ahead : (program : List Insn) (targets : List (Option ℕ)) (old new : List Bool) (k : ℕ) (insn : Insn) (target : Option ℕ)
+    → slice_get program k ≡ Some insn → slice_get targets k ≡ Some target
+    → ((j m : ℕ) (i : Insn) (t : Option ℕ) → j < k → slice_get program j ≡ Some i → slice_get targets j ≡ Some t → Follows i t j m → slice_get old m ≡ Some true)
+    → Marks insn target k old new
+    → (j m : ℕ) (i : Insn) (t : Option ℕ) → j < k + 1 → slice_get program j ≡ Some i → slice_get targets j ≡ Some t → Follows i t j m → slice_get new m ≡ Some true
+marks_ahead program targets old new k insn target here there ahead marks j m i t h e f follows = elim (cases_eq j k) [
+  | inl g ↦
+      let same_insn : i ≡ insn = same_some (sym e ∙ ap (slice_get program) g ∙ here) in
+      let same_target : t ≡ target = same_some (sym f ∙ ap (slice_get targets) g ∙ there) in
+      marks.there m (subst (λ k. Follows insn target k m) g (subst (λ t. Follows insn t j m) same_target (subst (λ i. Follows i t j m) same_insn follows)))
+  | inr n ↦ marks.stays m (ahead j m i t (omega arith) e f follows)
+]
+
+pub before_more : (program : List Insn) (k : ℕ) → IsReached program k → ((j : ℕ) → j < k → IsReached program j) → (j : ℕ) → j < k + 1 → IsReached program j
+before_more program k here before j h = elim (cases_eq j k) [ inl g ↦ subst (IsReached program) (sym g) here | inr n ↦ before j (omega arith) ]

@@ -1,0 +1,14 @@
+use Rattle.std.proofs.Common.{◌≡◌, ℕ, ◌<◌, length}
+use Rattle.std.specs.Prelude.{slice_get, Some, None}
+use Rattle.bpf_model.specs.declared.insn.Insn.{Insn}
+use Rattle.program_graph.specs.GraphFlaws.{jump_flaw}
+use Rattle.program_graph.specs.Indexes.{HasTargets}
+use Rattle.bpf_model.specs.Places.{StartsAt}
+use Rattle.program_graph.proofs.graph.targets_of.Given as goal
+
+abbrev pub invariant-loop-index : goal.invariant-loop-index
+invariant-loop-index l = record {
+  long : length l.targets.items ≡ l.index;
+  targets : HasTargets l.instructions l.targets.items;
+  jumps : (j p : ℕ) (i : Insn) → j < l.index → slice_get l.instructions j ≡ Some i → StartsAt l.instructions j p → jump_flaw l.instructions p i ≡ None;
+}

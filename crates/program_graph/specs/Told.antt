@@ -1,0 +1,16 @@
+-- What a refusal of a program's jump graph tells.
+use Rattle.std.specs.Prelude.{◌≡◌, List, Result, Ok, Err}
+use Rattle.bpf_model.specs.declared.insn.Insn.{Insn}
+use Rattle.program_graph.specs.declared.refusal.GraphRefusal.{GraphRefusal}
+use Rattle.program_graph.specs.declared.refusal.GraphRefusal.TheVariants.{Flaw, Memory}
+use Rattle.program_graph.specs.GraphFlaws.{HasGraphFlaw}
+
+-- a flaw is told only where the graph has it
+abbrev pub IsToldOf : List Insn → GraphRefusal → Type 0
+IsToldOf program (Flaw flaw slot) = HasGraphFlaw program flaw slot
+IsToldOf program Memory = Unit {0}
+
+-- no refusal but for want of memory
+abbrev pub IsAccepted : {A : Type 0} → Result A GraphRefusal → Type 0
+IsAccepted (Ok x) = Unit {0}
+IsAccepted (Err e) = e ≡ Memory

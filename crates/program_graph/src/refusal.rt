@@ -1,0 +1,63 @@
+//! Why a program's jump graph is refused.
+ghost use Rattle.std.specs.Prelude.{◌≡◌};
+
+use std::alloc::{AllocError, AllocFailed};
+use thiserror::Error;
+
+/// What is wrong with a program's jump graph.
+#[derive(Clone, Copy, Debug, PartialEq, Eq, Error)]
+pub enum GraphFlaw {
+    #[error("a jump leads to no instruction's start")]
+    JumpTarget,
+    #[error("a jump leads back")]
+    BackJump,
+    #[error("the last instruction is not an exit")]
+    FallsOff,
+    #[error("no path leads to the instruction")]
+    Unreachable,
+}
+
+/// Why a program's jump graph is refused, and the slot of the instruction at which it is.
+#[derive(Clone, Copy, Debug, PartialEq, Eq, Error)]
+pub enum GraphRefusal {
+    #[error("{flaw} at {slot}")]
+    Flaw { flaw: GraphFlaw, slot: usize },
+    #[error("out of memory")]
+    Memory,
+}
+
+impl GraphFlaw {
+    ghost use Rattle.program_graph.specs.Numbers.{flaw_number};
+
+    /// The number by which the flaw is known.
+    pub fn code(self) -> u8
+        ensures { result ≡ flaw_number self }
+    {
+        match self {
+            GraphFlaw::JumpTarget => 20,
+            GraphFlaw::BackJump => 21,
+            GraphFlaw::FallsOff => 22,
+            GraphFlaw::Unreachable => 38,
+        }
+    }
+}
+
+impl From<AllocError> for GraphRefusal {
+    ghost use Rattle.program_graph.specs.declared.refusal.GraphRefusal.TheVariants.{Memory};
+
+    ghost from_gives = { λ _ e. e ≡ Memory };
+
+    fn from(_: AllocError) -> GraphRefusal {
+        GraphRefusal::Memory
+    }
+}
+
+impl<T: Drop> From<AllocFailed<T>> for GraphRefusal {
+    ghost use Rattle.program_graph.specs.declared.refusal.GraphRefusal.TheVariants.{Memory};
+
+    ghost from_gives = { λ _ e. e ≡ Memory };
+
+    fn from(_: AllocFailed<T>) -> GraphRefusal {
+        GraphRefusal::Memory
+    }
+}

@@ -1,0 +1,5 @@
+use Rattle.register_kinds.proofs.Pairs.{kinds_unwritten}
+use Rattle.register_kinds.proofs.frame.no_spills.Goals as goal
+
+pub returns : goal.returns
+returns c = kinds_unwritten 64

@@ -1,0 +1,10 @@
+use Rattle.std.proofs.Common.{◌≡◌, ℕ, ◌/◌, ◌<◌, ◌≤◌}
+use Rattle.register_kinds.specs.States.{kind_in, class_in, is_pointer}
+use Rattle.register_kinds.specs.Joined.{joined_class}
+use Rattle.register_kinds.proofs.join.join_cells.Given as goal
+
+abbrev pub invariant-loop-i : goal.invariant-loop-i
+invariant-loop-i l = record {
+  done : (k : ℕ) → k < l.i → class_in l.cells k ≡ joined_class (class_in l.fn.cells k) (class_in l.others k) (is_pointer (kind_in l.spills (k / 8)));
+  rest : (k : ℕ) → l.i ≤ k → class_in l.cells k ≡ class_in l.fn.cells k;
+}

@@ -1,0 +1,10 @@
+use Rattle.std.proofs.Common.{◌≡◌, ℕ, ◌/◌, ◌<◌, ◌≤◌}
+use Rattle.register_kinds.specs.States.{kind_in, class_in}
+use Rattle.register_kinds.specs.Changes.{learnt_class}
+use Rattle.register_kinds.proofs.learn.learn_cells.Given as goal
+
+abbrev pub invariant-loop-i : goal.invariant-loop-i
+invariant-loop-i l = record {
+  done : (k : ℕ) → k < l.i → class_in l.cells k ≡ learnt_class l.lesson (kind_in l.spills (k / 8)) (class_in l.fn.cells k);
+  rest : (k : ℕ) → l.i ≤ k → class_in l.cells k ≡ class_in l.fn.cells k;
+}

@@ -1,0 +1,12 @@
+use Rattle.std.proofs.Common.{◌≡◌, ℕ, ◌<◌, ◌≤◌}
+use Rattle.register_kinds.specs.States.{kind_at, kind_in}
+use Rattle.register_kinds.specs.Changes.{learnt_kind}
+use Rattle.register_kinds.specs.Pairs.{IsBelow}
+use Rattle.register_kinds.proofs.learn.learn_kinds.Given as goal
+
+abbrev pub invariant-loop-i : goal.invariant-loop-i
+invariant-loop-i l = record {
+  done : (r : ℕ) → r < l.i → kind_at l.kinds r ≡ learnt_kind l.lesson (kind_at l.fn.kinds r);
+  below : (r : ℕ) → r < l.i → (top : ℕ) → IsBelow top (kind_at l.fn.kinds r) → IsBelow top (kind_at l.kinds r);
+  rest : (r : ℕ) → l.i ≤ r → kind_in l.kinds r ≡ kind_in l.fn.kinds r;
+}

@@ -1,0 +1,42 @@
+-- What changes in a state, place by place.
+use Rattle.std.specs.Prelude.{◌==◌, if◌then◌else◌}
+use Rattle.scalar_domain.specs.declared.scalar.Scalar.{Scalar}
+use Rattle.scalar_domain.specs.Constant.{constant_of}
+use Rattle.typed_runs.specs.Kinds.{Kind, CellKind, AbsState}
+use Rattle.typed_runs.specs.Effects.{ended_kind, ended_cell, null_kind, null_cell, there_kind, there_cell}
+use Rattle.typed_runs.specs.Planned.{origin}
+use Rattle.register_kinds.specs.declared.kind.RegKind.{RegKind}
+use Rattle.register_kinds.specs.declared.kind.RegKind.TheVariants as kinds
+use Rattle.register_kinds.specs.declared.kind.CellKind as classes
+use Rattle.register_kinds.specs.declared.kind.CellKind.TheVariants as class
+use Rattle.register_kinds.specs.declared.learn.Lesson.{Lesson}
+use Rattle.register_kinds.specs.declared.learn.Lesson.TheVariants.{SectionEnds, IsNull, IsThere}
+
+-- the number 0 alone
+abbrev pub zero : Scalar
+zero = constant_of 0
+
+-- What is learnt at once of all that may be an element, in registers and in the frame.
+abbrev pub learnt_kind : Lesson → Kind → Kind
+learnt_kind SectionEnds kind = ended_kind kind
+learnt_kind (IsNull id) kind = null_kind id zero kind
+learnt_kind (IsThere id) kind = there_kind id origin kind
+
+abbrev pub learnt_cell : Lesson → CellKind → CellKind
+learnt_cell SectionEnds cell = ended_cell cell
+learnt_cell (IsNull id) cell = null_cell id cell
+learnt_cell (IsThere id) cell = there_cell id origin cell
+
+abbrev pub learnt : Lesson → AbsState → AbsState
+learnt lesson a = record { regs = λ r. learnt_kind lesson (a.regs r); cells = λ k. learnt_cell lesson (a.cells k); inside = a.inside }
+
+-- the class of what was a part of this
+abbrev pub learnt_part : Lesson → RegKind → classes.CellKind
+learnt_part SectionEnds (kinds.Value map s) = class.Ended
+learnt_part SectionEnds (kinds.MaybeNull map id) = class.Ended
+learnt_part (IsNull id) (kinds.MaybeNull map i) = if i == id then class.Byte else class.Part
+learnt_part lesson spill = class.Part
+
+abbrev pub learnt_class : Lesson → RegKind → classes.CellKind → classes.CellKind
+learnt_class lesson spill class.Part = learnt_part lesson spill
+learnt_class lesson spill other = other

@@ -1,0 +1,4 @@
+pub mod States
+pub mod Joined
+pub mod Pairs
+pub mod Changes

@@ -1,0 +1,112 @@
+//! Registers and bytes that an instruction sets.
+ghost use Rattle.std.specs.Prelude.{◌≡◌, ℕ, ◌+◌, ◌%◌, ◌≤◌, length, if◌then◌else◌};
+ghost use Rattle.bpf_model.specs.declared.limits.TheConstants.{FRAME_BYTES};
+ghost use Rattle.bpf_model.specs.Frame.{is_within};
+ghost use Rattle.typed_runs.specs.Kinds as model;
+ghost use Rattle.typed_runs.specs.Effects.{with_kind, with_cells, after_call, after_lock, after_unlock, returned_kind};
+ghost use Rattle.typed_runs.specs.Planned.{AreAlike};
+ghost use Rattle.register_kinds.specs.States.{kind_of, kind_at, kind_in, class_in, state_of};
+ghost use Rattle.register_kinds.specs.Pairs.{IsBelow, AreBelow};
+
+use crate::kind::{CellKind, RegKind};
+use crate::learn::Lesson;
+use crate::state::AbsState;
+use bpf_model::Reg;
+
+/// The bytes of an access become of this class.
+fn fill(cells: &mut [CellKind], at: usize, width: usize, cell: CellKind)
+    requires { at + width ≤ length cells.old }
+    ensures { (k : ℕ)
+        → class_in cells.new k ≡ (if is_within at width k then cell else class_in cells.old k) }
+{
+    for i in at..at + width {
+        cells[i] = cell;
+    }
+}
+
+/// The registers after a call: its result in r0, and nothing in r1 to r5.
+fn after_return(regs: &[RegKind; 11], returned: RegKind) -> [RegKind; 11]
+    ensures { (r : ℕ) → kind_at result r ≡ returned_kind (kind_of returned) (kind_at regs.now) r }
+{
+    [
+        returned,
+        RegKind::Unwritten,
+        RegKind::Unwritten,
+        RegKind::Unwritten,
+        RegKind::Unwritten,
+        RegKind::Unwritten,
+        regs[6],
+        regs[7],
+        regs[8],
+        regs[9],
+        regs[10],
+    ]
+}
+
+impl AbsState {
+    /// What is known of a register.
+    pub fn kind(&self, r: Reg) -> RegKind
+        ensures { result ≡ kind_in self.now.regs r }
+    {
+        self.regs[r.index()]
+    }
+
+    /// A register becomes of this kind.
+    pub fn set(&mut self, r: Reg, kind: RegKind)
+        ensures alike { AreAlike (with_kind r (kind_of kind) (state_of self.old)) (state_of self.new) }
+        ensures below { (top : ℕ) → AreBelow top self.old → IsBelow top (kind_of kind)
+            → AreBelow top self.new }
+    {
+        self.regs[r.index()] = kind;
+    }
+
+    /// A call leaves this in r0, and nothing in r1 to r5.
+    pub fn leave_call(&mut self, returned: RegKind)
+        ensures alike { AreAlike (after_call (kind_of returned) (state_of self.old)) (state_of self.new) }
+        ensures below { (top : ℕ) → AreBelow top self.old → IsBelow top (kind_of returned)
+            → AreBelow top self.new }
+    {
+        self.regs = after_return(&self.regs, returned);
+    }
+
+    /// A section begins.
+    pub fn enter_section(&mut self)
+        ensures alike { AreAlike (after_lock (state_of self.old)) (state_of self.new) }
+        ensures below { (top : ℕ) → AreBelow top self.old → AreBelow top self.new }
+    {
+        self.leave_call(RegKind::Unwritten);
+        self.inside = true;
+    }
+
+    /// The section ends, and with it all that is known of elements, in registers and in the frame.
+    pub fn leave_section(&mut self)
+        ensures alike { AreAlike (after_unlock (state_of self.old)) (state_of self.new) }
+        ensures below { (top : ℕ) → AreBelow top self.old → AreBelow top self.new }
+    {
+        self.learn(Lesson::SectionEnds);
+        self.leave_call(RegKind::Unwritten);
+        self.inside = false;
+    }
+
+    /// The bytes of an access to the frame become bytes of a number.
+    pub fn write(&mut self, at: usize, width: usize)
+        requires { at + width ≤ FRAME_BYTES }
+        ensures alike { AreAlike (with_cells at width model.ByteCell (state_of self.old)) (state_of self.new) }
+        ensures below { (top : ℕ) → AreBelow top self.old → AreBelow top self.new }
+    {
+        fill(&mut self.frame.cells, at, width, CellKind::Byte);
+    }
+
+    /// The eight bytes of an aligned group become the parts of a reference.
+    pub fn spill(&mut self, at: usize, kind: RegKind)
+        requires inside { at + 8 ≤ FRAME_BYTES }
+        requires aligned { at % 8 ≡ 0 }
+        ensures alike { AreAlike (with_cells at 8 (model.PartCell (kind_of kind)) (state_of self.old))
+            (state_of self.new) }
+        ensures below { (top : ℕ) → AreBelow top self.old → IsBelow top (kind_of kind)
+            → AreBelow top self.new }
+    {
+        fill(&mut self.frame.cells, at, 8, CellKind::Part);
+        self.frame.spills[at / 8] = kind;
+    }
+}

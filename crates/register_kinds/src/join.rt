@@ -1,0 +1,97 @@
+//! The joining of registers, of spilled references and of bytes.
+ghost use Rattle.std.specs.Prelude.{◌≡◌, ℕ, ◌+◌, ◌*◌, ◌/◌, ◌^◌, ◌<◌, ◌≤◌, length};
+ghost use Rattle.register_kinds.specs.declared.identities.TheConstants.{MAX_PAIRS};
+ghost use Rattle.register_kinds.specs.States.{kind_of, kind_at, kind_in, class_in, is_pointer};
+ghost use Rattle.register_kinds.specs.Joined.{joined_class};
+ghost use Rattle.register_kinds.specs.Pairs.{IsBelow, Grows, IsTable, JoinsKind};
+
+use crate::identities::{Pairs, join_identities};
+use crate::kind::{CellKind, RegKind};
+
+/// The kind of what is of either kind.
+fn join_kind(pairs: &mut Pairs, top: u32, a: RegKind, b: RegKind) -> RegKind
+    requires room { top + MAX_PAIRS < 2 ^ 32 }
+    requires few { length pairs.old.items < MAX_PAIRS }
+    requires table { IsTable pairs.old.items }
+    requires below { IsBelow top (kind_of a) × IsBelow top (kind_of b) }
+    ensures joins { JoinsKind top pairs.new.items (kind_of a) (kind_of b) (kind_of result) }
+    ensures table { IsTable pairs.new.items }
+    ensures grows { Grows pairs.old.items pairs.new.items }
+    ensures few { length pairs.new.items ≤ length pairs.old.items + 1 }
+{
+    match (a, b) {
+        (RegKind::Unwritten, _) => RegKind::Unwritten,
+        (_, RegKind::Unwritten) => RegKind::Unwritten,
+        (RegKind::Ended, _) => RegKind::Ended,
+        (_, RegKind::Ended) => RegKind::Ended,
+        (RegKind::Num(s), RegKind::Num(t)) => RegKind::Num(s.join(t)),
+        (RegKind::Ctx(s), RegKind::Ctx(t)) => RegKind::Ctx(s.join(t)),
+        (RegKind::Frame(o), RegKind::Frame(p)) if o == p => a,
+        (RegKind::Map(m), RegKind::Map(n)) if m == n => a,
+        (RegKind::Value { map: m, offset: s }, RegKind::Value { map: n, offset: t }) if m == n => {
+            RegKind::Value {
+                map: m,
+                offset: s.join(t),
+            }
+        }
+        (RegKind::MaybeNull { map: m, id: x }, RegKind::MaybeNull { map: n, id: y }) if m == n => {
+            RegKind::MaybeNull {
+                map: m,
+                id: join_identities(pairs, top, x, y),
+            }
+        }
+        _ => RegKind::Mixed,
+    }
+}
+
+/// Each kind becomes that of what is of either kind.
+pub(crate) fn join_kinds(pairs: &mut Pairs, top: u32, kinds: &mut [RegKind], others: &[RegKind])
+    requires room { top + MAX_PAIRS < 2 ^ 32 }
+    requires long { length kinds.old ≡ length others.now }
+    requires few { length pairs.old.items + length others.now ≤ MAX_PAIRS }
+    requires table { IsTable pairs.old.items }
+    requires below { (r : ℕ)
+        → IsBelow top (kind_at kinds.old r) × IsBelow top (kind_at others.now r) }
+    ensures joins { (r : ℕ) → JoinsKind top pairs.new.items
+        (kind_at kinds.old r) (kind_at others.now r) (kind_at kinds.new r) }
+    ensures table { IsTable pairs.new.items }
+    ensures grows { Grows pairs.old.items pairs.new.items }
+    ensures few { length pairs.new.items ≤ length pairs.old.items + length others.now }
+{
+    for i in 0..others.len() {
+        kinds[i] = join_kind(pairs, top, kinds[i], others[i]);
+    }
+}
+
+/// What is known of a byte of either class; `spill` is what it is part of, where it is part on both
+/// sides.
+fn join_cell(a: CellKind, b: CellKind, spill: &RegKind) -> CellKind
+    ensures { result ≡ joined_class a b (is_pointer spill.now) }
+{
+    match (a, b) {
+        (CellKind::Byte, CellKind::Byte) => CellKind::Byte,
+        (CellKind::Part, CellKind::Part) => {
+            if spill.is_pointer() {
+                CellKind::Part
+            } else {
+                CellKind::Mixed
+            }
+        }
+        (CellKind::Unwritten, _) | (_, CellKind::Unwritten) => CellKind::Unwritten,
+        (CellKind::Ended, _) | (_, CellKind::Ended) => CellKind::Ended,
+        _ => CellKind::Mixed,
+    }
+}
+
+/// Each byte becomes what is known of it on either side; `spills` are the joined ones.
+pub(crate) fn join_cells(cells: &mut [CellKind], others: &[CellKind], spills: &[RegKind])
+    requires long { length cells.old ≡ length others.now }
+    requires spills { length cells.old ≤ 8 * length spills.now }
+    ensures { (k : ℕ) → class_in cells.new k
+        ≡ joined_class (class_in cells.old k) (class_in others.now k) (is_pointer
+        (kind_in spills.now (k / 8))) }
+{
+    for i in 0..others.len() {
+        cells[i] = join_cell(cells[i], others[i], &spills[i / 8]);
+    }
+}

@@ -1,0 +1,94 @@
+//! What is learnt at once of all that may be an element, in registers and in the frame.
+ghost use Rattle.std.specs.Prelude.{◌≡◌, ℕ, ◌*◌, ◌/◌, ◌≤◌, length};
+ghost use Rattle.typed_runs.specs.Planned.{AreAlike};
+ghost use Rattle.register_kinds.specs.States.{kind_of, kind_at, kind_in, class_in, state_of};
+ghost use Rattle.register_kinds.specs.Pairs.{IsBelow, AreBelow};
+ghost use Rattle.register_kinds.specs.Changes.{learnt_kind, learnt_part, learnt_class, learnt};
+
+use crate::kind::{CellKind, RegKind};
+use crate::state::{AbsState, ORIGIN};
+use scalar_domain::Scalar;
+
+/// What is learnt.
+#[derive(Clone, Copy, Debug, PartialEq, Eq)]
+pub enum Lesson {
+    /// The section ends: nothing is known to be an element any longer.
+    SectionEnds,
+    /// What has this identity is null.
+    IsNull(u32),
+    /// What has this identity is an element.
+    IsThere(u32),
+}
+
+/// What becomes of a kind.
+fn learn_kind(lesson: Lesson, kind: RegKind) -> RegKind
+    ensures kind { kind_of result ≡ learnt_kind lesson (kind_of kind) }
+    ensures below { (top : ℕ) → IsBelow top (kind_of kind) → IsBelow top (kind_of result) }
+{
+    match (lesson, kind) {
+        (Lesson::SectionEnds, RegKind::Value { .. }) => RegKind::Ended,
+        (Lesson::SectionEnds, RegKind::MaybeNull { .. }) => RegKind::Ended,
+        (Lesson::IsNull(id), RegKind::MaybeNull { id: i, .. }) if i == id => {
+            RegKind::Num(Scalar::constant(0))
+        }
+        (Lesson::IsThere(id), RegKind::MaybeNull { map, id: i }) if i == id => RegKind::Value {
+            map,
+            offset: Scalar::constant(ORIGIN),
+        },
+        _ => kind,
+    }
+}
+
+/// What becomes of a part of this.
+fn learn_part(lesson: Lesson, spill: &RegKind) -> CellKind
+    ensures { result ≡ learnt_part lesson spill.now }
+{
+    match (lesson, spill) {
+        (Lesson::SectionEnds, RegKind::Value { .. }) => CellKind::Ended,
+        (Lesson::SectionEnds, RegKind::MaybeNull { .. }) => CellKind::Ended,
+        (Lesson::IsNull(id), RegKind::MaybeNull { id: i, .. }) if *i == id => CellKind::Byte,
+        _ => CellKind::Part,
+    }
+}
+
+/// What becomes of a byte of the frame, in a group where this was stored.
+fn learn_cell(lesson: Lesson, spill: &RegKind, cell: CellKind) -> CellKind
+    ensures { result ≡ learnt_class lesson spill.now cell }
+{
+    match cell {
+        CellKind::Part => learn_part(lesson, spill),
+        _ => cell,
+    }
+}
+
+fn learn_kinds(lesson: Lesson, kinds: &mut [RegKind])
+    ensures kinds { (r : ℕ) → kind_at kinds.new r ≡ learnt_kind lesson (kind_at kinds.old r) }
+    ensures below { (top r : ℕ) → IsBelow top (kind_at kinds.old r)
+        → IsBelow top (kind_at kinds.new r) }
+{
+    for i in 0..kinds.len() {
+        kinds[i] = learn_kind(lesson, kinds[i]);
+    }
+}
+
+fn learn_cells(lesson: Lesson, cells: &mut [CellKind], spills: &[RegKind])
+    requires { length cells.old ≤ 8 * length spills.now }
+    ensures { (k : ℕ) → class_in cells.new k
+        ≡ learnt_class lesson (kind_in spills.now (k / 8)) (class_in cells.old k) }
+{
+    for i in 0..cells.len() {
+        cells[i] = learn_cell(lesson, &spills[i / 8], cells[i]);
+    }
+}
+
+impl AbsState {
+    /// Each register and each byte of the frame becomes what it is after this was learnt.
+    pub fn learn(&mut self, lesson: Lesson)
+        ensures alike { AreAlike (learnt lesson (state_of self.old)) (state_of self.new) }
+        ensures below { (top : ℕ) → AreBelow top self.old → AreBelow top self.new }
+    {
+        learn_kinds(lesson, &mut self.regs);
+        learn_cells(lesson, &mut self.frame.cells, &self.frame.spills);
+        learn_kinds(lesson, &mut self.frame.spills);
+    }
+}

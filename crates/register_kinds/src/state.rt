@@ -1,0 +1,88 @@
+//! Abstract states: at the entry, copied and joined.
+ghost use Rattle.std.specs.Prelude.{◌≡◌, ℕ, ◌+◌, ◌^◌, ◌<◌, ◌≤◌, IfOk};
+ghost use Rattle.typed_runs.specs.Planned.{AreAlike, Joins, Wider, entry_kind, entry_state};
+ghost use Rattle.register_kinds.specs.declared.identities.TheConstants.{MAX_PAIRS};
+ghost use Rattle.register_kinds.specs.States.{kind_at, state_of};
+ghost use Rattle.register_kinds.specs.Joined.{AreJoined};
+ghost use Rattle.register_kinds.specs.Pairs.{AreBelow, IsPairing};
+
+use crate::frame::FrameCells;
+use crate::identities::{Identities, Pairs};
+use crate::join::join_kinds;
+use crate::kind::RegKind;
+use arrayvec::ArrayVec;
+use bpf_model::FRAME_BYTES;
+use scalar_domain::Scalar;
+use std::alloc::{AllocError, Global};
+
+/// The offset 0, as a scalar that is kept 2^29 higher.
+pub(crate) const ORIGIN: u64 = 1 << 29;
+
+/// What is known before an instruction.
+#[derive(Clone, Copy)]
+pub struct AbsState {
+    pub regs: [RegKind; 11],
+    pub frame: FrameCells,
+    /// Whether a section is open.
+    pub inside: bool,
+}
+
+/// The registers at a program's entry.
+fn entry_registers() -> [RegKind; 11]
+    ensures { (r : ℕ) → kind_at result r ≡ entry_kind r }
+{
+    let mut regs = [RegKind::Unwritten; 11];
+    regs[1] = RegKind::Ctx(Scalar::constant(ORIGIN));
+    regs[10] = RegKind::Frame(FRAME_BYTES as i32);
+    regs
+}
+
+/// What is known at a program's entry.
+fn at_entry() -> AbsState
+    ensures alike { AreAlike entry_state (state_of result) }
+    ensures below { AreBelow 0 result }
+{
+    AbsState {
+        regs: entry_registers(),
+        frame: FrameCells::unwritten(),
+        inside: false,
+    }
+}
+
+impl AbsState {
+    /// The state at a program's entry: r1 the context, r10 the end of the frame, all else
+    /// unwritten.
+    pub fn entry(alloc: Global) -> Result<Box<AbsState>, AllocError>
+        ensures alike { IfOk result (λ a. AreAlike entry_state (state_of a.value)) }
+        ensures below { IfOk result (λ a. AreBelow 0 a.value) }
+    {
+        Ok(Box::new(alloc, at_entry())?)
+    }
+
+    /// An equal state.
+    pub fn copy(&self, alloc: Global) -> Result<Box<AbsState>, AllocError>
+        ensures { IfOk result (λ a. a.value ≡ self.now) }
+    {
+        Ok(Box::new(alloc, *self)?)
+    }
+
+    /// What is known where control comes from either state. Each pair of different identities that
+    /// meets gets one new identity, so a join takes at most `MAX_PAIRS`.
+    pub fn join(&mut self, other: &AbsState, ids: &mut Identities)
+        requires section { self.old.inside ≡ other.now.inside }
+        requires room { ids.old.next + MAX_PAIRS < 2 ^ 32 }
+        requires below { AreBelow ids.old.next self.old × AreBelow ids.old.next other.now }
+        ensures joins { (pair : ℕ → ℕ × ℕ) × IsPairing ids.old.next ids.new.next pair
+            × Joins pair (state_of self.old) (state_of other.now) (state_of self.new) }
+        ensures exact { AreJoined (state_of self.old) (state_of other.now) (state_of self.new) }
+        ensures left { Wider (state_of self.old) (state_of self.new) }
+        ensures right { Wider (state_of other.now) (state_of self.new) }
+        ensures below { AreBelow ids.new.next self.new }
+        ensures few { (ids.old.next ≤ ids.new.next) × (ids.new.next ≤ ids.old.next + MAX_PAIRS) }
+    {
+        let mut pairs: Pairs = ArrayVec::new();
+        join_kinds(&mut pairs, ids.next, &mut self.regs, &other.regs);
+        self.frame.join(&mut pairs, ids.next, &other.frame);
+        ids.next += pairs.len() as u32;
+    }
+}

@@ -1,0 +1,149 @@
+-- Steps of instructions that have one state behind them, and of conditional jumps.
+use Rattle.std.proofs.Common.{◌≡◌, ℕ, List, Option, Some, None, refl, sym, ap, subst, ◌∙◌, inl, inr, ℤ, pos, Bool, true, false, Ok}
+use Rattle.std.specs.Prelude.{if◌then◌else◌}
+use Rattle.std.proofs.lemmas.Option.{none-some}
+use Rattle.bpf_model.specs.declared.limits.MapShape.{MapShape}
+use Rattle.bpf_model.specs.declared.insn.Insn.{Insn}
+use Rattle.bpf_model.specs.declared.insn.Insn.TheVariants.{JumpIf}
+use Rattle.bpf_model.specs.declared.insn.Operand.{Operand}
+use Rattle.bpf_model.specs.declared.insn.Operand.TheVariants.{Register, Immediate}
+use Rattle.bpf_model.specs.declared.opcode.Condition.{Condition}
+use Rattle.bpf_model.specs.declared.opcode.Condition.TheVariants.{Equal, NotEqual}
+use Rattle.bpf_model.specs.declared.opcode.Size.{Size}
+use Rattle.bpf_model.specs.declared.opcode.Size.TheVariants.{Word64}
+use Rattle.bpf_model.specs.declared.value.Value.{Value}
+use Rattle.bpf_model.specs.declared.value.Value.TheVariants.{Pointer}
+use Rattle.bpf_model.specs.declared.value.Reference.TheVariants.{Elem}
+use Rattle.bpf_model.specs.MachineStep.{found_value}
+use Rattle.bpf_model.specs.Operand.{operand_value}
+use Rattle.bpf_model.specs.Plain.{Names}
+use Rattle.bpf_model.specs.Step.{State}
+use Rattle.scalar_domain.specs.declared.scalar.Scalar.{Scalar}
+use Rattle.typed_runs.specs.Kinds.{Kind}
+use Rattle.typed_runs.specs.Describes.{Scene, Naming, IsOf}
+use Rattle.typed_runs.specs.Verified.{Transfers}
+use Rattle.register_kinds.specs.declared.kind.RegKind.TheVariants as kinds
+use Rattle.register_kinds.specs.declared.state.AbsState.{AbsState}
+use Rattle.register_kinds.specs.States.{kind_of, kind_in, state_of}
+use Rattle.register_kinds.specs.Pairs.{AreBelow}
+use Rattle.memory_effects.specs.declared.region.Region as effects
+use Rattle.memory_effects.specs.declared.region.Region.TheVariants as reached
+use Rattle.memory_effects.specs.Accesses.{IsBase}
+use Rattle.register_kinds.specs.States.{kind_at}
+use Rattle.control_effects.specs.Forks.{Forks, ForksOnNull, ComparesNumbers}
+use Rattle.state_steps.specs.declared.flow.Flow.{Flow}
+use Rattle.state_steps.specs.declared.region.Region.TheVariants as regions
+use Rattle.state_steps.specs.Steps.{IsForward, IsBranch, base_of, IsInRegion, Compares, IsComparable}
+use Rattle.state_steps.specs.Facts.{IsReady, KeepsFacts}
+use Rattle.state_steps.specs.Stepped.{single_flow, region_of, Stepped, ComparesWell}
+
+-- an instruction that reaches no memory, compares nothing and has one state behind it
+pub record IsQuiet (i : Insn) : Type 0 where
+  pub no_base : base_of i ≡ None
+  pub no_test : (r : ℕ) → Compares i r → ⊥
+  pub no_branch : IsBranch i → ⊥
+
+pub quiet_step : (i : Insn) (shapes : List MapShape) (ctx_len top : ℕ) (a b : AbsState) (f : Flow) → f ≡ single_flow regions.None → IsQuiet i
+    → (IsForward i → Transfers i shapes ctx_len (state_of a) (state_of b) None) → AreBelow top b
+    → (IsReady i (state_of a) → KeepsFacts i (state_of a) (state_of b)) → Stepped i shapes ctx_len top a b (Ok f)
+quiet_step i shapes ctx_len top a b f e q sound below keeps = subst (λ (f : Flow). Stepped i shapes ctx_len top a b (Ok f)) (sym e) (record {
+  done = record {
+    sound = sound;
+    branches = λ x. absurd (q.no_branch x);
+    region = λ r c m x d. absurd (none-some r (sym q.no_base ∙ x));
+    compares = λ r c m x d. absurd (q.no_test r x);
+    taken_below = tt;
+    keeps = keeps;
+    keeps_taken = λ ready. tt;
+  };
+  below = below;
+  unchanged = tt;
+  accepts = λ ready. tt;
+})
+
+-- a test for null of what may be null
+null_comparable : (equal : Bool) (dst : ℕ) (offset : ℤ) (v : Value) (o : Option ℕ) → v ≡ found_value o
+    → IsComparable (JumpIf (if equal then Equal else NotEqual) Word64 dst (Immediate (pos 0)) offset) v
+null_comparable equal dst offset v None e = inl (0, e)
+null_comparable true dst offset v (Some n) e = inr (refl, n, pos 0, e)
+null_comparable false dst offset v (Some n) e = inr (refl, n, pos 0, e)
+
+-- of an element's value
+value_comparable : (equal : Bool) (dst n : ℕ) (offset o : ℤ) (v : Value) → v ≡ Pointer (Elem n o)
+    → IsComparable (JumpIf (if equal then Equal else NotEqual) Word64 dst (Immediate (pos 0)) offset) v
+value_comparable true dst n offset o v e = inr (refl, n, o, e)
+value_comparable false dst n offset o v e = inr (refl, n, o, e)
+
+-- a comparison that is one for null
+pub record IsNullTestBy (equal : Bool) (condition : Condition) (size : Size) (src : Operand) : Type 0 where
+  pub condition_is : condition ≡ (if equal then Equal else NotEqual)
+  pub size_is : size ≡ Word64
+  pub src_is : src ≡ Immediate (pos 0)
+
+by_test : (P : Condition → Size → Operand → Type 0) (equal : Bool) (condition : Condition) (size : Size) (src : Operand) → IsNullTestBy equal condition size src
+    → P (if equal then Equal else NotEqual) Word64 (Immediate (pos 0)) → P condition size src
+by_test P equal condition size src t p =
+    subst (λ (x : Condition). P x size src) (sym t.condition_is) (subst (λ (x : Size). P (if equal then Equal else NotEqual) x src) (sym t.size_is) (subst (λ (x : Operand). P (if equal then Equal else NotEqual) Word64 x) (sym t.src_is) p))
+
+pub null_forks : (equal : Bool) (condition : Condition) (size : Size) (dst : ℕ) (src : Operand) (a b t : AbsState) → IsNullTestBy equal condition size src → ForksOnNull equal dst a b t → Forks condition size dst src a b t
+null_forks equal condition size dst src a b t is f = by_test (λ x y z. Forks x y dst z a b t) equal condition size src is f
+
+pub maybe_compares : (equal : Bool) (condition : Condition) (size : Size) (dst map id : ℕ) (src : Operand) (a : AbsState) → IsNullTestBy equal condition size src → kind_in a.regs dst ≡ kinds.MaybeNull map id
+    → ComparesWell condition size dst src (state_of a)
+maybe_compares equal condition size dst map id src a is e = by_test (λ x y z. ComparesWell x y dst z (state_of a)) equal condition size src is
+    (λ offset r c m x d. elim x [
+      | inl p ↦ null_comparable equal dst offset (m.regs r) (d.naming id) (subst (λ (k : Kind). IsOf c d.naming k (m.regs r)) (ap (λ q. kind_of (kind_in a.regs q)) p ∙ ap kind_of e) (d.regs r)).0
+      | inr p ↦ absurd p
+    ])
+
+pub value_compares : (equal : Bool) (condition : Condition) (size : Size) (dst map : ℕ) (s : Scalar) (src : Operand) (a : AbsState) → IsNullTestBy equal condition size src → kind_in a.regs dst ≡ kinds.Value map s
+    → ComparesWell condition size dst src (state_of a)
+value_compares equal condition size dst map s src a is e = by_test (λ x y z. ComparesWell x y dst z (state_of a)) equal condition size src is
+    (λ offset r c m x d. elim x [
+      | inl p ↦ let h = subst (λ (k : Kind). IsOf c d.naming k (m.regs r)) (ap (λ q. kind_of (kind_in a.regs q)) p ∙ ap kind_of e) (d.regs r) in value_comparable equal dst h.n offset h.offset (m.regs r) h.is
+      | inr p ↦ absurd p
+    ])
+
+named : (src : Operand) (r : ℕ) (m : State) → Names src r → m.regs r ≡ operand_value src m.regs
+named (Register s) r m e = ap m.regs e
+named (Immediate imm) r m e = absurd e
+
+pub numbers_compare : (condition : Condition) (size : Size) (dst : ℕ) (src : Operand) (a : AbsState) → ComparesNumbers (state_of a) dst src → ComparesWell condition size dst src (state_of a)
+numbers_compare condition size dst src a h offset r c m x d =
+    let n = h c m d in
+    elim x [
+      | inl p ↦ inl (n.0.0, ap m.regs p ∙ n.0.1)
+      | inr p ↦ inl (n.1.0, named src r m p ∙ n.1.1)
+    ]
+
+-- an access
+in_region : (region : effects.Region) (k : Kind) (c : Scene) (ρ : Naming) (v : Value) → IsBase region k → IsOf c ρ k v → IsInRegion c (region_of region) v
+in_region reached.Ctx k c ρ v b h = let x = subst (λ (k : Kind). IsOf c ρ k v) b.1 h in (x.offset, x.is)
+in_region reached.Frame k c ρ v b h = let x = subst (λ (k : Kind). IsOf c ρ k v) b.1 h in (b.0, x)
+in_region (reached.Value map) k c ρ v b h = let x = subst (λ (k : Kind). IsOf c ρ k v) b.1 h in (x.n, x.offset, x.is, x.held)
+
+-- an instruction that reaches memory by this register, compares nothing and has one state behind it
+pub record IsAccess (i : Insn) (base : ℕ) : Type 0 where
+  pub base_is : base_of i ≡ Some base
+  pub no_test : (r : ℕ) → Compares i r → ⊥
+  pub no_branch : IsBranch i → ⊥
+
+same_base : (m n : ℕ) → Some m ≡ Some n → m ≡ n
+same_base m n e = cc
+
+pub access_step : (i : Insn) (shapes : List MapShape) (ctx_len top : ℕ) (a b : AbsState) (f : Flow) (region : effects.Region) (base : ℕ) → f ≡ single_flow (region_of region) → IsAccess i base → IsBase region (kind_at a.regs base)
+    → Transfers i shapes ctx_len (state_of a) (state_of b) None → AreBelow top b → (IsReady i (state_of a) → KeepsFacts i (state_of a) (state_of b)) → Stepped i shapes ctx_len top a b (Ok f)
+access_step i shapes ctx_len top a b f region base e q is sound below keeps = subst (λ (f : Flow). Stepped i shapes ctx_len top a b (Ok f)) (sym e) (record {
+  done = record {
+    sound = λ forward. sound;
+    branches = λ x. absurd (q.no_branch x);
+    region = λ r c m x d. subst (λ (n : ℕ). IsInRegion c (region_of region) (m.regs n)) (same_base base r (sym q.base_is ∙ x)) (in_region region (kind_at a.regs base) c d.naming (m.regs base) is (d.regs base));
+    compares = λ r c m x d. absurd (q.no_test r x);
+    taken_below = tt;
+    keeps = keeps;
+    keeps_taken = λ ready. tt;
+  };
+  below = below;
+  unchanged = tt;
+  accepts = λ ready. tt;
+})

@@ -1,0 +1,35 @@
+use Rattle.std.proofs.Common.{sym, ◌∙◌}
+use Rattle.std.proofs.lemmas.Result.{on_ok_weaker}
+use Rattle.state_steps.proofs.Stepping.{null_forks, maybe_compares, value_compares, numbers_compare}
+use Rattle.state_steps.proofs.control.branch.Goals as goal
+
+pub returns-in_ok-null_branch-in-Some-MaybeNull-clause-sound : goal.returns-in_ok-null_branch-in-Some-MaybeNull-clause-sound
+returns-in_ok-null_branch-in-Some-MaybeNull-clause-sound c =
+    let t = c.in-Some-MaybeNull.ensures in
+    let kind = sym c.kind.ensures ∙ c.in-Some-MaybeNull.is-1 in
+    null_forks c.in-Some-MaybeNull.equal c.args.condition c.args.size c.args.dst c.args.src.now c.args.state.now c.null_branch.new.state c.in_ok-null_branch-in-Some-MaybeNull.field-0.value
+    (record { condition_is = t.condition; size_is = t.size; src_is = t.number }) (c.in_ok-null_branch-in-Some-MaybeNull.ensures.sound c.args.dst c.in-Some-MaybeNull.map-1 kind)
+
+pub returns-in_ok-null_branch-in-Some-MaybeNull-clause-compares : goal.returns-in_ok-null_branch-in-Some-MaybeNull-clause-compares
+returns-in_ok-null_branch-in-Some-MaybeNull-clause-compares c =
+    let t = c.in-Some-MaybeNull.ensures in
+    let kind = sym c.kind.ensures ∙ c.in-Some-MaybeNull.is-1 in
+    maybe_compares c.in-Some-MaybeNull.equal c.args.condition c.args.size c.args.dst c.in-Some-MaybeNull.map-1 c.in-Some-MaybeNull.id c.args.src.now c.args.state.now (record { condition_is = t.condition; size_is = t.size; src_is = t.number }) kind
+
+pub returns-in_ok-fork_value-in-Some-Value-clause-sound : goal.returns-in_ok-fork_value-in-Some-Value-clause-sound
+returns-in_ok-fork_value-in-Some-Value-clause-sound c =
+    let t = c.in-Some-Value.ensures in
+    let equal = c.in-Some-Value.field-0-0 in
+    let kind = sym c.kind.ensures ∙ c.in-Some-Value.is-1 in
+    null_forks equal c.args.condition c.args.size c.args.dst c.args.src.now c.args.state.now c.args.state.now c.in_ok-fork_value-in-Some-Value.field-0.value
+    (record { condition_is = t.condition; size_is = t.size; src_is = t.number }) (c.in_ok-fork_value-in-Some-Value.ensures.sound equal c.args.dst c.in-Some-Value.map-1 c.in-Some-Value.offset-1 kind)
+
+pub returns-in_ok-fork_value-in-Some-Value-clause-compares : goal.returns-in_ok-fork_value-in-Some-Value-clause-compares
+returns-in_ok-fork_value-in-Some-Value-clause-compares c =
+    let t = c.in-Some-Value.ensures in
+    let equal = c.in-Some-Value.field-0-0 in
+    let kind = sym c.kind.ensures ∙ c.in-Some-Value.is-1 in
+    value_compares equal c.args.condition c.args.size c.args.dst c.in-Some-Value.map-1 c.in-Some-Value.offset-1 c.args.src.now c.args.state.now (record { condition_is = t.condition; size_is = t.size; src_is = t.number }) kind
+
+pub returns-in_default-clause-compares : goal.returns-in_default-clause-compares
+returns-in_default-clause-compares c = on_ok_weaker c.fork.result (numbers_compare c.args.condition c.args.size c.args.dst c.args.src.now c.args.state.now) c.fork.ensures.compares

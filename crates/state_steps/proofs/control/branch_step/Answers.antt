@@ -1,0 +1,40 @@
+use Rattle.std.proofs.Common.{rules, refl, sym, subst, ℤ, pos, Some, inl, inr}
+use Rattle.bpf_model.specs.declared.limits.TheConstants.{FRAME_BYTES}
+use Rattle.state_steps.proofs.Keeping.{narrow_keeps, operand_number}
+use Rattle.std.proofs.lemmas.Option.{none-some}
+use Rattle.bpf_model.specs.declared.insn.Insn.TheVariants.{JumpIf}
+use Rattle.typed_runs.specs.Verified.{Transfers}
+use Rattle.register_kinds.specs.States.{state_of}
+use Rattle.state_steps.proofs.control.branch_step.Goals as goal
+
+pub returns : goal.returns
+returns c = λ offset shapes ctx_len top below.
+    let a = state_of c.args.state.now in
+    let b = state_of c.branch-state.new.state in
+    let i = JumpIf c.args.condition c.args.size c.args.dst c.args.src.now offset in
+    let t = c.in_ok-taken.ensures in record {
+      done = record {
+        sound = λ forward.
+            let p = forward offset refl in
+            subst (λ (z : ℤ). Transfers (JumpIf c.args.condition c.args.size c.args.dst c.args.src.now z) shapes ctx_len a b (Some (state_of c.in_ok-taken.taken.value))) (sym p.1) (t.sound shapes ctx_len p.0);
+        branches = λ x. refl;
+        region = λ r scene m x d. absurd (none-some r x);
+        compares = t.compares offset;
+        taken_below = t.taken_below top below;
+        keeps = λ ready. narrow_keeps i c.args.dst c.args.src.now (pos FRAME_BYTES) a b (λ r x. x) (λ k x. x) ready.registers ready.frame (t.narrowed (ready.registers c.args.dst (inl refl)));
+        keeps_taken = λ ready. narrow_keeps i c.args.dst c.args.src.now (pos FRAME_BYTES) a (state_of c.in_ok-taken.taken.value) (λ r x. x) (λ k x. x) ready.registers ready.frame (t.taken_narrowed (ready.registers c.args.dst (inl refl)));
+      };
+      accepts = λ ready. tt;
+      below = c.branch-state.ensures.below top below;
+      unchanged = tt;
+    }
+
+pub returns-in_err-taken : goal.returns-in_err-taken
+returns-in_err-taken c = λ offset shapes ctx_len top below. record {
+  done = search rules;
+  below = c.branch-state.ensures.below top below;
+  unchanged = search rules;
+  accepts = λ ready.
+      let memory = c.in_err-taken.ensures.accepts (ready.registers c.args.dst (inl refl)) (operand_number c.args.src.now (state_of c.args.state.now) (λ r n. ready.registers r (inr n))) in
+      search (rules, memory);
+}

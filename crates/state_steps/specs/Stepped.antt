@@ -1,0 +1,54 @@
+-- All that is said of the step of one instruction.
+use Rattle.std.specs.Prelude.{◌≡◌, ℕ, List, Some, None, Result, IfOk, OnErr, IfSome, IsSome, ℤ, option_map}
+use Rattle.bpf_model.specs.declared.limits.MapShape.{MapShape}
+use Rattle.bpf_model.specs.declared.insn.Insn.{Insn}
+use Rattle.bpf_model.specs.declared.insn.Insn.TheVariants.{JumpIf}
+use Rattle.bpf_model.specs.declared.insn.Operand.{Operand}
+use Rattle.bpf_model.specs.declared.opcode.Condition.{Condition}
+use Rattle.bpf_model.specs.declared.opcode.Size.{Size}
+use Rattle.bpf_model.specs.Step.{State}
+use Rattle.typed_runs.specs.Kinds.{AbsState as Known}
+use Rattle.typed_runs.specs.Describes.{Scene, Describes}
+use Rattle.typed_runs.specs.Verified.{Transfers}
+use Rattle.register_kinds.specs.declared.state.AbsState.{AbsState}
+use Rattle.register_kinds.specs.Pairs.{AreBelow}
+use Rattle.register_kinds.specs.States.{state_of}
+use Rattle.kind_tests.specs.declared.fault.Fault.{Fault}
+use Rattle.memory_effects.specs.declared.region.Region as effects
+use Rattle.memory_effects.specs.declared.region.Region.TheVariants as reached
+use Rattle.state_steps.specs.declared.region.Region.{Region}
+use Rattle.state_steps.specs.declared.region.Region.TheVariants as regions
+use Rattle.state_steps.specs.declared.flow.Flow.{Flow}
+use Rattle.state_steps.specs.Steps.{IsForward, IsBranch, taken_state, base_of, IsInRegion, Compares, IsComparable, IsFine}
+use Rattle.state_steps.specs.Facts.{IsReady, KeepsFacts}
+
+-- the flow of an instruction that has no second state behind it
+abbrev pub single_flow : Region → Flow
+single_flow region = record { region = region; taken = None }
+
+-- the region of an access
+abbrev pub region_of : effects.Region → Region
+region_of reached.Ctx = regions.Ctx
+region_of reached.Frame = regions.Frame
+region_of (reached.Value map) = regions.Value map
+
+-- In each described state the sides of a comparison may be compared.
+abbrev pub ComparesWell : Condition → Size → ℕ → Operand → Known → Type 0
+ComparesWell condition size dst src a = (offset : ℤ) (r : ℕ) (c : Scene) (m : State) → Compares (JumpIf condition size dst src offset) r → Describes a c m → IsComparable (JumpIf condition size dst src offset) (m.regs r)
+
+-- an instruction that is not refused
+pub record Done (i : Insn) (shapes : List MapShape) (ctx_len top : ℕ) (old new : AbsState) (flow : Flow) : Type 0 where
+  pub sound : IsForward i → Transfers i shapes ctx_len (state_of old) (state_of new) (option_map state_of (taken_state flow))
+  pub branches : IsBranch i → IsSome flow.taken
+  pub region : (b : ℕ) (c : Scene) (m : State) → base_of i ≡ Some b → Describes (state_of old) c m → IsInRegion c flow.region (m.regs b)
+  pub compares : (r : ℕ) (c : Scene) (m : State) → Compares i r → Describes (state_of old) c m → IsComparable i (m.regs r)
+  pub taken_below : IfSome (taken_state flow) (AreBelow top)
+  pub keeps : IsReady i (state_of old) → KeepsFacts i (state_of old) (state_of new)
+  pub keeps_taken : IsReady i (state_of old) → IfSome (taken_state flow) (λ t. KeepsFacts i (state_of old) (state_of t))
+
+-- It is done, or refused.
+pub record Stepped (i : Insn) (shapes : List MapShape) (ctx_len top : ℕ) (old new : AbsState) (result : Result Flow Fault) : Type 0 where
+  pub done : IfOk result (Done i shapes ctx_len top old new)
+  pub below : AreBelow top new
+  pub unchanged : OnErr result (new ≡ old)
+  pub accepts : IsReady i (state_of old) → IsFine result

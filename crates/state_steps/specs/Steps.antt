@@ -1,0 +1,67 @@
+-- What the pass over a program asks of the step of an instruction.
+use Rattle.std.specs.Prelude.{◌≡◌, ◌≢◌, ℕ, Option, Some, None, Result, Ok, Err, true, ◌⊎◌, ℤ, pos, option_map}
+use Rattle.bpf_model.specs.declared.value.Value.{Value}
+use Rattle.bpf_model.specs.declared.value.Value.TheVariants.{Number, Pointer}
+use Rattle.bpf_model.specs.declared.value.Reference.TheVariants as references
+use Rattle.bpf_model.specs.declared.insn.Insn.{Insn}
+use Rattle.bpf_model.specs.declared.insn.Insn.TheVariants.{JumpIf, Load, LoadSigned, Store}
+use Rattle.bpf_model.specs.declared.insn.Operand.TheVariants.{Immediate}
+use Rattle.bpf_model.specs.declared.opcode.Condition.TheVariants.{Equal, NotEqual}
+use Rattle.bpf_model.specs.declared.opcode.Size.TheVariants.{Word64}
+use Rattle.bpf_model.specs.Graph.{falls, distance}
+use Rattle.bpf_model.specs.Plain.{Names}
+use Rattle.typed_runs.specs.Describes.{Scene, IsHeld}
+use Rattle.register_kinds.specs.declared.state.AbsState.{AbsState}
+use Rattle.kind_tests.specs.declared.fault.Fault.{Fault}
+use Rattle.kind_tests.specs.declared.fault.Fault.TheVariants.{Memory}
+use Rattle.state_steps.specs.declared.region.Region.{Region}
+use Rattle.state_steps.specs.declared.region.Region.TheVariants as regions
+use Rattle.state_steps.specs.declared.flow.Flow.{Flow}
+
+-- where it jumps, it jumps ahead
+abbrev pub IsForward : Insn → Type 0
+IsForward i = (d : ℤ) → distance i ≡ Some d → (n : ℕ) × (d ≡ pos n)
+
+-- the instruction both falls through and jumps
+abbrev pub IsBranch : Insn → Type 0
+IsBranch i = (falls i ≡ true) × (distance i ≢ None)
+
+-- the state where a conditional jump is taken
+abbrev pub taken_state : Flow → Option AbsState
+taken_state f = option_map (λ b. b.value) f.taken
+
+-- the register through which a memory instruction reaches memory
+abbrev pub base_of : Insn → Option ℕ
+base_of (Load width dst src offset) = Some src
+base_of (LoadSigned width dst src offset) = Some src
+base_of (Store width dst offset src) = Some dst
+base_of _ = None
+
+-- a reference into the region: of a value, one to an element of the map that the run holds
+abbrev pub IsInRegion : Scene → Region → Value → Type 0
+IsInRegion c regions.None v = ⊥
+IsInRegion c regions.Ctx v = (o : ℤ) × (v ≡ Pointer (references.Ctx o))
+IsInRegion c regions.Frame v = (o : ℤ) × (v ≡ Pointer (references.Frame o))
+IsInRegion c (regions.Value map) v = (n : ℕ) × (o : ℤ) × (v ≡ Pointer (references.Elem n o)) × IsHeld c map n
+
+-- A conditional jump compares the register.
+abbrev pub Compares : Insn → ℕ → Type 0
+Compares (JumpIf condition size dst src offset) r = (r ≡ dst) ⊎ Names src r
+Compares _ r = ⊥
+
+-- a comparison of 64 bits with the number 0, for equality or its contrary
+abbrev pub IsNullTest : Insn → Type 0
+IsNullTest (JumpIf Equal Word64 dst (Immediate imm) offset) = imm ≡ pos 0
+IsNullTest (JumpIf NotEqual Word64 dst (Immediate imm) offset) = imm ≡ pos 0
+IsNullTest _ = ⊥
+
+-- a number, or where the instruction tests for null a reference to an element
+abbrev pub IsComparable : Insn → Value → Type 0
+IsComparable i v =
+    ((n : ℕ) × (v ≡ Number n))
+    ⊎ (IsNullTest i × (n : ℕ) × (o : ℤ) × (v ≡ Pointer (references.Elem n o)))
+
+-- no refusal but for want of memory
+abbrev pub IsFine : {A : Type 0} → Result A Fault → Type 0
+IsFine (Ok x) = Unit {0}
+IsFine (Err e) = e ≡ Memory

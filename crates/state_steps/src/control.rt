@@ -1,0 +1,155 @@
+//! Steps of jumps, of calls, and of the exit.
+ghost use Rattle.std.specs.Prelude.{◌≡◌, ℕ, ℤ, List, Ok, ◌+◌, ◌^◌, ◌<◌, ◌≤◌, IfOk, IfErr, OnOk, OnErr, IfSome, if◌then◌else◌, pos};
+ghost use Rattle.bpf_model.specs.declared.limits.MapShape.{MapShape};
+ghost use Rattle.bpf_model.specs.Step.{State};
+ghost use Rattle.typed_runs.specs.Effects.{IsNumberOperand};
+ghost use Rattle.typed_runs.specs.Describes.{Scene, Describes};
+ghost use Rattle.register_kinds.specs.declared.state.AbsState.{AbsState as Known};
+ghost use Rattle.register_kinds.specs.Pairs.{AreBelow};
+ghost use Rattle.register_kinds.specs.States.{kind_in, state_of};
+ghost use Rattle.compute_effects.specs.Computes.{HasNumber};
+ghost use Rattle.control_effects.specs.Forks.{Forks, ForksOnNull, AreNarrowed};
+ghost use Rattle.state_steps.specs.Stepped.{Stepped, ComparesWell};
+
+use crate::environment::EnvironmentShape;
+use crate::flow::{Flow, single};
+use crate::region::Region;
+use bpf_model::{CallKind, Condition, Insn, Operand, Reg, Size};
+use call_effects::{call, fork_equal, fork_not_equal};
+use control_effects::{exit, fork, fork_value, jump_long_transfers, jump_transfers};
+use kind_tests::Fault;
+use register_kinds::{AbsState, Identities, RegKind};
+use std::alloc::{AllocError, Global};
+
+/// A jump, which leaves all that is known as it is.
+pub(crate) fn jump_step() -> Flow
+    ensures { (offset : ℤ) (shapes : List MapShape) (ctx_len top : ℕ) (a : Known) → AreBelow top a
+        → Stepped (Insn.Jump offset) shapes ctx_len top a a (Ok result) }
+{
+    jump_transfers();
+    single(Region::None)
+}
+
+/// A jump of class JMP32.
+pub(crate) fn jump_long_step() -> Flow
+    ensures { (imm : ℤ) (shapes : List MapShape) (ctx_len top : ℕ) (a : Known) → AreBelow top a
+        → Stepped (Insn.JumpLong imm) shapes ctx_len top a a (Ok result) }
+{
+    jump_long_transfers();
+    single(Region::None)
+}
+
+/// Whether a comparison of what may be null is a test for null, and then whether it jumps where
+/// that is null.
+fn null_test(condition: Condition, size: Size, src: &Operand) -> Option<bool>
+    ensures condition { IfSome result (λ equal. condition
+        ≡ (if equal then Condition.Equal else Condition.NotEqual)) }
+    ensures size { IfSome result (λ equal. size ≡ Size.Word64) }
+    ensures number { IfSome result (λ equal. src.now ≡ Operand.Immediate (pos 0)) }
+{
+    match (condition, size, src) {
+        (Condition::Equal, Size::Word64, Operand::Immediate(imm)) if *imm == 0 => Some(true),
+        (Condition::NotEqual, Size::Word64, Operand::Immediate(imm)) if *imm == 0 => Some(false),
+        _ => None,
+    }
+}
+
+/// Both edges of a test for null of what has this identity.
+fn null_branch(
+    state: &mut AbsState,
+    alloc: Global,
+    equal: bool,
+    id: u32,
+) -> Result<Box<AbsState>, AllocError>
+    ensures sound { IfOk result (λ taken. (dst map : ℕ)
+        → kind_in state.old.regs dst ≡ RegKind.MaybeNull map id
+        → ForksOnNull equal dst state.old state.new taken.value) }
+    ensures below { (top : ℕ) → AreBelow top state.old → AreBelow top state.new }
+    ensures taken_below { IfOk result (λ taken. (top : ℕ)
+        → AreBelow top state.old → AreBelow top taken.value) }
+    ensures unchanged { OnErr result (state.new ≡ state.old) }
+{
+    if equal {
+        fork_equal(state, alloc, id)
+    } else {
+        fork_not_equal(state, alloc, id)
+    }
+}
+
+/// Both edges of a comparison: a test for null of what may be null or is an element's value, else
+/// of numbers.
+fn branch(
+    state: &mut AbsState,
+    alloc: Global,
+    condition: Condition,
+    size: Size,
+    dst: Reg,
+    src: &Operand,
+) -> Result<Box<AbsState>, Fault>
+    ensures sound { IfOk result (λ taken.
+        Forks condition size dst src.now state.old state.new taken.value) }
+    ensures compares { OnOk result (ComparesWell condition size dst src.now (state_of state.old)) }
+    ensures below { (top : ℕ) → AreBelow top state.old → AreBelow top state.new }
+    ensures taken_below { IfOk result (λ taken. (top : ℕ)
+        → AreBelow top state.old → AreBelow top taken.value) }
+    ensures narrowed { OnOk result (HasNumber (state_of state.old) dst
+        → AreNarrowed dst src.now (state_of state.old) (state_of state.new)) }
+    ensures taken_narrowed { IfOk result (λ taken. HasNumber (state_of state.old) dst
+        → AreNarrowed dst src.now (state_of state.old) (state_of taken.value)) }
+    ensures accepts { HasNumber (state_of state.old) dst
+        → IsNumberOperand (state_of state.old) src.now → IfErr result (λ e. e ≡ Fault.Memory) }
+    ensures unchanged { OnErr result (state.new ≡ state.old) }
+{
+    match (null_test(condition, size, src), state.kind(dst)) {
+        (Some(equal), RegKind::MaybeNull { id, .. }) => Ok(null_branch(state, alloc, equal, id)?),
+        (Some(_), RegKind::Value { .. }) => Ok(fork_value(state, alloc)?),
+        _ => fork(state, alloc, condition, size, dst, src),
+    }
+}
+
+/// A conditional jump.
+pub(crate) fn branch_step(
+    state: &mut AbsState,
+    alloc: Global,
+    condition: Condition,
+    size: Size,
+    dst: Reg,
+    src: &Operand,
+) -> Result<Flow, Fault>
+    ensures { (offset : ℤ) (shapes : List MapShape) (ctx_len top : ℕ) → AreBelow top state.old
+        → Stepped (Insn.JumpIf condition size dst src.now offset) shapes ctx_len top
+        state.old state.new result }
+{
+    let taken = branch(state, alloc, condition, size, dst, src)?;
+    Ok(Flow {
+        region: Region::None,
+        taken: Some(taken),
+    })
+}
+
+/// A call.
+pub(crate) fn call_step(
+    state: &mut AbsState,
+    kind: CallKind,
+    imm: i32,
+    shape: &EnvironmentShape,
+    ids: &mut Identities,
+) -> Result<Flow, Fault>
+    requires room { ids.old.next + 1 < 2 ^ 32 }
+    requires below { AreBelow ids.old.next state.old }
+    ensures stepped { (ctx_len : ℕ) → Stepped (Insn.Call kind imm) shape.now.shapes.now ctx_len
+        ids.new.next state.old state.new result }
+    ensures few { (ids.old.next ≤ ids.new.next) × (ids.new.next ≤ ids.old.next + 1) }
+{
+    call(state, kind, imm, shape.shapes, ids)?;
+    Ok(single(Region::None))
+}
+
+/// The end of a run.
+pub(crate) fn exit_step(state: &AbsState) -> Result<Flow, Fault>
+    ensures { (shapes : List MapShape) (ctx_len top : ℕ) → AreBelow top state.now
+        → Stepped Insn.Exit shapes ctx_len top state.now state.now result }
+{
+    exit(state)?;
+    Ok(single(Region::None))
+}

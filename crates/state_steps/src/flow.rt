@@ -1,0 +1,24 @@
+//! What an instruction leads to.
+ghost use Rattle.std.specs.Prelude.{◌≡◌};
+ghost use Rattle.state_steps.specs.Stepped.{single_flow};
+
+use crate::region::Region;
+use register_kinds::AbsState;
+
+/// What an instruction reaches, and the state where its conditional jump is taken. The state where
+/// control falls through, or where any other jump leads, is the one that the instruction changed.
+#[derive(Drop)]
+pub struct Flow {
+    pub region: Region,
+    pub taken: Option<Box<AbsState>>,
+}
+
+/// The flow of an instruction that has no second state behind it.
+pub(crate) fn single(region: Region) -> Flow
+    ensures { result ≡ single_flow region }
+{
+    Flow {
+        region,
+        taken: None,
+    }
+}

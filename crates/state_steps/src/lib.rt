@@ -1,0 +1,15 @@
+//! The step of an instruction over what is known before it.
+#![tactic(auto)]
+
+mod access;
+mod compute;
+mod control;
+mod environment;
+mod flow;
+mod region;
+mod step;
+
+pub use environment::EnvironmentShape;
+pub use flow::Flow;
+pub use region::Region;
+pub use step::transfer;

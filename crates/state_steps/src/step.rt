@@ -1,0 +1,146 @@
+//! The step of any instruction.
+ghost use Rattle.std.specs.Prelude.{◌≡◌, ℕ, ◌+◌, ◌^◌, ◌<◌, ◌≤◌, IfOk, OnOk, OnErr, IfSome, IsSome, Some, option_map};
+ghost use Rattle.bpf_model.specs.Step.{State};
+ghost use Rattle.typed_runs.specs.Describes.{Scene, Describes};
+ghost use Rattle.typed_runs.specs.Verified.{Transfers};
+ghost use Rattle.register_kinds.specs.Pairs.{AreBelow};
+ghost use Rattle.register_kinds.specs.States.{state_of};
+ghost use Rattle.state_steps.specs.Steps.{IsForward, IsBranch, taken_state, base_of, IsInRegion, Compares, IsComparable, IsFine};
+ghost use Rattle.state_steps.specs.Facts.{IsReady, KeepsFacts};
+ghost use Rattle.state_steps.specs.Stepped.{Stepped};
+
+use crate::access::{load_step, signed_step, store_step};
+use crate::compute::{alu_step, map_step, number_step, unary_step};
+use crate::control::{branch_step, call_step, exit_step, jump_long_step, jump_step};
+use crate::environment::EnvironmentShape;
+use crate::flow::Flow;
+use bpf_model::Insn;
+use kind_tests::Fault;
+use memory_effects::Address;
+use register_kinds::{AbsState, Identities};
+use std::alloc::Global;
+
+/// What an instruction makes of what is known before it. The state becomes that where control falls
+/// through, or where an unconditional jump leads; the answer has that where a conditional jump is
+/// taken, and the region that is reached. Of identities it takes at most one.
+///
+/// Errors: the first of these, by the instruction. The state is then as it was.
+/// - An operation, or a load of a number or a map: `FramePointerWritten`; a register that it reads
+///   is not written (`UnwrittenRegister`), of a section that has ended (`OutsideSection`) or of no
+///   one kind (`MixedRegions`); `MaybeNull`; `PointerArithmetic`; `NoSuchMap`.
+/// - A comparison: a register that it reads, `MaybeNull`, `PointerArithmetic`. What may be null and
+///   an element's value may be compared with the number 0 by 64 bits, for equality or its contrary.
+/// - A call: `UnknownCall`; `UnpairedSection`, or `OutsideSection` of a lookup; then its arguments,
+///   from r1 on.
+/// - The exit: r0 as a register that is read; `PointerLeak`; `UnpairedSection`.
+/// - An access: `FramePointerWritten`; its base, then what is stored, as registers that are read;
+///   `NotAPointer` or `MaybeNull`; `ContextWrite`; `PointerLeak` of what is stored; `OutOfBounds`,
+///   `Misaligned`; the bytes of the frame that are read.
+/// - `Memory`: there is none for the second state of a comparison.
+pub fn transfer(
+    state: &mut AbsState,
+    alloc: Global,
+    insn: &Insn,
+    shape: &EnvironmentShape,
+    ids: &mut Identities,
+) -> Result<Flow, Fault>
+    requires room { ids.old.next + 1 < 2 ^ 32 }
+    requires below { AreBelow ids.old.next state.old }
+
+    // From each described run the instruction has a step, and each leads to one that is described.
+    ensures sound { IfOk result (λ f. IsForward insn.now
+        → Transfers insn.now shape.now.shapes.now shape.now.ctx_len (state_of state.old) (state_of state.new)
+        (option_map state_of (taken_state f))) }
+    ensures branches { IfOk result (λ f. IsBranch insn.now → IsSome f.taken) }
+
+    // What the register holds by which it reaches memory, and those that it compares.
+    ensures region { IfOk result (λ f. (b : ℕ) (c : Scene) (m : State) → base_of insn.now ≡ Some b
+        → Describes (state_of state.old) c m → IsInRegion c f.region (m.regs b)) }
+    ensures compares { OnOk result ((r : ℕ) (c : Scene) (m : State) → Compares insn.now r
+        → Describes (state_of state.old) c m → IsComparable insn.now (m.regs r)) }
+
+    // The identities that are taken.
+    ensures below { AreBelow ids.new.next state.new }
+    ensures taken_below { IfOk result (λ f. IfSome (taken_state f) (AreBelow ids.new.next)) }
+    ensures few { (ids.old.next ≤ ids.new.next) × (ids.new.next ≤ ids.old.next + 1) }
+    ensures unchanged { OnErr result (state.new ≡ state.old) }
+
+    // An instruction that is ready is not refused but for want of memory, and what is known stays
+    // known.
+    ensures accepts { IsReady insn.now (state_of state.old) → IsFine result }
+    ensures keeps { OnOk result (IsReady insn.now (state_of state.old)
+        → KeepsFacts insn.now (state_of state.old) (state_of state.new)) }
+    ensures keeps_taken { IfOk result (λ f. IsReady insn.now (state_of state.old)
+        → IfSome (taken_state f) (λ t. KeepsFacts insn.now (state_of state.old) (state_of t))) }
+{
+    perform(state, alloc, insn, shape, ids)
+}
+
+/// Does the instruction.
+fn perform(
+    state: &mut AbsState,
+    alloc: Global,
+    insn: &Insn,
+    shape: &EnvironmentShape,
+    ids: &mut Identities,
+) -> Result<Flow, Fault>
+    requires room { ids.old.next + 1 < 2 ^ 32 }
+    requires below { AreBelow ids.old.next state.old }
+    ensures stepped { Stepped insn.now shape.now.shapes.now shape.now.ctx_len ids.new.next
+        state.old state.new result }
+    ensures few { (ids.old.next ≤ ids.new.next) × (ids.new.next ≤ ids.old.next + 1) }
+{
+    match insn {
+        Insn::Alu { op, size, dst, src } => alu_step(state, *op, *size, *dst, src),
+        Insn::Unary { op, dst } => unary_step(state, op, *dst),
+        Insn::LoadNumber { dst, number } => number_step(state, *dst, *number),
+        Insn::LoadMap { dst, map } => map_step(state, *dst, *map, shape),
+        Insn::Jump { .. } => Ok(jump_step()),
+        Insn::JumpLong { .. } => Ok(jump_long_step()),
+        Insn::JumpIf {
+            condition,
+            size,
+            dst,
+            src,
+            ..
+        } => branch_step(state, alloc, *condition, *size, *dst, src),
+        Insn::Call { kind, imm } => call_step(state, *kind, *imm, shape, ids),
+        Insn::Exit => exit_step(state),
+        Insn::Load {
+            width,
+            dst,
+            src,
+            offset,
+        } => {
+            let from = Address {
+                base: *src,
+                offset: *offset,
+            };
+            load_step(state, *width, *dst, from, shape)
+        }
+        Insn::LoadSigned {
+            width,
+            dst,
+            src,
+            offset,
+        } => {
+            let from = Address {
+                base: *src,
+                offset: *offset,
+            };
+            signed_step(state, *width, *dst, from, shape)
+        }
+        Insn::Store {
+            width,
+            dst,
+            offset,
+            src,
+        } => {
+            let to = Address {
+                base: *dst,
+                offset: *offset,
+            };
+            store_step(state, *width, to, src, shape)
+        }
+    }
+}

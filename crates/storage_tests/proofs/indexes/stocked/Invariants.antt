@@ -1,0 +1,5 @@
+use Rattle.storage_tests.specs.Stock.{IsFilled}
+use Rattle.storage_tests.proofs.indexes.stocked.Given as goal
+
+abbrev pub invariant-loop-count : goal.invariant-loop-count
+invariant-loop-count l = IsFilled l.slots l.count l.arena

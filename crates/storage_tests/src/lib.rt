@@ -1,0 +1,11 @@
+//! Tests of the parts that keep elements.
+#![tactic(auto)]
+
+#[cfg(test)]
+mod arena;
+#[cfg(test)]
+mod grace;
+#[cfg(test)]
+mod indexes;
+#[cfg(test)]
+mod map_tables;

@@ -1,0 +1,117 @@
+-- No reaction changes the shape of a map, or the programs.
+use Rattle.std.proofs.Common.{◌≡◌, ◌∙◌, ℕ, List, [], ◌∷◌, map, Option, Some, None, refl, sym, ap}
+use Rattle.std.specs.Prelude.{slice_get, slice_set, ℤ, pos, negsuc, ◌+ℤ◌}
+use Rattle.std.specs.FinMap.{get}
+use Rattle.bpf_model.specs.declared.call.Errno.{Errno}
+use Rattle.bpf_model.specs.declared.call.Helper.{Helper}
+use Rattle.bpf_model.specs.declared.call.Helper.TheVariants.{Lookup, Update, Delete}
+use Rattle.bpf_model.specs.declared.call.KernelFunction.{KernelFunction}
+use Rattle.bpf_model.specs.declared.call.KernelFunction.TheVariants.{ReadLock, ReadUnlock}
+use Rattle.bpf_model.specs.declared.event.Answer.{Answer}
+use Rattle.bpf_model.specs.declared.event.Event.{Event}
+use Rattle.bpf_model.specs.declared.event.Event.TheVariants as events
+use Rattle.bpf_model.specs.declared.insn.CallKind.TheVariants as kinds
+use Rattle.bpf_model.specs.declared.insn.Insn.{Insn}
+use Rattle.bpf_model.specs.declared.insn.Insn.TheVariants.{Store, Call}
+use Rattle.bpf_model.specs.declared.limits.MapShape.{MapShape}
+use Rattle.bpf_model.specs.Access.{byte_count}
+use Rattle.bpf_model.specs.Call.{helper_of, kernel_function_of}
+use Rattle.bpf_model.specs.Machine.{Loaded}
+use Rattle.bpf_model.specs.Step.{insn_at}
+use Rattle.bpf_model.specs.View.{MapView, RunView, WorldView, shapes_of}
+use Rattle.model_laws.specs.Near.{Location, InContext, InFrame, AtMap, InSlot}
+use Rattle.view_laws.specs.Views.{retired_slot, retired_key, filled_from, updated_by, shown_error}
+use Rattle.view_laws.specs.Reactions.{with_map, run_shown, reaction}
+use Rattle.view_laws.proofs.Running.{map-set}
+use Rattle.view_laws.proofs.Updating.{set-same}
+use Rattle.view_laws.proofs.Reacting.{reaction_keeps}
+use Rattle.world_laws.specs.Locating.{location_of}
+use Rattle.world_laws.specs.Moving.{word_in, operand_word, stored_slot, stored_at}
+use Rattle.world_laws.specs.Calling.{bytes_in, bound_number, serves, helped_on, helped, entered}
+use Rattle.world_laws.specs.Reacting.{insn_step, step_at, step_in, step_of, or_step, full_reaction}
+
+abbrev shape : MapView → MapShape
+shape v = v.shape
+
+retired-shape : (v : MapView) (key : List ℕ) (o : Option ℕ) → (retired_slot v key o).shape ≡ v.shape
+retired-shape v key None = refl
+retired-shape v key (Some i) = refl
+
+filled-shape : (free : List ℕ) (v : MapView) (key value : List ℕ) → (filled_from free v key value).shape ≡ v.shape
+filled-shape [] v key value = refl
+filled-shape (i ∷ rest) v key value = refl
+
+updated-shape : (o : Option Errno) (v : MapView) (key value : List ℕ) → (updated_by o v key value).1.shape ≡ v.shape
+updated-shape (Some e) v key value = refl
+updated-shape None v key value = filled-shape v.free (retired_key v key) key value ∙ retired-shape v key (get v.index key)
+
+set-shapes : (vs : List MapView) (k : ℕ) (v new : MapView) → slice_get vs k ≡ Some v → new.shape ≡ v.shape → map shape (slice_set vs k new) ≡ map shape vs
+set-shapes vs k v new at same = map-set shape vs k new ∙ (ap (slice_set (map shape vs) k) same ∙ (sym (map-set shape vs k v) ∙ ap (map shape) (set-same vs k v at)))
+
+abbrev pub Keeps : WorldView → WorldView → Type 0
+Keeps w new = (shapes_of new ≡ shapes_of w) × (new.programs ≡ w.programs)
+
+module _ (w : WorldView) where
+  map-keeps : (k : ℕ) (v new : MapView) → slice_get w.maps k ≡ Some v → new.shape ≡ v.shape → Keeps w (with_map k new w)
+  map-keeps k v new at same = (set-shapes w.maps k v new at same, refl)
+
+  slot-keeps : (width x : ℕ) (z : ℤ) (k slot : ℕ) (o : Option MapView) → slice_get w.maps k ≡ o → Keeps w (stored_slot width x z k o slot w)
+  slot-keeps width x (pos at) k slot (Some v) e = map-keeps k v _ e refl
+  slot-keeps width x (pos at) k slot None e = (refl, refl)
+  slot-keeps width x (negsuc n) k slot o e = (refl, refl)
+
+  store-keeps : (width x : ℕ) (offset : ℤ) (l : Location) (r : ℕ) (v : RunView) → Keeps w (stored_at width x offset l r v w).1
+  store-keeps width x offset (InFrame o) r v = (refl, refl)
+  store-keeps width x offset (InContext o) r v = (refl, refl)
+  store-keeps width x offset (AtMap k) r v = (refl, refl)
+  store-keeps width x offset (InSlot k slot o) r v = slot-keeps width x (o +ℤ offset) k slot (slice_get w.maps k) refl
+
+  serves-keeps : (helper : Helper) (k r : ℕ) (v : RunView) (o : Option MapView) → slice_get w.maps k ≡ o → Keeps w (serves helper k o r v w).1
+  serves-keeps Lookup k r v (Some m) e = (refl, refl)
+  serves-keeps Update k r v (Some m) e =
+      let key = bytes_in v 2 m.shape.key_len in
+      map-keeps k m _ e (updated-shape (shown_error m key (word_in v 4)) m key (bytes_in v 3 m.shape.value_len))
+  serves-keeps Delete k r v (Some m) e = let key = bytes_in v 2 m.shape.key_len in map-keeps k m _ e (retired-shape m key (get m.index key))
+  serves-keeps helper k r v None e = (refl, refl)
+
+  helped_on-keeps : (helper : Helper) (o : Option ℕ) (r : ℕ) (v : RunView) → Keeps w (helped_on helper o r v w).1
+  helped_on-keeps helper (Some k) r v = serves-keeps helper k r v (slice_get w.maps k) refl
+  helped_on-keeps helper None r v = (refl, refl)
+
+  helped-keeps : (o : Option Helper) (program : Loaded) (r : ℕ) (v : RunView) → Keeps w (helped o program r v w).1
+  helped-keeps (Some helper) program r v = helped_on-keeps helper (bound_number program v) r v
+  helped-keeps None program r v = (refl, refl)
+
+  entered-keeps : (o : Option KernelFunction) (r : ℕ) (v : RunView) → Keeps w (entered o r v w).1
+  entered-keeps (Some ReadLock) r v = (refl, refl)
+  entered-keeps (Some ReadUnlock) r v = (refl, refl)
+  entered-keeps None r v = (refl, refl)
+
+  insn-keeps : (i : Insn) (program : Loaded) (r : ℕ) (v : RunView) → Keeps w (insn_step i program r v w).1
+  insn-keeps (Call kinds.Helper imm) program r v = helped-keeps (helper_of imm) program r v
+  insn-keeps (Call kinds.Kernel imm) program r v = entered-keeps (kernel_function_of imm) r v
+  insn-keeps (Store width dst offset src) program r v = store-keeps (byte_count width) (operand_word v src) offset (location_of (word_in v dst)) r v
+  insn-keeps i program r v = (refl, refl)
+
+  at-keeps : (o : Option Insn) (program : Loaded) (r : ℕ) (v : RunView) → Keeps w (step_at o program r v w).1
+  at-keeps (Some i) program r v = insn-keeps i program r v
+  at-keeps None program r v = (refl, refl)
+
+  in-keeps : (o : Option Loaded) (r : ℕ) (v : RunView) → Keeps w (step_in o r v w).1
+  in-keeps (Some program) r v = at-keeps (insn_at program.code v.place) program r v
+  in-keeps None r v = (refl, refl)
+
+  of-keeps : (o : Option RunView) (r : ℕ) → Keeps w (step_of o r w).1
+  of-keeps (Some v) r = in-keeps (slice_get w.programs v.program) r v
+  of-keeps None r = (refl, refl)
+
+  left-keeps : (event : Event) → Keeps w (or_step None w event).1
+  left-keeps (events.Step r) = of-keeps (run_shown (slice_get w.runs r)) r
+  left-keeps event = (refl, refl)
+
+  either-keeps : (event : Event) (o : Option (Answer × WorldView)) → reaction w event ≡ o → Keeps w (or_step o w event).1
+  either-keeps event (Some x) e = reaction_keeps w event x e
+  either-keeps event None e = left-keeps event
+
+  pub full_keeps : (event : Event) → Keeps w (full_reaction w event).1
+  full_keeps event = either-keeps event (reaction w event) refl

@@ -1,0 +1,111 @@
+-- References to maps are to those of the program's list, in every state that is reached.
+use Rattle.std.proofs.Common.{◌≡◌, ℕ, ◌+◌, List, [], ◌∷◌, length, Option, Some, None, refl, sym, subst, Bool, true, false, inl, inr}
+use Rattle.std.specs.Prelude.{ℤ, pos, negsuc, nat_lt, ◌==◌, if◌then◌else◌}
+use Rattle.std.proofs.lemmas.Bool.{ltb-true, false≢true}
+use Rattle.std.proofs.lemmas.Option.{none-some}
+use Rattle.bpf_model.specs.declared.call.Helper.{Helper}
+use Rattle.bpf_model.specs.declared.call.Helper.TheVariants.{Lookup, Update, Delete}
+use Rattle.bpf_model.specs.declared.call.KernelFunction.{KernelFunction}
+use Rattle.bpf_model.specs.declared.call.KernelFunction.TheVariants.{ReadLock, ReadUnlock}
+use Rattle.bpf_model.specs.declared.event.Event.{Event}
+use Rattle.bpf_model.specs.declared.event.Answer.{Answer}
+use Rattle.bpf_model.specs.declared.insn.CallKind.TheVariants as kinds
+use Rattle.bpf_model.specs.declared.insn.Insn.{Insn}
+use Rattle.bpf_model.specs.declared.insn.Insn.TheVariants.{LoadMap, Call}
+use Rattle.bpf_model.specs.declared.limits.MapShape.{MapShape}
+use Rattle.bpf_model.specs.declared.limits.TheConstants.{MAX_RUNS}
+use Rattle.bpf_model.specs.declared.value.Value.{Value}
+use Rattle.bpf_model.specs.declared.value.Value.TheVariants.{Nothing, Pointer}
+use Rattle.bpf_model.specs.declared.value.Reference.TheVariants.{MapRef}
+use Rattle.bpf_model.specs.Call.{helper_of, kernel_function_of}
+use Rattle.bpf_model.specs.Event.{Does, IsReal, AreReal}
+use Rattle.bpf_model.specs.Machine.{Loaded, Run, Machine, environment, fresh_run, open_sections}
+use Rattle.bpf_model.specs.MachineStep.{Ends, KernelStep, HelperStep, InsnStep, returns, found_value}
+use Rattle.bpf_model.specs.MapState.{Store}
+use Rattle.bpf_model.specs.Refines.{IsReached}
+use Rattle.bpf_model.specs.Schedule.{Schedule, IsScheduledHistory, last_scheduled, start_schedule}
+use Rattle.bpf_model.specs.Section.{Section}
+use Rattle.bpf_model.specs.Step.{State, Environment, Outcome, Moves, Exits, put, sets, map_value, after}
+use Rattle.model_laws.specs.Alone.{HoldsValue, HoldsState}
+use Rattle.model_laws.proofs.Holding.{Closed, HoldsOutcome, holds-entry, holds-acts, holds-returns}
+use Rattle.model_laws.proofs.Keeping.{no-run}
+use Rattle.typed_runs.proofs.Coming.{Comes, Stands, Starting, Stepping, does-come}
+use Rattle.typed_runs.proofs.Reaching.{real-rest}
+use Rattle.world_laws.specs.Typed.{IsListed, AreListed}
+use Rattle.world_laws.proofs.Words.{bind_some, chosen, refused}
+
+listed-closed : (count : ℕ) → Closed (IsListed count)
+listed-closed count = record { context = λ o. tt; frame = λ o. tt; moved = λ n o p h. h }
+
+abbrev IsListedRun : Run → Type 0
+IsListedRun run = HoldsState (IsListed (length run.program.maps)) run.state
+
+-- the maps of the list
+map-listed : (env : Environment) (z : ℤ) (u : Value) → map_value env z ≡ Some u → HoldsValue (IsListed env.maps) u
+map-listed env (pos n) u e =
+    let g = chosen (nat_lt n env.maps) (Pointer (MapRef n)) u e in
+    subst (HoldsValue (IsListed env.maps)) g.1 (ltb-true n env.maps g.0)
+map-listed env (negsuc n) u e = absurd (none-some u e)
+
+choice-listed : (count : ℕ) (b : Bool) (u v : Value) → HoldsValue (IsListed count) u → HoldsValue (IsListed count) v → HoldsValue (IsListed count) (if b then u else v)
+choice-listed count true u v p q = p
+choice-listed count false u v p q = q
+
+loads-listed : (dst : ℕ) (map : ℤ) (env : Environment) (m : State) (out : Outcome) → HoldsState (IsListed env.maps) m → after (LoadMap dst map) env m ≡ Some out → HoldsOutcome (IsListed env.maps) out
+loads-listed dst map env m out p e =
+    let f = bind_some (map_value env map) (λ u. sets 2 dst u m) out e in
+    let next : State = record { regs = put dst f.0 m.regs; frame = m.frame; place = m.place + 2 } in
+    subst (HoldsOutcome (IsListed env.maps)) (refused (dst == 10) (Moves next) out f.2) (λ q. choice-listed env.maps (q == dst) f.0 (m.regs q) (map-listed env map f.0 f.1) (p.0 q), p.1)
+
+-- each step keeps it
+ends-listed : (out : Outcome) (run : Run) (answer : Answer) (new : Run) → IsListedRun run → HoldsOutcome (IsListed (length run.program.maps)) out → Ends out run answer new → IsListedRun new
+ends-listed (Moves next) run answer new p q h = subst IsListedRun (sym h.1) q
+ends-listed (Exits n) run answer new p q h = subst IsListedRun (sym h.2) p
+
+returns-listed : (run : Run) (ret : Value) → IsListedRun run → HoldsValue (IsListed (length run.program.maps)) ret → HoldsState (IsListed (length run.program.maps)) (returns ret run.state)
+returns-listed run ret p q = holds-returns (IsListed (length run.program.maps)) (listed-closed (length run.program.maps)) ret run.state q p
+
+kernel-listed : (o : Option KernelFunction) (run new : Run) → IsListedRun run → KernelStep o run new → IsListedRun new
+kernel-listed (Some ReadLock) run new p h = subst IsListedRun (sym h.1) (returns-listed run Nothing p tt)
+kernel-listed (Some ReadUnlock) run new p h = subst IsListedRun (sym h.1) (returns-listed run Nothing p tt)
+kernel-listed None run new p h = absurd h
+
+found-listed : (count : ℕ) (o : Option ℕ) → HoldsValue (IsListed count) (found_value o)
+found-listed count None = tt
+found-listed count (Some n) = tt
+
+result-listed : (o : Option Helper) (s : Store) (opened : List Section) (run : Run) (ret : Value) (new : Store) → HelperStep o s opened run ret new → HoldsValue (IsListed (length run.program.maps)) ret
+result-listed (Some Lookup) s opened run ret new h = subst (HoldsValue (IsListed (length run.program.maps))) (sym h.0.ret_is) (found-listed (length run.program.maps) h.0.found)
+result-listed (Some Update) s opened run ret new h = subst (HoldsValue (IsListed (length run.program.maps))) (sym h.ret_is) tt
+result-listed (Some Delete) s opened run ret new h = subst (HoldsValue (IsListed (length run.program.maps))) (sym h.ret_is) tt
+result-listed None s opened run ret new h = absurd h
+
+insn-listed : (i : Insn) (s : Store) (opened : List Section) (run : Run) (answer : Answer) (new_store : Store) (new : Run) → IsListedRun run → InsnStep i s opened run answer new_store new → IsListedRun new
+insn-listed (Call kinds.Kernel imm) s opened run answer new_store new p h = kernel-listed (kernel_function_of imm) run new p h.0
+insn-listed (Call kinds.Helper imm) s opened run answer new_store new p h = subst IsListedRun (sym h.3) (returns-listed run h.0 p (result-listed (helper_of imm) s opened run h.0 new_store h.1))
+insn-listed (LoadMap dst map) s opened run answer new_store new p (out, es, inl h, kept, ends) = ends-listed out run answer new p (loads-listed dst map (environment run) run.state out p h.0) ends
+insn-listed (LoadMap dst map) s opened run answer new_store new p (out, es, inr h, kept, ends) = absurd h
+insn-listed i s opened run answer new_store new p h =
+    ends-listed h.0 run answer new p (holds-acts (IsListed (length run.program.maps)) (listed-closed (length run.program.maps)) i (environment run) s.elements run.state h.0 h.1 (λ named. absurd (false≢true named)) p h.2) h.4
+
+fresh-listed : (name : ℕ) (program : Loaded) (context : List ℕ) → IsListedRun (fresh_run name program context)
+fresh-listed name program context = holds-entry (IsListed (length program.maps)) (listed-closed (length program.maps))
+
+pub stays_listed : (m new : Machine) (event : Event) (answer : Answer) → IsReal event → Does m event answer new → AreListed m → AreListed new
+stays_listed m new event answer real h p r run at = came (does-come m new event answer real h r run at)
+  where
+    came : Comes m new r run → IsListedRun run
+    came (Stands there) = p r run there
+    came (Starting f) = subst IsListedRun f.is (fresh-listed m.started f.program f.context)
+    came (Stepping g) = insn-listed g.step.0 m.store (open_sections m.runs) g.old g.answer new.store run (p r g.old g.there) g.step.2
+
+-- so it is in each reached state
+listed-last : (s : Schedule) (events : List Event) (answers : List Answer) (states : List Schedule) → AreListed s.machine → AreReal events → IsScheduledHistory s events answers states → AreListed (last_scheduled s states).machine
+listed-last s [] [] [] p real h = p
+listed-last s (event ∷ events) (answer ∷ answers) (next ∷ states) p real h =
+    listed-last next events answers states (stays_listed s.machine next.machine event answer (real 0 event refl) h.0.step p) (real-rest event events real) h.1
+listed-last s events answers states p real h = absurd h
+
+pub reached_is_listed : (shapes : List MapShape) (programs : List Loaded) (s : Schedule) → IsReached shapes programs s → AreListed s.machine
+reached_is_listed shapes programs s r = subst (λ (x : Schedule). AreListed x.machine) r.last
+    (listed-last (start_schedule shapes programs) r.events r.answers r.states (λ q run at. absurd (no-run MAX_RUNS q run at)) r.real r.history)

@@ -1,0 +1,141 @@
+-- A run before its step: what its words stand for, and what the instruction at hand needs.
+use Rattle.std.proofs.Common.{◌≡◌, ℕ, ◌+◌, ◌^◌, ◌<◌, ◌≢◌, refl, ap, subst, ◌∙◌, arith, Option, Some, None, List, length}
+use Rattle.std.specs.Prelude.{slice_get, slice_index, ℤ, pos, negsuc, FitsSigned}
+use Rattle.std.specs.Int.{w32}
+use Rattle.std.proofs.lemmas.Int.{ints}
+use Rattle.std.proofs.lemmas.Option.{none-some}
+use Rattle.bpf_model.specs.declared.insn.Insn.{Insn}
+use Rattle.bpf_model.specs.declared.insn.Operand.{Operand}
+use Rattle.bpf_model.specs.declared.insn.Operand.TheVariants.{Register, Immediate}
+use Rattle.bpf_model.specs.declared.event.Answer.{Answer}
+use Rattle.bpf_model.specs.declared.event.Answer.TheVariants.{Moved}
+use Rattle.bpf_model.specs.declared.event.Event.TheVariants as events
+use Rattle.bpf_model.specs.declared.value.Value.{Value}
+use Rattle.bpf_model.specs.declared.value.Value.TheVariants.{Nothing, Number, Pointer}
+use Rattle.bpf_model.specs.declared.value.Reference.{Reference}
+use Rattle.bpf_model.specs.declared.value.Reference.TheVariants.{Ctx, Frame, MapRef, Elem}
+use Rattle.bpf_model.specs.Arithmetic.{immediate}
+use Rattle.bpf_model.specs.Element.{Element}
+use Rattle.bpf_model.specs.Machine.{Loaded, Run, run_in, open_sections, moves}
+use Rattle.bpf_model.specs.MachineStep.{InsnStep}
+use Rattle.bpf_model.specs.Near.{IsNear, IsNearReference}
+use Rattle.bpf_model.specs.Operand.{operand_value}
+use Rattle.bpf_model.specs.MapState.{Store}
+use Rattle.bpf_model.specs.Refines.{RunRefines, SlotRefines, RefinesSchedule}
+use Rattle.bpf_model.specs.Schedule.{Schedule}
+use Rattle.bpf_model.specs.Step.{State, insn_at}
+use Rattle.bpf_model.specs.View.{RunView, WorldView}
+use Rattle.bpf_model.specs.Word.{IsReferenceWord, WordIs, ByteIs, element_bases}
+use Rattle.model_laws.specs.Alone.{HoldsValue}
+use Rattle.typed_runs.specs.Describes.{scene_of, AreNear}
+use Rattle.typed_runs.proofs.Reaching.{surrounds}
+use Rattle.view_laws.specs.Matching.{Matches, Simulates, half}
+use Rattle.view_laws.specs.Reactions.{with_run}
+use Rattle.view_laws.proofs.Running.{move_simulates}
+use Rattle.world_laws.specs.Moving.{word_in, operand_word, moved_view}
+use Rattle.world_laws.specs.Typed.{IsRegister, IsOperand, IsListed, IsSound, IsRunning}
+use Rattle.world_laws.proofs.Words.{IsBased}
+use Rattle.world_laws.proofs.Sure.{IsSure, typed, run-near}
+use Rattle.world_laws.proofs.Shown.{shown, held-kept}
+
+run-inside : (o : Option (Option Run)) (run : Run) → run_in o ≡ Some run → o ≡ Some (Some run)
+run-inside None run e = absurd (none-some run e)
+run-inside (Some None) run e = absurd (none-some run e)
+run-inside (Some (Some a)) run e = ap Some e
+
+pub immediate-below : (imm : ℤ) → FitsSigned w32 imm → immediate imm < 2 ^ 64
+immediate-below (pos n) f = omega (arith, ints, f)
+immediate-below (negsuc n) f = omega arith
+
+-- the words after a move, over any elements
+pub move-refines : (slots : List ℕ) (es : List Element) (programs : List Loaded) (v : RunView) (run : Run) → RunRefines slots es programs v run → (registers frame : List ℕ) (place : ℕ) (next : State)
+    → length registers ≡ 11 → ((q : ℕ) → q < 11 → WordIs (element_bases slots es) (next.regs q) (slice_index registers q))
+    → length frame ≡ 512 → ((j : ℕ) → j < 512 → ByteIs (element_bases slots es) (next.frame j) (slice_index frame j)) → place ≡ next.place → RunRefines slots es programs (moved_view registers frame place v) (moves run next)
+move-refines slots es programs v run h registers frame place next eleven regs cells bytes at = record {
+  program = h.program;
+  context = h.context;
+  eleven = eleven;
+  registers = regs;
+  cells = cells;
+  frame = bytes;
+  place = at;
+  depth = h.depth;
+  moved = ap (λ n. n + 1) h.moved;
+  exit = h.exit;
+}
+
+module _ (w : WorldView) (s : Schedule) (m : Matches w s) (sound : IsSound w s) (r : ℕ) (run : Run) (v : RunView) (k : IsRunning w s r run v) where
+  abbrev pub slots : List ℕ
+  slots = m.refines.slots
+
+  abbrev pub es : List Element
+  es = s.machine.store.elements
+
+  abbrev pub bases : ℕ → ℕ
+  bases = element_bases slots es
+
+  abbrev pub Refines : RunView → Run → Type 0
+  Refines new later = RunRefines slots es s.machine.programs new later
+
+  pub refines : Refines v run
+  refines = subst (λ o. SlotRefines slots es s.machine.programs o (Some (Some run))) k.shown
+      (subst (SlotRefines slots es s.machine.programs (slice_get w.runs r)) (run-inside (slice_get s.machine.runs r) run k.there) (m.refines.runs r))
+
+  pub near : AreNear run.state.regs run.state.frame
+  near = run-near s.machine r run sound.well k.there k.going
+
+  pub register-word : (q : ℕ) → IsRegister q → WordIs bases (run.state.regs q) (word_in v q)
+  register-word q l = refines.registers q l
+
+  pub operand-stands : (src : Operand) → IsOperand src → WordIs bases (operand_value src run.state.regs) (operand_word v src)
+  operand-stands (Register q) l = register-word q l
+  operand-stands (Immediate imm) l = refl
+
+  pub byte-stands : (j : ℕ) → j < length v.frame → ByteIs bases (run.state.frame j) (slice_index v.frame j)
+  byte-stands j l = let c : length v.frame ≡ 512 = refines.cells in refines.frame j (omega (arith, l, c))
+
+  -- the words of references that are sure
+  based : (q : Reference) → IsSure (scene_of es run) (Pointer q) → IsBased bases q
+  based (Ctx o) h = tt
+  based (Frame o) h = tt
+  based (MapRef i) h = tt
+  based (Elem n o) h =
+      let x = shown w s m.refines sound.well sound.limits sound.maps n h.1.element h.1.born (held-kept (scene_of es run) h.0 n h.1) in
+      let b = x.base in
+      let few = x.few_maps in
+      let slot = x.few_slots in
+      (omega (arith, b, few, slot), omega (arith, b, few, slot))
+
+  pub reference-fits : (q : Reference) (x : ℕ) → IsReferenceWord bases q x → IsNearReference q → IsListed 16 q → IsSure (scene_of es run) (Pointer q) → IsBased bases q × (x < 2 ^ 64)
+  reference-fits (Ctx o) x e n l h = (tt, omega (arith, ints, e, n))
+  reference-fits (Frame o) x e n l h = (tt, omega (arith, ints, e, n))
+  reference-fits (MapRef i) x e n l h = (tt, omega (arith, ints, e, l))
+  reference-fits (Elem b o) x e n l h = let f = based (Elem b o) h in (f, omega (arith, ints, e, n, f.0, f.1))
+
+  pub value-fits : (u : Value) (x : ℕ) → u ≢ Nothing → WordIs bases u x → IsNear u → HoldsValue (IsListed 16) u → IsSure (scene_of es run) u → x < 2 ^ 64
+  value-fits Nothing x some e n l h = absurd (some refl)
+  value-fits (Number a) x some e n l h = omega (arith, e, h)
+  value-fits (Pointer q) x some e n l h = (reference-fits q x e n l h).1
+
+  -- a step to a later run, which leaves the maps
+  pub moves-to : (i : Insn) (later : Run) (new : RunView) (answer : Answer) → insn_at run.program.code run.state.place ≡ Some i → InsnStep i s.machine.store (open_sections s.machine.runs) run answer s.machine.store later → Refines new later
+      → Simulates s (events.Step r) (answer, with_run r (Some new) w)
+  moves-to i later new answer here step h = move_simulates w s m r run later v new answer k.there k.shown h (record { run = run; there = k.there; going = k.going; new_store = s.machine.store; new_run = later; step = (i, here, step); new_is = refl })
+
+  -- what the run has after a step is near
+  pub near-after : (i : Insn) (next : State) → insn_at run.program.code run.state.place ≡ Some i → InsnStep i s.machine.store (open_sections s.machine.runs) run Moved s.machine.store (moves run next) → AreNear next.regs next.frame
+  near-after i next here step =
+      let t = typed s.machine r run sound.well k.there k.going in
+      let l = t.safe.verified.closed.leads t.index i s.machine.store (open_sections s.machine.runs) run Moved s.machine.store (moves run next) (surrounds s.machine r run sound.well k.there k.going t) t.planned here step in
+      (l.1 k.going).planned.describes.near
+
+  -- the words after a move
+  pub moved-refines : (registers frame : List ℕ) (place : ℕ) (next : State) → length registers ≡ 11 → ((q : ℕ) → q < 11 → WordIs bases (next.regs q) (slice_index registers q))
+      → length frame ≡ 512 → ((j : ℕ) → j < 512 → ByteIs bases (next.frame j) (slice_index frame j)) → place ≡ next.place → Refines (moved_view registers frame place v) (moves run next)
+  moved-refines registers frame place next eleven regs cells bytes at = move-refines slots es s.machine.programs v run refines registers frame place next eleven regs cells bytes at
+
+  -- what the run stands for when the maps have changed
+  pub half-refines : (store : Store) (u : WorldView) (y : RefinesSchedule u (half s store)) → u.runs ≡ w.runs → RunRefines y.slots store.elements s.machine.programs v run
+  half-refines store u y same =
+      subst (λ o. SlotRefines y.slots store.elements s.machine.programs o (Some (Some run))) (ap (λ runs. slice_get runs r) same ∙ k.shown)
+      (subst (SlotRefines y.slots store.elements s.machine.programs (slice_get u.runs r)) (run-inside (slice_get s.machine.runs r) run k.there) (y.runs r))

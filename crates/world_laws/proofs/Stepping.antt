@@ -1,0 +1,120 @@
+-- The step of a run on words is its step in the machine: for each instruction, and for the run in a slot.
+use Rattle.std.proofs.Common.{◌≡◌, ℕ, List, Option, Some, None, refl, sym, ap, subst, ◌∙◌, inl, inr}
+use Rattle.std.specs.Prelude.{slice_get}
+use Rattle.std.proofs.lemmas.Option.{none-some}
+use Rattle.bpf_model.specs.declared.event.Answer.{Answer}
+use Rattle.bpf_model.specs.declared.event.Event.{Event}
+use Rattle.bpf_model.specs.declared.event.Event.TheVariants as events
+use Rattle.bpf_model.specs.declared.event.EventRefusal.{EventRefusal}
+use Rattle.bpf_model.specs.declared.insn.CallKind.TheVariants as kinds
+use Rattle.bpf_model.specs.declared.insn.Insn.{Insn}
+use Rattle.bpf_model.specs.declared.insn.Insn.TheVariants.{Alu, Unary, LoadNumber, LoadMap, Jump, JumpLong, JumpIf, Call, Exit, Load, LoadSigned, Store}
+use Rattle.bpf_model.specs.Call.{helper_of, kernel_function_of}
+use Rattle.bpf_model.specs.Element.{Element}
+use Rattle.bpf_model.specs.Event.{if_ended}
+use Rattle.bpf_model.specs.Machine.{Loaded, Run, run_in, environment, open_sections}
+use Rattle.bpf_model.specs.MachineStep.{AccessesElement, Acts, Ends, InsnStep}
+use Rattle.bpf_model.specs.MapState as map_state
+use Rattle.bpf_model.specs.Refines.{SlotRefines}
+use Rattle.bpf_model.specs.Schedule.{Schedule}
+use Rattle.bpf_model.specs.Step.{Outcome, after, insn_at}
+use Rattle.bpf_model.specs.View.{RunView, WorldView}
+use Rattle.typed_runs.proofs.Reaching.{well_never_stuck}
+use Rattle.view_laws.specs.Matching.{Matches, Simulates}
+use Rattle.view_laws.specs.Reactions.{run_shown, step_refused, step_by, reaction}
+use Rattle.view_laws.proofs.Reacting.{reaction_simulates}
+use Rattle.world_laws.specs.Reacting.{insn_step, step_at, step_in, step_of, word_step, or_step, full_reaction}
+use Rattle.world_laws.specs.Typed.{IsSound, IsRunning}
+use Rattle.world_laws.proofs.Ready.{refines}
+use Rattle.world_laws.proofs.Own.{alu-simulates, unary-simulates, number-simulates, map-simulates, jump-simulates, long-simulates, branch-simulates, exit-simulates}
+use Rattle.world_laws.proofs.Loading.{load-simulates, load-signed-simulates, element-load-simulates, element-load-signed-simulates}
+use Rattle.world_laws.proofs.Storing.{store-simulates, element-store-simulates}
+use Rattle.world_laws.proofs.Calling.{kernel-simulates, helper-simulates}
+
+module _ (w : WorldView) (s : Schedule) (m : Matches w s) (sound : IsSound w s) (r : ℕ) (run : Run) (v : RunView) (k : IsRunning w s r run v) where
+  pub own_step_simulates : (i : Insn) (out : Outcome) (answer : Answer) (later : Run) → insn_at run.program.code run.state.place ≡ Some i → after i (environment run) run.state ≡ Some out → Ends out run answer later → Simulates s (events.Step r) (insn_step i run.program r v w)
+  own_step_simulates (Alu op size dst src) out answer later here e ends = alu-simulates w s m sound r run v k op size dst src out here e
+  own_step_simulates (Unary op dst) out answer later here e ends = unary-simulates w s m sound r run v k op dst out here e
+  own_step_simulates (LoadNumber dst n) out answer later here e ends = number-simulates w s m sound r run v k dst n out here e
+  own_step_simulates (LoadMap dst map) out answer later here e ends = map-simulates w s m sound r run v k dst map out here e
+  own_step_simulates (Jump offset) out answer later here e ends = jump-simulates w s m sound r run v k offset out here e
+  own_step_simulates (JumpLong imm) out answer later here e ends = long-simulates w s m sound r run v k imm out here e
+  own_step_simulates (JumpIf condition size dst src offset) out answer later here e ends = branch-simulates w s m sound r run v k condition size dst src offset out here e
+  own_step_simulates (Call kind imm) out answer later here e ends = absurd (none-some out e)
+  own_step_simulates Exit out answer later here e ends = exit-simulates w s m sound r run v k out answer later here e ends
+  own_step_simulates (Load width dst src offset) out answer later here e ends = load-simulates w s m sound r run v k width dst src offset out here e
+  own_step_simulates (LoadSigned width dst src offset) out answer later here e ends = load-signed-simulates w s m sound r run v k width dst src offset out here e
+  own_step_simulates (Store width dst offset src) out answer later here e ends = store-simulates w s m sound r run v k width dst offset src here out e
+
+  pub access_simulates : (i : Insn) (out : Outcome) (es : List Element) (answer : Answer) (later : Run) → insn_at run.program.code run.state.place ≡ Some i → AccessesElement i s.machine.store.elements run.state out es → Ends out run answer later → Simulates s (events.Step r) (insn_step i run.program r v w)
+  access_simulates (Load width dst src offset) out es answer later here h ends = element-load-simulates w s m sound r run v k width dst src offset out here (h.0, h.1, h.2, refl)
+  access_simulates (LoadSigned width dst src offset) out es answer later here h ends = element-load-signed-simulates w s m sound r run v k width dst src offset out here (h.0, h.1, h.2, refl)
+  access_simulates (Store width dst offset src) out es answer later here h ends = element-store-simulates w s m sound r run v k width dst offset src here es h.0
+  access_simulates i out es answer later here h ends = absurd h
+
+  acts-simulates : (i : Insn) (out : Outcome) (es : List Element) (answer : Answer) (later : Run) → insn_at run.program.code run.state.place ≡ Some i → Acts i (environment run) s.machine.store.elements run.state out es → Ends out run answer later → Simulates s (events.Step r) (insn_step i run.program r v w)
+  acts-simulates i out es answer later here (inl h) ends = own_step_simulates i out answer later here h.0 ends
+  acts-simulates i out es answer later here (inr h) ends = access_simulates i out es answer later here h ends
+
+  pub insn_simulates : (i : Insn) (answer : Answer) (new_store : map_state.Store) (later : Run) → insn_at run.program.code run.state.place ≡ Some i → InsnStep i s.machine.store (open_sections s.machine.runs) run answer new_store later → Simulates s (events.Step r) (insn_step i run.program r v w)
+  insn_simulates (Call kinds.Kernel imm) answer new_store later here h = kernel-simulates w s m sound r run v k imm later (kernel_function_of imm) here refl h.0
+  insn_simulates (Call kinds.Helper imm) answer new_store later here h = helper-simulates w s m sound r run v k imm h.0 new_store (helper_of imm) here refl h.1
+  insn_simulates i answer new_store later here h = acts-simulates i h.0 h.1 answer later here h.2 h.4
+
+  -- the run's step, whichever it is
+  pub step_simulates : Simulates s (events.Step r) (word_step w r)
+  step_simulates =
+      let n = well_never_stuck s.machine sound.well r run k.there k.going in
+      let h = refines w s m sound r run v k in
+      let loaded : slice_get w.programs v.program ≡ Some run.program = ap (λ (ps : List Loaded). slice_get ps v.program) m.refines.programs ∙ h.program in
+      let at : insn_at run.program.code v.place ≡ Some n.3.0 = ap (insn_at run.program.code) h.place ∙ n.3.1 in
+      subst (λ o. Simulates s (events.Step r) (step_of (run_shown o) r w)) (sym k.shown)
+      (subst (λ o. Simulates s (events.Step r) (step_in o r v w)) (sym loaded)
+      (subst (λ o. Simulates s (events.Step r) (step_at o run.program r v w)) (sym at) (insn_simulates n.3.0 n.0 n.1 n.2 n.3.1 n.3.2)))
+
+-- the view of a run that isn't refused
+going-shown : (o : Option RunView) → step_refused o ≡ None → (v : RunView) × (o ≡ Some v) × (v.exit ≡ None)
+going-shown None e = absurd (none-some _ (sym e))
+going-shown (Some v) e = (v, refl, going v.exit e)
+  where
+    going : (o : Option ℕ) → if_ended o ≡ None → o ≡ None
+    going None e = refl
+    going (Some n) e = absurd (none-some _ (sym e))
+
+slot-shown : (o : Option (Option RunView)) (v : RunView) → run_shown o ≡ Some v → o ≡ Some (Some v)
+slot-shown None v e = absurd (none-some v e)
+slot-shown (Some o) v e = ap Some e
+
+run-behind : (slots : List ℕ) (es : List Element) (programs : List Loaded) (v : RunView) (o : Option (Option Run)) → SlotRefines slots es programs (Some (Some v)) o → v.exit ≡ None → (run : Run) × (run_in o ≡ Some run) × (run.exit ≡ None)
+run-behind slots es programs v None h e = absurd h
+run-behind slots es programs v (Some None) h e = absurd h
+run-behind slots es programs v (Some (Some run)) h e = (run, refl, sym h.exit ∙ e)
+
+not-refused : (o : Option EventRefusal) (w : WorldView) → step_by o w ≡ None → o ≡ None
+not-refused None w e = refl
+not-refused (Some refusal) w e = absurd (none-some _ (sym e))
+
+module _ (w : WorldView) (s : Schedule) (m : Matches w s) (sound : IsSound w s) where
+  running-step : (r : ℕ) → step_refused (run_shown (slice_get w.runs r)) ≡ None → Simulates s (events.Step r) (word_step w r)
+  running-step r e =
+      let x = going-shown (run_shown (slice_get w.runs r)) e in
+      let at = slot-shown (slice_get w.runs r) x.0 x.1 in
+      let y = run-behind m.refines.slots s.machine.store.elements s.machine.programs x.0 (slice_get s.machine.runs r) (subst (λ o. SlotRefines m.refines.slots s.machine.store.elements s.machine.programs o (slice_get s.machine.runs r)) at (m.refines.runs r)) x.2 in
+      step_simulates w s m sound r y.0 x.0 (record { there = y.1; shown = at; going = y.2 })
+
+  left : (event : Event) → reaction w event ≡ None → Simulates s event (or_step None w event)
+  left (events.Step r) e = running-step r (not-refused (step_refused (run_shown (slice_get w.runs r))) w e)
+  left (events.Start prog ctx) e = absurd (none-some _ (sym e))
+  left (events.Update map key value flags) e = absurd (none-some _ (sym e))
+  left (events.Delete map key) e = absurd (none-some _ (sym e))
+  left (events.Read map key) e = absurd (none-some _ (sym e))
+  left events.Advance e = absurd (none-some _ (sym e))
+  left events.Reap e = absurd (none-some _ (sym e))
+  left (events.Drop r) e = absurd (none-some _ (sym e))
+
+  either : (event : Event) (o : Option (Answer × WorldView)) → reaction w event ≡ o → Simulates s event (or_step o w event)
+  either event (Some x) e = reaction_simulates w s m event x e
+  either event None e = left event e
+
+  pub full_simulates : (event : Event) → Simulates s event (full_reaction w event)
+  full_simulates event = either event (reaction w event) refl

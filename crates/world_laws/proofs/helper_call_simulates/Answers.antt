@@ -1,0 +1,7 @@
+use Rattle.std.proofs.Common.{refl}
+use Rattle.world_laws.proofs.Calling.{helper-simulates}
+use Rattle.bpf_model.specs.Call.{helper_of}
+use Rattle.world_laws.proofs.helper_call_simulates.Goals as goal
+
+pub returns : goal.returns
+returns c w s m sound r run v k imm ret new here h = helper-simulates w s m sound r run v k imm ret new (helper_of imm) here refl h

@@ -1,0 +1,8 @@
+pub mod Locating
+pub mod Moving
+pub mod Calling
+pub mod Reacting
+pub mod Typed
+pub mod Example
+pub mod Reaching
+pub mod Local

@@ -1,0 +1,4 @@
+pub mod Landing
+pub mod Laws
+pub mod Places
+pub mod Reacting

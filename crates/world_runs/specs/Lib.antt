@@ -1,0 +1,5 @@
+pub mod Moves
+pub mod Replies
+pub mod Requests
+pub mod RunWords
+pub mod Steps

@@ -1,0 +1,39 @@
+//! What a step comes to.
+use bpf_model::{Helper, Width};
+
+/// What an instruction asks of the world around its run: words stand for references.
+#[derive(Clone, Copy, Debug, PartialEq, Eq)]
+pub enum Access {
+    /// The number of so many bytes at an offset in bytes from the word of an address.
+    Load {
+        address: u64,
+        offset: i16,
+        width: Width,
+    },
+    /// The low bytes of a number, to be stored there.
+    Store {
+        address: u64,
+        offset: i16,
+        width: Width,
+        number: u64,
+    },
+    /// A helper; its arguments stand in the run's registers and frame.
+    Call {
+        helper: Helper,
+    },
+    /// A read-side critical section is entered.
+    Enter,
+    /// A read-side critical section is left.
+    Leave,
+}
+
+/// What a step came to.
+#[derive(Clone, Copy, Debug, PartialEq, Eq)]
+pub enum Local {
+    /// The run stands before another instruction.
+    Moved,
+    /// The run is as before, and waits for the world's reply.
+    Shared(Access),
+    /// The run has exited with this value.
+    Exit(u64),
+}

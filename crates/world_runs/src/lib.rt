@@ -1,0 +1,25 @@
+//! Runs of verified programs on untyped 64-bit words, in a world of maps.
+//!
+//! A `Run` keeps words and bytes, and no kinds. Each step takes constant time and no memory, and cannot
+//! fail. What a step does to the run is an equation on the world's view of it. Where an instruction needs
+//! more than the run itself, the step answers with a request, and `resume` goes on with the reply.
+#![tactic(auto)]
+
+mod access;
+mod argument;
+mod bytes;
+mod compute;
+mod control;
+mod law;
+mod memory;
+mod registers;
+mod resume;
+mod run;
+mod step;
+mod transfer;
+
+pub use access::{Access, Local};
+pub use law::{
+    own_step_is_the_worlds, reacts_by_insn, running_can_resume, running_can_step, served_as_asked,
+};
+pub use run::Run;
