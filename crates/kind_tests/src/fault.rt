@@ -25,7 +25,7 @@ pub enum Fault {
     PointerLeak,
     #[error("a register or a byte of the frame is read that holds different kinds on different paths")]
     MixedRegions,
-    #[error("what a lookup gave is used before a test for null")]
+    #[error("what a lookup gave is used before it is compared with null")]
     MaybeNull,
     #[error("a reference to an element is used outside its section, or a lookup is made outside a section")]
     OutsideSection,
