@@ -1,13 +1,16 @@
-//! Little-endian numbers in memory (RFC 9669, section 5.1; that memory is little-endian is own).
+//! Little-endian numbers in memory (RFC 9669, section 5.1; that memory is little-endian is own): the
+//! reads and writes of the frame, of a context and of an element's value.
+#![tactic(auto)]
+
 ghost use Rattle.std.specs.Prelude.{◌≡◌, ◌+◌, ◌<◌, ◌≤◌, length, slice_get, Some};
 ghost use Rattle.bpf_model.specs.Access.{byte_count, number_at};
 ghost use Rattle.bpf_model.specs.MachineStep.{with_bytes};
 
 use bpf_model::Width;
 
-/// The number of so many bytes from an offset on.
+/// The number of so many bytes from an offset on, all of which are there.
 #[inline]
-pub(crate) fn number_of(bytes: &[u8], at: usize, width: Width) -> u64
+pub fn number_of(bytes: &[u8], at: usize, width: Width) -> u64
     requires { at + byte_count width ≤ length bytes.now }
     ensures { number_at (slice_get bytes.now) at (byte_count width) ≡ Some result }
 {
@@ -68,9 +71,9 @@ fn write_eight(bytes: &mut [u8], at: usize, number: u64)
     write_four(bytes, at, number);
 }
 
-/// Writes the low bytes of a number from an offset on.
+/// Writes the low bytes of a number from an offset on, where there are as many.
 #[inline]
-pub(crate) fn write_number(bytes: &mut [u8], at: usize, width: Width, number: u64)
+pub fn write_number(bytes: &mut [u8], at: usize, width: Width, number: u64)
     requires { at + byte_count width ≤ length bytes.old }
     ensures { bytes.new ≡ with_bytes at (byte_count width) number bytes.old }
 {
