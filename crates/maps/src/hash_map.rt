@@ -105,6 +105,13 @@ impl<I: Index, D: Deferred> HashMap<I, D> {
         self.shape
     }
 
+    /// A law: its shape is one that a map may have.
+    pub fn has_shape(&self)
+        ensures { IsShape self.now.shape }
+    {
+        let _shape = &self.shape;
+    }
+
     /// The slot of a key. A key of another length than the map's has none.
     pub fn lookup(&self, key: &[u8]) -> Option<usize>
         ensures slot { result ≡ map.get self.now.index key.now }

@@ -1,8 +1,8 @@
 //! The registry of a runtime's maps.
-ghost use Rattle.std.specs.Prelude.{◌≡◌, ◌⊎◌, ◌≤◌, ◌<◌, ◌∷◌, ◌++◌, [], length, map, slice_get, Some, None, IfOk, IfErr, IfSome, IfNone, OnOk, OnErr, string_bytes, option_map, option_copied, Ok, Err, bytes_eq, position, false, ◌+◌};
+ghost use Rattle.std.specs.Prelude.{◌≡◌, ℕ, ◌⊎◌, ◌≤◌, ◌<◌, ◌∷◌, ◌++◌, [], length, map, slice_get, Some, None, IfOk, IfErr, IfSome, IfNone, OnOk, OnErr, string_bytes, option_map, option_copied, Ok, Err, bytes_eq, position, false, ◌+◌};
 ghost use Rattle.std.specs.List.{list_any};
-ghost use Rattle.bpf_model.specs.MapState.{IsShape};
-ghost use Rattle.bpf_model.specs.View.{new_map_view};
+ghost use Rattle.bpf_model.specs.MapState.{IsShape, AreShapes};
+ghost use Rattle.bpf_model.specs.View.{MapView, new_map_view};
 ghost use Rattle.std.specs.Borrow.{sem};
 ghost use Rattle.bpf_model.specs.declared.limits.TheConstants.{MAX_MAPS};
 ghost use Rattle.maps.specs.Registry.{RegistryView, creation_fault, has_name};
@@ -81,6 +81,15 @@ fn reap_first(maps: &mut [Map]) -> Option<ReapedElement>
         }
     }
     None
+}
+
+/// A law: the shape of each map is one that a map may have.
+fn each_has_shape(maps: &[Map])
+    ensures { (k : ℕ) (v : MapView) → slice_get maps.now k ≡ Some v → IsShape v.shape }
+{
+    for map in maps {
+        map.has_shape();
+    }
 }
 
 impl Registry {
@@ -181,6 +190,13 @@ impl Registry {
             Some(map) => Some(map.shape()),
             None => None,
         }
+    }
+
+    /// A law: the shapes of its maps are shapes that maps may have.
+    pub fn have_shapes(&self)
+        ensures { AreShapes (map (λ v. v.shape) self.now.maps) }
+    {
+        each_has_shape(&self.maps);
     }
 
     /// The map of this number, if there is one.
