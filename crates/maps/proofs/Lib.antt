@@ -6,3 +6,4 @@ pub mod Replacing
 pub mod Updating
 pub mod Leaving
 pub mod Names
+pub mod Picking

@@ -3,3 +3,4 @@ pub mod Codes
 pub mod Shown
 pub mod Lending
 pub mod Registry
+pub mod Picking

@@ -1,7 +1,7 @@
 //! A map of a fixed number of slots.
 ghost use Rattle.std.specs.Prelude.{false, ◌≡◌, ◌<◌, ◌≤◌, ◌+◌, [], ℕ, length, slice_get, None, Some, IfSome, IfNone, IfOk, OnErr, option_copied};
 ghost use Rattle.std.specs.FinMap as map;
-ghost use Rattle.bpf_model.specs.declared.limits.TheConstants.{KEY_BYTES, VALUE_BYTES, MAX_ENTRIES};
+ghost use Rattle.bpf_model.specs.declared.limits.TheConstants.{KEY_BYTES, VALUE_BYTES, MAX_ENTRIES, MAX_SPARE};
 ghost use Rattle.bpf_model.specs.Access.{byte_count, number_at};
 ghost use Rattle.bpf_model.specs.Helper.{update_error};
 ghost use Rattle.bpf_model.specs.MachineStep.{with_bytes};
@@ -9,7 +9,7 @@ ghost use Rattle.bpf_model.specs.MapState.{MapState, IsShape};
 ghost use Rattle.bpf_model.specs.View.{new_map_view};
 ghost use Rattle.element_arena.specs.State.{value_at};
 ghost use Rattle.hash_index.specs.Order.{NoneAbove};
-ghost use Rattle.view_laws.specs.Views.{updated, deleted, written, turned_view};
+ghost use Rattle.view_laws.specs.Views.{updated, deleted, written, turned_view, value_read};
 ghost use Rattle.maps.specs.Shown.{IsOccupied, IsReaped, IsNext, or_no_memory, linked_with, put_in};
 
 use crate::parts::Parts;
@@ -114,9 +114,27 @@ impl<I: Index, D: Deferred> HashMap<I, D> {
 
     /// The slot of a key. A key of another length than the map's has none.
     pub fn lookup(&self, key: &[u8]) -> Option<usize>
-        ensures { result ≡ map.get self.now.index key.now }
+        ensures slot { result ≡ map.get self.now.index key.now }
+        ensures inside { IfSome result (λ i. i < MAX_ENTRIES + MAX_SPARE) }
     {
         self.parts.find(key)
+    }
+
+    /// The value of a key. A key of another length than the map's has none.
+    pub fn read(&self, key: &[u8]) -> Option<ValueBytes>
+        ensures { result ≡ value_read self.now key.now }
+    {
+        match self.parts.find(key) {
+            None => None,
+            Some(slot) => Some(value_of(self.parts.value(slot))),
+        }
+    }
+
+    /// How many elements are linked.
+    pub fn linked(&self) -> usize
+        ensures { result ≡ map.len self.now.index }
+    {
+        self.linked
     }
 
     /// Links a new element under a key, in the slot that has been free longest. The element that the key

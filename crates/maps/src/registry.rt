@@ -7,13 +7,16 @@ ghost use Rattle.std.specs.Borrow.{sem};
 ghost use Rattle.bpf_model.specs.declared.limits.TheConstants.{MAX_MAPS};
 ghost use Rattle.maps.specs.Registry.{RegistryView, creation_fault, has_name};
 ghost use Rattle.maps.specs.Lending.{LendsMap};
+ghost use Rattle.maps.specs.Picking.{IsPicked};
+ghost use Rattle.view_laws.specs.Views.{turned_view};
+ghost use Rattle.view_laws.specs.Reactions.{first_pick};
 ghost use Rattle.maps.specs.declared.fault.MapFault.TheVariants.{Memory};
 
 use crate::Map;
 use crate::fault::MapFault;
 use crate::name::is_name;
 use crate::shape::is_shape;
-use bpf_model::{MAX_MAPS, MapId, MapShape};
+use bpf_model::{MAX_MAPS, MapId, MapShape, ReapedElement};
 use indexmap::IndexSet;
 use std::alloc::Global;
 use std::marker::Model;
@@ -62,6 +65,31 @@ fn each_has_shape(maps: &[Map])
     for map in maps {
         map.has_shape();
     }
+}
+
+/// A grace period ends in each map.
+fn advance_each(maps: &mut [Map])
+    ensures { maps.new ≡ map turned_view maps.old }
+{
+    for chosen in maps.iter_mut() {
+        chosen.advance();
+    }
+}
+
+/// Reclaims the first ready element of the first map that has one.
+fn reap_first(maps: &mut [Map]) -> Option<ReapedElement>
+    ensures none { IfNone result (first_pick 0 maps.old ≡ None) }
+    ensures unchanged { IfNone result (maps.new ≡ maps.old) }
+    ensures some { IfSome result (λ r. IsPicked maps.old maps.new r) }
+{
+    for number in 0..maps.len() {
+        let chosen = &mut maps[number];
+        if let Some((key, given)) = chosen.reap() {
+            let map = MapId::new(number);
+            return Some(ReapedElement { map, key, given });
+        }
+    }
+    None
 }
 
 impl Registry {
@@ -173,7 +201,8 @@ impl Registry {
 
     /// The map of this number, if there is one.
     pub fn map(&self, id: MapId) -> Option<&Map>
-        ensures { option_copied result ≡ slice_get self.now.maps id }
+        ensures value { option_copied result ≡ slice_get self.now.maps id }
+        ensures limit { IfSome result (λ _. id < MAX_MAPS) }
     {
         self.maps.get(id.index())
     }
@@ -193,5 +222,25 @@ impl Registry {
         ensures* writes_back { sem 𝓛 (LendsMap self.entry id result) }
     {
         &mut self.maps[id.index()]
+    }
+
+    /// A grace period ends in each map, and the next begins: the elements that waited for its end may be
+    /// reclaimed, and those unlinked meanwhile wait.
+    pub fn advance(&mut self)
+        ensures names { self.new.names ≡ self.old.names }
+        ensures maps { self.new.maps ≡ map turned_view self.old.maps }
+    {
+        advance_each(self.maps.as_mut_slice());
+    }
+
+    /// Reclaims the element that has been ready longest in the first map that has one. `None` where no
+    /// element is ready, and then nothing has changed.
+    pub fn reap(&mut self) -> Option<ReapedElement>
+        ensures none { IfNone result (first_pick 0 self.old.maps ≡ None) }
+        ensures unchanged { IfNone result (self.new ≡ self.old) }
+        ensures some { IfSome result (λ r. IsPicked self.old.maps self.new.maps r) }
+        ensures names { self.new.names ≡ self.old.names }
+    {
+        reap_first(self.maps.as_mut_slice())
     }
 }
