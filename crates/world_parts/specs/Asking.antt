@@ -24,7 +24,7 @@ stat_of w = record {
   given = w.given;
   worn = sum_by worn_of w.maps;
   runs = count_by is_some w.runs;
-  open = count_by (λ b. b) w.opened;
+  «open» = count_by (λ b. b) w.opened;
 }
 
 -- an element of the map, if there is one, with the least key above the bound: key and value

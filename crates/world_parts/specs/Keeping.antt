@@ -9,12 +9,12 @@ use Rattle.world_parts.specs.declared.loaded.Loaded.{Loaded}
 use Rattle.world_parts.specs.Programs.{program_of}
 
 -- what the world's view shows of a run slot
-abbrev pub run_shown : Option RunWords → Option RunView
-run_shown o = option_map (λ r. r.view) o
+abbrev pub view_of : Option RunWords → Option RunView
+view_of o = option_map (λ r. r.view) o
 
 -- whether the run of a slot is inside a section
 abbrev pub is_inside : Option RunWords → Bool
-is_inside o = is_open_view (run_shown o)
+is_inside o = is_open_view (view_of o)
 
 -- The run's program is there, and the run is at its code.
 pub record IsOfProgram (programs : List Loaded) (run : RunWords) : Type 0 where
@@ -31,9 +31,13 @@ pub record IsKept (runs : List (Option RunWords)) (grace : GraceState) (programs
 abbrev pub world_of : List MapView → List (Option RunWords) → GraceState → List Loaded → ℕ → WorldView
 world_of maps runs grace programs given = record {
   maps = maps;
-  runs = map run_shown runs;
+  runs = map view_of runs;
   opened = grace.opened;
   awaited = grace.awaited;
   programs = map program_of programs;
   given = given;
 }
+
+-- no run is in the slot
+abbrev pub HasNoRun : List (Option RunWords) → ℕ → Type 0
+HasNoRun runs r = (run : RunWords) → slice_get runs r ≡ Some (Some run) → ⊥

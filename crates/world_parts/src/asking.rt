@@ -1,12 +1,38 @@
 //! What is asked of a world outside of events.
-ghost use Rattle.std.specs.Prelude.{◌≡◌, ⊥, ℕ, slice_get, option_map, option_copied, IfSome, IfNone};
+ghost use Rattle.std.specs.Prelude.{◌≡◌, ℕ, Decides, slice_get, option_map, option_copied, IfSome, IfNone};
 ghost use Rattle.bpf_model.specs.View.{HasExited};
 ghost use Rattle.world_parts.specs.Asking.{stat_of, IsFound, HasNone};
 
+use crate::loaded::Loaded;
 use crate::parts::Parts;
+use crate::places::{program_at, run_at};
 use crate::stat::Stat;
-use bpf_model::{CtxBytes, KeyBytes, MapId, RunId, ValueBytes};
+use bpf_model::{CtxBytes, Insn, KeyBytes, MapId, ProgId, RunId, ValueBytes};
 use map_verifier::Verified;
+use world_runs::Run;
+
+/// Whether two programs have the same instructions.
+fn is_same_code(a: &[Insn], b: &[Insn]) -> bool
+    ensures { Decides result (a.now ≡ b.now) }
+{
+    a.len() == b.len() && a == b
+}
+
+/// Whether two contexts have the same bytes.
+fn is_same_context(a: &CtxBytes, b: &CtxBytes) -> bool
+    ensures { Decides result (a.now.items ≡ b.now.items) }
+{
+    a.as_slice() == b.as_slice()
+}
+
+/// Whether the run is of this program's instructions, on this context.
+fn is_asked(found: &Run, loaded: &Loaded, program: &Verified, ctx: &CtxBytes) -> bool
+    ensures { Decides result ((loaded.now.verified.program ≡ program.now.program)
+        × (found.now.view.context ≡ ctx.now.items)) }
+{
+    let code = loaded.verified.program().instructions();
+    is_same_code(code, program.program().instructions()) && is_same_context(found.context(), ctx)
+}
 
 impl Parts {
     /// The exit value of the run in a slot, where it has ended and was started with this program's
@@ -17,7 +43,13 @@ impl Parts {
         ensures none { IfNone result ((n : ℕ) →
             HasExited self.now run program.now.program ctx.now.items n → ⊥) }
     {
-        unreachable!()
+        let found = run_at(&self.runs, run)?;
+        let loaded = program_at(&self.programs, ProgId::new(found.program()))?;
+        if is_asked(found, loaded, program, ctx) {
+            found.exit()
+        } else {
+            None
+        }
     }
 
     /// The counts of the world.
@@ -35,9 +67,9 @@ impl Parts {
         bound: Option<&KeyBytes>,
     ) -> Option<(KeyBytes, ValueBytes)>
         ensures some { IfSome result (λ r. IsFound (slice_get self.now.maps map)
-            (option_map (λ k. k.items) (option_copied bound)) r.0.items r.1.items) }
+            (option_map (λ k. k.items) (option_copied bound.entry)) r.0.items r.1.items) }
         ensures none { IfNone result (HasNone (slice_get self.now.maps map)
-            (option_map (λ k. k.items) (option_copied bound))) }
+            (option_map (λ k. k.items) (option_copied bound.entry))) }
     {
         let chosen = self.registry.map(map)?;
         match bound {

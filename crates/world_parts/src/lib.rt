@@ -8,6 +8,7 @@ mod asking;
 mod control;
 mod loaded;
 mod parts;
+mod places;
 mod reclaim;
 mod starting;
 mod stat;

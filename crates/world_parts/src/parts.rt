@@ -4,6 +4,7 @@ ghost use Rattle.bpf_model.specs.declared.limits.TheConstants.{MAX_RUNS};
 ghost use Rattle.world_parts.specs.Programs.{program_of};
 
 use crate::loaded::Loaded;
+use crate::places::program_at;
 use bpf_model::{MAX_RUNS, ProgId};
 use grace_period::Grace;
 use maps::Registry;
@@ -86,6 +87,6 @@ impl Parts {
     pub fn program(&self, prog: ProgId) -> Option<&Loaded>
         ensures { option_map program_of (option_copied result) ≡ slice_get self.now.programs prog }
     {
-        self.programs.get(prog.index())
+        program_at(&self.programs, prog)
     }
 }

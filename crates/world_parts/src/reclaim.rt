@@ -3,7 +3,7 @@ ghost use Rattle.std.specs.Prelude.{◌≡◌, ◌+◌, ◌<◌, ◌^◌};
 ghost use Rattle.view_laws.specs.Reactions.{advance_reaction, reap_reaction};
 
 use crate::parts::Parts;
-use bpf_model::{Answer, ReapedElement};
+use bpf_model::Answer;
 
 impl Parts {
     /// Ends the grace period in each map where no run is awaited; the next one awaits the runs that are
@@ -26,9 +26,9 @@ impl Parts {
     {
         match self.registry.reap() {
             None => Answer::Reaped(None),
-            Some((map, key, given)) => {
+            Some(element) => {
                 self.given += 1;
-                Answer::Reaped(Some(ReapedElement { map, key, given }))
+                Answer::Reaped(Some(element))
             }
         }
     }
