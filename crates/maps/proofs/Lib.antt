@@ -7,3 +7,4 @@ pub mod Updating
 pub mod Leaving
 pub mod Names
 pub mod Picking
+pub mod Counting

@@ -4,3 +4,4 @@ pub mod Shown
 pub mod Lending
 pub mod Registry
 pub mod Picking
+pub mod Counting

@@ -8,11 +8,13 @@ ghost use Rattle.bpf_model.specs.declared.limits.TheConstants.{MAX_MAPS};
 ghost use Rattle.maps.specs.Registry.{RegistryView, creation_fault, has_name};
 ghost use Rattle.maps.specs.Lending.{LendsMap};
 ghost use Rattle.maps.specs.Picking.{IsPicked};
+ghost use Rattle.maps.specs.Counting.{counts_of_all};
 ghost use Rattle.view_laws.specs.Views.{turned_view};
 ghost use Rattle.view_laws.specs.Reactions.{first_pick};
 ghost use Rattle.maps.specs.declared.fault.MapFault.TheVariants.{Memory};
 
 use crate::Map;
+use crate::counts::Counts;
 use crate::fault::MapFault;
 use crate::name::is_name;
 use crate::shape::is_shape;
@@ -90,6 +92,25 @@ fn reap_first(maps: &mut [Map]) -> Option<ReapedElement>
         }
     }
     None
+}
+
+/// The sums of the counts of maps.
+fn sum_counts(maps: &[Map]) -> Counts
+    requires { length maps.now ≤ MAX_MAPS }
+    ensures { result ≡ counts_of_all maps.now }
+{
+    let mut sum = Counts {
+        linked: 0,
+        unlinked: 0,
+        worn: 0,
+    };
+    for chosen in maps {
+        let counts = chosen.counts();
+        sum.linked += counts.linked;
+        sum.unlinked += counts.unlinked;
+        sum.worn += counts.worn;
+    }
+    sum
 }
 
 impl Registry {
@@ -242,5 +263,12 @@ impl Registry {
         ensures names { self.new.names ≡ self.old.names }
     {
         reap_first(self.maps.as_mut_slice())
+    }
+
+    /// How many elements are linked and unlinked, and how many slots are worn out, over all maps.
+    pub fn counts(&self) -> Counts
+        ensures { result ≡ counts_of_all self.now.maps }
+    {
+        sum_counts(self.maps.as_slice())
     }
 }

@@ -1,11 +1,10 @@
 -- What `==` of two instructions says.
-use Rattle.std.proofs.Common.{◌≡◌, ℕ, ℤ, Bool, true, false, sym, ap, refl}
+use Rattle.std.proofs.Common.{◌≡◌, Bool, true, false, ap, refl}
 use Rattle.std.specs.Prelude.{Decides, ◌&&◌}
 use Rattle.std.proofs.lemmas.Bool.{false≢true}
 use Rattle.std.proofs.lemmas.Bool.Decides.{Decides-eqb, Decides-int_eq}
 use denote.Enum.Bare.{Bare, sameb, same_true, true_same}
 use denote.Enum.Declared.{Declared}
-use Rattle.bpf_model.specs.declared.insn.AluOp.{AluOp}
 use Rattle.bpf_model.specs.declared.insn.Insn.{Insn}
 use Rattle.bpf_model.specs.declared.insn.Insn.TheVariants as insns
 use Rattle.bpf_model.specs.declared.insn.Operand.{Operand}

@@ -1,5 +1,6 @@
 //! What is asked of a world outside of events.
-ghost use Rattle.std.specs.Prelude.{◌≡◌, ℕ, Decides, slice_get, option_map, option_copied, IfSome, IfNone};
+ghost use Rattle.std.specs.Prelude.{◌≡◌, ℕ, Decides, slice_get, option_map, option_copied, IfSome, IfNone, count_by, is_some};
+ghost use Rattle.world_parts.specs.Keeping.{is_inside as has_open_lock};
 ghost use Rattle.bpf_model.specs.View.{HasExited};
 ghost use Rattle.world_parts.specs.Asking.{stat_of, IsFound, HasNone};
 
@@ -34,6 +35,42 @@ fn is_asked(found: &Run, loaded: &Loaded, program: &Verified, ctx: &CtxBytes) ->
     is_same_code(code, program.program().instructions()) && is_same_context(found.context(), ctx)
 }
 
+/// How many slots have a run.
+fn occupied(runs: &[Option<Run>]) -> usize
+    ensures { result ≡ count_by is_some runs.now }
+{
+    let mut count = 0;
+    for run in runs {
+        if run.is_some() {
+            count += 1;
+        }
+    }
+    count
+}
+
+/// Whether the run of a slot is inside a section.
+fn is_inside(run: &Option<Run>) -> bool
+    ensures { result ≡ has_open_lock run.now }
+{
+    match run {
+        None => false,
+        Some(run) => run.depth() > 0,
+    }
+}
+
+/// How many runs are inside a section.
+fn inside(runs: &[Option<Run>]) -> usize
+    ensures { result ≡ count_by has_open_lock runs.now }
+{
+    let mut count = 0;
+    for run in runs {
+        if is_inside(run) {
+            count += 1;
+        }
+    }
+    count
+}
+
 impl Parts {
     /// The exit value of the run in a slot, where it has ended and was started with this program's
     /// instructions on this context.
@@ -56,16 +93,20 @@ impl Parts {
     pub fn stat(&self) -> Stat
         ensures { result ≡ stat_of self.now }
     {
-        unreachable!()
+        let counts = self.registry.counts();
+        Stat {
+            linked: counts.linked,
+            unlinked: counts.unlinked,
+            given: self.given,
+            worn: counts.worn,
+            runs: occupied(&self.runs),
+            open: inside(&self.runs),
+        }
     }
 
     /// The element of a map with the least key above a bound, in byte order; every key is above no bound.
     /// `None` where there is no such element, or no map of the number.
-    pub fn next_above(
-        &self,
-        map: MapId,
-        bound: Option<&KeyBytes>,
-    ) -> Option<(KeyBytes, ValueBytes)>
+    pub fn next_above(&self, map: MapId, bound: Option<&KeyBytes>) -> Option<(KeyBytes, ValueBytes)>
         ensures some { IfSome result (λ r. IsFound (slice_get self.now.maps map)
             (option_map (λ k. k.items) (option_copied bound.entry)) r.0.items r.1.items) }
         ensures none { IfNone result (HasNone (slice_get self.now.maps map)

@@ -8,13 +8,7 @@ use bpf_model::{Answer, EventRefusal, KeyBytes, MapId, ValueBytes};
 impl Parts {
     /// Stores a value under a key, as the map's update does. Refused where no map has the number, or where
     /// the key or the value has another length than the map's.
-    pub fn update(
-        &mut self,
-        map: MapId,
-        key: &KeyBytes,
-        value: &ValueBytes,
-        flags: u64,
-    ) -> Answer
+    pub fn update(&mut self, map: MapId, key: &KeyBytes, value: &ValueBytes, flags: u64) -> Answer
         ensures answer { result ≡ (update_reaction self.old map key.now.items value.now.items flags).0 }
         ensures new { self.new ≡ (update_reaction self.old map key.now.items value.now.items flags).1 }
     {

@@ -1,7 +1,7 @@
 //! Loaded programs.
 
 use arrayvec::ArrayVec;
-use bpf_model::{MAX_MAPS, MapId};
+use bpf_model::MAX_MAPS;
 use map_verifier::Verified;
 
 /// A verified program with the numbers of its maps: those that its list names, in the order of the shapes
@@ -9,5 +9,5 @@ use map_verifier::Verified;
 #[derive(Drop)]
 pub struct Loaded {
     pub verified: Verified,
-    pub maps: ArrayVec<MapId, MAX_MAPS>,
+    pub maps: ArrayVec<usize, MAX_MAPS>,
 }

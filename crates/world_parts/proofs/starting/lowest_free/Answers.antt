@@ -1,4 +1,4 @@
-use Rattle.std.proofs.Common.{◌∙◌, ◌≡◌, ◌≤◌, length, sym, ap, arith, subst}
+use Rattle.std.proofs.Common.{◌∙◌, ◌≡◌, length, sym, ap, arith, subst}
 use Rattle.std.specs.Prelude.{is_some}
 use Rattle.world_parts.proofs.Slots.{AreTaken, free-here, free-none, free-at, taken-more}
 use Rattle.world_parts.proofs.starting.lowest_free.Goals as goal

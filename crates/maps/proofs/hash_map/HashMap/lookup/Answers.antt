@@ -19,4 +19,4 @@ found-inside shape p n key (Some i) m h e =
     omega arith
 
 pub returns-clause-inside : goal.returns-clause-inside
-returns-clause-inside g c = found-inside c.self.inside.shape c.self.inside.parts c.self.inside.linked c.args.key.now c.find.result c.self.invariant c.find.ensures.parted c.find.ensures.found
+returns-clause-inside g c = found-inside c.self.inside.shape c.self.inside.parts c.self.inside.counts.linked c.args.key.now c.find.result c.self.invariant.kept c.find.ensures.parted c.find.ensures.found

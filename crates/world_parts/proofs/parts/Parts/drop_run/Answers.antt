@@ -1,6 +1,4 @@
-use Rattle.std.proofs.Common.{◌≡◌, ◌∙◌, None, sym, ap}
-use Rattle.std.specs.Prelude.{slice_get}
-use Rattle.bpf_model.specs.View.{WorldView}
+use Rattle.std.proofs.Common.{◌∙◌, None, ap}
 use Rattle.view_laws.specs.Reactions.{drop_by, with_run}
 use Rattle.world_parts.proofs.Runs.{dropped-kept, dropped-view}
 use Rattle.world_parts.proofs.parts.Parts.drop_run.Goals as goal

@@ -1,8 +1,7 @@
-use Rattle.std.proofs.Common.{◌≡◌, ◌∙◌, ℕ, List, Option, Some, None, sym, ap, subst}
+use Rattle.std.proofs.Common.{◌≡◌, ◌∙◌, ℕ, List, Some, None, sym, ap, subst}
 use Rattle.std.specs.Prelude.{slice_get, IfNone}
 use Rattle.std.proofs.lemmas.Bool.{false≢true}
 use Rattle.bpf_model.specs.View.{HasExited}
-use Rattle.world_runs.specs.RunWords.{RunWords}
 use Rattle.world_parts.specs.declared.loaded.Loaded.{Loaded}
 use Rattle.world_parts.specs.Keeping.{HasNoRun}
 use Rattle.world_parts.proofs.Slots.{Runs}

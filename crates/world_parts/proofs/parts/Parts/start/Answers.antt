@@ -1,9 +1,7 @@
 use Rattle.std.proofs.Common.{◌≡◌, ◌∙◌, List, Some, None, sym, ap, length}
-use Rattle.std.specs.Prelude.{slice_get, option_map, map}
+use Rattle.std.specs.Prelude.{slice_get, map}
 use Rattle.bpf_model.specs.declared.event.Answer.TheVariants.{Started}
-use Rattle.bpf_model.specs.Event.{if_full}
-use Rattle.bpf_model.specs.View.{WorldView}
-use Rattle.view_laws.specs.Reactions.{start_by, start_reaction, with_run, fresh_view, free_slot}
+use Rattle.view_laws.specs.Reactions.{with_run, fresh_view, free_slot}
 use Rattle.world_parts.specs.declared.loaded.Loaded.{Loaded}
 use Rattle.world_parts.specs.Keeping.{view_of}
 use Rattle.world_parts.proofs.Runs.{started-kept, started-view, started}
