@@ -64,18 +64,19 @@ fn delete(run: &Run, map: &mut Map) -> u64
     word_of(map.delete(key))
 }
 
-/// Calls a helper, with the arguments in the run's registers and frame. `bound` has the numbers of the
-/// program's maps, in the order of its list.
+/// Calls a helper, with the arguments in the run's registers and frame. `bound` has the numbers
+/// of the program's maps, in the order of its list.
 ///
-/// The answer is the word for r0: of a lookup that of the slot under the key, or 0; of an update and a
-/// delete 0, or the error as a negative number. A key is compared where it lies in the frame.
-pub(crate) fn call(helper: Helper, run: &Run, maps: &mut Registry, bound: &[MapId]) -> u64
+/// The answer is the word for r0: of a lookup that of the slot under the key, or 0; of an
+/// update and a delete 0, or the error as a negative number. A key is compared where it lies in
+/// the frame.
+pub(crate) fn call(helper: Helper, run: &Run, maps: &mut Registry, bound: &[usize]) -> u64
     requires { IsCall helper bound.now maps.old.maps run.now.view }
     ensures word { result ≡ (called helper bound.now run.now.view maps.old.maps).0 }
     ensures maps { maps.new.maps ≡ (called helper bound.now run.now.view maps.old.maps).1 }
     ensures names { maps.new.names ≡ maps.old.names }
 {
-    let id = bound[run.map_argument()];
+    let id = MapId::new(bound[run.map_argument()]);
     match helper {
         Helper::Lookup => match maps.map(id) {
             Some(map) => lookup(run, map, id),

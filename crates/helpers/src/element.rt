@@ -8,8 +8,8 @@ use crate::address::{offset_in, place_of};
 use bpf_model::{MapId, Width};
 use maps::Registry;
 
-/// The number of so many bytes of an element's value, at an offset in bytes from a word that lies in the
-/// element's slot.
+/// The number of so many bytes of an element's value, at an offset in bytes from a word that
+/// lies in the element's slot.
 #[inline]
 pub(crate) fn load(maps: &Registry, address: u64, offset: i16, width: Width) -> u64
     requires { ReachesElement maps.now.maps (byte_count width) offset (location_of address) }
@@ -23,8 +23,8 @@ pub(crate) fn load(maps: &Registry, address: u64, offset: i16, width: Width) -> 
     }
 }
 
-/// Stores the low bytes of a number there. Whoever reads the element later finds them: a store changes an
-/// element in place, while an update of its key links a new one.
+/// Stores the low bytes of a number there. Whoever reads the element later finds them: a store
+/// changes an element in place, while an update of its key links a new one.
 #[inline]
 pub(crate) fn store(maps: &mut Registry, address: u64, offset: i16, width: Width, number: u64)
     requires { ReachesElement maps.old.maps (byte_count width) offset (location_of address) }

@@ -17,14 +17,14 @@ ghost use Rattle.world_runs.specs.Requests.{access_of};
 ghost use Rattle.world_runs.specs.Steps.{IsStep};
 ghost use Rattle.helpers.specs.Serving.{CanServe, IsFlagged, IsOwnWorld, IsReply, served_step};
 
-/// A slot that has an element, linked under its own key or waiting in one of the three lists, stands
-/// somewhere in its map: what a world knows of a slot is what a map asks.
+/// A slot that has an element, linked under its own key or waiting in one of the three lists,
+/// stands somewhere in its map: what a world knows of a slot is what a map asks.
 pub fn occupied_stands()
     ensures { (v : MapView) (i : ℕ) → reaching.IsOccupied v i → shown.IsOccupied v i }
 {}
 
-/// Where a run's instruction asks something, the world's step is what `serve` leaves, with the run gone on
-/// with the reply.
+/// Where a run's instruction asks something, the world's step is what `serve` leaves, with the
+/// run gone on with the reply.
 pub fn served_is_the_worlds()
     ensures { (insn : Insn) (access : Access) (program : Loaded) (r : ℕ) (v : RunView)
         (w : WorldView) (word : ℕ) → IsFlagged w r v → access_of insn v ≡ Some access →
@@ -40,8 +40,8 @@ pub fn own_changes_the_run()
         IsOwnWorld answer asked r v after w (insn_step insn program r v w) }
 {}
 
-/// In a world whose programs are verified, a run that has not ended is one of the machine, with a flag as
-/// its depth says; and what its instruction asks can be served.
+/// In a world whose programs are verified, a run that has not ended is one of the machine, with
+/// a flag as its depth says; and what its instruction asks can be served.
 pub fn running_can_be_served()
     ensures running { (w : WorldView) (s : Schedule) → Matches w s → (r : ℕ) (v : RunView) →
         slice_get w.runs r ≡ Some (Some v) → v.exit ≡ None → (run : Run) × IsRunning w s r run v }

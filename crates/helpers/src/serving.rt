@@ -5,21 +5,21 @@ ghost use Rattle.helpers.specs.Serving.{CanPass, CanServe, IsReply, grace_after,
 use crate::calling::call;
 use crate::element::{load, store};
 use crate::section::{enter, leave};
-use bpf_model::{MapId, RunId};
+use bpf_model::RunId;
 use grace_period::Grace;
 use maps::Registry;
 use world_runs::{Access, Run};
 
-/// Serves what the run in a slot asks, and answers the word with which it goes on. `bound` has the numbers
-/// of its program's maps.
+/// Serves what the run in a slot asks, and answers the word with which it goes on. `bound` has
+/// the numbers of its program's maps.
 ///
-/// A load answers the number that it finds, and a helper the word for r0. A store, a lock and an unlock
-/// answer 0, of which the run makes nothing.
+/// A load answers the number that it finds, and a helper the word for r0. A store, a lock and
+/// an unlock answer 0, of which the run makes nothing.
 pub fn serve(
     access: Access,
     run: &Run,
     slot: RunId,
-    bound: &[MapId],
+    bound: &[usize],
     maps: &mut Registry,
     grace: &mut Grace,
 ) -> u64
