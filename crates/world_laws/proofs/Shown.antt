@@ -4,18 +4,18 @@ use Rattle.std.specs.Prelude.{slice_get, slice_index}
 use Rattle.std.specs.Option.{option_map}
 use Rattle.std.proofs.lemmas.Option.{slice_get-map, slice_get_within}
 use Rattle.bpf_model.specs.declared.limits.TheConstants.{MAX_ENTRIES, MAX_MAPS, MAX_SPARE}
-use Rattle.bpf_model.specs.Element.{Element, Life, Linked, Unlinked, Reclaimed, is_reclaimed}
+use Rattle.bpf_model.specs.Element.{Element, is_reclaimed}
 use Rattle.bpf_model.specs.MapState.{IsShape, AreShapes}
 use Rattle.bpf_model.specs.Schedule.{Schedule}
 use Rattle.bpf_model.specs.View.{MapView, WorldView, shapes_of}
 use Rattle.bpf_model.specs.Refines.{slot_view, RefinesSchedule}
 use Rattle.bpf_model.specs.Word.{element_bases, map_in, slot_base}
-use Rattle.bpf_model.specs.Section.{Section}
-use Rattle.typed_runs.specs.Describes.{Scene, IsGuarded, IsHeld}
+use Rattle.typed_runs.specs.Describes.{Scene, IsHeld}
 use Rattle.typed_runs.specs.Well.{IsWell}
 use Rattle.view_laws.proofs.Worlds.{here}
 use Rattle.world_laws.specs.Locating.{most_slots}
 use Rattle.model_laws.proofs.Lists.{get-below}
+use Rattle.typed_runs.proofs.Elements.{unreclaimed}
 
 -- An element that is kept stands in a slot of its map, and its first byte has that slot's word.
 pub record Shown (w : WorldView) (s : Schedule) (x : RefinesSchedule w s) (n : ℕ) (e : Element) : Type 0 where
@@ -52,10 +52,5 @@ module _ (w : WorldView) (s : Schedule) (x : RefinesSchedule w s) (well : IsWell
         base = ap (λ o. slot_base (map_in o) (slice_index x.slots n)) born;
       }
 
-guarded-kept : (life : Life) (s : Section) → IsGuarded life s → is_reclaimed life ≡ false
-guarded-kept Linked s h = refl
-guarded-kept (Unlinked since) s h = refl
-guarded-kept Reclaimed s h = absurd h
-
 pub held-kept : (c : Scene) (map n : ℕ) (h : IsHeld c map n) → is_reclaimed h.element.life ≡ false
-held-kept c map n h = guarded-kept h.element.life c.section h.guarded
+held-kept c map n h = unreclaimed h.element.life c.section h.guarded
