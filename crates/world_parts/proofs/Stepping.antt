@@ -1,5 +1,5 @@
 -- A step of a run: what its parts come to in the run's world.
-use Rattle.std.proofs.Common.{◌≡◌, ◌∙◌, ℕ, ◌<◌, refl, sym, ap, subst, arith, List, Option, Some, None, length, inl, inr}
+use Rattle.std.proofs.Common.{◌≡◌, ◌∙◌, ℕ, ◌<◌, refl, sym, ap, subst, List, Option, Some, None, inl, inr}
 use Rattle.std.specs.Prelude.{slice_get, slice_set, nat_lt, map, option_map}
 use Rattle.std.proofs.lemmas.Option.{none-some, same_Some, slice_get-map, slice_get_within}
 use Rattle.bpf_model.specs.declared.event.Answer.{Answer}
@@ -20,7 +20,7 @@ use Rattle.view_laws.specs.Matching.{Matches}
 use Rattle.view_laws.specs.Reactions.{run_shown, step_refused, step_by, refused_as}
 use Rattle.view_laws.proofs.Updating.{set-same}
 use Rattle.world_laws.specs.Local.{local_of}
-use Rattle.world_laws.specs.Reacting.{insn_step, step_at, step_in, step_of, word_step, or_step, full_reaction}
+use Rattle.world_laws.specs.Reacting.{step_at, step_in, step_of, word_step, or_step, full_reaction}
 use Rattle.world_laws.specs.Typed.{IsSound}
 use Rattle.world_runs.specs.declared.access.Access.{Access}
 use Rattle.world_runs.specs.declared.access.Local.TheVariants as code

@@ -1,4 +1,4 @@
-use Rattle.std.proofs.Common.{◌≡◌, ◌∙◌, ℕ, sym, ap, subst, List}
+use Rattle.std.proofs.Common.{◌∙◌, ℕ, sym, ap, subst, List}
 use Rattle.helpers.specs.Serving.{CanServe, IsReply, maps_after}
 use Rattle.world_parts.proofs.Stepping.{moved_taken, exited_taken, can_serve, can_go_on, served_taken}
 use Rattle.world_parts.proofs.step.step_run.Goals as goal

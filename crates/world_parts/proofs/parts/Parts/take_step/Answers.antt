@@ -1,4 +1,4 @@
-use Rattle.std.proofs.Common.{◌≡◌, ◌∙◌, ℕ, sym, ap, subst}
+use Rattle.std.proofs.Common.{◌≡◌, ◌∙◌, sym, ap, subst}
 use Rattle.std.specs.Prelude.{None, slice_get}
 use Rattle.bpf_model.specs.declared.event.Answer.{Answer}
 use Rattle.bpf_model.specs.View.{WorldView}
@@ -26,11 +26,11 @@ invariant_of-self c =
 pub returns-clause-answer : goal.returns-clause-answer
 returns-clause-answer c =
     let e = gone_is c.self.inside.registry.maps c.self.inside.runs.items c.self.inside.grace c.self.inside.programs.items c.self.inside.given c.args.run c.self.invariant
-        c.step_slot.new.runs.items c.step_slot.new.maps.maps c.step_slot.new.grace c.step_slot.result c.step_slot.ensures in
+    c.step_slot.new.runs.items c.step_slot.new.maps.maps c.step_slot.new.grace c.step_slot.result c.step_slot.ensures in
     sym (ap (λ (x : Answer × WorldView). x.0) e) ∙ ap (λ (w : WorldView). (word_step w c.args.run).0) c.self.view_is
 
 pub returns-clause-new : goal.returns-clause-new
 returns-clause-new c =
     let e = gone_is c.self.inside.registry.maps c.self.inside.runs.items c.self.inside.grace c.self.inside.programs.items c.self.inside.given c.args.run c.self.invariant
-        c.step_slot.new.runs.items c.step_slot.new.maps.maps c.step_slot.new.grace c.step_slot.result c.step_slot.ensures in
+    c.step_slot.new.runs.items c.step_slot.new.maps.maps c.step_slot.new.grace c.step_slot.result c.step_slot.ensures in
     sym (ap (λ (x : Answer × WorldView). x.1) e) ∙ ap (λ (w : WorldView). (word_step w c.args.run).1) c.self.view_is
