@@ -1,4 +1,4 @@
-use Rattle.std.proofs.Common.{rules, ◌≡◌, ◌+◌, ◌^◌, ◌≤◌, sym, subst, pos, arith, w32}
+use Rattle.std.proofs.Common.{rules, ◌+◌, ◌^◌, ◌≤◌, sym, subst, pos, arith, w32}
 use mir.Val.{SFits}
 use Rattle.std.proofs.lemmas.Int.{to_z-of_z}
 use Rattle.std.proofs.lemmas.Result.{IfOk-weaker}

@@ -1,4 +1,4 @@
-use Rattle.std.proofs.Common.{rules, ◌≡◌, refl, subst}
+use Rattle.std.proofs.Common.{rules, refl, subst}
 use Rattle.scalar_domain.specs.Scalar.{IsConstant}
 use Rattle.compute_effects.proofs.moving.raised.Goals as goal
 
