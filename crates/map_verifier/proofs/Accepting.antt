@@ -23,7 +23,7 @@ use Rattle.register_kinds.specs.States.{state_of}
 use Rattle.register_kinds.specs.Joined.{IsJoined, IsJoinedCell, AreJoined}
 use Rattle.kind_tests.specs.declared.fault.Fault.{Fault}
 use Rattle.kind_tests.specs.declared.fault.Fault.TheVariants as faults
-use Rattle.state_steps.specs.declared.region.Region.{Region}
+use Rattle.memory_effects.specs.declared.region.Region.{Region}
 use Rattle.state_steps.specs.Facts.{Fact, Register, FrameByte, FramePointer, Outside, FactHolds, Makes, IsReady, KeepsFacts}
 use Rattle.map_verifier.specs.declared.refusal.Refusal.{Refusal}
 use Rattle.map_verifier.specs.declared.refusal.Refusal.TheVariants.{Memory}

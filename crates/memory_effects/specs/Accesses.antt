@@ -1,5 +1,5 @@
 -- What loads and stores reach, in words of the laws.
-use Rattle.std.specs.Prelude.{◌≡◌, ℕ, ◌+◌, ◌<◌, ◌≤◌, List, Some, None, slice_get, ℤ, ◌+ℤ◌, Result, IsOk, pos}
+use Rattle.std.specs.Prelude.{◌≡◌, ℕ, ◌+◌, ◌<◌, ◌≤◌, List, Some, None, slice_get, ℤ, ◌+ℤ◌, Result, IsOk}
 use Rattle.bpf_model.specs.declared.limits.TheConstants.{FRAME_BYTES}
 use Rattle.bpf_model.specs.declared.limits.MapShape.{MapShape}
 use Rattle.bpf_model.specs.declared.insn.Insn.{Insn}
@@ -22,8 +22,9 @@ use Rattle.memory_effects.specs.declared.reads.Reads.TheVariants as reads
 abbrev pub Performs : Insn → ℕ → List MapShape → AbsState → AbsState → Type 0
 Performs insn ctx_len shapes old new = Transfers insn shapes ctx_len (state_of old) (state_of new) None
 
--- a reference into the region
+-- a reference into the region; none is into no region
 abbrev pub IsBase : Region → Kind → Type 0
+IsBase regions.None kind = ⊥
 IsBase regions.Ctx kind = (s : Scalar) × (kind ≡ CtxAt s)
 IsBase regions.Frame kind = (o : ℤ) × (kind ≡ FrameAt o)
 IsBase (regions.Value map) kind = (s : Scalar) × (kind ≡ ValueAt map s)
