@@ -8,7 +8,6 @@ use Rattle.bpf_model.specs.declared.insn.Insn.{Insn}
 use Rattle.bpf_model.specs.declared.limits.TheConstants.{MAX_SLOTS}
 use Rattle.bpf_model.specs.Spelling.{FitsInsn, IsProgram, slot_count, slot_total}
 use Rattle.disasm.specs.Text.{stem_of, suffix_of, name_of, arguments_text, mnemonic_of, arguments_of, statement_of, line_of, program_text}
-use Rattle.insn_codec.proofs.DecodeLoop.{slot_count_pos}
 use Rattle.asm.specs.Reading.{Lacks}
 use Rattle.asm.specs.Grammar.{IsFormedLine}
 use Rattle.asm.specs.Faults.{is_comment, lines_in, statements_in, IsInsnLine, IsLineFlaw, IsFirstLineFlaw, IsAsmFault}
@@ -21,6 +20,7 @@ use Rattle.asm.proofs.FormLaws.{formed_of}
 use Rattle.asm.proofs.Lacking.{lacks_append, arguments_lack_feed}
 use Rattle.asm.proofs.PlainNames.{name_lacks_any, stem_statement}
 use Rattle.asm.proofs.LinesRead.{keeps, first_line, same_tail, cons_no}
+use Rattle.bpf_model.specs.Places.{slot_count_some}
 
 -- a program takes a slot at least
 
@@ -28,7 +28,7 @@ pub some_slots : (is : List Insn) → 0 < length is → 1 ≤ slot_total is
 some_slots [] h = absurd (omega arith)
 some_slots (i ∷ is) h =
     let whole : slot_total (i ∷ is) ≡ slot_count i + slot_total is = sum_by-cons slot_count i is in
-    let one : 1 ≤ slot_count i = slot_count_pos i in
+    let one : 1 ≤ slot_count i = slot_count_some i in
     omega arith
 
 -- a flawed line is no line of a program

@@ -1,5 +1,5 @@
 -- What is read so far, and what is left.
-use Rattle.std.proofs.Common.{◌≡◌, ℕ, ◌+◌, ◌*◌, ◌%◌, ◌<◌, ◌≤◌, List, [], ◌∷◌, ◌++◌, length, refl, sym, ap, ◌∙◌, arith, append_assoc, true, false, eqb, inl, inr}
+use Rattle.std.proofs.Common.{◌≡◌, ℕ, ◌+◌, ◌*◌, ◌%◌, ◌<◌, List, [], ◌∷◌, ◌++◌, length, refl, sym, ap, ◌∙◌, arith, append_assoc, true, false, eqb, inl, inr}
 use Rattle.std.specs.List.{AllByRecursion}
 use Rattle.std.proofs.lemmas.Bool.Decides.{nat_tests}
 use Rattle.std.proofs.lemmas.List.{append-nil, length-append}
@@ -7,6 +7,7 @@ use Rattle.std.proofs.lemmas.List.Sums.{sum_by-cons}
 use Rattle.bpf_model.specs.declared.insn.Insn.{Insn}
 use Rattle.bpf_model.specs.Spelling.{FitsInsn, spelling, text, slot_count, slot_total, starts_from}
 use Rattle.insn_codec.proofs.InsnLaws.{shape}
+use Rattle.bpf_model.specs.Places.{slot_count_some}
 
 -- what a test of a length for 0 says
 
@@ -37,13 +38,6 @@ length_spelling i = elim (shape i) [ inl one ↦ rw (one.slots, one.count) refl 
 
 pub total_cons : (i : Insn) (is : List Insn) → slot_total (i ∷ is) ≡ slot_count i + slot_total is
 total_cons i is = sum_by-cons slot_count i is
-
-pub slot_count_pos : (i : Insn) → 1 ≤ slot_count i
-slot_count_pos i =
-    elim (shape i) [
-      | inl one ↦ let e : slot_count i ≡ 1 = one.count in omega arith
-      | inr two ↦ let e : slot_count i ≡ 2 = two.count in omega arith
-    ]
 
 pub length_text : (is : List Insn) → length (text is) ≡ 8 * slot_total is
 length_text [] = refl
@@ -105,4 +99,4 @@ ends is front rest none k = ends_at k.back k.whole k.rest_is
   where
     ends_at : (back : List Insn) → is ≡ front ++ back → rest ≡ text back → front ≡ is
     ends_at [] e f = sym (e ∙ append-nil front)
-    ends_at (j ∷ back) e f = absurd (omega (arith, slot_count_pos j, total_cons j back, length_text (j ∷ back), ap (λ (x : List ℕ). length x) f))
+    ends_at (j ∷ back) e f = absurd (omega (arith, slot_count_some j, total_cons j back, length_text (j ∷ back), ap (λ (x : List ℕ). length x) f))

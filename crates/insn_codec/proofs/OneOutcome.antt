@@ -14,8 +14,9 @@ use Rattle.insn_codec.specs.declared.flaw.Flaw.TheVariants.{OutsideProfile}
 use Rattle.insn_codec.specs.Faults.{flaw_with, first_flaw, IsOpcode, IsInsnFlawAt, IsDecodeFault, length_fault}
 use Rattle.insn_codec.proofs.InsnLaws.{some_is, opcode_is, included, no_flaw, same}
 use Rattle.insn_codec.proofs.TextLaws.{Again, again}
-use Rattle.insn_codec.proofs.DecodeLoop.{total_cons, slot_count_pos, length_text}
+use Rattle.insn_codec.proofs.DecodeLoop.{total_cons, length_text}
 use Rattle.insn_codec.proofs.Injective.{injective}
+use Rattle.bpf_model.specs.Places.{slot_count_some}
 
 -- what two instructions that begin one input are
 one_first : (bytes x y : List ℕ) (i j : Insn) → FitsInsn i → FitsInsn j → bytes ≡ spelling i ++ x → bytes ≡ spelling j ++ y → (i ≡ j) × (x ≡ y)
@@ -74,7 +75,7 @@ one_fault bytes f (faults.Insn g t) a b h k = let w = k.0 in absurd cc
 one_fault bytes f g a b h k = cc
 
 long_text : (i : Insn) (is : List Insn) (rest : List ℕ) → [] ≡ text (i ∷ is) ++ rest → ⊥
-long_text i is rest e = omega (arith, slot_count_pos i, total_cons i is, length_text (i ∷ is), length-append (text (i ∷ is)) rest, ap (λ (x : List ℕ). length x) e)
+long_text i is rest e = omega (arith, slot_count_some i, total_cons i is, length_text (i ∷ is), length-append (text (i ∷ is)) rest, ap (λ (x : List ℕ). length x) e)
 
 -- no flaw stands in a text
 text_has_none : (is front : List Insn) (rest : List ℕ) (f : Flaw) → AllByRecursion FitsInsn is → AllByRecursion FitsInsn front → text is ≡ text front ++ rest → 0 < length rest → IsInsnFlawAt rest f → ⊥

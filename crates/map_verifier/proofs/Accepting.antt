@@ -26,7 +26,7 @@ use Rattle.register_kinds.specs.States.{state_of}
 use Rattle.register_kinds.specs.Joined.{IsJoined, IsJoinedCell, AreJoined}
 use Rattle.kind_tests.specs.declared.fault.Fault.{Fault}
 use Rattle.kind_tests.specs.declared.fault.Fault.TheVariants as faults
-use Rattle.state_steps.specs.declared.region.Region.{Region}
+use Rattle.memory_effects.specs.declared.region.Region.{Region}
 use Rattle.state_steps.specs.Facts.{Fact, Register, FrameByte, FramePointer, Section, FactHolds, Makes, IsReady, KeepsFacts}
 use Rattle.state_steps.specs.Lookups.{Lookup, Part, FrameCopy, KeyAddress, MapLoad, LookupCall, NullTest, ValueLoad, part_insn, IsKeyWritten, Expects, KeepsSaved, IsReadyPart, LeavesPart, IsReadySection, LeavesSection, IsReadyWithMaps}
 use Rattle.map_verifier.specs.declared.refusal.Refusal.{Refusal}

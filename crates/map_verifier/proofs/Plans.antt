@@ -27,7 +27,7 @@ use Rattle.typed_runs.specs.Planned.{Wider, Covers, entry_state}
 use Rattle.typed_runs.proofs.Planning.{alike_wider}
 use Rattle.register_kinds.specs.declared.state.AbsState.{AbsState}
 use Rattle.register_kinds.specs.States.{state_of}
-use Rattle.state_steps.specs.declared.region.Region.{Region}
+use Rattle.memory_effects.specs.declared.region.Region.{Region}
 use Rattle.state_steps.specs.Steps.{IsForward}
 use Rattle.map_verifier.specs.declared.waiting.Waiting.{Waiting}
 use Rattle.map_verifier.specs.declared.waiting.Waiting.TheVariants.{Nothing, Differing}

@@ -9,7 +9,7 @@ use Rattle.program_graph.specs.Indexes.{HasTargets}
 use Rattle.typed_runs.specs.Kinds.{AbsState}
 use Rattle.typed_runs.specs.Describes.{Scene}
 use Rattle.typed_runs.specs.Verified.{Plan, IsPlanned, IsClosed, IsVerified}
-use Rattle.state_steps.specs.declared.region.Region.{Region}
+use Rattle.memory_effects.specs.declared.region.Region.{Region}
 use Rattle.state_steps.specs.Steps.{base_of, IsInRegion, Compares, IsComparable}
 use Rattle.map_verifier.specs.declared.refusal.Refusal.{Refusal}
 use Rattle.map_verifier.specs.declared.refusal.Refusal.TheVariants.{Graph, Instruction, Memory}

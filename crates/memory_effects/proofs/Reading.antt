@@ -15,7 +15,7 @@ use Rattle.bpf_model.specs.declared.value.Value.TheVariants.{Number, Pointer}
 use Rattle.bpf_model.specs.declared.value.Reference.TheVariants.{Ctx, Frame}
 use Rattle.bpf_model.specs.declared.value.Cell.TheVariants.{Byte}
 use Rattle.bpf_model.specs.Value.{◌>>=◌, number}
-use Rattle.std.specs.Int.{Width as Bits, w8, w16, w32, w64}
+use Rattle.std.specs.Int.{Width as Bits, w64}
 use Rattle.std.proofs.Common.{negsuc}
 use Rattle.std.proofs.lemmas.Nat.{mod_below}
 use mir.Val.{bits}
@@ -35,8 +35,8 @@ use Rattle.typed_runs.specs.Planned.{AreAlike}
 use Rattle.typed_runs.proofs.Sets.{set-described}
 use Rattle.typed_runs.proofs.Arguments.{reg-is, cell-is}
 use Rattle.typed_runs.proofs.Local.{alone_transfers}
-use Rattle.typed_runs.proofs.Elements.{number_read, offset-inside, set-is, load_transfers, load_signed_transfers}
-use Rattle.typed_runs.proofs.Spilling.{fill_transfers}
+use Rattle.typed_runs.proofs.Elements.{number_read, offset-inside, set-is, load_transfers, load_signed_transfers, wide-fits}
+use Rattle.typed_runs.proofs.Spilling.{fill_transfers, no-element-load}
 use Rattle.typed_runs.proofs.Planning.{alike_wider, transfers_wider}
 use Rattle.register_kinds.specs.declared.kind.RegKind.{RegKind}
 use Rattle.register_kinds.specs.declared.kind.RegKind.TheVariants as kinds
@@ -59,9 +59,6 @@ pub record Finds (env : Environment) (m : State) (width : ℕ) (offset : ℤ) (v
 
 ctx-alone : (es : List Element) (width : ℕ) (offset : ℤ) (v : Value) (o : ℤ) (k : ℕ) → v ≡ Pointer (Ctx o) → element_load es width offset v ≡ Some k → ⊥
 ctx-alone es width offset v o k e h = none-some k (sym (ap (element_load es width offset) e) ∙ h)
-
-frame-alone : (es : List Element) (width : ℕ) (offset : ℤ) (v : Value) (o : ℤ) (k : ℕ) → v ≡ Pointer (Frame o) → element_load es width offset v ≡ Some k → ⊥
-frame-alone es width offset v o k e h = none-some k (sym (ap (element_load es width offset) e) ∙ h)
 
 context-finds : (ctx_len maps width : ℕ) (offset : ℤ) (s : Scalar) (env : Environment) (m : State) (v : Value) → IsEnvironment ctx_len maps env → IsContextAt s v → IsAlwaysInside s width offset ctx_len → Finds env m width offset v
 context-finds ctx_len maps width offset s env m v i x inside =
@@ -98,14 +95,8 @@ frame-finds width at r o offset a c env m d e p bytes =
       loads = ap (load_from env m (byte_count width) offset) base
           ∙ (ap (λ q. q >>= λ at. read m.frame at (byte_count width)) p ∙ (ap (found m.frame at (byte_count width)) first.1 ∙ ap (λ q. q >>= λ n. Some (Number n)) n.1));
       bound = n.2;
-      alone = λ es k. frame-alone es (byte_count width) offset (m.regs r) o k base;
+      alone = λ es k. no-element-load es (byte_count width) offset (m.regs r) o k base;
     }
-
-wide-fits : (width : Width) (n : ℕ) → n < 256 ^ byte_count width → n < 2 ^ 64
-wide-fits widths.One n h = omega arith
-wide-fits widths.Two n h = omega arith
-wide-fits widths.Four n h = omega arith
-wide-fits widths.Eight n h = omega arith
 
 -- a load that finds a number in each described state
 module _ (dst src : ℕ) (offset : ℤ) (shapes : List MapShape) (ctx_len : ℕ) (a : AbsState) (t : Scalar) (ne : 10 ≡ dst → ⊥) where
@@ -209,8 +200,3 @@ extended-lt w x = word-lt (signed w (x % 2 ^ bits w))
     word-lt : (z : ℤ) → word w64 z < 2 ^ 64
     word-lt (pos n) = mod_below n (2 ^ 64) (omega arith)
     word-lt (negsuc n) = let p : 0 < 2 ^ 64 = omega arith in omega arith
-
-pub loaded_signed_lt : (width : SignedWidth) (x : ℕ) → loaded_signed width x < 2 ^ 64
-loaded_signed_lt signed_widths.One x = extended-lt w8 x
-loaded_signed_lt signed_widths.Two x = extended-lt w16 x
-loaded_signed_lt signed_widths.Four x = extended-lt w32 x

@@ -7,7 +7,7 @@ use Rattle.bpf_model.specs.declared.limits.MapShape.{MapShape}
 use Rattle.bpf_model.specs.declared.limits.TheConstants.{FRAME_BYTES}
 use Rattle.bpf_model.specs.declared.insn.Insn.TheVariants.{Store}
 use Rattle.bpf_model.specs.declared.insn.Operand.{Operand}
-use Rattle.bpf_model.specs.declared.insn.Operand.TheVariants.{Register, Immediate}
+use Rattle.bpf_model.specs.declared.insn.Operand.TheVariants.{Register}
 use Rattle.bpf_model.specs.declared.opcode.Width.{Width}
 use Rattle.bpf_model.specs.declared.opcode.Width.TheVariants.{Eight}
 use Rattle.bpf_model.specs.declared.value.Value.{Value}
@@ -16,25 +16,20 @@ use Rattle.bpf_model.specs.declared.value.Reference.TheVariants.{Frame}
 use Rattle.bpf_model.specs.declared.value.Cell.{Cell}
 use Rattle.bpf_model.specs.declared.value.Cell.TheVariants.{Byte}
 use Rattle.bpf_model.specs.Value.{◌>>=◌}
-use Rattle.bpf_model.specs.Arithmetic.{immediate}
 use Rattle.bpf_model.specs.Operand.{operand_value}
 use Rattle.bpf_model.specs.Access.{byte_count, region_offset}
 use Rattle.bpf_model.specs.Frame.{is_within, with_number}
 use Rattle.bpf_model.specs.Step.{State, Outcome, Moves, stored, frame_after, store_to}
 use Rattle.bpf_model.specs.Element.{Element}
 use Rattle.bpf_model.specs.MachineStep.{element_store}
-use Rattle.typed_runs.specs.Kinds.{Kind, Num, FrameAt, ByteCell, PartCell, CellKind, AbsState}
+use Rattle.typed_runs.specs.Kinds.{Kind, FrameAt, ByteCell, PartCell, CellKind, AbsState}
 use Rattle.typed_runs.specs.Describes.{Scene, Naming, Stored, IsOfCell, Describes}
 use Rattle.typed_runs.specs.Effects.{with_cells, IsNumberOperand, IsWritten}
 use Rattle.typed_runs.specs.Verified.{Transfers}
 use Rattle.typed_runs.proofs.Arguments.{reg-is}
 use Rattle.typed_runs.proofs.Local.{alone_transfers}
 use Rattle.typed_runs.proofs.Spilling.{near-cell, spill_transfers}
-
--- an operand that is known to be a number is one
-operand-number : (a : AbsState) (c : Scene) (m : State) (src : Operand) → Describes a c m → IsNumberOperand a src → (n : ℕ) × (operand_value src m.regs ≡ Number n)
-operand-number a c m (Register r) d k = let y = reg-is a c m r (Num k.0) d k.1 in (y.0, y.1)
-operand-number a c m (Immediate imm) d k = (immediate imm, refl)
+use Rattle.typed_runs.proofs.Elements.{operand-number}
 
 byte-cell : (c : Scene) (ρ : Naming) (σ : Stored) (k : ℕ) (t : Bool) (cell : CellKind) (x : Cell) (b : ℕ) → b < 256 → IsOfCell c ρ σ k cell x → IsOfCell c ρ σ k (if t then ByteCell else cell) (if t then Byte b else x)
 byte-cell c ρ σ k true cell x b l h = (b, refl, l)

@@ -23,8 +23,9 @@ use Rattle.memory_effects.specs.declared.reads.Reads.TheVariants as reads
 abbrev pub Performs : Insn → ℕ → List MapShape → AbsState → AbsState → Type 0
 Performs insn ctx_len shapes old new = Transfers insn shapes ctx_len (state_of old) (state_of new) None
 
--- a reference into the region
+-- a reference into the region; none is into no region
 abbrev pub IsBase : Region → Kind → Type 0
+IsBase regions.None kind = ⊥
 IsBase regions.Ctx kind = (s : Scalar) × (kind ≡ CtxAt s)
 IsBase regions.Frame kind = (o : ℤ) × (kind ≡ FrameAt o)
 IsBase (regions.Value map) kind = (s : Scalar) × (kind ≡ ValueAt map s)

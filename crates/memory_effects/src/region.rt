@@ -2,9 +2,10 @@
 
 use bpf_model::Reg;
 
-/// What a memory instruction reaches.
+/// What an instruction reaches; `None` where it is no load and no store.
 #[derive(Clone, Copy, Debug, PartialEq, Eq)]
 pub enum Region {
+    None,
     Ctx,
     Frame,
     /// The value of an element of the map of this index in the program's list.

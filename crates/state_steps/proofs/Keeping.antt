@@ -1,7 +1,7 @@
 -- What is known stays known, and what is ready is accepted.
 use Rattle.std.proofs.Common.{◌≡◌, ℕ, ◌+◌, ◌<◌, ◌≤◌, Some, refl, sym, ap, subst, ◌∙◌, inl, inr, ℤ, pos, Bool, true, false}
 use Rattle.std.specs.Prelude.{◌+ℤ◌, ◌&&◌, nat_lt, ◌⊎◌, if◌then◌else◌}
-use Rattle.std.proofs.lemmas.Bool.{cases_eq, eq-eqb, ne_eqb, le-leb, lt-ltb}
+use Rattle.std.proofs.lemmas.Bool.{cases_eq, le-leb, lt-ltb}
 use Rattle.bpf_model.specs.declared.insn.Insn.{Insn}
 use Rattle.bpf_model.specs.declared.insn.Insn.TheVariants.{Alu, Load, LoadSigned, Store}
 use Rattle.bpf_model.specs.declared.insn.AluOp.{AluOp}
@@ -23,18 +23,13 @@ use Rattle.typed_runs.specs.Planned.{AreAlike}
 use Rattle.compute_effects.specs.Computes.{HasNumber, ReadsNumber}
 use Rattle.control_effects.specs.Forks.{AreNarrowed}
 use Rattle.state_steps.specs.Facts.{Register as RegisterFact, FrameByte, FramePointer, Section, KeepsFacts, ReadsNumbers, IsReady}
+use Rattle.control_effects.proofs.Branches.{set-there, set-elsewhere}
 
 pub same_keeps : (i : Insn) (a : AbsState) → ((r : ℕ) → Writes i r → ⊥) → ((k : ℕ) → WritesByte i k → ⊥) → KeepsFacts i a a
 same_keeps i a no_reg no_byte (RegisterFact r) h = elim h [ inl p ↦ p | inr w ↦ absurd (no_reg r w) ]
 same_keeps i a no_reg no_byte (FrameByte k) h = elim h [ inl p ↦ p | inr w ↦ absurd (no_byte k w) ]
 same_keeps i a no_reg no_byte FramePointer h = elim h [ inl p ↦ p | inr w ↦ absurd w ]
 same_keeps i a no_reg no_byte (Section inside) h = elim h [ inl p ↦ p | inr w ↦ absurd w ]
-
-set-there : (r q : ℕ) (k : Kind) (a b : AbsState) → AreAlike (with_kind r k a) b → q ≡ r → b.regs q ≡ k
-set-there r q k a b e p = e.regs q ∙ ap (λ t. if t then k else a.regs q) (eq-eqb q r p)
-
-set-elsewhere : (r q : ℕ) (k : Kind) (a b : AbsState) → AreAlike (with_kind r k a) b → (q ≡ r → ⊥) → b.regs q ≡ a.regs q
-set-elsewhere r q k a b e n = e.regs q ∙ ap (λ t. if t then k else a.regs q) (ne_eqb q r n)
 
 -- The instruction writes this register at most, and no byte of the frame.
 pub record IsSetting (i : Insn) (dst : ℕ) : Type 0 where
@@ -140,7 +135,7 @@ store_reaches width dst offset src a ready = reaches width dst offset a ready.si
 pub store_number : (width : Width) (dst : ℕ) (offset : ℤ) (src : Operand) (a : AbsState) → IsReady (Store width dst offset src) a → IsNumberOperand a src
 store_number width dst offset src a ready = operand_number src a ready.registers
 
-some_is : (m n : ℕ) → Some m ≡ Some n → m ≡ n
+pub some_is : (m n : ℕ) → Some m ≡ Some n → m ≡ n
 some_is m n e = cc
 
 within : (at width k : ℕ) → at ≤ k → k < at + width → is_within at width k ≡ true

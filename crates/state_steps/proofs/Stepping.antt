@@ -26,17 +26,17 @@ use Rattle.register_kinds.specs.declared.kind.RegKind.TheVariants as kinds
 use Rattle.register_kinds.specs.declared.state.AbsState.{AbsState}
 use Rattle.register_kinds.specs.States.{kind_of, kind_in, state_of}
 use Rattle.register_kinds.specs.Pairs.{AreBelow}
-use Rattle.memory_effects.specs.declared.region.Region as effects
-use Rattle.memory_effects.specs.declared.region.Region.TheVariants as reached
+use Rattle.memory_effects.specs.declared.region.Region.{Region}
+use Rattle.memory_effects.specs.declared.region.Region.TheVariants as regions
 use Rattle.memory_effects.specs.Accesses.{IsBase}
 use Rattle.register_kinds.specs.States.{kind_at}
 use Rattle.control_effects.specs.Forks.{Forks, ForksOnNull, ComparesNumbers}
 use Rattle.state_steps.specs.declared.flow.Flow.{Flow}
-use Rattle.state_steps.specs.declared.region.Region.TheVariants as regions
 use Rattle.state_steps.specs.Steps.{IsForward, IsBranch, base_of, IsInRegion, Compares, IsComparable}
 use Rattle.state_steps.specs.Facts.{IsReady, KeepsFacts}
 use Rattle.state_steps.specs.Lookups.{Serves}
-use Rattle.state_steps.specs.Stepped.{single_flow, region_of, Stepped, ComparesWell}
+use Rattle.state_steps.specs.Stepped.{single_flow, Stepped, ComparesWell}
+use Rattle.state_steps.proofs.Keeping.{some_is}
 
 -- an instruction that reaches no memory, compares nothing and has one state behind it
 pub record IsQuiet (i : Insn) : Type 0 where
@@ -120,10 +120,11 @@ numbers_compare condition size dst src a h offset r c m x d =
     ]
 
 -- an access
-in_region : (region : effects.Region) (k : Kind) (c : Scene) (ρ : Naming) (v : Value) → IsBase region k → IsOf c ρ k v → IsInRegion c (region_of region) v
-in_region reached.Ctx k c ρ v b h = let x = subst (λ (k : Kind). IsOf c ρ k v) b.1 h in (x.offset, x.is)
-in_region reached.Frame k c ρ v b h = let x = subst (λ (k : Kind). IsOf c ρ k v) b.1 h in (b.0, x)
-in_region (reached.Value map) k c ρ v b h = let x = subst (λ (k : Kind). IsOf c ρ k v) b.1 h in (x.n, x.offset, x.is, x.held)
+in_region : (region : Region) (k : Kind) (c : Scene) (ρ : Naming) (v : Value) → IsBase region k → IsOf c ρ k v → IsInRegion c region v
+in_region regions.None k c ρ v b h = absurd b
+in_region regions.Ctx k c ρ v b h = let x = subst (λ (k : Kind). IsOf c ρ k v) b.1 h in (x.offset, x.is)
+in_region regions.Frame k c ρ v b h = let x = subst (λ (k : Kind). IsOf c ρ k v) b.1 h in (b.0, x)
+in_region (regions.Value map) k c ρ v b h = let x = subst (λ (k : Kind). IsOf c ρ k v) b.1 h in (x.n, x.offset, x.is, x.held)
 
 -- an instruction that reaches memory by this register, compares nothing and has one state behind it
 pub record IsAccess (i : Insn) (base : ℕ) : Type 0 where
@@ -131,16 +132,13 @@ pub record IsAccess (i : Insn) (base : ℕ) : Type 0 where
   pub no_test : (r : ℕ) → Compares i r → ⊥
   pub no_branch : IsBranch i → ⊥
 
-same_base : (m n : ℕ) → Some m ≡ Some n → m ≡ n
-same_base m n e = cc
-
-pub access_step : (i : Insn) (shapes : List MapShape) (ctx_len top : ℕ) (a b : AbsState) (f : Flow) (region : effects.Region) (base : ℕ) → f ≡ single_flow (region_of region) → IsAccess i base → IsBase region (kind_at a.regs base)
+pub access_step : (i : Insn) (shapes : List MapShape) (ctx_len top : ℕ) (a b : AbsState) (f : Flow) (region : Region) (base : ℕ) → f ≡ single_flow region → IsAccess i base → IsBase region (kind_at a.regs base)
     → Transfers i shapes ctx_len (state_of a) (state_of b) None → AreBelow top b → (IsReady i (state_of a) → KeepsFacts i (state_of a) (state_of b)) → Serves shapes i (state_of a) (state_of b) None → Stepped i shapes ctx_len top a b (Ok f)
 access_step i shapes ctx_len top a b f region base e q is sound below keeps serves = subst (λ (f : Flow). Stepped i shapes ctx_len top a b (Ok f)) (sym e) (record {
   done = record {
     sound = λ forward. sound;
     branches = λ x. absurd (q.no_branch x);
-    region = λ r c m x d. subst (λ (n : ℕ). IsInRegion c (region_of region) (m.regs n)) (same_base base r (sym q.base_is ∙ x)) (in_region region (kind_at a.regs base) c d.naming (m.regs base) is (d.regs base));
+    region = λ r c m x d. subst (λ (n : ℕ). IsInRegion c region (m.regs n)) (some_is base r (sym q.base_is ∙ x)) (in_region region (kind_at a.regs base) c d.naming (m.regs base) is (d.regs base));
     compares = λ r c m x d. absurd (q.no_test r x);
     taken_below = tt;
     keeps = keeps;

@@ -18,10 +18,7 @@ use Rattle.register_kinds.specs.Pairs.{AreBelow}
 use Rattle.register_kinds.specs.declared.kind.RegKind.TheVariants as kinds
 use Rattle.register_kinds.specs.States.{kind_in, state_of}
 use Rattle.kind_tests.specs.declared.fault.Fault.{Fault}
-use Rattle.memory_effects.specs.declared.region.Region as effects
-use Rattle.memory_effects.specs.declared.region.Region.TheVariants as reached
-use Rattle.state_steps.specs.declared.region.Region.{Region}
-use Rattle.state_steps.specs.declared.region.Region.TheVariants as regions
+use Rattle.memory_effects.specs.declared.region.Region.{Region}
 use Rattle.state_steps.specs.declared.flow.Flow.{Flow}
 use Rattle.state_steps.specs.Steps.{IsForward, IsBranch, taken_state, base_of, IsInRegion, Compares, IsComparable, IsFine}
 use Rattle.state_steps.specs.Facts.{IsReady, KeepsFacts}
@@ -30,12 +27,6 @@ use Rattle.state_steps.specs.Lookups.{IsReadyWithMaps, Serves}
 -- the flow of an instruction that has no second state behind it
 abbrev pub single_flow : Region → Flow
 single_flow region = record { region = region; taken = None }
-
--- the region of an access
-abbrev pub region_of : effects.Region → Region
-region_of reached.Ctx = regions.Ctx
-region_of reached.Frame = regions.Frame
-region_of (reached.Value map) = regions.Value map
 
 -- In each described state the sides of a comparison may be compared.
 abbrev pub ComparesWell : Condition → Size → ℕ → Operand → Known → Type 0

@@ -14,8 +14,8 @@ use Rattle.typed_runs.specs.Describes.{Scene, IsHeld}
 use Rattle.register_kinds.specs.declared.state.AbsState.{AbsState}
 use Rattle.kind_tests.specs.declared.fault.Fault.{Fault}
 use Rattle.kind_tests.specs.declared.fault.Fault.TheVariants.{Memory}
-use Rattle.state_steps.specs.declared.region.Region.{Region}
-use Rattle.state_steps.specs.declared.region.Region.TheVariants as regions
+use Rattle.memory_effects.specs.declared.region.Region.{Region}
+use Rattle.memory_effects.specs.declared.region.Region.TheVariants as regions
 use Rattle.state_steps.specs.declared.flow.Flow.{Flow}
 
 -- where it jumps, it jumps ahead

@@ -5,7 +5,6 @@ ghost use Rattle.state_steps.specs.Stepped.{Stepped};
 
 use crate::environment::EnvironmentShape;
 use crate::flow::{Flow, single};
-use crate::region::reached;
 use bpf_model::{Insn, Operand, Reg, SignedWidth, Width};
 use kind_tests::Fault;
 use memory_effects::{Address, load, load_signed, store};
@@ -24,7 +23,7 @@ pub(crate) fn load_step(
         shape.now.ctx_len top state.old state.new result }
 {
     let region = load(state, width, dst, from, shape.ctx_len, shape.shapes)?;
-    Ok(single(reached(region)))
+    Ok(single(region))
 }
 
 /// A load that extends the sign.
@@ -40,7 +39,7 @@ pub(crate) fn signed_step(
         shape.now.ctx_len top state.old state.new result }
 {
     let region = load_signed(state, width, dst, from, shape.ctx_len, shape.shapes)?;
-    Ok(single(reached(region)))
+    Ok(single(region))
 }
 
 /// A store.
@@ -56,5 +55,5 @@ pub(crate) fn store_step(
         shape.now.ctx_len top state.old state.new result }
 {
     let region = store(state, width, to, src, shape.shapes)?;
-    Ok(single(reached(region)))
+    Ok(single(region))
 }

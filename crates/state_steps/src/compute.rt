@@ -6,10 +6,10 @@ ghost use Rattle.state_steps.specs.Stepped.{Stepped};
 
 use crate::environment::EnvironmentShape;
 use crate::flow::{Flow, single};
-use crate::region::Region;
 use bpf_model::{AluOp, Insn, Operand, Reg, Size, UnaryOp};
 use compute_effects::{alu, load_map, load_number, unary};
 use kind_tests::Fault;
+use memory_effects::Region;
 use register_kinds::AbsState;
 
 /// An operation of two operands.

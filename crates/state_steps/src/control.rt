@@ -14,11 +14,11 @@ ghost use Rattle.state_steps.specs.Stepped.{Stepped, ComparesWell, IsEqualToNull
 
 use crate::environment::EnvironmentShape;
 use crate::flow::{Flow, single};
-use crate::region::Region;
 use bpf_model::{CallKind, Condition, Insn, Operand, Reg, Size};
 use call_effects::{call, fork_equal, fork_not_equal};
 use control_effects::{exit, fork, fork_value, jump_long_transfers, jump_transfers};
 use kind_tests::Fault;
+use memory_effects::Region;
 use register_kinds::{AbsState, Identities, RegKind};
 use std::alloc::{AllocError, Global};
 

@@ -6,10 +6,9 @@ mod compute;
 mod control;
 mod environment;
 mod flow;
-mod region;
 mod step;
 
 pub use environment::EnvironmentShape;
 pub use flow::Flow;
-pub use region::Region;
+pub use memory_effects::Region;
 pub use step::transfer;

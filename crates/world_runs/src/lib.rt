@@ -7,7 +7,6 @@
 
 mod access;
 mod argument;
-mod bytes;
 mod compute;
 mod control;
 mod law;

@@ -10,9 +10,9 @@ ghost use Rattle.world_runs.specs.RunWords.{HasRoom};
 ghost use Rattle.world_runs.specs.Moves.{GoesOn, IsIn, offset_from, own_number};
 ghost use Rattle.world_runs.specs.Requests.{IsInOwn};
 
-use crate::bytes::{number_of, write_number};
 use crate::run::{CTX_BASE, FRAME_BASE, Run};
 use bpf_model::Width;
+use byte_numbers::{number_of, write_number};
 
 /// Regions begin at multiples of 2^31, and a word lies at most 2^29 away from the beginning of its own.
 const SPAN: u64 = 1 << 31;

@@ -9,7 +9,8 @@ use Rattle.typed_runs.specs.Effects.{with_kind}
 use Rattle.typed_runs.specs.Planned.{AreAlike}
 use Rattle.register_kinds.specs.States.{state_of}
 use Rattle.memory_effects.specs.Accesses.{read_kind, IsRead}
-use Rattle.memory_effects.proofs.Reading.{read_signed_transfers, to_alike, loaded_signed_lt}
+use Rattle.memory_effects.proofs.Reading.{read_signed_transfers, to_alike}
+use Rattle.scalar_domain.proofs.Words.{loaded_signed_lt}
 use Rattle.memory_effects.proofs.loads.load_signed.Goals as goal
 
 pub returns-clause-sound : goal.returns-clause-sound

@@ -1,7 +1,6 @@
-use Rattle.std.proofs.Common.{rules, refl, ap, ◌∙◌}
+use Rattle.std.proofs.Common.{rules, refl}
 use Rattle.bpf_model.specs.declared.insn.Insn.TheVariants.{Load}
 use Rattle.register_kinds.specs.States.{state_of}
-use Rattle.state_steps.specs.Stepped.{single_flow}
 use Rattle.bpf_model.specs.Access.{byte_count}
 use Rattle.state_steps.proofs.Serving.{load_serves, load_ready_maps, load_no_other, load_no_call}
 use Rattle.state_steps.proofs.Stepping.{access_step}
@@ -24,7 +23,7 @@ pub returns : goal.returns
 returns c = λ top below.
     let a = c.args.state.now in
     let b = c.load.new.state in
-    access_step (Load c.args.width c.args.dst c.args.from.base c.args.from.offset) c.args.shape.now.shapes.now c.args.shape.now.ctx_len top a b c.single.result c.in_ok-region.region c.args.from.base (c.single.ensures ∙ ap single_flow c.reached.ensures) (record { base_is = refl; no_test = λ r x. x; no_branch = λ x. x.1 refl })
+    access_step (Load c.args.width c.args.dst c.args.from.base c.args.from.offset) c.args.shape.now.shapes.now c.args.shape.now.ctx_len top a b c.single.result c.in_ok-region.region c.args.from.base c.single.ensures (record { base_is = refl; no_test = λ r x. x; no_branch = λ x. x.1 refl })
     c.in_ok-region.ensures.region c.in_ok-region.ensures.sound (c.load.ensures.below top below)
     (λ ready.
     let n = c.in_ok-region.ensures.bytes ready.keeps_frame (load_ready c.args.width c.args.dst c.args.from.base c.args.from.offset (state_of a) ready) in

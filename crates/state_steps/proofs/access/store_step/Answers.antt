@@ -1,8 +1,7 @@
-use Rattle.std.proofs.Common.{rules, refl, ap, ◌∙◌, None}
+use Rattle.std.proofs.Common.{rules, refl, None}
 use Rattle.bpf_model.specs.declared.insn.Insn.TheVariants.{Store}
 use Rattle.bpf_model.specs.Access.{byte_count}
 use Rattle.register_kinds.specs.States.{state_of}
-use Rattle.state_steps.specs.Stepped.{single_flow}
 use Rattle.state_steps.proofs.Serving.{serves_none, never_ready}
 use Rattle.state_steps.proofs.Stepping.{access_step}
 use Rattle.state_steps.proofs.Keeping.{store_keeps, store_reaches, store_number, taken_within}
@@ -21,7 +20,7 @@ pub returns : goal.returns
 returns c = λ top below.
     let a = c.args.state.now in
     let b = c.store.new.state in
-    access_step (Store c.args.width c.args.to.base c.args.to.offset c.args.src.now) c.args.shape.now.shapes.now c.args.shape.now.ctx_len top a b c.single.result c.in_ok-region.region c.args.to.base (c.single.ensures ∙ ap single_flow c.reached.ensures) (record { base_is = refl; no_test = λ r x. x; no_branch = λ x. x.1 refl })
+    access_step (Store c.args.width c.args.to.base c.args.to.offset c.args.src.now) c.args.shape.now.shapes.now c.args.shape.now.ctx_len top a b c.single.result c.in_ok-region.region c.args.to.base c.single.ensures (record { base_is = refl; no_test = λ r x. x; no_branch = λ x. x.1 refl })
     c.in_ok-region.ensures.region (c.in_ok-region.ensures.sound c.args.shape.now.ctx_len) (c.store.ensures.below top below)
     (λ ready.
     let n = c.in_ok-region.ensures.bytes ready.simple.1 (store_number c.args.width c.args.to.base c.args.to.offset c.args.src.now (state_of c.args.state.now) ready) (store_reaches c.args.width c.args.to.base c.args.to.offset c.args.src.now (state_of c.args.state.now) ready) in
