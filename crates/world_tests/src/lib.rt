@@ -8,6 +8,8 @@ mod altered;
 #[cfg(test)]
 mod cases;
 #[cfg(test)]
+mod compiled;
+#[cfg(test)]
 mod generated;
 #[cfg(test)]
 mod making;

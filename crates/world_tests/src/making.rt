@@ -1,5 +1,5 @@
 //! Machines of the plain model, and worlds, of the same maps and programs.
-ghost use Rattle.std.specs.Prelude.{◌≡◌, ◌≤◌, length, map, IfOk};
+ghost use Rattle.std.specs.Prelude.{◌≡◌, map, IfOk};
 ghost use Rattle.bpf_model.specs.View.{new_map_view};
 ghost use Rattle.world.specs.Bound.{shapes_in};
 
@@ -115,14 +115,28 @@ pub fn loaded(alloc: Global, shapes: &[MapShape], source: &Source) -> Result<Loa
     }
 }
 
+/// Adds a new map, m and its number.
+fn add_map(
+    alloc: Global,
+    registry: &mut Registry,
+    number: usize,
+    shape: MapShape,
+) -> Result<(), Fail>
+    requires new { registry.old.maps ≡ map new_map_view (shapes_in registry.old.maps) }
+    ensures new { registry.new.maps ≡ map new_map_view (shapes_in registry.new.maps) }
+{
+    let name = format!(in alloc; "m{number}")?;
+    registry.create(&name, shape)?;
+    Ok(())
+}
+
 /// New maps m0, m1 and so on of these shapes.
 pub fn registry_of(alloc: Global, shapes: &[MapShape]) -> Result<Registry, Fail>
     ensures new { IfOk result (λ r. r.maps ≡ map new_map_view (shapes_in r.maps)) }
 {
     let mut registry = Registry::new(alloc);
     for (number, shape) in shapes.iter().enumerate() {
-        let name = format!(in alloc; "m{number}")?;
-        registry.create(&name, *shape)?;
+        add_map(alloc, &mut registry, number, *shape)?;
     }
     Ok(registry)
 }
