@@ -15,7 +15,12 @@ use Rattle.bpf_model.specs.declared.insn.Insn.TheVariants.{Call, JumpIf}
 use Rattle.bpf_model.specs.declared.insn.Operand.TheVariants.{Immediate}
 use Rattle.bpf_model.specs.declared.opcode.Condition.TheVariants.{Equal, NotEqual}
 use Rattle.bpf_model.specs.declared.opcode.Size.TheVariants.{Word64}
+use Rattle.typed_runs.specs.Kinds.{MaybeNull, AbsState as Known}
+use Rattle.typed_runs.specs.Effects.{after_call, after_lock, after_unlock}
+use Rattle.typed_runs.specs.Planned.{AreAlike}
 use Rattle.typed_runs.specs.Verified.{Transfers}
+use Rattle.register_kinds.specs.declared.learn.Lesson.TheVariants.{IsNull, IsThere}
+use Rattle.register_kinds.specs.Changes.{learnt}
 use Rattle.register_kinds.specs.declared.state.AbsState.{AbsState}
 use Rattle.bpf_model.specs.declared.limits.TheConstants.{FRAME_BYTES}
 use Rattle.register_kinds.specs.declared.kind.RegKind.TheVariants.{Frame}
@@ -61,3 +66,19 @@ pub record PointsToBytes (a : AbsState) (r len : ℕ) : Type 0 where
   pub start : kind_in a.regs r ≡ Frame (pos at)
   pub inside : at + len ≤ FRAME_BYTES
   pub bytes : AreAll a.frame.cells at len Byte
+
+-- After the call r0 may be null, or an element of the map, by an identity; r1 to r5 hold nothing.
+pub record FindsIn (map : ℕ) (a b : AbsState) : Type 0 where
+  pub id : ℕ
+  pub alike : AreAlike (after_call (MaybeNull map id) (state_of a)) (state_of b)
+
+-- what a kernel function makes of what is known
+abbrev pub Called : Option KernelFunction → Known → Known → Type 0
+Called None a b = ⊥
+Called (Some ReadLock) a b = AreAlike (after_lock a) b
+Called (Some ReadUnlock) a b = AreAlike (after_unlock a) b
+
+-- Of a test for null both edges are as the test tells: where the identity is null all of it becomes the number 0, elsewhere the element's value.
+pub record Splits (id : ℕ) (a null there : AbsState) : Type 0 where
+  pub is_null : AreAlike (learnt (IsNull id) (state_of a)) (state_of null)
+  pub is_there : AreAlike (learnt (IsThere id) (state_of a)) (state_of there)

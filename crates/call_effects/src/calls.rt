@@ -3,9 +3,11 @@ ghost use Rattle.std.specs.Prelude.{◌≡◌, ℕ, IfSome, Err, IsOk, slice_get
 ghost use Rattle.bpf_model.specs.Call.{helper_of, kernel_function_of};
 ghost use Rattle.bpf_model.specs.declared.limits.MapShape.{MapShape};
 ghost use Rattle.scalar_domain.specs.declared.scalar.Scalar.{Scalar};
-ghost use Rattle.register_kinds.specs.States.{kind_in};
+ghost use Rattle.register_kinds.specs.States.{kind_in, state_of};
 ghost use Rattle.register_kinds.specs.Pairs.{AreBelow};
-ghost use Rattle.call_effects.specs.Calls.{Performs, PointsToBytes, helper_fault, kernel_fault, section_fault, outcome_of};
+ghost use Rattle.typed_runs.specs.Effects.{after_lock, after_unlock};
+ghost use Rattle.typed_runs.specs.Planned.{AreAlike};
+ghost use Rattle.call_effects.specs.Calls.{Performs, PointsToBytes, FindsIn, helper_fault, kernel_fault, section_fault, outcome_of, Called};
 
 use crate::arguments::{called_map, check_bytes_argument};
 use bpf_model::{CallKind, Helper, KernelFunction, MapShape, Reg};
@@ -20,6 +22,7 @@ fn lock(state: &mut AbsState) -> Result<(), Fault>
         → Performs CallKind.Kernel imm shapes state.old state.new) }
     ensures result { result
         ≡ outcome_of (kernel_fault (Some KernelFunction.ReadLock) state.old.inside) }
+    ensures opens { OnOk result (AreAlike (after_lock (state_of state.old)) (state_of state.new)) }
     ensures below { (top : ℕ) → AreBelow top state.old → AreBelow top state.new }
     ensures unchanged { OnErr result (state.new ≡ state.old) }
 {
@@ -37,6 +40,7 @@ fn unlock(state: &mut AbsState) -> Result<(), Fault>
         → Performs CallKind.Kernel imm shapes state.old state.new) }
     ensures result { result
         ≡ outcome_of (kernel_fault (Some KernelFunction.ReadUnlock) state.old.inside) }
+    ensures closes { OnOk result (AreAlike (after_unlock (state_of state.old)) (state_of state.new)) }
     ensures below { (top : ℕ) → AreBelow top state.old → AreBelow top state.new }
     ensures unchanged { OnErr result (state.new ≡ state.old) }
 {
@@ -71,6 +75,8 @@ fn lookup(state: &mut AbsState, shapes: &[MapShape], ids: &mut Identities) -> Re
         → kind_in state.old.regs 1 ≡ RegKind.Map map
         → slice_get shapes.now map ≡ Some shape → PointsToBytes state.old 2 shape.key_len
         → IsOk result }
+    ensures finds { OnOk result ((map : ℕ) → kind_in state.old.regs 1 ≡ RegKind.Map map
+        → FindsIn map state.old state.new) }
     ensures below { AreBelow ids.new.next state.new }
     ensures few { (ids.old.next ≤ ids.new.next) × (ids.new.next ≤ ids.old.next + 1) }
     ensures unchanged { OnErr result (state.new ≡ state.old) }
@@ -124,6 +130,8 @@ fn call_kernel(state: &mut AbsState, imm: i32) -> Result<(), Fault>
     ensures sound { OnOk result ((shapes : List MapShape)
         → Performs CallKind.Kernel imm shapes state.old state.new) }
     ensures result { result ≡ outcome_of (kernel_fault (kernel_function_of imm) state.old.inside) }
+    ensures called { OnOk result (Called (kernel_function_of imm) (state_of state.old)
+        (state_of state.new)) }
     ensures below { (top : ℕ) → AreBelow top state.old → AreBelow top state.new }
     ensures unchanged { OnErr result (state.new ≡ state.old) }
 {
@@ -149,6 +157,8 @@ fn call_helper(
         → state.old.inside ≡ true → kind_in state.old.regs 1 ≡ RegKind.Map map
         → slice_get shapes.now map ≡ Some shape → PointsToBytes state.old 2 shape.key_len
         → IsOk result }
+    ensures finds { OnOk result ((map : ℕ) → helper_of imm ≡ Some Helper.Lookup
+        → kind_in state.old.regs 1 ≡ RegKind.Map map → FindsIn map state.old state.new) }
     ensures below { AreBelow ids.new.next state.new }
     ensures few { (ids.old.next ≤ ids.new.next) × (ids.new.next ≤ ids.old.next + 1) }
     ensures unchanged { OnErr result (state.new ≡ state.old) }
@@ -186,6 +196,15 @@ pub fn call(
         → state.old.inside ≡ true → kind_in state.old.regs 1 ≡ RegKind.Map map
         → slice_get shapes.now map ≡ Some shape → PointsToBytes state.old 2 shape.key_len
         → IsOk result }
+
+    // A lookup leaves in r0 what may be null or an element of the map; a lock opens a section, an
+    // unlock ends it, with all that is known of elements.
+    ensures finds { OnOk result ((map : ℕ) → kind ≡ CallKind.Helper
+        → helper_of imm ≡ Some Helper.Lookup
+        → kind_in state.old.regs 1 ≡ RegKind.Map map → FindsIn map state.old state.new) }
+    ensures called { OnOk result (kind ≡ CallKind.Kernel
+        → Called (kernel_function_of imm) (state_of state.old) (state_of state.new)) }
+
     ensures below { AreBelow ids.new.next state.new }
     ensures few { (ids.old.next ≤ ids.new.next) × (ids.new.next ≤ ids.old.next + 1) }
     ensures unchanged { OnErr result (state.new ≡ state.old) }

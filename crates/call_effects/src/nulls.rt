@@ -2,7 +2,7 @@
 ghost use Rattle.std.specs.Prelude.{◌≡◌, ℕ, IfOk, OnErr, true, false};
 ghost use Rattle.register_kinds.specs.States.{kind_in};
 ghost use Rattle.register_kinds.specs.Pairs.{AreBelow};
-ghost use Rattle.call_effects.specs.Calls.{Forks};
+ghost use Rattle.call_effects.specs.Calls.{Forks, Splits};
 
 use register_kinds::{AbsState, Lesson, RegKind};
 use std::alloc::{AllocError, Global};
@@ -15,6 +15,7 @@ pub fn fork_equal(state: &mut AbsState, alloc: Global, id: u32) -> Result<Box<Ab
     ensures sound { IfOk result (λ taken. (dst map : ℕ)
         → kind_in state.old.regs dst ≡ RegKind.MaybeNull map id
         → Forks true dst state.old state.new taken.value) }
+    ensures splits { IfOk result (λ taken. Splits id state.old taken.value state.new) }
     ensures below { (top : ℕ) → AreBelow top state.old → AreBelow top state.new }
     ensures taken_below { IfOk result (λ taken. (top : ℕ)
         → AreBelow top state.old → AreBelow top taken.value) }
@@ -36,6 +37,7 @@ pub fn fork_not_equal(
     ensures sound { IfOk result (λ taken. (dst map : ℕ)
         → kind_in state.old.regs dst ≡ RegKind.MaybeNull map id
         → Forks false dst state.old state.new taken.value) }
+    ensures splits { IfOk result (λ taken. Splits id state.old state.new taken.value) }
     ensures below { (top : ℕ) → AreBelow top state.old → AreBelow top state.new }
     ensures taken_below { IfOk result (λ taken. (top : ℕ)
         → AreBelow top state.old → AreBelow top taken.value) }

@@ -43,7 +43,8 @@ use Rattle.register_kinds.specs.States.{kind_of, kind_in, state_of}
 use Rattle.compute_effects.specs.declared.moving.Way.{Way}
 use Rattle.compute_effects.specs.declared.moving.Way.TheVariants.{Forward, Back}
 use Rattle.compute_effects.specs.Computes.{Performs, step_of, Moves, Combines, Computes, HasValue, IsMove}
-use Rattle.compute_effects.proofs.Laws.{alu_lt, unary_lt, computed_numbers}
+use Rattle.compute_effects.proofs.Laws.{unary_lt, computed_numbers}
+use Rattle.scalar_domain.proofs.Words.{alu_lt}
 
 ap2 : {A B C : Type 0} (f : A → B → C) {a a' : A} {b b' : B} → a ≡ a' → b ≡ b' → f a b ≡ f a' b'
 ap2 f {a' = a'} {b = b} p q = ap (λ a. f a b) p ∙ ap (f a') q

@@ -1,8 +1,14 @@
 -- Registers that are known to be numbers are read as numbers.
-use Rattle.std.proofs.Common.{◌≡◌, ap, Ok}
-use Rattle.std.specs.Prelude.{Result}
+use Rattle.std.proofs.Common.{◌≡◌, ℕ, ◌+◌, ◌^◌, ◌≤◌, refl, ap, Ok, Err, ℤ, pos, arith}
+use Rattle.std.proofs.lemmas.Int.{ints}
+use Rattle.std.specs.Prelude.{Result, IsOk, IfOk}
+use Rattle.bpf_model.specs.declared.insn.Operand.TheVariants.{Immediate}
 use Rattle.scalar_domain.specs.declared.scalar.Scalar.{Scalar}
+use Rattle.scalar_domain.specs.Scalar.{Holds, IsConstant}
+use Rattle.typed_runs.specs.Describes.{HasOffset}
+use Rattle.compute_effects.specs.declared.moving.Way.{Way}
 use Rattle.typed_runs.specs.Kinds.{Num}
+use Rattle.typed_runs.specs.Effects.{IsWritten}
 use Rattle.register_kinds.specs.declared.kind.RegKind.{RegKind}
 use Rattle.register_kinds.specs.declared.kind.RegKind.TheVariants as kinds
 use Rattle.register_kinds.specs.States.{kind_of}
@@ -25,3 +31,42 @@ held_number k s e = ap held_kind (number_kind k s e)
 
 pub ok_is : (a b : RegKind) → ◌≡◌ {A = Result RegKind Fault} (Ok a) (Ok b) → a ≡ b
 ok_is a b e = cc
+
+-- a kind that may be read is read as it is
+pub held_written : (k : RegKind) → IsWritten (kind_of k) → held_kind k ≡ Ok k
+held_written kinds.Unwritten w = absurd w
+held_written kinds.Ended w = absurd w
+held_written kinds.Mixed w = absurd w
+held_written (kinds.Num t) w = refl
+held_written (kinds.Ctx t) w = refl
+held_written (kinds.Frame o) w = refl
+held_written (kinds.Map m) w = refl
+held_written (kinds.Value m t) w = refl
+held_written (kinds.MaybeNull m i) w = refl
+
+pub same_immediate : (a b : ℤ) → Immediate a ≡ Immediate b → a ≡ b
+same_immediate a b e = cc
+
+pub same_frame : (a b : ℤ) → kinds.Frame a ≡ kinds.Frame b → a ≡ b
+same_frame a b e = cc
+
+pub same_numbers : (a b : Scalar) → kinds.Num a ≡ kinds.Num b → a ≡ b
+same_numbers a b e = cc
+
+-- one number alone is what the set holds
+pub constant_holds : (s : Scalar) (n : ℕ) → IsConstant s n → Holds s n
+constant_holds s n e = record { least = omega (arith, e.least); greatest = omega (arith, e.greatest); zeros = e.zeros; ones = e.ones }
+
+pub ok_scalar : (a b : Scalar) → ◌≡◌ {A = Result Scalar Fault} (Ok a) (Ok b) → a ≡ b
+ok_scalar a b e = cc
+
+pub ok_value : (r : Result ℤ Fault) (z : ℤ) → IsOk r → IfOk r (λ p. p ≡ z) → r ≡ Ok z
+ok_value (Ok p) z o e = ap Ok e
+ok_value (Err f) z o e = absurd cc
+
+pub ok_way : (a b : Way) → ◌≡◌ {A = Result Way Fault} (Ok a) (Ok b) → a ≡ b
+ok_way a b e = cc
+
+-- the offset in the frame that is the one of a set
+pub offset_is : (s : Scalar) (at : ℕ) → IsConstant s (at + 2 ^ 29) → at ≤ 2 ^ 29 → HasOffset s (pos at)
+offset_is s at e l = record { raised = at + 2 ^ 29; is = omega (arith, ints); limit = omega (arith, l); holds = constant_holds s (at + 2 ^ 29) e }

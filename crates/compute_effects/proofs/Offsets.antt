@@ -5,7 +5,7 @@ use Rattle.std.specs.Int.{w64}
 use Rattle.std.proofs.lemmas.Int.{ints, to_z_pos}
 use Rattle.std.proofs.lemmas.Bool.{le-ltb}
 use mir.Val.{sel}
-use Rattle.bpf_model.specs.Arithmetic.{signed, word}
+use Rattle.bpf_model.specs.Arithmetic.{signed, word, immediate}
 use Rattle.scalar_domain.specs.declared.scalar.Scalar.{Scalar}
 use Rattle.scalar_domain.specs.Scalar.{Holds}
 use Rattle.scalar_domain.proofs.Forms.{word_difference}
@@ -61,3 +61,14 @@ module _ (s by t : Scalar) (small : t.greatest ≤ 2 ^ 30) (steps : (n : ℕ) �
   pub moves : (way : Way) → ((x n : ℕ) → x < 2 ^ 64 → n < 2 ^ 64 → Holds s x → Holds by n → Holds t (shifted_word way x n)) → Moves way s by t
   moves Forward sound = moves_forward sound
   moves Back sound = moves_back sound
+
+-- a field imm by which an offset inside the frame is moved to another
+pub step_inside : (m at : ℕ) (imm : ℤ) → m ≤ 512 → at ≤ 512 → pos m +ℤ imm ≡ pos at → IsStep (immediate imm) × (shifted_word Forward (m + 2 ^ 29) (immediate imm) ≡ at + 2 ^ 29)
+step_inside m at (pos k) l h e =
+    let s : m + k ≡ at = omega (arith, ints, e) in
+    let w : (m + 2 ^ 29 + k) % 2 ^ 64 ≡ at + 2 ^ 29 = omega (arith, s, h) in
+    (inl (omega (arith, s, h)), w)
+step_inside m at (negsuc k) l h e =
+    let s : at + suc k ≡ m = omega (arith, ints, e) in
+    let w : (m + 2 ^ 29 + (2 ^ 64 - suc k)) % 2 ^ 64 ≡ at + 2 ^ 29 = omega (arith, s, l) in
+    (inr (omega (arith, s, l)), w)

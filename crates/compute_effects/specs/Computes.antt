@@ -1,22 +1,23 @@
 -- What operations give, by the kinds of their operands.
-use Rattle.std.specs.Prelude.{◌≡◌, ℕ, ◌-◌, ◌^◌, ◌<◌, ◌≤◌, ◌⊎◌, List, Option, Some, None, ℤ, pos, ◌+ℤ◌, ◌-ℤ◌, Result, Ok, IsOk, ◌+◌}
+use Rattle.std.specs.Prelude.{◌≡◌, ℕ, ◌-◌, ◌^◌, ◌<◌, ◌≤◌, ◌⊎◌, List, Option, Some, None, ℤ, pos, ◌+ℤ◌, ◌-ℤ◌, Result, Ok, IsOk}
 use Rattle.std.specs.Int.{w64}
 use Rattle.bpf_model.specs.declared.limits.MapShape.{MapShape}
 use Rattle.bpf_model.specs.declared.value.Value.{Value}
 use Rattle.bpf_model.specs.declared.insn.Insn.{Insn}
 use Rattle.bpf_model.specs.declared.insn.AluOp.{AluOp}
 use Rattle.bpf_model.specs.declared.insn.Operand.{Operand}
+use Rattle.bpf_model.specs.declared.insn.Operand.TheVariants.{Register, Immediate}
 use Rattle.bpf_model.specs.declared.opcode.Size.{Size}
 use Rattle.bpf_model.specs.declared.opcode.Size.TheVariants.{Word64}
 use Rattle.bpf_model.specs.declared.insn.AluOp.TheVariants.{Add, Sub, Move}
-use Rattle.bpf_model.specs.Arithmetic.{signed, word}
+use Rattle.bpf_model.specs.Arithmetic.{signed, word, immediate}
 use Rattle.bpf_model.specs.Operand.{operand_value, computed}
 use Rattle.bpf_model.specs.Near.{IsNear}
 use Rattle.bpf_model.specs.Step.{State}
 use Rattle.scalar_domain.specs.declared.scalar.Scalar.{Scalar}
-use Rattle.scalar_domain.specs.Scalar.{Holds}
+use Rattle.scalar_domain.specs.Scalar.{Holds, IsConstant}
 use Rattle.typed_runs.specs.Kinds.{Kind, Num, AbsState as Known}
-use Rattle.typed_runs.specs.Effects.{with_kind}
+use Rattle.typed_runs.specs.Effects.{with_kind, IsWritten}
 use Rattle.typed_runs.specs.Planned.{AreAlike}
 use Rattle.kind_tests.specs.declared.fault.Fault.{Fault}
 use Rattle.register_kinds.specs.declared.kind.RegKind.{RegKind}
@@ -24,7 +25,7 @@ use Rattle.register_kinds.specs.declared.kind.RegKind.TheVariants as kinds
 use Rattle.typed_runs.specs.Describes.{Scene, Naming, HasOffset, IsOf, Describes}
 use Rattle.typed_runs.specs.Verified.{Transfers}
 use Rattle.register_kinds.specs.declared.state.AbsState.{AbsState}
-use Rattle.register_kinds.specs.States.{state_of}
+use Rattle.register_kinds.specs.States.{kind_of, kind_in, state_of}
 use Rattle.compute_effects.specs.declared.moving.Way.{Way}
 use Rattle.compute_effects.specs.declared.moving.Way.TheVariants.{Forward, Back}
 
@@ -84,6 +85,16 @@ pub record SetsNumber (r : Result (Unit {0}) Fault) (dst : ℕ) (a b : Known) : 
   pub fine : IsOk r
   pub number : Scalar
   pub alike : AreAlike (with_kind dst (Num number) a) b
+
+-- The instruction is not refused, and the register becomes of the kind.
+pub record SetsKind (r : Result (Unit {0}) Fault) (dst : ℕ) (kind : Kind) (a b : Known) : Type 0 where
+  pub fine : IsOk r
+  pub alike : AreAlike (with_kind dst kind a) b
+
+-- A second operand that may be read is what its register holds, or the field imm with its sign.
+pub record HasOperand (a : AbsState) (src : Operand) (r : Result RegKind Fault) : Type 0 where
+  pub register : (s : ℕ) → src ≡ Register s → IsWritten (kind_of (kind_in a.regs s)) → r ≡ Ok (kind_in a.regs s)
+  pub number : (imm : ℤ) → src ≡ Immediate imm → (t : Scalar) × (r ≡ Ok (kinds.Num t)) × IsConstant t (immediate imm)
 
 -- What an operation reads of the register that it writes is a number: a move reads nothing of it.
 abbrev pub ReadsNumber : AluOp → Known → ℕ → Type 0

@@ -1,12 +1,14 @@
 //! Instructions that compute, and those that load a number or a map from the program.
-ghost use Rattle.std.specs.Prelude.{◌≡◌, ℕ, ◌<◌, OnOk, OnErr, IfOk, pos, List, length, None};
+ghost use Rattle.std.specs.Prelude.{◌≡◌, ℕ, ◌<◌, ◌≤◌, OnOk, OnErr, IfOk, Ok, ℤ, pos, ◌+ℤ◌, List, length, None};
+ghost use Rattle.bpf_model.specs.declared.limits.TheConstants.{FRAME_BYTES};
+ghost use Rattle.typed_runs.specs.Kinds as model;
 ghost use Rattle.bpf_model.specs.declared.limits.MapShape.{MapShape};
 ghost use Rattle.bpf_model.specs.Operand.{unary_source};
-ghost use Rattle.typed_runs.specs.Effects.{IsNumberOperand};
+ghost use Rattle.typed_runs.specs.Effects.{IsNumberOperand, IsWritten};
 ghost use Rattle.typed_runs.specs.Verified.{Transfers};
 ghost use Rattle.register_kinds.specs.States.{kind_in, kind_of, state_of};
 ghost use Rattle.register_kinds.specs.Pairs.{IsBelow, AreBelow};
-ghost use Rattle.compute_effects.specs.Computes.{Performs, Computes, HasNumber, ReadsNumber, GivesNumber, SetsNumber};
+ghost use Rattle.compute_effects.specs.Computes.{Performs, Computes, HasNumber, ReadsNumber, GivesNumber, SetsNumber, SetsKind};
 
 use crate::kinds::{combined, copied, numbers, operand};
 use bpf_model::{AluOp, Insn, Operand, Reg, Size, UnaryOp};
@@ -28,6 +30,12 @@ fn computed_kind(
         → IsBelow top (kind_of k)) }
     ensures numbers { ReadsNumber op (state_of state.now) dst
         → IsNumberOperand (state_of state.now) src.now → GivesNumber result }
+    ensures copies { (s : ℕ) → op ≡ AluOp.Move → size ≡ Size.Word64 → src.now ≡ Operand.Register s
+        → IsWritten (kind_of (kind_in state.now.regs s)) → result ≡ Ok (kind_in state.now.regs s) }
+    ensures frame { (m at : ℕ) (imm : ℤ) → op ≡ AluOp.Add → size ≡ Size.Word64
+        → src.now ≡ Operand.Immediate imm → kind_in state.now.regs dst ≡ RegKind.Frame (pos m)
+        → m ≤ FRAME_BYTES → at ≤ FRAME_BYTES → pos m +ℤ imm ≡ pos at
+        → result ≡ Ok (RegKind.Frame (pos at)) }
 {
     match op {
         AluOp::Move => copied(size, operand(state, src)?),
@@ -61,6 +69,17 @@ pub fn alu(
     ensures numbers { (10 ≡ dst → ⊥) → ReadsNumber op (state_of state.old) dst
         → IsNumberOperand (state_of state.old) src.now
         → SetsNumber result dst (state_of state.old) (state_of state.new) }
+
+    // A move of 64 bits copies whatever may be read; a sum moves a reference inside the frame.
+    ensures copies { (s : ℕ) → op ≡ AluOp.Move → size ≡ Size.Word64 → src.now ≡ Operand.Register s
+        → (10 ≡ dst → ⊥) → IsWritten (kind_of (kind_in state.old.regs s))
+        → SetsKind result dst (kind_of (kind_in state.old.regs s)) (state_of state.old) (state_of state.new) }
+    ensures frame { (m at : ℕ) (imm : ℤ) → op ≡ AluOp.Add → size ≡ Size.Word64
+        → src.now ≡ Operand.Immediate imm → (10 ≡ dst → ⊥)
+        → kind_in state.old.regs dst ≡ RegKind.Frame (pos m)
+        → m ≤ FRAME_BYTES → at ≤ FRAME_BYTES → pos m +ℤ imm ≡ pos at
+        → SetsKind result dst (model.FrameAt (pos at)) (state_of state.old) (state_of state.new) }
+
     ensures below { (top : ℕ) → AreBelow top state.old → AreBelow top state.new }
     ensures unchanged { OnErr result (state.new ≡ state.old) }
 {
@@ -112,6 +131,7 @@ pub fn load_number(state: &mut AbsState, dst: Reg, number: u64) -> Result<(), Fa
 fn map_index(map: i32, maps: usize) -> Result<u32, Fault>
     ensures value { IfOk result (λ n. map ≡ pos n) }
     ensures bound { IfOk result (λ n. n < maps) }
+    ensures accepts { (n : ℕ) → map ≡ pos n → n < maps → result ≡ Ok n }
 {
     if map < 0 || map as usize >= maps {
         return Err(Fault::NoSuchMap);
@@ -125,6 +145,8 @@ pub fn load_map(state: &mut AbsState, dst: Reg, map: i32, maps: usize) -> Result
     ensures sound { OnOk result ((shapes : List MapShape) (ctx_len : ℕ) → length shapes ≡ maps
         → Transfers (Insn.LoadMap dst map) shapes ctx_len (state_of state.old)
         (state_of state.new) None) }
+    ensures sets { (n : ℕ) → (10 ≡ dst → ⊥) → map ≡ pos n → n < maps
+        → SetsKind result dst (model.MapAt n) (state_of state.old) (state_of state.new) }
     ensures below { (top : ℕ) → AreBelow top state.old → AreBelow top state.new }
     ensures unchanged { OnErr result (state.new ≡ state.old) }
 {

@@ -1,10 +1,14 @@
 //! What operations give, by the kinds of their operands.
-ghost use Rattle.std.specs.Prelude.{◌≡◌, ℕ, IfOk, Ok};
+ghost use Rattle.std.specs.Prelude.{◌≡◌, ℕ, ◌+◌, ◌≤◌, ◌^◌, ℤ, pos, ◌+ℤ◌, IfOk, Ok};
+ghost use Rattle.bpf_model.specs.declared.limits.TheConstants.{FRAME_BYTES};
+ghost use Rattle.bpf_model.specs.Arithmetic.{immediate};
+ghost use Rattle.scalar_domain.specs.declared.scalar.Scalar.{Scalar as Numbers};
+ghost use Rattle.scalar_domain.specs.Scalar.{IsConstant};
 ghost use Rattle.typed_runs.specs.Kinds as model;
 ghost use Rattle.typed_runs.specs.Effects.{IsWritten, IsNumberOperand};
 ghost use Rattle.register_kinds.specs.States.{kind_of, state_of};
 ghost use Rattle.register_kinds.specs.Pairs.{IsBelow, AreBelow};
-ghost use Rattle.compute_effects.specs.Computes.{Combines, HasValue, IsMove, GivesNumber};
+ghost use Rattle.compute_effects.specs.Computes.{Combines, HasValue, IsMove, IsStep, shifted_word, GivesNumber, HasOperand};
 
 use crate::moving::{Way, moved, moved_in_frame};
 use bpf_model::{AluOp, Operand, Size};
@@ -14,7 +18,8 @@ use scalar_domain::Scalar;
 
 /// Which way an operation moves a reference.
 fn way_of(size: Size, op: AluOp) -> Result<Way, Fault>
-    ensures { IfOk result (λ way. IsMove way size op) }
+    ensures way { IfOk result (λ way. IsMove way size op) }
+    ensures forward { size ≡ Size.Word64 → op ≡ AluOp.Add → result ≡ Ok Way.Forward }
 {
     match (size, op) {
         (Size::Word64, AluOp::Add) => Ok(Way::Forward),
@@ -28,6 +33,9 @@ fn moved_kind(way: Way, x: RegKind, by: Scalar) -> Result<RegKind, Fault>
     ensures sound { IfOk result (λ k. (size : Size) (op : AluOp) → IsMove way size op
         → Combines size op (kind_of x) (model.Num by) (kind_of k)) }
     ensures below { IfOk result (λ k. (top : ℕ) → IsBelow top (kind_of k)) }
+    ensures frame { (m n at : ℕ) → x ≡ RegKind.Frame (pos m) → m ≤ 2 ^ 29 → IsConstant by n
+        → IsStep n → shifted_word way (m + 2 ^ 29) n ≡ at + 2 ^ 29 → at ≤ 2 ^ 29
+        → result ≡ Ok (RegKind.Frame (pos at)) }
 {
     match x {
         RegKind::Ctx(offset) => Ok(RegKind::Ctx(moved(way, offset, by)?)),
@@ -45,6 +53,10 @@ pub(crate) fn combined(size: Size, op: AluOp, x: RegKind, y: RegKind) -> Result<
     ensures sound { IfOk result (λ k. Combines size op (kind_of x) (kind_of y) (kind_of k)) }
     ensures below { IfOk result (λ k. (top : ℕ) → IsBelow top (kind_of k)) }
     ensures numbers { (a b : Scalar) → x ≡ RegKind.Num a → y ≡ RegKind.Num b → GivesNumber result }
+    ensures frame { (m at : ℕ) (imm : ℤ) (by : Numbers) → size ≡ Size.Word64 → op ≡ AluOp.Add
+        → x ≡ RegKind.Frame (pos m) → y ≡ RegKind.Num by → IsConstant by (immediate imm)
+        → m ≤ FRAME_BYTES → at ≤ FRAME_BYTES → pos m +ℤ imm ≡ pos at
+        → result ≡ Ok (RegKind.Frame (pos at)) }
 {
     match (x, y) {
         (RegKind::Num(a), RegKind::Num(b)) => Ok(RegKind::Num(Scalar::apply(size, op, a, b))),
@@ -75,6 +87,7 @@ pub(crate) fn copied(size: Size, kind: RegKind) -> Result<RegKind, Fault>
     ensures below { IfOk result (λ k. (top : ℕ) → IsBelow top (kind_of kind)
         → IsBelow top (kind_of k)) }
     ensures numbers { (s : Scalar) → kind ≡ RegKind.Num s → GivesNumber result }
+    ensures copies { size ≡ Size.Word64 → result ≡ Ok kind }
 {
     match size {
         Size::Word64 => Ok(kind),
@@ -93,6 +106,7 @@ pub fn operand(state: &AbsState, src: &Operand) -> Result<RegKind, Fault>
     ensures below { IfOk result (λ k. (top : ℕ) → AreBelow top state.now
         → IsBelow top (kind_of k)) }
     ensures numbers { IsNumberOperand (state_of state.now) src.now → GivesNumber result }
+    ensures operand { HasOperand state.now src.now result }
 {
     match src {
         Operand::Register(r) => held(state, *r),

@@ -1,7 +1,8 @@
 //! References that are moved by a number.
-ghost use Rattle.std.specs.Prelude.{◌≡◌, ℕ, ◌<◌, ◌^◌, ℤ, ◌+ℤ◌, IfOk, OnOk};
+ghost use Rattle.std.specs.Prelude.{◌≡◌, ℕ, ◌+◌, ◌<◌, ◌≤◌, ◌^◌, ℤ, pos, ◌+ℤ◌, IfOk, OnOk, IsOk, Ok};
 ghost use Rattle.bpf_model.specs.Near.{IsNearOffset};
-ghost use Rattle.scalar_domain.specs.Scalar.{Holds};
+ghost use Rattle.scalar_domain.specs.declared.scalar.Scalar.{Scalar as Numbers};
+ghost use Rattle.scalar_domain.specs.Scalar.{Holds, IsConstant};
 ghost use Rattle.typed_runs.specs.Describes.{HasOffset};
 ghost use Rattle.compute_effects.specs.Computes.{Moves, IsStep, step_of, shifted_word};
 
@@ -22,7 +23,8 @@ pub(crate) enum Way {
 
 /// Each of the numbers, read as a signed one, lies within the limit, and all have one sign.
 fn check_step(by: Scalar) -> Result<(), Fault>
-    ensures { OnOk result ((n : ℕ) → Holds by n → IsStep n) }
+    ensures steps { OnOk result ((n : ℕ) → Holds by n → IsStep n) }
+    ensures accepts { (n : ℕ) → IsConstant by n → IsStep n → IsOk result }
 {
     if by.greatest <= LIMIT || by.least >= u64::MAX - (LIMIT - 1) {
         return Ok(());
@@ -32,8 +34,10 @@ fn check_step(by: Scalar) -> Result<(), Fault>
 
 /// The raised offsets, forward or back by each of the numbers, as words.
 fn shifted(way: Way, offset: Scalar, by: Scalar) -> Scalar
-    ensures { (x n : ℕ) → x < 2 ^ 64 → n < 2 ^ 64 → Holds offset x → Holds by n
+    ensures sound { (x n : ℕ) → x < 2 ^ 64 → n < 2 ^ 64 → Holds offset x → Holds by n
         → Holds result (shifted_word way x n) }
+    ensures constant { (x n : ℕ) → IsConstant offset x → IsConstant by n
+        → IsConstant result (shifted_word way x n) }
 {
     match way {
         Way::Forward => Scalar::apply(Size::Word64, AluOp::Add, offset, by),
@@ -44,7 +48,10 @@ fn shifted(way: Way, offset: Scalar, by: Scalar) -> Scalar
 /// The offsets of a reference that is moved. Error: `PointerArithmetic` where a number may lie
 /// outside the limit, or a new offset.
 pub(crate) fn moved(way: Way, offset: Scalar, by: Scalar) -> Result<Scalar, Fault>
-    ensures { IfOk result (λ t. Moves way offset by t) }
+    ensures sound { IfOk result (λ t. Moves way offset by t) }
+    ensures constant { (x n : ℕ) → IsConstant offset x → IsConstant by n → IsStep n
+        → shifted_word way x n ≤ 2 ^ 30
+        → (t : Numbers) × (result ≡ Ok t) × IsConstant t (shifted_word way x n) }
 {
     check_step(by)?;
     let new = shifted(way, offset, by);
@@ -56,7 +63,9 @@ pub(crate) fn moved(way: Way, offset: Scalar, by: Scalar) -> Result<Scalar, Faul
 
 /// An offset of a reference to the frame, kept 2^29 higher, where it is near.
 fn raised(offset: i32) -> Result<Scalar, Fault>
-    ensures { IfOk result (λ s. HasOffset s offset) }
+    ensures value { IfOk result (λ s. HasOffset s offset) }
+    ensures constant { (m : ℕ) → offset ≡ pos m → m ≤ 2 ^ 29
+        → (s : Numbers) × (result ≡ Ok s) × IsConstant s (m + 2 ^ 29) }
 {
     let raised = i64::from(offset) + (1 << 29);
     if raised < 0 || raised > 1 << 30 {
@@ -69,6 +78,7 @@ fn raised(offset: i32) -> Result<Scalar, Fault>
 fn lowered(offsets: Scalar) -> Result<i32, Fault>
     ensures value { IfOk result (λ p. (o : ℤ) → HasOffset offsets o → p ≡ o) }
     ensures near { IfOk result IsNearOffset }
+    ensures accepts { (x : ℕ) → IsConstant offsets x → x ≤ 2 ^ 30 → IsOk result }
 {
     match offsets.as_constant() {
         Some(raised) => {
@@ -87,6 +97,8 @@ pub(crate) fn moved_in_frame(way: Way, offset: i32, by: Scalar) -> Result<i32, F
     ensures value { IfOk result (λ p. (n : ℕ) → n < 2 ^ 64 → Holds by n
         → p ≡ offset +ℤ step_of way n) }
     ensures near { IfOk result IsNearOffset }
+    ensures inside { (m n at : ℕ) → offset ≡ pos m → m ≤ 2 ^ 29 → IsConstant by n → IsStep n
+        → shifted_word way (m + 2 ^ 29) n ≡ at + 2 ^ 29 → at ≤ 2 ^ 29 → result ≡ Ok (pos at) }
 {
     let new = moved(way, raised(offset)?, by)?;
     lowered(new)

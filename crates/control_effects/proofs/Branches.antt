@@ -58,10 +58,10 @@ narrows_both dst r src x y a b t is e f c m d p q =
     alike_wider (with_kind dst (Num x) (state_of b)) (state_of t) f c m (known-more (state_of b) c m dst (Num x) first p)
 
 -- what is set, and what stays
-set-there : (r q : ℕ) (k : Kind) (a b : AbsState) → AreAlike (with_kind r k a) b → q ≡ r → b.regs q ≡ k
+pub set-there : (r q : ℕ) (k : Kind) (a b : AbsState) → AreAlike (with_kind r k a) b → q ≡ r → b.regs q ≡ k
 set-there r q k a b e p = e.regs q ∙ ap (λ t. if t then k else a.regs q) (eq-eqb q r p)
 
-set-elsewhere : (r q : ℕ) (k : Kind) (a b : AbsState) → AreAlike (with_kind r k a) b → (q ≡ r → ⊥) → b.regs q ≡ a.regs q
+pub set-elsewhere : (r q : ℕ) (k : Kind) (a b : AbsState) → AreAlike (with_kind r k a) b → (q ≡ r → ⊥) → b.regs q ≡ a.regs q
 set-elsewhere r q k a b e n = e.regs q ∙ ap (λ t. if t then k else a.regs q) (ne_eqb q r n)
 
 pub narrowed_one : (dst : ℕ) (src : Operand) (imm : ℤ) (x : Scalar) (a b : StateHere) → src ≡ Immediate imm → AreAlike (with_kind dst (Num x) (state_of a)) (state_of b) → AreNarrowed dst src (state_of a) (state_of b)

@@ -10,10 +10,10 @@ ghost use Rattle.element_arena.specs.State.{IsTaken, generation_at, given_back, 
 ghost use Rattle.element_arena.specs.State.{link_at, new_arena, taken, value_at, with_link, with_value};
 
 use crate::blocks::{block, write_block, write_inside};
-use crate::bytes::number_of;
 use crate::cell::{Cell, Standing, append, given_cell, last_after};
 use crate::make::{below, fresh_cells, key_of, room_for, value_of};
 use bpf_model::{Given, KeyBytes, ValueBytes, Width};
+use byte_numbers::number_of;
 use std::alloc::{AllocError, Global};
 use std::marker::Model;
 

@@ -4,8 +4,8 @@ ghost use Rattle.bpf_model.specs.Access.{byte_count};
 ghost use Rattle.bpf_model.specs.MachineStep.{with_bytes};
 ghost use Rattle.element_arena.specs.Blocks.{block, with_block};
 
-use crate::bytes::write_number;
 use bpf_model::Width;
+use byte_numbers::write_number;
 
 /// The string of an index.
 #[inline]

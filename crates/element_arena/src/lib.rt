@@ -7,7 +7,6 @@
 
 mod arena;
 mod blocks;
-mod bytes;
 mod cell;
 mod make;
 

@@ -7,6 +7,7 @@
 ghost use Rattle.std.specs.Prelude.{◌≡◌, ◌<◌, true, false, Some, slice_get, slice_set, replicate, not, if◌then◌else◌};
 ghost use Rattle.bpf_model.specs.declared.limits.TheConstants.{MAX_RUNS};
 ghost use Rattle.bpf_model.specs.Schedule.{is_any};
+ghost use Rattle.grace_period.specs.State.{IsGrace};
 
 mod flags;
 
@@ -44,6 +45,13 @@ impl Grace {
             opened: 0,
             awaited: 0,
         }
+    }
+
+    /// A law: there is a flag for each run slot, and an awaited run is inside a section.
+    pub fn keeps_awaited_open(&self)
+        ensures { IsGrace self.now }
+    {
+        let _opened = &self.opened;
     }
 
     /// The run enters a section.

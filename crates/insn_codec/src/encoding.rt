@@ -1,15 +1,15 @@
 //! Bytes out of programs.
-ghost use Rattle.std.specs.Prelude.{◌≡◌, ◌<◌, ◌≤◌, ◌/◌, ◌^◌, ◌++◌, OnOk, IfOk};
+ghost use Rattle.std.specs.Prelude.{pos, ◌%◌, ◌≡◌, ◌<◌, ◌≤◌, ◌/◌, ◌^◌, ◌++◌, OnOk, IfOk};
 ghost use Rattle.std.specs.Int.{w32, cast_signed};
 ghost use Rattle.bpf_model.specs.Spelling.{FitsInsn, FitsOperand, FitsSlot, slot_bytes, spelling, text, code_of, offset_of, extension_size, extension_bits, swap_bits, source_of, operand_src, operand_imm, slot as slot_of};
-ghost use Rattle.bpf_model.specs.Spelling.{FitsUnary, IsProgram, first_slot as first_slot_of, unary_slot as unary_slot_of, tail_slot as tail_slot_of};
+ghost use Rattle.bpf_model.specs.Spelling.{FitsUnary, IsProgram, first_slot as first_slot_of, unary_slot as unary_slot_of, tail_slot as tail_slot_of, call_source as call_source_of};
 
 use crate::opcode::byte_of;
 use crate::program::Program;
 use crate::slots::slot_to;
 use bpf_model::{
-    AluCode, AluOp, CallKind, Insn, Opcode, Operand, Reg, SignExtension, Size, Slot, Source,
-    SwapWidth, UnaryOp,
+    AluCode, AluOp, CallKind, Condition, Insn, Opcode, Operand, Reg, SignExtension, Size, Slot,
+    Source, SwapWidth, UnaryOp, Width,
 };
 use std::alloc::{AllocError, Global};
 
@@ -114,6 +114,69 @@ fn unary_slot(op: UnaryOp, dst: Reg) -> Slot
     }
 }
 
+/// The slot of an operation on a register and an operand: where a code has two operations, `offset` tells
+/// which it is.
+fn alu_slot(op: AluOp, size: Size, dst: Reg, operand: Operand) -> Slot
+    requires dst { dst ≤ 10 }
+    requires operand { FitsOperand operand }
+    ensures value { result ≡ first_slot_of (Insn.Alu op size dst operand) }
+    ensures fits { FitsSlot result }
+{
+    let (source, src, imm) = operand_parts(operand);
+    let opcode = Opcode::Alu(code_of(op), size, source);
+    slot(opcode, dst.number(), src, offset_of(op), imm)
+}
+
+/// The slot of a conditional jump.
+fn jump_slot(condition: Condition, size: Size, dst: Reg, operand: Operand, offset: i16) -> Slot
+    requires dst { dst ≤ 10 }
+    requires operand { FitsOperand operand }
+    ensures value { result ≡ first_slot_of (Insn.JumpIf condition size dst operand offset) }
+    ensures fits { FitsSlot result }
+{
+    let (source, src, imm) = operand_parts(operand);
+    let opcode = Opcode::JumpIf(condition, size, source);
+    slot(opcode, dst.number(), src, offset, imm)
+}
+
+/// The slot of a store.
+fn store_slot(width: Width, dst: Reg, offset: i16, operand: Operand) -> Slot
+    requires dst { dst ≤ 10 }
+    requires operand { FitsOperand operand }
+    ensures value { result ≡ first_slot_of (Insn.Store width dst offset operand) }
+    ensures fits { FitsSlot result }
+{
+    let (source, src, imm) = operand_parts(operand);
+    slot(Opcode::Store(width, source), dst.number(), src, offset, imm)
+}
+
+/// The slot of a load with this opcode.
+fn load_slot(opcode: Opcode, dst: Reg, src: Reg, offset: i16) -> Slot
+    requires dst { dst ≤ 10 }
+    requires src { src ≤ 10 }
+    ensures value { result ≡ slot_of opcode dst src offset (pos 0) }
+    ensures fits { FitsSlot result }
+{
+    slot(opcode, dst.number(), src.number(), offset, 0)
+}
+
+/// The source field of a call: 0 of a helper, 2 of a kernel function.
+fn call_source(kind: CallKind) -> u8
+    ensures value { result ≡ call_source_of kind }
+    ensures fits { result < 16 }
+{
+    match kind {
+        CallKind::Helper => 0,
+        CallKind::Kernel => 2,
+    }
+}
+
+fn low_half(number: u64) -> i32
+    ensures { result ≡ cast_signed w32 (number % 2 ^ 32) }
+{
+    ((number % 0x1_0000_0000) as u32).cast_signed()
+}
+
 /// The first slot of an instruction, with 0 in each field that it does not use.
 fn first_slot(instruction: Insn) -> Slot
     requires { FitsInsn instruction }
@@ -121,15 +184,10 @@ fn first_slot(instruction: Insn) -> Slot
     ensures fits { FitsSlot result }
 {
     match instruction {
-        Insn::Alu { op, size, dst, src } => {
-            let (source, src, imm) = operand_parts(src);
-            let opcode = Opcode::Alu(code_of(op), size, source);
-            slot(opcode, dst.number(), src, offset_of(op), imm)
-        }
+        Insn::Alu { op, size, dst, src } => alu_slot(op, size, dst, src),
         Insn::Unary { op, dst } => unary_slot(op, dst),
         Insn::LoadNumber { dst, number } => {
-            let low = ((number % 0x1_0000_0000) as u32).cast_signed();
-            slot(Opcode::Wide, dst.number(), 0, 0, low)
+            slot(Opcode::Wide, dst.number(), 0, 0, low_half(number))
         }
         Insn::LoadMap { dst, map } => slot(Opcode::Wide, dst.number(), 5, 0, map),
         Insn::Jump { offset } => slot(Opcode::Jump(Size::Word64), 0, 0, offset, 0),
@@ -140,46 +198,27 @@ fn first_slot(instruction: Insn) -> Slot
             dst,
             src,
             offset,
-        } => {
-            let (source, src, imm) = operand_parts(src);
-            let opcode = Opcode::JumpIf(condition, size, source);
-            slot(opcode, dst.number(), src, offset, imm)
-        }
-        Insn::Call { kind, imm } => {
-            let source = match kind {
-                CallKind::Helper => 0,
-                CallKind::Kernel => 2,
-            };
-            slot(Opcode::Call, 0, source, 0, imm)
-        }
+        } => jump_slot(condition, size, dst, src, offset),
+        Insn::Call { kind, imm } => slot(Opcode::Call, 0, call_source(kind), 0, imm),
         Insn::Exit => slot(Opcode::Exit, 0, 0, 0, 0),
         Insn::Load {
             width,
             dst,
             src,
             offset,
-        } => slot(Opcode::Load(width), dst.number(), src.number(), offset, 0),
+        } => load_slot(Opcode::Load(width), dst, src, offset),
         Insn::LoadSigned {
             width,
             dst,
             src,
             offset,
-        } => slot(
-            Opcode::LoadSigned(width),
-            dst.number(),
-            src.number(),
-            offset,
-            0,
-        ),
+        } => load_slot(Opcode::LoadSigned(width), dst, src, offset),
         Insn::Store {
             width,
             dst,
             offset,
             src,
-        } => {
-            let (source, src, imm) = operand_parts(src);
-            slot(Opcode::Store(width, source), dst.number(), src, offset, imm)
-        }
+        } => store_slot(width, dst, offset, src),
     }
 }
 

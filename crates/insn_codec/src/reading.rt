@@ -5,13 +5,13 @@ ghost use Rattle.bpf_model.specs.Spelling.{offset_of, extension_size, extension_
 ghost use Rattle.bpf_model.specs.declared.insn.Insn.{Insn};
 ghost use Rattle.bpf_model.specs.Opcode.{opcode_byte};
 ghost use Rattle.insn_codec.specs.Begins.{BeginsWith};
-ghost use Rattle.insn_codec.specs.Faults.{IsInsnFlaw, flaw_with, has_bad_offset, tail_flaw, has_unused, used_fields, has_unsupported_source as unsupported_source, is_excluded as is_excluded_opcode};
+ghost use Rattle.insn_codec.specs.Faults.{IsInsnFlaw, flaw_with, has_bad_offset, has_bad_width, tail_flaw, has_unused, used_fields, has_unsupported_source as unsupported_source, is_excluded as is_excluded_opcode};
 
 use crate::flaw::Flaw;
 use crate::opcode::opcode_from;
 use bpf_model::{
-    AluCode, AluOp, CallKind, Insn, Opcode, Operand, Reg, SignExtension, Size, Slot, Source,
-    SwapWidth, UnaryOp,
+    AluCode, AluOp, ByteOrder, CallKind, Insn, Opcode, Operand, Reg, SignExtension, Size, Slot,
+    Source, SwapWidth, UnaryOp,
 };
 
 /// Whether the opcode is of the groups packet and atomic.
@@ -205,6 +205,93 @@ fn wide(slot: Slot, next: Option<Slot>, dst: Reg) -> Result<Insn, Flaw>
     Ok(Insn::LoadMap { dst, map: slot.imm })
 }
 
+/// A swap of bytes, whose width stands in `imm`.
+fn byte_swap(order: ByteOrder, slot: Slot, dst: Reg) -> Result<Insn, Flaw>
+    requires fields { FitsSlot slot }
+    requires opcode { opcode_byte (Opcode.ByteSwap order) ≡ slot.opcode }
+    requires dst { (dst ≡ slot.dst) × (dst ≤ 10) }
+    requires used { has_unused (used_fields (Opcode.ByteSwap order)) slot ≡ false }
+    ensures found { IfOk result (λ i. first_slot i ≡ slot) }
+    ensures one { IfOk result (λ i. slots_of i ≡ first_slot i ∷ []) }
+    ensures fits { IfOk result FitsInsn }
+    ensures kind { IfOk result (λ i. opcode_of i ≡ Opcode.ByteSwap order) }
+    ensures flaw { IfErr result (λ f. f ≡ Flaw.BadWidth) }
+    ensures bad { OnErr result (has_bad_width (Opcode.ByteSwap order) slot ≡ true) }
+{
+    let Some(width) = swap_width_of(slot.imm) else {
+        return Err(Flaw::BadWidth);
+    };
+    let op = UnaryOp::ByteSwap { order, width };
+    Ok(Insn::Unary { op, dst })
+}
+
+/// The instruction with this opcode and these registers, whose unused fields are 0, or the flaw of its
+/// other fields.
+fn insn_with(
+    opcode: Opcode,
+    slot: Slot,
+    next: Option<Slot>,
+    dst: Reg,
+    src: Reg,
+) -> Result<Insn, Flaw>
+    requires slot { FitsSlot slot }
+    requires next { IfSome next FitsSlot }
+    requires opcode { opcode_byte opcode ≡ slot.opcode }
+    requires included { is_excluded_opcode opcode ≡ false }
+    requires dst { (dst ≡ slot.dst) × (dst ≤ 10) }
+    requires src { (src ≡ slot.src) × (src ≤ 10) }
+    requires source { unsupported_source opcode slot ≡ false }
+    requires used { has_unused (used_fields opcode) slot ≡ false }
+    ensures found { IfOk result (BeginsWith slot next) }
+    ensures fits { IfOk result FitsInsn }
+    ensures kind { IfOk result (λ i. opcode_of i ≡ opcode) }
+    ensures flaw { IfErr result (λ f. flaw_with opcode slot next ≡ Some f) }
+{
+    let Slot { offset, imm, .. } = slot;
+    match opcode {
+        Opcode::Alu(code, size, source) => alu(code, size, source, slot, dst, src),
+        Opcode::Wide => wide(slot, next, dst),
+        Opcode::Negate(size) => Ok(Insn::Unary {
+            op: UnaryOp::Negate(size),
+            dst,
+        }),
+        Opcode::ByteSwap(order) => byte_swap(order, slot, dst),
+        Opcode::Jump(Size::Word64) => Ok(Insn::Jump { offset }),
+        Opcode::Jump(Size::Word32) => Ok(Insn::JumpLong { imm }),
+        Opcode::JumpIf(condition, size, source) => Ok(Insn::JumpIf {
+            condition,
+            size,
+            dst,
+            src: operand_of(source, src, imm),
+            offset,
+        }),
+        Opcode::Call => Ok(Insn::Call {
+            kind: call_kind_of(slot.src),
+            imm,
+        }),
+        Opcode::Exit => Ok(Insn::Exit),
+        Opcode::Load(width) => Ok(Insn::Load {
+            width,
+            dst,
+            src,
+            offset,
+        }),
+        Opcode::LoadSigned(width) => Ok(Insn::LoadSigned {
+            width,
+            dst,
+            src,
+            offset,
+        }),
+        Opcode::Store(width, source) => Ok(Insn::Store {
+            width,
+            dst,
+            offset,
+            src: operand_of(source, src, imm),
+        }),
+        Opcode::Excluded(_) => unreachable!(),
+    }
+}
+
 /// The instruction with this opcode that begins with this slot, or its first flaw.
 fn decode_with(opcode: Opcode, slot: Slot, next: Option<Slot>) -> Result<Insn, Flaw>
     requires slot { FitsSlot slot }
@@ -228,56 +315,7 @@ fn decode_with(opcode: Opcode, slot: Slot, next: Option<Slot>) -> Result<Insn, F
     if has_unused_field(opcode, slot) {
         return Err(Flaw::UnusedField);
     }
-    match opcode {
-        Opcode::Alu(code, size, source) => alu(code, size, source, slot, dst, src),
-        Opcode::Wide => wide(slot, next, dst),
-        Opcode::Negate(size) => Ok(Insn::Unary {
-            op: UnaryOp::Negate(size),
-            dst,
-        }),
-        Opcode::ByteSwap(order) => match swap_width_of(slot.imm) {
-            Some(width) => Ok(Insn::Unary {
-                op: UnaryOp::ByteSwap { order, width },
-                dst,
-            }),
-            None => Err(Flaw::BadWidth),
-        },
-        Opcode::Jump(Size::Word64) => Ok(Insn::Jump {
-            offset: slot.offset,
-        }),
-        Opcode::Jump(Size::Word32) => Ok(Insn::JumpLong { imm: slot.imm }),
-        Opcode::JumpIf(condition, size, source) => Ok(Insn::JumpIf {
-            condition,
-            size,
-            dst,
-            src: operand_of(source, src, slot.imm),
-            offset: slot.offset,
-        }),
-        Opcode::Call => Ok(Insn::Call {
-            kind: call_kind_of(slot.src),
-            imm: slot.imm,
-        }),
-        Opcode::Exit => Ok(Insn::Exit),
-        Opcode::Load(width) => Ok(Insn::Load {
-            width,
-            dst,
-            src,
-            offset: slot.offset,
-        }),
-        Opcode::LoadSigned(width) => Ok(Insn::LoadSigned {
-            width,
-            dst,
-            src,
-            offset: slot.offset,
-        }),
-        Opcode::Store(width, source) => Ok(Insn::Store {
-            width,
-            dst,
-            offset: slot.offset,
-            src: operand_of(source, src, slot.imm),
-        }),
-        Opcode::Excluded(_) => unreachable!(),
-    }
+    insn_with(opcode, slot, next, dst, src)
 }
 
 /// The instruction that begins with this slot, or its first flaw.

@@ -8,6 +8,7 @@ use Rattle.register_kinds.specs.declared.state.AbsState.{AbsState}
 use Rattle.register_kinds.specs.States.{state_of}
 use Rattle.register_kinds.specs.Pairs.{AreBelow}
 use Rattle.state_steps.specs.Facts.{Fact, FactHolds}
+use Rattle.state_steps.specs.Lookups.{Lookup, Part, Expects}
 use Rattle.map_verifier.specs.declared.waiting.Waiting.{Waiting}
 use Rattle.map_verifier.specs.declared.waiting.Waiting.TheVariants.{Nothing, Differing}
 use Rattle.map_verifier.specs.Peak.{Puts}
@@ -15,8 +16,8 @@ use Rattle.map_verifier.specs.SecondPass.{Awaited, state_in, unboxed, AllBelow, 
 
 -- both are joined
 pub joined_from : (w new : Waiting) (a b c : AbsState) → w ≢ Differing → state_in w ≡ Some a → state_in new ≡ Some c → Wider (state_of a) (state_of c) → Wider (state_of b) (state_of c)
-    → ((fact : Fact) → FactHolds fact (state_of a) → FactHolds fact (state_of b) → FactHolds fact (state_of c)) → Joined w b new
-joined_from w new a b c n e f wide wide' facts = inr (
+    → ((fact : Fact) → FactHolds fact (state_of a) → FactHolds fact (state_of b) → FactHolds fact (state_of c)) → ((l : Lookup) (p : Part) → Expects l p (state_of a) → Expects l p (state_of b) → Expects l p (state_of c)) → Joined w b new
+joined_from w new a b c n e f wide wide' facts expects = inr (
   c,
   f,
   record {
@@ -24,6 +25,7 @@ joined_from w new a b c n e f wide wide' facts = inr (
     state_stays = wide';
     waiting_stays = λ d g. subst (λ d. Wider (state_of d) (state_of c)) (same_some (sym e ∙ g)) wide;
     facts = λ fact p q. facts fact (q a e) p;
+    expects = λ l p x y. expects l p (y a e) x;
   },
 )
 

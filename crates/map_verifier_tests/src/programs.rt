@@ -1,23 +1,10 @@
 //! Small programs with maps, and what the verifier says of each.
 ghost use Rattle.std.specs.Prelude.{◌≡◌};
 
-use asm::assemble;
+use crate::judged::{SHAPE, Told, judge};
+use Told::{Accepted, At};
 use bpf_model::MapShape;
-use map_verifier::verify;
-use std::alloc::Global;
 use std::test::Fail;
-
-/// What the verifier says.
-#[derive(Clone, Copy, Debug, PartialEq, Eq)]
-enum Told {
-    Accepted,
-    /// Another refusal than of an instruction, by its number.
-    Plain(u8),
-    /// A refusal by its number, and its slot.
-    At(u8, usize),
-}
-
-use Told::{Accepted, At, Plain};
 
 /// A program, its lines parted by a semicolon and a space; the length of its context, and what is said.
 struct Row {
@@ -26,16 +13,7 @@ struct Row {
     lines: &'static str,
 }
 
-/// The one map of a program's list.
-const SHAPE: MapShape = MapShape {
-    key_len: 4,
-    value_len: 8,
-    entries: 1,
-    spare: 1,
-    reuse_limit: 2,
-};
-
-static ROWS: [Row; 36] = [
+static ROWS: [Row; 47] = [
     // A lookup, a test for null, a load, within one section.
     Row {
         told: Accepted,
@@ -44,9 +22,9 @@ static ROWS: [Row; 36] = [
     },
     // No test for null before the load.
     Row {
-        told: At(32, 7),
+        told: At(32, 8),
         context: 0,
-        lines: "callbtf 1; stw [r10-4], 0; mov64 r2, r10; add64 r2, -4; ldmap r1, 0; call 1; ldxdw r6, [r0+0]; callbtf 2; mov64 r0, r6; exit",
+        lines: "mov64 r6, 0; callbtf 1; stw [r10-4], 0; mov64 r2, r10; add64 r2, -4; ldmap r1, 0; call 1; ldxdw r6, [r0+0]; callbtf 2; mov64 r0, r6; exit",
     },
     // A test of 32 bits is none for null.
     Row {
@@ -56,15 +34,21 @@ static ROWS: [Row; 36] = [
     },
     // A lookup outside every section.
     Row {
-        told: At(33, 5),
+        told: At(33, 6),
         context: 0,
-        lines: "stw [r10-4], 0; mov64 r2, r10; add64 r2, -4; ldmap r1, 0; call 1; mov64 r0, 0; exit",
+        lines: "mov64 r6, 0; stw [r10-4], 0; mov64 r2, r10; add64 r2, -4; ldmap r1, 0; call 1; jeq r0, 0, +1; ldxdw r6, [r0+0]; callbtf 2; mov64 r0, r6; exit",
     },
     // A pointer is kept over the unlock, and then used.
     Row {
         told: At(33, 13),
         context: 0,
         lines: "callbtf 1; stw [r10-4], 0; mov64 r2, r10; add64 r2, -4; ldmap r1, 0; call 1; jne r0, 0, +3; callbtf 2; mov64 r0, 0; exit; mov64 r6, r0; callbtf 2; ldxdw r0, [r6+0]; exit",
+    },
+    // Also inside another section.
+    Row {
+        told: At(33, 14),
+        context: 0,
+        lines: "callbtf 1; stw [r10-4], 0; mov64 r2, r10; add64 r2, -4; ldmap r1, 0; call 1; jne r0, 0, +3; callbtf 2; mov64 r0, 0; exit; mov64 r6, r0; callbtf 2; callbtf 1; ldxdw r0, [r6+0]; exit",
     },
     // It is spilled, and read back after the unlock.
     Row {
@@ -93,8 +77,14 @@ static ROWS: [Row; 36] = [
     // Nor where paths meet of which one has another lookup.
     Row {
         told: At(32, 18),
-        context: 8,
-        lines: "ldxb r9, [r1+0]; callbtf 1; stw [r10-4], 0; mov64 r2, r10; add64 r2, -4; ldmap r1, 0; call 1; mov64 r6, r0; mov64 r7, r0; jeq r9, 0, +6; mov64 r2, r10; add64 r2, -4; ldmap r1, 0; call 1; mov64 r7, r0; jeq r6, 0, +1; ldxdw r8, [r7+0]; callbtf 2; mov64 r0, 0; exit",
+        context: 1,
+        lines: "ldxb r8, [r1+0]; callbtf 1; stw [r10-4], 0; mov64 r2, r10; add64 r2, -4; ldmap r1, 0; call 1; mov64 r6, r0; mov64 r7, r0; jeq r8, 0, +6; mov64 r2, r10; add64 r2, -4; ldmap r1, 0; call 1; mov64 r7, r0; jeq r6, 0, +1; ldxdw r0, [r7+0]; callbtf 2; mov64 r0, 0; exit",
+    },
+    // It says so of what is tested itself.
+    Row {
+        told: Accepted,
+        context: 1,
+        lines: "ldxb r8, [r1+0]; callbtf 1; stw [r10-4], 0; mov64 r2, r10; add64 r2, -4; ldmap r1, 0; call 1; mov64 r6, r0; mov64 r7, r0; jeq r8, 0, +6; mov64 r2, r10; add64 r2, -4; ldmap r1, 0; call 1; mov64 r7, r0; jeq r6, 0, +1; ldxdw r0, [r6+0]; callbtf 2; mov64 r0, 0; exit",
     },
     // There the test tells of the lookup that it tests.
     Row {
@@ -105,26 +95,44 @@ static ROWS: [Row; 36] = [
     // An index into a value of 8 bytes, of 0 to 7.
     Row {
         told: Accepted,
-        context: 8,
-        lines: "ldxb r7, [r1+0]; and64 r7, 7; callbtf 1; stw [r10-4], 0; mov64 r2, r10; add64 r2, -4; ldmap r1, 0; call 1; jeq r0, 0, +2; add64 r0, r7; ldxb r6, [r0+0]; callbtf 2; mov64 r0, 0; exit",
+        context: 1,
+        lines: "ldxb r6, [r1+0]; and64 r6, 7; callbtf 1; stw [r10-4], 0; mov64 r2, r10; add64 r2, -4; ldmap r1, 0; call 1; jne r0, 0, +3; callbtf 2; mov64 r0, 0; exit; add64 r0, r6; ldxb r6, [r0+0]; callbtf 2; mov64 r0, r6; exit",
     },
     // One of 0 or 8.
     Row {
-        told: At(27, 11),
-        context: 8,
-        lines: "ldxb r7, [r1+0]; and64 r7, 8; callbtf 1; stw [r10-4], 0; mov64 r2, r10; add64 r2, -4; ldmap r1, 0; call 1; jeq r0, 0, +2; add64 r0, r7; ldxb r6, [r0+0]; callbtf 2; mov64 r0, 0; exit",
+        told: At(27, 14),
+        context: 1,
+        lines: "ldxb r6, [r1+0]; and64 r6, 8; callbtf 1; stw [r10-4], 0; mov64 r2, r10; add64 r2, -4; ldmap r1, 0; call 1; jne r0, 0, +3; callbtf 2; mov64 r0, 0; exit; add64 r0, r6; ldxb r6, [r0+0]; callbtf 2; mov64 r0, r6; exit",
     },
     // Two bytes at an index of 0, 2, 4 or 6.
     Row {
         told: Accepted,
-        context: 8,
-        lines: "ldxb r7, [r1+0]; and64 r7, 6; callbtf 1; stw [r10-4], 0; mov64 r2, r10; add64 r2, -4; ldmap r1, 0; call 1; jeq r0, 0, +2; add64 r0, r7; ldxh r6, [r0+0]; callbtf 2; mov64 r0, 0; exit",
+        context: 1,
+        lines: "ldxb r6, [r1+0]; and64 r6, 6; callbtf 1; stw [r10-4], 0; mov64 r2, r10; add64 r2, -4; ldmap r1, 0; call 1; jne r0, 0, +3; callbtf 2; mov64 r0, 0; exit; add64 r0, r6; ldxh r6, [r0+0]; callbtf 2; mov64 r0, r6; exit",
     },
     // Two bytes at an index of 0, 1, 4 or 5.
     Row {
-        told: At(28, 11),
+        told: At(28, 14),
+        context: 1,
+        lines: "ldxb r6, [r1+0]; and64 r6, 5; callbtf 1; stw [r10-4], 0; mov64 r2, r10; add64 r2, -4; ldmap r1, 0; call 1; jne r0, 0, +3; callbtf 2; mov64 r0, 0; exit; add64 r0, r6; ldxh r6, [r0+0]; callbtf 2; mov64 r0, r6; exit",
+    },
+    // Two bytes at an index of 0 to 7, which is first of all too far.
+    Row {
+        told: At(27, 14),
+        context: 1,
+        lines: "ldxb r6, [r1+0]; and64 r6, 7; callbtf 1; stw [r10-4], 0; mov64 r2, r10; add64 r2, -4; ldmap r1, 0; call 1; jne r0, 0, +3; callbtf 2; mov64 r0, 0; exit; add64 r0, r6; ldxh r6, [r0+0]; callbtf 2; mov64 r0, r6; exit",
+    },
+    // A test of the low 32 bits bounds no number of 64.
+    Row {
+        told: At(25, 10),
         context: 8,
-        lines: "ldxb r7, [r1+0]; and64 r7, 5; callbtf 1; stw [r10-4], 0; mov64 r2, r10; add64 r2, -4; ldmap r1, 0; call 1; jeq r0, 0, +2; add64 r0, r7; ldxh r6, [r0+0]; callbtf 2; mov64 r0, 0; exit",
+        lines: "ldxdw r6, [r1+0]; jgt32 r6, 7, +11; callbtf 1; stw [r10-4], 0; mov64 r2, r10; add64 r2, -4; ldmap r1, 0; call 1; jeq r0, 0, +2; add64 r0, r6; ldxb r7, [r0+0]; callbtf 2; mov64 r0, 0; exit",
+    },
+    // One of 64 does.
+    Row {
+        told: Accepted,
+        context: 8,
+        lines: "ldxdw r6, [r1+0]; jgt r6, 7, +11; callbtf 1; stw [r10-4], 0; mov64 r2, r10; add64 r2, -4; ldmap r1, 0; call 1; jeq r0, 0, +2; add64 r0, r6; ldxb r7, [r0+0]; callbtf 2; mov64 r0, 0; exit",
     },
     // A lock inside a section.
     Row {
@@ -190,7 +198,7 @@ static ROWS: [Row; 36] = [
     Row {
         told: Accepted,
         context: 0,
-        lines: "callbtf 1; stw [r10-4], 0; mov64 r2, r10; add64 r2, -4; ldmap r1, 0; call 1; jeq r0, 0, +1; stdw [r0+0], 5; callbtf 2; mov64 r0, 0; exit",
+        lines: "mov64 r6, 0; callbtf 1; stw [r10-4], 0; mov64 r2, r10; add64 r2, -4; ldmap r1, 0; call 1; jeq r0, 0, +1; stdw [r0+0], 9; callbtf 2; mov64 r0, r6; exit",
     },
     // A pointer is stored to an element.
     Row {
@@ -252,36 +260,85 @@ static ROWS: [Row; 36] = [
         context: 0,
         lines: "mov64 r0, r10; exit",
     },
+    // The context is spilled, and read through.
+    Row {
+        told: Accepted,
+        context: 1,
+        lines: "stxdw [r10-8], r1; ldxdw r1, [r10-8]; ldxb r0, [r1+0]; exit",
+    },
+    // One byte of a spilled reference is read.
+    Row {
+        told: At(30, 1),
+        context: 1,
+        lines: "stxdw [r10-8], r1; ldxb r1, [r10-8]; ldxb r0, [r1+0]; exit",
+    },
+    // r0 is written on one path alone.
+    Row {
+        told: At(23, 3),
+        context: 0,
+        lines: "mov64 r1, 0; jeq r1, 0, +1; mov64 r0, 1; exit",
+    },
+    // A jump into the second half of a wide instruction, before a register that is not written.
+    Row {
+        told: At(20, 0),
+        context: 0,
+        lines: "jeq r3, 0, +1; ldmap r1, 0; mov64 r0, 0; exit",
+    },
+    // The last instruction is no exit, before one that no path reaches.
+    Row {
+        told: At(22, 3),
+        context: 0,
+        lines: "ja +1; call 99; mov64 r0, 0; mov64 r0, r5",
+    },
+    // An instruction that no path reaches, before an unknown call in front of it.
+    Row {
+        told: At(38, 2),
+        context: 0,
+        lines: "call 99; ja +2; ldmap r1, 7; mov64 r0, 0; exit",
+    },
 ];
 
-/// What is said of a row's program; `Plain(0)` where it does not assemble.
-fn judge(alloc: Global, row: &Row) -> Result<Told, Fail> {
-    if row.context > 256 {
-        return Ok(Plain(0));
-    }
-    let mut lines = String::new(alloc);
-    for line in row.lines.split("; ") {
-        lines.push_str(line)?;
-        lines.push('\n')?;
-    }
-    let program = match assemble(alloc, &lines) {
-        Ok(program) => program,
-        Err(_) => return Ok(Plain(0)),
-    };
-    match verify(alloc, program, &[SHAPE], row.context) {
-        Ok(_) => Ok(Accepted),
-        Err(refusal) => match refusal.slot() {
-            Some(slot) => Ok(At(refusal.code(), slot)),
-            None => Ok(Plain(refusal.code())),
-        },
-    }
-}
+/// A map whose keys and values have 8 bytes.
+const LONG: MapShape = MapShape {
+    key_len: 8,
+    value_len: 8,
+    entries: 4,
+    spare: 4,
+    reuse_limit: 100,
+};
+
+/// Programs with that map in place of the other.
+static LONG_ROWS: [Row; 2] = [
+    // A lookup with a key of 8 bytes.
+    Row {
+        told: Accepted,
+        context: 0,
+        lines: "mov64 r6, 0; callbtf 1; stdw [r10-8], 0; mov64 r2, r10; add64 r2, -8; ldmap r1, 0; call 1; jeq r0, 0, +1; ldxdw r6, [r0+0]; callbtf 2; mov64 r0, r6; exit",
+    },
+    // A key of 4 bytes at the end of the frame.
+    Row {
+        told: At(27, 7),
+        context: 0,
+        lines: "mov64 r6, 0; callbtf 1; stw [r10-4], 0; mov64 r2, r10; add64 r2, -4; ldmap r1, 0; call 1; jeq r0, 0, +1; ldxdw r6, [r0+0]; callbtf 2; mov64 r0, r6; exit",
+    },
+];
 
 #[test]
 fn small_programs(rt: HostRuntime) -> Result<(), Fail> {
     let alloc = rt.alloc();
     for row in &ROWS {
-        assert_eq!(rt; judge(alloc, row)?, row.told);
+        let (lines, wanted) = (row.lines, row.told);
+        assert_eq!(rt;
+            (lines, judge(alloc, &[SHAPE], row.context, &[lines])?),
+            (lines, wanted)
+        );
+    }
+    for row in &LONG_ROWS {
+        let (lines, wanted) = (row.lines, row.told);
+        assert_eq!(rt;
+            (lines, judge(alloc, &[LONG], row.context, &[lines])?),
+            (lines, wanted)
+        );
     }
     Ok(())
 }

@@ -6,3 +6,5 @@ pub mod Replacing
 pub mod Updating
 pub mod Leaving
 pub mod Names
+pub mod Picking
+pub mod Counting

@@ -1,6 +1,6 @@
 -- Names of maps among the texts that a set keeps.
-use Rattle.std.proofs.Common.{rules, arith, ◌≡◌, ap, ◌∙◌, refl, sym, Bool, List, map, ℕ}
-use Rattle.std.specs.Prelude.{[], ◌∷◌, ◌++◌, ◌||◌, Option, Some, None, not, ◌+◌, position, suc, cond, nat_lt, length}
+use Rattle.std.proofs.Common.{◌≡◌, ap, ◌∙◌, refl, sym, Bool, List, map}
+use Rattle.std.specs.Prelude.{[], ◌∷◌, ◌++◌, ◌||◌, Some, None, not, ◌+◌, position, suc, cond, nat_lt, length}
 use Rattle.std.specs.List.{list_any, position_or_len, prefix_len}
 use Rattle.std.proofs.lemmas.List.{map-append, length-append}
 

@@ -3,3 +3,5 @@ pub mod Codes
 pub mod Shown
 pub mod Lending
 pub mod Registry
+pub mod Picking
+pub mod Counting

@@ -1,5 +1,5 @@
 -- The maps of a registry, in order of creation, each with its name.
-use Rattle.std.specs.Prelude.{◌≡◌, ℕ, Bool, true, false, not, ◌&&◌, ◌||◌, ◌==◌, if◌then◌else◌, List, length, map, Option, Some, None, slice_get, bytes_eq, nat_le, refl}
+use Rattle.std.specs.Prelude.{ℕ, Bool, false, not, ◌&&◌, ◌||◌, ◌==◌, if◌then◌else◌, List, length, Option, Some, None, slice_get, bytes_eq, nat_le, refl}
 use Rattle.std.specs.List.{list_any, list_all}
 use Rattle.bpf_model.specs.declared.limits.MapShape.{MapShape}
 use Rattle.bpf_model.specs.declared.limits.TheConstants.{MAX_MAPS, KEY_BYTES, VALUE_BYTES, MAX_ENTRIES, MAX_SPARE, MAX_REUSE}

@@ -1,7 +1,7 @@
 //! A map of a fixed number of slots.
 ghost use Rattle.std.specs.Prelude.{false, ◌≡◌, ◌<◌, ◌≤◌, ◌+◌, [], ℕ, length, slice_get, None, Some, IfSome, IfNone, IfOk, OnErr, option_copied};
 ghost use Rattle.std.specs.FinMap as map;
-ghost use Rattle.bpf_model.specs.declared.limits.TheConstants.{KEY_BYTES, VALUE_BYTES, MAX_ENTRIES};
+ghost use Rattle.bpf_model.specs.declared.limits.TheConstants.{KEY_BYTES, VALUE_BYTES, MAX_ENTRIES, MAX_SPARE};
 ghost use Rattle.bpf_model.specs.Access.{byte_count, number_at};
 ghost use Rattle.bpf_model.specs.Helper.{update_error};
 ghost use Rattle.bpf_model.specs.MachineStep.{with_bytes};
@@ -9,9 +9,11 @@ ghost use Rattle.bpf_model.specs.MapState.{MapState, IsShape};
 ghost use Rattle.bpf_model.specs.View.{new_map_view};
 ghost use Rattle.element_arena.specs.State.{value_at};
 ghost use Rattle.hash_index.specs.Order.{NoneAbove};
-ghost use Rattle.view_laws.specs.Views.{updated, deleted, written, turned_view};
-ghost use Rattle.maps.specs.Shown.{IsOccupied, IsReaped, IsNext, or_no_memory, linked_with, put_in};
+ghost use Rattle.view_laws.specs.Views.{updated, deleted, written, turned_view, value_read};
+ghost use Rattle.maps.specs.Shown.{IsOccupied, IsReaped, IsNext, or_no_memory, put_in};
+ghost use Rattle.maps.specs.Counting.{counts_of};
 
+use crate::counts::{Counts, counts_after_reap, counts_after_update};
 use crate::parts::Parts;
 use bpf_model::{Errno, Given, KeyBytes, MapShape, ValueBytes, Width};
 use deferred_free::Deferred;
@@ -25,14 +27,14 @@ use std::marker::Model;
 pub struct HashMap<I: Index, D: Deferred> {
     shape: MapShape,
     parts: Parts<I, D>,
-    /// How many elements are linked.
-    linked: usize,
+    counts: Counts,
 }
 
 impl<I: Index, D: Deferred> Model for HashMap<I, D> {
     ghost use Rattle.bpf_model.specs.View.{MapView};
     ghost use Rattle.maps.specs.Codes.{view_code};
-    ghost use Rattle.maps.specs.Shown.{map_view, IsMap};
+    ghost use Rattle.maps.specs.Counting.{IsCounted};
+    ghost use Rattle.maps.specs.Shown.{map_view};
 
     ghost Value = { MapView };
 
@@ -40,7 +42,7 @@ impl<I: Index, D: Deferred> Model for HashMap<I, D> {
 
     ghost view = { λ h. map_view h.shape h.parts };
 
-    ghost invariant = { λ h. IsMap h.shape h.parts h.linked };
+    ghost invariant = { λ h. IsCounted h.shape h.parts h.counts };
 }
 
 /// Which test of an update fails first, but for the last: that a slot is free.
@@ -59,17 +61,6 @@ fn refusal(flags: u64, present: bool, linked: usize, entries: usize) -> Option<E
         Some(Errno::TooBig)
     } else {
         None
-    }
-}
-
-/// How many elements are linked after an update of a key that was found or not.
-fn count_with(found: Option<usize>, linked: usize) -> usize
-    requires { IfNone found (linked < MAX_ENTRIES) }
-    ensures { result ≡ linked_with found linked }
-{
-    match found {
-        None => linked + 1,
-        Some(_) => linked,
     }
 }
 
@@ -105,11 +96,40 @@ impl<I: Index, D: Deferred> HashMap<I, D> {
         self.shape
     }
 
+    /// A law: its shape is one that a map may have.
+    pub fn has_shape(&self)
+        ensures { IsShape self.now.shape }
+    {
+        let _shape = &self.shape;
+    }
+
     /// The slot of a key. A key of another length than the map's has none.
     pub fn lookup(&self, key: &[u8]) -> Option<usize>
-        ensures { result ≡ map.get self.now.index key.now }
+        ensures slot { result ≡ map.get self.now.index key.now }
+        ensures inside { IfSome result (λ i. i < MAX_ENTRIES + MAX_SPARE) }
     {
         self.parts.find(key)
+    }
+
+    /// The value of a key. A key of another length than the map's has none.
+    pub fn read(&self, key: &[u8]) -> Option<ValueBytes>
+        ensures { result ≡ value_read self.now key.now }
+    {
+        match self.parts.find(key) {
+            None => None,
+            Some(slot) => Some(value_of(self.parts.value(slot))),
+        }
+    }
+
+    /// How many elements are linked and unlinked, and how many slots are worn out.
+    pub fn counts(&self) -> Counts
+        ensures value { result ≡ counts_of self.now }
+        ensures linked { result.linked ≤ MAX_ENTRIES + MAX_SPARE }
+        ensures unlinked { result.unlinked ≤ MAX_ENTRIES + MAX_SPARE }
+        ensures worn { result.worn ≤ MAX_ENTRIES + MAX_SPARE }
+    {
+        self.parts.is_parted();
+        self.counts
     }
 
     /// Links a new element under a key, in the slot that has been free longest. The element that the key
@@ -125,7 +145,12 @@ impl<I: Index, D: Deferred> HashMap<I, D> {
         ensures shape { self.new.shape ≡ self.old.shape }
     {
         let found = self.parts.find(key);
-        match refusal(flags, found.is_some(), self.linked, self.shape.entries) {
+        match refusal(
+            flags,
+            found.is_some(),
+            self.counts.linked,
+            self.shape.entries,
+        ) {
             Some(errno) => Err(errno),
             None => self.put(found, key, value),
         }
@@ -141,11 +166,12 @@ impl<I: Index, D: Deferred> HashMap<I, D> {
         ensures new { self.new ≡ (put_in self.old.free self.old found key.now value.now).1 }
         ensures shape { self.new.shape ≡ self.old.shape }
     {
+        self.parts.is_parted();
         match self.parts.take(key, value) {
             None => Err(Errno::NoMemory),
             Some(slot) => {
                 self.parts.replace(found, slot);
-                self.linked = count_with(found, self.linked);
+                self.counts = counts_after_update(found, self.counts);
                 Ok(())
             }
         }
@@ -162,7 +188,8 @@ impl<I: Index, D: Deferred> HashMap<I, D> {
             None => Err(Errno::NoEntry),
             Some(slot) => {
                 self.parts.retire(slot);
-                self.linked -= 1;
+                self.counts.linked -= 1;
+                self.counts.unlinked += 1;
                 Ok(())
             }
         }
@@ -189,6 +216,7 @@ impl<I: Index, D: Deferred> HashMap<I, D> {
             Some(slot) => {
                 let key = key_of(self.parts.key(slot));
                 let given = self.parts.give(slot);
+                self.counts = counts_after_reap(given, self.counts);
                 Some((key, given))
             }
         }
@@ -257,7 +285,11 @@ impl<I: Index + Drop, D: Deferred + Drop> HashMap<I, D> {
         Ok(HashMap {
             shape,
             parts,
-            linked: 0,
+            counts: Counts {
+                linked: 0,
+                unlinked: 0,
+                worn: 0,
+            },
         })
     }
 
@@ -269,7 +301,7 @@ impl<I: Index + Drop, D: Deferred + Drop> HashMap<I, D> {
         Ok(HashMap {
             shape: self.shape,
             parts,
-            linked: self.linked,
+            counts: self.counts,
         })
     }
 }

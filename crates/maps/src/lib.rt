@@ -3,6 +3,7 @@
 //! `HashMap` stands on any index and any lists of unlinked slots; `Map` is the one that the runtime takes.
 #![tactic(auto)]
 
+mod counts;
 mod fault;
 mod hash_map;
 mod name;
@@ -10,6 +11,7 @@ mod parts;
 mod registry;
 mod shape;
 
+pub use counts::Counts;
 use deferred_free::Threaded;
 pub use fault::MapFault;
 use hash_index::Buckets;

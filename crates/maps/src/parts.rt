@@ -41,6 +41,13 @@ impl<I: Index, D: Deferred> Model for Parts<I, D> {
 }
 
 impl<I: Index, D: Deferred> Parts<I, D> {
+    /// A law: each slot stands in one place at most.
+    pub fn is_parted(&self)
+        ensures { IsParted self.now }
+    {
+        let _arena = &self.arena;
+    }
+
     /// The slot of a key.
     pub fn find(&self, key: &[u8]) -> Option<usize>
         ensures found { result ≡ map.get self.now.index key.now }

@@ -1,19 +1,24 @@
 //! The registry of a runtime's maps.
-ghost use Rattle.std.specs.Prelude.{◌≡◌, ◌⊎◌, ◌≤◌, ◌<◌, ◌∷◌, ◌++◌, [], length, map, slice_get, Some, None, IfOk, IfErr, IfSome, IfNone, OnOk, OnErr, string_bytes, option_map, option_copied, Ok, Err, bytes_eq, position, false, ◌+◌};
+ghost use Rattle.std.specs.Prelude.{◌≡◌, ℕ, ◌⊎◌, ◌≤◌, ◌<◌, ◌∷◌, ◌++◌, [], length, map, slice_get, Some, None, IfOk, IfErr, IfSome, IfNone, OnOk, OnErr, string_bytes, option_map, option_copied, Ok, Err, bytes_eq, position, false, ◌+◌};
 ghost use Rattle.std.specs.List.{list_any};
-ghost use Rattle.bpf_model.specs.MapState.{IsShape};
-ghost use Rattle.bpf_model.specs.View.{new_map_view};
+ghost use Rattle.bpf_model.specs.MapState.{IsShape, AreShapes};
+ghost use Rattle.bpf_model.specs.View.{MapView, new_map_view};
 ghost use Rattle.std.specs.Borrow.{sem};
 ghost use Rattle.bpf_model.specs.declared.limits.TheConstants.{MAX_MAPS};
 ghost use Rattle.maps.specs.Registry.{RegistryView, creation_fault, has_name};
 ghost use Rattle.maps.specs.Lending.{LendsMap};
+ghost use Rattle.maps.specs.Picking.{IsPicked};
+ghost use Rattle.maps.specs.Counting.{counts_of_all};
+ghost use Rattle.view_laws.specs.Views.{turned_view};
+ghost use Rattle.view_laws.specs.Reactions.{first_pick};
 ghost use Rattle.maps.specs.declared.fault.MapFault.TheVariants.{Memory};
 
 use crate::Map;
+use crate::counts::Counts;
 use crate::fault::MapFault;
 use crate::name::is_name;
 use crate::shape::is_shape;
-use bpf_model::{MAX_MAPS, MapId, MapShape};
+use bpf_model::{MAX_MAPS, MapId, MapShape, ReapedElement};
 use indexmap::IndexSet;
 use std::alloc::Global;
 use std::marker::Model;
@@ -53,6 +58,59 @@ fn add_name(names: &mut IndexSet<String>, name: &str, text: String) -> Result<()
 {
     names.insert(text)?;
     Ok(())
+}
+
+/// A grace period ends in each map.
+fn advance_each(maps: &mut [Map])
+    ensures { maps.new ≡ map turned_view maps.old }
+{
+    for chosen in maps.iter_mut() {
+        chosen.advance();
+    }
+}
+
+/// Reclaims the first ready element of the first map that has one.
+fn reap_first(maps: &mut [Map]) -> Option<ReapedElement>
+    ensures none { IfNone result (first_pick 0 maps.old ≡ None) }
+    ensures unchanged { IfNone result (maps.new ≡ maps.old) }
+    ensures some { IfSome result (λ r. IsPicked maps.old maps.new r) }
+{
+    for number in 0..maps.len() {
+        let chosen = &mut maps[number];
+        if let Some((key, given)) = chosen.reap() {
+            let map = MapId::new(number);
+            return Some(ReapedElement { map, key, given });
+        }
+    }
+    None
+}
+
+/// A law: the shape of each map is one that a map may have.
+fn each_has_shape(maps: &[Map])
+    ensures { (k : ℕ) (v : MapView) → slice_get maps.now k ≡ Some v → IsShape v.shape }
+{
+    for map in maps {
+        map.has_shape();
+    }
+}
+
+/// The sums of the counts of maps.
+fn sum_counts(maps: &[Map]) -> Counts
+    requires { length maps.now ≤ MAX_MAPS }
+    ensures { result ≡ counts_of_all maps.now }
+{
+    let mut sum = Counts {
+        linked: 0,
+        unlinked: 0,
+        worn: 0,
+    };
+    for chosen in maps {
+        let counts = chosen.counts();
+        sum.linked += counts.linked;
+        sum.unlinked += counts.unlinked;
+        sum.worn += counts.worn;
+    }
+    sum
 }
 
 impl Registry {
@@ -155,9 +213,17 @@ impl Registry {
         }
     }
 
+    /// A law: the shapes of its maps are shapes that maps may have.
+    pub fn have_shapes(&self)
+        ensures { AreShapes (map (λ v. v.shape) self.now.maps) }
+    {
+        each_has_shape(&self.maps);
+    }
+
     /// The map of this number, if there is one.
     pub fn map(&self, id: MapId) -> Option<&Map>
-        ensures { option_copied result ≡ slice_get self.now.maps id }
+        ensures value { option_copied result ≡ slice_get self.now.maps id }
+        ensures limit { IfSome result (λ _. id < MAX_MAPS) }
     {
         self.maps.get(id.index())
     }
@@ -177,5 +243,32 @@ impl Registry {
         ensures* writes_back { sem 𝓛 (LendsMap self.entry id result) }
     {
         &mut self.maps[id.index()]
+    }
+
+    /// A grace period ends in each map, and the next begins: the elements that waited for its end may be
+    /// reclaimed, and those unlinked meanwhile wait.
+    pub fn advance(&mut self)
+        ensures names { self.new.names ≡ self.old.names }
+        ensures maps { self.new.maps ≡ map turned_view self.old.maps }
+    {
+        advance_each(self.maps.as_mut_slice());
+    }
+
+    /// Reclaims the element that has been ready longest in the first map that has one. `None` where no
+    /// element is ready, and then nothing has changed.
+    pub fn reap(&mut self) -> Option<ReapedElement>
+        ensures none { IfNone result (first_pick 0 self.old.maps ≡ None) }
+        ensures unchanged { IfNone result (self.new ≡ self.old) }
+        ensures some { IfSome result (λ r. IsPicked self.old.maps self.new.maps r) }
+        ensures names { self.new.names ≡ self.old.names }
+    {
+        reap_first(self.maps.as_mut_slice())
+    }
+
+    /// How many elements are linked and unlinked, and how many slots are worn out, over all maps.
+    pub fn counts(&self) -> Counts
+        ensures { result ≡ counts_of_all self.now.maps }
+    {
+        sum_counts(self.maps.as_slice())
     }
 }

@@ -1,5 +1,5 @@
 -- What loads and stores reach, in words of the laws.
-use Rattle.std.specs.Prelude.{◌≡◌, ℕ, ◌+◌, ◌<◌, ◌≤◌, List, Some, None, slice_get, ℤ, ◌+ℤ◌, Result, IsOk, pos}
+use Rattle.std.specs.Prelude.{◌≡◌, ℕ, ◌+◌, ◌^◌, ◌<◌, ◌≤◌, List, Some, None, slice_get, ℤ, ◌+ℤ◌, Result, IsOk, pos}
 use Rattle.bpf_model.specs.declared.limits.TheConstants.{FRAME_BYTES}
 use Rattle.bpf_model.specs.declared.limits.MapShape.{MapShape}
 use Rattle.bpf_model.specs.declared.insn.Insn.{Insn}
@@ -11,7 +11,8 @@ use Rattle.typed_runs.specs.Planned.{AreAlike}
 use Rattle.kind_tests.specs.declared.fault.Fault.{Fault}
 use Rattle.typed_runs.specs.Verified.{Transfers}
 use Rattle.register_kinds.specs.declared.state.AbsState.{AbsState}
-use Rattle.register_kinds.specs.States.{kind_of, state_of}
+use Rattle.register_kinds.specs.declared.kind.RegKind.TheVariants as kinds
+use Rattle.register_kinds.specs.States.{kind_of, kind_in, state_of}
 use Rattle.memory_effects.specs.declared.region.Address.{Address}
 use Rattle.memory_effects.specs.declared.region.Region.{Region}
 use Rattle.memory_effects.specs.declared.region.Region.TheVariants as regions
@@ -52,6 +53,21 @@ pub record ReadsBytes (a : Known) (r width : ℕ) (offset : ℤ) : Type 0 where
   pub at : ℕ
   pub reaches : ReachesFrame a r width offset at
   pub bytes : (k : ℕ) → at ≤ k → k < at + width → a.cells k ≡ ByteCell
+
+-- the offset 0 alone, of those that are kept 2^29 higher
+pub record IsStart (s : Scalar) : Type 0 where
+  pub least : s.least ≡ 2 ^ 29
+  pub greatest : s.greatest ≡ 2 ^ 29
+
+-- The register refers to the start of the value of an element of this map, and the access lies inside it.
+pub record ReadsValue (shapes : List MapShape) (a : AbsState) (r map width : ℕ) (offset : ℤ) : Type 0 where
+  pub shape : MapShape
+  pub shape_is : slice_get shapes map ≡ Some shape
+  pub offsets : Scalar
+  pub base : kind_in a.regs r ≡ kinds.Value map offsets
+  pub start : IsStart offsets
+  pub at : ℕ
+  pub inside : region_offset shape.value_len width offset ≡ Some at
 
 pub record ReadsParts (a : Known) (r width : ℕ) (offset : ℤ) (kind : Kind) : Type 0 where
   pub at : ℕ

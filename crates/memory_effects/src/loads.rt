@@ -3,7 +3,7 @@ ghost use Rattle.std.specs.Prelude.{◌≡◌, ℕ, OnOk, OnErr, IfOk};
 ghost use Rattle.register_kinds.specs.States.{kind_at, state_of};
 ghost use Rattle.bpf_model.specs.Access.{byte_count, unsigned_width};
 ghost use Rattle.register_kinds.specs.Pairs.{AreBelow};
-ghost use Rattle.memory_effects.specs.Accesses.{Performs, IsBase, ReadsBytes, LoadsNumber};
+ghost use Rattle.memory_effects.specs.Accesses.{Performs, IsBase, ReadsBytes, ReadsValue, LoadsNumber};
 
 use crate::reads::read;
 use crate::region::{Address, Region};
@@ -38,6 +38,9 @@ pub fn load(
     ensures bytes { (10 ≡ dst → ⊥)
         → ReadsBytes (state_of state.old) from.base (byte_count width) from.offset
         → LoadsNumber result dst (state_of state.old) (state_of state.new) }
+    ensures value { (map : ℕ) → (10 ≡ dst → ⊥)
+        → ReadsValue shapes.now state.old from.base map (byte_count width) from.offset
+        → LoadsNumber result dst (state_of state.old) (state_of state.new) }
     ensures below { (top : ℕ) → AreBelow top state.old → AreBelow top state.new }
     ensures unchanged { OnErr result (state.new ≡ state.old) }
 {
@@ -61,6 +64,9 @@ pub fn load_signed(
     ensures region { IfOk result (λ region. IsBase region (kind_at state.old.regs from.base)) }
     ensures bytes { (10 ≡ dst → ⊥)
         → ReadsBytes (state_of state.old) from.base (byte_count (unsigned_width width)) from.offset
+        → LoadsNumber result dst (state_of state.old) (state_of state.new) }
+    ensures value { (map : ℕ) → (10 ≡ dst → ⊥)
+        → ReadsValue shapes.now state.old from.base map (byte_count (unsigned_width width)) from.offset
         → LoadsNumber result dst (state_of state.old) (state_of state.new) }
     ensures below { (top : ℕ) → AreBelow top state.old → AreBelow top state.new }
     ensures unchanged { OnErr result (state.new ≡ state.old) }

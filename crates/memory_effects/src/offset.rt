@@ -1,8 +1,9 @@
 //! Where accesses lie, at each offset that their base may have.
-ghost use Rattle.std.specs.Prelude.{◌≡◌, ℕ, ◌+◌, ◌%◌, ◌^◌, ◌<◌, ◌≤◌, IfOk, OnOk, IfSome, MatchOption, Some, Ok, ◌+ℤ◌, pos, ◌<ℤ◌};
+ghost use Rattle.std.specs.Prelude.{◌≡◌, ℕ, ◌+◌, ◌%◌, ◌^◌, ◌<◌, ◌≤◌, IfOk, OnOk, IsOk, IfSome, MatchOption, Some, Ok, ◌+ℤ◌, pos, ◌<ℤ◌};
 ghost use Rattle.bpf_model.specs.Access.{byte_count, region_offset};
 ghost use Rattle.scalar_domain.specs.Scalar.{Holds};
 ghost use Rattle.typed_runs.specs.Effects.{IsAlwaysInside};
+ghost use Rattle.memory_effects.specs.Accesses.{IsStart};
 
 use bpf_model::Width;
 use kind_tests::Fault;
@@ -29,6 +30,7 @@ fn check_bounds(offsets: Scalar, by: u64, bytes: usize, len: usize) -> Result<()
     ensures start { OnOk result ((n : ℕ) → Holds offsets n → 2 ^ 29 + 2 ^ 15 ≤ n + by) }
     ensures end { OnOk result ((n : ℕ) → Holds offsets n
         → n + by + bytes ≤ len + (2 ^ 29 + 2 ^ 15)) }
+    ensures accepts { IsStart offsets → 2 ^ 15 ≤ by → by + bytes ≤ len + 2 ^ 15 → IsOk result }
 {
     if offsets.greatest > 2 * RAISED || offsets.least + by < RAISED + SHIFT {
         return Err(Fault::OutOfBounds);
@@ -42,7 +44,9 @@ fn check_bounds(offsets: Scalar, by: u64, bytes: usize, len: usize) -> Result<()
 
 /// What all numbers of the set leave, divided by the width, where they all leave the same.
 fn remainder(offsets: Scalar, width: Width) -> Option<u64>
-    ensures { IfSome result (λ r. (n : ℕ) → Holds offsets n → n % byte_count width ≡ r) }
+    ensures value { IfSome result (λ r. (n : ℕ) → Holds offsets n → n % byte_count width ≡ r) }
+    ensures one { offsets.least ≡ offsets.greatest
+        → result ≡ Some (offsets.least % byte_count width) }
 {
     let bytes = width.bytes() as u64;
     if offsets.least == offsets.greatest {
@@ -57,7 +61,8 @@ fn remainder(offsets: Scalar, width: Width) -> Option<u64>
 /// Each access begins at a multiple of its width.
 fn check_aligned(offsets: Scalar, by: u64, width: Width) -> Result<(), Fault>
     requires { by < 2 ^ 16 }
-    ensures { OnOk result ((n : ℕ) → Holds offsets n → (n + by) % byte_count width ≡ 0) }
+    ensures aligned { OnOk result ((n : ℕ) → Holds offsets n → (n + by) % byte_count width ≡ 0) }
+    ensures accepts { IsStart offsets → by % byte_count width ≡ 0 → IsOk result }
 {
     let bytes = width.bytes() as u64;
     match remainder(offsets, width) {
@@ -80,7 +85,9 @@ pub(crate) fn check_placed(
     offset: i16,
     len: usize,
 ) -> Result<(), Fault>
-    ensures { OnOk result (IsAlwaysInside offsets (byte_count width) offset len) }
+    ensures inside { OnOk result (IsAlwaysInside offsets (byte_count width) offset len) }
+    ensures accepts { (at : ℕ) → IsStart offsets
+        → region_offset len (byte_count width) offset ≡ Some at → IsOk result }
 {
     let by = raised(offset);
     check_bounds(offsets, by, width.bytes(), len)?;

@@ -1,10 +1,11 @@
 //! What a load reads.
-ghost use Rattle.std.specs.Prelude.{◌≡◌, ℕ, IfOk, Ok, List, Some, slice_get};
-ghost use Rattle.bpf_model.specs.Access.{byte_count};
+ghost use Rattle.std.specs.Prelude.{◌≡◌, ℕ, IfOk, IsOk, Ok, List, Some, slice_get};
+ghost use Rattle.bpf_model.specs.Access.{byte_count, region_offset};
+ghost use Rattle.bpf_model.specs.declared.limits.MapShape.{MapShape as Shape};
 ghost use Rattle.typed_runs.specs.Effects.{IsAlwaysInside};
 ghost use Rattle.register_kinds.specs.States.{kind_in, kind_of, state_of};
 ghost use Rattle.register_kinds.specs.Pairs.{IsBelow, AreBelow};
-ghost use Rattle.memory_effects.specs.Accesses.{IsRead, IsBase, ReadsBytes, read_kind};
+ghost use Rattle.memory_effects.specs.Accesses.{IsRead, IsBase, IsStart, ReadsBytes, ReadsValue, read_kind};
 
 use crate::offset::{check_placed, offset_in};
 use crate::region::{Address, Region};
@@ -59,6 +60,9 @@ pub(crate) fn check_value(
     ensures shape { IfOk result (λ shape. slice_get shapes.now map ≡ Some shape) }
     ensures inside { IfOk result (λ shape.
         IsAlwaysInside offsets (byte_count width) offset shape.value_len) }
+    ensures accepts { (shape : Shape) (at : ℕ) → IsStart offsets
+        → slice_get shapes.now map ≡ Some shape
+        → region_offset shape.value_len (byte_count width) offset ≡ Some at → IsOk result }
 {
     match shapes.get(map as usize) {
         Some(shape) => {
@@ -84,6 +88,9 @@ pub(crate) fn read(
         → IsBelow top (read_kind x t)) }
     ensures bytes { ReadsBytes (state_of state.now) from.base (byte_count width) from.offset
         → result ≡ Ok Reads.FrameBytes }
+    ensures value { (map : ℕ)
+        → ReadsValue shapes.now state.now from.base map (byte_count width) from.offset
+        → result ≡ Ok (Reads.Value map) }
 {
     match held(state, from.base)? {
         RegKind::Ctx(offsets) => {

@@ -31,11 +31,11 @@ use Rattle.model_laws.specs.Alone.{HoldsValue, HoldsState, IsOwn, SharesNothing}
 use Rattle.model_laws.proofs.Holding.{Closed, HoldsOutcome, holds-entry, holds-after, holds-returns}
 
 -- a program without map references has no instruction that loads one
-first-or : (t : Bool) (P : Insn → Type 0) (i j : Insn) (rest : Option Insn) → P i → (rest ≡ Some j → P j) → cond t (Some i) rest ≡ Some j → P j
+pub first-or : (t : Bool) (P : Insn → Type 0) (i j : Insn) (rest : Option Insn) → P i → (rest ≡ Some j → P j) → cond t (Some i) rest ≡ Some j → P j
 first-or true P i j rest p q h = subst P (same_Some i j h) p
 first-or false P i j rest p q h = q h
 
-none-or : (t : Bool) (P : Insn → Type 0) (j : Insn) (rest : Option Insn) → (rest ≡ Some j → P j) → cond t None rest ≡ Some j → P j
+pub none-or : (t : Bool) (P : Insn → Type 0) (j : Insn) (rest : Option Insn) → (rest ≡ Some j → P j) → cond t None rest ≡ Some j → P j
 none-or true P j rest q h = absurd (none-some j h)
 none-or false P j rest q h = q h
 

@@ -167,13 +167,13 @@ pub record Shrinks (q new : Queues) : Type 0 where
 shrinks-same : (q new : Queues) → q ≡ new → Shrinks q new
 shrinks-same q new e = subst (Shrinks q) e (record { next = refl; waiting = refl; ready = λ n. omega arith })
 
-times-rest : (n x : ℕ) (xs : List ℕ) → times n xs ≤ times n (x ∷ xs)
+pub times-rest : (n x : ℕ) (xs : List ℕ) → times n xs ≤ times n (x ∷ xs)
 times-rest n x xs = let e = times-cons n x xs in omega arith
 
 shrinks-shortened : (q : Queues) (n : ℕ) (rest : List ℕ) → q.ready ≡ n ∷ rest → Shrinks q (shortened rest q)
 shrinks-shortened q n rest e = record { next = refl; waiting = refl; ready = λ x. subst (λ l. times x rest ≤ times x l) (sym e) (times-rest x n rest) }
 
-option-cases : {A : Type 0} (o : Option A) → (o ≡ None) ⊎ ((x : A) × (o ≡ Some x))
+pub option-cases : {A : Type 0} (o : Option A) → (o ≡ None) ⊎ ((x : A) × (o ≡ Some x))
 option-cases None = inl refl
 option-cases (Some x) = inr (x, refl)
 

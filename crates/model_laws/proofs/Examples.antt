@@ -16,6 +16,7 @@ use Rattle.bpf_model.specs.Graph.{falls, distance, JumpsTo, GoesTo, Reached, rea
 use Rattle.bpf_model.specs.Plain.{Reads, Writes, ReadsByte, WritesByte, WithoutByte, bare_entry, bare_next}
 use Rattle.bpf_model.specs.PlainMaps.{lookup_call, lock_call, unlock_call, IsGuardedLookup, IsPart, HasForm, InSection, section_entry, section_lock, section_unlock, section_next, LacksRegister, lacks_entry, lacks_call, lacks_next, IsPlainWithMaps}
 use Rattle.model_laws.specs.Example.{lookup_and_load, example_shape}
+use Rattle.model_laws.proofs.Words.{same-pos}
 
 -- what holds of each instruction of a list and the slot where it begins, the first at slot n
 abbrev EachFrom : (ℕ → Insn → Type 0) → ℕ → List Insn → Type 0
@@ -45,9 +46,6 @@ visit P all place j h = let e : 0 + place ≡ place = omega arith in subst (λ x
 
 at_slot : (n place : ℕ) (i j : Insn) → insn_at lookup_and_load n ≡ Some i → place ≡ n → insn_at lookup_and_load place ≡ Some j → i ≡ j
 at_slot n place i j is e h = same_Some i j (sym is ∙ (ap (insn_at lookup_and_load) (sym e) ∙ h))
-
-same-pos : (a b : ℕ) → pos a ≡ pos b → a ≡ b
-same-pos a b h = cc
 
 -- the edges of the graph
 jump_only : (place : ℕ) (i : Insn) → insn_at lookup_and_load place ≡ Some i → (target : ℕ) → JumpsTo i place target → (place ≡ 8) × (target ≡ 10)

@@ -15,6 +15,7 @@ pub mod Stores
 pub mod Past
 pub mod Keeping
 pub mod Late
+pub mod Choices
 pub mod Counting
 pub mod Queueing
 pub mod Scheduling

@@ -81,7 +81,7 @@ since-before reap opened s new k n f since mv q at life = elim (element-before r
 ]
 
 -- a run that is inside is flagged as open
-in-slot : (o : Option (Option Run)) (run : Run) → run_in o ≡ Some run → o ≡ Some (Some run)
+pub in-slot : (o : Option (Option Run)) (run : Run) → run_in o ≡ Some run → o ≡ Some (Some run)
 in-slot None run h = absurd (none-some run h)
 in-slot (Some None) run h = absurd (none-some run h)
 in-slot (Some (Some x)) run h = ap Some h

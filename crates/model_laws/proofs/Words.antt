@@ -85,7 +85,7 @@ near_words_fit p h =
     let high : base_of p + shift_of p < 2 ^ 50 = b.1 in
     (w.word, w.is, omega arith, omega arith)
 
-same-pos : (a b : ℕ) → pos a ≡ pos b → a ≡ b
+pub same-pos : (a b : ℕ) → pos a ≡ pos b → a ≡ b
 same-pos a b h = cc
 
 same-count : (p q : Location) → HasWord p → HasWord q → location_word p ≡ location_word q → base_of p + shift_of p ≡ base_of q + shift_of q

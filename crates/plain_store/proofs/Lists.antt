@@ -1,9 +1,9 @@
 -- Facts about lists, of what stands at an index and what is left from an index on.
 use Rattle.std.proofs.Common.{◌≡◌, ℕ, zero, suc, ◌+◌, ◌<◌, ◌≤◌, List, [], ◌∷◌, ◌++◌, length, Some, refl, sym, ap, ◌∙◌, subst, arith, map}
-use Rattle.std.specs.Prelude.{slice_get, slice_set, slice_index_or, remove, drop, take, replicate}
+use Rattle.std.specs.Prelude.{slice_get, slice_set, slice_index_or, remove, drop, take}
 use Rattle.std.specs.List.{AllZip}
 use Rattle.std.proofs.lemmas.Slice.Zip.{AllZip-map}
-use Rattle.std.proofs.lemmas.List.{append_assoc, append-nil, drop_all, replicate-append-replicate}
+use Rattle.std.proofs.lemmas.List.{append_assoc, append-nil, drop_all}
 use Rattle.std.proofs.lemmas.Option.{slice_get-get_or, slice_get_within}
 
 pub get-map : {A B : Type 0} (f : A → B) (xs : List A) (i : ℕ) (x : A) → slice_get xs i ≡ Some x → slice_get (map f xs) i ≡ Some (f x)
@@ -46,9 +46,6 @@ map-self (x ∷ xs) = ap (λ l. x ∷ l) (map-self xs)
 
 pub cloned : (xs ys : List ℕ) → AllZip (λ x y. y ≡ x) xs ys → ys ≡ xs
 cloned xs ys h = AllZip-map (λ x. x) xs ys h ∙ map-self xs
-
-pub replicate-more : (n : ℕ) (x : ℕ) → replicate n x ++ x ∷ [] ≡ replicate (n + 1) x
-replicate-more n x = replicate-append-replicate n 1 x
 
 pub some-at : {A : Type 0} (xs : List A) (i : ℕ) → i < length xs → (x : A) × (slice_get xs i ≡ Some x)
 some-at [] i h = absurd (omega arith)

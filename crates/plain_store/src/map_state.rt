@@ -1,5 +1,5 @@
 //! Maps: their shapes and their free slots.
-ghost use Rattle.std.specs.Prelude.{◌≡◌, ◌≢◌, IfOk, Err};
+ghost use Rattle.std.specs.Prelude.{◌≡◌, ◌≢◌, ◌++◌, IfOk, OnOk, Err, replicate};
 ghost use Rattle.bpf_model.specs.MapState.{given_of, returned, new_map};
 ghost use Rattle.bpf_model.specs.Helper.{update_error as first_error};
 ghost use Rattle.plain_store.specs.Telling.{Tells};
@@ -19,18 +19,24 @@ pub struct MapState {
     pub worn: u64,
 }
 
+/// So many slots that were never used go to the end of the free ones.
+fn put_unused(bag: &mut Vec<u32>, count: usize) -> Result<(), AllocError>
+    ensures { OnOk result (bag.new.items ≡ bag.old.items ++ replicate count 0) }
+{
+    for _ in 0..count {
+        bag.push(0)?;
+    }
+    Ok(())
+}
+
 impl MapState {
     /// A map of which no slot was ever used.
     pub fn new(alloc: Global, shape: MapShape) -> Result<MapState, AllocError>
         ensures { IfOk result (λ m. map_of m ≡ new_map shape) }
     {
         let mut bag = Vec::new(alloc);
-        for _ in 0..shape.entries {
-            bag.push(0)?;
-        }
-        for _ in 0..shape.spare {
-            bag.push(0)?;
-        }
+        put_unused(&mut bag, shape.entries)?;
+        put_unused(&mut bag, shape.spare)?;
         Ok(MapState {
             shape,
             bag,

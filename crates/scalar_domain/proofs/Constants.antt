@@ -1,5 +1,5 @@
 -- What the operations give of constants is as narrow as it has to be.
-use Rattle.std.proofs.Common.{◌≡◌, ℕ, ◌+◌, ◌*◌, ◌%◌, ◌^◌, ◌<◌, sym, ◌∙◌, ap, subst, arith}
+use Rattle.std.proofs.Common.{◌≡◌, ℕ, ◌+◌, ◌-◌, ◌*◌, ◌%◌, ◌^◌, ◌<◌, sym, ◌∙◌, ap, subst, arith}
 use Rattle.std.specs.Prelude.{bit_and}
 use Rattle.std.specs.Int.Bits.{and_self}
 use Rattle.std.proofs.lemmas.Nat.{and_le_r}
@@ -7,16 +7,25 @@ use Rattle.std.proofs.Math.Nat.{mod-eq_of_lt}
 use Rattle.scalar_domain.specs.declared.scalar.Scalar.{Scalar}
 use Rattle.scalar_domain.specs.Scalar.{IsConstant}
 use Rattle.scalar_domain.specs.Mask.{Within}
-use Rattle.scalar_domain.specs.Precision.{Adds, Masks, ShiftsLeft}
+use Rattle.scalar_domain.specs.Precision.{Adds, Subtracts, Masks, ShiftsLeft}
 use Rattle.scalar_domain.proofs.Bits.{and-within_r}
 use Rattle.scalar_domain.proofs.Multiples.{sum_low, low_zero}
 use Rattle.scalar_domain.proofs.Shifts.{low_zeros}
 
-pub sum_of_constants : (a b r : Scalar) (u v : ℕ) → IsConstant a u → IsConstant b v → IsConstant r ((u + v) % 2 ^ 64) → r.may ≡ (u + v) % 2 ^ 64 → Adds a b r
-sum_of_constants a b r u v c d e f = record {
-  least = λ l. let g : (u + v) % 2 ^ 64 ≡ u + v = mod-eq_of_lt (omega (arith, c.greatest, d.greatest, l)) in omega (arith, g, c.least, d.least, e.least);
-  greatest = λ l. let g : (u + v) % 2 ^ 64 ≡ u + v = mod-eq_of_lt (omega (arith, c.greatest, d.greatest, l)) in omega (arith, g, c.greatest, d.greatest, e.greatest);
+pub sum_of_constants : (a b r : Scalar) (u v : ℕ) → IsConstant a u → IsConstant b v → IsConstant r ((u + v) % 2 ^ 64) → r.may ≡ (u + v) % 2 ^ 64 → r.must ≡ (u + v) % 2 ^ 64 → Adds a b r
+sum_of_constants a b r u v c d e f g = record {
+  least = λ l. let h : (u + v) % 2 ^ 64 ≡ u + v = mod-eq_of_lt (omega (arith, c.greatest, d.greatest, l)) in omega (arith, h, c.least, d.least, e.least);
+  greatest = λ l. let h : (u + v) % 2 ^ 64 ≡ u + v = mod-eq_of_lt (omega (arith, c.greatest, d.greatest, l)) in omega (arith, h, c.greatest, d.greatest, e.greatest);
   zeros = λ t l i j. ap (λ n. n % 2 ^ t) f ∙ sum_low u v t l (low_zero u a.may t c.zeros i) (low_zero v b.may t d.zeros j);
+  low = λ t l i j. ap (λ n. n % 2 ^ t) (f ∙ sym g);
+}
+
+pub difference_of_constants : (a b r : Scalar) (u v : ℕ) → u < 2 ^ 64 → v < 2 ^ 64 → IsConstant a u → IsConstant b v → IsConstant r ((u + (2 ^ 64 - v)) % 2 ^ 64)
+    → r.may ≡ (u + (2 ^ 64 - v)) % 2 ^ 64 → r.must ≡ (u + (2 ^ 64 - v)) % 2 ^ 64 → Subtracts a b r
+difference_of_constants a b r u v o p c d e f g = record {
+  least = λ l. omega (arith, o, p, l, c.least, d.greatest, e.least);
+  greatest = λ l. omega (arith, o, p, l, c.least, c.greatest, d.least, d.greatest, e.greatest);
+  low = λ t l i j. ap (λ n. n % 2 ^ t) (f ∙ sym g);
 }
 
 pub mask_of_constants : (r : Scalar) (u v : ℕ) → IsConstant r (bit_and u v) → r.may ≡ bit_and u v → Masks v r

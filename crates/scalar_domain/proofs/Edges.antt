@@ -1,9 +1,9 @@
 -- What the edges of a conditional jump say.
-use Rattle.std.proofs.Common.{◌≡◌, ℕ, suc, pos, negsuc, ap, inl, inr, ◌-◌, ◌%◌, ◌^◌, ◌<◌, ◌≤◌, sym, ◌∙◌, subst, arith, Bool, true, false}
-use Rattle.std.specs.Prelude.{bit_and, ◌==◌, int_lt, int_le, Option, Some, None, IsSomeAnd}
+use Rattle.std.proofs.Common.{◌≡◌, ℕ, suc, pos, negsuc, refl, ap, inl, inr, ◌-◌, ◌%◌, ◌^◌, ◌<◌, ◌≤◌, sym, ◌∙◌, subst, arith, Bool, true, false}
+use Rattle.std.specs.Prelude.{◌≢◌, bit_and, ◌==◌, int_lt, int_le, Option, Some, None, IsSomeAnd}
 use Rattle.std.specs.Int.{Width, w32, w64}
 use mir.Val.{bits, hbits, sel}
-use Rattle.std.proofs.lemmas.Bool.{eqb-true, eq-eqb, ltb-true, ltb-false, leb-true, leb-false, lt-ltb, le-ltb, le-leb, lt-leb, not-false, not_from_true, false≢true, cases_lt}
+use Rattle.std.proofs.lemmas.Bool.{eqb-true, eqb-false, not-true, eq-eqb, ltb-true, ltb-false, leb-true, leb-false, lt-ltb, le-ltb, le-leb, lt-leb, not-false, not_from_true, false≢true, cases_lt}
 use Rattle.std.proofs.lemmas.Int.{to_z_pos}
 use Rattle.std.proofs.lemmas.Nat.{and-not, and_comm}
 use Rattle.std.proofs.Math.Nat.{mod-eq_of_lt}
@@ -14,20 +14,24 @@ use Rattle.scalar_domain.specs.declared.scalar.Scalar.{Scalar}
 use Rattle.scalar_domain.specs.declared.relation.Relation.{Relation}
 use Rattle.scalar_domain.specs.Scalar.{IsNoWider}
 use Rattle.scalar_domain.specs.Mask.{Within}
-use Rattle.scalar_domain.specs.Relation.{Related, Bounding, relation_on, unsigned_condition, signed_order, SignedRelated, MovesBounds, GoesAlong}
+use Rattle.scalar_domain.specs.Relation.{Related, Bounding, relation_on, unsigned_condition, signed_order, SignedRelated, MovesBounds, GoesAlong, TellsApart}
+use Rattle.scalar_domain.specs.declared.relation.Relation.TheVariants.{Different}
 use Rattle.scalar_domain.proofs.Bits.{ap2, within-and, within_le, within-trans}
 use Rattle.std.specs.Int.Bits.{and_self}
 
+differ : (x y : ℕ) → (x == y) ≡ false → x ≢ y
+differ x y e = eqb-false x y e
+
 pub related : (w : Width) (c : Condition) (t : Bool) (x y : ℕ) → holds w c x y ≡ t → Related (relation_on c t) x y
 related w condition.Equal true x y e = eqb-true x y e
-related w condition.Equal false x y e = tt
+related w condition.Equal false x y e = differ x y e
 related w condition.Greater true x y e = ltb-true y x e
 related w condition.Greater false x y e = ltb-false y x e
 related w condition.GreaterOrEqual true x y e = leb-true y x e
 related w condition.GreaterOrEqual false x y e = leb-false y x e
 related w condition.SharesBits true x y e = tt
 related w condition.SharesBits false x y e = eqb-true (bit_and x y) 0 (not-false (bit_and x y == 0) e)
-related w condition.NotEqual true x y e = tt
+related w condition.NotEqual true x y e = differ x y (not-true (x == y) e)
 related w condition.NotEqual false x y e = eqb-true x y (not-false (x == y) e)
 related w condition.SignedGreater true x y e = tt
 related w condition.SignedGreater false x y e = tt
@@ -41,6 +45,21 @@ related w condition.SignedLess true x y e = tt
 related w condition.SignedLess false x y e = tt
 related w condition.SignedLessOrEqual true x y e = tt
 related w condition.SignedLessOrEqual false x y e = tt
+
+pub tells_apart : (c : Condition) (t : Bool) → TellsApart c t → relation_on c t ≡ Different
+tells_apart condition.Equal true m = absurd m
+tells_apart condition.Equal false m = refl
+tells_apart condition.Greater t m = absurd m
+tells_apart condition.GreaterOrEqual t m = absurd m
+tells_apart condition.SharesBits t m = absurd m
+tells_apart condition.NotEqual true m = refl
+tells_apart condition.NotEqual false m = absurd m
+tells_apart condition.SignedGreater t m = absurd m
+tells_apart condition.SignedGreaterOrEqual t m = absurd m
+tells_apart condition.Less t m = absurd m
+tells_apart condition.LessOrEqual t m = absurd m
+tells_apart condition.SignedLess t m = absurd m
+tells_apart condition.SignedLessOrEqual t m = absurd m
 
 pub along : (c : Condition) (t : Bool) (x y : ℕ) → MovesBounds c t → Related (relation_on c t) x y → holds w64 c x y ≡ t
 along condition.Equal true x y m h = eq-eqb x y h

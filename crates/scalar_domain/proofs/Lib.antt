@@ -1,4 +1,5 @@
 pub mod Bits
+pub mod Carries
 pub mod Constants
 pub mod Edges
 pub mod Forms

@@ -20,7 +20,7 @@ pub from_low_zero : (n t : ℕ) → t ≤ 64 → n < 2 ^ 64 → n % 2 ^ t ≡ 0 
 from_low_zero n t k l e = and_high_mask 64 t k n l ∙ omega (arith, shr_split n t, e)
 
 -- the low bits of a number are its bits
-low_bit : (n t i : ℕ) → i < t → bit_at (n % 2 ^ t) i ≡ bit_at n i
+pub low_bit : (n t i : ℕ) → i < t → bit_at (n % 2 ^ t) i ≡ bit_at n i
 low_bit n t i h = sym (bit_at_cat_low (n / 2 ^ t) t (n % 2 ^ t) i h) ∙ ap (λ x. bit_at x i) (shr_split n t)
 
 pub lowest_zero : (n : ℕ) → 0 < n → n < 2 ^ 64 → n % 2 ^ trailing_zeros w64 n ≡ 0

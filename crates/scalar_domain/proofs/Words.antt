@@ -15,7 +15,7 @@ use Rattle.bpf_model.specs.declared.opcode.SignedWidth.TheVariants as signed_wid
 use Rattle.bpf_model.specs.declared.opcode.Size.{Size}
 use Rattle.bpf_model.specs.declared.opcode.Size.TheVariants.{Word32, Word64}
 
-either_lt : (b : Bool) (x y m : ℕ) → x < m → y < m → cond b x y < m
+pub either_lt : (b : Bool) (x y m : ℕ) → x < m → y < m → cond b x y < m
 either_lt true x y m p q = p
 either_lt false x y m p q = q
 

@@ -1,12 +1,12 @@
 -- How narrow the results are, at least: what `apply` and `refine` promise, and what a crate above
 -- can promise of registers.
-use Rattle.std.specs.Prelude.{◌≡◌, ℕ, ◌<◌, ◌^◌, Bool}
+use Rattle.std.specs.Prelude.{◌≡◌, ◌≢◌, ℕ, ◌<◌, ◌^◌, Bool}
 use Rattle.std.specs.Int.{w64}
 use mir.Val.{bits}
 use Rattle.bpf_model.specs.Arithmetic.{alu, unary, holds, swapped_width}
 use Rattle.bpf_model.specs.Access.{byte_count}
 use Rattle.bpf_model.specs.declared.insn.AluOp.{AluOp}
-use Rattle.bpf_model.specs.declared.insn.AluOp.TheVariants.{Add, And, ShiftLeft, ShiftRight, Mod}
+use Rattle.bpf_model.specs.declared.insn.AluOp.TheVariants.{Add, Sub, And, ShiftLeft, ShiftRight, Mod}
 use Rattle.bpf_model.specs.declared.insn.UnaryOp.{UnaryOp}
 use Rattle.bpf_model.specs.declared.insn.UnaryOp.TheVariants.{Negate, ByteSwap, MoveSigned}
 use Rattle.bpf_model.specs.declared.insn.SignExtension.TheVariants.{ByteTo32, ShortTo32}
@@ -16,8 +16,8 @@ use Rattle.bpf_model.specs.declared.opcode.Width.{Width}
 use Rattle.bpf_model.specs.declared.opcode.Size.TheVariants.{Word32, Word64}
 use Rattle.scalar_domain.specs.declared.scalar.Scalar.{Scalar}
 use Rattle.scalar_domain.specs.Scalar.{IsConstant, IsNoWider}
-use Rattle.scalar_domain.specs.Precision.{Adds, Masks, ShiftsLeft, ShiftsRight}
-use Rattle.scalar_domain.specs.Relation.{MovesBounds, GoesAlong, IsBetween}
+use Rattle.scalar_domain.specs.Precision.{Adds, Subtracts, Masks, ShiftsLeft, ShiftsRight}
+use Rattle.scalar_domain.specs.Relation.{MovesBounds, GoesAlong, IsBetween, TellsApart, IsNoBound}
 
 -- A load without sign gives a number of so many bytes.
 abbrev pub KeepsLoadFloor : Width → Scalar → Type 0
@@ -28,6 +28,7 @@ pub record KeepsFloor (size : Size) (op : AluOp) (a b result : Scalar) : Type 0 
   pub constant : (x y : ℕ) → IsConstant a x → IsConstant b y → IsConstant result (alu size op x y)
   pub narrow : size ≡ Word32 → result.greatest < 2 ^ 32
   pub sum : size ≡ Word64 → op ≡ Add → Adds a b result
+  pub difference : size ≡ Word64 → op ≡ Sub → Subtracts a b result
   pub mask : (k : ℕ) → size ≡ Word64 → op ≡ And → IsConstant b k → Masks k result
   pub shift_left : (k : ℕ) → size ≡ Word64 → op ≡ ShiftLeft → IsConstant b k → k < 64
       → ShiftsLeft k a result
@@ -52,10 +53,12 @@ pub record KeepsUnaryFloor (op : UnaryOp) (a result : Scalar) : Type 0 where
 
 -- What remains of both sides of a comparison, on one of its edges, is at least this narrow. By a
 -- constant the unsigned orders and equality move the bounds, where a number between them goes along
--- the edge; where none does, no bounds could.
+-- the edge; where none does, no bounds could. Where it differs from a constant, that is no bound.
 pub record KeepsEdgeFloor (size : Size) (c : Condition) (taken : Bool) (a b left right : Scalar)
     : Type 0 where
   pub no_wider_left : IsNoWider left a
   pub no_wider_right : IsNoWider right b
   pub bounds : (k x : ℕ) → size ≡ Word64 → MovesBounds c taken → IsConstant b k → IsBetween a x
       → holds w64 c x k ≡ taken → GoesAlong c taken left k
+  pub apart : (k x : ℕ) → size ≡ Word64 → TellsApart c taken → IsConstant b k → IsBetween a x
+      → x ≢ k → IsNoBound left k

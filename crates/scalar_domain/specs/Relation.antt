@@ -1,12 +1,12 @@
 -- What an edge of a conditional jump says of the two operands, in their unsigned order.
-use Rattle.std.specs.Prelude.{◌≡◌, ℕ, ◌<◌, ◌≤◌, bit_and, Bool, true, false}
+use Rattle.std.specs.Prelude.{◌≡◌, ◌≢◌, ℕ, ◌<◌, ◌≤◌, bit_and, Bool, true, false}
 use Rattle.std.specs.Int.{w64}
 use Rattle.bpf_model.specs.Arithmetic.{holds}
 use Rattle.bpf_model.specs.declared.opcode.Condition.{Condition}
 use Rattle.bpf_model.specs.declared.opcode.Condition.TheVariants as condition
 use Rattle.scalar_domain.specs.declared.scalar.Scalar.{Scalar}
 use Rattle.scalar_domain.specs.declared.relation.Relation.{Relation}
-use Rattle.scalar_domain.specs.declared.relation.Relation.TheVariants.{Below, AtMost, Above, AtLeast, Equal, Apart, Unknown}
+use Rattle.scalar_domain.specs.declared.relation.Relation.TheVariants.{Below, AtMost, Above, AtLeast, Equal, Different, Apart, Unknown}
 use Rattle.scalar_domain.specs.Scalar.{Holds, IsNoWider}
 
 abbrev pub Related : Relation → ℕ → ℕ → Type 0
@@ -15,11 +15,13 @@ Related AtMost x y = x ≤ y
 Related Above x y = y < x
 Related AtLeast x y = y ≤ x
 Related Equal x y = x ≡ y
+Related Different x y = x ≢ y
 Related Apart x y = bit_and x y ≡ 0
 Related Unknown x y = Unit {0}
 
 -- The relations that bound one number by the other.
 abbrev pub Bounding : Relation → Type 0
+Bounding Different = ⊥
 Bounding Apart = ⊥
 Bounding Unknown = ⊥
 Bounding relation = Unit {0}
@@ -29,6 +31,8 @@ Bounding relation = Unit {0}
 abbrev pub relation_on : Condition → Bool → Relation
 relation_on condition.Equal true = Equal
 relation_on condition.NotEqual false = Equal
+relation_on condition.Equal false = Different
+relation_on condition.NotEqual true = Different
 relation_on condition.Less true = Below
 relation_on condition.Less false = AtLeast
 relation_on condition.LessOrEqual true = AtMost
@@ -74,6 +78,17 @@ MovesBounds condition.GreaterOrEqual taken = Unit {0}
 MovesBounds condition.Equal true = Unit {0}
 MovesBounds condition.NotEqual false = Unit {0}
 MovesBounds other taken = ⊥
+
+-- The edges on which a comparison says that two numbers differ.
+abbrev pub TellsApart : Condition → Bool → Type 0
+TellsApart condition.Equal false = Unit {0}
+TellsApart condition.NotEqual true = Unit {0}
+TellsApart other taken = ⊥
+
+-- A number is no bound of a scalar.
+pub record IsNoBound (s : Scalar) (k : ℕ) : Type 0 where
+  pub least : s.least ≢ k
+  pub greatest : s.greatest ≢ k
 
 -- Both bounds of a scalar go along the edge of a comparison of 64 bits with a constant.
 pub record GoesAlong (c : Condition) (taken : Bool) (s : Scalar) (k : ℕ) : Type 0 where

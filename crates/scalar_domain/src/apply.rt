@@ -2,10 +2,10 @@
 ghost use Rattle.std.specs.Prelude.{◌≡◌, ℕ, ◌<◌, ◌≤◌, ◌^◌};
 ghost use Rattle.std.specs.Int.{w32, w64};
 ghost use Rattle.bpf_model.specs.Arithmetic.{operate, alu};
-ghost use Rattle.bpf_model.specs.declared.insn.AluOp.TheVariants.{Add, And, ShiftLeft, ShiftRight, Mod};
+ghost use Rattle.bpf_model.specs.declared.insn.AluOp.TheVariants.{Add, Sub, And, ShiftLeft, ShiftRight, Mod};
 ghost use Rattle.bpf_model.specs.declared.opcode.Size.TheVariants.{Word32, Word64};
 ghost use Rattle.scalar_domain.specs.Scalar.{Holds, IsConstant};
-ghost use Rattle.scalar_domain.specs.Precision.{Adds, Masks, ShiftsLeft, ShiftsRight};
+ghost use Rattle.scalar_domain.specs.Precision.{Adds, Subtracts, Masks, ShiftsLeft, ShiftsRight};
 ghost use Rattle.scalar_domain.specs.Floor.{KeepsFloor};
 ghost use Rattle.scalar_domain.specs.Unsigned.{unsigned_form};
 
@@ -35,6 +35,7 @@ fn apply_wide(op: AluOp, a: Scalar, b: Scalar) -> Scalar
     ensures sound { (x y : ℕ) → x < 2 ^ 64 → y < 2 ^ 64 → Holds a x → Holds b y
         → Holds result (operate w64 op x y) }
     ensures sum { op ≡ Add → Adds a b result }
+    ensures difference { op ≡ Sub → Subtracts a b result }
     ensures mask { (k : ℕ) → op ≡ And → IsConstant b k → Masks k result }
     ensures shift_left { (k : ℕ) → op ≡ ShiftLeft → IsConstant b k → k < 64
         → ShiftsLeft k a result }
@@ -79,6 +80,7 @@ fn apply_unsigned(op: AluOp, a: Scalar, b: Scalar) -> Scalar
     ensures sound { (x y : ℕ) → x < 2 ^ 64 → y < 2 ^ 64 → Holds a x → Holds b y
         → Holds result (operate w64 op x y) }
     ensures sum { op ≡ Add → Adds a b result }
+    ensures difference { op ≡ Sub → Subtracts a b result }
     ensures mask { (k : ℕ) → op ≡ And → IsConstant b k → Masks k result }
     ensures shift_left { (k : ℕ) → op ≡ ShiftLeft → IsConstant b k → k < 64
         → ShiftsLeft k a result }

@@ -24,6 +24,7 @@ impl Scalar {
         requires { Within must may }
         ensures sound { (n : ℕ) → Within n may → Within must n → Holds result n }
         ensures zeros { result.may ≡ may }
+        ensures ones { result.must ≡ must }
         ensures greatest { result.greatest ≡ may }
     {
         Scalar::new(must, may, may, must)
@@ -41,7 +42,7 @@ impl Scalar {
     }
 
     /// The bits that may be one, by the mask and by the greatest number.
-    fn possible_ones(self) -> u64
+    pub(crate) fn possible_ones(self) -> u64
         ensures { (n : ℕ) → Holds self n → Within n result }
     {
         self.may & ones_up_to(self.greatest)

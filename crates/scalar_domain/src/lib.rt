@@ -7,6 +7,7 @@
 
 mod apply;
 mod bitwise;
+mod known;
 mod moves;
 mod refine;
 mod relation;

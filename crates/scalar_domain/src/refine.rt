@@ -1,16 +1,19 @@
 //! What a conditional jump tells.
-ghost use Rattle.std.specs.Prelude.{◌≡◌, ℕ, ◌<◌, ◌≤◌, ◌^◌, bit_and, IfSome, IsSome, IsSomeAnd};
+ghost use Rattle.std.specs.Prelude.{◌≡◌, ◌≢◌, ℕ, ◌%◌, ◌<◌, ◌≤◌, ◌^◌, bit_and, IfSome, IsSome, IsSomeAnd};
 ghost use Rattle.std.specs.Int.{w32, w64};
 ghost use Rattle.bpf_model.specs.Arithmetic.{compares, holds};
 ghost use Rattle.bpf_model.specs.declared.opcode.Size.TheVariants.{Word64};
 ghost use Rattle.scalar_domain.specs.Mask.{Within};
 ghost use Rattle.scalar_domain.specs.Scalar.{Holds, IsConstant, IsNoWider};
 ghost use Rattle.scalar_domain.specs.Floor.{KeepsEdgeFloor};
-ghost use Rattle.scalar_domain.specs.Relation.{Related, SignedRelated, Bounding, MovesBounds, GoesAlong, AreHeld, AreNoWider, IsBetween};
+ghost use Rattle.scalar_domain.specs.Relation.{Related, SignedRelated, Bounding, MovesBounds, GoesAlong, TellsApart, IsNoBound, AreHeld, AreNoWider, IsBetween};
 
 use crate::relation::{Relation, condition_without_sign, is_signed, relation_of};
 use crate::scalar::Scalar;
 use bpf_model::{Condition, Size};
+
+/// The bits of the high half of a word.
+const HIGH_HALF: u64 = 0xffff_ffff_0000_0000;
 
 impl Scalar {
     /// What remains of two sets on the edge of a conditional jump where it is taken, or where it is
@@ -48,6 +51,32 @@ impl Scalar {
         Some(Scalar::new(least, greatest, self.may, self.must))
     }
 
+    /// The numbers but this one, where it is a bound.
+    fn without(self, k: u64) -> Option<Scalar>
+        ensures sound { (x : ℕ) → x < 2 ^ 64 → Holds self x → x ≢ k
+            → IfSome result (λ r. Holds r x) }
+        ensures no_wider { IfSome result (λ r. IsNoWider r self) }
+        ensures apart { (x : ℕ) → IsBetween self x → x ≢ k
+            → IsSomeAnd result (λ r. IsNoBound r k) }
+    {
+        if self.least == k {
+            self.clip(k.checked_add(1)?, u64::MAX)
+        } else if self.greatest == k {
+            self.clip(0, k.checked_sub(1)?)
+        } else {
+            Some(self)
+        }
+    }
+
+    /// The numbers whose low half is one of these.
+    fn with_low(self, low: Scalar) -> Scalar
+        ensures sound { (x : ℕ) → x < 2 ^ 64 → Holds self x → Holds low (x % 2 ^ 32)
+            → Holds result x }
+        ensures no_wider { IsNoWider result self }
+    {
+        self.with_bits(HIGH_HALF | low.possible_ones(), low.must)
+    }
+
     /// The numbers whose bits are also within these masks. Where no number has such bits, it stays
     /// as it is.
     fn with_bits(self, may: u64, must: u64) -> Scalar
@@ -65,7 +94,7 @@ impl Scalar {
     }
 }
 
-/// What remains, by 64 bits or by the low 32; of 32 nothing is told of numbers with a high half.
+/// What remains, by 64 bits or by the low 32; of 32, numbers with a high half learn known bits alone.
 fn refine_words(
     size: Size,
     condition: Condition,
@@ -79,6 +108,8 @@ fn refine_words(
     ensures bounds { (k x : ℕ) → size ≡ Word64 → MovesBounds condition taken → IsConstant b k
         → IsBetween a x → holds w64 condition x k ≡ taken
         → IsSomeAnd result (λ p. GoesAlong condition taken p.0 k) }
+    ensures apart { (k x : ℕ) → size ≡ Word64 → TellsApart condition taken → IsConstant b k
+        → IsBetween a x → x ≢ k → IsSomeAnd result (λ p. IsNoBound p.0 k) }
 {
     match size {
         Size::Word64 => refine_wide(condition, a, b, taken),
@@ -86,7 +117,7 @@ fn refine_words(
             if a.greatest < 0x1_0000_0000 && b.greatest < 0x1_0000_0000 {
                 refine_narrow(condition, a, b, taken)
             } else {
-                None
+                refine_low(condition, a, b, taken)
             }
         }
     }
@@ -99,6 +130,8 @@ fn refine_wide(condition: Condition, a: Scalar, b: Scalar, taken: bool) -> Optio
     ensures bounds { (k x : ℕ) → MovesBounds condition taken → IsConstant b k → IsBetween a x
         → holds w64 condition x k ≡ taken
         → IsSomeAnd result (λ p. GoesAlong condition taken p.0 k) }
+    ensures apart { (k x : ℕ) → TellsApart condition taken → IsConstant b k → IsBetween a x
+        → x ≢ k → IsSomeAnd result (λ p. IsNoBound p.0 k) }
 {
     if is_signed(condition) {
         let relation = relation_of(condition_without_sign(condition), taken);
@@ -125,6 +158,16 @@ fn refine_narrow(
     } else {
         relate(relation_of(condition, taken), a, b)
     }
+}
+
+/// Of the low halves of any numbers.
+fn refine_low(condition: Condition, a: Scalar, b: Scalar, taken: bool) -> Option<(Scalar, Scalar)>
+    ensures sound { (x y : ℕ) → x < 2 ^ 64 → y < 2 ^ 64 → Holds a x → Holds b y
+        → holds w32 condition (x % 2 ^ 32) (y % 2 ^ 32) ≡ taken → IfSome result (AreHeld x y) }
+    ensures no_wider { IfSome result (AreNoWider a b) }
+{
+    let (left, right) = refine_narrow(condition, a.low_bits(32), b.low_bits(32), taken)?;
+    Some((a.with_low(left), b.with_low(right)))
 }
 
 /// As `relate`, by the order of signed numbers, which tells something where the lesser side has no
@@ -159,6 +202,8 @@ fn relate(relation: Relation, a: Scalar, b: Scalar) -> Option<(Scalar, Scalar)>
     ensures bounds { (k x : ℕ) → IsConstant b k → IsBetween a x → Bounding relation
         → Related relation x k
         → IsSomeAnd result (λ p. Related relation p.0.least k × Related relation p.0.greatest k) }
+    ensures apart { (k x : ℕ) → relation ≡ Relation.Different → IsConstant b k → IsBetween a x
+        → x ≢ k → IsSomeAnd result (λ p. IsNoBound p.0 k) }
 {
     match relation {
         Relation::Below => below(a, b),
@@ -172,8 +217,24 @@ fn relate(relation: Relation, a: Scalar, b: Scalar) -> Option<(Scalar, Scalar)>
             Some((left, right))
         }
         Relation::Equal => equal(a, b),
+        Relation::Different => different(a, b),
         Relation::Apart => Some((a.with_bits(!b.must, 0), b.with_bits(!a.must, 0))),
         Relation::Unknown => None,
+    }
+}
+
+/// The numbers of each side without the one number of the other, where it has but one.
+fn different(a: Scalar, b: Scalar) -> Option<(Scalar, Scalar)>
+    ensures sound { (x y : ℕ) → x < 2 ^ 64 → y < 2 ^ 64 → Holds a x → Holds b y → x ≢ y
+        → IfSome result (AreHeld x y) }
+    ensures no_wider { IfSome result (AreNoWider a b) }
+    ensures apart { (k x : ℕ) → IsConstant b k → IsBetween a x → x ≢ k
+        → IsSomeAnd result (λ p. IsNoBound p.0 k) }
+{
+    match (a.as_constant(), b.as_constant()) {
+        (_, Some(k)) => Some((a.without(k)?, b)),
+        (Some(k), None) => Some((a, b.without(k)?)),
+        (None, None) => None,
     }
 }
 

@@ -12,6 +12,7 @@ pub enum Relation {
     Above,
     AtLeast,
     Equal,
+    Different,
     Apart,
     Unknown,
 }
@@ -22,6 +23,7 @@ pub(crate) fn relation_of(condition: Condition, taken: bool) -> Relation
 {
     match (condition, taken) {
         (Condition::Equal, true) | (Condition::NotEqual, false) => Relation::Equal,
+        (Condition::Equal, false) | (Condition::NotEqual, true) => Relation::Different,
         (Condition::Less, true) | (Condition::GreaterOrEqual, false) => Relation::Below,
         (Condition::LessOrEqual, true) | (Condition::Greater, false) => Relation::AtMost,
         (Condition::Greater, true) | (Condition::LessOrEqual, false) => Relation::Above,

@@ -1,10 +1,14 @@
 //! Sums, products and quotients.
 ghost use Rattle.std.specs.Prelude.{◌≡◌, ℕ, ◌+◌, ◌-◌, ◌*◌, ◌/◌, ◌%◌, ◌^◌, ◌<◌, ◌≤◌, ◌==◌, if◌then◌else◌};
 ghost use Rattle.scalar_domain.specs.Scalar.{Holds, IsConstant};
-ghost use Rattle.scalar_domain.specs.Mask.{Within};
-ghost use Rattle.scalar_domain.specs.Precision.{Adds};
+ghost use Rattle.scalar_domain.specs.Mask.{Within, AreKnownBelow};
+ghost use Rattle.scalar_domain.specs.Precision.{Adds, Subtracts};
 
+use crate::known::KnownBits;
 use crate::scalar::Scalar;
+
+/// How many words there are.
+const WORD: u128 = 1 << 64;
 
 /// All ones from the lowest one of the mask up.
 pub(crate) fn ones_from(mask: u64) -> u64
@@ -32,40 +36,75 @@ impl Scalar {
         Scalar::new(least, greatest, may, 0)
     }
 
-    /// Low bits that are 0 in both stay 0 in the sum. The bounds are those of the sum where none of
-    /// the sums wraps, or where all do.
+    /// What is known of the bits of its numbers.
+    fn bits(self) -> KnownBits
+        ensures zeros { result.may ≡ self.may }
+        ensures ones { result.must ≡ self.must }
+    {
+        KnownBits {
+            may: self.may,
+            must: self.must,
+        }
+    }
+
+    /// The numbers with all bits turned over.
+    fn complement(self) -> Scalar
+        ensures sound { (x : ℕ) → x < 2 ^ 64 → Holds self x → Holds result (2 ^ 64 - 1 - x) }
+        ensures least { result.least ≡ 2 ^ 64 - 1 - self.greatest }
+        ensures greatest { result.greatest ≡ 2 ^ 64 - 1 - self.least }
+        ensures low { (t : ℕ) → t ≤ 64 → AreKnownBelow t self.may self.must
+            → AreKnownBelow t result.may result.must }
+    {
+        Scalar::new(!self.greatest, !self.least, !self.must, !self.may)
+    }
+
+    /// Sums with a carry. The bounds are those of the sums where none leaves 64 bits, or where all
+    /// do, and else what the bits say.
+    fn sum(self, other: Scalar, carry: u64) -> Scalar
+        requires { carry ≤ 1 }
+        ensures sound { (x y : ℕ) → Holds self x → Holds other y
+            → Holds result ((x + y + carry) % 2 ^ 64) }
+        ensures inside { self.greatest + other.greatest + carry < 2 ^ 64
+            → (result.least ≡ self.least + other.least + carry)
+            × (result.greatest ≡ self.greatest + other.greatest + carry) }
+        ensures past { 2 ^ 64 ≤ self.least + other.least + carry
+            → (result.least + 2 ^ 64 ≡ self.least + other.least + carry)
+            × (result.greatest + 2 ^ 64 ≡ self.greatest + other.greatest + carry) }
+        ensures low { (t : ℕ) → t ≤ 64 → AreKnownBelow t self.may self.must
+            → AreKnownBelow t other.may other.must → AreKnownBelow t result.may result.must }
+        ensures ones { Within result.must ((self.must + other.must + carry) % 2 ^ 64) }
+    {
+        let bits = self.bits().add(other.bits(), carry);
+        let least = u128::from(self.least) + u128::from(other.least) + u128::from(carry);
+        let greatest = u128::from(self.greatest) + u128::from(other.greatest) + u128::from(carry);
+        if least / WORD == greatest / WORD {
+            Scalar::new(
+                (least % WORD) as u64,
+                (greatest % WORD) as u64,
+                bits.may,
+                bits.must,
+            )
+        } else {
+            Scalar::from_bits(bits.may, bits.must)
+        }
+    }
+
+    /// Bounds and bits of sums.
     pub(crate) fn add(self, other: Scalar) -> Scalar
         ensures sound { (x y : ℕ) → x < 2 ^ 64 → y < 2 ^ 64 → Holds self x → Holds other y
             → Holds result ((x + y) % 2 ^ 64) }
         ensures precise { Adds self other result }
     {
-        let may = ones_from(self.may | other.may);
-        let least = self.least.wrapping_add(other.least);
-        let greatest = self.greatest.wrapping_add(other.greatest);
-        if self.greatest <= u64::MAX - other.greatest {
-            Scalar::masked(least, greatest, may)
-        } else if u64::MAX - other.least < self.least {
-            Scalar::masked(least, greatest, may)
-        } else {
-            Scalar::masked(0, u64::MAX, may)
-        }
+        self.sum(other, 0)
     }
 
-    /// As for a sum, by whether a difference is below zero.
+    /// A difference is a sum with what turns all bits of the other over, and 1.
     pub(crate) fn subtract(self, other: Scalar) -> Scalar
-        ensures { (x y : ℕ) → x < 2 ^ 64 → y < 2 ^ 64 → Holds self x → Holds other y
+        ensures sound { (x y : ℕ) → x < 2 ^ 64 → y < 2 ^ 64 → Holds self x → Holds other y
             → Holds result ((x + (2 ^ 64 - y)) % 2 ^ 64) }
+        ensures precise { Subtracts self other result }
     {
-        let may = ones_from(self.may | other.may);
-        let least = self.least.wrapping_sub(other.greatest);
-        let greatest = self.greatest.wrapping_sub(other.least);
-        if other.greatest <= self.least {
-            Scalar::masked(least, greatest, may)
-        } else if self.greatest < other.least {
-            Scalar::masked(least, greatest, may)
-        } else {
-            Scalar::masked(0, u64::MAX, may)
-        }
+        self.sum(other.complement(), 1)
     }
 
     /// Low bits that are 0 in a factor are 0 in the product.

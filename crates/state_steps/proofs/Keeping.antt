@@ -22,13 +22,13 @@ use Rattle.typed_runs.specs.Effects.{with_kind, with_cells, IsNumberOperand}
 use Rattle.typed_runs.specs.Planned.{AreAlike}
 use Rattle.compute_effects.specs.Computes.{HasNumber, ReadsNumber}
 use Rattle.control_effects.specs.Forks.{AreNarrowed}
-use Rattle.state_steps.specs.Facts.{Register as RegisterFact, FrameByte, FramePointer, Outside, KeepsFacts, ReadsNumbers, IsReady}
+use Rattle.state_steps.specs.Facts.{Register as RegisterFact, FrameByte, FramePointer, Section, KeepsFacts, ReadsNumbers, IsReady}
 
 pub same_keeps : (i : Insn) (a : AbsState) → ((r : ℕ) → Writes i r → ⊥) → ((k : ℕ) → WritesByte i k → ⊥) → KeepsFacts i a a
 same_keeps i a no_reg no_byte (RegisterFact r) h = elim h [ inl p ↦ p | inr w ↦ absurd (no_reg r w) ]
 same_keeps i a no_reg no_byte (FrameByte k) h = elim h [ inl p ↦ p | inr w ↦ absurd (no_byte k w) ]
 same_keeps i a no_reg no_byte FramePointer h = elim h [ inl p ↦ p | inr w ↦ absurd w ]
-same_keeps i a no_reg no_byte Outside h = elim h [ inl p ↦ p | inr w ↦ absurd w ]
+same_keeps i a no_reg no_byte (Section inside) h = elim h [ inl p ↦ p | inr w ↦ absurd w ]
 
 set-there : (r q : ℕ) (k : Kind) (a b : AbsState) → AreAlike (with_kind r k a) b → q ≡ r → b.regs q ≡ k
 set-there r q k a b e p = e.regs q ∙ ap (λ t. if t then k else a.regs q) (eq-eqb q r p)
@@ -51,7 +51,7 @@ set_keeps i dst t a b s ne e (RegisterFact r) h = elim (cases_eq r dst) [
 ]
 set_keeps i dst t a b s ne e (FrameByte k) h = e.cells k ∙ (elim h [ inl p ↦ p | inr w ↦ absurd (s.no_bytes k w) ])
 set_keeps i dst t a b s ne e FramePointer h = set-elsewhere dst 10 (Num t) a b e ne ∙ (elim h [ inl p ↦ p | inr w ↦ absurd w ])
-set_keeps i dst t a b s ne e Outside h = e.inside ∙ (elim h [ inl p ↦ p | inr w ↦ absurd w ])
+set_keeps i dst t a b s ne e (Section inside) h = e.inside ∙ (elim h [ inl p ↦ p | inr w ↦ absurd w ])
 
 -- a store to the frame
 byte-there : (b : Bool) (x : CellKind) → (b ≡ true) ⊎ (x ≡ ByteCell) → (if b then ByteCell else x) ≡ ByteCell
@@ -62,7 +62,7 @@ pub store_keeps : (i : Insn) (at width : ℕ) (a b : AbsState) → ((r : ℕ) �
 store_keeps i at width a b no_reg bytes e (RegisterFact r) h = elim h [ inl p ↦ (p.0, e.regs r ∙ p.1) | inr w ↦ absurd (no_reg r w) ]
 store_keeps i at width a b no_reg bytes e (FrameByte k) h = e.cells k ∙ byte-there (is_within at width k) (a.cells k) (elim h [ inl p ↦ inr p | inr w ↦ inl (bytes k w) ])
 store_keeps i at width a b no_reg bytes e FramePointer h = e.regs 10 ∙ (elim h [ inl p ↦ p | inr w ↦ absurd w ])
-store_keeps i at width a b no_reg bytes e Outside h = e.inside ∙ (elim h [ inl p ↦ p | inr w ↦ absurd w ])
+store_keeps i at width a b no_reg bytes e (Section inside) h = e.inside ∙ (elim h [ inl p ↦ p | inr w ↦ absurd w ])
 
 -- a comparison
 names_cases : (src : Operand) (r : ℕ) → Names src r ⊎ (Names src r → ⊥)
@@ -90,7 +90,7 @@ narrow_keeps i dst src o a b no_reg no_byte numbers frame e (RegisterFact r) h =
 narrow_keeps i dst src o a b no_reg no_byte numbers frame e (FrameByte k) h = e.cells k ∙ (elim h [ inl p ↦ p | inr w ↦ absurd (no_byte k w) ])
 narrow_keeps i dst src o a b no_reg no_byte numbers frame e FramePointer h =
     e.others 10 (λ p. let n = numbers 10 p in no-frame n.0 o (a.regs 10) n.1 frame) ∙ (elim h [ inl p ↦ p | inr w ↦ absurd w ])
-narrow_keeps i dst src o a b no_reg no_byte numbers frame e Outside h = e.inside ∙ (elim h [ inl p ↦ p | inr w ↦ absurd w ])
+narrow_keeps i dst src o a b no_reg no_byte numbers frame e (Section inside) h = e.inside ∙ (elim h [ inl p ↦ p | inr w ↦ absurd w ])
 
 -- what is read as a number
 pub operand_number : (src : Operand) (a : AbsState) → ((r : ℕ) → Names src r → HasNumber a r) → IsNumberOperand a src

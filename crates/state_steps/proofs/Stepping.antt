@@ -35,6 +35,7 @@ use Rattle.state_steps.specs.declared.flow.Flow.{Flow}
 use Rattle.state_steps.specs.declared.region.Region.TheVariants as regions
 use Rattle.state_steps.specs.Steps.{IsForward, IsBranch, base_of, IsInRegion, Compares, IsComparable}
 use Rattle.state_steps.specs.Facts.{IsReady, KeepsFacts}
+use Rattle.state_steps.specs.Lookups.{Serves}
 use Rattle.state_steps.specs.Stepped.{single_flow, region_of, Stepped, ComparesWell}
 
 -- an instruction that reaches no memory, compares nothing and has one state behind it
@@ -45,8 +46,8 @@ pub record IsQuiet (i : Insn) : Type 0 where
 
 pub quiet_step : (i : Insn) (shapes : List MapShape) (ctx_len top : ℕ) (a b : AbsState) (f : Flow) → f ≡ single_flow regions.None → IsQuiet i
     → (IsForward i → Transfers i shapes ctx_len (state_of a) (state_of b) None) → AreBelow top b
-    → (IsReady i (state_of a) → KeepsFacts i (state_of a) (state_of b)) → Stepped i shapes ctx_len top a b (Ok f)
-quiet_step i shapes ctx_len top a b f e q sound below keeps = subst (λ (f : Flow). Stepped i shapes ctx_len top a b (Ok f)) (sym e) (record {
+    → (IsReady i (state_of a) → KeepsFacts i (state_of a) (state_of b)) → Serves shapes i (state_of a) (state_of b) None → Stepped i shapes ctx_len top a b (Ok f)
+quiet_step i shapes ctx_len top a b f e q sound below keeps serves = subst (λ (f : Flow). Stepped i shapes ctx_len top a b (Ok f)) (sym e) (record {
   done = record {
     sound = sound;
     branches = λ x. absurd (q.no_branch x);
@@ -55,10 +56,12 @@ quiet_step i shapes ctx_len top a b f e q sound below keeps = subst (λ (f : Flo
     taken_below = tt;
     keeps = keeps;
     keeps_taken = λ ready. tt;
+    serves = serves;
   };
   below = below;
   unchanged = tt;
   accepts = λ ready. tt;
+  accepts_maps = λ ready. tt;
 })
 
 -- a test for null of what may be null
@@ -132,8 +135,8 @@ same_base : (m n : ℕ) → Some m ≡ Some n → m ≡ n
 same_base m n e = cc
 
 pub access_step : (i : Insn) (shapes : List MapShape) (ctx_len top : ℕ) (a b : AbsState) (f : Flow) (region : effects.Region) (base : ℕ) → f ≡ single_flow (region_of region) → IsAccess i base → IsBase region (kind_at a.regs base)
-    → Transfers i shapes ctx_len (state_of a) (state_of b) None → AreBelow top b → (IsReady i (state_of a) → KeepsFacts i (state_of a) (state_of b)) → Stepped i shapes ctx_len top a b (Ok f)
-access_step i shapes ctx_len top a b f region base e q is sound below keeps = subst (λ (f : Flow). Stepped i shapes ctx_len top a b (Ok f)) (sym e) (record {
+    → Transfers i shapes ctx_len (state_of a) (state_of b) None → AreBelow top b → (IsReady i (state_of a) → KeepsFacts i (state_of a) (state_of b)) → Serves shapes i (state_of a) (state_of b) None → Stepped i shapes ctx_len top a b (Ok f)
+access_step i shapes ctx_len top a b f region base e q is sound below keeps serves = subst (λ (f : Flow). Stepped i shapes ctx_len top a b (Ok f)) (sym e) (record {
   done = record {
     sound = λ forward. sound;
     branches = λ x. absurd (q.no_branch x);
@@ -142,8 +145,10 @@ access_step i shapes ctx_len top a b f region base e q is sound below keeps = su
     taken_below = tt;
     keeps = keeps;
     keeps_taken = λ ready. tt;
+    serves = serves;
   };
   below = below;
   unchanged = tt;
   accepts = λ ready. tt;
+  accepts_maps = λ ready. tt;
 })

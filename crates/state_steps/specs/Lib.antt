@@ -1,3 +1,4 @@
 pub mod Facts
+pub mod Lookups
 pub mod Steps
 pub mod Stepped

@@ -1,18 +1,22 @@
 -- All that is said of the step of one instruction.
-use Rattle.std.specs.Prelude.{◌≡◌, ℕ, List, Some, None, Result, IfOk, OnErr, IfSome, IsSome, ℤ, option_map}
+use Rattle.std.specs.Prelude.{◌≡◌, ℕ, List, Some, None, Result, IfOk, OnErr, IfSome, IsSome, ℤ, pos, option_map}
 use Rattle.bpf_model.specs.declared.limits.MapShape.{MapShape}
 use Rattle.bpf_model.specs.declared.insn.Insn.{Insn}
 use Rattle.bpf_model.specs.declared.insn.Insn.TheVariants.{JumpIf}
 use Rattle.bpf_model.specs.declared.insn.Operand.{Operand}
+use Rattle.bpf_model.specs.declared.insn.Operand.TheVariants.{Immediate}
 use Rattle.bpf_model.specs.declared.opcode.Condition.{Condition}
+use Rattle.bpf_model.specs.declared.opcode.Condition.TheVariants.{Equal}
 use Rattle.bpf_model.specs.declared.opcode.Size.{Size}
+use Rattle.bpf_model.specs.declared.opcode.Size.TheVariants.{Word64}
 use Rattle.bpf_model.specs.Step.{State}
 use Rattle.typed_runs.specs.Kinds.{AbsState as Known}
 use Rattle.typed_runs.specs.Describes.{Scene, Describes}
 use Rattle.typed_runs.specs.Verified.{Transfers}
 use Rattle.register_kinds.specs.declared.state.AbsState.{AbsState}
 use Rattle.register_kinds.specs.Pairs.{AreBelow}
-use Rattle.register_kinds.specs.States.{state_of}
+use Rattle.register_kinds.specs.declared.kind.RegKind.TheVariants as kinds
+use Rattle.register_kinds.specs.States.{kind_in, state_of}
 use Rattle.kind_tests.specs.declared.fault.Fault.{Fault}
 use Rattle.memory_effects.specs.declared.region.Region as effects
 use Rattle.memory_effects.specs.declared.region.Region.TheVariants as reached
@@ -21,6 +25,7 @@ use Rattle.state_steps.specs.declared.region.Region.TheVariants as regions
 use Rattle.state_steps.specs.declared.flow.Flow.{Flow}
 use Rattle.state_steps.specs.Steps.{IsForward, IsBranch, taken_state, base_of, IsInRegion, Compares, IsComparable, IsFine}
 use Rattle.state_steps.specs.Facts.{IsReady, KeepsFacts}
+use Rattle.state_steps.specs.Lookups.{IsReadyWithMaps, Serves}
 
 -- the flow of an instruction that has no second state behind it
 abbrev pub single_flow : Region → Flow
@@ -36,6 +41,13 @@ region_of (reached.Value map) = regions.Value map
 abbrev pub ComparesWell : Condition → Size → ℕ → Operand → Known → Type 0
 ComparesWell condition size dst src a = (offset : ℤ) (r : ℕ) (c : Scene) (m : State) → Compares (JumpIf condition size dst src offset) r → Describes a c m → IsComparable (JumpIf condition size dst src offset) (m.regs r)
 
+-- The comparison jumps where what a lookup gave, under this identity, is null.
+pub record IsEqualToNull (condition : Condition) (size : Size) (dst : ℕ) (src : Operand) (map id : ℕ) (a : AbsState) : Type 0 where
+  pub condition_is : condition ≡ Equal
+  pub size_is : size ≡ Word64
+  pub src_is : src ≡ Immediate (pos 0)
+  pub kind : kind_in a.regs dst ≡ kinds.MaybeNull map id
+
 -- an instruction that is not refused
 pub record Done (i : Insn) (shapes : List MapShape) (ctx_len top : ℕ) (old new : AbsState) (flow : Flow) : Type 0 where
   pub sound : IsForward i → Transfers i shapes ctx_len (state_of old) (state_of new) (option_map state_of (taken_state flow))
@@ -45,6 +57,7 @@ pub record Done (i : Insn) (shapes : List MapShape) (ctx_len top : ℕ) (old new
   pub taken_below : IfSome (taken_state flow) (AreBelow top)
   pub keeps : IsReady i (state_of old) → KeepsFacts i (state_of old) (state_of new)
   pub keeps_taken : IsReady i (state_of old) → IfSome (taken_state flow) (λ t. KeepsFacts i (state_of old) (state_of t))
+  pub serves : Serves shapes i (state_of old) (state_of new) (option_map state_of (taken_state flow))
 
 -- It is done, or refused.
 pub record Stepped (i : Insn) (shapes : List MapShape) (ctx_len top : ℕ) (old new : AbsState) (result : Result Flow Fault) : Type 0 where
@@ -52,3 +65,4 @@ pub record Stepped (i : Insn) (shapes : List MapShape) (ctx_len top : ℕ) (old 
   pub below : AreBelow top new
   pub unchanged : OnErr result (new ≡ old)
   pub accepts : IsReady i (state_of old) → IsFine result
+  pub accepts_maps : IsReadyWithMaps shapes i (state_of old) → IsFine result

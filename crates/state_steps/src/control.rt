@@ -1,5 +1,5 @@
 //! Steps of jumps, of calls, and of the exit.
-ghost use Rattle.std.specs.Prelude.{◌≡◌, ℕ, ℤ, List, Ok, ◌+◌, ◌^◌, ◌<◌, ◌≤◌, IfOk, IfErr, OnOk, OnErr, IfSome, if◌then◌else◌, pos};
+ghost use Rattle.std.specs.Prelude.{◌≡◌, ℕ, ℤ, List, Ok, Some, true, ◌+◌, ◌^◌, ◌<◌, ◌≤◌, IfOk, IfErr, OnOk, OnErr, IfSome, if◌then◌else◌, pos};
 ghost use Rattle.bpf_model.specs.declared.limits.MapShape.{MapShape};
 ghost use Rattle.bpf_model.specs.Step.{State};
 ghost use Rattle.typed_runs.specs.Effects.{IsNumberOperand};
@@ -8,8 +8,9 @@ ghost use Rattle.register_kinds.specs.declared.state.AbsState.{AbsState as Known
 ghost use Rattle.register_kinds.specs.Pairs.{AreBelow};
 ghost use Rattle.register_kinds.specs.States.{kind_in, state_of};
 ghost use Rattle.compute_effects.specs.Computes.{HasNumber};
+ghost use Rattle.call_effects.specs.Calls.{Splits};
 ghost use Rattle.control_effects.specs.Forks.{Forks, ForksOnNull, AreNarrowed};
-ghost use Rattle.state_steps.specs.Stepped.{Stepped, ComparesWell};
+ghost use Rattle.state_steps.specs.Stepped.{Stepped, ComparesWell, IsEqualToNull};
 
 use crate::environment::EnvironmentShape;
 use crate::flow::{Flow, single};
@@ -46,6 +47,8 @@ fn null_test(condition: Condition, size: Size, src: &Operand) -> Option<bool>
         ≡ (if equal then Condition.Equal else Condition.NotEqual)) }
     ensures size { IfSome result (λ equal. size ≡ Size.Word64) }
     ensures number { IfSome result (λ equal. src.now ≡ Operand.Immediate (pos 0)) }
+    ensures equal { condition ≡ Condition.Equal → size ≡ Size.Word64
+        → src.now ≡ Operand.Immediate (pos 0) → result ≡ Some true }
 {
     match (condition, size, src) {
         (Condition::Equal, Size::Word64, Operand::Immediate(imm)) if *imm == 0 => Some(true),
@@ -64,6 +67,8 @@ fn null_branch(
     ensures sound { IfOk result (λ taken. (dst map : ℕ)
         → kind_in state.old.regs dst ≡ RegKind.MaybeNull map id
         → ForksOnNull equal dst state.old state.new taken.value) }
+    ensures splits { IfOk result (λ taken. equal ≡ true
+        → Splits id state.old taken.value state.new) }
     ensures below { (top : ℕ) → AreBelow top state.old → AreBelow top state.new }
     ensures taken_below { IfOk result (λ taken. (top : ℕ)
         → AreBelow top state.old → AreBelow top taken.value) }
@@ -98,6 +103,12 @@ fn branch(
         → AreNarrowed dst src.now (state_of state.old) (state_of taken.value)) }
     ensures accepts { HasNumber (state_of state.old) dst
         → IsNumberOperand (state_of state.old) src.now → IfErr result (λ e. e ≡ Fault.Memory) }
+    ensures splits { IfOk result (λ taken. (map id : ℕ)
+        → IsEqualToNull condition size dst src.now map id state.old
+        → Splits id state.old taken.value state.new) }
+    ensures accepts_null { (map id : ℕ)
+        → IsEqualToNull condition size dst src.now map id state.old
+        → IfErr result (λ e. e ≡ Fault.Memory) }
     ensures unchanged { OnErr result (state.new ≡ state.old) }
 {
     match (null_test(condition, size, src), state.kind(dst)) {

@@ -7,6 +7,7 @@ ghost use Rattle.register_kinds.specs.Pairs.{AreBelow};
 ghost use Rattle.register_kinds.specs.States.{state_of};
 ghost use Rattle.state_steps.specs.Steps.{IsForward, IsBranch, taken_state, base_of, IsInRegion, Compares, IsComparable, IsFine};
 ghost use Rattle.state_steps.specs.Facts.{IsReady, KeepsFacts};
+ghost use Rattle.state_steps.specs.Lookups.{IsReadyWithMaps, Serves};
 ghost use Rattle.state_steps.specs.Stepped.{Stepped};
 
 use crate::access::{load_step, signed_step, store_step};
@@ -72,6 +73,13 @@ pub fn transfer(
         → KeepsFacts insn.now (state_of state.old) (state_of state.new)) }
     ensures keeps_taken { IfOk result (λ f. IsReady insn.now (state_of state.old)
         → IfSome (taken_state f) (λ t. KeepsFacts insn.now (state_of state.old) (state_of t))) }
+
+    // So it is of a part of a guarded lookup, and of a call that begins or ends a section; and what
+    // the next part needs is known.
+    ensures accepts_maps { IsReadyWithMaps shape.now.shapes.now insn.now (state_of state.old)
+        → IsFine result }
+    ensures serves { IfOk result (λ f. Serves shape.now.shapes.now insn.now (state_of state.old)
+        (state_of state.new) (option_map state_of (taken_state f))) }
 {
     perform(state, alloc, insn, shape, ids)
 }

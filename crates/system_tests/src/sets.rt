@@ -120,6 +120,8 @@ fn edges(rt: HostRuntime) {
         (Size::Word64, Condition::Equal, 10, true, 10, 10),
         (Size::Word64, Condition::NotEqual, 10, false, 10, 10),
         (Size::Word64, Condition::NotEqual, 10, true, 0, 255),
+        (Size::Word64, Condition::NotEqual, 0, true, 1, 255),
+        (Size::Word64, Condition::Equal, 255, false, 0, 254),
         (Size::Word64, Condition::SignedLess, 10, true, 0, 9),
         (Size::Word32, Condition::Less, 10, true, 0, 9),
         // no number is left
@@ -142,7 +144,8 @@ fn edges(rt: HostRuntime) {
         Scalar::constant(10),
         true,
     );
-    assert_eq!(rt; wide, Scalar::unknown());
+    assert_eq!(rt; (wide.least, wide.greatest), (0, u64::MAX));
+    assert_eq!(rt; (wide.may, wide.must), (0xffff_ffff_0000_000f, 0));
     let (positive, _) = Scalar::refine(
         Size::Word64,
         Condition::SignedGreater,
@@ -170,6 +173,28 @@ fn edges(rt: HostRuntime) {
         false,
     );
     assert!(rt; !even.contains(7) && even.contains(6));
+}
+
+/// Which bits are known of sums and differences: of 4 and 20, and of what they make with 0 or 8.
+#[test]
+fn known_bits(rt: HostRuntime) {
+    let places = Scalar::constant(4).join(Scalar::constant(20));
+    let steps = Scalar::constant(0).join(Scalar::constant(8));
+    let rows = [
+        (AluOp::Add, Scalar::constant(4), steps, 0b1100, 0b0100),
+        (AluOp::Add, places, steps, 0b1_1100, 0b0_0100),
+        (AluOp::Add, places, Scalar::constant(4), 0b1_1000, 0b0_1000),
+        (AluOp::Sub, Scalar::constant(20), steps, 0b1_1100, 0b0_0100),
+        (AluOp::Sub, places, Scalar::constant(4), 0b1_0000, 0),
+    ];
+    for (op, a, b, may, must) in rows {
+        let result = Scalar::apply(Size::Word64, op, a, b);
+        assert_eq!(rt;
+            (result.may, result.must),
+            (may, must),
+            "{op:?} {a:?} {b:?}"
+        );
+    }
 }
 
 fn extended(extension: SignExtension) -> UnaryOp {

@@ -40,7 +40,7 @@ use Rattle.typed_runs.proofs.Sets.{set-described, placed-described}
 use Rattle.typed_runs.proofs.Arguments.{reg-is, bound}
 use Rattle.typed_runs.proofs.Local.{Acting, acts-transfers}
 
-unreclaimed : (l : Life) (s : Section) → IsGuarded l s → is_reclaimed l ≡ false
+pub unreclaimed : (l : Life) (s : Section) → IsGuarded l s → is_reclaimed l ≡ false
 unreclaimed Linked s h = refl
 unreclaimed (Unlinked since) s h = refl
 unreclaimed Reclaimed s h = absurd h
@@ -101,7 +101,7 @@ element-loads shapes ctx_len s opened run map shape scalar width offset v w at p
       r.2,
     )
 
-wide-fits : (width : Width) (n : ℕ) → n < 256 ^ byte_count width → n < 2 ^ 64
+pub wide-fits : (width : Width) (n : ℕ) → n < 256 ^ byte_count width → n < 2 ^ 64
 wide-fits widths.One n h = omega arith
 wide-fits widths.Two n h = omega arith
 wide-fits widths.Four n h = omega arith
@@ -174,7 +174,7 @@ element-stores shapes ctx_len s opened run map shape scalar width offset n v bas
     }
 
 -- an operand that is known to be a number is one in each described state
-operand-number : (a : AbsState) (c : Scene) (m : State) (src : Operand) → Describes a c m → IsNumberOperand a src → (n : ℕ) × (operand_value src m.regs ≡ Number n)
+pub operand-number : (a : AbsState) (c : Scene) (m : State) (src : Operand) → Describes a c m → IsNumberOperand a src → (n : ℕ) × (operand_value src m.regs ≡ Number n)
 operand-number a c m (Register r) d k = let y = reg-is a c m r (Num k.0) d k.1 in (y.0, y.1)
 operand-number a c m (Immediate imm) d k = (immediate imm, refl)
 

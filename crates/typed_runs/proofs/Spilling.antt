@@ -145,7 +145,7 @@ no-element es width offset v base o new e h = frame-none v (sym (ap (element_sto
     frame-none (Number n) h = none-some new h
     frame-none (Pointer r) h = none-some new h
 
-no-element-load : (es : List Element) (width : ℕ) (offset : ℤ) (base : Value) (o : ℤ) (n : ℕ) → base ≡ Pointer (Frame o) → element_load es width offset base ≡ Some n → ⊥
+pub no-element-load : (es : List Element) (width : ℕ) (offset : ℤ) (base : Value) (o : ℤ) (n : ℕ) → base ≡ Pointer (Frame o) → element_load es width offset base ≡ Some n → ⊥
 no-element-load es width offset base o n e h = none-some n (sym (ap (element_load es width offset) e) ∙ h)
 
 module _ (dst src : ℕ) (offset o : ℤ) (at : ℕ) (shapes : List MapShape) (ctx_len : ℕ) (a : AbsState) (kind : Kind) where

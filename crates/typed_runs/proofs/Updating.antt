@@ -1,6 +1,6 @@
 -- Updates and deletes by a described run.
-use Rattle.std.proofs.Common.{◌≡◌, ℕ, ◌<◌, ◌^◌, List, [], ◌∷◌, ◌++◌, length, Option, Some, None, refl, sym, ap, subst, ◌∙◌, ℤ, arith, Bool, true, false, Result, Ok, Err}
-use Rattle.std.specs.Prelude.{slice_get, slice_set, if◌then◌else◌, ◌==◌, ◌&&◌, is_some, not, nat_le, nat_lt}
+use Rattle.std.proofs.Common.{◌≡◌, ℕ, ◌<◌, ◌^◌, List, [], ◌∷◌, ◌++◌, length, Option, Some, None, refl, sym, ap, subst, ◌∙◌, ℤ, arith, Bool, Result, Ok, Err}
+use Rattle.std.specs.Prelude.{slice_get, slice_set, ◌==◌, ◌&&◌, is_some, not, nat_le, nat_lt}
 use Rattle.std.proofs.lemmas.Option.{same_Some}
 use Rattle.bpf_model.specs.declared.limits.MapShape.{MapShape}
 use Rattle.bpf_model.specs.declared.insn.Insn.TheVariants.{Call}
@@ -34,6 +34,7 @@ use Rattle.typed_runs.proofs.Sets.{returned-described}
 use Rattle.typed_runs.proofs.Finding.{looks-up}
 use Rattle.typed_runs.proofs.Arguments.{reg-is, bound, map-is, key-is, value-is}
 use Rattle.typed_runs.proofs.Calls.{falls-to}
+use Rattle.model_laws.proofs.Choices.{bag-has, last-false}
 
 ret-fits : (r : Result (Unit {0}) Errno) → ret_word r < 2 ^ 64
 ret-fits (Ok u) = omega arith
@@ -42,19 +43,6 @@ ret-fits (Err TooBig) = omega arith
 ret-fits (Err NoMemory) = omega arith
 ret-fits (Err Exists) = omega arith
 ret-fits (Err InvalidArgument) = omega arith
-
--- where each test passes a slot is free
-bag-has : (bag : List ℕ) → (length bag == 0) ≡ false → (c : ℕ) × (rest : List ℕ) × (bag ≡ c ∷ rest)
-bag-has [] h = absurd (cc)
-bag-has (c ∷ rest) h = (c, rest, refl)
-
-last-false : (a b c d e : Bool) (p q r s t : Errno) → (if a then Some p else if b then Some q else if c then Some r else if d then Some s else if e then Some t else None) ≡ None → e ≡ false
-last-false true b c d e p q r s t h = absurd (cc)
-last-false false true c d e p q r s t h = absurd (cc)
-last-false false false true d e p q r s t h = absurd (cc)
-last-false false false false true e p q r s t h = absurd (cc)
-last-false false false false false true p q r s t h = absurd (cc)
-last-false false false false false false p q r s t h = refl
 
 slot-free : (flags : ℕ) (present : Bool) (linked : ℕ) (m : MapState) → update_error flags present linked m ≡ None → (c : ℕ) × (rest : List ℕ) × (m.bag ≡ c ∷ rest)
 slot-free flags present linked m h = bag-has m.bag (last-false (nat_lt 2 flags) ((flags == 1) && present) ((flags == 2) && not present) (not present && nat_le m.shape.entries linked) (length m.bag == 0) _ _ _ _ _ h)

@@ -88,15 +88,15 @@ module _ (w : WorldView) (s : Schedule) (m : Matches w s) where
   reaction_simulates (events.Drop r) x h = subst (Simulates s (events.Drop r)) (same_Some _ x h) (drop_simulates r)
 
 -- each operation on a view keeps its shape
-retired-shape : (v : MapView) (key : List ℕ) (o : Option ℕ) → (retired_slot v key o).shape ≡ v.shape
+pub retired-shape : (v : MapView) (key : List ℕ) (o : Option ℕ) → (retired_slot v key o).shape ≡ v.shape
 retired-shape v key None = refl
 retired-shape v key (Some i) = refl
 
-filled-shape : (free : List ℕ) (v : MapView) (key value : List ℕ) → (filled_from free v key value).shape ≡ v.shape
+pub filled-shape : (free : List ℕ) (v : MapView) (key value : List ℕ) → (filled_from free v key value).shape ≡ v.shape
 filled-shape [] v key value = refl
 filled-shape (i ∷ rest) v key value = refl
 
-updated-shape : (o : Option Errno) (v : MapView) (key value : List ℕ) → (updated_by o v key value).1.shape ≡ v.shape
+pub updated-shape : (o : Option Errno) (v : MapView) (key value : List ℕ) → (updated_by o v key value).1.shape ≡ v.shape
 updated-shape (Some e) v key value = refl
 updated-shape None v key value = filled-shape v.free (retired_key v key) key value ∙ retired-shape v key (get v.index key)
 
@@ -107,7 +107,7 @@ given-shape Worn i v = refl
 abbrev shape : MapView → MapShape
 shape v = v.shape
 
-set-shapes : (vs : List MapView) (k : ℕ) (v new : MapView) → slice_get vs k ≡ Some v → new.shape ≡ v.shape → map shape (slice_set vs k new) ≡ map shape vs
+pub set-shapes : (vs : List MapView) (k : ℕ) (v new : MapView) → slice_get vs k ≡ Some v → new.shape ≡ v.shape → map shape (slice_set vs k new) ≡ map shape vs
 set-shapes vs k v new at same = map-set shape vs k new ∙ (ap (slice_set (map shape vs) k) same ∙ (sym (map-set shape vs k v) ∙ ap (map shape) (set-same vs k v at)))
 
 turned-shapes : (vs : List MapView) → map shape (map turned_view vs) ≡ map shape vs

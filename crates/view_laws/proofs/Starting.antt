@@ -1,5 +1,5 @@
 -- A start.
-use Rattle.std.proofs.Common.{◌≡◌, ◌∙◌, ℕ, zero, suc, ◌+◌, ◌<◌, List, [], ◌∷◌, length, Option, Some, None, inl, inr, ◌⊎◌, refl, sym, ap, arith, subst, Bool, true, false}
+use Rattle.std.proofs.Common.{◌≡◌, ◌∙◌, ℕ, zero, suc, ◌+◌, ◌<◌, List, [], ◌∷◌, length, Option, Some, None, refl, sym, ap, arith, subst, Bool, true, false}
 use Rattle.std.specs.Prelude.{slice_get, slice_index, ◌==◌, if◌then◌else◌}
 use Rattle.std.specs.Option.{option_map}
 use Rattle.std.proofs.lemmas.Option.{none-some, same_Some}
@@ -81,10 +81,6 @@ free-run : (runs : List (Option Run)) (r : ℕ) → lowest_free runs ≡ Some r 
 free-run [] r h = absurd (none-some r h)
 free-run (None ∷ runs) r h = ap (slice_get (None ∷ runs)) (sym (same_Some 0 r h))
 free-run (Some v ∷ runs) r h = let q = plus-one (lowest_free runs) r h in ap (slice_get (Some v ∷ runs)) q.2 ∙ free-run runs q.0 q.1
-
-option_cases : {A : Type 0} (o : Option A) → (o ≡ None) ⊎ ((x : A) × (o ≡ Some x))
-option_cases None = inl refl
-option_cases (Some x) = inr (x, refl)
 
 is-there : (o : Option Loaded) (len : ℕ) (free : Option ℕ) → start_refusal o len free ≡ None → (program : Loaded) × (o ≡ Some program)
 is-there None len free h = absurd (none-some NoProgram (sym h))

@@ -1,6 +1,6 @@
 -- An update: what the key had leaves, and an element is born in the slot that has been free longest.
-use Rattle.std.proofs.Common.{◌≡◌, ◌∙◌, ℕ, zero, suc, ◌+◌, ◌-◌, ◌<◌, ◌≤◌, List, [], ◌∷◌, ◌++◌, map, length, Option, Some, None, refl, sym, ap, arith, Bool, true, false, subst, Result, Ok, Err}
-use Rattle.std.specs.Prelude.{slice_get, slice_set, slice_index, count_by, is_some, cond, not, nat_lt, nat_le, ◌==◌, ◌&&◌, if◌then◌else◌}
+use Rattle.std.proofs.Common.{◌≡◌, ◌∙◌, ℕ, zero, suc, ◌+◌, ◌-◌, ◌<◌, ◌≤◌, List, [], ◌∷◌, ◌++◌, map, length, Option, Some, None, refl, sym, ap, arith, false, subst, Result, Ok, Err}
+use Rattle.std.specs.Prelude.{slice_get, slice_set, slice_index, count_by, is_some, cond, not, nat_lt, nat_le, ◌==◌, ◌&&◌}
 use Rattle.std.specs.FinMap.{get, len}
 use Rattle.std.proofs.lemmas.Option.{none-some, same_Some}
 use Rattle.std.proofs.lemmas.List.{length-append}
@@ -31,24 +31,12 @@ use Rattle.view_laws.proofs.Changing.{changes-trans, changes-born}
 use Rattle.view_laws.proofs.Mapping.{elements-born, slots-born}
 use Rattle.view_laws.proofs.Worlds.{Here, Turns, turned-world, shapes-agree, awaited-same, oldest-none, refuses, unchanged, retired-same, steps}
 use Rattle.view_laws.proofs.Deleting.{Dropped, h, drop, lists-left, lists-others}
+use Rattle.model_laws.proofs.Choices.{last-false}
 
 pub set-same : {A : Type 0} (xs : List A) (i : ℕ) (y : A) → slice_get xs i ≡ Some y → slice_set xs i y ≡ xs
 set-same [] i y h = refl
 set-same (z ∷ xs) zero y h = ap (λ w. w ∷ xs) (sym (same_Some _ _ h))
 set-same (z ∷ xs) (suc i) y h = ap (λ l. z ∷ l) (set-same xs i y h)
-
--- an update that passes has a free slot
-bag-has : (bag : List ℕ) → (length bag == 0) ≡ false → (c : ℕ) × (rest : List ℕ) × (bag ≡ c ∷ rest)
-bag-has [] h = absurd (cc)
-bag-has (c ∷ rest) h = (c, rest, refl)
-
-last-false : (a b c d e : Bool) (p q r s t : Errno) → (if a then Some p else if b then Some q else if c then Some r else if d then Some s else if e then Some t else None) ≡ None → e ≡ false
-last-false true b c d e p q r s t h = absurd (cc)
-last-false false true c d e p q r s t h = absurd (cc)
-last-false false false true d e p q r s t h = absurd (cc)
-last-false false false false true e p q r s t h = absurd (cc)
-last-false false false false false true p q r s t h = absurd (cc)
-last-false false false false false false p q r s t h = refl
 
 free-has : (v : MapView) (free : List ℕ) → v.free ≡ free → (length (map (uses_at v.slots) free) == 0) ≡ false → (i : ℕ) × (rest : List ℕ) × (free ≡ i ∷ rest)
 free-has v [] e h = absurd (cc)

@@ -1,5 +1,5 @@
 -- A world stands for the schedule after a change of one map.
-use Rattle.std.proofs.Common.{◌≡◌, ◌≢◌, ◌∙◌, ℕ, suc, ◌<◌, List, [], ◌∷◌, map, length, Option, Some, None, ◌⊎◌, inl, inr, refl, sym, ap, arith, Bool, subst}
+use Rattle.std.proofs.Common.{◌≡◌, ◌≢◌, ◌∙◌, ℕ, suc, ◌<◌, List, [], ◌∷◌, map, length, Option, Some, None, inl, inr, refl, sym, ap, arith, Bool, subst}
 use Rattle.std.specs.Prelude.{slice_get, slice_set, count_by}
 use Rattle.std.proofs.lemmas.Option.{none-some, same_Some, slice_get_within}
 use Rattle.bpf_model.specs.declared.limits.MapShape.{MapShape}
@@ -24,6 +24,7 @@ use Rattle.view_laws.proofs.Changing.{Changes}
 use Rattle.view_laws.proofs.Mapping.{elements-other}
 use Rattle.view_laws.proofs.Wording.{slot-kept}
 use Rattle.view_laws.proofs.Listing.{named-kept, between-same, still-same, more-none}
+use Rattle.model_laws.proofs.Counting.{option-cases}
 
 -- what stands at a map's number
 pub record Here (w : WorldView) (s : Schedule) (x : RefinesSchedule w s) (k : ℕ) (v : MapView) : Type 0 where
@@ -46,12 +47,8 @@ here w s x k v at =
 abbrev shape_at : Option MapState → Option MapShape
 shape_at o = shape_in o
 
-option_cases : {A : Type 0} (o : Option A) → (o ≡ None) ⊎ ((x : A) × (o ≡ Some x))
-option_cases None = inl refl
-option_cases (Some x) = inr (x, refl)
-
 pub shapes-agree : (w : WorldView) (s : Schedule) → RefinesSchedule w s → (k : ℕ) → shape_of s.machine.store k ≡ shape_shown (slice_get w.maps k)
-shapes-agree w s x k = elim (option_cases (slice_get w.maps k)) [
+shapes-agree w s x k = elim (option-cases (slice_get w.maps k)) [
   | inl none ↦ ap shape_at (none-there (slice_get s.machine.store.maps k) refl none) ∙ sym (ap shape_shown none)
   | inr some ↦
       let h = here w s x k some.0 some.1 in

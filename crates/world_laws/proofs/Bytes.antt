@@ -13,8 +13,8 @@ use Rattle.bpf_model.specs.MachineStep.{with_bytes, bytes_at}
 use Rattle.bpf_model.specs.Value.{◌>>=◌}
 use Rattle.bpf_model.specs.Word.{ByteIs}
 use Rattle.world_laws.specs.Locating.{number_from}
-use Rattle.world_laws.proofs.Words.{bind_some}
 use Rattle.world_laws.proofs.Cells.{number_more, byte_known}
+use Rattle.model_laws.proofs.Lists.{first-step}
 
 within : (at w k : ℕ) → at ≤ k → k < at + w → is_within at w k ≡ true
 within at w k h l = ap (λ t. t && nat_lt k (at + w)) (le-leb at k h) ∙ lt-ltb k (at + w) l
@@ -105,8 +105,8 @@ pub argument-bytes : (bases : ℕ → ℕ) (cells : ℕ → Cell) (bytes : List 
     → bytes_at cells at len ≡ Some found → take len (drop at bytes) ≡ found
 argument-bytes bases cells bytes all zero at found l h = same_Some [] found h
 argument-bytes bases cells bytes all (suc len) at found l h =
-    let b = bind_some (byte_of (cells at)) (λ b. bytes_at cells (suc at) len >>= λ bs. Some (b ∷ bs)) found h in
-    let r = bind_some (bytes_at cells (suc at) len) (λ bs. Some (b.0 ∷ bs)) found b.2 in
+    let b = first-step (byte_of (cells at)) (λ b. bytes_at cells (suc at) len >>= λ bs. Some (b ∷ bs)) found h in
+    let r = first-step (bytes_at cells (suc at) len) (λ bs. Some (b.0 ∷ bs)) found b.2 in
     let first : slice_index bytes at ≡ b.0 = byte_known bases (cells at) (slice_index bytes at) b.0 (all at (omega arith)) b.1 in
     let rest : take len (drop (suc at) bytes) ≡ r.0 = argument-bytes bases cells bytes all len (suc at) r.0 (omega arith) r.1 in
     ap (take (suc len)) (drop-next bytes at (omega arith)) ∙ ap (λ x. x ∷ take len (drop (suc at) bytes)) first ∙ ap (λ xs. b.0 ∷ xs) rest ∙ same_Some (b.0 ∷ r.0) found r.2

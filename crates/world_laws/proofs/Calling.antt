@@ -28,7 +28,7 @@ use Rattle.bpf_model.specs.Schedule.{Schedule}
 use Rattle.bpf_model.specs.Value.{◌>>=◌, reference}
 use Rattle.bpf_model.specs.View.{MapView, RunView, WorldView}
 use Rattle.bpf_model.specs.Word.{WordIs, element_bases, map_in, slot_base, map_base, frame_base}
-use Rattle.model_laws.proofs.Lists.{get-below}
+use Rattle.model_laws.proofs.Lists.{get-below, first-step}
 use Rattle.view_laws.specs.Matching.{Matches}
 use Rattle.view_laws.specs.Reactions.{with_map}
 use Rattle.view_laws.specs.Views.{deleted, updated}
@@ -40,7 +40,7 @@ use Rattle.world_laws.specs.Moving.{word_in, moves_on}
 use Rattle.world_laws.specs.Calling.{bound_number, bytes_in, returned_view, found_word, serves, helped_on, helped, entered}
 use Rattle.world_laws.specs.Reacting.{insn_step}
 use Rattle.world_laws.specs.Typed.{IsSound, IsRunning}
-use Rattle.world_laws.proofs.Words.{bind_some, number_word}
+use Rattle.world_laws.proofs.Words.{number_word}
 use Rattle.world_laws.proofs.Bytes.{set_cond, argument-bytes}
 use Rattle.world_laws.proofs.Ready.{bases, refines, register-word, byte-stands, moves-to, move-refines, half-refines}
 use Rattle.world_laws.proofs.Own.{Known, Does}
@@ -113,7 +113,7 @@ module _ (w : WorldView) (s : Schedule) (m : Matches w s) (sound : IsSound w s) 
 
   pub called : (map : ℕ) (key : List ℕ) → map_argument run ≡ Some map → key_argument s.machine.store run map ≡ Some key → CalledWith map key
   called map key map_is key_is =
-      let f = bind_some (map_state.shape_of s.machine.store map) (λ shape. frame_bytes run.state.frame shape.key_len (run.state.regs 2)) key key_is in
+      let f = first-step (map_state.shape_of s.machine.store map) (λ shape. frame_bytes run.state.frame shape.key_len (run.state.regs 2)) key key_is in
       let st = shape-there (slice_get s.machine.store.maps map) f.0 f.1 in
       let within : map < length s.machine.store.maps = slice_get_within s.machine.store.maps map st.0 st.1 in
       let same : length w.maps ≡ length s.machine.store.maps = m.refines.maps.0 in
@@ -206,7 +206,7 @@ module _ (w : WorldView) (s : Schedule) (m : Matches w s) (sound : IsSound w s) 
   update-simulates : (imm : ℤ) (ret : Value) (after : map_state.Store) → Known w s m sound r run v k (Call kinds.Helper imm) → helper_of imm ≡ Some Update → UpdateStep s.machine.store (open_sections s.machine.runs) run ret after → Does w s m sound r run v k (insn_step (Call kinds.Helper imm) run.program r v w)
   update-simulates imm ret after at e d =
       let c = called d.map d.key d.map_is d.key_is in
-      let f = bind_some (map_state.shape_of s.machine.store d.map) (λ shape. frame_bytes run.state.frame shape.value_len (run.state.regs 3)) d.value d.value_is in
+      let f = first-step (map_state.shape_of s.machine.store d.map) (λ shape. frame_bytes run.state.frame shape.value_len (run.state.regs 3)) d.value d.value_is in
       let is : f.0 ≡ c.view.shape = same_Some f.0 c.view.shape (sym f.1 ∙ c.shape) in
       let value_is : bytes_in v 3 c.view.shape.value_len ≡ d.value = bytes-from (run.state.regs 3) (word_in v 3) c.view.shape.value_len d.value (register-word w s m sound r run v k 3 (omega arith)) (ap (λ (z : MapShape). frame_bytes run.state.frame z.value_len (run.state.regs 3)) (sym is) ∙ f.2) in
       let flags_are : word_in v 4 ≡ d.flags = number_word b (run.state.regs 4) d.flags (word_in v 4) d.flags_are (register-word w s m sound r run v k 4 (omega arith)) in

@@ -1,9 +1,9 @@
 -- The flags of sections change by a lock and an unlock alone.
-use Rattle.std.proofs.Common.{◌≡◌, ℕ, sym, ap, ◌∙◌, List, Option, Some, None, Bool}
+use Rattle.std.proofs.Common.{◌≡◌, ℕ, sym, ap, ◌∙◌, List, Some, Bool}
 use Rattle.std.specs.Prelude.{slice_get, nat_lt}
 use Rattle.std.specs.Option.{option_map}
-use Rattle.std.proofs.lemmas.Option.{none-some, slice_get-map}
-use Rattle.bpf_model.specs.Machine.{Run, run_in}
+use Rattle.std.proofs.lemmas.Option.{slice_get-map}
+use Rattle.bpf_model.specs.Machine.{Run}
 use Rattle.bpf_model.specs.Schedule.{Schedule, is_open, still_open}
 use Rattle.bpf_model.specs.View.{RunView, WorldView}
 use Rattle.view_laws.specs.Matching.{Matches}
@@ -12,11 +12,7 @@ use Rattle.view_laws.proofs.Updating.{set-same}
 use Rattle.view_laws.proofs.Worlds.{awaited-same}
 use Rattle.world_laws.specs.Typed.{IsSound, IsRunning}
 use Rattle.world_laws.proofs.Ready.{refines}
-
-run-inside : (o : Option (Option Run)) (run : Run) → run_in o ≡ Some run → o ≡ Some (Some run)
-run-inside None run e = absurd (none-some run e)
-run-inside (Some None) run e = absurd (none-some run e)
-run-inside (Some (Some a)) run e = ap Some e
+use Rattle.model_laws.proofs.Queueing.{in-slot}
 
 module _ (w : WorldView) (s : Schedule) (m : Matches w s) (sound : IsSound w s) (r : ℕ) (run : Run) (v new : RunView) (k : IsRunning w s r run v) (same : new.depth ≡ v.depth) where
   flag : slice_get w.opened r ≡ Some (nat_lt 0 new.depth)
@@ -24,7 +20,7 @@ module _ (w : WorldView) (s : Schedule) (m : Matches w s) (sound : IsSound w s) 
       let depth : new.depth ≡ run.depth = same ∙ (refines w s m sound r run v k).depth in
       ap (λ (l : List Bool). slice_get l r) m.refines.opened
       ∙ slice_get-map is_open s.machine.runs r
-      ∙ ap (option_map is_open) (run-inside (slice_get s.machine.runs r) run k.there)
+      ∙ ap (option_map is_open) (in-slot (slice_get s.machine.runs r) run k.there)
       ∙ ap (λ (n : ℕ). Some (nat_lt 0 n)) (sym depth)
 
   pub opened_stays : (with_run r (Some new) w).opened ≡ w.opened

@@ -1,8 +1,7 @@
 -- No reaction changes the shape of a map, or the programs.
-use Rattle.std.proofs.Common.{◌≡◌, ◌∙◌, ℕ, List, [], ◌∷◌, map, Option, Some, None, refl, sym, ap}
-use Rattle.std.specs.Prelude.{slice_get, slice_set, ℤ, pos, negsuc, ◌+ℤ◌}
+use Rattle.std.proofs.Common.{◌≡◌, ℕ, Option, Some, None, refl}
+use Rattle.std.specs.Prelude.{slice_get, ℤ, pos, negsuc, ◌+ℤ◌}
 use Rattle.std.specs.FinMap.{get}
-use Rattle.bpf_model.specs.declared.call.Errno.{Errno}
 use Rattle.bpf_model.specs.declared.call.Helper.{Helper}
 use Rattle.bpf_model.specs.declared.call.Helper.TheVariants.{Lookup, Update, Delete}
 use Rattle.bpf_model.specs.declared.call.KernelFunction.{KernelFunction}
@@ -20,11 +19,9 @@ use Rattle.bpf_model.specs.Machine.{Loaded}
 use Rattle.bpf_model.specs.Step.{insn_at}
 use Rattle.bpf_model.specs.View.{MapView, RunView, WorldView, shapes_of}
 use Rattle.model_laws.specs.Near.{Location, InContext, InFrame, AtMap, InSlot}
-use Rattle.view_laws.specs.Views.{retired_slot, retired_key, filled_from, updated_by, shown_error}
+use Rattle.view_laws.specs.Views.{shown_error}
 use Rattle.view_laws.specs.Reactions.{with_map, run_shown, reaction}
-use Rattle.view_laws.proofs.Running.{map-set}
-use Rattle.view_laws.proofs.Updating.{set-same}
-use Rattle.view_laws.proofs.Reacting.{reaction_keeps}
+use Rattle.view_laws.proofs.Reacting.{reaction_keeps, retired-shape, updated-shape, set-shapes}
 use Rattle.world_laws.specs.Locating.{location_of}
 use Rattle.world_laws.specs.Moving.{word_in, operand_word, stored_slot, stored_at}
 use Rattle.world_laws.specs.Calling.{bytes_in, bound_number, serves, helped_on, helped, entered}
@@ -32,21 +29,6 @@ use Rattle.world_laws.specs.Reacting.{insn_step, step_at, step_in, step_of, or_s
 
 abbrev shape : MapView → MapShape
 shape v = v.shape
-
-retired-shape : (v : MapView) (key : List ℕ) (o : Option ℕ) → (retired_slot v key o).shape ≡ v.shape
-retired-shape v key None = refl
-retired-shape v key (Some i) = refl
-
-filled-shape : (free : List ℕ) (v : MapView) (key value : List ℕ) → (filled_from free v key value).shape ≡ v.shape
-filled-shape [] v key value = refl
-filled-shape (i ∷ rest) v key value = refl
-
-updated-shape : (o : Option Errno) (v : MapView) (key value : List ℕ) → (updated_by o v key value).1.shape ≡ v.shape
-updated-shape (Some e) v key value = refl
-updated-shape None v key value = filled-shape v.free (retired_key v key) key value ∙ retired-shape v key (get v.index key)
-
-set-shapes : (vs : List MapView) (k : ℕ) (v new : MapView) → slice_get vs k ≡ Some v → new.shape ≡ v.shape → map shape (slice_set vs k new) ≡ map shape vs
-set-shapes vs k v new at same = map-set shape vs k new ∙ (ap (slice_set (map shape vs) k) same ∙ (sym (map-set shape vs k v) ∙ ap (map shape) (set-same vs k v at)))
 
 abbrev pub Keeps : WorldView → WorldView → Type 0
 Keeps w new = (shapes_of new ≡ shapes_of w) × (new.programs ≡ w.programs)

@@ -32,7 +32,8 @@ use Rattle.model_laws.proofs.Keeping.{no-run}
 use Rattle.typed_runs.proofs.Coming.{Comes, Stands, Starting, Stepping, does-come}
 use Rattle.typed_runs.proofs.Reaching.{real-rest}
 use Rattle.world_laws.specs.Typed.{IsListed, AreListed}
-use Rattle.world_laws.proofs.Words.{bind_some, chosen, refused}
+use Rattle.world_laws.proofs.Words.{chosen, refused}
+use Rattle.model_laws.proofs.Lists.{first-step}
 
 listed-closed : (count : ℕ) → Closed (IsListed count)
 listed-closed count = record { context = λ o. tt; frame = λ o. tt; moved = λ n o p h. h }
@@ -53,7 +54,7 @@ choice-listed count false u v p q = q
 
 loads-listed : (dst : ℕ) (map : ℤ) (env : Environment) (m : State) (out : Outcome) → HoldsState (IsListed env.maps) m → after (LoadMap dst map) env m ≡ Some out → HoldsOutcome (IsListed env.maps) out
 loads-listed dst map env m out p e =
-    let f = bind_some (map_value env map) (λ u. sets 2 dst u m) out e in
+    let f = first-step (map_value env map) (λ u. sets 2 dst u m) out e in
     let next : State = record { regs = put dst f.0 m.regs; frame = m.frame; place = m.place + 2 } in
     subst (HoldsOutcome (IsListed env.maps)) (refused (dst == 10) (Moves next) out f.2) (λ q. choice-listed env.maps (q == dst) f.0 (m.regs q) (map-listed env map f.0 f.1) (p.0 q), p.1)
 

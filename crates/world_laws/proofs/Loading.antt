@@ -27,18 +27,19 @@ use Rattle.world_laws.specs.Locating.{location_of, value_of, bytes_of, offset_at
 use Rattle.world_laws.specs.Moving.{word_in}
 use Rattle.world_laws.specs.Reacting.{insn_step}
 use Rattle.world_laws.specs.Typed.{IsSound, IsRunning}
-use Rattle.world_laws.proofs.Words.{bind_some, offset_some, number_word}
+use Rattle.world_laws.proofs.Words.{offset_some, number_word}
 use Rattle.world_laws.proofs.Cells.{read_word}
 use Rattle.world_laws.proofs.Places.{context-location, frame-location, slot-location}
 use Rattle.world_laws.proofs.Bytes.{number-there, number-read}
 use Rattle.world_laws.proofs.Shown.{Shown, shown}
 use Rattle.world_laws.proofs.Ready.{bases, refines, near, register-word, byte-stands}
 use Rattle.world_laws.proofs.Own.{Known, StepsBy, Does, alone-step, insn-real, set}
+use Rattle.model_laws.proofs.Lists.{first-step}
 
 -- an element that may be accessed is there, and not reclaimed
 pub accessible-known : (es : List Element) (n : ℕ) (e : Element) → accessible es n ≡ Some e → (slice_get es n ≡ Some e) × (is_reclaimed e.life ≡ false)
 accessible-known es n e h =
-    let f = bind_some (slice_get es n) unless_reclaimed e h in
+    let f = first-step (slice_get es n) unless_reclaimed e h in
     let g = choice f.0 (is_reclaimed f.0.life) refl f.2 in
     (f.1 ∙ ap Some g.0, g.1)
   where
@@ -57,15 +58,15 @@ module _ (w : WorldView) (s : Schedule) (m : Matches w s) (sound : IsSound w s) 
   load-word width x offset (Pointer (MapRef i)) u word n e = absurd (none-some u e)
   load-word width x offset (Pointer (Elem b o)) u word n e = absurd (none-some u e)
   load-word width x offset (Pointer (Ctx o)) u word n e =
-      let f = bind_some (region_offset (length run.context) width (o +ℤ offset)) (λ at. number_at (slice_get run.context) at width >>= λ n. Some (Number n)) u e in
-      let g = bind_some (number_at (slice_get run.context) f.0 width) (λ n. Some (Number n)) u f.2 in
+      let f = first-step (region_offset (length run.context) width (o +ℤ offset)) (λ at. number_at (slice_get run.context) at width >>= λ n. Some (Number n)) u e in
+      let g = first-step (number_at (slice_get run.context) f.0 width) (λ n. Some (Number n)) u f.2 in
       let p = offset_some (length run.context) width (o +ℤ offset) f.0 f.1 in
       let h = refines w s m sound r run v k in
       subst (λ u. WordIs (bases w s m sound r run v k) u (loaded_word w v width offset x)) (same_Some (Number g.0) u g.2)
       (located width x offset (InContext o) (context-location x o n word)
       ∙ number-read v.context width f.0 g.0 (o +ℤ offset) p.0 (ap (λ (c : List ℕ). number_at (slice_get c) f.0 width) h.context ∙ g.1))
   load-word width x offset (Pointer (Frame o)) u word n e =
-      let f = bind_some (region_offset 512 width (o +ℤ offset)) (λ at. read run.state.frame at width) u e in
+      let f = first-step (region_offset 512 width (o +ℤ offset)) (λ at. read run.state.frame at width) u e in
       let p = offset_some 512 width (o +ℤ offset) f.0 f.1 in
       let h = refines w s m sound r run v k in
       let cells : length v.frame ≡ 512 = h.cells in
@@ -89,8 +90,8 @@ module _ (w : WorldView) (s : Schedule) (m : Matches w s) (sound : IsSound w s) 
   element-word width x offset (Pointer (Frame o)) n word close e = absurd (none-some n e)
   element-word width x offset (Pointer (MapRef i)) n word close e = absurd (none-some n e)
   element-word width x offset (Pointer (Elem b o)) n word close e =
-      let f = bind_some (accessible s.machine.store.elements b) (loaded_from width (o +ℤ offset)) n e in
-      let g = bind_some (region_offset (length f.0.value) width (o +ℤ offset)) (λ at. number_at (slice_get f.0.value) at width) n f.2 in
+      let f = first-step (accessible s.machine.store.elements b) (loaded_from width (o +ℤ offset)) n e in
+      let g = first-step (region_offset (length f.0.value) width (o +ℤ offset)) (λ at. number_at (slice_get f.0.value) at width) n f.2 in
       let p = offset_some (length f.0.value) width (o +ℤ offset) g.0 g.1 in
       let x-at = element-place b x o f.0 f.1 word close in
       let slot = slice_index m.refines.slots b in
@@ -109,7 +110,7 @@ module _ (w : WorldView) (s : Schedule) (m : Matches w s) (sound : IsSound w s) 
   load-simulates width dst src offset out here e =
       let i = Load width dst src offset in
       let real = insn-real w s m sound r run v k i here in
-      let f = bind_some (load_from (environment run) run.state (byte_count width) offset (run.state.regs src)) (λ u. sets 1 dst u run.state) out e in
+      let f = first-step (load_from (environment run) run.state (byte_count width) offset (run.state.regs src)) (λ u. sets 1 dst u run.state) out e in
       set w s m sound r run v k i out 1 dst (loaded_word w v (byte_count width) offset (word_in v src)) f.0 here (alone-step w s m sound r run v k i out refl e) real.0 f.2
       (λ _. load-word (byte_count width) (word_in v src) offset (run.state.regs src) f.0 (register-word w s m sound r run v k src real.1) ((near w s m sound r run v k).regs_near src) f.1)
 
@@ -118,8 +119,8 @@ module _ (w : WorldView) (s : Schedule) (m : Matches w s) (sound : IsSound w s) 
       let i = LoadSigned width dst src offset in
       let real = insn-real w s m sound r run v k i here in
       let wide = byte_count (unsigned_width width) in
-      let f = bind_some (load_from (environment run) run.state wide offset (run.state.regs src)) (λ u. number u >>= λ n. sets 1 dst (Number (loaded_signed width n)) run.state) out e in
-      let g = bind_some (number f.0) (λ n. sets 1 dst (Number (loaded_signed width n)) run.state) out f.2 in
+      let f = first-step (load_from (environment run) run.state wide offset (run.state.regs src)) (λ u. number u >>= λ n. sets 1 dst (Number (loaded_signed width n)) run.state) out e in
+      let g = first-step (number f.0) (λ n. sets 1 dst (Number (loaded_signed width n)) run.state) out f.2 in
       let x = loaded_word w v wide offset (word_in v src) in
       set w s m sound r run v k i out 1 dst (loaded_signed width x) (Number (loaded_signed width g.0)) here (alone-step w s m sound r run v k i out refl e) real.0 g.2
       (λ _. ap (loaded_signed width) (number_word (bases w s m sound r run v k) f.0 g.0 x g.1

@@ -26,12 +26,12 @@ use Rattle.world_laws.specs.Locating.{location_of, bytes_of, offset_at, number_f
 use Rattle.world_laws.specs.Moving.{word_in, operand_word, with_word, moves_on, stored_at}
 use Rattle.world_laws.specs.Reacting.{insn_step}
 use Rattle.world_laws.specs.Typed.{IsSound, IsRunning}
-use Rattle.world_laws.proofs.Words.{bind_some}
 use Rattle.world_laws.proofs.Places.{context-location, frame-location}
 use Rattle.world_laws.proofs.Ready.{bases, near, register-word}
 use Rattle.world_laws.proofs.Own.{Known, insn-real}
 use Rattle.world_laws.proofs.Loading.{element-place}
 use Rattle.world_laws.proofs.Storing.{store-known, element-known}
+use Rattle.model_laws.proofs.Lists.{first-step}
 
 load-agrees : (width dst : ℕ) (offset : ℤ) (make : ℕ → ℕ) (l : Location) (r : ℕ) (v : RunView) (w : WorldView) → Agrees (local_load width offset dst make l v) r v w (moves_on r (with_word 1 dst (make (number_from (bytes_of w v l) width (offset_at l +ℤ offset))) v) w)
 load-agrees width dst offset make (InContext o) r v w = refl
@@ -65,10 +65,10 @@ module _ (w : WorldView) (s : Schedule) (m : Matches w s) (sound : IsSound w s) 
   pub asks_nothing : (i : Insn) (out : Outcome) → Known w s m sound r run v k i → after i (environment run) run.state ≡ Some out → AsksNothing (local_of i v)
   asks_nothing (Call kind imm) out here e = absurd (none-some out e)
   asks_nothing (Load width dst src offset) out here e =
-      let f = bind_some (load_from (environment run) run.state (byte_count width) offset (run.state.regs src)) (λ u. sets 1 dst u run.state) out e in
+      let f = first-step (load_from (environment run) run.state (byte_count width) offset (run.state.regs src)) (λ u. sets 1 dst u run.state) out e in
       load-here (byte_count width) dst (word_in v src) offset (λ n. n) (run.state.regs src) f.0 (register-word w s m sound r run v k src (insn-real w s m sound r run v k (Load width dst src offset) here).1) ((near w s m sound r run v k).regs_near src) f.1
   asks_nothing (LoadSigned width dst src offset) out here e =
-      let f = bind_some (load_from (environment run) run.state (byte_count (unsigned_width width)) offset (run.state.regs src)) (λ u. number u >>= λ n. sets 1 dst (Number (loaded_signed width n)) run.state) out e in
+      let f = first-step (load_from (environment run) run.state (byte_count (unsigned_width width)) offset (run.state.regs src)) (λ u. number u >>= λ n. sets 1 dst (Number (loaded_signed width n)) run.state) out e in
       load-here (byte_count (unsigned_width width)) dst (word_in v src) offset (loaded_signed width) (run.state.regs src) f.0 (register-word w s m sound r run v k src (insn-real w s m sound r run v k (LoadSigned width dst src offset) here).1) ((near w s m sound r run v k).regs_near src) f.1
   asks_nothing (Store width dst offset src) out here e =
       let f = store-known run.state (byte_count width) offset (operand_value src run.state.regs) (run.state.regs dst) out e in
@@ -85,7 +85,7 @@ module _ (w : WorldView) (s : Schedule) (m : Matches w s) (sound : IsSound w s) 
   element-here width dst x n offset make (Pointer (Frame o)) word close e = absurd (none-some n e)
   element-here width dst x n offset make (Pointer (MapRef i)) word close e = absurd (none-some n e)
   element-here width dst x n offset make (Pointer (Elem b o)) word close e =
-      let f = bind_some (accessible s.machine.store.elements b) (loaded_from width (o +ℤ offset)) n e in
+      let f = first-step (accessible s.machine.store.elements b) (loaded_from width (o +ℤ offset)) n e in
       ap (λ l. local_load width offset dst make l v) (element-place w s m sound r run v k b x o f.0 f.1 word close).1
 
   pub asks_for_element : (i : Insn) (out : Outcome) (es : List Element) → Known w s m sound r run v k i → AccessesElement i s.machine.store.elements run.state out es → local_of i v ≡ Asks

@@ -38,7 +38,7 @@ use Rattle.bpf_model.specs.View.{RunView, WorldView}
 use Rattle.bpf_model.specs.Word.{WordIs}
 use Rattle.model_laws.specs.Near.{Location}
 use Rattle.model_laws.specs.Scheduled.{queued_in}
-use Rattle.model_laws.proofs.Counting.{times-first, times-other}
+use Rattle.model_laws.proofs.Counting.{times-first, times-other, times-rest}
 use Rattle.typed_runs.proofs.Reaching.{well_never_stuck}
 use Rattle.view_laws.specs.Matching.{Matches}
 use Rattle.view_laws.specs.Views.{key_in}
@@ -47,7 +47,7 @@ use Rattle.world_laws.specs.Locating.{location_of}
 use Rattle.world_laws.specs.Moving.{word_in}
 use Rattle.world_laws.specs.Reaching.{IsInside, IsOccupied, Reaches, IsWritable, IsInFrame, IsCalled, HasArguments, IsAllowed, HasInsn}
 use Rattle.world_laws.specs.Typed.{IsRegister, IsSound, IsRunning}
-use Rattle.world_laws.proofs.Words.{bind_some, offset_some}
+use Rattle.world_laws.proofs.Words.{offset_some}
 use Rattle.world_laws.proofs.Places.{context-location, frame-location}
 use Rattle.world_laws.proofs.Shown.{Shown}
 use Rattle.world_laws.proofs.Ready.{bases, refines, near, register-word}
@@ -55,13 +55,7 @@ use Rattle.world_laws.proofs.Own.{Known, insn-real}
 use Rattle.world_laws.proofs.Loading.{accessible-known, element-place}
 use Rattle.world_laws.proofs.Calling.{CalledWith, called}
 use Rattle.world_laws.proofs.Storing.{store-known, element-known}
-
--- an image stands in a list at least as often
-times-more : (x y : ℕ) (xs : List ℕ) → times x xs ≤ times x (y ∷ xs)
-times-more x y xs = elim (cases_eq y x) [
-  | inl e ↦ let t : times x (y ∷ xs) ≡ 1 + times x xs = times-first x y xs e in omega arith
-  | inr ne ↦ let t : times x (y ∷ xs) ≡ times x xs = times-other x y xs ne in omega arith
-]
+use Rattle.model_laws.proofs.Lists.{first-step}
 
 times-image : (f : ℕ → ℕ) (n : ℕ) (xs : List ℕ) → times n xs ≤ times (f n) (map f xs)
 times-image f n [] = omega arith
@@ -74,7 +68,7 @@ times-image f n (y ∷ xs) =
           omega (arith, more)
       | inr ne ↦
           let a : times n (y ∷ xs) ≡ times n xs = times-other n y xs ne in
-          let b : times (f n) (map f xs) ≤ times (f n) (f y ∷ map f xs) = times-more (f n) (f y) (map f xs) in
+          let b : times (f n) (map f xs) ≤ times (f n) (f y ∷ map f xs) = times-rest (f n) (f y) (map f xs) in
           omega (arith, more)
     ]
 
@@ -133,10 +127,10 @@ module _ (w : WorldView) (s : Schedule) (m : Matches w s) (sound : IsSound w s) 
   load-reaches width x offset (Pointer (MapRef i)) u word n e = absurd (none-some u e)
   load-reaches width x offset (Pointer (Elem b o)) u word n e = absurd (none-some u e)
   load-reaches width x offset (Pointer (Ctx o)) u word n e =
-      let f = bind_some (region_offset (length run.context) width (o +ℤ offset)) (λ at. number_at (slice_get run.context) at width >>= λ n. Some (Number n)) u e in
+      let f = first-step (region_offset (length run.context) width (o +ℤ offset)) (λ at. number_at (slice_get run.context) at width >>= λ n. Some (Number n)) u e in
       subst (Reaches w v width offset) (sym (context-location x o n word)) (subst (λ (c : List ℕ). IsInside (length c) width (o +ℤ offset)) (sym (refines w s m sound r run v k).context) (inside-of (length run.context) width f.0 (o +ℤ offset) f.1))
   load-reaches width x offset (Pointer (Frame o)) u word n e =
-      let f = bind_some (region_offset 512 width (o +ℤ offset)) (λ at. read run.state.frame at width) u e in
+      let f = first-step (region_offset 512 width (o +ℤ offset)) (λ at. read run.state.frame at width) u e in
       subst (Reaches w v width offset) (sym (frame-location x o n word)) (inside-of 512 width f.0 (o +ℤ offset) f.1)
 
   element-reaches : (width x n : ℕ) (offset : ℤ) (base : Value) → WordIs (bases w s m sound r run v k) base x → IsNear base → element_load s.machine.store.elements width offset base ≡ Some n → Reaches w v width offset (location_of x)
@@ -146,8 +140,8 @@ module _ (w : WorldView) (s : Schedule) (m : Matches w s) (sound : IsSound w s) 
   element-reaches width x n offset (Pointer (Frame o)) word close e = absurd (none-some n e)
   element-reaches width x n offset (Pointer (MapRef i)) word close e = absurd (none-some n e)
   element-reaches width x n offset (Pointer (Elem b o)) word close e =
-      let f = bind_some (accessible s.machine.store.elements b) (loaded_from width (o +ℤ offset)) n e in
-      let g = bind_some (region_offset (length f.0.value) width (o +ℤ offset)) (λ at. number_at (slice_get f.0.value) at width) n f.2 in
+      let f = first-step (accessible s.machine.store.elements b) (loaded_from width (o +ℤ offset)) n e in
+      let g = first-step (region_offset (length f.0.value) width (o +ℤ offset)) (λ at. number_at (slice_get f.0.value) at width) n f.2 in
       (slot-reaches width b x g.0 o offset f.0 f.1 g.1 word close).0
 
   -- the instruction at hand has a step
@@ -164,7 +158,7 @@ module _ (w : WorldView) (s : Schedule) (m : Matches w s) (sound : IsSound w s) 
 
       by : {answer : Answer} {new : map_state.Store} {later : Run} → InsnStep (Load width dst src offset) s.machine.store (open_sections s.machine.runs) run answer new later → Reaches w v (byte_count width) offset (location_of (word_in v src))
       by (out, es, inl h, kept, ends) =
-          let f = bind_some (load_from (environment run) run.state (byte_count width) offset (run.state.regs src)) (λ u. sets 1 dst u run.state) out h.0 in
+          let f = first-step (load_from (environment run) run.state (byte_count width) offset (run.state.regs src)) (λ u. sets 1 dst u run.state) out h.0 in
           load-reaches (byte_count width) (word_in v src) offset (run.state.regs src) f.0 (register-word w s m sound r run v k src l) ((near w s m sound r run v k).regs_near src) f.1
       by (out, es, inr h, kept, ends) = element-reaches (byte_count width) (word_in v src) h.0 offset (run.state.regs src) (register-word w s m sound r run v k src l) ((near w s m sound r run v k).regs_near src) h.1
 
@@ -176,7 +170,7 @@ module _ (w : WorldView) (s : Schedule) (m : Matches w s) (sound : IsSound w s) 
 
       by : {answer : Answer} {new : map_state.Store} {later : Run} → InsnStep (LoadSigned width dst src offset) s.machine.store (open_sections s.machine.runs) run answer new later → Reaches w v (byte_count (unsigned_width width)) offset (location_of (word_in v src))
       by (out, es, inl h, kept, ends) =
-          let f = bind_some (load_from (environment run) run.state (byte_count (unsigned_width width)) offset (run.state.regs src)) (λ u. number u >>= λ n. sets 1 dst (Number (loaded_signed width n)) run.state) out h.0 in
+          let f = first-step (load_from (environment run) run.state (byte_count (unsigned_width width)) offset (run.state.regs src)) (λ u. number u >>= λ n. sets 1 dst (Number (loaded_signed width n)) run.state) out h.0 in
           load-reaches (byte_count (unsigned_width width)) (word_in v src) offset (run.state.regs src) f.0 (register-word w s m sound r run v k src l) ((near w s m sound r run v k).regs_near src) f.1
       by (out, es, inr h, kept, ends) = element-reaches (byte_count (unsigned_width width)) (word_in v src) h.0 offset (run.state.regs src) (register-word w s m sound r run v k src l) ((near w s m sound r run v k).regs_near src) h.1
 
@@ -226,7 +220,7 @@ module _ (w : WorldView) (s : Schedule) (m : Matches w s) (sound : IsSound w s) 
 
   value-inside : (map : ℕ) (value : List ℕ) (shape : MapShape) → map_state.shape_of s.machine.store map ≡ Some shape → value_argument s.machine.store run map ≡ Some value → IsInFrame (word_in v 3) shape.value_len
   value-inside map value shape is e =
-      let f = bind_some (map_state.shape_of s.machine.store map) (λ shape. frame_bytes run.state.frame shape.value_len (run.state.regs 3)) value e in
+      let f = first-step (map_state.shape_of s.machine.store map) (λ shape. frame_bytes run.state.frame shape.value_len (run.state.regs 3)) value e in
       let same : f.0 ≡ shape = same_Some f.0 shape (sym f.1 ∙ is) in
       in-frame (run.state.regs 3) (word_in v 3) shape.value_len value (register-word w s m sound r run v k 3 (omega arith)) (ap (λ (z : MapShape). frame_bytes run.state.frame z.value_len (run.state.regs 3)) (sym same) ∙ f.2)
 

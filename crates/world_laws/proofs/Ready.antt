@@ -1,9 +1,8 @@
 -- A run before its step: what its words stand for, and what the instruction at hand needs.
-use Rattle.std.proofs.Common.{◌≡◌, ℕ, ◌+◌, ◌^◌, ◌<◌, ◌≢◌, refl, ap, subst, ◌∙◌, arith, Option, Some, None, List, length}
+use Rattle.std.proofs.Common.{◌≡◌, ℕ, ◌+◌, ◌^◌, ◌<◌, ◌≢◌, refl, ap, subst, ◌∙◌, arith, Some, List, length}
 use Rattle.std.specs.Prelude.{slice_get, slice_index, ℤ, pos, negsuc, FitsSigned}
 use Rattle.std.specs.Int.{w32}
 use Rattle.std.proofs.lemmas.Int.{ints}
-use Rattle.std.proofs.lemmas.Option.{none-some}
 use Rattle.bpf_model.specs.declared.insn.Insn.{Insn}
 use Rattle.bpf_model.specs.declared.insn.Operand.{Operand}
 use Rattle.bpf_model.specs.declared.insn.Operand.TheVariants.{Register, Immediate}
@@ -16,7 +15,7 @@ use Rattle.bpf_model.specs.declared.value.Reference.{Reference}
 use Rattle.bpf_model.specs.declared.value.Reference.TheVariants.{Ctx, Frame, MapRef, Elem}
 use Rattle.bpf_model.specs.Arithmetic.{immediate}
 use Rattle.bpf_model.specs.Element.{Element}
-use Rattle.bpf_model.specs.Machine.{Loaded, Run, run_in, open_sections, moves}
+use Rattle.bpf_model.specs.Machine.{Loaded, Run, open_sections, moves}
 use Rattle.bpf_model.specs.MachineStep.{InsnStep}
 use Rattle.bpf_model.specs.Near.{IsNear, IsNearReference}
 use Rattle.bpf_model.specs.Operand.{operand_value}
@@ -37,11 +36,7 @@ use Rattle.world_laws.specs.Typed.{IsRegister, IsOperand, IsListed, IsSound, IsR
 use Rattle.world_laws.proofs.Words.{IsBased}
 use Rattle.world_laws.proofs.Sure.{IsSure, typed, run-near}
 use Rattle.world_laws.proofs.Shown.{shown, held-kept}
-
-run-inside : (o : Option (Option Run)) (run : Run) → run_in o ≡ Some run → o ≡ Some (Some run)
-run-inside None run e = absurd (none-some run e)
-run-inside (Some None) run e = absurd (none-some run e)
-run-inside (Some (Some a)) run e = ap Some e
+use Rattle.model_laws.proofs.Queueing.{in-slot}
 
 pub immediate-below : (imm : ℤ) → FitsSigned w32 imm → immediate imm < 2 ^ 64
 immediate-below (pos n) f = omega (arith, ints, f)
@@ -79,7 +74,7 @@ module _ (w : WorldView) (s : Schedule) (m : Matches w s) (sound : IsSound w s) 
 
   pub refines : Refines v run
   refines = subst (λ o. SlotRefines slots es s.machine.programs o (Some (Some run))) k.shown
-      (subst (SlotRefines slots es s.machine.programs (slice_get w.runs r)) (run-inside (slice_get s.machine.runs r) run k.there) (m.refines.runs r))
+      (subst (SlotRefines slots es s.machine.programs (slice_get w.runs r)) (in-slot (slice_get s.machine.runs r) run k.there) (m.refines.runs r))
 
   pub near : AreNear run.state.regs run.state.frame
   near = run-near s.machine r run sound.well k.there k.going
@@ -138,4 +133,4 @@ module _ (w : WorldView) (s : Schedule) (m : Matches w s) (sound : IsSound w s) 
   pub half-refines : (store : Store) (u : WorldView) (y : RefinesSchedule u (half s store)) → u.runs ≡ w.runs → RunRefines y.slots store.elements s.machine.programs v run
   half-refines store u y same =
       subst (λ o. SlotRefines y.slots store.elements s.machine.programs o (Some (Some run))) (ap (λ runs. slice_get runs r) same ∙ k.shown)
-      (subst (SlotRefines y.slots store.elements s.machine.programs (slice_get u.runs r)) (run-inside (slice_get s.machine.runs r) run k.there) (y.runs r))
+      (subst (SlotRefines y.slots store.elements s.machine.programs (slice_get u.runs r)) (in-slot (slice_get s.machine.runs r) run k.there) (y.runs r))

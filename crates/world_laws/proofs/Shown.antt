@@ -3,28 +3,30 @@ use Rattle.std.proofs.Common.{◌≡◌, ℕ, ◌+◌, ◌<◌, ◌≤◌, refl,
 use Rattle.std.specs.Prelude.{slice_get, slice_index}
 use Rattle.std.specs.Option.{option_map}
 use Rattle.std.proofs.lemmas.Option.{slice_get-map, slice_get_within}
-use Rattle.bpf_model.specs.Element.{Element, Life, Linked, Unlinked, Reclaimed, is_reclaimed}
+use Rattle.bpf_model.specs.declared.limits.TheConstants.{MAX_ENTRIES, MAX_MAPS, MAX_SPARE}
+use Rattle.bpf_model.specs.Element.{Element, is_reclaimed}
 use Rattle.bpf_model.specs.MapState.{IsShape, AreShapes}
 use Rattle.bpf_model.specs.Schedule.{Schedule}
 use Rattle.bpf_model.specs.View.{MapView, WorldView, shapes_of}
 use Rattle.bpf_model.specs.Refines.{slot_view, RefinesSchedule}
 use Rattle.bpf_model.specs.Word.{element_bases, map_in, slot_base}
-use Rattle.bpf_model.specs.Section.{Section}
-use Rattle.typed_runs.specs.Describes.{Scene, IsGuarded, IsHeld}
+use Rattle.typed_runs.specs.Describes.{Scene, IsHeld}
 use Rattle.typed_runs.specs.Well.{IsWell}
 use Rattle.view_laws.proofs.Worlds.{here}
+use Rattle.world_laws.specs.Locating.{most_slots}
 use Rattle.model_laws.proofs.Lists.{get-below}
+use Rattle.typed_runs.proofs.Elements.{unreclaimed}
 
 -- An element that is kept stands in a slot of its map, and its first byte has that slot's word.
 pub record Shown (w : WorldView) (s : Schedule) (x : RefinesSchedule w s) (n : ℕ) (e : Element) : Type 0 where
   pub view : MapView
   pub there : slice_get w.maps e.map ≡ Some view
   pub slot : slice_get view.slots (slice_index x.slots n) ≡ Some (slot_view e)
-  pub few_maps : e.map < 16
-  pub few_slots : slice_index x.slots n < 8192
+  pub few_maps : e.map < MAX_MAPS
+  pub few_slots : slice_index x.slots n < most_slots
   pub base : element_bases x.slots s.machine.store.elements n ≡ slot_base e.map (slice_index x.slots n)
 
-module _ (w : WorldView) (s : Schedule) (x : RefinesSchedule w s) (well : IsWell s.machine) (limits : AreShapes (shapes_of w)) (maps : length w.maps ≤ 16) where
+module _ (w : WorldView) (s : Schedule) (x : RefinesSchedule w s) (well : IsWell s.machine) (limits : AreShapes (shapes_of w)) (maps : length w.maps ≤ MAX_MAPS) where
   pub shape-of : (k : ℕ) (v : MapView) → slice_get w.maps k ≡ Some v → IsShape v.shape
   shape-of k v at = limits k v.shape (slice_get-map (λ v. v.shape) w.maps k ∙ ap (option_map (λ v. v.shape)) at)
 
@@ -39,8 +41,8 @@ module _ (w : WorldView) (s : Schedule) (x : RefinesSchedule w s) (well : IsWell
       let inside : slice_index x.slots n < length v.0.slots = slice_get_within v.0.slots (slice_index x.slots n) (slot_view e) slot in
       let room : length v.0.slots ≡ v.0.shape.entries + v.0.shape.spare = h.stands.free.room in
       let shape = shape-of e.map v.0 v.1 in
-      let entries : v.0.shape.entries ≤ 4096 = shape.entries.1 in
-      let spare : v.0.shape.spare ≤ 4096 = shape.spare in
+      let entries : v.0.shape.entries ≤ MAX_ENTRIES = shape.entries.1 in
+      let spare : v.0.shape.spare ≤ MAX_SPARE = shape.spare in
       record {
         view = v.0;
         there = v.1;
@@ -50,10 +52,5 @@ module _ (w : WorldView) (s : Schedule) (x : RefinesSchedule w s) (well : IsWell
         base = ap (λ o. slot_base (map_in o) (slice_index x.slots n)) born;
       }
 
-guarded-kept : (life : Life) (s : Section) → IsGuarded life s → is_reclaimed life ≡ false
-guarded-kept Linked s h = refl
-guarded-kept (Unlinked since) s h = refl
-guarded-kept Reclaimed s h = absurd h
-
 pub held-kept : (c : Scene) (map n : ℕ) (h : IsHeld c map n) → is_reclaimed h.element.life ≡ false
-held-kept c map n h = guarded-kept h.element.life c.section h.guarded
+held-kept c map n h = unreclaimed h.element.life c.section h.guarded

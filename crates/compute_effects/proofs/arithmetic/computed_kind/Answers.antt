@@ -23,6 +23,10 @@ returns-in_ok-y-in_default c = record {
         let y = c.in_ok-y-in_default.ensures.numbers src in
         c.combined.ensures.numbers p.0 y.0 (sym c.in_ok-x-in_default.ensures.value ∙ number_kind _ p.0 p.1) (ok_is _ _ y.1)
   ];
+  copies = λ s op size src w. absurd (c.in_default.not-Move op);
+  frame = λ m at imm op size src x l h s.
+      let y = c.in_ok-y-in_default.ensures.operand.number imm src in
+      c.combined.ensures.frame m at imm y.0 size op (sym c.in_ok-x-in_default.ensures.value ∙ x) (ok_is _ _ y.1) y.2 l h s;
 }
 
 pub returns-in_ok-operand-in-Move-clause-numbers : goal.returns-in_ok-operand-in-Move-clause-numbers

@@ -1,8 +1,13 @@
-use Rattle.std.proofs.Common.{refl, subst, ◌∙◌}
+use Rattle.std.proofs.Common.{rules, ◌≡◌, refl, sym, ap, subst, ◌∙◌, w32}
+use mir.Val.{SFits}
+use Rattle.std.proofs.lemmas.Int.{to_z-of_z}
+use Rattle.bpf_model.specs.Arithmetic.{immediate}
+use Rattle.bpf_model.specs.declared.insn.Operand.TheVariants.{Register, Immediate}
+use Rattle.scalar_domain.specs.Scalar.{IsConstant}
 use Rattle.bpf_model.specs.declared.insn.Operand.{Operand}
 use Rattle.typed_runs.specs.Effects.{IsNumberOperand}
 use Rattle.register_kinds.specs.States.{kind_in, state_of}
-use Rattle.compute_effects.proofs.Numbers.{held_number}
+use Rattle.compute_effects.proofs.Numbers.{held_number, same_immediate}
 use Rattle.compute_effects.proofs.kinds.operand.Goals as goal
 
 pub returns-in-Register-clause-numbers : goal.returns-in-Register-clause-numbers
@@ -12,3 +17,11 @@ returns-in-Register-clause-numbers c = λ n.
 
 pub returns-in-Immediate-clause-numbers : goal.returns-in-Immediate-clause-numbers
 returns-in-Immediate-clause-numbers c = λ n. (c.constant.result, refl)
+
+pub returns-in-Immediate-clause-operand : goal.returns-in-Immediate-clause-operand
+returns-in-Immediate-clause-operand c =
+    let f : SFits w32 c.in-Immediate.imm = search rules in
+    let value = simp to_z-of_z at c.immediate.ensures in record {
+      register = λ s e w. absurd (let g : Immediate c.in-Immediate.imm ≡ Register s = sym c.in-Immediate.is ∙ e in cc);
+      number = λ imm e. (c.constant.result, refl, subst (IsConstant c.constant.result) (value ∙ ap immediate (same_immediate c.in-Immediate.imm imm (sym c.in-Immediate.is ∙ e))) c.constant.ensures.exact);
+    }

@@ -24,3 +24,14 @@ returns-clause-bytes c = λ ne b. record {
   alike = subst (λ (k : Kind). AreAlike (with_kind c.args.dst k (state_of c.args.state.now)) (state_of c.set.new.self))
       (c.kind.ensures ∙ ap (λ x. read_kind x c.loaded.result) (reads_is _ _ (c.in_ok-reads.ensures.bytes b))) c.set.ensures.alike;
 }
+
+pub returns-clause-value : goal.returns-clause-value
+returns-clause-value c = λ map ne b. record {
+  fine = refl;
+  number = c.loaded.result;
+  alike = subst (λ (k : Kind). AreAlike (with_kind c.args.dst k (state_of c.args.state.now)) (state_of c.set.new.self))
+      (c.kind.ensures ∙ ap (λ x. read_kind x c.loaded.result) (reads_is _ _ (c.in_ok-reads.ensures.value map b))) c.set.ensures.alike;
+}
+
+pub returns-in_err-reads-clause-value : goal.returns-in_err-reads-clause-value
+returns-in_err-reads-clause-value c = λ map ne b. (let no = c.in_err-reads.ensures.value map b in absurd cc)

@@ -1,5 +1,5 @@
 use Rattle.std.proofs.Common.{refl, subst, sym, ap, ◌∙◌}
-use Rattle.memory_effects.specs.Accesses.{ReadsBytes}
+use Rattle.memory_effects.specs.Accesses.{ReadsBytes, ReadsValue}
 use Rattle.memory_effects.proofs.Numbers.{reads_is}
 use Rattle.bpf_model.specs.declared.insn.Insn.TheVariants.{LoadSigned}
 use Rattle.bpf_model.specs.declared.opcode.Width.{Width}
@@ -29,3 +29,18 @@ returns-clause-bytes c = λ ne b.
       alike = subst (λ (k : Kind). AreAlike (with_kind c.args.dst k (state_of c.args.state.now)) (state_of c.set.new.self))
           (c.kind.ensures ∙ ap (λ x. read_kind x c.load_signed.result) (reads_is _ _ (c.in_ok-reads.ensures.bytes read))) c.set.ensures.alike;
     }
+
+pub returns-clause-value : goal.returns-clause-value
+returns-clause-value c = λ map ne b.
+    let read = subst (λ (w : Width). ReadsValue c.args.shapes.now c.args.state.now c.args.from.base map (byte_count w) c.args.from.offset) (sym c.width.ensures) b in record {
+      fine = refl;
+      number = c.load_signed.result;
+      alike = subst (λ (k : Kind). AreAlike (with_kind c.args.dst k (state_of c.args.state.now)) (state_of c.set.new.self))
+          (c.kind.ensures ∙ ap (λ x. read_kind x c.load_signed.result) (reads_is _ _ (c.in_ok-reads.ensures.value map read))) c.set.ensures.alike;
+    }
+
+pub returns-in_err-reads-clause-value : goal.returns-in_err-reads-clause-value
+returns-in_err-reads-clause-value c = λ map ne b.
+    let read = subst (λ (w : Width). ReadsValue c.args.shapes.now c.args.state.now c.args.from.base map (byte_count w) c.args.from.offset) (sym c.width.ensures) b in
+    let no = c.in_err-reads.ensures.value map read in
+    absurd cc

@@ -3,8 +3,8 @@ use Rattle.bpf_model.specs.Access.{byte_count}
 use Rattle.memory_effects.proofs.Placing.{same_remainder}
 use Rattle.memory_effects.proofs.offset.remainder.Goals as goal
 
-pub returns-then-offsets-bytes : goal.returns-then-offsets-bytes
-returns-then-offsets-bytes c = λ n h.
+pub returns-then-offsets-bytes-clause-value : goal.returns-then-offsets-bytes-clause-value
+returns-then-offsets-bytes-clause-value c = λ n h.
     let s = c.args.offsets in
     let v : c.bytes-bytes.result ≡ byte_count c.args.width = c.bytes-bytes.ensures.value in
     same_remainder c.args.width s n h (ap (λ b. s.may % b) (sym v) ∙ (c.if-offsets-bytes.true ∙ ap (λ b. s.must % b) v)) ∙ ap (λ b. s.must % b) (sym v)

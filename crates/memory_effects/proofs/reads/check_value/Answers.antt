@@ -6,4 +6,4 @@ use Rattle.memory_effects.proofs.reads.check_value.Goals as goal
 pub returns-in_ok-check_placed-in-Some-clause-inside : goal.returns-in_ok-check_placed-in-Some-clause-inside
 returns-in_ok-check_placed-in-Some-clause-inside c =
     let g : SFits w16 c.args.offset = search rules in
-    simp to_z-of_z at c.in_ok-check_placed-in-Some.ensures
+    simp to_z-of_z at c.in_ok-check_placed-in-Some.ensures.inside

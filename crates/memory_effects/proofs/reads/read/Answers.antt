@@ -7,7 +7,7 @@ use Rattle.memory_effects.proofs.reads.read.Goals as goal
 pub returns-in_ok-check_placed-in-Ctx-clause-reads : goal.returns-in_ok-check_placed-in-Ctx-clause-reads
 returns-in_ok-check_placed-in-Ctx-clause-reads c =
     let g : SFits w16 c.args.from.offset = search rules in
-    let inside = simp to_z-of_z at c.in_ok-check_placed-in-Ctx.ensures in
+    let inside = simp to_z-of_z at c.in_ok-check_placed-in-Ctx.ensures.inside in
     record { offsets = c.in-Ctx.offsets; base = ap kind_of (c.in_ok-offsets.ensures.value ∙ c.in-Ctx.is); inside = inside }
 
 pub returns-in_ok-_shape-in-Value-clause-reads : goal.returns-in_ok-_shape-in-Value-clause-reads

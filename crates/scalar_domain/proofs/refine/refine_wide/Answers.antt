@@ -1,7 +1,7 @@
 use Rattle.std.proofs.Common.{◌^◌, sym, ◌∙◌, ap, subst}
 use Rattle.std.specs.Int.{w64}
 use Rattle.scalar_domain.specs.Relation.{Related, SignedRelated, relation_on}
-use Rattle.scalar_domain.proofs.Edges.{related, signed_related, not_signed, goes_along}
+use Rattle.scalar_domain.proofs.Edges.{related, signed_related, not_signed, goes_along, tells_apart}
 use Rattle.scalar_domain.proofs.refine.refine_wide.Goals as goal
 
 pub returns-then-is_signed-clause-sound : goal.returns-then-is_signed-clause-sound
@@ -21,3 +21,6 @@ returns-else-is_signed-clause-sound c = λ x y p q h k e.
 pub returns-else-is_signed-clause-bounds : goal.returns-else-is_signed-clause-bounds
 returns-else-is_signed-clause-bounds c = λ k x m j i e.
     goes_along c.args.condition c.args.taken c.relation_of.result c.relate.result k x c.relation_of.ensures m (c.relate.ensures.bounds k x j i) e
+
+pub returns-else-is_signed-clause-apart : goal.returns-else-is_signed-clause-apart
+returns-else-is_signed-clause-apart c = λ k x m. c.relate.ensures.apart k x (c.relation_of.ensures ∙ tells_apart c.args.condition c.args.taken m)

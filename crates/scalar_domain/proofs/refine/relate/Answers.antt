@@ -24,3 +24,6 @@ returns-in-Apart-clause-sound c = λ x y p q h k r.
       c.with_bits.ensures.sound x h (outside b.must x (omega arith) p (apart b.must x y k.ones e)) (and_zero_l x),
       c.with_bits-in-Apart.ensures.sound y k (outside a.must y (omega arith) q (apart a.must y x h.ones (and_comm y x ∙ e))) (and_zero_l y),
     )
+
+pub returns-in-Different-clause-apart : goal.returns-in-Different-clause-apart
+returns-in-Different-clause-apart c = λ k x e. c.different.ensures.apart k x

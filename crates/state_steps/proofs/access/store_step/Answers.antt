@@ -1,8 +1,9 @@
-use Rattle.std.proofs.Common.{rules, refl, ap, ◌∙◌}
+use Rattle.std.proofs.Common.{rules, refl, ap, ◌∙◌, None}
 use Rattle.bpf_model.specs.declared.insn.Insn.TheVariants.{Store}
 use Rattle.bpf_model.specs.Access.{byte_count}
 use Rattle.register_kinds.specs.States.{state_of}
 use Rattle.state_steps.specs.Stepped.{single_flow}
+use Rattle.state_steps.proofs.Serving.{serves_none, never_ready}
 use Rattle.state_steps.proofs.Stepping.{access_step}
 use Rattle.state_steps.proofs.Keeping.{store_keeps, store_reaches, store_number, taken_within}
 use Rattle.state_steps.proofs.access.store_step.Goals as goal
@@ -13,6 +14,7 @@ returns-in_err-region c = λ top below. record {
   below = c.store.ensures.below top below;
   unchanged = search rules;
   accepts = λ ready. let fine = (c.in_err-region.ensures.bytes ready.simple.1 (store_number c.args.width c.args.to.base c.args.to.offset c.args.src.now (state_of c.args.state.now) ready) (store_reaches c.args.width c.args.to.base c.args.to.offset c.args.src.now (state_of c.args.state.now) ready)).fine in absurd cc;
+  accepts_maps = λ ready. absurd (never_ready c.args.shape.now.shapes.now (Store c.args.width c.args.to.base c.args.to.offset c.args.src.now) refl (state_of c.args.state.now) ready);
 }
 
 pub returns : goal.returns
@@ -24,3 +26,4 @@ returns c = λ top below.
     (λ ready.
     let n = c.in_ok-region.ensures.bytes ready.simple.1 (store_number c.args.width c.args.to.base c.args.to.offset c.args.src.now (state_of c.args.state.now) ready) (store_reaches c.args.width c.args.to.base c.args.to.offset c.args.src.now (state_of c.args.state.now) ready) in
     store_keeps (Store c.args.width c.args.to.base c.args.to.offset c.args.src.now) ready.simple.1 (byte_count c.args.width) (state_of a) (state_of b) (λ r w. w) (λ k t. taken_within c.args.width c.args.to.offset ready.simple.1 k ready.simple.2 t) n.alike)
+    (serves_none c.args.shape.now.shapes.now (Store c.args.width c.args.to.base c.args.to.offset c.args.src.now) refl (state_of a) (state_of b) None)

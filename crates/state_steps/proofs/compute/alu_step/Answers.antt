@@ -1,6 +1,8 @@
-use Rattle.std.proofs.Common.{refl}
+use Rattle.std.proofs.Common.{rules, refl}
 use Rattle.bpf_model.specs.declared.insn.Insn.TheVariants.{Alu}
 use Rattle.register_kinds.specs.States.{state_of}
+use Rattle.compute_effects.specs.Computes.{SetsKind}
+use Rattle.state_steps.proofs.Serving.{alu_serves, alu_ready}
 use Rattle.state_steps.proofs.Stepping.{quiet_step}
 use Rattle.state_steps.proofs.Keeping.{set_keeps, alu_reads}
 use Rattle.state_steps.proofs.compute.alu_step.Goals as goal
@@ -14,3 +16,19 @@ returns c = λ shapes ctx_len top below.
     let r = alu_reads c.args.size c.args.dst c.args.src.now (state_of a) c.args.op ready.registers in
     let n = c.in_ok-alu.ensures.numbers ready.keeps_frame r.0 r.1 in
     set_keeps (Alu c.args.op c.args.size c.args.dst c.args.src.now) c.args.dst n.number (state_of a) (state_of b) (record { writes = λ r w. w; no_bytes = λ k w. w }) ready.keeps_frame n.alike)
+    (alu_serves c.args.op c.args.size c.args.dst c.args.src.now a (λ k. SetsKind c.alu.result c.args.dst k (state_of a) (state_of b)) c.alu.ensures.copies c.alu.ensures.frame shapes (state_of b) (λ k r. r.alike))
+
+pub returns-in_err-alu : goal.returns-in_err-alu
+returns-in_err-alu c = λ shapes ctx_len top below. record {
+  done = search rules;
+  below = c.alu.ensures.below top below;
+  unchanged = search rules;
+  accepts = λ ready.
+      let r = alu_reads c.args.size c.args.dst c.args.src.now (state_of c.args.state.now) c.args.op ready.registers in
+      let fine = (c.in_err-alu.ensures.numbers ready.keeps_frame r.0 r.1).fine in
+      absurd cc;
+  accepts_maps = λ ready. absurd (alu_ready c.args.op c.args.size c.args.dst c.args.src.now c.args.state.now (λ k. ⊥)
+      (λ s o z e ne w. (let fine = (c.in_err-alu.ensures.copies s o z e ne w).fine in cc))
+      (λ m at imm o z e ne k p q v. (let fine = (c.in_err-alu.ensures.frame m at imm o z e ne k p q v).fine in cc))
+      shapes (λ k r. r) ready);
+}

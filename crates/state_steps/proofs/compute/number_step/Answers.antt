@@ -1,6 +1,7 @@
-use Rattle.std.proofs.Common.{refl}
+use Rattle.std.proofs.Common.{refl, None}
 use Rattle.bpf_model.specs.declared.insn.Insn.TheVariants.{LoadNumber}
 use Rattle.register_kinds.specs.States.{state_of}
+use Rattle.state_steps.proofs.Serving.{serves_none}
 use Rattle.state_steps.proofs.Stepping.{quiet_step}
 use Rattle.state_steps.proofs.Keeping.{set_keeps}
 use Rattle.state_steps.proofs.compute.number_step.Goals as goal
@@ -13,3 +14,4 @@ returns c = λ shapes ctx_len top below.
     (λ ready.
     let n = c.in_ok-load_number.ensures.numbers ready.keeps_frame in
     set_keeps (LoadNumber c.args.dst c.args.number) c.args.dst n.number (state_of a) (state_of b) (record { writes = λ r w. w; no_bytes = λ k w. w }) ready.keeps_frame n.alike)
+    (serves_none shapes (LoadNumber c.args.dst c.args.number) refl (state_of a) (state_of b) None)

@@ -1,7 +1,8 @@
-use Rattle.std.proofs.Common.{refl}
+use Rattle.std.proofs.Common.{refl, None}
 use Rattle.bpf_model.specs.declared.insn.Insn.TheVariants.{Unary}
 use Rattle.bpf_model.specs.Operand.{unary_source}
 use Rattle.register_kinds.specs.States.{state_of}
+use Rattle.state_steps.proofs.Serving.{serves_none}
 use Rattle.state_steps.proofs.Stepping.{quiet_step}
 use Rattle.state_steps.proofs.Keeping.{set_keeps}
 use Rattle.state_steps.proofs.compute.unary_step.Goals as goal
@@ -14,3 +15,4 @@ returns c = λ shapes ctx_len top below.
     (λ ready.
     let n = c.in_ok-unary.ensures.numbers ready.keeps_frame (ready.registers (unary_source c.args.op.now c.args.dst) refl) in
     set_keeps (Unary c.args.op.now c.args.dst) c.args.dst n.number (state_of a) (state_of b) (record { writes = λ r w. w; no_bytes = λ k w. w }) ready.keeps_frame n.alike)
+    (serves_none shapes (Unary c.args.op.now c.args.dst) refl (state_of a) (state_of b) None)

@@ -1,5 +1,6 @@
 use Rattle.std.proofs.Common.{rules, refl, sym, subst, ℤ, pos, Some, inl, inr}
 use Rattle.bpf_model.specs.declared.limits.TheConstants.{FRAME_BYTES}
+use Rattle.state_steps.proofs.Serving.{branch_serves, branch_ready}
 use Rattle.state_steps.proofs.Keeping.{narrow_keeps, operand_number}
 use Rattle.std.proofs.lemmas.Option.{none-some}
 use Rattle.bpf_model.specs.declared.insn.Insn.TheVariants.{JumpIf}
@@ -23,8 +24,10 @@ returns c = λ offset shapes ctx_len top below.
         taken_below = t.taken_below top below;
         keeps = λ ready. narrow_keeps i c.args.dst c.args.src.now (pos FRAME_BYTES) a b (λ r x. x) (λ k x. x) ready.registers ready.frame (t.narrowed (ready.registers c.args.dst (inl refl)));
         keeps_taken = λ ready. narrow_keeps i c.args.dst c.args.src.now (pos FRAME_BYTES) a (state_of c.in_ok-taken.taken.value) (λ r x. x) (λ k x. x) ready.registers ready.frame (t.taken_narrowed (ready.registers c.args.dst (inl refl)));
+        serves = branch_serves c.args.condition c.args.size c.args.dst c.args.src.now offset shapes c.args.state.now c.branch-state.new.state c.in_ok-taken.taken.value t.splits;
       };
       accepts = λ ready. tt;
+      accepts_maps = λ ready. tt;
       below = c.branch-state.ensures.below top below;
       unchanged = tt;
     }
@@ -36,5 +39,9 @@ returns-in_err-taken c = λ offset shapes ctx_len top below. record {
   unchanged = search rules;
   accepts = λ ready.
       let memory = c.in_err-taken.ensures.accepts (ready.registers c.args.dst (inl refl)) (operand_number c.args.src.now (state_of c.args.state.now) (λ r n. ready.registers r (inr n))) in
+      search (rules, memory);
+  accepts_maps = λ ready.
+      let r = branch_ready c.args.condition c.args.size c.args.dst c.args.src.now offset shapes c.args.state.now ready in
+      let memory = c.in_err-taken.ensures.accepts_null r.0 r.1 r.2 in
       search (rules, memory);
 }

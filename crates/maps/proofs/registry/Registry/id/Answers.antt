@@ -1,5 +1,5 @@
 use Rattle.std.proofs.Common.{◌∙◌, sym, ap}
-use Rattle.std.specs.Prelude.{string_bytes, bytes_eq, Some, None, position}
+use Rattle.std.specs.Prelude.{string_bytes, bytes_eq, Some, position}
 use Rattle.maps.proofs.Names.{position_named}
 use Rattle.maps.proofs.registry.Registry.id.Goals as goal
 

@@ -1,10 +1,11 @@
-use Rattle.std.proofs.Common.{◌≡◌, ◌+◌, [], ◌∷◌, ◌++◌, ap, ◌∙◌, arith}
+use Rattle.std.proofs.Common.{ℕ, List, ◌++◌, ap, ◌∙◌}
 use Rattle.std.specs.Prelude.{replicate}
-use Rattle.plain_store.proofs.Lists.{replicate-more}
+use Rattle.std.proofs.lemmas.List.{replicate-append-replicate}
+use Rattle.bpf_model.specs.MapState.{MapState}
 use Rattle.plain_store.proofs.map_state.MapState.new.Goals as goal
 
-pub loop-2-preserved : goal.loop-2-preserved
-loop-2-preserved c =
-    let n = c.args.shape.entries + c.loop-2.counter in
-    let next : n + 1 ≡ c.args.shape.entries + (c.loop-2.counter + 1) = omega arith in
-    c.in_ok-push-2.ensures.items ∙ ap (λ xs. xs ++ 0 ∷ []) c.loop-2.invariant ∙ replicate-more n 0 ∙ ap (λ k. replicate k 0) next
+pub returns : goal.returns
+returns c =
+    let made : List ℕ → MapState = λ bag. record { shape = c.args.shape; bag = bag; worn = 0 } in
+    let entries = c.in_ok-put_unused.ensures ∙ ap (λ xs. xs ++ replicate c.args.shape.entries 0) c.new-bag.ensures.items in
+    ap made (c.in_ok-put_unused-2.ensures ∙ ap (λ xs. xs ++ replicate c.args.shape.spare 0) entries ∙ replicate-append-replicate c.args.shape.entries c.args.shape.spare 0)

@@ -1,4 +1,4 @@
-use Rattle.std.proofs.Common.{◌≡◌, ℕ, ◌+◌, ◌*◌, ◌%◌, ◌^◌, sym, ◌∙◌, ap, subst, arith, rules}
+use Rattle.std.proofs.Common.{◌≡◌, ℕ, ◌+◌, ◌-◌, ◌*◌, ◌%◌, ◌^◌, sym, ◌∙◌, ap, subst, arith, rules}
 use Rattle.std.proofs.lemmas.Grind.{common_steps}
 use Rattle.std.specs.Prelude.{bit_and}
 use Rattle.std.proofs.Math.Nat.{mod-eq_of_lt}
@@ -8,7 +8,8 @@ use Rattle.scalar_domain.specs.Scalar.{IsConstant}
 use Rattle.scalar_domain.specs.Precision.{Masks}
 use Rattle.scalar_domain.proofs.Bits.{ap2}
 use Rattle.scalar_domain.proofs.Words.{narrow_lt}
-use Rattle.scalar_domain.proofs.Constants.{sum_of_constants, mask_of_constants, shl_of_constants}
+use Rattle.scalar_domain.proofs.Forms.{word_difference}
+use Rattle.scalar_domain.proofs.Constants.{sum_of_constants, difference_of_constants, mask_of_constants, shl_of_constants}
 use Rattle.scalar_domain.proofs.scalar.Scalar.apply.Goals as goal
 
 pub returns-in-Some-Some-clause-floor : goal.returns-in-Some-Some-clause-floor
@@ -23,7 +24,11 @@ returns-in-Some-Some-clause-floor c =
       sum = λ s o.
           let e : c.alu.result ≡ (u + v) % 2 ^ 64 = c.alu.ensures ∙ ap2 (λ z op. alu z op u v) s o in
           sum_of_constants c.args.a c.args.b c.constant.result u v c.in-Some-Some.ensures c.in-Some-Some.ensures'
-          (subst (IsConstant c.constant.result) e c.constant.ensures.exact) (c.constant.ensures.zeros ∙ e);
+          (subst (IsConstant c.constant.result) e c.constant.ensures.exact) (c.constant.ensures.zeros ∙ e) (c.constant.ensures.ones ∙ e);
+      difference = λ s o.
+          let e : c.alu.result ≡ (u + (2 ^ 64 - v)) % 2 ^ 64 = c.alu.ensures ∙ ap2 (λ z op. alu z op u v) s o ∙ word_difference u v (omega arith) in
+          difference_of_constants c.args.a c.args.b c.constant.result u v (omega (arith, c.in-Some-Some.ensures.least)) (omega arith) c.in-Some-Some.ensures c.in-Some-Some.ensures'
+          (subst (IsConstant c.constant.result) e c.constant.ensures.exact) (c.constant.ensures.zeros ∙ e) (c.constant.ensures.ones ∙ e);
       mask = λ k s o i.
           let e : c.alu.result ≡ bit_and u v = c.alu.ensures ∙ ap2 (λ z op. alu z op u v) s o in
           let f : v ≡ k = sym c.in-Some-Some.ensures'.least ∙ i.least in
@@ -46,6 +51,7 @@ returns-in-Word64-clause-floor c =
       constant = λ x y h k. grind (arith, common_steps);
       narrow = λ s. grind (arith, common_steps);
       sum = λ s. r.sum;
+      difference = λ s. r.difference;
       mask = λ k s. r.mask k;
       shift_left = λ k s. r.shift_left k;
       shift_right = λ k s. r.shift_right k;

@@ -8,11 +8,11 @@ use Rattle.scalar_domain.proofs.scalar.Scalar.negate.Goals as goal
 pub returns-in-Word64-clause-sound : goal.returns-in-Word64-clause-sound
 returns-in-Word64-clause-sound c = λ x p h.
     subst (Holds c.subtract.result) (sym (ap (λ s. negated s x) c.in-Word64.is ∙ negated_difference x p))
-    (c.subtract.ensures 0 x (omega arith) p c.constant.ensures.sound h)
+    (c.subtract.ensures.sound 0 x (omega arith) p c.constant.ensures.sound h)
 
 pub returns-in-Word32-clause-sound : goal.returns-in-Word32-clause-sound
 returns-in-Word32-clause-sound c = λ x p h.
     let l : x % 2 ^ 32 < 2 ^ 32 = mod_below x (2 ^ 32) (pow_pos 32) in
     subst (Holds c.low_bits-in-Word32.result)
     (low_twice (0 + (2 ^ 64 - x % 2 ^ 32)) ∙ sym (ap (λ s. negated s x) c.in-Word32.is ∙ short_negated (x % 2 ^ 32) l))
-    (c.low_bits-in-Word32.ensures.sound _ (c.subtract-in-Word32.ensures 0 (x % 2 ^ 32) (omega arith) (omega (arith, l)) c.constant-in-Word32.ensures.sound (c.low_bits.ensures.sound x h)))
+    (c.low_bits-in-Word32.ensures.sound _ (c.subtract-in-Word32.ensures.sound 0 (x % 2 ^ 32) (omega arith) (omega (arith, l)) c.constant-in-Word32.ensures.sound (c.low_bits.ensures.sound x h)))

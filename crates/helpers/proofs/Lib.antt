@@ -1,0 +1,5 @@
+pub mod Occupied
+pub mod Flags
+pub mod Named
+pub mod Stepping
+pub mod Running

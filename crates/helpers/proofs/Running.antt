@@ -1,0 +1,127 @@
+-- A run that has not ended in a world whose programs are verified: its flag, and that what it asks can be served.
+use Rattle.std.proofs.Common.{◌≡◌, ◌∙◌, ℕ, ◌≤◌, refl, sym, ap, subst, List, Option, Some, None, Bool}
+use Rattle.std.specs.Prelude.{slice_get, nat_lt, option_map, ℤ}
+use Rattle.std.proofs.lemmas.Option.{none-some, same_Some, slice_get-map}
+use Rattle.bpf_model.specs.declared.call.Helper.{Helper as HelperId}
+use Rattle.bpf_model.specs.declared.call.Helper.TheVariants.{Lookup, Update, Delete}
+use Rattle.bpf_model.specs.declared.call.KernelFunction.{KernelFunction}
+use Rattle.bpf_model.specs.declared.call.KernelFunction.TheVariants.{ReadLock, ReadUnlock}
+use Rattle.bpf_model.specs.declared.insn.CallKind.TheVariants.{Helper, Kernel}
+use Rattle.bpf_model.specs.declared.insn.Insn.{Insn}
+use Rattle.bpf_model.specs.declared.insn.Insn.TheVariants as insns
+use Rattle.bpf_model.specs.declared.limits.TheConstants.{MAX_DEPTH}
+use Rattle.bpf_model.specs.Access.{byte_count, unsigned_width}
+use Rattle.bpf_model.specs.Arithmetic.{loaded_signed}
+use Rattle.bpf_model.specs.Call.{kernel_function_of}
+use Rattle.bpf_model.specs.Element.{Element}
+use Rattle.bpf_model.specs.Machine.{Loaded, Run, run_in}
+use Rattle.bpf_model.specs.Refines.{SlotRefines}
+use Rattle.bpf_model.specs.Schedule.{Schedule, is_open, still_open}
+use Rattle.bpf_model.specs.Step.{insn_at}
+use Rattle.bpf_model.specs.View.{RunView, WorldView}
+use Rattle.model_laws.specs.Near.{Location, InContext, InFrame, AtMap, InSlot}
+use Rattle.view_laws.specs.Matching.{Matches}
+use Rattle.view_laws.proofs.Worlds.{awaited-same}
+use Rattle.world_laws.specs.Local.{Goes, Asks, local_of, local_load, local_store}
+use Rattle.world_laws.specs.Locating.{location_of}
+use Rattle.world_laws.specs.Moving.{word_in, operand_word}
+use Rattle.world_laws.specs.Reaching.{Reaches, IsWritable, HasArguments}
+use Rattle.world_laws.specs.Typed.{IsSound, IsRunning}
+use Rattle.world_laws.proofs.Ready.{refines}
+use Rattle.world_laws.proofs.Reaching.{load_reaches, load_signed_reaches, store_reaches, helper_arguments}
+use Rattle.world_runs.specs.declared.access.Access.{Access}
+use Rattle.world_runs.specs.declared.access.Access.TheVariants.{Call}
+use Rattle.world_runs.specs.Requests.{access_of, section_access}
+use Rattle.helpers.specs.Calls.{IsCall}
+use Rattle.helpers.specs.Elements.{ReachesElement}
+use Rattle.helpers.specs.Serving.{CanServe, IsFlagged}
+
+run-behind : (slots : List ℕ) (es : List Element) (programs : List Loaded) (v : RunView) (o : Option (Option Run)) → SlotRefines slots es programs (Some (Some v)) o → v.exit ≡ None → (run : Run) × (run_in o ≡ Some run) × (run.exit ≡ None)
+run-behind slots es programs v None h e = absurd h
+run-behind slots es programs v (Some None) h e = absurd h
+run-behind slots es programs v (Some (Some run)) h e = (run, refl, sym h.exit ∙ e)
+
+-- the machine's run in the slot of a run that has not ended
+pub running : (w : WorldView) (s : Schedule) → Matches w s → (r : ℕ) (v : RunView) → slice_get w.runs r ≡ Some (Some v) → v.exit ≡ None → (run : Run) × IsRunning w s r run v
+running w s m r v shown going =
+    let y = run-behind m.refines.slots s.machine.store.elements s.machine.programs v (slice_get s.machine.runs r) (subst (λ o. SlotRefines m.refines.slots s.machine.store.elements s.machine.programs o (slice_get s.machine.runs r)) shown (m.refines.runs r)) going in
+    (y.0, record { there = y.1; shown = shown; going = y.2 })
+
+run-inside : (o : Option (Option Run)) (run : Run) → run_in o ≡ Some run → o ≡ Some (Some run)
+run-inside None run e = absurd (none-some run e)
+run-inside (Some None) run e = absurd (none-some run e)
+run-inside (Some (Some a)) run e = ap Some e
+
+goes-asks : (new : RunView) → Goes new ≡ Asks → ⊥
+goes-asks new e = absurd (cc)
+
+loads-element : (w : WorldView) (v : RunView) (width : ℕ) (offset : ℤ) (dst : ℕ) (make : ℕ → ℕ) (l : Location) → Reaches w v width offset l → local_load width offset dst make l v ≡ Asks → ReachesElement w.maps width offset l
+loads-element w v width offset dst make (InSlot map slot o) h e = record { view = h.view; there = h.there; occupied = h.occupied; inside = h.inside }
+loads-element w v width offset dst make (AtMap map) h e = absurd h
+loads-element w v width offset dst make (InContext o) h e = absurd (goes-asks _ e)
+loads-element w v width offset dst make (InFrame o) h e = absurd (goes-asks _ e)
+
+stores-element : (w : WorldView) (v : RunView) (width : ℕ) (offset : ℤ) (number : ℕ) (l : Location) → Reaches w v width offset l × IsWritable l → local_store width offset number l v ≡ Asks → ReachesElement w.maps width offset l
+stores-element w v width offset number (InSlot map slot o) h e = record { view = h.0.view; there = h.0.there; occupied = h.0.occupied; inside = h.0.inside }
+stores-element w v width offset number (AtMap map) h e = absurd h.0
+stores-element w v width offset number (InContext o) h e = absurd h.1
+stores-element w v width offset number (InFrame o) h e = absurd (goes-asks _ e)
+
+module _ (w : WorldView) (s : Schedule) (m : Matches w s) (sound : IsSound w s) (r : ℕ) (run : Run) (v : RunView) (k : IsRunning w s r run v) where
+  pub flagged : IsFlagged w r v
+  flagged =
+      let depth : v.depth ≡ run.depth = (refines w s m sound r run v k).depth in
+      record {
+        opened =
+            ap (λ (l : List Bool). slice_get l r) m.refines.opened
+            ∙ slice_get-map is_open s.machine.runs r
+            ∙ ap (option_map is_open) (run-inside (slice_get s.machine.runs r) run k.there)
+            ∙ ap (λ (n : ℕ). Some (nat_lt 0 n)) (sym depth);
+        awaited =
+            ap (λ (l : List Bool). still_open l w.opened) m.refines.awaited
+            ∙ ap (still_open s.awaited) m.refines.opened
+            ∙ awaited-same w s m.refines m.scheduled
+            ∙ sym m.refines.awaited;
+        depth = subst (λ n. n ≤ MAX_DEPTH) (sym depth) (m.scheduled.consistent.deep r run k.there);
+      }
+
+  calls : (helper : HelperId) → HasArguments helper w run.program v → IsCall helper run.program.maps w.maps v
+  calls Lookup c = record { map = c.map; view = c.view; named = c.bound; there = c.there; arguments = c.key; frame = (refines w s m sound r run v k).cells }
+  calls Delete c = record { map = c.map; view = c.view; named = c.bound; there = c.there; arguments = c.key; frame = (refines w s m sound r run v k).cells }
+  calls Update c = record { map = c.0.map; view = c.0.view; named = c.0.bound; there = c.0.there; arguments = (c.0.key, c.1); frame = (refines w s m sound r run v k).cells }
+
+  abbrev Can : Access → Type 0
+  Can access = CanServe access run.program.maps w.maps v
+
+  sections : (f : KernelFunction) → Can (section_access f)
+  sections ReadLock = tt
+  sections ReadUnlock = tt
+
+  passes : (o : Option KernelFunction) (access : Access) → option_map section_access o ≡ Some access → Can access
+  passes None access e = absurd (none-some access e)
+  passes (Some f) access e = subst Can (same_Some (section_access f) access e) (sections f)
+
+  can-here : (i : Insn) (access : Access) → insn_at run.program.code run.state.place ≡ Some i → local_of i v ≡ Asks → access_of i v ≡ Some access → Can access
+  can-here (insns.Load width dst src offset) access here asks e = subst Can (same_Some _ access e)
+      (loads-element w v (byte_count width) offset dst (λ n. n) (location_of (word_in v src)) (load_reaches w s m sound r run v k width dst src offset here) asks)
+  can-here (insns.LoadSigned width dst src offset) access here asks e = subst Can (same_Some _ access e)
+      (loads-element w v (byte_count (unsigned_width width)) offset dst (loaded_signed width) (location_of (word_in v src)) (load_signed_reaches w s m sound r run v k width dst src offset here) asks)
+  can-here (insns.Store width dst offset src) access here asks e = subst Can (same_Some _ access e)
+      (stores-element w v (byte_count width) offset (operand_word v src) (location_of (word_in v dst)) (store_reaches w s m sound r run v k width dst offset src here) asks)
+  can-here (insns.Call Helper imm) access here asks e =
+      let x = helper_arguments w s m sound r run v k imm here in
+      subst Can (same_Some (Call x.0) access (ap (option_map Call) (sym x.1) ∙ e)) (calls x.0 x.2)
+  can-here (insns.Call Kernel imm) access here asks e = passes (kernel_function_of imm) access e
+  can-here i access here asks e = absurd (none-some access e)
+
+  same-program : (program : Loaded) → slice_get w.programs v.program ≡ Some program → run.program ≡ program
+  same-program program at =
+      let loaded : slice_get w.programs v.program ≡ Some run.program = ap (λ (ps : List Loaded). slice_get ps v.program) m.refines.programs ∙ (refines w s m sound r run v k).program in
+      same_Some run.program program (sym loaded ∙ at)
+
+  abbrev Servable : Loaded → Type 0
+  Servable program = (i : Insn) (access : Access) → insn_at program.code v.place ≡ Some i → local_of i v ≡ Asks → access_of i v ≡ Some access → CanServe access program.maps w.maps v
+
+  pub can_be_served : (program : Loaded) → slice_get w.programs v.program ≡ Some program → Servable program
+  can_be_served program at = subst Servable (same-program program at)
+      (λ i access here. can-here i access (sym (ap (insn_at run.program.code) (refines w s m sound r run v k).place) ∙ here))

@@ -1,0 +1,3 @@
+pub mod Elements
+pub mod Calls
+pub mod Serving

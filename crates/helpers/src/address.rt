@@ -1,0 +1,68 @@
+//! The words of elements' values: which slot of which map a word lies in, and where there.
+ghost use Rattle.std.specs.Prelude.{◌≡◌, ℕ, ◌+◌, ◌^◌, ◌<◌, pos, ◌+ℤ◌};
+ghost use Rattle.bpf_model.specs.declared.limits.TheConstants.{MAX_MAPS, MAX_ENTRIES, MAX_SPARE};
+ghost use Rattle.bpf_model.specs.Word.{slot_base};
+ghost use Rattle.model_laws.specs.Near.{InSlot};
+ghost use Rattle.world_laws.specs.Locating.{location_of, offset_of, region_of};
+ghost use Rattle.helpers.specs.Elements.{IsInSlot};
+
+use bpf_model::{MAX_ENTRIES, MAX_SPARE};
+
+/// Regions begin at multiples of this, one slot in each from `SLOT_BASE` on.
+const SPAN: u64 = 1 << 31;
+
+/// A word lies at most so far before the beginning of its region.
+const NEAR: u64 = 1 << 29;
+
+/// The word of the first byte of slot 0 of map 0.
+const SLOT_BASE: u64 = 1 << 43;
+
+/// So many regions are kept for each map.
+const MOST_SLOTS: usize = MAX_ENTRIES + MAX_SPARE;
+
+/// A slot of a map.
+#[derive(Clone, Copy)]
+pub(crate) struct Place {
+    pub(crate) map: usize,
+    pub(crate) slot: usize,
+}
+
+/// The word of the first byte of a slot.
+#[inline]
+pub(crate) fn slot_word(map: usize, slot: usize) -> u64
+    requires map { map < MAX_MAPS }
+    requires slot { slot < MAX_ENTRIES + MAX_SPARE }
+    ensures { result ≡ slot_base map slot }
+{
+    SLOT_BASE + (MOST_SLOTS * map + slot) as u64 * SPAN
+}
+
+/// The number of the region near whose first byte a word lies.
+#[inline]
+fn region_of(word: u64) -> u64
+    ensures { result ≡ region_of word }
+{
+    word / SPAN + (word % SPAN + NEAR) / SPAN
+}
+
+/// The slot that a word lies in.
+#[inline]
+pub(crate) fn place_of(word: u64) -> Place
+    requires { IsInSlot (location_of word) }
+    ensures { location_of word ≡ InSlot result.map result.slot (offset_of word) }
+{
+    let number = (region_of(word) - SLOT_BASE / SPAN) as usize;
+    Place {
+        map: number / MOST_SLOTS,
+        slot: number % MOST_SLOTS,
+    }
+}
+
+/// An offset from a word, counted from the first byte of its region.
+#[inline]
+pub(crate) fn offset_in(word: u64, offset: i16) -> usize
+    ensures { (at : ℕ) → at < 2 ^ 31 → offset_of word +ℤ offset ≡ pos at → result ≡ at }
+{
+    let address = word.wrapping_add(i64::from(offset).cast_unsigned());
+    (address % SPAN) as usize
+}

@@ -1,0 +1,56 @@
+//! Laws of what is served, each a function with an empty body.
+ghost use Rattle.std.specs.Prelude.{◌≡◌, ℕ, Option, Some, None, slice_get};
+ghost use Rattle.bpf_model.specs.declared.insn.Insn.{Insn};
+ghost use Rattle.bpf_model.specs.Machine.{Loaded, Run};
+ghost use Rattle.bpf_model.specs.Schedule.{Schedule};
+ghost use Rattle.bpf_model.specs.Step.{insn_at};
+ghost use Rattle.bpf_model.specs.View.{MapView, RunView, WorldView};
+ghost use Rattle.maps.specs.Shown as shown;
+ghost use Rattle.view_laws.specs.Matching.{Matches};
+ghost use Rattle.world_laws.specs.Local.{Asks, local_of};
+ghost use Rattle.world_laws.specs.Reaching as reaching;
+ghost use Rattle.world_laws.specs.Reacting.{insn_step};
+ghost use Rattle.world_laws.specs.Typed.{IsRunning, IsSound};
+ghost use Rattle.world_runs.specs.declared.access.Access.{Access};
+ghost use Rattle.world_runs.specs.declared.access.Local.{Local};
+ghost use Rattle.world_runs.specs.Requests.{access_of};
+ghost use Rattle.world_runs.specs.Steps.{IsStep};
+ghost use Rattle.helpers.specs.Serving.{CanServe, IsFlagged, IsOwnWorld, IsReply, served_step};
+
+/// A slot that has an element, linked under its own key or waiting in one of the three lists,
+/// stands somewhere in its map: what a world knows of a slot is what a map asks.
+pub fn occupied_stands()
+    ensures { (v : MapView) (i : ℕ) → reaching.IsOccupied v i → shown.IsOccupied v i }
+{}
+
+/// Where a run's instruction asks something, the world's step is what `serve` leaves, with the
+/// run gone on with the reply.
+pub fn served_is_the_worlds()
+    ensures { (insn : Insn) (access : Access) (program : Loaded) (r : ℕ) (v : RunView)
+        (w : WorldView) (word : ℕ) → IsFlagged w r v → access_of insn v ≡ Some access →
+        CanServe access program.maps w.maps v → IsReply access program.maps w.maps v word →
+        insn_step insn program r v w ≡ served_step access insn program word r v w }
+{}
+
+/// Where it asks nothing, the world's step changes the run alone: maps and flags stay.
+pub fn own_changes_the_run()
+    ensures { (insn : Insn) (program : Loaded) (r : ℕ) (v after : RunView) (w : WorldView)
+        (asked : Option Access) (answer : Local) → IsFlagged w r v →
+        IsStep (local_of insn v) asked v answer after →
+        IsOwnWorld answer asked r v after w (insn_step insn program r v w) }
+{}
+
+/// In a world whose programs are verified, a run that has not ended is one of the machine, with
+/// a flag as its depth says; and what its instruction asks can be served.
+pub fn running_can_be_served()
+    ensures running { (w : WorldView) (s : Schedule) → Matches w s → (r : ℕ) (v : RunView) →
+        slice_get w.runs r ≡ Some (Some v) → v.exit ≡ None → (run : Run) × IsRunning w s r run v }
+    ensures flagged { (w : WorldView) (s : Schedule) → Matches w s → IsSound w s →
+        (r : ℕ) (run : Run) (v : RunView) → IsRunning w s r run v → IsFlagged w r v }
+    ensures served { (w : WorldView) (s : Schedule) → Matches w s → IsSound w s →
+        (r : ℕ) (run : Run) (v : RunView) → IsRunning w s r run v →
+        (program : Loaded) → slice_get w.programs v.program ≡ Some program →
+        (insn : Insn) (access : Access) → insn_at program.code v.place ≡ Some insn →
+        local_of insn v ≡ Asks → access_of insn v ≡ Some access →
+        CanServe access program.maps w.maps v }
+{}

@@ -1,0 +1,58 @@
+//! What a run asks, served.
+ghost use Rattle.std.specs.Prelude.{◌≡◌};
+ghost use Rattle.helpers.specs.Serving.{CanPass, CanServe, IsReply, grace_after, maps_after};
+
+use crate::calling::call;
+use crate::element::{load, store};
+use crate::section::{enter, leave};
+use bpf_model::RunId;
+use grace_period::Grace;
+use maps::Registry;
+use world_runs::{Access, Run};
+
+/// Serves what the run in a slot asks, and answers the word with which it goes on. `bound` has
+/// the numbers of its program's maps.
+///
+/// A load answers the number that it finds, and a helper the word for r0. A store, a lock and
+/// an unlock answer 0, of which the run makes nothing.
+pub fn serve(
+    access: Access,
+    run: &Run,
+    slot: RunId,
+    bound: &[usize],
+    maps: &mut Registry,
+    grace: &mut Grace,
+) -> u64
+    requires pass { CanPass grace.old slot }
+    requires serve { CanServe access bound.now maps.old.maps run.now.view }
+    ensures word { IsReply access bound.now maps.old.maps run.now.view result }
+    ensures maps { maps.new.maps ≡ maps_after access bound.now run.now.view maps.old.maps }
+    ensures names { maps.new.names ≡ maps.old.names }
+    ensures grace { grace.new ≡ grace_after access slot grace.old }
+{
+    match access {
+        Access::Load {
+            address,
+            offset,
+            width,
+        } => load(maps, address, offset, width),
+        Access::Store {
+            address,
+            offset,
+            width,
+            number,
+        } => {
+            store(maps, address, offset, width, number);
+            0
+        }
+        Access::Call { helper } => call(helper, run, maps, bound),
+        Access::Enter => {
+            enter(grace, slot);
+            0
+        }
+        Access::Leave => {
+            leave(grace, slot);
+            0
+        }
+    }
+}

@@ -1,0 +1,67 @@
+-- The first ready slot of the maps of a registry, from one map on.
+use Rattle.std.proofs.Common.{◌≡◌, ◌∙◌, ℕ, zero, suc, ◌+◌, List, [], ◌∷◌, length, drop, Option, Some, None, refl, sym, ap, add-one}
+use Rattle.std.specs.Prelude.{slice_get, slice_set}
+use Rattle.std.proofs.lemmas.Option.{none-some, same_Some}
+use Rattle.arrayvec.specs.ArrayVec.{ArrayVec}
+use Rattle.bpf_model.specs.declared.event.Given.{Given}
+use Rattle.bpf_model.specs.declared.event.ReapedElement.{ReapedElement}
+use Rattle.bpf_model.specs.View.{SlotView, MapView}
+use Rattle.element_arena.specs.State as state
+use Rattle.view_laws.specs.Reactions.{Pick, or_pick, first_pick}
+use Rattle.view_laws.specs.Views.{key_in}
+use Rattle.maps.specs.Picking.{IsPicked}
+use Rattle.maps.specs.Shown.{IsReaped}
+
+-- the maps before map i have nothing that is ready
+abbrev pub IsPassed : List MapView → ℕ → Type 0
+IsPassed maps i = first_pick 0 maps ≡ first_pick i (drop i maps)
+
+or_pick-none : (ready : List ℕ) (k : ℕ) (v : MapView) (later : Option Pick) → ready ≡ [] → or_pick ready k v later ≡ later
+or_pick-none ready k v later e = ap (λ r. or_pick r k v later) e
+
+or_pick-some : (ready : List ℕ) (k i : ℕ) (v : MapView) (later : Option Pick) → slice_get ready 0 ≡ Some i → or_pick ready k v later ≡ Some (record { map = k; view = v; slot = i })
+or_pick-some [] k i v later e = absurd (none-some i e)
+or_pick-some (j ∷ rest) k i v later e = ap (λ (s : ℕ). let p : Option Pick = Some (record { map = k; view = v; slot = s }) in p) (same_Some j i e)
+
+drop-at : {A : Type 0} (xs : List A) (i : ℕ) (x : A) → slice_get xs i ≡ Some x → drop i xs ≡ x ∷ drop (suc i) xs
+drop-at [] i x e = absurd (none-some x e)
+drop-at (y ∷ ys) zero x e = ap (λ z. z ∷ ys) (same_Some y x e)
+drop-at (y ∷ ys) (suc i) x e = drop-at ys i x e
+
+pub passes-more : (maps : List MapView) (i : ℕ) (v : MapView) → slice_get maps i ≡ Some v → IsPassed maps i → v.ready ≡ [] → IsPassed maps (i + 1)
+passes-more maps i v g h e =
+    h ∙ (ap (first_pick i) (drop-at maps i v g)
+    ∙ (or_pick-none v.ready i v (first_pick (suc i) (drop (suc i) maps)) e
+    ∙ ap (λ n. first_pick n (drop n maps)) (sym (add-one i))))
+
+pub picks-here : (maps : List MapView) (i slot : ℕ) (v : MapView) → slice_get maps i ≡ Some v → IsPassed maps i → slice_get v.ready 0 ≡ Some slot → first_pick 0 maps ≡ Some (record { map = i; view = v; slot = slot })
+picks-here maps i slot v g h e =
+    h ∙ (ap (first_pick i) (drop-at maps i v g) ∙ or_pick-some v.ready i slot v (first_pick (suc i) (drop (suc i) maps)) e)
+
+drop-end : {A : Type 0} (xs : List A) → drop (length xs) xs ≡ []
+drop-end [] = refl
+drop-end (x ∷ xs) = drop-end xs
+
+pub picks-none : (maps : List MapView) → IsPassed maps (length maps) → first_pick 0 maps ≡ None
+picks-none maps h = h ∙ ap (first_pick (length maps)) (drop-end maps)
+
+same-key : (o : Option SlotView) → state.key_in o ≡ key_in o
+same-key None = refl
+same-key (Some s) = refl
+
+-- what was reclaimed from the map that was reached is what a registry reclaims
+pub picked : (old maps : List MapView) (i m : ℕ) (v new : MapView) (key : ArrayVec ℕ) (given : Given) →
+    maps ≡ old → IsPassed old i → slice_get maps i ≡ Some v → IsReaped v new key.items given → m ≡ i →
+    IsPicked old (slice_set maps i new) (record { map = m; key = key; given = given })
+picked old maps i m v new key given e h g r n =
+    let there : slice_get old i ≡ Some v = ap (λ (ms : List MapView). slice_get ms i) (sym e) ∙ g in
+    let items : key.items ≡ key_in (slice_get v.slots r.slot) = r.key_is ∙ same-key (slice_get v.slots r.slot) in
+    record {
+      pick = record { map = i; view = v; slot = r.slot };
+      first = picks-here old i r.slot v there h r.first;
+      element_is =
+          ap (λ k. let x : ReapedElement = record { map = k; key = key; given = given } in x) n
+          ∙ (ap (λ (ks : List ℕ). let x : ReapedElement = record { map = i; key = record { items = ks }; given = given } in x) items
+          ∙ ap (λ (z : Given). let x : ReapedElement = record { map = i; key = record { items = key_in (slice_get v.slots r.slot) }; given = z } in x) r.given_is);
+      new_is = ap (λ (ms : List MapView). slice_set ms i new) e ∙ ap (slice_set old i) r.new_is;
+    }

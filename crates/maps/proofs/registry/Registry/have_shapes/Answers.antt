@@ -1,0 +1,19 @@
+use Rattle.std.proofs.Common.{◌≡◌, ◌∙◌, List, ap, sym, subst}
+use Rattle.std.specs.Prelude.{slice_get, Some}
+use Rattle.bpf_model.specs.declared.limits.MapShape.{MapShape}
+use Rattle.bpf_model.specs.MapState.{IsShape}
+use Rattle.bpf_model.specs.View.{MapView}
+use Rattle.model_laws.proofs.Counting.{map-back}
+use Rattle.maps.specs.Registry.{RegistryView}
+use Rattle.maps.proofs.registry.Registry.have_shapes.Goals as goal
+
+abbrev shape_of : MapView → MapShape
+shape_of v = v.shape
+
+pub returns : goal.returns
+returns c = λ k shape at.
+    let maps = c.args.self.now.maps in
+    let same : c.deref.result.now ≡ maps = c.deref.ensures.value ∙ ap (λ (r : RegistryView). r.maps) c.self.view_is in
+    let of_map = map-back shape_of maps k shape at in
+    let here = subst (λ (vs : List MapView). slice_get vs k ≡ Some of_map.0) (sym same) of_map.1 in
+    subst IsShape of_map.2 (c.each_has_shape.ensures k of_map.0 here)

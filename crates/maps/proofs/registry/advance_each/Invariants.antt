@@ -1,0 +1,7 @@
+use Rattle.std.proofs.Common.{◌≡◌, ◌++◌, take, drop}
+use Rattle.std.specs.Prelude.{map}
+use Rattle.view_laws.specs.Views.{turned_view}
+use Rattle.maps.proofs.registry.advance_each.Given as goal
+
+abbrev pub invariant-loop-chosen : goal.invariant-loop-chosen
+invariant-loop-chosen l = l.maps ≡ map turned_view (take l.chosen-index l.initial.maps) ++ drop l.chosen-index l.initial.maps

@@ -1,0 +1,108 @@
+-- What is known inside a guarded lookup, from one of its instructions to the next, and of calls that begin or end a section.
+use Rattle.std.specs.Prelude.{◌≡◌, ℕ, ◌+◌, ◌<◌, ◌≤◌, ◌⊎◌, List, Option, Some, IfSome, slice_get, ℤ, pos, ◌+ℤ◌, Bool, true, false, if◌then◌else◌}
+use Rattle.bpf_model.specs.declared.limits.TheConstants.{FRAME_BYTES}
+use Rattle.bpf_model.specs.declared.limits.MapShape.{MapShape}
+use Rattle.bpf_model.specs.declared.insn.Insn.{Insn}
+use Rattle.bpf_model.specs.declared.insn.Insn.TheVariants.{Alu, LoadMap, JumpIf}
+use Rattle.bpf_model.specs.declared.insn.AluOp.TheVariants.{Add, Move}
+use Rattle.bpf_model.specs.declared.insn.Operand.TheVariants.{Register as RegisterOperand, Immediate}
+use Rattle.bpf_model.specs.declared.opcode.Size.TheVariants.{Word64}
+use Rattle.bpf_model.specs.declared.opcode.Condition.TheVariants.{Equal}
+use Rattle.bpf_model.specs.PlainMaps.{lookup_call, lock_call, unlock_call, IsValueLoad}
+use Rattle.scalar_domain.specs.declared.scalar.Scalar.{Scalar}
+use Rattle.typed_runs.specs.Kinds.{FrameAt, MapAt, ValueAt, MaybeNull, AbsState}
+use Rattle.memory_effects.specs.Accesses.{IsStart}
+use Rattle.state_steps.specs.Facts.{Fact, Register, FrameByte, FramePointer, Section, FactHolds}
+
+-- A guarded lookup: the map's index and shape, the key's first byte in the frame and how far it is from r10, and the load from the value.
+pub record Lookup : Type 0 where
+  pub map : ℕ
+  pub shape : MapShape
+  pub at : ℕ
+  pub offset : ℤ
+  pub load : Insn
+
+-- its six instructions
+pub data Part : Type 0 where
+  FrameCopy : Part
+  KeyAddress : Part
+  MapLoad : Part
+  LookupCall : Part
+  NullTest : Part
+  ValueLoad : Part
+
+abbrev pub part_insn : Lookup → Part → Insn
+part_insn l FrameCopy = Alu Move Word64 2 (RegisterOperand 10)
+part_insn l KeyAddress = Alu Add Word64 2 (Immediate l.offset)
+part_insn l MapLoad = LoadMap 1 (pos l.map)
+part_insn l LookupCall = lookup_call
+part_insn l NullTest = JumpIf Equal Word64 0 (Immediate (pos 0)) (pos 1)
+part_insn l ValueLoad = l.load
+
+-- the map is one of the list, the key lies in the frame, and the load in the value
+pub record IsFitting (shapes : List MapShape) (l : Lookup) : Type 0 where
+  pub in_list : slice_get shapes l.map ≡ Some l.shape
+  pub in_frame : (pos FRAME_BYTES +ℤ l.offset ≡ pos l.at) × (l.at < FRAME_BYTES) × (l.at + l.shape.key_len ≤ FRAME_BYTES)
+  pub in_value : IsValueLoad l.shape l.load
+
+abbrev pub IsKeyWritten : Lookup → AbsState → Type 0
+IsKeyWritten l a = (k : ℕ) → l.at ≤ k → k < l.at + l.shape.key_len → FactHolds (FrameByte k) a
+
+-- what is known before each part, beside that a section is open
+abbrev pub Expects : Lookup → Part → AbsState → Type 0
+Expects l FrameCopy a = IsKeyWritten l a
+Expects l KeyAddress a = IsKeyWritten l a × (a.regs 2 ≡ FrameAt (pos FRAME_BYTES))
+Expects l MapLoad a = IsKeyWritten l a × (a.regs 2 ≡ FrameAt (pos l.at))
+Expects l LookupCall a = IsKeyWritten l a × (a.regs 2 ≡ FrameAt (pos l.at)) × (a.regs 1 ≡ MapAt l.map)
+Expects l NullTest a = (id : ℕ) × (a.regs 0 ≡ MaybeNull l.map id)
+Expects l ValueLoad a = (s : Scalar) × (a.regs 0 ≡ ValueAt l.map s) × IsStart s
+
+-- behind a part, where control falls through, what the next one expects
+abbrev pub Prepares : Lookup → Part → AbsState → Type 0
+Prepares l FrameCopy b = Expects l KeyAddress b
+Prepares l KeyAddress b = Expects l MapLoad b
+Prepares l MapLoad b = Expects l LookupCall b
+Prepares l LookupCall b = Expects l NullTest b
+Prepares l NullTest b = Expects l ValueLoad b
+Prepares l ValueLoad b = Unit {0}
+
+-- the facts that a call leaves as they are
+abbrev pub IsSaved : Fact → Type 0
+IsSaved (Register r) = 5 < r
+IsSaved (FrameByte k) = Unit {0}
+IsSaved FramePointer = Unit {0}
+IsSaved (Section inside) = ⊥
+
+abbrev pub KeepsSaved : AbsState → AbsState → Type 0
+KeepsSaved a b = (fact : Fact) → IsSaved fact → FactHolds fact a → FactHolds fact b
+
+-- a part of a guarded lookup, of which all is known that it needs
+pub record IsReadyPart (shapes : List MapShape) (l : Lookup) (p : Part) (i : Insn) (a : AbsState) : Type 0 where
+  pub insn : i ≡ part_insn l p
+  pub fitting : IsFitting shapes l
+  pub frame : FactHolds FramePointer a
+  pub inside : a.inside ≡ true
+  pub expects : Expects l p a
+
+-- what it leaves
+pub record LeavesPart (l : Lookup) (p : Part) (a b : AbsState) (taken : Option AbsState) : Type 0 where
+  pub keeps : KeepsSaved a b
+  pub inside : b.inside ≡ a.inside
+  pub prepares : Prepares l p b
+  pub keeps_taken : IfSome taken (λ t. KeepsSaved a t × (t.inside ≡ a.inside))
+
+-- a lock outside every section, or an unlock inside one
+pub record IsReadySection (opens : Bool) (i : Insn) (a : AbsState) : Type 0 where
+  pub insn : i ≡ (if opens then lock_call else unlock_call)
+  pub before : a.inside ≡ (if opens then false else true)
+
+abbrev pub LeavesSection : Bool → AbsState → AbsState → Type 0
+LeavesSection opens a b = KeepsSaved a b × (b.inside ≡ opens)
+
+abbrev pub IsReadyWithMaps : List MapShape → Insn → AbsState → Type 0
+IsReadyWithMaps shapes i a = ((l : Lookup) × (p : Part) × IsReadyPart shapes l p i a) ⊎ ((opens : Bool) × IsReadySection opens i a)
+
+-- What an instruction leaves that is ready so.
+pub record Serves (shapes : List MapShape) (i : Insn) (a b : AbsState) (taken : Option AbsState) : Type 0 where
+  pub part : (l : Lookup) (p : Part) → IsReadyPart shapes l p i a → LeavesPart l p a b taken
+  pub section : (opens : Bool) → IsReadySection opens i a → LeavesSection opens a b

@@ -1,0 +1,55 @@
+-- Programs that are bound to maps of the shapes that they were verified for, one number of a list after another.
+use Rattle.std.proofs.Common.{◌≡◌, ◌∙◌, ℕ, zero, suc, ◌+◌, ◌<◌, ◌≤◌, ◌⊎◌, inl, inr, List, [], ◌∷◌, map, length, take, get_or, Option, Some, refl, sym, ap, subst, arith}
+use Rattle.std.specs.Prelude.{slice_get}
+use Rattle.std.proofs.lemmas.Option.{none-some, same_Some, slice_get_within, get_or_from_slice_get}
+use Rattle.bpf_model.specs.declared.limits.MapShape.{MapShape}
+use Rattle.world_parts.specs.declared.loaded.Loaded.{Loaded}
+use Rattle.world_invariant.specs.Binding.{IsBoundTo}
+use Rattle.world_invariant.proofs.Binding.{bound-each}
+use Rattle.world.specs.Bound.{AreBound, IsFirstUnbound}
+
+pub bound-more : (shapes : List MapShape) (numbers : List ℕ) (asked : List MapShape) (i n : ℕ) (s : MapShape) → slice_get numbers i ≡ Some n → slice_get asked i ≡ Some s → slice_get shapes n ≡ Some s → map (slice_get shapes) (take i numbers) ≡ map Some (take i asked) → map (slice_get shapes) (take (suc i) numbers) ≡ map Some (take (suc i) asked)
+bound-more shapes [] asked i n s here there is so = absurd (none-some n here)
+bound-more shapes (m ∷ numbers) [] i n s here there is so = absurd (none-some s there)
+bound-more shapes (m ∷ numbers) (a ∷ asked) zero n s here there is so =
+    let first : slice_get shapes m ≡ Some a = cc in
+    ap (λ (x : Option MapShape). x ∷ []) first
+bound-more shapes (m ∷ numbers) (a ∷ asked) (suc i) n s here there is so =
+    let first : slice_get shapes m ≡ Some a = cc in
+    let before : map (slice_get shapes) (take i numbers) ≡ map Some (take i asked) = cc in
+    let rest = bound-more shapes numbers asked i n s here there is before in
+    cc
+
+pub bound-at : (shapes asked : List MapShape) (numbers : List ℕ) (i n : ℕ) (s : MapShape) → IsBoundTo shapes asked numbers → slice_get numbers i ≡ Some n → slice_get asked i ≡ Some s → slice_get shapes n ≡ Some s
+bound-at shapes asked numbers i n s bound here there =
+    let found = bound-each shapes asked numbers bound i s there in
+    let same : found.0 ≡ n = same_Some found.0 n (sym found.1 ∙ here) in
+    subst (λ (k : ℕ). slice_get shapes k ≡ Some s) same found.2
+
+-- the first is one
+either : (p q : ℕ) → (p ≡ q) ⊎ ((p < q) ⊎ (q < p))
+either zero zero = inl refl
+either zero (suc q) = inr (inl (omega arith))
+either (suc p) zero = inr (inr (omega arith))
+either (suc p) (suc q) = elim (either p q) [ inl e ↦ inl (ap suc e) | inr less ↦ elim less [ inl h ↦ inr (inl (omega arith)) | inr h ↦ inr (inr (omega arith)) ] ]
+
+pub first-is-one : {shapes : List MapShape} {loaded : List Loaded} {p q : ℕ} → IsFirstUnbound shapes loaded p → IsFirstUnbound shapes loaded q → p ≡ q
+first-is-one {p = p} {q = q} a b = elim (either p q) [ inl e ↦ e | inr less ↦ elim less [ inl h ↦ absurd (a.unbound (b.before p a.program h a.there)) | inr h ↦ absurd (b.unbound (a.before q b.program h b.there)) ] ]
+
+pub none-is-first : {shapes : List MapShape} {loaded : List Loaded} {p : ℕ} → AreBound shapes loaded → IsFirstUnbound shapes loaded p → ⊥
+none-is-first {p = p} are a = a.unbound (are p a.program a.there)
+
+-- What is so of each element before an index, and of the one at it, is so of each up to it.
+pub each-more : {X : Type 0} (P : X → Type 0) (xs : List X) (i : ℕ) (e : X) → e ≡ get_or xs i e → P e → ((p : ℕ) (x : X) → p < i → slice_get xs p ≡ Some x → P x) → (p : ℕ) (x : X) → p < i + 1 → slice_get xs p ≡ Some x → P x
+each-more {X} P xs i e is holds before p x h at =
+    elim (either p i) [
+      | inl same ↦
+          let found : get_or xs p e ≡ x = get_or_from_slice_get xs p x e at in
+          subst P (is ∙ (ap (λ (k : ℕ). get_or xs k e) (sym same) ∙ found)) holds
+      | inr less ↦ elim less [ inl earlier ↦ before p x earlier at | inr later ↦ absurd (omega arith) ]
+    ]
+
+pub each-all : {X : Type 0} (P : X → Type 0) (xs : List X) (i : ℕ) → length xs ≤ i → ((p : ℕ) (x : X) → p < i → slice_get xs p ≡ Some x → P x) → (p : ℕ) (x : X) → slice_get xs p ≡ Some x → P x
+each-all P xs i end before p x at =
+    let within : p < length xs = slice_get_within xs p x at in
+    before p x (omega arith) at

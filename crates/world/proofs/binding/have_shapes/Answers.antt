@@ -1,0 +1,36 @@
+use Rattle.std.proofs.Common.{◌≡◌, ◌∙◌, ℕ, ◌+◌, ◌<◌, length, map, take, get_or, Some, suc, refl, sym, ap, subst, arith}
+use Rattle.std.specs.Prelude.{slice_get}
+use Rattle.std.proofs.lemmas.Option.{slice_get-get_or}
+use Rattle.bpf_model.specs.declared.limits.MapShape.{MapShape}
+use Rattle.world.specs.Bound.{shapes_in}
+use Rattle.world.proofs.Shapes.{bound-at, bound-more}
+use Rattle.world.proofs.binding.have_shapes.Goals as goal
+
+abbrev no_shape : MapShape
+no_shape = record { key_len = 0; value_len = 0; entries = 0; spare = 0; reuse_limit = 0 }
+
+pub returns-then-not-has_shape : goal.returns-then-not-has_shape
+returns-then-not-has_shape c =
+    let shapes = shapes_in c.args.registry.now.maps in
+    let numbers = c.args.numbers.now in
+    let asked = c.args.asked.now in
+    let i = c.loop-i.i in
+    let n = c.index-numbers-i.result in
+    let within : i < length asked = omega arith in
+    let here = slice_get-get_or numbers i n c.loop-i-test.true ∙ ap Some (sym c.index-numbers-i.is) in
+    let there = slice_get-get_or asked i no_shape within in
+    (λ e. absurd (cc), λ bound. c.if-not-has_shape.ensures.1 (bound-at shapes asked numbers i n (get_or asked i no_shape) bound here there))
+
+pub loop-i-preserved : goal.loop-i-preserved
+loop-i-preserved c =
+    let shapes = shapes_in c.args.registry.now.maps in
+    let numbers = c.args.numbers.now in
+    let asked = c.args.asked.now in
+    let i = c.loop-i.i in
+    let n = c.index-numbers-i.result in
+    let within : i < length asked = omega arith in
+    let here = slice_get-get_or numbers i n c.loop-i-test.true ∙ ap Some (sym c.index-numbers-i.is) in
+    let there = slice_get-get_or asked i no_shape within in
+    let more = bound-more shapes numbers asked i n (get_or asked i no_shape) here there (c.if-not-has_shape.ensures.0 refl) c.loop-i.invariant in
+    let next : suc i ≡ i + 1 = omega arith in
+    subst (λ (k : ℕ). map (slice_get shapes) (take k numbers) ≡ map Some (take k asked)) next more

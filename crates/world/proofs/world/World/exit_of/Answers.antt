@@ -1,0 +1,8 @@
+use Rattle.std.proofs.Common.{ℕ, subst}
+use Rattle.std.specs.Prelude.{IfNone}
+use Rattle.bpf_model.specs.View.{WorldView, HasExited}
+use Rattle.world.proofs.world.World.exit_of.Goals as goal
+
+pub returns-clause-none : goal.returns-clause-none
+returns-clause-none c =
+    subst (λ (w : WorldView). IfNone c.exit_of.result ((n : ℕ) → HasExited w c.args.run c.args.program.now.program c.args.ctx.now.items n → ⊥)) c.self.view_is c.exit_of.ensures.none

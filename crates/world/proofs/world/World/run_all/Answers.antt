@@ -1,0 +1,53 @@
+use Rattle.std.proofs.Common.{◌≡◌, ◌≤◌, ◌+◌, ◌++◌, ◌∷◌, ◌∙◌, [], List, ap, sym, arith, length, take}
+use Rattle.std.specs.Prelude.{vec_len, vec_capacity}
+use Rattle.std.proofs.lemmas.List.{take_more, take_all}
+use Rattle.bpf_model.specs.declared.event.Event.{Event}
+use Rattle.world_laws.specs.Reacting.{full_reactions}
+use Rattle.world.proofs.Answering.{AllReact, all_scheduled, all_machine, all_never_stuck, all_exit, all_reclaimed, answers_grow, view_grows}
+use Rattle.world.proofs.world.World.run_all.Goals as goal
+
+pub loop-event-preserved : goal.loop-event-preserved
+loop-event-preserved c =
+    let w = c.args.self.now in
+    let i = c.loop-event.event-index in
+    let es = c.args.events.now in
+    let e = c.event-item.result in
+    let taken : take (i + 1) es ≡ take i es ++ e ∷ [] = take_more es i e c.loop-event-test.true ∙ ap (λ (x : Event). take i es ++ x ∷ []) (sym c.event-item.is) in
+    let answers = answers_grow w c.loop-event.self (take i es) e c.loop-event.answers.items c.apply-answer.result c.loop-event.invariant.answers c.loop-event.invariant.view c.apply-answer.ensures.answer in
+    let view = view_grows w c.loop-event.self c.apply-answer.new.self (take i es) e c.loop-event.invariant.view c.apply-answer.ensures.new in
+    record {
+      answers = c.note.ensures.items ∙ (answers ∙ ap (λ (xs : List Event). (full_reactions w xs).0) (sym taken));
+      view = view ∙ ap (λ (xs : List Event). (full_reactions w xs).1) (sym taken);
+      count = let l : vec_len c.note.new.answers ≡ vec_len c.loop-event.answers + 1 = c.note.ensures.len in let n : vec_len c.loop-event.answers ≡ i = c.loop-event.invariant.count in omega arith;
+      room = let r : vec_capacity c.loop-event.answers ≤ vec_capacity c.note.new.answers = c.note.ensures.room in let a : length es ≤ vec_capacity c.loop-event.answers = c.loop-event.invariant.room in omega arith;
+    }
+
+pub returns-clause-schedule : goal.returns-clause-schedule
+returns-clause-schedule c =
+    let whole = take_all c.loop-event.event-index c.args.events.now c.loop-event-test.false in
+    let r : AllReact c.args.self.now c.args.events.now c.loop-event.answers.items c.loop-event.self = record { is = c.is_world.ensures; real = c.are_real.ensures; answers_are = c.loop-event.invariant.answers ∙ ap (λ (xs : List Event). (full_reactions c.args.self.now xs).0) whole; new_is = c.loop-event.invariant.view ∙ ap (λ (xs : List Event). (full_reactions c.args.self.now xs).1) whole } in
+    all_scheduled r
+
+pub returns-clause-answers : goal.returns-clause-answers
+returns-clause-answers c =
+    let whole = take_all c.loop-event.event-index c.args.events.now c.loop-event-test.false in
+    let r : AllReact c.args.self.now c.args.events.now c.loop-event.answers.items c.loop-event.self = record { is = c.is_world.ensures; real = c.are_real.ensures; answers_are = c.loop-event.invariant.answers ∙ ap (λ (xs : List Event). (full_reactions c.args.self.now xs).0) whole; new_is = c.loop-event.invariant.view ∙ ap (λ (xs : List Event). (full_reactions c.args.self.now xs).1) whole } in
+    all_machine r
+
+pub returns-clause-never_stuck : goal.returns-clause-never_stuck
+returns-clause-never_stuck c =
+    let whole = take_all c.loop-event.event-index c.args.events.now c.loop-event-test.false in
+    let r : AllReact c.args.self.now c.args.events.now c.loop-event.answers.items c.loop-event.self = record { is = c.is_world.ensures; real = c.are_real.ensures; answers_are = c.loop-event.invariant.answers ∙ ap (λ (xs : List Event). (full_reactions c.args.self.now xs).0) whole; new_is = c.loop-event.invariant.view ∙ ap (λ (xs : List Event). (full_reactions c.args.self.now xs).1) whole } in
+    all_never_stuck r
+
+pub returns-clause-exits : goal.returns-clause-exits
+returns-clause-exits c =
+    let whole = take_all c.loop-event.event-index c.args.events.now c.loop-event-test.false in
+    let r : AllReact c.args.self.now c.args.events.now c.loop-event.answers.items c.loop-event.self = record { is = c.is_world.ensures; real = c.are_real.ensures; answers_are = c.loop-event.invariant.answers ∙ ap (λ (xs : List Event). (full_reactions c.args.self.now xs).0) whole; new_is = c.loop-event.invariant.view ∙ ap (λ (xs : List Event). (full_reactions c.args.self.now xs).1) whole } in
+    all_exit r
+
+pub returns-clause-reclaimed : goal.returns-clause-reclaimed
+returns-clause-reclaimed c =
+    let whole = take_all c.loop-event.event-index c.args.events.now c.loop-event-test.false in
+    let r : AllReact c.args.self.now c.args.events.now c.loop-event.answers.items c.loop-event.self = record { is = c.is_world.ensures; real = c.are_real.ensures; answers_are = c.loop-event.invariant.answers ∙ ap (λ (xs : List Event). (full_reactions c.args.self.now xs).0) whole; new_is = c.loop-event.invariant.view ∙ ap (λ (xs : List Event). (full_reactions c.args.self.now xs).1) whole } in
+    all_reclaimed r

@@ -1,0 +1,30 @@
+-- Whether the programs of a new world are bound to its maps as they were verified.
+use Rattle.std.specs.Prelude.{◌≡◌, ℕ, ◌<◌, List, Some, map, slice_get}
+use Rattle.bpf_model.specs.declared.limits.MapShape.{MapShape}
+use Rattle.bpf_model.specs.Machine as machine
+use Rattle.bpf_model.specs.View.{MapView}
+use Rattle.world_invariant.specs.Binding.{IsBoundTo}
+use Rattle.world_parts.specs.declared.loaded.Loaded.{Loaded}
+use Rattle.world_parts.specs.Programs.{program_of}
+
+-- the shapes of maps
+abbrev pub shapes_in : List MapView → List MapShape
+shapes_in maps = map (λ v. v.shape) maps
+
+-- the programs as a world shows them
+abbrev pub programs_in : List Loaded → List machine.Loaded
+programs_in loaded = map program_of loaded
+
+-- The program's maps are there, with the shapes that it was verified for.
+abbrev pub IsBound : List MapShape → Loaded → Type 0
+IsBound shapes l = IsBoundTo shapes l.verified.shapes l.maps.items
+
+abbrev pub AreBound : List MapShape → List Loaded → Type 0
+AreBound shapes loaded = (p : ℕ) (l : Loaded) → slice_get loaded p ≡ Some l → IsBound shapes l
+
+-- Program p is not bound, and each before it is.
+pub record IsFirstUnbound (shapes : List MapShape) (loaded : List Loaded) (p : ℕ) : Type 0 where
+  pub program : Loaded
+  pub there : slice_get loaded p ≡ Some program
+  pub unbound : IsBound shapes program → ⊥
+  pub before : (q : ℕ) (other : Loaded) → q < p → slice_get loaded q ≡ Some other → IsBound shapes other

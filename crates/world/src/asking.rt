@@ -1,0 +1,56 @@
+//! What is asked of a world outside of events.
+ghost use Rattle.std.specs.Prelude.{◌≡◌, ℕ, slice_get, option_map, option_copied, IfSome, IfNone};
+ghost use Rattle.bpf_model.specs.View.{HasExited};
+ghost use Rattle.world_parts.specs.Asking.{stat_of, IsFound, HasNone};
+ghost use Rattle.world_parts.specs.Programs.{program_of};
+
+use crate::world::World;
+use bpf_model::{CtxBytes, KeyBytes, MapId, ProgId, RunId, ValueBytes};
+use map_verifier::Verified;
+use maps::Registry;
+use world_parts::{Loaded, Stat};
+
+impl World {
+    /// The exit value of the run in a slot, where it has ended and was started with this program's
+    /// instructions on this context.
+    pub fn exit_of(&self, run: RunId, program: &Verified, ctx: &CtxBytes) -> Option<u64>
+        ensures some { IfSome result (λ n.
+            HasExited self.now run program.now.program ctx.now.items n) }
+        ensures none { IfNone result ((n : ℕ) →
+            HasExited self.now run program.now.program ctx.now.items n → ⊥) }
+    {
+        self.parts.exit_of(run, program, ctx)
+    }
+
+    /// The maps, with their names.
+    pub fn registry(&self) -> &Registry
+        ensures { result.now.maps ≡ self.now.maps }
+    {
+        self.parts.registry()
+    }
+
+    /// The program of this number, if there is one.
+    pub fn program(&self, prog: ProgId) -> Option<&Loaded>
+        ensures { option_map program_of (option_copied result) ≡ slice_get self.now.programs prog }
+    {
+        self.parts.program(prog)
+    }
+
+    /// The counts of the world.
+    pub fn stat(&self) -> Stat
+        ensures { result ≡ stat_of self.now }
+    {
+        self.parts.stat()
+    }
+
+    /// The element of a map with the least key above a bound, in byte order; every key is above no bound.
+    /// `None` where there is no such element, or no map of the number.
+    pub fn next_above(&self, map: MapId, bound: Option<&KeyBytes>) -> Option<(KeyBytes, ValueBytes)>
+        ensures some { IfSome result (λ r. IsFound (slice_get self.now.maps map)
+            (option_map (λ k. k.items) (option_copied bound.entry)) r.0.items r.1.items) }
+        ensures none { IfNone result (HasNone (slice_get self.now.maps map)
+            (option_map (λ k. k.items) (option_copied bound.entry))) }
+    {
+        self.parts.next_above(map, bound)
+    }
+}

@@ -1,0 +1,85 @@
+//! Whether programs are bound to maps of the shapes that they were verified for.
+ghost use Rattle.std.specs.Prelude.{◌≡◌, ◌≤◌, ◌↔◌, ℕ, length, IsTrue, IfSome, IfNone, Some, slice_get};
+ghost use Rattle.bpf_model.specs.declared.limits.TheConstants.{MAX_MAPS};
+ghost use Rattle.bpf_model.specs.MapState.{AreShapes};
+ghost use Rattle.typed_runs.specs.Verified.{IsVerified};
+ghost use Rattle.world_laws.specs.Typed.{IsProgram};
+ghost use Rattle.world_invariant.specs.Binding.{IsBoundTo};
+ghost use Rattle.world_parts.specs.declared.loaded.Loaded.{Loaded};
+ghost use Rattle.world_parts.specs.Programs.{program_of};
+ghost use Rattle.world.specs.Bound.{shapes_in, AreBound, IsFirstUnbound};
+
+use bpf_model::{MapId, MapShape, ProgId};
+use maps::Registry;
+use world_laws::typed::code_is_real;
+use world_parts::Loaded;
+
+/// Whether the number is that of a map that is there and has this shape.
+fn has_shape(registry: &Registry, number: MapId, asked: MapShape) -> bool
+    ensures { IsTrue result ↔ (slice_get (shapes_in registry.now.maps) number ≡ Some asked) }
+{
+    match registry.shape(number) {
+        Some(shape) => shape == asked,
+        None => false,
+    }
+}
+
+/// Whether the numbers are those of maps that are there and have these shapes, one after another.
+fn have_shapes(registry: &Registry, numbers: &[MapId], asked: &[MapShape]) -> bool
+    ensures { IsTrue result ↔ IsBoundTo (shapes_in registry.now.maps) asked.now numbers.now }
+{
+    if numbers.len() != asked.len() {
+        return false;
+    }
+    for (i, number) in numbers.iter().enumerate() {
+        if !has_shape(registry, *number, asked[i]) {
+            return false;
+        }
+    }
+    true
+}
+
+/// The first program that is not bound.
+pub(crate) fn first_unbound(registry: &Registry, loaded: &[Loaded]) -> Option<ProgId>
+    ensures some { IfSome result (λ p. IsFirstUnbound (shapes_in registry.now.maps) loaded.now p) }
+    ensures none { IfNone result (AreBound (shapes_in registry.now.maps) loaded.now) }
+{
+    for (index, program) in loaded.iter().enumerate() {
+        let numbers = program.maps.as_slice();
+        if !have_shapes(registry, numbers, program.verified.shapes()) {
+            return Some(ProgId::new(index));
+        }
+    }
+    None
+}
+
+/// A law: the maps of a registry are as many as there may be, of shapes that there may be.
+pub(crate) fn certify_maps(registry: &Registry)
+    ensures shapes { AreShapes (shapes_in registry.now.maps) }
+    ensures limit { length registry.now.maps ≤ MAX_MAPS }
+{
+    registry.have_shapes();
+    let _count = registry.len();
+}
+
+/// A law: a loaded program is verified, and a value of its type.
+fn certify(program: &Loaded)
+    ensures verified { IsVerified program.now.verified.program program.now.verified.shapes
+        program.now.verified.ctx_len }
+    ensures real { IsProgram (program_of program.now) }
+{
+    let code = program.verified.program();
+    code_is_real(code.instructions());
+    let _count = program.maps.len();
+}
+
+/// A law: so is each of a list.
+pub(crate) fn certify_programs(loaded: &[Loaded])
+    ensures verified { (p : ℕ) (l : Loaded) → slice_get loaded.now p ≡ Some l →
+        IsVerified l.verified.program l.verified.shapes l.verified.ctx_len }
+    ensures real { (p : ℕ) (l : Loaded) → slice_get loaded.now p ≡ Some l → IsProgram (program_of l) }
+{
+    for program in loaded {
+        certify(program);
+    }
+}

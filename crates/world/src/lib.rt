@@ -1,0 +1,16 @@
+//! The runtime: maps, programs and runs, as one value that answers events one after another.
+//!
+//! Its answers are those of the abstract machine whose elements are never used again. No run of it is ever
+//! stuck, each has exited after as many of its own steps as its program has instructions, and an element is
+//! reclaimed only when each section that was open at its unlinking has ended.
+#![tactic(auto)]
+
+mod apply;
+mod asking;
+mod binding;
+mod fault;
+mod run_all;
+mod world;
+
+pub use fault::WorldFault;
+pub use world::World;

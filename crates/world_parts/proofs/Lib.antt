@@ -1,0 +1,5 @@
+pub mod Flags
+pub mod Slots
+pub mod Runs
+pub mod Exits
+pub mod Same

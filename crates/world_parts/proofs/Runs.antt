@@ -1,0 +1,100 @@
+-- What a start and a drop leave of a world.
+use Rattle.std.proofs.Common.{◌≡◌, ◌∙◌, ℕ, zero, suc, List, length, Bool, false, Option, Some, None, inl, inr, sym, ap, subst, cond}
+use Rattle.std.specs.Prelude.{slice_get, slice_set, map, option_map, nat_lt, replicate}
+use Rattle.std.proofs.lemmas.Option.{none-some, same_Some, slice_get-map}
+use Rattle.std.proofs.lemmas.Bool.{eq-eqb}
+use Rattle.bpf_model.specs.declared.event.EventRefusal.TheVariants.{BadContext}
+use Rattle.bpf_model.specs.declared.limits.TheConstants.{MAX_RUNS}
+use Rattle.bpf_model.specs.Event.{start_refusal, if_full}
+use Rattle.bpf_model.specs.Schedule.{still_open}
+use Rattle.bpf_model.specs.Machine as machine
+use Rattle.bpf_model.specs.View.{MapView, RunView, WorldView}
+use Rattle.element_arena.proofs.Counts.{set-same, length-set}
+use Rattle.element_arena.proofs.Views.{map-set, map-set_same}
+use Rattle.grace_period.specs.State.{GraceState, IsGrace}
+use Rattle.view_laws.specs.Reactions.{with_run, fresh_view, start_by, start_reaction, free_slot}
+use Rattle.world_runs.specs.RunWords.{RunWords, IsAt}
+use Rattle.world_parts.specs.declared.loaded.Loaded.{Loaded}
+use Rattle.world_parts.specs.Programs.{program_of}
+use Rattle.world_parts.specs.Keeping.{view_of, is_inside, IsOfProgram, IsKept, world_of}
+use Rattle.world_parts.proofs.Flags.{still-all, still-cleared}
+use Rattle.world_parts.proofs.Slots.{Runs, written}
+
+same_world : (maps : List MapView) (programs : List machine.Loaded) (given : ℕ) (rs qs : List (Option RunView)) (os ps cs bs : List Bool) → rs ≡ qs → os ≡ ps → cs ≡ bs →
+    let a : WorldView = record { maps = maps; runs = rs; opened = os; awaited = cs; programs = programs; given = given } in
+    let b : WorldView = record { maps = maps; runs = qs; opened = ps; awaited = bs; programs = programs; given = given } in
+    a ≡ b
+same_world maps programs given rs qs os ps cs bs e f g = cc
+
+module _ (maps : List MapView) (runs : Runs) (grace new : GraceState) (programs : List Loaded) (given i r : ℕ) (same : i ≡ r) (kept : IsKept runs grace programs) (sound : IsGrace grace) (opened : new.opened ≡ slice_set grace.opened r false) (awaited : new.awaited ≡ slice_set grace.awaited r false) where
+  pub dropped-kept : IsKept (slice_set runs i None) new programs
+  dropped-kept = record {
+    slots = length-set runs i None ∙ kept.slots;
+    opened = opened ∙ (ap (λ (os : List Bool). slice_set os r false) kept.opened ∙ (ap (λ k. slice_set (map is_inside runs) k false) (sym same) ∙ sym (map-set is_inside runs i None)));
+    of_program = λ k run e. elim (written runs i k None (Some run) e) [
+      | inl z ↦ absurd (none-some run z)
+      | inr z ↦ kept.of_program k run z
+    ];
+  }
+
+  pub dropped-view : world_of maps (slice_set runs i None) new programs given ≡ with_run r None (world_of maps runs grace programs given)
+  dropped-view =
+      same_world maps (map program_of programs) given _ _ _ _ _ _
+      (map-set view_of runs i None ∙ ap (λ k. slice_set (map view_of runs) k None) same)
+      opened
+      (awaited ∙ sym (still-cleared grace.awaited grace.opened r (sound.awaited ∙ sym sound.opened) sound.inside))
+
+module _ (maps : List MapView) (runs : Runs) (grace : GraceState) (programs : List Loaded) (given i prog : ℕ) (context : List ℕ) (program : Loaded) (run : RunWords) (free : slice_get runs i ≡ Some None) (kept : IsKept runs grace programs) (there : slice_get programs prog ≡ Some program) (fresh : run.view ≡ fresh_view prog context) (stands : IsAt program.verified.program run) where
+  started-shut : is_inside (Some run) ≡ false
+  started-shut = ap (λ (v : RunView). nat_lt 0 v.depth) fresh
+
+  started-opened : slice_set grace.opened i false ≡ grace.opened
+  started-opened = set-same grace.opened i false (ap (λ (os : List Bool). slice_get os i) kept.opened ∙ (slice_get-map is_inside runs i ∙ ap (option_map is_inside) free))
+
+  pub started-kept : IsKept (slice_set runs i (Some run)) grace programs
+  started-kept = record {
+    slots = length-set runs i (Some run) ∙ kept.slots;
+    opened = kept.opened ∙ sym (map-set_same is_inside runs i None (Some run) free started-shut);
+    of_program = λ k other e. elim (written runs i k (Some run) (Some other) e) [
+      | inl z ↦ subst (IsOfProgram programs) (same_Some run other z) (record {
+        program = program;
+        there = ap (λ (v : RunView). slice_get programs v.program) fresh ∙ there;
+        stands = stands;
+      })
+      | inr z ↦ kept.of_program k other z
+    ];
+  }
+
+  pub started-view : IsGrace grace → world_of maps (slice_set runs i (Some run)) grace programs given ≡ with_run i (Some (fresh_view prog context)) (world_of maps runs grace programs given)
+  started-view sound =
+      same_world maps (map program_of programs) given _ _ _ _ _ _
+      (map-set view_of runs i (Some run) ∙ ap (λ (v : RunView). slice_set (map view_of runs) i (Some v)) fresh)
+      (sym started-opened)
+      (sym (still-all grace.awaited grace.opened (sound.awaited ∙ sym sound.opened) sound.inside) ∙ ap (still_open grace.awaited) (sym started-opened))
+
+-- a start that neither the program nor the context refuses
+pub start-goes : (w : WorldView) (prog : ℕ) (context : List ℕ) (program : machine.Loaded) (o : Option ℕ) → slice_get w.programs prog ≡ Some program → length context ≡ program.context_len → free_slot w.runs ≡ o → start_reaction w prog context ≡ start_by (if_full o) o w prog context
+start-goes w prog context program o there long free =
+    ap (λ p. start_by (start_refusal p (length context) (free_slot w.runs)) (free_slot w.runs) w prog context) there
+    ∙ (ap (λ z. start_by (cond z (if_full (free_slot w.runs)) (Some BadContext)) (free_slot w.runs) w prog context) (eq-eqb (length context) program.context_len long)
+    ∙ ap (λ f. start_by (if_full f) f w prog context) free)
+
+pub started : (maps : List MapView) (runs : Runs) (grace : GraceState) (programs : List Loaded) (given prog : ℕ) (context : List ℕ) (program : Loaded) (o : Option ℕ) (w : WorldView) → world_of maps runs grace programs given ≡ w →
+    slice_get programs prog ≡ Some program → length context ≡ program.verified.ctx_len → o ≡ free_slot (map view_of runs) → start_reaction w prog context ≡ start_by (if_full o) o w prog context
+started maps runs grace programs given prog context program o w e there long free =
+    start-goes w prog context (program_of program) o
+    (ap (λ (z : WorldView). slice_get z.programs prog) (sym e) ∙ (slice_get-map program_of programs prog ∙ ap (option_map program_of) there))
+    long
+    (ap (λ (z : WorldView). free_slot z.runs) (sym e) ∙ sym free)
+
+none-in : {A : Type 0} (n r : ℕ) (x : A) → slice_get (replicate n None) r ≡ Some (Some x) → ⊥
+none-in zero r x e = none-some (Some x) e
+none-in {A} (suc n) zero x e = let s : ◌≡◌ {A = Option A} None (Some x) = same_Some None (Some x) e in none-some x s
+none-in (suc n) (suc r) x e = none-in n r x e
+
+pub fresh-kept : (runs : Runs) (grace : GraceState) (programs : List Loaded) → runs ≡ replicate MAX_RUNS None → grace.opened ≡ replicate MAX_RUNS false → IsKept runs grace programs
+fresh-kept runs grace programs e o = record {
+  slots = ap (λ (rs : Runs). length rs) e;
+  opened = o ∙ sym (ap (map is_inside) e);
+  of_program = λ r run g. absurd (none-in MAX_RUNS r run (ap (λ (rs : Runs). slice_get rs r) (sym e) ∙ g));
+}

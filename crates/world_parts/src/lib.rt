@@ -1,0 +1,19 @@
+//! A world's maps, runs, grace period and programs, with every event but a step.
+//!
+//! Each event is one method, which takes no memory and does not fail: what it answers and what it makes of
+//! the world are one equation on the world's view.
+#![tactic(auto)]
+
+mod asking;
+mod control;
+mod loaded;
+mod parts;
+mod places;
+mod reclaim;
+mod starting;
+mod stat;
+// mod step;
+
+pub use loaded::Loaded;
+pub use parts::Parts;
+pub use stat::Stat;

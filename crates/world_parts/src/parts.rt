@@ -1,0 +1,92 @@
+//! What a world keeps.
+ghost use Rattle.std.specs.Prelude.{◌≡◌, Some, None, [], map, replicate, slice_get, option_map, option_copied, IfOk, false};
+ghost use Rattle.bpf_model.specs.declared.limits.TheConstants.{MAX_RUNS};
+ghost use Rattle.world_parts.specs.Programs.{program_of};
+
+use crate::loaded::Loaded;
+use crate::places::program_at;
+use bpf_model::{MAX_RUNS, ProgId};
+use grace_period::Grace;
+use maps::Registry;
+use std::alloc::{AllocError, Global};
+use std::marker::Model;
+use world_runs::Run;
+
+/// The maps; the runs by run slot; which of them are inside a section, and which sections are awaited; the
+/// programs; and how many elements were reclaimed. Contracts see the world's view.
+#[derive(Drop)]
+pub struct Parts {
+    pub(crate) registry: Registry,
+    pub(crate) grace: Grace,
+    /// `MAX_RUNS` slots, made at the start.
+    pub(crate) runs: Vec<Option<Run>>,
+    pub(crate) programs: Vec<Loaded>,
+    pub(crate) given: usize,
+}
+
+impl Model for Parts {
+    ghost use Rattle.bpf_model.specs.View.{WorldView};
+    ghost use Rattle.world_parts.specs.Codes.{world_code};
+
+    ghost Value = { WorldView };
+
+    ghost coded = { world_code };
+
+    ghost use Rattle.world_parts.specs.Keeping.{world_of, IsKept};
+
+    ghost view = { λ p. world_of p.registry.maps p.runs.items p.grace p.programs.items p.given };
+
+    ghost invariant = { λ p. IsKept p.runs.items p.grace p.programs.items };
+}
+
+/// So many free run slots.
+fn free_slots(alloc: Global) -> Result<Vec<Option<Run>>, AllocError>
+    ensures { IfOk result (λ v. v.items ≡ replicate MAX_RUNS None) }
+{
+    let mut runs = Vec::with_capacity(alloc, MAX_RUNS)?;
+    for _ in 0..MAX_RUNS {
+        runs.push(None)?;
+    }
+    Ok(runs)
+}
+
+impl Parts {
+    /// These maps and programs, without runs. All the memory that it ever takes is taken here.
+    pub fn new(
+        alloc: Global,
+        registry: Registry,
+        programs: Vec<Loaded>,
+    ) -> Result<Parts, AllocError>
+        ensures { IfOk result (λ w. w ≡ record {
+          maps = registry.maps;
+          runs = replicate MAX_RUNS None;
+          opened = replicate MAX_RUNS false;
+          awaited = replicate MAX_RUNS false;
+          programs = map program_of programs.items;
+          given = 0;
+        }) }
+    {
+        let runs = free_slots(alloc)?;
+        Ok(Parts {
+            registry,
+            grace: Grace::new(),
+            runs,
+            programs,
+            given: 0,
+        })
+    }
+
+    /// The maps, with their names.
+    pub fn registry(&self) -> &Registry
+        ensures { result.now.maps ≡ self.now.maps }
+    {
+        &self.registry
+    }
+
+    /// The program of this number, if there is one.
+    pub fn program(&self, prog: ProgId) -> Option<&Loaded>
+        ensures { option_map program_of (option_copied result) ≡ slice_get self.now.programs prog }
+    {
+        program_at(&self.programs, prog)
+    }
+}

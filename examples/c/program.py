@@ -1,0 +1,129 @@
+#!/usr/bin/env python3
+"""Makes a program file out of an object that clang wrote for the target bpf.
+
+    program.py OBJECT           the program file, as text: context, maps, code
+    program.py --rows OBJECT..  rows of the table in crates/map_verifier_tests/src/compiled.rt
+
+The code is the section .text. A wide load of a map's address becomes the wide load of a map (source
+5) by the map's number in the program's list, which is the order of the section maps. A call of an
+external kernel function becomes a call by that function's number (source 2). Any other relocation
+is an error: such a program calls or names what no program here can.
+"""
+
+import struct
+import sys
+
+KERNEL_FUNCTIONS = {"bpf_rcu_read_lock": 1, "bpf_rcu_read_unlock": 2}
+WIDE, CALL = 0x18, 0x85
+SHT_REL, STT_SECTION = 9, 3
+
+
+class Object:
+    """Sections and symbols of an ELF file of 64 bits, little-endian."""
+
+    def __init__(self, data):
+        self.data = data
+        offset, = struct.unpack_from("<Q", data, 0x28)
+        size, count, names = struct.unpack_from("<HHH", data, 0x3A)
+        headers = [struct.unpack_from("<IIQQQQIIQQ", data, offset + i * size) for i in range(count)]
+        self.headers = headers
+        self.names = [self.string(headers[names], header[0]) for header in headers]
+        self.symbols = self.read_symbols()
+
+    def string(self, table, at):
+        start = table[4] + at
+        return self.data[start:self.data.index(b"\0", start)].decode()
+
+    def body(self, header):
+        return self.data[header[4]:header[4] + header[5]]
+
+    def section(self, name):
+        return self.body(self.headers[self.names.index(name)]) if name in self.names else b""
+
+    def read_symbols(self):
+        table = self.headers[self.names.index(".symtab")]
+        strings = self.headers[table[6]]
+        entries = struct.iter_unpack("<IBBHQQ", self.body(table))
+        return [(self.string(strings, name), info & 15, section, value)
+                for name, info, _, section, value, _ in entries]
+
+    def section_of(self, symbol):
+        return self.names[symbol[2]] if 0 < symbol[2] < len(self.names) else None
+
+    def relocations(self, name):
+        """Places in a section, and the symbols that belong there."""
+        index = self.names.index(name)
+        for header in self.headers:
+            if header[1] == SHT_REL and header[7] == index:
+                for place, info in struct.iter_unpack("<QQ", self.body(header)):
+                    yield place, self.symbols[info >> 32]
+
+
+def maps_of(obj):
+    """The maps, in the order of their section: name, and the five numbers of the shape."""
+    shapes = list(struct.iter_unpack("<5I", obj.section("maps")))
+    names = {value: name for name, kind, section, value in obj.symbols
+             if section and kind != STT_SECTION and obj.section_of((name, kind, section, value)) == "maps"}
+    return [(names[20 * i], shape) for i, shape in enumerate(shapes)]
+
+
+def context_of(obj):
+    section = obj.section("context")
+    return struct.unpack("<I", section)[0] if section else 0
+
+
+def code_of(obj):
+    """The slots, with every relocation of them done."""
+    code = bytearray(obj.section(".text"))
+    for place, symbol in obj.relocations(".text"):
+        opcode = code[place]
+        destination = code[place + 1] & 15
+        if opcode == WIDE and obj.section_of(symbol) == "maps":
+            number = (symbol[3] + struct.unpack_from("<i", code, place + 4)[0]) // 20
+            struct.pack_into("<BBhiQ", code, place, WIDE, 5 << 4 | destination, 0, number, 0)
+        elif opcode == CALL and symbol[0] in KERNEL_FUNCTIONS:
+            struct.pack_into("<BBhi", code, place, CALL, 2 << 4, 0, KERNEL_FUNCTIONS[symbol[0]])
+        else:
+            sys.exit(f"slot {place // 8} names {symbol[0]}, which is neither a map nor a kernel function")
+    return [bytes(code[i:i + 8]) for i in range(0, len(code), 8)]
+
+
+def program_file(obj):
+    lines = ["bpfrt 1", f"ctx {context_of(obj)}"]
+    lines += [" ".join(["map", name, *map(str, shape)]) for name, shape in maps_of(obj)]
+    slots = [slot.hex() for slot in code_of(obj)]
+    lines += ["code"] + [" ".join(slots[i:i + 5]) for i in range(0, len(slots), 5)]
+    return "\n".join(lines) + "\n"
+
+
+def row(path):
+    """A row of the table of compiled programs."""
+    with open(path, "rb") as file:
+        obj = Object(file.read())
+    name = path.rsplit("/", 1)[-1].rsplit(".", 1)[0]
+    fields = ["key_len", "value_len", "entries", "spare", "reuse_limit"]
+    maps = "".join(
+        "            MapShape {\n"
+        + "".join(f"                {field}: {number},\n" for field, number in zip(fields, shape))
+        + "            },\n"
+        for _, shape in maps_of(obj))
+    maps = f"&[\n{maps}        ]" if maps else "&[]"
+    slots = [slot.hex() for slot in code_of(obj)]
+    code = [" ".join(slots[i:i + 5]) for i in range(0, len(slots), 5)]
+    text = " \\\n            ".join(code)
+    return (f"    Row {{\n        name: \"{name}\",\n        context: {context_of(obj)},\n"
+            f"        maps: {maps},\n        code: \"{text}\",\n    }},\n")
+
+
+def main(words):
+    if words[:1] == ["--rows"]:
+        sys.stdout.write("".join(row(path) for path in words[1:]))
+    elif len(words) == 1:
+        with open(words[0], "rb") as file:
+            sys.stdout.write(program_file(Object(file.read())))
+    else:
+        sys.exit(__doc__)
+
+
+if __name__ == "__main__":
+    main(sys.argv[1:])
