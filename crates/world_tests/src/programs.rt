@@ -90,3 +90,48 @@ mov64 r3, r10; add64 r3, -16; mov64 r4, 1; ldmap r1, 0; call 2; exit";
 
 /// The helper's deletion of key 0; the result is the exit value.
 pub const DELETE: &str = "stw [r10-4], 0; mov64 r2, r10; add64 r2, -4; ldmap r1, 0; call 3; exit";
+
+/// The value of the key of the context's first byte, or 0.
+pub const LOAD: &str = "ldxb r7, [r1+0]; stxw [r10-4], r7; mov64 r6, 0; callbtf 1; mov64 r2, r10; \
+add64 r2, -4; ldmap r1, 0; call 1; jeq r0, 0, +1; ldxdw r6, [r0+0]; callbtf 2; mov64 r0, r6; exit";
+
+/// One is added to the value of the key, in its place.
+pub const ADD_ONE: &str = "ldxb r7, [r1+0]; stxw [r10-4], r7; mov64 r6, 0; callbtf 1; \
+mov64 r2, r10; add64 r2, -4; ldmap r1, 0; call 1; jeq r0, 0, +3; ldxdw r6, [r0+0]; add64 r6, 1; \
+stxdw [r0+0], r6; callbtf 2; mov64 r0, r6; exit";
+
+/// The helper's update of a key of 8 bytes by a value of 16, with flags 0 to 3 of the context.
+pub const PUT: &str = "ldxb r7, [r1+0]; ldxb r8, [r1+1]; ldxb r9, [r1+2]; and64 r9, 3; \
+stxdw [r10-8], r7; stxdw [r10-24], r8; stxdw [r10-16], r7; mov64 r2, r10; add64 r2, -8; \
+mov64 r3, r10; add64 r3, -24; mov64 r4, r9; ldmap r1, 0; call 2; exit";
+
+/// The helper's deletion of a key in the second map of the list.
+pub const REMOVE: &str = "ldxb r7, [r1+0]; stxw [r10-4], r7; mov64 r2, r10; add64 r2, -4; \
+ldmap r1, 1; call 3; exit";
+
+/// In one section a pointer is spilled, its key deleted, and the pointer read back and loaded from.
+pub const SPILL_REMOVE: &str = "ldxb r7, [r1+0]; stxw [r10-4], r7; callbtf 1; mov64 r2, r10; \
+add64 r2, -4; ldmap r1, 0; call 1; mov64 r6, 0; jeq r0, 0, +8; stxdw [r10-16], r0; mov64 r2, r10; \
+add64 r2, -4; ldmap r1, 0; call 3; ldxdw r9, [r10-16]; ldxdw r6, [r9+0]; callbtf 2; mov64 r0, r6; exit";
+
+/// The byte of a value of 16 whose index is the low half of a byte of the context.
+pub const BYTE_OF_16: &str = "ldxb r7, [r1+0]; ldxb r8, [r1+1]; and64 r8, 15; stxdw [r10-8], r7; \
+mov64 r6, 0; callbtf 1; mov64 r2, r10; add64 r2, -8; ldmap r1, 0; call 1; jeq r0, 0, +2; \
+add64 r0, r8; ldxb r6, [r0+0]; callbtf 2; mov64 r0, r6; exit";
+
+/// A byte is stored there.
+pub const STORE_BYTE: &str = "ldxb r7, [r1+0]; ldxb r8, [r1+1]; ldxb r9, [r1+2]; and64 r8, 15; \
+stxdw [r10-8], r7; callbtf 1; mov64 r2, r10; add64 r2, -8; ldmap r1, 0; call 1; mov64 r6, 0; \
+jeq r0, 0, +3; add64 r0, r8; stxb [r0+0], r9; mov64 r6, 1; callbtf 2; mov64 r0, r6; exit";
+
+/// The sum of the values of one key in two maps.
+pub const TWO_MAPS: &str = "ldxb r7, [r1+0]; stxw [r10-4], r7; mov64 r6, 0; callbtf 1; \
+mov64 r2, r10; add64 r2, -4; ldmap r1, 0; call 1; mov64 r9, r0; mov64 r2, r10; add64 r2, -4; \
+ldmap r1, 1; call 1; jeq r0, 0, +1; ldxdw r6, [r0+0]; jeq r9, 0, +2; ldxdw r8, [r9+0]; \
+add64 r6, r8; callbtf 2; mov64 r0, r6; exit";
+
+/// A present key gets a value that is greater by 256; who holds the old element loads the old value.
+pub const REPLACE: &str = "ldxb r7, [r1+0]; stxw [r10-4], r7; callbtf 1; mov64 r2, r10; \
+add64 r2, -4; ldmap r1, 0; call 1; mov64 r6, 0; jeq r0, 0, +13; mov64 r9, r0; ldxdw r8, [r9+0]; \
+add64 r8, 256; stxdw [r10-16], r8; mov64 r2, r10; add64 r2, -4; mov64 r3, r10; add64 r3, -16; \
+mov64 r4, 2; ldmap r1, 0; call 2; ldxdw r6, [r9+0]; callbtf 2; mov64 r0, r6; exit";

@@ -1,16 +1,30 @@
 //! Each case is a machine and a list of events, each with the answer that it must have.
+use crate::making::{Source, assembled, judged, machine_of, world_of};
 use crate::programs::{
     BYTE_AT_8, BYTE_BELOW_8, DELETE, EXIT_ONE, KEPT, KEPT_RELOCKED, LOOKUP, NARROW_BOUND,
     OTHER_LOOKUP, SAME_LOOKUP, SPILL_KEPT, SPILLED, STORE_NINE, TWO_AT_EVEN, TWO_AT_ODD, UNGUARDED,
     UNLOCKED, UPDATE, UPDATE_NEW, WIDE_BOUND,
 };
-use crate::replay::{Setting, machine, replay};
+use crate::replay::replay;
 use bpf_model::MapShape;
+use std::alloc::Global;
 use std::fmt::Write;
 use std::test::Fail;
 
+/// Two maps of one shape, and one program over the first of them.
+#[derive(Drop)]
+struct Setting {
+    shape: MapShape,
+    /// Lines of the assembly language, parted by a semicolon and a space.
+    program: &'static str,
+    context_len: usize,
+}
+
+/// A setting and its events. Where the program is one that can be stuck, it is said by what number and at which slot
+/// the verifier refuses it, and the plain model alone goes through the events.
 struct Case {
     setting: Setting,
+    refused: Option<(u8, usize)>,
     events: &'static str,
 }
 
@@ -38,6 +52,7 @@ static CASES: [Case; 34] = [
             program: EXIT_ONE,
             context_len: 0,
         },
+        refused: None,
         events: "put 0 00000000 0500000000000000 0 = ret 0\n\
 put 0 00000000 0600000000000000 1 = ret -17\n\
 put 0 01000000 0600000000000000 2 = ret -2\n\
@@ -54,6 +69,7 @@ del 0 01000000 = ret -2\n",
             program: EXIT_ONE,
             context_len: 0,
         },
+        refused: None,
         events: "put 0 00000000 0500000000000000 0 = ret 0\n\
 del 0 00000000 = ret 0\n\
 advance = ok\n\
@@ -74,6 +90,7 @@ stat = stat linked 0 unlinked 0 given 2 worn 1 runs 0 open 0\n",
             program: LOOKUP,
             context_len: 0,
         },
+        refused: None,
         events: "put 0 00000000 0500000000000000 0 = ret 0\n\
 start 0 - = run 0\n\
 step 0 7 = moved\n\
@@ -93,6 +110,7 @@ step 0 2 = exit 5\n",
             program: LOOKUP,
             context_len: 0,
         },
+        refused: None,
         events: "put 0 00000000 0500000000000000 0 = ret 0\n\
 put 0 01000000 0600000000000000 0 = ret 0\n\
 start 0 - = run 0\n\
@@ -120,6 +138,7 @@ stat = stat linked 0 unlinked 0 given 2 worn 0 runs 2 open 0\n",
             program: LOOKUP,
             context_len: 0,
         },
+        refused: None,
         events: "put 0 00000000 0500000000000000 0 = ret 0\n\
 start 0 - = run 0\n\
 step 0 7 = moved\n\
@@ -137,6 +156,7 @@ drop 0 = refused 60\n",
             program: EXIT_ONE,
             context_len: 0,
         },
+        refused: None,
         events: "step 0 1 = refused 60\n\
 step 64 1 = refused 60\n\
 drop 64 = refused 60\n\
@@ -158,6 +178,7 @@ stat = stat linked 0 unlinked 0 given 0 worn 0 runs 0 open 0\n",
             program: LOOKUP,
             context_len: 0,
         },
+        refused: None,
         events: "put 0 00000000 0500000000000000 0 = ret 0\n\
 start 0 - = run 0\n\
 step 0 7 = moved\n\
@@ -181,6 +202,7 @@ reap = none\n",
             program: EXIT_ONE,
             context_len: 0,
         },
+        refused: None,
         events: "put 1 03000000 0100000000000000 0 = ret 0\n\
 put 0 02000000 0100000000000000 0 = ret 0\n\
 put 0 01000000 0100000000000000 0 = ret 0\n\
@@ -202,6 +224,7 @@ reap = none\n",
             program: LOOKUP,
             context_len: 0,
         },
+        refused: None,
         events: "put 0 00000000 0500000000000000 0 = ret 0\n\
 start 0 - = run 0\n\
 step 0 11 = moved\n\
@@ -214,6 +237,7 @@ step 0 1 = exit 5\n",
             program: LOOKUP,
             context_len: 0,
         },
+        refused: None,
         events: "start 0 - = run 0\n\
 step 0 10 = moved\n\
 step 0 1 = exit 0\n",
@@ -225,6 +249,7 @@ step 0 1 = exit 0\n",
             program: STORE_NINE,
             context_len: 0,
         },
+        refused: None,
         events: "put 0 00000000 0500000000000000 0 = ret 0\n\
 start 0 - = run 0\n\
 step 0 11 = moved\n\
@@ -238,6 +263,7 @@ get 0 00000000 = value 0900000000000000\n",
             program: SPILLED,
             context_len: 0,
         },
+        refused: None,
         events: "put 0 00000000 0500000000000000 0 = ret 0\n\
 start 0 - = run 0\n\
 step 0 14 = exit 5\n",
@@ -249,6 +275,7 @@ step 0 14 = exit 5\n",
             program: UNGUARDED,
             context_len: 0,
         },
+        refused: Some((32, 8)),
         events: "start 0 - = run 0\n\
 step 0 7 = moved\n\
 step 0 1 = stuck\n",
@@ -260,6 +287,7 @@ step 0 1 = stuck\n",
             program: UNLOCKED,
             context_len: 0,
         },
+        refused: Some((33, 6)),
         events: "put 0 00000000 0500000000000000 0 = ret 0\n\
 start 0 - = run 0\n\
 step 0 6 = moved\n\
@@ -276,6 +304,7 @@ step 0 2 = stuck\n",
             program: KEPT,
             context_len: 0,
         },
+        refused: Some((33, 13)),
         events: "put 0 00000000 0500000000000000 0 = ret 0\n\
 start 0 - = run 0\n\
 step 0 9 = moved\n\
@@ -292,6 +321,7 @@ step 0 1 = stuck\n",
             program: KEPT_RELOCKED,
             context_len: 0,
         },
+        refused: Some((33, 14)),
         events: "put 0 00000000 0500000000000000 0 = ret 0\n\
 start 0 - = run 0\n\
 step 0 9 = moved\n\
@@ -308,6 +338,7 @@ step 0 2 = stuck\n",
             program: SPILL_KEPT,
             context_len: 0,
         },
+        refused: Some((33, 13)),
         events: "put 0 00000000 0500000000000000 0 = ret 0\n\
 start 0 - = run 0\n\
 step 0 9 = moved\n\
@@ -325,6 +356,7 @@ step 0 1 = stuck\n",
             program: OTHER_LOOKUP,
             context_len: 1,
         },
+        refused: Some((32, 18)),
         events: "put 0 00000000 0500000000000000 0 = ret 0\n\
 start 0 01 = run 0\n\
 step 0 9 = moved\n\
@@ -338,6 +370,7 @@ step 0 8 = stuck\n",
             program: SAME_LOOKUP,
             context_len: 1,
         },
+        refused: None,
         events: "put 0 00000000 0500000000000000 0 = ret 0\n\
 start 0 01 = run 0\n\
 step 0 9 = moved\n\
@@ -351,6 +384,7 @@ step 0 8 = moved\n",
             program: NARROW_BOUND,
             context_len: 8,
         },
+        refused: Some((25, 10)),
         events: "put 0 00000000 0500000000000000 0 = ret 0\n\
 start 0 0000000001000000 = run 0\n\
 step 0 10 = moved\n\
@@ -363,6 +397,7 @@ step 0 1 = stuck\n",
             program: WIDE_BOUND,
             context_len: 8,
         },
+        refused: None,
         events: "put 0 00000000 0500000000000000 0 = ret 0\n\
 start 0 0101010101010101 = run 0\n\
 step 0 11 = exit 0\n",
@@ -374,6 +409,7 @@ step 0 11 = exit 0\n",
             program: BYTE_BELOW_8,
             context_len: 1,
         },
+        refused: None,
         events: "put 0 00000000 0001020304050607 0 = ret 0\n\
 start 0 0b = run 0\n\
 step 0 13 = moved\n\
@@ -386,6 +422,7 @@ step 0 1 = exit 3\n",
             program: BYTE_AT_8,
             context_len: 1,
         },
+        refused: Some((27, 14)),
         events: "put 0 00000000 0500000000000000 0 = ret 0\n\
 start 0 08 = run 0\n\
 step 0 9 = moved\n\
@@ -399,6 +436,7 @@ step 0 1 = stuck\n",
             program: TWO_AT_ODD,
             context_len: 1,
         },
+        refused: Some((28, 14)),
         events: "put 0 00000000 0500000000000000 0 = ret 0\n\
 start 0 05 = run 0\n\
 step 0 10 = moved\n\
@@ -411,6 +449,7 @@ step 0 1 = stuck\n",
             program: TWO_AT_EVEN,
             context_len: 1,
         },
+        refused: None,
         events: "put 0 00000000 0500000000000000 0 = ret 0\n\
 start 0 06 = run 0\n\
 step 0 14 = exit 0\n",
@@ -419,9 +458,10 @@ step 0 14 = exit 0\n",
     Case {
         setting: Setting {
             shape: WIDE,
-            program: "callbtf 1; callbtf 1",
+            program: "callbtf 1; callbtf 1; callbtf 2; mov64 r0, 0; exit",
             context_len: 0,
         },
+        refused: Some((34, 1)),
         events: "start 0 - = run 0\n\
 step 0 1 = moved\n\
 step 0 1 = stuck\n",
@@ -430,9 +470,10 @@ step 0 1 = stuck\n",
     Case {
         setting: Setting {
             shape: WIDE,
-            program: "mov64 r0, 0; callbtf 2",
+            program: "mov64 r0, 0; callbtf 2; exit",
             context_len: 0,
         },
+        refused: Some((34, 1)),
         events: "start 0 - = run 0\n\
 step 0 1 = moved\n\
 step 0 1 = stuck\n",
@@ -441,9 +482,10 @@ step 0 1 = stuck\n",
     Case {
         setting: Setting {
             shape: WIDE,
-            program: "mov64 r0, 0; call 4",
+            program: "mov64 r0, 0; call 4; exit",
             context_len: 0,
         },
+        refused: Some((35, 1)),
         events: "start 0 - = run 0\n\
 step 0 1 = moved\n\
 step 0 1 = stuck\n",
@@ -452,9 +494,10 @@ step 0 1 = stuck\n",
     Case {
         setting: Setting {
             shape: WIDE,
-            program: "callbtf 1; mov64 r1, r0",
+            program: "callbtf 1; mov64 r1, r0; callbtf 2; mov64 r0, 0; exit",
             context_len: 0,
         },
+        refused: Some((23, 1)),
         events: "start 0 - = run 0\n\
 step 0 1 = moved\n\
 step 0 1 = stuck\n",
@@ -463,11 +506,12 @@ step 0 1 = stuck\n",
     Case {
         setting: Setting {
             shape: WIDE,
-            program: "mov64 r7, r10; call 1",
+            program: "callbtf 1; mov64 r7, r10; call 1; callbtf 2; mov64 r0, 0; exit",
             context_len: 0,
         },
+        refused: Some((23, 2)),
         events: "start 0 - = run 0\n\
-step 0 1 = moved\n\
+step 0 2 = moved\n\
 step 0 1 = stuck\n",
     },
     // An exit inside a section.
@@ -477,6 +521,7 @@ step 0 1 = stuck\n",
             program: "callbtf 1; mov64 r0, 0; exit",
             context_len: 0,
         },
+        refused: Some((34, 2)),
         events: "start 0 - = run 0\n\
 step 0 2 = moved\n\
 step 0 1 = stuck\n",
@@ -488,6 +533,7 @@ step 0 1 = stuck\n",
             program: UPDATE,
             context_len: 0,
         },
+        refused: None,
         events: "start 0 - = run 0\n\
 step 0 10 = exit 0\n\
 get 0 00000000 = value 0700000000000000\n",
@@ -499,6 +545,7 @@ get 0 00000000 = value 0700000000000000\n",
             program: UPDATE_NEW,
             context_len: 0,
         },
+        refused: None,
         events: "put 0 00000000 0500000000000000 0 = ret 0\n\
 start 0 - = run 0\n\
 step 0 10 = exit 18446744073709551599\n\
@@ -512,6 +559,7 @@ stat = stat linked 1 unlinked 0 given 0 worn 0 runs 1 open 0\n",
             program: DELETE,
             context_len: 0,
         },
+        refused: None,
         events: "put 0 00000000 0500000000000000 0 = ret 0\n\
 start 0 - = run 0\n\
 step 0 10 = exit 0\n\
@@ -522,35 +570,100 @@ reap = reaped 0 00000000 free\n",
     },
 ];
 
+impl Setting {
+    fn source(&self) -> Source {
+        Source {
+            lines: self.program,
+            maps: &[0],
+            context_len: self.context_len,
+        }
+    }
+
+    fn shapes(&self) -> [MapShape; 2] {
+        [self.shape, self.shape]
+    }
+}
+
+/// The number and the slot of the verifier's refusal, if it refuses.
+fn refusal_of(alloc: Global, setting: &Setting) -> Result<Option<(u8, usize)>, Fail> {
+    let program = assembled(alloc, setting.program)?;
+    match judged(alloc, program, &setting.shapes(), &[0], setting.context_len)? {
+        Ok(_) => Ok(None),
+        Err(refusal) => match refusal.slot() {
+            Some(slot) => Ok(Some((refusal.code(), slot))),
+            None => Err(Fail::from("no memory")),
+        },
+    }
+}
+
+/// The answers of the plain model, and those of the world where the program is accepted.
+fn answers(
+    alloc: Global,
+    setting: &Setting,
+    events: &str,
+) -> Result<(String, Option<String>), Fail> {
+    let shapes = setting.shapes();
+    let sources = [setting.source()];
+    let mut machine = machine_of(alloc, &shapes, &sources)?;
+    let model = replay(alloc, &mut machine, events)?;
+    if refusal_of(alloc, setting)?.is_some() {
+        return Ok((model, None));
+    }
+    let mut world = world_of(alloc, &shapes, &sources)?;
+    Ok((model, Some(replay(alloc, &mut world, events)?)))
+}
+
 #[test]
 fn answers_are_as_worked_out(rt: HostRuntime) -> Result<(), Fail> {
     let alloc = rt.alloc();
     for case in &CASES {
-        let mut m = machine(alloc, &case.setting)?;
-        let told = replay(alloc, &mut m, case.events)?;
-        assert_eq!(rt; told.as_str(), case.events);
+        assert_eq!(rt;
+            refusal_of(alloc, &case.setting)?,
+            case.refused,
+            "{}",
+            case.events
+        );
+        let (model, world) = answers(alloc, &case.setting, case.events)?;
+        assert_eq!(rt; model.as_str(), case.events);
+        if let Some(world) = world {
+            assert_eq!(rt; world.as_str(), case.events);
+        }
     }
     Ok(())
 }
 
-#[test]
-fn run_slots(rt: HostRuntime) -> Result<(), Fail> {
-    let alloc = rt.alloc();
+/// All 64 run slots are taken; then 62, 63 and 64 in the order of their tests; steps and drops at each state of a run,
+/// 60, 61 and 67; and the lowest free slot is taken.
+fn full_table(alloc: Global) -> Result<String, Fail> {
     let mut events = String::new(alloc);
     for slot in 0..64usize {
         writeln!(events, "start 0 - = run {slot}")?;
     }
     events.push_str(
-        "start 0 - = refused 64\nstep 5 3 = exit 1\nstep 5 1 = refused 61\ndrop 4 = refused 67\n",
+        "start 1 - = refused 62\nstart 1 00 = refused 62\nstart 0 00 = refused 63\n\
+start 0 - = refused 64\nstep 64 1 = refused 60\ndrop 64 = refused 60\nstep 5 1 = moved\n\
+drop 5 = refused 67\nstep 5 1 = exit 1\nstep 5 1 = refused 61\ndrop 4 = refused 67\n\
+stat = stat linked 0 unlinked 0 given 0 worn 0 runs 64 open 0\ndrop 5 = ok\n\
+drop 5 = refused 60\nstep 5 1 = refused 60\nstep 63 2 = exit 1\ndrop 63 = ok\n\
+start 0 - = run 5\nstart 0 - = run 63\nstart 0 - = refused 64\n",
     )?;
-    events.push_str("drop 5 = ok\nstart 0 - = run 5\n")?;
+    Ok(events)
+}
+
+#[test]
+fn run_slots(rt: HostRuntime) -> Result<(), Fail> {
+    let alloc = rt.alloc();
+    let events = full_table(alloc)?;
     let setting = Setting {
         shape: WIDE,
         program: EXIT_ONE,
         context_len: 0,
     };
-    let mut m = machine(alloc, &setting)?;
-    let told = replay(alloc, &mut m, &events)?;
-    assert_eq!(rt; told.as_str(), events.as_str());
+    let (model, world) = answers(alloc, &setting, &events)?;
+    assert_eq!(rt; model.as_str(), events.as_str());
+    let Some(world) = world else {
+        return Err(Fail::from("a program is refused"));
+    };
+    assert_eq!(rt; world.as_str(), events.as_str());
     Ok(())
 }

@@ -110,7 +110,7 @@ fn given_name(given: Given) -> &'static str {
     }
 }
 
-fn tell_answer(alloc: Global, text: &mut String, answer: &Answer) -> Result<(), AllocError> {
+pub fn tell_answer(alloc: Global, text: &mut String, answer: &Answer) -> Result<(), AllocError> {
     match answer {
         Answer::Started(run) => write!(text, "run {}", run.index()),
         Answer::Moved => write!(text, "moved"),

@@ -1,0 +1,91 @@
+//! What is answered and timed.
+
+use bpf_model::MapShape;
+
+/// A program whose steps are timed.
+#[derive(Clone, Copy, Debug, PartialEq, Eq)]
+pub enum Stepped {
+    Arithmetic,
+    Lookup,
+}
+
+/// What is done to a world.
+#[derive(Clone, Copy, Debug, PartialEq, Eq)]
+pub enum Deed {
+    /// Reads of keys, of which about half are there.
+    Reads,
+    /// A new key is stored and removed, two grace periods end, and it is reclaimed.
+    Cycles,
+    /// Steps of runs.
+    Steps(Stepped),
+}
+
+/// An activity over one map, of whose keys every other one has an element.
+#[derive(Clone, Copy)]
+pub struct Activity {
+    pub name: &'static str,
+    pub deed: Deed,
+    pub shape: MapShape,
+}
+
+/// The maps have room for twice the elements that stand in them, and as many slots more.
+const fn shape(key_len: usize, value_len: usize, entries: usize) -> MapShape {
+    MapShape {
+        key_len,
+        value_len,
+        entries,
+        spare: entries,
+        reuse_limit: 4_294_967_295,
+    }
+}
+
+/// A map of 1,024 elements with keys and values of 8 bytes.
+const fn small() -> MapShape {
+    shape(8, 8, 1024)
+}
+
+/// A map of 4,096 elements with keys of 64 bytes and values of 256.
+const fn large() -> MapShape {
+    shape(64, 256, 4096)
+}
+
+/// The activities, in the order in which they are printed.
+pub fn activities() -> [Activity; 7] {
+    [
+        Activity {
+            name: "read_key8_value8_of_1024",
+            deed: Deed::Reads,
+            shape: small(),
+        },
+        Activity {
+            name: "read_key64_value256_of_4096",
+            deed: Deed::Reads,
+            shape: large(),
+        },
+        Activity {
+            name: "cycle_key8_value8_of_1024",
+            deed: Deed::Cycles,
+            shape: small(),
+        },
+        Activity {
+            name: "cycle_key64_value256_of_4096",
+            deed: Deed::Cycles,
+            shape: large(),
+        },
+        Activity {
+            name: "step_arithmetic",
+            deed: Deed::Steps(Stepped::Arithmetic),
+            shape: small(),
+        },
+        Activity {
+            name: "step_lookup_key8_value8_of_1024",
+            deed: Deed::Steps(Stepped::Lookup),
+            shape: small(),
+        },
+        Activity {
+            name: "step_lookup_key64_value256_of_4096",
+            deed: Deed::Steps(Stepped::Lookup),
+            shape: large(),
+        },
+    ]
+}

@@ -1,0 +1,33 @@
+//! The words of the command line.
+ghost use Rattle.std.specs.Prelude.{◌≡◌, ◌↔◌, ◌∷◌, [], Ok, map, codes, string_bytes};
+ghost use Rattle.world_bench.specs.declared.command.Command.TheVariants.{Answers, Times};
+
+use thiserror::Error;
+
+/// What the program is asked to do.
+#[derive(Clone, Copy, Debug, PartialEq, Eq)]
+pub enum Command {
+    /// Print what the events of each activity are answered.
+    Answers,
+    /// Print how long each activity takes.
+    Times,
+}
+
+/// Why the words are no command.
+#[derive(Clone, Copy, Debug, PartialEq, Eq, Error)]
+pub enum UsageFault {
+    #[error("usage: world_bench [time]")]
+    Words,
+}
+
+/// The command that the words after the program's own ask for: none, or `time`.
+pub fn parse_words(words: &[String]) -> Result<Command, UsageFault>
+    ensures answers { (words.now ≡ []) ↔ (result ≡ Ok Answers) }
+    ensures times { (map string_bytes words.now ≡ codes "time" ∷ []) ↔ (result ≡ Ok Times) }
+{
+    match words {
+        [] => Ok(Command::Answers),
+        [word] if word.as_str() == "time" => Ok(Command::Times),
+        _ => Err(UsageFault::Words),
+    }
+}

@@ -1,0 +1,28 @@
+//! The lines that the program prints.
+
+use crate::decimal::Decimal;
+use crate::tally::Tally;
+use std::alloc::{AllocError, Global};
+
+/// The line of an activity: its name, and what its events were answered.
+pub fn answers_line(alloc: Global, name: &str, tally: &Tally) -> Result<String, AllocError> {
+    format!(in alloc;
+        "{name} moved {} exited {} made {} found {} absent {} reclaimed {} other {} sum {}",
+        tally.moved,
+        tally.exited,
+        tally.made,
+        tally.found,
+        tally.absent,
+        tally.reclaimed,
+        tally.other,
+        tally.sum
+    )
+}
+
+/// The line of a measurement: its name, and the number with two decimal places.
+pub fn measurement_line(alloc: Global, name: &str, value: Decimal) -> Result<String, AllocError> {
+    let whole = value.whole;
+    let tenths = value.hundredths / 10;
+    let hundredths = value.hundredths % 10;
+    format!(in alloc; "{name} {whole}.{tenths}{hundredths}")
+}

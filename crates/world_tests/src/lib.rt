@@ -1,0 +1,29 @@
+//! Tests of the world, and of the plain model beside it: lists of events and the answers that they must have, worked
+//! out by hand, and generated lists on which both must agree. Since the plain model's answers are proved to be the
+//! definitions' own, its answers are tests of the definitions.
+#![tactic(auto)]
+
+#[cfg(test)]
+mod altered;
+#[cfg(test)]
+mod cases;
+#[cfg(test)]
+mod compiled;
+#[cfg(test)]
+mod generated;
+#[cfg(test)]
+mod making;
+#[cfg(test)]
+mod programs;
+#[cfg(test)]
+mod questions;
+#[cfg(test)]
+mod random;
+#[cfg(test)]
+mod refusals;
+#[cfg(test)]
+mod replay;
+#[cfg(test)]
+mod runs;
+#[cfg(test)]
+mod script;

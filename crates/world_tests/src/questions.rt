@@ -1,0 +1,174 @@
+//! What a world is asked outside of events, and many events at once.
+use crate::generated::{SHAPES, event, sources};
+use crate::making::{Source, bytes_of, loaded, world_of};
+use crate::programs::{EXIT_ONE, LOAD};
+use crate::random::Random;
+use crate::replay::{counts_text, replay};
+use crate::script::tell_answer;
+use bpf_model::{CtxBytes, Event, KeyBytes, MapId, MapShape, RunId};
+use map_verifier::Verified;
+use std::alloc::Global;
+use std::test::Fail;
+
+const SHAPE: MapShape = MapShape {
+    key_len: 4,
+    value_len: 8,
+    entries: 4,
+    spare: 4,
+    reuse_limit: 100,
+};
+
+/// The value of the context's key, or 0.
+const LOADING: Source = Source {
+    lines: LOAD,
+    maps: &[0],
+    context_len: 1,
+};
+
+/// A program of another text, for contexts of the same length.
+const OTHER: Source = Source {
+    lines: EXIT_ONE,
+    maps: &[0],
+    context_len: 1,
+};
+
+/// A verdict of its own on a program's text.
+fn verified(alloc: Global, source: &Source) -> Result<Verified, Fail> {
+    Ok(loaded(alloc, &[SHAPE], source)?.verified)
+}
+
+/// Run 0 has exited with 5, run 1 with 0, run 2 with 1, and run 3 is still running.
+const BEFORE: &str = "put 0 01000000 0500000000000000 0 = ret 0\n\
+start 0 01 = run 0\n\
+start 0 02 = run 1\n\
+start 1 01 = run 2\n\
+start 0 01 = run 3\n\
+step 0 20 = exit 5\n\
+step 1 20 = exit 0\n\
+step 2 20 = exit 1\n\
+step 3 20 = exit 5\n\
+drop 3 = ok\n\
+start 0 01 = run 3\n\
+step 3 9 = moved\n\
+start 0 01 = run 4\n\
+step 4 20 = exit 5\n\
+drop 4 = ok\n\
+stat = stat linked 1 unlinked 0 given 0 worn 0 runs 4 open 1\n";
+
+/// A run slot, whether it is asked of the loading program, and the context's byte; and the exit value.
+static EXITS: [(usize, bool, u8, Option<u64>); 12] = [
+    (0, true, 1, Some(5)),
+    (0, true, 2, None),
+    (0, false, 1, None),
+    (1, true, 2, Some(0)),
+    (1, true, 1, None),
+    (2, false, 1, Some(1)),
+    (2, true, 1, None),
+    (3, true, 1, None),
+    (4, true, 1, None),
+    (5, true, 1, None),
+    (63, true, 1, None),
+    (64, true, 1, None),
+];
+
+/// An exit value is told of a run that has ended, of an equal program and context, and of no other.
+#[test]
+fn exits_of_runs(rt: HostRuntime) -> Result<(), Fail> {
+    let alloc = rt.alloc();
+    let mut world = world_of(alloc, &[SHAPE], &[LOADING, OTHER])?;
+    assert_eq!(rt; replay(alloc, &mut world, BEFORE)?.as_str(), BEFORE);
+    let loading = verified(alloc, &LOADING)?;
+    let other = verified(alloc, &OTHER)?;
+    for (slot, is_loading, byte, exit) in &EXITS {
+        let program = if *is_loading { &loading } else { &other };
+        let told = world.exit_of(RunId::new(*slot), program, &bytes_of(&[*byte]));
+        assert_eq!(rt; told, *exit, "slot {slot}");
+    }
+    let longer = world.exit_of(RunId::new(0), &loading, &CtxBytes::new());
+    assert_eq!(rt; longer, None);
+    Ok(())
+}
+
+/// Elements in another order than that of their keys' bytes; then one is deleted, and one replaced.
+const FILLED: &str = "put 0 00010000 0100000000000000 0 = ret 0\n\
+put 0 ff000000 0200000000000000 0 = ret 0\n\
+put 0 00000000 0300000000000000 0 = ret 0\n\
+put 0 00ff0000 0400000000000000 0 = ret 0\n\
+del 0 ff000000 = ret 0\n\
+put 0 000000ff 0500000000000000 0 = ret 0\n\
+put 0 00010000 0600000000000000 2 = ret 0\n\
+put 1 02000000 0700000000000000 0 = ret 0\n";
+
+/// A map, the key above which an element is sought, and its key and the first byte of its value.
+static ABOVE: [(usize, Option<[u8; 4]>, Option<([u8; 4], u8)>); 11] = [
+    (0, None, Some(([0, 0, 0, 0], 3))),
+    (0, Some([0, 0, 0, 0]), Some(([0, 0, 0, 255], 5))),
+    (0, Some([0, 0, 0, 255]), Some(([0, 1, 0, 0], 6))),
+    (0, Some([0, 1, 0, 0]), Some(([0, 255, 0, 0], 4))),
+    (0, Some([0, 255, 0, 0]), None),
+    (0, Some([0, 0, 255, 0]), Some(([0, 1, 0, 0], 6))),
+    (0, Some([255, 0, 0, 0]), None),
+    (1, None, Some(([2, 0, 0, 0], 7))),
+    (1, Some([2, 0, 0, 0]), None),
+    (2, None, None),
+    (2, Some([0, 0, 0, 0]), None),
+];
+
+#[test]
+fn elements_in_order(rt: HostRuntime) -> Result<(), Fail> {
+    let alloc = rt.alloc();
+    let mut world = world_of(alloc, &[SHAPE, SHAPE], &[])?;
+    assert_eq!(rt; replay(alloc, &mut world, FILLED)?.as_str(), FILLED);
+    for (map, above, wanted) in &ABOVE {
+        let bound: Option<KeyBytes> = match above {
+            Some(key) => Some(bytes_of(key)),
+            None => None,
+        };
+        let found = world.next_above(MapId::new(*map), bound.as_ref());
+        let told = match &found {
+            Some((found, value)) => Some((found.as_slice(), value.as_slice().first().copied())),
+            None => None,
+        };
+        let wanted = wanted
+            .as_ref()
+            .map(|(key, byte)| (key.as_slice(), Some(*byte)));
+        assert!(rt; told == wanted, "map {map} above {above:?}");
+    }
+    assert!(rt; world.registry().id("m1").is_some_and(|id| id.index() == 1));
+    assert_eq!(rt; world.registry().len(), 2);
+    Ok(())
+}
+
+/// So many generated events.
+fn some_events(alloc: Global, count: usize) -> Result<Vec<Event>, Fail> {
+    let mut events = Vec::new(alloc);
+    let mut random = Random::new(0x2545_f491_4f6c_dd1d);
+    for _ in 0..count {
+        events.push(event(&mut random, 0))?;
+    }
+    Ok(events)
+}
+
+/// `run_all` answers as `apply` does event by event, and leaves an equal world.
+#[test]
+fn many_events_at_once(rt: HostRuntime) -> Result<(), Fail> {
+    let alloc = rt.alloc();
+    let mut world = world_of(alloc, &SHAPES, &sources())?;
+    let mut other = world_of(alloc, &SHAPES, &sources())?;
+    let events = some_events(alloc, 1500)?;
+    let answers = world.run_all(alloc, &events)?;
+    assert_eq!(rt; answers.len(), 1500);
+    for (event, answer) in events.iter().zip(answers.iter()) {
+        let mut told = String::new(alloc);
+        tell_answer(alloc, &mut told, answer)?;
+        let mut wanted = String::new(alloc);
+        tell_answer(alloc, &mut wanted, &other.apply(event))?;
+        assert_eq!(rt; told.as_str(), wanted.as_str());
+    }
+    let told = counts_text(alloc, &world)?;
+    let wanted = counts_text(alloc, &other)?;
+    assert_eq!(rt; told.as_str(), wanted.as_str());
+    let none = world.run_all(alloc, &[])?;
+    assert_eq!(rt; none.len(), 0);
+    Ok(())
+}

@@ -1,0 +1,165 @@
+//! Worlds that are not made, and the fault that is told.
+use crate::making::{assembled, judged, numbers_of, registry_of};
+use crate::programs::{EXIT_ONE, LOOKUP};
+use bpf_model::MapShape;
+use std::alloc::Global;
+use std::test::Fail;
+use world::{World, WorldFault};
+use world_parts::Loaded;
+
+const SHAPE: MapShape = MapShape {
+    key_len: 4,
+    value_len: 8,
+    entries: 4,
+    spare: 4,
+    reuse_limit: 100,
+};
+
+/// Another shape, of equal lengths: what a program was verified for is the shape as a whole.
+const OTHER: MapShape = MapShape {
+    entries: 5,
+    ..SHAPE
+};
+
+/// How a program is bound.
+#[derive(Clone, Copy, Debug, PartialEq, Eq)]
+enum Bound {
+    /// A lookup, verified for one map of the first shape and bound to map 0.
+    Well,
+    /// The same bound to map 1, which has the other shape.
+    OtherShape,
+    /// The same bound to map 2, which is not there.
+    Missing,
+    /// The same bound to no map.
+    TooFew,
+    /// The same bound to map 0 twice.
+    TooMany,
+    /// A program without maps.
+    None,
+}
+
+/// The maps to which a lookup is bound.
+fn maps_of(bound: Bound) -> &'static [usize] {
+    match bound {
+        Bound::Well => &[0],
+        Bound::OtherShape => &[1],
+        Bound::Missing => &[2],
+        Bound::TooFew | Bound::None => &[],
+        Bound::TooMany => &[0, 0],
+    }
+}
+
+fn program(alloc: Global, bound: Bound) -> Result<Loaded, Fail> {
+    let (lines, verified_for): (&str, &[usize]) = match bound {
+        Bound::None => (EXIT_ONE, &[]),
+        _ => (LOOKUP, &[0]),
+    };
+    let program = assembled(alloc, lines)?;
+    match judged(alloc, program, &[SHAPE], verified_for, 0)? {
+        Ok(verified) => Ok(Loaded {
+            verified,
+            maps: numbers_of(maps_of(bound)),
+        }),
+        Err(_) => Err(Fail::from("a program is refused")),
+    }
+}
+
+/// So many programs without maps, then these; and the fault, by its number and, if it tells one, its program.
+struct Row {
+    plain: usize,
+    programs: &'static [Bound],
+    told: Option<(u8, Option<usize>)>,
+}
+
+/// A world has 64 programs at most, which is tested first; then the first program that is not bound is told.
+static ROWS: [Row; 12] = [
+    Row {
+        plain: 0,
+        programs: &[],
+        told: None,
+    },
+    Row {
+        plain: 0,
+        programs: &[Bound::Well, Bound::None],
+        told: None,
+    },
+    Row {
+        plain: 64,
+        programs: &[],
+        told: None,
+    },
+    Row {
+        plain: 65,
+        programs: &[],
+        told: Some((54, None)),
+    },
+    Row {
+        plain: 64,
+        programs: &[Bound::Missing],
+        told: Some((54, None)),
+    },
+    Row {
+        plain: 63,
+        programs: &[Bound::Missing],
+        told: Some((55, Some(63))),
+    },
+    Row {
+        plain: 0,
+        programs: &[Bound::Well, Bound::Missing],
+        told: Some((55, Some(1))),
+    },
+    Row {
+        plain: 0,
+        programs: &[Bound::OtherShape],
+        told: Some((55, Some(0))),
+    },
+    Row {
+        plain: 1,
+        programs: &[Bound::TooFew],
+        told: Some((55, Some(1))),
+    },
+    Row {
+        plain: 2,
+        programs: &[Bound::TooMany],
+        told: Some((55, Some(2))),
+    },
+    Row {
+        plain: 0,
+        programs: &[Bound::Well, Bound::TooFew, Bound::OtherShape],
+        told: Some((55, Some(1))),
+    },
+    Row {
+        plain: 1,
+        programs: &[Bound::OtherShape, Bound::Missing, Bound::Well],
+        told: Some((55, Some(1))),
+    },
+];
+
+/// What is told of a row's programs.
+fn told(alloc: Global, row: &Row) -> Result<Option<(u8, Option<usize>)>, Fail> {
+    let mut programs = Vec::new(alloc);
+    for _ in 0..row.plain {
+        programs.push(program(alloc, Bound::None)?)?;
+    }
+    for bound in row.programs {
+        programs.push(program(alloc, *bound)?)?;
+    }
+    let registry = registry_of(alloc, &[SHAPE, OTHER])?;
+    match World::new(alloc, registry, programs) {
+        Ok(_) => Ok(None),
+        Err(fault) => match fault {
+            WorldFault::Binding { program } => Ok(Some((fault.code(), Some(program.index())))),
+            _ => Ok(Some((fault.code(), None))),
+        },
+    }
+}
+
+/// Want of memory (13) is not made here: `rt try --test --fail-alloc N` makes it, allocation by allocation.
+#[test]
+fn worlds_that_are_not_made(rt: HostRuntime) -> Result<(), Fail> {
+    let alloc = rt.alloc();
+    for (number, row) in ROWS.iter().enumerate() {
+        assert_eq!(rt; told(alloc, row)?, row.told, "row {number}");
+    }
+    Ok(())
+}

@@ -1,0 +1,113 @@
+//! Machines and worlds over lines of events.
+use crate::script::{Command, command_of, tell, tell_answer};
+use bpf_model::{Answer, Event, RunId};
+use plain_model::Machine;
+use plain_store::Fault;
+use std::alloc::{AllocError, Global};
+use std::fmt::Write;
+use std::test::Fail;
+use world::World;
+use world_parts::Stat;
+
+/// What answers events.
+pub trait Answering {
+    /// The answer, or a fault where the definitions' machine has no step.
+    fn answer(&mut self, event: Event) -> Result<Answer, Fault>;
+
+    fn counts(&self) -> Stat;
+}
+
+impl Answering for Machine {
+    fn answer(&mut self, event: Event) -> Result<Answer, Fault> {
+        self.apply(event)
+    }
+
+    fn counts(&self) -> Stat {
+        let totals = self.totals();
+        Stat {
+            linked: totals.linked,
+            unlinked: totals.unlinked,
+            given: totals.given,
+            worn: totals.worn as usize,
+            runs: totals.runs,
+            open: totals.open,
+        }
+    }
+}
+
+impl Answering for World {
+    fn answer(&mut self, event: Event) -> Result<Answer, Fault> {
+        Ok(self.apply(&event))
+    }
+
+    fn counts(&self) -> Stat {
+        self.stat()
+    }
+}
+
+/// The last answer of at most so many steps, up to the exit.
+fn steps<M: Answering>(machine: &mut M, run: RunId, count: usize) -> Result<Answer, Fault> {
+    let mut last = machine.answer(Event::Step { run });
+    for _ in 1..count {
+        if !matches!(last, Ok(Answer::Moved)) {
+            return last;
+        }
+        last = machine.answer(Event::Step { run });
+    }
+    last
+}
+
+fn tell_counts(text: &mut String, counts: Stat) -> Result<(), AllocError> {
+    write!(
+        text,
+        "stat linked {} unlinked {} given {} worn {} runs {} open {}",
+        counts.linked, counts.unlinked, counts.given, counts.worn, counts.runs, counts.open
+    )
+}
+
+/// The answer to the line of an event.
+fn answer<M: Answering>(alloc: Global, machine: &mut M, line: &str) -> Result<String, Fail> {
+    let mut text = String::new(alloc);
+    match command_of(alloc, line)? {
+        Command::Apply(event) => tell(alloc, &mut text, &machine.answer(event))?,
+        Command::Step(run, count) => tell(alloc, &mut text, &steps(machine, run, count))?,
+        Command::Stat => tell_counts(&mut text, machine.counts())?,
+    }
+    Ok(text)
+}
+
+/// The lines, each an event, ` = ` and its answer, with the answers that the machine gives.
+pub fn replay<M: Answering>(alloc: Global, machine: &mut M, lines: &str) -> Result<String, Fail> {
+    let mut text = String::new(alloc);
+    for line in lines.lines() {
+        let Some((event, _)) = line.split_once(" = ") else {
+            return Err(Fail::from("no answer is wanted"));
+        };
+        let answer = answer(alloc, machine, event)?;
+        writeln!(text, "{event} = {answer}")?;
+    }
+    Ok(text)
+}
+
+/// The world's answer, and its text and the plain model's.
+pub fn apply_both(
+    alloc: Global,
+    world: &mut World,
+    model: &mut Machine,
+    event: Event,
+) -> Result<(Answer, String, String), AllocError> {
+    let told = world.apply(&event);
+    let wanted = model.apply(event);
+    let mut text = String::new(alloc);
+    tell_answer(alloc, &mut text, &told)?;
+    let mut other = String::new(alloc);
+    tell(alloc, &mut other, &wanted)?;
+    Ok((told, text, other))
+}
+
+/// The counts as text.
+pub fn counts_text<M: Answering>(alloc: Global, machine: &M) -> Result<String, AllocError> {
+    let mut text = String::new(alloc);
+    tell_counts(&mut text, machine.counts())?;
+    Ok(text)
+}

@@ -1,0 +1,222 @@
+#!/usr/bin/env python3
+"""What the programs with maps compute on this computer: rows of the table in crates/world_tests/src/compiled.rt.
+
+    values.py > rows
+
+Each program is compiled by the C compiler (cc) with ./bpf.h, where maps are arrays. It goes through the lines below, and
+what it answers is written behind them. The code is that of the program file, ../NAME.bpfrt.
+"""
+
+import pathlib
+import re
+import struct
+import subprocess
+import sys
+import tempfile
+
+HERE = pathlib.Path(__file__).resolve().parent
+
+DRIVER = """
+#include <stdio.h>
+#include <stdlib.h>
+static u8 key[64], value[256];
+static _Alignas(8) u8 context[256];
+static struct bpf_map *maps[] = {%(maps)s};
+static void read_bytes(const char *word, u8 *to)
+{
+    for (; word[0] > ' ' && word[0] != '-'; word += 2) {
+        unsigned byte;
+        sscanf(word, "%%2x", &byte);
+        *to++ = byte;
+    }
+}
+int main(void)
+{
+    static char verb[8], first[600], second[600];
+    int map;
+    while (scanf("%%7s", verb) == 1) {
+        if (verb[0] == 'p') {
+            scanf("%%d %%599s %%599s", &map, first, second);
+            read_bytes(first, key);
+            read_bytes(second, value);
+            printf("%%lld\\n", bpf_map_update_elem(maps[map], key, value, 0));
+        } else if (verb[0] == 'g') {
+            scanf("%%d %%599s", &map, first);
+            read_bytes(first, key);
+            u8 *found = bpf_map_lookup_elem(maps[map], key);
+            for (u32 i = 0; found && i < maps[map]->value_len; i++)
+                printf("%%02x", found[i]);
+            puts(found ? "" : "none");
+        } else {
+            scanf("%%599s", first);
+            read_bytes(first, context);
+            printf("%%llu\\n", %(function)s((const void *)context));
+        }
+    }
+    return 0;
+}
+"""
+
+
+def pack(form, *numbers):
+    return struct.pack("<" + form, *numbers).hex()
+
+
+def packet(length, port, protocol=6, header=5, kind=0x0800):
+    """An Ethernet frame with an IPv4 header of so many words."""
+    data = bytearray(120)
+    data[12:14] = kind.to_bytes(2, "big")
+    data[14] = 0x40 | header
+    data[23] = protocol
+    at = 14 + 4 * header
+    data[at + 2:at + 4] = port.to_bytes(2, "big")
+    return pack("II", length, 0) + data.hex()
+
+
+def window(rule, at, first, second):
+    data = bytearray(128)
+    data[at & 0x70:(at & 0x70) + 16] = struct.pack("<QQ", first, second)
+    return pack("IHH", rule, at, 0) + data.hex()
+
+
+# The lines of each program: ("put", map, key, value), ("get", map, key), ("run", context).
+LINES = {
+    "bitmap": [
+        ("put", 0, pack("I", 7), pack("QQQQII", 1, 0, 0, 1 << 63, 2, 0)),
+        ("run", pack("II", 7, 0)), ("run", pack("II", 7, 1)), ("run", pack("II", 7, 1)),
+        ("run", pack("II", 7, 255)), ("run", pack("II", 7, 130)), ("run", pack("II", 7, 256)),
+        ("run", pack("II", 8, 1)), ("get", 0, pack("I", 7)),
+    ],
+    "compared_index": [
+        ("put", 0, pack("I", 3), pack("11Q", 100, *range(10))),
+        ("run", pack("QII10IQ", 5, 3, 2, *range(10, 20), 9)),
+        ("run", pack("QII10IQ", 2, 3, 9, *range(10, 20), 0)),
+        ("run", pack("QII10IQ", 2, 3, 10, *range(10, 20), 0)),
+        ("run", pack("QII10IQ", 2, 3, 0, *range(10, 20), 10)),
+        ("run", pack("QII10IQ", 2, 4, 0, *range(10, 20), 1)),
+        ("get", 0, pack("I", 3)),
+    ],
+    "counter": [
+        ("run", pack("II", 5, 100)), ("run", pack("II", 5, 23)), ("run", pack("II", 6, 1)),
+        ("run", pack("II", 5, 7)), ("get", 0, pack("I", 5)), ("get", 0, pack("I", 6)),
+        ("get", 0, pack("I", 7)),
+    ],
+    "divided_index": [
+        ("put", 0, pack("I", 1), pack("24I4H", *range(24), 1, 2, 3, 65535)),
+        ("run", pack("IIII", 1, 3600, 899, 10)), ("run", pack("IIII", 1, 86399, 3599, 4)),
+        ("run", pack("IIII", 1, 86400, 0, 1)), ("run", pack("IIII", 1, 0, 3600, 1)),
+        ("run", pack("IIII", 2, 0, 0, 1)), ("get", 0, pack("I", 1)),
+    ],
+    "histogram": [
+        ("put", 0, pack("Q", 9), pack("Q16I", 1, *([0] * 16))),
+        ("run", pack("QQ", 9, 0)), ("run", pack("QQ", 9, 5)), ("run", pack("QQ", 9, 70000)),
+        ("run", pack("QQ", 9, 1 << 40)), ("run", pack("QQ", 8, 5)), ("get", 0, pack("Q", 9)),
+    ],
+    "packet_filter": [
+        ("put", 0, pack("H", 80), pack("II", 1, 0)), ("put", 0, pack("H", 22), pack("II", 0, 5)),
+        ("run", packet(60, 80)), ("run", packet(60, 22)), ("run", packet(60, 81)),
+        ("run", packet(60, 80, header=15)), ("run", packet(120, 80, header=15)),
+        ("run", packet(60, 80, protocol=1)), ("run", packet(60, 80, protocol=17)),
+        ("run", packet(33, 80)), ("run", packet(60, 80, kind=0x86DD)), ("run", packet(60, 80, header=4)),
+        ("get", 0, pack("H", 80)), ("get", 0, pack("H", 22)),
+    ],
+    "policy": [
+        ("put", 0, pack("IHBB", 10, 443, 6, 1), pack("IIQ", 1, 100, 0)),
+        ("put", 0, pack("IHBB", 0, 443, 6, 1), pack("IIQ", 0, 1000, 990)),
+        ("run", pack("IHBBQ", 10, 443, 6, 1, 60)), ("run", pack("IHBBQ", 10, 443, 6, 3, 60)),
+        ("run", pack("IHBBQ", 11, 443, 6, 1, 5)), ("run", pack("IHBBQ", 11, 443, 6, 1, 50)),
+        ("run", pack("IHBBQ", 11, 443, 6, 0, 5)),
+        ("get", 0, pack("IHBB", 10, 443, 6, 1)), ("get", 0, pack("IHBB", 0, 443, 6, 1)),
+    ],
+    "rate_limit": [
+        ("run", pack("QQIB3x", 77, 1000, 5, 0)), ("run", pack("QQIB3x", 77, 1000, 600, 0)),
+        ("run", pack("QQIB3x", 77, 1016, 402, 0)), ("run", pack("QQIB3x", 77, 1032, 401, 0)),
+        ("get", 0, pack("Q", 77)), ("run", pack("QQIB3x", 77, 0, 0, 1)),
+        ("run", pack("QQIB3x", 77, 0, 0, 1)), ("get", 0, pack("Q", 77)),
+        ("run", pack("QQIB3x", 77, 99, 1, 0)), ("get", 0, pack("Q", 77)),
+    ],
+    "signed_index": [
+        ("put", 0, pack("I", 1), bytes(range(64)).hex()),
+        ("run", pack("Iiii", 1, 3, 4, 1)), ("run", pack("Iiii", 1, 7, 0, 1)),
+        ("run", pack("Iiii", 1, 0, 7, -1)), ("run", pack("Iiii", 1, 5, 2, -9)),
+        ("run", pack("Iiii", 1, -1, 2, 1)), ("run", pack("Iiii", 1, 2, 8, 1)),
+        ("run", pack("Iiii", 2, 2, 2, 1)), ("get", 0, pack("I", 1)),
+    ],
+    "spilled": [
+        ("put", 0, pack("I", 1), pack("QQ", 500, 0)), ("put", 0, pack("I", 2), pack("QQ", 50, 0)),
+        ("put", 1, pack("I", 1), pack("QQ", 0, 0)), ("put", 1, pack("I", 5), pack("QQ", 7, 0)),
+        ("run", pack("IIIIQQ", 1, 2, 1, 5, 100, 200)), ("run", pack("IIIIQQ", 1, 2, 1, 5, 300, 200)),
+        ("run", pack("IIIIQQ", 2, 1, 1, 5, 145, 200)), ("run", pack("IIIIQQ", 1, 3, 1, 5, 1, 200)),
+        ("run", pack("IIIIQQ", 1, 1, 1, 5, 400, 400)),
+        ("get", 0, pack("I", 1)), ("get", 0, pack("I", 2)), ("get", 1, pack("I", 1)),
+        ("get", 1, pack("I", 5)),
+    ],
+    "two_hops": [
+        ("put", 0, pack("Q", 100), pack("II", 4, 0)), ("put", 0, pack("Q", 101), pack("II", 5, 9)),
+        ("put", 1, pack("I", 4), pack("8I", 6, 1, 2, 4, 8, 16, 32, 64)),
+        ("run", pack("QII", 100, 2, 0)), ("run", pack("QII", 100, 2, 1)), ("run", pack("QII", 100, 7, 1)),
+        ("run", pack("QII", 101, 2, 1)), ("run", pack("QII", 102, 2, 1)),
+        ("get", 0, pack("Q", 100)), ("get", 0, pack("Q", 101)),
+    ],
+    "window": [
+        ("put", 0, pack("I", 1), pack("QQ4I", 0xff00, 0x1200, 0, 0, 0, 0)),
+        ("run", window(1, 16, 0x34123456, 0x1234)), ("run", window(1, 0x73, 0x1200, 0)),
+        ("run", window(1, 0, 0, 0xff)), ("run", window(1, 0xffff, 0x121212, 0xff0012ff)),
+        ("run", window(2, 0, 0x1200, 0)), ("get", 0, pack("I", 1)),
+    ],
+}
+
+
+def native(name, folder):
+    """What the program answers to its lines."""
+    source = (HERE.parent / f"{name}.c").read_text().replace('#include "bpf.h"', f'#include "{HERE}/bpf.h"')
+    function = re.findall(r"^u64 (\w+)\(const struct", source, re.M)[-1]
+    maps = re.findall(r"^MAP\((\w+),", source, re.M)
+    file = folder / f"{name}.c"
+    file.write_text(source + DRIVER % {"maps": ", ".join("&" + m for m in maps), "function": function})
+    subprocess.run(["cc", "-O1", "-w", "-o", folder / name, file], check=True)
+    text = "\n".join(" ".join(map(str, line)) for line in LINES[name])
+    return subprocess.run([folder / name], input=text, capture_output=True, text=True, check=True).stdout.split()
+
+
+def events(name, folder):
+    """The lines of events with their answers."""
+    for line, told in zip(LINES[name], native(name, folder), strict=True):
+        verb, *words = line
+        if verb == "put":
+            yield f"put {words[0]} {words[1]} {words[2]} 0 = ret {told}"
+        elif verb == "get":
+            yield f"get {words[0]} {words[1]} = " + (told if told == "none" else f"value {told}")
+        else:
+            yield f"start 0 {words[0]} = run 0"
+            yield f"step 0 4096 = exit {told}"
+            yield "drop 0 = ok"
+
+
+def program(name):
+    """The length of the context, the shapes of the maps, and the slots of a program file."""
+    lines = (HERE.parent / f"{name}.bpfrt").read_text().split("\n")
+    context = next(int(line.split()[1]) for line in lines if line.startswith("ctx "))
+    shapes = [line.split()[2:] for line in lines if line.startswith("map ")]
+    return context, shapes, " ".join(lines[lines.index("code") + 1:]).split()
+
+
+def row(name, folder):
+    context, shapes, slots = program(name)
+    fields = ("key_len", "value_len", "entries", "spare", "reuse_limit")
+    maps = ", ".join("MapShape { " + ", ".join(f"{f}: {n}" for f, n in zip(fields, shape)) + " }" for shape in shapes)
+    code = " \\\n".join(" ".join(slots[i:i + 5]) for i in range(0, len(slots), 5))
+    text = "\\n\\\n".join(events(name, folder))
+    return (f'    Row {{\n        name: "{name}",\n        context: {context},\n        maps: &[{maps}],\n'
+            f'        code: "{code}",\n        events: "{text}\\n",\n    }},')
+
+
+def main():
+    with tempfile.TemporaryDirectory() as folder:
+        for name in LINES:
+            print(row(name, pathlib.Path(folder)))
+    return 0
+
+
+if __name__ == "__main__":
+    sys.exit(main())
