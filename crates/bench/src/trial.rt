@@ -1,18 +1,19 @@
 //! A verified program and a context to run it on.
 ghost use Rattle.std.specs.Prelude.{◌≡◌, ℕ, ◌<◌, ◌≤◌, length, slice_index, IfOk};
 ghost use Rattle.bpf_model.specs.declared.limits.TheConstants.{CTX_BYTES, MAX_SLOTS};
+ghost use Rattle.bpf_model.specs.Exit.{ExitsWith};
 ghost use Rattle.bpf_model.specs.Spelling.{text};
-ghost use Rattle.machine.specs.Running.{Finishes};
+ghost use Rattle.lone_runs.specs.Lone.{loaded_alone};
 ghost use Rattle.bench.specs.Trials.{IsReady};
 
 use anyhow::Result;
 use bpf_model::CtxBytes;
 use insn_codec::decode;
-use machine::run_to_exit;
+use lone_runs::run_to_exit;
+use map_verifier::{Verified, verify};
 use std::alloc::Global;
-use verifier::{Verified, verify};
 
-/// A verified program, and a context of the length that it was verified for.
+/// A program that was verified with no maps, and a context of the length that it was verified for.
 #[derive(Drop)]
 pub struct Trial {
     pub verified: Verified,
@@ -61,7 +62,8 @@ pub fn counted_run(trial: &Trial) -> Outcome
     requires { IsReady trial.now }
     ensures least { 0 < result.instructions }
     ensures limit { result.instructions ≤ MAX_SLOTS }
-    ensures exits { Finishes trial.now.verified trial.now.ctx.items result.instructions result.exit }
+    ensures exits { ExitsWith (loaded_alone trial.now.verified) trial.now.ctx.items
+        result.instructions result.exit }
 {
     let finished = run_to_exit(&trial.verified, &trial.ctx);
     Outcome {

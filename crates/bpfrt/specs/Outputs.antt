@@ -8,28 +8,27 @@ use Rattle.bpf_model.specs.Plain.{IsPlain}
 use Rattle.disasm.specs.Text.{program_text}
 use Rattle.insn_codec.specs.declared.fault.DecodeFault.{DecodeFault}
 use Rattle.insn_codec.specs.Faults.{IsDecodeFault, decode_fault_number, decode_fault_slot}
-use Rattle.verifier.specs.declared.refusal.Refusal.{Refusal}
-use Rattle.verifier.specs.Checked.{Checked}
-use Rattle.verifier.specs.Numbers.{refusal_number, refusal_slot}
-use Rattle.verifier.specs.Verdict.{IsToldOf, IsVerified}
+use Rattle.typed_runs.specs.Verified.{IsVerified}
+use Rattle.map_verifier.specs.declared.refusal.Refusal.{Refusal}
+use Rattle.map_verifier.specs.Numbers.{refusal_number, refusal_slot}
+use Rattle.map_verifier.specs.Verdict.{IsToldOf}
 use Rattle.bpfrt.specs.declared.report.Verdict.{Verdict}
 use Rattle.bpfrt.specs.declared.request.Command.{Command}
 use Rattle.bpfrt.specs.declared.request.Command.TheVariants.{Check, Disasm}
 use Rattle.bpfrt.specs.declared.run.Accepted.{Accepted}
 
 -- The bytes are the text of a program that is verified, with no maps and no context.
-pub record IsVerifiedText (bytes : List ℕ) (v : Checked) : Type 0 where
-  pub is : IsVerified v
-  pub text_is : bytes ≡ text v.program
-  pub no_maps : v.shapes ≡ []
-  pub no_context : v.ctx_len ≡ 0
+pub record IsVerifiedText (bytes : List ℕ) (program : List Insn) : Type 0 where
+  pub is : IsProgram program
+  pub text_is : bytes ≡ text program
+  pub verified : IsVerified program [] 0
 
 -- The bytes are such a text, of so many instructions and slots.
 pub record IsAccepted (bytes : List ℕ) (a : Accepted) : Type 0 where
-  pub verified : Checked
-  pub is : IsVerifiedText bytes verified
-  pub instructions : a.instructions ≡ length verified.program
-  pub slots : a.slots ≡ slot_total verified.program
+  pub program : List Insn
+  pub is : IsVerifiedText bytes program
+  pub instructions : a.instructions ≡ length program
+  pub slots : a.slots ≡ slot_total program
 
 -- The bytes are the text of a program, and these lines are its disassembly.
 pub record IsTextOf (bytes lines : List ℕ) : Type 0 where
@@ -84,7 +83,7 @@ accepted_line instructions slots =
 -- what `check` adds to the output for a file that it accepts
 abbrev pub WritesAccepted : Option (List ℕ) → Option (List ℕ) → List ℕ → Type 0
 WritesAccepted old new bytes =
-    (v : Checked) × IsVerifiedText bytes v × Appends old new (accepted_line (length v.program) (slot_total v.program))
+    (program : List Insn) × IsVerifiedText bytes program × Appends old new (accepted_line (length program) (slot_total program))
 
 -- what `disasm` adds for a file that is a program
 abbrev pub WritesText : Option (List ℕ) → Option (List ℕ) → List ℕ → Type 0

@@ -8,10 +8,10 @@ use crate::program_file::{FileBytes, read_file};
 use crate::report::{Verdict, fault, refused};
 use crate::request::Command;
 use disasm::disassemble;
+use map_verifier::verify;
 use std::alloc::Global;
 use std::io;
 use std::io::{ErrorKind, Read, Write};
-use verifier::verify;
 
 /// How long an accepted program is.
 #[derive(Clone, Copy)]

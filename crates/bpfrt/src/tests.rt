@@ -96,7 +96,7 @@ fn outputs_and_statuses(rt: HostRuntime) -> Result<(), Fail> {
         (&disasm, &WIDE, 0, b"lddw r0, 8589934593\nexit\n", b""),
         (&disasm, &EXIT_ONE[..9], 1, b"", b"refused 1\n"),
         (&disasm, &LOOKUP, 0, LOOKUP_LINES, b""),
-        (&check, &LOOKUP, 1, b"", b"refused 35 at 1\n"),
+        (&check, &LOOKUP, 1, b"", b"refused 37 at 5\n"),
     ];
     for (command, bytes, status, out, err) in rows {
         let mut input = bytes;

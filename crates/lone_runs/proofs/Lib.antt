@@ -1,0 +1,4 @@
+pub mod Alone
+pub mod Ending
+pub mod Going
+pub mod Starting

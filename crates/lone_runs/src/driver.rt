@@ -1,0 +1,46 @@
+//! Whole runs.
+ghost use Rattle.std.specs.Prelude.{◌≡◌, ℕ, [], ◌<◌, ◌≤◌, length};
+ghost use Rattle.bpf_model.specs.declared.limits.TheConstants.{MAX_SLOTS};
+ghost use Rattle.bpf_model.specs.Exit.{ExitsWith, MayExitWith};
+ghost use Rattle.lone_runs.specs.Lone.{loaded_alone};
+
+use crate::step::{Step, start_alone, step_alone};
+use bpf_model::CtxBytes;
+use map_verifier::Verified;
+
+/// How a run ended: its exit value, and how many steps it made, the exit among them.
+#[derive(Clone, Copy, Debug, PartialEq, Eq)]
+pub struct Finished {
+    pub value: u64,
+    pub steps: usize,
+}
+
+/// Runs a program that was verified with no maps on a context to its exit.
+///
+/// The value and the steps are those of the program's definition, which has no others, whatever other
+/// actors do; and the steps are at most as many as it has instructions.
+pub fn run_to_exit(verified: &Verified, ctx: &CtxBytes) -> Finished
+    requires maps { verified.now.shapes ≡ [] }
+    requires context { length ctx.now.items ≡ verified.now.ctx_len }
+    ensures exits { ExitsWith (loaded_alone verified.now) ctx.now.items result.steps result.value }
+    ensures only { (steps value : ℕ) →
+        MayExitWith (loaded_alone verified.now) ctx.now.items steps value →
+        (result.steps ≡ steps) × (result.value ≡ value) }
+    ensures bounded { result.steps ≤ length verified.now.program }
+    ensures some { 0 < result.steps }
+    ensures limit { result.steps ≤ MAX_SLOTS }
+{
+    let _program = verified.program();
+    let mut run = start_alone(verified, ctx);
+    'steps: loop {
+        match step_alone(&mut run, verified) {
+            Step::Moved => {}
+            Step::Exit(value) => {
+                return Finished {
+                    value,
+                    steps: run.moved() + 1,
+                };
+            }
+        }
+    }
+}

@@ -1,0 +1,53 @@
+//! The start of a run, and its steps.
+ghost use Rattle.std.specs.Prelude.{◌≡◌, [], length};
+ghost use Rattle.bpf_model.specs.Event.{AreBytes};
+ghost use Rattle.lone_runs.specs.Lone.{IsLone, IsStep};
+
+use bpf_model::CtxBytes;
+use map_verifier::Verified;
+use world_runs::{Access, Local, Run};
+
+/// What a step came to.
+#[derive(Clone, Copy, Debug, PartialEq, Eq)]
+pub enum Step {
+    /// The run stands before another instruction.
+    Moved,
+    /// The run has exited with this value.
+    Exit(u64),
+}
+
+/// A law: the elements of a slice of bytes are bytes.
+fn are_bytes(bytes: &[u8])
+    ensures { AreBytes bytes.now }
+{}
+
+/// A run of the program on a context that has made no step.
+pub fn start_alone(verified: &Verified, ctx: &CtxBytes) -> Run
+    requires maps { verified.now.shapes ≡ [] }
+    requires context { length ctx.now.items ≡ verified.now.ctx_len }
+    ensures run { IsLone verified.now result }
+    ensures context { result.view.context ≡ ctx.now.items }
+    ensures moved { result.view.moved ≡ 0 }
+{
+    let _program = verified.program();
+    are_bytes(ctx.as_slice());
+    Run::start(0, ctx)
+}
+
+/// One step: of the instruction at the run's place.
+pub fn step_alone(run: &mut Run, verified: &Verified) -> Step
+    requires { IsLone verified.now run.old }
+    ensures { IsStep verified.now run.old result run.new }
+{
+    match run.local_step(verified) {
+        Local::Moved => Step::Moved,
+        Local::Exit(value) => Step::Exit(value),
+        Local::Shared(access) => match access {
+            Access::Enter | Access::Leave => {
+                run.resume(verified, 0);
+                Step::Moved
+            }
+            Access::Load { .. } | Access::Store { .. } | Access::Call { .. } => unreachable!(),
+        },
+    }
+}
