@@ -3,3 +3,4 @@ pub mod Slots
 pub mod Runs
 pub mod Exits
 pub mod Same
+pub mod Stepping

@@ -1,4 +1,4 @@
-//! A world's maps, runs, grace period and programs, with every event but a step.
+//! A world's maps, runs, grace period and programs, with every event.
 //!
 //! Each event is one method, which takes no memory and does not fail: what it answers and what it makes of
 //! the world are one equation on the world's view.
@@ -12,7 +12,7 @@ mod places;
 mod reclaim;
 mod starting;
 mod stat;
-// mod step;
+mod step;
 
 pub use loaded::Loaded;
 pub use parts::Parts;

@@ -1,0 +1,216 @@
+-- A step of a run: what its parts come to in the run's world.
+use Rattle.std.proofs.Common.{◌≡◌, ◌∙◌, ℕ, ◌<◌, refl, sym, ap, subst, arith, List, Option, Some, None, length, inl, inr}
+use Rattle.std.specs.Prelude.{slice_get, slice_set, nat_lt, map, option_map}
+use Rattle.std.proofs.lemmas.Option.{none-some, same_Some, slice_get-map, slice_get_within}
+use Rattle.bpf_model.specs.declared.event.Answer.{Answer}
+use Rattle.bpf_model.specs.declared.event.Answer.TheVariants as answers
+use Rattle.bpf_model.specs.declared.event.Event.TheVariants as events
+use Rattle.bpf_model.specs.declared.event.EventRefusal.{EventRefusal}
+use Rattle.bpf_model.specs.declared.insn.Insn.{Insn}
+use Rattle.bpf_model.specs.declared.limits.TheConstants.{MAX_RUNS}
+use Rattle.bpf_model.specs.Event.{if_ended}
+use Rattle.bpf_model.specs.Machine as machine
+use Rattle.bpf_model.specs.Schedule.{Schedule, still_open}
+use Rattle.bpf_model.specs.Step.{insn_at}
+use Rattle.bpf_model.specs.View.{MapView, RunView, WorldView}
+use Rattle.element_arena.proofs.Counts.{length-set}
+use Rattle.element_arena.proofs.Views.{map-set}
+use Rattle.grace_period.specs.State.{GraceState}
+use Rattle.view_laws.specs.Matching.{Matches}
+use Rattle.view_laws.specs.Reactions.{run_shown, step_refused, step_by, refused_as}
+use Rattle.view_laws.proofs.Updating.{set-same}
+use Rattle.world_laws.specs.Local.{local_of}
+use Rattle.world_laws.specs.Reacting.{insn_step, step_at, step_in, step_of, word_step, or_step, full_reaction}
+use Rattle.world_laws.specs.Typed.{IsSound}
+use Rattle.world_runs.specs.declared.access.Access.{Access}
+use Rattle.world_runs.specs.declared.access.Local.TheVariants as code
+use Rattle.world_runs.specs.Requests.{access_of, resumed_view}
+use Rattle.world_runs.specs.RunWords.{RunWords, IsAt}
+use Rattle.world_runs.specs.Steps.{CanResume, IsStep}
+use Rattle.world_runs.proofs.Laws.{can_step, can_resume}
+use Rattle.helpers.specs.Serving.{CanServe, IsReply, IsFlagged, flags_of, grace_after, maps_after, world_with}
+use Rattle.helpers.proofs.Running.{running, flagged, can_be_served}
+use Rattle.helpers.proofs.Stepping.{own_is, own_keeps, own_asks, served_is, goes_on}
+use Rattle.world_parts.specs.declared.loaded.Loaded.{Loaded}
+use Rattle.world_parts.specs.Programs.{program_of}
+use Rattle.world_parts.specs.Keeping.{view_of, is_inside, IsOfProgram, IsKept, world_of}
+use Rattle.world_parts.specs.Stepping.{CanTake, HasTaken, IsGoing, HasGone}
+use Rattle.world_parts.proofs.Slots.{written}
+
+module _ (loaded : Loaded) (maps : List MapView) (g : GraceState) (r : ℕ) (old : RunWords) (can : CanTake loaded maps g r old) where
+  abbrev v : RunView
+  v = old.view
+
+  abbrev i : Insn
+  i = can.step.insn
+
+  is-flagged : (w : WorldView) → flags_of w ≡ g → IsFlagged w r v
+  is-flagged w e = record {
+    opened = ap (λ (x : GraceState). slice_get x.opened r) e ∙ can.opened;
+    awaited = subst (λ (x : GraceState). still_open x.awaited x.opened ≡ x.awaited) (sym e) can.pass.inside;
+    depth = can.depth;
+  }
+
+  -- the parts of a world, put in for those that they are
+  parts-are : (answer : Answer) (new : RunView) (w : WorldView) → w.maps ≡ maps → flags_of w ≡ g → (let y : Answer × WorldView = (answer, world_with w.maps (flags_of w) r new w) in y) ≡ (answer, world_with maps g r new w)
+  parts-are answer new w em eg =
+      ap (λ (ms : List MapView). (let y : Answer × WorldView = (answer, world_with ms (flags_of w) r new w) in y)) em
+      ∙ ap (λ (x : GraceState). (let y : Answer × WorldView = (answer, world_with maps x r new w) in y)) eg
+
+  same-flags : (new : RunView) → new.depth ≡ v.depth → g.opened ≡ slice_set g.opened r (nat_lt 0 new.depth)
+  same-flags new e = sym (ap (λ d. slice_set g.opened r (nat_lt 0 d)) e ∙ set-same g.opened r (nat_lt 0 v.depth) can.opened)
+
+  -- a step that the run makes by itself
+  pub moved_taken : (new : RunWords) → IsStep (local_of i v) (access_of i v) v code.Moved new.view → IsAt loaded.verified.program new → HasTaken loaded r old new maps maps g g answers.Moved
+  moved_taken new h at =
+      let same = own_keeps i v new.view (access_of i v) code.Moved h in
+      record {
+        insn = i;
+        here = can.step.here;
+        step = λ w em eg. own_is i (program_of loaded) r v new.view w (access_of i v) code.Moved (is-flagged w eg) h ∙ parts-are answers.Moved new.view w em eg;
+        opened = same-flags new.view same.0;
+        program = same.1;
+        stands = at;
+      }
+
+  pub exited_taken : (n : ℕ) (new : RunWords) → IsStep (local_of i v) (access_of i v) v (code.Exit n) new.view → IsAt loaded.verified.program new → HasTaken loaded r old new maps maps g g (answers.Exited n)
+  exited_taken n new h at =
+      let same = own_keeps i v new.view (access_of i v) (code.Exit n) h in
+      record {
+        insn = i;
+        here = can.step.here;
+        step = λ w em eg. own_is i (program_of loaded) r v new.view w (access_of i v) (code.Exit n) (is-flagged w eg) h ∙ parts-are (answers.Exited n) new.view w em eg;
+        opened = same-flags new.view same.0;
+        program = same.1;
+        stands = at;
+      }
+
+  -- one that the world serves: the run is as before
+  module _ (access : Access) (mid : RunWords) (h : IsStep (local_of i v) (access_of i v) v (code.Shared access) mid.view) where
+    asks : access_of i v ≡ Some access
+    asks = (own_asks i v mid.view (access_of i v) access h).1
+
+    same : mid.view ≡ v
+    same = (own_asks i v mid.view (access_of i v) access h).2
+
+    serves : CanServe access loaded.maps.items maps v
+    serves = can.ask.serve i access can.step.here (own_asks i v mid.view (access_of i v) access h).0 asks
+
+    pub can_serve : CanServe access loaded.maps.items maps mid.view
+    can_serve = subst (CanServe access loaded.maps.items maps) (sym same) serves
+
+    pub can_go_on : CanResume loaded.verified.program mid.view
+    can_go_on = subst (CanResume loaded.verified.program) (sym same) (can.ask.resume i access can.step.here asks)
+
+    here-too : insn_at loaded.verified.program mid.view.place ≡ Some i
+    here-too = ap (λ (u : RunView). insn_at loaded.verified.program u.place) same ∙ can.step.here
+
+    pub served_taken : (word : ℕ) (new : RunWords) (maps_new : List MapView) (g_new : GraceState) → IsReply access loaded.maps.items maps mid.view word
+        → maps_new ≡ maps_after access loaded.maps.items mid.view maps → g_new ≡ grace_after access r g
+        → ((insn : Insn) → insn_at loaded.verified.program mid.view.place ≡ Some insn → new.view ≡ resumed_view insn word mid.view)
+        → IsAt loaded.verified.program new → HasTaken loaded r old new maps maps_new g g_new answers.Moved
+    served_taken word new maps_new g_new reply em eg resumed at =
+        let bound : List ℕ = loaded.maps.items in
+        let view : new.view ≡ resumed_view i word v = resumed i here-too ∙ ap (λ (u : RunView). resumed_view i word u) same in
+        let ms : maps_after access bound v maps ≡ maps_new = ap (λ (u : RunView). maps_after access bound u maps) (sym same) ∙ sym em in
+        let word-is : IsReply access bound maps v word = subst (λ (u : RunView). IsReply access bound maps u word) same reply in
+        let on = goes_on g r v can.opened can.depth word i access asks in
+        let out : List MapView → GraceState → RunView → WorldView → Answer × WorldView = λ (ms : List MapView) (x : GraceState) (u : RunView) (w : WorldView). (answers.Moved, world_with ms x r u w) in
+        record {
+          insn = i;
+          here = can.step.here;
+          step = λ w fm fg.
+              served_is r v w (is-flagged w fg) (program_of loaded) word i access asks
+              (subst (λ (l : List MapView). CanServe access bound l v) (sym fm) serves)
+              (subst (λ (l : List MapView). IsReply access bound l v word) (sym fm) word-is)
+              ∙ ap (λ (l : List MapView). out (maps_after access bound v l) (grace_after access r (flags_of w)) (resumed_view i word v) w) fm
+              ∙ ap (λ (l : List MapView). out l (grace_after access r (flags_of w)) (resumed_view i word v) w) ms
+              ∙ ap (λ (x : GraceState). out maps_new (grace_after access r x) (resumed_view i word v) w) fg
+              ∙ ap (λ (x : GraceState). out maps_new x (resumed_view i word v) w) (sym eg)
+              ∙ ap (λ (u : RunView). out maps_new g_new u w) (sym view);
+          opened = ap (λ (x : GraceState). x.opened) eg ∙ on.opened ∙ ap (λ (u : RunView). slice_set g.opened r (nat_lt 0 u.depth)) (sym view);
+          program = ap (λ (u : RunView). u.program) view ∙ on.program;
+          stands = at;
+        }
+
+-- a run slot from which a step is not refused
+going : (o : Option (Option RunWords)) → step_refused (run_shown (option_map view_of o)) ≡ None → (run : RunWords) × (o ≡ Some (Some run)) × (run.view.exit ≡ None)
+going None e = absurd (none-some _ (sym e))
+going (Some None) e = absurd (none-some _ (sym e))
+going (Some (Some run)) e = (run, refl, on run.view.exit e)
+  where
+    on : (o : Option ℕ) → if_ended o ≡ None → o ≡ None
+    on None e = refl
+    on (Some n) e = absurd (none-some _ (sym e))
+
+module _ (maps : List MapView) (runs : List (Option RunWords)) (g : GraceState) (programs : List Loaded) (given r : ℕ) (kept : IsKept runs g programs) where
+  abbrev w : WorldView
+  w = world_of maps runs g programs given
+
+  loaded-shown : (run : RunWords) (loaded : Loaded) → slice_get programs run.view.program ≡ Some loaded → slice_get w.programs run.view.program ≡ Some (program_of loaded)
+  loaded-shown run loaded e = slice_get-map program_of programs run.view.program ∙ ap (option_map program_of) e
+
+  run-at : (run : RunWords) → slice_get runs r ≡ Some (Some run) → slice_get w.runs r ≡ Some (Some run.view)
+  run-at run e = slice_get-map view_of runs r ∙ ap (option_map view_of) e
+
+  -- in a sound world the run in a slot may make a step, unless that is refused
+  pub is_going : (s : Schedule) → Matches w s → IsSound w s → step_refused (run_shown (slice_get w.runs r)) ≡ None → IsGoing runs programs maps g r
+  is_going s m sound e =
+      let x = going (slice_get runs r) (ap (λ o. step_refused (run_shown o)) (sym (slice_get-map view_of runs r)) ∙ e) in
+      let shown = run-at x.0 x.1 in
+      let y = running w s m r x.0.view shown x.2 in
+      let of = kept.of_program r x.0 x.1 in
+      let at = loaded-shown x.0 of.program of.there in
+      let f = flagged w s m sound r y.0 x.0.view y.1 in
+      let within : r < MAX_RUNS = subst (λ n. r < n) kept.slots (slice_get_within runs r (Some x.0) x.1) in
+      record {
+        run = x.0;
+        there = x.1;
+        loaded = of.program;
+        of = of.there;
+        can = record {
+          stands = of.stands;
+          step = can_step w s m sound r y.0 x.0.view y.1 (program_of of.program) at;
+          ask = record {
+            serve = can_be_served w s m sound r y.0 x.0.view y.1 (program_of of.program) at;
+            resume = can_resume w s m sound r y.0 x.0.view y.1 (program_of of.program) at;
+          };
+          pass = record { slot = within; inside = f.awaited };
+          opened = f.opened;
+          depth = f.depth;
+        };
+      }
+
+  module _ (runs_new : List (Option RunWords)) (maps_new : List MapView) (g_new : GraceState) (answer : Answer) (gone : HasGone runs runs_new programs maps maps_new g g_new r answer) where
+    -- what is kept of the runs holds after the step
+    pub gone_kept : IsKept runs_new g_new programs
+    gone_kept = subst (λ (l : List (Option RunWords)). IsKept l g_new programs) (sym gone.runs_are) (record {
+      slots = length-set runs r (Some gone.new) ∙ kept.slots;
+      opened = gone.taken.opened ∙ ap (λ os. slice_set os r (nat_lt 0 gone.new.view.depth)) kept.opened ∙ sym (map-set is_inside runs r (Some gone.new));
+      of_program = λ k run e. elim (written runs r k (Some gone.new) (Some run) e) [
+        | inl z ↦ subst (IsOfProgram programs) (same_Some gone.new run z) (record {
+          program = gone.loaded;
+          there = ap (slice_get programs) gone.taken.program ∙ gone.of;
+          stands = gone.taken.stands;
+        })
+        | inr z ↦ kept.of_program k run z
+      ];
+    })
+
+    -- the world's step
+    pub gone_is : word_step w r ≡ (answer, world_of maps_new runs_new g_new programs given)
+    gone_is =
+        let run : RunWords = gone.run in
+        let out : List (Option RunView) → Answer × WorldView = λ (l : List (Option RunView)). (answer, record { maps = maps_new; runs = l; opened = g_new.opened; awaited = g_new.awaited; programs = w.programs; given = given }) in
+        ap (λ (o : Option (Option RunView)). step_of (run_shown o) r w) (run-at run gone.there)
+        ∙ ap (λ (o : Option machine.Loaded). step_in o r run.view w) (loaded-shown run gone.loaded gone.of)
+        ∙ ap (λ (o : Option Insn). step_at o (program_of gone.loaded) r run.view w) gone.taken.here
+        ∙ gone.taken.step w refl refl
+        ∙ ap out (sym (map-set view_of runs r (Some gone.new)) ∙ ap (map view_of) (sym gone.runs_are))
+
+-- a step that is refused, and one that is not
+pub refused_step : (w : WorldView) (r : ℕ) (refusal : EventRefusal) → step_refused (run_shown (slice_get w.runs r)) ≡ Some refusal → full_reaction w (events.Step r) ≡ refused_as refusal w
+refused_step w r refusal e = ap (λ (o : Option EventRefusal). or_step (step_by o w) w (events.Step r)) e
+
+pub going_step : (w : WorldView) (r : ℕ) → step_refused (run_shown (slice_get w.runs r)) ≡ None → full_reaction w (events.Step r) ≡ word_step w r
+going_step w r e = ap (λ (o : Option EventRefusal). or_step (step_by o w) w (events.Step r)) e

@@ -1,0 +1,106 @@
+//! The step of a run.
+ghost use Rattle.std.specs.Prelude.{◌≡◌, ℕ, None, slice_get};
+ghost use Rattle.bpf_model.specs.declared.event.Event.{Event};
+ghost use Rattle.bpf_model.specs.Schedule.{Schedule};
+ghost use Rattle.view_laws.specs.Matching.{Matches};
+ghost use Rattle.view_laws.specs.Reactions.{run_shown, step_refused};
+ghost use Rattle.world_laws.specs.Reacting.{full_reaction, word_step};
+ghost use Rattle.world_laws.specs.Typed.{IsSound};
+ghost use Rattle.world_parts.specs.Stepping.{CanTake, HasGone, HasTaken, IsGoing};
+
+use crate::loaded::Loaded;
+use crate::parts::Parts;
+use bpf_model::{Answer, EventRefusal, RunId};
+use grace_period::Grace;
+use helpers::serve;
+use maps::Registry;
+use world_runs::{Local, Run};
+
+/// One step of the run in a slot, with the world's maps and flags. What the run asks is served,
+/// and the run goes on with the reply.
+fn step_run(
+    run: &mut Run,
+    slot: RunId,
+    loaded: &Loaded,
+    maps: &mut Registry,
+    grace: &mut Grace,
+) -> Answer
+    requires { CanTake loaded.now maps.old.maps grace.old slot run.old }
+    ensures { HasTaken loaded.now slot run.old run.new maps.old.maps maps.new.maps grace.old
+        grace.new result }
+{
+    match run.local_step(&loaded.verified) {
+        Local::Moved => Answer::Moved,
+        Local::Exit(value) => Answer::Exited(value),
+        Local::Shared(access) => {
+            let word = serve(access, run, slot, loaded.maps.as_slice(), maps, grace);
+            run.resume(&loaded.verified, word);
+            Answer::Moved
+        }
+    }
+}
+
+/// One step of the run that stands in a slot.
+fn step_slot(
+    runs: &mut Vec<Option<Run>>,
+    programs: &Vec<Loaded>,
+    slot: RunId,
+    maps: &mut Registry,
+    grace: &mut Grace,
+) -> Answer
+    requires { IsGoing runs.old.items programs.now.items maps.old.maps grace.old slot }
+    ensures { HasGone runs.old.items runs.new.items programs.now.items maps.old.maps maps.new.maps
+        grace.old grace.new slot result }
+{
+    match &mut runs[slot.index()] {
+        Some(run) => {
+            let loaded = &programs[run.program()];
+            step_run(run, slot, loaded, maps, grace)
+        }
+        None => unreachable!(),
+    }
+}
+
+impl Parts {
+    /// Why the run of a slot makes no step, if it makes none.
+    fn step_refusal(&self, run: RunId) -> Option<EventRefusal>
+        ensures { result ≡ step_refused (run_shown (slice_get self.now.runs run)) }
+    {
+        match self.runs.get(run.index()) {
+            Some(Some(run)) if run.exit().is_some() => Some(EventRefusal::Ended),
+            Some(Some(_)) => None,
+            _ => Some(EventRefusal::NoRun),
+        }
+    }
+
+    /// The step of a run that has not ended.
+    fn take_step(&mut self, run: RunId) -> Answer
+        requires sound { (s : Schedule) × Matches self.old s × IsSound self.old s }
+        requires going { step_refused (run_shown (slice_get self.old.runs run)) ≡ None }
+        ensures answer { result ≡ (word_step self.old run).0 }
+        ensures new { self.new ≡ (word_step self.old run).1 }
+    {
+        step_slot(
+            &mut self.runs,
+            &self.programs,
+            run,
+            &mut self.registry,
+            &mut self.grace,
+        )
+    }
+
+    /// One step of a run. Refused where no run has the slot (`NoRun`), and where the run has
+    /// ended (`Ended`).
+    ///
+    /// The answer is `Moved`, or `Exited` with the exit value. No step fails or takes memory.
+    pub fn step(&mut self, run: RunId) -> Answer
+        requires sound { (s : Schedule) × Matches self.old s × IsSound self.old s }
+        ensures answer { result ≡ (full_reaction self.old (Event.Step run)).0 }
+        ensures new { self.new ≡ (full_reaction self.old (Event.Step run)).1 }
+    {
+        match self.step_refusal(run) {
+            Some(refusal) => Answer::Refused(refusal),
+            None => self.take_step(run),
+        }
+    }
+}
