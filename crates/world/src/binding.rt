@@ -25,14 +25,14 @@ fn has_shape(registry: &Registry, number: MapId, asked: MapShape) -> bool
 }
 
 /// Whether the numbers are those of maps that are there and have these shapes, one after another.
-fn have_shapes(registry: &Registry, numbers: &[MapId], asked: &[MapShape]) -> bool
+fn have_shapes(registry: &Registry, numbers: &[usize], asked: &[MapShape]) -> bool
     ensures { IsTrue result ↔ IsBoundTo (shapes_in registry.now.maps) asked.now numbers.now }
 {
     if numbers.len() != asked.len() {
         return false;
     }
     for (i, number) in numbers.iter().enumerate() {
-        if !has_shape(registry, *number, asked[i]) {
+        if !has_shape(registry, MapId::new(*number), asked[i]) {
             return false;
         }
     }

@@ -15,9 +15,9 @@ returns-then-not-has_shape c =
     let numbers = c.args.numbers.now in
     let asked = c.args.asked.now in
     let i = c.loop-i.i in
-    let n = c.index-numbers-i.result in
+    let n = c.new.result in
     let within : i < length asked = omega arith in
-    let here = slice_get-get_or numbers i n c.loop-i-test.true ∙ ap Some (sym c.index-numbers-i.is) in
+    let here = slice_get-get_or numbers i 0 c.loop-i-test.true ∙ ap Some (sym c.new.ensures) in
     let there = slice_get-get_or asked i no_shape within in
     (λ e. absurd (cc), λ bound. c.if-not-has_shape.ensures.1 (bound-at shapes asked numbers i n (get_or asked i no_shape) bound here there))
 
@@ -27,9 +27,9 @@ loop-i-preserved c =
     let numbers = c.args.numbers.now in
     let asked = c.args.asked.now in
     let i = c.loop-i.i in
-    let n = c.index-numbers-i.result in
+    let n = c.new.result in
     let within : i < length asked = omega arith in
-    let here = slice_get-get_or numbers i n c.loop-i-test.true ∙ ap Some (sym c.index-numbers-i.is) in
+    let here = slice_get-get_or numbers i 0 c.loop-i-test.true ∙ ap Some (sym c.new.ensures) in
     let there = slice_get-get_or asked i no_shape within in
     let more = bound-more shapes numbers asked i n (get_or asked i no_shape) here there (c.if-not-has_shape.ensures.0 refl) c.loop-i.invariant in
     let next : suc i ≡ i + 1 = omega arith in
