@@ -64,6 +64,9 @@ def maps_of(obj):
     shapes = list(struct.iter_unpack("<5I", obj.section("maps")))
     names = {value: name for name, kind, section, value in obj.symbols
              if section and kind != STT_SECTION and obj.section_of((name, kind, section, value)) == "maps"}
+    for key, value, entries, spare, reuse in shapes:
+        if not (1 <= key <= 64 and 1 <= value <= 256 and 1 <= entries <= 4096 and spare <= 4096 and reuse):
+            sys.exit(f"no map has keys of {key} bytes, values of {value} and {entries} + {spare} slots")
     return [(names[20 * i], shape) for i, shape in enumerate(shapes)]
 
 

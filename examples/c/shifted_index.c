@@ -8,7 +8,7 @@ struct query {
 };
 
 struct table {
-    u16 cells[8][16];
+    u16 cells[8][8];
     u32 rows[8];
 };
 
@@ -24,7 +24,7 @@ u64 find(const struct query *query)
     struct table *table = bpf_map_lookup_elem(&tables, &key);
     if (table) {
         u32 row = query->hash >> 29;
-        u64 column = query->wide >> 60;
+        u64 column = query->wide >> 61;
 
         table->cells[row][column] += 1;
         sum = table->rows[row] + table->cells[(row << 1) & 7][column];
