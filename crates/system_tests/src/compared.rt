@@ -1,15 +1,16 @@
-//! The runtime's machine beside the plain interpreter, step by step, and beside exit values that another
-//! interpreter, written apart from this repository, computed.
-ghost use Rattle.std.specs.Prelude.{◌≡◌, length};
+//! Runs on words beside the plain interpreter, step by step, and beside exit values that another interpreter,
+//! written apart from this repository, computed.
+ghost use Rattle.std.specs.Prelude.{◌≡◌, [], IfOk, length};
 
-use crate::judged::{SHAPE, bytes_of, context_of};
+use crate::judged::{bytes_of, context_of};
 use bpf_model::{Cell, CtxBytes, Reg, Value};
 use insn_codec::decode;
-use machine::{Local, Run};
+use lone_runs::{Step, start_alone, step_alone};
+use map_verifier::{Verified, verify};
 use plain_interpreter::{PlainRun, Progress};
 use std::alloc::Global;
 use std::test::Fail;
-use verifier::{Verified, verify};
+use world_runs::Run;
 
 /// A program, and the sum of its exit values, modulo 2^64, over all contexts of its length made of these
 /// bytes.
@@ -22,7 +23,7 @@ struct Compared {
 
 static BYTES: [u8; 5] = [0, 1, 7, 0x80, 0xff];
 
-static PROGRAMS: [Compared; 17] = [
+static PROGRAMS: [Compared; 16] = [
     Compared {
         name: "constant",
         ctx_len: 0,
@@ -119,12 +120,6 @@ static PROGRAMS: [Compared; 17] = [
         code: "7112000000000000 7113010000000000 632af0ff00000000 633af4ff00000000 79a4f0ff00000000 bf40000000000000 c400000004000000 0f40000000000000 9500000000000000",
         sum: 8396661065750,
     },
-    Compared {
-        name: "map_in_a_register",
-        ctx_len: 0,
-        code: "1852000000000000 0000000000000000 bf23000000000000 b700000007000000 9500000000000000",
-        sum: 7,
-    },
 ];
 
 /// Whether each register that is a number holds it.
@@ -145,7 +140,7 @@ fn same_registers(plain: &PlainRun, run: &Run) -> bool {
 fn same_frame(plain: &PlainRun, run: &Run) -> bool {
     for index in 0..512 {
         if let Cell::Byte(byte) = plain.cell(index) {
-            if run.frame_byte(index) != byte {
+            if run.frame().get(index) != Some(&byte) {
                 return false;
             }
         }
@@ -154,31 +149,30 @@ fn same_frame(plain: &PlainRun, run: &Run) -> bool {
 }
 
 /// Whether both stand before the same instruction, with the same numbers, after so many moves.
-fn same(plain: &PlainRun, run: &Run, verified: &Verified, moves: usize) -> bool {
-    let program = verified.program();
-    run.index() < program.len()
-        && program.start(run.index()) == plain.place()
+fn same(plain: &PlainRun, run: &Run, moves: usize) -> bool {
+    run.place() == plain.place()
         && run.moved() == moves
         && same_registers(plain, run)
         && same_frame(plain, run)
 }
 
-/// The exit value, where both machines go through the same states to the same exit.
+/// The exit value, where both go through the same states to the same exit.
 fn stepped(verified: &Verified, ctx: &CtxBytes) -> Option<u64>
-    requires { length ctx.now.items ≡ verified.now.ctx_len }
+    requires maps { verified.now.shapes ≡ [] }
+    requires context { length ctx.now.items ≡ verified.now.ctx_len }
 {
-    let mut run = Run::start(verified, ctx);
+    let mut run = start_alone(verified, ctx);
     let mut plain = PlainRun::entry();
     let instructions = verified.program().instructions();
     for moves in 0..instructions.len() {
-        let progress = plain.step(instructions, ctx.as_slice(), verified.shapes().len());
-        match run.local_step(verified) {
-            Local::Moved => {
-                if progress != Progress::Moved || !same(&plain, &run, verified, moves + 1) {
+        let progress = plain.step(instructions, ctx.as_slice(), 0);
+        match step_alone(&mut run, verified) {
+            Step::Moved => {
+                if progress != Progress::Moved || !same(&plain, &run, moves + 1) {
                     return None;
                 }
             }
-            Local::Exit(value) => {
+            Step::Exit(value) => {
                 let same_context = run.context().as_slice() == ctx.as_slice();
                 return if progress == Progress::Exited(value) && same_context {
                     Some(value)
@@ -191,20 +185,24 @@ fn stepped(verified: &Verified, ctx: &CtxBytes) -> Option<u64>
     None
 }
 
-/// The exit value of a program on a context, where both machines agree.
-fn agreed(verified: &Verified, bytes: &[u8]) -> Result<u64, Fail> {
+/// The exit value of a program on a context, where both agree.
+fn agreed(verified: &Verified, bytes: &[u8]) -> Result<u64, Fail>
+    requires { verified.now.shapes ≡ [] }
+{
     let ctx = context_of(bytes)?;
     if ctx.len() != verified.ctx_len() {
         return Err(Fail::from("a context of another length"));
     }
     match stepped(verified, &ctx) {
         Some(value) => Ok(value),
-        None => Err(Fail::from("the machines differ")),
+        None => Err(Fail::from("the runs differ")),
     }
 }
 
 /// The sum of the exit values over all contexts of a length up to 2.
-fn sum_of(verified: &Verified, ctx_len: usize) -> Result<u64, Fail> {
+fn sum_of(verified: &Verified, ctx_len: usize) -> Result<u64, Fail>
+    requires { verified.now.shapes ≡ [] }
+{
     let mut sum: u64 = 0;
     if ctx_len == 0 {
         return agreed(verified, &[]);
@@ -221,17 +219,19 @@ fn sum_of(verified: &Verified, ctx_len: usize) -> Result<u64, Fail> {
     Ok(sum)
 }
 
-fn verified_of(alloc: Global, case: &Compared) -> Result<Verified, Fail> {
+fn verified_of(alloc: Global, case: &Compared) -> Result<Verified, Fail>
+    ensures { IfOk result (λ v. v.shapes ≡ []) }
+{
     if case.ctx_len > 256 {
         return Err(Fail::from("the context is too long"));
     }
     let code = bytes_of(alloc, case.code)?;
     let program = decode(alloc, &code)?;
-    Ok(verify(alloc, program, &[SHAPE], case.ctx_len)?)
+    Ok(verify(alloc, program, &[], case.ctx_len)?)
 }
 
 #[test]
-fn machines_agree(rt: HostRuntime) -> Result<(), Fail> {
+fn runs_agree(rt: HostRuntime) -> Result<(), Fail> {
     for case in &PROGRAMS {
         let verified = verified_of(rt.alloc(), case)?;
         let sum = sum_of(&verified, case.ctx_len)?;

@@ -9,8 +9,6 @@ mod compared;
 #[cfg(test)]
 mod judged;
 #[cfg(test)]
-mod kinds;
-#[cfg(test)]
 mod long;
 #[cfg(test)]
 mod numbers;

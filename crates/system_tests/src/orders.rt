@@ -2,7 +2,7 @@
 use crate::judged::{Case, Wanted, judged_case};
 use std::test::Fail;
 
-static ORDERS: [Case; 52] = [
+static ORDERS: [Case; 57] = [
     Case {
         name: "write_r10_before_unwritten",
         code: "0f5a000000000000 9500000000000000",
@@ -76,10 +76,28 @@ static ORDERS: [Case; 52] = [
         wanted: Wanted::Refused(25, Some(0)),
     },
     Case {
-        name: "pointer_plus_unknown",
+        name: "context_plus_byte",
         code: "7112000000000000 0f21000000000000 b700000000000000 9500000000000000",
         ctx: "00",
+        wanted: Wanted::Exits(0, 4),
+    },
+    Case {
+        name: "context_plus_any_number",
+        code: "7912000000000000 0f21000000000000 b700000000000000 9500000000000000",
+        ctx: "0000000000000000",
         wanted: Wanted::Refused(25, Some(1)),
+    },
+    Case {
+        name: "frame_plus_byte",
+        code: "7112000000000000 0f2a000000000000 b700000000000000 9500000000000000",
+        ctx: "00",
+        wanted: Wanted::Refused(24, Some(1)),
+    },
+    Case {
+        name: "moved_frame_plus_byte",
+        code: "7112000000000000 bfa3000000000000 0f23000000000000 b700000000000000 9500000000000000",
+        ctx: "00",
+        wanted: Wanted::Refused(25, Some(2)),
     },
     Case {
         name: "offset_limit",
@@ -149,15 +167,21 @@ static ORDERS: [Case; 52] = [
     },
     Case {
         name: "pointer_to_frame",
-        code: "7b1af8ff00000000 b700000000000000 9500000000000000",
+        code: "7b1af8ff00000000 79a0f8ff00000000 b700000000000000 9500000000000000",
         ctx: "",
-        wanted: Wanted::Refused(30, Some(0)),
+        wanted: Wanted::Exits(0, 4),
+    },
+    Case {
+        name: "part_of_a_stored_pointer",
+        code: "7b1af8ff00000000 61a0f8ff00000000 b700000000000000 9500000000000000",
+        ctx: "",
+        wanted: Wanted::Refused(30, Some(1)),
     },
     Case {
         name: "pointer_to_frame_outside",
         code: "7b1a080000000000 b700000000000000 9500000000000000",
         ctx: "",
-        wanted: Wanted::Refused(30, Some(0)),
+        wanted: Wanted::Refused(27, Some(0)),
     },
     Case {
         name: "pointer_narrow_to_frame",
@@ -232,10 +256,16 @@ static ORDERS: [Case; 52] = [
         wanted: Wanted::Refused(23, Some(3)),
     },
     Case {
-        name: "joined_pointers_of_two_offsets",
-        code: "b700000000000000 1500010000000000 0701000001000000 bf10000000000000 9500000000000000",
+        name: "joined_context_offsets",
+        code: "b700000000000000 1500010000000000 0701000001000000 7110000000000000 9500000000000000",
+        ctx: "0005",
+        wanted: Wanted::Exits(0, 4),
+    },
+    Case {
+        name: "joined_frame_offsets",
+        code: "b700000000000000 bfa1000000000000 1500010000000000 0701000001000000 bf10000000000000 9500000000000000",
         ctx: "0000",
-        wanted: Wanted::Refused(31, Some(3)),
+        wanted: Wanted::Refused(31, Some(4)),
     },
     Case {
         name: "mixed_at_rest",

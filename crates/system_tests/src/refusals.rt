@@ -5,9 +5,9 @@ ghost use Rattle.std.specs.Prelude.{◌≡◌};
 use crate::judged::{SHAPE, bytes_of};
 use asm::assemble;
 use insn_codec::{Program, decode};
+use map_verifier::verify;
 use std::alloc::Global;
 use std::test::Fail;
-use verifier::verify;
 
 /// A program as it is handed in.
 enum Source {
@@ -40,7 +40,7 @@ struct Row {
 /// The bytes of the context.
 const CONTEXT: usize = 8;
 
-static ROWS: [Row; 29] = [
+static ROWS: [Row; 33] = [
     Row {
         told: Plain(1),
         refused: Bytes("95"),
@@ -167,9 +167,35 @@ static ROWS: [Row; 29] = [
         instead: Text("mov64 r0, 0; jeq r0, 0, +1; mov64 r0, 1; exit"),
     },
     Row {
+        told: At(32, 7),
+        refused: Text(
+            "callbtf 1; stw [r10-4], 0; mov64 r2, r10; add64 r2, -4; ldmap r1, 0; call 1; add64 r0, 1; exit",
+        ),
+        instead: Text(
+            "callbtf 1; stw [r10-4], 0; mov64 r2, r10; add64 r2, -4; ldmap r1, 0; call 1; jeq r0, 0, +1; add64 r0, 1; callbtf 2; mov64 r0, 0; exit",
+        ),
+    },
+    Row {
+        told: At(33, 0),
+        refused: Text("call 1; exit"),
+        instead: Text(
+            "callbtf 1; stw [r10-4], 0; mov64 r2, r10; add64 r2, -4; ldmap r1, 0; call 1; callbtf 2; mov64 r0, 0; exit",
+        ),
+    },
+    Row {
+        told: At(34, 0),
+        refused: Text("callbtf 2; exit"),
+        instead: Text("callbtf 1; callbtf 2; mov64 r0, 0; exit"),
+    },
+    Row {
         told: At(35, 0),
         refused: Text("call 99; exit"),
         instead: Text("mov64 r0, 0; exit"),
+    },
+    Row {
+        told: At(36, 0),
+        refused: Text("call 3; exit"),
+        instead: Text("stw [r10-4], 0; mov64 r2, r10; add64 r2, -4; ldmap r1, 0; call 3; exit"),
     },
     Row {
         told: At(37, 0),

@@ -2,7 +2,7 @@
 use crate::judged::{Case, Wanted, judged_case};
 use std::test::Fail;
 
-static ROWS: [Case; 51] = [
+static ROWS: [Case; 56] = [
     Case {
         name: "exit_one",
         code: "b700000001000000 9500000000000000",
@@ -82,16 +82,46 @@ static ROWS: [Case; 51] = [
         wanted: Wanted::Flawed(12, Some(0)),
     },
     Case {
-        name: "call_of_a_helper",
+        name: "lookup_outside_a_section",
         code: "b700000000000000 8500000001000000 9500000000000000",
+        ctx: "",
+        wanted: Wanted::Refused(33, Some(1)),
+    },
+    Case {
+        name: "delete_in_no_map",
+        code: "b700000000000000 8500000003000000 9500000000000000",
+        ctx: "",
+        wanted: Wanted::Refused(36, Some(1)),
+    },
+    Case {
+        name: "unknown_helper",
+        code: "b700000000000000 8500000063000000 9500000000000000",
         ctx: "",
         wanted: Wanted::Refused(35, Some(1)),
     },
     Case {
-        name: "call_of_a_kernel_function",
-        code: "b700000000000000 8520000001000000 9500000000000000",
+        name: "unknown_kernel_function",
+        code: "b700000000000000 8520000003000000 9500000000000000",
         ctx: "",
         wanted: Wanted::Refused(35, Some(1)),
+    },
+    Case {
+        name: "lock_leaves_no_r0",
+        code: "b700000000000000 8520000001000000 9500000000000000",
+        ctx: "",
+        wanted: Wanted::Refused(23, Some(2)),
+    },
+    Case {
+        name: "exit_in_a_section",
+        code: "8520000001000000 b700000000000000 9500000000000000",
+        ctx: "",
+        wanted: Wanted::Refused(34, Some(2)),
+    },
+    Case {
+        name: "two_sections",
+        code: "8520000001000000 b706000003000000 8520000002000000 8520000001000000 0706000004000000 8520000002000000 bf60000000000000 9500000000000000",
+        ctx: "",
+        wanted: Wanted::Exits(7, 8),
     },
     Case {
         name: "map_without_a_list",

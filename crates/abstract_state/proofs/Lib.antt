@@ -1,6 +1,0 @@
-pub mod Accesses
-pub mod Dispatch
-pub mod Join
-pub mod Jumps
-pub mod Laws
-pub mod Sound

@@ -1,8 +1,0 @@
-pub mod LittleEndian
-pub mod Words
-pub mod Steps
-pub mod Whole
-pub mod Going
-pub mod Accesses
-pub mod Cells
-pub mod Refining
