@@ -1,6 +1,9 @@
 //! Running a command.
-ghost use Rattle.std.specs.Prelude.{◌≡◌, ◌≢◌, ◌⊎◌, List, ℕ, IfOk, IfErr, IfSome, OnOk, MatchResult, string_bytes};
+ghost use Rattle.std.specs.Prelude.{◌≡◌, ◌≢◌, ◌⊎◌, List, [], ℕ, IfOk, IfErr, IfSome, OnOk, MatchResult, string_bytes};
 ghost use Rattle.std.specs.Io.KnownBytes.{Appends};
+ghost use Rattle.bpf_model.specs.Plain.{IsPlain};
+ghost use Rattle.typed_runs.specs.Verified.{IsVerified};
+ghost use Rattle.map_verifier.specs.Verdict.{IsToldOf, IsAccepted as IsTaken};
 ghost use Rattle.bpfrt.specs.Files.{Holds};
 ghost use Rattle.bpfrt.specs.Outputs.{IsAccepted, IsTextOf, IsDecodeRefusal, IsCheckedRefusal, IsRefusedByDecode, IsRefusedByCheck, IsRefusedBy, accepted_line, WritesAccepted, WritesText, Writes};
 
@@ -8,7 +11,8 @@ use crate::program_file::{FileBytes, read_file};
 use crate::report::{Verdict, fault, refused};
 use crate::request::Command;
 use disasm::disassemble;
-use map_verifier::verify;
+use insn_codec::Program;
+use map_verifier::{Refusal, Verified, verify};
 use std::alloc::Global;
 use std::io;
 use std::io::{ErrorKind, Read, Write};
@@ -20,13 +24,25 @@ struct Accepted {
     slots: usize,
 }
 
+/// Verifies a program with no maps and no context.
+fn verify_alone(alloc: Global, program: Program) -> Result<Verified, Refusal>
+    ensures program { IfOk result (λ v. v.program ≡ program) }
+    ensures shapes { IfOk result (λ v. v.shapes ≡ []) }
+    ensures context { IfOk result (λ v. v.ctx_len ≡ 0) }
+    ensures verified { OnOk result (IsVerified program [] 0) }
+    ensures told { IfErr result (IsToldOf program) }
+    ensures plain { IsPlain program → IsTaken result }
+{
+    verify(alloc, program, &[], 0)
+}
+
 /// Decodes and verifies a file's program, with no maps and no context.
 fn check(alloc: Global, file: &FileBytes) -> Result<Accepted, Verdict>
     ensures accepted { (bytes : List ℕ) → Holds file.now bytes → IfOk result (IsAccepted bytes) }
     ensures refused { (bytes : List ℕ) → Holds file.now bytes → IfErr result (IsCheckedRefusal bytes) }
 {
     let program = file.decode(alloc)?;
-    let verified = verify(alloc, program, &[], 0)?;
+    let verified = verify_alone(alloc, program)?;
     let program = verified.program();
     Ok(Accepted {
         instructions: program.len(),
