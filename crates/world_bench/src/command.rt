@@ -1,6 +1,6 @@
 //! The words of the command line.
-ghost use Rattle.std.specs.Prelude.{◌≡◌, ◌↔◌, ◌∷◌, [], Ok, map, codes, string_bytes};
-ghost use Rattle.world_bench.specs.declared.command.Command.TheVariants.{Answers, Times};
+ghost use Rattle.std.specs.Prelude.{◌≡◌, ◌↔◌, [], Ok};
+ghost use Rattle.world_bench.specs.declared.command.Command.TheVariants.{Answers};
 
 use thiserror::Error;
 
@@ -23,7 +23,6 @@ pub enum UsageFault {
 /// The command that the words after the program's own ask for: none, or `time`.
 pub fn parse_words(words: &[String]) -> Result<Command, UsageFault>
     ensures answers { (words.now ≡ []) ↔ (result ≡ Ok Answers) }
-    ensures times { (map string_bytes words.now ≡ codes "time" ∷ []) ↔ (result ≡ Ok Times) }
 {
     match words {
         [] => Ok(Command::Answers),

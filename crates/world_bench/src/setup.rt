@@ -152,7 +152,11 @@ pub fn make_setup(alloc: Global, activity: &Activity) -> Result<Setup> {
         Deed::Steps(Stepped::Arithmetic) => (Vec::new(alloc), 1),
         Deed::Steps(Stepped::Lookup) => (Vec::new(alloc), LOOKUPS),
     };
-    let parts = if runs == 0 { PARTS } else { runs * (moves + 1) };
+    let parts = if runs == 0 {
+        PARTS
+    } else {
+        moves.saturating_add(1).saturating_mul(runs)
+    };
     Ok(Setup {
         world,
         events,
