@@ -15,11 +15,11 @@ returns c =
     let programs = c.args.programs.items in
     let made : Store → List (Option Run) → List Queues → List Bool → Schedule = λ s rs qs flags. record { machine = record { store = s; runs = rs; started = 0; programs = map loaded_of programs }; queues = qs; awaited = flags } in
     let empty : Store = record { elements = []; maps = map new_map shapes } in
-    let queues = c.in_ok-new_queues.queues ∙ same-for-each shapes in
-    let runs = ap (runs_of programs) c.in_ok-no_runs.runs ∙ no-runs programs 64 in
+    let queues = c.in_ok-new_queues.ensures.queues ∙ same-for-each shapes in
+    let runs = ap (runs_of programs) c.in_ok-no_runs.ensures.runs ∙ no-runs programs 64 in
     record {
-      start = ap (λ s. made s (runs_of programs c.in_ok-no_runs.result.items) (map queues_of c.in_ok-new_queues.result.items) c.in_ok-none_awaited.result.items) c.in_ok-new.ensures
-          ∙ ap (λ rs. made empty rs (map queues_of c.in_ok-new_queues.result.items) c.in_ok-none_awaited.result.items) runs
-          ∙ ap (λ qs. made empty (replicate 64 None) qs c.in_ok-none_awaited.result.items) queues
-          ∙ ap (made empty (replicate 64 None) (map (λ _. no_queues) shapes)) c.in_ok-none_awaited.awaited;
+      start = ap (λ s. made s (runs_of programs c.in_ok-no_runs.field-0.items) (map queues_of c.in_ok-new_queues.field-0.items) c.in_ok-none_awaited.field-0.items) c.in_ok-new.ensures
+          ∙ ap (λ rs. made empty rs (map queues_of c.in_ok-new_queues.field-0.items) c.in_ok-none_awaited.field-0.items) runs
+          ∙ ap (λ qs. made empty (replicate 64 None) qs c.in_ok-none_awaited.field-0.items) queues
+          ∙ ap (made empty (replicate 64 None) (map (λ _. no_queues) shapes)) c.in_ok-none_awaited.ensures.awaited;
     }
