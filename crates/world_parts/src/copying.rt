@@ -2,8 +2,8 @@
 ghost use Rattle.std.specs.Prelude.{◌≡◌, IfOk};
 
 use crate::loaded::Loaded;
+use machine::Run;
 use std::alloc::{AllocError, Global};
-use world_runs::Run;
 
 /// The same run, if there is one.
 fn copy_of_slot(slot: &Option<Run>) -> Option<Run>
