@@ -41,6 +41,12 @@ answer_of outcomes.Done = answers.Ret (Ok tt)
 answer_of (outcomes.Failed error) = answers.Ret (Err error)
 answer_of (outcomes.Refused refusal) = answers.Refused refusal
 
+-- what an update or a delete may be answered
+abbrev pub IsOutcome : Answer → Type 0
+IsOutcome (answers.Ret ret) = Unit {0}
+IsOutcome (answers.Refused refusal) = Unit {0}
+IsOutcome answer = ⊥
+
 -- the entry that a row stands for, by these bytes
 abbrev pub entry_of : List ℕ → Row → Entry
 entry_of bytes (rows.Started worker len prog run start) = record { worker = worker; event = events.Start prog (string_in bytes start len); answer = answers.Started run }
@@ -91,6 +97,14 @@ IsStored total (rows.NotDropped worker refusal run) = Unit {0}
 
 abbrev pub AreStored : List Row → List ℕ → Type 0
 AreStored all bytes = (k : ℕ) (row : Row) → slice_get all k ≡ Some row → IsStored (length bytes) row
+
+-- The row stands for the entry where the strings of the entry begin at `start`, behind any others.
+pub record IsRowOf (start : ℕ) (e : Entry) (row : Row) : Type 0 where
+  pub same : (before : List ℕ) → length before ≡ start → entry_of (before ++ bytes_of e) row ≡ e
+  pub stored : IsStored (start + length (bytes_of e)) row
+
+abbrev pub entry : ℕ → Event → Answer → Entry
+entry worker event answer = record { worker = worker; event = event; answer = answer }
 
 -- Room for one more entry: the list is not full, and neither a row nor the most strings of an entry need memory.
 abbrev pub is_ready : ℕ → ℕ → ℕ → ℕ → ℕ → Bool

@@ -6,7 +6,8 @@ ghost use Rattle.journal.specs.Entries.{IsAnswerTo, with_room};
 use crate::bytes::append;
 use crate::entry::Entry;
 use crate::fault::JournalFault;
-use crate::row::{Row, row_of};
+use crate::making::row_of;
+use crate::row::Row;
 use bpf_model::{KEY_BYTES, MAX_JOURNAL, VALUE_BYTES};
 use std::alloc::Global;
 use std::marker::Model;
@@ -25,6 +26,8 @@ pub struct Journal {
 }
 
 impl Model for Journal {
+    ghost use Rattle.std.specs.Prelude.{◌≤◌, map, vec_len, vec_capacity};
+    ghost use Rattle.bpf_model.specs.declared.limits.TheConstants.{MAX_JOURNAL};
     ghost use Rattle.journal.specs.Entries.{JournalView};
     ghost use Rattle.journal.specs.Rows.{entry_of, is_ready, AreStored};
 

@@ -7,6 +7,7 @@ mod bytes;
 mod entry;
 mod fault;
 mod journal;
+mod making;
 mod row;
 
 pub use entry::Entry;

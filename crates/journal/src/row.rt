@@ -1,7 +1,6 @@
 //! The fixed part of an entry.
-ghost use Rattle.std.specs.Prelude.{◌≡◌, ◌+◌, ◌++◌, ℕ, List, length};
-ghost use Rattle.journal.specs.Entries.{IsAnswerTo};
-ghost use Rattle.journal.specs.Rows.{IsStored, bytes_of, entry_of};
+ghost use Rattle.std.specs.Prelude.{◌≡◌, ℕ, List, length};
+ghost use Rattle.journal.specs.Rows.{IsStored, answer_of, entry_of};
 
 use crate::bytes::string_at;
 use crate::entry::Entry;
@@ -16,6 +15,18 @@ pub(crate) enum Outcome {
     Done,
     Failed(Errno),
     Refused(EventRefusal),
+}
+
+impl Outcome {
+    fn answer(self) -> Answer
+        ensures { result ≡ answer_of self }
+    {
+        match self {
+            Outcome::Done => Answer::Ret(Ok(())),
+            Outcome::Failed(error) => Answer::Ret(Err(error)),
+            Outcome::Refused(refusal) => Answer::Refused(refusal),
+        }
+    }
 }
 
 /// An entry without its bytes: those begin at `start`, first the key or the context of the event, then its
@@ -127,21 +138,133 @@ impl Row {
         ensures { (bytes : List ℕ) → result ≡ (entry_of bytes self.now).worker }
     {
         match self {
-            Row::Started { worker, .. } => *worker,
-            Row::NotStarted { worker, .. } => *worker,
-            Row::Moved { worker, .. } => *worker,
-            Row::Exited { worker, .. } => *worker,
-            Row::NotStepped { worker, .. } => *worker,
-            Row::Updated { worker, .. } => *worker,
-            Row::Deleted { worker, .. } => *worker,
-            Row::Found { worker, .. } => *worker,
-            Row::NotFound { worker, .. } => *worker,
-            Row::NotRead { worker, .. } => *worker,
-            Row::Advanced { worker } => *worker,
-            Row::Reclaimed { worker, .. } => *worker,
-            Row::NothingReady { worker } => *worker,
-            Row::Dropped { worker, .. } => *worker,
-            Row::NotDropped { worker, .. } => *worker,
+            Row::Started { worker, .. }
+            | Row::NotStarted { worker, .. }
+            | Row::Moved { worker, .. }
+            | Row::Exited { worker, .. }
+            | Row::NotStepped { worker, .. }
+            | Row::Updated { worker, .. }
+            | Row::Deleted { worker, .. }
+            | Row::Found { worker, .. }
+            | Row::NotFound { worker, .. }
+            | Row::NotRead { worker, .. }
+            | Row::Advanced { worker }
+            | Row::Reclaimed { worker, .. }
+            | Row::NothingReady { worker }
+            | Row::Dropped { worker, .. }
+            | Row::NotDropped { worker, .. } => *worker,
+        }
+    }
+
+    fn event(&self, bytes: &[u8]) -> Event
+        requires { IsStored (length bytes.now) self.now }
+        ensures { result ≡ (entry_of bytes.now self.now).event }
+    {
+        match *self {
+            Row::Started {
+                ctx_len,
+                prog,
+                start,
+                ..
+            }
+            | Row::NotStarted {
+                ctx_len,
+                prog,
+                start,
+                ..
+            } => Event::Start {
+                prog,
+                ctx: string_at(bytes, start, ctx_len as usize),
+            },
+            Row::Moved { run, .. } | Row::Exited { run, .. } | Row::NotStepped { run, .. } => {
+                Event::Step { run }
+            }
+            Row::Updated {
+                key_len,
+                value_len,
+                map,
+                flags,
+                start,
+                ..
+            } => Event::Update {
+                map,
+                key: string_at(bytes, start, key_len as usize),
+                value: string_at(bytes, start + key_len as usize, value_len as usize),
+                flags,
+            },
+            Row::Deleted {
+                key_len,
+                map,
+                start,
+                ..
+            } => Event::Delete {
+                map,
+                key: string_at(bytes, start, key_len as usize),
+            },
+            Row::Found {
+                key_len,
+                map,
+                start,
+                ..
+            }
+            | Row::NotFound {
+                key_len,
+                map,
+                start,
+                ..
+            }
+            | Row::NotRead {
+                key_len,
+                map,
+                start,
+                ..
+            } => Event::Read {
+                map,
+                key: string_at(bytes, start, key_len as usize),
+            },
+            Row::Advanced { .. } => Event::Advance,
+            Row::Reclaimed { .. } | Row::NothingReady { .. } => Event::Reap,
+            Row::Dropped { run, .. } | Row::NotDropped { run, .. } => Event::Drop { run },
+        }
+    }
+
+    fn answer(&self, bytes: &[u8]) -> Answer
+        requires { IsStored (length bytes.now) self.now }
+        ensures { result ≡ (entry_of bytes.now self.now).answer }
+    {
+        match *self {
+            Row::Started { run, .. } => Answer::Started(run),
+            Row::Moved { .. } => Answer::Moved,
+            Row::Exited { value, .. } => Answer::Exited(value),
+            Row::Updated { outcome, .. } | Row::Deleted { outcome, .. } => outcome.answer(),
+            Row::Found {
+                key_len,
+                value_len,
+                start,
+                ..
+            } => Answer::Found(Some(string_at(
+                bytes,
+                start + key_len as usize,
+                value_len as usize,
+            ))),
+            Row::NotFound { .. } => Answer::Found(None),
+            Row::Advanced { .. } | Row::Dropped { .. } => Answer::Done,
+            Row::Reclaimed {
+                given,
+                key_len,
+                map,
+                start,
+                ..
+            } => Answer::Reaped(Some(ReapedElement {
+                map,
+                key: string_at(bytes, start, key_len as usize),
+                given,
+            })),
+            Row::NothingReady { .. } => Answer::Reaped(None),
+            Row::NotStarted { refusal, .. }
+            | Row::NotStepped { refusal, .. }
+            | Row::NotRead { refusal, .. }
+            | Row::NotDropped { refusal, .. } => Answer::Refused(refusal),
         }
     }
 }
