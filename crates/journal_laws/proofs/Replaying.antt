@@ -66,16 +66,16 @@ history-run m [] [] [] h = refl
 history-run m (event ∷ events) (answer ∷ answers) (next ∷ states) h = (next, h.0, history-run next events answers states h.1)
 history-run m events answers states h = absurd h
 
-quiet-slot : {slots : List ℕ} {es : List Element} {programs : List Loaded} (o : Option (Option RunView)) (p : Option (Option Run)) → SlotRefines slots es programs o p → run_shown o ≡ None → run_in p ≡ None
-quiet-slot None None h e = refl
-quiet-slot (Some None) (Some None) h e = refl
-quiet-slot (Some (Some v)) (Some (Some run)) h e = absurd (none-some v (sym e))
-quiet-slot o p h e = absurd h
+quiet-slot : (slots : List ℕ) (es : List Element) (programs : List Loaded) (o : Option (Option RunView)) (p : Option (Option Run)) → SlotRefines slots es programs o p → run_shown o ≡ None → run_in p ≡ None
+quiet-slot slots es programs None None h e = refl
+quiet-slot slots es programs (Some None) (Some None) h e = refl
+quiet-slot slots es programs (Some (Some v)) (Some (Some run)) h e = absurd (none-some v (sym e))
+quiet-slot slots es programs o p h e = absurd h
 
 quiet-machine : (base : WorldView) (m : Machine) → HasNoRuns base → Tracks base m → machine.IsQuiet m
 quiet-machine base m quiet t r =
     let s = t.0 in
-    let here : run_at s.machine.runs r ≡ None = quiet-slot (slice_get base.runs r) (slice_get s.machine.runs r) (t.2.refines.runs r) (quiet r) in
+    let here : run_at s.machine.runs r ≡ None = quiet-slot t.2.refines.slots s.machine.store.elements s.machine.programs (slice_get base.runs r) (slice_get s.machine.runs r) (t.2.refines.runs r) (quiet r) in
     subst (λ (x : Machine). run_at x.runs r ≡ None) t.1 here
 
 same-events : (entries : List Entry) → map (λ (e : machine.JournalEntry). e.event) (map machine_entry entries) ≡ events_of entries
