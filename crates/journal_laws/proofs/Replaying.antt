@@ -7,14 +7,16 @@ use Rattle.bpf_model.specs.declared.event.Event.{Event}
 use Rattle.bpf_model.specs.declared.event.Answer.{Answer}
 use Rattle.bpf_model.specs.Element.{Element}
 use Rattle.bpf_model.specs.Event.{DoesEvent, IsReal, AreReal}
+use Rattle.bpf_model.specs.Drain.{AreScheduledAnswers}
+use Rattle.bpf_model.specs.Headline.{AreMachineAnswers, AreNeverStuck, AllExitInTime, AreReclaimedLate}
 use Rattle.bpf_model.specs.History.{MachineRun, IsHistory, last_machine}
 use Rattle.bpf_model.specs.Machine.{Loaded, Machine, Run, run_at, run_in}
-use Rattle.bpf_model.specs.Refines.{Tracks, SlotRefines}
+use Rattle.bpf_model.specs.Refines.{Tracks, TracksSchedule, SlotRefines}
 use Rattle.bpf_model.specs.Replay as machine
 use Rattle.bpf_model.specs.View.{RunView, WorldView}
 use Rattle.view_laws.specs.Reactions.{run_shown}
 use Rattle.world_laws.specs.Reacting.{full_reaction, full_reactions}
-use Rattle.world_laws.proofs.Worlds.{answers_machine}
+use Rattle.world_laws.proofs.Worlds.{answers_machine, answers_scheduled, never_stuck, exit_in_time, reclaimed_late}
 use Rattle.world_invariant.specs.Invariant.{IsWorld}
 use Rattle.world_invariant.proofs.Keeping.{reactions_make_world, answers_more, view_more}
 use Rattle.journal.specs.declared.entry.Entry.{Entry}
@@ -102,3 +104,28 @@ replays_on_machine base world entries h short m t =
       },
       subst (λ (w : WorldView). Tracks w last) (sym h.world_is) run.2,
     )
+
+-- the main theorem over a whole journal
+pub scheduled_over : (base world : WorldView) (entries : List Entry) → Replays base world entries → AreScheduledAnswers TracksSchedule base (events_of entries) (answers_of entries) world
+scheduled_over base world entries h =
+    let law = answers_scheduled base (events_of entries) h.base_is.ready h.real in
+    subst (λ (w : WorldView). AreScheduledAnswers TracksSchedule base (events_of entries) (answers_of entries) w) (sym h.world_is)
+        (subst (λ (xs : List Answer). AreScheduledAnswers TracksSchedule base (events_of entries) xs (full_reactions base (events_of entries)).1) (sym h.answers) law)
+
+pub machine_over : (base world : WorldView) (entries : List Entry) → Replays base world entries → AreMachineAnswers Tracks base (events_of entries) (answers_of entries) world
+machine_over base world entries h =
+    let law = answers_machine base (events_of entries) h.base_is.ready h.real in
+    subst (λ (w : WorldView). AreMachineAnswers Tracks base (events_of entries) (answers_of entries) w) (sym h.world_is)
+        (subst (λ (xs : List Answer). AreMachineAnswers Tracks base (events_of entries) xs (full_reactions base (events_of entries)).1) (sym h.answers) law)
+
+pub never_stuck_over : (base world : WorldView) (entries : List Entry) → Replays base world entries → AreNeverStuck Tracks base (events_of entries) (answers_of entries)
+never_stuck_over base world entries h =
+    subst (λ (xs : List Answer). AreNeverStuck Tracks base (events_of entries) xs) (sym h.answers) (never_stuck base (events_of entries) h.base_is.ready h.real)
+
+pub exits_over : (base world : WorldView) (entries : List Entry) → Replays base world entries → AllExitInTime Tracks base (events_of entries) (answers_of entries)
+exits_over base world entries h =
+    subst (λ (xs : List Answer). AllExitInTime Tracks base (events_of entries) xs) (sym h.answers) (exit_in_time base (events_of entries) h.base_is.ready h.real)
+
+pub reclaimed_over : (base world : WorldView) (entries : List Entry) → Replays base world entries → AreReclaimedLate Tracks base (events_of entries) (answers_of entries)
+reclaimed_over base world entries h =
+    subst (λ (xs : List Answer). AreReclaimedLate Tracks base (events_of entries) xs) (sym h.answers) (reclaimed_late base (events_of entries))

@@ -1,12 +1,14 @@
 -- Shares of workers.
-use Rattle.std.proofs.Common.{◌≡◌, ◌∙◌, ℕ, zero, suc, ◌+◌, ◌<◌, ◌≤◌, List, [], ◌∷◌, length, Bool, true, false, cond, Some, refl, sym, ap, arith}
+use Rattle.std.proofs.Common.{◌≡◌, ◌≢◌, ◌∙◌, ℕ, zero, suc, ◌+◌, ◌<◌, ◌≤◌, List, [], ◌∷◌, ◌++◌, length, Bool, true, false, cond, Some, refl, sym, ap, arith}
 use Rattle.std.specs.Prelude.{slice_get, ◌==◌, count_by}
 use Rattle.std.specs.List.{filter, range_with_len, sum_by}
 use Rattle.std.proofs.lemmas.Bool.{eq-eqb, eqb-true, false_from_ne_true}
-use Rattle.std.proofs.lemmas.List.Sums.{sum_by-cons}
+use Rattle.std.proofs.lemmas.List.Elements.{filter-append}
+use Rattle.std.proofs.lemmas.List.{append-nil}
+use Rattle.std.proofs.lemmas.List.Sums.{sum_by-cons, sum_by_push}
 use Rattle.model_laws.proofs.Tallies.{count-cons, one_of}
 use Rattle.journal.specs.declared.entry.Entry.{Entry}
-use Rattle.journal_laws.specs.Totals.{AreOf, entries_by, share_of, shares}
+use Rattle.journal_laws.specs.Totals.{AreOf, entries_by, is_step, share_of, shares, steps_of}
 
 longer : (b : Bool) (e : Entry) (es : List Entry) → length (cond b (e ∷ es) es) ≡ one_of b + length es
 longer true e es = omega arith
@@ -56,3 +58,23 @@ shares_add_up workers (e ∷ es) of =
     let b = once e.worker 0 workers e.worker (omega arith) first in
     let r = shares_add_up workers es (λ k x at. of (suc k) x at) in
     omega (arith, a, b, r)
+
+-- one entry more
+pub steps_push : (entries : List Entry) (entry : Entry) → steps_of (entries ++ entry ∷ []) ≡ steps_of entries + one_of (is_step entry.answer)
+steps_push entries entry = sum_by_push (λ (e : Entry). cond {A = ℕ} (is_step e.answer) 1 0) entries entry
+
+kept-if : (b : Bool) (e : Entry) (es : List Entry) → b ≡ true → es ++ cond b (e ∷ []) [] ≡ es ++ e ∷ []
+kept-if b e es h = ap (λ (c : Bool). es ++ cond c (e ∷ []) []) h
+
+left-out : (b : Bool) (e : Entry) (es : List Entry) → b ≡ false → es ++ cond b (e ∷ []) [] ≡ es
+left-out b e es h = ap (λ (c : Bool). es ++ cond c (e ∷ []) []) h ∙ append-nil es
+
+pub own_push : (entries : List Entry) (entry : Entry) → entries_by entry.worker (entries ++ entry ∷ []) ≡ entries_by entry.worker entries ++ entry ∷ []
+own_push entries entry =
+    filter-append (λ (e : Entry). e.worker == entry.worker) entries (entry ∷ [])
+    ∙ kept-if (entry.worker == entry.worker) entry (entries_by entry.worker entries) (eq-eqb entry.worker entry.worker refl)
+
+pub others_push : (entries : List Entry) (entry : Entry) (worker : ℕ) → entry.worker ≢ worker → entries_by worker (entries ++ entry ∷ []) ≡ entries_by worker entries
+others_push entries entry worker ne =
+    filter-append (λ (e : Entry). e.worker == worker) entries (entry ∷ [])
+    ∙ left-out (entry.worker == worker) entry (entries_by worker entries) (false_from_ne_true (entry.worker == worker) (λ t. ne (eqb-true entry.worker worker t)))

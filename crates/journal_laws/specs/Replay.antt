@@ -1,6 +1,6 @@
 -- A journal whose entries replay: from a base without runs, the runtime reacts to the events one after
 -- another with the answers that stand there, and the present world is the one that it comes to.
-use Rattle.std.specs.Prelude.{◌≡◌, ℕ, ◌≤◌, List, None, length, map, slice_get}
+use Rattle.std.specs.Prelude.{◌≡◌, ℕ, List, None, map, slice_get}
 use Rattle.bpf_model.specs.declared.event.Event.{Event}
 use Rattle.bpf_model.specs.declared.event.Answer.{Answer}
 use Rattle.bpf_model.specs.Event.{AreReal}
@@ -9,7 +9,6 @@ use Rattle.bpf_model.specs.View.{WorldView}
 use Rattle.view_laws.specs.Reactions.{run_shown}
 use Rattle.world_laws.specs.Reacting.{full_reactions}
 use Rattle.world_invariant.specs.Invariant.{IsWorld}
-use Rattle.journal.specs.Entries.{JournalView}
 use Rattle.journal.specs.declared.entry.Entry.{Entry}
 
 abbrev pub events_of : List Entry → List Event
@@ -28,11 +27,6 @@ pub record Replays (base world : WorldView) (entries : List Entry) : Type 0 wher
   pub real : AreReal (events_of entries)
   pub answers : answers_of entries ≡ (full_reactions base (events_of entries)).0
   pub world_is : world ≡ (full_reactions base (events_of entries)).1
-
--- A journal: its entries replay, and they are no more than its limit.
-pub record IsJournalOf (base world : WorldView) (j : JournalView) : Type 0 where
-  pub replays : Replays base world j.entries
-  pub short : length j.entries ≤ j.limit
 
 -- The entry as the machine's journal has it.
 abbrev pub machine_entry : Entry → machine.JournalEntry

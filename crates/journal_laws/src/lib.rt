@@ -3,12 +3,14 @@
 //! Each is a function with an empty body, whose contract is the law.
 #![tactic(auto)]
 
-ghost use Rattle.std.specs.Prelude.{◌≡◌, ◌≤◌, ◌++◌, ◌∷◌, [], ℕ, List, Some, length, map, slice_get};
+ghost use Rattle.std.specs.Prelude.{◌≡◌, ◌≢◌, ◌≤◌, ◌+◌, ◌++◌, ◌∷◌, [], ℕ, List, Some, if◌then◌else◌, length, map, slice_get};
 ghost use Rattle.bpf_model.specs.declared.event.Event.{Event};
 ghost use Rattle.bpf_model.specs.declared.limits.TheConstants.{MAX_JOURNAL};
 ghost use Rattle.bpf_model.specs.Event.{IsReal};
 ghost use Rattle.bpf_model.specs.Machine.{Machine};
-ghost use Rattle.bpf_model.specs.Refines.{Tracks};
+ghost use Rattle.bpf_model.specs.Drain.{AreScheduledAnswers};
+ghost use Rattle.bpf_model.specs.Headline.{AreMachineAnswers, AreNeverStuck, AllExitInTime, AreReclaimedLate};
+ghost use Rattle.bpf_model.specs.Refines.{Tracks, TracksSchedule};
 ghost use Rattle.bpf_model.specs.Replay as machine;
 ghost use Rattle.bpf_model.specs.View.{WorldView};
 ghost use Rattle.world_laws.specs.Reacting.{full_reaction, full_reactions};
@@ -16,8 +18,8 @@ ghost use Rattle.world_invariant.specs.Invariant.{IsWorld};
 ghost use Rattle.journal.specs.Entries.{IsAnswerTo};
 ghost use Rattle.journal.specs.declared.entry.Entry.{Entry};
 ghost use Rattle.journal_laws.specs.Replay.{HasNoRuns, Replays, answers_of, events_of, machine_entry};
-ghost use Rattle.journal_laws.specs.Totals.{AreOf, ever_reclaimed, ever_unlinked, reclaimed_total};
-ghost use Rattle.journal_laws.specs.Totals.{shares, unlinked_total};
+ghost use Rattle.journal_laws.specs.Totals.{AreOf, entries_by, ever_reclaimed, ever_unlinked, is_step, reclaimed_total};
+ghost use Rattle.journal_laws.specs.Totals.{shares, steps_of, unlinked_total};
 
 /// An empty journal replays from any world without runs.
 pub fn empty_replays()
@@ -54,6 +56,22 @@ pub fn replays_on_machine()
         (last : Machine) × machine.Replays m (map machine_entry entries) last × Tracks world last }
 {}
 
+/// Over a whole journal: its answers are those of a history of the machine with the runtime's choices, in which the
+/// drain law holds; and in each history with these answers no run is stuck, each exits in time, and elements are
+/// reclaimed late.
+pub fn replays_as_machine()
+    ensures schedule { (base world : WorldView) (entries : List Entry) → Replays base world entries →
+        AreScheduledAnswers TracksSchedule base (events_of entries) (answers_of entries) world }
+    ensures answers { (base world : WorldView) (entries : List Entry) → Replays base world entries →
+        AreMachineAnswers Tracks base (events_of entries) (answers_of entries) world }
+    ensures never_stuck { (base world : WorldView) (entries : List Entry) → Replays base world entries →
+        AreNeverStuck Tracks base (events_of entries) (answers_of entries) }
+    ensures exits { (base world : WorldView) (entries : List Entry) → Replays base world entries →
+        AllExitInTime Tracks base (events_of entries) (answers_of entries) }
+    ensures reclaimed { (base world : WorldView) (entries : List Entry) → Replays base world entries →
+        AreReclaimedLate Tracks base (events_of entries) (answers_of entries) }
+{}
+
 /// The answer to an event is of a kind that the event can have.
 pub fn reaction_fits()
     ensures { (w : WorldView) (event : Event) → IsWorld w → IsReal event →
@@ -77,6 +95,16 @@ pub fn totals_grow()
 /// Every element that was reclaimed was unlinked.
 pub fn reclaimed_at_most_unlinked()
     ensures { (w : WorldView) → reclaimed_total w ≤ unlinked_total w }
+{}
+
+/// One entry more counts as a step where it was answered as one, and as one more of its worker's alone.
+pub fn counts_push()
+    ensures steps { (entries : List Entry) (entry : Entry) → steps_of (entries ++ entry ∷ []) ≡
+        steps_of entries + (if is_step entry.answer then 1 else 0) }
+    ensures own { (entries : List Entry) (entry : Entry) →
+        entries_by entry.worker (entries ++ entry ∷ []) ≡ entries_by entry.worker entries ++ entry ∷ [] }
+    ensures others { (entries : List Entry) (entry : Entry) (worker : ℕ) → entry.worker ≢ worker →
+        entries_by worker (entries ++ entry ∷ []) ≡ entries_by worker entries }
 {}
 
 /// The shares of all workers add up to the entries.
