@@ -29,15 +29,15 @@ impl Model for Journal {
     ghost use Rattle.std.specs.Prelude.{◌≤◌, map, vec_len, vec_capacity};
     ghost use Rattle.bpf_model.specs.declared.limits.TheConstants.{MAX_JOURNAL};
     ghost use Rattle.journal.specs.Entries.{JournalView};
-    ghost use Rattle.journal.specs.Rows.{entry_of, is_ready, AreStored};
+    ghost use Rattle.journal.specs.Rows.{entry_of, is_reserved, AreStored};
 
     ghost Value = { JournalView };
 
     ghost view = { λ j. record {
-        entries = map (entry_of j.bytes.items) j.rows.items;
-        limit = j.limit;
-        has_room = is_ready (vec_len j.rows) j.limit (vec_capacity j.rows)
-            (vec_len j.bytes) (vec_capacity j.bytes);
+      entries = map (entry_of j.bytes.items) j.rows.items;
+      limit = j.limit;
+      has_room = is_reserved (vec_len j.rows) j.limit (vec_capacity j.rows)
+          (vec_len j.bytes) (vec_capacity j.bytes);
     } };
 
     ghost invariant = { λ j. AreStored j.rows.items j.bytes.items
