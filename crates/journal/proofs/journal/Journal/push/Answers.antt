@@ -1,5 +1,5 @@
-use Rattle.std.proofs.Common.{◌≡◌, ◌+◌, ◌<◌, ◌≤◌, ◌++◌, ◌∷◌, [], List, ℕ, length, true, sym, ap, subst, ◌∙◌, arith, rules}
-use Rattle.std.specs.Prelude.{vec_len, vec_capacity, map}
+use Rattle.std.proofs.Common.{◌≡◌, ◌++◌, ◌∷◌, [], List, ℕ, length, sym, ap, subst, ◌∙◌, rules}
+use Rattle.std.specs.Prelude.{map}
 use Rattle.journal.specs.Rows.{IsRowOf, AreStored, entry_bytes, entry_of}
 use Rattle.journal.specs.declared.entry.Entry.{Entry}
 use Rattle.journal.specs.declared.row.Row.{Row}
