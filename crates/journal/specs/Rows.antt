@@ -70,7 +70,9 @@ entry_of bytes (rows.NotStepped worker refusal run) =
     record { worker = worker; event = events.Step run; answer = answers.Refused refusal }
 entry_of bytes (rows.Updated worker outcome key_len value_len map flags start) = record {
   worker = worker;
-  event = events.Update map (string_in bytes start key_len) (string_in bytes (start + key_len) value_len) flags;
+  event =
+      events.Update map (string_in bytes start key_len)
+      (string_in bytes (start + key_len) value_len) flags;
   answer = answer_of outcome;
 }
 entry_of bytes (rows.Deleted worker outcome key_len map start) =

@@ -114,7 +114,9 @@ fn dropped(worker: u8, answer: Answer) -> Entry
 {
     Entry {
         worker,
-        event: Event::Drop { run: RunId::new(63) },
+        event: Event::Drop {
+            run: RunId::new(63),
+        },
         answer,
     }
 }
