@@ -1,5 +1,5 @@
 -- The texts of answers.
-use Rattle.std.specs.Prelude.{ℕ, ℤ, pos, ◌==◌, if◌then◌else◌, List, [], ◌∷◌, ◌++◌, length, codes, Option, Some, None, Result, Ok, Err}
+use Rattle.std.specs.Prelude.{ℕ, ◌==◌, if◌then◌else◌, List, [], ◌∷◌, ◌++◌, length, codes, Option, Some, None, Result, Ok, Err}
 use Rattle.std.specs.Fmt.{decimal}
 use Rattle.hex.specs.Hex.{encode_lower}
 use Rattle.bpf_model.specs.Call.{errno_number}
@@ -26,6 +26,21 @@ abbrev pub slot_text : Option ℕ → List ℕ
 slot_text None = []
 slot_text (Some slot) = codes " at " ++ decimal slot
 
+-- the name of the map, the key of the element, and what became of its slot
+abbrev pub reaped_text : List ℕ → List ℕ → Given → List ℕ
+reaped_text map key given =
+    codes "reaped " ++ map ++ codes " " ++ bytes_text key ++ codes " " ++ given_text given
+
+-- a word and a number
+abbrev pub counted : List ℕ → ℕ → List ℕ
+counted word number = word ++ decimal number
+
+abbrev pub stat_text : ℕ → ℕ → ℕ → ℕ → ℕ → ℕ → List ℕ
+stat_text linked unlinked reclaimed worn runs sections =
+    (counted (codes "stat linked ") linked ++ counted (codes " unlinked ") unlinked)
+    ++ (counted (codes " given ") reclaimed ++ counted (codes " worn ") worn)
+    ++ (counted (codes " runs ") runs ++ counted (codes " open ") sections)
+
 -- an answer's line, without the line feed that ends it
 abbrev pub reply_line : Reply → List ℕ
 reply_line (replies.Map number) = codes "map " ++ decimal number
@@ -37,12 +52,9 @@ reply_line (replies.Run number) = codes "run " ++ decimal number
 reply_line replies.Moved = codes "moved"
 reply_line (replies.Exit value) = codes "exit " ++ decimal value
 reply_line replies.Done = codes "ok"
-reply_line (replies.Reaped map key given) =
-    codes "reaped " ++ map ++ codes " " ++ bytes_text key.items ++ codes " " ++ given_text given
+reply_line (replies.Reaped map key given) = reaped_text map key.items given
 reply_line (replies.Stat linked unlinked reclaimed worn runs sections) =
-    codes "stat linked " ++ decimal linked ++ codes " unlinked " ++ decimal unlinked
-    ++ codes " given " ++ decimal reclaimed ++ codes " worn " ++ decimal worn
-    ++ codes " runs " ++ decimal runs ++ codes " open " ++ decimal sections
+    stat_text linked unlinked reclaimed worn runs sections
 reply_line (replies.Element key value) = bytes_text key.items ++ codes " " ++ bytes_text value.items
 reply_line replies.End = codes "end"
 reply_line (replies.Refused code slot) = codes "refused " ++ decimal code ++ slot_text slot

@@ -16,13 +16,13 @@ abbrev pub has_outer_space : List ℕ → Bool
 has_outer_space line = slice_index line 0 == 32 || slice_index line (length line - 1) == 32
 
 abbrev pub command_or_bad : Option Command → Result (Option Command) BadLine
-command_or_bad None = Err (record { })
+command_or_bad None = Err (record {})
 command_or_bad (Some command) = Ok (Some command)
 
 -- a line, without the line feed that ends it
 abbrev pub line_says : List ℕ → Result (Option Command) BadLine
 line_says line =
-    if nat_lt LINE_BYTES (length line) then Err (record { })
+    if nat_lt LINE_BYTES (length line) then Err (record {})
     else if is_silent line then Ok None
-    else if has_outer_space line then Err (record { })
+    else if has_outer_space line then Err (record {})
     else command_or_bad (command_of (words_of line))

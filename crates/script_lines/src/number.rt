@@ -1,8 +1,19 @@
 //! Numbers in decimal.
-ghost use Rattle.std.specs.Prelude.{◌≡◌, ◌&&◌, ◌^◌, nat_lt, if◌then◌else◌, Some, None};
+ghost use Rattle.std.specs.Prelude.{◌≡◌, ◌+◌, ◌*◌, ◌<◌, ◌≤◌, ◌&&◌, ◌^◌, nat_lt, if◌then◌else◌, Some, None, IfSome, IfNone};
 ghost use Rattle.std.specs.Str.{all_ascii_digits};
 ghost use Rattle.std.specs.Str.Parse.{digits_value};
 ghost use Rattle.script_lines.specs.Words.{number_in};
+
+/// The number with one more digit at its end, where it is below 2^64.
+fn push_digit(value: u64, digit: u8) -> Option<u64>
+    requires { digit < 10 }
+    ensures some { IfSome result (λ next. next ≡ value * 10 + digit) }
+    ensures limit { IfSome result (λ next. next < 2 ^ 64) }
+    ensures none { IfNone result (2 ^ 64 ≤ value * 10 + digit) }
+{
+    let tens = value.checked_mul(10)?;
+    tens.checked_add(u64::from(digit))
+}
 
 /// The number that the digits write, where each byte is one and the number is below 2^64.
 fn read_digits(digits: &[u8]) -> Option<u64>
@@ -14,8 +25,10 @@ fn read_digits(digits: &[u8]) -> Option<u64>
         if !digit.is_ascii_digit() {
             return None;
         }
-        let tens = value.checked_mul(10)?;
-        value = tens.checked_add(u64::from(*digit - b'0'))?;
+        match push_digit(value, *digit - b'0') {
+            Some(next) => value = next,
+            None => return None,
+        }
     }
     Some(value)
 }

@@ -1,6 +1,8 @@
 //! The words that commands begin with.
 ghost use Rattle.std.specs.Prelude.{◌≡◌};
-ghost use Rattle.script_lines.specs.Grammar.{verb_of as verb_named};
+ghost use Rattle.std.specs.List.{find};
+ghost use Rattle.std.specs.Str.{bytes_eq};
+ghost use Rattle.script_lines.specs.Grammar.{verb_name, verb_of as verb_named};
 
 /// The command that a line begins with.
 #[derive(Clone, Copy, Debug, PartialEq, Eq)]
@@ -59,14 +61,27 @@ impl Verb {
     }
 }
 
-/// The command that begins with the word.
-pub(crate) fn verb_of(word: &[u8]) -> Option<Verb>
-    ensures { result ≡ verb_named word.now }
+/// Whether the word is the command's name.
+fn is_named(verb: Verb, word: &[u8]) -> bool
+    ensures { result ≡ bytes_eq (verb_name verb) word.now }
 {
-    for verb in &VERBS {
-        if verb.name().as_bytes() == word {
+    verb.name().as_bytes() == word
+}
+
+fn first_named(verbs: &[Verb], word: &[u8]) -> Option<Verb>
+    ensures { result ≡ find (λ v. bytes_eq (verb_name v) word.now) verbs.now }
+{
+    for verb in verbs {
+        if is_named(*verb, word) {
             return Some(*verb);
         }
     }
     None
+}
+
+/// The command that begins with the word.
+pub(crate) fn verb_of(word: &[u8]) -> Option<Verb>
+    ensures { result ≡ verb_named word.now }
+{
+    first_named(&VERBS, word)
 }

@@ -1,11 +1,12 @@
 //! The text of answers.
-ghost use Rattle.std.specs.Prelude.{◌≡◌, ◌≤◌, ◌++◌, length, pos, OnOk};
+ghost use Rattle.std.specs.Prelude.{◌≡◌, ◌≤◌, ◌++◌, length, codes, OnOk};
 ghost use Rattle.std.specs.Fmt.{decimal};
 ghost use Rattle.bpf_model.specs.declared.limits.TheConstants.{VALUE_BYTES};
-ghost use Rattle.script_lines.specs.Answers.{bytes_text, ret_text, given_text, slot_text, reply_line, reply_text};
+ghost use Rattle.script_lines.specs.Answers.{bytes_text, ret_text, given_text, slot_text, reaped_text, stat_text, reply_line, reply_text};
 
+use crate::name::Name;
 use crate::reply::Reply;
-use bpf_model::{Errno, Given, VALUE_BYTES};
+use bpf_model::{Errno, Given, KeyBytes, VALUE_BYTES};
 use itoa::Buffer;
 use std::alloc::AllocError;
 
@@ -48,12 +49,22 @@ fn push_ret(out: &mut Vec<u8>, ret: &Result<(), Errno>) -> Result<(), AllocError
     }
 }
 
+/// Adds a space and bytes in hexadecimal.
+#[tactic(auto, using(std::proofs::Common::append_assoc))]
+fn push_next_bytes(out: &mut Vec<u8>, bytes: &[u8]) -> Result<(), AllocError>
+    requires { length bytes.now ≤ VALUE_BYTES }
+    ensures { OnOk result (out.new.items ≡ out.old.items ++ (codes " " ++ bytes_text bytes.now)) }
+{
+    push_text(out, " ")?;
+    push_bytes(out, bytes)
+}
+
 fn push_given(out: &mut Vec<u8>, given: Given) -> Result<(), AllocError>
-    ensures { OnOk result (out.new.items ≡ out.old.items ++ given_text given) }
+    ensures { OnOk result (out.new.items ≡ out.old.items ++ (codes " " ++ given_text given)) }
 {
     match given {
-        Given::Free => push_text(out, "free"),
-        Given::Worn => push_text(out, "worn"),
+        Given::Free => push_text(out, " free"),
+        Given::Worn => push_text(out, " worn"),
     }
 }
 
@@ -77,7 +88,58 @@ fn push_counted(out: &mut Vec<u8>, word: &str, number: usize) -> Result<(), Allo
     push_number(out, number as u64)
 }
 
+/// Adds two words, each with a number.
+#[tactic(auto, using(std::proofs::Common::append_assoc))]
+fn push_pair(
+    out: &mut Vec<u8>,
+    first: &str,
+    first_number: usize,
+    second: &str,
+    second_number: usize,
+) -> Result<(), AllocError>
+    ensures { OnOk result (out.new.items ≡ out.old.items
+        ++ ((first.now ++ decimal first_number) ++ (second.now ++ decimal second_number))) }
+{
+    push_counted(out, first, first_number)?;
+    push_counted(out, second, second_number)
+}
+
+#[tactic(auto, using(std::proofs::Common::append_assoc))]
+fn push_stat(
+    out: &mut Vec<u8>,
+    linked: usize,
+    unlinked: usize,
+    given: usize,
+    worn: usize,
+    runs: usize,
+    open: usize,
+) -> Result<(), AllocError>
+    ensures { OnOk result
+        (out.new.items ≡ out.old.items ++ stat_text linked unlinked given worn runs «open») }
+{
+    push_pair(out, "stat linked ", linked, " unlinked ", unlinked)?;
+    push_pair(out, " given ", given, " worn ", worn)?;
+    push_pair(out, " runs ", runs, " open ", open)
+}
+
+#[tactic(auto, using(std::proofs::Common::append_assoc))]
+fn push_reaped(
+    out: &mut Vec<u8>,
+    map: &Name<'_>,
+    key: &KeyBytes,
+    given: Given,
+) -> Result<(), AllocError>
+    ensures { OnOk result
+        (out.new.items ≡ out.old.items ++ reaped_text map.now key.now.items given) }
+{
+    push_text(out, "reaped ")?;
+    out.extend_from_slice(map.bytes())?;
+    push_next_bytes(out, key)?;
+    push_given(out, given)
+}
+
 /// Adds an answer without the line feed that ends it.
+#[tactic(auto, using(std::proofs::Common::append_assoc))]
 fn push_line(out: &mut Vec<u8>, reply: &Reply<'_>) -> Result<(), AllocError>
     ensures { OnOk result (out.new.items ≡ out.old.items ++ reply_line reply.now) }
 {
@@ -100,14 +162,7 @@ fn push_line(out: &mut Vec<u8>, reply: &Reply<'_>) -> Result<(), AllocError>
             push_number(out, *value)
         }
         Reply::Done => push_text(out, "ok"),
-        Reply::Reaped { map, key, given } => {
-            push_text(out, "reaped ")?;
-            out.extend_from_slice(map.bytes())?;
-            push_text(out, " ")?;
-            push_bytes(out, key)?;
-            push_text(out, " ")?;
-            push_given(out, *given)
-        }
+        Reply::Reaped { map, key, given } => push_reaped(out, map, key, *given),
         Reply::Stat {
             linked,
             unlinked,
@@ -115,18 +170,10 @@ fn push_line(out: &mut Vec<u8>, reply: &Reply<'_>) -> Result<(), AllocError>
             worn,
             runs,
             open,
-        } => {
-            push_counted(out, "stat linked ", *linked)?;
-            push_counted(out, " unlinked ", *unlinked)?;
-            push_counted(out, " given ", *given)?;
-            push_counted(out, " worn ", *worn)?;
-            push_counted(out, " runs ", *runs)?;
-            push_counted(out, " open ", *open)
-        }
+        } => push_stat(out, *linked, *unlinked, *given, *worn, *runs, *open),
         Reply::Element { key, value } => {
             push_bytes(out, key)?;
-            push_text(out, " ")?;
-            push_bytes(out, value)
+            push_next_bytes(out, value)
         }
         Reply::End => push_text(out, "end"),
         Reply::Refused { code, slot } => {
