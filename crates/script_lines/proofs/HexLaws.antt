@@ -46,3 +46,6 @@ pub none_of_others : (word : List ℕ) → bytes_eq word (codes "-") ≡ false �
 none_of_others word dash others =
     ap (option_map length) (not_dash word dash)
     ∙ none_as word (decode_of word) refl (λ bytes eq. let all : list_all is_hex_digit word ≡ true = list_all-from_AllPass is_hex_digit word (decode_of-ok word bytes eq).1 in let no : true ≡ false = sym all ∙ others in cc no)
+
+-- how many bytes a word writes
+pub ruleset counting = (count_of_digits, none_of_odd, none_of_others)

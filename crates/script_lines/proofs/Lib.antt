@@ -1,3 +1,4 @@
+pub mod Again
 pub mod HexLaws
 pub mod NumberLaws
 pub mod WordLaws

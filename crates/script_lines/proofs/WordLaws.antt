@@ -13,7 +13,7 @@ use Rattle.script_lines.specs.Words.{words_of, is_word}
 abbrev is_space : ℕ → Bool
 is_space b = b == 32
 
-long_is_word : (word : List ℕ) → 0 < length word → is_word word ≡ true
+pub long_is_word : (word : List ℕ) → 0 < length word → is_word word ≡ true
 long_is_word [] h = absurd (omega arith)
 long_is_word (b ∷ word) h = ap not (ne_eqb (length (b ∷ word)) 0 (λ e. omega (arith, e)))
 

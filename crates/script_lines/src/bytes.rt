@@ -34,7 +34,7 @@ fn are_hex_digits(word: &[u8]) -> bool
 }
 
 /// How many bytes the word writes, where it writes bytes.
-#[tactic(auto, using(crate::proofs::HexLaws::count_of_digits, crate::proofs::HexLaws::none_of_odd, crate::proofs::HexLaws::none_of_others))]
+#[tactic(auto, using(crate::proofs::HexLaws::counting))]
 pub(crate) fn byte_count(word: &[u8]) -> Option<usize>
     ensures { result ≡ option_map length (bytes_in word.now) }
 {

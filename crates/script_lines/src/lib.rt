@@ -7,6 +7,7 @@
 mod bytes;
 mod code;
 mod command;
+mod law;
 mod name;
 mod names;
 mod number;
@@ -19,6 +20,7 @@ mod writing;
 pub use bytes::Bytes;
 pub use code::Code;
 pub use command::{BadLine, Command};
+pub use law::{bytes_are_read_again, number_has_one_text, number_is_read_again};
 pub use name::Name;
 pub use names::Names;
 pub use parsing::{LINE_BYTES, MAX_COUNT, parse_line};

@@ -4,142 +4,143 @@ use script_lines::{LINE_BYTES, parse_line};
 use std::alloc::{AllocError, Global};
 use std::test::Fail;
 
-/// Each command in its forms, the limits of numbers, and bytes in either case.
-const COMMANDS: [(&str, &str); 37] = [
-    ("map m 4 8 1 0 2", "map m 4 8 1 0 2"),
-    ("map 4 0 0 0 0 18446744073709551615", "map 4 0 0 0 0 18446744073709551615"),
-    ("map array 4 8 1 0 2", "map array 4 8 1 0 2"),
-    ("map # 4 8 1 0 2", "map # 4 8 1 0 2"),
-    ("load 0 b700000001000000", "load 0 :b700000001000000"),
-    ("load 256 -", "load 256 :"),
-    ("load 300 Ab m", "load 300 :ab m"),
-    ("load 0 - m m 9", "load 0 : m m 9"),
-    (
-        "load 0 00 a b c d e f g h i j k l m n o p",
-        "load 0 :00 a b c d e f g h i j k l m n o p",
-    ),
-    ("put m 00000000 0500000000000000 0", "put m :00000000 :0500000000000000 0"),
-    ("put m - - 3", "put m : : 3"),
-    ("put m aAbBcCdDeEfF 0123456789 1", "put m :aabbccddeeff :0123456789 1"),
-    ("put m 00 00 18446744073709551615", "put m :00 :00 18446744073709551615"),
-    ("get m 00", "get m :00"),
-    ("get m -", "get m :"),
-    ("get get ff", "get get :ff"),
-    ("get - -", "get - :"),
-    ("get \u{e9} 00", "get \u{e9} :00"),
-    ("get m\r 00", "get m\r :00"),
-    ("get m\t 00", "get m\t :00"),
-    ("del m 01000000", "del m :01000000"),
-    ("del m -", "del m :"),
-    ("start 0 -", "start 0 :"),
-    ("start 63 0b", "start 63 :0b"),
-    ("start 18446744073709551615 00ff", "start 18446744073709551615 :00ff"),
-    ("step 0", "step 0 1"),
-    ("step 0 1", "step 0 1"),
-    ("step 0 4096", "step 0 4096"),
-    ("step 18446744073709551615 10", "step 18446744073709551615 10"),
-    ("advance", "advance"),
-    ("reap", "reap"),
-    ("drop 0", "drop 0"),
-    ("stat", "stat"),
-    ("dump m", "dump m"),
-    ("dump  m", "dump m"),
-    ("step   12    34", "step 12 34"),
-    ("put  m   00    01     2", "put m :00 :01 2"),
-];
+/// Each command in its forms, the limits of numbers, and bytes in either case: a line, ` = `, and what it says.
+const COMMANDS: &str = "map m 4 8 1 0 2 = map m 4 8 1 0 2\n\
+map 4 0 0 0 0 18446744073709551615 = map 4 0 0 0 0 18446744073709551615\n\
+map array 4 8 1 0 2 = map array 4 8 1 0 2\n\
+map # 4 8 1 0 2 = map # 4 8 1 0 2\n\
+load 0 b700000001000000 = load 0 :b700000001000000\n\
+load 256 - = load 256 :\n\
+load 300 Ab m = load 300 :ab m\n\
+load 0 - m m 9 = load 0 : m m 9\n\
+load 0 00 a b c d e f g h i j k l m n o p = load 0 :00 a b c d e f g h i j k l m n o p\n\
+put m 00000000 0500000000000000 0 = put m :00000000 :0500000000000000 0\n\
+put m - - 3 = put m : : 3\n\
+put m aAbBcCdDeEfF 0123456789 1 = put m :aabbccddeeff :0123456789 1\n\
+put m 00 00 18446744073709551615 = put m :00 :00 18446744073709551615\n\
+get m 00 = get m :00\n\
+get m - = get m :\n\
+get get ff = get get :ff\n\
+get - - = get - :\n\
+get \u{e9} 00 = get \u{e9} :00\n\
+get m\r 00 = get m\r :00\n\
+get m\t 00 = get m\t :00\n\
+del m 01000000 = del m :01000000\n\
+del m - = del m :\n\
+start 0 - = start 0 :\n\
+start 63 0b = start 63 :0b\n\
+start 18446744073709551615 00ff = start 18446744073709551615 :00ff\n\
+step 0 = step 0 1\n\
+step 0 1 = step 0 1\n\
+step 0 4096 = step 0 4096\n\
+step 18446744073709551615 10 = step 18446744073709551615 10\n\
+advance = advance\n\
+reap = reap\n\
+drop 0 = drop 0\n\
+stat = stat\n\
+dump m = dump m\n\
+dump  m = dump m\n\
+step   12    34 = step 12 34\n\
+put  m   00    01     2 = put m :00 :01 2";
 
 /// Lines that say nothing.
-const SILENT: [&str; 6] = ["", "#", "##", "# ", "#fly", "# a comment \t\r "];
+const SILENT: &str = "\n\
+#\n\
+##\n\
+# \n\
+#fly\n\
+# a comment \t\r ";
 
 /// Unknown commands, wrong numbers of words, words that are no numbers or no bytes, counts out of range, and
 /// spaces where none belong.
-const BAD: [&str; 72] = [
-    "fly",
-    "Map m 4 8 1 0 2",
-    "STAT",
-    "sta",
-    "stats",
-    "stat\r",
-    "\tstat",
-    "stat\t",
-    "\0",
-    "m",
-    "0",
-    " ",
-    "  ",
-    " stat",
-    "stat ",
-    "stat  ",
-    " #",
-    " # a comment",
-    "map",
-    "map m 4 8 1 0",
-    "map m 4 8 1 0 2 1",
-    "map m array 4 8 1",
-    "map m - 8 1 0 2",
-    "map m 4 x 1 0 2",
-    "map m 4 8 01 0 2",
-    "map m 4 8 1 00 2",
-    "map m 4 8 1 0 18446744073709551616",
-    "map m +4 8 1 0 2",
-    "map m 4 -8 1 0 2",
-    "map m 4.0 8 1 0 2",
-    "map m 0x4 8 1 0 2",
-    "load",
-    "load 0",
-    "load - 00",
-    "load 00 00",
-    "load 0 0",
-    "load 0 000",
-    "load 0 0g",
-    "load 0 --",
-    "load 0 0x",
-    "load 0 00 a b c d e f g h i j k l m n o p q",
-    "put m 00 00",
-    "put m 00 00 0 0",
-    "put m 0 00 0",
-    "put m 00 0 0",
-    "put m g0 00 0",
-    "put m 00 0G 0",
-    "put m 00 00 -",
-    "put m 00 00 -1",
-    "put m 00 00 07",
-    "get m",
-    "get m 00 00",
-    "get m 0",
-    "del",
-    "del m",
-    "del m 00 0",
-    "start 0",
-    "start - 00",
-    "start 0 0",
-    "start 0 - -",
-    "step",
-    "step 0 0",
-    "step 0 4097",
-    "step 0 01",
-    "step 0 1 1",
-    "step 00",
-    "advance 0",
-    "reap m",
-    "drop",
-    "drop 0 0",
-    "dump",
-    "dump m m",
-];
+const BAD: &str = "fly\n\
+Map m 4 8 1 0 2\n\
+STAT\n\
+sta\n\
+stats\n\
+stat\r\n\
+\tstat\n\
+stat\t\n\
+\0\n\
+m\n\
+0\n\
+\x20\n\
+\x20 \n\
+\x20stat\n\
+stat \n\
+stat  \n\
+\x20#\n\
+\x20# a comment\n\
+map\n\
+map m 4 8 1 0\n\
+map m 4 8 1 0 2 1\n\
+map m array 4 8 1\n\
+map m - 8 1 0 2\n\
+map m 4 x 1 0 2\n\
+map m 4 8 01 0 2\n\
+map m 4 8 1 00 2\n\
+map m 4 8 1 0 18446744073709551616\n\
+map m +4 8 1 0 2\n\
+map m 4 -8 1 0 2\n\
+map m 4.0 8 1 0 2\n\
+map m 0x4 8 1 0 2\n\
+load\n\
+load 0\n\
+load - 00\n\
+load 00 00\n\
+load 0 0\n\
+load 0 000\n\
+load 0 0g\n\
+load 0 --\n\
+load 0 0x\n\
+load 0 00 a b c d e f g h i j k l m n o p q\n\
+put m 00 00\n\
+put m 00 00 0 0\n\
+put m 0 00 0\n\
+put m 00 0 0\n\
+put m g0 00 0\n\
+put m 00 0G 0\n\
+put m 00 00 -\n\
+put m 00 00 -1\n\
+put m 00 00 07\n\
+get m\n\
+get m 00 00\n\
+get m 0\n\
+del\n\
+del m\n\
+del m 00 0\n\
+start 0\n\
+start - 00\n\
+start 0 0\n\
+start 0 - -\n\
+step\n\
+step 0 0\n\
+step 0 4097\n\
+step 0 01\n\
+step 0 1 1\n\
+step 00\n\
+advance 0\n\
+reap m\n\
+drop\n\
+drop 0 0\n\
+dump\n\
+dump m m";
 
 #[test]
 fn commands(rt: HostRuntime) -> Result<(), Fail> {
-    for (line, expected) in &COMMANDS {
+    for row in COMMANDS.split('\n') {
+        let Some((line, expected)) = row.split_once(" = ") else {
+            return Err(Fail::from("nothing is wanted"));
+        };
         let said = shown(rt.alloc(), line.as_bytes())?;
-        assert_eq!(rt; said.as_str(), *expected);
+        assert_eq!(rt; said.as_str(), expected);
     }
     Ok(())
 }
 
 #[test]
 fn silent_lines(rt: HostRuntime) -> Result<(), Fail> {
-    for line in &SILENT {
+    for line in SILENT.split('\n') {
         let said = shown(rt.alloc(), line.as_bytes())?;
         assert_eq!(rt; said.as_str(), "nothing");
     }
@@ -148,7 +149,7 @@ fn silent_lines(rt: HostRuntime) -> Result<(), Fail> {
 
 #[test]
 fn bad_lines(rt: HostRuntime) -> Result<(), Fail> {
-    for line in &BAD {
+    for line in BAD.split('\n') {
         let said = shown(rt.alloc(), line.as_bytes())?;
         assert_eq!(rt; said.as_str(), "bad", "at {line}");
     }

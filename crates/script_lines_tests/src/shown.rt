@@ -21,10 +21,7 @@ fn push_name(out: &mut String, name: &Name<'_>) -> Result<(), AllocError> {
     }
 }
 
-fn push_key(
-    out: &mut String,
-    key: &Bytes<ArrayVec<u8, KEY_BYTES>>,
-) -> Result<(), AllocError> {
+fn push_key(out: &mut String, key: &Bytes<ArrayVec<u8, KEY_BYTES>>) -> Result<(), AllocError> {
     match key {
         Bytes::Fit(bytes) => push_hex(out, bytes),
         Bytes::TooLong => out.push_str(" :.."),
@@ -42,11 +39,7 @@ fn push_value(
     }
 }
 
-fn push_command(
-    out: &mut String,
-    alloc: Global,
-    command: Command<'_>,
-) -> Result<(), AllocError> {
+fn push_command(out: &mut String, alloc: Global, command: Command<'_>) -> Result<(), AllocError> {
     match command {
         Command::Map {
             name,
@@ -58,7 +51,10 @@ fn push_command(
         } => {
             out.push_str("map")?;
             push_name(out, &name)?;
-            write!(out, " {key_len} {value_len} {entries} {spare} {reuse_limit}")
+            write!(
+                out,
+                " {key_len} {value_len} {entries} {spare} {reuse_limit}"
+            )
         }
         Command::Load {
             ctx_len,
