@@ -1,0 +1,4 @@
+pub mod Again
+pub mod HexLaws
+pub mod NumberLaws
+pub mod WordLaws
