@@ -9,9 +9,9 @@ use Rattle.disasm.specs.Text.{program_text}
 use Rattle.insn_codec.specs.declared.fault.DecodeFault.{DecodeFault}
 use Rattle.insn_codec.specs.Faults.{IsDecodeFault, decode_fault_number, decode_fault_slot}
 use Rattle.typed_runs.specs.Verified.{IsVerified}
-use Rattle.map_verifier.specs.declared.refusal.Refusal.{Refusal}
-use Rattle.map_verifier.specs.Numbers.{refusal_number, refusal_slot}
-use Rattle.map_verifier.specs.Verdict.{IsToldOf}
+use Rattle.verifier.specs.declared.refusal.Refusal.{Refusal}
+use Rattle.verifier.specs.Numbers.{refusal_number, refusal_slot}
+use Rattle.verifier.specs.Verdict.{IsToldOf}
 use Rattle.bpfrt.specs.declared.report.Verdict.{Verdict}
 use Rattle.bpfrt.specs.declared.request.Command.{Command}
 use Rattle.bpfrt.specs.declared.request.Command.TheVariants.{Check, Disasm}
@@ -24,7 +24,7 @@ pub record IsVerifiedText (bytes : List ℕ) (program : List Insn) : Type 0 wher
   pub verified : IsVerified program [] 0
 
 -- The bytes are such a text, of so many instructions and slots.
-pub record IsAccepted (bytes : List ℕ) (a : Accepted) : Type 0 where
+pub record IsAcceptedText (bytes : List ℕ) (a : Accepted) : Type 0 where
   pub program : List Insn
   pub is : IsVerifiedText bytes program
   pub instructions : a.instructions ≡ length program
@@ -44,7 +44,8 @@ pub record IsFaultVerdict (bytes : List ℕ) (v : Verdict) : Type 0 where
   pub code : v.code ≡ decode_fault_number fault
   pub slot : v.slot ≡ decode_fault_slot fault
 
--- The bytes are the text of a program, and the verdict is the verifier's of it. Unless memory ran out, the program isn't plain.
+-- The bytes are the text of a program, and the verdict is the verifier's of it. Unless memory ran
+-- out, the program isn't plain.
 pub record IsVerifierVerdict (bytes : List ℕ) (v : Verdict) : Type 0 where
   pub program : List Insn
   pub is : IsProgram program
@@ -78,17 +79,19 @@ IsRefusedBy (Disasm file) bytes = IsRefusedByDecode bytes
 -- what `check` says of a program of so many instructions and slots
 abbrev pub accepted_line : ℕ → ℕ → List ℕ
 accepted_line instructions slots =
-    codes "accepted " ++ (decimal instructions ++ (codes " instructions " ++ (decimal slots ++ codes " slots\n")))
+    codes "accepted " ++ (decimal instructions
+    ++ (codes " instructions " ++ (decimal slots ++ codes " slots\n")))
 
 -- what `check` adds to the output for a file that it accepts
 abbrev pub WritesAccepted : Option (List ℕ) → Option (List ℕ) → List ℕ → Type 0
 WritesAccepted old new bytes =
-    (program : List Insn) × IsVerifiedText bytes program × Appends old new (accepted_line (length program) (slot_total program))
+    (program : List Insn) × IsVerifiedText bytes program
+    × Appends old new (accepted_line (length program) (slot_total program))
 
 -- what `disasm` adds for a file that is a program
 abbrev pub WritesText : Option (List ℕ) → Option (List ℕ) → List ℕ → Type 0
 WritesText old new bytes = (lines : List ℕ) × IsTextOf bytes lines × Appends old new lines
 
-abbrev pub Writes : Command → Option (List ℕ) → Option (List ℕ) → List ℕ → Type 0
-Writes (Check file) old new bytes = WritesAccepted old new bytes
-Writes (Disasm file) old new bytes = WritesText old new bytes
+abbrev pub WritesFile : Command → Option (List ℕ) → Option (List ℕ) → List ℕ → Type 0
+WritesFile (Check file) old new bytes = WritesAccepted old new bytes
+WritesFile (Disasm file) old new bytes = WritesText old new bytes

@@ -1,5 +1,6 @@
 //! Program files.
-ghost use Rattle.std.specs.Prelude.{◌≡◌, ℕ, ◌+◌, ◌<◌, ◌^◌, length, IfOk, IfErr, MatchResult};
+ghost use Rattle.std.specs.Prelude.{◌≡◌, ◌∷◌, ◌+◌, ◌<◌, ◌≤◌, ◌^◌, length, IfOk, IfErr, MatchResult};
+ghost use Rattle.bpf_model.specs.declared.limits.TheConstants.{CTX_BYTES};
 ghost use Rattle.loader.specs.Lines.{file_lines};
 ghost use Rattle.loader.specs.ProgramFile.{FileContent, IsProgramFile, FileSays, IsLoadFault};
 ghost use Rattle.loader.specs.Loaded.{loaded_content, IsTextFault};
@@ -24,6 +25,18 @@ pub struct ProgramFile {
     pub code: Vec<u8>,
 }
 
+/// The first line of a text that is not empty, and what stands behind it.
+fn first_line(text: &[u8]) -> (&[u8], &[u8])
+    requires { 0 < length text.now }
+    ensures lines { file_lines text.now ≡ result.0.now ∷ file_lines result.1.now }
+    ensures shorter { length result.1.now < length text.now }
+{
+    match cut(text, b'\n') {
+        (line, Some(rest)) => (line, rest),
+        (line, None) => (line, &[]),
+    }
+}
+
 /// What the lines behind the heading say.
 fn load_text(alloc: Global, text: &[u8]) -> Result<ProgramFile, LoadFault>
     requires { length text.now + 8 < 2 ^ 64 }
@@ -34,15 +47,17 @@ fn load_text(alloc: Global, text: &[u8]) -> Result<ProgramFile, LoadFault>
     let mut rest = text;
     let mut number = 2;
     while !rest.is_empty() {
-        let (line, more) = cut(rest, b'\n');
+        loading.begins();
+        let (line, more) = first_line(rest);
         match loading.line(line) {
             Ok(()) => {}
             Err(LineFault::Wrong) => return Err(LoadFault::BadFile { line: number }),
             Err(LineFault::Memory) => return Err(LoadFault::Memory),
         }
-        rest = more.unwrap_or(&[]);
+        rest = more;
         number += 1;
     }
+    loading.begins();
     match loading.finish() {
         Some(file) => Ok(file),
         None => Err(LoadFault::BadFile { line: number }),
@@ -62,6 +77,7 @@ fn load_text(alloc: Global, text: &[u8]) -> Result<ProgramFile, LoadFault>
 pub fn load(alloc: Global, bytes: &[u8]) -> Result<ProgramFile, LoadFault>
     // What the file says.
     ensures found { IfOk result (λ f. FileSays bytes.now (loaded_content f)) }
+    ensures limit { IfOk result (λ f. f.ctx_len ≤ CTX_BYTES) }
     // Which line is wrong.
     ensures fault { IfErr result (IsLoadFault bytes.now) }
     // A file that says something is loaded, unless memory runs out.
