@@ -1,11 +1,12 @@
--- The journal: entries that replay, as a run of the machine, from a base state in which no run slot is occupied.
+-- The journal: entries that replay, as a run of the machine, from a base state in which no run slot
+-- is occupied.
 use Rattle.std.specs.Prelude.{◌≡◌, ℕ, ◌≤◌, List, None, length, map}
 use Rattle.bpf_model.specs.declared.limits.TheConstants.{MAX_JOURNAL}
 use Rattle.bpf_model.specs.declared.event.Event.{Event}
 use Rattle.bpf_model.specs.declared.event.Answer.{Answer}
 use Rattle.bpf_model.specs.Machine.{Machine, run_at}
 use Rattle.bpf_model.specs.Event.{AreReal}
-use Rattle.bpf_model.specs.Run.{MachineRun}
+use Rattle.bpf_model.specs.History.{MachineRun}
 
 -- what a worker did, and the answer
 pub record JournalEntry : Type 0 where

@@ -6,9 +6,9 @@ use Rattle.bpf_model.specs.Refines.{TracksSchedule}
 use Rattle.bpf_model.specs.Schedule.{Schedule}
 use Rattle.bpf_model.specs.View.{RunView, WorldView}
 use Rattle.model_laws.specs.Alone.{HoldsState, IsOwn}
-use Rattle.world_laws.specs.Typed.{IsReady, IsRunning}
-use Rattle.map_verifier.specs.Checked.{Checked}
-use Rattle.world_runs.specs.RunWords.{RunWords, IsAt}
+use Rattle.world_laws.specs.Typed.{IsReadyWorld, IsRunning}
+use Rattle.verifier.specs.Checked.{Checked}
+use Rattle.machine.specs.RunWords.{RunWords, IsAt}
 use Rattle.lone_runs.specs.declared.step.Step.{Step}
 use Rattle.lone_runs.specs.declared.step.Step.TheVariants.{Moved, Exit}
 
@@ -16,18 +16,20 @@ use Rattle.lone_runs.specs.declared.step.Step.TheVariants.{Moved, Exit}
 abbrev pub loaded_alone : Checked → Loaded
 loaded_alone v = record { code = v.program; maps = []; context_len = v.ctx_len }
 
--- The words are those of a run of the program: in some world that the machine tracks they are the run in slot 0. It refers to its own context
--- and frame alone, and where it exits from here, it has exited so from its start.
+-- The words are those of a run of the program: in some world that the machine tracks they are the
+-- run in slot 0. It refers to its own context and frame alone, and where it exits from here, it has
+-- exited so from its start.
 pub record StandsAlone (v : Checked) (view : RunView) : Type 0 where
   pub world : WorldView
   pub schedule : Schedule
   pub run : Run
   pub tracks : TracksSchedule world schedule
-  pub ready : IsReady world
+  pub ready : IsReadyWorld world
   pub running : IsRunning world schedule 0 run view
   pub program : run.program ≡ loaded_alone v
   pub own : HoldsState IsOwn run.state
-  pub so_far : (steps n : ℕ) → ExitsFrom run steps n → ExitsFrom (fresh_run 0 (loaded_alone v) view.context) (view.moved + steps) n
+  pub so_far : (steps n : ℕ) → ExitsFrom run steps n →
+      ExitsFrom (fresh_run 0 (loaded_alone v) view.context) (view.moved + steps) n
 
 -- The run stands so before its next instruction.
 pub record IsLone (v : Checked) (r : RunWords) : Type 0 where
