@@ -1,3 +1,4 @@
+use crate::report::no_command;
 use crate::request::{Command, UsageFault};
 use crate::run::run as run_command;
 use crate::words::command;
@@ -110,6 +111,163 @@ fn outputs_and_statuses(rt: HostRuntime) -> Result<(), Fail> {
     Ok(())
 }
 
+/// Runs `check` on a file, and compares what it writes and answers.
+fn checks(
+    rt: &HostRuntime,
+    file: &[u8],
+    status: u8,
+    out: &[u8],
+    err: &[u8],
+) -> Result<(), Fail> {
+    let alloc = rt.alloc();
+    let check = check(alloc)?;
+    let mut input = file;
+    let mut written: Vec<u8> = Vec::new(alloc);
+    let mut told: Vec<u8> = Vec::new(alloc);
+    let found = run_command(alloc, &check, &mut input, &mut written, &mut told);
+    assert_eq!(rt; told.as_slice(), err);
+    assert_eq!(rt; written.as_slice(), out);
+    assert_eq!(rt; found, status);
+    Ok(())
+}
+
+/// Texts, and what `check` says of each on standard error; status 1.
+const REFUSED_TEXTS: [(&[u8], &[u8]); 34] = [
+    // The end comes too early: the line behind the last.
+    (b"bpfrt 1\n", b"fault 94 at 2\n"),
+    (b"bpfrt 1\nctx 0", b"fault 94 at 3\n"),
+    (b"bpfrt 1\nctx 0\n", b"fault 94 at 3\n"),
+    (b"bpfrt 1\nctx 0\nmap m 4 8 1 0 2\n", b"fault 94 at 4\n"),
+    // The context.
+    (b"bpfrt 1\nctx 257\ncode\n", b"fault 94 at 2\n"),
+    (b"bpfrt 1\ncode\n", b"fault 94 at 2\n"),
+    (b"bpfrt 1\n\nctx 0\ncode\n", b"fault 94 at 2\n"),
+    (b"bpfrt 1\nctx  0\ncode\n", b"fault 94 at 2\n"),
+    (b"bpfrt 1\nctx 0 \ncode\n", b"fault 94 at 2\n"),
+    (b"bpfrt 1\n ctx 0\ncode\n", b"fault 94 at 2\n"),
+    (b"bpfrt 1\nctx 00\ncode\n", b"fault 94 at 2\n"),
+    (b"bpfrt 1\nctx +1\ncode\n", b"fault 94 at 2\n"),
+    (b"bpfrt 1\nctx 18446744073709551616\ncode\n", b"fault 94 at 2\n"),
+    (b"bpfrt 1\nctx 0\r\ncode\n", b"fault 94 at 2\n"),
+    (b"bpfrt 1\nctx 0\nctx 0\ncode\n", b"fault 94 at 3\n"),
+    // Maps: too few words, too many, no name, no text, a name that is taken, no shape.
+    (b"bpfrt 1\nctx 0\nmap m 4 8 1 0\ncode\n", b"fault 94 at 3\n"),
+    (b"bpfrt 1\nctx 0\nmap m 4 8 1 0 2 2\ncode\n", b"fault 94 at 3\n"),
+    (b"bpfrt 1\nctx 0\nmap M 4 8 1 0 2\ncode\n", b"fault 94 at 3\n"),
+    (b"bpfrt 1\nctx 0\nmap \xff 4 8 1 0 2\ncode\n", b"fault 94 at 3\n"),
+    (b"bpfrt 1\nctx 0\nmap m 4 8 1 0 2\nmap m 4 8 1 0 2\ncode\n", b"fault 94 at 4\n"),
+    (b"bpfrt 1\nctx 0\nmap m 0 8 1 0 2\ncode\n", b"fault 94 at 3\n"),
+    (b"bpfrt 1\nctx 0\nmap m 4 8 1 0 4294967296\ncode\n", b"fault 94 at 3\n"),
+    (b"bpfrt 1\nctx 0\n\ncode\n", b"fault 94 at 3\n"),
+    (b"bpfrt 1\nctx 0\ncode \n", b"fault 94 at 3\n"),
+    // Slots.
+    (b"bpfrt 1\nctx 0\ncode\nb70000000100000\n", b"fault 94 at 4\n"),
+    (b"bpfrt 1\nctx 0\ncode\nb70000000100000g\n", b"fault 94 at 4\n"),
+    (b"bpfrt 1\nctx 0\ncode\nb700000001000000  9500000000000000\n", b"fault 94 at 4\n"),
+    (b"bpfrt 1\nctx 0\ncode\nb7000000010000009500000000000000\n", b"fault 94 at 4\n"),
+    (b"bpfrt 1\nctx 0\ncode\nb700000001000000\n\n", b"fault 94 at 5\n"),
+    (b"bpfrt 1\nctx 0\ncode\nb700000001000000\nmap m 4 8 1 0 2\n", b"fault 94 at 5\n"),
+    // Sound files, whose program is refused.
+    (b"bpfrt 1\nctx 0\ncode\n", b"refused 2\n"),
+    (b"bpfrt 1\nctx 0\ncode\n7110000000000000 9500000000000000\n", b"refused 27 at 0\n"),
+    // No texts: seven bytes; a slot that stores, with a source register; 20 bytes.
+    (b"bpfrt 1", b"refused 1\n"),
+    (b"bpfrt 2\n", b"refused 8 at 0\n"),
+];
+
+#[test]
+fn texts_that_are_refused(rt: HostRuntime) -> Result<(), Fail> {
+    for (file, told) in REFUSED_TEXTS {
+        checks(&rt, file, 1, b"", told)?;
+    }
+    Ok(())
+}
+
+const LOOKUP_FILE: &[u8] = b"bpfrt 1\nctx 0\nmap m 4 8 1 0 2\ncode\n\
+b706000000000000 8520000001000000\n620AFCFF00000000 bfa2000000000000 07020000fcffffff\n\
+1851000000000000 0000000000000000 8500000001000000 1500010000000000\n\
+7906000000000000 8520000002000000\nbf60000000000000 9500000000000000";
+
+/// `examples/c/counter.bpfrt`: a map, a context of 8 bytes, 35 slots, of which two instructions take two.
+const COUNTER_FILE: &[u8] = b"bpfrt 1\nctx 8\nmap totals 4 16 64 64 1000\ncode\n\
+bf17000000000000 6171000000000000 631afcff00000000 8520000001000000 bfa2000000000000\n\
+07020000fcffffff 1851000000000000 0000000000000000 8500000001000000 15000a0000000000\n\
+0500000000000000 7906000000000000 0706000001000000 7b60000000000000 6171040000000000\n\
+7902080000000000 0f12000000000000 7b20080000000000 8520000002000000 05000d0000000000\n\
+b706000001000000 7b6ae8ff00000000 6171040000000000 7b1af0ff00000000 8520000002000000\n\
+bfa2000000000000 07020000fcffffff bfa3000000000000 07030000e8ffffff 1851000000000000\n\
+0000000000000000 b704000001000000 8500000002000000 bf60000000000000 9500000000000000\n";
+
+#[test]
+fn texts_that_are_accepted(rt: HostRuntime) -> Result<(), Fail> {
+    let rows: [(&[u8], &[u8]); 5] = [
+        (
+            b"bpfrt 1\nctx 0\ncode\nB700000001000000 9500000000000000\n",
+            b"accepted 2 instructions 2 slots\n",
+        ),
+        (
+            b"bpfrt 1\nctx 1\ncode\n7110000000000000\n9500000000000000\n",
+            b"accepted 2 instructions 2 slots\n",
+        ),
+        (
+            b"bpfrt 1\nctx 256\ncode\n7110ff0000000000 9500000000000000",
+            b"accepted 2 instructions 2 slots\n",
+        ),
+        (LOOKUP_FILE, b"accepted 12 instructions 13 slots\n"),
+        (COUNTER_FILE, b"accepted 33 instructions 35 slots\n"),
+    ];
+    for (file, out) in rows {
+        checks(&rt, file, 0, out, b"")?;
+    }
+    Ok(())
+}
+
+/// A text with so many maps.
+fn file_with_maps(alloc: Global, maps: usize) -> Result<String, Fail> {
+    let mut file = String::from_str(alloc, "bpfrt 1\nctx 0\n")?;
+    for number in 0..maps {
+        file.push_str(&format!(in alloc; "map m{number} 64 256 1 0 1\n")?)?;
+    }
+    file.push_str("code\nb700000001000000 9500000000000000\n")?;
+    Ok(file)
+}
+
+#[test]
+fn as_many_maps_as_there_may_be(rt: HostRuntime) -> Result<(), Fail> {
+    let alloc = rt.alloc();
+    let sixteen = file_with_maps(alloc, 16)?;
+    checks(&rt, sixteen.as_bytes(), 0, b"accepted 2 instructions 2 slots\n", b"")?;
+    let seventeen = file_with_maps(alloc, 17)?;
+    checks(&rt, seventeen.as_bytes(), 1, b"", b"fault 94 at 19\n")
+}
+
+#[test]
+fn text_of_a_program_file(rt: HostRuntime) -> Result<(), Fail> {
+    let alloc = rt.alloc();
+    let disasm = disasm(alloc)?;
+    let mut input = LOOKUP_FILE;
+    let mut out: Vec<u8> = Vec::new(alloc);
+    let mut told: Vec<u8> = Vec::new(alloc);
+    let status = run_command(alloc, &disasm, &mut input, &mut out, &mut told);
+    assert_eq!(rt; status, 0);
+    assert_eq!(rt; out.as_slice(), LOOKUP_LINES);
+    assert!(rt; told.is_empty());
+    Ok(())
+}
+
+/// A text of more slots than a program has, whose last line is wrong: that is told first.
+#[test]
+fn long_texts(rt: HostRuntime) -> Result<(), Fail> {
+    let alloc = rt.alloc();
+    let mut file = String::from_str(alloc, "bpfrt 1\nctx 0\ncode\n")?;
+    for _ in 0..4097 {
+        file.push_str("b700000000000000\n")?;
+    }
+    checks(&rt, file.as_bytes(), 1, b"", b"refused 3\n")?;
+    file.push_str("b7\n")?;
+    checks(&rt, file.as_bytes(), 1, b"", b"fault 94 at 4101\n")
+}
+
 #[test]
 fn files_in_many_pieces(rt: HostRuntime) -> Result<(), Fail> {
     let alloc = rt.alloc();
@@ -210,6 +368,45 @@ fn commands_of_words(rt: HostRuntime) -> Result<(), Fail> {
     let found = command(alloc, &given)?;
     assert!(rt; matches!(&found, Command::Disasm { .. }));
     assert_eq!(rt; found.file(), "b.bpf");
+    Ok(())
+}
+
+/// The text of a usage fault, as `main` writes it, with its status.
+fn told(rt: &HostRuntime, texts: &[&str]) -> Result<String, Fail> {
+    let alloc = rt.alloc();
+    let given = words(alloc, texts)?;
+    let mut err: Vec<u8> = Vec::new(alloc);
+    match command(alloc, &given) {
+        Ok(_) => assert!(rt; false),
+        Err(usage) => assert_eq!(rt; no_command(&mut err, &usage), 2),
+    }
+    let text = str::from_utf8(&err)?;
+    Ok(String::from_str(alloc, text)?)
+}
+
+#[test]
+fn usage_names_what_is_wrong(rt: HostRuntime) -> Result<(), Fail> {
+    let text = told(&rt, &["bpfrt", "chekc", "a"])?;
+    assert!(rt; text.contains("'chekc'"));
+    assert!(rt; text.contains("'check'"));
+    let text = told(&rt, &["bpfrt", "check"])?;
+    assert!(rt; text.contains("<FILE>"));
+    let text = told(&rt, &["bpfrt", "check", "--help"])?;
+    assert!(rt; text.contains("accepted 33 instructions 35 slots"));
+    assert!(rt; text.contains("fault 94 at L"));
+    let text = told(&rt, &["bpfrt", "disasm", "--help"])?;
+    assert!(rt; text.contains("mov64 r0, 1"));
+    Ok(())
+}
+
+#[test]
+fn a_word_that_is_no_text(rt: HostRuntime) -> Result<(), Fail> {
+    let mut err: Vec<u8> = Vec::new(rt.alloc());
+    assert_eq!(rt; no_command(&mut err, &UsageFault::NotText), 2);
+    assert_eq!(rt; err.as_slice(), b"a word is not UTF-8 text\n".as_slice());
+    let mut err: Vec<u8> = Vec::new(rt.alloc());
+    assert_eq!(rt; no_command(&mut err, &UsageFault::Memory), 3);
+    assert_eq!(rt; err.as_slice(), b"fault 13\n".as_slice());
     Ok(())
 }
 

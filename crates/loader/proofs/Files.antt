@@ -56,8 +56,8 @@ same_added : (old r s : RegistryView) (line : List ℕ) → AddsMap old line r �
 same_added old r s line h k =
     let m = same_map line h.name k.name h.shape k.shape h.is k.is in
     same_registry r s
-      (h.names ∙ ap (λ n. old.names ++ n ∷ []) m.0 ∙ sym k.names)
-      (h.maps ∙ ap (λ t. old.maps ++ new_map_view t ∷ []) m.1 ∙ sym k.maps)
+    (h.names ∙ ap (λ n. old.names ++ n ∷ []) m.0 ∙ sym k.names)
+    (h.maps ∙ ap (λ t. old.maps ++ new_map_view t ∷ []) m.1 ∙ sym k.maps)
 
 -- `code` tells no map
 
@@ -103,22 +103,29 @@ no_code_line old r (m ∷ ms) (n ∷ ns) ds h e = no_code_line h.0 r ms ns ds h.
 
 pub none_begins : IsFileBeginning []
 none_begins = (
-    codes "ctx 0" ∷ code_line ∷ [],
-    record { context = 0; registry = no_maps; code = [] },
-    record {
-      first = codes "ctx 0"; map_lines = []; code_lines = []; parts = refl;
-      context = record { word = codes "0"; words = refl; number = record { digits = (omega arith, (omega arith, tt)); short = λ h. absurd (omega arith); value = refl; fits = omega arith }; limit = omega arith };
-      maps = refl;
-      code = refl;
-    },
-  )
+  codes "ctx 0" ∷ code_line ∷ [],
+  record { context = 0; registry = no_maps; code = [] },
+  record {
+    first = codes "ctx 0";
+    map_lines = [];
+    code_lines = [];
+    parts = refl;
+    context = record { word = codes "0"; words = refl; number = record { digits = (omega arith, (omega arith, tt)); short = λ h. absurd (omega arith); value = refl; fits = omega arith }; limit = omega arith };
+    maps = refl;
+    code = refl;
+  },
+)
 
 pub maps_begin : (lines : List (List ℕ)) (context : ℕ) (r : RegistryView) → AreMapsSoFar lines context r → IsProgramFile (lines ++ code_line ∷ []) (record { context = context; registry = r; code = [] })
 maps_begin lines context r h = record {
-    first = h.first; map_lines = h.map_lines; code_lines = [];
-    parts = ap (λ ls. ls ++ code_line ∷ []) h.parts;
-    context = h.context_is; maps = h.maps; code = refl;
-  }
+  first = h.first;
+  map_lines = h.map_lines;
+  code_lines = [];
+  parts = ap (λ ls. ls ++ code_line ∷ []) h.parts;
+  context = h.context_is;
+  maps = h.maps;
+  code = refl;
+}
 
 pub file_begins : (lines : List (List ℕ)) (c : FileContent) → IsProgramFile lines c → IsFileBeginning lines
 file_begins lines c h = ([], c, subst (λ ls. IsProgramFile ls c) (sym (append-nil lines)) h)
@@ -139,17 +146,18 @@ context_wrong lines line e wrong b =
 
 pub map_taken : (lines : List (List ℕ)) (line : List ℕ) (n : ℕ) (r s : RegistryView) → AreMapsSoFar lines n r → AddsMap r line s → AreMapsSoFar (lines ++ line ∷ []) n s
 map_taken lines line n r s h k = record {
-    first = h.first; map_lines = h.map_lines ++ line ∷ [];
-    parts = ap (λ ls. ls ++ line ∷ []) h.parts;
-    context_is = h.context_is;
-    maps = add_last no_maps r s h.map_lines line h.maps k;
-  }
+  first = h.first;
+  map_lines = h.map_lines ++ line ∷ [];
+  parts = ap (λ ls. ls ++ line ∷ []) h.parts;
+  context_is = h.context_is;
+  maps = add_last no_maps r s h.map_lines line h.maps k;
+}
 
 pub map_wrong : (lines : List (List ℕ)) (line : List ℕ) (n : ℕ) (r : RegistryView) → AreMapsSoFar lines n r → line ≢ code_line → ((s : RegistryView) → ¬ (AddsMap r line s)) → ¬ (IsFileBeginning (lines ++ line ∷ []))
 map_wrong lines line n r h other wrong b =
     let k = b.2 in
     let whole : (h.first ∷ (h.map_lines ++ line ∷ b.0)) ≡ k.first ∷ (k.map_lines ++ code_line ∷ k.code_lines) =
-      ap (λ (ls : List (List ℕ)). h.first ∷ ls) (sym (append_assoc h.map_lines (line ∷ []) b.0)) ∙ sym (ap (λ ls. (ls ++ line ∷ []) ++ b.0) h.parts) ∙ k.parts in
+    ap (λ (ls : List (List ℕ)). h.first ∷ ls) (sym (append_assoc h.map_lines (line ∷ []) b.0)) ∙ sym (ap (λ ls. (ls ++ line ∷ []) ++ b.0) h.parts) ∙ k.parts in
     no_map_line no_maps r b.1.registry h.map_lines k.map_lines k.code_lines line b.0 h.maps k.maps other wrong (tails h.first k.first _ _ whole)
 
 nil_joined : (x : Option (List ℕ)) → x ≡ joined (Some []) x
@@ -177,9 +185,12 @@ pub slots_taken : (lines : List (List ℕ)) (line : List ℕ) (n : ℕ) (r : Reg
 slots_taken lines line n r code new bytes h e added =
     let one : slots_in (flat_map file_words (line ∷ [])) ≡ Some bytes = ap slots_in (append-nil (file_words line)) ∙ e in
     record {
-      first = h.first; map_lines = h.map_lines; code_lines = h.code_lines ++ line ∷ [];
+      first = h.first;
+      map_lines = h.map_lines;
+      code_lines = h.code_lines ++ line ∷ [];
       parts = ap (λ ls. ls ++ line ∷ []) h.parts ∙ ap (λ (ls : List (List ℕ)). h.first ∷ ls) (append_assoc h.map_lines (code_line ∷ h.code_lines) (line ∷ []));
-      context = h.context; maps = h.maps;
+      context = h.context;
+      maps = h.maps;
       code = lines_append h.code_lines (line ∷ []) ∙ ap₂ joined h.code one ∙ ap Some (sym added);
     }
 
@@ -190,9 +201,9 @@ pub slots_wrong : (lines : List (List ℕ)) (line : List ℕ) (c : FileContent) 
 slots_wrong lines line c h e b =
     let k = b.2 in
     let whole : (h.first ∷ (h.map_lines ++ code_line ∷ (h.code_lines ++ line ∷ b.0))) ≡ k.first ∷ (k.map_lines ++ code_line ∷ k.code_lines) =
-      ap (λ (ls : List (List ℕ)). h.first ∷ ls) (sym (append_assoc h.map_lines (code_line ∷ h.code_lines) (line ∷ b.0)))
-      ∙ sym (append_assoc (h.first ∷ (h.map_lines ++ code_line ∷ h.code_lines)) (line ∷ []) b.0)
-      ∙ sym (ap (λ ls. (ls ++ line ∷ []) ++ b.0) h.parts) ∙ k.parts in
+    ap (λ (ls : List (List ℕ)). h.first ∷ ls) (sym (append_assoc h.map_lines (code_line ∷ h.code_lines) (line ∷ b.0)))
+    ∙ sym (append_assoc (h.first ∷ (h.map_lines ++ code_line ∷ h.code_lines)) (line ∷ []) b.0)
+    ∙ sym (ap (λ ls. (ls ++ line ∷ []) ++ b.0) h.parts) ∙ k.parts in
     let same = same_parts no_maps c.registry b.1.registry h.map_lines k.map_lines (h.code_lines ++ line ∷ b.0) k.code_lines h.maps k.maps (tails h.first k.first _ _ whole) in
     let rest : slots_in (flat_map file_words (line ∷ b.0)) ≡ None = slots_append (file_words line) (flat_map file_words b.0) ∙ ap (λ s. joined s (slots_in (flat_map file_words b.0))) e in
     let none : slots_in (flat_map file_words k.code_lines) ≡ None = ap (λ ls. slots_in (flat_map file_words ls)) (sym same.1) ∙ lines_append h.code_lines (line ∷ b.0) ∙ ap (joined (slots_in (flat_map file_words h.code_lines))) rest ∙ joined_none _ in
@@ -227,7 +238,7 @@ one_content lines c d h k =
     let first : h.first ≡ k.first = heads h.first k.first _ _ whole in
     let word : h.context.word ≡ k.context.word = second _ _ _ _ (sym h.context.words ∙ ap file_words first ∙ k.context.words) in
     same_content c d (same_number _ _ _ _ word h.context.number k.context.number) same.0
-      (same_some c.code d.code (sym h.code ∙ ap (λ ls. slots_in (flat_map file_words ls)) same.1 ∙ k.code))
+    (same_some c.code d.code (sym h.code ∙ ap (λ ls. slots_in (flat_map file_words ls)) same.1 ∙ k.code))
 
 wrong_after : (front rest : List (List ℕ)) (c : FileContent) → IsWrongAfter front rest → ¬ (IsProgramFile (front ++ rest) c)
 wrong_after front [] c wrong h = wrong c (subst (λ ls. IsProgramFile ls c) (append-nil front) h)
@@ -246,10 +257,18 @@ third a b c d xs ys e = cc
 
 pub shape_words : (line word name1 name2 : List ℕ) (left : List (List ℕ)) (shape : MapShape) → file_words line ≡ word ∷ name1 ∷ left → IsMapLine line name2 shape → AreShapeWords left shape []
 shape_words line word name1 name2 left shape e h = record {
-    key = h.key; value = h.value; entries = h.entries; spare = h.spare; reuse = h.reuse;
-    words_are = third word name1 (codes "map") name2 _ _ (sym e ∙ h.words);
-    key_len = h.key_len; value_len = h.value_len; entries_is = h.entries_is; spare_is = h.spare_is; reuse_limit = h.reuse_limit;
-  }
+  key = h.key;
+  value = h.value;
+  entries = h.entries;
+  spare = h.spare;
+  reuse = h.reuse;
+  words_are = third word name1 (codes "map") name2 _ _ (sym e ∙ h.words);
+  key_len = h.key_len;
+  value_len = h.value_len;
+  entries_is = h.entries_is;
+  spare_is = h.spare_is;
+  reuse_limit = h.reuse_limit;
+}
 
 pub context_refuses : (stage : Stage) (lines : List (List ℕ)) (line : List ℕ) (c : FileContent) → stage ≡ Context → ((n : ℕ) → ¬ (IsContextLine line n)) → IsAtStage stage lines c → ¬ (IsFileBeginning (lines ++ line ∷ []))
 context_refuses stage lines line c e wrong h =

@@ -11,7 +11,7 @@ use Rattle.bpf_model.specs.declared.limits.TheConstants.{MAX_REUSE, KEY_BYTES, V
 use Rattle.maps.specs.declared.fault.MapFault.{MapFault}
 use Rattle.maps.specs.declared.fault.MapFault.TheVariants.{BadName, NameTaken, BadShape, TooMany}
 use Rattle.maps.specs.declared.name.TheConstants.{NAME_BYTES}
-use Rattle.maps.specs.Registry.{RegistryView, is_name, is_name_character, begins_with_letter, is_within, is_shape, has_name, creation_fault}
+use Rattle.maps.specs.Registry.{RegistryView, is_name, is_name_character, begins_with_letter, is_between, is_shape, has_name, creation_fault}
 use Rattle.loader.specs.Lines.{file_words, slot_in, slots_in, joined}
 
 -- what was added to the code is the slots of the line's words but for those that are left
@@ -33,10 +33,10 @@ joined_more front bytes (Some back) = ap Some (sym (append_assoc front bytes bac
 
 pub more_slots : (line word : List ℕ) (left rest : List (List ℕ)) (old code new bytes : List ℕ) → HasSlots line left old code → left ≡ word ∷ rest → slot_in word ≡ Some bytes → new ≡ code ++ bytes → HasSlots line rest old new
 more_slots line word left rest old code new bytes h e is added = record {
-    bytes = h.bytes ++ bytes;
-    slots = h.slots ∙ ap (λ ws. joined (Some h.bytes) (slots_in ws)) e ∙ ap (λ s. joined (Some h.bytes) (joined s (slots_in rest))) is ∙ joined_more h.bytes bytes (slots_in rest);
-    code = added ∙ ap (λ c. c ++ bytes) h.code ∙ append_assoc old h.bytes bytes;
-  }
+  bytes = h.bytes ++ bytes;
+  slots = h.slots ∙ ap (λ ws. joined (Some h.bytes) (slots_in ws)) e ∙ ap (λ s. joined (Some h.bytes) (joined s (slots_in rest))) is ∙ joined_more h.bytes bytes (slots_in rest);
+  code = added ∙ ap (λ c. c ++ bytes) h.code ∙ append_assoc old h.bytes bytes;
+}
 
 pub all_slots : (line : List ℕ) (left : List (List ℕ)) (old new : List ℕ) → HasSlots line left old new → left ≡ [] → (bytes : List ℕ) × (slots_in (file_words line) ≡ Some bytes) × (new ≡ old ++ bytes)
 all_slots line left old new h e = (h.bytes, h.slots ∙ ap (λ ws. joined (Some h.bytes) (slots_in ws)) e ∙ ap Some (append-nil h.bytes), h.code)
@@ -66,12 +66,12 @@ last_of_five true false c d e h = absurd (let g : false ≡ true = h in cc)
 last_of_five true true false d e h = absurd (let g : false ≡ true = h in cc)
 last_of_five true true true false e h = absurd (let g : false ≡ true = h in cc)
 
-not_within : (n : ℕ) → MAX_REUSE < n → is_within 1 n MAX_REUSE ≡ true → ⊥
+not_within : (n : ℕ) → MAX_REUSE < n → is_between 1 n MAX_REUSE ≡ true → ⊥
 not_within n h e = grind (arith, nat_tests)
 
 reuse_within : (shape : MapShape) → MAX_REUSE < shape.reuse_limit → is_shape shape ≡ true → ⊥
 reuse_within shape h e =
-    not_within shape.reuse_limit h (last_of_five (is_within 1 shape.key_len KEY_BYTES) (is_within 1 shape.value_len VALUE_BYTES) (is_within 1 shape.entries MAX_ENTRIES) (nat_le shape.spare MAX_SPARE) (is_within 1 shape.reuse_limit MAX_REUSE) e)
+    not_within shape.reuse_limit h (last_of_five (is_between 1 shape.key_len KEY_BYTES) (is_between 1 shape.value_len VALUE_BYTES) (is_between 1 shape.entries MAX_ENTRIES) (nat_le shape.spare MAX_SPARE) (is_between 1 shape.reuse_limit MAX_REUSE) e)
 
 pub too_often : (r : RegistryView) (name : List ℕ) (shape : MapShape) → MAX_REUSE < shape.reuse_limit → creation_fault r name shape ≢ None
 too_often r name shape h e = absurd (reuse_within shape h (sound_map r name shape e).1)

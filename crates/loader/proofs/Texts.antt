@@ -1,6 +1,8 @@
 -- The lines of a text, read up to some place.
-use Rattle.std.proofs.Common.{◌≡◌, ◌≢◌, ℕ, ◌+◌, ◌<◌, ◌≤◌, ◌^◌, List, [], ◌∷◌, ◌++◌, length, Bor, refl, sym, ap, subst, ◌∙◌, arith, append_assoc, append-nil, inl, inr}
+use Rattle.std.proofs.Common.{◌≡◌, ◌≢◌, ℕ, ◌+◌, ◌<◌, ◌≤◌, ◌^◌, ◌==◌, Bool, true, false, not, List, [], ◌∷◌, ◌++◌, length, Bor, refl, sym, ap, subst, ◌∙◌, arith, append_assoc, append-nil, inl, inr}
 use Rattle.std.specs.Prelude.{Option, Some, None, MatchOption, Result, Ok, Err, IfOk, IfErr, MatchResult}
+use Rattle.std.proofs.lemmas.Bool.{false≢true}
+use Rattle.std.proofs.lemmas.Bool.Decides.{nat_tests}
 use Rattle.std.proofs.lemmas.List.{length-append}
 use Rattle.bpf_model.specs.declared.limits.TheConstants.{CTX_BYTES}
 use Rattle.loader.specs.Lines.{file_lines}
@@ -35,27 +37,29 @@ pub lines_cut : (text front : List ℕ) (rest : Option (Bor (List ℕ))) (more :
 lines_cut [] front None more some h e f = absurd (omega arith)
 lines_cut (b ∷ text) front None more some h e f =
     (last_line b text (subst (HasNoByte 10) (sym e) h) ∙ ap (λ (l : List ℕ). l ∷ []) e ∙ ap (λ (m : List ℕ). front ∷ file_lines m) (sym f), let l : length more ≡ 0 = ap length f in omega arith)
-lines_cut text front (Some r) more some h e f =
-    (ap file_lines e ∙ first_line front r.now h ∙ ap (λ (m : List ℕ). front ∷ file_lines m) (sym f),
-      let a : length text ≡ length front + length (10 ∷ r.now) = ap length e ∙ length-append front (10 ∷ r.now) in let m : length more ≡ length r.now = ap length f in omega arith)
+lines_cut text front (Some r) more some h e f = (
+  ap file_lines e ∙ first_line front r.now h ∙ ap (λ (m : List ℕ). front ∷ file_lines m) (sym f),
+  let a : length text ≡ length front + length (10 ∷ r.now) = ap length e ∙ length-append front (10 ∷ r.now) in let m : length more ≡ length r.now = ap length f in omega arith,
+)
 
 pub read_line : (text rest line more : List ℕ) (old new : Loading) (number : ℕ) → IsReadTo text rest old number → (file_lines rest ≡ line ∷ file_lines more) × (length more < length rest) → ((lines : List (List ℕ)) → HasLoaded lines old → HasLoaded (lines ++ line ∷ []) new) → IsReadTo text more new (number + 1)
 read_line text rest line more old new number h cut taken = record {
-    front = h.front ++ line ∷ [];
-    lines = h.lines ∙ ap (λ ls. h.front ++ ls) cut.0 ∙ sym (append_assoc h.front (line ∷ []) (file_lines more));
-    loaded = taken h.front h.loaded;
-    number_is = let l : length (h.front ++ line ∷ []) ≡ length h.front + 1 = length-append h.front (line ∷ []) in let n = h.number_is in omega arith;
-    room = let r = h.room in let s = cut.1 in omega arith;
-  }
+  front = h.front ++ line ∷ [];
+  lines = h.lines ∙ ap (λ ls. h.front ++ ls) cut.0 ∙ sym (append_assoc h.front (line ∷ []) (file_lines more));
+  loaded = taken h.front h.loaded;
+  number_is = let l : length (h.front ++ line ∷ []) ≡ length h.front + 1 = length-append h.front (line ∷ []) in let n = h.number_is in omega arith;
+  room = let r = h.room in let s = cut.1 in omega arith;
+}
 
 pub wrong_line : (text rest line more : List ℕ) (old : Loading) (number : ℕ) → IsReadTo text rest old number → (file_lines rest ≡ line ∷ file_lines more) × (length more < length rest) → ((lines : List (List ℕ)) → HasLoaded lines old → IsFileBeginning lines) → ((lines : List (List ℕ)) → HasLoaded lines old → ¬ (IsFileBeginning (lines ++ line ∷ []))) → IsFirstWrongLine (file_lines text) number
 wrong_line text rest line more old number h cut begins wrong = record {
-    front = h.front; rest = line ∷ file_lines more;
-    parts = h.lines ∙ ap (λ ls. h.front ++ ls) cut.0;
-    number = h.number_is;
-    begins = begins h.front h.loaded;
-    wrong = wrong h.front h.loaded;
-  }
+  front = h.front;
+  rest = line ∷ file_lines more;
+  parts = h.lines ∙ ap (λ ls. h.front ++ ls) cut.0;
+  number = h.number_is;
+  begins = begins h.front h.loaded;
+  wrong = wrong h.front h.loaded;
+}
 
 pub whole_file : (text rest : List ℕ) (old : Loading) (number : ℕ) (content : FileContent) → IsReadTo text rest old number → rest ≡ [] → ((lines : List (List ℕ)) → HasLoaded lines old → IsProgramFile lines content) → IsProgramFile (file_lines text) content
 whole_file text rest old number content h e finished =
@@ -63,12 +67,13 @@ whole_file text rest old number content h e finished =
 
 pub short_file : (text rest : List ℕ) (old : Loading) (number : ℕ) → IsReadTo text rest old number → rest ≡ [] → ((lines : List (List ℕ)) → HasLoaded lines old → IsFileBeginning lines) → ((lines : List (List ℕ)) → HasLoaded lines old → (content : FileContent) → ¬ (IsProgramFile lines content)) → IsFirstWrongLine (file_lines text) number
 short_file text rest old number h e begins unfinished = record {
-    front = h.front; rest = [];
-    parts = h.lines ∙ ap (λ r. h.front ++ file_lines r) e;
-    number = h.number_is;
-    begins = begins h.front h.loaded;
-    wrong = unfinished h.front h.loaded;
-  }
+  front = h.front;
+  rest = [];
+  parts = h.lines ∙ ap (λ r. h.front ++ file_lines r) e;
+  number = h.number_is;
+  begins = begins h.front h.loaded;
+  wrong = unfinished h.front h.loaded;
+}
 
 -- a file says one thing, or has a wrong line
 
@@ -100,3 +105,10 @@ says_limit bytes c (inr h) = let e : c.context ≡ 0 = ap (λ (d : FileContent).
 
 pub context_limit : (lines : List (List ℕ)) (c : FileContent) → IsProgramFile lines c → c.context ≤ CTX_BYTES
 context_limit lines c h = h.context.limit
+
+pub empty_is : (xs : List ℕ) (r : Bool) → r ≡ (length xs == 0) → not r ≡ false → xs ≡ []
+empty_is [] r e h = refl
+empty_is (x ∷ xs) r e h =
+    let some : 0 < length (x ∷ xs) = omega arith in
+    let f : (length (x ∷ xs) == 0) ≡ false = grind (arith, nat_tests) in
+    absurd (false≢true (sym h ∙ ap not (e ∙ f)))

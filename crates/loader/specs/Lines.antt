@@ -1,5 +1,6 @@
 -- Lines of a file, words of a line, and the words that are numbers and slots.
-use Rattle.std.specs.Prelude.{◌≡◌, ◌≢◌, ℕ, ◌==◌, ◌<◌, ◌^◌, if◌then◌else◌, List, [], ◌∷◌, ◌++◌, length, slice_index, Option, Some, None, Result, Ok, Err}
+use Rattle.std.specs.Prelude.{◌≡◌, ◌≢◌, ℕ, ◌==◌, ◌<◌, ◌^◌, if◌then◌else◌, List, [], ◌∷◌, ◌++◌}
+use Rattle.std.specs.Prelude.{length, slice_index, Option, Some, None, Result, Ok, Err}
 use Rattle.std.specs.List.{slice_split, onto_first}
 use Rattle.std.specs.Str.Parse.{IsNumeral, digits_value}
 use Rattle.hex.specs.Hex.{decode_sized}
@@ -10,7 +11,8 @@ abbrev pub file_lines : List ℕ → List (List ℕ)
 file_lines [] = []
 file_lines (b ∷ rest) = if b == 10 then [] ∷ file_lines rest else onto_first b (file_lines rest)
 
--- The words of a line, parted by one space each, which is byte 32. Two spaces have an empty word between them.
+-- The words of a line, parted by one space each, which is byte 32. Two spaces have an empty word
+-- between them.
 abbrev pub file_words : List ℕ → List (List ℕ)
 file_words line = slice_split (λ b. b == 32) line
 

@@ -1,5 +1,6 @@
 -- What a program file says.
-use Rattle.std.specs.Prelude.{◌≡◌, ℕ, ◌+◌, ◌≤◌, ◌⊎◌, List, [], ◌∷◌, ◌++◌, length, flat_map, codes, Some, None}
+use Rattle.std.specs.Prelude.{◌≡◌, ℕ, ◌+◌, ◌≤◌, ◌⊎◌, List, [], ◌∷◌, ◌++◌, length, flat_map, codes}
+use Rattle.std.specs.Prelude.{Option, Some, None}
 use Rattle.bpf_model.specs.declared.limits.MapShape.{MapShape}
 use Rattle.bpf_model.specs.declared.limits.TheConstants.{CTX_BYTES}
 use Rattle.bpf_model.specs.View.{new_map_view}
@@ -50,7 +51,8 @@ pub record AddsMap (old : RegistryView) (line : List ℕ) (new : RegistryView) :
 -- so each of the lines, in order
 abbrev pub AddMaps : RegistryView → List (List ℕ) → RegistryView → Type 0
 AddMaps old [] new = new ≡ old
-AddMaps old (line ∷ lines) new = (next : RegistryView) × AddsMap old line next × AddMaps next lines new
+AddMaps old (line ∷ lines) new =
+    (next : RegistryView) × AddsMap old line next × AddMaps next lines new
 
 -- The lines behind the heading: a context, maps, `code`, and slots.
 pub record IsProgramFile (lines : List (List ℕ)) (content : FileContent) : Type 0 where
@@ -67,7 +69,8 @@ abbrev pub IsFileBeginning : List (List ℕ) → Type 0
 IsFileBeginning lines =
     (rest : List (List ℕ)) × (content : FileContent) × IsProgramFile (lines ++ rest) content
 
--- what is wrong behind such a beginning: the next line, or that there is none and the file is not finished
+-- what is wrong behind such a beginning: the next line, or that there is none and the file is not
+-- finished
 abbrev pub IsWrongAfter : List (List ℕ) → List (List ℕ) → Type 0
 IsWrongAfter front [] = (content : FileContent) → ¬ (IsProgramFile front content)
 IsWrongAfter front (line ∷ rest) = ¬ (IsFileBeginning (front ++ line ∷ []))
@@ -101,7 +104,8 @@ FileSays bytes content =
 
 -- The file says nothing: this line is wrong.
 abbrev pub IsWrongFile : List ℕ → ℕ → Type 0
-IsWrongFile bytes n = (text : List ℕ) × (bytes ≡ heading ++ text) × IsFirstWrongLine (file_lines text) n
+IsWrongFile bytes n =
+    (text : List ℕ) × (bytes ≡ heading ++ text) × IsFirstWrongLine (file_lines text) n
 
 -- Why a file says nothing; that memory ran out may be said of any.
 abbrev pub IsLoadFault : List ℕ → LoadFault → Type 0
@@ -111,3 +115,7 @@ IsLoadFault bytes Memory = Unit {0}
 abbrev pub load_fault_number : LoadFault → ℕ
 load_fault_number (BadFile line) = 94
 load_fault_number Memory = 13
+
+abbrev pub load_fault_line : LoadFault → Option ℕ
+load_fault_line (BadFile line) = Some line
+load_fault_line Memory = None

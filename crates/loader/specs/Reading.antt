@@ -1,5 +1,6 @@
 -- Words of the reader's own contracts.
-use Rattle.std.specs.Prelude.{◌≡◌, ℕ, Bool, true, false, ◌==◌, List, [], ◌∷◌, ◌++◌, All, Option, Some, None, flat_map, codes}
+use Rattle.std.specs.Prelude.{◌≡◌, ℕ, Bool, true, false, ◌==◌, List, [], ◌∷◌, ◌++◌, All, Option}
+use Rattle.std.specs.Prelude.{Some, None, flat_map, codes}
 use Rattle.std.specs.Borrow.{Bor}
 use Rattle.bpf_model.specs.declared.limits.MapShape.{MapShape}
 use Rattle.maps.specs.Registry.{RegistryView}
@@ -19,7 +20,8 @@ words_left None = []
 words_left (Some rest) = file_words rest.now
 
 -- the first five words are the numbers of a shape
-pub record AreShapeWords (words : List (List ℕ)) (shape : MapShape) (rest : List (List ℕ)) : Type 0 where
+pub record AreShapeWords (words : List (List ℕ)) (shape : MapShape) (rest : List (List ℕ))
+    : Type 0 where
   pub key : List ℕ
   pub value : List ℕ
   pub entries : List ℕ
@@ -37,7 +39,8 @@ abbrev pub content_of : Loading → FileContent
 content_of l = record { context = l.ctx_len; registry = l.registry; code = l.code.items }
 
 -- the lines are a context and maps
-pub record AreMapsSoFar (lines : List (List ℕ)) (context : ℕ) (registry : RegistryView) : Type 0 where
+pub record AreMapsSoFar (lines : List (List ℕ)) (context : ℕ) (registry : RegistryView)
+    : Type 0 where
   pub first : List ℕ
   pub map_lines : List (List ℕ)
   pub parts : lines ≡ first ∷ map_lines

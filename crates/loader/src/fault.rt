@@ -1,6 +1,6 @@
 //! Why a file is not loaded.
 ghost use Rattle.std.specs.Prelude.{◌≡◌};
-ghost use Rattle.loader.specs.ProgramFile.{load_fault_number};
+ghost use Rattle.loader.specs.ProgramFile.{load_fault_number, load_fault_line};
 ghost use Rattle.loader.specs.declared.fault.LoadFault.TheVariants.{Memory};
 ghost use Rattle.loader.specs.declared.fault.LineFault.TheVariants.{Memory as LineMemory};
 
@@ -26,6 +26,16 @@ impl LoadFault {
         match self {
             LoadFault::BadFile { .. } => 94,
             LoadFault::Memory => 13,
+        }
+    }
+
+    /// The line, where the fault is of one.
+    pub fn line(self) -> Option<usize>
+        ensures { result ≡ load_fault_line self }
+    {
+        match self {
+            LoadFault::BadFile { line } => Some(line),
+            LoadFault::Memory => None,
         }
     }
 }

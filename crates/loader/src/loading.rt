@@ -30,8 +30,7 @@ impl Loading {
     /// A law: more lines may make the lines so far a program file.
     pub fn begins(&self)
         ensures { (lines : List (List ℕ)) → HasLoaded lines self.now → IsFileBeginning lines }
-    {
-    }
+    {}
 
     /// Before the first line.
     pub fn new(alloc: Global) -> Loading
@@ -73,8 +72,11 @@ impl Loading {
     /// The file of the lines, if they are one.
     pub fn finish(self) -> Option<ProgramFile>
         ensures some { (lines : List (List ℕ)) → HasLoaded lines self →
-            IfSome result (λ f. IsProgramFile lines (record { context = f.ctx_len;
-                registry = f.registry; code = f.code.items })) }
+            IfSome result (λ f. IsProgramFile lines (record {
+              context = f.ctx_len;
+              registry = f.registry;
+              code = f.code.items;
+            })) }
         ensures none { (lines : List (List ℕ)) → HasLoaded lines self →
             IfNone result ((content : FileContent) → ¬ (IsProgramFile lines content)) }
     {

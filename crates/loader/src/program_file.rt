@@ -31,9 +31,10 @@ fn first_line(text: &[u8]) -> (&[u8], &[u8])
     ensures lines { file_lines text.now ≡ result.0.now ∷ file_lines result.1.now }
     ensures shorter { length result.1.now < length text.now }
 {
-    match cut(text, b'\n') {
-        (line, Some(rest)) => (line, rest),
-        (line, None) => (line, &[]),
+    let (line, rest) = cut(text, b'\n');
+    match rest {
+        Some(rest) => (line, rest),
+        None => (line, &[]),
     }
 }
 
