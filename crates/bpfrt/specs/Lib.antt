@@ -1,3 +1,2 @@
 pub mod Files
 pub mod Outputs
-pub mod Verdicts
