@@ -1,0 +1,4 @@
+pub mod Files
+pub mod Slots
+pub mod Splitting
+pub mod Texts

@@ -1,0 +1,4 @@
+pub mod Lines
+pub mod Loaded
+pub mod ProgramFile
+pub mod Reading

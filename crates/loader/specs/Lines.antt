@@ -1,0 +1,41 @@
+-- Lines of a file, words of a line, and the words that are numbers and slots.
+use Rattle.std.specs.Prelude.{◌≡◌, ◌≢◌, ℕ, ◌==◌, ◌<◌, ◌^◌, if◌then◌else◌, List, [], ◌∷◌, ◌++◌}
+use Rattle.std.specs.Prelude.{length, slice_index, Option, Some, None, Result, Ok, Err}
+use Rattle.std.specs.List.{slice_split, onto_first}
+use Rattle.std.specs.Str.Parse.{IsNumeral, digits_value}
+use Rattle.hex.specs.Hex.{decode_sized}
+use Rattle.hex.specs.declared.error.FromHexError.{FromHexError}
+
+-- The lines of a file. A line feed, byte 10, ends each; that of the last may be missing.
+abbrev pub file_lines : List ℕ → List (List ℕ)
+file_lines [] = []
+file_lines (b ∷ rest) = if b == 10 then [] ∷ file_lines rest else onto_first b (file_lines rest)
+
+-- The words of a line, parted by one space each, which is byte 32. Two spaces have an empty word
+-- between them.
+abbrev pub file_words : List ℕ → List (List ℕ)
+file_words line = slice_split (λ b. b == 32) line
+
+-- The word is a number: decimal digits, with no zero before others.
+pub record IsDecimalWord (word : List ℕ) (n : ℕ) : Type 0 where
+  pub digits : IsNumeral 10 word
+  pub short : 1 < length word → slice_index word 0 ≢ 48
+  pub value : n ≡ digits_value 10 word
+  pub fits : n < 2 ^ 64
+
+abbrev bytes_of : Result (List ℕ) FromHexError → Option (List ℕ)
+bytes_of (Ok bytes) = Some bytes
+bytes_of (Err e) = None
+
+-- the 8 bytes of a slot: sixteen hexadecimal digits, in either case
+abbrev pub slot_in : List ℕ → Option (List ℕ)
+slot_in word = bytes_of (decode_sized word 8)
+
+abbrev pub joined : Option (List ℕ) → Option (List ℕ) → Option (List ℕ)
+joined (Some front) (Some back) = Some (front ++ back)
+joined _ _ = None
+
+-- the bytes of the slots, one after the other; None where a word is no slot
+abbrev pub slots_in : List (List ℕ) → Option (List ℕ)
+slots_in [] = Some []
+slots_in (word ∷ words) = joined (slot_in word) (slots_in words)

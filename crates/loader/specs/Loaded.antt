@@ -1,0 +1,15 @@
+-- What was loaded, as the definitions have it.
+use Rattle.std.specs.Prelude.{ℕ, List}
+use Rattle.loader.specs.Lines.{file_lines}
+use Rattle.loader.specs.ProgramFile.{FileContent, IsFirstWrongLine}
+use Rattle.loader.specs.declared.fault.LoadFault.{LoadFault}
+use Rattle.loader.specs.declared.fault.LoadFault.TheVariants.{BadFile, Memory}
+use Rattle.loader.specs.declared.program_file.ProgramFile.{ProgramFile}
+
+abbrev pub loaded_content : ProgramFile → FileContent
+loaded_content f = record { context = f.ctx_len; registry = f.registry; code = f.code.items }
+
+-- why the lines of a text are no program file
+abbrev pub IsTextFault : List ℕ → LoadFault → Type 0
+IsTextFault text (BadFile line) = IsFirstWrongLine (file_lines text) line
+IsTextFault text Memory = Unit {0}

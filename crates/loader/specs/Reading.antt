@@ -1,0 +1,57 @@
+-- Words of the reader's own contracts.
+use Rattle.std.specs.Prelude.{◌≡◌, ℕ, Bool, true, false, ◌==◌, List, [], ◌∷◌, ◌++◌, All, Option}
+use Rattle.std.specs.Prelude.{Some, None, flat_map, codes}
+use Rattle.std.specs.Borrow.{Bor}
+use Rattle.bpf_model.specs.declared.limits.MapShape.{MapShape}
+use Rattle.maps.specs.Registry.{RegistryView}
+use Rattle.loader.specs.Lines.{file_words, slots_in, IsDecimalWord}
+use Rattle.loader.specs.ProgramFile.{FileContent, IsProgramFile, IsContextLine, AddMaps, no_maps}
+use Rattle.loader.specs.declared.loading.Loading.{Loading}
+use Rattle.loader.specs.declared.loading.Stage.{Stage}
+use Rattle.loader.specs.declared.loading.Stage.TheVariants.{Context, Maps, Code}
+
+-- no byte is this one
+abbrev pub HasNoByte : ℕ → List ℕ → Type 0
+HasNoByte at bytes = All (λ b. (b == at) ≡ false) bytes
+
+-- the words that are left
+abbrev pub words_left : Option (Bor (List ℕ)) → List (List ℕ)
+words_left None = []
+words_left (Some rest) = file_words rest.now
+
+-- the first five words are the numbers of a shape
+pub record AreShapeWords (words : List (List ℕ)) (shape : MapShape) (rest : List (List ℕ))
+    : Type 0 where
+  pub key : List ℕ
+  pub value : List ℕ
+  pub entries : List ℕ
+  pub spare : List ℕ
+  pub reuse : List ℕ
+  pub words_are : words ≡ key ∷ value ∷ entries ∷ spare ∷ reuse ∷ rest
+  pub key_len : IsDecimalWord key shape.key_len
+  pub value_len : IsDecimalWord value shape.value_len
+  pub entries_is : IsDecimalWord entries shape.entries
+  pub spare_is : IsDecimalWord spare shape.spare
+  pub reuse_limit : IsDecimalWord reuse shape.reuse_limit
+
+-- what a reader keeps says, where its lines are a program file
+abbrev pub content_of : Loading → FileContent
+content_of l = record { context = l.ctx_len; registry = l.registry; code = l.code.items }
+
+-- the lines are a context and maps
+pub record AreMapsSoFar (lines : List (List ℕ)) (context : ℕ) (registry : RegistryView)
+    : Type 0 where
+  pub first : List ℕ
+  pub map_lines : List (List ℕ)
+  pub parts : lines ≡ first ∷ map_lines
+  pub context_is : IsContextLine first context
+  pub maps : AddMaps no_maps map_lines registry
+
+abbrev pub IsAtStage : Stage → List (List ℕ) → FileContent → Type 0
+IsAtStage Context lines c = (lines ≡ []) × (c.registry ≡ no_maps) × (c.code ≡ [])
+IsAtStage Maps lines c = AreMapsSoFar lines c.context c.registry × (c.code ≡ [])
+IsAtStage Code lines c = IsProgramFile lines c
+
+-- What has been read of these lines.
+abbrev pub HasLoaded : List (List ℕ) → Loading → Type 0
+HasLoaded lines l = IsAtStage l.stage lines (content_of l)
