@@ -1,6 +1,6 @@
 //! The bucket of a key.
-ghost use Rattle.std.specs.Prelude.{◌≡◌, ◌<◌};
-ghost use Rattle.hash_index.specs.Chains.{hash_of, bucket_of};
+ghost use Rattle.std.specs.Prelude.{◌≡◌, ◌<◌, ◌≤◌, length};
+ghost use Rattle.hash_index.specs.Chains.{bucket_of, bytes_hash, hash_of, mixed_hash, hashed_word};
 
 /// The hash of no bytes, in FNV-1a of 64 bits.
 const FNV_OFFSET: u64 = 14_695_981_039_346_656_037;
@@ -8,15 +8,55 @@ const FNV_OFFSET: u64 = 14_695_981_039_346_656_037;
 /// What FNV-1a multiplies by after each byte.
 const FNV_PRIME: u64 = 1_099_511_628_211;
 
-/// A hash of a key's bytes.
+/// What a hash is multiplied by after each word: 2^64 over the golden ratio, which is odd.
+const WORD_FACTOR: u64 = 11_400_714_819_323_198_485;
+
+/// How many bytes a word has.
+const WORD_BYTES: usize = 8;
+
+/// The little-endian number of the first eight bytes.
+#[inline]
+fn word_at_start(bytes: &[u8]) -> u64
+    requires { WORD_BYTES ≤ length bytes.now }
+    ensures { result ≡ hashed_word bytes.now }
+{
+    u64::from_le_bytes([
+        bytes[0], bytes[1], bytes[2], bytes[3], bytes[4], bytes[5], bytes[6], bytes[7],
+    ])
+}
+
+/// Goes on from a hash with a word. The high half is folded_product into the low one, which tells the bucket.
+#[inline]
+fn mix(hash: u64, word: u64) -> u64
+    ensures { result ≡ mixed_hash hash word }
+{
+    let product = (hash ^ word).wrapping_mul(WORD_FACTOR);
+    product ^ (product >> 32)
+}
+
+/// Goes on from a hash, byte by byte.
+#[inline]
+fn hash_bytes(start: u64, bytes: &[u8]) -> u64
+    ensures { result ≡ bytes_hash start bytes.now }
+{
+    let mut hash = start;
+    for byte in bytes {
+        hash = (hash ^ u64::from(*byte)).wrapping_mul(FNV_PRIME);
+    }
+    hash
+}
+
+/// A hash of a key's bytes: eight at a time, and those that are left one by one.
 fn hash(key: &[u8]) -> u64
     ensures { result ≡ hash_of key.now }
 {
     let mut hash = FNV_OFFSET;
-    for byte in key {
-        hash = (hash ^ u64::from(*byte)).wrapping_mul(FNV_PRIME);
+    let mut rest = key;
+    for _ in 0..key.len() / WORD_BYTES {
+        hash = mix(hash, word_at_start(rest));
+        rest = &rest[WORD_BYTES..];
     }
-    hash
+    hash_bytes(hash, rest)
 }
 
 /// The bucket of a key, of so many, which are a power of two.

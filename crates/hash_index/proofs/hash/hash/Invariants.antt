@@ -1,6 +1,6 @@
-use Rattle.std.proofs.Common.{◌≡◌, drop}
-use Rattle.hash_index.specs.Chains.{hash_from, hash_of}
+use Rattle.std.proofs.Common.{◌≡◌, ◌≤◌, length, ◌-◌, ◌*◌}
+use Rattle.hash_index.specs.Chains.{hash_of, words_hash}
 use Rattle.hash_index.proofs.hash.hash.Given as goal
 
-abbrev pub invariant-loop-byte : goal.invariant-loop-byte
-invariant-loop-byte l = hash_from l.hash (drop l.byte-index l.key) ≡ hash_of l.key
+abbrev pub invariant-loop : goal.invariant-loop
+invariant-loop l = (words_hash (l.end - l.counter) l.hash l.rest ≡ hash_of l.key) × (8 * (l.end - l.counter) ≤ length l.rest)
