@@ -1,6 +1,6 @@
 #!/bin/sh
 # Compiles each program of this folder, and writes its program file. With --rows instead the rows of
-# the table in crates/map_verifier_tests/src/compiled.rt, to standard output.
+# the table in crates/verifier_tests/src/compiled.rt, to standard output.
 set -e
 cd "$(dirname "$0")"
 objects=$(mktemp -d)

@@ -2,7 +2,7 @@
 """Makes a program file out of an object that clang wrote for the target bpf.
 
     program.py OBJECT           the program file, as text: context, maps, code
-    program.py --rows OBJECT..  rows of the table in crates/map_verifier_tests/src/compiled.rt
+    program.py --rows OBJECT..  rows of the table in crates/verifier_tests/src/compiled.rt
 
 The code is the section .text. A wide load of a map's address becomes the wide load of a map (source
 5) by the map's number in the program's list, which is the order of the section maps. A call of an

@@ -7,7 +7,7 @@ use Rattle.std.proofs.lemmas.List.Sums.{sum_by-cons}
 use Rattle.bpf_model.specs.declared.insn.Insn.{Insn}
 use Rattle.bpf_model.specs.declared.limits.TheConstants.{MAX_SLOTS}
 use Rattle.bpf_model.specs.Spelling.{FitsInsn, IsProgram, slot_count, slot_total}
-use Rattle.disasm.specs.Text.{stem_of, suffix_of, name_of, arguments_text, mnemonic_of, arguments_of, statement_of, line_of, program_text}
+use Rattle.disasm.specs.Text.{stem_of, suffix_of, name_of, arguments_text, mnemonic_of, text_arguments, statement_of, line_of, program_text}
 use Rattle.asm.specs.Reading.{Lacks}
 use Rattle.asm.specs.Grammar.{IsFormedLine}
 use Rattle.asm.specs.Faults.{is_comment, lines_in, statements_in, IsInsnLine, IsLineFlaw, IsFirstLineFlaw, IsAsmFault}
@@ -98,11 +98,11 @@ made_only items (Err f) found fault p program e = inr (ap Err (size_fault_only i
 -- the text of a program
 
 line_lacks_feed : (i : Insn) → Lacks 10 (line_of i)
-line_lacks_feed i = lacks_append 10 (name_of (mnemonic_of i)) (arguments_text (arguments_of i)) (name_lacks_any 10 (omega arith) (mnemonic_of i)) (arguments_lack_feed (arguments_of i))
+line_lacks_feed i = lacks_append 10 (name_of (mnemonic_of i)) (arguments_text (text_arguments i)) (name_lacks_any 10 (omega arith) (mnemonic_of i)) (arguments_lack_feed (text_arguments i))
 
 line_statement : (i : Insn) → is_comment (line_of i) ≡ false
 line_statement i =
-    ap is_comment (append_assoc (stem_of (mnemonic_of i)) (suffix_of (mnemonic_of i)) (arguments_text (arguments_of i))) ∙ stem_statement (mnemonic_of i) (suffix_of (mnemonic_of i) ++ arguments_text (arguments_of i))
+    ap is_comment (append_assoc (stem_of (mnemonic_of i)) (suffix_of (mnemonic_of i)) (arguments_text (text_arguments i))) ∙ stem_statement (mnemonic_of i) (suffix_of (mnemonic_of i) ++ arguments_text (text_arguments i))
 
 pub statements_of_program : (is : List Insn) → statements_in (program_text is) ≡ map line_of is
 statements_of_program [] = refl

@@ -12,7 +12,7 @@ use Rattle.bpf_model.specs.declared.insn.SignExtension.TheVariants.{ByteTo32, Sh
 use Rattle.bpf_model.specs.declared.insn.UnaryOp.TheVariants.{Negate, ByteSwap, MoveSigned}
 use Rattle.bpf_model.specs.declared.insn.Insn.{Insn}
 use Rattle.bpf_model.specs.declared.insn.Insn.TheVariants.{Alu, Unary, LoadNumber, LoadMap, Jump, JumpLong, JumpIf, Call, Exit, Load, LoadSigned, Store}
-use Rattle.disasm.specs.Text.{number_argument, offset_argument, memory_argument, source_argument, mnemonic_of, arguments_of, statement_of}
+use Rattle.disasm.specs.Text.{number_argument, offset_argument, memory_argument, source_argument, mnemonic_of, text_arguments, statement_of}
 use Rattle.disasm.specs.declared.mnemonic.Mnemonic.{Mnemonic}
 use Rattle.disasm.specs.declared.statement.Sign.{Sign}
 use Rattle.disasm.specs.declared.statement.Sign.TheVariants.{Plus, Minus}
@@ -159,7 +159,7 @@ small_bits ByteTo64 = omega arith
 small_bits ShortTo64 = omega arith
 small_bits WordTo64 = omega arith
 
-pub small_of : (i : Insn) → FitsInsn i → IsSmall (arguments_of i)
+pub small_of : (i : Insn) → FitsInsn i → IsSmall (text_arguments i)
 small_of (Alu op size dst src) h = (small_register dst h.0, small_source src h.1)
 small_of (Unary (Negate size) dst) h = small_register dst h.0
 small_of (Unary (ByteSwap order width) dst) h = small_register dst h.0
@@ -220,11 +220,11 @@ formed_of (Store width dst z (operand.Immediate imm)) = rw (formed_memory dst z,
 formed_of (Store width dst z (operand.Register src)) = rw (formed_memory dst z) refl
 
 pub capped_of : (i : Insn) → FitsInsn i → capped_statement (statement_of i) ≡ statement_of i
-capped_of i h = ap (λ (w : Arguments). let s : Statement = record { mnemonic = mnemonic_of i; arguments = w } in s) (small_same (arguments_of i) (small_of i h))
+capped_of i h = ap (λ (w : Arguments). let s : Statement = record { mnemonic = mnemonic_of i; arguments = w } in s) (small_same (text_arguments i) (small_of i h))
 
 -- the one instruction of a statement
 
-pub told : (m : Mnemonic) (w : Arguments) (r : Option Insn) → IsOnlyInsn m w r → (i : Insn) → FitsInsn i → m ≡ mnemonic_of i → w ≡ arguments_of i → r ≡ Some i
+pub told : (m : Mnemonic) (w : Arguments) (r : Option Insn) → IsOnlyInsn m w r → (i : Insn) → FitsInsn i → m ≡ mnemonic_of i → w ≡ text_arguments i → r ≡ Some i
 told m w r only (Alu op size dst src) h em ew = (subst (λ (n : Mnemonic). IsOnlyInsn n w r) em only) dst src h.0 h.1 ew
 told m w r only (Unary (MoveSigned x src) dst) h em ew = (subst (λ (n : Mnemonic). IsOnlyInsn n w r) em only) x dst src refl h.0 h.1 ew
 told m w r only (Unary (Negate size) dst) h em ew = (subst (λ (n : Mnemonic). IsOnlyInsn n w r) em only) dst h.0 ew

@@ -3,7 +3,7 @@ use Rattle.std.proofs.Common.{ℕ, ◌≡◌, ◌++◌, List, Bool, true, false,
 use Rattle.std.specs.Prelude.{Option, Some, None, Result, Ok}
 use Rattle.bpf_model.specs.Spelling.{FitsInsn}
 use Rattle.bpf_model.specs.declared.insn.Insn.{Insn}
-use Rattle.disasm.specs.Text.{name_of, arguments_text, line_of, mnemonic_of, arguments_of, statement_of}
+use Rattle.disasm.specs.Text.{name_of, arguments_text, line_of, mnemonic_of, text_arguments, statement_of}
 use Rattle.disasm.specs.declared.mnemonic.Mnemonic.{Mnemonic}
 use Rattle.disasm.specs.declared.statement.Arguments.{Arguments}
 use Rattle.disasm.specs.declared.statement.Statement.{Statement}
@@ -33,12 +33,12 @@ formed_insn line s reads i fits e = ap is_formed (insn_statement line s reads i 
 pub has_form : (line : List ℕ) (s : Statement) → IsStatementRead line s → is_formed s ≡ true → IsFormedLine line
 has_form line s found formed = record { statement = found.0; text = found.1; formed = sym (ap is_formed found.2 ∙ formed_capped found.0) ∙ formed }
 
-pub text_is : (line : List ℕ) (s : Statement) → IsStatementRead line s → (i : Insn) → FitsInsn i → mnemonic_of i ≡ s.mnemonic → arguments_of i ≡ s.arguments → line ≡ line_of i
+pub text_is : (line : List ℕ) (s : Statement) → IsStatementRead line s → (i : Insn) → FitsInsn i → mnemonic_of i ≡ s.mnemonic → text_arguments i ≡ s.arguments → line ≡ line_of i
 text_is line s found i fits em ew =
     let w : Statement = found.0 in
-    let capped_is : capped_arguments w.arguments ≡ arguments_of i = sym (ap (λ (t : Statement). t.arguments) found.2) ∙ sym ew in
+    let capped_is : capped_arguments w.arguments ≡ text_arguments i = sym (ap (λ (t : Statement). t.arguments) found.2) ∙ sym ew in
     let small : IsSmall (capped_arguments w.arguments) = subst (λ (a : Arguments). IsSmall a) (sym capped_is) (small_of i fits) in
-    let same_arguments : w.arguments ≡ arguments_of i = sym (back_same w.arguments small) ∙ capped_is in
+    let same_arguments : w.arguments ≡ text_arguments i = sym (back_same w.arguments small) ∙ capped_is in
     let same_mnemonic : w.mnemonic ≡ mnemonic_of i = sym (ap (λ (t : Statement). t.mnemonic) found.2) ∙ sym em in
     found.1 ∙ ap (λ (m : Mnemonic). name_of m ++ arguments_text w.arguments) same_mnemonic ∙ ap (λ (a : Arguments). name_of (mnemonic_of i) ++ arguments_text a) same_arguments
 

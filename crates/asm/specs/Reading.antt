@@ -11,7 +11,7 @@ use Rattle.bpf_model.specs.declared.insn.Insn.TheVariants as insn
 use Rattle.bpf_model.specs.Spelling.{FitsOperand, FitsInsn, extension_size, extension_bits}
 use Rattle.disasm.specs.declared.mnemonic.Mnemonic.{Mnemonic}
 use Rattle.disasm.specs.declared.mnemonic.Mnemonic.TheVariants.{Alu, MoveSigned, Negate, ByteSwap, LoadNumber, LoadMap, Jump, JumpLong, JumpIf, Call, Exit, Load, LoadSigned, Store, StoreRegister}
-use Rattle.disasm.specs.Text.{argument_text, arguments_text, statement_text, number_argument, offset_argument, memory_argument, source_argument, mnemonic_of, arguments_of}
+use Rattle.disasm.specs.Text.{argument_text, arguments_text, statement_text, number_argument, offset_argument, memory_argument, source_argument, mnemonic_of, text_arguments}
 use Rattle.disasm.specs.declared.statement.Argument.{Argument}
 use Rattle.disasm.specs.declared.statement.Argument.TheVariants.{Register, Number, Signed, Memory}
 use Rattle.disasm.specs.declared.statement.Arguments.{Arguments}
@@ -65,7 +65,7 @@ Lacks c text = (i : ℕ) → i < length text → slice_index text i ≢ c
 
 -- the instruction has this mnemonic and these arguments, and its fields are in their ranges
 abbrev pub IsInsnOf : Mnemonic → Arguments → Insn → Type 0
-IsInsnOf m w i = FitsInsn i × (mnemonic_of i ≡ m) × (arguments_of i ≡ w)
+IsInsnOf m w i = FitsInsn i × (mnemonic_of i ≡ m) × (text_arguments i ≡ w)
 
 -- What is read of a mnemonic and its arguments is the one instruction that they stand for, where they
 -- stand for one.

@@ -1,13 +1,13 @@
 //! How long runs and verifications take.
 ghost use Rattle.std.specs.Prelude.{◌≡◌, ◌<◌, ◌^◌, ◌%◌, length, IfOk};
-ghost use Rattle.bench.specs.Trials.{IsReady};
+ghost use Rattle.bench.specs.Trials.{IsReadyTrial};
 
 use crate::decimal::{Decimal, quotient};
 use crate::trial::{Trial, counted_run, counting_bytes};
 use anyhow::{Result, ensure};
 use bpf_model::CtxBytes;
 use lone_runs::run_to_exit;
-use map_verifier::verify;
+use verifier::verify;
 use std::alloc::Global;
 use std::rt::Clock;
 use std::time::{Duration, Instant};
@@ -43,7 +43,7 @@ fn by_parity<'a>(number: u64, even: &'a CtxBytes, odd: &'a CtxBytes) -> &'a CtxB
 /// Times runs of the program. The exit before decides on which of two equal contexts each is made, so
 /// that no compiler can take the runs out of the loop.
 fn time_runs(clock: &impl Clock, trial: &Trial, calls: u32) -> Result<Duration>
-    requires { IsReady trial.now }
+    requires { IsReadyTrial trial.now }
 {
     let copy = counting_bytes(trial.verified.ctx_len());
     let expected = counted_run(trial).exit;
@@ -85,7 +85,7 @@ fn time_of(
     trial: &Trial,
     calls: u32,
 ) -> Result<Duration>
-    requires { IsReady trial.now }
+    requires { IsReadyTrial trial.now }
 {
     match activity {
         Activity::Runs => time_runs(clock, trial, calls),
@@ -100,7 +100,7 @@ fn calls_of_batch(
     activity: Activity,
     trial: &Trial,
 ) -> Result<u32>
-    requires { IsReady trial.now }
+    requires { IsReadyTrial trial.now }
     ensures { IfOk result (λ calls. 0 < calls) }
 {
     for doublings in 0..MOST_DOUBLINGS {
@@ -121,7 +121,7 @@ pub fn time_per_part(
     trial: &Trial,
     parts: u64,
 ) -> Result<Decimal>
-    requires ready { IsReady trial.now }
+    requires ready { IsReadyTrial trial.now }
     requires positive { 0 < parts }
     requires small { parts < 2 ^ 32 }
 {

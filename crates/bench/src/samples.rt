@@ -64,7 +64,7 @@ pub fn samples() -> [Sample; 7] {
 
 impl Sample {
     ghost use Rattle.std.specs.Prelude.{IfOk};
-    ghost use Rattle.bench.specs.Trials.{IsReady};
+    ghost use Rattle.bench.specs.Trials.{IsReadyTrial};
 
     /// The bytes of the program.
     fn bytes(&self, alloc: Global) -> Result<Vec<u8>> {
@@ -78,7 +78,7 @@ impl Sample {
 
     /// The program on a context of its length.
     pub fn trial(self, alloc: Global) -> Result<Trial>
-        ensures { IfOk result IsReady }
+        ensures { IfOk result IsReadyTrial }
     {
         let bytes = self.bytes(alloc)?;
         trial_of(alloc, bytes.as_slice(), usize::from(self.ctx_len))

@@ -4,13 +4,13 @@ ghost use Rattle.bpf_model.specs.declared.limits.TheConstants.{CTX_BYTES, MAX_SL
 ghost use Rattle.bpf_model.specs.Exit.{ExitsWith};
 ghost use Rattle.bpf_model.specs.Spelling.{text};
 ghost use Rattle.lone_runs.specs.Lone.{loaded_alone};
-ghost use Rattle.bench.specs.Trials.{IsReady};
+ghost use Rattle.bench.specs.Trials.{IsReadyTrial};
 
 use anyhow::Result;
 use bpf_model::CtxBytes;
 use insn_codec::decode;
 use lone_runs::run_to_exit;
-use map_verifier::{Verified, verify};
+use verifier::{Verified, verify};
 use std::alloc::Global;
 
 /// A program that was verified with no maps, and a context of the length that it was verified for.
@@ -47,7 +47,7 @@ pub fn trial_of(alloc: Global, bytes: &[u8], ctx_len: usize) -> Result<Trial>
     ensures program { IfOk result (λ t. bytes.now ≡ text t.verified.program) }
     ensures length { IfOk result (λ t. t.verified.ctx_len ≡ ctx_len) }
     ensures bytes { IfOk result (λ t. (k : ℕ) → k < ctx_len → slice_index t.ctx.items k ≡ k) }
-    ensures ready { IfOk result IsReady }
+    ensures ready { IfOk result IsReadyTrial }
 {
     let program = decode(alloc, bytes)?;
     let verified = verify(alloc, program, &[], ctx_len)?;
@@ -59,7 +59,7 @@ pub fn trial_of(alloc: Global, bytes: &[u8], ctx_len: usize) -> Result<Trial>
 
 /// What a run of the program on the context comes to.
 pub fn counted_run(trial: &Trial) -> Outcome
-    requires { IsReady trial.now }
+    requires { IsReadyTrial trial.now }
     ensures least { 0 < result.instructions }
     ensures limit { result.instructions ≤ MAX_SLOTS }
     ensures exits { ExitsWith (loaded_alone trial.now.verified) trial.now.ctx.items

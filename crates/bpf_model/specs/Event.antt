@@ -95,35 +95,35 @@ pub record Starts (m : Machine) (prog : ℕ) (context : List ℕ) (r : ℕ) (new
   pub new_is : new ≡ begins m r program context
 
 -- A read finds the value of the key's element.
-pub record Reads (m : Machine) (map : ℕ) (key value : List ℕ) : Type 0 where
+pub record ReadsElement (m : Machine) (map : ℕ) (key value : List ℕ) : Type 0 where
   pub n : ℕ
   pub linked : IsLinkedAt m.store.elements map key n
   pub value_is : value ≡ linked.element.value
 
 -- What the machine answers to an event that isn't refused, and its state after it. An advance changes nothing here: it is the runtime's own
 -- means of finding out which sections have ended. A reap may also find nothing.
-abbrev pub Performs : Machine → Event → Answer → Machine → Type 0
-Performs m (events.Start prog ctx) (Started r) new = Starts m prog ctx.items r new
-Performs m (events.Step run) answer new = StepsRun m run answer new
-Performs m (events.Update map key value flags) (Ret ret) new =
+abbrev pub PerformsEvent : Machine → Event → Answer → Machine → Type 0
+PerformsEvent m (events.Start prog ctx) (Started r) new = Starts m prog ctx.items r new
+PerformsEvent m (events.Step run) answer new = StepsRun m run answer new
+PerformsEvent m (events.Update map key value flags) (Ret ret) new =
     (store : Store) × Updates m.store (open_sections m.runs) map key.items value.items flags ret store
     × (new ≡ with_store m store)
-Performs m (events.Delete map key) (Ret ret) new =
+PerformsEvent m (events.Delete map key) (Ret ret) new =
     (store : Store) × Deletes m.store (open_sections m.runs) map key.items ret store × (new ≡ with_store m store)
-Performs m (events.Read map key) (Found (Some value)) new = Reads m map key.items value.items × (new ≡ m)
-Performs m (events.Read map key) (Found None) new = IsAbsent m.store.elements map key.items × (new ≡ m)
-Performs m events.Advance Done new = new ≡ m
-Performs m events.Reap (Reaped None) new = new ≡ m
-Performs m events.Reap (Reaped (Some reaped)) new =
+PerformsEvent m (events.Read map key) (Found (Some value)) new = ReadsElement m map key.items value.items × (new ≡ m)
+PerformsEvent m (events.Read map key) (Found None) new = IsAbsent m.store.elements map key.items × (new ≡ m)
+PerformsEvent m events.Advance Done new = new ≡ m
+PerformsEvent m events.Reap (Reaped None) new = new ≡ m
+PerformsEvent m events.Reap (Reaped (Some reaped)) new =
     (n : ℕ) × (e : Element) × (store : Store) × Reclaims m.store (open_sections m.runs) n e reaped.given store
     × (reaped.map ≡ e.map) × (reaped.key.items ≡ e.key) × (new ≡ with_store m store)
-Performs m (events.Drop run) Done new = new ≡ with_runs m (slice_set m.runs run None)
-Performs m event answer new = ⊥
+PerformsEvent m (events.Drop run) Done new = new ≡ with_runs m (slice_set m.runs run None)
+PerformsEvent m event answer new = ⊥
 
 -- A step of the machine: an event is refused exactly when a test fails, by the first that does, and then nothing changes.
 abbrev pub Answers : Option EventRefusal → Machine → Event → Answer → Machine → Type 0
 Answers (Some refusal) m event answer new = (answer ≡ Refused refusal) × (new ≡ m)
-Answers None m event answer new = Performs m event answer new
+Answers None m event answer new = PerformsEvent m event answer new
 
-abbrev pub Does : Machine → Event → Answer → Machine → Type 0
-Does m event answer new = Answers (refusal m event) m event answer new
+abbrev pub DoesEvent : Machine → Event → Answer → Machine → Type 0
+DoesEvent m event answer new = Answers (refusal m event) m event answer new

@@ -9,8 +9,8 @@ use Rattle.bpf_model.specs.Section.{Section, AllEnded}
 use Rattle.bpf_model.specs.Element.{Linked, Unlinked, Reclaimed, HasLife}
 use Rattle.bpf_model.specs.Machine.{Run, Machine, open_sections, run_at}
 use Rattle.bpf_model.specs.MachineStep.{NeverStuck}
-use Rattle.bpf_model.specs.Event.{Does}
-use Rattle.bpf_model.specs.Run.{IsHistory, last_of, AllStates}
+use Rattle.bpf_model.specs.Event.{DoesEvent}
+use Rattle.bpf_model.specs.History.{IsHistory, last_machine, AllStates}
 
 -- How many moves the run in slot r has answered since it started there: by the answers alone, from a number on for a run that was there
 -- before the first of them.
@@ -71,12 +71,12 @@ module _ {World : Type 0} where
   -- The answer to one event is a step of each machine that the world tracked, to one that it tracks afterwards.
   abbrev pub AnswersAsMachine : (World → Machine → Type 0) → World → Event → Answer → World → Type 0
   AnswersAsMachine Tracks old event answer new =
-      (m : Machine) → Tracks old m → (next : Machine) × Does m event answer next × Tracks new next
+      (m : Machine) → Tracks old m → (next : Machine) × DoesEvent m event answer next × Tracks new next
 
   -- The answers are those of a run of the machine, and the world tracks its last state.
   abbrev pub AreMachineAnswers : (World → Machine → Type 0) → World → List Event → List Answer → World → Type 0
   AreMachineAnswers Tracks old events answers new =
-      (m : Machine) → Tracks old m → (states : List Machine) × IsHistory m events answers states × Tracks new (last_of m states)
+      (m : Machine) → Tracks old m → (states : List Machine) × IsHistory m events answers states × Tracks new (last_machine m states)
 
   -- In every run of the machine with these answers, each run that hasn't ended has a step, in each state.
   abbrev pub AreNeverStuck : (World → Machine → Type 0) → World → List Event → List Answer → Type 0

@@ -23,7 +23,7 @@ pub mod Reclaim
 pub mod Refines
 pub mod Replay
 pub mod Request
-pub mod Run
+pub mod History
 pub mod Schedule
 pub mod Section
 pub mod Spelling

@@ -19,23 +19,23 @@ Names (Register s) r = r ≡ s
 Names (Immediate imm) r = ⊥
 
 -- The instruction reads the register as a number.
-abbrev pub Reads : Insn → ℕ → Type 0
-Reads (Alu Move size dst src) r = Names src r
-Reads (Alu op size dst src) r = (r ≡ dst) ⊎ Names src r
-Reads (Unary op dst) r = r ≡ unary_source op dst
-Reads (JumpIf condition size dst src offset) r = (r ≡ dst) ⊎ Names src r
-Reads Exit r = r ≡ 0
-Reads (Store width dst offset src) r = Names src r
-Reads _ r = ⊥
+abbrev pub ReadsRegister : Insn → ℕ → Type 0
+ReadsRegister (Alu Move size dst src) r = Names src r
+ReadsRegister (Alu op size dst src) r = (r ≡ dst) ⊎ Names src r
+ReadsRegister (Unary op dst) r = r ≡ unary_source op dst
+ReadsRegister (JumpIf condition size dst src offset) r = (r ≡ dst) ⊎ Names src r
+ReadsRegister Exit r = r ≡ 0
+ReadsRegister (Store width dst offset src) r = Names src r
+ReadsRegister _ r = ⊥
 
 -- The instruction writes the register.
-abbrev pub Writes : Insn → ℕ → Type 0
-Writes (Alu op size dst src) r = r ≡ dst
-Writes (Unary op dst) r = r ≡ dst
-Writes (LoadNumber dst n) r = r ≡ dst
-Writes (Load width dst src offset) r = r ≡ dst
-Writes (LoadSigned width dst src offset) r = r ≡ dst
-Writes _ r = ⊥
+abbrev pub WritesRegister : Insn → ℕ → Type 0
+WritesRegister (Alu op size dst src) r = r ≡ dst
+WritesRegister (Unary op dst) r = r ≡ dst
+WritesRegister (LoadNumber dst n) r = r ≡ dst
+WritesRegister (Load width dst src offset) r = r ≡ dst
+WritesRegister (LoadSigned width dst src offset) r = r ≡ dst
+WritesRegister _ r = ⊥
 
 -- An access with base r10 takes byte k of the frame: an aligned access, all of its bytes inside.
 abbrev pub Takes : Width → ℤ → ℕ → Type 0
@@ -68,7 +68,7 @@ IsSimple _ = Unit {0}
 pub data WithoutRegister (program : List Insn) (r : ℕ) : ℕ → Type 0 where
   unwritten_entry : WithoutRegister program r 0
   unwritten_next : (place target : ℕ) (i : Insn) → WithoutRegister program r place
-      → insn_at program place ≡ Some i → (Writes i r → ⊥) → GoesTo i place target → WithoutRegister program r target
+      → insn_at program place ≡ Some i → (WritesRegister i r → ⊥) → GoesTo i place target → WithoutRegister program r target
 
 -- A path leads to the slot on which the byte of the frame isn't written.
 pub data WithoutByte (program : List Insn) (k : ℕ) : ℕ → Type 0 where
@@ -84,7 +84,7 @@ pub record IsPlain (program : List Insn) : Type 0 where
   pub last : (front : List Insn) × (program ≡ front ++ Exit ∷ [])
   pub simple : (place : ℕ) (i : Insn) → insn_at program place ≡ Some i → IsSimple i
   -- r10 isn't written, and only the accesses to the frame read it
-  pub frame_pointer : (place : ℕ) (i : Insn) → insn_at program place ≡ Some i → (Writes i 10 → ⊥) × (Reads i 10 → ⊥)
-  pub registers : (place : ℕ) (i : Insn) (r : ℕ) → insn_at program place ≡ Some i → Reads i r
+  pub frame_pointer : (place : ℕ) (i : Insn) → insn_at program place ≡ Some i → (WritesRegister i 10 → ⊥) × (ReadsRegister i 10 → ⊥)
+  pub registers : (place : ℕ) (i : Insn) (r : ℕ) → insn_at program place ≡ Some i → ReadsRegister i r
       → WithoutRegister program r place → ⊥
   pub bytes : (place : ℕ) (i : Insn) (k : ℕ) → insn_at program place ≡ Some i → ReadsByte i k → WithoutByte program k place → ⊥

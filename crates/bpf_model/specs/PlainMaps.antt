@@ -12,7 +12,7 @@ use Rattle.bpf_model.specs.declared.opcode.Condition.TheVariants.{Equal}
 use Rattle.bpf_model.specs.Access.{byte_count, unsigned_width, region_offset}
 use Rattle.bpf_model.specs.Step.{insn_at}
 use Rattle.bpf_model.specs.Graph.{distance, JumpsTo, GoesTo, Reached}
-use Rattle.bpf_model.specs.Plain.{Reads, Writes, ReadsByte, IsSimple, WithoutByte}
+use Rattle.bpf_model.specs.Plain.{ReadsRegister, WritesRegister, ReadsByte, IsSimple, WithoutByte}
 
 -- bpf_map_lookup_elem, bpf_rcu_read_lock and bpf_rcu_read_unlock
 abbrev pub lookup_call : Insn
@@ -81,7 +81,7 @@ pub data LacksRegister (program : List Insn) (shapes : List MapShape) (r : ℕ) 
       → (i ≡ lock_call) ⊎ ((i ≡ unlock_call) ⊎ (i ≡ lookup_call)) → r ≤ 5 → GoesTo i place target
       → LacksRegister program shapes r target
   lacks_next : (place target : ℕ) (i : Insn) → LacksRegister program shapes r place
-      → insn_at program place ≡ Some i → (Writes i r → IsPart program shapes place) → GoesTo i place target
+      → insn_at program place ≡ Some i → (WritesRegister i r → IsPart program shapes place) → GoesTo i place target
       → LacksRegister program shapes r target
 
 pub record IsPlainWithMaps (program : List Insn) (shapes : List MapShape) : Type 0 where
@@ -99,10 +99,10 @@ pub record IsPlainWithMaps (program : List Insn) (shapes : List MapShape) : Type
   pub lookup_inside : (place : ℕ) → IsPart program shapes place → InSection program false place → ⊥
   -- r10 isn't written, and only the accesses to the frame and the guarded lookups read it
   pub frame_pointer : (place : ℕ) (i : Insn) → insn_at program place ≡ Some i
-      → (IsPart program shapes place → ⊥) → (Writes i 10 → ⊥) × (Reads i 10 → ⊥)
+      → (IsPart program shapes place → ⊥) → (WritesRegister i 10 → ⊥) × (ReadsRegister i 10 → ⊥)
   -- each register and each byte of the frame is written before it is read
   pub registers : (place : ℕ) (i : Insn) (r : ℕ) → insn_at program place ≡ Some i
-      → (IsPart program shapes place → ⊥) → Reads i r → LacksRegister program shapes r place → ⊥
+      → (IsPart program shapes place → ⊥) → ReadsRegister i r → LacksRegister program shapes r place → ⊥
   pub bytes : (place : ℕ) (i : Insn) (k : ℕ) → insn_at program place ≡ Some i
       → (IsPart program shapes place → ⊥) → ReadsByte i k → WithoutByte program k place → ⊥
   pub keys : (start k : ℕ) (lookup : IsGuardedLookup program shapes start) → lookup.at ≤ k

@@ -11,7 +11,7 @@ use Rattle.bpf_model.specs.MapState.{MapState, AreShapes, slots_of_shape, most_b
 use Rattle.bpf_model.specs.Machine.{Loaded, Run, Machine}
 use Rattle.bpf_model.specs.Event.{AreReal}
 use Rattle.bpf_model.specs.Schedule.{Queues, Schedule, open_flags, IsScheduledHistory, last_scheduled, start_schedule}
-use Rattle.bpf_model.specs.View.{SlotView, MapView, RunView, WorldView, state_of, shapes_of}
+use Rattle.bpf_model.specs.View.{SlotView, MapView, RunView, WorldView, map_state_of, shapes_of}
 use Rattle.bpf_model.specs.Word.{WordIs, ByteIs, element_bases}
 
 -- how often a number stands in a list
@@ -55,7 +55,7 @@ named slots q = record {
 
 -- Map k: its state and its lists are what the view shows, and its slots and elements stand in it.
 pub record MapRefines (slots : List ℕ) (k : ℕ) (es : List Element) (q : Queues) (v : MapView) (m : MapState) : Type 0 where
-  pub state : m ≡ state_of v
+  pub state : m ≡ map_state_of v
   pub lists : lists_of v ≡ named slots q
   pub free : SlotsStand v
   pub elements : ElementsStand slots k es v
@@ -95,7 +95,7 @@ pub record RefinesSchedule (w : WorldView) (s : Schedule) : Type 0 where
   pub given : w.given ≡ count_by (λ e. is_reclaimed e.life) s.machine.store.elements
 
 -- Some run of the machine with this runtime's choices, from the start and with events within their types, ends in the state.
-pub record IsReached (shapes : List MapShape) (programs : List Loaded) (s : Schedule) : Type 0 where
+pub record IsReachedSchedule (shapes : List MapShape) (programs : List Loaded) (s : Schedule) : Type 0 where
   pub events : List Event
   pub answers : List Answer
   pub states : List Schedule
@@ -108,7 +108,7 @@ pub record IsReached (shapes : List MapShape) (programs : List Loaded) (s : Sche
 pub record TracksSchedule (w : WorldView) (s : Schedule) : Type 0 where
   pub refines : RefinesSchedule w s
   pub limits : AreShapes (shapes_of w)
-  pub reached : IsReached (shapes_of w) w.programs s
+  pub reached : IsReachedSchedule (shapes_of w) w.programs s
 
 abbrev pub Tracks : WorldView → Machine → Type 0
 Tracks w m = (s : Schedule) × (s.machine ≡ m) × TracksSchedule w s

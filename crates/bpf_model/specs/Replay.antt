@@ -5,7 +5,7 @@ use Rattle.bpf_model.specs.declared.event.Event.{Event}
 use Rattle.bpf_model.specs.declared.event.Answer.{Answer}
 use Rattle.bpf_model.specs.Machine.{Machine, run_at}
 use Rattle.bpf_model.specs.Event.{AreReal}
-use Rattle.bpf_model.specs.Run.{MachineRun}
+use Rattle.bpf_model.specs.History.{MachineRun}
 
 -- what a worker did, and the answer
 pub record JournalEntry : Type 0 where

@@ -12,7 +12,7 @@ use Rattle.bpf_model.specs.Section.{Section}
 use Rattle.bpf_model.specs.Element.{Element, Unlinked, Reclaimed, HasLife, is_linked, is_unlinked}
 use Rattle.bpf_model.specs.MapState.{MapState, Store}
 use Rattle.bpf_model.specs.Machine.{Run, Machine, Loaded, is_inside, start_machine}
-use Rattle.bpf_model.specs.Event.{Does}
+use Rattle.bpf_model.specs.Event.{DoesEvent}
 
 -- The births of a map's unlinked elements, in three lists: those unlinked since the present grace period began, those that wait for its end,
 -- and those that may be reclaimed.
@@ -112,7 +112,7 @@ TakesOldest old new =
 
 -- A step of the machine with these choices.
 pub record DoesScheduled (s : Schedule) (event : Event) (answer : Answer) (new : Schedule) : Type 0 where
-  pub step : Does s.machine event answer new.machine
+  pub step : DoesEvent s.machine event answer new.machine
   pub first : TakesFirst s event answer new.machine
   pub oldest : TakesOldest s.machine.store new.machine.store
   pub lists : new ≡ scheduled s event new.machine

@@ -16,6 +16,15 @@ pub record SlotView : Type 0 where
   pub value : List ℕ
   pub uses : ℕ
 
+-- what the slot of a number shows, where there is one
+abbrev pub key_in : Option SlotView → List ℕ
+key_in None = []
+key_in (Some s) = s.key
+
+abbrev pub value_in : Option SlotView → List ℕ
+value_in None = []
+value_in (Some s) = s.value
+
 -- how often the slot of this number was used
 abbrev pub uses_in : Option SlotView → ℕ
 uses_in None = 0
@@ -37,8 +46,8 @@ pub record MapView : Type 0 where
   pub worn : ℕ
 
 -- What the view shows of the map's state: the bag is the use counts of the free slots.
-abbrev pub state_of : MapView → MapState
-state_of v = record { shape = v.shape; bag = map (uses_at v.slots) v.free; worn = v.worn }
+abbrev pub map_state_of : MapView → MapState
+map_state_of v = record { shape = v.shape; bag = map (uses_at v.slots) v.free; worn = v.worn }
 
 -- a slot that was never used
 abbrev pub unused_slot : SlotView

@@ -9,9 +9,9 @@ use Rattle.disasm.specs.Text.{program_text}
 use Rattle.insn_codec.specs.declared.fault.DecodeFault.{DecodeFault}
 use Rattle.insn_codec.specs.Faults.{IsDecodeFault, decode_fault_number, decode_fault_slot}
 use Rattle.typed_runs.specs.Verified.{IsVerified}
-use Rattle.map_verifier.specs.declared.refusal.Refusal.{Refusal}
-use Rattle.map_verifier.specs.Numbers.{refusal_number, refusal_slot}
-use Rattle.map_verifier.specs.Verdict.{IsToldOf}
+use Rattle.verifier.specs.declared.refusal.Refusal.{Refusal}
+use Rattle.verifier.specs.Numbers.{refusal_number, refusal_slot}
+use Rattle.verifier.specs.Verdict.{IsToldOf}
 use Rattle.bpfrt.specs.declared.report.Verdict.{Verdict}
 use Rattle.bpfrt.specs.declared.request.Command.{Command}
 use Rattle.bpfrt.specs.declared.request.Command.TheVariants.{Check, Disasm}
@@ -24,7 +24,7 @@ pub record IsVerifiedText (bytes : List ℕ) (program : List Insn) : Type 0 wher
   pub verified : IsVerified program [] 0
 
 -- The bytes are such a text, of so many instructions and slots.
-pub record IsAccepted (bytes : List ℕ) (a : Accepted) : Type 0 where
+pub record IsAcceptedText (bytes : List ℕ) (a : Accepted) : Type 0 where
   pub program : List Insn
   pub is : IsVerifiedText bytes program
   pub instructions : a.instructions ≡ length program
@@ -89,6 +89,6 @@ WritesAccepted old new bytes =
 abbrev pub WritesText : Option (List ℕ) → Option (List ℕ) → List ℕ → Type 0
 WritesText old new bytes = (lines : List ℕ) × IsTextOf bytes lines × Appends old new lines
 
-abbrev pub Writes : Command → Option (List ℕ) → Option (List ℕ) → List ℕ → Type 0
-Writes (Check file) old new bytes = WritesAccepted old new bytes
-Writes (Disasm file) old new bytes = WritesText old new bytes
+abbrev pub WritesFile : Command → Option (List ℕ) → Option (List ℕ) → List ℕ → Type 0
+WritesFile (Check file) old new bytes = WritesAccepted old new bytes
+WritesFile (Disasm file) old new bytes = WritesText old new bytes

@@ -2,7 +2,7 @@
 ghost use Rattle.std.specs.Prelude.{◌≡◌, List, [], ℕ, ◌++◌, IfOk, IfErr, IfSome, OnOk};
 ghost use Rattle.bpf_model.specs.Spelling.{IsProgram, text};
 ghost use Rattle.insn_codec.specs.Faults.{IsDecodeFault};
-ghost use Rattle.bpfrt.specs.Files.{Holds, HasRead};
+ghost use Rattle.bpfrt.specs.Files.{HoldsBytes, HasRead};
 
 use bpf_model::MAX_SLOTS;
 use insn_codec::{DecodeFault, Program, decode};
@@ -25,15 +25,15 @@ pub enum FileBytes {
 impl FileBytes {
     /// A file of no bytes.
     fn empty(alloc: Global) -> FileBytes
-        ensures { Holds result [] }
+        ensures { HoldsBytes result [] }
     {
         FileBytes::Whole(Vec::new(alloc))
     }
 
     /// Adds the bytes that follow.
     fn append(&mut self, chunk: &[u8]) -> Result<(), AllocError>
-        ensures { (bytes : List ℕ) → Holds self.old bytes →
-            OnOk result (Holds self.new (bytes ++ chunk.now)) }
+        ensures { (bytes : List ℕ) → HoldsBytes self.old bytes →
+            OnOk result (HoldsBytes self.new (bytes ++ chunk.now)) }
     {
         match self {
             FileBytes::Whole(bytes) if chunk.len() <= (8 * MAX_SLOTS).saturating_sub(bytes.len()) =>
@@ -50,9 +50,9 @@ impl FileBytes {
 
     /// The program that the bytes spell, or the first fault, as `decode` tells it of all the bytes.
     pub fn decode(&self, alloc: Global) -> Result<Program, DecodeFault>
-        ensures found { (bytes : List ℕ) → Holds self.now bytes →
+        ensures found { (bytes : List ℕ) → HoldsBytes self.now bytes →
             IfOk result (λ p. IsProgram p × (bytes ≡ text p)) }
-        ensures fault { (bytes : List ℕ) → Holds self.now bytes → IfErr result (IsDecodeFault bytes) }
+        ensures fault { (bytes : List ℕ) → HoldsBytes self.now bytes → IfErr result (IsDecodeFault bytes) }
     {
         match self {
             FileBytes::Whole(bytes) => decode(alloc, bytes),
@@ -64,7 +64,7 @@ impl FileBytes {
 
 /// Reads a file to its end. It takes memory for a program's bytes alone, however long the file is.
 pub fn read_file<R: Read>(alloc: Global, input: &mut R) -> io::Result<FileBytes>
-    ensures { IfOk result (λ file. IfSome (R.remaining input.old) (Holds file)) }
+    ensures { IfOk result (λ file. IfSome (R.remaining input.old) (HoldsBytes file)) }
 {
     let mut file = FileBytes::empty(alloc);
     let mut chunk = [0u8; CHUNK];

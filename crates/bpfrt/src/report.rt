@@ -4,7 +4,7 @@ ghost use Rattle.bpfrt.specs.declared.request.UsageFault.TheVariants.{Memory};
 
 use crate::request::UsageFault;
 use insn_codec::DecodeFault;
-use map_verifier::Refusal;
+use verifier::Refusal;
 use std::alloc::AllocError;
 use std::io::Write;
 
@@ -32,7 +32,7 @@ impl From<DecodeFault> for Verdict {
 }
 
 impl From<Refusal> for Verdict {
-    ghost use Rattle.map_verifier.specs.Numbers.{refusal_number, refusal_slot};
+    ghost use Rattle.verifier.specs.Numbers.{refusal_number, refusal_slot};
 
     ghost from_gives = { λ r v. (v.code ≡ refusal_number r) × (v.slot ≡ refusal_slot r) };
 

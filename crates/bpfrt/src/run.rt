@@ -3,16 +3,16 @@ ghost use Rattle.std.specs.Prelude.{◌≡◌, ◌≢◌, ◌⊎◌, List, [], �
 ghost use Rattle.std.specs.Io.KnownBytes.{Appends};
 ghost use Rattle.bpf_model.specs.Plain.{IsPlain};
 ghost use Rattle.typed_runs.specs.Verified.{IsVerified};
-ghost use Rattle.map_verifier.specs.Verdict.{IsToldOf, IsAccepted as IsTaken};
-ghost use Rattle.bpfrt.specs.Files.{Holds};
-ghost use Rattle.bpfrt.specs.Outputs.{IsAccepted, IsTextOf, IsDecodeRefusal, IsCheckedRefusal, IsRefusedByDecode, IsRefusedByCheck, IsRefusedBy, accepted_line, WritesAccepted, WritesText, Writes};
+ghost use Rattle.verifier.specs.Verdict.{IsToldOf, IsAcceptedText as IsTaken};
+ghost use Rattle.bpfrt.specs.Files.{HoldsBytes};
+ghost use Rattle.bpfrt.specs.Outputs.{IsAcceptedText, IsTextOf, IsDecodeRefusal, IsCheckedRefusal, IsRefusedByDecode, IsRefusedByCheck, IsRefusedBy, accepted_line, WritesAccepted, WritesText, WritesFile};
 
 use crate::program_file::{FileBytes, read_file};
 use crate::report::{Verdict, fault, refused};
 use crate::request::Command;
 use disasm::disassemble;
 use insn_codec::Program;
-use map_verifier::{Refusal, Verified, verify};
+use verifier::{Refusal, Verified, verify};
 use std::alloc::Global;
 use std::io;
 use std::io::{ErrorKind, Read, Write};
@@ -38,8 +38,8 @@ fn verify_alone(alloc: Global, program: Program) -> Result<Verified, Refusal>
 
 /// Decodes and verifies a file's program, with no maps and no context.
 fn check(alloc: Global, file: &FileBytes) -> Result<Accepted, Verdict>
-    ensures accepted { (bytes : List ℕ) → Holds file.now bytes → IfOk result (IsAccepted bytes) }
-    ensures refused { (bytes : List ℕ) → Holds file.now bytes → IfErr result (IsCheckedRefusal bytes) }
+    ensures accepted { (bytes : List ℕ) → HoldsBytes file.now bytes → IfOk result (IsAcceptedText bytes) }
+    ensures refused { (bytes : List ℕ) → HoldsBytes file.now bytes → IfErr result (IsCheckedRefusal bytes) }
 {
     let program = file.decode(alloc)?;
     let verified = verify_alone(alloc, program)?;
@@ -52,9 +52,9 @@ fn check(alloc: Global, file: &FileBytes) -> Result<Accepted, Verdict>
 
 /// The text of a file's program.
 fn text_of(alloc: Global, file: &FileBytes) -> Result<String, Verdict>
-    ensures text { (bytes : List ℕ) → Holds file.now bytes →
+    ensures text { (bytes : List ℕ) → HoldsBytes file.now bytes →
         IfOk result (λ lines. IsTextOf bytes (string_bytes lines)) }
-    ensures refused { (bytes : List ℕ) → Holds file.now bytes → IfErr result (IsDecodeRefusal bytes) }
+    ensures refused { (bytes : List ℕ) → HoldsBytes file.now bytes → IfErr result (IsDecodeRefusal bytes) }
 {
     let program = file.decode(alloc)?;
     Ok(disassemble(alloc, &program)?)
@@ -166,7 +166,7 @@ pub fn run<R: Read, W: Write, E: Write>(
 ) -> u8
     ensures status { (result ≡ 0) ⊎ (result ≡ 1) ⊎ (result ≡ 3) }
     ensures fine { result ≡ 0 → IfSome (R.remaining input.old)
-        (Writes command.now (W.contents out.old) (W.contents out.new)) }
+        (WritesFile command.now (W.contents out.old) (W.contents out.new)) }
     ensures refused { result ≡ 1 → IfSome (R.remaining input.old) (IsRefusedBy command.now) }
     ensures silent { result ≡ 1 → out.new ≡ out.old }
 {

@@ -30,7 +30,7 @@ use Rattle.register_kinds.specs.States.{kind_of, cell_of, kind_at, kind_in, clas
 use Rattle.register_kinds.specs.Pairs.{IsBelow, AreBelow}
 use Rattle.register_kinds.specs.Changes.{zero, learnt}
 use Rattle.kind_tests.specs.Tests.{AreAll}
-use Rattle.call_effects.specs.Calls.{Performs, Forks, null_jump}
+use Rattle.call_effects.specs.Calls.{PerformsCall, NullForks, null_jump}
 
 same : (a : AbsState) → Wider a a
 same a c m d = d
@@ -42,10 +42,10 @@ to-alike i shapes ctx_len a b c e t = transfers_wider i shapes ctx_len a a b c N
 to-both : (i : Insn) (shapes : List MapShape) (ctx_len : ℕ) (a b c x y : AbsState) → AreAlike b c → AreAlike x y → Transfers i shapes ctx_len a b (Some x) → Transfers i shapes ctx_len a c (Some y)
 to-both i shapes ctx_len a b c x y e f t = transfers_wider i shapes ctx_len a a b c (Some x) (Some y) (same a) (alike_wider b c e) (alike_wider x y f) t
 
-pub lock_sound : (a b : StateHere) → a.inside ≡ false → AreAlike (after_lock (state_of a)) (state_of b) → (imm : ℤ) (shapes : List MapShape) → kernel_function_of imm ≡ Some ReadLock → Performs callee.Kernel imm shapes a b
+pub lock_sound : (a b : StateHere) → a.inside ≡ false → AreAlike (after_lock (state_of a)) (state_of b) → (imm : ℤ) (shapes : List MapShape) → kernel_function_of imm ≡ Some ReadLock → PerformsCall callee.Kernel imm shapes a b
 lock_sound a b out e imm shapes f ctx_len = to-alike (Call callee.Kernel imm) shapes ctx_len (state_of a) (after_lock (state_of a)) (state_of b) e (lock_transfers imm shapes ctx_len (state_of a) f out)
 
-pub unlock_sound : (a b : StateHere) → a.inside ≡ true → AreAlike (after_unlock (state_of a)) (state_of b) → (imm : ℤ) (shapes : List MapShape) → kernel_function_of imm ≡ Some ReadUnlock → Performs callee.Kernel imm shapes a b
+pub unlock_sound : (a b : StateHere) → a.inside ≡ true → AreAlike (after_unlock (state_of a)) (state_of b) → (imm : ℤ) (shapes : List MapShape) → kernel_function_of imm ≡ Some ReadUnlock → PerformsCall callee.Kernel imm shapes a b
 unlock_sound a b into e imm shapes f ctx_len = to-alike (Call callee.Kernel imm) shapes ctx_len (state_of a) (after_unlock (state_of a)) (state_of b) e (unlock_transfers imm shapes ctx_len (state_of a) f into)
 
 -- an identity that isn't taken is nowhere
@@ -74,17 +74,17 @@ untaken_fresh top a b = record {
 }
 
 pub lookup_sound : (a b : StateHere) (shapes : List MapShape) (map id : ℕ) (shape : MapShape) → a.inside ≡ true → HasMap shapes (state_of a) map shape → HasBytes (state_of a) 2 shape.key_len → AreBelow id a → AreAlike (after_call (MaybeNull map id) (state_of a)) (state_of b) →
-    (imm : ℤ) → helper_of imm ≡ Some helpers.Lookup → Performs callee.Helper imm shapes a b
+    (imm : ℤ) → helper_of imm ≡ Some helpers.Lookup → PerformsCall callee.Helper imm shapes a b
 lookup_sound a b shapes map id shape into m key below e imm f ctx_len =
     to-alike (Call callee.Helper imm) shapes ctx_len (state_of a) (after_call (MaybeNull map id) (state_of a)) (state_of b) e (lookup_transfers imm shapes ctx_len (state_of a) map id shape f into m key (untaken_fresh id a below))
 
 pub update_sound : (a b : StateHere) (shapes : List MapShape) (map : ℕ) (shape : MapShape) (t q : Scalar) → ((n : ℕ) → n < 2 ^ 64 → Holds t n) → HasMap shapes (state_of a) map shape → HasBytes (state_of a) 2 shape.key_len → HasBytes (state_of a) 3 shape.value_len →
-    kind_in a.regs 4 ≡ kinds.Num q → AreAlike (after_call (Num t) (state_of a)) (state_of b) → (imm : ℤ) → helper_of imm ≡ Some helpers.Update → Performs callee.Helper imm shapes a b
+    kind_in a.regs 4 ≡ kinds.Num q → AreAlike (after_call (Num t) (state_of a)) (state_of b) → (imm : ℤ) → helper_of imm ≡ Some helpers.Update → PerformsCall callee.Helper imm shapes a b
 update_sound a b shapes map shape t q all m key value flags e imm f ctx_len =
     to-alike (Call callee.Helper imm) shapes ctx_len (state_of a) (after_call (Num t) (state_of a)) (state_of b) e (update_transfers imm shapes ctx_len (state_of a) map shape t all m key value q (ap kind_of flags) f)
 
 pub delete_sound : (a b : StateHere) (shapes : List MapShape) (map : ℕ) (shape : MapShape) (t : Scalar) → ((n : ℕ) → n < 2 ^ 64 → Holds t n) → HasMap shapes (state_of a) map shape → HasBytes (state_of a) 2 shape.key_len →
-    AreAlike (after_call (Num t) (state_of a)) (state_of b) → (imm : ℤ) → helper_of imm ≡ Some helpers.Delete → Performs callee.Helper imm shapes a b
+    AreAlike (after_call (Num t) (state_of a)) (state_of b) → (imm : ℤ) → helper_of imm ≡ Some helpers.Delete → PerformsCall callee.Helper imm shapes a b
 delete_sound a b shapes map shape t all m key e imm f ctx_len =
     to-alike (Call callee.Helper imm) shapes ctx_len (state_of a) (after_call (Num t) (state_of a)) (state_of b) e (delete_transfers imm shapes ctx_len (state_of a) map shape t all m key f)
 
@@ -104,12 +104,12 @@ has_bytes a r len at o e f inside all = record {
 zero-holds : Holds zero 0
 zero-holds = record { least = le_self 0; greatest = le_self 0; zeros = and_self 0; ones = and_self 0 }
 
-pub fork_equal : (a b taken : StateHere) (id dst map : ℕ) → AreAlike (learnt (IsThere id) (state_of a)) (state_of b) → AreAlike (learnt (IsNull id) (state_of a)) (state_of taken) → kind_in a.regs dst ≡ kinds.MaybeNull map id → Forks true dst a b taken
+pub fork_equal : (a b taken : StateHere) (id dst map : ℕ) → AreAlike (learnt (IsThere id) (state_of a)) (state_of b) → AreAlike (learnt (IsNull id) (state_of a)) (state_of taken) → kind_in a.regs dst ≡ kinds.MaybeNull map id → NullForks true dst a b taken
 fork_equal a b taken id dst map e f g shapes ctx_len n =
     to-both (null_jump true dst n) shapes ctx_len (state_of a) (when_there id origin (state_of a)) (state_of b) (when_null id zero (state_of a)) (state_of taken) e f
     (equal_transfers shapes ctx_len dst n map id (state_of a) zero origin zero-holds origin_has (ap kind_of g))
 
-pub fork_not_equal : (a b taken : StateHere) (id dst map : ℕ) → AreAlike (learnt (IsNull id) (state_of a)) (state_of b) → AreAlike (learnt (IsThere id) (state_of a)) (state_of taken) → kind_in a.regs dst ≡ kinds.MaybeNull map id → Forks false dst a b taken
+pub fork_not_equal : (a b taken : StateHere) (id dst map : ℕ) → AreAlike (learnt (IsNull id) (state_of a)) (state_of b) → AreAlike (learnt (IsThere id) (state_of a)) (state_of taken) → kind_in a.regs dst ≡ kinds.MaybeNull map id → NullForks false dst a b taken
 fork_not_equal a b taken id dst map e f g shapes ctx_len n =
     to-both (null_jump false dst n) shapes ctx_len (state_of a) (when_null id zero (state_of a)) (state_of b) (when_there id origin (state_of a)) (state_of taken) e f
     (not_equal_transfers shapes ctx_len dst n map id (state_of a) zero origin zero-holds origin_has (ap kind_of g))

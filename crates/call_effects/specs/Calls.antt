@@ -29,16 +29,16 @@ use Rattle.register_kinds.specs.States.{kind_in, state_of}
 use Rattle.kind_tests.specs.Tests.{AreAll}
 
 -- From each run that the old state describes the call has a step, and each leads to one that the new state describes.
-abbrev pub Performs : CallKind → ℤ → List MapShape → AbsState → AbsState → Type 0
-Performs kind imm shapes old new = (ctx_len : ℕ) → Transfers (Call kind imm) shapes ctx_len (state_of old) (state_of new) None
+abbrev pub PerformsCall : CallKind → ℤ → List MapShape → AbsState → AbsState → Type 0
+PerformsCall kind imm shapes old new = (ctx_len : ℕ) → Transfers (Call kind imm) shapes ctx_len (state_of old) (state_of new) None
 
 -- a jump on the number 0, or on any other, to a slot further on
 abbrev pub null_jump : Bool → ℕ → ℕ → Insn
 null_jump equal dst n = JumpIf (if equal then Equal else NotEqual) Word64 dst (Immediate (pos 0)) (pos n)
 
 -- So it is of a jump, with another state where it is taken.
-abbrev pub Forks : Bool → ℕ → AbsState → AbsState → AbsState → Type 0
-Forks equal dst old new taken = (shapes : List MapShape) (ctx_len n : ℕ) → Transfers (null_jump equal dst n) shapes ctx_len (state_of old) (state_of new) (Some (state_of taken))
+abbrev pub NullForks : Bool → ℕ → AbsState → AbsState → AbsState → Type 0
+NullForks equal dst old new taken = (shapes : List MapShape) (ctx_len n : ℕ) → Transfers (null_jump equal dst n) shapes ctx_len (state_of old) (state_of new) (Some (state_of taken))
 
 -- The first tests of a call, of its number and of the section: the first that fails, if one does.
 abbrev pub helper_fault : Option Helper → Bool → Option Fault

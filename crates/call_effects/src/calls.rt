@@ -7,7 +7,7 @@ ghost use Rattle.register_kinds.specs.States.{kind_in, state_of};
 ghost use Rattle.register_kinds.specs.Pairs.{AreBelow};
 ghost use Rattle.typed_runs.specs.Effects.{after_lock, after_unlock};
 ghost use Rattle.typed_runs.specs.Planned.{AreAlike};
-ghost use Rattle.call_effects.specs.Calls.{Performs, PointsToBytes, FindsIn, helper_fault, kernel_fault, section_fault, outcome_of, Called};
+ghost use Rattle.call_effects.specs.Calls.{PerformsCall, PointsToBytes, FindsIn, helper_fault, kernel_fault, section_fault, outcome_of, Called};
 
 use crate::arguments::{called_map, check_bytes_argument};
 use bpf_model::{CallKind, Helper, KernelFunction, MapShape, Reg};
@@ -19,7 +19,7 @@ use scalar_domain::Scalar;
 fn lock(state: &mut AbsState) -> Result<(), Fault>
     ensures sound { OnOk result ((imm : ℤ) (shapes : List MapShape)
         → kernel_function_of imm ≡ Some KernelFunction.ReadLock
-        → Performs CallKind.Kernel imm shapes state.old state.new) }
+        → PerformsCall CallKind.Kernel imm shapes state.old state.new) }
     ensures result { result
         ≡ outcome_of (kernel_fault (Some KernelFunction.ReadLock) state.old.inside) }
     ensures opens { OnOk result (AreAlike (after_lock (state_of state.old)) (state_of state.new)) }
@@ -37,7 +37,7 @@ fn lock(state: &mut AbsState) -> Result<(), Fault>
 fn unlock(state: &mut AbsState) -> Result<(), Fault>
     ensures sound { OnOk result ((imm : ℤ) (shapes : List MapShape)
         → kernel_function_of imm ≡ Some KernelFunction.ReadUnlock
-        → Performs CallKind.Kernel imm shapes state.old state.new) }
+        → PerformsCall CallKind.Kernel imm shapes state.old state.new) }
     ensures result { result
         ≡ outcome_of (kernel_fault (Some KernelFunction.ReadUnlock) state.old.inside) }
     ensures closes { OnOk result (AreAlike (after_unlock (state_of state.old)) (state_of state.new)) }
@@ -68,7 +68,7 @@ fn lookup(state: &mut AbsState, shapes: &[MapShape], ids: &mut Identities) -> Re
     requires room { ids.old.next + 1 < 2 ^ 32 }
     requires below { AreBelow ids.old.next state.old }
     ensures sound { OnOk result ((imm : ℤ) → helper_of imm ≡ Some Helper.Lookup
-        → Performs CallKind.Helper imm shapes.now state.old state.new) }
+        → PerformsCall CallKind.Helper imm shapes.now state.old state.new) }
     ensures first { IfSome (helper_fault (Some Helper.Lookup) state.old.inside) (λ e. result
         ≡ Err e) }
     ensures accepts { (map : ℕ) (shape : MapShape) → state.old.inside ≡ true
@@ -93,7 +93,7 @@ fn lookup(state: &mut AbsState, shapes: &[MapShape], ids: &mut Identities) -> Re
 /// An update. Errors, in this order: those of the map, of the key, of the value, of the flags.
 fn update(state: &mut AbsState, shapes: &[MapShape]) -> Result<(), Fault>
     ensures sound { OnOk result ((imm : ℤ) → helper_of imm ≡ Some Helper.Update
-        → Performs CallKind.Helper imm shapes.now state.old state.new) }
+        → PerformsCall CallKind.Helper imm shapes.now state.old state.new) }
     ensures accepts { (map : ℕ) (shape : MapShape) (q : Scalar)
         → kind_in state.old.regs 1 ≡ RegKind.Map map → slice_get shapes.now map ≡ Some shape
         → PointsToBytes state.old 2 shape.key_len → PointsToBytes state.old 3 shape.value_len
@@ -112,7 +112,7 @@ fn update(state: &mut AbsState, shapes: &[MapShape]) -> Result<(), Fault>
 /// A delete. Errors, in this order: those of the map, of the key.
 fn delete(state: &mut AbsState, shapes: &[MapShape]) -> Result<(), Fault>
     ensures sound { OnOk result ((imm : ℤ) → helper_of imm ≡ Some Helper.Delete
-        → Performs CallKind.Helper imm shapes.now state.old state.new) }
+        → PerformsCall CallKind.Helper imm shapes.now state.old state.new) }
     ensures accepts { (map : ℕ) (shape : MapShape) → kind_in state.old.regs 1 ≡ RegKind.Map map
         → slice_get shapes.now map ≡ Some shape → PointsToBytes state.old 2 shape.key_len
         → IsOk result }
@@ -128,7 +128,7 @@ fn delete(state: &mut AbsState, shapes: &[MapShape]) -> Result<(), Fault>
 /// A call of a kernel function.
 fn call_kernel(state: &mut AbsState, imm: i32) -> Result<(), Fault>
     ensures sound { OnOk result ((shapes : List MapShape)
-        → Performs CallKind.Kernel imm shapes state.old state.new) }
+        → PerformsCall CallKind.Kernel imm shapes state.old state.new) }
     ensures result { result ≡ outcome_of (kernel_fault (kernel_function_of imm) state.old.inside) }
     ensures called { OnOk result (Called (kernel_function_of imm) (state_of state.old)
         (state_of state.new)) }
@@ -151,7 +151,7 @@ fn call_helper(
 ) -> Result<(), Fault>
     requires room { ids.old.next + 1 < 2 ^ 32 }
     requires below { AreBelow ids.old.next state.old }
-    ensures sound { OnOk result (Performs CallKind.Helper imm shapes.now state.old state.new) }
+    ensures sound { OnOk result (PerformsCall CallKind.Helper imm shapes.now state.old state.new) }
     ensures first { IfSome (helper_fault (helper_of imm) state.old.inside) (λ e. result ≡ Err e) }
     ensures accepts_lookup { (map : ℕ) (shape : MapShape) → helper_of imm ≡ Some Helper.Lookup
         → state.old.inside ≡ true → kind_in state.old.regs 1 ≡ RegKind.Map map
@@ -187,7 +187,7 @@ pub fn call(
 ) -> Result<(), Fault>
     requires room { ids.old.next + 1 < 2 ^ 32 }
     requires below { AreBelow ids.old.next state.old }
-    ensures sound { OnOk result (Performs kind imm shapes.now state.old state.new) }
+    ensures sound { OnOk result (PerformsCall kind imm shapes.now state.old state.new) }
     ensures first { IfSome (section_fault kind imm state.old.inside) (λ e. result ≡ Err e) }
     ensures kernel { kind ≡ CallKind.Kernel
         → result ≡ outcome_of (section_fault kind imm state.old.inside) }

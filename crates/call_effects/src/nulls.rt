@@ -2,7 +2,7 @@
 ghost use Rattle.std.specs.Prelude.{◌≡◌, ℕ, IfOk, OnErr, true, false};
 ghost use Rattle.register_kinds.specs.States.{kind_in};
 ghost use Rattle.register_kinds.specs.Pairs.{AreBelow};
-ghost use Rattle.call_effects.specs.Calls.{Forks, Splits};
+ghost use Rattle.call_effects.specs.Calls.{NullForks, Splits};
 
 use register_kinds::{AbsState, Lesson, RegKind};
 use std::alloc::{AllocError, Global};
@@ -14,7 +14,7 @@ use std::alloc::{AllocError, Global};
 pub fn fork_equal(state: &mut AbsState, alloc: Global, id: u32) -> Result<Box<AbsState>, AllocError>
     ensures sound { IfOk result (λ taken. (dst map : ℕ)
         → kind_in state.old.regs dst ≡ RegKind.MaybeNull map id
-        → Forks true dst state.old state.new taken.value) }
+        → NullForks true dst state.old state.new taken.value) }
     ensures splits { IfOk result (λ taken. Splits id state.old taken.value state.new) }
     ensures below { (top : ℕ) → AreBelow top state.old → AreBelow top state.new }
     ensures taken_below { IfOk result (λ taken. (top : ℕ)
@@ -36,7 +36,7 @@ pub fn fork_not_equal(
 ) -> Result<Box<AbsState>, AllocError>
     ensures sound { IfOk result (λ taken. (dst map : ℕ)
         → kind_in state.old.regs dst ≡ RegKind.MaybeNull map id
-        → Forks false dst state.old state.new taken.value) }
+        → NullForks false dst state.old state.new taken.value) }
     ensures splits { IfOk result (λ taken. Splits id state.old state.new taken.value) }
     ensures below { (top : ℕ) → AreBelow top state.old → AreBelow top state.new }
     ensures taken_below { IfOk result (λ taken. (top : ℕ)

@@ -22,7 +22,7 @@ use Rattle.bpf_model.specs.Operand.{operand_value, computed, unary_source}
 use Rattle.bpf_model.specs.Near.{IsNear, IsNearOffset}
 use Rattle.bpf_model.specs.Graph.{falls}
 use Rattle.bpf_model.specs.Spelling.{slot_count}
-use Rattle.bpf_model.specs.Step.{State, Environment, Outcome, Moves as Goes, put, sets, after, map_value}
+use Rattle.bpf_model.specs.Step.{State, Environment, Outcome, MovesOffsets as Goes, put, sets, after, map_value}
 use Rattle.bpf_model.specs.Element.{Element}
 use Rattle.bpf_model.specs.MachineStep.{AccessesElement, found_value}
 use Rattle.scalar_domain.specs.declared.scalar.Scalar.{Scalar}
@@ -42,7 +42,7 @@ use Rattle.register_kinds.specs.declared.state.AbsState.{AbsState as StateHere}
 use Rattle.register_kinds.specs.States.{kind_of, kind_in, state_of}
 use Rattle.compute_effects.specs.declared.moving.Way.{Way}
 use Rattle.compute_effects.specs.declared.moving.Way.TheVariants.{Forward, Back}
-use Rattle.compute_effects.specs.Computes.{Performs, step_of, Moves, Combines, Computes, HasValue, IsMove}
+use Rattle.compute_effects.specs.Computes.{PerformsComputation, signed_move, MovesOffsets, Combines, Computes, HasValue, IsMove}
 use Rattle.compute_effects.proofs.Laws.{unary_lt, computed_numbers}
 use Rattle.scalar_domain.proofs.Words.{alu_lt}
 
@@ -68,39 +68,39 @@ near-offset t o h =
     let l : h.raised ≤ 2 ^ 30 = h.limit in
     (omega (arith, ints, e, l), omega (arith, ints, e, l))
 
-ctx-moved : (way : Way) (size : Size) (op : AluOp) (o : ℤ) (n : ℕ) → IsMove way size op → computed size op (Pointer (Ctx o)) (Number n) ≡ Some (Pointer (Ctx (o +ℤ step_of way n)))
+ctx-moved : (way : Way) (size : Size) (op : AluOp) (o : ℤ) (n : ℕ) → IsMove way size op → computed size op (Pointer (Ctx o)) (Number n) ≡ Some (Pointer (Ctx (o +ℤ signed_move way n)))
 ctx-moved Forward size op o n h = ap2 (λ s p. computed s p (Pointer (Ctx o)) (Number n)) h.0 h.1
 ctx-moved Back size op o n h = ap2 (λ s p. computed s p (Pointer (Ctx o)) (Number n)) h.0 h.1
 
-frame-moved : (way : Way) (size : Size) (op : AluOp) (o : ℤ) (n : ℕ) → IsMove way size op → computed size op (Pointer (Frame o)) (Number n) ≡ Some (Pointer (Frame (o +ℤ step_of way n)))
+frame-moved : (way : Way) (size : Size) (op : AluOp) (o : ℤ) (n : ℕ) → IsMove way size op → computed size op (Pointer (Frame o)) (Number n) ≡ Some (Pointer (Frame (o +ℤ signed_move way n)))
 frame-moved Forward size op o n h = ap2 (λ s p. computed s p (Pointer (Frame o)) (Number n)) h.0 h.1
 frame-moved Back size op o n h = ap2 (λ s p. computed s p (Pointer (Frame o)) (Number n)) h.0 h.1
 
-element-moved : (way : Way) (size : Size) (op : AluOp) (e : ℕ) (o : ℤ) (n : ℕ) → IsMove way size op → computed size op (Pointer (Elem e o)) (Number n) ≡ Some (Pointer (Elem e (o +ℤ step_of way n)))
+element-moved : (way : Way) (size : Size) (op : AluOp) (e : ℕ) (o : ℤ) (n : ℕ) → IsMove way size op → computed size op (Pointer (Elem e o)) (Number n) ≡ Some (Pointer (Elem e (o +ℤ signed_move way n)))
 element-moved Forward size op e o n h = ap2 (λ s p. computed s p (Pointer (Elem e o)) (Number n)) h.0 h.1
 element-moved Back size op e o n h = ap2 (λ s p. computed s p (Pointer (Elem e o)) (Number n)) h.0 h.1
 
-pub context_moves : (way : Way) (x : RegKind) (s by t : Scalar) → x ≡ kinds.Ctx s → Moves way s by t → (size : Size) (op : AluOp) → IsMove way size op → Combines size op (kind_of x) (Num by) (CtxAt t)
+pub context_moves : (way : Way) (x : RegKind) (s by t : Scalar) → x ≡ kinds.Ctx s → MovesOffsets way s by t → (size : Size) (op : AluOp) → IsMove way size op → Combines size op (kind_of x) (Num by) (CtxAt t)
 context_moves way x s by t e moves size op is = subst (λ k. Combines size op (kind_of k) (Num by) (CtxAt t)) (sym e) (λ c ρ v w i j near.
     let there = moves i.offset j.0 i.there j.2 j.3 in
-    let o : ℤ = i.offset +ℤ step_of way j.0 in (
+    let o : ℤ = i.offset +ℤ signed_move way j.0 in (
       Pointer (Ctx o),
       ap2 (computed size op) i.is j.1 ∙ ctx-moved way size op i.offset j.0 is,
       record { offset = o; is = refl; there = there },
       near-offset t o there,
     ))
 
-pub value_moves : (way : Way) (x : RegKind) (map : ℕ) (s by t : Scalar) → x ≡ kinds.Value map s → Moves way s by t → (size : Size) (op : AluOp) → IsMove way size op → Combines size op (kind_of x) (Num by) (ValueAt map t)
+pub value_moves : (way : Way) (x : RegKind) (map : ℕ) (s by t : Scalar) → x ≡ kinds.Value map s → MovesOffsets way s by t → (size : Size) (op : AluOp) → IsMove way size op → Combines size op (kind_of x) (Num by) (ValueAt map t)
 value_moves way x map s by t e moves size op is = subst (λ k. Combines size op (kind_of k) (Num by) (ValueAt map t)) (sym e) (λ c ρ v w i j near.
     let there = moves i.offset j.0 i.there j.2 j.3 in
-    let o : ℤ = i.offset +ℤ step_of way j.0 in (
+    let o : ℤ = i.offset +ℤ signed_move way j.0 in (
       Pointer (Elem i.n o),
       ap2 (computed size op) i.is j.1 ∙ element-moved way size op i.n i.offset j.0 is,
       record { n = i.n; offset = o; is = refl; there = there; held = i.held },
       near-offset t o there,
     ))
 
-pub frame_moves : (way : Way) (x : RegKind) (o p : ℤ) (by : Scalar) → x ≡ kinds.Frame o → IsNearOffset p → ((n : ℕ) → n < 2 ^ 64 → Holds by n → p ≡ o +ℤ step_of way n) → (size : Size) (op : AluOp) → IsMove way size op →
+pub frame_moves : (way : Way) (x : RegKind) (o p : ℤ) (by : Scalar) → x ≡ kinds.Frame o → IsNearOffset p → ((n : ℕ) → n < 2 ^ 64 → Holds by n → p ≡ o +ℤ signed_move way n) → (size : Size) (op : AluOp) → IsMove way size op →
     Combines size op (kind_of x) (Num by) (FrameAt p)
 frame_moves way x o p by e close moves size op is = subst (λ k. Combines size op (kind_of k) (Num by) (FrameAt p)) (sym e) (λ c ρ v w i j near.
     (Pointer (Frame p), ap2 (computed size op) i j.1 ∙ (frame-moved way size op o j.0 is ∙ ap (λ z. Some (Pointer (Frame z))) (sym (moves j.0 j.2 j.3))), refl, close))
@@ -177,7 +177,7 @@ sets_transfers i shapes ctx_len dst a b k s ne alike =
       lands = inl (s.falls_on, refl, set-described (state_of a) c m dst (m.place + slot_count i) k x.0 d x.2 x.3);
     }))
 
-pub alu_sound : (op : AluOp) (size : Size) (dst : ℕ) (src : Operand) (a b : StateHere) (k : Kind) → Computes size op dst src (state_of a) k → (10 ≡ dst → ⊥) → AreAlike (with_kind dst k (state_of a)) (state_of b) → Performs (Alu op size dst src) a b
+pub alu_sound : (op : AluOp) (size : Size) (dst : ℕ) (src : Operand) (a b : StateHere) (k : Kind) → Computes size op dst src (state_of a) k → (10 ≡ dst → ⊥) → AreAlike (with_kind dst k (state_of a)) (state_of b) → PerformsComputation (Alu op size dst src) a b
 alu_sound op size dst src a b k f ne alike shapes ctx_len = sets_transfers (Alu op size dst src) shapes ctx_len dst a b k (record {
   no_call = refl;
   falls_on = refl;
@@ -188,7 +188,7 @@ alu_sound op size dst src a b k f ne alike shapes ctx_len = sets_transfers (Alu 
 }) ne alike
 
 pub unary_sound : (op : UnaryOp) (dst r : ℕ) (n t : Scalar) (kind : RegKind) (a b : StateHere) → r ≡ unary_source op dst → kind_in a.regs r ≡ kind → kind ≡ kinds.Num n → ((x : ℕ) → x < 2 ^ 64 → Holds n x → Holds t (unary op x)) → (10 ≡ dst → ⊥)
-    → AreAlike (with_kind dst (Num t) (state_of a)) (state_of b) → Performs (Unary op dst) a b
+    → AreAlike (with_kind dst (Num t) (state_of a)) (state_of b) → PerformsComputation (Unary op dst) a b
 unary_sound op dst r n t kind a b source is e sound ne alike shapes ctx_len = sets_transfers (Unary op dst) shapes ctx_len dst a b (Num t) (record {
   no_call = refl;
   falls_on = refl;
@@ -202,7 +202,7 @@ unary_sound op dst r n t kind a b source is e sound ne alike shapes ctx_len = se
       );
 }) ne alike
 
-pub number_sound : (dst n : ℕ) (t : Scalar) (a b : StateHere) → n < 2 ^ 64 → Holds t n → (10 ≡ dst → ⊥) → AreAlike (with_kind dst (Num t) (state_of a)) (state_of b) → Performs (LoadNumber dst n) a b
+pub number_sound : (dst n : ℕ) (t : Scalar) (a b : StateHere) → n < 2 ^ 64 → Holds t n → (10 ≡ dst → ⊥) → AreAlike (with_kind dst (Num t) (state_of a)) (state_of b) → PerformsComputation (LoadNumber dst n) a b
 number_sound dst n t a b l h ne alike shapes ctx_len = sets_transfers (LoadNumber dst n) shapes ctx_len dst a b (Num t) (record {
   no_call = refl;
   falls_on = refl;

@@ -30,13 +30,13 @@ use Rattle.compute_effects.specs.declared.moving.Way.{Way}
 use Rattle.compute_effects.specs.declared.moving.Way.TheVariants.{Forward, Back}
 
 -- From each run that the old state describes the instruction has a step, and each leads to one that the new state describes.
-abbrev pub Performs : Insn → AbsState → AbsState → Type 0
-Performs insn old new = (shapes : List MapShape) (ctx_len : ℕ) → Transfers insn shapes ctx_len (state_of old) (state_of new) None
+abbrev pub PerformsComputation : Insn → AbsState → AbsState → Type 0
+PerformsComputation insn old new = (shapes : List MapShape) (ctx_len : ℕ) → Transfers insn shapes ctx_len (state_of old) (state_of new) None
 
 -- how many bytes forward a sum or a difference moves a reference
-abbrev pub step_of : Way → ℕ → ℤ
-step_of Forward n = signed w64 n
-step_of Back n = pos 0 -ℤ signed w64 n
+abbrev pub signed_move : Way → ℕ → ℤ
+signed_move Forward n = signed w64 n
+signed_move Back n = pos 0 -ℤ signed w64 n
 
 -- a word forward or back by so many, reduced
 abbrev pub shifted_word : Way → ℕ → ℕ → ℕ
@@ -44,12 +44,12 @@ shifted_word Forward x n = word w64 (pos x +ℤ pos n)
 shifted_word Back x n = word w64 (pos x -ℤ pos n)
 
 -- a word that, read as a signed number, lies within 2^29 either way
-abbrev pub IsStep : ℕ → Type 0
-IsStep n = (n ≤ 2 ^ 29) ⊎ (2 ^ 64 - 2 ^ 29 ≤ n)
+abbrev pub IsNearStep : ℕ → Type 0
+IsNearStep n = (n ≤ 2 ^ 29) ⊎ (2 ^ 64 - 2 ^ 29 ≤ n)
 
 -- Each of the offsets, moved by each of the numbers, is one of the new ones.
-abbrev pub Moves : Way → Scalar → Scalar → Scalar → Type 0
-Moves way s by t = (o : ℤ) (n : ℕ) → HasOffset s o → n < 2 ^ 64 → Holds by n → HasOffset t (o +ℤ step_of way n)
+abbrev pub MovesOffsets : Way → Scalar → Scalar → Scalar → Type 0
+MovesOffsets way s by t = (o : ℤ) (n : ℕ) → HasOffset s o → n < 2 ^ 64 → Holds by n → HasOffset t (o +ℤ signed_move way n)
 
 -- the computation gives a value of the kind
 abbrev pub Gives : Scene → Naming → Kind → Option Value → Type 0

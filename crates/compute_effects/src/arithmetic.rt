@@ -8,7 +8,7 @@ ghost use Rattle.typed_runs.specs.Effects.{IsNumberOperand, IsWritten};
 ghost use Rattle.typed_runs.specs.Verified.{Transfers};
 ghost use Rattle.register_kinds.specs.States.{kind_in, kind_of, state_of};
 ghost use Rattle.register_kinds.specs.Pairs.{IsBelow, AreBelow};
-ghost use Rattle.compute_effects.specs.Computes.{Performs, Computes, HasNumber, ReadsNumber, GivesNumber, SetsNumber, SetsKind};
+ghost use Rattle.compute_effects.specs.Computes.{PerformsComputation, Computes, HasNumber, ReadsNumber, GivesNumber, SetsNumber, SetsKind};
 
 use crate::kinds::{combined, copied, numbers, operand};
 use bpf_model::{AluOp, Insn, Operand, Reg, Size, UnaryOp};
@@ -65,7 +65,7 @@ pub fn alu(
     dst: Reg,
     src: &Operand,
 ) -> Result<(), Fault>
-    ensures sound { OnOk result (Performs (Insn.Alu op size dst src.now) state.old state.new) }
+    ensures sound { OnOk result (PerformsComputation (Insn.Alu op size dst src.now) state.old state.new) }
     ensures numbers { (10 ≡ dst → ⊥) → ReadsNumber op (state_of state.old) dst
         → IsNumberOperand (state_of state.old) src.now
         → SetsNumber result dst (state_of state.old) (state_of state.new) }
@@ -101,7 +101,7 @@ fn source_of(op: &UnaryOp, dst: Reg) -> Reg
 
 /// An operation of one operand, a number. Errors as `alu`.
 pub fn unary(state: &mut AbsState, op: &UnaryOp, dst: Reg) -> Result<(), Fault>
-    ensures sound { OnOk result (Performs (Insn.Unary op.now dst) state.old state.new) }
+    ensures sound { OnOk result (PerformsComputation (Insn.Unary op.now dst) state.old state.new) }
     ensures numbers { (10 ≡ dst → ⊥) → HasNumber (state_of state.old) (unary_source op.now dst)
         → SetsNumber result dst (state_of state.old) (state_of state.new) }
     ensures below { (top : ℕ) → AreBelow top state.old → AreBelow top state.new }
@@ -116,7 +116,7 @@ pub fn unary(state: &mut AbsState, op: &UnaryOp, dst: Reg) -> Result<(), Fault>
 
 /// The wide instruction with a number. Error: `FramePointerWritten`.
 pub fn load_number(state: &mut AbsState, dst: Reg, number: u64) -> Result<(), Fault>
-    ensures sound { OnOk result (Performs (Insn.LoadNumber dst number) state.old state.new) }
+    ensures sound { OnOk result (PerformsComputation (Insn.LoadNumber dst number) state.old state.new) }
     ensures numbers { (10 ≡ dst → ⊥)
         → SetsNumber result dst (state_of state.old) (state_of state.new) }
     ensures below { (top : ℕ) → AreBelow top state.old → AreBelow top state.new }

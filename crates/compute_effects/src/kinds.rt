@@ -8,7 +8,7 @@ ghost use Rattle.typed_runs.specs.Kinds as model;
 ghost use Rattle.typed_runs.specs.Effects.{IsWritten, IsNumberOperand};
 ghost use Rattle.register_kinds.specs.States.{kind_of, state_of};
 ghost use Rattle.register_kinds.specs.Pairs.{IsBelow, AreBelow};
-ghost use Rattle.compute_effects.specs.Computes.{Combines, HasValue, IsMove, IsStep, shifted_word, GivesNumber, HasOperand};
+ghost use Rattle.compute_effects.specs.Computes.{Combines, HasValue, IsMove, IsNearStep, shifted_word, GivesNumber, HasOperand};
 
 use crate::moving::{Way, moved, moved_in_frame};
 use bpf_model::{AluOp, Operand, Size};
@@ -34,7 +34,7 @@ fn moved_kind(way: Way, x: RegKind, by: Scalar) -> Result<RegKind, Fault>
         → Combines size op (kind_of x) (model.Num by) (kind_of k)) }
     ensures below { IfOk result (λ k. (top : ℕ) → IsBelow top (kind_of k)) }
     ensures frame { (m n at : ℕ) → x ≡ RegKind.Frame (pos m) → m ≤ 2 ^ 29 → IsConstant by n
-        → IsStep n → shifted_word way (m + 2 ^ 29) n ≡ at + 2 ^ 29 → at ≤ 2 ^ 29
+        → IsNearStep n → shifted_word way (m + 2 ^ 29) n ≡ at + 2 ^ 29 → at ≤ 2 ^ 29
         → result ≡ Ok (RegKind.Frame (pos at)) }
 {
     match x {

@@ -4,7 +4,7 @@ ghost use Rattle.bpf_model.specs.Near.{IsNearOffset};
 ghost use Rattle.scalar_domain.specs.declared.scalar.Scalar.{Scalar as Numbers};
 ghost use Rattle.scalar_domain.specs.Scalar.{Holds, IsConstant};
 ghost use Rattle.typed_runs.specs.Describes.{HasOffset};
-ghost use Rattle.compute_effects.specs.Computes.{Moves, IsStep, step_of, shifted_word};
+ghost use Rattle.compute_effects.specs.Computes.{MovesOffsets, IsNearStep, signed_move, shifted_word};
 
 use bpf_model::{AluOp, Size};
 use kind_tests::Fault;
@@ -23,8 +23,8 @@ pub(crate) enum Way {
 
 /// Each of the numbers, read as a signed one, lies within the limit, and all have one sign.
 fn check_step(by: Scalar) -> Result<(), Fault>
-    ensures steps { OnOk result ((n : ℕ) → Holds by n → IsStep n) }
-    ensures accepts { (n : ℕ) → IsConstant by n → IsStep n → IsOk result }
+    ensures steps { OnOk result ((n : ℕ) → Holds by n → IsNearStep n) }
+    ensures accepts { (n : ℕ) → IsConstant by n → IsNearStep n → IsOk result }
 {
     if by.greatest <= LIMIT || by.least >= u64::MAX - (LIMIT - 1) {
         return Ok(());
@@ -48,8 +48,8 @@ fn shifted(way: Way, offset: Scalar, by: Scalar) -> Scalar
 /// The offsets of a reference that is moved. Error: `PointerArithmetic` where a number may lie
 /// outside the limit, or a new offset.
 pub(crate) fn moved(way: Way, offset: Scalar, by: Scalar) -> Result<Scalar, Fault>
-    ensures sound { IfOk result (λ t. Moves way offset by t) }
-    ensures constant { (x n : ℕ) → IsConstant offset x → IsConstant by n → IsStep n
+    ensures sound { IfOk result (λ t. MovesOffsets way offset by t) }
+    ensures constant { (x n : ℕ) → IsConstant offset x → IsConstant by n → IsNearStep n
         → shifted_word way x n ≤ 2 ^ 30
         → (t : Numbers) × (result ≡ Ok t) × IsConstant t (shifted_word way x n) }
 {
@@ -95,9 +95,9 @@ fn lowered(offsets: Scalar) -> Result<i32, Fault>
 /// `moved`, and where there may be more numbers.
 pub(crate) fn moved_in_frame(way: Way, offset: i32, by: Scalar) -> Result<i32, Fault>
     ensures value { IfOk result (λ p. (n : ℕ) → n < 2 ^ 64 → Holds by n
-        → p ≡ offset +ℤ step_of way n) }
+        → p ≡ offset +ℤ signed_move way n) }
     ensures near { IfOk result IsNearOffset }
-    ensures inside { (m n at : ℕ) → offset ≡ pos m → m ≤ 2 ^ 29 → IsConstant by n → IsStep n
+    ensures inside { (m n at : ℕ) → offset ≡ pos m → m ≤ 2 ^ 29 → IsConstant by n → IsNearStep n
         → shifted_word way (m + 2 ^ 29) n ≡ at + 2 ^ 29 → at ≤ 2 ^ 29 → result ≡ Ok (pos at) }
 {
     let new = moved(way, raised(offset)?, by)?;

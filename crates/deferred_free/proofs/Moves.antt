@@ -3,21 +3,22 @@ use Rattle.std.proofs.Common.{◌≡◌, ◌≢◌, ◌∙◌, ℕ, ◌+◌, ◌
 use Rattle.std.specs.Prelude.{IfSome}
 use Rattle.std.proofs.lemmas.Option.{none-some, same_Some}
 use Rattle.bpf_model.specs.Schedule.{Queues, turned}
-use Rattle.element_arena.specs.State.{ArenaState, IsTaken, LinksOf, link_at, link_in, times, with_link}
-use Rattle.deferred_free.specs.Queued.{queued, retired_slot, reaped_lists}
-use Rattle.element_arena.specs.Threads.{IsThread, last_of}
+use Rattle.element_arena.specs.State.{ArenaState, IsTaken, LinksOf, link_at, link_in, times_in, with_link}
+use Rattle.deferred_free.specs.Queued.{queued, retired_lists, reaped_lists}
+use Rattle.element_arena.specs.Threads.{IsThread, last_slot_of}
 use Rattle.element_arena.proofs.Counts.{option_cases, one_cases, one_same, times-append, get-set_other}
 use Rattle.element_arena.proofs.Threading.{thread-agree, thread-join, thread-some, last-none, last-held, last-append}
 use Rattle.deferred_free.specs.declared.threaded.Line.{Line}
 use Rattle.deferred_free.specs.declared.threaded.Threaded.{Threaded}
-use Rattle.deferred_free.specs.Lines.{IsJoined, joined, joined_to, joined_from, last_left}
-use Rattle.deferred_free.specs.Fits.{lists_of, IsLine, FitsAs, Fits}
+use Rattle.deferred_free.specs.Lines.{AreLinksJoined, joined, joined_to, joined_from}
+use Rattle.element_arena.specs.Kept.{last_left}
+use Rattle.deferred_free.specs.Fits.{threaded_lists, IsLine, FitsAs, ThreadedFits}
 
 append-nil : (xs : List ℕ) → xs ++ [] ≡ xs
 append-nil [] = refl
 append-nil (x ∷ xs) = ap (λ l. x ∷ l) (append-nil xs)
 
-pub line_join : (f g : ℕ → Option ℕ) (front back : Line) (xs ys : List ℕ) → IsLine f front xs → IsLine g back ys → ((j : ℕ) → times j xs ≤ 1) →
+pub line_join : (f g : ℕ → Option ℕ) (front back : Line) (xs ys : List ℕ) → IsLine f front xs → IsLine g back ys → ((j : ℕ) → times_in j xs ≤ 1) →
     ((l : ℕ) → front.last ≡ Some l → g l ≡ back.first) → ((j : ℕ) → front.last ≢ Some j → g j ≡ f j) → IsLine g (joined front back) (xs ++ ys)
 line_join f g front back xs ys t u once at others = elim (option_cases front.last) [
   | inl none ↦
@@ -32,7 +33,7 @@ line_join f g front back xs ys t u once at others = elim (option_cases front.las
       subst (λ z. IsLine g z (xs ++ ys)) (sym j) (elim (option_cases back.last) [
         | inl none ↦
             let ye : ys ≡ [] = last-none ys (sym u.ends ∙ none) in
-            let same : last_of (xs ++ ys) ≡ last_of xs = ap (λ zs. last_of (xs ++ zs)) ye ∙ ap last_of (append-nil xs) in
+            let same : last_slot_of (xs ++ ys) ≡ last_slot_of xs = ap (λ zs. last_slot_of (xs ++ zs)) ye ∙ ap last_slot_of (append-nil xs) in
             subst (λ o. IsLine g (joined_to front o) (xs ++ ys)) (sym none) (record { thread = th; ends = t.ends ∙ sym same })
         | inr m ↦ subst (λ o. IsLine g (joined_to front o) (xs ++ ys)) (sym m.1) (record { thread = th; ends = sym (last-append xs ys m.0 (sym u.ends ∙ m.1)) })
       ])
@@ -43,36 +44,36 @@ taken_same a b j e t =
     let c : IsTaken (record a { links = b.links }) j = record { inside = t.inside; not_free = t.not_free; not_worn = t.not_worn } in
     subst (λ z. IsTaken z j) (sym e) c
 
-line_agree : (f g : ℕ → Option ℕ) (l : Line) (xs : List ℕ) → IsLine f l xs → ((j : ℕ) → 0 < times j xs → g j ≡ f j) → IsLine g l xs
+line_agree : (f g : ℕ → Option ℕ) (l : Line) (xs : List ℕ) → IsLine f l xs → ((j : ℕ) → 0 < times_in j xs → g j ≡ f j) → IsLine g l xs
 line_agree f g l xs t h = record { thread = thread-agree f g l.first xs h t.thread; ends = t.ends }
 
 -- the last slot of a list is one of its slots
-last_in : (f : ℕ → Option ℕ) (l : Line) (xs : List ℕ) (j : ℕ) → IsLine f l xs → l.last ≡ Some j → 0 < times j xs
+last_in : (f : ℕ → Option ℕ) (l : Line) (xs : List ℕ) (j : ℕ) → IsLine f l xs → l.last ≡ Some j → 0 < times_in j xs
 last_in f l xs j t e = last-held xs j (sym t.ends ∙ e)
 
-pub retired_fits : (x : Threaded) (a m b : ArenaState) (slot : ℕ) → Fits x a → IsTaken a slot → queued (lists_of x a) slot ≡ 0 → m ≡ with_link a slot None → link_at m.links slot ≡ None → IsJoined m b x.next.last (Some slot) →
-    FitsAs (record { next = joined x.next (record { first = Some slot; last = Some slot }); waiting = x.waiting; ready = x.ready }) b (retired_slot (lists_of x a) slot) × LinksOf (queued (retired_slot (lists_of x a) slot)) a b
+pub retired_fits : (x : Threaded) (a m b : ArenaState) (slot : ℕ) → ThreadedFits x a → IsTaken a slot → queued (threaded_lists x a) slot ≡ 0 → m ≡ with_link a slot None → link_at m.links slot ≡ None → AreLinksJoined m b x.next.last (Some slot) →
+    FitsAs (record { next = joined x.next (record { first = Some slot; last = Some slot }); waiting = x.waiting; ready = x.ready }) b (retired_lists (threaded_lists x a) slot) × LinksOf (queued (retired_lists (threaded_lists x a) slot)) a b
 retired_fits x a m b slot f t apart e1 l1 j1 =
-    let q : Queues = lists_of x a in
-    let not_slot : (j : ℕ) → 0 < queued (lists_of x a) j → j ≢ slot = λ j h y. let h' : 0 < queued (lists_of x a) slot = subst (λ z. 0 < queued (lists_of x a) z) y h in absurd (omega arith) in
-    let in_next : (j : ℕ) → x.next.last ≡ Some j → 0 < times j (lists_of x a).next = λ j h. last_in (link_at a.links) x.next (lists_of x a).next j f.next h in
+    let q : Queues = threaded_lists x a in
+    let not_slot : (j : ℕ) → 0 < queued (threaded_lists x a) j → j ≢ slot = λ j h y. let h' : 0 < queued (threaded_lists x a) slot = subst (λ z. 0 < queued (threaded_lists x a) z) y h in absurd (omega arith) in
+    let in_next : (j : ℕ) → x.next.last ≡ Some j → 0 < times_in j (threaded_lists x a).next = λ j h. last_in (link_at a.links) x.next (threaded_lists x a).next j f.next h in
     let m_other : (j : ℕ) → j ≢ slot → link_at m.links j ≡ link_at a.links j = λ j n. ap (λ (z : ArenaState). link_at z.links j) e1 ∙ ap link_in (get-set_other a.links slot j None n) in
     let b_other : (j : ℕ) → j ≢ slot → x.next.last ≢ Some j → link_at b.links j ≡ link_at a.links j = λ j n k. j1.others j k ∙ m_other j n in
-    let last_not : x.next.last ≢ Some slot = λ y. let h : 0 < times slot (lists_of x a).next = in_next slot y in absurd (omega arith) in
+    let last_not : x.next.last ≢ Some slot = λ y. let h : 0 < times_in slot (threaded_lists x a).next = in_next slot y in absurd (omega arith) in
     let rest : b ≡ record a { links = b.links } = j1.rest ∙ (let ls : List (Option ℕ) = b.links in ap (λ (z : ArenaState). let r : ArenaState = record z { links = b.links } in r) e1) in
-    let more : (j : ℕ) → times j ((lists_of x a).next ++ slot ∷ []) ≡ times j (lists_of x a).next + (cond {A = ℕ} (eqb slot j) 1 0 + 0) = λ j. times-append j (lists_of x a).next (slot ∷ []) in (
+    let more : (j : ℕ) → times_in j ((threaded_lists x a).next ++ slot ∷ []) ≡ times_in j (threaded_lists x a).next + (cond {A = ℕ} (eqb slot j) 1 0 + 0) = λ j. times-append j (threaded_lists x a).next (slot ∷ []) in (
       record {
-        next = line_join (link_at m.links) (link_at b.links) x.next (record { first = Some slot; last = Some slot }) (lists_of x a).next (slot ∷ [])
-            (line_agree (link_at a.links) (link_at m.links) x.next (lists_of x a).next f.next (λ j h. m_other j (not_slot j (omega arith))))
+        next = line_join (link_at m.links) (link_at b.links) x.next (record { first = Some slot; last = Some slot }) (threaded_lists x a).next (slot ∷ [])
+            (line_agree (link_at a.links) (link_at m.links) x.next (threaded_lists x a).next f.next (λ j h. m_other j (not_slot j (omega arith))))
             (record { thread = (refl, j1.others slot last_not ∙ l1); ends = refl })
-            (λ j. let o : queued (lists_of x a) j ≤ 1 = f.once j in omega arith)
+            (λ j. let o : queued (threaded_lists x a) j ≤ 1 = f.once j in omega arith)
             j1.at_last
             j1.others;
-        waiting = line_agree (link_at a.links) (link_at b.links) x.waiting (lists_of x a).waiting f.waiting (λ j h. b_other j (not_slot j (omega arith)) (λ y. let i : 0 < times j (lists_of x a).next = in_next j y in let o : queued (lists_of x a) j ≤ 1 = f.once j in absurd (omega arith)));
-        ready = line_agree (link_at a.links) (link_at b.links) x.ready (lists_of x a).ready f.ready (λ j h. b_other j (not_slot j (omega arith)) (λ y. let i : 0 < times j (lists_of x a).next = in_next j y in let o : queued (lists_of x a) j ≤ 1 = f.once j in absurd (omega arith)));
+        waiting = line_agree (link_at a.links) (link_at b.links) x.waiting (threaded_lists x a).waiting f.waiting (λ j h. b_other j (not_slot j (omega arith)) (λ y. let i : 0 < times_in j (threaded_lists x a).next = in_next j y in let o : queued (threaded_lists x a) j ≤ 1 = f.once j in absurd (omega arith)));
+        ready = line_agree (link_at a.links) (link_at b.links) x.ready (threaded_lists x a).ready f.ready (λ j h. b_other j (not_slot j (omega arith)) (λ y. let i : 0 < times_in j (threaded_lists x a).next = in_next j y in let o : queued (threaded_lists x a) j ≤ 1 = f.once j in absurd (omega arith)));
         once = λ j. elim (one_cases slot j) [
-          | inl y ↦ let z : queued (lists_of x a) j ≡ 0 = subst (λ k. queued (lists_of x a) k ≡ 0) y.0 apart in let o : cond {A = ℕ} (eqb slot j) 1 0 ≡ 1 = y.1 in omega (arith, more j)
-          | inr n ↦ let z : queued (lists_of x a) j ≤ 1 = f.once j in let o : cond {A = ℕ} (eqb slot j) 1 0 ≡ 0 = n.1 in omega (arith, more j)
+          | inl y ↦ let z : queued (threaded_lists x a) j ≡ 0 = subst (λ k. queued (threaded_lists x a) k ≡ 0) y.0 apart in let o : cond {A = ℕ} (eqb slot j) 1 0 ≡ 1 = y.1 in omega (arith, more j)
+          | inr n ↦ let z : queued (threaded_lists x a) j ≤ 1 = f.once j in let o : cond {A = ℕ} (eqb slot j) 1 0 ≡ 0 = n.1 in omega (arith, more j)
         ];
         taken = λ j h. elim (one_cases slot j) [
           | inl y ↦ taken_same a b j rest (subst (λ k. IsTaken a k) y.0 t)
@@ -81,59 +82,59 @@ retired_fits x a m b slot f t apart e1 l1 j1 =
       },
       record {
         rest = rest;
-        others = λ j h. b_other j (λ y. let o : cond {A = ℕ} (eqb slot j) 1 0 ≡ 1 = subst (λ z. cond {A = ℕ} (eqb slot z) 1 0 ≡ 1) (sym y) (one_same slot) in absurd (omega (arith, more j))) (λ y. let i : 0 < times j (lists_of x a).next = in_next j y in absurd (omega (arith, more j)));
+        others = λ j h. b_other j (λ y. let o : cond {A = ℕ} (eqb slot j) 1 0 ≡ 1 = subst (λ z. cond {A = ℕ} (eqb slot z) 1 0 ≡ 1) (sym y) (one_same slot) in absurd (omega (arith, more j))) (λ y. let i : 0 < times_in j (threaded_lists x a).next = in_next j y in absurd (omega (arith, more j)));
       },
     )
 
-pub turned_fits : (x : Threaded) (a b : ArenaState) → Fits x a → IsJoined a b x.ready.last x.waiting.first →
-    FitsAs (record { next = record { first = None; last = None }; waiting = x.next; ready = joined x.ready x.waiting }) b (turned (lists_of x a)) × LinksOf (queued (lists_of x a)) a b
+pub turned_fits : (x : Threaded) (a b : ArenaState) → ThreadedFits x a → AreLinksJoined a b x.ready.last x.waiting.first →
+    FitsAs (record { next = record { first = None; last = None }; waiting = x.next; ready = joined x.ready x.waiting }) b (turned (threaded_lists x a)) × LinksOf (queued (threaded_lists x a)) a b
 turned_fits x a b f j1 =
-    let in_ready : (j : ℕ) → x.ready.last ≡ Some j → 0 < times j (lists_of x a).ready = λ j h. last_in (link_at a.links) x.ready (lists_of x a).ready j f.ready h in
-    let more : (j : ℕ) → times j ((lists_of x a).ready ++ (lists_of x a).waiting) ≡ times j (lists_of x a).ready + times j (lists_of x a).waiting = λ j. times-append j (lists_of x a).ready (lists_of x a).waiting in (
+    let in_ready : (j : ℕ) → x.ready.last ≡ Some j → 0 < times_in j (threaded_lists x a).ready = λ j h. last_in (link_at a.links) x.ready (threaded_lists x a).ready j f.ready h in
+    let more : (j : ℕ) → times_in j ((threaded_lists x a).ready ++ (threaded_lists x a).waiting) ≡ times_in j (threaded_lists x a).ready + times_in j (threaded_lists x a).waiting = λ j. times-append j (threaded_lists x a).ready (threaded_lists x a).waiting in (
       record {
         next = record { thread = refl; ends = refl };
-        waiting = line_agree (link_at a.links) (link_at b.links) x.next (lists_of x a).next f.next (λ j h. j1.others j (λ y. let i : 0 < times j (lists_of x a).ready = in_ready j y in let o : queued (lists_of x a) j ≤ 1 = f.once j in absurd (omega arith)));
-        ready = line_join (link_at a.links) (link_at b.links) x.ready x.waiting (lists_of x a).ready (lists_of x a).waiting f.ready
-            (line_agree (link_at a.links) (link_at b.links) x.waiting (lists_of x a).waiting f.waiting (λ j h. j1.others j (λ y. let i : 0 < times j (lists_of x a).ready = in_ready j y in let o : queued (lists_of x a) j ≤ 1 = f.once j in absurd (omega arith))))
-            (λ j. let o : queued (lists_of x a) j ≤ 1 = f.once j in omega arith)
+        waiting = line_agree (link_at a.links) (link_at b.links) x.next (threaded_lists x a).next f.next (λ j h. j1.others j (λ y. let i : 0 < times_in j (threaded_lists x a).ready = in_ready j y in let o : queued (threaded_lists x a) j ≤ 1 = f.once j in absurd (omega arith)));
+        ready = line_join (link_at a.links) (link_at b.links) x.ready x.waiting (threaded_lists x a).ready (threaded_lists x a).waiting f.ready
+            (line_agree (link_at a.links) (link_at b.links) x.waiting (threaded_lists x a).waiting f.waiting (λ j h. j1.others j (λ y. let i : 0 < times_in j (threaded_lists x a).ready = in_ready j y in let o : queued (threaded_lists x a) j ≤ 1 = f.once j in absurd (omega arith))))
+            (λ j. let o : queued (threaded_lists x a) j ≤ 1 = f.once j in omega arith)
             j1.at_last
             j1.others;
-        once = λ j. let o : queued (lists_of x a) j ≤ 1 = f.once j in omega (arith, more j);
+        once = λ j. let o : queued (threaded_lists x a) j ≤ 1 = f.once j in omega (arith, more j);
         taken = λ j h. taken_same a b j j1.rest (f.taken j (omega (arith, more j)));
       },
       record {
         rest = j1.rest;
-        others = λ j h. j1.others j (λ y. let i : 0 < times j (lists_of x a).ready = in_ready j y in absurd (omega arith));
+        others = λ j h. j1.others j (λ y. let i : 0 < times_in j (threaded_lists x a).ready = in_ready j y in absurd (omega arith));
       },
     )
 
-pub reaped_fits : (x : Threaded) (a : ArenaState) (slot : ℕ) → Fits x a → x.ready.first ≡ Some slot →
-    FitsAs (record { next = x.next; waiting = x.waiting; ready = record { first = link_at a.links slot; last = last_left (link_at a.links slot) x.ready.last } }) a (reaped_lists (lists_of x a)) × (0 < queued (lists_of x a) slot)
+pub reaped_fits : (x : Threaded) (a : ArenaState) (slot : ℕ) → ThreadedFits x a → x.ready.first ≡ Some slot →
+    FitsAs (record { next = x.next; waiting = x.waiting; ready = record { first = link_at a.links slot; last = last_left (link_at a.links slot) x.ready.last } }) a (reaped_lists (threaded_lists x a)) × (0 < queued (threaded_lists x a) slot)
 reaped_fits x a slot f e =
-    let s = thread-some (link_at a.links) x.ready.first (lists_of x a).ready slot f.ready.thread e in
+    let s = thread-some (link_at a.links) x.ready.first (threaded_lists x a).ready slot f.ready.thread e in
     let ys : List ℕ = s.0 in
-    let split : (lists_of x a).ready ≡ slot ∷ s.0 = s.1 in
-    let left : drop 1 (lists_of x a).ready ≡ s.0 = ap (λ (l : List ℕ). drop 1 l) split in
-    let count : (j : ℕ) → times j (lists_of x a).ready ≡ cond {A = ℕ} (eqb slot j) 1 0 + times j s.0 = λ j. ap (times j) split in
-    let fewer : (j : ℕ) → times j (drop 1 (lists_of x a).ready) ≡ times j s.0 = λ j. ap (times j) left in (
+    let split : (threaded_lists x a).ready ≡ slot ∷ s.0 = s.1 in
+    let left : drop 1 (threaded_lists x a).ready ≡ s.0 = ap (λ (l : List ℕ). drop 1 l) split in
+    let count : (j : ℕ) → times_in j (threaded_lists x a).ready ≡ cond {A = ℕ} (eqb slot j) 1 0 + times_in j s.0 = λ j. ap (times_in j) split in
+    let fewer : (j : ℕ) → times_in j (drop 1 (threaded_lists x a).ready) ≡ times_in j s.0 = λ j. ap (times_in j) left in (
       record {
         next = f.next;
         waiting = f.waiting;
         ready = subst (λ l. IsLine (link_at a.links) (record { first = link_at a.links slot; last = last_left (link_at a.links slot) x.ready.last }) l) (sym left)
-            (record { thread = s.2; ends = last_is (link_at a.links slot) s.0 s.2 (f.ready.ends ∙ ap last_of split) });
-        once = λ j. let o : queued (lists_of x a) j ≤ 1 = f.once j in omega (arith, count j, fewer j);
+            (record { thread = s.2; ends = last_is (link_at a.links slot) s.0 s.2 (f.ready.ends ∙ ap last_slot_of split) });
+        once = λ j. let o : queued (threaded_lists x a) j ≤ 1 = f.once j in omega (arith, count j, fewer j);
         taken = λ j h. f.taken j (omega (arith, count j, fewer j));
       },
       omega (arith, count slot, one_same slot),
     )
   where
-    last_is : (o : Option ℕ) (ys : List ℕ) → IsThread (link_at a.links) o ys → x.ready.last ≡ last_of (slot ∷ ys) → last_left o x.ready.last ≡ last_of ys
+    last_is : (o : Option ℕ) (ys : List ℕ) → IsThread (link_at a.links) o ys → x.ready.last ≡ last_slot_of (slot ∷ ys) → last_left o x.ready.last ≡ last_slot_of ys
     last_is None [] t h = refl
     last_is None (y ∷ ys) t h = absurd (none-some y t.0)
     last_is (Some i) [] t h = absurd (none-some i (sym t))
     last_is (Some i) (y ∷ ys) t h = h
 
 -- the last slot of each list is taken
-pub last_taken : (x : Threaded) (a : ArenaState) (l : Line) (xs : List ℕ) → IsLine (link_at a.links) l xs → ((j : ℕ) → 0 < times j xs → IsTaken a j) → (o : Option ℕ) → l.last ≡ o → (b : ArenaState) → b ≡ record a { links = b.links } → IfSome o (λ j. IsTaken b j)
+pub last_taken : (x : Threaded) (a : ArenaState) (l : Line) (xs : List ℕ) → IsLine (link_at a.links) l xs → ((j : ℕ) → 0 < times_in j xs → IsTaken a j) → (o : Option ℕ) → l.last ≡ o → (b : ArenaState) → b ≡ record a { links = b.links } → IfSome o (λ j. IsTaken b j)
 last_taken x a l xs t taken None e b r = tt
 last_taken x a l xs t taken (Some j) e b r = taken_same a b j r (taken j (last_in (link_at a.links) l xs j t e))

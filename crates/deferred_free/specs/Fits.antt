@@ -3,17 +3,17 @@ use Rattle.std.specs.Prelude.{◌≡◌, ℕ, ◌<◌, ◌≤◌, List, Option}
 use Rattle.bpf_model.specs.Schedule.{Queues}
 use Rattle.element_arena.specs.State.{ArenaState, IsTaken, link_at}
 use Rattle.deferred_free.specs.Queued.{queued}
-use Rattle.element_arena.specs.Threads.{IsThread, last_of}
+use Rattle.element_arena.specs.Threads.{IsThread, last_slot_of}
 use Rattle.deferred_free.specs.declared.threaded.Line.{Line}
 use Rattle.deferred_free.specs.declared.threaded.Threaded.{Threaded}
-use Rattle.deferred_free.specs.Lines.{line_of}
+use Rattle.deferred_free.specs.Lines.{line_slots}
 
-abbrev pub lists_of : Threaded → ArenaState → Queues
-lists_of x a = record { next = line_of a x.next; waiting = line_of a x.waiting; ready = line_of a x.ready }
+abbrev pub threaded_lists : Threaded → ArenaState → Queues
+threaded_lists x a = record { next = line_slots a x.next; waiting = line_slots a x.waiting; ready = line_slots a x.ready }
 
 pub record IsLine (links : ℕ → Option ℕ) (l : Line) (xs : List ℕ) : Type 0 where
   pub thread : IsThread links l.first xs
-  pub ends : l.last ≡ last_of xs
+  pub ends : l.last ≡ last_slot_of xs
 
 pub record FitsAs (x : Threaded) (a : ArenaState) (q : Queues) : Type 0 where
   pub next : IsLine (link_at a.links) x.next q.next
@@ -22,5 +22,5 @@ pub record FitsAs (x : Threaded) (a : ArenaState) (q : Queues) : Type 0 where
   pub once : (j : ℕ) → queued q j ≤ 1
   pub taken : (j : ℕ) → 0 < queued q j → IsTaken a j
 
-abbrev pub Fits : Threaded → ArenaState → Type 0
-Fits x a = FitsAs x a (lists_of x a)
+abbrev pub ThreadedFits : Threaded → ArenaState → Type 0
+ThreadedFits x a = FitsAs x a (threaded_lists x a)

@@ -4,10 +4,6 @@ use Rattle.element_arena.specs.State.{ArenaState, link_at}
 use Rattle.element_arena.specs.Threads.{walk}
 use Rattle.deferred_free.specs.declared.threaded.Line.{Line}
 
-abbrev pub last_left : Option ℕ → Option ℕ → Option ℕ
-last_left None last = None
-last_left (Some i) last = last
-
 abbrev pub joined_to : Line → Option ℕ → Line
 joined_to front None = front
 joined_to front (Some l) = record { first = front.first; last = Some l }
@@ -20,10 +16,10 @@ abbrev pub joined : Line → Line → Line
 joined front back = joined_from front.last front back
 
 -- the links of b are those of a, but that the last slot is linked to the first
-pub record IsJoined (a b : ArenaState) (last first : Option ℕ) : Type 0 where
+pub record AreLinksJoined (a b : ArenaState) (last first : Option ℕ) : Type 0 where
   pub rest : b ≡ record a { links = b.links }
   pub at_last : (l : ℕ) → last ≡ Some l → link_at b.links l ≡ first
   pub others : (j : ℕ) → last ≢ Some j → link_at b.links j ≡ link_at a.links j
 
-abbrev pub line_of : ArenaState → Line → List ℕ
-line_of a l = walk (length a.slots) (link_at a.links) l.first
+abbrev pub line_slots : ArenaState → Line → List ℕ
+line_slots a l = walk (length a.slots) (link_at a.links) l.first

@@ -7,17 +7,17 @@ use Rattle.element_arena.specs.State.{ArenaState, IsTaken, SameAt}
 use Rattle.deferred_free.specs.Queued.{queued}
 use Rattle.deferred_free.specs.declared.vectors.Vectors.{Vectors}
 
-abbrev pub lists_in : Vectors → ArenaState → Queues
-lists_in x a = record { next = x.next.items; waiting = x.waiting.items; ready = x.ready.items }
+abbrev pub vectors_lists : Vectors → ArenaState → Queues
+vectors_lists x a = record { next = x.next.items; waiting = x.waiting.items; ready = x.ready.items }
 
-pub record FitsIn (x : Vectors) (a : ArenaState) : Type 0 where
+pub record VectorsFits (x : Vectors) (a : ArenaState) : Type 0 where
   pub next_room : length a.slots ≤ deque_capacity x.next
   pub waiting_room : length a.slots ≤ deque_capacity x.waiting
   pub ready_room : length a.slots ≤ deque_capacity x.ready
-  pub once : (j : ℕ) → queued (lists_in x a) j ≤ 1
-  pub taken : (j : ℕ) → 0 < queued (lists_in x a) j → IsTaken a j
+  pub once : (j : ℕ) → queued (vectors_lists x a) j ≤ 1
+  pub taken : (j : ℕ) → 0 < queued (vectors_lists x a) j → IsTaken a j
 
-pub vectors-frame : (x : Vectors) (a b : ArenaState) → FitsIn x a → SameAt (queued (lists_in x a)) a b → FitsIn x b × (lists_in x b ≡ lists_in x a)
+pub vectors-frame : (x : Vectors) (a b : ArenaState) → VectorsFits x a → SameAt (queued (vectors_lists x a)) a b → VectorsFits x b × (vectors_lists x b ≡ vectors_lists x a)
 vectors-frame x a b f s =
     let l : length b.slots ≡ length a.slots = s.long in
     let n : length a.slots ≤ deque_capacity x.next = f.next_room in

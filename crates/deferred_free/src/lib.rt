@@ -8,7 +8,7 @@
 ghost use Rattle.std.specs.Prelude.{◌≡◌, ◌≤◌, ◌<◌, ℕ, [], length, slice_get, drop, IfOk};
 ghost use Rattle.bpf_model.specs.Schedule.{Queues, turned};
 ghost use Rattle.element_arena.specs.State.{ArenaState, IsTaken, LinksOf, SameAt};
-ghost use Rattle.deferred_free.specs.Queued.{queued, retired_slot};
+ghost use Rattle.deferred_free.specs.Queued.{queued, retired_lists};
 
 mod threaded;
 mod vectors;
@@ -38,7 +38,7 @@ pub trait Deferred {
         requires fits { fits self.old arena.old }
         requires taken { IsTaken arena.old slot }
         requires apart { queued (lists self.old arena.old) slot ≡ 0 }
-        ensures lists { lists self.new arena.new ≡ retired_slot (lists self.old arena.old) slot }
+        ensures lists { lists self.new arena.new ≡ retired_lists (lists self.old arena.old) slot }
         ensures fits { fits self.new arena.new }
         ensures links { LinksOf (queued (lists self.new arena.new)) arena.old arena.new };
 

@@ -2,7 +2,8 @@
 
 ghost use Rattle.std.specs.Prelude.{◌≡◌, ◌≤◌, ℕ, [], length, Some, None, IfSome, IfOk};
 ghost use Rattle.element_arena.specs.State.{ArenaState, IsTaken};
-ghost use Rattle.deferred_free.specs.Lines.{IsJoined, joined, last_left};
+ghost use Rattle.deferred_free.specs.Lines.{AreLinksJoined, joined};
+ghost use Rattle.element_arena.specs.Kept.{last_left};
 
 use crate::Deferred;
 use element_arena::Arena;
@@ -27,7 +28,7 @@ pub struct Threaded {
 /// One list behind another: the last slot of the first is linked to the first of the second.
 fn join(arena: &mut Arena, front: Line, back: Line) -> Line
     requires { IfSome front.last (λ l. IsTaken arena.old l) }
-    ensures links { IsJoined arena.old arena.new front.last back.first }
+    ensures links { AreLinksJoined arena.old arena.new front.last back.first }
     ensures line { result ≡ joined front back }
 {
     match front.last {
@@ -56,11 +57,11 @@ fn last_after(rest: Option<usize>, last: Option<usize>) -> Option<usize>
 }
 
 impl Deferred for Threaded {
-    ghost use Rattle.deferred_free.specs.Fits.{lists_of, Fits};
+    ghost use Rattle.deferred_free.specs.Fits.{threaded_lists, ThreadedFits};
 
-    ghost lists = { lists_of };
+    ghost lists = { threaded_lists };
 
-    ghost fits = { Fits };
+    ghost fits = { ThreadedFits };
 
     fn new(_alloc: Global, _slots: usize) -> Result<Threaded, AllocError> {
         let none = Line {

@@ -45,11 +45,11 @@ fn copied(alloc: Global, list: &VecDeque<usize>) -> Result<VecDeque<usize>, Allo
 }
 
 impl Deferred for Vectors {
-    ghost use Rattle.deferred_free.specs.Rooms.{lists_in, FitsIn, vectors-frame};
+    ghost use Rattle.deferred_free.specs.Rooms.{vectors_lists, VectorsFits, vectors-frame};
 
-    ghost lists = { lists_in };
+    ghost lists = { vectors_lists };
 
-    ghost fits = { FitsIn };
+    ghost fits = { VectorsFits };
 
     fn new(alloc: Global, slots: usize) -> Result<Vectors, AllocError> {
         let next = VecDeque::with_capacity(alloc, slots)?;

@@ -226,23 +226,23 @@ unary_arguments (unary.ByteSwap order width) dst = One (Register dst)
 unary_arguments (unary.MoveSigned extension src) dst =
     Three (Register dst) (Register src) (number_argument (extension_bits extension))
 
-abbrev pub arguments_of : Insn → Arguments
-arguments_of (insn.Alu op size dst src) = Two (Register dst) (source_argument src)
-arguments_of (insn.Unary op dst) = unary_arguments op dst
-arguments_of (insn.LoadNumber dst n) = Two (Register dst) (Number n)
-arguments_of (insn.LoadMap dst map) = Two (Register dst) (number_argument map)
-arguments_of (insn.Jump z) = One (offset_argument z)
-arguments_of (insn.JumpLong imm) = One (offset_argument imm)
-arguments_of (insn.JumpIf condition size dst src z) =
+abbrev pub text_arguments : Insn → Arguments
+text_arguments (insn.Alu op size dst src) = Two (Register dst) (source_argument src)
+text_arguments (insn.Unary op dst) = unary_arguments op dst
+text_arguments (insn.LoadNumber dst n) = Two (Register dst) (Number n)
+text_arguments (insn.LoadMap dst map) = Two (Register dst) (number_argument map)
+text_arguments (insn.Jump z) = One (offset_argument z)
+text_arguments (insn.JumpLong imm) = One (offset_argument imm)
+text_arguments (insn.JumpIf condition size dst src z) =
     Three (Register dst) (source_argument src) (offset_argument z)
-arguments_of (insn.Call kind imm) = One (number_argument imm)
-arguments_of insn.Exit = Zero
-arguments_of (insn.Load width dst src z) = Two (Register dst) (memory_argument src z)
-arguments_of (insn.LoadSigned width dst src z) = Two (Register dst) (memory_argument src z)
-arguments_of (insn.Store width dst z src) = Two (memory_argument dst z) (source_argument src)
+text_arguments (insn.Call kind imm) = One (number_argument imm)
+text_arguments insn.Exit = Zero
+text_arguments (insn.Load width dst src z) = Two (Register dst) (memory_argument src z)
+text_arguments (insn.LoadSigned width dst src z) = Two (Register dst) (memory_argument src z)
+text_arguments (insn.Store width dst z src) = Two (memory_argument dst z) (source_argument src)
 
 abbrev pub statement_of : Insn → Statement
-statement_of i = record { mnemonic = mnemonic_of i; arguments = arguments_of i }
+statement_of i = record { mnemonic = mnemonic_of i; arguments = text_arguments i }
 
 -- The text of an instruction, without the line feed that ends its line; and of a program.
 abbrev pub line_of : Insn → List ℕ

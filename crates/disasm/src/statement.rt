@@ -1,6 +1,6 @@
 //! Instructions as they are written: a mnemonic with its arguments.
 ghost use Rattle.std.specs.Prelude.{◌≡◌};
-ghost use Rattle.disasm.specs.Text.{number_argument, offset_argument, memory_argument, source_argument, unary_mnemonic as unary_mnemonic_of, store_mnemonic as store_mnemonic_of, unary_arguments as unary_arguments_of, sign_of as sign_of_number, magnitude as magnitude_of, mnemonic_of, arguments_of, statement_of};
+ghost use Rattle.disasm.specs.Text.{number_argument, offset_argument, memory_argument, source_argument, unary_mnemonic as unary_mnemonic_of, store_mnemonic as store_mnemonic_of, unary_arguments as unary_arguments_of, sign_of as sign_of_number, magnitude as magnitude_of, mnemonic_of, text_arguments, statement_of};
 ghost use Rattle.bpf_model.specs.Spelling.{extension_size as extension_size_of, extension_bits as extension_bits_of};
 
 use crate::mnemonic::Mnemonic;
@@ -181,7 +181,7 @@ fn unary_arguments(op: &UnaryOp, dst: Reg) -> Arguments
 }
 
 fn arguments_for(insn: &Insn) -> Arguments
-    ensures { result ≡ arguments_of insn.now }
+    ensures { result ≡ text_arguments insn.now }
 {
     match insn {
         Insn::Alu { dst, src, .. } => Arguments::Two(register(*dst), source(src)),

@@ -5,7 +5,7 @@ use Rattle.std.proofs.lemmas.Bool.{cond-true, cond-false, eq-eqb, eqb-true, eqb-
 use Rattle.std.proofs.lemmas.Option.{none-some, same_Some}
 use Rattle.std.proofs.lemmas.List.Sums.{sum_by-cons}
 use Rattle.bpf_model.specs.Refines as refines
-use Rattle.element_arena.specs.State.{times}
+use Rattle.element_arena.specs.State.{times_in}
 
 pub bool_cases : (b : Bool) → (b ≡ true) ⊎ (b ≡ false)
 bool_cases true = inl refl
@@ -32,23 +32,23 @@ one_same x = cond-true {A = ℕ} _ 1 0 (eq-eqb x x refl)
 pub one_other : (x n : ℕ) → x ≢ n → cond {A = ℕ} (eqb x n) 1 0 ≡ 0
 one_other x n ne = cond-false {A = ℕ} _ 1 0 (false_from_ne_true _ (λ y. ne (eqb-true x n y)))
 
-pub times-append : (n : ℕ) (xs ys : List ℕ) → times n (xs ++ ys) ≡ times n xs + times n ys
+pub times-append : (n : ℕ) (xs ys : List ℕ) → times_in n (xs ++ ys) ≡ times_in n xs + times_in n ys
 times-append n [] ys = omega arith
 times-append n (x ∷ xs) ys = omega (arith, times-append n xs ys)
 
-pub times_first : (x : ℕ) (xs : List ℕ) → 0 < times x (x ∷ xs)
+pub times_first : (x : ℕ) (xs : List ℕ) → 0 < times_in x (x ∷ xs)
 times_first x xs = omega (arith, one_same x)
 
 -- what stands in no place stands nowhere
-pub none_empty : (xs : List ℕ) → ((j : ℕ) → times j xs ≡ 0) → xs ≡ []
+pub none_empty : (xs : List ℕ) → ((j : ℕ) → times_in j xs ≡ 0) → xs ≡ []
 none_empty [] h = refl
-none_empty (x ∷ xs) h = let t : 0 < times x (x ∷ xs) = times_first x xs in let z : times x (x ∷ xs) ≡ 0 = h x in absurd (omega arith)
+none_empty (x ∷ xs) h = let t : 0 < times_in x (x ∷ xs) = times_first x xs in let z : times_in x (x ∷ xs) ≡ 0 = h x in absurd (omega arith)
 
 abbrev pub without : ℕ → List ℕ → List ℕ
 without k [] = []
 without k (x ∷ xs) = cond (eqb x k) (without k xs) (x ∷ without k xs)
 
-without-length : (k : ℕ) (xs : List ℕ) → length xs ≡ length (without k xs) + times k xs
+without-length : (k : ℕ) (xs : List ℕ) → length xs ≡ length (without k xs) + times_in k xs
 without-length k [] = refl
 without-length k (x ∷ xs) = elim (bool_cases (eqb x k)) [
   | inl y ↦
@@ -61,48 +61,48 @@ without-length k (x ∷ xs) = elim (bool_cases (eqb x k)) [
       omega (arith, without-length k xs)
 ]
 
-without-gone : (k : ℕ) (xs : List ℕ) → times k (without k xs) ≡ 0
+without-gone : (k : ℕ) (xs : List ℕ) → times_in k (without k xs) ≡ 0
 without-gone k [] = refl
 without-gone k (x ∷ xs) = elim (bool_cases (eqb x k)) [
-  | inl y ↦ ap (times k) (cond-true _ _ _ y) ∙ without-gone k xs
+  | inl y ↦ ap (times_in k) (cond-true _ _ _ y) ∙ without-gone k xs
   | inr f ↦
-      let l : times k (without k (x ∷ xs)) ≡ cond {A = ℕ} (eqb x k) 1 0 + times k (without k xs) = ap (times k) (cond-false _ _ _ f) in
+      let l : times_in k (without k (x ∷ xs)) ≡ cond {A = ℕ} (eqb x k) 1 0 + times_in k (without k xs) = ap (times_in k) (cond-false _ _ _ f) in
       let c : cond {A = ℕ} (eqb x k) 1 0 ≡ 0 = cond-false {A = ℕ} _ 1 0 f in
       omega (arith, without-gone k xs)
 ]
 
-without-less : (k i : ℕ) (xs : List ℕ) → times i (without k xs) ≤ times i xs
+without-less : (k i : ℕ) (xs : List ℕ) → times_in i (without k xs) ≤ times_in i xs
 without-less k i [] = omega arith
 without-less k i (x ∷ xs) = elim (bool_cases (eqb x k)) [
   | inl y ↦
-      let l : times i (without k (x ∷ xs)) ≡ times i (without k xs) = ap (times i) (cond-true _ _ _ y) in
+      let l : times_in i (without k (x ∷ xs)) ≡ times_in i (without k xs) = ap (times_in i) (cond-true _ _ _ y) in
       omega (arith, without-less k i xs)
   | inr f ↦
-      let l : times i (without k (x ∷ xs)) ≡ cond {A = ℕ} (eqb x i) 1 0 + times i (without k xs) = ap (times i) (cond-false _ _ _ f) in
+      let l : times_in i (without k (x ∷ xs)) ≡ cond {A = ℕ} (eqb x i) 1 0 + times_in i (without k xs) = ap (times_in i) (cond-false _ _ _ f) in
       omega (arith, without-less k i xs)
 ]
 
 -- slots below n that stand once are no more than n
-pub length_once : (n : ℕ) (xs : List ℕ) → ((i : ℕ) → times i xs ≤ 1) → ((i : ℕ) → 0 < times i xs → i < n) → length xs ≤ n
+pub length_once : (n : ℕ) (xs : List ℕ) → ((i : ℕ) → times_in i xs ≤ 1) → ((i : ℕ) → 0 < times_in i xs → i < n) → length xs ≤ n
 length_once zero [] once inside = omega arith
 length_once zero (x ∷ xs) once inside = absurd (let h : x < 0 = inside x (times_first x xs) in omega arith)
 length_once (suc n) xs once inside =
-    let less : (i : ℕ) → times i (without n xs) ≤ times i xs = λ i. without-less n i xs in
-    let short : length (without n xs) ≤ n = length_once n (without n xs) (λ i. let o : times i xs ≤ 1 = once i in omega (arith, less i)) (λ i h.
+    let less : (i : ℕ) → times_in i (without n xs) ≤ times_in i xs = λ i. without-less n i xs in
+    let short : length (without n xs) ≤ n = length_once n (without n xs) (λ i. let o : times_in i xs ≤ 1 = once i in omega (arith, less i)) (λ i h.
     let within : i < suc n = inside i (omega (arith, less i)) in
     elim (one_cases i n) [
-      | inl y ↦ let z : times i (without n xs) ≡ 0 = subst (λ j. times j (without n xs) ≡ 0) (sym y.0) (without-gone n xs) in absurd (omega arith)
+      | inl y ↦ let z : times_in i (without n xs) ≡ 0 = subst (λ j. times_in j (without n xs) ≡ 0) (sym y.0) (without-gone n xs) in absurd (omega arith)
       | inr ne ↦ let d : i ≢ n = ne.0 in omega arith
     ]) in
-    let o : times n xs ≤ 1 = once n in
+    let o : times_in n xs ≤ 1 = once n in
     omega (arith, without-length n xs)
 
 -- the same, for a slot more
-pub length_room : (n : ℕ) (xs : List ℕ) (x : ℕ) → ((i : ℕ) → times i xs ≤ 1) → ((i : ℕ) → 0 < times i xs → i < n) → times x xs ≡ 0 → x < n → length xs < n
+pub length_room : (n : ℕ) (xs : List ℕ) (x : ℕ) → ((i : ℕ) → times_in i xs ≤ 1) → ((i : ℕ) → 0 < times_in i xs → i < n) → times_in x xs ≡ 0 → x < n → length xs < n
 length_room n xs x once inside new within =
     let l : length (x ∷ xs) ≤ n = length_once n (x ∷ xs) (λ i. elim (one_cases x i) [
-      | inl y ↦ let z : times i xs ≡ 0 = subst (λ j. times j xs ≡ 0) y.0 new in let c : cond {A = ℕ} (eqb x i) 1 0 ≡ 1 = y.1 in omega arith
-      | inr ne ↦ let c : cond {A = ℕ} (eqb x i) 1 0 ≡ 0 = ne.1 in let o : times i xs ≤ 1 = once i in omega arith
+      | inl y ↦ let z : times_in i xs ≡ 0 = subst (λ j. times_in j xs ≡ 0) y.0 new in let c : cond {A = ℕ} (eqb x i) 1 0 ≡ 1 = y.1 in omega arith
+      | inr ne ↦ let c : cond {A = ℕ} (eqb x i) 1 0 ≡ 0 = ne.1 in let o : times_in i xs ≤ 1 = once i in omega arith
     ]) (λ i h. elim (one_cases x i) [
       | inl y ↦ subst (λ j. j < n) y.0 within
       | inr ne ↦ let c : cond {A = ℕ} (eqb x i) 1 0 ≡ 0 = ne.1 in inside i (omega arith)
@@ -147,6 +147,6 @@ set-same (z ∷ xs) zero y h = ap (λ w. w ∷ xs) (sym (same_Some _ _ h))
 set-same (z ∷ xs) (suc i) y h = ap (λ l. z ∷ l) (set-same xs i y h)
 
 -- the count is that of the machine's words
-pub times-is : (n : ℕ) (xs : List ℕ) → times n xs ≡ refines.times n xs
+pub times-is : (n : ℕ) (xs : List ℕ) → times_in n xs ≡ refines.times n xs
 times-is n [] = refl
 times-is n (x ∷ xs) = ap (λ k. cond {A = ℕ} (eqb x n) 1 0 + k) (times-is n xs) ∙ sym (sum_by-cons (λ y. cond (eqb y n) 1 0) x xs)

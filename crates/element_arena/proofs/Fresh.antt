@@ -7,34 +7,34 @@ use Rattle.std.proofs.lemmas.Bool.Decides.{nat_tests}
 use Rattle.std.proofs.lemmas.Option.{same_Some}
 use Rattle.std.proofs.lemmas.List.FromFn.{length-map-range_with_len}
 use Rattle.bpf_model.specs.View.{unused_slot}
-use Rattle.element_arena.specs.State.{times, new_arena}
-use Rattle.element_arena.specs.Threads.{IsThread, last_of}
+use Rattle.element_arena.specs.State.{times_in, new_arena}
+use Rattle.element_arena.specs.Threads.{IsThread, last_slot_of}
 use Rattle.element_arena.specs.Fresh.{below, fresh_cell, fresh_cells}
 use Rattle.element_arena.specs.declared.cell.Cell.{Cell}
-use Rattle.element_arena.specs.Kept.{IsThreaded, raw, raw_of, free_count, taken_count, slots_shown, state_of, is_worn, link_view}
+use Rattle.element_arena.specs.Kept.{IsThreaded, raw, raw_of, free_count, taken_count, slots_shown, arena_state_of, is_worn, link_view}
 use Rattle.element_arena.proofs.Counts.{bool_cases, one_cases, one_other, get_inside}
 use Rattle.element_arena.proofs.Slots.{state-is}
 use Rattle.element_arena.proofs.Views.{same_state}
 
-times-before : (i k j : ℕ) → j < i → times j (range_with_len i k) ≡ 0
+times-before : (i k j : ℕ) → j < i → times_in j (range_with_len i k) ≡ 0
 times-before i zero j h = refl
 times-before i (suc k) j h =
-    let rest : times j (range_with_len (i + 1) k) ≡ 0 = times-before (i + 1) k j (omega arith) in
+    let rest : times_in j (range_with_len (i + 1) k) ≡ 0 = times-before (i + 1) k j (omega arith) in
     let ne : i ≢ j = omega arith in
     omega (arith, one_other i j ne)
 
-times-once : (i k j : ℕ) → times j (range_with_len i k) ≤ 1
+times-once : (i k j : ℕ) → times_in j (range_with_len i k) ≤ 1
 times-once i zero j = omega arith
 times-once i (suc k) j = elim (one_cases i j) [
   | inl y ↦
       let o : cond {A = ℕ} (eqb i j) 1 0 ≡ 1 = y.1 in
       let e : i ≡ j = y.0 in
-      let rest : times j (range_with_len (i + 1) k) ≡ 0 = times-before (i + 1) k j (omega arith) in
+      let rest : times_in j (range_with_len (i + 1) k) ≡ 0 = times-before (i + 1) k j (omega arith) in
       omega arith
-  | inr n ↦ let o : cond {A = ℕ} (eqb i j) 1 0 ≡ 0 = n.1 in let rest : times j (range_with_len (i + 1) k) ≤ 1 = times-once (i + 1) k j in omega arith
+  | inr n ↦ let o : cond {A = ℕ} (eqb i j) 1 0 ≡ 0 = n.1 in let rest : times_in j (range_with_len (i + 1) k) ≤ 1 = times-once (i + 1) k j in omega arith
 ]
 
-times-below : (i k j : ℕ) → 0 < times j (range_with_len i k) → j < i + k
+times-below : (i k j : ℕ) → 0 < times_in j (range_with_len i k) → j < i + k
 times-below i zero j h = absurd (omega arith)
 times-below i (suc k) j h = elim (one_cases i j) [
   | inl y ↦ let e : i ≡ j = y.0 in omega arith
@@ -44,22 +44,22 @@ times-below i (suc k) j h = elim (one_cases i j) [
       omega arith
 ]
 
-times-here : (i k j : ℕ) → i ≤ j → j < i + k → times j (range_with_len i k) ≡ 1
+times-here : (i k j : ℕ) → i ≤ j → j < i + k → times_in j (range_with_len i k) ≡ 1
 times-here i zero j h l = absurd (omega arith)
 times-here i (suc k) j h l = elim (one_cases i j) [
   | inl y ↦
       let o : cond {A = ℕ} (eqb i j) 1 0 ≡ 1 = y.1 in
       let e : i ≡ j = y.0 in
-      let rest : times j (range_with_len (i + 1) k) ≡ 0 = times-before (i + 1) k j (omega arith) in
+      let rest : times_in j (range_with_len (i + 1) k) ≡ 0 = times-before (i + 1) k j (omega arith) in
       omega arith
   | inr n ↦
       let o : cond {A = ℕ} (eqb i j) 1 0 ≡ 0 = n.1 in
       let ne : i ≢ j = n.0 in
-      let rest : times j (range_with_len (i + 1) k) ≡ 1 = times-here (i + 1) k j (omega arith) (omega arith) in
+      let rest : times_in j (range_with_len (i + 1) k) ≡ 1 = times-here (i + 1) k j (omega arith) (omega arith) in
       omega arith
 ]
 
-pub last-range : (i k : ℕ) → last_of (range_with_len i (suc k)) ≡ Some (i + k)
+pub last-range : (i k : ℕ) → last_slot_of (range_with_len i (suc k)) ≡ Some (i + k)
 last-range i zero = let e : i ≡ i + 0 = omega arith in ap (λ n. Some n) e
 last-range i (suc k) = let e : (i + 1) + k ≡ i + suc k = omega arith in last-range (i + 1) k ∙ ap (λ n. Some n) e
 
@@ -101,7 +101,7 @@ last-checked zero (Some x) h = let no : 1 ≤ 0 = h.0 in absurd (omega arith)
 last-checked (suc k) None h = let yes : 1 ≤ suc k = omega arith in absurd (h yes)
 last-checked (suc k) (Some x) h = let e : suc k - 1 ≡ k = omega arith in ap (λ m. Some m) (h.1 ∙ e)
 
-last-fresh : (n : ℕ) → last_below n ≡ last_of (range_with_len 0 n)
+last-fresh : (n : ℕ) → last_below n ≡ last_slot_of (range_with_len 0 n)
 last-fresh zero = refl
 last-fresh (suc k) = let e : 0 + k ≡ k = omega arith in sym (last-range 0 k ∙ ap (λ m. Some m) e)
 
@@ -119,7 +119,7 @@ module _ (n limit : ℕ) (some : 1 ≤ limit) (small : limit < 2 ^ 32) where
     inside = λ j h. let b : j < 0 + n = times-below 0 n j h in subst (λ m. j < m) (sym (length-map-range_with_len (fresh_cell n) 0 n)) (let b' : j < n = omega arith in b');
     standing = λ j c h.
         let f = fresh-is j c h in
-        let one : times j (range_with_len 0 n) ≡ 1 = times-here 0 n j (omega arith) (let w : j < n = f.0 in omega arith) in
+        let one : times_in j (range_with_len 0 n) ≡ 1 = times-here 0 n j (omega arith) (let w : j < n = f.0 in omega arith) in
         one ∙ sym (ap (λ (z : Cell). free_count z.standing) f.1);
     used = λ j c h. let f = fresh-is j c h in subst (λ (z : Cell). z.uses + free_count z.standing ≤ limit) (sym f.1) (omega (arith, some));
     given = λ j c h. let f = fresh-is j c h in subst (λ (z : Cell). z.generation + taken_count z.standing ≤ z.uses) (sym f.1) (omega arith);
@@ -136,7 +136,7 @@ map-fresh f y n i (suc k) h =
     ap (λ z. z ∷ map f (map (fresh_cell n) (range_with_len (i + 1) k))) (h i)
     ∙ ap (λ l. y ∷ l) (map-fresh f y n (i + 1) k h)
 
-pub state-fresh : (n kl vl limit : ℕ) (ks vs : List ℕ) → 1 ≤ limit → limit < 2 ^ 32 → state_of (fresh_cells n n) (below 0 n) ks vs kl vl limit ≡ new_arena n kl vl limit
+pub state-fresh : (n kl vl limit : ℕ) (ks vs : List ℕ) → 1 ≤ limit → limit < 2 ^ 32 → arena_state_of (fresh_cells n n) (below 0 n) ks vs kl vl limit ≡ new_arena n kl vl limit
 state-fresh n kl vl limit ks vs some small =
     state-is (fresh_cells n n) (below 0 n) (last_below n) limit (range_with_len 0 n) ks vs kl vl (threaded-fresh n limit some small)
     ∙ same_state _ _ _ _ _ _ _ _ _ _ kl vl limit

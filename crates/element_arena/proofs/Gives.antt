@@ -5,10 +5,10 @@ use Rattle.std.proofs.lemmas.Bool.{eqb-true, false_from_ne_true}
 use Rattle.bpf_model.specs.View.{SlotView, uses_at}
 use Rattle.bpf_model.specs.declared.event.Given.{Given}
 use Rattle.bpf_model.specs.declared.event.Given.TheVariants as given
-use Rattle.element_arena.specs.State.{IsTaken, ArenaState, given_back, is_last_use, times}
+use Rattle.element_arena.specs.State.{IsTaken, ArenaState, given_back, is_last_use, times_in}
 use Rattle.element_arena.specs.declared.cell.Cell.{Cell}
 use Rattle.element_arena.specs.declared.cell.Standing.TheVariants.{Free, Worn}
-use Rattle.element_arena.specs.Kept.{IsThreaded, IsKept, IsLaidOut, state_of, free_of, state_with, slots_shown, free_count, taken_count, first_with, linked_behind, given_cell}
+use Rattle.element_arena.specs.Kept.{IsThreaded, AreCellsKept, IsLaidOut, arena_state_of, free_of, state_with, slots_shown, free_count, taken_count, first_with, linked_behind, given_cell}
 use Rattle.element_arena.proofs.Counts.{length-set}
 use Rattle.element_arena.proofs.Keeps.{IsHeld, kept_from, taken_at, wear, free_again, last_free, length-behind}
 use Rattle.element_arena.proofs.Threading.{last-held}
@@ -23,8 +23,8 @@ in_range : (last : Option ℕ) (n : ℕ) → ((l : ℕ) → last ≡ Some l → 
 in_range None n h = tt
 in_range (Some l) n h = h l refl
 
-module _ (kl vl limit : ℕ) (cells : List Cell) (first last : Option ℕ) (ks vs : List ℕ) (i : ℕ) (a : ArenaState) (e : state_of cells first ks vs kl vl limit ≡ a)
-    (k : IsKept cells first last limit × IsLaidOut cells ks vs kl vl) (t : IsTaken a i) where
+module _ (kl vl limit : ℕ) (cells : List Cell) (first last : Option ℕ) (ks vs : List ℕ) (i : ℕ) (a : ArenaState) (e : arena_state_of cells first ks vs kl vl limit ≡ a)
+    (k : AreCellsKept cells first last limit × IsLaidOut cells ks vs kl vl) (t : IsTaken a i) where
   pub held : IsHeld cells first i
   held = held_from kl vl limit cells first ks vs i (subst (λ (b : ArenaState). IsTaken b i) (sym e) t)
 
@@ -49,13 +49,13 @@ module _ (kl vl limit : ℕ) (cells : List Cell) (first last : Option ℕ) (ks v
     worn-threaded : IsThreaded (slice_set cells i (given_cell c Worn)) first last limit (free_of cells first)
     worn-threaded = wear cells first last limit i c k.0 held at
 
-    pub worn-kept : IsKept (slice_set cells i (given_cell c Worn)) first last limit × IsLaidOut (slice_set cells i (given_cell c Worn)) ks vs kl vl
+    pub worn-kept : AreCellsKept (slice_set cells i (given_cell c Worn)) first last limit × IsLaidOut (slice_set cells i (given_cell c Worn)) ks vs kl vl
     worn-kept = (
       kept_from (slice_set cells i (given_cell c Worn)) first last limit (free_of cells first) worn-threaded,
       laid-out cells (slice_set cells i (given_cell c Worn)) ks ks vs vs kl vl k.1 (length-set cells i (given_cell c Worn)) refl refl,
     )
 
-    pub worn-state : eqb c.uses limit ≡ true → state_of (slice_set cells i (given_cell c Worn)) first ks vs kl vl limit ≡ given_back a i
+    pub worn-state : eqb c.uses limit ≡ true → arena_state_of (slice_set cells i (given_cell c Worn)) first ks vs kl vl limit ≡ given_back a i
     worn-state full =
         state-is (slice_set cells i (given_cell c Worn)) first last limit (free_of cells first) ks vs kl vl worn-threaded
         ∙ (ap (λ (l : List SlotView). state_with l (slice_set cells i (given_cell c Worn)) (free_of cells first) kl vl limit) (shown-same kl vl cells ks vs i c (given_cell c Worn) at refl)
@@ -64,7 +64,7 @@ module _ (kl vl limit : ℕ) (cells : List Cell) (first last : Option ℕ) (ks v
 
     pub last-inside : IfSome last (λ l. l < length (slice_set cells i (given_cell c Free)))
     last-inside = in_range last (length (slice_set cells i (given_cell c Free))) (λ l le.
-        let there : 0 < times l (free_of cells first) = last-held (free_of cells first) l (sym k.0.ends ∙ le) in
+        let there : 0 < times_in l (free_of cells first) = last-held (free_of cells first) l (sym k.0.ends ∙ le) in
         subst (λ n. l < n) (sym (length-set cells i (given_cell c Free))) (k.0.inside l there))
 
     abbrev pub freed : List Cell
@@ -74,13 +74,13 @@ module _ (kl vl limit : ℕ) (cells : List Cell) (first last : Option ℕ) (ks v
       freed-threaded : IsThreaded freed (first_with first last i) (Some i) limit (free_of cells first ++ i ∷ [])
       freed-threaded = free_again cells first last limit i c k.0 held at ne
 
-      pub freed-kept : IsKept freed (first_with first last i) (Some i) limit × IsLaidOut freed ks vs kl vl
+      pub freed-kept : AreCellsKept freed (first_with first last i) (Some i) limit × IsLaidOut freed ks vs kl vl
       freed-kept = (
         kept_from freed (first_with first last i) (Some i) limit (free_of cells first ++ i ∷ []) freed-threaded,
         laid-out cells freed ks ks vs vs kl vl k.1 (length-behind (slice_set cells i (given_cell c Free)) last i ∙ length-set cells i (given_cell c Free)) refl refl,
       )
 
-      pub freed-state : state_of freed (first_with first last i) ks vs kl vl limit ≡ given_back a i
+      pub freed-state : arena_state_of freed (first_with first last i) ks vs kl vl limit ≡ given_back a i
       freed-state =
           let was = taken_at cells first last limit i c k.0 held at in
           let shown : slots_shown kl vl freed ks vs ≡ slots_shown kl vl cells ks vs =

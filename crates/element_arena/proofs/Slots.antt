@@ -6,7 +6,7 @@ use Rattle.std.proofs.lemmas.List.{length-drop, length-take, length-take-le, len
 use Rattle.bpf_model.specs.View.{SlotView, uses_at}
 use Rattle.element_arena.specs.State.{ArenaState, IsTaken, key_at, value_at, generation_at, with_value}
 use Rattle.element_arena.specs.Blocks.{block, with_block}
-use Rattle.element_arena.specs.Kept.{shown_bytes, slots_shown, state_with, state_of, free_of, IsThreaded, IsKept, IsLaidOut, taken_count, relinked, linked_behind}
+use Rattle.element_arena.specs.Kept.{shown_bytes, slots_shown, state_with, arena_state_of, free_of, IsThreaded, AreCellsKept, IsLaidOut, taken_count, relinked, linked_behind}
 use Rattle.element_arena.specs.declared.cell.Cell.{Cell}
 use Rattle.element_arena.proofs.Counts.{get_inside, get_some, length-set}
 use Rattle.element_arena.proofs.Views.{get-map}
@@ -14,14 +14,14 @@ use Rattle.bpf_model.specs.MachineStep.{with_bytes}
 use Rattle.element_arena.proofs.Keeps.{IsHeld, free-is, taken_cell}
 use Rattle.element_arena.proofs.BlockLaws.{room, block-zero, block-suc, times-suc, first-here, rest-here, first-past, rest-past}
 
-pub state-is : (cells : List Cell) (first last : Option ℕ) (limit : ℕ) (ys : List ℕ) (ks vs : List ℕ) (kl vl : ℕ) → IsThreaded cells first last limit ys → state_of cells first ks vs kl vl limit ≡ state_with (slots_shown kl vl cells ks vs) cells ys kl vl limit
+pub state-is : (cells : List Cell) (first last : Option ℕ) (limit : ℕ) (ys : List ℕ) (ks vs : List ℕ) (kl vl : ℕ) → IsThreaded cells first last limit ys → arena_state_of cells first ks vs kl vl limit ≡ state_with (slots_shown kl vl cells ks vs) cells ys kl vl limit
 state-is cells first last limit ys ks vs kl vl t = ap (λ f. state_with (slots_shown kl vl cells ks vs) cells f kl vl limit) (free-is cells first last limit ys t)
 
 pub length-shown : (kl vl : ℕ) (cells : List Cell) (ks vs : List ℕ) → length (slots_shown kl vl cells ks vs) ≡ length cells
 length-shown kl vl [] ks vs = refl
 length-shown kl vl (c ∷ cells) ks vs = ap suc (length-shown kl vl cells (drop kl ks) (drop vl vs))
 
-pub held_from : (kl vl limit : ℕ) (cells : List Cell) (first : Option ℕ) (ks vs : List ℕ) (i : ℕ) → IsTaken (state_of cells first ks vs kl vl limit) i → IsHeld cells first i
+pub held_from : (kl vl limit : ℕ) (cells : List Cell) (first : Option ℕ) (ks vs : List ℕ) (i : ℕ) → IsTaken (arena_state_of cells first ks vs kl vl limit) i → IsHeld cells first i
 held_from kl vl limit cells first ks vs i t =
     record { inside = subst (λ n. i < n) (length-shown kl vl cells ks vs) t.inside; not_free = t.not_free; not_worn = t.not_worn }
 
@@ -91,7 +91,7 @@ laid-out cells cells' ks ks' vs vs' kl vl l e ek ev = record {
   value_bound = l.value_bound;
 }
 
-pub inside_from : (kl vl limit : ℕ) (cells : List Cell) (first : Option ℕ) (ks vs : List ℕ) (i : ℕ) (a : ArenaState) → state_of cells first ks vs kl vl limit ≡ a → i < length a.slots → i < length cells
+pub inside_from : (kl vl limit : ℕ) (cells : List Cell) (first : Option ℕ) (ks vs : List ℕ) (i : ℕ) (a : ArenaState) → arena_state_of cells first ks vs kl vl limit ≡ a → i < length a.slots → i < length cells
 inside_from kl vl limit cells first ks vs i a e h = subst (λ n. i < n) (length-shown kl vl cells ks vs) (subst (λ (b : ArenaState). i < length b.slots) (sym e) h)
 
 pub shown-unused : (n : ℕ) (bytes : List ℕ) → n ≡ 0 → shown_bytes n bytes ≡ []
@@ -146,7 +146,7 @@ shown-stored kl vl new cells ks vs i c at some e lv =
         ∙ ap (λ l. record { key = shown_bytes b.uses (take kl ks); value = shown_bytes b.uses (take (length new) vs); uses = b.uses } ∷ l) (stored cells (drop kl ks) (drop (length new) vs) i at lv'))
 
 -- a taken slot was used
-pub used_of : (cells : List Cell) (first last : Option ℕ) (limit i : ℕ) → IsKept cells first last limit → IsHeld cells first i → (c : Cell) × (slice_get cells i ≡ Some c) × (c.uses ≡ 0 → ⊥)
+pub used_of : (cells : List Cell) (first last : Option ℕ) (limit i : ℕ) → AreCellsKept cells first last limit → IsHeld cells first i → (c : Cell) × (slice_get cells i ≡ Some c) × (c.uses ≡ 0 → ⊥)
 used_of cells first last limit i k h =
     let t = taken_cell cells first last limit i k h in
     let g : t.0.generation + taken_count t.0.standing ≤ t.0.uses = k.given i t.0 t.1 in
@@ -168,40 +168,40 @@ length-with_bytes at zero n bytes = refl
 length-with_bytes at (suc width) n bytes = length-set (with_bytes (suc at) width (n / 256) bytes) at (n % 256) ∙ length-with_bytes (suc at) width (n / 256) bytes
 
 -- what a taken slot's value is
-pub value_is : (kl vl limit : ℕ) (cells : List Cell) (first last : Option ℕ) (ks vs : List ℕ) (i : ℕ) (a : ArenaState) → state_of cells first ks vs kl vl limit ≡ a → IsKept cells first last limit → IsTaken a i → value_at a.slots i ≡ block vl i vs
+pub value_is : (kl vl limit : ℕ) (cells : List Cell) (first last : Option ℕ) (ks vs : List ℕ) (i : ℕ) (a : ArenaState) → arena_state_of cells first ks vs kl vl limit ≡ a → AreCellsKept cells first last limit → IsTaken a i → value_at a.slots i ≡ block vl i vs
 value_is kl vl limit cells first last ks vs i a e k t =
     let u = used_of cells first last limit i k (held_from kl vl limit cells first ks vs i (subst (λ (b : ArenaState). IsTaken b i) (sym e) t)) in
     ap (λ (b : ArenaState). value_at b.slots i) (sym e) ∙ (shown-value kl vl cells ks vs i u.0 u.1 ∙ shown-used u.0.uses (block vl i vs) u.2)
 
-pub state-stored : (kl vl limit : ℕ) (cells : List Cell) (first last : Option ℕ) (ks vs : List ℕ) (i : ℕ) (a : ArenaState) (new : List ℕ) → state_of cells first ks vs kl vl limit ≡ a → IsKept cells first last limit → IsLaidOut cells ks vs kl vl → IsTaken a i → length new ≡ vl →
-    state_of cells first ks (with_block i new vs) kl vl limit ≡ with_value a i new
+pub state-stored : (kl vl limit : ℕ) (cells : List Cell) (first last : Option ℕ) (ks vs : List ℕ) (i : ℕ) (a : ArenaState) (new : List ℕ) → arena_state_of cells first ks vs kl vl limit ≡ a → AreCellsKept cells first last limit → IsLaidOut cells ks vs kl vl → IsTaken a i → length new ≡ vl →
+    arena_state_of cells first ks (with_block i new vs) kl vl limit ≡ with_value a i new
 state-stored kl vl limit cells first last ks vs i a new e k l t en =
     let u = used_of cells first last limit i k (held_from kl vl limit cells first ks vs i (subst (λ (b : ArenaState). IsTaken b i) (sym e) t)) in
     ap (λ s. state_with s cells (free_of cells first) kl vl limit) (shown-stored kl vl new cells ks vs i u.0 u.1 u.2 en l.value_room)
     ∙ ap (λ (b : ArenaState). with_value b i new) e
 
 -- a slot's bytes are no longer than the arena's keys and values
-pub key-short : (kl vl limit : ℕ) (cells : List Cell) (first : Option ℕ) (ks vs : List ℕ) (i : ℕ) (a : ArenaState) → state_of cells first ks vs kl vl limit ≡ a → i < length cells → length (key_at a.slots i) ≤ kl
+pub key-short : (kl vl limit : ℕ) (cells : List Cell) (first : Option ℕ) (ks vs : List ℕ) (i : ℕ) (a : ArenaState) → arena_state_of cells first ks vs kl vl limit ≡ a → i < length cells → length (key_at a.slots i) ≤ kl
 key-short kl vl limit cells first ks vs i a e h =
     let c = get_some cells i h in
     subst (λ (l : List ℕ). length l ≤ kl) (sym (shown-key kl vl cells ks vs i c.0 c.1) ∙ ap (λ (b : ArenaState). key_at b.slots i) e)
     (shown-length c.0.uses kl (block kl i ks) (block-length kl i ks))
 
-pub value-short : (kl vl limit : ℕ) (cells : List Cell) (first : Option ℕ) (ks vs : List ℕ) (i : ℕ) (a : ArenaState) → state_of cells first ks vs kl vl limit ≡ a → i < length cells → length (value_at a.slots i) ≤ vl
+pub value-short : (kl vl limit : ℕ) (cells : List Cell) (first : Option ℕ) (ks vs : List ℕ) (i : ℕ) (a : ArenaState) → arena_state_of cells first ks vs kl vl limit ≡ a → i < length cells → length (value_at a.slots i) ≤ vl
 value-short kl vl limit cells first ks vs i a e h =
     let c = get_some cells i h in
     subst (λ (l : List ℕ). length l ≤ vl) (sym (shown-value kl vl cells ks vs i c.0 c.1) ∙ ap (λ (b : ArenaState). value_at b.slots i) e)
     (shown-length c.0.uses vl (block vl i vs) (block-length vl i vs))
 
-pub generation_is : (kl vl limit : ℕ) (cells : List Cell) (first : Option ℕ) (ks vs : List ℕ) (i : ℕ) (a : ArenaState) (c : Cell) → state_of cells first ks vs kl vl limit ≡ a → slice_get cells i ≡ Some c → generation_at a i ≡ Some c.generation
+pub generation_is : (kl vl limit : ℕ) (cells : List Cell) (first : Option ℕ) (ks vs : List ℕ) (i : ℕ) (a : ArenaState) (c : Cell) → arena_state_of cells first ks vs kl vl limit ≡ a → slice_get cells i ≡ Some c → generation_at a i ≡ Some c.generation
 generation_is kl vl limit cells first ks vs i a c e at =
     ap (λ (b : ArenaState). generation_at b i) (sym e) ∙ get-map (λ (z : Cell). z.generation) cells i c at
 
-pub generation_past : (kl vl limit : ℕ) (cells : List Cell) (first : Option ℕ) (ks vs : List ℕ) (i : ℕ) (a : ArenaState) (g : ℕ) → state_of cells first ks vs kl vl limit ≡ a → length cells ≤ i → generation_at a i ≢ Some g
+pub generation_past : (kl vl limit : ℕ) (cells : List Cell) (first : Option ℕ) (ks vs : List ℕ) (i : ℕ) (a : ArenaState) (g : ℕ) → arena_state_of cells first ks vs kl vl limit ≡ a → length cells ≤ i → generation_at a i ≢ Some g
 generation_past kl vl limit cells first ks vs i a g e h there =
     let in_ : i < length (map (λ (z : Cell). z.generation) cells) = get_inside _ i g (ap (λ (b : ArenaState). generation_at b i) e ∙ there) in
     let l : length (map (λ (z : Cell). z.generation) cells) ≡ length cells = length-map cells (λ (z : Cell). z.generation) in
     absurd (omega arith)
 
-pub inside_to : (kl vl limit : ℕ) (cells : List Cell) (first : Option ℕ) (ks vs : List ℕ) (i : ℕ) (a : ArenaState) → state_of cells first ks vs kl vl limit ≡ a → i < length cells → i < length a.slots
+pub inside_to : (kl vl limit : ℕ) (cells : List Cell) (first : Option ℕ) (ks vs : List ℕ) (i : ℕ) (a : ArenaState) → arena_state_of cells first ks vs kl vl limit ≡ a → i < length cells → i < length a.slots
 inside_to kl vl limit cells first ks vs i a e h = subst (λ (b : ArenaState). i < length b.slots) e (subst (λ n. i < n) (sym (length-shown kl vl cells ks vs)) h)

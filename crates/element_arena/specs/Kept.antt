@@ -4,8 +4,8 @@ use Rattle.std.specs.Prelude.{List, [], ◌∷◌, Option, Some, None, map, slic
 use Rattle.std.specs.Prelude.{take, drop}
 use Rattle.bpf_model.specs.View.{SlotView}
 use Rattle.bpf_model.specs.declared.limits.TheConstants.{KEY_BYTES, VALUE_BYTES}
-use Rattle.element_arena.specs.State.{ArenaState, times}
-use Rattle.element_arena.specs.Threads.{IsThread, walk, last_of}
+use Rattle.element_arena.specs.State.{ArenaState, times_in}
+use Rattle.element_arena.specs.Threads.{IsThread, walk, last_slot_of}
 use Rattle.element_arena.specs.declared.cell.Standing.{Standing}
 use Rattle.element_arena.specs.declared.cell.Standing.TheVariants.{Free, Taken, Worn}
 use Rattle.element_arena.specs.declared.cell.Cell.{Cell}
@@ -71,8 +71,8 @@ state_with slots cells free key_len value_len limit = record {
   limit = limit;
 }
 
-abbrev pub state_of : List Cell → Option ℕ → List ℕ → List ℕ → ℕ → ℕ → ℕ → ArenaState
-state_of cells first keys values key_len value_len limit =
+abbrev pub arena_state_of : List Cell → Option ℕ → List ℕ → List ℕ → ℕ → ℕ → ℕ → ArenaState
+arena_state_of cells first keys values key_len value_len limit =
     state_with (slots_shown key_len value_len cells keys values) cells (free_of cells first)
     key_len value_len limit
 
@@ -81,19 +81,19 @@ state_of cells first keys values key_len value_len limit =
 pub record IsThreaded (cells : List Cell) (first last : Option ℕ) (limit : ℕ) (free : List ℕ)
     : Type 0 where
   pub thread : IsThread (raw cells) first free
-  pub ends : last ≡ last_of free
-  pub once : (j : ℕ) → times j free ≤ 1
-  pub inside : (j : ℕ) → 0 < times j free → j < length cells
+  pub ends : last ≡ last_slot_of free
+  pub once : (j : ℕ) → times_in j free ≤ 1
+  pub inside : (j : ℕ) → 0 < times_in j free → j < length cells
   pub standing : (j : ℕ) (c : Cell) → slice_get cells j ≡ Some c
-      → times j free ≡ free_count c.standing
+      → times_in j free ≡ free_count c.standing
   pub used : (j : ℕ) (c : Cell) → slice_get cells j ≡ Some c
       → c.uses + free_count c.standing ≤ limit
   pub given : (j : ℕ) (c : Cell) → slice_get cells j ≡ Some c
       → c.generation + taken_count c.standing ≤ c.uses
   pub small : limit < 2 ^ 32
 
-abbrev pub IsKept : List Cell → Option ℕ → Option ℕ → ℕ → Type 0
-IsKept cells first last limit = IsThreaded cells first last limit (free_of cells first)
+abbrev pub AreCellsKept : List Cell → Option ℕ → Option ℕ → ℕ → Type 0
+AreCellsKept cells first last limit = IsThreaded cells first last limit (free_of cells first)
 
 -- each cell has its bytes
 pub record IsLaidOut (cells : List Cell) (keys values : List ℕ) (key_len value_len : ℕ)

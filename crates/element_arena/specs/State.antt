@@ -6,7 +6,7 @@ use Rattle.std.specs.List.{range_with_len}
 use Rattle.std.specs.Ordering.{nat_cmp, eq_by_cmp}
 use Rattle.std.specs.Cmp.Lexicographic.{slice_cmp}
 use Rattle.std.specs.FinMap.{FinMap, get, from_entries}
-use Rattle.bpf_model.specs.View.{SlotView, uses_at, unused_slot}
+use Rattle.bpf_model.specs.View.{SlotView, key_in, value_in, uses_at, unused_slot}
 
 -- An arena. Keys and values have these lengths, and a slot may be used so often.
 pub record ArenaState : Type 0 where
@@ -20,20 +20,12 @@ pub record ArenaState : Type 0 where
   pub limit : ℕ
 
 -- how often a slot stands in a list
-abbrev pub times : ℕ → List ℕ → ℕ
-times n [] = 0
-times n (x ∷ xs) = (if x == n then 1 else 0) + times n xs
-
-abbrev pub key_in : Option SlotView → List ℕ
-key_in None = []
-key_in (Some s) = s.key
+abbrev pub times_in : ℕ → List ℕ → ℕ
+times_in n [] = 0
+times_in n (x ∷ xs) = (if x == n then 1 else 0) + times_in n xs
 
 abbrev pub key_at : List SlotView → ℕ → List ℕ
 key_at slots i = key_in (slice_get slots i)
-
-abbrev pub value_in : Option SlotView → List ℕ
-value_in None = []
-value_in (Some s) = s.value
 
 abbrev pub value_at : List SlotView → ℕ → List ℕ
 value_at slots i = value_in (slice_get slots i)
@@ -60,7 +52,7 @@ generation_at a i = slice_get a.generations i
 -- a slot that is neither free nor worn
 pub record IsTaken (a : ArenaState) (i : ℕ) : Type 0 where
   pub inside : i < length a.slots
-  pub not_free : times i a.free ≡ 0
+  pub not_free : times_in i a.free ≡ 0
   pub not_worn : worn_at a.worn i ≡ 0
 
 abbrev pub is_last_use : ArenaState → ℕ → Bool

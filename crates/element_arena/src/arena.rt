@@ -47,12 +47,12 @@ impl Model for Arena {
 
     ghost Value = { ArenaState };
 
-    ghost use Rattle.element_arena.specs.Kept.{state_of, IsKept, IsLaidOut};
+    ghost use Rattle.element_arena.specs.Kept.{arena_state_of, AreCellsKept, IsLaidOut};
 
-    ghost view = { λ a. state_of a.cells.items a.first a.keys.items a.values.items
+    ghost view = { λ a. arena_state_of a.cells.items a.first a.keys.items a.values.items
         a.key_len a.value_len a.limit };
 
-    ghost invariant = { λ a. IsKept a.cells.items a.first a.last a.limit
+    ghost invariant = { λ a. AreCellsKept a.cells.items a.first a.last a.limit
         × IsLaidOut a.cells.items a.keys.items a.values.items a.key_len a.value_len };
 }
 

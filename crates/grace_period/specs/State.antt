@@ -19,5 +19,5 @@ pub record IsGrace (g : GraceState) : Type 0 where
 unfoldable pub flags_of : ℕ → List Bool
 flags_of word = map (λ r. bit_at word r == 1) (range_with_len 0 MAX_RUNS)
 
-abbrev pub state_of : ℕ → ℕ → GraceState
-state_of opened awaited = record { opened = flags_of opened; awaited = flags_of awaited }
+abbrev pub grace_state_of : ℕ → ℕ → GraceState
+grace_state_of opened awaited = record { opened = flags_of opened; awaited = flags_of awaited }

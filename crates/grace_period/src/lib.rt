@@ -26,13 +26,13 @@ pub struct Grace {
 }
 
 impl Model for Grace {
-    ghost use Rattle.grace_period.specs.State.{GraceState, state_of, IsGrace};
+    ghost use Rattle.grace_period.specs.State.{GraceState, grace_state_of, IsGrace};
 
     ghost Value = { GraceState };
 
-    ghost view = { λ g. state_of g.opened g.awaited };
+    ghost view = { λ g. grace_state_of g.opened g.awaited };
 
-    ghost invariant = { λ g. IsGrace (state_of g.opened g.awaited) };
+    ghost invariant = { λ g. IsGrace (grace_state_of g.opened g.awaited) };
 }
 
 impl Grace {

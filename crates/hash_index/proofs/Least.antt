@@ -4,13 +4,13 @@ use Rattle.std.specs.Prelude.{slice_get, replicate, IfSome, IfNone}
 use Rattle.std.proofs.lemmas.List.{append-nil}
 use Rattle.std.proofs.lemmas.Option.{none-some, same_Some}
 use Rattle.std.specs.FinMap.{get, empty}
-use Rattle.element_arena.specs.State.{ArenaState, times, key_at, link_at, contents_of}
+use Rattle.element_arena.specs.State.{ArenaState, times_in, key_at, link_at, contents_of}
 use Rattle.element_arena.specs.Threads.{IsThread, walk}
 use Rattle.element_arena.proofs.Counts.{one_cases, one_same, times-append}
 use Rattle.element_arena.proofs.Indexing.{AreUnique, get-contents, slot_of-present, times-get}
 use Rattle.hash_index.specs.Order.{IsLess, IsAbove, NoneAbove, NoneBetween, IsLeastOf}
 use Rattle.hash_index.specs.Chains.{IsChain, IsScanned, chain_of}
-use Rattle.hash_index.specs.Buckets.{FitsIn, IsGathered, slots_from, slots_in}
+use Rattle.hash_index.specs.Buckets.{HeadsFit, IsGathered, slots_from, slots_in}
 use Rattle.hash_index.proofs.Orders.{less_trans, less_other}
 use Rattle.hash_index.proofs.Steps.{chain_step, chain_at}
 
@@ -32,16 +32,16 @@ module _ (key : ℕ → List ℕ) (xs : List ℕ) (bound : Option (List ℕ)) wh
   least_none None f = λ k j g a. let p = times-get key xs k j g in f j p.0 (subst (IsAbove bound) (sym p.1) a)
   least_none (Some i) f = tt
 
-held_last : (xs : List ℕ) (slot j : ℕ) → 0 < times j (xs ++ slot ∷ []) → (0 < times j xs) ⊎ (slot ≡ j)
+held_last : (xs : List ℕ) (slot j : ℕ) → 0 < times_in j (xs ++ slot ∷ []) → (0 < times_in j xs) ⊎ (slot ≡ j)
 held_last xs slot j h = elim (one_cases slot j) [
   | inl y ↦ inr y.0
   | inr n ↦ let c : cond {A = ℕ} (eqb slot j) 1 0 ≡ 0 = n.1 in inl (omega (arith, times-append j xs (slot ∷ [])))
 ]
 
-held_front : (xs : List ℕ) (slot j : ℕ) → 0 < times j xs → 0 < times j (xs ++ slot ∷ [])
+held_front : (xs : List ℕ) (slot j : ℕ) → 0 < times_in j xs → 0 < times_in j (xs ++ slot ∷ [])
 held_front xs slot j h = omega (arith, times-append j xs (slot ∷ []))
 
-held_end : (xs : List ℕ) (slot : ℕ) → 0 < times slot (xs ++ slot ∷ [])
+held_end : (xs : List ℕ) (slot : ℕ) → 0 < times_in slot (xs ++ slot ∷ [])
 held_end xs slot = omega (arith, times-append slot xs (slot ∷ []), one_same slot)
 
 -- a further slot
@@ -145,16 +145,16 @@ length_none zero = refl
 length_none (suc count) = ap suc (length_none count)
 
 module _ (heads : List (Option ℕ)) (count : ℕ) (a : ArenaState) where
-  pub fits_none : heads ≡ replicate count None → 0 < count → FitsIn heads a
+  pub fits_none : heads ≡ replicate count None → 0 < count → HeadsFit heads a
   fits_none e some =
       let slots : slots_in heads a ≡ [] = ap (slots_from (length a.slots) (link_at a.links)) e ∙ slots_of_none count (length a.slots) (link_at a.links) in
       let long : length heads ≡ count = ap (λ (l : List (Option ℕ)). length l) e ∙ length_none count in
-      let zero_times : (j : ℕ) → times j (slots_in heads a) ≡ 0 = λ j. ap (times j) slots in
+      let zero_times : (j : ℕ) → times_in j (slots_in heads a) ≡ 0 = λ j. ap (times_in j) slots in
       let none : (k : ℕ) (o : Option ℕ) → slice_get heads k ≡ Some o → walk (length a.slots) (link_at a.links) o ≡ [] = λ k o h. ap (walk (length a.slots) (link_at a.links)) (head_of_none count k o (ap (λ l. slice_get l k) (sym e) ∙ h)) ∙ walk_none (length a.slots) (link_at a.links) in
       record {
         some = omega arith;
         thread = λ k o h. subst (IsThread (link_at a.links) o) (sym (none k o h)) (head_of_none count k o (ap (λ l. slice_get l k) (sym e) ∙ h));
-        home = λ k o h j i. let z : times j (walk (length a.slots) (link_at a.links) o) ≡ 0 = ap (times j) (none k o h) in absurd (omega arith);
+        home = λ k o h j i. let z : times_in j (walk (length a.slots) (link_at a.links) o) ≡ 0 = ap (times_in j) (none k o h) in absurd (omega arith);
         once = λ j. omega (arith, zero_times j);
         taken = λ j i. absurd (omega (arith, zero_times j));
         unique = λ i j hi hj e. absurd (omega (arith, zero_times i));

@@ -1,4 +1,4 @@
--- Byte order, and places among ascending keys.
+-- Byte order, and positions among ascending keys.
 use Rattle.std.proofs.Common.{◌≡◌, ◌≢◌, ◌∙◌, ℕ, zero, suc, ◌+◌, ◌<◌, ◌≤◌, List, [], ◌∷◌, length, Option, Some, None, ◌⊎◌, inl, inr, refl, sym, ap, arith, subst}
 use Rattle.std.specs.Prelude.{slice_get, insert, remove, IfSome, IfNone}
 use Rattle.std.specs.Ordering.{nat_cmp, is_lt, ordering_reverse}
@@ -9,12 +9,12 @@ use Rattle.std.proofs.lemmas.Bool.{false≢true}
 use Rattle.std.proofs.lemmas.Cmp.{nat_list_cmp_total, tied_itself}
 use Rattle.std.proofs.lemmas.Map.Lookups.{exact_bytes}
 use Rattle.std.proofs.lemmas.Option.{none-some, same_Some}
-use Rattle.element_arena.specs.State.{times, slot_of}
+use Rattle.element_arena.specs.State.{times_in, slot_of}
 use Rattle.element_arena.proofs.Counts.{get_some, get_inside}
 use Rattle.element_arena.proofs.Indexing.{AreUnique, slot_of-absent, slot_of-present, slot_of-none}
 use Rattle.hash_index.specs.Order.{IsLess, IsLeastOf}
 use Rattle.hash_index.specs.Held.{held_at, index_held}
-use Rattle.hash_index.specs.Sorted.{IsAscending, IsPlace, IsPlaceAbove}
+use Rattle.hash_index.specs.Sorted.{IsAscending, IsPosition, IsPositionAbove}
 
 pub less_trans : (a b c : List ℕ) → IsLess a b → IsLess b c → IsLess a c
 less_trans a b c = nat_list_cmp_total.trans a b c
@@ -71,9 +71,9 @@ module _ (key : ℕ → List ℕ) (xs : List ℕ) (k : List ℕ) where
   ]
 
   module _ (p : ℕ) where
-    -- a key that does not stand at its place stands nowhere
-    pub not_at_place : IsAscending key xs → IsPlace key xs k p → ((s : ℕ) → slice_get xs p ≡ Some s → key s ≢ k) → (j : ℕ) → 0 < times j xs → key j ≢ k
-    not_at_place asc f other j h e =
+    -- a key that does not stand at its position stands nowhere
+    pub not_at_position : IsAscending key xs → IsPosition key xs k p → ((s : ℕ) → slice_get xs p ≡ Some s → key s ≢ k) → (j : ℕ) → 0 < times_in j xs → key j ≢ k
+    not_at_position asc f other j h e =
         let r = index_held xs j h in
         elim (index_cases r.0 p) [
           | inl less ↦ less_other (key j) k (f.below r.0 j less r.1) e
@@ -86,8 +86,8 @@ module _ (key : ℕ → List ℕ) (xs : List ℕ) (k : List ℕ) where
           ]
         ]
 
-    -- a slot stands at the place of its key
-    pub stands_at : (j : ℕ) → IsAscending key xs → IsPlace key xs k p → 0 < times j xs → key j ≡ k → slice_get xs p ≡ Some j
+    -- a slot stands at the position of its key
+    pub stands_at : (j : ℕ) → IsAscending key xs → IsPosition key xs k p → 0 < times_in j xs → key j ≡ k → slice_get xs p ≡ Some j
     stands_at j asc f h e =
         let r = index_held xs j h in
         elim (index_cases r.0 p) [
@@ -101,8 +101,8 @@ module _ (key : ℕ → List ℕ) (xs : List ℕ) (k : List ℕ) where
           ]
         ]
 
-    -- the keys above one that stands at its place begin behind it
-    pub above_after : (s : ℕ) → IsAscending key xs → IsPlace key xs k p → slice_get xs p ≡ Some s → key s ≡ k → IsPlaceAbove key xs (Some k) (p + 1)
+    -- the keys above one that stands at its position begin behind it
+    pub above_after : (s : ℕ) → IsAscending key xs → IsPosition key xs k p → slice_get xs p ≡ Some s → key s ≡ k → IsPositionAbove key xs (Some k) (p + 1)
     above_after s asc f at e = record {
       below = λ i t h g l. elim (index_cases i p) [
         | inl less ↦ less_not_back (key t) k (f.below i t less g) l
@@ -114,17 +114,17 @@ module _ (key : ℕ → List ℕ) (xs : List ℕ) (k : List ℕ) where
       above = λ i t h g. subst (λ z. IsLess z (key t)) e (asc p i s t (omega arith) at g);
     }
 
-    -- and above one that stands nowhere at its place
-    pub above_here : IsAscending key xs → IsPlace key xs k p → ((s : ℕ) → slice_get xs p ≡ Some s → key s ≢ k) → IsPlaceAbove key xs (Some k) p
+    -- and above one that stands nowhere at its position
+    pub above_here : IsAscending key xs → IsPosition key xs k p → ((s : ℕ) → slice_get xs p ≡ Some s → key s ≢ k) → IsPositionAbove key xs (Some k) p
     above_here asc f other = record {
       below = λ i t h g. less_not_back (key t) k (f.below i t h g);
-      above = λ i t h g. less_or_more (key t) k (not_at_place asc f other t (held_at xs i t g)) (f.above i t h g);
+      above = λ i t h g. less_or_more (key t) k (not_at_position asc f other t (held_at xs i t g)) (f.above i t h g);
     }
 
 module _ (key : ℕ → List ℕ) (xs : List ℕ) (k : List ℕ) (p : ℕ) where
-  -- what stands at the place of a key, if it has the key, is the slot of the key
-  pub found : AreUnique key xs → IsAscending key xs → IsPlace key xs k p → (r : Option ℕ) → IfSome r (λ s. slice_get xs p ≡ Some s) → IfSome r (λ s. key s ≡ k) → IfNone r ((s : ℕ) → slice_get xs p ≡ Some s → key s ≢ k) → r ≡ slot_of key xs k
-  found unique asc f None some same none = sym (slot_of-absent key xs k (not_at_place key xs k p asc f none))
+  -- what stands at the position of a key, if it has the key, is the slot of the key
+  pub found : AreUnique key xs → IsAscending key xs → IsPosition key xs k p → (r : Option ℕ) → IfSome r (λ s. slice_get xs p ≡ Some s) → IfSome r (λ s. key s ≡ k) → IfNone r ((s : ℕ) → slice_get xs p ≡ Some s → key s ≢ k) → r ≡ slot_of key xs k
+  found unique asc f None some same none = sym (slot_of-absent key xs k (not_at_position key xs k p asc f none))
   found unique asc f (Some s) some same none = sym (slot_of-present key xs k s unique (held_at xs p s some) same)
 
   -- two slots with one key are one
@@ -141,10 +141,10 @@ module _ (key : ℕ → List ℕ) (xs : List ℕ) (k : List ℕ) (p : ℕ) where
       ]
 
 module _ (key : ℕ → List ℕ) (xs : List ℕ) (bound : Option (List ℕ)) (p : ℕ) where
-  pub all_above : bound ≡ None → p ≡ 0 → IsPlaceAbove key xs bound p
-  all_above e z = subst (λ b. IsPlaceAbove key xs b p) (sym e) (record { below = λ i s l. absurd (omega arith); above = λ i s l g. tt })
+  pub all_above : bound ≡ None → p ≡ 0 → IsPositionAbove key xs bound p
+  all_above e z = subst (λ b. IsPositionAbove key xs b p) (sym e) (record { below = λ i s l. absurd (omega arith); above = λ i s l g. tt })
 
-  pub least_there : (s : ℕ) → IsAscending key xs → IsPlaceAbove key xs bound p → slice_get xs p ≡ Some s → IsLeastOf key bound xs (Some s)
+  pub least_there : (s : ℕ) → IsAscending key xs → IsPositionAbove key xs bound p → slice_get xs p ≡ Some s → IsLeastOf key bound xs (Some s)
   least_there s asc f at = (
     held_at xs p s at,
     f.above p s (omega arith) at,
@@ -159,7 +159,7 @@ module _ (key : ℕ → List ℕ) (xs : List ℕ) (bound : Option (List ℕ)) (p
         ],
   )
 
-  pub none_there : IsPlaceAbove key xs bound p → length xs ≤ p → IsLeastOf key bound xs None
+  pub none_there : IsPositionAbove key xs bound p → length xs ≤ p → IsLeastOf key bound xs None
   none_there f past j h a =
       let r = index_held xs j h in
       let in_ : r.0 < length xs = get_inside xs r.0 j r.1 in
@@ -191,8 +191,8 @@ removed_at (x ∷ xs) (suc p) (suc i) s g = elim (removed_at xs p i s g) [
 ]
 
 module _ (key : ℕ → List ℕ) (xs : List ℕ) (p : ℕ) where
-  -- a slot whose key is absent is put at the key's place
-  pub ascending-insert : (x : ℕ) → IsAscending key xs → IsPlace key xs (key x) p → slot_of key xs (key x) ≡ None → IsAscending key (insert xs p x)
+  -- a slot whose key is absent is put at the key's position
+  pub ascending-insert : (x : ℕ) → IsAscending key xs → IsPosition key xs (key x) p → slot_of key xs (key x) ≡ None → IsAscending key (insert xs p x)
   ascending-insert x asc f none i j s t less gs gt = elim (inserted_at xs p x i s f.within gs) [
     | inl l ↦ elim (inserted_at xs p x j t f.within gt) [
       | inl m ↦ asc i j s t less l.1 m.1

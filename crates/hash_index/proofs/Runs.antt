@@ -13,7 +13,7 @@ use Rattle.element_arena.proofs.Counts.{bool_cases}
 use Rattle.element_arena.proofs.Indexing.{same_key, same_key-true, get_at-insert, get_at-remove}
 use Rattle.hash_index.specs.declared.commands.Command.{Command}
 use Rattle.hash_index.specs.declared.commands.Command.TheVariants.{Link, Find, Unlink, Above}
-use Rattle.hash_index.specs.Replies.{IsReady, IsKeyed, reply_of, after, replies}
+use Rattle.hash_index.specs.Replies.{IsReadyCommand, IsKeyed, reply_of, after_command, replies}
 
 pub remove_absent : (m : FinMap (slice_cmp nat_cmp) ℕ) (k : List ℕ) → get m k ≡ None → remove m k ≡ m
 remove_absent m k h = same_map nat_list_cmp_total exact_bytes _ _ (λ q. get_at-remove m k q ∙ elim (bool_cases (same_key q k)) [
@@ -29,7 +29,7 @@ keyed_if key m i false h = λ q j g. elim (bool_cases (same_key q (key i))) [
 ]
 
 -- the slots of the map stand under their own keys after a command too
-keyed_after : (key : ℕ → List ℕ) (m : FinMap (slice_cmp nat_cmp) ℕ) (command : Command) → IsKeyed key m → IsKeyed key (after key command m)
+keyed_after : (key : ℕ → List ℕ) (m : FinMap (slice_cmp nat_cmp) ℕ) (command : Command) → IsKeyed key m → IsKeyed key (after_command key command m)
 keyed_after key m (Link i) h = keyed_if key m i (is_some (get m (key i))) h
 keyed_after key m (Find k) h = h
 keyed_after key m (Above bound) h = h
@@ -38,21 +38,21 @@ keyed_after key m (Unlink k) h = λ q j g. elim (bool_cases (same_key q k.items)
   | inr n ↦ h q j (sym (cond-false _ _ _ n) ∙ (sym (get_at-remove m k.items q) ∙ g))
 ]
 
-pub keyed_step : (key was : ℕ → List ℕ) (m n : FinMap (slice_cmp nat_cmp) ℕ) (command : Command) → was ≡ key → n ≡ after was command m → IsKeyed key m → IsKeyed key n
-keyed_step key was m n command same step h = subst (IsKeyed key) (sym (step ∙ ap (λ f. after f command m) same)) (keyed_after key m command h)
+pub keyed_step : (key was : ℕ → List ℕ) (m n : FinMap (slice_cmp nat_cmp) ℕ) (command : Command) → was ≡ key → n ≡ after_command was command m → IsKeyed key m → IsKeyed key n
+keyed_step key was m n command same step h = subst (IsKeyed key) (sym (step ∙ ap (λ f. after_command f command m) same)) (keyed_after key m command h)
 
 pub keyed_empty : (key : ℕ → List ℕ) → IsKeyed key empty
 keyed_empty key k i g = absurd (none-some i (sym (get-empty (slice_cmp nat_cmp) k) ∙ g))
 
-ready_with : (a : ArenaState) (ls : List (Option ℕ)) (command : Command) → IsReady a command → IsReady (record a { links = ls }) command
+ready_with : (a : ArenaState) (ls : List (Option ℕ)) (command : Command) → IsReadyCommand a command → IsReadyCommand (record a { links = ls }) command
 ready_with a ls (Link i) h = record { inside = h.inside; not_free = h.not_free; not_worn = h.not_worn }
 ready_with a ls (Find k) h = h
 ready_with a ls (Unlink k) h = h
 ready_with a ls (Above bound) h = h
 
 -- links alone have changed
-pub ready_still : (a b : ArenaState) (command : Command) → b ≡ record a { links = b.links } → IsReady a command → IsReady b command
-ready_still a b command e h = subst (λ z. IsReady z command) (sym e) (ready_with a b.links command h)
+pub ready_still : (a b : ArenaState) (command : Command) → b ≡ record a { links = b.links } → IsReadyCommand a command → IsReadyCommand b command
+ready_still a b command e h = subst (λ z. IsReadyCommand z command) (sym e) (ready_with a b.links command h)
 
 pub keys_still : (a b : ArenaState) → b ≡ record a { links = b.links } → key_at b.slots ≡ key_at a.slots
 keys_still a b e = ap (λ (z : ArenaState). key_at z.slots) e
@@ -62,10 +62,10 @@ links_still a b c e f = f ∙ ap (λ (z : ArenaState). let w : ArenaState = reco
 
 -- one reply more: those so far and those to what is left are those to all
 pub told_more : (key was : ℕ → List ℕ) (commands rest left : List Command) (told new : List (Option ℕ)) (command : Command) (r : Option ℕ) (m n : FinMap (slice_cmp nat_cmp) ℕ) →
-    was ≡ key → rest ≡ command ∷ left → new ≡ told ++ r ∷ [] → r ≡ reply_of was command m → n ≡ after was command m → told ++ replies key rest m ≡ replies key commands empty → new ++ replies key left n ≡ replies key commands empty
+    was ≡ key → rest ≡ command ∷ left → new ≡ told ++ r ∷ [] → r ≡ reply_of was command m → n ≡ after_command was command m → told ++ replies key rest m ≡ replies key commands empty → new ++ replies key left n ≡ replies key commands empty
 told_more key was commands rest left told new command r m n same split items reply step h =
     ap (λ l. l ++ replies key left n) items
     ∙ (append_assoc told (r ∷ []) (replies key left n)
     ∙ (ap (λ x. told ++ x ∷ replies key left n) (reply ∙ ap (λ f. reply_of f command m) same)
-    ∙ (ap (λ x. told ++ reply_of key command m ∷ replies key left x) (step ∙ ap (λ f. after f command m) same)
+    ∙ (ap (λ x. told ++ reply_of key command m ∷ replies key left x) (step ∙ ap (λ f. after_command f command m) same)
     ∙ (ap (λ l. told ++ replies key l m) (sym split) ∙ h))))

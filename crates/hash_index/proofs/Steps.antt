@@ -1,7 +1,7 @@
 -- Steps along a chain.
 use Rattle.std.proofs.Common.{◌≡◌, ◌≢◌, ◌∙◌, ℕ, zero, suc, ◌+◌, ◌<◌, ◌≤◌, List, [], ◌∷◌, ◌++◌, length, Option, Some, None, refl, sym, ap, arith, cond, eqb, subst, append_assoc, length-append}
 use Rattle.std.proofs.lemmas.Bool.{cond-false, false_from_ne_true}
-use Rattle.element_arena.specs.State.{ArenaState, IsTaken, link_at, link_in, key_at, with_link, times, slot_of}
+use Rattle.element_arena.specs.State.{ArenaState, IsTaken, link_at, link_in, key_at, with_link, times_in, slot_of}
 use Rattle.element_arena.specs.Threads.{IsThread, walk}
 use Rattle.element_arena.proofs.Counts.{one_same, one_other, times-append, get-set_other}
 use Rattle.element_arena.proofs.Indexing.{same_key-true}
@@ -24,7 +24,7 @@ walk_step n next i t =
 pub chain_step : (a : ArenaState) (i : ℕ) → IsChain a (Some i) → (chain_of a (Some i) ≡ i ∷ chain_of a (link_at a.links i)) × IsChain a (link_at a.links i) × IsTaken a i
 chain_step a i c =
     let s = walk_step (length a.slots) (link_at a.links) i c.thread in
-    let count : (j : ℕ) → times j (chain_of a (Some i)) ≡ cond {A = ℕ} (eqb i j) 1 0 + times j (chain_of a (link_at a.links i)) = λ j. ap (times j) s.0 in
+    let count : (j : ℕ) → times_in j (chain_of a (Some i)) ≡ cond {A = ℕ} (eqb i j) 1 0 + times_in j (chain_of a (link_at a.links i)) = λ j. ap (times_in j) s.0 in
     (s.0, record { thread = s.1; taken = λ j h. c.taken j (omega (arith, count j)) }, c.taken i (omega (arith, count i, one_same i)))
 
 pub chain_at : (a : ArenaState) (o : Option ℕ) (i : ℕ) → IsChain a o → o ≡ Some i → IsChain a (Some i)
@@ -48,10 +48,10 @@ shorter a o r i c e next =
     let m : length (chain_of a r) ≡ length (chain_of a (link_at a.links i)) = ap (λ p. length (chain_of a p)) next in
     omega arith
 
-pub on_first : (a : ArenaState) (first slot : ℕ) (r : Option ℕ) → IsChain a (Some first) → first ≢ slot → 0 < times slot (chain_of a (Some first)) → r ≡ link_at a.links first → IsOn a (chain_of a (Some first)) first r slot
+pub on_first : (a : ArenaState) (first slot : ℕ) (r : Option ℕ) → IsChain a (Some first) → first ≢ slot → 0 < times_in slot (chain_of a (Some first)) → r ≡ link_at a.links first → IsOn a (chain_of a (Some first)) first r slot
 on_first a first slot r c ne held next =
     let s = chain_step a first c in
-    let count : times slot (chain_of a (Some first)) ≡ cond {A = ℕ} (eqb first slot) 1 0 + times slot (chain_of a (link_at a.links first)) = ap (times slot) s.0 in
+    let count : times_in slot (chain_of a (Some first)) ≡ cond {A = ℕ} (eqb first slot) 1 0 + times_in slot (chain_of a (link_at a.links first)) = ap (times_in slot) s.0 in
     record {
       front = [];
       back = chain_of a (link_at a.links first);
@@ -69,14 +69,14 @@ module _ (a : ArenaState) (first : Option ℕ) (last : ℕ) (at : Option ℕ) (s
   pub on_taken : (here : ℕ) → IsChain a first → IsOn a (chain_of a first) last at slot → at ≡ Some here → IsTaken a here
   on_taken here c p e =
       let s = thread-some (link_at a.links) at p.back here p.thread e in
-      let count : times here (chain_of a first) ≡ times here (p.front ++ last ∷ here ∷ s.0) = ap (times here) (p.split ∙ ap (λ xs. p.front ++ last ∷ xs) s.1) in
+      let count : times_in here (chain_of a first) ≡ times_in here (p.front ++ last ∷ here ∷ s.0) = ap (times_in here) (p.split ∙ ap (λ xs. p.front ++ last ∷ xs) s.1) in
       c.taken here (omega (arith, times-append here p.front (last ∷ here ∷ s.0), one_same here))
 
   pub on_next : (here : ℕ) (r : Option ℕ) → IsOn a (chain_of a first) last at slot → at ≡ Some here → here ≢ slot → r ≡ link_at a.links here → IsOn a (chain_of a first) here r slot
   on_next here r p e ne next =
       let s = thread-some (link_at a.links) at p.back here p.thread e in
-      let count : times slot p.back ≡ cond {A = ℕ} (eqb here slot) 1 0 + times slot s.0 = ap (times slot) s.1 in
-      let h : 0 < times slot p.back = p.held in
+      let count : times_in slot p.back ≡ cond {A = ℕ} (eqb here slot) 1 0 + times_in slot s.0 = ap (times_in slot) s.1 in
+      let h : 0 < times_in slot p.back = p.held in
       record {
         front = p.front ++ last ∷ [];
         back = s.0;
@@ -99,13 +99,13 @@ module _ (a : ArenaState) (first : Option ℕ) (last : ℕ) (at : Option ℕ) (s
   pub on_end : {A : Type 0} → IsOn a (chain_of a first) last at slot → at ≡ None → A
   on_end p e =
       let z : p.back ≡ [] = thread-none (link_at a.links) at p.back p.thread e in
-      let count : times slot p.back ≡ 0 = ap (times slot) z in
-      let h : 0 < times slot p.back = p.held in
+      let count : times_in slot p.back ≡ 0 = ap (times_in slot) z in
+      let h : 0 < times_in slot p.back = p.held in
       absurd (omega arith)
 
-pub before_in : (chain : List ℕ) (last slot : ℕ) → IsBefore chain last slot → (0 < times last chain) × (0 < times slot chain)
+pub before_in : (chain : List ℕ) (last slot : ℕ) → IsBefore chain last slot → (0 < times_in last chain) × (0 < times_in slot chain)
 before_in chain last slot p =
-    let count : (j : ℕ) → times j chain ≡ times j (p.front ++ last ∷ slot ∷ p.back) = λ j. ap (times j) p.split in
+    let count : (j : ℕ) → times_in j chain ≡ times_in j (p.front ++ last ∷ slot ∷ p.back) = λ j. ap (times_in j) p.split in
     (omega (arith, count last, times-append last p.front (last ∷ slot ∷ p.back), one_same last), omega (arith, count slot, times-append slot p.front (last ∷ slot ∷ p.back), one_same slot))
 
 pub cut_first : (a : ArenaState) (first slot : ℕ) (r : Option ℕ) → IsChain a (Some first) → first ≡ slot → r ≡ link_at a.links slot → IsCut a a (Some first) slot r
@@ -117,20 +117,20 @@ cut_first a first slot r c e next =
       others = λ j h. refl;
       left = chain_of a (link_at a.links first);
       thread = subst (λ o. IsThread (link_at a.links) o (chain_of a (link_at a.links first))) (sym at) s.1.thread;
-      fewer = λ j. let count : times j (chain_of a (Some first)) ≡ cond {A = ℕ} (eqb first j) 1 0 + times j (chain_of a (link_at a.links first)) = ap (times j) s.0 in
+      fewer = λ j. let count : times_in j (chain_of a (Some first)) ≡ cond {A = ℕ} (eqb first j) 1 0 + times_in j (chain_of a (link_at a.links first)) = ap (times_in j) s.0 in
           let c1 : cond {A = ℕ} (eqb first j) 1 0 ≡ cond {A = ℕ} (eqb slot j) 1 0 = ap (λ z. cond {A = ℕ} (eqb z j) 1 0) e in omega arith;
     }
 
-pub cut_after : (a b : ArenaState) (first last slot : ℕ) (r : Option ℕ) → IsChain a (Some first) → ((j : ℕ) → times j (chain_of a (Some first)) ≤ 1) → IsBefore (chain_of a (Some first)) last slot → r ≡ link_at a.links slot → b ≡ with_link a last r → link_at b.links last ≡ r →
+pub cut_after : (a b : ArenaState) (first last slot : ℕ) (r : Option ℕ) → IsChain a (Some first) → ((j : ℕ) → times_in j (chain_of a (Some first)) ≤ 1) → IsBefore (chain_of a (Some first)) last slot → r ≡ link_at a.links slot → b ≡ with_link a last r → link_at b.links last ≡ r →
     IsCut a b (Some first) slot (Some first)
 cut_after a b first last slot r c once p next new linked =
     let at : (j : ℕ) → j ≢ last → link_at b.links j ≡ link_at a.links j = λ j n. ap (λ (z : ArenaState). link_at z.links j) new ∙ ap link_in (get-set_other a.links last j r n) in
-    let count : (j : ℕ) → times j (chain_of a (Some first)) ≡ times j (p.front ++ last ∷ slot ∷ p.back) = λ j. ap (times j) p.split in
-    let in_ : 0 < times last (chain_of a (Some first)) = (before_in _ last slot p).0 in
+    let count : (j : ℕ) → times_in j (chain_of a (Some first)) ≡ times_in j (p.front ++ last ∷ slot ∷ p.back) = λ j. ap (times_in j) p.split in
+    let in_ : 0 < times_in last (chain_of a (Some first)) = (before_in _ last slot p).0 in
     record {
       rest = new ∙ ap (λ (z : ArenaState). let w : ArenaState = record a { links = z.links } in w) (sym new);
-      others = λ j h. at j (λ y. let z : times last (chain_of a (Some first)) ≡ 0 = subst (λ k. times k (chain_of a (Some first)) ≡ 0) y h in absurd (omega arith));
+      others = λ j h. at j (λ y. let z : times_in last (chain_of a (Some first)) ≡ 0 = subst (λ k. times_in k (chain_of a (Some first)) ≡ 0) y h in absurd (omega arith));
       left = p.front ++ last ∷ p.back;
-      thread = thread-skip (link_at a.links) (link_at b.links) (Some first) p.front p.back last slot (subst (IsThread (link_at a.links) (Some first)) p.split c.thread) (λ j. let o : times j (chain_of a (Some first)) ≤ 1 = once j in omega (arith, count j)) (linked ∙ next) (λ j h n m. at j n);
+      thread = thread-skip (link_at a.links) (link_at b.links) (Some first) p.front p.back last slot (subst (IsThread (link_at a.links) (Some first)) p.split c.thread) (λ j. let o : times_in j (chain_of a (Some first)) ≤ 1 = once j in omega (arith, count j)) (linked ∙ next) (λ j h n m. at j n);
       fewer = λ j. omega (arith, count j, times-append j p.front (last ∷ slot ∷ p.back), times-append j p.front (last ∷ p.back));
     }

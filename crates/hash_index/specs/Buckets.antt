@@ -3,7 +3,7 @@ use Rattle.std.specs.Prelude.{◌≡◌, ℕ, ◌<◌, ◌≤◌, List, [], ◌�
 use Rattle.std.specs.Ordering.{nat_cmp}
 use Rattle.std.specs.Cmp.Lexicographic.{slice_cmp}
 use Rattle.std.specs.FinMap.{FinMap}
-use Rattle.element_arena.specs.State.{ArenaState, IsTaken, link_at, key_at, times, contents_of}
+use Rattle.element_arena.specs.State.{ArenaState, IsTaken, link_at, key_at, times_in, contents_of}
 use Rattle.element_arena.specs.Threads.{IsThread, walk}
 use Rattle.element_arena.proofs.Indexing.{AreUnique}
 use Rattle.hash_index.specs.Order.{IsLeastOf}
@@ -23,17 +23,17 @@ abbrev pub contents_in : Buckets → ArenaState → FinMap (slice_cmp nat_cmp) �
 contents_in x a = contents_of (key_at a.slots) (slots_in x.heads.items a)
 
 -- Each chain ends, and its slots are those of keys of its bucket. All slots are taken, stand once, and have different keys.
-pub record FitsIn (heads : List (Option ℕ)) (a : ArenaState) : Type 0 where
+pub record HeadsFit (heads : List (Option ℕ)) (a : ArenaState) : Type 0 where
   pub some : 0 < length heads
   pub thread : (k : ℕ) (o : Option ℕ) → slice_get heads k ≡ Some o → IsThread (link_at a.links) o (chain_of a o)
   pub home : (k : ℕ) (o : Option ℕ) → slice_get heads k ≡ Some o →
-      (j : ℕ) → 0 < times j (chain_of a o) → bucket_of (length heads) (key_at a.slots j) ≡ k
-  pub once : (j : ℕ) → times j (slots_in heads a) ≤ 1
-  pub taken : (j : ℕ) → 0 < times j (slots_in heads a) → IsTaken a j
+      (j : ℕ) → 0 < times_in j (chain_of a o) → bucket_of (length heads) (key_at a.slots j) ≡ k
+  pub once : (j : ℕ) → times_in j (slots_in heads a) ≤ 1
+  pub taken : (j : ℕ) → 0 < times_in j (slots_in heads a) → IsTaken a j
   pub unique : AreUnique (key_at a.slots) (slots_in heads a)
 
-abbrev pub Fits : Buckets → ArenaState → Type 0
-Fits x a = FitsIn x.heads.items a
+abbrev pub BucketsFits : Buckets → ArenaState → Type 0
+BucketsFits x a = HeadsFit x.heads.items a
 
 -- which chains are still to be searched for the least key
 pub record IsGathered (a : ArenaState) (bound : Option (List ℕ))

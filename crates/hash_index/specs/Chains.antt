@@ -1,6 +1,6 @@
 -- Chains of slots, and the slots of many chains.
 use Rattle.std.specs.Prelude.{◌≡◌, ℕ, ◌+◌, ◌<◌, ◌-◌, ◌*◌, ◌%◌, ◌^◌, bit_and, bit_xor, List, [], ◌∷◌, ◌++◌, Option, cond, eqb, length}
-use Rattle.element_arena.specs.State.{ArenaState, IsTaken, link_at, key_at, times}
+use Rattle.element_arena.specs.State.{ArenaState, IsTaken, link_at, key_at, times_in}
 use Rattle.element_arena.specs.Threads.{IsThread, walk}
 use Rattle.hash_index.specs.Order.{IsLeastOf}
 
@@ -23,7 +23,7 @@ chain_of a first = walk (length a.slots) (link_at a.links) first
 -- it ends, and its slots are taken
 pub record IsChain (a : ArenaState) (first : Option ℕ) : Type 0 where
   pub thread : IsThread (link_at a.links) first (chain_of a first)
-  pub taken : (j : ℕ) → 0 < times j (chain_of a first) → IsTaken a j
+  pub taken : (j : ℕ) → 0 < times_in j (chain_of a first) → IsTaken a j
 
 -- the last slot before another
 pub record IsBefore (chain : List ℕ) (last slot : ℕ) : Type 0 where
@@ -38,15 +38,15 @@ pub record IsOn (a : ArenaState) (chain : List ℕ) (last : ℕ) (at : Option �
   pub back : List ℕ
   pub split : chain ≡ front ++ last ∷ back
   pub thread : IsThread (link_at a.links) at back
-  pub held : 0 < times slot back
+  pub held : 0 < times_in slot back
 
 -- A slot was taken out of the chain from first, which begins with result now. Links of the chain alone have changed.
 pub record IsCut (a b : ArenaState) (first : Option ℕ) (slot : ℕ) (result : Option ℕ) : Type 0 where
   pub rest : b ≡ record a { links = b.links }
-  pub others : (j : ℕ) → times j (chain_of a first) ≡ 0 → link_at b.links j ≡ link_at a.links j
+  pub others : (j : ℕ) → times_in j (chain_of a first) ≡ 0 → link_at b.links j ≡ link_at a.links j
   pub left : List ℕ
   pub thread : IsThread (link_at b.links) result left
-  pub fewer : (j : ℕ) → times j (chain_of a first) ≡ times j left + cond (eqb slot j) 1 0
+  pub fewer : (j : ℕ) → times_in j (chain_of a first) ≡ times_in j left + cond (eqb slot j) 1 0
 
 -- how far the search for the least key has come: what is the least of the slots of front too
 pub record IsScanned (a : ArenaState) (bound : Option (List ℕ)) (first before at least : Option ℕ)

@@ -4,7 +4,7 @@ use Rattle.std.specs.Ordering.{nat_cmp}
 use Rattle.std.specs.declared.cmp.Ordering.TheVariants.{Less}
 use Rattle.std.specs.Cmp.Lexicographic.{slice_cmp}
 use Rattle.std.specs.FinMap.{FinMap, get}
-use Rattle.element_arena.specs.State.{times}
+use Rattle.element_arena.specs.State.{times_in}
 
 -- a comes before b in byte order
 abbrev pub IsLess : List ℕ → List ℕ → Type 0
@@ -26,7 +26,7 @@ NoneBetween m bound last =
 
 -- of these slots it is the one with the least key above the bound, or there is none
 abbrev pub IsLeastOf : (ℕ → List ℕ) → Option (List ℕ) → List ℕ → Option ℕ → Type 0
-IsLeastOf key bound slots None = (j : ℕ) → 0 < times j slots → IsAbove bound (key j) → ⊥
+IsLeastOf key bound slots None = (j : ℕ) → 0 < times_in j slots → IsAbove bound (key j) → ⊥
 IsLeastOf key bound slots (Some i) =
-    (0 < times i slots) × IsAbove bound (key i)
-    × ((j : ℕ) → 0 < times j slots → IsAbove bound (key j) → IsLess (key j) (key i) → ⊥)
+    (0 < times_in i slots) × IsAbove bound (key i)
+    × ((j : ℕ) → 0 < times_in j slots → IsAbove bound (key j) → IsLess (key j) (key i) → ⊥)

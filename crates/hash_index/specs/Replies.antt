@@ -25,29 +25,29 @@ reply_of key (Unlink k) m = get m k.items
 reply_of key (Above bound) m = first_above (option_map (λ k. k.items) bound) (entries m)
 
 -- the map after the command: a slot joins whose key is absent, or a key leaves
-abbrev pub after : (ℕ → List ℕ) → Command → FinMap (slice_cmp nat_cmp) ℕ →
+abbrev pub after_command : (ℕ → List ℕ) → Command → FinMap (slice_cmp nat_cmp) ℕ →
     FinMap (slice_cmp nat_cmp) ℕ
-after key (Link slot) m = if is_some (get m (key slot)) then m else insert m (key slot) slot
-after key (Find k) m = m
-after key (Unlink k) m = remove m k.items
-after key (Above bound) m = m
+after_command key (Link slot) m = if is_some (get m (key slot)) then m else insert m (key slot) slot
+after_command key (Find k) m = m
+after_command key (Unlink k) m = remove m k.items
+after_command key (Above bound) m = m
 
 -- the reply to each command, in order
 abbrev pub replies : (ℕ → List ℕ) → List Command → FinMap (slice_cmp nat_cmp) ℕ → List (Option ℕ)
 replies key [] m = []
 replies key (command ∷ commands) m =
-    reply_of key command m ∷ replies key commands (after key command m)
+    reply_of key command m ∷ replies key commands (after_command key command m)
 
 -- a slot that is to be linked is taken
-abbrev pub IsReady : ArenaState → Command → Type 0
-IsReady a (Link slot) = IsTaken a slot
-IsReady a (Find k) = Unit {0}
-IsReady a (Unlink k) = Unit {0}
-IsReady a (Above bound) = Unit {0}
+abbrev pub IsReadyCommand : ArenaState → Command → Type 0
+IsReadyCommand a (Link slot) = IsTaken a slot
+IsReadyCommand a (Find k) = Unit {0}
+IsReadyCommand a (Unlink k) = Unit {0}
+IsReadyCommand a (Above bound) = Unit {0}
 
-abbrev pub AreReady : ArenaState → List Command → Type 0
-AreReady a [] = Unit {0}
-AreReady a (command ∷ commands) = IsReady a command × AreReady a commands
+abbrev pub AreReadyCommands : ArenaState → List Command → Type 0
+AreReadyCommands a [] = Unit {0}
+AreReadyCommands a (command ∷ commands) = IsReadyCommand a command × AreReadyCommands a commands
 
 -- each slot of the map stands under its own key
 abbrev pub IsKeyed : (ℕ → List ℕ) → FinMap (slice_cmp nat_cmp) ℕ → Type 0

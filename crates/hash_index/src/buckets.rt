@@ -3,7 +3,7 @@ ghost use Rattle.std.specs.Prelude.{◌≡◌, ◌<◌, ◌≤◌, ◌/◌, IfOk
 ghost use Rattle.std.specs.Int.{IsPowerOfTwo};
 ghost use Rattle.bpf_model.specs.declared.limits.TheConstants.{MAX_ENTRIES};
 ghost use Rattle.element_arena.specs.State.{key_at};
-ghost use Rattle.hash_index.specs.Buckets.{FitsIn, slots_in};
+ghost use Rattle.hash_index.specs.Buckets.{HeadsFit, slots_in};
 ghost use Rattle.hash_index.specs.Order.{IsLeastOf};
 
 use crate::chain::{cut, least_with, search};
@@ -42,7 +42,7 @@ fn empty_heads(alloc: Global, count: usize) -> Result<Vec<Option<usize>>, AllocE
 
 /// The slot of the least key above a bound, of all chains.
 fn least_in(heads: &[Option<usize>], arena: &Arena, bound: Option<&[u8]>) -> Option<usize>
-    requires { FitsIn heads.now arena.now }
+    requires { HeadsFit heads.now arena.now }
     ensures { IsLeastOf (key_at arena.now.slots) (option_copied bound.entry)
         (slots_in heads.now arena.now) result }
 {
@@ -54,11 +54,11 @@ fn least_in(heads: &[Option<usize>], arena: &Arena, bound: Option<&[u8]>) -> Opt
 }
 
 impl Index for Buckets {
-    ghost use Rattle.hash_index.specs.Buckets.{contents_in, Fits};
+    ghost use Rattle.hash_index.specs.Buckets.{contents_in, BucketsFits};
 
     ghost contents = { contents_in };
 
-    ghost fits = { Fits };
+    ghost fits = { BucketsFits };
 
     fn new(alloc: Global, entries: usize, _slots: usize) -> Result<Self, AllocError> {
         Ok(Buckets {

@@ -1,6 +1,6 @@
 //! Chains of slots, by the links that stand in them.
 ghost use Rattle.std.specs.Prelude.{◌≡◌, ◌≢◌, ◌<◌, ◌≤◌, Some, ◌++◌, ℕ, List, length, IsTrue, option_copied, IfSome, ◌∷◌, []};
-ghost use Rattle.element_arena.specs.State.{key_at, times, slot_of};
+ghost use Rattle.element_arena.specs.State.{key_at, times_in, slot_of};
 ghost use Rattle.hash_index.specs.Order.{IsLeastOf};
 ghost use Rattle.hash_index.specs.Chains.{IsChain, IsBefore, IsCut, chain_of};
 
@@ -26,7 +26,7 @@ pub(crate) fn search(arena: &Arena, first: Option<usize>, key: &[u8]) -> Option<
 fn before(arena: &Arena, first: usize, slot: usize) -> usize
     requires chain { IsChain arena.now (Some first) }
     requires other { first ≢ slot }
-    requires held { 0 < times slot (chain_of arena.now (Some first)) }
+    requires held { 0 < times_in slot (chain_of arena.now (Some first)) }
     ensures { IsBefore (chain_of arena.now (Some first)) result slot }
 {
     let mut last = first;
@@ -44,8 +44,8 @@ fn before(arena: &Arena, first: usize, slot: usize) -> usize
 /// Takes a slot out of a chain, and answers the first slot that is left.
 pub(crate) fn cut(arena: &mut Arena, first: usize, slot: usize) -> Option<usize>
     requires chain { IsChain arena.old (Some first) }
-    requires once { (j : ℕ) → times j (chain_of arena.old (Some first)) ≤ 1 }
-    requires held { 0 < times slot (chain_of arena.old (Some first)) }
+    requires once { (j : ℕ) → times_in j (chain_of arena.old (Some first)) ≤ 1 }
+    requires held { 0 < times_in slot (chain_of arena.old (Some first)) }
     ensures { IsCut arena.old arena.new (Some first) slot result }
 {
     let rest = arena.next_of(slot);

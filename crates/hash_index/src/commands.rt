@@ -2,7 +2,7 @@
 ghost use Rattle.std.specs.Prelude.{◌≡◌, ◌≤◌, IfOk, is_some, option_map, length, if◌then◌else◌};
 ghost use Rattle.std.specs.FinMap as map;
 ghost use Rattle.element_arena.specs.State.{IsTaken, key_at};
-ghost use Rattle.hash_index.specs.Replies.{IsKeyed, IsReady, AreReady, first_above, reply_of, after, replies};
+ghost use Rattle.hash_index.specs.Replies.{IsKeyed, IsReadyCommand, AreReadyCommands, first_above, reply_of, after_command, replies};
 
 use crate::index::Index;
 use bpf_model::KeyBytes;
@@ -78,12 +78,12 @@ fn find_above<I: Index>(index: &I, arena: &Arena, bound: &Option<KeyBytes>) -> O
 /// Does one command.
 fn step<I: Index>(index: &mut I, arena: &mut Arena, command: &Command) -> Option<usize>
     requires fits { I.fits index.old arena.old }
-    requires ready { IsReady arena.old command.now }
+    requires ready { IsReadyCommand arena.old command.now }
     requires keyed { IsKeyed (key_at arena.old.slots) (I.contents index.old arena.old) }
     ensures reply { result
         ≡ reply_of (key_at arena.old.slots) command.now (I.contents index.old arena.old) }
     ensures contents { I.contents index.new arena.new
-        ≡ after (key_at arena.old.slots) command.now (I.contents index.old arena.old) }
+        ≡ after_command (key_at arena.old.slots) command.now (I.contents index.old arena.old) }
     ensures fits { I.fits index.new arena.new }
     ensures links { arena.new ≡ record arena.old { links = arena.new.links } }
 {
@@ -104,7 +104,7 @@ pub fn run<I: Index + Drop>(
     commands: &[Command],
 ) -> Result<Vec<Option<usize>>, AllocError>
     requires slots { length arena.old.slots ≤ slots }
-    requires ready { AreReady arena.old commands.now }
+    requires ready { AreReadyCommands arena.old commands.now }
     ensures { IfOk result (λ all. all.items
         ≡ replies (key_at arena.old.slots) commands.now map.empty) }
 {

@@ -11,7 +11,7 @@ mod commands;
 mod hash;
 mod index;
 mod keys;
-mod place;
+mod position;
 mod sorted;
 
 pub use buckets::Buckets;

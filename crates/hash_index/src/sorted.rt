@@ -2,7 +2,7 @@
 ghost use Rattle.std.specs.Prelude.{◌≡◌, ◌<◌, ◌≤◌, IfOk, insert, vec_capacity, vec_len};
 
 use crate::index::Index;
-use crate::place::{find_in, least_above, place};
+use crate::position::{find_in, least_above, position};
 use element_arena::Arena;
 use std::alloc::{AllocError, Global};
 
@@ -13,14 +13,14 @@ pub struct Sorted {
     slots: Vec<usize>,
 }
 
-/// Puts a slot at a place of a list that has room.
-fn put_at(list: &mut Vec<usize>, place: usize, slot: usize)
+/// Puts a slot at a position of a list that has room.
+fn put_at(list: &mut Vec<usize>, position: usize, slot: usize)
     requires room { vec_len list.old < vec_capacity list.old }
-    requires place { place ≤ vec_len list.old }
-    ensures items { list.new.items ≡ insert list.old.items place slot }
+    requires position { position ≤ vec_len list.old }
+    ensures items { list.new.items ≡ insert list.old.items position slot }
     ensures room { vec_capacity list.old ≤ vec_capacity list.new }
 {
-    match list.insert(place, slot) {
+    match list.insert(position, slot) {
         Ok(()) => (),
         Err(_) => unreachable!(),
     }
@@ -54,13 +54,13 @@ impl Index for Sorted {
     }
 
     fn link(&mut self, arena: &mut Arena, slot: usize) {
-        let place = place(&self.slots, arena, arena.key(slot));
-        put_at(&mut self.slots, place, slot);
+        let position = position(&self.slots, arena, arena.key(slot));
+        put_at(&mut self.slots, position, slot);
     }
 
     fn unlink(&mut self, arena: &mut Arena, slot: usize) {
-        let place = place(&self.slots, arena, arena.key(slot));
-        let _slot = self.slots.remove(place);
+        let position = position(&self.slots, arena, arena.key(slot));
+        let _slot = self.slots.remove(position);
     }
 
     fn next_above(&self, arena: &Arena, bound: Option<&[u8]>) -> Option<usize> {

@@ -9,26 +9,22 @@ use Rattle.std.proofs.Common.{subst}
 use Rattle.bpf_model.specs.View.{SlotView, MapView}
 use Rattle.bpf_model.specs.Refines as refines
 use Rattle.element_arena.specs.State as state
-use Rattle.model_laws.specs.Near.{Location, InSlot}
+use Rattle.model_laws.specs.Locations.{Location, InSlot}
 use Rattle.view_laws.specs.Views as views
 use Rattle.maps.specs.Shown as shown
 use Rattle.world_laws.specs.Reaching as reaching
 use Rattle.helpers.specs.Elements.{IsReached, ReachesElement}
 
-same-key : (o : Option SlotView) → views.key_in o ≡ state.key_in o
-same-key None = refl
-same-key (Some s) = refl
-
-same-times : (i : ℕ) (xs : List ℕ) → refines.times i xs ≡ state.times i xs
+same-times : (i : ℕ) (xs : List ℕ) → refines.times i xs ≡ state.times_in i xs
 same-times i [] = refl
 same-times i (x ∷ xs) = sum_by-cons (λ (y : ℕ). cond {A = ℕ} (y == i) 1 0) x xs ∙ ap (λ n. cond (x == i) 1 0 + n) (same-times i xs)
 
 at-itself : (i : ℕ) → state.is_at (Some i) i ≡ 1
 at-itself i = ap (λ b. cond b 1 0) (eq-eqb i i refl)
 
-pub stands : (v : MapView) (i : ℕ) → reaching.IsOccupied v i → shown.IsOccupied v i
+pub stands : (v : MapView) (i : ℕ) → reaching.HasElement v i → shown.IsOccupied v i
 stands v i (inl h) =
-    let e : get v.index (state.key_at v.slots i) ≡ Some i = ap (get v.index) (sym (same-key (slice_get v.slots i))) ∙ h in
+    let e : get v.index (state.key_at v.slots i) ≡ Some i = h in
     let n : state.indexed v.index v.slots i ≡ 1 = ap (λ o. state.is_at o i) e ∙ at-itself i in
     omega arith
 stands v i (inr h) =
@@ -42,4 +38,4 @@ pub reached : (maps : List MapView) (width : ℕ) (offset : ℤ) (l : Location) 
 reached maps width offset l map slot o h e = subst (ReachesElement maps width offset) e h
 
 pub occupied : (maps : List MapView) (width map slot : ℕ) (offset : ℤ) (v : MapView) → IsReached maps width map slot offset → slice_get maps map ≡ Some v → shown.IsOccupied v slot
-occupied maps width map slot offset v h e = stands v slot (subst (λ (u : MapView). reaching.IsOccupied u slot) (same_Some h.view v (sym h.there ∙ e)) h.occupied)
+occupied maps width map slot offset v h e = stands v slot (subst (λ (u : MapView). reaching.HasElement u slot) (same_Some h.view v (sym h.there ∙ e)) h.occupied)

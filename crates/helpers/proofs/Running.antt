@@ -19,7 +19,7 @@ use Rattle.bpf_model.specs.Refines.{SlotRefines}
 use Rattle.bpf_model.specs.Schedule.{Schedule, is_open, still_open}
 use Rattle.bpf_model.specs.Step.{insn_at}
 use Rattle.bpf_model.specs.View.{RunView, WorldView}
-use Rattle.model_laws.specs.Near.{Location, InContext, InFrame, AtMap, InSlot}
+use Rattle.model_laws.specs.Locations.{Location, InContext, InFrame, AtMap, InSlot}
 use Rattle.view_laws.specs.Matching.{Matches}
 use Rattle.view_laws.proofs.Worlds.{awaited-same}
 use Rattle.world_laws.specs.Local.{Goes, Asks, local_of, local_load, local_store}
@@ -29,9 +29,9 @@ use Rattle.world_laws.specs.Reaching.{Reaches, IsWritable, HasArguments}
 use Rattle.world_laws.specs.Typed.{IsSound, IsRunning}
 use Rattle.world_laws.proofs.Ready.{refines}
 use Rattle.world_laws.proofs.Reaching.{load_reaches, load_signed_reaches, store_reaches, helper_arguments}
-use Rattle.world_runs.specs.declared.access.Access.{Access}
-use Rattle.world_runs.specs.declared.access.Access.TheVariants.{Call}
-use Rattle.world_runs.specs.Requests.{access_of, section_access}
+use Rattle.machine.specs.declared.access.Access.{Access}
+use Rattle.machine.specs.declared.access.Access.TheVariants.{Call}
+use Rattle.machine.specs.Requests.{access_of, section_access}
 use Rattle.helpers.specs.Calls.{IsCall}
 use Rattle.helpers.specs.Elements.{ReachesElement}
 use Rattle.helpers.specs.Serving.{CanServe, IsFlagged}

@@ -20,22 +20,22 @@ use Rattle.bpf_model.specs.Machine.{Loaded}
 use Rattle.bpf_model.specs.Schedule.{still_open}
 use Rattle.bpf_model.specs.View.{MapView, RunView, WorldView}
 use Rattle.grace_period.specs.State.{GraceState}
-use Rattle.model_laws.specs.Near.{Location, InContext, InFrame, AtMap, InSlot}
+use Rattle.model_laws.specs.Locations.{Location, InContext, InFrame, AtMap, InSlot}
 use Rattle.view_laws.specs.Reactions.{with_run, locked_view, unlocked_view}
 use Rattle.view_laws.proofs.Updating.{set-same}
 use Rattle.world_laws.specs.Calling.{serves, helped, helped_on, returned_view}
 use Rattle.world_laws.specs.Calling as calling
 use Rattle.world_laws.specs.Locating.{location_of, loaded_word, number_from, bytes_of, offset_at}
 use Rattle.world_laws.specs.Moving.{word_in, operand_word, with_word, moved_view, jumped_to, branched, moves_on, ended_view, stored_frame, stored_slot, stored_at}
-use Rattle.world_laws.specs.Local.{Local, Goes, Ends, Asks, local_of, local_load, local_store, Agrees}
+use Rattle.world_laws.specs.Local.{LocalStep, Goes, Ends, Asks, local_of, local_load, local_store, Agrees}
 use Rattle.world_laws.specs.Reacting.{insn_step}
 use Rattle.world_laws.proofs.Local.{local_agrees}
-use Rattle.world_runs.specs.declared.access.Access.{Access}
-use Rattle.world_runs.specs.declared.access.Access.TheVariants.{Call, Enter, Leave}
-use Rattle.world_runs.specs.declared.access.Local as code
-use Rattle.world_runs.specs.declared.access.Local.TheVariants as code_answers
-use Rattle.world_runs.specs.Steps.{IsStep}
-use Rattle.world_runs.specs.Requests.{access_of, section_access, entered_view, resumed_view}
+use Rattle.machine.specs.declared.access.Access.{Access}
+use Rattle.machine.specs.declared.access.Access.TheVariants.{Call, Enter, Leave}
+use Rattle.machine.specs.declared.access.Local as code
+use Rattle.machine.specs.declared.access.Local.TheVariants as code_answers
+use Rattle.machine.specs.Steps.{IsLocalStep}
+use Rattle.machine.specs.Requests.{access_of, section_access, entered_view, resumed_view}
 use Rattle.helpers.specs.Calls.{IsCall, called, called_on, called_at}
 use Rattle.helpers.specs.Elements.{ReachesElement, element_number, stored_in, stored_element}
 use Rattle.helpers.specs.Serving.{CanServe, IsReply, maps_after, grace_after, with_opened, IsFlagged, flags_of, world_with, IsOwnWorld}
@@ -145,7 +145,7 @@ module _ (r : ℕ) (v : RunView) (w : WorldView) (f : IsFlagged w r v) where
 abbrev pub SameRun : RunView → RunView → Type 0
 SameRun v new = (new.depth ≡ v.depth) × (new.program ≡ v.program)
 
-abbrev KeepsRun : RunView → Local → Type 0
+abbrev KeepsRun : RunView → LocalStep → Type 0
 KeepsRun v (Goes new) = SameRun v new
 KeepsRun v (Ends n) = Unit {0}
 KeepsRun v Asks = Unit {0}
@@ -189,7 +189,7 @@ keeps-run (insns.LoadSigned width dst src offset) v = load-run (byte_count (unsi
 keeps-run (insns.Store width dst offset src) v = store-run (byte_count width) offset (operand_word v src) (location_of (word_in v dst)) v
 
 module _ (r : ℕ) (v : RunView) (w : WorldView) (f : IsFlagged w r v) (asked : Option Access) (after : RunView) (x : Answer × WorldView) where
-  own : (local : Local) (answer : code.Local) → Agrees local r v w x → KeepsRun v local → IsStep local asked v answer after → IsOwnWorld answer asked r v after w x
+  own : (local : LocalStep) (answer : code.Local) → Agrees local r v w x → KeepsRun v local → IsLocalStep local asked v answer after → IsOwnWorld answer asked r v after w x
   own (Goes new) answer agrees same (e, g) = subst (λ (a : code.Local). IsOwnWorld a asked r v after w x) (sym e)
       (agrees ∙ moved r v w f w.maps new same.0 ∙ ap (λ (n : RunView). (let y : Answer × WorldView = (answers.Moved, world_with w.maps (flags_of w) r n w) in y)) (sym g))
   own (Ends n) answer agrees same (e, g) = subst (λ (a : code.Local). IsOwnWorld a asked r v after w x) (sym e)
@@ -197,23 +197,23 @@ module _ (r : ℕ) (v : RunView) (w : WorldView) (f : IsFlagged w r v) (asked : 
       ∙ ap (λ (u : RunView). (let y : Answer × WorldView = (answers.Exited n, world_with w.maps (flags_of w) r u w) in y)) (sym g))
   own Asks answer agrees same (access, is, e, g) = subst (λ (a : code.Local). IsOwnWorld a asked r v after w x) (sym e) (is, g)
 
-pub own_is : (i : Insn) (program : Loaded) (r : ℕ) (v after : RunView) (w : WorldView) (asked : Option Access) (answer : code.Local) → IsFlagged w r v → IsStep (local_of i v) asked v answer after → IsOwnWorld answer asked r v after w (insn_step i program r v w)
+pub own_is : (i : Insn) (program : Loaded) (r : ℕ) (v after : RunView) (w : WorldView) (asked : Option Access) (answer : code.Local) → IsFlagged w r v → IsLocalStep (local_of i v) asked v answer after → IsOwnWorld answer asked r v after w (insn_step i program r v w)
 own_is i program r v after w asked answer f h = own r v w f asked after (insn_step i program r v w) (local_of i v) answer (local_agrees i program r v w) (keeps-run i v) h
 
 -- the run after its step is of the same program, and as deep
-pub own_keeps : (i : Insn) (v after : RunView) (asked : Option Access) (answer : code.Local) → IsStep (local_of i v) asked v answer after → SameRun v after
+pub own_keeps : (i : Insn) (v after : RunView) (asked : Option Access) (answer : code.Local) → IsLocalStep (local_of i v) asked v answer after → SameRun v after
 own_keeps i v after asked answer h = by (local_of i v) (keeps-run i v) h
   where
-    by : (local : Local) → KeepsRun v local → IsStep local asked v answer after → SameRun v after
+    by : (local : LocalStep) → KeepsRun v local → IsLocalStep local asked v answer after → SameRun v after
     by (Goes new) same (e, g) = subst (SameRun v) (sym g) same
     by (Ends n) same (e, g) = subst (SameRun v) (sym g) (refl, refl)
     by Asks same (access, is, e, g) = subst (SameRun v) (sym g) (refl, refl)
 
 -- where it asks, it asks by the law too
-pub own_asks : (i : Insn) (v after : RunView) (asked : Option Access) (access : Access) → IsStep (local_of i v) asked v (code_answers.Shared access) after → (local_of i v ≡ Asks) × (asked ≡ Some access) × (after ≡ v)
+pub own_asks : (i : Insn) (v after : RunView) (asked : Option Access) (access : Access) → IsLocalStep (local_of i v) asked v (code_answers.Shared access) after → (local_of i v ≡ Asks) × (asked ≡ Some access) × (after ≡ v)
 own_asks i v after asked access h = by (local_of i v) h
   where
-    by : (local : Local) → IsStep local asked v (code_answers.Shared access) after → (local ≡ Asks) × (asked ≡ Some access) × (after ≡ v)
+    by : (local : LocalStep) → IsLocalStep local asked v (code_answers.Shared access) after → (local ≡ Asks) × (asked ≡ Some access) × (after ≡ v)
     by (Goes new) (e, g) = absurd (cc)
     by (Ends n) (e, g) = absurd (cc)
     by Asks (other, is, e, g) = let same : access ≡ other = cc in (refl, is ∙ ap Some (sym same), g)

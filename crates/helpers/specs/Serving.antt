@@ -10,11 +10,11 @@ use Rattle.bpf_model.specs.Schedule.{still_open}
 use Rattle.bpf_model.specs.View.{MapView, RunView, WorldView}
 use Rattle.grace_period.specs.State.{GraceState}
 use Rattle.world_laws.specs.Locating.{location_of}
-use Rattle.world_runs.specs.declared.access.Access.{Access}
-use Rattle.world_runs.specs.declared.access.Access.TheVariants.{Load, Store, Call, Enter, Leave}
-use Rattle.world_runs.specs.declared.access.Local.{Local}
-use Rattle.world_runs.specs.declared.access.Local.TheVariants.{Moved, Shared, Exit}
-use Rattle.world_runs.specs.Requests.{resumed_view}
+use Rattle.machine.specs.declared.access.Access.{Access}
+use Rattle.machine.specs.declared.access.Access.TheVariants.{Load, Store, Call, Enter, Leave}
+use Rattle.machine.specs.declared.access.Local.{Local}
+use Rattle.machine.specs.declared.access.Local.TheVariants.{Moved, Shared, Exit}
+use Rattle.machine.specs.Requests.{resumed_view}
 use Rattle.helpers.specs.Elements.{ReachesElement, element_number, stored_element}
 use Rattle.helpers.specs.Calls.{IsCall, called}
 

@@ -2,8 +2,8 @@
 ghost use Rattle.std.specs.Prelude.{◌≡◌, ℕ, ◌+◌, ◌^◌, ◌<◌, pos, ◌+ℤ◌};
 ghost use Rattle.bpf_model.specs.declared.limits.TheConstants.{MAX_MAPS, MAX_ENTRIES, MAX_SPARE};
 ghost use Rattle.bpf_model.specs.Word.{slot_base};
-ghost use Rattle.model_laws.specs.Near.{InSlot};
-ghost use Rattle.world_laws.specs.Locating.{location_of, offset_of, region_of};
+ghost use Rattle.model_laws.specs.Locations.{InSlot};
+ghost use Rattle.world_laws.specs.Locating.{location_of, word_offset, word_region};
 ghost use Rattle.helpers.specs.Elements.{IsInSlot};
 
 use bpf_model::{MAX_ENTRIES, MAX_SPARE};
@@ -40,7 +40,7 @@ pub(crate) fn slot_word(map: usize, slot: usize) -> u64
 /// The number of the region near whose first byte a word lies.
 #[inline]
 fn region_of(word: u64) -> u64
-    ensures { result ≡ region_of word }
+    ensures { result ≡ word_region word }
 {
     word / SPAN + (word % SPAN + NEAR) / SPAN
 }
@@ -49,7 +49,7 @@ fn region_of(word: u64) -> u64
 #[inline]
 pub(crate) fn place_of(word: u64) -> Place
     requires { IsInSlot (location_of word) }
-    ensures { location_of word ≡ InSlot result.map result.slot (offset_of word) }
+    ensures { location_of word ≡ InSlot result.map result.slot (word_offset word) }
 {
     let number = (region_of(word) - SLOT_BASE / SPAN) as usize;
     Place {
@@ -61,7 +61,7 @@ pub(crate) fn place_of(word: u64) -> Place
 /// An offset from a word, counted from the first byte of its region.
 #[inline]
 pub(crate) fn offset_in(word: u64, offset: i16) -> usize
-    ensures { (at : ℕ) → at < 2 ^ 31 → offset_of word +ℤ offset ≡ pos at → result ≡ at }
+    ensures { (at : ℕ) → at < 2 ^ 31 → word_offset word +ℤ offset ≡ pos at → result ≡ at }
 {
     let address = word.wrapping_add(i64::from(offset).cast_unsigned());
     (address % SPAN) as usize

@@ -10,8 +10,8 @@ ghost use Rattle.helpers.specs.Calls.{IsCall, called};
 
 use crate::address::slot_word;
 use bpf_model::{Errno, Helper, MapId, Reg};
+use machine::Run;
 use maps::{Map, Registry};
-use world_runs::Run;
 
 /// What a helper leaves in r0 for a result: 0, or the error as a negative number.
 fn word_of(outcome: Result<(), Errno>) -> u64

@@ -11,16 +11,16 @@ ghost use Rattle.world_laws.specs.Local.{Asks, local_of};
 ghost use Rattle.world_laws.specs.Reaching as reaching;
 ghost use Rattle.world_laws.specs.Reacting.{insn_step};
 ghost use Rattle.world_laws.specs.Typed.{IsRunning, IsSound};
-ghost use Rattle.world_runs.specs.declared.access.Access.{Access};
-ghost use Rattle.world_runs.specs.declared.access.Local.{Local};
-ghost use Rattle.world_runs.specs.Requests.{access_of};
-ghost use Rattle.world_runs.specs.Steps.{IsStep};
+ghost use Rattle.machine.specs.declared.access.Access.{Access};
+ghost use Rattle.machine.specs.declared.access.Local.{Local};
+ghost use Rattle.machine.specs.Requests.{access_of};
+ghost use Rattle.machine.specs.Steps.{IsLocalStep};
 ghost use Rattle.helpers.specs.Serving.{CanServe, IsFlagged, IsOwnWorld, IsReply, served_step};
 
 /// A slot that has an element, linked under its own key or waiting in one of the three lists,
 /// stands somewhere in its map: what a world knows of a slot is what a map asks.
 pub fn occupied_stands()
-    ensures { (v : MapView) (i : ℕ) → reaching.IsOccupied v i → shown.IsOccupied v i }
+    ensures { (v : MapView) (i : ℕ) → reaching.HasElement v i → shown.IsOccupied v i }
 {}
 
 /// Where a run's instruction asks something, the world's step is what `serve` leaves, with the
@@ -36,7 +36,7 @@ pub fn served_is_the_worlds()
 pub fn own_changes_the_run()
     ensures { (insn : Insn) (program : Loaded) (r : ℕ) (v after : RunView) (w : WorldView)
         (asked : Option Access) (answer : Local) → IsFlagged w r v →
-        IsStep (local_of insn v) asked v answer after →
+        IsLocalStep (local_of insn v) asked v answer after →
         IsOwnWorld answer asked r v after w (insn_step insn program r v w) }
 {}
 

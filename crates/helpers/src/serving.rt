@@ -7,8 +7,8 @@ use crate::element::{load, store};
 use crate::section::{enter, leave};
 use bpf_model::RunId;
 use grace_period::Grace;
+use machine::{Access, Run};
 use maps::Registry;
-use world_runs::{Access, Run};
 
 /// Serves what the run in a slot asks, and answers the word with which it goes on. `bound` has
 /// the numbers of its program's maps.

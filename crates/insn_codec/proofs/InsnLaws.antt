@@ -26,7 +26,7 @@ use Rattle.bpf_model.specs.declared.insn.CallKind.TheVariants.{Helper, Kernel}
 use Rattle.bpf_model.specs.declared.insn.Insn.{Insn}
 use Rattle.bpf_model.specs.declared.insn.Insn.TheVariants.{Alu, Unary, LoadNumber, LoadMap, Jump, JumpLong, JumpIf, Call, Exit, Load, LoadSigned, Store}
 use Rattle.bpf_model.specs.Opcode.{opcode_byte}
-use Rattle.bpf_model.specs.Spelling.{FitsInsn, slots_of, slot_count, first_slot, tail_slot, opcode_of, code_of, offset_of, extension_size, extension_bits, swap_bits, call_source}
+use Rattle.bpf_model.specs.Spelling.{FitsInsn, slots_of, slot_count, first_slot, tail_slot, opcode_of, code_of, alu_offset, extension_size, extension_bits, swap_bits, call_source}
 use Rattle.insn_codec.specs.Begins.{BeginsWith}
 use Rattle.insn_codec.specs.Faults.{flaw_with, is_excluded}
 
@@ -122,7 +122,7 @@ abbrev is_signed_move : AluCode → ℤ → Bool
 is_signed_move codes.Move z = not (int_eq z (pos 0))
 is_signed_move _ z = false
 
-operation_again : (p : AluOp) → (operation_for (code_of p) (offset_of p) ≡ p) × (is_signed_move (code_of p) (offset_of p) ≡ false)
+operation_again : (p : AluOp) → (operation_for (code_of p) (alu_offset p) ≡ p) × (is_signed_move (code_of p) (alu_offset p) ≡ false)
 unfolding operation_for
 operation_again operations.Add = (refl, refl)
 operation_again operations.Sub = (refl, refl)

@@ -1,7 +1,7 @@
 //! Bytes out of programs.
 ghost use Rattle.std.specs.Prelude.{pos, ◌%◌, ◌≡◌, ◌<◌, ◌≤◌, ◌/◌, ◌^◌, ◌++◌, OnOk, IfOk};
 ghost use Rattle.std.specs.Int.{w32, cast_signed};
-ghost use Rattle.bpf_model.specs.Spelling.{FitsInsn, FitsOperand, FitsSlot, slot_bytes, spelling, text, code_of, offset_of, extension_size, extension_bits, swap_bits, source_of, operand_src, operand_imm, slot as slot_of};
+ghost use Rattle.bpf_model.specs.Spelling.{FitsInsn, FitsOperand, FitsSlot, slot_bytes, spelling, text, code_of, alu_offset, extension_size, extension_bits, swap_bits, source_of, operand_src, operand_imm, slot as slot_of};
 ghost use Rattle.bpf_model.specs.Spelling.{FitsUnary, IsProgram, first_slot as first_slot_of, unary_slot as unary_slot_of, tail_slot as tail_slot_of, call_source as call_source_of};
 
 use crate::opcode::byte_of;
@@ -33,7 +33,7 @@ fn code_of(op: AluOp) -> AluCode
 }
 
 fn offset_of(op: AluOp) -> i16
-    ensures { result ≡ offset_of op }
+    ensures { result ≡ alu_offset op }
 {
     match op {
         AluOp::SignedDiv | AluOp::SignedMod => 1,

@@ -1,7 +1,7 @@
 //! Instructions out of slots.
 ghost use Rattle.std.specs.Prelude.{[], ◌≤◌, OnErr, ◌≢◌, ◌⊎◌, pos, IsNone, ◌≡◌, ◌%◌, ◌/◌, ◌^◌, ◌∷◌, take, IfOk, IfErr, IfSome, true, false, option_to_list, option_copied};
 ghost use Rattle.std.specs.Int.{w32, cast_signed};
-ghost use Rattle.bpf_model.specs.Spelling.{offset_of, extension_size, extension_bits, swap_bits, FitsSlot, FitsInsn, slots_of, call_source, source_of, first_slot, slot_count, code_of, opcode_of};
+ghost use Rattle.bpf_model.specs.Spelling.{alu_offset, extension_size, extension_bits, swap_bits, FitsSlot, FitsInsn, slots_of, call_source, source_of, first_slot, slot_count, code_of, opcode_of};
 ghost use Rattle.bpf_model.specs.declared.insn.Insn.{Insn};
 ghost use Rattle.bpf_model.specs.Opcode.{opcode_byte};
 ghost use Rattle.insn_codec.specs.Begins.{BeginsWith};
@@ -59,7 +59,7 @@ fn has_unused_field(opcode: Opcode, slot: Slot) -> bool
 
 /// The operation of a code, which the offset tells where the code has two.
 fn op_of(code: AluCode, offset: i16) -> Option<AluOp>
-    ensures some { IfSome result (λ p. (code_of p ≡ code) × (offset_of p ≡ offset)) }
+    ensures some { IfSome result (λ p. (code_of p ≡ code) × (alu_offset p ≡ offset)) }
     ensures none { IsNone result →
         (offset ≢ pos 0) × ((code ≡ AluCode.Div) ⊎ (code ≡ AluCode.Mod) → offset ≢ pos 1) }
 {

@@ -44,7 +44,7 @@ pub enum Fault {
 }
 
 impl Fault {
-    ghost use Rattle.kind_tests.specs.Numbers.{fault_number};
+    ghost use Rattle.kind_tests.specs.FaultNumbers.{fault_number};
 
     /// The number by which the fault is known, 23 to 39, or 13 for want of memory.
     pub fn code(self) -> u8

@@ -18,7 +18,7 @@ use Rattle.bpf_model.specs.Access.{byte_count, unsigned_width}
 use Rattle.bpf_model.specs.Call.{helper_of, kernel_function_of}
 use Rattle.bpf_model.specs.Element.{Element}
 use Rattle.bpf_model.specs.Machine.{Run, environment}
-use Rattle.bpf_model.specs.MachineStep.{AccessesElement, Acts, Ends, HelperStep, InsnStep, KernelStep, bound_map, element_load, element_store}
+use Rattle.bpf_model.specs.MachineStep.{AccessesElement, Acts, OutcomeStep, HelperStep, InsnStep, KernelStep, bound_map, element_load, element_store}
 use Rattle.bpf_model.specs.MapState as map_state
 use Rattle.bpf_model.specs.Operand.{operand_value}
 use Rattle.bpf_model.specs.Section.{Section}
@@ -95,7 +95,7 @@ pub record StepsAnywhere (i : Insn) (run : Run) (answer : Answer) (new : Run) : 
   pub anywhere : (t : map_state.Store) (others : List Section) → InsnStep i t others run answer t new
   pub own : HoldsState IsOwn new.state
 
-ends-own : (out : Outcome) (run : Run) (answer : Answer) (new : Run) → HoldsState IsOwn run.state → HoldsOutcome IsOwn out → Ends out run answer new → HoldsState IsOwn new.state
+ends-own : (out : Outcome) (run : Run) (answer : Answer) (new : Run) → HoldsState IsOwn run.state → HoldsOutcome IsOwn out → OutcomeStep out run answer new → HoldsState IsOwn new.state
 ends-own (Moves next) run answer new p q h = subst (λ (r : Run). HoldsState IsOwn r.state) (sym h.1) q
 ends-own (Exits n) run answer new p q h = subst (λ (r : Run). HoldsState IsOwn r.state) (sym h.2) p
 

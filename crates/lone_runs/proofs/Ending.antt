@@ -3,10 +3,10 @@ use Rattle.std.proofs.Common.{◌≡◌, ℕ, ◌+◌, ◌<◌, List, length, su
 use Rattle.bpf_model.specs.Exit.{ExitsWith, MayExitWith}
 use Rattle.bpf_model.specs.View.{RunView}
 use Rattle.model_laws.proofs.Exits.{one_exit}
-use Rattle.map_verifier.specs.Checked.{Checked}
-use Rattle.map_verifier.specs.Verdict.{IsJustified}
-use Rattle.map_verifier.proofs.Plans.{length_slots}
-use Rattle.world_runs.specs.RunWords.{RunWords}
+use Rattle.verifier.specs.Checked.{Checked}
+use Rattle.verifier.specs.Verdict.{IsJustified}
+use Rattle.verifier.proofs.Plans.{length_slots}
+use Rattle.machine.specs.RunWords.{RunWords}
 use Rattle.lone_runs.specs.Lone.{Finishes, StandsAlone, loaded_alone}
 use Rattle.lone_runs.proofs.Going.{moves-below}
 

@@ -32,18 +32,18 @@ use Rattle.world_laws.specs.Calling.{entered}
 use Rattle.world_laws.specs.Local as laws
 use Rattle.world_laws.specs.Moving.{ended_view, ends_with, moves_on}
 use Rattle.world_laws.specs.Reacting.{full_reaction, insn_step}
-use Rattle.world_laws.specs.Typed.{IsReady, IsRunning, IsSound}
+use Rattle.world_laws.specs.Typed.{IsReadyWorld, IsRunning, IsSound}
 use Rattle.world_laws.proofs.Local.{asks_nothing}
 use Rattle.world_laws.proofs.Ready.{refines}
 use Rattle.world_laws.proofs.Worlds.{ready_stays, simulates, tracked_is_sound}
-use Rattle.map_verifier.specs.Checked.{Checked}
-use Rattle.world_runs.specs.declared.access.Access.{Access}
-use Rattle.world_runs.specs.declared.access.Access.TheVariants as accesses
-use Rattle.world_runs.specs.declared.access.Local.TheVariants as locals
-use Rattle.world_runs.specs.Requests.{access_of, entered_view, resumed_view, section_access}
-use Rattle.world_runs.specs.Steps.{CanResume, CanStep, IsStep}
-use Rattle.world_runs.proofs.Laws.{can_resume, can_step}
-use Rattle.world_runs.proofs.Reacting.{own_step, reacts_by_insn}
+use Rattle.verifier.specs.Checked.{Checked}
+use Rattle.machine.specs.declared.access.Access.{Access}
+use Rattle.machine.specs.declared.access.Access.TheVariants as accesses
+use Rattle.machine.specs.declared.access.Local.TheVariants as locals
+use Rattle.machine.specs.Requests.{access_of, entered_view, resumed_view, section_access}
+use Rattle.machine.specs.Steps.{CanResume, CanStep, IsLocalStep}
+use Rattle.machine.proofs.Laws.{can_resume, can_step}
+use Rattle.machine.proofs.Reacting.{own_step, reacts_by_insn}
 use Rattle.lone_runs.specs.Lone.{StandsAlone, loaded_alone}
 use Rattle.lone_runs.proofs.Alone.{StepsAnywhere, helper-own, acts-own, steps_anywhere}
 
@@ -55,7 +55,7 @@ set-there runs old new None e h = absurd (none-some old h)
 set-there runs old new (Some before) e h = get-set_same runs 0 before new e
 
 -- what asks nothing isn't shared
-never-shared : (l : laws.Local) (asked : Option Access) (view after : RunView) (access : Access) → laws.AsksNothing l → IsStep l asked view (locals.Shared access) after → ⊥
+never-shared : (l : laws.LocalStep) (asked : Option Access) (view after : RunView) (access : Access) → laws.AsksNothing l → IsLocalStep l asked view (locals.Shared access) after → ⊥
 never-shared (laws.Goes new) asked view after access a h = let e : locals.Shared access ≡ locals.Moved = h.0 in absurd (cc)
 never-shared (laws.Ends n) asked view after access a h = let e : locals.Shared access ≡ locals.Exit n = h.0 in absurd (cc)
 never-shared laws.Asks asked view after access a h = absurd a
@@ -153,7 +153,7 @@ module _ (v : Checked) (view : RunView) (x : StandsAlone v view) where
   pub record Stepped (answer : Answer) (w : WorldView) : Type 0 where
     pub next : Schedule
     pub tracks : TracksSchedule w next
-    pub ready : IsReady w
+    pub ready : IsReadyWorld w
     pub run : Run
     pub there : run_at next.machine.runs 0 ≡ Some run
     pub insn : Insn
@@ -164,7 +164,7 @@ module _ (v : Checked) (view : RunView) (x : StandsAlone v view) where
   passes : refusal m (events.Step 0) ≡ None
   passes = ap step_refusal x.running.there ∙ ap if_ended x.running.going
 
-  stepped-by : (answer : Answer) (w : WorldView) (next : Schedule) → TracksSchedule w next → IsReady w → StepsRun m 0 answer next.machine → Stepped answer w
+  stepped-by : (answer : Answer) (w : WorldView) (next : Schedule) → TracksSchedule w next → IsReadyWorld w → StepsRun m 0 answer next.machine → Stepped answer w
   stepped-by answer w next tracks ready st =
       let same : st.run ≡ x.run = same_Some st.run x.run (sym st.there ∙ x.running.there) in
       let step : RunStep m.store (open_sections m.runs) x.run answer st.new_store st.new_run = subst (λ r. RunStep m.store (open_sections m.runs) r answer st.new_store st.new_run) same st.step in
@@ -185,7 +185,7 @@ module _ (v : Checked) (view : RunView) (x : StandsAlone v view) where
       let n = simulates x.world x.schedule (events.Step 0) x.tracks x.ready (omega arith) in
       let does : DoesScheduled x.schedule (events.Step 0) answer n.0 = subst (λ (y : Answer × WorldView). DoesScheduled x.schedule (events.Step 0) y.0 n.0) e n.1 in
       let tracks : TracksSchedule w n.0 = subst (λ (y : Answer × WorldView). TracksSchedule y.1 n.0) e n.2 in
-      let ready : IsReady w = subst (λ (y : Answer × WorldView). IsReady y.1) e (ready_stays x.world (events.Step 0) x.ready) in
+      let ready : IsReadyWorld w = subst (λ (y : Answer × WorldView). IsReadyWorld y.1) e (ready_stays x.world (events.Step 0) x.ready) in
       stepped-by answer w n.0 tracks ready (subst (λ (o : Option EventRefusal). Answers o m (events.Step 0) answer n.0.machine) passes does.step)
 
   anywhere : (answer : Answer) (w : WorldView) (g : Stepped answer w) (store : map_state.Store) (opened : List Section) → RunStep store opened x.run answer store g.run
@@ -235,14 +235,14 @@ module _ (v : Checked) (view : RunView) (x : StandsAlone v view) where
 
   -- it asks for a section alone
   asks-by : (insn : Insn) (answer : Answer) (new_store : map_state.Store) (new : Run) → insn_at x.run.program.code x.run.state.place ≡ Some insn → InsnStep insn m.store (open_sections m.runs) x.run answer new_store new
-      → (access : Access) (after : RunView) → IsStep (laws.local_of insn view) (access_of insn view) view (locals.Shared access) after → AsksSection view after insn access
+      → (access : Access) (after : RunView) → IsLocalStep (laws.local_of insn view) (access_of insn view) view (locals.Shared access) after → AsksSection view after insn access
   asks-by (Call kinds.Kernel imm) answer new_store new here h access after s = section-asked view after imm (kernel_function_of imm) s.0 access refl s.1 s.2 s.3
   asks-by (Call kinds.Helper imm) answer new_store new here h access after s = absurd (helper-own (helper_of imm) m.store (open_sections m.runs) x.run h.0 new_store x.own h.1)
   asks-by i answer new_store new here h access after s =
       let a = acts-own i (environment x.run) m.store.elements x.run.state h.0 h.1 x.own h.2 in
       absurd (never-shared (laws.local_of i view) (access_of i view) view after access (asks_nothing x.world x.schedule matches sound 0 x.run view x.running i h.0 here a.0) s)
 
-  pub asks : (insn : Insn) → insn_at v.program view.place ≡ Some insn → (access : Access) (after : RunView) → IsStep (laws.local_of insn view) (access_of insn view) view (locals.Shared access) after → AsksSection view after insn access
+  pub asks : (insn : Insn) → insn_at v.program view.place ≡ Some insn → (access : Access) (after : RunView) → IsLocalStep (laws.local_of insn view) (access_of insn view) view (locals.Shared access) after → AsksSection view after insn access
   asks insn here access after s =
       let n = well_never_stuck m sound.well 0 x.run x.running.there x.running.going in
       let at = place-is ∙ here in
@@ -250,18 +250,18 @@ module _ (v : Checked) (view : RunView) (x : StandsAlone v view) where
       asks-by insn n.0 n.1 n.2 at (subst (λ (i : Insn). InsnStep i m.store (open_sections m.runs) x.run n.0 n.1 n.2) same n.3.2) access after s
 
   -- the words after its own step, after its exit, and after it was let through a lock or an unlock
-  moved-by : (new : RunView) (insn : Insn) → insn_at v.program view.place ≡ Some insn → IsStep (laws.local_of insn view) (access_of insn view) view locals.Moved new → Further v view new
+  moved-by : (new : RunView) (insn : Insn) → insn_at v.program view.place ≡ Some insn → IsLocalStep (laws.local_of insn view) (access_of insn view) view locals.Moved new → Further v view new
   moved-by new insn here s = goes-on new (reacts insn here ∙ own_step insn (loaded_alone v) 0 view new x.world (access_of insn view) locals.Moved s)
 
-  pub moves : (new : RunView) → ((insn : Insn) → insn_at v.program view.place ≡ Some insn → IsStep (laws.local_of insn view) (access_of insn view) view locals.Moved new) → Further v view new
+  pub moves : (new : RunView) → ((insn : Insn) → insn_at v.program view.place ≡ Some insn → IsLocalStep (laws.local_of insn view) (access_of insn view) view locals.Moved new) → Further v view new
   moves new s = moved-by new steps.insn steps.here (s steps.insn steps.here)
 
-  exited-by : (n : ℕ) (new : RunView) (insn : Insn) → insn_at v.program view.place ≡ Some insn → IsStep (laws.local_of insn view) (access_of insn view) view (locals.Exit n) new → ExitsWith (loaded_alone v) view.context (view.moved + 1) n × (new.moved ≡ view.moved)
+  exited-by : (n : ℕ) (new : RunView) (insn : Insn) → insn_at v.program view.place ≡ Some insn → IsLocalStep (laws.local_of insn view) (access_of insn view) view (locals.Exit n) new → ExitsWith (loaded_alone v) view.context (view.moved + 1) n × (new.moved ≡ view.moved)
   exited-by n new insn here s =
       let o = own_step insn (loaded_alone v) 0 view new x.world (access_of insn view) (locals.Exit n) s in
       (finishes n (reacts insn here ∙ o.0), ap (λ (u : RunView). u.moved) o.1)
 
-  pub exits : (n : ℕ) (new : RunView) → ((insn : Insn) → insn_at v.program view.place ≡ Some insn → IsStep (laws.local_of insn view) (access_of insn view) view (locals.Exit n) new) → ExitsWith (loaded_alone v) view.context (view.moved + 1) n × (new.moved ≡ view.moved)
+  pub exits : (n : ℕ) (new : RunView) → ((insn : Insn) → insn_at v.program view.place ≡ Some insn → IsLocalStep (laws.local_of insn view) (access_of insn view) view (locals.Exit n) new) → ExitsWith (loaded_alone v) view.context (view.moved + 1) n × (new.moved ≡ view.moved)
   exits n new s = exited-by n new steps.insn steps.here (s steps.insn steps.here)
 
   passes-section : (insn : Insn) (access : Access) (word : ℕ) (after : RunView) → insn_at v.program view.place ≡ Some insn → AsksSection view after insn access → Further v view (resumed_view insn word view)
@@ -271,7 +271,7 @@ module _ (v : Checked) (view : RunView) (x : StandsAlone v view) where
 
   -- what a step leaves that asks something: it may be resumed, and then it has moved
   abbrev Shares : Access → RunView → Type 0
-  Shares access after = (insn : Insn) → insn_at v.program view.place ≡ Some insn → IsStep (laws.local_of insn view) (access_of insn view) view (locals.Shared access) after
+  Shares access after = (insn : Insn) → insn_at v.program view.place ≡ Some insn → IsLocalStep (laws.local_of insn view) (access_of insn view) view (locals.Shared access) after
 
   pub shares : (access : Access) (after : RunView) → Shares access after → AsksSection view after steps.insn access
   shares access after s = asks steps.insn steps.here access after (s steps.insn steps.here)

@@ -30,10 +30,10 @@ use Rattle.typed_runs.specs.Verified.{IsVerified}
 use Rattle.typed_runs.specs.Well.{AreVerified, IsVerifiedFor}
 use Rattle.view_laws.specs.Reactions.{fresh_view, start_by, with_run}
 use Rattle.world_laws.specs.Reacting.{full_reaction}
-use Rattle.world_laws.specs.Typed.{ArePrograms, IsInsn, IsOperand, IsProgram, IsReady, IsUnary}
+use Rattle.world_laws.specs.Typed.{AreTypedPrograms, IsInsn, IsOperand, IsTypedProgram, IsReadyWorld, IsUnary}
 use Rattle.world_laws.proofs.Worlds.{ready_stays, simulates, starts_ready}
-use Rattle.map_verifier.specs.Checked.{Checked}
-use Rattle.map_verifier.specs.Verdict.{IsJustified}
+use Rattle.verifier.specs.Checked.{Checked}
+use Rattle.verifier.specs.Verdict.{IsJustified}
 use Rattle.lone_runs.specs.Lone.{StandsAlone, loaded_alone}
 use Rattle.lone_runs.proofs.Alone.{own-closed}
 
@@ -90,10 +90,10 @@ module _ (v : Checked) (justified : IsJustified v) (verified : IsVerified v.prog
     verified = verified;
   })
 
-  are-programs : ArePrograms programs
-  are-programs = one IsProgram (loaded_alone v) (record { code = code-real v.program justified.program.fits; maps = omega arith })
+  are-programs : AreTypedPrograms programs
+  are-programs = one IsTypedProgram (loaded_alone v) (record { code = code-real v.program justified.program.fits; maps = omega arith })
 
-  ready : IsReady world
+  ready : IsReadyWorld world
   ready = starts_ready [] programs (omega arith) are-verified are-programs
 
   tracked : TracksSchedule world (start_schedule [] programs)
@@ -108,7 +108,7 @@ module _ (v : Checked) (justified : IsJustified v) (verified : IsVerified v.prog
   accepted : refusal (start_schedule [] programs).machine event ≡ None
   accepted = ap (λ b. if b then None else Some BadContext) same-length
 
-  stands-by : (next : Schedule) → TracksSchedule begun next → IsReady begun → Starts (start_schedule [] programs).machine 0 context 0 next.machine → StandsAlone v (fresh_view 0 context)
+  stands-by : (next : Schedule) → TracksSchedule begun next → IsReadyWorld begun → Starts (start_schedule [] programs).machine 0 context 0 next.machine → StandsAlone v (fresh_view 0 context)
   stands-by next tracks ready s =
       let same : s.program ≡ loaded_alone v = same_Some s.program (loaded_alone v) (sym s.there) in
       record {
@@ -131,5 +131,5 @@ module _ (v : Checked) (justified : IsJustified v) (verified : IsVerified v.prog
   starts =
       let n = simulates world (start_schedule [] programs) event tracked ready (omega arith, bytes) in
       let does : DoesScheduled (start_schedule [] programs) event (Started 0) n.0 = subst (λ (y : Answer × WorldView). DoesScheduled (start_schedule [] programs) event y.0 n.0) begins n.1 in
-      stands-by n.0 (subst (λ (y : Answer × WorldView). TracksSchedule y.1 n.0) begins n.2) (subst (λ (y : Answer × WorldView). IsReady y.1) begins (ready_stays world event ready))
+      stands-by n.0 (subst (λ (y : Answer × WorldView). TracksSchedule y.1 n.0) begins n.2) (subst (λ (y : Answer × WorldView). IsReadyWorld y.1) begins (ready_stays world event ready))
       (subst (λ (o : Option EventRefusal). Answers o (start_schedule [] programs).machine event (Started 0) n.0.machine) accepted does.step)

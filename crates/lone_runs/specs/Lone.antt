@@ -6,9 +6,9 @@ use Rattle.bpf_model.specs.Refines.{TracksSchedule}
 use Rattle.bpf_model.specs.Schedule.{Schedule}
 use Rattle.bpf_model.specs.View.{RunView, WorldView}
 use Rattle.model_laws.specs.Alone.{HoldsState, IsOwn}
-use Rattle.world_laws.specs.Typed.{IsReady, IsRunning}
-use Rattle.map_verifier.specs.Checked.{Checked}
-use Rattle.world_runs.specs.RunWords.{RunWords, IsAt}
+use Rattle.world_laws.specs.Typed.{IsReadyWorld, IsRunning}
+use Rattle.verifier.specs.Checked.{Checked}
+use Rattle.machine.specs.RunWords.{RunWords, IsAt}
 use Rattle.lone_runs.specs.declared.step.Step.{Step}
 use Rattle.lone_runs.specs.declared.step.Step.TheVariants.{Moved, Exit}
 
@@ -23,7 +23,7 @@ pub record StandsAlone (v : Checked) (view : RunView) : Type 0 where
   pub schedule : Schedule
   pub run : Run
   pub tracks : TracksSchedule world schedule
-  pub ready : IsReady world
+  pub ready : IsReadyWorld world
   pub running : IsRunning world schedule 0 run view
   pub program : run.program ≡ loaded_alone v
   pub own : HoldsState IsOwn run.state

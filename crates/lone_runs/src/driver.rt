@@ -6,7 +6,7 @@ ghost use Rattle.lone_runs.specs.Lone.{loaded_alone};
 
 use crate::step::{Step, start_alone, step_alone};
 use bpf_model::CtxBytes;
-use map_verifier::Verified;
+use verifier::Verified;
 
 /// How a run ended: its exit value, and how many steps it made, the exit among them.
 #[derive(Clone, Copy, Debug, PartialEq, Eq)]

@@ -4,8 +4,8 @@ ghost use Rattle.bpf_model.specs.Event.{AreBytes};
 ghost use Rattle.lone_runs.specs.Lone.{IsLone, IsStep};
 
 use bpf_model::CtxBytes;
-use map_verifier::Verified;
-use world_runs::{Access, Local, Run};
+use machine::{Access, Local, Run};
+use verifier::Verified;
 
 /// What a step came to.
 #[derive(Clone, Copy, Debug, PartialEq, Eq)]

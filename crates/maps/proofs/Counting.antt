@@ -8,11 +8,11 @@ use Rattle.bpf_model.specs.declared.event.Given.{Given}
 use Rattle.bpf_model.specs.declared.event.Given.TheVariants.{Free, Worn}
 use Rattle.bpf_model.specs.declared.limits.MapShape.{MapShape}
 use Rattle.bpf_model.specs.MapState.{IsShape, slots_of_shape}
-use Rattle.element_arena.specs.State.{times}
+use Rattle.element_arena.specs.State.{times_in}
 use Rattle.element_arena.specs.State as arena
 use Rattle.element_arena.proofs.Counts.{times-append, length_once}
 use Rattle.deferred_free.specs.Queued.{queued, reaped_lists}
-use Rattle.view_laws.specs.Views.{given_at, given_back, reaped_view, filled, retired_slot}
+use Rattle.view_laws.specs.Views.{given_at, slot_given_back, reaped_view, filled, retired_slot}
 use Rattle.maps.specs.declared.counts.Counts.{Counts}
 use Rattle.maps.specs.Counting.{unlinked_in, worn_in, counts_linked, counts_reaped, IsCounted}
 use Rattle.maps.specs.Parted.{PartsView, IsParted, standings}
@@ -25,7 +25,7 @@ module _ (shape : MapShape) (p : PartsView) (n : ℕ) (h : IsParted p) (m : IsMa
   abbrev listed : List ℕ
   listed = (p.lists.next ++ p.lists.waiting) ++ p.lists.ready
 
-  times-listed : (i : ℕ) → times i listed ≡ queued p.lists i
+  times-listed : (i : ℕ) → times_in i listed ≡ queued p.lists i
   times-listed i = omega (arith, times-append i (p.lists.next ++ p.lists.waiting) p.lists.ready, times-append i p.lists.next p.lists.waiting)
 
   pub few-unlinked : unlinked_in (map_view shape p) ≤ 8192
@@ -62,7 +62,7 @@ length-rest [] i e = absurd (none-some i e)
 length-rest (x ∷ xs) i e = omega arith
 
 reaped-by : (shape : MapShape) (p r : PartsView) (i : ℕ) (given : Given) (c : Counts) → IsCounted shape p c → IsMap shape r c.linked → slice_get p.lists.ready 0 ≡ Some i →
-    map_view shape r ≡ given_back given i (map_view shape p) → IsCounted shape r (counts_reaped given c)
+    map_view shape r ≡ slot_given_back given i (map_view shape p) → IsCounted shape r (counts_reaped given c)
 reaped-by shape p r i Free c h k first e = record {
   kept = k;
   few = h.few;
@@ -92,4 +92,4 @@ reaped-counted shape p r i l given c h first s g e =
       arena = record { slots = h.kept.arena.slots; key_len = h.kept.arena.key_len; value_len = h.kept.arena.value_len; limit = h.kept.arena.limit; keys = h.kept.arena.keys; values = h.kept.arena.values };
       count = h.kept.count;
     } in
-    reaped-by shape p r i given c h (subst (λ (z : PartsView). IsMap shape z c.linked) (sym s) k) first (e ∙ ap (λ z. given_back z i (map_view shape p)) (sym g))
+    reaped-by shape p r i given c h (subst (λ (z : PartsView). IsMap shape z c.linked) (sym s) k) first (e ∙ ap (λ z. slot_given_back z i (map_view shape p)) (sym g))

@@ -12,12 +12,12 @@ use Rattle.bpf_model.specs.declared.limits.MapShape.{MapShape}
 use Rattle.bpf_model.specs.MapState.{IsShape}
 use Rattle.std.proofs.lemmas.Option.{none-some}
 use Rattle.bpf_model.specs.View.{MapView, unused_slot, new_map_view}
-use Rattle.element_arena.specs.State.{times, is_at, indexed, key_at, value_at, worn_at, new_arena}
+use Rattle.element_arena.specs.State.{times_in, is_at, indexed, key_at, value_at, worn_at, new_arena}
 use Rattle.element_arena.proofs.Counts.{one_cases}
 use Rattle.maps.specs.Parted.{PartsView, IsParted}
 use Rattle.maps.specs.Shown.{map_view, IsMap}
 
-range-times : (a n i : ℕ) → (times i (range_with_len a n) ≤ 1) × (0 < times i (range_with_len a n) → (a ≤ i) × (i < a + n))
+range-times : (a n i : ℕ) → (times_in i (range_with_len a n) ≤ 1) × (0 < times_in i (range_with_len a n) → (a ≤ i) × (i < a + n))
 range-times a zero i = (omega arith, λ h. absurd (omega arith))
 range-times a (suc n) i =
     let r = range-times (a + 1) n i in
@@ -25,11 +25,11 @@ range-times a (suc n) i =
       | inl y ↦
           let c : cond {A = ℕ} (eqb a i) 1 0 ≡ 1 = y.1 in
           let e : a ≡ i = y.0 in
-          let z : times i (range_with_len (a + 1) n) ≡ 0 = none (times i (range_with_len (a + 1) n)) (λ h. let b = (r.1 h).0 in omega arith) in
+          let z : times_in i (range_with_len (a + 1) n) ≡ 0 = none (times_in i (range_with_len (a + 1) n)) (λ h. let b = (r.1 h).0 in omega arith) in
           (omega arith, λ h. (omega arith, omega arith))
       | inr ne ↦
           let c : cond {A = ℕ} (eqb a i) 1 0 ≡ 0 = ne.1 in
-          let o : times i (range_with_len (a + 1) n) ≤ 1 = r.0 in
+          let o : times_in i (range_with_len (a + 1) n) ≤ 1 = r.0 in
           (omega arith, λ h. let b = r.1 (omega arith) in let b0 : a + 1 ≤ i = b.0 in let b1 : i < a + 1 + n = b.1 in (omega arith, omega arith))
     ]
   where

@@ -13,14 +13,14 @@ use Rattle.element_arena.proofs.Counts.{bool_cases}
 use Rattle.view_laws.specs.Views.{given_at, reaped_view}
 use Rattle.view_laws.specs.Views as views
 use Rattle.view_laws.proofs.Lists.{len-remove_found}
-use Rattle.deferred_free.specs.Queued.{retired_slot, reaped_lists}
+use Rattle.deferred_free.specs.Queued.{retired_lists, reaped_lists}
 use Rattle.maps.specs.Parted.{PartsView}
 use Rattle.maps.specs.Shown.{map_view, IsMap, IsOfShape}
 
 pub retired-kept : (shape : MapShape) (p r : PartsView) (i n : ℕ) → IsMap shape p n → get p.index (key_at p.arena.slots i) ≡ Some i →
-    r ≡ record { index = remove p.index (key_at p.arena.slots i); lists = retired_slot p.lists i; arena = record p.arena { links = r.arena.links } } → IsMap shape r (n - 1)
+    r ≡ record { index = remove p.index (key_at p.arena.slots i); lists = retired_lists p.lists i; arena = record p.arena { links = r.arena.links } } → IsMap shape r (n - 1)
 retired-kept shape p r i n h g e =
-    let k : IsMap shape (record { index = remove p.index (key_at p.arena.slots i); lists = retired_slot p.lists i; arena = record p.arena { links = r.arena.links } }) (n - 1) = record {
+    let k : IsMap shape (record { index = remove p.index (key_at p.arena.slots i); lists = retired_lists p.lists i; arena = record p.arena { links = r.arena.links } }) (n - 1) = record {
       valid = h.valid;
       arena = record { slots = h.arena.slots; key_len = h.arena.key_len; value_len = h.arena.value_len; limit = h.arena.limit; keys = h.arena.keys; values = h.arena.values };
       count = ap (λ m. m - 1) h.count ∙ sym (len-remove_found p.index (key_at p.arena.slots i) i g);
@@ -67,6 +67,6 @@ module _ (shape : MapShape) (p : PartsView) (i : ℕ) (l : List (Option ℕ)) (a
     | inl y ↦
         ap (λ b. by_last b) y
         ∙ (ap (λ n. with_worn n) (count-set p.arena.worn i w h)
-        ∙ sym (ap (λ gv. views.given_back gv i (map_view shape p)) (given-is ∙ cond-true _ _ _ y)))
-    | inr n ↦ ap (λ b. by_last b) n ∙ sym (ap (λ gv. views.given_back gv i (map_view shape p)) (given-is ∙ cond-false _ _ _ n))
+        ∙ sym (ap (λ gv. views.slot_given_back gv i (map_view shape p)) (given-is ∙ cond-true _ _ _ y)))
+    | inr n ↦ ap (λ b. by_last b) n ∙ sym (ap (λ gv. views.slot_given_back gv i (map_view shape p)) (given-is ∙ cond-false _ _ _ n))
   ]

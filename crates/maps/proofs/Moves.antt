@@ -2,10 +2,10 @@
 use Rattle.std.proofs.Common.{◌≡◌, ◌≢◌, ◌∙◌, ℕ, ◌+◌, ◌<◌, ◌≤◌, List, [], ◌∷◌, ◌++◌, length, Some, None, refl, sym, ap, arith, cond, eqb, subst}
 use Rattle.std.specs.FinMap.{get, insert, remove}
 use Rattle.bpf_model.specs.Schedule.{Queues, turned}
-use Rattle.element_arena.specs.State.{ArenaState, IsTaken, LinksOf, SameAt, is_at, indexed, times, link_in, key_at, taken, given_back, with_value}
+use Rattle.element_arena.specs.State.{ArenaState, IsTaken, LinksOf, SameAt, is_at, indexed, times_in, link_in, key_at, taken, given_back, with_value}
 use Rattle.element_arena.proofs.Counts.{one_same, one_other, times-append, length-set, get-set_other}
-use Rattle.deferred_free.specs.Queued.{queued, retired_slot, reaped_lists}
-use Rattle.maps.specs.Parted.{KeyMap, PartsView, standings, IsParted, IsHeld}
+use Rattle.deferred_free.specs.Queued.{queued, retired_lists, reaped_lists}
+use Rattle.maps.specs.Parted.{KeyMap, PartsView, standings, IsParted, IsInHand}
 use Rattle.maps.proofs.Parting.{standing-taken, indexed-insert, parted-links, parted-inserted, parted-removed, removed-held, parted-retired, parted-turned, parted-reaped, parted-taken, taken-held, taken-indexed, other-key, taken-key, parted-given, written-key, parted-written}
 
 -- an arena that is another but for its links has the same slots taken
@@ -15,7 +15,7 @@ taken-links a b j e t =
     subst (λ z. IsTaken z j) (sym e) c
 
 -- and the same slots in hand
-pub held-links : (m : KeyMap) (q : Queues) (a b : ArenaState) (j : ℕ) → b ≡ record a { links = b.links } → IsHeld (record { index = m; lists = q; arena = a }) j → IsHeld (record { index = m; lists = q; arena = b }) j
+pub held-links : (m : KeyMap) (q : Queues) (a b : ArenaState) (j : ℕ) → b ≡ record a { links = b.links } → IsInHand (record { index = m; lists = q; arena = a }) j → IsInHand (record { index = m; lists = q; arena = b }) j
 held-links m q a b j e h = record {
   taken = taken-links a b j e h.taken;
   unlinked = ap (λ (z : ArenaState). indexed m z.slots j) e ∙ h.unlinked;
@@ -45,7 +45,7 @@ module _ (X Y : Type 0) (contents : X → ArenaState → KeyMap) (fits_index : X
   pub unlinked-step : (x x' : X) (y : Y) (a b : ArenaState) (i : ℕ) → (fits_index x a × fits_lists y a) × IsParted (record { index = contents x a; lists = lists y a; arena = a }) →
       get (contents x a) (key_at a.slots i) ≡ Some i → contents x' b ≡ remove (contents x a) (key_at a.slots i) → fits_index x' b → LinksOf (indexed (contents x a) a.slots) a b →
       let r : PartsView = record { index = contents x' b; lists = lists y b; arena = b } in let s : PartsView = record { index = remove (contents x a) (key_at a.slots i); lists = lists y a; arena = b } in
-      (((fits_index x' b × fits_lists y b) × IsParted r) × (r ≡ s)) × IsHeld r i
+      (((fits_index x' b × fits_lists y b) × IsParted r) × (r ≡ s)) × IsInHand r i
   unlinked-step x x' y a b i w found e f l =
       let p : PartsView = record { index = contents x a; lists = lists y a; arena = a } in
       let h : IsParted (record { index = contents x a; lists = lists y a; arena = a }) = w.1 in
@@ -54,26 +54,26 @@ module _ (X Y : Type 0) (contents : X → ArenaState → KeyMap) (fits_index : X
       (λ j g. standing-taken (record { index = contents x a; lists = lists y a; arena = a }) j h (omega arith))) in
       let pb = parted-links (remove (contents x a) (key_at a.slots i)) (lists y a) a b l.rest (parted-removed (record { index = contents x a; lists = lists y a; arena = a }) i h found) in
       let s = settle x' y b (remove (contents x a) (key_at a.slots i)) (lists y a) f fd.0 e fd.1 pb in
-      (s, subst (λ (z : PartsView). IsHeld z i) (sym s.1) (held-links (remove (contents x a) (key_at a.slots i)) (lists y a) a b i l.rest (removed-held (record { index = contents x a; lists = lists y a; arena = a }) i h found)))
+      (s, subst (λ (z : PartsView). IsInHand z i) (sym s.1) (held-links (remove (contents x a) (key_at a.slots i)) (lists y a) a b i l.rest (removed-held (record { index = contents x a; lists = lists y a; arena = a }) i h found)))
 
   pub retired-step : (x : X) (y y' : Y) (a b : ArenaState) (i : ℕ) → (fits_index x a × fits_lists y a) × IsParted (record { index = contents x a; lists = lists y a; arena = a }) →
-      IsHeld (record { index = contents x a; lists = lists y a; arena = a }) i → lists y' b ≡ retired_slot (lists y a) i → fits_lists y' b → LinksOf (queued (lists y' b)) a b →
-      let r : PartsView = record { index = contents x b; lists = lists y' b; arena = b } in let s : PartsView = record { index = contents x a; lists = retired_slot (lists y a) i; arena = b } in
+      IsInHand (record { index = contents x a; lists = lists y a; arena = a }) i → lists y' b ≡ retired_lists (lists y a) i → fits_lists y' b → LinksOf (queued (lists y' b)) a b →
+      let r : PartsView = record { index = contents x b; lists = lists y' b; arena = b } in let s : PartsView = record { index = contents x a; lists = retired_lists (lists y a) i; arena = b } in
       ((fits_index x b × fits_lists y' b) × IsParted r) × (r ≡ s)
   retired-step x y y' a b i w held e f l0 =
       let h : IsParted (record { index = contents x a; lists = lists y a; arena = a }) = w.1 in
-      let l : LinksOf (queued (retired_slot (lists y a) i)) a b = subst (λ z. LinksOf (queued z) a b) e l0 in
-      let more : (j : ℕ) → times j ((lists y a).next ++ i ∷ []) ≡ times j (lists y a).next + (cond {A = ℕ} (eqb i j) 1 0 + 0) = λ j. times-append j (lists y a).next (i ∷ []) in
+      let l : LinksOf (queued (retired_lists (lists y a) i)) a b = subst (λ z. LinksOf (queued z) a b) e l0 in
+      let more : (j : ℕ) → times_in j ((lists y a).next ++ i ∷ []) ≡ times_in j (lists y a).next + (cond {A = ℕ} (eqb i j) 1 0 + 0) = λ j. times-append j (lists y a).next (i ∷ []) in
       let unlinked : indexed (contents x a) a.slots i ≡ 0 = held.unlinked in
       let not_i : (j : ℕ) → 0 < indexed (contents x a) a.slots j → cond {A = ℕ} (eqb i j) 1 0 ≡ 0 = (λ j g. one_other i j (λ s. let z : 0 < indexed (contents x a) a.slots i = subst (λ k. 0 < indexed (contents x a) a.slots k) (sym s) g in absurd (omega arith))) in
-      let fi = index_frame x a b w.0.0 (links-same (queued (retired_slot (lists y a) i)) (indexed (contents x a) a.slots) a b l
+      let fi = index_frame x a b w.0.0 (links-same (queued (retired_lists (lists y a) i)) (indexed (contents x a) a.slots) a b l
       (λ j g. let o : standings (record { index = contents x a; lists = lists y a; arena = a }) j ≤ 1 = h.once j in let c = not_i j g in omega (arith, more j))
       (λ j g. standing-taken (record { index = contents x a; lists = lists y a; arena = a }) j h (omega arith))) in
-      let pb = parted-links (contents x a) (retired_slot (lists y a) i) a b l.rest (parted-retired (record { index = contents x a; lists = lists y a; arena = a }) i h held) in
-      settle x y' b (contents x a) (retired_slot (lists y a) i) fi.0 f fi.1 e pb
+      let pb = parted-links (contents x a) (retired_lists (lists y a) i) a b l.rest (parted-retired (record { index = contents x a; lists = lists y a; arena = a }) i h held) in
+      settle x y' b (contents x a) (retired_lists (lists y a) i) fi.0 f fi.1 e pb
 
   pub linked-step : (x x' : X) (y : Y) (a b : ArenaState) (i : ℕ) → (fits_index x a × fits_lists y a) × IsParted (record { index = contents x a; lists = lists y a; arena = a }) →
-      IsHeld (record { index = contents x a; lists = lists y a; arena = a }) i → get (contents x a) (key_at a.slots i) ≡ None →
+      IsInHand (record { index = contents x a; lists = lists y a; arena = a }) i → get (contents x a) (key_at a.slots i) ≡ None →
       contents x' b ≡ insert (contents x a) (key_at a.slots i) i → fits_index x' b → LinksOf (indexed (contents x' b) b.slots) a b →
       let r : PartsView = record { index = contents x' b; lists = lists y b; arena = b } in let s : PartsView = record { index = insert (contents x a) (key_at a.slots i) i; lists = lists y a; arena = b } in
       ((fits_index x' b × fits_lists y b) × IsParted r) × (r ≡ s)
@@ -127,10 +127,10 @@ module _ (X Y : Type 0) (contents : X → ArenaState → KeyMap) (fits_index : X
   pub taken-step : (x : X) (y : Y) (a b : ArenaState) (i : ℕ) (rest key value : List ℕ) → (fits_index x a × fits_lists y a) × IsParted (record { index = contents x a; lists = lists y a; arena = a }) →
       a.free ≡ i ∷ rest → b ≡ taken a i rest key value →
       let r : PartsView = record { index = contents x b; lists = lists y b; arena = b } in let s : PartsView = record { index = contents x a; lists = lists y a; arena = b } in
-      (((fits_index x b × fits_lists y b) × IsParted r) × (r ≡ s)) × (IsHeld r i × (key_at b.slots i ≡ key))
+      (((fits_index x b × fits_lists y b) × IsParted r) × (r ≡ s)) × (IsInHand r i × (key_at b.slots i ≡ key))
   taken-step x y a b i rest key value w split e =
       let h : IsParted (record { index = contents x a; lists = lists y a; arena = a }) = w.1 in
-      let free : (j : ℕ) → times j a.free ≡ cond {A = ℕ} (eqb i j) 1 0 + times j rest = λ j. ap (times j) split in
+      let free : (j : ℕ) → times_in j a.free ≡ cond {A = ℕ} (eqb i j) 1 0 + times_in j rest = λ j. ap (times_in j) split in
       let pt : IsParted (record { index = contents x a; lists = lists y a; arena = taken a i rest key value }) = parted-taken (record { index = contents x a; lists = lists y a; arena = a }) i rest key value h split in
       let nowhere : (j : ℕ) → 0 < indexed (contents x a) a.slots j + queued (lists y a) j → j ≢ i = (λ j g s.
       let z : 0 < indexed (contents x a) a.slots i + queued (lists y a) i = subst (λ k. 0 < indexed (contents x a) a.slots k + queued (lists y a) k) s g in
@@ -148,11 +148,11 @@ module _ (X Y : Type 0) (contents : X → ArenaState → KeyMap) (fits_index : X
       let k = taken-key (record { index = contents x a; lists = lists y a; arena = a }) i rest key value h split in
       let pb = subst (λ (z : ArenaState). IsParted (record { index = contents x a; lists = lists y a; arena = z })) (sym e) pt in
       let s = kept-step x y a b w pb (subst (SameAt (indexed (contents x a) a.slots) a) (sym e) si) (subst (SameAt (queued (lists y a)) a) (sym e) sq) in
-      let hb = subst (λ (z : ArenaState). IsHeld (record { index = contents x a; lists = lists y a; arena = z }) i) (sym e) held in
-      (s, (subst (λ (z : PartsView). IsHeld z i) (sym s.1) hb, ap (λ (z : ArenaState). key_at z.slots i) e ∙ k))
+      let hb = subst (λ (z : ArenaState). IsInHand (record { index = contents x a; lists = lists y a; arena = z }) i) (sym e) held in
+      (s, (subst (λ (z : PartsView). IsInHand z i) (sym s.1) hb, ap (λ (z : ArenaState). key_at z.slots i) e ∙ k))
 
   pub given-step : (x : X) (y : Y) (a b : ArenaState) (i : ℕ) → (fits_index x a × fits_lists y a) × IsParted (record { index = contents x a; lists = lists y a; arena = a }) →
-      IsHeld (record { index = contents x a; lists = lists y a; arena = a }) i → b ≡ given_back a i →
+      IsInHand (record { index = contents x a; lists = lists y a; arena = a }) i → b ≡ given_back a i →
       let r : PartsView = record { index = contents x b; lists = lists y b; arena = b } in let s : PartsView = record { index = contents x a; lists = lists y a; arena = b } in
       ((fits_index x b × fits_lists y b) × IsParted r) × (r ≡ s)
   given-step x y a b i w held e =

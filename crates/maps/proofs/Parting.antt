@@ -5,12 +5,12 @@ use Rattle.std.proofs.lemmas.Bool.{cond-true, cond-false, eqb-true, eqb-false}
 use Rattle.std.proofs.lemmas.Option.{none-some, same_Some}
 use Rattle.std.specs.FinMap.{get, insert, remove}
 use Rattle.bpf_model.specs.Schedule.{Queues, turned}
-use Rattle.bpf_model.specs.View.{SlotView, uses_at}
-use Rattle.element_arena.specs.State.{ArenaState, IsTaken, is_at, indexed, times, key_at, key_in, worn_at, flag_in, taken, given_back, with_value, is_last_use}
+use Rattle.bpf_model.specs.View.{SlotView, uses_at, key_in}
+use Rattle.element_arena.specs.State.{ArenaState, IsTaken, is_at, indexed, times_in, key_at, worn_at, flag_in, taken, given_back, with_value, is_last_use}
 use Rattle.element_arena.proofs.Counts.{bool_cases, option_cases, one_cases, one_same, one_other, times-append, length-set, get-set_same, get-set_other}
 use Rattle.view_laws.proofs.Lists.{key_cases, insert-same, insert-other, remove-same, remove-other}
-use Rattle.deferred_free.specs.Queued.{queued, retired_slot, reaped_lists}
-use Rattle.maps.specs.Parted.{KeyMap, PartsView, standings, IsParted, IsHeld, Stands}
+use Rattle.deferred_free.specs.Queued.{queued, retired_lists, reaped_lists}
+use Rattle.maps.specs.Parted.{KeyMap, PartsView, standings, IsParted, IsInHand, Stands}
 
 -- a slot that is linked or in a list is taken
 pub standing-taken : (p : PartsView) (i : ℕ) → IsParted p → Stands p i → IsTaken p.arena i
@@ -19,9 +19,9 @@ standing-taken p i h s =
     record { inside = h.inside i (omega arith); not_free = omega arith; not_worn = omega arith }
 
 -- a slot in hand stands nowhere
-pub held-nowhere : (p : PartsView) (i : ℕ) → IsHeld p i → standings p i ≡ 0
+pub held-nowhere : (p : PartsView) (i : ℕ) → IsInHand p i → standings p i ≡ 0
 held-nowhere p i h =
-    let f : times i p.arena.free ≡ 0 = h.taken.not_free in
+    let f : times_in i p.arena.free ≡ 0 = h.taken.not_free in
     let w : worn_at p.arena.worn i ≡ 0 = h.taken.not_worn in
     let l : indexed p.index p.arena.slots i ≡ 0 = h.unlinked in
     let q : queued p.lists i ≡ 0 = h.unlisted in
@@ -80,7 +80,7 @@ parted-links m q a b e h =
     let s : IsParted (record { index = m; lists = q; arena = record a { links = b.links } }) = record { once = h.once; inside = h.inside; keyed = h.keyed; flags = h.flags } in
     subst (λ z. IsParted (record { index = m; lists = q; arena = z })) (sym e) s
 
-pub parted-inserted : (p : PartsView) (i : ℕ) → IsParted p → IsHeld p i → get p.index (key_at p.arena.slots i) ≡ None → IsParted (record { index = insert p.index (key_at p.arena.slots i) i; lists = p.lists; arena = p.arena })
+pub parted-inserted : (p : PartsView) (i : ℕ) → IsParted p → IsInHand p i → get p.index (key_at p.arena.slots i) ≡ None → IsParted (record { index = insert p.index (key_at p.arena.slots i) i; lists = p.lists; arena = p.arena })
 parted-inserted p i h held none =
     let k : List ℕ = key_at p.arena.slots i in
     let r : PartsView = record { index = insert p.index (key_at p.arena.slots i) i; lists = p.lists; arena = p.arena } in
@@ -119,7 +119,7 @@ parted-removed p i h some =
     ]
 
 -- the slot that leaves the index is in hand
-pub removed-held : (p : PartsView) (i : ℕ) → IsParted p → get p.index (key_at p.arena.slots i) ≡ Some i → IsHeld (record { index = remove p.index (key_at p.arena.slots i); lists = p.lists; arena = p.arena }) i
+pub removed-held : (p : PartsView) (i : ℕ) → IsParted p → get p.index (key_at p.arena.slots i) ≡ Some i → IsInHand (record { index = remove p.index (key_at p.arena.slots i); lists = p.lists; arena = p.arena }) i
 removed-held p i h some =
     let one : indexed p.index p.arena.slots i ≡ 1 = ap (λ o. is_at o i) some ∙ one_same i in
     let o : standings p i ≤ 1 = h.once i in
@@ -129,10 +129,10 @@ removed-held p i h some =
       unlisted = omega arith;
     }
 
-pub parted-retired : (p : PartsView) (i : ℕ) → IsParted p → IsHeld p i → IsParted (record { index = p.index; lists = retired_slot p.lists i; arena = p.arena })
+pub parted-retired : (p : PartsView) (i : ℕ) → IsParted p → IsInHand p i → IsParted (record { index = p.index; lists = retired_lists p.lists i; arena = p.arena })
 parted-retired p i h held =
-    let more : (j : ℕ) → standings (record { index = p.index; lists = retired_slot p.lists i; arena = p.arena }) j ≡ standings p j + cond (eqb i j) 1 0 = (λ j. let n : times j (p.lists.next ++ i ∷ []) ≡ times j p.lists.next + (cond {A = ℕ} (eqb i j) 1 0 + 0) = times-append j p.lists.next (i ∷ []) in omega arith) in
-    let counts = one_more p (record { index = p.index; lists = retired_slot p.lists i; arena = p.arena }) i h (held-nowhere p i held) held.taken.inside refl more in
+    let more : (j : ℕ) → standings (record { index = p.index; lists = retired_lists p.lists i; arena = p.arena }) j ≡ standings p j + cond (eqb i j) 1 0 = (λ j. let n : times_in j (p.lists.next ++ i ∷ []) ≡ times_in j p.lists.next + (cond {A = ℕ} (eqb i j) 1 0 + 0) = times-append j p.lists.next (i ∷ []) in omega arith) in
+    let counts = one_more p (record { index = p.index; lists = retired_lists p.lists i; arena = p.arena }) i h (held-nowhere p i held) held.taken.inside refl more in
     record { once = λ j. (counts j).0; inside = λ j. (counts j).1; keyed = h.keyed; flags = h.flags }
 
 pub parted-turned : (p : PartsView) → IsParted p → IsParted (record { index = p.index; lists = turned p.lists; arena = p.arena })
@@ -141,7 +141,7 @@ parted-turned p h =
     let counts = fewer p (record { index = p.index; lists = turned p.lists; arena = p.arena }) h refl less in
     record { once = λ j. (counts j).0; inside = λ j. (counts j).1; keyed = h.keyed; flags = h.flags }
 
-less-drop : (j : ℕ) (xs : List ℕ) → times j (drop 1 xs) ≤ times j xs
+less-drop : (j : ℕ) (xs : List ℕ) → times_in j (drop 1 xs) ≤ times_in j xs
 less-drop j [] = omega arith
 less-drop j (x ∷ xs) = omega arith
 
@@ -151,20 +151,20 @@ parted-reaped p h =
     let counts = fewer p (record { index = p.index; lists = reaped_lists p.lists; arena = p.arena }) h refl less in
     record { once = λ j. (counts j).0; inside = λ j. (counts j).1; keyed = h.keyed; flags = h.flags }
 
-first-times : (xs : List ℕ) (i : ℕ) → slice_get xs 0 ≡ Some i → times i xs ≡ 1 + times i (drop 1 xs)
+first-times : (xs : List ℕ) (i : ℕ) → slice_get xs 0 ≡ Some i → times_in i xs ≡ 1 + times_in i (drop 1 xs)
 first-times [] i h = absurd (none-some i h)
 first-times (x ∷ xs) i h = let e : x ≡ i = same_Some x i h in let c : cond {A = ℕ} (eqb x i) 1 0 ≡ 1 = subst (λ z. cond {A = ℕ} (eqb x z) 1 0 ≡ 1) e (one_same x) in omega arith
 
 -- the first ready slot, once it has left its list, is in hand
-pub reaped-held : (p : PartsView) (i : ℕ) → IsParted p → slice_get p.lists.ready 0 ≡ Some i → IsHeld (record { index = p.index; lists = reaped_lists p.lists; arena = p.arena }) i
+pub reaped-held : (p : PartsView) (i : ℕ) → IsParted p → slice_get p.lists.ready 0 ≡ Some i → IsInHand (record { index = p.index; lists = reaped_lists p.lists; arena = p.arena }) i
 reaped-held p i h first =
-    let f : times i p.lists.ready ≡ 1 + times i (drop 1 p.lists.ready) = first-times p.lists.ready i first in
+    let f : times_in i p.lists.ready ≡ 1 + times_in i (drop 1 p.lists.ready) = first-times p.lists.ready i first in
     let o : standings p i ≤ 1 = h.once i in
     record { taken = standing-taken p i h (omega arith); unlinked = omega arith; unlisted = omega arith }
 
 module _ (p : PartsView) (i : ℕ) (rest key value : List ℕ) (h : IsParted p) (split : p.arena.free ≡ i ∷ rest) where
-  free-times : (j : ℕ) → times j p.arena.free ≡ cond {A = ℕ} (eqb i j) 1 0 + times j rest
-  free-times j = ap (times j) split
+  free-times : (j : ℕ) → times_in j p.arena.free ≡ cond {A = ℕ} (eqb i j) 1 0 + times_in j rest
+  free-times j = ap (times_in j) split
 
   pub free-inside : i < length p.arena.slots
   free-inside = h.inside i (omega (arith, free-times i, one_same i))
@@ -214,7 +214,7 @@ module _ (p : PartsView) (i : ℕ) (rest key value : List ℕ) (h : IsParted p) 
       }
 
   -- the slot that was taken is in hand
-  pub taken-held : IsHeld (record { index = p.index; lists = p.lists; arena = taken p.arena i rest key value }) i
+  pub taken-held : IsInHand (record { index = p.index; lists = p.lists; arena = taken p.arena i rest key value }) i
   taken-held =
       let long : length (slice_set p.arena.slots i (record { key = key; value = value; uses = uses_at p.arena.slots i + 1 })) ≡ length p.arena.slots = length-set p.arena.slots i _ in
       let o : standings p i ≤ 1 = h.once i in
@@ -225,7 +225,7 @@ module _ (p : PartsView) (i : ℕ) (rest key value : List ℕ) (h : IsParted p) 
         unlisted = omega (arith, free-times i, one_same i);
       }
 
-module _ (p : PartsView) (i : ℕ) (h : IsParted p) (held : IsHeld p i) where
+module _ (p : PartsView) (i : ℕ) (h : IsParted p) (held : IsInHand p i) where
   given-worn : is_last_use p.arena i ≡ true → (j : ℕ) → standings (record { index = p.index; lists = p.lists; arena = given_back p.arena i }) j ≡ standings p j + cond (eqb i j) 1 0
   given-worn y j =
       let flags : length p.arena.worn ≡ length p.arena.slots = h.flags in
@@ -233,7 +233,7 @@ module _ (p : PartsView) (i : ℕ) (h : IsParted p) (held : IsHeld p i) where
       let in_ : i < length p.arena.worn = omega arith in
       let w : worn_at (slice_set p.arena.worn i true) i ≡ 1 = ap flag_in (get-set_same p.arena.worn i true in_) in
       let w0 : worn_at p.arena.worn i ≡ 0 = held.taken.not_worn in
-      let free : times j (given_back p.arena i).free ≡ times j p.arena.free = ap (times j) (cond-true _ _ _ y) in
+      let free : times_in j (given_back p.arena i).free ≡ times_in j p.arena.free = ap (times_in j) (cond-true _ _ _ y) in
       let worn : worn_at (given_back p.arena i).worn j ≡ worn_at (slice_set p.arena.worn i true) j = ap (λ z. worn_at z j) (cond-true _ _ _ y) in
       let marked : worn_at (slice_set p.arena.worn i true) j ≡ worn_at p.arena.worn j + cond {A = ℕ} (eqb i j) 1 0 = (elim (bool_cases (eqb j i)) [
         | inl z ↦ subst (λ k. worn_at (slice_set p.arena.worn i true) k ≡ worn_at p.arena.worn k + cond {A = ℕ} (eqb i k) 1 0) (sym (eqb-true j i z)) (omega (arith, one_same i))
@@ -243,7 +243,7 @@ module _ (p : PartsView) (i : ℕ) (h : IsParted p) (held : IsHeld p i) where
 
   given-free : is_last_use p.arena i ≡ false → (j : ℕ) → standings (record { index = p.index; lists = p.lists; arena = given_back p.arena i }) j ≡ standings p j + cond (eqb i j) 1 0
   given-free n j =
-      let free : times j (given_back p.arena i).free ≡ times j (p.arena.free ++ i ∷ []) = ap (times j) (cond-false _ _ _ n) in
+      let free : times_in j (given_back p.arena i).free ≡ times_in j (p.arena.free ++ i ∷ []) = ap (times_in j) (cond-false _ _ _ n) in
       let worn : worn_at (given_back p.arena i).worn j ≡ worn_at p.arena.worn j = ap (λ z. worn_at z j) (cond-false _ _ _ n) in
       omega (arith, times-append j p.arena.free (i ∷ []))
 

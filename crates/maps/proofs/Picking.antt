@@ -5,10 +5,9 @@ use Rattle.std.proofs.lemmas.Option.{none-some, same_Some}
 use Rattle.arrayvec.specs.ArrayVec.{ArrayVec}
 use Rattle.bpf_model.specs.declared.event.Given.{Given}
 use Rattle.bpf_model.specs.declared.event.ReapedElement.{ReapedElement}
-use Rattle.bpf_model.specs.View.{SlotView, MapView}
+use Rattle.bpf_model.specs.View.{SlotView, MapView, key_in}
 use Rattle.element_arena.specs.State as state
 use Rattle.view_laws.specs.Reactions.{Pick, or_pick, first_pick}
-use Rattle.view_laws.specs.Views.{key_in}
 use Rattle.maps.specs.Picking.{IsPicked}
 use Rattle.maps.specs.Shown.{IsReaped}
 
@@ -45,17 +44,13 @@ drop-end (x ∷ xs) = drop-end xs
 pub picks-none : (maps : List MapView) → IsPassed maps (length maps) → first_pick 0 maps ≡ None
 picks-none maps h = h ∙ ap (first_pick (length maps)) (drop-end maps)
 
-same-key : (o : Option SlotView) → state.key_in o ≡ key_in o
-same-key None = refl
-same-key (Some s) = refl
-
 -- what was reclaimed from the map that was reached is what a registry reclaims
 pub picked : (old maps : List MapView) (i m : ℕ) (v new : MapView) (key : ArrayVec ℕ) (given : Given) →
     maps ≡ old → IsPassed old i → slice_get maps i ≡ Some v → IsReaped v new key.items given → m ≡ i →
     IsPicked old (slice_set maps i new) (record { map = m; key = key; given = given })
 picked old maps i m v new key given e h g r n =
     let there : slice_get old i ≡ Some v = ap (λ (ms : List MapView). slice_get ms i) (sym e) ∙ g in
-    let items : key.items ≡ key_in (slice_get v.slots r.slot) = r.key_is ∙ same-key (slice_get v.slots r.slot) in
+    let items : key.items ≡ key_in (slice_get v.slots r.slot) = r.key_is in
     record {
       pick = record { map = i; view = v; slot = r.slot };
       first = picks-here old i r.slot v there h r.first;

@@ -10,8 +10,8 @@ use Rattle.bpf_model.specs.declared.call.Errno.{Errno}
 use Rattle.bpf_model.specs.declared.call.Errno.TheVariants.{NoMemory}
 use Rattle.bpf_model.specs.declared.limits.MapShape.{MapShape}
 use Rattle.bpf_model.specs.Helper.{update_error}
-use Rattle.bpf_model.specs.View.{SlotView, MapView, uses_at, state_of}
-use Rattle.element_arena.specs.State.{key_at, key_in, value_at, value_in, taken}
+use Rattle.bpf_model.specs.View.{SlotView, MapView, uses_at, map_state_of, key_in, value_in}
+use Rattle.element_arena.specs.State.{key_at, value_at, taken}
 use Rattle.element_arena.proofs.Counts.{length-set}
 use Rattle.view_laws.specs.Views.{updated, updated_by, shown_error, filled, filled_from, retired_key, retired_slot}
 use Rattle.view_laws.proofs.Lists.{remove-same, len-remove_found, len-insert_new}
@@ -26,18 +26,18 @@ some_free : (n : ℕ) → 0 < n → let o : Option Errno = if n == 0 then Some N
 some_free n h = cond-false _ _ _ (ne_eqb n 0 (λ z. omega arith))
 
 -- the first test that fails, by what the code knows of the map
-pub shown : (v : MapView) (key : List ℕ) (flags : ℕ) (present : Bool) (linked : ℕ) (o : Option Errno) → present ≡ is_some (get v.index key) → linked ≡ len v.index → update_error flags present linked (state_of v) ≡ o → shown_error v key flags ≡ o
-shown v key flags present linked o p l h = ap (λ n. update_error flags (is_some (get v.index key)) n (state_of v)) (sym l) ∙ (ap (λ b. update_error flags b linked (state_of v)) (sym p) ∙ h)
+pub shown : (v : MapView) (key : List ℕ) (flags : ℕ) (present : Bool) (linked : ℕ) (o : Option Errno) → present ≡ is_some (get v.index key) → linked ≡ len v.index → update_error flags present linked (map_state_of v) ≡ o → shown_error v key flags ≡ o
+shown v key flags present linked o p l h = ap (λ n. update_error flags (is_some (get v.index key)) n (map_state_of v)) (sym l) ∙ (ap (λ b. update_error flags b linked (map_state_of v)) (sym p) ∙ h)
 
 -- an update that no test but the last may refuse
-pub put-updates : (v : MapView) (key value : List ℕ) (flags : ℕ) (found : Option ℕ) → get v.index key ≡ found → shown_error v key flags ≡ or_no_memory None (state_of v) → updated v key value flags ≡ put_in v.free v found key value
+pub put-updates : (v : MapView) (key value : List ℕ) (flags : ℕ) (found : Option ℕ) → get v.index key ≡ found → shown_error v key flags ≡ or_no_memory None (map_state_of v) → updated v key value flags ≡ put_in v.free v found key value
 put-updates v key value flags found g h = ap (λ o. updated_by o v key value) h ∙ by_free v.free refl
   where
-    by_free : (free : List ℕ) → v.free ≡ free → updated_by (or_no_memory None (state_of v)) v key value ≡ put_in v.free v found key value
+    by_free : (free : List ℕ) → v.free ≡ free → updated_by (or_no_memory None (map_state_of v)) v key value ≡ put_in v.free v found key value
     by_free [] e =
-        ap (λ (fs : List ℕ). updated_by (or_no_memory None (state_of (record v { free = fs }))) v key value) e ∙ sym (ap (λ fs. put_in fs v found key value) e)
+        ap (λ (fs : List ℕ). updated_by (or_no_memory None (map_state_of (record v { free = fs }))) v key value) e ∙ sym (ap (λ fs. put_in fs v found key value) e)
     by_free (i ∷ rest) e =
-        ap (λ (fs : List ℕ). updated_by (or_no_memory None (state_of (record v { free = fs }))) v key value) e
+        ap (λ (fs : List ℕ). updated_by (or_no_memory None (map_state_of (record v { free = fs }))) v key value) e
         ∙ (ap (λ o. updated_by o v key value) (some_free (suc (length (map (uses_at v.slots) rest))) (omega arith))
         ∙ (ap (λ fs. let r : Result (Unit {0}) Errno × MapView = (Ok tt, filled_from fs (retired_key v key) key value) in r) e
         ∙ (ap (λ o. let r : Result (Unit {0}) Errno × MapView = (Ok tt, filled (retired_slot v key o) i rest key value) in r) g

@@ -4,8 +4,8 @@ use Rattle.std.specs.Ordering.{nat_cmp}
 use Rattle.std.specs.Cmp.Lexicographic.{slice_cmp}
 use Rattle.std.specs.FinMap.{FinMap, get, remove}
 use Rattle.bpf_model.specs.Schedule.{Queues}
-use Rattle.element_arena.specs.State.{ArenaState, IsTaken, times, indexed, key_at, worn_at}
-use Rattle.deferred_free.specs.Queued.{queued, retired_slot}
+use Rattle.element_arena.specs.State.{ArenaState, IsTaken, times_in, indexed, key_at, worn_at}
+use Rattle.deferred_free.specs.Queued.{queued, retired_lists}
 
 -- slots by their keys
 abbrev pub KeyMap : Type 0
@@ -19,7 +19,7 @@ pub record PartsView : Type 0 where
 
 -- How often a slot stands somewhere: free, linked, in the three lists, worn.
 abbrev pub standings : PartsView → ℕ → ℕ
-standings p i = times i p.arena.free + indexed p.index p.arena.slots i + queued p.lists i + worn_at p.arena.worn i
+standings p i = times_in i p.arena.free + indexed p.index p.arena.slots i + queued p.lists i + worn_at p.arena.worn i
 
 -- A slot stands once at most, and none but the arena's slots do. A key's slot has that key.
 pub record IsParted (p : PartsView) : Type 0 where
@@ -29,7 +29,7 @@ pub record IsParted (p : PartsView) : Type 0 where
   pub flags : length p.arena.worn ≡ length p.arena.slots
 
 -- A slot in hand, between two calls: it is taken, and stands nowhere.
-pub record IsHeld (p : PartsView) (i : ℕ) : Type 0 where
+pub record IsInHand (p : PartsView) (i : ℕ) : Type 0 where
   pub taken : IsTaken p.arena i
   pub unlinked : indexed p.index p.arena.slots i ≡ 0
   pub unlisted : queued p.lists i ≡ 0
@@ -41,4 +41,4 @@ Stands p i = 0 < indexed p.index p.arena.slots i + queued p.lists i
 -- the key's slot, if there is one, leaves the index and goes to the end of next
 abbrev pub without_key : PartsView → List ℕ → Option ℕ → PartsView
 without_key p key None = p
-without_key p key (Some i) = record { index = remove p.index key; lists = retired_slot p.lists i; arena = p.arena }
+without_key p key (Some i) = record { index = remove p.index key; lists = retired_lists p.lists i; arena = p.arena }

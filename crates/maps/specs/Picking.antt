@@ -1,8 +1,8 @@
 -- An element that was reclaimed: the first ready one of the first map that has one.
 use Rattle.std.specs.Prelude.{◌≡◌, List, Some, slice_get, slice_set}
 use Rattle.bpf_model.specs.declared.event.ReapedElement.{ReapedElement}
-use Rattle.bpf_model.specs.View.{MapView}
-use Rattle.view_laws.specs.Views.{key_in, given_at, reaped_view}
+use Rattle.bpf_model.specs.View.{MapView, key_in}
+use Rattle.view_laws.specs.Views.{given_at, reaped_view}
 use Rattle.view_laws.specs.Reactions.{Pick, first_pick}
 
 pub record IsPicked (old new : List MapView) (element : ReapedElement) : Type 0 where

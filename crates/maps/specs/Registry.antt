@@ -37,14 +37,14 @@ begins_with_letter (Some c) = is_letter c
 abbrev pub is_name : List ℕ → Bool
 is_name name = begins_with_letter (slice_get name 0) && (nat_le (length name) NAME_BYTES && list_all is_name_character name)
 
-abbrev pub is_within : ℕ → ℕ → ℕ → Bool
-is_within least n greatest = nat_le least n && nat_le n greatest
+abbrev pub is_between : ℕ → ℕ → ℕ → Bool
+is_between least n greatest = nat_le least n && nat_le n greatest
 
 -- whether a map may have the shape
 abbrev pub is_shape : MapShape → Bool
 is_shape shape =
-    is_within 1 shape.key_len KEY_BYTES && (is_within 1 shape.value_len VALUE_BYTES
-    && (is_within 1 shape.entries MAX_ENTRIES && (nat_le shape.spare MAX_SPARE && is_within 1 shape.reuse_limit MAX_REUSE)))
+    is_between 1 shape.key_len KEY_BYTES && (is_between 1 shape.value_len VALUE_BYTES
+    && (is_between 1 shape.entries MAX_ENTRIES && (nat_le shape.spare MAX_SPARE && is_between 1 shape.reuse_limit MAX_REUSE)))
 
 abbrev pub has_name : RegistryView → List ℕ → Bool
 has_name r name = list_any (bytes_eq name) r.names

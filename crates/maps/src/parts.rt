@@ -8,8 +8,8 @@ ghost use Rattle.bpf_model.specs.MachineStep.{with_bytes};
 ghost use Rattle.bpf_model.specs.declared.limits.TheConstants.{KEY_BYTES, VALUE_BYTES};
 ghost use Rattle.element_arena.specs.State.{IsTaken, key_at, value_at, is_last_use, taken, given_back, with_value, new_arena};
 ghost use Rattle.hash_index.specs.Order.{IsAbove, NoneAbove, NoneBetween};
-ghost use Rattle.deferred_free.specs.Queued.{retired_slot, reaped_lists};
-ghost use Rattle.maps.specs.Parted.{IsParted, IsHeld, Stands, without_key};
+ghost use Rattle.deferred_free.specs.Queued.{retired_lists, reaped_lists};
+ghost use Rattle.maps.specs.Parted.{IsParted, IsInHand, Stands, without_key};
 
 use bpf_model::{Given, Width};
 use deferred_free::Deferred;
@@ -64,7 +64,7 @@ impl<I: Index, D: Deferred> Parts<I, D> {
         ensures unchanged { IfNone result (self.new ≡ self.old) }
         ensures slot { IfSome result (λ i. self.old.arena.free ≡ i ∷ self.new.arena.free) }
         ensures new { IfSome result (λ i. self.new ≡ record self.old { arena = taken self.old.arena i self.new.arena.free key.now value.now }) }
-        ensures held { IfSome result (IsHeld self.new) }
+        ensures held { IfSome result (IsInHand self.new) }
         ensures keyed { IfSome result (λ i. key_at self.new.arena.slots i ≡ key.now) }
         ensures parted { IsParted self.new }
     {
@@ -73,7 +73,7 @@ impl<I: Index, D: Deferred> Parts<I, D> {
 
     /// Links a slot in hand, whose key the index does not have.
     pub fn link(&mut self, slot: usize)
-        requires held { IsHeld self.old slot }
+        requires held { IsInHand self.old slot }
         requires absent { map.get self.old.index (key_at self.old.arena.slots slot) ≡ None }
         ensures { let old = self.old in self.new ≡ record {
           index = map.insert old.index (key_at old.arena.slots slot) slot;
@@ -89,7 +89,7 @@ impl<I: Index, D: Deferred> Parts<I, D> {
         requires { map.get self.old.index (key_at self.old.arena.slots slot) ≡ Some slot }
         ensures { let old = self.old in self.new ≡ record {
           index = map.remove old.index (key_at old.arena.slots slot);
-          lists = retired_slot old.lists slot;
+          lists = retired_lists old.lists slot;
           arena = record old.arena { links = self.new.arena.links };
         } }
     {
@@ -100,7 +100,7 @@ impl<I: Index, D: Deferred> Parts<I, D> {
     /// Links a slot in hand. The slot that its key had is unlinked, and joins the end of next.
     pub fn replace(&mut self, found: Option<usize>, slot: usize)
         requires parted { IsParted self.old }
-        requires held { IsHeld self.old slot }
+        requires held { IsInHand self.old slot }
         requires found { map.get self.old.index (key_at self.old.arena.slots slot) ≡ found }
         ensures { let key = key_at self.old.arena.slots slot in
             let old = without_key self.old key found in self.new ≡ record {
@@ -137,7 +137,7 @@ impl<I: Index, D: Deferred> Parts<I, D> {
           lists = reaped_lists old.lists;
           arena = record old.arena { links = self.new.arena.links };
         } }
-        ensures held { IfSome result (IsHeld self.new) }
+        ensures held { IfSome result (IsInHand self.new) }
         ensures parted { IsParted self.new }
     {
         self.deferred.reap(&mut self.arena)
@@ -145,7 +145,7 @@ impl<I: Index, D: Deferred> Parts<I, D> {
 
     /// Gives a slot in hand back.
     pub fn give(&mut self, slot: usize) -> Given
-        requires held { IsHeld self.old slot }
+        requires held { IsInHand self.old slot }
         ensures given { result ≡ (if is_last_use self.old.arena slot then given.Worn else given.Free) }
         ensures new { self.new ≡ record self.old { arena = given_back self.old.arena slot } }
     {

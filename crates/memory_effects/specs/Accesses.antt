@@ -20,8 +20,8 @@ use Rattle.memory_effects.specs.declared.reads.Reads.{Reads}
 use Rattle.memory_effects.specs.declared.reads.Reads.TheVariants as reads
 
 -- From each run that the old state describes the instruction has a step, and each leads to one that the new state describes.
-abbrev pub Performs : Insn → ℕ → List MapShape → AbsState → AbsState → Type 0
-Performs insn ctx_len shapes old new = Transfers insn shapes ctx_len (state_of old) (state_of new) None
+abbrev pub PerformsAccess : Insn → ℕ → List MapShape → AbsState → AbsState → Type 0
+PerformsAccess insn ctx_len shapes old new = Transfers insn shapes ctx_len (state_of old) (state_of new) None
 
 -- a reference into the region; none is into no region
 abbrev pub IsBase : Region → Kind → Type 0

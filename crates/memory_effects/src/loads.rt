@@ -3,7 +3,7 @@ ghost use Rattle.std.specs.Prelude.{◌≡◌, ℕ, OnOk, OnErr, IfOk};
 ghost use Rattle.register_kinds.specs.States.{kind_at, state_of};
 ghost use Rattle.bpf_model.specs.Access.{byte_count, unsigned_width};
 ghost use Rattle.register_kinds.specs.Pairs.{AreBelow};
-ghost use Rattle.memory_effects.specs.Accesses.{Performs, IsBase, ReadsBytes, ReadsValue, LoadsNumber};
+ghost use Rattle.memory_effects.specs.Accesses.{PerformsAccess, IsBase, ReadsBytes, ReadsValue, LoadsNumber};
 
 use crate::reads::read;
 use crate::region::{Address, Region};
@@ -32,7 +32,7 @@ pub fn load(
     ctx_len: usize,
     shapes: &[MapShape],
 ) -> Result<Region, Fault>
-    ensures sound { OnOk result (Performs (Insn.Load width dst from.base from.offset) ctx_len shapes.now
+    ensures sound { OnOk result (PerformsAccess (Insn.Load width dst from.base from.offset) ctx_len shapes.now
         state.old state.new) }
     ensures region { IfOk result (λ region. IsBase region (kind_at state.old.regs from.base)) }
     ensures bytes { (10 ≡ dst → ⊥)
@@ -59,7 +59,7 @@ pub fn load_signed(
     ctx_len: usize,
     shapes: &[MapShape],
 ) -> Result<Region, Fault>
-    ensures sound { OnOk result (Performs (Insn.LoadSigned width dst from.base from.offset) ctx_len
+    ensures sound { OnOk result (PerformsAccess (Insn.LoadSigned width dst from.base from.offset) ctx_len
         shapes.now state.old state.new) }
     ensures region { IfOk result (λ region. IsBase region (kind_at state.old.regs from.base)) }
     ensures bytes { (10 ≡ dst → ⊥)

@@ -32,9 +32,9 @@ use Rattle.bpf_model.specs.Helper.{LooksUp, Replaces, Settles, Updates, Removes,
 use Rattle.bpf_model.specs.Reclaim.{Reclaims}
 use Rattle.bpf_model.specs.Machine.{Run, Machine, Loaded, environment, open_sections, start_machine}
 use Rattle.bpf_model.specs.MachineStep.{HelperStep, InsnStep}
-use Rattle.bpf_model.specs.Event.{Performs, Answers, refusal}
+use Rattle.bpf_model.specs.Event.{PerformsEvent, Answers, refusal}
 use Rattle.bpf_model.specs.Schedule.{Schedule, IsScheduledHistory, last_scheduled, start_schedule}
-use Rattle.bpf_model.specs.Refines.{times, IsReached}
+use Rattle.bpf_model.specs.Refines.{times, IsReachedSchedule}
 use Rattle.model_laws.specs.Accounted.{kept_count, born_count, IsFull}
 use Rattle.model_laws.proofs.Lists.{get-set_cases, get-append_cases}
 use Rattle.model_laws.proofs.Stores.{Touches, touches-found, touches-acts, shape-given}
@@ -316,7 +316,7 @@ accounts-insn i s opened run answer new new_run h = accounts-elements opened s n
 accounts-with : (m new : Machine) (store : Store) → Accounts m.store store → new.store ≡ store → Accounts m.store new.store
 accounts-with m new store a e h = subst Accounted (sym e) (a h)
 
-accounts-performs : (m : Machine) (event : Event) (answer : Answer) (new : Machine) → Performs m event answer new → Accounts m.store new.store
+accounts-performs : (m : Machine) (event : Event) (answer : Answer) (new : Machine) → PerformsEvent m event answer new → Accounts m.store new.store
 accounts-performs m (events.Start prog ctx) (answers.Started r) new h = accounts-same m.store new.store (ap (λ x. x.store) h.new_is)
 accounts-performs m (events.Step run) answer new h = accounts-with m new h.new_store (accounts-insn h.step.0 m.store (open_sections m.runs) h.run answer h.new_store h.new_run h.step.2) (ap (λ x. x.store) h.new_is)
 accounts-performs m (events.Update map key value flags) (answers.Ret ret) new h = accounts-with m new h.0 (accounts-updates m.store (open_sections m.runs) map key.items value.items flags ret h.0 h.1) (ap (λ x. x.store) h.2)
@@ -340,15 +340,15 @@ accounted-along s (event ∷ events) (answer ∷ answers) (next ∷ states) a h 
     accounted-along next events answers states (accounts-answers (refusal s.machine event) s.machine event answer next.machine h.0.step a) h.1
 accounted-along s events answers states a h = absurd h
 
-reached-adds : (shapes : List MapShape) (programs : List Loaded) (s : Schedule) → IsReached shapes programs s → Accounted s.machine.store
+reached-adds : (shapes : List MapShape) (programs : List Loaded) (s : Schedule) → IsReachedSchedule shapes programs s → Accounted s.machine.store
 reached-adds shapes programs s r = subst (λ (x : Schedule). Accounted x.machine.store) r.last (accounted-along (start_schedule shapes programs) r.events r.answers r.states (accounted-start shapes programs) r.history)
 
-pub slots_accounted : (shapes : List MapShape) (programs : List Loaded) (s : Schedule) (k : ℕ) (m : MapState) → IsReached shapes programs s → slice_get s.machine.store.maps k ≡ Some m →
+pub slots_accounted : (shapes : List MapShape) (programs : List Loaded) (s : Schedule) (k : ℕ) (m : MapState) → IsReachedSchedule shapes programs s → slice_get s.machine.store.maps k ≡ Some m →
     length m.bag + kept_count k s.machine.store.elements + m.worn ≡ m.shape.entries + m.shape.spare
 slots_accounted shapes programs s k m r at =
     (reached-adds shapes programs s r k m at).slots
 
-pub enomem_exactly : (shapes : List MapShape) (programs : List Loaded) (s : Schedule) (k : ℕ) (m : MapState) → IsReached shapes programs s → slice_get s.machine.store.maps k ≡ Some m →
+pub enomem_exactly : (shapes : List MapShape) (programs : List Loaded) (s : Schedule) (k : ℕ) (m : MapState) → IsReachedSchedule shapes programs s → slice_get s.machine.store.maps k ≡ Some m →
     (m.bag ≡ []) ↔ IsFull k s.machine.store.elements m
 enomem_exactly shapes programs s k m r at =
     let total = slots_accounted shapes programs s k m r at in
@@ -382,5 +382,5 @@ adds-most k es m a some =
     let slots : (length m.bag + kept_count k es + m.worn) * m.shape.reuse_limit ≡ most_births m.shape = ap (λ n. n * m.shape.reuse_limit) a.slots in
     omega arith
 
-pub births_bounded : (shapes : List MapShape) (programs : List Loaded) (s : Schedule) (k : ℕ) (m : MapState) → IsReached shapes programs s → slice_get s.machine.store.maps k ≡ Some m → 1 ≤ m.shape.reuse_limit → born_count k s.machine.store.elements ≤ most_births m.shape
+pub births_bounded : (shapes : List MapShape) (programs : List Loaded) (s : Schedule) (k : ℕ) (m : MapState) → IsReachedSchedule shapes programs s → slice_get s.machine.store.maps k ≡ Some m → 1 ≤ m.shape.reuse_limit → born_count k s.machine.store.elements ≤ most_births m.shape
 births_bounded shapes programs s k m r at some = adds-most k s.machine.store.elements m (reached-adds shapes programs s r k m at) some

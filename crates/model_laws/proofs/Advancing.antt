@@ -6,7 +6,7 @@ use Rattle.bpf_model.specs.declared.event.Answer.{Answer}
 use Rattle.bpf_model.specs.declared.event.Answer.TheVariants.{Done}
 use Rattle.bpf_model.specs.Section.{Section}
 use Rattle.bpf_model.specs.Machine.{Run, Machine, open_sections, is_inside, section_of}
-use Rattle.bpf_model.specs.Event.{Performs}
+use Rattle.bpf_model.specs.Event.{PerformsEvent}
 use Rattle.bpf_model.specs.Schedule.{Queues, Schedule, open_flags, is_any, turned, advanced, DoesScheduled}
 
 no_flag-at : (b : Bool) (s : Section) (rest : List Section) (flags : List Bool) → (if b then s ∷ rest else rest) ≡ [] → (rest ≡ [] → is_any flags ≡ false) → is_any (b ∷ flags) ≡ false
@@ -18,7 +18,7 @@ no_flag [] h = refl
 no_flag (None ∷ runs) h = no_flag runs h
 no_flag (Some run ∷ runs) h = no_flag-at (is_inside run) (section_of run) (open_sections runs) (open_flags runs) h (no_flag runs)
 
-same-machine : (m new : Machine) (answer : Answer) → Performs m Advance answer new → new ≡ m
+same-machine : (m new : Machine) (answer : Answer) → PerformsEvent m Advance answer new → new ≡ m
 same-machine m new Done h = h
 same-machine m new answer h = absurd h
 

@@ -26,7 +26,7 @@ use Rattle.bpf_model.specs.Section.{Section}
 use Rattle.bpf_model.specs.Element.{Element}
 use Rattle.bpf_model.specs.MapState as map_state
 use Rattle.bpf_model.specs.Machine.{Loaded, Run, environment, fresh_run}
-use Rattle.bpf_model.specs.MachineStep.{Acts, AccessesElement, Ends, KernelStep, HelperStep, InsnStep, RunStep, element_load, element_store, bound_map}
+use Rattle.bpf_model.specs.MachineStep.{Acts, AccessesElement, OutcomeStep, KernelStep, HelperStep, InsnStep, RunStep, element_load, element_store, bound_map}
 use Rattle.model_laws.specs.Alone.{HoldsValue, HoldsState, IsOwn, SharesNothing}
 use Rattle.model_laws.proofs.Holding.{Closed, HoldsOutcome, holds-entry, holds-after, holds-returns}
 
@@ -109,7 +109,7 @@ others_change_nothing store new_store opened run new answer p h =
 own-closed : Closed IsOwn
 own-closed = record { context = λ o. tt; frame = λ o. tt; moved = λ n o p h. h }
 
-ends-own : (out : Outcome) (run : Run) (answer : Answer) (new : Run) → SharesNothing run → HoldsOutcome IsOwn out → Ends out run answer new → SharesNothing new
+ends-own : (out : Outcome) (run : Run) (answer : Answer) (new : Run) → SharesNothing run → HoldsOutcome IsOwn out → OutcomeStep out run answer new → SharesNothing new
 ends-own (Moves next) run answer new p q h = subst SharesNothing (sym h.1) (record { code = p.code; state = q })
 ends-own (Exits n) run answer new p q h = subst SharesNothing (sym h.2) (record { code = p.code; state = p.state })
 

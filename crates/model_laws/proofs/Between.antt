@@ -7,8 +7,8 @@ use Rattle.bpf_model.specs.declared.event.Answer.{Answer}
 use Rattle.bpf_model.specs.Section.{Section}
 use Rattle.bpf_model.specs.Element.{Element, Life, Linked, Unlinked, Reclaimed, HasLife}
 use Rattle.bpf_model.specs.Machine.{Machine, open_sections}
-use Rattle.bpf_model.specs.Event.{Does}
-use Rattle.bpf_model.specs.Run.{IsHistory}
+use Rattle.bpf_model.specs.Event.{DoesEvent}
+use Rattle.bpf_model.specs.History.{IsHistory}
 use Rattle.bpf_model.specs.Consistent.{IsConsistent}
 use Rattle.bpf_model.specs.Headline.{IsUnlinkedBetween}
 use Rattle.model_laws.proofs.Stores.{LifeMoves, Stays, Unlinks, Ends, is_reap, does-moves}
@@ -20,7 +20,7 @@ life-next reap opened old new (Stays e) h = inl (e ∙ h)
 life-next reap opened old new (Unlinks l e) h = inr e
 life-next reap opened old new (Ends since r l ended e) h = absurd (linked≢unlinked since (sym h ∙ l))
 
-linked-next : (m new : Machine) (event : Event) (answer : Answer) (n : ℕ) → IsConsistent m → Does m event answer new → HasLife m.store.elements n Linked → HasLife new.store.elements n Linked ⊎ HasLife new.store.elements n (Unlinked (open_sections m.runs))
+linked-next : (m new : Machine) (event : Event) (answer : Answer) (n : ℕ) → IsConsistent m → DoesEvent m event answer new → HasLife m.store.elements n Linked → HasLife new.store.elements n Linked ⊎ HasLife new.store.elements n (Unlinked (open_sections m.runs))
 linked-next m new event answer n w h old =
     let f = (does-moves m new event answer w.single h).forth n old.0 old.1 in
     elim (life-next (is_reap event) (open_sections m.runs) old.0.life f.0.life f.2.life old.2) [

@@ -34,8 +34,8 @@ use Rattle.bpf_model.specs.MapState.{MapState, with_bag, with_elements, returned
 use Rattle.bpf_model.specs.Helper.{LooksUp, Replaces, Settles, Updates, Removes, Deletes, newborn, update_error}
 use Rattle.bpf_model.specs.Reclaim.{Reclaims}
 use Rattle.bpf_model.specs.Machine.{Run, Machine, environment, open_sections, moves, with_store, with_runs, begins}
-use Rattle.bpf_model.specs.MachineStep.{Ends, Acts, AccessesElement, KernelStep, LookupStep, UpdateStep, DeleteStep, HelperStep, InsnStep, RunStep, StepsRun, element_load, element_store, key_argument, value_argument, returns, found_value}
-use Rattle.bpf_model.specs.Event.{Starts, Reads, Performs, Answers, refusal}
+use Rattle.bpf_model.specs.MachineStep.{OutcomeStep, Acts, AccessesElement, KernelStep, LookupStep, UpdateStep, DeleteStep, HelperStep, InsnStep, RunStep, StepsRun, element_load, element_store, key_argument, value_argument, returns, found_value}
+use Rattle.bpf_model.specs.Event.{Starts, ReadsElement, PerformsEvent, Answers, refusal}
 use Rattle.bpf_model.specs.Schedule.{Schedule, first_ready, scheduled, TakesFirst, TakesOldest, DoesScheduled, IsScheduledHistory}
 use Rattle.model_laws.specs.Scheduled.{IsScheduled}
 use Rattle.model_laws.proofs.Lists.{get-append_last, get-set_same}
@@ -202,7 +202,7 @@ acts-one i env es m out told new other (inr h) (inl g) = absurd (access-apart i 
 acts-one i env es m out told new other (inr h) (inr g) = access-one i es m out told new other h g
 
 -- a step of a run
-ends-one : (out : Outcome) (run : Run) (a b : Answer) (new other : Run) → Ends out run a new → Ends out run b other → (a ≡ b) × (new ≡ other)
+ends-one : (out : Outcome) (run : Run) (a b : Answer) (new other : Run) → OutcomeStep out run a new → OutcomeStep out run b other → (a ≡ b) × (new ≡ other)
 ends-one (Moves next) run a b new other h g = (meet _ _ _ h.0 g.0, meet _ _ _ h.1 g.1)
 ends-one (Exits n) run a b new other h g = (meet _ _ _ h.1 g.1, meet _ _ _ h.2 g.2)
 
@@ -210,10 +210,10 @@ called-one : (run : Run) (v w : Value) (new other : Run) → v ≡ w → new ≡
 called-one run v w new other e h g = h ∙ (ap (λ x. moves run (returns x run.state)) e ∙ sym g)
 
 pub alone-one : (i : Insn) (s : map_state.Store) (run : Run) (a b : Answer) (new other : map_state.Store) (new_run other_run : Run) (out told : Outcome) (es fs : List Element) →
-    Acts i (environment run) s.elements run.state out es → Acts i (environment run) s.elements run.state told fs → new ≡ with_elements es s → other ≡ with_elements fs s → Ends out run a new_run → Ends told run b other_run → (a ≡ b) × (new ≡ other) × (new_run ≡ other_run)
+    Acts i (environment run) s.elements run.state out es → Acts i (environment run) s.elements run.state told fs → new ≡ with_elements es s → other ≡ with_elements fs s → OutcomeStep out run a new_run → OutcomeStep told run b other_run → (a ≡ b) × (new ≡ other) × (new_run ≡ other_run)
 alone-one i s run a b new other new_run other_run out told es fs h g new_is other_is ends ended =
     let one = acts-one i (environment run) s.elements run.state out told es fs h g in
-    let last = ends-one out run a b new_run other_run ends (subst (λ x. Ends x run b other_run) (sym one.0) ended) in
+    let last = ends-one out run a b new_run other_run ends (subst (λ x. OutcomeStep x run b other_run) (sym one.0) ended) in
     (last.0, new_is ∙ (ap (λ x. with_elements x s) one.1 ∙ sym other_is), last.1)
 
 insn-one : (i : Insn) (s : map_state.Store) (opened : List Section) (run : Run) (a b : Answer) (new other : map_state.Store) (new_run other_run : Run) → IsSingle s.elements → TakesOldest s new → TakesOldest s other →
@@ -254,7 +254,7 @@ items-one v w h = ap (λ xs. array_of xs) h
     array_of : List ℕ → ArrayVec ℕ
     array_of xs = record { items = xs }
 
-read-one : (m : Machine) (map : ℕ) (key v w : List ℕ) → IsSingle m.store.elements → Reads m map key v → Reads m map key w → v ≡ w
+read-one : (m : Machine) (map : ℕ) (key v w : List ℕ) → IsSingle m.store.elements → ReadsElement m map key v → ReadsElement m map key w → v ≡ w
 read-one m map key v w single h g =
     let births : h.n ≡ g.n = single map key h.n g.n h.linked g.linked in
     let elements : h.linked.element ≡ g.linked.element = both _ h.linked.element g.linked.element h.linked.born (ap (slice_get m.store.elements) births ∙ g.linked.born) in
@@ -305,7 +305,7 @@ taken-at m n a e v store t same r map_is key_is new_is = record {
   new_is = new_is ∙ (ap (with_store m) r.new_is ∙ ap (λ x. with_store m (reclaimed m.store x e r.state)) (sym same));
 }
 
-taken : (s : Schedule) (v : ReapedElement) (t : Machine) → Performs s.machine events.Reap (answers.Reaped (Some v)) t → (f : TakesFirst s events.Reap (answers.Reaped (Some v)) t) → Taken s.machine f.0 v t
+taken : (s : Schedule) (v : ReapedElement) (t : Machine) → PerformsEvent s.machine events.Reap (answers.Reaped (Some v)) t → (f : TakesFirst s events.Reap (answers.Reaped (Some v)) t) → Taken s.machine f.0 v t
 taken s v t h f =
     let same : f.0 ≡ h.0 = taken-is s.machine.store.elements t.store.elements f.0 h.0 h.1 f.1 (ap (λ x. x.store.elements) h.6 ∙ ap (λ x. x.elements) h.3.new_is) f.3 f.4 in
     taken-at s.machine f.0 h.0 h.1 v h.2 t same h.3 h.4 h.5 h.6
@@ -317,12 +317,12 @@ reap-some s v w t u n k h g a b =
 
 -- what one event does
 module _ (s : Schedule) (w : IsScheduled s) (t u : Machine) where
-  start-does_one : (prog : ℕ) (ctx : ArrayVec ℕ) (a b : Answer) → Performs s.machine (events.Start prog ctx) a t → Performs s.machine (events.Start prog ctx) b u → (a ≡ b) × (t ≡ u)
+  start-does_one : (prog : ℕ) (ctx : ArrayVec ℕ) (a b : Answer) → PerformsEvent s.machine (events.Start prog ctx) a t → PerformsEvent s.machine (events.Start prog ctx) b u → (a ≡ b) × (t ≡ u)
   start-does_one prog ctx (answers.Started q) (answers.Started r) h g = start-one s.machine prog ctx.items q r t u h g
   start-does_one prog ctx (answers.Started q) b h g = absurd g
   start-does_one prog ctx a b h g = absurd h
 
-  update-does_one : (map : ℕ) (key value : ArrayVec ℕ) (flags : ℕ) (a b : Answer) → TakesOldest s.machine.store t.store → TakesOldest s.machine.store u.store → Performs s.machine (events.Update map key value flags) a t → Performs s.machine (events.Update map key value flags) b u → (a ≡ b) × (t ≡ u)
+  update-does_one : (map : ℕ) (key value : ArrayVec ℕ) (flags : ℕ) (a b : Answer) → TakesOldest s.machine.store t.store → TakesOldest s.machine.store u.store → PerformsEvent s.machine (events.Update map key value flags) a t → PerformsEvent s.machine (events.Update map key value flags) b u → (a ≡ b) × (t ≡ u)
   update-does_one map key value flags (answers.Ret ret) (answers.Ret told) old_t old_u h g =
       let one = updates-one s.machine.store (open_sections s.machine.runs) map key.items value.items flags ret told h.0 g.0 w.consistent.single
       (subst (λ x. TakesOldest s.machine.store x.store) h.2 old_t) (subst (λ x. TakesOldest s.machine.store x.store) g.2 old_u) h.1 g.1 in
@@ -330,14 +330,14 @@ module _ (s : Schedule) (w : IsScheduled s) (t u : Machine) where
   update-does_one map key value flags (answers.Ret ret) b old_t old_u h g = absurd g
   update-does_one map key value flags a b old_t old_u h g = absurd h
 
-  delete-does_one : (map : ℕ) (key : ArrayVec ℕ) (a b : Answer) → Performs s.machine (events.Delete map key) a t → Performs s.machine (events.Delete map key) b u → (a ≡ b) × (t ≡ u)
+  delete-does_one : (map : ℕ) (key : ArrayVec ℕ) (a b : Answer) → PerformsEvent s.machine (events.Delete map key) a t → PerformsEvent s.machine (events.Delete map key) b u → (a ≡ b) × (t ≡ u)
   delete-does_one map key (answers.Ret ret) (answers.Ret told) h g =
       let one = deletes-one s.machine.store (open_sections s.machine.runs) map key.items ret told h.0 g.0 w.consistent.single h.1 g.1 in
       (ap answers.Ret one.0, h.2 ∙ (ap (with_store s.machine) one.1 ∙ sym g.2))
   delete-does_one map key (answers.Ret ret) b h g = absurd g
   delete-does_one map key a b h g = absurd h
 
-  read-does_one : (map : ℕ) (key : ArrayVec ℕ) (a b : Answer) → Performs s.machine (events.Read map key) a t → Performs s.machine (events.Read map key) b u → (a ≡ b) × (t ≡ u)
+  read-does_one : (map : ℕ) (key : ArrayVec ℕ) (a b : Answer) → PerformsEvent s.machine (events.Read map key) a t → PerformsEvent s.machine (events.Read map key) b u → (a ≡ b) × (t ≡ u)
   read-does_one map key (answers.Found (Some v)) (answers.Found (Some x)) h g = (ap (λ y. answers.Found (Some y)) (items-one v x (read-one s.machine map key.items v.items x.items w.consistent.single h.0 g.0)), meet _ _ _ h.1 g.1)
   read-does_one map key (answers.Found None) (answers.Found None) h g = (refl, meet _ _ _ h.1 g.1)
   read-does_one map key (answers.Found (Some v)) (answers.Found None) h g = absurd (g.0 h.0.n h.0.linked)
@@ -346,17 +346,17 @@ module _ (s : Schedule) (w : IsScheduled s) (t u : Machine) where
   read-does_one map key (answers.Found None) b h g = absurd g
   read-does_one map key a b h g = absurd h
 
-  advance-does_one : (a b : Answer) → Performs s.machine events.Advance a t → Performs s.machine events.Advance b u → (a ≡ b) × (t ≡ u)
+  advance-does_one : (a b : Answer) → PerformsEvent s.machine events.Advance a t → PerformsEvent s.machine events.Advance b u → (a ≡ b) × (t ≡ u)
   advance-does_one answers.Done answers.Done h g = (refl, meet _ _ _ h g)
   advance-does_one answers.Done b h g = absurd g
   advance-does_one a b h g = absurd h
 
-  drop-does_one : (r : ℕ) (a b : Answer) → Performs s.machine (events.Drop r) a t → Performs s.machine (events.Drop r) b u → (a ≡ b) × (t ≡ u)
+  drop-does_one : (r : ℕ) (a b : Answer) → PerformsEvent s.machine (events.Drop r) a t → PerformsEvent s.machine (events.Drop r) b u → (a ≡ b) × (t ≡ u)
   drop-does_one r answers.Done answers.Done h g = (refl, meet _ _ _ h g)
   drop-does_one r answers.Done b h g = absurd g
   drop-does_one r a b h g = absurd h
 
-  reap-does_one : (a b : Answer) → TakesFirst s events.Reap a t → TakesFirst s events.Reap b u → Performs s.machine events.Reap a t → Performs s.machine events.Reap b u → (a ≡ b) × (t ≡ u)
+  reap-does_one : (a b : Answer) → TakesFirst s events.Reap a t → TakesFirst s events.Reap b u → PerformsEvent s.machine events.Reap a t → PerformsEvent s.machine events.Reap b u → (a ≡ b) × (t ≡ u)
   reap-does_one (answers.Reaped (Some v)) (answers.Reaped (Some x)) f k h g = reap-some s v x t u f.0 k.0 f.2 k.2 (taken s v t h f) (taken s x u g k)
   reap-does_one (answers.Reaped None) (answers.Reaped None) f k h g = (refl, meet _ _ _ h g)
   reap-does_one (answers.Reaped (Some v)) (answers.Reaped None) f k h g = never (first_ready s.queues) f.0 k f.2
@@ -365,7 +365,7 @@ module _ (s : Schedule) (w : IsScheduled s) (t u : Machine) where
   reap-does_one (answers.Reaped None) b f k h g = absurd g
   reap-does_one a b f k h g = absurd h
 
-  performs-one : (event : Event) (a b : Answer) → TakesFirst s event a t → TakesFirst s event b u → TakesOldest s.machine.store t.store → TakesOldest s.machine.store u.store → Performs s.machine event a t → Performs s.machine event b u → (a ≡ b) × (t ≡ u)
+  performs-one : (event : Event) (a b : Answer) → TakesFirst s event a t → TakesFirst s event b u → TakesOldest s.machine.store t.store → TakesOldest s.machine.store u.store → PerformsEvent s.machine event a t → PerformsEvent s.machine event b u → (a ≡ b) × (t ≡ u)
   performs-one (events.Start prog ctx) a b f k old_t old_u h g = start-does_one prog ctx a b h g
   performs-one (events.Step r) a b f k old_t old_u h g = steps-one s.machine r a b t u w.consistent.single old_t old_u h g
   performs-one (events.Update map key value flags) a b f k old_t old_u h g = update-does_one map key value flags a b old_t old_u h g

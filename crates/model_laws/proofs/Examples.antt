@@ -13,7 +13,7 @@ use Rattle.bpf_model.specs.declared.opcode.Width.TheVariants.{Eight}
 use Rattle.bpf_model.specs.Spelling.{slot_count}
 use Rattle.bpf_model.specs.Step.{insn_at}
 use Rattle.bpf_model.specs.Graph.{falls, distance, JumpsTo, GoesTo, Reached, reached_entry, reached_next}
-use Rattle.bpf_model.specs.Plain.{Reads, Writes, ReadsByte, WritesByte, WithoutByte, bare_entry, bare_next}
+use Rattle.bpf_model.specs.Plain.{ReadsRegister, WritesRegister, ReadsByte, WritesByte, WithoutByte, bare_entry, bare_next}
 use Rattle.bpf_model.specs.PlainMaps.{lookup_call, lock_call, unlock_call, IsGuardedLookup, IsPart, HasForm, InSection, section_entry, section_lock, section_unlock, section_next, LacksRegister, lacks_entry, lacks_call, lacks_next, IsPlainWithMaps}
 use Rattle.model_laws.specs.Example.{lookup_and_load, example_shape}
 use Rattle.model_laws.proofs.Words.{same-pos}
@@ -422,7 +422,7 @@ lacks_6 r e _ (lacks_call place target i path h call small g) = absurd (omega ar
 lacks_6 r e _ (lacks_next place target i path h w g) =
     let first : place ≡ 0 = lacks_6 r e place path in
     let same = at_slot 0 place (Alu Move Word64 6 (Immediate (pos 0))) i refl first h in
-    let low : 3 ≤ place = (part_bounds place (w (subst (λ j. Writes j r) same e))).0 in
+    let low : 3 ≤ place = (part_bounds place (w (subst (λ j. WritesRegister j r) same e))).0 in
     absurd (omega arith)
 
 call_before : (place : ℕ) (i : Insn) → insn_at lookup_and_load place ≡ Some i → (i ≡ lock_call) ⊎ ((i ≡ unlock_call) ⊎ (i ≡ lookup_call)) → place ≡ 11 → ⊥
@@ -451,7 +451,7 @@ lacks_0 r e _ lacks_entry = omega arith
 lacks_0 r e _ (lacks_call place target i path h call small g) = not_last place target i h g (call_before place i h call)
 lacks_0 r e _ (lacks_next place target i path h w g) = not_last place target i h g (λ eleven.
     let same = at_slot 11 place (Alu Move Word64 0 (Register 6)) i refl eleven h in
-    let high : place ≤ 9 = (part_bounds place (w (subst (λ j. Writes j r) same e))).1 in
+    let high : place ≤ 9 = (part_bounds place (w (subst (λ j. WritesRegister j r) same e))).1 in
     absurd (omega arith))
 
 -- the key is written at slot 2
@@ -648,8 +648,8 @@ forms = visit (λ s j. HasForm lookup_and_load shapes s j) (
   ),
 )
 
-frame_pointer : (place : ℕ) (i : Insn) → insn_at lookup_and_load place ≡ Some i → (IsPart lookup_and_load shapes place → ⊥) → (Writes i 10 → ⊥) × (Reads i 10 → ⊥)
-frame_pointer = visit (λ s j. (IsPart lookup_and_load shapes s → ⊥) → (Writes j 10 → ⊥) × (Reads j 10 → ⊥)) (
+frame_pointer : (place : ℕ) (i : Insn) → insn_at lookup_and_load place ≡ Some i → (IsPart lookup_and_load shapes place → ⊥) → (WritesRegister i 10 → ⊥) × (ReadsRegister i 10 → ⊥)
+frame_pointer = visit (λ s j. (IsPart lookup_and_load shapes s → ⊥) → (WritesRegister j 10 → ⊥) × (ReadsRegister j 10 → ⊥)) (
   λ away. (λ w. absurd (omega arith), λ r. r),
   (
     λ away. (λ w. w, λ r. r),
@@ -684,8 +684,8 @@ frame_pointer = visit (λ s j. (IsPart lookup_and_load shapes s → ⊥) → (Wr
   ),
 )
 
-registers : (place : ℕ) (i : Insn) → insn_at lookup_and_load place ≡ Some i → (IsPart lookup_and_load shapes place → ⊥) → (r : ℕ) → Reads i r → LacksRegister lookup_and_load shapes r place → ⊥
-registers = visit (λ s j. (IsPart lookup_and_load shapes s → ⊥) → (r : ℕ) → Reads j r → LacksRegister lookup_and_load shapes r s → ⊥) (
+registers : (place : ℕ) (i : Insn) → insn_at lookup_and_load place ≡ Some i → (IsPart lookup_and_load shapes place → ⊥) → (r : ℕ) → ReadsRegister i r → LacksRegister lookup_and_load shapes r place → ⊥
+registers = visit (λ s j. (IsPart lookup_and_load shapes s → ⊥) → (r : ℕ) → ReadsRegister j r → LacksRegister lookup_and_load shapes r s → ⊥) (
   λ away r reads path. reads,
   (
     λ away r reads path. reads,

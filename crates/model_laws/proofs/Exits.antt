@@ -17,7 +17,7 @@ use Rattle.bpf_model.specs.Exit.{ExitsFrom, exits_now, exits_later, ExitsWith, M
 use Rattle.bpf_model.specs.Section.{Section}
 use Rattle.bpf_model.specs.MapState.{Store}
 use Rattle.bpf_model.specs.Machine.{Loaded, Run, fresh_run}
-use Rattle.bpf_model.specs.MachineStep.{Ends, KernelStep, HelperStep, InsnStep, RunStep}
+use Rattle.bpf_model.specs.MachineStep.{OutcomeStep, KernelStep, HelperStep, InsnStep, RunStep}
 use Rattle.bpf_model.specs.Schedule.{TakesOldest}
 use Rattle.model_laws.specs.Alone.{SharesNothing}
 use Rattle.model_laws.proofs.Deciding.{both, meet, kernel-one, alone-one, run-one}
@@ -43,7 +43,7 @@ abbrev renamed : ℕ → Run → Run
 renamed name run = record { name = name; program = run.program; context = run.context; state = run.state; depth = run.depth; locks = run.locks; moved = run.moved; exit = run.exit }
 
 module _ (name : ℕ) (s : Store) (opened : List Section) (run : Run) where
-  ends-renamed : (out : Outcome) (answer : Answer) (new : Run) → Ends out run answer new → Ends out (renamed name run) answer (renamed name new)
+  ends-renamed : (out : Outcome) (answer : Answer) (new : Run) → OutcomeStep out run answer new → OutcomeStep out (renamed name run) answer (renamed name new)
   ends-renamed (Moves next) answer new h = (h.0, ap (renamed name) h.1)
   ends-renamed (Exits n) answer new h = (h.0, h.1, ap (renamed name) h.2)
 

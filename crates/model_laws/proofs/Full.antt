@@ -11,7 +11,7 @@ use Rattle.bpf_model.specs.MapState.{MapState, Store}
 use Rattle.bpf_model.specs.Helper.{Settles, Updates}
 use Rattle.bpf_model.specs.Machine.{Loaded, open_sections}
 use Rattle.bpf_model.specs.Schedule.{Schedule}
-use Rattle.bpf_model.specs.Refines.{IsReached}
+use Rattle.bpf_model.specs.Refines.{IsReachedSchedule}
 use Rattle.model_laws.specs.Accounted.{IsFull}
 use Rattle.model_laws.proofs.Accounting.{enomem_exactly}
 
@@ -41,7 +41,7 @@ full-fails false false false true e ret s new Done h full g = let x : Err TooBig
 full-fails false false false false true ret s new Done h full g = let x : Err NoMemory ≡ Ok tt = sym h.0 ∙ g in cc
 full-fails false false false false false ret s new Done h full g = absurd (false≢true full)
 
-pub no_memory_when_full : (shapes : List MapShape) (programs : List Loaded) (s : Schedule) (k : ℕ) (m : MapState) (key value : List ℕ) (flags : ℕ) (ret : Result (Unit {0}) Errno) (new : Store) → IsReached shapes programs s → slice_get s.machine.store.maps k ≡ Some m →
+pub no_memory_when_full : (shapes : List MapShape) (programs : List Loaded) (s : Schedule) (k : ℕ) (m : MapState) (key value : List ℕ) (flags : ℕ) (ret : Result (Unit {0}) Errno) (new : Store) → IsReachedSchedule shapes programs s → slice_get s.machine.store.maps k ≡ Some m →
     Updates s.machine.store (open_sections s.machine.runs) k key value flags ret new → (ret ≡ Err NoMemory → IsFull k s.machine.store.elements m) × (IsFull k s.machine.store.elements m → ret ≢ Ok tt)
 no_memory_when_full shapes programs s k m key value flags ret new r at u =
     let same : u.state ≡ m = same_Some u.state m (sym u.there ∙ at) in

@@ -11,7 +11,7 @@ use Rattle.bpf_model.specs.Section.{Section}
 use Rattle.bpf_model.specs.Element.{Element, Life, Linked, Unlinked, IsLinkedAt}
 use Rattle.bpf_model.specs.MapState.{MapState, Store}
 use Rattle.bpf_model.specs.Machine.{Loaded, Run, Machine, open_sections, run_at, start_machine}
-use Rattle.bpf_model.specs.Event.{Does}
+use Rattle.bpf_model.specs.Event.{DoesEvent}
 use Rattle.bpf_model.specs.Consistent.{IsConsistent}
 use Rattle.model_laws.specs.Begun.{AllBegun}
 use Rattle.model_laws.proofs.Lists.{get-below}
@@ -189,5 +189,5 @@ module _ (reap : Bool) (m new : Machine) (w : IsConsistent m) (runs : RunsMove m
     cells = λ r run k at. more-cell _ _ (run.state.frame k) grown ((state-new r run at).1 k);
   }
 
-pub stays_consistent : (m new : Machine) (event : Event) (answer : Answer) → IsConsistent m → Does m event answer new → IsConsistent new
+pub stays_consistent : (m new : Machine) (event : Event) (answer : Answer) → IsConsistent m → DoesEvent m event answer new → IsConsistent new
 stays_consistent m new event answer w h = keeps-consistent (is_reap event) m new w (does-move m new event answer h) (does-moves m new event answer w.single h)

@@ -7,8 +7,8 @@ use Rattle.bpf_model.specs.declared.event.Answer.{Answer}
 use Rattle.bpf_model.specs.Section.{Section, AllEnded}
 use Rattle.bpf_model.specs.Element.{Element, Life, Linked, Unlinked, Reclaimed, HasLife}
 use Rattle.bpf_model.specs.Machine.{Machine, open_sections}
-use Rattle.bpf_model.specs.Event.{Does}
-use Rattle.bpf_model.specs.Run.{IsHistory}
+use Rattle.bpf_model.specs.Event.{DoesEvent}
+use Rattle.bpf_model.specs.History.{IsHistory}
 use Rattle.bpf_model.specs.Consistent.{IsConsistent}
 use Rattle.bpf_model.specs.Headline.{ReclaimedLate}
 use Rattle.model_laws.specs.Begun.{AllBegun}
@@ -25,7 +25,7 @@ life-unlinked reap opened since old new (Stays e) h g = absurd (linked≢unlinke
 life-unlinked reap opened since old new (Unlinks l e) h g = sym (same-since opened since (sym e ∙ g))
 life-unlinked reap opened since old new (Ends past r l ended e) h g = absurd (reclaimed≢unlinked since (sym e ∙ g))
 
-unlinked-now : (m new : Machine) (event : Event) (answer : Answer) (n : ℕ) (since : List Section) → IsConsistent m → Does m event answer new → HasLife m.store.elements n Linked → HasLife new.store.elements n (Unlinked since) → since ≡ open_sections m.runs
+unlinked-now : (m new : Machine) (event : Event) (answer : Answer) (n : ℕ) (since : List Section) → IsConsistent m → DoesEvent m event answer new → HasLife m.store.elements n Linked → HasLife new.store.elements n (Unlinked since) → since ≡ open_sections m.runs
 unlinked-now m new event answer n since w h old now =
     let f = (does-moves m new event answer w.single h).forth n old.0 old.1 in
     let same : f.0 ≡ now.0 = same_Some f.0 now.0 (sym f.1 ∙ now.1) in
@@ -40,7 +40,7 @@ life-kept reap opened since old new (Stays e) h = inl (e ∙ h)
 life-kept reap opened since old new (Unlinks l e) h = absurd (linked≢unlinked since (sym l ∙ h))
 life-kept reap opened since old new (Ends past r l ended e) h = inr (subst (λ x. AllEnded x opened) (same-since past since (sym l ∙ h)) ended)
 
-kept-next : (m new : Machine) (event : Event) (answer : Answer) (n : ℕ) (since : List Section) → IsConsistent m → Does m event answer new → HasLife m.store.elements n (Unlinked since) → HasLife new.store.elements n (Unlinked since) ⊎ AllEnded since (open_sections m.runs)
+kept-next : (m new : Machine) (event : Event) (answer : Answer) (n : ℕ) (since : List Section) → IsConsistent m → DoesEvent m event answer new → HasLife m.store.elements n (Unlinked since) → HasLife new.store.elements n (Unlinked since) ⊎ AllEnded since (open_sections m.runs)
 kept-next m new event answer n since w h old =
     let f = (does-moves m new event answer w.single h).forth n old.0 old.1 in
     elim (life-kept (is_reap event) (open_sections m.runs) since old.0.life f.0.life f.2.life old.2) [
@@ -48,7 +48,7 @@ kept-next m new event answer n since w h old =
       | inr x ↦ inr x
     ]
 
-kept-step : (m new : Machine) (event : Event) (answer : Answer) (n : ℕ) (since : List Section) → IsConsistent m → AllBegun m since → Does m event answer new → Kept m n since → Kept new n since
+kept-step : (m new : Machine) (event : Event) (answer : Answer) (n : ℕ) (since : List Section) → IsConsistent m → AllBegun m since → DoesEvent m event answer new → Kept m n since → Kept new n since
 kept-step m new event answer n since w all h (inr ended) = inr (ended-later m new since (does-move m new event answer h) all ended)
 kept-step m new event answer n since w all h (inl old) = elim (kept-next m new event answer n since w h old) [
   | inl x ↦ inl x

@@ -25,8 +25,8 @@ use Rattle.bpf_model.specs.MapState.{Store}
 use Rattle.bpf_model.specs.Helper.{LooksUp}
 use Rattle.bpf_model.specs.Consistent.{IsBornValue}
 use Rattle.bpf_model.specs.Machine.{Loaded, Run, Machine, environment, open_sections, moves, exits, locked, unlocked, fresh_run, with_store, run_at}
-use Rattle.bpf_model.specs.MachineStep.{Ends, KernelStep, HelperStep, InsnStep, StepsRun, returns, found_value}
-use Rattle.bpf_model.specs.Event.{Performs, Answers, Does, refusal}
+use Rattle.bpf_model.specs.MachineStep.{OutcomeStep, KernelStep, HelperStep, InsnStep, StepsRun, returns, found_value}
+use Rattle.bpf_model.specs.Event.{PerformsEvent, Answers, DoesEvent, refusal}
 use Rattle.model_laws.proofs.Born.{IsBornState, IsBornOutcome, born-acts, born-returns, born-returns_as}
 use Rattle.model_laws.proofs.Sections.{run-set_cases}
 
@@ -73,7 +73,7 @@ goes-locked run next going room = record {
   ends = λ h. absurd (h going);
 }
 
-goes-ends : (out : Outcome) (run : Run) (answer : Answer) (new : Run) → Ends out run answer new → GoesOn run new
+goes-ends : (out : Outcome) (run : Run) (answer : Answer) (new : Run) → OutcomeStep out run answer new → GoesOn run new
 goes-ends (Moves next) run answer new h = subst (GoesOn run) (sym h.1) (goes-moves run next)
 goes-ends (Exits n) run answer new h = subst (GoesOn run) (sym h.2) (goes-exits run n h.0)
 
@@ -88,7 +88,7 @@ goes-insn (Call kinds.Helper imm) s opened run answer new_store new going h = su
 goes-insn i s opened run answer new_store new going h = goes-ends h.0 run answer new h.4
 
 -- its registers and its frame
-born-ends : (births : ℕ) (out : Outcome) (run : Run) (answer : Answer) (new : Run) → IsBornState births run.state → IsBornOutcome births out → Ends out run answer new → IsBornState births new.state
+born-ends : (births : ℕ) (out : Outcome) (run : Run) (answer : Answer) (new : Run) → IsBornState births run.state → IsBornOutcome births out → OutcomeStep out run answer new → IsBornState births new.state
 born-ends births (Moves next) run answer new p q h = subst (λ r. IsBornState births r.state) (sym h.1) q
 born-ends births (Exits n) run answer new p q h = subst (λ r. IsBornState births r.state) (sym h.2) p
 
@@ -132,7 +132,7 @@ goes-run m r answer new h =
     (born-insn h.step.0 m.store (open_sections m.runs) h.run answer h.new_store h.new_run h.step.2)
     (ap (λ q. q.runs) h.new_is) (ap (λ q. q.started) h.new_is)
 
-performs-move : (m : Machine) (event : Event) (answer : Answer) (new : Machine) → Performs m event answer new → RunsMove m new
+performs-move : (m : Machine) (event : Event) (answer : Answer) (new : Machine) → PerformsEvent m event answer new → RunsMove m new
 performs-move m (events.Start prog ctx) (answers.Started r) new h = Begin r h.program ctx.items (ap (λ q. q.runs) h.new_is) (ap (λ q. q.started) h.new_is)
 performs-move m (events.Step run) answer new h = goes-run m run answer new h
 performs-move m (events.Update map key value flags) (answers.Ret ret) new h = stays-store m new h.0 h.2
@@ -149,7 +149,7 @@ answers-move : (o : Option EventRefusal) (m : Machine) (event : Event) (answer :
 answers-move None m event answer new h = performs-move m event answer new h
 answers-move (Some k) m event answer new h = stays m new h.1
 
-pub does-move : (m new : Machine) (event : Event) (answer : Answer) → Does m event answer new → RunsMove m new
+pub does-move : (m new : Machine) (event : Event) (answer : Answer) → DoesEvent m event answer new → RunsMove m new
 does-move m new event answer h = answers-move (refusal m event) m event answer new h
 
 -- a run that is there was there before, or is fresh

@@ -6,7 +6,7 @@ use Rattle.bpf_model.specs.declared.event.Answer.{Answer}
 use Rattle.bpf_model.specs.Machine.{Loaded}
 use Rattle.bpf_model.specs.Schedule.{Schedule, IsScheduledHistory, last_scheduled, start_schedule}
 use Rattle.bpf_model.specs.View.{WorldView, shapes_of}
-use Rattle.bpf_model.specs.Refines.{IsReached, TracksSchedule}
+use Rattle.bpf_model.specs.Refines.{IsReachedSchedule, TracksSchedule}
 use Rattle.model_laws.specs.Scheduled.{IsScheduled}
 use Rattle.model_laws.proofs.Scheduling.{starts_scheduled, stays_scheduled}
 
@@ -15,7 +15,7 @@ scheduled-last s [] [] [] w h = w
 scheduled-last s (event ∷ events) (answer ∷ answers) (next ∷ states) w h = scheduled-last next events answers states (stays_scheduled s next event answer w h.0) h.1
 scheduled-last s events answers states w h = absurd h
 
-pub reached_is_scheduled : (shapes : List MapShape) (programs : List Loaded) (s : Schedule) → IsReached shapes programs s → IsScheduled s
+pub reached_is_scheduled : (shapes : List MapShape) (programs : List Loaded) (s : Schedule) → IsReachedSchedule shapes programs s → IsScheduled s
 reached_is_scheduled shapes programs s r = subst IsScheduled r.last (scheduled-last (start_schedule shapes programs) r.events r.answers r.states (starts_scheduled shapes programs) r.history)
 
 pub tracked_is_scheduled : (w : WorldView) (s : Schedule) → TracksSchedule w s → IsScheduled s

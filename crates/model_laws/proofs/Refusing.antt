@@ -12,10 +12,10 @@ use Rattle.bpf_model.specs.Step.{Outcome, Moves, Exits}
 use Rattle.bpf_model.specs.Section.{Section}
 use Rattle.bpf_model.specs.MapState.{Store}
 use Rattle.bpf_model.specs.Machine.{Run, Machine, open_sections}
-use Rattle.bpf_model.specs.MachineStep.{Ends, InsnStep}
-use Rattle.bpf_model.specs.Event.{Performs, Answers, Does, refusal}
+use Rattle.bpf_model.specs.MachineStep.{OutcomeStep, InsnStep}
+use Rattle.bpf_model.specs.Event.{PerformsEvent, Answers, DoesEvent, refusal}
 
-ends-answer : (out : Outcome) (run : Run) (k : EventRefusal) (new : Run) → Ends out run (Refused k) new → ⊥
+ends-answer : (out : Outcome) (run : Run) (k : EventRefusal) (new : Run) → OutcomeStep out run (Refused k) new → ⊥
 ends-answer (Moves next) run k new h = let e : Refused k ≡ Moved = h.0 in cc
 ends-answer (Exits n) run k new h = let e : Refused k ≡ Exited n = h.1 in cc
 
@@ -24,7 +24,7 @@ insn-answer (Call kinds.Kernel imm) s opened run k new new_run h = let e : Refus
 insn-answer (Call kinds.Helper imm) s opened run k new new_run h = let e : Refused k ≡ Moved = h.2 in cc
 insn-answer i s opened run k new new_run h = ends-answer h.0 run k new_run h.4
 
-performs-answer : (m : Machine) (event : Event) (k : EventRefusal) (new : Machine) → Performs m event (Refused k) new → ⊥
+performs-answer : (m : Machine) (event : Event) (k : EventRefusal) (new : Machine) → PerformsEvent m event (Refused k) new → ⊥
 performs-answer m (events.Step run) k new h = insn-answer h.step.0 m.store (open_sections m.runs) h.run k h.new_store h.new_run h.step.2
 performs-answer m event k new h = h
 
@@ -35,5 +35,5 @@ told (Some j) m new event k h = (let e : Refused k ≡ Refused j = h.0 in let sa
 refuses : (o : Option EventRefusal) (m new : Machine) (event : Event) (k : EventRefusal) → o ≡ Some k → new ≡ m → Answers o m event (Refused k) new
 refuses o m new event k h same = subst (λ x. Answers x m event (Refused k) new) (sym h) (refl, same)
 
-pub refused_exactly : (m new : Machine) (event : Event) (k : EventRefusal) → Does m event (Refused k) new ↔ ((refusal m event ≡ Some k) × (new ≡ m))
+pub refused_exactly : (m new : Machine) (event : Event) (k : EventRefusal) → DoesEvent m event (Refused k) new ↔ ((refusal m event ≡ Some k) × (new ≡ m))
 refused_exactly m new event k = (told (refusal m event) m new event k, λ h. refuses (refusal m event) m new event k h.0 h.1)

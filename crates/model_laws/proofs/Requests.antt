@@ -25,8 +25,8 @@ use Rattle.bpf_model.specs.Section.{Section}
 use Rattle.bpf_model.specs.Element.{Element, accessible}
 use Rattle.bpf_model.specs.MapState as map_state
 use Rattle.bpf_model.specs.Machine.{Run, environment, moves, locked, unlocked}
-use Rattle.bpf_model.specs.MachineStep.{Acts, AccessesElement, Ends, KernelStep, LookupStep, UpdateStep, DeleteStep, HelperStep, InsnStep, loaded_from, stored_in, element_load, element_store, bound_map, map_argument, key_argument, frame_bytes, found_value, returns}
-use Rattle.bpf_model.specs.Request.{ArgumentKind, MapOfProgram, KeyOfMap, ValueOfMap, AnyNumber, ElementOrNull, Argument, MapArgument, BytesArgument, NumberArgument, Request, LoadElement, StoreElement, CallHelper, Enter, Leave, named_map, called_shape, signature_of, argument_of, arguments_of, load_request, store_request, section_request, asks, extended_reply, loads, Calls, IsOfKind, Serves, Resumes, bound_shape, StepsAlone, StepsServed}
+use Rattle.bpf_model.specs.MachineStep.{Acts, AccessesElement, OutcomeStep, KernelStep, LookupStep, UpdateStep, DeleteStep, HelperStep, InsnStep, loaded_from, stored_in, element_load, element_store, bound_map, map_argument, key_argument, frame_bytes, found_value, returns}
+use Rattle.bpf_model.specs.Request.{ArgumentKind, MapOfProgram, KeyOfMap, ValueOfMap, AnyNumber, ElementOrNull, Argument, MapArgument, BytesArgument, NumberArgument, Request, LoadElement, StoreElement, CallHelper, Enter, Leave, named_map, called_shape, signature_of, argument_of, arguments_of, load_request, store_request, section_request, asks, extended_reply, loads, Calls, IsOfKind, ServesRequest, Resumes, bound_shape, StepsAlone, StepsServed}
 use Rattle.model_laws.proofs.Lists.{first-step}
 
 -- a step of a computation, and those after it
@@ -389,11 +389,11 @@ module _ (s : map_state.Store) (opened : List Section) (run : Run) (answer : Ans
         resumes = is;
       }
 
-  access-served : (i : Insn) (out : Outcome) (es : List Element) → AccessesElement i s.elements run.state out es → new ≡ map_state.with_elements es s → Ends out run answer new_run → Served i
+  access-served : (i : Insn) (out : Outcome) (es : List Element) → AccessesElement i s.elements run.state out es → new ≡ map_state.with_elements es s → OutcomeStep out run answer new_run → Served i
   access-served (Load width dst src offset) out es h same ends =
       let l = load-there s.elements (byte_count width) offset (run.state.regs src) h.0 h.1 in
       let t = set-some (dst == 10) (Moves (loads dst (Number h.0) run.state)) out h.2 in
-      let goes = subst (λ x. Ends x run answer new_run) (sym t.1) ends in
+      let goes = subst (λ x. OutcomeStep x run answer new_run) (sym t.1) ends in
       record {
         request = LoadElement l.0 (l.1 +ℤ offset) (byte_count width);
         reply = Number h.0;
@@ -405,7 +405,7 @@ module _ (s : map_state.Store) (opened : List Section) (run : Run) (answer : Ans
   access-served (LoadSigned width dst src offset) out es h same ends =
       let l = load-there s.elements (byte_count (unsigned_width width)) offset (run.state.regs src) h.0 h.1 in
       let t = set-some (dst == 10) (Moves (loads dst (Number (loaded_signed width h.0)) run.state)) out h.2 in
-      let goes = subst (λ x. Ends x run answer new_run) (sym t.1) ends in
+      let goes = subst (λ x. OutcomeStep x run answer new_run) (sym t.1) ends in
       record {
         request = LoadElement l.0 (l.1 +ℤ offset) (byte_count (unsigned_width width));
         reply = Number h.0;
@@ -416,7 +416,7 @@ module _ (s : map_state.Store) (opened : List Section) (run : Run) (answer : Ans
       }
   access-served (Store width dst offset src) out es h same ends =
       let t = store-there s.elements es (byte_count width) offset (operand_value src run.state.regs) (run.state.regs dst) h.0 in
-      let goes = subst (λ x. Ends x run answer new_run) h.1 ends in
+      let goes = subst (λ x. OutcomeStep x run answer new_run) h.1 ends in
       record {
         request = StoreElement t.n (t.o +ℤ offset) (byte_count width) t.x;
         reply = Nothing;
@@ -427,7 +427,7 @@ module _ (s : map_state.Store) (opened : List Section) (run : Run) (answer : Ans
       }
   access-served i out es h same ends = absurd h
 
-  acts-served : (i : Insn) (out : Outcome) (es : List Element) → Acts i (environment run) s.elements run.state out es → new ≡ map_state.with_elements es s → Ends out run answer new_run → StepsAlone i s run answer new new_run ⊎ Served i
+  acts-served : (i : Insn) (out : Outcome) (es : List Element) → Acts i (environment run) s.elements run.state out es → new ≡ map_state.with_elements es s → OutcomeStep out run answer new_run → StepsAlone i s run answer new new_run ⊎ Served i
   acts-served i out es (inl h) same ends = inl (out, h.0, same ∙ ap (λ x. map_state.with_elements x s) h.1, ends)
   acts-served i out es (inr h) same ends = inr (access-served i out es h same ends)
 
@@ -443,7 +443,7 @@ module _ (s : map_state.Store) (opened : List Section) (run : Run) (answer : Ans
   alone-steps i h = (h.0, s.elements, inl (h.1, refl), h.2, h.3)
 
   abbrev Serving : Request → Value → Type 0
-  Serving request reply = Serves run.program.maps request s opened reply new
+  Serving request reply = ServesRequest run.program.maps request s opened reply new
 
   kernel-steps : (imm : ℤ) (f : KernelFunction) (reply : Value) → kernel_function_of imm ≡ Some f → Serving (section_request f) reply → answer ≡ Moved → Resumes (section_request f) (Call kinds.Kernel imm) reply run new_run → InsnStep (Call kinds.Kernel imm) s opened run answer new new_run
   kernel-steps imm ReadLock reply e served moved r =

@@ -16,7 +16,7 @@ use Rattle.bpf_model.specs.Element.{Element, Unlinked, Reclaimed, HasLife, with_
 use Rattle.bpf_model.specs.MapState.{Store, new_map}
 use Rattle.bpf_model.specs.Reclaim.{Reclaims}
 use Rattle.bpf_model.specs.Machine.{Loaded, Machine, open_sections, with_store}
-use Rattle.bpf_model.specs.Event.{Does}
+use Rattle.bpf_model.specs.Event.{DoesEvent}
 use Rattle.bpf_model.specs.Schedule.{Queues, Schedule, open_flags, still_open, is_any, unlinked_between, retired, turned, advanced, first_ready, without_first, reaped, scheduled, TakesFirst, DoesScheduled, start_schedule}
 use Rattle.bpf_model.specs.Consistent.{IsConsistent}
 use Rattle.bpf_model.specs.Refines.{times}
@@ -200,7 +200,7 @@ keeps-taken s m n a e given store w consistent runs mv r is first life =
     keeps-reaped s m n w p life (others-stay s.machine.store.elements m.store.elements n a e same es) consistent runs mv (ap (λ z. z.runs) is)
 
 -- a step
-keeps-performed : (s : Schedule) (event : Event) (answer : Answer) (m : Machine) → IsScheduled s → IsConsistent m → RunsMove s.machine m → StoreMoves (is_reap event) (open_sections s.machine.runs) s.machine.store m.store → Does s.machine event answer m → TakesFirst s event answer m → IsScheduled (scheduled s event m)
+keeps-performed : (s : Schedule) (event : Event) (answer : Answer) (m : Machine) → IsScheduled s → IsConsistent m → RunsMove s.machine m → StoreMoves (is_reap event) (open_sections s.machine.runs) s.machine.store m.store → DoesEvent s.machine event answer m → TakesFirst s event answer m → IsScheduled (scheduled s event m)
 keeps-performed s events.Advance answers.Done m w c runs mv h first = keeps-advance s m w h
 keeps-performed s events.Advance answer m w c runs mv h first = absurd h
 keeps-performed s events.Reap (answers.Reaped None) m w c runs mv h first = keeps-none s m w h first

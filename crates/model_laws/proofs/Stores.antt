@@ -36,7 +36,7 @@ use Rattle.bpf_model.specs.Helper.{LooksUp, Replaces, Settles, Updates, Removes,
 use Rattle.bpf_model.specs.Reclaim.{Reclaims}
 use Rattle.bpf_model.specs.Machine.{Run, Machine, environment, open_sections}
 use Rattle.bpf_model.specs.MachineStep.{AccessesElement, Acts, HelperStep, InsnStep, element_store, stored_in, with_bytes, bytes_at, bytes_from, frame_bytes, key_argument, value_argument}
-use Rattle.bpf_model.specs.Event.{Performs, Answers, Does, refusal, update_refusal}
+use Rattle.bpf_model.specs.Event.{PerformsEvent, Answers, DoesEvent, refusal, update_refusal}
 use Rattle.model_laws.proofs.Lists.{first-step, get-append, get-append_cases, get-set_same, get-set_other, get-set_cases, length-slice_set}
 use Rattle.model_laws.proofs.Lives.{linked≢unlinked}
 
@@ -321,7 +321,7 @@ moves-at reap m new h = moves-same reap (open_sections m.runs) m.store new.store
 moves-with : (reap : Bool) (m new : Machine) (store : map_state.Store) → StoreMoves reap (open_sections m.runs) m.store store → new.store ≡ store → MachineMoves reap m new
 moves-with reap m new store h e = subst (StoreMoves reap (open_sections m.runs) m.store) (sym e) h
 
-performs-moves : (m : Machine) (event : Event) (answer : Answer) (new : Machine) → IsSingle m.store.elements → refusal m event ≡ None → Performs m event answer new → MachineMoves (is_reap event) m new
+performs-moves : (m : Machine) (event : Event) (answer : Answer) (new : Machine) → IsSingle m.store.elements → refusal m event ≡ None → PerformsEvent m event answer new → MachineMoves (is_reap event) m new
 performs-moves m (events.Start prog ctx) (answers.Started r) new single pass h = moves-same false (open_sections m.runs) m.store new.store (ap (λ x. x.store) h.new_is)
 performs-moves m (events.Step run) answer new single pass h = moves-with false m new h.new_store (moves-insn h.step.0 m.store (open_sections m.runs) h.run answer h.new_store h.new_run single h.step.2) (ap (λ x. x.store) h.new_is)
 performs-moves m (events.Update map key value flags) (answers.Ret ret) new single pass h = moves-with false m new h.0 (moves-updates m.store (open_sections m.runs) map key.items value.items flags ret h.0 single (fits-event m.store map key.items value.items pass) h.1) (ap (λ x. x.store) h.2)
@@ -338,5 +338,5 @@ answers-moves : (o : Option EventRefusal) (m : Machine) (event : Event) (answer 
 answers-moves None m event answer new single pass h = performs-moves m event answer new single pass h
 answers-moves (Some k) m event answer new single pass h = moves-at (is_reap event) m new h.1
 
-pub does-moves : (m new : Machine) (event : Event) (answer : Answer) → IsSingle m.store.elements → Does m event answer new → MachineMoves (is_reap event) m new
+pub does-moves : (m new : Machine) (event : Event) (answer : Answer) → IsSingle m.store.elements → DoesEvent m event answer new → MachineMoves (is_reap event) m new
 does-moves m new event answer single h = answers-moves (refusal m event) m event answer new single refl h

@@ -7,7 +7,7 @@ use Rattle.bpf_model.specs.Element.{Element}
 use Rattle.bpf_model.specs.declared.limits.TheConstants.{MAX_MAPS, MAX_ENTRIES, MAX_SPARE}
 use Rattle.bpf_model.specs.Near.{IsNearOffset}
 use Rattle.bpf_model.specs.Word.{ctx_base, frame_base, map_base, slot_base, IsReferenceWord, element_bases}
-use Rattle.model_laws.specs.Near.{Location, InContext, InFrame, AtMap, InSlot, IsNearLocation, location_word, named_location}
+use Rattle.model_laws.specs.Locations.{Location, InContext, InFrame, AtMap, InSlot, IsNearLocation, location_word, named_location}
 
 near-pos : (n : ℕ) → IsNearOffset (pos n) → n ≤ 2 ^ 29
 near-pos n h = omega (arith, ints)

@@ -14,12 +14,12 @@ Later Reclaimed Linked = ⊥
 Later Reclaimed (Unlinked t) = ⊥
 Later Reclaimed Reclaimed = Unit {0}
 
-pub record Follows (old new : Element) : Type 0 where
+pub record IsLaterElement (old new : Element) : Type 0 where
   pub in_map : new.map ≡ old.map
   pub under : new.key ≡ old.key
   pub uses : new.uses ≡ old.uses
   pub life : Later old.life new.life
 
 -- each element is still there
-abbrev pub Grows : List Element → List Element → Type 0
-Grows old new = (n : ℕ) (e : Element) → slice_get old n ≡ Some e → (f : Element) × (slice_get new n ≡ Some f) × Follows e f
+abbrev pub ElementsGrow : List Element → List Element → Type 0
+ElementsGrow old new = (n : ℕ) (e : Element) → slice_get old n ≡ Some e → (f : Element) × (slice_get new n ≡ Some f) × IsLaterElement e f

@@ -1,7 +1,7 @@
 pub mod Growth
 pub mod Begun
 pub mod Scheduled
-pub mod Near
+pub mod Locations
 pub mod Steps
 pub mod Accounted
 pub mod Alone

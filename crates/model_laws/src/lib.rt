@@ -21,14 +21,14 @@ ghost use Rattle.bpf_model.specs.Schedule.{Queues, Schedule, is_any, first_ready
 ghost use Rattle.bpf_model.specs.Drain.{Drains, machines, AnswersAsScheduled, AreScheduledAnswers};
 ghost use Rattle.bpf_model.specs.Plain.{IsPlain};
 ghost use Rattle.bpf_model.specs.PlainMaps.{IsPlainWithMaps};
-ghost use Rattle.bpf_model.specs.Event.{refusal, Does};
-ghost use Rattle.bpf_model.specs.Run.{MachineRun, IsHistory};
+ghost use Rattle.bpf_model.specs.Event.{refusal, DoesEvent};
+ghost use Rattle.bpf_model.specs.History.{MachineRun, IsHistory};
 ghost use Rattle.bpf_model.specs.Section.{Section, Has};
 ghost use Rattle.bpf_model.specs.Consistent.{IsConsistent};
 ghost use Rattle.bpf_model.specs.Headline.{ReclaimedLate, AnswersAsMachine, AreMachineAnswers, AreReclaimedLate};
 ghost use Rattle.bpf_model.specs.declared.value.Reference.{Reference};
 ghost use Rattle.bpf_model.specs.View.{WorldView, start_view, shapes_of};
-ghost use Rattle.bpf_model.specs.Refines.{IsReached, TracksSchedule, Tracks};
+ghost use Rattle.bpf_model.specs.Refines.{IsReachedSchedule, TracksSchedule, Tracks};
 ghost use Rattle.bpf_model.specs.Word.{IsReferenceWord, element_bases};
 ghost use Rattle.bpf_model.specs.Exit.{ExitsWith, MayExitWith, HasNoMaps};
 ghost use Rattle.bpf_model.specs.Machine.{Run, fresh_run};
@@ -38,18 +38,18 @@ ghost use Rattle.bpf_model.specs.declared.call.Helper.{Helper};
 ghost use Rattle.bpf_model.specs.declared.value.Value.{Value};
 ghost use Rattle.bpf_model.specs.Request.{Argument, Request, signature_of, asks, Calls, IsOfKind, StepsAlone, StepsServed};
 ghost use Rattle.model_laws.specs.Alone.{SharesNothing};
-ghost use Rattle.model_laws.specs.Growth.{Grows};
+ghost use Rattle.model_laws.specs.Growth.{ElementsGrow};
 ghost use Rattle.model_laws.specs.Begun.{HasBegun};
 ghost use Rattle.model_laws.specs.Scheduled.{IsScheduled, IsReapable};
 ghost use Rattle.model_laws.specs.Steps.{AreSteps, AnswersAsHistory};
 ghost use Rattle.model_laws.specs.Accounted.{kept_count, born_count, IsFull};
 ghost use Rattle.model_laws.specs.Example.{lookup_and_load, example_shape};
-ghost use Rattle.model_laws.specs.Near.{Location, IsNearLocation, named_location, location_word};
+ghost use Rattle.model_laws.specs.Locations.{Location, IsNearLocation, named_location, location_word};
 
 /// An event is refused exactly when a test fails, by the first that does, and then nothing changes.
 pub fn refused_exactly()
     ensures { (m new : Machine) (event : Event) (k : EventRefusal) →
-        Does m event (Answer.Refused k) new ↔ ((refusal m event ≡ Some k) × (new ≡ m)) }
+        DoesEvent m event (Answer.Refused k) new ↔ ((refusal m event ≡ Some k) × (new ≡ m)) }
 {}
 
 /// A run of the machine can be cut anywhere, and two that meet are one.
@@ -62,8 +62,8 @@ pub fn cut_anywhere()
 /// Elements only grow: none is taken out, its map, key and use count stay, and its life goes on by at most one
 /// step, from linked to unlinked or from unlinked, with the same sections, to reclaimed.
 pub fn elements_only_grow()
-    ensures { (m new : Machine) (event : Event) (answer : Answer) → Does m event answer new →
-        Grows m.store.elements new.store.elements }
+    ensures { (m new : Machine) (event : Event) (answer : Answer) → DoesEvent m event answer new →
+        ElementsGrow m.store.elements new.store.elements }
 {}
 
 /// An element that is reclaimed stays reclaimed in every later state.
@@ -94,7 +94,7 @@ pub fn starts_consistent()
 /// A consistent machine stays consistent, whatever event comes and whatever it answers.
 pub fn stays_consistent()
     ensures { (m new : Machine) (event : Event) (answer : Answer) → IsConsistent m →
-        Does m event answer new → IsConsistent new }
+        DoesEvent m event answer new → IsConsistent new }
 {}
 
 /// A section that has begun and is not open is open in no later state.
@@ -129,7 +129,7 @@ pub fn stays_scheduled()
 /// hold of it.
 pub fn reached_is_scheduled()
     ensures { (shapes : List MapShape) (programs : List Loaded) (s : Schedule) →
-        IsReached shapes programs s → IsScheduled s }
+        IsReachedSchedule shapes programs s → IsScheduled s }
 {}
 
 /// With the runtime's choices an event has one answer and leads to one state.
@@ -203,7 +203,7 @@ pub fn reap_steps()
 /// reclaimed, or is worn out.
 pub fn slots_accounted()
     ensures { (shapes : List MapShape) (programs : List Loaded) (s : Schedule) (k : ℕ) (m : MapState) →
-        IsReached shapes programs s → slice_get s.machine.store.maps k ≡ Some m →
+        IsReachedSchedule shapes programs s → slice_get s.machine.store.maps k ≡ Some m →
         length m.bag + kept_count k s.machine.store.elements + m.worn ≡ slots_of_shape m.shape }
 {}
 
@@ -211,7 +211,7 @@ pub fn slots_accounted()
 /// slots are as many as all its slots.
 pub fn enomem_exactly()
     ensures { (shapes : List MapShape) (programs : List Loaded) (s : Schedule) (k : ℕ) (m : MapState) →
-        IsReached shapes programs s → slice_get s.machine.store.maps k ≡ Some m →
+        IsReachedSchedule shapes programs s → slice_get s.machine.store.maps k ≡ Some m →
         (m.bag ≡ []) ↔ IsFull k s.machine.store.elements m }
 {}
 
@@ -220,7 +220,7 @@ pub fn enomem_exactly()
 pub fn no_memory_when_full()
     ensures { (shapes : List MapShape) (programs : List Loaded) (s : Schedule) (k : ℕ) (m : MapState)
         (key value : List ℕ) (flags : ℕ) (ret : Result (Unit {0}) Errno) (new : Store) →
-        IsReached shapes programs s → slice_get s.machine.store.maps k ≡ Some m →
+        IsReachedSchedule shapes programs s → slice_get s.machine.store.maps k ≡ Some m →
         Updates s.machine.store (open_sections s.machine.runs) k key value flags ret new →
         (ret ≡ Err NoMemory → IsFull k s.machine.store.elements m)
         × (IsFull k s.machine.store.elements m → ret ≢ Ok tt) }
@@ -229,7 +229,7 @@ pub fn no_memory_when_full()
 /// In such a state no more elements were born in a map than its slots can bear: each of them is used so often.
 pub fn births_bounded()
     ensures { (shapes : List MapShape) (programs : List Loaded) (s : Schedule) (k : ℕ) (m : MapState) →
-        IsReached shapes programs s → slice_get s.machine.store.maps k ≡ Some m →
+        IsReachedSchedule shapes programs s → slice_get s.machine.store.maps k ≡ Some m →
         1 ≤ m.shape.reuse_limit → born_count k s.machine.store.elements ≤ most_births m.shape }
 {}
 

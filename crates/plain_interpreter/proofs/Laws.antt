@@ -25,7 +25,7 @@ use Rattle.bpf_model.specs.Value.{◌>>=◌, number}
 use Rattle.plain_interpreter.specs.declared.plain_run.PlainRun.{PlainRun}
 use Rattle.plain_interpreter.specs.declared.plain_run.Progress.{Progress}
 use Rattle.plain_interpreter.specs.declared.value.Computed.{Computed}
-use Rattle.plain_interpreter.specs.Plain.{cells_of, Comes, Computes, IsFar, IsSum, offset_of}
+use Rattle.plain_interpreter.specs.Plain.{cells_of, Comes, IsComputed, IsFar, IsSum, pointed_offset}
 
 pub bind_comes : {A : Type 0} (o : Option A) (f : A → Option Outcome) (x : A) (answer : Progress) (old new : PlainRun) → o ≡ Some x → Comes (f x) answer old new → Comes (o >>= f) answer old new
 bind_comes o f x answer old new e h = subst (λ o. Comes (o >>= f) answer old new) (sym e) h
@@ -33,8 +33,8 @@ bind_comes o f x answer old new e h = subst (λ o. Comes (o >>= f) answer old ne
 pub bind_none : {A B : Type 0} (o : Option A) (f : A → Option B) → o ≡ None → (o >>= f) ≡ None
 bind_none o f e = ap (λ o. o >>= f) e
 
-pub bind_computes : {A : Type 0} (o : Option A) (f : A → Option Value) (x : A) (c : Computed) → o ≡ Some x → Computes (f x) c → Computes (o >>= f) c
-bind_computes o f x c e h = subst (λ o. Computes (o >>= f) c) (sym e) h
+pub bind_computes : {A : Type 0} (o : Option A) (f : A → Option Value) (x : A) (c : Computed) → o ≡ Some x → IsComputed (f x) c → IsComputed (o >>= f) c
+bind_computes o f x c e h = subst (λ o. IsComputed (o >>= f) c) (sym e) h
 
 pub inside : (is : List Insn) (p : ℕ) (i : Insn) → insn_at is p ≡ Some i → slot_total is ≤ MAX_SLOTS → p < MAX_SLOTS
 inside is p i e l =
@@ -59,7 +59,7 @@ entry_reg (suc (suc (suc (suc (suc (suc (suc (suc (suc (suc (suc r))))))))))) = 
     beyond n h = ap (λ t. if t then Pointer (Ctx (pos 0)) else if n == 10 then Pointer (Frame (pos FRAME_BYTES)) else Nothing) (ne_eqb n 1 (λ e. omega arith))
         ∙ ap (λ t. if t then Pointer (Frame (pos FRAME_BYTES)) else Nothing) (ne_eqb n 10 (λ e. omega arith))
 
-pub far_moved : (r : Reference) (offset : Option ℤ) (d : ℤ) → offset ≡ None → ((k : ℕ) → r ≡ MapRef k → ⊥) → IsSum (offset_of r +ℤ d) offset → (v : Value) × (moved r d ≡ Some v) × IsFar v
+pub far_moved : (r : Reference) (offset : Option ℤ) (d : ℤ) → offset ≡ None → ((k : ℕ) → r ≡ MapRef k → ⊥) → IsSum (pointed_offset r +ℤ d) offset → (v : Value) × (moved r d ≡ Some v) × IsFar v
 far_moved (Ctx o) offset d e other s = (Pointer (Ctx (o +ℤ d)), refl, subst (IsSum (o +ℤ d)) e s)
 far_moved (Frame o) offset d e other s = (Pointer (Frame (o +ℤ d)), refl, subst (IsSum (o +ℤ d)) e s)
 far_moved (Elem k o) offset d e other s = (Pointer (Elem k (o +ℤ d)), refl, subst (IsSum (o +ℤ d)) e s)
@@ -100,11 +100,11 @@ far_set dst v m n far =
       subst (λ t. IsFar (if t then v else m.regs dst)) (sym (eq-eqb dst dst refl)) far,
     )
 
-pub sum_known : (x y : Value) (r : Reference) (b : ℕ) (c : Computed) → x ≡ Pointer r → number y ≡ Some b → Computes (moved r (signed w64 b)) c → Computes (sum_of x y) c
-sum_known x y r b c e f h = subst (λ x. Computes (sum_of x y) c) (sym e) (bind_computes (number y) (λ b. moved r (signed w64 b)) b c f h)
+pub sum_known : (x y : Value) (r : Reference) (b : ℕ) (c : Computed) → x ≡ Pointer r → number y ≡ Some b → IsComputed (moved r (signed w64 b)) c → IsComputed (sum_of x y) c
+sum_known x y r b c e f h = subst (λ x. IsComputed (sum_of x y) c) (sym e) (bind_computes (number y) (λ b. moved r (signed w64 b)) b c f h)
 
-pub difference_known : (x y : Value) (r : Reference) (b : ℕ) (c : Computed) → x ≡ Pointer r → number y ≡ Some b → Computes (moved r (pos 0 -ℤ signed w64 b)) c → Computes (difference_of x y) c
-difference_known x y r b c e f h = subst (λ x. Computes (difference_of x y) c) (sym e) (bind_computes (number y) (λ b. moved r (pos 0 -ℤ signed w64 b)) b c f h)
+pub difference_known : (x y : Value) (r : Reference) (b : ℕ) (c : Computed) → x ≡ Pointer r → number y ≡ Some b → IsComputed (moved r (pos 0 -ℤ signed w64 b)) c → IsComputed (difference_of x y) c
+difference_known x y r b c e f h = subst (λ x. IsComputed (difference_of x y) c) (sym e) (bind_computes (number y) (λ b. moved r (pos 0 -ℤ signed w64 b)) b c f h)
 
 pub store_known : (m : State) (width : ℕ) (offset : ℤ) (v : Value) (r : Reference) (o : ℤ) (at : ℕ) (frame : ℕ → Cell) → r ≡ Frame o → region_offset FRAME_BYTES width (o +ℤ offset) ≡ Some at → frame_after at width v m.frame ≡ Some frame
     → stored m width offset v r ≡ Some (Moves (record { regs = m.regs; frame = frame; place = m.place + 1 }))

@@ -20,30 +20,30 @@ abbrev pub cells_of : List Cell → ℕ → Cell
 cells_of frame k = slice_index_or frame k cells.Unwritten
 
 -- a context, and how many maps there are
-abbrev pub environment : List ℕ → ℕ → Environment
-environment context maps = record { context = context; maps = maps }
+abbrev pub plain_environment : List ℕ → ℕ → Environment
+plain_environment context maps = record { context = context; maps = maps }
 
 -- a store was made, or could not be
-abbrev pub Writes : ℕ → ℕ → Value → List Cell → Bool → List Cell → Type 0
-Writes at width v old true new = frame_after at width v (cells_of old) ≡ Some (cells_of new)
-Writes at width v old false new = (frame_after at width v (cells_of old) ≡ None) × (new ≡ old)
+abbrev pub WritesFrame : ℕ → ℕ → Value → List Cell → Bool → List Cell → Type 0
+WritesFrame at width v old true new = frame_after at width v (cells_of old) ≡ Some (cells_of new)
+WritesFrame at width v old false new = (frame_after at width v (cells_of old) ≡ None) × (new ≡ old)
 
 -- the state that a run stands for
-abbrev pub state_of : PlainRun → State
-state_of run = record { regs = λ r. slice_index_or run.regs r Nothing; frame = λ k. slice_index_or run.frame k cells.Unwritten; place = run.place }
+abbrev pub plain_state_of : PlainRun → State
+plain_state_of run = record { regs = λ r. slice_index_or run.regs r Nothing; frame = λ k. slice_index_or run.frame k cells.Unwritten; place = run.place }
 
 -- where a reference points
-abbrev pub offset_of : Reference → ℤ
-offset_of (Ctx o) = o
-offset_of (Frame o) = o
-offset_of (MapRef m) = pos 0
-offset_of (Elem n o) = o
+abbrev pub pointed_offset : Reference → ℤ
+pointed_offset (Ctx o) = o
+pointed_offset (Frame o) = o
+pointed_offset (MapRef m) = pos 0
+pointed_offset (Elem n o) = o
 
 -- a reference whose offset lies outside of 64 bits
 abbrev pub IsFar : Value → Type 0
 IsFar Nothing = ⊥
 IsFar (Number n) = ⊥
-IsFar (Pointer r) = FitsSigned w64 (offset_of r) → ⊥
+IsFar (Pointer r) = FitsSigned w64 (pointed_offset r) → ⊥
 
 -- the sum of an offset and a number, if it lies inside of 64 bits
 abbrev pub IsSum : ℤ → Option ℤ → Type 0
@@ -51,29 +51,29 @@ IsSum z None = FitsSigned w64 z → ⊥
 IsSum z (Some s) = s ≡ z
 
 -- a value was computed, or there is none, or one that is far
-abbrev pub Computes : Option Value → Computed → Type 0
-Computes o (computed.Known v) = o ≡ Some v
-Computes o computed.Stuck = o ≡ None
-Computes o computed.OutOfRange = (v : Value) × (o ≡ Some v) × IsFar v
+abbrev pub IsComputed : Option Value → Computed → Type 0
+IsComputed o (computed.Known v) = o ≡ Some v
+IsComputed o computed.Stuck = o ≡ None
+IsComputed o computed.OutOfRange = (v : Value) × (o ≡ Some v) × IsFar v
 
 -- The outcome is that of the answer and the run's state after it; only a run that moves changes.
 abbrev pub Comes : Option Outcome → Progress → PlainRun → PlainRun → Type 0
-Comes o Moved old new = o ≡ Some (Moves (state_of new))
+Comes o Moved old new = o ≡ Some (Moves (plain_state_of new))
 Comes o (Exited n) old new = (o ≡ Some (Exits n)) × (new ≡ old)
 Comes o Stuck old new = (o ≡ None) × (new ≡ old)
 Comes o OutOfRange old new = (next : State) × (o ≡ Some (Moves next)) × (r : ℕ) × IsFar (next.regs r) × (new ≡ old)
 
 -- the answer and the new state are those of the instruction
-pub record Performs (i : Insn) (env : Environment) (old : PlainRun) (answer : Progress) (new : PlainRun) : Type 0 where
-  pub comes : Comes (after i env (state_of old)) answer old new
+pub record PerformsInsn (i : Insn) (env : Environment) (old : PlainRun) (answer : Progress) (new : PlainRun) : Type 0 where
+  pub comes : Comes (after i env (plain_state_of old)) answer old new
 
 -- A run by itself steps by the instruction that begins at its slot; where none begins, or that does nothing by itself, it is stuck.
-abbrev pub StepsAlone : List Insn → Environment → State → Outcome → Type 0
-StepsAlone program env m out = (i : Insn) × (insn_at program m.place ≡ Some i) × (after i env m ≡ Some out)
+abbrev pub StepsByItself : List Insn → Environment → State → Outcome → Type 0
+StepsByItself program env m out = (i : Insn) × (insn_at program m.place ≡ Some i) × (after i env m ≡ Some out)
 
 -- The answer is that step. A stuck run has none, and out of range is a step to a far reference; only a run that moves changes.
-abbrev pub Tells : List Insn → Environment → PlainRun → Progress → PlainRun → Type 0
-Tells program env old Moved new = StepsAlone program env (state_of old) (Moves (state_of new))
-Tells program env old (Exited n) new = StepsAlone program env (state_of old) (Exits n) × (new ≡ old)
-Tells program env old Stuck new = ((out : Outcome) → StepsAlone program env (state_of old) out → ⊥) × (new ≡ old)
-Tells program env old OutOfRange new = (next : State) × StepsAlone program env (state_of old) (Moves next) × (r : ℕ) × IsFar (next.regs r) × (new ≡ old)
+abbrev pub TellsStep : List Insn → Environment → PlainRun → Progress → PlainRun → Type 0
+TellsStep program env old Moved new = StepsByItself program env (plain_state_of old) (Moves (plain_state_of new))
+TellsStep program env old (Exited n) new = StepsByItself program env (plain_state_of old) (Exits n) × (new ≡ old)
+TellsStep program env old Stuck new = ((out : Outcome) → StepsByItself program env (plain_state_of old) out → ⊥) × (new ≡ old)
+TellsStep program env old OutOfRange new = (next : State) × StepsByItself program env (plain_state_of old) (Moves next) × (r : ℕ) × IsFar (next.regs r) × (new ≡ old)

@@ -4,7 +4,7 @@ ghost use Rattle.bpf_model.specs.declared.limits.TheConstants.{FRAME_BYTES};
 ghost use Rattle.bpf_model.specs.Access.{byte_count, region_offset as offset_within, number_at};
 ghost use Rattle.bpf_model.specs.Frame.{byte_of, is_same_reference as is_same, is_part as is_part_of, are_parts as are_parts_of, is_within, read as read_from};
 ghost use Rattle.bpf_model.specs.declared.value.Cell.TheVariants as cells;
-ghost use Rattle.plain_interpreter.specs.Plain.{cells_of, Writes};
+ghost use Rattle.plain_interpreter.specs.Plain.{cells_of, WritesFrame};
 
 use bpf_model::{Cell, FRAME_BYTES, Reference, Value, Width};
 
@@ -177,7 +177,7 @@ fn write_reference(frame: &mut [Cell], at: usize, r: Reference)
 /// Writes a value, and says whether it could.
 pub(crate) fn write(frame: &mut [Cell], at: usize, width: Width, v: Value) -> bool
     requires { at + byte_count width ≤ length frame.old }
-    ensures { Writes at (byte_count width) v frame.old result frame.new }
+    ensures { WritesFrame at (byte_count width) v frame.old result frame.new }
 {
     match v {
         Value::Number(n) => {

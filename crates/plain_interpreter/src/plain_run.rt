@@ -4,7 +4,7 @@ ghost use Rattle.bpf_model.specs.declared.limits.TheConstants.{FRAME_BYTES};
 ghost use Rattle.bpf_model.specs.declared.value.Cell.TheVariants as cells;
 ghost use Rattle.bpf_model.specs.Operand.{operand_value};
 ghost use Rattle.bpf_model.specs.Step.{entry};
-ghost use Rattle.plain_interpreter.specs.Plain.{state_of, cells_of};
+ghost use Rattle.plain_interpreter.specs.Plain.{plain_state_of, cells_of};
 
 use alu::immediate;
 use bpf_model::{Cell, FRAME_BYTES, Operand, REGISTERS, Reference, Reg, Value};
@@ -48,7 +48,7 @@ fn empty_frame() -> [Cell; FRAME_BYTES]
 impl PlainRun {
     /// A run at the entry: r1 is the context, r10 the end of the frame, and nothing else is written.
     pub fn entry() -> PlainRun
-        ensures { state_of result ≡ entry }
+        ensures { plain_state_of result ≡ entry }
     {
         PlainRun {
             regs: [
@@ -71,7 +71,7 @@ impl PlainRun {
 
     /// What a register holds.
     pub fn register(&self, r: Reg) -> Value
-        ensures { result ≡ (state_of self.now).regs r }
+        ensures { result ≡ (plain_state_of self.now).regs r }
     {
         self.regs[r.index()]
     }
@@ -79,21 +79,21 @@ impl PlainRun {
     /// A cell of the frame, by its index there.
     pub fn cell(&self, index: usize) -> Cell
         requires { index < FRAME_BYTES }
-        ensures { result ≡ (state_of self.now).frame index }
+        ensures { result ≡ (plain_state_of self.now).frame index }
     {
         self.frame[index]
     }
 
     /// The slot where the next instruction begins.
     pub fn place(&self) -> usize
-        ensures { result ≡ (state_of self.now).place }
+        ensures { result ≡ (plain_state_of self.now).place }
     {
         self.place
     }
 
     /// The value of a second operand.
     pub fn operand(&self, src: &Operand) -> Value
-        ensures { result ≡ operand_value src.now (state_of self.now).regs }
+        ensures { result ≡ operand_value src.now (plain_state_of self.now).regs }
     {
         match src {
             Operand::Register(r) => self.register(*r),

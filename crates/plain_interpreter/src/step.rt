@@ -6,7 +6,7 @@ ghost use Rattle.bpf_model.specs.Access.{byte_count};
 ghost use Rattle.bpf_model.specs.Spelling.{slot_total};
 ghost use Rattle.bpf_model.specs.Step.{Environment, sets, forward, jumps_by, load_from, store_to, stored, after, insn_at as insn_of};
 ghost use Rattle.bpf_model.specs.MachineStep.{returns};
-ghost use Rattle.plain_interpreter.specs.Plain.{state_of, Comes, Performs, Tells, environment};
+ghost use Rattle.plain_interpreter.specs.Plain.{plain_state_of, Comes, PerformsInsn, TellsStep, plain_environment};
 
 use crate::memory::{number_in, read, region_offset, write};
 use crate::plain_run::{PlainRun, Progress};
@@ -40,7 +40,7 @@ impl PlainRun {
     /// Sets a register, after an instruction of so many slots. r10 is never set: that is stuck.
     pub fn set(&mut self, slots: usize, dst: Reg, v: Value) -> Progress
         requires { self.old.place + slots < 2 ^ 60 }
-        ensures { Comes (sets slots dst v (state_of self.old)) result self.old self.new }
+        ensures { Comes (sets slots dst v (plain_state_of self.old)) result self.old self.new }
     {
         if dst.number() == 10 {
             return Progress::Stuck;
@@ -53,7 +53,7 @@ impl PlainRun {
     fn alu(&mut self, op: AluOp, size: Size, dst: Reg, src: &Operand) -> Progress
         requires { self.old.place < 2 ^ 40 }
         ensures { (env : Environment) →
-            Performs (Insn.Alu op size dst src.now) env self.old result self.new }
+            PerformsInsn (Insn.Alu op size dst src.now) env self.old result self.new }
     {
         match compute(size, op, self.register(dst), self.operand(src)) {
             Computed::Known(v) => self.set(1, dst, v),
@@ -71,7 +71,7 @@ impl PlainRun {
     fn unary(&mut self, op: &UnaryOp, dst: Reg) -> Progress
         requires { self.old.place < 2 ^ 40 }
         ensures { (env : Environment) →
-            Performs (Insn.Unary op.now dst) env self.old result self.new }
+            PerformsInsn (Insn.Unary op.now dst) env self.old result self.new }
     {
         match number(self.register(op.source(dst))) {
             Some(n) => self.set(1, dst, Value::Number(unary(*op, n))),
@@ -82,7 +82,7 @@ impl PlainRun {
     fn load_map(&mut self, dst: Reg, map: i32, maps: usize) -> Progress
         requires { self.old.place < 2 ^ 40 }
         ensures { (context : List ℕ) →
-            Performs (Insn.LoadMap dst map) (environment context maps) self.old result self.new }
+            PerformsInsn (Insn.LoadMap dst map) (plain_environment context maps) self.old result self.new }
     {
         if map < 0 || map as usize >= maps {
             return Progress::Stuck;
@@ -92,7 +92,7 @@ impl PlainRun {
 
     fn jump(&mut self, offset: i32) -> Progress
         requires { self.old.place < 2 ^ 40 }
-        ensures { Comes (jumps_by offset (state_of self.old)) result self.old self.new }
+        ensures { Comes (jumps_by offset (plain_state_of self.old)) result self.old self.new }
     {
         let target = self.place as i64 + 1 + i64::from(offset);
         if target < 0 {
@@ -112,7 +112,7 @@ impl PlainRun {
     ) -> Progress
         requires { self.old.place < 2 ^ 40 }
         ensures { (env : Environment) →
-            Performs (Insn.JumpIf condition size dst src.now offset) env self.old result self.new }
+            PerformsInsn (Insn.JumpIf condition size dst src.now offset) env self.old result self.new }
     {
         match decided(condition, size, src, self.register(dst), self.operand(src)) {
             Some(true) => self.jump(i32::from(offset)),
@@ -127,7 +127,7 @@ impl PlainRun {
     fn load_from(&self, context: &[u8], width: Width, offset: i16, base: Value) -> Option<Value>
         requires { length context.now ≤ CTX_BYTES }
         ensures { (maps : ℕ) → result
-            ≡ load_from (environment context.now maps) (state_of self.now) (byte_count width) offset
+            ≡ load_from (plain_environment context.now maps) (plain_state_of self.now) (byte_count width) offset
             base }
     {
         match base {
@@ -148,7 +148,7 @@ impl PlainRun {
         requires place { self.old.place < 2 ^ 40 }
         requires context { length context.now ≤ CTX_BYTES }
         ensures { (maps : ℕ) →
-            Performs (Insn.Load width dst src offset) (environment context.now maps) self.old result
+            PerformsInsn (Insn.Load width dst src offset) (plain_environment context.now maps) self.old result
             self.new }
     {
         match self.load_from(context, width, offset, self.register(src)) {
@@ -168,7 +168,7 @@ impl PlainRun {
         requires place { self.old.place < 2 ^ 40 }
         requires context { length context.now ≤ CTX_BYTES }
         ensures { (maps : ℕ) →
-            Performs (Insn.LoadSigned width dst src offset) (environment context.now maps) self.old
+            PerformsInsn (Insn.LoadSigned width dst src offset) (plain_environment context.now maps) self.old
             result self.new }
     {
         match self.load_from(context, width.width(), offset, self.register(src)) {
@@ -182,7 +182,7 @@ impl PlainRun {
 
     fn store_through(&mut self, width: Width, offset: i16, v: Value, r: Reference) -> Progress
         requires { self.old.place < 2 ^ 40 }
-        ensures { Comes (stored (state_of self.old) (byte_count width) offset v r) result self.old
+        ensures { Comes (stored (plain_state_of self.old) (byte_count width) offset v r) result self.old
             self.new }
     {
         let o = match r {
@@ -200,7 +200,7 @@ impl PlainRun {
 
     fn store(&mut self, width: Width, offset: i16, v: Value, base: Value) -> Progress
         requires { self.old.place < 2 ^ 40 }
-        ensures { Comes (store_to (state_of self.old) (byte_count width) offset v base) result
+        ensures { Comes (store_to (plain_state_of self.old) (byte_count width) offset v base) result
             self.old self.new }
     {
         match base {
@@ -210,7 +210,7 @@ impl PlainRun {
     }
 
     fn exit(&self) -> Progress
-        ensures { (env : Environment) → Performs Insn.Exit env self.now result self.now }
+        ensures { (env : Environment) → PerformsInsn Insn.Exit env self.now result self.now }
     {
         match number(self.register(Reg::R0)) {
             Some(n) => Progress::Exited(n),
@@ -222,7 +222,7 @@ impl PlainRun {
     pub fn perform(&mut self, insn: &Insn, context: &[u8], maps: usize) -> Progress
         requires place { self.old.place < 2 ^ 40 }
         requires context { length context.now ≤ CTX_BYTES }
-        ensures { Performs insn.now (environment context.now maps) self.old result self.new }
+        ensures { PerformsInsn insn.now (plain_environment context.now maps) self.old result self.new }
     {
         match insn {
             Insn::Alu { op, size, dst, src } => self.alu(*op, *size, *dst, src),
@@ -267,7 +267,7 @@ impl PlainRun {
     /// The next instruction is one slot further.
     pub fn forward(&mut self)
         requires { self.old.place < 2 ^ 40 }
-        ensures { state_of self.new ≡ forward 1 (state_of self.old) }
+        ensures { plain_state_of self.new ≡ forward 1 (plain_state_of self.old) }
     {
         self.place += 1;
     }
@@ -275,7 +275,7 @@ impl PlainRun {
     /// After a call r0 is its result and r1 to r5 hold nothing.
     pub fn return_from_call(&mut self, value: Value)
         requires { self.old.place < 2 ^ 40 }
-        ensures { state_of self.new ≡ returns value (state_of self.old) }
+        ensures { plain_state_of self.new ≡ returns value (plain_state_of self.old) }
     {
         self.regs[0] = value;
         self.regs[1] = Value::Nothing;
@@ -293,7 +293,7 @@ impl PlainRun {
     pub fn step(&mut self, program: &[Insn], context: &[u8], maps: usize) -> Progress
         requires program { slot_total program.now ≤ MAX_SLOTS }
         requires context { length context.now ≤ CTX_BYTES }
-        ensures { Tells program.now (environment context.now maps) self.old result self.new }
+        ensures { TellsStep program.now (plain_environment context.now maps) self.old result self.new }
     {
         match insn_at(program, self.place) {
             Some(insn) => self.perform(insn, context, maps),

@@ -3,7 +3,7 @@ ghost use Rattle.std.specs.Prelude.{◌≡◌, ℤ, ◌+ℤ◌, ◌-ℤ◌, pos}
 ghost use Rattle.bpf_model.specs.declared.value.Value.{Value};
 ghost use Rattle.bpf_model.specs.Value.{number as number_of};
 ghost use Rattle.bpf_model.specs.Operand.{of_numbers as numbers_of, moved, sum_of, difference_of, computed as computed_of, is_zero as is_zero_of, null_test as null_test_of, decided as decided_of};
-ghost use Rattle.plain_interpreter.specs.Plain.{Computes, IsSum, offset_of};
+ghost use Rattle.plain_interpreter.specs.Plain.{IsComputed, IsSum, pointed_offset};
 
 use alu::{alu, compare};
 use bpf_model::{AluOp, Condition, Operand, Reference, Size, Value};
@@ -27,7 +27,7 @@ pub fn number(v: Value) -> Option<u64>
 }
 
 fn of_numbers(size: Size, op: AluOp, x: Value, y: Value) -> Computed
-    ensures { Computes (numbers_of size op x y) result }
+    ensures { IsComputed (numbers_of size op x y) result }
 {
     match (number(x), number(y)) {
         (Some(a), Some(b)) => Computed::Known(Value::Number(alu(size, op, a, b))),
@@ -36,7 +36,7 @@ fn of_numbers(size: Size, op: AluOp, x: Value, y: Value) -> Computed
 }
 
 fn offset(r: Reference) -> i64
-    ensures { result ≡ offset_of r }
+    ensures { result ≡ pointed_offset r }
 {
     match r {
         Reference::Ctx(o) | Reference::Frame(o) | Reference::Elem(_, o) => o,
@@ -60,7 +60,7 @@ fn sub_offset(o: i64, by: i64) -> Option<i64>
 
 /// The reference at another offset.
 fn at_offset(r: Reference, offset: Option<i64>) -> Computed
-    ensures { (d : ℤ) → IsSum (offset_of r +ℤ d) offset → Computes (moved r d) result }
+    ensures { (d : ℤ) → IsSum (pointed_offset r +ℤ d) offset → IsComputed (moved r d) result }
 {
     match r {
         Reference::MapRef(_) => Computed::Stuck,
@@ -80,7 +80,7 @@ fn at_offset(r: Reference, offset: Option<i64>) -> Computed
 }
 
 fn sum(x: Value, y: Value) -> Computed
-    ensures { Computes (sum_of x y) result }
+    ensures { IsComputed (sum_of x y) result }
 {
     match (x, number(y)) {
         (Value::Pointer(r), Some(b)) => at_offset(r, add_offset(offset(r), b.cast_signed())),
@@ -90,7 +90,7 @@ fn sum(x: Value, y: Value) -> Computed
 }
 
 fn difference(x: Value, y: Value) -> Computed
-    ensures { Computes (difference_of x y) result }
+    ensures { IsComputed (difference_of x y) result }
 {
     match (x, number(y)) {
         (Value::Pointer(r), Some(b)) => at_offset(r, sub_offset(offset(r), b.cast_signed())),
@@ -100,7 +100,7 @@ fn difference(x: Value, y: Value) -> Computed
 }
 
 fn held(v: Value) -> Computed
-    ensures { Computes (computed_of Size.Word64 AluOp.Move v v) result }
+    ensures { IsComputed (computed_of Size.Word64 AluOp.Move v v) result }
 {
     match v {
         Value::Nothing => Computed::Stuck,
@@ -109,7 +109,7 @@ fn held(v: Value) -> Computed
 }
 
 fn low_half(v: Value) -> Computed
-    ensures { (x : Value) → Computes (computed_of Size.Word32 AluOp.Move x v) result }
+    ensures { (x : Value) → IsComputed (computed_of Size.Word32 AluOp.Move x v) result }
 {
     match number(v) {
         Some(n) => Computed::Known(Value::Number(alu(Size::Word32, AluOp::Move, 0, n))),
@@ -119,7 +119,7 @@ fn low_half(v: Value) -> Computed
 
 /// What an operation leaves.
 pub(crate) fn compute(size: Size, op: AluOp, x: Value, y: Value) -> Computed
-    ensures { Computes (computed_of size op x y) result }
+    ensures { IsComputed (computed_of size op x y) result }
 {
     match (size, op) {
         (Size::Word64, AluOp::Move) => held(y),

@@ -17,19 +17,19 @@ use Rattle.bpf_model.specs.declared.event.Answer.TheVariants.{Started}
 use Rattle.bpf_model.specs.declared.event.EventRefusal.TheVariants.{BadContext}
 use Rattle.bpf_model.specs.Machine.{Loaded, lowest_free, begins}
 use Rattle.arrayvec.specs.ArrayVec.{ArrayVec}
-use Rattle.bpf_model.specs.Event.{refusal, key_refusal, start_refusal, if_full, step_refusal, if_ended, Answers, Performs, Does}
+use Rattle.bpf_model.specs.Event.{refusal, key_refusal, start_refusal, if_full, step_refusal, if_ended, Answers, PerformsEvent, DoesEvent}
 use Rattle.plain_store.specs.declared.fault.Fault.{Fault}
 use Rattle.plain_runs.specs.Acting.{SlotStep, SlotStepsAs}
 use Rattle.plain_model.specs.Following.{DoesAs}
 use Rattle.plain_store.proofs.Telling.{tells-map}
 
-pub does-refused : (m : Machine) (event : Event) (k : EventRefusal) → refusal m event ≡ Some k → Does m event (Refused k) m
+pub does-refused : (m : Machine) (event : Event) (k : EventRefusal) → refusal m event ≡ Some k → DoesEvent m event (Refused k) m
 does-refused m event k h = subst (λ o. Answers o m event (Refused k) m) (sym h) (refl, refl)
 
-pub does-performs : (m : Machine) (event : Event) (answer : Answer) (new : Machine) → refusal m event ≡ None → Performs m event answer new → Does m event answer new
+pub does-performs : (m : Machine) (event : Event) (answer : Answer) (new : Machine) → refusal m event ≡ None → PerformsEvent m event answer new → DoesEvent m event answer new
 does-performs m event answer new h p = subst (λ o. Answers o m event answer new) (sym h) p
 
-does-only : (m : Machine) (event : Event) (answer : Answer) (new : Machine) → refusal m event ≡ None → Does m event answer new → Performs m event answer new
+does-only : (m : Machine) (event : Event) (answer : Answer) (new : Machine) → refusal m event ≡ None → DoesEvent m event answer new → PerformsEvent m event answer new
 does-only m event answer new h d = subst (λ o. Answers o m event answer new) h d
 
 -- the run that is in a slot
@@ -55,7 +55,7 @@ step-does m r old answer t q new h free is s = tells-map _ _ _ _ answer done stu
     at : run_at m.runs r ≡ run_in (Some old)
     at = ap run_in h
 
-    done : (a : Answer) → SlotStep m.store (open_sections m.runs) old a t q → Does m (events.Step r) a new
+    done : (a : Answer) → SlotStep m.store (open_sections m.runs) old a t q → DoesEvent m (events.Step r) a new
     done a k = does-performs m (events.Step r) a new free (moved old a k at)
       where
         moved : (o : Option Run) (a : Answer) → SlotStep m.store (open_sections m.runs) o a t q → run_at m.runs r ≡ run_in (Some o) → StepsRun m r a new
@@ -70,14 +70,14 @@ step-does m r old answer t q new h free is s = tells-map _ _ _ _ answer done stu
           new_is = is ∙ ap (λ x. with_runs (with_store m t) (slice_set m.runs r x)) k.1;
         }
 
-    stuck : ((a : Answer) (u : Store) (p : Option Run) → SlotStep m.store (open_sections m.runs) old a u p → ⊥) → (a : Answer) (next : Machine) → Does m (events.Step r) a next → ⊥
+    stuck : ((a : Answer) (u : Store) (p : Option Run) → SlotStep m.store (open_sections m.runs) old a u p → ⊥) → (a : Answer) (next : Machine) → DoesEvent m (events.Step r) a next → ⊥
     stuck none a next d =
         let p = does-only m (events.Step r) a next free d in
         let o : old ≡ Some p.run = in-slot old p.run (sym at ∙ p.there) in
         none a p.new_store (Some p.new_run) (subst (λ x. SlotStep m.store (open_sections m.runs) x a p.new_store (Some p.new_run)) (sym o) (p.new_run, refl, p.step))
 
 pub start-does : (m : Machine) (prog r : ℕ) (ctx : ArrayVec ℕ) (program : Loaded) (new : Machine) → slice_get m.programs prog ≡ Some program → length ctx.items ≡ program.context_len → lowest_free m.runs ≡ Some r →
-    new ≡ begins m r program ctx.items → Does m (events.Start prog ctx) (Started r) new
+    new ≡ begins m r program ctx.items → DoesEvent m (events.Start prog ctx) (Started r) new
 start-does m prog r ctx program new h l free is =
     let none : refusal m (events.Start prog ctx) ≡ None = ap (λ o. start_refusal o (length ctx.items) (lowest_free m.runs)) h ∙ ap (λ b. if b then if_full (lowest_free m.runs) else Some BadContext) (eq-eqb (length ctx.items) program.context_len l) ∙ ap if_full free in
     does-performs m (events.Start prog ctx) (Started r) new none (record { program = program; there = h; lowest = free; new_is = is })
@@ -86,6 +86,6 @@ abbrev pub bytes_of : ArrayVec ℕ → List ℕ
 bytes_of v = v.items
 
 pub read-does : (m : Machine) (map : ℕ) (key : ArrayVec ℕ) (found : Option (ArrayVec ℕ)) → key_refusal (shape_of m.store map) (length key.items) ≡ None → Finds m.store.elements map key.items (option_map bytes_of found) →
-    Does m (events.Read map key) (Found found) m
+    DoesEvent m (events.Read map key) (Found found) m
 read-does m map key None free absent = does-performs m (events.Read map key) (Found None) m free (absent, refl)
 read-does m map key (Some value) free f = does-performs m (events.Read map key) (Found (Some value)) m free (record { n = f.0; linked = f.1; value_is = f.2 }, refl)

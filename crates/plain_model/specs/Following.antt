@@ -4,15 +4,15 @@ use Rattle.bpf_model.specs.declared.event.Event.{Event}
 use Rattle.bpf_model.specs.declared.event.Event.TheVariants.{Advance, Reap}
 use Rattle.bpf_model.specs.declared.event.Answer.{Answer}
 use Rattle.bpf_model.specs.Element.{Element}
-use Rattle.bpf_model.specs.Event.{Does}
+use Rattle.bpf_model.specs.Event.{DoesEvent}
 use Rattle.bpf_model.specs.Machine.{Machine}
 use Rattle.bpf_model.specs.Schedule.{Schedule, retired, still_open, open_flags, scheduled, TakesFirst}
 use Rattle.plain_store.specs.declared.fault.Fault.{Fault}
-use Rattle.plain_store.specs.Telling.{Tells}
+use Rattle.plain_store.specs.Telling.{TellsResult}
 
 -- the machine made a step, or has none
 abbrev pub DoesAs : Machine → Event → Result Answer Fault → Machine → Type 0
-DoesAs m event answer new = Tells (λ a. Does m event a new) ((a : Answer) (next : Machine) → Does m event a next → ⊥) answer
+DoesAs m event answer new = TellsResult (λ a. DoesEvent m event a new) ((a : Answer) (next : Machine) → DoesEvent m event a next → ⊥) answer
 
 -- the lists after an event other than an advance or a reap, of the machine that it led to; the elements before it are given
 abbrev pub settled : Schedule → List Element → Schedule

@@ -19,7 +19,7 @@ use Rattle.bpf_model.specs.MachineStep.{AccessesElement, element_load, element_s
 use Rattle.plain_interpreter.specs.declared.plain_run.PlainRun.{PlainRun}
 use Rattle.plain_interpreter.specs.declared.plain_run.Progress.{Progress}
 use Rattle.plain_interpreter.specs.declared.plain_run.Progress.TheVariants as progress
-use Rattle.plain_interpreter.specs.Plain.{state_of, Comes, Performs}
+use Rattle.plain_interpreter.specs.Plain.{plain_state_of, Comes, PerformsInsn}
 use Rattle.plain_runs.specs.Acting.{element_in, base_element, load_outcome, extended_outcome, StoresAs, ActsAs, AloneAs, KernelsAs, InsnStepsAs, call_in}
 use Rattle.bpf_model.specs.Call.{kernel_function_of}
 use Rattle.plain_store.proofs.Telling.{tells-map}
@@ -65,16 +65,16 @@ no-access (Call kind imm) es m out new h a = a
 no-access Exit es m out new h a = a
 
 -- an instruction that does something to the run by itself
-acts-comes : (i : Insn) (env : Environment) (es : List Element) (old new : PlainRun) (p : Progress) → (base_element i (state_of old) ≡ None) → Comes (after i env (state_of old)) p old new → ActsAs i env es old p es new
+acts-comes : (i : Insn) (env : Environment) (es : List Element) (old new : PlainRun) (p : Progress) → (base_element i (plain_state_of old) ≡ None) → Comes (after i env (plain_state_of old)) p old new → ActsAs i env es old p es new
 acts-comes i env es old new progress.Moved b h = inl (h, refl)
-acts-comes i env es old new (progress.Exited n) b h = (inl (h.0, refl), ap state_of h.1)
+acts-comes i env es old new (progress.Exited n) b h = (inl (h.0, refl), ap plain_state_of h.1)
 acts-comes i env es old new progress.Stuck b h = λ out more a. elim a [
   | inl x ↦ let e : None ≡ Some out = sym h.0 ∙ x.0 in absurd cc
-  | inr x ↦ no-access i es (state_of old) out more b x
+  | inr x ↦ no-access i es (plain_state_of old) out more b x
 ]
 acts-comes i env es old new progress.OutOfRange b h = tt
 
-pub performed : (i : Insn) (env : Environment) (es : List Element) (old new : PlainRun) (p : Progress) → base_element i (state_of old) ≡ None → Performs i env old p new → ActsAs i env es old p es new
+pub performed : (i : Insn) (env : Environment) (es : List Element) (old new : PlainRun) (p : Progress) → base_element i (plain_state_of old) ≡ None → PerformsInsn i env old p new → ActsAs i env es old p es new
 performed i env es old new p b h = acts-comes i env es old new p b h.comes
 
 -- where the base is an element, a load or a store does nothing by itself
@@ -98,64 +98,64 @@ element-is (Pointer (Elem k p)) n o h =
     let f : pair k p ≡ pair n o = cc in
     ap (λ q. Pointer (Elem q.0 q.1)) f
 
-pub loaded-acts : (width : Width) (dst src : ℕ) (offset : ℤ) (env : Environment) (es : List Element) (old new : PlainRun) (p : Progress) (n : ℕ) (o : ℤ) → element_in ((state_of old).regs src) ≡ Some (n, o) →
-    Comes (load_outcome es (byte_count width) offset (Pointer (Elem n o)) dst (state_of old)) p old new → ActsAs (Load width dst src offset) env es old p es new
+pub loaded-acts : (width : Width) (dst src : ℕ) (offset : ℤ) (env : Environment) (es : List Element) (old new : PlainRun) (p : Progress) (n : ℕ) (o : ℤ) → element_in ((plain_state_of old).regs src) ≡ Some (n, o) →
+    Comes (load_outcome es (byte_count width) offset (Pointer (Elem n o)) dst (plain_state_of old)) p old new → ActsAs (Load width dst src offset) env es old p es new
 loaded-acts width dst src offset env es old new p n o b h =
-    let base = element-is ((state_of old).regs src) n o b in
-    by p (subst (λ v. Comes (load_outcome es (byte_count width) offset v dst (state_of old)) p old new) (sym base) h) (ap (λ q. q >>= λ v. sets 1 dst v (state_of old)) (from-element env (state_of old) (byte_count width) offset ((state_of old).regs src) n o base))
+    let base = element-is ((plain_state_of old).regs src) n o b in
+    by p (subst (λ v. Comes (load_outcome es (byte_count width) offset v dst (plain_state_of old)) p old new) (sym base) h) (ap (λ q. q >>= λ v. sets 1 dst v (plain_state_of old)) (from-element env (plain_state_of old) (byte_count width) offset ((plain_state_of old).regs src) n o base))
   where
-    found : (q : Option ℕ) (out : Outcome) → (q >>= λ k. sets 1 dst (Number k) (state_of old)) ≡ Some out → (k : ℕ) × (q ≡ Some k) × (sets 1 dst (Number k) (state_of old) ≡ Some out)
+    found : (q : Option ℕ) (out : Outcome) → (q >>= λ k. sets 1 dst (Number k) (plain_state_of old)) ≡ Some out → (k : ℕ) × (q ≡ Some k) × (sets 1 dst (Number k) (plain_state_of old) ≡ Some out)
     found None out e = absurd cc
     found (Some k) out e = (k, refl, e)
 
-    by : (p : Progress) → Comes (load_outcome es (byte_count width) offset ((state_of old).regs src) dst (state_of old)) p old new → after (Load width dst src offset) env (state_of old) ≡ None → ActsAs (Load width dst src offset) env es old p es new
+    by : (p : Progress) → Comes (load_outcome es (byte_count width) offset ((plain_state_of old).regs src) dst (plain_state_of old)) p old new → after (Load width dst src offset) env (plain_state_of old) ≡ None → ActsAs (Load width dst src offset) env es old p es new
     by progress.Moved c z =
-        let f = found (element_load es (byte_count width) offset ((state_of old).regs src)) (Moves (state_of new)) c in
+        let f = found (element_load es (byte_count width) offset ((plain_state_of old).regs src)) (Moves (plain_state_of new)) c in
         inr (f.0, f.1, f.2, refl)
     by (progress.Exited k) c z =
-        let f = found (element_load es (byte_count width) offset ((state_of old).regs src)) (Exits k) c.0 in
-        (inr (f.0, f.1, f.2, refl), ap state_of c.1)
+        let f = found (element_load es (byte_count width) offset ((plain_state_of old).regs src)) (Exits k) c.0 in
+        (inr (f.0, f.1, f.2, refl), ap plain_state_of c.1)
     by progress.Stuck c z = λ out more a. elim a [
       | inl x ↦ let e : None ≡ Some out = sym z ∙ x.0 in absurd cc
       | inr x ↦
-          let e : None ≡ Some out = sym c.0 ∙ ap (λ q. q >>= λ k. sets 1 dst (Number k) (state_of old)) x.1 ∙ x.2 in absurd cc
+          let e : None ≡ Some out = sym c.0 ∙ ap (λ q. q >>= λ k. sets 1 dst (Number k) (plain_state_of old)) x.1 ∙ x.2 in absurd cc
     ]
     by progress.OutOfRange c z = tt
 
-pub extended-acts : (width : SignedWidth) (dst src : ℕ) (offset : ℤ) (env : Environment) (es : List Element) (old new : PlainRun) (p : Progress) (n : ℕ) (o : ℤ) → element_in ((state_of old).regs src) ≡ Some (n, o) →
-    Comes (extended_outcome es width offset (Pointer (Elem n o)) dst (state_of old)) p old new → ActsAs (LoadSigned width dst src offset) env es old p es new
+pub extended-acts : (width : SignedWidth) (dst src : ℕ) (offset : ℤ) (env : Environment) (es : List Element) (old new : PlainRun) (p : Progress) (n : ℕ) (o : ℤ) → element_in ((plain_state_of old).regs src) ≡ Some (n, o) →
+    Comes (extended_outcome es width offset (Pointer (Elem n o)) dst (plain_state_of old)) p old new → ActsAs (LoadSigned width dst src offset) env es old p es new
 extended-acts width dst src offset env es old new p n o b h =
-    let base = element-is ((state_of old).regs src) n o b in
-    by p (subst (λ v. Comes (extended_outcome es width offset v dst (state_of old)) p old new) (sym base) h)
-    (ap (λ q. q >>= λ v. number v >>= λ k. sets 1 dst (Number (loaded_signed width k)) (state_of old)) (from-element env (state_of old) (byte_count (unsigned_width width)) offset ((state_of old).regs src) n o base))
+    let base = element-is ((plain_state_of old).regs src) n o b in
+    by p (subst (λ v. Comes (extended_outcome es width offset v dst (plain_state_of old)) p old new) (sym base) h)
+    (ap (λ q. q >>= λ v. number v >>= λ k. sets 1 dst (Number (loaded_signed width k)) (plain_state_of old)) (from-element env (plain_state_of old) (byte_count (unsigned_width width)) offset ((plain_state_of old).regs src) n o base))
   where
-    found : (q : Option ℕ) (out : Outcome) → (q >>= λ k. sets 1 dst (Number (loaded_signed width k)) (state_of old)) ≡ Some out → (k : ℕ) × (q ≡ Some k) × (sets 1 dst (Number (loaded_signed width k)) (state_of old) ≡ Some out)
+    found : (q : Option ℕ) (out : Outcome) → (q >>= λ k. sets 1 dst (Number (loaded_signed width k)) (plain_state_of old)) ≡ Some out → (k : ℕ) × (q ≡ Some k) × (sets 1 dst (Number (loaded_signed width k)) (plain_state_of old) ≡ Some out)
     found None out e = absurd cc
     found (Some k) out e = (k, refl, e)
 
-    by : (p : Progress) → Comes (extended_outcome es width offset ((state_of old).regs src) dst (state_of old)) p old new → after (LoadSigned width dst src offset) env (state_of old) ≡ None → ActsAs (LoadSigned width dst src offset) env es old p es new
+    by : (p : Progress) → Comes (extended_outcome es width offset ((plain_state_of old).regs src) dst (plain_state_of old)) p old new → after (LoadSigned width dst src offset) env (plain_state_of old) ≡ None → ActsAs (LoadSigned width dst src offset) env es old p es new
     by progress.Moved c z =
-        let f = found (element_load es (byte_count (unsigned_width width)) offset ((state_of old).regs src)) (Moves (state_of new)) c in
+        let f = found (element_load es (byte_count (unsigned_width width)) offset ((plain_state_of old).regs src)) (Moves (plain_state_of new)) c in
         inr (f.0, f.1, f.2, refl)
     by (progress.Exited k) c z =
-        let f = found (element_load es (byte_count (unsigned_width width)) offset ((state_of old).regs src)) (Exits k) c.0 in
-        (inr (f.0, f.1, f.2, refl), ap state_of c.1)
+        let f = found (element_load es (byte_count (unsigned_width width)) offset ((plain_state_of old).regs src)) (Exits k) c.0 in
+        (inr (f.0, f.1, f.2, refl), ap plain_state_of c.1)
     by progress.Stuck c z = λ out more a. elim a [
       | inl x ↦ let e : None ≡ Some out = sym z ∙ x.0 in absurd cc
       | inr x ↦
-          let e : None ≡ Some out = sym c.0 ∙ ap (λ q. q >>= λ k. sets 1 dst (Number (loaded_signed width k)) (state_of old)) x.1 ∙ x.2 in absurd cc
+          let e : None ≡ Some out = sym c.0 ∙ ap (λ q. q >>= λ k. sets 1 dst (Number (loaded_signed width k)) (plain_state_of old)) x.1 ∙ x.2 in absurd cc
     ]
     by progress.OutOfRange c z = tt
 
 -- a store to an element
-pub stored-acts : (width : Width) (dst : ℕ) (offset : ℤ) (src : Operand) (env : Environment) (es more : List Element) (old new : PlainRun) (p : Progress) (n : ℕ) (o : ℤ) → element_in ((state_of old).regs dst) ≡ Some (n, o) →
-    StoresAs (element_store es (byte_count width) offset (operand_value src (state_of old).regs) (Pointer (Elem n o))) old p more new → ActsAs (Store width dst offset src) env es old p more new
+pub stored-acts : (width : Width) (dst : ℕ) (offset : ℤ) (src : Operand) (env : Environment) (es more : List Element) (old new : PlainRun) (p : Progress) (n : ℕ) (o : ℤ) → element_in ((plain_state_of old).regs dst) ≡ Some (n, o) →
+    StoresAs (element_store es (byte_count width) offset (operand_value src (plain_state_of old).regs) (Pointer (Elem n o))) old p more new → ActsAs (Store width dst offset src) env es old p more new
 stored-acts width dst offset src env es more old new p n o b h =
-    let base = element-is ((state_of old).regs dst) n o b in
-    let v = operand_value src (state_of old).regs in
-    by p (subst (λ r. StoresAs (element_store es (byte_count width) offset v r) old p more new) (sym base) h) (to-element (state_of old) (byte_count width) offset v ((state_of old).regs dst) n o base)
+    let base = element-is ((plain_state_of old).regs dst) n o b in
+    let v = operand_value src (plain_state_of old).regs in
+    by p (subst (λ r. StoresAs (element_store es (byte_count width) offset v r) old p more new) (sym base) h) (to-element (plain_state_of old) (byte_count width) offset v ((plain_state_of old).regs dst) n o base)
   where
-    by : (p : Progress) → StoresAs (element_store es (byte_count width) offset (operand_value src (state_of old).regs) ((state_of old).regs dst)) old p more new → after (Store width dst offset src) env (state_of old) ≡ None →
+    by : (p : Progress) → StoresAs (element_store es (byte_count width) offset (operand_value src (plain_state_of old).regs) ((plain_state_of old).regs dst)) old p more new → after (Store width dst offset src) env (plain_state_of old) ≡ None →
         ActsAs (Store width dst offset src) env es old p more new
     by progress.Moved c z = inr (c.0, ap Moves c.1)
     by (progress.Exited k) c z = absurd c

@@ -5,7 +5,7 @@ ghost use Rattle.bpf_model.specs.declared.value.Value.TheVariants.{Pointer};
 ghost use Rattle.bpf_model.specs.declared.value.Reference.TheVariants.{Elem};
 ghost use Rattle.bpf_model.specs.Access.{byte_count};
 ghost use Rattle.bpf_model.specs.MachineStep.{element_store};
-ghost use Rattle.plain_interpreter.specs.Plain.{state_of, environment, Comes};
+ghost use Rattle.plain_interpreter.specs.Plain.{plain_state_of, plain_environment, Comes};
 ghost use Rattle.plain_store.specs.State.{elements_of};
 ghost use Rattle.plain_runs.specs.Acting.{base_element, load_outcome, extended_outcome, StoresAs, ActsAs};
 
@@ -16,7 +16,7 @@ use plain_store::Store;
 
 /// The element that a load or a store goes to by its base register, and the offset there.
 fn element_at(insn: &Insn, run: &PlainRun) -> Option<(usize, i64)>
-    ensures { result ≡ base_element insn.now (state_of run.now) }
+    ensures { result ≡ base_element insn.now (plain_state_of run.now) }
 {
     let base = match insn {
         Insn::Load { src, .. } => *src,
@@ -40,9 +40,9 @@ fn load(
     o: i64,
     offset: i16,
 ) -> Progress
-    requires { (state_of run.old).place < 2 ^ 40 }
+    requires { (plain_state_of run.old).place < 2 ^ 40 }
     ensures { Comes (load_outcome (elements_of store.now.elements.items) (byte_count width) offset
-        (Pointer (Elem n o)) dst (state_of run.old)) result run.old run.new }
+        (Pointer (Elem n o)) dst (plain_state_of run.old)) result run.old run.new }
 {
     match store.load(n, width, o, offset) {
         Some(k) => run.set(1, dst, Value::Number(k)),
@@ -60,9 +60,9 @@ fn load_extended(
     o: i64,
     offset: i16,
 ) -> Progress
-    requires { (state_of run.old).place < 2 ^ 40 }
+    requires { (plain_state_of run.old).place < 2 ^ 40 }
     ensures { Comes (extended_outcome (elements_of store.now.elements.items) width offset
-        (Pointer (Elem n o)) dst (state_of run.old)) result run.old run.new }
+        (Pointer (Elem n o)) dst (plain_state_of run.old)) result run.old run.new }
 {
     match store.load(n, width.width(), o, offset) {
         Some(k) => run.set(1, dst, Value::Number(load_signed(width, k))),
@@ -80,7 +80,7 @@ fn save(
     o: i64,
     offset: i16,
 ) -> Progress
-    requires { (state_of run.old).place < 2 ^ 40 }
+    requires { (plain_state_of run.old).place < 2 ^ 40 }
     ensures elements { StoresAs
         (element_store (elements_of store.old.elements.items) (byte_count width) offset value
         (Pointer (Elem n o))) run.old result (elements_of store.new.elements.items) run.new }
@@ -98,10 +98,10 @@ fn save(
 
 /// An access to element n, o bytes from the start of its value.
 fn access_element(run: &mut PlainRun, store: &mut Store, insn: &Insn, n: usize, o: i64) -> Progress
-    requires place { (state_of run.old).place < 2 ^ 40 }
-    requires base { base_element insn.now (state_of run.old) ≡ Some (n, o) }
+    requires place { (plain_state_of run.old).place < 2 ^ 40 }
+    requires base { base_element insn.now (plain_state_of run.old) ≡ Some (n, o) }
     ensures acts { (context : List ℕ) (maps : ℕ) →
-        ActsAs insn.now (environment context maps) (elements_of store.old.elements.items) run.old
+        ActsAs insn.now (plain_environment context maps) (elements_of store.old.elements.items) run.old
         result (elements_of store.new.elements.items) run.new }
     ensures maps { store.new.maps ≡ store.old.maps }
     ensures births { length store.new.elements.items ≡ length store.old.elements.items }
@@ -141,9 +141,9 @@ pub(crate) fn act(
     maps: usize,
     insn: &Insn,
 ) -> Progress
-    requires place { (state_of run.old).place < 2 ^ 40 }
+    requires place { (plain_state_of run.old).place < 2 ^ 40 }
     requires context { length context.now ≤ CTX_BYTES }
-    ensures acts { ActsAs insn.now (environment context.now maps)
+    ensures acts { ActsAs insn.now (plain_environment context.now maps)
         (elements_of store.old.elements.items) run.old result (elements_of store.new.elements.items)
         run.new }
     ensures maps { store.new.maps ≡ store.old.maps }

@@ -13,9 +13,9 @@ ghost use Rattle.bpf_model.specs.Machine.{Loaded as ModelLoaded, moves};
 ghost use Rattle.bpf_model.specs.MapState.{Store as ModelStore};
 ghost use Rattle.bpf_model.specs.MachineStep.{LookupStep, UpdateStep, DeleteStep, HelperStep, map_argument as map_argument_of, key_argument, frame_bytes as frame_bytes_of, bytes_at as bytes_of, returns as returns_of};
 ghost use Rattle.bpf_model.specs.Schedule.{TakesOldest};
-ghost use Rattle.plain_interpreter.specs.Plain.{state_of};
+ghost use Rattle.plain_interpreter.specs.Plain.{plain_state_of};
 ghost use Rattle.plain_store.specs.State.{store_of, sections_of};
-ghost use Rattle.plain_store.specs.Telling.{Tells};
+ghost use Rattle.plain_store.specs.Telling.{TellsResult};
 ghost use Rattle.plain_runs.specs.State.{loaded_of, run_with};
 ghost use Rattle.plain_runs.specs.Acting.{KernelsAs, InsnStepsAs};
 ghost use Rattle.plain_runs.specs.MapKeys.{IsMapKey};
@@ -42,11 +42,11 @@ fn ret_word(ret: Result<(), Errno>) -> u64
 
 /// After a call r0 is its result and r1 to r5 hold nothing.
 fn returns(run: &mut Run, value: Value) -> Result<Answer, Fault>
-    requires { (state_of run.old.state).place < 2 ^ 40 }
+    requires { (plain_state_of run.old.state).place < 2 ^ 40 }
     ensures moves { (program : ModelLoaded) →
-        Tells (λ a. (a ≡ answers.Moved)
+        TellsResult (λ a. (a ≡ answers.Moved)
         × (run_with program run.new
-        ≡ moves (run_with program run.old) (returns_of value (state_of run.old.state)))) ⊥ result }
+        ≡ moves (run_with program run.old) (returns_of value (plain_state_of run.old.state)))) ⊥ result }
     ensures program { run.new.program ≡ run.old.program }
 {
     run.moved = one_more(run.moved)?;
@@ -56,7 +56,7 @@ fn returns(run: &mut Run, value: Value) -> Result<Answer, Fault>
 
 /// How many sections the run has opened after a lock: the outermost one opens a section.
 fn locks_after(run: &Run) -> Result<u64, Fault>
-    ensures { Tells (λ n. n ≡ (if run.now.depth == 0 then run.now.locks + 1 else run.now.locks)) ⊥
+    ensures { TellsResult (λ n. n ≡ (if run.now.depth == 0 then run.now.locks + 1 else run.now.locks)) ⊥
         result }
 {
     if run.depth == 0 {
@@ -67,7 +67,7 @@ fn locks_after(run: &Run) -> Result<u64, Fault>
 }
 
 fn read_lock(run: &mut Run) -> Result<Answer, Fault>
-    requires { (state_of run.old.state).place < 2 ^ 40 }
+    requires { (plain_state_of run.old.state).place < 2 ^ 40 }
     ensures locks { (program : ModelLoaded) →
         KernelsAs (Some functions.ReadLock) (run_with program run.old) result
         (run_with program run.new) }
@@ -83,7 +83,7 @@ fn read_lock(run: &mut Run) -> Result<Answer, Fault>
 
 /// An unlock leaves the innermost section that is open.
 fn read_unlock(run: &mut Run) -> Result<Answer, Fault>
-    requires { (state_of run.old.state).place < 2 ^ 40 }
+    requires { (plain_state_of run.old.state).place < 2 ^ 40 }
     ensures unlocks { (program : ModelLoaded) →
         KernelsAs (Some functions.ReadUnlock) (run_with program run.old) result
         (run_with program run.new) }
@@ -98,7 +98,7 @@ fn read_unlock(run: &mut Run) -> Result<Answer, Fault>
 
 /// A lock or an unlock.
 pub(crate) fn call_kernel(run: &mut Run, imm: i32) -> Result<Answer, Fault>
-    requires { (state_of run.old.state).place < 2 ^ 40 }
+    requires { (plain_state_of run.old.state).place < 2 ^ 40 }
     ensures steps { (program : ModelLoaded) →
         KernelsAs (kernel_function_of imm) (run_with program run.old) result
         (run_with program run.new) }
@@ -127,7 +127,7 @@ fn map_argument(run: &Run, program: &Loaded) -> Option<usize>
 /// The byte in a cell of the frame. `None` when it isn't written as a byte.
 fn byte_in(run: &PlainRun, index: usize) -> Option<u8>
     requires { index < FRAME_BYTES }
-    ensures { result ≡ byte_of ((state_of run.now).frame index) }
+    ensures { result ≡ byte_of ((plain_state_of run.now).frame index) }
 {
     match run.cell(index) {
         Cell::Byte(byte) => Some(byte),
@@ -138,8 +138,8 @@ fn byte_in(run: &PlainRun, index: usize) -> Option<u8>
 /// So many bytes of the frame from an index on.
 fn bytes_at<const N: usize>(run: &PlainRun, at: usize, len: usize) -> Result<ArrayVec<u8, N>, Fault>
     requires { at + len ≤ FRAME_BYTES }
-    ensures { Tells (λ bytes. bytes_of (state_of run.now).frame at len ≡ Some bytes.items)
-        (bytes_of (state_of run.now).frame at len ≡ None) result }
+    ensures { TellsResult (λ bytes. bytes_of (plain_state_of run.now).frame at len ≡ Some bytes.items)
+        (bytes_of (plain_state_of run.now).frame at len ≡ None) result }
 {
     let mut bytes = ArrayVec::new();
     for k in 0..len {
@@ -160,8 +160,8 @@ fn frame_bytes<const N: usize>(
     len: usize,
     value: Value,
 ) -> Result<ArrayVec<u8, N>, Fault>
-    ensures { Tells (λ bytes. frame_bytes_of (state_of run.now).frame len value ≡ Some bytes.items)
-        (frame_bytes_of (state_of run.now).frame len value ≡ None) result }
+    ensures { TellsResult (λ bytes. frame_bytes_of (plain_state_of run.now).frame len value ≡ Some bytes.items)
+        (frame_bytes_of (plain_state_of run.now).frame len value ≡ None) result }
 {
     let Value::Pointer(Reference::Frame(o)) = value else {
         return Err(Fault::Stuck);
@@ -181,7 +181,7 @@ struct MapKey {
 }
 
 fn map_key_argument(run: &Run, program: &Loaded, store: &Store) -> Result<MapKey, Fault>
-    ensures { Tells (IsMapKey (store_of store.now) (run_with (loaded_of program.now) run.now))
+    ensures { TellsResult (IsMapKey (store_of store.now) (run_with (loaded_of program.now) run.now))
         ((map : ℕ) (key : List ℕ) →
         map_argument_of (run_with (loaded_of program.now) run.now)
         ≡ Some map →
@@ -199,7 +199,7 @@ fn map_key_argument(run: &Run, program: &Loaded, store: &Store) -> Result<MapKey
 }
 
 fn lookup(run: &Run, program: &Loaded, store: &Store) -> Result<Value, Fault>
-    ensures { Tells (LookupStep (store_of store.now) (run_with (loaded_of program.now) run.now))
+    ensures { TellsResult (LookupStep (store_of store.now) (run_with (loaded_of program.now) run.now))
         ((ret : Value) →
         LookupStep (store_of store.now) (run_with (loaded_of program.now) run.now) ret → ⊥) result }
 {
@@ -217,7 +217,7 @@ fn update(
     store: &mut Store,
     opened: &[Section],
 ) -> Result<Value, Fault>
-    ensures tells { Tells (λ ret.
+    ensures tells { TellsResult (λ ret.
         UpdateStep (store_of store.old) (sections_of opened.now)
         (run_with (loaded_of program.now) run.now) ret (store_of store.new))
         ((ret : Value) (t : ModelStore) →
@@ -245,7 +245,7 @@ fn delete(
     store: &mut Store,
     opened: &[Section],
 ) -> Result<Value, Fault>
-    ensures tells { Tells (λ ret.
+    ensures tells { TellsResult (λ ret.
         DeleteStep (store_of store.old) (sections_of opened.now)
         (run_with (loaded_of program.now) run.now) ret (store_of store.new))
         ((ret : Value) (t : ModelStore) →
@@ -267,7 +267,7 @@ fn helper_value(
     opened: &[Section],
     imm: i32,
 ) -> Result<Value, Fault>
-    ensures tells { Tells (λ ret.
+    ensures tells { TellsResult (λ ret.
         HelperStep (helper_of imm) (store_of store.old) (sections_of opened.now)
         (run_with (loaded_of program.now) run.now) ret (store_of store.new))
         ((ret : Value) (t : ModelStore) →
@@ -291,7 +291,7 @@ pub(crate) fn call_helper(
     opened: &[Section],
     imm: i32,
 ) -> Result<Answer, Fault>
-    requires { (state_of run.old.state).place < 2 ^ 40 }
+    requires { (plain_state_of run.old.state).place < 2 ^ 40 }
     ensures steps { InsnStepsAs (insns.Call kinds.Helper imm) (store_of store.old)
         (sections_of opened.now) (run_with (loaded_of program.now) run.old) result
         (store_of store.new) (run_with (loaded_of program.now) run.new) }

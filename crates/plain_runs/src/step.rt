@@ -2,7 +2,7 @@
 ghost use Rattle.std.specs.Prelude.{◌≡◌, ◌^◌, ◌<◌, OnOk};
 ghost use Rattle.std.specs.Option.{option_map};
 ghost use Rattle.bpf_model.specs.Schedule.{TakesOldest};
-ghost use Rattle.plain_interpreter.specs.Plain.{state_of};
+ghost use Rattle.plain_interpreter.specs.Plain.{plain_state_of};
 ghost use Rattle.plain_store.specs.State.{store_of, sections_of};
 ghost use Rattle.plain_runs.specs.State.{loaded_of, run_with, run_of};
 ghost use Rattle.plain_runs.specs.Acting.{call_in, AloneAs, InsnStepsAs, RunStepsAs, SlotStepsAs};
@@ -22,7 +22,7 @@ fn step_alone(
     store: &mut Store,
     insn: &Insn,
 ) -> Result<Answer, Fault>
-    requires { (state_of run.old.state).place < 2 ^ 40 }
+    requires { (plain_state_of run.old.state).place < 2 ^ 40 }
     ensures steps { AloneAs insn.now (store_of store.old) (run_with (loaded_of program.now) run.old)
         result (store_of store.new) (run_with (loaded_of program.now) run.new) }
     ensures program { run.new.program ≡ run.old.program }
@@ -71,7 +71,7 @@ fn step_insn(
     opened: &[Section],
     insn: &Insn,
 ) -> Result<Answer, Fault>
-    requires { (state_of run.old.state).place < 2 ^ 40 }
+    requires { (plain_state_of run.old.state).place < 2 ^ 40 }
     ensures steps { InsnStepsAs insn.now (store_of store.old) (sections_of opened.now)
         (run_with (loaded_of program.now) run.old) result (store_of store.new)
         (run_with (loaded_of program.now) run.new) }

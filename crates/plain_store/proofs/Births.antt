@@ -7,25 +7,25 @@ use Rattle.bpf_model.specs.declared.call.Errno.{Errno}
 use Rattle.bpf_model.specs.Element.{Linked, unlinked, linked_count}
 use Rattle.bpf_model.specs.MapState.{MapState, Store, with_bag}
 use Rattle.bpf_model.specs.Helper.{LooksUp, Replaces, Settles, Updates, newborn, update_error}
-use Rattle.plain_store.specs.Births.{after_first, set_first, without_first}
+use Rattle.plain_store.specs.Births.{uses_after_first, set_first, without_first_free}
 use Rattle.plain_store.proofs.Lists.{first-of, drop-none, set-same}
 
-pub without_first-at : (ms : List MapState) (k : ℕ) (m : MapState) → slice_get ms k ≡ Some m → without_first ms k ≡ slice_set ms k (with_bag (drop 1 m.bag) m)
+pub without_first-at : (ms : List MapState) (k : ℕ) (m : MapState) → slice_get ms k ≡ Some m → without_first_free ms k ≡ slice_set ms k (with_bag (drop 1 m.bag) m)
 without_first-at ms k m h = ap (set_first ms k) h
 
-pub without_first-none : (ms : List MapState) (k : ℕ) (m : MapState) → slice_get ms k ≡ Some m → length m.bag ≡ 0 → without_first ms k ≡ ms
+pub without_first-none : (ms : List MapState) (k : ℕ) (m : MapState) → slice_get ms k ≡ Some m → length m.bag ≡ 0 → without_first_free ms k ≡ ms
 without_first-none ms k m h e =
     without_first-at ms k m h ∙ ap (λ b. slice_set ms k (with_bag b m)) (drop-none m.bag e) ∙ set-same ms k m h
 
 pub replaces : (s : Store) (opened : List Section) (k : ℕ) (m : MapState) (key value : List ℕ) (found : Option ℕ) (new : Store) (use_count : ℕ) →
-    slice_get s.maps k ≡ Some m → 0 < length m.bag → use_count ≡ after_first m.bag →
-    new.elements ≡ unlinked opened s.elements found ++ record { map = k; key = key; value = value; uses = use_count; life = Linked } ∷ [] → new.maps ≡ without_first s.maps k → Replaces s opened k m key value found new
+    slice_get s.maps k ≡ Some m → 0 < length m.bag → use_count ≡ uses_after_first m.bag →
+    new.elements ≡ unlinked opened s.elements found ++ record { map = k; key = key; value = value; uses = use_count; life = Linked } ∷ [] → new.maps ≡ without_first_free s.maps k → Replaces s opened k m key value found new
 replaces s opened k m key value found new use_count h free e elements maps =
     let f = first-of m.bag free in
     let count = f.0 in
     let rest = f.1 in
     let bag : m.bag ≡ count ∷ rest = f.2 in
-    let uses_is : use_count ≡ count + 1 = e ∙ ap after_first bag in
+    let uses_is : use_count ≡ count + 1 = e ∙ ap uses_after_first bag in
     let elements_is : new.elements ≡ unlinked opened s.elements found ++ newborn k key value count ∷ [] =
     elements ∙ ap (λ u. unlinked opened s.elements found ++ record { map = k; key = key; value = value; uses = u; life = Linked } ∷ []) uses_is in
     let maps_are : new.maps ≡ slice_set s.maps k (with_bag rest m) = maps ∙ without_first-at s.maps k m h ∙ ap (λ b. slice_set s.maps k (with_bag (drop 1 b) m)) bag in

@@ -5,7 +5,7 @@ use Rattle.bpf_model.specs.Section.{Section}
 use Rattle.bpf_model.specs.Element.{Element, Unlinked, Linked, with_life, set_to, unlinked}
 use Rattle.bpf_model.specs.MapState.{MapState, Store, with_bag}
 use Rattle.bpf_model.specs.Schedule.{TakesOldest}
-use Rattle.plain_store.specs.Births.{after_first, without_first}
+use Rattle.plain_store.specs.Births.{uses_after_first, without_first_free}
 use Rattle.plain_store.proofs.Births.{without_first-at}
 use Rattle.plain_store.proofs.Lists.{first-of, get-within}
 use Rattle.plain_store.proofs.Lists.{set-get}
@@ -35,8 +35,8 @@ last-is [] x n h = ap (slice_get (x ∷ [])) h
 last-is (y ∷ xs) x zero h = absurd (omega arith)
 last-is (y ∷ xs) x (suc n) h = last-is xs x n (omega arith)
 
-pub birth : (s t : Store) (opened : List Section) (k : ℕ) (m : MapState) (key value : List ℕ) (found : Option ℕ) (use_count : ℕ) → slice_get s.maps k ≡ Some m → 0 < length m.bag → use_count ≡ after_first m.bag →
-    t.elements ≡ unlinked opened s.elements found ++ record { map = k; key = key; value = value; uses = use_count; life = Linked } ∷ [] → t.maps ≡ without_first s.maps k → TakesOldest s t
+pub birth : (s t : Store) (opened : List Section) (k : ℕ) (m : MapState) (key value : List ℕ) (found : Option ℕ) (use_count : ℕ) → slice_get s.maps k ≡ Some m → 0 < length m.bag → use_count ≡ uses_after_first m.bag →
+    t.elements ≡ unlinked opened s.elements found ++ record { map = k; key = key; value = value; uses = use_count; life = Linked } ∷ [] → t.maps ≡ without_first_free s.maps k → TakesOldest s t
 birth s t opened k m key value found use_count h free uses elements maps e before after born old new =
     let x : Element = record { map = k; key = key; value = value; uses = use_count; life = Linked } in
     let at : slice_get t.elements (length s.elements) ≡ Some x = ap (λ l. slice_get l (length s.elements)) elements ∙ last-is (unlinked opened s.elements found) x (length s.elements) (sym (unlinked-length opened s.elements found)) in
@@ -51,6 +51,6 @@ birth s t opened k m key value found use_count h free uses elements maps e befor
     let is_after : after ≡ with_bag (drop 1 m.bag) m = cc in
     let f = first-of m.bag free in
     let bag : m.bag ≡ f.0 ∷ f.1 = f.2 in
-    let count : e.uses ≡ f.0 + 1 = ap (λ y. y.uses) is_x ∙ uses ∙ ap after_first bag in
+    let count : e.uses ≡ f.0 + 1 = ap (λ y. y.uses) is_x ∙ uses ∙ ap uses_after_first bag in
     let less : e.uses - 1 ≡ f.0 = omega arith in
     ap (λ y. y.bag) is_m ∙ bag ∙ ap (λ n. n ∷ f.1) (sym less) ∙ ap (λ l. (e.uses - 1) ∷ drop 1 l) (sym bag) ∙ ap (λ y. (e.uses - 1) ∷ y.bag) (sym is_after)

@@ -16,20 +16,20 @@ abbrev pub ReplacesIn : Store → List Section → ℕ → List ℕ → List ℕ
 ReplacesIn s opened map key value found new = (m : MapState) → slice_get s.maps map ≡ Some m → Replaces s opened map m key value found new
 
 -- one more than the first count of the bag
-abbrev pub after_first : List ℕ → ℕ
-after_first [] = 1
-after_first (count ∷ rest) = count + 1
+abbrev pub uses_after_first : List ℕ → ℕ
+uses_after_first [] = 1
+uses_after_first (count ∷ rest) = count + 1
 
 abbrev pub NextUse : Store → ℕ → ℕ → Type 0
-NextUse s map use_count = (m : MapState) → slice_get s.maps map ≡ Some m → use_count ≡ after_first m.bag
+NextUse s map use_count = (m : MapState) → slice_get s.maps map ≡ Some m → use_count ≡ uses_after_first m.bag
 
 abbrev pub set_first : List MapState → ℕ → Option MapState → List MapState
 set_first ms map None = ms
 set_first ms map (Some m) = slice_set ms map (with_bag (drop 1 m.bag) m)
 
 -- the maps after one of them lost the first count of its bag
-abbrev pub without_first : List MapState → ℕ → List MapState
-without_first ms map = set_first ms map (slice_get ms map)
+abbrev pub without_first_free : List MapState → ℕ → List MapState
+without_first_free ms map = set_first ms map (slice_get ms map)
 
 -- an element of this life may be reclaimed
 abbrev pub MayReclaim : Life → List Section → Type 0

@@ -12,11 +12,11 @@ use Rattle.bpf_model.specs.Element as model
 use Rattle.bpf_model.specs.MapState as model_maps
 use Rattle.bpf_model.specs.Schedule as schedule
 
-abbrev pub section_of : Section → model_section.Section
-section_of s = record { run = s.run; lock = s.lock }
+abbrev pub section_shown : Section → model_section.Section
+section_shown s = record { run = s.run; lock = s.lock }
 
 abbrev pub sections_of : List Section → List model_section.Section
-sections_of ss = map section_of ss
+sections_of ss = map section_shown ss
 
 abbrev pub life_of : Life → model.Life
 life_of lives.Linked = model.Linked

@@ -4,9 +4,9 @@ use Rattle.plain_store.specs.declared.fault.Fault.{Fault}
 use Rattle.plain_store.specs.declared.fault.Fault.TheVariants.{Stuck, Memory, OutOfRange, Early}
 
 -- A result tells what was done. Of the faults, "stuck" tells that nothing could be; the others tell nothing.
-abbrev pub Tells : {A : Type 0} → (A → Type 0) → Type 0 → Result A Fault → Type 0
-Tells Done Nothing (Ok a) = Done a
-Tells Done Nothing (Err Stuck) = Nothing
-Tells Done Nothing (Err Memory) = Unit {0}
-Tells Done Nothing (Err OutOfRange) = Unit {0}
-Tells Done Nothing (Err Early) = Unit {0}
+abbrev pub TellsResult : {A : Type 0} → (A → Type 0) → Type 0 → Result A Fault → Type 0
+TellsResult Done Nothing (Ok a) = Done a
+TellsResult Done Nothing (Err Stuck) = Nothing
+TellsResult Done Nothing (Err Memory) = Unit {0}
+TellsResult Done Nothing (Err OutOfRange) = Unit {0}
+TellsResult Done Nothing (Err Early) = Unit {0}

@@ -7,7 +7,7 @@ ghost use Rattle.bpf_model.specs.MachineStep.{with_bytes};
 ghost use Rattle.plain_store.specs.Storing.{SavesTo};
 ghost use Rattle.plain_store.specs.Births.{MayReclaim};
 ghost use Rattle.plain_store.specs.Retiring.{linked_map as linked_map_of};
-ghost use Rattle.plain_store.specs.State.{section_of, sections_of, life_of, element_of, IsLinkedHere};
+ghost use Rattle.plain_store.specs.State.{section_shown, sections_of, life_of, element_of, IsLinkedHere};
 
 use bpf_model::{KeyBytes, ValueBytes, Width};
 use plain_interpreter::region_offset;
@@ -121,8 +121,8 @@ fn are_apart(since: &[Section], opened: &[Section]) -> bool
 
 /// Whether the section is one of these.
 fn is_among(section: &Section, sections: &[Section]) -> bool
-    ensures among { IsTrue result → Has (sections_of sections.now) (section_of section.now) }
-    ensures apart { result ≡ false → Has (sections_of sections.now) (section_of section.now) → ⊥ }
+    ensures among { IsTrue result → Has (sections_of sections.now) (section_shown section.now) }
+    ensures apart { result ≡ false → Has (sections_of sections.now) (section_shown section.now) → ⊥ }
 {
     for j in 0..sections.len() {
         if sections[j] == *section {

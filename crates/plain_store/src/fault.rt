@@ -1,6 +1,6 @@
 //! Why the model gives no answer.
 ghost use Rattle.std.specs.Prelude.{◌≡◌, ◌+◌};
-ghost use Rattle.plain_store.specs.Telling.{Tells};
+ghost use Rattle.plain_store.specs.Telling.{TellsResult};
 
 use std::alloc::AllocError;
 
@@ -32,7 +32,7 @@ impl From<AllocError> for Fault {
 
 /// One more, of a count of 64 bits; `OutOfRange` where there is none.
 pub fn one_more(count: u64) -> Result<u64, Fault>
-    ensures { Tells (λ n. n ≡ count + 1) ⊥ result }
+    ensures { TellsResult (λ n. n ≡ count + 1) ⊥ result }
 {
     match count.checked_add(1) {
         Some(n) => Ok(n),

@@ -2,7 +2,7 @@
 ghost use Rattle.std.specs.Prelude.{◌≡◌, ◌≢◌, ◌++◌, IfOk, OnOk, Err, replicate};
 ghost use Rattle.bpf_model.specs.MapState.{given_of, returned, new_map};
 ghost use Rattle.bpf_model.specs.Helper.{update_error as first_error};
-ghost use Rattle.plain_store.specs.Telling.{Tells};
+ghost use Rattle.plain_store.specs.Telling.{TellsResult};
 ghost use Rattle.plain_store.specs.declared.fault.Fault.TheVariants.{Early};
 ghost use Rattle.plain_store.specs.State.{map_of};
 
@@ -65,7 +65,7 @@ impl MapState {
 
     /// A slot that was used so often comes back: to the end of the free ones, or it is worn out.
     pub fn give_back(&mut self, uses: u64) -> Result<Given, Fault>
-        ensures tells { Tells (λ given. (given ≡ given_of uses (map_of self.old))
+        ensures tells { TellsResult (λ given. (given ≡ given_of uses (map_of self.old))
             × (map_of self.new ≡ returned uses (map_of self.old))) ⊥ result }
         ensures early { result ≢ Err Early }
     {

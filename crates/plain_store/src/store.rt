@@ -9,10 +9,10 @@ ghost use Rattle.bpf_model.specs.MachineStep.{element_load, element_store};
 ghost use Rattle.bpf_model.specs.declared.value.Value.TheVariants.{Number, Pointer};
 ghost use Rattle.bpf_model.specs.declared.value.Reference.TheVariants.{Elem};
 ghost use Rattle.bpf_model.specs.Schedule.{TakesOldest};
-ghost use Rattle.plain_store.specs.Telling.{Tells};
+ghost use Rattle.plain_store.specs.Telling.{TellsResult};
 ghost use Rattle.plain_store.specs.declared.fault.Fault.TheVariants.{Early};
 ghost use Rattle.plain_store.specs.Storing.{StoresTo};
-ghost use Rattle.plain_store.specs.Births.{HasFree, ReplacesIn, NextUse, without_first, ReclaimsTo, CanReclaim, Finds};
+ghost use Rattle.plain_store.specs.Births.{HasFree, ReplacesIn, NextUse, without_first_free, ReclaimsTo, CanReclaim, Finds};
 ghost use Rattle.plain_store.specs.Retiring.{linked_map};
 ghost use Rattle.plain_store.specs.State.{sections_of, elements_of, store_of};
 
@@ -171,7 +171,7 @@ impl Store {
     fn take_slot(&mut self, map: usize)
         requires { map < length self.old.maps.items }
         ensures elements { self.new.elements ≡ self.old.elements }
-        ensures maps { (store_of self.new).maps ≡ without_first (store_of self.old).maps map }
+        ensures maps { (store_of self.new).maps ≡ without_first_free (store_of self.old).maps map }
     {
         if !self.maps[map].bag.is_empty() {
             let _ = self.maps[map].bag.remove(0);
@@ -216,7 +216,7 @@ impl Store {
     /// Reclaims element n, whose slot comes back. `Early` only where it may not be reclaimed: it isn't
     /// unlinked, or a section of its set is open.
     pub fn reclaim(&mut self, n: usize, opened: &[Section]) -> Result<ReapedElement, Fault>
-        ensures tells { Tells (ReclaimsTo (store_of self.old) (sections_of opened.now) n
+        ensures tells { TellsResult (ReclaimsTo (store_of self.old) (sections_of opened.now) n
             (store_of self.new)) ⊥ result }
         ensures early { result ≡ Err Early
             → CanReclaim (store_of self.old) (sections_of opened.now) n → ⊥ }

@@ -1,5 +1,5 @@
 pub mod FirstPass
 pub mod GraphFlaws
 pub mod Indexes
-pub mod Numbers
+pub mod FlawNumbers
 pub mod Told

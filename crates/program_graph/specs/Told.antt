@@ -6,11 +6,11 @@ use Rattle.program_graph.specs.declared.refusal.GraphRefusal.TheVariants.{Flaw, 
 use Rattle.program_graph.specs.GraphFlaws.{HasGraphFlaw}
 
 -- a flaw is told only where the graph has it
-abbrev pub IsToldOf : List Insn → GraphRefusal → Type 0
-IsToldOf program (Flaw flaw slot) = HasGraphFlaw program flaw slot
-IsToldOf program Memory = Unit {0}
+abbrev pub IsFlawToldOf : List Insn → GraphRefusal → Type 0
+IsFlawToldOf program (Flaw flaw slot) = HasGraphFlaw program flaw slot
+IsFlawToldOf program Memory = Unit {0}
 
 -- no refusal but for want of memory
-abbrev pub IsAccepted : {A : Type 0} → Result A GraphRefusal → Type 0
-IsAccepted (Ok x) = Unit {0}
-IsAccepted (Err e) = e ≡ Memory
+abbrev pub IsAcceptedGraph : {A : Type 0} → Result A GraphRefusal → Type 0
+IsAcceptedGraph (Ok x) = Unit {0}
+IsAcceptedGraph (Err e) = e ≡ Memory

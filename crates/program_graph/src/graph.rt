@@ -8,7 +8,7 @@ ghost use Rattle.bpf_model.specs.Graph.{falls as falls_of, distance as distance_
 ghost use Rattle.program_graph.specs.GraphFlaws.{JumpsWell, EndsWithExit, HasGoodGraph};
 ghost use Rattle.program_graph.specs.Indexes.{HasTargets};
 ghost use Rattle.program_graph.specs.FirstPass.{IsIndexBySlot, landing, landed, target_of as target_spec, Marks, IsReached, AreReached, IsFirstUnreached};
-ghost use Rattle.program_graph.specs.Told.{IsToldOf, IsAccepted};
+ghost use Rattle.program_graph.specs.Told.{IsFlawToldOf, IsAcceptedGraph};
 
 use crate::refusal::{GraphFlaw, GraphRefusal};
 use bpf_model::Insn;
@@ -119,8 +119,8 @@ fn targets_of(
     ensures targets { IfOk result (λ v. HasTargets instructions.now v.items) }
     ensures long { IfOk result (λ v. length v.items ≡ length instructions.now) }
     ensures jumps { OnOk result (JumpsWell instructions.now) }
-    ensures told { IfErr result (IsToldOf instructions.now) }
-    ensures accepts { HasGoodGraph instructions.now → IsAccepted result }
+    ensures told { IfErr result (IsFlawToldOf instructions.now) }
+    ensures accepts { HasGoodGraph instructions.now → IsAcceptedGraph result }
 {
     let mut targets = Vec::with_capacity(alloc, instructions.len())?;
     for index in 0..instructions.len() {
@@ -223,8 +223,8 @@ pub fn judge(
     ensures targets { IfOk result (λ v. HasTargets instructions.now v.items) }
     ensures long { IfOk result (λ v. length v.items ≡ length instructions.now) }
     ensures good { OnOk result (HasGoodGraph instructions.now) }
-    ensures told { IfErr result (IsToldOf instructions.now) }
-    ensures accepts { HasGoodGraph instructions.now → IsAccepted result }
+    ensures told { IfErr result (IsFlawToldOf instructions.now) }
+    ensures accepts { HasGoodGraph instructions.now → IsAcceptedGraph result }
 {
     let indexes = indexes_of(alloc, instructions, starts, slot_count)?;
     let targets = targets_of(alloc, instructions, starts, &indexes)?;

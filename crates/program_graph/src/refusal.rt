@@ -27,7 +27,7 @@ pub enum GraphRefusal {
 }
 
 impl GraphFlaw {
-    ghost use Rattle.program_graph.specs.Numbers.{flaw_number};
+    ghost use Rattle.program_graph.specs.FlawNumbers.{flaw_number};
 
     /// The number by which the flaw is known.
     pub fn code(self) -> u8

@@ -14,7 +14,7 @@ use Rattle.register_kinds.specs.declared.state.AbsState.{AbsState as StateHere}
 use Rattle.register_kinds.specs.States.{kind_of, cell_of, kind_at, kind_in, class_in, cell_at, state_of, is_pointer}
 use Rattle.register_kinds.specs.Joined.{joined_class, AreJoined}
 use Rattle.register_kinds.proofs.Pairs.{kind_later}
-use Rattle.register_kinds.specs.Pairs.{IsBelow, AreBelow, Grows, pair_of, JoinsKind, JoinsCell}
+use Rattle.register_kinds.specs.Pairs.{IsBelow, AreBelow, PairsGrow, pair_of, JoinsKind, JoinsCell}
 
 module _ (top : ℕ) (pairs : List (ℕ × ℕ)) where
   -- parts on both sides
@@ -81,7 +81,7 @@ joined_all xs old others g e f all k = elim (cases_lt k (length others)) [
     ap2 f {a' = a'} {b = b} p q = ap (λ a. f a b) p ∙ ap (f a') q
 
 -- the whole states
-module _ (top : ℕ) (before pairs : List (ℕ × ℕ)) (a b c : StateHere) (x : Grows before pairs) (regs : (r : ℕ) → JoinsKind top before (kind_at a.regs r) (kind_at b.regs r) (kind_at c.regs r))
+module _ (top : ℕ) (before pairs : List (ℕ × ℕ)) (a b c : StateHere) (x : PairsGrow before pairs) (regs : (r : ℕ) → JoinsKind top before (kind_at a.regs r) (kind_at b.regs r) (kind_at c.regs r))
     (cells : (k : ℕ) → JoinsCell top pairs (cell_at a.frame k) (cell_at b.frame k) (cell_at c.frame k)) where
   pub states_join : a.inside ≡ b.inside → c.inside ≡ a.inside → Joins (pair_of top pairs) (state_of a) (state_of b) (state_of c)
   states_join e f = record {

@@ -17,7 +17,7 @@ use Rattle.register_kinds.specs.declared.kind.RegKind.TheVariants as kinds
 use Rattle.register_kinds.specs.declared.kind.CellKind.TheVariants as cells
 use Rattle.register_kinds.specs.States.{kind_of, kind_at, kind_in, class_in}
 use Rattle.register_kinds.specs.Joined.{IsHull}
-use Rattle.register_kinds.specs.Pairs.{IsBelow, Grows, pair_of, IsTable, IsPairing, JoinsKind}
+use Rattle.register_kinds.specs.Pairs.{IsBelow, PairsGrow, pair_of, IsTable, IsPairing, JoinsKind}
 
 -- what an identity stands for
 pub pair_old : (top : ℕ) (pairs : List (ℕ × ℕ)) (id : ℕ) → id < top → pair_of top pairs id ≡ (id, id)
@@ -29,7 +29,7 @@ pair_new top pairs i p e =
     ap (λ b. if b then (top + i, top + i) else unwrap_or (slice_get pairs ((top + i) - top)) (0, 0)) (le-ltb (top + i) top (omega arith))
     ∙ (ap (λ k. unwrap_or (slice_get pairs k) (0, 0)) s ∙ ap (λ o. unwrap_or o (0, 0)) e)
 
-pub pair_more : (top : ℕ) (old new : List (ℕ × ℕ)) (id : ℕ) → Grows old new → id < top + length old → pair_of top old id ≡ pair_of top new id
+pub pair_more : (top : ℕ) (old new : List (ℕ × ℕ)) (id : ℕ) → PairsGrow old new → id < top + length old → pair_of top old id ≡ pair_of top new id
 pair_more top old new id x l = elim (cases_lt id top) [
   | inl h ↦ pair_old top old id h ∙ sym (pair_old top new id h)
   | inr h ↦
@@ -37,7 +37,7 @@ pair_more top old new id x l = elim (cases_lt id top) [
       ap (λ o. if nat_lt id top then (id, id) else unwrap_or o (0, 0)) (e ∙ sym (x (id - top) (slice_index_or old (id - top) (0, 0)) e))
 ]
 
-pub grows_length : (old new : List (ℕ × ℕ)) → Grows old new → length old ≤ length new
+pub grows_length : (old new : List (ℕ × ℕ)) → PairsGrow old new → length old ≤ length new
 grows_length old new x = elim (cases_lt (length new) (length old)) [
   | inl l ↦
       let e : slice_get old (length new) ≡ Some (slice_index_or old (length new) (0, 0)) = slice_get-get_or old (length new) (0, 0) l in
@@ -69,7 +69,7 @@ below_kind m n (FrameAt o) l b = tt
 below_kind m n (MapAt map) l b = tt
 below_kind m n (ValueAt map s) l b = tt
 
-module _ (top : ℕ) (old new : List (ℕ × ℕ)) (x : Grows old new) where
+module _ (top : ℕ) (old new : List (ℕ × ℕ)) (x : PairsGrow old new) where
   more : top + length old ≤ top + length new
   more = omega (arith, grows_length old new x)
 
@@ -114,7 +114,7 @@ module _ (top : ℕ) (pairs : List (ℕ × ℕ)) where
   joins_blank b = record { left = tt; right = wide-blank (λ id. (pair_of top pairs id).1) b; below = tt; exact = refl }
 
 -- in a list, place by place
-pub kinds_more : (top i : ℕ) (pairs pairs' : List (ℕ × ℕ)) (xs old others : List RegKind) (k : RegKind) → i < length xs → Grows pairs pairs'
+pub kinds_more : (top i : ℕ) (pairs pairs' : List (ℕ × ℕ)) (xs old others : List RegKind) (k : RegKind) → i < length xs → PairsGrow pairs pairs'
     → ((r : ℕ) → r < i → JoinsKind top pairs (kind_at old r) (kind_at others r) (kind_at xs r)) → JoinsKind top pairs' (kind_at old i) (kind_at others i) (kind_of k)
     → (r : ℕ) → r < i + 1 → JoinsKind top pairs' (kind_at old r) (kind_at others r) (kind_at (slice_set xs i k) r)
 kinds_more top i pairs pairs' xs old others k l x done here = below_more _ i

@@ -18,18 +18,18 @@ abbrev pub IsAlike : {A : Type 0} → A → A → Type 0 → Kind → Type 0
 IsAlike x y Same c = (x ≡ y → Same) × ((x ≡ y → ⊥) → c ≡ Mixed)
 
 -- The third kind is that of what is of the first or of the second: unwritten before ended, ended before mixed.
-abbrev pub IsJoined : Kind → Kind → Kind → Type 0
-IsJoined Blank b c = c ≡ Blank
-IsJoined a Blank c = c ≡ Blank
-IsJoined Ended b c = c ≡ Ended
-IsJoined a Ended c = c ≡ Ended
-IsJoined (Num s) (Num t) c = (u : Scalar) × (c ≡ Num u) × IsHull s t u
-IsJoined (CtxAt s) (CtxAt t) c = (u : Scalar) × (c ≡ CtxAt u) × IsHull s t u
-IsJoined (FrameAt o) (FrameAt p) c = IsAlike o p (c ≡ FrameAt o) c
-IsJoined (MapAt m) (MapAt n) c = IsAlike m n (c ≡ MapAt m) c
-IsJoined (ValueAt m s) (ValueAt n t) c = IsAlike m n ((u : Scalar) × (c ≡ ValueAt m u) × IsHull s t u) c
-IsJoined (MaybeNull m x) (MaybeNull n y) c = IsAlike m n ((id : ℕ) × (c ≡ MaybeNull m id)) c
-IsJoined a b c = c ≡ Mixed
+abbrev pub IsJoinedKind : Kind → Kind → Kind → Type 0
+IsJoinedKind Blank b c = c ≡ Blank
+IsJoinedKind a Blank c = c ≡ Blank
+IsJoinedKind Ended b c = c ≡ Ended
+IsJoinedKind a Ended c = c ≡ Ended
+IsJoinedKind (Num s) (Num t) c = (u : Scalar) × (c ≡ Num u) × IsHull s t u
+IsJoinedKind (CtxAt s) (CtxAt t) c = (u : Scalar) × (c ≡ CtxAt u) × IsHull s t u
+IsJoinedKind (FrameAt o) (FrameAt p) c = IsAlike o p (c ≡ FrameAt o) c
+IsJoinedKind (MapAt m) (MapAt n) c = IsAlike m n (c ≡ MapAt m) c
+IsJoinedKind (ValueAt m s) (ValueAt n t) c = IsAlike m n ((u : Scalar) × (c ≡ ValueAt m u) × IsHull s t u) c
+IsJoinedKind (MaybeNull m x) (MaybeNull n y) c = IsAlike m n ((id : ℕ) × (c ≡ MaybeNull m id)) c
+IsJoinedKind a b c = c ≡ Mixed
 
 -- parts of what has nothing in common are mixed
 abbrev pub joined_part : Kind → CellKind
@@ -45,11 +45,11 @@ IsJoinedCell a BlankCell c = c ≡ BlankCell
 IsJoinedCell EndedCell b c = c ≡ EndedCell
 IsJoinedCell a EndedCell c = c ≡ EndedCell
 IsJoinedCell ByteCell ByteCell c = c ≡ ByteCell
-IsJoinedCell (PartCell x) (PartCell y) c = (z : Kind) × IsJoined x y z × (c ≡ joined_part z)
+IsJoinedCell (PartCell x) (PartCell y) c = (z : Kind) × IsJoinedKind x y z × (c ≡ joined_part z)
 IsJoinedCell a b c = c ≡ MixedCell
 
 pub record AreJoined (a b c : AbsState) : Type 0 where
-  pub regs : (r : ℕ) → IsJoined (a.regs r) (b.regs r) (c.regs r)
+  pub regs : (r : ℕ) → IsJoinedKind (a.regs r) (b.regs r) (c.regs r)
   pub cells : (k : ℕ) → IsJoinedCell (a.cells k) (b.cells k) (c.cells k)
 
 -- The class of a byte of either class, where the references that were stored join to one.

@@ -4,7 +4,7 @@ use Rattle.typed_runs.specs.Kinds.{Kind, MaybeNull, CellKind, PartCell}
 use Rattle.typed_runs.specs.Effects.{IsWiderKind, IsWiderCell}
 use Rattle.register_kinds.specs.declared.state.AbsState.{AbsState}
 use Rattle.register_kinds.specs.States.{kind_at}
-use Rattle.register_kinds.specs.Joined.{IsJoined, IsJoinedCell}
+use Rattle.register_kinds.specs.Joined.{IsJoinedKind, IsJoinedCell}
 
 -- identities below this number
 abbrev pub IsBelow : ℕ → Kind → Type 0
@@ -20,8 +20,8 @@ pub record AreBelow (top : ℕ) (a : AbsState) : Type 0 where
   pub spills : (g : ℕ) → IsBelow top (kind_at a.frame.spills g)
 
 -- the new list is the old one, and more
-abbrev pub Grows : List (ℕ × ℕ) → List (ℕ × ℕ) → Type 0
-Grows old new = (k : ℕ) (p : ℕ × ℕ) → slice_get old k ≡ Some p → slice_get new k ≡ Some p
+abbrev pub PairsGrow : List (ℕ × ℕ) → List (ℕ × ℕ) → Type 0
+PairsGrow old new = (k : ℕ) (p : ℕ × ℕ) → slice_get old k ≡ Some p → slice_get new k ≡ Some p
 
 -- the two identities that one of the joined state stands for: an old one for itself and itself, the new ones for the pairs in turn
 abbrev pub pair_of : ℕ → List (ℕ × ℕ) → ℕ → ℕ × ℕ
@@ -43,7 +43,7 @@ pub record JoinsKind (top : ℕ) (pairs : List (ℕ × ℕ)) (a b c : Kind) : Ty
   pub left : IsWiderKind (λ id. (pair_of top pairs id).0) a c
   pub right : IsWiderKind (λ id. (pair_of top pairs id).1) b c
   pub below : IsBelow (top + length pairs) c
-  pub exact : IsJoined a b c
+  pub exact : IsJoinedKind a b c
 
 pub record JoinsCell (top : ℕ) (pairs : List (ℕ × ℕ)) (a b c : CellKind) : Type 0 where
   pub left : IsWiderCell (λ id. (pair_of top pairs id).0) a c

@@ -2,7 +2,7 @@
 ghost use Rattle.std.specs.Prelude.{◌≡◌, ℕ, ◌+◌, ◌/◌, ◌^◌, ◌<◌, ◌≤◌, length};
 ghost use Rattle.register_kinds.specs.declared.identities.TheConstants.{MAX_PAIRS};
 ghost use Rattle.register_kinds.specs.States.{kind_in, class_in, kind_at, cell_at};
-ghost use Rattle.register_kinds.specs.Pairs.{IsBelow, Grows, IsTable, JoinsKind, JoinsCell};
+ghost use Rattle.register_kinds.specs.Pairs.{IsBelow, PairsGrow, IsTable, JoinsKind, JoinsCell};
 
 use crate::identities::Pairs;
 use crate::join::{join_cells, join_kinds};
@@ -58,7 +58,7 @@ impl FrameCells {
         ensures spills { (g : ℕ)
             → IsBelow (top + length pairs.new.items) (kind_at self.new.spills g) }
         ensures table { IsTable pairs.new.items }
-        ensures grows { Grows pairs.old.items pairs.new.items }
+        ensures grows { PairsGrow pairs.old.items pairs.new.items }
         ensures few { length pairs.new.items ≤ length pairs.old.items + GROUPS }
     {
         join_kinds(pairs, top, &mut self.spills, &other.spills);

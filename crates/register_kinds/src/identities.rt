@@ -1,7 +1,7 @@
 //! Identities of what may be null.
 ghost use Rattle.std.specs.Prelude.{◌≡◌, ◌≢◌, ℕ, ◌+◌, ◌^◌, ◌<◌, ◌≤◌, length, slice_get, Some};
 ghost use Rattle.typed_runs.specs.Kinds as model;
-ghost use Rattle.register_kinds.specs.Pairs.{Grows, IsTable, JoinsKind};
+ghost use Rattle.register_kinds.specs.Pairs.{PairsGrow, IsTable, JoinsKind};
 
 use arrayvec::ArrayVec;
 
@@ -25,7 +25,7 @@ fn pair_index(pairs: &mut Pairs, x: u32, y: u32) -> usize
     requires other { x ≢ y }
     ensures table { IsTable pairs.new.items }
     ensures found { slice_get pairs.new.items result ≡ Some (x, y) }
-    ensures grows { Grows pairs.old.items pairs.new.items }
+    ensures grows { PairsGrow pairs.old.items pairs.new.items }
     ensures few { length pairs.new.items ≤ length pairs.old.items + 1 }
 {
     for i in 0..pairs.len() {
@@ -48,7 +48,7 @@ pub(crate) fn join_identities(pairs: &mut Pairs, top: u32, x: u32, y: u32) -> u3
     ensures joins { (map : ℕ) → JoinsKind top pairs.new.items
         (model.MaybeNull map x) (model.MaybeNull map y) (model.MaybeNull map result) }
     ensures table { IsTable pairs.new.items }
-    ensures grows { Grows pairs.old.items pairs.new.items }
+    ensures grows { PairsGrow pairs.old.items pairs.new.items }
     ensures few { length pairs.new.items ≤ length pairs.old.items + 1 }
 {
     if x == y {

@@ -3,7 +3,7 @@ ghost use Rattle.std.specs.Prelude.{◌≡◌, ℕ, ◌+◌, ◌*◌, ◌/◌, �
 ghost use Rattle.register_kinds.specs.declared.identities.TheConstants.{MAX_PAIRS};
 ghost use Rattle.register_kinds.specs.States.{kind_of, kind_at, kind_in, class_in, is_pointer};
 ghost use Rattle.register_kinds.specs.Joined.{joined_class};
-ghost use Rattle.register_kinds.specs.Pairs.{IsBelow, Grows, IsTable, JoinsKind};
+ghost use Rattle.register_kinds.specs.Pairs.{IsBelow, PairsGrow, IsTable, JoinsKind};
 
 use crate::identities::{Pairs, join_identities};
 use crate::kind::{CellKind, RegKind};
@@ -16,7 +16,7 @@ fn join_kind(pairs: &mut Pairs, top: u32, a: RegKind, b: RegKind) -> RegKind
     requires below { IsBelow top (kind_of a) × IsBelow top (kind_of b) }
     ensures joins { JoinsKind top pairs.new.items (kind_of a) (kind_of b) (kind_of result) }
     ensures table { IsTable pairs.new.items }
-    ensures grows { Grows pairs.old.items pairs.new.items }
+    ensures grows { PairsGrow pairs.old.items pairs.new.items }
     ensures few { length pairs.new.items ≤ length pairs.old.items + 1 }
 {
     match (a, b) {
@@ -55,7 +55,7 @@ pub(crate) fn join_kinds(pairs: &mut Pairs, top: u32, kinds: &mut [RegKind], oth
     ensures joins { (r : ℕ) → JoinsKind top pairs.new.items
         (kind_at kinds.old r) (kind_at others.now r) (kind_at kinds.new r) }
     ensures table { IsTable pairs.new.items }
-    ensures grows { Grows pairs.old.items pairs.new.items }
+    ensures grows { PairsGrow pairs.old.items pairs.new.items }
     ensures few { length pairs.new.items ≤ length pairs.old.items + length others.now }
 {
     for i in 0..others.len() {

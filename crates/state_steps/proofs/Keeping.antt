@@ -10,7 +10,7 @@ use Rattle.bpf_model.specs.declared.insn.Operand.{Operand}
 use Rattle.bpf_model.specs.declared.insn.Operand.TheVariants.{Register, Immediate}
 use Rattle.bpf_model.specs.declared.opcode.Size.{Size}
 use Rattle.bpf_model.specs.Frame.{is_within}
-use Rattle.bpf_model.specs.Plain.{Writes, WritesByte, Names, Takes, IsFrameAccess}
+use Rattle.bpf_model.specs.Plain.{WritesRegister, WritesByte, Names, Takes, IsFrameAccess}
 use Rattle.bpf_model.specs.Access.{byte_count, unsigned_width, region_offset}
 use Rattle.bpf_model.specs.declared.opcode.Width.{Width}
 use Rattle.bpf_model.specs.declared.opcode.SignedWidth.{SignedWidth}
@@ -22,10 +22,10 @@ use Rattle.typed_runs.specs.Effects.{with_kind, with_cells, IsNumberOperand}
 use Rattle.typed_runs.specs.Planned.{AreAlike}
 use Rattle.compute_effects.specs.Computes.{HasNumber, ReadsNumber}
 use Rattle.control_effects.specs.Forks.{AreNarrowed}
-use Rattle.state_steps.specs.Facts.{Register as RegisterFact, FrameByte, FramePointer, Section, KeepsFacts, ReadsNumbers, IsReady}
+use Rattle.state_steps.specs.Facts.{Register as RegisterFact, FrameByte, FramePointer, Section, KeepsFacts, ReadsNumbers, IsReadyInsn}
 use Rattle.control_effects.proofs.Branches.{set-there, set-elsewhere}
 
-pub same_keeps : (i : Insn) (a : AbsState) → ((r : ℕ) → Writes i r → ⊥) → ((k : ℕ) → WritesByte i k → ⊥) → KeepsFacts i a a
+pub same_keeps : (i : Insn) (a : AbsState) → ((r : ℕ) → WritesRegister i r → ⊥) → ((k : ℕ) → WritesByte i k → ⊥) → KeepsFacts i a a
 same_keeps i a no_reg no_byte (RegisterFact r) h = elim h [ inl p ↦ p | inr w ↦ absurd (no_reg r w) ]
 same_keeps i a no_reg no_byte (FrameByte k) h = elim h [ inl p ↦ p | inr w ↦ absurd (no_byte k w) ]
 same_keeps i a no_reg no_byte FramePointer h = elim h [ inl p ↦ p | inr w ↦ absurd w ]
@@ -33,7 +33,7 @@ same_keeps i a no_reg no_byte (Section inside) h = elim h [ inl p ↦ p | inr w 
 
 -- The instruction writes this register at most, and no byte of the frame.
 pub record IsSetting (i : Insn) (dst : ℕ) : Type 0 where
-  pub writes : (r : ℕ) → Writes i r → r ≡ dst
+  pub writes : (r : ℕ) → WritesRegister i r → r ≡ dst
   pub no_bytes : (k : ℕ) → WritesByte i k → ⊥
 
 pub set_keeps : (i : Insn) (dst : ℕ) (t : Scalar) (a b : AbsState) → IsSetting i dst → (10 ≡ dst → ⊥) → AreAlike (with_kind dst (Num t) a) b → KeepsFacts i a b
@@ -53,7 +53,7 @@ byte-there : (b : Bool) (x : CellKind) → (b ≡ true) ⊎ (x ≡ ByteCell) →
 byte-there true x h = refl
 byte-there false x h = elim h [ inl p ↦ absurd cc | inr q ↦ q ]
 
-pub store_keeps : (i : Insn) (at width : ℕ) (a b : AbsState) → ((r : ℕ) → Writes i r → ⊥) → ((k : ℕ) → WritesByte i k → is_within at width k ≡ true) → AreAlike (with_cells at width ByteCell a) b → KeepsFacts i a b
+pub store_keeps : (i : Insn) (at width : ℕ) (a b : AbsState) → ((r : ℕ) → WritesRegister i r → ⊥) → ((k : ℕ) → WritesByte i k → is_within at width k ≡ true) → AreAlike (with_cells at width ByteCell a) b → KeepsFacts i a b
 store_keeps i at width a b no_reg bytes e (RegisterFact r) h = elim h [ inl p ↦ (p.0, e.regs r ∙ p.1) | inr w ↦ absurd (no_reg r w) ]
 store_keeps i at width a b no_reg bytes e (FrameByte k) h = e.cells k ∙ byte-there (is_within at width k) (a.cells k) (elim h [ inl p ↦ inr p | inr w ↦ inl (bytes k w) ])
 store_keeps i at width a b no_reg bytes e FramePointer h = e.regs 10 ∙ (elim h [ inl p ↦ p | inr w ↦ absurd w ])
@@ -76,7 +76,7 @@ side_cases dst r src = elim (cases_eq r dst) [
 no-frame : (s : Scalar) (o : ℤ) (k : Kind) → k ≡ Num s → k ≡ FrameAt o → ⊥
 no-frame s o k e f = cc
 
-pub narrow_keeps : (i : Insn) (dst : ℕ) (src : Operand) (o : ℤ) (a b : AbsState) → ((r : ℕ) → Writes i r → ⊥) → ((k : ℕ) → WritesByte i k → ⊥) → ((r : ℕ) → (r ≡ dst) ⊎ Names src r → HasNumber a r) → a.regs 10 ≡ FrameAt o
+pub narrow_keeps : (i : Insn) (dst : ℕ) (src : Operand) (o : ℤ) (a b : AbsState) → ((r : ℕ) → WritesRegister i r → ⊥) → ((k : ℕ) → WritesByte i k → ⊥) → ((r : ℕ) → (r ≡ dst) ⊎ Names src r → HasNumber a r) → a.regs 10 ≡ FrameAt o
     → AreNarrowed dst src a b → KeepsFacts i a b
 narrow_keeps i dst src o a b no_reg no_byte numbers frame e (RegisterFact r) h = elim (side_cases dst r src) [
   | inl p ↦ e.sides r p
@@ -123,16 +123,16 @@ reads_bytes : (width : Width) (base : ℕ) (offset : ℤ) (a : AbsState) (f : Is
     → ReadsBytes a base (byte_count width) offset
 reads_bytes width base offset a f e bytes = record { at = f.1; reaches = reaches width base offset a f e; bytes = λ k l h. bytes k (f.1, f.2, l, h) }
 
-pub load_ready : (width : Width) (dst base : ℕ) (offset : ℤ) (a : AbsState) → IsReady (Load width dst base offset) a → ReadsBytes a base (byte_count width) offset
+pub load_ready : (width : Width) (dst base : ℕ) (offset : ℤ) (a : AbsState) → IsReadyInsn (Load width dst base offset) a → ReadsBytes a base (byte_count width) offset
 load_ready width dst base offset a ready = reads_bytes width base offset a ready.simple ready.frame ready.bytes
 
-pub signed_ready : (width : SignedWidth) (dst base : ℕ) (offset : ℤ) (a : AbsState) → IsReady (LoadSigned width dst base offset) a → ReadsBytes a base (byte_count (unsigned_width width)) offset
+pub signed_ready : (width : SignedWidth) (dst base : ℕ) (offset : ℤ) (a : AbsState) → IsReadyInsn (LoadSigned width dst base offset) a → ReadsBytes a base (byte_count (unsigned_width width)) offset
 signed_ready width dst base offset a ready = reads_bytes (unsigned_width width) base offset a ready.simple ready.frame ready.bytes
 
-pub store_reaches : (width : Width) (dst : ℕ) (offset : ℤ) (src : Operand) (a : AbsState) (ready : IsReady (Store width dst offset src) a) → ReachesFrame a dst (byte_count width) offset ready.simple.1
+pub store_reaches : (width : Width) (dst : ℕ) (offset : ℤ) (src : Operand) (a : AbsState) (ready : IsReadyInsn (Store width dst offset src) a) → ReachesFrame a dst (byte_count width) offset ready.simple.1
 store_reaches width dst offset src a ready = reaches width dst offset a ready.simple ready.frame
 
-pub store_number : (width : Width) (dst : ℕ) (offset : ℤ) (src : Operand) (a : AbsState) → IsReady (Store width dst offset src) a → IsNumberOperand a src
+pub store_number : (width : Width) (dst : ℕ) (offset : ℤ) (src : Operand) (a : AbsState) → IsReadyInsn (Store width dst offset src) a → IsNumberOperand a src
 store_number width dst offset src a ready = operand_number src a ready.registers
 
 pub some_is : (m n : ℕ) → Some m ≡ Some n → m ≡ n

@@ -33,7 +33,7 @@ use Rattle.register_kinds.specs.States.{kind_at}
 use Rattle.control_effects.specs.Forks.{Forks, ForksOnNull, ComparesNumbers}
 use Rattle.state_steps.specs.declared.flow.Flow.{Flow}
 use Rattle.state_steps.specs.Steps.{IsForward, IsBranch, base_of, IsInRegion, Compares, IsComparable}
-use Rattle.state_steps.specs.Facts.{IsReady, KeepsFacts}
+use Rattle.state_steps.specs.Facts.{IsReadyInsn, KeepsFacts}
 use Rattle.state_steps.specs.Lookups.{Serves}
 use Rattle.state_steps.specs.Stepped.{single_flow, Stepped, ComparesWell}
 use Rattle.state_steps.proofs.Keeping.{some_is}
@@ -46,7 +46,7 @@ pub record IsQuiet (i : Insn) : Type 0 where
 
 pub quiet_step : (i : Insn) (shapes : List MapShape) (ctx_len top : ℕ) (a b : AbsState) (f : Flow) → f ≡ single_flow regions.None → IsQuiet i
     → (IsForward i → Transfers i shapes ctx_len (state_of a) (state_of b) None) → AreBelow top b
-    → (IsReady i (state_of a) → KeepsFacts i (state_of a) (state_of b)) → Serves shapes i (state_of a) (state_of b) None → Stepped i shapes ctx_len top a b (Ok f)
+    → (IsReadyInsn i (state_of a) → KeepsFacts i (state_of a) (state_of b)) → Serves shapes i (state_of a) (state_of b) None → Stepped i shapes ctx_len top a b (Ok f)
 quiet_step i shapes ctx_len top a b f e q sound below keeps serves = subst (λ (f : Flow). Stepped i shapes ctx_len top a b (Ok f)) (sym e) (record {
   done = record {
     sound = sound;
@@ -133,7 +133,7 @@ pub record IsAccess (i : Insn) (base : ℕ) : Type 0 where
   pub no_branch : IsBranch i → ⊥
 
 pub access_step : (i : Insn) (shapes : List MapShape) (ctx_len top : ℕ) (a b : AbsState) (f : Flow) (region : Region) (base : ℕ) → f ≡ single_flow region → IsAccess i base → IsBase region (kind_at a.regs base)
-    → Transfers i shapes ctx_len (state_of a) (state_of b) None → AreBelow top b → (IsReady i (state_of a) → KeepsFacts i (state_of a) (state_of b)) → Serves shapes i (state_of a) (state_of b) None → Stepped i shapes ctx_len top a b (Ok f)
+    → Transfers i shapes ctx_len (state_of a) (state_of b) None → AreBelow top b → (IsReadyInsn i (state_of a) → KeepsFacts i (state_of a) (state_of b)) → Serves shapes i (state_of a) (state_of b) None → Stepped i shapes ctx_len top a b (Ok f)
 access_step i shapes ctx_len top a b f region base e q is sound below keeps serves = subst (λ (f : Flow). Stepped i shapes ctx_len top a b (Ok f)) (sym e) (record {
   done = record {
     sound = λ forward. sound;

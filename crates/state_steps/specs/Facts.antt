@@ -4,7 +4,7 @@ use Rattle.std.specs.Prelude.{◌≡◌, ℕ, ◌⊎◌, pos, Bool, false}
 use Rattle.bpf_model.specs.declared.insn.Insn.{Insn}
 use Rattle.bpf_model.specs.declared.insn.Insn.TheVariants.{Exit}
 use Rattle.bpf_model.specs.declared.limits.TheConstants.{FRAME_BYTES}
-use Rattle.bpf_model.specs.Plain.{Reads, Writes, ReadsByte, WritesByte, IsSimple}
+use Rattle.bpf_model.specs.Plain.{ReadsRegister, WritesRegister, ReadsByte, WritesByte, IsSimple}
 use Rattle.scalar_domain.specs.declared.scalar.Scalar.{Scalar}
 use Rattle.typed_runs.specs.Kinds.{Num, FrameAt, ByteCell, AbsState}
 
@@ -23,7 +23,7 @@ FactHolds (Section inside) a = a.inside ≡ inside
 
 -- the instruction makes the fact hold
 abbrev pub Makes : Insn → Fact → Type 0
-Makes i (Register r) = Writes i r
+Makes i (Register r) = WritesRegister i r
 Makes i (FrameByte k) = WritesByte i k
 Makes i FramePointer = ⊥
 Makes i (Section inside) = ⊥
@@ -34,12 +34,12 @@ KeepsFacts i a b = (fact : Fact) → FactHolds fact a ⊎ Makes i fact → FactH
 
 -- each register that the instruction reads as a number is known to be one
 abbrev pub ReadsNumbers : Insn → AbsState → Type 0
-ReadsNumbers i a = (r : ℕ) → Reads i r → FactHolds (Register r) a
+ReadsNumbers i a = (r : ℕ) → ReadsRegister i r → FactHolds (Register r) a
 
 -- a simple instruction that leaves r10 alone, of which all that it reads is known; the exit outside every section
-pub record IsReady (i : Insn) (a : AbsState) : Type 0 where
+pub record IsReadyInsn (i : Insn) (a : AbsState) : Type 0 where
   pub simple : IsSimple i
-  pub keeps_frame : Writes i 10 → ⊥
+  pub keeps_frame : WritesRegister i 10 → ⊥
   pub frame : FactHolds FramePointer a
   pub outside : i ≡ Exit → FactHolds (Section false) a
   pub registers : ReadsNumbers i a

@@ -21,7 +21,7 @@ use Rattle.kind_tests.specs.declared.fault.Fault.{Fault}
 use Rattle.memory_effects.specs.declared.region.Region.{Region}
 use Rattle.state_steps.specs.declared.flow.Flow.{Flow}
 use Rattle.state_steps.specs.Steps.{IsForward, IsBranch, taken_state, base_of, IsInRegion, Compares, IsComparable, IsFine}
-use Rattle.state_steps.specs.Facts.{IsReady, KeepsFacts}
+use Rattle.state_steps.specs.Facts.{IsReadyInsn, KeepsFacts}
 use Rattle.state_steps.specs.Lookups.{IsReadyWithMaps, Serves}
 
 -- the flow of an instruction that has no second state behind it
@@ -40,20 +40,20 @@ pub record IsEqualToNull (condition : Condition) (size : Size) (dst : ℕ) (src 
   pub kind : kind_in a.regs dst ≡ kinds.MaybeNull map id
 
 -- an instruction that is not refused
-pub record Done (i : Insn) (shapes : List MapShape) (ctx_len top : ℕ) (old new : AbsState) (flow : Flow) : Type 0 where
+pub record IsDone (i : Insn) (shapes : List MapShape) (ctx_len top : ℕ) (old new : AbsState) (flow : Flow) : Type 0 where
   pub sound : IsForward i → Transfers i shapes ctx_len (state_of old) (state_of new) (option_map state_of (taken_state flow))
   pub branches : IsBranch i → IsSome flow.taken
   pub region : (b : ℕ) (c : Scene) (m : State) → base_of i ≡ Some b → Describes (state_of old) c m → IsInRegion c flow.region (m.regs b)
   pub compares : (r : ℕ) (c : Scene) (m : State) → Compares i r → Describes (state_of old) c m → IsComparable i (m.regs r)
   pub taken_below : IfSome (taken_state flow) (AreBelow top)
-  pub keeps : IsReady i (state_of old) → KeepsFacts i (state_of old) (state_of new)
-  pub keeps_taken : IsReady i (state_of old) → IfSome (taken_state flow) (λ t. KeepsFacts i (state_of old) (state_of t))
+  pub keeps : IsReadyInsn i (state_of old) → KeepsFacts i (state_of old) (state_of new)
+  pub keeps_taken : IsReadyInsn i (state_of old) → IfSome (taken_state flow) (λ t. KeepsFacts i (state_of old) (state_of t))
   pub serves : Serves shapes i (state_of old) (state_of new) (option_map state_of (taken_state flow))
 
 -- It is done, or refused.
 pub record Stepped (i : Insn) (shapes : List MapShape) (ctx_len top : ℕ) (old new : AbsState) (result : Result Flow Fault) : Type 0 where
-  pub done : IfOk result (Done i shapes ctx_len top old new)
+  pub done : IfOk result (IsDone i shapes ctx_len top old new)
   pub below : AreBelow top new
   pub unchanged : OnErr result (new ≡ old)
-  pub accepts : IsReady i (state_of old) → IsFine result
+  pub accepts : IsReadyInsn i (state_of old) → IsFine result
   pub accepts_maps : IsReadyWithMaps shapes i (state_of old) → IsFine result

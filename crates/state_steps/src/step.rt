@@ -6,7 +6,7 @@ ghost use Rattle.typed_runs.specs.Verified.{Transfers};
 ghost use Rattle.register_kinds.specs.Pairs.{AreBelow};
 ghost use Rattle.register_kinds.specs.States.{state_of};
 ghost use Rattle.state_steps.specs.Steps.{IsForward, IsBranch, taken_state, base_of, IsInRegion, Compares, IsComparable, IsFine};
-ghost use Rattle.state_steps.specs.Facts.{IsReady, KeepsFacts};
+ghost use Rattle.state_steps.specs.Facts.{IsReadyInsn, KeepsFacts};
 ghost use Rattle.state_steps.specs.Lookups.{IsReadyWithMaps, Serves};
 ghost use Rattle.state_steps.specs.Stepped.{Stepped};
 
@@ -68,10 +68,10 @@ pub fn transfer(
 
     // An instruction that is ready is not refused but for want of memory, and what is known stays
     // known.
-    ensures accepts { IsReady insn.now (state_of state.old) → IsFine result }
-    ensures keeps { OnOk result (IsReady insn.now (state_of state.old)
+    ensures accepts { IsReadyInsn insn.now (state_of state.old) → IsFine result }
+    ensures keeps { OnOk result (IsReadyInsn insn.now (state_of state.old)
         → KeepsFacts insn.now (state_of state.old) (state_of state.new)) }
-    ensures keeps_taken { IfOk result (λ f. IsReady insn.now (state_of state.old)
+    ensures keeps_taken { IfOk result (λ f. IsReadyInsn insn.now (state_of state.old)
         → IfSome (taken_state f) (λ t. KeepsFacts insn.now (state_of state.old) (state_of t))) }
 
     // So it is of a part of a guarded lookup, and of a call that begins or ends a section; and what

@@ -2,12 +2,12 @@
 use Rattle.std.proofs.Common.{◌≡◌, ◌∙◌, ℕ, zero, suc, ◌+◌, ◌-◌, ◌<◌, ◌≤◌, List, [], ◌∷◌, ◌++◌, length, drop, Option, Some, None, refl, sym, ap, arith, cond, eqb, Bool, false}
 use Rattle.std.specs.Prelude.{replicate, IfSome, IfNone}
 use Rattle.std.specs.List.{range_with_len}
-use Rattle.element_arena.specs.State.{ArenaState, times, worn_at, taken, new_arena}
+use Rattle.element_arena.specs.State.{ArenaState, times_in, worn_at, taken, new_arena}
 use Rattle.element_arena.proofs.Counts.{one_other, length-set}
 use Rattle.std.proofs.lemmas.List.{length-replicate}
 use Rattle.hash_index.specs.declared.commands.Command.{Command}
 use Rattle.hash_index.specs.declared.commands.Command.TheVariants.{Link, Find, Unlink, Above}
-use Rattle.hash_index.specs.Replies.{IsReady, AreReady}
+use Rattle.hash_index.specs.Replies.{IsReadyCommand, AreReadyCommands}
 use Rattle.storage_tests.specs.Stock.{IsStocked, IsFilled, IsLinkable, AreLinkable}
 
 range_step : (slots count : ℕ) → count < slots → range_with_len count (slots - count) ≡ count ∷ range_with_len (count + 1) (slots - (count + 1))
@@ -39,11 +39,11 @@ filled_new slots limit a e = let whole : slots ≡ slots - 0 = omega arith in re
   value = ap (λ (z : ArenaState). z.value_len) e;
 }
 
-none_before : (from n j : ℕ) → j < from → times j (range_with_len from n) ≡ 0
+none_before : (from n j : ℕ) → j < from → times_in j (range_with_len from n) ≡ 0
 none_before from zero j h = refl
 none_before from (suc n) j h =
     let o : cond {A = ℕ} (eqb from j) 1 0 ≡ 0 = one_other from j (λ e. absurd (omega arith)) in
-    let r : times j (range_with_len (from + 1) n) ≡ 0 = none_before (from + 1) n j (omega arith) in
+    let r : times_in j (range_with_len (from + 1) n) ≡ 0 = none_before (from + 1) n j (omega arith) in
     omega arith
 
 none_worn : (slots j : ℕ) → worn_at (replicate slots false) j ≡ 0
@@ -59,7 +59,7 @@ stocked_when slots count a f = record {
       let r : count ≤ slots = f.room in
       record {
         inside = omega arith;
-        not_free = ap (times j) f.free ∙ none_before count (slots - count) j h;
+        not_free = ap (times_in j) f.free ∙ none_before count (slots - count) j h;
         not_worn = ap (λ (w : List Bool). worn_at w j) f.worn ∙ none_worn slots j;
       };
 }
@@ -68,12 +68,12 @@ pub linkable_append : (count : ℕ) (all : List Command) (command : Command) →
 linkable_append count [] command h l = (l, tt)
 linkable_append count (c ∷ all) command h l = (h.0, linkable_append count all command h.1 l)
 
-ready_one : (slots count : ℕ) (a : ArenaState) (command : Command) → IsStocked slots count a → IsLinkable count command → IsReady a command
+ready_one : (slots count : ℕ) (a : ArenaState) (command : Command) → IsStocked slots count a → IsLinkable count command → IsReadyCommand a command
 ready_one slots count a (Link slot) s l = s.taken slot l
 ready_one slots count a (Find key) s l = tt
 ready_one slots count a (Unlink key) s l = tt
 ready_one slots count a (Above bound) s l = tt
 
-pub all_ready : (slots count : ℕ) (a : ArenaState) (all : List Command) → IsStocked slots count a → AreLinkable count all → AreReady a all
+pub all_ready : (slots count : ℕ) (a : ArenaState) (all : List Command) → IsStocked slots count a → AreLinkable count all → AreReadyCommands a all
 all_ready slots count a [] s l = tt
 all_ready slots count a (command ∷ all) s l = (ready_one slots count a command s l.0, all_ready slots count a all s l.1)

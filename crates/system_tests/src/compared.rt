@@ -6,11 +6,11 @@ use crate::judged::{bytes_of, context_of};
 use bpf_model::{Cell, CtxBytes, Reg, Value};
 use insn_codec::decode;
 use lone_runs::{Step, start_alone, step_alone};
-use map_verifier::{Verified, verify};
+use machine::Run;
 use plain_interpreter::{PlainRun, Progress};
 use std::alloc::Global;
 use std::test::Fail;
-use world_runs::Run;
+use verifier::{Verified, verify};
 
 /// A program, and the sum of its exit values, modulo 2^64, over all contexts of its length made of these
 /// bytes.

@@ -4,9 +4,9 @@ ghost use Rattle.std.specs.Prelude.{◌≡◌, IfOk, length};
 use bpf_model::{CtxBytes, MapShape};
 use insn_codec::decode;
 use lone_runs::run_to_exit;
-use map_verifier::verify;
 use std::alloc::Global;
 use std::test::Fail;
+use verifier::verify;
 
 /// A fault or refusal by its number and slot, or the exit value and the number of steps.
 #[derive(Clone, Copy, Debug, PartialEq, Eq)]

@@ -5,9 +5,9 @@ ghost use Rattle.std.specs.Prelude.{◌≡◌};
 use crate::judged::{SHAPE, bytes_of};
 use asm::assemble;
 use insn_codec::{Program, decode};
-use map_verifier::verify;
 use std::alloc::Global;
 use std::test::Fail;
+use verifier::verify;
 
 /// A program as it is handed in.
 enum Source {

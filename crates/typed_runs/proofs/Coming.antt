@@ -11,7 +11,7 @@ use Rattle.bpf_model.specs.declared.event.EventRefusal.{EventRefusal}
 use Rattle.bpf_model.specs.declared.event.EventRefusal.TheVariants.{BadContext}
 use Rattle.bpf_model.specs.Machine.{Loaded, Run, Machine, open_sections, fresh_run, lowest_free, run_at}
 use Rattle.bpf_model.specs.MachineStep.{RunStep, StepsRun}
-use Rattle.bpf_model.specs.Event.{Performs, Answers, Does, Starts, refusal, start_refusal, if_full, AreBytes, IsReal}
+use Rattle.bpf_model.specs.Event.{PerformsEvent, Answers, DoesEvent, Starts, refusal, start_refusal, if_full, AreBytes, IsReal}
 use Rattle.model_laws.proofs.Sections.{run-set_cases}
 
 pub record FreshRun (m new : Machine) (run : Run) : Type 0 where
@@ -72,7 +72,7 @@ comes-drop m new r e q run at = elim (run-set_cases m.runs r q None run (ap (λ 
   | inr x ↦ Stands x.1
 ]
 
-performs-comes : (m : Machine) (event : Event) (answer : Answer) (new : Machine) → IsReal event → refusal m event ≡ None → Performs m event answer new → (q : ℕ) (run : Run) → run_at new.runs q ≡ Some run → Comes m new q run
+performs-comes : (m : Machine) (event : Event) (answer : Answer) (new : Machine) → IsReal event → refusal m event ≡ None → PerformsEvent m event answer new → (q : ℕ) (run : Run) → run_at new.runs q ≡ Some run → Comes m new q run
 performs-comes m (events.Start prog ctx) (answers.Started r) new real pass h q run at = comes-start m prog ctx.items r new real.1 pass h q run at
 performs-comes m (events.Step r) answer new real pass h q run at = comes-step m r answer new h q run at
 performs-comes m (events.Update map key value flags) (answers.Ret ret) new real pass h q run at = stands m new q run (ap (λ x. x.runs) h.2) at
@@ -89,5 +89,5 @@ answers-come : (o : Option EventRefusal) (m : Machine) (event : Event) (answer :
 answers-come None m event answer new real pass h q run at = performs-comes m event answer new real pass h q run at
 answers-come (Some k) m event answer new real pass h q run at = stands m new q run (ap (λ x. x.runs) h.1) at
 
-pub does-come : (m new : Machine) (event : Event) (answer : Answer) → IsReal event → Does m event answer new → (q : ℕ) (run : Run) → run_at new.runs q ≡ Some run → Comes m new q run
+pub does-come : (m new : Machine) (event : Event) (answer : Answer) → IsReal event → DoesEvent m event answer new → (q : ℕ) (run : Run) → run_at new.runs q ≡ Some run → Comes m new q run
 does-come m new event answer real h q run at = answers-come (refusal m event) m event answer new real refl h q run at

@@ -52,7 +52,7 @@ use Rattle.typed_runs.specs.Well.{IsVerifiedFor}
 use Rattle.bpf_model.specs.Machine.{Loaded}
 use Rattle.bpf_model.specs.MapState.{MapState, new_map}
 use Rattle.bpf_model.specs.Schedule.{Schedule}
-use Rattle.bpf_model.specs.Refines.{IsReached}
+use Rattle.bpf_model.specs.Refines.{IsReachedSchedule}
 
 -- bytes stored to the frame
 byte-cell : (c : Scene) (ρ : Naming) (σ : Stored) (b : Bool) (k n : ℕ) (cell : CellKind) (x : Cell) → n < 256 → IsOfCell c ρ σ k cell x → IsOfCell c ρ σ k (if b then ByteCell else cell) (if b then Byte n else x)
@@ -400,5 +400,5 @@ safe-one : (any : Scalar) → ((n : ℕ) → n < 2 ^ 64 → Holds any n) → (p 
 safe-one any all zero program at = subst (IsVerifiedFor (new_map example_shape ∷ [])) (same_Some loaded program at) (record { shapes = shapes; bound = record { count = refl; each = bound-one }; verified = lookup_is_verified any all })
 safe-one any all (suc p) program at = absurd (none-some program at)
 
-pub lookup_never_stuck : (any : Scalar) → ((n : ℕ) → n < 2 ^ 64 → Holds any n) → (s : Schedule) → IsReached (example_shape ∷ []) (record { code = lookup_and_load; maps = 0 ∷ []; context_len = 0 } ∷ []) s → NeverStuck s.machine
+pub lookup_never_stuck : (any : Scalar) → ((n : ℕ) → n < 2 ^ 64 → Holds any n) → (s : Schedule) → IsReachedSchedule (example_shape ∷ []) (record { code = lookup_and_load; maps = 0 ∷ []; context_len = 0 } ∷ []) s → NeverStuck s.machine
 lookup_never_stuck any all s r = well_never_stuck s.machine (reached_is_well (example_shape ∷ []) (loaded ∷ []) s (safe-one any all) r)

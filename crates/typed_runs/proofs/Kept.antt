@@ -12,7 +12,7 @@ use Rattle.bpf_model.specs.Element.{Element, Life}
 use Rattle.bpf_model.specs.MapState.{Store}
 use Rattle.bpf_model.specs.Machine.{Run, Machine, open_sections, section_of, run_at}
 use Rattle.bpf_model.specs.MachineStep.{InsnStep}
-use Rattle.bpf_model.specs.Event.{Does}
+use Rattle.bpf_model.specs.Event.{DoesEvent}
 use Rattle.bpf_model.specs.Consistent.{IsConsistent}
 use Rattle.model_laws.proofs.Sections.{has_open}
 use Rattle.model_laws.proofs.Stores.{LifeMoves, Stays, Unlinks, Ends, Alters, Touches, StoreMoves, IsSingle, is_reap, does-moves, moves-insn}
@@ -85,7 +85,7 @@ describes-kept c d k a m h = record {
 }
 
 -- whatever event comes, its own step too: what describes the run describes it among the elements after it
-pub stays_described : (m new : Machine) (event : Event) (answer : Answer) (r : ℕ) (run : Run) (a : AbsState) → IsConsistent m → Does m event answer new → run_at m.runs r ≡ Some run →
+pub stays_described : (m new : Machine) (event : Event) (answer : Answer) (r : ℕ) (run : Run) (a : AbsState) → IsConsistent m → DoesEvent m event answer new → run_at m.runs r ≡ Some run →
     Describes a (scene_of m.store.elements run) run.state → Describes a (scene_of new.store.elements run) run.state
 stays_described m new event answer r run a w h at d =
     describes-kept (scene_of m.store.elements run) (scene_of new.store.elements run)

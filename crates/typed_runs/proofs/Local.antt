@@ -27,18 +27,18 @@ use Rattle.bpf_model.specs.Section.{Section}
 use Rattle.bpf_model.specs.Element.{Element}
 use Rattle.bpf_model.specs.MapState.{Store, with_elements}
 use Rattle.bpf_model.specs.Machine.{Run, environment, moves, exits}
-use Rattle.bpf_model.specs.MachineStep.{AccessesElement, Acts, Ends, InsnStep, found_value}
+use Rattle.bpf_model.specs.MachineStep.{AccessesElement, Acts, OutcomeStep, InsnStep, found_value}
 use Rattle.scalar_domain.specs.Scalar.{Holds}
 use Rattle.scalar_domain.specs.declared.scalar.Scalar.{Scalar}
 use Rattle.typed_runs.specs.Kinds.{Kind, Blank, Mixed, Ended, Num, CtxAt, FrameAt, MapAt, ValueAt, MaybeNull, CellKind, BlankCell, MixedCell, EndedCell, ByteCell, PartCell, AbsState}
 use Rattle.typed_runs.specs.Describes.{Scene, scene_of, Naming, IsNullOrHeld, HasOffset, IsOf, Stored, part_of, IsOfCell, Describes}
 use Rattle.typed_runs.specs.Effects.{null_kind, null_cell, there_kind, there_cell, when_null, when_there}
-use Rattle.typed_runs.specs.Verified.{AllBytes, Surrounds, HasStep, Leads, Transfers, is_call, IsEnvironment, Lands, TransfersAlone}
+use Rattle.typed_runs.specs.Verified.{AllBytes, Surrounds, HasStep, Leads, Transfers, is_call, IsEnvironment, LandsDescribed, TransfersAlone}
 use Rattle.typed_runs.proofs.Arguments.{reg-is}
 
 -- what an instruction other than a call does
 abbrev pub Acted : Insn → Store → Run → Answer → Store → Run → Type 0
-Acted i s run answer new_store new_run = (out : Outcome) × (es : List Element) × Acts i (environment run) s.elements run.state out es × (new_store ≡ with_elements es s) × Ends out run answer new_run
+Acted i s run answer new_store new_run = (out : Outcome) × (es : List Element) × Acts i (environment run) s.elements run.state out es × (new_store ≡ with_elements es s) × OutcomeStep out run answer new_run
 
 abbrev pub IsNoCall : Insn → Type 0
 IsNoCall i = (s : Store) (opened : List Section) (run : Run) (answer : Answer) (new_store : Store) (new_run : Run) →
@@ -63,11 +63,11 @@ pub record Acting (i : Insn) (s : Store) (run : Run) (new : AbsState) (taken : O
 some-not-none : (n : ℕ) → Some n ≡ None → ⊥
 some-not-none n h = cc
 
-ending : (out : Outcome) (i : Insn) (new : AbsState) (taken : Option AbsState) (es : List Element) (run : Run) → Reaches i new taken es run out → (answer : Answer) × (new_run : Run) × Ends out run answer new_run
+ending : (out : Outcome) (i : Insn) (new : AbsState) (taken : Option AbsState) (es : List Element) (run : Run) → Reaches i new taken es run out → (answer : Answer) × (new_run : Run) × OutcomeStep out run answer new_run
 ending (Moves next) i new taken es run h = (Moved, moves run next, (refl, refl))
 ending (Exits n) i new taken es run h = (Exited n, exits run n, (h, refl, refl))
 
-ended-leads : (out : Outcome) (i : Insn) (new : AbsState) (taken : Option AbsState) (es : List Element) (run : Run) (answer : Answer) (new_run : Run) → Reaches i new taken es run out → Ends out run answer new_run → Leads i new taken run.state.place es new_run
+ended-leads : (out : Outcome) (i : Insn) (new : AbsState) (taken : Option AbsState) (es : List Element) (run : Run) (answer : Answer) (new_run : Run) → Reaches i new taken es run out → OutcomeStep out run answer new_run → Leads i new taken run.state.place es new_run
 ended-leads (Moves next) i new taken es run answer new_run h e = subst (λ (r : Run). Leads i new taken run.state.place es r) (sym e.1) (λ going. h)
 ended-leads (Exits n) i new taken es run answer new_run h e = λ going. absurd (some-not-none n (ap (λ (r : Run). r.exit) (sym e.2) ∙ going))
 
@@ -84,7 +84,7 @@ acts-leads i s run b taken answer new_store new_run x h =
     let o = x.only h.0 h.1 h.2 in
     subst (λ (y : Store). AllBytes y.elements × Leads i b taken run.state.place y.elements new_run) (sym h.3)
     (subst (λ (es : List Element). AllBytes es × Leads i b taken run.state.place es new_run) o.1
-    (x.bytes, ended-leads x.out i b taken x.es run answer new_run x.reaches (subst (λ y. Ends y run answer new_run) (sym o.0) h.4)))
+    (x.bytes, ended-leads x.out i b taken x.es run answer new_run x.reaches (subst (λ y. OutcomeStep y run answer new_run) (sym o.0) h.4)))
 
 pub acts-transfers : (i : Insn) (shapes : List MapShape) (ctx_len : ℕ) (a b : AbsState) (taken : Option AbsState) → IsNoCall i →
     ((s : Store) (opened : List Section) (run : Run) → Surrounds shapes ctx_len s opened run → Describes a (scene_of s.elements run) run.state → Acting i s run b taken) → Transfers i shapes ctx_len a b taken
@@ -117,7 +117,7 @@ no-call i e s opened run answer new_store new_run = (λ h. h, λ h. h)
 environment-is : (shapes : List MapShape) (ctx_len : ℕ) (s : Store) (opened : List Section) (run : Run) → Surrounds shapes ctx_len s opened run → IsEnvironment ctx_len (length shapes) (environment run)
 environment-is shapes ctx_len s opened run w = record { long = w.long; bytes = w.context; bound = w.bound.count }
 
-lands-reaches : (out : Outcome) (i : Insn) (b : AbsState) (taken : Option AbsState) (es : List Element) (run : Run) → Lands i b taken (scene_of es run) run.state.place out → Reaches i b taken es run out
+lands-reaches : (out : Outcome) (i : Insn) (b : AbsState) (taken : Option AbsState) (es : List Element) (run : Run) → LandsDescribed i b taken (scene_of es run) run.state.place out → Reaches i b taken es run out
 lands-reaches (Moves next) i b taken es run h = h
 lands-reaches (Exits n) i b taken es run h = h
 

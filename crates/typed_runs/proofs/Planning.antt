@@ -23,7 +23,7 @@ use Rattle.scalar_domain.specs.Constant.{le_self}
 use Rattle.typed_runs.specs.Kinds.{Blank, CtxAt, FrameAt, AbsState}
 use Rattle.typed_runs.specs.Describes.{Scene, scene_of, HasOffset, IsContextAt, IsOf, IsOfCell, AreNear, Describes, depth_of}
 use Rattle.typed_runs.specs.Verified.{Plan, AllBytes, Surrounds, Leads, Transfers, IsPlanned, IsPlannedAfter, IsClosed}
-use Rattle.typed_runs.specs.Planned.{origin, Wider, AreAlike, Joins, entry_state, Covers, IsCovered, IsKept}
+use Rattle.typed_runs.specs.Planned.{origin, Wider, AreAlike, Joins, entry_state, Covers, IsCovered, IsPlanKept}
 use Rattle.typed_runs.proofs.Sets.{choice-of, near-set, widened}
 
 pub join_left : (pair : ℕ → ℕ × ℕ) (a b c : AbsState) → Joins pair a b c → Wider a c
@@ -97,7 +97,7 @@ start-insn code k p i there at = let e : p - 0 ≡ p = omega arith in subst (λ 
 pub start-inside : (code : List Insn) (k p : ℕ) → StartsAt code k p → k < length code
 start-inside code k p at = let x = insn_of-start 0 code k p at in slice_get_within code k x.0 x.1
 
-module _ (code : List Insn) (shapes : List MapShape) (ctx_len : ℕ) (plan : Plan) (kept : IsKept code shapes ctx_len plan) where
+module _ (code : List Insn) (shapes : List MapShape) (ctx_len : ℕ) (plan : Plan) (kept : IsPlanKept code shapes ctx_len plan) where
   -- where control falls through, and where it jumps
   fallen : (k place : ℕ) (i : Insn) (new : AbsState) → slice_get code k ≡ Some i → StartsAt code k place → Covers plan (suc k) new → StartsAt code (suc k) (place + slot_count i)
   fallen k place i new there at v = starts-next 0 code k place i there at (kept.inside (suc k) v.0 v.1)

@@ -16,15 +16,15 @@ use Rattle.bpf_model.specs.Step.{Outcome, Moves, Exits}
 use Rattle.bpf_model.specs.Section.{Section}
 use Rattle.bpf_model.specs.MapState.{MapState, Store}
 use Rattle.bpf_model.specs.Machine.{Loaded, Run, Machine, open_sections, fresh_run, run_at, start_machine, moves, locked, unlocked}
-use Rattle.bpf_model.specs.MachineStep.{Ends, KernelStep, returns, InsnStep, RunStep, StepsRun, NeverStuck}
-use Rattle.bpf_model.specs.Event.{Does, AreBytes, IsReal, AreReal}
-use Rattle.bpf_model.specs.Run.{IsHistory, AllStates}
+use Rattle.bpf_model.specs.MachineStep.{OutcomeStep, KernelStep, returns, InsnStep, RunStep, StepsRun, NeverStuck}
+use Rattle.bpf_model.specs.Event.{DoesEvent, AreBytes, IsReal, AreReal}
+use Rattle.bpf_model.specs.History.{IsHistory, AllStates}
 use Rattle.bpf_model.specs.Schedule.{Schedule, IsScheduledHistory, last_scheduled, start_schedule}
 use Rattle.bpf_model.specs.declared.event.Answer.TheVariants.{Moved, Exited}
 use Rattle.bpf_model.specs.declared.value.Value.TheVariants.{Nothing}
 use Rattle.bpf_model.specs.Headline.{AreNeverStuck, moved_once}
 use Rattle.bpf_model.specs.View.{WorldView}
-use Rattle.bpf_model.specs.Refines.{IsReached, Tracks}
+use Rattle.bpf_model.specs.Refines.{IsReachedSchedule, Tracks}
 use Rattle.bpf_model.specs.View.{shapes_of}
 use Rattle.model_laws.proofs.Sections.{has_open}
 use Rattle.model_laws.proofs.Stores.{KeepsShapes, StoreMoves, is_reap, does-moves}
@@ -73,7 +73,7 @@ same-along old mid new answer same e f h = subst (λ x. SameProgram old x new) (
 same-moves : (old mid : Run) → mid.program ≡ old.program → mid.context ≡ old.context → mid.moved ≡ old.moved + 1 → mid.exit ≡ old.exit → SameProgram old Moved mid
 same-moves old mid p c m e = record { program = p; context = c; counts = m; moved = inl (m, e) }
 
-same-ends : (out : Outcome) (run : Run) (answer : Answer) (new : Run) → Ends out run answer new → SameProgram run answer new
+same-ends : (out : Outcome) (run : Run) (answer : Answer) (new : Run) → OutcomeStep out run answer new → SameProgram run answer new
 same-ends (Moves next) run answer new h = same-along run _ new answer Moved h.0 h.1 (same-moves run (moves run next) refl refl refl refl)
 same-ends (Exits n) run answer new h = same-along run _ new answer (Exited n) h.1 h.2 (record { program = refl; context = refl; counts = omega arith; moved = inr refl })
 
@@ -150,7 +150,7 @@ typed-fresh m new run w shapes f = subst (IsTyped new.store) f.is (
 pub typed-inside : (s : Store) (run : Run) → IsTyped s run → run.moved < length run.program.code
 typed-inside s run t = let l = start-inside run.program.code t.index run.state.place t.planned.at in omega (arith, t.moved)
 
-module _ (m new : Machine) (event : Event) (answer : Answer) (w : IsWell m) (real : IsReal event) (h : Does m event answer new) where
+module _ (m new : Machine) (event : Event) (answer : Answer) (w : IsWell m) (real : IsReal event) (h : DoesEvent m event answer new) where
   mv : StoreMoves (is_reap event) (open_sections m.runs) m.store new.store
   mv = does-moves m new event answer w.consistent.single h
 
@@ -223,7 +223,7 @@ well-last s (event ∷ events) (answer ∷ answers) (next ∷ states) w real h =
     well-last next events answers states (keeps_well s.machine next.machine event answer w (real 0 event refl) h.0.step) (real-rest event events real) h.1
 well-last s events answers states w real h = absurd h
 
-pub reached_is_well : (shapes : List MapShape) (programs : List Loaded) (s : Schedule) → AreVerified shapes programs → IsReached shapes programs s → IsWell s.machine
+pub reached_is_well : (shapes : List MapShape) (programs : List Loaded) (s : Schedule) → AreVerified shapes programs → IsReachedSchedule shapes programs s → IsWell s.machine
 reached_is_well shapes programs s safe r = subst (λ (x : Schedule). IsWell x.machine) r.last (well-last (start_schedule shapes programs) r.events r.answers r.states (starts_well shapes programs safe) r.real r.history)
 
 -- never stuck, of what a world tracks

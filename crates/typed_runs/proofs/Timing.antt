@@ -10,8 +10,8 @@ use Rattle.bpf_model.specs.declared.event.Answer.TheVariants as answers
 use Rattle.bpf_model.specs.declared.event.EventRefusal.{EventRefusal}
 use Rattle.bpf_model.specs.Machine.{Run, Machine, open_sections, fresh_run, run_at}
 use Rattle.bpf_model.specs.MachineStep.{StepsRun}
-use Rattle.bpf_model.specs.Event.{Performs, Answers, Does, Starts, refusal, AreReal}
-use Rattle.bpf_model.specs.Run.{IsHistory}
+use Rattle.bpf_model.specs.Event.{PerformsEvent, Answers, DoesEvent, Starts, refusal, AreReal}
+use Rattle.bpf_model.specs.History.{IsHistory}
 use Rattle.bpf_model.specs.Headline.{moved_once, moves_after, moves_of, moved_by, ExitsInTime, AllExitInTime}
 use Rattle.bpf_model.specs.View.{WorldView}
 use Rattle.bpf_model.specs.Refines.{Tracks}
@@ -50,7 +50,7 @@ counts-drop r n m q new c e run at = elim (run-set_cases m.runs q r None run (ap
   | inr x ↦ c run x.1
 ]
 
-performs-counts : (r n : ℕ) (m : Machine) (event : Event) (answer : Answer) (new : Machine) → Counts r n m → Performs m event answer new → Counts r (moves_after r n event answer) new
+performs-counts : (r n : ℕ) (m : Machine) (event : Event) (answer : Answer) (new : Machine) → Counts r n m → PerformsEvent m event answer new → Counts r (moves_after r n event answer) new
 performs-counts r n m (events.Start prog ctx) (answers.Started q) new c h = counts-start r n m prog ctx.items q new c h
 performs-counts r n m (events.Step q) answer new c h = counts-step r n m q answer new c h
 performs-counts r n m (events.Update map key value flags) (answers.Ret ret) new c h = counts-same r n m new (ap (λ x. x.runs) h.2) c
@@ -84,7 +84,7 @@ answers-count (Some k) r n m event answer new c h =
     subst (λ x. Counts r x new) (sym (ap (moves_after r n event) h.0 ∙ refused-same r n event k)) (counts-same r n m new (ap (λ x. x.runs) h.1) c)
 
 -- what the answers count is what the run has moved
-pub does_count : (r n : ℕ) (m new : Machine) (event : Event) (answer : Answer) → Counts r n m → Does m event answer new → Counts r (moves_after r n event answer) new
+pub does_count : (r n : ℕ) (m new : Machine) (event : Event) (answer : Answer) → Counts r n m → DoesEvent m event answer new → Counts r (moves_after r n event answer) new
 does_count r n m new event answer c h = answers-count (refusal m event) r n m event answer new c h
 
 below-well : (r n : ℕ) (m : Machine) (run : Run) → IsWell m → Counts r n m → run_at m.runs r ≡ Some run → n < length run.program.code

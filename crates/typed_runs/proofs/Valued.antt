@@ -13,7 +13,7 @@ use Rattle.bpf_model.specs.MapState.{MapState, Store}
 use Rattle.bpf_model.specs.Helper.{Replaces, Settles, Updates, Removes, Deletes, newborn}
 use Rattle.bpf_model.specs.Machine.{Machine, open_sections}
 use Rattle.bpf_model.specs.MachineStep.{StepsRun}
-use Rattle.bpf_model.specs.Event.{Performs, Answers, Does, refusal, AreBytes, IsReal}
+use Rattle.bpf_model.specs.Event.{PerformsEvent, Answers, DoesEvent, refusal, AreBytes, IsReal}
 use Rattle.model_laws.proofs.Lists.{get-append_cases, get-set_cases}
 use Rattle.typed_runs.specs.Verified.{AllBytes}
 
@@ -63,7 +63,7 @@ same-bytes : (m new : Machine) → new.store ≡ m.store → AllBytes m.store.el
 same-bytes m new e h = bytes-along m.store.elements new.store.elements (ap (λ s. s.elements) e) h
 
 -- of a step of a run it is known by its program's verification
-performs-bytes : (m : Machine) (event : Event) (answer : Answer) (new : Machine) → IsReal event → ((r : ℕ) → StepsRun m r answer new → AllBytes new.store.elements) → AllBytes m.store.elements → Performs m event answer new → AllBytes new.store.elements
+performs-bytes : (m : Machine) (event : Event) (answer : Answer) (new : Machine) → IsReal event → ((r : ℕ) → StepsRun m r answer new → AllBytes new.store.elements) → AllBytes m.store.elements → PerformsEvent m event answer new → AllBytes new.store.elements
 performs-bytes m (events.Start prog ctx) (answers.Started r) new real step h p = same-bytes m new (ap (λ x. x.store) p.new_is) h
 performs-bytes m (events.Step r) answer new real step h p = step r p
 performs-bytes m (events.Update map key value flags) (answers.Ret ret) new real step h p =
@@ -83,11 +83,11 @@ answers-bytes : (o : Option EventRefusal) (m : Machine) (event : Event) (answer 
 answers-bytes None m event answer new real step h p = performs-bytes m event answer new real step h p
 answers-bytes (Some k) m event answer new real step h p = same-bytes m new (ap (λ x. x.store) p.1) h
 
-pub does-bytes : (m new : Machine) (event : Event) (answer : Answer) → IsReal event → ((r : ℕ) → StepsRun m r answer new → AllBytes new.store.elements) → AllBytes m.store.elements → Does m event answer new → AllBytes new.store.elements
+pub does-bytes : (m new : Machine) (event : Event) (answer : Answer) → IsReal event → ((r : ℕ) → StepsRun m r answer new → AllBytes new.store.elements) → AllBytes m.store.elements → DoesEvent m event answer new → AllBytes new.store.elements
 does-bytes m new event answer real step h p = answers-bytes (refusal m event) m event answer new real step h p
 
 -- the programs stay
-performs-programs : (m : Machine) (event : Event) (answer : Answer) (new : Machine) → Performs m event answer new → new.programs ≡ m.programs
+performs-programs : (m : Machine) (event : Event) (answer : Answer) (new : Machine) → PerformsEvent m event answer new → new.programs ≡ m.programs
 performs-programs m (events.Start prog ctx) (answers.Started r) new h = ap (λ x. x.programs) h.new_is
 performs-programs m (events.Step run) answer new h = ap (λ x. x.programs) h.new_is
 performs-programs m (events.Update map key value flags) (answers.Ret ret) new h = ap (λ x. x.programs) h.2
@@ -104,5 +104,5 @@ answers-programs : (o : Option EventRefusal) (m : Machine) (event : Event) (answ
 answers-programs None m event answer new h = performs-programs m event answer new h
 answers-programs (Some k) m event answer new h = ap (λ x. x.programs) h.1
 
-pub does-programs : (m new : Machine) (event : Event) (answer : Answer) → Does m event answer new → new.programs ≡ m.programs
+pub does-programs : (m new : Machine) (event : Event) (answer : Answer) → DoesEvent m event answer new → new.programs ≡ m.programs
 does-programs m new event answer h = answers-programs (refusal m event) m event answer new h

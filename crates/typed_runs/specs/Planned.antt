@@ -54,7 +54,7 @@ pub record IsCovered (code : List Insn) (shapes : List MapShape) (ctx_len : ℕ)
   pub falls_on : falls insn ≡ true → Covers plan (suc k) new
   pub jumps_on : (by : ℤ) → distance insn ≡ Some by → (t : ℕ) × LeadsTo code k insn t × Covers plan t (unwrap_or taken new)
 
-pub record IsKept (code : List Insn) (shapes : List MapShape) (ctx_len : ℕ) (plan : Plan) : Type 0 where
+pub record IsPlanKept (code : List Insn) (shapes : List MapShape) (ctx_len : ℕ) (plan : Plan) : Type 0 where
   pub start : Covers plan 0 entry_state
   pub inside : (k : ℕ) (a : AbsState) → plan k ≡ Some a → k < length code
   pub each : (k : ℕ) (a : AbsState) → plan k ≡ Some a → IsCovered code shapes ctx_len plan k a

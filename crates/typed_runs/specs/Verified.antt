@@ -103,9 +103,9 @@ pub record IsEnvironment (ctx_len maps : ℕ) (env : Environment) : Type 0 where
   pub bytes : AreBytes env.context
   pub bound : env.maps ≡ maps
 
-abbrev pub Lands : Insn → AbsState → Option AbsState → Scene → ℕ → Outcome → Type 0
-Lands i new taken c place (Exits n) = c.depth ≡ 0
-Lands i new taken c place (Moves next) =
+abbrev pub LandsDescribed : Insn → AbsState → Option AbsState → Scene → ℕ → Outcome → Type 0
+LandsDescribed i new taken c place (Exits n) = c.depth ≡ 0
+LandsDescribed i new taken c place (Moves next) =
     ((falls i ≡ true) × (next.place ≡ place + slot_count i) × Describes new c next)
     ⊎ (JumpsTo i place next.place × Describes (unwrap_or taken new) c next)
 
@@ -113,7 +113,7 @@ pub record ActsAlone (i : Insn) (new : AbsState) (taken : Option AbsState) (c : 
   pub out : Outcome
   pub after_is : after i env m ≡ Some out
   pub alone : (es fs : List Element) (other : Outcome) → AccessesElement i es m other fs → ⊥
-  pub lands : Lands i new taken c m.place out
+  pub lands : LandsDescribed i new taken c m.place out
 
 abbrev pub TransfersAlone : Insn → List MapShape → ℕ → AbsState → AbsState → Option AbsState → Type 0
 TransfersAlone i shapes ctx_len old new taken = (c : Scene) (env : Environment) (m : State)

@@ -28,11 +28,11 @@ ghost use Rattle.bpf_model.specs.Call.{helper_of, kernel_function_of};
 ghost use Rattle.bpf_model.specs.Machine.{Loaded, Run, Machine, run_at, start_machine};
 ghost use Rattle.bpf_model.specs.MachineStep.{NeverStuck};
 ghost use Rattle.bpf_model.specs.Step.{State};
-ghost use Rattle.bpf_model.specs.Event.{Does, IsReal, AreReal};
-ghost use Rattle.bpf_model.specs.Run.{IsHistory, AllStates};
+ghost use Rattle.bpf_model.specs.Event.{DoesEvent, IsReal, AreReal};
+ghost use Rattle.bpf_model.specs.History.{IsHistory, AllStates};
 ghost use Rattle.bpf_model.specs.Schedule.{Schedule};
 ghost use Rattle.bpf_model.specs.View.{WorldView};
-ghost use Rattle.bpf_model.specs.Refines.{IsReached, Tracks};
+ghost use Rattle.bpf_model.specs.Refines.{IsReachedSchedule, Tracks};
 ghost use Rattle.bpf_model.specs.View.{shapes_of};
 ghost use Rattle.bpf_model.specs.Headline.{AreNeverStuck, ExitsInTime, AllExitInTime};
 ghost use Rattle.bpf_model.specs.Consistent.{IsConsistent};
@@ -43,19 +43,19 @@ ghost use Rattle.typed_runs.specs.Kinds.{Kind, Num, FrameAt, ValueAt, MaybeNull,
 ghost use Rattle.typed_runs.specs.Describes.{Scene, scene_of, HasOffset, Describes};
 ghost use Rattle.typed_runs.specs.Effects.{with_kind, with_cells, after_call, after_lock, after_unlock, when_null, when_there, IsFresh, IsAlwaysInside, HasMap, HasBytes, IsWritten, IsPointer, IsNumberOperand};
 ghost use Rattle.typed_runs.specs.Verified.{Plan, Transfers, TransfersAlone, is_call, IsClosed, IsVerified};
-ghost use Rattle.typed_runs.specs.Planned.{Wider, AreAlike, Joins, IsKept};
+ghost use Rattle.typed_runs.specs.Planned.{Wider, AreAlike, Joins, IsPlanKept};
 ghost use Rattle.bpf_model.specs.declared.value.Reference.{Reference};
 ghost use Rattle.bpf_model.specs.Element.{Element};
 ghost use Rattle.bpf_model.specs.Word.{IsReferenceWord, element_bases};
 ghost use Rattle.bpf_model.specs.Near.{IsNearReference};
-ghost use Rattle.model_laws.specs.Near.{named_location};
+ghost use Rattle.model_laws.specs.Locations.{named_location};
 ghost use Rattle.typed_runs.specs.Limits.{IsWithinLimits, IsNearMachine};
 ghost use Rattle.typed_runs.specs.Well.{AreVerified, IsWell};
 
 /// Whatever event comes, the run's own step too: what describes a run describes it among the elements after it.
 pub fn stays_described()
     ensures { (m new : Machine) (event : Event) (answer : Answer) (r : ℕ) (run : Run) (a : AbsState)
-        → IsConsistent m → Does m event answer new → run_at m.runs r ≡ Some run
+        → IsConsistent m → DoesEvent m event answer new → run_at m.runs r ≡ Some run
         → Describes a (scene_of m.store.elements run) run.state
         → Describes a (scene_of new.store.elements run) run.state }
 {}
@@ -195,7 +195,7 @@ pub fn fill_transfers()
 /// A plan that is kept instruction by instruction is closed under the machine's steps.
 pub fn kept_is_closed()
     ensures { (code : List Insn) (shapes : List MapShape) (ctx_len : ℕ) (plan : Plan)
-        → IsKept code shapes ctx_len plan → IsClosed code shapes ctx_len plan }
+        → IsPlanKept code shapes ctx_len plan → IsClosed code shapes ctx_len plan }
 {}
 
 /// At the start of verified programs the machine is well.
@@ -207,7 +207,7 @@ pub fn starts_well()
 /// It stays well, whatever event comes and whatever it answers.
 pub fn keeps_well()
     ensures { (m new : Machine) (event : Event) (answer : Answer) → IsWell m → IsReal event
-        → Does m event answer new → IsWell new }
+        → DoesEvent m event answer new → IsWell new }
 {}
 
 /// Then each run that hasn't ended has a step.
@@ -218,7 +218,7 @@ pub fn well_never_stuck()
 /// Each reached state of verified programs is well.
 pub fn reached_is_well()
     ensures { (shapes : List MapShape) (programs : List Loaded) (s : Schedule)
-        → AreVerified shapes programs → IsReached shapes programs s → IsWell s.machine }
+        → AreVerified shapes programs → IsReachedSchedule shapes programs s → IsWell s.machine }
 {}
 
 /// No state of a history from a well state is stuck.
@@ -279,7 +279,7 @@ pub fn lookup_is_verified()
 /// With it, and whatever the control plane does, no run is ever stuck.
 pub fn lookup_never_stuck()
     ensures { (any : Scalar) → ((n : ℕ) → n < 2 ^ 64 → Holds any n) → (s : Schedule)
-        → IsReached (example_shape ∷ []) (record { code = lookup_and_load; maps = 0 ∷ []; context_len = 0 } ∷ []) s
+        → IsReachedSchedule (example_shape ∷ []) (record { code = lookup_and_load; maps = 0 ∷ []; context_len = 0 } ∷ []) s
         → NeverStuck s.machine }
 {}
 

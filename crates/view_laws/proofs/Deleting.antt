@@ -19,7 +19,7 @@ use Rattle.bpf_model.specs.Schedule.{Queues, Schedule, retired, unlinked_between
 use Rattle.model_laws.specs.Scheduled.{IsScheduled}
 use Rattle.model_laws.proofs.Lists.{length-slice_set}
 use Rattle.model_laws.proofs.Counting.{retired-back, length-retired, with_more}
-use Rattle.bpf_model.specs.View.{MapView, WorldView, state_of}
+use Rattle.bpf_model.specs.View.{MapView, WorldView, map_state_of}
 use Rattle.bpf_model.specs.Refines.{lists_of, named, ElementsStand, SlotsStand, RefinesSchedule}
 use Rattle.view_laws.specs.Views.{retired_key, retired_slot, delete_result, deleted}
 use Rattle.view_laws.specs.Reactions.{shape_shown, with_map, delete_at, delete_reaction}
@@ -49,7 +49,7 @@ pub record Drops (slots : List ℕ) (k : ℕ) (store : Store) (opened : List Sec
   pub given : count_by (λ e. is_reclaimed e.life) left ≡ count_by (λ e. is_reclaimed e.life) store.elements
   pub lists : (more : List Element) (names : List ℕ) → Renames slots names (length store.elements) → lists_of new ≡ named names (with_more k store.elements (left ++ more) q)
   pub others : (j : ℕ) → j ≢ k → (more : List Element) → unlinked_between j 0 store.elements (left ++ more) ≡ []
-  pub state : state_of new ≡ state_of v
+  pub state : map_state_of new ≡ map_state_of v
   pub slots_same : new.slots ≡ v.slots
   pub free : new.free ≡ v.free
   pub slots_stand : SlotsStand new

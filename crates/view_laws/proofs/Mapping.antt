@@ -13,7 +13,7 @@ use Rattle.model_laws.proofs.Lists.{get-set_cases, get-append_cases, get-append_
 use Rattle.model_laws.proofs.Counting.{times-first, times-other, times-append}
 use Rattle.bpf_model.specs.View.{MapView, uses_at}
 use Rattle.bpf_model.specs.Refines.{times, slot_view, IsKept, ElementsStand, SlotsStand}
-use Rattle.view_laws.specs.Views.{retired_slot, filled, given_back}
+use Rattle.view_laws.specs.Views.{retired_slot, filled, slot_given_back}
 use Rattle.view_laws.proofs.Changing.{Changes}
 use Rattle.model_laws.proofs.Tallies.{one_of, count-set}
 use Rattle.view_laws.proofs.Lists.{key_cases, insert-same, insert-other, remove-same, remove-other, len-remove_found, len-insert_new, index-append, index-last}
@@ -135,7 +135,7 @@ module _ (slots : List ℕ) (k : ℕ) (es : List Element) (v : MapView) (n : ℕ
       let x : g.element ≡ e = same_Some g.element e (sym g.born ∙ (ap (slice_get es) same ∙ born)) in
       false≢true (sym (ap is_linked life) ∙ (ap (λ (z : Element). is_linked z.life) (sym x) ∙ ap is_linked g.linked))
 
-  apart-given : (given : Given) (a : ℕ) (f : Element) → IsKept rs k a f → times (slice_index slots a) (given_back given (slice_index slots n) v).free ≡ 0
+  apart-given : (given : Given) (a : ℕ) (f : Element) → IsKept rs k a f → times (slice_index slots a) (slot_given_back given (slice_index slots n) v).free ≡ 0
   apart-given Free a f g =
       let x = was a f g in
       let ne : slice_index slots n ≢ slice_index slots a = λ same. another a f g (s.single a n x.old e x.was kept-one (sym same)) in
@@ -165,7 +165,7 @@ module _ (slots : List ℕ) (k : ℕ) (es : List Element) (v : MapView) (n : ℕ
   finds-rest : (q : List ℕ) (a : ℕ) → IsLinkedAt rs k q a → get v.index q ≡ Some (slice_index slots a)
   finds-rest q a g = s.finds q a (link-back k es n e Reclaimed born in_map k q a (not-linked k es n e Reclaimed born in_map refl k q a g) g)
 
-  pub elements-given : (given : Given) → ElementsStand slots k rs (given_back given (slice_index slots n) v)
+  pub elements-given : (given : Given) → ElementsStand slots k rs (slot_given_back given (slice_index slots n) v)
   elements-given Free = record { occupied = occupied-rest; single = single-rest; apart = apart-given Free; found = found-rest; finds = finds-rest; counted = counted-same }
   elements-given Worn = record { occupied = occupied-rest; single = single-rest; apart = apart-given Worn; found = found-rest; finds = finds-rest; counted = counted-same }
 

@@ -19,7 +19,7 @@ use Rattle.bpf_model.specs.Drain.{AnswersAsScheduled}
 use Rattle.bpf_model.specs.View.{MapView, RunView, WorldView, shapes_of}
 use Rattle.bpf_model.specs.Refines.{SlotRefines, TracksSchedule}
 use Rattle.model_laws.proofs.Reached.{tracked_is_scheduled}
-use Rattle.view_laws.specs.Views.{retired_slot, retired_key, deleted, filled_from, updated_by, updated, shown_error, turned_view, given_back, given_at, reaped_view}
+use Rattle.view_laws.specs.Views.{retired_slot, retired_key, deleted, filled_from, updated_by, updated, shown_error, turned_view, slot_given_back, given_at, reaped_view}
 use Rattle.view_laws.specs.Reactions.{with_map, shape_shown, refused_as, delete_at, delete_reaction, update_at, update_reaction, read_at, read_reaction, advanced_by, advance_reaction, Pick, or_pick, first_pick, reap_by, reap_reaction, free_slot, start_by, start_reaction, run_shown, step_refused, drop_refused, drop_by, drop_reaction, step_by, reaction}
 use Rattle.view_laws.specs.Matching.{Matches, Simulates}
 use Rattle.view_laws.proofs.Worlds.{refuses}
@@ -100,7 +100,7 @@ pub updated-shape : (o : Option Errno) (v : MapView) (key value : List ℕ) → 
 updated-shape (Some e) v key value = refl
 updated-shape None v key value = filled-shape v.free (retired_key v key) key value ∙ retired-shape v key (get v.index key)
 
-given-shape : (g : Given) (i : ℕ) (v : MapView) → (given_back g i v).shape ≡ v.shape
+given-shape : (g : Given) (i : ℕ) (v : MapView) → (slot_given_back g i v).shape ≡ v.shape
 given-shape Free i v = refl
 given-shape Worn i v = refl
 

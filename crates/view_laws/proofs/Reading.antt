@@ -11,8 +11,8 @@ use Rattle.bpf_model.specs.declared.event.EventRefusal.TheVariants.{NoMap}
 use Rattle.bpf_model.specs.Element.{is_reclaimed}
 use Rattle.bpf_model.specs.Event.{Answers, key_refusal, refusal}
 use Rattle.bpf_model.specs.Schedule.{Schedule}
-use Rattle.bpf_model.specs.View.{MapView, WorldView}
-use Rattle.view_laws.specs.Views.{value_in, value_shown}
+use Rattle.bpf_model.specs.View.{MapView, WorldView, value_in}
+use Rattle.view_laws.specs.Views.{value_shown}
 use Rattle.view_laws.specs.Reactions.{shape_shown, read_at, read_reaction}
 use Rattle.view_laws.specs.Matching.{Matches, Simulates}
 use Rattle.view_laws.proofs.Worlds.{here, shapes-agree, oldest-none, unchanged, refuses}

@@ -17,9 +17,9 @@ use Rattle.model_laws.specs.Scheduled.{IsScheduled}
 use Rattle.model_laws.proofs.Lists.{length-slice_set, get-set_same, get-set_other}
 use Rattle.model_laws.proofs.Counting.{times-first, times-other, times-append, shortened, none-without, length-without}
 use Rattle.model_laws.proofs.Queueing.{Queued, queued-of}
-use Rattle.bpf_model.specs.View.{MapView, WorldView, uses_in, uses_at, state_of}
+use Rattle.bpf_model.specs.View.{MapView, WorldView, uses_in, uses_at, map_state_of, key_in}
 use Rattle.bpf_model.specs.Refines.{times, slot_view, IsKept, lists_of, named, SlotsStand, MapRefines, RefinesSchedule}
-use Rattle.view_laws.specs.Views.{given_back, given_at, reaped_view, key_in}
+use Rattle.view_laws.specs.Views.{slot_given_back, given_at, reaped_view}
 use Rattle.view_laws.specs.Reactions.{Pick, or_pick, first_pick, with_reaped, reap_by, reap_reaction}
 use Rattle.view_laws.specs.Matching.{Matches, Simulates}
 use Rattle.model_laws.proofs.Tallies.{count-set, one_of}
@@ -97,7 +97,7 @@ module _ (slots : List ℕ) where
   picks k (v ∷ vs) (q ∷ qs) l h = picks-at k v q vs qs q.ready refl (h 0 v q refl refl) (picks (suc k) vs qs (omega arith) (λ j u p a b. h (suc j) u p a b))
 
 -- a slot that is given back
-slots-given : (v : MapView) (i : ℕ) (g : Given) → SlotsStand v → i < length v.slots → times i v.free ≡ 0 → SlotsStand (given_back g i v)
+slots-given : (v : MapView) (i : ℕ) (g : Given) → SlotsStand v → i < length v.slots → times i v.free ≡ 0 → SlotsStand (slot_given_back g i v)
 slots-given v i Worn s less none = record { room = s.room; once = s.once; inside = s.inside }
 slots-given v i Free s less none = record {
   room = s.room;
@@ -111,11 +111,11 @@ slots-given v i Free s less none = record {
   ];
 }
 
-state-given : (v : MapView) (i : ℕ) (g : Given) → with_given g (uses_at v.slots i) (state_of v) ≡ state_of (given_back g i v)
+state-given : (v : MapView) (i : ℕ) (g : Given) → with_given g (uses_at v.slots i) (map_state_of v) ≡ map_state_of (slot_given_back g i v)
 state-given v i Worn = refl
 state-given v i Free = ap (λ l. let z : MapState = record { shape = v.shape; bag = l; worn = v.worn } in z) (sym (map-append (uses_at v.slots) v.free (i ∷ [])))
 
-lists-given : (v : MapView) (i : ℕ) (g : Given) → lists_of (given_back g i v) ≡ record { next = v.next; waiting = v.waiting; ready = drop 1 v.ready }
+lists-given : (v : MapView) (i : ℕ) (g : Given) → lists_of (slot_given_back g i v) ≡ record { next = v.next; waiting = v.waiting; ready = drop 1 v.ready }
 lists-given v i Free = refl
 lists-given v i Worn = refl
 
@@ -150,7 +150,7 @@ module _ (w : WorldView) (s : Schedule) (x : RefinesSchedule w s) (i : IsSchedul
     uses-is = ap uses_in (sym stored)
 
     abbrev state : MapState
-    state = with_given (given_at v slot) (uses_at v.slots slot) (state_of v)
+    state = with_given (given_at v slot) (uses_at v.slots slot) (map_state_of v)
 
     abbrev after : Store
     after = record { elements = slice_set es n (with_life Reclaimed e.element); maps = slice_set s.machine.store.maps k state }

@@ -10,12 +10,12 @@ use Rattle.bpf_model.specs.MapState.{MapState, Store, with_elements}
 use Rattle.bpf_model.specs.MachineStep.{stored_in, with_bytes}
 use Rattle.bpf_model.specs.Schedule.{Queues, Schedule, retired}
 use Rattle.bpf_model.specs.Word.{slot_base, map_in, element_bases}
-use Rattle.bpf_model.specs.View.{SlotView, MapView, WorldView, uses_in, uses_at, state_of}
+use Rattle.bpf_model.specs.View.{SlotView, MapView, WorldView, uses_in, uses_at, map_state_of, key_in, value_in}
 use Rattle.bpf_model.specs.Refines.{slot_view, IsKept, SlotsStand, ElementsStand, RefinesSchedule, named}
 use Rattle.model_laws.proofs.Lists.{get-set_same, get-set_other, get-set_cases, length-slice_set}
 use Rattle.model_laws.proofs.Counting.{retired-back, length-retired}
 use Rattle.model_laws.proofs.Stores.{accessible-born}
-use Rattle.view_laws.specs.Views.{key_in, value_in, written}
+use Rattle.view_laws.specs.Views.{written}
 use Rattle.view_laws.specs.Reactions.{with_map}
 use Rattle.view_laws.specs.Matching.{Matches, half, StoresHalf}
 use Rattle.view_laws.proofs.Lists.{map-same}
@@ -111,7 +111,7 @@ module _ (slots : List ℕ) (k : ℕ) (es : List Element) (v : MapView) (n : ℕ
     inside = λ x h. subst (λ z. x < z) (sym (length-slice_set v.slots i _)) (free.inside x h);
   }
 
-  pub state-written : state_of new ≡ state_of v
+  pub state-written : map_state_of new ≡ map_state_of v
   state-written = ap (λ bag. let z : MapState = record { shape = v.shape; bag = bag; worn = v.worn } in z) (map-same (uses_at new.slots) (uses_at v.slots) v.free (λ a x g. uses-kept v.slots i (slot_view e) _ stored (ap uses_in stored) x))
 
 -- the half of a step

@@ -10,7 +10,7 @@ use Rattle.bpf_model.specs.MapState.{IsShape}
 use Rattle.bpf_model.specs.Schedule.{Schedule, DoesScheduled, IsScheduledHistory, last_scheduled, start_schedule}
 use Rattle.model_laws.proofs.Lists.{get-append_cases}
 use Rattle.bpf_model.specs.View.{WorldView, shapes_of}
-use Rattle.bpf_model.specs.Refines.{IsReached, TracksSchedule}
+use Rattle.bpf_model.specs.Refines.{IsReachedSchedule, TracksSchedule}
 use Rattle.view_laws.specs.Matching.{Matches, Simulates}
 
 history-more : (s : Schedule) (events : List Event) (answers : List Answer) (states : List Schedule) (event : Event) (answer : Answer) (t : Schedule) → IsScheduledHistory s events answers states → DoesScheduled (last_scheduled s states) event answer t →
@@ -29,7 +29,7 @@ real-more events event all real k e at = elim (get-append_cases events event k e
   | inr x ↦ subst IsReal x.1 real
 ]
 
-reached-more : (shapes : List MapShape) (programs : List Loaded) (s t : Schedule) (event : Event) (answer : Answer) → IsReached shapes programs s → IsReal event → DoesScheduled s event answer t → IsReached shapes programs t
+reached-more : (shapes : List MapShape) (programs : List Loaded) (s t : Schedule) (event : Event) (answer : Answer) → IsReachedSchedule shapes programs s → IsReal event → DoesScheduled s event answer t → IsReachedSchedule shapes programs t
 reached-more shapes programs s t event answer r real d = record {
   events = r.events ++ event ∷ [];
   answers = r.answers ++ answer ∷ [];
@@ -48,7 +48,7 @@ simulates_tracks w new s event answer t real shapes programs h =
       record {
         refines = h.matches.refines;
         limits = subst Limits (sym shapes) t.limits;
-        reached = subst (λ l. IsReached l new.programs h.next) (sym shapes) (subst (λ l. IsReached (shapes_of w) l h.next) (sym programs) (reached-more (shapes_of w) w.programs s h.next event answer t.reached real h.does));
+        reached = subst (λ l. IsReachedSchedule l new.programs h.next) (sym shapes) (subst (λ l. IsReachedSchedule (shapes_of w) l h.next) (sym programs) (reached-more (shapes_of w) w.programs s h.next event answer t.reached real h.does));
       },
       h.matches,
     )

@@ -20,7 +20,7 @@ use Rattle.bpf_model.specs.Schedule.{Queues, Schedule, retired, still_open, open
 use Rattle.model_laws.specs.Scheduled.{IsScheduled}
 use Rattle.model_laws.proofs.Lists.{length-slice_set, get-set_same, get-set_other, get-append_last}
 use Rattle.model_laws.proofs.Counting.{length-retired, times-first}
-use Rattle.bpf_model.specs.View.{SlotView, MapView, WorldView, uses_in, uses_at, state_of}
+use Rattle.bpf_model.specs.View.{SlotView, MapView, WorldView, uses_in, uses_at, map_state_of}
 use Rattle.bpf_model.specs.Refines.{times, RefinesSchedule}
 use Rattle.view_laws.specs.Views.{retired_key, filled, filled_from, updated_by, updated, shown_error}
 use Rattle.view_laws.specs.Reactions.{shape_shown, with_map, update_at, update_reaction}
@@ -116,7 +116,7 @@ module _ (w : WorldView) (s : Schedule) (x : RefinesSchedule w s) (i : IsSchedul
     first' : v'.free ≡ slot ∷ rest
     first' = d.free ∙ first
 
-    state-is : here.state ≡ state_of v'
+    state-is : here.state ≡ map_state_of v'
     state-is = here.stands.state ∙ sym d.state
 
     old-bag : here.state.bag ≡ count ∷ bag
@@ -150,7 +150,7 @@ module _ (w : WorldView) (s : Schedule) (x : RefinesSchedule w s) (i : IsSchedul
         let a : later ≡ state = same_Some later state (sym new ∙ (ap (slice_get after.maps) (sym m) ∙ get-set_same s.machine.store.maps k here.state state here.there)) in
         ap (λ (z : MapState). z.bag) b ∙ (old-bag ∙ (ap (λ c. c ∷ bag) (less-one count ∙ ap (λ (z : Element). z.uses - 1) same) ∙ ap (λ (z : MapState). (e.uses - 1) ∷ z.bag) (sym a)))
 
-    next-state : state ≡ state_of (filled v' slot rest key value)
+    next-state : state ≡ map_state_of (filled v' slot rest key value)
     next-state = ap (with_bag bag) state-is ∙ ap (λ l. let z : MapState = record { shape = v'.shape; bag = l; worn = v'.worn } in z) (uses-other v'.slots slot v'.free rest _ (d.slots_stand.once slot) first')
 
     turns : Turns w s x k (filled v' slot rest key value) after queues

@@ -12,8 +12,8 @@ use Rattle.bpf_model.specs.declared.event.EventRefusal.TheVariants.{NoRun, NoMap
 use Rattle.bpf_model.specs.Event.{start_refusal, if_ended, if_running, key_refusal, update_refusal}
 use Rattle.bpf_model.specs.Schedule.{is_any, still_open}
 use Rattle.bpf_model.specs.Word.{ctx_base, frame_base}
-use Rattle.bpf_model.specs.View.{MapView, RunView, WorldView}
-use Rattle.view_laws.specs.Views.{key_in, value_read, deleted, updated, turned_view, given_at, reaped_view}
+use Rattle.bpf_model.specs.View.{MapView, RunView, WorldView, key_in}
+use Rattle.view_laws.specs.Views.{value_read, deleted, updated, turned_view, given_at, reaped_view}
 
 -- Map k has another view.
 abbrev pub with_map : ℕ → MapView → WorldView → WorldView

@@ -9,20 +9,11 @@ use Rattle.bpf_model.specs.declared.event.Given.TheVariants.{Free, Worn}
 use Rattle.bpf_model.specs.MapState.{given_of}
 use Rattle.bpf_model.specs.Helper.{update_error}
 use Rattle.bpf_model.specs.Schedule.{Queues, turned}
-use Rattle.bpf_model.specs.View.{SlotView, MapView, uses_at, state_of}
+use Rattle.bpf_model.specs.View.{SlotView, MapView, key_in, value_in, uses_at, map_state_of}
 use Rattle.bpf_model.specs.Refines.{lists_of}
 
 abbrev pub with_lists : Queues → MapView → MapView
 with_lists q v = record { shape = v.shape; slots = v.slots; free = v.free; index = v.index; next = q.next; waiting = q.waiting; ready = q.ready; worn = v.worn }
-
--- what the slot of a number shows
-abbrev pub key_in : Option SlotView → List ℕ
-key_in None = []
-key_in (Some s) = s.key
-
-abbrev pub value_in : Option SlotView → List ℕ
-value_in None = []
-value_in (Some s) = s.value
 
 -- A lookup: the value in the slot that the index has for the key.
 abbrev pub value_shown : MapView → Option ℕ → Option (ArrayVec ℕ)
@@ -80,7 +71,7 @@ filled_from (i ∷ rest) v key value = filled v i rest key value
 
 -- An update: the first test that fails, or the element that the key had is unlinked and a new one is linked.
 abbrev pub shown_error : MapView → List ℕ → ℕ → Option Errno
-shown_error v key flags = update_error flags (is_some (get v.index key)) (len v.index) (state_of v)
+shown_error v key flags = update_error flags (is_some (get v.index key)) (len v.index) (map_state_of v)
 
 abbrev pub updated_by : Option Errno → MapView → List ℕ → List ℕ → Result (Unit {0}) Errno × MapView
 updated_by (Some e) v key value = (Err e, v)
@@ -94,12 +85,12 @@ abbrev pub turned_view : MapView → MapView
 turned_view v = with_lists (turned (lists_of v)) v
 
 -- The first ready slot is given back: it is the last of the free ones, or it is worn out.
-abbrev pub given_back : Given → ℕ → MapView → MapView
-given_back Free i v = record { shape = v.shape; slots = v.slots; free = v.free ++ i ∷ []; index = v.index; next = v.next; waiting = v.waiting; ready = drop 1 v.ready; worn = v.worn }
-given_back Worn i v = record { shape = v.shape; slots = v.slots; free = v.free; index = v.index; next = v.next; waiting = v.waiting; ready = drop 1 v.ready; worn = v.worn + 1 }
+abbrev pub slot_given_back : Given → ℕ → MapView → MapView
+slot_given_back Free i v = record { shape = v.shape; slots = v.slots; free = v.free ++ i ∷ []; index = v.index; next = v.next; waiting = v.waiting; ready = drop 1 v.ready; worn = v.worn }
+slot_given_back Worn i v = record { shape = v.shape; slots = v.slots; free = v.free; index = v.index; next = v.next; waiting = v.waiting; ready = drop 1 v.ready; worn = v.worn + 1 }
 
 abbrev pub given_at : MapView → ℕ → Given
-given_at v i = given_of (uses_at v.slots i) (state_of v)
+given_at v i = given_of (uses_at v.slots i) (map_state_of v)
 
 abbrev pub reaped_view : MapView → ℕ → MapView
-reaped_view v i = given_back (given_at v i) i v
+reaped_view v i = slot_given_back (given_at v i) i v

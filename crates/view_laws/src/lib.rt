@@ -22,9 +22,9 @@ ghost use Rattle.bpf_model.specs.MapState.{Store};
 ghost use Rattle.bpf_model.specs.Refines.{slot_view, RunRefines, RefinesSchedule, TracksSchedule};
 ghost use Rattle.bpf_model.specs.Schedule.{Schedule, TakesOldest};
 ghost use Rattle.bpf_model.specs.Step.{insn_at};
-ghost use Rattle.bpf_model.specs.View.{MapView, RunView, WorldView, shapes_of};
+ghost use Rattle.bpf_model.specs.View.{MapView, RunView, WorldView, shapes_of, value_in};
 ghost use Rattle.bpf_model.specs.Word.{slot_base, element_bases};
-ghost use Rattle.view_laws.specs.Views.{deleted, updated, value_in, written};
+ghost use Rattle.view_laws.specs.Views.{deleted, updated, written};
 ghost use Rattle.view_laws.specs.Reactions.{with_map, with_run, delete_reaction, update_reaction, read_reaction, advance_reaction, reap_reaction, start_reaction, drop_reaction, locked_view, unlocked_view, reaction};
 ghost use Rattle.view_laws.specs.Matching.{Matches, Simulates, half, DeletesHalf, UpdatesHalf, StoresHalf};
 

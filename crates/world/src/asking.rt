@@ -6,8 +6,8 @@ ghost use Rattle.world_parts.specs.Programs.{program_of};
 
 use crate::world::World;
 use bpf_model::{CtxBytes, KeyBytes, MapId, ProgId, RunId, ValueBytes};
-use map_verifier::Verified;
 use maps::Registry;
+use verifier::Verified;
 use world_parts::{Loaded, Stat};
 
 impl World {

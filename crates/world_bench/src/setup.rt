@@ -11,7 +11,7 @@ use anyhow::{Result, bail};
 use arrayvec::ArrayVec;
 use asm::assemble;
 use bpf_model::{Answer, CtxBytes, Event, KeyBytes, MapId, MapShape, ProgId, RunId, ValueBytes};
-use map_verifier::verify;
+use verifier::verify;
 use maps::Registry;
 use std::alloc::Global;
 use world::World;

@@ -12,8 +12,8 @@ use Rattle.scalar_domain.specs.Scalar.{Holds}
 use Rattle.scalar_domain.specs.declared.scalar.Scalar.{Scalar}
 use Rattle.typed_runs.specs.Well.{AreVerified, IsVerifiedFor}
 use Rattle.typed_runs.proofs.Example.{lookup_is_verified}
-use Rattle.world_laws.specs.Typed.{IsInsn, IsProgram, ArePrograms, IsReady}
-use Rattle.world_laws.specs.Example.{lookup_program, example_world}
+use Rattle.world_laws.specs.Typed.{IsInsn, IsTypedProgram, AreTypedPrograms, IsReadyWorld}
+use Rattle.world_laws.specs.WorldExample.{lookup_program, example_world}
 use Rattle.world_laws.proofs.Worlds.{starts_ready}
 
 all-get : (P : Insn → Type 0) (is : List Insn) → AllByRecursion P is → (k : ℕ) (i : Insn) → slice_get is k ≡ Some i → P i
@@ -25,8 +25,8 @@ code-real : AllByRecursion IsInsn lookup_and_load
 code-real =
     ((omega arith, sfits_lit tt), (tt, ((omega arith, sfits_lit tt), ((omega arith, omega arith), ((omega arith, sfits_lit tt), (omega arith, (tt, ((omega arith, sfits_lit tt), ((omega arith, omega arith), (tt, ((omega arith, omega arith), (tt, tt))))))))))))
 
-one-program : ArePrograms (lookup_program ∷ [])
-one-program zero program e = subst IsProgram (same_Some lookup_program program e) (record { code = all-get IsInsn lookup_and_load code-real; maps = omega arith })
+one-program : AreTypedPrograms (lookup_program ∷ [])
+one-program zero program e = subst IsTypedProgram (same_Some lookup_program program e) (record { code = all-get IsInsn lookup_and_load code-real; maps = omega arith })
 one-program (suc p) program e = absurd (none-some program e)
 
 bound-one : (i : ℕ) (shape : MapShape) → slice_get (example_shape ∷ []) i ≡ Some shape → (map : ℕ) × (state : MapState) × (slice_get (0 ∷ []) i ≡ Some map) × (slice_get (new_map example_shape ∷ []) map ≡ Some state) × (state.shape ≡ shape)
@@ -38,5 +38,5 @@ module _ (any : Scalar) (all : (n : ℕ) → n < 2 ^ 64 → Holds any n) where
   verified-one zero program e = subst (IsVerifiedFor (new_map example_shape ∷ [])) (same_Some lookup_program program e) (record { shapes = example_shape ∷ []; bound = record { count = refl; each = bound-one }; verified = lookup_is_verified any all })
   verified-one (suc p) program e = absurd (none-some program e)
 
-  pub example_ready : IsReady example_world
+  pub example_ready : IsReadyWorld example_world
   example_ready = starts_ready (example_shape ∷ []) (lookup_program ∷ []) (omega arith) verified-one one-program

@@ -18,14 +18,14 @@ use Rattle.bpf_model.specs.Call.{helper_of, kernel_function_of}
 use Rattle.bpf_model.specs.Machine.{Loaded}
 use Rattle.bpf_model.specs.Step.{insn_at}
 use Rattle.bpf_model.specs.View.{MapView, RunView, WorldView, shapes_of}
-use Rattle.model_laws.specs.Near.{Location, InContext, InFrame, AtMap, InSlot}
+use Rattle.model_laws.specs.Locations.{Location, InContext, InFrame, AtMap, InSlot}
 use Rattle.view_laws.specs.Views.{shown_error}
 use Rattle.view_laws.specs.Reactions.{with_map, run_shown, reaction}
 use Rattle.view_laws.proofs.Reacting.{reaction_keeps, retired-shape, updated-shape, set-shapes}
 use Rattle.world_laws.specs.Locating.{location_of}
 use Rattle.world_laws.specs.Moving.{word_in, operand_word, stored_slot, stored_at}
 use Rattle.world_laws.specs.Calling.{bytes_in, bound_number, serves, helped_on, helped, entered}
-use Rattle.world_laws.specs.Reacting.{insn_step, step_at, step_in, step_of, or_step, full_reaction}
+use Rattle.world_laws.specs.Reacting.{insn_step, step_at, step_in, run_step_of, or_step, full_reaction}
 
 abbrev shape : MapView → MapShape
 shape v = v.shape
@@ -83,7 +83,7 @@ module _ (w : WorldView) where
   in-keeps (Some program) r v = at-keeps (insn_at program.code v.place) program r v
   in-keeps None r v = (refl, refl)
 
-  of-keeps : (o : Option RunView) (r : ℕ) → Keeps w (step_of o r w).1
+  of-keeps : (o : Option RunView) (r : ℕ) → Keeps w (run_step_of o r w).1
   of-keeps (Some v) r = in-keeps (slice_get w.programs v.program) r v
   of-keeps None r = (refl, refl)
 

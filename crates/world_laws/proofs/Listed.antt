@@ -18,11 +18,11 @@ use Rattle.bpf_model.specs.declared.value.Value.{Value}
 use Rattle.bpf_model.specs.declared.value.Value.TheVariants.{Nothing, Pointer}
 use Rattle.bpf_model.specs.declared.value.Reference.TheVariants.{MapRef}
 use Rattle.bpf_model.specs.Call.{helper_of, kernel_function_of}
-use Rattle.bpf_model.specs.Event.{Does, IsReal, AreReal}
+use Rattle.bpf_model.specs.Event.{DoesEvent, IsReal, AreReal}
 use Rattle.bpf_model.specs.Machine.{Loaded, Run, Machine, environment, fresh_run, open_sections}
-use Rattle.bpf_model.specs.MachineStep.{Ends, KernelStep, HelperStep, InsnStep, returns, found_value}
+use Rattle.bpf_model.specs.MachineStep.{OutcomeStep, KernelStep, HelperStep, InsnStep, returns, found_value}
 use Rattle.bpf_model.specs.MapState.{Store}
-use Rattle.bpf_model.specs.Refines.{IsReached}
+use Rattle.bpf_model.specs.Refines.{IsReachedSchedule}
 use Rattle.bpf_model.specs.Schedule.{Schedule, IsScheduledHistory, last_scheduled, start_schedule}
 use Rattle.bpf_model.specs.Section.{Section}
 use Rattle.bpf_model.specs.Step.{State, Environment, Outcome, Moves, Exits, put, sets, map_value, after}
@@ -59,7 +59,7 @@ loads-listed dst map env m out p e =
     subst (HoldsOutcome (IsListed env.maps)) (refused (dst == 10) (Moves next) out f.2) (λ q. choice-listed env.maps (q == dst) f.0 (m.regs q) (map-listed env map f.0 f.1) (p.0 q), p.1)
 
 -- each step keeps it
-ends-listed : (out : Outcome) (run : Run) (answer : Answer) (new : Run) → IsListedRun run → HoldsOutcome (IsListed (length run.program.maps)) out → Ends out run answer new → IsListedRun new
+ends-listed : (out : Outcome) (run : Run) (answer : Answer) (new : Run) → IsListedRun run → HoldsOutcome (IsListed (length run.program.maps)) out → OutcomeStep out run answer new → IsListedRun new
 ends-listed (Moves next) run answer new p q h = subst IsListedRun (sym h.1) q
 ends-listed (Exits n) run answer new p q h = subst IsListedRun (sym h.2) p
 
@@ -92,7 +92,7 @@ insn-listed i s opened run answer new_store new p h =
 fresh-listed : (name : ℕ) (program : Loaded) (context : List ℕ) → IsListedRun (fresh_run name program context)
 fresh-listed name program context = holds-entry (IsListed (length program.maps)) (listed-closed (length program.maps))
 
-pub stays_listed : (m new : Machine) (event : Event) (answer : Answer) → IsReal event → Does m event answer new → AreListed m → AreListed new
+pub stays_listed : (m new : Machine) (event : Event) (answer : Answer) → IsReal event → DoesEvent m event answer new → AreListed m → AreListed new
 stays_listed m new event answer real h p r run at = came (does-come m new event answer real h r run at)
   where
     came : Comes m new r run → IsListedRun run
@@ -107,6 +107,6 @@ listed-last s (event ∷ events) (answer ∷ answers) (next ∷ states) p real h
     listed-last next events answers states (stays_listed s.machine next.machine event answer (real 0 event refl) h.0.step p) (real-rest event events real) h.1
 listed-last s events answers states p real h = absurd h
 
-pub reached_is_listed : (shapes : List MapShape) (programs : List Loaded) (s : Schedule) → IsReached shapes programs s → AreListed s.machine
+pub reached_is_listed : (shapes : List MapShape) (programs : List Loaded) (s : Schedule) → IsReachedSchedule shapes programs s → AreListed s.machine
 reached_is_listed shapes programs s r = subst (λ (x : Schedule). AreListed x.machine) r.last
     (listed-last (start_schedule shapes programs) r.events r.answers r.states (λ q run at. absurd (no-run MAX_RUNS q run at)) r.real r.history)

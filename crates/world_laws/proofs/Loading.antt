@@ -18,11 +18,10 @@ use Rattle.bpf_model.specs.Near.{IsNear}
 use Rattle.bpf_model.specs.Schedule.{Schedule}
 use Rattle.bpf_model.specs.Step.{Outcome, sets, load_from, after}
 use Rattle.bpf_model.specs.Value.{◌>>=◌, number}
-use Rattle.bpf_model.specs.View.{RunView, WorldView}
+use Rattle.bpf_model.specs.View.{RunView, WorldView, value_in}
 use Rattle.bpf_model.specs.Word.{WordIs}
-use Rattle.model_laws.specs.Near.{Location, InContext, InFrame, InSlot}
+use Rattle.model_laws.specs.Locations.{Location, InContext, InFrame, InSlot}
 use Rattle.view_laws.specs.Matching.{Matches}
-use Rattle.view_laws.specs.Views.{value_in}
 use Rattle.world_laws.specs.Locating.{location_of, value_of, bytes_of, offset_at, number_from, loaded_word}
 use Rattle.world_laws.specs.Moving.{word_in}
 use Rattle.world_laws.specs.Reacting.{insn_step}

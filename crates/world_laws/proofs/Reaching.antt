@@ -34,18 +34,17 @@ use Rattle.bpf_model.specs.Refines.{times}
 use Rattle.bpf_model.specs.Schedule.{Queues, Schedule}
 use Rattle.bpf_model.specs.Step.{load_from, sets, insn_at}
 use Rattle.bpf_model.specs.Value.{◌>>=◌, number}
-use Rattle.bpf_model.specs.View.{RunView, WorldView}
+use Rattle.bpf_model.specs.View.{RunView, WorldView, key_in}
 use Rattle.bpf_model.specs.Word.{WordIs}
-use Rattle.model_laws.specs.Near.{Location}
+use Rattle.model_laws.specs.Locations.{Location}
 use Rattle.model_laws.specs.Scheduled.{queued_in}
 use Rattle.model_laws.proofs.Counting.{times-first, times-other, times-rest}
 use Rattle.typed_runs.proofs.Reaching.{well_never_stuck}
 use Rattle.view_laws.specs.Matching.{Matches}
-use Rattle.view_laws.specs.Views.{key_in}
 use Rattle.view_laws.proofs.Worlds.{here}
 use Rattle.world_laws.specs.Locating.{location_of}
 use Rattle.world_laws.specs.Moving.{word_in}
-use Rattle.world_laws.specs.Reaching.{IsInside, IsOccupied, Reaches, IsWritable, IsInFrame, IsCalled, HasArguments, IsAllowed, HasInsn}
+use Rattle.world_laws.specs.Reaching.{IsInside, HasElement, Reaches, IsWritable, IsInFrame, IsCalled, HasArguments, IsAllowed, HasInsn}
 use Rattle.world_laws.specs.Typed.{IsRegister, IsSound, IsRunning}
 use Rattle.world_laws.proofs.Words.{offset_some}
 use Rattle.world_laws.proofs.Places.{context-location, frame-location}
@@ -74,7 +73,7 @@ times-image f n (y ∷ xs) =
 
 module _ (w : WorldView) (s : Schedule) (m : Matches w s) where
   -- an element that is kept occupies its slot
-  occupied : (n : ℕ) (e : Element) (life : Life) → e.life ≡ life → is_reclaimed life ≡ false → slice_get s.machine.store.elements n ≡ Some e → (x : Shown w s m.refines n e) → IsOccupied x.view (slice_index m.refines.slots n)
+  occupied : (n : ℕ) (e : Element) (life : Life) → e.life ≡ life → is_reclaimed life ≡ false → slice_get s.machine.store.elements n ≡ Some e → (x : Shown w s m.refines n e) → HasElement x.view (slice_index m.refines.slots n)
   occupied n e Linked is kept born x =
       let slot : ℕ = slice_index m.refines.slots n in
       let h = here w s m.refines e.map x.view x.there in

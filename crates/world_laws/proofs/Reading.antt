@@ -13,7 +13,7 @@ use Rattle.bpf_model.specs.declared.event.Given.TheVariants.{Free}
 use Rattle.bpf_model.specs.declared.event.EventRefusal.TheVariants.{BadLength}
 use Rattle.bpf_model.specs.Event.{key_refusal}
 use Rattle.bpf_model.specs.Helper.{update_error}
-use Rattle.bpf_model.specs.View.{MapView, RunView, WorldView, new_map_view, state_of}
+use Rattle.bpf_model.specs.View.{MapView, RunView, WorldView, new_map_view, map_state_of}
 use Rattle.model_laws.specs.Example.{example_shape}
 use Rattle.view_laws.specs.Views.{retired_slot, delete_result, filled_from, updated_by, shown_error}
 use Rattle.view_laws.specs.Reactions.{with_map, run_shown, shape_shown, delete_at}
@@ -21,7 +21,7 @@ use Rattle.view_laws.proofs.Lists.{Index, insert-same}
 use Rattle.world_laws.specs.Calling.{found_word, returned_view}
 use Rattle.world_laws.specs.Moving.{moves_on}
 use Rattle.world_laws.specs.Reacting.{full_reaction, full_reactions}
-use Rattle.world_laws.specs.Example.{key_zero, two_bytes, example_world, example_events, example_answers}
+use Rattle.world_laws.specs.WorldExample.{key_zero, two_bytes, example_world, example_events, example_answers}
 
 -- events after others, and one event
 after : (w : WorldView) (es fs : List Event) → (full_reactions w (es ++ fs)).0 ≡ (full_reactions w es).0 ++ (full_reactions (full_reactions w es).1 fs).0
@@ -40,8 +40,8 @@ index = insert empty key_zero.items 0
 
 no-error : shown_error fresh key_zero.items 0 ≡ None
 no-error =
-    ap (λ (o : Option ℕ). update_error 0 (is_some o) (len fresh.index) (state_of fresh)) (get-empty (slice_cmp nat_cmp) key_zero.items)
-    ∙ ap (λ n. update_error 0 false n (state_of fresh)) (len-empty (slice_cmp nat_cmp) ℕ)
+    ap (λ (o : Option ℕ). update_error 0 (is_some o) (len fresh.index) (map_state_of fresh)) (get-empty (slice_cmp nat_cmp) key_zero.items)
+    ∙ ap (λ n. update_error 0 false n (map_state_of fresh)) (len-empty (slice_cmp nat_cmp) ℕ)
 
 abbrev stocked : WorldView
 stocked = with_map 0 (filled_from fresh.free fresh key_zero.items two_bytes.items) example_world

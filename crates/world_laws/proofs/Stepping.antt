@@ -13,7 +13,7 @@ use Rattle.bpf_model.specs.Call.{helper_of, kernel_function_of}
 use Rattle.bpf_model.specs.Element.{Element}
 use Rattle.bpf_model.specs.Event.{if_ended}
 use Rattle.bpf_model.specs.Machine.{Loaded, Run, run_in, environment, open_sections}
-use Rattle.bpf_model.specs.MachineStep.{AccessesElement, Acts, Ends, InsnStep}
+use Rattle.bpf_model.specs.MachineStep.{AccessesElement, Acts, OutcomeStep, InsnStep}
 use Rattle.bpf_model.specs.MapState as map_state
 use Rattle.bpf_model.specs.Refines.{SlotRefines}
 use Rattle.bpf_model.specs.Schedule.{Schedule}
@@ -23,7 +23,7 @@ use Rattle.typed_runs.proofs.Reaching.{well_never_stuck}
 use Rattle.view_laws.specs.Matching.{Matches, Simulates}
 use Rattle.view_laws.specs.Reactions.{run_shown, step_refused, step_by, reaction}
 use Rattle.view_laws.proofs.Reacting.{reaction_simulates}
-use Rattle.world_laws.specs.Reacting.{insn_step, step_at, step_in, step_of, word_step, or_step, full_reaction}
+use Rattle.world_laws.specs.Reacting.{insn_step, step_at, step_in, run_step_of, word_step, or_step, full_reaction}
 use Rattle.world_laws.specs.Typed.{IsSound, IsRunning}
 use Rattle.world_laws.proofs.Ready.{refines}
 use Rattle.world_laws.proofs.Own.{alu-simulates, unary-simulates, number-simulates, map-simulates, jump-simulates, long-simulates, branch-simulates, exit-simulates}
@@ -32,7 +32,7 @@ use Rattle.world_laws.proofs.Storing.{store-simulates, element-store-simulates}
 use Rattle.world_laws.proofs.Calling.{kernel-simulates, helper-simulates}
 
 module _ (w : WorldView) (s : Schedule) (m : Matches w s) (sound : IsSound w s) (r : ℕ) (run : Run) (v : RunView) (k : IsRunning w s r run v) where
-  pub own_step_simulates : (i : Insn) (out : Outcome) (answer : Answer) (later : Run) → insn_at run.program.code run.state.place ≡ Some i → after i (environment run) run.state ≡ Some out → Ends out run answer later → Simulates s (events.Step r) (insn_step i run.program r v w)
+  pub own_step_simulates : (i : Insn) (out : Outcome) (answer : Answer) (later : Run) → insn_at run.program.code run.state.place ≡ Some i → after i (environment run) run.state ≡ Some out → OutcomeStep out run answer later → Simulates s (events.Step r) (insn_step i run.program r v w)
   own_step_simulates (Alu op size dst src) out answer later here e ends = alu-simulates w s m sound r run v k op size dst src out here e
   own_step_simulates (Unary op dst) out answer later here e ends = unary-simulates w s m sound r run v k op dst out here e
   own_step_simulates (LoadNumber dst n) out answer later here e ends = number-simulates w s m sound r run v k dst n out here e
@@ -46,13 +46,13 @@ module _ (w : WorldView) (s : Schedule) (m : Matches w s) (sound : IsSound w s) 
   own_step_simulates (LoadSigned width dst src offset) out answer later here e ends = load-signed-simulates w s m sound r run v k width dst src offset out here e
   own_step_simulates (Store width dst offset src) out answer later here e ends = store-simulates w s m sound r run v k width dst offset src here out e
 
-  pub access_simulates : (i : Insn) (out : Outcome) (es : List Element) (answer : Answer) (later : Run) → insn_at run.program.code run.state.place ≡ Some i → AccessesElement i s.machine.store.elements run.state out es → Ends out run answer later → Simulates s (events.Step r) (insn_step i run.program r v w)
+  pub access_simulates : (i : Insn) (out : Outcome) (es : List Element) (answer : Answer) (later : Run) → insn_at run.program.code run.state.place ≡ Some i → AccessesElement i s.machine.store.elements run.state out es → OutcomeStep out run answer later → Simulates s (events.Step r) (insn_step i run.program r v w)
   access_simulates (Load width dst src offset) out es answer later here h ends = element-load-simulates w s m sound r run v k width dst src offset out here (h.0, h.1, h.2, refl)
   access_simulates (LoadSigned width dst src offset) out es answer later here h ends = element-load-signed-simulates w s m sound r run v k width dst src offset out here (h.0, h.1, h.2, refl)
   access_simulates (Store width dst offset src) out es answer later here h ends = element-store-simulates w s m sound r run v k width dst offset src here es h.0
   access_simulates i out es answer later here h ends = absurd h
 
-  acts-simulates : (i : Insn) (out : Outcome) (es : List Element) (answer : Answer) (later : Run) → insn_at run.program.code run.state.place ≡ Some i → Acts i (environment run) s.machine.store.elements run.state out es → Ends out run answer later → Simulates s (events.Step r) (insn_step i run.program r v w)
+  acts-simulates : (i : Insn) (out : Outcome) (es : List Element) (answer : Answer) (later : Run) → insn_at run.program.code run.state.place ≡ Some i → Acts i (environment run) s.machine.store.elements run.state out es → OutcomeStep out run answer later → Simulates s (events.Step r) (insn_step i run.program r v w)
   acts-simulates i out es answer later here (inl h) ends = own_step_simulates i out answer later here h.0 ends
   acts-simulates i out es answer later here (inr h) ends = access_simulates i out es answer later here h ends
 
@@ -68,7 +68,7 @@ module _ (w : WorldView) (s : Schedule) (m : Matches w s) (sound : IsSound w s) 
       let h = refines w s m sound r run v k in
       let loaded : slice_get w.programs v.program ≡ Some run.program = ap (λ (ps : List Loaded). slice_get ps v.program) m.refines.programs ∙ h.program in
       let at : insn_at run.program.code v.place ≡ Some n.3.0 = ap (insn_at run.program.code) h.place ∙ n.3.1 in
-      subst (λ o. Simulates s (events.Step r) (step_of (run_shown o) r w)) (sym k.shown)
+      subst (λ o. Simulates s (events.Step r) (run_step_of (run_shown o) r w)) (sym k.shown)
       (subst (λ o. Simulates s (events.Step r) (step_in o r v w)) (sym loaded)
       (subst (λ o. Simulates s (events.Step r) (step_at o run.program r v w)) (sym at) (insn_simulates n.3.0 n.0 n.1 n.2 n.3.1 n.3.2)))
 

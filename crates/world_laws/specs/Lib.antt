@@ -3,6 +3,6 @@ pub mod Moving
 pub mod Calling
 pub mod Reacting
 pub mod Typed
-pub mod Example
+pub mod WorldExample
 pub mod Reaching
 pub mod Local

@@ -44,12 +44,12 @@ abbrev pub step_in : Option Loaded → ℕ → RunView → WorldView → Answer 
 step_in (Some program) r v w = step_at (insn_at program.code v.place) program r v w
 step_in None r v w = idle w
 
-abbrev pub step_of : Option RunView → ℕ → WorldView → Answer × WorldView
-step_of (Some v) r w = step_in (slice_get w.programs v.program) r v w
-step_of None r w = idle w
+abbrev pub run_step_of : Option RunView → ℕ → WorldView → Answer × WorldView
+run_step_of (Some v) r w = step_in (slice_get w.programs v.program) r v w
+run_step_of None r w = idle w
 
 abbrev pub word_step : WorldView → ℕ → Answer × WorldView
-word_step w r = step_of (run_shown (slice_get w.runs r)) r w
+word_step w r = run_step_of (run_shown (slice_get w.runs r)) r w
 
 -- The reaction to any event: where `reaction` leaves it to an instruction, the step of that.
 abbrev pub or_step : Option (Answer × WorldView) → WorldView → Event → Answer × WorldView
@@ -61,9 +61,9 @@ abbrev pub full_reaction : WorldView → Event → Answer × WorldView
 full_reaction w event = or_step (reaction w event) w event
 
 -- the answers to events one after another, and the view after them
-abbrev pub after_first : Answer → List Answer × WorldView → List Answer × WorldView
-after_first answer rest = (answer ∷ rest.0, rest.1)
+abbrev pub with_first_answer : Answer → List Answer × WorldView → List Answer × WorldView
+with_first_answer answer rest = (answer ∷ rest.0, rest.1)
 
 abbrev pub full_reactions : WorldView → List Event → List Answer × WorldView
 full_reactions w [] = ([], w)
-full_reactions w (event ∷ events) = after_first (full_reaction w event).0 (full_reactions (full_reaction w event).1 events)
+full_reactions w (event ∷ events) = with_first_answer (full_reaction w event).0 (full_reactions (full_reaction w event).1 events)

@@ -45,12 +45,12 @@ IsInsn (LoadSigned width dst src offset) = IsRegister dst × IsRegister src
 IsInsn (Store width dst offset src) = IsRegister dst × IsOperand src
 
 -- A program is a value of its type: so are its instructions, and its list of maps has a limit.
-pub record IsProgram (program : Loaded) : Type 0 where
+pub record IsTypedProgram (program : Loaded) : Type 0 where
   pub code : (k : ℕ) (i : Insn) → slice_get program.code k ≡ Some i → IsInsn i
   pub maps : length program.maps ≤ MAX_MAPS
 
-abbrev pub ArePrograms : List Loaded → Type 0
-ArePrograms programs = (p : ℕ) (program : Loaded) → slice_get programs p ≡ Some program → IsProgram program
+abbrev pub AreTypedPrograms : List Loaded → Type 0
+AreTypedPrograms programs = (p : ℕ) (program : Loaded) → slice_get programs p ≡ Some program → IsTypedProgram program
 
 -- A reference to a map is to one of the program's list.
 abbrev pub IsListed : ℕ → Reference → Type 0
@@ -64,9 +64,9 @@ abbrev pub AreListed : Machine → Type 0
 AreListed m = (r : ℕ) (run : Run) → run_at m.runs r ≡ Some run → HoldsState (IsListed (length run.program.maps)) run.state
 
 -- What a world is asked for, beside that it tracks a schedule: verified programs, all of their types, and no more maps than there may be.
-pub record IsReady (w : WorldView) : Type 0 where
+pub record IsReadyWorld (w : WorldView) : Type 0 where
   pub verified : AreVerified (shapes_of w) w.programs
-  pub programs : ArePrograms w.programs
+  pub programs : AreTypedPrograms w.programs
   pub maps : length w.maps ≤ MAX_MAPS
 
 -- The machine's runs are of verified programs, and what the world keeps of them is within its limits.
@@ -75,7 +75,7 @@ pub record IsSound (w : WorldView) (s : Schedule) : Type 0 where
   pub listed : AreListed s.machine
   pub limits : AreShapes (shapes_of w)
   pub maps : length w.maps ≤ MAX_MAPS
-  pub programs : ArePrograms w.programs
+  pub programs : AreTypedPrograms w.programs
 
 -- A run that hasn't ended, with what the world keeps of it.
 pub record IsRunning (w : WorldView) (s : Schedule) (r : ℕ) (run : Run) (v : RunView) : Type 0 where

@@ -24,31 +24,31 @@ ghost use Rattle.bpf_model.specs.Access.{byte_count, unsigned_width};
 ghost use Rattle.bpf_model.specs.Call.{helper_of, kernel_function_of};
 ghost use Rattle.bpf_model.specs.Drain.{AnswersAsScheduled, AreScheduledAnswers};
 ghost use Rattle.bpf_model.specs.Element.{Element};
-ghost use Rattle.bpf_model.specs.Event.{Does, IsReal, AreReal};
+ghost use Rattle.bpf_model.specs.Event.{DoesEvent, IsReal, AreReal};
 ghost use Rattle.bpf_model.specs.Headline.{AnswersAsMachine, AreMachineAnswers, AreNeverStuck, AllExitInTime, AreReclaimedLate};
 ghost use Rattle.bpf_model.specs.Machine.{Loaded, Run, Machine, environment, open_sections};
-ghost use Rattle.bpf_model.specs.MachineStep.{AccessesElement, Ends, HelperStep, InsnStep, KernelStep};
+ghost use Rattle.bpf_model.specs.MachineStep.{AccessesElement, OutcomeStep, HelperStep, InsnStep, KernelStep};
 ghost use Rattle.bpf_model.specs.MapState.{Store};
 ghost use Rattle.bpf_model.specs.Near.{IsNearReference};
-ghost use Rattle.bpf_model.specs.Refines.{IsReached, TracksSchedule, Tracks, IsBounded};
+ghost use Rattle.bpf_model.specs.Refines.{IsReachedSchedule, TracksSchedule, Tracks, IsBounded};
 ghost use Rattle.bpf_model.specs.Schedule.{Schedule, DoesScheduled};
 ghost use Rattle.bpf_model.specs.Step.{Outcome, after, insn_at};
 ghost use Rattle.bpf_model.specs.View.{RunView, WorldView, start_view, shapes_of};
 ghost use Rattle.bpf_model.specs.Word.{IsReferenceWord, element_bases};
-ghost use Rattle.model_laws.specs.Near.{named_location};
+ghost use Rattle.model_laws.specs.Locations.{named_location};
 ghost use Rattle.scalar_domain.specs.Scalar.{Holds};
 ghost use Rattle.scalar_domain.specs.declared.scalar.Scalar.{Scalar};
 ghost use Rattle.typed_runs.specs.Limits.{IsWithinLimits};
 ghost use Rattle.typed_runs.specs.Well.{AreVerified};
 ghost use Rattle.view_laws.specs.Matching.{Matches, Simulates};
 ghost use Rattle.view_laws.specs.Reactions.{with_run};
-ghost use Rattle.world_laws.specs.Example.{example_world, example_events, example_answers};
+ghost use Rattle.world_laws.specs.WorldExample.{example_world, example_events, example_answers};
 ghost use Rattle.world_laws.specs.Local.{Asks, local_of, Agrees, AsksNothing};
 ghost use Rattle.world_laws.specs.Locating.{location_of};
 ghost use Rattle.world_laws.specs.Moving.{word_in};
 ghost use Rattle.world_laws.specs.Reaching.{Reaches, IsWritable, HasArguments, IsAllowed, HasInsn};
 ghost use Rattle.world_laws.specs.Reacting.{insn_step, word_step, full_reaction, full_reactions};
-ghost use Rattle.world_laws.specs.Typed.{ArePrograms, AreListed, IsReady, IsSound, IsRunning};
+ghost use Rattle.world_laws.specs.Typed.{AreTypedPrograms, AreListed, IsReadyWorld, IsSound, IsRunning};
 
 /// The word of a near reference within the limits tells the location that the reference names.
 pub fn words_tell_locations()
@@ -60,13 +60,13 @@ pub fn words_tell_locations()
 /// References to maps stay references to those of the program's list, whatever event comes.
 pub fn stays_listed()
     ensures { (m new : Machine) (event : Event) (answer : Answer) → IsReal event →
-        Does m event answer new → AreListed m → AreListed new }
+        DoesEvent m event answer new → AreListed m → AreListed new }
 {}
 
 /// They are so in each reached state.
 pub fn reached_is_listed()
     ensures { (shapes : List MapShape) (programs : List Loaded) (s : Schedule) →
-        IsReached shapes programs s → AreListed s.machine }
+        IsReachedSchedule shapes programs s → AreListed s.machine }
 {}
 
 /// Arithmetic, jumps, exits, and loads and stores of the run's own context and frame.
@@ -75,7 +75,7 @@ pub fn own_step_simulates()
         (r : ℕ) (run later : Run) (v : RunView) → IsRunning w s r run v →
         (i : Insn) (out : Outcome) (answer : Answer) →
         insn_at run.program.code run.state.place ≡ Some i →
-        after i (environment run) run.state ≡ Some out → Ends out run answer later →
+        after i (environment run) run.state ≡ Some out → OutcomeStep out run answer later →
         Simulates s (Event.Step r) (insn_step i run.program r v w) }
 {}
 
@@ -85,7 +85,7 @@ pub fn access_simulates()
         (r : ℕ) (run later : Run) (v : RunView) → IsRunning w s r run v →
         (i : Insn) (out : Outcome) (es : List Element) (answer : Answer) →
         insn_at run.program.code run.state.place ≡ Some i →
-        AccessesElement i s.machine.store.elements run.state out es → Ends out run answer later →
+        AccessesElement i s.machine.store.elements run.state out es → OutcomeStep out run answer later →
         Simulates s (Event.Step r) (insn_step i run.program r v w) }
 {}
 
@@ -133,13 +133,13 @@ pub fn full_reaction_simulates()
 
 /// What a world tracks is sound, where its programs are verified and values of their types.
 pub fn tracked_is_sound()
-    ensures { (w : WorldView) (s : Schedule) → TracksSchedule w s → IsReady w → IsSound w s }
+    ensures { (w : WorldView) (s : Schedule) → TracksSchedule w s → IsReadyWorld w → IsSound w s }
 {}
 
 /// The main theorem above the code: the reaction to an event is a step with the runtime's choices, from each schedule
 /// that the world tracks to one that it tracks afterwards.
 pub fn simulates()
-    ensures { (w : WorldView) (s : Schedule) (event : Event) → TracksSchedule w s → IsReady w →
+    ensures { (w : WorldView) (s : Schedule) (event : Event) → TracksSchedule w s → IsReadyWorld w →
         IsReal event →
         (next : Schedule) × DoesScheduled s event (full_reaction w event).0 next
         × TracksSchedule (full_reaction w event).1 next }
@@ -155,29 +155,29 @@ pub fn full_reaction_keeps()
 /// At the start a world is ready, with verified programs of their types and not too many maps.
 pub fn starts_ready()
     ensures { (shapes : List MapShape) (programs : List Loaded) → length shapes ≤ MAX_MAPS →
-        AreVerified shapes programs → ArePrograms programs → IsReady (start_view shapes programs) }
+        AreVerified shapes programs → AreTypedPrograms programs → IsReadyWorld (start_view shapes programs) }
 {}
 
 /// It stays ready.
 pub fn stays_ready()
-    ensures { (w : WorldView) (event : Event) → IsReady w → IsReady (full_reaction w event).1 }
+    ensures { (w : WorldView) (event : Event) → IsReadyWorld w → IsReadyWorld (full_reaction w event).1 }
 {}
 
 /// Its counts stay bounded.
 pub fn stays_bounded()
-    ensures { (w : WorldView) (s : Schedule) (event : Event) → TracksSchedule w s → IsReady w →
+    ensures { (w : WorldView) (s : Schedule) (event : Event) → TracksSchedule w s → IsReadyWorld w →
         IsReal event → IsBounded w → IsBounded (full_reaction w event).1 }
 {}
 
 /// The clauses of a world for one event, of the reaction.
 pub fn one_reaction()
-    ensures schedule { (w : WorldView) (event : Event) → IsReady w → IsReal event →
+    ensures schedule { (w : WorldView) (event : Event) → IsReadyWorld w → IsReal event →
         AnswersAsScheduled TracksSchedule w event (full_reaction w event).0 (full_reaction w event).1 }
-    ensures machine { (w : WorldView) (event : Event) → IsReady w → IsReal event →
+    ensures machine { (w : WorldView) (event : Event) → IsReadyWorld w → IsReal event →
         AnswersAsMachine Tracks w event (full_reaction w event).0 (full_reaction w event).1 }
-    ensures never_stuck { (w : WorldView) (event : Event) → IsReady w → IsReal event →
+    ensures never_stuck { (w : WorldView) (event : Event) → IsReadyWorld w → IsReal event →
         AreNeverStuck Tracks w (event ∷ []) ((full_reaction w event).0 ∷ []) }
-    ensures exits { (w : WorldView) (event : Event) → IsReady w → IsReal event →
+    ensures exits { (w : WorldView) (event : Event) → IsReadyWorld w → IsReal event →
         AllExitInTime Tracks w (event ∷ []) ((full_reaction w event).0 ∷ []) }
     ensures reclaimed { (w : WorldView) (event : Event) →
         AreReclaimedLate Tracks w (event ∷ []) ((full_reaction w event).0 ∷ []) }
@@ -185,13 +185,13 @@ pub fn one_reaction()
 
 /// The clauses of a world for a list of events, of the reactions one after another.
 pub fn all_reactions()
-    ensures schedule { (w : WorldView) (events : List Event) → IsReady w → AreReal events →
+    ensures schedule { (w : WorldView) (events : List Event) → IsReadyWorld w → AreReal events →
         AreScheduledAnswers TracksSchedule w events (full_reactions w events).0 (full_reactions w events).1 }
-    ensures machine { (w : WorldView) (events : List Event) → IsReady w → AreReal events →
+    ensures machine { (w : WorldView) (events : List Event) → IsReadyWorld w → AreReal events →
         AreMachineAnswers Tracks w events (full_reactions w events).0 (full_reactions w events).1 }
-    ensures never_stuck { (w : WorldView) (events : List Event) → IsReady w → AreReal events →
+    ensures never_stuck { (w : WorldView) (events : List Event) → IsReadyWorld w → AreReal events →
         AreNeverStuck Tracks w events (full_reactions w events).0 }
-    ensures exits { (w : WorldView) (events : List Event) → IsReady w → AreReal events →
+    ensures exits { (w : WorldView) (events : List Event) → IsReadyWorld w → AreReal events →
         AllExitInTime Tracks w events (full_reactions w events).0 }
     ensures reclaimed { (w : WorldView) (events : List Event) →
         AreReclaimedLate Tracks w events (full_reactions w events).0 }
@@ -199,10 +199,10 @@ pub fn all_reactions()
 
 /// After a list of events the world is ready, and its counts are bounded.
 pub fn all_reactions_keep()
-    ensures ready { (w : WorldView) (events : List Event) → IsReady w →
-        IsReady (full_reactions w events).1 }
+    ensures ready { (w : WorldView) (events : List Event) → IsReadyWorld w →
+        IsReadyWorld (full_reactions w events).1 }
     ensures bounded { (w : WorldView) (s : Schedule) (events : List Event) → TracksSchedule w s →
-        IsReady w → AreReal events → IsBounded w → IsBounded (full_reactions w events).1 }
+        IsReadyWorld w → AreReal events → IsBounded w → IsBounded (full_reactions w events).1 }
 {}
 
 /// What a run does without its world is what it does in any world, where it asks nothing of it.
@@ -277,7 +277,7 @@ pub fn moves_keep_flags()
 
 /// A world with a program that looks a key up in a section is ready, so that what is asked for can be had.
 pub fn example_is_ready()
-    ensures { (any : Scalar) → ((n : ℕ) → n < 2 ^ 64 → Holds any n) → IsReady example_world }
+    ensures { (any : Scalar) → ((n : ℕ) → n < 2 ^ 64 → Holds any n) → IsReadyWorld example_world }
 {}
 
 /// In it a run reads an element that is deleted meanwhile, and reclaimed after its section: the answers, worked out by

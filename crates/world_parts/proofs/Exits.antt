@@ -6,7 +6,7 @@ use Rattle.bpf_model.specs.declared.insn.Insn.{Insn}
 use Rattle.bpf_model.specs.Machine as machine
 use Rattle.bpf_model.specs.View.{MapView, RunView, WorldView, HasExited}
 use Rattle.grace_period.specs.State.{GraceState}
-use Rattle.world_runs.specs.RunWords.{RunWords}
+use Rattle.machine.specs.RunWords.{RunWords}
 use Rattle.world_parts.specs.declared.loaded.Loaded.{Loaded}
 use Rattle.world_parts.specs.Programs.{program_of}
 use Rattle.world_parts.specs.Keeping.{view_of, world_of, HasNoRun}

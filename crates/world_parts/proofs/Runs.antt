@@ -13,7 +13,7 @@ use Rattle.element_arena.proofs.Counts.{set-same, length-set}
 use Rattle.element_arena.proofs.Views.{map-set, map-set_same}
 use Rattle.grace_period.specs.State.{GraceState, IsGrace}
 use Rattle.view_laws.specs.Reactions.{with_run, fresh_view, start_by, start_reaction, free_slot}
-use Rattle.world_runs.specs.RunWords.{RunWords, IsAt}
+use Rattle.machine.specs.RunWords.{RunWords, IsAt}
 use Rattle.world_parts.specs.declared.loaded.Loaded.{Loaded}
 use Rattle.world_parts.specs.Programs.{program_of}
 use Rattle.world_parts.specs.Keeping.{view_of, is_inside, IsOfProgram, IsKept, world_of}

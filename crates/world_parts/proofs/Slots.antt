@@ -4,7 +4,7 @@ use Rattle.std.specs.Prelude.{slice_get, slice_set, map, option_map, is_some}
 use Rattle.std.proofs.lemmas.Bool.{false≢true}
 use Rattle.std.proofs.lemmas.Option.{none-some, same_Some, slice_get-get_or}
 use Rattle.view_laws.specs.Reactions.{free_slot}
-use Rattle.world_runs.specs.RunWords.{RunWords}
+use Rattle.machine.specs.RunWords.{RunWords}
 use Rattle.world_parts.specs.Keeping.{view_of}
 
 abbrev pub Runs : Type 0

@@ -20,14 +20,14 @@ use Rattle.view_laws.specs.Matching.{Matches}
 use Rattle.view_laws.specs.Reactions.{run_shown, step_refused, step_by, refused_as}
 use Rattle.view_laws.proofs.Updating.{set-same}
 use Rattle.world_laws.specs.Local.{local_of}
-use Rattle.world_laws.specs.Reacting.{step_at, step_in, step_of, word_step, or_step, full_reaction}
+use Rattle.world_laws.specs.Reacting.{step_at, step_in, run_step_of, word_step, or_step, full_reaction}
 use Rattle.world_laws.specs.Typed.{IsSound}
-use Rattle.world_runs.specs.declared.access.Access.{Access}
-use Rattle.world_runs.specs.declared.access.Local.TheVariants as code
-use Rattle.world_runs.specs.Requests.{access_of, resumed_view}
-use Rattle.world_runs.specs.RunWords.{RunWords, IsAt}
-use Rattle.world_runs.specs.Steps.{CanResume, IsStep}
-use Rattle.world_runs.proofs.Laws.{can_step, can_resume}
+use Rattle.machine.specs.declared.access.Access.{Access}
+use Rattle.machine.specs.declared.access.Local.TheVariants as code
+use Rattle.machine.specs.Requests.{access_of, resumed_view}
+use Rattle.machine.specs.RunWords.{RunWords, IsAt}
+use Rattle.machine.specs.Steps.{CanResume, IsLocalStep}
+use Rattle.machine.proofs.Laws.{can_step, can_resume}
 use Rattle.helpers.specs.Serving.{CanServe, IsReply, IsFlagged, flags_of, grace_after, maps_after, world_with}
 use Rattle.helpers.proofs.Running.{running, flagged, can_be_served}
 use Rattle.helpers.proofs.Stepping.{own_is, own_keeps, own_asks, served_is, goes_on}
@@ -61,7 +61,7 @@ module _ (loaded : Loaded) (maps : List MapView) (g : GraceState) (r : ℕ) (old
   same-flags new e = sym (ap (λ d. slice_set g.opened r (nat_lt 0 d)) e ∙ set-same g.opened r (nat_lt 0 v.depth) can.opened)
 
   -- a step that the run makes by itself
-  pub moved_taken : (new : RunWords) → IsStep (local_of i v) (access_of i v) v code.Moved new.view → IsAt loaded.verified.program new → HasTaken loaded r old new maps maps g g answers.Moved
+  pub moved_taken : (new : RunWords) → IsLocalStep (local_of i v) (access_of i v) v code.Moved new.view → IsAt loaded.verified.program new → HasTaken loaded r old new maps maps g g answers.Moved
   moved_taken new h at =
       let same = own_keeps i v new.view (access_of i v) code.Moved h in
       record {
@@ -73,7 +73,7 @@ module _ (loaded : Loaded) (maps : List MapView) (g : GraceState) (r : ℕ) (old
         stands = at;
       }
 
-  pub exited_taken : (n : ℕ) (new : RunWords) → IsStep (local_of i v) (access_of i v) v (code.Exit n) new.view → IsAt loaded.verified.program new → HasTaken loaded r old new maps maps g g (answers.Exited n)
+  pub exited_taken : (n : ℕ) (new : RunWords) → IsLocalStep (local_of i v) (access_of i v) v (code.Exit n) new.view → IsAt loaded.verified.program new → HasTaken loaded r old new maps maps g g (answers.Exited n)
   exited_taken n new h at =
       let same = own_keeps i v new.view (access_of i v) (code.Exit n) h in
       record {
@@ -86,7 +86,7 @@ module _ (loaded : Loaded) (maps : List MapView) (g : GraceState) (r : ℕ) (old
       }
 
   -- one that the world serves: the run is as before
-  module _ (access : Access) (mid : RunWords) (h : IsStep (local_of i v) (access_of i v) v (code.Shared access) mid.view) where
+  module _ (access : Access) (mid : RunWords) (h : IsLocalStep (local_of i v) (access_of i v) v (code.Shared access) mid.view) where
     asks : access_of i v ≡ Some access
     asks = (own_asks i v mid.view (access_of i v) access h).1
 
@@ -202,7 +202,7 @@ module _ (maps : List MapView) (runs : List (Option RunWords)) (g : GraceState) 
     gone_is =
         let run : RunWords = gone.run in
         let out : List (Option RunView) → Answer × WorldView = λ (l : List (Option RunView)). (answer, record { maps = maps_new; runs = l; opened = g_new.opened; awaited = g_new.awaited; programs = w.programs; given = given }) in
-        ap (λ (o : Option (Option RunView)). step_of (run_shown o) r w) (run-at run gone.there)
+        ap (λ (o : Option (Option RunView)). run_step_of (run_shown o) r w) (run-at run gone.there)
         ∙ ap (λ (o : Option machine.Loaded). step_in o r run.view w) (loaded-shown run gone.loaded gone.of)
         ∙ ap (λ (o : Option Insn). step_at o (program_of gone.loaded) r run.view w) gone.taken.here
         ∙ gone.taken.step w refl refl

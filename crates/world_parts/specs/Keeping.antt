@@ -4,7 +4,7 @@ use Rattle.bpf_model.specs.declared.limits.TheConstants.{MAX_RUNS}
 use Rattle.bpf_model.specs.View.{MapView, RunView, WorldView}
 use Rattle.grace_period.specs.State.{GraceState}
 use Rattle.view_laws.specs.Reactions.{is_open_view}
-use Rattle.world_runs.specs.RunWords.{RunWords, IsAt}
+use Rattle.machine.specs.RunWords.{RunWords, IsAt}
 use Rattle.world_parts.specs.declared.loaded.Loaded.{Loaded}
 use Rattle.world_parts.specs.Programs.{program_of}
 

@@ -8,10 +8,10 @@ use Rattle.bpf_model.specs.View.{MapView, RunView, WorldView}
 use Rattle.grace_period.specs.State.{GraceState}
 use Rattle.world_laws.specs.Local.{Asks, local_of}
 use Rattle.world_laws.specs.Reacting.{insn_step}
-use Rattle.world_runs.specs.declared.access.Access.{Access}
-use Rattle.world_runs.specs.Requests.{access_of}
-use Rattle.world_runs.specs.RunWords.{RunWords, IsAt}
-use Rattle.world_runs.specs.Steps.{CanStep, CanResume}
+use Rattle.machine.specs.declared.access.Access.{Access}
+use Rattle.machine.specs.Requests.{access_of}
+use Rattle.machine.specs.RunWords.{RunWords, IsAt}
+use Rattle.machine.specs.Steps.{CanStep, CanResume}
 use Rattle.helpers.specs.Serving.{CanPass, CanServe, flags_of, world_with}
 use Rattle.world_parts.specs.declared.loaded.Loaded.{Loaded}
 use Rattle.world_parts.specs.Programs.{program_of}

@@ -9,8 +9,8 @@ use crate::parts::Parts;
 use crate::places::{program_at, run_at};
 use crate::stat::Stat;
 use bpf_model::{CtxBytes, Insn, KeyBytes, MapId, ProgId, RunId, ValueBytes};
-use map_verifier::Verified;
-use world_runs::Run;
+use machine::Run;
+use verifier::Verified;
 
 /// Whether two programs have the same instructions.
 fn is_same_code(a: &[Insn], b: &[Insn]) -> bool

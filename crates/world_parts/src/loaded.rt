@@ -2,7 +2,7 @@
 
 use arrayvec::ArrayVec;
 use bpf_model::MAX_MAPS;
-use map_verifier::Verified;
+use verifier::Verified;
 
 /// A verified program with the numbers of its maps: those that its list names, in the order of the shapes
 /// that it was verified for.

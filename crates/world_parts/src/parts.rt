@@ -7,10 +7,10 @@ use crate::loaded::Loaded;
 use crate::places::program_at;
 use bpf_model::{MAX_RUNS, ProgId};
 use grace_period::Grace;
+use machine::Run;
 use maps::Registry;
 use std::alloc::{AllocError, Global};
 use std::marker::Model;
-use world_runs::Run;
 
 /// The maps; the runs by run slot; which of them are inside a section, and which sections are awaited; the
 /// programs; and how many elements were reclaimed. Contracts see the world's view.

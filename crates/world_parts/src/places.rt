@@ -4,7 +4,7 @@ ghost use Rattle.world_parts.specs.Keeping.{HasNoRun};
 
 use crate::loaded::Loaded;
 use bpf_model::{ProgId, RunId};
-use world_runs::Run;
+use machine::Run;
 
 /// The program of this number, if there is one.
 pub(crate) fn program_at(programs: &[Loaded], prog: ProgId) -> Option<&Loaded>

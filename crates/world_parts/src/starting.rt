@@ -6,7 +6,7 @@ ghost use Rattle.world_parts.specs.Keeping.{view_of};
 use crate::parts::Parts;
 use crate::places::program_at;
 use bpf_model::{Answer, CtxBytes, EventRefusal, ProgId, RunId};
-use world_runs::Run;
+use machine::Run;
 
 /// The lowest free run slot.
 fn lowest_free(runs: &[Option<Run>]) -> Option<usize>

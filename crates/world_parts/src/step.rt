@@ -13,8 +13,8 @@ use crate::parts::Parts;
 use bpf_model::{Answer, EventRefusal, RunId};
 use grace_period::Grace;
 use helpers::serve;
+use machine::{Local, Run};
 use maps::Registry;
-use world_runs::{Local, Run};
 
 /// One step of the run in a slot, with the world's maps and flags. What the run asks is served,
 /// and the run goes on with the reply.

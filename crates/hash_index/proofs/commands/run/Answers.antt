@@ -2,7 +2,7 @@ use Rattle.std.proofs.Common.{◌≡◌, ◌∙◌, ◌+◌, ◌++◌, ◌∷◌
 use Rattle.std.proofs.lemmas.List.{drop_more}
 use Rattle.element_arena.specs.State.{key_at}
 use Rattle.hash_index.specs.declared.commands.Command.{Command}
-use Rattle.hash_index.specs.Replies.{AreReady, IsKeyed, replies}
+use Rattle.hash_index.specs.Replies.{AreReadyCommands, IsKeyed, replies}
 use Rattle.hash_index.proofs.Runs.{keyed_step, keyed_empty, keys_still, links_still, told_more}
 use Rattle.hash_index.proofs.commands.run.Goals as goal
 
@@ -26,6 +26,6 @@ loop-command-preserved g c =
       fits = c.step.ensures.fits;
       keyed = keyed_step (key_at c.args.arena.now.slots) (key_at c.loop-command.arena.slots) (g.I.Index.contents c.loop-command.index c.loop-command.arena) (g.I.Index.contents c.step.new.index c.step.new.arena) c.command-item.result same c.step.ensures.contents i.keyed;
       links = links_still c.args.arena.now c.loop-command.arena c.step.new.arena i.links c.step.ensures.links;
-      ready = (subst (AreReady c.args.arena.now) split i.ready).1;
+      ready = (subst (AreReadyCommands c.args.arena.now) split i.ready).1;
       told = told_more (key_at c.args.arena.now.slots) (key_at c.loop-command.arena.slots) c.args.commands.now (drop c.loop-command.command-index c.args.commands.now) (drop (c.loop-command.command-index + 1) c.args.commands.now) c.loop-command.all.items c.push.new.self.items c.command-item.result c.step.result (g.I.Index.contents c.loop-command.index c.loop-command.arena) (g.I.Index.contents c.step.new.index c.step.new.arena) same split c.in_ok-push.ensures.items c.step.ensures.reply c.step.ensures.contents i.told;
     }

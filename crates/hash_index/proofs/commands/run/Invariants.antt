@@ -1,7 +1,7 @@
 use Rattle.std.proofs.Common.{◌≡◌, ◌++◌, drop}
 use Rattle.std.specs.FinMap.{empty}
 use Rattle.element_arena.specs.State.{key_at}
-use Rattle.hash_index.specs.Replies.{AreReady, IsKeyed, replies}
+use Rattle.hash_index.specs.Replies.{AreReadyCommands, IsKeyed, replies}
 use Rattle.hash_index.proofs.commands.run.Given as goal
 
 abbrev pub invariant-loop-command : goal.invariant-loop-command
@@ -11,6 +11,6 @@ invariant-loop-command g l =
       fits : g.I.Index.fits l.index l.arena;
       keyed : IsKeyed (key_at l.fn.arena.slots) contents;
       links : l.arena ≡ record l.fn.arena { links = l.arena.links };
-      ready : AreReady l.fn.arena (drop l.command-index l.commands);
+      ready : AreReadyCommands l.fn.arena (drop l.command-index l.commands);
       told : l.all.items ++ replies (key_at l.fn.arena.slots) (drop l.command-index l.commands) contents ≡ replies (key_at l.fn.arena.slots) l.commands empty;
     }

@@ -1,12 +1,12 @@
 use Rattle.std.proofs.Common.{◌≡◌, ◌∙◌, sym, ap, Some}
 use Rattle.std.specs.Prelude.{slice_get}
 use Rattle.bpf_model.specs.Access.{byte_count}
-use Rattle.world_laws.specs.Locating.{location_of, offset_of}
+use Rattle.world_laws.specs.Locating.{location_of, word_offset}
 use Rattle.helpers.proofs.Occupied.{reached, occupied}
 use Rattle.helpers.proofs.element.store.Goals as goal
 
 pub store-requires-clause-occupied : goal.store-requires-clause-occupied
 store-requires-clause-occupied c =
-    let h = reached c.args.maps.now.maps (byte_count c.args.width) c.args.offset (location_of c.args.address) c.place_of-place.result.map c.place_of-place.result.slot (offset_of c.args.address) c.requires c.place_of-place.ensures in
+    let h = reached c.args.maps.now.maps (byte_count c.args.width) c.args.offset (location_of c.args.address) c.place_of-place.result.map c.place_of-place.result.slot (word_offset c.args.address) c.requires c.place_of-place.ensures in
     let there : slice_get c.args.maps.now.maps c.place_of-place.result.map ≡ Some c.map_mut-map.result.now = ap (slice_get c.args.maps.now.maps) (sym c.new.ensures) ∙ c.map_mut-map.ensures.value in
     occupied c.args.maps.now.maps (byte_count c.args.width) c.place_of-place.result.map c.place_of-place.result.slot _ c.map_mut-map.result.now h there

@@ -2,8 +2,8 @@ use Rattle.std.proofs.Common.{◌≡◌, ℕ, Option, Some, sym, subst}
 use Rattle.element_arena.specs.State.{ArenaState, link_at}
 use Rattle.deferred_free.specs.Queued.{reaped_lists}
 use Rattle.deferred_free.specs.declared.threaded.Threaded.{Threaded}
-use Rattle.deferred_free.specs.Lines.{last_left}
-use Rattle.deferred_free.specs.Fits.{lists_of, FitsAs, Fits}
+use Rattle.element_arena.specs.Kept.{last_left}
+use Rattle.deferred_free.specs.Fits.{threaded_lists, FitsAs, ThreadedFits}
 use Rattle.deferred_free.specs.Frame.{lists-are, fits_from}
 use Rattle.deferred_free.proofs.Moves.{reaped_fits}
 use Rattle.deferred_free.proofs.threaded.ThreadedDeferred.reap.Goals as goal
@@ -13,12 +13,12 @@ next_of-rest-requires c =
     let k = reaped_fits c.args.self.now c.args.arena.now c.in-Some.slot c.requires.fits c.in-Some.is in
     c.requires.fits.taken c.in-Some.slot k.1
 
-left : (a : ArenaState) (x : Threaded) (slot : ℕ) (rest last : Option ℕ) → rest ≡ link_at a.links slot → last ≡ last_left rest x.ready.last → Fits x a → x.ready.first ≡ Some slot →
-    FitsAs (record { next = x.next; waiting = x.waiting; ready = record { first = rest; last = last } }) a (reaped_lists (lists_of x a))
+left : (a : ArenaState) (x : Threaded) (slot : ℕ) (rest last : Option ℕ) → rest ≡ link_at a.links slot → last ≡ last_left rest x.ready.last → ThreadedFits x a → x.ready.first ≡ Some slot →
+    FitsAs (record { next = x.next; waiting = x.waiting; ready = record { first = rest; last = last } }) a (reaped_lists (threaded_lists x a))
 left a x slot rest last r l f e =
     let k = reaped_fits x a slot f e in
-    subst (λ (z : Option ℕ). FitsAs (record { next = x.next; waiting = x.waiting; ready = record { first = rest; last = z } }) a (reaped_lists (lists_of x a))) (sym l)
-    (subst (λ (z : Option ℕ). FitsAs (record { next = x.next; waiting = x.waiting; ready = record { first = z; last = last_left z x.ready.last } }) a (reaped_lists (lists_of x a))) (sym r) k.0)
+    subst (λ (z : Option ℕ). FitsAs (record { next = x.next; waiting = x.waiting; ready = record { first = rest; last = z } }) a (reaped_lists (threaded_lists x a))) (sym l)
+    (subst (λ (z : Option ℕ). FitsAs (record { next = x.next; waiting = x.waiting; ready = record { first = z; last = last_left z x.ready.last } }) a (reaped_lists (threaded_lists x a))) (sym r) k.0)
 
 pub returns-in-Some-clause-lists : goal.returns-in-Some-clause-lists
 returns-in-Some-clause-lists c = lists-are _ c.args.arena.now _ (left c.args.arena.now c.args.self.now c.in-Some.slot c.next_of-rest.result c.last_after-last.result c.next_of-rest.ensures c.last_after-last.ensures c.requires.fits c.in-Some.is)

@@ -1,9 +1,9 @@
 use Rattle.std.proofs.Common.{◌∙◌, sym, ap, subst, arith, refl}
 use Rattle.bpf_model.specs.Schedule.{Queues}
 use Rattle.element_arena.specs.State.{ArenaState, LinksOf}
-use Rattle.deferred_free.specs.Queued.{queued, retired_slot}
+use Rattle.deferred_free.specs.Queued.{queued, retired_lists}
 use Rattle.deferred_free.specs.declared.threaded.Line.{Line}
-use Rattle.deferred_free.specs.Fits.{lists_of, FitsAs}
+use Rattle.deferred_free.specs.Fits.{threaded_lists, FitsAs}
 use Rattle.deferred_free.specs.Frame.{lists-are, fits_from}
 use Rattle.deferred_free.proofs.Moves.{retired_fits, last_taken}
 use Rattle.deferred_free.proofs.threaded.ThreadedDeferred.retire.Goals as goal
@@ -12,22 +12,22 @@ pub join-self-requires : goal.join-self-requires
 join-self-requires c =
     let x = c.args.self.now in
     let f = c.requires.fits in
-    last_taken x c.args.arena.now x.next (lists_of x c.args.arena.now).next f.next (λ j h. f.taken j (omega arith)) x.next.last refl c.set_next.new.self (c.set_next.ensures.new ∙ ap (λ (z : ArenaState). let r : ArenaState = record c.args.arena.now { links = z.links } in r) (sym c.set_next.ensures.new))
+    last_taken x c.args.arena.now x.next (threaded_lists x c.args.arena.now).next f.next (λ j h. f.taken j (omega arith)) x.next.last refl c.set_next.new.self (c.set_next.ensures.new ∙ ap (λ (z : ArenaState). let r : ArenaState = record c.args.arena.now { links = z.links } in r) (sym c.set_next.ensures.new))
 
 pub returns-clause-lists : goal.returns-clause-lists
 returns-clause-lists c =
     let k = retired_fits c.args.self.now c.args.arena.now c.set_next.new.self c.join-self.new.arena c.args.slot c.requires.fits c.requires.taken c.requires.apart c.set_next.ensures.new c.set_next.ensures.linked c.join-self.ensures.links in
-    let k1 = subst (λ (l : Line). FitsAs (record { next = l; waiting = c.args.self.now.waiting; ready = c.args.self.now.ready }) c.join-self.new.arena (retired_slot (lists_of c.args.self.now c.args.arena.now) c.args.slot)) (sym c.join-self.ensures.line) k.0 in
+    let k1 = subst (λ (l : Line). FitsAs (record { next = l; waiting = c.args.self.now.waiting; ready = c.args.self.now.ready }) c.join-self.new.arena (retired_lists (threaded_lists c.args.self.now c.args.arena.now) c.args.slot)) (sym c.join-self.ensures.line) k.0 in
     lists-are _ c.join-self.new.arena _ k1
 
 pub returns-clause-fits : goal.returns-clause-fits
 returns-clause-fits c =
     let k = retired_fits c.args.self.now c.args.arena.now c.set_next.new.self c.join-self.new.arena c.args.slot c.requires.fits c.requires.taken c.requires.apart c.set_next.ensures.new c.set_next.ensures.linked c.join-self.ensures.links in
-    let k1 = subst (λ (l : Line). FitsAs (record { next = l; waiting = c.args.self.now.waiting; ready = c.args.self.now.ready }) c.join-self.new.arena (retired_slot (lists_of c.args.self.now c.args.arena.now) c.args.slot)) (sym c.join-self.ensures.line) k.0 in
+    let k1 = subst (λ (l : Line). FitsAs (record { next = l; waiting = c.args.self.now.waiting; ready = c.args.self.now.ready }) c.join-self.new.arena (retired_lists (threaded_lists c.args.self.now c.args.arena.now) c.args.slot)) (sym c.join-self.ensures.line) k.0 in
     fits_from _ c.join-self.new.arena _ k1
 
 pub returns-clause-links : goal.returns-clause-links
 returns-clause-links c =
     let k = retired_fits c.args.self.now c.args.arena.now c.set_next.new.self c.join-self.new.arena c.args.slot c.requires.fits c.requires.taken c.requires.apart c.set_next.ensures.new c.set_next.ensures.linked c.join-self.ensures.links in
-    let k1 = subst (λ (l : Line). FitsAs (record { next = l; waiting = c.args.self.now.waiting; ready = c.args.self.now.ready }) c.join-self.new.arena (retired_slot (lists_of c.args.self.now c.args.arena.now) c.args.slot)) (sym c.join-self.ensures.line) k.0 in
+    let k1 = subst (λ (l : Line). FitsAs (record { next = l; waiting = c.args.self.now.waiting; ready = c.args.self.now.ready }) c.join-self.new.arena (retired_lists (threaded_lists c.args.self.now c.args.arena.now) c.args.slot)) (sym c.join-self.ensures.line) k.0 in
     subst (λ (q : Queues). LinksOf (queued q) c.args.arena.now c.join-self.new.arena) (sym (lists-are _ c.join-self.new.arena _ k1)) k.1

@@ -11,7 +11,7 @@ put_at-requires-clause-room c =
     omega arith
 
 pub returns-clause-contents : goal.returns-clause-contents
-returns-clause-contents c = (sorted_link c.args.self.now (record { slots = c.put_at.new.list }) c.args.arena.now c.args.slot c.place-place.result c.requires.fits c.requires.taken c.requires.absent (placed (key_at c.args.arena.now.slots) _ _ _ _ _ c.deref.ensures.value c.key.ensures c.place-place.ensures) c.put_at.ensures.items c.put_at.ensures.room).1
+returns-clause-contents c = (sorted_link c.args.self.now (record { slots = c.put_at.new.list }) c.args.arena.now c.args.slot c.position-position.result c.requires.fits c.requires.taken c.requires.absent (placed (key_at c.args.arena.now.slots) _ _ _ _ _ c.deref.ensures.value c.key.ensures c.position-position.ensures) c.put_at.ensures.items c.put_at.ensures.room).1
 
 pub returns-clause-fits : goal.returns-clause-fits
-returns-clause-fits c = (sorted_link c.args.self.now (record { slots = c.put_at.new.list }) c.args.arena.now c.args.slot c.place-place.result c.requires.fits c.requires.taken c.requires.absent (placed (key_at c.args.arena.now.slots) _ _ _ _ _ c.deref.ensures.value c.key.ensures c.place-place.ensures) c.put_at.ensures.items c.put_at.ensures.room).0
+returns-clause-fits c = (sorted_link c.args.self.now (record { slots = c.put_at.new.list }) c.args.arena.now c.args.slot c.position-position.result c.requires.fits c.requires.taken c.requires.absent (placed (key_at c.args.arena.now.slots) _ _ _ _ _ c.deref.ensures.value c.key.ensures c.position-position.ensures) c.put_at.ensures.items c.put_at.ensures.room).0

@@ -2,7 +2,7 @@ use Rattle.std.proofs.Common.{◌≡◌, ◌∙◌, ℕ, Option, Some, None, sym
 use Rattle.std.specs.Prelude.{slice_get, IfSome}
 use Rattle.element_arena.specs.State.{ArenaState}
 use Rattle.deferred_free.specs.Queued.{reaped_lists}
-use Rattle.maps.specs.Parted.{PartsView, IsParted, IsHeld}
+use Rattle.maps.specs.Parted.{PartsView, IsParted, IsInHand}
 use Rattle.maps.proofs.Parting.{reaped-held}
 use Rattle.maps.proofs.Moves.{reaped-step, held-links}
 use Rattle.maps.proofs.parts.Parts.reap.Goals as goal
@@ -20,9 +20,9 @@ returns-clause-new g c =
     ∙ (ap (λ (z : ArenaState). let r : PartsView = record { index = g.I.Index.contents c.self.inside.index c.self.inside.arena; lists = reaped_lists (g.D.Deferred.lists c.self.inside.deferred c.self.inside.arena); arena = z } in r) c.reap.ensures.links.rest
     ∙ ap (λ (p : PartsView). let r : PartsView = record { index = p.index; lists = reaped_lists p.lists; arena = record p.arena { links = c.reap.new.arena.links } } in r) c.self.view_is)
 
-held : (o : Option ℕ) (p r : PartsView) (b : ArenaState) → IsParted p → o ≡ slice_get p.lists.ready 0 → b ≡ record p.arena { links = b.links } → r ≡ record { index = p.index; lists = reaped_lists p.lists; arena = b } → IfSome o (IsHeld r)
+held : (o : Option ℕ) (p r : PartsView) (b : ArenaState) → IsParted p → o ≡ slice_get p.lists.ready 0 → b ≡ record p.arena { links = b.links } → r ≡ record { index = p.index; lists = reaped_lists p.lists; arena = b } → IfSome o (IsInHand r)
 held None p r b h e l s = tt
-held (Some i) p r b h e l s = subst (λ z. IsHeld z i) (sym s) (held-links p.index (reaped_lists p.lists) p.arena b i l (reaped-held p i h (sym e)))
+held (Some i) p r b h e l s = subst (λ z. IsInHand z i) (sym s) (held-links p.index (reaped_lists p.lists) p.arena b i l (reaped-held p i h (sym e)))
 
 pub returns-clause-held : goal.returns-clause-held
 returns-clause-held g c =

@@ -4,7 +4,7 @@ use Rattle.std.specs.Option.{option_map}
 use Rattle.bpf_model.specs.Machine.{with_runs}
 use Rattle.bpf_model.specs.declared.event.Event.TheVariants as events
 use Rattle.bpf_model.specs.declared.event.Answer.TheVariants.{Done}
-use Rattle.bpf_model.specs.Event.{Does, refusal}
+use Rattle.bpf_model.specs.Event.{DoesEvent, refusal}
 use Rattle.plain_model.specs.State.{machine_of}
 use Rattle.plain_runs.specs.State.{run_of, runs_of}
 use Rattle.std.proofs.lemmas.List.{map-set}
@@ -19,4 +19,4 @@ returns-clause-machine c =
     let free : refusal m (events.Drop r) ≡ None = sym c.drop_refusal.ensures ∙ c.in_default.is in
     let runs = map-set (option_map (run_of programs)) c.args.self.now.runs.items r None in
     let new = with_runs m (runs_of programs (slice_set c.args.self.now.runs.items r None)) in
-    subst (λ k. Does m (events.Drop k) Done new) c.index-r.ensures (does-performs m (events.Drop r) Done new free (ap (with_runs m) runs))
+    subst (λ k. DoesEvent m (events.Drop k) Done new) c.index-r.ensures (does-performs m (events.Drop r) Done new free (ap (with_runs m) runs))

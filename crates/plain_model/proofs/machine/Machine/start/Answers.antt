@@ -4,7 +4,7 @@ use Rattle.std.specs.Option.{option_map}
 use Rattle.bpf_model.specs.Machine.{Machine, begins, fresh_run, lowest_free}
 use Rattle.bpf_model.specs.declared.event.Event.TheVariants as events
 use Rattle.bpf_model.specs.declared.event.Answer.TheVariants.{Started}
-use Rattle.bpf_model.specs.Event.{Does}
+use Rattle.bpf_model.specs.Event.{DoesEvent}
 use Rattle.plain_model.specs.State.{machine_of}
 use Rattle.plain_runs.specs.State.{run_of, runs_of, run_with, loaded_of, or_no_program}
 use Rattle.plain_store.proofs.Lists.{get-map, read-at, length-map-own}
@@ -42,4 +42,4 @@ returns-clause-machine c =
     let is : new ≡ begins m r (loaded_of x) c.args.ctx.items = ap at c.in_ok-next.ensures ∙ ap (λ rs. record { store = m.store; runs = rs; started = m.started + 1; programs = m.programs }) runs in
     let context : length c.args.ctx.items ≡ x.context_len = sym c.len-2.ensures.value ∙ c.if-len-index.false in
     let does = start-does m p r c.args.ctx (loaded_of x) new there context (sym c.lowest_free.ensures ∙ c.in-Some.is) is in
-    subst (λ k. Does m (events.Start k c.args.ctx) (Started c.new-2.result) new) c.index-p.ensures (subst (λ q. Does m (events.Start p c.args.ctx) (Started q) new) (sym c.new-2.ensures) does)
+    subst (λ k. DoesEvent m (events.Start k c.args.ctx) (Started c.new-2.result) new) c.index-p.ensures (subst (λ q. DoesEvent m (events.Start p c.args.ctx) (Started q) new) (sym c.new-2.ensures) does)

@@ -1,0 +1,29 @@
+-- Runs of the machine: lists of events and of the answers to them, through a list of states.
+use Rattle.std.specs.Prelude.{◌≡◌, List, [], ◌∷◌}
+use Rattle.bpf_model.specs.declared.event.Event.{Event}
+use Rattle.bpf_model.specs.declared.event.Answer.{Answer}
+use Rattle.bpf_model.specs.Machine.{Machine}
+use Rattle.bpf_model.specs.Event.{DoesEvent}
+
+-- From m the machine goes through these states, with these answers to these events.
+abbrev pub IsHistory : Machine → List Event → List Answer → List Machine → Type 0
+IsHistory m [] [] [] = Unit {0}
+IsHistory m (event ∷ events) (answer ∷ answers) (next ∷ states) = DoesEvent m event answer next × IsHistory next events answers states
+IsHistory m events answers states = ⊥
+
+-- the state that it ends in
+abbrev pub last_machine : Machine → List Machine → Machine
+last_machine m [] = m
+last_machine m (next ∷ states) = last_machine next states
+
+-- a fact holds of each of the states
+abbrev pub AllStates : (Machine → Type 0) → List Machine → Type 0
+AllStates P [] = Unit {0}
+AllStates P (m ∷ states) = P m × AllStates P states
+
+-- Some run of the machine from m has these answers to these events, and ends in new.
+abbrev pub MachineRun : Machine → List Event → List Answer → Machine → Type 0
+MachineRun m [] [] new = new ≡ m
+MachineRun m (event ∷ events) (answer ∷ answers) new = (next : Machine) × DoesEvent m event answer next
+    × MachineRun next events answers new
+MachineRun m events answers new = ⊥

@@ -1,0 +1,59 @@
+//! Laws of runs in a world: when they may step, and that what is asked and answered is the world's step.
+//!
+//! Each is a function with an empty body, whose contract is the law.
+ghost use Rattle.std.specs.Prelude.{◌≡◌, ℕ, Option, Some, None, slice_get};
+ghost use Rattle.bpf_model.specs.declared.event.Event.{Event};
+ghost use Rattle.bpf_model.specs.declared.insn.Insn.{Insn};
+ghost use Rattle.bpf_model.specs.Machine.{Loaded, Run};
+ghost use Rattle.bpf_model.specs.Schedule.{Schedule};
+ghost use Rattle.bpf_model.specs.Step.{insn_at};
+ghost use Rattle.bpf_model.specs.View.{RunView, WorldView};
+ghost use Rattle.view_laws.specs.Matching.{Matches};
+ghost use Rattle.world_laws.specs.Local.{local_of};
+ghost use Rattle.world_laws.specs.Reacting.{full_reaction, insn_step};
+ghost use Rattle.world_laws.specs.Typed.{IsSound, IsRunning};
+ghost use Rattle.machine.specs.declared.access.Access.{Access};
+ghost use Rattle.machine.specs.declared.access.Local.{Local};
+ghost use Rattle.machine.specs.Replies.{IsOwnStep, ServesAccess};
+ghost use Rattle.machine.specs.Requests.{access_of};
+ghost use Rattle.machine.specs.Steps.{CanStep, CanResume, IsLocalStep};
+
+/// A run that has not ended may step, by the code of its program.
+pub fn running_can_step()
+    ensures { (w : WorldView) (s : Schedule) → Matches w s → IsSound w s →
+        (r : ℕ) (run : Run) (v : RunView) → IsRunning w s r run v →
+        (program : Loaded) → slice_get w.programs v.program ≡ Some program →
+        CanStep program.code v }
+{}
+
+/// Where its instruction asks something, it may resume after the reply.
+pub fn running_can_resume()
+    ensures { (w : WorldView) (s : Schedule) → Matches w s → IsSound w s →
+        (r : ℕ) (run : Run) (v : RunView) → IsRunning w s r run v →
+        (program : Loaded) → slice_get w.programs v.program ≡ Some program →
+        (insn : Insn) (access : Access) → insn_at program.code v.place ≡ Some insn →
+        access_of insn v ≡ Some access → CanResume program.code v }
+{}
+
+/// The world's step of an instruction that asks something is to serve the request, and to resume the run.
+pub fn served_as_asked()
+    ensures { (insn : Insn) (access : Access) (program : Loaded) (r : ℕ) (v : RunView)
+        (w : WorldView) →
+        access_of insn v ≡ Some access → ServesAccess access insn program r v w }
+{}
+
+/// A world's reaction to the step of a run that has not ended is the step of the run's instruction.
+pub fn reacts_by_insn()
+    ensures { (w : WorldView) (r : ℕ) (v : RunView) (program : Loaded) (insn : Insn) →
+        slice_get w.runs r ≡ Some (Some v) → v.exit ≡ None →
+        slice_get w.programs v.program ≡ Some program →
+        insn_at program.code v.place ≡ Some insn →
+        full_reaction w (Event.Step r) ≡ insn_step insn program r v w }
+{}
+
+/// What a run has answered and done is the world's step, where the run asks nothing of it.
+pub fn own_step_is_the_worlds()
+    ensures { (insn : Insn) (program : Loaded) (r : ℕ) (v after : RunView) (w : WorldView)
+        (asked : Option Access) (answer : Local) → IsLocalStep (local_of insn v) asked v answer after →
+        IsOwnStep answer asked r v after w (insn_step insn program r v w) }
+{}

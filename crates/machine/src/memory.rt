@@ -1,0 +1,107 @@
+//! Where words lie, and the bytes that they name.
+ghost use Rattle.std.specs.Prelude.{◌≡◌, ℕ, ◌+◌, ◌^◌, ◌<◌, ◌≤◌, length, pos, ◌+ℤ◌};
+ghost use Rattle.bpf_model.specs.declared.limits.TheConstants.{FRAME_BYTES};
+ghost use Rattle.bpf_model.specs.Access.{byte_count};
+ghost use Rattle.bpf_model.specs.Word.{frame_base};
+ghost use Rattle.world_laws.specs.Locating.{location_of, number_from};
+ghost use Rattle.world_laws.specs.Moving.{stored_frame};
+ghost use Rattle.world_laws.specs.Reaching.{IsInside};
+ghost use Rattle.machine.specs.RunWords.{HasRoom};
+ghost use Rattle.machine.specs.Moves.{GoesOn, IsIn, offset_from, own_number};
+ghost use Rattle.machine.specs.Requests.{IsInOwn};
+
+use crate::run::{CTX_BASE, FRAME_BASE, Run};
+use bpf_model::Width;
+use byte_numbers::{number_of, write_number};
+
+/// Regions begin at multiples of 2^31, and a word lies at most 2^29 away from the beginning of its own.
+const SPAN: u64 = 1 << 31;
+
+const NEAR: u64 = 1 << 29;
+
+/// Where a word lies.
+#[derive(Clone, Copy)]
+pub(crate) enum Memory {
+    Context,
+    Frame,
+    /// At a map, or in a slot of one.
+    Elsewhere,
+}
+
+#[inline]
+pub(crate) fn memory_of(word: u64) -> Memory
+    ensures { IsIn result word }
+{
+    if CTX_BASE - NEAR <= word && word < CTX_BASE - NEAR + SPAN {
+        Memory::Context
+    } else if FRAME_BASE - NEAR <= word && word < FRAME_BASE - NEAR + SPAN {
+        Memory::Frame
+    } else {
+        Memory::Elsewhere
+    }
+}
+
+/// A word, moved by an offset.
+#[inline]
+fn address_of(word: u64, offset: i16) -> u64
+    ensures { (a : ℕ) → a < 2 ^ 64 → pos word +ℤ offset ≡ pos a → result ≡ a }
+{
+    word.wrapping_add(i64::from(offset).cast_unsigned())
+}
+
+/// An address, counted from the first byte of its region.
+#[inline]
+fn offset_in(base: u64, address: u64, offset: i16) -> usize
+    ensures { (at : ℕ) → base + at < 2 ^ 64 → offset_from base address offset ≡ pos at →
+        result ≡ at }
+{
+    address_of(address, offset).wrapping_sub(base) as usize
+}
+
+/// The number at an address of the region that has these bytes.
+#[inline]
+fn number_in(bytes: &[u8], base: u64, address: u64, offset: i16, width: Width) -> u64
+    requires inside { IsInside (length bytes.now) (byte_count width)
+        (offset_from base address offset) }
+    requires small { base + length bytes.now < 2 ^ 64 }
+    ensures { result ≡ number_from bytes.now (byte_count width) (offset_from base address offset) }
+{
+    number_of(bytes, offset_in(base, address, offset), width)
+}
+
+impl Run {
+    /// The number that a load finds in the run's own memory; elsewhere it finds none.
+    #[inline]
+    pub(crate) fn find(&self, width: Width, address: u64, offset: i16) -> Option<u64>
+        requires { IsInOwn (byte_count width) offset (location_of address) self.now.view }
+        ensures { result ≡ own_number (byte_count width) offset (location_of address)
+            self.now.view }
+    {
+        match memory_of(address) {
+            Memory::Context => {
+                let bytes = self.context.as_slice();
+                Some(number_in(bytes, CTX_BASE, address, offset, width))
+            }
+            Memory::Frame => Some(number_in(&self.frame, FRAME_BASE, address, offset, width)),
+            Memory::Elsewhere => None,
+        }
+    }
+
+    /// Writes the low bytes of a number to the frame, and goes on.
+    #[inline]
+    pub(crate) fn write(&mut self, width: Width, address: u64, offset: i16, number: u64)
+        requires room { HasRoom self.old }
+        requires inside { IsInside FRAME_BYTES (byte_count width)
+            (offset_from frame_base address offset) }
+        ensures { GoesOn (stored_frame (byte_count width) number
+            (offset_from frame_base address offset) self.old.view) self.old self.new }
+    {
+        write_number(
+            &mut self.frame,
+            offset_in(FRAME_BASE, address, offset),
+            width,
+            number,
+        );
+        self.advance(1);
+    }
+}

@@ -1,0 +1,55 @@
+-- How many states wait.
+use Rattle.std.proofs.Common.{◌≡◌, ℕ, zero, suc, ◌+◌, ◌<◌, ◌≤◌, List, [], ◌∷◌, ◌++◌, length, arith, ap, ◌∙◌, ◌-◌}
+use Rattle.std.specs.Prelude.{slice_index_or, slice_set, max}
+use Rattle.std.proofs.Math.Nat.{le-max_right, max-le}
+use Rattle.std.proofs.lemmas.List.{length-set, get_or_default, get_or-set_same}
+use Rattle.std.proofs.lemmas.List.Sums.{sum_by-cons}
+use Rattle.verifier.specs.declared.waiting.Waiting.{Waiting}
+use Rattle.verifier.specs.declared.waiting.Waiting.TheVariants.{Nothing, Known, Differing}
+use Rattle.verifier.specs.SecondPass.{occupied, states_in, AreStatesCounted}
+
+pub at_most_one : (w : Waiting) → occupied w ≤ 1
+at_most_one Nothing = omega arith
+at_most_one (Known b) = omega arith
+at_most_one Differing = omega arith
+
+pub no_more_than_places : (ws : List Waiting) → states_in ws ≤ length ws
+no_more_than_places [] = omega arith
+no_more_than_places (w ∷ ws) = omega (arith, sum_by-cons occupied w ws, no_more_than_places ws, at_most_one w)
+
+pub place_counted : (ws : List Waiting) (i : ℕ) → i < length ws → occupied (slice_index_or ws i Nothing) ≤ states_in ws
+place_counted [] i h = absurd (omega arith)
+place_counted (w ∷ ws) zero h = omega (arith, sum_by-cons occupied w ws)
+place_counted (w ∷ ws) (suc i) h = omega (arith, sum_by-cons occupied w ws, place_counted ws i (omega arith))
+
+pub set_counted : (ws : List Waiting) (i : ℕ) (w : Waiting) → i < length ws → states_in (slice_set ws i w) + occupied (slice_index_or ws i Nothing) ≡ states_in ws + occupied w
+set_counted [] i w h = absurd (omega arith)
+set_counted (v ∷ ws) zero w h = omega (arith, sum_by-cons occupied v ws, sum_by-cons occupied w ws)
+set_counted (v ∷ ws) (suc i) w h = omega (arith, sum_by-cons occupied v ws, sum_by-cons occupied v (slice_set ws i w), set_counted ws i w (omega arith))
+
+pub none_added : (ws : List Waiting) → states_in (ws ++ Nothing ∷ []) ≡ states_in ws
+none_added [] = omega (arith, sum_by-cons occupied Nothing [])
+none_added (w ∷ ws) = omega (arith, sum_by-cons occupied w ws, sum_by-cons occupied w (ws ++ Nothing ∷ []), none_added ws)
+
+-- how many states wait in a place that is read
+pub count_at : (ws : List Waiting) (i : ℕ) (d x : Waiting) (n : ℕ) → i < length ws → n ≡ occupied x → x ≡ slice_index_or ws i d → n ≡ occupied (slice_index_or ws i Nothing)
+count_at ws i d x n h e f = e ∙ ap occupied (f ∙ get_or_default ws i d Nothing h)
+
+pub count_set : (ws : List Waiting) (i : ℕ) (w d x : Waiting) (n : ℕ) → i < length ws → n ≡ occupied x → x ≡ slice_index_or (slice_set ws i w) i d → n ≡ occupied w
+count_set ws i w d x n h e f = e ∙ ap occupied (f ∙ get_or-set_same ws i w d h)
+
+-- one place changes
+pub counted_set : (ws : List Waiting) (i : ℕ) (w : Waiting) (len peak before after new : ℕ) → i < length ws → AreStatesCounted ws len peak → before ≡ occupied (slice_index_or ws i Nothing) → after ≡ occupied w → new ≡ max peak (len - before + after)
+    → AreStatesCounted (slice_set ws i w) (len - before + after) new
+counted_set ws i w len peak before after new h c b a e =
+    let count : len - before + after ≡ states_in (slice_set ws i w) = omega (arith, c.count, b, a, place_counted ws i h, set_counted ws i w h) in
+    let inside : len - before + after ≤ length ws = omega (arith, count, no_more_than_places (slice_set ws i w), length-set ws i w) in
+    record {
+      count = count;
+      most = omega (arith, e, le-max_right peak (len - before + after));
+      few = (let l : max peak (len - before + after) ≤ length ws = max-le c.few inside in omega (arith, e, l, length-set ws i w));
+    }
+
+-- the states are as many, and the peak is that of before
+pub peak_set : (ws : List Waiting) (len peak new : ℕ) → len ≡ states_in ws → new ≡ max peak len → new ≡ max peak (states_in ws)
+peak_set ws len peak new e f = f ∙ ap (max peak) e

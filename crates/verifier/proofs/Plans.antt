@@ -1,0 +1,373 @@
+-- The second pass keeps a plan that each step keeps.
+use Rattle.std.proofs.Common.{◌≡◌, ◌≢◌, ℕ, zero, suc, ◌+◌, ◌-◌, ◌<◌, ◌≤◌, refl, sym, ◌∙◌, ap, subst, arith, inl, inr, true, false, cond, List, [], ◌∷◌, ◌++◌, length}
+use Rattle.std.specs.Prelude.{slice_get, Option, Some, None, ltb, unwrap_or, option_map, IsSome, IfSome, ℤ, pos, ◌+ℤ◌, ◌⊎◌}
+use Rattle.std.proofs.lemmas.Bool.{cases_lt, cases_eq}
+use Rattle.std.proofs.lemmas.Int.{ints}
+use Rattle.std.proofs.lemmas.List.{get_or_past}
+use Rattle.std.proofs.lemmas.List.Sums.{sum_by-cons}
+use Rattle.std.proofs.lemmas.Option.{slice_get_within}
+use borrow.Author.Tests.{le-ltb, lt-ltb}
+use Rattle.bpf_model.specs.declared.insn.Insn.{Insn}
+use Rattle.bpf_model.specs.declared.insn.Insn.TheVariants.{Exit}
+use Rattle.bpf_model.specs.declared.limits.MapShape.{MapShape}
+use Rattle.bpf_model.specs.Graph.{falls, distance}
+use Rattle.bpf_model.specs.Spelling.{slot_count, slot_total}
+use Rattle.bpf_model.specs.Places.{slot_count_some, starts_apart, starts_increase, start_of-insn, insn_of-start, LeadsTo, StartsAt}
+use Rattle.program_graph.specs.GraphFlaws.{EndsWithExit, HasGoodGraph}
+use Rattle.program_graph.specs.FirstPass.{Follows}
+use Rattle.program_graph.specs.Indexes.{HasTargets, IsTarget}
+use Rattle.program_graph.proofs.Edges.{insn_here, insn_read}
+use Rattle.program_graph.proofs.Lists.{same_some, get-append_cases}
+use Rattle.program_graph.proofs.Marking.{edge_into, reached_by, starts_at_0}
+use Rattle.typed_runs.specs.Kinds as model
+use Rattle.typed_runs.specs.Describes.{Describes}
+use Rattle.typed_runs.specs.Verified.{Plan}
+use Rattle.typed_runs.specs.Planned as plans
+use Rattle.typed_runs.specs.Planned.{Wider, Covers, entry_state}
+use Rattle.typed_runs.proofs.Planning.{alike_wider}
+use Rattle.register_kinds.specs.declared.state.AbsState.{AbsState}
+use Rattle.register_kinds.specs.States.{state_of}
+use Rattle.memory_effects.specs.declared.region.Region.{Region}
+use Rattle.state_steps.specs.Steps.{IsForward}
+use Rattle.verifier.specs.declared.waiting.Waiting.{Waiting}
+use Rattle.verifier.specs.declared.waiting.Waiting.TheVariants.{Nothing, Differing}
+use Rattle.verifier.specs.SecondPass.{Awaited, Table, size_of, awaited, state_in, planned, Fell, Jumped, Spreads, Advances, Notes, Passed, IsPassed, IsDoomed, Awaits, StartsFrom}
+use Rattle.verifier.proofs.Merging.{Later, same_later, Stays, AllStay, same_stay, merged_there, merged_later, merged_or}
+
+-- a program has no more instructions than slots
+pub length_slots : (is : List Insn) → length is ≤ slot_total is
+length_slots [] = omega arith
+length_slots (i ∷ is) = omega (arith, length_slots is, slot_count_some i, sum_by-cons slot_count i is)
+
+-- an instruction that falls through isn't the last
+exit_last : (program front : List Insn) (k : ℕ) (i : Insn) → program ≡ front ++ Exit ∷ [] → slice_get program k ≡ Some i → falls i ≡ true → suc k < length program
+exit_last program front k i e f g = subst (λ p. suc k < length p) (sym e) (at front k (ap (λ p. slice_get p k) (sym e) ∙ f))
+  where
+    at : (front : List Insn) (k : ℕ) → slice_get (front ++ Exit ∷ []) k ≡ Some i → suc k < length (front ++ Exit ∷ [])
+    at [] zero h = absurd (let same : Exit ≡ i = same_some h in let t : false ≡ true = ap falls same ∙ g in cc)
+    at [] (suc k) h = absurd (cc)
+    at (j ∷ front) zero h = some front
+      where
+        some : (front : List Insn) → 1 < length (j ∷ front ++ Exit ∷ [])
+        some [] = omega arith
+        some (m ∷ front) = omega arith
+    at (j ∷ front) (suc k) h = let r = at front k h in omega arith
+
+pub falls_inside : (program : List Insn) (k : ℕ) (i : Insn) → EndsWithExit program → slice_get program k ≡ Some i → falls i ≡ true → suc k < length program
+falls_inside program k i last e f = exit_last program last.0 k i last.1 e f
+
+-- a target stands inside the program
+pub target_within : (program : List Insn) (k : ℕ) (i : Insn) (t : ℕ) → IsTarget program k i (Some t) → t < length program
+target_within program k i t leads = let j = insn_of-start 0 program t leads.to leads.to_is in slice_get_within program t j.0 j.1
+
+pub target_fits : (program : List Insn) (k : ℕ) (i : Insn) (target : Option ℕ) → IsTarget program k i target → IfSome target (λ t. t < length program)
+target_fits program k i None leads = tt
+target_fits program k i (Some t) leads = target_within program k i t leads
+
+-- a jump leads further on
+pub jumps_further : (program : List Insn) (targets : List (Option ℕ)) (long : length targets ≡ length program) (all : HasTargets program targets) (k : ℕ) (target : Option ℕ) → slice_get targets k ≡ Some target → (t : ℕ) → target ≡ Some t → k < t
+jumps_further program targets long all k target e t f =
+    let i = insn_read program k (let h = slice_get_within targets k target e in omega (arith, h, long)) in
+    let l : LeadsTo program k i.0 t = subst (IsTarget program k i.0) f (all.each k i.0 target i.1 e) in
+    l.further
+
+some_unwrapped : {A : Type 0} (o : Option A) (d : A) → IsSome o → o ≡ Some (unwrap_or o d)
+some_unwrapped None d h = absurd (let e : false ≡ true = h in cc)
+some_unwrapped (Some x) d h = refl
+
+unwrapped_state : (o : Option AbsState) (d : AbsState) → state_of (unwrap_or o d) ≡ unwrap_or (option_map state_of o) (state_of d)
+unwrapped_state None d = refl
+unwrapped_state (Some x) d = refl
+
+-- the state behind a plan's
+planned_state : (w : Waiting) (b : model.AbsState) → option_map state_of (state_in w) ≡ Some b → (a : AbsState) × (state_in w ≡ Some a) × (state_of a ≡ b)
+planned_state w b e = go (state_in w) refl
+  where
+    go : (o : Option AbsState) → state_in w ≡ o → (a : AbsState) × (state_in w ≡ Some a) × (state_of a ≡ b)
+    go None f = absurd (let g : None ≡ Some b = sym (ap (option_map state_of) f) ∙ e in cc)
+    go (Some a) f = (a, f, same_some (sym (ap (option_map state_of) f) ∙ e))
+
+-- What falls through: something waits behind, and all waits on.
+module _ (next : AbsState) (i : Insn) (k : ℕ) (taken jumping : Option AbsState) (old mid : Awaited) where
+  fell_later : Fell i k next taken jumping old mid → Later old mid
+  fell_later (inl f) = merged_later (suc k) next old mid f.1
+  fell_later (inr f) = same_later old mid f.1
+
+  fell_there : Fell i k next taken jumping old mid → falls i ≡ true → mid (suc k) ≢ Nothing
+  fell_there (inl f) t = merged_there (suc k) next old mid f.1
+  fell_there (inr f) t = absurd (let e : false ≡ true = sym f.0 ∙ t in cc)
+
+  fell_or : Fell i k next taken jumping old mid → ((falls i ≡ true) × (mid (suc k) ≡ Differing)) ⊎ (AllStay old mid × (falls i ≡ true → Stays mid (suc k) next))
+  fell_or (inl f) = elim (merged_or (suc k) next old mid f.1) [ inl h ↦ inl (f.0, h) | inr h ↦ inr (h.0, λ t. h.1) ]
+  fell_or (inr f) = inr (same_stay old mid f.1, λ t. absurd (let e : false ≡ true = sym f.0 ∙ t in cc))
+
+  jumping_is : Fell i k next taken jumping old mid → (falls i ≡ true → IsSome taken) → jumping ≡ Some (unwrap_or taken next)
+  jumping_is (inl f) both = f.2 ∙ some_unwrapped taken next (both f.0)
+  jumping_is (inr f) both = f.2
+
+module _ (target : Option ℕ) (jumping : Option AbsState) (mid new : Awaited) where
+  jumped_later : Jumped target jumping mid new → Later mid new
+  jumped_later (inl f) = merged_later f.0 f.1 mid new f.4
+  jumped_later (inr f) = same_later mid new f.1
+
+  jumped_there : Jumped target jumping mid new → (t : ℕ) (s : AbsState) → target ≡ Some t → jumping ≡ Some s → new t ≢ Nothing
+  jumped_there (inl f) t s e g = λ h. merged_there f.0 f.1 mid new f.4 (ap new (same_some (sym f.2 ∙ e)) ∙ h)
+  jumped_there (inr (inl f, h)) t s e g = absurd (let x : None ≡ Some t = sym f ∙ e in cc)
+  jumped_there (inr (inr f, h)) t s e g = absurd (let x : None ≡ Some s = sym f ∙ g in cc)
+
+  jumped_or : Jumped target jumping mid new → ((t : ℕ) × (target ≡ Some t) × (new t ≡ Differing)) ⊎ (AllStay mid new × ((t : ℕ) (s : AbsState) → target ≡ Some t → jumping ≡ Some s → Stays new t s))
+  jumped_or (inl f) = elim (merged_or f.0 f.1 mid new f.4) [
+    | inl h ↦ inl (f.0, f.2, h)
+    | inr h ↦ inr (h.0, λ t s e g. subst (λ t. Stays new t s) (same_some (sym f.2 ∙ e)) (subst (Stays new f.0) (same_some (sym f.3 ∙ g)) h.1))
+  ]
+  jumped_or (inr (inl f, h)) = inr (same_stay mid new h, λ t s e g. absurd (let x : None ≡ Some t = sym f ∙ e in cc))
+  jumped_or (inr (inr f, h)) = inr (same_stay mid new h, λ t s e g. absurd (let x : None ≡ Some s = sym f ∙ g in cc))
+
+module _ (program : List Insn) (targets : List (Option ℕ)) (all : HasTargets program targets) (last : EndsWithExit program)
+    (k : ℕ) (shapes : List MapShape) (ctx_len : ℕ) (region : Region) (old new : Awaited) (done : Advances program targets k shapes ctx_len region old new) where
+  abbrev pub spread : Spreads done.insn done.target k shapes ctx_len done.state region done.rest new
+  spread = done.spreads
+
+  is_target : IsTarget program k done.insn done.target
+  is_target = all.each k done.insn done.target done.insn_is done.target_is
+
+  leads_to : (t : ℕ) → done.target ≡ Some t → LeadsTo program k done.insn t
+  leads_to t e = subst (IsTarget program k done.insn) e is_target
+
+  -- an instruction with a target is a jump
+  has_distance : (t : ℕ) → done.target ≡ Some t → distance done.insn ≢ None
+  has_distance t e f = (let g : Some (leads_to t e).by ≡ None = sym (leads_to t e).by_is ∙ f in cc)
+
+  -- a jump has a target
+  has_target : (d : ℤ) → distance done.insn ≡ Some d → (t : ℕ) × (done.target ≡ Some t)
+  has_target d e = go done.target refl
+    where
+      go : (o : Option ℕ) → done.target ≡ o → (t : ℕ) × (done.target ≡ Some t)
+      go None f =
+          let none : distance done.insn ≡ None = subst (IsTarget program k done.insn) f is_target in
+          absurd (let g : None ≡ Some d = sym none ∙ e in cc)
+      go (Some t) f = (t, f)
+
+  -- and it leads ahead
+  forward : IsForward done.insn
+  forward d e =
+      let t = has_target d e in
+      let l = leads_to t.0 t.1 in
+      let before : l.from < l.to = starts_increase 0 program k t.0 l.from l.to l.from_is l.to_is l.further in
+      let by : l.by ≡ d = same_some (sym l.by_is ∙ e) in
+      let sum : pos l.to ≡ pos (l.from + 1) +ℤ d = l.sum ∙ ap (λ d. pos (l.from + 1) +ℤ d) by in
+      (l.to - (l.from + 1), ahead l.from l.to d before sum)
+    where
+      ahead : (p q : ℕ) (d : ℤ) → p < q → pos q ≡ pos (p + 1) +ℤ d → d ≡ pos (q - (p + 1))
+      ahead p q d h e = omega (arith, ints)
+
+  jumping_state : (t : ℕ) → done.target ≡ Some t → spread.jumping ≡ Some (unwrap_or spread.taken spread.next)
+  jumping_state t e = jumping_is spread.next done.insn k spread.taken spread.jumping done.rest spread.mid spread.fell (λ f. spread.branches (f, has_distance t e))
+
+  later : Later done.rest new
+  later =
+      let a = fell_later spread.next done.insn k spread.taken spread.jumping done.rest spread.mid spread.fell in
+      let b = jumped_later done.target spread.jumping spread.mid new spread.jumped in
+      record { waits = λ m n. b.waits m (a.waits m n); differs = λ m e. b.differs m (a.differs m e) }
+
+  -- All states wait on, also the two that come.
+  pub record Steps : Type 0 where
+    pub stays : (m : ℕ) (a : AbsState) → k < m → state_in (old m) ≡ Some a → Stays new m a
+    pub falls_on : falls done.insn ≡ true → Stays new (suc k) spread.next
+    pub jumps_on : (t : ℕ) → done.target ≡ Some t → Stays new t (unwrap_or spread.taken spread.next)
+
+  along : (m : ℕ) (a : AbsState) → Stays spread.mid m a → AllStay spread.mid new → Stays new m a
+  along m a s stay = let r = stay m s.0 s.1 in (r.0, r.1, λ c x d. r.2 c x (s.2 c x d))
+
+  -- the sections of two states differ, or all is well
+  pub steps_or : IsDoomed (length program) (k + 1) new ⊎ Steps
+  steps_or = elim (fell_or spread.next done.insn k spread.taken spread.jumping done.rest spread.mid spread.fell) [
+    | inl f ↦ inl (record {
+      index = suc k;
+      ahead = omega arith;
+      inside = falls_inside program k done.insn last done.insn_is f.0;
+      differs = (jumped_later done.target spread.jumping spread.mid new spread.jumped).differs (suc k) f.1;
+    })
+    | inr f ↦ elim (jumped_or done.target spread.jumping spread.mid new spread.jumped) [
+      | inl j ↦ inl (record {
+        index = j.0;
+        ahead = (let h : k < j.0 = (leads_to j.0 j.1).further in omega (arith, h));
+        inside = target_within program k done.insn j.0 (leads_to j.0 j.1);
+        differs = j.2;
+      })
+      | inr j ↦ inr (record {
+        stays = λ m a h e. (let r = f.0 m a (ap state_in (done.others m (let n : m ≢ k = omega arith in n)) ∙ e) in along m a r j.0);
+        falls_on = λ t. along (suc k) spread.next (f.1 t) j.0;
+        jumps_on = λ t e. j.1 t (unwrap_or spread.taken spread.next) e (jumping_state t e);
+      })
+    ]
+  ]
+
+  -- states that differ go on to differ
+  pub doomed_on : IsDoomed (length program) k old → IsDoomed (length program) (k + 1) new
+  doomed_on d =
+      let other : d.index ≢ k = (λ e. (let g : None ≡ Some done.state = sym (ap state_in (ap old (sym e) ∙ d.differs)) ∙ done.waited in cc)) in
+      record { index = d.index; ahead = (let h = d.ahead in omega arith); inside = d.inside; differs = later.differs d.index (done.others d.index other ∙ d.differs) }
+
+  -- the plan so far up to the instruction, and what waits behind it
+  abbrev spliced : Plan → Plan
+  spliced plan m = cond (ltb k m) (planned new m) (plan m)
+
+  spliced_upto : (plan : Plan) (m : ℕ) → m ≤ k → spliced plan m ≡ plan m
+  spliced_upto plan m h = ap (λ t. cond t (planned new m) (plan m)) (le-ltb k m h)
+
+  spliced_after : (plan : Plan) (m : ℕ) → k < m → spliced plan m ≡ planned new m
+  spliced_after plan m h = ap (λ t. cond t (planned new m) (plan m)) (lt-ltb k m h)
+
+  module _ (regions : List Region) (plan : Plan) (before : Passed program regions shapes ctx_len k plan old) (count : length regions ≡ k) (steps : Steps) where
+    covers_waiting : (m : ℕ) (a : AbsState) → k < m → Stays new m a → Covers (spliced plan) m (state_of a)
+    covers_waiting m a h s = (state_of s.0, spliced_after plan m h ∙ ap (option_map state_of) s.1, s.2)
+
+    covers_keep : (m : ℕ) (a : model.AbsState) → Covers plan m a → Covers (spliced plan) m a
+    covers_keep m a c = elim (cases_lt k m) [
+      | inl h ↦
+          let w = planned_state (old m) c.0 (sym (before.rest m (omega arith)) ∙ c.1) in
+          let s = covers_waiting m w.0 h (steps.stays m w.0 h w.1) in
+          (s.0, s.1, λ x y d. s.2 x y (subst (λ b. Describes b x y) (sym w.2) (c.2 x y d)))
+      | inr h ↦ (c.0, spliced_upto plan m h ∙ c.1, c.2)
+    ]
+
+    covered_keep : (j : ℕ) (a : model.AbsState) → plans.IsCovered program shapes ctx_len plan j a → plans.IsCovered program shapes ctx_len (spliced plan) j a
+    covered_keep j a c = record {
+      insn = c.insn;
+      there = c.there;
+      new = c.new;
+      taken = c.taken;
+      transfers = c.transfers;
+      falls_on = λ f. covers_keep (suc j) c.new (c.falls_on f);
+      jumps_on = λ by e. (let l = c.jumps_on by e in (l.0, l.1, covers_keep l.0 (unwrap_or c.taken c.new) l.2));
+    }
+
+    back : (j : ℕ) (a : model.AbsState) → j ≤ k → spliced plan j ≡ Some a → plan j ≡ Some a
+    back j a h e = sym (spliced_upto plan j h) ∙ e
+
+    notes_keep : (j : ℕ) (i : Insn) (r : Region) → j < k → Notes program shapes ctx_len plan j i r → Notes program shapes ctx_len (spliced plan) j i r
+    notes_keep j i r h n = record {
+      covered = λ a e. covered_keep j a (n.covered a (back j a (omega arith) e));
+      reaches = λ a b c m e. n.reaches a b c m (back j a (omega arith) e);
+      compares = λ a q c m e. n.compares a q c m (back j a (omega arith) e);
+    }
+
+    known_here : (a : model.AbsState) → spliced plan k ≡ Some a → state_of done.state ≡ a
+    known_here a e = same_some (sym (ap (option_map state_of) done.waited) ∙ sym (before.rest k (omega arith)) ∙ back k a (omega arith) e)
+
+    jumps_here : (by : ℤ) → distance done.insn ≡ Some by → (t : ℕ) × LeadsTo program k done.insn t × Covers (spliced plan) t (unwrap_or (option_map state_of spread.taken) (state_of spread.next))
+    jumps_here by e =
+        let t = has_target by e in
+        let l = leads_to t.0 t.1 in (
+          t.0,
+          l,
+          subst (Covers (spliced plan) t.0) (unwrapped_state spread.taken spread.next) (covers_waiting t.0 (unwrap_or spread.taken spread.next) l.further (steps.jumps_on t.0 t.1)),
+        )
+
+    covered_here : plans.IsCovered program shapes ctx_len (spliced plan) k (state_of done.state)
+    covered_here = record {
+      insn = done.insn;
+      there = done.insn_is;
+      new = state_of spread.next;
+      taken = option_map state_of spread.taken;
+      transfers = spread.moves forward;
+      falls_on = λ f. covers_waiting (suc k) spread.next (omega arith) (steps.falls_on f);
+      jumps_on = jumps_here;
+    }
+
+    notes_here : Notes program shapes ctx_len (spliced plan) k done.insn region
+    notes_here = record {
+      covered = λ a e. subst (plans.IsCovered program shapes ctx_len (spliced plan) k) (known_here a e) covered_here;
+      reaches = λ a b c m e f d. spread.reaches b c m f (subst (λ a. Describes a c m) (sym (known_here a e)) d);
+      compares = λ a q c m e f d. spread.compares q c m f (subst (λ a. Describes a c m) (sym (known_here a e)) d);
+    }
+
+    -- the instruction of this index, where it is the one at hand
+    notes_at : (j : ℕ) (i : Insn) (r : Region) → j ≡ k → slice_get program j ≡ Some i → region ≡ r → Notes program shapes ctx_len (spliced plan) j i r
+    notes_at j i r e f g =
+        let same : done.insn ≡ i = same_some (sym done.insn_is ∙ ap (slice_get program) (sym e) ∙ f) in
+        subst (λ j. Notes program shapes ctx_len (spliced plan) j i r) (sym e)
+        (subst (λ i. Notes program shapes ctx_len (spliced plan) k i r) same (subst (Notes program shapes ctx_len (spliced plan) k done.insn) g notes_here))
+
+    passed_here : Passed program (regions ++ region ∷ []) shapes ctx_len (k + 1) (spliced plan) new
+    passed_here = record {
+      start = covers_keep 0 entry_state before.start;
+      rest = λ m h. spliced_after plan m (omega arith);
+      each = λ j i r e f. elim (get-append_cases regions region j r f) [
+        | inl h ↦ notes_keep j i r (omega (arith, slice_get_within regions j r h)) (before.each j i r e h)
+        | inr h ↦ notes_at j i r (h.0 ∙ count) e h.1
+      ];
+    }
+
+  -- one more instruction is done
+  pub passed_more : (regions : List Region) → length regions ≡ k
+      → IsDoomed (length program) k old ⊎ ((plan : Plan) × Passed program regions shapes ctx_len k plan old)
+      → IsDoomed (length program) (k + 1) new ⊎ ((plan : Plan) × Passed program (regions ++ region ∷ []) shapes ctx_len (k + 1) plan new)
+  passed_more regions count (inl d) = inl (doomed_on d)
+  passed_more regions count (inr p) = elim steps_or [ inl d ↦ inl d | inr s ↦ inr (spliced p.0, passed_here regions p.0 p.1 count s) ]
+
+  -- what waits after the instruction
+  pub awaits_more : Awaits program targets k old → Awaits program targets (k + 1) new
+  awaits_more w = record {
+    first = λ e. absurd (omega arith);
+    ahead = λ j m i t h l e f follows inside. elim (cases_eq j k) [
+      | inl g ↦
+          let same_i : i ≡ done.insn = same_some (sym e ∙ ap (slice_get program) g ∙ done.insn_is) in
+          let same_t : t ≡ done.target = same_some (sym f ∙ ap (slice_get targets) g ∙ done.target_is) in
+          here m (subst (λ j. Follows done.insn done.target j m) g (subst (λ t. Follows done.insn t j m) same_t (subst (λ i. Follows i t j m) same_i follows)))
+      | inr n ↦ later.waits m (λ x. w.ahead j m i t (omega arith) (omega arith) e f follows inside (sym (done.others m (let o : m ≢ k = omega arith in o)) ∙ x))
+    ];
+  }
+    where
+      here : (m : ℕ) → Follows done.insn done.target k m → new m ≢ Nothing
+      here m (inl g) x =
+          (jumped_later done.target spread.jumping spread.mid new spread.jumped).waits (suc k) (fell_there spread.next done.insn k spread.taken spread.jumping done.rest spread.mid spread.fell g.0) (ap new (sym g.1) ∙ x)
+      here m (inr g) x = jumped_there done.target spread.jumping spread.mid new spread.jumped m (unwrap_or spread.taken spread.next) g (jumping_state m g) x
+
+-- before the first instruction
+pub passed_none : (program : List Insn) (shapes : List MapShape) (ctx_len : ℕ) (at : Awaited) → StartsFrom at → Passed program [] shapes ctx_len 0 (planned at) at
+passed_none program shapes ctx_len at s = record {
+  start = (state_of s.state, ap (option_map state_of) s.waits, alike_wider entry_state (state_of s.state) s.alike);
+  rest = λ m h. refl;
+  each = λ j i r e f. absurd (cc);
+}
+
+pub awaits_none : (program : List Insn) (targets : List (Option ℕ)) (at : Awaited) → StartsFrom at → Awaits program targets 0 at
+awaits_none program targets at s = record {
+  first = λ e f. (let g : None ≡ Some s.state = sym (ap state_in f) ∙ s.waits in cc);
+  ahead = λ j m i t h. absurd (omega arith);
+}
+
+-- something waits for each instruction of a good graph
+pub waits_here : (program : List Insn) (targets : List (Option ℕ)) (long : length targets ≡ length program) (all : HasTargets program targets) (k : ℕ) (at : Awaited)
+    → HasGoodGraph program → Awaits program targets k at → k < length program → at k ≢ Nothing
+waits_here program targets long all k at graph w h = elim (reached_by (graph.reached s.0 i.0 (insn_here program k s.0 i.0 i.1 s.1))) [
+  | inl e ↦
+      let k0 : k ≡ 0 = starts_apart 0 program k 0 0 (s.1 ∙ ap Some e) (starts_at_0 program (omega arith)) in
+      subst (λ m. at m ≢ Nothing) (sym k0) (w.first k0)
+  | inr e ↦
+      let edge = edge_into program targets long all k e.0 s.0 e.1 e.3 e.4 s.1 in
+      w.ahead edge.0 k e.1 edge.1.target edge.1.before (omega arith) edge.1.insn edge.1.target_is edge.1.follows h
+]
+  where
+    i : (i : Insn) × (slice_get program k ≡ Some i)
+    i = insn_read program k h
+
+    s : (p : ℕ) × StartsAt program k p
+    s = start_of-insn 0 program k i.0 i.1
+
+-- all instructions are done
+pub passed_all : (program : List Insn) (regions : List Region) (shapes : List MapShape) (ctx_len k : ℕ) (t : Table) → k ≡ length program → size_of t ≡ length program
+    → IsDoomed (length program) k (awaited t) ⊎ ((plan : Plan) × Passed program regions shapes ctx_len k plan (awaited t))
+    → (plan : Plan) × IsPassed program regions shapes ctx_len plan
+passed_all program regions shapes ctx_len k t e f (inl d) = absurd (let h = d.ahead in let l = d.inside in omega arith)
+passed_all program regions shapes ctx_len k t e f (inr p) = (p.0, record { start = p.1.start; inside = inside; each = p.1.each })
+  where
+    inside : (m : ℕ) (a : model.AbsState) → p.0 m ≡ Some a → m < length program
+    inside m a h = elim (cases_lt m (length program)) [
+      | inl l ↦ l
+      | inr l ↦
+          let none : planned (awaited t) m ≡ None = ap (λ w. option_map state_of (state_in w)) (get_or_past t.places m Nothing (omega arith)) in
+          absurd (let b : None ≡ Some a = sym none ∙ sym (p.1.rest m (omega arith)) ∙ h in cc)
+    ]

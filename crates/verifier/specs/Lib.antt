@@ -1,0 +1,6 @@
+pub mod Checked
+pub mod FactsKnown
+pub mod Numbers
+pub mod Peak
+pub mod SecondPass
+pub mod Verdict

@@ -1,0 +1,16 @@
+-- The numbers by which refusals are known, and their slots.
+use Rattle.std.specs.Prelude.{ℕ, Option, Some, None}
+use Rattle.program_graph.specs.FlawNumbers.{flaw_number}
+use Rattle.kind_tests.specs.FaultNumbers.{fault_number}
+use Rattle.verifier.specs.declared.refusal.Refusal.{Refusal}
+use Rattle.verifier.specs.declared.refusal.Refusal.TheVariants.{Graph, Instruction, Memory}
+
+abbrev pub refusal_number : Refusal → ℕ
+refusal_number (Graph flaw slot) = flaw_number flaw
+refusal_number (Instruction fault slot) = fault_number fault
+refusal_number Memory = 13
+
+abbrev pub refusal_slot : Refusal → Option ℕ
+refusal_slot (Graph flaw slot) = Some slot
+refusal_slot (Instruction fault slot) = Some slot
+refusal_slot Memory = None

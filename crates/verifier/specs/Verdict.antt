@@ -1,0 +1,60 @@
+-- What `verify` answers: what a verified program is, and what a refusal tells.
+use Rattle.std.specs.Prelude.{◌≡◌, ℕ, ◌<◌, ◌≤◌, List, length, slice_get, Some, Result, Ok, Err}
+use Rattle.bpf_model.specs.declared.insn.Insn.{Insn}
+use Rattle.bpf_model.specs.declared.limits.TheConstants.{CTX_BYTES}
+use Rattle.bpf_model.specs.Spelling.{IsProgram}
+use Rattle.bpf_model.specs.Step.{State}
+use Rattle.program_graph.specs.GraphFlaws.{HasGraphFlaw, HasGoodGraph}
+use Rattle.program_graph.specs.Indexes.{HasTargets}
+use Rattle.typed_runs.specs.Kinds.{AbsState}
+use Rattle.typed_runs.specs.Describes.{Scene}
+use Rattle.typed_runs.specs.Verified.{Plan, IsPlanned, IsClosed, IsVerified}
+use Rattle.memory_effects.specs.declared.region.Region.{Region}
+use Rattle.state_steps.specs.Steps.{base_of, IsInRegion, Compares, IsComparable}
+use Rattle.verifier.specs.declared.refusal.Refusal.{Refusal}
+use Rattle.verifier.specs.declared.refusal.Refusal.TheVariants.{Graph, Instruction, Memory}
+use Rattle.verifier.specs.Checked.{Checked}
+use Rattle.verifier.specs.Peak.{AreFew}
+
+-- By the plan each run of the program is never stuck, and each of its steps leads further on; and what the code has
+-- noted of an instruction is so wherever the plan describes a run before it.
+pub record Justifies (c : Checked) (plan : Plan) : Type 0 where
+  pub closed : IsClosed c.program c.shapes c.ctx_len plan
+  -- the plan speaks of the program's instructions alone
+  pub inside : (index : ℕ) (a : AbsState) → plan index ≡ Some a → index < length c.program
+  -- a memory instruction reaches the region that is noted for it
+  pub regions : (index : ℕ) (i : Insn) (b : ℕ) (region : Region) (scene : Scene) (m : State)
+      → slice_get c.program index ≡ Some i → base_of i ≡ Some b → slice_get c.regions index ≡ Some region
+      → IsPlanned c.program plan index scene m → IsInRegion scene region (m.regs b)
+  -- and a conditional jump compares numbers, or tests an element for null
+  pub compared : (index : ℕ) (i : Insn) (r : ℕ) (scene : Scene) (m : State)
+      → slice_get c.program index ≡ Some i → Compares i r
+      → IsPlanned c.program plan index scene m → IsComparable i (m.regs r)
+
+-- The program is verified, and what the code has noted of it is right, by one plan.
+pub record IsJustified (c : Checked) : Type 0 where
+  pub program : IsProgram c.program
+  pub context : c.ctx_len ≤ CTX_BYTES
+  pub regions : length c.regions ≡ length c.program
+  pub jumps : length c.targets ≡ length c.program
+  pub targets : HasTargets c.program c.targets
+  pub inside_program : c.peak_states ≤ length c.program
+  pub few_states : AreFew c.targets c.peak_states
+  pub plan : Plan
+  pub justified : Justifies c plan
+
+-- so it is verified in the words of the laws
+abbrev pub verified_of : (c : Checked) → IsJustified c → IsVerified c.program c.shapes c.ctx_len
+verified_of c j = record { plan = j.plan; closed = j.justified.closed }
+
+-- A refusal tells a flaw of the graph only where the graph has it, and a fault of an instruction
+-- only where the graph has no flaw.
+abbrev pub IsToldOf : List Insn → Refusal → Type 0
+IsToldOf program (Graph flaw slot) = HasGraphFlaw program flaw slot
+IsToldOf program (Instruction fault slot) = HasGoodGraph program
+IsToldOf program Memory = Unit {0}
+
+-- no refusal but for want of memory
+abbrev pub IsAccepted : {A : Type 0} → Result A Refusal → Type 0
+IsAccepted (Ok x) = Unit {0}
+IsAccepted (Err e) = e ≡ Memory

@@ -1,0 +1,91 @@
+//! The states that wait.
+ghost use Rattle.std.specs.Prelude.{◌≡◌, ◌≢◌, ℕ, ◌+◌, ◌^◌, ◌<◌, ◌≤◌, max, IfOk};
+ghost use Rattle.register_kinds.specs.declared.identities.TheConstants.{MAX_PAIRS};
+ghost use Rattle.register_kinds.specs.Pairs.{AreBelow};
+ghost use Rattle.verifier.specs.declared.waiting.Waiting.TheVariants.{Nothing};
+ghost use Rattle.verifier.specs.SecondPass.{size_of, awaited, states_in, AllBelow, Merged, StartsFrom, TakesFew};
+
+use crate::waiting::{Waiting, join_into};
+use register_kinds::{AbsState, Identities};
+use std::alloc::{AllocError, Global};
+use std::marker::Model;
+
+/// For each instruction of a program what waits for it; how many states do, and how many at most ever did at
+/// once.
+#[derive(Drop)]
+pub(crate) struct Pending {
+    places: Vec<Waiting>,
+    len: usize,
+    peak: usize,
+}
+
+impl Model for Pending {
+    ghost use Rattle.verifier.specs.SecondPass.{Table, AreStatesCounted};
+
+    ghost Value = { Table };
+
+    ghost view = { λ v. record { places = v.places.items; peak = v.peak } };
+
+    ghost invariant = { λ v. AreStatesCounted v.places.items v.len v.peak };
+}
+
+impl Pending {
+    /// The entry's state, and nothing for the other instructions.
+    pub(crate) fn start(alloc: Global, len: usize) -> Result<Pending, AllocError>
+        requires { 0 < len }
+        ensures size { IfOk result (λ p. size_of p ≡ len) }
+        ensures entry { IfOk result (λ p. StartsFrom (awaited p)) }
+        ensures peak { IfOk result (λ p. p.peak ≡ 1) }
+    {
+        let mut places = Vec::with_capacity(alloc, len)?;
+        places.push(Waiting::Known(AbsState::entry(alloc)?))?;
+        for _ in 1..len {
+            places.push(Waiting::Nothing)?;
+        }
+        Ok(Pending {
+            places,
+            len: 1,
+            peak: 1,
+        })
+    }
+
+    /// Joins a state into what waits for the instruction of this index.
+    pub(crate) fn put(&mut self, index: usize, state: Box<AbsState>, ids: &mut Identities)
+        requires index { index < size_of self.old }
+        requires room { ids.old.next + MAX_PAIRS < 2 ^ 32 }
+        requires state { AreBelow ids.old.next state.value }
+        requires below { AllBelow ids.old.next (awaited self.old) }
+        ensures merged { Merged index state.value (awaited self.old) (awaited self.new) }
+        ensures size { size_of self.new ≡ size_of self.old }
+        ensures below { AllBelow ids.new.next (awaited self.new) }
+        ensures few { TakesFew MAX_PAIRS ids.old.next ids.new.next }
+        ensures peak { self.new.peak ≡ max self.old.peak (states_in self.new.places) }
+    {
+        let before = self.places[index].count();
+        join_into(&mut self.places[index], state, ids);
+        self.len = self.len - before + self.places[index].count();
+        self.peak = self.peak.max(self.len);
+    }
+
+    /// Takes out what waits for the instruction of this index.
+    pub(crate) fn take(&mut self, index: usize) -> Waiting
+        requires { index < size_of self.old }
+        ensures value { result ≡ awaited self.old index }
+        ensures gone { awaited self.new index ≡ Nothing }
+        ensures others { (k : ℕ) → k ≢ index → awaited self.new k ≡ awaited self.old k }
+        ensures size { size_of self.new ≡ size_of self.old }
+        ensures peak { self.new.peak ≡ self.old.peak }
+    {
+        let taken = std::mem::replace(&mut self.places[index], Waiting::Nothing);
+        self.len -= taken.count();
+        taken
+    }
+
+    /// The most states that ever waited at once.
+    pub(crate) fn peak(&self) -> usize
+        ensures value { result ≡ self.now.peak }
+        ensures few { result ≤ size_of self.now }
+    {
+        self.peak
+    }
+}

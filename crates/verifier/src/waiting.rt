@@ -1,0 +1,52 @@
+//! What waits for an instruction.
+ghost use Rattle.std.specs.Prelude.{◌≡◌, ℕ, ◌+◌, ◌^◌, ◌<◌, IfSome, Some};
+ghost use Rattle.register_kinds.specs.declared.identities.TheConstants.{MAX_PAIRS};
+ghost use Rattle.register_kinds.specs.Pairs.{AreBelow};
+ghost use Rattle.verifier.specs.SecondPass.{occupied, state_in, TakesFew, Joined};
+
+use register_kinds::{AbsState, Identities};
+
+/// What waits for an instruction.
+#[derive(Drop)]
+pub(crate) enum Waiting {
+    /// No edge has led to it yet.
+    Nothing,
+    /// What is known on all edges that have led to it.
+    Known(Box<AbsState>),
+    /// Edges have led to it with a section open, and others with none.
+    Differing,
+}
+
+impl Waiting {
+    /// How many states wait here: one, or none.
+    pub(crate) fn count(&self) -> usize
+        ensures { result ≡ occupied self.now }
+    {
+        match self {
+            Waiting::Known(_) => 1,
+            Waiting::Nothing | Waiting::Differing => 0,
+        }
+    }
+}
+
+/// Joins a state into what waits.
+pub(crate) fn join_into(waiting: &mut Waiting, state: Box<AbsState>, ids: &mut Identities)
+    requires room { ids.old.next + MAX_PAIRS < 2 ^ 32 }
+    requires state { AreBelow ids.old.next state.value }
+    requires waiting { IfSome (state_in waiting.old) (AreBelow ids.old.next) }
+    ensures joined { Joined waiting.old state.value waiting.new }
+    ensures below { IfSome (state_in waiting.new) (AreBelow ids.new.next) }
+    ensures few { TakesFew MAX_PAIRS ids.old.next ids.new.next }
+{
+    match waiting {
+        Waiting::Nothing => *waiting = Waiting::Known(state),
+        Waiting::Known(before) => {
+            if before.inside == state.inside {
+                before.join(&state, ids);
+            } else {
+                *waiting = Waiting::Differing;
+            }
+        }
+        Waiting::Differing => {}
+    }
+}

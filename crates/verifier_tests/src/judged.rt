@@ -1,0 +1,93 @@
+//! What the verifier says of a program in assembly text.
+ghost use Rattle.std.specs.Prelude.{◌≡◌, ◌≤◌, IfOk, length};
+ghost use Rattle.bpf_model.specs.declared.limits.TheConstants.{CTX_BYTES, MAX_MAPS};
+
+use asm::assemble;
+use bpf_model::MapShape;
+use insn_codec::Program;
+use std::alloc::Global;
+use std::test::Fail;
+use verifier::{Verified, verify};
+
+/// What the verifier says.
+#[derive(Clone, Copy, Debug, PartialEq, Eq)]
+pub enum Told {
+    Accepted,
+    /// A refusal by its number, and its slot.
+    At(u8, usize),
+    /// What no row has: a refusal without a slot, by its number; or 0 for lines that do not assemble.
+    Other(u8),
+}
+
+/// A map whose keys have 4 bytes, and its values 8.
+pub const SHAPE: MapShape = MapShape {
+    key_len: 4,
+    value_len: 8,
+    entries: 1,
+    spare: 1,
+    reuse_limit: 2,
+};
+
+/// A map whose keys have 8 bytes, and its values 16.
+const WIDE: MapShape = MapShape {
+    key_len: 8,
+    value_len: 16,
+    entries: 1,
+    spare: 1,
+    reuse_limit: 2,
+};
+
+/// Both, as the list of a program.
+pub const MAPS: [MapShape; 2] = [SHAPE, WIDE];
+
+/// The program of these parts in turn, whose lines are parted by a semicolon and a space; `None` where they do
+/// not assemble.
+fn assembled(alloc: Global, parts: &[&str]) -> Result<Option<Program>, Fail> {
+    let mut lines = String::new(alloc);
+    for part in parts {
+        for line in part.split("; ") {
+            lines.push_str(line)?;
+            lines.push('\n')?;
+        }
+    }
+    match assemble(alloc, &lines) {
+        Ok(program) => Ok(Some(program)),
+        Err(_) => Ok(None),
+    }
+}
+
+/// The verified program of these parts, or why it is refused.
+pub fn verified(
+    alloc: Global,
+    maps: &[MapShape],
+    context: usize,
+    parts: &[&str],
+) -> Result<Result<Verified, Told>, Fail> {
+    if context > 256 || maps.len() > 16 {
+        return Err(Fail::from("the context or the list of maps is too long"));
+    }
+    let program = match assembled(alloc, parts)? {
+        Some(program) => program,
+        None => return Ok(Err(Told::Other(0))),
+    };
+    match verify(alloc, program, maps, context) {
+        Ok(verified) => Ok(Ok(verified)),
+        Err(refusal) => match refusal.slot() {
+            Some(slot) => Ok(Err(Told::At(refusal.code(), slot))),
+            None => Ok(Err(Told::Other(refusal.code()))),
+        },
+    }
+}
+
+/// What is said of the program of these parts.
+pub fn judge(
+    alloc: Global,
+    maps: &[MapShape],
+    context: usize,
+    parts: &[&str],
+) -> Result<Told, Fail> {
+    match verified(alloc, maps, context, parts)? {
+        Ok(_) => Ok(Told::Accepted),
+        Err(told) => Ok(told),
+    }
+}
