@@ -1,5 +1,5 @@
 -- What a pool's results say.
-use Rattle.std.specs.Prelude.{◌≡◌, ◌⊎◌, ℕ, ◌<◌, List, [], length, slice_get, Some, All}
+use Rattle.std.specs.Prelude.{◌≡◌, ◌⊎◌, ℕ, ◌<◌, List, [], length, slice_get, Option, Some, All}
 use Rattle.crossbeam_queue.specs.Passes.{Pass}
 use Rattle.job_queue.specs.declared.numbers.PassView.{PassView}
 use Rattle.job_queue.specs.declared.pool.TheConstants.{MAX_WORKERS}
@@ -25,6 +25,9 @@ module _ {J W T : Type 0} (fits : W → W → J → T → Type 0) where
     pub job : J
     pub at : slice_get jobs k ≡ Some job
     pub by_one : IsServedByOne before after job served
+
+  abbrev pub AreRightLines : List J → List W → List W → List (Option T) → Type 0
+  AreRightLines jobs before after lines = (k : ℕ) (served : T) → slice_get lines k ≡ Some (Some served) → IsServedFor jobs before after k served
 
   -- each result is right for the job of its index
   abbrev pub AreServed : List J → List W → List W → List T → Type 0

@@ -1,5 +1,5 @@
 -- Where a result on the sheet comes from.
-use Rattle.std.specs.Prelude.{◌≡◌, ℕ, List, slice_get, Some}
+use Rattle.std.specs.Prelude.{◌≡◌, ◌≢◌, ℕ, List, slice_get, Option, Some}
 use Rattle.job_queue.specs.declared.station.Numbered.{Numbered}
 use Rattle.job_queue.specs.declared.station.Station.{Station}
 
@@ -17,3 +17,7 @@ pub record StandsIn {W T : Type 0} (stations : List (Station W T)) (k : ℕ) (se
   pub station : Station W T
   pub at : slice_get stations index ≡ Some station
   pub among : IsAmong station.results.items k served
+
+-- no line has a result yet
+abbrev pub IsBlank : {T : Type 0} → List (Option T) → Type 0
+IsBlank {T} lines = (k : ℕ) (served : T) → slice_get lines k ≢ Some (Some served)

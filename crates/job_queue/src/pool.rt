@@ -1,9 +1,10 @@
 //! All jobs, served by as many threads as the caller says.
-ghost use Rattle.std.specs.Prelude.{◌≡◌, ◌↔◌, ◌⊎◌, ◌≢◌, ℕ, ◌+◌, ◌<◌, ◌≤◌, length, slice_get, map, take, drop, Some, Err, All, AllZip, IfErr, IfOk, OnOk, OnErr, vec_len, vec_capacity};
+ghost use Rattle.std.specs.Prelude.{◌≡◌, ◌⊎◌, ◌+◌, ◌<◌, ◌≤◌, ◌++◌, length, map, take, drop, Err, All, IsOk, IfErr, IfOk, OnOk, OnErr, vec_len, vec_capacity};
+ghost use Rattle.std.specs.List.{AllZip};
 ghost use Rattle.crossbeam_queue.specs.Passes.{IsPassOf};
 ghost use Rattle.job_queue.specs.declared.pool.TheConstants.{MAX_JOBS};
-ghost use Rattle.job_queue.specs.Serving.{IsFresh, IsServedFor, AreServed, IsBadCount};
-ghost use Rattle.job_queue.specs.Sheet.{worker_of};
+ghost use Rattle.job_queue.specs.Serving.{IsFresh, AreRightLines, AreServed, IsBadCount};
+ghost use Rattle.job_queue.specs.Sheet.{worker_of, IsBlank};
 
 use crate::fault::PoolFault;
 use crate::numbers::{NumberPass, NumberQueue, Taker, fill};
@@ -23,10 +24,16 @@ pub const MAX_JOBS: usize = 65_536;
 // What a pool takes before it serves the first job.
 #[derive(Drop)]
 struct Prepared<T> {
-    numbers: (NumberQueue, NumberPass),
+    queue: NumberQueue,
+    pass: NumberPass,
     sheet: Sheet<T>,
     results: Vec<T>,
 }
+
+// A law: a worker that has served nothing is later than itself.
+fn unchanged<S: Serve>(workers: &[S::Worker])
+    ensures { AllZip S.later workers.now workers.now }
+{}
 
 // A station for each of the last workers, from `first` on, in order.
 fn man<S: Serve>(
@@ -61,46 +68,38 @@ fn man<S: Serve>(
     Ok(stations)
 }
 
-// Serves all jobs by the workers from `first` on, and brings the results onto the sheet.
-#[allow(clippy::too_many_arguments)]
-fn serve_by<S: Serve + Sync, R: Threads + Wait + Sync>(
+// Serves all jobs by the stations, adds their workers to the others, and brings the results onto the sheet.
+// Whether some thread was short of memory.
+fn employ<S: Serve + Sync, R: Threads + Wait + Sync>(
     rt: &R,
-    alloc: Global,
-    numbers: (NumberQueue, NumberPass),
+    queue: &NumberQueue,
     serve: &S,
     jobs: &[S::Job],
+    mut stations: Vec<Station<S::Worker, S::Served>>,
     workers: &mut Vec<S::Worker>,
-    first: usize,
     sheet: &mut Sheet<S::Served>,
-) -> Result<(), PoolFault>
-    requires pass { IsPassOf numbers.0 numbers.1 }
+) -> bool
+    requires fresh { All (IsFresh (IsPassOf queue.now) (S.ready serve.now)) stations.items }
     requires ready { All (S.ready serve.now) workers.old.items }
-    requires first { first ≤ vec_len workers.old }
-    requires blank { (k : ℕ) (served : S.Served) → slice_get sheet.old.lines.items k ≢ Some (Some served) }
+    requires room { vec_len workers.old + vec_len stations ≤ vec_capacity workers.old }
+    requires blank { IsBlank sheet.old.lines.items }
     ensures ready { All (S.ready serve.now) workers.new.items }
-    ensures later { AllZip S.later workers.old.items workers.new.items }
+    ensures later { AllZip S.later (workers.old.items ++ map worker_of stations.items) workers.new.items }
     ensures count { vec_len sheet.new.lines ≡ vec_len sheet.old.lines }
-    ensures lines { (k : ℕ) (served : S.Served) → slice_get sheet.new.lines.items k ≡ Some (Some served)
-        → IsServedFor (S.fits serve.now) jobs.now workers.old.items workers.new.items k served }
-    ensures err { IfErr result (λ e. e ≡ PoolFault.Memory) }
+    ensures lines { AreRightLines (S.fits serve.now) jobs.now (workers.old.items ++ map worker_of stations.items)
+        workers.new.items sheet.new.lines.items }
 {
-    let (queue, mut pass) = numbers;
-    let Ok(mut stations) = man(alloc, &queue, &mut pass, serve, workers, first) else {
-        return Err(PoolFault::Memory);
-    };
-    work_all(rt, &queue, serve, jobs, stations.as_mut_slice());
-    if gather(stations, workers, sheet) {
-        return Err(PoolFault::Memory);
-    }
-    Ok(())
+    unchanged::<S>(workers.as_slice());
+    work_all(rt, queue, serve, jobs, stations.as_mut_slice());
+    gather(stations, workers, sheet)
 }
 
 // Takes all memory but that of the threads, and puts the jobs' numbers into a queue.
 fn prepare<T: Drop, R: Wait>(rt: &R, alloc: Global, count: usize) -> Result<Prepared<T>, PoolFault>
     requires some { 0 < count }
-    ensures pass { IfOk result (λ p. IsPassOf p.numbers.0 p.numbers.1) }
+    ensures pass { IfOk result (λ p. IsPassOf p.queue p.pass) }
     ensures sheet { IfOk result (λ p. vec_len p.sheet.lines ≡ count) }
-    ensures blank { IfOk result (λ p. (k : ℕ) (served : T) → slice_get p.sheet.lines.items k ≢ Some (Some served)) }
+    ensures blank { IfOk result (λ p. IsBlank p.sheet.lines.items) }
     ensures results { IfOk result (λ p. (vec_len p.results ≡ 0) × (count ≤ vec_capacity p.results)) }
     ensures err { IfErr result (λ e. (e ≡ PoolFault.Memory) ⊎ (e ≡ PoolFault.Lost)) }
 {
@@ -117,10 +116,45 @@ fn prepare<T: Drop, R: Wait>(rt: &R, alloc: Global, count: usize) -> Result<Prep
         return Err(PoolFault::Lost);
     }
     Ok(Prepared {
-        numbers: (queue, pass),
+        queue,
+        pass,
         sheet,
         results,
     })
+}
+
+// Serves all jobs, of which there is one at least, by the workers from `first` on.
+fn serve_each<S: Serve + Sync, R: Threads + Wait + Sync>(
+    rt: &R,
+    alloc: Global,
+    serve: &S,
+    jobs: &[S::Job],
+    first: usize,
+    workers: &mut Vec<S::Worker>,
+) -> Result<Vec<S::Served>, PoolFault>
+    requires some { 0 < length jobs.now }
+    requires ready { All (S.ready serve.now) workers.old.items }
+    requires first { first ≤ vec_len workers.old }
+    ensures ready { All (S.ready serve.now) workers.new.items }
+    ensures later { AllZip S.later workers.old.items workers.new.items }
+    ensures count { IfOk result (λ v. vec_len v ≡ length jobs.now) }
+    ensures each { IfOk result (λ v. AreServed (S.fits serve.now) jobs.now workers.old.items workers.new.items v.items) }
+    ensures err { IfErr result (λ e. (e ≡ PoolFault.Memory) ⊎ (e ≡ PoolFault.Lost)) }
+{
+    unchanged::<S>(workers.as_slice());
+    let Prepared {
+        queue,
+        mut pass,
+        mut sheet,
+        results,
+    } = prepare(rt, alloc, jobs.len())?;
+    let Ok(stations) = man(alloc, &queue, &mut pass, serve, workers, first) else {
+        return Err(PoolFault::Memory);
+    };
+    if employ(rt, &queue, serve, jobs, stations, workers, &mut sheet) {
+        return Err(PoolFault::Memory);
+    }
+    sheet.read_out(results)
 }
 
 /// Serves all jobs in so many threads, each with one of the last workers: one result a job, in job order.
@@ -142,16 +176,19 @@ pub fn serve_all<S: Serve + Sync, R: Threads + Wait + Sync>(
     workers: &mut Vec<S::Worker>,
 ) -> Result<Vec<S::Served>, PoolFault>
     requires ready { All (S.ready serve.now) workers.old.items }
-    ensures bad_workers { (result ≡ Err PoolFault.BadWorkers) ↔ IsBadCount threads (vec_len workers.old) }
-    ensures too_many_jobs { (result ≡ Err PoolFault.TooManyJobs)
-        ↔ ((IsBadCount threads (vec_len workers.old) → ⊥) × (MAX_JOBS < length jobs.now)) }
-    ensures refused { (result ≡ Err PoolFault.BadWorkers) ⊎ (result ≡ Err PoolFault.TooManyJobs)
+    ensures bad_workers { IsBadCount threads (vec_len workers.old) → result ≡ Err PoolFault.BadWorkers }
+    ensures too_many_jobs { (IsBadCount threads (vec_len workers.old) → ⊥) → MAX_JOBS < length jobs.now
+        → result ≡ Err PoolFault.TooManyJobs }
+    ensures served { (IsBadCount threads (vec_len workers.old) → ⊥) → length jobs.now ≤ MAX_JOBS
+        → IsOk result ⊎ (result ≡ Err PoolFault.Memory) ⊎ (result ≡ Err PoolFault.Lost) }
+    ensures refused { IsBadCount threads (vec_len workers.old) ⊎ (MAX_JOBS < length jobs.now)
         → workers.new ≡ workers.old }
     ensures ready { All (S.ready serve.now) workers.new.items }
     ensures later { AllZip S.later workers.old.items workers.new.items }
     ensures count { IfOk result (λ v. vec_len v ≡ length jobs.now) }
     ensures each { IfOk result (λ v. AreServed (S.fits serve.now) jobs.now workers.old.items workers.new.items v.items) }
 {
+    unchanged::<S>(workers.as_slice());
     if threads == 0 || threads > MAX_WORKERS || threads > workers.len() {
         return Err(PoolFault::BadWorkers);
     }
@@ -161,14 +198,5 @@ pub fn serve_all<S: Serve + Sync, R: Threads + Wait + Sync>(
     if jobs.is_empty() {
         return Ok(Vec::new(alloc));
     }
-    let Prepared {
-        numbers,
-        mut sheet,
-        results,
-    } = prepare(rt, alloc, jobs.len())?;
-    let first = workers.len() - threads;
-    serve_by(
-        rt, alloc, numbers, serve, jobs, workers, first, &mut sheet,
-    )?;
-    sheet.read_out(results)
+    serve_each(rt, alloc, serve, jobs, workers.len() - threads, workers)
 }

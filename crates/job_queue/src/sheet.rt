@@ -1,6 +1,6 @@
 //! The results of all threads, brought into job order.
-ghost use Rattle.std.specs.Prelude.{◌≡◌, ◌≢◌, ◌⊎◌, ℕ, ◌+◌, ◌≤◌, ◌++◌, length, slice_get, Some, IfOk, vec_len, vec_capacity, map};
-ghost use Rattle.job_queue.specs.Sheet.{IsAmong, StandsIn, worker_of};
+ghost use Rattle.std.specs.Prelude.{◌≡◌, ◌≢◌, ◌⊎◌, ℕ, ◌+◌, ◌≤◌, ◌++◌, length, slice_get, Some, IfErr, IfOk, vec_len, vec_capacity, map};
+ghost use Rattle.job_queue.specs.Sheet.{IsAmong, IsBlank, StandsIn, worker_of};
 
 use crate::fault::PoolFault;
 use crate::station::{Numbered, Station};
@@ -17,7 +17,7 @@ pub struct Sheet<T> {
 impl<T: Drop> Sheet<T> {
     pub fn blank(alloc: Global, count: usize) -> Result<Sheet<T>, AllocError>
         ensures count { IfOk result (λ s. vec_len s.lines ≡ count) }
-        ensures blank { IfOk result (λ s. (k : ℕ) (served : T) → slice_get s.lines.items k ≢ Some (Some served)) }
+        ensures blank { IfOk result (λ s. IsBlank s.lines.items) }
     {
         let mut lines = Vec::with_capacity(alloc, count)?;
         for _ in 0..count {
@@ -64,6 +64,7 @@ impl<T: Drop> Sheet<T> {
         requires empty { vec_len results ≡ 0 }
         requires room { vec_len self.lines ≤ vec_capacity results }
         ensures lines { IfOk result (λ v. map Some v.items ≡ self.lines.items) }
+        ensures err { IfErr result (λ e. e ≡ PoolFault.Lost) }
     {
         let Sheet { lines, spoilt } = self;
         if spoilt {

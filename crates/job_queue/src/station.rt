@@ -34,8 +34,8 @@ fn work<S: Serve, R: Wait>(
     jobs: &[S::Job],
     station: &mut Station<S::Worker, S::Served>,
 )
-    requires { IsFresh (IsPassOf queue.now) (S.ready serve.now) station.old }
-    ensures { HasServed (S.fits serve.now) S.later jobs.now (IsPassOf queue.now) (S.ready serve.now) station.old.worker station.new }
+    requires fresh { IsFresh (IsPassOf queue.now) (S.ready serve.now) station.old }
+    ensures served { HasServed (S.fits serve.now) S.later jobs.now (IsPassOf queue.now) (S.ready serve.now) station.old.worker station.new }
 {
     for _ in 0..jobs.len() {
         if station.results.reserve(1).is_err() {
@@ -61,7 +61,7 @@ pub fn work_all<S: Serve + Sync, R: Threads + Wait + Sync>(
     jobs: &[S::Job],
     stations: &mut [Station<S::Worker, S::Served>],
 )
-    requires { All (IsFresh (IsPassOf queue.now) (S.ready serve.now)) stations.old }
+    requires fresh { All (IsFresh (IsPassOf queue.now) (S.ready serve.now)) stations.old }
     ensures count { length stations.new ≡ length stations.old }
     ensures each { (k : ℕ) (d : Station S.Worker S.Served) → k < length stations.old
         → HasServed (S.fits serve.now) S.later jobs.now (IsPassOf queue.now) (S.ready serve.now)

@@ -1,6 +1,6 @@
 use Rattle.std.proofs.Common.{◌≡◌, sym, ap, refl}
 use Rattle.job_queue.specs.declared.numbers.PassView.{PassView}
-use Rattle.job_queue.proofs.Numbers.{puts, learns}
+use Rattle.job_queue.proofs.QueueRule.{puts, learns}
 use Rattle.job_queue.proofs.numbers.fill.Goals as goal
 
 pub push_as-requires-clause-rule : goal.push_as-requires-clause-rule

@@ -1,8 +1,9 @@
 use Rattle.std.proofs.Common.{rules, ◌++◌, ◌∷◌, [], ◌≡◌, ap, ◌∙◌, sym, subst, refl}
 use Rattle.std.specs.Prelude.{All}
 use Rattle.std.proofs.lemmas.Option.{slice_get_read}
+use Rattle.job_queue.specs.declared.station.Numbered.{Numbered}
 use Rattle.job_queue.specs.Serving.{IsRightNumbered}
-use Rattle.job_queue.proofs.Numbers.{takes, learns}
+use Rattle.job_queue.proofs.QueueRule.{takes, learns}
 use Rattle.job_queue.proofs.Serving.{one_more}
 use Rattle.job_queue.proofs.station.work.Goals as goal
 
@@ -17,7 +18,7 @@ loop-preserved g c =
     let first = c.args.station.now.worker in
     let was = c.loop.station.worker in
     let is = c.serve-served.new.worker in
-    let one = record { number = c.in-Some.number; served = c.serve-served.result } in
+    let one : Numbered _ = record { number = c.in-Some.number; served = c.serve-served.result } in
     let items = c.push_reserved.ensures.items ∙ ap (λ z. z ++ one ∷ []) c.reserve.ensures.items in
     let fits = g.S.Serve.fits c.args.serve.now in
     record {

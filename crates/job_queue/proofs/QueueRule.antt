@@ -59,7 +59,7 @@ module _ (views : List PassView) (by : ℕ) (v w : PassView) (at : get_elem? vie
 pub puts : (n by : ℕ) (v : PassView) (x : ℕ) → v.puts ≡ true → x ≡ v.next → Pushes HandsOutOnce n by v x (λ w. w ≡ pass_view v.puts (v.next + 1) v.taken)
 puts n by v x may is items views room h at =
     let mine = h.each by v at in
-    let next = mine.next may in
+    let own = mine.next may in
     let w = pass_view v.puts (v.next + 1) v.taken in
     let len : length (items ++ x ∷ []) ≡ length items + 1 = length-append items (x ∷ []) in (
       w,
