@@ -1,5 +1,5 @@
 -- Results of stations, one after another, and where they stand in the end.
-use Rattle.std.proofs.Common.{◌≡◌, ◌≢◌, ℕ, ◌+◌, ◌<◌, ◌≤◌, List, [], ◌∷◌, ◌++◌, length, get_or, sym, ap, ◌∙◌, subst, arith, length-append, ⊎_elim, ◌⊎◌, map, zero, suc, refl, take, drop, append-nil}
+use Rattle.std.proofs.Common.{◌≡◌, ℕ, ◌+◌, ◌<◌, List, [], ◌∷◌, ◌++◌, length, get_or, sym, ap, ◌∙◌, subst, arith, length-append, map, zero, suc, refl, take, drop, append-nil}
 use Rattle.std.specs.Prelude.{All, slice_get, slice_index_or, Option, Some, option_map, unwrap_or}
 use Rattle.std.specs.List.{AllZip}
 use Rattle.std.proofs.lemmas.List.Elements.{All-append, All-map}
@@ -11,7 +11,7 @@ use mathlib.Core.Logic.{dite}
 use native.Mathlib.Decide.{ℕ_discrete}
 use Rattle.job_queue.specs.declared.station.Numbered.{Numbered}
 use Rattle.std.proofs.lemmas.Option.{slice_get_within, slice_get-get_or, slice_get-map, get_or_from_slice_get}
-use Rattle.std.proofs.lemmas.List.{length-map, take_all, drop_all}
+use Rattle.std.proofs.lemmas.List.{take_all, drop_all}
 use Rattle.job_queue.specs.declared.station.Station.{Station}
 use Rattle.job_queue.specs.Serving.{IsRight, IsRightNumbered, HasServed, IsServedByOne, IsServedFor, AreRightLines, AreServed}
 use Rattle.job_queue.specs.Sheet.{IsAmong, StandsIn, worker_of}
@@ -84,7 +84,7 @@ module _ {J W T : Type 0} (fits : W → W → J → T → Type 0) (later : W →
       let a = s.among in
       let one : Numbered T = record { number = k; served = served } in
       let r : IsRight fits jobs first s.station.worker k served = subst (IsRightNumbered fits jobs first s.station.worker) (get_or_from_slice_get s.station.results.items a.index one one a.at)
-          (work.results a.index one (slice_get_within s.station.results.items a.index one a.at)) in
+      (work.results a.index one (slice_get_within s.station.results.items a.index one a.at)) in
       record {
         job = r.job;
         at = r.at;

@@ -1,5 +1,5 @@
 -- What a pool's results say.
-use Rattle.std.specs.Prelude.{◌≡◌, ◌⊎◌, ℕ, ◌<◌, List, [], length, slice_get, Option, Some, All}
+use Rattle.std.specs.Prelude.{◌≡◌, ◌⊎◌, ℕ, ◌<◌, List, [], slice_get, Option, Some, All}
 use Rattle.crossbeam_queue.specs.Passes.{Pass}
 use Rattle.job_queue.specs.declared.numbers.PassView.{PassView}
 use Rattle.job_queue.specs.declared.pool.TheConstants.{MAX_WORKERS}

@@ -65,7 +65,7 @@ pub fn work_all<S: Serve + Sync, R: Threads + Wait + Sync>(
     ensures count { length stations.new ≡ length stations.old }
     ensures each { (k : ℕ) (d : Station S.Worker S.Served) → k < length stations.old
         → HasServed (S.fits serve.now) S.later jobs.now (IsPassOf queue.now) (S.ready serve.now)
-            (slice_index_or stations.old k d).worker (slice_index_or stations.new k d) }
+        (slice_index_or stations.old k d).worker (slice_index_or stations.new k d) }
 {
     thread::for_each_mut(
         rt,

@@ -1,4 +1,4 @@
-use Rattle.std.proofs.Common.{◌≡◌, sym, ap, refl}
+use Rattle.std.proofs.Common.{sym, ap}
 use Rattle.job_queue.specs.declared.numbers.PassView.{PassView}
 use Rattle.job_queue.proofs.QueueRule.{puts, learns}
 use Rattle.job_queue.proofs.numbers.fill.Goals as goal

@@ -1,4 +1,4 @@
-use Rattle.std.proofs.Common.{◌≡◌, ◌++◌, map, ap, length, ⊎_elim, ◌∙◌, subst}
+use Rattle.std.proofs.Common.{◌++◌, map, ap, length, ⊎_elim, ◌∙◌, subst}
 use Rattle.std.specs.List.{AllZip}
 use Rattle.crossbeam_queue.specs.Passes.{IsPassOf}
 use Rattle.job_queue.specs.Serving.{IsServedFor}

@@ -1,6 +1,5 @@
-use Rattle.std.proofs.Common.{rules, ◌≡◌, ◌++◌, ◌+◌, ◌-◌, ◌≤◌, length, map, take, drop, sym, ap, ◌∙◌, subst, arith, vec_len, inl, inr}
+use Rattle.std.proofs.Common.{◌≡◌, ◌++◌, ◌-◌, length, map, take, sym, ap, ◌∙◌, subst, arith, vec_len, inr}
 use Rattle.std.specs.Prelude.{All}
-use Rattle.std.specs.List.{AllZip}
 use Rattle.std.proofs.lemmas.List.{take-append-drop, length-map, length-drop, length-take-le}
 use Rattle.std.proofs.lemmas.List.Elements.{All-take}
 use Rattle.std.proofs.lemmas.Result.{IfOk-weaker, IfErr-weaker}

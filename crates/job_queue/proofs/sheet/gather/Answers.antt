@@ -1,4 +1,4 @@
-use Rattle.std.proofs.Common.{rules, ◌≡◌, ◌++◌, ◌∷◌, [], ◌∙◌, ap, sym, map, ⊎_elim, inl, inr}
+use Rattle.std.proofs.Common.{rules, ◌++◌, ◌∷◌, [], ◌∙◌, ap, sym, map, ⊎_elim, inl, inr}
 use Rattle.std.proofs.lemmas.List.{map-append, append_assoc}
 use Rattle.job_queue.specs.Sheet.{worker_of}
 use Rattle.job_queue.proofs.Serving.{stands_before, stands_last}

@@ -1,4 +1,4 @@
-use Rattle.std.proofs.Common.{rules, ◌++◌, ◌∷◌, [], ◌≡◌, ap, ◌∙◌, sym, subst, refl}
+use Rattle.std.proofs.Common.{rules, ◌++◌, ◌∷◌, [], ap, ◌∙◌, sym, subst, refl}
 use Rattle.std.specs.Prelude.{All}
 use Rattle.std.proofs.lemmas.Option.{slice_get_read}
 use Rattle.job_queue.specs.declared.station.Numbered.{Numbered}
@@ -29,6 +29,9 @@ loop-preserved g c =
           (one_more fits c.args.jobs.now first was is
           (λ job served. laws.fits_wider c.args.serve.now first first was is job served (laws.later_same first) e.later)
           c.loop.station.results.items one i.results
-          record { job = c.in-Some-get.job.now; at = (let k = c.in-Some-get.ensures.lookup in slice_get_read c.args.jobs.now _ c.in-Some.number c.in-Some-get.job.now refl k.3.0 k.1);
-            right = laws.fits_wider c.args.serve.now first was is is c.in-Some-get.job.now c.serve-served.result i.later_now (laws.later_same is) e.fits });
+          record {
+            job = c.in-Some-get.job.now;
+            at = (let k = c.in-Some-get.ensures.lookup in slice_get_read c.args.jobs.now _ c.in-Some.number c.in-Some-get.job.now refl k.3.0 k.1);
+            right = laws.fits_wider c.args.serve.now first was is is c.in-Some-get.job.now c.serve-served.result i.later_now (laws.later_same is) e.fits;
+          });
     }

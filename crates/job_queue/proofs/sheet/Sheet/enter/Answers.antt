@@ -1,4 +1,4 @@
-use Rattle.std.proofs.Common.{rules, ◌≡◌, ◌∙◌, ⊎_elim, inl, inr}
+use Rattle.std.proofs.Common.{◌≡◌, ◌∙◌, ⊎_elim, inl, inr}
 use Rattle.job_queue.proofs.Serving.{among_before, among_last}
 use Rattle.job_queue.proofs.sheet.Sheet.enter.Goals as goal
 
