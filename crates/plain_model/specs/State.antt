@@ -1,5 +1,5 @@
 -- What the machine stands for, in the words of the definitions.
-use Rattle.std.specs.Prelude.{map}
+use Rattle.std.specs.Prelude.{[], map}
 use Rattle.bpf_model.specs.Machine as machine
 use Rattle.bpf_model.specs.Schedule as schedule
 use Rattle.plain_store.specs.State.{store_of, queues_of}
@@ -7,8 +7,21 @@ use Rattle.plain_runs.specs.State.{loaded_of, runs_of}
 use Rattle.plain_model.specs.declared.machine.Machine.{Machine}
 
 abbrev pub machine_of : Machine → machine.Machine
-machine_of m = record { store = store_of m.store; runs = runs_of m.programs.items m.runs.items; started = m.started; programs = map loaded_of m.programs.items }
+machine_of m = record {
+  store = store_of m.store;
+  runs = runs_of m.programs.items m.runs.items;
+  started = m.started;
+  programs = map loaded_of m.programs.items;
+}
+
+-- the lists of a map in which nothing is unlinked
+abbrev pub no_queues : schedule.Queues
+no_queues = record { next = []; waiting = []; ready = [] }
 
 -- the machine with the runtime's own lists
 abbrev pub schedule_of : Machine → schedule.Schedule
-schedule_of m = record { machine = machine_of m; queues = map queues_of m.queues.items; awaited = m.awaited.items }
+schedule_of m = record {
+  machine = machine_of m;
+  queues = map queues_of m.queues.items;
+  awaited = m.awaited.items;
+}
