@@ -1,7 +1,8 @@
 -- The numbers of a pool's faults.
 use Rattle.std.specs.Prelude.{ℕ}
 use Rattle.job_queue.specs.declared.fault.PoolFault.{PoolFault}
-use Rattle.job_queue.specs.declared.fault.PoolFault.TheVariants.{BadWorkers, TooManyJobs, Memory, Lost}
+use Rattle.job_queue.specs.declared.fault.PoolFault.TheVariants.{BadWorkers, TooManyJobs, Memory}
+use Rattle.job_queue.specs.declared.fault.PoolFault.TheVariants.{Lost}
 
 abbrev pub pool_fault_number : PoolFault → ℕ
 pool_fault_number BadWorkers = 90

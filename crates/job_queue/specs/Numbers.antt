@@ -21,17 +21,20 @@ abbrev pub FallsFrom : ℕ → List ℕ → Type 0
 FallsFrom top [] = Unit {0}
 FallsFrom top (x ∷ xs) = (x < top) × FallsFrom x xs
 
--- What a pass knows is so of a queue that holds `count` numbers from `front` on: the one pass that puts numbers in knows the next; what was
--- taken is below `front`.
+-- What a pass knows is so of a queue that holds `count` numbers from `front` on: the one pass that
+-- puts numbers in knows the next; what was taken is below `front`.
 pub record KnowsPass (front count putter by : ℕ) (v : PassView) : Type 0 where
   pub next : v.puts ≡ true → (by ≡ putter) × (v.next ≡ front + count)
   pub once : FallsFrom front v.taken
 
--- The queue holds the numbers from `front` on. Those below it were taken, none of them by two passes or twice by one.
+-- The queue holds the numbers from `front` on. Those below it were taken, none of them by two
+-- passes or twice by one.
 pub record HandsOutOnce (numbers : List ℕ) (views : List PassView) : Type 0 where
   pub front : ℕ
   pub putter : ℕ
   pub in_order : CountsFrom front numbers
-  pub each : (by : ℕ) (v : PassView) → get_elem? views by ≡ some v → KnowsPass front (length numbers) putter by v
-  pub apart : (by other x : ℕ) (v w : PassView) → by ≢ other → get_elem? views by ≡ some v → get_elem? views other ≡ some w
+  pub each : (by : ℕ) (v : PassView) → get_elem? views by ≡ some v →
+      KnowsPass front (length numbers) putter by v
+  pub apart : (by other x : ℕ) (v w : PassView) → by ≢ other → get_elem? views by ≡ some v →
+      get_elem? views other ≡ some w
       → HasNumber x v.taken → HasNumber x w.taken → ⊥

@@ -12,7 +12,8 @@ pub record IsAmong {T : Type 0} (results : List (Numbered T)) (k : ℕ) (served 
   pub at : slice_get results index ≡ Some (record { number = k; served = served })
 
 -- one of the stations has this result, under this number
-pub record StandsIn {W T : Type 0} (stations : List (Station W T)) (k : ℕ) (served : T) : Type 0 where
+pub record StandsIn {W T : Type 0} (stations : List (Station W T)) (k : ℕ) (served : T)
+    : Type 0 where
   pub index : ℕ
   pub station : Station W T
   pub at : slice_get stations index ≡ Some station

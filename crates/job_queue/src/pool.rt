@@ -47,7 +47,8 @@ fn man<S: Serve>(
     requires pass { IsPassOf queue.now pass.old }
     requires ready { All (S.ready serve.now) workers.old.items }
     requires first { first ≤ vec_len workers.old }
-    ensures fresh { IfOk result (λ v. All (IsFresh (IsPassOf queue.now) (S.ready serve.now)) v.items) }
+    ensures fresh { IfOk result (λ v.
+        All (IsFresh (IsPassOf queue.now) (S.ready serve.now)) v.items) }
     ensures stations { IfOk result (λ v. map worker_of v.items ≡ drop first workers.old.items) }
     ensures workers { OnOk result (workers.new.items ≡ take first workers.old.items) }
     ensures capacity { vec_capacity workers.new ≡ vec_capacity workers.old }
@@ -86,8 +87,9 @@ fn employ<S: Serve + Sync, R: Threads + Wait + Sync>(
     ensures ready { All (S.ready serve.now) workers.new.items }
     ensures later { AllZip S.later (workers.old.items ++ map worker_of stations.items) workers.new.items }
     ensures count { vec_len sheet.new.lines ≡ vec_len sheet.old.lines }
-    ensures lines { AreRightLines (S.fits serve.now) jobs.now (workers.old.items ++ map worker_of stations.items)
-        workers.new.items sheet.new.lines.items }
+    ensures lines { AreRightLines (S.fits serve.now) jobs.now
+        (workers.old.items ++ map worker_of stations.items) workers.new.items
+        sheet.new.lines.items }
 {
     unchanged::<S>(workers.as_slice());
     work_all(rt, queue, serve, jobs, stations.as_mut_slice());
@@ -138,7 +140,8 @@ fn serve_each<S: Serve + Sync, R: Threads + Wait + Sync>(
     ensures ready { All (S.ready serve.now) workers.new.items }
     ensures later { AllZip S.later workers.old.items workers.new.items }
     ensures count { IfOk result (λ v. vec_len v ≡ length jobs.now) }
-    ensures each { IfOk result (λ v. AreServed (S.fits serve.now) jobs.now workers.old.items workers.new.items v.items) }
+    ensures each { IfOk result (λ v.
+        AreServed (S.fits serve.now) jobs.now workers.old.items workers.new.items v.items) }
     ensures err { IfErr result (λ e. (e ≡ PoolFault.Memory) ⊎ (e ≡ PoolFault.Lost)) }
 {
     unchanged::<S>(workers.as_slice());
@@ -177,16 +180,18 @@ pub fn serve_all<S: Serve + Sync, R: Threads + Wait + Sync>(
 ) -> Result<Vec<S::Served>, PoolFault>
     requires ready { All (S.ready serve.now) workers.old.items }
     ensures bad_workers { IsBadCount threads (vec_len workers.old) → result ≡ Err PoolFault.BadWorkers }
-    ensures too_many_jobs { (IsBadCount threads (vec_len workers.old) → ⊥) → MAX_JOBS < length jobs.now
-        → result ≡ Err PoolFault.TooManyJobs }
-    ensures served { (IsBadCount threads (vec_len workers.old) → ⊥) → length jobs.now ≤ MAX_JOBS
+    ensures too_many_jobs { (IsBadCount threads (vec_len workers.old) → ⊥)
+        → MAX_JOBS < length jobs.now → result ≡ Err PoolFault.TooManyJobs }
+    ensures served { (IsBadCount threads (vec_len workers.old) → ⊥)
+        → length jobs.now ≤ MAX_JOBS
         → IsOk result ⊎ (result ≡ Err PoolFault.Memory) ⊎ (result ≡ Err PoolFault.Lost) }
     ensures refused { IsBadCount threads (vec_len workers.old) ⊎ (MAX_JOBS < length jobs.now)
         → workers.new ≡ workers.old }
     ensures ready { All (S.ready serve.now) workers.new.items }
     ensures later { AllZip S.later workers.old.items workers.new.items }
     ensures count { IfOk result (λ v. vec_len v ≡ length jobs.now) }
-    ensures each { IfOk result (λ v. AreServed (S.fits serve.now) jobs.now workers.old.items workers.new.items v.items) }
+    ensures each { IfOk result (λ v.
+        AreServed (S.fits serve.now) jobs.now workers.old.items workers.new.items v.items) }
 {
     unchanged::<S>(workers.as_slice());
     if threads == 0 || threads > MAX_WORKERS || threads > workers.len() {

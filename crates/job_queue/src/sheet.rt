@@ -32,8 +32,10 @@ impl<T: Drop> Sheet<T> {
     // Puts a result on its line. A double, or one of no job, spoils the sheet.
     fn put(&mut self, one: Numbered<T>)
         ensures count { vec_len self.new.lines ≡ vec_len self.old.lines }
-        ensures lines { (k : ℕ) (served : T) → slice_get self.new.lines.items k ≡ Some (Some served)
-            → (slice_get self.old.lines.items k ≡ Some (Some served)) ⊎ ((k ≡ one.number) × (served ≡ one.served)) }
+        ensures lines { (k : ℕ) (served : T)
+            → slice_get self.new.lines.items k ≡ Some (Some served)
+            → (slice_get self.old.lines.items k ≡ Some (Some served))
+            ⊎ ((k ≡ one.number) × (served ≡ one.served)) }
     {
         let Numbered { number, served } = one;
         match self.lines.get_mut(number as usize) {
@@ -51,8 +53,10 @@ impl<T: Drop> Sheet<T> {
     // Puts all results of a station on their lines.
     fn enter(&mut self, results: Vec<Numbered<T>>)
         ensures count { vec_len self.new.lines ≡ vec_len self.old.lines }
-        ensures lines { (k : ℕ) (served : T) → slice_get self.new.lines.items k ≡ Some (Some served)
-            → (slice_get self.old.lines.items k ≡ Some (Some served)) ⊎ IsAmong results.items k served }
+        ensures lines { (k : ℕ) (served : T)
+            → slice_get self.new.lines.items k ≡ Some (Some served)
+            → (slice_get self.old.lines.items k ≡ Some (Some served))
+            ⊎ IsAmong results.items k served }
     {
         for one in results {
             self.put(one);
@@ -90,8 +94,10 @@ pub fn gather<W: Drop, T: Drop>(
     requires room { vec_len workers.old + vec_len stations ≤ vec_capacity workers.old }
     ensures workers { workers.new.items ≡ workers.old.items ++ map worker_of stations.items }
     ensures count { vec_len sheet.new.lines ≡ vec_len sheet.old.lines }
-    ensures lines { (k : ℕ) (served : T) → slice_get sheet.new.lines.items k ≡ Some (Some served)
-        → (slice_get sheet.old.lines.items k ≡ Some (Some served)) ⊎ StandsIn stations.items k served }
+    ensures lines { (k : ℕ) (served : T)
+        → slice_get sheet.new.lines.items k ≡ Some (Some served)
+        → (slice_get sheet.old.lines.items k ≡ Some (Some served))
+        ⊎ StandsIn stations.items k served }
 {
     let mut any_short = false;
     for station in stations {

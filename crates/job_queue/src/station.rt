@@ -35,7 +35,8 @@ fn work<S: Serve, R: Wait>(
     station: &mut Station<S::Worker, S::Served>,
 )
     requires fresh { IsFresh (IsPassOf queue.now) (S.ready serve.now) station.old }
-    ensures served { HasServed (S.fits serve.now) S.later jobs.now (IsPassOf queue.now) (S.ready serve.now) station.old.worker station.new }
+    ensures served { HasServed (S.fits serve.now) S.later jobs.now (IsPassOf queue.now)
+        (S.ready serve.now) station.old.worker station.new }
 {
     for _ in 0..jobs.len() {
         if station.results.reserve(1).is_err() {
@@ -73,7 +74,9 @@ pub fn work_all<S: Serve + Sync, R: Threads + Wait + Sync>(
         8,
         &|_, station: &mut Station<S::Worker, S::Served>|
             requires { IsFresh (IsPassOf queue.now) (S.ready serve.now) station.old }
-            ensures { HasServed (S.fits serve.entry.now) S.later jobs.entry.now (IsPassOf queue.entry.now) (S.ready serve.entry.now) station.old.worker station.new }
+            ensures { HasServed (S.fits serve.entry.now) S.later jobs.entry.now
+                (IsPassOf queue.entry.now) (S.ready serve.entry.now)
+                station.old.worker station.new }
         { work(rt, queue, serve, jobs, station) },
     );
 }
