@@ -6,9 +6,9 @@ use Rattle.crossbeam_queue.specs.Fifo.{Pushes, Pops, Forks, Learns}
 use Rattle.crossbeam_queue.proofs.Lists.{at_set}
 use Rattle.atomic_table.proofs.Lists.{set_again}
 use Rattle.job_queue.specs.declared.numbers.PassView.{PassView}
-use Rattle.job_queue.specs.Numbers.{pass_view, CountsFrom, HasNumber, FallsFrom, KnowsPass, HandsOutOnce}
+use Rattle.job_queue.specs.Numbers.{pass_view, CountsFrom, WasTaken, FallsFrom, KnowsPass, HandsOutOnce}
 
-below : (top x : ℕ) (xs : List ℕ) → FallsFrom top xs → HasNumber x xs → x < top
+below : (top x : ℕ) (xs : List ℕ) → FallsFrom top xs → WasTaken x xs → x < top
 below top x [] f a = absurd a
 below top x (y ∷ ys) f a = ⊎_elim (λ e. let l = f.0 in omega arith) (λ t. let l = f.0 in let m = below y x ys f.1 t in omega arith) a
 
@@ -27,12 +27,12 @@ begins = record { front = 0; putter = 0; in_order = tt; each = one; apart = λ b
     one zero v e = subst (KnowsPass 0 0 0 0) (some-injective _ _ e) record { next = λ _. (refl, refl); once = tt }
     one (suc by) v e = absurd (some-ne-none v (sym e))
 
-    none : (by : ℕ) (v : PassView) → get_elem? (pass_view true 0 [] ∷ []) by ≡ some v → (x : ℕ) → HasNumber x v.taken → ⊥
-    none zero v e x a = subst (λ (z : PassView). HasNumber x z.taken → ⊥) (some-injective _ _ e) (λ z. z) a
+    none : (by : ℕ) (v : PassView) → get_elem? (pass_view true 0 [] ∷ []) by ≡ some v → (x : ℕ) → WasTaken x v.taken → ⊥
+    none zero v e x a = subst (λ (z : PassView). WasTaken x z.taken → ⊥) (some-injective _ _ e) (λ z. z) a
     none (suc by) v e x a = absurd (some-ne-none v (sym e))
 
 abbrev Apart : List PassView → Type 0
-Apart views = (by other x : ℕ) (v w : PassView) → by ≢ other → get_elem? views by ≡ some v → get_elem? views other ≡ some w → HasNumber x v.taken → HasNumber x w.taken → ⊥
+Apart views = (by other x : ℕ) (v w : PassView) → by ≢ other → get_elem? views by ≡ some v → get_elem? views other ≡ some w → WasTaken x v.taken → WasTaken x w.taken → ⊥
 
 -- after a change of the pass `by` from v to w
 module _ (views : List PassView) (by : ℕ) (v w : PassView) (at : get_elem? views by ≡ some v) where
@@ -40,18 +40,18 @@ module _ (views : List PassView) (by : ℕ) (v w : PassView) (at : get_elem? vie
   each_set F mine others j u e = ⊎_elim (λ (t : (j ≡ by) × (w ≡ u)). subst (λ (y : ℕ × PassView). F y.0 y.1) (λ i. (sym t.0 i, t.1 i)) mine)
       (λ (t : (j ≢ by) × (get_elem? views j ≡ some u)). others j u t.0 t.1) (at_set views by j w u e)
 
-  mixed : Apart views → ((y : ℕ) → HasNumber y w.taken → HasNumber y v.taken ⊎ ((j : ℕ) (u : PassView) → get_elem? views j ≡ some u → HasNumber y u.taken → ⊥))
-      → (k : ℕ) (q : PassView) (y : ℕ) → k ≢ by → get_elem? views k ≡ some q → HasNumber y w.taken → HasNumber y q.taken → ⊥
+  mixed : Apart views → ((y : ℕ) → WasTaken y w.taken → WasTaken y v.taken ⊎ ((j : ℕ) (u : PassView) → get_elem? views j ≡ some u → WasTaken y u.taken → ⊥))
+      → (k : ℕ) (q : PassView) (y : ℕ) → k ≢ by → get_elem? views k ≡ some q → WasTaken y w.taken → WasTaken y q.taken → ⊥
   mixed apart new k q y ne e a b = ⊎_elim (λ t. apart by k y v q (λ z. ne (sym z)) at e t b) (λ t. t k q e b) (new y a)
 
-  apart_set : Apart views → ((y : ℕ) → HasNumber y w.taken → HasNumber y v.taken ⊎ ((j : ℕ) (u : PassView) → get_elem? views j ≡ some u → HasNumber y u.taken → ⊥)) → Apart (set views by w)
+  apart_set : Apart views → ((y : ℕ) → WasTaken y w.taken → WasTaken y v.taken ⊎ ((j : ℕ) (u : PassView) → get_elem? views j ≡ some u → WasTaken y u.taken → ⊥)) → Apart (set views by w)
   apart_set apart new j k y p q ne a b c d = ⊎_elim
       (λ (s : (j ≡ by) × (w ≡ p)). ⊎_elim
       (λ (t : (k ≡ by) × (w ≡ q)). ne (s.0 ∙ sym t.0))
-      (λ (t : (k ≢ by) × (get_elem? views k ≡ some q)). mixed apart new k q y t.0 t.1 (subst (λ (z : PassView). HasNumber y z.taken) (sym s.1) c) d)
+      (λ (t : (k ≢ by) × (get_elem? views k ≡ some q)). mixed apart new k q y t.0 t.1 (subst (λ (z : PassView). WasTaken y z.taken) (sym s.1) c) d)
       (at_set views by k w q b))
       (λ (s : (j ≢ by) × (get_elem? views j ≡ some p)). ⊎_elim
-      (λ (t : (k ≡ by) × (w ≡ q)). mixed apart new j p y s.0 s.1 (subst (λ (z : PassView). HasNumber y z.taken) (sym t.1) d) c)
+      (λ (t : (k ≡ by) × (w ≡ q)). mixed apart new j p y s.0 s.1 (subst (λ (z : PassView). WasTaken y z.taken) (sym t.1) d) c)
       (λ (t : (k ≢ by) × (get_elem? views k ≡ some q)). apart j k y p q ne s.1 t.1 c d)
       (at_set views by k w q b))
       (at_set views by j w p a)
@@ -80,7 +80,7 @@ takes by v x items views h at =
     let w = pass_view v.puts v.next (x ∷ v.taken) in
     let first : x ≡ h.front = h.in_order.0 in
     let len : length (x ∷ items) ≡ length items + 1 = omega arith in
-    let old : (j : ℕ) (u : PassView) → get_elem? views j ≡ some u → HasNumber x u.taken → ⊥ = λ j u e a. let f = h.each j u e in let l = below h.front x u.taken f.once a in absurd (omega arith) in (
+    let old : (j : ℕ) (u : PassView) → get_elem? views j ≡ some u → WasTaken x u.taken → ⊥ = λ j u e a. let f = h.each j u e in let l = below h.front x u.taken f.once a in absurd (omega arith) in (
       w,
       record {
         front = h.front + 1;
@@ -88,7 +88,7 @@ takes by v x items views h at =
         in_order = h.in_order.1;
         each = each_set views by v w at (KnowsPass (h.front + 1) (length items) h.putter) record { next = λ p. ((mine.next p).0, let e = (mine.next p).1 in omega arith); once = (omega arith, subst (λ z. FallsFrom z v.taken) (sym first) mine.once) }
             (λ j u ne e. let f = h.each j u e in record { next = λ p. ((f.next p).0, let e = (f.next p).1 in omega arith); once = falls_more h.front (h.front + 1) u.taken (omega arith) f.once });
-        apart = apart_set views by v w at h.apart (λ y a. ⊎_elim (λ (z : y ≡ x). inr (λ j u e b. old j u e (subst (λ t. HasNumber t u.taken) z b))) (λ t. inl t) a);
+        apart = apart_set views by v w at h.apart (λ y a. ⊎_elim (λ (z : y ≡ x). inr (λ j u e b. old j u e (subst (λ t. WasTaken t u.taken) z b))) (λ t. inl t) a);
       },
       refl,
     )
@@ -112,9 +112,9 @@ forks by v items views h at =
           (at_end (set views by v) w u j e);
       apart = λ j k y p q ne a b c d. ⊎_elim
           (λ s. ⊎_elim (λ t. h.apart j k y p q ne (subst (λ l. get_elem? l j ≡ some p) same s) (subst (λ l. get_elem? l k ≡ some q) same t) c d)
-          (λ (t : (k ≡ length (set views by v)) × (w ≡ q)). subst (λ (z : PassView). HasNumber y z.taken) (sym t.1) d)
+          (λ (t : (k ≡ length (set views by v)) × (w ≡ q)). subst (λ (z : PassView). WasTaken y z.taken) (sym t.1) d)
           (at_end (set views by v) w q k b))
-          (λ (s : (j ≡ length (set views by v)) × (w ≡ p)). subst (λ (z : PassView). HasNumber y z.taken) (sym s.1) c)
+          (λ (s : (j ≡ length (set views by v)) × (w ≡ p)). subst (λ (z : PassView). WasTaken y z.taken) (sym s.1) c)
           (at_end (set views by v) w p j a);
     }
 

@@ -12,9 +12,9 @@ abbrev pub CountsFrom : ℕ → List ℕ → Type 0
 CountsFrom n [] = Unit {0}
 CountsFrom n (x ∷ xs) = (x ≡ n) × CountsFrom (n + 1) xs
 
-abbrev pub HasNumber : ℕ → List ℕ → Type 0
-HasNumber x [] = ⊥
-HasNumber x (y ∷ ys) = (x ≡ y) ⊎ HasNumber x ys
+abbrev pub WasTaken : ℕ → List ℕ → Type 0
+WasTaken x [] = ⊥
+WasTaken x (y ∷ ys) = (x ≡ y) ⊎ WasTaken x ys
 
 -- each number is below the one that was taken after it, and all are below `top`
 abbrev pub FallsFrom : ℕ → List ℕ → Type 0
@@ -37,4 +37,4 @@ pub record HandsOutOnce (numbers : List ℕ) (views : List PassView) : Type 0 wh
       KnowsPass front (length numbers) putter by v
   pub apart : (by other x : ℕ) (v w : PassView) → by ≢ other → get_elem? views by ≡ some v →
       get_elem? views other ≡ some w
-      → HasNumber x v.taken → HasNumber x w.taken → ⊥
+      → WasTaken x v.taken → WasTaken x w.taken → ⊥

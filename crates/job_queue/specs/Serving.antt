@@ -49,7 +49,7 @@ module _ {J W T : Type 0} (fits : W → W → J → T → Type 0) where
   IsRightNumbered jobs first last one = IsRight jobs first last one.number one.served
 
 -- a station that has served nothing yet: its pass is the queue's, and its worker may serve
-pub record IsFresh {W T : Type 0} (of_queue : Pass ℕ PassView → Type 0) (ready : W → Type 0)
+pub record IsNewStation {W T : Type 0} (of_queue : Pass ℕ PassView → Type 0) (ready : W → Type 0)
     (s : Station W T) : Type 0 where
   pub pass : of_queue s.pass
   pub ready_now : ready s.worker

@@ -3,7 +3,7 @@ ghost use Rattle.std.specs.Prelude.{◌≡◌, ◌⊎◌, ◌+◌, ◌<◌, ◌�
 ghost use Rattle.std.specs.List.{AllZip};
 ghost use Rattle.crossbeam_queue.specs.Passes.{IsPassOf};
 ghost use Rattle.job_queue.specs.declared.pool.TheConstants.{MAX_JOBS};
-ghost use Rattle.job_queue.specs.Serving.{IsFresh, AreRightLines, AreServed, IsBadCount};
+ghost use Rattle.job_queue.specs.Serving.{IsNewStation, AreRightLines, AreServed, IsBadCount};
 ghost use Rattle.job_queue.specs.Sheet.{worker_of, IsBlank};
 
 use crate::fault::PoolFault;
@@ -48,7 +48,7 @@ fn man<S: Serve>(
     requires ready { All (S.ready serve.now) workers.old.items }
     requires first { first ≤ vec_len workers.old }
     ensures fresh { IfOk result (λ v.
-        All (IsFresh (IsPassOf queue.now) (S.ready serve.now)) v.items) }
+        All (IsNewStation (IsPassOf queue.now) (S.ready serve.now)) v.items) }
     ensures stations { IfOk result (λ v. map worker_of v.items ≡ drop first workers.old.items) }
     ensures workers { OnOk result (workers.new.items ≡ take first workers.old.items) }
     ensures capacity { vec_capacity workers.new ≡ vec_capacity workers.old }
@@ -80,7 +80,7 @@ fn employ<S: Serve + Sync, R: Threads + Wait + Sync>(
     workers: &mut Vec<S::Worker>,
     sheet: &mut Sheet<S::Served>,
 ) -> bool
-    requires fresh { All (IsFresh (IsPassOf queue.now) (S.ready serve.now)) stations.items }
+    requires fresh { All (IsNewStation (IsPassOf queue.now) (S.ready serve.now)) stations.items }
     requires ready { All (S.ready serve.now) workers.old.items }
     requires room { vec_len workers.old + vec_len stations ≤ vec_capacity workers.old }
     requires blank { IsBlank sheet.old.lines.items }

@@ -2,7 +2,7 @@
 ghost use Rattle.std.specs.Prelude.{◌≡◌, ℕ, ◌<◌, length, slice_index_or, All};
 ghost use Rattle.crossbeam_queue.specs.Passes.{IsPassOf};
 ghost use Rattle.job_queue.specs.declared.station.Station.{Station};
-ghost use Rattle.job_queue.specs.Serving.{IsFresh, HasServed};
+ghost use Rattle.job_queue.specs.Serving.{IsNewStation, HasServed};
 
 use crate::numbers::{NumberPass, NumberQueue, Takes};
 use crate::serve::Serve;
@@ -34,7 +34,7 @@ fn work<S: Serve, R: Wait>(
     jobs: &[S::Job],
     station: &mut Station<S::Worker, S::Served>,
 )
-    requires fresh { IsFresh (IsPassOf queue.now) (S.ready serve.now) station.old }
+    requires fresh { IsNewStation (IsPassOf queue.now) (S.ready serve.now) station.old }
     ensures served { HasServed (S.fits serve.now) S.later jobs.now (IsPassOf queue.now)
         (S.ready serve.now) station.old.worker station.new }
 {
@@ -62,7 +62,7 @@ pub fn work_all<S: Serve + Sync, R: Threads + Wait + Sync>(
     jobs: &[S::Job],
     stations: &mut [Station<S::Worker, S::Served>],
 )
-    requires fresh { All (IsFresh (IsPassOf queue.now) (S.ready serve.now)) stations.old }
+    requires fresh { All (IsNewStation (IsPassOf queue.now) (S.ready serve.now)) stations.old }
     ensures count { length stations.new ≡ length stations.old }
     ensures each { (k : ℕ) (d : Station S.Worker S.Served) → k < length stations.old
         → HasServed (S.fits serve.now) S.later jobs.now (IsPassOf queue.now) (S.ready serve.now)
@@ -73,7 +73,7 @@ pub fn work_all<S: Serve + Sync, R: Threads + Wait + Sync>(
         stations,
         8,
         &|_, station: &mut Station<S::Worker, S::Served>|
-            requires { IsFresh (IsPassOf queue.now) (S.ready serve.now) station.old }
+            requires { IsNewStation (IsPassOf queue.now) (S.ready serve.now) station.old }
             ensures { HasServed (S.fits serve.entry.now) S.later jobs.entry.now
                 (IsPassOf queue.entry.now) (S.ready serve.entry.now)
                 station.old.worker station.new }

@@ -3,7 +3,7 @@ use Rattle.std.specs.Prelude.{All}
 use Rattle.std.proofs.lemmas.List.Elements.{All-append, All-drop}
 use Rattle.std.proofs.lemmas.List.{map-append}
 use Rattle.crossbeam_queue.specs.Passes.{IsPassOf}
-use Rattle.job_queue.specs.Serving.{IsFresh}
+use Rattle.job_queue.specs.Serving.{IsNewStation}
 use Rattle.job_queue.specs.Sheet.{worker_of}
 use Rattle.job_queue.proofs.QueueRule.{forks}
 use Rattle.job_queue.proofs.Serving.{all_one, all_uncons}
@@ -16,7 +16,7 @@ pub loop-worker-preserved : goal.loop-worker-preserved
 loop-worker-preserved g c =
     let i = c.loop-worker.invariant in
     let ready = g.S.Serve.ready c.args.serve.now in
-    let fresh = IsFresh (IsPassOf c.args.queue.now) ready in
+    let fresh = IsNewStation (IsPassOf c.args.queue.now) ready in
     let s = all_uncons ready c.in-Some.worker c.next.new.self.rest.items (subst (All ready) c.in-Some.ensures.steps.0 i.ready) in
     record {
       pass = search rules;
@@ -33,7 +33,7 @@ loop-worker-init g c =
     record {
       pass = search rules;
       ready = subst (All ready) (sym theirs) (All-drop ready c.args.first c.args.workers.now.items c.requires.ready);
-      fresh = subst (All (IsFresh (IsPassOf c.args.queue.now) ready)) (sym c.in_ok-stations.ensures.items) (λ k d l. absurd (omega arith));
+      fresh = subst (All (IsNewStation (IsPassOf c.args.queue.now) ready)) (sym c.in_ok-stations.ensures.items) (λ k d l. absurd (omega arith));
       stations = ap (map worker_of) c.in_ok-stations.ensures.items;
       room = search rules;
     }
