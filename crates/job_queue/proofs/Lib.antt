@@ -1,0 +1,2 @@
+pub mod QueueRule
+pub mod Serving

@@ -1,0 +1,5 @@
+use Rattle.std.proofs.Common.{◌≡◌, vec_capacity, map, Some}
+use Rattle.job_queue.proofs.sheet.Sheet.read_out.Given as goal
+
+abbrev pub invariant-loop-line : goal.invariant-loop-line
+invariant-loop-line g l = (map Some l.results.items ≡ l.yielded) × (vec_capacity l.results ≡ vec_capacity l.fn.results)

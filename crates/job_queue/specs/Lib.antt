@@ -1,0 +1,4 @@
+pub mod Faults
+pub mod Numbers
+pub mod Serving
+pub mod Sheet

@@ -1,0 +1,67 @@
+-- What a pool's results say.
+use Rattle.std.specs.Prelude.{◌≡◌, ◌⊎◌, ℕ, ◌<◌, List, [], slice_get, Option, Some, All}
+use Rattle.crossbeam_queue.specs.Passes.{Pass}
+use Rattle.job_queue.specs.declared.numbers.PassView.{PassView}
+use Rattle.job_queue.specs.declared.pool.TheConstants.{MAX_WORKERS}
+use Rattle.job_queue.specs.declared.station.Numbered.{Numbered}
+use Rattle.job_queue.specs.declared.station.Station.{Station}
+
+-- no number of threads for a pool that has so many workers
+abbrev pub IsBadCount : ℕ → ℕ → Type 0
+IsBadCount threads workers = (threads ≡ 0) ⊎ (MAX_WORKERS < threads) ⊎ (workers < threads)
+
+module _ {J W T : Type 0} (fits : W → W → J → T → Type 0) where
+  -- It is right for the job, by one of the workers, between what that worker was before and what it
+  -- is after.
+  pub record IsServedByOne (before after : List W) (job : J) (served : T) : Type 0 where
+    pub index : ℕ
+    pub first : W
+    pub last : W
+    pub was : slice_get before index ≡ Some first
+    pub is : slice_get after index ≡ Some last
+    pub right : fits first last job served
+
+  -- it is right for the job of this number, by one of the workers
+  pub record IsServedFor (jobs : List J) (before after : List W) (k : ℕ) (served : T) : Type 0 where
+    pub job : J
+    pub at : slice_get jobs k ≡ Some job
+    pub by_one : IsServedByOne before after job served
+
+  abbrev pub AreRightLines : List J → List W → List W → List (Option T) → Type 0
+  AreRightLines jobs before after lines =
+      (k : ℕ) (served : T) → slice_get lines k ≡ Some (Some served) →
+      IsServedFor jobs before after k served
+
+  -- each result is right for the job of its index
+  abbrev pub AreServed : List J → List W → List W → List T → Type 0
+  AreServed jobs before after results =
+      (k : ℕ) (job : J) (served : T) → slice_get jobs k ≡ Some job →
+      slice_get results k ≡ Some served
+      → IsServedByOne before after job served
+
+  -- it is right for the job of this number, by a worker between `first` and `last`
+  pub record IsRight (jobs : List J) (first last : W) (k : ℕ) (served : T) : Type 0 where
+    pub job : J
+    pub at : slice_get jobs k ≡ Some job
+    pub right : fits first last job served
+
+  abbrev pub IsRightNumbered : List J → W → W → Numbered T → Type 0
+  IsRightNumbered jobs first last one = IsRight jobs first last one.number one.served
+
+-- a station that has served nothing yet: its pass is the queue's, and its worker may serve
+pub record IsNewStation {W T : Type 0} (of_queue : Pass ℕ PassView → Type 0) (ready : W → Type 0)
+    (s : Station W T) : Type 0 where
+  pub pass : of_queue s.pass
+  pub ready_now : ready s.worker
+  pub nothing : s.results.items ≡ []
+
+-- a station that has served some jobs since its worker was `first`, each result right for the job
+-- of its number
+pub record HasServed {J W T : Type 0} (fits : W → W → J → T → Type 0) (later : W → W →
+    Type 0) (jobs : List J)
+    (of_queue : Pass ℕ PassView → Type 0) (ready : W →
+    Type 0) (first : W) (s : Station W T) : Type 0 where
+  pub pass : of_queue s.pass
+  pub ready_now : ready s.worker
+  pub later_now : later first s.worker
+  pub results : All (IsRightNumbered fits jobs first s.worker) s.results.items

@@ -1,0 +1,207 @@
+//! All jobs, served by as many threads as the caller says.
+ghost use Rattle.std.specs.Prelude.{◌≡◌, ◌⊎◌, ◌+◌, ◌<◌, ◌≤◌, ◌++◌, length, map, take, drop, Err, All, IsOk, IfErr, IfOk, OnOk, OnErr, vec_len, vec_capacity};
+ghost use Rattle.std.specs.List.{AllZip};
+ghost use Rattle.crossbeam_queue.specs.Passes.{IsPassOf};
+ghost use Rattle.job_queue.specs.declared.pool.TheConstants.{MAX_JOBS};
+ghost use Rattle.job_queue.specs.Serving.{IsNewStation, AreRightLines, AreServed, IsBadCount};
+ghost use Rattle.job_queue.specs.Sheet.{worker_of, IsBlank};
+
+use crate::fault::PoolFault;
+use crate::numbers::{NumberPass, NumberQueue, Taker, fill};
+use crate::serve::Serve;
+use crate::sheet::{Sheet, gather};
+use crate::station::{Station, work_all};
+use std::alloc::{AllocError, Global};
+use std::sync::Wait;
+use std::thread::Threads;
+
+/// The most threads of a pool.
+pub const MAX_WORKERS: usize = 8;
+
+/// The most jobs of a pool.
+pub const MAX_JOBS: usize = 65_536;
+
+// What a pool takes before it serves the first job.
+#[derive(Drop)]
+struct Prepared<T> {
+    queue: NumberQueue,
+    pass: NumberPass,
+    sheet: Sheet<T>,
+    results: Vec<T>,
+}
+
+// A law: a worker that has served nothing is later than itself.
+fn unchanged<S: Serve>(workers: &[S::Worker])
+    ensures { AllZip S.later workers.now workers.now }
+{}
+
+// A station for each of the last workers, from `first` on, in order.
+fn man<S: Serve>(
+    alloc: Global,
+    queue: &NumberQueue,
+    pass: &mut NumberPass,
+    serve: &S,
+    workers: &mut Vec<S::Worker>,
+    first: usize,
+) -> Result<Vec<Station<S::Worker, S::Served>>, AllocError>
+    requires pass { IsPassOf queue.now pass.old }
+    requires ready { All (S.ready serve.now) workers.old.items }
+    requires first { first ≤ vec_len workers.old }
+    ensures fresh { IfOk result (λ v.
+        All (IsNewStation (IsPassOf queue.now) (S.ready serve.now)) v.items) }
+    ensures stations { IfOk result (λ v. map worker_of v.items ≡ drop first workers.old.items) }
+    ensures workers { OnOk result (workers.new.items ≡ take first workers.old.items) }
+    ensures capacity { vec_capacity workers.new ≡ vec_capacity workers.old }
+    ensures err { OnErr result (workers.new ≡ workers.old) }
+{
+    let mut stations = Vec::with_capacity(alloc, workers.len() - first)?;
+    let theirs = workers.split_off(first)?;
+    for worker in theirs {
+        let pass = queue.another::<Taker>(pass);
+        let station = Station {
+            worker,
+            pass,
+            results: Vec::new(alloc),
+            short: false,
+        };
+        stations.push_reserved(station);
+    }
+    Ok(stations)
+}
+
+// Serves all jobs by the stations, adds their workers to the others, and brings the results onto the sheet.
+// Whether some thread was short of memory.
+fn employ<S: Serve + Sync, R: Threads + Wait + Sync>(
+    rt: &R,
+    queue: &NumberQueue,
+    serve: &S,
+    jobs: &[S::Job],
+    mut stations: Vec<Station<S::Worker, S::Served>>,
+    workers: &mut Vec<S::Worker>,
+    sheet: &mut Sheet<S::Served>,
+) -> bool
+    requires fresh { All (IsNewStation (IsPassOf queue.now) (S.ready serve.now)) stations.items }
+    requires ready { All (S.ready serve.now) workers.old.items }
+    requires room { vec_len workers.old + vec_len stations ≤ vec_capacity workers.old }
+    requires blank { IsBlank sheet.old.lines.items }
+    ensures ready { All (S.ready serve.now) workers.new.items }
+    ensures later { AllZip S.later (workers.old.items ++ map worker_of stations.items) workers.new.items }
+    ensures count { vec_len sheet.new.lines ≡ vec_len sheet.old.lines }
+    ensures lines { AreRightLines (S.fits serve.now) jobs.now
+        (workers.old.items ++ map worker_of stations.items) workers.new.items
+        sheet.new.lines.items }
+{
+    unchanged::<S>(workers.as_slice());
+    work_all(rt, queue, serve, jobs, stations.as_mut_slice());
+    gather(stations, workers, sheet)
+}
+
+// Takes all memory but that of the threads, and puts the jobs' numbers into a queue.
+fn prepare<T: Drop, R: Wait>(rt: &R, alloc: Global, count: usize) -> Result<Prepared<T>, PoolFault>
+    requires some { 0 < count }
+    ensures pass { IfOk result (λ p. IsPassOf p.queue p.pass) }
+    ensures sheet { IfOk result (λ p. vec_len p.sheet.lines ≡ count) }
+    ensures blank { IfOk result (λ p. IsBlank p.sheet.lines.items) }
+    ensures results { IfOk result (λ p. (vec_len p.results ≡ 0) × (count ≤ vec_capacity p.results)) }
+    ensures err { IfErr result (λ e. (e ≡ PoolFault.Memory) ⊎ (e ≡ PoolFault.Lost)) }
+{
+    let Ok(sheet) = Sheet::blank(alloc, count) else {
+        return Err(PoolFault::Memory);
+    };
+    let Ok(results) = Vec::with_capacity(alloc, count) else {
+        return Err(PoolFault::Memory);
+    };
+    let Ok((queue, mut pass)) = NumberQueue::ruled(alloc, count) else {
+        return Err(PoolFault::Memory);
+    };
+    if !fill(rt, &queue, &mut pass, count) {
+        return Err(PoolFault::Lost);
+    }
+    Ok(Prepared {
+        queue,
+        pass,
+        sheet,
+        results,
+    })
+}
+
+// Serves all jobs, of which there is one at least, by the workers from `first` on.
+fn serve_each<S: Serve + Sync, R: Threads + Wait + Sync>(
+    rt: &R,
+    alloc: Global,
+    serve: &S,
+    jobs: &[S::Job],
+    first: usize,
+    workers: &mut Vec<S::Worker>,
+) -> Result<Vec<S::Served>, PoolFault>
+    requires some { 0 < length jobs.now }
+    requires ready { All (S.ready serve.now) workers.old.items }
+    requires first { first ≤ vec_len workers.old }
+    ensures ready { All (S.ready serve.now) workers.new.items }
+    ensures later { AllZip S.later workers.old.items workers.new.items }
+    ensures count { IfOk result (λ v. vec_len v ≡ length jobs.now) }
+    ensures each { IfOk result (λ v.
+        AreServed (S.fits serve.now) jobs.now workers.old.items workers.new.items v.items) }
+    ensures err { IfErr result (λ e. (e ≡ PoolFault.Memory) ⊎ (e ≡ PoolFault.Lost)) }
+{
+    unchanged::<S>(workers.as_slice());
+    let Prepared {
+        queue,
+        mut pass,
+        mut sheet,
+        results,
+    } = prepare(rt, alloc, jobs.len())?;
+    let Ok(stations) = man(alloc, &queue, &mut pass, serve, workers, first) else {
+        return Err(PoolFault::Memory);
+    };
+    if employ(rt, &queue, serve, jobs, stations, workers, &mut sheet) {
+        return Err(PoolFault::Memory);
+    }
+    sheet.read_out(results)
+}
+
+/// Serves all jobs in so many threads, each with one of the last workers: one result a job, in job order.
+/// All workers come back, whatever the answer, in their order.
+///
+/// Errors: the first of these that holds.
+/// - `BadWorkers`: `threads` is 0, above `MAX_WORKERS`, or more than there are workers.
+/// - `TooManyJobs`: there are more than `MAX_JOBS`.
+/// - `Memory`: there is none; some jobs may have been served.
+/// - `Lost`: the result of a job is missing, double or of another job.
+///
+/// That it returns is not claimed: its threads wait for one another.
+pub fn serve_all<S: Serve + Sync, R: Threads + Wait + Sync>(
+    rt: &R,
+    alloc: Global,
+    serve: &S,
+    jobs: &[S::Job],
+    threads: usize,
+    workers: &mut Vec<S::Worker>,
+) -> Result<Vec<S::Served>, PoolFault>
+    requires ready { All (S.ready serve.now) workers.old.items }
+    ensures bad_workers { IsBadCount threads (vec_len workers.old) → result ≡ Err PoolFault.BadWorkers }
+    ensures too_many_jobs { (IsBadCount threads (vec_len workers.old) → ⊥)
+        → MAX_JOBS < length jobs.now → result ≡ Err PoolFault.TooManyJobs }
+    ensures served { (IsBadCount threads (vec_len workers.old) → ⊥)
+        → length jobs.now ≤ MAX_JOBS
+        → IsOk result ⊎ (result ≡ Err PoolFault.Memory) ⊎ (result ≡ Err PoolFault.Lost) }
+    ensures refused { IsBadCount threads (vec_len workers.old) ⊎ (MAX_JOBS < length jobs.now)
+        → workers.new ≡ workers.old }
+    ensures ready { All (S.ready serve.now) workers.new.items }
+    ensures later { AllZip S.later workers.old.items workers.new.items }
+    ensures count { IfOk result (λ v. vec_len v ≡ length jobs.now) }
+    ensures each { IfOk result (λ v.
+        AreServed (S.fits serve.now) jobs.now workers.old.items workers.new.items v.items) }
+{
+    unchanged::<S>(workers.as_slice());
+    if threads == 0 || threads > MAX_WORKERS || threads > workers.len() {
+        return Err(PoolFault::BadWorkers);
+    }
+    if jobs.len() > MAX_JOBS {
+        return Err(PoolFault::TooManyJobs);
+    }
+    if jobs.is_empty() {
+        return Ok(Vec::new(alloc));
+    }
+    serve_each(rt, alloc, serve, jobs, workers.len() - threads, workers)
+}
