@@ -1,0 +1,8 @@
+use Rattle.std.proofs.Common.{◌≡◌, drop}
+use Rattle.std.specs.List.{find}
+use Rattle.std.specs.Str.{bytes_eq}
+use Rattle.script_lines.specs.Grammar.{verb_name}
+use Rattle.script_lines.proofs.verb.first_named.Given as goal
+
+abbrev pub invariant-loop-verb : goal.invariant-loop-verb
+invariant-loop-verb l = find (λ v. bytes_eq (verb_name v) l.word) (drop l.verb-index l.verbs) ≡ find (λ v. bytes_eq (verb_name v) l.word) l.verbs

@@ -1,0 +1,4 @@
+pub mod Answers
+pub mod Grammar
+pub mod Lines
+pub mod Words

@@ -1,0 +1,26 @@
+//! Scripts line by line: what a line says, and how an answer is written.
+//!
+//! [`parse_line`] reads a line as a [`Command`], and [`write_reply`] writes a [`Reply`]. `specs/Lines.antt` and
+//! `specs/Grammar.antt` have the forms of lines, `specs/Answers.antt` the texts of answers.
+#![tactic(auto)]
+
+mod bytes;
+mod code;
+mod command;
+mod name;
+mod names;
+mod number;
+mod parsing;
+mod reply;
+mod verb;
+mod words;
+mod writing;
+
+pub use bytes::Bytes;
+pub use code::Code;
+pub use command::{BadLine, Command};
+pub use name::Name;
+pub use names::Names;
+pub use parsing::{LINE_BYTES, MAX_COUNT, parse_line};
+pub use reply::Reply;
+pub use writing::write_reply;

@@ -1,0 +1,124 @@
+//! What a line says, written out: the command's name, and in order its names, its numbers, and its bytes in
+//! hexadecimal behind a colon (`:..` where there are more than any such thing has).
+use arrayvec::ArrayVec;
+use bpf_model::{KEY_BYTES, VALUE_BYTES};
+use script_lines::{Bytes, Command, Name, parse_line};
+use std::alloc::{AllocError, Global};
+use std::fmt::Write;
+
+fn push_hex(out: &mut String, bytes: &[u8]) -> Result<(), AllocError> {
+    out.push_str(" :")?;
+    for byte in bytes {
+        write!(out, "{byte:02x}")?;
+    }
+    Ok(())
+}
+
+fn push_name(out: &mut String, name: &Name<'_>) -> Result<(), AllocError> {
+    match name.text() {
+        Some(text) => write!(out, " {text}"),
+        None => push_hex(out, name.bytes()),
+    }
+}
+
+fn push_key(
+    out: &mut String,
+    key: &Bytes<ArrayVec<u8, KEY_BYTES>>,
+) -> Result<(), AllocError> {
+    match key {
+        Bytes::Fit(bytes) => push_hex(out, bytes),
+        Bytes::TooLong => out.push_str(" :.."),
+    }
+}
+
+/// A value or a context.
+fn push_value(
+    out: &mut String,
+    value: &Bytes<ArrayVec<u8, VALUE_BYTES>>,
+) -> Result<(), AllocError> {
+    match value {
+        Bytes::Fit(bytes) => push_hex(out, bytes),
+        Bytes::TooLong => out.push_str(" :.."),
+    }
+}
+
+fn push_command(
+    out: &mut String,
+    alloc: Global,
+    command: Command<'_>,
+) -> Result<(), AllocError> {
+    match command {
+        Command::Map {
+            name,
+            key_len,
+            value_len,
+            entries,
+            spare,
+            reuse_limit,
+        } => {
+            out.push_str("map")?;
+            push_name(out, &name)?;
+            write!(out, " {key_len} {value_len} {entries} {spare} {reuse_limit}")
+        }
+        Command::Load {
+            ctx_len,
+            code,
+            mut maps,
+        } => {
+            write!(out, "load {ctx_len}")?;
+            push_hex(out, &code.to_vec(alloc)?)?;
+            for _ in 0..17 {
+                if let Some(name) = maps.next() {
+                    push_name(out, &name)?;
+                }
+            }
+            Ok(())
+        }
+        Command::Put {
+            map,
+            key,
+            value,
+            flags,
+        } => {
+            out.push_str("put")?;
+            push_name(out, &map)?;
+            push_key(out, &key)?;
+            push_value(out, &value)?;
+            write!(out, " {flags}")
+        }
+        Command::Get { map, key } => {
+            out.push_str("get")?;
+            push_name(out, &map)?;
+            push_key(out, &key)
+        }
+        Command::Del { map, key } => {
+            out.push_str("del")?;
+            push_name(out, &map)?;
+            push_key(out, &key)
+        }
+        Command::Start { prog, ctx } => {
+            write!(out, "start {prog}")?;
+            push_value(out, &ctx)
+        }
+        Command::Step { run, count } => write!(out, "step {run} {count}"),
+        Command::Advance => out.push_str("advance"),
+        Command::Reap => out.push_str("reap"),
+        Command::Drop { run } => write!(out, "drop {run}"),
+        Command::Stat => out.push_str("stat"),
+        Command::Dump { map } => {
+            out.push_str("dump")?;
+            push_name(out, &map)
+        }
+    }
+}
+
+/// `nothing` for an empty line or a comment, `bad` for a bad line.
+pub fn shown(alloc: Global, line: &[u8]) -> Result<String, AllocError> {
+    let mut out = String::new(alloc);
+    match parse_line(line) {
+        Ok(Some(command)) => push_command(&mut out, alloc, command)?,
+        Ok(None) => out.push_str("nothing")?,
+        Err(_) => out.push_str("bad")?,
+    }
+    Ok(out)
+}
