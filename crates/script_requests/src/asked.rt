@@ -25,12 +25,7 @@ pub enum Asked {
     Elements(MapId),
 }
 
-fn ask_put(
-    map: Option<MapId>,
-    key: Bytes<KeyBytes>,
-    value: Bytes<ValueBytes>,
-    flags: u64,
-) -> Asked
+fn ask_put(map: Option<MapId>, key: Bytes<KeyBytes>, value: Bytes<ValueBytes>, flags: u64) -> Asked
     ensures { result ≡ asked_put map key value flags }
 {
     let Some(map) = map else {
