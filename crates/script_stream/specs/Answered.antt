@@ -1,0 +1,36 @@
+-- What a script is answered: its lines one after another, each from the state that the one before left.
+use Rattle.std.specs.Prelude.{◌≡◌, ℕ, ◌+◌, ◌<◌, ◌⊎◌, List, [], ◌∷◌, ◌++◌, length}
+use Rattle.std.specs.Io.Iter.{u64_saturate}
+use Rattle.script_stream.specs.declared.progress.TheConstants.{MAX_LINE}
+use Rattle.script_stream.specs.Lines.{lines_of}
+
+-- A line that ends the script: it is too long, or no command.
+abbrev pub IsBadLine : (List ℕ → Type 0) → List ℕ → Type 0
+IsBadLine is_bad line = (MAX_LINE < length line) ⊎ is_bad line
+
+module _ {S : Type 0} (answers : S → List ℕ → List ℕ → S → Type 0) where
+  -- The text is that of the answers to these lines, and they lead from one state to the other.
+  abbrev pub Answered : S → List (List ℕ) → List ℕ → S → Type 0
+  Answered old [] text new = (text ≡ []) × (new ≡ old)
+  Answered old (line ∷ lines) text new =
+      (first rest : List ℕ) × (mid : S) × answers old line first mid × Answered mid lines rest new × (text ≡ first ++ rest)
+
+  -- The text answers exactly the lines before this one, counted from 1, which is bad.
+  pub record AnsweredBefore (is_bad : List ℕ → Type 0) (old : S) (input : List ℕ) (line : ℕ) (text : List ℕ) : Type 0 where
+    pub good : List (List ℕ)
+    pub bad : List ℕ
+    pub others : List (List ℕ)
+    pub lines : lines_of input ≡ good ++ bad ∷ others
+    pub number : line ≡ u64_saturate (length good + 1)
+    pub is : IsBadLine is_bad bad
+    pub new : S
+    pub answered : Answered old good text new
+
+  -- The text is a beginning of the answers to the first lines.
+  pub record BeginsAnswered (old : S) (input : List ℕ) (text : List ℕ) : Type 0 where
+    pub first : List (List ℕ)
+    pub others : List (List ℕ)
+    pub lines : lines_of input ≡ first ++ others
+    pub more : List ℕ
+    pub new : S
+    pub answered : Answered old first (text ++ more) new

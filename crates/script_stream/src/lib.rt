@@ -1,0 +1,18 @@
+//! Scripts as streams: the lines of a reader are answered one after another, and the answers written.
+//!
+//! Memory is bounded: a line is at most `MAX_LINE` bytes without its line feed, and what is answered is
+//! written out before more is read. So a host that waits for an answer before it writes its next line has it,
+//! and lines that come in one read cost one write.
+#![tactic(auto)]
+
+mod fault;
+mod lines;
+mod progress;
+mod respond;
+mod serving;
+mod writing;
+
+pub use fault::ScriptFault;
+pub use progress::MAX_LINE;
+pub use respond::{LineFault, Respond};
+pub use serving::serve;

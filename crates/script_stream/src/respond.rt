@@ -1,0 +1,29 @@
+//! What answers the lines of a script.
+ghost use Rattle.std.specs.Prelude.{◌≡◌, ℕ, List, ◌++◌, OnOk, OnErr, Err, vec_len, take};
+
+/// Why a line is not answered.
+#[derive(Clone, Copy, Debug, PartialEq, Eq)]
+pub enum LineFault {
+    /// It is no command.
+    Bad,
+    /// An allocation failed.
+    Memory,
+}
+
+/// Answers lines, one after another.
+pub trait Respond {
+    // From the first state the line is answered with this text, and the second state is left.
+    ghost answers: { Self → List ℕ → List ℕ → Self → Type 0 };
+
+    // the line is no command
+    ghost is_bad: { List ℕ → Type 0 };
+
+    /// Adds the answer to a line, which comes without its line feed.
+    ///
+    /// Errors: the line is no command, or an allocation failed. What was added then is to be taken back.
+    fn respond(&mut self, line: &[u8], out: &mut Vec<u8>) -> Result<(), LineFault>
+        ensures answered { OnOk result ((text : List ℕ) × answers self.old line.now text self.new
+            × (out.new.items ≡ out.old.items ++ text)) }
+        ensures bad { result ≡ Err LineFault.Bad → is_bad line.now }
+        ensures kept { OnErr result ((more : List ℕ) × (out.new.items ≡ out.old.items ++ more)) };
+}
