@@ -1,5 +1,5 @@
 #!/usr/bin/env python3
-"""What the programs with maps compute on this computer: rows of the table in docs/world_tests/compiled.rt.txt.
+"""What the programs with maps compute on this computer: rows of the table in crates/world_tests/src/compiled.rt.
 
     values.py > rows
 
