@@ -1,7 +1,10 @@
 -- The grammar of a line: which arguments each mnemonic takes, with numbers of any size.
 use Rattle.std.specs.Prelude.{ℕ, ◌≡◌, ◌==◌, Bool, true, false, not, ◌||◌, ◌&&◌, List}
 use Rattle.disasm.specs.declared.mnemonic.Mnemonic.{Mnemonic}
-use Rattle.disasm.specs.declared.mnemonic.Mnemonic.TheVariants.{Alu, MoveSigned, Negate, ByteSwap, LoadNumber, LoadMap, Jump, JumpLong, JumpIf, Call, Exit, Load, LoadSigned, Store, StoreRegister}
+use Rattle.disasm.specs.declared.mnemonic.Mnemonic.TheVariants.{Alu, MoveSigned, Negate, ByteSwap}
+use Rattle.disasm.specs.declared.mnemonic.Mnemonic.TheVariants.{LoadNumber, LoadMap, Jump, JumpLong}
+use Rattle.disasm.specs.declared.mnemonic.Mnemonic.TheVariants.{JumpIf, Call, Exit, Load}
+use Rattle.disasm.specs.declared.mnemonic.Mnemonic.TheVariants.{LoadSigned, Store, StoreRegister}
 use Rattle.disasm.specs.declared.statement.Sign.{Sign}
 use Rattle.disasm.specs.declared.statement.Sign.TheVariants.{Plus, Minus}
 use Rattle.disasm.specs.declared.statement.Argument.{Argument}

@@ -1,6 +1,7 @@
--- Words of the reader's own contracts. It keeps numbers up to 2 ^ 64, which is above what any instruction
--- takes.
-use Rattle.std.specs.Prelude.{ℕ, ◌≡◌, ◌≢◌, ◌<◌, ◌≤◌, ◌^◌, ℤ, FitsSigned, Option, Some, List, ◌∷◌, length, slice_index, nat_lt, if◌then◌else◌}
+-- Words of the reader's own contracts. It keeps numbers up to 2 ^ 64, which is above what any
+-- instruction takes.
+use Rattle.std.specs.Prelude.{ℕ, ◌≡◌, ◌≢◌, ◌<◌, ◌≤◌, ◌^◌, ℤ, FitsSigned, Option, Some, List, ◌∷◌}
+use Rattle.std.specs.Prelude.{length, slice_index, nat_lt, if◌then◌else◌}
 use Rattle.std.specs.Int.{w16, w32}
 use Rattle.bpf_model.specs.declared.insn.Operand.{Operand}
 use Rattle.bpf_model.specs.declared.insn.Operand.TheVariants as operand
@@ -10,8 +11,13 @@ use Rattle.bpf_model.specs.declared.insn.Insn.{Insn}
 use Rattle.bpf_model.specs.declared.insn.Insn.TheVariants as insn
 use Rattle.bpf_model.specs.Spelling.{FitsOperand, FitsInsn, extension_size, extension_bits}
 use Rattle.disasm.specs.declared.mnemonic.Mnemonic.{Mnemonic}
-use Rattle.disasm.specs.declared.mnemonic.Mnemonic.TheVariants.{Alu, MoveSigned, Negate, ByteSwap, LoadNumber, LoadMap, Jump, JumpLong, JumpIf, Call, Exit, Load, LoadSigned, Store, StoreRegister}
-use Rattle.disasm.specs.Text.{argument_text, arguments_text, statement_text, number_argument, offset_argument, memory_argument, source_argument, mnemonic_of, text_arguments}
+use Rattle.disasm.specs.declared.mnemonic.Mnemonic.TheVariants.{Alu, MoveSigned, Negate, ByteSwap}
+use Rattle.disasm.specs.declared.mnemonic.Mnemonic.TheVariants.{LoadNumber, LoadMap, Jump, JumpLong}
+use Rattle.disasm.specs.declared.mnemonic.Mnemonic.TheVariants.{JumpIf, Call, Exit, Load}
+use Rattle.disasm.specs.declared.mnemonic.Mnemonic.TheVariants.{LoadSigned, Store, StoreRegister}
+use Rattle.disasm.specs.Text.{argument_text, arguments_text, statement_text, number_argument}
+use Rattle.disasm.specs.Text.{offset_argument, memory_argument, source_argument, mnemonic_of}
+use Rattle.disasm.specs.Text.{text_arguments}
 use Rattle.disasm.specs.declared.statement.Argument.{Argument}
 use Rattle.disasm.specs.declared.statement.Argument.TheVariants.{Register, Number, Signed, Memory}
 use Rattle.disasm.specs.declared.statement.Arguments.{Arguments}
@@ -37,7 +43,8 @@ capped_arguments (Three a b c) = Three (capped_argument a) (capped_argument b) (
 abbrev pub capped_statement : Statement → Statement
 capped_statement s = record { mnemonic = s.mnemonic; arguments = capped_arguments s.arguments }
 
--- What is read of a text is what the text is of, with its numbers capped, and what the text is of is read.
+-- What is read of a text is what the text is of, with its numbers capped, and what the text is of
+-- is read.
 
 abbrev pub IsArgumentRead : List ℕ → Argument → Type 0
 IsArgumentRead text a = (w : Argument) × (text ≡ argument_text w) × (a ≡ capped_argument w)
@@ -67,8 +74,8 @@ Lacks c text = (i : ℕ) → i < length text → slice_index text i ≢ c
 abbrev pub IsInsnOf : Mnemonic → Arguments → Insn → Type 0
 IsInsnOf m w i = FitsInsn i × (mnemonic_of i ≡ m) × (text_arguments i ≡ w)
 
--- What is read of a mnemonic and its arguments is the one instruction that they stand for, where they
--- stand for one.
+-- What is read of a mnemonic and its arguments is the one instruction that they stand for, where
+-- they stand for one.
 abbrev pub IsOnlyInsn : Mnemonic → Arguments → Option Insn → Type 0
 IsOnlyInsn (Alu op size) w r =
     (dst : ℕ) (src : Operand) → dst ≤ 10 → FitsOperand src →

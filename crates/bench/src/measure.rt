@@ -7,10 +7,10 @@ use crate::trial::{Trial, counted_run, counting_bytes};
 use anyhow::{Result, ensure};
 use bpf_model::CtxBytes;
 use lone_runs::run_to_exit;
-use verifier::verify;
 use std::alloc::Global;
 use std::rt::Clock;
 use std::time::{Duration, Instant};
+use verifier::verify;
 
 /// How many milliseconds a batch takes at least, so that reading the clock does not count.
 const LEAST_MILLIS: u64 = 50;

@@ -10,8 +10,8 @@ use anyhow::Result;
 use bpf_model::CtxBytes;
 use insn_codec::decode;
 use lone_runs::run_to_exit;
-use verifier::{Verified, verify};
 use std::alloc::Global;
+use verifier::{Verified, verify};
 
 /// A program that was verified with no maps, and a context of the length that it was verified for.
 #[derive(Drop)]

@@ -1,9 +1,11 @@
--- The numbers of helpers, kernel functions and errors (Linux BPF documentation, "eBPF helpers" and "BPF Kernel Functions"; bpf(2); the BTF
--- numbers are this runtime's own).
-use Rattle.std.specs.Prelude.{ℕ, ◌-◌, ◌^◌, ℤ, pos, Option, Some, None, Result, Ok, Err, if◌then◌else◌}
+-- The numbers of helpers, kernel functions and errors (Linux BPF documentation, "eBPF helpers" and
+-- "BPF Kernel Functions"; bpf(2); the BTF numbers are this runtime's own).
+use Rattle.std.specs.Prelude.{ℕ, ◌-◌, ◌^◌, ℤ, pos, Option, Some, None, Result, Ok, Err}
+use Rattle.std.specs.Prelude.{if◌then◌else◌}
 use Rattle.std.specs.Ordering.{int_eq}
 use Rattle.bpf_model.specs.declared.call.Errno.{Errno}
-use Rattle.bpf_model.specs.declared.call.Errno.TheVariants.{NoEntry, TooBig, NoMemory, Exists, InvalidArgument}
+use Rattle.bpf_model.specs.declared.call.Errno.TheVariants.{NoEntry, TooBig, NoMemory, Exists}
+use Rattle.bpf_model.specs.declared.call.Errno.TheVariants.{InvalidArgument}
 use Rattle.bpf_model.specs.declared.call.Helper.{Helper}
 use Rattle.bpf_model.specs.declared.call.Helper.TheVariants.{Lookup, Update, Delete}
 use Rattle.bpf_model.specs.declared.call.KernelFunction.{KernelFunction}
@@ -11,11 +13,14 @@ use Rattle.bpf_model.specs.declared.call.KernelFunction.TheVariants.{ReadLock, R
 
 -- bpf_map_lookup_elem, bpf_map_update_elem and bpf_map_delete_elem
 abbrev pub helper_of : ℤ → Option Helper
-helper_of imm = if int_eq imm (pos 1) then Some Lookup else if int_eq imm (pos 2) then Some Update else if int_eq imm (pos 3) then Some Delete else None
+helper_of imm = if int_eq imm (pos 1) then Some Lookup else if int_eq imm (pos 2) then Some Update
+    else if int_eq imm (pos 3) then Some Delete else None
 
 -- bpf_rcu_read_lock and bpf_rcu_read_unlock
 abbrev pub kernel_function_of : ℤ → Option KernelFunction
-kernel_function_of imm = if int_eq imm (pos 1) then Some ReadLock else if int_eq imm (pos 2) then Some ReadUnlock else None
+kernel_function_of imm =
+    if int_eq imm (pos 1) then Some ReadLock else if int_eq imm (pos 2) then Some ReadUnlock
+    else None
 
 abbrev pub errno_number : Errno → ℕ
 errno_number NoEntry = 2

@@ -39,9 +39,11 @@ pub record IsConsistent (m : Machine) : Type 0 where
       × (length e.value ≡ state.shape.value_len)
   -- no two runs have one name
   pub named : (r : ℕ) (run : Run) → run_at m.runs r ≡ Some run → run.name < m.started
-  pub apart : (q r : ℕ) (a b : Run) → run_at m.runs q ≡ Some a → run_at m.runs r ≡ Some b → a.name ≡ b.name → q ≡ r
+  pub apart : (q r : ℕ) (a b : Run) → run_at m.runs q ≡ Some a → run_at m.runs r ≡ Some b →
+      a.name ≡ b.name → q ≡ r
   -- each section that an unlinked element keeps began before, so that no later lock opens it again
-  pub past : (n : ℕ) (e : Element) (since : List Section) (s : Section) → slice_get m.store.elements n ≡ Some e
+  pub past : (n : ℕ) (e : Element) (since : List Section) (s : Section) →
+      slice_get m.store.elements n ≡ Some e
       → e.life ≡ Unlinked since → Has since s → s.run < m.started
   pub begun : (n : ℕ) (e : Element) (since : List Section) (s : Section) (r : ℕ) (run : Run)
       → slice_get m.store.elements n ≡ Some e → e.life ≡ Unlinked since → Has since s
@@ -51,4 +53,5 @@ pub record IsConsistent (m : Machine) : Type 0 where
   pub ended : (r : ℕ) (run : Run) → run_at m.runs r ≡ Some run → run.exit ≢ None → run.depth ≡ 0
   pub registers : (r : ℕ) (run : Run) (i : ℕ) → run_at m.runs r ≡ Some run
       → IsBornValue (length m.store.elements) (run.state.regs i)
-  pub cells : (r : ℕ) (run : Run) (k : ℕ) → run_at m.runs r ≡ Some run → IsBornCell (length m.store.elements) (run.state.frame k)
+  pub cells : (r : ℕ) (run : Run) (k : ℕ) → run_at m.runs r ≡ Some run →
+      IsBornCell (length m.store.elements) (run.state.frame k)

@@ -1,16 +1,20 @@
--- The elements of all maps, by birth number. The list only grows: an element is born at its end and is never taken out or born again, so
--- that a reference to it can never come to mean another element.
-use Rattle.std.specs.Prelude.{◌≡◌, ℕ, ◌==◌, ◌&&◌, Bool, true, false, List, Option, Some, None, slice_get, slice_set, count_by, if◌then◌else◌}
+-- The elements of all maps, by birth number. The list only grows: an element is born at its end and
+-- is never taken out or born again, so that a reference to it can never come to mean another
+-- element.
+use Rattle.std.specs.Prelude.{◌≡◌, ℕ, ◌==◌, ◌&&◌, Bool, true, false, List, Option, Some, None}
+use Rattle.std.specs.Prelude.{slice_get, slice_set, count_by, if◌then◌else◌}
 use Rattle.bpf_model.specs.Section.{Section}
 use Rattle.bpf_model.specs.Value.{◌>>=◌}
 
--- An element is linked (found under its key); or unlinked, with the sections that were open at that moment; or reclaimed.
+-- An element is linked (found under its key); or unlinked, with the sections that were open at that
+-- moment; or reclaimed.
 pub data Life : Type 0 where
   Linked : Life
   Unlinked : (opened : List Section) → Life
   Reclaimed : Life
 
--- An element: its map's number, the bytes of its key and of its value, and the how-manieth use of a slot it is.
+-- An element: its map's number, the bytes of its key and of its value, and the how-manieth use of a
+-- slot it is.
 pub record Element : Type 0 where
   pub map : ℕ
   pub key : List ℕ
@@ -37,12 +41,19 @@ abbrev pub with_life : Life → Element → Element
 with_life life e = record { map = e.map; key = e.key; value = e.value; uses = e.uses; life = life }
 
 abbrev pub with_value : List ℕ → Element → Element
-with_value value e = record { map = e.map; key = e.key; value = value; uses = e.uses; life = e.life }
+with_value value e = record {
+  map = e.map;
+  key = e.key;
+  value = value;
+  uses = e.uses;
+  life = e.life;
+}
 
 abbrev pub HasLife : List Element → ℕ → Life → Type 0
 HasLife es n life = (e : Element) × (slice_get es n ≡ Some e) × (e.life ≡ life)
 
--- Element n is what the map has under the key: a map is a finite map from keys to the births of linked elements.
+-- Element n is what the map has under the key: a map is a finite map from keys to the births of
+-- linked elements.
 pub record IsLinkedAt (es : List Element) (map : ℕ) (key : List ℕ) (n : ℕ) : Type 0 where
   pub element : Element
   pub born : slice_get es n ≡ Some element
@@ -66,7 +77,8 @@ set_to f es n (Some e) = slice_set es n (f e)
 abbrev pub changed : (Element → Element) → List Element → ℕ → List Element
 changed f es n = set_to f es n (slice_get es n)
 
--- the elements after the one that was found, if any, is unlinked: it keeps the sections that are open
+-- the elements after the one that was found, if any, is unlinked: it keeps the sections that are
+-- open
 abbrev pub unlinked : List Section → List Element → Option ℕ → List Element
 unlinked opened es None = es
 unlinked opened es (Some n) = changed (with_life (Unlinked opened)) es n

@@ -1,17 +1,22 @@
 -- Events and the machine's answers to them. One event is one atomic action of one actor.
-use Rattle.std.specs.Prelude.{◌≡◌, ℕ, ◌^◌, ◌<◌, ◌==◌, ◌&&◌, List, length, Option, Some, None, slice_get, slice_set, if◌then◌else◌}
+use Rattle.std.specs.Prelude.{◌≡◌, ℕ, ◌^◌, ◌<◌, ◌==◌, ◌&&◌, List, length, Option, Some, None}
+use Rattle.std.specs.Prelude.{slice_get, slice_set, if◌then◌else◌}
 use Rattle.bpf_model.specs.declared.limits.MapShape.{MapShape}
 use Rattle.bpf_model.specs.declared.event.Event.{Event}
 use Rattle.bpf_model.specs.declared.event.Event.TheVariants as events
 use Rattle.bpf_model.specs.declared.event.Answer.{Answer}
-use Rattle.bpf_model.specs.declared.event.Answer.TheVariants.{Started, Ret, Found, Done, Reaped, Refused}
+use Rattle.bpf_model.specs.declared.event.Answer.TheVariants.{Started, Ret, Found, Done, Reaped}
+use Rattle.bpf_model.specs.declared.event.Answer.TheVariants.{Refused}
 use Rattle.bpf_model.specs.declared.event.EventRefusal.{EventRefusal}
-use Rattle.bpf_model.specs.declared.event.EventRefusal.TheVariants.{NoRun, Ended, NoProgram, BadContext, RunsFull, NoMap, BadLength, StillRunning}
+use Rattle.bpf_model.specs.declared.event.EventRefusal.TheVariants.{NoRun, Ended, NoProgram}
+use Rattle.bpf_model.specs.declared.event.EventRefusal.TheVariants.{BadContext, RunsFull, NoMap}
+use Rattle.bpf_model.specs.declared.event.EventRefusal.TheVariants.{BadLength, StillRunning}
 use Rattle.bpf_model.specs.Element.{Element, IsLinkedAt, IsAbsent}
 use Rattle.bpf_model.specs.MapState.{Store, shape_of}
 use Rattle.bpf_model.specs.Helper.{Updates, Deletes}
 use Rattle.bpf_model.specs.Reclaim.{Reclaims}
-use Rattle.bpf_model.specs.Machine.{Loaded, Run, Machine, open_sections, with_store, with_runs, begins, lowest_free, run_at}
+use Rattle.bpf_model.specs.Machine.{Loaded, Run, Machine, open_sections, with_store, with_runs}
+use Rattle.bpf_model.specs.Machine.{begins, lowest_free, run_at}
 use Rattle.bpf_model.specs.MachineStep.{StepsRun}
 
 abbrev pub event_refusal_code : EventRefusal → ℕ
@@ -24,14 +29,16 @@ event_refusal_code NoMap = 65
 event_refusal_code BadLength = 66
 event_refusal_code StillRunning = 67
 
--- An event is a value of its types: in a definition a byte would else be any number. Each value of the Rust type is one (`Event::is_real`).
+-- An event is a value of its types: in a definition a byte would else be any number. Each value of
+-- the Rust type is one (`Event::is_real`).
 abbrev pub AreBytes : List ℕ → Type 0
 AreBytes bytes = (k b : ℕ) → slice_get bytes k ≡ Some b → b < 2 ^ 8
 
 abbrev pub IsReal : Event → Type 0
 IsReal (events.Start prog ctx) = (prog < 2 ^ 64) × AreBytes ctx.items
 IsReal (events.Step run) = run < 2 ^ 64
-IsReal (events.Update map key value flags) = (map < 2 ^ 64) × AreBytes key.items × AreBytes value.items × (flags < 2 ^ 64)
+IsReal (events.Update map key value flags) =
+    (map < 2 ^ 64) × AreBytes key.items × AreBytes value.items × (flags < 2 ^ 64)
 IsReal (events.Delete map key) = (map < 2 ^ 64) × AreBytes key.items
 IsReal (events.Read map key) = (map < 2 ^ 64) × AreBytes key.items
 IsReal events.Advance = Unit {0}
@@ -41,14 +48,16 @@ IsReal (events.Drop run) = run < 2 ^ 64
 abbrev pub AreReal : List Event → Type 0
 AreReal all = (k : ℕ) (event : Event) → slice_get all k ≡ Some event → IsReal event
 
--- The first test of an event that fails. A start asks for the program, then for the context's length, then for a free run slot.
+-- The first test of an event that fails. A start asks for the program, then for the context's
+-- length, then for a free run slot.
 abbrev pub if_full : Option ℕ → Option EventRefusal
 if_full None = Some RunsFull
 if_full (Some r) = None
 
 abbrev pub start_refusal : Option Loaded → ℕ → Option ℕ → Option EventRefusal
 start_refusal None len free = Some NoProgram
-start_refusal (Some program) len free = if len == program.context_len then if_full free else Some BadContext
+start_refusal (Some program) len free =
+    if len == program.context_len then if_full free else Some BadContext
 
 -- a step asks for a run that has not ended
 abbrev pub if_ended : Option ℕ → Option EventRefusal
@@ -75,12 +84,15 @@ key_refusal (Some shape) key_len = if key_len == shape.key_len then None else So
 
 abbrev pub update_refusal : Option MapShape → ℕ → ℕ → Option EventRefusal
 update_refusal None key_len value_len = Some NoMap
-update_refusal (Some shape) key_len value_len = if (key_len == shape.key_len) && (value_len == shape.value_len) then None else Some BadLength
+update_refusal (Some shape) key_len value_len =
+    if (key_len == shape.key_len) && (value_len == shape.value_len) then None else Some BadLength
 
 abbrev pub refusal : Machine → Event → Option EventRefusal
-refusal m (events.Start prog ctx) = start_refusal (slice_get m.programs prog) (length ctx.items) (lowest_free m.runs)
+refusal m (events.Start prog ctx) =
+    start_refusal (slice_get m.programs prog) (length ctx.items) (lowest_free m.runs)
 refusal m (events.Step run) = step_refusal (run_at m.runs run)
-refusal m (events.Update map key value flags) = update_refusal (shape_of m.store map) (length key.items) (length value.items)
+refusal m (events.Update map key value flags) =
+    update_refusal (shape_of m.store map) (length key.items) (length value.items)
 refusal m (events.Delete map key) = key_refusal (shape_of m.store map) (length key.items)
 refusal m (events.Read map key) = key_refusal (shape_of m.store map) (length key.items)
 refusal m events.Advance = None
@@ -100,8 +112,9 @@ pub record ReadsElement (m : Machine) (map : ℕ) (key value : List ℕ) : Type 
   pub linked : IsLinkedAt m.store.elements map key n
   pub value_is : value ≡ linked.element.value
 
--- What the machine answers to an event that isn't refused, and its state after it. An advance changes nothing here: it is the runtime's own
--- means of finding out which sections have ended. A reap may also find nothing.
+-- What the machine answers to an event that isn't refused, and its state after it. An advance
+-- changes nothing here: it is the runtime's own means of finding out which sections have ended. A
+-- reap may also find nothing.
 abbrev pub PerformsEvent : Machine → Event → Answer → Machine → Type 0
 PerformsEvent m (events.Start prog ctx) (Started r) new = Starts m prog ctx.items r new
 PerformsEvent m (events.Step run) answer new = StepsRun m run answer new
@@ -109,18 +122,23 @@ PerformsEvent m (events.Update map key value flags) (Ret ret) new =
     (store : Store) × Updates m.store (open_sections m.runs) map key.items value.items flags ret store
     × (new ≡ with_store m store)
 PerformsEvent m (events.Delete map key) (Ret ret) new =
-    (store : Store) × Deletes m.store (open_sections m.runs) map key.items ret store × (new ≡ with_store m store)
-PerformsEvent m (events.Read map key) (Found (Some value)) new = ReadsElement m map key.items value.items × (new ≡ m)
-PerformsEvent m (events.Read map key) (Found None) new = IsAbsent m.store.elements map key.items × (new ≡ m)
+    (store : Store) × Deletes m.store (open_sections m.runs) map key.items ret store
+    × (new ≡ with_store m store)
+PerformsEvent m (events.Read map key) (Found (Some value)) new =
+    ReadsElement m map key.items value.items × (new ≡ m)
+PerformsEvent m (events.Read map key) (Found None) new =
+    IsAbsent m.store.elements map key.items × (new ≡ m)
 PerformsEvent m events.Advance Done new = new ≡ m
 PerformsEvent m events.Reap (Reaped None) new = new ≡ m
 PerformsEvent m events.Reap (Reaped (Some reaped)) new =
-    (n : ℕ) × (e : Element) × (store : Store) × Reclaims m.store (open_sections m.runs) n e reaped.given store
+    (n : ℕ) × (e : Element) × (store : Store)
+    × Reclaims m.store (open_sections m.runs) n e reaped.given store
     × (reaped.map ≡ e.map) × (reaped.key.items ≡ e.key) × (new ≡ with_store m store)
 PerformsEvent m (events.Drop run) Done new = new ≡ with_runs m (slice_set m.runs run None)
 PerformsEvent m event answer new = ⊥
 
--- A step of the machine: an event is refused exactly when a test fails, by the first that does, and then nothing changes.
+-- A step of the machine: an event is refused exactly when a test fails, by the first that does, and
+-- then nothing changes.
 abbrev pub Answers : Option EventRefusal → Machine → Event → Answer → Machine → Type 0
 Answers (Some refusal) m event answer new = (answer ≡ Refused refusal) × (new ≡ m)
 Answers None m event answer new = PerformsEvent m event answer new

@@ -8,7 +8,8 @@ use Rattle.bpf_model.specs.Event.{DoesEvent}
 -- From m the machine goes through these states, with these answers to these events.
 abbrev pub IsHistory : Machine → List Event → List Answer → List Machine → Type 0
 IsHistory m [] [] [] = Unit {0}
-IsHistory m (event ∷ events) (answer ∷ answers) (next ∷ states) = DoesEvent m event answer next × IsHistory next events answers states
+IsHistory m (event ∷ events) (answer ∷ answers) (next ∷ states) =
+    DoesEvent m event answer next × IsHistory next events answers states
 IsHistory m events answers states = ⊥
 
 -- the state that it ends in
@@ -24,6 +25,7 @@ AllStates P (m ∷ states) = P m × AllStates P states
 -- Some run of the machine from m has these answers to these events, and ends in new.
 abbrev pub MachineRun : Machine → List Event → List Answer → Machine → Type 0
 MachineRun m [] [] new = new ≡ m
-MachineRun m (event ∷ events) (answer ∷ answers) new = (next : Machine) × DoesEvent m event answer next
+MachineRun m (event ∷ events) (answer ∷ answers) new =
+    (next : Machine) × DoesEvent m event answer next
     × MachineRun next events answers new
 MachineRun m events answers new = ⊥

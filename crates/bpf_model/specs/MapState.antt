@@ -1,7 +1,10 @@
--- The state of the maps (Linux BPF documentation, "BPF_MAP_TYPE_HASH"; slots and their reuse are this runtime's own).
-use Rattle.std.specs.Prelude.{◌≡◌, ℕ, ◌+◌, ◌*◌, ◌≤◌, ◌==◌, List, [], ◌∷◌, ◌++◌, Option, Some, None, slice_get, replicate, if◌then◌else◌}
+-- The state of the maps (Linux BPF documentation, "BPF_MAP_TYPE_HASH"; slots and their reuse are
+-- this runtime's own).
+use Rattle.std.specs.Prelude.{◌≡◌, ℕ, ◌+◌, ◌*◌, ◌≤◌, ◌==◌, List, [], ◌∷◌, ◌++◌, Option, Some, None}
+use Rattle.std.specs.Prelude.{slice_get, replicate, if◌then◌else◌}
 use Rattle.bpf_model.specs.declared.limits.MapShape.{MapShape}
-use Rattle.bpf_model.specs.declared.limits.TheConstants.{KEY_BYTES, VALUE_BYTES, MAX_ENTRIES, MAX_SPARE, MAX_REUSE}
+use Rattle.bpf_model.specs.declared.limits.TheConstants.{KEY_BYTES, VALUE_BYTES, MAX_ENTRIES}
+use Rattle.bpf_model.specs.declared.limits.TheConstants.{MAX_SPARE, MAX_REUSE}
 use Rattle.bpf_model.specs.declared.event.Given.{Given}
 use Rattle.bpf_model.specs.declared.event.Given.TheVariants.{Free, Worn}
 use Rattle.bpf_model.specs.Element.{Element}
@@ -17,15 +20,16 @@ pub record IsShape (shape : MapShape) : Type 0 where
 abbrev pub AreShapes : List MapShape → Type 0
 AreShapes shapes = (k : ℕ) (shape : MapShape) → slice_get shapes k ≡ Some shape → IsShape shape
 
--- How many slots a map has, and how many elements are born in them at most: each slot is used so often.
+-- How many slots a map has, and how many elements are born in them at most: each slot is used so
+-- often.
 abbrev pub slots_of_shape : MapShape → ℕ
 slots_of_shape shape = shape.entries + shape.spare
 
 abbrev pub most_births : MapShape → ℕ
 most_births shape = slots_of_shape shape * shape.reuse_limit
 
--- A map: its shape, for each free slot how often it was used (a bag: its order says nothing here), and how many slots are worn out. What it
--- has under a key stands in the elements.
+-- A map: its shape, for each free slot how often it was used (a bag: its order says nothing here),
+-- and how many slots are worn out. What it has under a key stands in the elements.
 pub record MapState : Type 0 where
   pub shape : MapShape
   pub bag : List ℕ

@@ -1,9 +1,10 @@
--- Plain programs, which the verifier owes acceptance: forward jumps, every instruction reached, and on every path each register and each
--- byte of the frame written as a number before it is read.
+-- Plain programs, which the verifier owes acceptance: forward jumps, every instruction reached, and
+-- on every path each register and each byte of the frame written as a number before it is read.
 use Rattle.std.specs.Prelude.{◌≡◌, ℕ, ◌+◌, ◌<◌, ◌≤◌, List, [], ◌∷◌, ◌++◌, Some, ℤ, pos, ◌+ℤ◌, ◌⊎◌}
 use Rattle.bpf_model.specs.declared.limits.TheConstants.{FRAME_BYTES}
 use Rattle.bpf_model.specs.declared.insn.Insn.{Insn}
-use Rattle.bpf_model.specs.declared.insn.Insn.TheVariants.{Alu, Unary, LoadNumber, LoadMap, JumpIf, Call, Exit, Load, LoadSigned, Store}
+use Rattle.bpf_model.specs.declared.insn.Insn.TheVariants.{Alu, Unary, LoadNumber, LoadMap, JumpIf}
+use Rattle.bpf_model.specs.declared.insn.Insn.TheVariants.{Call, Exit, Load, LoadSigned, Store}
 use Rattle.bpf_model.specs.declared.insn.AluOp.TheVariants.{Move}
 use Rattle.bpf_model.specs.declared.insn.Operand.{Operand}
 use Rattle.bpf_model.specs.declared.insn.Operand.TheVariants.{Register, Immediate}
@@ -39,7 +40,9 @@ WritesRegister _ r = ⊥
 
 -- An access with base r10 takes byte k of the frame: an aligned access, all of its bytes inside.
 abbrev pub Takes : Width → ℤ → ℕ → Type 0
-Takes width offset k = (at : ℕ) × (region_offset FRAME_BYTES (byte_count width) (pos FRAME_BYTES +ℤ offset) ≡ Some at) × (at ≤ k) × (k < at + byte_count width)
+Takes width offset k =
+    (at : ℕ) × (region_offset FRAME_BYTES (byte_count width) (pos FRAME_BYTES +ℤ offset) ≡ Some at)
+    × (at ≤ k) × (k < at + byte_count width)
 
 abbrev pub ReadsByte : Insn → ℕ → Type 0
 ReadsByte (Load width dst src offset) k = Takes width offset k
@@ -68,23 +71,29 @@ IsSimple _ = Unit {0}
 pub data WithoutRegister (program : List Insn) (r : ℕ) : ℕ → Type 0 where
   unwritten_entry : WithoutRegister program r 0
   unwritten_next : (place target : ℕ) (i : Insn) → WithoutRegister program r place
-      → insn_at program place ≡ Some i → (WritesRegister i r → ⊥) → GoesTo i place target → WithoutRegister program r target
+      → insn_at program place ≡ Some i → (WritesRegister i r → ⊥) → GoesTo i place target →
+      WithoutRegister program r target
 
 -- A path leads to the slot on which the byte of the frame isn't written.
 pub data WithoutByte (program : List Insn) (k : ℕ) : ℕ → Type 0 where
   bare_entry : WithoutByte program k 0
-  bare_next : (place target : ℕ) (i : Insn) → WithoutByte program k place → insn_at program place ≡ Some i
+  bare_next : (place target : ℕ) (i : Insn) → WithoutByte program k place →
+      insn_at program place ≡ Some i
       → (WritesByte i k → ⊥) → GoesTo i place target → WithoutByte program k target
 
 pub record IsPlain (program : List Insn) : Type 0 where
   -- every jump goes forward to the start of an instruction
   pub jumps : (place : ℕ) (i : Insn) (d : ℤ) → insn_at program place ≡ Some i → distance i ≡ Some d
-      → (target : ℕ) × (next : Insn) × JumpsTo i place target × (place < target) × (insn_at program target ≡ Some next)
+      → (target : ℕ) × (next : Insn) × JumpsTo i place target × (place < target)
+      × (insn_at program target ≡ Some next)
   pub reached : (place : ℕ) (i : Insn) → insn_at program place ≡ Some i → Reached program place
   pub last : (front : List Insn) × (program ≡ front ++ Exit ∷ [])
   pub simple : (place : ℕ) (i : Insn) → insn_at program place ≡ Some i → IsSimple i
   -- r10 isn't written, and only the accesses to the frame read it
-  pub frame_pointer : (place : ℕ) (i : Insn) → insn_at program place ≡ Some i → (WritesRegister i 10 → ⊥) × (ReadsRegister i 10 → ⊥)
-  pub registers : (place : ℕ) (i : Insn) (r : ℕ) → insn_at program place ≡ Some i → ReadsRegister i r
+  pub frame_pointer : (place : ℕ) (i : Insn) → insn_at program place ≡ Some i →
+      (WritesRegister i 10 → ⊥) × (ReadsRegister i 10 → ⊥)
+  pub registers : (place : ℕ) (i : Insn) (r : ℕ) → insn_at program place ≡ Some i →
+      ReadsRegister i r
       → WithoutRegister program r place → ⊥
-  pub bytes : (place : ℕ) (i : Insn) (k : ℕ) → insn_at program place ≡ Some i → ReadsByte i k → WithoutByte program k place → ⊥
+  pub bytes : (place : ℕ) (i : Insn) (k : ℕ) → insn_at program place ≡ Some i → ReadsByte i k →
+      WithoutByte program k place → ⊥

@@ -1,9 +1,12 @@
--- Plain programs with sections and guarded lookups, which the verifier owes acceptance too. Paths are those of the jump graph.
-use Rattle.std.specs.Prelude.{◌≡◌, ℕ, ◌+◌, ◌<◌, ◌≤◌, Bool, true, false, List, [], ◌∷◌, ◌++◌, Some, slice_get, ℤ, pos, ◌+ℤ◌, ◌⊎◌}
+-- Plain programs with sections and guarded lookups, which the verifier owes acceptance too. Paths
+-- are those of the jump graph.
+use Rattle.std.specs.Prelude.{◌≡◌, ℕ, ◌+◌, ◌<◌, ◌≤◌, Bool, true, false, List, [], ◌∷◌, ◌++◌, Some}
+use Rattle.std.specs.Prelude.{slice_get, ℤ, pos, ◌+ℤ◌, ◌⊎◌}
 use Rattle.bpf_model.specs.declared.limits.TheConstants.{FRAME_BYTES}
 use Rattle.bpf_model.specs.declared.limits.MapShape.{MapShape}
 use Rattle.bpf_model.specs.declared.insn.Insn.{Insn}
-use Rattle.bpf_model.specs.declared.insn.Insn.TheVariants.{Alu, LoadMap, JumpIf, Call, Exit, Load, LoadSigned}
+use Rattle.bpf_model.specs.declared.insn.Insn.TheVariants.{Alu, LoadMap, JumpIf, Call, Exit, Load}
+use Rattle.bpf_model.specs.declared.insn.Insn.TheVariants.{LoadSigned}
 use Rattle.bpf_model.specs.declared.insn.AluOp.TheVariants.{Move, Add}
 use Rattle.bpf_model.specs.declared.insn.CallKind.TheVariants.{Helper, Kernel}
 use Rattle.bpf_model.specs.declared.insn.Operand.TheVariants.{Register, Immediate}
@@ -32,8 +35,8 @@ IsValueLoad shape (LoadSigned width dst src offset) = (src ≡ 0) × (6 ≤ dst)
     × (region_offset shape.value_len (byte_count (unsigned_width width)) offset ≡ Some at)
 IsValueLoad shape i = ⊥
 
--- A guarded lookup: r2 is the key's address in the frame, r1 a map of the list, then the call, a test for null that skips the load, and the
--- load. No jump leads into its middle.
+-- A guarded lookup: r2 is the key's address in the frame, r1 a map of the list, then the call, a
+-- test for null that skips the load, and the load. No jump leads into its middle.
 pub record IsGuardedLookup (program : List Insn) (shapes : List MapShape) (start : ℕ) : Type 0 where
   pub offset : ℤ
   pub at : ℕ
@@ -47,18 +50,23 @@ pub record IsGuardedLookup (program : List Insn) (shapes : List MapShape) (start
   pub guard : insn_at program (start + 5) ≡ Some (JumpIf Equal Word64 0 (Immediate (pos 0)) (pos 1))
   pub value : insn_at program (start + 6) ≡ Some load
   pub in_list : slice_get shapes map ≡ Some shape
-  pub in_frame : (pos FRAME_BYTES +ℤ offset ≡ pos at) × (at < FRAME_BYTES) × (at + shape.key_len ≤ FRAME_BYTES)
+  pub in_frame : (pos FRAME_BYTES +ℤ offset ≡ pos at) × (at < FRAME_BYTES)
+      × (at + shape.key_len ≤ FRAME_BYTES)
   pub in_value : IsValueLoad shape load
-  pub entered : (place target : ℕ) (i : Insn) → insn_at program place ≡ Some i → JumpsTo i place target
+  pub entered : (place target : ℕ) (i : Insn) → insn_at program place ≡ Some i →
+      JumpsTo i place target
       → start < target → target ≤ start + 6 → ⊥
 
 -- the instruction at the slot is part of a guarded lookup
 abbrev pub IsPart : List Insn → List MapShape → ℕ → Type 0
-IsPart program shapes place = (start : ℕ) × IsGuardedLookup program shapes start × (start ≤ place) × (place ≤ start + 6)
+IsPart program shapes place =
+    (start : ℕ) × IsGuardedLookup program shapes start × (start ≤ place) × (place ≤ start + 6)
 
--- what stands at a slot: a part of a guarded lookup, a lock, an unlock, or an instruction without call and map
+-- what stands at a slot: a part of a guarded lookup, a lock, an unlock, or an instruction without
+-- call and map
 abbrev pub HasForm : List Insn → List MapShape → ℕ → Insn → Type 0
-HasForm program shapes place i = IsPart program shapes place ⊎ ((i ≡ lock_call) ⊎ ((i ≡ unlock_call) ⊎ IsSimple i))
+HasForm program shapes place i =
+    IsPart program shapes place ⊎ ((i ≡ lock_call) ⊎ ((i ≡ unlock_call) ⊎ IsSimple i))
 
 -- A path leads to the slot, at whose end a section is open, or none.
 abbrev pub Keeps : Insn → Type 0
@@ -67,42 +75,54 @@ Keeps i = ((i ≡ lock_call) → ⊥) × ((i ≡ unlock_call) → ⊥)
 pub data InSection (program : List Insn) : Bool → ℕ → Type 0 where
   section_entry : InSection program false 0
   section_lock : (open_before : Bool) (place target : ℕ) → InSection program open_before place
-      → insn_at program place ≡ Some lock_call → GoesTo lock_call place target → InSection program true target
+      → insn_at program place ≡ Some lock_call → GoesTo lock_call place target →
+      InSection program true target
   section_unlock : (open_before : Bool) (place target : ℕ) → InSection program open_before place
-      → insn_at program place ≡ Some unlock_call → GoesTo unlock_call place target → InSection program false target
-  section_next : (open_before : Bool) (place target : ℕ) (i : Insn) → InSection program open_before place
-      → insn_at program place ≡ Some i → Keeps i → GoesTo i place target → InSection program open_before target
+      → insn_at program place ≡ Some unlock_call → GoesTo unlock_call place target →
+      InSection program false target
+  section_next : (open_before : Bool) (place target : ℕ) (i : Insn) →
+      InSection program open_before place
+      → insn_at program place ≡ Some i → Keeps i → GoesTo i place target →
+      InSection program open_before target
 
--- A path leads to the slot on which the register isn't written since the entry or the last call, which leaves r0 to r5 unwritten. The writes of
--- a guarded lookup don't count.
+-- A path leads to the slot on which the register isn't written since the entry or the last call,
+-- which leaves r0 to r5 unwritten. The writes of a guarded lookup don't count.
 pub data LacksRegister (program : List Insn) (shapes : List MapShape) (r : ℕ) : ℕ → Type 0 where
   lacks_entry : LacksRegister program shapes r 0
-  lacks_call : (place target : ℕ) (i : Insn) → Reached program place → insn_at program place ≡ Some i
+  lacks_call : (place target : ℕ) (i : Insn) → Reached program place →
+      insn_at program place ≡ Some i
       → (i ≡ lock_call) ⊎ ((i ≡ unlock_call) ⊎ (i ≡ lookup_call)) → r ≤ 5 → GoesTo i place target
       → LacksRegister program shapes r target
   lacks_next : (place target : ℕ) (i : Insn) → LacksRegister program shapes r place
-      → insn_at program place ≡ Some i → (WritesRegister i r → IsPart program shapes place) → GoesTo i place target
+      → insn_at program place ≡ Some i → (WritesRegister i r → IsPart program shapes place) →
+      GoesTo i place target
       → LacksRegister program shapes r target
 
 pub record IsPlainWithMaps (program : List Insn) (shapes : List MapShape) : Type 0 where
   -- every jump goes forward to the start of an instruction
   pub jumps : (place : ℕ) (i : Insn) (d : ℤ) → insn_at program place ≡ Some i → distance i ≡ Some d
-      → (target : ℕ) × (next : Insn) × JumpsTo i place target × (place < target) × (insn_at program target ≡ Some next)
+      → (target : ℕ) × (next : Insn) × JumpsTo i place target × (place < target)
+      × (insn_at program target ≡ Some next)
   pub reached : (place : ℕ) (i : Insn) → insn_at program place ≡ Some i → Reached program place
   pub last : (front : List Insn) × (program ≡ front ++ Exit ∷ [])
-  pub forms : (place : ℕ) (i : Insn) → insn_at program place ≡ Some i → HasForm program shapes place i
+  pub forms : (place : ℕ) (i : Insn) → insn_at program place ≡ Some i →
+      HasForm program shapes place i
   -- each instruction lies inside a section on every path or outside on every path
   pub settled : (place : ℕ) → InSection program true place → InSection program false place → ⊥
-  pub lock_outside : (place : ℕ) → insn_at program place ≡ Some lock_call → InSection program true place → ⊥
-  pub unlock_inside : (place : ℕ) → insn_at program place ≡ Some unlock_call → InSection program false place → ⊥
-  pub exit_outside : (place : ℕ) → insn_at program place ≡ Some Exit → InSection program true place → ⊥
+  pub lock_outside : (place : ℕ) → insn_at program place ≡ Some lock_call →
+      InSection program true place → ⊥
+  pub unlock_inside : (place : ℕ) → insn_at program place ≡ Some unlock_call →
+      InSection program false place → ⊥
+  pub exit_outside : (place : ℕ) → insn_at program place ≡ Some Exit →
+      InSection program true place → ⊥
   pub lookup_inside : (place : ℕ) → IsPart program shapes place → InSection program false place → ⊥
   -- r10 isn't written, and only the accesses to the frame and the guarded lookups read it
   pub frame_pointer : (place : ℕ) (i : Insn) → insn_at program place ≡ Some i
       → (IsPart program shapes place → ⊥) → (WritesRegister i 10 → ⊥) × (ReadsRegister i 10 → ⊥)
   -- each register and each byte of the frame is written before it is read
   pub registers : (place : ℕ) (i : Insn) (r : ℕ) → insn_at program place ≡ Some i
-      → (IsPart program shapes place → ⊥) → ReadsRegister i r → LacksRegister program shapes r place → ⊥
+      → (IsPart program shapes place → ⊥) → ReadsRegister i r →
+      LacksRegister program shapes r place → ⊥
   pub bytes : (place : ℕ) (i : Insn) (k : ℕ) → insn_at program place ≡ Some i
       → (IsPart program shapes place → ⊥) → ReadsByte i k → WithoutByte program k place → ⊥
   pub keys : (start k : ℕ) (lookup : IsGuardedLookup program shapes start) → lookup.at ≤ k

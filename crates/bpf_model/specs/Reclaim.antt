@@ -1,5 +1,6 @@
--- Reclamation (Linux RCU requirements, "Grace-Period Guarantee"): an element may be reclaimed once each section that was open when it was
--- unlinked has ended. Which of those elements is reclaimed, and when, is left open.
+-- Reclamation (Linux RCU requirements, "Grace-Period Guarantee"): an element may be reclaimed once
+-- each section that was open when it was unlinked has ended. Which of those elements is reclaimed,
+-- and when, is left open.
 use Rattle.std.specs.Prelude.{◌≡◌, ℕ, List, Some, slice_get, slice_set}
 use Rattle.bpf_model.specs.declared.event.Given.{Given}
 use Rattle.bpf_model.specs.Section.{Section, AllEnded}
@@ -7,7 +8,8 @@ use Rattle.bpf_model.specs.Element.{Element, Unlinked, Reclaimed, with_life}
 use Rattle.bpf_model.specs.MapState.{MapState, Store, given_of, returned}
 
 -- Element n is reclaimed: its slot's use count goes back into the bag, or the slot is worn out.
-pub record Reclaims (s : Store) (opened : List Section) (n : ℕ) (element : Element) (given : Given) (new : Store) : Type 0 where
+pub record Reclaims (s : Store) (opened : List Section) (n : ℕ) (element : Element) (given : Given)
+    (new : Store) : Type 0 where
   pub state : MapState
   pub since : List Section
   pub born : slice_get s.elements n ≡ Some element

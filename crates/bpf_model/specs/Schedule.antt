@@ -1,6 +1,9 @@
--- The choices of this runtime where the machine leaves one: which elements wait, when they may be reclaimed, and which slot a new one takes
--- (a grace period as in Linux's RCU: it ends when each section that was open at its beginning has ended).
-use Rattle.std.specs.Prelude.{◌≡◌, ℕ, suc, ◌-◌, ◌==◌, ◌&&◌, Bool, true, false, List, [], ◌∷◌, ◌++◌, Option, Some, None, slice_get, length, map, drop, replicate, if◌then◌else◌}
+-- The choices of this runtime where the machine leaves one: which elements wait, when they may be
+-- reclaimed, and which slot a new one takes (a grace period as in Linux's RCU: it ends when each
+-- section that was open at its beginning has ended).
+use Rattle.std.specs.Prelude.{◌≡◌, ℕ, suc, ◌-◌, ◌==◌, ◌&&◌, Bool, true, false, List, [], ◌∷◌, ◌++◌}
+use Rattle.std.specs.Prelude.{Option, Some, None, slice_get, length, map, drop, replicate}
+use Rattle.std.specs.Prelude.{if◌then◌else◌}
 use Rattle.std.specs.List.{list_any}
 use Rattle.bpf_model.specs.declared.limits.MapShape.{MapShape}
 use Rattle.bpf_model.specs.declared.limits.TheConstants.{MAX_RUNS}
@@ -14,20 +17,22 @@ use Rattle.bpf_model.specs.MapState.{MapState, Store}
 use Rattle.bpf_model.specs.Machine.{Run, Machine, Loaded, is_inside, start_machine}
 use Rattle.bpf_model.specs.Event.{DoesEvent}
 
--- The births of a map's unlinked elements, in three lists: those unlinked since the present grace period began, those that wait for its end,
--- and those that may be reclaimed.
+-- The births of a map's unlinked elements, in three lists: those unlinked since the present grace
+-- period began, those that wait for its end, and those that may be reclaimed.
 pub record Queues : Type 0 where
   pub next : List ℕ
   pub waiting : List ℕ
   pub ready : List ℕ
 
--- The machine; the lists of each map; and for each run slot whether its section is awaited, which the present grace period waits for.
+-- The machine; the lists of each map; and for each run slot whether its section is awaited, which
+-- the present grace period waits for.
 pub record Schedule : Type 0 where
   pub machine : Machine
   pub queues : List Queues
   pub awaited : List Bool
 
--- A lock makes a run open, an unlock ends that: it also ends the waiting for it, which the run's next section doesn't revive.
+-- A lock makes a run open, an unlock ends that: it also ends the waiting for it, which the run's
+-- next section doesn't revive.
 abbrev pub is_open : Option Run → Bool
 is_open None = false
 is_open (Some run) = is_inside run
@@ -42,13 +47,17 @@ still_open awaited opened = []
 abbrev pub is_any : List Bool → Bool
 is_any flags = list_any (λ b. b) flags
 
--- The births of a map that were linked in the first list of elements and are unlinked in the second; the first element's birth is n.
+-- The births of a map that were linked in the first list of elements and are unlinked in the
+-- second; the first element's birth is n.
 abbrev pub unlinked_between : ℕ → ℕ → List Element → List Element → List ℕ
 unlinked_between map n (old ∷ olds) (new ∷ news) =
-    if is_linked old.life && is_unlinked new.life && (old.map == map) then n ∷ unlinked_between map (suc n) olds news else unlinked_between map (suc n) olds news
+    if is_linked old.life && is_unlinked new.life
+    && (old.map == map) then n ∷ unlinked_between map (suc n) olds news
+    else unlinked_between map (suc n) olds news
 unlinked_between map n olds news = []
 
--- An unlinked element goes to the end of its map's list next; the first of these lists is that of map k.
+-- An unlinked element goes to the end of its map's list next; the first of these lists is that of
+-- map k.
 abbrev pub retired : ℕ → List Element → List Element → List Queues → List Queues
 retired k old new [] = []
 retired k old new (q ∷ qs) = record {
@@ -57,14 +66,20 @@ retired k old new (q ∷ qs) = record {
   ready = q.ready;
 } ∷ retired (suc k) old new qs
 
--- A grace period ends and the next begins: those that waited are ready, and those unlinked meanwhile wait.
+-- A grace period ends and the next begins: those that waited are ready, and those unlinked
+-- meanwhile wait.
 abbrev pub turned : Queues → Queues
 turned q = record { next = []; waiting = q.next; ready = q.ready ++ q.waiting }
 
--- An advance does so when no run is awaited, and from then on the runs that are open are awaited; else it changes nothing.
+-- An advance does so when no run is awaited, and from then on the runs that are open are awaited;
+-- else it changes nothing.
 abbrev pub advanced : Schedule → Machine → Bool → Schedule
 advanced s m true = record { machine = m; queues = s.queues; awaited = s.awaited }
-advanced s m false = record { machine = m; queues = map turned s.queues; awaited = open_flags m.runs }
+advanced s m false = record {
+  machine = m;
+  queues = map turned s.queues;
+  awaited = open_flags m.runs;
+}
 
 -- The birth that a reap takes: the first ready one of the lowest map that has one.
 abbrev pub or_first : List ℕ → Option ℕ → Option ℕ
@@ -104,14 +119,18 @@ TakesFirst s Reap (Reaped (Some element)) m =
     × HasLife s.machine.store.elements n (Unlinked since) × HasLife m.store.elements n Reclaimed
 TakesFirst s event answer m = Unit {0}
 
--- A new element takes the slot of its map that has been free longest: the bag is a queue, to whose end a reclaimed slot goes.
+-- A new element takes the slot of its map that has been free longest: the bag is a queue, to whose
+-- end a reclaimed slot goes.
 abbrev pub TakesOldest : Store → Store → Type 0
 TakesOldest old new =
-    (e : Element) (before after : MapState) → slice_get new.elements (length old.elements) ≡ Some e →
-    slice_get old.maps e.map ≡ Some before → slice_get new.maps e.map ≡ Some after → before.bag ≡ (e.uses - 1) ∷ after.bag
+    (e : Element) (before after : MapState) →
+    slice_get new.elements (length old.elements) ≡ Some e →
+    slice_get old.maps e.map ≡ Some before → slice_get new.maps e.map ≡ Some after →
+    before.bag ≡ (e.uses - 1) ∷ after.bag
 
 -- A step of the machine with these choices.
-pub record DoesScheduled (s : Schedule) (event : Event) (answer : Answer) (new : Schedule) : Type 0 where
+pub record DoesScheduled (s : Schedule) (event : Event) (answer : Answer) (new : Schedule)
+    : Type 0 where
   pub step : DoesEvent s.machine event answer new.machine
   pub first : TakesFirst s event answer new.machine
   pub oldest : TakesOldest s.machine.store new.machine.store
@@ -119,7 +138,8 @@ pub record DoesScheduled (s : Schedule) (event : Event) (answer : Answer) (new :
 
 abbrev pub IsScheduledHistory : Schedule → List Event → List Answer → List Schedule → Type 0
 IsScheduledHistory s [] [] [] = Unit {0}
-IsScheduledHistory s (event ∷ events) (answer ∷ answers) (next ∷ states) = DoesScheduled s event answer next
+IsScheduledHistory s (event ∷ events) (answer ∷ answers) (next ∷ states) =
+    DoesScheduled s event answer next
     × IsScheduledHistory next events answers states
 IsScheduledHistory s events answers states = ⊥
 

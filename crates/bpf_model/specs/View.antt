@@ -1,5 +1,7 @@
--- What a world keeps, as plain lists and maps: nothing here says how an index or a list is laid out.
-use Rattle.std.specs.Prelude.{◌≡◌, ℕ, List, [], Bool, false, Option, Some, None, map, replicate, slice_get}
+-- What a world keeps, as plain lists and maps: nothing here says how an index or a list is laid
+-- out.
+use Rattle.std.specs.Prelude.{◌≡◌, ℕ, List, [], Bool, false, Option, Some, None, map, replicate}
+use Rattle.std.specs.Prelude.{slice_get}
 use Rattle.std.specs.List.{range_with_len}
 use Rattle.std.specs.Ordering.{nat_cmp}
 use Rattle.std.specs.Cmp.Lexicographic.{slice_cmp}
@@ -33,8 +35,8 @@ uses_in (Some s) = s.uses
 abbrev pub uses_at : List SlotView → ℕ → ℕ
 uses_at slots i = uses_in (slice_get slots i)
 
--- A map: its slots, the free ones in the order in which they will be taken, the slot of each key in byte order, and the slots of its unlinked
--- elements in three lists.
+-- A map: its slots, the free ones in the order in which they will be taken, the slot of each key in
+-- byte order, and the slots of its unlinked elements in three lists.
 pub record MapView : Type 0 where
   pub shape : MapShape
   pub slots : List SlotView
@@ -66,8 +68,9 @@ new_map_view shape = record {
   worn = 0;
 }
 
--- A run: the number of its program, its context, eleven untyped words, the bytes of its frame, the slot where its next instruction begins, how many of its
--- locks are open, how many of its steps have led further on, and its exit value.
+-- A run: the number of its program, its context, eleven untyped words, the bytes of its frame, the
+-- slot where its next instruction begins, how many of its locks are open, how many of its steps
+-- have led further on, and its exit value.
 pub record RunView : Type 0 where
   pub program : ℕ
   pub context : List ℕ
@@ -78,8 +81,9 @@ pub record RunView : Type 0 where
   pub moved : ℕ
   pub exit : Option ℕ
 
--- A world: its maps by number, its runs by slot, for each run slot whether its run is inside a section and whether that section is awaited,
--- its programs, and how many elements it has reclaimed.
+-- A world: its maps by number, its runs by slot, for each run slot whether its run is inside a
+-- section and whether that section is awaited, its programs, and how many elements it has
+-- reclaimed.
 pub record WorldView : Type 0 where
   pub maps : List MapView
   pub runs : List (Option RunView)
@@ -103,8 +107,10 @@ start_view shapes programs = record {
 abbrev pub shapes_of : WorldView → List MapShape
 shapes_of w = map (λ v. v.shape) w.maps
 
--- What is asked of a run by its slot: it has ended with this value, and was started with this code on this context.
-pub record HasExited (w : WorldView) (r : ℕ) (code : List Insn) (context : List ℕ) (n : ℕ) : Type 0 where
+-- What is asked of a run by its slot: it has ended with this value, and was started with this code
+-- on this context.
+pub record HasExited (w : WorldView) (r : ℕ) (code : List Insn) (context : List ℕ) (n : ℕ)
+    : Type 0 where
   pub run : RunView
   pub there : slice_get w.runs r ≡ Some (Some run)
   pub program : Loaded

@@ -44,7 +44,8 @@ pub record IsFaultVerdict (bytes : List ℕ) (v : Verdict) : Type 0 where
   pub code : v.code ≡ decode_fault_number fault
   pub slot : v.slot ≡ decode_fault_slot fault
 
--- The bytes are the text of a program, and the verdict is the verifier's of it. Unless memory ran out, the program isn't plain.
+-- The bytes are the text of a program, and the verdict is the verifier's of it. Unless memory ran
+-- out, the program isn't plain.
 pub record IsVerifierVerdict (bytes : List ℕ) (v : Verdict) : Type 0 where
   pub program : List Insn
   pub is : IsProgram program
@@ -78,12 +79,14 @@ IsRefusedBy (Disasm file) bytes = IsRefusedByDecode bytes
 -- what `check` says of a program of so many instructions and slots
 abbrev pub accepted_line : ℕ → ℕ → List ℕ
 accepted_line instructions slots =
-    codes "accepted " ++ (decimal instructions ++ (codes " instructions " ++ (decimal slots ++ codes " slots\n")))
+    codes "accepted " ++ (decimal instructions
+    ++ (codes " instructions " ++ (decimal slots ++ codes " slots\n")))
 
 -- what `check` adds to the output for a file that it accepts
 abbrev pub WritesAccepted : Option (List ℕ) → Option (List ℕ) → List ℕ → Type 0
 WritesAccepted old new bytes =
-    (program : List Insn) × IsVerifiedText bytes program × Appends old new (accepted_line (length program) (slot_total program))
+    (program : List Insn) × IsVerifiedText bytes program
+    × Appends old new (accepted_line (length program) (slot_total program))
 
 -- what `disasm` adds for a file that is a program
 abbrev pub WritesText : Option (List ℕ) → Option (List ℕ) → List ℕ → Type 0

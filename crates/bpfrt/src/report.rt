@@ -4,9 +4,9 @@ ghost use Rattle.bpfrt.specs.declared.request.UsageFault.TheVariants.{Memory};
 
 use crate::request::UsageFault;
 use insn_codec::DecodeFault;
-use verifier::Refusal;
 use std::alloc::AllocError;
 use std::io::Write;
+use verifier::Refusal;
 
 /// A refusal: its number, and the slot at which it is, where it has one.
 #[derive(Clone, Copy, Debug, PartialEq, Eq)]

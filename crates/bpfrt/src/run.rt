@@ -12,10 +12,10 @@ use crate::report::{Verdict, fault, refused};
 use crate::request::Command;
 use disasm::disassemble;
 use insn_codec::Program;
-use verifier::{Refusal, Verified, verify};
 use std::alloc::Global;
 use std::io;
 use std::io::{ErrorKind, Read, Write};
+use verifier::{Refusal, Verified, verify};
 
 /// How long an accepted program is.
 #[derive(Clone, Copy)]

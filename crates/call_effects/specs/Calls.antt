@@ -1,5 +1,6 @@
 -- Calls and tests for null in words of the laws.
-use Rattle.std.specs.Prelude.{◌≡◌, ℕ, ◌≤◌, ◌+◌, List, Option, Some, None, Result, Ok, Err, ℤ, pos, Bool, if◌then◌else◌}
+use Rattle.std.specs.Prelude.{◌≡◌, ℕ, ◌≤◌, ◌+◌, List, Option, Some, None, Result, Ok, Err, ℤ, pos}
+use Rattle.std.specs.Prelude.{Bool, if◌then◌else◌}
 use Rattle.bpf_model.specs.declared.limits.MapShape.{MapShape}
 use Rattle.bpf_model.specs.declared.insn.CallKind.{CallKind}
 use Rattle.bpf_model.specs.declared.insn.CallKind.TheVariants as callee
@@ -9,7 +10,8 @@ use Rattle.bpf_model.specs.declared.call.KernelFunction.{KernelFunction}
 use Rattle.bpf_model.specs.declared.call.KernelFunction.TheVariants.{ReadLock, ReadUnlock}
 use Rattle.bpf_model.specs.Call.{helper_of, kernel_function_of}
 use Rattle.kind_tests.specs.declared.fault.Fault.{Fault}
-use Rattle.kind_tests.specs.declared.fault.Fault.TheVariants.{UnknownCall, OutsideSection, UnpairedSection}
+use Rattle.kind_tests.specs.declared.fault.Fault.TheVariants.{UnknownCall, OutsideSection}
+use Rattle.kind_tests.specs.declared.fault.Fault.TheVariants.{UnpairedSection}
 use Rattle.bpf_model.specs.declared.insn.Insn.{Insn}
 use Rattle.bpf_model.specs.declared.insn.Insn.TheVariants.{Call, JumpIf}
 use Rattle.bpf_model.specs.declared.insn.Operand.TheVariants.{Immediate}
@@ -28,17 +30,22 @@ use Rattle.register_kinds.specs.declared.kind.CellKind.TheVariants.{Byte}
 use Rattle.register_kinds.specs.States.{kind_in, state_of}
 use Rattle.kind_tests.specs.Tests.{AreAll}
 
--- From each run that the old state describes the call has a step, and each leads to one that the new state describes.
+-- From each run that the old state describes the call has a step, and each leads to one that the
+-- new state describes.
 abbrev pub PerformsCall : CallKind → ℤ → List MapShape → AbsState → AbsState → Type 0
-PerformsCall kind imm shapes old new = (ctx_len : ℕ) → Transfers (Call kind imm) shapes ctx_len (state_of old) (state_of new) None
+PerformsCall kind imm shapes old new =
+    (ctx_len : ℕ) → Transfers (Call kind imm) shapes ctx_len (state_of old) (state_of new) None
 
 -- a jump on the number 0, or on any other, to a slot further on
 abbrev pub null_jump : Bool → ℕ → ℕ → Insn
-null_jump equal dst n = JumpIf (if equal then Equal else NotEqual) Word64 dst (Immediate (pos 0)) (pos n)
+null_jump equal dst n =
+    JumpIf (if equal then Equal else NotEqual) Word64 dst (Immediate (pos 0)) (pos n)
 
 -- So it is of a jump, with another state where it is taken.
 abbrev pub NullForks : Bool → ℕ → AbsState → AbsState → AbsState → Type 0
-NullForks equal dst old new taken = (shapes : List MapShape) (ctx_len n : ℕ) → Transfers (null_jump equal dst n) shapes ctx_len (state_of old) (state_of new) (Some (state_of taken))
+NullForks equal dst old new taken =
+    (shapes : List MapShape) (ctx_len n : ℕ) →
+    Transfers (null_jump equal dst n) shapes ctx_len (state_of old) (state_of new) (Some (state_of taken))
 
 -- The first tests of a call, of its number and of the section: the first that fails, if one does.
 abbrev pub helper_fault : Option Helper → Bool → Option Fault
@@ -78,7 +85,8 @@ Called None a b = ⊥
 Called (Some ReadLock) a b = AreAlike (after_lock a) b
 Called (Some ReadUnlock) a b = AreAlike (after_unlock a) b
 
--- Of a test for null both edges are as the test tells: where the identity is null all of it becomes the number 0, elsewhere the element's value.
+-- Of a test for null both edges are as the test tells: where the identity is null all of it becomes
+-- the number 0, elsewhere the element's value.
 pub record Splits (id : ℕ) (a null there : AbsState) : Type 0 where
   pub is_null : AreAlike (learnt (IsNull id) (state_of a)) (state_of null)
   pub is_there : AreAlike (learnt (IsThere id) (state_of a)) (state_of there)

@@ -1,5 +1,6 @@
 -- What operations give, by the kinds of their operands.
-use Rattle.std.specs.Prelude.{◌≡◌, ℕ, ◌-◌, ◌^◌, ◌<◌, ◌≤◌, ◌⊎◌, List, Option, Some, None, ℤ, pos, ◌+ℤ◌, ◌-ℤ◌, Result, Ok, IsOk}
+use Rattle.std.specs.Prelude.{◌≡◌, ℕ, ◌-◌, ◌^◌, ◌<◌, ◌≤◌, ◌⊎◌, List, Option, Some, None, ℤ, pos}
+use Rattle.std.specs.Prelude.{◌+ℤ◌, ◌-ℤ◌, Result, Ok, IsOk}
 use Rattle.std.specs.Int.{w64}
 use Rattle.bpf_model.specs.declared.limits.MapShape.{MapShape}
 use Rattle.bpf_model.specs.declared.value.Value.{Value}
@@ -29,9 +30,12 @@ use Rattle.register_kinds.specs.States.{kind_of, kind_in, state_of}
 use Rattle.compute_effects.specs.declared.moving.Way.{Way}
 use Rattle.compute_effects.specs.declared.moving.Way.TheVariants.{Forward, Back}
 
--- From each run that the old state describes the instruction has a step, and each leads to one that the new state describes.
+-- From each run that the old state describes the instruction has a step, and each leads to one that
+-- the new state describes.
 abbrev pub PerformsComputation : Insn → AbsState → AbsState → Type 0
-PerformsComputation insn old new = (shapes : List MapShape) (ctx_len : ℕ) → Transfers insn shapes ctx_len (state_of old) (state_of new) None
+PerformsComputation insn old new =
+    (shapes : List MapShape) (ctx_len : ℕ) →
+    Transfers insn shapes ctx_len (state_of old) (state_of new) None
 
 -- how many bytes forward a sum or a difference moves a reference
 abbrev pub signed_move : Way → ℕ → ℤ
@@ -49,7 +53,8 @@ IsNearStep n = (n ≤ 2 ^ 29) ⊎ (2 ^ 64 - 2 ^ 29 ≤ n)
 
 -- Each of the offsets, moved by each of the numbers, is one of the new ones.
 abbrev pub MovesOffsets : Way → Scalar → Scalar → Scalar → Type 0
-MovesOffsets way s by t = (o : ℤ) (n : ℕ) → HasOffset s o → n < 2 ^ 64 → Holds by n → HasOffset t (o +ℤ signed_move way n)
+MovesOffsets way s by t =
+    (o : ℤ) (n : ℕ) → HasOffset s o → n < 2 ^ 64 → Holds by n → HasOffset t (o +ℤ signed_move way n)
 
 -- the computation gives a value of the kind
 abbrev pub Gives : Scene → Naming → Kind → Option Value → Type 0
@@ -57,15 +62,20 @@ Gives c ρ k o = (v : Value) × (o ≡ Some v) × IsOf c ρ k v × IsNear v
 
 -- From operands of these kinds the operation gives a value of the third.
 abbrev pub Combines : Size → AluOp → Kind → Kind → Kind → Type 0
-Combines size op x y k = (c : Scene) (ρ : Naming) (v w : Value) → IsOf c ρ x v → IsOf c ρ y w → IsNear w → Gives c ρ k (computed size op v w)
+Combines size op x y k =
+    (c : Scene) (ρ : Naming) (v w : Value) → IsOf c ρ x v → IsOf c ρ y w → IsNear w →
+    Gives c ρ k (computed size op v w)
 
 -- From each described state it does so.
 abbrev pub Computes : Size → AluOp → ℕ → Operand → Known → Kind → Type 0
-Computes size op dst src a k = (c : Scene) (m : State) (d : Describes a c m) → Gives c d.naming k (computed size op (m.regs dst) (operand_value src m.regs))
+Computes size op dst src a k =
+    (c : Scene) (m : State) (d : Describes a c m) →
+    Gives c d.naming k (computed size op (m.regs dst) (operand_value src m.regs))
 
 -- what an operand holds is of the kind
 abbrev pub HasValue : Known → Operand → Kind → Type 0
-HasValue a src k = (c : Scene) (m : State) (d : Describes a c m) → IsOf c d.naming k (operand_value src m.regs)
+HasValue a src k = (c : Scene) (m : State) (d : Describes a c m) →
+    IsOf c d.naming k (operand_value src m.regs)
 
 -- the operation moves a reference that way
 abbrev pub IsMove : Way → Size → AluOp → Type 0
@@ -87,14 +97,17 @@ pub record SetsNumber (r : Result (Unit {0}) Fault) (dst : ℕ) (a b : Known) : 
   pub alike : AreAlike (with_kind dst (Num number) a) b
 
 -- The instruction is not refused, and the register becomes of the kind.
-pub record SetsKind (r : Result (Unit {0}) Fault) (dst : ℕ) (kind : Kind) (a b : Known) : Type 0 where
+pub record SetsKind (r : Result (Unit {0}) Fault) (dst : ℕ) (kind : Kind) (a b : Known)
+    : Type 0 where
   pub fine : IsOk r
   pub alike : AreAlike (with_kind dst kind a) b
 
 -- A second operand that may be read is what its register holds, or the field imm with its sign.
 pub record HasOperand (a : AbsState) (src : Operand) (r : Result RegKind Fault) : Type 0 where
-  pub register : (s : ℕ) → src ≡ Register s → IsWritten (kind_of (kind_in a.regs s)) → r ≡ Ok (kind_in a.regs s)
-  pub number : (imm : ℤ) → src ≡ Immediate imm → (t : Scalar) × (r ≡ Ok (kinds.Num t)) × IsConstant t (immediate imm)
+  pub register : (s : ℕ) → src ≡ Register s → IsWritten (kind_of (kind_in a.regs s)) →
+      r ≡ Ok (kind_in a.regs s)
+  pub number : (imm : ℤ) → src ≡ Immediate imm →
+      (t : Scalar) × (r ≡ Ok (kinds.Num t)) × IsConstant t (immediate imm)
 
 -- What an operation reads of the register that it writes is a number: a move reads nothing of it.
 abbrev pub ReadsNumber : AluOp → Known → ℕ → Type 0

@@ -20,24 +20,32 @@ use Rattle.typed_runs.specs.Verified.{Transfers}
 use Rattle.register_kinds.specs.declared.state.AbsState.{AbsState}
 use Rattle.register_kinds.specs.States.{state_of}
 
--- From each run that the old state describes a jump to a slot further on has a step, and each leads to one that the new state describes, or the other
--- where it jumps.
+-- From each run that the old state describes a jump to a slot further on has a step, and each leads
+-- to one that the new state describes, or the other where it jumps.
 abbrev pub Forks : Condition → Size → ℕ → Operand → AbsState → AbsState → AbsState → Type 0
-Forks condition size dst src old new taken = (shapes : List MapShape) (ctx_len n : ℕ) → Transfers (JumpIf condition size dst src (pos n)) shapes ctx_len (state_of old) (state_of new) (Some (state_of taken))
+Forks condition size dst src old new taken =
+    (shapes : List MapShape) (ctx_len n : ℕ) →
+    Transfers (JumpIf condition size dst src (pos n)) shapes ctx_len (state_of old) (state_of new) (Some (state_of taken))
 
 abbrev pub ForksOnNull : Bool → ℕ → AbsState → AbsState → AbsState → Type 0
-ForksOnNull equal dst old new taken = Forks (if equal then Equal else NotEqual) Word64 dst (Immediate (pos 0)) old new taken
+ForksOnNull equal dst old new taken =
+    Forks (if equal then Equal else NotEqual) Word64 dst (Immediate (pos 0)) old new taken
 
 -- In each described state both sides of the comparison are numbers.
 abbrev pub IsNumber : Value → Type 0
 IsNumber v = (n : ℕ) × (v ≡ Number n)
 
 abbrev pub ComparesNumbers : Known → ℕ → Operand → Type 0
-ComparesNumbers a dst src = (c : Scene) (m : State) → Describes a c m → IsNumber (m.regs dst) × IsNumber (operand_value src m.regs)
+ComparesNumbers a dst src =
+    (c : Scene) (m : State) → Describes a c m →
+    IsNumber (m.regs dst) × IsNumber (operand_value src m.regs)
 
--- What the first state describes the second does too, where both sides of the comparison are such numbers.
+-- What the first state describes the second does too, where both sides of the comparison are such
+-- numbers.
 abbrev pub Narrows : ℕ → Operand → Scalar → Scalar → Known → Known → Type 0
-Narrows dst src x y a b = (c : Scene) (m : State) (d : Describes a c m) → IsOf c d.naming (Num x) (m.regs dst) → IsOf c d.naming (Num y) (operand_value src m.regs) → Describes b c m
+Narrows dst src x y a b =
+    (c : Scene) (m : State) (d : Describes a c m) → IsOf c d.naming (Num x) (m.regs dst) →
+    IsOf c d.naming (Num y) (operand_value src m.regs) → Describes b c m
 
 -- Each side of the comparison that is a register becomes a number, and all else stays as it is.
 pub record AreNarrowed (dst : ℕ) (src : Operand) (a b : Known) : Type 0 where

@@ -9,7 +9,11 @@ use Rattle.deferred_free.specs.declared.threaded.Threaded.{Threaded}
 use Rattle.deferred_free.specs.Lines.{line_slots}
 
 abbrev pub threaded_lists : Threaded → ArenaState → Queues
-threaded_lists x a = record { next = line_slots a x.next; waiting = line_slots a x.waiting; ready = line_slots a x.ready }
+threaded_lists x a = record {
+  next = line_slots a x.next;
+  waiting = line_slots a x.waiting;
+  ready = line_slots a x.ready;
+}
 
 pub record IsLine (links : ℕ → Option ℕ) (l : Line) (xs : List ℕ) : Type 0 where
   pub thread : IsThread links l.first xs

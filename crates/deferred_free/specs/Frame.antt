@@ -10,26 +10,41 @@ use Rattle.deferred_free.specs.declared.threaded.Threaded.{Threaded}
 use Rattle.deferred_free.specs.Lines.{line_slots}
 use Rattle.deferred_free.specs.Fits.{threaded_lists, IsLine, FitsAs, ThreadedFits}
 
-line_is : (a : ArenaState) (l : Line) (xs : List ℕ) → IsLine (link_at a.links) l xs → ((j : ℕ) → times_in j xs ≤ 1) → ((j : ℕ) → 0 < times_in j xs → IsTaken a j) → line_slots a l ≡ xs
-line_is a l xs t once taken = walk-thread (link_at a.links) l.first xs (length a.slots) t.thread (length_once (length a.slots) xs once (λ j h. (taken j h).inside))
+line_is : (a : ArenaState) (l : Line) (xs : List ℕ) → IsLine (link_at a.links) l xs →
+    ((j : ℕ) → times_in j xs ≤ 1) → ((j : ℕ) → 0 < times_in j xs → IsTaken a j) →
+    line_slots a l ≡ xs
+line_is a l xs t once taken =
+    walk-thread (link_at a.links) l.first xs (length a.slots) t.thread (length_once (length a.slots) xs once (λ j h. (taken j h).inside))
 
-same_lists : (n n' w w' r r' : List ℕ) → n ≡ n' → w ≡ w' → r ≡ r' → let a : Queues = record { next = n; waiting = w; ready = r } in let b : Queues = record { next = n'; waiting = w'; ready = r' } in a ≡ b
+same_lists : (n n' w w' r r' : List ℕ) → n ≡ n' → w ≡ w' → r ≡ r' → let a : Queues =
+    record { next = n; waiting = w; ready = r } in let b : Queues =
+    record { next = n'; waiting = w'; ready = r' } in a ≡ b
 same_lists n n' w w' r r' p q s = cc
 
 pub lists-are : (x : Threaded) (a : ArenaState) (q : Queues) → FitsAs x a q → threaded_lists x a ≡ q
 lists-are x a q f =
     same_lists _ q.next _ q.waiting _ q.ready
-    (line_is a x.next q.next f.next (λ j. let o : queued q j ≤ 1 = f.once j in omega arith) (λ j h. f.taken j (omega arith)))
-    (line_is a x.waiting q.waiting f.waiting (λ j. let o : queued q j ≤ 1 = f.once j in omega arith) (λ j h. f.taken j (omega arith)))
-    (line_is a x.ready q.ready f.ready (λ j. let o : queued q j ≤ 1 = f.once j in omega arith) (λ j h. f.taken j (omega arith)))
+    (line_is a x.next q.next f.next (λ j. let o : queued q j ≤ 1 = f.once j in
+    omega arith) (λ j h. f.taken j (omega arith)))
+    (line_is a x.waiting q.waiting f.waiting (λ j. let o : queued q j ≤ 1 = f.once j in
+    omega arith) (λ j h. f.taken j (omega arith)))
+    (line_is a x.ready q.ready f.ready (λ j. let o : queued q j ≤ 1 = f.once j in
+    omega arith) (λ j h. f.taken j (omega arith)))
 
 pub fits_from : (x : Threaded) (a : ArenaState) (q : Queues) → FitsAs x a q → ThreadedFits x a
 fits_from x a q f = subst (FitsAs x a) (sym (lists-are x a q f)) f
 
-line_agree : (a b : ArenaState) (l : Line) (xs : List ℕ) → IsLine (link_at a.links) l xs → ((j : ℕ) → 0 < times_in j xs → link_at b.links j ≡ link_at a.links j) → IsLine (link_at b.links) l xs
-line_agree a b l xs t h = record { thread = thread-agree (link_at a.links) (link_at b.links) l.first xs h t.thread; ends = t.ends }
+line_agree : (a b : ArenaState) (l : Line) (xs : List ℕ) → IsLine (link_at a.links) l xs →
+    ((j : ℕ) → 0 < times_in j xs → link_at b.links j ≡ link_at a.links j) →
+    IsLine (link_at b.links) l xs
+line_agree a b l xs t h =
+    record {
+      thread = thread-agree (link_at a.links) (link_at b.links) l.first xs h t.thread;
+      ends = t.ends;
+    }
 
-agreed : (x : Threaded) (a b : ArenaState) → ThreadedFits x a → SameAt (queued (threaded_lists x a)) a b → FitsAs x b (threaded_lists x a)
+agreed : (x : Threaded) (a b : ArenaState) → ThreadedFits x a →
+    SameAt (queued (threaded_lists x a)) a b → FitsAs x b (threaded_lists x a)
 agreed x a b f s = record {
   next = line_agree a b x.next (threaded_lists x a).next f.next (λ j h. s.link j (omega arith));
   waiting = line_agree a b x.waiting (threaded_lists x a).waiting f.waiting (λ j h. s.link j (omega arith));
@@ -38,5 +53,8 @@ agreed x a b f s = record {
   taken = s.taken;
 }
 
-pub threaded-frame : (x : Threaded) (a b : ArenaState) → ThreadedFits x a → SameAt (queued (threaded_lists x a)) a b → ThreadedFits x b × (threaded_lists x b ≡ threaded_lists x a)
-threaded-frame x a b f s = let g : FitsAs x b (threaded_lists x a) = agreed x a b f s in (fits_from x b (threaded_lists x a) g, lists-are x b (threaded_lists x a) g)
+pub threaded-frame : (x : Threaded) (a b : ArenaState) → ThreadedFits x a →
+    SameAt (queued (threaded_lists x a)) a b →
+    ThreadedFits x b × (threaded_lists x b ≡ threaded_lists x a)
+threaded-frame x a b f s = let g : FitsAs x b (threaded_lists x a) = agreed x a b f s in
+    (fits_from x b (threaded_lists x a) g, lists-are x b (threaded_lists x a) g)

@@ -17,10 +17,20 @@ pub record VectorsFits (x : Vectors) (a : ArenaState) : Type 0 where
   pub once : (j : ℕ) → queued (vectors_lists x a) j ≤ 1
   pub taken : (j : ℕ) → 0 < queued (vectors_lists x a) j → IsTaken a j
 
-pub vectors-frame : (x : Vectors) (a b : ArenaState) → VectorsFits x a → SameAt (queued (vectors_lists x a)) a b → VectorsFits x b × (vectors_lists x b ≡ vectors_lists x a)
+pub vectors-frame : (x : Vectors) (a b : ArenaState) → VectorsFits x a →
+    SameAt (queued (vectors_lists x a)) a b →
+    VectorsFits x b × (vectors_lists x b ≡ vectors_lists x a)
 vectors-frame x a b f s =
     let l : length b.slots ≡ length a.slots = s.long in
     let n : length a.slots ≤ deque_capacity x.next = f.next_room in
     let w : length a.slots ≤ deque_capacity x.waiting = f.waiting_room in
-    let r : length a.slots ≤ deque_capacity x.ready = f.ready_room in
-    (record { next_room = omega arith; waiting_room = omega arith; ready_room = omega arith; once = f.once; taken = s.taken }, refl)
+    let r : length a.slots ≤ deque_capacity x.ready = f.ready_room in (
+      record {
+        next_room = omega arith;
+        waiting_room = omega arith;
+        ready_room = omega arith;
+        once = f.once;
+        taken = s.taken;
+      },
+      refl,
+    )

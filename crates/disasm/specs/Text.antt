@@ -1,5 +1,6 @@
 -- The text of instructions: a line is a mnemonic, and after a space its arguments, parted by `, `.
-use Rattle.std.specs.Prelude.{ℕ, ◌+◌, ◌==◌, ℤ, pos, negsuc, List, [], ◌∷◌, ◌++◌, map, codes, if◌then◌else◌}
+use Rattle.std.specs.Prelude.{ℕ, ◌+◌, ◌==◌, ℤ, pos, negsuc, List, [], ◌∷◌, ◌++◌, map, codes}
+use Rattle.std.specs.Prelude.{if◌then◌else◌}
 use Rattle.std.specs.List.{flat_map}
 use Rattle.std.specs.Int.Digits.{digits_of}
 use Rattle.bpf_model.specs.declared.opcode.Size.{Size}
@@ -13,9 +14,16 @@ use Rattle.bpf_model.specs.declared.opcode.SwapWidth.TheVariants as swap
 use Rattle.bpf_model.specs.declared.opcode.ByteOrder.{ByteOrder}
 use Rattle.bpf_model.specs.declared.opcode.ByteOrder.TheVariants.{ToLittle, ToBig, Swap}
 use Rattle.bpf_model.specs.declared.opcode.Condition.{Condition}
-use Rattle.bpf_model.specs.declared.opcode.Condition.TheVariants.{Equal, Greater, GreaterOrEqual, SharesBits, NotEqual, SignedGreater, SignedGreaterOrEqual, Less, LessOrEqual, SignedLess, SignedLessOrEqual}
+use Rattle.bpf_model.specs.declared.opcode.Condition.TheVariants.{Equal, Greater, GreaterOrEqual}
+use Rattle.bpf_model.specs.declared.opcode.Condition.TheVariants.{SharesBits, NotEqual}
+use Rattle.bpf_model.specs.declared.opcode.Condition.TheVariants.{SignedGreater}
+use Rattle.bpf_model.specs.declared.opcode.Condition.TheVariants.{SignedGreaterOrEqual, Less}
+use Rattle.bpf_model.specs.declared.opcode.Condition.TheVariants.{LessOrEqual, SignedLess}
+use Rattle.bpf_model.specs.declared.opcode.Condition.TheVariants.{SignedLessOrEqual}
 use Rattle.bpf_model.specs.declared.insn.AluOp.{AluOp}
-use Rattle.bpf_model.specs.declared.insn.AluOp.TheVariants.{Add, Sub, Mul, Div, SignedDiv, Or, And, ShiftLeft, ShiftRight, Mod, SignedMod, Xor, Move, ShiftRightSigned}
+use Rattle.bpf_model.specs.declared.insn.AluOp.TheVariants.{Add, Sub, Mul, Div, SignedDiv, Or, And}
+use Rattle.bpf_model.specs.declared.insn.AluOp.TheVariants.{ShiftLeft, ShiftRight, Mod, SignedMod}
+use Rattle.bpf_model.specs.declared.insn.AluOp.TheVariants.{Xor, Move, ShiftRightSigned}
 use Rattle.bpf_model.specs.declared.insn.UnaryOp.{UnaryOp}
 use Rattle.bpf_model.specs.declared.insn.UnaryOp.TheVariants as unary
 use Rattle.bpf_model.specs.declared.insn.CallKind.{CallKind}
@@ -26,7 +34,10 @@ use Rattle.bpf_model.specs.declared.insn.Insn.{Insn}
 use Rattle.bpf_model.specs.declared.insn.Insn.TheVariants as insn
 use Rattle.bpf_model.specs.Spelling.{extension_size, extension_bits}
 use Rattle.disasm.specs.declared.mnemonic.Mnemonic.{Mnemonic}
-use Rattle.disasm.specs.declared.mnemonic.Mnemonic.TheVariants.{Alu, MoveSigned, Negate, ByteSwap, LoadNumber, LoadMap, Jump, JumpLong, JumpIf, Call, Exit, Load, LoadSigned, Store, StoreRegister}
+use Rattle.disasm.specs.declared.mnemonic.Mnemonic.TheVariants.{Alu, MoveSigned, Negate, ByteSwap}
+use Rattle.disasm.specs.declared.mnemonic.Mnemonic.TheVariants.{LoadNumber, LoadMap, Jump, JumpLong}
+use Rattle.disasm.specs.declared.mnemonic.Mnemonic.TheVariants.{JumpIf, Call, Exit, Load}
+use Rattle.disasm.specs.declared.mnemonic.Mnemonic.TheVariants.{LoadSigned, Store, StoreRegister}
 use Rattle.disasm.specs.declared.statement.Sign.{Sign}
 use Rattle.disasm.specs.declared.statement.Sign.TheVariants.{Plus, Minus}
 use Rattle.disasm.specs.declared.statement.Argument.{Argument}
@@ -139,7 +150,8 @@ name_of m = stem_of m ++ suffix_of m
 
 -- Arguments, with numbers of any size.
 
--- the decimal digits of a number as bytes, without leading zeros: none for 0, whose digit is byte 48
+-- the decimal digits of a number as bytes, without leading zeros: none for 0, whose digit is byte
+-- 48
 abbrev pub glyphs : ℕ → List ℕ
 glyphs n = map (λ digit. 48 + digit) (digits_of 10 n)
 

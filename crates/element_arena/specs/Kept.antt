@@ -76,8 +76,8 @@ arena_state_of cells first keys values key_len value_len limit =
     state_with (slots_shown key_len value_len cells keys values) cells (free_of cells first)
     key_len value_len limit
 
--- The free slots are threaded through the links, from the first to the last. Each has a use left, and
--- no slot was given back more often than it was used.
+-- The free slots are threaded through the links, from the first to the last. Each has a use left,
+-- and no slot was given back more often than it was used.
 pub record IsThreaded (cells : List Cell) (first last : Option ℕ) (limit : ℕ) (free : List ℕ)
     : Type 0 where
   pub thread : IsThread (raw cells) first free

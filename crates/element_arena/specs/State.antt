@@ -94,7 +94,11 @@ with_link a i to = record a { links = slice_set a.links i to }
 -- slot i has another value
 abbrev pub with_value : ArenaState → ℕ → List ℕ → ArenaState
 with_value a i value =
-    let new : SlotView = record { key = key_at a.slots i; value = value; uses = uses_at a.slots i } in
+    let new : SlotView = record {
+      key = key_at a.slots i;
+      value = value;
+      uses = uses_at a.slots i;
+    } in
     record a { slots = slice_set a.slots i new }
 
 -- b is a but for the links of slots that own counts

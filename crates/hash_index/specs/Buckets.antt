@@ -1,5 +1,6 @@
 -- What buckets have, and when they fit an arena.
-use Rattle.std.specs.Prelude.{◌≡◌, ℕ, ◌<◌, ◌≤◌, List, [], ◌∷◌, ◌++◌, Option, Some, length, slice_get}
+use Rattle.std.specs.Prelude.{◌≡◌, ℕ, ◌<◌, ◌≤◌, List, [], ◌∷◌, ◌++◌, Option, Some, length}
+use Rattle.std.specs.Prelude.{slice_get}
 use Rattle.std.specs.Ordering.{nat_cmp}
 use Rattle.std.specs.Cmp.Lexicographic.{slice_cmp}
 use Rattle.std.specs.FinMap.{FinMap}
@@ -22,10 +23,12 @@ slots_in heads a = slots_from (length a.slots) (link_at a.links) heads
 abbrev pub contents_in : Buckets → ArenaState → FinMap (slice_cmp nat_cmp) ℕ
 contents_in x a = contents_of (key_at a.slots) (slots_in x.heads.items a)
 
--- Each chain ends, and its slots are those of keys of its bucket. All slots are taken, stand once, and have different keys.
+-- Each chain ends, and its slots are those of keys of its bucket. All slots are taken, stand once,
+-- and have different keys.
 pub record HeadsFit (heads : List (Option ℕ)) (a : ArenaState) : Type 0 where
   pub some : 0 < length heads
-  pub thread : (k : ℕ) (o : Option ℕ) → slice_get heads k ≡ Some o → IsThread (link_at a.links) o (chain_of a o)
+  pub thread : (k : ℕ) (o : Option ℕ) → slice_get heads k ≡ Some o →
+      IsThread (link_at a.links) o (chain_of a o)
   pub home : (k : ℕ) (o : Option ℕ) → slice_get heads k ≡ Some o →
       (j : ℕ) → 0 < times_in j (chain_of a o) → bucket_of (length heads) (key_at a.slots j) ≡ k
   pub once : (j : ℕ) → times_in j (slots_in heads a) ≤ 1

@@ -1,5 +1,6 @@
 -- Chains of slots, and the slots of many chains.
-use Rattle.std.specs.Prelude.{◌≡◌, ℕ, ◌+◌, ◌<◌, ◌-◌, ◌*◌, ◌%◌, ◌^◌, bit_and, bit_xor, List, [], ◌∷◌, ◌++◌, Option, cond, eqb, length}
+use Rattle.std.specs.Prelude.{◌≡◌, ℕ, ◌+◌, ◌<◌, ◌-◌, ◌*◌, ◌%◌, ◌^◌, bit_and, bit_xor, List, [], ◌∷◌}
+use Rattle.std.specs.Prelude.{◌++◌, Option, cond, eqb, length}
 use Rattle.element_arena.specs.State.{ArenaState, IsTaken, link_at, key_at, times_in}
 use Rattle.element_arena.specs.Threads.{IsThread, walk}
 use Rattle.hash_index.specs.Order.{IsLeastOf}
@@ -40,7 +41,8 @@ pub record IsOn (a : ArenaState) (chain : List ℕ) (last : ℕ) (at : Option �
   pub thread : IsThread (link_at a.links) at back
   pub held : 0 < times_in slot back
 
--- A slot was taken out of the chain from first, which begins with result now. Links of the chain alone have changed.
+-- A slot was taken out of the chain from first, which begins with result now. Links of the chain
+-- alone have changed.
 pub record IsCut (a b : ArenaState) (first : Option ℕ) (slot : ℕ) (result : Option ℕ) : Type 0 where
   pub rest : b ≡ record a { links = b.links }
   pub others : (j : ℕ) → times_in j (chain_of a first) ≡ 0 → link_at b.links j ≡ link_at a.links j

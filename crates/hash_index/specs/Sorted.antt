@@ -4,7 +4,8 @@ use Rattle.std.specs.Ordering.{nat_cmp}
 use Rattle.std.specs.Cmp.Lexicographic.{slice_cmp}
 use Rattle.std.specs.FinMap.{FinMap, from_entries}
 use Rattle.std.proofs.Common.{arith, sym, subst, ap, ◌∙◌}
-use Rattle.element_arena.specs.State.{ArenaState, IsTaken, SameAt, indexed, key_at, times_in, contents_of}
+use Rattle.element_arena.specs.State.{ArenaState, IsTaken, SameAt, indexed, key_at, times_in}
+use Rattle.element_arena.specs.State.{contents_of}
 use Rattle.element_arena.proofs.Indexing.{AreUnique, indexed-times}
 use Rattle.hash_index.specs.Order.{IsLess, IsAbove}
 use Rattle.hash_index.specs.Held.{held_at}
@@ -28,7 +29,8 @@ pub record IsPosition (key : ℕ → List ℕ) (slots : List ℕ) (k : List ℕ)
   pub above : (i s : ℕ) → position ≤ i → slice_get slots i ≡ Some s → IsLess (key s) k → ⊥
 
 -- where the keys above a bound begin
-pub record IsPositionAbove (key : ℕ → List ℕ) (slots : List ℕ) (bound : Option (List ℕ)) (position : ℕ)
+pub record IsPositionAbove (key : ℕ →
+    List ℕ) (slots : List ℕ) (bound : Option (List ℕ)) (position : ℕ)
     : Type 0 where
   pub below : (i s : ℕ) → i < position → slice_get slots i ≡ Some s → IsAbove bound (key s) → ⊥
   pub above : (i s : ℕ) → position ≤ i → slice_get slots i ≡ Some s → IsAbove bound (key s)
@@ -36,7 +38,8 @@ pub record IsPositionAbove (key : ℕ → List ℕ) (slots : List ℕ) (bound : 
 abbrev pub sorted_contents : Sorted → ArenaState → FinMap (slice_cmp nat_cmp) ℕ
 sorted_contents x a = contents_of (key_at a.slots) x.slots.items
 
--- There is room for each slot of the arena. All slots are taken, stand once, and in the order of their keys, which differ.
+-- There is room for each slot of the arena. All slots are taken, stand once, and in the order of
+-- their keys, which differ.
 pub record SortedFits (x : Sorted) (a : ArenaState) : Type 0 where
   pub room : length a.slots ≤ vec_capacity x.slots
   pub once : (j : ℕ) → times_in j x.slots.items ≤ 1
@@ -44,20 +47,26 @@ pub record SortedFits (x : Sorted) (a : ArenaState) : Type 0 where
   pub unique : AreUnique (key_at a.slots) x.slots.items
   pub order : IsAscending (key_at a.slots) x.slots.items
 
-pub sorted_own : (x : Sorted) (a : ArenaState) (j : ℕ) → SortedFits x a → indexed (sorted_contents x a) a.slots j ≡ times_in j x.slots.items
+pub sorted_own : (x : Sorted) (a : ArenaState) (j : ℕ) → SortedFits x a →
+    indexed (sorted_contents x a) a.slots j ≡ times_in j x.slots.items
 sorted_own x a j f = indexed-times (key_at a.slots) x.slots.items j f.unique (f.once j)
 
-pub sorted-frame : (x : Sorted) (a b : ArenaState) → SortedFits x a → SameAt (indexed (sorted_contents x a) a.slots) a b → SortedFits x b × (sorted_contents x b ≡ sorted_contents x a)
+pub sorted-frame : (x : Sorted) (a b : ArenaState) → SortedFits x a →
+    SameAt (indexed (sorted_contents x a) a.slots) a b →
+    SortedFits x b × (sorted_contents x b ≡ sorted_contents x a)
 sorted-frame x a b f s =
-    let own : (j : ℕ) → 0 < times_in j x.slots.items → 0 < indexed (sorted_contents x a) a.slots j = λ j h. subst (λ n. 0 < n) (sym (sorted_own x a j f)) h in
-    let key : (i j : ℕ) → slice_get x.slots.items i ≡ Some j → key_at b.slots j ≡ key_at a.slots j = λ i j h. s.key j (own j (held_at x.slots.items i j h)) in
+    let own : (j : ℕ) → 0 < times_in j x.slots.items → 0 < indexed (sorted_contents x a) a.slots j =
+    λ j h. subst (λ n. 0 < n) (sym (sorted_own x a j f)) h in
+    let key : (i j : ℕ) → slice_get x.slots.items i ≡ Some j → key_at b.slots j ≡ key_at a.slots j =
+    λ i j h. s.key j (own j (held_at x.slots.items i j h)) in
     let l : length b.slots ≡ length a.slots = s.long in
     let r : length a.slots ≤ vec_capacity x.slots = f.room in (
       record {
         room = omega arith;
         once = f.once;
         taken = λ j h. s.taken j (own j h);
-        unique = λ i j hi hj e. f.unique i j hi hj (sym (s.key i (own i hi)) ∙ (e ∙ s.key j (own j hj)));
+        unique = λ i j hi hj e. f.unique i j hi hj (sym (s.key i (own i hi))
+            ∙ (e ∙ s.key j (own j hj)));
         order = λ i j p q l hi hj. subst (λ k. IsLess k (key_at b.slots q)) (sym (key i p hi)) (subst (IsLess (key_at a.slots p)) (sym (key j q hj)) (f.order i j p q l hi hj));
       },
       ap from_entries (entries-agree (key_at a.slots) (key_at b.slots) x.slots.items (λ j h. s.key j (own j h))),

@@ -11,11 +11,14 @@ use Rattle.world_laws.specs.Reaching.{IsInFrame}
 
 -- a key in r2, and for an update a value in r3: so many bytes of the frame
 abbrev pub AreInFrame : Helper → MapView → RunView → Type 0
-AreInFrame Update m v = IsInFrame (word_in v 2) m.shape.key_len × IsInFrame (word_in v 3) m.shape.value_len
+AreInFrame Update m v =
+    IsInFrame (word_in v 2) m.shape.key_len × IsInFrame (word_in v 3) m.shape.value_len
 AreInFrame helper m v = IsInFrame (word_in v 2) m.shape.key_len
 
--- The run calls the helper with a map of its program's list, whose maps have these numbers, and with bytes of its frame.
-pub record IsCall (helper : Helper) (bound : List ℕ) (maps : List MapView) (v : RunView) : Type 0 where
+-- The run calls the helper with a map of its program's list, whose maps have these numbers, and
+-- with bytes of its frame.
+pub record IsCall (helper : Helper) (bound : List ℕ) (maps : List MapView) (v : RunView)
+    : Type 0 where
   pub map : ℕ
   pub view : MapView
   pub named : slice_get bound (word_in v 1 - map_base) ≡ Some map
@@ -23,10 +26,12 @@ pub record IsCall (helper : Helper) (bound : List ℕ) (maps : List MapView) (v 
   pub arguments : AreInFrame helper view v
   pub frame : length v.frame ≡ FRAME_BYTES
 
--- The word for r0, and the maps afterwards: a lookup changes none. (A map that is not there changes nothing: no verified program names one.)
+-- The word for r0, and the maps afterwards: a lookup changes none. (A map that is not there changes
+-- nothing: no verified program names one.)
 abbrev pub called_at : Helper → ℕ → Option MapView → RunView → List MapView → ℕ × List MapView
 called_at Lookup map (Some m) v maps = ((served Lookup map m v).0, maps)
-called_at helper map (Some m) v maps = ((served helper map m v).0, slice_set maps map (served helper map m v).1)
+called_at helper map (Some m) v maps =
+    ((served helper map m v).0, slice_set maps map (served helper map m v).1)
 called_at helper map None v maps = (0, maps)
 
 abbrev pub called_on : Helper → Option ℕ → RunView → List MapView → ℕ × List MapView

@@ -26,14 +26,18 @@ ReachesElement maps width offset l = ⊥
 
 -- the number that it finds
 abbrev pub element_number : List MapView → ℕ → ℤ → Location → ℕ
-element_number maps width offset (InSlot map slot o) = number_from (value_of (slice_get maps map) slot) width (o +ℤ offset)
+element_number maps width offset (InSlot map slot o) =
+    number_from (value_of (slice_get maps map) slot) width (o +ℤ offset)
 element_number maps width offset l = 0
 
--- The maps after a store of the low bytes of a number: the slot's element has another value, and keeps its slot, key and lists.
+-- The maps after a store of the low bytes of a number: the slot's element has another value, and
+-- keeps its slot, key and lists.
 abbrev pub stored_in : Option MapView → ℕ → ℕ → ℕ → ℕ → ℤ → List MapView → List MapView
-stored_in (Some view) map slot width number (pos at) maps = slice_set maps map (written view slot (with_bytes at width number (value_in (slice_get view.slots slot))))
+stored_in (Some view) map slot width number (pos at) maps =
+    slice_set maps map (written view slot (with_bytes at width number (value_in (slice_get view.slots slot))))
 stored_in view map slot width number offset maps = maps
 
 abbrev pub stored_element : ℕ → ℕ → ℤ → Location → List MapView → List MapView
-stored_element width number offset (InSlot map slot o) maps = stored_in (slice_get maps map) map slot width number (o +ℤ offset) maps
+stored_element width number offset (InSlot map slot o) maps =
+    stored_in (slice_get maps map) map slot width number (o +ℤ offset) maps
 stored_element width number offset l maps = maps

@@ -1,5 +1,7 @@
--- What is served to a run that asks, over the parts of a world: its maps, the numbers of the program's maps, and the flags of sections.
-use Rattle.std.specs.Prelude.{◌≡◌, ℕ, ◌<◌, ◌≤◌, Bool, true, false, nat_lt, List, Option, Some, slice_get, slice_set}
+-- What is served to a run that asks, over the parts of a world: its maps, the numbers of the
+-- program's maps, and the flags of sections.
+use Rattle.std.specs.Prelude.{◌≡◌, ℕ, ◌<◌, ◌≤◌, Bool, true, false, nat_lt, List, Option, Some}
+use Rattle.std.specs.Prelude.{slice_get, slice_set}
 use Rattle.bpf_model.specs.declared.limits.TheConstants.{MAX_DEPTH, MAX_RUNS}
 use Rattle.bpf_model.specs.declared.event.Answer.{Answer}
 use Rattle.bpf_model.specs.declared.event.Answer.TheVariants as answers
@@ -20,8 +22,10 @@ use Rattle.helpers.specs.Calls.{IsCall, called}
 
 -- What a request needs: an element where it reaches, or the arguments of a helper.
 abbrev pub CanServe : Access → List ℕ → List MapView → RunView → Type 0
-CanServe (Load address offset width) bound maps v = ReachesElement maps (byte_count width) offset (location_of address)
-CanServe (Store address offset width number) bound maps v = ReachesElement maps (byte_count width) offset (location_of address)
+CanServe (Load address offset width) bound maps v =
+    ReachesElement maps (byte_count width) offset (location_of address)
+CanServe (Store address offset width number) bound maps v =
+    ReachesElement maps (byte_count width) offset (location_of address)
 CanServe (Call helper) bound maps v = IsCall helper bound maps v
 CanServe Enter bound maps v = Unit {0}
 CanServe Leave bound maps v = Unit {0}
@@ -33,13 +37,15 @@ pub record CanPass (g : GraceState) (run : ℕ) : Type 0 where
 
 -- The reply of a load or a helper: what the run goes on with. (Any number does for the others.)
 abbrev pub IsReply : Access → List ℕ → List MapView → RunView → ℕ → Type 0
-IsReply (Load address offset width) bound maps v word = word ≡ element_number maps (byte_count width) offset (location_of address)
+IsReply (Load address offset width) bound maps v word =
+    word ≡ element_number maps (byte_count width) offset (location_of address)
 IsReply (Call helper) bound maps v word = word ≡ (called helper bound v maps).0
 IsReply access bound maps v word = Unit {0}
 
 -- the maps afterwards
 abbrev pub maps_after : Access → List ℕ → RunView → List MapView → List MapView
-maps_after (Store address offset width number) bound v maps = stored_element (byte_count width) number offset (location_of address) maps
+maps_after (Store address offset width number) bound v maps =
+    stored_element (byte_count width) number offset (location_of address) maps
 maps_after (Call helper) bound v maps = (called helper bound v maps).1
 maps_after access bound v maps = maps
 
@@ -52,8 +58,8 @@ grace_after Enter run g = with_opened g (slice_set g.opened run true)
 grace_after Leave run g = with_opened g (slice_set g.opened run false)
 grace_after access run g = g
 
--- A run that has not ended stands in slot r of the world with this view. Its flag is set where its depth says so, and no section is awaited
--- that is not open.
+-- A run that has not ended stands in slot r of the world with this view. Its flag is set where its
+-- depth says so, and no section is awaited that is not open.
 pub record IsFlagged (w : WorldView) (r : ℕ) (v : RunView) : Type 0 where
   pub opened : slice_get w.opened r ≡ Some (nat_lt 0 v.depth)
   pub awaited : still_open w.awaited w.opened ≡ w.awaited
@@ -64,13 +70,23 @@ flags_of w = record { opened = w.opened; awaited = w.awaited }
 
 -- the world in which the run in slot r has another view, with these maps and flags
 abbrev pub world_with : List MapView → GraceState → ℕ → RunView → WorldView → WorldView
-world_with maps g r v w = record { maps = maps; runs = slice_set w.runs r (Some v); opened = g.opened; awaited = g.awaited; programs = w.programs; given = w.given }
+world_with maps g r v w =
+    record {
+      maps = maps;
+      runs = slice_set w.runs r (Some v);
+      opened = g.opened;
+      awaited = g.awaited;
+      programs = w.programs;
+      given = w.given;
+    }
 
--- The run in slot r has answered its step so, and has this view now: then x is what the world answers, and the world after it. A run that
--- asks is as before.
-abbrev pub IsOwnWorld : Local → Option Access → ℕ → RunView → RunView → WorldView → Answer × WorldView → Type 0
+-- The run in slot r has answered its step so, and has this view now: then x is what the world
+-- answers, and the world after it. A run that asks is as before.
+abbrev pub IsOwnWorld : Local → Option Access → ℕ → RunView → RunView → WorldView →
+    Answer × WorldView → Type 0
 IsOwnWorld Moved asked r v after w x = x ≡ (answers.Moved, world_with w.maps (flags_of w) r after w)
-IsOwnWorld (Exit n) asked r v after w x = x ≡ (answers.Exited n, world_with w.maps (flags_of w) r after w)
+IsOwnWorld (Exit n) asked r v after w x =
+    x ≡ (answers.Exited n, world_with w.maps (flags_of w) r after w)
 IsOwnWorld (Shared access) asked r v after w x = (asked ≡ Some access) × (after ≡ v)
 
 -- the world's step once the request is served, with this word, and the run has gone on

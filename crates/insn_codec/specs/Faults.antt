@@ -1,6 +1,8 @@
--- Why bytes are no program: the length is tested first, then each instruction from the first slot on, and the
--- first test that fails is told. Each test stands with its section of RFC 9669.
-use Rattle.std.specs.Prelude.{◌≡◌, ◌≢◌, ℕ, ◌*◌, ◌<◌, ℤ, pos, ◌==◌, Bool, true, false, ◌||◌, ◌&&◌, not, nat_lt, Option, Some, None, List, [], ◌∷◌, if◌then◌else◌, ◌++◌, ◌%◌, length}
+-- Why bytes are no program: the length is tested first, then each instruction from the first slot
+-- on, and the first test that fails is told. Each test stands with its section of RFC 9669.
+use Rattle.std.specs.Prelude.{◌≡◌, ◌≢◌, ℕ, ◌*◌, ◌<◌, ℤ, pos, ◌==◌, Bool, true, false, ◌||◌, ◌&&◌}
+use Rattle.std.specs.Prelude.{not, nat_lt, Option, Some, None, List, [], ◌∷◌, if◌then◌else◌, ◌++◌}
+use Rattle.std.specs.Prelude.{◌%◌, length}
 use Rattle.std.specs.Ordering.{int_eq}
 use Rattle.bpf_model.specs.declared.slot.Slot.{Slot}
 use Rattle.bpf_model.specs.declared.opcode.Source.{Source}
@@ -8,7 +10,9 @@ use Rattle.bpf_model.specs.declared.opcode.Source.TheVariants as source
 use Rattle.bpf_model.specs.declared.opcode.AluCode.{AluCode}
 use Rattle.bpf_model.specs.declared.opcode.AluCode.TheVariants as code
 use Rattle.bpf_model.specs.declared.opcode.Opcode.{Opcode}
-use Rattle.bpf_model.specs.declared.opcode.Opcode.TheVariants.{Alu, Negate, ByteSwap, Jump, JumpIf, Call, Exit, Load, LoadSigned, Store, Wide, Excluded}
+use Rattle.bpf_model.specs.declared.opcode.Opcode.TheVariants.{Alu, Negate, ByteSwap, Jump, JumpIf}
+use Rattle.bpf_model.specs.declared.opcode.Opcode.TheVariants.{Call, Exit, Load, LoadSigned, Store}
+use Rattle.bpf_model.specs.declared.opcode.Opcode.TheVariants.{Wide, Excluded}
 use Rattle.bpf_model.specs.declared.opcode.Size.TheVariants.{Word32, Word64}
 use Rattle.bpf_model.specs.declared.limits.TheConstants.{MAX_SLOTS}
 use Rattle.bpf_model.specs.Opcode.{opcode_byte}
@@ -18,7 +22,10 @@ use Rattle.bpf_model.specs.Spelling.{slot_at, next_slot_at, FitsInsn, text, slot
 use Rattle.insn_codec.specs.declared.fault.DecodeFault.{DecodeFault}
 use Rattle.insn_codec.specs.declared.fault.DecodeFault.TheVariants as faults
 use Rattle.insn_codec.specs.declared.flaw.Flaw.{Flaw}
-use Rattle.insn_codec.specs.declared.flaw.Flaw.TheVariants.{UnknownOpcode, OutsideProfile, BadRegister, UnsupportedSource, UnusedField, BadOffset, BadWidth, WideCut, WideTail}
+use Rattle.insn_codec.specs.declared.flaw.Flaw.TheVariants.{UnknownOpcode, OutsideProfile}
+use Rattle.insn_codec.specs.declared.flaw.Flaw.TheVariants.{BadRegister, UnsupportedSource}
+use Rattle.insn_codec.specs.declared.flaw.Flaw.TheVariants.{UnusedField, BadOffset, BadWidth}
+use Rattle.insn_codec.specs.declared.flaw.Flaw.TheVariants.{WideCut, WideTail}
 
 -- One instruction.
 
@@ -70,8 +77,8 @@ has_unused f s =
     (not f.offset && not (int_eq s.offset (pos 0))) ||
     (not f.imm && not (int_eq s.imm (pos 0)))
 
--- A source field that is not taken: calls are of helpers (0) and of kernel functions (2; section 4.3), and wide
--- instructions load a number (0) or a map of the program's list (5; section 5.4).
+-- A source field that is not taken: calls are of helpers (0) and of kernel functions (2; section
+-- 4.3), and wide instructions load a number (0) or a map of the program's list (5; section 5.4).
 abbrev pub has_unsupported_source : Opcode → Slot → Bool
 has_unsupported_source Call s = not (s.src == 0 || s.src == 2)
 has_unsupported_source Wide s = not (s.src == 0 || s.src == 5)
@@ -94,8 +101,8 @@ abbrev pub has_bad_width : Opcode → Slot → Bool
 has_bad_width (ByteSwap order) s = is_none_of s.imm (16 ∷ 32 ∷ 64 ∷ [])
 has_bad_width _ s = false
 
--- The second slot of a wide instruction is zero but for imm, which is zero too where the source is a map
--- (sections 3.2 and 5.4).
+-- The second slot of a wide instruction is zero but for imm, which is zero too where the source is
+-- a map (sections 3.2 and 5.4).
 abbrev pub is_tail : Slot → Slot → Bool
 is_tail s t =
     (t.opcode == 0) &&

@@ -1,7 +1,15 @@
 -- The numbers by which faults are known.
 use Rattle.std.specs.Prelude.{ℕ}
 use Rattle.kind_tests.specs.declared.fault.Fault.{Fault}
-use Rattle.kind_tests.specs.declared.fault.Fault.TheVariants.{UnwrittenRegister, FramePointerWritten, PointerArithmetic, NotAPointer, OutOfBounds, Misaligned, UnwrittenFrame, PointerLeak, MixedRegions, MaybeNull, OutsideSection, UnpairedSection, UnknownCall, WrongArgument, NoSuchMap, ContextWrite, Memory}
+use Rattle.kind_tests.specs.declared.fault.Fault.TheVariants.{UnwrittenRegister}
+use Rattle.kind_tests.specs.declared.fault.Fault.TheVariants.{FramePointerWritten}
+use Rattle.kind_tests.specs.declared.fault.Fault.TheVariants.{PointerArithmetic, NotAPointer}
+use Rattle.kind_tests.specs.declared.fault.Fault.TheVariants.{OutOfBounds, Misaligned}
+use Rattle.kind_tests.specs.declared.fault.Fault.TheVariants.{UnwrittenFrame, PointerLeak}
+use Rattle.kind_tests.specs.declared.fault.Fault.TheVariants.{MixedRegions, MaybeNull}
+use Rattle.kind_tests.specs.declared.fault.Fault.TheVariants.{OutsideSection, UnpairedSection}
+use Rattle.kind_tests.specs.declared.fault.Fault.TheVariants.{UnknownCall, WrongArgument, NoSuchMap}
+use Rattle.kind_tests.specs.declared.fault.Fault.TheVariants.{ContextWrite, Memory}
 
 abbrev pub fault_number : Fault → ℕ
 fault_number UnwrittenRegister = 23

@@ -2,12 +2,15 @@
 use Rattle.std.specs.Prelude.{◌≡◌, ℕ, ◌+◌, ◌<◌, ◌≤◌, Result, Ok, Err, ℤ, List}
 use Rattle.scalar_domain.specs.declared.scalar.Scalar.{Scalar}
 use Rattle.register_kinds.specs.declared.kind.RegKind.{RegKind}
-use Rattle.register_kinds.specs.declared.kind.RegKind.TheVariants.{Unwritten, Ended, Mixed, Num, Frame}
+use Rattle.register_kinds.specs.declared.kind.RegKind.TheVariants.{Unwritten, Ended, Mixed, Num}
+use Rattle.register_kinds.specs.declared.kind.RegKind.TheVariants.{Frame}
 use Rattle.register_kinds.specs.declared.kind.CellKind.{CellKind}
 use Rattle.register_kinds.specs.declared.kind.CellKind.TheVariants as class
 use Rattle.register_kinds.specs.States.{class_in}
 use Rattle.kind_tests.specs.declared.fault.Fault.{Fault}
-use Rattle.kind_tests.specs.declared.fault.Fault.TheVariants.{UnwrittenRegister, OutsideSection, MixedRegions, WrongArgument, UnwrittenFrame, PointerLeak}
+use Rattle.kind_tests.specs.declared.fault.Fault.TheVariants.{UnwrittenRegister, OutsideSection}
+use Rattle.kind_tests.specs.declared.fault.Fault.TheVariants.{MixedRegions, WrongArgument}
+use Rattle.kind_tests.specs.declared.fault.Fault.TheVariants.{UnwrittenFrame, PointerLeak}
 
 -- What a register that is read holds, or why it may not be read.
 abbrev pub held_kind : RegKind → Result RegKind Fault
@@ -33,18 +36,24 @@ AreAll cells at width class = (k : ℕ) → at ≤ k → k < at + width → clas
 
 -- all cells of an access are bytes of numbers or parts of references
 abbrev pub AreWritten : List CellKind → ℕ → ℕ → Type 0
-AreWritten cells at width = HasNoCell cells at width class.Unwritten × HasNoCell cells at width class.Ended × HasNoCell cells at width class.Mixed
+AreWritten cells at width =
+    HasNoCell cells at width class.Unwritten × HasNoCell cells at width class.Ended
+    × HasNoCell cells at width class.Mixed
 
 -- Why the bytes of an access may not be read: the first test that fails.
 abbrev pub IsCellFault : List CellKind → ℕ → ℕ → Fault → Type 0
 IsCellFault cells at width UnwrittenFrame = HasCell cells at width class.Unwritten
-IsCellFault cells at width OutsideSection = HasNoCell cells at width class.Unwritten × HasCell cells at width class.Ended
-IsCellFault cells at width MixedRegions = HasNoCell cells at width class.Unwritten × HasNoCell cells at width class.Ended × HasCell cells at width class.Mixed
+IsCellFault cells at width OutsideSection =
+    HasNoCell cells at width class.Unwritten × HasCell cells at width class.Ended
+IsCellFault cells at width MixedRegions =
+    HasNoCell cells at width class.Unwritten × HasNoCell cells at width class.Ended
+    × HasCell cells at width class.Mixed
 IsCellFault cells at width e = ⊥
 
 -- Why they are no bytes of numbers.
 abbrev pub IsBytesFault : List CellKind → ℕ → ℕ → Fault → Type 0
-IsBytesFault cells at width PointerLeak = AreWritten cells at width × HasCell cells at width class.Part
+IsBytesFault cells at width PointerLeak =
+    AreWritten cells at width × HasCell cells at width class.Part
 IsBytesFault cells at width e = IsCellFault cells at width e
 
 -- The offset in the frame that a call is given, or why it is given none.

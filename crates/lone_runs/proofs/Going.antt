@@ -45,7 +45,8 @@ use Rattle.machine.specs.Steps.{CanResume, CanStep, IsLocalStep}
 use Rattle.machine.proofs.Laws.{can_resume, can_step}
 use Rattle.machine.proofs.Reacting.{own_step, reacts_by_insn}
 use Rattle.lone_runs.specs.Lone.{StandsAlone, loaded_alone}
-use Rattle.lone_runs.proofs.Alone.{StepsAnywhere, helper-own, acts-own, steps_anywhere}
+use Rattle.lone_runs.proofs.Alone.{StepsAnywhere, steps_anywhere}
+use Rattle.model_laws.proofs.Alone.{acts-own, helper-own}
 
 moved≢ended : (n : ℕ) → Moved ≡ Exited n → ⊥
 moved≢ended n h = absurd (cc)

@@ -35,7 +35,7 @@ use Rattle.world_laws.proofs.Worlds.{ready_stays, simulates, starts_ready}
 use Rattle.verifier.specs.Checked.{Checked}
 use Rattle.verifier.specs.Verdict.{IsJustified}
 use Rattle.lone_runs.specs.Lone.{StandsAlone, loaded_alone}
-use Rattle.lone_runs.proofs.Alone.{own-closed}
+use Rattle.model_laws.proofs.Alone.{own-closed}
 
 -- the instructions are values of their type
 operand-real : (src : Operand) → FitsOperand src → IsOperand src

@@ -16,8 +16,9 @@ use Rattle.lone_runs.specs.declared.step.Step.TheVariants.{Moved, Exit}
 abbrev pub loaded_alone : Checked → Loaded
 loaded_alone v = record { code = v.program; maps = []; context_len = v.ctx_len }
 
--- The words are those of a run of the program: in some world that the machine tracks they are the run in slot 0. It refers to its own context
--- and frame alone, and where it exits from here, it has exited so from its start.
+-- The words are those of a run of the program: in some world that the machine tracks they are the
+-- run in slot 0. It refers to its own context and frame alone, and where it exits from here, it has
+-- exited so from its start.
 pub record StandsAlone (v : Checked) (view : RunView) : Type 0 where
   pub world : WorldView
   pub schedule : Schedule
@@ -27,7 +28,8 @@ pub record StandsAlone (v : Checked) (view : RunView) : Type 0 where
   pub running : IsRunning world schedule 0 run view
   pub program : run.program ≡ loaded_alone v
   pub own : HoldsState IsOwn run.state
-  pub so_far : (steps n : ℕ) → ExitsFrom run steps n → ExitsFrom (fresh_run 0 (loaded_alone v) view.context) (view.moved + steps) n
+  pub so_far : (steps n : ℕ) → ExitsFrom run steps n →
+      ExitsFrom (fresh_run 0 (loaded_alone v) view.context) (view.moved + steps) n
 
 -- The run stands so before its next instruction.
 pub record IsLone (v : Checked) (r : RunWords) : Type 0 where

@@ -25,7 +25,11 @@ counts_of v = record { linked = linked_in v; unlinked = unlinked_in v; worn = wo
 
 -- the sums over all maps
 abbrev pub counts_of_all : List MapView → Counts
-counts_of_all vs = record { linked = sum_by linked_in vs; unlinked = sum_by unlinked_in vs; worn = sum_by worn_in vs }
+counts_of_all vs = record {
+  linked = sum_by linked_in vs;
+  unlinked = sum_by unlinked_in vs;
+  worn = sum_by worn_in vs;
+}
 
 -- a key is linked that had no element, or one that is unlinked now
 abbrev pub counts_linked : Option ℕ → Counts → Counts

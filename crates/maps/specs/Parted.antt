@@ -41,4 +41,5 @@ Stands p i = 0 < indexed p.index p.arena.slots i + queued p.lists i
 -- the key's slot, if there is one, leaves the index and goes to the end of next
 abbrev pub without_key : PartsView → List ℕ → Option ℕ → PartsView
 without_key p key None = p
-without_key p key (Some i) = record { index = remove p.index key; lists = retired_lists p.lists i; arena = p.arena }
+without_key p key (Some i) =
+    record { index = remove p.index key; lists = retired_lists p.lists i; arena = p.arena }

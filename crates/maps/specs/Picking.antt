@@ -8,5 +8,11 @@ use Rattle.view_laws.specs.Reactions.{Pick, first_pick}
 pub record IsPicked (old new : List MapView) (element : ReapedElement) : Type 0 where
   pub pick : Pick
   pub first : first_pick 0 old ≡ Some pick
-  pub element_is : element ≡ record { map = pick.map; key = record { items = key_in (slice_get pick.view.slots pick.slot) }; given = given_at pick.view pick.slot }
+  pub element_is : element
+      ≡ record {
+        map = pick.map;
+        key = record { items = key_in (slice_get pick.view.slots pick.slot) };
+        given =
+            given_at pick.view pick.slot;
+      }
   pub new_is : new ≡ slice_set old pick.map (reaped_view pick.view pick.slot)

@@ -1,13 +1,16 @@
 -- The maps of a registry, in order of creation, each with its name.
-use Rattle.std.specs.Prelude.{ℕ, Bool, false, not, ◌&&◌, ◌||◌, ◌==◌, if◌then◌else◌, List, length, Option, Some, None, slice_get, bytes_eq, nat_le, refl}
+use Rattle.std.specs.Prelude.{ℕ, Bool, false, not, ◌&&◌, ◌||◌, ◌==◌, if◌then◌else◌, List, length}
+use Rattle.std.specs.Prelude.{Option, Some, None, slice_get, bytes_eq, nat_le, refl}
 use Rattle.std.specs.List.{list_any, list_all}
 use Rattle.bpf_model.specs.declared.limits.MapShape.{MapShape}
-use Rattle.bpf_model.specs.declared.limits.TheConstants.{MAX_MAPS, KEY_BYTES, VALUE_BYTES, MAX_ENTRIES, MAX_SPARE, MAX_REUSE}
+use Rattle.bpf_model.specs.declared.limits.TheConstants.{MAX_MAPS, KEY_BYTES, VALUE_BYTES}
+use Rattle.bpf_model.specs.declared.limits.TheConstants.{MAX_ENTRIES, MAX_SPARE, MAX_REUSE}
 use Rattle.bpf_model.specs.View.{MapView}
 use Rattle.maps.specs.Codes.{view_code}
 use Rattle.std.specs.Coded.{Coded, code_by, coded×, coded_ℕ, coded_list}
 use Rattle.maps.specs.declared.fault.MapFault.{MapFault}
-use Rattle.maps.specs.declared.fault.MapFault.TheVariants.{BadName, NameTaken, BadShape, TooMany, Memory}
+use Rattle.maps.specs.declared.fault.MapFault.TheVariants.{BadName, NameTaken, BadShape, TooMany}
+use Rattle.maps.specs.declared.fault.MapFault.TheVariants.{Memory}
 use Rattle.maps.specs.declared.name.TheConstants.{NAME_BYTES}
 
 pub record RegistryView : Type 0 where
@@ -15,7 +18,8 @@ pub record RegistryView : Type 0 where
   pub maps : List MapView
 
 abbrev pub registry_code : Coded RegistryView
-registry_code = code_by (List (List ℕ) × List MapView) (coded× (coded_list (coded_list coded_ℕ)) (coded_list view_code)) (λ r. (r.names, r.maps)) (λ p. record { names = p.0; maps = p.1 }) (λ _. refl)
+registry_code = code_by (List (List ℕ)
+    × List MapView) (coded× (coded_list (coded_list coded_ℕ)) (coded_list view_code)) (λ r. (r.names, r.maps)) (λ p. record { names = p.0; maps = p.1 }) (λ _. refl)
 
 -- `a` to `z`
 abbrev pub is_letter : ℕ → Bool
@@ -35,7 +39,8 @@ begins_with_letter (Some c) = is_letter c
 
 -- A name of a map: 1 to NAME_BYTES of these characters, the first a letter.
 abbrev pub is_name : List ℕ → Bool
-is_name name = begins_with_letter (slice_get name 0) && (nat_le (length name) NAME_BYTES && list_all is_name_character name)
+is_name name = begins_with_letter (slice_get name 0)
+    && (nat_le (length name) NAME_BYTES && list_all is_name_character name)
 
 abbrev pub is_between : ℕ → ℕ → ℕ → Bool
 is_between least n greatest = nat_le least n && nat_le n greatest
@@ -44,7 +49,8 @@ is_between least n greatest = nat_le least n && nat_le n greatest
 abbrev pub is_shape : MapShape → Bool
 is_shape shape =
     is_between 1 shape.key_len KEY_BYTES && (is_between 1 shape.value_len VALUE_BYTES
-    && (is_between 1 shape.entries MAX_ENTRIES && (nat_le shape.spare MAX_SPARE && is_between 1 shape.reuse_limit MAX_REUSE)))
+    && (is_between 1 shape.entries MAX_ENTRIES
+    && (nat_le shape.spare MAX_SPARE && is_between 1 shape.reuse_limit MAX_REUSE)))
 
 abbrev pub has_name : RegistryView → List ℕ → Bool
 has_name r name = list_any (bytes_eq name) r.names

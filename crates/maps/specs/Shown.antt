@@ -1,5 +1,6 @@
 -- What is seen of a map, and what is kept of it.
-use Rattle.std.specs.Prelude.{◌≡◌, ℕ, ◌+◌, ◌<◌, ◌≤◌, ◌==◌, List, [], ◌∷◌, Option, Some, None, Result, Ok, Err, if◌then◌else◌, slice_get, length, count_by}
+use Rattle.std.specs.Prelude.{◌≡◌, ℕ, ◌+◌, ◌<◌, ◌≤◌, ◌==◌, List, [], ◌∷◌, Option, Some, None}
+use Rattle.std.specs.Prelude.{Result, Ok, Err, if◌then◌else◌, slice_get, length, count_by}
 use Rattle.std.specs.FinMap.{get, len}
 use Rattle.bpf_model.specs.declared.call.Errno.{Errno}
 use Rattle.bpf_model.specs.declared.call.Errno.TheVariants.{NoMemory}
@@ -26,7 +27,8 @@ map_view shape p = record {
   worn = count_by (λ b. b) p.arena.worn;
 }
 
--- the arena has as many slots as the shape says, for keys and values of its lengths, which may be used as often as it says
+-- the arena has as many slots as the shape says, for keys and values of its lengths, which may be
+-- used as often as it says
 pub record IsOfShape (shape : MapShape) (a : ArenaState) : Type 0 where
   pub slots : length a.slots ≡ slots_of_shape shape
   pub key_len : a.key_len ≡ shape.key_len
@@ -56,7 +58,8 @@ linked_with None n = n + 1
 linked_with (Some i) n = n
 
 -- An update that no earlier test refuses: no slot is free, or the first free one is filled.
-abbrev pub put_in : List ℕ → MapView → Option ℕ → List ℕ → List ℕ → Result (Unit {0}) Errno × MapView
+abbrev pub put_in : List ℕ → MapView → Option ℕ → List ℕ → List ℕ →
+    Result (Unit {0}) Errno × MapView
 put_in [] v found key value = (Err NoMemory, v)
 put_in (i ∷ rest) v found key value = (Ok tt, filled (retired_slot v key found) i rest key value)
 

@@ -1,11 +1,13 @@
 -- What loads and stores reach, in words of the laws.
-use Rattle.std.specs.Prelude.{◌≡◌, ℕ, ◌+◌, ◌^◌, ◌<◌, ◌≤◌, List, Some, None, slice_get, ℤ, ◌+ℤ◌, Result, IsOk}
+use Rattle.std.specs.Prelude.{◌≡◌, ℕ, ◌+◌, ◌^◌, ◌<◌, ◌≤◌, List, Some, None, slice_get, ℤ, ◌+ℤ◌}
+use Rattle.std.specs.Prelude.{Result, IsOk}
 use Rattle.bpf_model.specs.declared.limits.TheConstants.{FRAME_BYTES}
 use Rattle.bpf_model.specs.declared.limits.MapShape.{MapShape}
 use Rattle.bpf_model.specs.declared.insn.Insn.{Insn}
 use Rattle.bpf_model.specs.Access.{region_offset}
 use Rattle.scalar_domain.specs.declared.scalar.Scalar.{Scalar}
-use Rattle.typed_runs.specs.Kinds.{Kind, Num, CtxAt, FrameAt, ValueAt, ByteCell, PartCell, AbsState as Known}
+use Rattle.typed_runs.specs.Kinds.{Kind, Num, CtxAt, FrameAt, ValueAt, ByteCell, PartCell}
+use Rattle.typed_runs.specs.Kinds.{AbsState as Known}
 use Rattle.typed_runs.specs.Effects.{IsAlwaysInside, IsPointer, with_kind, with_cells}
 use Rattle.typed_runs.specs.Planned.{AreAlike}
 use Rattle.kind_tests.specs.declared.fault.Fault.{Fault}
@@ -19,9 +21,11 @@ use Rattle.memory_effects.specs.declared.region.Region.TheVariants as regions
 use Rattle.memory_effects.specs.declared.reads.Reads.{Reads}
 use Rattle.memory_effects.specs.declared.reads.Reads.TheVariants as reads
 
--- From each run that the old state describes the instruction has a step, and each leads to one that the new state describes.
+-- From each run that the old state describes the instruction has a step, and each leads to one that
+-- the new state describes.
 abbrev pub PerformsAccess : Insn → ℕ → List MapShape → AbsState → AbsState → Type 0
-PerformsAccess insn ctx_len shapes old new = Transfers insn shapes ctx_len (state_of old) (state_of new) None
+PerformsAccess insn ctx_len shapes old new =
+    Transfers insn shapes ctx_len (state_of old) (state_of new) None
 
 -- a reference into the region; none is into no region
 abbrev pub IsBase : Region → Kind → Type 0
@@ -37,7 +41,8 @@ pub record ReachesContext (a : Known) (r width : ℕ) (offset : ℤ) (ctx_len : 
   pub inside : IsAlwaysInside offsets width offset ctx_len
 
 -- in the value of an element of a map of the program's list
-pub record ReachesValue (a : Known) (r width : ℕ) (offset : ℤ) (shapes : List MapShape) (map : ℕ) : Type 0 where
+pub record ReachesValue (a : Known) (r width : ℕ) (offset : ℤ) (shapes : List MapShape) (map : ℕ)
+    : Type 0 where
   pub shape : MapShape
   pub offsets : Scalar
   pub base : a.regs r ≡ ValueAt map offsets
@@ -60,8 +65,10 @@ pub record IsStart (s : Scalar) : Type 0 where
   pub least : s.least ≡ 2 ^ 29
   pub greatest : s.greatest ≡ 2 ^ 29
 
--- The register refers to the start of the value of an element of this map, and the access lies inside it.
-pub record ReadsValue (shapes : List MapShape) (a : AbsState) (r map width : ℕ) (offset : ℤ) : Type 0 where
+-- The register refers to the start of the value of an element of this map, and the access lies
+-- inside it.
+pub record ReadsValue (shapes : List MapShape) (a : AbsState) (r map width : ℕ) (offset : ℤ)
+    : Type 0 where
   pub shape : MapShape
   pub shape_is : slice_get shapes map ≡ Some shape
   pub offsets : Scalar
@@ -79,10 +86,13 @@ pub record ReadsParts (a : Known) (r width : ℕ) (offset : ℤ) (kind : Kind) :
 
 -- What a load reads.
 abbrev pub IsRead : Reads → Known → ℕ → Address → ℕ → List MapShape → Type 0
-IsRead reads.Context a width from ctx_len shapes = ReachesContext a from.base width from.offset ctx_len
-IsRead (reads.Value map) a width from ctx_len shapes = ReachesValue a from.base width from.offset shapes map
+IsRead reads.Context a width from ctx_len shapes =
+    ReachesContext a from.base width from.offset ctx_len
+IsRead (reads.Value map) a width from ctx_len shapes =
+    ReachesValue a from.base width from.offset shapes map
 IsRead reads.FrameBytes a width from ctx_len shapes = ReadsBytes a from.base width from.offset
-IsRead (reads.FramePointer kind) a width from ctx_len shapes = ReadsParts a from.base width from.offset (kind_of kind)
+IsRead (reads.FramePointer kind) a width from ctx_len shapes =
+    ReadsParts a from.base width from.offset (kind_of kind)
 
 -- the kind of what is read
 abbrev pub read_kind : Reads → Scalar → Kind

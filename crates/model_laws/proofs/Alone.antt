@@ -45,7 +45,7 @@ insn-all P (i ∷ is) place j all h =
     first-or (place == 0) P i j _ all.0 (λ rest. none-or (nat_lt place (slot_count i)) P j _ (λ further. insn-all P is (place - slot_count i) j all.1 further) rest) h
 
 -- what an own reference can't do
-load-own : (es : List Element) (width : ℕ) (offset : ℤ) (base : Value) (n : ℕ) → HoldsValue IsOwn base → element_load es width offset base ≡ Some n → ⊥
+pub load-own : (es : List Element) (width : ℕ) (offset : ℤ) (base : Value) (n : ℕ) → HoldsValue IsOwn base → element_load es width offset base ≡ Some n → ⊥
 load-own es width offset Nothing n p h = none-some n h
 load-own es width offset (Number x) n p h = none-some n h
 load-own es width offset (Pointer (Ctx o)) n p h = none-some n h
@@ -53,7 +53,7 @@ load-own es width offset (Pointer (Frame o)) n p h = none-some n h
 load-own es width offset (Pointer (MapRef m)) n p h = p
 load-own es width offset (Pointer (Elem k o)) n p h = p
 
-store-own : (es new : List Element) (width : ℕ) (offset : ℤ) (v base : Value) → HoldsValue IsOwn base → element_store es width offset v base ≡ Some new → ⊥
+pub store-own : (es new : List Element) (width : ℕ) (offset : ℤ) (v base : Value) → HoldsValue IsOwn base → element_store es width offset v base ≡ Some new → ⊥
 store-own es new width offset Nothing base p h = none-some new h
 store-own es new width offset (Pointer r) base p h = none-some new h
 store-own es new width offset (Number v) Nothing p h = none-some new h
@@ -63,13 +63,13 @@ store-own es new width offset (Number v) (Pointer (Frame o)) p h = none-some new
 store-own es new width offset (Number v) (Pointer (MapRef m)) p h = p
 store-own es new width offset (Number v) (Pointer (Elem k o)) p h = p
 
-access-own : (i : Insn) (es : List Element) (m : State) (out : Outcome) (new : List Element) → HoldsState IsOwn m → AccessesElement i es m out new → ⊥
+pub access-own : (i : Insn) (es : List Element) (m : State) (out : Outcome) (new : List Element) → HoldsState IsOwn m → AccessesElement i es m out new → ⊥
 access-own (Load width dst src offset) es m out new p h = load-own es (byte_count width) offset (m.regs src) h.0 (p.0 src) h.1
 access-own (LoadSigned width dst src offset) es m out new p h = load-own es (byte_count (unsigned_width width)) offset (m.regs src) h.0 (p.0 src) h.1
 access-own (Store width dst offset src) es m out new p h = store-own es new (byte_count width) offset (operand_value src m.regs) (m.regs dst) (p.0 dst) h.0
 access-own i es m out new p h = h
 
-map-own : (maps : List ℕ) (v : Value) (map : ℕ) → HoldsValue IsOwn v → (reference v >>= bound_map maps) ≡ Some map → ⊥
+pub map-own : (maps : List ℕ) (v : Value) (map : ℕ) → HoldsValue IsOwn v → (reference v >>= bound_map maps) ≡ Some map → ⊥
 map-own maps Nothing map p h = none-some map h
 map-own maps (Number n) map p h = none-some map h
 map-own maps (Pointer (Ctx o)) map p h = none-some map h
@@ -77,14 +77,14 @@ map-own maps (Pointer (Frame o)) map p h = none-some map h
 map-own maps (Pointer (MapRef m)) map p h = p
 map-own maps (Pointer (Elem n o)) map p h = p
 
-helper-own : (f : Option Helper) (s : map_state.Store) (opened : List Section) (run : Run) (ret : Value) (new : map_state.Store) → HoldsState IsOwn run.state → HelperStep f s opened run ret new → ⊥
+pub helper-own : (f : Option Helper) (s : map_state.Store) (opened : List Section) (run : Run) (ret : Value) (new : map_state.Store) → HoldsState IsOwn run.state → HelperStep f s opened run ret new → ⊥
 helper-own (Some helpers.Lookup) s opened run ret new p h = map-own run.program.maps (run.state.regs 1) h.0.map (p.0 1) h.0.map_is
 helper-own (Some helpers.Update) s opened run ret new p h = map-own run.program.maps (run.state.regs 1) h.map (p.0 1) h.map_is
 helper-own (Some helpers.Delete) s opened run ret new p h = map-own run.program.maps (run.state.regs 1) h.map (p.0 1) h.map_is
 helper-own None s opened run ret new p h = h
 
 -- the step that it makes by itself
-acts-own : (i : Insn) (env : Environment) (es : List Element) (m : State) (out : Outcome) (new : List Element) → HoldsState IsOwn m → Acts i env es m out new → (after i env m ≡ Some out) × (new ≡ es)
+pub acts-own : (i : Insn) (env : Environment) (es : List Element) (m : State) (out : Outcome) (new : List Element) → HoldsState IsOwn m → Acts i env es m out new → (after i env m ≡ Some out) × (new ≡ es)
 acts-own i env es m out new p (inl h) = h
 acts-own i env es m out new p (inr h) = absurd (access-own i es m out new p h)
 
@@ -106,7 +106,7 @@ others_change_nothing store new_store opened run new answer p h =
     (a.0, λ other sections. (h.0, h.1, a.1 other sections))
 
 -- it goes on sharing nothing
-own-closed : Closed IsOwn
+pub own-closed : Closed IsOwn
 own-closed = record { context = λ o. tt; frame = λ o. tt; moved = λ n o p h. h }
 
 ends-own : (out : Outcome) (run : Run) (answer : Answer) (new : Run) → SharesNothing run → HoldsOutcome IsOwn out → OutcomeStep out run answer new → SharesNothing new

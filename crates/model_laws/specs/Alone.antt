@@ -10,7 +10,8 @@ use Rattle.bpf_model.specs.Step.{State}
 use Rattle.bpf_model.specs.Exit.{HasNoMaps}
 use Rattle.bpf_model.specs.Machine.{Run}
 
--- A reference that is held meets a predicate: in a value, in a cell, in a run's registers and frame.
+-- A reference that is held meets a predicate: in a value, in a cell, in a run's registers and
+-- frame.
 abbrev pub HoldsValue : (Reference → Type 0) → Value → Type 0
 HoldsValue P Nothing = Unit {0}
 HoldsValue P (Number n) = Unit {0}
@@ -31,7 +32,8 @@ IsOwn (Frame o) = Unit {0}
 IsOwn (MapRef m) = ⊥
 IsOwn (Elem n o) = ⊥
 
--- The program loads no reference to a map, and each reference that the run holds is to its own context or frame.
+-- The program loads no reference to a map, and each reference that the run holds is to its own
+-- context or frame.
 pub record SharesNothing (run : Run) : Type 0 where
   pub code : HasNoMaps run.program.code
   pub state : HoldsState IsOwn run.state

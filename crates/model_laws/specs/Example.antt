@@ -2,7 +2,8 @@
 use Rattle.std.specs.Prelude.{List, [], ◌∷◌, pos, negsuc}
 use Rattle.bpf_model.specs.declared.limits.MapShape.{MapShape}
 use Rattle.bpf_model.specs.declared.insn.Insn.{Insn}
-use Rattle.bpf_model.specs.declared.insn.Insn.TheVariants.{Alu, LoadMap, JumpIf, Call, Exit, Load, Store}
+use Rattle.bpf_model.specs.declared.insn.Insn.TheVariants.{Alu, LoadMap, JumpIf, Call, Exit, Load}
+use Rattle.bpf_model.specs.declared.insn.Insn.TheVariants.{Store}
 use Rattle.bpf_model.specs.declared.insn.AluOp.TheVariants.{Move, Add}
 use Rattle.bpf_model.specs.declared.insn.CallKind.TheVariants.{Helper, Kernel}
 use Rattle.bpf_model.specs.declared.insn.Operand.TheVariants.{Register, Immediate}

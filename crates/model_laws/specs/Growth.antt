@@ -2,7 +2,8 @@
 use Rattle.std.specs.Prelude.{◌≡◌, ℕ, List, Some, slice_get}
 use Rattle.bpf_model.specs.Element.{Element, Life, Linked, Unlinked, Reclaimed}
 
--- a life goes on by at most one step: a linked one stays so or is unlinked, an unlinked one keeps its sections or is reclaimed, a reclaimed one stays so
+-- a life goes on by at most one step: a linked one stays so or is unlinked, an unlinked one keeps
+-- its sections or is reclaimed, a reclaimed one stays so
 abbrev pub Later : Life → Life → Type 0
 Later Linked Linked = Unit {0}
 Later Linked (Unlinked t) = Unit {0}
@@ -22,4 +23,6 @@ pub record IsLaterElement (old new : Element) : Type 0 where
 
 -- each element is still there
 abbrev pub ElementsGrow : List Element → List Element → Type 0
-ElementsGrow old new = (n : ℕ) (e : Element) → slice_get old n ≡ Some e → (f : Element) × (slice_get new n ≡ Some f) × IsLaterElement e f
+ElementsGrow old new =
+    (n : ℕ) (e : Element) → slice_get old n ≡ Some e →
+    (f : Element) × (slice_get new n ≡ Some f) × IsLaterElement e f

@@ -6,15 +6,20 @@ use Rattle.bpf_model.specs.Schedule.{Schedule, IsScheduledHistory, last_schedule
 use Rattle.bpf_model.specs.Drain.{AnswersAsScheduled}
 
 module _ {World : Type 0} where
-  -- Each answer is a step with the runtime's choices, from the world after the answer before it; the first world is old and the last is new.
-  abbrev pub AreSteps : (World → Schedule → Type 0) → World → List Event → List Answer → World → Type 0
+  -- Each answer is a step with the runtime's choices, from the world after the answer before it;
+  -- the first world is old and the last is new.
+  abbrev pub AreSteps : (World → Schedule → Type 0) → World → List Event → List Answer → World →
+      Type 0
   AreSteps Tracks old [] [] new = new ≡ old
   AreSteps Tracks old (event ∷ events) (answer ∷ answers) new = (next : World)
       × AnswersAsScheduled Tracks old event answer next × AreSteps Tracks next events answers new
   AreSteps Tracks old events answers new = ⊥
 
-  -- The answers are those of a run with the runtime's choices, and the last world tracks its last state.
-  abbrev pub AnswersAsHistory : (World → Schedule → Type 0) → World → List Event → List Answer → World → Type 0
+  -- The answers are those of a run with the runtime's choices, and the last world tracks its last
+  -- state.
+  abbrev pub AnswersAsHistory : (World → Schedule → Type 0) → World → List Event → List Answer →
+      World → Type 0
   AnswersAsHistory Tracks old events answers new =
-      (s : Schedule) → Tracks old s → (states : List Schedule) × IsScheduledHistory s events answers states
+      (s : Schedule) → Tracks old s →
+      (states : List Schedule) × IsScheduledHistory s events answers states
       × Tracks new (last_scheduled s states)

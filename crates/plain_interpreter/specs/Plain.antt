@@ -1,5 +1,6 @@
 -- What a plain run stands for, and what its steps tell.
-use Rattle.std.specs.Prelude.{◌≡◌, ℕ, List, slice_index_or, Option, Some, None, ℤ, pos, FitsSigned, Bool, true, false}
+use Rattle.std.specs.Prelude.{◌≡◌, ℕ, List, slice_index_or, Option, Some, None, ℤ, pos, FitsSigned}
+use Rattle.std.specs.Prelude.{Bool, true, false}
 use Rattle.std.specs.Int.{w64}
 use Rattle.bpf_model.specs.declared.insn.Insn.{Insn}
 use Rattle.bpf_model.specs.declared.value.Value.{Value}
@@ -8,10 +9,12 @@ use Rattle.bpf_model.specs.declared.value.Reference.{Reference}
 use Rattle.bpf_model.specs.declared.value.Reference.TheVariants.{Ctx, Frame, MapRef, Elem}
 use Rattle.bpf_model.specs.declared.value.Cell.{Cell}
 use Rattle.bpf_model.specs.declared.value.Cell.TheVariants as cells
-use Rattle.bpf_model.specs.Step.{State, Environment, Outcome, Moves, Exits, after, frame_after, insn_at}
+use Rattle.bpf_model.specs.Step.{State, Environment, Outcome, Moves, Exits, after, frame_after}
+use Rattle.bpf_model.specs.Step.{insn_at}
 use Rattle.plain_interpreter.specs.declared.plain_run.PlainRun.{PlainRun}
 use Rattle.plain_interpreter.specs.declared.plain_run.Progress.{Progress}
-use Rattle.plain_interpreter.specs.declared.plain_run.Progress.TheVariants.{Moved, Exited, Stuck, OutOfRange}
+use Rattle.plain_interpreter.specs.declared.plain_run.Progress.TheVariants.{Moved, Exited, Stuck}
+use Rattle.plain_interpreter.specs.declared.plain_run.Progress.TheVariants.{OutOfRange}
 use Rattle.plain_interpreter.specs.declared.value.Computed.{Computed}
 use Rattle.plain_interpreter.specs.declared.value.Computed.TheVariants as computed
 
@@ -30,7 +33,11 @@ WritesFrame at width v old false new = (frame_after at width v (cells_of old) �
 
 -- the state that a run stands for
 abbrev pub plain_state_of : PlainRun → State
-plain_state_of run = record { regs = λ r. slice_index_or run.regs r Nothing; frame = λ k. slice_index_or run.frame k cells.Unwritten; place = run.place }
+plain_state_of run = record {
+  regs = λ r. slice_index_or run.regs r Nothing;
+  frame = λ k. slice_index_or run.frame k cells.Unwritten;
+  place = run.place;
+}
 
 -- where a reference points
 abbrev pub pointed_offset : Reference → ℤ
@@ -61,19 +68,29 @@ abbrev pub Comes : Option Outcome → Progress → PlainRun → PlainRun → Typ
 Comes o Moved old new = o ≡ Some (Moves (plain_state_of new))
 Comes o (Exited n) old new = (o ≡ Some (Exits n)) × (new ≡ old)
 Comes o Stuck old new = (o ≡ None) × (new ≡ old)
-Comes o OutOfRange old new = (next : State) × (o ≡ Some (Moves next)) × (r : ℕ) × IsFar (next.regs r) × (new ≡ old)
+Comes o OutOfRange old new =
+    (next : State) × (o ≡ Some (Moves next)) × (r : ℕ) × IsFar (next.regs r) × (new ≡ old)
 
 -- the answer and the new state are those of the instruction
-pub record PerformsInsn (i : Insn) (env : Environment) (old : PlainRun) (answer : Progress) (new : PlainRun) : Type 0 where
+pub record PerformsInsn (i : Insn) (env : Environment) (old : PlainRun) (answer : Progress)
+    (new : PlainRun) : Type 0 where
   pub comes : Comes (after i env (plain_state_of old)) answer old new
 
--- A run by itself steps by the instruction that begins at its slot; where none begins, or that does nothing by itself, it is stuck.
+-- A run by itself steps by the instruction that begins at its slot; where none begins, or that does
+-- nothing by itself, it is stuck.
 abbrev pub StepsByItself : List Insn → Environment → State → Outcome → Type 0
-StepsByItself program env m out = (i : Insn) × (insn_at program m.place ≡ Some i) × (after i env m ≡ Some out)
+StepsByItself program env m out =
+    (i : Insn) × (insn_at program m.place ≡ Some i) × (after i env m ≡ Some out)
 
--- The answer is that step. A stuck run has none, and out of range is a step to a far reference; only a run that moves changes.
+-- The answer is that step. A stuck run has none, and out of range is a step to a far reference;
+-- only a run that moves changes.
 abbrev pub TellsStep : List Insn → Environment → PlainRun → Progress → PlainRun → Type 0
-TellsStep program env old Moved new = StepsByItself program env (plain_state_of old) (Moves (plain_state_of new))
-TellsStep program env old (Exited n) new = StepsByItself program env (plain_state_of old) (Exits n) × (new ≡ old)
-TellsStep program env old Stuck new = ((out : Outcome) → StepsByItself program env (plain_state_of old) out → ⊥) × (new ≡ old)
-TellsStep program env old OutOfRange new = (next : State) × StepsByItself program env (plain_state_of old) (Moves next) × (r : ℕ) × IsFar (next.regs r) × (new ≡ old)
+TellsStep program env old Moved new =
+    StepsByItself program env (plain_state_of old) (Moves (plain_state_of new))
+TellsStep program env old (Exited n) new =
+    StepsByItself program env (plain_state_of old) (Exits n) × (new ≡ old)
+TellsStep program env old Stuck new =
+    ((out : Outcome) → StepsByItself program env (plain_state_of old) out → ⊥) × (new ≡ old)
+TellsStep program env old OutOfRange new =
+    (next : State) × StepsByItself program env (plain_state_of old) (Moves next) × (r : ℕ)
+    × IsFar (next.regs r) × (new ≡ old)

@@ -6,20 +6,31 @@ use Rattle.bpf_model.specs.declared.event.Answer.{Answer}
 use Rattle.bpf_model.specs.Element.{Element}
 use Rattle.bpf_model.specs.Event.{DoesEvent}
 use Rattle.bpf_model.specs.Machine.{Machine}
-use Rattle.bpf_model.specs.Schedule.{Schedule, retired, still_open, open_flags, scheduled, TakesFirst}
+use Rattle.bpf_model.specs.Schedule.{Schedule, retired, still_open, open_flags, scheduled}
+use Rattle.bpf_model.specs.Schedule.{TakesFirst}
 use Rattle.plain_store.specs.declared.fault.Fault.{Fault}
 use Rattle.plain_store.specs.Telling.{TellsResult}
 
 -- the machine made a step, or has none
 abbrev pub DoesAs : Machine → Event → Result Answer Fault → Machine → Type 0
-DoesAs m event answer new = TellsResult (λ a. DoesEvent m event a new) ((a : Answer) (next : Machine) → DoesEvent m event a next → ⊥) answer
+DoesAs m event answer new =
+    TellsResult (λ a. DoesEvent m event a new) ((a : Answer) (next : Machine) →
+    DoesEvent m event a next → ⊥) answer
 
--- the lists after an event other than an advance or a reap, of the machine that it led to; the elements before it are given
+-- the lists after an event other than an advance or a reap, of the machine that it led to; the
+-- elements before it are given
 abbrev pub settled : Schedule → List Element → Schedule
-settled s olds = record { machine = s.machine; queues = retired 0 olds s.machine.store.elements s.queues; awaited = still_open s.awaited (open_flags s.machine.runs) }
+settled s olds = record {
+  machine = s.machine;
+  queues = retired 0 olds s.machine.store.elements s.queues;
+  awaited =
+      still_open s.awaited (open_flags s.machine.runs);
+}
 
--- The lists after an event are those of the runtime's own choices, and a reap takes the first ready element.
-pub record FollowsLists (s : Schedule) (event : Event) (answer : Answer) (new : Schedule) : Type 0 where
+-- The lists after an event are those of the runtime's own choices, and a reap takes the first ready
+-- element.
+pub record FollowsLists (s : Schedule) (event : Event) (answer : Answer) (new : Schedule)
+    : Type 0 where
   pub first : TakesFirst s event answer new.machine
   pub lists : new ≡ scheduled s event new.machine
 

@@ -7,8 +7,17 @@ use Rattle.plain_runs.specs.State.{loaded_of, runs_of}
 use Rattle.plain_model.specs.declared.machine.Machine.{Machine}
 
 abbrev pub machine_of : Machine → machine.Machine
-machine_of m = record { store = store_of m.store; runs = runs_of m.programs.items m.runs.items; started = m.started; programs = map loaded_of m.programs.items }
+machine_of m = record {
+  store = store_of m.store;
+  runs = runs_of m.programs.items m.runs.items;
+  started = m.started;
+  programs = map loaded_of m.programs.items;
+}
 
 -- the machine with the runtime's own lists
 abbrev pub schedule_of : Machine → schedule.Schedule
-schedule_of m = record { machine = machine_of m; queues = map queues_of m.queues.items; awaited = m.awaited.items }
+schedule_of m = record {
+  machine = machine_of m;
+  queues = map queues_of m.queues.items;
+  awaited = m.awaited.items;
+}

@@ -18,7 +18,8 @@ use Rattle.bpf_model.specs.Value.{◌>>=◌}
 use Rattle.bpf_model.specs.Access.{byte_count, unsigned_width}
 use Rattle.bpf_model.specs.Arithmetic.{loaded_signed}
 use Rattle.bpf_model.specs.Step.{State, Environment, Outcome, Moves, Exits, forward, sets}
-use Rattle.bpf_model.specs.MachineStep.{element_load, KernelStep, Acts, OutcomeStep, InsnStep, RunStep}
+use Rattle.bpf_model.specs.MachineStep.{element_load, KernelStep, Acts, OutcomeStep, InsnStep}
+use Rattle.bpf_model.specs.MachineStep.{RunStep}
 use Rattle.plain_interpreter.specs.declared.plain_run.PlainRun.{PlainRun}
 use Rattle.plain_interpreter.specs.declared.plain_run.Progress.{Progress}
 use Rattle.plain_interpreter.specs.declared.plain_run.Progress.TheVariants as progress
@@ -44,22 +45,31 @@ base_element _ m = None
 
 -- what a load leaves, and one that extends a sign
 abbrev pub load_outcome : List Element → ℕ → ℤ → Value → ℕ → State → Option Outcome
-load_outcome es width offset base dst m = element_load es width offset base >>= λ n. sets 1 dst (Number n) m
+load_outcome es width offset base dst m =
+    element_load es width offset base >>= λ n. sets 1 dst (Number n) m
 
 abbrev pub extended_outcome : List Element → SignedWidth → ℤ → Value → ℕ → State → Option Outcome
-extended_outcome es width offset base dst m = element_load es (byte_count (unsigned_width width)) offset base >>= λ n. sets 1 dst (Number (loaded_signed width n)) m
+extended_outcome es width offset base dst m =
+    element_load es (byte_count (unsigned_width width)) offset base
+    >>= λ n. sets 1 dst (Number (loaded_signed width n)) m
 
 -- a store to an element was made, or could not be
 abbrev pub StoresAs : Option (List Element) → PlainRun → Progress → List Element → PlainRun → Type 0
-StoresAs o old progress.Moved new_elements new = (o ≡ Some new_elements) × (plain_state_of new ≡ forward 1 (plain_state_of old))
+StoresAs o old progress.Moved new_elements new =
+    (o ≡ Some new_elements) × (plain_state_of new ≡ forward 1 (plain_state_of old))
 StoresAs o old progress.Stuck new_elements new = o ≡ None
 StoresAs o old _ new_elements new = ⊥
 
 -- An instruction other than a call was a step, or there is none.
-abbrev pub ActsAs : Insn → Environment → List Element → PlainRun → Progress → List Element → PlainRun → Type 0
-ActsAs i env es old progress.Moved new_elements new = Acts i env es (plain_state_of old) (Moves (plain_state_of new)) new_elements
-ActsAs i env es old (progress.Exited n) new_elements new = Acts i env es (plain_state_of old) (Exits n) new_elements × (plain_state_of new ≡ plain_state_of old)
-ActsAs i env es old progress.Stuck new_elements new = (out : Outcome) (more : List Element) → Acts i env es (plain_state_of old) out more → ⊥
+abbrev pub ActsAs : Insn → Environment → List Element → PlainRun → Progress → List Element →
+    PlainRun → Type 0
+ActsAs i env es old progress.Moved new_elements new =
+    Acts i env es (plain_state_of old) (Moves (plain_state_of new)) new_elements
+ActsAs i env es old (progress.Exited n) new_elements new =
+    Acts i env es (plain_state_of old) (Exits n) new_elements
+    × (plain_state_of new ≡ plain_state_of old)
+ActsAs i env es old progress.Stuck new_elements new =
+    (out : Outcome) (more : List Element) → Acts i env es (plain_state_of old) out more → ⊥
 ActsAs i env es old progress.OutOfRange new_elements new = Unit {0}
 
 -- the call that an instruction is
@@ -68,33 +78,44 @@ call_in (Call kind imm) = Some (kind, imm)
 call_in _ = None
 
 -- a lock or an unlock was made, or could not be
-abbrev pub KernelsAs : Option KernelFunction → machine.Run → Result Answer Fault → machine.Run → Type 0
-KernelsAs function old answer new = TellsResult (λ a. KernelStep function old new × (a ≡ Moved)) ((q : machine.Run) → KernelStep function old q → ⊥) answer
+abbrev pub KernelsAs : Option KernelFunction → machine.Run → Result Answer Fault → machine.Run →
+    Type 0
+KernelsAs function old answer new =
+    TellsResult (λ a. KernelStep function old new × (a ≡ Moved)) ((q : machine.Run) →
+    KernelStep function old q → ⊥) answer
 
 -- an instruction was a step of the run, or there is none
-abbrev pub InsnStepsAs : Insn → maps.Store → List Section → machine.Run → Result Answer Fault → maps.Store → machine.Run → Type 0
+abbrev pub InsnStepsAs : Insn → maps.Store → List Section → machine.Run → Result Answer Fault →
+    maps.Store → machine.Run → Type 0
 InsnStepsAs i s opened run answer new_store new_run =
     TellsResult (λ a. InsnStep i s opened run a new_store new_run) ((a : Answer) (t : maps.Store) (q : machine.Run) → InsnStep i s opened run a t q → ⊥) answer
 
 -- the run made a step, or has none
-abbrev pub RunStepsAs : maps.Store → List Section → machine.Run → Result Answer Fault → maps.Store → machine.Run → Type 0
+abbrev pub RunStepsAs : maps.Store → List Section → machine.Run → Result Answer Fault → maps.Store →
+    machine.Run → Type 0
 RunStepsAs s opened run answer new_store new_run =
     TellsResult (λ a. RunStep s opened run a new_store new_run) ((a : Answer) (t : maps.Store) (q : machine.Run) → RunStep s opened run a t q → ⊥) answer
 
 -- an instruction other than a call was a step of the run, or there is none
 abbrev pub AloneStep : Insn → maps.Store → machine.Run → Answer → maps.Store → machine.Run → Type 0
 AloneStep i s run answer new_store new_run =
-    (out : Outcome) × (es : List Element) × Acts i (machine.environment run) s.elements run.state out es × (new_store ≡ maps.with_elements es s) × OutcomeStep out run answer new_run
+    (out : Outcome) × (es : List Element)
+    × Acts i (machine.environment run) s.elements run.state out es
+    × (new_store ≡ maps.with_elements es s) × OutcomeStep out run answer new_run
 
-abbrev pub AloneAs : Insn → maps.Store → machine.Run → Result Answer Fault → maps.Store → machine.Run → Type 0
+abbrev pub AloneAs : Insn → maps.Store → machine.Run → Result Answer Fault → maps.Store →
+    machine.Run → Type 0
 AloneAs i s run answer new_store new_run =
     TellsResult (λ a. AloneStep i s run a new_store new_run) ((a : Answer) (t : maps.Store) (q : machine.Run) → AloneStep i s run a t q → ⊥) answer
 
 -- the run of a slot made a step, or has none
-abbrev pub SlotStep : maps.Store → List Section → Option machine.Run → Answer → maps.Store → Option machine.Run → Type 0
+abbrev pub SlotStep : maps.Store → List Section → Option machine.Run → Answer → maps.Store →
+    Option machine.Run → Type 0
 SlotStep s opened None answer new_store new = ⊥
-SlotStep s opened (Some run) answer new_store new = (new_run : machine.Run) × (new ≡ Some new_run) × RunStep s opened run answer new_store new_run
+SlotStep s opened (Some run) answer new_store new =
+    (new_run : machine.Run) × (new ≡ Some new_run) × RunStep s opened run answer new_store new_run
 
-abbrev pub SlotStepsAs : maps.Store → List Section → Option machine.Run → Result Answer Fault → maps.Store → Option machine.Run → Type 0
+abbrev pub SlotStepsAs : maps.Store → List Section → Option machine.Run → Result Answer Fault →
+    maps.Store → Option machine.Run → Type 0
 SlotStepsAs s opened old answer new_store new =
     TellsResult (λ a. SlotStep s opened old a new_store new) ((a : Answer) (t : maps.Store) (q : Option machine.Run) → SlotStep s opened old a t q → ⊥) answer

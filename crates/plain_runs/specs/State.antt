@@ -17,7 +17,17 @@ or_no_program (Some l) = loaded_of l
 -- a run of a program
 abbrev pub run_with : machine.Loaded → Run → machine.Run
 run_with program run =
-    record { name = run.name; program = program; context = run.context.items; state = plain_state_of run.state; depth = run.depth; locks = run.locks; moved = run.moved; exit = run.exit }
+    record {
+      name = run.name;
+      program = program;
+      context = run.context.items;
+      state = plain_state_of run.state;
+      depth = run.depth;
+      locks = run.locks;
+      moved =
+          run.moved;
+      exit = run.exit;
+    }
 
 abbrev pub run_of : List Loaded → Run → machine.Run
 run_of programs run = run_with (or_no_program (slice_get programs run.program)) run

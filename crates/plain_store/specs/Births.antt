@@ -1,5 +1,6 @@
 -- A birth in the slot that has been free longest, and a reclamation.
-use Rattle.std.specs.Prelude.{◌≡◌, ℕ, ◌+◌, ◌<◌, List, [], ◌∷◌, length, drop, Option, Some, None, slice_get, slice_set}
+use Rattle.std.specs.Prelude.{◌≡◌, ℕ, ◌+◌, ◌<◌, List, [], ◌∷◌, length, drop, Option, Some, None}
+use Rattle.std.specs.Prelude.{slice_get, slice_set}
 use Rattle.bpf_model.specs.Section.{Section, AllEnded}
 use Rattle.bpf_model.specs.Element.{Element, Life, Unlinked, IsLinkedAt, IsAbsent}
 use Rattle.bpf_model.specs.declared.event.ReapedElement.{ReapedElement}
@@ -13,7 +14,8 @@ HasFree s map = (m : MapState) → slice_get s.maps map ≡ Some m → 0 < lengt
 
 -- the map's state, and the replacement by it
 abbrev pub ReplacesIn : Store → List Section → ℕ → List ℕ → List ℕ → Option ℕ → Store → Type 0
-ReplacesIn s opened map key value found new = (m : MapState) → slice_get s.maps map ≡ Some m → Replaces s opened map m key value found new
+ReplacesIn s opened map key value found new =
+    (m : MapState) → slice_get s.maps map ≡ Some m → Replaces s opened map m key value found new
 
 -- one more than the first count of the bag
 abbrev pub uses_after_first : List ℕ → ℕ
@@ -21,7 +23,8 @@ uses_after_first [] = 1
 uses_after_first (count ∷ rest) = count + 1
 
 abbrev pub NextUse : Store → ℕ → ℕ → Type 0
-NextUse s map use_count = (m : MapState) → slice_get s.maps map ≡ Some m → use_count ≡ uses_after_first m.bag
+NextUse s map use_count =
+    (m : MapState) → slice_get s.maps map ≡ Some m → use_count ≡ uses_after_first m.bag
 
 abbrev pub set_first : List MapState → ℕ → Option MapState → List MapState
 set_first ms map None = ms
@@ -37,7 +40,9 @@ MayReclaim life opened = (since : List Section) × (life ≡ Unlinked since) × 
 
 -- element n was reclaimed, and told
 abbrev pub ReclaimsTo : Store → List Section → ℕ → Store → ReapedElement → Type 0
-ReclaimsTo s opened n new reaped = (e : Element) × Reclaims s opened n e reaped.given new × (reaped.map ≡ e.map) × (reaped.key.items ≡ e.key)
+ReclaimsTo s opened n new reaped =
+    (e : Element) × Reclaims s opened n e reaped.given new × (reaped.map ≡ e.map)
+    × (reaped.key.items ≡ e.key)
 
 -- element n may be reclaimed: there is a step that does
 abbrev pub CanReclaim : Store → List Section → ℕ → Type 0
@@ -46,4 +51,5 @@ CanReclaim s opened n = (new : Store) × (reaped : ReapedElement) × ReclaimsTo 
 -- the value that was found under a key
 abbrev pub Finds : List Element → ℕ → List ℕ → Option (List ℕ) → Type 0
 Finds es map key None = IsAbsent es map key
-Finds es map key (Some value) = (n : ℕ) × (linked : IsLinkedAt es map key n) × (value ≡ linked.element.value)
+Finds es map key (Some value) =
+    (n : ℕ) × (linked : IsLinkedAt es map key n) × (value ≡ linked.element.value)

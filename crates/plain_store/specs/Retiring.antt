@@ -9,4 +9,5 @@ linked_map e = if is_linked e.life then Some e.map else None
 
 -- the lists of map k after the elements that were unlinked went to the end of its list next
 abbrev pub retire_in : List Element → List Element → ℕ → Queues → Queues
-retire_in olds news k q = record { next = q.next ++ unlinked_between k 0 olds news; waiting = q.waiting; ready = q.ready }
+retire_in olds news k q =
+    record { next = q.next ++ unlinked_between k 0 olds news; waiting = q.waiting; ready = q.ready }

@@ -24,7 +24,13 @@ life_of (lives.Unlinked opened) = model.Unlinked (sections_of opened.items)
 life_of lives.Reclaimed = model.Reclaimed
 
 abbrev pub element_of : Element → model.Element
-element_of e = record { map = e.map; key = e.key.items; value = e.value.items; uses = e.uses; life = life_of e.life }
+element_of e = record {
+  map = e.map;
+  key = e.key.items;
+  value = e.value.items;
+  uses = e.uses;
+  life = life_of e.life;
+}
 
 abbrev pub elements_of : List Element → List model.Element
 elements_of es = map element_of es

@@ -11,7 +11,9 @@ StoresTo o false new = o ≡ None
 
 -- the element after a store of a number, where one may be made
 abbrev pub saved : ℕ → ℤ → ℕ → Element → Option Element
-saved width offset v e = unless_reclaimed e >>= λ e. region_offset (length e.value) width offset >>= λ at. Some (with_value (with_bytes at width v e.value) e)
+saved width offset v e =
+    unless_reclaimed e >>= λ e. region_offset (length e.value) width offset
+    >>= λ at. Some (with_value (with_bytes at width v e.value) e)
 
 abbrev pub SavesTo : Element → ℕ → ℤ → ℕ → Bool → Element → Type 0
 SavesTo old width offset v true new = saved width offset v old ≡ Some new

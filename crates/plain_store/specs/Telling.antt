@@ -3,7 +3,8 @@ use Rattle.std.specs.Prelude.{Result, Ok, Err}
 use Rattle.plain_store.specs.declared.fault.Fault.{Fault}
 use Rattle.plain_store.specs.declared.fault.Fault.TheVariants.{Stuck, Memory, OutOfRange, Early}
 
--- A result tells what was done. Of the faults, "stuck" tells that nothing could be; the others tell nothing.
+-- A result tells what was done. Of the faults, "stuck" tells that nothing could be; the others tell
+-- nothing.
 abbrev pub TellsResult : {A : Type 0} → (A → Type 0) → Type 0 → Result A Fault → Type 0
 TellsResult Done Nothing (Ok a) = Done a
 TellsResult Done Nothing (Err Stuck) = Nothing

@@ -1,5 +1,8 @@
--- What the first pass keeps: which slots begin an instruction, where jumps land, and which instructions are reached.
-use Rattle.std.specs.Prelude.{◌≡◌, ℕ, suc, ◌+◌, ◌<◌, nat_le, List, length, slice_get, Option, Some, None, Result, Ok, Err, ℤ, pos, negsuc, ◌+ℤ◌, Bool, true, ◌⊎◌, if◌then◌else◌}
+-- What the first pass keeps: which slots begin an instruction, where jumps land, and which
+-- instructions are reached.
+use Rattle.std.specs.Prelude.{◌≡◌, ℕ, suc, ◌+◌, ◌<◌, nat_le, List, length, slice_get, Option, Some}
+use Rattle.std.specs.Prelude.{None, Result, Ok, Err, ℤ, pos, negsuc, ◌+ℤ◌, Bool, true, ◌⊎◌}
+use Rattle.std.specs.Prelude.{if◌then◌else◌}
 use Rattle.bpf_model.specs.declared.insn.Insn.{Insn}
 use Rattle.bpf_model.specs.Graph.{falls, Reached}
 use Rattle.program_graph.specs.declared.refusal.GraphFlaw.{GraphFlaw}
@@ -8,8 +11,10 @@ use Rattle.bpf_model.specs.Places.{StartsAt}
 
 -- for each slot the index of the instruction that begins there
 pub record IsIndexBySlot (program : List Insn) (indexes : List (Option ℕ)) : Type 0 where
-  pub found : (index slot : ℕ) → StartsAt program index slot → slice_get indexes slot ≡ Some (Some index)
-  pub only : (slot index : ℕ) → slice_get indexes slot ≡ Some (Some index) → StartsAt program index slot
+  pub found : (index slot : ℕ) → StartsAt program index slot →
+      slice_get indexes slot ≡ Some (Some index)
+  pub only : (slot index : ℕ) → slice_get indexes slot ≡ Some (Some index) →
+      StartsAt program index slot
 
 -- where a jump over a distance lands, by the indexes of the slots
 abbrev pub landed : Option (Option ℕ) → Result ℕ GraphFlaw
@@ -19,7 +24,8 @@ landed None = Err JumpTarget
 
 abbrev pub landing : List (Option ℕ) → ℕ → ℤ → Result ℕ GraphFlaw
 landing indexes slot (negsuc n) = Err BackJump
-landing indexes slot (pos to) = if nat_le to slot then Err BackJump else landed (slice_get indexes to)
+landing indexes slot (pos to) =
+    if nat_le to slot then Err BackJump else landed (slice_get indexes to)
 
 abbrev pub target_at : Result ℕ GraphFlaw → Result (Option ℕ) GraphFlaw
 target_at (Ok target) = Ok (Some target)
@@ -45,7 +51,8 @@ AreReached program = (index : ℕ) → index < length program → IsReached prog
 pub record Marks (i : Insn) (target : Option ℕ) (k : ℕ) (old new : List Bool) : Type 0 where
   pub stays : (j : ℕ) → slice_get old j ≡ Some true → slice_get new j ≡ Some true
   pub there : (j : ℕ) → Follows i target k j → slice_get new j ≡ Some true
-  pub other : (j : ℕ) → slice_get new j ≡ Some true → (slice_get old j ≡ Some true) ⊎ Follows i target k j
+  pub other : (j : ℕ) → slice_get new j ≡ Some true →
+      (slice_get old j ≡ Some true) ⊎ Follows i target k j
 
 -- the first instruction that no path reaches
 pub record IsFirstUnreached (program : List Insn) (k : ℕ) : Type 0 where

@@ -1,13 +1,15 @@
--- What may be wrong with a program's jump graph, in the order in which it is told: a bad jump, an end
--- that is no EXIT, an instruction that no path reaches.
-use Rattle.std.specs.Prelude.{◌≡◌, ◌≢◌, ℕ, ◌+◌, ◌<◌, nat_le, List, [], ◌∷◌, ◌++◌, Option, Some, None, ℤ, pos, negsuc, ◌+ℤ◌, if◌then◌else◌}
+-- What may be wrong with a program's jump graph, in the order in which it is told: a bad jump, an
+-- end that is no EXIT, an instruction that no path reaches.
+use Rattle.std.specs.Prelude.{◌≡◌, ◌≢◌, ℕ, ◌+◌, ◌<◌, nat_le, List, [], ◌∷◌, ◌++◌, Option, Some}
+use Rattle.std.specs.Prelude.{None, ℤ, pos, negsuc, ◌+ℤ◌, if◌then◌else◌}
 use Rattle.bpf_model.specs.declared.insn.Insn.{Insn}
 use Rattle.bpf_model.specs.declared.insn.Insn.TheVariants.{Exit}
 use Rattle.bpf_model.specs.Graph.{distance, Reached}
 use Rattle.bpf_model.specs.Spelling.{slot_total}
 use Rattle.bpf_model.specs.Step.{insn_at}
 use Rattle.program_graph.specs.declared.refusal.GraphFlaw.{GraphFlaw}
-use Rattle.program_graph.specs.declared.refusal.GraphFlaw.TheVariants.{JumpTarget, BackJump, FallsOff, Unreachable}
+use Rattle.program_graph.specs.declared.refusal.GraphFlaw.TheVariants.{JumpTarget, BackJump}
+use Rattle.program_graph.specs.declared.refusal.GraphFlaw.TheVariants.{FallsOff, Unreachable}
 
 abbrev pub missing : Option Insn → Option GraphFlaw
 missing None = Some JumpTarget

@@ -3,7 +3,8 @@ use Rattle.std.specs.Prelude.{◌==◌, if◌then◌else◌}
 use Rattle.scalar_domain.specs.declared.scalar.Scalar.{Scalar}
 use Rattle.scalar_domain.specs.Constant.{constant_of}
 use Rattle.typed_runs.specs.Kinds.{Kind, CellKind, AbsState}
-use Rattle.typed_runs.specs.Effects.{ended_kind, ended_cell, null_kind, null_cell, there_kind, there_cell}
+use Rattle.typed_runs.specs.Effects.{ended_kind, ended_cell, null_kind, null_cell, there_kind}
+use Rattle.typed_runs.specs.Effects.{there_cell}
 use Rattle.typed_runs.specs.Planned.{origin}
 use Rattle.register_kinds.specs.declared.kind.RegKind.{RegKind}
 use Rattle.register_kinds.specs.declared.kind.RegKind.TheVariants as kinds
@@ -28,7 +29,11 @@ learnt_cell (IsNull id) cell = null_cell id cell
 learnt_cell (IsThere id) cell = there_cell id origin cell
 
 abbrev pub learnt : Lesson → AbsState → AbsState
-learnt lesson a = record { regs = λ r. learnt_kind lesson (a.regs r); cells = λ k. learnt_cell lesson (a.cells k); inside = a.inside }
+learnt lesson a = record {
+  regs = λ r. learnt_kind lesson (a.regs r);
+  cells = λ k. learnt_cell lesson (a.cells k);
+  inside = a.inside;
+}
 
 -- the class of what was a part of this
 abbrev pub learnt_part : Lesson → RegKind → classes.CellKind

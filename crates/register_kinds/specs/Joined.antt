@@ -1,7 +1,9 @@
 -- What the kind of a joined place is.
 use Rattle.std.specs.Prelude.{◌≡◌, ℕ, Bool, if◌then◌else◌, min, max, bit_and, bit_or}
 use Rattle.scalar_domain.specs.declared.scalar.Scalar.{Scalar}
-use Rattle.typed_runs.specs.Kinds.{Kind, Blank, Mixed, Ended, Num, CtxAt, FrameAt, MapAt, ValueAt, MaybeNull, CellKind, BlankCell, MixedCell, EndedCell, ByteCell, PartCell, AbsState}
+use Rattle.typed_runs.specs.Kinds.{Kind, Blank, Mixed, Ended, Num, CtxAt, FrameAt, MapAt, ValueAt}
+use Rattle.typed_runs.specs.Kinds.{MaybeNull, CellKind, BlankCell, MixedCell, EndedCell, ByteCell}
+use Rattle.typed_runs.specs.Kinds.{PartCell, AbsState}
 use Rattle.register_kinds.specs.declared.kind.CellKind as classes
 use Rattle.register_kinds.specs.declared.kind.CellKind.TheVariants.{Unwritten, Byte, Part}
 use Rattle.register_kinds.specs.declared.kind.CellKind.TheVariants as class
@@ -17,7 +19,8 @@ pub record IsHull (s t u : Scalar) : Type 0 where
 abbrev pub IsAlike : {A : Type 0} → A → A → Type 0 → Kind → Type 0
 IsAlike x y Same c = (x ≡ y → Same) × ((x ≡ y → ⊥) → c ≡ Mixed)
 
--- The third kind is that of what is of the first or of the second: unwritten before ended, ended before mixed.
+-- The third kind is that of what is of the first or of the second: unwritten before ended, ended
+-- before mixed.
 abbrev pub IsJoinedKind : Kind → Kind → Kind → Type 0
 IsJoinedKind Blank b c = c ≡ Blank
 IsJoinedKind a Blank c = c ≡ Blank
@@ -27,7 +30,8 @@ IsJoinedKind (Num s) (Num t) c = (u : Scalar) × (c ≡ Num u) × IsHull s t u
 IsJoinedKind (CtxAt s) (CtxAt t) c = (u : Scalar) × (c ≡ CtxAt u) × IsHull s t u
 IsJoinedKind (FrameAt o) (FrameAt p) c = IsAlike o p (c ≡ FrameAt o) c
 IsJoinedKind (MapAt m) (MapAt n) c = IsAlike m n (c ≡ MapAt m) c
-IsJoinedKind (ValueAt m s) (ValueAt n t) c = IsAlike m n ((u : Scalar) × (c ≡ ValueAt m u) × IsHull s t u) c
+IsJoinedKind (ValueAt m s) (ValueAt n t) c =
+    IsAlike m n ((u : Scalar) × (c ≡ ValueAt m u) × IsHull s t u) c
 IsJoinedKind (MaybeNull m x) (MaybeNull n y) c = IsAlike m n ((id : ℕ) × (c ≡ MaybeNull m id)) c
 IsJoinedKind a b c = c ≡ Mixed
 

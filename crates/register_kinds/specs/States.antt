@@ -2,7 +2,9 @@
 use Rattle.std.specs.Prelude.{ℕ, ◌/◌, List, slice_index_or, Bool, true, false}
 use Rattle.typed_runs.specs.Kinds as model
 use Rattle.register_kinds.specs.declared.kind.RegKind.{RegKind}
-use Rattle.register_kinds.specs.declared.kind.RegKind.TheVariants.{Unwritten, Ended, Mixed, Num, Ctx, Frame, Map, Value, MaybeNull}
+use Rattle.register_kinds.specs.declared.kind.RegKind.TheVariants.{Unwritten, Ended, Mixed, Num}
+use Rattle.register_kinds.specs.declared.kind.RegKind.TheVariants.{Ctx, Frame, Map, Value}
+use Rattle.register_kinds.specs.declared.kind.RegKind.TheVariants.{MaybeNull}
 use Rattle.register_kinds.specs.declared.kind.CellKind.{CellKind}
 use Rattle.register_kinds.specs.declared.kind.CellKind.TheVariants as cells
 use Rattle.register_kinds.specs.declared.frame.FrameCells.{FrameCells}

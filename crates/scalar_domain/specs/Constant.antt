@@ -22,7 +22,14 @@ constant_of n = record {
 }
 
 made : (l g m k : ℕ) → l ≤ g → Within k m → Scalar
-made l g m k o c = record { least = l; greatest = g; may = m; must = k; ordered = o; consistent = c }
+made l g m k o c = record {
+  least = l;
+  greatest = g;
+  may = m;
+  must = k;
+  ordered = o;
+  consistent = c;
+}
 
 made_is : (n l g m k : ℕ) → l ≡ n → g ≡ n → m ≡ n → k ≡ n → (o : l ≤ g) (c : Within k m)
     → made l g m k o c ≡ constant_of n
@@ -32,7 +39,8 @@ made_is n l g m k p q r t =
     (subst (λ g. (o : n ≤ g) (c : Within k m) → made n g m k o c ≡ constant_of n) (sym q)
     (subst (λ m. (o : n ≤ n) (c : Within k m) → made n n m k o c ≡ constant_of n) (sym r)
     (subst (λ k. (o : n ≤ n) (c : Within k n) → made n n n k o c ≡ constant_of n) (sym t)
-    (λ o c. ap (λ o. made n n n n o c) (le_prop o (le_self n)) ∙ ap (made n n n n (le_self n)) (ℕ_set _ _ c (and_self n))))))
+    (λ o c. ap (λ o. made n n n n o c) (le_prop o (le_self n))
+    ∙ ap (made n n n n (le_self n)) (ℕ_set _ _ c (and_self n))))))
 
 -- a set with these bounds and masks is that of the number alone
 pub constant_is : (s : Scalar) (n : ℕ) → s.least ≡ n → s.greatest ≡ n → s.may ≡ n → s.must ≡ n

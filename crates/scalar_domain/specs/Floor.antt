@@ -6,7 +6,8 @@ use mir.Val.{bits}
 use Rattle.bpf_model.specs.Arithmetic.{alu, unary, holds, swapped_width}
 use Rattle.bpf_model.specs.Access.{byte_count}
 use Rattle.bpf_model.specs.declared.insn.AluOp.{AluOp}
-use Rattle.bpf_model.specs.declared.insn.AluOp.TheVariants.{Add, Sub, And, ShiftLeft, ShiftRight, Mod}
+use Rattle.bpf_model.specs.declared.insn.AluOp.TheVariants.{Add, Sub, And, ShiftLeft, ShiftRight}
+use Rattle.bpf_model.specs.declared.insn.AluOp.TheVariants.{Mod}
 use Rattle.bpf_model.specs.declared.insn.UnaryOp.{UnaryOp}
 use Rattle.bpf_model.specs.declared.insn.UnaryOp.TheVariants.{Negate, ByteSwap, MoveSigned}
 use Rattle.bpf_model.specs.declared.insn.SignExtension.TheVariants.{ByteTo32, ShortTo32}

@@ -3,8 +3,8 @@ use Rattle.std.specs.Prelude.{◌≡◌, ℕ, ◌+◌, ◌*◌, ◌/◌, ◌%◌
 use Rattle.scalar_domain.specs.declared.scalar.Scalar.{Scalar}
 use Rattle.scalar_domain.specs.Mask.{Within, AreKnownBelow}
 
--- A sum: where it does not wrap, the sums of the bounds; low bits that are 0 in both stay 0, and low
--- bits that are known in both are known.
+-- A sum: where it does not wrap, the sums of the bounds; low bits that are 0 in both stay 0, and
+-- low bits that are known in both are known.
 pub record Adds (a b result : Scalar) : Type 0 where
   pub least : a.greatest + b.greatest < 2 ^ 64 → a.least + b.least ≤ result.least
   pub greatest : a.greatest + b.greatest < 2 ^ 64 → result.greatest ≤ a.greatest + b.greatest

@@ -6,7 +6,9 @@ use Rattle.bpf_model.specs.declared.opcode.Condition.{Condition}
 use Rattle.bpf_model.specs.declared.opcode.Condition.TheVariants as condition
 use Rattle.scalar_domain.specs.declared.scalar.Scalar.{Scalar}
 use Rattle.scalar_domain.specs.declared.relation.Relation.{Relation}
-use Rattle.scalar_domain.specs.declared.relation.Relation.TheVariants.{Below, AtMost, Above, AtLeast, Equal, Different, Apart, Unknown}
+use Rattle.scalar_domain.specs.declared.relation.Relation.TheVariants.{Below, AtMost, Above}
+use Rattle.scalar_domain.specs.declared.relation.Relation.TheVariants.{AtLeast, Equal, Different}
+use Rattle.scalar_domain.specs.declared.relation.Relation.TheVariants.{Apart, Unknown}
 use Rattle.scalar_domain.specs.Scalar.{Holds, IsNoWider}
 
 abbrev pub Related : Relation → ℕ → ℕ → Type 0

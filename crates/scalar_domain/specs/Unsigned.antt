@@ -1,6 +1,7 @@
 -- The operation that does the same to words whose sign bit is 0.
 use Rattle.bpf_model.specs.declared.insn.AluOp.{AluOp}
-use Rattle.bpf_model.specs.declared.insn.AluOp.TheVariants.{Div, SignedDiv, ShiftRight, Mod, SignedMod, ShiftRightSigned}
+use Rattle.bpf_model.specs.declared.insn.AluOp.TheVariants.{Div, SignedDiv, ShiftRight, Mod}
+use Rattle.bpf_model.specs.declared.insn.AluOp.TheVariants.{SignedMod, ShiftRightSigned}
 
 abbrev pub unsigned_form : AluOp → AluOp
 unsigned_form SignedDiv = Div

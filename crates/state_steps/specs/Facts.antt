@@ -1,5 +1,5 @@
--- What is known along every path of a plain program: which registers are numbers, which bytes of the frame are written, that r10 is the
--- frame's end, and whether a section is open.
+-- What is known along every path of a plain program: which registers are numbers, which bytes of
+-- the frame are written, that r10 is the frame's end, and whether a section is open.
 use Rattle.std.specs.Prelude.{◌≡◌, ℕ, ◌⊎◌, pos, Bool, false}
 use Rattle.bpf_model.specs.declared.insn.Insn.{Insn}
 use Rattle.bpf_model.specs.declared.insn.Insn.TheVariants.{Exit}
@@ -8,7 +8,8 @@ use Rattle.bpf_model.specs.Plain.{ReadsRegister, WritesRegister, ReadsByte, Writ
 use Rattle.scalar_domain.specs.declared.scalar.Scalar.{Scalar}
 use Rattle.typed_runs.specs.Kinds.{Num, FrameAt, ByteCell, AbsState}
 
--- a register is a number, a byte of the frame is written, r10 is the frame's end, or a section is open or is not
+-- a register is a number, a byte of the frame is written, r10 is the frame's end, or a section is
+-- open or is not
 pub data Fact : Type 0 where
   Register : (r : ℕ) → Fact
   FrameByte : (k : ℕ) → Fact
@@ -36,7 +37,8 @@ KeepsFacts i a b = (fact : Fact) → FactHolds fact a ⊎ Makes i fact → FactH
 abbrev pub ReadsNumbers : Insn → AbsState → Type 0
 ReadsNumbers i a = (r : ℕ) → ReadsRegister i r → FactHolds (Register r) a
 
--- a simple instruction that leaves r10 alone, of which all that it reads is known; the exit outside every section
+-- a simple instruction that leaves r10 alone, of which all that it reads is known; the exit outside
+-- every section
 pub record IsReadyInsn (i : Insn) (a : AbsState) : Type 0 where
   pub simple : IsSimple i
   pub keeps_frame : WritesRegister i 10 → ⊥

@@ -1,11 +1,14 @@
--- What is known inside a guarded lookup, from one of its instructions to the next, and of calls that begin or end a section.
-use Rattle.std.specs.Prelude.{◌≡◌, ℕ, ◌+◌, ◌<◌, ◌≤◌, ◌⊎◌, List, Option, Some, IfSome, slice_get, ℤ, pos, ◌+ℤ◌, Bool, true, false, if◌then◌else◌}
+-- What is known inside a guarded lookup, from one of its instructions to the next, and of calls
+-- that begin or end a section.
+use Rattle.std.specs.Prelude.{◌≡◌, ℕ, ◌+◌, ◌<◌, ◌≤◌, ◌⊎◌, List, Option, Some, IfSome, slice_get, ℤ}
+use Rattle.std.specs.Prelude.{pos, ◌+ℤ◌, Bool, true, false, if◌then◌else◌}
 use Rattle.bpf_model.specs.declared.limits.TheConstants.{FRAME_BYTES}
 use Rattle.bpf_model.specs.declared.limits.MapShape.{MapShape}
 use Rattle.bpf_model.specs.declared.insn.Insn.{Insn}
 use Rattle.bpf_model.specs.declared.insn.Insn.TheVariants.{Alu, LoadMap, JumpIf}
 use Rattle.bpf_model.specs.declared.insn.AluOp.TheVariants.{Add, Move}
-use Rattle.bpf_model.specs.declared.insn.Operand.TheVariants.{Register as RegisterOperand, Immediate}
+use Rattle.bpf_model.specs.declared.insn.Operand.TheVariants.{Register as RegisterOperand}
+use Rattle.bpf_model.specs.declared.insn.Operand.TheVariants.{Immediate}
 use Rattle.bpf_model.specs.declared.opcode.Size.TheVariants.{Word64}
 use Rattle.bpf_model.specs.declared.opcode.Condition.TheVariants.{Equal}
 use Rattle.bpf_model.specs.PlainMaps.{lookup_call, lock_call, unlock_call, IsValueLoad}
@@ -14,7 +17,8 @@ use Rattle.typed_runs.specs.Kinds.{FrameAt, MapAt, ValueAt, MaybeNull, AbsState}
 use Rattle.memory_effects.specs.Accesses.{IsStart}
 use Rattle.state_steps.specs.Facts.{Fact, Register, FrameByte, FramePointer, Section, FactHolds}
 
--- A guarded lookup: the map's index and shape, the key's first byte in the frame and how far it is from r10, and the load from the value.
+-- A guarded lookup: the map's index and shape, the key's first byte in the frame and how far it is
+-- from r10, and the load from the value.
 pub record Lookup : Type 0 where
   pub map : ℕ
   pub shape : MapShape
@@ -42,7 +46,8 @@ part_insn l ValueLoad = l.load
 -- the map is one of the list, the key lies in the frame, and the load in the value
 pub record IsFitting (shapes : List MapShape) (l : Lookup) : Type 0 where
   pub in_list : slice_get shapes l.map ≡ Some l.shape
-  pub in_frame : (pos FRAME_BYTES +ℤ l.offset ≡ pos l.at) × (l.at < FRAME_BYTES) × (l.at + l.shape.key_len ≤ FRAME_BYTES)
+  pub in_frame : (pos FRAME_BYTES +ℤ l.offset ≡ pos l.at) × (l.at < FRAME_BYTES)
+      × (l.at + l.shape.key_len ≤ FRAME_BYTES)
   pub in_value : IsValueLoad l.shape l.load
 
 abbrev pub IsKeyWritten : Lookup → AbsState → Type 0
@@ -53,7 +58,8 @@ abbrev pub Expects : Lookup → Part → AbsState → Type 0
 Expects l FrameCopy a = IsKeyWritten l a
 Expects l KeyAddress a = IsKeyWritten l a × (a.regs 2 ≡ FrameAt (pos FRAME_BYTES))
 Expects l MapLoad a = IsKeyWritten l a × (a.regs 2 ≡ FrameAt (pos l.at))
-Expects l LookupCall a = IsKeyWritten l a × (a.regs 2 ≡ FrameAt (pos l.at)) × (a.regs 1 ≡ MapAt l.map)
+Expects l LookupCall a =
+    IsKeyWritten l a × (a.regs 2 ≡ FrameAt (pos l.at)) × (a.regs 1 ≡ MapAt l.map)
 Expects l NullTest a = (id : ℕ) × (a.regs 0 ≡ MaybeNull l.map id)
 Expects l ValueLoad a = (s : Scalar) × (a.regs 0 ≡ ValueAt l.map s) × IsStart s
 
@@ -77,7 +83,8 @@ abbrev pub KeepsSaved : AbsState → AbsState → Type 0
 KeepsSaved a b = (fact : Fact) → IsSaved fact → FactHolds fact a → FactHolds fact b
 
 -- a part of a guarded lookup, of which all is known that it needs
-pub record IsReadyPart (shapes : List MapShape) (l : Lookup) (p : Part) (i : Insn) (a : AbsState) : Type 0 where
+pub record IsReadyPart (shapes : List MapShape) (l : Lookup) (p : Part) (i : Insn) (a : AbsState)
+    : Type 0 where
   pub insn : i ≡ part_insn l p
   pub fitting : IsFitting shapes l
   pub frame : FactHolds FramePointer a
@@ -85,7 +92,8 @@ pub record IsReadyPart (shapes : List MapShape) (l : Lookup) (p : Part) (i : Ins
   pub expects : Expects l p a
 
 -- what it leaves
-pub record LeavesPart (l : Lookup) (p : Part) (a b : AbsState) (taken : Option AbsState) : Type 0 where
+pub record LeavesPart (l : Lookup) (p : Part) (a b : AbsState) (taken : Option AbsState)
+    : Type 0 where
   pub keeps : KeepsSaved a b
   pub inside : b.inside ≡ a.inside
   pub prepares : Prepares l p b
@@ -100,9 +108,12 @@ abbrev pub LeavesSection : Bool → AbsState → AbsState → Type 0
 LeavesSection opens a b = KeepsSaved a b × (b.inside ≡ opens)
 
 abbrev pub IsReadyWithMaps : List MapShape → Insn → AbsState → Type 0
-IsReadyWithMaps shapes i a = ((l : Lookup) × (p : Part) × IsReadyPart shapes l p i a) ⊎ ((opens : Bool) × IsReadySection opens i a)
+IsReadyWithMaps shapes i a =
+    ((l : Lookup) × (p : Part) × IsReadyPart shapes l p i a)
+    ⊎ ((opens : Bool) × IsReadySection opens i a)
 
 -- What an instruction leaves that is ready so.
-pub record Serves (shapes : List MapShape) (i : Insn) (a b : AbsState) (taken : Option AbsState) : Type 0 where
+pub record Serves (shapes : List MapShape) (i : Insn) (a b : AbsState) (taken : Option AbsState)
+    : Type 0 where
   pub part : (l : Lookup) (p : Part) → IsReadyPart shapes l p i a → LeavesPart l p a b taken
   pub section : (opens : Bool) → IsReadySection opens i a → LeavesSection opens a b

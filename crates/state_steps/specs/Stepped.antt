@@ -1,5 +1,6 @@
 -- All that is said of the step of one instruction.
-use Rattle.std.specs.Prelude.{◌≡◌, ℕ, List, Some, None, Result, IfOk, OnErr, IfSome, IsSome, ℤ, pos, option_map}
+use Rattle.std.specs.Prelude.{◌≡◌, ℕ, List, Some, None, Result, IfOk, OnErr, IfSome, IsSome, ℤ, pos}
+use Rattle.std.specs.Prelude.{option_map}
 use Rattle.bpf_model.specs.declared.limits.MapShape.{MapShape}
 use Rattle.bpf_model.specs.declared.insn.Insn.{Insn}
 use Rattle.bpf_model.specs.declared.insn.Insn.TheVariants.{JumpIf}
@@ -20,7 +21,8 @@ use Rattle.register_kinds.specs.States.{kind_in, state_of}
 use Rattle.kind_tests.specs.declared.fault.Fault.{Fault}
 use Rattle.memory_effects.specs.declared.region.Region.{Region}
 use Rattle.state_steps.specs.declared.flow.Flow.{Flow}
-use Rattle.state_steps.specs.Steps.{IsForward, IsBranch, taken_state, base_of, IsInRegion, Compares, IsComparable, IsFine}
+use Rattle.state_steps.specs.Steps.{IsForward, IsBranch, taken_state, base_of, IsInRegion, Compares}
+use Rattle.state_steps.specs.Steps.{IsComparable, IsFine}
 use Rattle.state_steps.specs.Facts.{IsReadyInsn, KeepsFacts}
 use Rattle.state_steps.specs.Lookups.{IsReadyWithMaps, Serves}
 
@@ -30,28 +32,38 @@ single_flow region = record { region = region; taken = None }
 
 -- In each described state the sides of a comparison may be compared.
 abbrev pub ComparesWell : Condition → Size → ℕ → Operand → Known → Type 0
-ComparesWell condition size dst src a = (offset : ℤ) (r : ℕ) (c : Scene) (m : State) → Compares (JumpIf condition size dst src offset) r → Describes a c m → IsComparable (JumpIf condition size dst src offset) (m.regs r)
+ComparesWell condition size dst src a =
+    (offset : ℤ) (r : ℕ) (c : Scene) (m : State) →
+    Compares (JumpIf condition size dst src offset) r → Describes a c m →
+    IsComparable (JumpIf condition size dst src offset) (m.regs r)
 
 -- The comparison jumps where what a lookup gave, under this identity, is null.
-pub record IsEqualToNull (condition : Condition) (size : Size) (dst : ℕ) (src : Operand) (map id : ℕ) (a : AbsState) : Type 0 where
+pub record IsEqualToNull (condition : Condition) (size : Size) (dst : ℕ) (src : Operand)
+    (map id : ℕ) (a : AbsState) : Type 0 where
   pub condition_is : condition ≡ Equal
   pub size_is : size ≡ Word64
   pub src_is : src ≡ Immediate (pos 0)
   pub kind : kind_in a.regs dst ≡ kinds.MaybeNull map id
 
 -- an instruction that is not refused
-pub record IsDone (i : Insn) (shapes : List MapShape) (ctx_len top : ℕ) (old new : AbsState) (flow : Flow) : Type 0 where
-  pub sound : IsForward i → Transfers i shapes ctx_len (state_of old) (state_of new) (option_map state_of (taken_state flow))
+pub record IsDone (i : Insn) (shapes : List MapShape) (ctx_len top : ℕ) (old new : AbsState)
+    (flow : Flow) : Type 0 where
+  pub sound : IsForward i →
+      Transfers i shapes ctx_len (state_of old) (state_of new) (option_map state_of (taken_state flow))
   pub branches : IsBranch i → IsSome flow.taken
-  pub region : (b : ℕ) (c : Scene) (m : State) → base_of i ≡ Some b → Describes (state_of old) c m → IsInRegion c flow.region (m.regs b)
-  pub compares : (r : ℕ) (c : Scene) (m : State) → Compares i r → Describes (state_of old) c m → IsComparable i (m.regs r)
+  pub region : (b : ℕ) (c : Scene) (m : State) → base_of i ≡ Some b → Describes (state_of old) c m →
+      IsInRegion c flow.region (m.regs b)
+  pub compares : (r : ℕ) (c : Scene) (m : State) → Compares i r → Describes (state_of old) c m →
+      IsComparable i (m.regs r)
   pub taken_below : IfSome (taken_state flow) (AreBelow top)
   pub keeps : IsReadyInsn i (state_of old) → KeepsFacts i (state_of old) (state_of new)
-  pub keeps_taken : IsReadyInsn i (state_of old) → IfSome (taken_state flow) (λ t. KeepsFacts i (state_of old) (state_of t))
+  pub keeps_taken : IsReadyInsn i (state_of old) →
+      IfSome (taken_state flow) (λ t. KeepsFacts i (state_of old) (state_of t))
   pub serves : Serves shapes i (state_of old) (state_of new) (option_map state_of (taken_state flow))
 
 -- It is done, or refused.
-pub record Stepped (i : Insn) (shapes : List MapShape) (ctx_len top : ℕ) (old new : AbsState) (result : Result Flow Fault) : Type 0 where
+pub record Stepped (i : Insn) (shapes : List MapShape) (ctx_len top : ℕ) (old new : AbsState)
+    (result : Result Flow Fault) : Type 0 where
   pub done : IfOk result (IsDone i shapes ctx_len top old new)
   pub below : AreBelow top new
   pub unchanged : OnErr result (new ≡ old)

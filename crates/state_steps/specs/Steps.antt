@@ -1,5 +1,6 @@
 -- What the pass over a program asks of the step of an instruction.
-use Rattle.std.specs.Prelude.{◌≡◌, ◌≢◌, ℕ, Option, Some, None, Result, Ok, Err, true, ◌⊎◌, ℤ, pos, option_map}
+use Rattle.std.specs.Prelude.{◌≡◌, ◌≢◌, ℕ, Option, Some, None, Result, Ok, Err, true, ◌⊎◌, ℤ, pos}
+use Rattle.std.specs.Prelude.{option_map}
 use Rattle.bpf_model.specs.declared.value.Value.{Value}
 use Rattle.bpf_model.specs.declared.value.Value.TheVariants.{Number, Pointer}
 use Rattle.bpf_model.specs.declared.value.Reference.TheVariants as references
@@ -42,7 +43,8 @@ abbrev pub IsInRegion : Scene → Region → Value → Type 0
 IsInRegion c regions.None v = ⊥
 IsInRegion c regions.Ctx v = (o : ℤ) × (v ≡ Pointer (references.Ctx o))
 IsInRegion c regions.Frame v = (o : ℤ) × (v ≡ Pointer (references.Frame o))
-IsInRegion c (regions.Value map) v = (n : ℕ) × (o : ℤ) × (v ≡ Pointer (references.Elem n o)) × IsHeld c map n
+IsInRegion c (regions.Value map) v =
+    (n : ℕ) × (o : ℤ) × (v ≡ Pointer (references.Elem n o)) × IsHeld c map n
 
 -- A conditional jump compares the register.
 abbrev pub Compares : Insn → ℕ → Type 0

@@ -1,5 +1,6 @@
 -- What an abstract state says of a run among the elements.
-use Rattle.std.specs.Prelude.{◌≡◌, ℕ, ◌/◌, ◌%◌, ◌^◌, ◌<◌, ◌≤◌, List, Option, Some, None, slice_get, Bool, ℤ, pos, ◌+ℤ◌, if◌then◌else◌}
+use Rattle.std.specs.Prelude.{◌≡◌, ℕ, ◌/◌, ◌%◌, ◌^◌, ◌<◌, ◌≤◌, List, Option, Some, None, slice_get}
+use Rattle.std.specs.Prelude.{Bool, ℤ, pos, ◌+ℤ◌, if◌then◌else◌}
 use Rattle.bpf_model.specs.declared.value.Value.{Value}
 use Rattle.bpf_model.specs.declared.value.Value.TheVariants.{Nothing, Number, Pointer}
 use Rattle.bpf_model.specs.declared.value.Reference.TheVariants.{Ctx, Frame, MapRef, Elem}
@@ -13,7 +14,9 @@ use Rattle.bpf_model.specs.MachineStep.{found_value}
 use Rattle.bpf_model.specs.Near.{IsNear, IsNearCell}
 use Rattle.scalar_domain.specs.Scalar.{Holds}
 use Rattle.scalar_domain.specs.declared.scalar.Scalar.{Scalar}
-use Rattle.typed_runs.specs.Kinds.{Kind, Blank, Mixed, Ended, Num, CtxAt, FrameAt, MapAt, ValueAt, MaybeNull, CellKind, BlankCell, MixedCell, EndedCell, ByteCell, PartCell, AbsState}
+use Rattle.typed_runs.specs.Kinds.{Kind, Blank, Mixed, Ended, Num, CtxAt, FrameAt, MapAt, ValueAt}
+use Rattle.typed_runs.specs.Kinds.{MaybeNull, CellKind, BlankCell, MixedCell, EndedCell, ByteCell}
+use Rattle.typed_runs.specs.Kinds.{PartCell, AbsState}
 
 -- All that a description reads beside the run's registers and frame.
 pub record Scene : Type 0 where
@@ -23,7 +26,12 @@ pub record Scene : Type 0 where
   pub section : Section
 
 abbrev pub scene_of : List Element → Run → Scene
-scene_of es run = record { elements = es; maps = run.program.maps; depth = run.depth; section = section_of run }
+scene_of es run = record {
+  elements = es;
+  maps = run.program.maps;
+  depth = run.depth;
+  section = section_of run;
+}
 
 -- A section guards an element that is linked, or that was unlinked while the section was open.
 abbrev pub IsGuarded : Life → Section → Type 0
@@ -31,7 +39,8 @@ IsGuarded Linked s = Unit {0}
 IsGuarded (Unlinked since) s = Has since s
 IsGuarded Reclaimed s = ⊥
 
--- The run is inside a section, which guards element n, one of the map at this index of its program's list.
+-- The run is inside a section, which guards element n, one of the map at this index of its
+-- program's list.
 pub record IsHeld (c : Scene) (map n : ℕ) : Type 0 where
   pub inside : 0 < c.depth
   pub element : Element
@@ -99,7 +108,8 @@ IsOfCell c ρ σ k (PartCell kind) x = (x ≡ part_of (k % 8) (σ (k / 8))) × I
 abbrev pub depth_of : Bool → ℕ
 depth_of inside = if inside then 1 else 0
 
--- All references are near, in registers and as parts in cells: those that may be of no known kind too.
+-- All references are near, in registers and as parts in cells: those that may be of no known kind
+-- too.
 pub record AreNear (regs : ℕ → Value) (frame : ℕ → Cell) : Type 0 where
   pub regs_near : (r : ℕ) → IsNear (regs r)
   pub cells_near : (k : ℕ) → IsNearCell (frame k)

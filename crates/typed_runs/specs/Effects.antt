@@ -1,5 +1,6 @@
 -- What the instructions that concern maps do to an abstract state.
-use Rattle.std.specs.Prelude.{◌≡◌, ℕ, ◌+◌, ◌==◌, ◌<◌, ◌≤◌, nat_le, true, false, List, slice_get, Some, ℤ, pos, ◌+ℤ◌, if◌then◌else◌}
+use Rattle.std.specs.Prelude.{◌≡◌, ℕ, ◌+◌, ◌==◌, ◌<◌, ◌≤◌, nat_le, true, false, List, slice_get}
+use Rattle.std.specs.Prelude.{Some, ℤ, pos, ◌+ℤ◌, if◌then◌else◌}
 use Rattle.bpf_model.specs.declared.limits.TheConstants.{FRAME_BYTES}
 use Rattle.bpf_model.specs.declared.limits.MapShape.{MapShape}
 use Rattle.bpf_model.specs.declared.insn.Operand.{Operand}
@@ -9,7 +10,9 @@ use Rattle.bpf_model.specs.Step.{put}
 use Rattle.bpf_model.specs.Frame.{is_within}
 use Rattle.scalar_domain.specs.Scalar.{Holds}
 use Rattle.scalar_domain.specs.declared.scalar.Scalar.{Scalar}
-use Rattle.typed_runs.specs.Kinds.{Kind, Blank, Mixed, Ended, Num, CtxAt, FrameAt, MapAt, ValueAt, MaybeNull, CellKind, BlankCell, MixedCell, EndedCell, ByteCell, PartCell, AbsState}
+use Rattle.typed_runs.specs.Kinds.{Kind, Blank, Mixed, Ended, Num, CtxAt, FrameAt, MapAt, ValueAt}
+use Rattle.typed_runs.specs.Kinds.{MaybeNull, CellKind, BlankCell, MixedCell, EndedCell, ByteCell}
+use Rattle.typed_runs.specs.Kinds.{PartCell, AbsState}
 use Rattle.typed_runs.specs.Describes.{HasOffset}
 
 -- a register is set
@@ -57,7 +60,8 @@ pub record IsFresh (id : ℕ) (a : AbsState) : Type 0 where
   pub regs : (r : ℕ) → IsOther id (a.regs r)
   pub cells : (k : ℕ) → IsOtherCell id (a.cells k)
 
--- A test told that what has the identity is null, or that it isn't. The scalars are those of the number 0 and of the offset 0.
+-- A test told that what has the identity is null, or that it isn't. The scalars are those of the
+-- number 0 and of the offset 0.
 abbrev pub null_kind : ℕ → Scalar → Kind → Kind
 null_kind id zero (MaybeNull map i) = if i == id then Num zero else MaybeNull map i
 null_kind id zero kind = kind
@@ -98,13 +102,16 @@ with_cells at width cell a = record {
 
 -- each access of the width, at one of the offsets, lies in a region of that length
 abbrev pub IsAlwaysInside : Scalar → ℕ → ℤ → ℕ → Type 0
-IsAlwaysInside s width offset len = (o : ℤ) → HasOffset s o → (at : ℕ) × (region_offset len width (o +ℤ offset) ≡ Some at)
+IsAlwaysInside s width offset len =
+    (o : ℤ) → HasOffset s o → (at : ℕ) × (region_offset len width (o +ℤ offset) ≡ Some at)
 
--- Under a renaming of identities the second kind is of what is of the first. Each side of a join is so, with a renaming of its own.
+-- Under a renaming of identities the second kind is of what is of the first. Each side of a join is
+-- so, with a renaming of its own.
 abbrev pub IsWiderKind : (ℕ → ℕ) → Kind → Kind → Type 0
 IsWiderKind left (MaybeNull map i) (MaybeNull map' j) = (map' ≡ map) × (left j ≡ i)
 IsWiderKind left (Num s) (Num t) = (n : ℕ) → Holds s n → Holds t n
-IsWiderKind left (ValueAt map s) (ValueAt map' t) = (map' ≡ map) × ((o : ℤ) → HasOffset s o → HasOffset t o)
+IsWiderKind left (ValueAt map s) (ValueAt map' t) =
+    (map' ≡ map) × ((o : ℤ) → HasOffset s o → HasOffset t o)
 IsWiderKind left (CtxAt s) (CtxAt t) = (o : ℤ) → HasOffset s o → HasOffset t o
 IsWiderKind left (FrameAt o) (FrameAt p) = o ≡ p
 IsWiderKind left (MapAt m) (MapAt n) = m ≡ n
@@ -127,7 +134,8 @@ pub record IsWider (left : ℕ → ℕ) (a b : AbsState) : Type 0 where
   pub inside : b.inside ≡ a.inside
 
 -- What a call asks for: a map in r1, so many bytes of the frame by a register.
-pub record HasMap (shapes : List MapShape) (a : AbsState) (map : ℕ) (shape : MapShape) : Type 0 where
+pub record HasMap (shapes : List MapShape) (a : AbsState) (map : ℕ) (shape : MapShape)
+    : Type 0 where
   pub map_is : a.regs 1 ≡ MapAt map
   pub shape_is : slice_get shapes map ≡ Some shape
 

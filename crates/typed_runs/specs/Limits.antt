@@ -13,8 +13,10 @@ abbrev pub IsWithinLimits : List ℕ → List Element → Reference → Type 0
 IsWithinLimits slots es (Ctx o) = Unit {0}
 IsWithinLimits slots es (Frame o) = Unit {0}
 IsWithinLimits slots es (MapRef map) = map < MAX_MAPS
-IsWithinLimits slots es (Elem n o) = (map_in (slice_get es n) < MAX_MAPS) × (slice_index slots n < MAX_ENTRIES + MAX_SPARE)
+IsWithinLimits slots es (Elem n o) =
+    (map_in (slice_get es n) < MAX_MAPS) × (slice_index slots n < MAX_ENTRIES + MAX_SPARE)
 
 -- all references of each run that hasn't ended are near
 abbrev pub IsNearMachine : Machine → Type 0
-IsNearMachine m = (r : ℕ) (run : Run) → run_at m.runs r ≡ Some run → run.exit ≡ None → AreNear run.state.regs run.state.frame
+IsNearMachine m = (r : ℕ) (run : Run) → run_at m.runs r ≡ Some run → run.exit ≡ None →
+    AreNear run.state.regs run.state.frame

@@ -1,5 +1,6 @@
 -- A plan that is kept instruction by instruction: what the verifier's pass builds.
-use Rattle.std.specs.Prelude.{◌≡◌, ℕ, suc, ◌^◌, ◌==◌, ◌<◌, List, length, slice_get, Option, Some, true, false, ℤ, pos, unwrap_or, if◌then◌else◌}
+use Rattle.std.specs.Prelude.{◌≡◌, ℕ, suc, ◌^◌, ◌==◌, ◌<◌, List, length, slice_get, Option, Some}
+use Rattle.std.specs.Prelude.{true, false, ℤ, pos, unwrap_or, if◌then◌else◌}
 use Rattle.bpf_model.specs.declared.limits.TheConstants.{FRAME_BYTES}
 use Rattle.bpf_model.specs.declared.insn.Insn.{Insn}
 use Rattle.bpf_model.specs.declared.limits.MapShape.{MapShape}
@@ -23,8 +24,9 @@ pub record AreAlike (a b : AbsState) : Type 0 where
   pub cells : (k : ℕ) → b.cells k ≡ a.cells k
   pub inside : b.inside ≡ a.inside
 
--- A join: each identity of the joined state stands for a pair, one identity of either side. An old one may stand for itself and itself; for each pair
--- of different ones that meets the join takes a new one.
+-- A join: each identity of the joined state stands for a pair, one identity of either side. An old
+-- one may stand for itself and itself; for each pair of different ones that meets the join takes a
+-- new one.
 pub record Joins (pair : ℕ → ℕ × ℕ) (a b c : AbsState) : Type 0 where
   pub left : IsWider (λ id. (pair id).0) a c
   pub right : IsWider (λ id. (pair id).1) b c
@@ -45,16 +47,19 @@ abbrev pub Covers : Plan → ℕ → AbsState → Type 0
 Covers plan k a = (b : AbsState) × (plan k ≡ Some b) × Wider a b
 
 -- what the pass does with one instruction
-pub record IsCovered (code : List Insn) (shapes : List MapShape) (ctx_len : ℕ) (plan : Plan) (k : ℕ) (a : AbsState) : Type 0 where
+pub record IsCovered (code : List Insn) (shapes : List MapShape) (ctx_len : ℕ) (plan : Plan) (k : ℕ)
+    (a : AbsState) : Type 0 where
   pub insn : Insn
   pub there : slice_get code k ≡ Some insn
   pub new : AbsState
   pub taken : Option AbsState
   pub transfers : Transfers insn shapes ctx_len a new taken
   pub falls_on : falls insn ≡ true → Covers plan (suc k) new
-  pub jumps_on : (by : ℤ) → distance insn ≡ Some by → (t : ℕ) × LeadsTo code k insn t × Covers plan t (unwrap_or taken new)
+  pub jumps_on : (by : ℤ) → distance insn ≡ Some by →
+      (t : ℕ) × LeadsTo code k insn t × Covers plan t (unwrap_or taken new)
 
-pub record IsPlanKept (code : List Insn) (shapes : List MapShape) (ctx_len : ℕ) (plan : Plan) : Type 0 where
+pub record IsPlanKept (code : List Insn) (shapes : List MapShape) (ctx_len : ℕ) (plan : Plan)
+    : Type 0 where
   pub start : Covers plan 0 entry_state
   pub inside : (k : ℕ) (a : AbsState) → plan k ≡ Some a → k < length code
   pub each : (k : ℕ) (a : AbsState) → plan k ≡ Some a → IsCovered code shapes ctx_len plan k a

@@ -1,5 +1,6 @@
 -- What the verifier promises of an instruction and of a program, whatever other runs do.
-use Rattle.std.specs.Prelude.{◌≡◌, ℕ, ◌+◌, ◌<◌, List, length, Option, Some, None, slice_get, Bool, true, false, ◌⊎◌, unwrap_or}
+use Rattle.std.specs.Prelude.{◌≡◌, ℕ, ◌+◌, ◌<◌, List, length, Option, Some, None, slice_get, Bool}
+use Rattle.std.specs.Prelude.{true, false, ◌⊎◌, unwrap_or}
 use Rattle.bpf_model.specs.declared.insn.Insn.{Insn}
 use Rattle.bpf_model.specs.declared.insn.Insn.TheVariants.{Call}
 use Rattle.bpf_model.specs.declared.limits.MapShape.{MapShape}
@@ -20,17 +21,21 @@ use Rattle.typed_runs.specs.Describes.{Scene, scene_of, Describes}
 -- each shape is that of the map to which the program's list binds it
 pub record AreBound (shapes : List MapShape) (maps : List ℕ) (states : List MapState) : Type 0 where
   pub count : length maps ≡ length shapes
-  pub each : (i : ℕ) (shape : MapShape) → slice_get shapes i ≡ Some shape → (map : ℕ) × (state : MapState)
+  pub each : (i : ℕ) (shape : MapShape) → slice_get shapes i ≡ Some shape →
+      (map : ℕ) × (state : MapState)
       × (slice_get maps i ≡ Some map) × (slice_get states map ≡ Some state) × (state.shape ≡ shape)
 
 abbrev pub AllBytes : List Element → Type 0
 AllBytes es = (n : ℕ) (e : Element) → slice_get es n ≡ Some e → AreBytes e.value
 
--- What is so around a run that hasn't ended, in each state that is reached, of a program that was verified against these shapes.
-pub record Surrounds (shapes : List MapShape) (ctx_len : ℕ) (s : Store) (opened : List Section) (run : Run) : Type 0 where
+-- What is so around a run that hasn't ended, in each state that is reached, of a program that was
+-- verified against these shapes.
+pub record Surrounds (shapes : List MapShape) (ctx_len : ℕ) (s : Store) (opened : List Section)
+    (run : Run) : Type 0 where
   pub going : run.exit ≡ None
   pub section : 0 < run.depth → Has opened (section_of run)
-  pub single : (map : ℕ) (key : List ℕ) (a b : ℕ) → IsLinkedAt s.elements map key a → IsLinkedAt s.elements map key b → a ≡ b
+  pub single : (map : ℕ) (key : List ℕ) (a b : ℕ) → IsLinkedAt s.elements map key a →
+      IsLinkedAt s.elements map key b → a ≡ b
   pub sizes : (n : ℕ) (e : Element) → slice_get s.elements n ≡ Some e → (state : MapState)
       × (slice_get s.maps e.map ≡ Some state) × (length e.key ≡ state.shape.key_len)
       × (length e.value ≡ state.shape.value_len)
@@ -44,14 +49,19 @@ abbrev pub HasStep : Insn → Store → List Section → Run → Type 0
 HasStep i s opened run = (answer : Answer) × (new_store : Store) × (new_run : Run)
     × InsnStep i s opened run answer new_store new_run
 
--- The run has ended, or is described where control falls through, or where it jumps: by the state beside it, where there is one.
+-- The run has ended, or is described where control falls through, or where it jumps: by the state
+-- beside it, where there is one.
 abbrev pub Leads : Insn → AbsState → Option AbsState → ℕ → List Element → Run → Type 0
 Leads i new taken place es run = run.exit ≡ None →
-    ((falls i ≡ true) × (run.state.place ≡ place + slot_count i) × Describes new (scene_of es run) run.state)
-    ⊎ (JumpsTo i place run.state.place × Describes (unwrap_or taken new) (scene_of es run) run.state)
+    ((falls i ≡ true) × (run.state.place ≡ place + slot_count i)
+    × Describes new (scene_of es run) run.state)
+    ⊎ (JumpsTo i place run.state.place
+    × Describes (unwrap_or taken new) (scene_of es run) run.state)
 
--- What `transfer` ensures: from each described state the instruction isn't stuck, each of its steps leads to a described one, and bytes stay bytes.
-pub record Transfers (i : Insn) (shapes : List MapShape) (ctx_len : ℕ) (old new : AbsState) (taken : Option AbsState) : Type 0 where
+-- What `transfer` ensures: from each described state the instruction isn't stuck, each of its steps
+-- leads to a described one, and bytes stay bytes.
+pub record Transfers (i : Insn) (shapes : List MapShape) (ctx_len : ℕ) (old new : AbsState)
+    (taken : Option AbsState) : Type 0 where
   pub goes : (s : Store) (opened : List Section) (run : Run) → Surrounds shapes ctx_len s opened run
       → Describes old (scene_of s.elements run) run.state → HasStep i s opened run
   pub leads : (s : Store) (opened : List Section) (run : Run) (answer : Answer) (new_store : Store) (new_run : Run) → Surrounds shapes ctx_len s opened run → Describes old (scene_of s.elements run) run.state →
@@ -70,19 +80,23 @@ pub record IsPlanned (code : List Insn) (plan : Plan) (k : ℕ) (c : Scene) (m :
   pub describes : Describes known c m
 
 -- it does so further on
-pub record IsPlannedAfter (code : List Insn) (plan : Plan) (k : ℕ) (c : Scene) (m : State) : Type 0 where
+pub record IsPlannedAfter (code : List Insn) (plan : Plan) (k : ℕ) (c : Scene) (m : State)
+    : Type 0 where
   pub index : ℕ
   pub further : k < index
   pub planned : IsPlanned code plan index c m
 
 -- The plan holds at the entry, outside every section, and each step keeps it, further on.
-pub record IsClosed (code : List Insn) (shapes : List MapShape) (ctx_len : ℕ) (plan : Plan) : Type 0 where
+pub record IsClosed (code : List Insn) (shapes : List MapShape) (ctx_len : ℕ) (plan : Plan)
+    : Type 0 where
   pub start : (c : Scene) → c.depth ≡ 0 → IsPlanned code plan 0 c entry
-  pub goes : (k : ℕ) (s : Store) (opened : List Section) (run : Run) → Surrounds shapes ctx_len s opened run
+  pub goes : (k : ℕ) (s : Store) (opened : List Section) (run : Run) →
+      Surrounds shapes ctx_len s opened run
       → IsPlanned code plan k (scene_of s.elements run) run.state →
       (i : Insn) × (insn_at code run.state.place ≡ Some i) × HasStep i s opened run
   pub leads : (k : ℕ) (i : Insn) (s : Store) (opened : List Section) (run : Run) (answer : Answer) (new_store : Store) (new_run : Run) → Surrounds shapes ctx_len s opened run →
-      IsPlanned code plan k (scene_of s.elements run) run.state → insn_at code run.state.place ≡ Some i
+      IsPlanned code plan k (scene_of s.elements run) run.state →
+      insn_at code run.state.place ≡ Some i
       → InsnStep i s opened run answer new_store new_run →
       AllBytes new_store.elements × (new_run.exit ≡ None
       → IsPlannedAfter code plan k (scene_of new_store.elements new_run) new_run.state)
@@ -92,8 +106,8 @@ pub record IsVerified (code : List Insn) (shapes : List MapShape) (ctx_len : ℕ
   pub plan : Plan
   pub closed : IsClosed code shapes ctx_len plan
 
--- An instruction that isn't a call, and what is to be shown of one that accesses no element: its one outcome, by `after`. The scene is the same
--- after it.
+-- An instruction that isn't a call, and what is to be shown of one that accesses no element: its
+-- one outcome, by `after`. The scene is the same after it.
 abbrev pub is_call : Insn → Bool
 is_call (Call kind imm) = true
 is_call i = false
@@ -109,12 +123,14 @@ LandsDescribed i new taken c place (Moves next) =
     ((falls i ≡ true) × (next.place ≡ place + slot_count i) × Describes new c next)
     ⊎ (JumpsTo i place next.place × Describes (unwrap_or taken new) c next)
 
-pub record ActsAlone (i : Insn) (new : AbsState) (taken : Option AbsState) (c : Scene) (env : Environment) (m : State) : Type 0 where
+pub record ActsAlone (i : Insn) (new : AbsState) (taken : Option AbsState) (c : Scene)
+    (env : Environment) (m : State) : Type 0 where
   pub out : Outcome
   pub after_is : after i env m ≡ Some out
   pub alone : (es fs : List Element) (other : Outcome) → AccessesElement i es m other fs → ⊥
   pub lands : LandsDescribed i new taken c m.place out
 
-abbrev pub TransfersAlone : Insn → List MapShape → ℕ → AbsState → AbsState → Option AbsState → Type 0
+abbrev pub TransfersAlone : Insn → List MapShape → ℕ → AbsState → AbsState → Option AbsState →
+    Type 0
 TransfersAlone i shapes ctx_len old new taken = (c : Scene) (env : Environment) (m : State)
     → IsEnvironment ctx_len (length shapes) env → Describes old c m → ActsAlone i new taken c env m

@@ -19,7 +19,8 @@ abbrev pub AreVerified : List MapShape → List Loaded → Type 0
 AreVerified shapes programs = (p : ℕ) (program : Loaded) → slice_get programs p ≡ Some program
     → IsVerifiedFor (map new_map shapes) program
 
--- A run of a verified program, described by its plan. The index of the instruction where it stands grows by each step.
+-- A run of a verified program, described by its plan. The index of the instruction where it stands
+-- grows by each step.
 pub record IsTyped (s : Store) (run : Run) : Type 0 where
   pub safe : IsVerifiedFor s.maps run.program
   pub long : length run.context ≡ run.program.context_len
@@ -31,7 +32,9 @@ pub record IsTyped (s : Store) (run : Run) : Type 0 where
 pub record IsWell (m : Machine) : Type 0 where
   pub consistent : IsConsistent m
   pub bytes : AllBytes m.store.elements
-  pub programs : (p : ℕ) (program : Loaded) → slice_get m.programs p ≡ Some program → IsVerifiedFor m.store.maps program
-  pub runs : (r : ℕ) (run : Run) → run_at m.runs r ≡ Some run → run.exit ≡ None → IsTyped m.store run
+  pub programs : (p : ℕ) (program : Loaded) → slice_get m.programs p ≡ Some program →
+      IsVerifiedFor m.store.maps program
+  pub runs : (r : ℕ) (run : Run) → run_at m.runs r ≡ Some run → run.exit ≡ None →
+      IsTyped m.store run
   -- those that have ended too
   pub moved : (r : ℕ) (run : Run) → run_at m.runs r ≡ Some run → run.moved < length run.program.code

@@ -16,4 +16,11 @@ pub record Checked : Type 0 where
 
 abbrev pub checked : List Insn → List Region → List (Option ℕ) → List MapShape → ℕ → ℕ → Checked
 checked program regions targets shapes ctx_len peak_states =
-    record { program = program; regions = regions; targets = targets; shapes = shapes; ctx_len = ctx_len; peak_states = peak_states }
+    record {
+      program = program;
+      regions = regions;
+      targets = targets;
+      shapes = shapes;
+      ctx_len = ctx_len;
+      peak_states = peak_states;
+    }

@@ -1,5 +1,6 @@
 -- Which facts are known before an instruction of a plain program: those that each path to it makes.
-use Rattle.std.specs.Prelude.{◌≡◌, ◌≢◌, ℕ, ◌+◌, ◌<◌, ◌≤◌, ◌⊎◌, List, slice_get, Some, true, false, if◌then◌else◌}
+use Rattle.std.specs.Prelude.{◌≡◌, ◌≢◌, ℕ, ◌+◌, ◌<◌, ◌≤◌, ◌⊎◌, List, slice_get, Some, true, false}
+use Rattle.std.specs.Prelude.{if◌then◌else◌}
 use Rattle.bpf_model.specs.declared.insn.Insn.{Insn}
 use Rattle.bpf_model.specs.declared.limits.MapShape.{MapShape}
 use Rattle.bpf_model.specs.Plain.{WithoutByte}
@@ -7,8 +8,10 @@ use Rattle.bpf_model.specs.PlainMaps.{IsGuardedLookup, InSection, LacksRegister}
 use Rattle.bpf_model.specs.Places.{StartsAt}
 use Rattle.register_kinds.specs.declared.state.AbsState.{AbsState}
 use Rattle.register_kinds.specs.States.{state_of}
-use Rattle.state_steps.specs.Facts.{Fact, Register, FrameByte, FramePointer, Section, FactHolds, IsReadyInsn}
-use Rattle.state_steps.specs.Lookups.{Lookup, Part, FrameCopy, KeyAddress, MapLoad, LookupCall, NullTest, ValueLoad, Expects, IsReadyWithMaps}
+use Rattle.state_steps.specs.Facts.{Fact, Register, FrameByte, FramePointer, Section, FactHolds}
+use Rattle.state_steps.specs.Facts.{IsReadyInsn}
+use Rattle.state_steps.specs.Lookups.{Lookup, Part, FrameCopy, KeyAddress, MapLoad, LookupCall}
+use Rattle.state_steps.specs.Lookups.{NullTest, ValueLoad, Expects, IsReadyWithMaps}
 use Rattle.verifier.specs.declared.waiting.Waiting.TheVariants.{Differing}
 use Rattle.verifier.specs.SecondPass.{Awaited, state_in}
 
@@ -19,21 +22,26 @@ pub record IsInner (program : List Insn) (shapes : List MapShape) (slot : ℕ) :
   pub behind : start < slot
   pub inside : slot ≤ start + 6
 
--- a path leads to the slot on which nothing makes the fact hold; inside a guarded lookup nothing is said of r0 to r5
+-- a path leads to the slot on which nothing makes the fact hold; inside a guarded lookup nothing is
+-- said of r0 to r5
 abbrev pub WithoutFact : List Insn → List MapShape → Fact → ℕ → Type 0
-WithoutFact program shapes (Register r) slot = LacksRegister program shapes r slot ⊎ ((r ≤ 5) × IsInner program shapes slot)
+WithoutFact program shapes (Register r) slot =
+    LacksRegister program shapes r slot ⊎ ((r ≤ 5) × IsInner program shapes slot)
 WithoutFact program shapes (FrameByte k) slot = WithoutByte program k slot
 WithoutFact program shapes FramePointer slot = ⊥
-WithoutFact program shapes (Section inside) slot = InSection program (if inside then false else true) slot
+WithoutFact program shapes (Section inside) slot =
+    InSection program (if inside then false else true) slot
 
 -- each fact holds before the instruction of this index, or some path doesn't make it
 abbrev pub Knows : List Insn → List MapShape → ℕ → AbsState → Type 0
 Knows program shapes index a =
     (fact : Fact)
-    → FactHolds fact (state_of a) ⊎ ((slot : ℕ) → StartsAt program index slot → WithoutFact program shapes fact slot)
+    → FactHolds fact (state_of a)
+    ⊎ ((slot : ℕ) → StartsAt program index slot → WithoutFact program shapes fact slot)
 
 -- a guarded lookup, as its instructions see it, and where each of them begins
-abbrev pub lookup_of : {program : List Insn} {shapes : List MapShape} {start : ℕ} → IsGuardedLookup program shapes start → Lookup
+abbrev pub lookup_of : {program : List Insn} {shapes : List MapShape} {start : ℕ} →
+    IsGuardedLookup program shapes start → Lookup
 lookup_of l = record { map = l.map; shape = l.shape; at = l.at; offset = l.offset; load = l.load }
 
 abbrev pub part_slot : Part → ℕ
@@ -46,19 +54,25 @@ part_slot ValueLoad = 6
 
 -- Before an instruction inside a guarded lookup it is known what it needs.
 abbrev pub IsExpected : List Insn → List MapShape → ℕ → AbsState → Type 0
-IsExpected program shapes index a = (start : ℕ) (l : IsGuardedLookup program shapes start) (p : Part) → (p ≡ FrameCopy → ⊥) → StartsAt program index (start + part_slot p)
+IsExpected program shapes index a =
+    (start : ℕ) (l : IsGuardedLookup program shapes start) (p : Part) → (p ≡ FrameCopy → ⊥) →
+    StartsAt program index (start + part_slot p)
     → Expects (lookup_of l) p (state_of a)
 
-pub record IsKnown (program : List Insn) (shapes : List MapShape) (index : ℕ) (a : AbsState) : Type 0 where
+pub record IsKnown (program : List Insn) (shapes : List MapShape) (index : ℕ) (a : AbsState)
+    : Type 0 where
   pub facts : Knows program shapes index a
   pub expected : IsExpected program shapes index a
 
 -- what is known of what waits, in a plain program: no sections differ
-pub record AreKnown (program : List Insn) (shapes : List MapShape) (k : ℕ) (at : Awaited) : Type 0 where
+pub record AreKnown (program : List Insn) (shapes : List MapShape) (k : ℕ) (at : Awaited)
+    : Type 0 where
   pub paired : (m : ℕ) → k ≤ m → at m ≢ Differing
   pub knows : (m : ℕ) (a : AbsState) → k ≤ m → state_in (at m) ≡ Some a → IsKnown program shapes m a
 
 -- what waits for an instruction is a state that is ready for it
-pub record CanAccept (program : List Insn) (shapes : List MapShape) (k : ℕ) (at : Awaited) : Type 0 where
+pub record CanAccept (program : List Insn) (shapes : List MapShape) (k : ℕ) (at : Awaited)
+    : Type 0 where
   pub paired : at k ≢ Differing
-  pub ready : (i : Insn) (a : AbsState) → slice_get program k ≡ Some i → state_in (at k) ≡ Some a → IsReadyInsn i (state_of a) ⊎ IsReadyWithMaps shapes i (state_of a)
+  pub ready : (i : Insn) (a : AbsState) → slice_get program k ≡ Some i → state_in (at k) ≡ Some a →
+      IsReadyInsn i (state_of a) ⊎ IsReadyWithMaps shapes i (state_of a)

@@ -16,15 +16,16 @@ use Rattle.verifier.specs.declared.refusal.Refusal.TheVariants.{Graph, Instructi
 use Rattle.verifier.specs.Checked.{Checked}
 use Rattle.verifier.specs.Peak.{AreFew}
 
--- By the plan each run of the program is never stuck, and each of its steps leads further on; and what the code has
--- noted of an instruction is so wherever the plan describes a run before it.
+-- By the plan each run of the program is never stuck, and each of its steps leads further on; and
+-- what the code has noted of an instruction is so wherever the plan describes a run before it.
 pub record Justifies (c : Checked) (plan : Plan) : Type 0 where
   pub closed : IsClosed c.program c.shapes c.ctx_len plan
   -- the plan speaks of the program's instructions alone
   pub inside : (index : ℕ) (a : AbsState) → plan index ≡ Some a → index < length c.program
   -- a memory instruction reaches the region that is noted for it
   pub regions : (index : ℕ) (i : Insn) (b : ℕ) (region : Region) (scene : Scene) (m : State)
-      → slice_get c.program index ≡ Some i → base_of i ≡ Some b → slice_get c.regions index ≡ Some region
+      → slice_get c.program index ≡ Some i → base_of i ≡ Some b →
+      slice_get c.regions index ≡ Some region
       → IsPlanned c.program plan index scene m → IsInRegion scene region (m.regs b)
   -- and a conditional jump compares numbers, or tests an element for null
   pub compared : (index : ℕ) (i : Insn) (r : ℕ) (scene : Scene) (m : State)

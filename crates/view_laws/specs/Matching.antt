@@ -19,31 +19,42 @@ pub record Matches (w : WorldView) (s : Schedule) : Type 0 where
   pub refines : RefinesSchedule w s
   pub scheduled : IsScheduled s
 
--- The schedule has a step for the event, with the answer, to a schedule that the view after it matches.
+-- The schedule has a step for the event, with the answer, to a schedule that the view after it
+-- matches.
 pub record Simulates (s : Schedule) (event : Event) (reaction : Answer × WorldView) : Type 0 where
   pub next : Schedule
   pub does : DoesScheduled s event reaction.0 next
   pub matches : Matches reaction.1 next
 
--- A step of a run that changes the maps, in two halves: first the maps, with the lists; then the run.
+-- A step of a run that changes the maps, in two halves: first the maps, with the lists; then the
+-- run.
 abbrev pub half : Schedule → Store → Schedule
-half s store = record { machine = with_store s.machine store; queues = retired 0 s.machine.store.elements store.elements s.queues; awaited = s.awaited }
+half s store = record {
+  machine = with_store s.machine store;
+  queues = retired 0 s.machine.store.elements store.elements s.queues;
+  awaited = s.awaited;
+}
 
--- The first half of a delete with this result, of an update, and of a store of a number to element n: the view refines the schedule after it.
-pub record DeletesHalf (w : WorldView) (s : Schedule) (k : ℕ) (key : List ℕ) (ret : Result (Unit {0}) Errno) : Type 0 where
+-- The first half of a delete with this result, of an update, and of a store of a number to element
+-- n: the view refines the schedule after it.
+pub record DeletesHalf (w : WorldView) (s : Schedule) (k : ℕ) (key : List ℕ)
+    (ret : Result (Unit {0}) Errno) : Type 0 where
   pub store : Store
   pub deletes : Deletes s.machine.store (open_sections s.machine.runs) k key ret store
   pub oldest : TakesOldest s.machine.store store
   pub refines : RefinesSchedule w (half s store)
 
-pub record UpdatesHalf (w : WorldView) (s : Schedule) (k : ℕ) (key value : List ℕ) (flags : ℕ) (ret : Result (Unit {0}) Errno) : Type 0 where
+pub record UpdatesHalf (w : WorldView) (s : Schedule) (k : ℕ) (key value : List ℕ) (flags : ℕ)
+    (ret : Result (Unit {0}) Errno) : Type 0 where
   pub store : Store
   pub updates : Updates s.machine.store (open_sections s.machine.runs) k key value flags ret store
   pub oldest : TakesOldest s.machine.store store
   pub refines : RefinesSchedule w (half s store)
 
-pub record StoresHalf (w : WorldView) (s : Schedule) (n width : ℕ) (offset : ℤ) (x : ℕ) : Type 0 where
+pub record StoresHalf (w : WorldView) (s : Schedule) (n width : ℕ) (offset : ℤ) (x : ℕ)
+    : Type 0 where
   pub elements : List Element
-  pub stored : (accessible s.machine.store.elements n >>= stored_in s.machine.store.elements n width offset x) ≡ Some elements
+  pub stored : (accessible s.machine.store.elements n
+      >>= stored_in s.machine.store.elements n width offset x) ≡ Some elements
   pub oldest : TakesOldest s.machine.store (with_elements elements s.machine.store)
   pub refines : RefinesSchedule w (half s (with_elements elements s.machine.store))

@@ -1,12 +1,15 @@
--- A world's own step for each event of the control plane, as a function of its view: the answer, and the view after it.
-use Rattle.std.specs.Prelude.{ℕ, suc, ◌+◌, ◌-◌, nat_lt, Bool, true, false, List, [], ◌∷◌, Option, Some, None, slice_get, slice_set, length, map, replicate}
+-- A world's own step for each event of the control plane, as a function of its view: the answer,
+-- and the view after it.
+use Rattle.std.specs.Prelude.{ℕ, suc, ◌+◌, ◌-◌, nat_lt, Bool, true, false, List, [], ◌∷◌, Option}
+use Rattle.std.specs.Prelude.{Some, None, slice_get, slice_set, length, map, replicate}
 use Rattle.std.specs.Option.{option_map}
 use Rattle.bpf_model.specs.declared.limits.MapShape.{MapShape}
 use Rattle.bpf_model.specs.declared.limits.TheConstants.{FRAME_BYTES}
 use Rattle.bpf_model.specs.declared.event.Event.{Event}
 use Rattle.bpf_model.specs.declared.event.Event.TheVariants as events
 use Rattle.bpf_model.specs.declared.event.Answer.{Answer}
-use Rattle.bpf_model.specs.declared.event.Answer.TheVariants.{Started, Ret, Found, Done, Reaped, Refused}
+use Rattle.bpf_model.specs.declared.event.Answer.TheVariants.{Started, Ret, Found, Done, Reaped}
+use Rattle.bpf_model.specs.declared.event.Answer.TheVariants.{Refused}
 use Rattle.bpf_model.specs.declared.event.EventRefusal.{EventRefusal}
 use Rattle.bpf_model.specs.declared.event.EventRefusal.TheVariants.{NoRun, NoMap, RunsFull}
 use Rattle.bpf_model.specs.Event.{start_refusal, if_ended, if_running, key_refusal, update_refusal}
@@ -17,33 +20,46 @@ use Rattle.view_laws.specs.Views.{value_read, deleted, updated, turned_view, giv
 
 -- Map k has another view.
 abbrev pub with_map : ℕ → MapView → WorldView → WorldView
-with_map k v w = record { maps = slice_set w.maps k v; runs = w.runs; opened = w.opened; awaited = w.awaited; programs = w.programs; given = w.given }
+with_map k v w = record {
+  maps = slice_set w.maps k v;
+  runs = w.runs;
+  opened = w.opened;
+  awaited = w.awaited;
+  programs = w.programs;
+  given = w.given;
+}
 
 abbrev pub shape_shown : Option MapView → Option MapShape
 shape_shown None = None
 shape_shown (Some v) = Some v.shape
 
--- A refused event changes nothing. (After the tests of an event the map, or the run slot, is there.)
+-- A refused event changes nothing. (After the tests of an event the map, or the run slot, is
+-- there.)
 abbrev pub refused_as : EventRefusal → WorldView → Answer × WorldView
 refused_as refusal w = (Refused refusal, w)
 
 -- Delete: refused by the map or the key's length, else as the map deletes.
-abbrev pub delete_at : Option EventRefusal → Option MapView → WorldView → ℕ → List ℕ → Answer × WorldView
+abbrev pub delete_at : Option EventRefusal → Option MapView → WorldView → ℕ → List ℕ →
+    Answer × WorldView
 delete_at (Some refusal) o w k key = refused_as refusal w
 delete_at None None w k key = refused_as NoMap w
 delete_at None (Some v) w k key = (Ret (deleted v key).0, with_map k (deleted v key).1 w)
 
 abbrev pub delete_reaction : WorldView → ℕ → List ℕ → Answer × WorldView
-delete_reaction w k key = delete_at (key_refusal (shape_shown (slice_get w.maps k)) (length key)) (slice_get w.maps k) w k key
+delete_reaction w k key =
+    delete_at (key_refusal (shape_shown (slice_get w.maps k)) (length key)) (slice_get w.maps k) w k key
 
 -- Update: refused by the map or a length, else as the map updates.
-abbrev pub update_at : Option EventRefusal → Option MapView → WorldView → ℕ → List ℕ → List ℕ → ℕ → Answer × WorldView
+abbrev pub update_at : Option EventRefusal → Option MapView → WorldView → ℕ → List ℕ → List ℕ → ℕ →
+    Answer × WorldView
 update_at (Some refusal) o w k key value flags = refused_as refusal w
 update_at None None w k key value flags = refused_as NoMap w
-update_at None (Some v) w k key value flags = (Ret (updated v key value flags).0, with_map k (updated v key value flags).1 w)
+update_at None (Some v) w k key value flags =
+    (Ret (updated v key value flags).0, with_map k (updated v key value flags).1 w)
 
 abbrev pub update_reaction : WorldView → ℕ → List ℕ → List ℕ → ℕ → Answer × WorldView
-update_reaction w k key value flags = update_at (update_refusal (shape_shown (slice_get w.maps k)) (length key) (length value)) (slice_get w.maps k) w k key value flags
+update_reaction w k key value flags =
+    update_at (update_refusal (shape_shown (slice_get w.maps k)) (length key) (length value)) (slice_get w.maps k) w k key value flags
 
 -- A read changes nothing.
 abbrev pub read_at : Option EventRefusal → Option MapView → WorldView → List ℕ → Answer × WorldView
@@ -52,12 +68,22 @@ read_at None None w key = refused_as NoMap w
 read_at None (Some v) w key = (Found (value_read v key), w)
 
 abbrev pub read_reaction : WorldView → ℕ → List ℕ → Answer × WorldView
-read_reaction w k key = read_at (key_refusal (shape_shown (slice_get w.maps k)) (length key)) (slice_get w.maps k) w key
+read_reaction w k key =
+    read_at (key_refusal (shape_shown (slice_get w.maps k)) (length key)) (slice_get w.maps k) w key
 
--- An advance does something only where no run is awaited: a grace period ends in each map, and the next waits for the runs that are open.
+-- An advance does something only where no run is awaited: a grace period ends in each map, and the
+-- next waits for the runs that are open.
 abbrev pub advanced_by : Bool → WorldView → WorldView
 advanced_by true w = w
-advanced_by false w = record { maps = map turned_view w.maps; runs = w.runs; opened = w.opened; awaited = w.opened; programs = w.programs; given = w.given }
+advanced_by false w =
+    record {
+      maps = map turned_view w.maps;
+      runs = w.runs;
+      opened = w.opened;
+      awaited = w.opened;
+      programs = w.programs;
+      given = w.given;
+    }
 
 abbrev pub advance_reaction : WorldView → Answer × WorldView
 advance_reaction w = (Done, advanced_by (is_any w.awaited) w)
@@ -78,16 +104,32 @@ first_pick k [] = None
 first_pick k (v ∷ vs) = or_pick v.ready k v (first_pick (suc k) vs)
 
 abbrev pub with_reaped : Pick → WorldView → WorldView
-with_reaped p w = record { maps = slice_set w.maps p.map (reaped_view p.view p.slot); runs = w.runs; opened = w.opened; awaited = w.awaited; programs = w.programs; given = w.given + 1 }
+with_reaped p w = record {
+  maps = slice_set w.maps p.map (reaped_view p.view p.slot);
+  runs = w.runs;
+  opened = w.opened;
+  awaited = w.awaited;
+  programs = w.programs;
+  given = w.given + 1;
+}
 
 abbrev pub reap_by : Option Pick → WorldView → Answer × WorldView
 reap_by None w = (Reaped None, w)
-reap_by (Some p) w = (Reaped (Some (record { map = p.map; key = record { items = key_in (slice_get p.view.slots p.slot) }; given = given_at p.view p.slot })), with_reaped p w)
+reap_by (Some p) w = (
+  Reaped (Some (record {
+    map = p.map;
+    key = record { items = key_in (slice_get p.view.slots p.slot) };
+    given =
+        given_at p.view p.slot;
+  })),
+  with_reaped p w,
+)
 
 abbrev pub reap_reaction : WorldView → Answer × WorldView
 reap_reaction w = reap_by (first_pick 0 w.maps) w
 
--- A run slot changes: its flag tells whether its run is inside a section, and it is awaited no more where it isn't.
+-- A run slot changes: its flag tells whether its run is inside a section, and it is awaited no more
+-- where it isn't.
 abbrev pub is_open_view : Option RunView → Bool
 is_open_view None = false
 is_open_view (Some v) = nat_lt 0 v.depth
@@ -102,12 +144,31 @@ with_run r v w = record {
   given = w.given;
 }
 
--- A run goes through a lock or an unlock. Its words stay: r0 to r5 hold nothing after a call without a result, for which any word stands.
+-- A run goes through a lock or an unlock. Its words stay: r0 to r5 hold nothing after a call
+-- without a result, for which any word stands.
 abbrev pub locked_view : RunView → RunView
-locked_view v = record { program = v.program; context = v.context; registers = v.registers; frame = v.frame; place = v.place + 1; depth = v.depth + 1; moved = v.moved + 1; exit = v.exit }
+locked_view v = record {
+  program = v.program;
+  context = v.context;
+  registers = v.registers;
+  frame = v.frame;
+  place = v.place + 1;
+  depth = v.depth + 1;
+  moved = v.moved + 1;
+  exit = v.exit;
+}
 
 abbrev pub unlocked_view : RunView → RunView
-unlocked_view v = record { program = v.program; context = v.context; registers = v.registers; frame = v.frame; place = v.place + 1; depth = v.depth - 1; moved = v.moved + 1; exit = v.exit }
+unlocked_view v = record {
+  program = v.program;
+  context = v.context;
+  registers = v.registers;
+  frame = v.frame;
+  place = v.place + 1;
+  depth = v.depth - 1;
+  moved = v.moved + 1;
+  exit = v.exit;
+}
 
 -- A start takes the lowest free run slot.
 abbrev pub free_slot : List (Option RunView) → Option ℕ
@@ -133,7 +194,8 @@ start_by None None w prog context = refused_as RunsFull w
 start_by None (Some r) w prog context = (Started r, with_run r (Some (fresh_view prog context)) w)
 
 abbrev pub start_reaction : WorldView → ℕ → List ℕ → Answer × WorldView
-start_reaction w prog context = start_by (start_refusal (slice_get w.programs prog) (length context) (free_slot w.runs)) (free_slot w.runs) w prog context
+start_reaction w prog context =
+    start_by (start_refusal (slice_get w.programs prog) (length context) (free_slot w.runs)) (free_slot w.runs) w prog context
 
 -- A step or a drop is refused by what the run slot shows.
 abbrev pub run_shown : Option (Option RunView) → Option RunView
@@ -163,7 +225,8 @@ step_by None w = None
 abbrev pub reaction : WorldView → Event → Option (Answer × WorldView)
 reaction w (events.Start prog ctx) = Some (start_reaction w prog ctx.items)
 reaction w (events.Step run) = step_by (step_refused (run_shown (slice_get w.runs run))) w
-reaction w (events.Update map key value flags) = Some (update_reaction w map key.items value.items flags)
+reaction w (events.Update map key value flags) =
+    Some (update_reaction w map key.items value.items flags)
 reaction w (events.Delete map key) = Some (delete_reaction w map key.items)
 reaction w (events.Read map key) = Some (read_reaction w map key.items)
 reaction w events.Advance = Some (advance_reaction w)

@@ -1,5 +1,6 @@
 -- What each operation on a map makes of the map's view, as a function of the view.
-use Rattle.std.specs.Prelude.{ℕ, ◌+◌, List, [], ◌∷◌, ◌++◌, Option, Some, None, is_some, Result, Ok, Err, slice_get, slice_set, drop}
+use Rattle.std.specs.Prelude.{ℕ, ◌+◌, List, [], ◌∷◌, ◌++◌, Option, Some, None, is_some, Result, Ok}
+use Rattle.std.specs.Prelude.{Err, slice_get, slice_set, drop}
 use Rattle.std.specs.FinMap.{get, insert, remove, len}
 use Rattle.arrayvec.specs.ArrayVec.{ArrayVec}
 use Rattle.bpf_model.specs.declared.call.Errno.{Errno}
@@ -13,7 +14,16 @@ use Rattle.bpf_model.specs.View.{SlotView, MapView, key_in, value_in, uses_at, m
 use Rattle.bpf_model.specs.Refines.{lists_of}
 
 abbrev pub with_lists : Queues → MapView → MapView
-with_lists q v = record { shape = v.shape; slots = v.slots; free = v.free; index = v.index; next = q.next; waiting = q.waiting; ready = q.ready; worn = v.worn }
+with_lists q v = record {
+  shape = v.shape;
+  slots = v.slots;
+  free = v.free;
+  index = v.index;
+  next = q.next;
+  waiting = q.waiting;
+  ready = q.ready;
+  worn = v.worn;
+}
 
 -- A lookup: the value in the slot that the index has for the key.
 abbrev pub value_shown : MapView → Option ℕ → Option (ArrayVec ℕ)
@@ -23,10 +33,21 @@ value_shown v (Some i) = Some (record { items = value_in (slice_get v.slots i) }
 abbrev pub value_read : MapView → List ℕ → Option (ArrayVec ℕ)
 value_read v key = value_shown v (get v.index key)
 
--- The element of a key, where it has one, is unlinked: its slot leaves the index and goes to the end of the list next.
+-- The element of a key, where it has one, is unlinked: its slot leaves the index and goes to the
+-- end of the list next.
 abbrev pub retired_slot : MapView → List ℕ → Option ℕ → MapView
 retired_slot v key None = v
-retired_slot v key (Some i) = record { shape = v.shape; slots = v.slots; free = v.free; index = remove v.index key; next = v.next ++ i ∷ []; waiting = v.waiting; ready = v.ready; worn = v.worn }
+retired_slot v key (Some i) =
+    record {
+      shape = v.shape;
+      slots = v.slots;
+      free = v.free;
+      index = remove v.index key;
+      next = v.next ++ i ∷ [];
+      waiting = v.waiting;
+      ready = v.ready;
+      worn = v.worn;
+    }
 
 abbrev pub retired_key : MapView → List ℕ → MapView
 retired_key v key = retired_slot v key (get v.index key)
@@ -43,7 +64,11 @@ deleted v key = (delete_result (get v.index key), retired_key v key)
 abbrev pub written : MapView → ℕ → List ℕ → MapView
 written v i value = record {
   shape = v.shape;
-  slots = slice_set v.slots i (record { key = key_in (slice_get v.slots i); value = value; uses = uses_at v.slots i });
+  slots = slice_set v.slots i (record {
+    key = key_in (slice_get v.slots i);
+    value = value;
+    uses = uses_at v.slots i;
+  });
   free = v.free;
   index = v.index;
   next = v.next;
@@ -69,9 +94,11 @@ abbrev pub filled_from : List ℕ → MapView → List ℕ → List ℕ → MapV
 filled_from [] v key value = v
 filled_from (i ∷ rest) v key value = filled v i rest key value
 
--- An update: the first test that fails, or the element that the key had is unlinked and a new one is linked.
+-- An update: the first test that fails, or the element that the key had is unlinked and a new one
+-- is linked.
 abbrev pub shown_error : MapView → List ℕ → ℕ → Option Errno
-shown_error v key flags = update_error flags (is_some (get v.index key)) (len v.index) (map_state_of v)
+shown_error v key flags =
+    update_error flags (is_some (get v.index key)) (len v.index) (map_state_of v)
 
 abbrev pub updated_by : Option Errno → MapView → List ℕ → List ℕ → Result (Unit {0}) Errno × MapView
 updated_by (Some e) v key value = (Err e, v)
@@ -86,8 +113,28 @@ turned_view v = with_lists (turned (lists_of v)) v
 
 -- The first ready slot is given back: it is the last of the free ones, or it is worn out.
 abbrev pub slot_given_back : Given → ℕ → MapView → MapView
-slot_given_back Free i v = record { shape = v.shape; slots = v.slots; free = v.free ++ i ∷ []; index = v.index; next = v.next; waiting = v.waiting; ready = drop 1 v.ready; worn = v.worn }
-slot_given_back Worn i v = record { shape = v.shape; slots = v.slots; free = v.free; index = v.index; next = v.next; waiting = v.waiting; ready = drop 1 v.ready; worn = v.worn + 1 }
+slot_given_back Free i v =
+    record {
+      shape = v.shape;
+      slots = v.slots;
+      free = v.free ++ i ∷ [];
+      index = v.index;
+      next = v.next;
+      waiting = v.waiting;
+      ready = drop 1 v.ready;
+      worn = v.worn;
+    }
+slot_given_back Worn i v =
+    record {
+      shape = v.shape;
+      slots = v.slots;
+      free = v.free;
+      index = v.index;
+      next = v.next;
+      waiting = v.waiting;
+      ready = drop 1 v.ready;
+      worn = v.worn + 1;
+    }
 
 abbrev pub given_at : MapView → ℕ → Given
 given_at v i = given_of (uses_at v.slots i) (map_state_of v)

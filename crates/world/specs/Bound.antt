@@ -27,4 +27,5 @@ pub record IsFirstUnbound (shapes : List MapShape) (loaded : List Loaded) (p : �
   pub program : Loaded
   pub there : slice_get loaded p ≡ Some program
   pub unbound : IsBound shapes program → ⊥
-  pub before : (q : ℕ) (other : Loaded) → q < p → slice_get loaded q ≡ Some other → IsBound shapes other
+  pub before : (q : ℕ) (other : Loaded) → q < p → slice_get loaded q ≡ Some other →
+      IsBound shapes other

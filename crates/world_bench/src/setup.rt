@@ -11,9 +11,9 @@ use anyhow::{Result, bail};
 use arrayvec::ArrayVec;
 use asm::assemble;
 use bpf_model::{Answer, CtxBytes, Event, KeyBytes, MapId, MapShape, ProgId, RunId, ValueBytes};
-use verifier::verify;
 use maps::Registry;
 use std::alloc::Global;
+use verifier::verify;
 use world::World;
 use world_parts::Loaded;
 

@@ -2,7 +2,9 @@
 use Rattle.std.specs.Prelude.{◌≡◌, ℕ, ◌<◌, ◌≤◌, List, length, Some, None, slice_get, FitsSigned}
 use Rattle.std.specs.Int.{w32}
 use Rattle.bpf_model.specs.declared.insn.Insn.{Insn}
-use Rattle.bpf_model.specs.declared.insn.Insn.TheVariants.{Alu, Unary, LoadNumber, LoadMap, Jump, JumpLong, JumpIf, Call, Exit, Load, LoadSigned, Store}
+use Rattle.bpf_model.specs.declared.insn.Insn.TheVariants.{Alu, Unary, LoadNumber, LoadMap, Jump}
+use Rattle.bpf_model.specs.declared.insn.Insn.TheVariants.{JumpLong, JumpIf, Call, Exit, Load}
+use Rattle.bpf_model.specs.declared.insn.Insn.TheVariants.{LoadSigned, Store}
 use Rattle.bpf_model.specs.declared.insn.UnaryOp.{UnaryOp}
 use Rattle.bpf_model.specs.declared.insn.UnaryOp.TheVariants.{Negate, ByteSwap, MoveSigned}
 use Rattle.bpf_model.specs.declared.insn.Operand.{Operand}
@@ -17,7 +19,8 @@ use Rattle.bpf_model.specs.View.{RunView, WorldView, shapes_of}
 use Rattle.model_laws.specs.Alone.{HoldsState}
 use Rattle.typed_runs.specs.Well.{IsWell, AreVerified}
 
--- The registers that an instruction names are r0 to r10, and a number as operand has 32 bits: in a definition they would else be any.
+-- The registers that an instruction names are r0 to r10, and a number as operand has 32 bits: in a
+-- definition they would else be any.
 abbrev pub IsRegister : ℕ → Type 0
 IsRegister r = r < 11
 
@@ -50,7 +53,8 @@ pub record IsTypedProgram (program : Loaded) : Type 0 where
   pub maps : length program.maps ≤ MAX_MAPS
 
 abbrev pub AreTypedPrograms : List Loaded → Type 0
-AreTypedPrograms programs = (p : ℕ) (program : Loaded) → slice_get programs p ≡ Some program → IsTypedProgram program
+AreTypedPrograms programs =
+    (p : ℕ) (program : Loaded) → slice_get programs p ≡ Some program → IsTypedProgram program
 
 -- A reference to a map is to one of the program's list.
 abbrev pub IsListed : ℕ → Reference → Type 0
@@ -61,15 +65,18 @@ IsListed count (Elem n o) = Unit {0}
 
 -- so it is with all that the runs of the machine hold
 abbrev pub AreListed : Machine → Type 0
-AreListed m = (r : ℕ) (run : Run) → run_at m.runs r ≡ Some run → HoldsState (IsListed (length run.program.maps)) run.state
+AreListed m = (r : ℕ) (run : Run) → run_at m.runs r ≡ Some run →
+    HoldsState (IsListed (length run.program.maps)) run.state
 
--- What a world is asked for, beside that it tracks a schedule: verified programs, all of their types, and no more maps than there may be.
+-- What a world is asked for, beside that it tracks a schedule: verified programs, all of their
+-- types, and no more maps than there may be.
 pub record IsReadyWorld (w : WorldView) : Type 0 where
   pub verified : AreVerified (shapes_of w) w.programs
   pub programs : AreTypedPrograms w.programs
   pub maps : length w.maps ≤ MAX_MAPS
 
--- The machine's runs are of verified programs, and what the world keeps of them is within its limits.
+-- The machine's runs are of verified programs, and what the world keeps of them is within its
+-- limits.
 pub record IsSound (w : WorldView) (s : Schedule) : Type 0 where
   pub well : IsWell s.machine
   pub listed : AreListed s.machine

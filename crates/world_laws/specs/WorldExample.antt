@@ -2,9 +2,11 @@
 use Rattle.std.specs.Prelude.{ℕ, List, [], ◌∷◌, Some, None, Ok}
 use Rattle.arrayvec.specs.ArrayVec.{ArrayVec}
 use Rattle.bpf_model.specs.declared.event.Event.{Event}
-use Rattle.bpf_model.specs.declared.event.Event.TheVariants.{Start, Step, Update, Delete, Advance, Reap, Drop}
+use Rattle.bpf_model.specs.declared.event.Event.TheVariants.{Start, Step, Update, Delete, Advance}
+use Rattle.bpf_model.specs.declared.event.Event.TheVariants.{Reap, Drop}
 use Rattle.bpf_model.specs.declared.event.Answer.{Answer}
-use Rattle.bpf_model.specs.declared.event.Answer.TheVariants.{Started, Moved, Exited, Ret, Done, Reaped}
+use Rattle.bpf_model.specs.declared.event.Answer.TheVariants.{Started, Moved, Exited, Ret, Done}
+use Rattle.bpf_model.specs.declared.event.Answer.TheVariants.{Reaped}
 use Rattle.bpf_model.specs.declared.event.Given.TheVariants.{Free}
 use Rattle.bpf_model.specs.Machine.{Loaded}
 use Rattle.bpf_model.specs.View.{WorldView, start_view}
@@ -23,11 +25,13 @@ lookup_program = record { code = lookup_and_load; maps = 0 ∷ []; context_len =
 abbrev pub example_world : WorldView
 example_world = start_view (example_shape ∷ []) (lookup_program ∷ [])
 
--- The run looks the key up in its seventh step. Then the key is deleted; a grace period begins and can't end, and nothing is reclaimed. The
--- run loads the value, and leaves its section in its tenth step. Then the grace period ends, and the element is reclaimed.
+-- The run looks the key up in its seventh step. Then the key is deleted; a grace period begins and
+-- can't end, and nothing is reclaimed. The run loads the value, and leaves its section in its tenth
+-- step. Then the grace period ends, and the element is reclaimed.
 abbrev pub example_events : List Event
 example_events =
-    Update 0 key_zero two_bytes 0 ∷ Start 0 (record { items = [] }) ∷ Step 0 ∷ Step 0 ∷ Step 0 ∷ Step 0 ∷ Step 0 ∷ Step 0 ∷ Step 0 ∷
+    Update 0 key_zero two_bytes 0 ∷ Start 0 (record { items = [] }) ∷ Step 0 ∷ Step 0 ∷ Step 0
+    ∷ Step 0 ∷ Step 0 ∷ Step 0 ∷ Step 0 ∷
     Delete 0 key_zero ∷ Advance ∷ Advance ∷ Reap ∷
     Step 0 ∷ Step 0 ∷ Step 0 ∷ Advance ∷ Reap ∷ Step 0 ∷ Step 0 ∷ Drop 0 ∷ []
 
@@ -35,4 +39,5 @@ abbrev pub example_answers : List Answer
 example_answers =
     Ret (Ok tt) ∷ Started 0 ∷ Moved ∷ Moved ∷ Moved ∷ Moved ∷ Moved ∷ Moved ∷ Moved ∷
     Ret (Ok tt) ∷ Done ∷ Done ∷ Reaped None ∷
-    Moved ∷ Moved ∷ Moved ∷ Done ∷ Reaped (Some (record { map = 0; key = key_zero; given = Free })) ∷ Moved ∷ Exited 263 ∷ Done ∷ []
+    Moved ∷ Moved ∷ Moved ∷ Done ∷ Reaped (Some (record { map = 0; key = key_zero; given = Free }))
+    ∷ Moved ∷ Exited 263 ∷ Done ∷ []

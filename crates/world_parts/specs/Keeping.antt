@@ -22,13 +22,17 @@ pub record IsOfProgram (programs : List Loaded) (run : RunWords) : Type 0 where
   pub there : slice_get programs run.view.program ≡ Some program
   pub stands : IsAt program.verified.program run
 
--- There is a slot for each run that there may be. The flags of those inside a section are what their depths say, and each run is of a program.
-pub record IsKept (runs : List (Option RunWords)) (grace : GraceState) (programs : List Loaded) : Type 0 where
+-- There is a slot for each run that there may be. The flags of those inside a section are what
+-- their depths say, and each run is of a program.
+pub record IsKept (runs : List (Option RunWords)) (grace : GraceState) (programs : List Loaded)
+    : Type 0 where
   pub slots : length runs ≡ MAX_RUNS
   pub opened : grace.opened ≡ map is_inside runs
-  pub of_program : (r : ℕ) (run : RunWords) → slice_get runs r ≡ Some (Some run) → IsOfProgram programs run
+  pub of_program : (r : ℕ) (run : RunWords) → slice_get runs r ≡ Some (Some run) →
+      IsOfProgram programs run
 
-abbrev pub world_of : List MapView → List (Option RunWords) → GraceState → List Loaded → ℕ → WorldView
+abbrev pub world_of : List MapView → List (Option RunWords) → GraceState → List Loaded → ℕ →
+    WorldView
 world_of maps runs grace programs given = record {
   maps = maps;
   runs = map view_of runs;

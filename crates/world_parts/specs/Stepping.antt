@@ -18,13 +18,16 @@ use Rattle.world_parts.specs.Programs.{program_of}
 
 -- What a run asks can be served, and it may go on with the reply.
 pub record CanAsk (loaded : Loaded) (maps : List MapView) (v : RunView) : Type 0 where
-  pub serve : (i : Insn) (access : Access) → insn_at loaded.verified.program v.place ≡ Some i → local_of i v ≡ Asks
+  pub serve : (i : Insn) (access : Access) → insn_at loaded.verified.program v.place ≡ Some i →
+      local_of i v ≡ Asks
       → access_of i v ≡ Some access → CanServe access loaded.maps.items maps v
   pub resume : (i : Insn) (access : Access) → insn_at loaded.verified.program v.place ≡ Some i
       → access_of i v ≡ Some access → CanResume loaded.verified.program v
 
--- The run in slot r may make a step of its program: its flag is what its depth says, and what it needs is there.
-pub record CanTake (loaded : Loaded) (maps : List MapView) (g : GraceState) (r : ℕ) (run : RunWords) : Type 0 where
+-- The run in slot r may make a step of its program: its flag is what its depth says, and what it
+-- needs is there.
+pub record CanTake (loaded : Loaded) (maps : List MapView) (g : GraceState) (r : ℕ) (run : RunWords)
+    : Type 0 where
   pub stands : IsAt loaded.verified.program run
   pub step : CanStep loaded.verified.program run.view
   pub ask : CanAsk loaded maps run.view
@@ -32,18 +35,22 @@ pub record CanTake (loaded : Loaded) (maps : List MapView) (g : GraceState) (r :
   pub opened : slice_get g.opened r ≡ Some (nat_lt 0 run.view.depth)
   pub depth : run.view.depth ≤ MAX_DEPTH
 
--- It has made the step: in each world with these maps and flags the run's instruction has this answer, and leaves the world with the new parts.
-pub record HasTaken (loaded : Loaded) (r : ℕ) (old new : RunWords) (maps maps_after : List MapView) (g after : GraceState) (answer : Answer) : Type 0 where
+-- It has made the step: in each world with these maps and flags the run's instruction has this
+-- answer, and leaves the world with the new parts.
+pub record HasTaken (loaded : Loaded) (r : ℕ) (old new : RunWords) (maps maps_after : List MapView)
+    (g after : GraceState) (answer : Answer) : Type 0 where
   pub insn : Insn
   pub here : insn_at loaded.verified.program old.view.place ≡ Some insn
   pub step : (w : WorldView) → w.maps ≡ maps → flags_of w ≡ g
-      → insn_step insn (program_of loaded) r old.view w ≡ (answer, world_with maps_after after r new.view w)
+      → insn_step insn (program_of loaded) r old.view w
+      ≡ (answer, world_with maps_after after r new.view w)
   pub opened : after.opened ≡ slice_set g.opened r (nat_lt 0 new.view.depth)
   pub program : new.view.program ≡ old.view.program
   pub stands : IsAt loaded.verified.program new
 
 -- The slot has a run of a program that may make a step.
-pub record IsGoing (runs : List (Option RunWords)) (programs : List Loaded) (maps : List MapView) (g : GraceState) (r : ℕ) : Type 0 where
+pub record IsGoing (runs : List (Option RunWords)) (programs : List Loaded) (maps : List MapView)
+    (g : GraceState) (r : ℕ) : Type 0 where
   pub run : RunWords
   pub there : slice_get runs r ≡ Some (Some run)
   pub loaded : Loaded
@@ -51,7 +58,8 @@ pub record IsGoing (runs : List (Option RunWords)) (programs : List Loaded) (map
   pub can : CanTake loaded maps g r run
 
 -- That run has made it, and no other slot has changed.
-pub record HasGone (runs runs_after : List (Option RunWords)) (programs : List Loaded) (maps maps_after : List MapView) (g after : GraceState) (r : ℕ) (answer : Answer) : Type 0 where
+pub record HasGone (runs runs_after : List (Option RunWords)) (programs : List Loaded)
+    (maps maps_after : List MapView) (g after : GraceState) (r : ℕ) (answer : Answer) : Type 0 where
   pub run : RunWords
   pub there : slice_get runs r ≡ Some (Some run)
   pub loaded : Loaded
