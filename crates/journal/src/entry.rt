@@ -1,0 +1,12 @@
+//! What a journal has of one event.
+
+use bpf_model::{Answer, Event};
+
+/// An event, the worker that asked it, and what it was answered.
+#[derive(Debug, Drop)]
+pub struct Entry {
+    /// The number of the worker, below the number of workers.
+    pub worker: u8,
+    pub event: Event,
+    pub answer: Answer,
+}

@@ -1,0 +1,143 @@
+//! The list of entries.
+ghost use Rattle.std.specs.Prelude.{◌≡◌, ◌≤◌, ◌↔◌, ◌==◌, ◌++◌, ◌∷◌, [], true, false, map, length, slice_get, Err, OnOk, OnErr, vec_len, vec_capacity};
+ghost use Rattle.bpf_model.specs.declared.limits.TheConstants.{MAX_JOURNAL};
+ghost use Rattle.journal.specs.Entries.{IsAnswerTo, with_room};
+
+use crate::bytes::append;
+use crate::entry::Entry;
+use crate::fault::JournalFault;
+use crate::making::row_of;
+use crate::row::Row;
+use bpf_model::{KEY_BYTES, MAX_JOURNAL, VALUE_BYTES};
+use std::alloc::Global;
+use std::marker::Model;
+
+/// The most bytes of keys, values and contexts that one entry has: a key and a value.
+const ENTRY_BYTES: usize = KEY_BYTES + VALUE_BYTES;
+
+/// What workers asked and were answered, in order: at most `limit` entries. Contracts see the entries.
+///
+/// An entry takes 32 bytes, and further those of the keys, values and contexts of its event and its answer.
+#[derive(Drop)]
+pub struct Journal {
+    rows: Vec<Row>,
+    bytes: Vec<u8>,
+    limit: usize,
+}
+
+impl Model for Journal {
+    ghost use Rattle.std.specs.Prelude.{◌≤◌, map, vec_len, vec_capacity};
+    ghost use Rattle.bpf_model.specs.declared.limits.TheConstants.{MAX_JOURNAL};
+    ghost use Rattle.journal.specs.Entries.{JournalView};
+    ghost use Rattle.journal.specs.Rows.{entry_of, is_ready, AreStored};
+
+    ghost Value = { JournalView };
+
+    ghost view = { λ j. record {
+        entries = map (entry_of j.bytes.items) j.rows.items;
+        limit = j.limit;
+        has_room = is_ready (vec_len j.rows) j.limit (vec_capacity j.rows)
+            (vec_len j.bytes) (vec_capacity j.bytes);
+    } };
+
+    ghost invariant = { λ j. AreStored j.rows.items j.bytes.items
+        × (vec_len j.rows ≤ j.limit) × (j.limit ≤ MAX_JOURNAL) };
+}
+
+impl Journal {
+    /// A journal of at most `MAX_JOURNAL` entries, with none yet. It takes no memory.
+    pub fn new(alloc: Global) -> Journal
+        ensures { result ≡ record { entries = []; limit = MAX_JOURNAL; has_room = false } }
+    {
+        Journal::with_limit(alloc, MAX_JOURNAL)
+    }
+
+    /// A journal of at most `limit` entries, with none yet. It takes no memory.
+    pub fn with_limit(alloc: Global, limit: usize) -> Journal
+        requires { limit ≤ MAX_JOURNAL }
+        ensures { result ≡ record { entries = []; limit = limit; has_room = false } }
+    {
+        Journal {
+            rows: Vec::new(alloc),
+            bytes: Vec::new(alloc),
+            limit,
+        }
+    }
+
+    /// How many entries it has.
+    pub fn len(&self) -> usize
+        ensures { result ≡ length self.now.entries }
+    {
+        self.rows.len()
+    }
+
+    /// Whether it has no entry.
+    pub fn is_empty(&self) -> bool
+        ensures { result ≡ (length self.now.entries == 0) }
+    {
+        self.rows.is_empty()
+    }
+
+    /// How many entries it may have.
+    pub fn limit(&self) -> usize
+        ensures { result ≡ self.now.limit }
+    {
+        self.limit
+    }
+
+    /// The entry of this index, counted from 0; `None` past the last.
+    pub fn entry(&self, index: usize) -> Option<Entry>
+        ensures { result ≡ slice_get self.now.entries index }
+    {
+        match self.rows.get(index) {
+            Some(row) => Some(row.entry(&self.bytes)),
+            None => None,
+        }
+    }
+
+    /// Sees to it that one more entry can be added without memory, whatever it is.
+    ///
+    /// Errors: `Full` where there are `limit` entries; else `Memory` where room was missing and was refused.
+    pub fn reserve_one(&mut self) -> Result<(), JournalFault>
+        ensures ok { OnOk result (self.new ≡ with_room self.old) }
+        ensures err { OnErr result (self.new ≡ self.old) }
+        ensures full { (result ≡ Err JournalFault.Full) ↔ (length self.old.entries ≡ self.old.limit) }
+        ensures memory { result ≡ Err JournalFault.Memory → self.old.has_room ≡ false }
+    {
+        if self.rows.len() == self.limit {
+            return Err(JournalFault::Full);
+        }
+        self.rows.reserve(1)?;
+        self.bytes.reserve(ENTRY_BYTES)?;
+        Ok(())
+    }
+
+    /// Adds an entry where there is room for it. It takes no memory.
+    pub fn push(&mut self, entry: &Entry)
+        requires room { self.old.has_room ≡ true }
+        requires answer { IsAnswerTo entry.now.event entry.now.answer }
+        ensures entries { self.new.entries ≡ self.old.entries ++ entry.now ∷ [] }
+        ensures limit { self.new.limit ≡ self.old.limit }
+    {
+        let row = row_of(entry, self.bytes.len());
+        append(&mut self.bytes, entry);
+        self.rows.push_reserved(row);
+    }
+
+    /// Takes all entries out, and keeps their memory for later ones.
+    pub fn cut(&mut self)
+        ensures entries { self.new.entries ≡ [] }
+        ensures limit { self.new.limit ≡ self.old.limit }
+    {
+        self.rows.clear();
+        self.bytes.clear();
+    }
+
+    /// A law: it has no more entries than it may have.
+    pub fn is_short(&self)
+        ensures entries { length self.now.entries ≤ self.now.limit }
+        ensures limit { self.now.limit ≤ MAX_JOURNAL }
+    {
+        let _limit = self.limit;
+    }
+}
