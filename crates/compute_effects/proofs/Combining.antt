@@ -22,7 +22,7 @@ use Rattle.bpf_model.specs.Operand.{operand_value, computed, unary_source}
 use Rattle.bpf_model.specs.Near.{IsNear, IsNearOffset}
 use Rattle.bpf_model.specs.Graph.{falls}
 use Rattle.bpf_model.specs.Spelling.{slot_count}
-use Rattle.bpf_model.specs.Step.{State, Environment, Outcome, MovesOffsets as Goes, put, sets, after, map_value}
+use Rattle.bpf_model.specs.Step.{State, Environment, Outcome, Moves as Goes, put, sets, after, map_value}
 use Rattle.bpf_model.specs.Element.{Element}
 use Rattle.bpf_model.specs.MachineStep.{AccessesElement, found_value}
 use Rattle.scalar_domain.specs.declared.scalar.Scalar.{Scalar}
