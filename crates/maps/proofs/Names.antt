@@ -1,7 +1,7 @@
 -- Names of maps among the texts that a set keeps.
 use Rattle.std.proofs.Common.{◌≡◌, ap, ◌∙◌, refl, sym, Bool, List, map}
 use Rattle.std.specs.Prelude.{[], ◌∷◌, ◌++◌, ◌||◌, Some, None, not, ◌+◌, position, suc, cond, nat_lt, length}
-use Rattle.std.specs.List.{list_any, position_or_len, prefix_len}
+use Rattle.std.specs.List.{list_any, position_or_len, prefix_len, AllZip}
 use Rattle.std.proofs.lemmas.List.{map-append, length-append}
 
 pub any_named : {A B : Type 0} (v : A → B) (test : B → Bool) (xs : List A) → list_any (λ x. test (v x)) xs ≡ list_any test (map v xs)
@@ -29,3 +29,12 @@ added v keys new x y e f = ap (map v) e ∙ map-append v keys (x ∷ []) ∙ ap 
 
 pub one_longer : {A : Type 0} (keys new : List A) (x : A) → new ≡ keys ++ x ∷ [] → length new ≡ length keys + 1
 one_longer keys new x e = ap length e ∙ length-append keys (x ∷ [])
+
+pub same_named : {A B : Type 0} (v : A → B) (xs ys : List A) → AllZip (λ x y. v y ≡ v x) xs ys → map v ys ≡ map v xs
+same_named v [] [] h = refl
+same_named v [] (y ∷ ys) h = absurd h
+same_named v (x ∷ xs) [] h = absurd h
+same_named v (x ∷ xs) (y ∷ ys) h = ap (λ b. b ∷ map v ys) h.0 ∙ ap (λ bs. v x ∷ bs) (same_named v xs ys h.1)
+
+pub as_long : {A B : Type 0} (v : A → B) (xs ys : List A) → map v ys ≡ map v xs → length ys ≡ length xs
+as_long v xs ys e = sym (length_named v ys) ∙ ap length e ∙ length_named v xs

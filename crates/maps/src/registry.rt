@@ -14,13 +14,14 @@ ghost use Rattle.view_laws.specs.Reactions.{first_pick};
 ghost use Rattle.maps.specs.declared.fault.MapFault.TheVariants.{Memory};
 
 use crate::Map;
+use crate::copying::{copy_of_maps, copy_of_names};
 use crate::counts::Counts;
 use crate::fault::MapFault;
 use crate::name::is_name;
 use crate::shape::is_shape;
 use bpf_model::{MAX_MAPS, MapId, MapShape, ReapedElement};
 use indexmap::IndexSet;
-use std::alloc::Global;
+use std::alloc::{AllocError, Global};
 use std::marker::Model;
 
 /// Maps by number, in order of creation, each with a name of its own.
@@ -270,5 +271,19 @@ impl Registry {
         ensures { result ≡ counts_of_all self.now.maps }
     {
         sum_counts(self.maps.as_slice())
+    }
+
+    /// An equal registry: the same names, each with a map in the same state. The error is that there is no
+    /// memory left.
+    pub fn copy(&self) -> Result<Registry, AllocError>
+        ensures same { IfOk result (λ r. r ≡ self.now) }
+    {
+        let names = copy_of_names(&self.names)?;
+        let maps = copy_of_maps(self.alloc, &self.maps)?;
+        Ok(Registry {
+            alloc: self.alloc,
+            names,
+            maps,
+        })
     }
 }

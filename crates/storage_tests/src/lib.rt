@@ -4,6 +4,8 @@
 #[cfg(test)]
 mod arena;
 #[cfg(test)]
+mod copies;
+#[cfg(test)]
 mod grace;
 #[cfg(test)]
 mod indexes;

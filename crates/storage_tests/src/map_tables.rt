@@ -11,7 +11,7 @@ use std::str::Split;
 use std::test::Fail;
 
 /// One-byte keys, two-byte values, at most two elements, and one slot more.
-const SMALL: MapShape = MapShape {
+pub(crate) const SMALL: MapShape = MapShape {
     key_len: 1,
     value_len: 2,
     entries: 2,
@@ -230,8 +230,8 @@ fn answer<I: Index, D: Deferred>(
     }
 }
 
-/// The lines with the answers that a new map gives.
-fn replay<I: Index, D: Deferred>(
+/// The lines with the answers that a map gives.
+pub(crate) fn replay<I: Index, D: Deferred>(
     alloc: Global,
     map: &mut HashMap<I, D>,
     lines: &str,

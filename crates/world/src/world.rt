@@ -11,7 +11,7 @@ use crate::binding::{certify_maps, certify_programs, first_unbound};
 use crate::fault::WorldFault;
 use bpf_model::MAX_PROGRAMS;
 use maps::Registry;
-use std::alloc::Global;
+use std::alloc::{AllocError, Global};
 use std::marker::Model;
 use world_parts::{Loaded, Parts};
 
@@ -71,6 +71,16 @@ impl World {
             Ok(parts) => Ok(World { parts }),
             Err(_) => Err(WorldFault::Memory),
         }
+    }
+
+    /// An equal world: the same elements, runs, programs and counts, so that it answers every list of events
+    /// as this one would. This one is unchanged. The error is that there is no memory left; the copy takes none
+    /// later.
+    pub fn copy(&self, alloc: Global) -> Result<World, AllocError>
+        ensures same { IfOk result (λ w. w ≡ self.now) }
+    {
+        let parts = self.parts.copy(alloc)?;
+        Ok(World { parts })
     }
 
     /// A law: the world tracks a state of the machine, its programs are verified for its maps, and its counts

@@ -6,6 +6,7 @@
 
 mod asking;
 mod control;
+mod copying;
 mod loaded;
 mod parts;
 mod places;

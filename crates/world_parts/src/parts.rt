@@ -3,6 +3,7 @@ ghost use Rattle.std.specs.Prelude.{◌≡◌, Some, None, [], map, replicate, s
 ghost use Rattle.bpf_model.specs.declared.limits.TheConstants.{MAX_RUNS};
 ghost use Rattle.world_parts.specs.Programs.{program_of};
 
+use crate::copying::{copy_of_programs, copy_of_runs};
 use crate::loaded::Loaded;
 use crate::places::program_at;
 use bpf_model::{MAX_RUNS, ProgId};
@@ -73,6 +74,23 @@ impl Parts {
             runs,
             programs,
             given: 0,
+        })
+    }
+
+    /// Equal parts: the same maps with their names, the same runs at the same slots, the same flags and
+    /// programs. The error is that there is no memory left. Like the original it takes none later.
+    pub fn copy(&self, alloc: Global) -> Result<Parts, AllocError>
+        ensures same { IfOk result (λ w. w ≡ self.now) }
+    {
+        let registry = self.registry.copy()?;
+        let runs = copy_of_runs(alloc, &self.runs)?;
+        let programs = copy_of_programs(alloc, &self.programs)?;
+        Ok(Parts {
+            registry,
+            grace: self.grace.copy(),
+            runs,
+            programs,
+            given: self.given,
         })
     }
 

@@ -1,0 +1,86 @@
+//! Copies of maps and of their registry: a copy answers as the original would, whatever becomes of the other.
+use crate::map_tables::{SMALL, replay};
+use bpf_model::MapId;
+use deferred_free::{Deferred, Threaded, Vectors};
+use hash_index::{Buckets, Index, Sorted};
+use maps::{HashMap, Registry};
+use std::alloc::Global;
+use std::test::Fail;
+
+/// One element is linked, one waits for the end of the grace period, one was unlinked since it began.
+const BEFORE: &str = "put 07 0102 0 = 0\n\
+put 08 0304 0 = 0\n\
+put 07 0506 2 = 0\n\
+advance = ok\n\
+del 08 = 0\n";
+
+/// The slots are given back in the order of unlinking; the second use of the first wears it.
+const AFTER: &str = "put 09 0708 0 = -12\n\
+slot 07 = 2\n\
+above - = 07 0506\n\
+advance = ok\n\
+reap = 07 free\n\
+advance = ok\n\
+reap = 08 free\n\
+put 09 0708 0 = 0\n\
+slot 09 = 0\n\
+above 07 = 09 0708\n\
+del 09 = 0\n\
+advance = ok\n\
+advance = ok\n\
+reap = 09 worn\n\
+reap = none\n";
+
+/// The answers of a copy that is made between `BEFORE` and `AFTER`, when the original has gone on first.
+fn copy_answers<I: Index + Drop, D: Deferred + Drop>(alloc: Global) -> Result<String, Fail> {
+    let mut map: HashMap<I, D> = HashMap::new(alloc, SMALL)?;
+    replay(alloc, &mut map, BEFORE)?;
+    let mut copy = map.copy(alloc)?;
+    replay(alloc, &mut map, AFTER)?;
+    drop(map);
+    replay(alloc, &mut copy, AFTER)
+}
+
+#[test]
+fn copies_of_maps(rt: HostRuntime) -> Result<(), Fail> {
+    let alloc = rt.alloc();
+    let threaded = copy_answers::<Buckets, Threaded>(alloc)?;
+    assert_eq!(rt; threaded.as_str(), AFTER);
+    let vectors = copy_answers::<Sorted, Vectors>(alloc)?;
+    assert_eq!(rt; vectors.as_str(), AFTER);
+    Ok(())
+}
+
+/// What the second map of a registry answers to lines.
+fn second_map(alloc: Global, registry: &mut Registry, lines: &str) -> Result<String, Fail> {
+    if registry.len() < 2 {
+        return Err(Fail::from("no second map"));
+    }
+    replay(alloc, registry.map_mut(MapId::new(1)), lines)
+}
+
+#[test]
+fn copy_of_a_registry(rt: HostRuntime) -> Result<(), Fail> {
+    let alloc = rt.alloc();
+    let mut registry = Registry::new(alloc);
+    let first = registry.create("first", SMALL);
+    assert!(rt; first.is_ok());
+    let second = registry.create("second", SMALL);
+    assert!(rt; second.is_ok());
+    second_map(alloc, &mut registry, BEFORE)?;
+    let mut copy = registry.copy()?;
+    let third = registry.create("third", SMALL);
+    assert!(rt; third.is_ok());
+    second_map(alloc, &mut registry, AFTER)?;
+    drop(registry);
+    assert_eq!(rt; copy.len(), 2);
+    assert_eq!(rt; copy.name(MapId::new(0)), Some("first"));
+    assert_eq!(rt; copy.name(MapId::new(1)), Some("second"));
+    assert_eq!(rt; copy.id("second").map(|id| id.index()), Some(1));
+    assert!(rt; copy.id("third").is_none());
+    let taken = copy.create("first", SMALL);
+    assert_eq!(rt; taken.err().map(|fault| fault.code()), Some(51));
+    let told = second_map(alloc, &mut copy, AFTER)?;
+    assert_eq!(rt; told.as_str(), AFTER);
+    Ok(())
+}

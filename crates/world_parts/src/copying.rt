@@ -1,0 +1,44 @@
+//! Copies of lists that a world keeps.
+ghost use Rattle.std.specs.Prelude.{◌≡◌, IfOk};
+
+use crate::loaded::Loaded;
+use machine::Run;
+use std::alloc::{AllocError, Global};
+
+/// The same run, if there is one.
+fn copy_of_slot(slot: &Option<Run>) -> Option<Run>
+    ensures { result ≡ slot.now }
+{
+    match slot {
+        None => None,
+        Some(run) => Some(run.copy()),
+    }
+}
+
+/// The same runs, at the same slots.
+pub(crate) fn copy_of_runs(
+    alloc: Global,
+    runs: &[Option<Run>],
+) -> Result<Vec<Option<Run>>, AllocError>
+    ensures same { IfOk result (λ v. v.items ≡ runs.now) }
+{
+    let mut copy = Vec::with_capacity(alloc, runs.len())?;
+    for slot in runs {
+        copy.push(copy_of_slot(slot))?;
+    }
+    Ok(copy)
+}
+
+/// The same programs, in the same order.
+pub(crate) fn copy_of_programs(
+    alloc: Global,
+    programs: &[Loaded],
+) -> Result<Vec<Loaded>, AllocError>
+    ensures same { IfOk result (λ v. v.items ≡ programs.now) }
+{
+    let mut copy = Vec::with_capacity(alloc, programs.len())?;
+    for loaded in programs {
+        copy.push(loaded.copy(alloc)?)?;
+    }
+    Ok(copy)
+}
