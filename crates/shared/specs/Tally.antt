@@ -1,10 +1,10 @@
 -- What is counted of a shared world: steps, and the elements that were unlinked and reclaimed.
-use Rattle.std.specs.Prelude.{◌≡◌, ℕ, ◌+◌, ◌^◌, ◌-◌, ◌≤◌, Some, min}
+use Rattle.std.specs.Prelude.{◌≡◌, ℕ, ◌+◌, ◌^◌, ◌-◌, ◌≤◌, Some, min, if◌then◌else◌}
 use Rattle.std.specs.List.{sum_by}
 use Rattle.bpf_model.specs.declared.event.Answer.{Answer}
-use Rattle.bpf_model.specs.declared.event.Answer.TheVariants.{Moved, Exited, Reaped}
+use Rattle.bpf_model.specs.declared.event.Answer.TheVariants.{Reaped}
 use Rattle.bpf_model.specs.View.{WorldView}
-use Rattle.journal_laws.specs.Totals.{unlinked_total}
+use Rattle.journal_laws.specs.Totals.{is_step, unlinked_total}
 use Rattle.maps.specs.Counting.{unlinked_in}
 use Rattle.shared.specs.declared.tally.Totals.{Totals}
 use Rattle.shared.specs.declared.tally.Origin.{Origin}
@@ -19,9 +19,7 @@ origin_of w = record { reclaimed = w.given; unreclaimed = unreclaimed_in w }
 
 -- what an answer adds to the steps, and to the reclaimed elements
 abbrev pub steps_by : Answer → ℕ
-steps_by Moved = 1
-steps_by (Exited n) = 1
-steps_by answer = 0
+steps_by answer = if is_step answer then 1 else 0
 
 abbrev pub reclaimed_by : Answer → ℕ
 reclaimed_by (Reaped (Some element)) = 1

@@ -1,5 +1,5 @@
 //! The world with its journal, and the ledger that counts its entries. No method waits.
-ghost use Rattle.std.specs.Prelude.{◌≡◌, ℕ, ◌+◌, ◌-◌, ◌^◌, ◌<◌, ◌≤◌, ◌↔◌, ◌⊎◌, List, [], length, IsTrue, IfOk, IfSome, IfNone, OnErr, OnOk, Err, Ok, option_copied};
+ghost use Rattle.std.specs.Prelude.{◌≡◌, ℕ, ◌+◌, ◌-◌, ◌^◌, ◌<◌, ◌≤◌, ◌↔◌, ◌⊎◌, List, [], length, IsTrue, true, IfOk, IfSome, IfNone, OnErr, OnOk, Err, Ok, option_copied};
 ghost use Rattle.journal_laws.specs.Replay.{Replays, HasNoRuns};
 ghost use Rattle.shared.specs.Receipts.{IsExitOf};
 ghost use Rattle.shared.specs.Tally.{IsTallyOf, origin_of};
@@ -26,6 +26,7 @@ pub struct Books<L: Ledger> {
     world: World,
     journal: Journal,
     before: u64,
+    steps_before: u64,
     tally: Tally,
     book: Book<L>,
 }
@@ -40,9 +41,9 @@ impl<L: Ledger> Model for Books<L> {
 
     ghost use Rattle.shared.specs.Books.{books_view, AreBalanced};
 
-    ghost view = { λ b. books_view b.base b.world b.journal b.before b.tally };
+    ghost view = { λ b. books_view b.base b.world b.journal b.before b.steps_before b.tally };
 
-    ghost invariant = { λ b. AreBalanced (books_view b.base b.world b.journal b.before b.tally) b.book.total };
+    ghost invariant = { λ b. AreBalanced (books_view b.base b.world b.journal b.before b.steps_before b.tally) b.book.total };
 }
 
 /// What a shared world leaves: the base, the world now, and the journal from the one to the other.
@@ -66,7 +67,7 @@ fn make_room(journal: &mut Journal, before: u64) -> Result<(), SharedFault>
     ensures full { (result ≡ Err fault.JournalFull)
         ↔ ((length journal.old.entries ≡ journal.old.limit)
         ⊎ (before + length journal.old.entries ≡ 2 ^ 64 - 1)) }
-    ensures room { OnOk result (IsTrue journal.new.has_room) }
+    ensures room { OnOk result (journal.new.has_room ≡ true) }
     ensures entries { journal.new.entries ≡ journal.old.entries }
     ensures limit { journal.new.limit ≡ journal.old.limit }
 {
@@ -91,16 +92,18 @@ impl<L: Ledger> Books<L> {
         ensures world { result.world ≡ base }
         ensures journal { result.journal ≡ [] }
         ensures limit { result.limit ≡ journal.limit }
-        ensures before { result.before ≡ 0 }
+        ensures before { (result.before ≡ 0) × (result.steps_before ≡ 0) }
         ensures origin { result.tally.origin ≡ origin_of base }
         ensures totals { result.tally.totals ≡ record { steps = 0; unlinked = 0; reclaimed = 0 } }
     {
+        base.is_world();
         let tally = Tally::new(&world);
         Books {
             base,
             world,
             journal,
             before: 0,
+            steps_before: 0,
             tally,
             book,
         }
@@ -127,6 +130,7 @@ impl<L: Ledger> Books<L> {
             return Receipt::new(worker.number, worker.made, event, Err(fault));
         }
         event.is_real();
+        self.world.is_world();
         let answer = self.world.apply(&event);
         self.tally.count(&answer, unreclaimed(&self.world));
         self.book.audit(&mut worker.share);
@@ -190,6 +194,7 @@ impl<L: Ledger> Books<L> {
             Ok(base) => {
                 self.base = base;
                 self.before += self.journal.len() as u64;
+                self.steps_before = self.tally.totals.steps;
                 self.journal.cut();
                 Ok(())
             }
@@ -220,6 +225,7 @@ impl<L: Ledger> Books<L> {
             world,
             journal,
             before: _,
+            steps_before: _,
             tally: _,
             book: _,
         } = self;
