@@ -3,7 +3,7 @@ ghost use Rattle.std.specs.Prelude.{◌≡◌, ◌≢◌, ◌⊎◌, List, [], �
 ghost use Rattle.std.specs.Io.KnownBytes.{Appends};
 ghost use Rattle.bpf_model.specs.Plain.{IsPlain};
 ghost use Rattle.typed_runs.specs.Verified.{IsVerified};
-ghost use Rattle.verifier.specs.Verdict.{IsToldOf, IsAcceptedText as IsTaken};
+ghost use Rattle.verifier.specs.Verdict.{IsToldOf, IsAccepted as IsTaken};
 ghost use Rattle.bpfrt.specs.Files.{HoldsBytes};
 ghost use Rattle.bpfrt.specs.Outputs.{IsAcceptedText, IsTextOf, IsDecodeRefusal, IsCheckedRefusal, IsRefusedByDecode, IsRefusedByCheck, IsRefusedBy, accepted_line, WritesAccepted, WritesText, WritesFile};
 

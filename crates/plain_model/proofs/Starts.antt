@@ -3,12 +3,9 @@ use Rattle.std.proofs.Common.{◌≡◌, ℕ, zero, suc, ◌+◌, List, [], ◌�
 use Rattle.std.specs.Prelude.{replicate}
 use Rattle.std.proofs.lemmas.List.{replicate-append-replicate}
 use Rattle.bpf_model.specs.declared.limits.MapShape.{MapShape}
-use Rattle.bpf_model.specs.Schedule.{Queues}
 use Rattle.plain_runs.specs.declared.run.Loaded.{Loaded}
 use Rattle.plain_runs.specs.State.{runs_of}
-
-abbrev pub no_queues : Queues
-no_queues = record { next = []; waiting = []; ready = [] }
+use Rattle.plain_model.specs.State.{no_queues}
 
 pub one-more-copy : {A : Type 0} (n : ℕ) (x : A) → replicate n x ++ x ∷ [] ≡ replicate (n + 1) x
 one-more-copy n x = replicate-append-replicate n 1 x

@@ -1,15 +1,16 @@
 //! The whole machine: runs, events, and the runtime's own choices.
-ghost use Rattle.std.specs.Prelude.{ℕ, ◌≡◌, None, Some, IfOk, OnOk, List, map};
+ghost use Rattle.std.specs.Prelude.{ℕ, ◌≡◌, None, Some, IfOk, OnOk, List, map, replicate, false};
+ghost use Rattle.bpf_model.specs.declared.limits.TheConstants.{MAX_RUNS};
 ghost use Rattle.bpf_model.specs.declared.event.Event.TheVariants as events;
 ghost use Rattle.bpf_model.specs.Element.{Element as ModelElement};
 ghost use Rattle.bpf_model.specs.Event.{step_refusal as step_refusal_of, drop_refusal as drop_refusal_of, key_refusal as key_refusal_of, update_refusal as update_refusal_of};
 ghost use Rattle.bpf_model.specs.MapState.{shape_of};
 ghost use Rattle.bpf_model.specs.Machine.{run_at, open_sections as open_sections_of, lowest_free as lowest_free_of};
 ghost use Rattle.bpf_model.specs.Schedule.{start_schedule, DoesScheduled, TakesOldest, advanced, is_any as is_any_of};
-ghost use Rattle.plain_store.specs.State.{store_of, sections_of};
+ghost use Rattle.plain_store.specs.State.{store_of, sections_of, queues_of};
 ghost use Rattle.plain_store.specs.Retiring.{linked_map};
 ghost use Rattle.plain_runs.specs.State.{loaded_of, runs_of};
-ghost use Rattle.plain_model.specs.State.{machine_of, schedule_of};
+ghost use Rattle.plain_model.specs.State.{machine_of, schedule_of, no_queues};
 ghost use Rattle.plain_model.specs.Following.{settled, is_turn as is_turn_of, FollowsLists, DoesAs};
 
 use crate::grace::{is_any, still_open};
@@ -48,6 +49,43 @@ pub struct Machine {
     programs: Vec<Loaded>,
 }
 
+/// Empty lists for so many maps.
+fn new_queues(alloc: Global, count: usize) -> Result<Vec<Queues>, AllocError>
+    ensures queues { IfOk result (λ qs. map queues_of qs.items ≡ replicate count no_queues) }
+{
+    let mut queues = Vec::new(alloc);
+    for _ in 0..count {
+        queues.push(Queues {
+            next: Vec::new(alloc),
+            waiting: Vec::new(alloc),
+            ready: Vec::new(alloc),
+        })?;
+    }
+    Ok(queues)
+}
+
+/// The run slots, none of them occupied.
+fn no_runs(alloc: Global) -> Result<Vec<Option<Run>>, AllocError>
+    ensures runs { IfOk result (λ runs. runs.items ≡ replicate MAX_RUNS None) }
+{
+    let mut runs = Vec::new(alloc);
+    for _ in 0..MAX_RUNS {
+        runs.push(None)?;
+    }
+    Ok(runs)
+}
+
+/// For each run slot, that it is not awaited.
+fn none_awaited(alloc: Global) -> Result<Vec<bool>, AllocError>
+    ensures awaited { IfOk result (λ flags. flags.items ≡ replicate MAX_RUNS false) }
+{
+    let mut awaited = Vec::new(alloc);
+    for _ in 0..MAX_RUNS {
+        awaited.push(false)?;
+    }
+    Ok(awaited)
+}
+
 impl Machine {
     /// Maps of these shapes with nothing in them, these programs, and no run.
     pub fn new(
@@ -58,26 +96,12 @@ impl Machine {
         ensures start { IfOk result
             (λ m. schedule_of m ≡ start_schedule shapes.now (map loaded_of programs.items)) }
     {
-        let mut queues = Vec::new(alloc);
-        for _ in 0..shapes.len() {
-            queues.push(Queues {
-                next: Vec::new(alloc),
-                waiting: Vec::new(alloc),
-                ready: Vec::new(alloc),
-            })?;
-        }
-        let mut runs = Vec::new(alloc);
-        let mut awaited = Vec::new(alloc);
-        for _ in 0..MAX_RUNS {
-            runs.push(None)?;
-            awaited.push(false)?;
-        }
         Ok(Machine {
             alloc,
             store: Store::new(alloc, shapes)?,
-            queues,
-            runs,
-            awaited,
+            queues: new_queues(alloc, shapes.len())?,
+            runs: no_runs(alloc)?,
+            awaited: none_awaited(alloc)?,
             started: 0,
             programs,
         })

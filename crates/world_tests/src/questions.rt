@@ -80,8 +80,13 @@ fn exits_of_runs(rt: HostRuntime) -> Result<(), Fail> {
     let loading = verified(alloc, &LOADING)?;
     let other = verified(alloc, &OTHER)?;
     for (slot, is_loading, byte, exit) in &EXITS {
-        let program = if *is_loading { &loading } else { &other };
-        let told = world.exit_of(RunId::new(*slot), program, &bytes_of(&[*byte]));
+        let run = RunId::new(*slot);
+        let context: CtxBytes = bytes_of(&[*byte]);
+        let told = if *is_loading {
+            world.exit_of(run, &loading, &context)
+        } else {
+            world.exit_of(run, &other, &context)
+        };
         assert_eq!(rt; told, *exit, "slot {slot}");
     }
     let longer = world.exit_of(RunId::new(0), &loading, &CtxBytes::new());
