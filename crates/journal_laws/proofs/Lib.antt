@@ -1,0 +1,5 @@
+pub mod Fitting
+pub mod Replaying
+pub mod Counting
+pub mod Growing
+pub mod Sharing

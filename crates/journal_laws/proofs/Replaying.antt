@@ -1,0 +1,131 @@
+-- Journals that replay.
+use Rattle.std.proofs.Common.{◌≡◌, ◌∙◌, ℕ, zero, suc, ◌≤◌, List, [], ◌∷◌, ◌++◌, map, length, Some, None, Option, refl, sym, ap, subst, arith}
+use Rattle.std.specs.Prelude.{slice_get}
+use Rattle.std.proofs.lemmas.List.{map_push, length-map}
+use Rattle.std.proofs.lemmas.Option.{none-some, same_Some}
+use Rattle.bpf_model.specs.declared.event.Event.{Event}
+use Rattle.bpf_model.specs.declared.event.Answer.{Answer}
+use Rattle.bpf_model.specs.Element.{Element}
+use Rattle.bpf_model.specs.Event.{DoesEvent, IsReal, AreReal}
+use Rattle.bpf_model.specs.Drain.{AreScheduledAnswers}
+use Rattle.bpf_model.specs.Headline.{AreMachineAnswers, AreNeverStuck, AllExitInTime, AreReclaimedLate}
+use Rattle.bpf_model.specs.History.{MachineRun, IsHistory, last_machine}
+use Rattle.bpf_model.specs.Machine.{Loaded, Machine, Run, run_at, run_in}
+use Rattle.bpf_model.specs.Refines.{Tracks, TracksSchedule, SlotRefines}
+use Rattle.bpf_model.specs.Replay as machine
+use Rattle.bpf_model.specs.View.{RunView, WorldView}
+use Rattle.view_laws.specs.Reactions.{run_shown}
+use Rattle.world_laws.specs.Reacting.{full_reaction, full_reactions}
+use Rattle.world_laws.proofs.Worlds.{answers_machine, answers_scheduled, never_stuck, exit_in_time, reclaimed_late}
+use Rattle.world_invariant.specs.Invariant.{IsWorld}
+use Rattle.world_invariant.proofs.Keeping.{reactions_make_world, answers_more, view_more}
+use Rattle.journal.specs.declared.entry.Entry.{Entry}
+use Rattle.journal_laws.specs.Replay.{HasNoRuns, Replays, answers_of, events_of, machine_entry}
+
+pub empty_replays : (w : WorldView) → IsWorld w → HasNoRuns w → Replays w w []
+empty_replays w is quiet = record {
+  quiet = quiet;
+  base_is = is;
+  real = λ k event at. absurd (none-some event at);
+  answers = refl;
+  world_is = refl;
+}
+
+pub run_all_replays : (base : WorldView) (entries : List Entry) → IsWorld base → HasNoRuns base → AreReal (events_of entries) → answers_of entries ≡ (full_reactions base (events_of entries)).0 → Replays base (full_reactions base (events_of entries)).1 entries
+run_all_replays base entries is quiet real answers = record { quiet = quiet; base_is = is; real = real; answers = answers; world_is = refl }
+
+pub replays_to_world : (base world : WorldView) (entries : List Entry) → Replays base world entries → IsWorld world
+replays_to_world base world entries h = subst IsWorld (sym h.world_is) (reactions_make_world base (events_of entries) h.base_is h.real)
+
+real-more : (events : List Event) (event : Event) → AreReal events → IsReal event → AreReal (events ++ event ∷ [])
+real-more [] event all real zero e at = subst IsReal (same_Some event e at) real
+real-more [] event all real (suc k) e at = absurd (none-some e at)
+real-more (first ∷ events) event all real zero e at = all 0 e at
+real-more (first ∷ events) event all real (suc k) e at = real-more events event (λ j x h. all (suc j) x h) real k e at
+
+pub replays_push : (base world new : WorldView) (entries : List Entry) (entry : Entry) → Replays base world entries → IsReal entry.event → entry.answer ≡ (full_reaction world entry.event).0 → new ≡ (full_reaction world entry.event).1 → Replays base new (entries ++ entry ∷ [])
+replays_push base world new entries entry h real answer is =
+    let events = events_of entries in
+    let longer : events_of (entries ++ entry ∷ []) ≡ events ++ entry.event ∷ [] = map_push (λ (e : Entry). e.event) entries entry in
+    let others : answers_of (entries ++ entry ∷ []) ≡ answers_of entries ++ entry.answer ∷ [] = map_push (λ (e : Entry). e.answer) entries entry in
+    let last : entry.answer ≡ (full_reaction (full_reactions base events).1 entry.event).0 = answer ∙ ap (λ (w : WorldView). (full_reaction w entry.event).0) h.world_is in
+    let answered : answers_of entries ++ entry.answer ∷ [] ≡ (full_reactions base (events ++ entry.event ∷ [])).0 =
+        ap (λ (xs : List Answer). xs ++ entry.answer ∷ []) h.answers
+        ∙ (ap (λ (x : Answer). (full_reactions base events).0 ++ x ∷ []) last ∙ sym (answers_more base events entry.event)) in
+    let view : new ≡ (full_reactions base (events ++ entry.event ∷ [])).1 =
+        is ∙ (ap (λ (w : WorldView). (full_reaction w entry.event).1) h.world_is ∙ sym (view_more base events entry.event)) in
+    record {
+      quiet = h.quiet;
+      base_is = h.base_is;
+      real = subst AreReal (sym longer) (real-more events entry.event h.real real);
+      answers = others ∙ (answered ∙ ap (λ (xs : List Event). (full_reactions base xs).0) (sym longer));
+      world_is = view ∙ ap (λ (xs : List Event). (full_reactions base xs).1) (sym longer);
+    }
+
+-- on the machine
+history-run : (m : Machine) (events : List Event) (answers : List Answer) (states : List Machine) → IsHistory m events answers states → MachineRun m events answers (last_machine m states)
+history-run m [] [] [] h = refl
+history-run m (event ∷ events) (answer ∷ answers) (next ∷ states) h = (next, h.0, history-run next events answers states h.1)
+history-run m events answers states h = absurd h
+
+quiet-slot : (slots : List ℕ) (es : List Element) (programs : List Loaded) (o : Option (Option RunView)) (p : Option (Option Run)) → SlotRefines slots es programs o p → run_shown o ≡ None → run_in p ≡ None
+quiet-slot slots es programs None None h e = refl
+quiet-slot slots es programs (Some None) (Some None) h e = refl
+quiet-slot slots es programs (Some (Some v)) (Some (Some run)) h e = absurd (none-some v (sym e))
+quiet-slot slots es programs o p h e = absurd h
+
+quiet-machine : (base : WorldView) (m : Machine) → HasNoRuns base → Tracks base m → machine.IsQuiet m
+quiet-machine base m quiet t r =
+    let s = t.0 in
+    let here : run_at s.machine.runs r ≡ None = quiet-slot t.2.refines.slots s.machine.store.elements s.machine.programs (slice_get base.runs r) (slice_get s.machine.runs r) (t.2.refines.runs r) (quiet r) in
+    subst (λ (x : Machine). run_at x.runs r ≡ None) t.1 here
+
+same-events : (entries : List Entry) → map (λ (e : machine.JournalEntry). e.event) (map machine_entry entries) ≡ events_of entries
+same-events [] = refl
+same-events (e ∷ entries) = ap (λ (xs : List Event). e.event ∷ xs) (same-events entries)
+
+same-answers : (entries : List Entry) → map (λ (e : machine.JournalEntry). e.answer) (map machine_entry entries) ≡ answers_of entries
+same-answers [] = refl
+same-answers (e ∷ entries) = ap (λ (xs : List Answer). e.answer ∷ xs) (same-answers entries)
+
+pub replays_on_machine : (base world : WorldView) (entries : List Entry) → Replays base world entries → length entries ≤ 16777216 → (m : Machine) → Tracks base m → (last : Machine) × machine.Replays m (map machine_entry entries) last × Tracks world last
+replays_on_machine base world entries h short m t =
+    let run = answers_machine base (events_of entries) h.base_is.ready h.real m t in
+    let last = last_machine m run.0 in
+    let moved : MachineRun m (events_of entries) (answers_of entries) last = subst (λ (xs : List Answer). MachineRun m (events_of entries) xs last) (sym h.answers) (history-run m (events_of entries) (full_reactions base (events_of entries)).0 run.0 run.1) in
+    let l : length (map machine_entry entries) ≡ length entries = length-map entries machine_entry in (
+      last,
+      record {
+        quiet = quiet-machine base m h.quiet t;
+        short = omega (arith, l, short);
+        real = subst AreReal (sym (same-events entries)) h.real;
+        replay = subst (λ (es : List Event). MachineRun m es (map (λ (e : machine.JournalEntry). e.answer) (map machine_entry entries)) last) (sym (same-events entries))
+            (subst (λ (xs : List Answer). MachineRun m (events_of entries) xs last) (sym (same-answers entries)) moved);
+      },
+      subst (λ (w : WorldView). Tracks w last) (sym h.world_is) run.2,
+    )
+
+-- the main theorem over a whole journal
+pub scheduled_over : (base world : WorldView) (entries : List Entry) → Replays base world entries → AreScheduledAnswers TracksSchedule base (events_of entries) (answers_of entries) world
+scheduled_over base world entries h =
+    let law = answers_scheduled base (events_of entries) h.base_is.ready h.real in
+    subst (λ (w : WorldView). AreScheduledAnswers TracksSchedule base (events_of entries) (answers_of entries) w) (sym h.world_is)
+        (subst (λ (xs : List Answer). AreScheduledAnswers TracksSchedule base (events_of entries) xs (full_reactions base (events_of entries)).1) (sym h.answers) law)
+
+pub machine_over : (base world : WorldView) (entries : List Entry) → Replays base world entries → AreMachineAnswers Tracks base (events_of entries) (answers_of entries) world
+machine_over base world entries h =
+    let law = answers_machine base (events_of entries) h.base_is.ready h.real in
+    subst (λ (w : WorldView). AreMachineAnswers Tracks base (events_of entries) (answers_of entries) w) (sym h.world_is)
+        (subst (λ (xs : List Answer). AreMachineAnswers Tracks base (events_of entries) xs (full_reactions base (events_of entries)).1) (sym h.answers) law)
+
+pub never_stuck_over : (base world : WorldView) (entries : List Entry) → Replays base world entries → AreNeverStuck Tracks base (events_of entries) (answers_of entries)
+never_stuck_over base world entries h =
+    subst (λ (xs : List Answer). AreNeverStuck Tracks base (events_of entries) xs) (sym h.answers) (never_stuck base (events_of entries) h.base_is.ready h.real)
+
+pub exits_over : (base world : WorldView) (entries : List Entry) → Replays base world entries → AllExitInTime Tracks base (events_of entries) (answers_of entries)
+exits_over base world entries h =
+    subst (λ (xs : List Answer). AllExitInTime Tracks base (events_of entries) xs) (sym h.answers) (exit_in_time base (events_of entries) h.base_is.ready h.real)
+
+pub reclaimed_over : (base world : WorldView) (entries : List Entry) → Replays base world entries → AreReclaimedLate Tracks base (events_of entries) (answers_of entries)
+reclaimed_over base world entries h =
+    subst (λ (xs : List Answer). AreReclaimedLate Tracks base (events_of entries) xs) (sym h.answers) (reclaimed_late base (events_of entries))

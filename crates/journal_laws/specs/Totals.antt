@@ -1,0 +1,47 @@
+-- What is counted since a world began, and of whom an entry is.
+use Rattle.std.specs.Prelude.{◌≡◌, ℕ, ◌+◌, ◌<◌, ◌==◌, Bool, true, false, not, List, Some, length, slice_get, count_by}
+use Rattle.std.specs.List.{filter, range_with_len, sum_by}
+use Rattle.bpf_model.specs.declared.event.Answer.{Answer}
+use Rattle.bpf_model.specs.declared.event.Answer.TheVariants.{Moved, Exited}
+use Rattle.bpf_model.specs.Element.{is_linked, is_reclaimed}
+use Rattle.bpf_model.specs.Machine.{Machine}
+use Rattle.bpf_model.specs.View.{WorldView}
+use Rattle.maps.specs.Counting.{unlinked_in}
+use Rattle.journal.specs.declared.entry.Entry.{Entry}
+
+-- The steps that runs have taken: the entries answered Moved or Exited.
+abbrev pub is_step : Answer → Bool
+is_step Moved = true
+is_step (Exited value) = true
+is_step answer = false
+
+abbrev pub steps_of : List Entry → ℕ
+steps_of entries = count_by (λ e. is_step e.answer) entries
+
+-- The machine's elements that were ever unlinked, and those of them that were reclaimed.
+abbrev pub ever_unlinked : Machine → ℕ
+ever_unlinked m = count_by (λ e. not (is_linked e.life)) m.store.elements
+
+abbrev pub ever_reclaimed : Machine → ℕ
+ever_reclaimed m = count_by (λ e. is_reclaimed e.life) m.store.elements
+
+-- The same of a world, which keeps no reclaimed element: those that it reclaimed, and those that wait.
+abbrev pub reclaimed_total : WorldView → ℕ
+reclaimed_total w = w.given
+
+abbrev pub unlinked_total : WorldView → ℕ
+unlinked_total w = w.given + sum_by unlinked_in w.maps
+
+-- The entries of one worker, in order; its share of the journal is how many they are.
+abbrev pub entries_by : ℕ → List Entry → List Entry
+entries_by worker entries = filter (λ e. e.worker == worker) entries
+
+abbrev pub share_of : List Entry → ℕ → ℕ
+share_of entries worker = length (entries_by worker entries)
+
+-- Each entry is of one of so many workers, and the shares of all of them.
+abbrev pub AreOf : ℕ → List Entry → Type 0
+AreOf workers entries = (k : ℕ) (e : Entry) → slice_get entries k ≡ Some e → e.worker < workers
+
+abbrev pub shares : ℕ → List Entry → ℕ
+shares workers entries = sum_by (share_of entries) (range_with_len 0 workers)

@@ -1,0 +1,70 @@
+//! Adding, reading back, a full journal, and cutting.
+ghost use Rattle.std.specs.Prelude.{◌≡◌, true};
+ghost use Rattle.journal.specs.Entries.{IsAnswerTo};
+
+use crate::entries::{KINDS, of_kind};
+use journal::{Entry, Journal, JournalFault};
+use std::alloc::{AllocError, Global};
+use std::process::Abort;
+use std::test::Fail;
+
+/// The text of an entry, with all that it has.
+fn shown(alloc: Global, entry: &Entry) -> Result<String, AllocError> {
+    format!(in alloc; "{entry:?}")
+}
+
+/// Adds an entry. Where memory was refused once, nothing has changed, and the same call succeeds later.
+fn add<R: Abort>(rt: &R, journal: &mut Journal, entry: &Entry) -> Result<(), JournalFault>
+    requires { IsAnswerTo entry.now.event entry.now.answer }
+{
+    let before = journal.len();
+    if let Err(fault) = journal.reserve_one() {
+        assert_eq!(rt; fault, JournalFault::Memory);
+        assert_eq!(rt; journal.len(), before);
+        journal.reserve_one()?;
+    }
+    journal.push(entry);
+    assert_eq!(rt; journal.len(), before + 1);
+    Ok(())
+}
+
+#[test]
+fn every_kind_is_read_back(rt: HostRuntime) -> Result<(), Fail> {
+    let mut journal = Journal::new(rt.alloc());
+    assert!(rt; journal.is_empty());
+    assert_eq!(rt; journal.limit(), 16_777_216);
+    for round in 0..3 {
+        for kind in 0..KINDS {
+            add(&rt, &mut journal, &of_kind(kind))?;
+        }
+        assert_eq!(rt; journal.len(), (round + 1) * KINDS);
+    }
+    for index in 0..3 * KINDS {
+        let Some(entry) = journal.entry(index) else {
+            return Err(Fail::new("an entry is missing"));
+        };
+        let found = shown(rt.alloc(), &entry)?;
+        let wanted = shown(rt.alloc(), &of_kind(index % KINDS))?;
+        assert_eq!(rt; found.as_str(), wanted.as_str());
+    }
+    assert!(rt; journal.entry(3 * KINDS).is_none());
+    Ok(())
+}
+
+#[test]
+fn a_full_journal_is_cut(rt: HostRuntime) -> Result<(), Fail> {
+    let mut journal = Journal::with_limit(rt.alloc(), 2);
+    assert_eq!(rt; journal.limit(), 2);
+    for _ in 0..2 {
+        assert!(rt; journal.is_empty());
+        add(&rt, &mut journal, &of_kind(3))?;
+        add(&rt, &mut journal, &of_kind(8))?;
+        assert_eq!(rt; journal.reserve_one(), Err(JournalFault::Full));
+        assert_eq!(rt; journal.len(), 2);
+        journal.cut();
+        assert!(rt; journal.entry(0).is_none());
+    }
+    assert_eq!(rt; JournalFault::Full.code(), 70);
+    assert_eq!(rt; JournalFault::Memory.code(), 13);
+    Ok(())
+}
