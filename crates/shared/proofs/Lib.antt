@@ -1,3 +1,4 @@
 pub mod Meters
 pub mod Counting
+pub mod Balance
 pub mod Quiet

@@ -12,8 +12,8 @@ use Rattle.shared.specs.declared.tally.Tally.{Tally}
 use Rattle.shared.specs.declared.tally.Totals.{Totals}
 use Rattle.shared.specs.Tally.{IsTallyOf, steps_by}
 
--- The base, the world now, the entries from the one to the other and how many there may be, how many entries there were before the base
--- and how many of them were steps, and what is counted.
+-- The base, the world now, the entries from the one to the other and how many there may be, how
+-- many entries there were before the base and how many of them were steps, and what is counted.
 pub record BooksView : Type 0 where
   pub base : WorldView
   pub world : WorldView
@@ -23,8 +23,9 @@ pub record BooksView : Type 0 where
   pub steps_before : ℕ
   pub tally : Tally
 
--- The books balance: the journal replays from the base, which has no run, to the world; the ledger's total is the number of the entries before
--- the base and of those in the journal; the totals are the world's, and no greater than that number.
+-- The books balance: the journal replays from the base, which has no run, to the world; the
+-- ledger's total is the number of the entries before the base and of those in the journal; the
+-- totals are the world's, and no greater than that number.
 pub record AreBalanced (b : BooksView) (total : ℕ) : Type 0 where
   pub replays : Replays b.base b.world b.journal
   pub count : b.before + length b.journal ≡ total
@@ -52,13 +53,17 @@ books_view base world journal before steps_before tally = record {
   tally = tally;
 }
 
--- no further entry can be made: the journal has as many as it may have, or as many as a number can count were made
+-- no further entry can be made: the journal has as many as it may have, or as many as a number can
+-- count were made
 abbrev pub IsJournalFull : BooksView → Type 0
 IsJournalFull b = (length b.journal ≡ b.limit) ⊎ (b.before + length b.journal ≡ 2 ^ 64 - 1)
 
--- One event: its entry is added, the answer and the new world are the world's reaction, and what is counted goes on.
-pub record Enters (old : BooksView) (worker : ℕ) (event : Event) (answer : Answer) (new : BooksView) : Type 0 where
-  pub journal : new.journal ≡ old.journal ++ (record { worker = worker; event = event; answer = answer }) ∷ []
+-- One event: its entry is added, the answer and the new world are the world's reaction, and what is
+-- counted goes on.
+pub record Enters (old : BooksView) (worker : ℕ) (event : Event) (answer : Answer) (new : BooksView)
+    : Type 0 where
+  pub journal : new.journal ≡ old.journal
+      ++ (record { worker = worker; event = event; answer = answer }) ∷ []
   pub answers : answer ≡ (full_reaction old.world event).0
   pub world : new.world ≡ (full_reaction old.world event).1
   pub base : new.base ≡ old.base
@@ -74,7 +79,8 @@ pub record TotalsRise (old new : Totals) : Type 0 where
   pub unlinked : old.unlinked ≤ new.unlinked
   pub reclaimed : old.reclaimed ≤ new.reclaimed
 
--- The world now is the base, and the journal is empty; its entries are counted as those before the base.
+-- The world now is the base, and the journal is empty; its entries are counted as those before the
+-- base.
 pub record CutsTo (old new : BooksView) : Type 0 where
   pub base : new.base ≡ old.world
   pub world : new.world ≡ old.world

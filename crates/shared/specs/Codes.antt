@@ -13,5 +13,13 @@ abbrev pub books_code : Coded BooksView
 books_code = code_by (WorldView × (WorldView × (List Entry × (ℕ × (ℕ × (ℕ × Tally))))))
     (coded× world_code (coded× world_code (coded× (coded_list entry.the_row.coded) (coded× coded_ℕ (coded× coded_ℕ (coded× coded_ℕ tally.the_row.coded))))))
     (λ b. (b.base, (b.world, (b.journal, (b.limit, (b.before, (b.steps_before, b.tally)))))))
-    (λ p. record { base = p.0; world = p.1.0; journal = p.1.1.0; limit = p.1.1.1.0; before = p.1.1.1.1.0; steps_before = p.1.1.1.1.1.0; tally = p.1.1.1.1.1.1 })
+    (λ p. record {
+      base = p.0;
+      world = p.1.0;
+      journal = p.1.1.0;
+      limit = p.1.1.1.0;
+      before = p.1.1.1.1.0;
+      steps_before = p.1.1.1.1.1.0;
+      tally = p.1.1.1.1.1.1;
+    })
     (λ _. refl)

@@ -24,13 +24,16 @@ pub record NoteView : Type 0 where
   pub context : List ℕ
   pub exit : Option ℕ
 
--- In the world the run has exited with this value, of the program that was asked for on the context.
+-- In the world the run has exited with this value, of the program that was asked for on the
+-- context.
 abbrev pub IsExitOf : WorldView → ℕ → Option Checked → List ℕ → ℕ → Type 0
 IsExitOf w run None context n = ⊥
 IsExitOf w run (Some program) context n = HasExited w run program.program context n
 
--- In some world, with the programs that are asked for by number, the run has exited with this value.
-pub record HasExitedOnce (programs : List Checked) (run prog : ℕ) (context : List ℕ) (n : ℕ) : Type 0 where
+-- In some world, with the programs that are asked for by number, the run has exited with this
+-- value.
+pub record HasExitedOnce (programs : List Checked) (run prog : ℕ) (context : List ℕ) (n : ℕ)
+    : Type 0 where
   pub world : WorldView
   pub is_world : IsWorld world
   pub exited : IsExitOf world run (slice_get programs prog) context n

@@ -11,7 +11,7 @@ use crate::fault::{CutFault, SharedFault};
 use crate::receipt::{ExitNote, Receipt};
 use crate::state::{State, begin};
 use crate::tally::Origin;
-use crate::worker::{Worker, Workers, hands};
+use crate::worker::{Worker, Workers, hands, merged};
 use bpf_model::{Answer, CtxBytes, Event, MAX_PROGRAMS, ProgId, RunId};
 use journal::Journal;
 use std::alloc::{AllocError, Global};
@@ -185,7 +185,8 @@ impl<L: Ledger> Shared<L> {
             ≡ sum_by (λ w. w.made) workers.list.items) }
     {
         let Shared { state, programs: _ } = self;
-        let mut all = workers.merged();
+        let Workers { list } = workers;
+        let mut all = merged(list);
         state.into_inner().finish(&mut all)
     }
 }

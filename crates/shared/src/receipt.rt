@@ -94,8 +94,14 @@ impl Model for ExitNote {
 
     ghost Value = { NoteView };
 
-    ghost view = { λ n. record { worker = n.worker; number = n.number; run = n.run; prog = n.prog;
-        context = n.context.items; exit = n.exit } };
+    ghost view = { λ n. record {
+      worker = n.worker;
+      number = n.number;
+      run = n.run;
+      prog = n.prog;
+      context = n.context.items;
+      exit = n.exit;
+    } };
 }
 
 /// A copy of a context.
@@ -118,8 +124,14 @@ impl ExitNote {
         ctx: &CtxBytes,
         exit: Option<u64>,
     ) -> ExitNote
-        ensures { result ≡ record { worker = worker; number = number; run = run; prog = prog;
-            context = ctx.now.items; exit = exit } }
+        ensures { result ≡ record {
+          worker = worker;
+          number = number;
+          run = run;
+          prog = prog;
+          context = ctx.now.items;
+          exit = exit;
+        } }
     {
         ExitNote {
             worker,

@@ -72,7 +72,10 @@ impl Origin {
     pub(crate) fn shown(self, steps: u64, unlinked: u64, reclaimed: u64) -> Totals
         ensures { result ≡ shown_totals self steps unlinked reclaimed }
     {
-        let unlinked = self.reclaimed.saturating_add(self.unreclaimed).saturating_add(unlinked);
+        let unlinked = self
+            .reclaimed
+            .saturating_add(self.unreclaimed)
+            .saturating_add(unlinked);
         Totals {
             steps,
             unlinked,

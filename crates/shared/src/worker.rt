@@ -90,21 +90,18 @@ pub(crate) fn hands<L: Ledger>(
     Ok(Workers { list })
 }
 
-impl<L: Ledger> Workers<L> {
-    /// The shares of all workers in one.
-    pub(crate) fn merged(self) -> Share<L>
-        requires some { 0 < vec_len self.list }
-        ensures parts { result.parts ≡ vec_len self.list }
-        ensures amount { result.amount ≡ sum_by (λ w. w.made) self.list.items }
-    {
-        let Workers { list: mut workers } = self;
-        let Some(last) = workers.pop() else {
-            unreachable!()
-        };
-        let mut all = last.into_share();
-        while let Some(worker) = workers.pop() {
-            all.merge(worker.into_share());
-        }
-        all
+/// The shares of all workers in one.
+pub(crate) fn merged<L: Ledger>(mut workers: Vec<Worker<L>>) -> Share<L>
+    requires some { 0 < vec_len workers }
+    ensures parts { result.parts ≡ vec_len workers }
+    ensures amount { result.amount ≡ sum_by (λ w. w.made) workers.items }
+{
+    let Some(last) = workers.pop() else {
+        unreachable!()
+    };
+    let mut all = last.into_share();
+    while let Some(worker) = workers.pop() {
+        all.merge(worker.into_share());
     }
+    all
 }

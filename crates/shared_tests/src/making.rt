@@ -89,7 +89,12 @@ pub fn read(key: u8) -> Event {
 }
 
 /// A world with one map, and one program that was verified against its shape or against no map.
-pub fn world_of<R: Abort>(rt: &R, alloc: Global, code: &[u8], with_map: bool) -> Result<World, Fail> {
+pub fn world_of<R: Abort>(
+    rt: &R,
+    alloc: Global,
+    code: &[u8],
+    with_map: bool,
+) -> Result<World, Fail> {
     let mut registry = Registry::new(alloc);
     registry.create("m", SHAPE).expect(rt, "a map");
     let mut maps = ArrayVec::new();
