@@ -165,9 +165,9 @@ impl<L: Ledger> Books<L> {
         ensures prog { result.prog ≡ prog }
         ensures context { result.context ≡ ctx.now.items }
         ensures some { IfSome result.exit (λ n.
-            IsExitOf self.now.world run (option_copied program) ctx.now.items n) }
+            IsExitOf self.now.world run (option_copied program.entry) ctx.now.items n) }
         ensures none { IfNone result.exit ((n : ℕ) →
-            IsExitOf self.now.world run (option_copied program) ctx.now.items n → ⊥) }
+            IsExitOf self.now.world run (option_copied program.entry) ctx.now.items n → ⊥) }
     {
         let exit = match program {
             Some(program) => self.world.exit_of(run, program, ctx),

@@ -128,9 +128,9 @@ impl<L: Ledger> State<L> {
         ensures prog { result.prog ≡ prog }
         ensures context { result.context ≡ ctx.now.items }
         ensures some { IfSome result.exit (λ n.
-            IsExitOf self.now.world run (option_copied program) ctx.now.items n) }
+            IsExitOf self.now.world run (option_copied program.entry) ctx.now.items n) }
         ensures none { IfNone result.exit ((n : ℕ) →
-            IsExitOf self.now.world run (option_copied program) ctx.now.items n → ⊥) }
+            IsExitOf self.now.world run (option_copied program.entry) ctx.now.items n → ⊥) }
     {
         self.books.exit_noted(worker, run, prog, program, ctx)
     }
