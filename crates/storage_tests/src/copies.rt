@@ -59,27 +59,39 @@ fn second_map(alloc: Global, registry: &mut Registry, lines: &str) -> Result<Str
     replay(alloc, registry.map_mut(MapId::new(1)), lines)
 }
 
+fn add(registry: &mut Registry, name: &str) -> Result<(), Fail> {
+    match registry.create(name, SMALL) {
+        Ok(_) => Ok(()),
+        Err(_) => Err(Fail::from("no map")),
+    }
+}
+
+fn two_maps(alloc: Global) -> Result<Registry, Fail> {
+    let mut registry = Registry::new(alloc);
+    add(&mut registry, "first")?;
+    add(&mut registry, "second")?;
+    Ok(registry)
+}
+
+/// Whether there are the maps first and second, in this order, and no other.
+fn has_two(registry: &Registry) -> bool {
+    registry.len() == 2
+        && registry.name(MapId::new(0)) == Some("first")
+        && registry.name(MapId::new(1)) == Some("second")
+        && registry.id("second") == Some(MapId::new(1))
+        && registry.id("third").is_none()
+}
+
 #[test]
 fn copy_of_a_registry(rt: HostRuntime) -> Result<(), Fail> {
     let alloc = rt.alloc();
-    let mut registry = Registry::new(alloc);
-    let first = registry.create("first", SMALL);
-    assert!(rt; first.is_ok());
-    let second = registry.create("second", SMALL);
-    assert!(rt; second.is_ok());
+    let mut registry = two_maps(alloc)?;
     second_map(alloc, &mut registry, BEFORE)?;
     let mut copy = registry.copy()?;
-    let third = registry.create("third", SMALL);
-    assert!(rt; third.is_ok());
+    add(&mut registry, "third")?;
     second_map(alloc, &mut registry, AFTER)?;
     drop(registry);
-    assert_eq!(rt; copy.len(), 2);
-    assert_eq!(rt; copy.name(MapId::new(0)), Some("first"));
-    assert_eq!(rt; copy.name(MapId::new(1)), Some("second"));
-    assert_eq!(rt; copy.id("second").map(|id| id.index()), Some(1));
-    assert!(rt; copy.id("third").is_none());
-    let taken = copy.create("first", SMALL);
-    assert_eq!(rt; taken.err().map(|fault| fault.code()), Some(51));
+    assert!(rt; has_two(&copy));
     let told = second_map(alloc, &mut copy, AFTER)?;
     assert_eq!(rt; told.as_str(), AFTER);
     Ok(())
