@@ -1,9 +1,11 @@
--- A journal: its entries in order, how many it may have, and whether one more may be added without memory.
+-- A journal: its entries in order, how many it may have, and whether one more may be added without
+-- memory.
 use Rattle.std.specs.Prelude.{ℕ, Bool, true, List}
 use Rattle.bpf_model.specs.declared.event.Event.{Event}
 use Rattle.bpf_model.specs.declared.event.Event.TheVariants as events
 use Rattle.bpf_model.specs.declared.event.Answer.{Answer}
-use Rattle.bpf_model.specs.declared.event.Answer.TheVariants.{Started, Moved, Exited, Ret, Found, Done, Reaped, Refused}
+use Rattle.bpf_model.specs.declared.event.Answer.TheVariants.{Started, Moved, Exited, Ret, Found}
+use Rattle.bpf_model.specs.declared.event.Answer.TheVariants.{Done, Reaped, Refused}
 use Rattle.journal.specs.declared.entry.Entry.{Entry}
 use Rattle.journal.specs.declared.fault.JournalFault.{JournalFault}
 use Rattle.journal.specs.declared.fault.JournalFault.TheVariants.{Full, Memory}

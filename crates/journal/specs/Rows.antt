@@ -1,12 +1,13 @@
--- How a journal is kept: a row of fixed size for each entry, and the bytes of all of them in one list.
-use Rattle.std.specs.Prelude.{◌≡◌, ℕ, ◌+◌, ◌≤◌, nat_lt, nat_le, Bool, ◌&&◌, List, [], ◌∷◌, ◌++◌, Option, Some, None, Ok, Err, map, length, slice_get, take, drop, vec_len, vec_capacity}
+-- How a journal is kept: a row of fixed size for each entry, and the bytes of all of them in one
+-- list.
+use Rattle.std.specs.Prelude.{◌≡◌, ℕ, ◌+◌, ◌≤◌, nat_lt, nat_le, Bool, ◌&&◌, List, [], ◌++◌}
+use Rattle.std.specs.Prelude.{Some, None, Ok, Err, map, length, slice_get, take, drop}
 use Rattle.arrayvec.specs.ArrayVec.{ArrayVec}
 use Rattle.bpf_model.specs.declared.limits.TheConstants.{CTX_BYTES, KEY_BYTES, VALUE_BYTES}
 use Rattle.bpf_model.specs.declared.event.Event.{Event}
 use Rattle.bpf_model.specs.declared.event.Event.TheVariants as events
 use Rattle.bpf_model.specs.declared.event.Answer.{Answer}
 use Rattle.bpf_model.specs.declared.event.Answer.TheVariants as answers
-use Rattle.journal.specs.Entries.{JournalView}
 use Rattle.journal.specs.declared.entry.Entry.{Entry}
 use Rattle.journal.specs.declared.row.Outcome.{Outcome}
 use Rattle.journal.specs.declared.row.Outcome.TheVariants as outcomes
@@ -29,8 +30,8 @@ answer_bytes (answers.Found (Some value)) = value.items
 answer_bytes (answers.Reaped (Some element)) = element.key.items
 answer_bytes answer = []
 
-abbrev pub bytes_of : Entry → List ℕ
-bytes_of e = event_bytes e.event ++ answer_bytes e.answer
+abbrev pub entry_bytes : Entry → List ℕ
+entry_bytes e = event_bytes e.event ++ answer_bytes e.answer
 
 -- the string of so many bytes from an index on
 abbrev pub string_in : List ℕ → ℕ → ℕ → ArrayVec ℕ
@@ -49,48 +50,94 @@ IsOutcome answer = ⊥
 
 -- the entry that a row stands for, by these bytes
 abbrev pub entry_of : List ℕ → Row → Entry
-entry_of bytes (rows.Started worker len prog run start) = record { worker = worker; event = events.Start prog (string_in bytes start len); answer = answers.Started run }
-entry_of bytes (rows.NotStarted worker refusal len prog start) = record { worker = worker; event = events.Start prog (string_in bytes start len); answer = answers.Refused refusal }
-entry_of bytes (rows.Moved worker run) = record { worker = worker; event = events.Step run; answer = answers.Moved }
-entry_of bytes (rows.Exited worker run value) = record { worker = worker; event = events.Step run; answer = answers.Exited value }
-entry_of bytes (rows.NotStepped worker refusal run) = record { worker = worker; event = events.Step run; answer = answers.Refused refusal }
+entry_of bytes (rows.Started worker len prog run start) =
+    record {
+      worker = worker;
+      event = events.Start prog (string_in bytes start len);
+      answer = answers.Started run;
+    }
+entry_of bytes (rows.NotStarted worker refusal len prog start) =
+    record {
+      worker = worker;
+      event = events.Start prog (string_in bytes start len);
+      answer = answers.Refused refusal;
+    }
+entry_of bytes (rows.Moved worker run) =
+    record { worker = worker; event = events.Step run; answer = answers.Moved }
+entry_of bytes (rows.Exited worker run value) =
+    record { worker = worker; event = events.Step run; answer = answers.Exited value }
+entry_of bytes (rows.NotStepped worker refusal run) =
+    record { worker = worker; event = events.Step run; answer = answers.Refused refusal }
 entry_of bytes (rows.Updated worker outcome key_len value_len map flags start) = record {
   worker = worker;
-  event = events.Update map (string_in bytes start key_len) (string_in bytes (start + key_len) value_len) flags;
+  event =
+      events.Update map (string_in bytes start key_len)
+      (string_in bytes (start + key_len) value_len) flags;
   answer = answer_of outcome;
 }
-entry_of bytes (rows.Deleted worker outcome key_len map start) = record { worker = worker; event = events.Delete map (string_in bytes start key_len); answer = answer_of outcome }
+entry_of bytes (rows.Deleted worker outcome key_len map start) =
+    record {
+      worker = worker;
+      event = events.Delete map (string_in bytes start key_len);
+      answer = answer_of outcome;
+    }
 entry_of bytes (rows.Found worker key_len value_len map start) = record {
   worker = worker;
   event = events.Read map (string_in bytes start key_len);
   answer = answers.Found (Some (string_in bytes (start + key_len) value_len));
 }
-entry_of bytes (rows.NotFound worker key_len map start) = record { worker = worker; event = events.Read map (string_in bytes start key_len); answer = answers.Found None }
-entry_of bytes (rows.NotRead worker refusal key_len map start) = record { worker = worker; event = events.Read map (string_in bytes start key_len); answer = answers.Refused refusal }
-entry_of bytes (rows.Advanced worker) = record { worker = worker; event = events.Advance; answer = answers.Done }
+entry_of bytes (rows.NotFound worker key_len map start) =
+    record {
+      worker = worker;
+      event = events.Read map (string_in bytes start key_len);
+      answer = answers.Found None;
+    }
+entry_of bytes (rows.NotRead worker refusal key_len map start) =
+    record {
+      worker = worker;
+      event = events.Read map (string_in bytes start key_len);
+      answer = answers.Refused refusal;
+    }
+entry_of bytes (rows.Advanced worker) =
+    record { worker = worker; event = events.Advance; answer = answers.Done }
 entry_of bytes (rows.Reclaimed worker given key_len map start) = record {
   worker = worker;
   event = events.Reap;
-  answer = answers.Reaped (Some (record { map = map; key = string_in bytes start key_len; given = given }));
+  answer = answers.Reaped (Some (record {
+    map = map;
+    key = string_in bytes start key_len;
+    given = given;
+  }));
 }
-entry_of bytes (rows.NothingReady worker) = record { worker = worker; event = events.Reap; answer = answers.Reaped None }
-entry_of bytes (rows.Dropped worker run) = record { worker = worker; event = events.Drop run; answer = answers.Done }
-entry_of bytes (rows.NotDropped worker refusal run) = record { worker = worker; event = events.Drop run; answer = answers.Refused refusal }
+entry_of bytes (rows.NothingReady worker) =
+    record { worker = worker; event = events.Reap; answer = answers.Reaped None }
+entry_of bytes (rows.Dropped worker run) =
+    record { worker = worker; event = events.Drop run; answer = answers.Done }
+entry_of bytes (rows.NotDropped worker refusal run) =
+    record { worker = worker; event = events.Drop run; answer = answers.Refused refusal }
 
--- The strings of a row end before the end of so many bytes, and each is no longer than its kind may be.
+-- The strings of a row end before the end of so many bytes, and each is no longer than its kind may
+-- be.
 abbrev pub IsStored : ℕ → Row → Type 0
 IsStored total (rows.Started worker len prog run start) = (start + len ≤ total) × (len ≤ CTX_BYTES)
-IsStored total (rows.NotStarted worker refusal len prog start) = (start + len ≤ total) × (len ≤ CTX_BYTES)
+IsStored total (rows.NotStarted worker refusal len prog start) =
+    (start + len ≤ total) × (len ≤ CTX_BYTES)
 IsStored total (rows.Moved worker run) = Unit {0}
 IsStored total (rows.Exited worker run value) = Unit {0}
 IsStored total (rows.NotStepped worker refusal run) = Unit {0}
-IsStored total (rows.Updated worker outcome key_len value_len map flags start) = ((start + key_len) + value_len ≤ total) × (key_len ≤ KEY_BYTES) × (value_len ≤ VALUE_BYTES)
-IsStored total (rows.Deleted worker outcome key_len map start) = (start + key_len ≤ total) × (key_len ≤ KEY_BYTES)
-IsStored total (rows.Found worker key_len value_len map start) = ((start + key_len) + value_len ≤ total) × (key_len ≤ KEY_BYTES) × (value_len ≤ VALUE_BYTES)
-IsStored total (rows.NotFound worker key_len map start) = (start + key_len ≤ total) × (key_len ≤ KEY_BYTES)
-IsStored total (rows.NotRead worker refusal key_len map start) = (start + key_len ≤ total) × (key_len ≤ KEY_BYTES)
+IsStored total (rows.Updated worker outcome key_len value_len map flags start) =
+    ((start + key_len) + value_len ≤ total) × (key_len ≤ KEY_BYTES) × (value_len ≤ VALUE_BYTES)
+IsStored total (rows.Deleted worker outcome key_len map start) =
+    (start + key_len ≤ total) × (key_len ≤ KEY_BYTES)
+IsStored total (rows.Found worker key_len value_len map start) =
+    ((start + key_len) + value_len ≤ total) × (key_len ≤ KEY_BYTES) × (value_len ≤ VALUE_BYTES)
+IsStored total (rows.NotFound worker key_len map start) =
+    (start + key_len ≤ total) × (key_len ≤ KEY_BYTES)
+IsStored total (rows.NotRead worker refusal key_len map start) =
+    (start + key_len ≤ total) × (key_len ≤ KEY_BYTES)
 IsStored total (rows.Advanced worker) = Unit {0}
-IsStored total (rows.Reclaimed worker given key_len map start) = (start + key_len ≤ total) × (key_len ≤ KEY_BYTES)
+IsStored total (rows.Reclaimed worker given key_len map start) =
+    (start + key_len ≤ total) × (key_len ≤ KEY_BYTES)
 IsStored total (rows.NothingReady worker) = Unit {0}
 IsStored total (rows.Dropped worker run) = Unit {0}
 IsStored total (rows.NotDropped worker refusal run) = Unit {0}
@@ -100,12 +147,15 @@ AreStored all bytes = (k : ℕ) (row : Row) → slice_get all k ≡ Some row →
 
 -- The row stands for the entry where the strings of the entry begin at `start`, behind any others.
 pub record IsRowOf (start : ℕ) (e : Entry) (row : Row) : Type 0 where
-  pub same : (before : List ℕ) → length before ≡ start → entry_of (before ++ bytes_of e) row ≡ e
-  pub stored : IsStored (start + length (bytes_of e)) row
+  pub same : (before : List ℕ) → length before ≡ start → entry_of (before ++ entry_bytes e) row ≡ e
+  pub stored : IsStored (start + length (entry_bytes e)) row
 
-abbrev pub entry : ℕ → Event → Answer → Entry
-entry worker event answer = record { worker = worker; event = event; answer = answer }
+abbrev pub entry_from : ℕ → Event → Answer → Entry
+entry_from worker event answer = record { worker = worker; event = event; answer = answer }
 
--- Room for one more entry: the list is not full, and neither a row nor the most strings of an entry need memory.
-abbrev pub is_ready : ℕ → ℕ → ℕ → ℕ → ℕ → Bool
-is_ready count limit row_room total byte_room = nat_lt count limit && (nat_lt count row_room && nat_le (total + (KEY_BYTES + VALUE_BYTES)) byte_room)
+-- Room for one more entry: the list is not full, and neither a row nor the most strings of an entry
+-- need memory.
+abbrev pub is_reserved : ℕ → ℕ → ℕ → ℕ → ℕ → Bool
+is_reserved count limit row_room total byte_room =
+    nat_lt count limit && (nat_lt count row_room
+    && nat_le (total + (KEY_BYTES + VALUE_BYTES)) byte_room)

@@ -1,6 +1,6 @@
 //! The bytes of keys, values and contexts, one after another.
 ghost use Rattle.std.specs.Prelude.{◌≡◌, ◌+◌, ◌≤◌, ◌++◌, length, vec_len, vec_capacity};
-ghost use Rattle.journal.specs.Rows.{answer_bytes, bytes_of, event_bytes, string_in};
+ghost use Rattle.journal.specs.Rows.{answer_bytes, entry_bytes, event_bytes, string_in};
 
 use crate::entry::Entry;
 use arrayvec::ArrayVec;
@@ -64,8 +64,8 @@ fn append_answer(bytes: &mut Vec<u8>, answer: &Answer)
 
 /// Adds the strings of an entry where there is room for them.
 pub(crate) fn append(bytes: &mut Vec<u8>, entry: &Entry)
-    requires { vec_len bytes.old + length (bytes_of entry.now) ≤ vec_capacity bytes.old }
-    ensures { bytes.new.items ≡ bytes.old.items ++ bytes_of entry.now }
+    requires { vec_len bytes.old + length (entry_bytes entry.now) ≤ vec_capacity bytes.old }
+    ensures { bytes.new.items ≡ bytes.old.items ++ entry_bytes entry.now }
 {
     append_event(bytes, &entry.event);
     append_answer(bytes, &entry.answer);

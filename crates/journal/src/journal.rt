@@ -1,5 +1,6 @@
 //! The list of entries.
-ghost use Rattle.std.specs.Prelude.{◌≡◌, ◌≤◌, ◌↔◌, ◌==◌, ◌++◌, ◌∷◌, [], true, false, map, length, slice_get, Err, OnOk, OnErr, vec_len, vec_capacity};
+ghost use Rattle.std.specs.Prelude.{◌≡◌, ◌≤◌, ◌↔◌, ◌==◌, ◌++◌, ◌∷◌, [], true, false};
+ghost use Rattle.std.specs.Prelude.{length, slice_get, Err, OnOk, OnErr};
 ghost use Rattle.bpf_model.specs.declared.limits.TheConstants.{MAX_JOURNAL};
 ghost use Rattle.journal.specs.Entries.{IsAnswerTo, with_room};
 
@@ -15,9 +16,10 @@ use std::marker::Model;
 /// The most bytes of keys, values and contexts that one entry has: a key and a value.
 const ENTRY_BYTES: usize = KEY_BYTES + VALUE_BYTES;
 
-/// What workers asked and were answered, in order: at most `limit` entries. Contracts see the entries.
+/// What workers asked and were answered, in order: at most `limit` entries. Contracts see the
+/// entries.
 ///
-/// An entry takes 32 bytes, and further those of the keys, values and contexts of its event and its answer.
+/// An entry takes 32 bytes, and further those of the keys, values and contexts that it has.
 #[derive(Drop)]
 pub struct Journal {
     rows: Vec<Row>,
@@ -29,15 +31,15 @@ impl Model for Journal {
     ghost use Rattle.std.specs.Prelude.{◌≤◌, map, vec_len, vec_capacity};
     ghost use Rattle.bpf_model.specs.declared.limits.TheConstants.{MAX_JOURNAL};
     ghost use Rattle.journal.specs.Entries.{JournalView};
-    ghost use Rattle.journal.specs.Rows.{entry_of, is_ready, AreStored};
+    ghost use Rattle.journal.specs.Rows.{entry_of, is_reserved, AreStored};
 
     ghost Value = { JournalView };
 
     ghost view = { λ j. record {
-        entries = map (entry_of j.bytes.items) j.rows.items;
-        limit = j.limit;
-        has_room = is_ready (vec_len j.rows) j.limit (vec_capacity j.rows)
-            (vec_len j.bytes) (vec_capacity j.bytes);
+      entries = map (entry_of j.bytes.items) j.rows.items;
+      limit = j.limit;
+      has_room = is_reserved (vec_len j.rows) j.limit (vec_capacity j.rows)
+          (vec_len j.bytes) (vec_capacity j.bytes);
     } };
 
     ghost invariant = { λ j. AreStored j.rows.items j.bytes.items
@@ -97,11 +99,13 @@ impl Journal {
 
     /// Sees to it that one more entry can be added without memory, whatever it is.
     ///
-    /// Errors: `Full` where there are `limit` entries; else `Memory` where room was missing and was refused.
+    /// Errors: `Full` where there are `limit` entries; else `Memory` where room was missing and was
+    /// refused. Then nothing has changed.
     pub fn reserve_one(&mut self) -> Result<(), JournalFault>
         ensures ok { OnOk result (self.new ≡ with_room self.old) }
         ensures err { OnErr result (self.new ≡ self.old) }
-        ensures full { (result ≡ Err JournalFault.Full) ↔ (length self.old.entries ≡ self.old.limit) }
+        ensures full { (result ≡ Err JournalFault.Full) ↔
+            (length self.old.entries ≡ self.old.limit) }
         ensures memory { result ≡ Err JournalFault.Memory → self.old.has_room ≡ false }
     {
         if self.rows.len() == self.limit {

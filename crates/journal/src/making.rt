@@ -2,7 +2,7 @@
 ghost use Rattle.std.specs.Prelude.{◌≡◌};
 ghost use Rattle.bpf_model.specs.declared.event.Event.TheVariants as events;
 ghost use Rattle.journal.specs.Entries.{IsAnswerTo};
-ghost use Rattle.journal.specs.Rows.{IsOutcome, IsRowOf, answer_of, entry};
+ghost use Rattle.journal.specs.Rows.{IsOutcome, IsRowOf, answer_of, entry_from};
 
 use crate::entry::Entry;
 use crate::row::{Outcome, Row};
@@ -10,7 +10,7 @@ use bpf_model::{Answer, CtxBytes, Event, KeyBytes, MapId, ProgId, RunId, ValueBy
 
 fn start_row(worker: u8, start: usize, prog: ProgId, ctx: &CtxBytes, answer: &Answer) -> Row
     requires { IsAnswerTo (events.Start prog ctx.now) answer.now }
-    ensures { IsRowOf start (entry worker (events.Start prog ctx.now) answer.now) result }
+    ensures { IsRowOf start (entry_from worker (events.Start prog ctx.now) answer.now) result }
 {
     let ctx_len = ctx.len() as u16;
     match answer {
@@ -34,7 +34,7 @@ fn start_row(worker: u8, start: usize, prog: ProgId, ctx: &CtxBytes, answer: &An
 
 fn step_row(worker: u8, start: usize, run: RunId, answer: &Answer) -> Row
     requires { IsAnswerTo (events.Step run) answer.now }
-    ensures { IsRowOf start (entry worker (events.Step run) answer.now) result }
+    ensures { IsRowOf start (entry_from worker (events.Step run) answer.now) result }
 {
     match answer {
         Answer::Moved => Row::Moved { worker, run },
@@ -67,7 +67,7 @@ fn outcome_of(answer: &Answer) -> Outcome
 
 fn read_row(worker: u8, start: usize, map: MapId, key: &KeyBytes, answer: &Answer) -> Row
     requires { IsAnswerTo (events.Read map key.now) answer.now }
-    ensures { IsRowOf start (entry worker (events.Read map key.now) answer.now) result }
+    ensures { IsRowOf start (entry_from worker (events.Read map key.now) answer.now) result }
 {
     let key_len = key.len() as u8;
     match answer {
@@ -97,7 +97,7 @@ fn read_row(worker: u8, start: usize, map: MapId, key: &KeyBytes, answer: &Answe
 
 fn reap_row(worker: u8, start: usize, answer: &Answer) -> Row
     requires { IsAnswerTo events.Reap answer.now }
-    ensures { IsRowOf start (entry worker events.Reap answer.now) result }
+    ensures { IsRowOf start (entry_from worker events.Reap answer.now) result }
 {
     match answer {
         Answer::Reaped(Some(element)) => Row::Reclaimed {
@@ -114,7 +114,7 @@ fn reap_row(worker: u8, start: usize, answer: &Answer) -> Row
 
 fn drop_row(worker: u8, start: usize, run: RunId, answer: &Answer) -> Row
     requires { IsAnswerTo (events.Drop run) answer.now }
-    ensures { IsRowOf start (entry worker (events.Drop run) answer.now) result }
+    ensures { IsRowOf start (entry_from worker (events.Drop run) answer.now) result }
 {
     match answer {
         Answer::Done => Row::Dropped { worker, run },

@@ -105,10 +105,10 @@ births-flag s n (Some e) sch at =
     let inside = slice_get_within s.machine.store.maps e.map l.0 l.1 in
     let count : length s.queues ≡ length s.machine.store.maps = sch.queues in
     times-one n s.queues (λ k. queued_in k (Some e)) e.map (one_of (is_unlinked e.life))
-        (λ j q there. times-births n q ∙ (sch.queued j n q there ∙ ap (queued_in j) at))
-        (omega (arith, inside, count))
-        (both (is_unlinked e.life) (e.map == e.map) (eq-eqb e.map e.map refl))
-        (λ j ne. queued-elsewhere j (Some e) e refl (λ same. ne (sym same)))
+    (λ j q there. times-births n q ∙ (sch.queued j n q there ∙ ap (queued_in j) at))
+    (omega (arith, inside, count))
+    (both (is_unlinked e.life) (e.map == e.map) (eq-eqb e.map e.map refl))
+    (λ j ne. queued-elsewhere j (Some e) e refl (λ same. ne (sym same)))
 
 -- the lists of all maps are as long as those of the births
 lists-long : (slots : List ℕ) (v : MapView) (q : Queues) → lists_of v ≡ named slots q → unlinked_in v ≡ length (births q)

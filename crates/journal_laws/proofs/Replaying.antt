@@ -50,10 +50,10 @@ replays_push base world new entries entry h real answer is =
     let others : answers_of (entries ++ entry ∷ []) ≡ answers_of entries ++ entry.answer ∷ [] = map_push (λ (e : Entry). e.answer) entries entry in
     let last : entry.answer ≡ (full_reaction (full_reactions base events).1 entry.event).0 = answer ∙ ap (λ (w : WorldView). (full_reaction w entry.event).0) h.world_is in
     let answered : answers_of entries ++ entry.answer ∷ [] ≡ (full_reactions base (events ++ entry.event ∷ [])).0 =
-        ap (λ (xs : List Answer). xs ++ entry.answer ∷ []) h.answers
-        ∙ (ap (λ (x : Answer). (full_reactions base events).0 ++ x ∷ []) last ∙ sym (answers_more base events entry.event)) in
+    ap (λ (xs : List Answer). xs ++ entry.answer ∷ []) h.answers
+    ∙ (ap (λ (x : Answer). (full_reactions base events).0 ++ x ∷ []) last ∙ sym (answers_more base events entry.event)) in
     let view : new ≡ (full_reactions base (events ++ entry.event ∷ [])).1 =
-        is ∙ (ap (λ (w : WorldView). (full_reaction w entry.event).1) h.world_is ∙ sym (view_more base events entry.event)) in
+    is ∙ (ap (λ (w : WorldView). (full_reaction w entry.event).1) h.world_is ∙ sym (view_more base events entry.event)) in
     record {
       quiet = h.quiet;
       base_is = h.base_is;
@@ -110,13 +110,13 @@ pub scheduled_over : (base world : WorldView) (entries : List Entry) → Replays
 scheduled_over base world entries h =
     let law = answers_scheduled base (events_of entries) h.base_is.ready h.real in
     subst (λ (w : WorldView). AreScheduledAnswers TracksSchedule base (events_of entries) (answers_of entries) w) (sym h.world_is)
-        (subst (λ (xs : List Answer). AreScheduledAnswers TracksSchedule base (events_of entries) xs (full_reactions base (events_of entries)).1) (sym h.answers) law)
+    (subst (λ (xs : List Answer). AreScheduledAnswers TracksSchedule base (events_of entries) xs (full_reactions base (events_of entries)).1) (sym h.answers) law)
 
 pub machine_over : (base world : WorldView) (entries : List Entry) → Replays base world entries → AreMachineAnswers Tracks base (events_of entries) (answers_of entries) world
 machine_over base world entries h =
     let law = answers_machine base (events_of entries) h.base_is.ready h.real in
     subst (λ (w : WorldView). AreMachineAnswers Tracks base (events_of entries) (answers_of entries) w) (sym h.world_is)
-        (subst (λ (xs : List Answer). AreMachineAnswers Tracks base (events_of entries) xs (full_reactions base (events_of entries)).1) (sym h.answers) law)
+    (subst (λ (xs : List Answer). AreMachineAnswers Tracks base (events_of entries) xs (full_reactions base (events_of entries)).1) (sym h.answers) law)
 
 pub never_stuck_over : (base world : WorldView) (entries : List Entry) → Replays base world entries → AreNeverStuck Tracks base (events_of entries) (answers_of entries)
 never_stuck_over base world entries h =

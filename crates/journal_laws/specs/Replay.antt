@@ -1,5 +1,6 @@
--- A journal whose entries replay: from a base without runs, the runtime reacts to the events one after
--- another with the answers that stand there, and the present world is the one that it comes to.
+-- A journal whose entries replay: from a base without runs, the runtime reacts to the events one
+-- after another with the answers that stand there, and the present world is the one that it comes
+-- to.
 use Rattle.std.specs.Prelude.{◌≡◌, ℕ, List, None, map, slice_get}
 use Rattle.bpf_model.specs.declared.event.Event.{Event}
 use Rattle.bpf_model.specs.declared.event.Answer.{Answer}

@@ -1,5 +1,6 @@
 -- What is counted since a world began, and of whom an entry is.
-use Rattle.std.specs.Prelude.{◌≡◌, ℕ, ◌+◌, ◌<◌, ◌==◌, Bool, true, false, not, List, Some, length, slice_get, count_by}
+use Rattle.std.specs.Prelude.{◌≡◌, ℕ, ◌+◌, ◌<◌, ◌==◌, Bool, true, false, not, List, Some, length}
+use Rattle.std.specs.Prelude.{slice_get, count_by}
 use Rattle.std.specs.List.{filter, range_with_len, sum_by}
 use Rattle.bpf_model.specs.declared.event.Answer.{Answer}
 use Rattle.bpf_model.specs.declared.event.Answer.TheVariants.{Moved, Exited}
@@ -25,7 +26,8 @@ ever_unlinked m = count_by (λ e. not (is_linked e.life)) m.store.elements
 abbrev pub ever_reclaimed : Machine → ℕ
 ever_reclaimed m = count_by (λ e. is_reclaimed e.life) m.store.elements
 
--- The same of a world, which keeps no reclaimed element: those that it reclaimed, and those that wait.
+-- The same of a world, which keeps no reclaimed element: those that it reclaimed, and those that
+-- wait.
 abbrev pub reclaimed_total : WorldView → ℕ
 reclaimed_total w = w.given
 

@@ -3,13 +3,15 @@
 //! Each is a function with an empty body, whose contract is the law.
 #![tactic(auto)]
 
-ghost use Rattle.std.specs.Prelude.{◌≡◌, ◌≢◌, ◌≤◌, ◌+◌, ◌++◌, ◌∷◌, [], ℕ, List, Some, if◌then◌else◌, length, map, slice_get};
+ghost use Rattle.std.specs.Prelude.{◌≡◌, ◌≢◌, ◌≤◌, ◌+◌, ◌++◌, ◌∷◌, [], ℕ, List, Some};
+ghost use Rattle.std.specs.Prelude.{if◌then◌else◌, length, map, slice_get};
 ghost use Rattle.bpf_model.specs.declared.event.Event.{Event};
 ghost use Rattle.bpf_model.specs.declared.limits.TheConstants.{MAX_JOURNAL};
 ghost use Rattle.bpf_model.specs.Event.{IsReal};
 ghost use Rattle.bpf_model.specs.Machine.{Machine};
 ghost use Rattle.bpf_model.specs.Drain.{AreScheduledAnswers};
-ghost use Rattle.bpf_model.specs.Headline.{AreMachineAnswers, AreNeverStuck, AllExitInTime, AreReclaimedLate};
+ghost use Rattle.bpf_model.specs.Headline.{AreMachineAnswers, AreNeverStuck, AllExitInTime};
+ghost use Rattle.bpf_model.specs.Headline.{AreReclaimedLate};
 ghost use Rattle.bpf_model.specs.Refines.{Tracks, TracksSchedule};
 ghost use Rattle.bpf_model.specs.Replay as machine;
 ghost use Rattle.bpf_model.specs.View.{WorldView};
@@ -17,9 +19,10 @@ ghost use Rattle.world_laws.specs.Reacting.{full_reaction, full_reactions};
 ghost use Rattle.world_invariant.specs.Invariant.{IsWorld};
 ghost use Rattle.journal.specs.Entries.{IsAnswerTo};
 ghost use Rattle.journal.specs.declared.entry.Entry.{Entry};
-ghost use Rattle.journal_laws.specs.Replay.{HasNoRuns, Replays, answers_of, events_of, machine_entry};
-ghost use Rattle.journal_laws.specs.Totals.{AreOf, entries_by, ever_reclaimed, ever_unlinked, is_step, reclaimed_total};
-ghost use Rattle.journal_laws.specs.Totals.{shares, steps_of, unlinked_total};
+ghost use Rattle.journal_laws.specs.Replay.{HasNoRuns, Replays, answers_of, events_of};
+ghost use Rattle.journal_laws.specs.Replay.{machine_entry};
+ghost use Rattle.journal_laws.specs.Totals.{AreOf, entries_by, ever_reclaimed, ever_unlinked};
+ghost use Rattle.journal_laws.specs.Totals.{is_step, reclaimed_total, shares, steps_of, unlinked_total};
 
 /// An empty journal replays from any world without runs.
 pub fn empty_replays()
@@ -34,7 +37,8 @@ pub fn replays_push()
         new ≡ (full_reaction world entry.event).1 → Replays base new (entries ++ entry ∷ []) }
 {}
 
-/// What `run_all` answers to events, entered one after another, replays from where it began, by whichever workers.
+/// What `run_all` answers to events, entered one after another by whichever workers, replays from where it
+/// began.
 pub fn run_all_replays()
     ensures { (base : WorldView) (entries : List Entry) → IsWorld base → HasNoRuns base →
         ((k : ℕ) (event : Event) → slice_get (events_of entries) k ≡ Some event → IsReal event) →
@@ -60,15 +64,18 @@ pub fn replays_on_machine()
 /// drain law holds; and in each history with these answers no run is stuck, each exits in time, and elements are
 /// reclaimed late.
 pub fn replays_as_machine()
-    ensures schedule { (base world : WorldView) (entries : List Entry) → Replays base world entries →
+    ensures schedule { (base world : WorldView) (entries : List Entry) →
+        Replays base world entries →
         AreScheduledAnswers TracksSchedule base (events_of entries) (answers_of entries) world }
     ensures answers { (base world : WorldView) (entries : List Entry) → Replays base world entries →
         AreMachineAnswers Tracks base (events_of entries) (answers_of entries) world }
-    ensures never_stuck { (base world : WorldView) (entries : List Entry) → Replays base world entries →
+    ensures never_stuck { (base world : WorldView) (entries : List Entry) →
+        Replays base world entries →
         AreNeverStuck Tracks base (events_of entries) (answers_of entries) }
     ensures exits { (base world : WorldView) (entries : List Entry) → Replays base world entries →
         AllExitInTime Tracks base (events_of entries) (answers_of entries) }
-    ensures reclaimed { (base world : WorldView) (entries : List Entry) → Replays base world entries →
+    ensures reclaimed { (base world : WorldView) (entries : List Entry) →
+        Replays base world entries →
         AreReclaimedLate Tracks base (events_of entries) (answers_of entries) }
 {}
 
@@ -80,8 +87,10 @@ pub fn reaction_fits()
 
 /// What a world counts is what its machine's elements tell: how many were ever unlinked, and how many reclaimed.
 pub fn totals_are_machines()
-    ensures unlinked { (w : WorldView) (m : Machine) → Tracks w m → unlinked_total w ≡ ever_unlinked m }
-    ensures reclaimed { (w : WorldView) (m : Machine) → Tracks w m → reclaimed_total w ≡ ever_reclaimed m }
+    ensures unlinked { (w : WorldView) (m : Machine) → Tracks w m →
+        unlinked_total w ≡ ever_unlinked m }
+    ensures reclaimed { (w : WorldView) (m : Machine) → Tracks w m →
+        reclaimed_total w ≡ ever_reclaimed m }
 {}
 
 /// No event makes a total less.
@@ -102,7 +111,8 @@ pub fn counts_push()
     ensures steps { (entries : List Entry) (entry : Entry) → steps_of (entries ++ entry ∷ []) ≡
         steps_of entries + (if is_step entry.answer then 1 else 0) }
     ensures own { (entries : List Entry) (entry : Entry) →
-        entries_by entry.worker (entries ++ entry ∷ []) ≡ entries_by entry.worker entries ++ entry ∷ [] }
+        entries_by entry.worker (entries ++ entry ∷ [])
+        ≡ entries_by entry.worker entries ++ entry ∷ [] }
     ensures others { (entries : List Entry) (entry : Entry) (worker : ℕ) → entry.worker ≢ worker →
         entries_by worker (entries ++ entry ∷ []) ≡ entries_by worker entries }
 {}
