@@ -68,6 +68,7 @@ fn make_room(journal: &mut Journal, before: u64) -> Result<(), SharedFault>
         ↔ ((length journal.old.entries ≡ journal.old.limit)
         ⊎ (before + length journal.old.entries ≡ 2 ^ 64 - 1)) }
     ensures room { OnOk result (journal.new.has_room ≡ true) }
+    ensures count { OnOk result (before + length journal.old.entries + 1 < 2 ^ 64) }
     ensures entries { journal.new.entries ≡ journal.old.entries }
     ensures limit { journal.new.limit ≡ journal.old.limit }
 {
