@@ -2,3 +2,4 @@ pub mod Meters
 pub mod Counting
 pub mod Balance
 pub mod Quiet
+pub mod Exits

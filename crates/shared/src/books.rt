@@ -1,6 +1,7 @@
 //! The world with its journal, and the ledger that counts its entries. No method waits.
 ghost use Rattle.std.specs.Prelude.{◌≡◌, ℕ, ◌+◌, ◌-◌, ◌^◌, ◌<◌, ◌≤◌, ◌↔◌, ◌⊎◌, List, [], length, IsTrue, true, IfOk, IfSome, IfNone, OnErr, OnOk, Err, Ok, option_copied};
 ghost use Rattle.journal_laws.specs.Replay.{Replays, HasNoRuns};
+ghost use Rattle.world_invariant.specs.Invariant.{IsWorld};
 ghost use Rattle.shared.specs.Receipts.{IsExitOf};
 ghost use Rattle.shared.specs.Tally.{IsTallyOf, origin_of};
 ghost use Rattle.shared.specs.Books.{IsJournalFull, Enters, TotalsRise, CutsTo};
@@ -167,9 +168,11 @@ impl<L: Ledger> Books<L> {
         ensures context { result.context ≡ ctx.now.items }
         ensures some { IfSome result.exit (λ n.
             IsExitOf self.now.world run (option_copied program.entry) ctx.now.items n) }
+        ensures world { IsWorld self.now.world }
         ensures none { IfNone result.exit ((n : ℕ) →
             IsExitOf self.now.world run (option_copied program.entry) ctx.now.items n → ⊥) }
     {
+        self.world.is_world();
         let exit = match program {
             Some(program) => self.world.exit_of(run, program, ctx),
             None => None,

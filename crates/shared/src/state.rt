@@ -2,6 +2,7 @@
 ghost use Rattle.std.specs.Prelude.{◌≡◌, ℕ, ◌+◌, ◌≤◌, ◌↔◌, [], length, IfOk, IfSome, IfNone, OnErr, OnOk, Err, option_copied};
 ghost use Rattle.std.specs.Arc.{arc_value};
 ghost use Rattle.crossbeam_utils.specs.Seq.{cell_view};
+ghost use Rattle.world_invariant.specs.Invariant.{IsWorld};
 ghost use Rattle.shared.specs.Receipts.{IsExitOf};
 ghost use Rattle.shared.specs.Books.{IsJournalFull, Enters, TotalsRise, CutsTo};
 ghost use Rattle.shared.specs.Meter.{writer_at, writer_of};
@@ -129,6 +130,7 @@ impl<L: Ledger> State<L> {
         ensures context { result.context ≡ ctx.now.items }
         ensures some { IfSome result.exit (λ n.
             IsExitOf self.now.world run (option_copied program.entry) ctx.now.items n) }
+        ensures world { IsWorld self.now.world }
         ensures none { IfNone result.exit ((n : ℕ) →
             IsExitOf self.now.world run (option_copied program.entry) ctx.now.items n → ⊥) }
     {
