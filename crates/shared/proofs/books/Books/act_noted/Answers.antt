@@ -11,12 +11,12 @@ use Rattle.shared.proofs.books.Books.act_noted.Goals as goal
 pub count-requires-clause-counts : goal.count-requires-clause-counts
 count-requires-clause-counts g c =
     subst (λ (k : ℕ). CountsOn c.apply-answer.result c.self.inside.tally.unreclaimed k) (sym c.unreclaimed.ensures)
-        (counts-on c.self.inside.world c.apply-answer.new.self c.args.event c.apply-answer.result c.self.inside.tally.unreclaimed c.self.invariant.tally.unreclaimed c.apply-answer.ensures.answer c.apply-answer.ensures.new)
+    (counts-on c.self.inside.world c.apply-answer.new.self c.args.event c.apply-answer.result c.self.inside.tally.unreclaimed c.self.invariant.tally.unreclaimed c.apply-answer.ensures.answer c.apply-answer.ensures.new)
 
 pub push-requires-clause-answer : goal.push-requires-clause-answer
 push-requires-clause-answer g c =
     subst (λ (a : Answer). IsAnswerTo c.args.event a) (sym c.apply-answer.ensures.answer)
-        (reaction_fits c.self.inside.world c.args.event c.is_world.ensures c.is_real.ensures)
+    (reaction_fits c.self.inside.world c.args.event c.is_world.ensures c.is_real.ensures)
 
 pub invariant_of-self-2 : goal.invariant_of-self-2
 invariant_of-self-2 g c =
@@ -40,19 +40,19 @@ invariant_of-self-2 g c =
       steps = c.count.ensures.steps;
     } in
     subst (AreBalanced new) (sym total)
-        (balanced-push old new c.self.inside.book.total c.worker.inside.number c.args.event c.apply-answer.result c.self.invariant fits c.is_real.ensures enters
-            (c.count.ensures.unreclaimed ∙ c.unreclaimed.ensures)
-            c.count.ensures.reclaimed
-            (let u = c.count.ensures.unlinked in let same = c.count.ensures.unreclaimed in omega (arith, u, same)))
+    (balanced-push old new c.self.inside.book.total c.worker.inside.number c.args.event c.apply-answer.result c.self.invariant fits c.is_real.ensures enters
+    (c.count.ensures.unreclaimed ∙ c.unreclaimed.ensures)
+    c.count.ensures.reclaimed
+    (let u = c.count.ensures.unlinked in let same = c.count.ensures.unreclaimed in omega (arith, u, same)))
 
 pub returns-clause-rise : goal.returns-clause-rise
 returns-clause-rise g c =
     let u = c.count.ensures.unlinked in
     let same = c.count.ensures.unreclaimed in
     let t = tally-push c.self.inside.tally c.count.new.self c.self.inside.world c.apply-answer.new.self c.args.event c.apply-answer.result c.self.invariant.tally c.apply-answer.ensures.answer c.apply-answer.ensures.new
-        c.count.ensures.origin (c.count.ensures.unreclaimed ∙ c.unreclaimed.ensures) c.count.ensures.reclaimed (omega (arith, u, same)) in
+    c.count.ensures.origin (c.count.ensures.unreclaimed ∙ c.unreclaimed.ensures) c.count.ensures.reclaimed (omega (arith, u, same)) in
     let steps = c.count.ensures.steps in
     let reclaimed = c.count.ensures.reclaimed in
     let unlinked = t.2 in
     subst (λ (b : BooksView). TotalsRise b.tally.totals c.count.new.self.totals) c.self.view_is
-        (record { steps = omega (arith, steps); unlinked = unlinked; reclaimed = omega (arith, reclaimed) })
+    (record { steps = omega (arith, steps); unlinked = unlinked; reclaimed = omega (arith, reclaimed) })
