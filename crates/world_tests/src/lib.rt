@@ -10,6 +10,8 @@ mod cases;
 #[cfg(test)]
 mod compiled;
 #[cfg(test)]
+mod copies;
+#[cfg(test)]
 mod generated;
 #[cfg(test)]
 mod making;

@@ -7,12 +7,12 @@ use arrayvec::ArrayVec;
 use asm::assemble;
 use bpf_model::{CTX_BYTES, MAX_MAPS, MapShape};
 use insn_codec::Program;
-use verifier::{Refusal, Verified, verify};
 use maps::Registry;
 use plain_model::Machine;
 use plain_runs::Loaded as PlainLoaded;
 use std::alloc::Global;
 use std::test::Fail;
+use verifier::{Refusal, Verified, verify};
 use world::World;
 use world_parts::Loaded;
 

@@ -6,9 +6,9 @@ use crate::random::Random;
 use crate::replay::{counts_text, replay};
 use crate::script::tell_answer;
 use bpf_model::{CtxBytes, Event, KeyBytes, MapId, MapShape, RunId};
-use verifier::Verified;
 use std::alloc::Global;
 use std::test::Fail;
+use verifier::Verified;
 
 const SHAPE: MapShape = MapShape {
     key_len: 4,

@@ -135,6 +135,14 @@ static ROWS: [Row; 12] = [
     },
 ];
 
+/// The program that a fault names.
+fn program_told(fault: &WorldFault) -> Option<usize> {
+    match fault {
+        WorldFault::Binding { program } => Some(program.index()),
+        _ => None,
+    }
+}
+
 /// What is told of a row's programs.
 fn told(alloc: Global, row: &Row) -> Result<Option<(u8, Option<usize>)>, Fail> {
     let mut programs = Vec::new(alloc);
@@ -145,12 +153,9 @@ fn told(alloc: Global, row: &Row) -> Result<Option<(u8, Option<usize>)>, Fail> {
         programs.push(program(alloc, *bound)?)?;
     }
     let registry = registry_of(alloc, &[SHAPE, OTHER])?;
-    match World::new(alloc, registry, programs) {
-        Ok(_) => Ok(None),
-        Err(fault) => match fault {
-            WorldFault::Binding { program } => Ok(Some((fault.code(), Some(program.index())))),
-            _ => Ok(Some((fault.code(), None))),
-        },
+    match World::new(alloc, registry, programs).err() {
+        None => Ok(None),
+        Some(fault) => Ok(Some((fault.code(), program_told(&fault)))),
     }
 }
 

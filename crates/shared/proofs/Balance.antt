@@ -1,0 +1,125 @@
+-- The books stay balanced: with one entry more, and when the journal is cut.
+use Rattle.std.proofs.Common.{◌≡◌, ◌∙◌, ℕ, ◌+◌, ◌^◌, ◌<◌, ◌≤◌, Bool, true, false, List, [], ◌∷◌, ◌++◌, length, cond, refl, sym, ap, subst, arith, length-append}
+use Rattle.bpf_model.specs.declared.event.Event.{Event}
+use Rattle.bpf_model.specs.declared.event.Answer.{Answer}
+use Rattle.bpf_model.specs.Event.{IsReal}
+use Rattle.bpf_model.specs.View.{WorldView}
+use Rattle.journal.specs.declared.entry.Entry.{Entry}
+use Rattle.journal_laws.specs.Replay.{Replays, HasNoRuns}
+use Rattle.journal_laws.specs.Totals.{is_step, steps_of}
+use Rattle.journal_laws.proofs.Replaying.{empty_replays, replays_push, replays_to_world}
+use Rattle.journal_laws.proofs.Sharing.{steps_push}
+use Rattle.world_invariant.specs.Invariant.{IsWorld}
+use Rattle.world_laws.specs.Reacting.{full_reaction}
+use Rattle.shared.specs.declared.tally.Origin.{Origin}
+use Rattle.shared.specs.declared.tally.Tally.{Tally}
+use Rattle.shared.specs.Books.{BooksView, AreBalanced, Enters, CutsTo}
+use Rattle.shared.specs.Tally.{CountsOn, IsTallyOf, steps_by, reclaimed_by, unreclaimed_in}
+use Rattle.shared.proofs.Counting.{IsCountedOn, full-counts}
+
+-- what is counted of the reaction that is seen
+counted-here : (w new : WorldView) (event : Event) (answer : Answer) → answer ≡ (full_reaction w event).0 → new ≡ (full_reaction w event).1 → IsCountedOn w (answer, new)
+counted-here w new event answer a n = subst (IsCountedOn w) (λ i. (sym a i, sym n i)) (full-counts w event)
+
+pub counts-on : (w new : WorldView) (event : Event) (answer : Answer) (unreclaimed : ℕ) → unreclaimed ≡ unreclaimed_in w → answer ≡ (full_reaction w event).0 → new ≡ (full_reaction w event).1 → CountsOn answer unreclaimed (unreclaimed_in new)
+counts-on w new event answer unreclaimed same a n = subst (λ (k : ℕ). CountsOn answer k (unreclaimed_in new)) (sym same) (counted-here w new event answer a n).counts
+
+-- what an answer counts is one at most
+one-if : (b : Bool) → cond {A = ℕ} b 1 0 ≤ 1
+one-if true = omega arith
+one-if false = omega arith
+
+pub tally-push : (old new : Tally) (w next : WorldView) (event : Event) (answer : Answer) → IsTallyOf old w → answer ≡ (full_reaction w event).0 → next ≡ (full_reaction w event).1
+    → new.origin ≡ old.origin → new.unreclaimed ≡ unreclaimed_in next
+    → new.totals.reclaimed ≡ old.totals.reclaimed + reclaimed_by answer
+    → new.totals.unlinked + old.unreclaimed ≡ old.totals.unlinked + new.unreclaimed + reclaimed_by answer
+    → IsTallyOf new next × (new.totals.unlinked ≤ old.totals.unlinked + 1) × (old.totals.unlinked ≤ new.totals.unlinked) × (new.totals.reclaimed ≤ old.totals.reclaimed + 1)
+tally-push old new w next event answer t a n o unr rec unl =
+    let c = counted-here w next event answer a n in
+    let given = c.given in
+    let one = c.counts.one in
+    let sum = c.counts.sum in
+    let was = t.unreclaimed in
+    let unlinked = t.unlinked in
+    let reclaimed = t.reclaimed in
+    let r : new.origin.reclaimed ≡ old.origin.reclaimed = ap (λ (z : Origin). z.reclaimed) o in
+    let u : new.origin.unreclaimed ≡ old.origin.unreclaimed = ap (λ (z : Origin). z.unreclaimed) o in (
+      record { unreclaimed = unr; unlinked = omega (arith, given, was, unlinked, r, u, unr, unl); reclaimed = omega (arith, given, reclaimed, r, rec) },
+      omega (arith, one, sum, was, unr, unl),
+      omega (arith, one, sum, was, unr, unl),
+      omega (arith, one, rec),
+    )
+
+pub balanced-push : (old new : BooksView) (total worker : ℕ) (event : Event) (answer : Answer) → AreBalanced old total → total + 1 < 2 ^ 64 → IsReal event → Enters old worker event answer new
+    → new.tally.unreclaimed ≡ unreclaimed_in new.world
+    → new.tally.totals.reclaimed ≡ old.tally.totals.reclaimed + reclaimed_by answer
+    → new.tally.totals.unlinked + old.tally.unreclaimed ≡ old.tally.totals.unlinked + new.tally.unreclaimed + reclaimed_by answer
+    → AreBalanced new (total + 1)
+balanced-push old new total worker event answer b fits real e unr rec unl =
+    let entry : Entry = record { worker = worker; event = event; answer = answer } in
+    let r : Replays old.base new.world (old.journal ++ entry ∷ []) = replays_push old.base old.world new.world old.journal entry b.replays real e.answers e.world in
+    let n : length new.journal ≡ length old.journal + 1 = ap length e.journal ∙ length-append old.journal (entry ∷ []) in
+    let s : steps_of new.journal ≡ steps_of old.journal + steps_by answer = ap steps_of e.journal ∙ steps_push old.journal entry in
+    let t = tally-push old.tally new.tally old.world new.world event answer b.tally e.answers e.world e.origin unr rec unl in
+    let one : steps_by answer ≤ 1 = one-if (is_step answer) in
+    let count = b.count in
+    let before = e.before in
+    let steps = b.steps in
+    let steps_before = e.steps_before in
+    let steps_now = e.steps in
+    let few_steps = b.few_steps in
+    let few_unlinked = b.few_unlinked in
+    let few_reclaimed = b.few_reclaimed in
+    let t1 = t.1 in
+    let t3 = t.3 in record {
+      replays = subst (λ (z : WorldView × List Entry). Replays z.0 new.world z.1) (λ i. (sym e.base i, sym e.journal i)) r;
+      count = omega (arith, n, count, before);
+      fits = fits;
+      tally = t.0;
+      steps = omega (arith, s, steps, steps_before, steps_now);
+      few_steps = omega (arith, few_steps, steps_now, one);
+      few_unlinked = omega (arith, few_unlinked, t1);
+      few_reclaimed = omega (arith, few_reclaimed, t3);
+    }
+
+-- a world and its empty journal, at the start and after a cut
+pub quiet-replays : (w base : WorldView) (entries : List Entry) → IsWorld w → HasNoRuns w → base ≡ w → entries ≡ [] → Replays base w entries
+quiet-replays w base entries is quiet same none =
+    subst (λ (z : WorldView × List Entry). Replays z.0 w z.1) (λ i. (sym same i, sym none i)) (empty_replays w is quiet)
+
+pub balanced-cut : (old new : BooksView) (total : ℕ) → AreBalanced old total → HasNoRuns old.world → CutsTo old new → AreBalanced new total
+balanced-cut old new total b quiet c =
+    let is : IsWorld old.world = replays_to_world old.base old.world old.journal b.replays in
+    let r : Replays new.base old.world new.journal = quiet-replays old.world new.base new.journal is quiet c.base c.journal in
+    let n : length new.journal ≡ 0 = ap length c.journal in
+    let s : steps_of new.journal ≡ 0 = ap steps_of c.journal in
+    let count = b.count in
+    let before = c.before in
+    let steps = b.steps in
+    let steps_before = c.steps_before in
+    let same : new.tally ≡ old.tally = c.tally in
+    let t : new.tally.totals.steps ≡ old.tally.totals.steps = ap (λ (z : Tally). z.totals.steps) same in record {
+      replays = subst (λ (z : WorldView). Replays new.base z new.journal) (sym c.world) r;
+      count = omega (arith, n, count, before);
+      fits = b.fits;
+      tally = subst (λ (z : Tally × WorldView). IsTallyOf z.0 z.1) (λ i. (sym same i, sym c.world i)) b.tally;
+      steps = omega (arith, s, steps, steps_before, t);
+      few_steps = subst (λ (z : Tally). z.totals.steps ≤ total) (sym same) b.few_steps;
+      few_unlinked = subst (λ (z : Tally). z.totals.unlinked ≤ total) (sym same) b.few_unlinked;
+      few_reclaimed = subst (λ (z : Tally). z.totals.reclaimed ≤ total) (sym same) b.few_reclaimed;
+    }
+
+pub balanced-new : (b : BooksView) (total : ℕ) → IsWorld b.base → HasNoRuns b.base → b.world ≡ b.base → b.journal ≡ [] → b.before ≡ 0 → b.steps_before ≡ 0 → total ≡ 0
+    → IsTallyOf b.tally b.world → b.tally.totals.steps ≡ 0 → b.tally.totals.unlinked ≡ 0 → b.tally.totals.reclaimed ≡ 0 → AreBalanced b total
+balanced-new b total is quiet same none before steps_before zero tally steps unlinked reclaimed =
+    let n : length b.journal ≡ 0 = ap length none in
+    let s : steps_of b.journal ≡ 0 = ap steps_of none in record {
+      replays = subst (λ (z : WorldView × List Entry). Replays b.base z.0 z.1) (λ i. (sym same i, sym none i)) (empty_replays b.base is quiet);
+      count = omega (arith, n, before, zero);
+      fits = omega (arith, zero);
+      tally = tally;
+      steps = omega (arith, s, steps_before, steps);
+      few_steps = omega (arith, steps);
+      few_unlinked = omega (arith, unlinked);
+      few_reclaimed = omega (arith, reclaimed);
+    }

@@ -1,0 +1,5 @@
+pub mod Meters
+pub mod Counting
+pub mod Balance
+pub mod Quiet
+pub mod Exits

@@ -1,0 +1,9 @@
+use Rattle.std.proofs.Common.{rules}
+use Rattle.shared.proofs.Meters.{begins, forks}
+use Rattle.shared.proofs.state.begin.Goals as goal
+
+pub ruled-requires : goal.ruled-requires
+ruled-requires c = (search rules, (search rules, begins))
+
+pub split_pass-reader-requires : goal.split_pass-reader-requires
+split_pass-reader-requires c = (search rules, (search rules, (search rules, forks _ _)))

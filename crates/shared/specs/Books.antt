@@ -1,0 +1,91 @@
+-- What the lock guards, as contracts see it.
+use Rattle.std.specs.Prelude.{◌≡◌, ℕ, ◌+◌, ◌-◌, ◌^◌, ◌<◌, ◌≤◌, ◌⊎◌, List, [], ◌∷◌, ◌++◌, length}
+use Rattle.bpf_model.specs.declared.event.Event.{Event}
+use Rattle.bpf_model.specs.declared.event.Answer.{Answer}
+use Rattle.bpf_model.specs.View.{WorldView}
+use Rattle.journal.specs.declared.entry.Entry.{Entry}
+use Rattle.journal.specs.Entries.{JournalView}
+use Rattle.journal_laws.specs.Replay.{Replays}
+use Rattle.journal_laws.specs.Totals.{steps_of}
+use Rattle.world_laws.specs.Reacting.{full_reaction}
+use Rattle.shared.specs.declared.tally.Tally.{Tally}
+use Rattle.shared.specs.declared.tally.Totals.{Totals}
+use Rattle.shared.specs.Tally.{IsTallyOf, steps_by}
+
+-- The base, the world now, the entries from the one to the other and how many there may be, how
+-- many entries there were before the base and how many of them were steps, and what is counted.
+pub record BooksView : Type 0 where
+  pub base : WorldView
+  pub world : WorldView
+  pub journal : List Entry
+  pub limit : ℕ
+  pub before : ℕ
+  pub steps_before : ℕ
+  pub tally : Tally
+
+-- The books balance: the journal replays from the base, which has no run, to the world; the
+-- ledger's total is the number of the entries before the base and of those in the journal; the
+-- totals are the world's, and no greater than that number.
+pub record AreBalanced (b : BooksView) (total : ℕ) : Type 0 where
+  pub replays : Replays b.base b.world b.journal
+  pub count : b.before + length b.journal ≡ total
+  pub fits : total < 2 ^ 64
+  pub tally : IsTallyOf b.tally b.world
+  pub steps : b.steps_before + steps_of b.journal ≡ b.tally.totals.steps
+  pub few_steps : b.tally.totals.steps ≤ total
+  pub few_unlinked : b.tally.totals.unlinked ≤ total
+  pub few_reclaimed : b.tally.totals.reclaimed ≤ total
+
+pub record WorkerView : Type 0 where
+  pub number : ℕ
+  pub made : ℕ
+  pub parts : ℕ
+
+-- what the journal shows beside its entries and its limit is its own
+abbrev pub books_view : WorldView → WorldView → JournalView → ℕ → ℕ → Tally → BooksView
+books_view base world journal before steps_before tally = record {
+  base = base;
+  world = world;
+  journal = journal.entries;
+  limit = journal.limit;
+  before = before;
+  steps_before = steps_before;
+  tally = tally;
+}
+
+-- no further entry can be made: the journal has as many as it may have, or as many as a number can
+-- count were made
+abbrev pub IsJournalFull : BooksView → Type 0
+IsJournalFull b = (length b.journal ≡ b.limit) ⊎ (b.before + length b.journal ≡ 2 ^ 64 - 1)
+
+-- One event: its entry is added, the answer and the new world are the world's reaction, and what is
+-- counted goes on.
+pub record Enters (old : BooksView) (worker : ℕ) (event : Event) (answer : Answer) (new : BooksView)
+    : Type 0 where
+  pub journal : new.journal ≡ old.journal
+      ++ (record { worker = worker; event = event; answer = answer }) ∷ []
+  pub answers : answer ≡ (full_reaction old.world event).0
+  pub world : new.world ≡ (full_reaction old.world event).1
+  pub base : new.base ≡ old.base
+  pub limit : new.limit ≡ old.limit
+  pub before : new.before ≡ old.before
+  pub steps_before : new.steps_before ≡ old.steps_before
+  pub origin : new.tally.origin ≡ old.tally.origin
+  pub steps : new.tally.totals.steps ≡ old.tally.totals.steps + steps_by answer
+
+-- no total is less than it was
+pub record TotalsRise (old new : Totals) : Type 0 where
+  pub steps : old.steps ≤ new.steps
+  pub unlinked : old.unlinked ≤ new.unlinked
+  pub reclaimed : old.reclaimed ≤ new.reclaimed
+
+-- The world now is the base, and the journal is empty; its entries are counted as those before the
+-- base.
+pub record CutsTo (old new : BooksView) : Type 0 where
+  pub base : new.base ≡ old.world
+  pub world : new.world ≡ old.world
+  pub journal : new.journal ≡ []
+  pub limit : new.limit ≡ old.limit
+  pub before : new.before ≡ old.before + length old.journal
+  pub steps_before : new.steps_before ≡ old.steps_before + steps_of old.journal
+  pub tally : new.tally ≡ old.tally

@@ -1,0 +1,6 @@
+pub mod Tally
+pub mod Books
+pub mod Codes
+pub mod Receipts
+pub mod Meter
+pub mod Numbers

@@ -1,0 +1,54 @@
+-- The counters' cell: one pass writes it and knows its words, and the others know no more than
+-- them.
+use Rattle.std.specs.Prelude.{◌≡◌, ℕ, ◌≤◌, List, [], ◌∷◌, slice_index, true, false}
+use mathlib.Core.Option.{some}
+use lib.ListN.{get_elem?}
+use Rattle.shared.specs.declared.meter.MeterView.{MeterView}
+use Rattle.shared.specs.declared.tally.Totals.{Totals}
+
+-- what is known is no more than the words
+pub record IsKnownOf (v : MeterView) (words : List ℕ) : Type 0 where
+  pub steps : v.steps ≤ slice_index words 0
+  pub unlinked : v.unlinked ≤ slice_index words 1
+  pub reclaimed : v.reclaimed ≤ slice_index words 2
+
+pub record FitsMeter (seat : ℕ) (words : List ℕ) (by : ℕ) (v : MeterView) : Type 0 where
+  pub known : IsKnownOf v words
+  pub own : v.writes ≡ true → by ≡ seat
+  pub same : v.writes ≡ true → words ≡ v.steps ∷ v.unlinked ∷ v.reclaimed ∷ []
+
+-- one seat writes, and each view fits
+pub record IsMetered (words : List ℕ) (views : List MeterView) : Type 0 where
+  pub seat : ℕ
+  pub each : (by : ℕ) (v : MeterView) → get_elem? views by ≡ some v → FitsMeter seat words by v
+
+abbrev pub writer_of : ℕ → ℕ → ℕ → MeterView
+writer_of steps unlinked reclaimed =
+    record { writes = true; steps = steps; unlinked = unlinked; reclaimed = reclaimed }
+
+abbrev pub writer_at : Totals → MeterView
+writer_at t = writer_of t.steps t.unlinked t.reclaimed
+
+abbrev pub reader_of : MeterView → MeterView
+reader_of v = record {
+  writes = false;
+  steps = v.steps;
+  unlinked = v.unlinked;
+  reclaimed = v.reclaimed;
+}
+
+-- the writer knows what it wrote
+abbrev pub Wrote : MeterView → List ℕ → List ℕ → MeterView → Type 0
+Wrote v before after w =
+    w ≡ writer_of (slice_index after 0) (slice_index after 1) (slice_index after 2)
+
+-- the reader knows what it read, which is no less than what it knew
+abbrev pub Read : MeterView → List ℕ → List ℕ → MeterView → Type 0
+Read v before after w =
+    (w ≡ record {
+      writes = v.writes;
+      steps = slice_index after 0;
+      unlinked = slice_index after 1;
+      reclaimed = slice_index after 2;
+    })
+    × IsKnownOf v after

@@ -1,0 +1,39 @@
+-- What a receipt and a note say.
+use Rattle.std.specs.Prelude.{◌≡◌, ℕ, List, Option, Some, None, Result, slice_get, map}
+use Rattle.bpf_model.specs.declared.event.Event.{Event}
+use Rattle.bpf_model.specs.declared.event.Answer.{Answer}
+use Rattle.bpf_model.specs.declared.insn.Insn.{Insn}
+use Rattle.bpf_model.specs.View.{WorldView, HasExited}
+use Rattle.verifier.specs.Checked.{Checked}
+use Rattle.world_invariant.specs.Invariant.{IsWorld}
+use Rattle.shared.specs.declared.fault.SharedFault.{SharedFault}
+
+-- who called, how many entries it has made, the event, and the answer
+pub record ReceiptView : Type 0 where
+  pub worker : ℕ
+  pub number : ℕ
+  pub event : Event
+  pub reply : Result Answer SharedFault
+
+-- who asked, how many entries it has made, for which run, program and context, and the exit value
+pub record NoteView : Type 0 where
+  pub worker : ℕ
+  pub number : ℕ
+  pub run : ℕ
+  pub prog : ℕ
+  pub context : List ℕ
+  pub exit : Option ℕ
+
+-- In the world the run has exited with this value, of the program that was asked for on the
+-- context.
+abbrev pub IsExitOf : WorldView → ℕ → Option Checked → List ℕ → ℕ → Type 0
+IsExitOf w run None context n = ⊥
+IsExitOf w run (Some program) context n = HasExited w run program.program context n
+
+-- In some world, with the programs that are asked for by number, the run has exited with this
+-- value.
+pub record HasExitedOnce (programs : List Checked) (run prog : ℕ) (context : List ℕ) (n : ℕ)
+    : Type 0 where
+  pub world : WorldView
+  pub is_world : IsWorld world
+  pub exited : IsExitOf world run (slice_get programs prog) context n

@@ -1,0 +1,249 @@
+//! The world with its journal, and the ledger that counts its entries. No method waits.
+ghost use Rattle.std.specs.Prelude.{◌≡◌, ℕ, ◌+◌, ◌-◌, ◌^◌, ◌<◌, ◌≤◌, ◌↔◌, ◌⊎◌, List, [], length, IsTrue, true, IfOk, IfSome, IfNone, OnErr, OnOk, Err, Ok, option_copied};
+ghost use Rattle.journal_laws.specs.Replay.{Replays, HasNoRuns};
+ghost use Rattle.world_invariant.specs.Invariant.{IsWorld};
+ghost use Rattle.shared.specs.Receipts.{IsExitOf};
+ghost use Rattle.shared.specs.Tally.{IsTallyOf, origin_of};
+ghost use Rattle.shared.specs.Books.{IsJournalFull, Enters, TotalsRise, CutsTo};
+ghost use Rattle.shared.specs.declared.fault.SharedFault.TheVariants as fault;
+ghost use Rattle.shared.specs.declared.fault.CutFault.TheVariants as cut_fault;
+
+use crate::fault::{CutFault, SharedFault};
+use crate::receipt::{ExitNote, Receipt};
+use crate::tally::{Tally, Totals, unreclaimed};
+use crate::worker::Worker;
+use bpf_model::{CtxBytes, Event, ProgId, RunId};
+use journal::{Entry, Journal, JournalFault};
+use std::alloc::Global;
+use std::marker::Model;
+use std::sync::ledger::{Book, Ledger, Share};
+use verifier::Verified;
+use world::World;
+
+/// A base, what happened since, and the world now.
+#[derive(Drop)]
+pub struct Books<L: Ledger> {
+    base: World,
+    world: World,
+    journal: Journal,
+    before: u64,
+    steps_before: u64,
+    tally: Tally,
+    book: Book<L>,
+}
+
+impl<L: Ledger> Model for Books<L> {
+    ghost use Rattle.shared.specs.Books.{BooksView};
+    ghost use Rattle.shared.specs.Codes.{books_code};
+
+    ghost Value = { BooksView };
+
+    ghost coded = { books_code };
+
+    ghost use Rattle.shared.specs.Books.{books_view, AreBalanced};
+
+    ghost view = { λ b. books_view b.base b.world b.journal b.before b.steps_before b.tally };
+
+    ghost invariant = { λ b. AreBalanced (books_view b.base b.world b.journal b.before b.steps_before b.tally) b.book.total };
+}
+
+/// What a shared world leaves: the base, the world now, and the journal from the one to the other.
+#[derive(Drop)]
+pub struct Finished {
+    pub base: World,
+    pub world: World,
+    pub journal: Journal,
+}
+
+/// Whether no run slot of a world is occupied.
+pub fn is_quiet(world: &World) -> bool
+    ensures { IsTrue result ↔ HasNoRuns world.now }
+{
+    world.stat().runs == 0
+}
+
+/// Room for one more entry, where the journal and the count of all entries allow it.
+fn make_room(journal: &mut Journal, before: u64) -> Result<(), SharedFault>
+    requires { before + length journal.old.entries < 2 ^ 64 }
+    ensures full { (result ≡ Err fault.JournalFull)
+        ↔ ((length journal.old.entries ≡ journal.old.limit)
+        ⊎ (before + length journal.old.entries ≡ 2 ^ 64 - 1)) }
+    ensures room { OnOk result (journal.new.has_room ≡ true) }
+    ensures count { OnOk result (before + length journal.old.entries + 1 < 2 ^ 64) }
+    ensures entries { journal.new.entries ≡ journal.old.entries }
+    ensures limit { journal.new.limit ≡ journal.old.limit }
+{
+    if before == u64::MAX - journal.len() as u64 {
+        return Err(SharedFault::JournalFull);
+    }
+    match journal.reserve_one() {
+        Ok(()) => Ok(()),
+        Err(JournalFault::Full) => Err(SharedFault::JournalFull),
+        Err(JournalFault::Memory) => Err(SharedFault::Memory),
+    }
+}
+
+impl<L: Ledger> Books<L> {
+    /// The books of a world in which no run slot is occupied, with an empty journal.
+    pub(crate) fn new(base: World, world: World, journal: Journal, book: Book<L>) -> Books<L>
+        requires same { world ≡ base }
+        requires quiet { HasNoRuns base }
+        requires journal { journal.entries ≡ [] }
+        requires book { book.total ≡ 0 }
+        ensures base { result.base ≡ base }
+        ensures world { result.world ≡ base }
+        ensures journal { result.journal ≡ [] }
+        ensures limit { result.limit ≡ journal.limit }
+        ensures before { (result.before ≡ 0) × (result.steps_before ≡ 0) }
+        ensures origin { result.tally.origin ≡ origin_of base }
+        ensures totals { result.tally.totals ≡ record { steps = 0; unlinked = 0; reclaimed = 0 } }
+    {
+        base.is_world();
+        let tally = Tally::new(&world);
+        Books {
+            base,
+            world,
+            journal,
+            before: 0,
+            steps_before: 0,
+            tally,
+            book,
+        }
+    }
+
+    /// Applies the event and enters it, or changes nothing.
+    ///
+    /// The reply is `JournalFull` exactly when the journal has as many entries as it may have, or when as many
+    /// as a number can count were made since the world was shared; `Memory` when the journal could not grow.
+    pub fn act_noted(&mut self, worker: &mut Worker<L>, event: Event) -> Receipt
+        ensures worker { result.worker ≡ worker.old.number }
+        ensures event { result.event ≡ event }
+        ensures number { result.number ≡ worker.new.made }
+        ensures entered { IfOk result.reply (λ answer.
+            Enters self.old worker.old.number event answer self.new) }
+        ensures made { OnOk result.reply (worker.new.made ≡ worker.old.made + 1) }
+        ensures same_worker { (worker.new.number ≡ worker.old.number)
+            × (worker.new.parts ≡ worker.old.parts) }
+        ensures full { (result.reply ≡ Err fault.JournalFull) ↔ IsJournalFull self.old }
+        ensures err { OnErr result.reply ((self.new ≡ self.old) × (worker.new ≡ worker.old)) }
+        ensures rise { TotalsRise self.old.tally.totals self.new.tally.totals }
+    {
+        if let Err(fault) = make_room(&mut self.journal, self.before) {
+            return Receipt::new(worker.number, worker.made, event, Err(fault));
+        }
+        event.is_real();
+        self.world.is_world();
+        let answer = self.world.apply(&event);
+        self.tally.count(&answer, unreclaimed(&self.world));
+        self.book.audit(&mut worker.share);
+        self.book.add(&mut worker.share, 1);
+        worker.made += 1;
+        let entry = Entry {
+            worker: worker.number,
+            event,
+            answer,
+        };
+        self.journal.push(&entry);
+        let Entry {
+            worker: number,
+            event,
+            answer,
+        } = entry;
+        Receipt::new(number, worker.made, event, Ok(answer))
+    }
+
+    /// Asks the world for the exit value of a run, for a program and a context. Nothing changes.
+    pub fn exit_noted(
+        &self,
+        worker: &Worker<L>,
+        run: RunId,
+        prog: ProgId,
+        program: Option<&Verified>,
+        ctx: &CtxBytes,
+    ) -> ExitNote
+        ensures worker { result.worker ≡ worker.now.number }
+        ensures number { result.number ≡ worker.now.made }
+        ensures run { result.run ≡ run }
+        ensures prog { result.prog ≡ prog }
+        ensures context { result.context ≡ ctx.now.items }
+        ensures some { IfSome result.exit (λ n.
+            IsExitOf self.now.world run (option_copied program.entry) ctx.now.items n) }
+        ensures world { IsWorld self.now.world }
+        ensures none { IfNone result.exit ((n : ℕ) →
+            IsExitOf self.now.world run (option_copied program.entry) ctx.now.items n → ⊥) }
+    {
+        self.world.is_world();
+        let exit = match program {
+            Some(program) => self.world.exit_of(run, program, ctx),
+            None => None,
+        };
+        ExitNote::new(worker.number, worker.made, run, prog, ctx, exit)
+    }
+
+    /// Makes the world its own new base and empties the journal, whose entries are counted as those before the
+    /// base. The world stays as it was.
+    ///
+    /// Errors, and then nothing has changed: `NotQuiet` where a run slot is occupied; else `Memory` where there
+    /// is none for the copy.
+    pub fn cut(&mut self, alloc: Global) -> Result<(), CutFault>
+        ensures quiet { (result ≡ Err cut_fault.NotQuiet) ↔ (HasNoRuns self.old.world → ⊥) }
+        ensures ok { OnOk result (CutsTo self.old self.new) }
+        ensures err { OnErr result (self.new ≡ self.old) }
+    {
+        if !is_quiet(&self.world) {
+            return Err(CutFault::NotQuiet);
+        }
+        match self.world.copy(alloc) {
+            Err(_) => Err(CutFault::Memory),
+            Ok(base) => {
+                self.base = base;
+                self.before += self.journal.len() as u64;
+                self.steps_before = self.tally.totals.steps;
+                self.journal.cut();
+                Ok(())
+            }
+        }
+    }
+
+    /// A law: the journal replays from the base to the world, and the totals are the world's, since its origin.
+    pub fn are_balanced(&self)
+        ensures replays { Replays self.now.base self.now.world self.now.journal }
+        ensures tally { IsTallyOf self.now.tally self.now.world }
+    {
+        let _base = &self.base;
+    }
+
+    /// The base, the world and the journal. The shares of all workers add up to the entries before the base
+    /// and those in the journal.
+    pub(crate) fn finish(mut self, all: &mut Share<L>) -> Finished
+        requires { all.old.parts ≡ L.parts }
+        ensures base { result.base ≡ self.base }
+        ensures world { result.world ≡ self.world }
+        ensures journal { result.journal.entries ≡ self.journal }
+        ensures replays { Replays result.base result.world result.journal.entries }
+        ensures total { self.before + length result.journal.entries ≡ all.old.amount }
+    {
+        self.book.audit(all);
+        let Books {
+            base,
+            world,
+            journal,
+            before: _,
+            steps_before: _,
+            tally: _,
+            book: _,
+        } = self;
+        Finished {
+            base,
+            world,
+            journal,
+        }
+    }
+
+    /// The three totals since the world was shared.
+    pub(crate) fn totals(&self) -> Totals
+        ensures { result ≡ self.now.tally.totals }
+    {
+        self.tally.totals
+    }
+}

@@ -1,0 +1,182 @@
+//! The lock.
+ghost use Rattle.std.specs.Prelude.{◌≡◌, ℕ, ◌+◌, ◌<◌, ◌≤◌, length, vec_len, sum_by, All, IfOk, IfSome, OnErr, OnOk, option_copied, slice_get};
+ghost use Rattle.shared.specs.declared.worker.TheConstants.{MAX_WORKERS};
+ghost use Rattle.shared.specs.Receipts.{HasExitedOnce};
+ghost use Rattle.shared.specs.Tally.{origin_of, shown_totals};
+ghost use Rattle.journal_laws.specs.Replay.{Replays, HasNoRuns};
+
+use crate::books::{Books, Finished};
+use crate::counters::Counters;
+use crate::fault::{CutFault, SharedFault};
+use crate::receipt::{ExitNote, Receipt};
+use crate::state::{State, begin};
+use crate::tally::Origin;
+use crate::worker::{Worker, Workers, hands, merged};
+use bpf_model::{Answer, CtxBytes, Event, MAX_PROGRAMS, ProgId, RunId};
+use journal::Journal;
+use std::alloc::{AllocError, Global};
+use std::marker::Model;
+use std::sync::ledger::{Blank, Ledger};
+use std::sync::{Mutex, Wait};
+use verifier::Verified;
+use world::World;
+
+/// A world that workers share. Contracts see its programs.
+#[derive(Drop)]
+pub struct Shared<L: Ledger> {
+    state: Mutex<State<L>>,
+    programs: Vec<Verified>,
+}
+
+impl<L: Ledger> Model for Shared<L> {
+    ghost use Rattle.std.specs.Prelude.{List};
+    ghost use Rattle.verifier.specs.Checked.{Checked};
+
+    ghost Value = { List Checked };
+
+    ghost view = { λ s. s.programs.items };
+}
+
+/// The programs of a world, by number.
+fn programs_of(alloc: Global, world: &World) -> Result<Vec<Verified>, AllocError> {
+    let mut programs = Vec::new(alloc);
+    for number in 0..MAX_PROGRAMS {
+        match world.program(ProgId::new(number)) {
+            None => return Ok(programs),
+            Some(loaded) => programs.push(loaded.verified.copy(alloc)?)?,
+        }
+    }
+    Ok(programs)
+}
+
+impl<L: Ledger> Shared<L> {
+    /// Shares a world in which no run slot is occupied among 1 to 8 workers, with an empty journal and the
+    /// counters. The ledger has one part for each worker. The error is that there is no memory left.
+    pub fn new(
+        alloc: Global,
+        world: World,
+        workers: u8,
+        blank: Blank,
+    ) -> Result<(Shared<L>, Workers<L>, Counters), AllocError>
+        requires quiet { HasNoRuns world }
+        requires workers { (0 < workers) × (workers ≤ MAX_WORKERS) }
+        requires name { blank.name ≡ L.name }
+        requires parts { (blank.parts ≡ L.parts) × (blank.parts ≡ workers) }
+        ensures count { IfOk result (λ t. vec_len t.1.list ≡ workers) }
+        ensures made { IfOk result (λ t. All (λ w. w.made ≡ 0) t.1.list.items) }
+        ensures counters { IfOk result (λ t. t.2 ≡ shown_totals (origin_of world) 0 0 0) }
+    {
+        let programs = programs_of(alloc, &world)?;
+        let base = world.copy(alloc)?;
+        let (cell, pass, counters) = begin(alloc, Origin::of(&world))?;
+        let (book, all) = blank.open::<L>();
+        let workers = hands(alloc, all, workers)?;
+        let books = Books::new(base, world, Journal::new(alloc), book);
+        let shared = Shared {
+            state: Mutex::new(State::new(books, cell, pass)),
+            programs,
+        };
+        Ok((shared, workers, counters))
+    }
+
+    /// Applies one event. The receipt bears the worker, the event, the answer and how many entries the worker
+    /// has made. It waits for the lock, and takes no memory but the journal's.
+    ///
+    /// The reply is an error, and then nothing has changed, where the journal has no room (`JournalFull`) or
+    /// memory was refused (`Memory`).
+    pub fn act_noted<R: Wait>(&self, rt: &R, worker: &mut Worker<L>, event: Event) -> Receipt
+        ensures worker { result.worker ≡ worker.old.number }
+        ensures event { result.event ≡ event }
+        ensures number { result.number ≡ worker.new.made }
+        ensures made { OnOk result.reply (worker.new.made ≡ worker.old.made + 1) }
+        ensures same_worker { (worker.new.number ≡ worker.old.number)
+            × (worker.new.parts ≡ worker.old.parts) }
+        ensures err { OnErr result.reply (worker.new ≡ worker.old) }
+    {
+        let mut state = self.state.lock(rt);
+        state.act_noted(rt, worker, event)
+    }
+
+    /// As `act_noted`, with the answer alone.
+    pub fn act<R: Wait>(
+        &self,
+        rt: &R,
+        worker: &mut Worker<L>,
+        event: Event,
+    ) -> Result<Answer, SharedFault>
+        ensures made { OnOk result (worker.new.made ≡ worker.old.made + 1) }
+        ensures same_worker { (worker.new.number ≡ worker.old.number)
+            × (worker.new.parts ≡ worker.old.parts) }
+        ensures err { OnErr result (worker.new ≡ worker.old) }
+    {
+        self.act_noted(rt, worker, event).into_reply()
+    }
+
+    /// The program of this number, as the world had it when it was shared. It needs no lock.
+    pub fn program(&self, prog: ProgId) -> Option<&Verified>
+        ensures { option_copied result ≡ slice_get self.now prog }
+    {
+        self.programs.get(prog.index())
+    }
+
+    /// Asks for the exit value of a run that has ended and was started with this program on this context. It
+    /// makes no entry and takes no memory, and waits for the lock.
+    pub fn exit_noted<R: Wait>(
+        &self,
+        rt: &R,
+        worker: &Worker<L>,
+        run: RunId,
+        prog: ProgId,
+        ctx: &CtxBytes,
+    ) -> ExitNote
+        ensures worker { result.worker ≡ worker.now.number }
+        ensures number { result.number ≡ worker.now.made }
+        ensures run { result.run ≡ run }
+        ensures prog { result.prog ≡ prog }
+        ensures context { result.context ≡ ctx.now.items }
+        ensures exit { IfSome result.exit (λ n.
+            HasExitedOnce self.now run prog ctx.now.items n) }
+    {
+        let program = self.program(prog);
+        let state = self.state.lock(rt);
+        state.exit_noted(worker, run, prog, program, ctx)
+    }
+
+    /// As `exit_noted`, with the exit value alone.
+    pub fn exit_of<R: Wait>(
+        &self,
+        rt: &R,
+        worker: &Worker<L>,
+        run: RunId,
+        prog: ProgId,
+        ctx: &CtxBytes,
+    ) -> Option<u64>
+        ensures { IfSome result (λ n. HasExitedOnce self.now run prog ctx.now.items n) }
+    {
+        self.exit_noted(rt, worker, run, prog, ctx).exit()
+    }
+
+    /// Makes the world its own new base and empties the journal. It waits for the lock.
+    ///
+    /// Errors, and then nothing has changed: `NotQuiet` where a run slot is occupied; else `Memory` where there
+    /// is none for a copy of the world.
+    pub fn cut<R: Wait>(&self, rt: &R, alloc: Global) -> Result<(), CutFault> {
+        let mut state = self.state.lock(rt);
+        state.cut(alloc)
+    }
+
+    /// The base, the world and the journal. The shares of all workers add up to the entries before the base
+    /// and those in the journal.
+    pub fn finish(self, workers: Workers<L>) -> Finished
+        requires some { 0 < vec_len workers.list }
+        requires all { vec_len workers.list ≡ L.parts }
+        ensures replays { Replays result.base result.world result.journal.entries }
+        ensures total { (before : ℕ) × (before + length result.journal.entries
+            ≡ sum_by (λ w. w.made) workers.list.items) }
+    {
+        let Shared { state, programs: _ } = self;
+        let Workers { list } = workers;
+        let mut all = merged(list);
+        state.into_inner().finish(&mut all)
+    }
+}

@@ -1,0 +1,187 @@
+//! What calls hand out as proof of what was done under the lock.
+ghost use Rattle.std.specs.Prelude.{◌≡◌};
+
+use crate::fault::SharedFault;
+use bpf_model::{Answer, CtxBytes, Event, ProgId, RunId};
+use std::marker::Model;
+
+/// What one call of `act_noted` did: who called, the event, the answer, and how many entries the worker has
+/// made. Only the value under the lock makes one, and none is ever copied.
+#[derive(Debug, Drop)]
+pub struct Receipt {
+    worker: u8,
+    number: u64,
+    event: Event,
+    reply: Result<Answer, SharedFault>,
+}
+
+impl Model for Receipt {
+    ghost use Rattle.shared.specs.Receipts.{ReceiptView};
+
+    ghost Value = { ReceiptView };
+
+    ghost view = { λ r. record { worker = r.worker; number = r.number; event = r.event; reply = r.reply } };
+}
+
+impl Receipt {
+    pub(crate) fn new(
+        worker: u8,
+        number: u64,
+        event: Event,
+        reply: Result<Answer, SharedFault>,
+    ) -> Receipt
+        ensures { result ≡ record { worker = worker; number = number; event = event; reply = reply } }
+    {
+        Receipt {
+            worker,
+            number,
+            event,
+            reply,
+        }
+    }
+
+    /// The number of the worker that called.
+    pub fn worker(&self) -> u8
+        ensures { result ≡ self.now.worker }
+    {
+        self.worker
+    }
+
+    /// How many entries the worker has made, after the call.
+    pub fn number(&self) -> u64
+        ensures { result ≡ self.now.number }
+    {
+        self.number
+    }
+
+    /// The event.
+    pub fn event(&self) -> &Event
+        ensures { result.now ≡ self.now.event }
+    {
+        &self.event
+    }
+
+    /// The answer, or why the event was not applied.
+    pub fn reply(&self) -> &Result<Answer, SharedFault>
+        ensures { result.now ≡ self.now.reply }
+    {
+        &self.reply
+    }
+
+    /// The answer alone.
+    pub fn into_reply(self) -> Result<Answer, SharedFault>
+        ensures { result ≡ self.reply }
+    {
+        self.reply
+    }
+}
+
+/// What one call of `exit_noted` answered: who asked, how many entries this worker has made, the run, the
+/// program and the context that were asked for, and the exit value. Only the value under the lock makes one,
+/// and none is ever copied.
+#[derive(Debug, Drop)]
+pub struct ExitNote {
+    worker: u8,
+    number: u64,
+    run: RunId,
+    prog: ProgId,
+    context: CtxBytes,
+    exit: Option<u64>,
+}
+
+impl Model for ExitNote {
+    ghost use Rattle.shared.specs.Receipts.{NoteView};
+
+    ghost Value = { NoteView };
+
+    ghost view = { λ n. record {
+      worker = n.worker;
+      number = n.number;
+      run = n.run;
+      prog = n.prog;
+      context = n.context.items;
+      exit = n.exit;
+    } };
+}
+
+/// A copy of a context.
+fn copy_of(ctx: &CtxBytes) -> CtxBytes
+    ensures { result.items ≡ ctx.now.items }
+{
+    let mut copy = CtxBytes::new();
+    match copy.try_extend_from_slice(ctx.as_slice()) {
+        Ok(()) => copy,
+        Err(_) => unreachable!(),
+    }
+}
+
+impl ExitNote {
+    pub(crate) fn new(
+        worker: u8,
+        number: u64,
+        run: RunId,
+        prog: ProgId,
+        ctx: &CtxBytes,
+        exit: Option<u64>,
+    ) -> ExitNote
+        ensures { result ≡ record {
+          worker = worker;
+          number = number;
+          run = run;
+          prog = prog;
+          context = ctx.now.items;
+          exit = exit;
+        } }
+    {
+        ExitNote {
+            worker,
+            number,
+            run,
+            prog,
+            context: copy_of(ctx),
+            exit,
+        }
+    }
+
+    /// The number of the worker that asked.
+    pub fn worker(&self) -> u8
+        ensures { result ≡ self.now.worker }
+    {
+        self.worker
+    }
+
+    /// How many entries the worker has made.
+    pub fn number(&self) -> u64
+        ensures { result ≡ self.now.number }
+    {
+        self.number
+    }
+
+    /// The run that was asked for.
+    pub fn run(&self) -> RunId
+        ensures { result ≡ self.now.run }
+    {
+        self.run
+    }
+
+    /// The number of the program that was asked for.
+    pub fn prog(&self) -> ProgId
+        ensures { result ≡ self.now.prog }
+    {
+        self.prog
+    }
+
+    /// The context that was asked for.
+    pub fn context(&self) -> &CtxBytes
+        ensures { result.now.items ≡ self.now.context }
+    {
+        &self.context
+    }
+
+    /// The exit value, where the run has ended and was started with this program on this context.
+    pub fn exit(&self) -> Option<u64>
+        ensures { result ≡ self.now.exit }
+    {
+        self.exit
+    }
+}

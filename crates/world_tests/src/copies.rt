@@ -1,0 +1,87 @@
+//! Copies of a world: a copy answers as the original would, whatever becomes of the other.
+use crate::generated::{SHAPES, event, sources};
+use crate::making::{Source, world_of};
+use crate::programs::LOOKUP;
+use crate::random::Random;
+use crate::replay::{counts_text, replay};
+use crate::script::tell_answer;
+use bpf_model::{MapId, MapShape};
+use std::test::Fail;
+
+const SHAPE: MapShape = MapShape {
+    key_len: 4,
+    value_len: 8,
+    entries: 4,
+    spare: 4,
+    reuse_limit: 100,
+};
+
+const LOOKING: Source = Source {
+    lines: LOOKUP,
+    maps: &[0],
+    context_len: 0,
+};
+
+/// Run 0 is inside a section and has the element that is unlinked next; run 1 has ended.
+const BEFORE: &str = "put 0 00000000 0700000000000000 0 = ret 0\n\
+start 0 - = run 0\n\
+step 0 8 = moved\n\
+del 0 00000000 = ret 0\n\
+put 0 00000000 0800000000000000 0 = ret 0\n\
+start 0 - = run 1\n\
+step 1 20 = exit 8\n\
+stat = stat linked 1 unlinked 1 given 0 worn 0 runs 2 open 1\n";
+
+/// The unlinked element is read, and reclaimed once the section has ended.
+const AFTER: &str = "stat = stat linked 1 unlinked 1 given 0 worn 0 runs 2 open 1\n\
+advance = ok\n\
+advance = ok\n\
+reap = none\n\
+step 0 2 = moved\n\
+advance = ok\n\
+reap = reaped 0 00000000 free\n\
+reap = none\n\
+step 0 2 = exit 7\n\
+drop 1 = ok\n\
+start 0 - = run 1\n\
+get 0 00000000 = value 0800000000000000\n\
+step 1 20 = exit 8\n\
+stat = stat linked 1 unlinked 0 given 1 worn 0 runs 2 open 0\n";
+
+#[test]
+fn copy_goes_its_own_way(rt: HostRuntime) -> Result<(), Fail> {
+    let alloc = rt.alloc();
+    let mut world = world_of(alloc, &[SHAPE], &[LOOKING])?;
+    assert_eq!(rt; replay(alloc, &mut world, BEFORE)?.as_str(), BEFORE);
+    let mut copy = world.copy(alloc)?;
+    assert_eq!(rt; replay(alloc, &mut world, AFTER)?.as_str(), AFTER);
+    drop(world);
+    assert_eq!(rt; replay(alloc, &mut copy, AFTER)?.as_str(), AFTER);
+    assert_eq!(rt; copy.registry().name(MapId::new(0)), Some("m0"));
+    assert_eq!(rt; copy.registry().len(), 1);
+    Ok(())
+}
+
+/// A copy that is made among generated events gives the answers to the rest that the original gives.
+#[test]
+fn copy_answers_alike(rt: HostRuntime) -> Result<(), Fail> {
+    let alloc = rt.alloc();
+    let mut world = world_of(alloc, &SHAPES, &sources())?;
+    let mut random = Random::new(0x9e37_79b9_7f4a_7c15);
+    for _ in 0..1000usize {
+        let _answer = world.apply(&event(&mut random, 0));
+    }
+    let mut copy = world.copy(alloc)?;
+    for _ in 0..1000usize {
+        let event = event(&mut random, 0);
+        let mut wanted = String::new(alloc);
+        tell_answer(alloc, &mut wanted, &world.apply(&event))?;
+        let mut told = String::new(alloc);
+        tell_answer(alloc, &mut told, &copy.apply(&event))?;
+        assert_eq!(rt; told.as_str(), wanted.as_str());
+    }
+    let wanted = counts_text(alloc, &world)?;
+    let told = counts_text(alloc, &copy)?;
+    assert_eq!(rt; told.as_str(), wanted.as_str());
+    Ok(())
+}
