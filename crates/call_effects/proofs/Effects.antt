@@ -30,7 +30,8 @@ use Rattle.register_kinds.specs.States.{kind_of, cell_of, kind_at, kind_in, clas
 use Rattle.register_kinds.specs.Pairs.{IsBelow, AreBelow}
 use Rattle.register_kinds.specs.Changes.{zero, learnt}
 use Rattle.kind_tests.specs.Tests.{AreAll}
-use Rattle.call_effects.specs.Calls.{PerformsCall, NullForks, null_jump}
+use Rattle.kind_tests.specs.Forks.{ForksOnNull}
+use Rattle.call_effects.specs.Calls.{PerformsCall, null_jump}
 
 same : (a : AbsState) → Wider a a
 same a c m d = d
@@ -104,12 +105,12 @@ has_bytes a r len at o e f inside all = record {
 zero-holds : Holds zero 0
 zero-holds = record { least = le_self 0; greatest = le_self 0; zeros = and_self 0; ones = and_self 0 }
 
-pub fork_equal : (a b taken : StateHere) (id dst map : ℕ) → AreAlike (learnt (IsThere id) (state_of a)) (state_of b) → AreAlike (learnt (IsNull id) (state_of a)) (state_of taken) → kind_in a.regs dst ≡ kinds.MaybeNull map id → NullForks true dst a b taken
+pub fork_equal : (a b taken : StateHere) (id dst map : ℕ) → AreAlike (learnt (IsThere id) (state_of a)) (state_of b) → AreAlike (learnt (IsNull id) (state_of a)) (state_of taken) → kind_in a.regs dst ≡ kinds.MaybeNull map id → ForksOnNull true dst a b taken
 fork_equal a b taken id dst map e f g shapes ctx_len n =
     to-both (null_jump true dst n) shapes ctx_len (state_of a) (when_there id origin (state_of a)) (state_of b) (when_null id zero (state_of a)) (state_of taken) e f
     (equal_transfers shapes ctx_len dst n map id (state_of a) zero origin zero-holds origin_has (ap kind_of g))
 
-pub fork_not_equal : (a b taken : StateHere) (id dst map : ℕ) → AreAlike (learnt (IsNull id) (state_of a)) (state_of b) → AreAlike (learnt (IsThere id) (state_of a)) (state_of taken) → kind_in a.regs dst ≡ kinds.MaybeNull map id → NullForks false dst a b taken
+pub fork_not_equal : (a b taken : StateHere) (id dst map : ℕ) → AreAlike (learnt (IsNull id) (state_of a)) (state_of b) → AreAlike (learnt (IsThere id) (state_of a)) (state_of taken) → kind_in a.regs dst ≡ kinds.MaybeNull map id → ForksOnNull false dst a b taken
 fork_not_equal a b taken id dst map e f g shapes ctx_len n =
     to-both (null_jump false dst n) shapes ctx_len (state_of a) (when_null id zero (state_of a)) (state_of b) (when_there id origin (state_of a)) (state_of taken) e f
     (not_equal_transfers shapes ctx_len dst n map id (state_of a) zero origin zero-holds origin_has (ap kind_of g))

@@ -41,12 +41,6 @@ abbrev pub null_jump : Bool → ℕ → ℕ → Insn
 null_jump equal dst n =
     JumpIf (if equal then Equal else NotEqual) Word64 dst (Immediate (pos 0)) (pos n)
 
--- So it is of a jump, with another state where it is taken.
-abbrev pub NullForks : Bool → ℕ → AbsState → AbsState → AbsState → Type 0
-NullForks equal dst old new taken =
-    (shapes : List MapShape) (ctx_len n : ℕ) →
-    Transfers (null_jump equal dst n) shapes ctx_len (state_of old) (state_of new) (Some (state_of taken))
-
 -- The first tests of a call, of its number and of the section: the first that fails, if one does.
 abbrev pub helper_fault : Option Helper → Bool → Option Fault
 helper_fault None inside = Some UnknownCall

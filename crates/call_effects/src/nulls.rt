@@ -2,7 +2,8 @@
 ghost use Rattle.std.specs.Prelude.{◌≡◌, ℕ, IfOk, OnErr, true, false};
 ghost use Rattle.register_kinds.specs.States.{kind_in};
 ghost use Rattle.register_kinds.specs.Pairs.{AreBelow};
-ghost use Rattle.call_effects.specs.Calls.{NullForks, Splits};
+ghost use Rattle.kind_tests.specs.Forks.{ForksOnNull};
+ghost use Rattle.call_effects.specs.Calls.{Splits};
 
 use register_kinds::{AbsState, Lesson, RegKind};
 use std::alloc::{AllocError, Global};
@@ -14,7 +15,7 @@ use std::alloc::{AllocError, Global};
 pub fn fork_equal(state: &mut AbsState, alloc: Global, id: u32) -> Result<Box<AbsState>, AllocError>
     ensures sound { IfOk result (λ taken. (dst map : ℕ)
         → kind_in state.old.regs dst ≡ RegKind.MaybeNull map id
-        → NullForks true dst state.old state.new taken.value) }
+        → ForksOnNull true dst state.old state.new taken.value) }
     ensures splits { IfOk result (λ taken. Splits id state.old taken.value state.new) }
     ensures below { (top : ℕ) → AreBelow top state.old → AreBelow top state.new }
     ensures taken_below { IfOk result (λ taken. (top : ℕ)
@@ -36,7 +37,7 @@ pub fn fork_not_equal(
 ) -> Result<Box<AbsState>, AllocError>
     ensures sound { IfOk result (λ taken. (dst map : ℕ)
         → kind_in state.old.regs dst ≡ RegKind.MaybeNull map id
-        → NullForks false dst state.old state.new taken.value) }
+        → ForksOnNull false dst state.old state.new taken.value) }
     ensures splits { IfOk result (λ taken. Splits id state.old state.new taken.value) }
     ensures below { (top : ℕ) → AreBelow top state.old → AreBelow top state.new }
     ensures taken_below { IfOk result (λ taken. (top : ℕ)

@@ -31,7 +31,8 @@ use Rattle.register_kinds.specs.declared.kind.RegKind.TheVariants as kinds
 use Rattle.register_kinds.specs.declared.state.AbsState.{AbsState as StateHere}
 use Rattle.register_kinds.specs.States.{kind_of, kind_in, state_of}
 use Rattle.compute_effects.specs.Computes.{HasValue}
-use Rattle.control_effects.specs.Forks.{Forks, ForksOnNull, ComparesNumbers, Narrows, AreNarrowed}
+use Rattle.kind_tests.specs.Forks.{Forks, ForksOnNull}
+use Rattle.control_effects.specs.Narrowing.{ComparesNumbers, Narrows, AreNarrowed}
 
 -- a register of which more is known
 known-more : (a : AbsState) (c : Scene) (m : State) (r : ℕ) (k : Kind) (d : Describes a c m) → IsOf c d.naming k (m.regs r) → Describes (with_kind r k a) c m

@@ -1,1 +1,1 @@
-pub mod Forks
+pub mod Narrowing

@@ -9,7 +9,8 @@ ghost use Rattle.typed_runs.specs.Describes.{Scene, IsOf, Describes};
 ghost use Rattle.register_kinds.specs.States.{kind_in, kind_of, state_of};
 ghost use Rattle.register_kinds.specs.Pairs.{AreBelow};
 ghost use Rattle.compute_effects.specs.Computes.{HasValue, HasNumber};
-ghost use Rattle.control_effects.specs.Forks.{Forks, ForksOnNull, ComparesNumbers, Narrows, AreNarrowed};
+ghost use Rattle.kind_tests.specs.Forks.{Forks, ForksOnNull};
+ghost use Rattle.control_effects.specs.Narrowing.{ComparesNumbers, Narrows, AreNarrowed};
 
 use bpf_model::{Condition, Operand, Reg, Size};
 use compute_effects::operand;

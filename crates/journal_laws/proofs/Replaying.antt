@@ -88,7 +88,7 @@ same-answers : (entries : List Entry) → map (λ (e : machine.JournalEntry). e.
 same-answers [] = refl
 same-answers (e ∷ entries) = ap (λ (xs : List Answer). e.answer ∷ xs) (same-answers entries)
 
-pub replays_on_machine : (base world : WorldView) (entries : List Entry) → Replays base world entries → length entries ≤ 16777216 → (m : Machine) → Tracks base m → (last : Machine) × machine.Replays m (map machine_entry entries) last × Tracks world last
+pub replays_on_machine : (base world : WorldView) (entries : List Entry) → Replays base world entries → length entries ≤ 16777216 → (m : Machine) → Tracks base m → (last : Machine) × machine.ReplaysOnMachine m (map machine_entry entries) last × Tracks world last
 replays_on_machine base world entries h short m t =
     let run = answers_machine base (events_of entries) h.base_is.ready h.real m t in
     let last = last_machine m run.0 in

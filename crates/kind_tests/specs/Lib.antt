@@ -1,2 +1,3 @@
 pub mod FaultNumbers
+pub mod Forks
 pub mod Tests

@@ -4,10 +4,8 @@ use Rattle.std.specs.Prelude.{nat_lt, if◌then◌else◌}
 use Rattle.std.proofs.lemmas.Bool.{ltb-true, false≢true}
 use Rattle.std.proofs.lemmas.Option.{none-some}
 use Rattle.bpf_model.specs.declared.insn.Insn.{Insn}
-use Rattle.bpf_model.specs.declared.insn.Insn.TheVariants.{Call, LoadMap, Store}
+use Rattle.bpf_model.specs.declared.insn.Insn.TheVariants.{Call, LoadMap}
 use Rattle.bpf_model.specs.declared.insn.CallKind.TheVariants as kinds
-use Rattle.bpf_model.specs.declared.call.Helper.{Helper}
-use Rattle.bpf_model.specs.declared.call.Helper.TheVariants as helpers
 use Rattle.bpf_model.specs.declared.call.KernelFunction.{KernelFunction}
 use Rattle.bpf_model.specs.declared.call.KernelFunction.TheVariants.{ReadLock, ReadUnlock}
 use Rattle.bpf_model.specs.declared.event.Answer.{Answer}
@@ -20,7 +18,6 @@ use Rattle.bpf_model.specs.MachineStep.{OutcomeStep, InsnStep, KernelStep}
 use Rattle.bpf_model.specs.MapState as map_state
 use Rattle.bpf_model.specs.Section.{Section}
 use Rattle.bpf_model.specs.Step.{Environment, Exits, Moves, Outcome, State, after, map_value, sets}
-use Rattle.bpf_model.specs.Value.{◌>>=◌}
 use Rattle.model_laws.specs.Alone.{HoldsState, IsOwn}
 use Rattle.model_laws.proofs.Alone.{acts-own, helper-own, own-closed}
 use Rattle.model_laws.proofs.Holding.{HoldsOutcome, holds-after, holds-returns}

@@ -1,4 +1,5 @@
 pub mod Alone
 pub mod Ending
 pub mod Going
+pub mod Looping
 pub mod Starting

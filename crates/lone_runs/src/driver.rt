@@ -4,8 +4,9 @@ ghost use Rattle.bpf_model.specs.declared.limits.TheConstants.{MAX_SLOTS};
 ghost use Rattle.bpf_model.specs.Exit.{ExitsWith, MayExitWith};
 ghost use Rattle.lone_runs.specs.Lone.{loaded_alone};
 
-use crate::step::{Step, start_alone, step_alone};
+use crate::step::are_bytes;
 use bpf_model::CtxBytes;
+use machine::{Next, Workspace};
 use verifier::Verified;
 
 /// How a run ended: its exit value, and how many steps it made, the exit among them.
@@ -31,14 +32,26 @@ pub fn run_to_exit(verified: &Verified, ctx: &CtxBytes) -> Finished
     ensures limit { result.steps ≤ MAX_SLOTS }
 {
     let _program = verified.program();
-    let mut run = start_alone(verified, ctx);
+    let context = ctx.as_slice();
+    are_bytes(context);
+    let mut workspace = Workspace::start();
+    let mut index = 0;
+    let mut moved = 0;
     'steps: loop {
-        match step_alone(&mut run, verified) {
-            Step::Moved => {}
-            Step::Exit(value) => {
+        match workspace.step_at(verified, context, index) {
+            Next::At(next) => {
+                index = next;
+                moved += 1;
+            }
+            // A lock or an unlock: a run alone asks nothing else.
+            Next::Shared(_) => {
+                index += 1;
+                moved += 1;
+            }
+            Next::Exit(value) => {
                 return Finished {
                     value,
-                    steps: run.moved() + 1,
+                    steps: moved + 1,
                 };
             }
         }

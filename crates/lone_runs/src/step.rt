@@ -17,7 +17,7 @@ pub enum Step {
 }
 
 /// A law: the elements of a slice of bytes are bytes.
-fn are_bytes(bytes: &[u8])
+pub(crate) fn are_bytes(bytes: &[u8])
     ensures { AreBytes bytes.now }
 {}
 

@@ -1,3 +1,4 @@
+pub mod Workspaces
 pub mod Moves
 pub mod Replies
 pub mod Requests

@@ -37,3 +37,14 @@ pub enum Local {
     /// The run has exited with this value.
     Exit(u64),
 }
+
+/// Where an instruction leads.
+#[derive(Clone, Copy, Debug, PartialEq, Eq)]
+pub enum Next {
+    /// The run goes on with the instruction of this index.
+    At(usize),
+    /// The run is as before, and waits for the world's reply.
+    Shared(Access),
+    /// The run exits with this value.
+    Exit(u64),
+}

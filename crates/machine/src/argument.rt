@@ -5,7 +5,8 @@ ghost use Rattle.world_laws.specs.Calling.{bytes_in};
 ghost use Rattle.world_laws.specs.Moving.{word_in};
 ghost use Rattle.world_laws.specs.Reaching.{IsInFrame};
 
-use crate::run::{FRAME_BASE, MAP_BASE, Run};
+use crate::run::Run;
+use crate::workspace::{FRAME_BASE, MAP_BASE};
 use bpf_model::Reg;
 
 impl Run {
@@ -22,6 +23,6 @@ impl Run {
         ensures { result.now ≡ bytes_in self.now.view r len }
     {
         let at = (self.register(r) - FRAME_BASE) as usize;
-        &self.frame[at..at + len]
+        &self.workspace.frame[at..at + len]
     }
 }

@@ -16,9 +16,11 @@ mod resume;
 mod run;
 mod step;
 mod transfer;
+mod workspace;
 
-pub use access::{Access, Local};
+pub use access::{Access, Local, Next};
 pub use law::{
     own_step_is_the_worlds, reacts_by_insn, running_can_resume, running_can_step, served_as_asked,
 };
 pub use run::Run;
+pub use workspace::Workspace;

@@ -1,16 +1,16 @@
 //! Where words lie, and the bytes that they name.
 ghost use Rattle.std.specs.Prelude.{◌≡◌, ℕ, ◌+◌, ◌^◌, ◌<◌, ◌≤◌, length, pos, ◌+ℤ◌};
-ghost use Rattle.bpf_model.specs.declared.limits.TheConstants.{FRAME_BYTES};
+ghost use Rattle.bpf_model.specs.declared.limits.TheConstants.{CTX_BYTES, FRAME_BYTES};
 ghost use Rattle.bpf_model.specs.Access.{byte_count};
 ghost use Rattle.bpf_model.specs.Word.{frame_base};
 ghost use Rattle.world_laws.specs.Locating.{location_of, number_from};
-ghost use Rattle.world_laws.specs.Moving.{stored_frame};
+ghost use Rattle.bpf_model.specs.MachineStep.{with_bytes};
 ghost use Rattle.world_laws.specs.Reaching.{IsInside};
-ghost use Rattle.machine.specs.RunWords.{HasRoom};
-ghost use Rattle.machine.specs.Moves.{GoesOn, IsIn, offset_from, own_number};
+ghost use Rattle.machine.specs.Workspaces.{own_view, with_frame};
+ghost use Rattle.machine.specs.Moves.{IsIn, offset_from, own_number};
 ghost use Rattle.machine.specs.Requests.{IsInOwn};
 
-use crate::run::{CTX_BASE, FRAME_BASE, Run};
+use crate::workspace::{CTX_BASE, FRAME_BASE, Workspace};
 use bpf_model::Width;
 use byte_numbers::{number_of, write_number};
 
@@ -28,7 +28,7 @@ pub(crate) enum Memory {
     Elsewhere,
 }
 
-#[inline]
+#[inline(always)]
 pub(crate) fn memory_of(word: u64) -> Memory
     ensures { IsIn result word }
 {
@@ -42,7 +42,7 @@ pub(crate) fn memory_of(word: u64) -> Memory
 }
 
 /// A word, moved by an offset.
-#[inline]
+#[inline(always)]
 fn address_of(word: u64, offset: i16) -> u64
     ensures { (a : ℕ) → a < 2 ^ 64 → pos word +ℤ offset ≡ pos a → result ≡ a }
 {
@@ -50,7 +50,7 @@ fn address_of(word: u64, offset: i16) -> u64
 }
 
 /// An address, counted from the first byte of its region.
-#[inline]
+#[inline(always)]
 fn offset_in(base: u64, address: u64, offset: i16) -> usize
     ensures { (at : ℕ) → base + at < 2 ^ 64 → offset_from base address offset ≡ pos at →
         result ≡ at }
@@ -59,7 +59,7 @@ fn offset_in(base: u64, address: u64, offset: i16) -> usize
 }
 
 /// The number at an address of the region that has these bytes.
-#[inline]
+#[inline(always)]
 fn number_in(bytes: &[u8], base: u64, address: u64, offset: i16, width: Width) -> u64
     requires inside { IsInside (length bytes.now) (byte_count width)
         (offset_from base address offset) }
@@ -69,32 +69,36 @@ fn number_in(bytes: &[u8], base: u64, address: u64, offset: i16, width: Width) -
     number_of(bytes, offset_in(base, address, offset), width)
 }
 
-impl Run {
+impl Workspace {
     /// The number that a load finds in the run's own memory; elsewhere it finds none.
-    #[inline]
-    pub(crate) fn find(&self, width: Width, address: u64, offset: i16) -> Option<u64>
-        requires { IsInOwn (byte_count width) offset (location_of address) self.now.view }
+    #[inline(always)]
+    pub(crate) fn find(
+        &self,
+        context: &[u8],
+        width: Width,
+        address: u64,
+        offset: i16,
+    ) -> Option<u64>
+        requires small { length context.now ≤ CTX_BYTES }
+        requires inside { IsInOwn (byte_count width) offset (location_of address)
+            (own_view context.now self.now) }
         ensures { result ≡ own_number (byte_count width) offset (location_of address)
-            self.now.view }
+            (own_view context.now self.now) }
     {
         match memory_of(address) {
-            Memory::Context => {
-                let bytes = self.context.as_slice();
-                Some(number_in(bytes, CTX_BASE, address, offset, width))
-            }
+            Memory::Context => Some(number_in(context, CTX_BASE, address, offset, width)),
             Memory::Frame => Some(number_in(&self.frame, FRAME_BASE, address, offset, width)),
             Memory::Elsewhere => None,
         }
     }
 
-    /// Writes the low bytes of a number to the frame, and goes on.
-    #[inline]
+    /// Writes the low bytes of a number to the frame.
+    #[inline(always)]
     pub(crate) fn write(&mut self, width: Width, address: u64, offset: i16, number: u64)
-        requires room { HasRoom self.old }
-        requires inside { IsInside FRAME_BYTES (byte_count width)
+        requires { IsInside FRAME_BYTES (byte_count width)
             (offset_from frame_base address offset) }
-        ensures { GoesOn (stored_frame (byte_count width) number
-            (offset_from frame_base address offset) self.old.view) self.old self.new }
+        ensures { (at : ℕ) → offset_from frame_base address offset ≡ pos at →
+            self.new ≡ with_frame (with_bytes at (byte_count width) number self.old.frame) self.old }
     {
         write_number(
             &mut self.frame,
@@ -102,6 +106,5 @@ impl Run {
             width,
             number,
         );
-        self.advance(1);
     }
 }

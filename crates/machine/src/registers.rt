@@ -1,25 +1,13 @@
-//! Reading operands, and going on.
+//! Going on after a reply.
 ghost use Rattle.std.specs.Prelude.{◌≡◌, ◌<◌, ◌≤◌};
-ghost use Rattle.world_laws.specs.Moving.{operand_word, with_word};
+ghost use Rattle.world_laws.specs.Moving.{with_word};
 ghost use Rattle.machine.specs.RunWords.{HasRoom};
 ghost use Rattle.machine.specs.Moves.{GoesOn, advanced_view};
 
 use crate::run::Run;
-use alu::immediate;
-use bpf_model::{Operand, Reg};
+use bpf_model::Reg;
 
 impl Run {
-    /// The word of a second operand.
-    #[inline]
-    pub(crate) fn operand(&self, src: &Operand) -> u64
-        ensures { result ≡ operand_word self.now.view src.now }
-    {
-        match src {
-            Operand::Register(r) => self.register(*r),
-            Operand::Immediate(imm) => immediate(*imm),
-        }
-    }
-
     /// Goes on by so many slots.
     #[inline]
     pub(crate) fn advance(&mut self, slots: usize)
@@ -39,7 +27,7 @@ impl Run {
         requires slots { slots ≤ 2 }
         ensures { GoesOn (with_word slots dst word self.old.view) self.old self.new }
     {
-        self.registers[dst.index()] = word;
+        self.workspace.put(dst, word);
         self.advance(slots);
     }
 }

@@ -21,7 +21,7 @@ use Rattle.typed_runs.specs.Kinds.{Kind, CellKind, Num, FrameAt, ByteCell, AbsSt
 use Rattle.typed_runs.specs.Effects.{with_kind, with_cells, IsNumberOperand}
 use Rattle.typed_runs.specs.Planned.{AreAlike}
 use Rattle.compute_effects.specs.Computes.{HasNumber, ReadsNumber}
-use Rattle.control_effects.specs.Forks.{AreNarrowed}
+use Rattle.control_effects.specs.Narrowing.{AreNarrowed}
 use Rattle.state_steps.specs.Facts.{Register as RegisterFact, FrameByte, FramePointer, Section, KeepsFacts, ReadsNumbers, IsReadyInsn}
 use Rattle.control_effects.proofs.Branches.{set-there, set-elsewhere}
 

@@ -30,7 +30,8 @@ use Rattle.memory_effects.specs.declared.region.Region.{Region}
 use Rattle.memory_effects.specs.declared.region.Region.TheVariants as regions
 use Rattle.memory_effects.specs.Accesses.{IsBase}
 use Rattle.register_kinds.specs.States.{kind_at}
-use Rattle.control_effects.specs.Forks.{Forks, ForksOnNull, ComparesNumbers}
+use Rattle.kind_tests.specs.Forks.{Forks, ForksOnNull}
+use Rattle.control_effects.specs.Narrowing.{ComparesNumbers}
 use Rattle.state_steps.specs.declared.flow.Flow.{Flow}
 use Rattle.state_steps.specs.Steps.{IsForward, IsBranch, base_of, IsInRegion, Compares, IsComparable}
 use Rattle.state_steps.specs.Facts.{IsReadyInsn, KeepsFacts}

@@ -9,7 +9,8 @@ ghost use Rattle.register_kinds.specs.Pairs.{AreBelow};
 ghost use Rattle.register_kinds.specs.States.{kind_in, state_of};
 ghost use Rattle.compute_effects.specs.Computes.{HasNumber};
 ghost use Rattle.call_effects.specs.Calls.{Splits};
-ghost use Rattle.control_effects.specs.Forks.{Forks, ForksOnNull, AreNarrowed};
+ghost use Rattle.kind_tests.specs.Forks.{Forks, ForksOnNull};
+ghost use Rattle.control_effects.specs.Narrowing.{AreNarrowed};
 ghost use Rattle.state_steps.specs.Stepped.{Stepped, ComparesWell, IsEqualToNull};
 
 use crate::environment::EnvironmentShape;

@@ -1,7 +1,7 @@
 use Rattle.std.proofs.Common.{◌≡◌, subst, ◌∙◌}
 use Rattle.register_kinds.specs.declared.state.AbsState.{AbsState}
 use Rattle.register_kinds.specs.States.{state_of}
-use Rattle.control_effects.specs.Forks.{Narrows}
+use Rattle.control_effects.specs.Narrowing.{Narrows}
 use Rattle.control_effects.proofs.Branches.{fork_sound, numbers_compared}
 use Rattle.control_effects.proofs.forks.fork.Goals as goal
 

@@ -1,9 +1,9 @@
-use Rattle.std.proofs.Common.{◌≡◌, ◌-◌, length}
-use Rattle.lone_runs.specs.Lone.{IsLone}
+use Rattle.std.proofs.Common.{◌-◌, length}
+use Rattle.lone_runs.specs.Lone.{StandsBefore}
 use Rattle.lone_runs.proofs.driver.run_to_exit.Given as goal
 
 abbrev pub invariant-steps : goal.invariant-steps
-invariant-steps l = IsLone l.verified l.run × (l.run.view.context ≡ l.ctx.items)
+invariant-steps l = StandsBefore l.verified l.context l.index l.moved l.workspace
 
 abbrev pub decreases-steps : goal.decreases-steps
-decreases-steps l = length l.verified.program - l.run.view.moved
+decreases-steps l = length l.verified.program - l.moved

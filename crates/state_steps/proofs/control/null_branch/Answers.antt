@@ -1,6 +1,6 @@
 use Rattle.std.proofs.Common.{sym, subst, Bool}
 use Rattle.std.proofs.lemmas.Result.{IfOk-weaker}
-use Rattle.control_effects.specs.Forks.{ForksOnNull}
+use Rattle.kind_tests.specs.Forks.{ForksOnNull}
 use Rattle.state_steps.proofs.control.null_branch.Goals as goal
 
 pub returns-else-equal-clause-sound : goal.returns-else-equal-clause-sound

@@ -1,4 +1,4 @@
--- Conditional jumps, in words of the laws.
+-- What a comparison tells of its two sides, in words of the laws.
 use Rattle.std.specs.Prelude.{◌≡◌, ℕ, ◌⊎◌, List, Some, pos, Bool, if◌then◌else◌}
 use Rattle.bpf_model.specs.declared.limits.MapShape.{MapShape}
 use Rattle.bpf_model.specs.declared.insn.Insn.TheVariants.{JumpIf}
@@ -19,17 +19,6 @@ use Rattle.typed_runs.specs.Describes.{Scene, IsOf, Describes}
 use Rattle.typed_runs.specs.Verified.{Transfers}
 use Rattle.register_kinds.specs.declared.state.AbsState.{AbsState}
 use Rattle.register_kinds.specs.States.{state_of}
-
--- From each run that the old state describes a jump to a slot further on has a step, and each leads
--- to one that the new state describes, or the other where it jumps.
-abbrev pub Forks : Condition → Size → ℕ → Operand → AbsState → AbsState → AbsState → Type 0
-Forks condition size dst src old new taken =
-    (shapes : List MapShape) (ctx_len n : ℕ) →
-    Transfers (JumpIf condition size dst src (pos n)) shapes ctx_len (state_of old) (state_of new) (Some (state_of taken))
-
-abbrev pub ForksOnNull : Bool → ℕ → AbsState → AbsState → AbsState → Type 0
-ForksOnNull equal dst old new taken =
-    Forks (if equal then Equal else NotEqual) Word64 dst (Immediate (pos 0)) old new taken
 
 -- In each described state both sides of the comparison are numbers.
 abbrev pub IsNumber : Value → Type 0
