@@ -10,6 +10,8 @@ use Rattle.typed_runs.specs.Kinds.{AbsState}
 use Rattle.typed_runs.specs.Describes.{Scene}
 use Rattle.typed_runs.specs.Verified.{Plan, IsPlanned, IsClosed, IsVerified}
 use Rattle.memory_effects.specs.declared.region.Region.{Region}
+use Rattle.resolved_insns.specs.declared.record.ResolvedInsn.{ResolvedInsn}
+use Rattle.resolved_insns.specs.Resolved.{AreResolved}
 use Rattle.state_steps.specs.Steps.{base_of, IsInRegion, Compares, IsComparable}
 use Rattle.verifier.specs.declared.refusal.Refusal.{Refusal}
 use Rattle.verifier.specs.declared.refusal.Refusal.TheVariants.{Graph, Instruction, Memory}
@@ -43,6 +45,11 @@ pub record IsJustified (c : Checked) : Type 0 where
   pub few_states : AreFew c.targets c.peak_states
   pub plan : Plan
   pub justified : Justifies c plan
+
+-- and each of its instructions has its record
+pub record IsRecorded (c : Checked) (records : List ResolvedInsn) : Type 0 where
+  pub justified : IsJustified c
+  pub resolved : AreResolved c.program c.targets records
 
 -- so it is verified in the words of the laws
 abbrev pub verified_of : (c : Checked) → IsJustified c → IsVerified c.program c.shapes c.ctx_len
