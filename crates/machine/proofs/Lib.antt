@@ -1,3 +1,4 @@
+pub mod Acting
 pub mod Doing
 pub mod Landing
 pub mod Laws

@@ -6,6 +6,7 @@
 #![tactic(auto)]
 
 mod access;
+mod act;
 mod argument;
 mod compute;
 mod control;
