@@ -32,13 +32,14 @@ pub fn run_to_exit(verified: &Verified, ctx: &CtxBytes) -> Finished
     ensures limit { result.steps ≤ MAX_SLOTS }
 {
     let _program = verified.program();
+    let records = verified.records();
     let context = ctx.as_slice();
     are_bytes(context);
     let mut workspace = Workspace::start();
     let mut index = 0;
     let mut moved = 0;
     'steps: loop {
-        match workspace.step_at(verified, context, index) {
+        match workspace.step_by(verified, records, context, index) {
             Next::At(next) => {
                 index = next;
                 moved += 1;

@@ -17,18 +17,18 @@ steps-init c =
     let first = starts v c.program-program.ensures.justified verified c.args.ctx.now.items c.requires.context (subst AreBytes c.as_slice-context.ensures.value c.are_bytes.ensures) in
     stands_first v c.as_slice-context.result.now c.start-workspace.result c.start-workspace.ensures (subst (λ (b : List ℕ). StandsAlone v (fresh_view 0 b)) (sym c.as_slice-context.ensures.value) first)
 
-pub step_at-requires-clause-can : goal.step_at-requires-clause-can
-step_at-requires-clause-can c = loop_can c.args.verified.now c.as_slice-context.result.now c.steps.index c.steps.moved c.steps.workspace c.steps.invariant
+pub step_by-requires-clause-can : goal.step_by-requires-clause-can
+step_by-requires-clause-can c = loop_can c.args.verified.now c.as_slice-context.result.now c.steps.index c.steps.moved c.steps.workspace c.steps.invariant
 
 pub returns-in-Exit-clause-exits : goal.returns-in-Exit-clause-exits
 returns-in-Exit-clause-exits c =
     subst (λ (b : List ℕ). ExitsWith (loaded_alone c.args.verified.now) b (c.steps.moved + 1) c.in-Exit.value) c.as_slice-context.ensures.value
-    (loop_exits c.args.verified.now c.as_slice-context.result.now c.steps.index c.steps.moved c.steps.workspace c.steps.invariant c.step_at.new.self c.step_at.result c.in-Exit.value c.step_at.ensures c.in-Exit.is)
+    (loop_exits c.args.verified.now c.as_slice-context.result.now c.steps.index c.steps.moved c.steps.workspace c.steps.invariant c.step_by.new.self c.step_by.result c.in-Exit.value c.step_by.ensures c.in-Exit.is)
 
 pub returns-in-Exit-clause-only : goal.returns-in-Exit-clause-only
 returns-in-Exit-clause-only c = λ steps value may.
     let exits = subst (λ (b : List ℕ). ExitsWith (loaded_alone c.args.verified.now) b (c.steps.moved + 1) c.in-Exit.value) c.as_slice-context.ensures.value
-    (loop_exits c.args.verified.now c.as_slice-context.result.now c.steps.index c.steps.moved c.steps.workspace c.steps.invariant c.step_at.new.self c.step_at.result c.in-Exit.value c.step_at.ensures c.in-Exit.is) in
+    (loop_exits c.args.verified.now c.as_slice-context.result.now c.steps.index c.steps.moved c.steps.workspace c.steps.invariant c.step_by.new.self c.step_by.result c.in-Exit.value c.step_by.ensures c.in-Exit.is) in
     one_exit (loaded_alone c.args.verified.now) c.args.ctx.now.items (c.steps.moved + 1) steps c.in-Exit.value value exits may
 
 pub returns-in-Exit-clause-bounded : goal.returns-in-Exit-clause-bounded
@@ -75,8 +75,8 @@ steps-smaller c =
 
 pub steps-preserved-in-At : goal.steps-preserved-in-At
 steps-preserved-in-At c =
-    loop_moves c.args.verified.now c.as_slice-context.result.now c.steps.index c.steps.moved c.steps.workspace c.steps.invariant c.step_at.new.self c.step_at.result c.in-At.next c.step_at.ensures c.in-At.is
+    loop_moves c.args.verified.now c.as_slice-context.result.now c.steps.index c.steps.moved c.steps.workspace c.steps.invariant c.step_by.new.self c.step_by.result c.in-At.next c.step_by.ensures c.in-At.is
 
 pub steps-preserved : goal.steps-preserved
 steps-preserved c =
-    loop_passes c.args.verified.now c.as_slice-context.result.now c.steps.index c.steps.moved c.steps.workspace c.steps.invariant c.step_at.new.self c.step_at.result _ c.step_at.ensures c.in-Shared.is
+    loop_passes c.args.verified.now c.as_slice-context.result.now c.steps.index c.steps.moved c.steps.workspace c.steps.invariant c.step_by.new.self c.step_by.result _ c.step_by.ensures c.in-Shared.is
