@@ -3,6 +3,9 @@ use Rattle.std.specs.Prelude.{◌≡◌, ℕ, List, Option, Some, None, Result, 
 use Rattle.bpf_model.specs.declared.event.Event.{Event}
 use Rattle.bpf_model.specs.declared.event.Answer.{Answer}
 use Rattle.bpf_model.specs.declared.insn.Insn.{Insn}
+use Rattle.bpf_model.specs.Event.{DoesEvent}
+use Rattle.bpf_model.specs.Machine.{Machine}
+use Rattle.bpf_model.specs.Refines.{Tracks}
 use Rattle.bpf_model.specs.View.{WorldView, HasExited}
 use Rattle.verifier.specs.Checked.{Checked}
 use Rattle.world_invariant.specs.Invariant.{IsWorld}
@@ -23,6 +26,15 @@ pub record NoteView : Type 0 where
   pub prog : ℕ
   pub context : List ℕ
   pub exit : Option ℕ
+
+-- In a state that some world tracks, the abstract machine has a step for the event with this answer.
+pub record IsMachineAnswer (event : Event) (answer : Answer) : Type 0 where
+  pub world : WorldView
+  pub is_world : IsWorld world
+  pub old : Machine
+  pub tracked : Tracks world old
+  pub new : Machine
+  pub step : DoesEvent old event answer new
 
 -- In the world the run has exited with this value, of the program that was asked for on the
 -- context.
