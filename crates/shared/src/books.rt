@@ -115,7 +115,6 @@ impl<L: Ledger> Books<L> {
     ///
     /// The reply is `JournalFull` exactly when the journal has as many entries as it may have, or when as many
     /// as a number can count were made since the world was shared; `Memory` when the journal could not grow.
-    #[tactic(auto, using(crate::proofs::Answered::answered))]
     pub fn act_noted(&mut self, worker: &mut Worker<L>, event: Event) -> Receipt
         ensures worker { result.worker ≡ worker.old.number }
         ensures event { result.event ≡ event }

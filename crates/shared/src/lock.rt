@@ -1,7 +1,7 @@
 //! The lock.
 ghost use Rattle.std.specs.Prelude.{◌≡◌, ℕ, ◌+◌, ◌<◌, ◌≤◌, length, map, vec_len, sum_by, All, IfOk, IfSome, OnErr, OnOk, option_copied, slice_get};
 ghost use Rattle.shared.specs.declared.worker.TheConstants.{MAX_WORKERS};
-ghost use Rattle.shared.specs.Receipts.{HasExitedOnce, IsMachineAnswer};
+ghost use Rattle.shared.specs.Receipts.{HasExitedOnce, IsMachineAnswer, IsOwnExit, IsPossibleExit};
 ghost use Rattle.shared.specs.Tally.{origin_of, shown_totals};
 ghost use Rattle.journal_laws.specs.Replay.{Replays, HasNoRuns};
 
@@ -150,6 +150,12 @@ impl<L: Ledger> Shared<L> {
         ensures context { result.context ≡ ctx.now.items }
         ensures exit { IfSome result.exit (λ n.
             HasExitedOnce self.now run prog ctx.now.items n) }
+
+        // The value is one of the program's definition, and without map references the only one.
+        ensures may { IfSome result.exit (λ n.
+            IsPossibleExit (slice_get self.now prog) ctx.now.items n) }
+        ensures alone { IfSome result.exit (λ n.
+            IsOwnExit (slice_get self.now prog) ctx.now.items n) }
     {
         let program = self.program(prog);
         let state = self.state.lock(rt);
@@ -165,7 +171,10 @@ impl<L: Ledger> Shared<L> {
         prog: ProgId,
         ctx: &CtxBytes,
     ) -> Option<u64>
-        ensures { IfSome result (λ n. HasExitedOnce self.now run prog ctx.now.items n) }
+        ensures exit { IfSome result (λ n. HasExitedOnce self.now run prog ctx.now.items n) }
+        ensures may { IfSome result (λ n.
+            IsPossibleExit (slice_get self.now prog) ctx.now.items n) }
+        ensures alone { IfSome result (λ n. IsOwnExit (slice_get self.now prog) ctx.now.items n) }
     {
         self.exit_noted(rt, worker, run, prog, ctx).exit()
     }
