@@ -40,7 +40,7 @@ const fn shape(key_len: usize, value_len: usize, entries: usize) -> MapShape {
 }
 
 /// A map of 1,024 elements with keys and values of 8 bytes.
-const fn small() -> MapShape {
+pub const fn small() -> MapShape {
     shape(8, 8, 1024)
 }
 

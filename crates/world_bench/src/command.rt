@@ -11,22 +11,27 @@ pub enum Command {
     Answers,
     /// Print how long each activity takes.
     Times,
+    /// Print how long a call of a worker takes, where workers share a world.
+    SharedTimes,
 }
 
 /// Why the words are no command.
 #[derive(Clone, Copy, Debug, PartialEq, Eq, Error)]
 pub enum UsageFault {
-    #[error("usage: world_bench [time]")]
+    #[error("usage: world_bench [[shared] time]")]
     Words,
 }
 
-/// The command that the words after the program's own ask for: none, or `time`.
+/// The command that the words after the program's own ask for: none, `time` or `shared time`.
 pub fn parse_words(words: &[String]) -> Result<Command, UsageFault>
     ensures answers { (words.now ≡ []) ↔ (result ≡ Ok Answers) }
 {
     match words {
         [] => Ok(Command::Answers),
         [word] if word.as_str() == "time" => Ok(Command::Times),
+        [first, second] if first.as_str() == "shared" && second.as_str() == "time" => {
+            Ok(Command::SharedTimes)
+        }
         _ => Err(UsageFault::Words),
     }
 }

@@ -1,8 +1,12 @@
 //! `world_bench`: what a world answers to lists of events, and how long its answers take.
 #![tactic(auto)]
 
+ghost use Rattle.std.specs.Prelude.{◌≡◌, ◌<◌, ◌≤◌};
+ghost use Rattle.shared.specs.declared.worker.TheConstants.{MAX_WORKERS};
+
 mod activity;
 mod command;
+mod crew;
 mod decimal;
 mod measure;
 mod programs;
@@ -13,12 +17,20 @@ mod tally;
 
 use activity::{Activity, activities};
 use anyhow::Result;
-use command::{Command, parse_words};
+use command::{Command, UsageFault, parse_words};
+use crew::{Crew, crews, time_per_call};
 use measure::time_per_part;
 use report::{answers_line, measurement_line};
 use setup::make_setup;
+use shared::MAX_WORKERS;
+use std::alloc::Global;
 use std::env;
+use std::marker::Brand;
 use std::process::ExitCode;
+use std::rt::Clock;
+use std::sync::Wait;
+use std::sync::ledger::Blank;
+use std::thread::Threads;
 
 /// Goes through each activity once, and prints what its events were answered.
 fn print_answers(rt: &HostRuntime) -> Result<()> {
@@ -42,28 +54,66 @@ fn print_times(rt: &HostRuntime) -> Result<()> {
     Ok(())
 }
 
-fn perform(rt: &HostRuntime) -> Result<ExitCode> {
+/// The line of a crew: the nanoseconds of one call.
+fn crew_line<R: Threads + Wait + Clock + Sync>(rt: &R, alloc: Global, crew: &Crew) -> Result<String>
+    requires { (0 < crew.now.workers) × (crew.now.workers ≤ MAX_WORKERS) }
+{
+    let blank = Blank::new(crew.workers.into());
+    let time = time_per_call::<Brand, _>(rt, alloc, blank, crew)?;
+    Ok(measurement_line(alloc, crew.name, time)?)
+}
+
+/// Times each crew.
+fn shared_lines<R: Threads + Wait + Clock + Sync>(rt: &R, alloc: Global) -> Result<Vec<String>> {
+    let mut lines = Vec::new(alloc);
+    for crew in crews() {
+        if crew.workers >= 1 && crew.workers <= MAX_WORKERS {
+            lines.push(crew_line(rt, alloc, &crew)?)?;
+        }
+    }
+    Ok(lines)
+}
+
+fn print_lines(rt: &HostRuntime, lines: Vec<String>) -> Result<()> {
+    for line in lines {
+        rt.println(line)?;
+    }
+    Ok(())
+}
+
+/// What the words after the program's name ask for.
+fn asked(rt: &HostRuntime) -> Result<Result<Command, UsageFault>> {
     let mut words = Vec::new(rt.alloc());
     for word in env::args(rt)?.skip(1) {
         words.push(word)?;
     }
-    match parse_words(words.as_slice()) {
-        Ok(Command::Answers) => print_answers(rt)?,
-        Ok(Command::Times) => print_times(rt)?,
-        Err(fault) => {
-            eprintln!(rt; "{fault}")?;
-            return Ok(ExitCode::from(2));
-        }
-    }
-    Ok(ExitCode::SUCCESS)
+    Ok(parse_words(words.as_slice()))
 }
 
-fn main(rt: HostRuntime) -> ExitCode {
-    match perform(&rt) {
-        Ok(status) => status,
+/// The status of a program that has done what was asked, or not.
+fn status(rt: &HostRuntime, done: Result<()>) -> ExitCode {
+    match done {
+        Ok(()) => ExitCode::SUCCESS,
         Err(error) => {
-            let _ = eprintln!(&rt; "{error}");
+            let _ = eprintln!(rt; "{error}");
             ExitCode::FAILURE
         }
     }
+}
+
+fn main(rt: HostRuntime) -> ExitCode {
+    let done = match asked(&rt) {
+        Ok(Ok(Command::Answers)) => print_answers(&rt),
+        Ok(Ok(Command::Times)) => print_times(&rt),
+        Ok(Ok(Command::SharedTimes)) => match shared_lines(&rt, rt.alloc()) {
+            Ok(lines) => print_lines(&rt, lines),
+            Err(error) => Err(error),
+        },
+        Ok(Err(fault)) => {
+            let _ = eprintln!(&rt; "{fault}");
+            return ExitCode::from(2);
+        }
+        Err(error) => Err(error),
+    };
+    status(&rt, done)
 }

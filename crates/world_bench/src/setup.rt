@@ -40,7 +40,7 @@ fn map() -> MapId {
 }
 
 /// The key of a number: its eight bytes, little-endian, and zeros.
-fn key_of(number: u64, len: usize) -> KeyBytes {
+pub fn key_of(number: u64, len: usize) -> KeyBytes {
     let mut key = KeyBytes::new();
     let _ = key.try_extend_from_slice(&number.to_le_bytes());
     for _ in 8..len {
@@ -140,12 +140,19 @@ fn fill(world: &mut World, shape: &MapShape) -> Result<()> {
     Ok(())
 }
 
+/// The world of an activity: one map, of whose keys every other one has an element, and one program.
+pub fn make_world(alloc: Global, activity: &Activity) -> Result<World> {
+    let (text, _) = text_of(alloc, activity)?;
+    let mut world = world_of(alloc, activity.shape, &text)?;
+    fill(&mut world, &activity.shape)?;
+    Ok(world)
+}
+
 /// What the activity needs.
 pub fn make_setup(alloc: Global, activity: &Activity) -> Result<Setup> {
     let shape = activity.shape;
-    let (text, moves) = text_of(alloc, activity)?;
-    let mut world = world_of(alloc, shape, &text)?;
-    fill(&mut world, &shape)?;
+    let world = make_world(alloc, activity)?;
+    let (_, moves) = text_of(alloc, activity)?;
     let (events, runs) = match activity.deed {
         Deed::Reads => (reads(alloc, &shape)?, 0),
         Deed::Cycles => (cycles(alloc, &shape)?, 0),

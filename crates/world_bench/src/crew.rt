@@ -1,0 +1,227 @@
+//! Workers that share a world, each in a thread of its own.
+ghost use Rattle.std.specs.Prelude.{◌≡◌, ◌<◌, ◌≤◌};
+ghost use Rattle.shared.specs.declared.worker.TheConstants.{MAX_WORKERS};
+
+use crate::activity::{Activity, Deed, Stepped, small};
+use crate::decimal::{Decimal, quotient};
+use crate::sequence::Sequence;
+use crate::setup::{key_of, make_world};
+use anyhow::{Result, bail, ensure};
+use bpf_model::{Answer, CtxBytes, Event, MapId, ProgId, RunId};
+use shared::{Shared, Worker, is_quiet};
+use std::alloc::Global;
+use std::rt::Clock;
+use std::sync::Wait;
+use std::sync::ledger::{Blank, Ledger};
+use std::thread::{Threads, for_each_mut};
+use std::time::{Duration, Instant};
+
+/// What each worker asks, again and again.
+#[derive(Clone, Copy, Debug, PartialEq, Eq)]
+pub enum Task {
+    /// Steps of a run of its own, which is dropped and started again when it has exited.
+    Steps,
+    /// Reads of keys, of which about half are there.
+    Reads,
+    /// Ends of grace periods.
+    Advances,
+}
+
+/// A task, and by how many workers it is done.
+#[derive(Clone, Copy)]
+pub struct Crew {
+    pub name: &'static str,
+    pub task: Task,
+    pub workers: u8,
+}
+
+/// How many calls each worker makes in a batch.
+const CALLS: u32 = 50_000;
+
+/// How many batches are timed. The quickest counts.
+const BATCHES: u32 = 5;
+
+const fn make_crew(name: &'static str, task: Task, workers: u8) -> Crew {
+    Crew {
+        name,
+        task,
+        workers,
+    }
+}
+
+/// The crews, in the order in which they are printed.
+pub fn crews() -> [Crew; 12] {
+    [
+        make_crew("shared_step_by_1", Task::Steps, 1),
+        make_crew("shared_step_by_2", Task::Steps, 2),
+        make_crew("shared_step_by_4", Task::Steps, 4),
+        make_crew("shared_step_by_8", Task::Steps, 8),
+        make_crew("shared_read_by_1", Task::Reads, 1),
+        make_crew("shared_read_by_2", Task::Reads, 2),
+        make_crew("shared_read_by_4", Task::Reads, 4),
+        make_crew("shared_read_by_8", Task::Reads, 8),
+        make_crew("shared_advance_by_1", Task::Advances, 1),
+        make_crew("shared_advance_by_2", Task::Advances, 2),
+        make_crew("shared_advance_by_4", Task::Advances, 4),
+        make_crew("shared_advance_by_8", Task::Advances, 8),
+    ]
+}
+
+/// The activity whose map and program the workers share.
+fn activity() -> Activity {
+    Activity {
+        name: "shared",
+        deed: Deed::Steps(Stepped::Arithmetic),
+        shape: small(),
+    }
+}
+
+/// A worker's run, and whether it has exited.
+#[derive(Clone, Copy)]
+enum Progress {
+    None,
+    Going(RunId),
+    Ended(RunId),
+}
+
+impl Progress {
+    /// The event that comes next.
+    fn step(self) -> Event {
+        match self {
+            Progress::None => Event::Start {
+                prog: ProgId::new(0),
+                ctx: CtxBytes::new(),
+            },
+            Progress::Going(run) => Event::Step { run },
+            Progress::Ended(run) => Event::Drop { run },
+        }
+    }
+
+    /// Where the run is after an answer.
+    fn after(self, answer: &Answer) -> Progress {
+        match (self, answer) {
+            (_, Answer::Started(run)) => Progress::Going(*run),
+            (Progress::Going(run), Answer::Exited(_)) => Progress::Ended(run),
+            (Progress::Ended(_), Answer::Done) => Progress::None,
+            (progress, _) => progress,
+        }
+    }
+}
+
+/// The read of a key.
+fn read(sequence: &mut Sequence) -> Event {
+    Event::Read {
+        map: MapId::new(0),
+        key: key_of(sequence.below(1024), 8),
+    }
+}
+
+/// What a worker goes by: its task, the keys that it reads, and its run.
+#[derive(Drop)]
+struct Hand {
+    task: Task,
+    sequence: Sequence,
+    progress: Progress,
+}
+
+impl Hand {
+    /// The event that comes next.
+    fn next(&mut self) -> Event {
+        match self.task {
+            Task::Steps => self.progress.step(),
+            Task::Reads => read(&mut self.sequence),
+            Task::Advances => Event::Advance,
+        }
+    }
+}
+
+/// One call of a worker.
+fn call<L: Ledger, R: Wait>(rt: &R, shared: &Shared<L>, worker: &mut Worker<L>, hand: &mut Hand) {
+    let event = hand.next();
+    match shared.act(rt, worker, event) {
+        Ok(answer) => hand.progress = hand.progress.after(&answer),
+        Err(_) => (),
+    }
+}
+
+/// Drops a worker's run.
+fn drop_run<L: Ledger, R: Wait>(
+    rt: &R,
+    shared: &Shared<L>,
+    worker: &mut Worker<L>,
+    progress: Progress,
+) {
+    match progress {
+        Progress::None => (),
+        Progress::Going(run) => {
+            let _ = shared.act(rt, worker, Event::Drop { run });
+        }
+        Progress::Ended(run) => {
+            let _ = shared.act(rt, worker, Event::Drop { run });
+        }
+    }
+}
+
+/// So many calls of a worker.
+fn work<L: Ledger, R: Wait>(
+    rt: &R,
+    shared: &Shared<L>,
+    worker: &mut Worker<L>,
+    task: Task,
+    calls: u32,
+) {
+    let mut hand = Hand {
+        task,
+        sequence: Sequence::new(),
+        progress: Progress::None,
+    };
+    for _ in 0..calls {
+        call(rt, shared, worker, &mut hand);
+    }
+    drop_run(rt, shared, worker, hand.progress);
+}
+
+/// The time of so many calls by each worker.
+fn time_of<L: Ledger + Send + Sync, R: Threads + Wait + Clock + Sync>(
+    rt: &R,
+    shared: &Shared<L>,
+    list: &mut Vec<Worker<L>>,
+    task: Task,
+    calls: u32,
+) -> Result<Duration> {
+    let workers = list.len();
+    let start = Instant::now(rt)?;
+    for_each_mut(
+        rt,
+        list,
+        workers,
+        &|_, worker: &mut Worker<L>| work(rt, shared, worker, task, calls),
+    );
+    Ok(start.elapsed(rt)?)
+}
+
+/// The time of one call in nanoseconds: all calls of the quickest batch after one another.
+pub fn time_per_call<L: Ledger + Send + Sync, R: Threads + Wait + Clock + Sync>(
+    rt: &R,
+    alloc: Global,
+    blank: Blank,
+    crew: &Crew,
+) -> Result<Decimal>
+    requires name { blank.name ≡ L.name }
+    requires parts { (blank.parts ≡ L.parts) × (blank.parts ≡ crew.now.workers) }
+    requires workers { (0 < crew.now.workers) × (crew.now.workers ≤ MAX_WORKERS) }
+{
+    let world = make_world(alloc, &activity())?;
+    if !is_quiet(&world) {
+        bail!("a run was left");
+    }
+    let (shared, mut workers, _) = Shared::<L>::new(alloc, world, crew.workers, blank)?;
+    let mut best = Duration::MAX;
+    for _ in 0..BATCHES {
+        let time = time_of(rt, &shared, &mut workers.list, crew.task, CALLS)?;
+        best = best.min(time);
+    }
+    let calls = u128::from(CALLS) * u128::from(crew.workers);
+    ensure!(calls > 0, "no calls");
+    Ok(quotient(best.as_nanos(), calls))
+}
