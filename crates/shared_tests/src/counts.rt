@@ -67,6 +67,7 @@ fn all_exit<L: Ledger + Send + Sync, R: Threads + Wait + Abort + Sync>(
         made = made.saturating_add(worker.made());
     }
     assert_eq!(rt; made, entries as u64);
+    assert!(rt; hands.list.len() == workers as usize);
     assert_eq!(rt; shared.finish(hands).journal.len(), entries);
     Ok(())
 }

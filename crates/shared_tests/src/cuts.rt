@@ -53,6 +53,7 @@ fn cut<L: Ledger + Send + Sync, R: Wait + Abort>(
         assert!(rt; matches!(receipt.event(), Event::Step { .. }));
         assert!(rt; matches!(receipt.reply(), Ok(Answer::Refused(_))));
     }
+    assert!(rt; workers.list.len() == 1);
     let finished = shared.finish(workers);
     assert_eq!(rt; finished.journal.len(), 1);
     assert_eq!(rt; finished.base.stat().linked, 1);

@@ -155,6 +155,7 @@ fn eight<L: Ledger + Send + Sync, R: Threads + Wait + Abort + Sync>(
         sum = sum.saturating_add(worker.made());
     }
     assert_eq!(rt; sum, 8000);
+    assert!(rt; workers.list.len() == 8);
     let finished = shared.finish(workers);
     assert_eq!(rt; finished.journal.len(), 8000);
     assert_eq!(rt; finished.base.stat(), first);

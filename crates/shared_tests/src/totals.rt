@@ -70,6 +70,7 @@ fn counted<L: Ledger + Send + Sync, R: Wait + Abort>(
         reclaimed: 1,
     };
     assert_eq!(rt; counters.read(rt), all);
+    assert!(rt; workers.list.len() == 1);
     let finished = shared.finish(workers);
     assert_eq!(rt; finished.journal.len(), 19);
     Ok(())
