@@ -9,10 +9,9 @@ use Rattle.script_lines.specs.declared.command.Command.{Command}
 use Rattle.script_lines.specs.declared.command.Command.TheVariants as commands
 use Rattle.script_lines.specs.declared.reply.Reply.{Reply}
 use Rattle.script_setup.specs.Setups.{SetupView, shapes_made, no_maps_or_programs}
-use Rattle.script_setup.specs.Loading.{MapReplies, LoadReplies}
+use Rattle.script_setup.specs.Loading.{MapReplies, LoadReplies, shape_of_numbers}
 use Rattle.script_world.specs.declared.live.Live.{Live}
 use Rattle.script_world.specs.Lives.{LiveReplies}
-use Rattle.control.specs.Shapes.{shape_of_numbers}
 use Rattle.control.specs.declared.session.Session.{Session}
 use Rattle.control.specs.declared.session.Session.TheVariants as sessions
 

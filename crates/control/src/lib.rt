@@ -7,7 +7,6 @@
 mod making;
 mod running;
 mod session;
-mod shapes;
 
 pub use running::run_script;
 pub use script_stream::ScriptFault;

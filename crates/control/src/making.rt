@@ -6,9 +6,8 @@ ghost use Rattle.script_lines.specs.declared.reply.Reply.{Reply as Told};
 ghost use Rattle.script_world.specs.Lives.{LiveReplies};
 ghost use Rattle.control.specs.Sessions.{SetupReplies, sealed, now_at};
 
-use crate::shapes::shape_of;
 use script_lines::{Command, write_reply};
-use script_setup::Setup;
+use script_setup::{Setup, shape_of};
 use script_world::Live;
 use std::alloc::{AllocError, Global};
 use std::mem;
