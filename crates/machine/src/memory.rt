@@ -102,10 +102,10 @@ impl Workspace {
         ensures { result ≡ own_number (byte_count width) offset (location_of address)
             (own_view context.now self.now) }
     {
-        if is_in_context(address) {
-            Some(number_in(context, CTX_BASE, address, offset, width))
-        } else if is_in_frame(address) {
+        if is_in_frame(address) {
             Some(number_in(&self.frame, FRAME_BASE, address, offset, width))
+        } else if is_in_context(address) {
+            Some(number_in(context, CTX_BASE, address, offset, width))
         } else {
             None
         }
