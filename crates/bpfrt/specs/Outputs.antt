@@ -1,70 +1,98 @@
 -- What the commands write, of which files, and how they refuse the others.
-use Rattle.std.specs.Prelude.{◌≡◌, ◌≢◌, ℕ, ◌⊎◌, List, [], ◌++◌, length, codes, Option}
+use Rattle.std.specs.Prelude.{◌≡◌, ◌≢◌, ℕ, ◌⊎◌, List, ◌++◌, length, map, codes, Option}
 use Rattle.std.specs.Fmt.{decimal}
 use Rattle.std.specs.Io.KnownBytes.{Appends}
 use Rattle.bpf_model.specs.declared.insn.Insn.{Insn}
+use Rattle.bpf_model.specs.declared.limits.MapShape.{MapShape}
 use Rattle.bpf_model.specs.Spelling.{IsProgram, text, slot_total}
 use Rattle.bpf_model.specs.Plain.{IsPlain}
+use Rattle.bpf_model.specs.PlainMaps.{IsPlainWithMaps}
 use Rattle.disasm.specs.Text.{program_text}
 use Rattle.insn_codec.specs.declared.fault.DecodeFault.{DecodeFault}
-use Rattle.insn_codec.specs.Faults.{IsDecodeFault, decode_fault_number, decode_fault_slot}
+use Rattle.insn_codec.specs.Faults.{IsDecodeFault}
+use Rattle.loader.specs.declared.fault.LoadFault.{LoadFault}
+use Rattle.loader.specs.ProgramFile.{FileContent, FileSays, IsLoadFault}
+use Rattle.maps.specs.Registry.{RegistryView}
 use Rattle.typed_runs.specs.Verified.{IsVerified}
 use Rattle.verifier.specs.declared.refusal.Refusal.{Refusal}
-use Rattle.verifier.specs.Numbers.{refusal_number, refusal_slot}
 use Rattle.verifier.specs.Verdict.{IsToldOf}
 use Rattle.bpfrt.specs.declared.report.Verdict.{Verdict}
 use Rattle.bpfrt.specs.declared.request.Command.{Command}
 use Rattle.bpfrt.specs.declared.request.Command.TheVariants.{Check, Disasm}
+use Rattle.bpfrt.specs.declared.program_file.Source.{Source}
 use Rattle.bpfrt.specs.declared.run.Accepted.{Accepted}
+use Rattle.bpfrt.specs.Verdicts.{IsDecodeVerdict, IsRefusalVerdict, IsLoadVerdict}
 
--- The bytes are the text of a program that is verified, with no maps and no context.
-pub record IsVerifiedText (bytes : List ℕ) (program : List Insn) : Type 0 where
+-- the shapes of a registry's maps, by their numbers
+abbrev pub shapes_in : RegistryView → List MapShape
+shapes_in registry = map (λ m. m.shape) registry.maps
+
+-- what a file says whose code is the text of a program
+abbrev pub content_with : Source → FileContent
+content_with s =
+    record { context = s.ctx_len; registry = s.registry; code = text s.program }
+
+-- The file says this program, with these maps and this context.
+pub record IsSourceOf (bytes : List ℕ) (s : Source) : Type 0 where
+  pub is : IsProgram s.program
+  pub says : FileSays bytes (content_with s)
+
+-- The file says this program, and it is verified with the file's maps and context.
+pub record IsVerifiedFile (bytes : List ℕ) (program : List Insn) : Type 0 where
+  pub content : FileContent
+  pub says : FileSays bytes content
   pub is : IsProgram program
-  pub text_is : bytes ≡ text program
-  pub verified : IsVerified program [] 0
+  pub text_is : content.code ≡ text program
+  pub verified : IsVerified program (shapes_in content.registry) content.context
 
--- The bytes are such a text, of so many instructions and slots.
-pub record IsAcceptedText (bytes : List ℕ) (a : Accepted) : Type 0 where
+-- The file is such a one, with a program of so many instructions and slots.
+pub record IsAcceptedFile (bytes : List ℕ) (a : Accepted) : Type 0 where
   pub program : List Insn
-  pub is : IsVerifiedText bytes program
+  pub is : IsVerifiedFile bytes program
   pub instructions : a.instructions ≡ length program
   pub slots : a.slots ≡ slot_total program
 
--- The bytes are the text of a program, and these lines are its disassembly.
+-- The file says a program, and these lines are its disassembly.
 pub record IsTextOf (bytes lines : List ℕ) : Type 0 where
-  pub program : List Insn
-  pub is : IsProgram program
-  pub text_is : bytes ≡ text program
-  pub lines_are : lines ≡ program_text program
+  pub source : Source
+  pub is : IsSourceOf bytes source
+  pub lines_are : lines ≡ program_text source.program
 
--- The verdict is the first fault of the bytes.
-pub record IsFaultVerdict (bytes : List ℕ) (v : Verdict) : Type 0 where
+-- The verdict is of the first line that is wrong.
+pub record IsFileVerdict (bytes : List ℕ) (v : Verdict) : Type 0 where
+  pub fault : LoadFault
+  pub is : IsLoadFault bytes fault
+  pub told : IsLoadVerdict fault v
+
+-- The verdict is the first fault of the code that the file says.
+pub record IsCodeVerdict (bytes : List ℕ) (v : Verdict) : Type 0 where
+  pub content : FileContent
+  pub says : FileSays bytes content
   pub fault : DecodeFault
-  pub is : IsDecodeFault bytes fault
-  pub code : v.code ≡ decode_fault_number fault
-  pub slot : v.slot ≡ decode_fault_slot fault
+  pub is : IsDecodeFault content.code fault
+  pub told : IsDecodeVerdict fault v
 
--- The bytes are the text of a program, and the verdict is the verifier's of it. Unless memory ran
--- out, the program isn't plain.
+-- The file says a program, and the verdict is the verifier's of it. Unless memory ran out, the
+-- program isn't plain, with or without maps.
 pub record IsVerifierVerdict (bytes : List ℕ) (v : Verdict) : Type 0 where
-  pub program : List Insn
-  pub is : IsProgram program
-  pub text_is : bytes ≡ text program
+  pub source : Source
+  pub is : IsSourceOf bytes source
   pub refusal : Refusal
-  pub told : IsToldOf program refusal
-  pub not_plain : v.code ≢ 13 → IsPlain program → ⊥
-  pub code : v.code ≡ refusal_number refusal
-  pub slot : v.slot ≡ refusal_slot refusal
+  pub found : IsToldOf source.program refusal
+  pub told : IsRefusalVerdict refusal v
+  pub not_plain : v.code ≢ 13 → ¬ (IsPlain source.program)
+  pub not_plain_with_maps : v.code ≢ 13 →
+      ¬ (IsPlainWithMaps source.program (shapes_in source.registry))
 
--- Memory ran out, or it is the first fault of the bytes.
+-- Memory ran out, or it is the first fault of the file, or of its code.
 abbrev pub IsDecodeRefusal : List ℕ → Verdict → Type 0
-IsDecodeRefusal bytes v = (v.code ≡ 13) ⊎ IsFaultVerdict bytes v
+IsDecodeRefusal bytes v = (v.code ≡ 13) ⊎ (IsFileVerdict bytes v ⊎ IsCodeVerdict bytes v)
 
 -- Or it is the verifier's.
 abbrev pub IsCheckedRefusal : List ℕ → Verdict → Type 0
 IsCheckedRefusal bytes v = IsDecodeRefusal bytes v ⊎ IsVerifierVerdict bytes v
 
--- The bytes have a verdict, and it isn't want of memory.
+-- The file has a verdict, and it isn't want of memory.
 abbrev pub IsRefusedByDecode : List ℕ → Type 0
 IsRefusedByDecode bytes = (v : Verdict) × (v.code ≢ 13) × IsDecodeRefusal bytes v
 
@@ -85,10 +113,10 @@ accepted_line instructions slots =
 -- what `check` adds to the output for a file that it accepts
 abbrev pub WritesAccepted : Option (List ℕ) → Option (List ℕ) → List ℕ → Type 0
 WritesAccepted old new bytes =
-    (program : List Insn) × IsVerifiedText bytes program
+    (program : List Insn) × IsVerifiedFile bytes program
     × Appends old new (accepted_line (length program) (slot_total program))
 
--- what `disasm` adds for a file that is a program
+-- what `disasm` adds for a file that says a program
 abbrev pub WritesText : Option (List ℕ) → Option (List ℕ) → List ℕ → Type 0
 WritesText old new bytes = (lines : List ℕ) × IsTextOf bytes lines × Appends old new lines
 

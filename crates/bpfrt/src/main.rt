@@ -30,7 +30,8 @@ fn run_on_file(rt: &HostRuntime, command: &Command) -> u8 {
     }
 }
 
-/// The words of the command line, the program's own name first. A word that is not text is no usage of it.
+/// The words of the command line, the program's own name first. A word that is not text is no usage
+/// of it.
 fn words_of(rt: &HostRuntime, alloc: Global) -> Result<Vec<String>, UsageFault> {
     let arguments = match env::args(rt) {
         Ok(arguments) => arguments,

@@ -1,11 +1,14 @@
-//! The bytes of a program file, read in bounded memory.
-ghost use Rattle.std.specs.Prelude.{◌≡◌, List, [], ℕ, ◌++◌, IfOk, IfErr, IfSome, OnOk};
-ghost use Rattle.bpf_model.specs.Spelling.{IsProgram, text};
-ghost use Rattle.insn_codec.specs.Faults.{IsDecodeFault};
-ghost use Rattle.bpfrt.specs.Files.{HoldsBytes, HasRead};
+//! The bytes of a program file, read in bounded memory where it is raw, and what they say.
+ghost use Rattle.std.specs.Prelude.{◌≡◌, List, [], ℕ, ◌++◌, ◌≤◌, length, IfOk, IfErr, IfSome, OnOk};
+ghost use Rattle.bpf_model.specs.declared.limits.TheConstants.{CTX_BYTES};
+ghost use Rattle.bpfrt.specs.Files.{HoldsBytes};
+ghost use Rattle.bpfrt.specs.Outputs.{IsSourceOf, IsDecodeRefusal};
 
+use crate::report::Verdict;
 use bpf_model::MAX_SLOTS;
 use insn_codec::{DecodeFault, Program, decode};
+use loader::{HEADING, load};
+use maps::Registry;
 use std::alloc::{AllocError, Global};
 use std::io;
 use std::io::{ErrorKind, Read};
@@ -13,13 +16,40 @@ use std::io::{ErrorKind, Read};
 /// How many bytes are read at once.
 const CHUNK: usize = 4096;
 
-/// What is kept of a file's bytes: enough to tell whether they are a program, and which.
+/// How many bytes of a text are kept: 16 MiB. A sound text of 4,096 slots has fewer than 75,000.
+const TEXT_BYTES: usize = 16 << 20;
+
+/// A program, and what it is verified against.
+#[derive(Drop)]
+pub struct Source {
+    pub program: Program,
+    pub registry: Registry,
+    pub ctx_len: usize,
+}
+
+/// What is kept of a file's bytes: enough to tell what they say.
 #[derive(Drop)]
 pub enum FileBytes {
-    /// All bytes, at most 8 for each of 4,096 slots.
+    /// All bytes.
     Whole(Vec<u8>),
-    /// They are more; the remainder of their number by 8.
+    /// They are no text, and more than 8 for each of 4,096 slots; the remainder of their number
+    /// by 8.
     TooLong(usize),
+}
+
+/// What a file of these bytes says.
+fn source_of(alloc: Global, bytes: &[u8]) -> Result<Source, Verdict>
+    ensures found { IfOk result (IsSourceOf bytes.now) }
+    ensures limit { IfOk result (λ s. s.ctx_len ≤ CTX_BYTES) }
+    ensures fault { IfErr result (IsDecodeRefusal bytes.now) }
+{
+    let file = load(alloc, bytes)?;
+    let program = decode(alloc, &file.code)?;
+    Ok(Source {
+        program,
+        registry: file.registry,
+        ctx_len: file.ctx_len,
+    })
 }
 
 impl FileBytes {
@@ -30,16 +60,22 @@ impl FileBytes {
         FileBytes::Whole(Vec::new(alloc))
     }
 
-    /// Adds the bytes that follow.
+    /// Adds the bytes that follow. A text of `TEXT_BYTES` or more grows no further: that is want of
+    /// memory.
     fn append(&mut self, chunk: &[u8]) -> Result<(), AllocError>
+        requires { length chunk.now ≤ CHUNK }
         ensures { (bytes : List ℕ) → HoldsBytes self.old bytes →
             OnOk result (HoldsBytes self.new (bytes ++ chunk.now)) }
     {
         match self {
-            FileBytes::Whole(bytes) if chunk.len() <= (8 * MAX_SLOTS).saturating_sub(bytes.len()) =>
-                {
-                    bytes.extend_from_slice(chunk)?;
+            FileBytes::Whole(bytes)
+                if chunk.len() <= (8 * MAX_SLOTS).saturating_sub(bytes.len())
+                    || bytes.starts_with(HEADING) => {
+                if bytes.len() >= TEXT_BYTES {
+                    return Err(AllocError);
                 }
+                bytes.extend_from_slice(chunk)?;
+            }
             FileBytes::Whole(bytes) => {
                 *self = FileBytes::TooLong((bytes.len() % 8 + chunk.len() % 8) % 8);
             }
@@ -48,21 +84,24 @@ impl FileBytes {
         Ok(())
     }
 
-    /// The program that the bytes spell, or the first fault, as `decode` tells it of all the bytes.
-    pub fn decode(&self, alloc: Global) -> Result<Program, DecodeFault>
+    /// What the file says, or its first fault.
+    pub fn source(&self, alloc: Global) -> Result<Source, Verdict>
         ensures found { (bytes : List ℕ) → HoldsBytes self.now bytes →
-            IfOk result (λ p. IsProgram p × (bytes ≡ text p)) }
-        ensures fault { (bytes : List ℕ) → HoldsBytes self.now bytes → IfErr result (IsDecodeFault bytes) }
+            IfOk result (IsSourceOf bytes) }
+        ensures limit { IfOk result (λ s. s.ctx_len ≤ CTX_BYTES) }
+        ensures fault { (bytes : List ℕ) → HoldsBytes self.now bytes →
+            IfErr result (IsDecodeRefusal bytes) }
     {
         match self {
-            FileBytes::Whole(bytes) => decode(alloc, bytes),
-            FileBytes::TooLong(0) => Err(DecodeFault::TooLong),
-            FileBytes::TooLong(_) => Err(DecodeFault::Length),
+            FileBytes::Whole(bytes) => source_of(alloc, bytes),
+            FileBytes::TooLong(0) => Err(Verdict::from(DecodeFault::TooLong)),
+            FileBytes::TooLong(_) => Err(Verdict::from(DecodeFault::Length)),
         }
     }
 }
 
-/// Reads a file to its end. It takes memory for a program's bytes alone, however long the file is.
+/// Reads a file to its end. Of a raw file it keeps a program's bytes alone, however long it is; a
+/// text is kept as a whole, and one above `TEXT_BYTES` is want of memory.
 pub fn read_file<R: Read>(alloc: Global, input: &mut R) -> io::Result<FileBytes>
     ensures { IfOk result (λ file. IfSome (R.remaining input.old) (HoldsBytes file)) }
 {

@@ -4,55 +4,73 @@ ghost use Rattle.bpfrt.specs.declared.request.UsageFault.TheVariants.{Memory};
 
 use crate::request::UsageFault;
 use insn_codec::DecodeFault;
+use loader::LoadFault;
 use std::alloc::AllocError;
 use std::io::Write;
 use verifier::Refusal;
 
-/// A refusal: its number, and the slot at which it is, where it has one.
+/// Why a file is refused: a number, and the slot of the program or the line of the file at which it
+/// is, where it has one.
 #[derive(Clone, Copy, Debug, PartialEq, Eq)]
 pub struct Verdict {
     pub code: u8,
     pub slot: Option<usize>,
+    pub line: Option<usize>,
 }
 
 /// The number of want of memory.
 pub const MEMORY: u8 = 13;
 
 impl From<DecodeFault> for Verdict {
-    ghost use Rattle.insn_codec.specs.Faults.{decode_fault_number, decode_fault_slot};
+    ghost use Rattle.bpfrt.specs.Verdicts.{IsDecodeVerdict};
 
-    ghost from_gives = { λ f v. (v.code ≡ decode_fault_number f) × (v.slot ≡ decode_fault_slot f) };
+    ghost from_gives = { IsDecodeVerdict };
 
     fn from(fault: DecodeFault) -> Verdict {
         Verdict {
             code: fault.code(),
             slot: fault.slot(),
+            line: None,
         }
     }
 }
 
 impl From<Refusal> for Verdict {
-    ghost use Rattle.verifier.specs.Numbers.{refusal_number, refusal_slot};
+    ghost use Rattle.bpfrt.specs.Verdicts.{IsRefusalVerdict};
 
-    ghost from_gives = { λ r v. (v.code ≡ refusal_number r) × (v.slot ≡ refusal_slot r) };
+    ghost from_gives = { IsRefusalVerdict };
 
     fn from(refusal: Refusal) -> Verdict {
         Verdict {
             code: refusal.code(),
             slot: refusal.slot(),
+            line: None,
+        }
+    }
+}
+
+impl From<LoadFault> for Verdict {
+    ghost use Rattle.bpfrt.specs.Verdicts.{IsLoadVerdict};
+
+    ghost from_gives = { IsLoadVerdict };
+
+    fn from(fault: LoadFault) -> Verdict {
+        Verdict {
+            code: fault.code(),
+            slot: None,
+            line: fault.line(),
         }
     }
 }
 
 impl From<AllocError> for Verdict {
-    ghost use Rattle.std.specs.Prelude.{None};
-
-    ghost from_gives = { λ _ v. (v.code ≡ 13) × (v.slot ≡ None) };
+    ghost from_gives = { λ _ v. v.code ≡ 13 };
 
     fn from(_: AllocError) -> Verdict {
         Verdict {
             code: MEMORY,
             slot: None,
+            line: None,
         }
     }
 }
@@ -65,8 +83,8 @@ pub fn fault<W: Write>(err: &mut W, code: u8) -> u8
     3
 }
 
-/// Writes `refused C` or `refused C at S` on standard error, or the fault where memory ran out, and answers
-/// the status.
+/// Writes `refused C`, `refused C at S` for a slot or `fault C at L` for a line on standard error, or
+/// the fault where memory ran out, and answers the status.
 pub fn refused<W: Write>(err: &mut W, verdict: Verdict) -> u8
     ensures memory { verdict.code ≡ 13 → result ≡ 3 }
     ensures other { verdict.code ≢ 13 → result ≡ 1 }
@@ -74,9 +92,11 @@ pub fn refused<W: Write>(err: &mut W, verdict: Verdict) -> u8
     if verdict.code == MEMORY {
         return fault(err, MEMORY);
     }
-    let _ = match verdict.slot {
-        Some(slot) => writeln!(err, "refused {} at {slot}", verdict.code),
-        None => writeln!(err, "refused {}", verdict.code),
+    let code = verdict.code;
+    let _ = match (verdict.line, verdict.slot) {
+        (Some(line), _) => writeln!(err, "fault {code} at {line}"),
+        (None, Some(slot)) => writeln!(err, "refused {code} at {slot}"),
+        (None, None) => writeln!(err, "refused {code}"),
     };
     1
 }

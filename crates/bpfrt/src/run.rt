@@ -1,18 +1,21 @@
 //! Running a command.
-ghost use Rattle.std.specs.Prelude.{◌≡◌, ◌≢◌, ◌⊎◌, List, [], ℕ, IfOk, IfErr, IfSome, OnOk, MatchResult, string_bytes};
+ghost use Rattle.std.specs.Prelude.{◌≡◌, ◌≢◌, ◌⊎◌, ◌≤◌, List, ℕ, length, IfOk, IfErr, IfSome, OnOk, MatchResult, string_bytes};
 ghost use Rattle.std.specs.Io.KnownBytes.{Appends};
 ghost use Rattle.bpf_model.specs.Plain.{IsPlain};
+ghost use Rattle.bpf_model.specs.PlainMaps.{IsPlainWithMaps};
+ghost use Rattle.bpf_model.specs.declared.limits.TheConstants.{CTX_BYTES, MAX_MAPS};
 ghost use Rattle.typed_runs.specs.Verified.{IsVerified};
 ghost use Rattle.verifier.specs.Verdict.{IsToldOf, IsAccepted as IsTaken};
 ghost use Rattle.bpfrt.specs.Files.{HoldsBytes};
-ghost use Rattle.bpfrt.specs.Outputs.{IsAcceptedText, IsTextOf, IsDecodeRefusal, IsCheckedRefusal, IsRefusedByDecode, IsRefusedByCheck, IsRefusedBy, accepted_line, WritesAccepted, WritesText, WritesFile};
+ghost use Rattle.bpfrt.specs.Outputs.{shapes_in, IsAcceptedFile, IsTextOf, IsDecodeRefusal, IsCheckedRefusal, IsRefusedByDecode, IsRefusedByCheck, IsRefusedBy, accepted_line, WritesAccepted, WritesText, WritesFile};
 
-use crate::program_file::{FileBytes, read_file};
+use crate::program_file::{FileBytes, Source, read_file};
 use crate::report::{Verdict, fault, refused};
 use crate::request::Command;
+use bpf_model::{MapId, MapShape};
 use disasm::disassemble;
-use insn_codec::Program;
-use std::alloc::Global;
+use maps::Registry;
+use std::alloc::{AllocError, Global};
 use std::io;
 use std::io::{ErrorKind, Read, Write};
 use verifier::{Refusal, Verified, verify};
@@ -24,25 +27,44 @@ struct Accepted {
     slots: usize,
 }
 
-/// Verifies a program with no maps and no context.
-fn verify_alone(alloc: Global, program: Program) -> Result<Verified, Refusal>
-    ensures program { IfOk result (λ v. v.program ≡ program) }
-    ensures shapes { IfOk result (λ v. v.shapes ≡ []) }
-    ensures context { IfOk result (λ v. v.ctx_len ≡ 0) }
-    ensures verified { OnOk result (IsVerified program [] 0) }
-    ensures told { IfErr result (IsToldOf program) }
-    ensures plain { IsPlain program → IsTaken result }
+/// The shapes of a registry's maps, by their numbers.
+fn shapes_of(alloc: Global, registry: &Registry) -> Result<Vec<MapShape>, AllocError>
+    ensures shapes { IfOk result (λ v. v.items ≡ shapes_in registry.now) }
+    ensures limit { IfOk result (λ v. length v.items ≤ MAX_MAPS) }
 {
-    verify(alloc, program, &[], 0)
+    let mut shapes = Vec::new(alloc);
+    for number in 0..registry.len() {
+        if let Some(shape) = registry.shape(MapId::new(number)) {
+            shapes.push(shape)?;
+        }
+    }
+    Ok(shapes)
 }
 
-/// Decodes and verifies a file's program, with no maps and no context.
-fn check(alloc: Global, file: &FileBytes) -> Result<Accepted, Verdict>
-    ensures accepted { (bytes : List ℕ) → HoldsBytes file.now bytes → IfOk result (IsAcceptedText bytes) }
-    ensures refused { (bytes : List ℕ) → HoldsBytes file.now bytes → IfErr result (IsCheckedRefusal bytes) }
+/// Verifies a file's program with its maps and its context.
+fn verify_source(alloc: Global, source: Source) -> Result<Verified, Refusal>
+    requires { source.ctx_len ≤ CTX_BYTES }
+    ensures program { IfOk result (λ v. v.program ≡ source.program) }
+    ensures verified { OnOk result
+        (IsVerified source.program (shapes_in source.registry) source.ctx_len) }
+    ensures told { IfErr result (IsToldOf source.program) }
+    ensures plain { IsPlain source.program → IsTaken result }
+    ensures plain_with_maps { IsPlainWithMaps source.program (shapes_in source.registry) →
+        IsTaken result }
 {
-    let program = file.decode(alloc)?;
-    let verified = verify_alone(alloc, program)?;
+    let shapes = shapes_of(alloc, &source.registry)?;
+    verify(alloc, source.program, &shapes, source.ctx_len)
+}
+
+/// Decodes and verifies a file's program.
+fn check(alloc: Global, file: &FileBytes) -> Result<Accepted, Verdict>
+    ensures accepted { (bytes : List ℕ) → HoldsBytes file.now bytes →
+        IfOk result (IsAcceptedFile bytes) }
+    ensures refused { (bytes : List ℕ) → HoldsBytes file.now bytes →
+        IfErr result (IsCheckedRefusal bytes) }
+{
+    let source = file.source(alloc)?;
+    let verified = verify_source(alloc, source)?;
     let program = verified.program();
     Ok(Accepted {
         instructions: program.len(),
@@ -54,10 +76,11 @@ fn check(alloc: Global, file: &FileBytes) -> Result<Accepted, Verdict>
 fn text_of(alloc: Global, file: &FileBytes) -> Result<String, Verdict>
     ensures text { (bytes : List ℕ) → HoldsBytes file.now bytes →
         IfOk result (λ lines. IsTextOf bytes (string_bytes lines)) }
-    ensures refused { (bytes : List ℕ) → HoldsBytes file.now bytes → IfErr result (IsDecodeRefusal bytes) }
+    ensures refused { (bytes : List ℕ) → HoldsBytes file.now bytes →
+        IfErr result (IsDecodeRefusal bytes) }
 {
-    let program = file.decode(alloc)?;
-    Ok(disassemble(alloc, &program)?)
+    let source = file.source(alloc)?;
+    Ok(disassemble(alloc, &source.program)?)
 }
 
 /// On which side of the program a stream failed.
@@ -153,10 +176,10 @@ fn run_disasm<R: Read, W: Write, E: Write>(
     }
 }
 
-/// Runs a command on its file's bytes, and answers the exit status: 0 fine, 1 refused, 3 a fault of memory
-/// (13), of reading (96) or of writing (97). A refusal or a fault is one line on `err`. After a refusal
-/// nothing was written on `out`; after a fault of writing a part may have been. Which fault it was, and that
-/// there was one, no clause says: status 3 tells nothing.
+/// Runs a command on its file's bytes, and answers the exit status: 0 fine, 1 refused, 3 a fault of
+/// memory (13), of reading (96) or of writing (97). A refusal or a fault is one line on `err`. After
+/// a refusal nothing was written on `out`; after a fault of writing a part may have been. Which fault
+/// it was, and that there was one, no clause says: status 3 tells nothing.
 pub fn run<R: Read, W: Write, E: Write>(
     alloc: Global,
     command: &Command,

@@ -1,9 +1,11 @@
+use crate::report::no_command;
 use crate::request::{Command, UsageFault};
 use crate::run::run as run_command;
 use crate::words::command;
 use std::alloc::Global;
 use std::io;
 use std::io::{Read, Write};
+use std::process::Abort;
 use std::test::Fail;
 
 const EXIT_ONE: [u8; 16] = [0xb7, 0, 0, 0, 1, 0, 0, 0, 0x95, 0, 0, 0, 0, 0, 0, 0];
@@ -64,68 +66,226 @@ impl Read for Halting<'_> {
     }
 }
 
-fn check(alloc: Global) -> Result<Command, Fail> {
-    Ok(Command::Check {
-        file: String::from_str(alloc, "program")?,
-    })
+/// A text whose fourth line never ends.
+#[derive(Drop)]
+struct Endless {
+    is_begun: bool,
 }
 
-fn disasm(alloc: Global) -> Result<Command, Fail> {
-    Ok(Command::Disasm {
-        file: String::from_str(alloc, "program")?,
-    })
+impl Read for Endless {
+    fn read(&mut self, buf: &mut [u8]) -> io::Result<usize> {
+        if self.is_begun {
+            buf.fill(b'0');
+            return Ok(buf.len());
+        }
+        self.is_begun = true;
+        let mut heading: &[u8] = b"bpfrt 1\nctx 0\ncode\n";
+        heading.read(buf)
+    }
 }
+
+/// `check` of a file, or `disasm` of it.
+fn command_of(alloc: Global, disasm: bool) -> Result<Command, Fail> {
+    let file = String::from_str(alloc, "program")?;
+    if disasm {
+        return Ok(Command::Disasm { file });
+    }
+    Ok(Command::Check { file })
+}
+
+/// What a command is to answer and to write.
+#[derive(Clone, Copy)]
+struct Wanted<'a> {
+    status: u8,
+    out: &'a [u8],
+    err: &'a [u8],
+}
+
+/// A refusal, or a fault of the file.
+fn refusal(err: &[u8]) -> Wanted<'_> {
+    Wanted {
+        status: 1,
+        out: b"",
+        err,
+    }
+}
+
+/// An output and no more.
+fn output(out: &[u8]) -> Wanted<'_> {
+    Wanted {
+        status: 0,
+        out,
+        err: b"",
+    }
+}
+
+/// Runs `check` or `disasm` on an input, and compares what it writes and answers.
+fn runs<R: Read>(
+    rt: &impl Abort,
+    alloc: Global,
+    disasm: bool,
+    input: &mut R,
+    wanted: &Wanted<'_>,
+) -> Result<(), Fail> {
+    let command = command_of(alloc, disasm)?;
+    let mut out: Vec<u8> = Vec::new(alloc);
+    let mut err: Vec<u8> = Vec::new(alloc);
+    let status = run_command(alloc, &command, input, &mut out, &mut err);
+    assert_eq!(rt; err.as_slice(), wanted.err);
+    assert_eq!(rt; out.as_slice(), wanted.out);
+    assert_eq!(rt; status, wanted.status);
+    Ok(())
+}
+
+/// Files that `check` refuses, and what it says of each on standard error.
+const REFUSED: [(&[u8], &[u8]); 37] = [
+    // Raw files.
+    (b"", b"refused 2\n"),
+    (&EXIT, b"refused 23 at 0\n"),
+    (&LOOKUP, b"refused 37 at 5\n"),
+    // The end comes too early: the line behind the last.
+    (b"bpfrt 1\n", b"fault 94 at 2\n"),
+    (b"bpfrt 1\nctx 0", b"fault 94 at 3\n"),
+    (b"bpfrt 1\nctx 0\n", b"fault 94 at 3\n"),
+    (b"bpfrt 1\nctx 0\nmap m 4 8 1 0 2\n", b"fault 94 at 4\n"),
+    // The context.
+    (b"bpfrt 1\nctx 257\ncode\n", b"fault 94 at 2\n"),
+    (b"bpfrt 1\ncode\n", b"fault 94 at 2\n"),
+    (b"bpfrt 1\n\nctx 0\ncode\n", b"fault 94 at 2\n"),
+    (b"bpfrt 1\nctx  0\ncode\n", b"fault 94 at 2\n"),
+    (b"bpfrt 1\nctx 0 \ncode\n", b"fault 94 at 2\n"),
+    (b"bpfrt 1\n ctx 0\ncode\n", b"fault 94 at 2\n"),
+    (b"bpfrt 1\nctx 00\ncode\n", b"fault 94 at 2\n"),
+    (b"bpfrt 1\nctx +1\ncode\n", b"fault 94 at 2\n"),
+    (
+        b"bpfrt 1\nctx 18446744073709551616\ncode\n",
+        b"fault 94 at 2\n",
+    ),
+    (b"bpfrt 1\nctx 0\r\ncode\n", b"fault 94 at 2\n"),
+    (b"bpfrt 1\nctx 0\nctx 0\ncode\n", b"fault 94 at 3\n"),
+    // Maps: too few words, too many, no name, no text, a name that is taken, no shape.
+    (b"bpfrt 1\nctx 0\nmap m 4 8 1 0\ncode\n", b"fault 94 at 3\n"),
+    (
+        b"bpfrt 1\nctx 0\nmap m 4 8 1 0 2 2\ncode\n",
+        b"fault 94 at 3\n",
+    ),
+    (
+        b"bpfrt 1\nctx 0\nmap M 4 8 1 0 2\ncode\n",
+        b"fault 94 at 3\n",
+    ),
+    (
+        b"bpfrt 1\nctx 0\nmap \xff 4 8 1 0 2\ncode\n",
+        b"fault 94 at 3\n",
+    ),
+    (
+        b"bpfrt 1\nctx 0\nmap m 4 8 1 0 2\nmap m 4 8 1 0 2\ncode\n",
+        b"fault 94 at 4\n",
+    ),
+    (
+        b"bpfrt 1\nctx 0\nmap m 0 8 1 0 2\ncode\n",
+        b"fault 94 at 3\n",
+    ),
+    (
+        b"bpfrt 1\nctx 0\nmap m 4 8 1 0 4294967296\ncode\n",
+        b"fault 94 at 3\n",
+    ),
+    (b"bpfrt 1\nctx 0\n\ncode\n", b"fault 94 at 3\n"),
+    (b"bpfrt 1\nctx 0\ncode \n", b"fault 94 at 3\n"),
+    // Slots.
+    (
+        b"bpfrt 1\nctx 0\ncode\nb70000000100000\n",
+        b"fault 94 at 4\n",
+    ),
+    (
+        b"bpfrt 1\nctx 0\ncode\nb70000000100000g\n",
+        b"fault 94 at 4\n",
+    ),
+    (
+        b"bpfrt 1\nctx 0\ncode\nb700000001000000  9500000000000000\n",
+        b"fault 94 at 4\n",
+    ),
+    (
+        b"bpfrt 1\nctx 0\ncode\nb7000000010000009500000000000000\n",
+        b"fault 94 at 4\n",
+    ),
+    (
+        b"bpfrt 1\nctx 0\ncode\nb700000001000000\n\n",
+        b"fault 94 at 5\n",
+    ),
+    (
+        b"bpfrt 1\nctx 0\ncode\nb700000001000000\nmap m 4 8 1 0 2\n",
+        b"fault 94 at 5\n",
+    ),
+    // Sound files, whose program is refused.
+    (b"bpfrt 1\nctx 0\ncode\n", b"refused 2\n"),
+    (
+        b"bpfrt 1\nctx 0\ncode\n7110000000000000 9500000000000000\n",
+        b"refused 27 at 0\n",
+    ),
+    // No texts: seven bytes; eight, a slot that stores, with a source register.
+    (b"bpfrt 1", b"refused 1\n"),
+    (b"bpfrt 2\n", b"refused 8 at 0\n"),
+];
 
 #[test]
-fn outputs_and_statuses(rt: HostRuntime) -> Result<(), Fail> {
-    let alloc = rt.alloc();
-    let check = check(alloc)?;
-    let disasm = disasm(alloc)?;
-    let no_bytes: [u8; 0] = [];
-    let rows: [(&Command, &[u8], u8, &[u8], &[u8]); 8] = [
-        (
-            &check,
-            &EXIT_ONE,
-            0,
-            b"accepted 2 instructions 2 slots\n",
-            b"",
-        ),
-        (&check, &WIDE, 0, b"accepted 2 instructions 3 slots\n", b""),
-        (&check, &EXIT, 1, b"", b"refused 23 at 0\n"),
-        (&check, &no_bytes, 1, b"", b"refused 2\n"),
-        (&disasm, &WIDE, 0, b"lddw r0, 8589934593\nexit\n", b""),
-        (&disasm, &EXIT_ONE[..9], 1, b"", b"refused 1\n"),
-        (&disasm, &LOOKUP, 0, LOOKUP_LINES, b""),
-        (&check, &LOOKUP, 1, b"", b"refused 37 at 5\n"),
-    ];
-    for (command, bytes, status, out, err) in rows {
-        let mut input = bytes;
-        let mut written: Vec<u8> = Vec::new(alloc);
-        let mut told: Vec<u8> = Vec::new(alloc);
-        let found = run_command(alloc, command, &mut input, &mut written, &mut told);
-        assert_eq!(rt; found, status);
-        assert_eq!(rt; written.as_slice(), out);
-        assert_eq!(rt; told.as_slice(), err);
+fn files_that_are_refused(rt: HostRuntime) -> Result<(), Fail> {
+    for (file, told) in REFUSED {
+        let mut input = file;
+        runs(&rt, rt.alloc(), false, &mut input, &refusal(told))?;
     }
     Ok(())
 }
 
+const LOOKUP_FILE: &[u8] = b"bpfrt 1\nctx 0\nmap m 4 8 1 0 2\ncode\n\
+b706000000000000 8520000001000000\n620AFCFF00000000 bfa2000000000000 07020000fcffffff\n\
+1851000000000000 0000000000000000 8500000001000000 1500010000000000\n\
+7906000000000000 8520000002000000\nbf60000000000000 9500000000000000";
+
+/// `examples/c/counter.bpfrt`: a map, a context of 8 bytes, 35 slots, of which two instructions take
+/// two.
+const COUNTER_FILE: &[u8] = b"bpfrt 1\nctx 8\nmap totals 4 16 64 64 1000\ncode\n\
+bf17000000000000 6171000000000000 631afcff00000000 8520000001000000 bfa2000000000000\n\
+07020000fcffffff 1851000000000000 0000000000000000 8500000001000000 15000a0000000000\n\
+0500000000000000 7906000000000000 0706000001000000 7b60000000000000 6171040000000000\n\
+7902080000000000 0f12000000000000 7b20080000000000 8520000002000000 05000d0000000000\n\
+b706000001000000 7b6ae8ff00000000 6171040000000000 7b1af0ff00000000 8520000002000000\n\
+bfa2000000000000 07020000fcffffff bfa3000000000000 07030000e8ffffff 1851000000000000\n\
+0000000000000000 b704000001000000 8500000002000000 bf60000000000000 9500000000000000\n";
+
+const TWO_SLOTS: &[u8] = b"accepted 2 instructions 2 slots\n";
+
+/// Files, whether `disasm` reads them, and what is written.
+const OUTPUTS: [(&[u8], bool, &[u8]); 10] = [
+    (&EXIT_ONE, false, TWO_SLOTS),
+    (&WIDE, false, b"accepted 2 instructions 3 slots\n"),
+    (
+        b"bpfrt 1\nctx 0\ncode\nB700000001000000 9500000000000000\n",
+        false,
+        TWO_SLOTS,
+    ),
+    (
+        b"bpfrt 1\nctx 1\ncode\n7110000000000000\n9500000000000000\n",
+        false,
+        TWO_SLOTS,
+    ),
+    (
+        b"bpfrt 1\nctx 256\ncode\n7110ff0000000000 9500000000000000",
+        false,
+        TWO_SLOTS,
+    ),
+    (LOOKUP_FILE, false, b"accepted 12 instructions 13 slots\n"),
+    (COUNTER_FILE, false, b"accepted 33 instructions 35 slots\n"),
+    (&WIDE, true, b"lddw r0, 8589934593\nexit\n"),
+    (&LOOKUP, true, LOOKUP_LINES),
+    (LOOKUP_FILE, true, LOOKUP_LINES),
+];
+
 #[test]
-fn files_in_many_pieces(rt: HostRuntime) -> Result<(), Fail> {
-    let alloc = rt.alloc();
-    let disasm = disasm(alloc)?;
-    let mut input = Halting {
-        rest: &WIDE,
-        is_interrupted: false,
-    };
-    let mut out: Vec<u8> = Vec::new(alloc);
-    let mut told: Vec<u8> = Vec::new(alloc);
-    assert_eq!(rt;
-        run_command(alloc, &disasm, &mut input, &mut out, &mut told),
-        0
-    );
-    assert_eq!(rt; out.as_slice(), b"lddw r0, 8589934593\nexit\n".as_slice());
-    assert!(rt; told.is_empty());
+fn outputs(rt: HostRuntime) -> Result<(), Fail> {
+    for (file, disasm, out) in OUTPUTS {
+        let mut input = file;
+        runs(&rt, rt.alloc(), disasm, &mut input, &output(out))?;
+    }
     Ok(())
 }
 
@@ -138,95 +298,141 @@ fn moves(alloc: Global, length: usize) -> Result<Vec<u8>, Fail> {
     Ok(bytes)
 }
 
-#[test]
-fn files_about_as_long_as_programs(rt: HostRuntime) -> Result<(), Fail> {
-    let alloc = rt.alloc();
-    let check = check(alloc)?;
-    let rows: [(usize, &[u8]); 6] = [
-        (32_767, b"refused 1\n"),
-        (32_768, b"refused 22 at 4095\n"),
-        (32_769, b"refused 1\n"),
-        (32_776, b"refused 3\n"),
-        (100_000, b"refused 3\n"),
-        (100_001, b"refused 1\n"),
-    ];
-    for (length, told) in rows {
-        let bytes = moves(alloc, length)?;
-        let mut input = bytes.as_slice();
-        let mut out: Vec<u8> = Vec::new(alloc);
-        let mut err: Vec<u8> = Vec::new(alloc);
-        let status = run_command(alloc, &check, &mut input, &mut out, &mut err);
-        assert_eq!(rt; status, 1);
-        assert_eq!(rt; err.as_slice(), told);
-        assert!(rt; out.is_empty());
+/// A text with so many maps.
+fn file_with_maps(alloc: Global, maps: usize) -> Result<String, Fail> {
+    let mut file = String::from_str(alloc, "bpfrt 1\nctx 0\n")?;
+    for number in 0..maps {
+        file.push_str(&format!(in alloc; "map m{number} 64 256 1 0 1\n")?)?;
     }
-    Ok(())
+    file.push_str("code\nb700000001000000 9500000000000000\n")?;
+    Ok(file)
+}
+
+/// Raw files about as long as programs may be, and what `check` says of each.
+const LENGTHS: [(usize, &[u8]); 6] = [
+    (32_767, b"refused 1\n"),
+    (32_768, b"refused 22 at 4095\n"),
+    (32_769, b"refused 1\n"),
+    (32_776, b"refused 3\n"),
+    (100_000, b"refused 3\n"),
+    (100_001, b"refused 1\n"),
+];
+
+/// As many maps as there may be, and one more; a text of more slots than a program has, whose last
+/// line is wrong: that is told first.
+#[test]
+fn long_files(rt: HostRuntime) -> Result<(), Fail> {
+    let alloc = rt.alloc();
+    for (length, told) in LENGTHS {
+        let bytes = moves(alloc, length)?;
+        runs(&rt, alloc, false, &mut bytes.as_slice(), &refusal(told))?;
+    }
+    let maps = file_with_maps(alloc, 16)?;
+    runs(&rt, alloc, false, &mut maps.as_bytes(), &output(TWO_SLOTS))?;
+    let maps = file_with_maps(alloc, 17)?;
+    let told = refusal(b"fault 94 at 19\n");
+    runs(&rt, alloc, false, &mut maps.as_bytes(), &told)?;
+    let mut slots = String::from_str(alloc, "bpfrt 1\nctx 0\ncode\n")?;
+    for _ in 0..4097 {
+        slots.push_str("b700000000000000\n")?;
+    }
+    let told = refusal(b"refused 3\n");
+    runs(&rt, alloc, false, &mut slots.as_bytes(), &told)?;
+    slots.push_str("b7\n")?;
+    let told = refusal(b"fault 94 at 4101\n");
+    runs(&rt, alloc, false, &mut slots.as_bytes(), &told)
+}
+
+/// A fault of reading, of writing or of memory.
+fn fault(err: &[u8]) -> Wanted<'_> {
+    Wanted {
+        status: 3,
+        out: b"",
+        err,
+    }
 }
 
 #[test]
-fn broken_streams(rt: HostRuntime) -> Result<(), Fail> {
+fn streams(rt: HostRuntime) -> Result<(), Fail> {
     let alloc = rt.alloc();
-    let check = check(alloc)?;
-    let mut told: Vec<u8> = Vec::new(alloc);
-    let mut out: Vec<u8> = Vec::new(alloc);
-    assert_eq!(rt;
-        run_command(alloc, &check, &mut Broken, &mut out, &mut told),
-        3
-    );
-    assert_eq!(rt; told.as_slice(), b"fault 96\n".as_slice());
-    assert!(rt; out.is_empty());
-    let mut told: Vec<u8> = Vec::new(alloc);
+    runs(&rt, alloc, false, &mut Broken, &fault(b"fault 96\n"))?;
+    let mut endless = Endless { is_begun: false };
+    runs(&rt, alloc, false, &mut endless, &fault(b"fault 13\n"))?;
+    let mut halting = Halting {
+        rest: &WIDE,
+        is_interrupted: false,
+    };
+    let text = output(b"lddw r0, 8589934593\nexit\n");
+    runs(&rt, alloc, true, &mut halting, &text)?;
+    let command = command_of(alloc, false)?;
+    let mut err: Vec<u8> = Vec::new(alloc);
     let mut input = EXIT_ONE.as_slice();
-    assert_eq!(rt;
-        run_command(alloc, &check, &mut input, &mut Broken, &mut told),
-        3
-    );
-    assert_eq!(rt; told.as_slice(), b"fault 97\n".as_slice());
+    let status = run_command(alloc, &command, &mut input, &mut Broken, &mut err);
+    assert_eq!(rt; status, 3);
+    assert_eq!(rt; err.as_slice(), b"fault 97\n".as_slice());
     // A broken standard error changes no status.
+    let mut out: Vec<u8> = Vec::new(alloc);
     let mut input = EXIT.as_slice();
-    assert_eq!(rt;
-        run_command(alloc, &check, &mut input, &mut out, &mut Broken),
-        1
-    );
+    let status = run_command(alloc, &command, &mut input, &mut out, &mut Broken);
+    assert_eq!(rt; status, 1);
     Ok(())
 }
 
-fn words(alloc: Global, texts: &[&str]) -> Result<Vec<String>, Fail> {
+/// The command that words ask for, or the text of the usage fault as `main` writes it.
+fn asked(rt: &impl Abort, alloc: Global, texts: &[&str]) -> Result<Result<Command, String>, Fail> {
     let mut words = Vec::new(alloc);
     for text in texts {
         words.push(String::from_str(alloc, text)?)?;
     }
-    Ok(words)
-}
-
-#[test]
-fn commands_of_words(rt: HostRuntime) -> Result<(), Fail> {
-    let alloc = rt.alloc();
-    let given = words(alloc, &["bpfrt", "check", "a.bpf"])?;
-    let found = command(alloc, &given)?;
-    assert!(rt; matches!(&found, Command::Check { .. }));
-    assert_eq!(rt; found.file(), "a.bpf");
-    let given = words(alloc, &["bpfrt", "disasm", "b.bpf"])?;
-    let found = command(alloc, &given)?;
-    assert!(rt; matches!(&found, Command::Disasm { .. }));
-    assert_eq!(rt; found.file(), "b.bpf");
-    Ok(())
-}
-
-#[test]
-fn words_that_are_no_command(rt: HostRuntime) -> Result<(), Fail> {
-    let alloc = rt.alloc();
-    let rows: [&[&str]; 6] = [
-        &["bpfrt"],
-        &["bpfrt", "check"],
-        &["bpfrt", "check", "a", "b"],
-        &["bpfrt", "--help"],
-        &["bpfrt", "help"],
-        &["bpfrt", "verify", "a"],
-    ];
-    for row in rows {
-        let given = words(alloc, row)?;
-        assert!(rt; matches!(command(alloc, &given), Err(UsageFault::Usage(_))));
+    match command(alloc, &words) {
+        Ok(command) => Ok(Ok(command)),
+        Err(usage) => {
+            let mut err: Vec<u8> = Vec::new(alloc);
+            assert_eq!(rt; no_command(&mut err, &usage), 2);
+            Ok(Err(String::from_str(alloc, str::from_utf8(&err)?)?))
+        }
     }
+}
+
+/// Words that are no command, and what is said of them.
+const NO_COMMANDS: [(&[&str], &[&str]); 9] = [
+    (&["bpfrt"], &["Usage: bpfrt"]),
+    (&["bpfrt", "chekc", "a"], &["'chekc'", "'check'"]),
+    (&["bpfrt", "check"], &["<FILE>"]),
+    (&["bpfrt", "check", "a", "b"], &["'b'"]),
+    (&["bpfrt", "verify", "a"], &["'verify'"]),
+    (&["bpfrt", "--help"], &["check", "disasm"]),
+    (&["bpfrt", "help"], &["check", "disasm"]),
+    (
+        &["bpfrt", "check", "--help"],
+        &["accepted 33 instructions 35 slots", "fault 94 at L"],
+    ),
+    (&["bpfrt", "disasm", "--help"], &["mov64 r0, 1"]),
+];
+
+#[test]
+fn words_of_commands(rt: HostRuntime) -> Result<(), Fail> {
+    let alloc = rt.alloc();
+    for (words, said) in NO_COMMANDS {
+        match asked(&rt, alloc, words)? {
+            Ok(_) => assert!(rt; false, "no command"),
+            Err(text) => {
+                for part in said {
+                    assert!(rt; text.contains(part), "{text}");
+                }
+            }
+        }
+    }
+    let check = asked(&rt, alloc, &["bpfrt", "check", "a.bpf"])?;
+    assert!(rt; matches!(&check, Ok(Command::Check { file }) if file.as_str() == "a.bpf"));
+    let disasm = asked(&rt, alloc, &["bpfrt", "disasm", "b.bpf"])?;
+    assert!(rt; matches!(&disasm, Ok(Command::Disasm { file }) if file.as_str() == "b.bpf"));
+    let mut err: Vec<u8> = Vec::new(alloc);
+    assert_eq!(rt; no_command(&mut err, &UsageFault::NotText), 2);
+    assert_eq!(rt; no_command(&mut err, &UsageFault::Memory), 3);
+    assert_eq!(rt;
+        err.as_slice(),
+        b"a word is not UTF-8 text\nfault 13\n".as_slice()
+    );
     Ok(())
 }

@@ -5,9 +5,54 @@ use clap::error::ErrorKind;
 use clap::{Arg, ArgAction, ArgMatches};
 use std::alloc::{AllocError, Global};
 
+/// Behind the commands of `bpfrt --help`.
+const HELP: &str = "\
+A program file is raw bytes, or a text with a context, maps and slots (docs/PROGRAM_FILES.md).
+`bpfrt COMMAND --help` says what a command reads, prints and answers.
+
+Status: 0 fine, 1 refused or a faulty file, 2 usage, 3 memory, reading or writing";
+
+/// Behind the arguments of `bpfrt check --help`.
+const CHECK_HELP: &str = "\
+Reads a program file: a text (`bpfrt 1`, `ctx N`, `map ..`, `code`, slots in hexadecimal digits),
+whose maps and context the program is verified against, or raw bytes, with neither.
+
+Prints `accepted I instructions S slots`.
+
+Status, and the line on standard error:
+  0  accepted
+  1  refused C, refused C at S   decoding or the verifier refuses, at slot S (docs/REFUSALS.md)
+     fault 94 at L               line L of the file is wrong (docs/PROGRAM_FILES.md)
+  2  usage
+  3  fault 13, 96, 97            out of memory; FILE or the output failed
+
+Example:
+  $ bpfrt check examples/c/counter.bpfrt
+  accepted 33 instructions 35 slots";
+
+/// Behind the arguments of `bpfrt disasm --help`.
+const DISASM_HELP: &str = "\
+Reads a program file as `bpfrt check` does, and verifies nothing.
+
+Prints the text of the program, one instruction a line (docs/ASSEMBLY.md).
+
+Status, and the line on standard error:
+  0  written
+  1  refused C, refused C at S   decoding refuses, at slot S (docs/REFUSALS.md)
+     fault 94 at L               line L of the file is wrong (docs/PROGRAM_FILES.md)
+  2  usage
+  3  fault 13, 96, 97            out of memory; FILE or the output failed
+
+Example:
+  $ bpfrt disasm examples/exit_one.bpf
+  mov64 r0, 1
+  exit";
+
 fn file_argument<'a>(alloc: Global) -> Arg<'a> {
     Arg::new(alloc, "FILE")
-        .help("program bytes: slots of 8 bytes, one after the other")
+        .help(
+            "a program file: text that begins with `bpfrt 1`, or the bytes of the program's slots",
+        )
         .required(true)
         .action(ArgAction::Set)
 }
@@ -16,12 +61,15 @@ fn file_argument<'a>(alloc: Global) -> Arg<'a> {
 fn grammar<'a>(alloc: Global) -> Result<clap::Command<'a>, AllocError> {
     let check = clap::Command::new(alloc, "check")
         .about("Verifies the program in FILE")
+        .after_help(CHECK_HELP)
         .arg(file_argument(alloc))?;
     let disasm = clap::Command::new(alloc, "disasm")
         .about("Writes the text of the program in FILE, one instruction a line")
+        .after_help(DISASM_HELP)
         .arg(file_argument(alloc))?;
     clap::Command::new(alloc, "bpfrt")
         .about("An eBPF runtime with proved contracts")
+        .after_help(HELP)
         .subcommand_required(true)
         .subcommand(check)?
         .subcommand(disasm)

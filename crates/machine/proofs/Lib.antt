@@ -2,6 +2,7 @@ pub mod Acting
 pub mod Doing
 pub mod Landing
 pub mod Laws
+pub mod Locating
 pub mod Places
 pub mod Reacting
 pub mod Serving

@@ -1,9 +1,9 @@
 //! Where words lie, and the bytes that they name.
-ghost use Rattle.std.specs.Prelude.{◌≡◌, ℕ, ◌+◌, ◌^◌, ◌<◌, ◌≤◌, length, pos, ◌+ℤ◌};
+ghost use Rattle.std.specs.Prelude.{◌≡◌, ◌==◌, ℕ, ◌+◌, ◌^◌, ◌<◌, ◌≤◌, length, pos, ◌+ℤ◌};
 ghost use Rattle.bpf_model.specs.declared.limits.TheConstants.{CTX_BYTES, FRAME_BYTES};
 ghost use Rattle.bpf_model.specs.Access.{byte_count};
-ghost use Rattle.bpf_model.specs.Word.{frame_base};
-ghost use Rattle.world_laws.specs.Locating.{location_of, number_from};
+ghost use Rattle.bpf_model.specs.Word.{ctx_base, frame_base};
+ghost use Rattle.world_laws.specs.Locating.{location_of, number_from, word_region};
 ghost use Rattle.bpf_model.specs.MachineStep.{with_bytes};
 ghost use Rattle.world_laws.specs.Reaching.{IsInside};
 ghost use Rattle.machine.specs.Workspaces.{own_view, with_frame};
@@ -28,13 +28,29 @@ pub(crate) enum Memory {
     Elsewhere,
 }
 
+/// Whether a word lies in the context.
+#[inline(always)]
+fn is_in_context(word: u64) -> bool
+    ensures { result ≡ (word_region word == word_region ctx_base) }
+{
+    CTX_BASE - NEAR <= word && word < CTX_BASE - NEAR + SPAN
+}
+
+/// Whether a word lies in the frame.
+#[inline(always)]
+fn is_in_frame(word: u64) -> bool
+    ensures { result ≡ (word_region word == word_region frame_base) }
+{
+    FRAME_BASE - NEAR <= word && word < FRAME_BASE - NEAR + SPAN
+}
+
 #[inline(always)]
 pub(crate) fn memory_of(word: u64) -> Memory
     ensures { IsIn result word }
 {
-    if CTX_BASE - NEAR <= word && word < CTX_BASE - NEAR + SPAN {
+    if is_in_context(word) {
         Memory::Context
-    } else if FRAME_BASE - NEAR <= word && word < FRAME_BASE - NEAR + SPAN {
+    } else if is_in_frame(word) {
         Memory::Frame
     } else {
         Memory::Elsewhere
@@ -70,7 +86,8 @@ fn number_in(bytes: &[u8], base: u64, address: u64, offset: i16, width: Width) -
 }
 
 impl Workspace {
-    /// The number that a load finds in the run's own memory; elsewhere it finds none.
+    /// The number that a load finds in the run's own memory; elsewhere it finds none. (A match on
+    /// `memory_of` would be compiled to a number and two tests of it.)
     #[inline(always)]
     pub(crate) fn find(
         &self,
@@ -85,10 +102,12 @@ impl Workspace {
         ensures { result ≡ own_number (byte_count width) offset (location_of address)
             (own_view context.now self.now) }
     {
-        match memory_of(address) {
-            Memory::Context => Some(number_in(context, CTX_BASE, address, offset, width)),
-            Memory::Frame => Some(number_in(&self.frame, FRAME_BASE, address, offset, width)),
-            Memory::Elsewhere => None,
+        if is_in_context(address) {
+            Some(number_in(context, CTX_BASE, address, offset, width))
+        } else if is_in_frame(address) {
+            Some(number_in(&self.frame, FRAME_BASE, address, offset, width))
+        } else {
+            None
         }
     }
 

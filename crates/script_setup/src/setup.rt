@@ -1,6 +1,8 @@
 //! The maps and programs that a world will have.
 ghost use Rattle.std.specs.Prelude.{◌≡◌, ◌≤◌, ◌<◌, length, IfOk, OnErr, IfSome, IfNone};
 ghost use Rattle.bpf_model.specs.declared.limits.TheConstants.{MAX_MAPS, MAX_PROGRAMS, CTX_BYTES};
+ghost use Rattle.bpf_model.specs.Refines.{TracksSchedule};
+ghost use Rattle.bpf_model.specs.Schedule.{start_schedule};
 ghost use Rattle.bpf_model.specs.View.{start_view};
 ghost use Rattle.world_invariant.specs.Binding.{IsBoundTo};
 ghost use Rattle.script_setup.specs.Loading.{MapReplies, LoadReplies, ReadReplies, AreMapsNamed, HasUnknown};
@@ -188,6 +190,9 @@ impl Setup {
     pub fn seal(self, alloc: Global) -> Result<(NameTable, World), AllocError>
         ensures names { IfOk result (λ r. r.0 ≡ self.registry.names) }
         ensures world { IfOk result (λ r. r.1 ≡ start_view (shapes_made self) self.programs) }
+        // It tracks the machine's start.
+        ensures start { IfOk result (λ r.
+            TracksSchedule r.1 (start_schedule (shapes_made self) self.programs)) }
     {
         let Setup {
             registry,

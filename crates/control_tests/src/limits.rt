@@ -1,0 +1,97 @@
+//! As many maps, programs, runs and elements as there may be, and one more; lines as long as they may be.
+use crate::making::Dialogue;
+use control::{ScriptFault, run_script};
+use std::alloc::{AllocError, Global};
+use std::fmt::Write;
+use std::test::Fail;
+
+/// Maps, programs and runs, each with its number, and one that is refused.
+fn fill(alloc: Global, dialogue: &mut Dialogue) -> Result<(), AllocError> {
+    for number in 0..16u32 {
+        dialogue.ask(&format!(in alloc; "map m{number} 2 1 4096 0 1")?)?;
+        dialogue.expect(&format!(in alloc; "map {number}")?)?;
+    }
+    dialogue.add("map m16 2 1 4096 0 1 = refused 53\n")?;
+    for number in 0..64u32 {
+        dialogue.ask("load 0 EXIT_ONE")?;
+        dialogue.expect(&format!(in alloc; "prog {number}")?)?;
+    }
+    dialogue.add("load 300 ff = refused 54\n")?;
+    for number in 0..64u32 {
+        dialogue.ask("start 63 -")?;
+        dialogue.expect(&format!(in alloc; "run {number}")?)?;
+    }
+    Ok(())
+}
+
+/// Elements of one map, put under falling keys, and told under rising ones.
+fn fill_map(alloc: Global, dialogue: &mut Dialogue) -> Result<(), AllocError> {
+    for number in 0..512u32 {
+        let key = 65_535 - 127 * number;
+        dialogue.ask(&format!(in alloc; "put m3 {key:04x} {:02x} 0", number % 256)?)?;
+        dialogue.expect("ret 0")?;
+    }
+    dialogue.ask("dump m3")?;
+    for number in 0..512u32 {
+        let key = 638 + 127 * number;
+        dialogue.expect(&format!(in alloc; "{key:04x} {:02x}", (511 - number) % 256)?)?;
+    }
+    dialogue.expect("end")
+}
+
+#[test]
+fn one_more_is_refused(rt: HostRuntime) -> Result<(), Fail> {
+    let mut dialogue = Dialogue::new(rt.alloc());
+    fill(rt.alloc(), &mut dialogue)?;
+    dialogue.add("start 0 - = refused 64\nstart 0 00 = refused 63\nstart 64 00 = refused 62\n")?;
+    dialogue.add("step 5 3 = exit 1\nstep 5 = refused 61\nstep 63 1 = moved\n")?;
+    dialogue.add("drop 4 = refused 67\ndrop 5 = ok\nstep 5 = refused 60\nstart 0 - = run 5\n")?;
+    fill_map(rt.alloc(), &mut dialogue)?;
+    dialogue.add("dump m2 = end\n")?;
+    dialogue.add("stat = stat linked 512 unlinked 0 given 0 worn 0 runs 64 open 0\n")?;
+    let (out, end) = dialogue.run(rt.alloc());
+    assert!(rt; end.is_ok());
+    assert_eq!(rt; out.as_slice(), dialogue.answers.as_slice());
+    Ok(())
+}
+
+#[test]
+fn lines_about_as_long_as_may_be(rt: HostRuntime) -> Result<(), Fail> {
+    for (length, is_bad) in [(70_000, false), (70_001, true)] {
+        let mut script: Vec<u8> = vec![in rt.alloc(); b'#'; length]?;
+        script.extend_from_slice(b"\nadvance")?;
+        let mut input = script.as_slice();
+        let mut out = Vec::new(rt.alloc());
+        let end = run_script(rt.alloc(), &mut input, &mut out);
+        assert_eq!(rt;
+            matches!(end, Err(ScriptFault::BadCommand { line: 1 })),
+            is_bad
+        );
+        assert_eq!(rt; out.is_empty(), is_bad);
+    }
+    Ok(())
+}
+
+#[test]
+fn bytes_longer_than_any(rt: HostRuntime) -> Result<(), Fail> {
+    let alloc = rt.alloc();
+    let zeros = "00".repeat(alloc, 257)?;
+    let mut dialogue = Dialogue::new(alloc);
+    dialogue.add("map m 64 256 1 0 2 = map 0\nload 256 EXIT_ONE = prog 0\n")?;
+    for (before, behind, answer) in [
+        ("get m ", "", "refused 66"),
+        ("del m ", "", "refused 66"),
+        ("put m ", " 00 0", "refused 66"),
+        ("put m 00 ", " 0", "refused 66"),
+        ("put nosuch ", " 00 0", "refused 65"),
+        ("start 0 ", "", "refused 63"),
+        ("start 1 ", "", "refused 62"),
+    ] {
+        dialogue.ask(&format!(in alloc; "{before}{zeros}{behind}")?)?;
+        dialogue.expect(answer)?;
+    }
+    let (out, end) = dialogue.run(alloc);
+    assert!(rt; end.is_ok());
+    assert_eq!(rt; out.as_slice(), dialogue.answers.as_slice());
+    Ok(())
+}
