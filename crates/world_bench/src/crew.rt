@@ -189,7 +189,7 @@ fn time_of<L: Ledger + Send + Sync, R: Threads + Wait + Clock + Sync>(
     task: Task,
     calls: u32,
 ) -> Result<Duration> {
-    let workers = list.len();
+    let workers = list.len().max(1);
     let start = Instant::now(rt)?;
     for_each_mut(
         rt,

@@ -8,7 +8,9 @@ mod activity;
 mod command;
 mod crew;
 mod decimal;
+mod lines;
 mod measure;
+mod pool;
 mod programs;
 mod report;
 mod sequence;
@@ -19,7 +21,9 @@ use activity::{Activity, activities};
 use anyhow::Result;
 use command::{Command, UsageFault, parse_words};
 use crew::{Crew, crews, time_per_call};
+use lines::time_per_line;
 use measure::time_per_part;
+use pool::time_per_job;
 use report::{answers_line, measurement_line};
 use setup::make_setup;
 use shared::MAX_WORKERS;
@@ -74,6 +78,34 @@ fn shared_lines<R: Threads + Wait + Clock + Sync>(rt: &R, alloc: Global) -> Resu
     Ok(lines)
 }
 
+/// How many workers serve jobs, and the line's name.
+const POOLS: [(u8, &str); 4] = [
+    (1, "pool_job_by_1"),
+    (2, "pool_job_by_2"),
+    (4, "pool_job_by_4"),
+    (8, "pool_job_by_8"),
+];
+
+/// Times the jobs of each number of workers.
+fn pool_lines<R: Threads + Wait + Clock + Sync>(rt: &R, alloc: Global) -> Result<Vec<String>> {
+    let mut lines = Vec::new(alloc);
+    for (workers, name) in POOLS {
+        if workers >= 1 && workers <= MAX_WORKERS {
+            let blank = Blank::new(workers.into());
+            let time = time_per_job::<Brand, _>(rt, alloc, blank, workers)?;
+            lines.push(measurement_line(alloc, name, time)?)?;
+        }
+    }
+    Ok(lines)
+}
+
+/// Times the lines of a script.
+fn print_script_times(rt: &HostRuntime) -> Result<()> {
+    let time = time_per_line(rt, rt.alloc())?;
+    rt.println(measurement_line(rt.alloc(), "script_line", time)?)?;
+    Ok(())
+}
+
 fn print_lines(rt: &HostRuntime, lines: Vec<String>) -> Result<()> {
     for line in lines {
         rt.println(line)?;
@@ -109,6 +141,11 @@ fn main(rt: HostRuntime) -> ExitCode {
             Ok(lines) => print_lines(&rt, lines),
             Err(error) => Err(error),
         },
+        Ok(Ok(Command::PoolTimes)) => match pool_lines(&rt, rt.alloc()) {
+            Ok(lines) => print_lines(&rt, lines),
+            Err(error) => Err(error),
+        },
+        Ok(Ok(Command::ScriptTimes)) => print_script_times(&rt),
         Ok(Err(fault)) => {
             let _ = eprintln!(&rt; "{fault}");
             return ExitCode::from(2);
