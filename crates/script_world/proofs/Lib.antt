@@ -1,3 +1,4 @@
 pub mod Above
-pub mod Stepping
+pub mod Happening
 pub mod Replied
+pub mod Stepping

@@ -9,13 +9,14 @@ use Rattle.script_lines.specs.declared.reply.Reply.{Reply}
 use Rattle.script_lines.specs.Answers.{reply_text}
 use Rattle.script_requests.specs.declared.asked.Asked.{Asked}
 use Rattle.script_world.specs.declared.live.Live.{Live}
-use Rattle.script_world.specs.Lives.{IsReplied}
+use Rattle.script_world.specs.Lives.{IsReplied, Happen}
 use Rattle.script_world.specs.Replies.{Replies}
 
 -- many replies
-pub replied : (old : Live) (question asked : Asked) (events : List Event) (replies : List Reply) (world : WorldView) (before after : List ℕ) → question ≡ asked → Replies old.names old.world asked events replies world → after ≡ before ++ flat_map reply_text replies → IsReplied old question before after (record { names = old.names; world = world })
-replied old question asked events replies world before after is r text = record {
+pub replied : (old : Live) (question asked : Asked) (events : List Event) (replies : List Reply) (world : WorldView) (before after : List ℕ) → question ≡ asked → Happen old.world events world → Replies old.names old.world asked events replies world → after ≡ before ++ flat_map reply_text replies → IsReplied old question before after (record { names = old.names; world = world })
+replied old question asked events replies world before after is h r text = record {
   events = events;
+  happened = h;
   replies = replies;
   replied = subst (λ (q : Asked). Replies old.names old.world q events replies world) (sym is) r;
   names = refl;
@@ -23,8 +24,8 @@ replied old question asked events replies world before after is r text = record 
 }
 
 -- one reply
-pub replied_once : (old : Live) (question asked : Asked) (events : List Event) (told reply : Reply) (world : WorldView) (before after : List ℕ) (result : Result (Unit {0}) AllocError) → question ≡ asked → told ≡ reply → Replies old.names old.world asked events (reply ∷ []) world → OnOk result (after ≡ before ++ reply_text told) → OnOk result (IsReplied old question before after (record { names = old.names; world = world }))
-replied_once old question asked events told reply world before after (Ok u) is same r text =
-    replied old question asked events (reply ∷ []) world before after is r
+pub replied_once : (old : Live) (question asked : Asked) (events : List Event) (told reply : Reply) (world : WorldView) (before after : List ℕ) (result : Result (Unit {0}) AllocError) → question ≡ asked → Happen old.world events world → told ≡ reply → Replies old.names old.world asked events (reply ∷ []) world → OnOk result (after ≡ before ++ reply_text told) → OnOk result (IsReplied old question before after (record { names = old.names; world = world }))
+replied_once old question asked events told reply world before after (Ok u) is h same r text =
+    replied old question asked events (reply ∷ []) world before after is h r
     (text ∙ ap (λ (xs : List ℕ). before ++ xs) (ap reply_text same ∙ sym (append-nil (reply_text reply))))
-replied_once old question asked events told reply world before after (Err e) is same r text = tt
+replied_once old question asked events told reply world before after (Err e) is h same r text = tt

@@ -2,6 +2,12 @@
 use Rattle.std.specs.Prelude.{◌≡◌, ℕ, List, ◌++◌}
 use Rattle.std.specs.List.{flat_map}
 use Rattle.bpf_model.specs.declared.event.Event.{Event}
+use Rattle.bpf_model.specs.Drain.{AreScheduledAnswers}
+use Rattle.bpf_model.specs.Event.{AreReal}
+use Rattle.bpf_model.specs.Refines.{TracksSchedule}
+use Rattle.bpf_model.specs.View.{WorldView}
+use Rattle.world_laws.specs.Reacting.{full_reactions}
+use Rattle.world_invariant.specs.Invariant.{IsWorld}
 use Rattle.script_lines.specs.Answers.{reply_text}
 use Rattle.script_lines.specs.declared.command.Command.{Command}
 use Rattle.script_lines.specs.declared.reply.Reply.{Reply}
@@ -10,6 +16,14 @@ use Rattle.script_requests.specs.Asking.{IsAsked}
 use Rattle.script_world.specs.declared.live.Live.{Live}
 use Rattle.script_world.specs.Replies.{Replies}
 
+-- These events happen in a world of the runtime, and leave the other. With their answers they are a
+-- run of the machine with the runtime's choices.
+pub record Happen (w : WorldView) (events : List Event) (new : WorldView) : Type 0 where
+  pub world : IsWorld w
+  pub real : AreReal events
+  pub new_is : new ≡ (full_reactions w events).1
+  pub machine : AreScheduledAnswers TracksSchedule w events (full_reactions w events).0 new
+
 -- The world is asked what the command says of its maps' names; these events happen in it, and these
 -- are the replies. The names stay.
 pub record LiveReplies (old : Live) (command : Command) (replies : List Reply) (new : Live)
@@ -17,12 +31,14 @@ pub record LiveReplies (old : Live) (command : Command) (replies : List Reply) (
   pub asked : Asked
   pub is_asked : IsAsked old.names command asked
   pub events : List Event
+  pub happened : Happen old.world events new.world
   pub replied : Replies old.names old.world asked events replies new.world
   pub names : new.names ≡ old.names
 
 -- What is asked is replied, and the text of the replies is added.
 pub record IsReplied (old : Live) (question : Asked) (before after : List ℕ) (new : Live) : Type 0 where
   pub events : List Event
+  pub happened : Happen old.world events new.world
   pub replies : List Reply
   pub replied : Replies old.names old.world question events replies new.world
   pub names : new.names ≡ old.names

@@ -3,6 +3,7 @@
 use crate::dumping::write_elements;
 use crate::replying::{refusal_of_overlong, stat_reply};
 use crate::steps::make_steps;
+use bpf_model::Event;
 use script_lines::{Command, write_reply};
 use script_requests::{Asked, NameTable, ask, refused, write_answer};
 use std::alloc::AllocError;
@@ -29,10 +30,12 @@ impl Live {
     fn answer_asked(&mut self, asked: Asked, out: &mut Vec<u8>) -> Result<(), AllocError>
         ensures { OnOk result (IsReplied self.old asked out.old.items out.new.items self.new) }
     {
+        self.world.is_world();
         match asked {
             Asked::Sealed => write_reply(&refused(SEALED), out),
             Asked::Refused(refusal) => write_reply(&refused(refusal.code()), out),
             Asked::Event(event) => {
+                event.is_real();
                 let answer = self.world.apply(&event);
                 write_answer(&self.names, &answer, out)
             }
@@ -40,6 +43,7 @@ impl Live {
                 write_reply(&refused(refusal_of_overlong(&self.world, prog).code()), out)
             }
             Asked::Steps { run, count } => {
+                Event::Step { run }.is_real();
                 let answer = make_steps(&mut self.world, run, count);
                 write_answer(&self.names, &answer, out)
             }
