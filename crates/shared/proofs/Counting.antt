@@ -1,5 +1,5 @@
 -- Each reaction unlinks or reclaims at most one element, and says so where it reclaims.
-use Rattle.std.proofs.Common.{◌≡◌, ◌∙◌, ℕ, zero, suc, ◌+◌, ◌≤◌, ◌<◌, List, [], ◌∷◌, ◌++◌, map, length, Option, Some, None, refl, sym, ap, subst, arith, Bool, true, false, get_or, drop, length-append, length-drop}
+use Rattle.std.proofs.Common.{◌≡◌, ◌∙◌, ℕ, zero, suc, ◌+◌, ◌≤◌, List, [], ◌∷◌, map, length, Option, Some, None, refl, sym, ap, subst, arith, Bool, true, false, length-append, length-drop}
 use Rattle.std.specs.Prelude.{slice_get, slice_set, ℤ, pos, negsuc, ◌+ℤ◌}
 use Rattle.std.specs.List.{sum_by}
 use Rattle.std.specs.FinMap.{get}

@@ -4,13 +4,26 @@ use Rattle.std.specs.Prelude.{IfSome, slice_get}
 use Rattle.bpf_model.specs.View.{WorldView}
 use Rattle.verifier.specs.Checked.{Checked}
 use Rattle.world_invariant.specs.Invariant.{IsWorld}
-use Rattle.shared.specs.Receipts.{IsExitOf, HasExitedOnce}
-
-map-some : (o : Option ℕ) (P Q : ℕ → Type 0) → ((n : ℕ) → P n → Q n) → IfSome o P → IfSome o Q
-map-some None P Q f h = h
-map-some (Some n) P Q f h = f n h
+use Rattle.exit_laws.proofs.Lived.{may_exit_as, exits_as}
+use Rattle.exit_laws.proofs.Asked.{map-some}
+use Rattle.shared.specs.Receipts.{IsExitOf, HasExitedOnce, IsPossibleExit, IsOwnExit}
 
 pub exits-once : (programs : List Checked) (p : Option Checked) (w : WorldView) (run prog : ℕ) (context : List ℕ) (exit : Option ℕ) → IsWorld w → p ≡ slice_get programs prog
     → IfSome exit (λ n. IsExitOf w run p context n) → IfSome exit (λ n. HasExitedOnce programs run prog context n)
 exits-once programs p w run prog context exit is same h =
     map-some exit (λ n. IsExitOf w run p context n) (λ n. HasExitedOnce programs run prog context n) (λ n e. record { world = w; is_world = is; exited = subst (λ (q : Option Checked). IsExitOf w run q context n) same e }) h
+
+-- such a value is one of the program's definition
+possible : (o : Option Checked) (w : WorldView) (run : ℕ) (context : List ℕ) (n : ℕ) → IsWorld w → IsExitOf w run o context n → IsPossibleExit o context n
+possible None w run context n is h = h
+possible (Some p) w run context n is h = may_exit_as w run p.program context n is h
+
+own : (o : Option Checked) (context : List ℕ) (n : ℕ) → IsPossibleExit o context n → IsOwnExit o context n
+own None context n h = h
+own (Some p) context n h = λ none. exits_as p.program context n none h
+
+pub possible-once : (programs : List Checked) (run prog : ℕ) (context : List ℕ) (n : ℕ) → HasExitedOnce programs run prog context n → IsPossibleExit (slice_get programs prog) context n
+possible-once programs run prog context n h = possible (slice_get programs prog) h.world run context n h.is_world h.exited
+
+pub own-once : (programs : List Checked) (run prog : ℕ) (context : List ℕ) (n : ℕ) → HasExitedOnce programs run prog context n → IsOwnExit (slice_get programs prog) context n
+own-once programs run prog context n h = own (slice_get programs prog) context n (possible-once programs run prog context n h)

@@ -3,3 +3,5 @@ pub mod Counting
 pub mod Balance
 pub mod Quiet
 pub mod Exits
+pub mod Kept
+pub mod Answered

@@ -1,5 +1,5 @@
 -- Each step keeps the counters' rule.
-use Rattle.std.proofs.Common.{◌≡◌, ◌≢◌, ◌⊎◌, ℕ, zero, suc, ◌≤◌, List, [], ◌∷◌, true, false, true≢false, set, refl, sym, ap, ◌∙◌, subst, ⊎_elim, le_refl, le_trans, arith}
+use Rattle.std.proofs.Common.{◌≡◌, ◌≢◌, ℕ, zero, suc, ◌≤◌, List, [], ◌∷◌, true, false, true≢false, set, refl, sym, ◌∙◌, subst, ⊎_elim, le_refl, le_trans}
 use Rattle.std.specs.Prelude.{slice_index}
 use mathlib.Core.Option.{some, some-injective, some-ne-none}
 use lib.ListN.{get_elem?}

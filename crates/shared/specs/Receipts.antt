@@ -1,11 +1,15 @@
 -- What a receipt and a note say.
-use Rattle.std.specs.Prelude.{◌≡◌, ℕ, List, Option, Some, None, Result, slice_get, map}
+use Rattle.std.specs.Prelude.{ℕ, List, Option, Some, None, Result, slice_get}
 use Rattle.bpf_model.specs.declared.event.Event.{Event}
 use Rattle.bpf_model.specs.declared.event.Answer.{Answer}
-use Rattle.bpf_model.specs.declared.insn.Insn.{Insn}
+use Rattle.bpf_model.specs.Event.{DoesEvent}
+use Rattle.bpf_model.specs.Exit.{HasNoMaps}
+use Rattle.bpf_model.specs.Machine.{Machine}
+use Rattle.bpf_model.specs.Refines.{Tracks}
 use Rattle.bpf_model.specs.View.{WorldView, HasExited}
 use Rattle.verifier.specs.Checked.{Checked}
 use Rattle.world_invariant.specs.Invariant.{IsWorld}
+use Rattle.exit_laws.specs.Exits.{MayExitAs, ExitsAs}
 use Rattle.shared.specs.declared.fault.SharedFault.{SharedFault}
 
 -- who called, how many entries it has made, the event, and the answer
@@ -24,6 +28,15 @@ pub record NoteView : Type 0 where
   pub context : List ℕ
   pub exit : Option ℕ
 
+-- In a state that some world tracks, the abstract machine has a step for the event with this answer.
+pub record IsMachineAnswer (event : Event) (answer : Answer) : Type 0 where
+  pub world : WorldView
+  pub is_world : IsWorld world
+  pub old : Machine
+  pub tracked : Tracks world old
+  pub new : Machine
+  pub step : DoesEvent old event answer new
+
 -- In the world the run has exited with this value, of the program that was asked for on the
 -- context.
 abbrev pub IsExitOf : WorldView → ℕ → Option Checked → List ℕ → ℕ → Type 0
@@ -37,3 +50,14 @@ pub record HasExitedOnce (programs : List Checked) (run prog : ℕ) (context : L
   pub world : WorldView
   pub is_world : IsWorld world
   pub exited : IsExitOf world run (slice_get programs prog) context n
+
+-- The program that was asked for may exit with this value on the context.
+abbrev pub IsPossibleExit : Option Checked → List ℕ → ℕ → Type 0
+IsPossibleExit None context n = ⊥
+IsPossibleExit (Some program) context n = MayExitAs program.program context n
+
+-- Without map references it exits with this value, whatever other actors do.
+abbrev pub IsOwnExit : Option Checked → List ℕ → ℕ → Type 0
+IsOwnExit None context n = ⊥
+IsOwnExit (Some program) context n =
+    HasNoMaps program.program → ExitsAs program.program context n

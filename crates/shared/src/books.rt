@@ -2,7 +2,7 @@
 ghost use Rattle.std.specs.Prelude.{◌≡◌, ℕ, ◌+◌, ◌-◌, ◌^◌, ◌<◌, ◌≤◌, ◌↔◌, ◌⊎◌, List, [], length, IsTrue, true, IfOk, IfSome, IfNone, OnErr, OnOk, Err, Ok, option_copied};
 ghost use Rattle.journal_laws.specs.Replay.{Replays, HasNoRuns};
 ghost use Rattle.world_invariant.specs.Invariant.{IsWorld};
-ghost use Rattle.shared.specs.Receipts.{IsExitOf};
+ghost use Rattle.shared.specs.Receipts.{IsExitOf, IsMachineAnswer};
 ghost use Rattle.shared.specs.Tally.{IsTallyOf, origin_of};
 ghost use Rattle.shared.specs.Books.{IsJournalFull, Enters, TotalsRise, CutsTo};
 ghost use Rattle.shared.specs.declared.fault.SharedFault.TheVariants as fault;
@@ -121,6 +121,7 @@ impl<L: Ledger> Books<L> {
         ensures number { result.number ≡ worker.new.made }
         ensures entered { IfOk result.reply (λ answer.
             Enters self.old worker.old.number event answer self.new) }
+        ensures answered { IfOk result.reply (IsMachineAnswer event) }
         ensures made { OnOk result.reply (worker.new.made ≡ worker.old.made + 1) }
         ensures same_worker { (worker.new.number ≡ worker.old.number)
             × (worker.new.parts ≡ worker.old.parts) }

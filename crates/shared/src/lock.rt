@@ -1,7 +1,7 @@
 //! The lock.
-ghost use Rattle.std.specs.Prelude.{◌≡◌, ℕ, ◌+◌, ◌<◌, ◌≤◌, length, vec_len, sum_by, All, IfOk, IfSome, OnErr, OnOk, option_copied, slice_get};
+ghost use Rattle.std.specs.Prelude.{◌≡◌, ℕ, ◌+◌, ◌<◌, ◌≤◌, length, map, vec_len, sum_by, All, IfOk, IfSome, OnErr, OnOk, option_copied, slice_get};
 ghost use Rattle.shared.specs.declared.worker.TheConstants.{MAX_WORKERS};
-ghost use Rattle.shared.specs.Receipts.{HasExitedOnce};
+ghost use Rattle.shared.specs.Receipts.{HasExitedOnce, IsMachineAnswer, IsOwnExit, IsPossibleExit};
 ghost use Rattle.shared.specs.Tally.{origin_of, shown_totals};
 ghost use Rattle.journal_laws.specs.Replay.{Replays, HasNoRuns};
 
@@ -38,7 +38,13 @@ impl<L: Ledger> Model for Shared<L> {
 }
 
 /// The programs of a world, by number.
-fn programs_of(alloc: Global, world: &World) -> Result<Vec<Verified>, AllocError> {
+fn programs_of(alloc: Global, world: &World) -> Result<Vec<Verified>, AllocError>
+    ensures codes { IfOk result (λ v.
+        map (λ p. p.program) v.items ≡ map (λ l. l.code) world.now.programs) }
+    ensures contexts { IfOk result (λ v.
+        map (λ p. p.ctx_len) v.items ≡ map (λ l. l.context_len) world.now.programs) }
+{
+    world.is_world();
     let mut programs = Vec::new(alloc);
     for number in 0..MAX_PROGRAMS {
         match world.program(ProgId::new(number)) {
@@ -51,7 +57,8 @@ fn programs_of(alloc: Global, world: &World) -> Result<Vec<Verified>, AllocError
 
 impl<L: Ledger> Shared<L> {
     /// Shares a world in which no run slot is occupied among 1 to 8 workers, with an empty journal and the
-    /// counters. The ledger has one part for each worker. The error is that there is no memory left.
+    /// counters. The programs that it keeps are the world's, by number. The ledger has one part for each worker.
+    /// The error is that there is no memory left.
     pub fn new(
         alloc: Global,
         world: World,
@@ -65,6 +72,10 @@ impl<L: Ledger> Shared<L> {
         ensures count { IfOk result (λ t. vec_len t.1.list ≡ workers) }
         ensures made { IfOk result (λ t. All (λ w. w.made ≡ 0) t.1.list.items) }
         ensures counters { IfOk result (λ t. t.2 ≡ shown_totals (origin_of world) 0 0 0) }
+        ensures codes { IfOk result (λ t.
+            map (λ p. p.program) t.0 ≡ map (λ l. l.code) world.programs) }
+        ensures contexts { IfOk result (λ t.
+            map (λ p. p.ctx_len) t.0 ≡ map (λ l. l.context_len) world.programs) }
     {
         let programs = programs_of(alloc, &world)?;
         let base = world.copy(alloc)?;
@@ -83,11 +94,13 @@ impl<L: Ledger> Shared<L> {
     /// has made. It waits for the lock, and takes no memory but the journal's.
     ///
     /// The reply is an error, and then nothing has changed, where the journal has no room (`JournalFull`) or
-    /// memory was refused (`Memory`).
+    /// memory was refused (`Memory`). The contract says what an answer is, and not when there is none: it does
+    /// not see the journal under the lock.
     pub fn act_noted<R: Wait>(&self, rt: &R, worker: &mut Worker<L>, event: Event) -> Receipt
         ensures worker { result.worker ≡ worker.old.number }
         ensures event { result.event ≡ event }
         ensures number { result.number ≡ worker.new.made }
+        ensures answered { IfOk result.reply (IsMachineAnswer event) }
         ensures made { OnOk result.reply (worker.new.made ≡ worker.old.made + 1) }
         ensures same_worker { (worker.new.number ≡ worker.old.number)
             × (worker.new.parts ≡ worker.old.parts) }
@@ -104,6 +117,7 @@ impl<L: Ledger> Shared<L> {
         worker: &mut Worker<L>,
         event: Event,
     ) -> Result<Answer, SharedFault>
+        ensures answered { IfOk result (IsMachineAnswer event) }
         ensures made { OnOk result (worker.new.made ≡ worker.old.made + 1) }
         ensures same_worker { (worker.new.number ≡ worker.old.number)
             × (worker.new.parts ≡ worker.old.parts) }
@@ -136,6 +150,12 @@ impl<L: Ledger> Shared<L> {
         ensures context { result.context ≡ ctx.now.items }
         ensures exit { IfSome result.exit (λ n.
             HasExitedOnce self.now run prog ctx.now.items n) }
+
+        // The value is one of the program's definition, and without map references the only one.
+        ensures may { IfSome result.exit (λ n.
+            IsPossibleExit (slice_get self.now prog) ctx.now.items n) }
+        ensures alone { IfSome result.exit (λ n.
+            IsOwnExit (slice_get self.now prog) ctx.now.items n) }
     {
         let program = self.program(prog);
         let state = self.state.lock(rt);
@@ -151,7 +171,10 @@ impl<L: Ledger> Shared<L> {
         prog: ProgId,
         ctx: &CtxBytes,
     ) -> Option<u64>
-        ensures { IfSome result (λ n. HasExitedOnce self.now run prog ctx.now.items n) }
+        ensures exit { IfSome result (λ n. HasExitedOnce self.now run prog ctx.now.items n) }
+        ensures may { IfSome result (λ n.
+            IsPossibleExit (slice_get self.now prog) ctx.now.items n) }
+        ensures alone { IfSome result (λ n. IsOwnExit (slice_get self.now prog) ctx.now.items n) }
     {
         self.exit_noted(rt, worker, run, prog, ctx).exit()
     }

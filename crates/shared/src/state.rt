@@ -3,7 +3,7 @@ ghost use Rattle.std.specs.Prelude.{◌≡◌, ℕ, ◌+◌, ◌≤◌, ◌↔�
 ghost use Rattle.std.specs.Arc.{arc_value};
 ghost use Rattle.crossbeam_utils.specs.Seq.{cell_view};
 ghost use Rattle.world_invariant.specs.Invariant.{IsWorld};
-ghost use Rattle.shared.specs.Receipts.{IsExitOf};
+ghost use Rattle.shared.specs.Receipts.{IsExitOf, IsMachineAnswer};
 ghost use Rattle.shared.specs.Books.{IsJournalFull, Enters, TotalsRise, CutsTo};
 ghost use Rattle.shared.specs.Meter.{writer_at, writer_of};
 ghost use Rattle.shared.specs.Tally.{IsTallyOf, shown_totals};
@@ -101,6 +101,7 @@ impl<L: Ledger> State<L> {
         ensures number { result.number ≡ worker.new.made }
         ensures entered { IfOk result.reply (λ answer.
             Enters self.old worker.old.number event answer self.new) }
+        ensures answered { IfOk result.reply (IsMachineAnswer event) }
         ensures made { OnOk result.reply (worker.new.made ≡ worker.old.made + 1) }
         ensures same_worker { (worker.new.number ≡ worker.old.number)
             × (worker.new.parts ≡ worker.old.parts) }

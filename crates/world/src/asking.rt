@@ -1,6 +1,8 @@
 //! What is asked of a world outside of events.
 ghost use Rattle.std.specs.Prelude.{◌≡◌, ℕ, slice_get, option_map, option_copied, IfSome, IfNone};
+ghost use Rattle.bpf_model.specs.Exit.{HasNoMaps};
 ghost use Rattle.bpf_model.specs.View.{HasExited};
+ghost use Rattle.exit_laws.specs.Exits.{MayExitAs, ExitsAs};
 ghost use Rattle.world_parts.specs.Asking.{stat_of, IsFound, HasNone};
 ghost use Rattle.world_parts.specs.Programs.{program_of};
 
@@ -18,6 +20,11 @@ impl World {
             HasExited self.now run program.now.program ctx.now.items n) }
         ensures none { IfNone result ((n : ℕ) →
             HasExited self.now run program.now.program ctx.now.items n → ⊥) }
+
+        // The value is one of the program's definition, and without map references the only one.
+        ensures may { IfSome result (λ n. MayExitAs program.now.program ctx.now.items n) }
+        ensures alone { IfSome result (λ n. HasNoMaps program.now.program →
+            ExitsAs program.now.program ctx.now.items n) }
     {
         self.parts.exit_of(run, program, ctx)
     }

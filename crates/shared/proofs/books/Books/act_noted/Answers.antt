@@ -1,10 +1,14 @@
-use Rattle.std.proofs.Common.{◌≡◌, ◌∙◌, ℕ, ◌+◌, ◌^◌, ◌<◌, ◌∷◌, [], ◌++◌, List, length, sym, ap, subst, arith}
+use Rattle.std.proofs.Common.{◌≡◌, ◌∙◌, ℕ, ◌+◌, ◌^◌, ◌<◌, ◌∷◌, [], ◌++◌, List, sym, ap, subst, arith}
+use Rattle.std.specs.Prelude.{Result, IfOk}
 use Rattle.bpf_model.specs.declared.event.Answer.{Answer}
 use Rattle.journal.specs.declared.entry.Entry.{Entry}
 use Rattle.journal.specs.Entries.{IsAnswerTo}
 use Rattle.journal_laws.proofs.Fitting.{reaction_fits}
 use Rattle.shared.specs.Books.{BooksView, AreBalanced, Enters, TotalsRise, books_view}
+use Rattle.shared.specs.Receipts.{ReceiptView, IsMachineAnswer}
 use Rattle.shared.specs.Tally.{CountsOn}
+use Rattle.shared.specs.declared.fault.SharedFault.{SharedFault}
+use Rattle.shared.proofs.Answered.{answered}
 use Rattle.shared.proofs.Balance.{counts-on, tally-push, balanced-push}
 use Rattle.shared.proofs.books.Books.act_noted.Goals as goal
 
@@ -56,3 +60,8 @@ returns-clause-rise g c =
     let unlinked = t.2 in
     subst (λ (b : BooksView). TotalsRise b.tally.totals c.count.new.self.totals) c.self.view_is
     (record { steps = omega (arith, steps); unlinked = unlinked; reclaimed = omega (arith, reclaimed) })
+
+pub returns-clause-answered : goal.returns-clause-answered
+returns-clause-answered g c =
+    subst (λ (r : Result Answer SharedFault). IfOk r (IsMachineAnswer c.args.event)) (sym (ap (λ (v : ReceiptView). v.reply) c.new-2.ensures))
+    (answered c.self.inside.world c.args.event c.apply-answer.result c.is_world.ensures c.is_real.ensures c.apply-answer.ensures.answer)

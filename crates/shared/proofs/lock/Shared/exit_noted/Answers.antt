@@ -1,6 +1,17 @@
-use Rattle.shared.proofs.Exits.{exits-once}
+use Rattle.std.specs.Prelude.{slice_get}
+use Rattle.shared.specs.Receipts.{HasExitedOnce, IsPossibleExit, IsOwnExit}
+use Rattle.exit_laws.proofs.Asked.{map-some}
+use Rattle.shared.proofs.Exits.{exits-once, possible-once, own-once}
 use Rattle.shared.proofs.lock.Shared.exit_noted.Goals as goal
 
 pub returns-clause-exit : goal.returns-clause-exit
 returns-clause-exit g c =
     exits-once c.args.self.now _ c.deref.result.now.world c.args.run c.args.prog c.args.ctx.now.items c.exit_noted.result.exit c.exit_noted.ensures.world c.program-program.ensures c.exit_noted.ensures.some
+
+pub returns-clause-may : goal.returns-clause-may
+returns-clause-may g c =
+    map-some c.exit_noted.result.exit (HasExitedOnce c.args.self.now c.args.run c.args.prog c.args.ctx.now.items) (IsPossibleExit (slice_get c.args.self.now c.args.prog) c.args.ctx.now.items) (possible-once c.args.self.now c.args.run c.args.prog c.args.ctx.now.items) (returns-clause-exit g c)
+
+pub returns-clause-alone : goal.returns-clause-alone
+returns-clause-alone g c =
+    map-some c.exit_noted.result.exit (HasExitedOnce c.args.self.now c.args.run c.args.prog c.args.ctx.now.items) (IsOwnExit (slice_get c.args.self.now c.args.prog) c.args.ctx.now.items) (own-once c.args.self.now c.args.run c.args.prog c.args.ctx.now.items) (returns-clause-exit g c)

@@ -1,0 +1,150 @@
+-- Each run of a reached machine has made the steps of its program from the start: what it may still exit with, or has exited with, is an exit of a fresh run.
+use Rattle.std.proofs.Common.{◌≡◌, ℕ, suc, List, [], ◌∷◌, Option, Some, None, refl, sym, ap, subst, ◌∙◌}
+use Rattle.std.specs.Prelude.{slice_get}
+use Rattle.std.proofs.lemmas.Option.{none-some, same_Some}
+use Rattle.bpf_model.specs.declared.insn.Insn.{Insn}
+use Rattle.bpf_model.specs.declared.insn.Insn.TheVariants.{Call}
+use Rattle.bpf_model.specs.declared.insn.CallKind.TheVariants as kinds
+use Rattle.bpf_model.specs.declared.call.KernelFunction.{KernelFunction}
+use Rattle.bpf_model.specs.declared.call.KernelFunction.TheVariants.{ReadLock, ReadUnlock}
+use Rattle.bpf_model.specs.declared.event.Event.{Event}
+use Rattle.bpf_model.specs.declared.event.Answer.{Answer}
+use Rattle.bpf_model.specs.declared.event.Answer.TheVariants.{Moved, Exited}
+use Rattle.bpf_model.specs.declared.limits.TheConstants.{MAX_RUNS}
+use Rattle.bpf_model.specs.declared.limits.MapShape.{MapShape}
+use Rattle.bpf_model.specs.Call.{kernel_function_of}
+use Rattle.bpf_model.specs.Exit.{MayExitFrom, may_exit_now, may_exit_later, MayExitWith, HasNoMaps}
+use Rattle.bpf_model.specs.Section.{Section}
+use Rattle.bpf_model.specs.Step.{Outcome, Moves, Exits}
+use Rattle.bpf_model.specs.MapState.{Store}
+use Rattle.bpf_model.specs.Machine.{Loaded, Run, Machine, fresh_run, open_sections, run_at, run_in}
+use Rattle.bpf_model.specs.MachineStep.{OutcomeStep, KernelStep, InsnStep, RunStep}
+use Rattle.bpf_model.specs.Event.{DoesEvent, IsReal, AreReal}
+use Rattle.bpf_model.specs.Refines.{IsReachedSchedule, RunRefines, SlotRefines}
+use Rattle.bpf_model.specs.Schedule.{Schedule, IsScheduledHistory, last_scheduled, start_schedule}
+use Rattle.bpf_model.specs.View.{RunView, WorldView, HasExited, shapes_of}
+use Rattle.model_laws.proofs.Exits.{exits_alone}
+use Rattle.model_laws.proofs.Keeping.{no-run}
+use Rattle.typed_runs.proofs.Coming.{Comes, Stands, Starting, Stepping, does-come}
+use Rattle.typed_runs.proofs.Reaching.{real-rest}
+use Rattle.world_invariant.specs.Invariant.{IsWorld}
+use Rattle.exit_laws.specs.Exits.{MayExitAs, ExitsAs}
+
+-- an exit of the run's program on its context
+abbrev MayExit : Run → ℕ → Type 0
+MayExit run n = (steps : ℕ) × MayExitWith run.program run.context steps n
+
+pub record HasLived (run : Run) : Type 0 where
+  pub going : run.exit ≡ None → (steps n : ℕ) → MayExitFrom run steps n → MayExit run n
+  pub ended : (n : ℕ) → run.exit ≡ Some n → MayExit run n
+
+lived-fresh : (name : ℕ) (program : Loaded) (context : List ℕ) → HasLived (fresh_run name program context)
+lived-fresh name program context = record {
+  going = λ going steps n x. (steps, (name, x));
+  ended = λ n e. absurd (none-some n e);
+}
+
+-- A step moves the run on, or ends it.
+record GoesOn (old new : Run) : Type 0 where
+  pub program : new.program ≡ old.program
+  pub context : new.context ≡ old.context
+  pub exit : new.exit ≡ old.exit
+
+data Ends (old : Run) (answer : Answer) (new : Run) : Type 0 where
+  Further : answer ≡ Moved → GoesOn old new → Ends old answer new
+  Ended : (n : ℕ) → answer ≡ Exited n → new.program ≡ old.program → new.context ≡ old.context → new.exit ≡ Some n → Ends old answer new
+
+further : (old mid new : Run) (answer : Answer) → answer ≡ Moved → new ≡ mid → GoesOn old mid → Ends old answer new
+further old mid new answer e f g = Further e (subst (GoesOn old) (sym f) g)
+
+outcome-ends : (out : Outcome) (run : Run) (answer : Answer) (new : Run) → OutcomeStep out run answer new → Ends run answer new
+outcome-ends (Moves next) run answer new h = further run _ new answer h.0 h.1 (record { program = refl; context = refl; exit = refl })
+outcome-ends (Exits n) run answer new h = Ended n h.1 (ap (λ (x : Run). x.program) h.2) (ap (λ (x : Run). x.context) h.2) (ap (λ (x : Run). x.exit) h.2)
+
+kernel-ends : (f : Option KernelFunction) (run : Run) (answer : Answer) (new : Run) → KernelStep f run new → answer ≡ Moved → Ends run answer new
+kernel-ends (Some ReadLock) run answer new h e = further run _ new answer e h.1 (record { program = refl; context = refl; exit = refl })
+kernel-ends (Some ReadUnlock) run answer new h e = further run _ new answer e h.1 (record { program = refl; context = refl; exit = refl })
+kernel-ends None run answer new h e = absurd h
+
+insn-ends : (i : Insn) (s : Store) (opened : List Section) (run : Run) (answer : Answer) (new_store : Store) (new : Run) → InsnStep i s opened run answer new_store new → Ends run answer new
+insn-ends (Call kinds.Kernel imm) s opened run answer new_store new h = kernel-ends (kernel_function_of imm) run answer new h.0 h.1
+insn-ends (Call kinds.Helper imm) s opened run answer new_store new h = further run _ new answer h.2 h.3 (record { program = refl; context = refl; exit = refl })
+insn-ends i s opened run answer new_store new h = outcome-ends h.0 run answer new h.4
+
+-- an exit of the run's program is one of the next run's, which is of the same
+same-exits : (old new : Run) (n : ℕ) → new.program ≡ old.program → new.context ≡ old.context → MayExit old n → MayExit new n
+same-exits old new n p c x = (x.0, subst (λ (z : Loaded × List ℕ). MayExitWith z.0 z.1 x.0 n) (λ i. (sym p i, sym c i)) x.1)
+
+lived-step : (s new_store : Store) (opened : List Section) (old new : Run) (answer : Answer) → HasLived old → old.exit ≡ None → RunStep s opened old answer new_store new → Ends old answer new → HasLived new
+lived-step s new_store opened old new answer lived going h (Further e g) =
+    let step : RunStep s opened old Moved new_store new = subst (λ (a : Answer). RunStep s opened old a new_store new) e h in record {
+      going = λ on steps n x. same-exits old new n g.program g.context (lived.going going (suc steps) n (may_exit_later s new_store opened old new steps n step x));
+      ended = λ n done. absurd (none-some n (sym (g.exit ∙ going) ∙ done));
+    }
+lived-step s new_store opened old new answer lived going h (Ended n e p c x) =
+    let step : RunStep s opened old (Exited n) new_store new = subst (λ (a : Answer). RunStep s opened old a new_store new) e h in record {
+      going = λ on steps k y. absurd (none-some n (sym on ∙ x));
+      ended = λ k done. let same : n ≡ k = same_Some n k (sym x ∙ done) in subst (MayExit new) same (same-exits old new n p c (lived.going going 1 n (may_exit_now s new_store opened old new n step)));
+    }
+
+-- all runs of a machine
+abbrev pub AllLived : Machine → Type 0
+AllLived m = (r : ℕ) (run : Run) → run_at m.runs r ≡ Some run → HasLived run
+
+lived-come : (m new : Machine) (r : ℕ) (run : Run) → AllLived m → Comes m new r run → HasLived run
+lived-come m new r run all (Stands at) = all r run at
+lived-come m new r run all (Starting f) = subst HasLived f.is (lived-fresh m.started f.program f.context)
+lived-come m new r run all (Stepping s) = lived-step m.store new.store (open_sections m.runs) s.old run s.answer (all r s.old s.there) s.going s.step (insn-ends s.step.0 m.store (open_sections m.runs) s.old s.answer new.store run s.step.2)
+
+all-lived : (m new : Machine) (event : Event) (answer : Answer) → IsReal event → AllLived m → DoesEvent m event answer new → AllLived new
+all-lived m new event answer real all h r run at = lived-come m new r run all (does-come m new event answer real h r run at)
+
+lived-last : (s : Schedule) (events : List Event) (answers : List Answer) (states : List Schedule) → AllLived s.machine → AreReal events → IsScheduledHistory s events answers states → AllLived (last_scheduled s states).machine
+lived-last s [] [] [] all real h = all
+lived-last s (event ∷ events) (answer ∷ answers) (next ∷ states) all real h =
+    lived-last next events answers states (all-lived s.machine next.machine event answer (real 0 event refl) all h.0.step) (real-rest event events real) h.1
+lived-last s events answers states all real h = absurd h
+
+lived-start : (shapes : List MapShape) (programs : List Loaded) → AllLived (start_schedule shapes programs).machine
+lived-start shapes programs r run at = absurd (no-run MAX_RUNS r run at)
+
+reached_has_lived : (shapes : List MapShape) (programs : List Loaded) (s : Schedule) → IsReachedSchedule shapes programs s → AllLived s.machine
+reached_has_lived shapes programs s r =
+    subst (λ (x : Schedule). AllLived x.machine) r.last (lived-last (start_schedule shapes programs) r.events r.answers r.states (lived-start shapes programs) r.real r.history)
+
+-- the run of the machine that a run of the world stands for
+record StandsFor (slots : List ℕ) (s : Schedule) (r : ℕ) (v : RunView) : Type 0 where
+  pub run : Run
+  pub there : run_at s.machine.runs r ≡ Some run
+  pub refines : RunRefines slots s.machine.store.elements s.machine.programs v run
+
+stands-in : (slots : List ℕ) (s : Schedule) (r : ℕ) (v : RunView) (o : Option (Option Run)) → slice_get s.machine.runs r ≡ o → SlotRefines slots s.machine.store.elements s.machine.programs (Some (Some v)) o → StandsFor slots s r v
+stands-in slots s r v None e h = absurd h
+stands-in slots s r v (Some None) e h = absurd h
+stands-in slots s r v (Some (Some run)) e h = record { run = run; there = ap run_in e; refines = h }
+
+module _ (w : WorldView) (r : ℕ) (code : List Insn) (context : List ℕ) (n : ℕ) (is : IsWorld w) (h : HasExited w r code context n) where
+  stands : StandsFor is.tracks.refines.slots is.schedule r h.run
+  stands = stands-in is.tracks.refines.slots is.schedule r h.run (slice_get is.schedule.machine.runs r) refl
+      (subst (λ (o : Option (Option RunView)). SlotRefines is.tracks.refines.slots is.schedule.machine.store.elements is.schedule.machine.programs o (slice_get is.schedule.machine.runs r)) h.there (is.tracks.refines.runs r))
+
+  same-program : stands.run.program ≡ h.program
+  same-program = same_Some stands.run.program h.program (sym stands.refines.program ∙ (ap (λ (ps : List Loaded). slice_get ps h.run.program) (sym is.tracks.refines.programs) ∙ h.loaded))
+
+  pub may_exit_as : MayExitAs code context n
+  may_exit_as =
+      let x : MayExit stands.run n = (reached_has_lived (shapes_of w) w.programs is.schedule is.tracks.reached r stands.run stands.there).ended n (sym stands.refines.exit ∙ h.ended) in record {
+        program = stands.run.program;
+        code_is = ap (λ (l : Loaded). l.code) same-program ∙ h.code_is;
+        steps = x.0;
+        exits = subst (λ (c : List ℕ). MayExitWith stands.run.program c x.0 n) (sym stands.refines.context ∙ h.context_is) x.1;
+      }
+
+-- without map references it is the one exit
+pub exits_as : (code : List Insn) (context : List ℕ) (n : ℕ) → HasNoMaps code → MayExitAs code context n → ExitsAs code context n
+exits_as code context n none x = record {
+  program = x.program;
+  code_is = x.code_is;
+  steps = x.steps;
+  exits = exits_alone x.program context x.steps n (subst HasNoMaps (sym x.code_is) none) x.exits;
+}

@@ -1,0 +1,20 @@
+-- Exit values by the instructions alone, where the program of a world is not at hand.
+use Rattle.std.specs.Prelude.{◌≡◌, ℕ, List}
+use Rattle.bpf_model.specs.declared.insn.Insn.{Insn}
+use Rattle.bpf_model.specs.Exit.{ExitsWith, MayExitWith}
+use Rattle.bpf_model.specs.Machine.{Loaded}
+
+-- A program of these instructions that runs on this context may exit with this value, over some
+-- maps and open sections before each of its steps.
+pub record MayExitAs (code : List Insn) (context : List ℕ) (n : ℕ) : Type 0 where
+  pub program : Loaded
+  pub code_is : program.code ≡ code
+  pub steps : ℕ
+  pub exits : MayExitWith program context steps n
+
+-- It exits with this value, and with no other, whatever other actors do.
+pub record ExitsAs (code : List Insn) (context : List ℕ) (n : ℕ) : Type 0 where
+  pub program : Loaded
+  pub code_is : program.code ≡ code
+  pub steps : ℕ
+  pub exits : ExitsWith program context steps n

@@ -1,0 +1,21 @@
+//! Laws of exit values: the value that a world keeps for a run that has ended is one of its program's
+//! definition, whatever events came between.
+//!
+//! Each is a function with an empty body, whose contract is the law.
+#![tactic(auto)]
+
+ghost use Rattle.std.specs.Prelude.{ℕ, List};
+ghost use Rattle.bpf_model.specs.declared.insn.Insn.{Insn};
+ghost use Rattle.bpf_model.specs.Exit.{HasNoMaps};
+ghost use Rattle.bpf_model.specs.View.{WorldView, HasExited};
+ghost use Rattle.world_invariant.specs.Invariant.{IsWorld};
+ghost use Rattle.exit_laws.specs.Exits.{MayExitAs, ExitsAs};
+
+/// A run that has ended in a world may exit so by its program's definition, over maps and open sections that other
+/// actors made. Without map references it exits so whatever they do.
+pub fn exited_as_defined()
+    ensures may { (w : WorldView) (r : ℕ) (code : List Insn) (context : List ℕ) (n : ℕ) →
+        IsWorld w → HasExited w r code context n → MayExitAs code context n }
+    ensures alone { (w : WorldView) (r : ℕ) (code : List Insn) (context : List ℕ) (n : ℕ) →
+        IsWorld w → HasNoMaps code → HasExited w r code context n → ExitsAs code context n }
+{}

@@ -1,0 +1,138 @@
+//! Worlds and jobs for the tests.
+
+use arrayvec::ArrayVec;
+use bpf_model::{CtxBytes, Event, KeyBytes, MapId, MapShape, ProgId, ValueBytes};
+use insn_codec::decode;
+use maps::Registry;
+use std::alloc::{AllocError, Global};
+use std::process::Abort;
+use std::test::Fail;
+use verifier::verify;
+use worker_pool::{Job, Outcome, Report, Trail};
+use world::World;
+use world_parts::Loaded;
+
+/// Exits with 1 at the second step.
+pub const ONE: [u8; 16] = [
+    0xb7, 0, 0, 0, 1, 0, 0, 0, // r0 = 1
+    0x95, 0, 0, 0, 0, 0, 0, 0, // exit
+];
+
+/// The same for a context of 1 byte, whose exit value is that byte.
+pub const FIRST_BYTE: [u8; 16] = [
+    0x71, 0x10, 0, 0, 0, 0, 0, 0, // r0 = [r1]
+    0x95, 0, 0, 0, 0, 0, 0, 0, // exit
+];
+
+/// One lookup of a key in a section: exits with the value at the 12th step, or with 0 at the 11th where there
+/// is none.
+pub const fn lookup(key: u8) -> [u8; 104] {
+    [
+        0xb7, 0x06, 0, 0, 0, 0, 0, 0, // r6 = 0
+        0x85, 0x20, 0, 0, 1, 0, 0, 0, // lock
+        0x62, 0x0a, 0xfc, 0xff, key, 0, 0, 0, // [r10 - 4] = key
+        0xbf, 0xa2, 0, 0, 0, 0, 0, 0, // r2 = r10
+        0x07, 0x02, 0, 0, 0xfc, 0xff, 0xff, 0xff, // r2 += -4
+        0x18, 0x51, 0, 0, 0, 0, 0, 0, // r1 = map 0
+        0, 0, 0, 0, 0, 0, 0, 0, //
+        0x85, 0, 0, 0, 1, 0, 0, 0, // look up
+        0x15, 0, 1, 0, 0, 0, 0, 0, // if r0 == 0 skip the load
+        0x79, 0x06, 0, 0, 0, 0, 0, 0, // r6 = [r0]
+        0x85, 0x20, 0, 0, 2, 0, 0, 0, // unlock
+        0xbf, 0x60, 0, 0, 0, 0, 0, 0, // r0 = r6
+        0x95, 0, 0, 0, 0, 0, 0, 0, // exit
+    ]
+}
+
+/// Keys of 4 bytes, values of 8, 4 elements and 4 further slots.
+const SHAPE: MapShape = MapShape {
+    key_len: 4,
+    value_len: 8,
+    entries: 4,
+    spare: 4,
+    reuse_limit: 100,
+};
+
+/// Stores a value under a key.
+pub fn update(number: u8, byte: u8) -> Event {
+    let mut key = KeyBytes::new();
+    let _ = key.try_extend_from_slice(&[number, 0, 0, 0]);
+    let mut value = ValueBytes::new();
+    let _ = value.try_extend_from_slice(&[byte, 0, 0, 0, 0, 0, 0, 0]);
+    Event::Update {
+        map: MapId::new(0),
+        key,
+        value,
+        flags: 0,
+    }
+}
+
+/// A program on one map, or on none, bound to map 0.
+fn loaded<R: Abort>(
+    rt: &R,
+    alloc: Global,
+    code: &[u8],
+    with_map: bool,
+    ctx_len: usize,
+) -> Result<Loaded, Fail> {
+    let mut maps = ArrayVec::new();
+    let mut shapes = Vec::new(alloc);
+    if with_map {
+        maps.push(0);
+        shapes.push(SHAPE)?;
+    }
+    assert!(rt; ctx_len <= 1);
+    let program = decode(alloc, code).expect(rt, "a program");
+    let verified = verify(alloc, program, &shapes, ctx_len).expect(rt, "a verified program");
+    Ok(Loaded { verified, maps })
+}
+
+/// A world with one map and four programs: `ONE`, two lookups, of key 0 and of key 1, and `FIRST_BYTE`.
+pub fn world_of<R: Abort>(rt: &R, alloc: Global) -> Result<World, Fail> {
+    let mut registry = Registry::new(alloc);
+    registry.create("m", SHAPE).expect(rt, "a map");
+    let mut programs = Vec::new(alloc);
+    programs.push(loaded(rt, alloc, &ONE, false, 0)?)?;
+    programs.push(loaded(rt, alloc, &lookup(0), true, 0)?)?;
+    programs.push(loaded(rt, alloc, &lookup(1), true, 0)?)?;
+    programs.push(loaded(rt, alloc, &FIRST_BYTE, false, 1)?)?;
+    Ok(World::new(alloc, registry, programs).expect(rt, "a world"))
+}
+
+/// A job of this program on a context of these bytes.
+pub fn job(prog: usize, bytes: &[u8]) -> Job {
+    let mut ctx = CtxBytes::new();
+    let _ = ctx.try_extend_from_slice(bytes);
+    Job {
+        prog: ProgId::new(prog),
+        ctx,
+    }
+}
+
+/// So many jobs, of the programs of the list in turn.
+pub fn jobs_of(alloc: Global, programs: &[usize], count: usize) -> Result<Vec<Job>, AllocError> {
+    let mut jobs = Vec::new(alloc);
+    for number in 0..count {
+        let prog = match programs.get(number % programs.len().max(1)) {
+            Some(prog) => *prog,
+            None => 0,
+        };
+        jobs.push(job(prog, &[]))?;
+    }
+    Ok(jobs)
+}
+
+/// How many outcomes are other than those of the list, in turn, by job order.
+pub fn wrong(report: &Report<Trail>, values: &[u64]) -> u64 {
+    let mut wrong = 0u64;
+    for (number, one) in report.jobs.iter().enumerate() {
+        let right = match values.get(number % values.len().max(1)) {
+            Some(value) => one.outcome == Outcome::Exit(*value),
+            None => false,
+        };
+        if !right {
+            wrong = wrong.saturating_add(1);
+        }
+    }
+    wrong
+}

@@ -1,0 +1,44 @@
+-- The programs that are kept are those of the world, as far as they were copied.
+use Rattle.std.proofs.Common.{◌≡◌, ◌∙◌, ℕ, zero, suc, ◌+◌, ◌≤◌, List, [], ◌∷◌, ◌++◌, map, take, length, Some, None, sym, ap, subst, arith, add-one}
+use Rattle.std.specs.Prelude.{slice_get}
+use Rattle.std.proofs.lemmas.List.{map-append, take_all}
+use Rattle.std.proofs.lemmas.Option.{none-some, same_Some}
+use Rattle.bpf_model.specs.Machine.{Loaded}
+use Rattle.verifier.specs.Checked.{Checked}
+
+-- instructions and context lengths are those of these programs, one after another
+pub record AreKept (kept : List Checked) (programs : List Loaded) : Type 0 where
+  pub codes : map (λ (p : Checked). p.program) kept ≡ map (λ (l : Loaded). l.code) programs
+  pub contexts : map (λ (p : Checked). p.ctx_len) kept ≡ map (λ (l : Loaded). l.context_len) programs
+
+take-next : {A : Type 0} (xs : List A) (n : ℕ) (x : A) → slice_get xs n ≡ Some x → take (suc n) xs ≡ take n xs ++ x ∷ []
+take-next [] n x e = absurd (none-some x e)
+take-next (y ∷ xs) zero x e = ap (λ z. z ∷ []) (same_Some y x e)
+take-next (y ∷ xs) (suc n) x e = ap (λ l. y ∷ l) (take-next xs n x e)
+
+map-next : {A B C : Type 0} (f : A → C) (g : B → C) (kept : List A) (xs : List B) (n : ℕ) (a : A) (b : B) → map f kept ≡ map g (take n xs) → slice_get xs n ≡ Some b → f a ≡ g b → map f (kept ++ a ∷ []) ≡ map g (take (suc n) xs)
+map-next f g kept xs n a b e at same =
+    map-append f kept (a ∷ [])
+    ∙ ap (λ l. l ++ f a ∷ []) e
+    ∙ ap (λ c. map g (take n xs) ++ c ∷ []) same
+    ∙ sym (map-append g (take n xs) (b ∷ []))
+    ∙ sym (ap (map g) (take-next xs n b at))
+
+past-none : {A : Type 0} (xs : List A) (n : ℕ) → slice_get xs n ≡ None → length xs ≤ n
+past-none [] n e = omega arith
+past-none (x ∷ xs) zero e = absurd (none-some x (sym e))
+past-none (x ∷ xs) (suc n) e = let rest = past-none xs n e in omega (arith, rest)
+
+pub kept-more : (kept : List Checked) (programs : List Loaded) (n : ℕ) (c : Checked) (l : Loaded) → AreKept kept (take n programs) → slice_get programs n ≡ Some l → c.program ≡ l.code → c.ctx_len ≡ l.context_len
+    → AreKept (kept ++ c ∷ []) (take (n + 1) programs)
+kept-more kept programs n c l k at code context =
+    rw add-one (record {
+      codes = map-next (λ (p : Checked). p.program) (λ (l : Loaded). l.code) kept programs n c l k.codes at code;
+      contexts = map-next (λ (p : Checked). p.ctx_len) (λ (l : Loaded). l.context_len) kept programs n c l k.contexts at context;
+    })
+
+pub kept-all : (kept : List Checked) (programs : List Loaded) (n : ℕ) → AreKept kept (take n programs) → length programs ≤ n → AreKept kept programs
+kept-all kept programs n k h = subst (AreKept kept) (take_all n programs h) k
+
+pub kept-to-none : (kept : List Checked) (programs : List Loaded) (n : ℕ) → AreKept kept (take n programs) → slice_get programs n ≡ None → AreKept kept programs
+kept-to-none kept programs n k none = kept-all kept programs n k (past-none programs n none)

@@ -1,0 +1,35 @@
+use Rattle.std.proofs.Common.{rules, sym, ◌∙◌, subst, refl, inl, inr}
+use Rattle.std.specs.Prelude.{IfSome}
+use Rattle.shared.specs.Receipts.{HasExitedOnce}
+use Rattle.worker_pool.specs.Trails.{HasExitReply}
+use Rattle.worker_pool.proofs.pooled.finish_job.Goals.{in-Ok, in-Err-dropped}
+use Rattle.worker_pool.proofs.pooled.finish_job.Goals as goal
+
+pub returns-in_default-exit-clause-fits : goal.returns-in_default-exit-clause-fits
+returns-in_default-exit-clause-fits g c =
+    let s = c.step_to_end-step.ensures in
+    let n = c.exit_noted-note.ensures in (
+      c.args.run,
+      c.requires.started,
+      record { event = s.event; exits = subst HasExitReply c.reply.ensures c.in_default.ensures.ok },
+      record { worker = n.worker ∙ (s.later.number ∙ sym s.by.worker); number = n.number ∙ sym s.number; run_is = n.run; prog = n.prog; context = n.context },
+      record { none = sym c.exit.ensures ∙ c.in_default-exit.is; told = refl },
+    )
+
+pub returns-clause-fits : goal.returns-clause-fits
+returns-clause-fits g c =
+    let s = c.step_to_end-step.ensures in
+    let n = c.exit_noted-note.ensures in
+    let noted = sym c.exit.ensures ∙ c.in-Some.is in (
+      c.args.run,
+      c.requires.started,
+      record { event = s.event; exits = subst HasExitReply c.reply.ensures c.in_default.ensures.ok },
+      record { worker = n.worker ∙ (s.later.number ∙ sym s.by.worker); number = n.number ∙ sym s.number; run_is = n.run; prog = n.prog; context = n.context },
+      record {
+        value = c.in-Some.value;
+        noted = noted;
+        exited = subst (λ o. IfSome o (HasExitedOnce c.args.shared.now c.args.run c.args.job.now.prog c.args.job.now.ctx.items)) noted n.exit;
+        event = c.act_noted-end.ensures.event;
+        told = elim c.match-dropped.branch [ in-Ok w ↦ inl (search rules, search rules) | in-Err-dropped w ↦ inr (w.in-Err-dropped.cause, search rules, search rules) ];
+      },
+    )

@@ -1,0 +1,159 @@
+-- When a job's trail fits its outcome.
+use Rattle.std.specs.Prelude.{◌≡◌, ◌⊎◌, ◌≤◌, ℕ, List, Option, Some, None, Result, Ok, Err}
+use Rattle.std.proofs.Common.{refl, ◌∙◌, le_trans}
+use Rattle.std.proofs.Math.Nat.{le_refl}
+use Rattle.bpf_model.specs.declared.event.Event.TheVariants as events
+use Rattle.bpf_model.specs.declared.event.Answer.{Answer}
+use Rattle.bpf_model.specs.declared.event.Answer.TheVariants as answers
+use Rattle.shared.specs.declared.fault.SharedFault.{SharedFault}
+use Rattle.shared.specs.Books.{WorkerView}
+use Rattle.verifier.specs.Checked.{Checked}
+use Rattle.shared.specs.Receipts.{ReceiptView, NoteView, HasExitedOnce}
+use Rattle.worker_pool.specs.declared.job.Job.{Job}
+use Rattle.worker_pool.specs.declared.job.StopCause.{StopCause}
+use Rattle.worker_pool.specs.declared.job.StopCause.TheVariants.{Refused, Fault, Stranger}
+use Rattle.worker_pool.specs.declared.job.Outcome.{Outcome}
+use Rattle.worker_pool.specs.declared.job.Outcome.TheVariants.{Exit, Stopped}
+use Rattle.worker_pool.specs.declared.job.Trail.{Trail}
+use Rattle.worker_pool.specs.declared.job.Trail.TheVariants as trails
+use Rattle.worker_pool.specs.declared.job.JobReport.{JobReport}
+
+-- why a reply is no answer to a job's event, where it isn't one
+abbrev pub stop_of : Result Answer SharedFault → Option StopCause
+stop_of (Err fault) = Some (Fault fault)
+stop_of (Ok (answers.Refused refusal)) = Some (Refused refusal)
+stop_of (Ok answer) = None
+
+-- The second is the same worker, who may have made further entries.
+pub record IsLater (first last : WorkerView) : Type 0 where
+  pub number : last.number ≡ first.number
+  pub made : first.made ≤ last.made
+
+-- A receipt of this worker, from between its count of entries before and after.
+pub record IsByWorker (first last : WorkerView) (receipt : ReceiptView) : Type 0 where
+  pub worker : receipt.worker ≡ first.number
+  pub since : first.made ≤ receipt.number
+  pub until : receipt.number ≤ last.made
+
+-- all receipts of a trail are of one worker (a note says itself of which it is)
+abbrev pub IsOfWorker : WorkerView → WorkerView → Trail → Type 0
+IsOfWorker first last (trails.Unstarted start) = IsByWorker first last start
+IsOfWorker first last (trails.Halted start step) =
+    IsByWorker first last start × IsByWorker first last step
+IsOfWorker first last (trails.Strange start step note) =
+    IsByWorker first last start × IsByWorker first last step
+IsOfWorker first last (trails.Ended start step note dropped) =
+    IsByWorker first last start × IsByWorker first last step × IsByWorker first last dropped
+
+-- The start of the job's program on its context was answered with no run: the outcome tells why.
+pub record StopsAtStart (job : Job) (start : ReceiptView) (outcome : Outcome) : Type 0 where
+  pub event : start.event ≡ events.Start job.prog job.ctx
+  pub cause : StopCause
+  pub why : stop_of start.reply ≡ Some cause
+  pub told : outcome ≡ Stopped None cause
+
+-- It was answered with this run.
+pub record WasStarted (job : Job) (run : ℕ) (start : ReceiptView) : Type 0 where
+  pub event : start.event ≡ events.Start job.prog job.ctx
+  pub reply : start.reply ≡ Ok (answers.Started run)
+
+-- A step of the run was refused, or not applied: the outcome tells why.
+pub record StopsAtStep (run : ℕ) (step : ReceiptView) (outcome : Outcome) : Type 0 where
+  pub event : step.event ≡ events.Step run
+  pub cause : StopCause
+  pub why : stop_of step.reply ≡ Some cause
+  pub told : outcome ≡ Stopped (Some run) cause
+
+pub record HasExitReply (reply : Result Answer SharedFault) : Type 0 where
+  pub value : ℕ
+  pub is : reply ≡ Ok (answers.Exited value)
+
+-- A step of the run was its exit.
+pub record ExitsAtStep (run : ℕ) (step : ReceiptView) : Type 0 where
+  pub event : step.event ≡ events.Step run
+  pub exits : HasExitReply step.reply
+
+-- Right after that step the same worker asked for the exit value of this run, for the job's program
+-- and context.
+pub record AsksForExit (job : Job) (run : ℕ) (step : ReceiptView) (note : NoteView) : Type 0 where
+  pub worker : note.worker ≡ step.worker
+  pub number : note.number ≡ step.number
+  pub run_is : note.run ≡ run
+  pub prog : note.prog ≡ job.prog
+  pub context : note.context ≡ job.ctx.items
+
+-- The run that exited is another's.
+pub record IsStrange (run : ℕ) (note : NoteView) (outcome : Outcome) : Type 0 where
+  pub none : note.exit ≡ None
+  pub told : outcome ≡ Stopped (Some run) Stranger
+
+-- The outcome is the exit value, once the run was dropped; else it tells why the run wasn't.
+abbrev pub TellsExit : ℕ → ℕ → Result Answer SharedFault → Outcome → Type 0
+TellsExit run value reply outcome =
+    ((reply ≡ Ok answers.Done) × (outcome ≡ Exit value))
+    ⊎ ((cause : StopCause) × (stop_of reply ≡ Some cause) × (outcome ≡ Stopped (Some run) cause))
+
+-- The note has the exit value of a run of the job's program and context, the run was dropped, and
+-- the outcome tells the value, or why it wasn't dropped.
+pub record ExitsWithValue (programs : List Checked) (job : Job) (run : ℕ) (note : NoteView) (dropped : ReceiptView) (outcome : Outcome)
+    : Type 0 where
+  pub value : ℕ
+  pub noted : note.exit ≡ Some value
+  pub exited : HasExitedOnce programs run job.prog job.ctx.items value
+  pub event : dropped.event ≡ events.Drop run
+  pub told : TellsExit run value dropped.reply outcome
+
+-- The trail begins with the start of the job's program on its context, goes on with the run that
+-- this gave, and bears out the outcome.
+abbrev pub FitsJob : List Checked → Job → Outcome → Trail → Type 0
+FitsJob programs job outcome (trails.Unstarted start) = StopsAtStart job start outcome
+FitsJob programs job outcome (trails.Halted start step) =
+    (run : ℕ) × WasStarted job run start × StopsAtStep run step outcome
+FitsJob programs job outcome (trails.Strange start step note) =
+    (run : ℕ) × WasStarted job run start × ExitsAtStep run step × AsksForExit job run step note
+    × IsStrange run note outcome
+FitsJob programs job outcome (trails.Ended start step note dropped) =
+    (run : ℕ) × WasStarted job run start × ExitsAtStep run step × AsksForExit job run step note
+    × ExitsWithValue programs job run note dropped outcome
+
+-- The report is right for the job, by receipts of one worker between its count of entries before
+-- and after.
+pub record IsServedJob (programs : List Checked) (first last : WorkerView) (job : Job)
+    (report : JobReport Trail) : Type 0 where
+  pub by : IsOfWorker first last report.trail
+  pub fits : FitsJob programs job report.outcome report.trail
+
+pub later_same : (w : WorkerView) → IsLater w w
+later_same w = record { number = refl; made = le_refl w.made }
+
+pub later_again : (u v w : WorkerView) → IsLater u v → IsLater v w → IsLater u w
+later_again u v w a b = record { number = b.number ∙ a.number; made = le_trans a.made b.made }
+
+by_wider : (t u v w : WorkerView) (r : ReceiptView) → IsLater t u → IsLater v w → IsByWorker u v r →
+    IsByWorker t w r
+by_wider t u v w r a b by =
+    record {
+      worker = by.worker ∙ a.number;
+      since = le_trans a.made by.since;
+      until = le_trans by.until b.made;
+    }
+
+of_wider : (t u v w : WorkerView) (trail : Trail) → IsLater t u → IsLater v w →
+    IsOfWorker u v trail → IsOfWorker t w trail
+of_wider t u v w (trails.Unstarted start) a b by = by_wider t u v w start a b by
+of_wider t u v w (trails.Halted start step) a b by =
+    (by_wider t u v w start a b by.0, by_wider t u v w step a b by.1)
+of_wider t u v w (trails.Strange start step note) a b by =
+    (by_wider t u v w start a b by.0, by_wider t u v w step a b by.1)
+of_wider t u v w (trails.Ended start step note dropped) a b by = (
+  by_wider t u v w start a b by.0,
+  by_wider t u v w step a b by.1,
+  by_wider t u v w dropped a b by.2,
+)
+
+-- what is right stays so, from an earlier beginning to a later end
+pub served_wider : (programs : List Checked) (t u v w : WorkerView) (job : Job) (report : JobReport Trail) →
+    IsLater t u → IsLater v w → IsServedJob programs u v job report →
+    IsServedJob programs t w job report
+served_wider programs t u v w job report a b s =
+    record { by = of_wider t u v w report.trail a b s.by; fits = s.fits }

@@ -1,0 +1,93 @@
+//! Jobs, and what came of them.
+ghost use Rattle.std.specs.Prelude.{◌≡◌};
+
+use bpf_model::{CtxBytes, EventRefusal, ProgId, RunId};
+use shared::{ExitNote, Receipt, SharedFault};
+
+/// A program that is to run on a context.
+#[derive(Debug, Drop)]
+pub struct Job {
+    pub prog: ProgId,
+    pub ctx: CtxBytes,
+}
+
+/// Why a job has no exit value.
+#[derive(Clone, Copy, Debug, PartialEq, Eq)]
+pub enum StopCause {
+    /// An event of the job was refused.
+    Refused(EventRefusal),
+    /// An event of the job was not applied.
+    Fault(SharedFault),
+    /// The run that has ended is not of the job's program and context: others dropped the job's run and
+    /// started theirs in its slot.
+    Stranger,
+}
+
+/// What came of one job.
+#[derive(Clone, Copy, Debug, PartialEq, Eq)]
+pub enum Outcome {
+    /// The exit value.
+    Exit(u64),
+    /// No exit value. The job's run, where it has one, stays in the world.
+    Stopped {
+        run: Option<RunId>,
+        cause: StopCause,
+    },
+}
+
+/// The receipts and the note of one worker on which an outcome rests: those of the start, of the last step,
+/// of the exit value and of the drop, as far as the job came.
+#[derive(Debug, Drop)]
+pub enum Trail {
+    /// The start was refused, or not applied.
+    Unstarted {
+        start: Receipt,
+    },
+    /// A step was refused, or not applied.
+    Halted {
+        start: Receipt,
+        step: Receipt,
+    },
+    /// The run that has ended is another's.
+    Strange {
+        start: Receipt,
+        step: Receipt,
+        note: ExitNote,
+    },
+    /// The run has exited, and its drop was answered.
+    Ended {
+        start: Receipt,
+        step: Receipt,
+        note: ExitNote,
+        dropped: Receipt,
+    },
+}
+
+/// The outcome of one job, with its trail.
+#[derive(Debug, Drop)]
+pub struct JobReport<T> {
+    pub outcome: Outcome,
+    pub trail: T,
+}
+
+/// One outcome for each job, in job order.
+#[derive(Debug, Drop)]
+pub struct Report<T> {
+    pub jobs: Vec<JobReport<T>>,
+}
+
+impl StopCause {
+    ghost use Rattle.worker_pool.specs.Numbers.{stop_cause_number};
+
+    /// The number by which the cause is known: that of the refusal (60 to 67) or of the fault (70, or 13 for
+    /// want of memory), or 93.
+    pub fn code(self) -> u8
+        ensures { result ≡ stop_cause_number self }
+    {
+        match self {
+            StopCause::Refused(refusal) => refusal.code(),
+            StopCause::Fault(fault) => fault.code(),
+            StopCause::Stranger => 93,
+        }
+    }
+}

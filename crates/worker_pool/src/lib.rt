@@ -1,0 +1,16 @@
+//! Jobs that are served from a shared world: programs that are started, stepped to their exit and dropped,
+//! by up to eight workers at once.
+//!
+//! Each job has one outcome, in job order, and a trail: the receipts and the note on which the outcome rests.
+//! Contracts say what is so of outcome and trail for the job's own program and context.
+#![tactic(auto)]
+
+mod job;
+mod pool;
+mod pooled;
+mod reply;
+
+pub use job::{Job, JobReport, Outcome, Report, StopCause, Trail};
+pub use job_queue::{MAX_JOBS, MAX_WORKERS, PoolFault, Serve};
+pub use pool::run_jobs;
+pub use pooled::Pooled;

@@ -1,0 +1,56 @@
+//! All jobs, by as many workers as the caller says.
+ghost use Rattle.std.specs.Prelude.{◌≡◌, ◌⊎◌, ◌<◌, ◌≤◌, length, vec_len, Err, IsOk, IfOk};
+ghost use Rattle.std.specs.List.{AllZip};
+ghost use Rattle.job_queue.specs.declared.pool.TheConstants.{MAX_JOBS};
+ghost use Rattle.job_queue.specs.declared.fault.PoolFault.{PoolFault};
+ghost use Rattle.job_queue.specs.declared.fault.PoolFault.TheVariants as faults;
+ghost use Rattle.job_queue.specs.Serving.{AreServed, IsBadCount};
+ghost use Rattle.worker_pool.specs.Trails.{IsLater, IsServedJob};
+
+use crate::job::{Job, Report, Trail};
+use crate::pooled::Pooled;
+use job_queue::{PoolFault, serve_all};
+use shared::{Shared, Workers};
+use std::alloc::Global;
+use std::sync::Wait;
+use std::sync::ledger::Ledger;
+use std::thread::Threads;
+
+/// Serves all jobs from a shared world by so many workers at once, each in a thread of its own: one outcome a
+/// job, in job order. The workers come back whatever the answer, in their order.
+///
+/// Errors: the first of these that holds.
+/// - `BadWorkers`: `workers` is not 1 to `MAX_WORKERS`, or more than there are hands. Nothing was done.
+/// - `TooManyJobs`: there are more than `MAX_JOBS`. Nothing was done.
+/// - `Memory`: there is none for the results.
+/// - `Lost`: the result of a job is missing, double or of another job.
+///
+/// After the last two the entries that workers made stay in the journal, and a run of a job may stay in the
+/// world. That it returns is not claimed: each event waits for the lock.
+pub fn run_jobs<L: Ledger + Send + Sync, R: Threads + Wait + Sync>(
+    rt: &R,
+    alloc: Global,
+    jobs: &[Job],
+    workers: usize,
+    shared: &Shared<L>,
+    hands: &mut Workers<L>,
+) -> Result<Report<Trail>, PoolFault>
+    ensures bad_workers { IsBadCount workers (vec_len hands.old.list) → result ≡ Err faults.BadWorkers }
+    ensures too_many_jobs { (IsBadCount workers (vec_len hands.old.list) → ⊥)
+        → MAX_JOBS < length jobs.now → result ≡ Err faults.TooManyJobs }
+    ensures served { (IsBadCount workers (vec_len hands.old.list) → ⊥)
+        → length jobs.now ≤ MAX_JOBS
+        → IsOk result ⊎ (result ≡ Err faults.Memory) ⊎ (result ≡ Err faults.Lost) }
+    ensures refused { IsBadCount workers (vec_len hands.old.list) ⊎ (MAX_JOBS < length jobs.now)
+        → hands.new ≡ hands.old }
+    ensures hands { AllZip IsLater hands.old.list.items hands.new.list.items }
+    ensures count { IfOk result (λ report. vec_len report.jobs ≡ length jobs.now) }
+    ensures each { IfOk result (λ report. AreServed (IsServedJob shared.now) jobs.now
+        hands.old.list.items hands.new.list.items report.jobs.items) }
+{
+    let pooled = Pooled { shared };
+    match serve_all(rt, alloc, &pooled, jobs, workers, &mut hands.list) {
+        Ok(jobs) => Ok(Report { jobs }),
+        Err(fault) => Err(fault),
+    }
+}

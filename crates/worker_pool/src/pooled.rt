@@ -1,0 +1,148 @@
+//! One worker serves one job.
+ghost use Rattle.std.specs.Prelude.{◌≡◌, ◌≢◌, ◌≤◌, Ok, Some, IfOk, IfErr};
+ghost use Rattle.bpf_model.specs.declared.event.Event.TheVariants.{Start, Step};
+ghost use Rattle.bpf_model.specs.declared.event.Answer.TheVariants.{Moved};
+ghost use Rattle.shared.specs.Receipts.{IsMachineAnswer};
+ghost use Rattle.worker_pool.specs.Trails.{IsLater, IsByWorker, WasStarted, IsOfWorker, FitsJob};
+
+use crate::job::{Job, JobReport, Outcome, StopCause, Trail};
+use crate::reply::{dropped, exited, has_moved, started};
+use bpf_model::{CtxBytes, Event, RunId};
+use job_queue::Serve;
+use shared::{Receipt, Shared, Worker};
+use std::sync::Wait;
+use std::sync::ledger::Ledger;
+
+/// Serves jobs from a shared world.
+#[derive(Drop)]
+pub struct Pooled<'a, L: Ledger> {
+    pub shared: &'a Shared<L>,
+}
+
+// A copy of a context.
+fn copy_of(ctx: &CtxBytes) -> CtxBytes
+    ensures { result ≡ ctx.now }
+{
+    let mut copy = CtxBytes::new();
+    match copy.try_extend_from_slice(ctx.as_slice()) {
+        Ok(()) => copy,
+        Err(_) => unreachable!(),
+    }
+}
+
+// Steps the run until a step is answered with something else than a move; the receipt is that step's. Each
+// move is an entry of the worker, which counts its entries in 64 bits, so it ends. (A verified program moves
+// fewer than 4,096 times, and a full journal ends every run; but others may start a run of theirs in a slot
+// that they dropped the job's run from.)
+fn step_to_end<L: Ledger, R: Wait>(
+    rt: &R,
+    shared: &Shared<L>,
+    worker: &mut Worker<L>,
+    run: RunId,
+) -> Receipt
+    ensures event { result.event ≡ Step run }
+    ensures answered { IfOk result.reply (IsMachineAnswer (Step run)) }
+    ensures number { result.number ≡ worker.new.made }
+    ensures last { result.reply ≢ Ok Moved }
+    ensures later { IsLater worker.old worker.new }
+    ensures by { IsByWorker worker.old worker.new result }
+{
+    loop {
+        let step = shared.act_noted(rt, worker, Event::Step { run });
+        let _made = worker.made();
+        if !has_moved(step.reply()) {
+            return step;
+        }
+    }
+}
+
+// The job whose start was answered with this run, to its end.
+fn finish_job<L: Ledger, R: Wait>(
+    rt: &R,
+    shared: &Shared<L>,
+    worker: &mut Worker<L>,
+    job: &Job,
+    start: Receipt,
+    run: RunId,
+) -> JobReport<Trail>
+    requires started { WasStarted job.now run start }
+    requires by { IsByWorker worker.old worker.old start }
+    ensures later { IsLater worker.old worker.new }
+    ensures by { IsOfWorker worker.old worker.new result.trail }
+    ensures fits { FitsJob shared.now job.now result.outcome result.trail }
+{
+    let step = step_to_end(rt, shared, worker, run);
+    if let Err(cause) = exited(step.reply(), run) {
+        let run = Some(run);
+        return JobReport {
+            outcome: Outcome::Stopped { run, cause },
+            trail: Trail::Halted { start, step },
+        };
+    }
+    let note = shared.exit_noted(rt, worker, run, job.prog, &job.ctx);
+    let Some(value) = note.exit() else {
+        let run = Some(run);
+        let cause = StopCause::Stranger;
+        return JobReport {
+            outcome: Outcome::Stopped { run, cause },
+            trail: Trail::Strange { start, step, note },
+        };
+    };
+    let end = shared.act_noted(rt, worker, Event::Drop { run });
+    let outcome = match dropped(end.reply(), run) {
+        Ok(()) => Outcome::Exit(value),
+        Err(cause) => Outcome::Stopped {
+            run: Some(run),
+            cause,
+        },
+    };
+    JobReport {
+        outcome,
+        trail: Trail::Ended {
+            start,
+            step,
+            note,
+            dropped: end,
+        },
+    }
+}
+
+impl<L: Ledger + Send + Sync> Serve for Pooled<'_, L> {
+    ghost use Rattle.worker_pool.specs.Trails.{IsLater, IsServedJob, later_same, later_again, served_wider};
+
+    type Job = Job;
+
+    type Worker = Worker<L>;
+
+    type Served = JobReport<Trail>;
+
+    ghost ready = { λ s w. Unit {0} };
+
+    ghost later = { IsLater };
+
+    ghost fits = { λ s. IsServedJob s.shared.now };
+
+    /// Starts the job's program on its context, steps the run to its exit, asks for the exit value of a run of
+    /// this program and context, and drops the run.
+    fn serve<R: Wait>(&self, rt: &R, worker: &mut Worker<L>, job: &Job) -> JobReport<Trail> {
+        let ctx = copy_of(&job.ctx);
+        let event = Event::Start {
+            prog: job.prog,
+            ctx,
+        };
+        let start = self.shared.act_noted(rt, worker, event);
+        match started(start.reply(), job) {
+            Ok(run) => finish_job(rt, self.shared, worker, job, start, run),
+            Err(cause) => JobReport {
+                outcome: Outcome::Stopped { run: None, cause },
+                trail: Trail::Unstarted { start },
+            },
+        }
+    }
+
+    ghost later_same = { later_same };
+
+    ghost later_again = { later_again };
+
+    ghost fits_wider = { λ s t u v w job served. served_wider s.shared.now t u v w job served };
+}
