@@ -1,2 +1,3 @@
 pub mod Numbering
 pub mod Quiet
+pub mod Outcomes

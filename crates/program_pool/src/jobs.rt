@@ -1,16 +1,11 @@
 //! Jobs that are all alike.
 ghost use Rattle.std.specs.Prelude.{◌≡◌, ◌≤◌, length, IfOk, All, replicate};
 ghost use Rattle.bpf_model.specs.declared.limits.TheConstants.{CTX_BYTES};
-ghost use Rattle.program_pool.specs.Jobs.{IsZeroJob};
+ghost use Rattle.program_pool.specs.Outcomes.{IsZeroJob};
 
 use bpf_model::{CtxBytes, ProgId};
 use std::alloc::{AllocError, Global};
-
-#[derive(Debug, Drop)]
-pub struct Job {
-    pub prog: ProgId,
-    pub ctx: CtxBytes,
-}
+use worker_pool::Job;
 
 /// A context of so many bytes, all zero.
 fn zeros(count: usize) -> CtxBytes

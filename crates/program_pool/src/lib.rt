@@ -3,6 +3,7 @@
 
 mod bound;
 mod jobs;
+mod running;
 
-pub use bound::world_of;
-pub use jobs::{Job, jobs_of};
+pub use running::{PoolRun, run_program};
+pub use worker_pool::{MAX_JOBS, MAX_WORKERS, Outcome, PoolFault, StopCause};

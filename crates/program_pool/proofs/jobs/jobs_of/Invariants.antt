@@ -1,5 +1,5 @@
 use Rattle.std.proofs.Common.{◌≡◌, length, All}
-use Rattle.program_pool.specs.Jobs.{IsZeroJob}
+use Rattle.program_pool.specs.Outcomes.{IsZeroJob}
 use Rattle.program_pool.proofs.jobs.jobs_of.Given as goal
 
 abbrev pub invariant-loop : goal.invariant-loop
