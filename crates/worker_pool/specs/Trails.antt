@@ -1,5 +1,5 @@
 -- When a job's trail fits its outcome.
-use Rattle.std.specs.Prelude.{◌≡◌, ◌⊎◌, ◌≤◌, ℕ, List, Option, Some, None, Result, Ok, Err}
+use Rattle.std.specs.Prelude.{◌≡◌, ◌⊎◌, ◌≤◌, ℕ, List, Option, Some, None, Result, Ok, Err, slice_get}
 use Rattle.std.proofs.Common.{refl, ◌∙◌, le_trans}
 use Rattle.std.proofs.Math.Nat.{le_refl}
 use Rattle.bpf_model.specs.declared.event.Event.TheVariants as events
@@ -8,7 +8,7 @@ use Rattle.bpf_model.specs.declared.event.Answer.TheVariants as answers
 use Rattle.shared.specs.declared.fault.SharedFault.{SharedFault}
 use Rattle.shared.specs.Books.{WorkerView}
 use Rattle.verifier.specs.Checked.{Checked}
-use Rattle.shared.specs.Receipts.{ReceiptView, NoteView, HasExitedOnce}
+use Rattle.shared.specs.Receipts.{ReceiptView, NoteView, HasExitedOnce, IsPossibleExit, IsOwnExit}
 use Rattle.worker_pool.specs.declared.job.Job.{Job}
 use Rattle.worker_pool.specs.declared.job.StopCause.{StopCause}
 use Rattle.worker_pool.specs.declared.job.StopCause.TheVariants.{Refused, Fault, Stranger}
@@ -93,13 +93,16 @@ TellsExit run value reply outcome =
     ((reply ≡ Ok answers.Done) × (outcome ≡ Exit value))
     ⊎ ((cause : StopCause) × (stop_of reply ≡ Some cause) × (outcome ≡ Stopped (Some run) cause))
 
--- The note has the exit value of a run of the job's program and context, the run was dropped, and
--- the outcome tells the value, or why it wasn't dropped.
+-- The note has the exit value of a run of the job's program and context: one of the program's
+-- definition, and without map references the only one. The run was dropped, and the outcome tells
+-- the value, or why it wasn't dropped.
 pub record ExitsWithValue (programs : List Checked) (job : Job) (run : ℕ) (note : NoteView) (dropped : ReceiptView) (outcome : Outcome)
     : Type 0 where
   pub value : ℕ
   pub noted : note.exit ≡ Some value
   pub exited : HasExitedOnce programs run job.prog job.ctx.items value
+  pub may : IsPossibleExit (slice_get programs job.prog) job.ctx.items value
+  pub alone : IsOwnExit (slice_get programs job.prog) job.ctx.items value
   pub event : dropped.event ≡ events.Drop run
   pub told : TellsExit run value dropped.reply outcome
 

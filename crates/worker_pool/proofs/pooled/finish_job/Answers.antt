@@ -1,6 +1,6 @@
 use Rattle.std.proofs.Common.{rules, sym, ◌∙◌, subst, refl, inl, inr}
-use Rattle.std.specs.Prelude.{IfSome}
-use Rattle.shared.specs.Receipts.{HasExitedOnce}
+use Rattle.std.specs.Prelude.{IfSome, slice_get}
+use Rattle.shared.specs.Receipts.{HasExitedOnce, IsPossibleExit, IsOwnExit}
 use Rattle.worker_pool.specs.Trails.{HasExitReply}
 use Rattle.worker_pool.proofs.pooled.finish_job.Goals.{in-Ok, in-Err-dropped}
 use Rattle.worker_pool.proofs.pooled.finish_job.Goals as goal
@@ -29,6 +29,8 @@ returns-clause-fits g c =
         value = c.in-Some.value;
         noted = noted;
         exited = subst (λ o. IfSome o (HasExitedOnce c.args.shared.now c.args.run c.args.job.now.prog c.args.job.now.ctx.items)) noted n.exit;
+        may = subst (λ o. IfSome o (IsPossibleExit (slice_get c.args.shared.now c.args.job.now.prog) c.args.job.now.ctx.items)) noted n.may;
+        alone = subst (λ o. IfSome o (IsOwnExit (slice_get c.args.shared.now c.args.job.now.prog) c.args.job.now.ctx.items)) noted n.alone;
         event = c.act_noted-end.ensures.event;
         told = elim c.match-dropped.branch [ in-Ok w ↦ inl (search rules, search rules) | in-Err-dropped w ↦ inr (w.in-Err-dropped.cause, search rules, search rules) ];
       },

@@ -1,7 +1,7 @@
 //! Worlds and jobs for the tests.
 
 use arrayvec::ArrayVec;
-use bpf_model::{CtxBytes, Event, KeyBytes, MapId, MapShape, ProgId, ValueBytes};
+use bpf_model::{CtxBytes, Event, KeyBytes, MapId, MapShape, ProgId, RunId, ValueBytes};
 use insn_codec::decode;
 use maps::Registry;
 use std::alloc::{AllocError, Global};
@@ -44,7 +44,7 @@ pub const fn lookup(key: u8) -> [u8; 104] {
     ]
 }
 
-/// Keys of 4 bytes, values of 8, 4 elements and 4 further slots.
+/// Keys of 4 bytes, values of 8, 4 elements and 4 further slots, each used a hundred times at most.
 const SHAPE: MapShape = MapShape {
     key_len: 4,
     value_len: 8,
@@ -53,17 +53,53 @@ const SHAPE: MapShape = MapShape {
     reuse_limit: 100,
 };
 
-/// Stores a value under a key.
-pub fn update(number: u8, byte: u8) -> Event {
+/// A key of 4 bytes.
+fn key_of(number: u8) -> KeyBytes {
     let mut key = KeyBytes::new();
     let _ = key.try_extend_from_slice(&[number, 0, 0, 0]);
+    key
+}
+
+/// Stores a value under a key, whether or not the key has one.
+pub fn update(key: u8, byte: u8) -> Event {
     let mut value = ValueBytes::new();
     let _ = value.try_extend_from_slice(&[byte, 0, 0, 0, 0, 0, 0, 0]);
     Event::Update {
         map: MapId::new(0),
-        key,
+        key: key_of(key),
         value,
         flags: 0,
+    }
+}
+
+/// Removes a key.
+pub fn delete(key: u8) -> Event {
+    Event::Delete {
+        map: MapId::new(0),
+        key: key_of(key),
+    }
+}
+
+/// Reads a key.
+pub fn read(key: u8) -> Event {
+    Event::Read {
+        map: MapId::new(0),
+        key: key_of(key),
+    }
+}
+
+/// Starts a program on an empty context.
+pub fn start(prog: usize) -> Event {
+    Event::Start {
+        prog: ProgId::new(prog),
+        ctx: CtxBytes::new(),
+    }
+}
+
+/// A step of the run in this slot.
+pub fn step(run: usize) -> Event {
+    Event::Step {
+        run: RunId::new(run),
     }
 }
 
@@ -87,7 +123,7 @@ fn loaded<R: Abort>(
     Ok(Loaded { verified, maps })
 }
 
-/// A world with one map and four programs: `ONE`, two lookups, of key 0 and of key 1, and `FIRST_BYTE`.
+/// A world with one map and four programs: 0 is `ONE`, 1 and 2 are lookups of the keys 0 and 1, 3 is `FIRST_BYTE`.
 pub fn world_of<R: Abort>(rt: &R, alloc: Global) -> Result<World, Fail> {
     let mut registry = Registry::new(alloc);
     registry.create("m", SHAPE).expect(rt, "a map");

@@ -1,0 +1,168 @@
+//! Eight workers in threads.
+ghost use Rattle.std.specs.Prelude.{◌≡◌};
+
+use crate::making::{update, world_of};
+use crate::mixing::event_of;
+use bpf_model::Answer;
+use journal::Journal;
+use shared::{Counters, Finished, Shared, Worker, is_quiet};
+use std::alloc::{AllocError, Global};
+use std::marker::Brand;
+use std::process::Abort;
+use std::sync::ledger::{Blank, Ledger};
+use std::sync::{Mutex, Wait};
+use std::test::Fail;
+use std::thread::{Threads, for_each_mut, join};
+
+/// How many calls each worker makes.
+const CALLS: u16 = 1000;
+
+/// What a worker was answered, in order.
+#[derive(Drop)]
+struct Log {
+    worker: u8,
+    answers: Vec<Answer>,
+}
+
+/// A worker's calls. What it was answered goes to the logs.
+fn work<L: Ledger, R: Wait>(
+    rt: &R,
+    alloc: Global,
+    shared: &Shared<L>,
+    worker: &mut Worker<L>,
+    logs: &Mutex<Vec<Log>>,
+) -> Result<(), AllocError> {
+    let number = worker.number();
+    let mut answers = Vec::new(alloc);
+    for turn in 0..CALLS {
+        if let Ok(answer) = shared.act(rt, worker, event_of(number, turn)) {
+            answers.push(answer)?;
+        }
+    }
+    let mut all = logs.lock(rt);
+    all.push(Log {
+        worker: number,
+        answers,
+    })?;
+    Ok(())
+}
+
+/// Whether readings never go back, and never show more elements reclaimed than unlinked.
+fn watch<R: Wait>(rt: &R, counters: &mut Counters) -> bool {
+    let mut last = counters.read(rt);
+    let mut rises = true;
+    for _ in 0..20_000u64 {
+        let next = counters.read(rt);
+        rises = rises
+            && last.steps <= next.steps
+            && last.unlinked <= next.unlinked
+            && last.reclaimed <= next.reclaimed
+            && next.reclaimed <= next.unlinked;
+        last = next;
+    }
+    rises
+}
+
+/// The text of an answer.
+fn text_of(alloc: Global, answer: &Answer) -> Result<String, AllocError> {
+    format!(in alloc; "{answer:?}")
+}
+
+/// Whether the entries of a log's worker have the answers of the log, in order.
+fn agrees(alloc: Global, journal: &Journal, log: &Log) -> Result<bool, AllocError> {
+    let mut at = 0;
+    for index in 0..journal.len() {
+        if let Some(entry) = journal.entry(index) {
+            if entry.worker == log.worker {
+                let Some(answer) = log.answers.get(at) else {
+                    return Ok(false);
+                };
+                if text_of(alloc, answer)? != text_of(alloc, &entry.answer)? {
+                    return Ok(false);
+                }
+                at += 1;
+            }
+        }
+    }
+    Ok(at == log.answers.len())
+}
+
+/// Whether the base answers the journal's events as the journal says.
+fn replays(alloc: Global, finished: Finished) -> Result<bool, AllocError> {
+    let Finished {
+        mut base,
+        world,
+        journal,
+    } = finished;
+    let mut events = Vec::new(alloc);
+    for index in 0..journal.len() {
+        if let Some(entry) = journal.entry(index) {
+            events.push(entry.event)?;
+        }
+    }
+    let answers = base.run_all(alloc, &events)?;
+    for (index, answer) in answers.iter().enumerate() {
+        let Some(entry) = journal.entry(index) else {
+            return Ok(false);
+        };
+        if text_of(alloc, answer)? != text_of(alloc, &entry.answer)? {
+            return Ok(false);
+        }
+    }
+    Ok(answers.len() == journal.len() && base.stat() == world.stat())
+}
+
+#[test]
+fn eight_workers(rt: HostRuntime) -> Result<(), Fail> {
+    eight::<Brand, _>(&rt, rt.alloc(), Blank::new(8))
+}
+
+/// Eight workers make a thousand calls each while the counters are read: the journal has each call once, as
+/// its worker was answered, and replays from the world that was shared.
+fn eight<L: Ledger + Send + Sync, R: Threads + Wait + Abort + Sync>(
+    rt: &R,
+    alloc: Global,
+    blank: Blank,
+) -> Result<(), Fail>
+    requires name { blank.name ≡ L.name }
+    requires parts { (blank.parts ≡ L.parts) × (blank.parts ≡ 8) }
+{
+    let mut world = world_of(rt, alloc)?;
+    world.apply(&update(3, 9));
+    let first = world.stat();
+    assert!(rt; is_quiet(&world));
+    let (shared, mut workers, mut counters) = Shared::<L>::new(alloc, world, 8, blank)?;
+    let logs = Mutex::new(Vec::new(alloc));
+    let (lock, out) = (&shared, &logs);
+    let list = &mut workers.list;
+    let (_, rises) = join(
+        rt,
+        || {
+            for_each_mut(
+                rt,
+                list,
+                8,
+                &|_, worker: &mut Worker<L>| {
+                    let _ = work(rt, alloc, lock, worker, out);
+                },
+            )
+        },
+        || watch(rt, &mut counters),
+    );
+    assert!(rt; rises);
+    let mut sum = 0u64;
+    for worker in &workers.list {
+        sum = sum.saturating_add(worker.made());
+    }
+    assert_eq!(rt; sum, 8000);
+    let finished = shared.finish(workers);
+    assert_eq!(rt; finished.journal.len(), 8000);
+    assert_eq!(rt; finished.base.stat(), first);
+    let all = logs.into_inner();
+    assert_eq!(rt; all.len(), 8);
+    for log in &all {
+        assert!(rt; agrees(alloc, &finished.journal, log)?);
+    }
+    assert!(rt; replays(alloc, finished)?);
+    Ok(())
+}
