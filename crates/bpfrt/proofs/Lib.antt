@@ -1,2 +1,4 @@
+pub mod JobLines
+pub mod NewMaps
 pub mod Raw
 pub mod Shapes

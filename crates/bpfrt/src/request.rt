@@ -12,6 +12,12 @@ pub enum Command {
     Disasm { file: String },
     /// Answer the script on standard input.
     Script,
+    /// Run the program in a file so many times by so many workers.
+    Pool {
+        workers: u64,
+        file: String,
+        count: u64,
+    },
 }
 
 /// Why the words are no command.
@@ -54,7 +60,9 @@ impl Command {
     /// The path of the file that the command reads; none where it reads standard input.
     pub fn file(&self) -> Option<&str> {
         match self {
-            Command::Check { file } | Command::Disasm { file } => Some(file.as_str()),
+            Command::Check { file } | Command::Disasm { file } | Command::Pool { file, .. } => {
+                Some(file.as_str())
+            }
             Command::Script => None,
         }
     }

@@ -32,12 +32,12 @@ module _ (programs : List Checked) (code : List Insn) (only : map code_of progra
   may_exit : (context : List ℕ) (n : ℕ) → IsPossibleExit (slice_get programs 0) context n → MayExitAs code context n
   may_exit context n h =
       let f = first_program programs code only in
-      subst (λ (c : List Insn). MayExitAs c context n) f.1.1 (subst (λ (o : Option Checked). IsPossibleExit o context n) f.1.0 h)
+      subst (λ (c : List Insn). MayExitAs c context n) f.2 (subst (λ (o : Option Checked). IsPossibleExit o context n) f.1 h)
 
   own_exit : (context : List ℕ) (n : ℕ) → IsOwnExit (slice_get programs 0) context n → HasNoMaps code → ExitsAs code context n
   own_exit context n h =
       let f = first_program programs code only in
-      subst (λ (c : List Insn). HasNoMaps c → ExitsAs c context n) f.1.1 (subst (λ (o : Option Checked). IsOwnExit o context n) f.1.0 h)
+      subst (λ (c : List Insn). HasNoMaps c → ExitsAs c context n) f.2 (subst (λ (o : Option Checked). IsOwnExit o context n) f.1 h)
 
   zero_exit : (len : ℕ) (job : Job) (n : ℕ) → IsZeroJob len job → IsPossibleExit (slice_get programs job.prog) job.ctx.items n → IsOwnExit (slice_get programs job.prog) job.ctx.items n → IsZeroExit code len n
   zero_exit len job n z may own =

@@ -100,6 +100,6 @@ pub fn run_program<R: Threads + Wait + Sync>(
     let Ok(world) = world_of(alloc, registry, verified) else {
         return Err(PoolFault::Memory);
     };
-    let workers = workers as u8;
-    run_shared::<Brand, R>(rt, alloc, Blank::new(workers), world, workers, &jobs)
+    let blank = Blank::new(workers);
+    run_shared::<Brand, R>(rt, alloc, blank, world, workers as u8, &jobs)
 }
