@@ -1,23 +1,14 @@
-//! A stand-in.
+//! Scripts: commands that make maps and programs, and then drive a world, line by line.
+//!
+//! Maps and programs are made first. The first command that is neither `map` nor `load` makes the world, and
+//! later ones of these two are refused.
 #![tactic(auto)]
 
-use std::alloc::Global;
-use std::io::{Read, Write};
+mod making;
+mod running;
+mod session;
+mod shapes;
 
+pub use running::run_script;
 pub use script_stream::ScriptFault;
-
-pub fn run_script<R: Read, W: Write>(
-    alloc: Global,
-    reader: &mut R,
-    writer: &mut W,
-) -> Result<(), ScriptFault> {
-    let _alloc = alloc;
-    let mut byte = [0u8; 1];
-    if reader.read(&mut byte).is_err() {
-        return Err(ScriptFault::Read);
-    }
-    match writer.flush() {
-        Ok(()) => Ok(()),
-        Err(_) => Err(ScriptFault::Write),
-    }
-}
+pub use session::Session;

@@ -1,0 +1,2 @@
+pub mod Lifting
+pub mod Made

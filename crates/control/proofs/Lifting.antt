@@ -1,0 +1,35 @@
+-- What is answered from states of which one part alone tells the answers.
+use Rattle.std.proofs.Common.{ℕ, List, [], ◌∷◌, ap}
+use Rattle.script_stream.specs.Answered.{Answered}
+use Rattle.script_stream.specs.Progress.{FailsWith}
+use Rattle.script_stream.specs.declared.fault.ScriptFault.{ScriptFault}
+
+module _ {S T : Type 0} (part : S → T) (answers : T → List ℕ → List ℕ → T → Type 0) where
+  abbrev pub by_part : S → List ℕ → List ℕ → S → Type 0
+  by_part old line text new = answers (part old) line text (part new)
+
+  pub answered : (old : S) (lines : List (List ℕ)) (text : List ℕ) (new : S) → Answered by_part old lines text new → Answered answers (part old) lines text (part new)
+  answered old [] text new (t, n) = (t, ap part n)
+  answered old (line ∷ lines) text new (first, rest, mid, a, b, e) = (first, rest, part mid, a, answered mid lines rest new b, e)
+
+  pub fails : (is_bad : List ℕ → Type 0) (old : S) (read written : List ℕ) (fault : ScriptFault) → FailsWith by_part is_bad old read written fault → FailsWith answers is_bad (part old) read written fault
+  fails is_bad old read written fault f = record {
+    begun = record {
+      first = f.begun.first;
+      others = f.begun.others;
+      lines = f.begun.lines;
+      more = f.begun.more;
+      new = part f.begun.new;
+      answered = answered old f.begun.first _ f.begun.new f.begun.answered;
+    };
+    before = λ line e. let b = f.before line e in record {
+      good = b.good;
+      bad = b.bad;
+      others = b.others;
+      lines = b.lines;
+      number = b.number;
+      is = b.is;
+      new = part b.new;
+      answered = answered old b.good written b.new b.answered;
+    };
+  }

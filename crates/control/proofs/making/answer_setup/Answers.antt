@@ -1,0 +1,15 @@
+use Rattle.control.proofs.Made.{map_made, load_made, world_made}
+use Rattle.control.proofs.making.answer_setup.Goals as goal
+
+pub returns-in_ok-write_reply-in-Map : goal.returns-in_ok-write_reply-in-Map
+returns-in_ok-write_reply-in-Map c =
+    map_made c.args.setup.now c.args.command c.in-Map.name c.in-Map.key_len c.in-Map.value_len c.in-Map.entries c.in-Map.spare c.in-Map.reuse_limit c.shape_of-shape.result c.in_ok-reply-in-Map.reply c.create.new.self c.args.out.now.items c.write_reply.new.out.items c.in-Map.is c.shape_of-shape.ensures.fits c.shape_of-shape.ensures.too_great c.in_ok-reply-in-Map.ensures.replies c.in_ok-write_reply-in-Map.ensures
+
+pub returns-in_ok-write_reply-in-Load : goal.returns-in_ok-write_reply-in-Load
+returns-in_ok-write_reply-in-Load c =
+    load_made c.args.setup.now c.args.command c.in-Load.ctx_len c.in-Load.code c.in-Load.maps c.in_ok-reply-in-Load.reply c.load.new.self c.args.out.now.items c.write_reply-in-Load.new.out.items c.in-Load.is c.in_ok-reply-in-Load.ensures.replies c.in_ok-write_reply-in-Load.ensures
+
+pub returns-in_ok-live-in_default : goal.returns-in_ok-live-in_default
+returns-in_ok-live-in_default c =
+    let e = c.in_ok-live-in_default.ensures in
+    (e.0, world_made c.args.setup.now c.args.command e.0 c.in_ok-live-in_default.live c.in_default.not-Map c.in_default.not-Load e.1, e.2)

@@ -1,0 +1,71 @@
+-- What each command is replied, and the state of the script that it leaves.
+use Rattle.std.specs.Prelude.{◌≡◌, ℕ, List, [], ◌∷◌, Option, Some, None, Result, Ok, Err}
+use Rattle.std.specs.List.{flat_map}
+use Rattle.bpf_model.specs.View.{start_view}
+use Rattle.script_lines.specs.Answers.{reply_text}
+use Rattle.script_lines.specs.Lines.{line_says}
+use Rattle.script_lines.specs.declared.command.BadLine.{BadLine}
+use Rattle.script_lines.specs.declared.command.Command.{Command}
+use Rattle.script_lines.specs.declared.command.Command.TheVariants as commands
+use Rattle.script_lines.specs.declared.reply.Reply.{Reply}
+use Rattle.script_setup.specs.Setups.{SetupView, shapes_made, no_maps_or_programs}
+use Rattle.script_setup.specs.Loading.{MapReplies, LoadReplies}
+use Rattle.script_world.specs.declared.live.Live.{Live}
+use Rattle.script_world.specs.Lives.{LiveReplies}
+use Rattle.control.specs.Shapes.{shape_of_numbers}
+use Rattle.control.specs.declared.session.Session.{Session}
+use Rattle.control.specs.declared.session.Session.TheVariants as sessions
+
+-- the world of these maps and programs, in which nothing has happened
+abbrev pub sealed : SetupView → Live
+sealed s = record { names = s.registry.names; world = start_view (shapes_made s) s.programs }
+
+-- no maps and no programs yet
+abbrev pub new_session : Session
+new_session = sessions.Setup no_maps_or_programs
+
+-- what is there, where the world may have been made
+abbrev pub now_at : SetupView → Option Live → Session
+now_at setup None = sessions.Setup setup
+now_at setup (Some live) = sessions.Live live
+
+-- A command that a world is for, once it is there.
+abbrev pub WorldReplies : Live → Command → List Reply → Session → Type 0
+WorldReplies old command replies new =
+    (live : Live) × LiveReplies old command replies live × (new ≡ sessions.Live live)
+
+-- one reply, while maps and programs are being made
+abbrev pub RepliesOnce : (Reply → SetupView → Type 0) → List Reply → Session → Type 0
+RepliesOnce Says replies new =
+    (reply : Reply) × (made : SetupView) × Says reply made × (replies ≡ reply ∷ [])
+    × (new ≡ sessions.Setup made)
+
+-- While maps and programs are being made: `map` and `load` make them, and any other command makes
+-- the world, which it is for.
+abbrev pub SetupReplies : SetupView → Command → List Reply → Session → Type 0
+SetupReplies old (commands.Map name key_len value_len entries spare reuse_limit) replies new =
+    RepliesOnce
+    (MapReplies old name (shape_of_numbers key_len value_len entries spare reuse_limit))
+    replies new
+SetupReplies old (commands.Load ctx_len code maps) replies new =
+    RepliesOnce (LoadReplies old ctx_len code maps) replies new
+SetupReplies old command replies new = WorldReplies (sealed old) command replies new
+
+abbrev pub SessionReplies : Session → Command → List Reply → Session → Type 0
+SessionReplies (sessions.Setup old) command replies new = SetupReplies old command replies new
+SessionReplies (sessions.Live old) command replies new = WorldReplies old command replies new
+
+-- A line that says nothing is answered nothing, and a command by the text of its replies.
+abbrev pub Answers : Result (Option Command) BadLine → Session → List ℕ → Session → Type 0
+Answers (Ok None) old text new = (text ≡ []) × (new ≡ old)
+Answers (Ok (Some command)) old text new =
+    (replies : List Reply) × SessionReplies old command replies new × (text ≡ flat_map reply_text replies)
+Answers (Err bad) old text new = ⊥
+
+-- What a line is answered in a state of the script, and the state that it leaves.
+abbrev pub LineAnswers : Session → List ℕ → List ℕ → Session → Type 0
+LineAnswers old line text new = Answers (line_says line) old text new
+
+-- a line that is neither a command nor says nothing
+abbrev pub IsNoCommand : List ℕ → Type 0
+IsNoCommand line = line_says line ≡ Err (record {})

@@ -1,0 +1,74 @@
+//! Commands while maps and programs are being made.
+ghost use Rattle.std.specs.Prelude.{◌≡◌, ◌++◌, List, IfOk};
+ghost use Rattle.std.specs.List.{flat_map};
+ghost use Rattle.script_lines.specs.Answers.{reply_text};
+ghost use Rattle.script_lines.specs.declared.reply.Reply.{Reply as Told};
+ghost use Rattle.script_world.specs.Lives.{LiveReplies};
+ghost use Rattle.control.specs.Sessions.{SetupReplies, sealed, now_at};
+
+use crate::shapes::shape_of;
+use script_lines::{Command, write_reply};
+use script_setup::Setup;
+use script_world::Live;
+use std::alloc::{AllocError, Global};
+use std::mem;
+
+/// Makes the world, and answers the first command that is for it.
+fn answer_first(
+    alloc: Global,
+    setup: &mut Setup,
+    command: Command<'_>,
+    out: &mut Vec<u8>,
+) -> Result<Live, AllocError>
+    ensures { IfOk result (λ live. (replies : List Told)
+        × LiveReplies (sealed setup.old) command.entry replies live
+        × (out.new.items ≡ out.old.items ++ flat_map reply_text replies)) }
+{
+    let made = mem::replace(setup, Setup::new(alloc));
+    let (names, world) = made.seal(alloc)?;
+    let mut live = Live { names, world };
+    live.answer(command, out)?;
+    Ok(live)
+}
+
+/// Answers a command while maps and programs are being made, and adds the text of the reply. The world is
+/// answered where the command made it.
+pub(crate) fn answer_setup(
+    alloc: Global,
+    setup: &mut Setup,
+    command: Command<'_>,
+    out: &mut Vec<u8>,
+) -> Result<Option<Live>, AllocError>
+    ensures { IfOk result (λ live. (replies : List Told)
+        × SetupReplies setup.old command.entry replies (now_at setup.new live)
+        × (out.new.items ≡ out.old.items ++ flat_map reply_text replies)) }
+{
+    match command {
+        Command::Map {
+            name,
+            key_len,
+            value_len,
+            entries,
+            spare,
+            reuse_limit,
+        } => {
+            let shape = shape_of(key_len, value_len, entries, spare, reuse_limit);
+            let reply = setup.create(alloc, &name, shape)?;
+            write_reply(&reply, out)?;
+            Ok(None)
+        }
+        Command::Load {
+            ctx_len,
+            code,
+            maps,
+        } => {
+            let reply = setup.load(alloc, ctx_len, &code, maps)?;
+            write_reply(&reply, out)?;
+            Ok(None)
+        }
+        command => {
+            let live = answer_first(alloc, setup, command, out)?;
+            Ok(Some(live))
+        }
+    }
+}

@@ -1,0 +1,15 @@
+-- The maps that names stand for: each name stands under its map's number.
+use Rattle.std.specs.Prelude.{◌≡◌, ℕ, List, [], Option, Some, None, slice_get}
+
+-- the map that has the name, or none where no map has it
+abbrev pub IsMapOf : List (List ℕ) → List ℕ → Option ℕ → Type 0
+IsMapOf names name (Some map) = slice_get names map ≡ Some name
+IsMapOf names name None = (map : ℕ) → slice_get names map ≡ Some name → ⊥
+
+abbrev pub or_no_bytes : Option (List ℕ) → List ℕ
+or_no_bytes (Some name) = name
+or_no_bytes None = []
+
+-- the name of a map; no bytes where there is no such map
+abbrev pub name_of : List (List ℕ) → ℕ → List ℕ
+name_of names map = or_no_bytes (slice_get names map)

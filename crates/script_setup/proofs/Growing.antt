@@ -1,0 +1,46 @@
+-- Setups that grow by a map or a program.
+use Rattle.std.proofs.Common.{◌≡◌, ◌∙◌, ℕ, inl, inr, List, [], ◌∷◌, ◌++◌, map, Some, refl, sym, ap, subst}
+use Rattle.std.specs.Prelude.{slice_get}
+use Rattle.std.proofs.lemmas.List.{map-append}
+use Rattle.model_laws.proofs.Lists.{get-append, get-append_cases}
+use Rattle.bpf_model.specs.declared.limits.MapShape.{MapShape}
+use Rattle.bpf_model.specs.View.{MapView, new_map_view}
+use Rattle.world_parts.specs.declared.loaded.Loaded.{Loaded}
+use Rattle.world_invariant.specs.Binding.{IsBoundTo}
+use Rattle.world.specs.Bound.{shapes_in, IsBound, AreBound}
+
+-- Numbers that are found in a list are found in a longer one.
+pub found-more : {A : Type 0} (xs ys : List A) (numbers : List ℕ) (asked : List A) → map (slice_get xs) numbers ≡ map Some asked → map (slice_get (xs ++ ys)) numbers ≡ map Some asked
+found-more xs ys [] [] e = refl
+found-more xs ys [] (a ∷ asked) e = absurd (cc)
+found-more xs ys (n ∷ numbers) [] e = absurd (cc)
+found-more xs ys (n ∷ numbers) (a ∷ asked) e =
+    let first : slice_get xs n ≡ Some a = cc in
+    let others : map (slice_get xs) numbers ≡ map Some asked = cc in
+    let here = get-append xs ys n a first in
+    let there = found-more xs ys numbers asked others in
+    cc
+
+-- One more number is found after the others.
+pub found-next : {A : Type 0} (xs : List A) (numbers : List ℕ) (asked : List A) (n : ℕ) (a : A) → map (slice_get xs) numbers ≡ map Some asked → slice_get xs n ≡ Some a → map (slice_get xs) (numbers ++ n ∷ []) ≡ map Some (asked ++ a ∷ [])
+found-next xs numbers asked n a e here =
+    map-append (slice_get xs) numbers (n ∷ [])
+    ∙ (ap (λ f. f ++ slice_get xs n ∷ []) e ∙ (ap (λ o. map Some asked ++ o ∷ []) here ∙ sym (map-append Some asked (a ∷ []))))
+
+-- a new map is new, and leaves the others new
+pub new-more : (maps : List MapView) (shape : MapShape) → maps ≡ map new_map_view (shapes_in maps) → maps ++ new_map_view shape ∷ [] ≡ map new_map_view (shapes_in (maps ++ new_map_view shape ∷ []))
+new-more maps shape e =
+    ap (λ m. m ++ new_map_view shape ∷ []) e
+    ∙ (sym (map-append new_map_view (shapes_in maps) (shape ∷ []))
+    ∙ ap (map new_map_view) (sym (map-append (λ v. v.shape) maps (new_map_view shape ∷ []))))
+
+-- programs stay bound where a map is added
+pub bound-still : (maps : List MapView) (v : MapView) (loaded : List Loaded) → AreBound (shapes_in maps) loaded → AreBound (shapes_in (maps ++ v ∷ [])) loaded
+bound-still maps v loaded bound p l at =
+    subst (λ s. IsBoundTo s l.verified.shapes l.maps.items) (sym (map-append (λ w. w.shape) maps (v ∷ [])))
+    (found-more (shapes_in maps) (v.shape ∷ []) l.maps.items l.verified.shapes (bound p l at))
+
+-- one more program that is bound
+pub bound-more : (shapes : List MapShape) (loaded : List Loaded) (l : Loaded) → AreBound shapes loaded → IsBound shapes l → AreBound shapes (loaded ++ l ∷ [])
+bound-more shapes loaded l bound is p x at =
+    elim (get-append_cases loaded l p x at) [ inl before ↦ bound p x before | inr last ↦ subst (IsBound shapes) last.1 is ]

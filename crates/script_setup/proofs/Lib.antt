@@ -1,0 +1,4 @@
+pub mod Creating
+pub mod Growing
+pub mod Naming
+pub mod Reading

@@ -1,0 +1,46 @@
+-- A map's name is ASCII.
+use Rattle.std.proofs.Common.{◌≡◌, ℕ, zero, suc, ◌<◌, ◌⊎◌, inl, inr, Bool, true, false, List, [], ◌∷◌, Some, refl, arith}
+use Rattle.std.specs.Prelude.{nat_le, ◌||◌, ◌&&◌, ◌==◌, slice_get, slice_index, length}
+use Rattle.std.specs.List.{list_all}
+use Rattle.std.specs.Str.{IsUtf8}
+use Rattle.std.proofs.lemmas.Bool.{and_parts, leb-true, eqb-true}
+use Rattle.std.proofs.lemmas.Str.{IsUtf8-from_ascii}
+use Rattle.bpf_model.specs.declared.limits.MapShape.{MapShape}
+use Rattle.maps.specs.declared.fault.MapFault.TheVariants.{BadName}
+use Rattle.maps.specs.declared.name.TheConstants.{NAME_BYTES}
+use Rattle.maps.specs.Registry.{RegistryView, creation_fault, is_name, is_name_character, is_letter, is_digit, begins_with_letter}
+
+or-either : (x y : Bool) → (x || y) ≡ true → (x ≡ true) ⊎ (y ≡ true)
+or-either true y e = inl refl
+or-either false y e = inr e
+
+up-to : (a c b : ℕ) → (nat_le a c && nat_le c b) ≡ true → b < 128 → c < 128
+up-to a c b e h =
+    let q = leb-true c b (and_parts (nat_le a c) (nat_le c b) e).1 in
+    omega (arith, q, h)
+
+small : (c : ℕ) → is_name_character c ≡ true → c < 128
+small c e = elim (or-either (is_letter c) (is_digit c || (c == 95)) e) [
+  | inl a ↦ up-to 97 c 122 a (omega arith)
+  | inr r ↦ elim (or-either (is_digit c) (c == 95) r) [
+    | inl d ↦ up-to 48 c 57 d (omega arith)
+    | inr u ↦ let q = eqb-true c 95 u in omega (arith, q)
+  ]
+]
+
+all-small : (name : List ℕ) → list_all is_name_character name ≡ true → (i : ℕ) → slice_index name i < 128
+all-small [] e i = omega arith
+all-small (c ∷ name) e zero = small c (and_parts (is_name_character c) (list_all is_name_character name) e).0
+all-small (c ∷ name) e (suc i) = all-small name (and_parts (is_name_character c) (list_all is_name_character name) e).1 i
+
+is-false : (b : Bool) → (b ≡ true → ⊥) → b ≡ false
+is-false true h = absurd (h refl)
+is-false false h = refl
+
+not-a-name : (name : List ℕ) → (IsUtf8 name → ⊥) → is_name name ≡ false
+not-a-name name h = is-false (is_name name) (λ e.
+    let rest = (and_parts (begins_with_letter (slice_get name 0)) (nat_le (length name) NAME_BYTES && list_all is_name_character name) e).1 in
+    h (IsUtf8-from_ascii name (all-small name (and_parts (nat_le (length name) NAME_BYTES) (list_all is_name_character name) rest).1)))
+
+pub bad-name : (r : RegistryView) (name : List ℕ) (shape : MapShape) → (IsUtf8 name → ⊥) → creation_fault r name shape ≡ Some BadName
+bad-name r name shape h = rw (not-a-name name h) refl

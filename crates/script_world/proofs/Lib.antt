@@ -1,0 +1,3 @@
+pub mod Above
+pub mod Stepping
+pub mod Replied

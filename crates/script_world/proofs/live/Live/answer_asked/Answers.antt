@@ -1,0 +1,47 @@
+use Rattle.std.proofs.Common.{◌≡◌, ◌∙◌, List, [], ◌∷◌, ◌++◌, None, ap, refl}
+use Rattle.std.specs.Prelude.{OnOk, Ok, Err, slice_get}
+use Rattle.std.specs.List.{flat_map}
+use Rattle.bpf_model.specs.Event.{event_refusal_code}
+use Rattle.script_lines.specs.declared.reply.Reply.{Reply}
+use Rattle.script_lines.specs.declared.reply.Reply.TheVariants.{End}
+use Rattle.script_lines.specs.Answers.{reply_text}
+use Rattle.script_requests.specs.declared.asked.Asked.TheVariants as asked
+use Rattle.script_requests.specs.Replying.{refused, reply_to}
+use Rattle.world_parts.specs.Asking.{stat_of}
+use Rattle.script_world.specs.Lives.{IsReplied}
+use Rattle.script_world.specs.Replies.{AreElements, SEALED_NUMBER, stat_reply, overlong_refusal}
+use Rattle.script_world.proofs.Replied.{replied, replied_once}
+use Rattle.script_world.proofs.live.Live.answer_asked.Goals as goal
+
+pub returns-in-Sealed : goal.returns-in-Sealed
+returns-in-Sealed c =
+    replied_once c.args.self.now c.args.asked asked.Sealed [] c.refused.result (refused SEALED_NUMBER) c.args.self.now.world _ _ c.write_reply.result c.in-Sealed.is c.refused.ensures (refl, refl, refl) c.write_reply.ensures
+
+pub returns-in-Refused : goal.returns-in-Refused
+returns-in-Refused c =
+    replied_once c.args.self.now c.args.asked (asked.Refused c.in-Refused.refusal) [] c.refused-in-Refused.result (refused (event_refusal_code c.in-Refused.refusal)) c.args.self.now.world _ _ c.write_reply-in-Refused.result c.in-Refused.is (c.refused-in-Refused.ensures ∙ ap refused c.code.ensures) (refl, refl, refl) c.write_reply-in-Refused.ensures
+
+pub returns-in-Event : goal.returns-in-Event
+returns-in-Event c =
+    let told = reply_to c.args.self.now.names c.apply-answer.result in
+    replied_once c.args.self.now c.args.asked (asked.Event c.in-Event.event) (c.in-Event.event ∷ []) told told c.apply-answer.new.self _ _ c.write_answer.result c.in-Event.is refl (refl, ap (λ a. reply_to c.args.self.now.names a ∷ []) c.apply-answer.ensures.answer, c.apply-answer.ensures.new) c.write_answer.ensures
+
+pub returns-in-Overlong : goal.returns-in-Overlong
+returns-in-Overlong c =
+    let told = refused (event_refusal_code (overlong_refusal (slice_get c.args.self.now.world.programs c.in-Overlong.prog))) in
+    replied_once c.args.self.now c.args.asked (asked.Overlong c.in-Overlong.prog) [] c.refused-in-Overlong.result told c.args.self.now.world _ _ c.write_reply-in-Overlong.result c.in-Overlong.is (c.refused-in-Overlong.ensures ∙ ap refused (c.code-in-Overlong.ensures ∙ ap event_refusal_code c.refusal_of_overlong.ensures)) (refl, refl, refl) c.write_reply-in-Overlong.ensures
+
+pub returns-in-Steps : goal.returns-in-Steps
+returns-in-Steps c =
+    let told = reply_to c.args.self.now.names c.make_steps-answer.result in
+    replied_once c.args.self.now c.args.asked (asked.Steps c.in-Steps.run' c.in-Steps.count) c.make_steps-answer.ensures.0 told told c.make_steps-answer.new.world _ _ c.write_answer-in-Steps.result c.in-Steps.is refl (c.make_steps-answer.result, c.make_steps-answer.ensures.1, refl) c.write_answer-in-Steps.ensures
+
+pub returns-in-Counts : goal.returns-in-Counts
+returns-in-Counts c =
+    replied_once c.args.self.now c.args.asked asked.Counts [] c.stat_reply.result (stat_reply (stat_of c.args.self.now.world)) c.args.self.now.world _ _ c.write_reply-in-Counts.result c.in-Counts.is (c.stat_reply.ensures ∙ ap stat_reply c.stat.ensures) (refl, refl, refl) c.write_reply-in-Counts.ensures
+
+pub returns-in-Elements : goal.returns-in-Elements
+returns-in-Elements c = elim (c.write_elements.result) as (λ r. OnOk r ((elements : List Reply) × AreElements (slice_get c.args.self.now.world.maps c.in-Elements.map) None elements × (c.write_elements.new.out.items ≡ c.args.out.now.items ++ flat_map reply_text (elements ++ End ∷ []))) → OnOk r (IsReplied c.args.self.now c.args.asked c.args.out.now.items c.write_elements.new.out.items c.args.self.now)) [
+  | Ok u ↦ λ e. replied c.args.self.now c.args.asked (asked.Elements c.in-Elements.map) [] (e.0 ++ End ∷ []) c.args.self.now.world c.args.out.now.items c.write_elements.new.out.items c.in-Elements.is (e.0, e.1, refl, refl, refl) e.2
+  | Err u ↦ λ e. tt
+] c.write_elements.ensures
