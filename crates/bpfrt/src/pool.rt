@@ -62,12 +62,12 @@ fn pool_of<H: Threads + Wait + Sync>(
         IfErr result (IsPoolRefusal bytes) }
 {
     let source = file.source(alloc)?;
-    let source = verify_source(alloc, source)?;
+    let checked = verify_source(alloc, source)?;
     let run = run_program(
         rt,
         alloc,
-        source.registry,
-        source.verified,
+        checked.registry,
+        checked.verified,
         size.workers,
         size.count,
     )?;

@@ -7,9 +7,13 @@ use thiserror::Error;
 #[derive(Debug, Drop)]
 pub enum Command {
     /// Verify the program in a file and say how long it is.
-    Check { file: String },
+    Check {
+        file: String,
+    },
     /// Write the text of the program in a file.
-    Disasm { file: String },
+    Disasm {
+        file: String,
+    },
     /// Answer the script on standard input.
     Script,
     /// Run the program in a file so many times by so many workers.

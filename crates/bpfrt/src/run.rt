@@ -3,7 +3,7 @@ ghost use Rattle.std.specs.Prelude.{◌≡◌, ◌⊎◌, List, ℕ, IfOk, IfErr
 ghost use Rattle.std.specs.Io.KnownBytes.{Appends};
 ghost use Rattle.bpfrt.specs.Files.{HoldsBytes};
 ghost use Rattle.bpfrt.specs.Outputs.{IsAcceptedFile, IsTextOf, IsDecodeRefusal, IsCheckedRefusal, IsRefusedByDecode, IsRefusedByCheck, accepted_line, WritesAccepted, WritesText};
-ghost use Rattle.bpfrt.specs.Commands.{IsRefusedBy, ReadsFile, Writes};
+ghost use Rattle.bpfrt.specs.Commands.{ReadsFile, Refuses, Writes};
 
 use crate::pool::{PoolSize, run_pool};
 use crate::program_file::{FileBytes, read_file};
@@ -128,7 +128,8 @@ pub fn run<H: Threads + Wait + Sync, R: Read, W: Write, E: Write>(
     ensures status { (result ≡ 0) ⊎ (result ≡ 1) ⊎ (result ≡ 3) }
     ensures fine { result ≡ 0 → IfSome (R.remaining input.old)
         (Writes command.now (W.contents out.old) (W.contents out.new)) }
-    ensures refused { result ≡ 1 → IfSome (R.remaining input.old) (IsRefusedBy command.now) }
+    ensures refused { result ≡ 1 → IfSome (R.remaining input.old)
+        (Refuses command.now (W.contents out.old) (W.contents out.new)) }
     ensures silent { result ≡ 1 → ReadsFile command.now → out.new ≡ out.old }
 {
     match command {

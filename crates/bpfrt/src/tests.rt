@@ -6,7 +6,9 @@ use std::alloc::Global;
 use std::io;
 use std::io::{Read, Write};
 use std::process::Abort;
+use std::sync::Wait;
 use std::test::Fail;
+use std::thread::Threads;
 
 const EXIT_ONE: [u8; 16] = [0xb7, 0, 0, 0, 1, 0, 0, 0, 0x95, 0, 0, 0, 0, 0, 0, 0];
 
@@ -119,18 +121,27 @@ fn output(out: &[u8]) -> Wanted<'_> {
     }
 }
 
-/// Runs `check` or `disasm` on an input, and compares what it writes and answers.
-fn runs<R: Read>(
-    rt: &impl Abort,
+/// `pool` of a file.
+fn pool_of(alloc: Global, workers: u64, count: u64) -> Result<Command, Fail> {
+    let file = String::from_str(alloc, "program")?;
+    Ok(Command::Pool {
+        workers,
+        file,
+        count,
+    })
+}
+
+/// Runs a command on an input, and compares what it writes and answers.
+fn runs<H: Threads + Wait + Abort + Sync, R: Read>(
+    rt: &H,
     alloc: Global,
-    disasm: bool,
+    command: &Command,
     input: &mut R,
     wanted: &Wanted<'_>,
 ) -> Result<(), Fail> {
-    let command = command_of(alloc, disasm)?;
     let mut out: Vec<u8> = Vec::new(alloc);
     let mut err: Vec<u8> = Vec::new(alloc);
-    let status = run_command(alloc, &command, input, &mut out, &mut err);
+    let status = run_command(rt, alloc, command, input, &mut out, &mut err);
     assert_eq!(rt; err.as_slice(), wanted.err);
     assert_eq!(rt; out.as_slice(), wanted.out);
     assert_eq!(rt; status, wanted.status);
@@ -229,9 +240,10 @@ const REFUSED: [(&[u8], &[u8]); 37] = [
 
 #[test]
 fn files_that_are_refused(rt: HostRuntime) -> Result<(), Fail> {
+    let check = command_of(rt.alloc(), false)?;
     for (file, told) in REFUSED {
         let mut input = file;
-        runs(&rt, rt.alloc(), false, &mut input, &refusal(told))?;
+        runs(&rt, rt.alloc(), &check, &mut input, &refusal(told))?;
     }
     Ok(())
 }
@@ -284,7 +296,8 @@ const OUTPUTS: [(&[u8], bool, &[u8]); 10] = [
 fn outputs(rt: HostRuntime) -> Result<(), Fail> {
     for (file, disasm, out) in OUTPUTS {
         let mut input = file;
-        runs(&rt, rt.alloc(), disasm, &mut input, &output(out))?;
+        let command = command_of(rt.alloc(), disasm)?;
+        runs(&rt, rt.alloc(), &command, &mut input, &output(out))?;
     }
     Ok(())
 }
@@ -323,24 +336,25 @@ const LENGTHS: [(usize, &[u8]); 6] = [
 #[test]
 fn long_files(rt: HostRuntime) -> Result<(), Fail> {
     let alloc = rt.alloc();
+    let check = command_of(alloc, false)?;
     for (length, told) in LENGTHS {
         let bytes = moves(alloc, length)?;
-        runs(&rt, alloc, false, &mut bytes.as_slice(), &refusal(told))?;
+        runs(&rt, alloc, &check, &mut bytes.as_slice(), &refusal(told))?;
     }
     let maps = file_with_maps(alloc, 16)?;
-    runs(&rt, alloc, false, &mut maps.as_bytes(), &output(TWO_SLOTS))?;
+    runs(&rt, alloc, &check, &mut maps.as_bytes(), &output(TWO_SLOTS))?;
     let maps = file_with_maps(alloc, 17)?;
     let told = refusal(b"fault 94 at 19\n");
-    runs(&rt, alloc, false, &mut maps.as_bytes(), &told)?;
+    runs(&rt, alloc, &check, &mut maps.as_bytes(), &told)?;
     let mut slots = String::from_str(alloc, "bpfrt 1\nctx 0\ncode\n")?;
     for _ in 0..4097 {
         slots.push_str("b700000000000000\n")?;
     }
     let told = refusal(b"refused 3\n");
-    runs(&rt, alloc, false, &mut slots.as_bytes(), &told)?;
+    runs(&rt, alloc, &check, &mut slots.as_bytes(), &told)?;
     slots.push_str("b7\n")?;
     let told = refusal(b"fault 94 at 4101\n");
-    runs(&rt, alloc, false, &mut slots.as_bytes(), &told)
+    runs(&rt, alloc, &check, &mut slots.as_bytes(), &told)
 }
 
 /// A fault of reading, of writing or of memory.
@@ -355,26 +369,138 @@ fn fault(err: &[u8]) -> Wanted<'_> {
 #[test]
 fn streams(rt: HostRuntime) -> Result<(), Fail> {
     let alloc = rt.alloc();
-    runs(&rt, alloc, false, &mut Broken, &fault(b"fault 96\n"))?;
+    let check = command_of(alloc, false)?;
+    let unread = fault(b"fault 96\n");
+    runs(&rt, alloc, &check, &mut Broken, &unread)?;
+    runs(&rt, alloc, &Command::Script, &mut Broken, &unread)?;
+    runs(&rt, alloc, &pool_of(alloc, 1, 1)?, &mut Broken, &unread)?;
     let mut endless = Endless { is_begun: false };
-    runs(&rt, alloc, false, &mut endless, &fault(b"fault 13\n"))?;
+    runs(&rt, alloc, &check, &mut endless, &fault(b"fault 13\n"))?;
     let mut halting = Halting {
         rest: &WIDE,
         is_interrupted: false,
     };
     let text = output(b"lddw r0, 8589934593\nexit\n");
-    runs(&rt, alloc, true, &mut halting, &text)?;
-    let command = command_of(alloc, false)?;
-    let mut err: Vec<u8> = Vec::new(alloc);
-    let mut input = EXIT_ONE.as_slice();
-    let status = run_command(alloc, &command, &mut input, &mut Broken, &mut err);
-    assert_eq!(rt; status, 3);
-    assert_eq!(rt; err.as_slice(), b"fault 97\n".as_slice());
+    runs(&rt, alloc, &command_of(alloc, true)?, &mut halting, &text)?;
+    let unwritten: [(&Command, &[u8]); 3] = [
+        (&check, &EXIT_ONE),
+        (&Command::Script, b"advance\n"),
+        (&pool_of(alloc, 1, 1)?, &EXIT_ONE),
+    ];
+    for (command, bytes) in unwritten {
+        let mut err: Vec<u8> = Vec::new(alloc);
+        let mut input = bytes;
+        let status = run_command(&rt, alloc, command, &mut input, &mut Broken, &mut err);
+        assert_eq!(rt; status, 3);
+        assert_eq!(rt; err.as_slice(), b"fault 97\n".as_slice());
+    }
     // A broken standard error changes no status.
     let mut out: Vec<u8> = Vec::new(alloc);
     let mut input = EXIT.as_slice();
-    let status = run_command(alloc, &command, &mut input, &mut out, &mut Broken);
+    let status = run_command(&rt, alloc, &check, &mut input, &mut out, &mut Broken);
     assert_eq!(rt; status, 1);
+    Ok(())
+}
+
+/// A program that looks up key 0 of map 0, as a script loads it.
+const LOOKUP_LOADED: &[u8] = b"map m 4 8 4 4 100\n# the program\nload 0 \
+b7060000000000008520000001000000620afcff00000000bfa200000000000007020000fcffffff\
+185100000000000000000000000000008500000001000000150001000000000079060000000000008520000002000000\
+bf600000000000009500000000000000 m\nput  m 00000000 0500000000000000 0\n\nstart 0 -\nstep 0 7\n\
+del m 00000000\nadvance\nreap\nstep 0 2\nstep 0\nadvance\nreap\nstep 0 2\ndrop 0\ndrop 0";
+
+/// Scripts, their answers, and what is said where a line is no command.
+const SCRIPTS: [(&[u8], &[u8], &[u8]); 5] = [
+    (b"", b"", b""),
+    (
+        LOOKUP_LOADED,
+        b"map 0\nprog 0\nret 0\nrun 0\nmoved\nret 0\nok\nnone\nmoved\nmoved\nok\n\
+reaped m 00000000 free\nexit 5\nok\nrefused 60\n",
+        b"",
+    ),
+    (
+        b"load 0 9500000000000000\nstat\nmap m 4 8 1 0 2\nget m 00000000\nfly\nstat\n",
+        b"refused 23 at 0\nstat linked 0 unlinked 0 given 0 worn 0 runs 0 open 0\nrefused 56\n\
+refused 65\n",
+        b"fault 95 at 5\n",
+    ),
+    (b" stat\n", b"", b"fault 95 at 1\n"),
+    (b"step 0 4097", b"", b"fault 95 at 1\n"),
+];
+
+#[test]
+fn scripts(rt: HostRuntime) -> Result<(), Fail> {
+    for (script, out, err) in SCRIPTS {
+        let mut input = script;
+        let wanted = Wanted {
+            status: if err.is_empty() { 0 } else { 1 },
+            out,
+            err,
+        };
+        runs(&rt, rt.alloc(), &Command::Script, &mut input, &wanted)?;
+    }
+    Ok(())
+}
+
+/// The lines of so many jobs that exit with this value after so many events each.
+fn job_lines(alloc: Global, count: u64, value: u64, events: u64) -> Result<String, Fail> {
+    let mut text = String::new(alloc);
+    for number in 0..count {
+        text.push_str(&format!(in alloc; "job {number} exit {value}\n")?)?;
+    }
+    let entries = count.saturating_mul(events);
+    text.push_str(&format!(in alloc; "entries {entries}\n")?)?;
+    Ok(text)
+}
+
+/// Files, workers, jobs, the exit value of each job, and its events: a start, its steps and a drop.
+const POOLS: [(&[u8], u64, u64, u64, u64); 7] = [
+    (&EXIT_ONE, 1, 1000, 1, 4),
+    (&EXIT_ONE, 3, 1000, 1, 4),
+    (&EXIT_ONE, 8, 1000, 1, 4),
+    (&EXIT_ONE, 8, 0, 1, 4),
+    (&WIDE, 2, 1, 8_589_934_593, 4),
+    // A key that is not there, by 11 steps, and a byte of a context of zeros.
+    (LOOKUP_FILE, 4, 20, 0, 13),
+    (
+        b"bpfrt 1\nctx 2\ncode\n7110010000000000 9500000000000000\n",
+        2,
+        3,
+        0,
+        4,
+    ),
+];
+
+/// Files, workers and jobs of pools that are refused. The file is judged first.
+const NO_POOLS: [(&[u8], u64, u64, &[u8]); 7] = [
+    (&EXIT_ONE, 0, 1, b"refused 90\n"),
+    (&EXIT_ONE, 9, 1, b"refused 90\n"),
+    (
+        &EXIT_ONE,
+        18_446_744_073_709_551_615,
+        65_537,
+        b"refused 90\n",
+    ),
+    (&EXIT_ONE, 8, 65_537, b"refused 91\n"),
+    (&EXIT, 0, 65_537, b"refused 23 at 0\n"),
+    (&EXIT[..7], 0, 1, b"refused 1\n"),
+    (b"bpfrt 1\nctx 257\n", 0, 1, b"fault 94 at 2\n"),
+];
+
+#[test]
+fn pools(rt: HostRuntime) -> Result<(), Fail> {
+    let alloc = rt.alloc();
+    for (file, workers, count, value, events) in POOLS {
+        let mut input = file;
+        let text = job_lines(alloc, count, value, events)?;
+        let pool = pool_of(alloc, workers, count)?;
+        runs(&rt, alloc, &pool, &mut input, &output(text.as_bytes()))?;
+    }
+    for (file, workers, count, told) in NO_POOLS {
+        let mut input = file;
+        let pool = pool_of(alloc, workers, count)?;
+        runs(&rt, alloc, &pool, &mut input, &refusal(told))?;
+    }
     Ok(())
 }
 
@@ -395,19 +521,40 @@ fn asked(rt: &impl Abort, alloc: Global, texts: &[&str]) -> Result<Result<Comman
 }
 
 /// Words that are no command, and what is said of them.
-const NO_COMMANDS: [(&[&str], &[&str]); 9] = [
+const NO_COMMANDS: [(&[&str], &[&str]); 21] = [
     (&["bpfrt"], &["Usage: bpfrt"]),
     (&["bpfrt", "chekc", "a"], &["'chekc'", "'check'"]),
     (&["bpfrt", "check"], &["<FILE>"]),
     (&["bpfrt", "check", "a", "b"], &["'b'"]),
     (&["bpfrt", "verify", "a"], &["'verify'"]),
-    (&["bpfrt", "--help"], &["check", "disasm"]),
-    (&["bpfrt", "help"], &["check", "disasm"]),
+    (&["bpfrt", "--help"], &["check", "disasm", "script", "pool"]),
+    (&["bpfrt", "help"], &["check", "disasm", "script", "pool"]),
+    (&["bpfrt", "scirpt"], &["'scirpt'", "'script'"]),
+    (&["bpfrt", "script", "a"], &["'a'"]),
+    (&["bpfrt", "poll", "1", "a", "1"], &["'poll'", "'pool'"]),
+    (&["bpfrt", "pool", "1", "a"], &["<COUNT>"]),
+    (&["bpfrt", "pool", "1", "a", "1", "1"], &["bpfrt pool"]),
+    (&["bpfrt", "pool", "", "a", "1"], &["''", "<WORKERS>"]),
+    (
+        &["bpfrt", "pool", "01", "a", "1"],
+        &["'01'", "<WORKERS>", "bpfrt pool"],
+    ),
+    (&["bpfrt", "pool", "+1", "a", "1"], &["'+1'", "<WORKERS>"]),
+    (&["bpfrt", "pool", "1", "a", "-1"], &["'-1'"]),
+    (
+        &["bpfrt", "pool", "1", "a", "18446744073709551616"],
+        &["'18446744073709551616'", "<COUNT>", "bpfrt pool --help"],
+    ),
     (
         &["bpfrt", "check", "--help"],
         &["accepted 33 instructions 35 slots", "fault 94 at L"],
     ),
     (&["bpfrt", "disasm", "--help"], &["mov64 r0, 1"]),
+    (
+        &["bpfrt", "script", "--help"],
+        &["fault 95 at L", "bpfrt script"],
+    ),
+    (&["bpfrt", "pool", "--help"], &["refused 90", "entries 8"]),
 ];
 
 #[test]
@@ -427,6 +574,22 @@ fn words_of_commands(rt: HostRuntime) -> Result<(), Fail> {
     assert!(rt; matches!(&check, Ok(Command::Check { file }) if file.as_str() == "a.bpf"));
     let disasm = asked(&rt, alloc, &["bpfrt", "disasm", "b.bpf"])?;
     assert!(rt; matches!(&disasm, Ok(Command::Disasm { file }) if file.as_str() == "b.bpf"));
+    assert!(rt;
+        matches!(
+            asked(&rt, alloc, &["bpfrt", "script"])?,
+            Ok(Command::Script)
+        )
+    );
+    let pool = asked(
+        &rt,
+        alloc,
+        &["bpfrt", "pool", "0", "c.bpf", "18446744073709551615"],
+    )?;
+    let Ok(Command::Pool { workers, count, .. }) = pool else {
+        return Err(Fail::from("no pool"));
+    };
+    assert_eq!(rt; workers, 0);
+    assert_eq!(rt; count, u64::MAX);
     let mut err: Vec<u8> = Vec::new(alloc);
     assert_eq!(rt; no_command(&mut err, &UsageFault::NotText), 2);
     assert_eq!(rt; no_command(&mut err, &UsageFault::Memory), 3);

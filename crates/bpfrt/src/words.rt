@@ -171,12 +171,14 @@ fn number_at(alloc: Global, matches: &ArgMatches<'_>, id: &str) -> Result<u64, U
     let word = matches.get_str(id).unwrap_or("");
     match number_of(word) {
         Some(number) => Ok(number),
-        None => Err(UsageFault::Usage(format!(in alloc; "\
+        None => Err(UsageFault::Usage(format!(in alloc;
+            "\
 error: invalid value '{word}' for '<{id}>': it is no decimal number below 2^64 without sign and leading zeros
 
 Usage: bpfrt pool <WORKERS> <FILE> <COUNT>
 
-For more information, try 'bpfrt pool --help'.")?)),
+For more information, try 'bpfrt pool --help'."
+        )?)),
     }
 }
 
