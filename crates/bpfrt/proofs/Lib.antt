@@ -1,2 +1,3 @@
 pub mod Raw
+pub mod Reading
 pub mod Shapes

@@ -1,3 +1,5 @@
+pub mod Commands
 pub mod Files
 pub mod Outputs
+pub mod Scripts
 pub mod Verdicts

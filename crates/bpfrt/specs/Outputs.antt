@@ -17,8 +17,6 @@ use Rattle.typed_runs.specs.Verified.{IsVerified}
 use Rattle.verifier.specs.declared.refusal.Refusal.{Refusal}
 use Rattle.verifier.specs.Verdict.{IsToldOf}
 use Rattle.bpfrt.specs.declared.report.Verdict.{Verdict}
-use Rattle.bpfrt.specs.declared.request.Command.{Command}
-use Rattle.bpfrt.specs.declared.request.Command.TheVariants.{Check, Disasm}
 use Rattle.bpfrt.specs.declared.program_file.Source.{Source}
 use Rattle.bpfrt.specs.declared.run.Accepted.{Accepted}
 use Rattle.bpfrt.specs.Verdicts.{IsDecodeVerdict, IsRefusalVerdict, IsLoadVerdict}
@@ -99,11 +97,6 @@ IsRefusedByDecode bytes = (v : Verdict) × (v.code ≢ 13) × IsDecodeRefusal by
 abbrev pub IsRefusedByCheck : List ℕ → Type 0
 IsRefusedByCheck bytes = (v : Verdict) × (v.code ≢ 13) × IsCheckedRefusal bytes v
 
--- Each command refuses in its own way.
-abbrev pub IsRefusedBy : Command → List ℕ → Type 0
-IsRefusedBy (Check file) bytes = IsRefusedByCheck bytes
-IsRefusedBy (Disasm file) bytes = IsRefusedByDecode bytes
-
 -- what `check` says of a program of so many instructions and slots
 abbrev pub accepted_line : ℕ → ℕ → List ℕ
 accepted_line instructions slots =
@@ -119,7 +112,3 @@ WritesAccepted old new bytes =
 -- what `disasm` adds for a file that says a program
 abbrev pub WritesText : Option (List ℕ) → Option (List ℕ) → List ℕ → Type 0
 WritesText old new bytes = (lines : List ℕ) × IsTextOf bytes lines × Appends old new lines
-
-abbrev pub WritesFile : Command → Option (List ℕ) → Option (List ℕ) → List ℕ → Type 0
-WritesFile (Check file) old new bytes = WritesAccepted old new bytes
-WritesFile (Disasm file) old new bytes = WritesText old new bytes

@@ -5,6 +5,9 @@ mod program_file;
 mod report;
 mod request;
 mod run;
+mod script;
+mod streams;
+mod verified_file;
 mod words;
 
 use report::{fault, no_command};
@@ -16,17 +19,17 @@ use std::fs::File;
 use std::io::ErrorKind;
 use std::process::ExitCode;
 
-/// Opens the file that the command names, and runs the command on it.
-fn run_on_file(rt: &HostRuntime, command: &Command) -> u8 {
-    match File::open(rt, command.file()) {
-        Ok(mut file) => run_command(
-            rt.alloc(),
-            command,
-            &mut file,
-            &mut rt.stdout(),
-            &mut rt.stderr(),
-        ),
-        Err(_) => fault(&mut rt.stderr(), 96),
+/// Runs the command on the file that it names, or on standard input.
+fn run_on_input(rt: &HostRuntime, command: &Command) -> u8 {
+    let alloc = rt.alloc();
+    let mut out = rt.stdout();
+    let mut err = rt.stderr();
+    match command.file() {
+        None => run_command(alloc, command, &mut rt.stdin(), &mut out, &mut err),
+        Some(path) => match File::open(rt, path) {
+            Ok(mut file) => run_command(alloc, command, &mut file, &mut out, &mut err),
+            Err(_) => fault(&mut err, 96),
+        },
     }
 }
 
@@ -50,7 +53,7 @@ fn status_of(rt: &HostRuntime) -> Result<u8, UsageFault> {
     let alloc = rt.alloc();
     let words = words_of(rt, alloc)?;
     let command = words::command(alloc, &words)?;
-    Ok(run_on_file(rt, &command))
+    Ok(run_on_input(rt, &command))
 }
 
 fn main(rt: HostRuntime) -> ExitCode {

@@ -1,5 +1,5 @@
 //! The lines that refusals and faults make, and the statuses that go with them.
-ghost use Rattle.std.specs.Prelude.{◌≡◌, ◌≢◌};
+ghost use Rattle.std.specs.Prelude.{◌≡◌, ◌≢◌, ◌⊎◌};
 ghost use Rattle.bpfrt.specs.declared.request.UsageFault.TheVariants.{Memory};
 
 use crate::request::UsageFault;
@@ -86,13 +86,14 @@ pub fn fault<W: Write>(err: &mut W, code: u8) -> u8
 /// Writes `refused C`, `refused C at S` for a slot or `fault C at L` for a line on standard error, or
 /// the fault where memory ran out, and answers the status.
 pub fn refused<W: Write>(err: &mut W, verdict: Verdict) -> u8
+    ensures status { (result ≡ 1) ⊎ (result ≡ 3) }
     ensures memory { verdict.code ≡ 13 → result ≡ 3 }
     ensures other { verdict.code ≢ 13 → result ≡ 1 }
 {
-    if verdict.code == MEMORY {
-        return fault(err, MEMORY);
-    }
     let code = verdict.code;
+    if code == MEMORY {
+        return fault(err, code);
+    }
     let _ = match (verdict.line, verdict.slot) {
         (Some(line), _) => writeln!(err, "fault {code} at {line}"),
         (None, Some(slot)) => writeln!(err, "refused {code} at {slot}"),

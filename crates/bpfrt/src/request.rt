@@ -10,6 +10,8 @@ pub enum Command {
     Check { file: String },
     /// Write the text of the program in a file.
     Disasm { file: String },
+    /// Answer the script on standard input.
+    Script,
 }
 
 /// Why the words are no command.
@@ -49,10 +51,11 @@ impl<T: Drop> From<AllocFailed<T>> for UsageFault {
 }
 
 impl Command {
-    /// The path of the file that the command reads.
-    pub fn file(&self) -> &str {
+    /// The path of the file that the command reads; none where it reads standard input.
+    pub fn file(&self) -> Option<&str> {
         match self {
-            Command::Check { file } | Command::Disasm { file } => file.as_str(),
+            Command::Check { file } | Command::Disasm { file } => Some(file.as_str()),
+            Command::Script => None,
         }
     }
 }

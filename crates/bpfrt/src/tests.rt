@@ -119,18 +119,17 @@ fn output(out: &[u8]) -> Wanted<'_> {
     }
 }
 
-/// Runs `check` or `disasm` on an input, and compares what it writes and answers.
+/// Runs a command on an input, and compares what it writes and answers.
 fn runs<R: Read>(
     rt: &impl Abort,
     alloc: Global,
-    disasm: bool,
+    command: &Command,
     input: &mut R,
     wanted: &Wanted<'_>,
 ) -> Result<(), Fail> {
-    let command = command_of(alloc, disasm)?;
     let mut out: Vec<u8> = Vec::new(alloc);
     let mut err: Vec<u8> = Vec::new(alloc);
-    let status = run_command(alloc, &command, input, &mut out, &mut err);
+    let status = run_command(alloc, command, input, &mut out, &mut err);
     assert_eq!(rt; err.as_slice(), wanted.err);
     assert_eq!(rt; out.as_slice(), wanted.out);
     assert_eq!(rt; status, wanted.status);
@@ -229,9 +228,10 @@ const REFUSED: [(&[u8], &[u8]); 37] = [
 
 #[test]
 fn files_that_are_refused(rt: HostRuntime) -> Result<(), Fail> {
+    let check = command_of(rt.alloc(), false)?;
     for (file, told) in REFUSED {
         let mut input = file;
-        runs(&rt, rt.alloc(), false, &mut input, &refusal(told))?;
+        runs(&rt, rt.alloc(), &check, &mut input, &refusal(told))?;
     }
     Ok(())
 }
@@ -284,7 +284,8 @@ const OUTPUTS: [(&[u8], bool, &[u8]); 10] = [
 fn outputs(rt: HostRuntime) -> Result<(), Fail> {
     for (file, disasm, out) in OUTPUTS {
         let mut input = file;
-        runs(&rt, rt.alloc(), disasm, &mut input, &output(out))?;
+        let command = command_of(rt.alloc(), disasm)?;
+        runs(&rt, rt.alloc(), &command, &mut input, &output(out))?;
     }
     Ok(())
 }
@@ -323,24 +324,25 @@ const LENGTHS: [(usize, &[u8]); 6] = [
 #[test]
 fn long_files(rt: HostRuntime) -> Result<(), Fail> {
     let alloc = rt.alloc();
+    let check = command_of(alloc, false)?;
     for (length, told) in LENGTHS {
         let bytes = moves(alloc, length)?;
-        runs(&rt, alloc, false, &mut bytes.as_slice(), &refusal(told))?;
+        runs(&rt, alloc, &check, &mut bytes.as_slice(), &refusal(told))?;
     }
     let maps = file_with_maps(alloc, 16)?;
-    runs(&rt, alloc, false, &mut maps.as_bytes(), &output(TWO_SLOTS))?;
+    runs(&rt, alloc, &check, &mut maps.as_bytes(), &output(TWO_SLOTS))?;
     let maps = file_with_maps(alloc, 17)?;
     let told = refusal(b"fault 94 at 19\n");
-    runs(&rt, alloc, false, &mut maps.as_bytes(), &told)?;
+    runs(&rt, alloc, &check, &mut maps.as_bytes(), &told)?;
     let mut slots = String::from_str(alloc, "bpfrt 1\nctx 0\ncode\n")?;
     for _ in 0..4097 {
         slots.push_str("b700000000000000\n")?;
     }
     let told = refusal(b"refused 3\n");
-    runs(&rt, alloc, false, &mut slots.as_bytes(), &told)?;
+    runs(&rt, alloc, &check, &mut slots.as_bytes(), &told)?;
     slots.push_str("b7\n")?;
     let told = refusal(b"fault 94 at 4101\n");
-    runs(&rt, alloc, false, &mut slots.as_bytes(), &told)
+    runs(&rt, alloc, &check, &mut slots.as_bytes(), &told)
 }
 
 /// A fault of reading, of writing or of memory.
@@ -355,26 +357,71 @@ fn fault(err: &[u8]) -> Wanted<'_> {
 #[test]
 fn streams(rt: HostRuntime) -> Result<(), Fail> {
     let alloc = rt.alloc();
-    runs(&rt, alloc, false, &mut Broken, &fault(b"fault 96\n"))?;
+    let check = command_of(alloc, false)?;
+    let unread = fault(b"fault 96\n");
+    runs(&rt, alloc, &check, &mut Broken, &unread)?;
+    runs(&rt, alloc, &Command::Script, &mut Broken, &unread)?;
     let mut endless = Endless { is_begun: false };
-    runs(&rt, alloc, false, &mut endless, &fault(b"fault 13\n"))?;
+    runs(&rt, alloc, &check, &mut endless, &fault(b"fault 13\n"))?;
     let mut halting = Halting {
         rest: &WIDE,
         is_interrupted: false,
     };
     let text = output(b"lddw r0, 8589934593\nexit\n");
-    runs(&rt, alloc, true, &mut halting, &text)?;
-    let command = command_of(alloc, false)?;
-    let mut err: Vec<u8> = Vec::new(alloc);
-    let mut input = EXIT_ONE.as_slice();
-    let status = run_command(alloc, &command, &mut input, &mut Broken, &mut err);
-    assert_eq!(rt; status, 3);
-    assert_eq!(rt; err.as_slice(), b"fault 97\n".as_slice());
+    runs(&rt, alloc, &command_of(alloc, true)?, &mut halting, &text)?;
+    let unwritten: [(&Command, &[u8]); 2] = [(&check, &EXIT_ONE), (&Command::Script, b"advance\n")];
+    for (command, bytes) in unwritten {
+        let mut err: Vec<u8> = Vec::new(alloc);
+        let mut input = bytes;
+        let status = run_command(alloc, command, &mut input, &mut Broken, &mut err);
+        assert_eq!(rt; status, 3);
+        assert_eq!(rt; err.as_slice(), b"fault 97\n".as_slice());
+    }
     // A broken standard error changes no status.
     let mut out: Vec<u8> = Vec::new(alloc);
     let mut input = EXIT.as_slice();
-    let status = run_command(alloc, &command, &mut input, &mut out, &mut Broken);
+    let status = run_command(alloc, &check, &mut input, &mut out, &mut Broken);
     assert_eq!(rt; status, 1);
+    Ok(())
+}
+
+/// A program that looks up key 0 of map 0, as a script loads it.
+const LOOKUP_LOADED: &[u8] = b"map m 4 8 4 4 100\n# the program\nload 0 \
+b7060000000000008520000001000000620afcff00000000bfa200000000000007020000fcffffff\
+185100000000000000000000000000008500000001000000150001000000000079060000000000008520000002000000\
+bf600000000000009500000000000000 m\nput  m 00000000 0500000000000000 0\n\nstart 0 -\nstep 0 7\n\
+del m 00000000\nadvance\nreap\nstep 0 2\nstep 0\nadvance\nreap\nstep 0 2\ndrop 0\ndrop 0";
+
+/// Scripts, their answers, and what is said where a line is no command.
+const SCRIPTS: [(&[u8], &[u8], &[u8]); 5] = [
+    (b"", b"", b""),
+    (
+        LOOKUP_LOADED,
+        b"map 0\nprog 0\nret 0\nrun 0\nmoved\nret 0\nok\nnone\nmoved\nmoved\nok\n\
+reaped m 00000000 free\nexit 5\nok\nrefused 60\n",
+        b"",
+    ),
+    (
+        b"load 0 9500000000000000\nstat\nmap m 4 8 1 0 2\nget m 00000000\nfly\nstat\n",
+        b"refused 23 at 0\nstat linked 0 unlinked 0 given 0 worn 0 runs 0 open 0\nrefused 56\n\
+refused 65\n",
+        b"fault 95 at 5\n",
+    ),
+    (b" stat\n", b"", b"fault 95 at 1\n"),
+    (b"step 0 4097", b"", b"fault 95 at 1\n"),
+];
+
+#[test]
+fn scripts(rt: HostRuntime) -> Result<(), Fail> {
+    for (script, out, err) in SCRIPTS {
+        let mut input = script;
+        let wanted = Wanted {
+            status: if err.is_empty() { 0 } else { 1 },
+            out,
+            err,
+        };
+        runs(&rt, rt.alloc(), &Command::Script, &mut input, &wanted)?;
+    }
     Ok(())
 }
 
@@ -395,19 +442,25 @@ fn asked(rt: &impl Abort, alloc: Global, texts: &[&str]) -> Result<Result<Comman
 }
 
 /// Words that are no command, and what is said of them.
-const NO_COMMANDS: [(&[&str], &[&str]); 9] = [
+const NO_COMMANDS: [(&[&str], &[&str]); 12] = [
     (&["bpfrt"], &["Usage: bpfrt"]),
     (&["bpfrt", "chekc", "a"], &["'chekc'", "'check'"]),
     (&["bpfrt", "check"], &["<FILE>"]),
     (&["bpfrt", "check", "a", "b"], &["'b'"]),
     (&["bpfrt", "verify", "a"], &["'verify'"]),
-    (&["bpfrt", "--help"], &["check", "disasm"]),
-    (&["bpfrt", "help"], &["check", "disasm"]),
+    (&["bpfrt", "--help"], &["check", "disasm", "script"]),
+    (&["bpfrt", "help"], &["check", "disasm", "script"]),
+    (&["bpfrt", "scirpt"], &["'scirpt'", "'script'"]),
+    (&["bpfrt", "script", "a"], &["'a'"]),
     (
         &["bpfrt", "check", "--help"],
         &["accepted 33 instructions 35 slots", "fault 94 at L"],
     ),
     (&["bpfrt", "disasm", "--help"], &["mov64 r0, 1"]),
+    (
+        &["bpfrt", "script", "--help"],
+        &["fault 95 at L", "bpfrt script"],
+    ),
 ];
 
 #[test]
@@ -427,6 +480,12 @@ fn words_of_commands(rt: HostRuntime) -> Result<(), Fail> {
     assert!(rt; matches!(&check, Ok(Command::Check { file }) if file.as_str() == "a.bpf"));
     let disasm = asked(&rt, alloc, &["bpfrt", "disasm", "b.bpf"])?;
     assert!(rt; matches!(&disasm, Ok(Command::Disasm { file }) if file.as_str() == "b.bpf"));
+    assert!(rt;
+        matches!(
+            asked(&rt, alloc, &["bpfrt", "script"])?,
+            Ok(Command::Script)
+        )
+    );
     let mut err: Vec<u8> = Vec::new(alloc);
     assert_eq!(rt; no_command(&mut err, &UsageFault::NotText), 2);
     assert_eq!(rt; no_command(&mut err, &UsageFault::Memory), 3);

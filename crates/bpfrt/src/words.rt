@@ -57,6 +57,26 @@ fn file_argument<'a>(alloc: Global) -> Arg<'a> {
         .action(ArgAction::Set)
 }
 
+/// Behind the words of `bpfrt script --help`.
+const SCRIPT_HELP: &str = "\
+Reads a script from standard input to its end, one command a line (docs/SCRIPTS.md): maps and programs,
+then what happens to them.
+
+Prints the answer to each command, `refused C` among them. Each answer is out before the next line is
+waited for.
+
+Status, and the line on standard error:
+  0  the input has ended; also where answers were refusals
+  1  fault 95 at L               line L of the script is no command
+  2  usage
+  3  fault 13, 96, 97            out of memory; the input or the output failed
+
+Example:
+  $ printf 'map m 4 8 1 0 2\\nput m 00000000 0500000000000000 0\\nget m 00000000\\n' | bpfrt script
+  map 0
+  ret 0
+  value 0500000000000000";
+
 /// The grammar of the words.
 fn grammar<'a>(alloc: Global) -> Result<clap::Command<'a>, AllocError> {
     let check = clap::Command::new(alloc, "check")
@@ -67,12 +87,16 @@ fn grammar<'a>(alloc: Global) -> Result<clap::Command<'a>, AllocError> {
         .about("Writes the text of the program in FILE, one instruction a line")
         .after_help(DISASM_HELP)
         .arg(file_argument(alloc))?;
+    let script = clap::Command::new(alloc, "script")
+        .about("Answers the script on standard input")
+        .after_help(SCRIPT_HELP);
     clap::Command::new(alloc, "bpfrt")
         .about("An eBPF runtime with proved contracts")
         .after_help(HELP)
         .subcommand_required(true)
         .subcommand(check)?
-        .subcommand(disasm)
+        .subcommand(disasm)?
+        .subcommand(script)
 }
 
 fn usage(alloc: Global, error: &clap::Error) -> UsageFault {
@@ -107,6 +131,7 @@ pub fn command<'a>(alloc: Global, words: &'a [String]) -> Result<Command, UsageF
         Some(("disasm", matches)) => Ok(Command::Disasm {
             file: file_of(alloc, matches)?,
         }),
+        Some(("script", _)) => Ok(Command::Script),
         _ => Err(UsageFault::Usage(String::from_str(alloc, "a command is missing")?)),
     }
 }

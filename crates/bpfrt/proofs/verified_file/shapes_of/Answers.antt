@@ -1,8 +1,8 @@
 use Rattle.std.proofs.Common.{◌++◌, ◌∷◌, [], List, ap, ◌∙◌, arith}
 use Rattle.bpf_model.specs.declared.limits.MapShape.{MapShape}
 use Rattle.bpfrt.proofs.Shapes.{shape_found, shape_missing}
-use Rattle.bpfrt.proofs.run.shapes_of.Goals as goal
-use Rattle.bpfrt.proofs.run.shapes_of.Goals.{in-Some+in_ok-push, in_default}
+use Rattle.bpfrt.proofs.verified_file.shapes_of.Goals as goal
+use Rattle.bpfrt.proofs.verified_file.shapes_of.Goals.{in-Some+in_ok-push, in_default}
 
 pub loop-number-preserved : goal.loop-number-preserved
 loop-number-preserved c =

@@ -1,0 +1,25 @@
+-- What `script` writes, of which input.
+use Rattle.std.specs.Prelude.{◌≡◌, ℕ, List, ◌++◌, Option}
+use Rattle.std.specs.Io.KnownBytes.{Appends}
+use Rattle.control.specs.declared.session.Session.{Session}
+use Rattle.control.specs.Sessions.{LineAnswers, IsNoCommand, new_session}
+use Rattle.script_stream.specs.Answered.{Answered, AnsweredBefore}
+use Rattle.script_stream.specs.Lines.{lines_of}
+
+-- It adds the answers to all lines of the input, one after another.
+pub record AnswersAll (old new : Option (List ℕ)) (bytes : List ℕ) : Type 0 where
+  pub text : List ℕ
+  pub last : Session
+  pub answered : Answered LineAnswers new_session (lines_of bytes) text last
+  pub written : Appends old new text
+
+-- A line of the input is too long or no command. It adds the answers to the lines before, and
+-- nothing else.
+pub record AnswersBefore (old new : Option (List ℕ)) (bytes : List ℕ) : Type 0 where
+  pub read : List ℕ
+  pub rest : List ℕ
+  pub bytes_are : bytes ≡ read ++ rest
+  pub line : ℕ
+  pub text : List ℕ
+  pub answered : AnsweredBefore LineAnswers IsNoCommand new_session read line text
+  pub written : Appends old new text

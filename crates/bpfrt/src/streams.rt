@@ -1,0 +1,43 @@
+//! Streams that fail, and what is written whole.
+ghost use Rattle.std.specs.Prelude.{◌≡◌, OnOk, MatchResult};
+ghost use Rattle.std.specs.Io.KnownBytes.{Appends};
+
+use crate::report::{MEMORY, fault};
+use std::io;
+use std::io::{ErrorKind, Write};
+
+/// On which side of the program a stream failed.
+#[derive(Clone, Copy)]
+pub enum Side {
+    Input,
+    Output,
+}
+
+/// The fault of a stream: want of memory, or that of its side.
+pub fn stream_fault(error: &io::Error, side: Side) -> u8 {
+    if error.kind() == ErrorKind::OutOfMemory {
+        return MEMORY;
+    }
+    match side {
+        Side::Input => 96,
+        Side::Output => 97,
+    }
+}
+
+/// Writes a text, and hands it on.
+pub fn write_text<W: Write>(out: &mut W, text: &[u8]) -> io::Result<()>
+    ensures { OnOk result (Appends (W.contents out.old) (W.contents out.new) text.now) }
+{
+    out.write_all(text)?;
+    out.flush()
+}
+
+/// The status of an output that was written, or whose writing failed.
+pub fn written<E: Write>(err: &mut E, outcome: io::Result<()>) -> u8
+    ensures { MatchResult outcome (λ _. result ≡ 0) (λ _. result ≡ 3) }
+{
+    match outcome {
+        Ok(()) => 0,
+        Err(error) => fault(err, stream_fault(&error, Side::Output)),
+    }
+}

@@ -1,0 +1,57 @@
+//! A file's program, verified with the file's maps and its context.
+ghost use Rattle.std.specs.Prelude.{◌≡◌, ◌≤◌, length, IfOk, IfErr};
+ghost use Rattle.bpf_model.specs.Plain.{IsPlain};
+ghost use Rattle.bpf_model.specs.PlainMaps.{IsPlainWithMaps};
+ghost use Rattle.bpf_model.specs.declared.limits.TheConstants.{CTX_BYTES, MAX_MAPS};
+ghost use Rattle.typed_runs.specs.Verified.{IsVerified};
+ghost use Rattle.verifier.specs.Verdict.{IsToldOf, IsAccepted as IsTaken};
+ghost use Rattle.bpfrt.specs.Outputs.{shapes_in};
+
+use crate::program_file::Source;
+use bpf_model::{MapId, MapShape};
+use maps::Registry;
+use std::alloc::{AllocError, Global};
+use verifier::{Refusal, Verified, verify};
+
+/// The shapes of a registry's maps, by their numbers.
+fn shapes_of(alloc: Global, registry: &Registry) -> Result<Vec<MapShape>, AllocError>
+    ensures shapes { IfOk result (λ v. v.items ≡ shapes_in registry.now) }
+    ensures limit { IfOk result (λ v. length v.items ≤ MAX_MAPS) }
+{
+    let mut shapes = Vec::new(alloc);
+    for number in 0..registry.len() {
+        if let Some(shape) = registry.shape(MapId::new(number)) {
+            shapes.push(shape)?;
+        }
+    }
+    Ok(shapes)
+}
+
+/// A verified program, and the maps of the shapes that it was verified with.
+#[derive(Drop)]
+pub struct VerifiedSource {
+    pub verified: Verified,
+    pub registry: Registry,
+}
+
+/// Verifies a file's program with its maps and its context.
+pub fn verify_source(alloc: Global, source: Source) -> Result<VerifiedSource, Refusal>
+    requires { source.ctx_len ≤ CTX_BYTES }
+    ensures program { IfOk result (λ v. v.verified.program ≡ source.program) }
+    ensures shapes { IfOk result (λ v. v.verified.shapes ≡ shapes_in source.registry) }
+    ensures context { IfOk result (λ v. v.verified.ctx_len ≡ source.ctx_len) }
+    ensures registry { IfOk result (λ v. v.registry ≡ source.registry) }
+    ensures verified { IfOk result (λ v.
+        IsVerified source.program (shapes_in source.registry) source.ctx_len) }
+    ensures told { IfErr result (IsToldOf source.program) }
+    ensures plain { IsPlain source.program → IsTaken result }
+    ensures plain_with_maps { IsPlainWithMaps source.program (shapes_in source.registry) →
+        IsTaken result }
+{
+    let shapes = shapes_of(alloc, &source.registry)?;
+    let verified = verify(alloc, source.program, &shapes, source.ctx_len)?;
+    Ok(VerifiedSource {
+        verified,
+        registry: source.registry,
+    })
+}

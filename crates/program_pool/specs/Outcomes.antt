@@ -1,0 +1,29 @@
+-- The jobs that a pool is given, and what their outcomes say of the program.
+use Rattle.std.specs.Prelude.{◌≡◌, ℕ, List, replicate, ⊤}
+use Rattle.bpf_model.specs.declared.insn.Insn.{Insn}
+use Rattle.bpf_model.specs.Exit.{HasNoMaps}
+use Rattle.exit_laws.specs.Exits.{MayExitAs, ExitsAs}
+use Rattle.worker_pool.specs.declared.job.Job.{Job}
+use Rattle.worker_pool.specs.declared.job.JobReport.{JobReport}
+use Rattle.worker_pool.specs.declared.job.Outcome.{Outcome}
+use Rattle.worker_pool.specs.declared.job.Outcome.TheVariants.{Exit, Stopped}
+use Rattle.worker_pool.specs.declared.job.Trail.{Trail}
+
+-- a job of program 0 on a context of so many zeros
+pub record IsZeroJob (context_len : ℕ) (job : Job) : Type 0 where
+  pub prog : job.prog ≡ 0
+  pub context : job.ctx.items ≡ replicate context_len 0
+
+-- The program may exit with this value on a context of so many zeros; without map references it
+-- does, and with no other, whatever other runs do.
+pub record IsZeroExit (program : List Insn) (context_len n : ℕ) : Type 0 where
+  pub may : MayExitAs program (replicate context_len 0) n
+  pub alone : HasNoMaps program → ExitsAs program (replicate context_len 0) n
+
+-- a job that has exited has exited with such a value
+abbrev pub IsOutcomeOf : List Insn → ℕ → Outcome → Type 0
+IsOutcomeOf program context_len (Exit n) = IsZeroExit program context_len n
+IsOutcomeOf program context_len (Stopped run cause) = ⊤
+
+abbrev pub IsReportOf : List Insn → ℕ → JobReport Trail → Type 0
+IsReportOf program context_len report = IsOutcomeOf program context_len report.outcome

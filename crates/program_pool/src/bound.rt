@@ -1,0 +1,46 @@
+//! The world of one program, which is bound to all maps.
+ghost use Rattle.std.specs.Prelude.{◌≡◌, ◌≤◌, ◌∷◌, [], length, map, IfOk};
+ghost use Rattle.bpf_model.specs.declared.limits.TheConstants.{MAX_MAPS};
+ghost use Rattle.bpf_model.specs.View.{new_map_view};
+ghost use Rattle.journal_laws.specs.Replay.{HasNoRuns};
+ghost use Rattle.world.specs.Bound.{shapes_in};
+ghost use Rattle.world_invariant.specs.Binding.{IsBoundTo};
+
+use arrayvec::ArrayVec;
+use bpf_model::{MAX_MAPS, MapShape};
+use maps::Registry;
+use std::alloc::{AllocError, Global};
+use verifier::Verified;
+use world::{World, WorldFault};
+use world_parts::Loaded;
+
+/// The numbers of so many maps, each under its own.
+fn all_maps(shapes: &[MapShape]) -> ArrayVec<usize, MAX_MAPS>
+    requires { length shapes.now ≤ MAX_MAPS }
+    ensures { IsBoundTo shapes.now shapes.now result.items }
+{
+    let mut maps = ArrayVec::new();
+    for number in 0..shapes.len() {
+        maps.push(number);
+    }
+    maps
+}
+
+/// A world of these maps, in which nothing has happened, with one program that is bound to all of them, the
+/// first to its map 0. The error is that there is no memory left.
+pub fn world_of(alloc: Global, registry: Registry, verified: Verified) -> Result<World, AllocError>
+    requires new_maps { registry.maps ≡ map new_map_view (shapes_in registry.maps) }
+    requires shapes { verified.shapes ≡ shapes_in registry.maps }
+    ensures codes { IfOk result (λ w. map (λ l. l.code) w.programs ≡ verified.program ∷ []) }
+    ensures quiet { IfOk result HasNoRuns }
+{
+    let _count = registry.len();
+    let maps = all_maps(verified.shapes());
+    let mut programs = Vec::new(alloc);
+    programs.push(Loaded { verified, maps })?;
+    match World::new(alloc, registry, programs) {
+        Ok(world) => Ok(world),
+        Err(WorldFault::Memory) => Err(AllocError),
+        Err(_) => unreachable!(),
+    }
+}
