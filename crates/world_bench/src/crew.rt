@@ -6,7 +6,7 @@ use crate::activity::{Activity, Deed, Stepped, small};
 use crate::decimal::{Decimal, quotient};
 use crate::sequence::Sequence;
 use crate::setup::{key_of, make_world};
-use anyhow::{Result, bail, ensure};
+use anyhow::{Result, bail};
 use bpf_model::{Answer, CtxBytes, Event, MapId, ProgId, RunId};
 use shared::{Shared, Worker, is_quiet};
 use std::alloc::Global;
@@ -205,23 +205,23 @@ pub fn time_per_call<L: Ledger + Send + Sync, R: Threads + Wait + Clock + Sync>(
     rt: &R,
     alloc: Global,
     blank: Blank,
-    crew: &Crew,
+    task: Task,
+    workers: u8,
 ) -> Result<Decimal>
     requires name { blank.name ≡ L.name }
-    requires parts { (blank.parts ≡ L.parts) × (blank.parts ≡ crew.now.workers) }
-    requires workers { (0 < crew.now.workers) × (crew.now.workers ≤ MAX_WORKERS) }
+    requires parts { (blank.parts ≡ L.parts) × (blank.parts ≡ workers) }
+    requires workers { (0 < workers) × (workers ≤ MAX_WORKERS) }
 {
     let world = make_world(alloc, &activity())?;
     if !is_quiet(&world) {
         bail!("a run was left");
     }
-    let (shared, mut workers, _) = Shared::<L>::new(alloc, world, crew.workers, blank)?;
+    let (shared, mut hands, _) = Shared::<L>::new(alloc, world, workers, blank)?;
     let mut best = Duration::MAX;
     for _ in 0..BATCHES {
-        let time = time_of(rt, &shared, &mut workers.list, crew.task, CALLS)?;
+        let time = time_of(rt, &shared, &mut hands.list, task, CALLS)?;
         best = best.min(time);
     }
-    let calls = u128::from(CALLS) * u128::from(crew.workers);
-    ensure!(calls > 0, "no calls");
+    let calls = u128::from(CALLS) * u128::from(workers);
     Ok(quotient(best.as_nanos(), calls))
 }

@@ -14,7 +14,7 @@ use std::rt::Clock;
 use std::time::{Duration, Instant};
 
 /// How many times a script stores a value, reads it, and makes a step of a run.
-const ROUNDS: u128 = 4000;
+const ROUNDS: u32 = 4000;
 
 /// How many times the script is timed. The quickest counts.
 const BATCHES: u32 = 5;
@@ -84,5 +84,5 @@ pub fn time_per_line(clock: &impl Clock, alloc: Global) -> Result<Decimal> {
     for _ in 0..BATCHES {
         best = best.min(time_of_script(clock, alloc, &text)?);
     }
-    Ok(quotient(best.as_nanos(), 3 * ROUNDS))
+    Ok(quotient(best.as_nanos(), 3 * u128::from(ROUNDS)))
 }

@@ -59,11 +59,16 @@ fn print_times(rt: &HostRuntime) -> Result<()> {
 }
 
 /// The line of a crew: the nanoseconds of one call.
-fn crew_line<R: Threads + Wait + Clock + Sync>(rt: &R, alloc: Global, crew: &Crew) -> Result<String>
-    requires { (0 < crew.now.workers) × (crew.now.workers ≤ MAX_WORKERS) }
+fn crew_line<R: Threads + Wait + Clock + Sync>(
+    rt: &R,
+    alloc: Global,
+    crew: &Crew,
+    workers: u8,
+) -> Result<String>
+    requires { (0 < workers) × (workers ≤ MAX_WORKERS) }
 {
-    let blank = Blank::new(crew.workers.into());
-    let time = time_per_call::<Brand, _>(rt, alloc, blank, crew)?;
+    let blank = Blank::new(u64::from(workers));
+    let time = time_per_call::<Brand, R>(rt, alloc, blank, crew.task, workers)?;
     Ok(measurement_line(alloc, crew.name, time)?)
 }
 
@@ -71,8 +76,9 @@ fn crew_line<R: Threads + Wait + Clock + Sync>(rt: &R, alloc: Global, crew: &Cre
 fn shared_lines<R: Threads + Wait + Clock + Sync>(rt: &R, alloc: Global) -> Result<Vec<String>> {
     let mut lines = Vec::new(alloc);
     for crew in crews() {
-        if crew.workers >= 1 && crew.workers <= MAX_WORKERS {
-            lines.push(crew_line(rt, alloc, &crew)?)?;
+        let workers = crew.workers;
+        if workers >= 1 && workers <= MAX_WORKERS {
+            lines.push(crew_line(rt, alloc, &crew, workers)?)?;
         }
     }
     Ok(lines)
@@ -86,14 +92,26 @@ const POOLS: [(u8, &str); 4] = [
     (8, "pool_job_by_8"),
 ];
 
+/// The line of a pool: the nanoseconds of one job.
+fn pool_line<R: Threads + Wait + Clock + Sync>(
+    rt: &R,
+    alloc: Global,
+    name: &str,
+    workers: u8,
+) -> Result<String>
+    requires { (0 < workers) × (workers ≤ MAX_WORKERS) }
+{
+    let blank = Blank::new(u64::from(workers));
+    let time = time_per_job::<Brand, R>(rt, alloc, blank, workers)?;
+    Ok(measurement_line(alloc, name, time)?)
+}
+
 /// Times the jobs of each number of workers.
 fn pool_lines<R: Threads + Wait + Clock + Sync>(rt: &R, alloc: Global) -> Result<Vec<String>> {
     let mut lines = Vec::new(alloc);
     for (workers, name) in POOLS {
         if workers >= 1 && workers <= MAX_WORKERS {
-            let blank = Blank::new(workers.into());
-            let time = time_per_job::<Brand, _>(rt, alloc, blank, workers)?;
-            lines.push(measurement_line(alloc, name, time)?)?;
+            lines.push(pool_line(rt, alloc, name, workers)?)?;
         }
     }
     Ok(lines)

@@ -17,7 +17,7 @@ use std::time::{Duration, Instant};
 use worker_pool::{Job, run_jobs};
 
 /// How many jobs a batch has. Each is a lookup: a start, 12 steps, its exit value and its drop.
-const JOBS: u128 = 2000;
+const JOBS: u32 = 2000;
 
 /// How many batches are timed. The quickest counts.
 const BATCHES: u32 = 5;
@@ -76,5 +76,5 @@ pub fn time_per_job<L: Ledger + Send + Sync, R: Threads + Wait + Clock + Sync>(
         let time = time_of_jobs(rt, alloc, &shared, &mut hands, &jobs, workers)?;
         best = best.min(time);
     }
-    Ok(quotient(best.as_nanos(), JOBS))
+    Ok(quotient(best.as_nanos(), u128::from(JOBS)))
 }
