@@ -1,3 +1,5 @@
+pub mod NewMaps
+pub mod Pooled
 pub mod Raw
 pub mod Reading
 pub mod Shapes

@@ -1,6 +1,7 @@
 //! `bpfrt`: the command line over the runtime.
 #![tactic(auto)]
 
+mod pool;
 mod program_file;
 mod report;
 mod request;
@@ -18,16 +19,19 @@ use std::env;
 use std::fs::File;
 use std::io::ErrorKind;
 use std::process::ExitCode;
+use std::sync::Wait;
+use std::thread::Threads;
 
-/// Runs the command on the file that it names, or on standard input.
-fn run_on_input(rt: &HostRuntime, command: &Command) -> u8 {
+/// Runs the command on the file that it names, or on standard input. The handle for threads and for
+/// waiting is the runtime again.
+fn run_on_input<H: Threads + Wait + Sync>(rt: &HostRuntime, threads: &H, command: &Command) -> u8 {
     let alloc = rt.alloc();
     let mut out = rt.stdout();
     let mut err = rt.stderr();
     match command.file() {
-        None => run_command(alloc, command, &mut rt.stdin(), &mut out, &mut err),
+        None => run_command(threads, alloc, command, &mut rt.stdin(), &mut out, &mut err),
         Some(path) => match File::open(rt, path) {
-            Ok(mut file) => run_command(alloc, command, &mut file, &mut out, &mut err),
+            Ok(mut file) => run_command(threads, alloc, command, &mut file, &mut out, &mut err),
             Err(_) => fault(&mut err, 96),
         },
     }
@@ -49,15 +53,15 @@ fn words_of(rt: &HostRuntime, alloc: Global) -> Result<Vec<String>, UsageFault> 
 }
 
 /// Runs the command that the words ask for, and answers the exit status.
-fn status_of(rt: &HostRuntime) -> Result<u8, UsageFault> {
+fn status_of<H: Threads + Wait + Sync>(rt: &HostRuntime, threads: &H) -> Result<u8, UsageFault> {
     let alloc = rt.alloc();
     let words = words_of(rt, alloc)?;
     let command = words::command(alloc, &words)?;
-    Ok(run_on_input(rt, &command))
+    Ok(run_on_input(rt, threads, &command))
 }
 
 fn main(rt: HostRuntime) -> ExitCode {
-    let status = match status_of(&rt) {
+    let status = match status_of(&rt, &rt) {
         Ok(status) => status,
         Err(usage) => no_command(&mut rt.stderr(), &usage),
     };

@@ -1,8 +1,9 @@
 //! The bytes of a program file, read in bounded memory where it is raw, and what they say.
-ghost use Rattle.std.specs.Prelude.{◌≡◌, List, [], ℕ, ◌++◌, ◌≤◌, length, IfOk, IfErr, IfSome, OnOk};
+ghost use Rattle.std.specs.Prelude.{◌≡◌, List, [], ℕ, ◌++◌, ◌≤◌, length, map, IfOk, IfErr, IfSome, OnOk};
 ghost use Rattle.bpf_model.specs.declared.limits.TheConstants.{CTX_BYTES};
 ghost use Rattle.bpfrt.specs.Files.{HoldsBytes};
-ghost use Rattle.bpfrt.specs.Outputs.{IsSourceOf, IsDecodeRefusal};
+ghost use Rattle.bpf_model.specs.View.{new_map_view};
+ghost use Rattle.bpfrt.specs.Outputs.{shapes_in, IsSourceOf, IsDecodeRefusal};
 
 use crate::report::Verdict;
 use bpf_model::MAX_SLOTS;
@@ -41,6 +42,7 @@ pub enum FileBytes {
 fn source_of(alloc: Global, bytes: &[u8]) -> Result<Source, Verdict>
     ensures found { IfOk result (IsSourceOf bytes.now) }
     ensures limit { IfOk result (λ s. s.ctx_len ≤ CTX_BYTES) }
+    ensures maps { IfOk result (λ s. s.registry.maps ≡ map new_map_view (shapes_in s.registry)) }
     ensures fault { IfErr result (IsDecodeRefusal bytes.now) }
 {
     let file = load(alloc, bytes)?;
@@ -89,6 +91,9 @@ impl FileBytes {
         ensures found { (bytes : List ℕ) → HoldsBytes self.now bytes →
             IfOk result (IsSourceOf bytes) }
         ensures limit { IfOk result (λ s. s.ctx_len ≤ CTX_BYTES) }
+        // Nothing has happened to its maps.
+        ensures maps { IfOk result (λ s.
+            s.registry.maps ≡ map new_map_view (shapes_in s.registry)) }
         ensures fault { (bytes : List ℕ) → HoldsBytes self.now bytes →
             IfErr result (IsDecodeRefusal bytes) }
     {

@@ -5,6 +5,7 @@ ghost use Rattle.bpfrt.specs.declared.request.UsageFault.TheVariants.{Memory};
 use crate::request::UsageFault;
 use insn_codec::DecodeFault;
 use loader::LoadFault;
+use program_pool::PoolFault;
 use std::alloc::AllocError;
 use std::io::Write;
 use verifier::Refusal;
@@ -20,6 +21,9 @@ pub struct Verdict {
 
 /// The number of want of memory.
 pub const MEMORY: u8 = 13;
+
+/// The number of a job's result that is lost.
+const LOST: u8 = 92;
 
 impl From<DecodeFault> for Verdict {
     ghost use Rattle.bpfrt.specs.Verdicts.{IsDecodeVerdict};
@@ -63,6 +67,20 @@ impl From<LoadFault> for Verdict {
     }
 }
 
+impl From<PoolFault> for Verdict {
+    ghost use Rattle.bpfrt.specs.Verdicts.{IsPoolFaultVerdict};
+
+    ghost from_gives = { IsPoolFaultVerdict };
+
+    fn from(fault: PoolFault) -> Verdict {
+        Verdict {
+            code: fault.code(),
+            slot: None,
+            line: None,
+        }
+    }
+}
+
 impl From<AllocError> for Verdict {
     ghost from_gives = { λ _ v. v.code ≡ 13 };
 
@@ -84,14 +102,15 @@ pub fn fault<W: Write>(err: &mut W, code: u8) -> u8
 }
 
 /// Writes `refused C`, `refused C at S` for a slot or `fault C at L` for a line on standard error, or
-/// the fault where memory ran out, and answers the status.
+/// the fault where memory ran out or a result was lost, and answers the status.
 pub fn refused<W: Write>(err: &mut W, verdict: Verdict) -> u8
     ensures status { (result ≡ 1) ⊎ (result ≡ 3) }
     ensures memory { verdict.code ≡ 13 → result ≡ 3 }
-    ensures other { verdict.code ≢ 13 → result ≡ 1 }
+    ensures lost { verdict.code ≡ 92 → result ≡ 3 }
+    ensures other { verdict.code ≢ 13 → verdict.code ≢ 92 → result ≡ 1 }
 {
     let code = verdict.code;
-    if code == MEMORY {
+    if code == MEMORY || code == LOST {
         return fault(err, code);
     }
     let _ = match (verdict.line, verdict.slot) {

@@ -7,11 +7,21 @@ use thiserror::Error;
 #[derive(Debug, Drop)]
 pub enum Command {
     /// Verify the program in a file and say how long it is.
-    Check { file: String },
+    Check {
+        file: String,
+    },
     /// Write the text of the program in a file.
-    Disasm { file: String },
+    Disasm {
+        file: String,
+    },
     /// Answer the script on standard input.
     Script,
+    /// Run the program in a file so many times by so many workers.
+    Pool {
+        workers: u64,
+        file: String,
+        count: u64,
+    },
 }
 
 /// Why the words are no command.
@@ -54,7 +64,9 @@ impl Command {
     /// The path of the file that the command reads; none where it reads standard input.
     pub fn file(&self) -> Option<&str> {
         match self {
-            Command::Check { file } | Command::Disasm { file } => Some(file.as_str()),
+            Command::Check { file } | Command::Disasm { file } | Command::Pool { file, .. } => {
+                Some(file.as_str())
+            }
             Command::Script => None,
         }
     }

@@ -5,6 +5,7 @@ ghost use Rattle.bpfrt.specs.Files.{HoldsBytes};
 ghost use Rattle.bpfrt.specs.Outputs.{IsAcceptedFile, IsTextOf, IsDecodeRefusal, IsCheckedRefusal, IsRefusedByDecode, IsRefusedByCheck, accepted_line, WritesAccepted, WritesText};
 ghost use Rattle.bpfrt.specs.Commands.{ReadsFile, Refuses, Writes};
 
+use crate::pool::{PoolSize, run_pool};
 use crate::program_file::{FileBytes, read_file};
 use crate::report::{Verdict, fault, refused};
 use crate::request::Command;
@@ -15,6 +16,8 @@ use disasm::disassemble;
 use std::alloc::Global;
 use std::io;
 use std::io::{Read, Write};
+use std::sync::Wait;
+use std::thread::Threads;
 
 /// How long an accepted program is.
 #[derive(Clone, Copy)]
@@ -109,12 +112,13 @@ fn run_disasm<R: Read, W: Write, E: Write>(
 }
 
 /// Runs a command on its input, its file's bytes or a script, and answers the exit status: 0 fine, 1
-/// refused or a line that is wrong, 3 a fault of memory (13), of reading (96) or of writing (97). A
-/// refusal or a fault is one line on `err`. After a refusal of a file nothing was written on `out`,
-/// and before a line of a script that is no command (95) the answers to the lines before it; after a
-/// fault of writing a part may have been. Which fault it was, and that there was one, no clause says:
-/// status 3 tells nothing.
-pub fn run<R: Read, W: Write, E: Write>(
+/// refused or a line that is wrong, 3 a fault of memory (13), of a job's result (92), of reading (96)
+/// or of writing (97). A refusal or a fault is one line on `err`. After a refusal of a file nothing
+/// was written on `out`, and after line L of a script is wrong (95) the answers of the lines before;
+/// after a fault of writing a part may have been. Which fault it was, and that there was one, no
+/// clause says: status 3 tells nothing. That a pool returns is not claimed: it waits for a lock.
+pub fn run<H: Threads + Wait + Sync, R: Read, W: Write, E: Write>(
+    rt: &H,
     alloc: Global,
     command: &Command,
     input: &mut R,
@@ -132,5 +136,12 @@ pub fn run<R: Read, W: Write, E: Write>(
         Command::Check { .. } => run_check(alloc, input, out, err),
         Command::Disasm { .. } => run_disasm(alloc, input, out, err),
         Command::Script => run_lines(alloc, input, out, err),
+        Command::Pool { workers, count, .. } => {
+            let size = PoolSize {
+                workers: *workers,
+                count: *count,
+            };
+            run_pool(rt, alloc, size, input, out, err)
+        }
     }
 }

@@ -6,7 +6,9 @@ use std::alloc::Global;
 use std::io;
 use std::io::{Read, Write};
 use std::process::Abort;
+use std::sync::Wait;
 use std::test::Fail;
+use std::thread::Threads;
 
 const EXIT_ONE: [u8; 16] = [0xb7, 0, 0, 0, 1, 0, 0, 0, 0x95, 0, 0, 0, 0, 0, 0, 0];
 
@@ -119,9 +121,19 @@ fn output(out: &[u8]) -> Wanted<'_> {
     }
 }
 
+/// `pool` of a file.
+fn pool_of(alloc: Global, workers: u64, count: u64) -> Result<Command, Fail> {
+    let file = String::from_str(alloc, "program")?;
+    Ok(Command::Pool {
+        workers,
+        file,
+        count,
+    })
+}
+
 /// Runs a command on an input, and compares what it writes and answers.
-fn runs<R: Read>(
-    rt: &impl Abort,
+fn runs<H: Threads + Wait + Abort + Sync, R: Read>(
+    rt: &H,
     alloc: Global,
     command: &Command,
     input: &mut R,
@@ -129,7 +141,7 @@ fn runs<R: Read>(
 ) -> Result<(), Fail> {
     let mut out: Vec<u8> = Vec::new(alloc);
     let mut err: Vec<u8> = Vec::new(alloc);
-    let status = run_command(alloc, command, input, &mut out, &mut err);
+    let status = run_command(rt, alloc, command, input, &mut out, &mut err);
     assert_eq!(rt; err.as_slice(), wanted.err);
     assert_eq!(rt; out.as_slice(), wanted.out);
     assert_eq!(rt; status, wanted.status);
@@ -361,6 +373,7 @@ fn streams(rt: HostRuntime) -> Result<(), Fail> {
     let unread = fault(b"fault 96\n");
     runs(&rt, alloc, &check, &mut Broken, &unread)?;
     runs(&rt, alloc, &Command::Script, &mut Broken, &unread)?;
+    runs(&rt, alloc, &pool_of(alloc, 1, 1)?, &mut Broken, &unread)?;
     let mut endless = Endless { is_begun: false };
     runs(&rt, alloc, &check, &mut endless, &fault(b"fault 13\n"))?;
     let mut halting = Halting {
@@ -369,18 +382,22 @@ fn streams(rt: HostRuntime) -> Result<(), Fail> {
     };
     let text = output(b"lddw r0, 8589934593\nexit\n");
     runs(&rt, alloc, &command_of(alloc, true)?, &mut halting, &text)?;
-    let unwritten: [(&Command, &[u8]); 2] = [(&check, &EXIT_ONE), (&Command::Script, b"advance\n")];
+    let unwritten: [(&Command, &[u8]); 3] = [
+        (&check, &EXIT_ONE),
+        (&Command::Script, b"advance\n"),
+        (&pool_of(alloc, 1, 1)?, &EXIT_ONE),
+    ];
     for (command, bytes) in unwritten {
         let mut err: Vec<u8> = Vec::new(alloc);
         let mut input = bytes;
-        let status = run_command(alloc, command, &mut input, &mut Broken, &mut err);
+        let status = run_command(&rt, alloc, command, &mut input, &mut Broken, &mut err);
         assert_eq!(rt; status, 3);
         assert_eq!(rt; err.as_slice(), b"fault 97\n".as_slice());
     }
     // A broken standard error changes no status.
     let mut out: Vec<u8> = Vec::new(alloc);
     let mut input = EXIT.as_slice();
-    let status = run_command(alloc, &check, &mut input, &mut out, &mut Broken);
+    let status = run_command(&rt, alloc, &check, &mut input, &mut out, &mut Broken);
     assert_eq!(rt; status, 1);
     Ok(())
 }
@@ -425,6 +442,68 @@ fn scripts(rt: HostRuntime) -> Result<(), Fail> {
     Ok(())
 }
 
+/// The lines of so many jobs that exit with this value after so many events each.
+fn job_lines(alloc: Global, count: u64, value: u64, events: u64) -> Result<String, Fail> {
+    let mut text = String::new(alloc);
+    for number in 0..count {
+        text.push_str(&format!(in alloc; "job {number} exit {value}\n")?)?;
+    }
+    let entries = count.saturating_mul(events);
+    text.push_str(&format!(in alloc; "entries {entries}\n")?)?;
+    Ok(text)
+}
+
+/// Files, workers, jobs, the exit value of each job, and its events: a start, its steps and a drop.
+const POOLS: [(&[u8], u64, u64, u64, u64); 7] = [
+    (&EXIT_ONE, 1, 1000, 1, 4),
+    (&EXIT_ONE, 3, 1000, 1, 4),
+    (&EXIT_ONE, 8, 1000, 1, 4),
+    (&EXIT_ONE, 8, 0, 1, 4),
+    (&WIDE, 2, 1, 8_589_934_593, 4),
+    // A key that is not there, by 11 steps, and a byte of a context of zeros.
+    (LOOKUP_FILE, 4, 20, 0, 13),
+    (
+        b"bpfrt 1\nctx 2\ncode\n7110010000000000 9500000000000000\n",
+        2,
+        3,
+        0,
+        4,
+    ),
+];
+
+/// Files, workers and jobs of pools that are refused. The file is judged first.
+const NO_POOLS: [(&[u8], u64, u64, &[u8]); 7] = [
+    (&EXIT_ONE, 0, 1, b"refused 90\n"),
+    (&EXIT_ONE, 9, 1, b"refused 90\n"),
+    (
+        &EXIT_ONE,
+        18_446_744_073_709_551_615,
+        65_537,
+        b"refused 90\n",
+    ),
+    (&EXIT_ONE, 8, 65_537, b"refused 91\n"),
+    (&EXIT, 0, 65_537, b"refused 23 at 0\n"),
+    (b"\x95\0\0\0\0\0\0", 0, 1, b"refused 1\n"),
+    (b"bpfrt 1\nctx 257\n", 0, 1, b"fault 94 at 2\n"),
+];
+
+#[test]
+fn pools(rt: HostRuntime) -> Result<(), Fail> {
+    let alloc = rt.alloc();
+    for (file, workers, count, value, events) in POOLS {
+        let mut input = file;
+        let text = job_lines(alloc, count, value, events)?;
+        let pool = pool_of(alloc, workers, count)?;
+        runs(&rt, alloc, &pool, &mut input, &output(text.as_bytes()))?;
+    }
+    for (file, workers, count, told) in NO_POOLS {
+        let mut input = file;
+        let pool = pool_of(alloc, workers, count)?;
+        runs(&rt, alloc, &pool, &mut input, &refusal(told))?;
+    }
+    Ok(())
+}
+
 /// The command that words ask for, or the text of the usage fault as `main` writes it.
 fn asked(rt: &impl Abort, alloc: Global, texts: &[&str]) -> Result<Result<Command, String>, Fail> {
     let mut words = Vec::new(alloc);
@@ -442,16 +521,30 @@ fn asked(rt: &impl Abort, alloc: Global, texts: &[&str]) -> Result<Result<Comman
 }
 
 /// Words that are no command, and what is said of them.
-const NO_COMMANDS: [(&[&str], &[&str]); 12] = [
+const NO_COMMANDS: [(&[&str], &[&str]); 21] = [
     (&["bpfrt"], &["Usage: bpfrt"]),
     (&["bpfrt", "chekc", "a"], &["'chekc'", "'check'"]),
     (&["bpfrt", "check"], &["<FILE>"]),
     (&["bpfrt", "check", "a", "b"], &["'b'"]),
     (&["bpfrt", "verify", "a"], &["'verify'"]),
-    (&["bpfrt", "--help"], &["check", "disasm", "script"]),
-    (&["bpfrt", "help"], &["check", "disasm", "script"]),
+    (&["bpfrt", "--help"], &["check", "disasm", "script", "pool"]),
+    (&["bpfrt", "help"], &["check", "disasm", "script", "pool"]),
     (&["bpfrt", "scirpt"], &["'scirpt'", "'script'"]),
     (&["bpfrt", "script", "a"], &["'a'"]),
+    (&["bpfrt", "poll", "1", "a", "1"], &["'poll'", "'pool'"]),
+    (&["bpfrt", "pool", "1", "a"], &["<COUNT>"]),
+    (&["bpfrt", "pool", "1", "a", "1", "1"], &["bpfrt pool"]),
+    (&["bpfrt", "pool", "", "a", "1"], &["''", "<WORKERS>"]),
+    (
+        &["bpfrt", "pool", "01", "a", "1"],
+        &["'01'", "<WORKERS>", "bpfrt pool"],
+    ),
+    (&["bpfrt", "pool", "+1", "a", "1"], &["'+1'", "<WORKERS>"]),
+    (&["bpfrt", "pool", "1", "a", "-1"], &["'-1'"]),
+    (
+        &["bpfrt", "pool", "1", "a", "18446744073709551616"],
+        &["'18446744073709551616'", "<COUNT>", "bpfrt pool --help"],
+    ),
     (
         &["bpfrt", "check", "--help"],
         &["accepted 33 instructions 35 slots", "fault 94 at L"],
@@ -461,6 +554,7 @@ const NO_COMMANDS: [(&[&str], &[&str]); 12] = [
         &["bpfrt", "script", "--help"],
         &["fault 95 at L", "bpfrt script"],
     ),
+    (&["bpfrt", "pool", "--help"], &["refused 90", "entries 8"]),
 ];
 
 #[test]
@@ -486,6 +580,16 @@ fn words_of_commands(rt: HostRuntime) -> Result<(), Fail> {
             Ok(Command::Script)
         )
     );
+    let pool = asked(
+        &rt,
+        alloc,
+        &["bpfrt", "pool", "0", "c.bpf", "18446744073709551615"],
+    )?;
+    let Ok(Command::Pool { workers, count, .. }) = pool else {
+        return Err(Fail::from("no pool"));
+    };
+    assert_eq!(rt; workers, 0);
+    assert_eq!(rt; count, u64::MAX);
     let mut err: Vec<u8> = Vec::new(alloc);
     assert_eq!(rt; no_command(&mut err, &UsageFault::NotText), 2);
     assert_eq!(rt; no_command(&mut err, &UsageFault::Memory), 3);

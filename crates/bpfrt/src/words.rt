@@ -77,6 +77,47 @@ Example:
   ret 0
   value 0500000000000000";
 
+/// Behind the arguments of `bpfrt pool --help`.
+const POOL_HELP: &str = "\
+Reads a program file as `bpfrt check` does, verifies it, and then runs it COUNT times by WORKERS threads that
+share one world of the file's maps. Each job starts the program on a context of zeros, steps it to its exit,
+and drops the run.
+
+Prints a line for each job in order, `job I exit V`, or `job I stopped C` where an event of the job was refused
+or not applied; then `entries N`, how many events the journal has.
+
+Status, and the line on standard error:
+  0  all jobs are done; also where jobs stopped
+  1  what `bpfrt check` says of FILE; then
+     refused 90                  WORKERS is not 1 to 8
+     refused 91                  COUNT is above 65536
+  2  usage; so a WORKERS or COUNT that is no number, before FILE is read
+  3  fault 13, 96, 97            out of memory; FILE or the output failed
+     fault 92                    the result of a job was lost
+
+Example:
+  $ bpfrt pool 4 examples/exit_one.bpf 2
+  job 0 exit 1
+  job 1 exit 1
+  entries 8";
+
+fn number_argument<'a>(alloc: Global, id: &'a str, help: &'a str) -> Arg<'a> {
+    Arg::new(alloc, id)
+        .help(help)
+        .required(true)
+        .action(ArgAction::Set)
+}
+
+/// The grammar of the words of `pool`.
+fn pool_grammar<'a>(alloc: Global) -> Result<clap::Command<'a>, AllocError> {
+    clap::Command::new(alloc, "pool")
+        .about("Runs the program in FILE so many times by a pool of workers")
+        .after_help(POOL_HELP)
+        .arg(number_argument(alloc, "WORKERS", "how many workers, 1 to 8"))?
+        .arg(file_argument(alloc))?
+        .arg(number_argument(alloc, "COUNT", "how many jobs, 0 to 65536"))
+}
+
 /// The grammar of the words.
 fn grammar<'a>(alloc: Global) -> Result<clap::Command<'a>, AllocError> {
     let check = clap::Command::new(alloc, "check")
@@ -96,7 +137,8 @@ fn grammar<'a>(alloc: Global) -> Result<clap::Command<'a>, AllocError> {
         .subcommand_required(true)
         .subcommand(check)?
         .subcommand(disasm)?
-        .subcommand(script)
+        .subcommand(script)?
+        .subcommand(pool_grammar(alloc)?)
 }
 
 fn usage(alloc: Global, error: &clap::Error) -> UsageFault {
@@ -116,6 +158,39 @@ fn file_of(alloc: Global, matches: &ArgMatches<'_>) -> Result<String, UsageFault
     }
 }
 
+/// The number that a word is: decimal, below 2^64, without a sign or leading zeros.
+fn number_of(word: &str) -> Option<u64> {
+    match word.as_bytes() {
+        [b'0'] | [b'1'..=b'9', ..] => word.parse::<u64>().ok(),
+        _ => None,
+    }
+}
+
+/// The number that the argument of this name is.
+fn number_at(alloc: Global, matches: &ArgMatches<'_>, id: &str) -> Result<u64, UsageFault> {
+    let word = matches.get_str(id).unwrap_or("");
+    match number_of(word) {
+        Some(number) => Ok(number),
+        None => Err(UsageFault::Usage(format!(in alloc;
+            "\
+error: invalid value '{word}' for '<{id}>': it is no decimal number below 2^64 without sign and leading zeros
+
+Usage: bpfrt pool <WORKERS> <FILE> <COUNT>
+
+For more information, try 'bpfrt pool --help'."
+        )?)),
+    }
+}
+
+/// The words of `pool`. They are judged before the file is read.
+fn pool_of(alloc: Global, matches: &ArgMatches<'_>) -> Result<Command, UsageFault> {
+    Ok(Command::Pool {
+        workers: number_at(alloc, matches, "WORKERS")?,
+        file: file_of(alloc, matches)?,
+        count: number_at(alloc, matches, "COUNT")?,
+    })
+}
+
 /// The command that the words ask for. The first word is the program's own name.
 ///
 /// Help, too, is a `UsageFault`, since it is no command to run.
@@ -132,6 +207,7 @@ pub fn command<'a>(alloc: Global, words: &'a [String]) -> Result<Command, UsageF
             file: file_of(alloc, matches)?,
         }),
         Some(("script", _)) => Ok(Command::Script),
+        Some(("pool", matches)) => pool_of(alloc, matches),
         _ => Err(UsageFault::Usage(String::from_str(alloc, "a command is missing")?)),
     }
 }

@@ -1,0 +1,18 @@
+use Rattle.std.proofs.Common.{inl, inr}
+use Rattle.std.proofs.lemmas.Result.{err_from_is_err_and}
+use Rattle.bpfrt.proofs.Pooled.{pool_file}
+use Rattle.bpfrt.proofs.Shapes.{verifier_told}
+use Rattle.bpfrt.proofs.pool.pool_of.Goals as goal
+
+pub returns-clause-pooled : goal.returns-clause-pooled
+returns-clause-pooled g c bytes h = pool_file bytes c.in_ok-source.source (c.in_ok-source.ensures.found bytes h) c.in_ok-checked.ensures.verified
+
+pub returns-in_err-checked-clause-refused : goal.returns-in_err-checked-clause-refused
+returns-in_err-checked-clause-refused g c bytes h =
+    let p = err_from_is_err_and c.from_residual-in_err-checked.result c.from_residual-in_err-checked.ensures.1 in
+    rw p.1 (inl (verifier_told bytes c.in_ok-source.source c.in_err-checked.field-0.0 p.0 (c.in_ok-source.ensures.found bytes h) c.in_err-checked.ensures.told c.in_err-checked.ensures.plain c.in_err-checked.ensures.plain_with_maps p.2))
+
+pub returns-in_err-run-clause-refused : goal.returns-in_err-run-clause-refused
+returns-in_err-run-clause-refused g c bytes h =
+    let p = err_from_is_err_and c.from_residual-in_err-run.result c.from_residual-in_err-run.ensures.1 in
+    rw p.1 (inr (pool_file bytes c.in_ok-source.source (c.in_ok-source.ensures.found bytes h) c.in_ok-checked.ensures.verified))

@@ -1,0 +1,97 @@
+//! A file's program, run many times by a pool of workers.
+ghost use Rattle.std.specs.Prelude.{◌≡◌, ◌⊎◌, List, ℕ, IfErr, IfSome, OnOk};
+ghost use Rattle.bpfrt.specs.Files.{HoldsBytes};
+ghost use Rattle.bpfrt.specs.Pools.{IsPoolFile, IsPoolRefusal, IsRefusedByPool};
+
+use crate::program_file::{FileBytes, read_file};
+use crate::report::{MEMORY, Verdict, fault, refused};
+use crate::streams::{Side, stream_fault, write_text, written};
+use crate::verified_file::verify_source;
+use program_pool::{Outcome, PoolRun, run_program};
+use std::alloc::Global;
+use std::io;
+use std::io::{Read, Write};
+use std::sync::Wait;
+use std::thread::Threads;
+
+/// How many times a program is run, and by how many workers.
+#[derive(Clone, Copy)]
+pub struct PoolSize {
+    pub workers: u64,
+    pub count: u64,
+}
+
+/// Writes the line of one job.
+fn write_job<W: Write>(out: &mut W, number: usize, outcome: &Outcome) -> io::Result<()> {
+    match outcome {
+        Outcome::Exit(value) => writeln!(out, "job {number} exit {value}"),
+        Outcome::Stopped { cause, .. } => {
+            let code = cause.code();
+            writeln!(out, "job {number} stopped {code}")
+        }
+    }
+}
+
+/// The lines of all jobs, and that of the entries.
+fn text_of(alloc: Global, run: &PoolRun) -> io::Result<Vec<u8>> {
+    let mut text = Vec::new(alloc);
+    for number in 0..run.report.jobs.len() {
+        write_job(&mut text, number, &run.report.jobs[number].outcome)?;
+    }
+    let entries = run.entries;
+    writeln!(text, "entries {entries}")?;
+    Ok(text)
+}
+
+/// Decodes and verifies a file's program, and runs it.
+fn pool_of<H: Threads + Wait + Sync>(
+    rt: &H,
+    alloc: Global,
+    file: &FileBytes,
+    size: PoolSize,
+) -> Result<PoolRun, Verdict>
+    ensures pooled { (bytes : List ℕ) → HoldsBytes file.now bytes →
+        OnOk result (IsPoolFile bytes) }
+    ensures refused { (bytes : List ℕ) → HoldsBytes file.now bytes →
+        IfErr result (IsPoolRefusal bytes) }
+{
+    let source = file.source(alloc)?;
+    let checked = verify_source(alloc, source)?;
+    let run = run_program(
+        rt,
+        alloc,
+        checked.registry,
+        checked.verified,
+        size.workers,
+        size.count,
+    )?;
+    Ok(run)
+}
+
+/// Runs the program that the input's bytes are.
+pub fn run_pool<H: Threads + Wait + Sync, R: Read, W: Write, E: Write>(
+    rt: &H,
+    alloc: Global,
+    size: PoolSize,
+    input: &mut R,
+    out: &mut W,
+    err: &mut E,
+) -> u8
+    ensures status { (result ≡ 0) ⊎ (result ≡ 1) ⊎ (result ≡ 3) }
+    ensures pooled { result ≡ 0 → IfSome (R.remaining input.old) IsPoolFile }
+    ensures refused { result ≡ 1 → IfSome (R.remaining input.old) IsRefusedByPool }
+    ensures silent { result ≡ 1 → out.new ≡ out.old }
+{
+    let file = match read_file(alloc, input) {
+        Ok(file) => file,
+        Err(error) => return fault(err, stream_fault(&error, Side::Input)),
+    };
+    let run = match pool_of(rt, alloc, &file, size) {
+        Ok(run) => run,
+        Err(verdict) => return refused(err, verdict),
+    };
+    match text_of(alloc, &run) {
+        Ok(text) => written(err, write_text(out, &text)),
+        Err(_) => fault(err, MEMORY),
+    }
+}
