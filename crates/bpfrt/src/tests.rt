@@ -557,17 +557,20 @@ const NO_COMMANDS: [(&[&str], &[&str]); 21] = [
     (&["bpfrt", "pool", "--help"], &["refused 90", "entries 8"]),
 ];
 
+/// The text has all these parts.
+fn has_all(rt: &impl Abort, text: &str, parts: &[&str]) {
+    for part in parts {
+        assert!(rt; text.contains(part), "{text}");
+    }
+}
+
 #[test]
 fn words_of_commands(rt: HostRuntime) -> Result<(), Fail> {
     let alloc = rt.alloc();
     for (words, said) in NO_COMMANDS {
         match asked(&rt, alloc, words)? {
             Ok(_) => assert!(rt; false, "no command"),
-            Err(text) => {
-                for part in said {
-                    assert!(rt; text.contains(part), "{text}");
-                }
-            }
+            Err(text) => has_all(&rt, text.as_str(), said),
         }
     }
     let check = asked(&rt, alloc, &["bpfrt", "check", "a.bpf"])?;
