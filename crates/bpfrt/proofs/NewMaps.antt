@@ -1,5 +1,5 @@
 -- The maps that a file names are new.
-use Rattle.std.proofs.Common.{◌≡◌, ◌⊎◌, ℕ, List, [], ◌∷◌, ◌++◌, map, refl, ap, sym, subst, ◌∙◌, inl, inr}
+use Rattle.std.proofs.Common.{◌≡◌, ℕ, List, [], ◌∷◌, ◌++◌, map, refl, ap, sym, subst, ◌∙◌, inl, inr}
 use Rattle.std.proofs.lemmas.List.{map-append}
 use Rattle.bpf_model.specs.View.{MapView, new_map_view}
 use Rattle.bpf_model.specs.declared.limits.MapShape.{MapShape}
