@@ -2,20 +2,25 @@
 """Makes a program file out of an object that clang wrote for the target bpf.
 
     program.py OBJECT           the program file, as text: context, maps, code
+    program.py --script OBJECT  the first lines of a script: its maps, and the program, bound to them
     program.py --rows OBJECT..  rows of the table in crates/verifier_tests/src/compiled.rt
 
 The code is the section .text. A wide load of a map's address becomes the wide load of a map (source
 5) by the map's number in the program's list, which is the order of the section maps. A call of an
 external kernel function becomes a call by that function's number (source 2). Any other relocation
-is an error: such a program calls or names what no program here can.
+is an error: such a program calls or names what no program here can. So is a second function, or code in
+another section.
 """
 
+import pathlib
+import re
 import struct
 import sys
 
 KERNEL_FUNCTIONS = {"bpf_rcu_read_lock": 1, "bpf_rcu_read_unlock": 2}
 WIDE, CALL = 0x18, 0x85
-SHT_REL, STT_SECTION = 9, 3
+SHT_REL, STT_FUNC, STT_SECTION = 9, 2, 3
+RELOCATABLE, FOR_BPF = 1, 247
 
 
 class Object:
@@ -41,6 +46,8 @@ class Object:
         return self.body(self.headers[self.names.index(name)]) if name in self.names else b""
 
     def read_symbols(self):
+        if ".symtab" not in self.names:
+            sys.exit("the object has no symbols: they were stripped")
         table = self.headers[self.names.index(".symtab")]
         strings = self.headers[table[6]]
         entries = struct.iter_unpack("<IBBHQQ", self.body(table))
@@ -64,6 +71,11 @@ def maps_of(obj):
     shapes = list(struct.iter_unpack("<5I", obj.section("maps")))
     names = {value: name for name, kind, section, value in obj.symbols
              if section and kind != STT_SECTION and obj.section_of((name, kind, section, value)) == "maps"}
+    if len(shapes) > 16:
+        sys.exit(f"a program has at most 16 maps, and not {len(shapes)}")
+    for name in names.values():
+        if not re.fullmatch(r"[a-z][a-z0-9_]{0,31}", name):
+            sys.exit(f"no map has the name {name}: it is 1 to 32 of a to z, 0 to 9 and _, the first a letter")
     for key, value, entries, spare, reuse in shapes:
         if not (1 <= key <= 64 and 1 <= value <= 256 and 1 <= entries <= 4096 and spare <= 4096 and reuse):
             sys.exit(f"no map has keys of {key} bytes, values of {value} and {entries} + {spare} slots")
@@ -71,12 +83,18 @@ def maps_of(obj):
 
 
 def context_of(obj):
-    section = obj.section("context")
-    return struct.unpack("<I", section)[0] if section else 0
+    lengths = [length for length, in struct.iter_unpack("<I", obj.section("context"))]
+    if len(lengths) > 1 or lengths > [256]:
+        sys.exit(f"a program has one context of at most 256 bytes, and not of {lengths}")
+    return lengths[0] if lengths else 0
 
 
 def code_of(obj):
     """The slots, with every relocation of them done."""
+    functions = {symbol[0]: obj.section_of(symbol) for symbol in obj.symbols if symbol[1] == STT_FUNC}
+    if [*functions.values()] != [".text"]:
+        found = ", ".join(f"{name} in {section}" for name, section in functions.items()) or "none"
+        sys.exit(f"a program is one function in the section .text, and others are INLINE; there is {found}")
     code = bytearray(obj.section(".text"))
     for place, symbol in obj.relocations(".text"):
         opcode = code[place]
@@ -87,22 +105,41 @@ def code_of(obj):
         elif opcode == CALL and symbol[0] in KERNEL_FUNCTIONS:
             struct.pack_into("<BBhi", code, place, CALL, 2 << 4, 0, KERNEL_FUNCTIONS[symbol[0]])
         else:
-            sys.exit(f"slot {place // 8} names {symbol[0]}, which is neither a map nor a kernel function")
+            name = symbol[0] or obj.section_of(symbol)
+            sys.exit(f"slot {place // 8} names {name}, which is neither a map nor a kernel function")
     return [bytes(code[i:i + 8]) for i in range(0, len(code), 8)]
 
 
+def map_lines(obj):
+    return [" ".join(["map", name, *map(str, shape)]) for name, shape in maps_of(obj)]
+
+
+def script(obj):
+    names = [name for name, _ in maps_of(obj)]
+    code = b"".join(code_of(obj)).hex()
+    return "\n".join([*map_lines(obj), " ".join(["load", str(context_of(obj)), code, *names])]) + "\n"
+
+
 def program_file(obj):
-    lines = ["bpfrt 1", f"ctx {context_of(obj)}"]
-    lines += [" ".join(["map", name, *map(str, shape)]) for name, shape in maps_of(obj)]
+    lines = ["bpfrt 1", f"ctx {context_of(obj)}", *map_lines(obj)]
     slots = [slot.hex() for slot in code_of(obj)]
     lines += ["code"] + [" ".join(slots[i:i + 5]) for i in range(0, len(slots), 5)]
     return "\n".join(lines) + "\n"
 
 
+def object_in(path):
+    try:
+        data = pathlib.Path(path).read_bytes()
+    except OSError as error:
+        sys.exit(f"{path}: {error.strerror}")
+    if data[:6] != b"\x7fELF\2\1" or struct.unpack_from("<HH", data.ljust(64), 16) != (RELOCATABLE, FOR_BPF):
+        sys.exit(f"{path} is no object that clang wrote for the target bpf")
+    return Object(data)
+
+
 def row(path):
     """A row of the table of compiled programs."""
-    with open(path, "rb") as file:
-        obj = Object(file.read())
+    obj = object_in(path)
     name = path.rsplit("/", 1)[-1].rsplit(".", 1)[0]
     fields = ["key_len", "value_len", "entries", "spare", "reuse_limit"]
     maps = "".join(
@@ -121,9 +158,10 @@ def row(path):
 def main(words):
     if words[:1] == ["--rows"]:
         sys.stdout.write("".join(row(path) for path in words[1:]))
-    elif len(words) == 1:
-        with open(words[0], "rb") as file:
-            sys.stdout.write(program_file(Object(file.read())))
+    elif words[:1] == ["--script"] and len(words) == 2:
+        sys.stdout.write(script(object_in(words[1])))
+    elif len(words) == 1 and not words[0].startswith("-"):
+        sys.stdout.write(program_file(object_in(words[0])))
     else:
         sys.exit(__doc__)
 
