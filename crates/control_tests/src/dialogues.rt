@@ -4,7 +4,7 @@ use control::{ScriptFault, run_script};
 use std::test::Fail;
 
 /// Scripts that end well.
-static DIALOGUES: [&str; 9] = [
+static DIALOGUES: [&str; 11] = [
     // An update's tests in their order.
     "map m 4 8 1 0 2 = map 0\n\
 put m 00000000 0500000000000000 0 = ret 0\n\
@@ -140,6 +140,46 @@ dump m = 0001 bb; 00ff cc; 0100 aa; end\n\
 del m 0001 = ret 0\n\
 put m 0100 dd 2 = ret -12\n\
 dump m = 00ff cc; 0100 aa; end\n",
+    // Names and shapes at the ends of their ranges; an exit value with its highest bit; flags as large as may be.
+    "map M 4 8 1 0 2 = refused 50\n\
+map _m 4 8 1 0 2 = refused 50\n\
+map - 4 8 1 0 2 = refused 50\n\
+map abcdefghijklmnopqrstuvwxyz0123456 4 8 1 0 2 = refused 50\n\
+map m 4 0 1 0 2 = refused 52\n\
+map m 4 8 0 0 2 = refused 52\n\
+map abcdefghijklmnopqrstuvwxyz_01234 1 1 1 0 1 = map 0\n\
+map m 4 8 1 0 2 = map 1\n\
+load 0 b7000000ffffffff9500000000000000 = prog 0\n\
+put m 00000000 0500000000000000 18446744073709551615 = ret -22\n\
+start 0 - = run 0\n\
+step 0 4096 = exit 18446744073709551615\n",
+    // What decoding and verifying refuse.
+    "map m 4 8 1 0 2 = map 0\n\
+load 0 ff000000000000009500000000000000 m = refused 4 at 0\n\
+load 0 8f000000000000009500000000000000 m = refused 4 at 0\n\
+load 0 c3000000000000009500000000000000 m = refused 5 at 0\n\
+load 0 b70b0000000000009500000000000000 m = refused 6 at 0\n\
+load 0 85100000000000009500000000000000 m = refused 7 at 0\n\
+load 0 b7000001070000009500000000000000 m = refused 8 at 0\n\
+load 0 37000200010000009500000000000000 m = refused 9 at 0\n\
+load 0 d4000000080000009500000000000000 m = refused 10 at 0\n\
+load 0 1800000001000000 m = refused 11 at 0\n\
+load 0 180000000000000001000000000000009500000000000000 m = refused 12 at 0\n\
+load 0 0500010000000000180000000100000000000000020000009500000000000000 m = refused 20 at 0\n\
+load 0 0500ffff000000009500000000000000 m = refused 21 at 0\n\
+load 0 b700000001000000 m = refused 22 at 0\n\
+load 0 b701000000000000150101000000000\
+0b7000000010000009500000000000000 m = refused 23 at 3\n\
+load 0 070a0000010000009500000000000000 m = refused 24 at 0\n\
+load 0 7a0af8fd0100000079a0f8ff000000009500000000000000 m = refused 27 at 0\n\
+load 0 7a0af8ff0100000079a0f0ff000000009500000000000000 m = refused 29 at 1\n\
+load 0 bf100000000000009500000000000000 m = refused 30 at 1\n\
+load 0 852000000100000085200000010000009500000000000000 m = refused 34 at 1\n\
+load 0 0500010000000000b700000000000000b7000000000000009500000000000000 m = refused 38 at 1\n\
+load 1 7201000001000000b7000000000000009500000000000000 m = refused 39 at 0\n\
+load 0 180000000100000000000000020000009500000000000000 m = prog 0\n\
+start 0 - = run 0\n\
+step 0 2 = exit 8589934593\n",
     // Lines that are answered nothing.
     "\n\
 # a comment\n\
@@ -193,6 +233,21 @@ fn commands_are_answered(rt: HostRuntime) -> Result<(), Fail> {
         assert!(rt; end.is_ok(), "{lines}");
         assert_eq!(rt; out.as_slice(), dialogue.answers.as_slice(), "{lines}");
     }
+    Ok(())
+}
+
+/// Names are any bytes: a map may have none that is no text. Where a number belongs they end the script.
+#[test]
+fn words_that_are_no_text(rt: HostRuntime) -> Result<(), Fail> {
+    let mut input =
+        b"map \xff 4 8 1 0 2\nmap m\0 4 8 1 0 2\nget \xff 00\n#\xff\ndump m\r\nstep \xb2\n".as_slice();
+    let mut out = Vec::new(rt.alloc());
+    let end = run_script(rt.alloc(), &mut input, &mut out);
+    assert!(rt; matches!(end, Err(ScriptFault::BadCommand { line: 6 })));
+    assert_eq!(rt;
+        out.as_slice(),
+        b"refused 50\nrefused 50\nrefused 65\nrefused 65\n".as_slice()
+    );
     Ok(())
 }
 

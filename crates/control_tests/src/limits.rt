@@ -11,7 +11,8 @@ fn fill(alloc: Global, dialogue: &mut Dialogue) -> Result<(), AllocError> {
         dialogue.ask(&format!(in alloc; "map m{number} 2 1 4096 0 1")?)?;
         dialogue.expect(&format!(in alloc; "map {number}")?)?;
     }
-    dialogue.add("map m16 2 1 4096 0 1 = refused 53\n")?;
+    dialogue.add("map m16 2 1 4096 0 1 = refused 53\nmap m16 0 1 4096 0 1 = refused 52\n")?;
+    dialogue.add("map m0 0 1 4096 0 1 = refused 51\nmap 0m 0 1 4096 0 1 = refused 50\n")?;
     for number in 0..64u32 {
         dialogue.ask("load 0 EXIT_ONE")?;
         dialogue.expect(&format!(in alloc; "prog {number}")?)?;
@@ -58,17 +59,37 @@ fn one_more_is_refused(rt: HostRuntime) -> Result<(), Fail> {
 #[test]
 fn lines_about_as_long_as_may_be(rt: HostRuntime) -> Result<(), Fail> {
     for (length, is_bad) in [(70_000, false), (70_001, true)] {
-        let mut script: Vec<u8> = vec![in rt.alloc(); b'#'; length]?;
-        script.extend_from_slice(b"\nadvance")?;
+        let mut script: Vec<u8> = Vec::from_slice(rt.alloc(), b"advance\n")?;
+        for _ in 0..length {
+            script.push(b'#')?;
+        }
+        script.extend_from_slice(b"\nreap")?;
         let mut input = script.as_slice();
         let mut out = Vec::new(rt.alloc());
         let end = run_script(rt.alloc(), &mut input, &mut out);
         assert_eq!(rt;
-            matches!(end, Err(ScriptFault::BadCommand { line: 1 })),
+            matches!(end, Err(ScriptFault::BadCommand { line: 2 })),
             is_bad
         );
-        assert_eq!(rt; out.is_empty(), is_bad);
+        assert_eq!(rt; out.as_slice() == b"ok\n".as_slice(), is_bad);
     }
+    Ok(())
+}
+
+/// A program of 4,096 instructions, and one slot more.
+#[test]
+fn programs_about_as_long_as_may_be(rt: HostRuntime) -> Result<(), Fail> {
+    let alloc = rt.alloc();
+    let moves = "b700000000000000".repeat(alloc, 4095)?;
+    let mut dialogue = Dialogue::new(alloc);
+    dialogue.ask(&format!(in alloc; "load 0 {moves}b7000000000000009500000000000000")?)?;
+    dialogue.expect("refused 3")?;
+    dialogue.ask(&format!(in alloc; "load 0 {moves}9500000000000000")?)?;
+    dialogue.expect("prog 0")?;
+    dialogue.add("start 0 - = run 0\nstep 0 4095 = moved\nstep 0 4096 = exit 0\n")?;
+    let (out, end) = dialogue.run(alloc);
+    assert!(rt; end.is_ok());
+    assert_eq!(rt; out.as_slice(), dialogue.answers.as_slice());
     Ok(())
 }
 

@@ -38,6 +38,24 @@ impl Read for Failing<'_> {
     }
 }
 
+/// A reader of two lines, the last of which never ends.
+#[derive(Drop)]
+struct Endless {
+    is_begun: bool,
+}
+
+impl Read for Endless {
+    fn read(&mut self, buf: &mut [u8]) -> io::Result<usize> {
+        if self.is_begun {
+            buf.fill(b'#');
+            return Ok(buf.len());
+        }
+        self.is_begun = true;
+        let mut first: &[u8] = b"advance\n";
+        first.read(buf)
+    }
+}
+
 /// A writer that fails, or takes no byte.
 #[derive(Drop)]
 struct Broken {
@@ -91,6 +109,16 @@ fn readers_that_are_slow_or_fail(rt: HostRuntime) -> Result<(), Fail> {
     let end = run_script(rt.alloc(), &mut failing, &mut out);
     assert!(rt; matches!(end, Err(ScriptFault::Read)));
     assert_eq!(rt; out.as_slice(), b"ok\nnone\n".as_slice());
+    Ok(())
+}
+
+#[test]
+fn a_line_that_never_ends(rt: HostRuntime) -> Result<(), Fail> {
+    let mut endless = Endless { is_begun: false };
+    let mut out = Vec::new(rt.alloc());
+    let end = run_script(rt.alloc(), &mut endless, &mut out);
+    assert!(rt; matches!(end, Err(ScriptFault::BadCommand { line: 2 })));
+    assert_eq!(rt; out.as_slice(), b"ok\n".as_slice());
     Ok(())
 }
 
