@@ -7,12 +7,12 @@ use crate::program_file::{FileBytes, read_file};
 use crate::report::{MEMORY, Verdict, fault, refused};
 use crate::streams::{Side, stream_fault, write_text, written};
 use crate::verified_file::verify_source;
-use program_pool::{Outcome, PoolRun, run_program};
 use std::alloc::Global;
 use std::io;
 use std::io::{Read, Write};
 use std::sync::Wait;
 use std::thread::Threads;
+use worker_pool::{Outcome, PoolRun, run_program};
 
 /// How many times a program is run, and by how many workers.
 #[derive(Clone, Copy)]

@@ -5,10 +5,10 @@ ghost use Rattle.bpfrt.specs.declared.request.UsageFault.TheVariants.{Memory};
 use crate::request::UsageFault;
 use insn_codec::DecodeFault;
 use loader::LoadFault;
-use program_pool::PoolFault;
 use std::alloc::AllocError;
 use std::io::Write;
 use verifier::Refusal;
+use worker_pool::PoolFault;
 
 /// Why a file is refused: a number, and the slot of the program or the line of the file at which it
 /// is, where it has one.

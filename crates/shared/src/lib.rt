@@ -6,6 +6,7 @@
 #![tactic(auto)]
 
 mod books;
+mod bound;
 mod counters;
 mod fault;
 mod lock;

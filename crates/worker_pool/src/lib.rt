@@ -8,9 +8,12 @@
 mod job;
 mod pool;
 mod pooled;
+mod repeated;
 mod reply;
+mod zero_jobs;
 
 pub use job::{Job, JobReport, Outcome, Report, StopCause, Trail};
 pub use job_queue::{MAX_JOBS, MAX_WORKERS, PoolFault, Serve};
 pub use pool::run_jobs;
 pub use pooled::Pooled;
+pub use repeated::{PoolRun, run_program};

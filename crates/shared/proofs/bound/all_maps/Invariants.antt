@@ -1,6 +1,6 @@
 use Rattle.std.proofs.Common.{◌≡◌, length, map, take}
 use Rattle.std.specs.Prelude.{Some, slice_get}
-use Rattle.program_pool.proofs.bound.all_maps.Given as goal
+use Rattle.shared.proofs.bound.all_maps.Given as goal
 
 abbrev pub invariant-loop-number : goal.invariant-loop-number
 invariant-loop-number l =

@@ -1,6 +1,6 @@
 use Rattle.std.proofs.Common.{◌≡◌, length, All}
-use Rattle.program_pool.specs.Outcomes.{IsZeroJob}
-use Rattle.program_pool.proofs.jobs.jobs_of.Given as goal
+use Rattle.worker_pool.specs.Outcomes.{IsZeroJob}
+use Rattle.worker_pool.proofs.zero_jobs.jobs_of.Given as goal
 
 abbrev pub invariant-loop : goal.invariant-loop
 invariant-loop l = (length l.jobs.items ≡ l.counter) × All (IsZeroJob l.fn.ctx_len) l.jobs.items

@@ -1,5 +1,5 @@
 -- What the outcomes of jobs say, where each is borne out by its trail.
-use Rattle.std.proofs.Common.{◌≡◌, ◌⊎◌, ℕ, ◌<◌, ◌≤◌, List, [], ◌∷◌, length, map, get_or, replicate, All, refl, ap, sym, subst, ◌∙◌, inl, inr, arith}
+use Rattle.std.proofs.Common.{◌≡◌, ◌⊎◌, ℕ, ◌<◌, ◌≤◌, List, [], ◌∷◌, length, map, get_or, replicate, All, refl, ap, sym, subst, inl, inr, arith}
 use Rattle.std.specs.Prelude.{Option, Some, None, Result, slice_get}
 use Rattle.std.proofs.lemmas.Option.{slice_get_cases, slice_get-get_or}
 use Rattle.bpf_model.specs.declared.insn.Insn.{Insn}
@@ -9,15 +9,15 @@ use Rattle.exit_laws.specs.Exits.{MayExitAs, ExitsAs}
 use Rattle.job_queue.specs.Serving.{AreServed}
 use Rattle.shared.specs.declared.fault.SharedFault.{SharedFault}
 use Rattle.shared.specs.Books.{WorkerView}
-use Rattle.shared.specs.Receipts.{ReceiptView, NoteView, IsPossibleExit, IsOwnExit}
+use Rattle.shared.specs.Receipts.{IsPossibleExit, IsOwnExit}
 use Rattle.verifier.specs.Checked.{Checked}
 use Rattle.worker_pool.specs.declared.job.Job.{Job}
 use Rattle.worker_pool.specs.declared.job.JobReport.{JobReport}
 use Rattle.worker_pool.specs.declared.job.Outcome.{Outcome}
 use Rattle.worker_pool.specs.declared.job.Trail.{Trail}
 use Rattle.worker_pool.specs.declared.job.Trail.TheVariants as trails
-use Rattle.worker_pool.specs.Trails.{FitsJob, ExitsWithValue, TellsExit, IsServedJob}
-use Rattle.program_pool.specs.Outcomes.{IsZeroJob, IsZeroExit, IsOutcomeOf, IsReportOf}
+use Rattle.worker_pool.specs.Trails.{FitsJob, TellsExit, IsServedJob}
+use Rattle.worker_pool.specs.Outcomes.{IsZeroJob, IsZeroExit, IsOutcomeOf, IsReportOf}
 
 abbrev pub code_of : Checked → List Insn
 code_of p = p.program

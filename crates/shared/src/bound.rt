@@ -1,15 +1,19 @@
-//! The world of one program, which is bound to all maps.
-ghost use Rattle.std.specs.Prelude.{◌≡◌, ◌≤◌, ◌∷◌, [], length, map, IfOk};
+//! A shared world of one program, which is bound to all maps.
+ghost use Rattle.std.specs.Prelude.{◌≡◌, ◌<◌, ◌≤◌, ◌∷◌, [], length, map, vec_len, IfOk};
 ghost use Rattle.bpf_model.specs.declared.limits.TheConstants.{MAX_MAPS};
 ghost use Rattle.bpf_model.specs.View.{new_map_view};
 ghost use Rattle.journal_laws.specs.Replay.{HasNoRuns};
+ghost use Rattle.shared.specs.declared.worker.TheConstants.{MAX_WORKERS};
 ghost use Rattle.world.specs.Bound.{shapes_in};
 ghost use Rattle.world_invariant.specs.Binding.{IsBoundTo};
 
+use crate::lock::Shared;
+use crate::worker::Workers;
 use arrayvec::ArrayVec;
 use bpf_model::{MAX_MAPS, MapShape};
 use maps::Registry;
 use std::alloc::{AllocError, Global};
+use std::sync::ledger::{Blank, Ledger};
 use verifier::Verified;
 use world::{World, WorldFault};
 use world_parts::Loaded;
@@ -28,7 +32,7 @@ fn all_maps(shapes: &[MapShape]) -> ArrayVec<usize, MAX_MAPS>
 
 /// A world of these maps, in which nothing has happened, with one program that is bound to all of them, the
 /// first to its map 0. The error is that there is no memory left.
-pub fn world_of(alloc: Global, registry: Registry, verified: Verified) -> Result<World, AllocError>
+fn world_of(alloc: Global, registry: Registry, verified: Verified) -> Result<World, AllocError>
     requires new_maps { registry.maps ≡ map new_map_view (shapes_in registry.maps) }
     requires shapes { verified.shapes ≡ shapes_in registry.maps }
     ensures codes { IfOk result (λ w. map (λ l. l.code) w.programs ≡ verified.program ∷ []) }
@@ -42,5 +46,29 @@ pub fn world_of(alloc: Global, registry: Registry, verified: Verified) -> Result
         Ok(world) => Ok(world),
         Err(WorldFault::Memory) => Err(AllocError),
         Err(_) => unreachable!(),
+    }
+}
+
+impl<L: Ledger> Shared<L> {
+    /// Shares a world of new maps and of one program that was verified with them. The error is that there is no
+    /// memory left.
+    pub fn of_program(
+        alloc: Global,
+        registry: Registry,
+        verified: Verified,
+        workers: u8,
+        blank: Blank,
+    ) -> Result<(Shared<L>, Workers<L>), AllocError>
+        requires new_maps { registry.maps ≡ map new_map_view (shapes_in registry.maps) }
+        requires shapes { verified.shapes ≡ shapes_in registry.maps }
+        requires workers { (0 < workers) × (workers ≤ MAX_WORKERS) }
+        requires name { blank.name ≡ L.name }
+        requires parts { (blank.parts ≡ L.parts) × (blank.parts ≡ workers) }
+        ensures count { IfOk result (λ t. vec_len t.1.list ≡ workers) }
+        ensures codes { IfOk result (λ t. map (λ p. p.program) t.0 ≡ verified.program ∷ []) }
+    {
+        let world = world_of(alloc, registry, verified)?;
+        let (shared, workers, _) = Shared::<L>::new(alloc, world, workers, blank)?;
+        Ok((shared, workers))
     }
 }

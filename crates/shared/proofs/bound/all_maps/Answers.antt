@@ -1,7 +1,7 @@
 use Rattle.std.proofs.Common.{rules, ap, map, ◌∙◌}
 use Rattle.std.specs.Prelude.{slice_get}
-use Rattle.program_pool.proofs.Numbering.{one_more}
-use Rattle.program_pool.proofs.bound.all_maps.Goals as goal
+use Rattle.shared.proofs.Numbering.{one_more}
+use Rattle.shared.proofs.bound.all_maps.Goals as goal
 
 pub loop-number-preserved : goal.loop-number-preserved
 loop-number-preserved c = (

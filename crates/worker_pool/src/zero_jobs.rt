@@ -1,11 +1,11 @@
 //! Jobs that are all alike.
 ghost use Rattle.std.specs.Prelude.{◌≡◌, ◌≤◌, length, IfOk, All, replicate};
 ghost use Rattle.bpf_model.specs.declared.limits.TheConstants.{CTX_BYTES};
-ghost use Rattle.program_pool.specs.Outcomes.{IsZeroJob};
+ghost use Rattle.worker_pool.specs.Outcomes.{IsZeroJob};
 
+use crate::job::Job;
 use bpf_model::{CtxBytes, ProgId};
 use std::alloc::{AllocError, Global};
-use worker_pool::Job;
 
 /// A context of so many bytes, all zero.
 fn zeros(count: usize) -> CtxBytes

@@ -1,15 +1,14 @@
-//! The jobs, run.
-ghost use Rattle.std.specs.Prelude.{◌≡◌, ◌⊎◌, ◌≤◌, ◌<◌, ◌∷◌, [], ℕ, List, All, Err, map, length, vec_len, IfOk};
-ghost use Rattle.bpf_model.specs.declared.insn.Insn.{Insn};
+//! One program, run many times over maps of its own.
+ghost use Rattle.std.specs.Prelude.{◌≡◌, ◌⊎◌, ◌≤◌, ◌<◌, ℕ, All, Err, map, length, vec_len, IfOk, IfErr};
 ghost use Rattle.bpf_model.specs.View.{new_map_view};
 ghost use Rattle.job_queue.specs.declared.fault.PoolFault.TheVariants as faults;
 ghost use Rattle.job_queue.specs.declared.pool.TheConstants.{MAX_JOBS, MAX_WORKERS};
-ghost use Rattle.journal_laws.specs.Replay.{HasNoRuns};
-ghost use Rattle.world.specs.Bound.{shapes_in};
-ghost use Rattle.program_pool.specs.Outcomes.{IsZeroJob, IsReportOf};
+ghost use Rattle.worker_pool.specs.Outcomes.{IsFaultOf, IsZeroJob, IsReportOf, shapes_in};
 
-use crate::bound::world_of;
-use crate::jobs::jobs_of;
+use crate::job::{Job, Report, Trail};
+use crate::pool::run_jobs;
+use crate::zero_jobs::jobs_of;
+use job_queue::{MAX_JOBS, MAX_WORKERS, PoolFault};
 use maps::Registry;
 use shared::Shared;
 use std::alloc::Global;
@@ -18,8 +17,6 @@ use std::sync::Wait;
 use std::sync::ledger::{Blank, Ledger};
 use std::thread::Threads;
 use verifier::Verified;
-use worker_pool::{Job, MAX_JOBS, MAX_WORKERS, PoolFault, Report, Trail, run_jobs};
-use world::World;
 
 /// What came of all jobs.
 #[derive(Debug, Drop)]
@@ -35,24 +32,30 @@ fn run_shared<L: Ledger + Send + Sync, R: Threads + Wait + Sync>(
     rt: &R,
     alloc: Global,
     blank: Blank,
-    world: World,
+    registry: Registry,
+    verified: Verified,
     workers: u8,
     jobs: &[Job],
 ) -> Result<PoolRun, PoolFault>
-    requires quiet { HasNoRuns world }
+    requires new_maps { registry.maps ≡ map new_map_view (shapes_in registry) }
+    requires shapes { verified.shapes ≡ shapes_in registry }
     requires workers { (0 < workers) × (workers ≤ MAX_WORKERS) }
     requires jobs { length jobs.now ≤ MAX_JOBS }
     requires name { blank.name ≡ L.name }
     requires parts { (blank.parts ≡ L.parts) × (blank.parts ≡ workers) }
+    ensures fault { IfErr result (λ f. (f ≡ faults.Memory) ⊎ (f ≡ faults.Lost)) }
     ensures count { IfOk result (λ r. vec_len r.report.jobs ≡ length jobs.now) }
-    ensures outcomes { (program : List Insn) (ctx_len : ℕ) →
-        map (λ l. l.code) world.programs ≡ program ∷ [] → All (IsZeroJob ctx_len) jobs.now →
-        IfOk result (λ r. All (IsReportOf program ctx_len) r.report.jobs.items) }
+    ensures outcomes { (ctx_len : ℕ) → All (IsZeroJob ctx_len) jobs.now →
+        IfOk result (λ r. All (IsReportOf verified.program ctx_len) r.report.jobs.items) }
 {
-    let Ok((shared, mut hands, _)) = Shared::<L>::new(alloc, world, workers, blank) else {
+    let shared = Shared::<L>::of_program(alloc, registry, verified, workers, blank);
+    let Ok((shared, mut hands)) = shared else {
         return Err(PoolFault::Memory);
     };
-    let report = run_jobs(rt, alloc, jobs, workers as usize, &shared, &mut hands)?;
+    let report = match run_jobs(rt, alloc, jobs, workers as usize, &shared, &mut hands) {
+        Ok(report) => report,
+        Err(fault) => return Err(fault),
+    };
     let finished = shared.finish(hands);
     Ok(PoolRun {
         report,
@@ -78,11 +81,12 @@ pub fn run_program<R: Threads + Wait + Sync>(
     workers: u64,
     count: u64,
 ) -> Result<PoolRun, PoolFault>
-    requires new_maps { registry.maps ≡ map new_map_view (shapes_in registry.maps) }
-    requires shapes { verified.shapes ≡ shapes_in registry.maps }
+    requires new_maps { registry.maps ≡ map new_map_view (shapes_in registry) }
+    requires shapes { verified.shapes ≡ shapes_in registry }
     ensures bad_workers { (workers ≡ 0) ⊎ (MAX_WORKERS < workers) → result ≡ Err faults.BadWorkers }
     ensures too_many_jobs { 0 < workers → workers ≤ MAX_WORKERS → MAX_JOBS < count →
         result ≡ Err faults.TooManyJobs }
+    ensures fault { IfErr result (IsFaultOf workers count) }
     ensures count { IfOk result (λ r. vec_len r.report.jobs ≡ count) }
     // A job that has exited has exited with a value of the program's definition.
     ensures outcomes { IfOk result (λ r.
@@ -97,9 +101,6 @@ pub fn run_program<R: Threads + Wait + Sync>(
     let Ok(jobs) = jobs_of(alloc, count as usize, verified.ctx_len()) else {
         return Err(PoolFault::Memory);
     };
-    let Ok(world) = world_of(alloc, registry, verified) else {
-        return Err(PoolFault::Memory);
-    };
     let blank = Blank::new(workers);
-    run_shared::<Brand, R>(rt, alloc, blank, world, workers as u8, &jobs)
+    run_shared::<Brand, R>(rt, alloc, blank, registry, verified, workers as u8, &jobs)
 }

@@ -1,3 +1,0 @@
-pub mod Numbering
-pub mod Quiet
-pub mod Outcomes
