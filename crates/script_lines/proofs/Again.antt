@@ -4,7 +4,7 @@ use Rattle.std.specs.Prelude.{Option, Some, None, Ok, nat_lt, if◌then◌else�
 use Rattle.std.specs.Fmt.{decimal}
 use Rattle.std.specs.Str.{all_ascii_digits}
 use Rattle.std.specs.Str.Parse.{digits_value}
-use Rattle.std.proofs.lemmas.Bool.{ne_eqb, eqb-true}
+use Rattle.std.proofs.lemmas.Bool.{ne_eqb, eqb-true, false_from_ne_true}
 use Rattle.std.proofs.lemmas.Bool.Decides.{nat_tests}
 use Rattle.std.proofs.lemmas.Fmt.{decimal_digit, decimal_nonempty, first_decimal, digits_decimal, digits_value-decimal, decimal-digits_value}
 use Rattle.std.proofs.lemmas.Slice.Eq.{bytes_eq-Decides}
@@ -12,7 +12,7 @@ use Rattle.std.proofs.lemmas.Str.Parse.{IsNumeralModel, numerals_by_value, tells
 use Rattle.hex.specs.Hex.{IsBytes, decode_of, encode_lower, lower_digits}
 use Rattle.hex.proofs.HexLemmas.{decode_of-encode_lower, length-encode_with}
 use Rattle.script_lines.specs.Answers.{bytes_text}
-use Rattle.script_lines.specs.Words.{is_word, is_numeral, number_in, bytes_in}
+use Rattle.script_lines.specs.Words.{is_word, is_numeral, number_in, hex_bytes_in}
 use Rattle.script_lines.proofs.WordLaws.{long_is_word}
 
 own : IsNumeralModel (λ ds. all_ascii_digits ds ≡ true) (digits_value 10)
@@ -21,10 +21,6 @@ own = numerals_by_value (λ ds. all_ascii_digits ds ≡ true) tells_all_ascii_di
 or_true : (b : Bool) → (b || true) ≡ true
 or_true true = refl
 or_true false = refl
-
-false_from : (b : Bool) → (b ≡ true → ⊥) → b ≡ false
-false_from true h = absurd (h refl)
-false_from false h = refl
 
 abbrev begins_well : List ℕ → Bool
 begins_well word = length word == 1 || not (get_or word 0 0 == 48)
@@ -76,7 +72,7 @@ number_once word n h =
 
 not_dash : (b : ℕ) (bytes : List ℕ) → bytes_eq (encode_lower (b ∷ bytes)) (codes "-") ≡ false
 not_dash b bytes =
-    false_from (bytes_eq (encode_lower (b ∷ bytes)) (codes "-")) (λ same.
+    false_from_ne_true (bytes_eq (encode_lower (b ∷ bytes)) (codes "-")) (λ same.
     let e : length (encode_lower (b ∷ bytes)) ≡ 1 = ap length ((bytes_eq-Decides (encode_lower (b ∷ bytes)) (codes "-")).0 same) in
     let twice : length (encode_lower (b ∷ bytes)) ≡ 2 * length (b ∷ bytes) = length-encode_with lower_digits (b ∷ bytes) in
     omega (arith, e, twice))
@@ -86,12 +82,12 @@ some_text b bytes =
     let some : (length (b ∷ bytes) == 0) ≡ false = ne_eqb (length (b ∷ bytes)) 0 (λ e. omega (arith, e)) in
     rw some refl
 
-digits_again : (b : ℕ) (bytes : List ℕ) → IsBytes (b ∷ bytes) → bytes_in (encode_lower (b ∷ bytes)) ≡ Some (b ∷ bytes)
+digits_again : (b : ℕ) (bytes : List ℕ) → IsBytes (b ∷ bytes) → hex_bytes_in (encode_lower (b ∷ bytes)) ≡ Some (b ∷ bytes)
 digits_again b bytes h =
     let dash = not_dash b bytes in
     let again : decode_of (encode_lower (b ∷ bytes)) ≡ Ok (b ∷ bytes) = decode_of-encode_lower (b ∷ bytes) h in
     rw (dash, again) refl
 
-pub bytes_again : (bytes : List ℕ) → IsBytes bytes → bytes_in (bytes_text bytes) ≡ Some bytes
+pub bytes_again : (bytes : List ℕ) → IsBytes bytes → hex_bytes_in (bytes_text bytes) ≡ Some bytes
 bytes_again [] h = refl
-bytes_again (b ∷ bytes) h = ap bytes_in (some_text b bytes) ∙ digits_again b bytes h
+bytes_again (b ∷ bytes) h = ap hex_bytes_in (some_text b bytes) ∙ digits_again b bytes h

@@ -1,7 +1,8 @@
 -- The commands, as words.
 use Rattle.std.specs.Prelude.{ℕ, nat_le, if◌then◌else◌, List, [], ◌∷◌, length, codes, bytes_eq, Option, Some, None}
 use Rattle.std.specs.List.{find}
-use Rattle.script_lines.specs.Words.{◌>>=◌, number_in, count_in, bytes_in, key_in, value_in, context_in}
+use Rattle.bpf_model.specs.Value.{◌>>=◌}
+use Rattle.script_lines.specs.Words.{number_in, count_in, hex_bytes_in, key_bytes_in, value_bytes_in, context_bytes_in}
 use Rattle.script_lines.specs.declared.command.Command.{Command}
 use Rattle.script_lines.specs.declared.command.Command.TheVariants as commands
 use Rattle.bpf_model.specs.declared.limits.TheConstants.{MAX_MAPS}
@@ -30,77 +31,77 @@ verb_of word = find (λ verb. bytes_eq (verb_name verb) word) VERBS
 -- The words behind it. A word for a name may be any.
 
 -- `map NAME KEY VALUE ENTRIES SPARE REUSE`
-abbrev pub map_of : List (List ℕ) → Option Command
-map_of (name ∷ key ∷ value ∷ entries ∷ spare ∷ reuse ∷ []) = do
+abbrev pub map_command : List (List ℕ) → Option Command
+map_command (name ∷ key ∷ value ∷ entries ∷ spare ∷ reuse ∷ []) = do
   key_len ← number_in key
   value_len ← number_in value
   most ← number_in entries
   further ← number_in spare
   limit ← number_in reuse
   Some (commands.Map name key_len value_len most further limit)
-map_of _ = None
+map_command _ = None
 
 -- `load CTXLEN BYTES [NAME ..]`
-abbrev pub load_of : List (List ℕ) → Option Command
-load_of (ctx ∷ bytes ∷ names) = do
+abbrev pub load_command : List (List ℕ) → Option Command
+load_command (ctx ∷ bytes ∷ names) = do
   ctx_len ← number_in ctx
-  code ← bytes_in bytes
+  code ← hex_bytes_in bytes
   if nat_le (length names) MAX_MAPS then Some (commands.Load ctx_len code names) else None
-load_of _ = None
+load_command _ = None
 
 -- `put NAME KEY VALUE FLAGS`
-abbrev pub put_of : List (List ℕ) → Option Command
-put_of (name ∷ key ∷ value ∷ flags ∷ []) = do
-  k ← key_in key
-  v ← value_in value
+abbrev pub put_command : List (List ℕ) → Option Command
+put_command (name ∷ key ∷ value ∷ flags ∷ []) = do
+  k ← key_bytes_in key
+  v ← value_bytes_in value
   n ← number_in flags
   Some (commands.Put name k v n)
-put_of _ = None
+put_command _ = None
 
 -- `get NAME KEY`
-abbrev pub get_of : List (List ℕ) → Option Command
-get_of (name ∷ key ∷ []) = do
-  k ← key_in key
+abbrev pub get_command : List (List ℕ) → Option Command
+get_command (name ∷ key ∷ []) = do
+  k ← key_bytes_in key
   Some (commands.Get name k)
-get_of _ = None
+get_command _ = None
 
 -- `del NAME KEY`
-abbrev pub del_of : List (List ℕ) → Option Command
-del_of (name ∷ key ∷ []) = do
-  k ← key_in key
+abbrev pub del_command : List (List ℕ) → Option Command
+del_command (name ∷ key ∷ []) = do
+  k ← key_bytes_in key
   Some (commands.Del name k)
-del_of _ = None
+del_command _ = None
 
 -- `start PROG CTX`
-abbrev pub start_of : List (List ℕ) → Option Command
-start_of (prog ∷ ctx ∷ []) = do
+abbrev pub start_command : List (List ℕ) → Option Command
+start_command (prog ∷ ctx ∷ []) = do
   n ← number_in prog
-  c ← context_in ctx
+  c ← context_bytes_in ctx
   Some (commands.Start n c)
-start_of _ = None
+start_command _ = None
 
 -- `step RUN [COUNT]`, where no COUNT is 1
-abbrev pub step_of : List (List ℕ) → Option Command
-step_of (run ∷ []) = do
+abbrev pub step_command : List (List ℕ) → Option Command
+step_command (run ∷ []) = do
   n ← number_in run
   Some (commands.Step n 1)
-step_of (run ∷ count ∷ []) = do
+step_command (run ∷ count ∷ []) = do
   n ← number_in run
   steps ← count_in count
   Some (commands.Step n steps)
-step_of _ = None
+step_command _ = None
 
 -- `drop RUN`
-abbrev pub drop_of : List (List ℕ) → Option Command
-drop_of (run ∷ []) = do
+abbrev pub drop_command : List (List ℕ) → Option Command
+drop_command (run ∷ []) = do
   n ← number_in run
   Some (commands.Drop n)
-drop_of _ = None
+drop_command _ = None
 
 -- `dump NAME`
-abbrev pub dump_of : List (List ℕ) → Option Command
-dump_of (name ∷ []) = Some (commands.Dump name)
-dump_of _ = None
+abbrev pub dump_command : List (List ℕ) → Option Command
+dump_command (name ∷ []) = Some (commands.Dump name)
+dump_command _ = None
 
 -- `advance`, `reap`, `stat`
 abbrev pub alone : Command → List (List ℕ) → Option Command
@@ -108,18 +109,18 @@ alone command [] = Some command
 alone command _ = None
 
 abbrev pub arguments_for : Verb → List (List ℕ) → Option Command
-arguments_for verbs.Map words = map_of words
-arguments_for verbs.Load words = load_of words
-arguments_for verbs.Put words = put_of words
-arguments_for verbs.Get words = get_of words
-arguments_for verbs.Del words = del_of words
-arguments_for verbs.Start words = start_of words
-arguments_for verbs.Step words = step_of words
+arguments_for verbs.Map words = map_command words
+arguments_for verbs.Load words = load_command words
+arguments_for verbs.Put words = put_command words
+arguments_for verbs.Get words = get_command words
+arguments_for verbs.Del words = del_command words
+arguments_for verbs.Start words = start_command words
+arguments_for verbs.Step words = step_command words
 arguments_for verbs.Advance words = alone commands.Advance words
 arguments_for verbs.Reap words = alone commands.Reap words
-arguments_for verbs.Drop words = drop_of words
+arguments_for verbs.Drop words = drop_command words
 arguments_for verbs.Stat words = alone commands.Stat words
-arguments_for verbs.Dump words = dump_of words
+arguments_for verbs.Dump words = dump_command words
 
 -- the command that the words are
 abbrev pub command_of : List (List ℕ) → Option Command

@@ -7,15 +7,10 @@ use Rattle.std.specs.Str.Parse.{digits_value}
 use Rattle.arrayvec.specs.ArrayVec.{ArrayVec}
 use Rattle.hex.specs.Hex.{decode_of}
 use Rattle.bpf_model.specs.declared.limits.TheConstants.{KEY_BYTES, VALUE_BYTES, CTX_BYTES}
+use Rattle.bpf_model.specs.Value.{◌>>=◌}
 use Rattle.script_lines.specs.declared.bytes.Bytes.{Bytes}
 use Rattle.script_lines.specs.declared.bytes.Bytes.TheVariants.{Fit, TooLong}
 use Rattle.script_lines.specs.declared.parsing.TheConstants.{MAX_COUNT}
-
--- the second step, of what the first gave, if it gave something
-infixl 10 ◌>>=◌
-abbrev pub ◌>>=◌ : {A B : Type 0} → Option A → (A → Option B) → Option B
-Some x >>= f = f x
-None >>= f = None
 
 abbrev pub is_word : List ℕ → Bool
 is_word part = not (length part == 0)
@@ -42,8 +37,8 @@ count_in word = do
   if nat_le 1 count && nat_le count MAX_COUNT then Some count else None
 
 -- the bytes that a word writes: each as two hexadecimal digits of either case, or `-` for none
-abbrev pub bytes_in : List ℕ → Option (List ℕ)
-bytes_in word = if bytes_eq word (codes "-") then Some [] else result_ok (decode_of word)
+abbrev pub hex_bytes_in : List ℕ → Option (List ℕ)
+hex_bytes_in word = if bytes_eq word (codes "-") then Some [] else result_ok (decode_of word)
 
 -- the bytes, where they are at most so many
 abbrev pub fitting : ℕ → List ℕ → Bytes (ArrayVec ℕ)
@@ -52,14 +47,14 @@ fitting most bytes = if nat_le (length bytes) most then Fit (record { items = by
 -- the bytes that a word writes for something that has at most so many
 abbrev pub sized_bytes_in : ℕ → List ℕ → Option (Bytes (ArrayVec ℕ))
 sized_bytes_in most word = do
-  bytes ← bytes_in word
+  bytes ← hex_bytes_in word
   Some (fitting most bytes)
 
-abbrev pub key_in : List ℕ → Option (Bytes (ArrayVec ℕ))
-key_in word = sized_bytes_in KEY_BYTES word
+abbrev pub key_bytes_in : List ℕ → Option (Bytes (ArrayVec ℕ))
+key_bytes_in word = sized_bytes_in KEY_BYTES word
 
-abbrev pub value_in : List ℕ → Option (Bytes (ArrayVec ℕ))
-value_in word = sized_bytes_in VALUE_BYTES word
+abbrev pub value_bytes_in : List ℕ → Option (Bytes (ArrayVec ℕ))
+value_bytes_in word = sized_bytes_in VALUE_BYTES word
 
-abbrev pub context_in : List ℕ → Option (Bytes (ArrayVec ℕ))
-context_in word = sized_bytes_in CTX_BYTES word
+abbrev pub context_bytes_in : List ℕ → Option (Bytes (ArrayVec ℕ))
+context_bytes_in word = sized_bytes_in CTX_BYTES word

@@ -2,7 +2,7 @@
 ghost use Rattle.std.specs.Prelude.{◌≡◌, length, Some, option_map, bytes_eq, codes};
 ghost use Rattle.std.specs.List.{list_all};
 ghost use Rattle.hex.specs.Hex.{is_hex_digit as is_digit};
-ghost use Rattle.script_lines.specs.Words.{bytes_in, sized_bytes_in};
+ghost use Rattle.script_lines.specs.Words.{hex_bytes_in, sized_bytes_in};
 
 use arrayvec::ArrayVec;
 
@@ -36,7 +36,7 @@ fn are_hex_digits(word: &[u8]) -> bool
 /// How many bytes the word writes, where it writes bytes.
 #[tactic(auto, using(crate::proofs::HexLaws::counting))]
 pub(crate) fn byte_count(word: &[u8]) -> Option<usize>
-    ensures { result ≡ option_map length (bytes_in word.now) }
+    ensures { result ≡ option_map length (hex_bytes_in word.now) }
 {
     if is_dash(word) {
         return Some(0);
@@ -50,8 +50,8 @@ pub(crate) fn byte_count(word: &[u8]) -> Option<usize>
 
 /// Writes the bytes that the word writes.
 pub(crate) fn decode(word: &[u8], out: &mut [u8])
-    requires { option_map length (bytes_in word.now) ≡ Some (length out.old) }
-    ensures { bytes_in word.now ≡ Some out.new }
+    requires { option_map length (hex_bytes_in word.now) ≡ Some (length out.old) }
+    ensures { hex_bytes_in word.now ≡ Some out.new }
 {
     if !is_dash(word) {
         let _done = hex::decode_to_slice(word, out);

@@ -1,7 +1,7 @@
 //! A program's bytes in hexadecimal.
 ghost use Rattle.std.specs.Prelude.{◌≡◌, List, ℕ, [], IsSome, IfOk};
 ghost use Rattle.std.specs.Option.{unwrap_or};
-ghost use Rattle.script_lines.specs.Words.{bytes_in};
+ghost use Rattle.script_lines.specs.Words.{hex_bytes_in};
 
 use crate::bytes::{byte_count, is_dash};
 use std::alloc::{AllocError, Global};
@@ -16,15 +16,15 @@ pub struct Code<'a> {
 impl<'a> Model for Code<'a> {
     ghost Value = { List ℕ };
 
-    ghost view = { λ c. unwrap_or (bytes_in c.word.now) [] };
+    ghost view = { λ c. unwrap_or (hex_bytes_in c.word.now) [] };
 
-    ghost invariant = { λ c. IsSome (bytes_in c.word.now) };
+    ghost invariant = { λ c. IsSome (hex_bytes_in c.word.now) };
 }
 
 impl<'a> Code<'a> {
     /// The bytes that the word writes, where it writes bytes.
     pub(crate) fn new(word: &'a [u8]) -> Option<Code<'a>>
-        ensures { result ≡ bytes_in word.now }
+        ensures { result ≡ hex_bytes_in word.now }
     {
         match byte_count(word) {
             Some(_) => Some(Code { word }),

@@ -2,7 +2,7 @@
 ghost use Rattle.std.specs.Prelude.{ℕ, ◌≡◌, Some};
 ghost use Rattle.std.specs.Fmt.{decimal};
 ghost use Rattle.script_lines.specs.Answers.{bytes_text};
-ghost use Rattle.script_lines.specs.Words.{number_in, bytes_in};
+ghost use Rattle.script_lines.specs.Words.{number_in, hex_bytes_in};
 
 /// A law: the text of a number is read as that number.
 pub fn number_is_read_again(number: u64)
@@ -18,7 +18,7 @@ pub fn number_has_one_text(word: &[u8])
 
 /// A law: the text of bytes is read as these bytes.
 pub fn bytes_are_read_again(bytes: &[u8])
-    ensures { bytes_in (bytes_text bytes.now) ≡ Some bytes.now }
+    ensures { hex_bytes_in (bytes_text bytes.now) ≡ Some bytes.now }
 {
     let _bytes = bytes;
 }

@@ -25,7 +25,8 @@ impl<'a> Model for Names<'a> {
 impl<'a> Names<'a> {
     /// The names that the words are, where they are at most `MAX_MAPS`.
     pub(crate) fn new(words: Words<'a>) -> Option<Names<'a>>
-        ensures { result ≡ (if nat_le (length words.entry) MAX_MAPS then Some words.entry else None) }
+        ensures { result
+            ≡ (if nat_le (length words.entry) MAX_MAPS then Some words.entry else None) }
     {
         if words.are_at_most(MAX_MAPS) {
             Some(Names { words })

@@ -17,7 +17,8 @@ fn push_digit(value: u64, digit: u8) -> Option<u64>
 
 /// The number that the digits write, where each byte is one and the number is below 2^64.
 fn read_digits(digits: &[u8]) -> Option<u64>
-    ensures { result ≡ (if all_ascii_digits digits.now && nat_lt (digits_value 10 digits.now) (2 ^ 64)
+    ensures { result
+        ≡ (if all_ascii_digits digits.now && nat_lt (digits_value 10 digits.now) (2 ^ 64)
         then Some (digits_value 10 digits.now) else None) }
 {
     let mut value: u64 = 0;

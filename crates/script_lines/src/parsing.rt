@@ -1,7 +1,7 @@
 //! Commands out of lines.
 ghost use Rattle.std.specs.Prelude.{◌≡◌, [], IfSome, IfNone};
 ghost use Rattle.script_lines.specs.Words.{words_of, number_in, count_in};
-ghost use Rattle.script_lines.specs.Grammar.{map_of, load_of, put_of, get_of, del_of, start_of, step_of, drop_of, dump_of, alone, arguments_for, command_of};
+ghost use Rattle.script_lines.specs.Grammar.{map_command, load_command, put_command, get_command, del_command, start_command, step_command, drop_command, dump_command, alone, arguments_for, command_of};
 ghost use Rattle.script_lines.specs.Lines.{is_silent as says_nothing, has_outer_space as has_space_outside, line_says};
 
 use crate::bytes::bytes_of;
@@ -32,7 +32,7 @@ fn count_of(word: &[u8]) -> Option<u64>
 }
 
 fn map<'a>(mut words: Words<'a>) -> Option<Command<'a>>
-    ensures { result ≡ map_of words.entry }
+    ensures { result ≡ map_command words.entry }
 {
     let name = words.next()?;
     let key_len = words.next()?;
@@ -52,7 +52,7 @@ fn map<'a>(mut words: Words<'a>) -> Option<Command<'a>>
 }
 
 fn load<'a>(mut words: Words<'a>) -> Option<Command<'a>>
-    ensures { result ≡ load_of words.entry }
+    ensures { result ≡ load_command words.entry }
 {
     let ctx_len = words.next()?;
     let code = words.next()?;
@@ -64,7 +64,7 @@ fn load<'a>(mut words: Words<'a>) -> Option<Command<'a>>
 }
 
 fn put<'a>(mut words: Words<'a>) -> Option<Command<'a>>
-    ensures { result ≡ put_of words.entry }
+    ensures { result ≡ put_command words.entry }
 {
     let map = words.next()?;
     let key = words.next()?;
@@ -80,7 +80,7 @@ fn put<'a>(mut words: Words<'a>) -> Option<Command<'a>>
 }
 
 fn get<'a>(mut words: Words<'a>) -> Option<Command<'a>>
-    ensures { result ≡ get_of words.entry }
+    ensures { result ≡ get_command words.entry }
 {
     let map = words.next()?;
     let key = words.next()?;
@@ -92,7 +92,7 @@ fn get<'a>(mut words: Words<'a>) -> Option<Command<'a>>
 }
 
 fn del<'a>(mut words: Words<'a>) -> Option<Command<'a>>
-    ensures { result ≡ del_of words.entry }
+    ensures { result ≡ del_command words.entry }
 {
     let map = words.next()?;
     let key = words.next()?;
@@ -104,7 +104,7 @@ fn del<'a>(mut words: Words<'a>) -> Option<Command<'a>>
 }
 
 fn start<'a>(mut words: Words<'a>) -> Option<Command<'a>>
-    ensures { result ≡ start_of words.entry }
+    ensures { result ≡ start_command words.entry }
 {
     let prog = words.next()?;
     let ctx = words.next()?;
@@ -116,7 +116,7 @@ fn start<'a>(mut words: Words<'a>) -> Option<Command<'a>>
 }
 
 fn step<'a>(mut words: Words<'a>) -> Option<Command<'a>>
-    ensures { result ≡ step_of words.entry }
+    ensures { result ≡ step_command words.entry }
 {
     let run = words.next()?;
     let Some(count) = words.next() else {
@@ -133,7 +133,7 @@ fn step<'a>(mut words: Words<'a>) -> Option<Command<'a>>
 }
 
 fn drop_run<'a>(mut words: Words<'a>) -> Option<Command<'a>>
-    ensures { result ≡ drop_of words.entry }
+    ensures { result ≡ drop_command words.entry }
 {
     let run = words.next()?;
     words.end()?;
@@ -143,7 +143,7 @@ fn drop_run<'a>(mut words: Words<'a>) -> Option<Command<'a>>
 }
 
 fn dump<'a>(mut words: Words<'a>) -> Option<Command<'a>>
-    ensures { result ≡ dump_of words.entry }
+    ensures { result ≡ dump_command words.entry }
 {
     let map = words.next()?;
     words.end()?;

@@ -77,7 +77,8 @@ impl<'a> Words<'a> {
     /// That there is none.
     pub(crate) fn end(&self) -> Option<()>
         ensures some { IfSome result (λ _. self.now ≡ []) }
-        ensures none { IfNone result ((word : List ℕ) × (words : List (List ℕ)) × (self.now ≡ word ∷ words)) }
+        ensures none { IfNone result ((word : List ℕ) × (words : List (List ℕ))
+            × (self.now ≡ word ∷ words)) }
     {
         let mut words = Words { rest: self.rest };
         match words.next() {
