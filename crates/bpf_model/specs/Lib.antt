@@ -1,6 +1,7 @@
 pub mod Access
 pub mod Arithmetic
 pub mod Call
+pub mod Codes
 pub mod Consistent
 pub mod Drain
 pub mod Element

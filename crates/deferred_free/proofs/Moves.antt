@@ -6,13 +6,14 @@ use Rattle.bpf_model.specs.Schedule.{Queues, turned}
 use Rattle.element_arena.specs.State.{ArenaState, IsTaken, LinksOf, link_at, link_in, times_in, with_link}
 use Rattle.deferred_free.specs.Queued.{queued, retired_lists, reaped_lists}
 use Rattle.element_arena.specs.Threads.{IsThread, last_slot_of}
-use Rattle.element_arena.proofs.Counts.{option_cases, one_cases, one_same, times-append, get-set_other}
+use Rattle.element_arena.proofs.Counts.{option_cases, one_cases, one_same, times-append}
 use Rattle.element_arena.proofs.Threading.{thread-agree, thread-join, thread-some, last-none, last-held, last-append}
 use Rattle.deferred_free.specs.declared.threaded.Line.{Line}
 use Rattle.deferred_free.specs.declared.threaded.Threaded.{Threaded}
 use Rattle.deferred_free.specs.Lines.{AreLinksJoined, joined, joined_to, joined_from}
 use Rattle.element_arena.specs.Kept.{last_left}
 use Rattle.deferred_free.specs.Fits.{threaded_lists, IsLine, FitsAs, ThreadedFits}
+use Rattle.bpf_model.proofs.Lists.{get-set_other}
 
 append-nil : (xs : List ℕ) → xs ++ [] ≡ xs
 append-nil [] = refl
@@ -39,6 +40,7 @@ line_join f g front back xs ys t u once at others = elim (option_cases front.las
       ])
 ]
 
+-- an arena that is another but for its links has the same slots taken
 pub taken_same : (a b : ArenaState) (j : ℕ) → b ≡ record a { links = b.links } → IsTaken a j → IsTaken b j
 taken_same a b j e t =
     let c : IsTaken (record a { links = b.links }) j = record { inside = t.inside; not_free = t.not_free; not_worn = t.not_worn } in

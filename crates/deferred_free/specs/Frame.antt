@@ -14,7 +14,8 @@ line_is : (a : ArenaState) (l : Line) (xs : List ℕ) → IsLine (link_at a.link
     ((j : ℕ) → times_in j xs ≤ 1) → ((j : ℕ) → 0 < times_in j xs → IsTaken a j) →
     line_slots a l ≡ xs
 line_is a l xs t once taken =
-    walk-thread (link_at a.links) l.first xs (length a.slots) t.thread (length_once (length a.slots) xs once (λ j h. (taken j h).inside))
+    walk-thread (link_at a.links) l.first xs (length a.slots) t.thread
+    (length_once (length a.slots) xs once (λ j h. (taken j h).inside))
 
 same_lists : (n n' w w' r r' : List ℕ) → n ≡ n' → w ≡ w' → r ≡ r' → let a : Queues =
     record { next = n; waiting = w; ready = r } in let b : Queues =
@@ -47,7 +48,8 @@ agreed : (x : Threaded) (a b : ArenaState) → ThreadedFits x a →
     SameAt (queued (threaded_lists x a)) a b → FitsAs x b (threaded_lists x a)
 agreed x a b f s = record {
   next = line_agree a b x.next (threaded_lists x a).next f.next (λ j h. s.link j (omega arith));
-  waiting = line_agree a b x.waiting (threaded_lists x a).waiting f.waiting (λ j h. s.link j (omega arith));
+  waiting = line_agree a b x.waiting (threaded_lists x a).waiting f.waiting
+      (λ j h. s.link j (omega arith));
   ready = line_agree a b x.ready (threaded_lists x a).ready f.ready (λ j h. s.link j (omega arith));
   once = f.once;
   taken = s.taken;

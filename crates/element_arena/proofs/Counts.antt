@@ -1,15 +1,9 @@
 -- How often a slot stands in a list.
-use Rattle.std.proofs.Common.{◌≡◌, ◌≢◌, ◌∙◌, ℕ, zero, suc, ◌+◌, ◌<◌, ◌≤◌, List, [], ◌∷◌, ◌++◌, length, Option, Some, None, ◌⊎◌, inl, inr, refl, sym, ap, arith, cond, eqb, Bool, true, false, subst}
-use Rattle.std.specs.Prelude.{slice_get, slice_set}
-use Rattle.std.proofs.lemmas.Bool.{cond-true, cond-false, eq-eqb, eqb-true, eqb-false, false_from_ne_true}
-use Rattle.std.proofs.lemmas.Option.{none-some, same_Some}
+use Rattle.std.proofs.Common.{◌≡◌, ◌≢◌, ◌∙◌, ℕ, zero, suc, ◌+◌, ◌<◌, ◌≤◌, List, [], ◌∷◌, ◌++◌, length, Option, Some, None, ◌⊎◌, inl, inr, refl, sym, ap, arith, cond, eqb, subst}
+use Rattle.std.proofs.lemmas.Bool.{cond-true, cond-false, eq-eqb, eqb-true, eqb-false, false_from_ne_true, cases_Bool}
 use Rattle.std.proofs.lemmas.List.Sums.{sum_by-cons}
 use Rattle.bpf_model.specs.Refines as refines
 use Rattle.element_arena.specs.State.{times_in}
-
-pub bool_cases : (b : Bool) → (b ≡ true) ⊎ (b ≡ false)
-bool_cases true = inl refl
-bool_cases false = inr refl
 
 pub option_cases : {A : Type 0} (o : Option A) → (o ≡ None) ⊎ ((x : A) × (o ≡ Some x))
 option_cases None = inl refl
@@ -21,7 +15,7 @@ list_cases (x ∷ ys) = inr (x, ys, refl)
 
 -- two slots are one, or they are not
 pub one_cases : (x n : ℕ) → ((x ≡ n) × (cond {A = ℕ} (eqb x n) 1 0 ≡ 1)) ⊎ ((x ≢ n) × (cond {A = ℕ} (eqb x n) 1 0 ≡ 0))
-one_cases x n = elim (bool_cases (eqb x n)) [
+one_cases x n = elim (cases_Bool (eqb x n)) [
   | inl y ↦ inl (eqb-true x n y, cond-true {A = ℕ} _ 1 0 y)
   | inr f ↦ inr (eqb-false x n f, cond-false {A = ℕ} _ 1 0 f)
 ]
@@ -50,7 +44,7 @@ without k (x ∷ xs) = cond (eqb x k) (without k xs) (x ∷ without k xs)
 
 without-length : (k : ℕ) (xs : List ℕ) → length xs ≡ length (without k xs) + times_in k xs
 without-length k [] = refl
-without-length k (x ∷ xs) = elim (bool_cases (eqb x k)) [
+without-length k (x ∷ xs) = elim (cases_Bool (eqb x k)) [
   | inl y ↦
       let l : length (without k (x ∷ xs)) ≡ length (without k xs) = ap (λ (l : List ℕ). length l) (cond-true _ _ _ y) in
       let c : cond {A = ℕ} (eqb x k) 1 0 ≡ 1 = cond-true {A = ℕ} _ 1 0 y in
@@ -63,7 +57,7 @@ without-length k (x ∷ xs) = elim (bool_cases (eqb x k)) [
 
 without-gone : (k : ℕ) (xs : List ℕ) → times_in k (without k xs) ≡ 0
 without-gone k [] = refl
-without-gone k (x ∷ xs) = elim (bool_cases (eqb x k)) [
+without-gone k (x ∷ xs) = elim (cases_Bool (eqb x k)) [
   | inl y ↦ ap (times_in k) (cond-true _ _ _ y) ∙ without-gone k xs
   | inr f ↦
       let l : times_in k (without k (x ∷ xs)) ≡ cond {A = ℕ} (eqb x k) 1 0 + times_in k (without k xs) = ap (times_in k) (cond-false _ _ _ f) in
@@ -73,7 +67,7 @@ without-gone k (x ∷ xs) = elim (bool_cases (eqb x k)) [
 
 without-less : (k i : ℕ) (xs : List ℕ) → times_in i (without k xs) ≤ times_in i xs
 without-less k i [] = omega arith
-without-less k i (x ∷ xs) = elim (bool_cases (eqb x k)) [
+without-less k i (x ∷ xs) = elim (cases_Bool (eqb x k)) [
   | inl y ↦
       let l : times_in i (without k (x ∷ xs)) ≡ times_in i (without k xs) = ap (times_in i) (cond-true _ _ _ y) in
       omega (arith, without-less k i xs)
@@ -107,44 +101,6 @@ length_room n xs x once inside new within =
       | inl y ↦ subst (λ j. j < n) y.0 within
       | inr ne ↦ let c : cond {A = ℕ} (eqb x i) 1 0 ≡ 0 = ne.1 in inside i (omega arith)
     ]) in omega arith
-
-pub length-set : {A : Type 0} (xs : List A) (i : ℕ) (y : A) → length (slice_set xs i y) ≡ length xs
-length-set [] i y = refl
-length-set (z ∷ xs) zero y = refl
-length-set (z ∷ xs) (suc i) y = ap suc (length-set xs i y)
-
-pub get-set_same : {A : Type 0} (xs : List A) (i : ℕ) (y : A) → i < length xs → slice_get (slice_set xs i y) i ≡ Some y
-get-set_same [] i y h = absurd (omega arith)
-get-set_same (z ∷ xs) zero y h = refl
-get-set_same (z ∷ xs) (suc i) y h = get-set_same xs i y (omega arith)
-
-pub get-set_other : {A : Type 0} (xs : List A) (i j : ℕ) (y : A) → j ≢ i → slice_get (slice_set xs i y) j ≡ slice_get xs j
-get-set_other [] i j y h = refl
-get-set_other (z ∷ xs) zero zero y h = absurd (h refl)
-get-set_other (z ∷ xs) zero (suc j) y h = refl
-get-set_other (z ∷ xs) (suc i) zero y h = refl
-get-set_other (z ∷ xs) (suc i) (suc j) y h = get-set_other xs i j y (λ e. h (ap suc e))
-
-pub get_some : {A : Type 0} (xs : List A) (i : ℕ) → i < length xs → (x : A) × (slice_get xs i ≡ Some x)
-get_some [] i h = absurd (omega arith)
-get_some (x ∷ xs) zero h = (x, refl)
-get_some (x ∷ xs) (suc i) h = get_some xs i (omega arith)
-
-pub get_inside : {A : Type 0} (xs : List A) (i : ℕ) (x : A) → slice_get xs i ≡ Some x → i < length xs
-get_inside [] i x h = absurd (none-some x h)
-get_inside (y ∷ xs) zero x h = omega arith
-get_inside (y ∷ xs) (suc i) x h = let l : i < length xs = get_inside xs i x h in omega arith
-
-pub set-past : {A : Type 0} (xs : List A) (i : ℕ) (y : A) → length xs ≤ i → slice_set xs i y ≡ xs
-set-past [] i y h = refl
-set-past (z ∷ xs) zero y h = absurd (omega arith)
-set-past (z ∷ xs) (suc i) y h = ap (λ l. z ∷ l) (set-past xs i y (omega arith))
-
--- a list with one member set to what it was
-pub set-same : {A : Type 0} (xs : List A) (i : ℕ) (y : A) → slice_get xs i ≡ Some y → slice_set xs i y ≡ xs
-set-same [] i y h = refl
-set-same (z ∷ xs) zero y h = ap (λ w. w ∷ xs) (sym (same_Some _ _ h))
-set-same (z ∷ xs) (suc i) y h = ap (λ l. z ∷ l) (set-same xs i y h)
 
 -- the count is that of the machine's words
 pub times-is : (n : ℕ) (xs : List ℕ) → times_in n xs ≡ refines.times n xs

@@ -2,9 +2,9 @@
 use Rattle.std.proofs.Common.{◌≡◌, ◌≢◌, ◌∙◌, ℕ, zero, suc, ◌+◌, ◌<◌, ◌≤◌, ◌^◌, List, ◌∷◌, Option, Some, None, inl, inr, refl, sym, ap, arith, cond, eqb, false, subst, map, replicate, drop}
 use Rattle.std.specs.Prelude.{slice_get, nat_lt, SomeIff, ◌-◌}
 use Rattle.std.specs.List.{range_with_len}
-use Rattle.std.proofs.lemmas.Bool.{cond-true, cond-false}
+use Rattle.std.proofs.lemmas.Bool.{cond-true, cond-false, cases_Bool}
 use Rattle.std.proofs.lemmas.Bool.Decides.{nat_tests}
-use Rattle.std.proofs.lemmas.Option.{same_Some}
+use Rattle.std.proofs.lemmas.Option.{same_Some, slice_get_within}
 use Rattle.std.proofs.lemmas.List.FromFn.{length-map-range_with_len}
 use Rattle.bpf_model.specs.View.{unused_slot}
 use Rattle.element_arena.specs.State.{times_in, new_arena}
@@ -12,7 +12,7 @@ use Rattle.element_arena.specs.Threads.{IsThread, last_slot_of}
 use Rattle.element_arena.specs.Fresh.{below, fresh_cell, fresh_cells}
 use Rattle.element_arena.specs.declared.cell.Cell.{Cell}
 use Rattle.element_arena.specs.Kept.{IsThreaded, raw, raw_of, free_count, taken_count, slots_shown, arena_state_of, is_worn, link_view}
-use Rattle.element_arena.proofs.Counts.{bool_cases, one_cases, one_other, get_inside}
+use Rattle.element_arena.proofs.Counts.{one_cases, one_other}
 use Rattle.element_arena.proofs.Slots.{state-is}
 use Rattle.element_arena.proofs.Views.{same_state}
 
@@ -72,13 +72,13 @@ get-new : (n j : ℕ) → j < n → slice_get (fresh_cells n n) j ≡ Some (fres
 get-new n j h = let e : 0 + j ≡ j = omega arith in get-fresh n 0 n j h ∙ ap (λ m. Some (fresh_cell n m)) e
 
 below-some : (i n : ℕ) → i < n → below i n ≡ Some i
-below-some i n h = elim (bool_cases (nat_lt i n)) [
+below-some i n h = elim (cases_Bool (nat_lt i n)) [
   | inl y ↦ cond-true _ _ _ y
   | inr f ↦ absurd (grind (arith, nat_tests))
 ]
 
 below-none : (i n : ℕ) → n ≤ i → below i n ≡ None
-below-none i n h = elim (bool_cases (nat_lt i n)) [
+below-none i n h = elim (cases_Bool (nat_lt i n)) [
   | inl y ↦ absurd (grind (arith, nat_tests))
   | inr f ↦ cond-false _ _ _ f
 ]
@@ -108,7 +108,7 @@ last-fresh (suc k) = let e : 0 + k ≡ k = omega arith in sym (last-range 0 k �
 module _ (n limit : ℕ) (some : 1 ≤ limit) (small : limit < 2 ^ 32) where
   fresh-is : (j : ℕ) (c : Cell) → slice_get (fresh_cells n n) j ≡ Some c → (j < n) × (c ≡ fresh_cell n j)
   fresh-is j c h =
-      let w : j < n = subst (λ m. j < m) (length-map-range_with_len (fresh_cell n) 0 n) (get_inside (fresh_cells n n) j c h) in
+      let w : j < n = subst (λ m. j < m) (length-map-range_with_len (fresh_cell n) 0 n) (slice_get_within (fresh_cells n n) j c h) in
       (w, sym (same_Some (fresh_cell n j) c (sym (get-new n j w) ∙ h)))
 
   pub threaded-fresh : IsThreaded (fresh_cells n n) (below 0 n) (last_below n) limit (range_with_len 0 n)

@@ -9,11 +9,11 @@ use Rattle.element_arena.specs.State.{IsTaken, ArenaState, given_back, is_last_u
 use Rattle.element_arena.specs.declared.cell.Cell.{Cell}
 use Rattle.element_arena.specs.declared.cell.Standing.TheVariants.{Free, Worn}
 use Rattle.element_arena.specs.Kept.{IsThreaded, AreCellsKept, IsLaidOut, arena_state_of, free_of, state_with, slots_shown, free_count, taken_count, first_with, linked_behind, given_cell}
-use Rattle.element_arena.proofs.Counts.{length-set}
 use Rattle.element_arena.proofs.Keeps.{IsHeld, kept_from, taken_at, wear, free_again, last_free, length-behind}
 use Rattle.element_arena.proofs.Threading.{last-held}
 use Rattle.element_arena.proofs.Views.{wear_view, free_view, behind_view, last_use_is}
 use Rattle.element_arena.proofs.Slots.{held_from, state-is, shown-same, shown-behind, shown-uses, laid-out}
+use Rattle.bpf_model.proofs.Lists.{length-set}
 
 -- what is told of the slot
 abbrev pub answer : Bool → Given

@@ -1,6 +1,6 @@
 -- The finite map of an index, whatever the order of its slots.
 use Rattle.std.proofs.Common.{◌≡◌, ◌≢◌, ◌∙◌, ℕ, ◌+◌, ◌<◌, ◌≤◌, List, [], ◌∷◌, Some, None, inl, inr, refl, sym, ap, arith, cond, eqb, Bool, true, false, subst}
-use Rattle.std.proofs.lemmas.Bool.{cond-true, cond-false, eqb-true, eqb-false, false_from_ne_true, false≢true}
+use Rattle.std.proofs.lemmas.Bool.{cond-true, cond-false, eqb-true, eqb-false, false_from_ne_true, false≢true, cases_Bool}
 use Rattle.std.proofs.lemmas.Option.{none-some, same_Some}
 use Rattle.std.proofs.lemmas.Cmp.{nat_list_cmp_total}
 use Rattle.std.specs.Cmp.Lexicographic.{slice_cmp, texts_ties, bytes_decides}
@@ -8,7 +8,7 @@ use Rattle.std.specs.Ordering.{nat_cmp, eq_by_cmp}
 use Rattle.std.specs.FinMap as map
 use Rattle.std.specs.FinMap.{FinMap, get, insert, remove, get-insert, get-remove, get-from_entries, same_map, slice_cmp-IsAntisymmetric, nat_cmp-IsAntisymmetric}
 use Rattle.element_arena.specs.State.{times_in, is_at, entries_of, contents_of, slot_of}
-use Rattle.element_arena.proofs.Counts.{bool_cases, option_cases, one_cases, one_same, one_other, times_first}
+use Rattle.element_arena.proofs.Counts.{option_cases, one_cases, one_same, one_other, times_first}
 
 -- whether two keys are one
 abbrev pub same_key : List ℕ → List ℕ → Bool
@@ -38,7 +38,7 @@ get-contents key slots k = get-from_entries nat_list_cmp_total (entries_of key s
 
 pub slot_of-some : (key : ℕ → List ℕ) (xs : List ℕ) (k : List ℕ) (j : ℕ) → slot_of key xs k ≡ Some j → (0 < times_in j xs) × (key j ≡ k)
 slot_of-some key [] k j h = absurd (none-some j h)
-slot_of-some key (x ∷ xs) k j h = elim (bool_cases (same_key k (key x))) [
+slot_of-some key (x ∷ xs) k j h = elim (cases_Bool (same_key k (key x))) [
   | inl y ↦ let e : x ≡ j = same_Some x j (sym (cond-true _ _ _ y) ∙ h) in (subst (λ z. 0 < times_in z (x ∷ xs)) e (times_first x xs), ap key (sym e) ∙ sym (same_key-true k (key x) y))
   | inr f ↦ let r = slot_of-some key xs k j (sym (cond-false _ _ _ f) ∙ h) in let p : 0 < times_in j xs = r.0 in (omega arith, r.1)
 ]
@@ -54,7 +54,7 @@ AreUnique key xs = (i j : ℕ) → 0 < times_in i xs → 0 < times_in j xs → k
 
 pub slot_of-none : (key : ℕ → List ℕ) (xs : List ℕ) (k : List ℕ) (j : ℕ) → slot_of key xs k ≡ None → 0 < times_in j xs → key j ≢ k
 slot_of-none key [] k j h p = absurd (omega arith)
-slot_of-none key (x ∷ xs) k j h p = elim (bool_cases (same_key k (key x))) [
+slot_of-none key (x ∷ xs) k j h p = elim (cases_Bool (same_key k (key x))) [
   | inl y ↦ absurd (none-some x (sym h ∙ cond-true _ _ _ y))
   | inr f ↦ elim (one_cases x j) [
     | inl e ↦ λ z. same_key-false k (key x) f (sym z ∙ ap key (sym e.0))
@@ -82,7 +82,7 @@ module _ (key : ℕ → List ℕ) (xs ys : List ℕ) (i : ℕ) where
   ]
 
   slot_of-insert : AreUnique key xs → slot_of key xs (key i) ≡ None → ((j : ℕ) → times_in j ys ≡ times_in j xs + cond (eqb i j) 1 0) → (q : List ℕ) → slot_of key ys q ≡ cond (same_key q (key i)) (Some i) (slot_of key xs q)
-  slot_of-insert unique none more q = let u : AreUnique key ys = unique-insert unique none more in elim (bool_cases (same_key q (key i))) [
+  slot_of-insert unique none more q = let u : AreUnique key ys = unique-insert unique none more in elim (cases_Bool (same_key q (key i))) [
     | inl y ↦ slot_of-present key ys q i u (omega (arith, more i, one_same i)) (sym (same_key-true q (key i) y)) ∙ sym (cond-true _ _ _ y)
     | inr f ↦ elim (option_cases (slot_of key xs q)) [
       | inl n ↦ slot_of-absent key ys q (λ j h. elim (one_cases i j) [
@@ -104,7 +104,7 @@ module _ (key : ℕ → List ℕ) (xs ys : List ℕ) (i : ℕ) where
   slot_of-remove unique once less q =
       let here : times_in i xs ≡ times_in i ys + cond {A = ℕ} (eqb i i) 1 0 = less i in
       let top : times_in i xs ≤ 1 = once i in
-      elim (bool_cases (same_key q (key i))) [
+      elim (cases_Bool (same_key q (key i))) [
         | inl y ↦ slot_of-absent key ys q (λ j h e.
             let same : j ≡ i = unique j i (omega (arith, less j)) (omega (arith, one_same i)) (e ∙ same_key-true q (key i) y) in
             let h' : 0 < times_in i ys = subst (λ z. 0 < times_in z ys) same h in
@@ -125,7 +125,7 @@ module _ (key : ℕ → List ℕ) (xs ys : List ℕ) (i : ℕ) where
 
 -- the map has each of its slots as often as the list
 pub indexed-times : (key : ℕ → List ℕ) (xs : List ℕ) (j : ℕ) → AreUnique key xs → times_in j xs ≤ 1 → is_at (get (contents_of key xs) (key j)) j ≡ times_in j xs
-indexed-times key xs j unique once = ap (λ o. is_at o j) (get-contents key xs (key j)) ∙ elim (bool_cases (eqb (times_in j xs) 0)) [
+indexed-times key xs j unique once = ap (λ o. is_at o j) (get-contents key xs (key j)) ∙ elim (cases_Bool (eqb (times_in j xs) 0)) [
   | inl y ↦
       let z : times_in j xs ≡ 0 = eqb-true _ 0 y in
       elim (option_cases (slot_of key xs (key j))) [

@@ -1,17 +1,17 @@
 -- What is done to cells keeps them threaded.
 use Rattle.std.proofs.Common.{◌≡◌, ◌≢◌, ◌∙◌, ℕ, ◌+◌, ◌<◌, ◌≤◌, List, [], ◌∷◌, ◌++◌, length, Option, Some, None, ◌⊎◌, inl, inr, refl, sym, ap, arith, cond, eqb, subst, map}
 use Rattle.std.specs.Prelude.{slice_get, slice_set}
-use Rattle.std.proofs.lemmas.Bool.{eqb-true, eqb-false}
-use Rattle.std.proofs.lemmas.Option.{none-some, same_Some}
+use Rattle.std.proofs.lemmas.Bool.{eqb-true, eqb-false, cases_Bool}
+use Rattle.std.proofs.lemmas.Option.{none-some, same_Some, slice_get_within}
 use Rattle.element_arena.specs.State.{times_in, worn_at, flag_in}
 use Rattle.element_arena.specs.Threads.{IsThread, last_slot_of}
-use Rattle.element_arena.proofs.Counts.{bool_cases, option_cases, one_cases, one_same, one_other, times-append, length_once, length-set, get-set_same, get-set_other, get_some, get_inside}
+use Rattle.element_arena.proofs.Counts.{option_cases, one_cases, one_same, one_other, times-append, length_once}
 use Rattle.element_arena.proofs.Threading.{walk-thread, thread-agree, thread-some, thread-join, last-none, last-held, last-append}
 use Rattle.element_arena.specs.declared.cell.Standing.{Standing}
 use Rattle.element_arena.specs.declared.cell.Standing.TheVariants.{Free, Taken, Worn}
 use Rattle.element_arena.specs.declared.cell.Cell.{Cell}
 use Rattle.element_arena.specs.Kept.{is_worn, free_count, taken_count, raw, raw_of, free_of, IsThreaded, AreCellsKept, last_left, first_with, relinked, linked_behind}
-use Rattle.element_arena.proofs.Views.{get-map}
+use Rattle.bpf_model.proofs.Lists.{get-below, get-map, get-set_other, get-set_same, length-set}
 
 pub free-is : (cells : List Cell) (first last : Option ℕ) (limit : ℕ) (ys : List ℕ) → IsThreaded cells first last limit ys → free_of cells first ≡ ys
 free-is cells first last limit ys t = walk-thread (raw cells) first ys (length cells) t.thread (length_once (length cells) ys t.once t.inside)
@@ -32,10 +32,10 @@ is_free Worn h = absurd (omega arith)
 
 -- a cell after one was set
 set_cases : (cells : List Cell) (i j : ℕ) (d e : Cell) → slice_get (slice_set cells i d) j ≡ Some e → ((j ≡ i) × (d ≡ e)) ⊎ ((j ≢ i) × (slice_get cells j ≡ Some e))
-set_cases cells i j d e h = elim (bool_cases (eqb j i)) [
+set_cases cells i j d e h = elim (cases_Bool (eqb j i)) [
   | inl y ↦
       let s : j ≡ i = eqb-true j i y in
-      let l : i < length cells = subst (λ n. i < n) (length-set cells i d) (get_inside _ i e (ap (slice_get (slice_set cells i d)) (sym s) ∙ h)) in
+      let l : i < length cells = subst (λ n. i < n) (length-set cells i d) (slice_get_within _ i e (ap (slice_get (slice_set cells i d)) (sym s) ∙ h)) in
       inl (s, same_Some d e (sym (get-set_same cells i d l) ∙ (ap (slice_get (slice_set cells i d)) (sym s) ∙ h)))
   | inr f ↦ let n : j ≢ i = eqb-false j i f in inr (n, sym (get-set_other cells i j d n) ∙ h)
 ]
@@ -47,7 +47,7 @@ module _ (cells : List Cell) (first last : Option ℕ) (limit : ℕ) where
       let s = thread-some (raw cells) first (free_of cells first) i k.thread e in
       let one : times_in i (free_of cells first) ≡ times_in i (i ∷ s.0) = ap (times_in i) s.1 in
       let in_ : i < length cells = k.inside i (omega (arith, one_same i)) in
-      let c = get_some cells i in_ in
+      let c = get-below cells i in_ in
       let st : times_in i (free_of cells first) ≡ free_count c.0.standing = k.standing i c.0 c.1 in
       let o : times_in i (free_of cells first) ≤ 1 = k.once i in
       (s.0, s.1, c.0, c.1, is_free c.0.standing (omega (arith, one_same i)), in_)
@@ -133,7 +133,7 @@ module _ (cells : List Cell) (first last : Option ℕ) (limit : ℕ) where
   pub taken_cell : (i : ℕ) → AreCellsKept cells first last limit → IsHeld cells first i → (c : Cell) × (slice_get cells i ≡ Some c) × (c.standing ≡ Taken) × (times_in i (free_of cells first) ≡ 0) × (i < length cells)
   taken_cell i k t =
       let in_ : i < length cells = t.inside in
-      let c = get_some cells i in_ in
+      let c = get-below cells i in_ in
       let gone : times_in i (free_of cells first) ≡ 0 = t.not_free in
       let f : free_count c.0.standing ≡ 0 = sym (k.standing i c.0 c.1) ∙ gone in
       let w : flag_in (Some (is_worn c.0.standing)) ≡ 0 = ap flag_in (sym (get-map (λ (z : Cell). is_worn z.standing) cells i c.0 c.1)) ∙ t.not_worn in
@@ -143,7 +143,7 @@ module _ (cells : List Cell) (first last : Option ℕ) (limit : ℕ) where
   pub gave : (i : ℕ) (c d : Cell) → AreCellsKept cells first last limit → times_in i (free_of cells first) ≡ 0 → slice_get cells i ≡ Some c → d.uses ≡ c.uses → c.uses < limit → d.generation ≡ c.generation + 1 → c.standing ≡ Taken → d.standing ≡ Free → d.link ≡ None →
       IsThreaded (linked_behind (slice_set cells i d) last i) (first_with first last i) (Some i) limit (free_of cells first ++ i ∷ [])
   gave i c d k gone at uses under gen was st li =
-      let within : i < length cells = get_inside cells i c at in
+      let within : i < length cells = slice_get_within cells i c at in
       let here : slice_get (slice_set cells i d) i ≡ Some d = get-set_same cells i d within in
       let g0 : c.generation + taken_count c.standing ≤ c.uses = k.given i c at in
       let g1 : taken_count c.standing ≡ 1 = ap taken_count was in
@@ -194,7 +194,7 @@ module _ (cells : List Cell) (first last : Option ℕ) (limit : ℕ) where
           let held : 0 < times_in l (free_of cells first) = last-held (free_of cells first) l (sym k.ends ∙ la) in
           let ne : l ≢ i = λ y. let h' : 0 < times_in i (free_of cells first) = subst (λ z. 0 < times_in z (free_of cells first)) y held in absurd (omega arith) in
           let lw : l < length cells = k.inside l held in
-          let b = get_some cells l lw in
+          let b = get-below cells l lw in
           let before : slice_get (slice_set cells i d) l ≡ Some b.0 = get-set_other cells i l d ne ∙ b.1 in
           let e : Cell = record b.0 { link = Some i } in
           let two : List Cell = slice_set (slice_set cells i d) l (record b.0 { link = Some i }) in

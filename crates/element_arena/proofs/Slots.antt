@@ -1,18 +1,16 @@
 -- What the slots show, where cells and bytes change.
-use Rattle.std.proofs.Common.{◌≡◌, ◌≢◌, ◌∙◌, ℕ, zero, suc, ◌+◌, ◌*◌, ◌/◌, ◌%◌, ◌<◌, ◌≤◌, List, [], ◌∷◌, length, Option, Some, None, refl, sym, ap, arith, subst, take, drop, map}
+use Rattle.std.proofs.Common.{◌≡◌, ◌≢◌, ◌∙◌, ℕ, zero, suc, ◌+◌, ◌*◌, ◌<◌, ◌≤◌, List, [], ◌∷◌, length, Option, Some, None, refl, sym, ap, arith, subst, take, drop, map}
 use Rattle.std.specs.Prelude.{slice_get, slice_set}
-use Rattle.std.proofs.lemmas.Option.{none-some, same_Some}
+use Rattle.std.proofs.lemmas.Option.{none-some, same_Some, slice_get_within}
 use Rattle.std.proofs.lemmas.List.{length-drop, length-take, length-take-le, length-map}
 use Rattle.bpf_model.specs.View.{SlotView, uses_at}
 use Rattle.element_arena.specs.State.{ArenaState, IsTaken, key_at, value_at, generation_at, with_value}
 use Rattle.element_arena.specs.Blocks.{block, with_block}
 use Rattle.element_arena.specs.Kept.{shown_bytes, slots_shown, state_with, arena_state_of, free_of, IsThreaded, AreCellsKept, IsLaidOut, taken_count, relinked, linked_behind}
 use Rattle.element_arena.specs.declared.cell.Cell.{Cell}
-use Rattle.element_arena.proofs.Counts.{get_inside, get_some, length-set}
-use Rattle.element_arena.proofs.Views.{get-map}
-use Rattle.bpf_model.specs.MachineStep.{with_bytes}
 use Rattle.element_arena.proofs.Keeps.{IsHeld, free-is, taken_cell}
 use Rattle.element_arena.proofs.BlockLaws.{room, block-zero, block-suc, times-suc, first-here, rest-here, first-past, rest-past}
+use Rattle.bpf_model.proofs.Lists.{get-below, get-map}
 
 pub state-is : (cells : List Cell) (first last : Option ℕ) (limit : ℕ) (ys : List ℕ) (ks vs : List ℕ) (kl vl : ℕ) → IsThreaded cells first last limit ys → arena_state_of cells first ks vs kl vl limit ≡ state_with (slots_shown kl vl cells ks vs) cells ys kl vl limit
 state-is cells first last limit ys ks vs kl vl t = ap (λ f. state_with (slots_shown kl vl cells ks vs) cells f kl vl limit) (free-is cells first last limit ys t)
@@ -114,7 +112,7 @@ shown-taken kl vl key value cells ks vs i c d at ek ev l used =
     let some : d.uses ≡ 0 → ⊥ = λ z. absurd (omega arith) in
     subst (λ k. slots_shown k vl (slice_set cells i d) (with_block i key ks) (with_block i value vs) ≡ slice_set (slots_shown k vl cells ks vs) i (record { key = key; value = value; uses = uses_at (slots_shown k vl cells ks vs) i + 1 })) ek
     (subst (λ v. slots_shown (length key) v (slice_set cells i d) (with_block i key ks) (with_block i value vs) ≡ slice_set (slots_shown (length key) v cells ks vs) i (record { key = key; value = value; uses = uses_at (slots_shown (length key) v cells ks vs) i + 1 })) ev
-    (shown-written key value cells ks vs i d (get_inside cells i c at) (l.key_room ∙ ap (λ n. length cells * n) (sym ek)) (l.value_room ∙ ap (λ n. length cells * n) (sym ev))
+    (shown-written key value cells ks vs i d (slice_get_within cells i c at) (l.key_room ∙ ap (λ n. length cells * n) (sym ek)) (l.value_room ∙ ap (λ n. length cells * n) (sym ev))
     ∙ ap (slice_set (slots_shown (length key) (length value) cells ks vs) i)
     (same_view _ key _ value _ _ (shown-used d.uses key some) (shown-used d.uses value some) (used ∙ ap (λ n. n + 1) (sym (shown-uses (length key) (length value) cells ks vs i c at))))))
 
@@ -163,10 +161,6 @@ block-length len i bytes = omega (arith, length-take len (drop (i * len) bytes))
 pub block-full : (len i : ℕ) (bytes : List ℕ) → i * len + len ≤ length bytes → length (block len i bytes) ≡ len
 block-full len i bytes h = length-take-le len (drop (i * len) bytes) (omega (arith, length-drop (i * len) bytes))
 
-pub length-with_bytes : (at width n : ℕ) (bytes : List ℕ) → length (with_bytes at width n bytes) ≡ length bytes
-length-with_bytes at zero n bytes = refl
-length-with_bytes at (suc width) n bytes = length-set (with_bytes (suc at) width (n / 256) bytes) at (n % 256) ∙ length-with_bytes (suc at) width (n / 256) bytes
-
 -- what a taken slot's value is
 pub value_is : (kl vl limit : ℕ) (cells : List Cell) (first last : Option ℕ) (ks vs : List ℕ) (i : ℕ) (a : ArenaState) → arena_state_of cells first ks vs kl vl limit ≡ a → AreCellsKept cells first last limit → IsTaken a i → value_at a.slots i ≡ block vl i vs
 value_is kl vl limit cells first last ks vs i a e k t =
@@ -183,13 +177,13 @@ state-stored kl vl limit cells first last ks vs i a new e k l t en =
 -- a slot's bytes are no longer than the arena's keys and values
 pub key-short : (kl vl limit : ℕ) (cells : List Cell) (first : Option ℕ) (ks vs : List ℕ) (i : ℕ) (a : ArenaState) → arena_state_of cells first ks vs kl vl limit ≡ a → i < length cells → length (key_at a.slots i) ≤ kl
 key-short kl vl limit cells first ks vs i a e h =
-    let c = get_some cells i h in
+    let c = get-below cells i h in
     subst (λ (l : List ℕ). length l ≤ kl) (sym (shown-key kl vl cells ks vs i c.0 c.1) ∙ ap (λ (b : ArenaState). key_at b.slots i) e)
     (shown-length c.0.uses kl (block kl i ks) (block-length kl i ks))
 
 pub value-short : (kl vl limit : ℕ) (cells : List Cell) (first : Option ℕ) (ks vs : List ℕ) (i : ℕ) (a : ArenaState) → arena_state_of cells first ks vs kl vl limit ≡ a → i < length cells → length (value_at a.slots i) ≤ vl
 value-short kl vl limit cells first ks vs i a e h =
-    let c = get_some cells i h in
+    let c = get-below cells i h in
     subst (λ (l : List ℕ). length l ≤ vl) (sym (shown-value kl vl cells ks vs i c.0 c.1) ∙ ap (λ (b : ArenaState). value_at b.slots i) e)
     (shown-length c.0.uses vl (block vl i vs) (block-length vl i vs))
 
@@ -199,7 +193,7 @@ generation_is kl vl limit cells first ks vs i a c e at =
 
 pub generation_past : (kl vl limit : ℕ) (cells : List Cell) (first : Option ℕ) (ks vs : List ℕ) (i : ℕ) (a : ArenaState) (g : ℕ) → arena_state_of cells first ks vs kl vl limit ≡ a → length cells ≤ i → generation_at a i ≢ Some g
 generation_past kl vl limit cells first ks vs i a g e h there =
-    let in_ : i < length (map (λ (z : Cell). z.generation) cells) = get_inside _ i g (ap (λ (b : ArenaState). generation_at b i) e ∙ there) in
+    let in_ : i < length (map (λ (z : Cell). z.generation) cells) = slice_get_within _ i g (ap (λ (b : ArenaState). generation_at b i) e ∙ there) in
     let l : length (map (λ (z : Cell). z.generation) cells) ≡ length cells = length-map cells (λ (z : Cell). z.generation) in
     absurd (omega arith)
 

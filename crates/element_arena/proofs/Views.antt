@@ -5,20 +5,10 @@ use Rattle.std.proofs.lemmas.Option.{none-some, same_Some}
 use Rattle.std.proofs.lemmas.Bool.{cond-true, cond-false}
 use Rattle.bpf_model.specs.View.{SlotView, uses_at}
 use Rattle.element_arena.specs.State.{ArenaState, with_link, taken, given_back, is_last_use}
-use Rattle.element_arena.proofs.Counts.{set-same}
 use Rattle.element_arena.specs.declared.cell.Cell.{Cell}
 use Rattle.element_arena.specs.declared.cell.Standing.TheVariants.{Free, Taken, Worn}
 use Rattle.element_arena.specs.Kept.{link_view, shown_link, is_worn, state_with, relinked, linked_behind}
-
-pub map-set : {A B : Type 0} (f : A → B) (xs : List A) (i : ℕ) (y : A) → map f (slice_set xs i y) ≡ slice_set (map f xs) i (f y)
-map-set f [] i y = refl
-map-set f (x ∷ xs) zero y = refl
-map-set f (x ∷ xs) (suc i) y = ap (λ l. f x ∷ l) (map-set f xs i y)
-
-pub get-map : {A B : Type 0} (f : A → B) (xs : List A) (i : ℕ) (x : A) → slice_get xs i ≡ Some x → slice_get (map f xs) i ≡ Some (f x)
-get-map f [] i x h = absurd (none-some x h)
-get-map f (y ∷ xs) zero x h = ap (λ z. Some (f z)) (same_Some y x h)
-get-map f (y ∷ xs) (suc i) x h = get-map f xs i x h
+use Rattle.bpf_model.proofs.Lists.{get-map, map-set, set-same}
 
 pub map-set_same : {A B : Type 0} (f : A → B) (xs : List A) (i : ℕ) (x y : A) → slice_get xs i ≡ Some x → f y ≡ f x → map f (slice_set xs i y) ≡ map f xs
 map-set_same f xs i x y h e = map-set f xs i y ∙ set-same (map f xs) i (f y) (get-map f xs i x h ∙ ap (λ z. Some z) (sym e))

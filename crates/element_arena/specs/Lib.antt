@@ -1,4 +1,5 @@
 pub mod Blocks
+pub mod Codes
 pub mod Fresh
 pub mod Kept
 pub mod State

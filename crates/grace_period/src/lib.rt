@@ -85,7 +85,9 @@ impl Grace {
     /// runs that are open now. Else nothing changes.
     pub fn advance(&mut self) -> bool
         ensures turns { result ≡ not (is_any self.old.awaited) }
-        ensures new { self.new ≡ (if result then record { opened = self.old.opened; awaited = self.old.opened } else self.old) }
+        ensures new { self.new ≡ (if result
+            then record { opened = self.old.opened; awaited = self.old.opened }
+            else self.old) }
     {
         if any_flag(self.awaited) {
             return false;

@@ -1,17 +1,18 @@
 -- What a change of one chain leaves of the buckets.
 use Rattle.std.proofs.Common.{◌≡◌, ◌≢◌, ◌∙◌, ℕ, zero, suc, ◌+◌, ◌<◌, ◌≤◌, List, ◌∷◌, length, Option, Some, None, ◌⊎◌, inl, inr, refl, sym, ap, arith, cond, eqb, subst}
 use Rattle.std.specs.Prelude.{slice_get, slice_set}
-use Rattle.std.proofs.lemmas.Bool.{eqb-true, eqb-false}
-use Rattle.std.proofs.lemmas.Option.{same_Some}
+use Rattle.std.proofs.lemmas.Bool.{eqb-true, eqb-false, cases_Bool}
+use Rattle.std.proofs.lemmas.Option.{same_Some, slice_get_within}
 use Rattle.std.specs.FinMap.{get, insert, remove}
 use Rattle.element_arena.specs.State.{ArenaState, IsTaken, LinksOf, indexed, link_at, link_in, key_at, with_link, times_in, slot_of, contents_of}
 use Rattle.element_arena.specs.Threads.{IsThread, walk}
-use Rattle.element_arena.proofs.Counts.{bool_cases, option_cases, one_cases, one_same, get-set_same, get-set_other, get_inside, length-set, length_once}
+use Rattle.element_arena.proofs.Counts.{option_cases, one_cases, one_same, length_once}
 use Rattle.element_arena.proofs.Threading.{walk-thread, thread-agree, walk-agree}
 use Rattle.element_arena.proofs.Indexing.{AreUnique, get-contents, slot_of-some, slot_of-absent, slot_of-none, slot_of-present, contents-insert, contents-remove, unique-insert, unique-remove, times-get, indexed-times}
 use Rattle.hash_index.specs.Chains.{IsChain, IsCut, chain_of, bucket_of}
 use Rattle.hash_index.specs.Buckets.{slots_from, slots_in, HeadsFit}
 use Rattle.hash_index.specs.Many.{chain_among, chains_apart, chain_having, slots-set}
+use Rattle.bpf_model.proofs.Lists.{get-set_other, get-set_same, length-set}
 
 pub home_chain : (heads : List (Option ℕ)) (a : ArenaState) (k : ℕ) (o : Option ℕ) → HeadsFit heads a → slice_get heads k ≡ Some o → IsChain a o
 home_chain heads a k o f h = record {
@@ -78,8 +79,8 @@ module _ (heads : List (Option ℕ)) (a : ArenaState) (ls : List (Option ℕ)) (
       omega arith
 
   set_cases : (m : ℕ) (q : Option ℕ) → slice_get heads k ≡ Some o → slice_get (slice_set heads k p) m ≡ Some q → ((m ≡ k) × (p ≡ q)) ⊎ ((m ≢ k) × (slice_get heads m ≡ Some q))
-  set_cases m q h at = elim (bool_cases (eqb m k)) [
-    | inl y ↦ let e : m ≡ k = eqb-true m k y in inl (e, same_Some p q (sym (get-set_same heads k p (get_inside heads k o h)) ∙ (ap (slice_get (slice_set heads k p)) (sym e) ∙ at)))
+  set_cases m q h at = elim (cases_Bool (eqb m k)) [
+    | inl y ↦ let e : m ≡ k = eqb-true m k y in inl (e, same_Some p q (sym (get-set_same heads k p (slice_get_within heads k o h)) ∙ (ap (slice_get (slice_set heads k p)) (sym e) ∙ at)))
     | inr n ↦ let ne : m ≢ k = eqb-false m k n in inr (ne, sym (get-set_other heads k m p ne) ∙ at)
   ]
 
@@ -129,7 +130,7 @@ module _ (heads : List (Option ℕ)) (a : ArenaState) (ls : List (Option ℕ)) (
   linked f h at t absent here there =
       let key : ℕ → List ℕ = key_at a.slots in
       let none : slot_of (key_at a.slots) (slots_in heads a) (key_at a.slots slot) ≡ None = sym (get-contents (key_at a.slots) (slots_in heads a) (key_at a.slots slot)) ∙ absent in
-      let gone : times_in slot (slots_in heads a) ≡ 0 = elim (bool_cases (eqb (times_in slot (slots_in heads a)) 0)) [
+      let gone : times_in slot (slots_in heads a) ≡ 0 = elim (cases_Bool (eqb (times_in slot (slots_in heads a)) 0)) [
         | inl y ↦ eqb-true _ 0 y
         | inr y ↦ let ne : times_in slot (slots_in heads a) ≢ 0 = eqb-false _ 0 y in absurd (slot_of-none (key_at a.slots) (slots_in heads a) (key_at a.slots slot) slot none (omega arith) refl)
       ] in

@@ -6,9 +6,8 @@ use Rattle.std.specs.declared.cmp.Ordering.{Ordering}
 use Rattle.std.specs.declared.cmp.Ordering.TheVariants.{Less, Equal, Greater}
 use Rattle.std.specs.Cmp.Lexicographic.{slice_cmp}
 use Rattle.std.specs.FinMap.{FinMap, get, entries, entries_sorted, get-entries, find, is_sorted}
-use Rattle.std.proofs.lemmas.Bool.{cond-true, cond-false, false≢true, false_from_ne_true}
+use Rattle.std.proofs.lemmas.Bool.{cond-true, cond-false, false≢true, false_from_ne_true, cases_Bool}
 use Rattle.std.proofs.lemmas.Option.{none-some}
-use Rattle.element_arena.proofs.Counts.{bool_cases}
 use Rattle.element_arena.proofs.Indexing.{same_key, same_key-true, same-same_key}
 use Rattle.hash_index.specs.Order.{IsLess, IsAbove, NoneAbove, NoneBetween}
 use Rattle.hash_index.specs.Replies.{is_above, first_above}
@@ -50,7 +49,7 @@ below_all k (e ∷ es) = is_lt (slice_cmp nat_cmp k e.0) && below_all k es
 
 below_behind : (k : List ℕ) (es : List (List ℕ × ℕ)) (q : List ℕ) (j : ℕ) → T (below_all k es) → find (slice_cmp nat_cmp) q es ≡ Some j → IsLess k q
 below_behind k [] q j h f = absurd (none-some j f)
-below_behind k (e ∷ es) q j h f = elim (bool_cases (same_key q e.0)) [
+below_behind k (e ∷ es) q j h f = elim (cases_Bool (same_key q e.0)) [
   | inl y ↦ subst (IsLess k) (sym (same_key-true q e.0 y)) (less_from (slice_cmp nat_cmp k e.0) (left_true (is_lt (slice_cmp nat_cmp k e.0)) (below_all k es) h))
   | inr n ↦ below_behind k es q j (right_true (is_lt (slice_cmp nat_cmp k e.0)) (below_all k es) h) (sym (cond-false _ _ _ n) ∙ f)
 ]
@@ -69,16 +68,16 @@ first_is : (key : ℕ → List ℕ) (bound : Option (List ℕ)) (es : List (List
     IfSome r (λ i. (q : List ℕ) (j : ℕ) → find (slice_cmp nat_cmp) q es ≡ Some j → IsAbove bound q → IsLess q (key i) → ⊥) → IfNone r ((q : List ℕ) (j : ℕ) → find (slice_cmp nat_cmp) q es ≡ Some j → IsAbove bound q → ⊥) → r ≡ first_above bound es
 first_is key bound [] s None found above least none = refl
 first_is key bound [] s (Some i) found above least none = absurd (none-some i found)
-first_is key bound (e ∷ es) s None found above least none = elim (bool_cases (is_above bound e.0)) [
+first_is key bound (e ∷ es) s None found above least none = elim (cases_Bool (is_above bound e.0)) [
   | inl y ↦ absurd (none e.0 e.1 (find_head e es) (above_tested bound e.0 y))
   | inr n ↦ first_is key bound es (sorted_behind e es s) None tt tt tt (λ q j f. none q j (find_behind e es q j s f)) ∙ sym (cond-false _ _ _ n)
 ]
-first_is key bound (e ∷ es) s (Some i) found above least none = elim (bool_cases (is_above bound e.0)) [
-  | inl y ↦ elim (bool_cases (same_key (key i) e.0)) [
+first_is key bound (e ∷ es) s (Some i) found above least none = elim (cases_Bool (is_above bound e.0)) [
+  | inl y ↦ elim (cases_Bool (same_key (key i) e.0)) [
     | inl same ↦ sym found ∙ (cond-true _ _ _ same ∙ sym (cond-true _ _ _ y))
     | inr other ↦ absurd (least e.0 e.1 (find_head e es) (above_tested bound e.0 y) (behind e es (key i) i s (sym (cond-false _ _ _ other) ∙ found)))
   ]
-  | inr n ↦ elim (bool_cases (same_key (key i) e.0)) [
+  | inr n ↦ elim (cases_Bool (same_key (key i) e.0)) [
     | inl same ↦ absurd (false≢true (sym n ∙ above_test bound e.0 (subst (IsAbove bound) (same_key-true (key i) e.0 same) above)))
     | inr other ↦ first_is key bound es (sorted_behind e es s) (Some i) (sym (cond-false _ _ _ other) ∙ found) above (λ q j f. least q j (find_behind e es q j s f)) tt ∙ sym (cond-false _ _ _ n)
   ]

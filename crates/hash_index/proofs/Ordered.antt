@@ -2,10 +2,10 @@
 use Rattle.std.proofs.Common.{◌≡◌, ◌≢◌, ◌∙◌, ℕ, zero, suc, ◌+◌, ◌<◌, ◌≤◌, List, [], ◌∷◌, length, take, drop, Some, None, inl, inr, refl, sym, ap, arith, cond, eqb, subst}
 use Rattle.std.specs.Prelude.{slice_get, vec_capacity, insert, remove}
 use Rattle.std.proofs.lemmas.Option.{none-some, same_Some}
-use Rattle.std.proofs.lemmas.Bool.{eqb-true, eqb-false}
+use Rattle.std.proofs.lemmas.Bool.{eqb-true, eqb-false, cases_Bool}
 use Rattle.std.specs.FinMap as map
 use Rattle.element_arena.specs.State.{ArenaState, IsTaken, key_at, times_in, slot_of, contents_of}
-use Rattle.element_arena.proofs.Counts.{bool_cases, one_cases, times-append, length_room}
+use Rattle.element_arena.proofs.Counts.{one_cases, times-append, length_room}
 use Rattle.element_arena.proofs.Indexing.{get-contents, slot_of-none, contents-insert, contents-remove, unique-insert, unique-remove, times-get}
 use Rattle.hash_index.specs.declared.sorted.Sorted.{Sorted}
 use Rattle.hash_index.specs.Sorted.{IsAscending, IsPosition, sorted_contents, SortedFits}
@@ -27,7 +27,7 @@ times-remove (x ∷ xs) (suc p) i j h = omega (arith, times-remove xs p i j h)
 
 -- a slot whose key is absent is not there
 absent_gone : (a : ArenaState) (xs : List ℕ) (slot : ℕ) → map.get (contents_of (key_at a.slots) xs) (key_at a.slots slot) ≡ None → times_in slot xs ≡ 0
-absent_gone a xs slot h = elim (bool_cases (eqb (times_in slot xs) 0)) [
+absent_gone a xs slot h = elim (cases_Bool (eqb (times_in slot xs) 0)) [
   | inl y ↦ eqb-true _ 0 y
   | inr y ↦ let ne : times_in slot xs ≢ 0 = eqb-false _ 0 y in absurd (slot_of-none (key_at a.slots) xs (key_at a.slots slot) slot (sym (get-contents (key_at a.slots) xs (key_at a.slots slot)) ∙ h) (omega arith) refl)
 ]

@@ -8,13 +8,13 @@ use Rattle.std.specs.Cmp.Lexicographic.{slice_cmp}
 use Rattle.std.proofs.lemmas.Bool.{false≢true}
 use Rattle.std.proofs.lemmas.Cmp.{nat_list_cmp_total, tied_itself}
 use Rattle.std.proofs.lemmas.Map.Lookups.{exact_bytes}
-use Rattle.std.proofs.lemmas.Option.{none-some, same_Some}
+use Rattle.std.proofs.lemmas.Option.{none-some, same_Some, slice_get_within}
 use Rattle.element_arena.specs.State.{times_in, slot_of}
-use Rattle.element_arena.proofs.Counts.{get_some, get_inside}
 use Rattle.element_arena.proofs.Indexing.{AreUnique, slot_of-absent, slot_of-present, slot_of-none}
 use Rattle.hash_index.specs.Order.{IsLess, IsLeastOf}
 use Rattle.hash_index.specs.Held.{held_at, index_held}
 use Rattle.hash_index.specs.Sorted.{IsAscending, IsPosition, IsPositionAbove}
+use Rattle.bpf_model.proofs.Lists.{get-below}
 
 pub less_trans : (a b c : List ℕ) → IsLess a b → IsLess b c → IsLess a c
 less_trans a b c = nat_list_cmp_total.trans a b c
@@ -80,8 +80,8 @@ module _ (key : ℕ → List ℕ) (xs : List ℕ) (k : List ℕ) where
           | inr q ↦ elim q [
             | inl same ↦ other j (ap (slice_get xs) (sym same) ∙ r.1) e
             | inr more ↦
-                let in_ : r.0 < length xs = get_inside xs r.0 j r.1 in
-                let s = get_some xs p (omega arith) in
+                let in_ : r.0 < length xs = slice_get_within xs r.0 j r.1 in
+                let s = get-below xs p (omega arith) in
                 f.above p s.0 (omega arith) s.1 (subst (IsLess (key s.0)) e (asc p r.0 s.0 j more s.1 r.1))
           ]
         ]
@@ -95,8 +95,8 @@ module _ (key : ℕ → List ℕ) (xs : List ℕ) (k : List ℕ) where
           | inr q ↦ elim q [
             | inl same ↦ ap (slice_get xs) (sym same) ∙ r.1
             | inr more ↦ absurd (
-                let in_ : r.0 < length xs = get_inside xs r.0 j r.1 in
-                let s = get_some xs p (omega arith) in
+                let in_ : r.0 < length xs = slice_get_within xs r.0 j r.1 in
+                let s = get-below xs p (omega arith) in
                 f.above p s.0 (omega arith) s.1 (subst (IsLess (key s.0)) e (asc p r.0 s.0 j more s.1 r.1)))
           ]
         ]
@@ -162,7 +162,7 @@ module _ (key : ℕ → List ℕ) (xs : List ℕ) (bound : Option (List ℕ)) (p
   pub none_there : IsPositionAbove key xs bound p → length xs ≤ p → IsLeastOf key bound xs None
   none_there f past j h a =
       let r = index_held xs j h in
-      let in_ : r.0 < length xs = get_inside xs r.0 j r.1 in
+      let in_ : r.0 < length xs = slice_get_within xs r.0 j r.1 in
       f.below r.0 j (omega arith) r.1 a
 
 -- what stands at an index after an insertion

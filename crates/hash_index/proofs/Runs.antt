@@ -4,26 +4,25 @@ use Rattle.std.specs.Prelude.{is_some}
 use Rattle.std.specs.Ordering.{nat_cmp}
 use Rattle.std.specs.Cmp.Lexicographic.{slice_cmp}
 use Rattle.std.specs.FinMap.{FinMap, get, insert, remove, empty, same_map, get-empty}
-use Rattle.std.proofs.lemmas.Bool.{cond-true, cond-false}
+use Rattle.std.proofs.lemmas.Bool.{cond-true, cond-false, cases_Bool}
 use Rattle.std.proofs.lemmas.Cmp.{nat_list_cmp_total}
 use Rattle.std.proofs.lemmas.Map.Lookups.{exact_bytes}
 use Rattle.std.proofs.lemmas.Option.{none-some, same_Some}
 use Rattle.element_arena.specs.State.{ArenaState, key_at}
-use Rattle.element_arena.proofs.Counts.{bool_cases}
 use Rattle.element_arena.proofs.Indexing.{same_key, same_key-true, get_at-insert, get_at-remove}
 use Rattle.hash_index.specs.declared.commands.Command.{Command}
 use Rattle.hash_index.specs.declared.commands.Command.TheVariants.{Link, Find, Unlink, Above}
 use Rattle.hash_index.specs.Replies.{IsReadyCommand, IsKeyed, reply_of, after_command, replies}
 
 pub remove_absent : (m : FinMap (slice_cmp nat_cmp) ℕ) (k : List ℕ) → get m k ≡ None → remove m k ≡ m
-remove_absent m k h = same_map nat_list_cmp_total exact_bytes _ _ (λ q. get_at-remove m k q ∙ elim (bool_cases (same_key q k)) [
+remove_absent m k h = same_map nat_list_cmp_total exact_bytes _ _ (λ q. get_at-remove m k q ∙ elim (cases_Bool (same_key q k)) [
   | inl y ↦ cond-true _ _ _ y ∙ sym (ap (get m) (same_key-true q k y) ∙ h)
   | inr n ↦ cond-false _ _ _ n
 ])
 
 keyed_if : (key : ℕ → List ℕ) (m : FinMap (slice_cmp nat_cmp) ℕ) (i : ℕ) (b : Bool) → IsKeyed key m → IsKeyed key (cond b m (insert m (key i) i))
 keyed_if key m i true h = h
-keyed_if key m i false h = λ q j g. elim (bool_cases (same_key q (key i))) [
+keyed_if key m i false h = λ q j g. elim (cases_Bool (same_key q (key i))) [
   | inl y ↦ ap key (sym (same_Some i j (sym (cond-true _ _ _ y) ∙ (sym (get_at-insert m (key i) i q) ∙ g)))) ∙ sym (same_key-true q (key i) y)
   | inr n ↦ h q j (sym (cond-false _ _ _ n) ∙ (sym (get_at-insert m (key i) i q) ∙ g))
 ]
@@ -33,7 +32,7 @@ keyed_after : (key : ℕ → List ℕ) (m : FinMap (slice_cmp nat_cmp) ℕ) (com
 keyed_after key m (Link i) h = keyed_if key m i (is_some (get m (key i))) h
 keyed_after key m (Find k) h = h
 keyed_after key m (Above bound) h = h
-keyed_after key m (Unlink k) h = λ q j g. elim (bool_cases (same_key q k.items)) [
+keyed_after key m (Unlink k) h = λ q j g. elim (cases_Bool (same_key q k.items)) [
   | inl y ↦ absurd (none-some j (sym (cond-true _ _ _ y) ∙ (sym (get_at-remove m k.items q) ∙ g)))
   | inr n ↦ h q j (sym (cond-false _ _ _ n) ∙ (sym (get_at-remove m k.items q) ∙ g))
 ]

@@ -3,10 +3,11 @@ use Rattle.std.proofs.Common.{◌≡◌, ◌≢◌, ◌∙◌, ℕ, zero, suc, �
 use Rattle.std.proofs.lemmas.Bool.{cond-false, false_from_ne_true}
 use Rattle.element_arena.specs.State.{ArenaState, IsTaken, link_at, link_in, key_at, with_link, times_in, slot_of}
 use Rattle.element_arena.specs.Threads.{IsThread, walk}
-use Rattle.element_arena.proofs.Counts.{one_same, one_other, times-append, get-set_other}
+use Rattle.element_arena.proofs.Counts.{one_same, one_other, times-append}
 use Rattle.element_arena.proofs.Indexing.{same_key-true}
 use Rattle.element_arena.proofs.Threading.{walk-thread, thread-none, thread-some, thread-skip}
 use Rattle.hash_index.specs.Chains.{IsChain, IsBefore, IsOn, IsCut, chain_of}
+use Rattle.bpf_model.proofs.Lists.{get-set_other}
 
 pub walk_short : (n : ℕ) (next : ℕ → Option ℕ) (o : Option ℕ) → length (walk n next o) ≤ n
 walk_short zero next o = omega arith

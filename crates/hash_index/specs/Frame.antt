@@ -37,14 +37,21 @@ framed heads a b n la lb f key link taken =
     let at : (k : ℕ) (o : Option ℕ) → slice_get heads k ≡ Some o → (j : ℕ) →
     0 < times_in j (walk (length a.slots) (link_at a.links) o) →
     0 < times_in j (slots_in heads a) =
-    λ k o h j p. let m : times_in j (walk (length a.slots) (link_at a.links) o) ≤ times_in j (slots_in heads a) = chain_among (length a.slots) (link_at a.links) heads k o j h in omega arith in
+    λ k o h j p.
+    let m : times_in j (walk (length a.slots) (link_at a.links) o)
+    ≤ times_in j (slots_in heads a) =
+    chain_among (length a.slots) (link_at a.links) heads k o j h in
+    omega arith in
     let same : (k : ℕ) (o : Option ℕ) → slice_get heads k ≡ Some o →
     walk (length b.slots) (link_at b.links) o ≡ walk (length a.slots) (link_at a.links) o =
     (λ k o h. ap (λ m. walk m (link_at b.links) o) l
-    ∙ walk-agree (length a.slots) (link_at a.links) (link_at b.links) o (λ j p. link j (at k o h j p))) in (
+    ∙ walk-agree (length a.slots) (link_at a.links) (link_at b.links) o
+    (λ j p. link j (at k o h j p))) in (
       record {
         some = f.some;
-        thread = λ k o h. subst (IsThread (link_at b.links) o) (sym (same k o h)) (thread-agree (link_at a.links) (link_at b.links) o _ (λ j p. link j (at k o h j p)) (f.thread k o h));
+        thread = λ k o h. subst (IsThread (link_at b.links) o) (sym (same k o h))
+            (thread-agree (link_at a.links) (link_at b.links) o _ (λ j p. link j (at k o h j p))
+            (f.thread k o h));
         home = λ k o h j p. let q : 0 < times_in j (walk (length a.slots) (link_at a.links) o) =
             subst (λ xs. 0 < times_in j xs) (same k o h) p in
             ap (bucket_of (length heads)) (key j (at k o h j q)) ∙ f.home k o h j q;
@@ -69,8 +76,10 @@ buckets-frame x a b f s =
     let own : (j : ℕ) → 0 < times_in j (slots_in x.heads.items a) →
     0 < indexed (contents_in x a) a.slots j =
     λ j h. subst (λ n. 0 < n) (sym (own-times x a j f)) h in
-    let r = framed x.heads.items a b (length a.slots) refl s.long f (λ j h. s.key j (own j h)) (λ j h. s.link j (own j h)) (λ j h. s.taken j (own j h)) in (
+    let r = framed x.heads.items a b (length a.slots) refl s.long f (λ j h. s.key j (own j h))
+    (λ j h. s.link j (own j h)) (λ j h. s.taken j (own j h)) in (
       r.0,
       ap (contents_of (key_at b.slots)) r.1
-          ∙ ap from_entries (entries-agree (key_at a.slots) (key_at b.slots) (slots_in x.heads.items a) (λ j h. s.key j (own j h))),
+          ∙ ap from_entries (entries-agree (key_at a.slots) (key_at b.slots)
+          (slots_in x.heads.items a) (λ j h. s.key j (own j h))),
     )

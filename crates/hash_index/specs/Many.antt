@@ -2,11 +2,11 @@
 use Rattle.std.proofs.Common.{◌≡◌, ◌≢◌, ◌∙◌, ℕ, zero, suc, ◌+◌, ◌<◌, ◌≤◌, List, [], ◌∷◌, ◌++◌}
 use Rattle.std.proofs.Common.{Option, Some, inl, inr, refl, ap, arith, eqb}
 use Rattle.std.specs.Prelude.{slice_get, slice_set}
-use Rattle.std.proofs.lemmas.Bool.{eqb-true, eqb-false}
+use Rattle.std.proofs.lemmas.Bool.{eqb-true, eqb-false, cases_Bool}
 use Rattle.std.proofs.lemmas.Option.{none-some, same_Some}
 use Rattle.element_arena.specs.State.{times_in}
 use Rattle.element_arena.specs.Threads.{walk}
-use Rattle.element_arena.proofs.Counts.{bool_cases, times-append}
+use Rattle.element_arena.proofs.Counts.{times-append}
 use Rattle.element_arena.proofs.Threading.{walk-agree}
 use Rattle.hash_index.specs.Buckets.{slots_from}
 
@@ -39,13 +39,16 @@ module _ (n : ℕ) (f : ℕ → Option ℕ) where
       let l : times_in j (walk n f o) ≤ times_in j (slots_from n f heads) =
       chain_among heads k o j h in omega (arith, times-append j (walk n f q) (slots_from n f heads))
   chains_apart (q ∷ heads) (suc k) (suc m) o p j ne h g =
-      let l : times_in j (walk n f o) + times_in j (walk n f p) ≤ times_in j (slots_from n f heads) = chains_apart heads k m o p j (λ e. ne (ap suc e)) h g in omega (arith, times-append j (walk n f q) (slots_from n f heads))
+      let l : times_in j (walk n f o) + times_in j (walk n f p)
+      ≤ times_in j (slots_from n f heads) =
+      chains_apart heads k m o p j (λ e. ne (ap suc e)) h g in
+      omega (arith, times-append j (walk n f q) (slots_from n f heads))
 
   -- each of the slots stands in a chain
   pub chain_having : (heads : List (Option ℕ)) (j : ℕ) → 0 < times_in j (slots_from n f heads) →
       (k : ℕ) × (o : Option ℕ) × (slice_get heads k ≡ Some o) × (0 < times_in j (walk n f o))
   chain_having [] j h = absurd (omega arith)
-  chain_having (p ∷ heads) j h = elim (bool_cases (eqb (times_in j (walk n f p)) 0)) [
+  chain_having (p ∷ heads) j h = elim (cases_Bool (eqb (times_in j (walk n f p)) 0)) [
     | inl y ↦ let z : times_in j (walk n f p) ≡ 0 = eqb-true _ 0 y in let r =
         chain_having heads j (omega (arith, times-append j (walk n f p) (slots_from n f heads))) in
         (suc r.0, r.1, r.2, r.3)

@@ -67,7 +67,9 @@ sorted-frame x a b f s =
         taken = λ j h. s.taken j (own j h);
         unique = λ i j hi hj e. f.unique i j hi hj (sym (s.key i (own i hi))
             ∙ (e ∙ s.key j (own j hj)));
-        order = λ i j p q l hi hj. subst (λ k. IsLess k (key_at b.slots q)) (sym (key i p hi)) (subst (IsLess (key_at a.slots p)) (sym (key j q hj)) (f.order i j p q l hi hj));
+        order = λ i j p q l hi hj. subst (λ k. IsLess k (key_at b.slots q)) (sym (key i p hi))
+            (subst (IsLess (key_at a.slots p)) (sym (key j q hj)) (f.order i j p q l hi hj));
       },
-      ap from_entries (entries-agree (key_at a.slots) (key_at b.slots) x.slots.items (λ j h. s.key j (own j h))),
+      ap from_entries (entries-agree (key_at a.slots) (key_at b.slots) x.slots.items
+          (λ j h. s.key j (own j h))),
     )

@@ -25,7 +25,7 @@ fn word_at_start(bytes: &[u8]) -> u64
     ])
 }
 
-/// Goes on from a hash with a word. The high half is folded_product into the low one, which tells the bucket.
+/// Goes on from a hash with a word. The high half is folded into the low one, which tells the bucket.
 #[inline]
 fn mix(hash: u64, word: u64) -> u64
     ensures { result ≡ mixed_hash hash word }

@@ -66,7 +66,8 @@ fn position_above(slots: &[usize], arena: &Arena, key: &[u8]) -> usize
 fn start_above(slots: &[usize], arena: &Arena, bound: Option<&[u8]>) -> usize
     requires within { AllWithin slots.now (length arena.now.slots) }
     requires ascending { IsAscending (key_at arena.now.slots) slots.now }
-    ensures { IsPositionAbove (key_at arena.now.slots) slots.now (option_copied bound.entry) result }
+    ensures { IsPositionAbove (key_at arena.now.slots) slots.now (option_copied bound.entry)
+        result }
 {
     match bound {
         None => 0,

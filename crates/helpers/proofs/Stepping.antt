@@ -22,7 +22,6 @@ use Rattle.bpf_model.specs.View.{MapView, RunView, WorldView}
 use Rattle.grace_period.specs.State.{GraceState}
 use Rattle.model_laws.specs.Locations.{Location, InContext, InFrame, AtMap, InSlot}
 use Rattle.view_laws.specs.Reactions.{with_run, locked_view, unlocked_view}
-use Rattle.view_laws.proofs.Updating.{set-same}
 use Rattle.world_laws.specs.Calling.{serves, helped, helped_on, returned_view}
 use Rattle.world_laws.specs.Calling as calling
 use Rattle.world_laws.specs.Locating.{location_of, loaded_word, number_from, bytes_of, offset_at}
@@ -39,6 +38,7 @@ use Rattle.machine.specs.Requests.{access_of, section_access, entered_view, resu
 use Rattle.helpers.specs.Calls.{IsCall, called, called_on, called_at}
 use Rattle.helpers.specs.Elements.{ReachesElement, element_number, stored_in, stored_element}
 use Rattle.helpers.specs.Serving.{CanServe, IsReply, maps_after, grace_after, with_opened, IsFlagged, flags_of, world_with, IsOwnWorld}
+use Rattle.bpf_model.proofs.Lists.{set-same}
 
 -- what a load finds, where it reaches an element
 loaded_is : (w : WorldView) (v : RunView) (width : ℕ) (offset : ℤ) (l : Location) → ReachesElement w.maps width offset l

@@ -1,12 +1,12 @@
 -- The lists of a world count the machine's unlinked elements.
-use Rattle.std.proofs.Common.{◌≡◌, ◌≢◌, ◌∙◌, ℕ, zero, suc, ◌+◌, ◌<◌, ◌≤◌, List, [], ◌∷◌, ◌++◌, map, length, Bool, true, false, cond, Option, Some, None, refl, sym, ap, subst, arith}
+use Rattle.std.proofs.Common.{◌≡◌, ◌≢◌, ◌∙◌, ℕ, zero, suc, ◌+◌, ◌<◌, List, [], ◌∷◌, ◌++◌, length, Bool, true, false, cond, Option, Some, None, refl, sym, ap, arith}
 use Rattle.std.specs.Prelude.{slice_get, slice_index, ◌==◌, ◌&&◌, not, count_by}
 use Rattle.std.specs.List.{sum_by}
 use Rattle.std.proofs.Math.Dec.{eqb-suc-suc}
 use Rattle.std.proofs.lemmas.Bool.{eq-eqb}
 use Rattle.std.proofs.lemmas.List.{length-append, length-map}
 use Rattle.std.proofs.lemmas.List.Sums.{sum_by-cons}
-use Rattle.std.proofs.lemmas.Option.{none-some, same_Some, slice_get_within}
+use Rattle.std.proofs.lemmas.Option.{slice_get_within}
 use Rattle.bpf_model.specs.Element.{Element, Life, Linked, Unlinked, Reclaimed, is_linked, is_unlinked, is_reclaimed}
 use Rattle.bpf_model.specs.Machine.{Machine}
 use Rattle.bpf_model.specs.Refines.{Tracks, TracksSchedule, RefinesSchedule, lists_of, named, times}
@@ -15,11 +15,11 @@ use Rattle.bpf_model.specs.View.{MapView, WorldView}
 use Rattle.maps.specs.Counting.{unlinked_in}
 use Rattle.model_laws.specs.Scheduled.{IsScheduled, queued_in}
 use Rattle.model_laws.proofs.Counting.{times-append, times-first, times-other}
-use Rattle.model_laws.proofs.Lists.{get-below}
 use Rattle.model_laws.proofs.Queueing.{queued-elsewhere}
 use Rattle.model_laws.proofs.Reached.{tracked_is_scheduled}
 use Rattle.model_laws.proofs.Tallies.{count-cons, one_of}
 use Rattle.journal_laws.specs.Totals.{ever_reclaimed, ever_unlinked, reclaimed_total, unlinked_total}
+use Rattle.bpf_model.proofs.Lists.{get-below}
 
 -- A list has each number as often as a test passes at that index of another: then it is as long as the test passes.
 abbrev flag : Option Element → ℕ

@@ -1,6 +1,6 @@
 -- Totals never go back.
-use Rattle.std.proofs.Common.{◌≡◌, ◌∙◌, ℕ, zero, suc, ◌+◌, ◌≤◌, List, [], ◌∷◌, Bool, true, false, Some, refl, sym, ap, subst, arith}
-use Rattle.std.specs.Prelude.{slice_get, not, count_by}
+use Rattle.std.proofs.Common.{◌≡◌, suc, ◌≤◌, List, [], ◌∷◌, Bool, true, false, refl, sym, ap, subst, arith}
+use Rattle.std.specs.Prelude.{not, count_by}
 use Rattle.std.proofs.lemmas.Option.{none-some, same_Some}
 use Rattle.bpf_model.specs.declared.event.Event.{Event}
 use Rattle.bpf_model.specs.Element.{Element, Life, Linked, Unlinked, Reclaimed, is_linked, is_reclaimed}

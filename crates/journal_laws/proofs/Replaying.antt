@@ -6,7 +6,7 @@ use Rattle.std.proofs.lemmas.Option.{none-some, same_Some}
 use Rattle.bpf_model.specs.declared.event.Event.{Event}
 use Rattle.bpf_model.specs.declared.event.Answer.{Answer}
 use Rattle.bpf_model.specs.Element.{Element}
-use Rattle.bpf_model.specs.Event.{DoesEvent, IsReal, AreReal}
+use Rattle.bpf_model.specs.Event.{IsReal, AreReal}
 use Rattle.bpf_model.specs.Drain.{AreScheduledAnswers}
 use Rattle.bpf_model.specs.Headline.{AreMachineAnswers, AreNeverStuck, AllExitInTime, AreReclaimedLate}
 use Rattle.bpf_model.specs.History.{MachineRun, IsHistory, last_machine}

@@ -23,7 +23,6 @@ use Rattle.bpf_model.specs.Schedule.{DoesScheduled, Schedule}
 use Rattle.bpf_model.specs.Section.{Section}
 use Rattle.bpf_model.specs.Step.{insn_at}
 use Rattle.bpf_model.specs.View.{RunView, WorldView}
-use Rattle.model_laws.proofs.Lists.{get-set_same}
 use Rattle.typed_runs.proofs.Reaching.{SameProgram, same-insn, well_never_stuck}
 use Rattle.view_laws.specs.Matching.{Matches}
 use Rattle.view_laws.specs.Reactions.{with_run}
@@ -47,13 +46,12 @@ use Rattle.machine.proofs.Reacting.{own_step, reacts_by_insn}
 use Rattle.lone_runs.specs.Lone.{StandsAlone, loaded_alone}
 use Rattle.lone_runs.proofs.Alone.{StepsAnywhere, steps_anywhere}
 use Rattle.model_laws.proofs.Alone.{acts-own, helper-own}
-
-moved≢ended : (n : ℕ) → Moved ≡ Exited n → ⊥
-moved≢ended n h = absurd (cc)
+use Rattle.bpf_model.proofs.Lists.{get-set_there}
+use Rattle.model_laws.proofs.Exits.{moved≢exited}
 
 set-there : (runs : List (Option Run)) (old : Run) (new : Option Run) (o : Option (Option Run)) → slice_get runs 0 ≡ o → run_in o ≡ Some old → slice_get (slice_set runs 0 new) 0 ≡ Some new
 set-there runs old new None e h = absurd (none-some old h)
-set-there runs old new (Some before) e h = get-set_same runs 0 before new e
+set-there runs old new (Some before) e h = get-set_there runs 0 before new e
 
 -- what asks nothing isn't shared
 never-shared : (l : laws.LocalStep) (asked : Option Access) (view after : RunView) (access : Access) → laws.AsksNothing l → IsLocalStep l asked view (locals.Shared access) after → ⊥
@@ -199,7 +197,7 @@ module _ (v : Checked) (view : RunView) (x : StandsAlone v view) where
       let g = stepped Moved w e in
       let running : IsRunning w g.next 0 g.run new = record {
         there = g.there;
-        shown = get-set_same x.world.runs 0 (Some view) (Some new) x.running.shown;
+        shown = get-set_there x.world.runs 0 (Some view) (Some new) x.running.shown;
         going = elim g.same.moved [
           | inl y ↦ y.1 ∙ x.running.going
           | inr y ↦ absurd (omega (arith, y, g.same.counts))

@@ -2,14 +2,13 @@
 use Rattle.std.proofs.Common.{◌≡◌, ◌∙◌, ℕ, zero, suc, ◌+◌, ◌-◌, ◌<◌, List, [], ◌∷◌, ◌++◌, length, Option, Some, inl, inr, sym, ap, arith, Bool, true, false, subst, cond}
 use Rattle.std.specs.Prelude.{slice_set, count_by, ◌==◌}
 use Rattle.std.specs.FinMap.{get, remove}
-use Rattle.std.proofs.lemmas.Bool.{cond-true, cond-false}
+use Rattle.std.proofs.lemmas.Bool.{cond-true, cond-false, cases_Bool}
 use Rattle.std.proofs.lemmas.List.Sums.{sum_by-cons}
 use Rattle.bpf_model.specs.declared.event.Given.{Given}
 use Rattle.bpf_model.specs.declared.event.Given.TheVariants.{Free, Worn}
 use Rattle.bpf_model.specs.declared.limits.MapShape.{MapShape}
 use Rattle.bpf_model.specs.View.{MapView, uses_at}
 use Rattle.element_arena.specs.State.{key_at, worn_at, is_last_use, given_back}
-use Rattle.element_arena.proofs.Counts.{bool_cases}
 use Rattle.view_laws.specs.Views.{given_at, reaped_view}
 use Rattle.view_laws.specs.Views as views
 use Rattle.view_laws.proofs.Lists.{len-remove_found}
@@ -63,7 +62,7 @@ module _ (shape : MapShape) (p : PartsView) (i : ℕ) (l : List (Option ℕ)) (a
   with_worn n = record { shape = shape; slots = p.arena.slots; free = p.arena.free; index = p.index; next = p.lists.next; waiting = p.lists.waiting; ready = (reaped_lists p.lists).ready; worn = n }
 
   pub reaped-shown : worn_at p.arena.worn i ≡ 0 → i < length p.arena.worn → map_view shape (record { index = p.index; lists = reaped_lists p.lists; arena = given_back (record p.arena { links = l }) i }) ≡ reaped_view (map_view shape p) i
-  reaped-shown w h = elim (bool_cases (is_last_use p.arena i)) [
+  reaped-shown w h = elim (cases_Bool (is_last_use p.arena i)) [
     | inl y ↦
         ap (λ b. by_last b) y
         ∙ (ap (λ n. with_worn n) (count-set p.arena.worn i w h)

@@ -3,21 +3,18 @@ use Rattle.std.proofs.Common.{◌≡◌, ◌≢◌, ◌∙◌, ℕ, ◌+◌, ◌
 use Rattle.std.specs.FinMap.{get, insert, remove}
 use Rattle.bpf_model.specs.Schedule.{Queues, turned}
 use Rattle.element_arena.specs.State.{ArenaState, IsTaken, LinksOf, SameAt, is_at, indexed, times_in, link_in, key_at, taken, given_back, with_value}
-use Rattle.element_arena.proofs.Counts.{one_same, one_other, times-append, length-set, get-set_other}
+use Rattle.element_arena.proofs.Counts.{one_same, one_other, times-append}
+use Rattle.deferred_free.proofs.Moves.{taken_same}
 use Rattle.deferred_free.specs.Queued.{queued, retired_lists, reaped_lists}
-use Rattle.maps.specs.Parted.{KeyMap, PartsView, standings, IsParted, IsInHand}
+use Rattle.maps.specs.Parted.{PartsView, standings, IsParted, IsInHand}
+use Rattle.bpf_model.specs.Codes.{KeyMap}
 use Rattle.maps.proofs.Parting.{standing-taken, indexed-insert, parted-links, parted-inserted, parted-removed, removed-held, parted-retired, parted-turned, parted-reaped, parted-taken, taken-held, taken-indexed, other-key, taken-key, parted-given, written-key, parted-written}
+use Rattle.bpf_model.proofs.Lists.{get-set_other, length-set}
 
--- an arena that is another but for its links has the same slots taken
-pub taken-links : (a b : ArenaState) (j : ℕ) → b ≡ record a { links = b.links } → IsTaken a j → IsTaken b j
-taken-links a b j e t =
-    let c : IsTaken (record a { links = b.links }) j = record { inside = t.inside; not_free = t.not_free; not_worn = t.not_worn } in
-    subst (λ z. IsTaken z j) (sym e) c
-
--- and the same slots in hand
+-- an arena that is another but for its links has the same slots in hand
 pub held-links : (m : KeyMap) (q : Queues) (a b : ArenaState) (j : ℕ) → b ≡ record a { links = b.links } → IsInHand (record { index = m; lists = q; arena = a }) j → IsInHand (record { index = m; lists = q; arena = b }) j
 held-links m q a b j e h = record {
-  taken = taken-links a b j e h.taken;
+  taken = taken_same a b j e h.taken;
   unlinked = ap (λ (z : ArenaState). indexed m z.slots j) e ∙ h.unlinked;
   unlisted = h.unlisted;
 }
@@ -28,7 +25,7 @@ links-same own mine a b l apart taken = record {
   long = ap (λ (z : ArenaState). length z.slots) l.rest;
   key = λ j h. ap (λ (z : ArenaState). key_at z.slots j) l.rest;
   link = λ j h. l.others j (apart j h);
-  taken = λ j h. taken-links a b j l.rest (taken j h);
+  taken = λ j h. taken_same a b j l.rest (taken j h);
 }
 
 module _ (X Y : Type 0) (contents : X → ArenaState → KeyMap) (fits_index : X → ArenaState → Type 0) (lists : Y → ArenaState → Queues) (fits_lists : Y → ArenaState → Type 0)

@@ -1,16 +1,18 @@
 -- Where the slots stand after each change of a part.
 use Rattle.std.proofs.Common.{◌≡◌, ◌≢◌, ◌∙◌, ℕ, ◌+◌, ◌<◌, ◌≤◌, List, [], ◌∷◌, ◌++◌, length, Some, None, inl, inr, refl, sym, ap, arith, cond, eqb, Bool, true, false, subst, drop}
 use Rattle.std.specs.Prelude.{slice_get, slice_set}
-use Rattle.std.proofs.lemmas.Bool.{cond-true, cond-false, eqb-true, eqb-false}
+use Rattle.std.proofs.lemmas.Bool.{cond-true, cond-false, eqb-true, eqb-false, cases_Bool}
 use Rattle.std.proofs.lemmas.Option.{none-some, same_Some}
 use Rattle.std.specs.FinMap.{get, insert, remove}
 use Rattle.bpf_model.specs.Schedule.{Queues, turned}
 use Rattle.bpf_model.specs.View.{SlotView, uses_at, key_in}
 use Rattle.element_arena.specs.State.{ArenaState, IsTaken, is_at, indexed, times_in, key_at, worn_at, flag_in, taken, given_back, with_value, is_last_use}
-use Rattle.element_arena.proofs.Counts.{bool_cases, option_cases, one_cases, one_same, one_other, times-append, length-set, get-set_same, get-set_other}
+use Rattle.element_arena.proofs.Counts.{option_cases, one_cases, one_same, one_other, times-append}
 use Rattle.view_laws.proofs.Lists.{key_cases, insert-same, insert-other, remove-same, remove-other}
 use Rattle.deferred_free.specs.Queued.{queued, retired_lists, reaped_lists}
-use Rattle.maps.specs.Parted.{KeyMap, PartsView, standings, IsParted, IsInHand, Stands}
+use Rattle.maps.specs.Parted.{PartsView, standings, IsParted, IsInHand, Stands}
+use Rattle.bpf_model.specs.Codes.{KeyMap}
+use Rattle.bpf_model.proofs.Lists.{get-set_other, get-set_same, length-set}
 
 -- a slot that is linked or in a list is taken
 pub standing-taken : (p : PartsView) (i : ℕ) → IsParted p → Stands p i → IsTaken p.arena i
@@ -193,7 +195,7 @@ module _ (p : PartsView) (i : ℕ) (rest key value : List ℕ) (h : IsParted p) 
   ]
 
   pub taken-indexed : (j : ℕ) → indexed p.index (slice_set p.arena.slots i (record { key = key; value = value; uses = uses_at p.arena.slots i + 1 })) j ≡ indexed p.index p.arena.slots j
-  taken-indexed j = elim (bool_cases (eqb j i)) [
+  taken-indexed j = elim (cases_Bool (eqb j i)) [
     | inl y ↦
         subst (λ z. indexed p.index (slice_set p.arena.slots i (record { key = key; value = value; uses = uses_at p.arena.slots i + 1 })) z ≡ indexed p.index p.arena.slots z) (sym (eqb-true j i y))
         (ap (λ c. is_at (get p.index c) i) taken-key ∙ (taken-unlinked ∙ sym free-unlinked))
@@ -235,7 +237,7 @@ module _ (p : PartsView) (i : ℕ) (h : IsParted p) (held : IsInHand p i) where
       let w0 : worn_at p.arena.worn i ≡ 0 = held.taken.not_worn in
       let free : times_in j (given_back p.arena i).free ≡ times_in j p.arena.free = ap (times_in j) (cond-true _ _ _ y) in
       let worn : worn_at (given_back p.arena i).worn j ≡ worn_at (slice_set p.arena.worn i true) j = ap (λ z. worn_at z j) (cond-true _ _ _ y) in
-      let marked : worn_at (slice_set p.arena.worn i true) j ≡ worn_at p.arena.worn j + cond {A = ℕ} (eqb i j) 1 0 = (elim (bool_cases (eqb j i)) [
+      let marked : worn_at (slice_set p.arena.worn i true) j ≡ worn_at p.arena.worn j + cond {A = ℕ} (eqb i j) 1 0 = (elim (cases_Bool (eqb j i)) [
         | inl z ↦ subst (λ k. worn_at (slice_set p.arena.worn i true) k ≡ worn_at p.arena.worn k + cond {A = ℕ} (eqb i k) 1 0) (sym (eqb-true j i z)) (omega (arith, one_same i))
         | inr n ↦ let ne : j ≢ i = eqb-false j i n in let o : worn_at (slice_set p.arena.worn i true) j ≡ worn_at p.arena.worn j = ap flag_in (get-set_other p.arena.worn i j true ne) in omega (arith, one_other i j (λ z. ne (sym z)))
       ]) in
@@ -248,14 +250,14 @@ module _ (p : PartsView) (i : ℕ) (h : IsParted p) (held : IsInHand p i) where
       omega (arith, times-append j p.arena.free (i ∷ []))
 
   given-flags : length (given_back p.arena i).worn ≡ length p.arena.slots
-  given-flags = elim (bool_cases (is_last_use p.arena i)) [
+  given-flags = elim (cases_Bool (is_last_use p.arena i)) [
     | inl y ↦ ap (λ (z : List Bool). length z) (cond-true _ _ _ y) ∙ (length-set p.arena.worn i true ∙ h.flags)
     | inr n ↦ ap (λ (z : List Bool). length z) (cond-false _ _ _ n) ∙ h.flags
   ]
 
   pub parted-given : IsParted (record { index = p.index; lists = p.lists; arena = given_back p.arena i })
   parted-given =
-      let more : (j : ℕ) → standings (record { index = p.index; lists = p.lists; arena = given_back p.arena i }) j ≡ standings p j + cond (eqb i j) 1 0 = (λ j. elim (bool_cases (is_last_use p.arena i)) [
+      let more : (j : ℕ) → standings (record { index = p.index; lists = p.lists; arena = given_back p.arena i }) j ≡ standings p j + cond (eqb i j) 1 0 = (λ j. elim (cases_Bool (is_last_use p.arena i)) [
         | inl y ↦ given-worn y j
         | inr n ↦ given-free n j
       ]) in
@@ -264,7 +266,7 @@ module _ (p : PartsView) (i : ℕ) (h : IsParted p) (held : IsInHand p i) where
 
 -- a store keeps each slot's key
 pub written-key : (slots : List SlotView) (i j : ℕ) (value : List ℕ) → i < length slots → key_at (slice_set slots i (record { key = key_at slots i; value = value; uses = uses_at slots i })) j ≡ key_at slots j
-written-key slots i j value in_ = elim (bool_cases (eqb j i)) [
+written-key slots i j value in_ = elim (cases_Bool (eqb j i)) [
   | inl y ↦ subst (λ z. key_at (slice_set slots i (record { key = key_at slots i; value = value; uses = uses_at slots i })) z ≡ key_at slots z) (sym (eqb-true j i y)) (ap key_in (get-set_same slots i _ in_))
   | inr n ↦ ap key_in (get-set_other slots i j _ (eqb-false j i n))
 ]

@@ -1,15 +1,15 @@
 -- The first ready slot of the maps of a registry, from one map on.
-use Rattle.std.proofs.Common.{◌≡◌, ◌∙◌, ℕ, zero, suc, ◌+◌, List, [], ◌∷◌, length, drop, Option, Some, None, refl, sym, ap, add-one}
+use Rattle.std.proofs.Common.{◌≡◌, ◌∙◌, ℕ, suc, ◌+◌, List, [], ◌∷◌, length, drop, Option, Some, None, refl, sym, ap, add-one}
 use Rattle.std.specs.Prelude.{slice_get, slice_set}
 use Rattle.std.proofs.lemmas.Option.{none-some, same_Some}
 use Rattle.arrayvec.specs.ArrayVec.{ArrayVec}
 use Rattle.bpf_model.specs.declared.event.Given.{Given}
 use Rattle.bpf_model.specs.declared.event.ReapedElement.{ReapedElement}
-use Rattle.bpf_model.specs.View.{SlotView, MapView, key_in}
-use Rattle.element_arena.specs.State as state
+use Rattle.bpf_model.specs.View.{MapView, key_in}
 use Rattle.view_laws.specs.Reactions.{Pick, or_pick, first_pick}
 use Rattle.maps.specs.Picking.{IsPicked}
 use Rattle.maps.specs.Shown.{IsReaped}
+use Rattle.bpf_model.proofs.Lists.{drop-next}
 
 -- the maps before map i have nothing that is ready
 abbrev pub IsPassed : List MapView → ℕ → Type 0
@@ -22,20 +22,15 @@ or_pick-some : (ready : List ℕ) (k i : ℕ) (v : MapView) (later : Option Pick
 or_pick-some [] k i v later e = absurd (none-some i e)
 or_pick-some (j ∷ rest) k i v later e = ap (λ (s : ℕ). let p : Option Pick = Some (record { map = k; view = v; slot = s }) in p) (same_Some j i e)
 
-drop-at : {A : Type 0} (xs : List A) (i : ℕ) (x : A) → slice_get xs i ≡ Some x → drop i xs ≡ x ∷ drop (suc i) xs
-drop-at [] i x e = absurd (none-some x e)
-drop-at (y ∷ ys) zero x e = ap (λ z. z ∷ ys) (same_Some y x e)
-drop-at (y ∷ ys) (suc i) x e = drop-at ys i x e
-
 pub passes-more : (maps : List MapView) (i : ℕ) (v : MapView) → slice_get maps i ≡ Some v → IsPassed maps i → v.ready ≡ [] → IsPassed maps (i + 1)
 passes-more maps i v g h e =
-    h ∙ (ap (first_pick i) (drop-at maps i v g)
+    h ∙ (ap (first_pick i) (drop-next maps i v g)
     ∙ (or_pick-none v.ready i v (first_pick (suc i) (drop (suc i) maps)) e
     ∙ ap (λ n. first_pick n (drop n maps)) (sym (add-one i))))
 
 pub picks-here : (maps : List MapView) (i slot : ℕ) (v : MapView) → slice_get maps i ≡ Some v → IsPassed maps i → slice_get v.ready 0 ≡ Some slot → first_pick 0 maps ≡ Some (record { map = i; view = v; slot = slot })
 picks-here maps i slot v g h e =
-    h ∙ (ap (first_pick i) (drop-at maps i v g) ∙ or_pick-some v.ready i slot v (first_pick (suc i) (drop (suc i) maps)) e)
+    h ∙ (ap (first_pick i) (drop-next maps i v g) ∙ or_pick-some v.ready i slot v (first_pick (suc i) (drop (suc i) maps)) e)
 
 drop-end : {A : Type 0} (xs : List A) → drop (length xs) xs ≡ []
 drop-end [] = refl

@@ -12,11 +12,12 @@ use Rattle.bpf_model.specs.declared.limits.MapShape.{MapShape}
 use Rattle.bpf_model.specs.Helper.{update_error}
 use Rattle.bpf_model.specs.View.{SlotView, MapView, uses_at, map_state_of, key_in, value_in}
 use Rattle.element_arena.specs.State.{key_at, value_at, taken}
-use Rattle.element_arena.proofs.Counts.{length-set}
 use Rattle.view_laws.specs.Views.{updated, updated_by, shown_error, filled, filled_from, retired_key, retired_slot}
 use Rattle.view_laws.proofs.Lists.{remove-same, len-remove_found, len-insert_new}
-use Rattle.maps.specs.Parted.{KeyMap, PartsView, without_key}
+use Rattle.maps.specs.Parted.{PartsView, without_key}
+use Rattle.bpf_model.specs.Codes.{KeyMap}
 use Rattle.maps.specs.Shown.{map_view, IsMap, IsOfShape, or_no_memory, linked_with, put_in}
+use Rattle.bpf_model.proofs.Lists.{length-set}
 
 -- an update that a test refuses
 pub refused : (v : MapView) (key value : List ℕ) (flags : ℕ) (e : Errno) → shown_error v key flags ≡ Some e → updated v key value flags ≡ (Err e, v)

@@ -12,4 +12,7 @@ use Rattle.maps.specs.contracts.registry.Registry as registry
 
 -- what is last written through the loan becomes the map of this number; names and other maps stay
 abbrev pub LendsMap : MutBor RegistryView → ℕ → MutBor MapView → Fml
-LendsMap r id lent = Lends registry.the_row (hash_map.the_row buckets.the_row threaded.the_row buckets_index.ghosts threaded_deferred.ghosts) r lent (λ m. record { names = r.now.names; maps = slice_set r.now.maps id m })
+LendsMap r id lent = Lends registry.the_row
+    (hash_map.the_row buckets.the_row threaded.the_row
+    buckets_index.ghosts threaded_deferred.ghosts)
+    r lent (λ m. record { names = r.now.names; maps = slice_set r.now.maps id m })

@@ -1,5 +1,4 @@
 pub mod Parted
-pub mod Codes
 pub mod Shown
 pub mod Lending
 pub mod Registry

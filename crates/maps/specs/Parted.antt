@@ -1,15 +1,12 @@
 -- The parts of a map, and where its slots stand.
-use Rattle.std.specs.Prelude.{◌≡◌, ℕ, ◌+◌, ◌<◌, ◌≤◌, List, Option, Some, None, length}
-use Rattle.std.specs.Ordering.{nat_cmp}
-use Rattle.std.specs.Cmp.Lexicographic.{slice_cmp}
-use Rattle.std.specs.FinMap.{FinMap, get, remove}
+use Rattle.std.specs.Prelude.{◌≡◌, ℕ, ◌+◌, ◌<◌, ◌≤◌, List, Option, Some, None, length, refl}
+use Rattle.std.specs.Coded.{Coded, code_by, coded×}
+use Rattle.std.specs.FinMap.{get, remove}
+use Rattle.bpf_model.specs.Codes.{KeyMap, key_map_code, queues_code}
 use Rattle.bpf_model.specs.Schedule.{Queues}
+use Rattle.element_arena.specs.Codes.{arena_code}
 use Rattle.element_arena.specs.State.{ArenaState, IsTaken, times_in, indexed, key_at, worn_at}
 use Rattle.deferred_free.specs.Queued.{queued, retired_lists}
-
--- slots by their keys
-abbrev pub KeyMap : Type 0
-KeyMap = FinMap (slice_cmp nat_cmp) ℕ
 
 -- what the index has, the three lists, and the arena over which both are read
 pub record PartsView : Type 0 where
@@ -17,9 +14,17 @@ pub record PartsView : Type 0 where
   pub lists : Queues
   pub arena : ArenaState
 
+abbrev pub parts_code : Coded PartsView
+parts_code = code_by (KeyMap × (Queues × ArenaState))
+    (coded× key_map_code (coded× queues_code arena_code))
+    (λ p. (p.index, (p.lists, p.arena)))
+    (λ p. record { index = p.0; lists = p.1.0; arena = p.1.1 })
+    (λ _. refl)
+
 -- How often a slot stands somewhere: free, linked, in the three lists, worn.
 abbrev pub standings : PartsView → ℕ → ℕ
-standings p i = times_in i p.arena.free + indexed p.index p.arena.slots i + queued p.lists i + worn_at p.arena.worn i
+standings p i = times_in i p.arena.free + indexed p.index p.arena.slots i
+    + queued p.lists i + worn_at p.arena.worn i
 
 -- A slot stands once at most, and none but the arena's slots do. A key's slot has that key.
 pub record IsParted (p : PartsView) : Type 0 where

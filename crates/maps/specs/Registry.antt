@@ -6,8 +6,8 @@ use Rattle.bpf_model.specs.declared.limits.MapShape.{MapShape}
 use Rattle.bpf_model.specs.declared.limits.TheConstants.{MAX_MAPS, KEY_BYTES, VALUE_BYTES}
 use Rattle.bpf_model.specs.declared.limits.TheConstants.{MAX_ENTRIES, MAX_SPARE, MAX_REUSE}
 use Rattle.bpf_model.specs.View.{MapView}
-use Rattle.maps.specs.Codes.{view_code}
-use Rattle.std.specs.Coded.{Coded, code_by, coded×, coded_ℕ, coded_list}
+use Rattle.bpf_model.specs.Codes.{numbers_code, view_code}
+use Rattle.std.specs.Coded.{Coded, code_by, coded×, coded_list}
 use Rattle.maps.specs.declared.fault.MapFault.{MapFault}
 use Rattle.maps.specs.declared.fault.MapFault.TheVariants.{BadName, NameTaken, BadShape, TooMany}
 use Rattle.maps.specs.declared.fault.MapFault.TheVariants.{Memory}
@@ -18,8 +18,11 @@ pub record RegistryView : Type 0 where
   pub maps : List MapView
 
 abbrev pub registry_code : Coded RegistryView
-registry_code = code_by (List (List ℕ)
-    × List MapView) (coded× (coded_list (coded_list coded_ℕ)) (coded_list view_code)) (λ r. (r.names, r.maps)) (λ p. record { names = p.0; maps = p.1 }) (λ _. refl)
+registry_code = code_by (List (List ℕ) × List MapView)
+    (coded× (coded_list numbers_code) (coded_list view_code))
+    (λ r. (r.names, r.maps))
+    (λ p. record { names = p.0; maps = p.1 })
+    (λ _. refl)
 
 -- `a` to `z`
 abbrev pub is_letter : ℕ → Bool

@@ -32,7 +32,7 @@ pub struct HashMap<I: Index, D: Deferred> {
 
 impl<I: Index, D: Deferred> Model for HashMap<I, D> {
     ghost use Rattle.bpf_model.specs.View.{MapView};
-    ghost use Rattle.maps.specs.Codes.{view_code};
+    ghost use Rattle.bpf_model.specs.Codes.{view_code};
     ghost use Rattle.maps.specs.Counting.{IsCounted};
     ghost use Rattle.maps.specs.Shown.{map_view};
 

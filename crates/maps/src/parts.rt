@@ -28,16 +28,24 @@ pub struct Parts<I: Index, D: Deferred> {
 }
 
 impl<I: Index, D: Deferred> Model for Parts<I, D> {
-    ghost use Rattle.maps.specs.Parted.{PartsView, IsParted};
-    ghost use Rattle.maps.specs.Codes.{parts_code};
+    ghost use Rattle.maps.specs.Parted.{PartsView, IsParted, parts_code};
 
     ghost Value = { PartsView };
 
     ghost coded = { parts_code };
 
-    ghost view = { λ p. record { index = I.contents p.index p.arena; lists = D.lists p.deferred p.arena; arena = p.arena } };
+    ghost view = { λ p. record {
+      index = I.contents p.index p.arena;
+      lists = D.lists p.deferred p.arena;
+      arena = p.arena;
+    } };
 
-    ghost invariant = { λ p. (I.fits p.index p.arena × D.fits p.deferred p.arena) × IsParted (record { index = I.contents p.index p.arena; lists = D.lists p.deferred p.arena; arena = p.arena }) };
+    ghost invariant = { λ p. (I.fits p.index p.arena × D.fits p.deferred p.arena)
+        × IsParted (record {
+          index = I.contents p.index p.arena;
+          lists = D.lists p.deferred p.arena;
+          arena = p.arena;
+        }) };
 }
 
 impl<I: Index, D: Deferred> Parts<I, D> {
@@ -63,7 +71,9 @@ impl<I: Index, D: Deferred> Parts<I, D> {
         ensures none { IfNone result (self.old.arena.free ≡ []) }
         ensures unchanged { IfNone result (self.new ≡ self.old) }
         ensures slot { IfSome result (λ i. self.old.arena.free ≡ i ∷ self.new.arena.free) }
-        ensures new { IfSome result (λ i. self.new ≡ record self.old { arena = taken self.old.arena i self.new.arena.free key.now value.now }) }
+        ensures new { IfSome result (λ i. self.new ≡ record self.old {
+          arena = taken self.old.arena i self.new.arena.free key.now value.now;
+        }) }
         ensures held { IfSome result (IsInHand self.new) }
         ensures keyed { IfSome result (λ i. key_at self.new.arena.slots i ≡ key.now) }
         ensures parted { IsParted self.new }
@@ -146,7 +156,8 @@ impl<I: Index, D: Deferred> Parts<I, D> {
     /// Gives a slot in hand back.
     pub fn give(&mut self, slot: usize) -> Given
         requires held { IsInHand self.old slot }
-        ensures given { result ≡ (if is_last_use self.old.arena slot then given.Worn else given.Free) }
+        ensures given { result
+            ≡ (if is_last_use self.old.arena slot then given.Worn else given.Free) }
         ensures new { self.new ≡ record self.old { arena = given_back self.old.arena slot } }
     {
         self.arena.give(slot)
@@ -172,7 +183,8 @@ impl<I: Index, D: Deferred> Parts<I, D> {
     pub fn load(&self, slot: usize, offset: usize, width: Width) -> u64
         requires stands { Stands self.now slot }
         requires inside { offset + byte_count width ≤ self.now.arena.value_len }
-        ensures { number_at (slice_get (value_at self.now.arena.slots slot)) offset (byte_count width)
+        ensures { number_at (slice_get (value_at self.now.arena.slots slot))
+            offset (byte_count width)
             ≡ Some result }
     {
         self.arena.load(slot, offset, width)
@@ -197,7 +209,8 @@ impl<I: Index, D: Deferred> Parts<I, D> {
         ensures above { IfSome result (λ i.
             IsAbove (option_copied bound.entry) (key_at self.now.arena.slots i)) }
         ensures least { IfSome result (λ i.
-            NoneBetween self.now.index (option_copied bound.entry) (key_at self.now.arena.slots i)) }
+            NoneBetween self.now.index (option_copied bound.entry)
+            (key_at self.now.arena.slots i)) }
         ensures none { IfNone result (NoneAbove self.now.index (option_copied bound.entry)) }
         ensures parted { IsParted self.now }
     {

@@ -36,10 +36,10 @@ use Rattle.bpf_model.specs.Event.{PerformsEvent, Answers, refusal}
 use Rattle.bpf_model.specs.Schedule.{Schedule, IsScheduledHistory, last_scheduled, start_schedule}
 use Rattle.bpf_model.specs.Refines.{times, IsReachedSchedule}
 use Rattle.model_laws.specs.Accounted.{kept_count, born_count, IsFull}
-use Rattle.model_laws.proofs.Lists.{get-set_cases, get-append_cases}
 use Rattle.model_laws.proofs.Stores.{Touches, touches-found, touches-acts, shape-given}
 use Rattle.model_laws.proofs.Counting.{map-back, times-append, times-first, times-other}
 use Rattle.model_laws.proofs.Tallies.{is_kept, of-same, of-other, kept-touched, kept-born, kept-reclaimed, kept-kinds, kept_uses, uses-touched, born-touched, kept-was, kept-is, uses-here, uses-away, uses-born, born-born, uses-reclaimed, born-reclaimed, uses-most}
+use Rattle.bpf_model.proofs.Lists.{get-append_cases, get-set_cases}
 
 abbrev total : List ℕ → ℕ
 total counts = sum_by (λ c. c) counts

@@ -13,11 +13,11 @@ use Rattle.bpf_model.specs.Schedule.{Schedule}
 use Rattle.bpf_model.specs.View.{MapView, WorldView, shapes_of}
 use Rattle.bpf_model.specs.Refines.{TracksSchedule}
 use Rattle.model_laws.specs.Accounted.{born_count}
-use Rattle.model_laws.proofs.Lists.{get-below}
 use Rattle.model_laws.proofs.Counting.{map-back}
 use Rattle.model_laws.proofs.Tallies.{one_of, of_map, of-same, of-other, count-cons}
 use Rattle.model_laws.proofs.Reached.{tracked_is_scheduled}
 use Rattle.model_laws.proofs.Accounting.{births_bounded}
+use Rattle.bpf_model.proofs.Lists.{get-below}
 
 -- the births of all maps of a list, the first of which is map k
 abbrev born_from : ℕ → List MapShape → List Element → ℕ

@@ -8,7 +8,7 @@ use Rattle.std.proofs.lemmas.List.Sums.{sum_by-cons, sum_by-append}
 use Rattle.bpf_model.specs.Element.{Element, is_linked, is_unlinked}
 use Rattle.bpf_model.specs.Schedule.{Queues, is_any, still_open, unlinked_between, retired, or_first, first_ready, without_first}
 use Rattle.bpf_model.specs.Refines.{times}
-use Rattle.model_laws.proofs.Lists.{get-set_cases}
+use Rattle.bpf_model.proofs.Lists.{get-set_cases}
 
 pub times-append : (n : ℕ) (xs ys : List ℕ) → times n (xs ++ ys) ≡ times n xs + times n ys
 times-append n xs ys = sum_by-append (λ x. cond (x == n) 1 0) xs ys
@@ -125,7 +125,7 @@ pub record FirstIndex (qs : List Queues) (n : ℕ) : Type 0 where
   pub ready_is : lists.ready ≡ n ∷ rest
   pub without : without_first qs ≡ slice_set qs map_at (shortened rest lists)
 
-abbrev without_at : Queues → List Queues → List ℕ → List Queues
+abbrev pub without_at : Queues → List Queues → List ℕ → List Queues
 without_at q qs ready = if length ready == 0 then q ∷ without_first qs else record { next = q.next; waiting = q.waiting; ready = drop 1 ready } ∷ qs
 
 without-empty : (q : Queues) (qs : List Queues) → q.ready ≡ [] → without_first (q ∷ qs) ≡ q ∷ without_first qs

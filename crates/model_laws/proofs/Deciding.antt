@@ -38,9 +38,9 @@ use Rattle.bpf_model.specs.MachineStep.{OutcomeStep, Acts, AccessesElement, Kern
 use Rattle.bpf_model.specs.Event.{Starts, ReadsElement, PerformsEvent, Answers, refusal}
 use Rattle.bpf_model.specs.Schedule.{Schedule, first_ready, scheduled, TakesFirst, TakesOldest, DoesScheduled, IsScheduledHistory}
 use Rattle.model_laws.specs.Scheduled.{IsScheduled}
-use Rattle.model_laws.proofs.Lists.{get-append_last, get-set_same}
 use Rattle.model_laws.proofs.Stores.{IsSingle, touches-found}
 use Rattle.model_laws.proofs.Scheduling.{same-element, stays_scheduled}
+use Rattle.bpf_model.proofs.Lists.{get-append_last, get-set_there}
 
 -- two equal options have one content
 pub both : {A : Type 0} (o : Option A) (x y : A) → o ≡ Some x → o ≡ Some y → x ≡ y
@@ -70,7 +70,7 @@ oldest-bag s opened map m key value found count bag at l oldest =
     let mid : List Element = unlinked opened s.elements found in
     let births : length mid ≡ length s.elements = (touches-found false opened s map key found l).births in
     oldest (newborn map key value count) m (with_bag bag m)
-    (ap (slice_get (mid ++ newborn map key value count ∷ [])) (sym births) ∙ get-append_last mid (newborn map key value count)) at (get-set_same s.maps map m (with_bag bag m) at)
+    (ap (slice_get (mid ++ newborn map key value count ∷ [])) (sym births) ∙ get-append_last mid (newborn map key value count)) at (get-set_there s.maps map m (with_bag bag m) at)
 
 same-head : (a b : ℕ) (xs ys : List ℕ) → a ∷ xs ≡ b ∷ ys → a ≡ b
 same-head a b xs ys h = cc

@@ -19,13 +19,13 @@ use Rattle.bpf_model.specs.Schedule.{Queues, Schedule, open_flags, is_any, unlin
 use Rattle.bpf_model.specs.Drain.{IsQuietAdvance, Drains, machines}
 use Rattle.bpf_model.specs.Refines.{times}
 use Rattle.model_laws.specs.Scheduled.{IsScheduled, IsReapable}
-use Rattle.model_laws.proofs.Lists.{get-below, get-set_same, length-slice_set}
 use Rattle.model_laws.proofs.Advancing.{no_flag}
 use Rattle.model_laws.proofs.Stores.{LifeMoves, Stays, Unlinks, Ends, StoreMoves, is_reap, does-moves}
 use Rattle.model_laws.proofs.Counting.{newly, times-append, times-first, between-is, with_more, retired-back, map-back, any-place, place-any, first-index, none-ready, without-back}
 use Rattle.model_laws.proofs.Queueing.{Queued, queued-here}
 use Rattle.model_laws.proofs.Scheduling.{plain, first-queued, starts_scheduled, stays_scheduled}
 use Rattle.model_laws.proofs.Lives.{linked≢unlinked, reclaimed≢linked, one_if}
+use Rattle.bpf_model.proofs.Lists.{get-below, get-set_there, length-set}
 
 -- an element that isn't linked any more
 pub record IsOut (es : List Element) (n : ℕ) : Type 0 where
@@ -267,8 +267,8 @@ takes-first : (s : Schedule) (n : ℕ) (e : Element) (taken : ReapedElement) (st
     (new : Schedule) × DoesScheduled s events.Reap (answers.Reaped (Some taken)) new
 takes-first s n e taken store first r map key =
     let es : store.elements ≡ slice_set s.machine.store.elements n (with_life Reclaimed e) = ap (λ z. z.elements) r.new_is in
-    let gone : slice_get store.elements n ≡ Some (with_life Reclaimed e) = ap (λ l. slice_get l n) es ∙ get-set_same s.machine.store.elements n e (with_life Reclaimed e) r.born in
-    let same : length store.elements ≡ length s.machine.store.elements = ap length es ∙ length-slice_set s.machine.store.elements n (with_life Reclaimed e) in (
+    let gone : slice_get store.elements n ≡ Some (with_life Reclaimed e) = ap (λ l. slice_get l n) es ∙ get-set_there s.machine.store.elements n e (with_life Reclaimed e) r.born in
+    let same : length store.elements ≡ length s.machine.store.elements = ap length es ∙ length-set s.machine.store.elements n (with_life Reclaimed e) in (
       reaped s (with_store s.machine store),
       record {
         step = (n, e, store, r, map, key, refl);

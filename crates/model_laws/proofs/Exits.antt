@@ -101,7 +101,7 @@ module _ (s other : Store) (opened : List Section) (run new next : Run) (a b : A
 same-exit : (n k : ℕ) → Exited n ≡ Exited k → n ≡ k
 same-exit n k h = cc
 
-moved≢exited : (n : ℕ) → Moved ≡ Exited n → ⊥
+pub moved≢exited : (n : ℕ) → Moved ≡ Exited n → ⊥
 moved≢exited n h = absurd (cc)
 
 now-one : (run new : Run) (t n k : ℕ) → Anywhere run (Exited n) new → MayExitFrom run t k → (1 ≡ t) × (n ≡ k)

@@ -5,7 +5,7 @@ use Rattle.std.proofs.lemmas.Bool.{cases_eq}
 use Rattle.bpf_model.specs.Section.{Section}
 use Rattle.bpf_model.specs.Element.{Element, Life, Linked, Unlinked, Reclaimed, IsLinkedAt, HasLife, with_life, with_value, set_to, changed, unlinked}
 use Rattle.model_laws.specs.Growth.{Later, IsLaterElement, ElementsGrow}
-use Rattle.model_laws.proofs.Lists.{get-append, get-set_same, get-set_other}
+use Rattle.bpf_model.proofs.Lists.{get-append, get-set_other, get-set_there}
 
 later-same : (l : Life) → Later l l
 later-same Linked = tt
@@ -56,7 +56,7 @@ grows-set es n old new h f k e at = elim (cases_eq k n) [
       let both : Some old ≡ Some e = sym h ∙ place in
       let equal : old ≡ e = cc in
       let P : Element → Type 0 = λ x. IsLaterElement x new in
-      (new, ap (slice_get (slice_set es n new)) same ∙ get-set_same es n old new h, subst P equal f)
+      (new, ap (slice_get (slice_set es n new)) same ∙ get-set_there es n old new h, subst P equal f)
   | inr other ↦ (e, get-set_other es n k new other ∙ at, follows-same e)
 ]
 

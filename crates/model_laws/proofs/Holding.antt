@@ -3,6 +3,7 @@ use Rattle.std.proofs.Common.{◌≡◌, refl, ℕ, ◌+◌, ◌-◌, ◌/◌, �
 use Rattle.std.specs.Prelude.{slice_get, if◌then◌else◌, ◌==◌, ◌&&◌, nat_le, nat_lt, length}
 use Rattle.std.specs.Int.{w64}
 use Rattle.std.proofs.lemmas.Option.{none-some, same_Some}
+use Rattle.bpf_model.specs.declared.limits.TheConstants.{FRAME_BYTES}
 use Rattle.bpf_model.specs.declared.insn.Insn.{Insn}
 use Rattle.bpf_model.specs.declared.insn.Insn.TheVariants.{Alu, Unary, LoadNumber, LoadMap, Jump, JumpLong, JumpIf, Call, Exit, Load, LoadSigned, Store}
 use Rattle.bpf_model.specs.declared.insn.AluOp.{AluOp}
@@ -60,7 +61,7 @@ module _ (P : Reference → Type 0) (c : Closed P) where
 
   -- at entry
   pub holds-entry : HoldsState P entry
-  holds-entry = (λ i. choice-value (i == 1) _ _ (c.context (pos 0)) (choice-value (i == 10) _ _ (c.frame (pos 512)) tt), λ k. tt)
+  holds-entry = (λ i. choice-value (i == 1) _ _ (c.context (pos 0)) (choice-value (i == 10) _ _ (c.frame (pos FRAME_BYTES)) tt), λ k. tt)
 
   -- a register is set
   sets-or : (b : Bool) (x out : Outcome) → (if b then None else Some x) ≡ Some out → HoldsOutcome P x → HoldsOutcome P out
@@ -139,7 +140,7 @@ module _ (P : Reference → Type 0) (c : Closed P) where
       let s = first-step (region_offset (length env.context) width (o +ℤ offset)) (λ at. number_at (slice_get env.context) at width >>= λ n. Some (Number n)) v h in
       one-number (number_at (slice_get env.context) s.0 width) (λ n. n) v s.2
   holds-loaded env m width offset (Frame o) v p h =
-      let s = first-step (region_offset 512 width (o +ℤ offset)) (λ at. read m.frame at width) v h in
+      let s = first-step (region_offset FRAME_BYTES width (o +ℤ offset)) (λ at. read m.frame at width) v h in
       holds-found m.frame s.0 width (m.frame s.0) v (p.1 s.0) s.2
   holds-loaded env m width offset (MapRef n) v p h = absurd (none-some v h)
   holds-loaded env m width offset (Elem n o) v p h = absurd (none-some v h)
@@ -160,7 +161,7 @@ module _ (P : Reference → Type 0) (c : Closed P) where
   holds-stored : (m : State) (width : ℕ) (offset : ℤ) (v : Value) (r : Reference) (out : Outcome) → HoldsState P m → HoldsValue P v → stored m width offset v r ≡ Some out → HoldsOutcome P out
   holds-stored m width offset v (Frame o) out p q h =
       let goes : (ℕ → Cell) → Option Outcome = λ frame. Some (Moves (record { regs = m.regs; frame = frame; place = m.place + 1 })) in
-      let s = first-step (region_offset 512 width (o +ℤ offset)) (λ at. frame_after at width v m.frame >>= goes) out h in
+      let s = first-step (region_offset FRAME_BYTES width (o +ℤ offset)) (λ at. frame_after at width v m.frame >>= goes) out h in
       let t = first-step (frame_after s.0 width v m.frame) goes out s.2 in
       some-outcome (Moves (record { regs = m.regs; frame = t.0; place = m.place + 1 })) out t.2 (p.0, holds-frame s.0 width v m.frame t.0 q p.1 t.1)
   holds-stored m width offset v (Ctx o) out p q h = absurd (none-some out h)

@@ -14,12 +14,12 @@ use Rattle.bpf_model.specs.Machine.{Loaded, Run, Machine, open_sections, run_at,
 use Rattle.bpf_model.specs.Event.{DoesEvent}
 use Rattle.bpf_model.specs.Consistent.{IsConsistent}
 use Rattle.model_laws.specs.Begun.{AllBegun}
-use Rattle.model_laws.proofs.Lists.{get-below}
 use Rattle.model_laws.proofs.Born.{IsBornState, more-value, more-cell, born-entry}
 use Rattle.model_laws.proofs.Moves.{RunsMove, run-before, started-grows, does-move}
 use Rattle.model_laws.proofs.Stores.{LifeMoves, Stays, Unlinks, Ends, Alters, Born, StoreMoves, is_reap, does-moves}
 use Rattle.model_laws.proofs.Past.{all-begun-later, open-begun}
 use Rattle.model_laws.proofs.Lives.{linked≢unlinked, reclaimed≢linked, reclaimed≢unlinked, same-since}
+use Rattle.bpf_model.proofs.Lists.{get-below}
 
 -- at the start
 pub no-run : (n r : ℕ) (run : Run) → run_at (replicate n None) r ≡ Some run → ⊥

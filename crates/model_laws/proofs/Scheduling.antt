@@ -21,7 +21,6 @@ use Rattle.bpf_model.specs.Schedule.{Queues, Schedule, open_flags, still_open, i
 use Rattle.bpf_model.specs.Consistent.{IsConsistent}
 use Rattle.bpf_model.specs.Refines.{times}
 use Rattle.model_laws.specs.Scheduled.{queued_in, Waits, IsScheduled}
-use Rattle.model_laws.proofs.Lists.{get-set_cases, get-set_other}
 use Rattle.model_laws.proofs.Sections.{OpenAt, open_at}
 use Rattle.model_laws.proofs.Moves.{RunsMove, does-move}
 use Rattle.model_laws.proofs.Stores.{StoreMoves, is_reap, does-moves}
@@ -29,6 +28,7 @@ use Rattle.model_laws.proofs.Keeping.{starts_consistent, stays_consistent}
 use Rattle.model_laws.proofs.Counting.{times-append, times-first, times-other, between-is, with_more, retired-back, length-retired, map-back, still-forth, still-back, place-any, shortened, FirstIndex, first-index, none-without, without-back, length-without}
 use Rattle.model_laws.proofs.Queueing.{Queued, queued-of, queued-most, queued-reclaimed, queued-elsewhere, open-flag, keeps-waits, count-step}
 use Rattle.model_laws.proofs.Lives.{reclaimed≢unlinked}
+use Rattle.bpf_model.proofs.Lists.{get-set_cases, get-set_other}
 
 abbrev total : ℕ → Queues → ℕ
 total n q = times n q.next + times n q.waiting + times n q.ready

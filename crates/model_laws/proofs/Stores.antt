@@ -1,8 +1,9 @@
 -- What a step of the machine does to its elements and maps.
-use Rattle.std.proofs.Common.{◌≡◌, ℕ, zero, suc, ◌+◌, List, [], ◌∷◌, ◌++◌, length, Option, Some, None, ◌⊎◌, inl, inr, refl, sym, ap, ◌∙◌, Bool, true, false, subst, Result, ℤ, pos, negsuc, ◌+ℤ◌, ◌/◌, ◌%◌}
+use Rattle.std.proofs.Common.{◌≡◌, ℕ, zero, suc, ◌+◌, List, [], ◌∷◌, ◌++◌, length, Option, Some, None, ◌⊎◌, inl, inr, refl, sym, ap, ◌∙◌, Bool, true, false, subst, Result, ℤ, pos, negsuc, ◌+ℤ◌}
 use Rattle.std.specs.Prelude.{slice_get, slice_set, ◌==◌, ◌&&◌, nat_le, if◌then◌else◌}
 use Rattle.std.proofs.lemmas.Bool.{cases_eq, eqb-true}
 use Rattle.std.proofs.lemmas.Option.{none-some, same_Some}
+use Rattle.bpf_model.specs.declared.limits.TheConstants.{FRAME_BYTES}
 use Rattle.bpf_model.specs.declared.insn.Insn.{Insn}
 use Rattle.bpf_model.specs.declared.insn.Insn.TheVariants.{Call, Load, LoadSigned, Store}
 use Rattle.bpf_model.specs.declared.insn.CallKind.TheVariants as kinds
@@ -37,8 +38,10 @@ use Rattle.bpf_model.specs.Reclaim.{Reclaims}
 use Rattle.bpf_model.specs.Machine.{Run, Machine, environment, open_sections}
 use Rattle.bpf_model.specs.MachineStep.{AccessesElement, Acts, HelperStep, InsnStep, element_store, stored_in, with_bytes, bytes_at, bytes_from, frame_bytes, key_argument, value_argument}
 use Rattle.bpf_model.specs.Event.{PerformsEvent, Answers, DoesEvent, refusal, update_refusal}
-use Rattle.model_laws.proofs.Lists.{first-step, get-append, get-append_cases, get-set_same, get-set_other, get-set_cases, length-slice_set}
+use Rattle.model_laws.proofs.Lists.{first-step}
 use Rattle.model_laws.proofs.Lives.{linked≢unlinked}
+use Rattle.bpf_model.proofs.Bytes.{length-with_bytes}
+use Rattle.bpf_model.proofs.Lists.{get-append, get-append_cases, get-set_cases, get-set_other, get-set_there, length-set}
 
 -- How a life goes on in one step: it stays, the element is unlinked, or (in a reap) its sections have ended.
 pub data LifeMoves (reap : Bool) (opened : List Section) (old new : Life) : Type 0 where
@@ -70,7 +73,7 @@ forth-set : (reap : Bool) (opened : List Section) (es : List Element) (n : ℕ) 
 forth-set reap opened es n old new h a k e at = elim (cases_eq k n) [
   | inl same ↦
       let equal : old ≡ e = same_Some old e (sym h ∙ (ap (slice_get es) (sym same) ∙ at)) in
-      (new, ap (slice_get (slice_set es n new)) same ∙ get-set_same es n old new h, subst (λ x. Alters reap opened x new) equal a)
+      (new, ap (slice_get (slice_set es n new)) same ∙ get-set_there es n old new h, subst (λ x. Alters reap opened x new) equal a)
   | inr other ↦ (e, get-set_other es n k new other ∙ at, alters-same reap opened e)
 ]
 
@@ -81,7 +84,7 @@ back-set es n old new h k f at = elim (get-set_cases es n k new f at) [
 ]
 
 touches-set : (reap : Bool) (opened : List Section) (es : List Element) (n : ℕ) (old new : Element) → slice_get es n ≡ Some old → Alters reap opened old new → Touches reap opened es (slice_set es n new)
-touches-set reap opened es n old new h a = record { forth = forth-set reap opened es n old new h a; back = back-set es n old new h; births = length-slice_set es n new }
+touches-set reap opened es n old new h a = record { forth = forth-set reap opened es n old new h a; back = back-set es n old new h; births = length-set es n new }
 
 touches-changed : (reap : Bool) (opened : List Section) (f : Element → Element) (es : List Element) (n : ℕ) (e : Element) → slice_get es n ≡ Some e → Alters reap opened e (f e) → Touches reap opened es (changed f es n)
 touches-changed reap opened f es n e h a = subst (Touches reap opened es) (sym (ap (set_to f es n) h)) (touches-set reap opened es n e (f e) h a)
@@ -113,7 +116,7 @@ shapes-set : (maps : List MapState) (n : ℕ) (old new : MapState) → slice_get
 shapes-set maps n old new h e k state at = elim (cases_eq k n) [
   | inl same ↦
       let equal : old ≡ state = same_Some old state (sym h ∙ (ap (slice_get maps) (sym same) ∙ at)) in
-      (new, ap (slice_get (slice_set maps n new)) same ∙ get-set_same maps n old new h, e ∙ ap (λ x. x.shape) equal)
+      (new, ap (slice_get (slice_set maps n new)) same ∙ get-set_there maps n old new h, e ∙ ap (λ x. x.shape) equal)
   | inr other ↦ (state, get-set_other maps n k new other ∙ at, refl)
 ]
 
@@ -125,11 +128,6 @@ moves-same reap opened s new e = subst (StoreMoves reap opened s) (sym e) (moves
 
 moves-elements : (reap : Bool) (opened : List Section) (s new : map_state.Store) (es : List Element) → Touches reap opened s.elements es → new ≡ with_elements es s → StoreMoves reap opened s new
 moves-elements reap opened s new es t e = subst (StoreMoves reap opened s) (sym e) (moves-touches reap opened s (with_elements es s) t (shapes-same s.maps) refl)
-
--- a store to an element
-length-bytes : (at width n : ℕ) (bytes : List ℕ) → length (with_bytes at width n bytes) ≡ length bytes
-length-bytes at zero n bytes = refl
-length-bytes at (suc width) n bytes = length-slice_set (with_bytes (suc at) width (n / 256) bytes) at (n % 256) ∙ length-bytes (suc at) width (n / 256) bytes
 
 pub accessible-born : (es : List Element) (n : ℕ) (o : Option Element) (e : Element) → slice_get es n ≡ o → (o >>= unless_reclaimed) ≡ Some e → slice_get es n ≡ Some e
 accessible-born es n None e at h = absurd (none-some e h)
@@ -146,7 +144,7 @@ pub touches-stored : (opened : List Section) (es new : List Element) (n width : 
 touches-stored opened es new n width offset v e at h =
     let s = first-step (region_offset (length e.value) width offset) (λ at. Some (changed (with_value (with_bytes at width v e.value)) es n)) new h in
     let same : changed (with_value (with_bytes s.0 width v e.value)) es n ≡ new = same_Some _ _ s.2 in
-    subst (Touches false opened es) same (touches-changed false opened (with_value (with_bytes s.0 width v e.value)) es n e at (record { in_map = refl; under = refl; uses = refl; size = length-bytes s.0 width v e.value; life = Stays refl }))
+    subst (Touches false opened es) same (touches-changed false opened (with_value (with_bytes s.0 width v e.value)) es n e at (record { in_map = refl; under = refl; uses = refl; size = length-with_bytes s.0 width v e.value; life = Stays refl }))
 
 touches-store : (opened : List Section) (es new : List Element) (width : ℕ) (offset : ℤ) (v base : Value) → element_store es width offset v base ≡ Some new → Touches false opened es new
 touches-store opened es new width offset Nothing base h = absurd (none-some new h)
@@ -221,7 +219,7 @@ moves-replaces : (s : map_state.Store) (opened : List Section) (map : ℕ) (m : 
 moves-replaces s opened map m key value found new single fits at l r =
     moves-birth opened s new (unlinked opened s.elements found) (slice_set s.maps map (with_bag r.bag m)) (newborn map key value r.count)
     (touches-found false opened s map key found l) (absent-found opened s map key found single l) (m, at, (fits m at).0, (fits m at).1) refl
-    (shapes-set s.maps map m (with_bag r.bag m) at refl) (length-slice_set s.maps map (with_bag r.bag m)) r.new_is
+    (shapes-set s.maps map m (with_bag r.bag m) at refl) (length-set s.maps map (with_bag r.bag m)) r.new_is
 
 moves-settles : (s : map_state.Store) (opened : List Section) (map : ℕ) (m : MapState) (key value : List ℕ) (found : Option ℕ) (new : map_state.Store) (error : Option Errno) (ret : Result (Unit {0}) Errno) → IsSingle s.elements → Fits s map key value → slice_get s.maps map ≡ Some m →
     LooksUp s map key found → Settles error ret s new (Replaces s opened map m key value found new) → StoreMoves false opened s new
@@ -249,7 +247,7 @@ moves-reclaims s opened n e given new r =
     let all : map_state.Store = record { elements = slice_set s.elements n (with_life Reclaimed e); maps = maps } in
     subst (StoreMoves true opened s) (sym r.new_is) (moves-touches true opened s all
     (touches-set true opened s.elements n e (with_life Reclaimed e) r.born (record { in_map = refl; under = refl; uses = refl; size = refl; life = Ends r.since refl r.unlinked r.ended refl }))
-    (shapes-set s.maps e.map r.state (returned e.uses r.state) r.there (shape-given (given_of e.uses r.state) e.uses r.state)) (length-slice_set s.maps e.map (returned e.uses r.state)))
+    (shapes-set s.maps e.map r.state (returned e.uses r.state) r.there (shape-given (given_of e.uses r.state) e.uses r.state)) (length-set s.maps e.map (returned e.uses r.state)))
 
 -- the lengths of keys and values
 length-bytes_at : (frame : ℕ → Cell) (at n : ℕ) (bytes : List ℕ) → bytes_at frame at n ≡ Some bytes → length bytes ≡ n
@@ -264,7 +262,7 @@ length-inside true frame at len bytes h = length-bytes_at frame at len bytes h
 length-inside false frame at len bytes h = absurd (none-some bytes h)
 
 length-from : (frame : ℕ → Cell) (len : ℕ) (o : ℤ) (bytes : List ℕ) → bytes_from frame len o ≡ Some bytes → length bytes ≡ len
-length-from frame len (pos at) bytes h = length-inside (nat_le (at + len) 512) frame at len bytes h
+length-from frame len (pos at) bytes h = length-inside (nat_le (at + len) FRAME_BYTES) frame at len bytes h
 length-from frame len (negsuc n) bytes h = absurd (none-some bytes h)
 
 length-frame : (frame : ℕ → Cell) (len : ℕ) (v : Value) (bytes : List ℕ) → frame_bytes frame len v ≡ Some bytes → length bytes ≡ len

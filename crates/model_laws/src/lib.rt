@@ -68,7 +68,8 @@ pub fn elements_only_grow()
 
 /// An element that is reclaimed stays reclaimed in every later state.
 pub fn reclaimed_for_ever()
-    ensures { (m later : Machine) (events : List Event) (answers : List Answer) (states : List Machine)
+    ensures { (m later : Machine) (events : List Event) (answers : List Answer)
+        (states : List Machine)
         (j n : ℕ) →
         IsHistory m events answers states → slice_get states j ≡ Some later →
         HasLife m.store.elements n Reclaimed → HasLife later.store.elements n Reclaimed }
@@ -99,7 +100,8 @@ pub fn stays_consistent()
 
 /// A section that has begun and is not open is open in no later state.
 pub fn section_never_reopens()
-    ensures { (m later : Machine) (events : List Event) (answers : List Answer) (states : List Machine)
+    ensures { (m later : Machine) (events : List Event) (answers : List Answer)
+        (states : List Machine)
         (j : ℕ) (s : Section) →
         IsHistory m events answers states → slice_get states j ≡ Some later → HasBegun m s →
         (Has (open_sections m.runs) s → ⊥) → Has (open_sections later.runs) s → ⊥ }
@@ -159,7 +161,8 @@ pub fn two_quiet_advances()
 /// From any schedule whose lists are right: after two advances that meet no open section, a reap finds nothing
 /// only when each element that was unlinked before the first is reclaimed.
 pub fn drains_from()
-    ensures { (s : Schedule) (events : List Event) (answers : List Answer) (states : List Schedule) →
+    ensures { (s : Schedule) (events : List Event) (answers : List Answer)
+        (states : List Schedule) →
         IsScheduled s → IsScheduledHistory s events answers states →
         Drains (machines (s ∷ states)) events answers }
 {}
@@ -202,7 +205,8 @@ pub fn reap_steps()
 /// In each state that is reached from the start, each slot of a map is free, holds an element that is not
 /// reclaimed, or is worn out.
 pub fn slots_accounted()
-    ensures { (shapes : List MapShape) (programs : List Loaded) (s : Schedule) (k : ℕ) (m : MapState) →
+    ensures { (shapes : List MapShape) (programs : List Loaded) (s : Schedule) (k : ℕ)
+        (m : MapState) →
         IsReachedSchedule shapes programs s → slice_get s.machine.store.maps k ≡ Some m →
         length m.bag + kept_count k s.machine.store.elements + m.worn ≡ slots_of_shape m.shape }
 {}
@@ -210,7 +214,8 @@ pub fn slots_accounted()
 /// In such a state a map has no free slot exactly when its linked elements, its unlinked ones and its worn-out
 /// slots are as many as all its slots.
 pub fn enomem_exactly()
-    ensures { (shapes : List MapShape) (programs : List Loaded) (s : Schedule) (k : ℕ) (m : MapState) →
+    ensures { (shapes : List MapShape) (programs : List Loaded) (s : Schedule) (k : ℕ)
+        (m : MapState) →
         IsReachedSchedule shapes programs s → slice_get s.machine.store.maps k ≡ Some m →
         (m.bag ≡ []) ↔ IsFull k s.machine.store.elements m }
 {}
@@ -218,7 +223,8 @@ pub fn enomem_exactly()
 /// In such a state an update answers that there is no memory only when the map is full so, and none succeeds
 /// while it is.
 pub fn no_memory_when_full()
-    ensures { (shapes : List MapShape) (programs : List Loaded) (s : Schedule) (k : ℕ) (m : MapState)
+    ensures { (shapes : List MapShape) (programs : List Loaded) (s : Schedule) (k : ℕ)
+        (m : MapState)
         (key value : List ℕ) (flags : ℕ) (ret : Result (Unit {0}) Errno) (new : Store) →
         IsReachedSchedule shapes programs s → slice_get s.machine.store.maps k ≡ Some m →
         Updates s.machine.store (open_sections s.machine.runs) k key value flags ret new →
@@ -228,7 +234,8 @@ pub fn no_memory_when_full()
 
 /// In such a state no more elements were born in a map than its slots can bear: each of them is used so often.
 pub fn births_bounded()
-    ensures { (shapes : List MapShape) (programs : List Loaded) (s : Schedule) (k : ℕ) (m : MapState) →
+    ensures { (shapes : List MapShape) (programs : List Loaded) (s : Schedule) (k : ℕ)
+        (m : MapState) →
         IsReachedSchedule shapes programs s → slice_get s.machine.store.maps k ≡ Some m →
         1 ≤ m.shape.reuse_limit → born_count k s.machine.store.elements ≤ most_births m.shape }
 {}
@@ -278,7 +285,8 @@ pub fn steps_make_runs()
 
 /// A run and one more step are a run.
 pub fn runs_grow()
-    ensures { (old mid new : WorldView) (events : List Event) (answers : List Answer) (event : Event)
+    ensures { (old mid new : WorldView) (events : List Event) (answers : List Answer)
+        (event : Event)
         (answer : Answer) →
         AreScheduledAnswers TracksSchedule old events answers mid →
         AnswersAsScheduled TracksSchedule mid event answer new →
@@ -322,17 +330,20 @@ pub fn scheduled_is_machine_once()
 /// The word that stands for a reference is the word of the location that the reference names, and no other is.
 pub fn words_of_locations()
     ensures { (slots : List ℕ) (es : List Element) (r : Reference) (w : ℕ) →
-        IsReferenceWord (element_bases slots es) r w ↔ (pos w ≡ location_word (named_location slots es r)) }
+        IsReferenceWord (element_bases slots es) r w
+        ↔ (pos w ≡ location_word (named_location slots es r)) }
 {}
 
 /// Two near locations with one word are one location: of one region, one slot and one offset.
 pub fn near_words_differ()
-    ensures { (p q : Location) → IsNearLocation p → IsNearLocation q → location_word p ≡ location_word q → p ≡ q }
+    ensures { (p q : Location) → IsNearLocation p → IsNearLocation q
+        → location_word p ≡ location_word q → p ≡ q }
 {}
 
 /// Each near location has a word of 64 bits, and it is not 0.
 pub fn near_words_fit()
-    ensures { (p : Location) → IsNearLocation p → (w : ℕ) × (location_word p ≡ pos w) × (0 < w) × (w < 2 ^ 64) }
+    ensures { (p : Location) → IsNearLocation p → (w : ℕ) × (location_word p ≡ pos w) × (0 < w)
+        × (w < 2 ^ 64) }
 {}
 
 /// A fresh run of a program without map references shares nothing: it refers to its own context and frame alone.
@@ -343,16 +354,19 @@ pub fn starts_sharing_nothing()
 
 /// A run that shares nothing shares nothing after each of its steps.
 pub fn stays_sharing_nothing()
-    ensures own { (store new_store : Store) (opened : List Section) (run new : Run) (answer : Answer) →
+    ensures own { (store new_store : Store) (opened : List Section) (run new : Run)
+        (answer : Answer) →
         SharesNothing run → RunStep store opened run answer new_store new → SharesNothing new }
 {}
 
 /// Other actors change nothing of a run that shares nothing: a step of it leaves the maps as they are, and it is a
 /// step with the same answer, to the same run, over any other maps and open sections.
 pub fn others_change_nothing()
-    ensures store { (store new_store : Store) (opened : List Section) (run new : Run) (answer : Answer) →
+    ensures store { (store new_store : Store) (opened : List Section) (run new : Run)
+        (answer : Answer) →
         SharesNothing run → RunStep store opened run answer new_store new → new_store ≡ store }
-    ensures anywhere { (store new_store other : Store) (opened sections : List Section) (run new : Run)
+    ensures anywhere { (store new_store other : Store) (opened sections : List Section)
+        (run new : Run)
         (answer : Answer) →
         SharesNothing run → RunStep store opened run answer new_store new →
         RunStep other sections run answer other new }
@@ -393,7 +407,8 @@ pub fn steps_by_request()
     ensures { (i : Insn) (store new_store : Store) (opened : List Section) (run new : Run)
         (answer : Answer) →
         InsnStep i store opened run answer new_store new ↔
-        (StepsAlone i store run answer new_store new ⊎ StepsServed i store opened run answer new_store new) }
+        (StepsAlone i store run answer new_store new
+        ⊎ StepsServed i store opened run answer new_store new) }
 {}
 
 /// An instruction that asks something does nothing by itself.
@@ -405,7 +420,8 @@ pub fn asks_or_acts()
 
 /// A helper's reply is of the kind of its signature.
 pub fn replies_by_signature()
-    ensures { (helper : Helper) (arguments : List Argument) (bound : List ℕ) (store new_store : Store)
+    ensures { (helper : Helper) (arguments : List Argument) (bound : List ℕ)
+        (store new_store : Store)
         (opened : List Section) (reply : Value) →
         Calls helper arguments bound store opened reply new_store →
         IsOfKind (signature_of helper).result reply }

@@ -1,5 +1,5 @@
 -- The flaw of a graph is determined, and a good graph and a plain program have none.
-use Rattle.std.proofs.Common.{◌≡◌, ℕ, ◌+◌, refl, sym, ◌∙◌, ap, arith, inl, inr, List, [], ◌∷◌, ◌++◌, cond}
+use Rattle.std.proofs.Common.{◌≡◌, ℕ, ◌+◌, ◌<◌, refl, sym, ◌∙◌, ap, arith, inl, inr, List, [], ◌∷◌, ◌++◌, cond}
 use Rattle.std.specs.Prelude.{Option, Some, None, ℤ, pos, ◌+ℤ◌}
 use Rattle.std.proofs.lemmas.Bool.{cases_lt}
 use Rattle.bpf_model.specs.declared.insn.Insn.{Insn}
@@ -82,19 +82,25 @@ good_has_none program FallsOff s good a = bad_end_not_exit program s a good.last
 good_has_none program Unreachable s good a = a.unreached (good.reached s a.insn a.at)
 
 -- nor has a plain program
-plain_jump : (program : List Insn) (slot : ℕ) (i : Insn) → IsPlain program → insn_at program slot ≡ Some i → jump_flaw program slot i ≡ None
-plain_jump program slot i plain at = by (distance i) refl
+-- A jump that leads forward to an instruction has no flaw.
+pub good_jump : (program : List Insn) (slot : ℕ) (i : Insn)
+    → ((d : ℤ) → distance i ≡ Some d → (target : ℕ) × (next : Insn) × JumpsTo i slot target × (slot < target) × (insn_at program target ≡ Some next))
+    → jump_flaw program slot i ≡ None
+good_jump program slot i jumps = by (distance i) refl
   where
     by : (d : Option ℤ) → distance i ≡ d → distance_flaw program slot d ≡ None
     by None e = refl
     by (Some d) e =
-        let j = plain.jumps slot i d at e in
+        let j = jumps d e in
         let jump : JumpsTo i slot j.0 = j.2 in
         let same : jump.0 ≡ d = same_some (sym jump.1 ∙ e) in
         let lands : pos j.0 ≡ pos (slot + 1) +ℤ d = jump.2 ∙ ap (λ d. pos (slot + 1) +ℤ d) same in
         ap (landing_flaw program slot) (sym lands)
         ∙ ap (λ b. cond b (Some BackJump) (missing (insn_at program j.0))) (nat_le_false j.0 slot j.3)
         ∙ ap missing j.4
+
+plain_jump : (program : List Insn) (slot : ℕ) (i : Insn) → IsPlain program → insn_at program slot ≡ Some i → jump_flaw program slot i ≡ None
+plain_jump program slot i plain at = good_jump program slot i (λ d e. plain.jumps slot i d at e)
 
 pub plain_graph : (program : List Insn) → IsPlain program → HasGoodGraph program
 plain_graph program plain = record { jumps = λ q i at. plain_jump program q i plain at; last = plain.last; reached = plain.reached }

@@ -1,10 +1,11 @@
 -- Joins of whole states: cells by what was stored in their groups.
-use Rattle.std.proofs.Common.{◌≡◌, ◌≢◌, ℕ, ◌+◌, ◌/◌, ◌<◌, ◌≤◌, List, length, refl, sym, ap, subst, ◌∙◌, arith, inl, inr, below_more}
+use Rattle.std.proofs.Common.{◌≡◌, ◌≢◌, ℕ, ◌+◌, ◌/◌, ◌<◌, ◌≤◌, List, length, refl, sym, subst, ◌∙◌, arith, inl, inr, below_more}
 use Rattle.std.specs.Prelude.{slice_set, if◌then◌else◌}
 use Rattle.std.proofs.lemmas.Bool.{cases_lt}
 use Rattle.std.proofs.lemmas.List.{get_or-set_same, get_or-set_other, get_or_past}
 use Rattle.typed_runs.specs.Kinds.{PartCell}
 use Rattle.typed_runs.specs.Planned.{Joins}
+use Rattle.scalar_domain.proofs.Bits.{ap2}
 use Rattle.register_kinds.specs.declared.kind.RegKind.{RegKind}
 use Rattle.register_kinds.specs.declared.kind.RegKind.TheVariants as kinds
 use Rattle.register_kinds.specs.declared.kind.CellKind as classes
@@ -76,9 +77,6 @@ joined_all xs old others g e f all k = elim (cases_lt k (length others)) [
   | inl l ↦ all k l
   | inr l ↦ get_or_past xs k cells.Unwritten (omega arith) ∙ sym (ap2 (λ a b. joined_class a b (is_pointer (g k))) (get_or_past old k cells.Unwritten (omega arith)) (get_or_past others k cells.Unwritten (omega arith)))
 ]
-  where
-    ap2 : {A B C : Type 0} (f : A → B → C) {a a' : A} {b b' : B} → a ≡ a' → b ≡ b' → f a b ≡ f a' b'
-    ap2 f {a' = a'} {b = b} p q = ap (λ a. f a b) p ∙ ap (f a') q
 
 -- the whole states
 module _ (top : ℕ) (before pairs : List (ℕ × ℕ)) (a b c : StateHere) (x : PairsGrow before pairs) (regs : (r : ℕ) → JoinsKind top before (kind_at a.regs r) (kind_at b.regs r) (kind_at c.regs r))

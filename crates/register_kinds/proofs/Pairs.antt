@@ -3,7 +3,6 @@ use Rattle.std.proofs.Common.{◌≡◌, ◌≢◌, ℕ, ◌+◌, ◌-◌, ◌<�
 use Rattle.std.specs.Prelude.{slice_get, slice_set, slice_index_or, nat_lt, unwrap_or, if◌then◌else◌}
 use Rattle.std.proofs.lemmas.Bool.{cases_lt, lt-ltb, le-ltb}
 use Rattle.std.proofs.lemmas.Option.{none-some, slice_get-get_or, slice_get_within}
-use Rattle.model_laws.proofs.Lists.{get-append_cases}
 use Rattle.std.proofs.lemmas.List.{get_or-set_same, get_or-set_other, get_or_past, get_or-replicate, length-replicate}
 use Rattle.std.specs.Prelude.{ℤ}
 use Rattle.std.proofs.Math.ListN.{replicate}
@@ -18,6 +17,7 @@ use Rattle.register_kinds.specs.declared.kind.CellKind.TheVariants as cells
 use Rattle.register_kinds.specs.States.{kind_of, kind_at, kind_in, class_in}
 use Rattle.register_kinds.specs.Joined.{IsHull}
 use Rattle.register_kinds.specs.Pairs.{IsBelow, PairsGrow, pair_of, IsTable, IsPairing, JoinsKind}
+use Rattle.bpf_model.proofs.Lists.{get-append_cases}
 
 -- what an identity stands for
 pub pair_old : (top : ℕ) (pairs : List (ℕ × ℕ)) (id : ℕ) → id < top → pair_of top pairs id ≡ (id, id)

@@ -53,7 +53,8 @@ impl AbsState {
 
     /// A register becomes of this kind.
     pub fn set(&mut self, r: Reg, kind: RegKind)
-        ensures alike { AreAlike (with_kind r (kind_of kind) (state_of self.old)) (state_of self.new) }
+        ensures alike { AreAlike (with_kind r (kind_of kind) (state_of self.old))
+            (state_of self.new) }
         ensures below { (top : ℕ) → AreBelow top self.old → IsBelow top (kind_of kind)
             → AreBelow top self.new }
     {
@@ -62,7 +63,8 @@ impl AbsState {
 
     /// A call leaves this in r0, and nothing in r1 to r5.
     pub fn leave_call(&mut self, returned: RegKind)
-        ensures alike { AreAlike (after_call (kind_of returned) (state_of self.old)) (state_of self.new) }
+        ensures alike { AreAlike (after_call (kind_of returned) (state_of self.old))
+            (state_of self.new) }
         ensures below { (top : ℕ) → AreBelow top self.old → IsBelow top (kind_of returned)
             → AreBelow top self.new }
     {
@@ -91,7 +93,8 @@ impl AbsState {
     /// The bytes of an access to the frame become bytes of a number.
     pub fn write(&mut self, at: usize, width: usize)
         requires { at + width ≤ FRAME_BYTES }
-        ensures alike { AreAlike (with_cells at width model.ByteCell (state_of self.old)) (state_of self.new) }
+        ensures alike { AreAlike (with_cells at width model.ByteCell (state_of self.old))
+            (state_of self.new) }
         ensures below { (top : ℕ) → AreBelow top self.old → AreBelow top self.new }
     {
         fill(&mut self.frame.cells, at, width, CellKind::Byte);
@@ -101,7 +104,8 @@ impl AbsState {
     pub fn spill(&mut self, at: usize, kind: RegKind)
         requires inside { at + 8 ≤ FRAME_BYTES }
         requires aligned { at % 8 ≡ 0 }
-        ensures alike { AreAlike (with_cells at 8 (model.PartCell (kind_of kind)) (state_of self.old))
+        ensures alike { AreAlike (with_cells at 8 (model.PartCell (kind_of kind))
+            (state_of self.old))
             (state_of self.new) }
         ensures below { (top : ℕ) → AreBelow top self.old → IsBelow top (kind_of kind)
             → AreBelow top self.new }

@@ -2,12 +2,12 @@
 use Rattle.std.proofs.Common.{◌≡◌, ◌∙◌, ℕ, inl, inr, List, [], ◌∷◌, ◌++◌, map, Some, refl, sym, ap, subst}
 use Rattle.std.specs.Prelude.{slice_get}
 use Rattle.std.proofs.lemmas.List.{map-append}
-use Rattle.model_laws.proofs.Lists.{get-append, get-append_cases}
 use Rattle.bpf_model.specs.declared.limits.MapShape.{MapShape}
 use Rattle.bpf_model.specs.View.{MapView, new_map_view}
 use Rattle.world_parts.specs.declared.loaded.Loaded.{Loaded}
 use Rattle.world_invariant.specs.Binding.{IsBoundTo}
 use Rattle.world.specs.Bound.{shapes_in, IsBound, AreBound}
+use Rattle.bpf_model.proofs.Lists.{get-append, get-append_cases}
 
 -- Numbers that are found in a list are found in a longer one.
 pub found-more : {A : Type 0} (xs ys : List A) (numbers : List ℕ) (asked : List A) → map (slice_get xs) numbers ≡ map Some asked → map (slice_get (xs ++ ys)) numbers ≡ map Some asked

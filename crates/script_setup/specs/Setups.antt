@@ -8,7 +8,7 @@ use Rattle.bpf_model.specs.Machine as machine
 use Rattle.bpf_model.specs.View.{new_map_view}
 use Rattle.maps.specs.Registry.{RegistryView, registry_code}
 use Rattle.world.specs.Bound.{shapes_in, AreBound}
-use Rattle.world_parts.specs.Codes.{program_code}
+use Rattle.bpf_model.specs.Codes.{program_code}
 use Rattle.world_parts.specs.declared.loaded.Loaded.{Loaded}
 
 -- the maps and the programs that are made so far
@@ -24,7 +24,8 @@ setup_code = code_by (RegistryView × List machine.Loaded)
     (λ _. refl)
 
 -- The maps are new, the names are theirs, and each program is bound to maps that are there.
-pub record IsSetup (names : List (List ℕ)) (registry : RegistryView) (loaded : List Loaded) : Type 0 where
+pub record IsSetup (names : List (List ℕ)) (registry : RegistryView) (loaded : List Loaded)
+    : Type 0 where
   pub names_are : names ≡ registry.names
   pub one_name_each : length registry.names ≡ length registry.maps
   pub new_maps : registry.maps ≡ map new_map_view (shapes_in registry.maps)

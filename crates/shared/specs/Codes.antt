@@ -4,14 +4,16 @@ use Rattle.std.specs.Coded.{Coded, code_by, coded×, coded_ℕ, coded_list}
 use Rattle.bpf_model.specs.View.{WorldView}
 use Rattle.journal.specs.declared.entry.Entry.{Entry}
 use Rattle.journal.specs.contracts.entry.Entry as entry
-use Rattle.world_parts.specs.Codes.{world_code}
+use Rattle.bpf_model.specs.Codes.{world_code}
 use Rattle.shared.specs.declared.tally.Tally.{Tally}
 use Rattle.shared.specs.contracts.tally.Tally as tally
 use Rattle.shared.specs.Books.{BooksView}
 
 abbrev pub books_code : Coded BooksView
 books_code = code_by (WorldView × (WorldView × (List Entry × (ℕ × (ℕ × (ℕ × Tally))))))
-    (coded× world_code (coded× world_code (coded× (coded_list entry.the_row.coded) (coded× coded_ℕ (coded× coded_ℕ (coded× coded_ℕ tally.the_row.coded))))))
+    (coded× world_code (coded× world_code
+    (coded× (coded_list entry.the_row.coded)
+    (coded× coded_ℕ (coded× coded_ℕ (coded× coded_ℕ tally.the_row.coded))))))
     (λ b. (b.base, (b.world, (b.journal, (b.limit, (b.before, (b.steps_before, b.tally)))))))
     (λ p. record {
       base = p.0;

@@ -3,6 +3,7 @@ use Rattle.std.proofs.Common.{◌≡◌, ℕ, zero, suc, ◌+◌, ◌<◌, ◌�
 use Rattle.std.specs.Prelude.{slice_get, if◌then◌else◌}
 use Rattle.std.proofs.lemmas.Bool.{le-leb}
 use Rattle.std.proofs.lemmas.Option.{none-some, same_Some}
+use Rattle.bpf_model.specs.declared.limits.TheConstants.{FRAME_BYTES}
 use Rattle.bpf_model.specs.declared.limits.MapShape.{MapShape}
 use Rattle.bpf_model.specs.declared.value.Value.TheVariants.{Pointer}
 use Rattle.bpf_model.specs.declared.value.Reference.TheVariants.{Frame}
@@ -47,7 +48,7 @@ has-bytes a c m r len d h =
     let v : m.regs r ≡ Pointer (Frame (pos h.at)) = reg-is a c m r (FrameAt (pos h.at)) d h.frame in
     let x = bytes-read m.frame h.at len (λ k p q. cell-is a c m k ByteCell d (h.bytes k p q)) in (
       x.0,
-      ap (frame_bytes m.frame len) v ∙ (ap (λ b. if b then bytes_at m.frame h.at len else None) (le-leb (h.at + len) 512 h.inside) ∙ x.1),
+      ap (frame_bytes m.frame len) v ∙ (ap (λ b. if b then bytes_at m.frame h.at len else None) (le-leb (h.at + len) FRAME_BYTES h.inside) ∙ x.1),
       x.2,
     )
 

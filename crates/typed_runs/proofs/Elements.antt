@@ -26,7 +26,6 @@ use Rattle.bpf_model.specs.MapState.{Store as Maps}
 use Rattle.bpf_model.specs.Machine.{Run, environment}
 use Rattle.bpf_model.specs.MachineStep.{element_load, element_store, loaded_from, stored_in, with_bytes}
 use Rattle.bpf_model.specs.Event.{AreBytes}
-use Rattle.model_laws.proofs.Lists.{get-below, get-set_cases}
 use Rattle.model_laws.proofs.Stores.{touches-stored}
 use Rattle.scalar_domain.specs.Scalar.{Holds}
 use Rattle.scalar_domain.specs.declared.scalar.Scalar.{Scalar}
@@ -39,6 +38,7 @@ use Rattle.typed_runs.proofs.Valued.{bytes-changed}
 use Rattle.typed_runs.proofs.Sets.{set-described, placed-described}
 use Rattle.typed_runs.proofs.Arguments.{reg-is, bound}
 use Rattle.typed_runs.proofs.Local.{Acting, acts-transfers}
+use Rattle.bpf_model.proofs.Lists.{get-below, get-set_cases}
 
 pub unreclaimed : (l : Life) (s : Section) → IsGuarded l s → is_reclaimed l ≡ false
 unreclaimed Linked s h = refl

@@ -1,10 +1,11 @@
 -- A program with a guarded lookup is verified: the plan, a state for each slot where an instruction begins.
 use Rattle.std.proofs.Common.{◌≡◌, ℕ, zero, suc, ◌+◌, ◌-◌, ◌<◌, ◌≤◌, ◌^◌, ◌%◌, ◌/◌, List, [], ◌∷◌, Some, None, inl, inr, refl, sym, ap, subst, ◌∙◌, ℤ, pos, negsuc, arith, Bool, true, false}
-use Rattle.std.specs.Prelude.{slice_get, if◌then◌else◌, ◌==◌, ◌&&◌, ◌+ℤ◌, nat_le, nat_lt}
-use Rattle.std.proofs.lemmas.Bool.{cases_eq, eq-eqb, ne_eqb, lt-ltb, le-leb}
+use Rattle.std.specs.Prelude.{slice_get, if◌then◌else◌, ◌==◌, ◌+ℤ◌, nat_le, nat_lt}
+use Rattle.std.proofs.lemmas.Bool.{cases_eq, eq-eqb, ne_eqb}
 use Rattle.std.proofs.lemmas.Option.{none-some, same_Some}
 use Rattle.std.proofs.lemmas.Int.{ints}
 use Rattle.std.proofs.lemmas.Nat.{mod_below}
+use Rattle.bpf_model.specs.declared.limits.TheConstants.{FRAME_BYTES}
 use Rattle.bpf_model.specs.declared.limits.MapShape.{MapShape}
 use Rattle.bpf_model.specs.declared.insn.Insn.{Insn}
 use Rattle.bpf_model.specs.declared.insn.Insn.TheVariants.{Alu, LoadMap, JumpIf, Call, Exit, Load, Store}
@@ -53,6 +54,7 @@ use Rattle.bpf_model.specs.Machine.{Loaded}
 use Rattle.bpf_model.specs.MapState.{MapState, new_map}
 use Rattle.bpf_model.specs.Schedule.{Schedule}
 use Rattle.bpf_model.specs.Refines.{IsReachedSchedule}
+use Rattle.bpf_model.proofs.Bytes.{within}
 
 -- bytes stored to the frame
 byte-cell : (c : Scene) (ρ : Naming) (σ : Stored) (b : Bool) (k n : ℕ) (cell : CellKind) (x : Cell) → n < 256 → IsOfCell c ρ σ k cell x → IsOfCell c ρ σ k (if b then ByteCell else cell) (if b then Byte n else x)
@@ -62,7 +64,7 @@ byte-cell c ρ σ false k n cell x l h = h
 near-bytes : (m : State) (at width n : ℕ) → AreNear m.regs m.frame → AreNear m.regs (with_number at width n m.frame)
 near-bytes m at width n h = record { regs_near = h.regs_near; cells_near = λ k. near-cell (is_within at width k) (Byte (n / 256 ^ (k - at) % 256)) (m.frame k) tt (h.cells_near k) }
 
-bytes-described : (a : AbsState) (c : Scene) (m : State) (at width n place : ℕ) → Describes a c m → Describes (with_cells at width ByteCell a) c (record { regs = m.regs; frame = with_number at width n m.frame; place = place })
+pub bytes-described : (a : AbsState) (c : Scene) (m : State) (at width n place : ℕ) → Describes a c m → Describes (with_cells at width ByteCell a) c (record { regs = m.regs; frame = with_number at width n m.frame; place = place })
 bytes-described a c m at width n place d = record {
   naming = d.naming;
   stored = d.stored;
@@ -120,7 +122,7 @@ module _ (any : Scalar) where
   s3 = with_cells 508 4 ByteCell s2
 
   abbrev pub s4 : AbsState
-  s4 = with_kind 2 (FrameAt (pos 512)) s3
+  s4 = with_kind 2 (FrameAt (pos FRAME_BYTES)) s3
 
   abbrev pub s5 : AbsState
   s5 = with_kind 2 (FrameAt (pos 508)) s4
@@ -194,9 +196,6 @@ other-cell-if : (b : Bool) (k l : CellKind) → IsOtherCell 0 k → IsOtherCell 
 other-cell-if true k l p q = p
 other-cell-if false k l p q = q
 
-within : (at width k : ℕ) → at ≤ k → k < at + width → is_within at width k ≡ true
-within at width k l u = ap (λ t. t && nat_lt k (at + width)) (le-leb at k l) ∙ lt-ltb k (at + width) u
-
 module _ (any : Scalar) (all : (n : ℕ) → n < 2 ^ 64 → Holds any n) where
   abbrev entries : List Entry
   entries =
@@ -225,7 +224,7 @@ module _ (any : Scalar) (all : (n : ℕ) → n < 2 ^ 64 → Holds any n) where
 
   t2 : Transfers (Store Four 10 (negsuc 3) (Immediate (pos 0))) shapes 0 (s2 any) (s3 any) None
   t2 = alone_transfers (Store Four 10 (negsuc 3) (Immediate (pos 0))) shapes 0 (s2 any) (s3 any) None refl (λ c env m w d.
-      let base : m.regs 10 ≡ Pointer (Frame (pos 512)) = reg-is (s2 any) c m 10 (FrameAt (pos 512)) d refl in record {
+      let base : m.regs 10 ≡ Pointer (Frame (pos FRAME_BYTES)) = reg-is (s2 any) c m 10 (FrameAt (pos FRAME_BYTES)) d refl in record {
         out = Moves (record { regs = m.regs; frame = with_number 508 4 0 m.frame; place = m.place + 1 });
         after_is = ap (store_to m 4 (negsuc 3) (Number (immediate (pos 0)))) base;
         alone = λ es fs other h. none-some fs (sym (ap (element_store es 4 (negsuc 3) (Number (immediate (pos 0)))) base) ∙ h.0);
@@ -234,13 +233,13 @@ module _ (any : Scalar) (all : (n : ℕ) → n < 2 ^ 64 → Holds any n) where
 
   t3 : Transfers (Alu Move Word64 2 (Register 10)) shapes 0 (s3 any) (s4 any) None
   t3 = alone_transfers (Alu Move Word64 2 (Register 10)) shapes 0 (s3 any) (s4 any) None refl (λ c env m w d.
-      let base : m.regs 10 ≡ Pointer (Frame (pos 512)) = reg-is (s3 any) c m 10 (FrameAt (pos 512)) d refl in
-      computes (Alu Move Word64 2 (Register 10)) 2 (FrameAt (pos 512)) (Pointer (Frame (pos 512))) (s3 any) c env m refl refl (λ es fs other h. h) (λ e. omega arith)
+      let base : m.regs 10 ≡ Pointer (Frame (pos FRAME_BYTES)) = reg-is (s3 any) c m 10 (FrameAt (pos FRAME_BYTES)) d refl in
+      computes (Alu Move Word64 2 (Register 10)) 2 (FrameAt (pos FRAME_BYTES)) (Pointer (Frame (pos FRAME_BYTES))) (s3 any) c env m refl refl (λ es fs other h. h) (λ e. omega arith)
       (ap (λ v. computed Word64 Move (m.regs 2) v >>= λ y. sets 1 2 y m) base) d refl (omega arith))
 
   t4 : Transfers (Alu Add Word64 2 (Immediate (negsuc 3))) shapes 0 (s4 any) (s5 any) None
   t4 = alone_transfers (Alu Add Word64 2 (Immediate (negsuc 3))) shapes 0 (s4 any) (s5 any) None refl (λ c env m w d.
-      let base : m.regs 2 ≡ Pointer (Frame (pos 512)) = reg-is (s4 any) c m 2 (FrameAt (pos 512)) d refl in
+      let base : m.regs 2 ≡ Pointer (Frame (pos FRAME_BYTES)) = reg-is (s4 any) c m 2 (FrameAt (pos FRAME_BYTES)) d refl in
       computes (Alu Add Word64 2 (Immediate (negsuc 3))) 2 (FrameAt (pos 508)) (Pointer (Frame (pos 508))) (s4 any) c env m refl refl (λ es fs other h. h) (λ e. omega arith)
       (ap (λ v. computed Word64 Add v (Number (immediate (negsuc 3))) >>= λ y. sets 1 2 y m) base) d refl (omega arith))
 

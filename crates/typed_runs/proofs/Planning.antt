@@ -3,6 +3,7 @@ use Rattle.std.proofs.Common.{◌≡◌, ℕ, suc, ◌+◌, ◌-◌, ◌^◌, �
 use Rattle.std.specs.Prelude.{if◌then◌else◌, ◌==◌, slice_get, pos, ◌+ℤ◌, unwrap_or}
 use Rattle.std.proofs.lemmas.Option.{same_Some, slice_get_within}
 use Rattle.std.proofs.lemmas.Int.{ints}
+use Rattle.bpf_model.specs.declared.limits.TheConstants.{FRAME_BYTES}
 use Rattle.bpf_model.specs.declared.insn.Insn.{Insn}
 use Rattle.bpf_model.specs.declared.limits.MapShape.{MapShape}
 use Rattle.bpf_model.specs.declared.event.Answer.{Answer}
@@ -58,9 +59,13 @@ transfers_wider i shapes ctx_len old before new other taken also u w v t = recor
       (l.0, led-wider i new other taken also run.state.place new_store.elements new_run w v l.1);
 }
 
+-- what is known after it, said by an alike state
+pub to_alike : (i : Insn) (shapes : List MapShape) (ctx_len : ℕ) (a b c : AbsState) → AreAlike b c → Transfers i shapes ctx_len a b None → Transfers i shapes ctx_len a c None
+to_alike i shapes ctx_len a b c e t = transfers_wider i shapes ctx_len a a b c None None (λ s m d. d) (alike_wider b c e) (alike_wider b c e) t
+
 entry-near : AreNear entry.regs entry.frame
-entry-near = near-set 1 (Pointer (Ctx (pos 0))) (put 10 (Pointer (Frame (pos 512))) (λ r. Nothing)) (λ k. Unwritten) (omega arith)
-    (near-set 10 (Pointer (Frame (pos 512))) (λ r. Nothing) (λ k. Unwritten) (omega arith) (record { regs_near = λ r. tt; cells_near = λ k. tt }))
+entry-near = near-set 1 (Pointer (Ctx (pos 0))) (put 10 (Pointer (Frame (pos FRAME_BYTES))) (λ r. Nothing)) (λ k. Unwritten) (omega arith)
+    (near-set 10 (Pointer (Frame (pos FRAME_BYTES))) (λ r. Nothing) (λ k. Unwritten) (omega arith) (record { regs_near = λ r. tt; cells_near = λ k. tt }))
 
 -- the offset 0 is the one of the scalar
 pub origin_has : HasOffset origin (pos 0)
@@ -75,8 +80,8 @@ entry_described c out = record {
   stored = λ k. Nothing;
   inside = out;
   near = entry-near;
-  regs = λ r. choice-of c (λ id. None) (r == 1) (CtxAt origin) (if r == 10 then FrameAt (pos 512) else Blank) (Pointer (Ctx (pos 0))) (if r == 10 then Pointer (Frame (pos 512)) else Nothing) context-start
-      (choice-of c (λ id. None) (r == 10) (FrameAt (pos 512)) Blank (Pointer (Frame (pos 512))) Nothing refl tt);
+  regs = λ r. choice-of c (λ id. None) (r == 1) (CtxAt origin) (if r == 10 then FrameAt (pos FRAME_BYTES) else Blank) (Pointer (Ctx (pos 0))) (if r == 10 then Pointer (Frame (pos FRAME_BYTES)) else Nothing) context-start
+      (choice-of c (λ id. None) (r == 10) (FrameAt (pos FRAME_BYTES)) Blank (Pointer (Frame (pos FRAME_BYTES))) Nothing refl tt);
   cells = λ k. tt;
 }
 

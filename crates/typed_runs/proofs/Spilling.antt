@@ -6,6 +6,7 @@ use Rattle.std.proofs.lemmas.Bool.{cases_lt, eq-eqb, ne_eqb, le-leb, lt-leb, lt-
 use Rattle.std.proofs.lemmas.Bool.Decides.{Decides-int_eq}
 use Rattle.std.proofs.lemmas.Option.{none-some, same_Some}
 use Rattle.std.proofs.Math.Nat.{div-le_self}
+use Rattle.bpf_model.specs.declared.limits.TheConstants.{FRAME_BYTES}
 use Rattle.bpf_model.specs.declared.limits.MapShape.{MapShape}
 use Rattle.bpf_model.specs.declared.insn.Insn.TheVariants.{Load, Store}
 use Rattle.bpf_model.specs.declared.insn.Operand.TheVariants.{Register}
@@ -40,9 +41,9 @@ both-true true true o at h = (refl, same_Some o at h)
 both-true true false o at h = absurd (none-some at h)
 both-true false b o at h = absurd (none-some at h)
 
-aligned : (o : ℤ) (at : ℕ) → region_offset 512 8 o ≡ Some at → at % 8 ≡ 0
+aligned : (o : ℤ) (at : ℕ) → region_offset FRAME_BYTES 8 o ≡ Some at → at % 8 ≡ 0
 aligned (pos o) at h =
-    let x = both-true (nat_le (o + 8) 512) (o % 8 == 0) o at h in
+    let x = both-true (nat_le (o + 8) FRAME_BYTES) (o % 8 == 0) o at h in
     let m : o % 8 ≡ 0 = eqb-true _ _ x.0 in
     let e : o ≡ at = x.1 in
     omega arith
@@ -149,7 +150,7 @@ pub no-element-load : (es : List Element) (width : ℕ) (offset : ℤ) (base : V
 no-element-load es width offset base o n e h = none-some n (sym (ap (element_load es width offset) e) ∙ h)
 
 module _ (dst src : ℕ) (offset o : ℤ) (at : ℕ) (shapes : List MapShape) (ctx_len : ℕ) (a : AbsState) (kind : Kind) where
-  spill-acts : a.regs dst ≡ FrameAt o → region_offset 512 8 (o +ℤ offset) ≡ Some at → a.regs src ≡ kind → IsWritten kind → (s : Maps) (run : Run) → AllBytes s.elements → Describes a (scene_of s.elements run) run.state →
+  spill-acts : a.regs dst ≡ FrameAt o → region_offset FRAME_BYTES 8 (o +ℤ offset) ≡ Some at → a.regs src ≡ kind → IsWritten kind → (s : Maps) (run : Run) → AllBytes s.elements → Describes a (scene_of s.elements run) run.state →
       Acting (Store Eight dst offset (Register src)) s run (with_cells at 8 (PartCell kind) a) None
   spill-acts e p f w s run bytes d =
       let base : run.state.regs dst ≡ Pointer (Frame o) = reg-is a (scene_of s.elements run) run.state dst (FrameAt o) d e in
@@ -160,7 +161,7 @@ module _ (dst src : ℕ) (offset o : ℤ) (at : ℕ) (shapes : List MapShape) (c
       (λ other fs h. no-element s.elements 8 offset (run.state.regs src) (run.state.regs dst) o fs base h.0)
       (inl (refl, refl, spilled-described a (scene_of s.elements run) run.state at (run.state.place + 1) kind (run.state.regs src) (aligned (o +ℤ offset) at p) d v (d.near.regs_near src)))
 
-  pub spill_transfers : a.regs dst ≡ FrameAt o → region_offset 512 8 (o +ℤ offset) ≡ Some at → a.regs src ≡ kind → IsWritten kind → Transfers (Store Eight dst offset (Register src)) shapes ctx_len a (with_cells at 8 (PartCell kind) a) None
+  pub spill_transfers : a.regs dst ≡ FrameAt o → region_offset FRAME_BYTES 8 (o +ℤ offset) ≡ Some at → a.regs src ≡ kind → IsWritten kind → Transfers (Store Eight dst offset (Register src)) shapes ctx_len a (with_cells at 8 (PartCell kind) a) None
   spill_transfers e p f w = acts-transfers (Store Eight dst offset (Register src)) shapes ctx_len a (with_cells at 8 (PartCell kind) a) None (λ s opened run answer ns nr. (λ h. h, λ h. h)) (λ s opened run x d. spill-acts e p f w s run x.bytes d)
 
 -- eight parts are read back
@@ -232,7 +233,7 @@ read-back frame at v (inr x) h =
     ∙ (ap (λ b. if b then Some (Pointer x.0) else None) (parts-are x.0 frame 8 0 at (λ j l. let z : j ≡ 0 + j = omega arith in cell j l ∙ ap (λ k. Part k x.0) z)) ∙ ap Some (sym x.1))
 
 module _ (dst src : ℕ) (offset o : ℤ) (at : ℕ) (shapes : List MapShape) (ctx_len : ℕ) (a : AbsState) (kind : Kind) where
-  fill-acts : a.regs src ≡ FrameAt o → region_offset 512 8 (o +ℤ offset) ≡ Some at → ((j : ℕ) → j < 8 → a.cells (at + j) ≡ PartCell kind) → IsPointer kind → (10 ≡ dst → ⊥) →
+  fill-acts : a.regs src ≡ FrameAt o → region_offset FRAME_BYTES 8 (o +ℤ offset) ≡ Some at → ((j : ℕ) → j < 8 → a.cells (at + j) ≡ PartCell kind) → IsPointer kind → (10 ≡ dst → ⊥) →
       (s : Maps) (run : Run) → AllBytes s.elements → Describes a (scene_of s.elements run) run.state → Acting (Load Eight dst src offset) s run (with_kind dst kind a) None
   fill-acts e p cells w ne s run bytes d =
       let m : State = run.state in
@@ -252,5 +253,5 @@ module _ (dst src : ℕ) (offset o : ℤ) (at : ℕ) (shapes : List MapShape) (c
       (λ other fs h. no-element-load s.elements 8 offset (m.regs src) o h.0 base h.1)
       (inl (refl, refl, set-described a c m dst (m.place + 1) kind v d of_kind (part-near 0 v (subst IsNearCell (part 0 (omega arith)).0 (d.near.cells_near (at + 0))))))
 
-  pub fill_transfers : a.regs src ≡ FrameAt o → region_offset 512 8 (o +ℤ offset) ≡ Some at → ((j : ℕ) → j < 8 → a.cells (at + j) ≡ PartCell kind) → IsPointer kind → (10 ≡ dst → ⊥) → Transfers (Load Eight dst src offset) shapes ctx_len a (with_kind dst kind a) None
+  pub fill_transfers : a.regs src ≡ FrameAt o → region_offset FRAME_BYTES 8 (o +ℤ offset) ≡ Some at → ((j : ℕ) → j < 8 → a.cells (at + j) ≡ PartCell kind) → IsPointer kind → (10 ≡ dst → ⊥) → Transfers (Load Eight dst src offset) shapes ctx_len a (with_kind dst kind a) None
   fill_transfers e p cells w ne = acts-transfers (Load Eight dst src offset) shapes ctx_len a (with_kind dst kind a) None (λ s opened run answer ns nr. (λ h. h, λ h. h)) (λ s opened run x d. fill-acts e p cells w ne s run x.bytes d)

@@ -14,8 +14,8 @@ use Rattle.bpf_model.specs.Helper.{Replaces, Settles, Updates, Removes, Deletes,
 use Rattle.bpf_model.specs.Machine.{Machine, open_sections}
 use Rattle.bpf_model.specs.MachineStep.{StepsRun}
 use Rattle.bpf_model.specs.Event.{PerformsEvent, Answers, DoesEvent, refusal, AreBytes, IsReal}
-use Rattle.model_laws.proofs.Lists.{get-append_cases, get-set_cases}
 use Rattle.typed_runs.specs.Verified.{AllBytes}
+use Rattle.bpf_model.proofs.Lists.{get-append_cases, get-set_cases}
 
 bytes-along : (es new : List Element) → new ≡ es → AllBytes es → AllBytes new
 bytes-along es new e h = subst AllBytes (sym e) h

@@ -64,7 +64,9 @@ pub record Transfers (i : Insn) (shapes : List MapShape) (ctx_len : ℕ) (old ne
     (taken : Option AbsState) : Type 0 where
   pub goes : (s : Store) (opened : List Section) (run : Run) → Surrounds shapes ctx_len s opened run
       → Describes old (scene_of s.elements run) run.state → HasStep i s opened run
-  pub leads : (s : Store) (opened : List Section) (run : Run) (answer : Answer) (new_store : Store) (new_run : Run) → Surrounds shapes ctx_len s opened run → Describes old (scene_of s.elements run) run.state →
+  pub leads : (s : Store) (opened : List Section) (run : Run) (answer : Answer)
+      (new_store : Store) (new_run : Run) → Surrounds shapes ctx_len s opened run
+      → Describes old (scene_of s.elements run) run.state →
       InsnStep i s opened run answer new_store new_run → AllBytes new_store.elements
       × Leads i new taken run.state.place new_store.elements new_run
 
@@ -94,7 +96,9 @@ pub record IsClosed (code : List Insn) (shapes : List MapShape) (ctx_len : ℕ) 
       Surrounds shapes ctx_len s opened run
       → IsPlanned code plan k (scene_of s.elements run) run.state →
       (i : Insn) × (insn_at code run.state.place ≡ Some i) × HasStep i s opened run
-  pub leads : (k : ℕ) (i : Insn) (s : Store) (opened : List Section) (run : Run) (answer : Answer) (new_store : Store) (new_run : Run) → Surrounds shapes ctx_len s opened run →
+  pub leads : (k : ℕ) (i : Insn) (s : Store) (opened : List Section) (run : Run)
+      (answer : Answer) (new_store : Store) (new_run : Run)
+      → Surrounds shapes ctx_len s opened run →
       IsPlanned code plan k (scene_of s.elements run) run.state →
       insn_at code run.state.place ≡ Some i
       → InsnStep i s opened run answer new_store new_run →

@@ -26,7 +26,8 @@ pub record IsTyped (s : Store) (run : Run) : Type 0 where
   pub long : length run.context ≡ run.program.context_len
   pub context : AreBytes run.context
   pub index : ℕ
-  pub planned : IsPlanned run.program.code safe.verified.plan index (scene_of s.elements run) run.state
+  pub planned : IsPlanned run.program.code safe.verified.plan index (scene_of s.elements run)
+      run.state
   pub moved : run.moved ≤ index
 
 pub record IsWell (m : Machine) : Type 0 where

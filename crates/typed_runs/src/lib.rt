@@ -109,7 +109,8 @@ pub fn lookup_transfers()
     ensures { (imm : ℤ) (shapes : List MapShape) (ctx_len : ℕ) (a : AbsState) (map id : ℕ)
         (shape : MapShape) → helper_of imm ≡ Some Helper.Lookup → a.inside ≡ true
         → HasMap shapes a map shape → HasBytes a 2 shape.key_len → IsFresh id a
-        → Transfers (Insn.Call CallKind.Helper imm) shapes ctx_len a (after_call (MaybeNull map id) a) None }
+        → Transfers (Insn.Call CallKind.Helper imm) shapes ctx_len a
+        (after_call (MaybeNull map id) a) None }
 {}
 
 /// A delete: what the run holds it holds on.
@@ -134,14 +135,18 @@ pub fn update_transfers()
 pub fn equal_transfers()
     ensures { (shapes : List MapShape) (ctx_len dst n map id : ℕ) (a : AbsState) (z origin : Scalar)
         → Holds z 0 → HasOffset origin (pos 0) → a.regs dst ≡ MaybeNull map id
-        → Transfers (Insn.JumpIf Condition.Equal Size.Word64 dst (Operand.Immediate (pos 0)) (pos n)) shapes ctx_len a (when_there id origin a) (Some (when_null id z a)) }
+        → Transfers
+        (Insn.JumpIf Condition.Equal Size.Word64 dst (Operand.Immediate (pos 0)) (pos n))
+        shapes ctx_len a (when_there id origin a) (Some (when_null id z a)) }
 {}
 
 /// A test for null that jumps where it isn't.
 pub fn not_equal_transfers()
     ensures { (shapes : List MapShape) (ctx_len dst n map id : ℕ) (a : AbsState) (z origin : Scalar)
         → Holds z 0 → HasOffset origin (pos 0) → a.regs dst ≡ MaybeNull map id
-        → Transfers (Insn.JumpIf Condition.NotEqual Size.Word64 dst (Operand.Immediate (pos 0)) (pos n)) shapes ctx_len a (when_null id z a) (Some (when_there id origin a)) }
+        → Transfers
+        (Insn.JumpIf Condition.NotEqual Size.Word64 dst (Operand.Immediate (pos 0)) (pos n))
+        shapes ctx_len a (when_null id z a) (Some (when_there id origin a)) }
 {}
 
 /// A load from an element.
@@ -151,7 +156,8 @@ pub fn load_transfers()
         → a.regs src ≡ ValueAt map scalar → slice_get shapes map ≡ Some shape
         → IsAlwaysInside scalar (byte_count width) offset shape.value_len → (10 ≡ dst → ⊥)
         → ((n : ℕ) → n < 256 ^ byte_count width → Holds t n)
-        → Transfers (Insn.Load width dst src offset) shapes ctx_len a (with_kind dst (Num t) a) None }
+        → Transfers (Insn.Load width dst src offset) shapes ctx_len a
+        (with_kind dst (Num t) a) None }
 {}
 
 /// A store of a number to an element.
@@ -166,13 +172,15 @@ pub fn store_transfers()
 
 /// A load with sign extension from an element.
 pub fn load_signed_transfers()
-    ensures { (width : SignedWidth) (dst src : ℕ) (offset : ℤ) (shapes : List MapShape) (ctx_len : ℕ)
-        (a : AbsState) (map : ℕ) (shape : MapShape) (scalar t : Scalar)
+    ensures { (width : SignedWidth) (dst src : ℕ) (offset : ℤ) (shapes : List MapShape)
+        (ctx_len : ℕ) (a : AbsState) (map : ℕ) (shape : MapShape) (scalar t : Scalar)
         → a.regs src ≡ ValueAt map scalar → slice_get shapes map ≡ Some shape
         → IsAlwaysInside scalar (byte_count (unsigned_width width)) offset shape.value_len
         → (10 ≡ dst → ⊥)
-        → ((n : ℕ) → n < 256 ^ byte_count (unsigned_width width) → (loaded_signed width n < 2 ^ 64) × Holds t (loaded_signed width n))
-        → Transfers (Insn.LoadSigned width dst src offset) shapes ctx_len a (with_kind dst (Num t) a) None }
+        → ((n : ℕ) → n < 256 ^ byte_count (unsigned_width width)
+        → (loaded_signed width n < 2 ^ 64) × Holds t (loaded_signed width n))
+        → Transfers (Insn.LoadSigned width dst src offset) shapes ctx_len a
+        (with_kind dst (Num t) a) None }
 {}
 
 /// A store of eight bytes to the frame, of a value of any written kind.
@@ -180,7 +188,8 @@ pub fn spill_transfers()
     ensures { (dst src : ℕ) (offset o : ℤ) (at : ℕ) (shapes : List MapShape) (ctx_len : ℕ)
         (a : AbsState) (kind : Kind) → a.regs dst ≡ FrameAt o
         → region_offset FRAME_BYTES 8 (o +ℤ offset) ≡ Some at → a.regs src ≡ kind → IsWritten kind
-        → Transfers (Insn.Store Width.Eight dst offset (Operand.Register src)) shapes ctx_len a (with_cells at 8 (PartCell kind) a) None }
+        → Transfers (Insn.Store Width.Eight dst offset (Operand.Register src)) shapes ctx_len a
+        (with_cells at 8 (PartCell kind) a) None }
 {}
 
 /// A load of the eight parts of what was stored.
@@ -189,7 +198,8 @@ pub fn fill_transfers()
         (a : AbsState) (kind : Kind) → a.regs src ≡ FrameAt o
         → region_offset FRAME_BYTES 8 (o +ℤ offset) ≡ Some at
         → ((j : ℕ) → j < 8 → a.cells (at + j) ≡ PartCell kind) → IsPointer kind → (10 ≡ dst → ⊥)
-        → Transfers (Insn.Load Width.Eight dst src offset) shapes ctx_len a (with_kind dst kind a) None }
+        → Transfers (Insn.Load Width.Eight dst src offset) shapes ctx_len a
+        (with_kind dst kind a) None }
 {}
 
 /// A plan that is kept instruction by instruction is closed under the machine's steps.
@@ -266,7 +276,8 @@ pub fn tracked_is_near()
 pub fn near_references_differ()
     ensures { (slots : List ℕ) (es : List Element) (r q : Reference) (w : ℕ) → IsNearReference r
         → IsNearReference q → IsWithinLimits slots es r → IsWithinLimits slots es q
-        → IsReferenceWord (element_bases slots es) r w → IsReferenceWord (element_bases slots es) q w
+        → IsReferenceWord (element_bases slots es) r w
+        → IsReferenceWord (element_bases slots es) q w
         → named_location slots es r ≡ named_location slots es q }
 {}
 
@@ -279,7 +290,8 @@ pub fn lookup_is_verified()
 /// With it, and whatever the control plane does, no run is ever stuck.
 pub fn lookup_never_stuck()
     ensures { (any : Scalar) → ((n : ℕ) → n < 2 ^ 64 → Holds any n) → (s : Schedule)
-        → IsReachedSchedule (example_shape ∷ []) (record { code = lookup_and_load; maps = 0 ∷ []; context_len = 0 } ∷ []) s
+        → IsReachedSchedule (example_shape ∷ [])
+        (record { code = lookup_and_load; maps = 0 ∷ []; context_len = 0 } ∷ []) s
         → NeverStuck s.machine }
 {}
 

@@ -17,7 +17,7 @@ use Rattle.program_graph.specs.GraphFlaws.{EndsWithExit, HasGoodGraph}
 use Rattle.program_graph.specs.FirstPass.{Follows}
 use Rattle.program_graph.specs.Indexes.{HasTargets, IsTarget}
 use Rattle.program_graph.proofs.Edges.{insn_here, insn_read}
-use Rattle.program_graph.proofs.Lists.{same_some, get-append_cases}
+use Rattle.program_graph.proofs.Lists.{same_some}
 use Rattle.program_graph.proofs.Marking.{edge_into, reached_by, starts_at_0}
 use Rattle.typed_runs.specs.Kinds as model
 use Rattle.typed_runs.specs.Describes.{Describes}
@@ -33,6 +33,7 @@ use Rattle.verifier.specs.declared.waiting.Waiting.{Waiting}
 use Rattle.verifier.specs.declared.waiting.Waiting.TheVariants.{Nothing, Differing}
 use Rattle.verifier.specs.SecondPass.{Awaited, Table, size_of, awaited, state_in, planned, Fell, Jumped, Spreads, Advances, Notes, Passed, IsPassed, IsDoomed, Awaits, StartsFrom}
 use Rattle.verifier.proofs.Merging.{Later, same_later, Stays, AllStay, same_stay, merged_there, merged_later, merged_or}
+use Rattle.bpf_model.proofs.Lists.{get-append_cases}
 
 -- a program has no more instructions than slots
 pub length_slots : (is : List Insn) → length is ≤ slot_total is

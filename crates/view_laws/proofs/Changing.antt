@@ -8,10 +8,10 @@ use Rattle.std.proofs.lemmas.List.Sums.{sum_by_push}
 use Rattle.bpf_model.specs.Element.{Element, Life, IsLinkedAt, is_linked, is_reclaimed, linked_count, with_life, with_value}
 use Rattle.bpf_model.specs.Helper.{newborn}
 use Rattle.bpf_model.specs.Word.{map_in}
-use Rattle.model_laws.proofs.Lists.{get-below, get-append, get-append_cases, get-set_same, get-set_other, get-set_cases, length-slice_set}
 use Rattle.bpf_model.specs.Refines.{slot_view}
 use Rattle.model_laws.proofs.Tallies.{one_of, count-set}
 use Rattle.view_laws.proofs.Lists.{index-append}
+use Rattle.bpf_model.proofs.Lists.{get-append, get-append_cases, get-below, get-set_cases, get-set_other, get-set_there, length-set}
 
 -- An element that was there before: not reclaimed, in the same map, and outside map k with the same key, value and use count.
 pub record Was (k : ℕ) (es : List Element) (n : ℕ) (f : Element) : Type 0 where
@@ -89,7 +89,7 @@ module _ (k : ℕ) (es : List Element) (n : ℕ) (e : Element) (l : Life) (born 
   at-other a ne = get-set_other es n a (with_life l e) ne
 
   here : (x : Element) → slice_get fs n ≡ Some x → x ≡ with_life l e
-  here x at = same_Some x (with_life l e) (sym at ∙ get-set_same es n e (with_life l e) born)
+  here x at = same_Some x (with_life l e) (sym at ∙ get-set_there es n e (with_life l e) born)
 
   away : (j : ℕ) (key : List ℕ) (a : ℕ) → j ≢ k → IsLinkedAt es j key a → a ≢ n
   away j key a ne h same =
@@ -115,17 +115,17 @@ module _ (k : ℕ) (es : List Element) (n : ℕ) (e : Element) (l : Life) (born 
 
   pub changes-life : (slots : List ℕ) → is_reclaimed e.life ≡ false → Changes k slots slots es fs
   changes-life slots kept = record {
-    grows = λ a h. subst (λ x. a < x) (sym (length-slice_set es n (with_life l e))) h;
+    grows = λ a h. subst (λ x. a < x) (sym (length-set es n (with_life l e))) h;
     named = λ a h. refl;
     maps = λ a h. elim (cases_eq a n) [
-      | inl same ↦ ap (λ b. map_in (slice_get fs b)) same ∙ (ap map_in (get-set_same es n e (with_life l e) born ∙ refl) ∙ (ap map_in (sym born) ∙ ap (λ b. map_in (slice_get es b)) (sym same)))
+      | inl same ↦ ap (λ b. map_in (slice_get fs b)) same ∙ (ap map_in (get-set_there es n e (with_life l e) born ∙ refl) ∙ (ap map_in (sym born) ∙ ap (λ b. map_in (slice_get es b)) (sym same)))
       | inr ne ↦ ap map_in (at-other a ne)
     ];
     back = λ a f h at kept_now. elim (get-set_cases es n a (with_life l e) f at) [
       | inl x ↦ record { element = e; born = ap (slice_get es) x.0 ∙ born; kept = kept; in_map = ap (λ z. z.map) x.1; view = λ ne. ap slot_view x.1 }
       | inr x ↦ was-same k es a f x.1 kept_now
     ];
-    newborns = λ a f h at kept_now. let z : a < length fs = slice_get_within fs a f at in let s : length fs ≡ length es = length-slice_set es n (with_life l e) in absurd (omega arith);
+    newborns = λ a f h at kept_now. let z : a < length fs = slice_get_within fs a f at in let s : length fs ≡ length es = length-set es n (with_life l e) in absurd (omega arith);
     links = λ j key a ne h. link-kept j key a (away j key a ne h) h;
     linked = λ j key a ne h. link-back j key a (gone j key a ne h) h;
     counts = λ j ne.
@@ -141,7 +141,7 @@ module _ (k : ℕ) (es : List Element) (n : ℕ) (e : Element) (value : List ℕ
   vs = slice_set es n (with_value value e)
 
   written-here : (x : Element) → slice_get vs n ≡ Some x → with_value value e ≡ x
-  written-here x at = same_Some (with_value value e) x (sym (get-set_same es n e (with_value value e) born) ∙ at)
+  written-here x at = same_Some (with_value value e) x (sym (get-set_there es n e (with_value value e) born) ∙ at)
 
   pub link-written : (j : ℕ) (key : List ℕ) (a : ℕ) → IsLinkedAt es j key a → IsLinkedAt vs j key a
   link-written j key a h = elim (cases_eq a n) [
@@ -149,7 +149,7 @@ module _ (k : ℕ) (es : List Element) (n : ℕ) (e : Element) (value : List ℕ
         let x : h.element ≡ e = same_Some h.element e (sym h.born ∙ (ap (slice_get es) same ∙ born)) in
         record {
           element = with_value value e;
-          born = ap (slice_get vs) same ∙ get-set_same es n e (with_value value e) born;
+          born = ap (slice_get vs) same ∙ get-set_there es n e (with_value value e) born;
           linked = ap (λ z. z.life) (sym x) ∙ h.linked;
           in_map = ap (λ z. z.map) (sym x) ∙ h.in_map;
           under = ap (λ z. z.key) (sym x) ∙ h.under;
@@ -176,17 +176,17 @@ module _ (k : ℕ) (es : List Element) (n : ℕ) (e : Element) (value : List ℕ
 
   pub changes-value : (slots : List ℕ) → is_reclaimed e.life ≡ false → Changes k slots slots es vs
   changes-value slots kept = record {
-    grows = λ a h. subst (λ x. a < x) (sym (length-slice_set es n (with_value value e))) h;
+    grows = λ a h. subst (λ x. a < x) (sym (length-set es n (with_value value e))) h;
     named = λ a h. refl;
     maps = λ a h. elim (cases_eq a n) [
-      | inl same ↦ ap (λ b. map_in (slice_get vs b)) same ∙ (ap map_in (get-set_same es n e (with_value value e) born) ∙ (ap map_in (sym born) ∙ ap (λ b. map_in (slice_get es b)) (sym same)))
+      | inl same ↦ ap (λ b. map_in (slice_get vs b)) same ∙ (ap map_in (get-set_there es n e (with_value value e) born) ∙ (ap map_in (sym born) ∙ ap (λ b. map_in (slice_get es b)) (sym same)))
       | inr ne ↦ ap map_in (get-set_other es n a (with_value value e) ne)
     ];
     back = λ a f h at kept_now. elim (get-set_cases es n a (with_value value e) f at) [
       | inl x ↦ record { element = e; born = ap (slice_get es) x.0 ∙ born; kept = kept; in_map = ap (λ (z : Element). z.map) x.1; view = λ ne. absurd (ne (ap (λ (z : Element). z.map) (sym x.1) ∙ in_map)) }
       | inr x ↦ was-same k es a f x.1 kept_now
     ];
-    newborns = λ a f h at kept_now. let z : a < length vs = slice_get_within vs a f at in let s : length vs ≡ length es = length-slice_set es n (with_value value e) in absurd (omega arith);
+    newborns = λ a f h at kept_now. let z : a < length vs = slice_get_within vs a f at in let s : length vs ≡ length es = length-set es n (with_value value e) in absurd (omega arith);
     links = λ j key a ne h. link-written j key a h;
     linked = λ j key a ne h. link-unwritten j key a h;
     counts = λ j ne. count-written (λ life map. is_linked life && (map == j));

@@ -17,7 +17,6 @@ use Rattle.bpf_model.specs.Machine.{open_sections, with_store}
 use Rattle.bpf_model.specs.Event.{Answers, key_refusal, refusal}
 use Rattle.bpf_model.specs.Schedule.{Queues, Schedule, retired, unlinked_between, still_open, open_flags, DoesScheduled}
 use Rattle.model_laws.specs.Scheduled.{IsScheduled}
-use Rattle.model_laws.proofs.Lists.{length-slice_set}
 use Rattle.model_laws.proofs.Counting.{retired-back, length-retired, with_more}
 use Rattle.bpf_model.specs.View.{MapView, WorldView, map_state_of}
 use Rattle.bpf_model.specs.Refines.{lists_of, named, ElementsStand, SlotsStand, RefinesSchedule}
@@ -31,6 +30,7 @@ use Rattle.view_laws.proofs.Changing.{changes-same}
 use Rattle.view_laws.proofs.Mapping.{unlinks, elements-retired}
 use Rattle.view_laws.proofs.Listing.{named-kept, between-more, between-one, between-other, more-none, more-one}
 use Rattle.view_laws.proofs.Worlds.{Here, here, Turns, turned-world, shapes-agree, awaited-same, oldest-none, refuses, steps}
+use Rattle.bpf_model.proofs.Lists.{length-set}
 
 -- births below n have the same slots
 abbrev pub Renames : List ℕ → List ℕ → ℕ → Type 0
@@ -95,7 +95,7 @@ module _ (slots : List ℕ) (k : ℕ) (store : Store) (opened : List Section) (q
         left = left;
         left_is = is;
         result = (refl, ap (λ es. with_elements es store) is);
-        long = length-slice_set store.elements n _;
+        long = length-set store.elements n _;
         changes = unlinks slots k store.elements v key n opened s h;
         given = reclaimed-same store.elements n h.element opened h.born h.linked;
         lists = λ more names same.

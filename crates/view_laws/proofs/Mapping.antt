@@ -9,7 +9,6 @@ use Rattle.bpf_model.specs.declared.event.Given.TheVariants.{Free, Worn}
 use Rattle.bpf_model.specs.Section.{Section}
 use Rattle.bpf_model.specs.Element.{Element, Life, Unlinked, Reclaimed, IsLinkedAt, is_linked, is_reclaimed, linked_count, with_life}
 use Rattle.bpf_model.specs.Helper.{newborn}
-use Rattle.model_laws.proofs.Lists.{get-set_cases, get-append_cases, get-append_last, get-set_same, get-set_other, get-below, length-slice_set}
 use Rattle.model_laws.proofs.Counting.{times-first, times-other, times-append}
 use Rattle.bpf_model.specs.View.{MapView, uses_at}
 use Rattle.bpf_model.specs.Refines.{times, slot_view, IsKept, ElementsStand, SlotsStand}
@@ -18,6 +17,7 @@ use Rattle.view_laws.proofs.Changing.{Changes}
 use Rattle.model_laws.proofs.Tallies.{one_of, count-set}
 use Rattle.view_laws.proofs.Lists.{key_cases, insert-same, insert-other, remove-same, remove-other, len-remove_found, len-insert_new, index-append, index-last}
 use Rattle.view_laws.proofs.Changing.{changes-life, link-kept, link-back, not-linked, link-grown, link-cases, count-born}
+use Rattle.bpf_model.proofs.Lists.{get-append_cases, get-append_last, get-below, get-set_cases, get-set_other, get-set_there, length-set}
 
 -- a kept element of the map was one before
 record Kin (slots names : List ℕ) (k : ℕ) (es : List Element) (n : ℕ) (f : Element) : Type 0 where
@@ -128,7 +128,7 @@ module _ (slots : List ℕ) (k : ℕ) (es : List Element) (v : MapView) (n : ℕ
   was a f g = kin-life slots k es n e Reclaimed born in_map (ap is_reclaimed life) a f g
 
   another : (a : ℕ) (f : Element) → IsKept rs k a f → a ≢ n
-  another a f g same = false≢true (sym g.kept ∙ ap (λ (z : Element). is_reclaimed z.life) (same_Some f (with_life Reclaimed e) (sym g.born ∙ (ap (slice_get rs) same ∙ get-set_same es n e (with_life Reclaimed e) born))))
+  another a f g same = false≢true (sym g.kept ∙ ap (λ (z : Element). is_reclaimed z.life) (same_Some f (with_life Reclaimed e) (sym g.born ∙ (ap (slice_get rs) same ∙ get-set_there es n e (with_life Reclaimed e) born))))
 
   was-linked : (q : List ℕ) (a : ℕ) → IsLinkedAt es k q a → a ≢ n
   was-linked q a g same =
@@ -216,7 +216,7 @@ module _ (slots : List ℕ) (k : ℕ) (es : List Element) (v : MapView) (i : ℕ
     | inl x ↦ ap (slice_get (filled v i rest key value).slots) (old-slot a x.1) ∙ (get-set_other v.slots i (slice_index slots a) _ (differs a f x.0) ∙ s.occupied a f x.0)
     | inr x ↦
         let old = get-below v.slots i in-range in
-        ap (slice_get (filled v i rest key value).slots) (new-slot a x.0) ∙ (get-set_same v.slots i old.0 _ old.1 ∙ ap (λ (z : Element). Some (slot_view z)) x.1)
+        ap (slice_get (filled v i rest key value).slots) (new-slot a x.0) ∙ (get-set_there v.slots i old.0 _ old.1 ∙ ap (λ (z : Element). Some (slot_view z)) x.1)
   ]
 
   single-born : (a b : ℕ) (d f : Element) → IsKept gs k a d → IsKept gs k b f → slice_index names a ≡ slice_index names b → a ≡ b
@@ -273,12 +273,12 @@ module _ (slots : List ℕ) (k : ℕ) (es : List Element) (v : MapView) (i : ℕ
 
   pub slots-born : SlotsStand (filled v i rest key value)
   slots-born = record {
-    room = length-slice_set v.slots i _ ∙ free.room;
+    room = length-set v.slots i _ ∙ free.room;
     once = λ x. elim (cases_eq i x) [
       | inl y ↦ let t : times x v.free ≡ 1 + times x rest = ap (times x) first ∙ times-first x i rest y in let o : times x v.free ≤ 1 = free.once x in omega arith
       | inr ne ↦ let t : times x v.free ≡ times x rest = ap (times x) first ∙ times-other x i rest ne in let o : times x v.free ≤ 1 = free.once x in omega arith
     ];
-    inside = λ x h. subst (λ z. x < z) (sym (length-slice_set v.slots i _)) (elim (cases_eq i x) [
+    inside = λ x h. subst (λ z. x < z) (sym (length-set v.slots i _)) (elim (cases_eq i x) [
       | inl y ↦ let t : times x v.free ≡ 1 + times x rest = ap (times x) first ∙ times-first x i rest y in free.inside x (omega arith)
       | inr ne ↦ let t : times x v.free ≡ times x rest = ap (times x) first ∙ times-other x i rest ne in free.inside x (omega arith)
     ]);

@@ -24,13 +24,14 @@ use Rattle.view_laws.specs.Reactions.{with_map, shape_shown, refused_as, delete_
 use Rattle.view_laws.specs.Matching.{Matches, Simulates}
 use Rattle.view_laws.proofs.Worlds.{refuses}
 use Rattle.view_laws.proofs.Deleting.{delete_simulates}
-use Rattle.view_laws.proofs.Updating.{set-same, update_simulates}
+use Rattle.view_laws.proofs.Updating.{update_simulates}
 use Rattle.view_laws.proofs.Advancing.{advance_simulates}
 use Rattle.view_laws.proofs.Reaping.{reap_simulates}
 use Rattle.view_laws.proofs.Reading.{read_simulates}
-use Rattle.view_laws.proofs.Running.{map-set, dropped_run}
+use Rattle.view_laws.proofs.Running.{dropped_run}
 use Rattle.view_laws.proofs.Starting.{start_simulates}
 use Rattle.view_laws.proofs.Tracking.{simulates_tracks}
+use Rattle.bpf_model.proofs.Lists.{map-set, set-same}
 
 -- the refusals of a step and of a drop
 step-refusal_is : (slots : List ℕ) (es : List Element) (programs : List Loaded) (v : Option (Option RunView)) (run : Option (Option Run)) → SlotRefines slots es programs v run → step_refusal (run_in run) ≡ step_refused (run_shown v)
@@ -132,11 +133,11 @@ picked-at : (k : ℕ) (vs : List MapView) (p : Pick) → first_pick k vs ≡ Som
 picked-at k [] p h = absurd (none-some p h)
 picked-at k (v ∷ vs) p h = picked-first k v vs p v.ready (λ g. picked-at (suc k) vs p g) h
 
-abbrev Keeps : WorldView → WorldView → Type 0
+abbrev pub Keeps : WorldView → WorldView → Type 0
 Keeps w new = (shapes_of new ≡ shapes_of w) × (new.programs ≡ w.programs)
 
 module _ (w : WorldView) where
-  map-keeps : (k : ℕ) (v new : MapView) → slice_get w.maps k ≡ Some v → new.shape ≡ v.shape → Keeps w (with_map k new w)
+  pub map-keeps : (k : ℕ) (v new : MapView) → slice_get w.maps k ≡ Some v → new.shape ≡ v.shape → Keeps w (with_map k new w)
   map-keeps k v new at same = (set-shapes w.maps k v new at same, refl)
 
   delete-keeps : (r : Option EventRefusal) (o : Option MapView) (k : ℕ) (key : List ℕ) → slice_get w.maps k ≡ o → Keeps w (delete_at r o w k key).1

@@ -1,6 +1,6 @@
 -- A reap.
 use Rattle.std.proofs.Common.{◌≡◌, ◌∙◌, ℕ, suc, ◌+◌, ◌<◌, ◌≤◌, List, [], ◌∷◌, map, drop, length, Some, None, ◌⊎◌, inl, inr, refl, sym, ap, arith, subst}
-use Rattle.std.specs.Prelude.{slice_get, slice_set, slice_index, count_by, ◌==◌, if◌then◌else◌}
+use Rattle.std.specs.Prelude.{slice_get, slice_set, slice_index, count_by, if◌then◌else◌}
 use Rattle.std.proofs.Math.Dec.{eqb-suc-zero}
 use Rattle.std.proofs.lemmas.Bool.{cases_eq}
 use Rattle.std.proofs.lemmas.Option.{same_Some, slice_get_within}
@@ -14,8 +14,7 @@ use Rattle.bpf_model.specs.Reclaim.{Reclaims}
 use Rattle.bpf_model.specs.Machine.{open_sections, with_store}
 use Rattle.bpf_model.specs.Schedule.{Queues, Schedule, or_first, first_ready, without_first, DoesScheduled}
 use Rattle.model_laws.specs.Scheduled.{IsScheduled}
-use Rattle.model_laws.proofs.Lists.{length-slice_set, get-set_same, get-set_other}
-use Rattle.model_laws.proofs.Counting.{times-first, times-other, times-append, shortened, none-without, length-without}
+use Rattle.model_laws.proofs.Counting.{times-first, times-other, times-append, shortened, without_at, none-without, length-without}
 use Rattle.model_laws.proofs.Queueing.{Queued, queued-of}
 use Rattle.bpf_model.specs.View.{MapView, WorldView, uses_in, uses_at, map_state_of, key_in}
 use Rattle.bpf_model.specs.Refines.{times, slot_view, IsKept, lists_of, named, SlotsStand, MapRefines, RefinesSchedule}
@@ -25,11 +24,9 @@ use Rattle.view_laws.specs.Matching.{Matches, Simulates}
 use Rattle.model_laws.proofs.Tallies.{count-set, one_of}
 use Rattle.view_laws.proofs.Mapping.{reclaims, elements-given}
 use Rattle.view_laws.proofs.Worlds.{Here, here, Turns, turned-world, oldest-none, steps}
+use Rattle.bpf_model.proofs.Lists.{get-set_other, get-set_there, length-set}
 
 -- views and lists, side by side
-abbrev without_at : Queues → List Queues → List ℕ → List Queues
-without_at q qs ready = if length ready == 0 then q ∷ without_first qs else record { next = q.next; waiting = q.waiting; ready = drop 1 ready } ∷ qs
-
 record Picked (slots : List ℕ) (k : ℕ) (vs : List MapView) (qs : List Queues) : Type 0 where
   pub pick : Pick
   pub place : ℕ
@@ -182,8 +179,8 @@ module _ (w : WorldView) (s : Schedule) (x : RefinesSchedule w s) (i : IsSchedul
 
     stands : (m : MapState) (p : Queues) → slice_get after.maps k ≡ Some m → slice_get next.queues k ≡ Some p → MapRefines x.slots k after.elements p (reaped_view v slot) m
     stands m p there g = record {
-      state = same_Some m state (sym there ∙ get-set_same s.machine.store.maps k h.state state h.there) ∙ state-given v slot (given_at v slot);
-      lists = lists-left ∙ ap (named x.slots) (same_Some (shortened rest q) p (sym (get-set_same s.queues k q (shortened rest q) listed) ∙ (ap (λ l. slice_get l k) (sym without) ∙ g)));
+      state = same_Some m state (sym there ∙ get-set_there s.machine.store.maps k h.state state h.there) ∙ state-given v slot (given_at v slot);
+      lists = lists-left ∙ ap (named x.slots) (same_Some (shortened rest q) p (sym (get-set_there s.queues k q (shortened rest q) listed) ∙ (ap (λ l. slice_get l k) (sym without) ∙ g)));
       free = slots-given v slot (given_at v slot) h.stands.free (slice_get_within v.slots slot (slot_view e.element) stored) (h.stands.elements.apart n e.element kept);
       elements = elements-given x.slots k es v n e.element e.since h.stands.elements e.born e.life e.in_map (given_at v slot);
     }
@@ -191,9 +188,9 @@ module _ (w : WorldView) (s : Schedule) (x : RefinesSchedule w s) (i : IsSchedul
     turns : Turns w s x k (reaped_view v slot) after next.queues
     turns = record {
       names = x.slots;
-      births = x.named ∙ sym (length-slice_set es n _);
+      births = x.named ∙ sym (length-set es n _);
       changes = reclaims x.slots k es v n e.element e.since h.stands.elements e.born e.life e.in_map;
-      maps = length-slice_set s.machine.store.maps k state;
+      maps = length-set s.machine.store.maps k state;
       others = λ j ne. get-set_other s.machine.store.maps k j state ne;
       queued = length-without s.queues;
       lists = λ j p ne g. sym (get-set_other s.queues k j (shortened rest q) ne) ∙ (ap (λ l. slice_get l j) (sym without) ∙ g);
@@ -213,8 +210,8 @@ module _ (w : WorldView) (s : Schedule) (x : RefinesSchedule w s) (i : IsSchedul
     does : DoesScheduled s events.Reap (reap_by (Some pick) w).0 next
     does = record {
       step = (n, e.element, after, reclaimed, sym e.in_map, ap key_in stored, refl);
-      first = (n, e.since, first, (e.element, e.born, e.life), (with_life Reclaimed e.element, get-set_same es n e.element _ e.born, refl));
-      oldest = oldest-none s.machine.store after (length-slice_set es n _);
+      first = (n, e.since, first, (e.element, e.born, e.life), (with_life Reclaimed e.element, get-set_there es n e.element _ e.born, refl));
+      oldest = oldest-none s.machine.store after (length-set es n _);
       lists = refl;
     }
 

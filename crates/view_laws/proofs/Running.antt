@@ -1,5 +1,5 @@
 -- A run slot changes.
-use Rattle.std.proofs.Common.{◌≡◌, ◌∙◌, ℕ, zero, suc, ◌+◌, ◌-◌, ◌<◌, List, [], ◌∷◌, map, length, Option, Some, None, inl, inr, refl, sym, ap, arith, Bool, true, false, subst, ℤ}
+use Rattle.std.proofs.Common.{◌≡◌, ◌∙◌, ℕ, suc, ◌+◌, ◌-◌, ◌<◌, List, [], ◌∷◌, length, Option, Some, None, inl, inr, refl, sym, ap, arith, Bool, true, false, subst, ℤ}
 use Rattle.std.specs.Prelude.{slice_get, slice_set, slice_index, nat_lt, nat_le, ◌==◌, if◌then◌else◌}
 use Rattle.std.proofs.lemmas.Bool.{cases_eq}
 use Rattle.std.proofs.lemmas.Option.{none-some, same_Some}
@@ -21,17 +21,12 @@ use Rattle.bpf_model.specs.MachineStep.{StepsRun, KernelStep, returns}
 use Rattle.bpf_model.specs.Event.{Answers, refusal, step_refusal, if_ended, drop_refusal, if_running}
 use Rattle.bpf_model.specs.Schedule.{Schedule, is_open, open_flags, still_open, retired, TakesOldest, DoesScheduled}
 use Rattle.bpf_model.specs.Word.{WordIs, element_bases}
-use Rattle.model_laws.proofs.Lists.{length-slice_set, get-set_same, get-set_other}
 use Rattle.bpf_model.specs.View.{RunView, WorldView}
 use Rattle.bpf_model.specs.Refines.{RunRefines, SlotRefines, RefinesSchedule}
 use Rattle.view_laws.specs.Reactions.{is_open_view, with_run, locked_view, unlocked_view}
 use Rattle.view_laws.specs.Matching.{Matches, Simulates, half}
 use Rattle.view_laws.proofs.Worlds.{oldest-none, retired-same, steps}
-
-pub map-set : {A B : Type 0} (f : A → B) (xs : List A) (i : ℕ) (y : A) → map f (slice_set xs i y) ≡ slice_set (map f xs) i (f y)
-map-set f [] i y = refl
-map-set f (x ∷ xs) zero y = refl
-map-set f (x ∷ xs) (suc i) y = ap (λ l. f x ∷ l) (map-set f xs i y)
+use Rattle.bpf_model.proofs.Lists.{get-set_other, get-set_there, length-set, map-set}
 
 length-still : (a b : List Bool) → length a ≡ length b → length (still_open a b) ≡ length b
 length-still [] [] l = refl
@@ -66,14 +61,14 @@ run-world w s x r old before v run started at there h =
         | inl same ↦
             let P : Option (Option RunView) → Option (Option Run) → Type 0 = SlotRefines x.slots s.machine.store.elements s.machine.programs in
             subst (λ z. P (slice_get (slice_set w.runs r v) z) (slice_get (slice_set s.machine.runs r run) z)) (sym same)
-            (subst (λ z. P z (slice_get (slice_set s.machine.runs r run) r)) (sym (get-set_same w.runs r old v at)) (subst (λ z. P (Some v) z) (sym (get-set_same s.machine.runs r before run there)) h))
+            (subst (λ z. P z (slice_get (slice_set s.machine.runs r run) r)) (sym (get-set_there w.runs r old v at)) (subst (λ z. P (Some v) z) (sym (get-set_there s.machine.runs r before run there)) h))
         | inr ne ↦
             let P : Option (Option RunView) → Option (Option Run) → Type 0 = SlotRefines x.slots s.machine.store.elements s.machine.programs in
             subst (λ z. P z (slice_get (slice_set s.machine.runs r run) q)) (sym (get-set_other w.runs r q v ne)) (subst (λ z. P (slice_get w.runs q) z) (sym (get-set_other s.machine.runs r q run ne)) (x.runs q))
       ];
       opened = opened;
       awaited = λ j. still_open (x.awaited j) (opened j);
-      flags = length-still s.awaited (open_flags (slice_set s.machine.runs r run)) (x.flags ∙ (sym (length-slice_set (open_flags s.machine.runs) r (is_open run)) ∙ ap length (sym (map-set is_open s.machine.runs r run))));
+      flags = length-still s.awaited (open_flags (slice_set s.machine.runs r run)) (x.flags ∙ (sym (length-set (open_flags s.machine.runs) r (is_open run)) ∙ ap length (sym (map-set is_open s.machine.runs r run))));
       programs = x.programs;
       given = x.given;
     }

@@ -12,7 +12,6 @@ use Rattle.bpf_model.specs.Schedule.{Queues, Schedule, retired}
 use Rattle.bpf_model.specs.Word.{slot_base, map_in, element_bases}
 use Rattle.bpf_model.specs.View.{SlotView, MapView, WorldView, uses_in, uses_at, map_state_of, key_in, value_in}
 use Rattle.bpf_model.specs.Refines.{slot_view, IsKept, SlotsStand, ElementsStand, RefinesSchedule, named}
-use Rattle.model_laws.proofs.Lists.{get-set_same, get-set_other, get-set_cases, length-slice_set}
 use Rattle.model_laws.proofs.Counting.{retired-back, length-retired}
 use Rattle.model_laws.proofs.Stores.{accessible-born}
 use Rattle.view_laws.specs.Views.{written}
@@ -22,6 +21,7 @@ use Rattle.view_laws.proofs.Lists.{map-same}
 use Rattle.view_laws.proofs.Changing.{link-written, link-unwritten, count-written, changes-value}
 use Rattle.view_laws.proofs.Listing.{between-value, more-none}
 use Rattle.view_laws.proofs.Worlds.{Here, here, Turns, turned-world, oldest-none}
+use Rattle.bpf_model.proofs.Lists.{get-set_cases, get-set_other, get-set_there, length-set}
 
 -- an element that may be accessed is not reclaimed
 accessible-kept : (es : List Element) (n : ℕ) (o : Option Element) (e : Element) → slice_get es n ≡ o → (o >>= unless_reclaimed) ≡ Some e → is_reclaimed e.life ≡ false
@@ -52,7 +52,7 @@ based w s m n e access = ap (λ o. slot_base (map_in o) (slice_index m.refines.s
 -- a slot with another value
 uses-kept : (slots : List SlotView) (i : ℕ) (old new : SlotView) → slice_get slots i ≡ Some old → new.uses ≡ old.uses → (x : ℕ) → uses_at (slice_set slots i new) x ≡ uses_at slots x
 uses-kept slots i old new at same x = elim (cases_eq x i) [
-  | inl is ↦ ap (uses_at (slice_set slots i new)) is ∙ (ap uses_in (get-set_same slots i old new at) ∙ (same ∙ (ap uses_in (sym at) ∙ ap (uses_at slots) (sym is))))
+  | inl is ↦ ap (uses_at (slice_set slots i new)) is ∙ (ap uses_in (get-set_there slots i old new at) ∙ (same ∙ (ap uses_in (sym at) ∙ ap (uses_at slots) (sym is))))
   | inr ne ↦ ap uses_in (get-set_other slots i x new ne)
 ]
 
@@ -91,7 +91,7 @@ module _ (slots : List ℕ) (k : ℕ) (es : List Element) (v : MapView) (n : ℕ
   elements-after : ElementsStand slots k vs after
   elements-after = record {
     occupied = λ a f g. elim (cases a f g) [
-      | inl x ↦ ap (λ b. slice_get after.slots (slice_index slots b)) x.0 ∙ (get-set_same v.slots i (slot_view e) (slot_view (with_value value e)) stored ∙ ap (λ (z : Element). Some (slot_view z)) x.1)
+      | inl x ↦ ap (λ b. slice_get after.slots (slice_index slots b)) x.0 ∙ (get-set_there v.slots i (slot_view e) (slot_view (with_value value e)) stored ∙ ap (λ (z : Element). Some (slot_view z)) x.1)
       | inr x ↦ get-set_other v.slots i (slice_index slots a) (slot_view (with_value value e)) (λ same. x.0 (s.single a n f e x.1 kept same)) ∙ s.occupied a f x.1
     ];
     single = λ a b d f g h same. let x = before a d g in let y = before b f h in s.single a b x.0 y.0 x.1 y.1 same;
@@ -106,9 +106,9 @@ module _ (slots : List ℕ) (k : ℕ) (es : List Element) (v : MapView) (n : ℕ
 
   pub slots-written : SlotsStand new
   slots-written = record {
-    room = length-slice_set v.slots i _ ∙ free.room;
+    room = length-set v.slots i _ ∙ free.room;
     once = free.once;
-    inside = λ x h. subst (λ z. x < z) (sym (length-slice_set v.slots i _)) (free.inside x h);
+    inside = λ x h. subst (λ z. x < z) (sym (length-set v.slots i _)) (free.inside x h);
   }
 
   pub state-written : map_state_of new ≡ map_state_of v
@@ -154,7 +154,7 @@ module _ (w : WorldView) (s : Schedule) (m : Matches w s) (n : ℕ) (e : Element
   turns : Turns w s x e.map view store queues
   turns = record {
     names = x.slots;
-    births = x.named ∙ sym (length-slice_set all n _);
+    births = x.named ∙ sym (length-set all n _);
     changes = changes-value e.map all n e value is-born refl x.slots is-kept;
     maps = refl;
     others = λ j ne. refl;
@@ -182,6 +182,6 @@ store_half w s m n e v offset width place x access at inside =
     record {
       elements = fs;
       stored = ap (λ o. o >>= stored_in es n width offset x) access ∙ (ap (λ o. o >>= λ p. Some (changed (with_value (with_bytes p width x e.value)) es n)) inside ∙ ap (λ o. Some (set_to (with_value new) es n o)) there);
-      oldest = oldest-none s.machine.store (with_elements fs s.machine.store) (length-slice_set es n _);
+      oldest = oldest-none s.machine.store (with_elements fs s.machine.store) (length-set es n _);
       refines = subst (λ o. RefinesSchedule (with_map e.map (written v (slice_index m.refines.slots n) (with_bytes place width x (value_in o))) w) (half s (with_elements fs s.machine.store))) (sym is) (written-half w s m n e v access at new);
     }

@@ -8,10 +8,10 @@ use Rattle.bpf_model.specs.Event.{IsReal, AreReal}
 use Rattle.bpf_model.specs.Machine.{Loaded}
 use Rattle.bpf_model.specs.MapState.{IsShape}
 use Rattle.bpf_model.specs.Schedule.{Schedule, DoesScheduled, IsScheduledHistory, last_scheduled, start_schedule}
-use Rattle.model_laws.proofs.Lists.{get-append_cases}
 use Rattle.bpf_model.specs.View.{WorldView, shapes_of}
 use Rattle.bpf_model.specs.Refines.{IsReachedSchedule, TracksSchedule}
 use Rattle.view_laws.specs.Matching.{Matches, Simulates}
+use Rattle.bpf_model.proofs.Lists.{get-append_cases}
 
 history-more : (s : Schedule) (events : List Event) (answers : List Answer) (states : List Schedule) (event : Event) (answer : Answer) (t : Schedule) → IsScheduledHistory s events answers states → DoesScheduled (last_scheduled s states) event answer t →
     IsScheduledHistory s (events ++ event ∷ []) (answers ++ answer ∷ []) (states ++ t ∷ [])
@@ -23,7 +23,7 @@ last-more : (s : Schedule) (states : List Schedule) (t : Schedule) → last_sche
 last-more s [] t = refl
 last-more s (next ∷ states) t = last-more next states t
 
-real-more : (events : List Event) (event : Event) → AreReal events → IsReal event → AreReal (events ++ event ∷ [])
+pub real-more : (events : List Event) (event : Event) → AreReal events → IsReal event → AreReal (events ++ event ∷ [])
 real-more events event all real k e at = elim (get-append_cases events event k e at) [
   | inl x ↦ all k e x
   | inr x ↦ subst IsReal x.1 real

@@ -1,5 +1,5 @@
 -- An update: what the key had leaves, and an element is born in the slot that has been free longest.
-use Rattle.std.proofs.Common.{◌≡◌, ◌∙◌, ℕ, zero, suc, ◌+◌, ◌-◌, ◌<◌, ◌≤◌, List, [], ◌∷◌, ◌++◌, map, length, Option, Some, None, refl, sym, ap, arith, false, subst, Result, Ok, Err}
+use Rattle.std.proofs.Common.{◌≡◌, ◌∙◌, ℕ, ◌+◌, ◌-◌, ◌<◌, ◌≤◌, List, [], ◌∷◌, ◌++◌, map, length, Option, Some, None, refl, sym, ap, arith, false, subst, Result, Ok, Err}
 use Rattle.std.specs.Prelude.{slice_get, slice_set, slice_index, count_by, is_some, cond, not, nat_lt, nat_le, ◌==◌, ◌&&◌}
 use Rattle.std.specs.FinMap.{get, len}
 use Rattle.std.proofs.lemmas.Option.{none-some, same_Some}
@@ -18,7 +18,6 @@ use Rattle.bpf_model.specs.Machine.{open_sections, with_store}
 use Rattle.bpf_model.specs.Event.{Answers, update_refusal, refusal}
 use Rattle.bpf_model.specs.Schedule.{Queues, Schedule, retired, still_open, open_flags, TakesOldest, DoesScheduled}
 use Rattle.model_laws.specs.Scheduled.{IsScheduled}
-use Rattle.model_laws.proofs.Lists.{length-slice_set, get-set_same, get-set_other, get-append_last}
 use Rattle.model_laws.proofs.Counting.{length-retired, times-first}
 use Rattle.bpf_model.specs.View.{SlotView, MapView, WorldView, uses_in, uses_at, map_state_of}
 use Rattle.bpf_model.specs.Refines.{times, RefinesSchedule}
@@ -32,11 +31,7 @@ use Rattle.view_laws.proofs.Mapping.{elements-born, slots-born}
 use Rattle.view_laws.proofs.Worlds.{Here, Turns, turned-world, shapes-agree, awaited-same, oldest-none, refuses, unchanged, retired-same, steps}
 use Rattle.view_laws.proofs.Deleting.{Dropped, h, drop, lists-left, lists-others}
 use Rattle.model_laws.proofs.Choices.{last-false}
-
-pub set-same : {A : Type 0} (xs : List A) (i : ℕ) (y : A) → slice_get xs i ≡ Some y → slice_set xs i y ≡ xs
-set-same [] i y h = refl
-set-same (z ∷ xs) zero y h = ap (λ w. w ∷ xs) (sym (same_Some _ _ h))
-set-same (z ∷ xs) (suc i) y h = ap (λ l. z ∷ l) (set-same xs i y h)
+use Rattle.bpf_model.proofs.Lists.{get-append_last, get-set_other, get-set_there, length-set, set-same}
 
 free-has : (v : MapView) (free : List ℕ) → v.free ≡ free → (length (map (uses_at v.slots) free) == 0) ≡ false → (i : ℕ) × (rest : List ℕ) × (free ≡ i ∷ rest)
 free-has v [] e h = absurd (cc)
@@ -147,7 +142,7 @@ module _ (w : WorldView) (s : Schedule) (x : RefinesSchedule w s) (i : IsSchedul
         let same : child ≡ e = same_Some child e (sym (get-append_last d.left child) ∙ (ap (slice_get after.elements) d.long ∙ born)) in
         let m : k ≡ e.map = ap (λ (z : Element). z.map) same in
         let b : before ≡ here.state = same_Some before here.state (sym old ∙ (ap (slice_get s.machine.store.maps) (sym m) ∙ here.there)) in
-        let a : later ≡ state = same_Some later state (sym new ∙ (ap (slice_get after.maps) (sym m) ∙ get-set_same s.machine.store.maps k here.state state here.there)) in
+        let a : later ≡ state = same_Some later state (sym new ∙ (ap (slice_get after.maps) (sym m) ∙ get-set_there s.machine.store.maps k here.state state here.there)) in
         ap (λ (z : MapState). z.bag) b ∙ (old-bag ∙ (ap (λ c. c ∷ bag) (less-one count ∙ ap (λ (z : Element). z.uses - 1) same) ∙ ap (λ (z : MapState). (e.uses - 1) ∷ z.bag) (sym a)))
 
     next-state : state ≡ map_state_of (filled v' slot rest key value)
@@ -158,12 +153,12 @@ module _ (w : WorldView) (s : Schedule) (x : RefinesSchedule w s) (i : IsSchedul
       names = names;
       births = (let a : length names ≡ length x.slots + 1 = length-append x.slots (slot ∷ []) in let b : length after.elements ≡ length d.left + 1 = length-append d.left (child ∷ []) in let c = births-left in omega arith);
       changes = changes;
-      maps = length-slice_set s.machine.store.maps k state;
+      maps = length-set s.machine.store.maps k state;
       others = λ j ne. get-set_other s.machine.store.maps k j state ne;
       queued = length-retired s.machine.store.elements after.elements s.queues 0;
       lists = λ j q ne g. lists-others w s x i k v at key d (child ∷ []) j q ne g;
       stands = λ m q there g. record {
-        state = same_Some m state (sym there ∙ get-set_same s.machine.store.maps k here.state state here.there) ∙ next-state;
+        state = same_Some m state (sym there ∙ get-set_there s.machine.store.maps k here.state state here.there) ∙ next-state;
         lists = lists-left w s x i k v at key d (child ∷ []) names renames q g;
         free = slots-born x.slots k d.left v' slot rest key value d.elements d.slots_stand births-left first' d.absent;
         elements = elements-born x.slots k d.left v' slot rest key value d.elements d.slots_stand births-left first' d.absent;

@@ -14,7 +14,6 @@ use Rattle.bpf_model.specs.Machine.{with_store}
 use Rattle.bpf_model.specs.Event.{Answers, refusal}
 use Rattle.bpf_model.specs.Schedule.{Queues, Schedule, open_flags, still_open, retired, scheduled, TakesOldest, TakesFirst, DoesScheduled}
 use Rattle.model_laws.specs.Scheduled.{IsScheduled}
-use Rattle.model_laws.proofs.Lists.{get-below, get-set_cases, length-slice_set}
 use Rattle.model_laws.proofs.Scheduling.{stays_scheduled}
 use Rattle.bpf_model.specs.View.{MapView, WorldView}
 use Rattle.bpf_model.specs.Refines.{MapRefines, RefinesSchedule}
@@ -25,6 +24,7 @@ use Rattle.view_laws.proofs.Mapping.{elements-other}
 use Rattle.view_laws.proofs.Wording.{slot-kept}
 use Rattle.view_laws.proofs.Listing.{named-kept, between-same, still-same, more-none}
 use Rattle.model_laws.proofs.Counting.{option-cases}
+use Rattle.bpf_model.proofs.Lists.{get-below, get-set_cases, length-set}
 
 -- what stands at a map's number
 pub record Here (w : WorldView) (s : Schedule) (x : RefinesSchedule w s) (k : ℕ) (v : MapView) : Type 0 where
@@ -114,7 +114,7 @@ pub turned-world : (w : WorldView) (s : Schedule) (x : RefinesSchedule w s) (i :
 turned-world w s x i k v store queues awaited given t same given_is = record {
   slots = t.names;
   named = t.births;
-  maps = (length-slice_set w.maps k v ∙ (x.maps.0 ∙ sym t.maps), t.queued ∙ (x.maps.1 ∙ sym t.maps));
+  maps = (length-set w.maps k v ∙ (x.maps.0 ∙ sym t.maps), t.queued ∙ (x.maps.1 ∙ sym t.maps));
   map = λ j u m q at there listed. elim (get-set_cases w.maps k j v u at) [
     | inl y ↦ subst (λ z. MapRefines t.names j store.elements q z m) y.1 (subst (λ z. MapRefines t.names z store.elements q v m) (sym y.0) (t.stands m q (ap (slice_get store.maps) (sym y.0) ∙ there) (ap (slice_get queues) (sym y.0) ∙ listed)))
     | inr y ↦

@@ -47,7 +47,8 @@ delete_at None (Some v) w k key = (Ret (deleted v key).0, with_map k (deleted v 
 
 abbrev pub delete_reaction : WorldView → ℕ → List ℕ → Answer × WorldView
 delete_reaction w k key =
-    delete_at (key_refusal (shape_shown (slice_get w.maps k)) (length key)) (slice_get w.maps k) w k key
+    delete_at (key_refusal (shape_shown (slice_get w.maps k)) (length key))
+    (slice_get w.maps k) w k key
 
 -- Update: refused by the map or a length, else as the map updates.
 abbrev pub update_at : Option EventRefusal → Option MapView → WorldView → ℕ → List ℕ → List ℕ → ℕ →
@@ -59,7 +60,8 @@ update_at None (Some v) w k key value flags =
 
 abbrev pub update_reaction : WorldView → ℕ → List ℕ → List ℕ → ℕ → Answer × WorldView
 update_reaction w k key value flags =
-    update_at (update_refusal (shape_shown (slice_get w.maps k)) (length key) (length value)) (slice_get w.maps k) w k key value flags
+    update_at (update_refusal (shape_shown (slice_get w.maps k)) (length key) (length value))
+    (slice_get w.maps k) w k key value flags
 
 -- A read changes nothing.
 abbrev pub read_at : Option EventRefusal → Option MapView → WorldView → List ℕ → Answer × WorldView
@@ -195,7 +197,8 @@ start_by None (Some r) w prog context = (Started r, with_run r (Some (fresh_view
 
 abbrev pub start_reaction : WorldView → ℕ → List ℕ → Answer × WorldView
 start_reaction w prog context =
-    start_by (start_refusal (slice_get w.programs prog) (length context) (free_slot w.runs)) (free_slot w.runs) w prog context
+    start_by (start_refusal (slice_get w.programs prog) (length context) (free_slot w.runs))
+    (free_slot w.runs) w prog context
 
 -- A step or a drop is refused by what the run slot shows.
 abbrev pub run_shown : Option (Option RunView) → Option RunView

@@ -10,7 +10,7 @@ use Rattle.bpf_model.specs.declared.event.Given.TheVariants.{Free, Worn}
 use Rattle.bpf_model.specs.MapState.{given_of}
 use Rattle.bpf_model.specs.Helper.{update_error}
 use Rattle.bpf_model.specs.Schedule.{Queues, turned}
-use Rattle.bpf_model.specs.View.{SlotView, MapView, key_in, value_in, uses_at, map_state_of}
+use Rattle.bpf_model.specs.View.{MapView, key_in, value_in, uses_at, map_state_of}
 use Rattle.bpf_model.specs.Refines.{lists_of}
 
 abbrev pub with_lists : Queues → MapView → MapView

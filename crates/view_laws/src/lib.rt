@@ -61,7 +61,8 @@ pub fn advance_simulates()
 
 /// A reap: the first ready slot of the lowest map that has one is given back, or there is none.
 pub fn reap_simulates()
-    ensures { (w : WorldView) (s : Schedule) → Matches w s → Simulates s Event.Reap (reap_reaction w) }
+    ensures { (w : WorldView) (s : Schedule) → Matches w s
+        → Simulates s Event.Reap (reap_reaction w) }
 {}
 
 /// A start, refused or not.
@@ -78,15 +79,18 @@ pub fn drop_simulates()
 
 /// Each reaction is a step of the schedule: all events but the step of a run that goes on.
 pub fn reaction_simulates()
-    ensures { (w : WorldView) (s : Schedule) → Matches w s → (event : Event) (x : Answer × WorldView) →
+    ensures { (w : WorldView) (s : Schedule) → Matches w s
+        → (event : Event) (x : Answer × WorldView) →
         reaction w event ≡ Some x → Simulates s event x }
 {}
 
 /// No reaction changes a map's shape or the programs.
 pub fn reaction_keeps()
-    ensures shapes { (w : WorldView) (event : Event) (x : Answer × WorldView) → reaction w event ≡ Some x →
+    ensures shapes { (w : WorldView) (event : Event) (x : Answer × WorldView)
+        → reaction w event ≡ Some x →
         shapes_of x.1 ≡ shapes_of w }
-    ensures programs { (w : WorldView) (event : Event) (x : Answer × WorldView) → reaction w event ≡ Some x →
+    ensures programs { (w : WorldView) (event : Event) (x : Answer × WorldView)
+        → reaction w event ≡ Some x →
         x.1.programs ≡ w.programs }
 {}
 
@@ -153,7 +157,8 @@ pub fn update_half()
 
 /// An element that may be accessed stands in the slot that its birth took, and a reference to it is that slot's word.
 pub fn element_shown()
-    ensures slot { (w : WorldView) (s : Schedule) → (m : Matches w s) → (n : ℕ) (e : Element) (v : MapView) →
+    ensures slot { (w : WorldView) (s : Schedule) → (m : Matches w s)
+        → (n : ℕ) (e : Element) (v : MapView) →
         accessible s.machine.store.elements n ≡ Some e → slice_get w.maps e.map ≡ Some v →
         slice_get v.slots (slice_index m.refines.slots n) ≡ Some (slot_view e) }
     ensures word { (w : WorldView) (s : Schedule) → (m : Matches w s) → (n : ℕ) (e : Element) →
@@ -169,7 +174,10 @@ pub fn store_half()
         accessible s.machine.store.elements n ≡ Some e → slice_get w.maps e.map ≡ Some v →
         region_offset (length e.value) width offset ≡ Some at →
         StoresHalf
-        (with_map e.map (written v (slice_index m.refines.slots n) (with_bytes at width x (value_in (slice_get v.slots (slice_index m.refines.slots n))))) w)
+        (with_map e.map
+        (written v (slice_index m.refines.slots n)
+        (with_bytes at width x
+        (value_in (slice_get v.slots (slice_index m.refines.slots n))))) w)
         s n width offset x }
 {}
 

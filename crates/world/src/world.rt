@@ -24,7 +24,7 @@ pub struct World {
 
 impl Model for World {
     ghost use Rattle.bpf_model.specs.View.{WorldView};
-    ghost use Rattle.world_parts.specs.Codes.{world_code};
+    ghost use Rattle.bpf_model.specs.Codes.{world_code};
     ghost use Rattle.world_invariant.specs.Invariant.{IsWorld};
 
     ghost Value = { WorldView };

@@ -1,11 +1,10 @@
 -- Bytes of lists: those that a number was written to, those that a load reads, those of an argument.
 use Rattle.std.proofs.Common.{◌≡◌, ℕ, zero, suc, ◌+◌, ◌-◌, ◌*◌, ◌/◌, ◌%◌, ◌^◌, ◌<◌, ◌≤◌, refl, sym, ◌∙◌, ap, subst, arith, Bool, true, false, length, List, [], ◌∷◌, inl, inr, ◌≢◌}
-use Rattle.std.specs.Prelude.{Some, ◌&&◌, ◌==◌, nat_lt, if◌then◌else◌, slice_get, slice_index, slice_set, take, drop, unwrap_or, ℤ, pos}
-use Rattle.std.proofs.lemmas.Bool.{cases_lt, cases_eq, le-leb, lt-leb, eq-eqb, ne_eqb}
+use Rattle.std.specs.Prelude.{Some, ◌==◌, if◌then◌else◌, slice_get, slice_index, slice_set, take, drop, unwrap_or, ℤ, pos}
+use Rattle.std.proofs.lemmas.Bool.{cases_lt, cases_eq, eq-eqb, ne_eqb}
 use Rattle.std.proofs.lemmas.List.{get_or-set_same, get_or-set_other, length-set}
 use Rattle.std.proofs.lemmas.Option.{slice_get-get_or, same_Some}
 use Rattle.std.proofs.Math.Nat.{pow-suc, div-div-eq-div-mul}
-use borrow.Author.Tests.{lt-ltb, le-ltb}
 use Rattle.bpf_model.specs.declared.value.Cell.{Cell}
 use Rattle.bpf_model.specs.Access.{number_at}
 use Rattle.bpf_model.specs.Frame.{byte_of, is_within}
@@ -15,15 +14,7 @@ use Rattle.bpf_model.specs.Word.{ByteIs}
 use Rattle.world_laws.specs.Locating.{number_from}
 use Rattle.world_laws.proofs.Cells.{number_more, byte_known}
 use Rattle.model_laws.proofs.Lists.{first-step}
-
-within : (at w k : ℕ) → at ≤ k → k < at + w → is_within at w k ≡ true
-within at w k h l = ap (λ t. t && nat_lt k (at + w)) (le-leb at k h) ∙ lt-ltb k (at + w) l
-
-before : (at w k : ℕ) → k < at → is_within at w k ≡ false
-before at w k h = ap (λ t. t && nat_lt k (at + w)) (lt-leb at k h)
-
-behind : (at w k : ℕ) → at + w ≤ k → is_within at w k ≡ false
-behind at w k h = ap (λ t. t && nat_lt k (at + w)) (le-leb at k (omega arith)) ∙ le-ltb k (at + w) h
+use Rattle.bpf_model.proofs.Bytes.{before, behind, within}
 
 pub set_cond : (xs : List ℕ) (d x q : ℕ) → d < length xs → slice_index (slice_set xs d x) q ≡ (if q == d then x else slice_index xs q)
 set_cond xs d x q l = elim (cases_eq q d) [

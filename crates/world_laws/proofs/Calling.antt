@@ -6,6 +6,7 @@ use Rattle.std.proofs.lemmas.Int.{ints}
 use Rattle.std.proofs.lemmas.Bool.{leb-true}
 use Rattle.std.proofs.lemmas.List.{length-set}
 use Rattle.std.proofs.lemmas.Option.{none-some, same_Some, slice_get_within}
+use Rattle.bpf_model.specs.declared.limits.TheConstants.{FRAME_BYTES}
 use Rattle.bpf_model.specs.declared.call.Helper.{Helper}
 use Rattle.bpf_model.specs.declared.call.Helper.TheVariants.{Lookup, Update, Delete}
 use Rattle.bpf_model.specs.declared.call.KernelFunction.{KernelFunction}
@@ -28,7 +29,7 @@ use Rattle.bpf_model.specs.Schedule.{Schedule}
 use Rattle.bpf_model.specs.Value.{◌>>=◌, reference}
 use Rattle.bpf_model.specs.View.{MapView, RunView, WorldView}
 use Rattle.bpf_model.specs.Word.{WordIs, element_bases, map_in, slot_base, map_base, frame_base}
-use Rattle.model_laws.proofs.Lists.{get-below, first-step}
+use Rattle.model_laws.proofs.Lists.{first-step}
 use Rattle.view_laws.specs.Matching.{Matches}
 use Rattle.view_laws.specs.Reactions.{with_map}
 use Rattle.view_laws.specs.Views.{deleted, updated}
@@ -44,6 +45,7 @@ use Rattle.world_laws.proofs.Words.{number_word}
 use Rattle.world_laws.proofs.Bytes.{set_cond, argument-bytes}
 use Rattle.world_laws.proofs.Ready.{bases, refines, register-word, byte-stands, moves-to, move-refines, half-refines}
 use Rattle.world_laws.proofs.Own.{Known, Does}
+use Rattle.bpf_model.proofs.Lists.{get-below}
 
 word-returned : (bases : ℕ → ℕ) (a b : Bool) (x y : ℕ) (u v : Value) → WordIs bases u x → WordIs bases v y → WordIs bases (if a then u else if b then Nothing else v) (if a then x else y)
 word-returned bases true b x y u v p q = p
@@ -89,13 +91,13 @@ module _ (w : WorldView) (s : Schedule) (m : Matches w s) (sound : IsSound w s) 
   bytes-from (Pointer (Elem n o)) x len bytes word e = absurd (none-some bytes e)
   bytes-from (Pointer (Frame (negsuc n))) x len bytes word e = absurd (none-some bytes e)
   bytes-from (Pointer (Frame (pos at))) x len bytes word e =
-      let f = inside (nat_le (at + len) 512) refl e in
-      let long : length v.frame ≡ 512 = (refines w s m sound r run v k).cells in
+      let f = inside (nat_le (at + len) FRAME_BYTES) refl e in
+      let long : length v.frame ≡ FRAME_BYTES = (refines w s m sound r run v k).cells in
       let is : x - frame_base ≡ at = omega (arith, ints, word) in
       ap (λ at. take len (drop at v.frame)) is ∙ argument-bytes b run.state.frame v.frame (byte-stands w s m sound r run v k) len at bytes (omega (arith, f.0, long)) f.1
     where
-      inside : (t : Bool) → nat_le (at + len) 512 ≡ t → (if t then bytes_at run.state.frame at len else None) ≡ Some bytes → (at + len ≤ 512) × (bytes_at run.state.frame at len ≡ Some bytes)
-      inside true is h = (leb-true (at + len) 512 is, h)
+      inside : (t : Bool) → nat_le (at + len) FRAME_BYTES ≡ t → (if t then bytes_at run.state.frame at len else None) ≡ Some bytes → (at + len ≤ FRAME_BYTES) × (bytes_at run.state.frame at len ≡ Some bytes)
+      inside true is h = (leb-true (at + len) FRAME_BYTES is, h)
       inside false is h = absurd (none-some bytes h)
 
   -- What a helper is called with.

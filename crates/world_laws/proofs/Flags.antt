@@ -8,11 +8,11 @@ use Rattle.bpf_model.specs.Schedule.{Schedule, is_open, still_open}
 use Rattle.bpf_model.specs.View.{RunView, WorldView}
 use Rattle.view_laws.specs.Matching.{Matches}
 use Rattle.view_laws.specs.Reactions.{with_run}
-use Rattle.view_laws.proofs.Updating.{set-same}
 use Rattle.view_laws.proofs.Worlds.{awaited-same}
 use Rattle.world_laws.specs.Typed.{IsSound, IsRunning}
 use Rattle.world_laws.proofs.Ready.{refines}
 use Rattle.model_laws.proofs.Queueing.{in-slot}
+use Rattle.bpf_model.proofs.Lists.{set-same}
 
 module _ (w : WorldView) (s : Schedule) (m : Matches w s) (sound : IsSound w s) (r : ℕ) (run : Run) (v new : RunView) (k : IsRunning w s r run v) (same : new.depth ≡ v.depth) where
   flag : slice_get w.opened r ≡ Some (nat_lt 0 new.depth)

@@ -17,11 +17,11 @@ use Rattle.bpf_model.specs.Access.{byte_count}
 use Rattle.bpf_model.specs.Call.{helper_of, kernel_function_of}
 use Rattle.bpf_model.specs.Machine.{Loaded}
 use Rattle.bpf_model.specs.Step.{insn_at}
-use Rattle.bpf_model.specs.View.{MapView, RunView, WorldView, shapes_of}
+use Rattle.bpf_model.specs.View.{MapView, RunView, WorldView}
 use Rattle.model_laws.specs.Locations.{Location, InContext, InFrame, AtMap, InSlot}
 use Rattle.view_laws.specs.Views.{shown_error}
-use Rattle.view_laws.specs.Reactions.{with_map, run_shown, reaction}
-use Rattle.view_laws.proofs.Reacting.{reaction_keeps, retired-shape, updated-shape, set-shapes}
+use Rattle.view_laws.specs.Reactions.{run_shown, reaction}
+use Rattle.view_laws.proofs.Reacting.{Keeps, reaction_keeps, retired-shape, updated-shape, map-keeps}
 use Rattle.world_laws.specs.Locating.{location_of}
 use Rattle.world_laws.specs.Moving.{word_in, operand_word, stored_slot, stored_at}
 use Rattle.world_laws.specs.Calling.{bytes_in, bound_number, serves, helped_on, helped, entered}
@@ -30,15 +30,9 @@ use Rattle.world_laws.specs.Reacting.{insn_step, step_at, step_in, run_step_of, 
 abbrev shape : MapView → MapShape
 shape v = v.shape
 
-abbrev pub Keeps : WorldView → WorldView → Type 0
-Keeps w new = (shapes_of new ≡ shapes_of w) × (new.programs ≡ w.programs)
-
 module _ (w : WorldView) where
-  map-keeps : (k : ℕ) (v new : MapView) → slice_get w.maps k ≡ Some v → new.shape ≡ v.shape → Keeps w (with_map k new w)
-  map-keeps k v new at same = (set-shapes w.maps k v new at same, refl)
-
   slot-keeps : (width x : ℕ) (z : ℤ) (k slot : ℕ) (o : Option MapView) → slice_get w.maps k ≡ o → Keeps w (stored_slot width x z k o slot w)
-  slot-keeps width x (pos at) k slot (Some v) e = map-keeps k v _ e refl
+  slot-keeps width x (pos at) k slot (Some v) e = map-keeps w k v _ e refl
   slot-keeps width x (pos at) k slot None e = (refl, refl)
   slot-keeps width x (negsuc n) k slot o e = (refl, refl)
 
@@ -52,8 +46,8 @@ module _ (w : WorldView) where
   serves-keeps Lookup k r v (Some m) e = (refl, refl)
   serves-keeps Update k r v (Some m) e =
       let key = bytes_in v 2 m.shape.key_len in
-      map-keeps k m _ e (updated-shape (shown_error m key (word_in v 4)) m key (bytes_in v 3 m.shape.value_len))
-  serves-keeps Delete k r v (Some m) e = let key = bytes_in v 2 m.shape.key_len in map-keeps k m _ e (retired-shape m key (get m.index key))
+      map-keeps w k m _ e (updated-shape (shown_error m key (word_in v 4)) m key (bytes_in v 3 m.shape.value_len))
+  serves-keeps Delete k r v (Some m) e = let key = bytes_in v 2 m.shape.key_len in map-keeps w k m _ e (retired-shape m key (get m.index key))
   serves-keeps helper k r v None e = (refl, refl)
 
   helped_on-keeps : (helper : Helper) (o : Option ℕ) (r : ℕ) (v : RunView) → Keeps w (helped_on helper o r v w).1

@@ -2,6 +2,7 @@
 use Rattle.std.proofs.Common.{◌≡◌, ℕ, ◌+◌, ◌≤◌, refl, sym, ap, subst, ◌∙◌, arith, Some, None, List, length, inr, Bool, true, false}
 use Rattle.std.specs.Prelude.{slice_get, slice_index, ℤ, pos, ◌+ℤ◌, if◌then◌else◌}
 use Rattle.std.proofs.lemmas.Option.{none-some, same_Some}
+use Rattle.bpf_model.specs.declared.limits.TheConstants.{FRAME_BYTES}
 use Rattle.bpf_model.specs.declared.insn.Insn.TheVariants.{Load, LoadSigned}
 use Rattle.bpf_model.specs.declared.opcode.Width.{Width}
 use Rattle.bpf_model.specs.declared.opcode.SignedWidth.{SignedWidth}
@@ -65,10 +66,10 @@ module _ (w : WorldView) (s : Schedule) (m : Matches w s) (sound : IsSound w s) 
       (located width x offset (InContext o) (context-location x o n word)
       ∙ number-read v.context width f.0 g.0 (o +ℤ offset) p.0 (ap (λ (c : List ℕ). number_at (slice_get c) f.0 width) h.context ∙ g.1))
   load-word width x offset (Pointer (Frame o)) u word n e =
-      let f = first-step (region_offset 512 width (o +ℤ offset)) (λ at. read run.state.frame at width) u e in
-      let p = offset_some 512 width (o +ℤ offset) f.0 f.1 in
+      let f = first-step (region_offset FRAME_BYTES width (o +ℤ offset)) (λ at. read run.state.frame at width) u e in
+      let p = offset_some FRAME_BYTES width (o +ℤ offset) f.0 f.1 in
       let h = refines w s m sound r run v k in
-      let cells : length v.frame ≡ 512 = h.cells in
+      let cells : length v.frame ≡ FRAME_BYTES = h.cells in
       let inside : f.0 + width ≤ length v.frame = omega (arith, p.1, cells) in
       let g = number-there v.frame width f.0 inside in
       subst (WordIs (bases w s m sound r run v k) u)

@@ -5,6 +5,7 @@ use Rattle.std.specs.FinMap.{get}
 use Rattle.std.proofs.lemmas.Int.{ints}
 use Rattle.std.proofs.lemmas.Bool.{cases_eq, eq-eqb, leb-true}
 use Rattle.std.proofs.lemmas.Option.{none-some, same_Some}
+use Rattle.bpf_model.specs.declared.limits.TheConstants.{FRAME_BYTES}
 use Rattle.bpf_model.specs.declared.call.Helper.{Helper}
 use Rattle.bpf_model.specs.declared.call.Helper.TheVariants.{Lookup, Update, Delete}
 use Rattle.bpf_model.specs.declared.call.KernelFunction.{KernelFunction}
@@ -129,8 +130,8 @@ module _ (w : WorldView) (s : Schedule) (m : Matches w s) (sound : IsSound w s) 
       let f = first-step (region_offset (length run.context) width (o +ℤ offset)) (λ at. number_at (slice_get run.context) at width >>= λ n. Some (Number n)) u e in
       subst (Reaches w v width offset) (sym (context-location x o n word)) (subst (λ (c : List ℕ). IsInside (length c) width (o +ℤ offset)) (sym (refines w s m sound r run v k).context) (inside-of (length run.context) width f.0 (o +ℤ offset) f.1))
   load-reaches width x offset (Pointer (Frame o)) u word n e =
-      let f = first-step (region_offset 512 width (o +ℤ offset)) (λ at. read run.state.frame at width) u e in
-      subst (Reaches w v width offset) (sym (frame-location x o n word)) (inside-of 512 width f.0 (o +ℤ offset) f.1)
+      let f = first-step (region_offset FRAME_BYTES width (o +ℤ offset)) (λ at. read run.state.frame at width) u e in
+      subst (Reaches w v width offset) (sym (frame-location x o n word)) (inside-of FRAME_BYTES width f.0 (o +ℤ offset) f.1)
 
   element-reaches : (width x n : ℕ) (offset : ℤ) (base : Value) → WordIs (bases w s m sound r run v k) base x → IsNear base → element_load s.machine.store.elements width offset base ≡ Some n → Reaches w v width offset (location_of x)
   element-reaches width x n offset Nothing word close e = absurd (none-some n e)
@@ -202,10 +203,10 @@ module _ (w : WorldView) (s : Schedule) (m : Matches w s) (sound : IsSound w s) 
   in-frame (Pointer (MapRef i)) x len bytes word e = absurd (none-some bytes e)
   in-frame (Pointer (Elem n o)) x len bytes word e = absurd (none-some bytes e)
   in-frame (Pointer (Frame (negsuc n))) x len bytes word e = absurd (none-some bytes e)
-  in-frame (Pointer (Frame (pos at))) x len bytes word e = inside (nat_le (at + len) 512) refl e
+  in-frame (Pointer (Frame (pos at))) x len bytes word e = inside (nat_le (at + len) FRAME_BYTES) refl e
     where
-      inside : (t : Bool) → nat_le (at + len) 512 ≡ t → (if t then bytes_at run.state.frame at len else None) ≡ Some bytes → IsInFrame x len
-      inside true is h = let l : at + len ≤ 512 = leb-true (at + len) 512 is in record { least = omega (arith, ints, word); inside = omega (arith, ints, word, l) }
+      inside : (t : Bool) → nat_le (at + len) FRAME_BYTES ≡ t → (if t then bytes_at run.state.frame at len else None) ≡ Some bytes → IsInFrame x len
+      inside true is h = let l : at + len ≤ FRAME_BYTES = leb-true (at + len) FRAME_BYTES is in record { least = omega (arith, ints, word); inside = omega (arith, ints, word, l) }
       inside false is h = absurd (none-some bytes h)
 
   abbrev is-called : (map : ℕ) (key : List ℕ) → CalledWith w s m sound r run v k map key → IsCalled w run.program v

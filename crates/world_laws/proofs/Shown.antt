@@ -14,8 +14,8 @@ use Rattle.typed_runs.specs.Describes.{Scene, IsHeld}
 use Rattle.typed_runs.specs.Well.{IsWell}
 use Rattle.view_laws.proofs.Worlds.{here}
 use Rattle.world_laws.specs.Locating.{most_slots}
-use Rattle.model_laws.proofs.Lists.{get-below}
 use Rattle.typed_runs.proofs.Elements.{unreclaimed}
+use Rattle.bpf_model.proofs.Lists.{get-below}
 
 -- An element that is kept stands in a slot of its map, and its first byte has that slot's word.
 pub record Shown (w : WorldView) (s : Schedule) (x : RefinesSchedule w s) (n : ℕ) (e : Element) : Type 0 where

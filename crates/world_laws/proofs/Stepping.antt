@@ -85,7 +85,7 @@ slot-shown : (o : Option (Option RunView)) (v : RunView) → run_shown o ≡ Som
 slot-shown None v e = absurd (none-some v e)
 slot-shown (Some o) v e = ap Some e
 
-run-behind : (slots : List ℕ) (es : List Element) (programs : List Loaded) (v : RunView) (o : Option (Option Run)) → SlotRefines slots es programs (Some (Some v)) o → v.exit ≡ None → (run : Run) × (run_in o ≡ Some run) × (run.exit ≡ None)
+pub run-behind : (slots : List ℕ) (es : List Element) (programs : List Loaded) (v : RunView) (o : Option (Option Run)) → SlotRefines slots es programs (Some (Some v)) o → v.exit ≡ None → (run : Run) × (run_in o ≡ Some run) × (run.exit ≡ None)
 run-behind slots es programs v None h e = absurd h
 run-behind slots es programs v (Some None) h e = absurd h
 run-behind slots es programs v (Some (Some run)) h e = (run, refl, sym h.exit ∙ e)

@@ -40,7 +40,8 @@ insn_step Exit program r v w = ends_with r v (word_in v 0) w
 insn_step (Load width dst src offset) program r v w =
     moves_on r (with_word 1 dst (loaded_word w v (byte_count width) offset (word_in v src)) v) w
 insn_step (LoadSigned width dst src offset) program r v w =
-    moves_on r (with_word 1 dst (loaded_signed width (loaded_word w v (byte_count (unsigned_width width)) offset (word_in v src))) v) w
+    moves_on r (with_word 1 dst (loaded_signed width
+    (loaded_word w v (byte_count (unsigned_width width)) offset (word_in v src))) v) w
 insn_step (Store width dst offset src) program r v w =
     stored_word (byte_count width) offset (word_in v dst) (operand_word v src) r v w
 

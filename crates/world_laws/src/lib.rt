@@ -85,7 +85,8 @@ pub fn access_simulates()
         (r : ℕ) (run later : Run) (v : RunView) → IsRunning w s r run v →
         (i : Insn) (out : Outcome) (es : List Element) (answer : Answer) →
         insn_at run.program.code run.state.place ≡ Some i →
-        AccessesElement i s.machine.store.elements run.state out es → OutcomeStep out run answer later →
+        AccessesElement i s.machine.store.elements run.state out es →
+        OutcomeStep out run answer later →
         Simulates s (Event.Step r) (insn_step i run.program r v w) }
 {}
 
@@ -149,18 +150,21 @@ pub fn simulates()
 pub fn full_reaction_keeps()
     ensures shapes { (w : WorldView) (event : Event) →
         shapes_of (full_reaction w event).1 ≡ shapes_of w }
-    ensures programs { (w : WorldView) (event : Event) → (full_reaction w event).1.programs ≡ w.programs }
+    ensures programs { (w : WorldView) (event : Event) →
+        (full_reaction w event).1.programs ≡ w.programs }
 {}
 
 /// At the start a world is ready, with verified programs of their types and not too many maps.
 pub fn starts_ready()
     ensures { (shapes : List MapShape) (programs : List Loaded) → length shapes ≤ MAX_MAPS →
-        AreVerified shapes programs → AreTypedPrograms programs → IsReadyWorld (start_view shapes programs) }
+        AreVerified shapes programs → AreTypedPrograms programs
+        → IsReadyWorld (start_view shapes programs) }
 {}
 
 /// It stays ready.
 pub fn stays_ready()
-    ensures { (w : WorldView) (event : Event) → IsReadyWorld w → IsReadyWorld (full_reaction w event).1 }
+    ensures { (w : WorldView) (event : Event) → IsReadyWorld w
+        → IsReadyWorld (full_reaction w event).1 }
 {}
 
 /// Its counts stay bounded.
@@ -172,7 +176,8 @@ pub fn stays_bounded()
 /// The clauses of a world for one event, of the reaction.
 pub fn one_reaction()
     ensures schedule { (w : WorldView) (event : Event) → IsReadyWorld w → IsReal event →
-        AnswersAsScheduled TracksSchedule w event (full_reaction w event).0 (full_reaction w event).1 }
+        AnswersAsScheduled TracksSchedule w event (full_reaction w event).0
+        (full_reaction w event).1 }
     ensures machine { (w : WorldView) (event : Event) → IsReadyWorld w → IsReal event →
         AnswersAsMachine Tracks w event (full_reaction w event).0 (full_reaction w event).1 }
     ensures never_stuck { (w : WorldView) (event : Event) → IsReadyWorld w → IsReal event →
@@ -186,7 +191,8 @@ pub fn one_reaction()
 /// The clauses of a world for a list of events, of the reactions one after another.
 pub fn all_reactions()
     ensures schedule { (w : WorldView) (events : List Event) → IsReadyWorld w → AreReal events →
-        AreScheduledAnswers TracksSchedule w events (full_reactions w events).0 (full_reactions w events).1 }
+        AreScheduledAnswers TracksSchedule w events (full_reactions w events).0
+        (full_reactions w events).1 }
     ensures machine { (w : WorldView) (events : List Event) → IsReadyWorld w → AreReal events →
         AreMachineAnswers Tracks w events (full_reactions w events).0 (full_reactions w events).1 }
     ensures never_stuck { (w : WorldView) (events : List Event) → IsReadyWorld w → AreReal events →

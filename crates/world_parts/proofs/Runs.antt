@@ -9,8 +9,7 @@ use Rattle.bpf_model.specs.Event.{start_refusal, if_full}
 use Rattle.bpf_model.specs.Schedule.{still_open}
 use Rattle.bpf_model.specs.Machine as machine
 use Rattle.bpf_model.specs.View.{MapView, RunView, WorldView}
-use Rattle.element_arena.proofs.Counts.{set-same, length-set}
-use Rattle.element_arena.proofs.Views.{map-set, map-set_same}
+use Rattle.element_arena.proofs.Views.{map-set_same}
 use Rattle.grace_period.specs.State.{GraceState, IsGrace}
 use Rattle.view_laws.specs.Reactions.{with_run, fresh_view, start_by, start_reaction, free_slot}
 use Rattle.machine.specs.RunWords.{RunWords, IsAt}
@@ -19,6 +18,7 @@ use Rattle.world_parts.specs.Programs.{program_of}
 use Rattle.world_parts.specs.Keeping.{view_of, is_inside, IsOfProgram, IsKept, world_of}
 use Rattle.world_parts.proofs.Flags.{still-all, still-cleared}
 use Rattle.world_parts.proofs.Slots.{Runs, written}
+use Rattle.bpf_model.proofs.Lists.{length-set, map-set, set-same}
 
 same_world : (maps : List MapView) (programs : List machine.Loaded) (given : ℕ) (rs qs : List (Option RunView)) (os ps cs bs : List Bool) → rs ≡ qs → os ≡ ps → cs ≡ bs →
     let a : WorldView = record { maps = maps; runs = rs; opened = os; awaited = cs; programs = programs; given = given } in

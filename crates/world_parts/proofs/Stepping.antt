@@ -13,12 +13,9 @@ use Rattle.bpf_model.specs.Machine as machine
 use Rattle.bpf_model.specs.Schedule.{Schedule, still_open}
 use Rattle.bpf_model.specs.Step.{insn_at}
 use Rattle.bpf_model.specs.View.{MapView, RunView, WorldView}
-use Rattle.element_arena.proofs.Counts.{length-set}
-use Rattle.element_arena.proofs.Views.{map-set}
 use Rattle.grace_period.specs.State.{GraceState}
 use Rattle.view_laws.specs.Matching.{Matches}
 use Rattle.view_laws.specs.Reactions.{run_shown, step_refused, step_by, refused_as}
-use Rattle.view_laws.proofs.Updating.{set-same}
 use Rattle.world_laws.specs.Local.{local_of}
 use Rattle.world_laws.specs.Reacting.{step_at, step_in, run_step_of, word_step, or_step, full_reaction}
 use Rattle.world_laws.specs.Typed.{IsSound}
@@ -36,6 +33,7 @@ use Rattle.world_parts.specs.Programs.{program_of}
 use Rattle.world_parts.specs.Keeping.{view_of, is_inside, IsOfProgram, IsKept, world_of}
 use Rattle.world_parts.specs.Stepping.{CanTake, HasTaken, IsGoing, HasGone}
 use Rattle.world_parts.proofs.Slots.{written}
+use Rattle.bpf_model.proofs.Lists.{length-set, map-set, set-same}
 
 module _ (loaded : Loaded) (maps : List MapView) (g : GraceState) (r : ℕ) (old : RunWords) (can : CanTake loaded maps g r old) where
   abbrev v : RunView

@@ -27,7 +27,7 @@ pub struct Parts {
 
 impl Model for Parts {
     ghost use Rattle.bpf_model.specs.View.{WorldView};
-    ghost use Rattle.world_parts.specs.Codes.{world_code};
+    ghost use Rattle.bpf_model.specs.Codes.{world_code};
 
     ghost Value = { WorldView };
 

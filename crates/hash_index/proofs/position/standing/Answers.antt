@@ -1,8 +1,7 @@
 use Rattle.std.proofs.Common.{◌≡◌, ◌∙◌, ◌<◌, length, arith, ap, sym}
 use Rattle.std.specs.Prelude.{slice_index_or}
-use Rattle.std.proofs.lemmas.Option.{slice_get-get_or, same_Some}
+use Rattle.std.proofs.lemmas.Option.{slice_get-get_or, same_Some, slice_get_within}
 use Rattle.element_arena.specs.State.{key_at}
-use Rattle.element_arena.proofs.Counts.{get_inside}
 use Rattle.element_arena.proofs.Indexing.{same_key-true, same_key-false}
 use Rattle.hash_index.specs.Held.{held_at}
 use Rattle.hash_index.proofs.position.standing.Goals as goal
@@ -23,6 +22,6 @@ returns-clause-none c s at e = elim c.else-at-slots.branch [
       let same : slice_index_or c.args.slots.now c.args.at 0 ≡ s = same_Some _ s (sym (slice_get-get_or c.args.slots.now c.args.at 0 w.if-at-slots.true) ∙ at) in
       same_key-false _ _ (sym w.has_key.ensures ∙ w.if-has_key.false) (sym (ap (key_at c.args.arena.now.slots) same ∙ e))
   | else-at-slots-via-else-at-slots w ↦
-      let in_ : c.args.at < length c.args.slots.now = get_inside c.args.slots.now c.args.at s at in
+      let in_ : c.args.at < length c.args.slots.now = slice_get_within c.args.slots.now c.args.at s at in
       omega (arith, w.if-at-slots.false)
 ]

@@ -3,9 +3,9 @@ use Rattle.std.proofs.lemmas.Option.{slice_get_read}
 use Rattle.element_arena.specs.State.{IsTaken, link_at, link_in, ArenaState}
 use Rattle.element_arena.specs.Kept.{link_view, shown_link}
 use Rattle.element_arena.proofs.Keeps.{taken_at, taken_cell}
-use Rattle.element_arena.proofs.Views.{get-map}
 use Rattle.element_arena.proofs.Slots.{held_from}
 use Rattle.element_arena.proofs.arena.Arena.next_of.Goals as goal
+use Rattle.bpf_model.proofs.Lists.{get-map}
 
 pub returns : goal.returns
 returns c =

@@ -3,13 +3,13 @@ use Rattle.std.specs.Prelude.{slice_set}
 use Rattle.std.proofs.lemmas.Option.{slice_get_read}
 use Rattle.bpf_model.specs.View.{SlotView}
 use Rattle.element_arena.specs.State.{IsTaken, with_link, link_in, ArenaState}
-use Rattle.element_arena.proofs.Counts.{get-set_same, length-set}
 use Rattle.element_arena.specs.declared.cell.Cell.{Cell}
 use Rattle.element_arena.specs.Kept.{free_of, state_with, slots_shown, link_view, shown_link}
 use Rattle.element_arena.proofs.Keeps.{kept_from, relink, taken_at}
-use Rattle.element_arena.proofs.Views.{set_link_view, get-map}
+use Rattle.element_arena.proofs.Views.{set_link_view}
 use Rattle.element_arena.proofs.Slots.{held_from, state-is, shown-same, laid-out}
 use Rattle.element_arena.proofs.arena.Arena.set_next.Goals as goal
+use Rattle.bpf_model.proofs.Lists.{get-map, get-set_same, length-set}
 
 pub index_mut-cell-requires : goal.index_mut-cell-requires
 index_mut-cell-requires c =

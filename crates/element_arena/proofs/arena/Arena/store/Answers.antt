@@ -5,8 +5,9 @@ use Rattle.element_arena.specs.State.{with_value}
 use Rattle.element_arena.specs.Blocks.{block}
 use Rattle.element_arena.specs.Kept.{arena_state_of}
 use Rattle.element_arena.proofs.BlockLaws.{room}
-use Rattle.element_arena.proofs.Slots.{inside_from, block-full, value_is, state-stored, length-with_bytes}
+use Rattle.element_arena.proofs.Slots.{inside_from, block-full, value_is, state-stored}
 use Rattle.element_arena.proofs.arena.Arena.store.Goals as goal
+use Rattle.bpf_model.proofs.Bytes.{length-with_bytes}
 
 pub write_inside-requires-clause-room : goal.write_inside-requires-clause-room
 write_inside-requires-clause-room c =

@@ -3,9 +3,10 @@ use Rattle.std.specs.Prelude.{slice_index}
 use Rattle.std.proofs.lemmas.Option.{slice_get_read}
 use Rattle.element_arena.specs.State.{ArenaState}
 use Rattle.element_arena.specs.declared.cell.Cell.{Cell}
-use Rattle.element_arena.proofs.Views.{get-map, index-get}
+use Rattle.element_arena.proofs.Views.{index-get}
 use Rattle.element_arena.proofs.Slots.{inside_from}
 use Rattle.element_arena.proofs.arena.Arena.tag.Goals as goal
+use Rattle.bpf_model.proofs.Lists.{get-map}
 
 pub index-requires : goal.index-requires
 index-requires c =

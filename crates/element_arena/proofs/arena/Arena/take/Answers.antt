@@ -7,11 +7,11 @@ use Rattle.element_arena.specs.declared.cell.Cell.{Cell}
 use Rattle.element_arena.specs.declared.cell.Standing.TheVariants.{Free, Taken}
 use Rattle.element_arena.specs.Kept.{IsThreaded, free_of, state_with, slots_shown, free_count}
 use Rattle.element_arena.proofs.BlockLaws.{length-with_block}
-use Rattle.element_arena.proofs.Counts.{length-set}
 use Rattle.element_arena.proofs.Keeps.{kept_from, free-is, first_free, took}
 use Rattle.element_arena.proofs.Slots.{state-is, shown-taken, inside-bytes, laid-out}
 use Rattle.element_arena.proofs.Views.{take_view}
 use Rattle.element_arena.proofs.arena.Arena.take.Goals as goal
+use Rattle.bpf_model.proofs.Lists.{length-set}
 
 pub index-old-requires : goal.index-old-requires
 index-old-requires c =

@@ -3,7 +3,8 @@ use Rattle.std.specs.FinMap as map
 use Rattle.bpf_model.specs.Schedule.{Queues}
 use Rattle.bpf_model.specs.View.{unused_slot}
 use Rattle.element_arena.specs.State.{ArenaState}
-use Rattle.maps.specs.Parted.{KeyMap, PartsView, IsParted}
+use Rattle.maps.specs.Parted.{PartsView, IsParted}
+use Rattle.bpf_model.specs.Codes.{KeyMap}
 use Rattle.maps.proofs.Fresh.{parted-fresh, length-replicate}
 use Rattle.maps.proofs.parts.Parts.new.Goals as goal
 
