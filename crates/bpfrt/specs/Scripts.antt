@@ -1,16 +1,17 @@
 -- What `script` writes, of which input.
 use Rattle.std.specs.Prelude.{◌≡◌, ℕ, List, ◌++◌, Option}
 use Rattle.std.specs.Io.KnownBytes.{Appends}
-use Rattle.control.specs.declared.session.Session.{Session}
-use Rattle.control.specs.Sessions.{LineAnswers, IsNoCommand, new_session}
+use Rattle.control.specs.Histories.{History, Continues, new_history}
+use Rattle.control.specs.Sessions.{IsNoCommand}
 use Rattle.script_stream.specs.Answered.{Answered, AnsweredBefore}
 use Rattle.script_stream.specs.Lines.{lines_of}
 
--- It adds the answers to all lines of the input, one after another.
+-- It adds the answers to all lines of the input, one after another. Their events are one run of the
+-- machine.
 pub record AnswersAll (old new : Option (List ℕ)) (bytes : List ℕ) : Type 0 where
   pub text : List ℕ
-  pub last : Session
-  pub answered : Answered LineAnswers new_session (lines_of bytes) text last
+  pub last : History
+  pub answered : Answered Continues new_history (lines_of bytes) text last
   pub written : Appends old new text
 
 -- A line of the input is too long or no command. It adds the answers to the lines before, and
@@ -21,5 +22,5 @@ pub record AnswersBefore (old new : Option (List ℕ)) (bytes : List ℕ) : Type
   pub bytes_are : bytes ≡ read ++ rest
   pub line : ℕ
   pub text : List ℕ
-  pub answered : AnsweredBefore LineAnswers IsNoCommand new_session read line text
+  pub answered : AnsweredBefore Continues IsNoCommand new_history read line text
   pub written : Appends old new text

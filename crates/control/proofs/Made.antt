@@ -1,6 +1,7 @@
 -- Replies while maps and programs are being made.
 use Rattle.std.proofs.Common.{◌≡◌, ◌∙◌, ℕ, List, [], ◌∷◌, ◌++◌, sym, ap, subst, refl, append-nil}
 use Rattle.std.specs.List.{flat_map}
+use Rattle.bpf_model.specs.declared.event.Event.{Event}
 use Rattle.script_lines.specs.Answers.{reply_text}
 use Rattle.script_lines.specs.declared.command.Command.{Command}
 use Rattle.script_lines.specs.declared.command.Command.TheVariants as commands
@@ -9,38 +10,41 @@ use Rattle.script_setup.specs.Loading.{MapReplies, LoadReplies, shape_of_numbers
 use Rattle.script_setup.specs.Setups.{SetupView}
 use Rattle.script_world.specs.declared.live.Live.{Live}
 use Rattle.script_world.specs.Lives.{LiveReplies}
-use Rattle.control.specs.Sessions.{SetupReplies, sealed}
+use Rattle.control.specs.Sessions.{SetupReplies, Starts, sealed}
 use Rattle.control.specs.declared.session.Session.TheVariants as sessions
 
 -- one reply, and its text
 once : (before after : List ℕ) (reply : Reply) → after ≡ before ++ reply_text reply → after ≡ before ++ flat_map reply_text (reply ∷ [])
 once before after reply text = text ∙ ap (λ (xs : List ℕ). before ++ xs) (sym (append-nil (reply_text reply)))
 
-pub map_made : (old : SetupView) (command : Command) (name : List ℕ) (key_len value_len entries spare limit : ℕ) (reply : Reply) (made : SetupView) (before after : List ℕ) → command ≡ commands.Map name key_len value_len entries spare limit → MapReplies old name (shape_of_numbers key_len value_len entries spare limit) reply made → after ≡ before ++ reply_text reply → (replies : List Reply) × SetupReplies old command replies (sessions.Setup made) × (after ≡ before ++ flat_map reply_text replies)
+pub map_made : (old : SetupView) (command : Command) (name : List ℕ) (key_len value_len entries spare limit : ℕ) (reply : Reply) (made : SetupView) (before after : List ℕ) → command ≡ commands.Map name key_len value_len entries spare limit → MapReplies old name (shape_of_numbers key_len value_len entries spare limit) reply made → after ≡ before ++ reply_text reply → (events : List Event) × (replies : List Reply) × SetupReplies old command events replies (sessions.Setup made) × (after ≡ before ++ flat_map reply_text replies)
 map_made old command name key_len value_len entries spare limit reply made before after is r text = (
+  [],
   reply ∷ [],
-  subst (λ (c : Command). SetupReplies old c (reply ∷ []) (sessions.Setup made)) (sym is) (reply, made, r, refl, refl),
+  subst (λ (c : Command). SetupReplies old c [] (reply ∷ []) (sessions.Setup made)) (sym is) (reply, made, r, refl, refl, refl),
   once before after reply text,
 )
 
-pub load_made : (old : SetupView) (command : Command) (ctx_len : ℕ) (code : List ℕ) (names : List (List ℕ)) (reply : Reply) (made : SetupView) (before after : List ℕ) → command ≡ commands.Load ctx_len code names → LoadReplies old ctx_len code names reply made → after ≡ before ++ reply_text reply → (replies : List Reply) × SetupReplies old command replies (sessions.Setup made) × (after ≡ before ++ flat_map reply_text replies)
+pub load_made : (old : SetupView) (command : Command) (ctx_len : ℕ) (code : List ℕ) (names : List (List ℕ)) (reply : Reply) (made : SetupView) (before after : List ℕ) → command ≡ commands.Load ctx_len code names → LoadReplies old ctx_len code names reply made → after ≡ before ++ reply_text reply → (events : List Event) × (replies : List Reply) × SetupReplies old command events replies (sessions.Setup made) × (after ≡ before ++ flat_map reply_text replies)
 load_made old command ctx_len code names reply made before after is r text = (
+  [],
   reply ∷ [],
-  subst (λ (c : Command). SetupReplies old c (reply ∷ []) (sessions.Setup made)) (sym is) (reply, made, r, refl, refl),
+  subst (λ (c : Command). SetupReplies old c [] (reply ∷ []) (sessions.Setup made)) (sym is) (reply, made, r, refl, refl, refl),
   once before after reply text,
 )
 
 -- the command that makes the world is neither `map` nor `load`
-pub world_made : (old : SetupView) (command : Command) (replies : List Reply) (live : Live) → ((name : List ℕ) (key_len value_len entries spare limit : ℕ) → command ≡ commands.Map name key_len value_len entries spare limit → ⊥) → ((ctx_len : ℕ) (code : List ℕ) (names : List (List ℕ)) → command ≡ commands.Load ctx_len code names → ⊥) → LiveReplies (sealed old) command replies live → SetupReplies old command replies (sessions.Live live)
-world_made old (commands.Map name key_len value_len entries spare limit) replies live no_map no_load r = absurd (no_map name key_len value_len entries spare limit refl)
-world_made old (commands.Load ctx_len code names) replies live no_map no_load r = absurd (no_load ctx_len code names refl)
-world_made old (commands.Put name key value flags) replies live no_map no_load r = (live, r, refl)
-world_made old (commands.Get name key) replies live no_map no_load r = (live, r, refl)
-world_made old (commands.Del name key) replies live no_map no_load r = (live, r, refl)
-world_made old (commands.Start prog ctx) replies live no_map no_load r = (live, r, refl)
-world_made old (commands.Step run count) replies live no_map no_load r = (live, r, refl)
-world_made old commands.Advance replies live no_map no_load r = (live, r, refl)
-world_made old commands.Reap replies live no_map no_load r = (live, r, refl)
-world_made old (commands.Drop run) replies live no_map no_load r = (live, r, refl)
-world_made old commands.Stat replies live no_map no_load r = (live, r, refl)
-world_made old (commands.Dump name) replies live no_map no_load r = (live, r, refl)
+module _ (old : SetupView) (replies : List Reply) (live : Live) (starts : Starts old) where
+  pub world_made : (command : Command) → ((name : List ℕ) (key_len value_len entries spare limit : ℕ) → command ≡ commands.Map name key_len value_len entries spare limit → ⊥) → ((ctx_len : ℕ) (code : List ℕ) (names : List (List ℕ)) → command ≡ commands.Load ctx_len code names → ⊥) → (r : LiveReplies (sealed old) command replies live) → SetupReplies old command r.events replies (sessions.Live live)
+  world_made (commands.Map name key_len value_len entries spare limit) no_map no_load r = absurd (no_map name key_len value_len entries spare limit refl)
+  world_made (commands.Load ctx_len code names) no_map no_load r = absurd (no_load ctx_len code names refl)
+  world_made (commands.Put name key value flags) no_map no_load r = (starts, (live, r, refl, refl))
+  world_made (commands.Get name key) no_map no_load r = (starts, (live, r, refl, refl))
+  world_made (commands.Del name key) no_map no_load r = (starts, (live, r, refl, refl))
+  world_made (commands.Start prog ctx) no_map no_load r = (starts, (live, r, refl, refl))
+  world_made (commands.Step run count) no_map no_load r = (starts, (live, r, refl, refl))
+  world_made commands.Advance no_map no_load r = (starts, (live, r, refl, refl))
+  world_made commands.Reap no_map no_load r = (starts, (live, r, refl, refl))
+  world_made (commands.Drop run) no_map no_load r = (starts, (live, r, refl, refl))
+  world_made commands.Stat no_map no_load r = (starts, (live, r, refl, refl))
+  world_made (commands.Dump name) no_map no_load r = (starts, (live, r, refl, refl))

@@ -1,6 +1,9 @@
--- What each command is replied, and the state of the script that it leaves.
+-- What each command is replied, the events that happen, and the state of the script that it leaves.
 use Rattle.std.specs.Prelude.{◌≡◌, ℕ, List, [], ◌∷◌, Option, Some, None, Result, Ok, Err}
 use Rattle.std.specs.List.{flat_map}
+use Rattle.bpf_model.specs.declared.event.Event.{Event}
+use Rattle.bpf_model.specs.Refines.{TracksSchedule}
+use Rattle.bpf_model.specs.Schedule.{start_schedule}
 use Rattle.bpf_model.specs.View.{start_view}
 use Rattle.script_lines.specs.Answers.{reply_text}
 use Rattle.script_lines.specs.Lines.{line_says}
@@ -28,42 +31,53 @@ abbrev pub now_at : SetupView → Option Live → Session
 now_at setup None = sessions.Setup setup
 now_at setup (Some live) = sessions.Live live
 
--- A command that a world is for, once it is there.
-abbrev pub WorldReplies : Live → Command → List Reply → Session → Type 0
-WorldReplies old command replies new =
-    (live : Live) × LiveReplies old command replies live × (new ≡ sessions.Live live)
+-- It tracks the start of the machine that has these maps and programs.
+abbrev pub Starts : SetupView → Type 0
+Starts s = TracksSchedule (sealed s).world (start_schedule (shapes_made s) s.programs)
 
--- one reply, while maps and programs are being made
-abbrev pub RepliesOnce : (Reply → SetupView → Type 0) → List Reply → Session → Type 0
-RepliesOnce Says replies new =
-    (reply : Reply) × (made : SetupView) × Says reply made × (replies ≡ reply ∷ [])
-    × (new ≡ sessions.Setup made)
+-- A command that a world is for, once it is there.
+abbrev pub WorldReplies : Live → Command → List Event → List Reply → Session → Type 0
+WorldReplies old command events replies new =
+    (live : Live) × (r : LiveReplies old command replies live) × (events ≡ r.events)
+    × (new ≡ sessions.Live live)
+
+-- one reply and no event, while maps and programs are being made
+abbrev pub RepliesOnce : (Reply → SetupView → Type 0) → List Event → List Reply → Session → Type 0
+RepliesOnce Says events replies new =
+    (reply : Reply) × (made : SetupView) × Says reply made × (events ≡ [])
+    × (replies ≡ reply ∷ []) × (new ≡ sessions.Setup made)
 
 -- While maps and programs are being made: `map` and `load` make them, and any other command makes
 -- the world, which it is for.
-abbrev pub SetupReplies : SetupView → Command → List Reply → Session → Type 0
-SetupReplies old (commands.Map name key_len value_len entries spare reuse_limit) replies new =
+abbrev pub SetupReplies : SetupView → Command → List Event → List Reply → Session → Type 0
+SetupReplies old (commands.Map name key_len value_len entries spare reuse_limit) events replies new =
     RepliesOnce
     (MapReplies old name (shape_of_numbers key_len value_len entries spare reuse_limit))
-    replies new
-SetupReplies old (commands.Load ctx_len code maps) replies new =
-    RepliesOnce (LoadReplies old ctx_len code maps) replies new
-SetupReplies old command replies new = WorldReplies (sealed old) command replies new
+    events replies new
+SetupReplies old (commands.Load ctx_len code maps) events replies new =
+    RepliesOnce (LoadReplies old ctx_len code maps) events replies new
+SetupReplies old command events replies new =
+    Starts old × WorldReplies (sealed old) command events replies new
 
-abbrev pub SessionReplies : Session → Command → List Reply → Session → Type 0
-SessionReplies (sessions.Setup old) command replies new = SetupReplies old command replies new
-SessionReplies (sessions.Live old) command replies new = WorldReplies old command replies new
+abbrev pub SessionReplies : Session → Command → List Event → List Reply → Session → Type 0
+SessionReplies (sessions.Setup old) command events replies new =
+    SetupReplies old command events replies new
+SessionReplies (sessions.Live old) command events replies new =
+    WorldReplies old command events replies new
 
 -- A line that says nothing is answered nothing, and a command by the text of its replies.
-abbrev pub Answers : Result (Option Command) BadLine → Session → List ℕ → Session → Type 0
-Answers (Ok None) old text new = (text ≡ []) × (new ≡ old)
-Answers (Ok (Some command)) old text new =
-    (replies : List Reply) × SessionReplies old command replies new × (text ≡ flat_map reply_text replies)
-Answers (Err bad) old text new = ⊥
+abbrev pub Answers : Result (Option Command) BadLine → Session → List Event → List ℕ → Session →
+    Type 0
+Answers (Ok None) old events text new = (events ≡ []) × (text ≡ []) × (new ≡ old)
+Answers (Ok (Some command)) old events text new =
+    (replies : List Reply) × SessionReplies old command events replies new
+    × (text ≡ flat_map reply_text replies)
+Answers (Err bad) old events text new = ⊥
 
--- What a line is answered in a state of the script, and the state that it leaves.
-abbrev pub LineAnswers : Session → List ℕ → List ℕ → Session → Type 0
-LineAnswers old line text new = Answers (line_says line) old text new
+-- What a line is answered in a state of the script, the events that happen, and the state that it
+-- leaves.
+abbrev pub LineAnswers : Session → List ℕ → List Event → List ℕ → Session → Type 0
+LineAnswers old line events text new = Answers (line_says line) old events text new
 
 -- a line that is neither a command nor says nothing
 abbrev pub IsNoCommand : List ℕ → Type 0

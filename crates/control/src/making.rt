@@ -1,10 +1,11 @@
 //! Commands while maps and programs are being made.
 ghost use Rattle.std.specs.Prelude.{◌≡◌, ◌++◌, List, IfOk};
 ghost use Rattle.std.specs.List.{flat_map};
+ghost use Rattle.bpf_model.specs.declared.event.Event.{Event as MachineEvent};
 ghost use Rattle.script_lines.specs.Answers.{reply_text};
 ghost use Rattle.script_lines.specs.declared.reply.Reply.{Reply as Told};
 ghost use Rattle.script_world.specs.Lives.{LiveReplies};
-ghost use Rattle.control.specs.Sessions.{SetupReplies, sealed, now_at};
+ghost use Rattle.control.specs.Sessions.{SetupReplies, Starts, sealed, now_at};
 
 use script_lines::{Command, write_reply};
 use script_setup::{Setup, shape_of};
@@ -20,7 +21,7 @@ fn answer_first(
     out: &mut Vec<u8>,
 ) -> Result<Live, AllocError>
     ensures { IfOk result (λ live. (replies : List Told)
-        × LiveReplies (sealed setup.old) command.entry replies live
+        × Starts setup.old × LiveReplies (sealed setup.old) command.entry replies live
         × (out.new.items ≡ out.old.items ++ flat_map reply_text replies)) }
 {
     let made = mem::replace(setup, Setup::new(alloc));
@@ -38,8 +39,8 @@ pub(crate) fn answer_setup(
     command: Command<'_>,
     out: &mut Vec<u8>,
 ) -> Result<Option<Live>, AllocError>
-    ensures { IfOk result (λ live. (replies : List Told)
-        × SetupReplies setup.old command.entry replies (now_at setup.new live)
+    ensures { IfOk result (λ live. (events : List MachineEvent) × (replies : List Told)
+        × SetupReplies setup.old command.entry events replies (now_at setup.new live)
         × (out.new.items ≡ out.old.items ++ flat_map reply_text replies)) }
 {
     match command {

@@ -4,8 +4,8 @@ ghost use Rattle.std.specs.Io.KnownBytes.{Appends, Consumes, IsAtEnd};
 ghost use Rattle.script_stream.specs.Answered.{Answered};
 ghost use Rattle.script_stream.specs.Lines.{lines_of};
 ghost use Rattle.script_stream.specs.Progress.{FailsWith};
-ghost use Rattle.control.specs.Sessions.{LineAnswers, IsNoCommand, new_session};
-ghost use Rattle.control.specs.declared.session.Session.{Session as ScriptState};
+ghost use Rattle.control.specs.Histories.{History, Continues, new_history};
+ghost use Rattle.control.specs.Sessions.{IsNoCommand};
 
 use crate::session::Session;
 use script_lines::{Command, parse_line};
@@ -24,14 +24,15 @@ struct Script {
 impl Script {
     ghost use Rattle.std.specs.Prelude.{◌++◌, OnErr};
     ghost use Rattle.std.specs.List.{flat_map};
+    ghost use Rattle.bpf_model.specs.declared.event.Event.{Event};
     ghost use Rattle.script_lines.specs.Answers.{reply_text};
     ghost use Rattle.script_lines.specs.declared.reply.Reply.{Reply};
     ghost use Rattle.control.specs.Sessions.{SessionReplies};
 
     /// Answers a command, and adds the text of the replies, or nothing.
     fn answer(&mut self, command: Command<'_>, out: &mut Vec<u8>) -> Result<(), AllocError>
-        ensures ok { OnOk result ((replies : List Reply)
-            × SessionReplies self.old.session command.entry replies self.new.session
+        ensures ok { OnOk result ((events : List Event) × (replies : List Reply)
+            × SessionReplies self.old.session command.entry events replies self.new.session
             × (out.new.items ≡ out.old.items ++ flat_map reply_text replies)) }
         ensures err { OnErr result (out.new.items ≡ out.old.items) }
     {
@@ -42,9 +43,12 @@ impl Script {
 }
 
 impl Respond for Script {
+    ghost use Rattle.std.specs.Prelude.{List};
+    ghost use Rattle.bpf_model.specs.declared.event.Event.{Event};
     ghost use Rattle.control.specs.Sessions.{LineAnswers, IsNoCommand};
 
-    ghost answers = { λ old line text new. LineAnswers old.session line text new.session };
+    ghost answers = { λ old line text new.
+        (events : List Event) × LineAnswers old.session line events text new.session };
 
     ghost is_bad = { IsNoCommand };
 
@@ -75,15 +79,15 @@ pub fn run_script<R: Read, W: Write>(
     reader: &mut R,
     writer: &mut W,
 ) -> Result<(), ScriptFault>
-    ensures text { OnOk result ((input text : List ℕ) × (new : ScriptState)
+    ensures text { OnOk result ((input text : List ℕ) × (new : History)
         × Consumes (R.remaining reader.old) (R.remaining reader.new) input
         × IsAtEnd (R.remaining reader.new)
         × Appends (W.contents writer.old) (W.contents writer.new) text
-        × Answered LineAnswers new_session (lines_of input) text new) }
+        × Answered Continues new_history (lines_of input) text new) }
     ensures failed { IfErr result (λ e. (input text : List ℕ)
         × Consumes (R.remaining reader.old) (R.remaining reader.new) input
         × Appends (W.contents writer.old) (W.contents writer.new) text
-        × FailsWith LineAnswers IsNoCommand new_session input text e) }
+        × FailsWith Continues IsNoCommand new_history input text e) }
 {
     let mut script = Script {
         alloc,

@@ -16,6 +16,7 @@ pub enum Session {
 impl Session {
     ghost use Rattle.std.specs.Prelude.{◌≡◌, ◌++◌, List, OnOk};
     ghost use Rattle.std.specs.List.{flat_map};
+    ghost use Rattle.bpf_model.specs.declared.event.Event.{Event};
     ghost use Rattle.script_lines.specs.Answers.{reply_text};
     ghost use Rattle.script_lines.specs.declared.reply.Reply.{Reply};
     ghost use Rattle.control.specs.Sessions.{SessionReplies, new_session};
@@ -39,8 +40,8 @@ impl Session {
         command: Command<'_>,
         out: &mut Vec<u8>,
     ) -> Result<(), AllocError>
-        ensures { OnOk result ((replies : List Reply)
-            × SessionReplies self.old command.entry replies self.new
+        ensures { OnOk result ((events : List Event) × (replies : List Reply)
+            × SessionReplies self.old command.entry events replies self.new
             × (out.new.items ≡ out.old.items ++ flat_map reply_text replies)) }
     {
         match self {
