@@ -1,3 +1,4 @@
+pub mod JobLines
 pub mod NewMaps
 pub mod Pooled
 pub mod Raw

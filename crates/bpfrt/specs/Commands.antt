@@ -3,22 +3,22 @@ use Rattle.std.specs.Prelude.{ℕ, List, Option, ⊤}
 use Rattle.bpfrt.specs.declared.request.Command.{Command}
 use Rattle.bpfrt.specs.declared.request.Command.TheVariants.{Check, Disasm, Script, Pool}
 use Rattle.bpfrt.specs.Outputs.{IsRefusedByCheck, IsRefusedByDecode, WritesAccepted, WritesText}
-use Rattle.bpfrt.specs.Pools.{IsPoolFile, IsRefusedByPool}
+use Rattle.bpfrt.specs.Pools.{IsRefusedByPool, WritesPool}
 use Rattle.bpfrt.specs.Scripts.{AnswersAll, AnswersBefore}
 
--- What a command adds to the output where all is fine; of `pool` no more than of which file it is.
+-- What a command adds to the output where all is fine.
 abbrev pub Writes : Command → Option (List ℕ) → Option (List ℕ) → List ℕ → Type 0
 Writes (Check file) old new bytes = WritesAccepted old new bytes
 Writes (Disasm file) old new bytes = WritesText old new bytes
 Writes Script old new bytes = AnswersAll old new bytes
-Writes (Pool workers file count) old new bytes = IsPoolFile bytes
+Writes (Pool workers file count) old new bytes = WritesPool count old new bytes
 
 -- Each command refuses in its own way. A script has answers before.
 abbrev pub Refuses : Command → Option (List ℕ) → Option (List ℕ) → List ℕ → Type 0
 Refuses (Check file) old new bytes = IsRefusedByCheck bytes
 Refuses (Disasm file) old new bytes = IsRefusedByDecode bytes
 Refuses Script old new bytes = AnswersBefore old new bytes
-Refuses (Pool workers file count) old new bytes = IsRefusedByPool bytes
+Refuses (Pool workers file count) old new bytes = IsRefusedByPool workers count bytes
 
 -- the command's input is a program file
 abbrev pub ReadsFile : Command → Type 0

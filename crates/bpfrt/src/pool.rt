@@ -1,7 +1,8 @@
 //! A file's program, run many times by a pool of workers.
-ghost use Rattle.std.specs.Prelude.{◌≡◌, ◌⊎◌, List, ℕ, IfErr, IfSome, OnOk};
+ghost use Rattle.std.specs.Prelude.{◌≡◌, ◌⊎◌, List, ℕ, IfOk, IfErr, IfSome, OnOk};
+ghost use Rattle.std.specs.Io.KnownBytes.{Appends};
 ghost use Rattle.bpfrt.specs.Files.{HoldsBytes};
-ghost use Rattle.bpfrt.specs.Pools.{IsPoolFile, IsPoolRefusal, IsRefusedByPool};
+ghost use Rattle.bpfrt.specs.Pools.{job_line, pool_text, outcomes_of, ArePooled, IsPoolRefusal, IsRefusedByPool, WritesPool};
 
 use crate::program_file::{FileBytes, read_file};
 use crate::report::{MEMORY, Verdict, fault, refused};
@@ -22,7 +23,10 @@ pub struct PoolSize {
 }
 
 /// Writes the line of one job.
-fn write_job<W: Write>(out: &mut W, number: usize, outcome: &Outcome) -> io::Result<()> {
+fn write_job<W: Write>(out: &mut W, number: usize, outcome: &Outcome) -> io::Result<()>
+    ensures { OnOk result (Appends (W.contents out.old) (W.contents out.new)
+        (job_line number outcome.now)) }
+{
     match outcome {
         Outcome::Exit(value) => writeln!(out, "job {number} exit {value}"),
         Outcome::Stopped { cause, .. } => {
@@ -33,7 +37,10 @@ fn write_job<W: Write>(out: &mut W, number: usize, outcome: &Outcome) -> io::Res
 }
 
 /// The lines of all jobs, and that of the entries.
-fn text_of(alloc: Global, run: &PoolRun) -> io::Result<Vec<u8>> {
+fn text_of(alloc: Global, run: &PoolRun) -> io::Result<Vec<u8>>
+    ensures { IfOk result (λ text.
+        text.items ≡ pool_text (outcomes_of run.now) run.now.entries) }
+{
     let mut text = Vec::new(alloc);
     for number in 0..run.report.jobs.len() {
         write_job(&mut text, number, &run.report.jobs[number].outcome)?;
@@ -51,9 +58,9 @@ fn pool_of<H: Threads + Wait + Sync>(
     size: PoolSize,
 ) -> Result<PoolRun, Verdict>
     ensures pooled { (bytes : List ℕ) → HoldsBytes file.now bytes →
-        OnOk result (IsPoolFile bytes) }
+        IfOk result (λ run. ArePooled bytes size.count (outcomes_of run)) }
     ensures refused { (bytes : List ℕ) → HoldsBytes file.now bytes →
-        IfErr result (IsPoolRefusal bytes) }
+        IfErr result (IsPoolRefusal size.workers size.count bytes) }
 {
     let source = file.source(alloc)?;
     let checked = verify_source(alloc, source)?;
@@ -78,8 +85,10 @@ pub fn run_pool<H: Threads + Wait + Sync, R: Read, W: Write, E: Write>(
     err: &mut E,
 ) -> u8
     ensures status { (result ≡ 0) ⊎ (result ≡ 1) ⊎ (result ≡ 3) }
-    ensures pooled { result ≡ 0 → IfSome (R.remaining input.old) IsPoolFile }
-    ensures refused { result ≡ 1 → IfSome (R.remaining input.old) IsRefusedByPool }
+    ensures pooled { result ≡ 0 → IfSome (R.remaining input.old)
+        (WritesPool size.count (W.contents out.old) (W.contents out.new)) }
+    ensures refused { result ≡ 1 → IfSome (R.remaining input.old)
+        (IsRefusedByPool size.workers size.count) }
     ensures silent { result ≡ 1 → out.new ≡ out.old }
 {
     let file = match read_file(alloc, input) {
