@@ -88,10 +88,10 @@ fn eight_workers(rt: HostRuntime) -> Result<(), Fail> {
     all_exit::<Brand, _>(&rt, rt.alloc(), Blank::new(8), 8, &ONES, 4000)
 }
 
-/// Lookups of a key that is there (12 steps) and of one that isn't (11), a hundred of each, four times.
+/// Lookups of a key that is there (12 steps) and of one that isn't (11), a hundred of each, twenty times.
 #[test]
 fn eight_workers_with_maps(rt: HostRuntime) -> Result<(), Fail> {
-    for _ in 0..4u8 {
+    for _ in 0..20u8 {
         all_exit::<Brand, _>(&rt, rt.alloc(), Blank::new(8), 8, &LOOKUPS, 2700)?;
     }
     Ok(())
