@@ -7,11 +7,11 @@ use Rattle.std.proofs.lemmas.List.Sums.{sum_by-cons}
 use Rattle.bpf_model.specs.declared.insn.Insn.{Insn}
 use Rattle.bpf_model.specs.declared.limits.TheConstants.{MAX_SLOTS}
 use Rattle.bpf_model.specs.Spelling.{FitsInsn, IsProgram, slot_count, slot_total}
-use Rattle.disasm.specs.Text.{stem_of, suffix_of, name_of, arguments_text, mnemonic_of, text_arguments, statement_of, line_of, program_text}
+use Rattle.disasm.specs.Text.{stem_of, suffix_of, mnemonic_text, arguments_text, mnemonic_of, text_arguments, statement_of, line_of, program_text}
 use Rattle.asm.specs.Reading.{Lacks}
 use Rattle.asm.specs.Grammar.{IsFormedLine}
 use Rattle.asm.specs.Faults.{is_comment, lines_in, statements_in, IsInsnLine, IsLineFlaw, IsFirstLineFlaw, IsAsmFault}
-use Rattle.asm.specs.Assembling.{IsTextFault, IsSizeFault}
+use Rattle.asm.specs.Assembling.{IsAsmTextFault, IsSizeFault}
 use Rattle.asm.specs.declared.fault.LineFlaw.{LineFlaw}
 use Rattle.asm.specs.declared.fault.LineFlaw.TheVariants.{NoForm, OutOfRange}
 use Rattle.asm.specs.declared.fault.AsmFault.{AsmFault}
@@ -61,14 +61,14 @@ flaw_of : (text : List ℕ) (f : LineFlaw) (n : ℕ) → IsFirstLineFlaw text f 
 flaw_of text f n h p program e =
     flaw_no h.line f h.flawed (is_insn_line h.front h.line h.rest p h.statement program.fits (sym (ap (filter keeps) h.parts) ∙ e))
 
-pub text_fault_only : (text : List ℕ) (f : AsmFault) → IsTextFault text f → (p : List Insn) → IsProgram p → statements_in text ≡ map line_of p → f ≡ Memory
+pub text_fault_only : (text : List ℕ) (f : AsmFault) → IsAsmTextFault text f → (p : List Insn) → IsProgram p → statements_in text ≡ map line_of p → f ≡ Memory
 text_fault_only text (BadLine n) h p program e = absurd (flaw_of text NoForm n h p program e)
 text_fault_only text (BadOperand n) h p program e = absurd (flaw_of text OutOfRange n h p program e)
 text_fault_only text TooLong h p program e = absurd h
 text_fault_only text Empty h p program e = absurd h
 text_fault_only text Memory h p program e = refl
 
-pub text_fault : (text : List ℕ) (f : AsmFault) → IsTextFault text f → IsAsmFault text f
+pub text_fault : (text : List ℕ) (f : AsmFault) → IsAsmTextFault text f → IsAsmFault text f
 text_fault text (BadLine n) h = h
 text_fault text (BadOperand n) h = h
 text_fault text TooLong h = absurd h
@@ -98,7 +98,7 @@ made_only items (Err f) found fault p program e = inr (ap Err (size_fault_only i
 -- the text of a program
 
 line_lacks_feed : (i : Insn) → Lacks 10 (line_of i)
-line_lacks_feed i = lacks_append 10 (name_of (mnemonic_of i)) (arguments_text (text_arguments i)) (name_lacks_any 10 (omega arith) (mnemonic_of i)) (arguments_lack_feed (text_arguments i))
+line_lacks_feed i = lacks_append 10 (mnemonic_text (mnemonic_of i)) (arguments_text (text_arguments i)) (name_lacks_any 10 (omega arith) (mnemonic_of i)) (arguments_lack_feed (text_arguments i))
 
 line_statement : (i : Insn) → is_comment (line_of i) ≡ false
 line_statement i =

@@ -3,7 +3,7 @@ use Rattle.std.proofs.Common.{ℕ, ◌≡◌, ◌++◌, List, Bool, true, false,
 use Rattle.std.specs.Prelude.{Option, Some, None, Result, Ok}
 use Rattle.bpf_model.specs.Spelling.{FitsInsn}
 use Rattle.bpf_model.specs.declared.insn.Insn.{Insn}
-use Rattle.disasm.specs.Text.{name_of, arguments_text, line_of, mnemonic_of, text_arguments, statement_of}
+use Rattle.disasm.specs.Text.{mnemonic_text, arguments_text, line_of, mnemonic_of, text_arguments, statement_of}
 use Rattle.disasm.specs.declared.mnemonic.Mnemonic.{Mnemonic}
 use Rattle.disasm.specs.declared.statement.Arguments.{Arguments}
 use Rattle.disasm.specs.declared.statement.Statement.{Statement}
@@ -40,7 +40,7 @@ text_is line s found i fits em ew =
     let small : IsSmall (capped_arguments w.arguments) = subst (λ (a : Arguments). IsSmall a) (sym capped_is) (small_of i fits) in
     let same_arguments : w.arguments ≡ text_arguments i = sym (back_same w.arguments small) ∙ capped_is in
     let same_mnemonic : w.mnemonic ≡ mnemonic_of i = sym (ap (λ (t : Statement). t.mnemonic) found.2) ∙ sym em in
-    found.1 ∙ ap (λ (m : Mnemonic). name_of m ++ arguments_text w.arguments) same_mnemonic ∙ ap (λ (a : Arguments). name_of (mnemonic_of i) ++ arguments_text a) same_arguments
+    found.1 ∙ ap (λ (m : Mnemonic). mnemonic_text m ++ arguments_text w.arguments) same_mnemonic ∙ ap (λ (a : Arguments). mnemonic_text (mnemonic_of i) ++ arguments_text a) same_arguments
 
 pub insn_is : (line : List ℕ) (s : Statement) (r : Option Insn) → ReadsStatement line (Some s) → IsOnlyInsn s.mnemonic s.arguments r → (i : Insn) → FitsInsn i → line ≡ line_of i → r ≡ Some i
 insn_is line s r reads only i fits e =

@@ -11,7 +11,7 @@ use Rattle.bpf_model.specs.Spelling.{FitsInsn}
 use Rattle.disasm.specs.Text.{line_of}
 use Rattle.asm.specs.Reading.{Lacks}
 use Rattle.asm.specs.Faults.{is_comment, lines_in, statements_in, IsSoundLine, IsInsnLine}
-use Rattle.asm.specs.Assembling.{IsLineOf, AddsLine, IsLineFault, IsTextFault}
+use Rattle.asm.specs.Assembling.{IsLineOf, AddsLine, IsLineFault, IsAsmTextFault}
 use Rattle.asm.specs.declared.fault.AsmFault.{AsmFault}
 use Rattle.asm.specs.declared.fault.AsmFault.TheVariants.{BadLine, BadOperand, TooLong, Empty, Memory}
 
@@ -116,7 +116,7 @@ pub line_read : (text line : List ℕ) (left : List (List ℕ)) (items new : Lis
 line_read text line left items new index read adds = by_kind text line left items new index read adds (is_comment line) refl
 
 -- a fault is that of the first faulty line
-pub line_fault : (text line : List ℕ) (left : List (List ℕ)) (items : List Insn) (index : ℕ) (f : AsmFault) → LinesRead text (line ∷ left) items index → IsLineFault index line f → IsTextFault text f
+pub line_fault : (text line : List ℕ) (left : List (List ℕ)) (items : List Insn) (index : ℕ) (f : AsmFault) → LinesRead text (line ∷ left) items index → IsLineFault index line f → IsAsmTextFault text f
 line_fault text line left items index (BadLine n) read h = record { front = read.front; line = line; rest = left; parts = read.parts; number = h.0 ∙ ap (λ k. k + 1) read.number; sound = read.sound; statement = h.1; flawed = h.2 }
 line_fault text line left items index (BadOperand n) read h = record { front = read.front; line = line; rest = left; parts = read.parts; number = h.0 ∙ ap (λ k. k + 1) read.number; sound = read.sound; statement = h.1; flawed = h.2 }
 line_fault text line left items index TooLong read h = h
@@ -178,7 +178,7 @@ pub next_read : (text rest line more : List ℕ) (items new : List Insn) (index 
 next_read text rest line more items new index read parts lacks adds =
     line_read text line (lines_in more) items new index (first_left text rest line more items index read parts lacks) adds
 
-pub next_fault : (text rest line more : List ℕ) (items : List Insn) (index : ℕ) (f : AsmFault) → LinesRead text (lines_in rest) items index → rest ≡ line ++ 10 ∷ more → Lacks 10 line → IsLineFault index line f → IsTextFault text f
+pub next_fault : (text rest line more : List ℕ) (items : List Insn) (index : ℕ) (f : AsmFault) → LinesRead text (lines_in rest) items index → rest ≡ line ++ 10 ∷ more → Lacks 10 line → IsLineFault index line f → IsAsmTextFault text f
 next_fault text rest line more items index f read parts lacks h =
     line_fault text line (lines_in more) items index f (first_left text rest line more items index read parts lacks) h
 
@@ -189,7 +189,7 @@ pub last_read : (text rest : List ℕ) (items new : List Insn) (index : ℕ) →
 last_read text rest items new index read lacks adds =
     line_read text rest [] items new index (last_left text rest items index read lacks) adds
 
-pub last_fault : (text rest : List ℕ) (items : List Insn) (index : ℕ) (f : AsmFault) → LinesRead text (lines_in rest) items index → Lacks 10 rest → IsLineFault index rest f → IsTextFault text f
+pub last_fault : (text rest : List ℕ) (items : List Insn) (index : ℕ) (f : AsmFault) → LinesRead text (lines_in rest) items index → Lacks 10 rest → IsLineFault index rest f → IsAsmTextFault text f
 last_fault text rest items index f read lacks h = line_fault text rest [] items index f (last_left text rest items index read lacks) h
 
 pub next_room : (text rest line more : List ℕ) (index : ℕ) → index + length rest ≤ length text → rest ≡ line ++ 10 ∷ more → index + 1 + length more ≤ length text

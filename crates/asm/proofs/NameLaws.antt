@@ -15,13 +15,13 @@ use Rattle.bpf_model.specs.declared.insn.AluOp.TheVariants as alu
 use Rattle.bpf_model.specs.declared.insn.CallKind.TheVariants.{Helper, Kernel}
 use Rattle.disasm.specs.declared.mnemonic.Mnemonic.{Mnemonic}
 use Rattle.disasm.specs.declared.mnemonic.Mnemonic.TheVariants.{Alu, MoveSigned, Negate, ByteSwap, LoadNumber, LoadMap, Jump, JumpLong, JumpIf, Call, Exit, Load, LoadSigned, Store, StoreRegister}
-use Rattle.disasm.specs.Text.{name_of}
+use Rattle.disasm.specs.Text.{mnemonic_text}
 use Rattle.asm.specs.declared.names.TheConstants.{MNEMONICS}
 
 abbrev pub named : List ℕ → Option Mnemonic
-named name = find (λ m. bytes_eq (name_of m) name) MNEMONICS
+named name = find (λ m. bytes_eq (mnemonic_text m) name) MNEMONICS
 
-pub again : (m : Mnemonic) → named (name_of m) ≡ Some m
+pub again : (m : Mnemonic) → named (mnemonic_text m) ≡ Some m
 again (Alu alu.Add Word64) = refl
 again (Alu alu.Add Word32) = refl
 again (Alu alu.Sub Word64) = refl
@@ -122,13 +122,13 @@ find_passes : {X : Type 0} (test : X → Bool) (xs : List X) → IfSome (find te
 find_passes test [] = tt
 find_passes test (x ∷ xs) = passes_or test x (find test xs) (test x) refl (find_passes test xs)
 
-pub named_found : (name : List ℕ) (r : Option Mnemonic) → r ≡ find (λ m. bytes_eq (name_of m) name) MNEMONICS → IfSome r (λ m. name ≡ name_of m)
+pub named_found : (name : List ℕ) (r : Option Mnemonic) → r ≡ find (λ m. bytes_eq (mnemonic_text m) name) MNEMONICS → IfSome r (λ m. name ≡ mnemonic_text m)
 named_found name None e = tt
 named_found name (Some m) e =
-    let test : Mnemonic → Bool = λ m. bytes_eq (name_of m) name in
+    let test : Mnemonic → Bool = λ m. bytes_eq (mnemonic_text m) name in
     let passed : IfSome (find test MNEMONICS) (λ x. test x ≡ true) = find_passes test MNEMONICS in
     let is : test m ≡ true = subst (λ (o : Option Mnemonic). IfSome o (λ x. test x ≡ true)) (sym e) passed in
-    sym ((bytes_eq-Decides (name_of m) name).0 is)
+    sym ((bytes_eq-Decides (mnemonic_text m) name).0 is)
 
 cancel : (front xs ys : List ℕ) → (front ++ xs) ≡ front ++ ys → xs ≡ ys
 cancel [] xs ys e = e

@@ -2,7 +2,7 @@
 use Rattle.std.proofs.Common.{ℕ, ◌≡◌, List, [], ◌∷◌, ◌++◌, refl, sym, ap, ◌∙◌, append_assoc}
 use Rattle.std.specs.Prelude.{Option, Some, None, IfSome}
 use Rattle.std.proofs.lemmas.List.{append-nil}
-use Rattle.disasm.specs.Text.{name_of, argument_text, arguments_text}
+use Rattle.disasm.specs.Text.{mnemonic_text, argument_text, arguments_text}
 use Rattle.disasm.specs.declared.mnemonic.Mnemonic.{Mnemonic}
 use Rattle.disasm.specs.declared.statement.Argument.{Argument}
 use Rattle.disasm.specs.declared.statement.Arguments.{Arguments}
@@ -99,27 +99,27 @@ bare m = record { mnemonic = m; arguments = Zero }
 abbrev both : Mnemonic → Arguments → Statement
 both m w = record { mnemonic = m; arguments = w }
 
-pub bare_only : (line : List ℕ) (r : Option Statement) → Lacks 32 line → ((m : Mnemonic) → line ≡ name_of m → r ≡ Some (bare m)) → (m : Mnemonic) (w : Arguments) → line ≡ name_of m ++ arguments_text w → r ≡ Some (both m (capped_arguments w))
-bare_only line r lacks read m Zero e = read m (e ∙ append-nil (name_of m))
-bare_only line r lacks read m (One a) e = absurd (not_lacks 32 (name_of m) (argument_text a) (rw (sym e) lacks))
-bare_only line r lacks read m (Two a b) e = absurd (not_lacks 32 (name_of m) (argument_text a ++ (44 ∷ 32 ∷ []) ++ argument_text b) (rw (sym e) lacks))
-bare_only line r lacks read m (Three a b d) e = absurd (not_lacks 32 (name_of m) (argument_text a ++ (44 ∷ 32 ∷ []) ++ argument_text b ++ (44 ∷ 32 ∷ []) ++ argument_text d) (rw (sym e) lacks))
+pub bare_only : (line : List ℕ) (r : Option Statement) → Lacks 32 line → ((m : Mnemonic) → line ≡ mnemonic_text m → r ≡ Some (bare m)) → (m : Mnemonic) (w : Arguments) → line ≡ mnemonic_text m ++ arguments_text w → r ≡ Some (both m (capped_arguments w))
+bare_only line r lacks read m Zero e = read m (e ∙ append-nil (mnemonic_text m))
+bare_only line r lacks read m (One a) e = absurd (not_lacks 32 (mnemonic_text m) (argument_text a) (rw (sym e) lacks))
+bare_only line r lacks read m (Two a b) e = absurd (not_lacks 32 (mnemonic_text m) (argument_text a ++ (44 ∷ 32 ∷ []) ++ argument_text b) (rw (sym e) lacks))
+bare_only line r lacks read m (Three a b d) e = absurd (not_lacks 32 (mnemonic_text m) (argument_text a ++ (44 ∷ 32 ∷ []) ++ argument_text b ++ (44 ∷ 32 ∷ []) ++ argument_text d) (rw (sym e) lacks))
 
-pub both_only : (line name text : List ℕ) (r : Option Statement) → line ≡ name ++ 32 ∷ text → ((front back : List ℕ) → Lacks 32 front → line ≡ front ++ 32 ∷ back → (name ≡ front) × (text ≡ back)) → ((m : Mnemonic) (w : Arguments) → name ≡ name_of m → (32 ∷ text) ≡ arguments_text w → r ≡ Some (both m (capped_arguments w))) → (m : Mnemonic) (w : Arguments) → line ≡ name_of m ++ arguments_text w → r ≡ Some (both m (capped_arguments w))
-both_only line name text r parts first read m Zero e = absurd (not_lacks 32 name text (rw (sym parts ∙ e ∙ append-nil (name_of m)) (name_lacks m)))
+pub both_only : (line name text : List ℕ) (r : Option Statement) → line ≡ name ++ 32 ∷ text → ((front back : List ℕ) → Lacks 32 front → line ≡ front ++ 32 ∷ back → (name ≡ front) × (text ≡ back)) → ((m : Mnemonic) (w : Arguments) → name ≡ mnemonic_text m → (32 ∷ text) ≡ arguments_text w → r ≡ Some (both m (capped_arguments w))) → (m : Mnemonic) (w : Arguments) → line ≡ mnemonic_text m ++ arguments_text w → r ≡ Some (both m (capped_arguments w))
+both_only line name text r parts first read m Zero e = absurd (not_lacks 32 name text (rw (sym parts ∙ e ∙ append-nil (mnemonic_text m)) (name_lacks m)))
 both_only line name text r parts first read m (One a) e =
-    let same : (name ≡ name_of m) × (text ≡ argument_text a) = first (name_of m) (argument_text a) (name_lacks m) e in
+    let same : (name ≡ mnemonic_text m) × (text ≡ argument_text a) = first (mnemonic_text m) (argument_text a) (name_lacks m) e in
     read m (One a) same.0 (ap (λ t. 32 ∷ t) same.1)
 both_only line name text r parts first read m (Two a b) e =
     let rest : List ℕ = argument_text a ++ (44 ∷ 32 ∷ []) ++ argument_text b in
-    let same : (name ≡ name_of m) × (text ≡ rest) = first (name_of m) rest (name_lacks m) e in
+    let same : (name ≡ mnemonic_text m) × (text ≡ rest) = first (mnemonic_text m) rest (name_lacks m) e in
     read m (Two a b) same.0 (ap (λ t. 32 ∷ t) same.1)
 both_only line name text r parts first read m (Three a b d) e =
     let rest : List ℕ = argument_text a ++ (44 ∷ 32 ∷ []) ++ argument_text b ++ (44 ∷ 32 ∷ []) ++ argument_text d in
-    let same : (name ≡ name_of m) × (text ≡ rest) = first (name_of m) rest (name_lacks m) e in
+    let same : (name ≡ mnemonic_text m) × (text ≡ rest) = first (mnemonic_text m) rest (name_lacks m) e in
     read m (Three a b d) same.0 (ap (λ t. 32 ∷ t) same.1)
 
-pub both_found : (line name text : List ℕ) (r : Option Statement) → line ≡ name ++ 32 ∷ text → IfSome r (λ s. (m : Mnemonic) × (w : Arguments) × (name ≡ name_of m) × ((32 ∷ text) ≡ arguments_text w) × (s ≡ both m (capped_arguments w))) → IfSome r (IsStatementRead line)
+pub both_found : (line name text : List ℕ) (r : Option Statement) → line ≡ name ++ 32 ∷ text → IfSome r (λ s. (m : Mnemonic) × (w : Arguments) × (name ≡ mnemonic_text m) × ((32 ∷ text) ≡ arguments_text w) × (s ≡ both m (capped_arguments w))) → IfSome r (IsStatementRead line)
 both_found line name text None parts h = tt
 both_found line name text (Some s) parts h =
-    (both h.0 h.1, parts ∙ appended name (32 ∷ text) (name_of h.0) (arguments_text h.1) h.2 h.3, h.4)
+    (both h.0 h.1, parts ∙ appended name (32 ∷ text) (mnemonic_text h.0) (arguments_text h.1) h.2 h.3, h.4)

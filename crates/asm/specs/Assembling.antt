@@ -31,12 +31,12 @@ IsLineFault index line faults.Empty = ⊥
 IsLineFault index line faults.Memory = Unit {0}
 
 -- the faults that the lines alone tell
-abbrev pub IsTextFault : List ℕ → AsmFault → Type 0
-IsTextFault text (faults.BadLine n) = IsFirstLineFlaw text flaw.NoForm n
-IsTextFault text (faults.BadOperand n) = IsFirstLineFlaw text flaw.OutOfRange n
-IsTextFault text faults.TooLong = ⊥
-IsTextFault text faults.Empty = ⊥
-IsTextFault text faults.Memory = Unit {0}
+abbrev pub IsAsmTextFault : List ℕ → AsmFault → Type 0
+IsAsmTextFault text (faults.BadLine n) = IsFirstLineFlaw text flaw.NoForm n
+IsAsmTextFault text (faults.BadOperand n) = IsFirstLineFlaw text flaw.OutOfRange n
+IsAsmTextFault text faults.TooLong = ⊥
+IsAsmTextFault text faults.Empty = ⊥
+IsAsmTextFault text faults.Memory = Unit {0}
 
 -- the faults that the number of slots tells
 abbrev pub IsSizeFault : List Insn → AsmFault → Type 0

@@ -6,7 +6,7 @@ ghost use Rattle.bpf_model.specs.Spelling.{FitsInsn, IsProgram, slot_total};
 ghost use Rattle.bpf_model.specs.declared.insn.Insn.{Insn as InsnOf};
 ghost use Rattle.disasm.specs.Text.{line_of, program_text};
 ghost use Rattle.asm.specs.Faults.{is_comment as is_comment_line, statements_in, IsAsmFault};
-ghost use Rattle.asm.specs.Assembling.{AddsLine, IsLineFault, IsTextFault, IsSizeFault};
+ghost use Rattle.asm.specs.Assembling.{AddsLine, IsLineFault, IsAsmTextFault, IsSizeFault};
 
 use crate::fault::{AsmFault, LineFlaw};
 use crate::line::read_insn;
@@ -50,7 +50,7 @@ fn read_lines(alloc: Global, text: &str) -> Result<Vec<Insn>, AsmFault>
     ensures found { IfOk result (λ v. statements_in text.now ≡ map line_of v.items) }
     ensures only { IfOk result (λ v. (is : List InsnOf) →
         AllByRecursion FitsInsn is → statements_in text.now ≡ map line_of is → v.items ≡ is) }
-    ensures fault { IfErr result (IsTextFault text.now) }
+    ensures fault { IfErr result (IsAsmTextFault text.now) }
 {
     let mut instructions = Vec::new(alloc);
     let mut rest = text;

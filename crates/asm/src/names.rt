@@ -2,7 +2,7 @@
 ghost use Rattle.std.specs.Prelude.{◌≡◌, ◌≢◌, ◌++◌, List, ℕ, IfSome, MatchOption};
 ghost use Rattle.std.specs.List.{find};
 ghost use Rattle.std.specs.Str.{bytes_eq};
-ghost use Rattle.disasm.specs.Text.{name_of};
+ghost use Rattle.disasm.specs.Text.{mnemonic_text};
 ghost use Rattle.disasm.specs.declared.mnemonic.Mnemonic.{Mnemonic as MnemonicOf};
 
 use disasm::Mnemonic;
@@ -107,7 +107,7 @@ fn rest_after<'a>(text: &'a str, front: &str) -> Option<&'a str>
 }
 
 fn is_named(mnemonic: &Mnemonic, name: &str) -> bool
-    ensures { result ≡ bytes_eq (name_of mnemonic.now) name.now }
+    ensures { result ≡ bytes_eq (mnemonic_text mnemonic.now) name.now }
 {
     match rest_after(name, mnemonic.stem()) {
         Some(rest) => rest == mnemonic.suffix(),
@@ -116,7 +116,7 @@ fn is_named(mnemonic: &Mnemonic, name: &str) -> bool
 }
 
 fn first_named(mnemonics: &[Mnemonic], name: &str) -> Option<Mnemonic>
-    ensures { result ≡ find (λ m. bytes_eq (name_of m) name.now) mnemonics.now }
+    ensures { result ≡ find (λ m. bytes_eq (mnemonic_text m) name.now) mnemonics.now }
 {
     for mnemonic in mnemonics {
         if is_named(mnemonic, name) {
@@ -128,8 +128,8 @@ fn first_named(mnemonics: &[Mnemonic], name: &str) -> Option<Mnemonic>
 
 /// The mnemonic of this name.
 pub fn mnemonic_named(name: &str) -> Option<Mnemonic>
-    ensures found { IfSome result (λ m. name.now ≡ name_of m) }
-    ensures only { (m : MnemonicOf) → name.now ≡ name_of m → result ≡ Some m }
+    ensures found { IfSome result (λ m. name.now ≡ mnemonic_text m) }
+    ensures only { (m : MnemonicOf) → name.now ≡ mnemonic_text m → result ≡ Some m }
 {
     first_named(&MNEMONICS, name)
 }

@@ -1,6 +1,6 @@
 //! Statements out of lines.
 ghost use Rattle.std.specs.Prelude.{ℕ, ◌≡◌, ◌∷◌, ◌++◌, List, IfSome, MatchOption};
-ghost use Rattle.disasm.specs.Text.{name_of, argument_text, arguments_text};
+ghost use Rattle.disasm.specs.Text.{mnemonic_text, argument_text, arguments_text};
 ghost use Rattle.disasm.specs.declared.mnemonic.Mnemonic.{Mnemonic as MnemonicOf};
 ghost use Rattle.disasm.specs.declared.statement.Argument.{Argument as ArgumentOf};
 ghost use Rattle.disasm.specs.declared.statement.Arguments.{Arguments as ArgumentsOf};
@@ -73,8 +73,8 @@ fn read_arguments(text: &str) -> Option<Arguments>
 
 fn read_bare(name: &str) -> Option<Statement>
     ensures found { IfSome result (λ s. (m : MnemonicOf) ×
-        (name.now ≡ name_of m) × (s ≡ record { mnemonic = m; arguments = Arguments.Zero })) }
-    ensures only { (m : MnemonicOf) → name.now ≡ name_of m →
+        (name.now ≡ mnemonic_text m) × (s ≡ record { mnemonic = m; arguments = Arguments.Zero })) }
+    ensures only { (m : MnemonicOf) → name.now ≡ mnemonic_text m →
         result ≡ Some (record { mnemonic = m; arguments = Arguments.Zero }) }
 {
     Some(Statement {
@@ -85,10 +85,10 @@ fn read_bare(name: &str) -> Option<Statement>
 
 fn read_both(name: &str, text: &str) -> Option<Statement>
     ensures found { IfSome result (λ s. (m : MnemonicOf) × (w : ArgumentsOf) ×
-        (name.now ≡ name_of m) × (32 ∷ text.now ≡ arguments_text w) ×
+        (name.now ≡ mnemonic_text m) × (32 ∷ text.now ≡ arguments_text w) ×
         (s ≡ record { mnemonic = m; arguments = capped_arguments w })) }
     ensures only { (m : MnemonicOf) (w : ArgumentsOf) →
-        name.now ≡ name_of m → 32 ∷ text.now ≡ arguments_text w →
+        name.now ≡ mnemonic_text m → 32 ∷ text.now ≡ arguments_text w →
         result ≡ Some (record { mnemonic = m; arguments = capped_arguments w }) }
 {
     Some(Statement {

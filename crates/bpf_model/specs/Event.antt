@@ -119,7 +119,8 @@ abbrev pub PerformsEvent : Machine → Event → Answer → Machine → Type 0
 PerformsEvent m (events.Start prog ctx) (Started r) new = Starts m prog ctx.items r new
 PerformsEvent m (events.Step run) answer new = StepsRun m run answer new
 PerformsEvent m (events.Update map key value flags) (Ret ret) new =
-    (store : Store) × Updates m.store (open_sections m.runs) map key.items value.items flags ret store
+    (store : Store)
+    × Updates m.store (open_sections m.runs) map key.items value.items flags ret store
     × (new ≡ with_store m store)
 PerformsEvent m (events.Delete map key) (Ret ret) new =
     (store : Store) × Deletes m.store (open_sections m.runs) map key.items ret store

@@ -44,7 +44,8 @@ abbrev pub ExitsInTime : Machine → List Event → List Answer → List Machine
 ExitsInTime m events answers states =
     (j r : ℕ) (later : Machine) (run : Run) → slice_get (m ∷ states) j ≡ Some later →
     run_at later.runs r ≡ Some run →
-    moves_of r (moved_by (run_at m.runs r)) (take j events) (take j answers) < length run.program.code
+    moves_of r (moved_by (run_at m.runs r)) (take j events) (take j answers)
+    < length run.program.code
 
 -- The element is unlinked in a state between two others.
 pub record IsUnlinkedBetween (states : List Machine) (i j n : ℕ) : Type 0 where

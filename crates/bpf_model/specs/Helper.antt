@@ -54,7 +54,8 @@ pub record Updates (s : Store) (opened : List Section) (map : ℕ) (key value : 
   pub there : slice_get s.maps map ≡ Some state
   pub found : Option ℕ
   pub lookup : LooksUp s map key found
-  pub settled : Settles (update_error flags (is_some found) (linked_count map s.elements) state) ret s new (Replaces s opened map state key value found new)
+  pub settled : Settles (update_error flags (is_some found) (linked_count map s.elements) state)
+      ret s new (Replaces s opened map state key value found new)
 
 -- A delete of an absent key fails; else the key's element is unlinked.
 abbrev pub Removes : Option ℕ → List Section → Result (Unit {0}) Errno → Store → Store → Type 0

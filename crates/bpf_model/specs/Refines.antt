@@ -26,7 +26,7 @@ abbrev pub slot_view : Element → SlotView
 slot_view e = record { key = e.key; value = e.value; uses = e.uses }
 
 -- An element of map k that isn't reclaimed.
-pub record IsKept (es : List Element) (k n : ℕ) (e : Element) : Type 0 where
+pub record IsElementKept (es : List Element) (k n : ℕ) (e : Element) : Type 0 where
   pub born : slice_get es n ≡ Some e
   pub in_map : e.map ≡ k
   pub kept : is_reclaimed e.life ≡ false
@@ -41,11 +41,11 @@ pub record SlotsStand (v : MapView) : Type 0 where
 -- The kept elements of map k stand each in a slot of its own, none of them free. The index has the
 -- linked ones, and no others.
 pub record ElementsStand (slots : List ℕ) (k : ℕ) (es : List Element) (v : MapView) : Type 0 where
-  pub occupied : (n : ℕ) (e : Element) → IsKept es k n e →
+  pub occupied : (n : ℕ) (e : Element) → IsElementKept es k n e →
       slice_get v.slots (slice_index slots n) ≡ Some (slot_view e)
-  pub single : (a b : ℕ) (d e : Element) → IsKept es k a d → IsKept es k b e →
+  pub single : (a b : ℕ) (d e : Element) → IsElementKept es k a d → IsElementKept es k b e →
       slice_index slots a ≡ slice_index slots b → a ≡ b
-  pub apart : (n : ℕ) (e : Element) → IsKept es k n e → times (slice_index slots n) v.free ≡ 0
+  pub apart : (n : ℕ) (e : Element) → IsElementKept es k n e → times (slice_index slots n) v.free ≡ 0
   pub found : (key : List ℕ) (i : ℕ) → get v.index key ≡ Some i →
       (n : ℕ) × IsLinkedAt es k key n × (slice_index slots n ≡ i)
   pub finds : (key : List ℕ) (n : ℕ) → IsLinkedAt es k key n →
@@ -104,7 +104,8 @@ pub record RefinesSchedule (w : WorldView) (s : Schedule) : Type 0 where
   pub map : (k : ℕ) (v : MapView) (m : MapState) (q : Queues) → slice_get w.maps k ≡ Some v
       → slice_get s.machine.store.maps k ≡ Some m → slice_get s.queues k ≡ Some q →
       MapRefines slots k s.machine.store.elements q v m
-  pub runs : (r : ℕ) → SlotRefines slots s.machine.store.elements s.machine.programs (slice_get w.runs r) (slice_get s.machine.runs r)
+  pub runs : (r : ℕ) → SlotRefines slots s.machine.store.elements s.machine.programs
+      (slice_get w.runs r) (slice_get s.machine.runs r)
   pub opened : w.opened ≡ open_flags s.machine.runs
   pub awaited : w.awaited ≡ s.awaited
   pub flags : length s.awaited ≡ length (open_flags s.machine.runs)

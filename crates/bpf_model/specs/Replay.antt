@@ -18,7 +18,8 @@ pub record JournalEntry : Type 0 where
 abbrev pub IsQuiet : Machine → Type 0
 IsQuiet m = (r : ℕ) → run_at m.runs r ≡ None
 
-pub record ReplaysOnMachine (base : Machine) (entries : List JournalEntry) (m : Machine) : Type 0 where
+pub record ReplaysOnMachine (base : Machine) (entries : List JournalEntry) (m : Machine) :
+    Type 0 where
   pub quiet : IsQuiet base
   pub short : length entries ≤ MAX_JOURNAL
   pub real : AreReal (map (λ e. e.event) entries)

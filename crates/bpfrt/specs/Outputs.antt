@@ -1,9 +1,8 @@
 -- What the commands write, of which files, and how they refuse the others.
-use Rattle.std.specs.Prelude.{◌≡◌, ◌≢◌, ℕ, ◌⊎◌, List, ◌++◌, length, map, codes, Option}
+use Rattle.std.specs.Prelude.{◌≡◌, ◌≢◌, ℕ, ◌⊎◌, List, ◌++◌, length, codes, Option}
 use Rattle.std.specs.Fmt.{decimal}
 use Rattle.std.specs.Io.KnownBytes.{Appends}
 use Rattle.bpf_model.specs.declared.insn.Insn.{Insn}
-use Rattle.bpf_model.specs.declared.limits.MapShape.{MapShape}
 use Rattle.bpf_model.specs.Spelling.{IsProgram, text, slot_total}
 use Rattle.bpf_model.specs.Plain.{IsPlain}
 use Rattle.bpf_model.specs.PlainMaps.{IsPlainWithMaps}
@@ -12,18 +11,14 @@ use Rattle.insn_codec.specs.declared.fault.DecodeFault.{DecodeFault}
 use Rattle.insn_codec.specs.Faults.{IsDecodeFault}
 use Rattle.loader.specs.declared.fault.LoadFault.{LoadFault}
 use Rattle.loader.specs.ProgramFile.{FileContent, FileSays, IsLoadFault}
-use Rattle.maps.specs.Registry.{RegistryView}
 use Rattle.typed_runs.specs.Verified.{IsVerified}
 use Rattle.verifier.specs.declared.refusal.Refusal.{Refusal}
 use Rattle.verifier.specs.Verdict.{IsToldOf}
+use Rattle.worker_pool.specs.Outcomes.{registry_shapes}
 use Rattle.bpfrt.specs.declared.report.Verdict.{Verdict}
 use Rattle.bpfrt.specs.declared.program_file.Source.{Source}
 use Rattle.bpfrt.specs.declared.run.Accepted.{Accepted}
 use Rattle.bpfrt.specs.Verdicts.{IsDecodeVerdict, IsRefusalVerdict, IsLoadVerdict}
-
--- the shapes of a registry's maps, by their numbers
-abbrev pub shapes_in : RegistryView → List MapShape
-shapes_in registry = map (λ m. m.shape) registry.maps
 
 -- what a file says whose code is the text of a program
 abbrev pub content_with : Source → FileContent
@@ -41,7 +36,7 @@ pub record IsVerifiedFile (bytes : List ℕ) (program : List Insn) : Type 0 wher
   pub says : FileSays bytes content
   pub is : IsProgram program
   pub text_is : content.code ≡ text program
-  pub verified : IsVerified program (shapes_in content.registry) content.context
+  pub verified : IsVerified program (registry_shapes content.registry) content.context
 
 -- The file is such a one, with a program of so many instructions and slots.
 pub record IsAcceptedFile (bytes : List ℕ) (a : Accepted) : Type 0 where
@@ -80,7 +75,7 @@ pub record IsVerifierVerdict (bytes : List ℕ) (v : Verdict) : Type 0 where
   pub told : IsRefusalVerdict refusal v
   pub not_plain : v.code ≢ 13 → ¬ (IsPlain source.program)
   pub not_plain_with_maps : v.code ≢ 13 →
-      ¬ (IsPlainWithMaps source.program (shapes_in source.registry))
+      ¬ (IsPlainWithMaps source.program (registry_shapes source.registry))
 
 -- Memory ran out, or it is the first fault of the file, or of its code.
 abbrev pub IsDecodeRefusal : List ℕ → Verdict → Type 0

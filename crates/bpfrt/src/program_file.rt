@@ -3,7 +3,8 @@ ghost use Rattle.std.specs.Prelude.{◌≡◌, List, [], ℕ, ◌++◌, ◌≤�
 ghost use Rattle.bpf_model.specs.declared.limits.TheConstants.{CTX_BYTES};
 ghost use Rattle.bpfrt.specs.Files.{HoldsBytes};
 ghost use Rattle.bpf_model.specs.View.{new_map_view};
-ghost use Rattle.bpfrt.specs.Outputs.{shapes_in, IsSourceOf, IsDecodeRefusal};
+ghost use Rattle.worker_pool.specs.Outcomes.{registry_shapes};
+ghost use Rattle.bpfrt.specs.Outputs.{IsSourceOf, IsDecodeRefusal};
 
 use crate::report::Verdict;
 use bpf_model::MAX_SLOTS;
@@ -42,7 +43,7 @@ pub enum FileBytes {
 fn source_of(alloc: Global, bytes: &[u8]) -> Result<Source, Verdict>
     ensures found { IfOk result (IsSourceOf bytes.now) }
     ensures limit { IfOk result (λ s. s.ctx_len ≤ CTX_BYTES) }
-    ensures maps { IfOk result (λ s. s.registry.maps ≡ map new_map_view (shapes_in s.registry)) }
+    ensures maps { IfOk result (λ s. s.registry.maps ≡ map new_map_view (registry_shapes s.registry)) }
     ensures fault { IfErr result (IsDecodeRefusal bytes.now) }
 {
     let file = load(alloc, bytes)?;
@@ -93,7 +94,7 @@ impl FileBytes {
         ensures limit { IfOk result (λ s. s.ctx_len ≤ CTX_BYTES) }
         // Nothing has happened to its maps.
         ensures maps { IfOk result (λ s.
-            s.registry.maps ≡ map new_map_view (shapes_in s.registry)) }
+            s.registry.maps ≡ map new_map_view (registry_shapes s.registry)) }
         ensures fault { (bytes : List ℕ) → HoldsBytes self.now bytes →
             IfErr result (IsDecodeRefusal bytes) }
     {

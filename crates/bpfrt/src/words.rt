@@ -105,6 +105,7 @@ fn number_argument<'a>(alloc: Global, id: &'a str, help: &'a str) -> Arg<'a> {
     Arg::new(alloc, id)
         .help(help)
         .required(true)
+        .allow_negative_numbers(true)
         .action(ArgAction::Set)
 }
 
@@ -141,13 +142,50 @@ fn grammar<'a>(alloc: Global) -> Result<clap::Command<'a>, AllocError> {
         .subcommand(pool_grammar(alloc)?)
 }
 
-fn usage(alloc: Global, error: &clap::Error) -> UsageFault {
-    if error.kind() == ErrorKind::OutOfMemory {
-        return UsageFault::Memory;
+/// The text without line ends behind it, and with U+FFFD for each other control character, which could come
+/// from a word and change what a terminal shows.
+fn shown(alloc: Global, text: &str) -> Result<String, AllocError> {
+    let mut shown = String::new(alloc);
+    for character in text.trim_end().chars() {
+        let is_plain = character == '\n' || !character.is_control();
+        shown.push(if is_plain { character } else { '\u{FFFD}' })?;
     }
-    match format!(in alloc; "{error}") {
+    Ok(shown)
+}
+
+fn usage_fault(alloc: Global, text: Result<String, AllocError>) -> UsageFault {
+    match text.and_then(|text| shown(alloc, text.as_str())) {
         Ok(text) => UsageFault::Usage(text),
         Err(_) => UsageFault::Memory,
+    }
+}
+
+/// The command that the word names but for the case of its letters.
+fn command_in_other_case(word: &str) -> Option<&'static str> {
+    ["check", "disasm", "script", "pool"]
+        .into_iter()
+        .find(|name| word.eq_ignore_ascii_case(name))
+}
+
+/// Why the words are no command. `clap` finds no command near a word that differs from it in every letter's case.
+fn usage(alloc: Global, error: &clap::Error, words: &[String]) -> UsageFault {
+    let first = words.get(1).map_or("", String::as_str);
+    match (error.kind(), command_in_other_case(first)) {
+        (ErrorKind::OutOfMemory, _) => UsageFault::Memory,
+        (ErrorKind::InvalidSubcommand, Some(name)) => {
+            let text = format!(in alloc;
+                "\
+error: unrecognized subcommand '{first}'
+
+  tip: a similar subcommand exists: '{name}'
+
+Usage: bpfrt <COMMAND>
+
+For more information, try '--help'."
+            );
+            usage_fault(alloc, text)
+        }
+        _ => usage_fault(alloc, format!(in alloc; "{error}")),
     }
 }
 
@@ -171,14 +209,17 @@ fn number_at(alloc: Global, matches: &ArgMatches<'_>, id: &str) -> Result<u64, U
     let word = matches.get_str(id).unwrap_or("");
     match number_of(word) {
         Some(number) => Ok(number),
-        None => Err(UsageFault::Usage(format!(in alloc;
-            "\
+        None => {
+            let text = format!(in alloc;
+                "\
 error: invalid value '{word}' for '<{id}>': it is no decimal number below 2^64 without sign and leading zeros
 
 Usage: bpfrt pool <WORKERS> <FILE> <COUNT>
 
 For more information, try 'bpfrt pool --help'."
-        )?)),
+            );
+            Err(usage_fault(alloc, text))
+        }
     }
 }
 
@@ -197,7 +238,7 @@ fn pool_of(alloc: Global, matches: &ArgMatches<'_>) -> Result<Command, UsageFaul
 pub fn command<'a>(alloc: Global, words: &'a [String]) -> Result<Command, UsageFault> {
     let matches = match grammar(alloc)?.try_get_matches_from(words) {
         Ok(matches) => matches,
-        Err(error) => return Err(usage(alloc, &error)),
+        Err(error) => return Err(usage(alloc, &error, words)),
     };
     match matches.subcommand() {
         Some(("check", matches)) => Ok(Command::Check {

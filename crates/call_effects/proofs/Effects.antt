@@ -1,6 +1,7 @@
 -- The laws, for states in code.
 use Rattle.std.proofs.Common.{◌≡◌, ℕ, ◌+◌, ◌^◌, ◌/◌, ◌<◌, ◌≤◌, List, Some, None, ap, ◌∙◌, ℤ, pos, arith, true, false}
 use Rattle.std.specs.Prelude.{slice_get}
+use Rattle.bpf_model.specs.declared.limits.TheConstants.{FRAME_BYTES}
 use Rattle.bpf_model.specs.declared.limits.MapShape.{MapShape}
 use Rattle.bpf_model.specs.declared.insn.Insn.{Insn}
 use Rattle.bpf_model.specs.declared.insn.Insn.TheVariants.{Call}
@@ -16,7 +17,7 @@ use Rattle.typed_runs.specs.Kinds.{Kind, Blank, Mixed, Ended, Num, CtxAt, FrameA
 use Rattle.typed_runs.specs.Effects.{after_call, after_lock, after_unlock, IsOther, IsOtherCell, IsFresh, HasMap, HasBytes, when_null, when_there}
 use Rattle.typed_runs.specs.Verified.{Transfers}
 use Rattle.typed_runs.specs.Planned.{Wider, AreAlike, origin}
-use Rattle.typed_runs.proofs.Planning.{alike_wider, transfers_wider, origin_has}
+use Rattle.typed_runs.proofs.Planning.{alike_wider, transfers_wider, origin_has, to_alike}
 use Rattle.typed_runs.proofs.Calls.{lock_transfers, unlock_transfers, lookup_transfers}
 use Rattle.typed_runs.proofs.Updating.{update_transfers, delete_transfers}
 use Rattle.typed_runs.proofs.Local.{equal_transfers, not_equal_transfers}
@@ -36,18 +37,14 @@ use Rattle.call_effects.specs.Calls.{PerformsCall, null_jump}
 same : (a : AbsState) → Wider a a
 same a c m d = d
 
--- what is known after it, as an array has it
-to-alike : (i : Insn) (shapes : List MapShape) (ctx_len : ℕ) (a b c : AbsState) → AreAlike b c → Transfers i shapes ctx_len a b None → Transfers i shapes ctx_len a c None
-to-alike i shapes ctx_len a b c e t = transfers_wider i shapes ctx_len a a b c None None (same a) (alike_wider b c e) (alike_wider b c e) t
-
 to-both : (i : Insn) (shapes : List MapShape) (ctx_len : ℕ) (a b c x y : AbsState) → AreAlike b c → AreAlike x y → Transfers i shapes ctx_len a b (Some x) → Transfers i shapes ctx_len a c (Some y)
 to-both i shapes ctx_len a b c x y e f t = transfers_wider i shapes ctx_len a a b c (Some x) (Some y) (same a) (alike_wider b c e) (alike_wider x y f) t
 
 pub lock_sound : (a b : StateHere) → a.inside ≡ false → AreAlike (after_lock (state_of a)) (state_of b) → (imm : ℤ) (shapes : List MapShape) → kernel_function_of imm ≡ Some ReadLock → PerformsCall callee.Kernel imm shapes a b
-lock_sound a b out e imm shapes f ctx_len = to-alike (Call callee.Kernel imm) shapes ctx_len (state_of a) (after_lock (state_of a)) (state_of b) e (lock_transfers imm shapes ctx_len (state_of a) f out)
+lock_sound a b out e imm shapes f ctx_len = to_alike (Call callee.Kernel imm) shapes ctx_len (state_of a) (after_lock (state_of a)) (state_of b) e (lock_transfers imm shapes ctx_len (state_of a) f out)
 
 pub unlock_sound : (a b : StateHere) → a.inside ≡ true → AreAlike (after_unlock (state_of a)) (state_of b) → (imm : ℤ) (shapes : List MapShape) → kernel_function_of imm ≡ Some ReadUnlock → PerformsCall callee.Kernel imm shapes a b
-unlock_sound a b into e imm shapes f ctx_len = to-alike (Call callee.Kernel imm) shapes ctx_len (state_of a) (after_unlock (state_of a)) (state_of b) e (unlock_transfers imm shapes ctx_len (state_of a) f into)
+unlock_sound a b into e imm shapes f ctx_len = to_alike (Call callee.Kernel imm) shapes ctx_len (state_of a) (after_unlock (state_of a)) (state_of b) e (unlock_transfers imm shapes ctx_len (state_of a) f into)
 
 -- an identity that isn't taken is nowhere
 other-below : (top : ℕ) (k : Kind) → IsBelow top k → IsOther top k
@@ -77,23 +74,23 @@ untaken_fresh top a b = record {
 pub lookup_sound : (a b : StateHere) (shapes : List MapShape) (map id : ℕ) (shape : MapShape) → a.inside ≡ true → HasMap shapes (state_of a) map shape → HasBytes (state_of a) 2 shape.key_len → AreBelow id a → AreAlike (after_call (MaybeNull map id) (state_of a)) (state_of b) →
     (imm : ℤ) → helper_of imm ≡ Some helpers.Lookup → PerformsCall callee.Helper imm shapes a b
 lookup_sound a b shapes map id shape into m key below e imm f ctx_len =
-    to-alike (Call callee.Helper imm) shapes ctx_len (state_of a) (after_call (MaybeNull map id) (state_of a)) (state_of b) e (lookup_transfers imm shapes ctx_len (state_of a) map id shape f into m key (untaken_fresh id a below))
+    to_alike (Call callee.Helper imm) shapes ctx_len (state_of a) (after_call (MaybeNull map id) (state_of a)) (state_of b) e (lookup_transfers imm shapes ctx_len (state_of a) map id shape f into m key (untaken_fresh id a below))
 
 pub update_sound : (a b : StateHere) (shapes : List MapShape) (map : ℕ) (shape : MapShape) (t q : Scalar) → ((n : ℕ) → n < 2 ^ 64 → Holds t n) → HasMap shapes (state_of a) map shape → HasBytes (state_of a) 2 shape.key_len → HasBytes (state_of a) 3 shape.value_len →
     kind_in a.regs 4 ≡ kinds.Num q → AreAlike (after_call (Num t) (state_of a)) (state_of b) → (imm : ℤ) → helper_of imm ≡ Some helpers.Update → PerformsCall callee.Helper imm shapes a b
 update_sound a b shapes map shape t q all m key value flags e imm f ctx_len =
-    to-alike (Call callee.Helper imm) shapes ctx_len (state_of a) (after_call (Num t) (state_of a)) (state_of b) e (update_transfers imm shapes ctx_len (state_of a) map shape t all m key value q (ap kind_of flags) f)
+    to_alike (Call callee.Helper imm) shapes ctx_len (state_of a) (after_call (Num t) (state_of a)) (state_of b) e (update_transfers imm shapes ctx_len (state_of a) map shape t all m key value q (ap kind_of flags) f)
 
 pub delete_sound : (a b : StateHere) (shapes : List MapShape) (map : ℕ) (shape : MapShape) (t : Scalar) → ((n : ℕ) → n < 2 ^ 64 → Holds t n) → HasMap shapes (state_of a) map shape → HasBytes (state_of a) 2 shape.key_len →
     AreAlike (after_call (Num t) (state_of a)) (state_of b) → (imm : ℤ) → helper_of imm ≡ Some helpers.Delete → PerformsCall callee.Helper imm shapes a b
 delete_sound a b shapes map shape t all m key e imm f ctx_len =
-    to-alike (Call callee.Helper imm) shapes ctx_len (state_of a) (after_call (Num t) (state_of a)) (state_of b) e (delete_transfers imm shapes ctx_len (state_of a) map shape t all m key f)
+    to_alike (Call callee.Helper imm) shapes ctx_len (state_of a) (after_call (Num t) (state_of a)) (state_of b) e (delete_transfers imm shapes ctx_len (state_of a) map shape t all m key f)
 
 -- arguments
 pub has_map : (a : StateHere) (shapes : List MapShape) (map : ℕ) (shape : MapShape) → kind_in a.regs 1 ≡ kinds.Map map → slice_get shapes map ≡ Some shape → HasMap shapes (state_of a) map shape
 has_map a shapes map shape e f = record { map_is = ap kind_of e; shape_is = f }
 
-pub has_bytes : (a : StateHere) (r len at : ℕ) (o : ℤ) → kind_in a.regs r ≡ kinds.Frame o → o ≡ pos at → at + len ≤ 512 → AreAll a.frame.cells at len class.Byte → HasBytes (state_of a) r len
+pub has_bytes : (a : StateHere) (r len at : ℕ) (o : ℤ) → kind_in a.regs r ≡ kinds.Frame o → o ≡ pos at → at + len ≤ FRAME_BYTES → AreAll a.frame.cells at len class.Byte → HasBytes (state_of a) r len
 has_bytes a r len at o e f inside all = record {
   at = at;
   frame = ap kind_of e ∙ ap FrameAt f;

@@ -40,7 +40,8 @@ fn unlock(state: &mut AbsState) -> Result<(), Fault>
         → PerformsCall CallKind.Kernel imm shapes state.old state.new) }
     ensures result { result
         ≡ outcome_of (kernel_fault (Some KernelFunction.ReadUnlock) state.old.inside) }
-    ensures closes { OnOk result (AreAlike (after_unlock (state_of state.old)) (state_of state.new)) }
+    ensures closes { OnOk result (AreAlike (after_unlock (state_of state.old))
+        (state_of state.new)) }
     ensures below { (top : ℕ) → AreBelow top state.old → AreBelow top state.new }
     ensures unchanged { OnErr result (state.new ≡ state.old) }
 {

@@ -35,6 +35,7 @@ use Rattle.typed_runs.specs.Planned.{AreAlike}
 use Rattle.typed_runs.proofs.Sets.{set-described}
 use Rattle.typed_runs.proofs.Arguments.{reg-is}
 use Rattle.typed_runs.proofs.Local.{alone_transfers}
+use Rattle.scalar_domain.proofs.Bits.{ap2}
 use Rattle.typed_runs.proofs.Planning.{alike_wider, transfers_wider}
 use Rattle.register_kinds.specs.declared.kind.RegKind.{RegKind}
 use Rattle.register_kinds.specs.declared.kind.RegKind.TheVariants as kinds
@@ -45,9 +46,6 @@ use Rattle.compute_effects.specs.declared.moving.Way.TheVariants.{Forward, Back}
 use Rattle.compute_effects.specs.Computes.{PerformsComputation, signed_move, MovesOffsets, Combines, Computes, HasValue, IsMove}
 use Rattle.compute_effects.proofs.Laws.{unary_lt, computed_numbers}
 use Rattle.scalar_domain.proofs.Words.{alu_lt}
-
-ap2 : {A B C : Type 0} (f : A → B → C) {a a' : A} {b b' : B} → a ≡ a' → b ≡ b' → f a b ≡ f a' b'
-ap2 f {a' = a'} {b = b} p q = ap (λ a. f a b) p ∙ ap (f a') q
 
 -- two numbers
 pub numbers_combine : (size : Size) (op : AluOp) (x y : RegKind) (a b r : Scalar) → x ≡ kinds.Num a → y ≡ kinds.Num b → ((p q : ℕ) → p < 2 ^ 64 → q < 2 ^ 64 → Holds a p → Holds b q → Holds r (alu size op p q))

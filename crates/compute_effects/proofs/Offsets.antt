@@ -5,6 +5,7 @@ use Rattle.std.specs.Int.{w64}
 use Rattle.std.proofs.lemmas.Int.{ints, to_z_pos}
 use Rattle.std.proofs.lemmas.Bool.{le-ltb}
 use mir.Val.{sel}
+use Rattle.bpf_model.specs.declared.limits.TheConstants.{FRAME_BYTES}
 use Rattle.bpf_model.specs.Arithmetic.{signed, word, immediate}
 use Rattle.scalar_domain.specs.declared.scalar.Scalar.{Scalar}
 use Rattle.scalar_domain.specs.Scalar.{Holds}
@@ -63,7 +64,7 @@ module _ (s by t : Scalar) (small : t.greatest ≤ 2 ^ 30) (steps : (n : ℕ) �
   moves Back sound = moves_back sound
 
 -- a field imm by which an offset inside the frame is moved to another
-pub step_inside : (m at : ℕ) (imm : ℤ) → m ≤ 512 → at ≤ 512 → pos m +ℤ imm ≡ pos at → IsNearStep (immediate imm) × (shifted_word Forward (m + 2 ^ 29) (immediate imm) ≡ at + 2 ^ 29)
+pub step_inside : (m at : ℕ) (imm : ℤ) → m ≤ FRAME_BYTES → at ≤ FRAME_BYTES → pos m +ℤ imm ≡ pos at → IsNearStep (immediate imm) × (shifted_word Forward (m + 2 ^ 29) (immediate imm) ≡ at + 2 ^ 29)
 step_inside m at (pos k) l h e =
     let s : m + k ≡ at = omega (arith, ints, e) in
     let w : (m + 2 ^ 29 + k) % 2 ^ 64 ≡ at + 2 ^ 29 = omega (arith, s, h) in

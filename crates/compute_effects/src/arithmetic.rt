@@ -65,7 +65,8 @@ pub fn alu(
     dst: Reg,
     src: &Operand,
 ) -> Result<(), Fault>
-    ensures sound { OnOk result (PerformsComputation (Insn.Alu op size dst src.now) state.old state.new) }
+    ensures sound { OnOk result (PerformsComputation (Insn.Alu op size dst src.now)
+        state.old state.new) }
     ensures numbers { (10 ≡ dst → ⊥) → ReadsNumber op (state_of state.old) dst
         → IsNumberOperand (state_of state.old) src.now
         → SetsNumber result dst (state_of state.old) (state_of state.new) }
@@ -73,7 +74,8 @@ pub fn alu(
     // A move of 64 bits copies whatever may be read; a sum moves a reference inside the frame.
     ensures copies { (s : ℕ) → op ≡ AluOp.Move → size ≡ Size.Word64 → src.now ≡ Operand.Register s
         → (10 ≡ dst → ⊥) → IsWritten (kind_of (kind_in state.old.regs s))
-        → SetsKind result dst (kind_of (kind_in state.old.regs s)) (state_of state.old) (state_of state.new) }
+        → SetsKind result dst (kind_of (kind_in state.old.regs s))
+        (state_of state.old) (state_of state.new) }
     ensures frame { (m at : ℕ) (imm : ℤ) → op ≡ AluOp.Add → size ≡ Size.Word64
         → src.now ≡ Operand.Immediate imm → (10 ≡ dst → ⊥)
         → kind_in state.old.regs dst ≡ RegKind.Frame (pos m)
@@ -116,7 +118,8 @@ pub fn unary(state: &mut AbsState, op: &UnaryOp, dst: Reg) -> Result<(), Fault>
 
 /// The wide instruction with a number. Error: `FramePointerWritten`.
 pub fn load_number(state: &mut AbsState, dst: Reg, number: u64) -> Result<(), Fault>
-    ensures sound { OnOk result (PerformsComputation (Insn.LoadNumber dst number) state.old state.new) }
+    ensures sound { OnOk result (PerformsComputation (Insn.LoadNumber dst number)
+        state.old state.new) }
     ensures numbers { (10 ≡ dst → ⊥)
         → SetsNumber result dst (state_of state.old) (state_of state.new) }
     ensures below { (top : ℕ) → AreBelow top state.old → AreBelow top state.new }

@@ -10,7 +10,7 @@ use Rattle.script_setup.specs.Loading.{MapReplies, LoadReplies, shape_of_numbers
 use Rattle.script_setup.specs.Setups.{SetupView}
 use Rattle.script_world.specs.declared.live.Live.{Live}
 use Rattle.script_world.specs.Lives.{LiveReplies}
-use Rattle.control.specs.Sessions.{SetupReplies, Starts, sealed}
+use Rattle.control.specs.Sessions.{SetupReplies, TracksStart, sealed}
 use Rattle.control.specs.declared.session.Session.TheVariants as sessions
 
 -- one reply, and its text
@@ -34,7 +34,7 @@ load_made old command ctx_len code names reply made before after is r text = (
 )
 
 -- the command that makes the world is neither `map` nor `load`
-module _ (old : SetupView) (replies : List Reply) (live : Live) (starts : Starts old) where
+module _ (old : SetupView) (replies : List Reply) (live : Live) (starts : TracksStart old) where
   pub world_made : (command : Command) → ((name : List ℕ) (key_len value_len entries spare limit : ℕ) → command ≡ commands.Map name key_len value_len entries spare limit → ⊥) → ((ctx_len : ℕ) (code : List ℕ) (names : List (List ℕ)) → command ≡ commands.Load ctx_len code names → ⊥) → (r : LiveReplies (sealed old) command replies live) → SetupReplies old command r.events replies (sessions.Live live)
   world_made (commands.Map name key_len value_len entries spare limit) no_map no_load r = absurd (no_map name key_len value_len entries spare limit refl)
   world_made (commands.Load ctx_len code names) no_map no_load r = absurd (no_load ctx_len code names refl)

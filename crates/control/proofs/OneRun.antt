@@ -16,7 +16,7 @@ use Rattle.script_world.specs.declared.live.Live.{Live}
 use Rattle.script_world.specs.Lives.{Happen}
 use Rattle.script_world.proofs.Happening.{happen_more}
 use Rattle.control.specs.Histories.{History, Continues, RunsTo, StaysMade}
-use Rattle.control.specs.Sessions.{Answers, LineAnswers, RepliesOnce, SessionReplies, SetupReplies, WorldReplies, Starts, sealed}
+use Rattle.control.specs.Sessions.{AnswersCommand, LineAnswers, RepliesOnce, SessionReplies, SetupReplies, WorldReplies, TracksStart, sealed}
 use Rattle.control.specs.declared.session.Session.{Session}
 use Rattle.control.specs.declared.session.Session.TheVariants as sessions
 
@@ -38,14 +38,14 @@ same_run made before events old new e n r =
     (made, stays new made, subst (λ (xs : List Event). RunsTo made xs new) (sym nothing) (subst (λ (s : Session). RunsTo made before s) (sym n) r))
 
 -- in a world
-world_runs : (made : SetupView) (before events : List Event) (old : Live) (command : Command) (replies : List Reply) (new : Session) → Starts made → Happen (sealed made).world before old.world → WorldReplies old command events replies new → Onward made (before ++ events) new
+world_runs : (made : SetupView) (before events : List Event) (old : Live) (command : Command) (replies : List Reply) (new : Session) → TracksStart made → Happen (sealed made).world before old.world → WorldReplies old command events replies new → Onward made (before ++ events) new
 world_runs made before events old command replies new starts h (live, r, e, n) =
     let more = happen_more (sealed made).world old.world live.world before r.events h r.happened in
     let there : Onward made (before ++ events) (sessions.Live live) = (made, refl, (starts, subst (λ (xs : List Event). Happen (sealed made).world (before ++ xs) live.world) (sym e) more)) in
     subst (λ (s : Session). Onward made (before ++ events) s) (sym n) there
 
 -- in a world that is made
-first_runs : (made : SetupView) (before events : List Event) (old : SetupView) (command : Command) (replies : List Reply) (new : Session) → made ≡ old → before ≡ [] → Starts old → WorldReplies (sealed old) command events replies new → Onward made (before ++ events) new
+first_runs : (made : SetupView) (before events : List Event) (old : SetupView) (command : Command) (replies : List Reply) (new : Session) → made ≡ old → before ≡ [] → TracksStart old → WorldReplies (sealed old) command events replies new → Onward made (before ++ events) new
 first_runs made before events old command replies new m b starts (live, r, e, n) =
     let there : Onward made (before ++ events) (sessions.Live live) = (old, sym m, (starts, subst (λ (xs : List Event). Happen (sealed old).world xs live.world) (sym e ∙ sym (ap (λ (xs : List Event). xs ++ events) b)) r.happened)) in
     subst (λ (s : Session). Onward made (before ++ events) s) (sym n) there
@@ -74,7 +74,7 @@ session_runs : (made : SetupView) (before events : List Event) (old : Session) (
 session_runs made before events (sessions.Setup old) command replies new (m, b) r = setup_runs made before events old command replies new m b r
 session_runs made before events (sessions.Live old) command replies new (starts, h) r = world_runs made before events old command replies new starts h r
 
-says_runs : (made : SetupView) (before events : List Event) (says : Result (Option Command) BadLine) (old : Session) (text : List ℕ) (new : Session) → RunsTo made before old → Answers says old events text new → Onward made (before ++ events) new
+says_runs : (made : SetupView) (before events : List Event) (says : Result (Option Command) BadLine) (old : Session) (text : List ℕ) (new : Session) → RunsTo made before old → AnswersCommand says old events text new → Onward made (before ++ events) new
 says_runs made before events (Ok None) old text new r (e, t, n) = same_run made before events old new e n r
 says_runs made before events (Ok (Some command)) old text new r (replies, s, t) = session_runs made before events old command replies new r s
 says_runs made before events (Err bad) old text new r a = absurd a

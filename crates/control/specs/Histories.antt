@@ -3,7 +3,7 @@ use Rattle.std.specs.Prelude.{◌≡◌, ℕ, List, [], ◌++◌}
 use Rattle.bpf_model.specs.declared.event.Event.{Event}
 use Rattle.script_setup.specs.Setups.{SetupView, no_maps_or_programs}
 use Rattle.script_world.specs.Lives.{Happen}
-use Rattle.control.specs.Sessions.{LineAnswers, new_session, sealed, Starts}
+use Rattle.control.specs.Sessions.{LineAnswers, new_session, sealed, TracksStart}
 use Rattle.control.specs.declared.session.Session.{Session}
 use Rattle.control.specs.declared.session.Session.TheVariants as sessions
 
@@ -20,7 +20,7 @@ new_history = record { session = new_session; made = no_maps_or_programs; events
 abbrev pub RunsTo : SetupView → List Event → Session → Type 0
 RunsTo made events (sessions.Setup setup) = (made ≡ setup) × (events ≡ [])
 RunsTo made events (sessions.Live live) =
-    Starts made × Happen (sealed made).world events live.world
+    TracksStart made × Happen (sealed made).world events live.world
 
 -- Once there is a world, nothing more is made.
 abbrev pub StaysMade : Session → SetupView → SetupView → Type 0

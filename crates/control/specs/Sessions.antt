@@ -32,8 +32,8 @@ now_at setup None = sessions.Setup setup
 now_at setup (Some live) = sessions.Live live
 
 -- It tracks the start of the machine that has these maps and programs.
-abbrev pub Starts : SetupView → Type 0
-Starts s = TracksSchedule (sealed s).world (start_schedule (shapes_made s) s.programs)
+abbrev pub TracksStart : SetupView → Type 0
+TracksStart s = TracksSchedule (sealed s).world (start_schedule (shapes_made s) s.programs)
 
 -- A command that a world is for, once it is there.
 abbrev pub WorldReplies : Live → Command → List Event → List Reply → Session → Type 0
@@ -50,14 +50,15 @@ RepliesOnce Says events replies new =
 -- While maps and programs are being made: `map` and `load` make them, and any other command makes
 -- the world, which it is for.
 abbrev pub SetupReplies : SetupView → Command → List Event → List Reply → Session → Type 0
-SetupReplies old (commands.Map name key_len value_len entries spare reuse_limit) events replies new =
+SetupReplies old (commands.Map name key_len value_len entries spare reuse_limit) events replies
+    new =
     RepliesOnce
     (MapReplies old name (shape_of_numbers key_len value_len entries spare reuse_limit))
     events replies new
 SetupReplies old (commands.Load ctx_len code maps) events replies new =
     RepliesOnce (LoadReplies old ctx_len code maps) events replies new
 SetupReplies old command events replies new =
-    Starts old × WorldReplies (sealed old) command events replies new
+    TracksStart old × WorldReplies (sealed old) command events replies new
 
 abbrev pub SessionReplies : Session → Command → List Event → List Reply → Session → Type 0
 SessionReplies (sessions.Setup old) command events replies new =
@@ -66,18 +67,18 @@ SessionReplies (sessions.Live old) command events replies new =
     WorldReplies old command events replies new
 
 -- A line that says nothing is answered nothing, and a command by the text of its replies.
-abbrev pub Answers : Result (Option Command) BadLine → Session → List Event → List ℕ → Session →
+abbrev pub AnswersCommand : Result (Option Command) BadLine → Session → List Event → List ℕ → Session →
     Type 0
-Answers (Ok None) old events text new = (events ≡ []) × (text ≡ []) × (new ≡ old)
-Answers (Ok (Some command)) old events text new =
+AnswersCommand (Ok None) old events text new = (events ≡ []) × (text ≡ []) × (new ≡ old)
+AnswersCommand (Ok (Some command)) old events text new =
     (replies : List Reply) × SessionReplies old command events replies new
     × (text ≡ flat_map reply_text replies)
-Answers (Err bad) old events text new = ⊥
+AnswersCommand (Err bad) old events text new = ⊥
 
 -- What a line is answered in a state of the script, the events that happen, and the state that it
 -- leaves.
 abbrev pub LineAnswers : Session → List ℕ → List Event → List ℕ → Session → Type 0
-LineAnswers old line events text new = Answers (line_says line) old events text new
+LineAnswers old line events text new = AnswersCommand (line_says line) old events text new
 
 -- a line that is neither a command nor says nothing
 abbrev pub IsNoCommand : List ℕ → Type 0

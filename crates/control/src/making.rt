@@ -5,7 +5,7 @@ ghost use Rattle.bpf_model.specs.declared.event.Event.{Event as MachineEvent};
 ghost use Rattle.script_lines.specs.Answers.{reply_text};
 ghost use Rattle.script_lines.specs.declared.reply.Reply.{Reply as Told};
 ghost use Rattle.script_world.specs.Lives.{LiveReplies};
-ghost use Rattle.control.specs.Sessions.{SetupReplies, Starts, sealed, now_at};
+ghost use Rattle.control.specs.Sessions.{SetupReplies, TracksStart, sealed, now_at};
 
 use script_lines::{Command, write_reply};
 use script_setup::{Setup, shape_of};
@@ -21,7 +21,7 @@ fn answer_first(
     out: &mut Vec<u8>,
 ) -> Result<Live, AllocError>
     ensures { IfOk result (λ live. (replies : List Told)
-        × Starts setup.old × LiveReplies (sealed setup.old) command.entry replies live
+        × TracksStart setup.old × LiveReplies (sealed setup.old) command.entry replies live
         × (out.new.items ≡ out.old.items ++ flat_map reply_text replies)) }
 {
     let made = mem::replace(setup, Setup::new(alloc));

@@ -10,7 +10,7 @@ use Rattle.element_arena.proofs.Counts.{option_cases, one_cases, one_same, times
 use Rattle.element_arena.proofs.Threading.{thread-agree, thread-join, thread-some, last-none, last-held, last-append}
 use Rattle.deferred_free.specs.declared.threaded.Line.{Line}
 use Rattle.deferred_free.specs.declared.threaded.Threaded.{Threaded}
-use Rattle.deferred_free.specs.Lines.{AreLinksJoined, joined, joined_to, joined_from}
+use Rattle.deferred_free.specs.Lines.{AreLinksJoined, joined_lines, joined_to, joined_from}
 use Rattle.element_arena.specs.Kept.{last_left}
 use Rattle.deferred_free.specs.Fits.{threaded_lists, IsLine, FitsAs, ThreadedFits}
 use Rattle.bpf_model.proofs.Lists.{get-set_other}
@@ -20,16 +20,16 @@ append-nil [] = refl
 append-nil (x ∷ xs) = ap (λ l. x ∷ l) (append-nil xs)
 
 pub line_join : (f g : ℕ → Option ℕ) (front back : Line) (xs ys : List ℕ) → IsLine f front xs → IsLine g back ys → ((j : ℕ) → times_in j xs ≤ 1) →
-    ((l : ℕ) → front.last ≡ Some l → g l ≡ back.first) → ((j : ℕ) → front.last ≢ Some j → g j ≡ f j) → IsLine g (joined front back) (xs ++ ys)
+    ((l : ℕ) → front.last ≡ Some l → g l ≡ back.first) → ((j : ℕ) → front.last ≢ Some j → g j ≡ f j) → IsLine g (joined_lines front back) (xs ++ ys)
 line_join f g front back xs ys t u once at others = elim (option_cases front.last) [
   | inl none ↦
       let e : xs ≡ [] = last-none xs (sym t.ends ∙ none) in
-      let j : joined front back ≡ back = ap (λ o. joined_from o front back) none in
+      let j : joined_lines front back ≡ back = ap (λ o. joined_from o front back) none in
       subst (λ l. IsLine g l (xs ++ ys)) (sym j) (subst (λ zs. IsLine g back (zs ++ ys)) (sym e) u)
   | inr some ↦
       let l : ℕ = some.0 in
       let e : front.last ≡ Some some.0 = some.1 in
-      let j : joined front back ≡ joined_to front back.last = ap (λ o. joined_from o front back) some.1 in
+      let j : joined_lines front back ≡ joined_to front back.last = ap (λ o. joined_from o front back) some.1 in
       let th : IsThread g front.first (xs ++ ys) = thread-join f g front.first back.first xs ys some.0 t.thread (sym t.ends ∙ some.1) once (at some.0 some.1) (λ k h n. others k (λ y. n (same_Some k some.0 (sym y ∙ some.1)))) u.thread in
       subst (λ z. IsLine g z (xs ++ ys)) (sym j) (elim (option_cases back.last) [
         | inl none ↦
@@ -54,7 +54,7 @@ last_in : (f : ℕ → Option ℕ) (l : Line) (xs : List ℕ) (j : ℕ) → IsLi
 last_in f l xs j t e = last-held xs j (sym t.ends ∙ e)
 
 pub retired_fits : (x : Threaded) (a m b : ArenaState) (slot : ℕ) → ThreadedFits x a → IsTaken a slot → queued (threaded_lists x a) slot ≡ 0 → m ≡ with_link a slot None → link_at m.links slot ≡ None → AreLinksJoined m b x.next.last (Some slot) →
-    FitsAs (record { next = joined x.next (record { first = Some slot; last = Some slot }); waiting = x.waiting; ready = x.ready }) b (retired_lists (threaded_lists x a) slot) × LinksOf (queued (retired_lists (threaded_lists x a) slot)) a b
+    FitsAs (record { next = joined_lines x.next (record { first = Some slot; last = Some slot }); waiting = x.waiting; ready = x.ready }) b (retired_lists (threaded_lists x a) slot) × LinksOf (queued (retired_lists (threaded_lists x a) slot)) a b
 retired_fits x a m b slot f t apart e1 l1 j1 =
     let q : Queues = threaded_lists x a in
     let not_slot : (j : ℕ) → 0 < queued (threaded_lists x a) j → j ≢ slot = λ j h y. let h' : 0 < queued (threaded_lists x a) slot = subst (λ z. 0 < queued (threaded_lists x a) z) y h in absurd (omega arith) in
@@ -89,7 +89,7 @@ retired_fits x a m b slot f t apart e1 l1 j1 =
     )
 
 pub turned_fits : (x : Threaded) (a b : ArenaState) → ThreadedFits x a → AreLinksJoined a b x.ready.last x.waiting.first →
-    FitsAs (record { next = record { first = None; last = None }; waiting = x.next; ready = joined x.ready x.waiting }) b (turned (threaded_lists x a)) × LinksOf (queued (threaded_lists x a)) a b
+    FitsAs (record { next = record { first = None; last = None }; waiting = x.next; ready = joined_lines x.ready x.waiting }) b (turned (threaded_lists x a)) × LinksOf (queued (threaded_lists x a)) a b
 turned_fits x a b f j1 =
     let in_ready : (j : ℕ) → x.ready.last ≡ Some j → 0 < times_in j (threaded_lists x a).ready = λ j h. last_in (link_at a.links) x.ready (threaded_lists x a).ready j f.ready h in
     let more : (j : ℕ) → times_in j ((threaded_lists x a).ready ++ (threaded_lists x a).waiting) ≡ times_in j (threaded_lists x a).ready + times_in j (threaded_lists x a).waiting = λ j. times-append j (threaded_lists x a).ready (threaded_lists x a).waiting in (

@@ -12,8 +12,8 @@ abbrev pub joined_from : Option ℕ → Line → Line → Line
 joined_from None front back = back
 joined_from (Some l) front back = joined_to front back.last
 
-abbrev pub joined : Line → Line → Line
-joined front back = joined_from front.last front back
+abbrev pub joined_lines : Line → Line → Line
+joined_lines front back = joined_from front.last front back
 
 -- the links of b are those of a, but that the last slot is linked to the first
 pub record AreLinksJoined (a b : ArenaState) (last first : Option ℕ) : Type 0 where

@@ -2,7 +2,7 @@
 
 ghost use Rattle.std.specs.Prelude.{◌≡◌, ◌≤◌, ℕ, [], length, Some, None, IfSome, IfOk};
 ghost use Rattle.element_arena.specs.State.{ArenaState, IsTaken};
-ghost use Rattle.deferred_free.specs.Lines.{AreLinksJoined, joined};
+ghost use Rattle.deferred_free.specs.Lines.{AreLinksJoined, joined_lines};
 ghost use Rattle.element_arena.specs.Kept.{last_left};
 
 use crate::Deferred;
@@ -29,7 +29,7 @@ pub struct Threaded {
 fn join(arena: &mut Arena, front: Line, back: Line) -> Line
     requires { IfSome front.last (λ l. IsTaken arena.old l) }
     ensures links { AreLinksJoined arena.old arena.new front.last back.first }
-    ensures line { result ≡ joined front back }
+    ensures line { result ≡ joined_lines front back }
 {
     match front.last {
         None => back,

@@ -145,8 +145,8 @@ suffix_of (LoadSigned width) = signed_width_suffix width
 suffix_of (Store width) = width_suffix width
 suffix_of (StoreRegister width) = width_suffix width
 
-abbrev pub name_of : Mnemonic → List ℕ
-name_of m = stem_of m ++ suffix_of m
+abbrev pub mnemonic_text : Mnemonic → List ℕ
+mnemonic_text m = stem_of m ++ suffix_of m
 
 -- Arguments, with numbers of any size.
 
@@ -179,7 +179,7 @@ arguments_text (Three a b c) =
     codes " " ++ argument_text a ++ codes ", " ++ argument_text b ++ codes ", " ++ argument_text c
 
 abbrev pub statement_text : Statement → List ℕ
-statement_text s = name_of s.mnemonic ++ arguments_text s.arguments
+statement_text s = mnemonic_text s.mnemonic ++ arguments_text s.arguments
 
 -- How each instruction is written.
 

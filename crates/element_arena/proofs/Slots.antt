@@ -4,7 +4,7 @@ use Rattle.std.specs.Prelude.{slice_get, slice_set}
 use Rattle.std.proofs.lemmas.Option.{none-some, same_Some, slice_get_within}
 use Rattle.std.proofs.lemmas.List.{length-drop, length-take, length-take-le, length-map}
 use Rattle.bpf_model.specs.View.{SlotView, uses_at}
-use Rattle.element_arena.specs.State.{ArenaState, IsTaken, key_at, value_at, generation_at, with_value}
+use Rattle.element_arena.specs.State.{ArenaState, IsTaken, key_at, value_at, generation_at, with_slot_value}
 use Rattle.element_arena.specs.Blocks.{block, with_block}
 use Rattle.element_arena.specs.Kept.{shown_bytes, slots_shown, state_with, arena_state_of, free_of, IsThreaded, AreCellsKept, IsLaidOut, taken_count, relinked, linked_behind}
 use Rattle.element_arena.specs.declared.cell.Cell.{Cell}
@@ -168,11 +168,11 @@ value_is kl vl limit cells first last ks vs i a e k t =
     ap (λ (b : ArenaState). value_at b.slots i) (sym e) ∙ (shown-value kl vl cells ks vs i u.0 u.1 ∙ shown-used u.0.uses (block vl i vs) u.2)
 
 pub state-stored : (kl vl limit : ℕ) (cells : List Cell) (first last : Option ℕ) (ks vs : List ℕ) (i : ℕ) (a : ArenaState) (new : List ℕ) → arena_state_of cells first ks vs kl vl limit ≡ a → AreCellsKept cells first last limit → IsLaidOut cells ks vs kl vl → IsTaken a i → length new ≡ vl →
-    arena_state_of cells first ks (with_block i new vs) kl vl limit ≡ with_value a i new
+    arena_state_of cells first ks (with_block i new vs) kl vl limit ≡ with_slot_value a i new
 state-stored kl vl limit cells first last ks vs i a new e k l t en =
     let u = used_of cells first last limit i k (held_from kl vl limit cells first ks vs i (subst (λ (b : ArenaState). IsTaken b i) (sym e) t)) in
     ap (λ s. state_with s cells (free_of cells first) kl vl limit) (shown-stored kl vl new cells ks vs i u.0 u.1 u.2 en l.value_room)
-    ∙ ap (λ (b : ArenaState). with_value b i new) e
+    ∙ ap (λ (b : ArenaState). with_slot_value b i new) e
 
 -- a slot's bytes are no longer than the arena's keys and values
 pub key-short : (kl vl limit : ℕ) (cells : List Cell) (first : Option ℕ) (ks vs : List ℕ) (i : ℕ) (a : ArenaState) → arena_state_of cells first ks vs kl vl limit ≡ a → i < length cells → length (key_at a.slots i) ≤ kl

@@ -92,8 +92,8 @@ abbrev pub with_link : ArenaState → ℕ → Option ℕ → ArenaState
 with_link a i to = record a { links = slice_set a.links i to }
 
 -- slot i has another value
-abbrev pub with_value : ArenaState → ℕ → List ℕ → ArenaState
-with_value a i value =
+abbrev pub with_slot_value : ArenaState → ℕ → List ℕ → ArenaState
+with_slot_value a i value =
     let new : SlotView = record {
       key = key_at a.slots i;
       value = value;

@@ -7,7 +7,7 @@ ghost use Rattle.bpf_model.specs.MachineStep.{with_bytes};
 ghost use Rattle.bpf_model.specs.declared.event.Given.TheVariants as given;
 ghost use Rattle.bpf_model.specs.declared.limits.TheConstants.{KEY_BYTES, VALUE_BYTES};
 ghost use Rattle.element_arena.specs.State.{IsTaken, generation_at, given_back, is_last_use, key_at};
-ghost use Rattle.element_arena.specs.State.{link_at, new_arena, taken, value_at, with_link, with_value};
+ghost use Rattle.element_arena.specs.State.{link_at, new_arena, taken, value_at, with_link, with_slot_value};
 
 use crate::blocks::{block, write_block, write_inside};
 use crate::cell::{Cell, Standing, append, given_cell, last_after};
@@ -203,7 +203,7 @@ impl Arena {
     pub fn store(&mut self, slot: usize, offset: usize, width: Width, number: u64)
         requires taken { IsTaken self.old slot }
         requires inside { offset + byte_count width ≤ self.old.value_len }
-        ensures { self.new ≡ with_value self.old slot
+        ensures { self.new ≡ with_slot_value self.old slot
             (with_bytes offset (byte_count width) number (value_at self.old.slots slot)) }
     {
         write_inside(

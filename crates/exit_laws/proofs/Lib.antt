@@ -1,2 +1,3 @@
 pub mod Lived
 pub mod Asked
+pub mod Alike

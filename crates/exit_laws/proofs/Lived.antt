@@ -45,12 +45,12 @@ lived-fresh name program context = record {
 }
 
 -- A step moves the run on, or ends it.
-record GoesOn (old new : Run) : Type 0 where
+pub record GoesOn (old new : Run) : Type 0 where
   pub program : new.program ≡ old.program
   pub context : new.context ≡ old.context
   pub exit : new.exit ≡ old.exit
 
-data Ends (old : Run) (answer : Answer) (new : Run) : Type 0 where
+pub data Ends (old : Run) (answer : Answer) (new : Run) : Type 0 where
   Further : answer ≡ Moved → GoesOn old new → Ends old answer new
   Ended : (n : ℕ) → answer ≡ Exited n → new.program ≡ old.program → new.context ≡ old.context → new.exit ≡ Some n → Ends old answer new
 
@@ -66,7 +66,7 @@ kernel-ends (Some ReadLock) run answer new h e = further run _ new answer e h.1 
 kernel-ends (Some ReadUnlock) run answer new h e = further run _ new answer e h.1 (record { program = refl; context = refl; exit = refl })
 kernel-ends None run answer new h e = absurd h
 
-insn-ends : (i : Insn) (s : Store) (opened : List Section) (run : Run) (answer : Answer) (new_store : Store) (new : Run) → InsnStep i s opened run answer new_store new → Ends run answer new
+pub insn-ends : (i : Insn) (s : Store) (opened : List Section) (run : Run) (answer : Answer) (new_store : Store) (new : Run) → InsnStep i s opened run answer new_store new → Ends run answer new
 insn-ends (Call kinds.Kernel imm) s opened run answer new_store new h = kernel-ends (kernel_function_of imm) run answer new h.0 h.1
 insn-ends (Call kinds.Helper imm) s opened run answer new_store new h = further run _ new answer h.2 h.3 (record { program = refl; context = refl; exit = refl })
 insn-ends i s opened run answer new_store new h = outcome-ends h.0 run answer new h.4

@@ -4,9 +4,10 @@
 //! Each is a function with an empty body, whose contract is the law.
 #![tactic(auto)]
 
-ghost use Rattle.std.specs.Prelude.{ℕ, List};
+ghost use Rattle.std.specs.Prelude.{◌≡◌, ℕ, List};
 ghost use Rattle.bpf_model.specs.declared.insn.Insn.{Insn};
-ghost use Rattle.bpf_model.specs.Exit.{HasNoMaps};
+ghost use Rattle.bpf_model.specs.Exit.{ExitsWith, HasNoMaps};
+ghost use Rattle.bpf_model.specs.Machine.{Loaded};
 ghost use Rattle.bpf_model.specs.View.{WorldView, HasExited};
 ghost use Rattle.world_invariant.specs.Invariant.{IsWorld};
 ghost use Rattle.exit_laws.specs.Exits.{MayExitAs, ExitsAs};
@@ -18,4 +19,11 @@ pub fn exited_as_defined()
         IsWorld w → HasExited w r code context n → MayExitAs code context n }
     ensures alone { (w : WorldView) (r : ℕ) (code : List Insn) (context : List ℕ) (n : ℕ) →
         IsWorld w → HasNoMaps code → HasExited w r code context n → ExitsAs code context n }
+{}
+
+/// Without map references an exit is of the instructions alone: programs that have the same ones exit alike, whatever
+/// else they were loaded with.
+pub fn exit_alike()
+    ensures { (a b : Loaded) (context : List ℕ) (steps n : ℕ) → HasNoMaps a.code → a.code ≡ b.code →
+        ExitsWith a context steps n → ExitsWith b context steps n }
 {}

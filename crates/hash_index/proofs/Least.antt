@@ -10,7 +10,7 @@ use Rattle.element_arena.proofs.Counts.{one_cases, one_same, times-append}
 use Rattle.element_arena.proofs.Indexing.{AreUnique, get-contents, slot_of-present, times-get}
 use Rattle.hash_index.specs.Order.{IsLess, IsAbove, NoneAbove, NoneBetween, IsLeastOf}
 use Rattle.hash_index.specs.Chains.{IsChain, IsScanned, chain_of}
-use Rattle.hash_index.specs.Buckets.{HeadsFit, IsGathered, slots_from, slots_in}
+use Rattle.hash_index.specs.Buckets.{HeadsFit, IsGathered, slots_from, chained_slots}
 use Rattle.hash_index.proofs.Orders.{less_trans, less_other}
 use Rattle.hash_index.proofs.Steps.{chain_step, chain_at}
 
@@ -127,7 +127,7 @@ module _ (a : ArenaState) (bound : Option (List ℕ)) (heads : List (Option ℕ)
     least_of = more g.done g.least_of;
   }
 
-  pub gather_end : (least : Option ℕ) → IsGathered a bound heads [] least → IsLeastOf (key_at a.slots) bound (slots_in heads a) least
+  pub gather_end : (least : Option ℕ) → IsGathered a bound heads [] least → IsLeastOf (key_at a.slots) bound (chained_slots heads a) least
   gather_end least g = subst (λ l. IsLeastOf (key_at a.slots) bound l least) (sym (g.split ∙ append-nil g.done)) g.least_of
 
 -- empty chains
@@ -147,9 +147,9 @@ length_none (suc count) = ap suc (length_none count)
 module _ (heads : List (Option ℕ)) (count : ℕ) (a : ArenaState) where
   pub fits_none : heads ≡ replicate count None → 0 < count → HeadsFit heads a
   fits_none e some =
-      let slots : slots_in heads a ≡ [] = ap (slots_from (length a.slots) (link_at a.links)) e ∙ slots_of_none count (length a.slots) (link_at a.links) in
+      let slots : chained_slots heads a ≡ [] = ap (slots_from (length a.slots) (link_at a.links)) e ∙ slots_of_none count (length a.slots) (link_at a.links) in
       let long : length heads ≡ count = ap (λ (l : List (Option ℕ)). length l) e ∙ length_none count in
-      let zero_times : (j : ℕ) → times_in j (slots_in heads a) ≡ 0 = λ j. ap (times_in j) slots in
+      let zero_times : (j : ℕ) → times_in j (chained_slots heads a) ≡ 0 = λ j. ap (times_in j) slots in
       let none : (k : ℕ) (o : Option ℕ) → slice_get heads k ≡ Some o → walk (length a.slots) (link_at a.links) o ≡ [] = λ k o h. ap (walk (length a.slots) (link_at a.links)) (head_of_none count k o (ap (λ l. slice_get l k) (sym e) ∙ h)) ∙ walk_none (length a.slots) (link_at a.links) in
       record {
         some = omega arith;
@@ -160,5 +160,5 @@ module _ (heads : List (Option ℕ)) (count : ℕ) (a : ArenaState) where
         unique = λ i j hi hj e. absurd (omega (arith, zero_times i));
       }
 
-  pub contents_none : heads ≡ replicate count None → contents_of (key_at a.slots) (slots_in heads a) ≡ empty
+  pub contents_none : heads ≡ replicate count None → contents_of (key_at a.slots) (chained_slots heads a) ≡ empty
   contents_none e = ap (contents_of (key_at a.slots)) (ap (slots_from (length a.slots) (link_at a.links)) e ∙ slots_of_none count (length a.slots) (link_at a.links))

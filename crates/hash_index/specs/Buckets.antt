@@ -17,11 +17,11 @@ slots_from n next [] = []
 slots_from n next (o ∷ heads) = walk n next o ++ slots_from n next heads
 
 -- the slots of all chains; none is longer than the arena
-abbrev pub slots_in : List (Option ℕ) → ArenaState → List ℕ
-slots_in heads a = slots_from (length a.slots) (link_at a.links) heads
+abbrev pub chained_slots : List (Option ℕ) → ArenaState → List ℕ
+chained_slots heads a = slots_from (length a.slots) (link_at a.links) heads
 
 abbrev pub contents_in : Buckets → ArenaState → FinMap (slice_cmp nat_cmp) ℕ
-contents_in x a = contents_of (key_at a.slots) (slots_in x.heads.items a)
+contents_in x a = contents_of (key_at a.slots) (chained_slots x.heads.items a)
 
 -- Each chain ends, and its slots are those of keys of its bucket. All slots are taken, stand once,
 -- and have different keys.
@@ -31,9 +31,9 @@ pub record HeadsFit (heads : List (Option ℕ)) (a : ArenaState) : Type 0 where
       IsThread (link_at a.links) o (chain_of a o)
   pub home : (k : ℕ) (o : Option ℕ) → slice_get heads k ≡ Some o →
       (j : ℕ) → 0 < times_in j (chain_of a o) → bucket_of (length heads) (key_at a.slots j) ≡ k
-  pub once : (j : ℕ) → times_in j (slots_in heads a) ≤ 1
-  pub taken : (j : ℕ) → 0 < times_in j (slots_in heads a) → IsTaken a j
-  pub unique : AreUnique (key_at a.slots) (slots_in heads a)
+  pub once : (j : ℕ) → times_in j (chained_slots heads a) ≤ 1
+  pub taken : (j : ℕ) → 0 < times_in j (chained_slots heads a) → IsTaken a j
+  pub unique : AreUnique (key_at a.slots) (chained_slots heads a)
 
 abbrev pub BucketsFits : Buckets → ArenaState → Type 0
 BucketsFits x a = HeadsFit x.heads.items a
@@ -42,5 +42,5 @@ BucketsFits x a = HeadsFit x.heads.items a
 pub record IsGathered (a : ArenaState) (bound : Option (List ℕ))
     (heads rest : List (Option ℕ)) (least : Option ℕ) : Type 0 where
   pub done : List ℕ
-  pub split : slots_in heads a ≡ done ++ slots_from (length a.slots) (link_at a.links) rest
+  pub split : chained_slots heads a ≡ done ++ slots_from (length a.slots) (link_at a.links) rest
   pub least_of : IsLeastOf (key_at a.slots) bound done least

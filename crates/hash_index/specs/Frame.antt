@@ -11,7 +11,7 @@ use Rattle.element_arena.proofs.Threading.{thread-agree, walk-agree}
 use Rattle.element_arena.proofs.Indexing.{indexed-times}
 use Rattle.hash_index.specs.Chains.{bucket_of}
 use Rattle.hash_index.specs.declared.buckets.Buckets.{Buckets}
-use Rattle.hash_index.specs.Buckets.{slots_from, slots_in, contents_in, HeadsFit, BucketsFits}
+use Rattle.hash_index.specs.Buckets.{slots_from, chained_slots, contents_in, HeadsFit, BucketsFits}
 use Rattle.hash_index.specs.Many.{chain_among, slots-agree}
 
 pub entries-agree : (f g : ℕ → List ℕ) (slots : List ℕ) →
@@ -24,22 +24,22 @@ entries-agree f g (s ∷ slots) h =
 -- the same, with the length of the slots a number of its own
 framed : (heads : List (Option ℕ)) (a b : ArenaState) (n : ℕ) → length a.slots ≡ n →
     length b.slots ≡ n → HeadsFit heads a →
-    ((j : ℕ) → 0 < times_in j (slots_in heads a) → key_at b.slots j ≡ key_at a.slots j) →
-    ((j : ℕ) → 0 < times_in j (slots_in heads a) → link_at b.links j ≡ link_at a.links j) →
-    ((j : ℕ) → 0 < times_in j (slots_in heads a) → IsTaken b j) →
-    HeadsFit heads b × (slots_in heads b ≡ slots_in heads a)
+    ((j : ℕ) → 0 < times_in j (chained_slots heads a) → key_at b.slots j ≡ key_at a.slots j) →
+    ((j : ℕ) → 0 < times_in j (chained_slots heads a) → link_at b.links j ≡ link_at a.links j) →
+    ((j : ℕ) → 0 < times_in j (chained_slots heads a) → IsTaken b j) →
+    HeadsFit heads b × (chained_slots heads b ≡ chained_slots heads a)
 framed heads a b n la lb f key link taken =
     let l : length b.slots ≡ length a.slots = lb ∙ sym la in
-    let one : slots_from (length a.slots) (link_at b.links) heads ≡ slots_in heads a =
+    let one : slots_from (length a.slots) (link_at b.links) heads ≡ chained_slots heads a =
     slots-agree (length a.slots) (link_at a.links) (link_at b.links) heads link in
-    let all : slots_in heads b ≡ slots_in heads a =
+    let all : chained_slots heads b ≡ chained_slots heads a =
     ap (λ m. slots_from m (link_at b.links) heads) l ∙ one in
     let at : (k : ℕ) (o : Option ℕ) → slice_get heads k ≡ Some o → (j : ℕ) →
     0 < times_in j (walk (length a.slots) (link_at a.links) o) →
-    0 < times_in j (slots_in heads a) =
+    0 < times_in j (chained_slots heads a) =
     λ k o h j p.
     let m : times_in j (walk (length a.slots) (link_at a.links) o)
-    ≤ times_in j (slots_in heads a) =
+    ≤ times_in j (chained_slots heads a) =
     chain_among (length a.slots) (link_at a.links) heads k o j h in
     omega arith in
     let same : (k : ℕ) (o : Option ℕ) → slice_get heads k ≡ Some o →
@@ -57,8 +57,8 @@ framed heads a b n la lb f key link taken =
             ap (bucket_of (length heads)) (key j (at k o h j q)) ∙ f.home k o h j q;
         once = λ j. subst (λ xs. times_in j xs ≤ 1) (sym all) (f.once j);
         taken = λ j h. taken j (subst (λ xs. 0 < times_in j xs) all h);
-        unique = λ i j hi hj e. let pi : 0 < times_in i (slots_in heads a) =
-            subst (λ xs. 0 < times_in i xs) all hi in let pj : 0 < times_in j (slots_in heads a) =
+        unique = λ i j hi hj e. let pi : 0 < times_in i (chained_slots heads a) =
+            subst (λ xs. 0 < times_in i xs) all hi in let pj : 0 < times_in j (chained_slots heads a) =
             subst (λ xs. 0 < times_in j xs) all hj in
             f.unique i j pi pj (sym (key i pi) ∙ (e ∙ key j pj));
       },
@@ -66,14 +66,14 @@ framed heads a b n la lb f key link taken =
     )
 
 pub own-times : (x : Buckets) (a : ArenaState) (j : ℕ) → BucketsFits x a →
-    indexed (contents_in x a) a.slots j ≡ times_in j (slots_in x.heads.items a)
-own-times x a j f = indexed-times (key_at a.slots) (slots_in x.heads.items a) j f.unique (f.once j)
+    indexed (contents_in x a) a.slots j ≡ times_in j (chained_slots x.heads.items a)
+own-times x a j f = indexed-times (key_at a.slots) (chained_slots x.heads.items a) j f.unique (f.once j)
 
 pub buckets-frame : (x : Buckets) (a b : ArenaState) → BucketsFits x a →
     SameAt (indexed (contents_in x a) a.slots) a b →
     BucketsFits x b × (contents_in x b ≡ contents_in x a)
 buckets-frame x a b f s =
-    let own : (j : ℕ) → 0 < times_in j (slots_in x.heads.items a) →
+    let own : (j : ℕ) → 0 < times_in j (chained_slots x.heads.items a) →
     0 < indexed (contents_in x a) a.slots j =
     λ j h. subst (λ n. 0 < n) (sym (own-times x a j f)) h in
     let r = framed x.heads.items a b (length a.slots) refl s.long f (λ j h. s.key j (own j h))
@@ -81,5 +81,5 @@ buckets-frame x a b f s =
       r.0,
       ap (contents_of (key_at b.slots)) r.1
           ∙ ap from_entries (entries-agree (key_at a.slots) (key_at b.slots)
-          (slots_in x.heads.items a) (λ j h. s.key j (own j h))),
+          (chained_slots x.heads.items a) (λ j h. s.key j (own j h))),
     )

@@ -3,7 +3,7 @@ ghost use Rattle.std.specs.Prelude.{◌≡◌, ◌<◌, ◌≤◌, ◌/◌, IfOk
 ghost use Rattle.std.specs.Int.{IsPowerOfTwo};
 ghost use Rattle.bpf_model.specs.declared.limits.TheConstants.{MAX_ENTRIES};
 ghost use Rattle.element_arena.specs.State.{key_at};
-ghost use Rattle.hash_index.specs.Buckets.{HeadsFit, slots_in};
+ghost use Rattle.hash_index.specs.Buckets.{HeadsFit, chained_slots};
 ghost use Rattle.hash_index.specs.Order.{IsLeastOf};
 
 use crate::chain::{cut, least_with, search};
@@ -44,7 +44,7 @@ fn empty_heads(alloc: Global, count: usize) -> Result<Vec<Option<usize>>, AllocE
 fn least_in(heads: &[Option<usize>], arena: &Arena, bound: Option<&[u8]>) -> Option<usize>
     requires { HeadsFit heads.now arena.now }
     ensures { IsLeastOf (key_at arena.now.slots) (option_copied bound.entry)
-        (slots_in heads.now arena.now) result }
+        (chained_slots heads.now arena.now) result }
 {
     let mut least = None;
     for head in heads {

@@ -27,7 +27,10 @@ use Rattle.world_laws.specs.Locating.{location_of}
 use Rattle.world_laws.specs.Moving.{word_in, operand_word}
 use Rattle.world_laws.specs.Reaching.{Reaches, IsWritable, HasArguments}
 use Rattle.world_laws.specs.Typed.{IsSound, IsRunning}
+use Rattle.model_laws.proofs.Queueing.{in-slot}
 use Rattle.world_laws.proofs.Ready.{refines}
+use Rattle.world_laws.proofs.Stepping.{run-behind}
+use Rattle.machine.proofs.Laws.{same-program}
 use Rattle.world_laws.proofs.Reaching.{load_reaches, load_signed_reaches, store_reaches, helper_arguments}
 use Rattle.machine.specs.declared.access.Access.{Access}
 use Rattle.machine.specs.declared.access.Access.TheVariants.{Call}
@@ -36,21 +39,11 @@ use Rattle.helpers.specs.Calls.{IsCall}
 use Rattle.helpers.specs.Elements.{ReachesElement}
 use Rattle.helpers.specs.Serving.{CanServe, IsFlagged}
 
-run-behind : (slots : List ℕ) (es : List Element) (programs : List Loaded) (v : RunView) (o : Option (Option Run)) → SlotRefines slots es programs (Some (Some v)) o → v.exit ≡ None → (run : Run) × (run_in o ≡ Some run) × (run.exit ≡ None)
-run-behind slots es programs v None h e = absurd h
-run-behind slots es programs v (Some None) h e = absurd h
-run-behind slots es programs v (Some (Some run)) h e = (run, refl, sym h.exit ∙ e)
-
 -- the machine's run in the slot of a run that has not ended
 pub running : (w : WorldView) (s : Schedule) → Matches w s → (r : ℕ) (v : RunView) → slice_get w.runs r ≡ Some (Some v) → v.exit ≡ None → (run : Run) × IsRunning w s r run v
 running w s m r v shown going =
     let y = run-behind m.refines.slots s.machine.store.elements s.machine.programs v (slice_get s.machine.runs r) (subst (λ o. SlotRefines m.refines.slots s.machine.store.elements s.machine.programs o (slice_get s.machine.runs r)) shown (m.refines.runs r)) going in
     (y.0, record { there = y.1; shown = shown; going = y.2 })
-
-run-inside : (o : Option (Option Run)) (run : Run) → run_in o ≡ Some run → o ≡ Some (Some run)
-run-inside None run e = absurd (none-some run e)
-run-inside (Some None) run e = absurd (none-some run e)
-run-inside (Some (Some a)) run e = ap Some e
 
 goes-asks : (new : RunView) → Goes new ≡ Asks → ⊥
 goes-asks new e = absurd (cc)
@@ -75,7 +68,7 @@ module _ (w : WorldView) (s : Schedule) (m : Matches w s) (sound : IsSound w s) 
         opened =
             ap (λ (l : List Bool). slice_get l r) m.refines.opened
             ∙ slice_get-map is_open s.machine.runs r
-            ∙ ap (option_map is_open) (run-inside (slice_get s.machine.runs r) run k.there)
+            ∙ ap (option_map is_open) (in-slot (slice_get s.machine.runs r) run k.there)
             ∙ ap (λ (n : ℕ). Some (nat_lt 0 n)) (sym depth);
         awaited =
             ap (λ (l : List Bool). still_open l w.opened) m.refines.awaited
@@ -114,14 +107,9 @@ module _ (w : WorldView) (s : Schedule) (m : Matches w s) (sound : IsSound w s) 
   can-here (insns.Call Kernel imm) access here asks e = passes (kernel_function_of imm) access e
   can-here i access here asks e = absurd (none-some access e)
 
-  same-program : (program : Loaded) → slice_get w.programs v.program ≡ Some program → run.program ≡ program
-  same-program program at =
-      let loaded : slice_get w.programs v.program ≡ Some run.program = ap (λ (ps : List Loaded). slice_get ps v.program) m.refines.programs ∙ (refines w s m sound r run v k).program in
-      same_Some run.program program (sym loaded ∙ at)
-
   abbrev Servable : Loaded → Type 0
   Servable program = (i : Insn) (access : Access) → insn_at program.code v.place ≡ Some i → local_of i v ≡ Asks → access_of i v ≡ Some access → CanServe access program.maps w.maps v
 
   pub can_be_served : (program : Loaded) → slice_get w.programs v.program ≡ Some program → Servable program
-  can_be_served program at = subst Servable (same-program program at)
+  can_be_served program at = subst Servable (same-program w s m sound r run v k program at)
       (λ i access here. can-here i access (sym (ap (insn_at run.program.code) (refines w s m sound r run v k).place) ∙ here))

@@ -36,7 +36,7 @@ use Rattle.machine.specs.declared.access.Local.TheVariants as code_answers
 use Rattle.machine.specs.Steps.{IsLocalStep}
 use Rattle.machine.specs.Requests.{access_of, section_access, entered_view, resumed_view}
 use Rattle.helpers.specs.Calls.{IsCall, called, called_on, called_at}
-use Rattle.helpers.specs.Elements.{ReachesElement, element_number, stored_in, stored_element}
+use Rattle.helpers.specs.Elements.{ReachesElement, element_number, maps_after_store, stored_element}
 use Rattle.helpers.specs.Serving.{CanServe, IsReply, maps_after, grace_after, with_opened, IsFlagged, flags_of, world_with, IsOwnWorld}
 use Rattle.bpf_model.proofs.Lists.{set-same}
 
@@ -49,7 +49,7 @@ loaded_is w v width offset (InFrame o) h = absurd h
 loaded_is w v width offset (AtMap map) h = absurd h
 
 -- what a store leaves
-slot_is : (w : WorldView) (width number map slot : ℕ) (z : ℤ) (m : Option MapView) → stored_slot width number z map m slot w ≡ record w { maps = stored_in m map slot width number z w.maps }
+slot_is : (w : WorldView) (width number map slot : ℕ) (z : ℤ) (m : Option MapView) → stored_slot width number z map m slot w ≡ record w { maps = maps_after_store m map slot width number z w.maps }
 slot_is w width number map slot (pos at) (Some m) = refl
 slot_is w width number map slot (pos at) None = refl
 slot_is w width number map slot (negsuc n) (Some m) = refl

@@ -13,7 +13,7 @@ IsInSlot (InSlot map slot o) = Unit {0}
 IsInSlot l = ⊥
 
 -- so many bytes of the value of an element in this slot
-pub record IsReached (maps : List MapView) (width map slot : ℕ) (offset : ℤ) : Type 0 where
+pub record IsElementReached (maps : List MapView) (width map slot : ℕ) (offset : ℤ) : Type 0 where
   pub view : MapView
   pub there : slice_get maps map ≡ Some view
   pub occupied : HasElement view slot
@@ -21,7 +21,7 @@ pub record IsReached (maps : List MapView) (width map slot : ℕ) (offset : ℤ)
 
 -- The access, at an offset from the location, reaches the value of an element.
 abbrev pub ReachesElement : List MapView → ℕ → ℤ → Location → Type 0
-ReachesElement maps width offset (InSlot map slot o) = IsReached maps width map slot (o +ℤ offset)
+ReachesElement maps width offset (InSlot map slot o) = IsElementReached maps width map slot (o +ℤ offset)
 ReachesElement maps width offset l = ⊥
 
 -- the number that it finds
@@ -32,12 +32,13 @@ element_number maps width offset l = 0
 
 -- The maps after a store of the low bytes of a number: the slot's element has another value, and
 -- keeps its slot, key and lists.
-abbrev pub stored_in : Option MapView → ℕ → ℕ → ℕ → ℕ → ℤ → List MapView → List MapView
-stored_in (Some view) map slot width number (pos at) maps =
-    slice_set maps map (written view slot (with_bytes at width number (value_in (slice_get view.slots slot))))
-stored_in view map slot width number offset maps = maps
+abbrev pub maps_after_store : Option MapView → ℕ → ℕ → ℕ → ℕ → ℤ → List MapView → List MapView
+maps_after_store (Some view) map slot width number (pos at) maps =
+    slice_set maps map (written view slot
+    (with_bytes at width number (value_in (slice_get view.slots slot))))
+maps_after_store view map slot width number offset maps = maps
 
 abbrev pub stored_element : ℕ → ℕ → ℤ → Location → List MapView → List MapView
 stored_element width number offset (InSlot map slot o) maps =
-    stored_in (slice_get maps map) map slot width number (o +ℤ offset) maps
+    maps_after_store (slice_get maps map) map slot width number (o +ℤ offset) maps
 stored_element width number offset l maps = maps

@@ -91,5 +91,8 @@ IsOwnWorld (Shared access) asked r v after w x = (asked ≡ Some access) × (aft
 
 -- the world's step once the request is served, with this word, and the run has gone on
 abbrev pub served_step : Access → Insn → Loaded → ℕ → ℕ → RunView → WorldView → Answer × WorldView
-served_step access i program word r v w =
-    (answers.Moved, world_with (maps_after access program.maps v w.maps) (grace_after access r (flags_of w)) r (resumed_view i word v) w)
+served_step access i program word r v w = (
+  answers.Moved,
+  world_with (maps_after access program.maps v w.maps)
+      (grace_after access r (flags_of w)) r (resumed_view i word v) w,
+)

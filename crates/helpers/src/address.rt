@@ -22,7 +22,7 @@ const MOST_SLOTS: usize = MAX_ENTRIES + MAX_SPARE;
 
 /// A slot of a map.
 #[derive(Clone, Copy)]
-pub(crate) struct Place {
+pub(crate) struct MapSlot {
     pub(crate) map: usize,
     pub(crate) slot: usize,
 }
@@ -47,12 +47,12 @@ fn region_of(word: u64) -> u64
 
 /// The slot that a word lies in.
 #[inline]
-pub(crate) fn place_of(word: u64) -> Place
+pub(crate) fn map_slot_of(word: u64) -> MapSlot
     requires { IsInSlot (location_of word) }
     ensures { location_of word ≡ InSlot result.map result.slot (word_offset word) }
 {
     let number = (region_of(word) - SLOT_BASE / SPAN) as usize;
-    Place {
+    MapSlot {
         map: number / MOST_SLOTS,
         slot: number % MOST_SLOTS,
     }

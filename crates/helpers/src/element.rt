@@ -4,7 +4,7 @@ ghost use Rattle.bpf_model.specs.Access.{byte_count};
 ghost use Rattle.world_laws.specs.Locating.{location_of};
 ghost use Rattle.helpers.specs.Elements.{ReachesElement, element_number, stored_element};
 
-use crate::address::{offset_in, place_of};
+use crate::address::{map_slot_of, offset_in};
 use bpf_model::{MapId, Width};
 use maps::Registry;
 
@@ -16,15 +16,15 @@ pub(crate) fn load(maps: &Registry, address: u64, offset: i16, width: Width) -> 
     ensures { result ≡ element_number maps.now.maps (byte_count width) offset
         (location_of address) }
 {
-    let place = place_of(address);
-    match maps.map(MapId::new(place.map)) {
-        Some(map) => map.load(place.slot, offset_in(address, offset), width),
+    let reached = map_slot_of(address);
+    match maps.map(MapId::new(reached.map)) {
+        Some(map) => map.load(reached.slot, offset_in(address, offset), width),
         None => unreachable!(),
     }
 }
 
 /// Stores the low bytes of a number there. Whoever reads the element later finds them: a store
-/// changes an element in place, while an update of its key links a new one.
+/// changes an element where it lies, while an update of its key links a new one.
 #[inline]
 pub(crate) fn store(maps: &mut Registry, address: u64, offset: i16, width: Width, number: u64)
     requires { ReachesElement maps.old.maps (byte_count width) offset (location_of address) }
@@ -32,7 +32,7 @@ pub(crate) fn store(maps: &mut Registry, address: u64, offset: i16, width: Width
         (location_of address) maps.old.maps }
     ensures names { maps.new.names ≡ maps.old.names }
 {
-    let place = place_of(address);
-    let map = maps.map_mut(MapId::new(place.map));
-    map.store(place.slot, offset_in(address, offset), width, number);
+    let reached = map_slot_of(address);
+    let map = maps.map_mut(MapId::new(reached.map));
+    map.store(reached.slot, offset_in(address, offset), width, number);
 }

@@ -53,7 +53,8 @@ used dst src offset imm = record { dst = dst; src = src; offset = offset; imm = 
 
 abbrev pub used_fields : Opcode → UsedFields
 used_fields (Alu code size source) =
-    used true (is_register_source source) (uses_offset code source) (not (is_register_source source))
+    used true (is_register_source source) (uses_offset code source)
+    (not (is_register_source source))
 used_fields (Negate size) = used true false false false
 used_fields (ByteSwap order) = used true false false true
 used_fields (Jump Word64) = used false false true false

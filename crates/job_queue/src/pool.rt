@@ -85,7 +85,8 @@ fn employ<S: Serve + Sync, R: Threads + Wait + Sync>(
     requires room { vec_len workers.old + vec_len stations ≤ vec_capacity workers.old }
     requires blank { IsBlank sheet.old.lines.items }
     ensures ready { All (S.ready serve.now) workers.new.items }
-    ensures later { AllZip S.later (workers.old.items ++ map worker_of stations.items) workers.new.items }
+    ensures later { AllZip S.later (workers.old.items ++ map worker_of stations.items)
+        workers.new.items }
     ensures count { vec_len sheet.new.lines ≡ vec_len sheet.old.lines }
     ensures lines { AreRightLines (S.fits serve.now) jobs.now
         (workers.old.items ++ map worker_of stations.items) workers.new.items
@@ -102,7 +103,8 @@ fn prepare<T: Drop, R: Wait>(rt: &R, alloc: Global, count: usize) -> Result<Prep
     ensures pass { IfOk result (λ p. IsPassOf p.queue p.pass) }
     ensures sheet { IfOk result (λ p. vec_len p.sheet.lines ≡ count) }
     ensures blank { IfOk result (λ p. IsBlank p.sheet.lines.items) }
-    ensures results { IfOk result (λ p. (vec_len p.results ≡ 0) × (count ≤ vec_capacity p.results)) }
+    ensures results { IfOk result (λ p.
+        (vec_len p.results ≡ 0) × (count ≤ vec_capacity p.results)) }
     ensures err { IfErr result (λ e. (e ≡ PoolFault.Memory) ⊎ (e ≡ PoolFault.Lost)) }
 {
     let Ok(sheet) = Sheet::blank(alloc, count) else {
@@ -179,7 +181,8 @@ pub fn serve_all<S: Serve + Sync, R: Threads + Wait + Sync>(
     workers: &mut Vec<S::Worker>,
 ) -> Result<Vec<S::Served>, PoolFault>
     requires ready { All (S.ready serve.now) workers.old.items }
-    ensures bad_workers { IsBadCount threads (vec_len workers.old) → result ≡ Err PoolFault.BadWorkers }
+    ensures bad_workers { IsBadCount threads (vec_len workers.old) →
+        result ≡ Err PoolFault.BadWorkers }
     ensures too_many_jobs { (IsBadCount threads (vec_len workers.old) → ⊥)
         → MAX_JOBS < length jobs.now → result ≡ Err PoolFault.TooManyJobs }
     ensures served { (IsBadCount threads (vec_len workers.old) → ⊥)

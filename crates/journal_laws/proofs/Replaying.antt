@@ -15,6 +15,7 @@ use Rattle.bpf_model.specs.Refines.{Tracks, TracksSchedule, SlotRefines}
 use Rattle.bpf_model.specs.Replay as machine
 use Rattle.bpf_model.specs.View.{RunView, WorldView}
 use Rattle.view_laws.specs.Reactions.{run_shown}
+use Rattle.view_laws.proofs.Tracking.{real-more}
 use Rattle.world_laws.specs.Reacting.{full_reaction, full_reactions}
 use Rattle.world_laws.proofs.Worlds.{answers_machine, answers_scheduled, never_stuck, exit_in_time, reclaimed_late}
 use Rattle.world_invariant.specs.Invariant.{IsWorld}
@@ -36,12 +37,6 @@ run_all_replays base entries is quiet real answers = record { quiet = quiet; bas
 
 pub replays_to_world : (base world : WorldView) (entries : List Entry) → Replays base world entries → IsWorld world
 replays_to_world base world entries h = subst IsWorld (sym h.world_is) (reactions_make_world base (events_of entries) h.base_is h.real)
-
-real-more : (events : List Event) (event : Event) → AreReal events → IsReal event → AreReal (events ++ event ∷ [])
-real-more [] event all real zero e at = subst IsReal (same_Some event e at) real
-real-more [] event all real (suc k) e at = absurd (none-some e at)
-real-more (first ∷ events) event all real zero e at = all 0 e at
-real-more (first ∷ events) event all real (suc k) e at = real-more events event (λ j x h. all (suc j) x h) real k e at
 
 pub replays_push : (base world new : WorldView) (entries : List Entry) (entry : Entry) → Replays base world entries → IsReal entry.event → entry.answer ≡ (full_reaction world entry.event).0 → new ≡ (full_reaction world entry.event).1 → Replays base new (entries ++ entry ∷ [])
 replays_push base world new entries entry h real answer is =

@@ -57,7 +57,8 @@ pub fn replays_to_world()
 pub fn replays_on_machine()
     ensures { (base world : WorldView) (entries : List Entry) → Replays base world entries →
         length entries ≤ MAX_JOURNAL → (m : Machine) → Tracks base m →
-        (last : Machine) × machine.ReplaysOnMachine m (map machine_entry entries) last × Tracks world last }
+        (last : Machine) × machine.ReplaysOnMachine m (map machine_entry entries) last
+        × Tracks world last }
 {}
 
 /// Over a whole journal: its answers are those of a history of the machine with the runtime's choices, in which the

@@ -17,7 +17,8 @@ use Rattle.register_kinds.specs.States.{state_of}
 abbrev pub Forks : Condition → Size → ℕ → Operand → AbsState → AbsState → AbsState → Type 0
 Forks condition size dst src old new taken =
     (shapes : List MapShape) (ctx_len n : ℕ) →
-    Transfers (JumpIf condition size dst src (pos n)) shapes ctx_len (state_of old) (state_of new) (Some (state_of taken))
+    Transfers (JumpIf condition size dst src (pos n)) shapes ctx_len (state_of old) (state_of new)
+    (Some (state_of taken))
 
 -- the same of a comparison with the number 0
 abbrev pub ForksOnNull : Bool → ℕ → AbsState → AbsState → AbsState → Type 0

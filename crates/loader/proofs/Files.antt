@@ -7,7 +7,7 @@ use Rattle.std.proofs.lemmas.List.Concat.{flat_map-append}
 use Rattle.bpf_model.specs.declared.limits.MapShape.{MapShape}
 use Rattle.bpf_model.specs.View.{new_map_view}
 use Rattle.maps.specs.Registry.{RegistryView}
-use Rattle.loader.specs.Lines.{file_words, IsDecimalWord, slots_in, joined, slot_in}
+use Rattle.loader.specs.Lines.{file_words, IsDecimalWord, code_slots, both_parts, slot_in}
 use Rattle.loader.specs.ProgramFile.{FileContent, no_maps, IsContextLine, IsMapLine, AddsMap, AddMaps, IsProgramFile, IsFileBeginning, IsWrongAfter, IsFirstWrongLine}
 use Rattle.loader.specs.Reading.{AreMapsSoFar, AreShapeWords, IsAtStage}
 use Rattle.loader.specs.declared.fault.LineFault.{LineFault}
@@ -160,30 +160,30 @@ map_wrong lines line n r h other wrong b =
     ap (λ (ls : List (List ℕ)). h.first ∷ ls) (sym (append_assoc h.map_lines (line ∷ []) b.0)) ∙ sym (ap (λ ls. (ls ++ line ∷ []) ++ b.0) h.parts) ∙ k.parts in
     no_map_line no_maps r b.1.registry h.map_lines k.map_lines k.code_lines line b.0 h.maps k.maps other wrong (tails h.first k.first _ _ whole)
 
-nil_joined : (x : Option (List ℕ)) → x ≡ joined (Some []) x
+nil_joined : (x : Option (List ℕ)) → x ≡ both_parts (Some []) x
 nil_joined None = refl
 nil_joined (Some bytes) = refl
 
-joined_assoc : (x y z : Option (List ℕ)) → joined x (joined y z) ≡ joined (joined x y) z
+joined_assoc : (x y z : Option (List ℕ)) → both_parts x (both_parts y z) ≡ both_parts (both_parts x y) z
 joined_assoc None y z = refl
 joined_assoc (Some a) None z = refl
 joined_assoc (Some a) (Some b) None = refl
 joined_assoc (Some a) (Some b) (Some c) = ap Some (sym (append_assoc a b c))
 
-slots_append : (vs ws : List (List ℕ)) → slots_in (vs ++ ws) ≡ joined (slots_in vs) (slots_in ws)
-slots_append [] ws = nil_joined (slots_in ws)
-slots_append (v ∷ vs) ws = ap (joined (slot_in v)) (slots_append vs ws) ∙ joined_assoc (slot_in v) (slots_in vs) (slots_in ws)
+slots_append : (vs ws : List (List ℕ)) → code_slots (vs ++ ws) ≡ both_parts (code_slots vs) (code_slots ws)
+slots_append [] ws = nil_joined (code_slots ws)
+slots_append (v ∷ vs) ws = ap (both_parts (slot_in v)) (slots_append vs ws) ∙ joined_assoc (slot_in v) (code_slots vs) (code_slots ws)
 
-joined_none : (x : Option (List ℕ)) → joined x None ≡ None
+joined_none : (x : Option (List ℕ)) → both_parts x None ≡ None
 joined_none None = refl
 joined_none (Some a) = refl
 
-lines_append : (xs ys : List (List ℕ)) → slots_in (flat_map file_words (xs ++ ys)) ≡ joined (slots_in (flat_map file_words xs)) (slots_in (flat_map file_words ys))
-lines_append xs ys = ap slots_in (flat_map-append file_words xs ys) ∙ slots_append (flat_map file_words xs) (flat_map file_words ys)
+lines_append : (xs ys : List (List ℕ)) → code_slots (flat_map file_words (xs ++ ys)) ≡ both_parts (code_slots (flat_map file_words xs)) (code_slots (flat_map file_words ys))
+lines_append xs ys = ap code_slots (flat_map-append file_words xs ys) ∙ slots_append (flat_map file_words xs) (flat_map file_words ys)
 
-pub slots_taken : (lines : List (List ℕ)) (line : List ℕ) (n : ℕ) (r : RegistryView) (code new bytes : List ℕ) → IsProgramFile lines (record { context = n; registry = r; code = code }) → slots_in (file_words line) ≡ Some bytes → new ≡ code ++ bytes → IsProgramFile (lines ++ line ∷ []) (record { context = n; registry = r; code = new })
+pub slots_taken : (lines : List (List ℕ)) (line : List ℕ) (n : ℕ) (r : RegistryView) (code new bytes : List ℕ) → IsProgramFile lines (record { context = n; registry = r; code = code }) → code_slots (file_words line) ≡ Some bytes → new ≡ code ++ bytes → IsProgramFile (lines ++ line ∷ []) (record { context = n; registry = r; code = new })
 slots_taken lines line n r code new bytes h e added =
-    let one : slots_in (flat_map file_words (line ∷ [])) ≡ Some bytes = ap slots_in (append-nil (file_words line)) ∙ e in
+    let one : code_slots (flat_map file_words (line ∷ [])) ≡ Some bytes = ap code_slots (append-nil (file_words line)) ∙ e in
     record {
       first = h.first;
       map_lines = h.map_lines;
@@ -191,13 +191,13 @@ slots_taken lines line n r code new bytes h e added =
       parts = ap (λ ls. ls ++ line ∷ []) h.parts ∙ ap (λ (ls : List (List ℕ)). h.first ∷ ls) (append_assoc h.map_lines (code_line ∷ h.code_lines) (line ∷ []));
       context = h.context;
       maps = h.maps;
-      code = lines_append h.code_lines (line ∷ []) ∙ ap₂ joined h.code one ∙ ap Some (sym added);
+      code = lines_append h.code_lines (line ∷ []) ∙ ap₂ both_parts h.code one ∙ ap Some (sym added);
     }
 
 some_none : (bytes : List ℕ) → Some bytes ≡ None → ⊥
 some_none bytes e = cc
 
-pub slots_wrong : (lines : List (List ℕ)) (line : List ℕ) (c : FileContent) → IsProgramFile lines c → slots_in (file_words line) ≡ None → ¬ (IsFileBeginning (lines ++ line ∷ []))
+pub slots_wrong : (lines : List (List ℕ)) (line : List ℕ) (c : FileContent) → IsProgramFile lines c → code_slots (file_words line) ≡ None → ¬ (IsFileBeginning (lines ++ line ∷ []))
 slots_wrong lines line c h e b =
     let k = b.2 in
     let whole : (h.first ∷ (h.map_lines ++ code_line ∷ (h.code_lines ++ line ∷ b.0))) ≡ k.first ∷ (k.map_lines ++ code_line ∷ k.code_lines) =
@@ -205,8 +205,8 @@ slots_wrong lines line c h e b =
     ∙ sym (append_assoc (h.first ∷ (h.map_lines ++ code_line ∷ h.code_lines)) (line ∷ []) b.0)
     ∙ sym (ap (λ ls. (ls ++ line ∷ []) ++ b.0) h.parts) ∙ k.parts in
     let same = same_parts no_maps c.registry b.1.registry h.map_lines k.map_lines (h.code_lines ++ line ∷ b.0) k.code_lines h.maps k.maps (tails h.first k.first _ _ whole) in
-    let rest : slots_in (flat_map file_words (line ∷ b.0)) ≡ None = slots_append (file_words line) (flat_map file_words b.0) ∙ ap (λ s. joined s (slots_in (flat_map file_words b.0))) e in
-    let none : slots_in (flat_map file_words k.code_lines) ≡ None = ap (λ ls. slots_in (flat_map file_words ls)) (sym same.1) ∙ lines_append h.code_lines (line ∷ b.0) ∙ ap (joined (slots_in (flat_map file_words h.code_lines))) rest ∙ joined_none _ in
+    let rest : code_slots (flat_map file_words (line ∷ b.0)) ≡ None = slots_append (file_words line) (flat_map file_words b.0) ∙ ap (λ s. both_parts s (code_slots (flat_map file_words b.0))) e in
+    let none : code_slots (flat_map file_words k.code_lines) ≡ None = ap (λ ls. code_slots (flat_map file_words ls)) (sym same.1) ∙ lines_append h.code_lines (line ∷ b.0) ∙ ap (both_parts (code_slots (flat_map file_words h.code_lines))) rest ∙ joined_none _ in
     some_none b.1.code (sym k.code ∙ none)
 
 -- no file ends there
@@ -238,7 +238,7 @@ one_content lines c d h k =
     let first : h.first ≡ k.first = heads h.first k.first _ _ whole in
     let word : h.context.word ≡ k.context.word = second _ _ _ _ (sym h.context.words ∙ ap file_words first ∙ k.context.words) in
     same_content c d (same_number _ _ _ _ word h.context.number k.context.number) same.0
-    (same_some c.code d.code (sym h.code ∙ ap (λ ls. slots_in (flat_map file_words ls)) same.1 ∙ k.code))
+    (same_some c.code d.code (sym h.code ∙ ap (λ ls. code_slots (flat_map file_words ls)) same.1 ∙ k.code))
 
 wrong_after : (front rest : List (List ℕ)) (c : FileContent) → IsWrongAfter front rest → ¬ (IsProgramFile (front ++ rest) c)
 wrong_after front [] c wrong h = wrong c (subst (λ ls. IsProgramFile ls c) (append-nil front) h)
@@ -284,13 +284,13 @@ pub maps_refuse : (stage : Stage) (lines : List (List ℕ)) (line : List ℕ) (c
 maps_refuse stage lines line c e other wrong h =
     let k = subst (λ (t : Stage). IsAtStage t lines c) e h in map_wrong lines line c.context c.registry k.0 other wrong
 
-pub code_step : (stage : Stage) (lines : List (List ℕ)) (line : List ℕ) (c : FileContent) (new : List ℕ) (r : Result (Unit {0}) LineFault) → stage ≡ Code → OnOk r ((bytes : List ℕ) × (slots_in (file_words line) ≡ Some bytes) × (new ≡ c.code ++ bytes)) → IsAtStage stage lines c → OnOk r (IsAtStage stage (lines ++ line ∷ []) (record { context = c.context; registry = c.registry; code = new }))
+pub code_step : (stage : Stage) (lines : List (List ℕ)) (line : List ℕ) (c : FileContent) (new : List ℕ) (r : Result (Unit {0}) LineFault) → stage ≡ Code → OnOk r ((bytes : List ℕ) × (code_slots (file_words line) ≡ Some bytes) × (new ≡ c.code ++ bytes)) → IsAtStage stage lines c → OnOk r (IsAtStage stage (lines ++ line ∷ []) (record { context = c.context; registry = c.registry; code = new }))
 code_step stage lines line c new (Ok x) e added h =
     subst (λ (t : Stage). IsAtStage t (lines ++ line ∷ []) (record { context = c.context; registry = c.registry; code = new })) (sym e)
     (slots_taken lines line c.context c.registry c.code new added.0 (subst (λ (t : Stage). IsAtStage t lines c) e h) added.1 added.2)
 code_step stage lines line c new (Err f) e added h = tt
 
-pub code_refuses : (stage : Stage) (lines : List (List ℕ)) (line : List ℕ) (c : FileContent) → stage ≡ Code → slots_in (file_words line) ≡ None → IsAtStage stage lines c → ¬ (IsFileBeginning (lines ++ line ∷ []))
+pub code_refuses : (stage : Stage) (lines : List (List ℕ)) (line : List ℕ) (c : FileContent) → stage ≡ Code → code_slots (file_words line) ≡ None → IsAtStage stage lines c → ¬ (IsFileBeginning (lines ++ line ∷ []))
 code_refuses stage lines line c e none h = slots_wrong lines line c (subst (λ (t : Stage). IsAtStage t lines c) e h) none
 
 pub unfinished : (stage : Stage) (lines : List (List ℕ)) (c d : FileContent) → stage ≢ Code → IsAtStage stage lines c → ¬ (IsProgramFile lines d)

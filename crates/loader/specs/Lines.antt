@@ -31,11 +31,11 @@ bytes_of (Err e) = None
 abbrev pub slot_in : List ℕ → Option (List ℕ)
 slot_in word = bytes_of (decode_sized word 8)
 
-abbrev pub joined : Option (List ℕ) → Option (List ℕ) → Option (List ℕ)
-joined (Some front) (Some back) = Some (front ++ back)
-joined _ _ = None
+abbrev pub both_parts : Option (List ℕ) → Option (List ℕ) → Option (List ℕ)
+both_parts (Some front) (Some back) = Some (front ++ back)
+both_parts _ _ = None
 
 -- the bytes of the slots, one after the other; None where a word is no slot
-abbrev pub slots_in : List (List ℕ) → Option (List ℕ)
-slots_in [] = Some []
-slots_in (word ∷ words) = joined (slot_in word) (slots_in words)
+abbrev pub code_slots : List (List ℕ) → Option (List ℕ)
+code_slots [] = Some []
+code_slots (word ∷ words) = both_parts (slot_in word) (code_slots words)

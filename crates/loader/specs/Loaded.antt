@@ -10,6 +10,6 @@ abbrev pub loaded_content : ProgramFile → FileContent
 loaded_content f = record { context = f.ctx_len; registry = f.registry; code = f.code.items }
 
 -- why the lines of a text are no program file
-abbrev pub IsTextFault : List ℕ → LoadFault → Type 0
-IsTextFault text (BadFile line) = IsFirstWrongLine (file_lines text) line
-IsTextFault text Memory = Unit {0}
+abbrev pub IsFileTextFault : List ℕ → LoadFault → Type 0
+IsFileTextFault text (BadFile line) = IsFirstWrongLine (file_lines text) line
+IsFileTextFault text Memory = Unit {0}

@@ -5,7 +5,7 @@ use Rattle.bpf_model.specs.declared.limits.MapShape.{MapShape}
 use Rattle.bpf_model.specs.declared.limits.TheConstants.{CTX_BYTES}
 use Rattle.bpf_model.specs.View.{new_map_view}
 use Rattle.maps.specs.Registry.{RegistryView, creation_fault}
-use Rattle.loader.specs.Lines.{file_lines, file_words, IsDecimalWord, slots_in}
+use Rattle.loader.specs.Lines.{file_lines, file_words, IsDecimalWord, code_slots}
 use Rattle.loader.specs.declared.fault.LoadFault.{LoadFault}
 use Rattle.loader.specs.declared.fault.LoadFault.TheVariants.{BadFile, Memory}
 
@@ -62,7 +62,7 @@ pub record IsProgramFile (lines : List (List ℕ)) (content : FileContent) : Typ
   pub parts : lines ≡ first ∷ (map_lines ++ codes "code" ∷ code_lines)
   pub context : IsContextLine first content.context
   pub maps : AddMaps no_maps map_lines content.registry
-  pub code : slots_in (flat_map file_words code_lines) ≡ Some content.code
+  pub code : code_slots (flat_map file_words code_lines) ≡ Some content.code
 
 -- a program file has these lines first
 abbrev pub IsFileBeginning : List (List ℕ) → Type 0

@@ -3,7 +3,7 @@ ghost use Rattle.std.specs.Prelude.{◌≡◌, ℕ, ◌<◌, ◌++◌, List, IfS
 ghost use Rattle.bpf_model.specs.declared.limits.MapShape.{MapShape as ShapeOf};
 ghost use Rattle.bpf_model.specs.declared.limits.TheConstants.{MAX_REUSE};
 ghost use Rattle.maps.specs.Registry.{RegistryView};
-ghost use Rattle.loader.specs.Lines.{file_words, slot_in, slots_in};
+ghost use Rattle.loader.specs.Lines.{file_words, slot_in, code_slots};
 ghost use Rattle.loader.specs.ProgramFile.{IsContextLine, IsMapLine, AddsMap};
 ghost use Rattle.loader.specs.Reading.{AreShapeWords, words_left};
 
@@ -116,8 +116,9 @@ fn add_slot(code: &mut Vec<u8>, word: &[u8]) -> Result<(), LineFault>
 /// Adds the slots of the line.
 pub fn add_slots(code: &mut Vec<u8>, line: &[u8]) -> Result<(), LineFault>
     ensures added { OnOk result ((bytes : List ℕ) ×
-        (slots_in (file_words line.now) ≡ Some bytes) × (code.new.items ≡ code.old.items ++ bytes)) }
-    ensures wrong { result ≡ Err LineFault.Wrong → slots_in (file_words line.now) ≡ None }
+        (code_slots (file_words line.now) ≡ Some bytes)
+        × (code.new.items ≡ code.old.items ++ bytes)) }
+    ensures wrong { result ≡ Err LineFault.Wrong → code_slots (file_words line.now) ≡ None }
 {
     let mut words = Words::of(line);
     while let Some(word) = words.word() {

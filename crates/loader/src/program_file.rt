@@ -3,7 +3,7 @@ ghost use Rattle.std.specs.Prelude.{◌≡◌, ◌∷◌, ◌+◌, ◌<◌, ◌�
 ghost use Rattle.bpf_model.specs.declared.limits.TheConstants.{CTX_BYTES};
 ghost use Rattle.loader.specs.Lines.{file_lines};
 ghost use Rattle.loader.specs.ProgramFile.{FileContent, IsProgramFile, FileSays, IsLoadFault};
-ghost use Rattle.loader.specs.Loaded.{loaded_content, IsTextFault};
+ghost use Rattle.loader.specs.Loaded.{loaded_content, IsFileTextFault};
 
 use crate::fault::{LineFault, LoadFault};
 use crate::loading::Loading;
@@ -42,7 +42,7 @@ fn first_line(text: &[u8]) -> (&[u8], &[u8])
 fn load_text(alloc: Global, text: &[u8]) -> Result<ProgramFile, LoadFault>
     requires { length text.now + 8 < 2 ^ 64 }
     ensures found { IfOk result (λ f. IsProgramFile (file_lines text.now) (loaded_content f)) }
-    ensures fault { IfErr result (IsTextFault text.now) }
+    ensures fault { IfErr result (IsFileTextFault text.now) }
 {
     let mut loading = Loading::new(alloc);
     let mut rest = text;

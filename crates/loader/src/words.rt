@@ -50,7 +50,8 @@ impl<'a> Words<'a> {
 
     /// The next word.
     pub fn word(&mut self) -> Option<&'a [u8]>
-        ensures some { IfSome result (λ w. words_left self.old.rest ≡ w.now ∷ words_left self.new.rest) }
+        ensures some { IfSome result (λ w.
+            words_left self.old.rest ≡ w.now ∷ words_left self.new.rest) }
         ensures none { IfNone result (words_left self.old.rest ≡ []) }
     {
         let rest = self.rest?;

@@ -39,7 +39,7 @@ pub record IsLone (v : Checked) (r : RunWords) : Type 0 where
   pub stands : StandsAlone v r.view
 
 -- a step that goes on, with one move more
-pub record GoesOn (v : Checked) (old new : RunWords) : Type 0 where
+pub record GoesOnAlone (v : Checked) (old new : RunWords) : Type 0 where
   pub lone : IsLone v new
   pub context : new.view.context ≡ old.view.context
   pub moved : new.view.moved ≡ old.view.moved + 1
@@ -50,12 +50,13 @@ pub record Finishes (v : Checked) (n : ℕ) (old new : RunWords) : Type 0 where
   pub moved : new.view.moved ≡ old.view.moved
 
 abbrev pub IsStep : Checked → RunWords → Step → RunWords → Type 0
-IsStep v old Moved new = GoesOn v old new
+IsStep v old Moved new = GoesOnAlone v old new
 IsStep v old (Exit n) new = Finishes v n old new
 
 -- With these registers and this frame, before the instruction of an index and after so many moves,
 -- the words are so those of a run of the program on the context.
-pub record StandsBefore (c : Checked) (context : List ℕ) (index moved : ℕ) (w : Workspace) : Type 0 where
+pub record StandsBefore (c : Checked) (context : List ℕ) (index moved : ℕ) (w : Workspace)
+    : Type 0 where
   pub view : RunView
   pub stands : StandsAlone c (view_at c.program context index w view)
   pub moved_is : view.moved ≡ moved

@@ -117,7 +117,8 @@ impl Workspace {
         requires { IsInside FRAME_BYTES (byte_count width)
             (offset_from frame_base address offset) }
         ensures { (at : ℕ) → offset_from frame_base address offset ≡ pos at →
-            self.new ≡ with_frame (with_bytes at (byte_count width) number self.old.frame) self.old }
+            self.new ≡ with_frame (with_bytes at (byte_count width) number self.old.frame)
+            self.old }
     {
         write_number(
             &mut self.frame,

@@ -2,7 +2,7 @@
 use Rattle.std.proofs.Common.{◌≡◌, ◌≢◌, ◌∙◌, ℕ, ◌+◌, ◌<◌, ◌≤◌, List, [], ◌∷◌, ◌++◌, length, Some, None, refl, sym, ap, arith, cond, eqb, subst}
 use Rattle.std.specs.FinMap.{get, insert, remove}
 use Rattle.bpf_model.specs.Schedule.{Queues, turned}
-use Rattle.element_arena.specs.State.{ArenaState, IsTaken, LinksOf, SameAt, is_at, indexed, times_in, link_in, key_at, taken, given_back, with_value}
+use Rattle.element_arena.specs.State.{ArenaState, IsTaken, LinksOf, SameAt, is_at, indexed, times_in, link_in, key_at, taken, given_back, with_slot_value}
 use Rattle.element_arena.proofs.Counts.{one_same, one_other, times-append}
 use Rattle.deferred_free.proofs.Moves.{taken_same}
 use Rattle.deferred_free.specs.Queued.{queued, retired_lists, reaped_lists}
@@ -171,20 +171,20 @@ module _ (X Y : Type 0) (contents : X → ArenaState → KeyMap) (fits_index : X
       kept-step x y a b w pb (subst (SameAt (indexed (contents x a) a.slots) a) (sym e) si) (subst (SameAt (queued (lists y a)) a) (sym e) sq)
 
   pub written-step : (x : X) (y : Y) (a b : ArenaState) (i : ℕ) (value : List ℕ) → (fits_index x a × fits_lists y a) × IsParted (record { index = contents x a; lists = lists y a; arena = a }) →
-      i < length a.slots → b ≡ with_value a i value →
+      i < length a.slots → b ≡ with_slot_value a i value →
       let r : PartsView = record { index = contents x b; lists = lists y b; arena = b } in let s : PartsView = record { index = contents x a; lists = lists y a; arena = b } in
       ((fits_index x b × fits_lists y b) × IsParted r) × (r ≡ s)
   written-step x y a b i value w in_ e =
       let h : IsParted (record { index = contents x a; lists = lists y a; arena = a }) = w.1 in
-      let pt : IsParted (record { index = contents x a; lists = lists y a; arena = with_value a i value }) = parted-written (record { index = contents x a; lists = lists y a; arena = a }) i value h in_ in
-      let agree : (own : ℕ → ℕ) → ((j : ℕ) → 0 < own j → IsTaken (with_value a i value) j) → SameAt own a (with_value a i value) = (λ own g. record {
+      let pt : IsParted (record { index = contents x a; lists = lists y a; arena = with_slot_value a i value }) = parted-written (record { index = contents x a; lists = lists y a; arena = a }) i value h in_ in
+      let agree : (own : ℕ → ℕ) → ((j : ℕ) → 0 < own j → IsTaken (with_slot_value a i value) j) → SameAt own a (with_slot_value a i value) = (λ own g. record {
         long = length-set a.slots i _;
         key = λ j o. written-key a.slots i j value in_;
         link = λ j o. refl;
         taken = g;
       }) in
-      let same : (j : ℕ) → indexed (contents x a) (with_value a i value).slots j ≡ indexed (contents x a) a.slots j = λ j. ap (λ k. is_at (get (contents x a) k) j) (written-key a.slots i j value in_) in
-      let si = agree (indexed (contents x a) a.slots) (λ j g. standing-taken (record { index = contents x a; lists = lists y a; arena = with_value a i value }) j pt (omega (arith, same j))) in
-      let sq = agree (queued (lists y a)) (λ j g. standing-taken (record { index = contents x a; lists = lists y a; arena = with_value a i value }) j pt (omega arith)) in
+      let same : (j : ℕ) → indexed (contents x a) (with_slot_value a i value).slots j ≡ indexed (contents x a) a.slots j = λ j. ap (λ k. is_at (get (contents x a) k) j) (written-key a.slots i j value in_) in
+      let si = agree (indexed (contents x a) a.slots) (λ j g. standing-taken (record { index = contents x a; lists = lists y a; arena = with_slot_value a i value }) j pt (omega (arith, same j))) in
+      let sq = agree (queued (lists y a)) (λ j g. standing-taken (record { index = contents x a; lists = lists y a; arena = with_slot_value a i value }) j pt (omega arith)) in
       let pb = subst (λ (z : ArenaState). IsParted (record { index = contents x a; lists = lists y a; arena = z })) (sym e) pt in
       kept-step x y a b w pb (subst (SameAt (indexed (contents x a) a.slots) a) (sym e) si) (subst (SameAt (queued (lists y a)) a) (sym e) sq)

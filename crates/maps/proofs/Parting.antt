@@ -6,7 +6,7 @@ use Rattle.std.proofs.lemmas.Option.{none-some, same_Some}
 use Rattle.std.specs.FinMap.{get, insert, remove}
 use Rattle.bpf_model.specs.Schedule.{Queues, turned}
 use Rattle.bpf_model.specs.View.{SlotView, uses_at, key_in}
-use Rattle.element_arena.specs.State.{ArenaState, IsTaken, is_at, indexed, times_in, key_at, worn_at, flag_in, taken, given_back, with_value, is_last_use}
+use Rattle.element_arena.specs.State.{ArenaState, IsTaken, is_at, indexed, times_in, key_at, worn_at, flag_in, taken, given_back, with_slot_value, is_last_use}
 use Rattle.element_arena.proofs.Counts.{option_cases, one_cases, one_same, one_other, times-append}
 use Rattle.view_laws.proofs.Lists.{key_cases, insert-same, insert-other, remove-same, remove-other}
 use Rattle.deferred_free.specs.Queued.{queued, retired_lists, reaped_lists}
@@ -271,13 +271,13 @@ written-key slots i j value in_ = elim (cases_Bool (eqb j i)) [
   | inr n ↦ ap key_in (get-set_other slots i j _ (eqb-false j i n))
 ]
 
-pub parted-written : (p : PartsView) (i : ℕ) (value : List ℕ) → IsParted p → i < length p.arena.slots → IsParted (record { index = p.index; lists = p.lists; arena = with_value p.arena i value })
+pub parted-written : (p : PartsView) (i : ℕ) (value : List ℕ) → IsParted p → i < length p.arena.slots → IsParted (record { index = p.index; lists = p.lists; arena = with_slot_value p.arena i value })
 parted-written p i value h in_ =
     let long : length (slice_set p.arena.slots i (record { key = key_at p.arena.slots i; value = value; uses = uses_at p.arena.slots i })) ≡ length p.arena.slots = length-set p.arena.slots i _ in
     let flags : length p.arena.worn ≡ length p.arena.slots = h.flags in
-    let same : (j : ℕ) → indexed p.index (with_value p.arena i value).slots j ≡ indexed p.index p.arena.slots j = λ j. ap (λ k. is_at (get p.index k) j) (written-key p.arena.slots i j value in_) in
-    let less : (j : ℕ) → standings (record { index = p.index; lists = p.lists; arena = with_value p.arena i value }) j ≤ standings p j = (λ j. omega (arith, same j)) in
-    let counts = fewer p (record { index = p.index; lists = p.lists; arena = with_value p.arena i value }) h long less in
+    let same : (j : ℕ) → indexed p.index (with_slot_value p.arena i value).slots j ≡ indexed p.index p.arena.slots j = λ j. ap (λ k. is_at (get p.index k) j) (written-key p.arena.slots i j value in_) in
+    let less : (j : ℕ) → standings (record { index = p.index; lists = p.lists; arena = with_slot_value p.arena i value }) j ≤ standings p j = (λ j. omega (arith, same j)) in
+    let counts = fewer p (record { index = p.index; lists = p.lists; arena = with_slot_value p.arena i value }) h long less in
     record {
       once = λ j. (counts j).0;
       inside = λ j. (counts j).1;

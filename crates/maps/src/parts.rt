@@ -6,7 +6,7 @@ ghost use Rattle.bpf_model.specs.declared.event.Given.TheVariants as given;
 ghost use Rattle.bpf_model.specs.Access.{byte_count, number_at};
 ghost use Rattle.bpf_model.specs.MachineStep.{with_bytes};
 ghost use Rattle.bpf_model.specs.declared.limits.TheConstants.{KEY_BYTES, VALUE_BYTES};
-ghost use Rattle.element_arena.specs.State.{IsTaken, key_at, value_at, is_last_use, taken, given_back, with_value, new_arena};
+ghost use Rattle.element_arena.specs.State.{IsTaken, key_at, value_at, is_last_use, taken, given_back, with_slot_value, new_arena};
 ghost use Rattle.hash_index.specs.Order.{IsAbove, NoneAbove, NoneBetween};
 ghost use Rattle.deferred_free.specs.Queued.{retired_lists, reaped_lists};
 ghost use Rattle.maps.specs.Parted.{IsParted, IsInHand, Stands, without_key};
@@ -195,7 +195,7 @@ impl<I: Index, D: Deferred> Parts<I, D> {
         requires stands { Stands self.old slot }
         requires inside { offset + byte_count width ≤ self.old.arena.value_len }
         ensures { self.new ≡ record self.old {
-          arena = with_value self.old.arena slot
+          arena = with_slot_value self.old.arena slot
               (with_bytes offset (byte_count width) number (value_at self.old.arena.slots slot));
         } }
     {

@@ -48,7 +48,7 @@ use Rattle.kind_tests.specs.Tests.{AreAll}
 use Rattle.memory_effects.specs.declared.region.Address.{Address}
 use Rattle.memory_effects.specs.declared.reads.Reads.{Reads}
 use Rattle.memory_effects.specs.declared.reads.Reads.TheVariants as reads
-use Rattle.memory_effects.specs.Accesses.{ReachesFrame, ReadsBytes, ReadsParts, IsRead, read_kind}
+use Rattle.memory_effects.specs.Accesses.{ReachesFrame, ReadsBytes, ReadsParts, IsReadByLoad, read_kind}
 
 -- A load through a value finds a number of so many bytes, and no element.
 pub record Finds (env : Environment) (m : State) (width : ℕ) (offset : ℤ) (v : Value) : Type 0 where
@@ -134,7 +134,7 @@ module _ (dst : ℕ) (from : Address) (ctx_len : ℕ) (shapes : List MapShape) (
   not-eight widths.Four kind e x = absurd (omega (arith, e))
   not-eight widths.Eight kind e x = fill_transfers dst from.base from.offset x.reaches.start x.at shapes ctx_len a kind x.reaches.base x.reaches.inside x.parts x.pointer ne
 
-  pub read_transfers : (x : Reads) (width : Width) → ((n : ℕ) → n < 256 ^ byte_count width → Holds t n) → IsRead x a (byte_count width) from ctx_len shapes → Transfers (Load width dst from.base from.offset) shapes ctx_len a (with_kind dst (read_kind x t) a) None
+  pub read_transfers : (x : Reads) (width : Width) → ((n : ℕ) → n < 256 ^ byte_count width → Holds t n) → IsReadByLoad x a (byte_count width) from ctx_len shapes → Transfers (Load width dst from.base from.offset) shapes ctx_len a (with_kind dst (read_kind x t) a) None
   read_transfers reads.Context width all x = found_transfers dst from.base from.offset shapes ctx_len a t ne width all
       (λ c env m i d. context-finds ctx_len (length shapes) (byte_count width) from.offset x.offsets env m (m.regs from.base) i (reg-is a c m from.base (CtxAt x.offsets) d x.base) x.inside)
   read_transfers (reads.Value map) width all x = load_transfers width dst from.base from.offset shapes ctx_len a map x.shape x.offsets t x.base x.shape_is x.inside ne all
@@ -147,7 +147,7 @@ module _ (dst : ℕ) (from : Address) (ctx_len : ℕ) (shapes : List MapShape) (
   narrow signed_widths.Two e = omega (arith, e)
   narrow signed_widths.Four e = omega (arith, e)
 
-  pub read_signed_transfers : (x : Reads) (width : SignedWidth) → ((n : ℕ) → (loaded_signed width n < 2 ^ 64) × Holds t (loaded_signed width n)) → IsRead x a (byte_count (unsigned_width width)) from ctx_len shapes
+  pub read_signed_transfers : (x : Reads) (width : SignedWidth) → ((n : ℕ) → (loaded_signed width n < 2 ^ 64) × Holds t (loaded_signed width n)) → IsReadByLoad x a (byte_count (unsigned_width width)) from ctx_len shapes
       → Transfers (LoadSigned width dst from.base from.offset) shapes ctx_len a (with_kind dst (read_kind x t) a) None
   read_signed_transfers reads.Context width all x = found_signed_transfers dst from.base from.offset shapes ctx_len a t ne width all
       (λ c env m i d. context-finds ctx_len (length shapes) (byte_count (unsigned_width width)) from.offset x.offsets env m (m.regs from.base) i (reg-is a c m from.base (CtxAt x.offsets) d x.base) x.inside)
@@ -189,9 +189,6 @@ module _ (a : StateHere) (from : Address) (width : Width) (start : ℤ) (at : �
     parts = parts_at a.frame at kind (subst (λ w. at % w ≡ 0) wide aligned) (subst (λ w. AreAll a.frame.cells at w class.Part) wide all) spill;
     pointer = pointer-kind kind pointer;
   }
-
-pub to_alike : (i : Insn) (shapes : List MapShape) (ctx_len : ℕ) (a b c : AbsState) → AreAlike b c → Transfers i shapes ctx_len a b None → Transfers i shapes ctx_len a c None
-to_alike i shapes ctx_len a b c e t = transfers_wider i shapes ctx_len a a b c None None (λ s m d. d) (alike_wider b c e) (alike_wider b c e) t
 
 -- what a load with sign extension gives is a number
 extended-lt : (w : Bits) (x : ℕ) → word w64 (signed w (x % 2 ^ bits w)) < 2 ^ 64

@@ -28,22 +28,9 @@ use Rattle.typed_runs.specs.Effects.{with_cells, IsNumberOperand, IsWritten}
 use Rattle.typed_runs.specs.Verified.{Transfers}
 use Rattle.typed_runs.proofs.Arguments.{reg-is}
 use Rattle.typed_runs.proofs.Local.{alone_transfers}
+use Rattle.typed_runs.proofs.Example.{bytes-described}
 use Rattle.typed_runs.proofs.Spilling.{near-cell, spill_transfers}
 use Rattle.typed_runs.proofs.Elements.{operand-number}
-
-byte-cell : (c : Scene) (ρ : Naming) (σ : Stored) (k : ℕ) (t : Bool) (cell : CellKind) (x : Cell) (b : ℕ) → b < 256 → IsOfCell c ρ σ k cell x → IsOfCell c ρ σ k (if t then ByteCell else cell) (if t then Byte b else x)
-byte-cell c ρ σ k true cell x b l h = (b, refl, l)
-byte-cell c ρ σ k false cell x b l h = h
-
-bytes-described : (a : AbsState) (c : Scene) (m : State) (at width n place : ℕ) → Describes a c m → Describes (with_cells at width ByteCell a) c (record { regs = m.regs; frame = with_number at width n m.frame; place = place })
-bytes-described a c m at width n place d = record {
-  naming = d.naming;
-  stored = d.stored;
-  inside = d.inside;
-  near = record { regs_near = d.near.regs_near; cells_near = λ k. near-cell (is_within at width k) (Byte (n / 256 ^ (k - at) % 256)) (m.frame k) tt (d.near.cells_near k) };
-  regs = d.regs;
-  cells = λ k. byte-cell c d.naming d.stored k (is_within at width k) (a.cells k) (m.frame k) (n / 256 ^ (k - at) % 256) (mod_below _ 256 (omega arith)) (d.cells k);
-}
 
 not-element : (es : List Element) (width : ℕ) (offset : ℤ) (v base : Value) (n : ℕ) (o : ℤ) (new : List Element) → v ≡ Number n → base ≡ Pointer (Frame o) → element_store es width offset v base ≡ Some new → ⊥
 not-element es width offset v base n o new e f h =

@@ -85,13 +85,13 @@ pub record ReadsParts (a : Known) (r width : ℕ) (offset : ℤ) (kind : Kind) :
   pub pointer : IsPointer kind
 
 -- What a load reads.
-abbrev pub IsRead : Reads → Known → ℕ → Address → ℕ → List MapShape → Type 0
-IsRead reads.Context a width from ctx_len shapes =
+abbrev pub IsReadByLoad : Reads → Known → ℕ → Address → ℕ → List MapShape → Type 0
+IsReadByLoad reads.Context a width from ctx_len shapes =
     ReachesContext a from.base width from.offset ctx_len
-IsRead (reads.Value map) a width from ctx_len shapes =
+IsReadByLoad (reads.Value map) a width from ctx_len shapes =
     ReachesValue a from.base width from.offset shapes map
-IsRead reads.FrameBytes a width from ctx_len shapes = ReadsBytes a from.base width from.offset
-IsRead (reads.FramePointer kind) a width from ctx_len shapes =
+IsReadByLoad reads.FrameBytes a width from ctx_len shapes = ReadsBytes a from.base width from.offset
+IsReadByLoad (reads.FramePointer kind) a width from ctx_len shapes =
     ReadsParts a from.base width from.offset (kind_of kind)
 
 -- the kind of what is read

@@ -32,7 +32,8 @@ pub fn load(
     ctx_len: usize,
     shapes: &[MapShape],
 ) -> Result<Region, Fault>
-    ensures sound { OnOk result (PerformsAccess (Insn.Load width dst from.base from.offset) ctx_len shapes.now
+    ensures sound { OnOk result (PerformsAccess
+        (Insn.Load width dst from.base from.offset) ctx_len shapes.now
         state.old state.new) }
     ensures region { IfOk result (λ region. IsBase region (kind_at state.old.regs from.base)) }
     ensures bytes { (10 ≡ dst → ⊥)
@@ -59,14 +60,16 @@ pub fn load_signed(
     ctx_len: usize,
     shapes: &[MapShape],
 ) -> Result<Region, Fault>
-    ensures sound { OnOk result (PerformsAccess (Insn.LoadSigned width dst from.base from.offset) ctx_len
+    ensures sound { OnOk result (PerformsAccess
+        (Insn.LoadSigned width dst from.base from.offset) ctx_len
         shapes.now state.old state.new) }
     ensures region { IfOk result (λ region. IsBase region (kind_at state.old.regs from.base)) }
     ensures bytes { (10 ≡ dst → ⊥)
         → ReadsBytes (state_of state.old) from.base (byte_count (unsigned_width width)) from.offset
         → LoadsNumber result dst (state_of state.old) (state_of state.new) }
     ensures value { (map : ℕ) → (10 ≡ dst → ⊥)
-        → ReadsValue shapes.now state.old from.base map (byte_count (unsigned_width width)) from.offset
+        → ReadsValue shapes.now state.old from.base map (byte_count (unsigned_width width))
+        from.offset
         → LoadsNumber result dst (state_of state.old) (state_of state.new) }
     ensures below { (top : ℕ) → AreBelow top state.old → AreBelow top state.new }
     ensures unchanged { OnErr result (state.new ≡ state.old) }

@@ -5,7 +5,7 @@ ghost use Rattle.bpf_model.specs.declared.limits.MapShape.{MapShape as Shape};
 ghost use Rattle.typed_runs.specs.Effects.{IsAlwaysInside};
 ghost use Rattle.register_kinds.specs.States.{kind_in, kind_of, state_of};
 ghost use Rattle.register_kinds.specs.Pairs.{IsBelow, AreBelow};
-ghost use Rattle.memory_effects.specs.Accesses.{IsRead, IsBase, IsStart, ReadsBytes, ReadsValue, read_kind};
+ghost use Rattle.memory_effects.specs.Accesses.{IsReadByLoad, IsBase, IsStart, ReadsBytes, ReadsValue, read_kind};
 
 use crate::offset::{check_placed, offset_in};
 use crate::region::{Address, Region};
@@ -36,7 +36,7 @@ fn read_from_frame(
 ) -> Result<Reads, Fault>
     requires { kind_in state.now.regs from.base ≡ RegKind.Frame start }
     ensures reads { IfOk result (λ x. (ctx_len : ℕ) (shapes : List MapShape)
-        → IsRead x (state_of state.now) (byte_count width) from ctx_len shapes) }
+        → IsReadByLoad x (state_of state.now) (byte_count width) from ctx_len shapes) }
     ensures below { IfOk result (λ x. (top : ℕ) (t : Scalar) → AreBelow top state.now
         → IsBelow top (read_kind x t)) }
     ensures bytes { ReadsBytes (state_of state.now) from.base (byte_count width) from.offset
@@ -83,7 +83,7 @@ pub(crate) fn read(
     shapes: &[MapShape],
 ) -> Result<Reads, Fault>
     ensures reads { IfOk result (λ x.
-        IsRead x (state_of state.now) (byte_count width) from ctx_len shapes.now) }
+        IsReadByLoad x (state_of state.now) (byte_count width) from ctx_len shapes.now) }
     ensures below { IfOk result (λ x. (top : ℕ) (t : Scalar) → AreBelow top state.now
         → IsBelow top (read_kind x t)) }
     ensures bytes { ReadsBytes (state_of state.now) from.base (byte_count width) from.offset
@@ -115,7 +115,7 @@ impl Reads {
     /// The region that it lies in.
     pub(crate) fn region(&self) -> Region
         ensures { (a : Known) (width : ℕ) (from : Address) (ctx_len : ℕ) (shapes : List MapShape)
-            → IsRead self.now a width from ctx_len shapes → IsBase result (a.regs from.base) }
+            → IsReadByLoad self.now a width from ctx_len shapes → IsBase result (a.regs from.base) }
     {
         match self {
             Reads::Context => Region::Ctx,

@@ -52,7 +52,8 @@ fn store_number(
     requires base { kind_in state.old.regs to.base ≡ RegKind.Frame start }
     requires number { IsNumberOperand (state_of state.old) src.now }
     ensures sound { OnOk result ((ctx_len : ℕ) (shapes : List MapShape)
-        → PerformsAccess (Insn.Store width to.base to.offset src.now) ctx_len shapes state.old state.new) }
+        → PerformsAccess (Insn.Store width to.base to.offset src.now)
+        ctx_len shapes state.old state.new) }
     ensures bytes { (at : ℕ)
         → ReachesFrame (state_of state.old) to.base (byte_count width) to.offset at
         → StoresBytes result at (byte_count width) (state_of state.old) (state_of state.new) }
@@ -77,7 +78,8 @@ fn store_pointer(
     requires value { (r : ℕ) × (src.now ≡ Operand.Register r) × (kind_in state.old.regs r ≡ kind) }
     requires written { IsWritten (kind_of kind) }
     ensures sound { OnOk result ((ctx_len : ℕ) (shapes : List MapShape)
-        → PerformsAccess (Insn.Store width to.base to.offset src.now) ctx_len shapes state.old state.new) }
+        → PerformsAccess (Insn.Store width to.base to.offset src.now)
+        ctx_len shapes state.old state.new) }
     ensures below { (top : ℕ) → AreBelow top state.old → AreBelow top state.new }
     ensures unchanged { OnErr result (state.new ≡ state.old) }
 {
@@ -104,7 +106,8 @@ fn check_store(
     requires base { kind_in state.now.regs to.base ≡ RegKind.Value map offset }
     requires number { IsNumberOperand (state_of state.now) src.now }
     ensures sound { OnOk result ((ctx_len : ℕ)
-        → PerformsAccess (Insn.Store width to.base to.offset src.now) ctx_len shapes.now state.now state.now) }
+        → PerformsAccess (Insn.Store width to.base to.offset src.now)
+        ctx_len shapes.now state.now state.now) }
 {
     let _shape = check_value(offset, width, to.offset, map, shapes)?;
     Ok(())
@@ -120,7 +123,8 @@ fn store_frame(
 ) -> Result<(), Fault>
     requires base { kind_in state.old.regs to.base ≡ RegKind.Frame start }
     ensures sound { OnOk result ((ctx_len : ℕ) (shapes : List MapShape)
-        → PerformsAccess (Insn.Store width to.base to.offset src.now) ctx_len shapes state.old state.new) }
+        → PerformsAccess (Insn.Store width to.base to.offset src.now)
+        ctx_len shapes state.old state.new) }
     ensures bytes { (at : ℕ) → IsNumberOperand (state_of state.old) src.now
         → ReachesFrame (state_of state.old) to.base (byte_count width) to.offset at
         → StoresBytes result at (byte_count width) (state_of state.old) (state_of state.new) }
@@ -145,7 +149,8 @@ fn store_value(
 ) -> Result<(), Fault>
     requires base { kind_in state.now.regs to.base ≡ RegKind.Value map offset }
     ensures sound { OnOk result ((ctx_len : ℕ)
-        → PerformsAccess (Insn.Store width to.base to.offset src.now) ctx_len shapes.now state.now state.now) }
+        → PerformsAccess (Insn.Store width to.base to.offset src.now)
+        ctx_len shapes.now state.now state.now) }
 {
     match stored_value(state, src)? {
         Stored::Number => check_store(state, width, to, src, map, offset, shapes),
@@ -172,7 +177,8 @@ pub fn store(
     shapes: &[MapShape],
 ) -> Result<Region, Fault>
     ensures sound { OnOk result ((ctx_len : ℕ)
-        → PerformsAccess (Insn.Store width to.base to.offset src.now) ctx_len shapes.now state.old state.new) }
+        → PerformsAccess (Insn.Store width to.base to.offset src.now)
+        ctx_len shapes.now state.old state.new) }
     ensures region { IfOk result (λ region. IsBase region (kind_at state.old.regs to.base)) }
     ensures bytes { (at : ℕ) → IsNumberOperand (state_of state.old) src.now
         → ReachesFrame (state_of state.old) to.base (byte_count width) to.offset at

@@ -26,6 +26,7 @@ use Rattle.plain_interpreter.specs.declared.plain_run.PlainRun.{PlainRun}
 use Rattle.plain_interpreter.specs.declared.plain_run.Progress.{Progress}
 use Rattle.plain_interpreter.specs.declared.value.Computed.{Computed}
 use Rattle.plain_interpreter.specs.Plain.{cells_of, Comes, IsComputed, IsFar, IsSum, pointed_offset}
+use Rattle.bpf_model.proofs.Bytes.{before, behind, within}
 
 pub bind_comes : {A : Type 0} (o : Option A) (f : A → Option Outcome) (x : A) (answer : Progress) (old new : PlainRun) → o ≡ Some x → Comes (f x) answer old new → Comes (o >>= f) answer old new
 bind_comes o f x answer old new e h = subst (λ o. Comes (o >>= f) answer old new) (sym e) h
@@ -64,15 +65,6 @@ far_moved (Ctx o) offset d e other s = (Pointer (Ctx (o +ℤ d)), refl, subst (I
 far_moved (Frame o) offset d e other s = (Pointer (Frame (o +ℤ d)), refl, subst (IsSum (o +ℤ d)) e s)
 far_moved (Elem k o) offset d e other s = (Pointer (Elem k (o +ℤ d)), refl, subst (IsSum (o +ℤ d)) e s)
 far_moved (MapRef k) offset d e other s = absurd (other k refl)
-
-within : (at w k : ℕ) → at ≤ k → k < at + w → is_within at w k ≡ true
-within at w k h l = ap (λ t. t && nat_lt k (at + w)) (le-leb at k h) ∙ lt-ltb k (at + w) l
-
-before : (at w k : ℕ) → k < at → is_within at w k ≡ false
-before at w k h = ap (λ t. t && nat_lt k (at + w)) (lt-leb at k h)
-
-behind : (at w k : ℕ) → at + w ≤ k → is_within at w k ≡ false
-behind at w k h = ap (λ t. t && nat_lt k (at + w)) (le-leb at k (omega arith)) ∙ le-ltb k (at + w) h
 
 same_within : (at i j : ℕ) → j ≢ at + i → is_within at i j ≡ is_within at (i + 1) j
 same_within at i j n = elim (cases_lt j at) [

@@ -82,7 +82,8 @@ impl PlainRun {
     fn load_map(&mut self, dst: Reg, map: i32, maps: usize) -> Progress
         requires { self.old.place < 2 ^ 40 }
         ensures { (context : List ℕ) →
-            PerformsInsn (Insn.LoadMap dst map) (plain_environment context maps) self.old result self.new }
+            PerformsInsn (Insn.LoadMap dst map) (plain_environment context maps) self.old result
+            self.new }
     {
         if map < 0 || map as usize >= maps {
             return Progress::Stuck;
@@ -112,7 +113,8 @@ impl PlainRun {
     ) -> Progress
         requires { self.old.place < 2 ^ 40 }
         ensures { (env : Environment) →
-            PerformsInsn (Insn.JumpIf condition size dst src.now offset) env self.old result self.new }
+            PerformsInsn (Insn.JumpIf condition size dst src.now offset) env self.old result
+            self.new }
     {
         match decided(condition, size, src, self.register(dst), self.operand(src)) {
             Some(true) => self.jump(i32::from(offset)),
@@ -127,7 +129,8 @@ impl PlainRun {
     fn load_from(&self, context: &[u8], width: Width, offset: i16, base: Value) -> Option<Value>
         requires { length context.now ≤ CTX_BYTES }
         ensures { (maps : ℕ) → result
-            ≡ load_from (plain_environment context.now maps) (plain_state_of self.now) (byte_count width) offset
+            ≡ load_from (plain_environment context.now maps) (plain_state_of self.now)
+            (byte_count width) offset
             base }
     {
         match base {
@@ -148,7 +151,8 @@ impl PlainRun {
         requires place { self.old.place < 2 ^ 40 }
         requires context { length context.now ≤ CTX_BYTES }
         ensures { (maps : ℕ) →
-            PerformsInsn (Insn.Load width dst src offset) (plain_environment context.now maps) self.old result
+            PerformsInsn (Insn.Load width dst src offset) (plain_environment context.now maps)
+            self.old result
             self.new }
     {
         match self.load_from(context, width, offset, self.register(src)) {
@@ -168,7 +172,8 @@ impl PlainRun {
         requires place { self.old.place < 2 ^ 40 }
         requires context { length context.now ≤ CTX_BYTES }
         ensures { (maps : ℕ) →
-            PerformsInsn (Insn.LoadSigned width dst src offset) (plain_environment context.now maps) self.old
+            PerformsInsn (Insn.LoadSigned width dst src offset) (plain_environment context.now maps)
+            self.old
             result self.new }
     {
         match self.load_from(context, width.width(), offset, self.register(src)) {
@@ -182,7 +187,8 @@ impl PlainRun {
 
     fn store_through(&mut self, width: Width, offset: i16, v: Value, r: Reference) -> Progress
         requires { self.old.place < 2 ^ 40 }
-        ensures { Comes (stored (plain_state_of self.old) (byte_count width) offset v r) result self.old
+        ensures { Comes (stored (plain_state_of self.old) (byte_count width) offset v r) result
+            self.old
             self.new }
     {
         let o = match r {
@@ -222,7 +228,8 @@ impl PlainRun {
     pub fn perform(&mut self, insn: &Insn, context: &[u8], maps: usize) -> Progress
         requires place { self.old.place < 2 ^ 40 }
         requires context { length context.now ≤ CTX_BYTES }
-        ensures { PerformsInsn insn.now (plain_environment context.now maps) self.old result self.new }
+        ensures { PerformsInsn insn.now (plain_environment context.now maps) self.old result
+            self.new }
     {
         match insn {
             Insn::Alu { op, size, dst, src } => self.alu(*op, *size, *dst, src),
@@ -293,7 +300,8 @@ impl PlainRun {
     pub fn step(&mut self, program: &[Insn], context: &[u8], maps: usize) -> Progress
         requires program { slot_total program.now ≤ MAX_SLOTS }
         requires context { length context.now ≤ CTX_BYTES }
-        ensures { TellsStep program.now (plain_environment context.now maps) self.old result self.new }
+        ensures { TellsStep program.now (plain_environment context.now maps) self.old result
+            self.new }
     {
         match insn_at(program, self.place) {
             Some(insn) => self.perform(insn, context, maps),

@@ -23,7 +23,8 @@ impl PlainRun {
     pub fn run(&mut self, program: &[Insn], context: &[u8], maps: usize, limit: usize) -> Ending
         requires program { slot_total program.now ≤ MAX_SLOTS }
         requires context { length context.now ≤ CTX_BYTES }
-        ensures { EndsAs program.now (plain_environment context.now maps) (plain_state_of self.old) limit result }
+        ensures { EndsAs program.now (plain_environment context.now maps) (plain_state_of self.old)
+            limit result }
     {
         for done in 0..limit {
             match self.step(program, context, maps) {

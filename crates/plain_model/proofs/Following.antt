@@ -18,7 +18,7 @@ use Rattle.plain_model.specs.Following.{DoesAs}
 use Rattle.plain_store.specs.Births.{ReclaimsTo}
 use Rattle.plain_model.specs.Following.{settled, is_turn, FollowsLists}
 use Rattle.plain_store.proofs.Queueing.{none-taken}
-use Rattle.plain_store.proofs.Lists.{set-get}
+use Rattle.bpf_model.proofs.Lists.{get-set_there}
 
 pub advance-follows : (s new : Schedule) → new.machine ≡ s.machine → new ≡ advanced s s.machine (is_any s.awaited) → FollowsLists s Advance Done new
 advance-follows s new same lists = record { first = tt; lists = lists ∙ ap (λ m. advanced s m (is_any s.awaited)) (sym same) }
@@ -32,7 +32,7 @@ reap-follows s n store taken new h r machine queues awaited =
     let e = r.0 in
     let c = r.1 in
     let elements : new.machine.store.elements ≡ slice_set s.machine.store.elements n (with_life Reclaimed e) = ap (λ m. m.store.elements) machine ∙ ap (λ t. t.elements) c.new_is in
-    let after : slice_get new.machine.store.elements n ≡ Some (with_life Reclaimed e) = ap (λ l. slice_get l n) elements ∙ set-get s.machine.store.elements n e (with_life Reclaimed e) c.born in
+    let after : slice_get new.machine.store.elements n ≡ Some (with_life Reclaimed e) = ap (λ l. slice_get l n) elements ∙ get-set_there s.machine.store.elements n e (with_life Reclaimed e) c.born in
     record {
       first = (n, c.since, h, (e, c.born, c.unlinked), (with_life Reclaimed e, after, refl));
       lists = ap (λ qs. record { machine = new.machine; queues = qs; awaited = new.awaited }) queues ∙ ap (λ f. record { machine = new.machine; queues = without_first s.queues; awaited = f }) awaited;

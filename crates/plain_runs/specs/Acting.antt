@@ -88,13 +88,15 @@ KernelsAs function old answer new =
 abbrev pub InsnStepsAs : Insn → maps.Store → List Section → machine.Run → Result Answer Fault →
     maps.Store → machine.Run → Type 0
 InsnStepsAs i s opened run answer new_store new_run =
-    TellsResult (λ a. InsnStep i s opened run a new_store new_run) ((a : Answer) (t : maps.Store) (q : machine.Run) → InsnStep i s opened run a t q → ⊥) answer
+    TellsResult (λ a. InsnStep i s opened run a new_store new_run)
+    ((a : Answer) (t : maps.Store) (q : machine.Run) → InsnStep i s opened run a t q → ⊥) answer
 
 -- the run made a step, or has none
 abbrev pub RunStepsAs : maps.Store → List Section → machine.Run → Result Answer Fault → maps.Store →
     machine.Run → Type 0
 RunStepsAs s opened run answer new_store new_run =
-    TellsResult (λ a. RunStep s opened run a new_store new_run) ((a : Answer) (t : maps.Store) (q : machine.Run) → RunStep s opened run a t q → ⊥) answer
+    TellsResult (λ a. RunStep s opened run a new_store new_run)
+    ((a : Answer) (t : maps.Store) (q : machine.Run) → RunStep s opened run a t q → ⊥) answer
 
 -- an instruction other than a call was a step of the run, or there is none
 abbrev pub AloneStep : Insn → maps.Store → machine.Run → Answer → maps.Store → machine.Run → Type 0
@@ -106,7 +108,8 @@ AloneStep i s run answer new_store new_run =
 abbrev pub AloneAs : Insn → maps.Store → machine.Run → Result Answer Fault → maps.Store →
     machine.Run → Type 0
 AloneAs i s run answer new_store new_run =
-    TellsResult (λ a. AloneStep i s run a new_store new_run) ((a : Answer) (t : maps.Store) (q : machine.Run) → AloneStep i s run a t q → ⊥) answer
+    TellsResult (λ a. AloneStep i s run a new_store new_run)
+    ((a : Answer) (t : maps.Store) (q : machine.Run) → AloneStep i s run a t q → ⊥) answer
 
 -- the run of a slot made a step, or has none
 abbrev pub SlotStep : maps.Store → List Section → Option machine.Run → Answer → maps.Store →
@@ -118,4 +121,6 @@ SlotStep s opened (Some run) answer new_store new =
 abbrev pub SlotStepsAs : maps.Store → List Section → Option machine.Run → Result Answer Fault →
     maps.Store → Option machine.Run → Type 0
 SlotStepsAs s opened old answer new_store new =
-    TellsResult (λ a. SlotStep s opened old a new_store new) ((a : Answer) (t : maps.Store) (q : Option machine.Run) → SlotStep s opened old a t q → ⊥) answer
+    TellsResult (λ a. SlotStep s opened old a new_store new)
+    ((a : Answer) (t : maps.Store) (q : Option machine.Run)
+    → SlotStep s opened old a t q → ⊥) answer

@@ -101,7 +101,8 @@ fn access_element(run: &mut PlainRun, store: &mut Store, insn: &Insn, n: usize, 
     requires place { (plain_state_of run.old).place < 2 ^ 40 }
     requires base { base_element insn.now (plain_state_of run.old) ≡ Some (n, o) }
     ensures acts { (context : List ℕ) (maps : ℕ) →
-        ActsAs insn.now (plain_environment context maps) (elements_of store.old.elements.items) run.old
+        ActsAs insn.now (plain_environment context maps) (elements_of store.old.elements.items)
+        run.old
         result (elements_of store.new.elements.items) run.new }
     ensures maps { store.new.maps ≡ store.old.maps }
     ensures births { length store.new.elements.items ≡ length store.old.elements.items }

@@ -46,7 +46,8 @@ fn returns(run: &mut Run, value: Value) -> Result<Answer, Fault>
     ensures moves { (program : ModelLoaded) →
         TellsResult (λ a. (a ≡ answers.Moved)
         × (run_with program run.new
-        ≡ moves (run_with program run.old) (returns_of value (plain_state_of run.old.state)))) ⊥ result }
+        ≡ moves (run_with program run.old) (returns_of value (plain_state_of run.old.state)))) ⊥
+        result }
     ensures program { run.new.program ≡ run.old.program }
 {
     run.moved = one_more(run.moved)?;
@@ -56,7 +57,8 @@ fn returns(run: &mut Run, value: Value) -> Result<Answer, Fault>
 
 /// How many sections the run has opened after a lock: the outermost one opens a section.
 fn locks_after(run: &Run) -> Result<u64, Fault>
-    ensures { TellsResult (λ n. n ≡ (if run.now.depth == 0 then run.now.locks + 1 else run.now.locks)) ⊥
+    ensures { TellsResult (λ n. n
+        ≡ (if run.now.depth == 0 then run.now.locks + 1 else run.now.locks)) ⊥
         result }
 {
     if run.depth == 0 {
@@ -138,7 +140,8 @@ fn byte_in(run: &PlainRun, index: usize) -> Option<u8>
 /// So many bytes of the frame from an index on.
 fn bytes_at<const N: usize>(run: &PlainRun, at: usize, len: usize) -> Result<ArrayVec<u8, N>, Fault>
     requires { at + len ≤ FRAME_BYTES }
-    ensures { TellsResult (λ bytes. bytes_of (plain_state_of run.now).frame at len ≡ Some bytes.items)
+    ensures { TellsResult (λ bytes. bytes_of (plain_state_of run.now).frame at len
+        ≡ Some bytes.items)
         (bytes_of (plain_state_of run.now).frame at len ≡ None) result }
 {
     let mut bytes = ArrayVec::new();
@@ -160,7 +163,8 @@ fn frame_bytes<const N: usize>(
     len: usize,
     value: Value,
 ) -> Result<ArrayVec<u8, N>, Fault>
-    ensures { TellsResult (λ bytes. frame_bytes_of (plain_state_of run.now).frame len value ≡ Some bytes.items)
+    ensures { TellsResult (λ bytes. frame_bytes_of (plain_state_of run.now).frame len value
+        ≡ Some bytes.items)
         (frame_bytes_of (plain_state_of run.now).frame len value ≡ None) result }
 {
     let Value::Pointer(Reference::Frame(o)) = value else {
@@ -199,7 +203,8 @@ fn map_key_argument(run: &Run, program: &Loaded, store: &Store) -> Result<MapKey
 }
 
 fn lookup(run: &Run, program: &Loaded, store: &Store) -> Result<Value, Fault>
-    ensures { TellsResult (LookupStep (store_of store.now) (run_with (loaded_of program.now) run.now))
+    ensures { TellsResult (LookupStep (store_of store.now)
+        (run_with (loaded_of program.now) run.now))
         ((ret : Value) →
         LookupStep (store_of store.now) (run_with (loaded_of program.now) run.now) ret → ⊥) result }
 {

@@ -8,7 +8,8 @@ use Rattle.bpf_model.specs.Element.{Linked, unlinked, linked_count}
 use Rattle.bpf_model.specs.MapState.{MapState, Store, with_bag}
 use Rattle.bpf_model.specs.Helper.{LooksUp, Replaces, Settles, Updates, newborn, update_error}
 use Rattle.plain_store.specs.Births.{uses_after_first, set_first, without_first_free}
-use Rattle.plain_store.proofs.Lists.{first-of, drop-none, set-same}
+use Rattle.plain_store.proofs.Lists.{first-of, drop-none}
+use Rattle.bpf_model.proofs.Lists.{set-same}
 
 pub without_first-at : (ms : List MapState) (k : ℕ) (m : MapState) → slice_get ms k ≡ Some m → without_first_free ms k ≡ slice_set ms k (with_bag (drop 1 m.bag) m)
 without_first-at ms k m h = ap (set_first ms k) h

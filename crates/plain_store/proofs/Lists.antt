@@ -1,15 +1,9 @@
 -- Facts about lists, of what stands at an index and what is left from an index on.
 use Rattle.std.proofs.Common.{◌≡◌, ℕ, zero, suc, ◌+◌, ◌<◌, ◌≤◌, List, [], ◌∷◌, ◌++◌, length, Some, refl, sym, ap, ◌∙◌, subst, arith, map}
 use Rattle.std.specs.Prelude.{slice_get, slice_set, slice_index_or, remove, drop, take}
-use Rattle.std.specs.List.{AllZip}
-use Rattle.std.proofs.lemmas.Slice.Zip.{AllZip-map}
 use Rattle.std.proofs.lemmas.List.{append_assoc, append-nil, drop_all}
 use Rattle.std.proofs.lemmas.Option.{slice_get-get_or, slice_get_within}
-
-pub get-map : {A B : Type 0} (f : A → B) (xs : List A) (i : ℕ) (x : A) → slice_get xs i ≡ Some x → slice_get (map f xs) i ≡ Some (f x)
-get-map f [] i x h = absurd (cc)
-get-map f (y ∷ xs) zero x h = let e : y ≡ x = cc in ap (λ z. Some (f z)) e
-get-map f (y ∷ xs) (suc i) x h = get-map f xs i x h
+use Rattle.bpf_model.proofs.Lists.{drop-next}
 
 pub length-map-own : {A B : Type 0} (f : A → B) (xs : List A) → length (map f xs) ≡ length xs
 length-map-own f [] = refl
@@ -27,35 +21,9 @@ pub drop-none : {A : Type 0} (xs : List A) → length xs ≡ 0 → drop 1 xs ≡
 drop-none [] h = refl
 drop-none (x ∷ xs) h = absurd (omega arith)
 
-pub set-same : {A : Type 0} (xs : List A) (i : ℕ) (x : A) → slice_get xs i ≡ Some x → slice_set xs i x ≡ xs
-set-same [] i x h = refl
-set-same (y ∷ xs) zero x h = let e : y ≡ x = cc in ap (λ z. z ∷ xs) (sym e)
-set-same (y ∷ xs) (suc i) x h = ap (λ l. y ∷ l) (set-same xs i x h)
-
 pub first-of : {A : Type 0} (xs : List A) → 0 < length xs → (x : A) × (rest : List A) × (xs ≡ x ∷ rest)
 first-of [] h = absurd (omega arith)
 first-of (x ∷ xs) h = (x, xs, refl)
-
-pub get-within : {A : Type 0} (xs : List A) (i : ℕ) (x : A) → slice_get xs i ≡ Some x → i < length xs
-get-within xs i x h = slice_get_within xs i x h
-
--- what was cloned is the same
-map-self : (xs : List ℕ) → map (λ x. x) xs ≡ xs
-map-self [] = refl
-map-self (x ∷ xs) = ap (λ l. x ∷ l) (map-self xs)
-
-pub cloned : (xs ys : List ℕ) → AllZip (λ x y. y ≡ x) xs ys → ys ≡ xs
-cloned xs ys h = AllZip-map (λ x. x) xs ys h ∙ map-self xs
-
-pub some-at : {A : Type 0} (xs : List A) (i : ℕ) → i < length xs → (x : A) × (slice_get xs i ≡ Some x)
-some-at [] i h = absurd (omega arith)
-some-at (x ∷ xs) zero h = (x, refl)
-some-at (x ∷ xs) (suc i) h = some-at xs i (omega arith)
-
-drop-next : {A : Type 0} (xs : List A) (i : ℕ) (x : A) → slice_get xs i ≡ Some x → drop i xs ≡ x ∷ drop (suc i) xs
-drop-next [] i x h = absurd cc
-drop-next (y ∷ xs) zero x h = let e : y ≡ x = cc in ap (λ z. z ∷ xs) e
-drop-next (y ∷ xs) (suc i) x h = drop-next xs i x h
 
 pub drop-at : {A : Type 0} (xs : List A) (i : ℕ) (x : A) → slice_get xs i ≡ Some x → drop i xs ≡ x ∷ drop (i + 1) xs
 drop-at xs i x h = let next : suc i ≡ i + 1 = omega arith in drop-next xs i x h ∙ ap (λ k. x ∷ drop k xs) next
@@ -77,11 +45,6 @@ pub made-from : {A B : Type 0} (f : A → B) (xs : List A) (ys : List B) (n : �
 made-from f xs ys n d e h =
     let r = from-item f xs n d (subst (λ l. n < length l) e h) in
     (r.0, r.1, ap (λ l. slice_index_or l n d) e ∙ r.2)
-
-pub set-get : {A : Type 0} (xs : List A) (n : ℕ) (x y : A) → slice_get xs n ≡ Some x → slice_get (slice_set xs n y) n ≡ Some y
-set-get [] n x y h = absurd cc
-set-get (z ∷ xs) zero x y h = refl
-set-get (z ∷ xs) (suc n) x y h = set-get xs n x y h
 
 take-next : {A : Type 0} (xs : List A) (i : ℕ) (x : A) → slice_get xs i ≡ Some x → take (suc i) xs ≡ take i xs ++ x ∷ []
 take-next [] i x h = absurd cc

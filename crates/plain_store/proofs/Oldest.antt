@@ -7,12 +7,13 @@ use Rattle.bpf_model.specs.MapState.{MapState, Store, with_bag}
 use Rattle.bpf_model.specs.Schedule.{TakesOldest}
 use Rattle.plain_store.specs.Births.{uses_after_first, without_first_free}
 use Rattle.plain_store.proofs.Births.{without_first-at}
-use Rattle.plain_store.proofs.Lists.{first-of, get-within}
-use Rattle.plain_store.proofs.Lists.{set-get}
+use Rattle.plain_store.proofs.Lists.{first-of}
+use Rattle.bpf_model.proofs.Lists.{get-set_there}
+use Rattle.std.proofs.lemmas.Option.{slice_get_within}
 
 -- where no element was born
 pub no-birth : (s t : Store) → length t.elements ≡ length s.elements → TakesOldest s t
-no-birth s t h e before after born old new = absurd (let inside = get-within t.elements (length s.elements) e born in omega (arith, inside, h))
+no-birth s t h e before after born old new = absurd (let inside = slice_get_within t.elements (length s.elements) e born in omega (arith, inside, h))
 
 pub same-store : (s t : Store) → t ≡ s → TakesOldest s t
 same-store s t h = no-birth s t (ap (λ x. length x.elements) h)
@@ -46,7 +47,7 @@ birth s t opened k m key value found use_count h free uses elements maps e befor
     let one : Some before ≡ Some m = sym old_k ∙ h in
     let is_m : before ≡ m = cc in
     let new_k : slice_get t.maps k ≡ Some after = ap (λ y. slice_get t.maps y.map) (sym is_x) ∙ new in
-    let taken : slice_get t.maps k ≡ Some (with_bag (drop 1 m.bag) m) = ap (λ l. slice_get l k) (maps ∙ without_first-at s.maps k m h) ∙ set-get s.maps k m (with_bag (drop 1 m.bag) m) h in
+    let taken : slice_get t.maps k ≡ Some (with_bag (drop 1 m.bag) m) = ap (λ l. slice_get l k) (maps ∙ without_first-at s.maps k m h) ∙ get-set_there s.maps k m (with_bag (drop 1 m.bag) m) h in
     let two : Some after ≡ Some (with_bag (drop 1 m.bag) m) = sym new_k ∙ taken in
     let is_after : after ≡ with_bag (drop 1 m.bag) m = cc in
     let f = first-of m.bag free in

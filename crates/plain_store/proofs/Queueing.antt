@@ -9,7 +9,8 @@ use Rattle.bpf_model.specs.Schedule as schedule
 use Rattle.plain_store.specs.Retiring.{retire_in}
 use Rattle.plain_store.specs.State.{queues_of}
 use Rattle.plain_store.specs.declared.queues.Queues as plain
-use Rattle.plain_store.proofs.Lists.{drop-at, get-map}
+use Rattle.plain_store.proofs.Lists.{drop-at}
+use Rattle.bpf_model.proofs.Lists.{get-map}
 
 -- A list of which the first so many items have been changed, each by its place.
 abbrev pub mixed : {A : Type 0} → (ℕ → A → A) → ℕ → ℕ → List A → List A

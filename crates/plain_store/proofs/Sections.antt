@@ -6,8 +6,9 @@ use Rattle.std.proofs.lemmas.Bool.{eq-eqb, eqb-true, false≢true, cases_lt}
 use Rattle.bpf_model.specs.Section as model
 use Rattle.plain_store.specs.declared.element.Section.{Section}
 use Rattle.plain_store.specs.State.{section_shown, sections_of}
-use Rattle.plain_store.proofs.Lists.{get-map, length-map-own}
+use Rattle.plain_store.proofs.Lists.{length-map-own}
 use Rattle.std.proofs.lemmas.Option.{slice_get_past}
+use Rattle.bpf_model.proofs.Lists.{get-map}
 
 same-section : (x s : Section) → section_shown x ≡ section_shown s → ((x.run == s.run) && (x.lock == s.lock)) ≡ true
 same-section x s e = ap (λ b. b && (x.lock == s.lock)) (eq-eqb x.run s.run (ap (λ t. t.run) e)) ∙ eq-eqb x.lock s.lock (ap (λ t. t.lock) e)

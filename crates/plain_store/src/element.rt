@@ -122,7 +122,8 @@ fn are_apart(since: &[Section], opened: &[Section]) -> bool
 /// Whether the section is one of these.
 fn is_among(section: &Section, sections: &[Section]) -> bool
     ensures among { IsTrue result → Has (sections_of sections.now) (section_shown section.now) }
-    ensures apart { result ≡ false → Has (sections_of sections.now) (section_shown section.now) → ⊥ }
+    ensures apart { result ≡ false
+        → Has (sections_of sections.now) (section_shown section.now) → ⊥ }
 {
     for j in 0..sections.len() {
         if sections[j] == *section {

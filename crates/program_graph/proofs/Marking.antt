@@ -9,7 +9,7 @@ use Rattle.bpf_model.specs.Graph.{JumpsTo, GoesTo, Reached, reached_entry, reach
 use Rattle.bpf_model.specs.Spelling.{starts_from, slot_count}
 use Rattle.bpf_model.specs.Step.{insn_at}
 use Rattle.bpf_model.specs.Places.{starts-next, starts_ordered, starts_apart, start_of-insn, slot_count_some, LeadsTo, StartsAt}
-use Rattle.program_graph.specs.FirstPass.{Follows, IsReached, Marks}
+use Rattle.program_graph.specs.FirstPass.{Follows, IsInsnReached, Marks}
 use Rattle.program_graph.specs.Indexes.{HasTargets, IsTarget}
 use Rattle.program_graph.proofs.Edges.{insn_here, index_here, start_within}
 use Rattle.program_graph.proofs.Lists.{same_some}
@@ -104,7 +104,7 @@ reached_by (reached_next place target i r e g) = inr (place, i, r, e, g)
 
 -- an instruction that follows a reached one is reached
 pub reached_on : (program : List Insn) (targets : List (Option ℕ)) (long : length targets ≡ length program) (all : HasTargets program targets) (j k : ℕ) (i : Insn) (t : Option ℕ)
-    → slice_get program j ≡ Some i → slice_get targets j ≡ Some t → Follows i t j k → IsReached program j → IsReached program k
+    → slice_get program j ≡ Some i → slice_get targets j ≡ Some t → Follows i t j k → IsInsnReached program j → IsInsnReached program k
 reached_on program targets long all j k i t e f follows r p there =
     let s = start_of-insn 0 program j i e in
     reached_next s.0 p i (r s.0 s.1) (insn_here program j s.0 i e s.1) (edge_from program targets long all j k s.0 p i t e f follows s.1 there)
@@ -126,9 +126,9 @@ module _ (program : List Insn) (targets : List (Option ℕ)) (long : length targ
 
 -- one more instruction was marked from
 pub marks_sound : (program : List Insn) (targets : List (Option ℕ)) (long : length targets ≡ length program) (all : HasTargets program targets) (old new : List Bool) (k : ℕ) (i : Insn) (t : Option ℕ)
-    → slice_get program k ≡ Some i → slice_get targets k ≡ Some t → IsReached program k
-    → ((j : ℕ) → slice_get old j ≡ Some true → IsReached program j) → Marks i t k old new
-    → (j : ℕ) → slice_get new j ≡ Some true → IsReached program j
+    → slice_get program k ≡ Some i → slice_get targets k ≡ Some t → IsInsnReached program k
+    → ((j : ℕ) → slice_get old j ≡ Some true → IsInsnReached program j) → Marks i t k old new
+    → (j : ℕ) → slice_get new j ≡ Some true → IsInsnReached program j
 marks_sound program targets long all old new k i t e f r sound marks j g = elim (marks.other j g) [
   | inl h ↦ sound j h
   | inr h ↦ reached_on program targets long all k j i t e f h r
@@ -147,5 +147,5 @@ marks_ahead program targets old new k insn target here there ahead marks j m i t
   | inr n ↦ marks.stays m (ahead j m i t (omega arith) e f follows)
 ]
 
-pub before_more : (program : List Insn) (k : ℕ) → IsReached program k → ((j : ℕ) → j < k → IsReached program j) → (j : ℕ) → j < k + 1 → IsReached program j
-before_more program k here before j h = elim (cases_eq j k) [ inl g ↦ subst (IsReached program) (sym g) here | inr n ↦ before j (omega arith) ]
+pub before_more : (program : List Insn) (k : ℕ) → IsInsnReached program k → ((j : ℕ) → j < k → IsInsnReached program j) → (j : ℕ) → j < k + 1 → IsInsnReached program j
+before_more program k here before j h = elim (cases_eq j k) [ inl g ↦ subst (IsInsnReached program) (sym g) here | inr n ↦ before j (omega arith) ]

@@ -8,7 +8,7 @@ use Rattle.bpf_model.specs.Places.{insn_of-start, starts_ordered, StartsAt}
 use Rattle.std.proofs.lemmas.Option.{slice_get_within}
 use Rattle.program_graph.specs.declared.refusal.GraphFlaw.TheVariants.{FallsOff, Unreachable}
 use Rattle.program_graph.specs.GraphFlaws.{JumpsWell, EndsWithExit, HasGraphFlaw, HasGoodGraph}
-use Rattle.program_graph.specs.FirstPass.{IsFirstUnreached, IsReached}
+use Rattle.program_graph.specs.FirstPass.{IsFirstUnreached, IsInsnReached}
 use Rattle.program_graph.proofs.Edges.{start_read, insn_here, index_here}
 
 -- a program that isn't empty has a last instruction, at the start of the last index
@@ -63,7 +63,7 @@ unreachable_at program starts k e jumps last first =
       first = λ q j h f. (let r = index_here program q j f in first.first r.0 (starts_ordered 0 program r.0 k q (slice_index_or starts k 0) r.2 at h) q r.2);
     }
 
-pub good_graph : (program : List Insn) → JumpsWell program → EndsWithExit program → ((k : ℕ) → k < length program → IsReached program k) → HasGoodGraph program
+pub good_graph : (program : List Insn) → JumpsWell program → EndsWithExit program → ((k : ℕ) → k < length program → IsInsnReached program k) → HasGoodGraph program
 good_graph program jumps last reached = record {
   jumps = jumps;
   last = last;

@@ -41,11 +41,11 @@ abbrev pub Follows : Insn → Option ℕ → ℕ → ℕ → Type 0
 Follows i target k j = ((falls i ≡ true) × (j ≡ suc k)) ⊎ (target ≡ Some j)
 
 -- a path leads to the instruction of this index
-abbrev pub IsReached : List Insn → ℕ → Type 0
-IsReached program index = (slot : ℕ) → StartsAt program index slot → Reached program slot
+abbrev pub IsInsnReached : List Insn → ℕ → Type 0
+IsInsnReached program index = (slot : ℕ) → StartsAt program index slot → Reached program slot
 
-abbrev pub AreReached : List Insn → Type 0
-AreReached program = (index : ℕ) → index < length program → IsReached program index
+abbrev pub AreInsnsReached : List Insn → Type 0
+AreInsnsReached program = (index : ℕ) → index < length program → IsInsnReached program index
 
 -- the instruction marks those to which control may go on
 pub record Marks (i : Insn) (target : Option ℕ) (k : ℕ) (old new : List Bool) : Type 0 where
@@ -58,4 +58,4 @@ pub record Marks (i : Insn) (target : Option ℕ) (k : ℕ) (old new : List Bool
 pub record IsFirstUnreached (program : List Insn) (k : ℕ) : Type 0 where
   pub inside : k < length program
   pub unreached : (slot : ℕ) → StartsAt program k slot → Reached program slot → ⊥
-  pub first : (j : ℕ) → j < k → IsReached program j
+  pub first : (j : ℕ) → j < k → IsInsnReached program j

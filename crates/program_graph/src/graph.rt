@@ -7,7 +7,7 @@ ghost use Rattle.bpf_model.specs.Spelling.{starts_from, slot_total, IsProgram};
 ghost use Rattle.bpf_model.specs.Graph.{falls as falls_of, distance as distance_of};
 ghost use Rattle.program_graph.specs.GraphFlaws.{JumpsWell, EndsWithExit, HasGoodGraph};
 ghost use Rattle.program_graph.specs.Indexes.{HasTargets};
-ghost use Rattle.program_graph.specs.FirstPass.{IsIndexBySlot, landing, landed, target_of as target_spec, Marks, IsReached, AreReached, IsFirstUnreached};
+ghost use Rattle.program_graph.specs.FirstPass.{IsIndexBySlot, landing, landed, target_of as target_spec, Marks, IsInsnReached, AreInsnsReached, IsFirstUnreached};
 ghost use Rattle.program_graph.specs.Told.{IsFlawToldOf, IsAcceptedGraph};
 
 use crate::refusal::{GraphFlaw, GraphRefusal};
@@ -170,7 +170,7 @@ fn first_unmarked(
     requires last { EndsWithExit instructions.now }
     requires entry { slice_get reached.old 0 ≡ Some true }
     requires only { (k : ℕ) → slice_get reached.old k ≡ Some true → k ≡ 0 }
-    ensures { MatchOption result (AreReached instructions.now) (IsFirstUnreached instructions.now) }
+    ensures { MatchOption result (AreInsnsReached instructions.now) (IsFirstUnreached instructions.now) }
 {
     for index in 0..instructions.len() {
         if !reached[index] {
@@ -191,7 +191,7 @@ fn first_unreached(
     requires long { length targets.now ≡ length instructions.now }
     requires targets { HasTargets instructions.now targets.now }
     requires last { EndsWithExit instructions.now }
-    ensures { IfOk result (λ r. MatchOption r (AreReached instructions.now)
+    ensures { IfOk result (λ r. MatchOption r (AreInsnsReached instructions.now)
         (IsFirstUnreached instructions.now)) }
 {
     let mut reached = first_marked(alloc, instructions.len())?;

@@ -48,7 +48,7 @@ impl Scalar {
         self.may & ones_up_to(self.greatest)
     }
 
-    /// The same numbers; of a constant all bits are known.
+    /// The same set; where it holds one number alone, each of that number's bits is known.
     fn with_known_bits(self) -> Scalar
         ensures sound { (n : ℕ) → Holds self n → Holds result n }
         ensures least { result.least ≡ self.least }
@@ -73,7 +73,7 @@ impl Scalar {
         Scalar::new(must.min(greatest), greatest, may, must)
     }
 
-    /// The same; of a mask that is constant all bits are known.
+    /// The bits that both operands have, as `and`, but exact where the mask holds one number alone.
     pub(crate) fn mask(self, other: Scalar) -> Scalar
         ensures sound { (x y : ℕ) → Holds self x → Holds other y → Holds result (bit_and x y) }
         ensures precise { (k : ℕ) → IsConstant other k → Masks k result }

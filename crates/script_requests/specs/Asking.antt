@@ -1,4 +1,5 @@
--- What a command asks of a world: an event, with the number of the map that it names, or a look at its state.
+-- What a command asks of a world: an event, with the number of the map that it names, or a look at
+-- its state.
 use Rattle.std.specs.Prelude.{◌≡◌, ℕ, List, Option, Some, None}
 use Rattle.arrayvec.specs.ArrayVec.{ArrayVec}
 use Rattle.bpf_model.specs.declared.event.Event.TheVariants as events

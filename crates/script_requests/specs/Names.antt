@@ -11,5 +11,5 @@ or_no_bytes (Some name) = name
 or_no_bytes None = []
 
 -- the name of a map; no bytes where there is no such map
-abbrev pub name_of : List (List ℕ) → ℕ → List ℕ
-name_of names map = or_no_bytes (slice_get names map)
+abbrev pub map_name : List (List ℕ) → ℕ → List ℕ
+map_name names map = or_no_bytes (slice_get names map)

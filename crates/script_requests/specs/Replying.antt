@@ -5,7 +5,7 @@ use Rattle.bpf_model.specs.declared.event.Answer.TheVariants as answers
 use Rattle.bpf_model.specs.Event.{event_refusal_code}
 use Rattle.script_lines.specs.declared.reply.Reply.{Reply}
 use Rattle.script_lines.specs.declared.reply.Reply.TheVariants as replies
-use Rattle.script_requests.specs.Names.{name_of}
+use Rattle.script_requests.specs.Names.{map_name}
 
 -- a refusal without a slot
 abbrev pub refused : ℕ → Reply
@@ -21,6 +21,6 @@ reply_to names (answers.Found (Some value)) = replies.Value value
 reply_to names (answers.Found None) = replies.Nothing
 reply_to names answers.Done = replies.Done
 reply_to names (answers.Reaped (Some reaped)) =
-    replies.Reaped (name_of names reaped.map) reaped.key reaped.given
+    replies.Reaped (map_name names reaped.map) reaped.key reaped.given
 reply_to names (answers.Reaped None) = replies.Nothing
 reply_to names (answers.Refused refusal) = refused (event_refusal_code refusal)

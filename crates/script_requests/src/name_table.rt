@@ -1,6 +1,6 @@
 //! The names of maps.
 ghost use Rattle.std.specs.Prelude.{◌≡◌, ◌++◌, ◌∷◌, [], ℕ, List, OnOk, OnErr};
-ghost use Rattle.script_requests.specs.Names.{name_of, IsMapOf};
+ghost use Rattle.script_requests.specs.Names.{map_name, IsMapOf};
 
 use bpf_model::MapId;
 use std::alloc::{AllocError, Global};
@@ -44,7 +44,7 @@ impl NameTable {
 
     /// The name of a map; no bytes where there is no map of the number.
     pub fn name(&self, map: MapId) -> &[u8]
-        ensures { result.now ≡ name_of self.now map }
+        ensures { result.now ≡ map_name self.now map }
     {
         match self.names.get(map.index()) {
             Some(name) => name.as_slice(),

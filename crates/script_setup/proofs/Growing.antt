@@ -6,7 +6,7 @@ use Rattle.bpf_model.specs.declared.limits.MapShape.{MapShape}
 use Rattle.bpf_model.specs.View.{MapView, new_map_view}
 use Rattle.world_parts.specs.declared.loaded.Loaded.{Loaded}
 use Rattle.world_invariant.specs.Binding.{IsBoundTo}
-use Rattle.world.specs.Bound.{shapes_in, IsBound, AreBound}
+use Rattle.world.specs.Bound.{shapes_of_maps, IsBound, AreProgramsBound}
 use Rattle.bpf_model.proofs.Lists.{get-append, get-append_cases}
 
 -- Numbers that are found in a list are found in a longer one.
@@ -28,19 +28,19 @@ found-next xs numbers asked n a e here =
     ∙ (ap (λ f. f ++ slice_get xs n ∷ []) e ∙ (ap (λ o. map Some asked ++ o ∷ []) here ∙ sym (map-append Some asked (a ∷ []))))
 
 -- a new map is new, and leaves the others new
-pub new-more : (maps : List MapView) (shape : MapShape) → maps ≡ map new_map_view (shapes_in maps) → maps ++ new_map_view shape ∷ [] ≡ map new_map_view (shapes_in (maps ++ new_map_view shape ∷ []))
+pub new-more : (maps : List MapView) (shape : MapShape) → maps ≡ map new_map_view (shapes_of_maps maps) → maps ++ new_map_view shape ∷ [] ≡ map new_map_view (shapes_of_maps (maps ++ new_map_view shape ∷ []))
 new-more maps shape e =
     ap (λ m. m ++ new_map_view shape ∷ []) e
-    ∙ (sym (map-append new_map_view (shapes_in maps) (shape ∷ []))
+    ∙ (sym (map-append new_map_view (shapes_of_maps maps) (shape ∷ []))
     ∙ ap (map new_map_view) (sym (map-append (λ v. v.shape) maps (new_map_view shape ∷ []))))
 
 -- programs stay bound where a map is added
-pub bound-still : (maps : List MapView) (v : MapView) (loaded : List Loaded) → AreBound (shapes_in maps) loaded → AreBound (shapes_in (maps ++ v ∷ [])) loaded
+pub bound-still : (maps : List MapView) (v : MapView) (loaded : List Loaded) → AreProgramsBound (shapes_of_maps maps) loaded → AreProgramsBound (shapes_of_maps (maps ++ v ∷ [])) loaded
 bound-still maps v loaded bound p l at =
     subst (λ s. IsBoundTo s l.verified.shapes l.maps.items) (sym (map-append (λ w. w.shape) maps (v ∷ [])))
-    (found-more (shapes_in maps) (v.shape ∷ []) l.maps.items l.verified.shapes (bound p l at))
+    (found-more (shapes_of_maps maps) (v.shape ∷ []) l.maps.items l.verified.shapes (bound p l at))
 
 -- one more program that is bound
-pub bound-more : (shapes : List MapShape) (loaded : List Loaded) (l : Loaded) → AreBound shapes loaded → IsBound shapes l → AreBound shapes (loaded ++ l ∷ [])
+pub bound-more : (shapes : List MapShape) (loaded : List Loaded) (l : Loaded) → AreProgramsBound shapes loaded → IsBound shapes l → AreProgramsBound shapes (loaded ++ l ∷ [])
 bound-more shapes loaded l bound is p x at =
     elim (get-append_cases loaded l p x at) [ inl before ↦ bound p x before | inr last ↦ subst (IsBound shapes) last.1 is ]

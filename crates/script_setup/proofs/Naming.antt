@@ -3,7 +3,7 @@ use Rattle.std.proofs.Common.{◌≡◌, ℕ, zero, suc, ◌<◌, ◌⊎◌, inl
 use Rattle.std.specs.Prelude.{nat_le, ◌||◌, ◌&&◌, ◌==◌, slice_get, slice_index, length}
 use Rattle.std.specs.List.{list_all}
 use Rattle.std.specs.Str.{IsUtf8}
-use Rattle.std.proofs.lemmas.Bool.{and_parts, leb-true, eqb-true}
+use Rattle.std.proofs.lemmas.Bool.{and_parts, leb-true, eqb-true, false_from_ne_true}
 use Rattle.std.proofs.lemmas.Str.{IsUtf8-from_ascii}
 use Rattle.bpf_model.specs.declared.limits.MapShape.{MapShape}
 use Rattle.maps.specs.declared.fault.MapFault.TheVariants.{BadName}
@@ -33,12 +33,8 @@ all-small [] e i = omega arith
 all-small (c ∷ name) e zero = small c (and_parts (is_name_character c) (list_all is_name_character name) e).0
 all-small (c ∷ name) e (suc i) = all-small name (and_parts (is_name_character c) (list_all is_name_character name) e).1 i
 
-is-false : (b : Bool) → (b ≡ true → ⊥) → b ≡ false
-is-false true h = absurd (h refl)
-is-false false h = refl
-
 not-a-name : (name : List ℕ) → (IsUtf8 name → ⊥) → is_name name ≡ false
-not-a-name name h = is-false (is_name name) (λ e.
+not-a-name name h = false_from_ne_true (is_name name) (λ e.
     let rest = (and_parts (begins_with_letter (slice_get name 0)) (nat_le (length name) NAME_BYTES && list_all is_name_character name) e).1 in
     h (IsUtf8-from_ascii name (all-small name (and_parts (nat_le (length name) NAME_BYTES) (list_all is_name_character name) rest).1)))
 

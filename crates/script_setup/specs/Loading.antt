@@ -86,8 +86,8 @@ pub record IsUnverified (code : List ℕ) (shapes : List MapShape) (reply : Repl
   pub not_plain_with_maps : IsPlainWithMaps program shapes → ⊥
   pub reply_is : reply ≡ replies.Refused (refusal_number refusal) (refusal_slot refusal)
 
--- The bytes are a program that is verified for its maps' shapes and its context's length: it has the
--- next number.
+-- The bytes are a program that is verified for its maps' shapes and its context's length: it has
+-- the next number.
 pub record IsLoaded (s : SetupView) (code : List ℕ) (shapes : List MapShape) (maps : List ℕ)
     (ctx_len : ℕ) (reply : Reply) (new : SetupView) : Type 0 where
   pub program : List Insn
@@ -97,14 +97,15 @@ pub record IsLoaded (s : SetupView) (code : List ℕ) (shapes : List MapShape) (
   pub reply_is : reply ≡ replies.Prog (length s.programs)
   pub new_is : new ≡ with_program s program maps ctx_len
 
-abbrev pub ReadReplies : SetupView → List ℕ → List MapShape → List ℕ → ℕ → Reply → SetupView → Type 0
+abbrev pub ReadReplies : SetupView → List ℕ → List MapShape → List ℕ → ℕ → Reply → SetupView
+    → Type 0
 ReadReplies s code shapes maps ctx_len reply new =
     (IsUndecoded code reply × (new ≡ s))
     ⊎ ((IsUnverified code shapes reply × (new ≡ s))
     ⊎ IsLoaded s code shapes maps ctx_len reply new)
 
 -- The names are those of maps of these numbers and shapes, for which the code is read.
-pub record IsRead (s : SetupView) (ctx_len : ℕ) (code : List ℕ) (wanted : List (List ℕ))
+pub record IsCodeRead (s : SetupView) (ctx_len : ℕ) (code : List ℕ) (wanted : List (List ℕ))
     (reply : Reply) (new : SetupView) : Type 0 where
   pub maps : List ℕ
   pub named : AreMapsNamed s.registry.names wanted maps
@@ -112,11 +113,13 @@ pub record IsRead (s : SetupView) (ctx_len : ℕ) (code : List ℕ) (wanted : Li
   pub bound : IsBoundTo (shapes_made s) shapes maps
   pub read : ReadReplies s code shapes maps ctx_len reply new
 
-abbrev pub LoadReplied : Option ℕ → SetupView → ℕ → List ℕ → List (List ℕ) → Reply → SetupView → Type 0
+abbrev pub LoadReplied : Option ℕ → SetupView → ℕ → List ℕ → List (List ℕ) → Reply → SetupView
+    → Type 0
 LoadReplied (Some number) s ctx_len code wanted reply new = (reply ≡ refused number) × (new ≡ s)
 LoadReplied None s ctx_len code wanted reply new =
-    (HasUnknown s.registry.names wanted × ((reply ≡ refused (event_refusal_code NoMap)) × (new ≡ s)))
-    ⊎ IsRead s ctx_len code wanted reply new
+    (HasUnknown s.registry.names wanted
+    × ((reply ≡ refused (event_refusal_code NoMap)) × (new ≡ s)))
+    ⊎ IsCodeRead s ctx_len code wanted reply new
 
 abbrev pub LoadReplies : SetupView → ℕ → List ℕ → List (List ℕ) → Reply → SetupView → Type 0
 LoadReplies s ctx_len = LoadReplied (limit_refusal s ctx_len) s ctx_len

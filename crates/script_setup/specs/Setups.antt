@@ -7,7 +7,7 @@ use Rattle.bpf_model.specs.declared.limits.TheConstants.{MAX_PROGRAMS}
 use Rattle.bpf_model.specs.Machine as machine
 use Rattle.bpf_model.specs.View.{new_map_view}
 use Rattle.maps.specs.Registry.{RegistryView, registry_code}
-use Rattle.world.specs.Bound.{shapes_in, AreBound}
+use Rattle.world.specs.Bound.{shapes_of_maps, AreProgramsBound}
 use Rattle.bpf_model.specs.Codes.{program_code}
 use Rattle.world_parts.specs.declared.loaded.Loaded.{Loaded}
 
@@ -28,15 +28,15 @@ pub record IsSetup (names : List (List ℕ)) (registry : RegistryView) (loaded :
     : Type 0 where
   pub names_are : names ≡ registry.names
   pub one_name_each : length registry.names ≡ length registry.maps
-  pub new_maps : registry.maps ≡ map new_map_view (shapes_in registry.maps)
-  pub bound : AreBound (shapes_in registry.maps) loaded
+  pub new_maps : registry.maps ≡ map new_map_view (shapes_of_maps registry.maps)
+  pub bound : AreProgramsBound (shapes_of_maps registry.maps) loaded
   pub few : length loaded ≤ MAX_PROGRAMS
 
 abbrev pub no_maps_or_programs : SetupView
 no_maps_or_programs = record { registry = record { names = []; maps = [] }; programs = [] }
 
 abbrev pub shapes_made : SetupView → List MapShape
-shapes_made s = shapes_in s.registry.maps
+shapes_made s = shapes_of_maps s.registry.maps
 
 -- one more map
 abbrev pub with_new_map : SetupView → List ℕ → MapShape → SetupView

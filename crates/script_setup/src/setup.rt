@@ -96,8 +96,10 @@ impl Setup {
             AreMapsNamed self.now.registry.names names.entry b.maps.items)) }
         ensures bound { IfOk result (λ found. IfSome found (λ b.
             IsBoundTo (shapes_made self.now) b.shapes.items b.maps.items)) }
-        ensures count { IfOk result (λ found. IfSome found (λ b. length b.shapes.items ≤ MAX_MAPS)) }
-        ensures none { IfOk result (λ found. IfNone found (HasUnknown self.now.registry.names names.entry)) }
+        ensures count { IfOk result (λ found. IfSome found
+            (λ b. length b.shapes.items ≤ MAX_MAPS)) }
+        ensures none { IfOk result (λ found. IfNone found
+            (HasUnknown self.now.registry.names names.entry)) }
     {
         let mut bound = Bound {
             maps: ArrayVec::new(),

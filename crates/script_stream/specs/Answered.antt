@@ -1,4 +1,5 @@
--- What a script is answered: its lines one after another, each from the state that the one before left.
+-- What a script is answered: its lines one after another, each from the state that the one before
+-- left.
 use Rattle.std.specs.Prelude.{◌≡◌, ℕ, ◌+◌, ◌<◌, ◌⊎◌, List, [], ◌∷◌, ◌++◌, length}
 use Rattle.std.specs.Io.Iter.{u64_saturate}
 use Rattle.script_stream.specs.declared.progress.TheConstants.{MAX_LINE}
@@ -13,10 +14,12 @@ module _ {S : Type 0} (answers : S → List ℕ → List ℕ → S → Type 0) w
   abbrev pub Answered : S → List (List ℕ) → List ℕ → S → Type 0
   Answered old [] text new = (text ≡ []) × (new ≡ old)
   Answered old (line ∷ lines) text new =
-      (first rest : List ℕ) × (mid : S) × answers old line first mid × Answered mid lines rest new × (text ≡ first ++ rest)
+      (first rest : List ℕ) × (mid : S) × answers old line first mid × Answered mid lines rest new
+      × (text ≡ first ++ rest)
 
   -- The text answers exactly the lines before this one, counted from 1, which is bad.
-  pub record AnsweredBefore (is_bad : List ℕ → Type 0) (old : S) (input : List ℕ) (line : ℕ) (text : List ℕ) : Type 0 where
+  pub record AnsweredBefore (is_bad : List ℕ → Type 0) (old : S) (input : List ℕ) (line : ℕ)
+      (text : List ℕ) : Type 0 where
     pub good : List (List ℕ)
     pub bad : List ℕ
     pub others : List (List ℕ)

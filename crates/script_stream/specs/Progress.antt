@@ -21,7 +21,10 @@ module _ {S : Type 0} (answers : S → List ℕ → List ℕ → S → Type 0) w
     pub count : p.answered ≡ u64_saturate (length lines)
     pub answered : Answered answers old lines (written ++ p.out.items) now
 
-  -- How a script fails: what is written is a beginning of its text, and all before a line that is bad.
-  pub record FailsWith (is_bad : List ℕ → Type 0) (old : S) (read written : List ℕ) (fault : ScriptFault) : Type 0 where
+  -- How a script fails: what is written is a beginning of its text, and all before a line that is
+  -- bad.
+  pub record FailsWith (is_bad : List ℕ → Type 0) (old : S) (read written : List ℕ)
+      (fault : ScriptFault) : Type 0 where
     pub begun : BeginsAnswered answers old read written
-    pub before : (line : ℕ) → fault ≡ BadCommand line → AnsweredBefore answers is_bad old read line written
+    pub before : (line : ℕ) → fault ≡ BadCommand line
+        → AnsweredBefore answers is_bad old read line written

@@ -80,7 +80,8 @@ impl Progress {
 
     /// Writes the answers that wait, and hands them on.
     pub(crate) fn send<W: Write>(&mut self, writer: &mut W) -> Result<(), ScriptFault>
-        ensures ok { OnOk result ((front : List ℕ) × (self.old.out.items ≡ front ++ self.new.out.items)
+        ensures ok { OnOk result ((front : List ℕ)
+            × (self.old.out.items ≡ front ++ self.new.out.items)
             × Appends (W.contents writer.old) (W.contents writer.new) front) }
         ensures sent { OnOk result (self.new.out.items ≡ []) }
         ensures err { IfErr result (λ e. IsOutputFault e × ((front more : List ℕ)
@@ -100,7 +101,8 @@ impl Progress {
 
     /// Writes the answers that wait where they are many.
     fn send_many<W: Write>(&mut self, writer: &mut W) -> Result<(), ScriptFault>
-        ensures ok { OnOk result ((front : List ℕ) × (self.old.out.items ≡ front ++ self.new.out.items)
+        ensures ok { OnOk result ((front : List ℕ)
+            × (self.old.out.items ≡ front ++ self.new.out.items)
             × Appends (W.contents writer.old) (W.contents writer.new) front) }
         ensures err { IfErr result (λ e. IsOutputFault e × ((front more : List ℕ)
             × (self.old.out.items ≡ front ++ more)
@@ -160,7 +162,8 @@ impl Progress {
     ) -> Result<(), ScriptFault>
         ensures ok { (first : A) (read written : List ℕ) → HasNoFeed piece.now
             → IsAt A.answers first read written self.old responder.old
-            → OnOk result ((more : List ℕ) × Appends (W.contents writer.old) (W.contents writer.new) more
+            → OnOk result ((more : List ℕ)
+            × Appends (W.contents writer.old) (W.contents writer.new) more
             × IsAt A.answers first (read ++ (piece.now ++ 10 ∷ [])) (written ++ more)
             self.new responder.new) }
         ensures err { (first : A) (read written after : List ℕ) → HasNoFeed piece.now
@@ -203,7 +206,8 @@ impl Progress {
     ) -> Result<(), ScriptFault>
         ensures ok { (first : A) (read written : List ℕ)
             → IsAt A.answers first read written self.old responder.old
-            → OnOk result ((more : List ℕ) × Appends (W.contents writer.old) (W.contents writer.new) more
+            → OnOk result ((more : List ℕ)
+            × Appends (W.contents writer.old) (W.contents writer.new) more
             × IsAt A.answers first (read ++ chunk.now) (written ++ more) self.new responder.new) }
         ensures err { (first : A) (read written : List ℕ)
             → IsAt A.answers first read written self.old responder.old
@@ -247,7 +251,8 @@ impl Progress {
     ) -> Result<(), ScriptFault>
         ensures ok { (first : A) (read written : List ℕ)
             → IsAt A.answers first read written self.old responder.old
-            → OnOk result ((more : List ℕ) × Appends (W.contents writer.old) (W.contents writer.new) more
+            → OnOk result ((more : List ℕ)
+            × Appends (W.contents writer.old) (W.contents writer.new) more
             × Answered A.answers first (lines_of read) (written ++ more) responder.new) }
         ensures err { (first : A) (read written : List ℕ)
             → IsAt A.answers first read written self.old responder.old

@@ -20,7 +20,8 @@ fn read_some<R: Read>(reader: &mut R, chunk: &mut [u8]) -> Result<usize, ScriptF
     ensures bound { ReadsAtMost result chunk.new }
     ensures ok { IfOk result (λ n.
         Consumes (R.remaining reader.old) (R.remaining reader.new) (take n chunk.new)) }
-    ensures end { IfOk result (λ n. n ≡ 0 → 0 < length chunk.old → IsAtEnd (R.remaining reader.new)) }
+    ensures end { IfOk result (λ n. n ≡ 0 → 0 < length chunk.old
+        → IsAtEnd (R.remaining reader.new)) }
     ensures err { OnErr result (Keeps (R.remaining reader.old) (R.remaining reader.new)) }
     ensures fault { IfErr result (λ e. (e ≡ ScriptFault.Read) ⊎ (e ≡ ScriptFault.Memory)) }
 {

@@ -36,7 +36,8 @@ pub record LiveReplies (old : Live) (command : Command) (replies : List Reply) (
   pub names : new.names ≡ old.names
 
 -- What is asked is replied, and the text of the replies is added.
-pub record IsReplied (old : Live) (question : Asked) (before after : List ℕ) (new : Live) : Type 0 where
+pub record IsReplied (old : Live) (question : Asked) (before after : List ℕ) (new : Live) :
+    Type 0 where
   pub events : List Event
   pub happened : Happen old.world events new.world
   pub replies : List Reply

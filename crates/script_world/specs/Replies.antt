@@ -53,7 +53,8 @@ AreElements v bound (replies.Element key value ∷ rest) =
 AreElements v bound (_ ∷ rest) = ⊥
 
 -- What is replied, with the events that happen.
-abbrev pub Replies : List (List ℕ) → WorldView → Asked → List Event → List Reply → WorldView → Type 0
+abbrev pub Replies : List (List ℕ) → WorldView → Asked → List Event → List Reply → WorldView →
+    Type 0
 Replies names w asked.Sealed es rs new =
     (es ≡ []) × (rs ≡ refused SEALED_NUMBER ∷ []) × (new ≡ w)
 Replies names w (asked.Refused refusal) es rs new =

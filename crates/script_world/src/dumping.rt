@@ -13,7 +13,8 @@ use world::World;
 
 /// Writes the elements of a map, in byte order of their keys, and the end.
 pub(crate) fn write_elements(world: &World, map: MapId, out: &mut Vec<u8>) -> Result<(), AllocError>
-    ensures { OnOk result ((elements : List Told) × AreElements (slice_get world.now.maps map) None elements
+    ensures { OnOk result ((elements : List Told)
+        × AreElements (slice_get world.now.maps map) None elements
         × (out.new.items ≡ out.old.items ++ flat_map reply_text (elements ++ TheEnd ∷ []))) }
 {
     let mut bound: Option<KeyBytes> = None;

@@ -9,7 +9,8 @@ use world::World;
 /// Steps of a run: at most `count`, and at least one, up to the first that is not answered Moved. The answer
 /// is that of the last.
 pub(crate) fn make_steps(world: &mut World, run: RunId, count: u64) -> Answer
-    ensures { (events : List MachineEvent) × MakesSteps world.old run count events result world.new }
+    ensures { (events : List MachineEvent)
+        × MakesSteps world.old run count events result world.new }
 {
     let event = Event::Step { run };
     for _taken in 1..count {

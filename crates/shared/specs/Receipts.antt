@@ -28,7 +28,8 @@ pub record NoteView : Type 0 where
   pub context : List ℕ
   pub exit : Option ℕ
 
--- In a state that some world tracks, the abstract machine has a step for the event with this answer.
+-- In a state that some world tracks, the abstract machine has a step for the event with this
+-- answer.
 pub record IsMachineAnswer (event : Event) (answer : Answer) : Type 0 where
   pub world : WorldView
   pub is_world : IsWorld world

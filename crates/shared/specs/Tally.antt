@@ -45,5 +45,6 @@ abbrev pub shown_totals : Origin → ℕ → ℕ → ℕ → Totals
 shown_totals o steps unlinked reclaimed = record {
   steps = steps;
   unlinked = min (min (o.reclaimed + o.unreclaimed) most + unlinked) most;
-  reclaimed = min (min (o.reclaimed + reclaimed) most) (min (min (o.reclaimed + o.unreclaimed) most + unlinked) most);
+  reclaimed = min (min (o.reclaimed + reclaimed) most)
+      (min (min (o.reclaimed + o.unreclaimed) most + unlinked) most);
 }

@@ -44,7 +44,8 @@ impl<L: Ledger> Model for Books<L> {
 
     ghost view = { λ b. books_view b.base b.world b.journal b.before b.steps_before b.tally };
 
-    ghost invariant = { λ b. AreBalanced (books_view b.base b.world b.journal b.before b.steps_before b.tally) b.book.total };
+    ghost invariant = { λ b. AreBalanced
+        (books_view b.base b.world b.journal b.before b.steps_before b.tally) b.book.total };
 }
 
 /// What a shared world leaves: the base, the world now, and the journal from the one to the other.

@@ -20,7 +20,12 @@ impl Model for Receipt {
 
     ghost Value = { ReceiptView };
 
-    ghost view = { λ r. record { worker = r.worker; number = r.number; event = r.event; reply = r.reply } };
+    ghost view = { λ r. record {
+      worker = r.worker;
+      number = r.number;
+      event = r.event;
+      reply = r.reply;
+    } };
 }
 
 impl Receipt {
@@ -30,7 +35,8 @@ impl Receipt {
         event: Event,
         reply: Result<Answer, SharedFault>,
     ) -> Receipt
-        ensures { result ≡ record { worker = worker; number = number; event = event; reply = reply } }
+        ensures { result
+            ≡ record { worker = worker; number = number; event = event; reply = reply } }
     {
         Receipt {
             worker,

@@ -24,6 +24,7 @@ use Rattle.compute_effects.specs.Computes.{HasNumber, ReadsNumber}
 use Rattle.control_effects.specs.Narrowing.{AreNarrowed}
 use Rattle.state_steps.specs.Facts.{Register as RegisterFact, FrameByte, FramePointer, Section, KeepsFacts, ReadsNumbers, IsReadyInsn}
 use Rattle.control_effects.proofs.Branches.{set-there, set-elsewhere}
+use Rattle.bpf_model.proofs.Bytes.{within}
 
 pub same_keeps : (i : Insn) (a : AbsState) → ((r : ℕ) → WritesRegister i r → ⊥) → ((k : ℕ) → WritesByte i k → ⊥) → KeepsFacts i a a
 same_keeps i a no_reg no_byte (RegisterFact r) h = elim h [ inl p ↦ p | inr w ↦ absurd (no_reg r w) ]
@@ -137,9 +138,6 @@ store_number width dst offset src a ready = operand_number src a ready.registers
 
 pub some_is : (m n : ℕ) → Some m ≡ Some n → m ≡ n
 some_is m n e = cc
-
-within : (at width k : ℕ) → at ≤ k → k < at + width → is_within at width k ≡ true
-within at width k l h = ap (λ b. b && nat_lt k (at + width)) (le-leb at k l) ∙ lt-ltb k (at + width) h
 
 pub taken_within : (width : Width) (offset : ℤ) (at k : ℕ) → region_offset FRAME_BYTES (byte_count width) (pos FRAME_BYTES +ℤ offset) ≡ Some at → Takes width offset k → is_within at (byte_count width) k ≡ true
 taken_within width offset at k e t =

@@ -49,7 +49,8 @@ pub record IsEqualToNull (condition : Condition) (size : Size) (dst : ℕ) (src 
 pub record IsDone (i : Insn) (shapes : List MapShape) (ctx_len top : ℕ) (old new : AbsState)
     (flow : Flow) : Type 0 where
   pub sound : IsForward i →
-      Transfers i shapes ctx_len (state_of old) (state_of new) (option_map state_of (taken_state flow))
+      Transfers i shapes ctx_len (state_of old) (state_of new)
+      (option_map state_of (taken_state flow))
   pub branches : IsBranch i → IsSome flow.taken
   pub region : (b : ℕ) (c : Scene) (m : State) → base_of i ≡ Some b → Describes (state_of old) c m →
       IsInRegion c flow.region (m.regs b)
@@ -59,7 +60,8 @@ pub record IsDone (i : Insn) (shapes : List MapShape) (ctx_len top : ℕ) (old n
   pub keeps : IsReadyInsn i (state_of old) → KeepsFacts i (state_of old) (state_of new)
   pub keeps_taken : IsReadyInsn i (state_of old) →
       IfSome (taken_state flow) (λ t. KeepsFacts i (state_of old) (state_of t))
-  pub serves : Serves shapes i (state_of old) (state_of new) (option_map state_of (taken_state flow))
+  pub serves : Serves shapes i (state_of old) (state_of new)
+      (option_map state_of (taken_state flow))
 
 -- It is done, or refused.
 pub record Stepped (i : Insn) (shapes : List MapShape) (ctx_len top : ℕ) (old new : AbsState)

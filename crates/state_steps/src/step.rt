@@ -50,7 +50,8 @@ pub fn transfer(
 
     // From each described run the instruction has a step, and each leads to one that is described.
     ensures sound { IfOk result (λ f. IsForward insn.now
-        → Transfers insn.now shape.now.shapes.now shape.now.ctx_len (state_of state.old) (state_of state.new)
+        → Transfers insn.now shape.now.shapes.now shape.now.ctx_len
+        (state_of state.old) (state_of state.new)
         (option_map state_of (taken_state f))) }
     ensures branches { IfOk result (λ f. IsBranch insn.now → IsSome f.taken) }
 

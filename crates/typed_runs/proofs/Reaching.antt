@@ -30,14 +30,14 @@ use Rattle.model_laws.proofs.Sections.{has_open}
 use Rattle.model_laws.proofs.Stores.{KeepsShapes, StoreMoves, is_reap, does-moves}
 use Rattle.model_laws.proofs.Keeping.{no-run, starts_consistent, stays_consistent}
 use Rattle.typed_runs.specs.Describes.{Scene, scene_of}
-use Rattle.typed_runs.specs.Verified.{Plan, AreBound, AllBytes, Surrounds, IsPlanned, IsPlannedAfter, IsClosed}
+use Rattle.typed_runs.specs.Verified.{Plan, AreMapsBound, AllBytes, Surrounds, IsPlanned, IsPlannedAfter, IsClosed}
 use Rattle.typed_runs.specs.Well.{AreVerified, IsVerifiedFor, IsTyped, IsWell}
 use Rattle.typed_runs.proofs.Kept.{Keeps, keeps-moves, describes-kept}
 use Rattle.typed_runs.proofs.Coming.{FreshRun, Comes, Stands, Starting, Stepping, does-come}
 use Rattle.typed_runs.proofs.Planning.{start-inside}
 use Rattle.typed_runs.proofs.Valued.{does-bytes, does-programs}
 
-pub bound-kept : (shapes : List MapShape) (maps : List ℕ) (old new : List MapState) → KeepsShapes old new → AreBound shapes maps old → AreBound shapes maps new
+pub bound-kept : (shapes : List MapShape) (maps : List ℕ) (old new : List MapState) → KeepsShapes old new → AreMapsBound shapes maps old → AreMapsBound shapes maps new
 bound-kept shapes maps old new k b = record {
   count = b.count;
   each = λ i shape at. let x = b.each i shape at in let y = k x.0 x.1 x.3 in (x.0, y.0, x.2, y.1, y.2 ∙ x.4);
@@ -118,7 +118,7 @@ typed-stepped : (m : Machine) (new_store : Store) (run : Run) (answer : Answer) 
 typed-stepped m new_store run answer new_run shapes same t p = record {
   safe = record {
     shapes = t.safe.shapes;
-    bound = subst (λ (x : Loaded). AreBound t.safe.shapes x.maps new_store.maps) (sym same.program) (bound-kept t.safe.shapes run.program.maps m.store.maps new_store.maps shapes t.safe.bound);
+    bound = subst (λ (x : Loaded). AreMapsBound t.safe.shapes x.maps new_store.maps) (sym same.program) (bound-kept t.safe.shapes run.program.maps m.store.maps new_store.maps shapes t.safe.bound);
     verified = record {
       plan = t.safe.verified.plan;
       closed = subst (λ (x : Loaded). IsClosed x.code t.safe.shapes x.context_len t.safe.verified.plan) (sym same.program) t.safe.verified.closed;

@@ -19,7 +19,7 @@ use Rattle.typed_runs.specs.Kinds.{AbsState}
 use Rattle.typed_runs.specs.Describes.{Scene, scene_of, Describes}
 
 -- each shape is that of the map to which the program's list binds it
-pub record AreBound (shapes : List MapShape) (maps : List ℕ) (states : List MapState) : Type 0 where
+pub record AreMapsBound (shapes : List MapShape) (maps : List ℕ) (states : List MapState) : Type 0 where
   pub count : length maps ≡ length shapes
   pub each : (i : ℕ) (shape : MapShape) → slice_get shapes i ≡ Some shape →
       (map : ℕ) × (state : MapState)
@@ -40,7 +40,7 @@ pub record Surrounds (shapes : List MapShape) (ctx_len : ℕ) (s : Store) (opene
       × (slice_get s.maps e.map ≡ Some state) × (length e.key ≡ state.shape.key_len)
       × (length e.value ≡ state.shape.value_len)
   pub bytes : AllBytes s.elements
-  pub bound : AreBound shapes run.program.maps s.maps
+  pub bound : AreMapsBound shapes run.program.maps s.maps
   pub long : length run.context ≡ ctx_len
   pub context : AreBytes run.context
 

@@ -6,12 +6,12 @@ use Rattle.bpf_model.specs.Machine.{Loaded, Run, Machine, run_at}
 use Rattle.bpf_model.specs.Consistent.{IsConsistent}
 use Rattle.bpf_model.specs.Event.{AreBytes}
 use Rattle.typed_runs.specs.Describes.{scene_of}
-use Rattle.typed_runs.specs.Verified.{IsPlanned, AreBound, AllBytes, IsVerified}
+use Rattle.typed_runs.specs.Verified.{IsPlanned, AreMapsBound, AllBytes, IsVerified}
 
 -- the program was verified, against the shapes of the maps that it is bound to
 pub record IsVerifiedFor (states : List MapState) (program : Loaded) : Type 0 where
   pub shapes : List MapShape
-  pub bound : AreBound shapes program.maps states
+  pub bound : AreMapsBound shapes program.maps states
   pub verified : IsVerified program.code shapes program.context_len
 
 -- each program, at the start with maps of these shapes

@@ -11,7 +11,7 @@ use Rattle.bpf_model.specs.Element.{Element, Life, Unlinked, Reclaimed, IsLinked
 use Rattle.bpf_model.specs.Helper.{newborn}
 use Rattle.model_laws.proofs.Counting.{times-first, times-other, times-append}
 use Rattle.bpf_model.specs.View.{MapView, uses_at}
-use Rattle.bpf_model.specs.Refines.{times, slot_view, IsKept, ElementsStand, SlotsStand}
+use Rattle.bpf_model.specs.Refines.{times, slot_view, IsElementKept, ElementsStand, SlotsStand}
 use Rattle.view_laws.specs.Views.{retired_slot, filled, slot_given_back}
 use Rattle.view_laws.proofs.Changing.{Changes}
 use Rattle.model_laws.proofs.Tallies.{one_of, count-set}
@@ -22,17 +22,17 @@ use Rattle.bpf_model.proofs.Lists.{get-append_cases, get-append_last, get-below,
 -- a kept element of the map was one before
 record Kin (slots names : List ℕ) (k : ℕ) (es : List Element) (n : ℕ) (f : Element) : Type 0 where
   pub old : Element
-  pub was : IsKept es k n old
+  pub was : IsElementKept es k n old
   pub view : slot_view old ≡ slot_view f
   pub slot : slice_index names n ≡ slice_index slots n
 
-kin-old : (j k : ℕ) (slots names : List ℕ) (es fs : List Element) → Changes k slots names es fs → j ≢ k → (n : ℕ) (f : Element) → n < length es → IsKept fs j n f → Kin slots names j es n f
+kin-old : (j k : ℕ) (slots names : List ℕ) (es fs : List Element) → Changes k slots names es fs → j ≢ k → (n : ℕ) (f : Element) → n < length es → IsElementKept fs j n f → Kin slots names j es n f
 kin-old j k slots names es fs c ne n f less h =
     let x = c.back n f less h.born h.kept in
     record { old = x.element; was = record { born = x.born; in_map = x.in_map ∙ h.in_map; kept = x.kept }; view = x.view (λ e. ne (sym h.in_map ∙ e)); slot = c.named n less }
 
 -- and so it is of the same map, where one element has a new life
-kin-life : (slots : List ℕ) (k : ℕ) (es : List Element) (n : ℕ) (e : Element) (l : Life) → slice_get es n ≡ Some e → e.map ≡ k → is_reclaimed e.life ≡ false → (a : ℕ) (f : Element) → IsKept (slice_set es n (with_life l e)) k a f → Kin slots slots k es a f
+kin-life : (slots : List ℕ) (k : ℕ) (es : List Element) (n : ℕ) (e : Element) (l : Life) → slice_get es n ≡ Some e → e.map ≡ k → is_reclaimed e.life ≡ false → (a : ℕ) (f : Element) → IsElementKept (slice_set es n (with_life l e)) k a f → Kin slots slots k es a f
 kin-life slots k es n e l born in_map kept a f g = elim (get-set_cases es n a (with_life l e) f g.born) [
   | inl x ↦ record { old = e; was = record { born = ap (slice_get es) x.0 ∙ born; in_map = in_map; kept = kept }; view = ap slot_view x.1; slot = refl }
   | inr x ↦ record { old = f; was = record { born = x.1; in_map = g.in_map; kept = g.kept }; view = refl; slot = refl }
@@ -40,7 +40,7 @@ kin-life slots k es n e l born in_map kept a f g = elim (get-set_cases es n a (w
 
 -- the elements of another map stand as they did
 module _ (j k : ℕ) (slots names : List ℕ) (es fs : List Element) (v : MapView) (c : Changes k slots names es fs) (ne : j ≢ k) (s : ElementsStand slots j es v) where
-  kin : (n : ℕ) (f : Element) → IsKept fs j n f → Kin slots names j es n f
+  kin : (n : ℕ) (f : Element) → IsElementKept fs j n f → Kin slots names j es n f
   kin n f h = elim (cases_lt n (length es)) [
     | inl y ↦ kin-old j k slots names es fs c ne n f y h
     | inr z ↦ absurd (ne (sym h.in_map ∙ c.newborns n f (omega arith) h.born h.kept))
@@ -59,7 +59,7 @@ module _ (j k : ℕ) (slots names : List ℕ) (es fs : List Element) (v : MapVie
     counted = s.counted ∙ sym (c.counts j ne);
   }
 
-kept-linked : (es : List Element) (k : ℕ) (key : List ℕ) (n : ℕ) → (h : IsLinkedAt es k key n) → IsKept es k n h.element
+kept-linked : (es : List Element) (k : ℕ) (key : List ℕ) (n : ℕ) → (h : IsLinkedAt es k key n) → IsElementKept es k n h.element
 kept-linked es k key n h = record { born = h.born; in_map = h.in_map; kept = ap is_reclaimed h.linked }
 
 -- the element of a key is unlinked
@@ -70,7 +70,7 @@ module _ (slots : List ℕ) (k : ℕ) (es : List Element) (v : MapView) (key : L
   pub unlinks : Changes k slots slots es fs
   unlinks = changes-life k es n h.element (Unlinked opened) h.born h.in_map slots (ap is_reclaimed h.linked)
 
-  back : (a : ℕ) (f : Element) → IsKept fs k a f → Kin slots slots k es a f
+  back : (a : ℕ) (f : Element) → IsElementKept fs k a f → Kin slots slots k es a f
   back a f g = kin-life slots k es n h.element (Unlinked opened) h.born h.in_map (ap is_reclaimed h.linked) a f g
 
   other-key : (q : List ℕ) (a : ℕ) → IsLinkedAt es k q a → a ≢ n → q ≢ key
@@ -121,13 +121,13 @@ module _ (slots : List ℕ) (k : ℕ) (es : List Element) (v : MapView) (n : ℕ
   pub reclaims : Changes k slots slots es rs
   reclaims = changes-life k es n e Reclaimed born in_map slots (ap is_reclaimed life)
 
-  kept-one : IsKept es k n e
+  kept-one : IsElementKept es k n e
   kept-one = record { born = born; in_map = in_map; kept = ap is_reclaimed life }
 
-  was : (a : ℕ) (f : Element) → IsKept rs k a f → Kin slots slots k es a f
+  was : (a : ℕ) (f : Element) → IsElementKept rs k a f → Kin slots slots k es a f
   was a f g = kin-life slots k es n e Reclaimed born in_map (ap is_reclaimed life) a f g
 
-  another : (a : ℕ) (f : Element) → IsKept rs k a f → a ≢ n
+  another : (a : ℕ) (f : Element) → IsElementKept rs k a f → a ≢ n
   another a f g same = false≢true (sym g.kept ∙ ap (λ (z : Element). is_reclaimed z.life) (same_Some f (with_life Reclaimed e) (sym g.born ∙ (ap (slice_get rs) same ∙ get-set_there es n e (with_life Reclaimed e) born))))
 
   was-linked : (q : List ℕ) (a : ℕ) → IsLinkedAt es k q a → a ≢ n
@@ -135,7 +135,7 @@ module _ (slots : List ℕ) (k : ℕ) (es : List Element) (v : MapView) (n : ℕ
       let x : g.element ≡ e = same_Some g.element e (sym g.born ∙ (ap (slice_get es) same ∙ born)) in
       false≢true (sym (ap is_linked life) ∙ (ap (λ (z : Element). is_linked z.life) (sym x) ∙ ap is_linked g.linked))
 
-  apart-given : (given : Given) (a : ℕ) (f : Element) → IsKept rs k a f → times (slice_index slots a) (slot_given_back given (slice_index slots n) v).free ≡ 0
+  apart-given : (given : Given) (a : ℕ) (f : Element) → IsElementKept rs k a f → times (slice_index slots a) (slot_given_back given (slice_index slots n) v).free ≡ 0
   apart-given Free a f g =
       let x = was a f g in
       let ne : slice_index slots n ≢ slice_index slots a = λ same. another a f g (s.single a n x.old e x.was kept-one (sym same)) in
@@ -153,10 +153,10 @@ module _ (slots : List ℕ) (k : ℕ) (es : List Element) (v : MapView) (n : ℕ
       omega arith
 
   -- the parts that the slot's return doesn't touch
-  occupied-rest : (a : ℕ) (f : Element) → IsKept rs k a f → slice_get v.slots (slice_index slots a) ≡ Some (slot_view f)
+  occupied-rest : (a : ℕ) (f : Element) → IsElementKept rs k a f → slice_get v.slots (slice_index slots a) ≡ Some (slot_view f)
   occupied-rest a f g = let x = was a f g in s.occupied a x.old x.was ∙ ap Some x.view
 
-  single-rest : (a b : ℕ) (d f : Element) → IsKept rs k a d → IsKept rs k b f → slice_index slots a ≡ slice_index slots b → a ≡ b
+  single-rest : (a b : ℕ) (d f : Element) → IsElementKept rs k a d → IsElementKept rs k b f → slice_index slots a ≡ slice_index slots b → a ≡ b
   single-rest a b d f g i same = let x = was a d g in let y = was b f i in s.single a b x.old y.old x.was y.was same
 
   found-rest : (q : List ℕ) (i : ℕ) → get v.index q ≡ Some i → (a : ℕ) × IsLinkedAt rs k q a × (slice_index slots a ≡ i)
@@ -196,7 +196,7 @@ module _ (slots : List ℕ) (k : ℕ) (es : List Element) (v : MapView) (i : ℕ
     | inr ne ↦ sym (times-other x i rest ne) ∙ (ap (times x) (sym first) ∙ h)
   ]
 
-  kept-cases : (a : ℕ) (f : Element) → IsKept gs k a f → (IsKept es k a f × (a < length es)) ⊎ ((a ≡ length es) × (child ≡ f))
+  kept-cases : (a : ℕ) (f : Element) → IsElementKept gs k a f → (IsElementKept es k a f × (a < length es)) ⊎ ((a ≡ length es) × (child ≡ f))
   kept-cases a f g = elim (get-append_cases es child a f g.born) [
     | inl x ↦ inl (record { born = x; in_map = g.in_map; kept = g.kept }, slice_get_within es a f x)
     | inr x ↦ inr x
@@ -208,10 +208,10 @@ module _ (slots : List ℕ) (k : ℕ) (es : List Element) (v : MapView) (i : ℕ
   new-slot : (a : ℕ) → a ≡ length es → slice_index names a ≡ i
   new-slot a h = index-last slots i a (h ∙ sym births)
 
-  differs : (a : ℕ) (f : Element) → IsKept es k a f → slice_index slots a ≢ i
+  differs : (a : ℕ) (f : Element) → IsElementKept es k a f → slice_index slots a ≢ i
   differs a f g same = let t = times-free in let z : times i v.free ≡ 0 = ap (λ x. times x v.free) (sym same) ∙ s.apart a f g in absurd (omega arith)
 
-  occupied-born : (a : ℕ) (f : Element) → IsKept gs k a f → slice_get (filled v i rest key value).slots (slice_index names a) ≡ Some (slot_view f)
+  occupied-born : (a : ℕ) (f : Element) → IsElementKept gs k a f → slice_get (filled v i rest key value).slots (slice_index names a) ≡ Some (slot_view f)
   occupied-born a f g = elim (kept-cases a f g) [
     | inl x ↦ ap (slice_get (filled v i rest key value).slots) (old-slot a x.1) ∙ (get-set_other v.slots i (slice_index slots a) _ (differs a f x.0) ∙ s.occupied a f x.0)
     | inr x ↦
@@ -219,7 +219,7 @@ module _ (slots : List ℕ) (k : ℕ) (es : List Element) (v : MapView) (i : ℕ
         ap (slice_get (filled v i rest key value).slots) (new-slot a x.0) ∙ (get-set_there v.slots i old.0 _ old.1 ∙ ap (λ (z : Element). Some (slot_view z)) x.1)
   ]
 
-  single-born : (a b : ℕ) (d f : Element) → IsKept gs k a d → IsKept gs k b f → slice_index names a ≡ slice_index names b → a ≡ b
+  single-born : (a b : ℕ) (d f : Element) → IsElementKept gs k a d → IsElementKept gs k b f → slice_index names a ≡ slice_index names b → a ≡ b
   single-born a b d f g h same = elim (kept-cases a d g) [
     | inl x ↦ elim (kept-cases b f h) [
       | inl y ↦ s.single a b d f x.0 y.0 (sym (old-slot a x.1) ∙ (same ∙ old-slot b y.1))
@@ -231,7 +231,7 @@ module _ (slots : List ℕ) (k : ℕ) (es : List Element) (v : MapView) (i : ℕ
     ]
   ]
 
-  apart-born : (a : ℕ) (f : Element) → IsKept gs k a f → times (slice_index names a) rest ≡ 0
+  apart-born : (a : ℕ) (f : Element) → IsElementKept gs k a f → times (slice_index names a) rest ≡ 0
   apart-born a f g = elim (kept-cases a f g) [
     | inl x ↦ ap (λ z. times z rest) (old-slot a x.1) ∙ times-rest (slice_index slots a) (s.apart a f x.0)
     | inr x ↦ ap (λ z. times z rest) (new-slot a x.0) ∙ (let t = times-free in let o : times i v.free ≤ 1 = free.once i in omega arith)

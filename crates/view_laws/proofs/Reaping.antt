@@ -17,7 +17,7 @@ use Rattle.model_laws.specs.Scheduled.{IsScheduled}
 use Rattle.model_laws.proofs.Counting.{times-first, times-other, times-append, shortened, without_at, none-without, length-without}
 use Rattle.model_laws.proofs.Queueing.{Queued, queued-of}
 use Rattle.bpf_model.specs.View.{MapView, WorldView, uses_in, uses_at, map_state_of, key_in}
-use Rattle.bpf_model.specs.Refines.{times, slot_view, IsKept, lists_of, named, SlotsStand, MapRefines, RefinesSchedule}
+use Rattle.bpf_model.specs.Refines.{times, slot_view, IsElementKept, lists_of, named, SlotsStand, MapRefines, RefinesSchedule}
 use Rattle.view_laws.specs.Views.{slot_given_back, given_at, reaped_view}
 use Rattle.view_laws.specs.Reactions.{Pick, or_pick, first_pick, with_reaped, reap_by, reap_reaction}
 use Rattle.view_laws.specs.Matching.{Matches, Simulates}
@@ -137,7 +137,7 @@ module _ (w : WorldView) (s : Schedule) (x : RefinesSchedule w s) (i : IsSchedul
     abbrev slot : ℕ
     slot = slice_index x.slots n
 
-    kept : IsKept es k n e.element
+    kept : IsElementKept es k n e.element
     kept = record { born = e.born; in_map = e.in_map; kept = ap is_reclaimed e.life }
 
     stored : slice_get v.slots slot ≡ Some (slot_view e.element)

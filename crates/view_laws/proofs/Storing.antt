@@ -11,7 +11,7 @@ use Rattle.bpf_model.specs.MachineStep.{stored_in, with_bytes}
 use Rattle.bpf_model.specs.Schedule.{Queues, Schedule, retired}
 use Rattle.bpf_model.specs.Word.{slot_base, map_in, element_bases}
 use Rattle.bpf_model.specs.View.{SlotView, MapView, WorldView, uses_in, uses_at, map_state_of, key_in, value_in}
-use Rattle.bpf_model.specs.Refines.{slot_view, IsKept, SlotsStand, ElementsStand, RefinesSchedule, named}
+use Rattle.bpf_model.specs.Refines.{slot_view, IsElementKept, SlotsStand, ElementsStand, RefinesSchedule, named}
 use Rattle.model_laws.proofs.Counting.{retired-back, length-retired}
 use Rattle.model_laws.proofs.Stores.{accessible-born}
 use Rattle.view_laws.specs.Views.{written}
@@ -56,7 +56,7 @@ uses-kept slots i old new at same x = elim (cases_eq x i) [
   | inr ne ↦ ap uses_in (get-set_other slots i x new ne)
 ]
 
-module _ (slots : List ℕ) (k : ℕ) (es : List Element) (v : MapView) (n : ℕ) (e : Element) (value : List ℕ) (s : ElementsStand slots k es v) (free : SlotsStand v) (kept : IsKept es k n e) where
+module _ (slots : List ℕ) (k : ℕ) (es : List Element) (v : MapView) (n : ℕ) (e : Element) (value : List ℕ) (s : ElementsStand slots k es v) (free : SlotsStand v) (kept : IsElementKept es k n e) where
   abbrev i : ℕ
   i = slice_index slots n
 
@@ -73,15 +73,15 @@ module _ (slots : List ℕ) (k : ℕ) (es : List Element) (v : MapView) (n : ℕ
   slot-is : new ≡ record { shape = v.shape; slots = slice_set v.slots i (slot_view (with_value value e)); free = v.free; index = v.index; next = v.next; waiting = v.waiting; ready = v.ready; worn = v.worn }
   slot-is = ap (λ (o : Option SlotView). let z : MapView = record { shape = v.shape; slots = slice_set v.slots i (record { key = key_in o; value = value; uses = uses_in o }); free = v.free; index = v.index; next = v.next; waiting = v.waiting; ready = v.ready; worn = v.worn } in z) stored
 
-  cases : (a : ℕ) (f : Element) → IsKept vs k a f → ((a ≡ n) × (with_value value e ≡ f)) ⊎ ((a ≢ n) × IsKept es k a f)
+  cases : (a : ℕ) (f : Element) → IsElementKept vs k a f → ((a ≡ n) × (with_value value e ≡ f)) ⊎ ((a ≢ n) × IsElementKept es k a f)
   cases a f g = elim (get-set_cases es n a (with_value value e) f g.born) [
     | inl x ↦ inl x
     | inr x ↦ inr (x.0, record { born = x.1; in_map = g.in_map; kept = g.kept })
   ]
 
-  before : (a : ℕ) (f : Element) → IsKept vs k a f → (old : Element) × IsKept es k a old
+  before : (a : ℕ) (f : Element) → IsElementKept vs k a f → (old : Element) × IsElementKept es k a old
   before a f g = elim (cases a f g) [
-    | inl x ↦ (e, subst (λ b. IsKept es k b e) (sym x.0) kept)
+    | inl x ↦ (e, subst (λ b. IsElementKept es k b e) (sym x.0) kept)
     | inr x ↦ (f, x.1)
   ]
 
@@ -131,7 +131,7 @@ module _ (w : WorldView) (s : Schedule) (m : Matches w s) (n : ℕ) (e : Element
   is-kept : is_reclaimed e.life ≡ false
   is-kept = kept w s m n e v access at
 
-  one : IsKept all e.map n e
+  one : IsElementKept all e.map n e
   one = record { born = is-born; in_map = refl; kept = is-kept }
 
   h : Here w s x e.map v

@@ -16,8 +16,8 @@ use Rattle.worker_pool.specs.declared.job.Outcome.TheVariants.{Exit, Stopped}
 use Rattle.worker_pool.specs.declared.job.Trail.{Trail}
 
 -- the shapes of a registry's maps, by their numbers
-abbrev pub shapes_in : RegistryView → List MapShape
-shapes_in registry = map (λ m. m.shape) registry.maps
+abbrev pub registry_shapes : RegistryView → List MapShape
+registry_shapes registry = map (λ m. m.shape) registry.maps
 
 -- The fault is one of so many workers and jobs, or of memory or a result.
 abbrev pub IsFaultOf : ℕ → ℕ → PoolFault → Type 0

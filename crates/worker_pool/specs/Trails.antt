@@ -96,8 +96,8 @@ TellsExit run value reply outcome =
 -- The note has the exit value of a run of the job's program and context: one of the program's
 -- definition, and without map references the only one. The run was dropped, and the outcome tells
 -- the value, or why it wasn't dropped.
-pub record ExitsWithValue (programs : List Checked) (job : Job) (run : ℕ) (note : NoteView) (dropped : ReceiptView) (outcome : Outcome)
-    : Type 0 where
+pub record ExitsWithValue (programs : List Checked) (job : Job) (run : ℕ) (note : NoteView)
+    (dropped : ReceiptView) (outcome : Outcome) : Type 0 where
   pub value : ℕ
   pub noted : note.exit ≡ Some value
   pub exited : HasExitedOnce programs run job.prog job.ctx.items value
@@ -155,8 +155,8 @@ of_wider t u v w (trails.Ended start step note dropped) a b by = (
 )
 
 -- what is right stays so, from an earlier beginning to a later end
-pub served_wider : (programs : List Checked) (t u v w : WorkerView) (job : Job) (report : JobReport Trail) →
-    IsLater t u → IsLater v w → IsServedJob programs u v job report →
+pub served_wider : (programs : List Checked) (t u v w : WorkerView) (job : Job)
+    (report : JobReport Trail) → IsLater t u → IsLater v w → IsServedJob programs u v job report →
     IsServedJob programs t w job report
 served_wider programs t u v w job report a b s =
     record { by = of_wider t u v w report.trail a b s.by; fits = s.fits }

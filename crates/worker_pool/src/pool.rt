@@ -35,7 +35,8 @@ pub fn run_jobs<L: Ledger + Send + Sync, R: Threads + Wait + Sync>(
     shared: &Shared<L>,
     hands: &mut Workers<L>,
 ) -> Result<Report<Trail>, PoolFault>
-    ensures bad_workers { IsBadCount workers (vec_len hands.old.list) → result ≡ Err faults.BadWorkers }
+    ensures bad_workers { IsBadCount workers (vec_len hands.old.list) →
+        result ≡ Err faults.BadWorkers }
     ensures too_many_jobs { (IsBadCount workers (vec_len hands.old.list) → ⊥)
         → MAX_JOBS < length jobs.now → result ≡ Err faults.TooManyJobs }
     ensures served { (IsBadCount workers (vec_len hands.old.list) → ⊥)

@@ -6,7 +6,7 @@ use Rattle.bpf_model.specs.declared.limits.MapShape.{MapShape}
 use Rattle.world_parts.specs.declared.loaded.Loaded.{Loaded}
 use Rattle.world_invariant.specs.Binding.{IsBoundTo}
 use Rattle.world_invariant.proofs.Binding.{bound-each}
-use Rattle.world.specs.Bound.{AreBound, IsFirstUnbound}
+use Rattle.world.specs.Bound.{AreProgramsBound, IsFirstUnbound}
 
 pub bound-more : (shapes : List MapShape) (numbers : List ℕ) (asked : List MapShape) (i n : ℕ) (s : MapShape) → slice_get numbers i ≡ Some n → slice_get asked i ≡ Some s → slice_get shapes n ≡ Some s → map (slice_get shapes) (take i numbers) ≡ map Some (take i asked) → map (slice_get shapes) (take (suc i) numbers) ≡ map Some (take (suc i) asked)
 bound-more shapes [] asked i n s here there is so = absurd (none-some n here)
@@ -36,7 +36,7 @@ either (suc p) (suc q) = elim (either p q) [ inl e ↦ inl (ap suc e) | inr less
 pub first-is-one : {shapes : List MapShape} {loaded : List Loaded} {p q : ℕ} → IsFirstUnbound shapes loaded p → IsFirstUnbound shapes loaded q → p ≡ q
 first-is-one {p = p} {q = q} a b = elim (either p q) [ inl e ↦ e | inr less ↦ elim less [ inl h ↦ absurd (a.unbound (b.before p a.program h a.there)) | inr h ↦ absurd (b.unbound (a.before q b.program h b.there)) ] ]
 
-pub none-is-first : {shapes : List MapShape} {loaded : List Loaded} {p : ℕ} → AreBound shapes loaded → IsFirstUnbound shapes loaded p → ⊥
+pub none-is-first : {shapes : List MapShape} {loaded : List Loaded} {p : ℕ} → AreProgramsBound shapes loaded → IsFirstUnbound shapes loaded p → ⊥
 none-is-first {p = p} are a = a.unbound (are p a.program a.there)
 
 -- What is so of each element before an index, and of the one at it, is so of each up to it.

@@ -18,46 +18,46 @@ use Rattle.world_parts.specs.Programs.{program_of}
 use Rattle.world_invariant.specs.Invariant.{IsWorld}
 use Rattle.world_invariant.proofs.Binding.{bound_is_verified}
 use Rattle.world_invariant.proofs.Keeping.{start_is_world}
-use Rattle.world.specs.Bound.{shapes_in, programs_in, AreBound}
+use Rattle.world.specs.Bound.{shapes_of_maps, programs_in, AreProgramsBound}
 
 -- What is known of the parts of a new world before it is made.
 pub record IsSafe (maps : List MapView) (loaded : List Loaded) : Type 0 where
-  pub new_maps : maps ≡ map new_map_view (shapes_in maps)
-  pub shapes : AreShapes (shapes_in maps)
+  pub new_maps : maps ≡ map new_map_view (shapes_of_maps maps)
+  pub shapes : AreShapes (shapes_of_maps maps)
   pub maps_limit : length maps ≤ MAX_MAPS
   pub programs_limit : length loaded ≤ MAX_PROGRAMS
-  pub bound : AreBound (shapes_in maps) loaded
+  pub bound : AreProgramsBound (shapes_of_maps maps) loaded
   pub verified : (p : ℕ) (x : Loaded) → slice_get loaded p ≡ Some x → IsVerified x.verified.program x.verified.shapes x.verified.ctx_len
   pub real : (p : ℕ) (x : Loaded) → slice_get loaded p ≡ Some x → IsTypedProgram (program_of x)
 
 abbrev view_of : List machine.Loaded → List MapView → WorldView
 view_of programs maps = record { maps = maps; runs = replicate MAX_RUNS None; opened = replicate MAX_RUNS false; awaited = replicate MAX_RUNS false; programs = programs; given = 0 }
 
-pub made-is-start : {maps : List MapView} {loaded : List Loaded} → IsSafe maps loaded → (w : WorldView) → w ≡ view_of (programs_in loaded) maps → w ≡ start_view (shapes_in maps) (programs_in loaded)
+pub made-is-start : {maps : List MapView} {loaded : List Loaded} → IsSafe maps loaded → (w : WorldView) → w ≡ view_of (programs_in loaded) maps → w ≡ start_view (shapes_of_maps maps) (programs_in loaded)
 made-is-start {maps} {loaded} safe w e = e ∙ ap (view_of (programs_in loaded)) safe.new_maps
 
-are_verified : (maps : List MapView) (loaded : List Loaded) → IsSafe maps loaded → AreVerified (shapes_in maps) (programs_in loaded)
+are_verified : (maps : List MapView) (loaded : List Loaded) → IsSafe maps loaded → AreVerified (shapes_of_maps maps) (programs_in loaded)
 are_verified maps loaded safe p program at =
     let of_loaded = map-back program_of loaded p program at in
     let x = of_loaded.0 in
-    let one = bound_is_verified (shapes_in maps) x.verified.shapes (program_of x) (safe.bound p x of_loaded.1) (safe.verified p x of_loaded.1) in
-    subst (IsVerifiedFor (map new_map (shapes_in maps))) of_loaded.2 one
+    let one = bound_is_verified (shapes_of_maps maps) x.verified.shapes (program_of x) (safe.bound p x of_loaded.1) (safe.verified p x of_loaded.1) in
+    subst (IsVerifiedFor (map new_map (shapes_of_maps maps))) of_loaded.2 one
 
 are_programs : (maps : List MapView) (loaded : List Loaded) → IsSafe maps loaded → AreTypedPrograms (programs_in loaded)
 are_programs maps loaded safe p program at =
     let of_loaded = map-back program_of loaded p program at in
     subst IsTypedProgram of_loaded.2 (safe.real p of_loaded.0 of_loaded.1)
 
-pub start-is-world : {maps : List MapView} {loaded : List Loaded} → IsSafe maps loaded → IsWorld (start_view (shapes_in maps) (programs_in loaded))
+pub start-is-world : {maps : List MapView} {loaded : List Loaded} → IsSafe maps loaded → IsWorld (start_view (shapes_of_maps maps) (programs_in loaded))
 start-is-world {maps} {loaded} safe =
     let shape = λ (v : MapView). v.shape in
-    let few : length (shapes_in maps) ≤ MAX_MAPS = let count : length (shapes_in maps) ≡ length maps = length-map maps shape in let limit : length maps ≤ MAX_MAPS = safe.maps_limit in omega arith in
+    let few : length (shapes_of_maps maps) ≤ MAX_MAPS = let count : length (shapes_of_maps maps) ≡ length maps = length-map maps shape in let limit : length maps ≤ MAX_MAPS = safe.maps_limit in omega arith in
     let few_programs : length (programs_in loaded) ≤ MAX_PROGRAMS = let count : length (programs_in loaded) ≡ length loaded = length-map loaded program_of in let limit : length loaded ≤ MAX_PROGRAMS = safe.programs_limit in omega arith in
-    start_is_world (shapes_in maps) (programs_in loaded) safe.shapes few few_programs (are_verified maps loaded safe) (are_programs maps loaded safe)
+    start_is_world (shapes_of_maps maps) (programs_in loaded) safe.shapes few few_programs (are_verified maps loaded safe) (are_programs maps loaded safe)
 
 pub made-is-world : {maps : List MapView} {loaded : List Loaded} → IsSafe maps loaded → (w : WorldView) → w ≡ view_of (programs_in loaded) maps → IsWorld w
 made-is-world safe w e = subst IsWorld (sym (made-is-start safe w e)) (start-is-world safe)
 
-pub made-tracks-start : {maps : List MapView} {loaded : List Loaded} → IsSafe maps loaded → (w : WorldView) → w ≡ view_of (programs_in loaded) maps → TracksSchedule w (start_schedule (shapes_in maps) (programs_in loaded))
+pub made-tracks-start : {maps : List MapView} {loaded : List Loaded} → IsSafe maps loaded → (w : WorldView) → w ≡ view_of (programs_in loaded) maps → TracksSchedule w (start_schedule (shapes_of_maps maps) (programs_in loaded))
 made-tracks-start {maps} {loaded} safe w e =
-    subst (λ (v : WorldView). TracksSchedule v (start_schedule (shapes_in maps) (programs_in loaded))) (sym (made-is-start safe w e)) (start_tracked (shapes_in maps) (programs_in loaded) safe.shapes)
+    subst (λ (v : WorldView). TracksSchedule v (start_schedule (shapes_of_maps maps) (programs_in loaded))) (sym (made-is-start safe w e)) (start_tracked (shapes_of_maps maps) (programs_in loaded) safe.shapes)

@@ -8,8 +8,8 @@ use Rattle.world_parts.specs.declared.loaded.Loaded.{Loaded}
 use Rattle.world_parts.specs.Programs.{program_of}
 
 -- the shapes of maps
-abbrev pub shapes_in : List MapView → List MapShape
-shapes_in maps = map (λ v. v.shape) maps
+abbrev pub shapes_of_maps : List MapView → List MapShape
+shapes_of_maps maps = map (λ v. v.shape) maps
 
 -- the programs as a world shows them
 abbrev pub programs_in : List Loaded → List machine.Loaded
@@ -19,8 +19,8 @@ programs_in loaded = map program_of loaded
 abbrev pub IsBound : List MapShape → Loaded → Type 0
 IsBound shapes l = IsBoundTo shapes l.verified.shapes l.maps.items
 
-abbrev pub AreBound : List MapShape → List Loaded → Type 0
-AreBound shapes loaded = (p : ℕ) (l : Loaded) → slice_get loaded p ≡ Some l → IsBound shapes l
+abbrev pub AreProgramsBound : List MapShape → List Loaded → Type 0
+AreProgramsBound shapes loaded = (p : ℕ) (l : Loaded) → slice_get loaded p ≡ Some l → IsBound shapes l
 
 -- Program p is not bound, and each before it is.
 pub record IsFirstUnbound (shapes : List MapShape) (loaded : List Loaded) (p : ℕ) : Type 0 where

@@ -7,7 +7,7 @@ ghost use Rattle.world_laws.specs.Typed.{IsTypedProgram};
 ghost use Rattle.world_invariant.specs.Binding.{IsBoundTo};
 ghost use Rattle.world_parts.specs.declared.loaded.Loaded.{Loaded};
 ghost use Rattle.world_parts.specs.Programs.{program_of};
-ghost use Rattle.world.specs.Bound.{shapes_in, AreBound, IsFirstUnbound};
+ghost use Rattle.world.specs.Bound.{shapes_of_maps, AreProgramsBound, IsFirstUnbound};
 
 use bpf_model::{MapId, MapShape, ProgId};
 use maps::Registry;
@@ -16,7 +16,7 @@ use world_parts::Loaded;
 
 /// Whether the number is that of a map that is there and has this shape.
 fn has_shape(registry: &Registry, number: MapId, asked: MapShape) -> bool
-    ensures { IsTrue result ↔ (slice_get (shapes_in registry.now.maps) number ≡ Some asked) }
+    ensures { IsTrue result ↔ (slice_get (shapes_of_maps registry.now.maps) number ≡ Some asked) }
 {
     match registry.shape(number) {
         Some(shape) => shape == asked,
@@ -26,7 +26,7 @@ fn has_shape(registry: &Registry, number: MapId, asked: MapShape) -> bool
 
 /// Whether the numbers are those of maps that are there and have these shapes, one after another.
 fn have_shapes(registry: &Registry, numbers: &[usize], asked: &[MapShape]) -> bool
-    ensures { IsTrue result ↔ IsBoundTo (shapes_in registry.now.maps) asked.now numbers.now }
+    ensures { IsTrue result ↔ IsBoundTo (shapes_of_maps registry.now.maps) asked.now numbers.now }
 {
     if numbers.len() != asked.len() {
         return false;
@@ -41,8 +41,8 @@ fn have_shapes(registry: &Registry, numbers: &[usize], asked: &[MapShape]) -> bo
 
 /// The first program that is not bound.
 pub(crate) fn first_unbound(registry: &Registry, loaded: &[Loaded]) -> Option<ProgId>
-    ensures some { IfSome result (λ p. IsFirstUnbound (shapes_in registry.now.maps) loaded.now p) }
-    ensures none { IfNone result (AreBound (shapes_in registry.now.maps) loaded.now) }
+    ensures some { IfSome result (λ p. IsFirstUnbound (shapes_of_maps registry.now.maps) loaded.now p) }
+    ensures none { IfNone result (AreProgramsBound (shapes_of_maps registry.now.maps) loaded.now) }
 {
     for (index, program) in loaded.iter().enumerate() {
         let numbers = program.maps.as_slice();
@@ -55,7 +55,7 @@ pub(crate) fn first_unbound(registry: &Registry, loaded: &[Loaded]) -> Option<Pr
 
 /// A law: the maps of a registry are as many as there may be, of shapes that there may be.
 pub(crate) fn certify_maps(registry: &Registry)
-    ensures shapes { AreShapes (shapes_in registry.now.maps) }
+    ensures shapes { AreShapes (shapes_of_maps registry.now.maps) }
     ensures limit { length registry.now.maps ≤ MAX_MAPS }
 {
     registry.have_shapes();
@@ -77,7 +77,8 @@ fn certify(program: &Loaded)
 pub(crate) fn certify_programs(loaded: &[Loaded])
     ensures verified { (p : ℕ) (l : Loaded) → slice_get loaded.now p ≡ Some l →
         IsVerified l.verified.program l.verified.shapes l.verified.ctx_len }
-    ensures real { (p : ℕ) (l : Loaded) → slice_get loaded.now p ≡ Some l → IsTypedProgram (program_of l) }
+    ensures real { (p : ℕ) (l : Loaded) → slice_get loaded.now p ≡ Some l →
+        IsTypedProgram (program_of l) }
 {
     for program in loaded {
         certify(program);

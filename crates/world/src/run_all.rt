@@ -27,7 +27,8 @@ impl World {
     ///
     /// An error says that it was refused, and then no event was applied.
     pub fn run_all(&mut self, alloc: Global, events: &[Event]) -> Result<Vec<Answer>, AllocError>
-        ensures answer { IfOk result (λ answers. answers.items ≡ (full_reactions self.old events.now).0) }
+        ensures answer { IfOk result (λ answers.
+            answers.items ≡ (full_reactions self.old events.now).0) }
         ensures new { OnOk result (self.new ≡ (full_reactions self.old events.now).1) }
         ensures err { OnErr result (self.new ≡ self.old) }
 

@@ -5,7 +5,7 @@ ghost use Rattle.bpf_model.specs.Refines.{TracksSchedule};
 ghost use Rattle.bpf_model.specs.Schedule.{start_schedule};
 ghost use Rattle.bpf_model.specs.View.{new_map_view, start_view};
 ghost use Rattle.world_invariant.specs.Invariant.{IsWorld};
-ghost use Rattle.world.specs.Bound.{shapes_in, programs_in, AreBound, IsFirstUnbound};
+ghost use Rattle.world.specs.Bound.{shapes_of_maps, programs_in, AreProgramsBound, IsFirstUnbound};
 
 use crate::binding::{certify_maps, certify_programs, first_unbound};
 use crate::fault::WorldFault;
@@ -46,18 +46,19 @@ impl World {
     ///   for: a map is missing, has another shape, or the counts differ.
     /// - `Memory`: there is none for the runs.
     pub fn new(alloc: Global, registry: Registry, loaded: Vec<Loaded>) -> Result<World, WorldFault>
-        requires new_maps { registry.maps ≡ map new_map_view (shapes_in registry.maps) }
-        ensures too_many { MAX_PROGRAMS < length loaded.items → result ≡ Err WorldFault.TooManyPrograms }
+        requires new_maps { registry.maps ≡ map new_map_view (shapes_of_maps registry.maps) }
+        ensures too_many { MAX_PROGRAMS < length loaded.items →
+            result ≡ Err WorldFault.TooManyPrograms }
         ensures binding { (p : ℕ) → length loaded.items ≤ MAX_PROGRAMS
-            → IsFirstUnbound (shapes_in registry.maps) loaded.items p
+            → IsFirstUnbound (shapes_of_maps registry.maps) loaded.items p
             → result ≡ Err (WorldFault.Binding p) }
         ensures made { length loaded.items ≤ MAX_PROGRAMS
-            → AreBound (shapes_in registry.maps) loaded.items
+            → AreProgramsBound (shapes_of_maps registry.maps) loaded.items
             → IsOk result ⊎ (result ≡ Err WorldFault.Memory) }
         ensures view { IfOk result (λ w.
-            w ≡ start_view (shapes_in registry.maps) (programs_in loaded.items)) }
+            w ≡ start_view (shapes_of_maps registry.maps) (programs_in loaded.items)) }
         ensures start { IfOk result (λ w. TracksSchedule w
-            (start_schedule (shapes_in registry.maps) (programs_in loaded.items))) }
+            (start_schedule (shapes_of_maps registry.maps) (programs_in loaded.items))) }
     {
         if loaded.len() > MAX_PROGRAMS {
             return Err(WorldFault::TooManyPrograms);

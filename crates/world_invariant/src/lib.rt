@@ -20,15 +20,18 @@ ghost use Rattle.world_invariant.specs.Invariant.{IsWorld, IsMatched};
 
 /// A program is verified for the maps to which it is bound.
 pub fn bound_is_verified()
-    ensures { (shapes asked : List MapShape) (program : Loaded) → IsBoundTo shapes asked program.maps →
-        IsVerified program.code asked program.context_len → IsVerifiedFor (map new_map shapes) program }
+    ensures { (shapes asked : List MapShape) (program : Loaded)
+        → IsBoundTo shapes asked program.maps →
+        IsVerified program.code asked program.context_len
+        → IsVerifiedFor (map new_map shapes) program }
 {}
 
 /// New maps and verified programs, as many as there may be, make a world.
 pub fn start_is_world()
     ensures { (shapes : List MapShape) (programs : List Loaded) → AreShapes shapes →
         length shapes ≤ MAX_MAPS → length programs ≤ MAX_PROGRAMS →
-        AreVerified shapes programs → AreTypedPrograms programs → IsWorld (start_view shapes programs) }
+        AreVerified shapes programs → AreTypedPrograms programs
+        → IsWorld (start_view shapes programs) }
 {}
 
 /// A reaction makes a world of a world.

@@ -15,7 +15,7 @@ use Rattle.view_laws.specs.Reactions.{with_run, fresh_view, start_by, start_reac
 use Rattle.machine.specs.RunWords.{RunWords, IsAt}
 use Rattle.world_parts.specs.declared.loaded.Loaded.{Loaded}
 use Rattle.world_parts.specs.Programs.{program_of}
-use Rattle.world_parts.specs.Keeping.{view_of, is_inside, IsOfProgram, IsKept, world_of}
+use Rattle.world_parts.specs.Keeping.{view_of, is_run_inside, IsOfProgram, AreRunsKept, world_of}
 use Rattle.world_parts.proofs.Flags.{still-all, still-cleared}
 use Rattle.world_parts.proofs.Slots.{Runs, written}
 use Rattle.bpf_model.proofs.Lists.{length-set, map-set, set-same}
@@ -26,11 +26,11 @@ same_world : (maps : List MapView) (programs : List machine.Loaded) (given : ℕ
     a ≡ b
 same_world maps programs given rs qs os ps cs bs e f g = cc
 
-module _ (maps : List MapView) (runs : Runs) (grace new : GraceState) (programs : List Loaded) (given i r : ℕ) (same : i ≡ r) (kept : IsKept runs grace programs) (sound : IsGrace grace) (opened : new.opened ≡ slice_set grace.opened r false) (awaited : new.awaited ≡ slice_set grace.awaited r false) where
-  pub dropped-kept : IsKept (slice_set runs i None) new programs
+module _ (maps : List MapView) (runs : Runs) (grace new : GraceState) (programs : List Loaded) (given i r : ℕ) (same : i ≡ r) (kept : AreRunsKept runs grace programs) (sound : IsGrace grace) (opened : new.opened ≡ slice_set grace.opened r false) (awaited : new.awaited ≡ slice_set grace.awaited r false) where
+  pub dropped-kept : AreRunsKept (slice_set runs i None) new programs
   dropped-kept = record {
     slots = length-set runs i None ∙ kept.slots;
-    opened = opened ∙ (ap (λ (os : List Bool). slice_set os r false) kept.opened ∙ (ap (λ k. slice_set (map is_inside runs) k false) (sym same) ∙ sym (map-set is_inside runs i None)));
+    opened = opened ∙ (ap (λ (os : List Bool). slice_set os r false) kept.opened ∙ (ap (λ k. slice_set (map is_run_inside runs) k false) (sym same) ∙ sym (map-set is_run_inside runs i None)));
     of_program = λ k run e. elim (written runs i k None (Some run) e) [
       | inl z ↦ absurd (none-some run z)
       | inr z ↦ kept.of_program k run z
@@ -44,17 +44,17 @@ module _ (maps : List MapView) (runs : Runs) (grace new : GraceState) (programs 
       opened
       (awaited ∙ sym (still-cleared grace.awaited grace.opened r (sound.awaited ∙ sym sound.opened) sound.inside))
 
-module _ (maps : List MapView) (runs : Runs) (grace : GraceState) (programs : List Loaded) (given i prog : ℕ) (context : List ℕ) (program : Loaded) (run : RunWords) (free : slice_get runs i ≡ Some None) (kept : IsKept runs grace programs) (there : slice_get programs prog ≡ Some program) (fresh : run.view ≡ fresh_view prog context) (stands : IsAt program.verified.program run) where
-  started-shut : is_inside (Some run) ≡ false
+module _ (maps : List MapView) (runs : Runs) (grace : GraceState) (programs : List Loaded) (given i prog : ℕ) (context : List ℕ) (program : Loaded) (run : RunWords) (free : slice_get runs i ≡ Some None) (kept : AreRunsKept runs grace programs) (there : slice_get programs prog ≡ Some program) (fresh : run.view ≡ fresh_view prog context) (stands : IsAt program.verified.program run) where
+  started-shut : is_run_inside (Some run) ≡ false
   started-shut = ap (λ (v : RunView). nat_lt 0 v.depth) fresh
 
   started-opened : slice_set grace.opened i false ≡ grace.opened
-  started-opened = set-same grace.opened i false (ap (λ (os : List Bool). slice_get os i) kept.opened ∙ (slice_get-map is_inside runs i ∙ ap (option_map is_inside) free))
+  started-opened = set-same grace.opened i false (ap (λ (os : List Bool). slice_get os i) kept.opened ∙ (slice_get-map is_run_inside runs i ∙ ap (option_map is_run_inside) free))
 
-  pub started-kept : IsKept (slice_set runs i (Some run)) grace programs
+  pub started-kept : AreRunsKept (slice_set runs i (Some run)) grace programs
   started-kept = record {
     slots = length-set runs i (Some run) ∙ kept.slots;
-    opened = kept.opened ∙ sym (map-set_same is_inside runs i None (Some run) free started-shut);
+    opened = kept.opened ∙ sym (map-set_same is_run_inside runs i None (Some run) free started-shut);
     of_program = λ k other e. elim (written runs i k (Some run) (Some other) e) [
       | inl z ↦ subst (IsOfProgram programs) (same_Some run other z) (record {
         program = program;
@@ -92,9 +92,9 @@ none-in zero r x e = none-some (Some x) e
 none-in {A} (suc n) zero x e = let s : ◌≡◌ {A = Option A} None (Some x) = same_Some None (Some x) e in none-some x s
 none-in (suc n) (suc r) x e = none-in n r x e
 
-pub fresh-kept : (runs : Runs) (grace : GraceState) (programs : List Loaded) → runs ≡ replicate MAX_RUNS None → grace.opened ≡ replicate MAX_RUNS false → IsKept runs grace programs
+pub fresh-kept : (runs : Runs) (grace : GraceState) (programs : List Loaded) → runs ≡ replicate MAX_RUNS None → grace.opened ≡ replicate MAX_RUNS false → AreRunsKept runs grace programs
 fresh-kept runs grace programs e o = record {
   slots = ap (λ (rs : Runs). length rs) e;
-  opened = o ∙ sym (ap (map is_inside) e);
+  opened = o ∙ sym (ap (map is_run_inside) e);
   of_program = λ r run g. absurd (none-in MAX_RUNS r run (ap (λ (rs : Runs). slice_get rs r) (sym e) ∙ g));
 }

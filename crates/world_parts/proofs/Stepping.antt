@@ -30,7 +30,7 @@ use Rattle.helpers.proofs.Running.{running, flagged, can_be_served}
 use Rattle.helpers.proofs.Stepping.{own_is, own_keeps, own_asks, served_is, goes_on}
 use Rattle.world_parts.specs.declared.loaded.Loaded.{Loaded}
 use Rattle.world_parts.specs.Programs.{program_of}
-use Rattle.world_parts.specs.Keeping.{view_of, is_inside, IsOfProgram, IsKept, world_of}
+use Rattle.world_parts.specs.Keeping.{view_of, is_run_inside, IsOfProgram, AreRunsKept, world_of}
 use Rattle.world_parts.specs.Stepping.{CanTake, HasTaken, IsGoing, HasGone}
 use Rattle.world_parts.proofs.Slots.{written}
 use Rattle.bpf_model.proofs.Lists.{length-set, map-set, set-same}
@@ -141,7 +141,7 @@ going (Some (Some run)) e = (run, refl, on run.view.exit e)
     on None e = refl
     on (Some n) e = absurd (none-some _ (sym e))
 
-module _ (maps : List MapView) (runs : List (Option RunWords)) (g : GraceState) (programs : List Loaded) (given r : ℕ) (kept : IsKept runs g programs) where
+module _ (maps : List MapView) (runs : List (Option RunWords)) (g : GraceState) (programs : List Loaded) (given r : ℕ) (kept : AreRunsKept runs g programs) where
   abbrev w : WorldView
   w = world_of maps runs g programs given
 
@@ -181,10 +181,10 @@ module _ (maps : List MapView) (runs : List (Option RunWords)) (g : GraceState) 
 
   module _ (runs_new : List (Option RunWords)) (maps_new : List MapView) (g_new : GraceState) (answer : Answer) (gone : HasGone runs runs_new programs maps maps_new g g_new r answer) where
     -- what is kept of the runs holds after the step
-    pub gone_kept : IsKept runs_new g_new programs
-    gone_kept = subst (λ (l : List (Option RunWords)). IsKept l g_new programs) (sym gone.runs_are) (record {
+    pub gone_kept : AreRunsKept runs_new g_new programs
+    gone_kept = subst (λ (l : List (Option RunWords)). AreRunsKept l g_new programs) (sym gone.runs_are) (record {
       slots = length-set runs r (Some gone.new) ∙ kept.slots;
-      opened = gone.taken.opened ∙ ap (λ os. slice_set os r (nat_lt 0 gone.new.view.depth)) kept.opened ∙ sym (map-set is_inside runs r (Some gone.new));
+      opened = gone.taken.opened ∙ ap (λ os. slice_set os r (nat_lt 0 gone.new.view.depth)) kept.opened ∙ sym (map-set is_run_inside runs r (Some gone.new));
       of_program = λ k run e. elim (written runs r k (Some gone.new) (Some run) e) [
         | inl z ↦ subst (IsOfProgram programs) (same_Some gone.new run z) (record {
           program = gone.loaded;

@@ -13,8 +13,8 @@ abbrev pub view_of : Option RunWords → Option RunView
 view_of o = option_map (λ r. r.view) o
 
 -- whether the run of a slot is inside a section
-abbrev pub is_inside : Option RunWords → Bool
-is_inside o = is_open_view (view_of o)
+abbrev pub is_run_inside : Option RunWords → Bool
+is_run_inside o = is_open_view (view_of o)
 
 -- The run's program is there, and the run is at its code.
 pub record IsOfProgram (programs : List Loaded) (run : RunWords) : Type 0 where
@@ -24,10 +24,10 @@ pub record IsOfProgram (programs : List Loaded) (run : RunWords) : Type 0 where
 
 -- There is a slot for each run that there may be. The flags of those inside a section are what
 -- their depths say, and each run is of a program.
-pub record IsKept (runs : List (Option RunWords)) (grace : GraceState) (programs : List Loaded)
+pub record AreRunsKept (runs : List (Option RunWords)) (grace : GraceState) (programs : List Loaded)
     : Type 0 where
   pub slots : length runs ≡ MAX_RUNS
-  pub opened : grace.opened ≡ map is_inside runs
+  pub opened : grace.opened ≡ map is_run_inside runs
   pub of_program : (r : ℕ) (run : RunWords) → slice_get runs r ≡ Some (Some run) →
       IsOfProgram programs run
 

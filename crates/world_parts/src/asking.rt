@@ -1,6 +1,6 @@
 //! What is asked of a world outside of events.
 ghost use Rattle.std.specs.Prelude.{◌≡◌, ℕ, Decides, slice_get, option_map, option_copied, IfSome, IfNone, count_by, is_some};
-ghost use Rattle.world_parts.specs.Keeping.{is_inside as has_open_lock};
+ghost use Rattle.world_parts.specs.Keeping.{is_run_inside as has_open_lock};
 ghost use Rattle.bpf_model.specs.View.{HasExited};
 ghost use Rattle.world_parts.specs.Asking.{stat_of, IsFound, HasNone};
 
@@ -49,7 +49,7 @@ fn occupied(runs: &[Option<Run>]) -> usize
 }
 
 /// Whether the run of a slot is inside a section.
-fn is_inside(run: &Option<Run>) -> bool
+fn is_run_inside(run: &Option<Run>) -> bool
     ensures { result ≡ has_open_lock run.now }
 {
     match run {
@@ -64,7 +64,7 @@ fn inside(runs: &[Option<Run>]) -> usize
 {
     let mut count = 0;
     for run in runs {
-        if is_inside(run) {
+        if is_run_inside(run) {
             count += 1;
         }
     }

@@ -9,8 +9,10 @@ impl Parts {
     /// Stores a value under a key, as the map's update does. Refused where no map has the number, or where
     /// the key or the value has another length than the map's.
     pub fn update(&mut self, map: MapId, key: &KeyBytes, value: &ValueBytes, flags: u64) -> Answer
-        ensures answer { result ≡ (update_reaction self.old map key.now.items value.now.items flags).0 }
-        ensures new { self.new ≡ (update_reaction self.old map key.now.items value.now.items flags).1 }
+        ensures answer { result
+            ≡ (update_reaction self.old map key.now.items value.now.items flags).0 }
+        ensures new { self.new
+            ≡ (update_reaction self.old map key.now.items value.now.items flags).1 }
     {
         let shape = match self.registry.shape(map) {
             None => return Answer::Refused(EventRefusal::NoMap),

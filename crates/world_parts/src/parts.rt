@@ -33,11 +33,11 @@ impl Model for Parts {
 
     ghost coded = { world_code };
 
-    ghost use Rattle.world_parts.specs.Keeping.{world_of, IsKept};
+    ghost use Rattle.world_parts.specs.Keeping.{world_of, AreRunsKept};
 
     ghost view = { λ p. world_of p.registry.maps p.runs.items p.grace p.programs.items p.given };
 
-    ghost invariant = { λ p. IsKept p.runs.items p.grace p.programs.items };
+    ghost invariant = { λ p. AreRunsKept p.runs.items p.grace p.programs.items };
 }
 
 /// So many free run slots.

@@ -1,8 +1,8 @@
 use Rattle.std.proofs.Common.{◌≡◌, drop}
 use Rattle.std.specs.List.{find}
 use Rattle.std.specs.Str.{bytes_eq}
-use Rattle.disasm.specs.Text.{name_of}
+use Rattle.disasm.specs.Text.{mnemonic_text}
 use Rattle.asm.proofs.names.first_named.Given as goal
 
 abbrev pub invariant-loop-mnemonic : goal.invariant-loop-mnemonic
-invariant-loop-mnemonic l = find (λ m. bytes_eq (name_of m) l.name) (drop l.mnemonic-index l.mnemonics) ≡ find (λ m. bytes_eq (name_of m) l.name) l.mnemonics
+invariant-loop-mnemonic l = find (λ m. bytes_eq (mnemonic_text m) l.name) (drop l.mnemonic-index l.mnemonics) ≡ find (λ m. bytes_eq (mnemonic_text m) l.name) l.mnemonics

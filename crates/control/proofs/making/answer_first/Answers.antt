@@ -5,7 +5,7 @@ use Rattle.bpf_model.specs.Schedule.{start_schedule}
 use Rattle.bpf_model.specs.View.{WorldView, start_view}
 use Rattle.script_world.specs.declared.live.Live.{Live}
 use Rattle.script_world.specs.Lives.{LiveReplies}
-use Rattle.control.specs.Sessions.{sealed, Starts}
+use Rattle.control.specs.Sessions.{sealed, TracksStart}
 use Rattle.control.proofs.making.answer_first.Goals as goal
 
 pub returns : goal.returns
@@ -16,5 +16,5 @@ returns c =
     let world = c.in_ok-names.ensures.world ∙ ap (λ (s : SetupView). start_view (shapes_made s) s.programs) old in
     let same : ◌≡◌ {A = Live} (record { names = c.in_ok-names.names; world = c.in_ok-names.world }) (sealed c.args.setup.now) = λ i. record { names = names i; world = world i } in
     let first = subst (λ (s : SetupView). TracksSchedule c.in_ok-names.world (start_schedule (shapes_made s) s.programs)) old c.in_ok-names.ensures.start in
-    let starts : Starts c.args.setup.now = subst (λ (w : WorldView). TracksSchedule w (start_schedule (shapes_made c.args.setup.now) c.args.setup.now.programs)) world first in
+    let starts : TracksStart c.args.setup.now = subst (λ (w : WorldView). TracksSchedule w (start_schedule (shapes_made c.args.setup.now) c.args.setup.now.programs)) world first in
     (a.0, starts, subst (λ (l : Live). LiveReplies l c.args.command a.0 c.answer.new.self) same a.1, a.2)

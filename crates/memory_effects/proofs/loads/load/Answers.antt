@@ -6,8 +6,9 @@ use Rattle.typed_runs.specs.Effects.{with_kind}
 use Rattle.typed_runs.specs.Planned.{AreAlike}
 use Rattle.register_kinds.specs.States.{state_of}
 use Rattle.memory_effects.specs.Accesses.{read_kind}
-use Rattle.memory_effects.proofs.Reading.{read_transfers, to_alike}
+use Rattle.memory_effects.proofs.Reading.{read_transfers}
 use Rattle.memory_effects.proofs.loads.load.Goals as goal
+use Rattle.typed_runs.proofs.Planning.{to_alike}
 
 pub returns-clause-sound : goal.returns-clause-sound
 returns-clause-sound c =

@@ -8,10 +8,11 @@ use Rattle.typed_runs.specs.Kinds.{Kind}
 use Rattle.typed_runs.specs.Effects.{with_kind}
 use Rattle.typed_runs.specs.Planned.{AreAlike}
 use Rattle.register_kinds.specs.States.{state_of}
-use Rattle.memory_effects.specs.Accesses.{read_kind, IsRead}
-use Rattle.memory_effects.proofs.Reading.{read_signed_transfers, to_alike}
+use Rattle.memory_effects.specs.Accesses.{read_kind, IsReadByLoad}
+use Rattle.memory_effects.proofs.Reading.{read_signed_transfers}
 use Rattle.scalar_domain.proofs.Words.{loaded_signed_lt}
 use Rattle.memory_effects.proofs.loads.load_signed.Goals as goal
+use Rattle.typed_runs.proofs.Planning.{to_alike}
 
 pub returns-clause-sound : goal.returns-clause-sound
 returns-clause-sound c =
@@ -20,7 +21,7 @@ returns-clause-sound c =
     to_alike (LoadSigned c.args.width c.args.dst c.args.from.base c.args.from.offset) c.args.shapes.now c.args.ctx_len a (with_kind c.args.dst kind a) (state_of c.set.new.self)
     (subst (λ (k : Kind). AreAlike (with_kind c.args.dst k a) (state_of c.set.new.self)) c.kind.ensures c.set.ensures.alike)
     (read_signed_transfers c.args.dst c.args.from c.args.ctx_len c.args.shapes.now a c.load_signed.result c.in_ok-check_writable.ensures.value c.in_ok-reads.reads c.args.width (λ n. (loaded_signed_lt c.args.width n, c.load_signed.ensures.sound n))
-    (subst (λ (w : Width). IsRead c.in_ok-reads.reads a (byte_count w) c.args.from c.args.ctx_len c.args.shapes.now) c.width.ensures c.in_ok-reads.ensures.reads))
+    (subst (λ (w : Width). IsReadByLoad c.in_ok-reads.reads a (byte_count w) c.args.from c.args.ctx_len c.args.shapes.now) c.width.ensures c.in_ok-reads.ensures.reads))
 
 pub returns-clause-bytes : goal.returns-clause-bytes
 returns-clause-bytes c = λ ne b.

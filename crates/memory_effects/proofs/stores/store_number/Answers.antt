@@ -7,9 +7,9 @@ use Rattle.typed_runs.specs.Kinds.{ByteCell}
 use Rattle.typed_runs.specs.Effects.{with_cells}
 use Rattle.typed_runs.specs.Planned.{AreAlike}
 use Rattle.register_kinds.specs.States.{kind_of, state_of}
-use Rattle.memory_effects.proofs.Reading.{to_alike}
 use Rattle.memory_effects.proofs.Writing.{number_stored}
 use Rattle.memory_effects.proofs.stores.store_number.Goals as goal
+use Rattle.typed_runs.proofs.Planning.{to_alike}
 
 pub returns-clause-sound : goal.returns-clause-sound
 returns-clause-sound c =

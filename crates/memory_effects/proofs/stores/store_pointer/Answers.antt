@@ -5,9 +5,9 @@ use Rattle.bpf_model.specs.declared.insn.Insn.TheVariants.{Store}
 use Rattle.typed_runs.specs.Kinds.{PartCell}
 use Rattle.typed_runs.specs.Effects.{with_cells}
 use Rattle.register_kinds.specs.States.{kind_of, state_of}
-use Rattle.memory_effects.proofs.Reading.{to_alike}
 use Rattle.memory_effects.proofs.Writing.{spill_stored}
 use Rattle.memory_effects.proofs.stores.store_pointer.Goals as goal
+use Rattle.typed_runs.proofs.Planning.{to_alike}
 
 pub returns-in_ok-at-in-Eight-clause-sound : goal.returns-in_ok-at-in-Eight-clause-sound
 returns-in_ok-at-in-Eight-clause-sound c =

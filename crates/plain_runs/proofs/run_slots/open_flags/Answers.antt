@@ -3,9 +3,10 @@ use Rattle.std.specs.Prelude.{slice_get, drop, ◌+◌}
 use Rattle.std.specs.Option.{option_map}
 use Rattle.bpf_model.specs.Schedule.{is_open}
 use Rattle.plain_runs.specs.State.{runs_of, run_of}
-use Rattle.plain_store.proofs.Lists.{get-map, read-at, length-map-own}
+use Rattle.plain_store.proofs.Lists.{read-at, length-map-own}
 use Rattle.plain_store.proofs.Lists.{mapped-more, mapped-all}
 use Rattle.plain_runs.proofs.run_slots.open_flags.Goals as goal
+use Rattle.bpf_model.proofs.Lists.{get-map}
 
 pub loop-r-preserved : goal.loop-r-preserved
 loop-r-preserved c = λ programs.

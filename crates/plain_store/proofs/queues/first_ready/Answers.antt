@@ -1,10 +1,11 @@
 use Rattle.std.proofs.Common.{◌≡◌, Some, map, sym, ◌∙◌, arith}
 use Rattle.std.specs.Prelude.{slice_get}
 use Rattle.plain_store.specs.State.{queues_of}
-use Rattle.plain_store.proofs.Lists.{get-map, read-at, length-map-own}
+use Rattle.plain_store.proofs.Lists.{read-at, length-map-own}
 use Rattle.plain_store.proofs.Queueing.{ready-here, ready-later, ready-past}
 use Rattle.plain_store.proofs.queues.first_ready.Goals as goal
 use Rattle.plain_store.proofs.queues.first_ready.Goals.{After-first_of}
+use Rattle.bpf_model.proofs.Lists.{get-map}
 
 there : (c : After-first_of) → slice_get (map queues_of c.args.queues.now) c.loop-k.k ≡ Some (queues_of c.index-queues-k.result)
 there c = get-map queues_of c.args.queues.now c.loop-k.k c.index-queues-k.result (read-at c.args.queues.now c.loop-k.k c.index-queues-k.result c.loop-k-test.true c.index-queues-k.is)

@@ -4,10 +4,11 @@ use Rattle.std.proofs.lemmas.Bool.{cases_lt}
 use Rattle.bpf_model.specs.Schedule.{Queues, unlinked_between}
 use Rattle.plain_store.specs.State.{element_of, elements_of}
 use Rattle.plain_store.specs.Retiring.{linked_map}
-use Rattle.plain_store.proofs.Lists.{get-map, read-at, length-map-own}
+use Rattle.plain_store.proofs.Lists.{read-at, length-map-own}
 use Rattle.plain_store.proofs.Queueing.{unlinked-more, unlinked-first, unlinked-second}
 use Rattle.plain_store.proofs.Lists.{made-from}
 use Rattle.plain_store.proofs.queues.retire.Goals as goal
+use Rattle.bpf_model.proofs.Lists.{get-map}
 
 pub loop-n-preserved : goal.loop-n-preserved
 loop-n-preserved c = record {

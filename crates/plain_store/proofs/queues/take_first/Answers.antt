@@ -4,10 +4,11 @@ use Rattle.bpf_model.specs.Schedule.{without_first}
 use Rattle.bpf_model.specs.Schedule as schedule
 use Rattle.plain_store.specs.State.{queues_of}
 use Rattle.plain_store.specs.declared.queues.Queues.{Queues}
-use Rattle.plain_store.proofs.Lists.{get-map, read-at}
+use Rattle.plain_store.proofs.Lists.{read-at}
 use Rattle.std.proofs.lemmas.List.{map-set}
 use Rattle.plain_store.proofs.Queueing.{without-here, without-later, is-first, not-first}
 use Rattle.plain_store.proofs.queues.take_first.Goals as goal
+use Rattle.bpf_model.proofs.Lists.{get-map}
 
 -- an item that was read at a place, twice
 one : (xs : List Queues) (k : ℕ) (x y : Queues) → slice_get xs k ≡ Some x → slice_get xs k ≡ Some y → x ≡ y

@@ -2,7 +2,7 @@ use Rattle.std.proofs.Common.{◌≡◌, ◌<◌, length, arith, ap, sym, ◌∙
 use Rattle.std.specs.Prelude.{slice_index_or, slice_get, Some, None, IfSome}
 use Rattle.std.proofs.lemmas.Option.{slice_get_read, slice_get-get_or}
 use Rattle.bpf_model.specs.Graph.{Reached, reached_entry}
-use Rattle.program_graph.specs.FirstPass.{IsReached}
+use Rattle.program_graph.specs.FirstPass.{IsInsnReached}
 use Rattle.bpf_model.specs.Places.{StartsAt}
 use Rattle.program_graph.proofs.Marking.{first_start, marked, target_fits, marks_sound, marks_ahead, before_more}
 use Rattle.program_graph.proofs.graph.first_unmarked.Goals as goal
@@ -37,7 +37,7 @@ loop-index-preserved c =
     let here : slice_get c.args.targets.now c.loop-index.index ≡ Some (slice_index_or c.args.targets.now c.loop-index.index None) = slice_get-get_or c.args.targets.now c.loop-index.index None (omega arith) in
     let insn : slice_get c.args.instructions.now c.loop-index.index ≡ Some c.index-instructions-index.result = slice_get_read c.args.instructions.now (length c.args.instructions.now) c.loop-index.index c.index-instructions-index.result refl (omega arith) c.index-instructions-index.is in
     let was : slice_get c.loop-index.reached c.loop-index.index ≡ Some true = slice_get-get_or c.loop-index.reached c.loop-index.index false (omega arith) ∙ ap Some c.if-not-reached-index.false in
-    let reached : IsReached c.args.instructions.now c.loop-index.index = c.loop-index.invariant.sound c.loop-index.index was in
+    let reached : IsInsnReached c.args.instructions.now c.loop-index.index = c.loop-index.invariant.sound c.loop-index.index was in
     record {
       long = search rules;
       first = c.mark.ensures.stays 0 c.loop-index.invariant.first;

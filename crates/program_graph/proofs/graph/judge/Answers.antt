@@ -1,7 +1,7 @@
 use Rattle.std.proofs.Common.{◌≡◌, ℕ, ◌<◌, ◌-◌, length, arith, ap, rules}
 use Rattle.bpf_model.specs.Places.{length-starts_from}
 use Rattle.program_graph.specs.GraphFlaws.{EndsWithExit}
-use Rattle.program_graph.specs.FirstPass.{IsFirstUnreached, IsReached}
+use Rattle.program_graph.specs.FirstPass.{IsFirstUnreached, IsInsnReached}
 use Rattle.program_graph.proofs.Verdicts.{some_insn, bad_end, unreachable_at, good_graph}
 use Rattle.std.specs.Prelude.{slice_index_or}
 use Rattle.program_graph.specs.declared.refusal.GraphFlaw.TheVariants.{Unreachable}
@@ -33,7 +33,7 @@ returns-in-Some-clause-told c =
 
 pub returns-clause-good : goal.returns-clause-good
 returns-clause-good c =
-    let all : (k : ℕ) → k < length c.args.instructions.now → IsReached c.args.instructions.now k = rw c.in-None.is at c.in_ok-index.ensures in
+    let all : (k : ℕ) → k < length c.args.instructions.now → IsInsnReached c.args.instructions.now k = rw c.in-None.is at c.in_ok-index.ensures in
     let last : EndsWithExit c.args.instructions.now = search rules in
     good_graph c.args.instructions.now c.in_ok-targets.ensures.jumps last all
 

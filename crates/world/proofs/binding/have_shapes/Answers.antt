@@ -2,7 +2,7 @@ use Rattle.std.proofs.Common.{◌≡◌, ◌∙◌, ℕ, ◌+◌, ◌<◌, lengt
 use Rattle.std.specs.Prelude.{slice_get}
 use Rattle.std.proofs.lemmas.Option.{slice_get-get_or}
 use Rattle.bpf_model.specs.declared.limits.MapShape.{MapShape}
-use Rattle.world.specs.Bound.{shapes_in}
+use Rattle.world.specs.Bound.{shapes_of_maps}
 use Rattle.world.proofs.Shapes.{bound-at, bound-more}
 use Rattle.world.proofs.binding.have_shapes.Goals as goal
 
@@ -11,7 +11,7 @@ no_shape = record { key_len = 0; value_len = 0; entries = 0; spare = 0; reuse_li
 
 pub returns-then-not-has_shape : goal.returns-then-not-has_shape
 returns-then-not-has_shape c =
-    let shapes = shapes_in c.args.registry.now.maps in
+    let shapes = shapes_of_maps c.args.registry.now.maps in
     let numbers = c.args.numbers.now in
     let asked = c.args.asked.now in
     let i = c.loop-i.i in
@@ -23,7 +23,7 @@ returns-then-not-has_shape c =
 
 pub loop-i-preserved : goal.loop-i-preserved
 loop-i-preserved c =
-    let shapes = shapes_in c.args.registry.now.maps in
+    let shapes = shapes_of_maps c.args.registry.now.maps in
     let numbers = c.args.numbers.now in
     let asked = c.args.asked.now in
     let i = c.loop-i.i in

@@ -1,7 +1,7 @@
 use Rattle.std.proofs.Common.{◌≡◌, ◌∙◌, ◌+◌, ◌*◌, ◌<◌, ◌≤◌, ℕ, List, sym, ap, subst, length}
 use Rattle.bpf_model.specs.Access.{byte_count}
 use Rattle.bpf_model.specs.MachineStep.{with_bytes}
-use Rattle.element_arena.specs.State.{with_value}
+use Rattle.element_arena.specs.State.{with_slot_value}
 use Rattle.element_arena.specs.Blocks.{block}
 use Rattle.element_arena.specs.Kept.{arena_state_of}
 use Rattle.element_arena.proofs.BlockLaws.{room}
@@ -24,5 +24,5 @@ returns c =
     let long : length (with_bytes c.args.offset (byte_count c.args.width) c.args.number (block s.value_len c.args.slot s.values.items)) ≡ s.value_len = length-with_bytes c.args.offset (byte_count c.args.width) c.args.number (block s.value_len c.args.slot s.values.items) ∙ block-full s.value_len c.args.slot s.values.items r in
     ap (λ (l : List ℕ). arena_state_of s.cells.items s.first s.keys.items l s.key_len s.value_len s.limit) c.write_inside.ensures
     ∙ (state-stored s.key_len s.value_len s.limit s.cells.items s.first s.last s.keys.items s.values.items c.args.slot c.args.self.now (with_bytes c.args.offset (byte_count c.args.width) c.args.number (block s.value_len c.args.slot s.values.items)) c.self.view_is c.self.invariant.0 c.self.invariant.1 c.requires.taken long
-    ∙ ap (λ (l : List ℕ). with_value c.args.self.now c.args.slot (with_bytes c.args.offset (byte_count c.args.width) c.args.number l))
+    ∙ ap (λ (l : List ℕ). with_slot_value c.args.self.now c.args.slot (with_bytes c.args.offset (byte_count c.args.width) c.args.number l))
     (sym (value_is s.key_len s.value_len s.limit s.cells.items s.first s.last s.keys.items s.values.items c.args.slot c.args.self.now c.self.view_is c.self.invariant.0 c.requires.taken)))

@@ -4,13 +4,13 @@ use Rattle.std.proofs.lemmas.Option.{slice_get_read}
 use Rattle.element_arena.specs.State.{key_at}
 use Rattle.element_arena.proofs.Indexing.{times-get}
 use Rattle.hash_index.specs.Chains.{bucket_of}
-use Rattle.hash_index.specs.Buckets.{slots_in}
+use Rattle.hash_index.specs.Buckets.{chained_slots}
 use Rattle.hash_index.proofs.Changes.{CanCut, Unlinked, can_cut, none_held, unlinked_in}
 use Rattle.hash_index.proofs.buckets.BucketsIndex.unlink.Goals as goal
 
 pub bucket_at-home-requires-clause-inside : goal.bucket_at-home-requires-clause-inside
 bucket_at-home-requires-clause-inside c =
-    (c.requires.fits.taken c.args.slot (times-get (key_at c.args.arena.now.slots) (slots_in c.args.self.now.heads.items c.args.arena.now) (key_at c.args.arena.now.slots c.args.slot) c.args.slot c.requires.linked).0).inside
+    (c.requires.fits.taken c.args.slot (times-get (key_at c.args.arena.now.slots) (chained_slots c.args.self.now.heads.items c.args.arena.now) (key_at c.args.arena.now.slots c.args.slot) c.args.slot c.requires.linked).0).inside
 
 before_cut : (c : goal.After-cut-arg-1) → CanCut c.args.self.now.heads.items c.args.arena.now (Some c.in-Some.first) c.args.slot
 before_cut c =

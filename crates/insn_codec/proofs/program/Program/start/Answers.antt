@@ -1,12 +1,9 @@
-use Rattle.std.proofs.Common.{◌≡◌, ℕ, ◌+◌, ◌<◌, List, [], ◌∷◌, length, get_or, refl, ap, ◌∙◌, arith}
+use Rattle.std.proofs.Common.{◌≡◌, ℕ, ◌+◌, ◌<◌, List, length, get_or, refl, ap, ◌∙◌, arith}
 use Rattle.std.proofs.lemmas.List.{get_or_read}
 use Rattle.bpf_model.specs.declared.insn.Insn.{Insn}
-use Rattle.bpf_model.specs.Spelling.{slot_count, starts_from}
+use Rattle.bpf_model.specs.Places.{length-starts_from}
+use Rattle.bpf_model.specs.Spelling.{starts_from}
 use Rattle.insn_codec.proofs.program.Program.start.Goals as goal
-
-length-starts_from : (n : ℕ) (is : List Insn) → length (starts_from n is) ≡ length is
-length-starts_from n [] = refl
-length-starts_from n (i ∷ is) = omega (arith, length-starts_from (n + slot_count i) is)
 
 module _ (starts : List ℕ) (inside now : List Insn) (e : starts ≡ starts_from 0 inside) (v : inside ≡ now) where
   starts_length : length starts ≡ length now

@@ -3,7 +3,7 @@ use Rattle.element_arena.specs.State.{ArenaState}
 use Rattle.maps.specs.Parted.{PartsView}
 use Rattle.bpf_model.specs.Access.{byte_count}
 use Rattle.bpf_model.specs.MachineStep.{with_bytes}
-use Rattle.element_arena.specs.State.{with_value, value_at}
+use Rattle.element_arena.specs.State.{with_slot_value, value_at}
 use Rattle.maps.specs.Parted.{Stands}
 use Rattle.maps.proofs.Parting.{standing-taken}
 use Rattle.maps.proofs.Moves.{written-step}
@@ -22,4 +22,4 @@ returns g c =
     let s = written-step g.row.I.Denot g.row.D.Denot g.I.Index.contents g.I.Index.fits g.D.Deferred.lists g.D.Deferred.fits g.met.I.Index.frame g.met.D.Deferred.frame c.self.inside.index c.self.inside.deferred c.self.inside.arena c.store.new.self c.args.slot _ c.self.invariant in_ c.store.ensures in
     s.1
     ∙ (ap (λ (z : ArenaState). let r : PartsView = record { index = g.I.Index.contents c.self.inside.index c.self.inside.arena; lists = g.D.Deferred.lists c.self.inside.deferred c.self.inside.arena; arena = z } in r) c.store.ensures
-    ∙ ap (λ (p : PartsView). let r : PartsView = record { index = p.index; lists = p.lists; arena = with_value p.arena c.args.slot (with_bytes c.args.offset (byte_count c.args.width) c.args.number (value_at p.arena.slots c.args.slot)) } in r) c.self.view_is)
+    ∙ ap (λ (p : PartsView). let r : PartsView = record { index = p.index; lists = p.lists; arena = with_slot_value p.arena c.args.slot (with_bytes c.args.offset (byte_count c.args.width) c.args.number (value_at p.arena.slots c.args.slot)) } in r) c.self.view_is)

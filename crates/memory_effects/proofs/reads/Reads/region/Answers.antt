@@ -1,14 +1,14 @@
 use Rattle.std.proofs.Common.{subst}
 use Rattle.memory_effects.specs.declared.reads.Reads.{Reads}
-use Rattle.memory_effects.specs.Accesses.{IsRead}
+use Rattle.memory_effects.specs.Accesses.{IsReadByLoad}
 use Rattle.memory_effects.proofs.reads.Reads.region.Goals as goal
 
 pub returns-in-Context : goal.returns-in-Context
 returns-in-Context c = λ a width from ctx_len shapes h.
-    let x = subst (λ (r : Reads). IsRead r a width from ctx_len shapes) c.in-Context.is h in
+    let x = subst (λ (r : Reads). IsReadByLoad r a width from ctx_len shapes) c.in-Context.is h in
     (x.offsets, x.base)
 
 pub returns-in-Value : goal.returns-in-Value
 returns-in-Value c = λ a width from ctx_len shapes h.
-    let x = subst (λ (r : Reads). IsRead r a width from ctx_len shapes) c.in-Value.is h in
+    let x = subst (λ (r : Reads). IsReadByLoad r a width from ctx_len shapes) c.in-Value.is h in
     (x.offsets, x.base)

@@ -7,11 +7,12 @@ use Rattle.bpf_model.specs.declared.event.Answer.TheVariants.{Started}
 use Rattle.bpf_model.specs.Event.{DoesEvent}
 use Rattle.plain_model.specs.State.{machine_of}
 use Rattle.plain_runs.specs.State.{run_of, runs_of, run_with, loaded_of, or_no_program}
-use Rattle.plain_store.proofs.Lists.{get-map, read-at, length-map-own}
+use Rattle.plain_store.proofs.Lists.{read-at, length-map-own}
 use Rattle.std.proofs.lemmas.List.{map-set}
 use Rattle.plain_runs.proofs.BySlot.{lowest-within}
 use Rattle.plain_model.proofs.Events.{start-does}
 use Rattle.plain_model.proofs.machine.Machine.start.Goals as goal
+use Rattle.bpf_model.proofs.Lists.{get-map}
 
 pub index_mut-requires : goal.index_mut-requires
 index_mut-requires c =

@@ -8,10 +8,11 @@ use Rattle.plain_runs.specs.State.{run_of, runs_of}
 use Rattle.plain_store.specs.State.{store_of, sections_of}
 use Rattle.plain_runs.specs.Acting.{SlotStepsAs}
 use Rattle.plain_model.specs.Following.{DoesAs}
-use Rattle.plain_store.proofs.Lists.{get-map, read-at}
+use Rattle.plain_store.proofs.Lists.{read-at}
 use Rattle.std.proofs.lemmas.List.{map-set}
 use Rattle.plain_model.proofs.Events.{step-does}
 use Rattle.plain_model.proofs.machine.Machine.step.Goals as goal
+use Rattle.bpf_model.proofs.Lists.{get-map}
 
 pub returns-clause-machine : goal.returns-clause-machine
 returns-clause-machine c =

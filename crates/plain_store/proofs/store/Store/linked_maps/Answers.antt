@@ -2,9 +2,10 @@ use Rattle.std.proofs.Common.{rules, ◌≡◌, ◌<◌, ◌++◌, ◌∷◌, []
 use Rattle.std.specs.Prelude.{slice_get, drop, ◌+◌}
 use Rattle.plain_store.specs.State.{element_of, elements_of}
 use Rattle.plain_store.specs.Retiring.{linked_map}
-use Rattle.plain_store.proofs.Lists.{get-map, read-at, length-map-own}
+use Rattle.plain_store.proofs.Lists.{read-at, length-map-own}
 use Rattle.plain_store.proofs.Lists.{mapped-more, mapped-all}
 use Rattle.plain_store.proofs.store.Store.linked_maps.Goals as goal
+use Rattle.bpf_model.proofs.Lists.{get-map}
 
 pub loop-n-preserved : goal.loop-n-preserved
 loop-n-preserved c =

@@ -6,10 +6,11 @@ use mir.Val.{SFits}
 use Rattle.bpf_model.specs.Access.{byte_count, region_offset, number_at}
 use Rattle.bpf_model.specs.Element.{is_reclaimed}
 use Rattle.plain_store.specs.State.{element_of, elements_of}
-use Rattle.plain_store.proofs.Lists.{get-map, read-at}
+use Rattle.plain_store.proofs.Lists.{read-at}
 use Rattle.plain_store.proofs.Accesses.{load-found, load-none}
 use Rattle.plain_store.proofs.store.Store.load.Goals as goal
 use Rattle.plain_store.proofs.store.Store.load.Goals.{After-index-element, After-region_offset}
+use Rattle.bpf_model.proofs.Lists.{get-map}
 
 there : (c : After-index-element) → slice_get (elements_of c.args.self.now.elements.items) c.args.n ≡ Some (element_of c.index-element.result.now)
 there c =

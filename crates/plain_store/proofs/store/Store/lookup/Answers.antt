@@ -2,9 +2,10 @@ use Rattle.std.proofs.Common.{rules, ℕ, ◌≡◌, ◌<◌, ◌≤◌, arith, 
 use Rattle.std.proofs.lemmas.Bool.{cases_lt, false≢true}
 use Rattle.bpf_model.specs.Element.{IsLinkedAt}
 use Rattle.plain_store.specs.State.{element_of, elements_of, IsLinkedHere}
-use Rattle.plain_store.proofs.Lists.{get-map, read-at, length-map-own}
+use Rattle.plain_store.proofs.Lists.{read-at, length-map-own}
 use Rattle.plain_store.proofs.Elements.{linked-here, not-here, not-past}
 use Rattle.plain_store.proofs.store.Store.lookup.Goals as goal
+use Rattle.bpf_model.proofs.Lists.{get-map}
 
 pub loop-n-init : goal.loop-n-init
 loop-n-init c = λ k h l. absurd (omega arith)

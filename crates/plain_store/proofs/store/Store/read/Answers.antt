@@ -4,8 +4,9 @@ use Rattle.bpf_model.specs.Element.{IsLinkedAt}
 use Rattle.bpf_model.specs.Helper.{LooksUp}
 use Rattle.plain_store.specs.State.{elements_of, store_of, element_of}
 use Rattle.plain_store.proofs.Elements.{within, one-element}
-use Rattle.plain_store.proofs.Lists.{length-map-own, get-map, read-at, cloned}
+use Rattle.plain_store.proofs.Lists.{length-map-own, read-at}
 use Rattle.plain_store.proofs.store.Store.read.Goals as goal
+use Rattle.bpf_model.proofs.Lists.{cloned, get-map}
 
 pub returns-in_ok-clone-in-Some : goal.returns-in_ok-clone-in-Some
 returns-in_ok-clone-in-Some c =

@@ -4,10 +4,11 @@ use Rattle.bpf_model.specs.Element.{Reclaimed, with_life}
 use Rattle.bpf_model.specs.MapState.{Store}
 use Rattle.plain_store.specs.State.{map_of, element_of, elements_of, store_of, sections_of}
 use Rattle.plain_store.specs.declared.element.Life.TheVariants as lives
-use Rattle.plain_store.proofs.Lists.{get-map, read-at, cloned}
+use Rattle.plain_store.proofs.Lists.{read-at}
 use Rattle.std.proofs.lemmas.List.{map-set}
 use Rattle.plain_store.proofs.Reclaims.{reclaims-at, same-element}
 use Rattle.plain_store.proofs.store.Store.reclaim.Goals as goal
+use Rattle.bpf_model.proofs.Lists.{cloned, get-map}
 
 pub returns-clause-tells : goal.returns-clause-tells
 returns-clause-tells c =

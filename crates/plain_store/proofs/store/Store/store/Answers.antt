@@ -9,10 +9,11 @@ use Rattle.bpf_model.specs.Element.{accessible}
 use Rattle.bpf_model.specs.MachineStep.{stored_in}
 use Rattle.plain_store.specs.State.{element_of, elements_of}
 use Rattle.plain_store.specs.Storing.{StoresTo}
-use Rattle.plain_store.proofs.Lists.{get-map, read-at}
+use Rattle.plain_store.proofs.Lists.{read-at}
 use Rattle.std.proofs.lemmas.List.{map-set}
 use Rattle.plain_store.proofs.Accesses.{stores-to}
 use Rattle.plain_store.proofs.store.Store.store.Goals as goal
+use Rattle.bpf_model.proofs.Lists.{get-map}
 
 pub returns-clause-elements : goal.returns-clause-elements
 returns-clause-elements c =

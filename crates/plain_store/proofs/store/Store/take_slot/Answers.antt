@@ -1,10 +1,11 @@
 use Rattle.std.proofs.Common.{rules, ◌≡◌, length, Some, map, sym, ◌∙◌, ap}
 use Rattle.std.specs.Prelude.{slice_get, slice_set}
 use Rattle.plain_store.specs.State.{map_of}
-use Rattle.plain_store.proofs.Lists.{get-map, read-at, remove-first}
+use Rattle.plain_store.proofs.Lists.{read-at, remove-first}
 use Rattle.std.proofs.lemmas.List.{map-set}
 use Rattle.plain_store.proofs.Births.{without_first-at, without_first-none}
 use Rattle.plain_store.proofs.store.Store.take_slot.Goals as goal
+use Rattle.bpf_model.proofs.Lists.{get-map}
 
 pub returns-then-not-is_empty-clause-maps : goal.returns-then-not-is_empty-clause-maps
 returns-then-not-is_empty-clause-maps c =

@@ -1,11 +1,12 @@
 use Rattle.std.proofs.Common.{rules, ◌≡◌, ◌<◌, ◌≤◌, arith, length, sym, ◌∙◌, vec_len}
 use Rattle.bpf_model.specs.Element.{Unlinked, with_life}
 use Rattle.plain_store.specs.State.{element_of, elements_of, sections_of}
-use Rattle.plain_store.proofs.Lists.{get-map, read-at, length-map-own}
+use Rattle.plain_store.proofs.Lists.{read-at, length-map-own}
 use Rattle.std.proofs.lemmas.Option.{slice_get_past}
 use Rattle.std.proofs.lemmas.List.{map-set}
 use Rattle.plain_store.proofs.Elements.{changed-at, changed-past}
 use Rattle.plain_store.proofs.store.Store.unlink.Goals as goal
+use Rattle.bpf_model.proofs.Lists.{get-map}
 
 pub returns-then-n-len-clause-elements : goal.returns-then-n-len-clause-elements
 returns-then-n-len-clause-elements c =

@@ -3,9 +3,10 @@ use Rattle.std.specs.Prelude.{slice_get, is_some}
 use Rattle.bpf_model.specs.Element.{linked_count}
 use Rattle.bpf_model.specs.Helper.{LooksUp, update_error}
 use Rattle.plain_store.specs.State.{map_of, elements_of, sections_of, store_of}
-use Rattle.plain_store.proofs.Lists.{get-map, read-at}
+use Rattle.plain_store.proofs.Lists.{read-at}
 use Rattle.plain_store.proofs.Births.{no_error-free, free-in, updates-refused, updates-done}
 use Rattle.plain_store.proofs.store.Store.update.Goals as goal
+use Rattle.bpf_model.proofs.Lists.{get-map}
 
 pub returns-in-Some-clause-updates : goal.returns-in-Some-clause-updates
 returns-in-Some-clause-updates c = λ there.

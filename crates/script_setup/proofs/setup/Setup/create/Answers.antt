@@ -2,7 +2,7 @@ use Rattle.std.proofs.Common.{◌≡◌, ◌∙◌, ◌∷◌, [], length, map, 
 use Rattle.std.proofs.lemmas.List.{length-append}
 use Rattle.bpf_model.specs.View.{new_map_view}
 use Rattle.maps.specs.Registry.{creation_fault}
-use Rattle.world.specs.Bound.{shapes_in, AreBound}
+use Rattle.world.specs.Bound.{shapes_of_maps, AreProgramsBound}
 use Rattle.script_setup.proofs.Creating.{create-refused}
 use Rattle.script_setup.proofs.Growing.{new-more, bound-still}
 use Rattle.script_setup.proofs.Naming.{bad-name}
@@ -22,8 +22,8 @@ invariant_of-self-in-Ok c =
     record {
       names_are = cc (c.in_ok-add.ensures.ok, names, c.bytes.ensures, c.in-Some.ensures.some, i.names_are);
       one_name_each = omega (arith, ap length names, ap length maps, length-append old.names (c.in-Some.text.now ∷ []), length-append old.maps (new_map_view shape ∷ []), i.one_name_each);
-      new_maps = subst (λ m. m ≡ map new_map_view (shapes_in m)) (sym maps) (new-more old.maps shape i.new_maps);
-      bound = subst (λ m. AreBound (shapes_in m) c.self.inside.loaded.items) (sym maps) (bound-still old.maps (new_map_view shape) c.self.inside.loaded.items i.bound);
+      new_maps = subst (λ m. m ≡ map new_map_view (shapes_of_maps m)) (sym maps) (new-more old.maps shape i.new_maps);
+      bound = subst (λ m. AreProgramsBound (shapes_of_maps m) c.self.inside.loaded.items) (sym maps) (bound-still old.maps (new_map_view shape) c.self.inside.loaded.items i.bound);
       few = i.few;
     }
 

@@ -2,7 +2,7 @@ use Rattle.std.proofs.Common.{◌≡◌, ◌∙◌, ◌∷◌, [], length, map, 
 use Rattle.std.proofs.lemmas.List.{length-append, length-map}
 use Rattle.bpf_model.specs.PlainMaps.{IsPlainWithMaps}
 use Rattle.verifier.specs.declared.refusal.Refusal.TheVariants.{Memory}
-use Rattle.world.specs.Bound.{shapes_in, AreBound}
+use Rattle.world.specs.Bound.{shapes_of_maps, AreProgramsBound}
 use Rattle.world_invariant.specs.Binding.{IsBoundTo}
 use Rattle.world_parts.specs.Programs.{program_of}
 use Rattle.script_setup.proofs.Growing.{bound-more}
@@ -23,12 +23,12 @@ invariant_of-self-2 c =
     let items = c.in_ok-push.ensures.items in
     let shapes : c.in-Ok-verify.verified.shapes ≡ c.args.bound.shapes.items = c.in-Ok-verify.ensures.shapes ∙ c.deref.ensures.value in
     let programs : map program_of loaded ≡ c.args.self.now.programs = ap (λ s. s.programs) c.self.view_is in
-    let maps : shapes_in c.args.self.now.registry.maps ≡ shapes_in c.self.inside.registry.maps = ap (λ s. shapes_in s.registry.maps) (sym c.self.view_is) in
+    let maps : shapes_of_maps c.args.self.now.registry.maps ≡ shapes_of_maps c.self.inside.registry.maps = ap (λ s. shapes_of_maps s.registry.maps) (sym c.self.view_is) in
     let is = subst (λ x. IsBoundTo x c.args.bound.shapes.items c.args.bound.maps.items) maps c.requires.bound in
     record {
       names_are = i.names_are;
       one_name_each = i.one_name_each;
       new_maps = i.new_maps;
-      bound = subst (λ l. AreBound (shapes_in c.self.inside.registry.maps) l) (sym items) (bound-more (shapes_in c.self.inside.registry.maps) loaded (record { verified = c.in-Ok-verify.verified; maps = c.args.bound.maps }) i.bound (subst (λ x. IsBoundTo (shapes_in c.self.inside.registry.maps) x c.args.bound.maps.items) (sym shapes) is));
+      bound = subst (λ l. AreProgramsBound (shapes_of_maps c.self.inside.registry.maps) l) (sym items) (bound-more (shapes_of_maps c.self.inside.registry.maps) loaded (record { verified = c.in-Ok-verify.verified; maps = c.args.bound.maps }) i.bound (subst (λ x. IsBoundTo (shapes_of_maps c.self.inside.registry.maps) x c.args.bound.maps.items) (sym shapes) is));
       few = omega (arith, ap length items, length-append loaded (record { verified = c.in-Ok-verify.verified; maps = c.args.bound.maps } ∷ []), length-map loaded program_of, ap length programs, c.requires.room);
     }

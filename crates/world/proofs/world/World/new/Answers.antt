@@ -5,7 +5,7 @@ use Rattle.typed_runs.specs.Verified.{IsVerified}
 use Rattle.world_laws.specs.Typed.{IsTypedProgram}
 use Rattle.world_parts.specs.declared.loaded.Loaded.{Loaded}
 use Rattle.world_parts.specs.Programs.{program_of}
-use Rattle.world.specs.Bound.{shapes_in, AreBound}
+use Rattle.world.specs.Bound.{shapes_of_maps, AreProgramsBound}
 use Rattle.world.proofs.Starting.{IsSafe, made-is-world, made-tracks-start}
 use Rattle.world.proofs.world.World.new.Goals as goal
 
@@ -19,7 +19,7 @@ invariant_of-result c =
     let same = c.deref-2.ensures.value in
     let count : length loaded ≡ vec_len c.args.loaded = search rules in
     let limit : vec_len c.args.loaded ≤ MAX_PROGRAMS = omega (arith, c.if-len-gt-MAX_PROGRAMS.false, c.len.ensures) in
-    let bound : AreBound (shapes_in maps) loaded = search rules in
+    let bound : AreProgramsBound (shapes_of_maps maps) loaded = search rules in
     let safe : IsSafe maps loaded = record {
       new_maps = c.requires.new_maps;
       shapes = c.certify_maps.ensures.shapes;
@@ -38,7 +38,7 @@ returns-in-Ok-clause-start c =
     let same = c.deref-2.ensures.value in
     let count : length loaded ≡ vec_len c.args.loaded = search rules in
     let limit : vec_len c.args.loaded ≤ MAX_PROGRAMS = omega (arith, c.if-len-gt-MAX_PROGRAMS.false, c.len.ensures) in
-    let bound : AreBound (shapes_in maps) loaded = search rules in
+    let bound : AreProgramsBound (shapes_of_maps maps) loaded = search rules in
     let safe : IsSafe maps loaded = record {
       new_maps = c.requires.new_maps;
       shapes = c.certify_maps.ensures.shapes;
