@@ -54,6 +54,7 @@ pub fn reacts_by_insn()
 /// What a run has answered and done is the world's step, where the run asks nothing of it.
 pub fn own_step_is_the_worlds()
     ensures { (insn : Insn) (program : Loaded) (r : ℕ) (v after : RunView) (w : WorldView)
-        (asked : Option Access) (answer : Local) → IsLocalStep (local_of insn v) asked v answer after →
+        (asked : Option Access) (answer : Local) →
+        IsLocalStep (local_of insn v) asked v answer after →
         IsOwnStep answer asked r v after w (insn_step insn program r v w) }
 {}
