@@ -521,7 +521,7 @@ fn asked(rt: &impl Abort, alloc: Global, texts: &[&str]) -> Result<Result<Comman
 }
 
 /// Words that are no command, and what is said of them.
-const NO_COMMANDS: [(&[&str], &[&str]); 21] = [
+const NO_COMMANDS: [(&[&str], &[&str]); 24] = [
     (&["bpfrt"], &["Usage: bpfrt"]),
     (&["bpfrt", "chekc", "a"], &["'chekc'", "'check'"]),
     (&["bpfrt", "check"], &["<FILE>"]),
@@ -540,7 +540,13 @@ const NO_COMMANDS: [(&[&str], &[&str]); 21] = [
         &["'01'", "<WORKERS>", "bpfrt pool"],
     ),
     (&["bpfrt", "pool", "+1", "a", "1"], &["'+1'", "<WORKERS>"]),
-    (&["bpfrt", "pool", "1", "a", "-1"], &["'-1'"]),
+    (&["bpfrt", "pool", "1", "a", "-1"], &["'-1'", "<COUNT>"]),
+    (&["bpfrt", "pool", "-1", "a", "1"], &["'-1'", "<WORKERS>"]),
+    (&["bpfrt", "CHECK", "a"], &["'CHECK'", "'check'"]),
+    (
+        &["bpfrt", "\u{1B}[31mfly\u{7}"],
+        &["\u{FFFD}[31mfly\u{FFFD}"],
+    ),
     (
         &["bpfrt", "pool", "1", "a", "18446744073709551616"],
         &["'18446744073709551616'", "<COUNT>", "bpfrt pool --help"],
@@ -557,8 +563,9 @@ const NO_COMMANDS: [(&[&str], &[&str]); 21] = [
     (&["bpfrt", "pool", "--help"], &["refused 90", "entries 8"]),
 ];
 
-/// The text has all these parts.
+/// The text has all these parts, and ends with its last line.
 fn has_all(rt: &impl Abort, text: &str, parts: &[&str]) {
+    assert!(rt; text.ends_with("\n") && !text.ends_with("\n\n"), "{text}");
     for part in parts {
         assert!(rt; text.contains(part), "{text}");
     }
