@@ -120,3 +120,7 @@ forks by v items views h at =
 
 pub learns : (by : ℕ) (v : PassView) → Learns HandsOutOnce by v (λ items. Unit {0})
 learns by v items views h at = tt
+
+-- what the queue holds was put in
+pub learns_room : (by : ℕ) (v : PassView) → Learns HandsOutOnce by v (λ items. v.puts ≡ true → length items ≤ v.next)
+learns_room by v items views h at = λ may. let e = ((h.each by v at).next may).1 in omega arith

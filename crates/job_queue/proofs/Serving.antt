@@ -1,9 +1,9 @@
 -- Results of stations, one after another, and where they stand in the end.
-use Rattle.std.proofs.Common.{◌≡◌, ℕ, ◌+◌, ◌<◌, List, [], ◌∷◌, ◌++◌, length, get_or, sym, ap, ◌∙◌, subst, arith, length-append, map, zero, suc, refl, take, drop, append-nil}
+use Rattle.std.proofs.Common.{◌≡◌, ℕ, ◌+◌, ◌<◌, List, [], ◌∷◌, ◌++◌, length, get_or, sym, ap, ◌∙◌, subst, arith, length-append, map, zero, suc, refl, take, drop, append-nil, ⊎_elim}
 use Rattle.std.specs.Prelude.{All, slice_get, slice_index_or, Option, Some, option_map, unwrap_or}
 use Rattle.std.specs.List.{AllZip}
 use Rattle.std.proofs.lemmas.List.Elements.{All-append, All-map}
-use Rattle.crossbeam_queue.specs.Passes.{Pass}
+use Rattle.crossbeam_queue.specs.Passes.{Pass, view}
 use Rattle.job_queue.specs.declared.numbers.PassView.{PassView}
 use Rattle.std.proofs.Math.ListN.{get_or-append}
 use Rattle.std.proofs.Math.Seq.{get_or-append_seam}
@@ -14,7 +14,8 @@ use Rattle.std.proofs.lemmas.Option.{slice_get_within, slice_get-get_or, slice_g
 use Rattle.std.proofs.lemmas.List.{take_all, drop_all}
 use Rattle.job_queue.specs.declared.station.Station.{Station}
 use Rattle.job_queue.specs.Serving.{IsRight, IsRightNumbered, HasServed, IsServedByOne, IsServedFor, AreRightLines, AreServed}
-use Rattle.job_queue.specs.Sheet.{IsAmong, StandsIn, worker_of}
+use Rattle.job_queue.specs.Sheet.{IsAmong, HasResult, StandsIn, worker_of}
+use Rattle.job_queue.specs.Numbers.{WasTaken}
 
 -- one more result, after which the worker has served more
 pub one_more : {J W T : Type 0} (fits : W → W → J → T → Type 0) (jobs : List J) (first was is : W) → ((job : J) (served : T) → fits first was job served → fits first is job served)
@@ -44,6 +45,27 @@ pub among_last : {T : Type 0} (xs : List (Numbered T)) (d : Numbered T) (k : ℕ
 among_last {T} xs d k served number same = record {
   index = length xs + 0;
   at = slice_get_right xs (d ∷ []) 0 (record { number = k; served = served }) (ap (λ (z : Numbered T). Some z) (λ i. record { number = sym number i; served = sym same i }));
+}
+
+-- one more number that was taken, and its result
+pub kept_more : {T : Type 0} (xs : List (Numbered T)) (d : Numbered T) (taken : List ℕ) (k : ℕ) → WasTaken k (d.number ∷ taken) → (WasTaken k taken → HasResult xs k) → HasResult (xs ++ d ∷ []) k
+kept_more xs d taken k is old = ⊎_elim (λ (e : k ≡ d.number). (d.served, among_last xs d k d.served e refl))
+    (λ (t : WasTaken k taken). let r = old t in (r.0, among_before xs d k r.0 r.1)) is
+
+-- what was taken, but a number past the last job
+pub taken_before : (x k : ℕ) (taken : List ℕ) (n : ℕ) → (x < n → ⊥) → k < n → WasTaken k (x ∷ taken) → WasTaken k taken
+taken_before x k taken n past low is = ⊎_elim (λ (e : k ≡ x). absurd (past (subst (λ z. z < n) e low))) (λ t. t) is
+
+-- a station with the same worker and results, which took no further number of a job
+pub still_served : {J W T : Type 0} (fits : W → W → J → T → Type 0) (later : W → W → Type 0) (jobs : List J) (of_queue : Pass ℕ PassView → Type 0) (ready : W → Type 0) (first : W) (s t : Station W T)
+    → HasServed fits later jobs of_queue ready first s → of_queue t.pass → t.worker ≡ s.worker → t.results.items ≡ s.results.items
+    → ((k : ℕ) → WasTaken k (view t.pass).taken → k < length jobs → WasTaken k (view s.pass).taken) → HasServed fits later jobs of_queue ready first t
+still_served {J} {W} {T} fits later jobs of_queue ready first s t h pass worker results taken = record {
+  pass = pass;
+  ready_now = subst ready (sym worker) h.ready_now;
+  later_now = subst (later first) (sym worker) h.later_now;
+  results = subst (λ (z : W × List (Numbered T)). All (IsRightNumbered fits jobs first z.0) z.1) (λ i. (sym worker i, sym results i)) h.results;
+  kept = λ k is low. subst (λ (z : List (Numbered T)). HasResult z k) (sym results) (h.kept k (taken k is low) low);
 }
 
 pub stands_before : {W T : Type 0} (xs : List (Station W T)) (s : Station W T) (k : ℕ) (served : T) → StandsIn xs k served → StandsIn (xs ++ s ∷ []) k served

@@ -1,6 +1,8 @@
 -- What a pool's results say.
-use Rattle.std.specs.Prelude.{◌≡◌, ◌⊎◌, ℕ, ◌<◌, List, [], slice_get, Option, Some, All}
-use Rattle.crossbeam_queue.specs.Passes.{Pass}
+use Rattle.std.specs.Prelude.{◌≡◌, ◌⊎◌, ℕ, ◌<◌, false, List, [], length, slice_get, Option, Some, All}
+use Rattle.crossbeam_queue.specs.Passes.{Pass, view}
+use Rattle.job_queue.specs.Numbers.{pass_view, WasTaken}
+use Rattle.job_queue.specs.Sheet.{HasResult}
 use Rattle.job_queue.specs.declared.numbers.PassView.{PassView}
 use Rattle.job_queue.specs.declared.pool.TheConstants.{MAX_WORKERS}
 use Rattle.job_queue.specs.declared.station.Numbered.{Numbered}
@@ -52,11 +54,12 @@ module _ {J W T : Type 0} (fits : W → W → J → T → Type 0) where
 pub record IsNewStation {W T : Type 0} (of_queue : Pass ℕ PassView → Type 0) (ready : W → Type 0)
     (s : Station W T) : Type 0 where
   pub pass : of_queue s.pass
+  pub fresh : view s.pass ≡ pass_view false 0 []
   pub ready_now : ready s.worker
   pub nothing : s.results.items ≡ []
 
 -- a station that has served some jobs since its worker was `first`, each result right for the job
--- of its number
+-- of its number; each number of a job that it took has a result
 pub record HasServed {J W T : Type 0} (fits : W → W → J → T → Type 0) (later : W → W →
     Type 0) (jobs : List J)
     (of_queue : Pass ℕ PassView → Type 0) (ready : W →
@@ -65,3 +68,5 @@ pub record HasServed {J W T : Type 0} (fits : W → W → J → T → Type 0) (l
   pub ready_now : ready s.worker
   pub later_now : later first s.worker
   pub results : All (IsRightNumbered fits jobs first s.worker) s.results.items
+  pub kept : (k : ℕ) → WasTaken k (view s.pass).taken → k < length jobs →
+      HasResult s.results.items k

@@ -1,15 +1,23 @@
 -- Where a result on the sheet comes from.
-use Rattle.std.specs.Prelude.{◌≡◌, ◌≢◌, ℕ, List, slice_get, Option, Some}
+use Rattle.std.specs.Prelude.{◌≡◌, ◌≢◌, ◌⊎◌, ℕ, Bool, true, List, slice_get, Option, Some, None}
+use Rattle.job_queue.specs.declared.sheet.Sheet.{Sheet}
 use Rattle.job_queue.specs.declared.station.Numbered.{Numbered}
 use Rattle.job_queue.specs.declared.station.Station.{Station}
 
 abbrev pub worker_of : {W T : Type 0} → Station W T → W
 worker_of s = s.worker
 
+abbrev pub is_short : {W T : Type 0} → Station W T → Bool
+is_short s = s.short
+
 -- one of the results is this, under this number
 pub record IsAmong {T : Type 0} (results : List (Numbered T)) (k : ℕ) (served : T) : Type 0 where
   pub index : ℕ
   pub at : slice_get results index ≡ Some (record { number = k; served = served })
+
+-- one of the results is of this number
+abbrev pub HasResult : {T : Type 0} → List (Numbered T) → ℕ → Type 0
+HasResult {T} results k = (served : T) × IsAmong results k served
 
 -- one of the stations has this result, under this number
 pub record StandsIn {W T : Type 0} (stations : List (Station W T)) (k : ℕ) (served : T)
@@ -22,3 +30,12 @@ pub record StandsIn {W T : Type 0} (stations : List (Station W T)) (k : ℕ) (se
 -- no line has a result yet
 abbrev pub IsBlank : {T : Type 0} → List (Option T) → Type 0
 IsBlank {T} lines = (k : ℕ) (served : T) → slice_get lines k ≢ Some (Some served)
+
+-- one of the lines has no result
+pub record HasBlankLine {T : Type 0} (lines : List (Option T)) : Type 0 where
+  pub index : ℕ
+  pub at : slice_get lines index ≡ Some None
+
+-- it is spoilt, or a line has no result
+abbrev pub IsUnfinished : {T : Type 0} → Sheet T → Type 0
+IsUnfinished s = (s.spoilt ≡ true) ⊎ HasBlankLine s.lines.items

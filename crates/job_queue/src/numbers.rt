@@ -1,6 +1,6 @@
 //! The queue of the jobs' numbers, which hands out each of them once.
-ghost use Rattle.std.specs.Prelude.{◌≡◌, true, []};
-ghost use Rattle.crossbeam_queue.specs.Passes.{view, IsPassOf};
+ghost use Rattle.std.specs.Prelude.{◌≡◌, ◌≤◌, true, [], IsTrue};
+ghost use Rattle.crossbeam_queue.specs.Passes.{view, IsPassOf, ruled_capacity};
 ghost use Rattle.job_queue.specs.Numbers.{pass_view};
 
 use crossbeam_queue::protocol::{Lesson, Outcome, Protocol, Split};
@@ -51,7 +51,9 @@ impl Outcome<u64, PassView> for Puts {
 }
 
 impl Lesson<u64, PassView> for Puts {
-    ghost fact = { λ v numbers. Unit {0} };
+    ghost use Rattle.std.specs.Prelude.{◌≡◌, ◌≤◌, true, length};
+
+    ghost fact = { λ v numbers. v.puts ≡ true → length numbers ≤ v.next };
 }
 
 /// A number comes out.
@@ -72,10 +74,12 @@ pub type NumberQueue = RuledArrayQueue<u64, PassView, Once>;
 
 pub type NumberPass = Pass<u64, PassView>;
 
-// Puts in the numbers below `count`. Whether all went in.
+// Puts in the numbers below `count`. Whether all went in, as they do where there is room.
 pub fn fill<R: Wait>(rt: &R, queue: &NumberQueue, pass: &mut NumberPass, count: usize) -> bool
     requires pass { IsPassOf queue.now pass.old × (view pass.old ≡ pass_view true 0 []) }
     ensures pass { IsPassOf queue.now pass.new }
+    ensures filled { IsTrue result → view pass.new ≡ pass_view true count [] }
+    ensures room { count ≤ ruled_capacity queue.now → IsTrue result }
 {
     for number in 0..count {
         if queue.push_as::<Puts, R>(rt, pass, number as u64).is_err() {

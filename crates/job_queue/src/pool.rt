@@ -1,8 +1,9 @@
 //! All jobs, served by as many threads as the caller says.
-ghost use Rattle.std.specs.Prelude.{◌≡◌, ◌⊎◌, ◌+◌, ◌<◌, ◌≤◌, ◌++◌, length, map, take, drop, Err, All, IsOk, IfErr, IfOk, OnOk, OnErr, vec_len, vec_capacity};
+ghost use Rattle.std.specs.Prelude.{◌≡◌, true, false, [], ◌⊎◌, ◌+◌, ◌<◌, ◌≤◌, ◌++◌, length, map, take, drop, Err, All, IsOk, IfErr, IfOk, OnOk, OnErr, vec_len, vec_capacity};
 ghost use Rattle.std.specs.List.{AllZip};
-ghost use Rattle.crossbeam_queue.specs.Passes.{IsPassOf};
+ghost use Rattle.crossbeam_queue.specs.Passes.{view, IsPassOf};
 ghost use Rattle.job_queue.specs.declared.pool.TheConstants.{MAX_JOBS};
+ghost use Rattle.job_queue.specs.Numbers.{pass_view};
 ghost use Rattle.job_queue.specs.Serving.{IsNewStation, AreRightLines, AreServed, IsBadCount};
 ghost use Rattle.job_queue.specs.Sheet.{worker_of, IsBlank};
 
@@ -103,9 +104,11 @@ fn prepare<T: Drop, R: Wait>(rt: &R, alloc: Global, count: usize) -> Result<Prep
     ensures pass { IfOk result (λ p. IsPassOf p.queue p.pass) }
     ensures sheet { IfOk result (λ p. vec_len p.sheet.lines ≡ count) }
     ensures blank { IfOk result (λ p. IsBlank p.sheet.lines.items) }
+    ensures whole { IfOk result (λ p. p.sheet.spoilt ≡ false) }
     ensures results { IfOk result (λ p.
         (vec_len p.results ≡ 0) × (count ≤ vec_capacity p.results)) }
-    ensures err { IfErr result (λ e. (e ≡ PoolFault.Memory) ⊎ (e ≡ PoolFault.Lost)) }
+    ensures filled { IfOk result (λ p. view p.pass ≡ pass_view true count []) }
+    ensures err { IfErr result (λ e. e ≡ PoolFault.Memory) }
 {
     let Ok(sheet) = Sheet::blank(alloc, count) else {
         return Err(PoolFault::Memory);
@@ -117,7 +120,7 @@ fn prepare<T: Drop, R: Wait>(rt: &R, alloc: Global, count: usize) -> Result<Prep
         return Err(PoolFault::Memory);
     };
     if !fill(rt, &queue, &mut pass, count) {
-        return Err(PoolFault::Lost);
+        unreachable!();
     }
     Ok(Prepared {
         queue,

@@ -1,6 +1,7 @@
 //! The results of all threads, brought into job order.
-ghost use Rattle.std.specs.Prelude.{◌≡◌, ◌≢◌, ◌⊎◌, ℕ, ◌+◌, ◌≤◌, ◌++◌, length, slice_get, Some, IfErr, IfOk, vec_len, vec_capacity, map};
-ghost use Rattle.job_queue.specs.Sheet.{IsAmong, IsBlank, StandsIn, worker_of};
+ghost use Rattle.std.specs.Prelude.{◌≡◌, ◌≢◌, ◌⊎◌, ℕ, ◌+◌, ◌≤◌, ◌++◌, length, slice_get, Some, None, IfErr, IfOk, OnOk, false, vec_len, vec_capacity, map};
+ghost use Rattle.std.specs.List.{list_any};
+ghost use Rattle.job_queue.specs.Sheet.{is_short, IsAmong, IsBlank, IsUnfinished, StandsIn, worker_of};
 
 use crate::fault::PoolFault;
 use crate::station::{Numbered, Station};
@@ -18,6 +19,7 @@ impl<T: Drop> Sheet<T> {
     pub fn blank(alloc: Global, count: usize) -> Result<Sheet<T>, AllocError>
         ensures count { IfOk result (λ s. vec_len s.lines ≡ count) }
         ensures blank { IfOk result (λ s. IsBlank s.lines.items) }
+        ensures whole { IfOk result (λ s. s.spoilt ≡ false) }
     {
         let mut lines = Vec::with_capacity(alloc, count)?;
         for _ in 0..count {
@@ -36,6 +38,9 @@ impl<T: Drop> Sheet<T> {
             → slice_get self.new.lines.items k ≡ Some (Some served)
             → (slice_get self.old.lines.items k ≡ Some (Some served))
             ⊎ ((k ≡ one.number) × (served ≡ one.served)) }
+        ensures put { slice_get self.old.lines.items one.number ≡ Some None
+            → (slice_get self.new.lines.items one.number ≡ Some (Some one.served))
+            × (self.new.spoilt ≡ self.old.spoilt) }
     {
         let Numbered { number, served } = one;
         match self.lines.get_mut(number as usize) {
@@ -68,7 +73,8 @@ impl<T: Drop> Sheet<T> {
         requires empty { vec_len results ≡ 0 }
         requires room { vec_len self.lines ≤ vec_capacity results }
         ensures lines { IfOk result (λ v. map Some v.items ≡ self.lines.items) }
-        ensures err { IfErr result (λ e. e ≡ PoolFault.Lost) }
+        ensures whole { OnOk result (self.spoilt ≡ false) }
+        ensures err { IfErr result (λ e. (e ≡ PoolFault.Lost) × IsUnfinished self) }
     {
         let Sheet { lines, spoilt } = self;
         if spoilt {
@@ -98,6 +104,7 @@ pub fn gather<W: Drop, T: Drop>(
         → slice_get sheet.new.lines.items k ≡ Some (Some served)
         → (slice_get sheet.old.lines.items k ≡ Some (Some served))
         ⊎ StandsIn stations.items k served }
+    ensures short { result ≡ list_any is_short stations.items }
 {
     let mut any_short = false;
     for station in stations {
@@ -109,7 +116,7 @@ pub fn gather<W: Drop, T: Drop>(
         } = station;
         sheet.enter(results);
         workers.push_reserved(worker);
-        any_short = any_short || short;
+        any_short |= short;
     }
     any_short
 }

@@ -21,7 +21,7 @@ loop-worker-preserved g c =
     record {
       pass = search rules;
       ready = s.1;
-      fresh = subst (All fresh) (sym c.push_reserved.ensures.items) (All-append fresh c.loop-worker.stations.items _ i.fresh (all_one fresh _ record { pass = search rules; ready_now = s.0; nothing = search rules }));
+      fresh = subst (All fresh) (sym c.push_reserved.ensures.items) (All-append fresh c.loop-worker.stations.items _ i.fresh (all_one fresh _ record { pass = search rules; fresh = search rules; ready_now = s.0; nothing = search rules }));
       stations = ap (map worker_of) c.push_reserved.ensures.items ∙ (map-append worker_of c.loop-worker.stations.items _ ∙ ap (λ z. z ++ c.in-Some.worker ∷ []) i.stations);
       room = search rules;
     }

@@ -38,4 +38,4 @@ returns-clause-each g c =
     c.read_out.ensures.lines
 
 pub returns-clause-err : goal.returns-clause-err
-returns-clause-err g c = IfErr-weaker c.read_out.result _ _ (λ e is. inr is) c.read_out.ensures.err
+returns-clause-err g c = IfErr-weaker c.read_out.result _ _ (λ e is. inr is.0) c.read_out.ensures.err

@@ -1,6 +1,7 @@
 use Rattle.std.proofs.Common.{rules, ◌++◌, ◌∷◌, [], ◌∙◌, ap, sym, map, ⊎_elim, inl, inr}
 use Rattle.std.proofs.lemmas.List.{map-append, append_assoc}
-use Rattle.job_queue.specs.Sheet.{worker_of}
+use Rattle.std.proofs.lemmas.List.Folds.{list_any-append}
+use Rattle.job_queue.specs.Sheet.{worker_of, is_short}
 use Rattle.job_queue.proofs.Serving.{stands_before, stands_last}
 use Rattle.job_queue.proofs.sheet.gather.Goals as goal
 
@@ -18,4 +19,5 @@ loop-station-preserved g c =
           (λ was. ⊎_elim (λ old. inl old) (λ a. inr (stands_before xs s k served a)) (i.lines k served was))
           (λ a. inr (stands_last xs s k served a))
           (e.lines k served at);
+      short = (let joined = list_any-append is_short xs (s ∷ []) in search rules);
     }

@@ -1,10 +1,14 @@
-use Rattle.std.proofs.Common.{rules, ◌++◌, ◌∷◌, [], ap, ◌∙◌, sym, subst, refl}
+use Rattle.std.proofs.Common.{rules, ◌<◌, ◌++◌, ◌∷◌, [], ap, ◌∙◌, sym, subst, refl, length}
 use Rattle.std.specs.Prelude.{All}
 use Rattle.std.proofs.lemmas.Option.{slice_get_read}
 use Rattle.job_queue.specs.declared.station.Numbered.{Numbered}
 use Rattle.job_queue.specs.Serving.{IsRightNumbered}
 use Rattle.job_queue.proofs.QueueRule.{takes, learns}
-use Rattle.job_queue.proofs.Serving.{one_more}
+use Rattle.crossbeam_queue.specs.Passes.{view}
+use Rattle.job_queue.specs.declared.numbers.PassView.{PassView}
+use Rattle.job_queue.specs.Numbers.{WasTaken, pass_view}
+use Rattle.job_queue.specs.Sheet.{HasResult}
+use Rattle.job_queue.proofs.Serving.{one_more, kept_more, still_served, taken_before}
 use Rattle.job_queue.proofs.station.work.Goals as goal
 
 pub pop_as-requires-clause-rule : goal.pop_as-requires-clause-rule
@@ -34,4 +38,30 @@ loop-preserved g c =
             at = (let k = c.in-Some-get.ensures.lookup in slice_get_read c.args.jobs.now _ c.in-Some.number c.in-Some-get.job.now refl k.3.0 k.1);
             right = laws.fits_wider c.args.serve.now first was is is c.in-Some-get.job.now c.serve-served.result i.later_now (laws.later_same is) e.fits;
           });
+      kept = λ k taken low. subst (λ z. HasResult z k) (sym items)
+          (kept_more c.loop.station.results.items one (view c.loop.station.pass).taken k
+          (subst (λ (z : PassView). WasTaken k z.taken) {x = view c.pop_as.new.pass} {y = pass_view (view c.loop.station.pass).puts (view c.loop.station.pass).next (c.in-Some.number ∷ (view c.loop.station.pass).taken)} (search rules) taken) (λ old. i.kept k old low));
+    }
+
+pub returns-then-is_err : goal.returns-then-is_err
+returns-then-is_err g c =
+    let i = c.loop.invariant in
+    record { served = still_served _ _ _ _ _ _ c.loop.station _ i i.pass refl c.reserve.ensures.items (λ k taken low. taken) }
+
+pub returns-in_default : goal.returns-in_default
+returns-in_default g c =
+    let i = c.loop.invariant in
+    record {
+      served = still_served _ _ _ _ _ _ c.loop.station _ i (search rules) refl c.reserve.ensures.items
+          (λ k taken low. subst (λ (z : PassView). WasTaken k z.taken) c.in_default.ensures.rule.0 taken);
+    }
+
+pub returns-in_default-get : goal.returns-in_default-get
+returns-in_default-get g c =
+    let i = c.loop.invariant in
+    let past : c.in-Some.number < length c.args.jobs.now → ⊥ = search rules in
+    record {
+      served = still_served _ _ _ _ _ _ c.loop.station _ i (search rules) refl c.reserve.ensures.items
+          (λ k taken low. taken_before c.in-Some.number k (view c.loop.station.pass).taken (length c.args.jobs.now) past low
+          (subst (λ (z : PassView). WasTaken k z.taken) c.in-Some.ensures.rule taken));
     }
