@@ -3,4 +3,5 @@ pub mod Books
 pub mod Codes
 pub mod Receipts
 pub mod Meter
+pub mod Noted
 pub mod Numbers

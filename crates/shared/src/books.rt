@@ -1,10 +1,9 @@
 //! The world with its journal, and the ledger that counts its entries. No method waits.
-ghost use Rattle.std.specs.Prelude.{◌≡◌, ℕ, ◌+◌, ◌-◌, ◌^◌, ◌<◌, ◌≤◌, ◌↔◌, ◌⊎◌, List, [], length, IsTrue, true, IfOk, IfSome, IfNone, OnErr, OnOk, Err, Ok, option_copied};
+ghost use Rattle.std.specs.Prelude.{◌≡◌, ◌+◌, ◌-◌, ◌^◌, ◌<◌, ◌↔◌, ◌⊎◌, [], length, IsTrue, true, OnErr, OnOk, Err, Ok, option_copied};
 ghost use Rattle.journal_laws.specs.Replay.{Replays, HasNoRuns};
-ghost use Rattle.world_invariant.specs.Invariant.{IsWorld};
-ghost use Rattle.shared.specs.Receipts.{IsExitOf, IsMachineAnswer};
+ghost use Rattle.shared.specs.Noted.{IsEntered, IsExitNote};
 ghost use Rattle.shared.specs.Tally.{IsTallyOf, origin_of};
-ghost use Rattle.shared.specs.Books.{IsJournalFull, Enters, TotalsRise, CutsTo};
+ghost use Rattle.shared.specs.Books.{TotalsRise, CutsTo};
 ghost use Rattle.shared.specs.declared.fault.SharedFault.TheVariants as fault;
 ghost use Rattle.shared.specs.declared.fault.CutFault.TheVariants as cut_fault;
 
@@ -117,17 +116,7 @@ impl<L: Ledger> Books<L> {
     /// The reply is `JournalFull` exactly when the journal has as many entries as it may have, or when as many
     /// as a number can count were made since the world was shared; `Memory` when the journal could not grow.
     pub fn act_noted(&mut self, worker: &mut Worker<L>, event: Event) -> Receipt
-        ensures worker { result.worker ≡ worker.old.number }
-        ensures event { result.event ≡ event }
-        ensures number { result.number ≡ worker.new.made }
-        ensures entered { IfOk result.reply (λ answer.
-            Enters self.old worker.old.number event answer self.new) }
-        ensures answered { IfOk result.reply (IsMachineAnswer event) }
-        ensures made { OnOk result.reply (worker.new.made ≡ worker.old.made + 1) }
-        ensures same_worker { (worker.new.number ≡ worker.old.number)
-            × (worker.new.parts ≡ worker.old.parts) }
-        ensures full { (result.reply ≡ Err fault.JournalFull) ↔ IsJournalFull self.old }
-        ensures err { OnErr result.reply ((self.new ≡ self.old) × (worker.new ≡ worker.old)) }
+        ensures noted { IsEntered self.old worker.old event result self.new worker.new }
         ensures rise { TotalsRise self.old.tally.totals self.new.tally.totals }
     {
         if let Err(fault) = make_room(&mut self.journal, self.before) {
@@ -163,16 +152,8 @@ impl<L: Ledger> Books<L> {
         program: Option<&Verified>,
         ctx: &CtxBytes,
     ) -> ExitNote
-        ensures worker { result.worker ≡ worker.now.number }
-        ensures number { result.number ≡ worker.now.made }
-        ensures run { result.run ≡ run }
-        ensures prog { result.prog ≡ prog }
-        ensures context { result.context ≡ ctx.now.items }
-        ensures some { IfSome result.exit (λ n.
-            IsExitOf self.now.world run (option_copied program.entry) ctx.now.items n) }
-        ensures world { IsWorld self.now.world }
-        ensures none { IfNone result.exit ((n : ℕ) →
-            IsExitOf self.now.world run (option_copied program.entry) ctx.now.items n → ⊥) }
+        ensures noted { IsExitNote self.now.world worker.now run prog
+            (option_copied program.entry) ctx.now.items result }
     {
         self.world.is_world();
         let exit = match program {

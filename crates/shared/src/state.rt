@@ -1,14 +1,12 @@
 //! What the lock guards: the books, with the one pass that writes the counters.
-ghost use Rattle.std.specs.Prelude.{◌≡◌, ℕ, ◌+◌, ◌≤◌, ◌↔◌, [], length, IfOk, IfSome, IfNone, OnErr, OnOk, Err, option_copied};
+ghost use Rattle.std.specs.Prelude.{◌≡◌, ◌+◌, ◌↔◌, length, IfOk, OnErr, OnOk, Err, option_copied};
 ghost use Rattle.std.specs.Arc.{arc_value};
 ghost use Rattle.crossbeam_utils.specs.Seq.{cell_view};
-ghost use Rattle.world_invariant.specs.Invariant.{IsWorld};
-ghost use Rattle.shared.specs.Receipts.{IsExitOf, IsMachineAnswer};
-ghost use Rattle.shared.specs.Books.{IsJournalFull, Enters, TotalsRise, CutsTo};
+ghost use Rattle.shared.specs.Noted.{IsEntered, IsExitNote};
+ghost use Rattle.shared.specs.Books.{TotalsRise, CutsTo};
 ghost use Rattle.shared.specs.Meter.{writer_at, writer_of};
 ghost use Rattle.shared.specs.Tally.{IsTallyOf, shown_totals};
 ghost use Rattle.journal_laws.specs.Replay.{Replays, HasNoRuns};
-ghost use Rattle.shared.specs.declared.fault.SharedFault.TheVariants as fault;
 ghost use Rattle.shared.specs.declared.fault.CutFault.TheVariants as cut_fault;
 
 use crate::books::{Books, Finished};
@@ -96,17 +94,7 @@ impl<L: Ledger> State<L> {
     /// Applies the event, enters it and writes the counters, or changes nothing. The clauses are those of the
     /// books, which do not wait.
     pub fn act_noted<R: Wait>(&mut self, rt: &R, worker: &mut Worker<L>, event: Event) -> Receipt
-        ensures worker { result.worker ≡ worker.old.number }
-        ensures event { result.event ≡ event }
-        ensures number { result.number ≡ worker.new.made }
-        ensures entered { IfOk result.reply (λ answer.
-            Enters self.old worker.old.number event answer self.new) }
-        ensures answered { IfOk result.reply (IsMachineAnswer event) }
-        ensures made { OnOk result.reply (worker.new.made ≡ worker.old.made + 1) }
-        ensures same_worker { (worker.new.number ≡ worker.old.number)
-            × (worker.new.parts ≡ worker.old.parts) }
-        ensures full { (result.reply ≡ Err fault.JournalFull) ↔ IsJournalFull self.old }
-        ensures err { OnErr result.reply ((self.new ≡ self.old) × (worker.new ≡ worker.old)) }
+        ensures noted { IsEntered self.old worker.old event result self.new worker.new }
     {
         let before = self.books.totals();
         let receipt = self.books.act_noted(worker, event);
@@ -124,16 +112,8 @@ impl<L: Ledger> State<L> {
         program: Option<&Verified>,
         ctx: &CtxBytes,
     ) -> ExitNote
-        ensures worker { result.worker ≡ worker.now.number }
-        ensures number { result.number ≡ worker.now.made }
-        ensures run { result.run ≡ run }
-        ensures prog { result.prog ≡ prog }
-        ensures context { result.context ≡ ctx.now.items }
-        ensures some { IfSome result.exit (λ n.
-            IsExitOf self.now.world run (option_copied program.entry) ctx.now.items n) }
-        ensures world { IsWorld self.now.world }
-        ensures none { IfNone result.exit ((n : ℕ) →
-            IsExitOf self.now.world run (option_copied program.entry) ctx.now.items n → ⊥) }
+        ensures noted { IsExitNote self.now.world worker.now run prog
+            (option_copied program.entry) ctx.now.items result }
     {
         self.books.exit_noted(worker, run, prog, program, ctx)
     }

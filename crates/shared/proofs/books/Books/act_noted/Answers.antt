@@ -1,16 +1,23 @@
-use Rattle.std.proofs.Common.{◌≡◌, ◌∙◌, ℕ, ◌+◌, ◌^◌, ◌<◌, ◌∷◌, [], ◌++◌, List, sym, ap, subst, arith}
-use Rattle.std.specs.Prelude.{Result, IfOk}
+use Rattle.std.proofs.Common.{◌≡◌, ◌∙◌, ℕ, ◌+◌, ◌^◌, ◌<◌, ◌∷◌, [], ◌++◌, List, refl, sym, ap, subst, arith}
+use Rattle.std.specs.Prelude.{Ok, Err}
+use Rattle.bpf_model.specs.declared.event.Event.{Event}
 use Rattle.bpf_model.specs.declared.event.Answer.{Answer}
+use Rattle.bpf_model.specs.View.{WorldView}
 use Rattle.journal.specs.declared.entry.Entry.{Entry}
-use Rattle.journal.specs.Entries.{IsAnswerTo}
+use Rattle.journal.specs.Entries.{IsAnswerTo, JournalView}
 use Rattle.journal_laws.proofs.Fitting.{reaction_fits}
-use Rattle.shared.specs.Books.{BooksView, AreBalanced, Enters, TotalsRise, books_view}
-use Rattle.shared.specs.Receipts.{ReceiptView, IsMachineAnswer}
-use Rattle.shared.specs.Tally.{CountsOn}
-use Rattle.shared.specs.declared.fault.SharedFault.{SharedFault}
+use Rattle.world_laws.specs.Reacting.{full_reaction}
+use Rattle.shared.specs.Books.{BooksView, WorkerView, AreBalanced, Enters, TotalsRise, books_view}
+use Rattle.shared.specs.Noted.{IsEntered}
+use Rattle.shared.specs.Receipts.{ReceiptView}
+use Rattle.shared.specs.Tally.{CountsOn, steps_by}
+use Rattle.shared.specs.declared.tally.Tally.{Tally}
 use Rattle.shared.proofs.Answered.{answered}
 use Rattle.shared.proofs.Balance.{counts-on, tally-push, balanced-push}
 use Rattle.shared.proofs.books.Books.act_noted.Goals as goal
+
+ok≢err : {A E : Type 0} {a : A} {e : E} → Ok a ≡ Err e → ⊥
+ok≢err h = cc
 
 pub count-requires-clause-counts : goal.count-requires-clause-counts
 count-requires-clause-counts g c =
@@ -22,32 +29,60 @@ push-requires-clause-answer g c =
     subst (λ (a : Answer). IsAnswerTo c.args.event a) (sym c.apply-answer.ensures.answer)
     (reaction_fits c.self.inside.world c.args.event c.is_world.ensures c.is_real.ensures)
 
+entered : (base world later : WorldView) (journal room pushed : JournalView) (before steps_before : ℕ) (tally counted : Tally) (worker : ℕ) (event : Event) (answer : Answer) → room.entries ≡ journal.entries → room.limit ≡ journal.limit
+    → pushed.entries ≡ room.entries ++ (record { worker = worker; event = event; answer = answer }) ∷ [] → pushed.limit ≡ room.limit → answer ≡ (full_reaction world event).0 → later ≡ (full_reaction world event).1 → counted.origin ≡ tally.origin
+    → counted.totals.steps ≡ tally.totals.steps + steps_by answer → Enters (books_view base world journal before steps_before tally) worker event answer (books_view base later pushed before steps_before counted)
+entered base world later journal room pushed before steps_before tally counted worker event answer same-entries same-limit items limit answers next origin steps = record {
+  journal = items ∙ ap (λ (z : List Entry). z ++ (record { worker = worker; event = event; answer = answer }) ∷ []) same-entries;
+  answers = answers;
+  world = next;
+  base = refl;
+  limit = limit ∙ same-limit;
+  before = refl;
+  steps_before = refl;
+  origin = origin;
+  steps = steps;
+}
+
 pub invariant_of-self-2 : goal.invariant_of-self-2
 invariant_of-self-2 g c =
     let old : BooksView = books_view c.self.inside.base c.self.inside.world c.self.inside.journal c.self.inside.before c.self.inside.steps_before c.self.inside.tally in
     let new : BooksView = books_view c.self.inside.base c.apply-answer.new.self c.push.new.self c.self.inside.before c.self.inside.steps_before c.count.new.self in
-    let entry : Entry = record { worker = c.worker.inside.number; event = c.args.event; answer = c.apply-answer.result } in
-    let items : c.push.new.self.entries ≡ c.self.inside.journal.entries ++ entry ∷ [] = c.push.ensures.entries ∙ ap (λ (z : List Entry). z ++ entry ∷ []) c.make_room.ensures.entries in
     let count = c.self.invariant.count in
     let room = c.in_default.ensures.count in
     let fits : c.self.inside.book.total + 1 < 2 ^ 64 = omega (arith, count, room) in
     let total : c.add.new.self.total ≡ c.self.inside.book.total + 1 = c.add.ensures.total ∙ ap (λ (k : ℕ). k + 1) c.audit.ensures.total in
-    let enters : Enters old c.worker.inside.number c.args.event c.apply-answer.result new = record {
-      journal = items;
-      answers = c.apply-answer.ensures.answer;
-      world = c.apply-answer.ensures.new;
-      base = λ _. c.self.inside.base;
-      limit = c.push.ensures.limit ∙ c.make_room.ensures.limit;
-      before = λ _. c.self.inside.before;
-      steps_before = λ _. c.self.inside.steps_before;
-      origin = c.count.ensures.origin;
-      steps = c.count.ensures.steps;
-    } in
+    let enters : Enters old c.worker.inside.number c.args.event c.apply-answer.result new = entered _ _ _ c.self.inside.journal c.make_room.new.journal c.push.new.self _ _ _ _ _ _ _ c.make_room.ensures.entries c.make_room.ensures.limit c.push.ensures.entries c.push.ensures.limit
+    c.apply-answer.ensures.answer c.apply-answer.ensures.new c.count.ensures.origin c.count.ensures.steps in
     subst (AreBalanced new) (sym total)
     (balanced-push old new c.self.inside.book.total c.worker.inside.number c.args.event c.apply-answer.result c.self.invariant fits c.is_real.ensures enters
     (c.count.ensures.unreclaimed ∙ c.unreclaimed.ensures)
     c.count.ensures.reclaimed
     (let u = c.count.ensures.unlinked in let same = c.count.ensures.unreclaimed in omega (arith, u, same)))
+
+pub returns-clause-noted : goal.returns-clause-noted
+returns-clause-noted g c =
+    let old : BooksView = books_view c.self.inside.base c.self.inside.world c.self.inside.journal c.self.inside.before c.self.inside.steps_before c.self.inside.tally in
+    let new : BooksView = books_view c.self.inside.base c.apply-answer.new.self c.push.new.self c.self.inside.before c.self.inside.steps_before c.count.new.self in
+    let caller : WorkerView = record { number = c.worker.inside.number; made = c.worker.inside.made; parts = c.worker.inside.share.parts } in
+    let later : WorkerView = record { number = c.worker.inside.number; made = c.worker.inside.made + 1; parts = c.add.new.share.parts } in
+    let receipt : ReceiptView = record { worker = c.worker.inside.number; number = c.worker.inside.made + 1; event = c.args.event; reply = Ok c.apply-answer.result } in
+    let made : IsEntered old caller c.args.event receipt new later = record {
+      worker = refl;
+      asked = refl;
+      number = refl;
+      entered = entered _ _ _ c.self.inside.journal c.make_room.new.journal c.push.new.self _ _ _ _ _ _ _ c.make_room.ensures.entries c.make_room.ensures.limit c.push.ensures.entries c.push.ensures.limit
+          c.apply-answer.ensures.answer c.apply-answer.ensures.new c.count.ensures.origin c.count.ensures.steps;
+      answered = answered c.self.inside.world c.args.event c.apply-answer.result c.is_world.ensures c.is_real.ensures c.apply-answer.ensures.answer;
+      made = refl;
+      same_number = refl;
+      same_parts = c.add.ensures.parts ∙ c.audit.ensures.parts;
+      full = (λ e. absurd (ok≢err e), λ full. absurd (ok≢err (c.in_default.ensures.full.1 full)));
+      err = tt;
+    } in
+    subst (λ (r : ReceiptView). IsEntered c.args.self.now c.args.worker.now c.args.event r new later) (sym c.new-2.ensures)
+    (subst (λ (b : BooksView). IsEntered b c.args.worker.now c.args.event receipt new later) c.self.view_is
+    (subst (λ (w : WorkerView). IsEntered old w c.args.event receipt new later) c.worker.view_is made))
 
 pub returns-clause-rise : goal.returns-clause-rise
 returns-clause-rise g c =
@@ -60,8 +95,3 @@ returns-clause-rise g c =
     let unlinked = t.2 in
     subst (λ (b : BooksView). TotalsRise b.tally.totals c.count.new.self.totals) c.self.view_is
     (record { steps = omega (arith, steps); unlinked = unlinked; reclaimed = omega (arith, reclaimed) })
-
-pub returns-clause-answered : goal.returns-clause-answered
-returns-clause-answered g c =
-    subst (λ (r : Result Answer SharedFault). IfOk r (IsMachineAnswer c.args.event)) (sym (ap (λ (v : ReceiptView). v.reply) c.new-2.ensures))
-    (answered c.self.inside.world c.args.event c.apply-answer.result c.is_world.ensures c.is_real.ensures c.apply-answer.ensures.answer)
