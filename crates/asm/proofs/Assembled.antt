@@ -10,7 +10,7 @@ use Rattle.bpf_model.specs.Spelling.{FitsInsn, IsProgram, slot_count, slot_total
 use Rattle.disasm.specs.Text.{stem_of, suffix_of, mnemonic_text, arguments_text, mnemonic_of, text_arguments, statement_of, line_of, program_text}
 use Rattle.asm.specs.Reading.{Lacks}
 use Rattle.asm.specs.Grammar.{IsFormedLine}
-use Rattle.asm.specs.Faults.{is_comment, lines_in, statements_in, IsInsnLine, IsLineFlaw, IsFirstLineFlaw, IsAsmFault}
+use Rattle.asm.specs.Faults.{is_comment, lines_in, statements_in, IsInsnLine, IsLineFlaw, IsFirstLineFlaw}
 use Rattle.asm.specs.Assembling.{IsAsmTextFault, IsSizeFault}
 use Rattle.asm.specs.declared.fault.LineFlaw.{LineFlaw}
 use Rattle.asm.specs.declared.fault.LineFlaw.TheVariants.{NoForm, OutOfRange}
@@ -68,13 +68,6 @@ text_fault_only text TooLong h p program e = absurd h
 text_fault_only text Empty h p program e = absurd h
 text_fault_only text Memory h p program e = refl
 
-pub text_fault : (text : List ℕ) (f : AsmFault) → IsAsmTextFault text f → IsAsmFault text f
-text_fault text (BadLine n) h = h
-text_fault text (BadOperand n) h = h
-text_fault text TooLong h = absurd h
-text_fault text Empty h = absurd h
-text_fault text Memory h = tt
-
 -- too many slots, and none
 
 size_fault_only : (items : List Insn) (f : AsmFault) → IsSizeFault items f → (p : List Insn) → IsProgram p → items ≡ p → f ≡ Memory
@@ -83,13 +76,6 @@ size_fault_only items (BadOperand n) h p program e = absurd h
 size_fault_only items TooLong h p program e = absurd (let same : slot_total items ≡ slot_total p = ap slot_total e in let limit : slot_total p ≤ MAX_SLOTS = program.limit in omega arith)
 size_fault_only items Empty h p program e = absurd (let none : slot_total p ≡ 0 = ap slot_total (sym e ∙ h) in let some : 1 ≤ slot_total p = program.some in omega arith)
 size_fault_only items Memory h p program e = refl
-
-pub size_fault : (text : List ℕ) (items : List Insn) (f : AsmFault) → AllByRecursion FitsInsn items → statements_in text ≡ map line_of items → IsSizeFault items f → IsAsmFault text f
-size_fault text items (BadLine n) fits e h = absurd h
-size_fault text items (BadOperand n) fits e h = absurd h
-size_fault text items TooLong fits e h = record { instructions = items; fits = fits; lines = e; long = h }
-size_fault text items Empty fits e h = e ∙ ap (map line_of) h
-size_fault text items Memory fits e h = tt
 
 pub made_only : (items : List Insn) (r : Result (List Insn) AsmFault) → IfOk r (λ p. p ≡ items) → IfErr r (IsSizeFault items) → (p : List Insn) → IsProgram p → items ≡ p → (r ≡ Ok p) ⊎ (r ≡ Err Memory)
 made_only items (Ok q) found fault p program e = inl (ap Ok (found ∙ e))

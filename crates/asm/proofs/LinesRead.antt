@@ -37,9 +37,6 @@ pub record IsReading (text rest : List ℕ) (items : List Insn) (index : ℕ) : 
   pub room : index + length rest ≤ length text
   pub utf8 : IsUtf8 rest
 
-pub nothing_read : (text : List ℕ) → LinesRead text (lines_in text) [] 0
-nothing_read text = record { front = []; parts = refl; number = refl; sound = tt; unique = tt; lines = refl; fits = tt }
-
 all_more : {X : Type 0} (P : X → Type 0) (xs : List X) (y : X) → AllByRecursion P xs → P y → AllByRecursion P (xs ++ y ∷ [])
 all_more P [] y h p = (p, tt)
 all_more P (x ∷ xs) y h p = (h.0, all_more P xs y h.1 p)

@@ -56,6 +56,7 @@ fn numbered(number: u128) -> Option<Reg>
     }
 }
 
+/// The register that the argument names, r0 to r10; `None` where it names none.
 pub fn register(argument: &Argument) -> Option<Reg>
     ensures found { IfSome result (λ r. (argument.now ≡ Argument.Register r) × (r ≤ 10)) }
     ensures only { (r : ℕ) → r ≤ 10 → argument.now ≡ Argument.Register r → result ≡ Some r }
@@ -66,6 +67,7 @@ pub fn register(argument: &Argument) -> Option<Reg>
     }
 }
 
+/// The signed number of 32 bits that the argument is, if it is one.
 pub fn number(argument: &Argument) -> Option<i32>
     ensures found { IfSome result (λ z. (argument.now ≡ number_argument z) × FitsSigned w32 z) }
     ensures only { (z : ℤ) →
@@ -78,6 +80,7 @@ pub fn number(argument: &Argument) -> Option<i32>
     }
 }
 
+/// The unsigned number of 64 bits that the argument is, if it is one.
 pub fn unsigned(argument: &Argument) -> Option<u64>
     ensures found { IfSome result (λ n. (argument.now ≡ Argument.Number n) × (n < 2 ^ 64)) }
     ensures only { (n : ℕ) → n < 2 ^ 64 → argument.now ≡ Argument.Number n → result ≡ Some n }
@@ -90,6 +93,7 @@ pub fn unsigned(argument: &Argument) -> Option<u64>
     }
 }
 
+/// The second operand that the argument is: a register, or an immediate of 32 bits.
 pub fn source(argument: &Argument) -> Option<Operand>
     ensures found { IfSome result (λ o. (argument.now ≡ source_argument o) × FitsOperand o) }
     ensures only { (o : OperandOf) →
@@ -101,6 +105,7 @@ pub fn source(argument: &Argument) -> Option<Operand>
     }
 }
 
+/// The signed offset of 16 bits that the argument is, if it is one.
 pub fn offset(argument: &Argument) -> Option<i16>
     ensures found { IfSome result (λ z. (argument.now ≡ offset_argument z) × FitsSigned w16 z) }
     ensures only { (z : ℤ) →
@@ -112,6 +117,7 @@ pub fn offset(argument: &Argument) -> Option<i16>
     }
 }
 
+/// The signed offset of 32 bits that the argument is, if it is one.
 pub fn long_offset(argument: &Argument) -> Option<i32>
     ensures found { IfSome result (λ z. (argument.now ≡ offset_argument z) × FitsSigned w32 z) }
     ensures only { (z : ℤ) →

@@ -19,15 +19,15 @@ use Rattle.bpf_model.specs.Machine.{Loaded, Run, Machine, open_sections, with_st
 use Rattle.bpf_model.specs.Machine.{begins, lowest_free, run_at}
 use Rattle.bpf_model.specs.MachineStep.{StepsRun}
 
-abbrev pub event_refusal_code : EventRefusal → ℕ
-event_refusal_code NoRun = 60
-event_refusal_code Ended = 61
-event_refusal_code NoProgram = 62
-event_refusal_code BadContext = 63
-event_refusal_code RunsFull = 64
-event_refusal_code NoMap = 65
-event_refusal_code BadLength = 66
-event_refusal_code StillRunning = 67
+abbrev pub event_refusal_number : EventRefusal → ℕ
+event_refusal_number NoRun = 60
+event_refusal_number Ended = 61
+event_refusal_number NoProgram = 62
+event_refusal_number BadContext = 63
+event_refusal_number RunsFull = 64
+event_refusal_number NoMap = 65
+event_refusal_number BadLength = 66
+event_refusal_number StillRunning = 67
 
 -- An event is a value of its types: in a definition a byte would else be any number. Each value of
 -- the Rust type is one (`Event::is_real`).

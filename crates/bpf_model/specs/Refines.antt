@@ -45,7 +45,8 @@ pub record ElementsStand (slots : List ℕ) (k : ℕ) (es : List Element) (v : M
       slice_get v.slots (slice_index slots n) ≡ Some (slot_view e)
   pub single : (a b : ℕ) (d e : Element) → IsElementKept es k a d → IsElementKept es k b e →
       slice_index slots a ≡ slice_index slots b → a ≡ b
-  pub apart : (n : ℕ) (e : Element) → IsElementKept es k n e → times (slice_index slots n) v.free ≡ 0
+  pub apart : (n : ℕ) (e : Element) → IsElementKept es k n e →
+      times (slice_index slots n) v.free ≡ 0
   pub found : (key : List ℕ) (i : ℕ) → get v.index key ≡ Some i →
       (n : ℕ) × IsLinkedAt es k key n × (slice_index slots n ≡ i)
   pub finds : (key : List ℕ) (n : ℕ) → IsLinkedAt es k key n →

@@ -155,11 +155,11 @@ pub fn are_real(events: &[Event])
 
 impl EventRefusal {
     ghost use Rattle.std.specs.Prelude.{◌≡◌};
-    ghost use Rattle.bpf_model.specs.Event.{event_refusal_code};
+    ghost use Rattle.bpf_model.specs.Event.{event_refusal_number};
 
     /// Its number, 60 to 67.
     pub fn code(self) -> u8
-        ensures { result ≡ event_refusal_code self }
+        ensures { result ≡ event_refusal_number self }
     {
         match self {
             EventRefusal::NoRun => 60,

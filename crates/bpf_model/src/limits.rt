@@ -53,9 +53,9 @@ pub type KeyBytes = ArrayVec<u8, KEY_BYTES>;
 /// The bytes of a value, at most `VALUE_BYTES`.
 pub type ValueBytes = ArrayVec<u8, VALUE_BYTES>;
 
-/// The shape of a map: key and value lengths in bytes (1 to 64, 1 to 256), the most linked elements (1 to
-/// 4096), the further slots for elements that wait for reclamation (0 to 4096), and how often a slot may
-/// be used (1 to 4,294,967,295).
+/// The shape of a map: key and value lengths in bytes (1 to `KEY_BYTES`, 1 to `VALUE_BYTES`), the most linked
+/// elements (1 to `MAX_ENTRIES`), the further slots for elements that wait for reclamation (0 to `MAX_SPARE`),
+/// and how often a slot may be used (1 to `MAX_REUSE`).
 #[derive(Clone, Copy, Debug, PartialEq, Eq)]
 pub struct MapShape {
     pub key_len: usize,

@@ -26,9 +26,6 @@ prefix_is bytes more text long e =
 pub raw_more : (bytes more : List ℕ) → 8 ≤ length bytes → IsRawFile bytes → IsRawFile (bytes ++ more)
 raw_more bytes more long raw text e = raw (drop 8 bytes) (prefix_is bytes more text long e)
 
-pub raw_found : (bytes : List ℕ) → starts_with ◌==◌ bytes heading ≡ false → IsRawFile bytes
-raw_found bytes h text e = false≢true (sym h ∙ ap (λ b. starts_with ◌==◌ b heading) e)
-
 remainders : (r a b n : ℕ) → r ≡ a % 8 → n ≡ a + b → (r % 8 + b % 8) % 8 ≡ n % 8
 remainders r a b n e f = omega arith
 

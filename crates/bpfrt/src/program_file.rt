@@ -43,7 +43,8 @@ pub enum FileBytes {
 fn source_of(alloc: Global, bytes: &[u8]) -> Result<Source, Verdict>
     ensures found { IfOk result (IsSourceOf bytes.now) }
     ensures limit { IfOk result (λ s. s.ctx_len ≤ CTX_BYTES) }
-    ensures maps { IfOk result (λ s. s.registry.maps ≡ map new_map_view (registry_shapes s.registry)) }
+    ensures maps { IfOk result (λ s.
+        s.registry.maps ≡ map new_map_view (registry_shapes s.registry)) }
     ensures fault { IfErr result (IsDecodeRefusal bytes.now) }
 {
     let file = load(alloc, bytes)?;

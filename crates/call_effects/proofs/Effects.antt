@@ -1,7 +1,5 @@
 -- The laws, for states in code.
-use Rattle.std.proofs.Common.{◌≡◌, ℕ, ◌+◌, ◌^◌, ◌/◌, ◌<◌, ◌≤◌, List, Some, None, ap, ◌∙◌, ℤ, pos, arith, true, false}
-use Rattle.std.specs.Prelude.{slice_get}
-use Rattle.bpf_model.specs.declared.limits.TheConstants.{FRAME_BYTES}
+use Rattle.std.proofs.Common.{◌≡◌, ℕ, ◌^◌, ◌/◌, ◌<◌, List, Some, ap, ℤ, arith, true, false}
 use Rattle.bpf_model.specs.declared.limits.MapShape.{MapShape}
 use Rattle.bpf_model.specs.declared.insn.Insn.{Insn}
 use Rattle.bpf_model.specs.declared.insn.Insn.TheVariants.{Call}
@@ -30,7 +28,6 @@ use Rattle.register_kinds.specs.declared.learn.Lesson.TheVariants.{IsNull, IsThe
 use Rattle.register_kinds.specs.States.{kind_of, cell_of, kind_at, kind_in, class_in, state_of}
 use Rattle.register_kinds.specs.Pairs.{IsBelow, AreBelow}
 use Rattle.register_kinds.specs.Changes.{zero, learnt}
-use Rattle.kind_tests.specs.Tests.{AreAll}
 use Rattle.kind_tests.specs.Forks.{ForksOnNull}
 use Rattle.call_effects.specs.Calls.{PerformsCall, null_jump}
 
@@ -85,18 +82,6 @@ pub delete_sound : (a b : StateHere) (shapes : List MapShape) (map : ℕ) (shape
     AreAlike (after_call (Num t) (state_of a)) (state_of b) → (imm : ℤ) → helper_of imm ≡ Some helpers.Delete → PerformsCall callee.Helper imm shapes a b
 delete_sound a b shapes map shape t all m key e imm f ctx_len =
     to_alike (Call callee.Helper imm) shapes ctx_len (state_of a) (after_call (Num t) (state_of a)) (state_of b) e (delete_transfers imm shapes ctx_len (state_of a) map shape t all m key f)
-
--- arguments
-pub has_map : (a : StateHere) (shapes : List MapShape) (map : ℕ) (shape : MapShape) → kind_in a.regs 1 ≡ kinds.Map map → slice_get shapes map ≡ Some shape → HasMap shapes (state_of a) map shape
-has_map a shapes map shape e f = record { map_is = ap kind_of e; shape_is = f }
-
-pub has_bytes : (a : StateHere) (r len at : ℕ) (o : ℤ) → kind_in a.regs r ≡ kinds.Frame o → o ≡ pos at → at + len ≤ FRAME_BYTES → AreAll a.frame.cells at len class.Byte → HasBytes (state_of a) r len
-has_bytes a r len at o e f inside all = record {
-  at = at;
-  frame = ap kind_of e ∙ ap FrameAt f;
-  inside = inside;
-  bytes = λ k p q. ap (cell_of (kind_in a.frame.spills (k / 8))) (all k p q);
-}
 
 -- tests for null
 zero-holds : Holds zero 0

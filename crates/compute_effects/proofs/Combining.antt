@@ -1,12 +1,12 @@
 -- What operations give, from operands of these kinds.
-use Rattle.std.proofs.Common.{◌≡◌, ℕ, ◌+◌, ◌^◌, ◌<◌, ◌≤◌, List, length, Option, Some, None, inl, refl, sym, ap, subst, ◌∙◌, ℤ, pos, arith, true, false}
+use Rattle.std.proofs.Common.{◌≡◌, ℕ, ◌+◌, ◌^◌, ◌<◌, ◌≤◌, List, length, Some, None, inl, refl, sym, ap, subst, ◌∙◌, ℤ, pos, arith, true, false}
 use Rattle.std.specs.Prelude.{◌+ℤ◌, if◌then◌else◌}
 use Rattle.std.proofs.lemmas.Int.{ints}
 use Rattle.std.proofs.lemmas.Bool.{lt-ltb, ne_eqb}
 use Rattle.bpf_model.specs.declared.limits.MapShape.{MapShape}
 use Rattle.bpf_model.specs.declared.value.Value.{Value}
 use Rattle.bpf_model.specs.declared.value.Value.TheVariants.{Number, Pointer}
-use Rattle.bpf_model.specs.declared.value.Reference.TheVariants.{Ctx, Frame, MapRef, Elem}
+use Rattle.bpf_model.specs.declared.value.Reference.TheVariants.{Ctx, MapRef, Elem}
 use Rattle.bpf_model.specs.declared.insn.AluOp.{AluOp}
 use Rattle.bpf_model.specs.declared.insn.AluOp.TheVariants.{Move}
 use Rattle.bpf_model.specs.declared.insn.UnaryOp.{UnaryOp}
@@ -15,21 +15,21 @@ use Rattle.bpf_model.specs.declared.insn.Insn.TheVariants.{Alu, Unary, LoadNumbe
 use Rattle.bpf_model.specs.declared.insn.Operand.{Operand}
 use Rattle.bpf_model.specs.declared.insn.Operand.TheVariants.{Register, Immediate}
 use Rattle.bpf_model.specs.declared.opcode.Size.{Size}
-use Rattle.bpf_model.specs.declared.opcode.Size.TheVariants.{Word32, Word64}
-use Rattle.bpf_model.specs.Arithmetic.{alu, immediate, unary}
-use Rattle.bpf_model.specs.Value.{◌>>=◌, held, number}
+use Rattle.bpf_model.specs.declared.opcode.Size.TheVariants.{Word32}
+use Rattle.bpf_model.specs.Arithmetic.{alu, unary}
+use Rattle.bpf_model.specs.Value.{◌>>=◌, number}
 use Rattle.bpf_model.specs.Operand.{operand_value, computed, unary_source}
 use Rattle.bpf_model.specs.Near.{IsNear, IsNearOffset}
 use Rattle.bpf_model.specs.Graph.{falls}
 use Rattle.bpf_model.specs.Spelling.{slot_count}
 use Rattle.bpf_model.specs.Step.{State, Environment, Outcome, Moves as Goes, put, sets, after, map_value}
 use Rattle.bpf_model.specs.Element.{Element}
-use Rattle.bpf_model.specs.MachineStep.{AccessesElement, found_value}
+use Rattle.bpf_model.specs.MachineStep.{AccessesElement}
 use Rattle.scalar_domain.specs.declared.scalar.Scalar.{Scalar}
 use Rattle.scalar_domain.specs.Scalar.{Holds}
-use Rattle.typed_runs.specs.Kinds.{Kind, Blank, Mixed, Ended, Num, CtxAt, FrameAt, MapAt, ValueAt, MaybeNull, AbsState}
-use Rattle.typed_runs.specs.Describes.{Scene, Naming, HasOffset, IsOf, Describes}
-use Rattle.typed_runs.specs.Effects.{with_kind, IsWritten}
+use Rattle.typed_runs.specs.Kinds.{Kind, Blank, Num, CtxAt, MapAt, ValueAt, AbsState}
+use Rattle.typed_runs.specs.Describes.{Scene, HasOffset, IsOf, Describes}
+use Rattle.typed_runs.specs.Effects.{with_kind}
 use Rattle.typed_runs.specs.Verified.{IsEnvironment, Transfers, is_call}
 use Rattle.typed_runs.specs.Planned.{AreAlike}
 use Rattle.typed_runs.proofs.Sets.{set-described}
@@ -70,10 +70,6 @@ ctx-moved : (way : Way) (size : Size) (op : AluOp) (o : ℤ) (n : ℕ) → IsMov
 ctx-moved Forward size op o n h = ap2 (λ s p. computed s p (Pointer (Ctx o)) (Number n)) h.0 h.1
 ctx-moved Back size op o n h = ap2 (λ s p. computed s p (Pointer (Ctx o)) (Number n)) h.0 h.1
 
-frame-moved : (way : Way) (size : Size) (op : AluOp) (o : ℤ) (n : ℕ) → IsMove way size op → computed size op (Pointer (Frame o)) (Number n) ≡ Some (Pointer (Frame (o +ℤ signed_move way n)))
-frame-moved Forward size op o n h = ap2 (λ s p. computed s p (Pointer (Frame o)) (Number n)) h.0 h.1
-frame-moved Back size op o n h = ap2 (λ s p. computed s p (Pointer (Frame o)) (Number n)) h.0 h.1
-
 element-moved : (way : Way) (size : Size) (op : AluOp) (e : ℕ) (o : ℤ) (n : ℕ) → IsMove way size op → computed size op (Pointer (Elem e o)) (Number n) ≡ Some (Pointer (Elem e (o +ℤ signed_move way n)))
 element-moved Forward size op e o n h = ap2 (λ s p. computed s p (Pointer (Elem e o)) (Number n)) h.0 h.1
 element-moved Back size op e o n h = ap2 (λ s p. computed s p (Pointer (Elem e o)) (Number n)) h.0 h.1
@@ -98,33 +94,6 @@ value_moves way x map s by t e moves size op is = subst (λ k. Combines size op 
       near-offset t o there,
     ))
 
-pub frame_moves : (way : Way) (x : RegKind) (o p : ℤ) (by : Scalar) → x ≡ kinds.Frame o → IsNearOffset p → ((n : ℕ) → n < 2 ^ 64 → Holds by n → p ≡ o +ℤ signed_move way n) → (size : Size) (op : AluOp) → IsMove way size op →
-    Combines size op (kind_of x) (Num by) (FrameAt p)
-frame_moves way x o p by e close moves size op is = subst (λ k. Combines size op (kind_of k) (Num by) (FrameAt p)) (sym e) (λ c ρ v w i j near.
-    (Pointer (Frame p), ap2 (computed size op) i j.1 ∙ (frame-moved way size op o j.0 is ∙ ap (λ z. Some (Pointer (Frame z))) (sym (moves j.0 j.2 j.3))), refl, close))
-
--- a copy
-found-held : (o : Option ℕ) (w : Value) → w ≡ found_value o → held w ≡ Some w
-found-held None w e = subst (λ (v : Value). held v ≡ Some v) (sym e) refl
-found-held (Some n) w e = subst (λ (v : Value). held v ≡ Some v) (sym e) refl
-
-value-held : (v w : Value) → w ≡ v → held v ≡ Some v → held w ≡ Some w
-value-held v w e h = subst (λ (x : Value). held x ≡ Some x) (sym e) h
-
-held-is : (c : Scene) (ρ : Naming) (k : Kind) (w : Value) → IsWritten k → IsOf c ρ k w → held w ≡ Some w
-held-is c ρ Blank w h i = absurd h
-held-is c ρ Mixed w h i = absurd h
-held-is c ρ Ended w h i = absurd h
-held-is c ρ (Num s) w h i = value-held (Number i.0) w i.1 refl
-held-is c ρ (CtxAt s) w h i = value-held (Pointer (Ctx i.offset)) w i.is refl
-held-is c ρ (FrameAt o) w h i = value-held (Pointer (Frame o)) w i refl
-held-is c ρ (MapAt map) w h i = value-held (Pointer (MapRef map)) w i refl
-held-is c ρ (ValueAt map s) w h i = value-held (Pointer (Elem i.n i.offset)) w i.is refl
-held-is c ρ (MaybeNull map id) w h i = found-held (ρ id) w i.0
-
-pub copy_combines : (size : Size) (k : Kind) → size ≡ Word64 → IsWritten k → Combines size Move Blank k k
-copy_combines size k e h = subst (λ (s : Size). Combines s Move Blank k k) (sym e) (λ c ρ v w i j near. (w, held-is c ρ k w h j, j, near))
-
 pub low_combines : (size : Size) (y : RegKind) (z b r : Scalar) → size ≡ Word32 → y ≡ kinds.Num b → Holds z 0 → ((p q : ℕ) → p < 2 ^ 64 → q < 2 ^ 64 → Holds z p → Holds b q → Holds r (alu size Move p q))
     → Combines size Move Blank (kind_of y) (Num r)
 low_combines size y z b r e f zero sound =
@@ -139,12 +108,6 @@ low_combines size y z b r e f zero sound =
 near-operand : (src : Operand) (a : AbsState) (c : Scene) (m : State) → Describes a c m → IsNear (operand_value src m.regs)
 near-operand (Register r) a c m d = d.near.regs_near r
 near-operand (Immediate imm) a c m d = tt
-
-pub register_value : (a : StateHere) (src : Operand) (r : ℕ) (k : RegKind) → src ≡ Register r → kind_in a.regs r ≡ k → HasValue (state_of a) src (kind_of k)
-register_value a src r k e f = subst (λ (o : Operand). HasValue (state_of a) o (kind_of k)) (sym e) (λ c m d. reg-is (state_of a) c m r (kind_of k) d (ap kind_of f))
-
-pub immediate_value : (a : AbsState) (src : Operand) (imm : ℤ) (s : Scalar) (n : ℕ) → src ≡ Immediate imm → n ≡ immediate imm → n < 2 ^ 64 → Holds s n → HasValue a src (Num s)
-immediate_value a src imm s n e f l h = subst (λ (o : Operand). HasValue a o (Num s)) (sym e) (λ c m d. (n, ap Number (sym f), l, h))
 
 pub moves_compute : (size : Size) (op : AluOp) (dst : ℕ) (src : Operand) (a : AbsState) (y k : Kind) → op ≡ Move → HasValue a src y → Combines size Move Blank y k → Computes size op dst src a k
 moves_compute size op dst src a y k e value f = subst (λ (o : AluOp). Computes size o dst src a k) (sym e) (λ c m d. f c d.naming (m.regs dst) (operand_value src m.regs) tt (value c m d) (near-operand src a c m d))

@@ -1,5 +1,5 @@
 -- Registers that are known to be numbers are read as numbers.
-use Rattle.std.proofs.Common.{◌≡◌, ℕ, ◌+◌, ◌^◌, ◌≤◌, refl, ap, Ok, Err, ℤ, pos, arith}
+use Rattle.std.proofs.Common.{◌≡◌, ℕ, ◌+◌, ◌^◌, ◌≤◌, ap, Ok, Err, ℤ, pos, arith}
 use Rattle.std.proofs.lemmas.Int.{ints}
 use Rattle.std.specs.Prelude.{Result, IsOk, IfOk}
 use Rattle.bpf_model.specs.declared.insn.Operand.TheVariants.{Immediate}
@@ -8,7 +8,6 @@ use Rattle.scalar_domain.specs.Scalar.{Holds, IsConstant}
 use Rattle.typed_runs.specs.Describes.{HasOffset}
 use Rattle.compute_effects.specs.declared.moving.Way.{Way}
 use Rattle.typed_runs.specs.Kinds.{Num}
-use Rattle.typed_runs.specs.Effects.{IsWritten}
 use Rattle.register_kinds.specs.declared.kind.RegKind.{RegKind}
 use Rattle.register_kinds.specs.declared.kind.RegKind.TheVariants as kinds
 use Rattle.register_kinds.specs.States.{kind_of}
@@ -31,18 +30,6 @@ held_number k s e = ap held_kind (number_kind k s e)
 
 pub ok_is : (a b : RegKind) → ◌≡◌ {A = Result RegKind Fault} (Ok a) (Ok b) → a ≡ b
 ok_is a b e = cc
-
--- a kind that may be read is read as it is
-pub held_written : (k : RegKind) → IsWritten (kind_of k) → held_kind k ≡ Ok k
-held_written kinds.Unwritten w = absurd w
-held_written kinds.Ended w = absurd w
-held_written kinds.Mixed w = absurd w
-held_written (kinds.Num t) w = refl
-held_written (kinds.Ctx t) w = refl
-held_written (kinds.Frame o) w = refl
-held_written (kinds.Map m) w = refl
-held_written (kinds.Value m t) w = refl
-held_written (kinds.MaybeNull m i) w = refl
 
 pub same_immediate : (a b : ℤ) → Immediate a ≡ Immediate b → a ≡ b
 same_immediate a b e = cc

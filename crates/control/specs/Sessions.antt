@@ -67,8 +67,8 @@ SessionReplies (sessions.Live old) command events replies new =
     WorldReplies old command events replies new
 
 -- A line that says nothing is answered nothing, and a command by the text of its replies.
-abbrev pub AnswersCommand : Result (Option Command) BadLine → Session → List Event → List ℕ → Session →
-    Type 0
+abbrev pub AnswersCommand : Result (Option Command) BadLine → Session → List Event → List ℕ →
+    Session → Type 0
 AnswersCommand (Ok None) old events text new = (events ≡ []) × (text ≡ []) × (new ≡ old)
 AnswersCommand (Ok (Some command)) old events text new =
     (replies : List Reply) × SessionReplies old command events replies new

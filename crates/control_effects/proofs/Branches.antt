@@ -18,14 +18,13 @@ use Rattle.bpf_model.specs.Step.{State, Environment, Moves, Exits, forward, jump
 use Rattle.scalar_domain.specs.declared.scalar.Scalar.{Scalar}
 use Rattle.scalar_domain.specs.Scalar.{Holds}
 use Rattle.typed_runs.specs.Kinds.{Kind, Num, ValueAt, AbsState}
-use Rattle.typed_runs.specs.Describes.{Scene, IsOf, Describes, depth_of}
+use Rattle.typed_runs.specs.Describes.{Scene, Describes, depth_of}
 use Rattle.typed_runs.specs.Effects.{with_kind}
 use Rattle.typed_runs.specs.Verified.{ActsAlone, Transfers}
 use Rattle.typed_runs.specs.Planned.{AreAlike}
 use Rattle.typed_runs.proofs.Sets.{placed-described}
 use Rattle.typed_runs.proofs.Arguments.{reg-is}
 use Rattle.typed_runs.proofs.Local.{alone_transfers}
-use Rattle.typed_runs.proofs.Planning.{alike_wider}
 use Rattle.register_kinds.specs.declared.kind.RegKind.{RegKind}
 use Rattle.register_kinds.specs.declared.kind.RegKind.TheVariants as kinds
 use Rattle.register_kinds.specs.declared.state.AbsState.{AbsState as StateHere}
@@ -33,30 +32,6 @@ use Rattle.register_kinds.specs.States.{kind_of, kind_in, state_of}
 use Rattle.compute_effects.specs.Computes.{HasValue}
 use Rattle.kind_tests.specs.Forks.{Forks, ForksOnNull}
 use Rattle.control_effects.specs.Narrowing.{ComparesNumbers, Narrows, AreNarrowed}
-
--- a register of which more is known
-known-more : (a : AbsState) (c : Scene) (m : State) (r : ℕ) (k : Kind) (d : Describes a c m) → IsOf c d.naming k (m.regs r) → Describes (with_kind r k a) c m
-known-more a c m r k d h = record {
-  naming = d.naming;
-  stored = d.stored;
-  inside = d.inside;
-  near = d.near;
-  regs = λ q. elim (cases_eq q r) [
-    | inl e ↦ subst (λ b. IsOf c d.naming (if b then k else a.regs q) (m.regs q)) (sym (eq-eqb q r e)) (subst (λ i. IsOf c d.naming k (m.regs i)) (sym e) h)
-    | inr n ↦ subst (λ b. IsOf c d.naming (if b then k else a.regs q) (m.regs q)) (sym (ne_eqb q r n)) (d.regs q)
-  ];
-  cells = d.cells;
-}
-
-pub narrows_one : (dst : ℕ) (src : Operand) (x y : Scalar) (a b : StateHere) → AreAlike (with_kind dst (Num x) (state_of a)) (state_of b) → Narrows dst src x y (state_of a) (state_of b)
-narrows_one dst src x y a b e c m d p q = alike_wider (with_kind dst (Num x) (state_of a)) (state_of b) e c m (known-more (state_of a) c m dst (Num x) d p)
-
-pub narrows_both : (dst r : ℕ) (src : Operand) (x y : Scalar) (a b t : StateHere) → src ≡ Register r → AreAlike (with_kind r (Num y) (state_of a)) (state_of b) → AreAlike (with_kind dst (Num x) (state_of b)) (state_of t)
-    → Narrows dst src x y (state_of a) (state_of t)
-narrows_both dst r src x y a b t is e f c m d p q =
-    let held = subst (λ (o : Operand). IsOf c d.naming (Num y) (operand_value o m.regs)) is q in
-    let first = alike_wider (with_kind r (Num y) (state_of a)) (state_of b) e c m (known-more (state_of a) c m r (Num y) d held) in
-    alike_wider (with_kind dst (Num x) (state_of b)) (state_of t) f c m (known-more (state_of b) c m dst (Num x) first p)
 
 -- what is set, and what stays
 pub set-there : (r q : ℕ) (k : Kind) (a b : AbsState) → AreAlike (with_kind r k a) b → q ≡ r → b.regs q ≡ k

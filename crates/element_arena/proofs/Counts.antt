@@ -1,17 +1,11 @@
 -- How often a slot stands in a list.
 use Rattle.std.proofs.Common.{◌≡◌, ◌≢◌, ◌∙◌, ℕ, zero, suc, ◌+◌, ◌<◌, ◌≤◌, List, [], ◌∷◌, ◌++◌, length, Option, Some, None, ◌⊎◌, inl, inr, refl, sym, ap, arith, cond, eqb, subst}
 use Rattle.std.proofs.lemmas.Bool.{cond-true, cond-false, eq-eqb, eqb-true, eqb-false, false_from_ne_true, cases_Bool}
-use Rattle.std.proofs.lemmas.List.Sums.{sum_by-cons}
-use Rattle.bpf_model.specs.Refines as refines
 use Rattle.element_arena.specs.State.{times_in}
 
 pub option_cases : {A : Type 0} (o : Option A) → (o ≡ None) ⊎ ((x : A) × (o ≡ Some x))
 option_cases None = inl refl
 option_cases (Some x) = inr (x, refl)
-
-pub list_cases : (xs : List ℕ) → (xs ≡ []) ⊎ ((x : ℕ) × (ys : List ℕ) × (xs ≡ x ∷ ys))
-list_cases [] = inl refl
-list_cases (x ∷ ys) = inr (x, ys, refl)
 
 -- two slots are one, or they are not
 pub one_cases : (x n : ℕ) → ((x ≡ n) × (cond {A = ℕ} (eqb x n) 1 0 ≡ 1)) ⊎ ((x ≢ n) × (cond {A = ℕ} (eqb x n) 1 0 ≡ 0))
@@ -32,11 +26,6 @@ times-append n (x ∷ xs) ys = omega (arith, times-append n xs ys)
 
 pub times_first : (x : ℕ) (xs : List ℕ) → 0 < times_in x (x ∷ xs)
 times_first x xs = omega (arith, one_same x)
-
--- what stands in no place stands nowhere
-pub none_empty : (xs : List ℕ) → ((j : ℕ) → times_in j xs ≡ 0) → xs ≡ []
-none_empty [] h = refl
-none_empty (x ∷ xs) h = let t : 0 < times_in x (x ∷ xs) = times_first x xs in let z : times_in x (x ∷ xs) ≡ 0 = h x in absurd (omega arith)
 
 abbrev pub without : ℕ → List ℕ → List ℕ
 without k [] = []
@@ -91,7 +80,7 @@ length_once (suc n) xs once inside =
     let o : times_in n xs ≤ 1 = once n in
     omega (arith, without-length n xs)
 
--- the same, for a slot more
+-- numbers below n that stand once each, without x below n, are fewer than n
 pub length_room : (n : ℕ) (xs : List ℕ) (x : ℕ) → ((i : ℕ) → times_in i xs ≤ 1) → ((i : ℕ) → 0 < times_in i xs → i < n) → times_in x xs ≡ 0 → x < n → length xs < n
 length_room n xs x once inside new within =
     let l : length (x ∷ xs) ≤ n = length_once n (x ∷ xs) (λ i. elim (one_cases x i) [
@@ -101,8 +90,3 @@ length_room n xs x once inside new within =
       | inl y ↦ subst (λ j. j < n) y.0 within
       | inr ne ↦ let c : cond {A = ℕ} (eqb x i) 1 0 ≡ 0 = ne.1 in inside i (omega arith)
     ]) in omega arith
-
--- the count is that of the machine's words
-pub times-is : (n : ℕ) (xs : List ℕ) → times_in n xs ≡ refines.times n xs
-times-is n [] = refl
-times-is n (x ∷ xs) = ap (λ k. cond {A = ℕ} (eqb x n) 1 0 + k) (times-is n xs) ∙ sym (sum_by-cons (λ y. cond (eqb y n) 1 0) x xs)

@@ -11,10 +11,6 @@ walk-thread next o [] (suc n) t l = ap (walk (suc n) next) t
 walk-thread next o (x ∷ xs) zero t l = absurd (omega arith)
 walk-thread next o (x ∷ xs) (suc n) t l = ap (walk (suc n) next) t.0 ∙ ap (λ ys. x ∷ ys) (walk-thread next (next x) xs n t.1 (omega arith))
 
--- the thread of a walk that ends is what the walk goes through
-pub thread-walked : (next : ℕ → Option ℕ) (o : Option ℕ) (xs : List ℕ) (n : ℕ) → IsThread next o xs → length xs ≤ n → IsThread next o (walk n next o)
-thread-walked next o xs n t l = subst (IsThread next o) (sym (walk-thread next o xs n t l)) t
-
 pub thread-agree : (f g : ℕ → Option ℕ) (o : Option ℕ) (xs : List ℕ) → ((j : ℕ) → 0 < times_in j xs → g j ≡ f j) → IsThread f o xs → IsThread g o xs
 thread-agree f g o [] h t = t
 thread-agree f g o (x ∷ xs) h t =
@@ -50,10 +46,6 @@ last-append [] ys l h = h
 last-append (x ∷ []) [] l h = absurd (none-some l h)
 last-append (x ∷ []) (y ∷ ys) l h = h
 last-append (x ∷ (z ∷ xs)) ys l h = last-append (z ∷ xs) ys l h
-
-pub last-rest : (x : ℕ) (xs : List ℕ) (y : ℕ) → 0 < times_in y xs → last_slot_of (x ∷ xs) ≡ last_slot_of xs
-last-rest x [] y h = absurd (omega arith)
-last-rest x (z ∷ xs) y h = refl
 
 -- the last slot of one thread is linked to the first of another
 pub thread-join : (f g : ℕ → Option ℕ) (o p : Option ℕ) (xs ys : List ℕ) (l : ℕ) →

@@ -202,7 +202,7 @@ module _ (heads : List (Option ℕ)) (a : ArenaState) (ls : List (Option ℕ)) (
         };
       }
 
--- the same, of an arena that is the old one but for its links
+-- the slot joins its bucket's chain, in an arena that is the old one but for its links
 pub linked_in : (heads : List (Option ℕ)) (a b : ArenaState) (k : ℕ) (o : Option ℕ) (slot : ℕ) → HeadsFit heads a → slice_get heads k ≡ Some o → k ≡ bucket_of (length heads) (key_at a.slots slot) → IsTaken a slot → get (contents_of (key_at a.slots) (chained_slots heads a)) (key_at a.slots slot) ≡ None →
     b ≡ with_link a slot o → link_at b.links slot ≡ o → Linked heads (slice_set heads k (Some slot)) a b slot
 linked_in heads a b k o slot f h at t absent new here =

@@ -12,7 +12,7 @@ use Rattle.element_arena.specs.State.{ArenaState, key_at}
 use Rattle.element_arena.proofs.Indexing.{same_key, same_key-true, get_at-insert, get_at-remove}
 use Rattle.hash_index.specs.declared.commands.Command.{Command}
 use Rattle.hash_index.specs.declared.commands.Command.TheVariants.{Link, Find, Unlink, Above}
-use Rattle.hash_index.specs.Replies.{IsReadyCommand, IsKeyed, reply_of, after_command, replies}
+use Rattle.hash_index.specs.Replies.{IsKeyed, reply_of, after_command, replies}
 
 pub remove_absent : (m : FinMap (slice_cmp nat_cmp) ℕ) (k : List ℕ) → get m k ≡ None → remove m k ≡ m
 remove_absent m k h = same_map nat_list_cmp_total exact_bytes _ _ (λ q. get_at-remove m k q ∙ elim (cases_Bool (same_key q k)) [
@@ -42,16 +42,6 @@ keyed_step key was m n command same step h = subst (IsKeyed key) (sym (step ∙ 
 
 pub keyed_empty : (key : ℕ → List ℕ) → IsKeyed key empty
 keyed_empty key k i g = absurd (none-some i (sym (get-empty (slice_cmp nat_cmp) k) ∙ g))
-
-ready_with : (a : ArenaState) (ls : List (Option ℕ)) (command : Command) → IsReadyCommand a command → IsReadyCommand (record a { links = ls }) command
-ready_with a ls (Link i) h = record { inside = h.inside; not_free = h.not_free; not_worn = h.not_worn }
-ready_with a ls (Find k) h = h
-ready_with a ls (Unlink k) h = h
-ready_with a ls (Above bound) h = h
-
--- links alone have changed
-pub ready_still : (a b : ArenaState) (command : Command) → b ≡ record a { links = b.links } → IsReadyCommand a command → IsReadyCommand b command
-ready_still a b command e h = subst (λ z. IsReadyCommand z command) (sym e) (ready_with a b.links command h)
 
 pub keys_still : (a b : ArenaState) → b ≡ record a { links = b.links } → key_at b.slots ≡ key_at a.slots
 keys_still a b e = ap (λ (z : ArenaState). key_at z.slots) e

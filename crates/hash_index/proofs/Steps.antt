@@ -109,19 +109,6 @@ before_in chain last slot p =
     let count : (j : ℕ) → times_in j chain ≡ times_in j (p.front ++ last ∷ slot ∷ p.back) = λ j. ap (times_in j) p.split in
     (omega (arith, count last, times-append last p.front (last ∷ slot ∷ p.back), one_same last), omega (arith, count slot, times-append slot p.front (last ∷ slot ∷ p.back), one_same slot))
 
-pub cut_first : (a : ArenaState) (first slot : ℕ) (r : Option ℕ) → IsChain a (Some first) → first ≡ slot → r ≡ link_at a.links slot → IsCut a a (Some first) slot r
-cut_first a first slot r c e next =
-    let s = chain_step a first c in
-    let at : r ≡ link_at a.links first = next ∙ ap (link_at a.links) (sym e) in
-    record {
-      rest = refl;
-      others = λ j h. refl;
-      left = chain_of a (link_at a.links first);
-      thread = subst (λ o. IsThread (link_at a.links) o (chain_of a (link_at a.links first))) (sym at) s.1.thread;
-      fewer = λ j. let count : times_in j (chain_of a (Some first)) ≡ cond {A = ℕ} (eqb first j) 1 0 + times_in j (chain_of a (link_at a.links first)) = ap (times_in j) s.0 in
-          let c1 : cond {A = ℕ} (eqb first j) 1 0 ≡ cond {A = ℕ} (eqb slot j) 1 0 = ap (λ z. cond {A = ℕ} (eqb z j) 1 0) e in omega arith;
-    }
-
 pub cut_after : (a b : ArenaState) (first last slot : ℕ) (r : Option ℕ) → IsChain a (Some first) → ((j : ℕ) → times_in j (chain_of a (Some first)) ≤ 1) → IsBefore (chain_of a (Some first)) last slot → r ≡ link_at a.links slot → b ≡ with_link a last r → link_at b.links last ≡ r →
     IsCut a b (Some first) slot (Some first)
 cut_after a b first last slot r c once p next new linked =

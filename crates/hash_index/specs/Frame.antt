@@ -21,7 +21,7 @@ entries-agree f g (s ∷ slots) h =
     ap (λ (k : List ℕ). (k, s) ∷ entries_of g slots) (h s (times_first s slots))
     ∙ ap (λ es. (f s, s) ∷ es) (entries-agree f g slots (λ j p. h j (omega arith)))
 
--- the same, with the length of the slots a number of its own
+-- heads fit an arena with the same keys and links at their slots, where both have n slots
 framed : (heads : List (Option ℕ)) (a b : ArenaState) (n : ℕ) → length a.slots ≡ n →
     length b.slots ≡ n → HeadsFit heads a →
     ((j : ℕ) → 0 < times_in j (chained_slots heads a) → key_at b.slots j ≡ key_at a.slots j) →
@@ -58,7 +58,8 @@ framed heads a b n la lb f key link taken =
         once = λ j. subst (λ xs. times_in j xs ≤ 1) (sym all) (f.once j);
         taken = λ j h. taken j (subst (λ xs. 0 < times_in j xs) all h);
         unique = λ i j hi hj e. let pi : 0 < times_in i (chained_slots heads a) =
-            subst (λ xs. 0 < times_in i xs) all hi in let pj : 0 < times_in j (chained_slots heads a) =
+            subst (λ xs. 0 < times_in i xs) all hi in
+            let pj : 0 < times_in j (chained_slots heads a) =
             subst (λ xs. 0 < times_in j xs) all hj in
             f.unique i j pi pj (sym (key i pi) ∙ (e ∙ key j pj));
       },
@@ -67,7 +68,8 @@ framed heads a b n la lb f key link taken =
 
 pub own-times : (x : Buckets) (a : ArenaState) (j : ℕ) → BucketsFits x a →
     indexed (contents_in x a) a.slots j ≡ times_in j (chained_slots x.heads.items a)
-own-times x a j f = indexed-times (key_at a.slots) (chained_slots x.heads.items a) j f.unique (f.once j)
+own-times x a j f =
+    indexed-times (key_at a.slots) (chained_slots x.heads.items a) j f.unique (f.once j)
 
 pub buckets-frame : (x : Buckets) (a b : ArenaState) → BucketsFits x a →
     SameAt (indexed (contents_in x a) a.slots) a b →

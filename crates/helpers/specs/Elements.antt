@@ -21,7 +21,8 @@ pub record IsElementReached (maps : List MapView) (width map slot : ℕ) (offset
 
 -- The access, at an offset from the location, reaches the value of an element.
 abbrev pub ReachesElement : List MapView → ℕ → ℤ → Location → Type 0
-ReachesElement maps width offset (InSlot map slot o) = IsElementReached maps width map slot (o +ℤ offset)
+ReachesElement maps width offset (InSlot map slot o) =
+    IsElementReached maps width map slot (o +ℤ offset)
 ReachesElement maps width offset l = ⊥
 
 -- the number that it finds

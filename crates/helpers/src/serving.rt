@@ -10,7 +10,7 @@ use grace_period::Grace;
 use machine::{Access, Run};
 use maps::Registry;
 
-/// Serves what the run in a slot asks, and answers the word with which it goes on. `bound` has
+/// Serves what the run in a run slot asks, and answers the word with which it goes on. `bound` has
 /// the numbers of its program's maps.
 ///
 /// A load answers the number that it finds, and a helper the word for r0. A store, a lock and

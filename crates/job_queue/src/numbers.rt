@@ -70,11 +70,13 @@ impl Lesson<u64, PassView> for Takes {
     ghost fact = { λ v numbers. Unit {0} };
 }
 
+/// The queue of job numbers, under the rule that none is handed out twice.
 pub type NumberQueue = RuledArrayQueue<u64, PassView, Once>;
 
+/// What one user of the queue has put in and taken.
 pub type NumberPass = Pass<u64, PassView>;
 
-// Puts in the numbers below `count`. Whether all went in, as they do where there is room.
+/// Puts in the numbers below `count`. Whether all went in, as they do where there is room.
 pub fn fill<R: Wait>(rt: &R, queue: &NumberQueue, pass: &mut NumberPass, count: usize) -> bool
     requires pass { IsPassOf queue.now pass.old × (view pass.old ≡ pass_view true 0 []) }
     ensures pass { IsPassOf queue.now pass.new }

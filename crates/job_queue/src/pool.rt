@@ -22,7 +22,7 @@ pub const MAX_WORKERS: usize = 8;
 /// The most jobs of a pool.
 pub const MAX_JOBS: usize = 65_536;
 
-// What a pool takes before it serves the first job.
+/// What a pool takes before it serves the first job.
 #[derive(Drop)]
 struct Prepared<T> {
     queue: NumberQueue,
@@ -31,12 +31,12 @@ struct Prepared<T> {
     results: Vec<T>,
 }
 
-// A law: a worker that has served nothing is later than itself.
+/// A law: a worker that has served nothing is later than itself.
 fn unchanged<S: Serve>(workers: &[S::Worker])
     ensures { AllZip S.later workers.now workers.now }
 {}
 
-// A station for each of the last workers, from `first` on, in order.
+/// A station for each of the last workers, from `first` on, in order.
 fn man<S: Serve>(
     alloc: Global,
     queue: &NumberQueue,
@@ -70,8 +70,8 @@ fn man<S: Serve>(
     Ok(stations)
 }
 
-// Serves all jobs by the stations, adds their workers to the others, and brings the results onto the sheet.
-// Whether some thread was short of memory.
+/// Serves all jobs by the stations, adds their workers to the others, and brings the results onto the sheet.
+/// Whether some thread was short of memory.
 fn employ<S: Serve + Sync, R: Threads + Wait + Sync>(
     rt: &R,
     queue: &NumberQueue,
@@ -98,7 +98,7 @@ fn employ<S: Serve + Sync, R: Threads + Wait + Sync>(
     gather(stations, workers, sheet)
 }
 
-// Takes all memory but that of the threads, and puts the jobs' numbers into a queue.
+/// Takes all memory but that of the threads, and puts the jobs' numbers into a queue.
 fn prepare<T: Drop, R: Wait>(rt: &R, alloc: Global, count: usize) -> Result<Prepared<T>, PoolFault>
     requires some { 0 < count }
     ensures pass { IfOk result (λ p. IsPassOf p.queue p.pass) }
@@ -130,7 +130,7 @@ fn prepare<T: Drop, R: Wait>(rt: &R, alloc: Global, count: usize) -> Result<Prep
     })
 }
 
-// Serves all jobs, of which there is one at least, by the workers from `first` on.
+/// Serves all jobs, of which there is one at least, by the workers from `first` on.
 fn serve_each<S: Serve + Sync, R: Threads + Wait + Sync>(
     rt: &R,
     alloc: Global,

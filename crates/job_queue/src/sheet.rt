@@ -16,6 +16,7 @@ pub struct Sheet<T> {
 }
 
 impl<T: Drop> Sheet<T> {
+    /// So many empty lines. Fails where memory runs out.
     pub fn blank(alloc: Global, count: usize) -> Result<Sheet<T>, AllocError>
         ensures count { IfOk result (λ s. vec_len s.lines ≡ count) }
         ensures blank { IfOk result (λ s. IsBlank s.lines.items) }
@@ -31,7 +32,7 @@ impl<T: Drop> Sheet<T> {
         })
     }
 
-    // Puts a result on its line. A double, or one of no job, spoils the sheet.
+    /// Puts a result on its line. A double, or one of no job, spoils the sheet.
     fn put(&mut self, one: Numbered<T>)
         ensures count { vec_len self.new.lines ≡ vec_len self.old.lines }
         ensures lines { (k : ℕ) (served : T)
@@ -55,7 +56,7 @@ impl<T: Drop> Sheet<T> {
         }
     }
 
-    // Puts all results of a station on their lines.
+    /// Puts all results of a station on their lines.
     fn enter(&mut self, results: Vec<Numbered<T>>)
         ensures count { vec_len self.new.lines ≡ vec_len self.old.lines }
         ensures lines { (k : ℕ) (served : T)

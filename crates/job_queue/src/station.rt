@@ -26,7 +26,7 @@ pub struct Station<W, T> {
     pub short: bool,
 }
 
-// Serves jobs until none is left or memory runs out.
+/// Serves jobs until none is left or memory runs out.
 fn work<S: Serve, R: Wait>(
     rt: &R,
     queue: &NumberQueue,

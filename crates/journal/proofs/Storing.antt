@@ -3,6 +3,7 @@ use Rattle.std.proofs.Common.{◌≡◌, ◌∙◌, ℕ, zero, suc, ◌+◌, ◌
 use Rattle.std.specs.Prelude.{slice_get}
 use Rattle.std.proofs.lemmas.List.{append_assoc, append-nil, drop_at, take_at, drop-append-le, take-append-le, length-append, length-drop, map_push}
 use Rattle.std.proofs.lemmas.Option.{none-some, same_Some}
+use Rattle.bpf_model.specs.declared.limits.TheConstants.{KEY_BYTES, VALUE_BYTES}
 use Rattle.arrayvec.specs.ArrayVec.{ArrayVec}
 use Rattle.bpf_model.specs.declared.event.Event.TheVariants as events
 use Rattle.bpf_model.specs.declared.event.Answer.{Answer}
@@ -41,7 +42,7 @@ two-strings key value rest =
     let b : length (key ++ value) ≡ length key + length value = length-append key value in
     omega (arith, a, b)
 
-pub updated-row : (worker start map flags k l : ℕ) (key value : ArrayVec ℕ) (answer : Answer) (outcome : Outcome) → answer_of outcome ≡ answer → k ≡ length key.items → l ≡ length value.items → k ≤ 64 → l ≤ 256 →
+pub updated-row : (worker start map flags k l : ℕ) (key value : ArrayVec ℕ) (answer : Answer) (outcome : Outcome) → answer_of outcome ≡ answer → k ≡ length key.items → l ≡ length value.items → k ≤ KEY_BYTES → l ≤ VALUE_BYTES →
     IsRowOf start (entry_from worker (events.Update map key value flags) answer) (rows.Updated worker outcome k l map flags start)
 updated-row worker start map flags k l key value answer outcome same ks ls short_key short_value = record {
   same = λ before at.
@@ -56,7 +57,7 @@ updated-row worker start map flags k l key value answer outcome same ks ls short
   stored = let n = two-strings key.items value.items (answer_bytes answer) in (omega (arith, n, ks, ls), short_key, short_value);
 }
 
-pub found-row : (worker start map k l : ℕ) (key value : ArrayVec ℕ) → k ≡ length key.items → l ≡ length value.items → k ≤ 64 → l ≤ 256 →
+pub found-row : (worker start map k l : ℕ) (key value : ArrayVec ℕ) → k ≡ length key.items → l ≡ length value.items → k ≤ KEY_BYTES → l ≤ VALUE_BYTES →
     IsRowOf start (entry_from worker (events.Read map key) (answers.Found (Some value))) (rows.Found worker k l map start)
 found-row worker start map k l key value ks ls short_key short_value = record {
   same = λ before at.

@@ -15,7 +15,7 @@ pub record JournalView : Type 0 where
   pub limit : ℕ
   pub has_room : Bool
 
--- The same entries, and there is room for one more.
+-- the journal with its entries and limit, and with room for one more entry
 abbrev pub with_room : JournalView → JournalView
 with_room j = record { entries = j.entries; limit = j.limit; has_room = true }
 

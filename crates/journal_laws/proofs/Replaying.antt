@@ -3,6 +3,7 @@ use Rattle.std.proofs.Common.{◌≡◌, ◌∙◌, ℕ, zero, suc, ◌≤◌, L
 use Rattle.std.specs.Prelude.{slice_get}
 use Rattle.std.proofs.lemmas.List.{map_push, length-map}
 use Rattle.std.proofs.lemmas.Option.{none-some, same_Some}
+use Rattle.bpf_model.specs.declared.limits.TheConstants.{MAX_JOURNAL}
 use Rattle.bpf_model.specs.declared.event.Event.{Event}
 use Rattle.bpf_model.specs.declared.event.Answer.{Answer}
 use Rattle.bpf_model.specs.Element.{Element}
@@ -83,7 +84,7 @@ same-answers : (entries : List Entry) → map (λ (e : machine.JournalEntry). e.
 same-answers [] = refl
 same-answers (e ∷ entries) = ap (λ (xs : List Answer). e.answer ∷ xs) (same-answers entries)
 
-pub replays_on_machine : (base world : WorldView) (entries : List Entry) → Replays base world entries → length entries ≤ 16777216 → (m : Machine) → Tracks base m → (last : Machine) × machine.ReplaysOnMachine m (map machine_entry entries) last × Tracks world last
+pub replays_on_machine : (base world : WorldView) (entries : List Entry) → Replays base world entries → length entries ≤ MAX_JOURNAL → (m : Machine) → Tracks base m → (last : Machine) × machine.ReplaysOnMachine m (map machine_entry entries) last × Tracks world last
 replays_on_machine base world entries h short m t =
     let run = answers_machine base (events_of entries) h.base_is.ready h.real m t in
     let last = last_machine m run.0 in

@@ -26,8 +26,8 @@ ever_unlinked m = count_by (λ e. not (is_linked e.life)) m.store.elements
 abbrev pub ever_reclaimed : Machine → ℕ
 ever_reclaimed m = count_by (λ e. is_reclaimed e.life) m.store.elements
 
--- The same of a world, which keeps no reclaimed element: those that it reclaimed, and those that
--- wait.
+-- How many elements were ever reclaimed, and ever unlinked, as a world knows it, which keeps no
+-- reclaimed element: those that it reclaimed, and those that wait.
 abbrev pub reclaimed_total : WorldView → ℕ
 reclaimed_total w = w.given
 

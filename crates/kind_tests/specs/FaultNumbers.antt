@@ -11,21 +11,21 @@ use Rattle.kind_tests.specs.declared.fault.Fault.TheVariants.{OutsideSection, Un
 use Rattle.kind_tests.specs.declared.fault.Fault.TheVariants.{UnknownCall, WrongArgument, NoSuchMap}
 use Rattle.kind_tests.specs.declared.fault.Fault.TheVariants.{ContextWrite, Memory}
 
-abbrev pub fault_number : Fault → ℕ
-fault_number UnwrittenRegister = 23
-fault_number FramePointerWritten = 24
-fault_number PointerArithmetic = 25
-fault_number NotAPointer = 26
-fault_number OutOfBounds = 27
-fault_number Misaligned = 28
-fault_number UnwrittenFrame = 29
-fault_number PointerLeak = 30
-fault_number MixedRegions = 31
-fault_number MaybeNull = 32
-fault_number OutsideSection = 33
-fault_number UnpairedSection = 34
-fault_number UnknownCall = 35
-fault_number WrongArgument = 36
-fault_number NoSuchMap = 37
-fault_number ContextWrite = 39
-fault_number Memory = 13
+abbrev pub insn_fault_number : Fault → ℕ
+insn_fault_number UnwrittenRegister = 23
+insn_fault_number FramePointerWritten = 24
+insn_fault_number PointerArithmetic = 25
+insn_fault_number NotAPointer = 26
+insn_fault_number OutOfBounds = 27
+insn_fault_number Misaligned = 28
+insn_fault_number UnwrittenFrame = 29
+insn_fault_number PointerLeak = 30
+insn_fault_number MixedRegions = 31
+insn_fault_number MaybeNull = 32
+insn_fault_number OutsideSection = 33
+insn_fault_number UnpairedSection = 34
+insn_fault_number UnknownCall = 35
+insn_fault_number WrongArgument = 36
+insn_fault_number NoSuchMap = 37
+insn_fault_number ContextWrite = 39
+insn_fault_number Memory = 13

@@ -20,7 +20,7 @@ Forks condition size dst src old new taken =
     Transfers (JumpIf condition size dst src (pos n)) shapes ctx_len (state_of old) (state_of new)
     (Some (state_of taken))
 
--- the same of a comparison with the number 0
+-- both edges of a comparison of 64 bits with the number 0
 abbrev pub ForksOnNull : Bool → ℕ → AbsState → AbsState → AbsState → Type 0
 ForksOnNull equal dst old new taken =
     Forks (if equal then Equal else NotEqual) Word64 dst (Immediate (pos 0)) old new taken

@@ -44,11 +44,11 @@ pub enum Fault {
 }
 
 impl Fault {
-    ghost use Rattle.kind_tests.specs.FaultNumbers.{fault_number};
+    ghost use Rattle.kind_tests.specs.FaultNumbers.{insn_fault_number};
 
     /// The number by which the fault is known, 23 to 39, or 13 for want of memory.
     pub fn code(self) -> u8
-        ensures { result ≡ fault_number self }
+        ensures { result ≡ insn_fault_number self }
     {
         match self {
             Fault::UnwrittenRegister => 23,

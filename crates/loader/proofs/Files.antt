@@ -135,9 +135,6 @@ stage_begins Context lines c h = subst IsFileBeginning (sym h.0) none_begins
 stage_begins Maps lines c h = (code_line ∷ [], record { context = c.context; registry = c.registry; code = [] }, maps_begin lines c.context c.registry h.0)
 stage_begins Code lines c h = file_begins lines c h
 
-pub context_taken : (lines : List (List ℕ)) (line : List ℕ) (n : ℕ) (r : RegistryView) → lines ≡ [] → r ≡ no_maps → IsContextLine line n → AreMapsSoFar (lines ++ line ∷ []) n r
-context_taken lines line n r e f h = record { first = line; map_lines = []; parts = ap (λ ls. ls ++ line ∷ []) e; context_is = h; maps = f }
-
 pub context_wrong : (lines : List (List ℕ)) (line : List ℕ) → lines ≡ [] → ((n : ℕ) → ¬ (IsContextLine line n)) → ¬ (IsFileBeginning (lines ++ line ∷ []))
 context_wrong lines line e wrong b =
     let h = b.2 in

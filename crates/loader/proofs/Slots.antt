@@ -20,30 +20,9 @@ pub record HasSlots (line : List ℕ) (left : List (List ℕ)) (old new : List �
   pub slots : code_slots (file_words line) ≡ both_parts (Some bytes) (code_slots left)
   pub code : new ≡ old ++ bytes
 
-joined_nil : (x : Option (List ℕ)) → x ≡ both_parts (Some []) x
-joined_nil None = refl
-joined_nil (Some bytes) = refl
-
-pub no_slots : (line : List ℕ) (left : List (List ℕ)) (code : List ℕ) → left ≡ file_words line → HasSlots line left code code
-no_slots line left code e = record { bytes = []; slots = joined_nil (code_slots (file_words line)) ∙ ap (λ ws. both_parts (Some []) (code_slots ws)) (sym e); code = sym (append-nil code) }
-
 joined_more : (front bytes : List ℕ) (x : Option (List ℕ)) → both_parts (Some front) (both_parts (Some bytes) x) ≡ both_parts (Some (front ++ bytes)) x
 joined_more front bytes None = refl
 joined_more front bytes (Some back) = ap Some (sym (append_assoc front bytes back))
-
-pub more_slots : (line word : List ℕ) (left rest : List (List ℕ)) (old code new bytes : List ℕ) → HasSlots line left old code → left ≡ word ∷ rest → slot_in word ≡ Some bytes → new ≡ code ++ bytes → HasSlots line rest old new
-more_slots line word left rest old code new bytes h e is added = record {
-  bytes = h.bytes ++ bytes;
-  slots = h.slots ∙ ap (λ ws. both_parts (Some h.bytes) (code_slots ws)) e ∙ ap (λ s. both_parts (Some h.bytes) (both_parts s (code_slots rest))) is ∙ joined_more h.bytes bytes (code_slots rest);
-  code = added ∙ ap (λ c. c ++ bytes) h.code ∙ append_assoc old h.bytes bytes;
-}
-
-pub all_slots : (line : List ℕ) (left : List (List ℕ)) (old new : List ℕ) → HasSlots line left old new → left ≡ [] → (bytes : List ℕ) × (code_slots (file_words line) ≡ Some bytes) × (new ≡ old ++ bytes)
-all_slots line left old new h e = (h.bytes, h.slots ∙ ap (λ ws. both_parts (Some h.bytes) (code_slots ws)) e ∙ ap Some (append-nil h.bytes), h.code)
-
-pub wrong_slot : (line word : List ℕ) (left rest : List (List ℕ)) (old code : List ℕ) → HasSlots line left old code → left ≡ word ∷ rest → slot_in word ≡ None → code_slots (file_words line) ≡ None
-wrong_slot line word left rest old code h e is =
-    h.slots ∙ ap (λ ws. both_parts (Some h.bytes) (code_slots ws)) e ∙ ap (λ s. both_parts (Some h.bytes) (both_parts s (code_slots rest))) is
 
 -- a registry takes no such map
 

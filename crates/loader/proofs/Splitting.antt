@@ -21,9 +21,6 @@ no_byte_more at bytes i inside h other =
 abbrev pub is_space : ℕ → Bool
 is_space b = b == 32
 
-same_test : (at : ℕ) → (at == at) ≡ true
-same_test at = grind (arith, nat_tests)
-
 -- words
 
 pub one_word : (line : List ℕ) → HasNoByte 32 line → file_words line ≡ line ∷ []

@@ -24,9 +24,6 @@ pub record IsReadTo (text rest : List ℕ) (loading : Loading) (number : ℕ) : 
   pub number_is : number ≡ length front + 2
   pub room : number + length rest ≤ length text + 2
 
-pub none_read : (text : List ℕ) (loading : Loading) → HasLoaded [] loading → IsReadTo text text loading 2
-none_read text loading h = record { front = []; lines = refl; loaded = h; number_is = refl; room = omega arith }
-
 -- the first line of a text that is not empty, and the lines of what is behind it
 
 rest_of : Option (Bor (List ℕ)) → List ℕ
@@ -98,13 +95,6 @@ pub only_content : (bytes : List ℕ) (c : FileContent) (r : Result ProgramFile 
 only_content bytes c (Ok f) found fault says = one_says bytes (loaded_content f) c found says
 only_content bytes c (Err (BadFile n)) found fault says = absurd (not_both bytes n c fault says)
 only_content bytes c (Err Memory) found fault says = refl
-
-pub says_limit : (bytes : List ℕ) (c : FileContent) → FileSays bytes c → c.context ≤ CTX_BYTES
-says_limit bytes c (inl h) = h.2.context.limit
-says_limit bytes c (inr h) = let e : c.context ≡ 0 = ap (λ (d : FileContent). d.context) h.1 in omega arith
-
-pub context_limit : (lines : List (List ℕ)) (c : FileContent) → IsProgramFile lines c → c.context ≤ CTX_BYTES
-context_limit lines c h = h.context.limit
 
 pub empty_is : (xs : List ℕ) (r : Bool) → r ≡ (length xs == 0) → not r ≡ false → xs ≡ []
 empty_is [] r e h = refl

@@ -47,7 +47,6 @@ use Rattle.lone_runs.specs.Lone.{StandsAlone, loaded_alone}
 use Rattle.lone_runs.proofs.Alone.{StepsAnywhere, steps_anywhere}
 use Rattle.model_laws.proofs.Alone.{acts-own, helper-own}
 use Rattle.bpf_model.proofs.Lists.{get-set_there}
-use Rattle.model_laws.proofs.Exits.{moved≢exited}
 
 set-there : (runs : List (Option Run)) (old : Run) (new : Option Run) (o : Option (Option Run)) → slice_get runs 0 ≡ o → run_in o ≡ Some old → slice_get (slice_set runs 0 new) 0 ≡ Some new
 set-there runs old new None e h = absurd (none-some old h)

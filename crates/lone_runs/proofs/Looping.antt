@@ -2,6 +2,7 @@
 use Rattle.std.proofs.Common.{◌≡◌, ℕ, ◌+◌, ◌-◌, ◌<◌, List, [], length, Option, Some, None, refl, sym, ap, subst, ◌∙◌, arith}
 use Rattle.std.specs.Prelude.{take}
 use Rattle.std.proofs.lemmas.Option.{same_Some, slice_get_within}
+use Rattle.bpf_model.specs.declared.limits.TheConstants.{MAX_SLOTS}
 use Rattle.bpf_model.specs.declared.call.KernelFunction.{KernelFunction}
 use Rattle.bpf_model.specs.declared.call.KernelFunction.TheVariants.{ReadLock, ReadUnlock}
 use Rattle.bpf_model.specs.declared.insn.Insn.{Insn}
@@ -47,11 +48,11 @@ module _ (c : Checked) (context : List ℕ) (index moved : ℕ) (w : Workspace) 
   pub loop_below : moved < length c.program
   loop_below = let l : b.view.moved < length c.program = moves-below c before b.stands in omega (arith, l, b.moved_is)
 
-  pub loop_limit : IsJustified c → moved < 4096
-  loop_limit j = let l : b.view.moved < 4096 = below-limit c before b.stands j in omega (arith, l, b.moved_is)
+  pub loop_limit : IsJustified c → moved < MAX_SLOTS
+  loop_limit j = let l : b.view.moved < MAX_SLOTS = below-limit c before b.stands j in omega (arith, l, b.moved_is)
 
   -- the index is one of the program's, and so within the limit of programs
-  pub loop_room : IsJustified c → index < 4096
+  pub loop_room : IsJustified c → index < MAX_SLOTS
   loop_room j =
       let can : CanDo c.program context index w = loop_can in
       let below : index < length c.program = slice_get_within c.program index can.insn can.here in

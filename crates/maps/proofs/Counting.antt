@@ -4,6 +4,7 @@ use Rattle.std.specs.Prelude.{slice_get, IfNone}
 use Rattle.std.specs.FinMap.{len}
 use Rattle.std.proofs.lemmas.Option.{none-some}
 use Rattle.std.proofs.lemmas.List.Sums.{count_by-le-length}
+use Rattle.bpf_model.specs.declared.limits.TheConstants.{MAX_ENTRIES, MAX_SPARE}
 use Rattle.bpf_model.specs.declared.event.Given.{Given}
 use Rattle.bpf_model.specs.declared.event.Given.TheVariants.{Free, Worn}
 use Rattle.bpf_model.specs.declared.limits.MapShape.{MapShape}
@@ -19,7 +20,7 @@ use Rattle.maps.specs.Parted.{PartsView, IsParted, standings}
 use Rattle.maps.specs.Shown.{map_view, linked_with, IsMap}
 
 module _ (shape : MapShape) (p : PartsView) (n : ℕ) (h : IsParted p) (m : IsMap shape p n) where
-  few-slots : length p.arena.slots ≤ 8192
+  few-slots : length p.arena.slots ≤ MAX_ENTRIES + MAX_SPARE
   few-slots = let valid : IsShape shape = m.valid in let long : length p.arena.slots ≡ slots_of_shape shape = m.arena.slots in omega arith
 
   abbrev listed : List ℕ
@@ -28,14 +29,14 @@ module _ (shape : MapShape) (p : PartsView) (n : ℕ) (h : IsParted p) (m : IsMa
   times-listed : (i : ℕ) → times_in i listed ≡ queued p.lists i
   times-listed i = omega (arith, times-append i (p.lists.next ++ p.lists.waiting) p.lists.ready, times-append i p.lists.next p.lists.waiting)
 
-  pub few-unlinked : unlinked_in (map_view shape p) ≤ 8192
+  pub few-unlinked : unlinked_in (map_view shape p) ≤ MAX_ENTRIES + MAX_SPARE
   few-unlinked =
       let l : length listed ≤ length p.arena.slots = length_once (length p.arena.slots) listed
       (λ i. let o : standings p i ≤ 1 = h.once i in omega (arith, times-listed i))
       (λ i g. h.inside i (omega (arith, times-listed i))) in
       omega (arith, few-slots, length-append (p.lists.next ++ p.lists.waiting) p.lists.ready, length-append p.lists.next p.lists.waiting)
 
-  pub few-worn : worn_in (map_view shape p) ≤ 8192
+  pub few-worn : worn_in (map_view shape p) ≤ MAX_ENTRIES + MAX_SPARE
   few-worn = let f : length p.arena.worn ≡ length p.arena.slots = h.flags in omega (arith, few-slots, count_by-le-length (λ b. b) p.arena.worn)
 
 -- the counts after an update

@@ -1,5 +1,5 @@
 -- The first ready slot of the maps of a registry, from one map on.
-use Rattle.std.proofs.Common.{◌≡◌, ◌∙◌, ℕ, suc, ◌+◌, List, [], ◌∷◌, length, drop, Option, Some, None, refl, sym, ap, add-one}
+use Rattle.std.proofs.Common.{◌≡◌, ◌∙◌, ℕ, suc, List, [], ◌∷◌, drop, Option, Some, sym, ap}
 use Rattle.std.specs.Prelude.{slice_get, slice_set}
 use Rattle.std.proofs.lemmas.Option.{none-some, same_Some}
 use Rattle.arrayvec.specs.ArrayVec.{ArrayVec}
@@ -15,29 +15,13 @@ use Rattle.bpf_model.proofs.Lists.{drop-next}
 abbrev pub IsPassed : List MapView → ℕ → Type 0
 IsPassed maps i = first_pick 0 maps ≡ first_pick i (drop i maps)
 
-or_pick-none : (ready : List ℕ) (k : ℕ) (v : MapView) (later : Option Pick) → ready ≡ [] → or_pick ready k v later ≡ later
-or_pick-none ready k v later e = ap (λ r. or_pick r k v later) e
-
 or_pick-some : (ready : List ℕ) (k i : ℕ) (v : MapView) (later : Option Pick) → slice_get ready 0 ≡ Some i → or_pick ready k v later ≡ Some (record { map = k; view = v; slot = i })
 or_pick-some [] k i v later e = absurd (none-some i e)
 or_pick-some (j ∷ rest) k i v later e = ap (λ (s : ℕ). let p : Option Pick = Some (record { map = k; view = v; slot = s }) in p) (same_Some j i e)
 
-pub passes-more : (maps : List MapView) (i : ℕ) (v : MapView) → slice_get maps i ≡ Some v → IsPassed maps i → v.ready ≡ [] → IsPassed maps (i + 1)
-passes-more maps i v g h e =
-    h ∙ (ap (first_pick i) (drop-next maps i v g)
-    ∙ (or_pick-none v.ready i v (first_pick (suc i) (drop (suc i) maps)) e
-    ∙ ap (λ n. first_pick n (drop n maps)) (sym (add-one i))))
-
 pub picks-here : (maps : List MapView) (i slot : ℕ) (v : MapView) → slice_get maps i ≡ Some v → IsPassed maps i → slice_get v.ready 0 ≡ Some slot → first_pick 0 maps ≡ Some (record { map = i; view = v; slot = slot })
 picks-here maps i slot v g h e =
     h ∙ (ap (first_pick i) (drop-next maps i v g) ∙ or_pick-some v.ready i slot v (first_pick (suc i) (drop (suc i) maps)) e)
-
-drop-end : {A : Type 0} (xs : List A) → drop (length xs) xs ≡ []
-drop-end [] = refl
-drop-end (x ∷ xs) = drop-end xs
-
-pub picks-none : (maps : List MapView) → IsPassed maps (length maps) → first_pick 0 maps ≡ None
-picks-none maps h = h ∙ ap (first_pick (length maps)) (drop-end maps)
 
 -- what was reclaimed from the map that was reached is what a registry reclaims
 pub picked : (old maps : List MapView) (i m : ℕ) (v new : MapView) (key : ArrayVec ℕ) (given : Given) →

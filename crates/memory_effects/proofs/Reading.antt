@@ -1,10 +1,9 @@
 -- Loads lead from described runs to described ones.
-use Rattle.std.proofs.Common.{◌≡◌, ℕ, ◌+◌, ◌/◌, ◌%◌, ◌^◌, ◌<◌, ◌≤◌, List, length, Some, None, inl, refl, sym, ap, subst, ◌∙◌, ℤ, pos, arith, true}
+use Rattle.std.proofs.Common.{◌≡◌, ℕ, ◌+◌, ◌/◌, ◌%◌, ◌^◌, ◌<◌, ◌≤◌, List, length, Some, None, inl, refl, sym, ap, subst, ◌∙◌, ℤ, arith, true}
 use Rattle.std.specs.Prelude.{slice_get, slice_index_or, ◌+ℤ◌}
 use Rattle.std.proofs.lemmas.Option.{none-some, slice_get-get_or}
 use Rattle.bpf_model.specs.declared.limits.MapShape.{MapShape}
 use Rattle.bpf_model.specs.declared.limits.TheConstants.{FRAME_BYTES}
-use Rattle.bpf_model.specs.declared.insn.Insn.{Insn}
 use Rattle.bpf_model.specs.declared.insn.Insn.TheVariants.{Load, LoadSigned}
 use Rattle.bpf_model.specs.declared.opcode.Width.{Width}
 use Rattle.bpf_model.specs.declared.opcode.Width.TheVariants as widths
@@ -15,11 +14,7 @@ use Rattle.bpf_model.specs.declared.value.Value.TheVariants.{Number, Pointer}
 use Rattle.bpf_model.specs.declared.value.Reference.TheVariants.{Ctx, Frame}
 use Rattle.bpf_model.specs.declared.value.Cell.TheVariants.{Byte}
 use Rattle.bpf_model.specs.Value.{◌>>=◌, number}
-use Rattle.std.specs.Int.{Width as Bits, w64}
-use Rattle.std.proofs.Common.{negsuc}
-use Rattle.std.proofs.lemmas.Nat.{mod_below}
-use mir.Val.{bits}
-use Rattle.bpf_model.specs.Arithmetic.{loaded_signed, word, signed}
+use Rattle.bpf_model.specs.Arithmetic.{loaded_signed}
 use Rattle.bpf_model.specs.Access.{byte_count, unsigned_width, region_offset, number_at}
 use Rattle.bpf_model.specs.Frame.{byte_of, found, read}
 use Rattle.bpf_model.specs.Step.{State, Environment, Moves, put, sets, load_from}
@@ -31,13 +26,11 @@ use Rattle.typed_runs.specs.Kinds.{Kind, Num, CtxAt, FrameAt, ByteCell, PartCell
 use Rattle.typed_runs.specs.Describes.{Scene, IsContextAt, Describes}
 use Rattle.typed_runs.specs.Effects.{with_kind, IsAlwaysInside, IsPointer}
 use Rattle.typed_runs.specs.Verified.{IsEnvironment, Transfers}
-use Rattle.typed_runs.specs.Planned.{AreAlike}
 use Rattle.typed_runs.proofs.Sets.{set-described}
 use Rattle.typed_runs.proofs.Arguments.{reg-is, cell-is}
 use Rattle.typed_runs.proofs.Local.{alone_transfers}
 use Rattle.typed_runs.proofs.Elements.{number_read, offset-inside, set-is, load_transfers, load_signed_transfers, wide-fits}
 use Rattle.typed_runs.proofs.Spilling.{fill_transfers, no-element-load}
-use Rattle.typed_runs.proofs.Planning.{alike_wider, transfers_wider}
 use Rattle.register_kinds.specs.declared.kind.RegKind.{RegKind}
 use Rattle.register_kinds.specs.declared.kind.RegKind.TheVariants as kinds
 use Rattle.register_kinds.specs.declared.kind.CellKind.TheVariants as class
@@ -189,11 +182,3 @@ module _ (a : StateHere) (from : Address) (width : Width) (start : ℤ) (at : �
     parts = parts_at a.frame at kind (subst (λ w. at % w ≡ 0) wide aligned) (subst (λ w. AreAll a.frame.cells at w class.Part) wide all) spill;
     pointer = pointer-kind kind pointer;
   }
-
--- what a load with sign extension gives is a number
-extended-lt : (w : Bits) (x : ℕ) → word w64 (signed w (x % 2 ^ bits w)) < 2 ^ 64
-extended-lt w x = word-lt (signed w (x % 2 ^ bits w))
-  where
-    word-lt : (z : ℤ) → word w64 z < 2 ^ 64
-    word-lt (pos n) = mod_below n (2 ^ 64) (omega arith)
-    word-lt (negsuc n) = let p : 0 < 2 ^ 64 = omega arith in omega arith

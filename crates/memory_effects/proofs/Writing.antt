@@ -1,8 +1,7 @@
 -- Stores lead from described runs to described ones.
-use Rattle.std.proofs.Common.{◌≡◌, ℕ, ◌+◌, ◌-◌, ◌/◌, ◌%◌, ◌^◌, ◌<◌, List, Option, Some, None, inl, refl, sym, ap, subst, ◌∙◌, ℤ, arith, true, false, Bool}
-use Rattle.std.specs.Prelude.{◌+ℤ◌, if◌then◌else◌}
+use Rattle.std.proofs.Common.{◌≡◌, ℕ, ◌+◌, List, Option, Some, None, inl, refl, sym, ap, subst, ◌∙◌, ℤ}
+use Rattle.std.specs.Prelude.{◌+ℤ◌}
 use Rattle.std.proofs.lemmas.Option.{none-some}
-use Rattle.std.proofs.lemmas.Nat.{mod_below}
 use Rattle.bpf_model.specs.declared.limits.MapShape.{MapShape}
 use Rattle.bpf_model.specs.declared.limits.TheConstants.{FRAME_BYTES}
 use Rattle.bpf_model.specs.declared.insn.Insn.TheVariants.{Store}
@@ -14,22 +13,20 @@ use Rattle.bpf_model.specs.declared.value.Value.{Value}
 use Rattle.bpf_model.specs.declared.value.Value.TheVariants.{Number, Pointer}
 use Rattle.bpf_model.specs.declared.value.Reference.TheVariants.{Frame}
 use Rattle.bpf_model.specs.declared.value.Cell.{Cell}
-use Rattle.bpf_model.specs.declared.value.Cell.TheVariants.{Byte}
 use Rattle.bpf_model.specs.Value.{◌>>=◌}
 use Rattle.bpf_model.specs.Operand.{operand_value}
 use Rattle.bpf_model.specs.Access.{byte_count, region_offset}
-use Rattle.bpf_model.specs.Frame.{is_within, with_number}
-use Rattle.bpf_model.specs.Step.{State, Outcome, Moves, stored, frame_after, store_to}
+use Rattle.bpf_model.specs.Frame.{with_number}
+use Rattle.bpf_model.specs.Step.{Outcome, Moves, stored, frame_after, store_to}
 use Rattle.bpf_model.specs.Element.{Element}
 use Rattle.bpf_model.specs.MachineStep.{element_store}
-use Rattle.typed_runs.specs.Kinds.{Kind, FrameAt, ByteCell, PartCell, CellKind, AbsState}
-use Rattle.typed_runs.specs.Describes.{Scene, Naming, Stored, IsOfCell, Describes}
+use Rattle.typed_runs.specs.Kinds.{Kind, FrameAt, ByteCell, PartCell, AbsState}
 use Rattle.typed_runs.specs.Effects.{with_cells, IsNumberOperand, IsWritten}
 use Rattle.typed_runs.specs.Verified.{Transfers}
 use Rattle.typed_runs.proofs.Arguments.{reg-is}
 use Rattle.typed_runs.proofs.Local.{alone_transfers}
 use Rattle.typed_runs.proofs.Example.{bytes-described}
-use Rattle.typed_runs.proofs.Spilling.{near-cell, spill_transfers}
+use Rattle.typed_runs.proofs.Spilling.{spill_transfers}
 use Rattle.typed_runs.proofs.Elements.{operand-number}
 
 not-element : (es : List Element) (width : ℕ) (offset : ℤ) (v base : Value) (n : ℕ) (o : ℤ) (new : List Element) → v ≡ Number n → base ≡ Pointer (Frame o) → element_store es width offset v base ≡ Some new → ⊥

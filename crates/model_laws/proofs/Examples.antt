@@ -3,6 +3,7 @@ use Rattle.std.proofs.Common.{◌≡◌, ℕ, zero, suc, ◌+◌, ◌-◌, ◌<�
 use Rattle.std.specs.Prelude.{Option, Some, None, ◌⊎◌, pos, ◌+ℤ◌, ◌&&◌, nat_lt, slice_get, take, ℤ, negsuc}
 use Rattle.std.proofs.lemmas.Option.{none-some, same_Some}
 use Rattle.std.proofs.lemmas.Bool.{ne_eqb, ltb-false, lt-ltb, false≢true}
+use Rattle.bpf_model.specs.declared.limits.TheConstants.{FRAME_BYTES}
 use Rattle.bpf_model.specs.declared.limits.MapShape.{MapShape}
 use Rattle.bpf_model.specs.declared.insn.Insn.{Insn}
 use Rattle.bpf_model.specs.declared.insn.Insn.TheVariants.{Alu, Load, Exit}
@@ -455,7 +456,7 @@ lacks_0 r e _ (lacks_next place target i path h w g) = not_last place target i h
     absurd (omega arith))
 
 -- the key is written at slot 2
-bare : (k : ℕ) → 508 ≤ k → k < 512 → (place : ℕ) → WithoutByte lookup_and_load k place → place ≤ 2
+bare : (k : ℕ) → 508 ≤ k → k < FRAME_BYTES → (place : ℕ) → WithoutByte lookup_and_load k place → place ≤ 2
 bare k low high _ bare_entry = omega arith
 bare k low high _ (bare_next place target i path h w g) =
     edges (λ s t. s ≤ 2 → (s ≡ 2 → ⊥) → t ≤ 2) (record {
@@ -482,8 +483,8 @@ one_shape (suc m) shape h = absurd (none-some shape h)
 same_offset : (d : ℤ) → Alu Add Word64 2 (Immediate (negsuc 3)) ≡ Alu Add Word64 2 (Immediate d) → negsuc 3 ≡ d
 same_offset d h = cc
 
-key_place : (d : ℤ) (at : ℕ) → negsuc 3 ≡ d → pos 512 +ℤ d ≡ pos at → at ≡ 508
-key_place d at e h = same-pos at 508 (sym h ∙ ap (λ x. pos 512 +ℤ x) (sym e))
+key_place : (d : ℤ) (at : ℕ) → negsuc 3 ≡ d → pos FRAME_BYTES +ℤ d ≡ pos at → at ≡ 508
+key_place d at e h = same-pos at 508 (sym h ∙ ap (λ x. pos FRAME_BYTES +ℤ x) (sym e))
 
 keys : (start k : ℕ) (lookup : IsGuardedLookup lookup_and_load shapes start) → lookup.at ≤ k → k < lookup.at + lookup.shape.key_len → WithoutByte lookup_and_load k start → ⊥
 keys start k l low high path =

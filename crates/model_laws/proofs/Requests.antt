@@ -436,7 +436,7 @@ module _ (s : map_state.Store) (opened : List Section) (run : Run) (answer : Ans
   forth (Call kinds.Helper imm) h = inr (helper-served imm h.0 h.1 h.2 h.3)
   forth i h = acts-served i h.0 h.1 h.2 h.3 h.4
 
-  -- and back
+  -- a step by itself or by a served request is a step of the instruction
   alone-steps : (i : Insn) → StepsAlone i s run answer new new_run → InsnStep i s opened run answer new new_run
   alone-steps (Call kinds.Kernel imm) h = absurd (none-some h.0 h.1)
   alone-steps (Call kinds.Helper imm) h = absurd (none-some h.0 h.1)

@@ -4,8 +4,6 @@ use Rattle.std.specs.Prelude.{Result, slice_get, slice_set, length, if◌then◌
 use Rattle.bpf_model.specs.declared.event.Event.{Event}
 use Rattle.bpf_model.specs.declared.event.Event.TheVariants as events
 use Rattle.bpf_model.specs.declared.event.Answer.{Answer}
-use Rattle.bpf_model.specs.declared.event.Answer.TheVariants.{Refused}
-use Rattle.bpf_model.specs.declared.event.EventRefusal.{EventRefusal}
 use Rattle.std.specs.Option.{option_map}
 use Rattle.bpf_model.specs.declared.event.Answer.TheVariants.{Found}
 use Rattle.plain_store.specs.Births.{Finds}
@@ -22,9 +20,6 @@ use Rattle.plain_store.specs.declared.fault.Fault.{Fault}
 use Rattle.plain_runs.specs.Acting.{SlotStep, SlotStepsAs}
 use Rattle.plain_model.specs.Following.{DoesAs}
 use Rattle.plain_store.proofs.Telling.{tells-map}
-
-pub does-refused : (m : Machine) (event : Event) (k : EventRefusal) → refusal m event ≡ Some k → DoesEvent m event (Refused k) m
-does-refused m event k h = subst (λ o. Answers o m event (Refused k) m) (sym h) (refl, refl)
 
 pub does-performs : (m : Machine) (event : Event) (answer : Answer) (new : Machine) → refusal m event ≡ None → PerformsEvent m event answer new → DoesEvent m event answer new
 does-performs m event answer new h p = subst (λ o. Answers o m event answer new) (sym h) p

@@ -1,5 +1,5 @@
 -- The lists after each event.
-use Rattle.std.proofs.Common.{◌≡◌, ℕ, Some, None, refl, sym, ap, ◌∙◌, subst, false}
+use Rattle.std.proofs.Common.{◌≡◌, ℕ, Some, None, refl, sym, ap, ◌∙◌, false}
 use Rattle.std.specs.Prelude.{slice_get, slice_set}
 use Rattle.bpf_model.specs.declared.event.Event.{Event}
 use Rattle.bpf_model.specs.declared.event.Event.TheVariants.{Start, Step, Update, Delete, Read, Advance, Reap, Drop}
@@ -53,9 +53,6 @@ other s mid (Update map key value flags) answer h queues awaited = record { firs
 other s mid (Delete map key) answer h queues awaited = record { first = tt; lists = same s mid queues awaited }
 other s mid (Read map key) answer h queues awaited = record { first = tt; lists = same s mid queues awaited }
 other s mid (Drop run) answer h queues awaited = record { first = tt; lists = same s mid queues awaited }
-
-pub settled-follows : (s mid new : Schedule) (event : Event) (answer : Answer) → is_turn event ≡ false → mid.queues ≡ s.queues → mid.awaited ≡ s.awaited → new ≡ settled mid s.machine.store.elements → FollowsLists s event answer new
-settled-follows s mid new event answer h queues awaited e = subst (FollowsLists s event answer) (sym e) (other s mid event answer h queues awaited)
 
 -- the three parts of a step with the runtime's choices
 pub schedules : (s new : Schedule) (event : Event) (result : Result Answer Fault) → DoesAs s.machine event result new.machine → IfOk result (λ answer. FollowsLists s event answer new) →

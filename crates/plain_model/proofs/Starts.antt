@@ -1,14 +1,10 @@
 -- The start.
-use Rattle.std.proofs.Common.{◌≡◌, ℕ, zero, suc, ◌+◌, List, [], ◌∷◌, ◌++◌, None, refl, ap, length, map}
+use Rattle.std.proofs.Common.{◌≡◌, ℕ, zero, suc, List, [], ◌∷◌, None, refl, ap, length, map}
 use Rattle.std.specs.Prelude.{replicate}
-use Rattle.std.proofs.lemmas.List.{replicate-append-replicate}
 use Rattle.bpf_model.specs.declared.limits.MapShape.{MapShape}
 use Rattle.plain_runs.specs.declared.run.Loaded.{Loaded}
 use Rattle.plain_runs.specs.State.{runs_of}
 use Rattle.plain_model.specs.State.{no_queues}
-
-pub one-more-copy : {A : Type 0} (n : ℕ) (x : A) → replicate n x ++ x ∷ [] ≡ replicate (n + 1) x
-one-more-copy n x = replicate-append-replicate n 1 x
 
 pub same-for-each : (shapes : List MapShape) → replicate (length shapes) no_queues ≡ map (λ _. no_queues) shapes
 same-for-each [] = refl

@@ -11,16 +11,14 @@ use Rattle.bpf_model.specs.declared.opcode.Width.{Width}
 use Rattle.bpf_model.specs.declared.opcode.SignedWidth.{SignedWidth}
 use Rattle.bpf_model.specs.Access.{byte_count, unsigned_width}
 use Rattle.bpf_model.specs.Arithmetic.{loaded_signed}
-use Rattle.bpf_model.specs.Operand.{operand_value}
-use Rattle.bpf_model.specs.declared.insn.Operand.{Operand}
 use Rattle.bpf_model.specs.Element.{Element}
-use Rattle.bpf_model.specs.Step.{State, Environment, Outcome, Moves, Exits, after, load_from, store_to, sets}
-use Rattle.bpf_model.specs.MachineStep.{AccessesElement, element_load, element_store}
+use Rattle.bpf_model.specs.Step.{State, Environment, Outcome, Moves, Exits, after, load_from, sets}
+use Rattle.bpf_model.specs.MachineStep.{element_load, element_store}
 use Rattle.plain_interpreter.specs.declared.plain_run.PlainRun.{PlainRun}
 use Rattle.plain_interpreter.specs.declared.plain_run.Progress.{Progress}
 use Rattle.plain_interpreter.specs.declared.plain_run.Progress.TheVariants as progress
-use Rattle.plain_interpreter.specs.Plain.{plain_state_of, Comes, PerformsInsn}
-use Rattle.plain_runs.specs.Acting.{element_in, base_element, load_outcome, extended_outcome, StoresAs, ActsAs, AloneAs, KernelsAs, InsnStepsAs, call_in}
+use Rattle.plain_interpreter.specs.Plain.{plain_state_of, Comes}
+use Rattle.plain_runs.specs.Acting.{element_in, load_outcome, extended_outcome, ActsAs, AloneAs, KernelsAs, InsnStepsAs, call_in}
 use Rattle.bpf_model.specs.Call.{kernel_function_of}
 use Rattle.plain_store.proofs.Telling.{tells-map}
 use Rattle.bpf_model.specs.declared.insn.CallKind.{CallKind}
@@ -50,39 +48,9 @@ no-store es new width offset (Number k) (Pointer (Frame o)) h e = absurd cc
 no-store es new width offset (Number k) (Pointer (MapRef m)) h e = absurd cc
 no-store es new width offset (Number k) (Pointer (Elem n o)) h e = absurd cc
 
-pub no-access : (i : Insn) (es : List Element) (m : State) (out : Outcome) (new : List Element) → base_element i m ≡ None → AccessesElement i es m out new → ⊥
-no-access (Load width dst src offset) es m out new h a = no-load es (byte_count width) offset (m.regs src) a.0 h a.1
-no-access (LoadSigned width dst src offset) es m out new h a = no-load es (byte_count (unsigned_width width)) offset (m.regs src) a.0 h a.1
-no-access (Store width dst offset src) es m out new h a = no-store es new (byte_count width) offset (operand_value src m.regs) (m.regs dst) h a.0
-no-access (Alu op size dst src) es m out new h a = a
-no-access (Unary op dst) es m out new h a = a
-no-access (LoadNumber dst n) es m out new h a = a
-no-access (LoadMap dst map) es m out new h a = a
-no-access (Jump offset) es m out new h a = a
-no-access (JumpLong imm) es m out new h a = a
-no-access (JumpIf condition size dst src offset) es m out new h a = a
-no-access (Call kind imm) es m out new h a = a
-no-access Exit es m out new h a = a
-
--- an instruction that does something to the run by itself
-acts-comes : (i : Insn) (env : Environment) (es : List Element) (old new : PlainRun) (p : Progress) → (base_element i (plain_state_of old) ≡ None) → Comes (after i env (plain_state_of old)) p old new → ActsAs i env es old p es new
-acts-comes i env es old new progress.Moved b h = inl (h, refl)
-acts-comes i env es old new (progress.Exited n) b h = (inl (h.0, refl), ap plain_state_of h.1)
-acts-comes i env es old new progress.Stuck b h = λ out more a. elim a [
-  | inl x ↦ let e : None ≡ Some out = sym h.0 ∙ x.0 in absurd cc
-  | inr x ↦ no-access i es (plain_state_of old) out more b x
-]
-acts-comes i env es old new progress.OutOfRange b h = tt
-
-pub performed : (i : Insn) (env : Environment) (es : List Element) (old new : PlainRun) (p : Progress) → base_element i (plain_state_of old) ≡ None → PerformsInsn i env old p new → ActsAs i env es old p es new
-performed i env es old new p b h = acts-comes i env es old new p b h.comes
-
 -- where the base is an element, a load or a store does nothing by itself
 from-element : (env : Environment) (m : State) (width : ℕ) (offset : ℤ) (v : Value) (n : ℕ) (o : ℤ) → v ≡ Pointer (Elem n o) → load_from env m width offset v ≡ None
 from-element env m width offset v n o e = ap (load_from env m width offset) e
-
-to-element : (m : State) (width : ℕ) (offset : ℤ) (x v : Value) (n : ℕ) (o : ℤ) → v ≡ Pointer (Elem n o) → store_to m width offset x v ≡ None
-to-element m width offset x v n o e = ap (store_to m width offset x) e
 
 abbrev pair : ℕ → ℤ → ℕ × ℤ
 pair n o = (n, o)
@@ -144,24 +112,6 @@ extended-acts width dst src offset env es old new p n o b h =
       | inl x ↦ let e : None ≡ Some out = sym z ∙ x.0 in absurd cc
       | inr x ↦
           let e : None ≡ Some out = sym c.0 ∙ ap (λ q. q >>= λ k. sets 1 dst (Number (loaded_signed width k)) (plain_state_of old)) x.1 ∙ x.2 in absurd cc
-    ]
-    by progress.OutOfRange c z = tt
-
--- a store to an element
-pub stored-acts : (width : Width) (dst : ℕ) (offset : ℤ) (src : Operand) (env : Environment) (es more : List Element) (old new : PlainRun) (p : Progress) (n : ℕ) (o : ℤ) → element_in ((plain_state_of old).regs dst) ≡ Some (n, o) →
-    StoresAs (element_store es (byte_count width) offset (operand_value src (plain_state_of old).regs) (Pointer (Elem n o))) old p more new → ActsAs (Store width dst offset src) env es old p more new
-stored-acts width dst offset src env es more old new p n o b h =
-    let base = element-is ((plain_state_of old).regs dst) n o b in
-    let v = operand_value src (plain_state_of old).regs in
-    by p (subst (λ r. StoresAs (element_store es (byte_count width) offset v r) old p more new) (sym base) h) (to-element (plain_state_of old) (byte_count width) offset v ((plain_state_of old).regs dst) n o base)
-  where
-    by : (p : Progress) → StoresAs (element_store es (byte_count width) offset (operand_value src (plain_state_of old).regs) ((plain_state_of old).regs dst)) old p more new → after (Store width dst offset src) env (plain_state_of old) ≡ None →
-        ActsAs (Store width dst offset src) env es old p more new
-    by progress.Moved c z = inr (c.0, ap Moves c.1)
-    by (progress.Exited k) c z = absurd c
-    by progress.Stuck c z = λ out es2 a. elim a [
-      | inl x ↦ let e : None ≡ Some out = sym z ∙ x.0 in absurd cc
-      | inr x ↦ let e : None ≡ Some es2 = sym c ∙ x.0 in absurd cc
     ]
     by progress.OutOfRange c z = tt
 

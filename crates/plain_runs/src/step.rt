@@ -109,7 +109,7 @@ fn step_run(
     }
 }
 
-/// A step of the run in a slot.
+/// A step of the run in a run slot.
 pub fn step_slot(
     alloc: Global,
     slot: &mut Option<Run>,

@@ -14,9 +14,6 @@ accessed es n e f h r = ap (λ o. (o >>= unless_reclaimed) >>= f) h ∙ ap (λ b
 pub reclaimed-none : {A : Type 0} (es : List Element) (n : ℕ) (e : Element) (f : Element → Option A) → slice_get es n ≡ Some e → is_reclaimed e.life ≡ true → (accessible es n >>= f) ≡ None
 reclaimed-none es n e f h r = ap (λ o. (o >>= unless_reclaimed) >>= f) h ∙ ap (λ b. (if b then None else Some e) >>= f) r
 
-pub past-none : {A : Type 0} (es : List Element) (n : ℕ) (f : Element → Option A) → slice_get es n ≡ None → (accessible es n >>= f) ≡ None
-past-none es n f h = ap (λ o. (o >>= unless_reclaimed) >>= f) h
-
 pub load-found : (es : List Element) (n : ℕ) (e : Element) (width at : ℕ) (offset : ℤ) → slice_get es n ≡ Some e → is_reclaimed e.life ≡ false → region_offset (length e.value) width offset ≡ Some at →
     (accessible es n >>= loaded_from width offset) ≡ number_at (slice_get e.value) at width
 load-found es n e width at offset h r p = accessed es n e (loaded_from width offset) h r ∙ ap (λ o. o >>= λ at. number_at (slice_get e.value) at width) p

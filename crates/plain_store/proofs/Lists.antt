@@ -1,8 +1,8 @@
 -- Facts about lists, of what stands at an index and what is left from an index on.
 use Rattle.std.proofs.Common.{◌≡◌, ℕ, zero, suc, ◌+◌, ◌<◌, ◌≤◌, List, [], ◌∷◌, ◌++◌, length, Some, refl, sym, ap, ◌∙◌, subst, arith, map}
-use Rattle.std.specs.Prelude.{slice_get, slice_set, slice_index_or, remove, drop, take}
+use Rattle.std.specs.Prelude.{slice_get, slice_index_or, remove, drop, take}
 use Rattle.std.proofs.lemmas.List.{append_assoc, append-nil, drop_all}
-use Rattle.std.proofs.lemmas.Option.{slice_get-get_or, slice_get_within}
+use Rattle.std.proofs.lemmas.Option.{slice_get-get_or}
 use Rattle.bpf_model.proofs.Lists.{drop-next}
 
 pub length-map-own : {A B : Type 0} (f : A → B) (xs : List A) → length (map f xs) ≡ length xs

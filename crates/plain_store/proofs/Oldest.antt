@@ -15,9 +15,6 @@ use Rattle.std.proofs.lemmas.Option.{slice_get_within}
 pub no-birth : (s t : Store) → length t.elements ≡ length s.elements → TakesOldest s t
 no-birth s t h e before after born old new = absurd (let inside = slice_get_within t.elements (length s.elements) e born in omega (arith, inside, h))
 
-pub same-store : (s t : Store) → t ≡ s → TakesOldest s t
-same-store s t h = no-birth s t (ap (λ x. length x.elements) h)
-
 set-length : {A : Type 0} (xs : List A) (n : ℕ) (x : A) → length (slice_set xs n x) ≡ length xs
 set-length [] n x = refl
 set-length (y ∷ xs) zero x = refl

@@ -23,11 +23,6 @@ mixed-get f zero i qs = refl
 mixed-get f (suc k) i [] = refl
 mixed-get f (suc k) i (q ∷ qs) = mixed-get f k (suc i) qs
 
-pub mixed-length : {A : Type 0} (f : ℕ → A → A) (k i : ℕ) (qs : List A) → length (mixed f k i qs) ≡ length qs
-mixed-length f zero i qs = refl
-mixed-length f (suc k) i [] = refl
-mixed-length f (suc k) i (q ∷ qs) = ap suc (mixed-length f k (suc i) qs)
-
 mixed-next : {A : Type 0} (f : ℕ → A → A) (k i : ℕ) (qs : List A) (x : A) → slice_get qs k ≡ Some x → slice_set (mixed f k i qs) k (f (k + i) x) ≡ mixed f (suc k) i qs
 mixed-next f k i [] x h = absurd cc
 mixed-next f zero i (q ∷ qs) x h =
@@ -131,12 +126,6 @@ without-here (x ∷ qs) zero q h e =
     let some : (length x.ready == 0) ≡ false = ne_eqb (length x.ready) 0 (λ z. let y : length q.ready ≡ 0 = sym (ap (λ y. length y.ready) same) ∙ z in absurd (omega arith)) in
     ap (λ b. if b then x ∷ without_first qs else record { next = x.next; waiting = x.waiting; ready = drop 1 x.ready } ∷ qs) some ∙ ap (λ y. record { next = y.next; waiting = y.waiting; ready = drop 1 y.ready } ∷ qs) same
 without-here (x ∷ qs) (suc k) q h e = ap (λ l. x ∷ l) (without-here qs k q h e)
-
-pub without-past : (qs : List Queues) (k : ℕ) → length qs ≤ k → take k qs ++ without_first (drop k qs) ≡ qs
-without-past [] zero h = refl
-without-past [] (suc k) h = refl
-without-past (x ∷ qs) zero h = absurd (omega arith)
-without-past (x ∷ qs) (suc k) h = ap (λ l. x ∷ l) (without-past qs k (omega arith))
 
 nothing : (q : Queues) (qs : List Queues) (o : Option ℕ) → slice_get q.ready 0 ≡ o → first_ready (q ∷ qs) ≡ None → (first_ready qs ≡ None → without_first qs ≡ qs) → without_first (q ∷ qs) ≡ q ∷ qs
 nothing q qs None e h rest =

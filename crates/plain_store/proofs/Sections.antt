@@ -2,7 +2,7 @@
 use Rattle.std.proofs.Common.{◌≡◌, ℕ, ◌+◌, ◌<◌, ◌≤◌, Bool, List, Some, None, refl, sym, ap, ◌∙◌, subst, arith, length, true, false, inl, inr}
 use Rattle.std.specs.Prelude.{slice_get, slice_index_or, ◌==◌, ◌&&◌}
 use Rattle.std.proofs.lemmas.Option.{slice_get-get_or}
-use Rattle.std.proofs.lemmas.Bool.{eq-eqb, eqb-true, false≢true, cases_lt}
+use Rattle.std.proofs.lemmas.Bool.{eq-eqb, false≢true, cases_lt}
 use Rattle.bpf_model.specs.Section as model
 use Rattle.plain_store.specs.declared.element.Section.{Section}
 use Rattle.plain_store.specs.State.{section_shown, sections_of}
@@ -41,16 +41,6 @@ none-among xs s j h before has = elim (cases_lt has.0 j) [
 both-true : (a b : Bool) → (a && b) ≡ true → (a ≡ true) × (b ≡ true)
 both-true true b h = (refl, h)
 both-true false b h = absurd (false≢true h)
-
-pub is-among : (xs : List Section) (s d : Section) (j : ℕ) (b : Bool) → j < length xs →
-    b ≡ ((slice_index_or xs j d).run == s.run) && ((slice_index_or xs j d).lock == s.lock) → b ≡ true → model.Has (sections_of xs) (section_shown s)
-is-among xs s d j b h e f =
-    let x = slice_index_or xs j d in
-    let parts = both-true (x.run == s.run) (x.lock == s.lock) (sym e ∙ f) in
-    let run : x.run ≡ s.run = eqb-true x.run s.run parts.0 in
-    let lock : x.lock ≡ s.lock = eqb-true x.lock s.lock parts.1 in
-    let same : section_shown x ≡ section_shown s = ap (λ r. record { run = r; lock = x.lock }) run ∙ ap (λ l. record { run = s.run; lock = l }) lock in
-    (j, get-map section_shown xs j x (slice_get-get_or xs j d h) ∙ ap Some same)
 
 -- one section that is open keeps the others
 pub not-ended : (xs opened : List Section) (d : Section) (i : ℕ) → i < length xs → model.Has (sections_of opened) (section_shown (slice_index_or xs i d)) →

@@ -11,10 +11,3 @@ tells-map P Q S T (Err faults.Stuck) f g h = g h
 tells-map P Q S T (Err faults.Memory) f g h = tt
 tells-map P Q S T (Err faults.OutOfRange) f g h = tt
 tells-map P Q S T (Err faults.Early) f g h = tt
-
--- a fault that doesn't say "stuck" tells nothing
-pub tells-fault : {A B : Type 0} (P : A → Type 0) (Q : B → Type 0) (S : Type 0) (f : Fault) → TellsResult P ⊥ (Err f) → TellsResult Q S (Err f)
-tells-fault P Q S faults.Stuck h = absurd h
-tells-fault P Q S faults.Memory h = tt
-tells-fault P Q S faults.OutOfRange h = tt
-tells-fault P Q S faults.Early h = tt

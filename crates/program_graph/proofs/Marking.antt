@@ -74,7 +74,7 @@ module _ (program : List Insn) (targets : List (Option ℕ)) (long : length targ
           let r = jumps_into j.0 k place p i t.0 j.2 there f (all.each j.0 i t.0 j.1 t.1) in
           (j.0, record { insn = j.1; start = j.2; target = t.0; target_is = t.1; follows = inr r.0; before = r.1 })
 
-  -- and back
+  -- an index that follows another gives an edge between their slots
   pub edge_from : (j k place p : ℕ) (i : Insn) (t : Option ℕ) → slice_get program j ≡ Some i → slice_get targets j ≡ Some t → Follows i t j k → StartsAt program j place → StartsAt program k p → GoesTo i place p
   edge_from j k place p i t e f (inl g) at there =
       let inside : suc j < length program = omega (arith, start_within program k p there, g.1) in

@@ -4,8 +4,8 @@ use Rattle.program_graph.specs.declared.refusal.GraphFlaw.{GraphFlaw}
 use Rattle.program_graph.specs.declared.refusal.GraphFlaw.TheVariants.{JumpTarget, BackJump}
 use Rattle.program_graph.specs.declared.refusal.GraphFlaw.TheVariants.{FallsOff, Unreachable}
 
-abbrev pub flaw_number : GraphFlaw → ℕ
-flaw_number JumpTarget = 20
-flaw_number BackJump = 21
-flaw_number FallsOff = 22
-flaw_number Unreachable = 38
+abbrev pub graph_flaw_number : GraphFlaw → ℕ
+graph_flaw_number JumpTarget = 20
+graph_flaw_number BackJump = 21
+graph_flaw_number FallsOff = 22
+graph_flaw_number Unreachable = 38

@@ -170,7 +170,8 @@ fn first_unmarked(
     requires last { EndsWithExit instructions.now }
     requires entry { slice_get reached.old 0 ≡ Some true }
     requires only { (k : ℕ) → slice_get reached.old k ≡ Some true → k ≡ 0 }
-    ensures { MatchOption result (AreInsnsReached instructions.now) (IsFirstUnreached instructions.now) }
+    ensures { MatchOption result (AreInsnsReached instructions.now)
+        (IsFirstUnreached instructions.now) }
 {
     for index in 0..instructions.len() {
         if !reached[index] {

@@ -20,18 +20,18 @@ pub enum GraphFlaw {
 /// Why a program's jump graph is refused, and the slot of the instruction at which it is.
 #[derive(Clone, Copy, Debug, PartialEq, Eq, Error)]
 pub enum GraphRefusal {
-    #[error("{flaw} at {slot}")]
+    #[error("{flaw} at slot {slot}")]
     Flaw { flaw: GraphFlaw, slot: usize },
     #[error("out of memory")]
     Memory,
 }
 
 impl GraphFlaw {
-    ghost use Rattle.program_graph.specs.FlawNumbers.{flaw_number};
+    ghost use Rattle.program_graph.specs.FlawNumbers.{graph_flaw_number};
 
     /// The number by which the flaw is known.
     pub fn code(self) -> u8
-        ensures { result ≡ flaw_number self }
+        ensures { result ≡ graph_flaw_number self }
     {
         match self {
             GraphFlaw::JumpTarget => 20,

@@ -1,8 +1,8 @@
 -- Joins, a place at a time, while the list of pairs grows.
-use Rattle.std.proofs.Common.{◌≡◌, ◌≢◌, ℕ, ◌+◌, ◌-◌, ◌<◌, ◌≤◌, List, [], ◌∷◌, ◌++◌, length, Some, refl, sym, ap, subst, ◌∙◌, arith, inl, inr, below_more}
+use Rattle.std.proofs.Common.{◌≡◌, ◌≢◌, ℕ, ◌+◌, ◌-◌, ◌<◌, ◌≤◌, List, length, Some, refl, sym, ap, subst, ◌∙◌, arith, inl, inr, below_more}
 use Rattle.std.specs.Prelude.{slice_get, slice_set, slice_index_or, nat_lt, unwrap_or, if◌then◌else◌}
 use Rattle.std.proofs.lemmas.Bool.{cases_lt, lt-ltb, le-ltb}
-use Rattle.std.proofs.lemmas.Option.{none-some, slice_get-get_or, slice_get_within}
+use Rattle.std.proofs.lemmas.Option.{slice_get-get_or, slice_get_within}
 use Rattle.std.proofs.lemmas.List.{get_or-set_same, get_or-set_other, get_or_past, get_or-replicate, length-replicate}
 use Rattle.std.specs.Prelude.{ℤ}
 use Rattle.std.proofs.Math.ListN.{replicate}
@@ -17,7 +17,6 @@ use Rattle.register_kinds.specs.declared.kind.CellKind.TheVariants as cells
 use Rattle.register_kinds.specs.States.{kind_of, kind_at, kind_in, class_in}
 use Rattle.register_kinds.specs.Joined.{IsHull}
 use Rattle.register_kinds.specs.Pairs.{IsBelow, PairsGrow, pair_of, IsTable, IsPairing, JoinsKind}
-use Rattle.bpf_model.proofs.Lists.{get-append_cases}
 
 -- what an identity stands for
 pub pair_old : (top : ℕ) (pairs : List (ℕ × ℕ)) (id : ℕ) → id < top → pair_of top pairs id ≡ (id, id)
@@ -87,23 +86,6 @@ module _ (top : ℕ) (old new : List (ℕ × ℕ)) (x : PairsGrow old new) where
     exact = j.exact;
   }
 
--- a pair of identities
-pub joins_same : (top x : ℕ) (pairs : List (ℕ × ℕ)) (map : ℕ) → x < top → JoinsKind top pairs (MaybeNull map x) (MaybeNull map x) (MaybeNull map x)
-joins_same top x pairs map l = record {
-  left = (refl, ap (λ (p : ℕ × ℕ). p.0) (pair_old top pairs x l));
-  right = (refl, ap (λ (p : ℕ × ℕ). p.1) (pair_old top pairs x l));
-  below = omega arith;
-  exact = (λ e. (x, refl), λ n. absurd (n refl));
-}
-
-pub joins_pair : (top x y i : ℕ) (pairs : List (ℕ × ℕ)) (map : ℕ) → slice_get pairs i ≡ Some (x, y) → JoinsKind top pairs (MaybeNull map x) (MaybeNull map y) (MaybeNull map (top + i))
-joins_pair top x y i pairs map e = record {
-  left = (refl, ap (λ (p : ℕ × ℕ). p.0) (pair_new top pairs i (x, y) e));
-  right = (refl, ap (λ (p : ℕ × ℕ). p.1) (pair_new top pairs i (x, y) e));
-  below = omega (arith, slice_get_within pairs i (x, y) e);
-  exact = (λ f. (top + i, refl), λ n. absurd (n refl));
-}
-
 -- what is unwritten
 module _ (top : ℕ) (pairs : List (ℕ × ℕ)) where
   wide-blank : (f : ℕ → ℕ) (k : Kind) → IsWiderKind f k Blank
@@ -131,28 +113,6 @@ kinds_all top pairs old others xs e f all r = elim (cases_lt r (length others)) 
   | inr l ↦ subst (λ y. JoinsKind top pairs (kind_at old r) (kind_at others r) (kind_of y)) (sym (get_or_past xs r kinds.Unwritten (omega arith)))
       (subst (λ y. JoinsKind top pairs (kind_of y) (kind_at others r) (kind_of kinds.Unwritten)) (sym (get_or_past old r kinds.Unwritten (omega arith))) (joins_blank top pairs (kind_at others r)))
 ]
-
--- the table
-pub table_none : IsTable []
-table_none = record { single = λ k l p e f. absurd (none-some p e); unequal = λ k p e f. absurd (none-some p e) }
-
-pub table_more : (pairs : List (ℕ × ℕ)) (x y : ℕ) → IsTable pairs → ((k : ℕ) → k < length pairs → slice_get pairs k ≡ Some (x, y) → ⊥) → (x ≡ y → ⊥) → IsTable (pairs ++ (x, y) ∷ [])
-table_more pairs x y t absent other = record {
-  single = λ k l p e f. elim (get-append_cases pairs (x, y) k p e) [
-    | inl a ↦ elim (get-append_cases pairs (x, y) l p f) [
-      | inl b ↦ t.single k l p a b
-      | inr b ↦ absurd (absent k (slice_get_within pairs k p a) (a ∙ ap Some (sym b.1)))
-    ]
-    | inr a ↦ elim (get-append_cases pairs (x, y) l p f) [
-      | inl b ↦ absurd (absent l (slice_get_within pairs l p b) (b ∙ ap Some (sym a.1)))
-      | inr b ↦ a.0 ∙ sym b.0
-    ]
-  ];
-  unequal = λ k p e f. elim (get-append_cases pairs (x, y) k p e) [
-    | inl a ↦ t.unequal k p a f
-    | inr a ↦ other (ap (λ (q : ℕ × ℕ). q.0) a.1 ∙ (f ∙ ap (λ (q : ℕ × ℕ). q.1) (sym a.1)))
-  ];
-}
 
 pair-there : (top : ℕ) (pairs : List (ℕ × ℕ)) (id : ℕ) → top ≤ id → id < top + length pairs → slice_get pairs (id - top) ≡ Some (pair_of top pairs id)
 pair-there top pairs id l h =

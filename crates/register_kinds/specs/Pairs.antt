@@ -1,7 +1,7 @@
 -- Identities in a join: each new one stands for a pair.
 use Rattle.std.specs.Prelude.{◌≡◌, ℕ, ◌+◌, ◌-◌, ◌<◌, ◌≤◌, nat_lt, List, length, slice_get, Some}
 use Rattle.std.specs.Prelude.{unwrap_or, if◌then◌else◌}
-use Rattle.typed_runs.specs.Kinds.{Kind, MaybeNull, CellKind, PartCell}
+use Rattle.typed_runs.specs.Kinds.{Kind, MaybeNull, CellKind}
 use Rattle.typed_runs.specs.Effects.{IsWiderKind, IsWiderCell}
 use Rattle.register_kinds.specs.declared.state.AbsState.{AbsState}
 use Rattle.register_kinds.specs.States.{kind_at}
@@ -11,10 +11,6 @@ use Rattle.register_kinds.specs.Joined.{IsJoinedKind, IsJoinedCell}
 abbrev pub IsBelow : ℕ → Kind → Type 0
 IsBelow top (MaybeNull map id) = id < top
 IsBelow top kind = Unit {0}
-
-abbrev pub IsBelowCell : ℕ → CellKind → Type 0
-IsBelowCell top (PartCell kind) = IsBelow top kind
-IsBelowCell top cell = Unit {0}
 
 pub record AreBelow (top : ℕ) (a : AbsState) : Type 0 where
   pub regs : (r : ℕ) → IsBelow top (kind_at a.regs r)

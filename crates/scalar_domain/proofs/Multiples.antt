@@ -2,9 +2,9 @@
 use Rattle.std.proofs.Common.{◌≡◌, ℕ, ◌+◌, ◌-◌, ◌*◌, ◌/◌, ◌%◌, ◌^◌, ◌<◌, ◌≤◌, sym, ◌∙◌, ap, subst, arith}
 use native.Mathlib.Decide.{dec_le}
 use lib.Pow.{mod-mod-pow, pow_mono}
-use Rattle.std.specs.Prelude.{bit_and, bit_or}
+use Rattle.std.specs.Prelude.{bit_and}
 use Rattle.std.specs.Int.{bit_at, trailing_zeros, w64}
-use Rattle.std.proofs.lemmas.Nat.{and_mod, or_mod, le_or_l, le_or_r, pow_pos, mod_below, pow-add, mul-mod}
+use Rattle.std.proofs.lemmas.Nat.{and_mod, pow_pos, mod_below, pow-add, mul-mod}
 use Rattle.std.specs.Int.Bits.{and_zero_r}
 use Rattle.std.proofs.lemmas.Nat.Bits.{and_high_mask, bit_at-trailing_zeros, same_from_bits_below, bit_at_cat_low, bit_at-zero}
 use Rattle.std.proofs.Math.Nat.{add-mod, mul-mod_left, zero-mod, mod-eq_of_lt}
@@ -77,25 +77,9 @@ again n t = ap (λ (j : ℕ). n % 2 ^ j % 2 ^ t) (omega arith) ∙ mod-mod-pow n
 word_low : (t : ℕ) → t ≤ 64 → 2 ^ 64 % 2 ^ t ≡ 0
 word_low t k = sym (below_word (2 ^ 64) t k) ∙ zero-mod (2 ^ t)
 
--- 2^64 less a multiple is a multiple
-pub rest_low : (y t : ℕ) → t ≤ 64 → y ≤ 2 ^ 64 → y % 2 ^ t ≡ 0 → (2 ^ 64 - y) % 2 ^ t ≡ 0
-rest_low y t k l e =
-    let w : 2 ^ 64 - y + y ≡ 2 ^ 64 = omega arith in
-    let s : (2 ^ 64 - y + y) % 2 ^ t ≡ 0 = ap (λ n. n % 2 ^ t) w ∙ word_low t k in
-    let z : (2 ^ 64 - y) % 2 ^ t + y % 2 ^ t ≡ (2 ^ 64 - y) % 2 ^ t = omega (arith, e) in
-    sym (again (2 ^ 64 - y) t) ∙ sym (ap (λ n. n % 2 ^ t) z) ∙ sym (add-mod (2 ^ 64 - y) y (2 ^ t)) ∙ s
-
 -- a multiple times a number is a multiple
 pub product_low : (x y t : ℕ) → t ≤ 64 → x % 2 ^ t ≡ 0 → (x * y) % 2 ^ 64 % 2 ^ t ≡ 0
 product_low x y t k e = below_word (x * y) t k ∙ mul-mod x y (2 ^ t) ∙ ap (λ n. (n * (y % 2 ^ t)) % 2 ^ t) e ∙ ap (λ n. n % 2 ^ t) (omega arith) ∙ zero-mod (2 ^ t)
-
-pub or_low : (a b t : ℕ) → bit_or a b % 2 ^ t ≡ 0 → (a % 2 ^ t ≡ 0) × (b % 2 ^ t ≡ 0)
-or_low a b t e =
-    let f : bit_or (a % 2 ^ t) (b % 2 ^ t) ≡ 0 = sym (or_mod a b t) ∙ e in
-    (omega (arith, le_or_l (a % 2 ^ t) (b % 2 ^ t)), omega (arith, le_or_r (a % 2 ^ t) (b % 2 ^ t)))
-
-pub low_or : (a b t : ℕ) → a % 2 ^ t ≡ 0 → b % 2 ^ t ≡ 0 → bit_or a b % 2 ^ t ≡ 0
-low_or a b t e f = or_mod a b t ∙ ap2 bit_or e f
 
 pub only_zero : (n : ℕ) → n < 2 ^ 64 → n % 2 ^ 64 ≡ 0 → Within n 0
 only_zero n l e =
@@ -108,16 +92,6 @@ Covers mask ones = (n : ℕ) → n < 2 ^ 64 → ((t : ℕ) → t ≤ 64 → mask
 
 word : (n : ℕ) → n % 2 ^ 64 < 2 ^ 64
 word n = mod_below n (2 ^ 64) (pow_pos 64)
-
-pub sum_within : (x y a b r : ℕ) → Covers (bit_or a b) r → Within x a → Within y b → Within ((x + y) % 2 ^ 64) r
-sum_within x y a b r v h k = v ((x + y) % 2 ^ 64) (word (x + y)) (λ t l e.
-    let z = or_low a b t e in
-    sum_low x y t l (low_zero x a t h z.0) (low_zero y b t k z.1))
-
-pub difference_within : (x y a b r : ℕ) → Covers (bit_or a b) r → y ≤ 2 ^ 64 → Within x a → Within y b → Within ((x + (2 ^ 64 - y)) % 2 ^ 64) r
-difference_within x y a b r v p h k = v ((x + (2 ^ 64 - y)) % 2 ^ 64) (word (x + (2 ^ 64 - y))) (λ t l e.
-    let z = or_low a b t e in
-    sum_low x (2 ^ 64 - y) t l (low_zero x a t h z.0) (rest_low y t l p (low_zero y b t k z.1)))
 
 pub product_within : (x y a b r s : ℕ) → Covers a r → Covers b s → Within x a → Within y b → Within ((x * y) % 2 ^ 64) (bit_and r s)
 product_within x y a b r s v w h k =

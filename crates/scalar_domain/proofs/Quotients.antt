@@ -1,12 +1,9 @@
 -- Sums that wrap or do not, and the order of products and quotients.
-use Rattle.std.proofs.Common.{◌≡◌, ℕ, zero, suc, ◌-◌, ◌/◌, ◌%◌, ◌^◌, ◌<◌, ◌≤◌, ◌∙◌, ap, cond, arith}
+use Rattle.std.proofs.Common.{◌≡◌, ℕ, zero, suc, ◌/◌, ◌<◌, ◌≤◌, ap, cond, arith}
 use Rattle.std.specs.Prelude.{◌==◌}
 use Rattle.std.proofs.lemmas.Nat.{le-div}
 use Rattle.std.proofs.Math.Dec.{eqb-suc-zero}
-use Rattle.std.proofs.Math.Nat.{mod-eq_of_lt, mod-eq-sub-mod, div-mul-le_self, mul-le-mul_left}
-
-pub wrapped : (n : ℕ) → 2 ^ 64 ≤ n → n < 2 ^ 65 → n % 2 ^ 64 ≡ n - 2 ^ 64
-wrapped n h l = mod-eq-sub-mod h ∙ mod-eq_of_lt (omega arith)
+use Rattle.std.proofs.Math.Nat.{div-mul-le_self, mul-le-mul_left}
 
 pub when_positive : {A : Type 0} (y : ℕ) (a b : A) → 0 < y → cond (y == 0) a b ≡ b
 when_positive zero a b p = absurd (omega (arith, p))

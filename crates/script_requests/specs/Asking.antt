@@ -27,7 +27,7 @@ abbrev pub start_on : ℕ → Bytes (ArrayVec ℕ) → Asked
 start_on prog (Fit ctx) = asked.Event (events.Start prog ctx)
 start_on prog TooLong = asked.Overlong prog
 
--- the same of the map that has the name
+-- what is asked of the map that has the name
 abbrev pub OfMapNamed : List (List ℕ) → List ℕ → (ℕ → Asked) → Asked → Type 0
 OfMapNamed names name f a = (map : Option ℕ) × IsMapOf names name map × (a ≡ of_map map f)
 

@@ -2,7 +2,7 @@
 use Rattle.std.specs.Prelude.{ℕ, List, Some, None}
 use Rattle.bpf_model.specs.declared.event.Answer.{Answer}
 use Rattle.bpf_model.specs.declared.event.Answer.TheVariants as answers
-use Rattle.bpf_model.specs.Event.{event_refusal_code}
+use Rattle.bpf_model.specs.Event.{event_refusal_number}
 use Rattle.script_lines.specs.declared.reply.Reply.{Reply}
 use Rattle.script_lines.specs.declared.reply.Reply.TheVariants as replies
 use Rattle.script_requests.specs.Names.{map_name}
@@ -23,4 +23,4 @@ reply_to names answers.Done = replies.Done
 reply_to names (answers.Reaped (Some reaped)) =
     replies.Reaped (map_name names reaped.map) reaped.key reaped.given
 reply_to names (answers.Reaped None) = replies.Nothing
-reply_to names (answers.Refused refusal) = refused (event_refusal_code refusal)
+reply_to names (answers.Refused refusal) = refused (event_refusal_number refusal)

@@ -5,7 +5,7 @@ use Rattle.bpf_model.specs.declared.event.EventRefusal.TheVariants.{BadContext, 
 use Rattle.bpf_model.specs.declared.insn.Insn.{Insn}
 use Rattle.bpf_model.specs.declared.limits.MapShape.{MapShape}
 use Rattle.bpf_model.specs.declared.limits.TheConstants.{MAX_PROGRAMS, CTX_BYTES}
-use Rattle.bpf_model.specs.Event.{event_refusal_code}
+use Rattle.bpf_model.specs.Event.{event_refusal_number}
 use Rattle.bpf_model.specs.Plain.{IsPlain}
 use Rattle.bpf_model.specs.PlainMaps.{IsPlainWithMaps}
 use Rattle.bpf_model.specs.Spelling.{IsProgram, text}
@@ -64,7 +64,7 @@ pub record HasUnknown (names wanted : List (List ℕ)) : Type 0 where
 abbrev pub limit_refusal : SetupView → ℕ → Option ℕ
 limit_refusal s ctx_len =
     if nat_le MAX_PROGRAMS (length s.programs) then Some (world_fault_number TooManyPrograms) else
-    if nat_lt CTX_BYTES ctx_len then Some (event_refusal_code BadContext) else
+    if nat_lt CTX_BYTES ctx_len then Some (event_refusal_number BadContext) else
     None
 
 -- The bytes are no program, for the fault that decoding tells.
@@ -118,7 +118,7 @@ abbrev pub LoadReplied : Option ℕ → SetupView → ℕ → List ℕ → List 
 LoadReplied (Some number) s ctx_len code wanted reply new = (reply ≡ refused number) × (new ≡ s)
 LoadReplied None s ctx_len code wanted reply new =
     (HasUnknown s.registry.names wanted
-    × ((reply ≡ refused (event_refusal_code NoMap)) × (new ≡ s)))
+    × ((reply ≡ refused (event_refusal_number NoMap)) × (new ≡ s)))
     ⊎ IsCodeRead s ctx_len code wanted reply new
 
 abbrev pub LoadReplies : SetupView → ℕ → List ℕ → List (List ℕ) → Reply → SetupView → Type 0

@@ -1,5 +1,5 @@
 -- How bytes fall into lines.
-use Rattle.std.proofs.Common.{◌≡◌, ◌≢◌, ℕ, ◌+◌, ◌<◌, ◌==◌, ◌⊎◌, true, false, List, [], ◌∷◌, ◌++◌, length, get_or, add-one, take, refl, sym, ap, ◌∙◌, append_assoc, append-nil, arith, if◌then◌else◌}
+use Rattle.std.proofs.Common.{◌≡◌, ◌≢◌, ℕ, ◌==◌, false, List, [], ◌∷◌, ◌++◌, refl, sym, ap, ◌∙◌, append_assoc, arith}
 use Rattle.std.proofs.lemmas.Grind.{common_steps}
 use Rattle.script_stream.specs.Lines.{before_first, lines_of, ended, HasNoFeed, HaveNoFeed}
 
@@ -51,8 +51,3 @@ HaveNoFeed-snoc (l ∷ lines) line h k = (h.0, HaveNoFeed-snoc lines line h.1 k)
 pub ended-snoc : (lines : List (List ℕ)) (line : List ℕ) → ended (lines ++ line ∷ []) ≡ ended lines ++ (line ++ 10 ∷ [])
 ended-snoc [] line = refl
 ended-snoc (l ∷ lines) line = ap (λ bs. l ++ 10 ∷ bs) (ended-snoc lines line) ∙ sym (append_assoc l (10 ∷ ended lines) (line ++ 10 ∷ []))
-
--- the bytes of which none is a feed, by index
-pub HasNoFeed-by_index : (bytes : List ℕ) → ((k : ℕ) → k < length bytes → get_or bytes k 0 ≢ 10) → HasNoFeed bytes
-HasNoFeed-by_index [] h = tt
-HasNoFeed-by_index (b ∷ bytes) h = (h 0 (omega arith), HasNoFeed-by_index bytes (λ k lt. simp add-one at (h (k + 1) (omega arith))))

@@ -1,11 +1,11 @@
 -- Steps of a script.
-use Rattle.std.proofs.Common.{◌≡◌, ℕ, ◌+◌, ◌-◌, ◌^◌, ◌<◌, ◌⊎◌, min, List, [], ◌∷◌, ◌++◌, length, refl, sym, ap, subst, ◌∙◌, append_assoc, append-nil, length-append, arith, inl, inr, Result, Ok, Err, OnOk}
+use Rattle.std.proofs.Common.{◌≡◌, ℕ, ◌+◌, ◌-◌, ◌<◌, ◌⊎◌, List, [], ◌∷◌, ◌++◌, length, refl, sym, ap, subst, ◌∙◌, append_assoc, append-nil, length-append, arith, inl, inr, Result, Ok, Err, OnOk}
 use Rattle.std.specs.Io.Iter.{u64_saturate}
 use Rattle.script_stream.specs.declared.progress.Progress.{Progress}
 use Rattle.script_stream.specs.declared.progress.TheConstants.{MAX_LINE}
 use Rattle.script_stream.specs.declared.fault.ScriptFault.{ScriptFault}
 use Rattle.script_stream.specs.declared.fault.ScriptFault.TheVariants.{BadCommand, Read, Memory}
-use Rattle.script_stream.specs.Lines.{lines_of, ended, HasNoFeed, HaveNoFeed}
+use Rattle.script_stream.specs.Lines.{lines_of, ended, HasNoFeed}
 use Rattle.script_stream.specs.Answered.{Answered, AnsweredBefore, BeginsAnswered, IsBadLine}
 use Rattle.script_stream.specs.Progress.{IsAt, FailsWith, IsOutputFault}
 use Rattle.script_stream.proofs.LineLemmas.{lines_of-feed, lines_of-ended, lines_of-last, lines_of-open, HasFirst, HasNoFeed-append, HaveNoFeed-snoc, ended-snoc}

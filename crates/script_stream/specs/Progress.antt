@@ -1,10 +1,10 @@
 -- How far a script has come.
-use Rattle.std.specs.Prelude.{◌≡◌, ℕ, ◌+◌, ◌⊎◌, List, [], ◌∷◌, ◌++◌, length}
+use Rattle.std.specs.Prelude.{◌≡◌, ℕ, ◌⊎◌, List, ◌++◌, length}
 use Rattle.std.specs.Io.Iter.{u64_saturate}
 use Rattle.script_stream.specs.declared.fault.ScriptFault.{ScriptFault}
 use Rattle.script_stream.specs.declared.fault.ScriptFault.TheVariants.{BadCommand, Write, Memory}
 use Rattle.script_stream.specs.declared.progress.Progress.{Progress}
-use Rattle.script_stream.specs.Lines.{lines_of, ended, HasNoFeed, HaveNoFeed}
+use Rattle.script_stream.specs.Lines.{ended, HasNoFeed, HaveNoFeed}
 use Rattle.script_stream.specs.Answered.{Answered, AnsweredBefore, BeginsAnswered}
 
 -- a fault of writing

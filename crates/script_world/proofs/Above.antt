@@ -40,10 +40,6 @@ above_true : (bound : Option (List ℕ)) (key : List ℕ) → IsAbove bound key 
 above_true None key a = refl
 above_true (Some bound) key a = ap is_lt a
 
-above_is : (bound : Option (List ℕ)) (key : List ℕ) → is_above bound key ≡ true → IsAbove bound key
-above_is None key e = tt
-above_is (Some bound) key e = is_less (slice_cmp nat_cmp bound key) e
-
 -- what is above a key above the bound is above the bound
 above_more : (bound : Option (List ℕ)) (key other : List ℕ) → IsAbove bound key → IsLess key other → IsAbove bound other
 above_more None key other a l = tt

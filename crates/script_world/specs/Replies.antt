@@ -7,7 +7,7 @@ use Rattle.bpf_model.specs.declared.event.Answer.{Answer}
 use Rattle.bpf_model.specs.declared.event.Answer.TheVariants as answers
 use Rattle.bpf_model.specs.declared.event.EventRefusal.{EventRefusal}
 use Rattle.bpf_model.specs.declared.event.EventRefusal.TheVariants.{NoProgram, BadContext}
-use Rattle.bpf_model.specs.Event.{event_refusal_code}
+use Rattle.bpf_model.specs.Event.{event_refusal_number}
 use Rattle.bpf_model.specs.Machine.{Loaded}
 use Rattle.bpf_model.specs.View.{MapView, WorldView}
 use Rattle.world_laws.specs.Reacting.{full_reaction, full_reactions}
@@ -58,13 +58,13 @@ abbrev pub Replies : List (List ℕ) → WorldView → Asked → List Event → 
 Replies names w asked.Sealed es rs new =
     (es ≡ []) × (rs ≡ refused SEALED_NUMBER ∷ []) × (new ≡ w)
 Replies names w (asked.Refused refusal) es rs new =
-    (es ≡ []) × (rs ≡ refused (event_refusal_code refusal) ∷ []) × (new ≡ w)
+    (es ≡ []) × (rs ≡ refused (event_refusal_number refusal) ∷ []) × (new ≡ w)
 Replies names w (asked.Event event) es rs new =
     (es ≡ event ∷ []) × (rs ≡ reply_to names (full_reaction w event).0 ∷ [])
     × (new ≡ (full_reaction w event).1)
 Replies names w (asked.Overlong prog) es rs new =
     (es ≡ [])
-    × (rs ≡ refused (event_refusal_code (overlong_refusal (slice_get w.programs prog))) ∷ [])
+    × (rs ≡ refused (event_refusal_number (overlong_refusal (slice_get w.programs prog))) ∷ [])
     × (new ≡ w)
 Replies names w (asked.Steps run count) es rs new =
     (answer : Answer) × MakesSteps w run count es answer new × (rs ≡ reply_to names answer ∷ [])

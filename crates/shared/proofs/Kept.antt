@@ -24,11 +24,6 @@ map-next f g kept xs n a b e at same =
     ∙ sym (map-append g (take n xs) (b ∷ []))
     ∙ sym (ap (map g) (take-next xs n b at))
 
-past-none : {A : Type 0} (xs : List A) (n : ℕ) → slice_get xs n ≡ None → length xs ≤ n
-past-none [] n e = omega arith
-past-none (x ∷ xs) zero e = absurd (none-some x (sym e))
-past-none (x ∷ xs) (suc n) e = let rest = past-none xs n e in omega (arith, rest)
-
 pub kept-more : (kept : List Checked) (programs : List Loaded) (n : ℕ) (c : Checked) (l : Loaded) → AreKept kept (take n programs) → slice_get programs n ≡ Some l → c.program ≡ l.code → c.ctx_len ≡ l.context_len
     → AreKept (kept ++ c ∷ []) (take (n + 1) programs)
 kept-more kept programs n c l k at code context =
@@ -36,9 +31,3 @@ kept-more kept programs n c l k at code context =
       codes = map-next (λ (p : Checked). p.program) (λ (l : Loaded). l.code) kept programs n c l k.codes at code;
       contexts = map-next (λ (p : Checked). p.ctx_len) (λ (l : Loaded). l.context_len) kept programs n c l k.contexts at context;
     })
-
-pub kept-all : (kept : List Checked) (programs : List Loaded) (n : ℕ) → AreKept kept (take n programs) → length programs ≤ n → AreKept kept programs
-kept-all kept programs n k h = subst (AreKept kept) (take_all n programs h) k
-
-pub kept-to-none : (kept : List Checked) (programs : List Loaded) (n : ℕ) → AreKept kept (take n programs) → slice_get programs n ≡ None → AreKept kept programs
-kept-to-none kept programs n k none = kept-all kept programs n k (past-none programs n none)

@@ -66,7 +66,7 @@ forks by v words views h at =
           (at_snoc (set views by v) (reader_of v) u j e);
     }
 
--- the same at a view that is known by an equation
+-- a writer whose view is known by an equation may write totals that are no less
 pub writes_totals : (by : ℕ) (v : MeterView) (old new : Totals) → v ≡ writer_at old → TotalsRise old new → Turns IsMetered by v (λ _. new.steps ∷ new.unlinked ∷ new.reclaimed ∷ []) Wrote
 writes_totals by v old new is rise =
     subst (λ (k : MeterView). Turns IsMetered by k (λ _. new.steps ∷ new.unlinked ∷ new.reclaimed ∷ []) Wrote) (sym is) (writes by old.steps old.unlinked old.reclaimed new.steps new.unlinked new.reclaimed rise.steps rise.unlinked rise.reclaimed)

@@ -52,6 +52,8 @@ impl Split<MeterView> for ForReaders {
     ghost right = { reader_of };
 }
 
+/// The cell of the counters: three words, of which none ever gets less.
 pub type Meter = RuledSeqCell<[u64; 3], MeterView, Metering, 3>;
 
+/// What one holder knows of the cell's words.
 pub type MeterPass = Pass<[u64; 3], MeterView>;

@@ -91,7 +91,7 @@ stays_described m new event answer r run a w h at d =
     describes-kept (scene_of m.store.elements run) (scene_of new.store.elements run)
     (keeps-moves (is_reap event) (open_sections m.runs) m.store new.store run (does-moves m new event answer w.single h) (λ inside. has_open m.runs r run at inside)) a run.state d
 
--- the same for the step of an instruction
+-- an instruction's step keeps what the run's scene holds, and its depth
 pub insn-keeps : (i : Insn) (s : Store) (opened : List Section) (run : Run) (answer : Answer) (new : Store) (new_run : Run) → IsSingle s.elements → (0 < run.depth → Has opened (section_of run)) →
     InsnStep i s opened run answer new new_run → Keeps (scene_of s.elements run) (scene_of new.elements run)
 insn-keeps i s opened run answer new new_run single in_section h = keeps-moves _ opened s new run (moves-insn i s opened run answer new new_run single h) in_section

@@ -71,9 +71,6 @@ ended-leads : (out : Outcome) (i : Insn) (new : AbsState) (taken : Option AbsSta
 ended-leads (Moves next) i new taken es run answer new_run h e = subst (λ (r : Run). Leads i new taken run.state.place es r) (sym e.1) (λ going. h)
 ended-leads (Exits n) i new taken es run answer new_run h e = λ going. absurd (some-not-none n (ap (λ (r : Run). r.exit) (sym e.2) ∙ going))
 
-abbrev AlwaysActs : Insn → List MapShape → ℕ → AbsState → AbsState → Option AbsState → Type 0
-AlwaysActs i shapes ctx_len a b taken = (s : Store) (opened : List Section) (run : Run) → Surrounds shapes ctx_len s opened run → Describes a (scene_of s.elements run) run.state → Acting i s run b taken
-
 acts-goes : (i : Insn) (s : Store) (opened : List Section) (run : Run) (b : AbsState) (taken : Option AbsState) → IsNoCall i → Acting i s run b taken → HasStep i s opened run
 acts-goes i s opened run b taken plain x =
     let e = ending x.out i b taken x.es run x.reaches in

@@ -19,7 +19,8 @@ use Rattle.typed_runs.specs.Kinds.{AbsState}
 use Rattle.typed_runs.specs.Describes.{Scene, scene_of, Describes}
 
 -- each shape is that of the map to which the program's list binds it
-pub record AreMapsBound (shapes : List MapShape) (maps : List ℕ) (states : List MapState) : Type 0 where
+pub record AreMapsBound (shapes : List MapShape) (maps : List ℕ)
+    (states : List MapState) : Type 0 where
   pub count : length maps ≡ length shapes
   pub each : (i : ℕ) (shape : MapShape) → slice_get shapes i ≡ Some shape →
       (map : ℕ) × (state : MapState)

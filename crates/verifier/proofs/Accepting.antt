@@ -150,10 +150,6 @@ section_which : (opens : Bool) (i : Insn) → i ≡ section_call opens → (i �
 section_which true i e = inl e
 section_which false i e = inr (inl e)
 
-opposite : (b : Bool) → (if b then false else true) ≡ b → ⊥
-opposite true e = cc
-opposite false e = cc
-
 -- what stands at a slot, where what is part of a guarded lookup is nothing else
 abbrev pub Stands : List Insn → List MapShape → ℕ → Insn → Type 0
 Stands program shapes place i = IsPart program shapes place ⊎ ((IsPart program shapes place → ⊥) × (((opens : Bool) × (i ≡ section_call opens)) ⊎ IsSimple i))

@@ -1,5 +1,5 @@
 -- How many states wait.
-use Rattle.std.proofs.Common.{◌≡◌, ℕ, zero, suc, ◌+◌, ◌<◌, ◌≤◌, List, [], ◌∷◌, ◌++◌, length, arith, ap, ◌∙◌, ◌-◌}
+use Rattle.std.proofs.Common.{◌≡◌, ℕ, zero, suc, ◌+◌, ◌<◌, ◌≤◌, List, [], ◌∷◌, length, arith, ap, ◌∙◌, ◌-◌}
 use Rattle.std.specs.Prelude.{slice_index_or, slice_set, max}
 use Rattle.std.proofs.Math.Nat.{le-max_right, max-le}
 use Rattle.std.proofs.lemmas.List.{length-set, get_or_default, get_or-set_same}
@@ -27,10 +27,6 @@ set_counted [] i w h = absurd (omega arith)
 set_counted (v ∷ ws) zero w h = omega (arith, sum_by-cons occupied v ws, sum_by-cons occupied w ws)
 set_counted (v ∷ ws) (suc i) w h = omega (arith, sum_by-cons occupied v ws, sum_by-cons occupied v (slice_set ws i w), set_counted ws i w (omega arith))
 
-pub none_added : (ws : List Waiting) → states_in (ws ++ Nothing ∷ []) ≡ states_in ws
-none_added [] = omega (arith, sum_by-cons occupied Nothing [])
-none_added (w ∷ ws) = omega (arith, sum_by-cons occupied w ws, sum_by-cons occupied w (ws ++ Nothing ∷ []), none_added ws)
-
 -- how many states wait in a place that is read
 pub count_at : (ws : List Waiting) (i : ℕ) (d x : Waiting) (n : ℕ) → i < length ws → n ≡ occupied x → x ≡ slice_index_or ws i d → n ≡ occupied (slice_index_or ws i Nothing)
 count_at ws i d x n h e f = e ∙ ap occupied (f ∙ get_or_default ws i d Nothing h)
@@ -49,7 +45,3 @@ counted_set ws i w len peak before after new h c b a e =
       most = omega (arith, e, le-max_right peak (len - before + after));
       few = (let l : max peak (len - before + after) ≤ length ws = max-le c.few inside in omega (arith, e, l, length-set ws i w));
     }
-
--- the states are as many, and the peak is that of before
-pub peak_set : (ws : List Waiting) (len peak new : ℕ) → len ≡ states_in ws → new ≡ max peak len → new ≡ max peak (states_in ws)
-peak_set ws len peak new e f = f ∙ ap (max peak) e

@@ -1,6 +1,6 @@
 -- What a join keeps in the states that wait.
 use Rattle.std.proofs.Common.{◌≡◌, ◌≢◌, ℕ, refl, sym, ◌∙◌, ap, subst, inl, inr}
-use Rattle.std.specs.Prelude.{◌⊎◌, Option, Some, None, IsSome, IfSome, Box, max}
+use Rattle.std.specs.Prelude.{◌⊎◌, Option, Some, None, IsSome, IfSome, Box}
 use Rattle.std.proofs.lemmas.Bool.{cases_eq}
 use Rattle.program_graph.proofs.Lists.{same_some}
 use Rattle.typed_runs.specs.Planned.{Wider}
@@ -11,8 +11,7 @@ use Rattle.state_steps.specs.Facts.{Fact, FactHolds}
 use Rattle.state_steps.specs.Lookups.{Lookup, Part, Expects}
 use Rattle.verifier.specs.declared.waiting.Waiting.{Waiting}
 use Rattle.verifier.specs.declared.waiting.Waiting.TheVariants.{Nothing, Differing}
-use Rattle.verifier.specs.Peak.{Puts}
-use Rattle.verifier.specs.SecondPass.{Awaited, state_in, unboxed, AllBelow, JoinsTo, Joined, Merged, Table, size_of, awaited, states_in}
+use Rattle.verifier.specs.SecondPass.{Awaited, state_in, unboxed, AllBelow, JoinsTo, Joined, Merged}
 
 -- both are joined
 pub joined_from : (w new : Waiting) (a b c : AbsState) → w ≢ Differing → state_in w ≡ Some a → state_in new ≡ Some c → Wider (state_of a) (state_of c) → Wider (state_of b) (state_of c)
@@ -103,19 +102,6 @@ module _ (index : ℕ) (state : AbsState) (old new : Awaited) (m : Merged index 
 -- what is below without what was taken out
 pub taken_below : (top index : ℕ) (old new : Awaited) → AllBelow top old → ((k : ℕ) → k ≢ index → new k ≡ old k) → new index ≡ Nothing → AllBelow top new
 taken_below top index old new b others gone = merged_below top index old new b others (subst (λ w. IfSome (state_in w) (AreBelow top)) (sym gone) tt)
-
--- a state came to one place at most
-pub puts_one : (P : ℕ → Type 0) (index : ℕ) (state : AbsState) (old new : Table) → P index → Merged index state (awaited old) (awaited new) → size_of new ≡ size_of old → new.peak ≡ max old.peak (states_in new.places) → Puts P old new
-puts_one P index state old new there m size peak = record { only = only; size = size; peak = inr peak }
-  where
-    only : (k : ℕ) (a : AbsState) → state_in (awaited new k) ≡ Some a → P k ⊎ ((b : AbsState) × (state_in (awaited old k) ≡ Some b))
-    only k a e = elim (cases_eq k index) [
-      | inl g ↦ inl (subst P (sym g) there)
-      | inr n ↦ inr (a, ap state_in (sym (m.others k n)) ∙ e)
-    ]
-
-pub puts_none : (P : ℕ → Type 0) (t : Table) → Puts P t t
-puts_none P t = record { only = λ k a e. inr (a, e); size = refl; peak = inl refl }
 
 -- what waits after one place was emptied
 pub taken_others : (index : ℕ) (old rest : Awaited) → rest index ≡ Nothing → ((k : ℕ) → k ≢ index → rest k ≡ old k) → (k : ℕ) (a : AbsState) → state_in (rest k) ≡ Some a → (k ≢ index) × (state_in (old k) ≡ Some a)

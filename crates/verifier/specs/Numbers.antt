@@ -1,13 +1,13 @@
 -- The numbers by which refusals are known, and their slots.
 use Rattle.std.specs.Prelude.{ℕ, Option, Some, None}
-use Rattle.program_graph.specs.FlawNumbers.{flaw_number}
-use Rattle.kind_tests.specs.FaultNumbers.{fault_number}
+use Rattle.program_graph.specs.FlawNumbers.{graph_flaw_number}
+use Rattle.kind_tests.specs.FaultNumbers.{insn_fault_number}
 use Rattle.verifier.specs.declared.refusal.Refusal.{Refusal}
 use Rattle.verifier.specs.declared.refusal.Refusal.TheVariants.{Graph, Instruction, Memory}
 
 abbrev pub refusal_number : Refusal → ℕ
-refusal_number (Graph flaw slot) = flaw_number flaw
-refusal_number (Instruction fault slot) = fault_number fault
+refusal_number (Graph flaw slot) = graph_flaw_number flaw
+refusal_number (Instruction fault slot) = insn_fault_number fault
 refusal_number Memory = 13
 
 abbrev pub refusal_slot : Refusal → Option ℕ

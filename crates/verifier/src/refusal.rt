@@ -9,9 +9,9 @@ use thiserror::Error;
 /// Why a program is refused, and the slot of the instruction at which it is.
 #[derive(Clone, Copy, Debug, PartialEq, Eq, Error)]
 pub enum Refusal {
-    #[error("{flaw} at {slot}")]
+    #[error("{flaw} at slot {slot}")]
     Graph { flaw: GraphFlaw, slot: usize },
-    #[error("{fault} at {slot}")]
+    #[error("{fault} at slot {slot}")]
     Instruction { fault: Fault, slot: usize },
     #[error("out of memory")]
     Memory,

@@ -31,7 +31,7 @@ kin-old j k slots names es fs c ne n f less h =
     let x = c.back n f less h.born h.kept in
     record { old = x.element; was = record { born = x.born; in_map = x.in_map ∙ h.in_map; kept = x.kept }; view = x.view (λ e. ne (sym h.in_map ∙ e)); slot = c.named n less }
 
--- and so it is of the same map, where one element has a new life
+-- an element that is kept in the same map, after one has a new life, was kept before with the same view and slot
 kin-life : (slots : List ℕ) (k : ℕ) (es : List Element) (n : ℕ) (e : Element) (l : Life) → slice_get es n ≡ Some e → e.map ≡ k → is_reclaimed e.life ≡ false → (a : ℕ) (f : Element) → IsElementKept (slice_set es n (with_life l e)) k a f → Kin slots slots k es a f
 kin-life slots k es n e l born in_map kept a f g = elim (get-set_cases es n a (with_life l e) f g.born) [
   | inl x ↦ record { old = e; was = record { born = ap (slice_get es) x.0 ∙ born; in_map = in_map; kept = kept }; view = ap slot_view x.1; slot = refl }

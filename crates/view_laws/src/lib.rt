@@ -101,7 +101,8 @@ pub fn reaction_tracks()
         reaction w event ≡ Some x → AnswersAsScheduled TracksSchedule w event x.0 x.1 }
 {}
 
-/// So is any other step of a schedule that the world tracks, to a view with the same shapes and programs.
+/// A law: a step that simulates each schedule which the world tracks, to a view with the same shapes and programs,
+/// is answered as scheduled.
 pub fn simulates_tracks()
     ensures { (w new : WorldView) (event : Event) (answer : Answer) → IsReal event →
         shapes_of new ≡ shapes_of w → new.programs ≡ w.programs →

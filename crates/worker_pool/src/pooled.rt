@@ -19,7 +19,7 @@ pub struct Pooled<'a, L: Ledger> {
     pub shared: &'a Shared<L>,
 }
 
-// A copy of a context.
+/// A copy of a context.
 fn copy_of(ctx: &CtxBytes) -> CtxBytes
     ensures { result ≡ ctx.now }
 {
@@ -30,10 +30,10 @@ fn copy_of(ctx: &CtxBytes) -> CtxBytes
     }
 }
 
-// Steps the run until a step is answered with something else than a move; the receipt is that step's. Each
-// move is an entry of the worker, which counts its entries in 64 bits, so it ends. (A verified program moves
-// fewer than 4,096 times, and a full journal ends every run; but others may start a run of theirs in a slot
-// that they dropped the job's run from.)
+/// Steps the run until a step is answered with something else than a move; the receipt is that step's. Each
+/// move is an entry of the worker, which counts its entries in 64 bits, so it ends. (A verified program moves
+/// fewer than 4,096 times, and a full journal ends every run; but others may start a run of theirs in a slot
+/// that they dropped the job's run from.)
 fn step_to_end<L: Ledger, R: Wait>(
     rt: &R,
     shared: &Shared<L>,
@@ -56,7 +56,7 @@ fn step_to_end<L: Ledger, R: Wait>(
     }
 }
 
-// The job whose start was answered with this run, to its end.
+/// The job whose start was answered with this run, to its end.
 fn finish_job<L: Ledger, R: Wait>(
     rt: &R,
     shared: &Shared<L>,

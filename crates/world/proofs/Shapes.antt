@@ -33,12 +33,6 @@ either zero (suc q) = inr (inl (omega arith))
 either (suc p) zero = inr (inr (omega arith))
 either (suc p) (suc q) = elim (either p q) [ inl e ↦ inl (ap suc e) | inr less ↦ elim less [ inl h ↦ inr (inl (omega arith)) | inr h ↦ inr (inr (omega arith)) ] ]
 
-pub first-is-one : {shapes : List MapShape} {loaded : List Loaded} {p q : ℕ} → IsFirstUnbound shapes loaded p → IsFirstUnbound shapes loaded q → p ≡ q
-first-is-one {p = p} {q = q} a b = elim (either p q) [ inl e ↦ e | inr less ↦ elim less [ inl h ↦ absurd (a.unbound (b.before p a.program h a.there)) | inr h ↦ absurd (b.unbound (a.before q b.program h b.there)) ] ]
-
-pub none-is-first : {shapes : List MapShape} {loaded : List Loaded} {p : ℕ} → AreProgramsBound shapes loaded → IsFirstUnbound shapes loaded p → ⊥
-none-is-first {p = p} are a = a.unbound (are p a.program a.there)
-
 -- What is so of each element before an index, and of the one at it, is so of each up to it.
 pub each-more : {X : Type 0} (P : X → Type 0) (xs : List X) (i : ℕ) (e : X) → e ≡ get_or xs i e → P e → ((p : ℕ) (x : X) → p < i → slice_get xs p ≡ Some x → P x) → (p : ℕ) (x : X) → p < i + 1 → slice_get xs p ≡ Some x → P x
 each-more {X} P xs i e is holds before p x h at =

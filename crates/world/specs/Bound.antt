@@ -20,7 +20,8 @@ abbrev pub IsBound : List MapShape → Loaded → Type 0
 IsBound shapes l = IsBoundTo shapes l.verified.shapes l.maps.items
 
 abbrev pub AreProgramsBound : List MapShape → List Loaded → Type 0
-AreProgramsBound shapes loaded = (p : ℕ) (l : Loaded) → slice_get loaded p ≡ Some l → IsBound shapes l
+AreProgramsBound shapes loaded =
+    (p : ℕ) (l : Loaded) → slice_get loaded p ≡ Some l → IsBound shapes l
 
 -- Program p is not bound, and each before it is.
 pub record IsFirstUnbound (shapes : List MapShape) (loaded : List Loaded) (p : ℕ) : Type 0 where

@@ -13,7 +13,7 @@ use verifier::Verified;
 use world_parts::{Loaded, Stat};
 
 impl World {
-    /// The exit value of the run in a slot, where it has ended and was started with this program's
+    /// The exit value of the run in a run slot, where it has ended and was started with this program's
     /// instructions on this context.
     pub fn exit_of(&self, run: RunId, program: &Verified, ctx: &CtxBytes) -> Option<u64>
         ensures some { IfSome result (λ n.

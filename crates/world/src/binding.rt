@@ -41,7 +41,8 @@ fn have_shapes(registry: &Registry, numbers: &[usize], asked: &[MapShape]) -> bo
 
 /// The first program that is not bound.
 pub(crate) fn first_unbound(registry: &Registry, loaded: &[Loaded]) -> Option<ProgId>
-    ensures some { IfSome result (λ p. IsFirstUnbound (shapes_of_maps registry.now.maps) loaded.now p) }
+    ensures some { IfSome result (λ p.
+        IsFirstUnbound (shapes_of_maps registry.now.maps) loaded.now p) }
     ensures none { IfNone result (AreProgramsBound (shapes_of_maps registry.now.maps) loaded.now) }
 {
     for (index, program) in loaded.iter().enumerate() {
@@ -73,7 +74,7 @@ fn certify(program: &Loaded)
     let _count = program.maps.len();
 }
 
-/// A law: so is each of a list.
+/// A law: each loaded program of a list is verified, and its kinds are right.
 pub(crate) fn certify_programs(loaded: &[Loaded])
     ensures verified { (p : ℕ) (l : Loaded) → slice_get loaded.now p ≡ Some l →
         IsVerified l.verified.program l.verified.shapes l.verified.ctx_len }

@@ -5,26 +5,27 @@ use Rattle.std.proofs.lemmas.List.{length-map}
 use Rattle.std.proofs.lemmas.List.Sums.{sum_by-le}
 use Rattle.std.proofs.lemmas.Option.{slice_get-get_or}
 use Rattle.std.proofs.Math.Nat.{mul-le-mul}
+use Rattle.bpf_model.specs.declared.limits.TheConstants.{MAX_ENTRIES, MAX_SPARE, MAX_REUSE, MAX_MAPS}
 use Rattle.bpf_model.specs.declared.limits.MapShape.{MapShape}
 use Rattle.bpf_model.specs.MapState.{IsShape, AreShapes, most_births, slots_of_shape}
 use Rattle.bpf_model.specs.View.{MapView, WorldView, shapes_of}
 use Rattle.world_invariant.specs.Invariant.{IsWorld}
 
-births-few : (shape : MapShape) → IsShape shape → most_births shape ≤ 8192 * 4294967295
+births-few : (shape : MapShape) → IsShape shape → most_births shape ≤ (MAX_ENTRIES + MAX_SPARE) * MAX_REUSE
 births-few shape is =
-    let slots : slots_of_shape shape ≤ 8192 = omega (arith, is.entries.1, is.spare) in
-    let uses : shape.reuse_limit ≤ 4294967295 = omega (arith, is.reuse.1) in
+    let slots : slots_of_shape shape ≤ (MAX_ENTRIES + MAX_SPARE) = omega (arith, is.entries.1, is.spare) in
+    let uses : shape.reuse_limit ≤ MAX_REUSE = omega (arith, is.reuse.1) in
     mul-le-mul slots uses
 
-all-births-few : (shapes : List MapShape) → AreShapes shapes → sum_by most_births shapes ≤ length shapes * (8192 * 4294967295)
+all-births-few : (shapes : List MapShape) → AreShapes shapes → sum_by most_births shapes ≤ length shapes * ((MAX_ENTRIES + MAX_SPARE) * MAX_REUSE)
 all-births-few shapes are =
-    sum_by-le most_births (8192 * 4294967295) shapes (λ k d within. births-few (get_or shapes k d) (are k (get_or shapes k d) (slice_get-get_or shapes k d within)))
+    sum_by-le most_births ((MAX_ENTRIES + MAX_SPARE) * MAX_REUSE) shapes (λ k d within. births-few (get_or shapes k d) (are k (get_or shapes k d) (slice_get-get_or shapes k d within)))
 
 pub count_has_room : (w : WorldView) → IsWorld w → w.given + 1 < 2 ^ 64
 count_has_room w is =
     let shape = λ (v : MapView). v.shape in
     let count : length (shapes_of w) ≡ length w.maps = length-map w.maps shape in
-    let few : length w.maps ≤ 16 = is.ready.maps in
+    let few : length w.maps ≤ MAX_MAPS = is.ready.maps in
     let births = all-births-few (shapes_of w) is.tracks.limits in
     let given : w.given ≤ sum_by most_births (shapes_of w) = is.bounded.given in
     omega (arith, count, few, births, given)

@@ -2,6 +2,7 @@
 use Rattle.std.proofs.Common.{◌≡◌, ◌∙◌, zero, suc, ◌≤◌, List, [], ◌∷◌, map, length, refl, sym, ap, subst, arith}
 use Rattle.std.proofs.lemmas.List.{length-map}
 use Rattle.std.proofs.lemmas.Option.{none-some, same_Some}
+use Rattle.bpf_model.specs.declared.limits.TheConstants.{MAX_MAPS, MAX_PROGRAMS}
 use Rattle.bpf_model.specs.declared.event.Event.{Event}
 use Rattle.bpf_model.specs.declared.limits.MapShape.{MapShape}
 use Rattle.bpf_model.specs.Drain.{AnswersAsScheduled, AreScheduledAnswers}
@@ -53,7 +54,7 @@ ready_stays w event ready =
     let k = full_keeps w event in
     let new = (full_reaction w event).1 in
     let count : length new.maps ≡ length w.maps = same-count w new k.0 in
-    let few : length w.maps ≤ 16 = ready.maps in
+    let few : length w.maps ≤ MAX_MAPS = ready.maps in
     record {
       verified = subst (λ shapes. AreVerified shapes new.programs) (sym k.0) (subst (AreVerified (shapes_of w)) (sym k.1) ready.verified);
       programs = subst AreTypedPrograms (sym k.1) ready.programs;
@@ -67,7 +68,7 @@ bounded_stays w s event t ready real b =
     let next = simulates w s event t ready real in
     record {
       maps = (ready_stays w event ready).maps;
-      programs = subst (λ (ps : List Loaded). length ps ≤ 64) (sym k.1) b.programs;
+      programs = subst (λ (ps : List Loaded). length ps ≤ MAX_PROGRAMS) (sym k.1) b.programs;
       given = given_bounded new next.0 next.2;
     }
 
@@ -128,7 +129,7 @@ new-shapes : (shapes : List MapShape) → map shape (map new_map_view shapes) �
 new-shapes [] = refl
 new-shapes (x ∷ xs) = ap (λ l. x ∷ l) (new-shapes xs)
 
-pub starts_ready : (shapes : List MapShape) (programs : List Loaded) → length shapes ≤ 16 → AreVerified shapes programs → AreTypedPrograms programs → IsReadyWorld (start_view shapes programs)
+pub starts_ready : (shapes : List MapShape) (programs : List Loaded) → length shapes ≤ MAX_MAPS → AreVerified shapes programs → AreTypedPrograms programs → IsReadyWorld (start_view shapes programs)
 starts_ready shapes programs few verified real =
     let count : length (map new_map_view shapes) ≡ length shapes = length-map shapes new_map_view in
     record {

@@ -70,7 +70,7 @@ pub fn insn_is_real(insn: &Insn)
     }
 }
 
-/// So is each of a program.
+/// A law: each instruction of a program names registers that there are, and numbers of 32 bits.
 pub fn code_is_real(code: &[Insn])
     ensures { (k : ℕ) (i : Insn) → slice_get code.now k ≡ Some i → IsInsn i }
 {

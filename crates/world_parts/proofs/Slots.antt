@@ -14,9 +14,6 @@ Runs = List (Option RunWords)
 abbrev pub AreTaken : Runs → ℕ → Type 0
 AreTaken runs n = (k : ℕ) → k < n → slice_get runs k ≡ Some None → ⊥
 
-pub taken-none : (runs : Runs) → AreTaken runs 0
-taken-none runs k h e = absurd (omega arith)
-
 pub free-here : (runs : Runs) (n : ℕ) → slice_get runs n ≡ Some None → AreTaken runs n → free_slot (map view_of runs) ≡ Some n
 free-here [] n e h = absurd (none-some None e)
 free-here (None ∷ runs) zero e h = refl

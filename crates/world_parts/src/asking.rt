@@ -48,7 +48,7 @@ fn occupied(runs: &[Option<Run>]) -> usize
     count
 }
 
-/// Whether the run of a slot is inside a section.
+/// Whether the run of a run slot is inside a section.
 fn is_run_inside(run: &Option<Run>) -> bool
     ensures { result ≡ has_open_lock run.now }
 {
@@ -72,7 +72,7 @@ fn inside(runs: &[Option<Run>]) -> usize
 }
 
 impl Parts {
-    /// The exit value of the run in a slot, where it has ended and was started with this program's
+    /// The exit value of the run in a run slot, where it has ended and was started with this program's
     /// instructions on this context.
     pub fn exit_of(&self, run: RunId, program: &Verified, ctx: &CtxBytes) -> Option<u64>
         ensures some { IfSome result (λ n.

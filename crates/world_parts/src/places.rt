@@ -13,7 +13,7 @@ pub(crate) fn program_at(programs: &[Loaded], prog: ProgId) -> Option<&Loaded>
     programs.get(prog.index())
 }
 
-/// The run in a slot, if there is one.
+/// The run in a run slot, if there is one.
 pub(crate) fn run_at(runs: &[Option<Run>], run: RunId) -> Option<&Run>
     ensures some { IfSome result (λ r. slice_get runs.now run ≡ Some (Some r.now)) }
     ensures none { IfNone result (HasNoRun runs.now run) }

@@ -46,7 +46,7 @@ impl Parts {
         }
     }
 
-    /// Why the run of a slot is not dropped, if it is not.
+    /// Why the run of a run slot is not dropped, if it is not.
     fn drop_refusal(&self, run: RunId) -> Option<EventRefusal>
         ensures { result ≡ drop_refused (run_shown (slice_get self.now.runs run)) }
     {

@@ -16,7 +16,7 @@ use helpers::serve;
 use machine::{Local, Run};
 use maps::Registry;
 
-/// One step of the run in a slot, with the world's maps and flags. What the run asks is served,
+/// One step of the run in a run slot, with the world's maps and flags. What the run asks is served,
 /// and the run goes on with the reply.
 fn step_run(
     run: &mut Run,
@@ -40,7 +40,7 @@ fn step_run(
     }
 }
 
-/// One step of the run that stands in a slot.
+/// One step of the run that stands in a run slot.
 fn step_slot(
     runs: &mut Vec<Option<Run>>,
     programs: &Vec<Loaded>,
@@ -62,7 +62,7 @@ fn step_slot(
 }
 
 impl Parts {
-    /// Why the run of a slot makes no step, if it makes none.
+    /// Why the run of a run slot makes no step, if it makes none.
     fn step_refusal(&self, run: RunId) -> Option<EventRefusal>
         ensures { result ≡ step_refused (run_shown (slice_get self.now.runs run)) }
     {

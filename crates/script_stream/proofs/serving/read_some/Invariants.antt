@@ -1,4 +1,3 @@
-use Rattle.std.proofs.Common.{◌≡◌, ◌<◌, length}
 use Rattle.std.specs.Io.KnownBytes.{Keeps}
 use Rattle.script_stream.proofs.serving.read_some.Given as goal
 

@@ -1,4 +1,4 @@
-use Rattle.std.proofs.Common.{◌≡◌, ℕ, ◌<◌, Bool, true, false, MatchBool, List, ◌++◌, [], length, refl, ap, sym, subst, ◌∙◌, arith, inl, inr}
+use Rattle.std.proofs.Common.{◌≡◌, Bool, true, false, MatchBool, ◌++◌, [], refl, arith, inl, inr}
 use Rattle.std.proofs.KnownBytes.{Appends-trans, Consumes-trans, Consumes-nil, Appends-nil}
 use Rattle.std.specs.List.{length_refill}  -- `with_items` keeps the length
 use Rattle.std.proofs.lemmas.Result.{err_from_is_err_and}

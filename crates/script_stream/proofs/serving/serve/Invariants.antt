@@ -1,4 +1,4 @@
-use Rattle.std.proofs.Common.{◌≡◌, ℕ, ◌<◌, List, length}
+use Rattle.std.proofs.Common.{ℕ, ◌<◌, List, length}
 use Rattle.std.specs.Io.KnownBytes.{Appends, Consumes}
 use Rattle.script_stream.specs.Progress.{IsAt}
 use Rattle.script_stream.proofs.serving.serve.Given as goal

@@ -1,9 +1,8 @@
-use Rattle.std.proofs.Common.{◌≡◌, ℕ, List, ◌++◌, [], take, refl, ap, sym, subst, ◌∙◌, append_assoc, append-nil, inl, inr}
-use Rattle.std.proofs.KnownBytes.{Appends-trans, Consumes-trans, Consumes-kept, Consumes-nil, Appends-nil}
+use Rattle.std.proofs.Common.{◌≡◌, ◌++◌, [], take, refl, ap, sym, subst, ◌∙◌, append_assoc, append-nil}
+use Rattle.std.proofs.KnownBytes.{Appends-trans, Consumes-kept, Consumes-nil, Appends-nil}
 use Rattle.std.proofs.lemmas.Result.{err_from_is_err_and}
 use Rattle.script_stream.specs.Lines.{lines_of}
 use Rattle.script_stream.specs.Answered.{Answered}
-use Rattle.script_stream.specs.Progress.{IsAt, FailsWith}
 use Rattle.script_stream.proofs.ProgressLemmas.{fails_reading, fails_writing, IsAt-sent, IsAt-at, FailsWith-at, not_read_bad}
 use Rattle.script_stream.proofs.serving.serve_some.Goals as goal
 

@@ -1,5 +1,6 @@
 use Rattle.std.proofs.Common.{◌≡◌, ◌∙◌, ◌+◌, ◌<◌, ◌≤◌, [], ◌∷◌, ◌++◌, length, Some, sym, ap, arith, length-append}
 use Rattle.std.specs.FinMap as map
+use Rattle.bpf_model.specs.declared.limits.TheConstants.{MAX_ENTRIES, MAX_SPARE}
 use Rattle.element_arena.specs.State.{key_at}
 use Rattle.maps.specs.Counting.{unlinked_in, worn_in}
 use Rattle.maps.specs.Parted.{PartsView}
@@ -18,7 +19,7 @@ overflow_sub-self g c =
 
 pub overflow_add-self : goal.overflow_add-self
 overflow_add-self g c =
-    let f : unlinked_in (map_view c.self.inside.shape c.self.inside.parts) ≤ 8192 = few-unlinked c.self.inside.shape c.self.inside.parts c.self.inside.counts.linked c.find.ensures.parted c.self.invariant.kept in
+    let f : unlinked_in (map_view c.self.inside.shape c.self.inside.parts) ≤ MAX_ENTRIES + MAX_SPARE = few-unlinked c.self.inside.shape c.self.inside.parts c.self.inside.counts.linked c.find.ensures.parted c.self.invariant.kept in
     let e : c.self.inside.counts.unlinked ≡ unlinked_in (map_view c.self.inside.shape c.self.inside.parts) = c.self.invariant.unlinked in
     omega arith
 

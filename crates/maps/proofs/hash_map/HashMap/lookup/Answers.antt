@@ -1,6 +1,7 @@
-use Rattle.std.proofs.Common.{◌≡◌, ◌∙◌, ℕ, ◌<◌, List, Option, Some, None, length, ap, sym, arith}
+use Rattle.std.proofs.Common.{◌≡◌, ◌∙◌, ℕ, ◌<◌, List, Option, Some, None, length, ap, sym, arith, ◌+◌}
 use Rattle.std.specs.Prelude.{IfSome}
 use Rattle.std.specs.FinMap.{get}
+use Rattle.bpf_model.specs.declared.limits.TheConstants.{MAX_ENTRIES, MAX_SPARE}
 use Rattle.bpf_model.specs.declared.limits.MapShape.{MapShape}
 use Rattle.bpf_model.specs.MapState.{IsShape, slots_of_shape}
 use Rattle.element_arena.specs.State.{IsTaken}
@@ -9,7 +10,7 @@ use Rattle.maps.specs.Shown.{IsMap}
 use Rattle.maps.proofs.Parting.{standing-taken, linked-stands}
 use Rattle.maps.proofs.hash_map.HashMap.lookup.Goals as goal
 
-found-inside : (shape : MapShape) (p : PartsView) (n : ℕ) (key : List ℕ) (o : Option ℕ) → IsMap shape p n → IsParted p → o ≡ get p.index key → IfSome o (λ i. i < 8192)
+found-inside : (shape : MapShape) (p : PartsView) (n : ℕ) (key : List ℕ) (o : Option ℕ) → IsMap shape p n → IsParted p → o ≡ get p.index key → IfSome o (λ i. i < MAX_ENTRIES + MAX_SPARE)
 found-inside shape p n key None m h e = tt
 found-inside shape p n key (Some i) m h e =
     let t : IsTaken p.arena i = standing-taken p i h (linked-stands p i (ap (get p.index) (h.keyed key i (sym e)) ∙ sym e)) in

@@ -1,6 +1,7 @@
-use Rattle.std.proofs.Common.{◌≡◌, ◌∙◌, ◌<◌, ◌≤◌, arith, sym, ap, subst, length}
+use Rattle.std.proofs.Common.{◌≡◌, ◌∙◌, ◌<◌, ◌≤◌, arith, sym, ap, subst, length, ◌+◌}
 use Rattle.std.specs.Prelude.{IfNone}
 use Rattle.std.specs.FinMap as map
+use Rattle.bpf_model.specs.declared.limits.TheConstants.{MAX_ENTRIES, MAX_SPARE}
 use Rattle.bpf_model.specs.View.{MapView}
 use Rattle.maps.specs.Counting.{IsCounted, unlinked_in}
 use Rattle.maps.specs.Shown.{map_view}
@@ -21,6 +22,6 @@ invariant_of-self-in-Some g c =
 
 pub counts_after_update-self-inside-requires-clause-unlinked : goal.counts_after_update-self-inside-requires-clause-unlinked
 counts_after_update-self-inside-requires-clause-unlinked g c =
-    let f : unlinked_in (map_view c.self.inside.shape c.self.inside.parts) ≤ 8192 = few-unlinked c.self.inside.shape c.self.inside.parts c.self.inside.counts.linked c.is_parted.ensures c.self.invariant.kept in
+    let f : unlinked_in (map_view c.self.inside.shape c.self.inside.parts) ≤ MAX_ENTRIES + MAX_SPARE = few-unlinked c.self.inside.shape c.self.inside.parts c.self.inside.counts.linked c.is_parted.ensures c.self.invariant.kept in
     let e : c.self.inside.counts.unlinked ≡ unlinked_in (map_view c.self.inside.shape c.self.inside.parts) = c.self.invariant.unlinked in
     omega arith

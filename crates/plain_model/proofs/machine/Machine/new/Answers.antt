@@ -1,4 +1,4 @@
-use Rattle.std.proofs.Common.{◌≡◌, List, [], Option, None, Bool, ap, ◌∙◌, map, length}
+use Rattle.std.proofs.Common.{List, [], Option, None, Bool, ap, ◌∙◌, map}
 use Rattle.std.specs.Prelude.{replicate}
 use Rattle.bpf_model.specs.Schedule.{Queues, Schedule}
 use Rattle.bpf_model.specs.MapState.{Store, new_map}

@@ -1,4 +1,4 @@
-use Rattle.std.proofs.Common.{◌≡◌, ℕ, List, ◌++◌, [], Err, ap, sym, subst, ◌∙◌, append-nil}
+use Rattle.std.proofs.Common.{◌++◌, [], Err, ap, sym, subst, ◌∙◌, append-nil}
 use Rattle.std.proofs.lemmas.Result.{MatchResult-weaker}
 use Rattle.script_stream.specs.Lines.{lines_of}
 use Rattle.script_stream.specs.Answered.{Answered}

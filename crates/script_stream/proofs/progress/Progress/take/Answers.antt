@@ -1,7 +1,6 @@
-use Rattle.std.proofs.Common.{◌≡◌, ℕ, List, ◌++◌, [], ◌∷◌, Err, ap, sym, subst, ◌∙◌, append_assoc, append-nil}
+use Rattle.std.proofs.Common.{◌++◌, [], ◌∷◌, Err, ap, sym, ◌∙◌, append_assoc}
 use Rattle.std.proofs.KnownBytes.{Appends-trans}
 use Rattle.std.proofs.lemmas.Result.{err_from_is_err_and}
-use Rattle.script_stream.specs.Progress.{IsAt, FailsWith}
 use Rattle.script_stream.proofs.ProgressLemmas.{fails, next_too_long, IsAt-kept, IsAt-at, FailsWith-at}
 use Rattle.script_stream.proofs.progress.Progress.take.Goals as goal
 

@@ -1,4 +1,4 @@
-use Rattle.std.proofs.Common.{◌≡◌, ℕ, ◌++◌, [], ◌∷◌, Err, ap, sym, ◌∙◌, append_assoc, inr}
+use Rattle.std.proofs.Common.{◌++◌, [], ◌∷◌, Err, ap, sym, ◌∙◌, append_assoc}
 use Rattle.std.proofs.lemmas.Result.{on_ok_weaker, MatchResult-weaker}
 use Rattle.script_stream.proofs.ProgressLemmas.{fails, next_of_piece, fails_writing, IsAt-line, IsAt-sent}
 use Rattle.script_stream.proofs.progress.Progress.take_line.Goals as goal

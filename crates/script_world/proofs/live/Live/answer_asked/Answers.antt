@@ -1,7 +1,7 @@
 use Rattle.std.proofs.Common.{◌≡◌, ◌∙◌, List, [], ◌∷◌, ◌++◌, None, ap, refl}
 use Rattle.std.specs.Prelude.{OnOk, Ok, Err, slice_get}
 use Rattle.std.specs.List.{flat_map}
-use Rattle.bpf_model.specs.Event.{event_refusal_code}
+use Rattle.bpf_model.specs.Event.{event_refusal_number}
 use Rattle.script_lines.specs.declared.reply.Reply.{Reply}
 use Rattle.script_lines.specs.declared.reply.Reply.TheVariants.{End}
 use Rattle.script_lines.specs.Answers.{reply_text}
@@ -20,7 +20,7 @@ returns-in-Sealed c =
 
 pub returns-in-Refused : goal.returns-in-Refused
 returns-in-Refused c =
-    replied_once c.args.self.now c.args.asked (asked.Refused c.in-Refused.refusal) [] c.refused-in-Refused.result (refused (event_refusal_code c.in-Refused.refusal)) c.args.self.now.world _ _ c.write_reply-in-Refused.result c.in-Refused.is (nothing c.args.self.now.world c.is_world.ensures) (c.refused-in-Refused.ensures ∙ ap refused c.code.ensures) (refl, refl, refl) c.write_reply-in-Refused.ensures
+    replied_once c.args.self.now c.args.asked (asked.Refused c.in-Refused.refusal) [] c.refused-in-Refused.result (refused (event_refusal_number c.in-Refused.refusal)) c.args.self.now.world _ _ c.write_reply-in-Refused.result c.in-Refused.is (nothing c.args.self.now.world c.is_world.ensures) (c.refused-in-Refused.ensures ∙ ap refused c.code.ensures) (refl, refl, refl) c.write_reply-in-Refused.ensures
 
 pub returns-in-Event : goal.returns-in-Event
 returns-in-Event c =
@@ -29,8 +29,8 @@ returns-in-Event c =
 
 pub returns-in-Overlong : goal.returns-in-Overlong
 returns-in-Overlong c =
-    let told = refused (event_refusal_code (overlong_refusal (slice_get c.args.self.now.world.programs c.in-Overlong.prog))) in
-    replied_once c.args.self.now c.args.asked (asked.Overlong c.in-Overlong.prog) [] c.refused-in-Overlong.result told c.args.self.now.world _ _ c.write_reply-in-Overlong.result c.in-Overlong.is (nothing c.args.self.now.world c.is_world.ensures) (c.refused-in-Overlong.ensures ∙ ap refused (c.code-in-Overlong.ensures ∙ ap event_refusal_code c.refusal_of_overlong.ensures)) (refl, refl, refl) c.write_reply-in-Overlong.ensures
+    let told = refused (event_refusal_number (overlong_refusal (slice_get c.args.self.now.world.programs c.in-Overlong.prog))) in
+    replied_once c.args.self.now c.args.asked (asked.Overlong c.in-Overlong.prog) [] c.refused-in-Overlong.result told c.args.self.now.world _ _ c.write_reply-in-Overlong.result c.in-Overlong.is (nothing c.args.self.now.world c.is_world.ensures) (c.refused-in-Overlong.ensures ∙ ap refused (c.code-in-Overlong.ensures ∙ ap event_refusal_number c.refusal_of_overlong.ensures)) (refl, refl, refl) c.write_reply-in-Overlong.ensures
 
 pub returns-in-Steps : goal.returns-in-Steps
 returns-in-Steps c =
