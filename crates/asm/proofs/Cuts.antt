@@ -1,5 +1,5 @@
 -- What the methods of text give, by cases on their results.
-use Rattle.std.proofs.Common.{ℕ, ◌≡◌, ◌≢◌, ◌<◌, List, ◌∷◌, ◌++◌, length, get_or, sym, ◌∙◌, Bor}
+use Rattle.std.proofs.Common.{ℕ, ◌≡◌, ◌≢◌, ◌<◌, List, ◌∷◌, ◌++◌, length, get_or, Bor}
 use Rattle.std.specs.Prelude.{Option, Some, None, IfSome, IfNone, MatchOption}
 use Rattle.asm.specs.Reading.{Lacks}
 
@@ -11,9 +11,6 @@ pub split_front : (c : ℕ) (text : List ℕ) (r : Option (Bor (List ℕ) × Bor
 split_front c text None h = tt
 split_front c text (Some x) h = h.1
 
-rest_is : (c : ℕ) (x rest : List ℕ) → (c ∷ x) ≡ c ∷ rest → x ≡ rest
-rest_is c x rest e = cc
-
 pub strip_only : (c : ℕ) (text : List ℕ) (r : Option (Bor (List ℕ))) → MatchOption r ((rest : List ℕ) → text ≢ c ∷ rest) (λ x. text ≡ c ∷ x.now) → (rest : List ℕ) → text ≡ c ∷ rest → MatchOption r ⊥ (λ x. x.now ≡ rest)
 strip_only c text None h rest e = h rest e
-strip_only c text (Some x) h rest e = rest_is c x.now rest (sym h ∙ e)
+strip_only c text (Some x) h rest e = cc

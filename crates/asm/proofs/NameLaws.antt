@@ -115,9 +115,6 @@ passes_or test x rest false e h = h
 false_no : false ≡ true → ⊥
 false_no e = cc
 
-tail_same : (b : ℕ) (xs ys : List ℕ) → (b ∷ xs) ≡ b ∷ ys → xs ≡ ys
-tail_same b xs ys e = cc
-
 find_passes : {X : Type 0} (test : X → Bool) (xs : List X) → IfSome (find test xs) (λ x. test x ≡ true)
 find_passes test [] = tt
 find_passes test (x ∷ xs) = passes_or test x (find test xs) (test x) refl (find_passes test xs)
@@ -132,7 +129,7 @@ named_found name (Some m) e =
 
 cancel : (front xs ys : List ℕ) → (front ++ xs) ≡ front ++ ys → xs ≡ ys
 cancel [] xs ys e = e
-cancel (b ∷ front) xs ys e = cancel front xs ys (tail_same b (front ++ xs) (front ++ ys) e)
+cancel (b ∷ front) xs ys e = cancel front xs ys (cc)
 
 tested : (xs ys : List ℕ) (b : Bool) → Decides b (xs ≡ ys) → b ≡ bytes_eq xs ys
 tested xs ys b h = search (rules, bytes_eq-Decides)

@@ -1,5 +1,7 @@
 -- The laws, for states in code.
-use Rattle.std.proofs.Common.{◌≡◌, ℕ, ◌^◌, ◌/◌, ◌<◌, List, Some, ap, ℤ, arith, true, false}
+use Rattle.std.proofs.Common.{◌≡◌, ℕ, ◌^◌, ◌/◌, ◌<◌, List, Some, ap, ℤ, arith, true, false, ◌+◌, ◌≤◌, ◌∙◌, pos}
+use Rattle.std.specs.Prelude.{slice_get}
+use Rattle.bpf_model.specs.declared.limits.TheConstants.{FRAME_BYTES}
 use Rattle.bpf_model.specs.declared.limits.MapShape.{MapShape}
 use Rattle.bpf_model.specs.declared.insn.Insn.{Insn}
 use Rattle.bpf_model.specs.declared.insn.Insn.TheVariants.{Call}
@@ -14,7 +16,7 @@ use Rattle.std.specs.Int.Bits.{and_self}
 use Rattle.typed_runs.specs.Kinds.{Kind, Blank, Mixed, Ended, Num, CtxAt, FrameAt, MapAt, ValueAt, MaybeNull, AbsState}
 use Rattle.typed_runs.specs.Effects.{after_call, after_lock, after_unlock, IsOther, IsOtherCell, IsFresh, HasMap, HasBytes, when_null, when_there}
 use Rattle.typed_runs.specs.Verified.{Transfers}
-use Rattle.typed_runs.specs.Planned.{Wider, AreAlike, origin}
+use Rattle.typed_runs.specs.Planned.{AreAlike, origin}
 use Rattle.typed_runs.proofs.Planning.{alike_wider, transfers_wider, origin_has, to_alike}
 use Rattle.typed_runs.proofs.Calls.{lock_transfers, unlock_transfers, lookup_transfers}
 use Rattle.typed_runs.proofs.Updating.{update_transfers, delete_transfers}
@@ -31,11 +33,8 @@ use Rattle.register_kinds.specs.Changes.{zero, learnt}
 use Rattle.kind_tests.specs.Forks.{ForksOnNull}
 use Rattle.call_effects.specs.Calls.{PerformsCall, null_jump}
 
-same : (a : AbsState) → Wider a a
-same a c m d = d
-
 to-both : (i : Insn) (shapes : List MapShape) (ctx_len : ℕ) (a b c x y : AbsState) → AreAlike b c → AreAlike x y → Transfers i shapes ctx_len a b (Some x) → Transfers i shapes ctx_len a c (Some y)
-to-both i shapes ctx_len a b c x y e f t = transfers_wider i shapes ctx_len a a b c (Some x) (Some y) (same a) (alike_wider b c e) (alike_wider x y f) t
+to-both i shapes ctx_len a b c x y e f t = transfers_wider i shapes ctx_len a a b c (Some x) (Some y) (λ c m d. d) (alike_wider b c e) (alike_wider x y f) t
 
 pub lock_sound : (a b : StateHere) → a.inside ≡ false → AreAlike (after_lock (state_of a)) (state_of b) → (imm : ℤ) (shapes : List MapShape) → kernel_function_of imm ≡ Some ReadLock → PerformsCall callee.Kernel imm shapes a b
 lock_sound a b out e imm shapes f ctx_len = to_alike (Call callee.Kernel imm) shapes ctx_len (state_of a) (after_lock (state_of a)) (state_of b) e (lock_transfers imm shapes ctx_len (state_of a) f out)

@@ -1,5 +1,5 @@
 -- Program files, line by line.
-use Rattle.std.proofs.Common.{◌≡◌, ◌≢◌, ℕ, ◌+◌, ◌<◌, ◌≤◌, ◌==◌, Bool, true, false, List, [], ◌∷◌, ◌++◌, length, flat_map, refl, sym, ap, ap₂, subst, ◌∙◌, arith, append_assoc, append-nil, lit<}
+use Rattle.std.proofs.Common.{◌≡◌, ◌≢◌, ℕ, ◌==◌, Bool, false, List, [], ◌∷◌, ◌++◌, flat_map, refl, sym, ap, ap₂, subst, ◌∙◌, arith, append_assoc, append-nil}
 use Rattle.std.specs.Prelude.{Option, Some, None, Result, Ok, Err, OnOk, codes}
 use lib.Pointwise.{pointwise}
 use Rattle.std.proofs.lemmas.Bool.{false≢true}
@@ -10,6 +10,7 @@ use Rattle.maps.specs.Registry.{RegistryView}
 use Rattle.loader.specs.Lines.{file_words, IsDecimalWord, code_slots, both_parts, slot_in}
 use Rattle.loader.specs.ProgramFile.{FileContent, no_maps, IsContextLine, IsMapLine, AddsMap, AddMaps, IsProgramFile, IsFileBeginning, IsWrongAfter, IsFirstWrongLine}
 use Rattle.loader.specs.Reading.{AreMapsSoFar, AreShapeWords, IsAtStage}
+use Rattle.loader.proofs.Slots.{joined_nil}
 use Rattle.loader.specs.declared.fault.LineFault.{LineFault}
 use Rattle.loader.specs.declared.loading.Stage.{Stage}
 use Rattle.loader.specs.declared.loading.Stage.TheVariants.{Context, Maps, Code}
@@ -157,10 +158,6 @@ map_wrong lines line n r h other wrong b =
     ap (λ (ls : List (List ℕ)). h.first ∷ ls) (sym (append_assoc h.map_lines (line ∷ []) b.0)) ∙ sym (ap (λ ls. (ls ++ line ∷ []) ++ b.0) h.parts) ∙ k.parts in
     no_map_line no_maps r b.1.registry h.map_lines k.map_lines k.code_lines line b.0 h.maps k.maps other wrong (tails h.first k.first _ _ whole)
 
-nil_joined : (x : Option (List ℕ)) → x ≡ both_parts (Some []) x
-nil_joined None = refl
-nil_joined (Some bytes) = refl
-
 joined_assoc : (x y z : Option (List ℕ)) → both_parts x (both_parts y z) ≡ both_parts (both_parts x y) z
 joined_assoc None y z = refl
 joined_assoc (Some a) None z = refl
@@ -168,7 +165,7 @@ joined_assoc (Some a) (Some b) None = refl
 joined_assoc (Some a) (Some b) (Some c) = ap Some (sym (append_assoc a b c))
 
 slots_append : (vs ws : List (List ℕ)) → code_slots (vs ++ ws) ≡ both_parts (code_slots vs) (code_slots ws)
-slots_append [] ws = nil_joined (code_slots ws)
+slots_append [] ws = joined_nil (code_slots ws)
 slots_append (v ∷ vs) ws = ap (both_parts (slot_in v)) (slots_append vs ws) ∙ joined_assoc (slot_in v) (code_slots vs) (code_slots ws)
 
 joined_none : (x : Option (List ℕ)) → both_parts x None ≡ None

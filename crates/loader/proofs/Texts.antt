@@ -1,12 +1,12 @@
 -- The lines of a text, read up to some place.
-use Rattle.std.proofs.Common.{◌≡◌, ◌≢◌, ℕ, ◌+◌, ◌<◌, ◌≤◌, ◌^◌, ◌==◌, Bool, true, false, not, List, [], ◌∷◌, ◌++◌, length, Bor, refl, sym, ap, subst, ◌∙◌, arith, append_assoc, append-nil, inl, inr}
+use Rattle.std.proofs.Common.{◌≡◌, ℕ, ◌+◌, ◌<◌, ◌≤◌, ◌==◌, Bool, false, not, List, [], ◌∷◌, ◌++◌, length, Bor, refl, sym, ap, subst, ◌∙◌, arith, append_assoc, append-nil, inl, inr}
 use Rattle.std.specs.Prelude.{Option, Some, None, MatchOption, Result, Ok, Err, IfOk, IfErr, MatchResult}
 use Rattle.std.proofs.lemmas.Bool.{false≢true}
 use Rattle.std.proofs.lemmas.Bool.Decides.{nat_tests}
 use Rattle.std.proofs.lemmas.List.{length-append}
 use Rattle.bpf_model.specs.declared.limits.TheConstants.{CTX_BYTES}
 use Rattle.loader.specs.Lines.{file_lines}
-use Rattle.loader.specs.ProgramFile.{FileContent, heading, IsProgramFile, IsFileBeginning, IsWrongAfter, IsFirstWrongLine, FileSays, IsWrongFile, IsLoadFault}
+use Rattle.loader.specs.ProgramFile.{FileContent, heading, IsProgramFile, IsFileBeginning, IsFirstWrongLine, FileSays, IsWrongFile, IsLoadFault}
 use Rattle.loader.specs.Reading.{HasNoByte, HasLoaded}
 use Rattle.loader.specs.declared.loading.Loading.{Loading}
 use Rattle.loader.specs.Loaded.{loaded_content}

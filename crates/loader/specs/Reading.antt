@@ -1,10 +1,10 @@
 -- Words of the reader's own contracts.
-use Rattle.std.specs.Prelude.{◌≡◌, ℕ, Bool, true, false, ◌==◌, List, [], ◌∷◌, ◌++◌, All, Option}
-use Rattle.std.specs.Prelude.{Some, None, flat_map, codes}
+use Rattle.std.specs.Prelude.{◌≡◌, ℕ, false, ◌==◌, List, [], ◌∷◌, All, Option}
+use Rattle.std.specs.Prelude.{Some, None}
 use Rattle.std.specs.Borrow.{Bor}
 use Rattle.bpf_model.specs.declared.limits.MapShape.{MapShape}
 use Rattle.maps.specs.Registry.{RegistryView}
-use Rattle.loader.specs.Lines.{file_words, code_slots, IsDecimalWord}
+use Rattle.loader.specs.Lines.{file_words, IsDecimalWord}
 use Rattle.loader.specs.ProgramFile.{FileContent, IsProgramFile, IsContextLine, AddMaps, no_maps}
 use Rattle.loader.specs.declared.loading.Loading.{Loading}
 use Rattle.loader.specs.declared.loading.Stage.{Stage}

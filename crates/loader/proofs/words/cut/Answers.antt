@@ -1,4 +1,4 @@
-use Rattle.std.proofs.Common.{rules, sym, ap, subst, take_all, arith}
+use Rattle.std.proofs.Common.{rules, subst, take_all}
 use Rattle.loader.specs.Reading.{HasNoByte}
 use Rattle.loader.proofs.Splitting.{no_byte_more}
 use Rattle.loader.proofs.words.cut.Goals as goal

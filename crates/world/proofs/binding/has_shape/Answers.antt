@@ -1,9 +1,10 @@
-use Rattle.std.proofs.Common.{◌≡◌, ◌∙◌, Bool, true, false, Some, refl, sym, ap, subst}
+use Rattle.std.proofs.Common.{◌≡◌, ◌∙◌, Bool, true, Some, refl, sym, ap, subst}
 use Rattle.std.specs.Prelude.{◌==◌, ◌&&◌}
 use Rattle.std.proofs.lemmas.Bool.{and_from, eqb-true, eq-eqb}
 use Rattle.std.proofs.lemmas.Option.{none-some, same_Some, slice_get-map}
 use Rattle.bpf_model.specs.declared.limits.MapShape.{MapShape}
 use Rattle.bpf_model.specs.View.{MapView}
+use Rattle.world_laws.proofs.Words.{both}
 use Rattle.world.proofs.binding.has_shape.Goals as goal
 
 abbrev shape_of : MapView → MapShape
@@ -12,10 +13,6 @@ shape_of v = v.shape
 abbrev is_same : MapShape → MapShape → Bool
 is_same a b =
     (a.key_len == b.key_len) && ((a.value_len == b.value_len) && ((a.entries == b.entries) && ((a.spare == b.spare) && (a.reuse_limit == b.reuse_limit))))
-
-both : (x y : Bool) → (x && y) ≡ true → (x ≡ true) × (y ≡ true)
-both true y e = (refl, e)
-both false y e = absurd (cc)
 
 same : (a b : MapShape) → is_same a b ≡ true → a ≡ b
 same a b e =
