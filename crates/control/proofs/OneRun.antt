@@ -15,6 +15,7 @@ use Rattle.script_stream.specs.declared.fault.ScriptFault.{ScriptFault}
 use Rattle.script_world.specs.declared.live.Live.{Live}
 use Rattle.script_world.specs.Lives.{Happen}
 use Rattle.script_world.proofs.Happening.{happen_more}
+use Rattle.control.proofs.Lifting.{fails_by}
 use Rattle.control.specs.Histories.{History, Continues, RunsTo, StaysMade}
 use Rattle.control.specs.Sessions.{AnswersCommand, LineAnswers, RepliesOnce, SessionReplies, SetupReplies, WorldReplies, TracksStart, sealed}
 use Rattle.control.specs.declared.session.Session.{Session}
@@ -92,24 +93,4 @@ histories old made before (line ∷ lines) text new r (first, rest, mid, (events
 
 pub fails_at : (is_bad : List ℕ → Type 0) (old : Session) (made : SetupView) (past : List Event) (read written : List ℕ) (fault : ScriptFault) → RunsTo made past old → FailsWith says_something is_bad old read written fault → FailsWith Continues is_bad (history old made past) read written fault
 fails_at is_bad old made past read written fault r f =
-    let begun = histories old made past f.begun.first _ f.begun.new r f.begun.answered in
-    record {
-      begun = record {
-        first = f.begun.first;
-        others = f.begun.others;
-        lines = f.begun.lines;
-        more = f.begun.more;
-        new = history f.begun.new begun.0 begun.1;
-        answered = begun.2;
-      };
-      before = λ line e. let b = f.before line e in let all = histories old made past b.good written b.new r b.answered in record {
-        good = b.good;
-        bad = b.bad;
-        others = b.others;
-        lines = b.lines;
-        number = b.number;
-        is = b.is;
-        new = history b.new all.0 all.1;
-        answered = all.2;
-      };
-    }
+    fails_by says_something Continues is_bad old (history old made past) read written fault (λ lines text new a. let all = histories old made past lines text new r a in (history new all.0 all.1, all.2)) f

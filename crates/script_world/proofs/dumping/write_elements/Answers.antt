@@ -1,9 +1,9 @@
-use Rattle.std.proofs.Common.{◌≡◌, ◌<◌, ◌∙◌, ℕ, List, [], ◌∷◌, ◌++◌, Option, Some, None, map, sym, ap, subst, refl, append_assoc, append-nil}
+use Rattle.std.proofs.Common.{◌≡◌, ◌<◌, ◌∙◌, ℕ, List, [], ◌∷◌, ◌++◌, Option, Some, None, sym, ap, subst, append_assoc, append-nil}
 use Rattle.std.specs.Prelude.{slice_get, option_map, OnOk, Ok, Err}
-use Rattle.std.specs.List.{flat_map, AllZip}
-use Rattle.std.proofs.lemmas.Slice.Zip.{AllZip-map}
+use Rattle.std.specs.List.{flat_map}
 use Rattle.std.proofs.lemmas.List.Concat.{flat_map-append}
 use Rattle.arrayvec.specs.ArrayVec.{ArrayVec}
+use Rattle.bpf_model.proofs.Lists.{cloned}
 use Rattle.script_lines.specs.declared.reply.Reply.{Reply}
 use Rattle.script_lines.specs.declared.reply.Reply.TheVariants.{Element, End}
 use Rattle.script_lines.specs.Answers.{reply_text}
@@ -20,13 +20,6 @@ more_text start before after first reply e f =
     ∙ ap (λ (xs : List ℕ). start ++ xs)
     (ap (λ (xs : List ℕ). flat_map reply_text first ++ xs) (sym (append-nil (reply_text reply)))
     ∙ sym (flat_map-append reply_text first (reply ∷ [])))))
-
-map-self : (xs : List ℕ) → map (λ x. x) xs ≡ xs
-map-self [] = refl
-map-self (x ∷ xs) = ap (λ l. x ∷ l) (map-self xs)
-
-cloned : (xs ys : List ℕ) → AllZip (λ x y. y ≡ x) xs ys → ys ≡ xs
-cloned xs ys h = AllZip-map (λ x. x) xs ys h ∙ map-self xs
 
 pub returns : goal.returns
 returns c = elim (c.write_reply-2.result) as (λ r. OnOk r (c.write_reply-2.new.out.items ≡ c.loop-key.out.items ++ reply_text End) → OnOk r ((x : List Reply) × AreElements (slice_get c.args.world.now.maps c.args.map) None x × (c.write_reply-2.new.out.items ≡ c.args.out.now.items ++ flat_map reply_text (x ++ End ∷ [])))) [
