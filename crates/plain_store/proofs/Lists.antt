@@ -5,10 +5,6 @@ use Rattle.std.proofs.lemmas.List.{append_assoc, append-nil, drop_all}
 use Rattle.std.proofs.lemmas.Option.{slice_get-get_or}
 use Rattle.bpf_model.proofs.Lists.{drop-next}
 
-pub length-map-own : {A B : Type 0} (f : A → B) (xs : List A) → length (map f xs) ≡ length xs
-length-map-own f [] = refl
-length-map-own f (x ∷ xs) = ap suc (length-map-own f xs)
-
 -- what an index reads is what stands there
 pub read-at : {A : Type 0} (xs : List A) (i : ℕ) (x : A) → i < length xs → x ≡ slice_index_or xs i x → slice_get xs i ≡ Some x
 read-at xs i x h e = slice_get-get_or xs i x h ∙ ap Some (sym e)

@@ -1,6 +1,6 @@
 -- A new element takes the slot that has been free longest.
 use Rattle.std.proofs.Common.{◌≡◌, ℕ, zero, suc, ◌+◌, ◌<◌, List, [], ◌∷◌, ◌++◌, Option, Some, None, refl, sym, ap, ◌∙◌, arith, length}
-use Rattle.std.specs.Prelude.{slice_get, slice_set, drop, ◌-◌}
+use Rattle.std.specs.Prelude.{slice_get, drop, ◌-◌}
 use Rattle.bpf_model.specs.Section.{Section}
 use Rattle.bpf_model.specs.Element.{Element, Unlinked, Linked, with_life, set_to, unlinked}
 use Rattle.bpf_model.specs.MapState.{MapState, Store, with_bag}
@@ -8,21 +8,16 @@ use Rattle.bpf_model.specs.Schedule.{TakesOldest}
 use Rattle.plain_store.specs.Births.{uses_after_first, without_first_free}
 use Rattle.plain_store.proofs.Births.{without_first-at}
 use Rattle.plain_store.proofs.Lists.{first-of}
-use Rattle.bpf_model.proofs.Lists.{get-set_there}
+use Rattle.bpf_model.proofs.Lists.{get-set_there, length-set}
 use Rattle.std.proofs.lemmas.Option.{slice_get_within}
 
 -- where no element was born
 pub no-birth : (s t : Store) → length t.elements ≡ length s.elements → TakesOldest s t
 no-birth s t h e before after born old new = absurd (let inside = slice_get_within t.elements (length s.elements) e born in omega (arith, inside, h))
 
-set-length : {A : Type 0} (xs : List A) (n : ℕ) (x : A) → length (slice_set xs n x) ≡ length xs
-set-length [] n x = refl
-set-length (y ∷ xs) zero x = refl
-set-length (y ∷ xs) (suc n) x = ap suc (set-length xs n x)
-
 changed-length : (f : Element → Element) (es : List Element) (n : ℕ) (o : Option Element) → length (set_to f es n o) ≡ length es
 changed-length f es n None = refl
-changed-length f es n (Some e) = set-length es n (f e)
+changed-length f es n (Some e) = length-set es n (f e)
 
 pub unlinked-length : (opened : List Section) (es : List Element) (found : Option ℕ) → length (unlinked opened es found) ≡ length es
 unlinked-length opened es None = refl

@@ -1,13 +1,13 @@
 -- Sections, compared and listed.
-use Rattle.std.proofs.Common.{◌≡◌, ℕ, ◌+◌, ◌<◌, ◌≤◌, Bool, List, Some, None, refl, sym, ap, ◌∙◌, subst, arith, length, true, false, inl, inr}
+use Rattle.std.proofs.Common.{◌≡◌, ℕ, ◌+◌, ◌<◌, ◌≤◌, Bool, List, Some, None, sym, ap, ◌∙◌, subst, arith, length, true, false, inl, inr}
 use Rattle.std.specs.Prelude.{slice_get, slice_index_or, ◌==◌, ◌&&◌}
 use Rattle.std.proofs.lemmas.Option.{slice_get-get_or}
-use Rattle.std.proofs.lemmas.Bool.{eq-eqb, false≢true, cases_lt}
+use Rattle.std.proofs.lemmas.Bool.{eq-eqb, false≢true, cases_lt, eqb-true, and_parts}
 use Rattle.bpf_model.specs.Section as model
 use Rattle.plain_store.specs.declared.element.Section.{Section}
 use Rattle.plain_store.specs.State.{section_shown, sections_of}
-use Rattle.plain_store.proofs.Lists.{length-map-own}
 use Rattle.std.proofs.lemmas.Option.{slice_get_past}
+use Rattle.std.proofs.lemmas.List.{length-map}
 use Rattle.bpf_model.proofs.Lists.{get-map}
 
 same-section : (x s : Section) → section_shown x ≡ section_shown s → ((x.run == s.run) && (x.lock == s.lock)) ≡ true
@@ -32,15 +32,12 @@ pub none-among : (xs : List Section) (s : Section) (j : ℕ) → length xs ≤ j
 none-among xs s j h before has = elim (cases_lt has.0 j) [
   | inl a ↦ before has.0 a has.1
   | inr a ↦
-      let far : length (sections_of xs) ≤ has.0 = omega (arith, length-map-own section_shown xs) in
+      let far : length (sections_of xs) ≤ has.0 = omega (arith, length-map xs section_shown) in
       let e : Some (section_shown s) ≡ None = sym has.1 ∙ slice_get_past (sections_of xs) has.0 far in
       absurd cc
 ]
 
 -- this section is one of them
-both-true : (a b : Bool) → (a && b) ≡ true → (a ≡ true) × (b ≡ true)
-both-true true b h = (refl, h)
-both-true false b h = absurd (false≢true h)
 
 -- one section that is open keeps the others
 pub not-ended : (xs opened : List Section) (d : Section) (i : ℕ) → i < length xs → model.Has (sections_of opened) (section_shown (slice_index_or xs i d)) →
@@ -68,7 +65,7 @@ pub all-apart : (xs opened : List Section) (i : ℕ) → length xs ≤ i → ((k
 all-apart xs opened i h before s has o = elim (cases_lt has.0 i) [
   | inl a ↦ before has.0 a s has.1 o
   | inr a ↦
-      let far : length (sections_of xs) ≤ has.0 = omega (arith, length-map-own section_shown xs) in
+      let far : length (sections_of xs) ≤ has.0 = omega (arith, length-map xs section_shown) in
       let e : Some s ≡ None = sym has.1 ∙ slice_get_past (sections_of xs) has.0 far in
       absurd cc
 ]

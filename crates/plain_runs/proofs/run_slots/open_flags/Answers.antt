@@ -1,9 +1,10 @@
 use Rattle.std.proofs.Common.{◌≡◌, ◌++◌, ◌∷◌, [], Some, map, sym, ap, ◌∙◌, arith}
 use Rattle.std.specs.Prelude.{slice_get, drop, ◌+◌}
 use Rattle.std.specs.Option.{option_map}
+use Rattle.std.proofs.lemmas.List.{length-map}
 use Rattle.bpf_model.specs.Schedule.{is_open}
 use Rattle.plain_runs.specs.State.{runs_of, run_of}
-use Rattle.plain_store.proofs.Lists.{read-at, length-map-own}
+use Rattle.plain_store.proofs.Lists.{read-at}
 use Rattle.plain_store.proofs.Lists.{mapped-more, mapped-all}
 use Rattle.plain_runs.proofs.run_slots.open_flags.Goals as goal
 use Rattle.bpf_model.proofs.Lists.{get-map}
@@ -20,4 +21,4 @@ loop-r-preserved c = λ programs.
 pub returns : goal.returns
 returns c = λ programs.
     let runs = c.args.runs.now in
-    sym (c.loop-r.invariant programs ∙ mapped-all is_open (runs_of programs runs) c.loop-r.flags.items c.loop-r.r (omega (arith, length-map-own (option_map (run_of programs)) runs, c.loop-r-test.false)))
+    sym (c.loop-r.invariant programs ∙ mapped-all is_open (runs_of programs runs) c.loop-r.flags.items c.loop-r.r (omega (arith, length-map runs (option_map (run_of programs)), c.loop-r-test.false)))

@@ -1,7 +1,8 @@
 use Rattle.std.proofs.Common.{◌≡◌, Some, map, sym, ◌∙◌, arith}
 use Rattle.std.specs.Prelude.{slice_get}
+use Rattle.std.proofs.lemmas.List.{length-map}
 use Rattle.plain_store.specs.State.{queues_of}
-use Rattle.plain_store.proofs.Lists.{read-at, length-map-own}
+use Rattle.plain_store.proofs.Lists.{read-at}
 use Rattle.plain_store.proofs.Queueing.{ready-here, ready-later, ready-past}
 use Rattle.plain_store.proofs.queues.first_ready.Goals as goal
 use Rattle.plain_store.proofs.queues.first_ready.Goals.{After-first_of}
@@ -17,4 +18,4 @@ pub loop-k-preserved : goal.loop-k-preserved
 loop-k-preserved c = c.loop-k.invariant ∙ ready-later (map queues_of c.args.queues.now) c.loop-k.k (queues_of c.index-queues-k.result) (there (goal.at.loop-k-preserved c).After-first_of) (sym c.first_of.ensures ∙ c.in_default.is)
 
 pub returns : goal.returns
-returns c = sym (c.loop-k.invariant ∙ ready-past (map queues_of c.args.queues.now) c.loop-k.k (omega (arith, length-map-own queues_of c.args.queues.now, c.loop-k-test.false)))
+returns c = sym (c.loop-k.invariant ∙ ready-past (map queues_of c.args.queues.now) c.loop-k.k (omega (arith, length-map c.args.queues.now queues_of, c.loop-k-test.false)))

@@ -1,10 +1,11 @@
 use Rattle.std.proofs.Common.{◌≡◌, ◌<◌, ◌++◌, ◌∷◌, [], length, Some, None, sym, ap, ◌∙◌, arith, inl, inr, List, ℕ}
 use Rattle.std.specs.Prelude.{slice_get, drop, ◌+◌, if◌then◌else◌}
 use Rattle.std.proofs.lemmas.Bool.{cases_lt}
+use Rattle.std.proofs.lemmas.List.{length-map}
 use Rattle.bpf_model.specs.Schedule.{Queues, unlinked_between}
 use Rattle.plain_store.specs.State.{element_of, elements_of}
 use Rattle.plain_store.specs.Retiring.{linked_map}
-use Rattle.plain_store.proofs.Lists.{read-at, length-map-own}
+use Rattle.plain_store.proofs.Lists.{read-at}
 use Rattle.plain_store.proofs.Queueing.{unlinked-more, unlinked-first, unlinked-second}
 use Rattle.plain_store.proofs.Lists.{made-from}
 use Rattle.plain_store.proofs.queues.retire.Goals as goal
@@ -37,8 +38,8 @@ returns c = λ olds h.
     let news = elements_of c.args.elements.now in
     let now = c.loop-n.queues in
     let old = c.args.queues.now in
-    let olds_long : length c.args.before.now ≡ length olds = ap length h ∙ length-map-own linked_map olds in
-    let news_long : length news ≡ length c.args.elements.now = length-map-own element_of c.args.elements.now in
+    let olds_long : length c.args.before.now ≡ length olds = ap length h ∙ length-map olds linked_map in
+    let news_long : length news ≡ length c.args.elements.now = length-map c.args.elements.now element_of in
     let rest : now.next.items ++ unlinked_between k n (drop n olds) (drop n news) ≡ now.next.items = elim (cases_lt n (length olds)) [
       | inl g ↦ unlinked-second olds news k n now.next.items (omega (arith, c.loop-n-test.false, c.min-n-end.ensures, olds_long, news_long))
       | inr g ↦ unlinked-first olds news k n now.next.items (omega arith)

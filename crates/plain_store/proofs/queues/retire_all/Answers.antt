@@ -1,7 +1,8 @@
 use Rattle.std.proofs.Common.{◌<◌, length, map, sym, ap, ◌∙◌, arith}
+use Rattle.std.proofs.lemmas.List.{length-map}
 use Rattle.plain_store.specs.State.{queues_of, elements_of}
 use Rattle.plain_store.specs.Retiring.{retire_in}
-use Rattle.plain_store.proofs.Lists.{read-at, length-map-own}
+use Rattle.plain_store.proofs.Lists.{read-at}
 use Rattle.plain_store.proofs.Queueing.{all-retired}
 use Rattle.plain_store.proofs.Queueing.{changed-one}
 use Rattle.plain_store.proofs.queues.retire_all.Goals as goal
@@ -19,4 +20,4 @@ loop-k-preserved c = λ olds h.
 pub returns : goal.returns
 returns c = λ olds h.
     let items = c.args.queues.now in
-    c.loop-k.invariant olds h ∙ all-retired olds (elements_of c.args.elements.now) (map queues_of items) c.loop-k.k 0 (omega (arith, length-map-own queues_of items, c.loop-k-test.false))
+    c.loop-k.invariant olds h ∙ all-retired olds (elements_of c.args.elements.now) (map queues_of items) c.loop-k.k 0 (omega (arith, length-map items queues_of, c.loop-k-test.false))

@@ -1,7 +1,8 @@
 use Rattle.std.proofs.Common.{◌<◌, length, map, sym, ap, ◌∙◌, arith}
+use Rattle.std.proofs.lemmas.List.{length-map}
 use Rattle.bpf_model.specs.Schedule.{turned}
 use Rattle.plain_store.specs.State.{queues_of}
-use Rattle.plain_store.proofs.Lists.{read-at, length-map-own}
+use Rattle.plain_store.proofs.Lists.{read-at}
 use Rattle.plain_store.proofs.Queueing.{all-turned}
 use Rattle.plain_store.proofs.Queueing.{changed-one}
 use Rattle.plain_store.proofs.queues.turn_all.Goals as goal
@@ -18,4 +19,4 @@ loop-k-preserved c =
 pub returns : goal.returns
 returns c =
     let items = c.args.queues.now in
-    c.loop-k.invariant ∙ all-turned (map queues_of items) c.loop-k.k 0 (omega (arith, length-map-own queues_of items, c.loop-k-test.false))
+    c.loop-k.invariant ∙ all-turned (map queues_of items) c.loop-k.k 0 (omega (arith, length-map items queues_of, c.loop-k-test.false))

@@ -7,8 +7,8 @@ use Rattle.bpf_model.specs.declared.event.Answer.TheVariants.{Started}
 use Rattle.bpf_model.specs.Event.{DoesEvent}
 use Rattle.plain_model.specs.State.{machine_of}
 use Rattle.plain_runs.specs.State.{run_of, runs_of, run_with, loaded_of, or_no_program}
-use Rattle.plain_store.proofs.Lists.{read-at, length-map-own}
-use Rattle.std.proofs.lemmas.List.{map-set}
+use Rattle.plain_store.proofs.Lists.{read-at}
+use Rattle.std.proofs.lemmas.List.{map-set, length-map}
 use Rattle.plain_runs.proofs.BySlot.{lowest-within}
 use Rattle.plain_model.proofs.Events.{start-does}
 use Rattle.plain_model.proofs.machine.Machine.start.Goals as goal
@@ -20,7 +20,7 @@ index_mut-requires c =
     let items = self.runs.items in
     let len : vec_len self.runs ≡ length items = search rules in
     let free : lowest_free (runs_of self.programs.items items) ≡ Some c.in-Some.r = sym c.lowest_free.ensures ∙ c.in-Some.is in
-    omega (arith, lowest-within (runs_of self.programs.items items) c.in-Some.r free, length-map-own (option_map (run_of self.programs.items)) items, len)
+    omega (arith, lowest-within (runs_of self.programs.items items) c.in-Some.r free, length-map items (option_map (run_of self.programs.items)), len)
 
 pub returns-clause-machine : goal.returns-clause-machine
 returns-clause-machine c =

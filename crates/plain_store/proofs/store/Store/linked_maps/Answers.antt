@@ -1,8 +1,9 @@
 use Rattle.std.proofs.Common.{rules, ◌≡◌, ◌<◌, ◌++◌, ◌∷◌, [], length, Some, map, sym, ap, ◌∙◌, arith, vec_len}
 use Rattle.std.specs.Prelude.{slice_get, drop, ◌+◌}
+use Rattle.std.proofs.lemmas.List.{length-map}
 use Rattle.plain_store.specs.State.{element_of, elements_of}
 use Rattle.plain_store.specs.Retiring.{linked_map}
-use Rattle.plain_store.proofs.Lists.{read-at, length-map-own}
+use Rattle.plain_store.proofs.Lists.{read-at}
 use Rattle.plain_store.proofs.Lists.{mapped-more, mapped-all}
 use Rattle.plain_store.proofs.store.Store.linked_maps.Goals as goal
 use Rattle.bpf_model.proofs.Lists.{get-map}
@@ -22,4 +23,4 @@ pub returns : goal.returns
 returns c =
     let items = c.args.self.now.elements.items in
     let len : vec_len c.args.self.now.elements ≡ length items = search rules in
-    sym (c.loop-n.invariant ∙ mapped-all linked_map (elements_of items) c.loop-n.maps.items c.loop-n.n (omega (arith, length-map-own element_of items, c.loop-n-test.false, c.len-n-end.ensures, len)))
+    sym (c.loop-n.invariant ∙ mapped-all linked_map (elements_of items) c.loop-n.maps.items c.loop-n.n (omega (arith, length-map items element_of, c.loop-n-test.false, c.len-n-end.ensures, len)))

@@ -1,8 +1,9 @@
 use Rattle.std.proofs.Common.{rules, ℕ, ◌≡◌, ◌<◌, ◌≤◌, arith, length, sym, ◌∙◌, subst, inl, inr, vec_len, true}
 use Rattle.std.proofs.lemmas.Bool.{cases_lt, false≢true}
+use Rattle.std.proofs.lemmas.List.{length-map}
 use Rattle.bpf_model.specs.Element.{IsLinkedAt}
 use Rattle.plain_store.specs.State.{element_of, elements_of, IsLinkedHere}
-use Rattle.plain_store.proofs.Lists.{read-at, length-map-own}
+use Rattle.plain_store.proofs.Lists.{read-at}
 use Rattle.plain_store.proofs.Elements.{linked-here, not-here, not-past}
 use Rattle.plain_store.proofs.store.Store.lookup.Goals as goal
 use Rattle.bpf_model.proofs.Lists.{get-map}
@@ -38,7 +39,7 @@ pub returns : goal.returns
 returns c =
     let items = c.args.self.now.elements.items in
     let len : vec_len c.args.self.now.elements ≡ length items = search rules in
-    let far : length (elements_of items) ≤ c.loop-n.n = omega (arith, length-map-own element_of items, c.loop-n-test.false, c.len-n-end.ensures, len) in
+    let far : length (elements_of items) ≤ c.loop-n.n = omega (arith, length-map items element_of, c.loop-n-test.false, c.len-n-end.ensures, len) in
     λ n l. elim (cases_lt n c.loop-n.n) [
       | inl a ↦ c.loop-n.invariant n a l
       | inr a ↦ not-past (elements_of items) c.args.map c.args.key.now n (omega arith) l

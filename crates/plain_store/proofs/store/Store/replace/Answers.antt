@@ -2,8 +2,7 @@ use Rattle.std.proofs.Common.{◌≡◌, [], ◌∷◌, ◌++◌, Some, None, ma
 use Rattle.bpf_model.specs.Element.{Element, Linked, unlinked}
 use Rattle.bpf_model.specs.Helper.{LooksUp}
 use Rattle.plain_store.specs.State.{map_of, element_of, elements_of, sections_of, store_of}
-use Rattle.plain_store.proofs.Lists.{length-map-own}
-use Rattle.std.proofs.lemmas.List.{map-append}
+use Rattle.std.proofs.lemmas.List.{map-append, length-map}
 use Rattle.plain_store.proofs.Elements.{born-found, within}
 use Rattle.plain_store.proofs.Births.{replaces}
 use Rattle.plain_store.proofs.Oldest.{birth}
@@ -49,7 +48,7 @@ returns-in_default-clause-replaces c = λ free m h.
 pub returns-in-Some-clause-oldest : goal.returns-in-Some-clause-oldest
 returns-in-Some-clause-oldest c = λ free.
     let items = c.args.self.now.maps.items in
-    let m = get-below (map map_of items) c.args.map (omega (arith, length-map-own map_of items, c.requires.there)) in
+    let m = get-below (map map_of items) c.args.map (omega (arith, length-map items map_of, c.requires.there)) in
     let maps = ap (λ v. map map_of v.items) c.unlink.ensures.maps ∙ c.take_slot.ensures.maps in
     birth (store_of c.args.self.now) (store_of c.unlink.new.self) (sections_of c.args.opened.now) c.args.map m.0 c.args.key.items c.args.value.items c.args.found c.next_use-uses.result m.1 (free m.0 m.1) (c.next_use-uses.ensures m.0 m.1)
     (elements-found (goal.at.returns-in-Some-clause-oldest c).After-unlink) maps
@@ -57,6 +56,6 @@ returns-in-Some-clause-oldest c = λ free.
 pub returns-in_default-clause-oldest : goal.returns-in_default-clause-oldest
 returns-in_default-clause-oldest c = λ free.
     let items = c.args.self.now.maps.items in
-    let m = get-below (map map_of items) c.args.map (omega (arith, length-map-own map_of items, c.requires.there)) in
+    let m = get-below (map map_of items) c.args.map (omega (arith, length-map items map_of, c.requires.there)) in
     birth (store_of c.args.self.now) (store_of c.take_slot.new.self) (sections_of c.args.opened.now) c.args.map m.0 c.args.key.items c.args.value.items c.args.found c.next_use-uses.result m.1 (free m.0 m.1) (c.next_use-uses.ensures m.0 m.1)
     (elements-new (goal.at.returns-in_default-clause-oldest c).In_default) c.take_slot.ensures.maps

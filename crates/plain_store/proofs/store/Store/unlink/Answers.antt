@@ -1,9 +1,9 @@
 use Rattle.std.proofs.Common.{rules, ◌≡◌, ◌<◌, ◌≤◌, arith, length, sym, ◌∙◌, vec_len}
 use Rattle.bpf_model.specs.Element.{Unlinked, with_life}
 use Rattle.plain_store.specs.State.{element_of, elements_of, sections_of}
-use Rattle.plain_store.proofs.Lists.{read-at, length-map-own}
+use Rattle.plain_store.proofs.Lists.{read-at}
 use Rattle.std.proofs.lemmas.Option.{slice_get_past}
-use Rattle.std.proofs.lemmas.List.{map-set}
+use Rattle.std.proofs.lemmas.List.{map-set, length-map}
 use Rattle.plain_store.proofs.Elements.{changed-at, changed-past}
 use Rattle.plain_store.proofs.store.Store.unlink.Goals as goal
 use Rattle.bpf_model.proofs.Lists.{get-map}
@@ -23,5 +23,5 @@ returns-else-n-len-clause-elements c =
     let items = c.args.self.now.elements.items in
     let opened = sections_of c.args.opened.items in
     let len : vec_len c.args.self.now.elements ≡ length items = search rules in
-    let far : length (elements_of items) ≤ c.args.n = omega (arith, length-map-own element_of items, c.if-n-len.false, c.len.ensures, len) in
+    let far : length (elements_of items) ≤ c.args.n = omega (arith, length-map items element_of, c.if-n-len.false, c.len.ensures, len) in
     sym (changed-past (with_life (Unlinked opened)) (elements_of items) c.args.n (slice_get_past (elements_of items) c.args.n far))
