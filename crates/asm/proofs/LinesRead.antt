@@ -1,11 +1,12 @@
 -- The lines that have been read, and those that are left.
-use Rattle.std.proofs.Common.{ℕ, zero, suc, ◌≡◌, ◌+◌, ◌<◌, ◌≤◌, ◌==◌, Bool, true, false, not, cond, List, [], ◌∷◌, ◌++◌, length, get_or, refl, sym, ap, subst, ◌∙◌, arith, append_assoc, length-append, ne_eqb}
+use Rattle.std.proofs.Common.{ℕ, ◌≡◌, ◌+◌, ◌≤◌, ◌==◌, Bool, true, false, not, cond, List, [], ◌∷◌, ◌++◌, length, get_or, refl, sym, ap, subst, ◌∙◌, arith, append_assoc, length-append, ne_eqb}
 use Rattle.std.specs.Prelude.{map}
 use Rattle.std.specs.Str.{IsUtf8}
 use Rattle.std.specs.List.{AllByRecursion, filter, All}
-use Rattle.std.proofs.lemmas.List.{map-append, append-nil}
+use Rattle.std.proofs.lemmas.List.{map-append, append-nil, get_or_default}
 use Rattle.std.proofs.lemmas.List.Elements.{filter-append}
 use Rattle.std.proofs.lemmas.List.Splits.{slice_split_none, slice_split_at}
+use Rattle.std.proofs.ByRecursion.{All-push}
 use Rattle.bpf_model.specs.declared.insn.Insn.{Insn}
 use Rattle.bpf_model.specs.Spelling.{FitsInsn}
 use Rattle.disasm.specs.Text.{line_of}
@@ -37,19 +38,10 @@ pub record IsReading (text rest : List ℕ) (items : List Insn) (index : ℕ) : 
   pub room : index + length rest ≤ length text
   pub utf8 : IsUtf8 rest
 
-all_more : {X : Type 0} (P : X → Type 0) (xs : List X) (y : X) → AllByRecursion P xs → P y → AllByRecursion P (xs ++ y ∷ [])
-all_more P [] y h p = (p, tt)
-all_more P (x ∷ xs) y h p = (h.0, all_more P xs y h.1 p)
-
 -- the lines of a text that ends at, or goes on after, a line feed
 
-default_same : {X : Type 0} (xs : List X) (k : ℕ) (d e : X) → k < length xs → get_or xs k d ≡ get_or xs k e
-default_same [] k d e inside = absurd (omega arith)
-default_same (x ∷ xs) zero d e inside = refl
-default_same (x ∷ xs) (suc k) d e inside = default_same xs k d e (omega arith)
-
 no_feed : (line : List ℕ) → Lacks 10 line → All (λ b. (b == 10) ≡ false) line
-no_feed line lacks k d inside = ne_eqb (get_or line k d) 10 (λ e. lacks k inside (default_same line k 0 d inside ∙ e))
+no_feed line lacks k d inside = ne_eqb (get_or line k d) 10 (λ e. lacks k inside (get_or_default line k 0 d inside ∙ e))
 
 pub last_line : (line : List ℕ) → Lacks 10 line → lines_in line ≡ line ∷ []
 last_line line lacks = slice_split_none (λ b. b == 10) line (no_feed line lacks)
@@ -84,8 +76,8 @@ comment_read text line left items index read e =
       front = read.front ++ line ∷ [];
       parts = read.parts ∙ sym (append_assoc read.front (line ∷ []) left);
       number = rw (read.number) (sym (length-append read.front (line ∷ [])));
-      sound = all_more IsSoundLine read.front line read.sound (λ f. false_true (is_comment line) e f);
-      unique = all_more IsUnique read.front line read.unique (λ f. false_true (is_comment line) e f);
+      sound = All-push IsSoundLine read.front line read.sound (λ f. false_true (is_comment line) e f);
+      unique = All-push IsUnique read.front line read.unique (λ f. false_true (is_comment line) e f);
       lines = filter-append keeps read.front (line ∷ []) ∙ left_out line (filter keeps read.front) e ∙ append-nil (filter keeps read.front) ∙ read.lines;
       fits = read.fits;
     }
@@ -96,10 +88,10 @@ statement_read text line left items index read e i is =
       front = read.front ++ line ∷ [];
       parts = read.parts ∙ sym (append_assoc read.front (line ∷ []) left);
       number = rw (read.number) (sym (length-append read.front (line ∷ [])));
-      sound = all_more IsSoundLine read.front line read.sound (λ _. insn_line line i is);
-      unique = all_more IsUnique read.front line read.unique (unique_line line i is);
+      sound = All-push IsSoundLine read.front line read.sound (λ _. insn_line line i is);
+      unique = All-push IsUnique read.front line read.unique (unique_line line i is);
       lines = filter-append keeps read.front (line ∷ []) ∙ kept line (filter keeps read.front) items i e read.lines is.text ∙ sym (map-append line_of items (i ∷ []));
-      fits = all_more FitsInsn items i read.fits is.fits;
+      fits = All-push FitsInsn items i read.fits is.fits;
     }
 
 by_kind : (text line : List ℕ) (left : List (List ℕ)) (items new : List Insn) (index : ℕ) → LinesRead text (line ∷ left) items index → AddsLine line items new → (b : Bool) → is_comment line ≡ b → LinesRead text left new (index + 1)

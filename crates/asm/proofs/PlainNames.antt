@@ -1,6 +1,7 @@
 -- Names have letters and digits alone, and begin with a letter.
 use Rattle.std.proofs.Common.{ℕ, ◌≡◌, ◌≢◌, ◌<◌, Bool, true, false, ◌&&◌, List, [], ◌∷◌, ◌++◌, refl, arith, ltb}
 use Rattle.std.proofs.lemmas.Bool.Decides.{nat_tests}
+use Rattle.std.proofs.lemmas.Bool.{and_parts}
 use Rattle.bpf_model.specs.declared.opcode.Size.{Size}
 use Rattle.bpf_model.specs.declared.opcode.Size.TheVariants.{Word32, Word64}
 use Rattle.bpf_model.specs.declared.opcode.Width.{Width}
@@ -29,17 +30,13 @@ abbrev is_plain : List ℕ → Bool
 is_plain [] = true
 is_plain (b ∷ bs) = ltb 47 b && is_plain bs
 
-both : (a b : Bool) → (a && b) ≡ true → (a ≡ true) × (b ≡ true)
-both true b e = (refl, e)
-both false b e = absurd (cc)
-
 above : (b c : ℕ) → c < 48 → ltb 47 b ≡ true → b ≢ c
 above b c small e = grind (arith, nat_tests)
 
 plain_lacks : (c : ℕ) (bs : List ℕ) → c < 48 → is_plain bs ≡ true → Lacks c bs
 plain_lacks c [] small h = nil_lacks c
 plain_lacks c (b ∷ bs) small h =
-    let parts : (ltb 47 b ≡ true) × (is_plain bs ≡ true) = both (ltb 47 b) (is_plain bs) h in
+    let parts : (ltb 47 b ≡ true) × (is_plain bs ≡ true) = and_parts (ltb 47 b) (is_plain bs) h in
     lacks_cons c b bs (above b c small parts.0) (plain_lacks c bs small parts.1)
 
 alu_plain : (x : AluOp) → is_plain (alu_stem x) ≡ true

@@ -30,9 +30,6 @@ use Rattle.bpf_model.specs.Spelling.{FitsInsn, slots_of, slot_count, first_slot,
 use Rattle.insn_codec.specs.Begins.{BeginsWith}
 use Rattle.insn_codec.specs.Faults.{flaw_with, is_excluded}
 
-pub some_is : {A : Type 0} (x y : A) → Some x ≡ Some y → x ≡ y
-some_is x y e = cc
-
 -- An instruction has one slot or two.
 
 pub record IsOneSlot (i : Insn) : Type 0 where

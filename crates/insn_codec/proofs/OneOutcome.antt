@@ -3,6 +3,7 @@ use Rattle.std.proofs.Common.{◌≡◌, ℕ, ◌*◌, ◌%◌, ◌<◌, ◌≤�
 use Rattle.std.specs.List.{AllByRecursion}
 use Rattle.std.proofs.lemmas.Bool.Decides.{nat_tests}
 use Rattle.std.proofs.lemmas.List.{append-nil, length-append}
+use Rattle.std.proofs.lemmas.Option.{same_Some}
 use Rattle.bpf_model.specs.declared.limits.TheConstants.{MAX_SLOTS}
 use Rattle.bpf_model.specs.declared.opcode.Opcode.{Opcode}
 use Rattle.bpf_model.specs.declared.insn.Insn.{Insn}
@@ -12,7 +13,7 @@ use Rattle.insn_codec.specs.declared.fault.DecodeFault.TheVariants as faults
 use Rattle.insn_codec.specs.declared.flaw.Flaw.{Flaw}
 use Rattle.insn_codec.specs.declared.flaw.Flaw.TheVariants.{OutsideProfile}
 use Rattle.insn_codec.specs.Faults.{flaw_with, first_flaw, IsOpcode, IsInsnFlawAt, IsDecodeFault, length_fault}
-use Rattle.insn_codec.proofs.InsnLaws.{some_is, opcode_is, included, no_flaw, same}
+use Rattle.insn_codec.proofs.InsnLaws.{opcode_is, included, no_flaw, same}
 use Rattle.insn_codec.proofs.TextLaws.{Again, again}
 use Rattle.insn_codec.proofs.DecodeLoop.{total_cons, length_text}
 use Rattle.insn_codec.proofs.Injective.{injective}
@@ -36,7 +37,7 @@ opcodes_are byte (Some o) (Some p) h k = ap (λ (x : Opcode). Some x) (injective
 pub one_flaw : (bytes : List ℕ) (f g : Flaw) → IsInsnFlawAt bytes f → IsInsnFlawAt bytes g → f ≡ g
 one_flaw bytes f g h k =
     let e = opcodes_are _ h.0 k.0 h.1 k.1 in
-    some_is f g (sym h.2 ∙ ap (λ (o : Option Opcode). first_flaw o (slot_at bytes) (next_slot_at bytes)) e ∙ k.2)
+    same_Some f g (sym h.2 ∙ ap (λ (o : Option Opcode). first_flaw o (slot_at bytes) (next_slot_at bytes)) e ∙ k.2)
 
 pub spelled_has_none : (bytes x : List ℕ) (i : Insn) (f : Flaw) → FitsInsn i → bytes ≡ spelling i ++ x → IsInsnFlawAt bytes f → ⊥
 spelled_has_none bytes x i f fits p h =

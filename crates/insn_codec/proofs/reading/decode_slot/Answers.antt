@@ -1,5 +1,6 @@
 use Rattle.std.proofs.Common.{◌≡◌, Option, Some, Result, Ok, Err, ap, ◌∙◌}
 use Rattle.std.specs.Prelude.{IfOk, IfErr}
+use Rattle.std.proofs.lemmas.Option.{same_Some}
 use Rattle.bpf_model.specs.declared.slot.Slot.{Slot}
 use Rattle.bpf_model.specs.declared.opcode.Opcode.{Opcode}
 use Rattle.bpf_model.specs.declared.insn.Insn.{Insn}
@@ -7,7 +8,7 @@ use Rattle.bpf_model.specs.Spelling.{FitsInsn, opcode_of}
 use Rattle.insn_codec.specs.declared.flaw.Flaw.{Flaw}
 use Rattle.insn_codec.specs.Faults.{flaw_with}
 use Rattle.insn_codec.specs.Begins.{BeginsWith}
-use Rattle.insn_codec.proofs.InsnLaws.{some_is, opcode_is, included, no_flaw, same}
+use Rattle.insn_codec.proofs.InsnLaws.{opcode_is, included, no_flaw, same}
 use Rattle.insn_codec.proofs.reading.decode_slot.Goals as goal
 
 pub returns-in_default-clause-only : goal.returns-in_default-clause-only
@@ -34,4 +35,4 @@ pub returns-clause-only : goal.returns-clause-only
 returns-clause-only c = λ i fits begins.
     let e = c.opcode_from.ensures.only (opcode_of i) (opcode_is i _ _ begins) in
     let d = c.decode_with.ensures in
-    is_only c.in-Some.opcode _ _ _ (fine _ _ _ c.decode_with.result d.found d.fits d.kind d.flaw) i (some_is _ _ (let k = c.in-Some.is in cc)) fits begins
+    is_only c.in-Some.opcode _ _ _ (fine _ _ _ c.decode_with.result d.found d.fits d.kind d.flaw) i (same_Some _ _ (let k = c.in-Some.is in cc)) fits begins
