@@ -4,11 +4,12 @@ use Rattle.std.specs.Prelude.{Option, Some, None, Ok, nat_lt, if◌then◌else�
 use Rattle.std.specs.Fmt.{decimal}
 use Rattle.std.specs.Str.{all_ascii_digits}
 use Rattle.std.specs.Str.Parse.{digits_value}
-use Rattle.std.proofs.lemmas.Bool.{ne_eqb, eqb-true, false_from_ne_true}
+use Rattle.std.proofs.lemmas.Bool.{ne_eqb, eqb-true, false_from_ne_true, and_parts}
 use Rattle.std.proofs.lemmas.Bool.Decides.{nat_tests}
 use Rattle.std.proofs.lemmas.Fmt.{decimal_digit, decimal_nonempty, first_decimal, digits_decimal, digits_value-decimal, decimal-digits_value}
 use Rattle.std.proofs.lemmas.Slice.Eq.{bytes_eq-Decides}
 use Rattle.std.proofs.lemmas.Str.Parse.{IsNumeralModel, numerals_by_value, tells_all_ascii_digits}
+use Rattle.std.proofs.Math.Bool.{or-true}
 use Rattle.hex.specs.Hex.{IsBytes, decode_of, encode_lower, lower_digits}
 use Rattle.hex.proofs.HexLemmas.{decode_of-encode_lower, length-encode_with}
 use Rattle.script_lines.specs.Answers.{bytes_text}
@@ -18,10 +19,6 @@ use Rattle.script_lines.proofs.WordLaws.{long_is_word}
 own : IsNumeralModel (λ ds. all_ascii_digits ds ≡ true) (digits_value 10)
 own = numerals_by_value (λ ds. all_ascii_digits ds ≡ true) tells_all_ascii_digits
 
-or_true : (b : Bool) → (b || true) ≡ true
-or_true true = refl
-or_true false = refl
-
 abbrev begins_well : List ℕ → Bool
 begins_well word = length word == 1 || not (get_or word 0 0 == 48)
 
@@ -30,7 +27,7 @@ decimal_begins_well zero h = ap begins_well (decimal_digit 0 (omega arith))
 decimal_begins_well (suc n) h =
     let first : 48 < get_or (decimal (suc n)) 0 0 = first_decimal (suc n) (omega arith) h in
     let other : (get_or (decimal (suc n)) 0 0 == 48) ≡ false = ne_eqb (get_or (decimal (suc n)) 0 0) 48 (λ e. omega (arith, first, e)) in
-    ap (λ b. length (decimal (suc n)) == 1 || not b) other ∙ or_true (length (decimal (suc n)) == 1)
+    ap (λ b. length (decimal (suc n)) == 1 || not b) other ∙ or-true (length (decimal (suc n)) == 1)
 
 read_as : (word : List ℕ) (n : ℕ) → is_word word ≡ true → begins_well word ≡ true → all_ascii_digits word ≡ true → digits_value 10 word ≡ n → n < 2 ^ 64 → number_in word ≡ Some n
 read_as word n some begins digits value h =
@@ -44,10 +41,6 @@ number_again n h =
 picked : (b : Bool) (v n : ℕ) → (let read : Option ℕ = if b then Some v else None in read ≡ Some n) → (b ≡ true) × (v ≡ n)
 picked true v n h = (refl, cc h)
 picked false v n h = cc h
-
-both : (a b : Bool) → (a && b) ≡ true → (a ≡ true) × (b ≡ true)
-both true b h = (refl, h)
-both false b h = cc h
 
 is_some_word : (word : List ℕ) → is_word word ≡ true → 0 < length word
 is_some_word [] h = cc h
@@ -63,9 +56,9 @@ one_digit word h first = eqb-true (length word) 1 (one_of (length word == 1) (rw
 pub number_once : (word : List ℕ) (n : ℕ) → number_in word ≡ Some n → word ≡ decimal n
 number_once word n h =
     let read = picked (is_numeral word && nat_lt (digits_value 10 word) (2 ^ 64)) (digits_value 10 word) n h in
-    let tests = both (is_numeral word) (nat_lt (digits_value 10 word) (2 ^ 64)) read.0 in
-    let parts = both (is_word word) (begins_well word && all_ascii_digits word) tests.0 in
-    let digits = both (begins_well word) (all_ascii_digits word) parts.1 in
+    let tests = and_parts (is_numeral word) (nat_lt (digits_value 10 word) (2 ^ 64)) read.0 in
+    let parts = and_parts (is_word word) (begins_well word && all_ascii_digits word) tests.0 in
+    let digits = and_parts (begins_well word) (all_ascii_digits word) parts.1 in
     let small : nat_lt (digits_value 10 word) (2 ^ 64) ≡ true = tests.1 in
     let limit : digits_value 10 word < 2 ^ 64 = grind (arith, nat_tests) in
     sym (decimal-digits_value own word digits.1 (is_some_word word parts.0) (one_digit word digits.0) limit) ∙ ap decimal read.1
