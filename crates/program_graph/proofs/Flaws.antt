@@ -1,7 +1,8 @@
 -- The flaw of a graph is determined, and a good graph and a plain program have none.
-use Rattle.std.proofs.Common.{◌≡◌, ℕ, ◌+◌, ◌<◌, refl, sym, ◌∙◌, ap, arith, inl, inr, List, [], ◌∷◌, ◌++◌, cond}
+use Rattle.std.proofs.Common.{◌≡◌, ℕ, ◌+◌, ◌<◌, refl, sym, ◌∙◌, ap, arith, inl, inr, List, cond}
 use Rattle.std.specs.Prelude.{Option, Some, None, ℤ, pos, ◌+ℤ◌}
 use Rattle.std.proofs.lemmas.Bool.{cases_lt}
+use Rattle.std.proofs.lemmas.List.{same_from_push}
 use Rattle.bpf_model.specs.declared.insn.Insn.{Insn}
 use Rattle.bpf_model.specs.declared.insn.Insn.TheVariants.{Exit}
 use Rattle.bpf_model.specs.Graph.{distance, JumpsTo}
@@ -13,20 +14,6 @@ use Rattle.program_graph.specs.declared.refusal.GraphFlaw.TheVariants.{JumpTarge
 use Rattle.program_graph.specs.GraphFlaws.{missing, landing_flaw, distance_flaw, jump_flaw, JumpsWell, EndsWithExit, IsFirstBadJump, IsBadEnd, IsFirstUnreachable, HasGraphFlaw, HasGoodGraph}
 use Rattle.program_graph.proofs.Edges.{nat_le_false}
 use Rattle.program_graph.proofs.Lists.{same_some}
-
-cons_inj : {A : Type 0} {x y : A} {xs ys : List A} → x ∷ xs ≡ y ∷ ys → (x ≡ y) × (xs ≡ ys)
-cons_inj e = (cc, cc)
-
-snoc_inj : {A : Type 0} (xs ys : List A) (x y : A) → xs ++ x ∷ [] ≡ ys ++ y ∷ [] → (xs ≡ ys) × (x ≡ y)
-snoc_inj [] [] x y e = (refl, (cons_inj e).0)
-snoc_inj [] (z ∷ []) x y e = absurd (cc)
-snoc_inj [] (z ∷ w ∷ ys) x y e = absurd (cc)
-snoc_inj (z ∷ []) [] x y e = absurd (cc)
-snoc_inj (z ∷ w ∷ xs) [] x y e = absurd (cc)
-snoc_inj (z ∷ xs) (w ∷ ys) x y e =
-    let p = cons_inj e in
-    let r = snoc_inj xs ys x y p.1 in
-    (ap (λ z. z ∷ xs) p.0 ∙ ap (λ xs. w ∷ xs) r.0, r.1)
 
 bad_jumps_same : (program : List Insn) (f g : GraphFlaw) (s t : ℕ) → IsFirstBadJump program f s → IsFirstBadJump program g t → (f ≡ g) × (s ≡ t)
 bad_jumps_same program f g s t a b = elim (cases_lt s t) [
@@ -44,10 +31,10 @@ bad_not_well : (program : List Insn) (f : GraphFlaw) (s : ℕ) → IsFirstBadJum
 bad_not_well program f s a well = (let e : None ≡ Some f = sym (well s a.insn a.at) ∙ a.bad in cc)
 
 bad_end_not_exit : (program : List Insn) (s : ℕ) → IsBadEnd program s → EndsWithExit program → ⊥
-bad_end_not_exit program s a last = a.other (snoc_inj a.front last.0 a.insn Exit (sym a.last ∙ last.1)).1
+bad_end_not_exit program s a last = a.other (same_from_push a.front last.0 a.insn Exit (sym a.last ∙ last.1)).1
 
 bad_ends_same : (program : List Insn) (s t : ℕ) → IsBadEnd program s → IsBadEnd program t → s ≡ t
-bad_ends_same program s t a b = a.slot_is ∙ ap slot_total (snoc_inj a.front b.front a.insn b.insn (sym a.last ∙ b.last)).0 ∙ sym b.slot_is
+bad_ends_same program s t a b = a.slot_is ∙ ap slot_total (same_from_push a.front b.front a.insn b.insn (sym a.last ∙ b.last)).0 ∙ sym b.slot_is
 
 unreachable_same : (program : List Insn) (s t : ℕ) → IsFirstUnreachable program s → IsFirstUnreachable program t → s ≡ t
 unreachable_same program s t a b = elim (cases_lt s t) [

@@ -8,7 +8,7 @@ use Rattle.std.proofs.lemmas.Nat.Bits.{bit_at_and, bit_at_or, bit_at_xor, bit_at
 use Rattle.std.proofs.Math.Nat.{mul-add-div_right, add-mod, div-eq_of_lt}
 use Rattle.scalar_domain.specs.Mask.{Within, HasBits, AreKnownBelow}
 use Rattle.scalar_domain.proofs.Bits.{ap2, within_bit, within_from, within_le, within-mod, shr_mono}
-use Rattle.scalar_domain.proofs.Multiples.{low_bit, low_zero, sum_low, below_word}
+use Rattle.scalar_domain.proofs.Multiples.{low_bit, low_zero, sum_low, below_word, word}
 
 -- the carry into a bit of a sum
 carry_into : ℕ → ℕ → ℕ → ℕ → ℕ
@@ -71,11 +71,8 @@ between a x a' b y b' c l g i e f small ha ha' hb hb' h =
     (ap (λ n. bit_at n i) e ∙ word_bit _ i h ∙ bit_of_sum a b c i) (word_bit _ i h ∙ bit_of_sum x y c i) (ap (λ n. bit_at n i) f ∙ word_bit _ i h ∙ bit_of_sum a' b' c i)
     (opened_bit a a' b b' l g i)
 
-word_lt : (n : ℕ) → n % 2 ^ 64 < 2 ^ 64
-word_lt n = mod_below n (2 ^ 64) (pow_pos 64)
-
 past : (n i : ℕ) → 64 ≤ i → bit_at (n % 2 ^ 64) i ≡ 0
-past n i h = bit_at_above (n % 2 ^ 64) 64 i (word_lt n) h
+past n i h = bit_at_above (n % 2 ^ 64) 64 i (word n) h
 
 -- the bits of a sum, by those of the least and of the greatest
 pub sum_bits : (a x a' b y b' c l g : ℕ) → l ≡ (a + b + c) % 2 ^ 64 → g ≡ (a' + b' + c) % 2 ^ 64 → opened a a' b b' l g < 2 ^ 64 → c ≤ 1

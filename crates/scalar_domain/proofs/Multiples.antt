@@ -90,7 +90,7 @@ only_zero n l e =
 abbrev pub Covers : ℕ → ℕ → Type 0
 Covers mask ones = (n : ℕ) → n < 2 ^ 64 → ((t : ℕ) → t ≤ 64 → mask % 2 ^ t ≡ 0 → n % 2 ^ t ≡ 0) → Within n ones
 
-word : (n : ℕ) → n % 2 ^ 64 < 2 ^ 64
+pub word : (n : ℕ) → n % 2 ^ 64 < 2 ^ 64
 word n = mod_below n (2 ^ 64) (pow_pos 64)
 
 pub product_within : (x y a b r s : ℕ) → Covers a r → Covers b s → Within x a → Within y b → Within ((x * y) % 2 ^ 64) (bit_and r s)

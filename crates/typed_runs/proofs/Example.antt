@@ -47,7 +47,7 @@ use Rattle.typed_runs.proofs.Calls.{lock_transfers, unlock_transfers, lookup_tra
 use Rattle.typed_runs.proofs.Local.{alone_transfers, equal_transfers}
 use Rattle.typed_runs.proofs.Elements.{load_transfers, set-is}
 use Rattle.typed_runs.proofs.Spilling.{near-cell}
-use Rattle.typed_runs.proofs.Planning.{kept_is_closed}
+use Rattle.typed_runs.proofs.Planning.{kept_is_closed, origin_has}
 use Rattle.typed_runs.proofs.Reaching.{well_never_stuck, reached_is_well}
 use Rattle.typed_runs.specs.Well.{IsVerifiedFor}
 use Rattle.bpf_model.specs.Machine.{Loaded}
@@ -91,9 +91,6 @@ origin = constant_of 536870912
 
 holds-zero : Holds zero_scalar 0
 holds-zero = record { least = omega arith; greatest = omega arith; zeros = refl; ones = refl }
-
-at-origin : HasOffset origin (pos 0)
-at-origin = record { raised = 536870912; is = refl; limit = omega arith; holds = record { least = omega arith; greatest = omega arith; zeros = refl; ones = refl } }
 
 only-origin : (o : ℤ) → HasOffset origin o → o ≡ pos 0
 only-origin o h =
@@ -264,7 +261,7 @@ module _ (any : Scalar) (all : (n : ℕ) → n < 2 ^ 64 → Holds any n) where
   t7 = lookup_transfers (pos 1) shapes 0 (s7 any) 0 0 example_shape refl refl (record { map_is = refl; shape_is = refl }) key fresh
 
   t8 : Transfers (JumpIf Equal Word64 0 (Immediate (pos 0)) (pos 1)) shapes 0 (s8 any) (s9 any) (Some (when_null 0 zero_scalar (s8 any)))
-  t8 = equal_transfers shapes 0 0 1 0 0 (s8 any) zero_scalar origin holds-zero at-origin refl
+  t8 = equal_transfers shapes 0 0 1 0 0 (s8 any) zero_scalar origin holds-zero origin_has refl
 
   t9 : Transfers (Load Eight 6 0 (pos 0)) shapes 0 (s9 any) (with_kind 6 (Num any) (s9 any)) None
   t9 = load_transfers Eight 6 0 (pos 0) shapes 0 (s9 any) 0 example_shape origin any refl refl placed-origin (λ e. omega arith) (λ n l. all n (omega arith))
