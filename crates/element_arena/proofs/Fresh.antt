@@ -16,7 +16,7 @@ use Rattle.element_arena.proofs.Counts.{one_cases, one_other}
 use Rattle.element_arena.proofs.Slots.{state-is}
 use Rattle.element_arena.proofs.Views.{same_state}
 
-times-before : (i k j : ℕ) → j < i → times_in j (range_with_len i k) ≡ 0
+pub times-before : (i k j : ℕ) → j < i → times_in j (range_with_len i k) ≡ 0
 times-before i zero j h = refl
 times-before i (suc k) j h =
     let rest : times_in j (range_with_len (i + 1) k) ≡ 0 = times-before (i + 1) k j (omega arith) in

@@ -26,16 +26,16 @@ less_from Less h = refl
 less_from Equal h = absurd h
 less_from Greater h = absurd h
 
-less_tested : (o : Ordering) → is_lt o ≡ true → o ≡ Less
+pub less_tested : (o : Ordering) → is_lt o ≡ true → o ≡ Less
 less_tested Less h = refl
 less_tested Equal h = absurd (false≢true h)
 less_tested Greater h = absurd (false≢true h)
 
-above_tested : (bound : Option (List ℕ)) (q : List ℕ) → is_above bound q ≡ true → IsAbove bound q
+pub above_tested : (bound : Option (List ℕ)) (q : List ℕ) → is_above bound q ≡ true → IsAbove bound q
 above_tested None q h = tt
 above_tested (Some b) q h = less_tested (slice_cmp nat_cmp b q) h
 
-above_test : (bound : Option (List ℕ)) (q : List ℕ) → IsAbove bound q → is_above bound q ≡ true
+pub above_test : (bound : Option (List ℕ)) (q : List ℕ) → IsAbove bound q → is_above bound q ≡ true
 above_test None q h = refl
 above_test (Some b) q h = ap is_lt h
 

@@ -11,6 +11,7 @@ use Rattle.std.proofs.Math.Nat.{mul-zero}
 use Rattle.bpf_model.specs.declared.limits.MapShape.{MapShape}
 use Rattle.bpf_model.specs.MapState.{IsShape}
 use Rattle.std.proofs.lemmas.Option.{none-some}
+use Rattle.std.proofs.lemmas.List.{length-replicate}
 use Rattle.bpf_model.specs.View.{MapView, unused_slot, new_map_view}
 use Rattle.element_arena.specs.State.{times_in, is_at, indexed, key_at, value_at, worn_at, new_arena}
 use Rattle.element_arena.proofs.Counts.{one_cases}
@@ -37,14 +38,10 @@ range-times a (suc n) i =
     none zero h = refl
     none (suc k) h = absurd (h (omega arith))
 
-none-worn : (n i : ℕ) → worn_at (replicate n false) i ≡ 0
+pub none-worn : (n i : ℕ) → worn_at (replicate n false) i ≡ 0
 none-worn zero i = refl
 none-worn (suc n) zero = refl
 none-worn (suc n) (suc i) = none-worn n i
-
-pub length-replicate : {A : Type 0} (n : ℕ) (x : A) → length (replicate n x) ≡ n
-length-replicate zero x = refl
-length-replicate (suc n) x = ap suc (length-replicate n x)
 
 no-key : (key : List ℕ) → get (map.empty {K = List ℕ} {X = ℕ} {R = slice_cmp nat_cmp}) key ≡ None
 no-key key = get-empty (slice_cmp nat_cmp) key

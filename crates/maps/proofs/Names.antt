@@ -1,16 +1,12 @@
 -- Names of maps among the texts that a set keeps.
 use Rattle.std.proofs.Common.{◌≡◌, ap, ◌∙◌, refl, sym, Bool, List, map}
-use Rattle.std.specs.Prelude.{[], ◌∷◌, ◌++◌, ◌||◌, Some, None, not, ◌+◌, position, suc, cond, nat_lt, length}
+use Rattle.std.specs.Prelude.{[], ◌∷◌, ◌++◌, ◌||◌, Some, None, not, ◌+◌, position, cond, nat_lt, length}
 use Rattle.std.specs.List.{list_any, position_or_len, prefix_len, AllZip}
-use Rattle.std.proofs.lemmas.List.{map-append, length-append}
+use Rattle.std.proofs.lemmas.List.{map-append, length-append, length-map}
 
 pub any_named : {A B : Type 0} (v : A → B) (test : B → Bool) (xs : List A) → list_any (λ x. test (v x)) xs ≡ list_any test (map v xs)
 any_named v test [] = refl
 any_named v test (x ∷ xs) = ap (λ b. test (v x) || b) (any_named v test xs)
-
-length_named : {A B : Type 0} (v : A → B) (xs : List A) → length (map v xs) ≡ length xs
-length_named v [] = refl
-length_named v (x ∷ xs) = ap suc (length_named v xs)
 
 pub prefix_named : {A B : Type 0} (v : A → B) (test : B → Bool) (xs : List A) → prefix_len (λ x. test (v x)) xs ≡ prefix_len test (map v xs)
 prefix_named v test [] = refl
@@ -22,7 +18,7 @@ or_len_named v test xs = prefix_named v (λ y. not (test y)) xs
 pub position_named : {A B : Type 0} (v : A → B) (test : B → Bool) (xs : List A) → position (λ x. test (v x)) xs ≡ position test (map v xs)
 position_named v test xs =
     ap (λ n. cond (nat_lt n (length xs)) (Some n) None) (or_len_named v test xs)
-    ∙ ap (λ l. cond (nat_lt (position_or_len test (map v xs)) l) (Some (position_or_len test (map v xs))) None) (sym (length_named v xs))
+    ∙ ap (λ l. cond (nat_lt (position_or_len test (map v xs)) l) (Some (position_or_len test (map v xs))) None) (sym (length-map xs v))
 
 pub added : {A B : Type 0} (v : A → B) (keys new : List A) (x : A) (y : B) → new ≡ keys ++ x ∷ [] → v x ≡ y → map v new ≡ map v keys ++ y ∷ []
 added v keys new x y e f = ap (map v) e ∙ map-append v keys (x ∷ []) ∙ ap (λ z. map v keys ++ z ∷ []) f
@@ -37,4 +33,4 @@ same_named v (x ∷ xs) [] h = absurd h
 same_named v (x ∷ xs) (y ∷ ys) h = ap (λ b. b ∷ map v ys) h.0 ∙ ap (λ bs. v x ∷ bs) (same_named v xs ys h.1)
 
 pub as_long : {A B : Type 0} (v : A → B) (xs ys : List A) → map v ys ≡ map v xs → length ys ≡ length xs
-as_long v xs ys e = sym (length_named v ys) ∙ ap length e ∙ length_named v xs
+as_long v xs ys e = sym (length-map ys v) ∙ ap length e ∙ length-map xs v

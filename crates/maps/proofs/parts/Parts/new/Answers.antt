@@ -1,11 +1,12 @@
 use Rattle.std.proofs.Common.{◌≡◌, ◌∙◌, ◌≤◌, [], sym, ap, subst, length, arith}
 use Rattle.std.specs.FinMap as map
+use Rattle.std.proofs.lemmas.List.{length-replicate}
 use Rattle.bpf_model.specs.Schedule.{Queues}
 use Rattle.bpf_model.specs.View.{unused_slot}
 use Rattle.element_arena.specs.State.{ArenaState}
 use Rattle.maps.specs.Parted.{PartsView, IsParted}
 use Rattle.bpf_model.specs.Codes.{KeyMap}
-use Rattle.maps.proofs.Fresh.{parted-fresh, length-replicate}
+use Rattle.maps.proofs.Fresh.{parted-fresh}
 use Rattle.maps.proofs.parts.Parts.new.Goals as goal
 
 pub invariant_of-result : goal.invariant_of-result
