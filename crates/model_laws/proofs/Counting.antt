@@ -81,11 +81,6 @@ map-back f [] k y h = absurd (none-some y h)
 map-back f (x ∷ xs) zero y h = (x, refl, same_Some (f x) y h)
 map-back f (x ∷ xs) (suc k) y h = map-back f xs k y h
 
-pub map-forth : {A B : Type 0} (f : A → B) (xs : List A) (k : ℕ) (x : A) → slice_get xs k ≡ Some x → slice_get (map f xs) k ≡ Some (f x)
-map-forth f [] k x h = absurd (none-some x h)
-map-forth f (y ∷ xs) zero x h = ap (λ z. Some (f z)) (same_Some y x h)
-map-forth f (y ∷ xs) (suc k) x h = map-forth f xs k x h
-
 -- flags
 pub still-forth : (a b : List Bool) (r : ℕ) → slice_get a r ≡ Some true → slice_get b r ≡ Some true → slice_get (still_open a b) r ≡ Some true
 still-forth [] b r h g = absurd (none-some true h)

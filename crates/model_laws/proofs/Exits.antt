@@ -24,7 +24,7 @@ use Rattle.model_laws.proofs.Deciding.{both, meet, kernel-one, alone-one, run-on
 use Rattle.model_laws.proofs.Alone.{others_change_nothing, starts_sharing_nothing, stays_sharing_nothing}
 
 -- one step: where no element is, every lookup and every birth has one answer
-abbrev no_maps : Store
+abbrev pub no_maps : Store
 no_maps = record { elements = []; maps = [] }
 
 keeps-oldest : (s : Store) → TakesOldest s s

@@ -3,6 +3,7 @@ use Rattle.std.proofs.Common.{◌≡◌, ◌≢◌, ℕ, ◌+◌, ◌<◌, ◌�
 use Rattle.std.specs.Prelude.{slice_get, ◌==◌, ◌&&◌, if◌then◌else◌}
 use Rattle.std.proofs.lemmas.Bool.{eqb-true, eq-eqb, false_from_ne_true, and_parts, false≢true, lt-ltb}
 use Rattle.std.proofs.lemmas.Option.{none-some, same_Some}
+use Rattle.bpf_model.proofs.Lists.{get-map}
 use Rattle.bpf_model.specs.Section.{Section, Has, AllEnded}
 use Rattle.bpf_model.specs.Element.{Element, Life, Linked, Unlinked, Reclaimed, is_linked, is_unlinked}
 use Rattle.bpf_model.specs.MapState.{Store}
@@ -15,7 +16,7 @@ use Rattle.model_laws.proofs.Moves.{RunsMove, run-before}
 use Rattle.model_laws.proofs.Stores.{LifeMoves, Stays, Unlinks, Ends, Alters, StoreMoves}
 use Rattle.model_laws.proofs.Past.{ended-later}
 use Rattle.model_laws.proofs.Keeping.{element-before, begun-unlinked}
-use Rattle.model_laws.proofs.Counting.{newly, map-forth}
+use Rattle.model_laws.proofs.Counting.{newly}
 use Rattle.model_laws.proofs.Lives.{linked≢unlinked, reclaimed≢unlinked, one_if}
 
 -- what is queued is an unlinked element of the map
@@ -87,7 +88,7 @@ in-slot (Some None) run h = absurd (none-some run h)
 in-slot (Some (Some x)) run h = ap Some h
 
 pub open-flag : (runs : List (Option Run)) (r : ℕ) (run : Run) → run_at runs r ≡ Some run → 0 < run.depth → slice_get (open_flags runs) r ≡ Some true
-open-flag runs r run at inside = map-forth is_open runs r (Some run) (in-slot (slice_get runs r) run at) ∙ ap Some (lt-ltb 0 run.depth inside)
+open-flag runs r run at inside = get-map is_open runs r (Some run) (in-slot (slice_get runs r) run at) ∙ ap Some (lt-ltb 0 run.depth inside)
 
 -- the waiting goes on
 has-same : (since : List Section) (name old_name lock old_lock : ℕ) → name ≡ old_name → lock ≡ old_lock → Has since (record { run = name; lock = lock }) → Has since (record { run = old_name; lock = old_lock })
