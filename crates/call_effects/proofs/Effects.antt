@@ -1,7 +1,5 @@
 -- The laws, for states in code.
-use Rattle.std.proofs.Common.{◌≡◌, ℕ, ◌^◌, ◌/◌, ◌<◌, List, Some, ap, ℤ, arith, true, false, ◌+◌, ◌≤◌, ◌∙◌, pos}
-use Rattle.std.specs.Prelude.{slice_get}
-use Rattle.bpf_model.specs.declared.limits.TheConstants.{FRAME_BYTES}
+use Rattle.std.proofs.Common.{◌≡◌, ℕ, ◌^◌, ◌/◌, ◌<◌, List, Some, ap, ℤ, arith, true, false}
 use Rattle.bpf_model.specs.declared.limits.MapShape.{MapShape}
 use Rattle.bpf_model.specs.declared.insn.Insn.{Insn}
 use Rattle.bpf_model.specs.declared.insn.Insn.TheVariants.{Call}

@@ -1,16 +1,15 @@
 -- What the world knows of a slot that has an element is what a map asks.
-use Rattle.std.proofs.Common.{◌≡◌, ◌∙◌, ℕ, ◌+◌, refl, sym, ap, arith, List, [], ◌∷◌, cond, inl, inr, Option, Some, None}
+use Rattle.std.proofs.Common.{◌≡◌, ◌∙◌, ℕ, ◌+◌, refl, sym, ap, arith, List, [], ◌∷◌, cond, inl, inr, Some}
 use Rattle.std.specs.Prelude.{◌==◌, slice_get, ℤ, ◌+ℤ◌}
 use Rattle.std.specs.FinMap.{get}
 use Rattle.std.proofs.lemmas.Bool.{eq-eqb}
 use Rattle.std.proofs.lemmas.List.Sums.{sum_by-cons}
 use Rattle.std.proofs.lemmas.Option.{same_Some}
 use Rattle.std.proofs.Common.{subst}
-use Rattle.bpf_model.specs.View.{SlotView, MapView}
+use Rattle.bpf_model.specs.View.{MapView}
 use Rattle.bpf_model.specs.Refines as refines
 use Rattle.element_arena.specs.State as state
 use Rattle.model_laws.specs.Locations.{Location, InSlot}
-use Rattle.view_laws.specs.Views as views
 use Rattle.maps.specs.Shown as shown
 use Rattle.world_laws.specs.Reaching as reaching
 use Rattle.helpers.specs.Elements.{IsElementReached, ReachesElement}

@@ -1,5 +1,5 @@
 -- A run that has not ended in a world whose programs are verified: its flag, and that what it asks can be served.
-use Rattle.std.proofs.Common.{◌≡◌, ◌∙◌, ℕ, ◌≤◌, refl, sym, ap, subst, List, Option, Some, None, Bool}
+use Rattle.std.proofs.Common.{◌≡◌, ◌∙◌, ℕ, ◌≤◌, sym, ap, subst, List, Option, Some, None, Bool}
 use Rattle.std.specs.Prelude.{slice_get, nat_lt, option_map, ℤ}
 use Rattle.std.proofs.lemmas.Option.{none-some, same_Some, slice_get-map}
 use Rattle.bpf_model.specs.declared.call.Helper.{Helper as HelperId}
@@ -13,8 +13,7 @@ use Rattle.bpf_model.specs.declared.limits.TheConstants.{MAX_DEPTH}
 use Rattle.bpf_model.specs.Access.{byte_count, unsigned_width}
 use Rattle.bpf_model.specs.Arithmetic.{loaded_signed}
 use Rattle.bpf_model.specs.Call.{kernel_function_of}
-use Rattle.bpf_model.specs.Element.{Element}
-use Rattle.bpf_model.specs.Machine.{Loaded, Run, run_in}
+use Rattle.bpf_model.specs.Machine.{Loaded, Run}
 use Rattle.bpf_model.specs.Refines.{SlotRefines}
 use Rattle.bpf_model.specs.Schedule.{Schedule, is_open, still_open}
 use Rattle.bpf_model.specs.Step.{insn_at}

@@ -1,5 +1,5 @@
 -- The slots of a line, word by word; and names and shapes that no map has.
-use Rattle.std.proofs.Common.{◌≡◌, ◌≢◌, ℕ, ◌<◌, Bool, true, false, not, cond, ◌&&◌, List, [], ◌∷◌, ◌++◌, length, get_or, All, refl, sym, ap, ◌∙◌, arith, append_assoc, append-nil}
+use Rattle.std.proofs.Common.{◌≡◌, ◌≢◌, ℕ, ◌<◌, Bool, true, false, not, cond, ◌&&◌, List, [], ◌++◌, length, get_or, All, refl, sym, ap, arith, append_assoc}
 use Rattle.std.specs.Prelude.{Option, Some, None, nat_le, slice_get}
 use Rattle.std.specs.List.{list_all}
 use Rattle.std.specs.Str.{IsAscii}
@@ -12,13 +12,17 @@ use Rattle.maps.specs.declared.fault.MapFault.{MapFault}
 use Rattle.maps.specs.declared.fault.MapFault.TheVariants.{BadName, NameTaken, BadShape, TooMany}
 use Rattle.maps.specs.declared.name.TheConstants.{NAME_BYTES}
 use Rattle.maps.specs.Registry.{RegistryView, is_name, is_name_character, begins_with_letter, is_between, is_shape, has_name, creation_fault}
-use Rattle.loader.specs.Lines.{file_words, slot_in, code_slots, both_parts}
+use Rattle.loader.specs.Lines.{file_words, code_slots, both_parts}
 
 -- what was added to the code is the slots of the line's words but for those that are left
 pub record HasSlots (line : List ℕ) (left : List (List ℕ)) (old new : List ℕ) : Type 0 where
   pub bytes : List ℕ
   pub slots : code_slots (file_words line) ≡ both_parts (Some bytes) (code_slots left)
   pub code : new ≡ old ++ bytes
+
+pub joined_nil : (x : Option (List ℕ)) → x ≡ both_parts (Some []) x
+joined_nil None = refl
+joined_nil (Some bytes) = refl
 
 joined_more : (front bytes : List ℕ) (x : Option (List ℕ)) → both_parts (Some front) (both_parts (Some bytes) x) ≡ both_parts (Some (front ++ bytes)) x
 joined_more front bytes None = refl

@@ -4,7 +4,6 @@ use Rattle.std.specs.Prelude.{Option, Some, None, MatchOption, Result, Ok, Err, 
 use Rattle.std.proofs.lemmas.Bool.{false≢true}
 use Rattle.std.proofs.lemmas.Bool.Decides.{nat_tests}
 use Rattle.std.proofs.lemmas.List.{length-append}
-use Rattle.bpf_model.specs.declared.limits.TheConstants.{CTX_BYTES}
 use Rattle.loader.specs.Lines.{file_lines}
 use Rattle.loader.specs.ProgramFile.{FileContent, heading, IsProgramFile, IsFileBeginning, IsFirstWrongLine, FileSays, IsWrongFile, IsLoadFault}
 use Rattle.loader.specs.Reading.{HasNoByte, HasLoaded}

@@ -2,7 +2,7 @@
 use Rattle.std.proofs.Common.{◌≡◌, ℕ, ◌+◌, ◌<◌, ◌≤◌, Bool, List, Some, None, sym, ap, ◌∙◌, subst, arith, length, true, false, inl, inr}
 use Rattle.std.specs.Prelude.{slice_get, slice_index_or, ◌==◌, ◌&&◌}
 use Rattle.std.proofs.lemmas.Option.{slice_get-get_or}
-use Rattle.std.proofs.lemmas.Bool.{eq-eqb, false≢true, cases_lt, eqb-true, and_parts}
+use Rattle.std.proofs.lemmas.Bool.{eq-eqb, false≢true, cases_lt}
 use Rattle.bpf_model.specs.Section as model
 use Rattle.plain_store.specs.declared.element.Section.{Section}
 use Rattle.plain_store.specs.State.{section_shown, sections_of}
