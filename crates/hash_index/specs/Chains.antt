@@ -34,7 +34,7 @@ hash_of key = words_hash (length key / 8) 14695981039346656037 key
 
 -- the bucket of a key, of a power of two of them
 abbrev pub bucket_of : ℕ → List ℕ → ℕ
-bucket_of count key = bit_and (hash_of key) (count - 1)
+bucket_of count key = bit_and (((hash_of key * 11400714819323198485) % 2 ^ 64) / 2 ^ 32) (count - 1)
 
 -- the slots that the links lead through from the first one
 abbrev pub chain_of : ArenaState → Option ℕ → List ℕ

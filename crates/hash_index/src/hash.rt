@@ -59,11 +59,13 @@ fn hash(key: &[u8]) -> u64
     hash_bytes(hash, rest)
 }
 
-/// The bucket of a key, of so many, which are a power of two.
+/// The bucket of a key, of so many, which are a power of two. The hash is multiplied once more, and the bits
+/// taken from the middle on: so keys that differ in their last bytes alone do not share a bucket.
 pub(crate) fn bucket(key: &[u8], count: usize) -> usize
     requires { 0 < count }
     ensures bucket { result ≡ bucket_of count key.now }
     ensures inside { result < count }
 {
-    (hash(key) & (count as u64 - 1)) as usize
+    let spread = hash(key).wrapping_mul(WORD_FACTOR) >> 32;
+    (spread & (count as u64 - 1)) as usize
 }
