@@ -1,8 +1,7 @@
 //! The bytes of keys, values and contexts, one after another.
 ghost use Rattle.std.specs.Prelude.{◌≡◌, ◌+◌, ◌≤◌, ◌++◌, length, vec_len, vec_capacity};
-ghost use Rattle.journal.specs.Rows.{answer_bytes, entry_bytes, event_bytes, string_in};
+ghost use Rattle.journal.specs.Rows.{answer_bytes, event_bytes, string_in};
 
-use crate::entry::Entry;
 use arrayvec::ArrayVec;
 use bpf_model::{Answer, Event};
 
@@ -62,11 +61,13 @@ fn append_answer(bytes: &mut Vec<u8>, answer: &Answer)
     }
 }
 
-/// Adds the strings of an entry where there is room for them.
-pub(crate) fn append(bytes: &mut Vec<u8>, entry: &Entry)
-    requires { vec_len bytes.old + length (entry_bytes entry.now) ≤ vec_capacity bytes.old }
-    ensures { bytes.new.items ≡ bytes.old.items ++ entry_bytes entry.now }
+/// Adds the strings of an entry, which are those of its event and of its answer, where there is room for them.
+pub(crate) fn append(bytes: &mut Vec<u8>, event: &Event, answer: &Answer)
+    requires { vec_len bytes.old + length (event_bytes event.now ++ answer_bytes answer.now)
+        ≤ vec_capacity bytes.old }
+    ensures { bytes.new.items
+        ≡ bytes.old.items ++ (event_bytes event.now ++ answer_bytes answer.now) }
 {
-    append_event(bytes, &entry.event);
-    append_answer(bytes, &entry.answer);
+    append_event(bytes, event);
+    append_answer(bytes, answer);
 }

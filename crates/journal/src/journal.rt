@@ -3,13 +3,14 @@ ghost use Rattle.std.specs.Prelude.{◌≡◌, ◌≤◌, ◌↔◌, ◌==◌, �
 ghost use Rattle.std.specs.Prelude.{length, slice_get, Err, OnOk, OnErr};
 ghost use Rattle.bpf_model.specs.declared.limits.TheConstants.{MAX_JOURNAL};
 ghost use Rattle.journal.specs.Entries.{IsAnswerTo, with_room};
+ghost use Rattle.journal.specs.Rows.{entry_from};
 
 use crate::bytes::append;
 use crate::entry::Entry;
 use crate::fault::JournalFault;
 use crate::making::row_of;
 use crate::row::Row;
-use bpf_model::{KEY_BYTES, MAX_JOURNAL, VALUE_BYTES};
+use bpf_model::{Answer, Event, KEY_BYTES, MAX_JOURNAL, VALUE_BYTES};
 use std::alloc::Global;
 use std::marker::Model;
 
@@ -123,8 +124,19 @@ impl Journal {
         ensures entries { self.new.entries ≡ self.old.entries ++ entry.now ∷ [] }
         ensures limit { self.new.limit ≡ self.old.limit }
     {
-        let row = row_of(entry, self.bytes.len());
-        append(&mut self.bytes, entry);
+        self.push_answer(entry.worker, &entry.event, &entry.answer);
+    }
+
+    /// As `push`, of an entry that is not made: its event and its answer stay where they are.
+    pub fn push_answer(&mut self, worker: u8, event: &Event, answer: &Answer)
+        requires room { self.old.has_room ≡ true }
+        requires answer { IsAnswerTo event.now answer.now }
+        ensures entries { self.new.entries
+            ≡ self.old.entries ++ entry_from worker event.now answer.now ∷ [] }
+        ensures limit { self.new.limit ≡ self.old.limit }
+    {
+        let row = row_of(worker, event, answer, self.bytes.len());
+        append(&mut self.bytes, event, answer);
         self.rows.push_reserved(row);
     }
 

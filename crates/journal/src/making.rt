@@ -4,7 +4,6 @@ ghost use Rattle.bpf_model.specs.declared.event.Event.TheVariants as events;
 ghost use Rattle.journal.specs.Entries.{IsAnswerTo};
 ghost use Rattle.journal.specs.Rows.{IsOutcome, IsRowOf, answer_of, entry_from};
 
-use crate::entry::Entry;
 use crate::row::{Outcome, Row};
 use bpf_model::{Answer, CtxBytes, Event, KeyBytes, MapId, ProgId, RunId, ValueBytes};
 
@@ -128,13 +127,11 @@ fn drop_row(worker: u8, start: usize, run: RunId, answer: &Answer) -> Row
 }
 
 /// The row of an entry whose strings begin at `start`.
-pub(crate) fn row_of(entry: &Entry, start: usize) -> Row
-    requires { IsAnswerTo entry.now.event entry.now.answer }
-    ensures { IsRowOf start entry.now result }
+pub(crate) fn row_of(worker: u8, event: &Event, answer: &Answer, start: usize) -> Row
+    requires { IsAnswerTo event.now answer.now }
+    ensures { IsRowOf start (entry_from worker event.now answer.now) result }
 {
-    let worker = entry.worker;
-    let answer = &entry.answer;
-    match &entry.event {
+    match event {
         Event::Start { prog, ctx } => start_row(worker, start, *prog, ctx, answer),
         Event::Step { run } => step_row(worker, start, *run, answer),
         Event::Update {

@@ -1,5 +1,5 @@
 //! A map of a fixed number of slots.
-ghost use Rattle.std.specs.Prelude.{false, ◌≡◌, ◌<◌, ◌≤◌, ◌+◌, [], ℕ, length, slice_get, None, Some, IfSome, IfNone, IfOk, OnErr, option_copied};
+ghost use Rattle.std.specs.Prelude.{false, ◌≡◌, ◌<◌, ◌≤◌, ◌+◌, [], ℕ, length, slice_get, None, Some, IfSome, IfNone, IfOk, OnErr, option_copied, option_map};
 ghost use Rattle.std.specs.FinMap as map;
 ghost use Rattle.bpf_model.specs.declared.limits.TheConstants.{KEY_BYTES, VALUE_BYTES, MAX_ENTRIES, MAX_SPARE};
 ghost use Rattle.bpf_model.specs.Access.{byte_count, number_at};
@@ -118,6 +118,18 @@ impl<I: Index, D: Deferred> HashMap<I, D> {
         match self.parts.find(key) {
             None => None,
             Some(slot) => Some(value_of(self.parts.value(slot))),
+        }
+    }
+
+    /// The bytes of the value of a key, where they stand. A key of another length than the map's has none.
+    pub fn bytes_of(&self, key: &[u8]) -> Option<&[u8]>
+        ensures bytes { option_map (λ b. record { items = b }) (option_copied result)
+            ≡ value_read self.now key.now }
+        ensures short { IfSome result (λ b. length b.now ≤ VALUE_BYTES) }
+    {
+        match self.parts.find(key) {
+            None => None,
+            Some(slot) => Some(self.parts.value(slot)),
         }
     }
 

@@ -12,7 +12,7 @@ use crate::receipt::{ExitNote, Receipt};
 use crate::tally::{Tally, Totals, unreclaimed};
 use crate::worker::Worker;
 use bpf_model::{CtxBytes, Event, ProgId, RunId};
-use journal::{Entry, Journal, JournalFault};
+use journal::{Journal, JournalFault};
 use std::alloc::Global;
 use std::marker::Model;
 use std::sync::ledger::{Book, Ledger, Share};
@@ -129,18 +129,8 @@ impl<L: Ledger> Books<L> {
         self.book.audit(&mut worker.share);
         self.book.add(&mut worker.share, 1);
         worker.made += 1;
-        let entry = Entry {
-            worker: worker.number,
-            event,
-            answer,
-        };
-        self.journal.push(&entry);
-        let Entry {
-            worker: number,
-            event,
-            answer,
-        } = entry;
-        Receipt::new(number, worker.made, event, Ok(answer))
+        self.journal.push_answer(worker.number, &event, &answer);
+        Receipt::new(worker.number, worker.made, event, Ok(answer))
     }
 
     /// Asks the world for the exit value of a run, for a program and a context. Nothing changes.

@@ -1,35 +1,66 @@
 //! One event.
-ghost use Rattle.std.specs.Prelude.{◌≡◌, ◌∷◌, []};
+ghost use Rattle.std.specs.Prelude.{◌≡◌, ◌∷◌, [], ◌+◌, ◌<◌, ◌^◌};
 ghost use Rattle.bpf_model.specs.Drain.{AnswersAsScheduled};
 ghost use Rattle.bpf_model.specs.Headline.{AnswersAsMachine, AreNeverStuck, AllExitInTime, AreReclaimedLate};
+ghost use Rattle.bpf_model.specs.declared.event.Event.TheVariants as events;
 ghost use Rattle.bpf_model.specs.Refines.{TracksSchedule, Tracks};
 ghost use Rattle.world_laws.specs.Reacting.{full_reaction};
 ghost use Rattle.world_invariant.specs.Invariant.{IsWorld};
 
 use crate::world::World;
-use bpf_model::{Answer, Event};
+use bpf_model::{Answer, CtxBytes, Event, ProgId, RunId};
 use world_parts::Parts;
 
-/// The reaction to an event.
-fn react(parts: &mut Parts, event: &Event) -> Answer
+/// Puts the answer of a start in the place of another one. It stands apart, as the next two do, so that no other
+/// event pays for its locals.
+#[inline(never)]
+fn start(parts: &mut Parts, prog: ProgId, ctx: &CtxBytes, answer: &mut Answer)
+    ensures answer { answer.new ≡ (full_reaction parts.old (events.Start prog ctx.now)).0 }
+    ensures new { parts.new ≡ (full_reaction parts.old (events.Start prog ctx.now)).1 }
+{
+    *answer = parts.start(prog, ctx);
+}
+
+/// Puts the answer of a reclamation in the place of another one.
+#[inline(never)]
+fn reap(parts: &mut Parts, answer: &mut Answer)
+    requires { parts.old.given + 1 < 2 ^ 64 }
+    ensures answer { answer.new ≡ (full_reaction parts.old events.Reap).0 }
+    ensures new { parts.new ≡ (full_reaction parts.old events.Reap).1 }
+{
+    *answer = parts.reap();
+}
+
+/// Puts the answer of a drop in the place of another one.
+#[inline(never)]
+fn drop_run(parts: &mut Parts, run: RunId, answer: &mut Answer)
+    ensures answer { answer.new ≡ (full_reaction parts.old (events.Drop run)).0 }
+    ensures new { parts.new ≡ (full_reaction parts.old (events.Drop run)).1 }
+{
+    *answer = parts.drop_run(run);
+}
+
+/// Puts the reaction to an event in the place of another answer.
+#[inline(always)]
+fn react(parts: &mut Parts, event: &Event, answer: &mut Answer)
     requires { IsWorld parts.old }
-    ensures answer { result ≡ (full_reaction parts.old event.now).0 }
+    ensures answer { answer.new ≡ (full_reaction parts.old event.now).0 }
     ensures new { parts.new ≡ (full_reaction parts.old event.now).1 }
 {
     match event {
-        Event::Start { prog, ctx } => parts.start(*prog, ctx),
-        Event::Step { run } => parts.step(*run),
+        Event::Start { prog, ctx } => start(parts, *prog, ctx, answer),
+        Event::Step { run } => *answer = parts.step(*run),
         Event::Update {
             map,
             key,
             value,
             flags,
-        } => parts.update(*map, key, value, *flags),
-        Event::Delete { map, key } => parts.delete(*map, key),
-        Event::Read { map, key } => parts.read(*map, key),
-        Event::Advance => parts.advance(),
-        Event::Reap => parts.reap(),
-        Event::Drop { run } => parts.drop_run(*run),
+        } => *answer = parts.update(*map, key, value, *flags),
+        Event::Delete { map, key } => *answer = parts.delete(*map, key),
+        Event::Read { map, key } => parts.read_into(*map, key, answer),
+        Event::Advance => *answer = parts.advance(),
+        Event::Reap => reap(parts, answer),
+        Event::Drop { run } => drop_run(parts, *run, answer),
     }
 }
 
@@ -51,6 +82,8 @@ impl World {
         ensures reclaimed { AreReclaimedLate Tracks self.old (event.now ∷ []) (result ∷ []) }
     {
         event.is_real();
-        react(&mut self.parts, event)
+        let mut answer = Answer::Done;
+        react(&mut self.parts, event, &mut answer);
+        answer
     }
 }

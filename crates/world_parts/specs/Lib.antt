@@ -1,3 +1,4 @@
+pub mod Brief
 pub mod Programs
 pub mod Keeping
 pub mod Asking

@@ -5,6 +5,7 @@
 #![tactic(auto)]
 
 mod asking;
+mod brief;
 mod control;
 mod copying;
 mod loaded;

@@ -6,8 +6,10 @@ ghost use Rattle.view_laws.specs.Matching.{Matches};
 ghost use Rattle.view_laws.specs.Reactions.{run_shown, step_refused};
 ghost use Rattle.world_laws.specs.Reacting.{full_reaction, word_step};
 ghost use Rattle.world_laws.specs.Typed.{IsSound};
+ghost use Rattle.world_parts.specs.Brief.{answer_of};
 ghost use Rattle.world_parts.specs.Stepping.{CanTake, HasGone, HasTaken, IsGoing};
 
+use crate::brief::Brief;
 use crate::loaded::Loaded;
 use crate::parts::Parts;
 use bpf_model::{Answer, EventRefusal, RunId};
@@ -24,18 +26,18 @@ fn step_run(
     loaded: &Loaded,
     maps: &mut Registry,
     grace: &mut Grace,
-) -> Answer
+) -> Brief
     requires { CanTake loaded.now maps.old.maps grace.old slot run.old }
     ensures { HasTaken loaded.now slot run.old run.new maps.old.maps maps.new.maps grace.old
-        grace.new result }
+        grace.new (answer_of result) }
 {
     match run.local_step(&loaded.verified) {
-        Local::Moved => Answer::Moved,
-        Local::Exit(value) => Answer::Exited(value),
+        Local::Moved => Brief::Moved,
+        Local::Exit(value) => Brief::Exited(value),
         Local::Shared(access) => {
             let word = serve(access, run, slot, loaded.maps.as_slice(), maps, grace);
             run.resume(&loaded.verified, word);
-            Answer::Moved
+            Brief::Moved
         }
     }
 }
@@ -47,10 +49,10 @@ fn step_slot(
     slot: RunId,
     maps: &mut Registry,
     grace: &mut Grace,
-) -> Answer
+) -> Brief
     requires { IsGoing runs.old.items programs.now.items maps.old.maps grace.old slot }
     ensures { HasGone runs.old.items runs.new.items programs.now.items maps.old.maps maps.new.maps
-        grace.old grace.new slot result }
+        grace.old grace.new slot (answer_of result) }
 {
     match &mut runs[slot.index()] {
         Some(run) => {
@@ -74,10 +76,10 @@ impl Parts {
     }
 
     /// The step of a run that has not ended.
-    fn take_step(&mut self, run: RunId) -> Answer
+    fn take_step(&mut self, run: RunId) -> Brief
         requires sound { (s : Schedule) × Matches self.old s × IsSound self.old s }
         requires going { step_refused (run_shown (slice_get self.old.runs run)) ≡ None }
-        ensures answer { result ≡ (word_step self.old run).0 }
+        ensures answer { answer_of result ≡ (word_step self.old run).0 }
         ensures new { self.new ≡ (word_step self.old run).1 }
     {
         step_slot(
@@ -89,18 +91,29 @@ impl Parts {
         )
     }
 
+    /// One step of a run, or why there is none.
+    #[inline(never)]
+    fn stepped(&mut self, run: RunId) -> Brief
+        requires sound { (s : Schedule) × Matches self.old s × IsSound self.old s }
+        ensures answer { answer_of result ≡ (full_reaction self.old (Event.Step run)).0 }
+        ensures new { self.new ≡ (full_reaction self.old (Event.Step run)).1 }
+    {
+        match self.step_refusal(run) {
+            Some(refusal) => Brief::Refused(refusal),
+            None => self.take_step(run),
+        }
+    }
+
     /// One step of a run. Refused where no run has the slot (`NoRun`), and where the run has
     /// ended (`Ended`).
     ///
     /// The answer is `Moved`, or `Exited` with the exit value. No step fails or takes memory.
+    #[inline(always)]
     pub fn step(&mut self, run: RunId) -> Answer
         requires sound { (s : Schedule) × Matches self.old s × IsSound self.old s }
         ensures answer { result ≡ (full_reaction self.old (Event.Step run)).0 }
         ensures new { self.new ≡ (full_reaction self.old (Event.Step run)).1 }
     {
-        match self.step_refusal(run) {
-            Some(refusal) => Answer::Refused(refusal),
-            None => self.take_step(run),
-        }
+        self.stepped(run).into_answer()
     }
 }

@@ -8,6 +8,6 @@ use Rattle.journal.proofs.making.row_of.Goals as goal
 pub returns-in-Update : goal.returns-in-Update
 returns-in-Update c =
     let e = c.in-Update in
-    let row = rows.Updated c.args.entry.now.worker c.outcome_of.result c.len.result c.len-in-Update.result e.map e.flags c.args.start in
-    subst (λ (event : Event). IsRowOf c.args.start (entry_from c.args.entry.now.worker event c.args.entry.now.answer) row) (sym e.is)
-    (updated-row c.args.entry.now.worker c.args.start e.map e.flags c.len.result c.len-in-Update.result e.key e.value c.args.entry.now.answer c.outcome_of.result c.outcome_of.ensures c.len.ensures.value c.len-in-Update.ensures.value c.len.ensures.fits c.len-in-Update.ensures.fits)
+    let row = rows.Updated c.args.worker c.outcome_of.result c.len.result c.len-in-Update.result e.map e.flags c.args.start in
+    subst (λ (event : Event). IsRowOf c.args.start (entry_from c.args.worker event c.args.answer.now) row) (sym e.is)
+    (updated-row c.args.worker c.args.start e.map e.flags c.len.result c.len-in-Update.result e.key e.value c.args.answer.now c.outcome_of.result c.outcome_of.ensures c.len.ensures.value c.len-in-Update.ensures.value c.len.ensures.fits c.len-in-Update.ensures.fits)

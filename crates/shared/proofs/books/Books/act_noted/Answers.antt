@@ -24,8 +24,8 @@ count-requires-clause-counts g c =
     subst (λ (k : ℕ). CountsOn c.apply-answer.result c.self.inside.tally.unreclaimed k) (sym c.unreclaimed.ensures)
     (counts-on c.self.inside.world c.apply-answer.new.self c.args.event c.apply-answer.result c.self.inside.tally.unreclaimed c.self.invariant.tally.unreclaimed c.apply-answer.ensures.answer c.apply-answer.ensures.new)
 
-pub push-requires-clause-answer : goal.push-requires-clause-answer
-push-requires-clause-answer g c =
+pub push_answer-requires-clause-answer : goal.push_answer-requires-clause-answer
+push_answer-requires-clause-answer g c =
     subst (λ (a : Answer). IsAnswerTo c.args.event a) (sym c.apply-answer.ensures.answer)
     (reaction_fits c.self.inside.world c.args.event c.is_world.ensures c.is_real.ensures)
 
@@ -47,12 +47,12 @@ entered base world later journal room pushed before steps_before tally counted w
 pub invariant_of-self-2 : goal.invariant_of-self-2
 invariant_of-self-2 g c =
     let old : BooksView = books_view c.self.inside.base c.self.inside.world c.self.inside.journal c.self.inside.before c.self.inside.steps_before c.self.inside.tally in
-    let new : BooksView = books_view c.self.inside.base c.apply-answer.new.self c.push.new.self c.self.inside.before c.self.inside.steps_before c.count.new.self in
+    let new : BooksView = books_view c.self.inside.base c.apply-answer.new.self c.push_answer.new.self c.self.inside.before c.self.inside.steps_before c.count.new.self in
     let count = c.self.invariant.count in
     let room = c.in_default.ensures.count in
     let fits : c.self.inside.book.total + 1 < 2 ^ 64 = omega (arith, count, room) in
     let total : c.add.new.self.total ≡ c.self.inside.book.total + 1 = c.add.ensures.total ∙ ap (λ (k : ℕ). k + 1) c.audit.ensures.total in
-    let enters : Enters old c.worker.inside.number c.args.event c.apply-answer.result new = entered _ _ _ c.self.inside.journal c.make_room.new.journal c.push.new.self _ _ _ _ _ _ _ c.make_room.ensures.entries c.make_room.ensures.limit c.push.ensures.entries c.push.ensures.limit
+    let enters : Enters old c.worker.inside.number c.args.event c.apply-answer.result new = entered _ _ _ c.self.inside.journal c.make_room.new.journal c.push_answer.new.self _ _ _ _ _ _ _ c.make_room.ensures.entries c.make_room.ensures.limit c.push_answer.ensures.entries c.push_answer.ensures.limit
     c.apply-answer.ensures.answer c.apply-answer.ensures.new c.count.ensures.origin c.count.ensures.steps in
     subst (AreBalanced new) (sym total)
     (balanced-push old new c.self.inside.book.total c.worker.inside.number c.args.event c.apply-answer.result c.self.invariant fits c.is_real.ensures enters
@@ -63,7 +63,7 @@ invariant_of-self-2 g c =
 pub returns-clause-noted : goal.returns-clause-noted
 returns-clause-noted g c =
     let old : BooksView = books_view c.self.inside.base c.self.inside.world c.self.inside.journal c.self.inside.before c.self.inside.steps_before c.self.inside.tally in
-    let new : BooksView = books_view c.self.inside.base c.apply-answer.new.self c.push.new.self c.self.inside.before c.self.inside.steps_before c.count.new.self in
+    let new : BooksView = books_view c.self.inside.base c.apply-answer.new.self c.push_answer.new.self c.self.inside.before c.self.inside.steps_before c.count.new.self in
     let caller : WorkerView = record { number = c.worker.inside.number; made = c.worker.inside.made; parts = c.worker.inside.share.parts } in
     let later : WorkerView = record { number = c.worker.inside.number; made = c.worker.inside.made + 1; parts = c.add.new.share.parts } in
     let receipt : ReceiptView = record { worker = c.worker.inside.number; number = c.worker.inside.made + 1; event = c.args.event; reply = Ok c.apply-answer.result } in
@@ -71,7 +71,7 @@ returns-clause-noted g c =
       worker = refl;
       asked = refl;
       number = refl;
-      entered = entered _ _ _ c.self.inside.journal c.make_room.new.journal c.push.new.self _ _ _ _ _ _ _ c.make_room.ensures.entries c.make_room.ensures.limit c.push.ensures.entries c.push.ensures.limit
+      entered = entered _ _ _ c.self.inside.journal c.make_room.new.journal c.push_answer.new.self _ _ _ _ _ _ _ c.make_room.ensures.entries c.make_room.ensures.limit c.push_answer.ensures.entries c.push_answer.ensures.limit
           c.apply-answer.ensures.answer c.apply-answer.ensures.new c.count.ensures.origin c.count.ensures.steps;
       answered = answered c.self.inside.world c.args.event c.apply-answer.result c.is_world.ensures c.is_real.ensures c.apply-answer.ensures.answer;
       made = refl;

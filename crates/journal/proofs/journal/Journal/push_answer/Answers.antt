@@ -1,16 +1,16 @@
 use Rattle.std.proofs.Common.{◌≡◌, ◌++◌, ◌∷◌, [], List, ℕ, length, sym, ap, subst, ◌∙◌, rules}
 use Rattle.std.specs.Prelude.{map}
-use Rattle.journal.specs.Rows.{IsRowOf, AreStored, entry_bytes, entry_of}
+use Rattle.journal.specs.Rows.{IsRowOf, AreStored, entry_bytes, entry_from, entry_of}
 use Rattle.journal.specs.declared.entry.Entry.{Entry}
 use Rattle.journal.specs.declared.row.Row.{Row}
 use Rattle.journal.proofs.Storing.{stored-push, entries-push}
-use Rattle.journal.proofs.journal.Journal.push.Goals as goal
+use Rattle.journal.proofs.journal.Journal.push_answer.Goals as goal
 
 pub invariant_of-self : goal.invariant_of-self
 invariant_of-self c =
     let rows = c.self.inside.rows.items in
     let bytes = c.self.inside.bytes.items in
-    let e = c.args.entry.now in
+    let e = entry_from c.args.worker c.args.event.now c.args.answer.now in
     let row = c.row_of-row.result in
     let at : c.len.result ≡ length bytes = search rules in
     let is : IsRowOf (length bytes) e row = subst (λ (n : ℕ). IsRowOf n e row) at c.row_of-row.ensures in
@@ -24,7 +24,7 @@ pub returns-clause-entries : goal.returns-clause-entries
 returns-clause-entries c =
     let rows = c.self.inside.rows.items in
     let bytes = c.self.inside.bytes.items in
-    let e = c.args.entry.now in
+    let e = entry_from c.args.worker c.args.event.now c.args.answer.now in
     let row = c.row_of-row.result in
     let at : c.len.result ≡ length bytes = search rules in
     let is : IsRowOf (length bytes) e row = subst (λ (n : ℕ). IsRowOf n e row) at c.row_of-row.ensures in
