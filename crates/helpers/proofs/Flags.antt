@@ -1,6 +1,7 @@
 -- Flags of awaited sections, where one more section is open or one less.
 use Rattle.std.proofs.Common.{◌≡◌, ◌∙◌, ℕ, zero, suc, refl, ap, List, [], ◌∷◌}
 use Rattle.std.specs.Prelude.{◌&&◌, Bool, true, false, slice_set}
+use Rattle.std.proofs.Math.Bool.{and-false, and-true}
 use Rattle.bpf_model.specs.Schedule.{still_open}
 
 heads : (x y : Bool) (xs ys : List Bool) → (let l : List Bool = x ∷ xs in l) ≡ (y ∷ ys) → x ≡ y
@@ -8,14 +9,6 @@ heads x y xs ys e = cc
 
 tails : (x y : Bool) (xs ys : List Bool) → (let l : List Bool = x ∷ xs in l) ≡ (y ∷ ys) → xs ≡ ys
 tails x y xs ys e = cc
-
-and-true : (x : Bool) → (x && true) ≡ x
-and-true true = refl
-and-true false = refl
-
-and-false : (x : Bool) → (x && false) ≡ false
-and-false true = refl
-and-false false = refl
 
 -- a section that is opened is awaited no more than before
 pub opened_awaits : (fs os : List Bool) (r : ℕ) → still_open fs os ≡ fs → still_open fs (slice_set os r true) ≡ fs

@@ -2,7 +2,7 @@
 use Rattle.std.proofs.Common.{◌≡◌, ℕ, zero, suc, ◌+◌, ◌-◌, ◌*◌, ◌/◌, ◌%◌, ◌^◌, ◌<◌, ◌≤◌, refl, sym, ◌∙◌, ap, subst, arith, Bool, true, false, length, List, [], ◌∷◌, inl, inr, ◌≢◌}
 use Rattle.std.specs.Prelude.{Some, ◌==◌, if◌then◌else◌, slice_get, slice_index, slice_set, take, drop, unwrap_or, ℤ, pos}
 use Rattle.std.proofs.lemmas.Bool.{cases_lt, cases_eq, eq-eqb, ne_eqb}
-use Rattle.std.proofs.lemmas.List.{get_or-set_same, get_or-set_other, length-set}
+use Rattle.std.proofs.lemmas.List.{get_or-set_same, get_or-set_other}
 use Rattle.std.proofs.lemmas.Option.{slice_get-get_or, same_Some}
 use Rattle.std.proofs.Math.Nat.{pow-suc, div-div-eq-div-mul}
 use Rattle.bpf_model.specs.declared.value.Cell.{Cell}
@@ -14,7 +14,7 @@ use Rattle.bpf_model.specs.Word.{ByteIs}
 use Rattle.world_laws.specs.Locating.{number_from}
 use Rattle.world_laws.proofs.Cells.{number_more, byte_known}
 use Rattle.model_laws.proofs.Lists.{first-step}
-use Rattle.bpf_model.proofs.Bytes.{before, behind, within}
+use Rattle.bpf_model.proofs.Bytes.{before, behind, within, length-with_bytes}
 
 pub set_cond : (xs : List ℕ) (d x q : ℕ) → d < length xs → slice_index (slice_set xs d x) q ≡ (if q == d then x else slice_index xs q)
 set_cond xs d x q l = elim (cases_eq q d) [
@@ -22,10 +22,6 @@ set_cond xs d x q l = elim (cases_eq q d) [
       (get_or-set_same xs d x 0 l ∙ sym (ap (λ t. if t then x else slice_index xs d) (eq-eqb d d refl)))
   | inr n ↦ get_or-set_other xs d q x 0 n ∙ sym (ap (λ t. if t then x else slice_index xs q) (ne_eqb q d n))
 ]
-
-pub length-bytes : (width at n : ℕ) (xs : List ℕ) → length (with_bytes at width n xs) ≡ length xs
-length-bytes zero at n xs = refl
-length-bytes (suc width) at n xs = length-set (with_bytes (suc at) width (n / 256) xs) at (n % 256) ∙ length-bytes width (suc at) (n / 256) xs
 
 chosen : (t : Bool) (x y : ℕ) → t ≡ true → (if t then x else y) ≡ x
 chosen t x y e = ap (λ t. if t then x else y) e
@@ -52,7 +48,7 @@ bytes-written zero at n xs l k = elim (cases_lt k at) [
 bytes-written (suc width) at n xs l k =
     let ys = with_bytes (suc at) width (n / 256) xs in
     let more = bytes-written width (suc at) (n / 256) xs (omega arith) k in
-    let same : length ys ≡ length xs = length-bytes width (suc at) (n / 256) xs in
+    let same : length ys ≡ length xs = length-with_bytes (suc at) width (n / 256) xs in
     set_cond ys at (n % 256) k (omega arith) ∙ elim (cases_eq k at) [
       | inl e ↦ chosen (k == at) (n % 256) (slice_index ys k) (eq-eqb k at e) ∙ sym (first-digit n at k e)
           ∙ sym (chosen (is_within at (suc width) k) (n / 256 ^ (k - at) % 256) (slice_index xs k) (within at (suc width) k (omega arith) (omega arith)))

@@ -2,7 +2,7 @@
 use Rattle.std.proofs.Common.{◌≡◌, ℕ, ◌+◌, List, [], ◌∷◌, length, Option, Some, None, refl, sym, subst, Bool, true, false, inl, inr}
 use Rattle.std.specs.Prelude.{ℤ, pos, negsuc, nat_lt, ◌==◌, if◌then◌else◌}
 use Rattle.std.proofs.lemmas.Bool.{ltb-true, false≢true}
-use Rattle.std.proofs.lemmas.Option.{none-some}
+use Rattle.std.proofs.lemmas.Option.{none-some, cond_some}
 use Rattle.bpf_model.specs.declared.call.Helper.{Helper}
 use Rattle.bpf_model.specs.declared.call.Helper.TheVariants.{Lookup, Update, Delete}
 use Rattle.bpf_model.specs.declared.call.KernelFunction.{KernelFunction}
@@ -32,7 +32,7 @@ use Rattle.model_laws.proofs.Keeping.{no-run}
 use Rattle.typed_runs.proofs.Coming.{Comes, Stands, Starting, Stepping, does-come}
 use Rattle.typed_runs.proofs.Reaching.{real-rest}
 use Rattle.world_laws.specs.Typed.{IsListed, AreListed}
-use Rattle.world_laws.proofs.Words.{chosen, refused}
+use Rattle.world_laws.proofs.Words.{refused}
 use Rattle.model_laws.proofs.Lists.{first-step}
 
 listed-closed : (count : ℕ) → Closed (IsListed count)
@@ -44,7 +44,7 @@ IsListedRun run = HoldsState (IsListed (length run.program.maps)) run.state
 -- the maps of the list
 map-listed : (env : Environment) (z : ℤ) (u : Value) → map_value env z ≡ Some u → HoldsValue (IsListed env.maps) u
 map-listed env (pos n) u e =
-    let g = chosen (nat_lt n env.maps) (Pointer (MapRef n)) u e in
+    let g = cond_some (nat_lt n env.maps) (Pointer (MapRef n)) u e in
     subst (HoldsValue (IsListed env.maps)) g.1 (ltb-true n env.maps g.0)
 map-listed env (negsuc n) u e = absurd (none-some u e)
 

@@ -72,14 +72,14 @@ module _ (w : WorldView) (s : Schedule) (m : Matches w s) (sound : IsSound w s) 
       (subst (λ o. Simulates s (events.Step r) (step_in o r v w)) (sym loaded)
       (subst (λ o. Simulates s (events.Step r) (step_at o run.program r v w)) (sym at) (insn_simulates n.3.0 n.0 n.1 n.2 n.3.1 n.3.2)))
 
+pub not-ended : (o : Option ℕ) → if_ended o ≡ None → o ≡ None
+not-ended None e = refl
+not-ended (Some n) e = absurd (none-some _ (sym e))
+
 -- the view of a run that isn't refused
 going-shown : (o : Option RunView) → step_refused o ≡ None → (v : RunView) × (o ≡ Some v) × (v.exit ≡ None)
 going-shown None e = absurd (none-some _ (sym e))
-going-shown (Some v) e = (v, refl, going v.exit e)
-  where
-    going : (o : Option ℕ) → if_ended o ≡ None → o ≡ None
-    going None e = refl
-    going (Some n) e = absurd (none-some _ (sym e))
+going-shown (Some v) e = (v, refl, not-ended v.exit e)
 
 slot-shown : (o : Option (Option RunView)) (v : RunView) → run_shown o ≡ Some v → o ≡ Some (Some v)
 slot-shown None v e = absurd (none-some v e)

@@ -1,6 +1,7 @@
 -- The flags of runs that are inside sections and awaited, when a run slot's flag is cleared.
 use Rattle.std.proofs.Common.{◌≡◌, ℕ, zero, suc, List, [], ◌∷◌, length, Bool, true, false, Some, refl, ap, arith}
 use Rattle.std.specs.Prelude.{slice_get, slice_set, ◌&&◌}
+use Rattle.std.proofs.Math.Bool.{and-false}
 use Rattle.bpf_model.specs.Schedule.{still_open}
 
 -- what is awaited is open
@@ -10,10 +11,6 @@ IsInside awaited opened = (r : ℕ) → slice_get awaited r ≡ Some true → sl
 and-of : (a b : Bool) → (a ≡ true → b ≡ true) → (a && b) ≡ a
 and-of true b h = h refl
 and-of false b h = refl
-
-and-none : (a : Bool) → (a && false) ≡ false
-and-none true = refl
-and-none false = refl
 
 flag-of : (a b : Bool) → (Some a ≡ Some true → Some b ≡ Some true) → a ≡ true → b ≡ true
 flag-of a b h e = let g : Some b ≡ Some true = h (ap (λ x. Some x) e) in cc
@@ -32,7 +29,7 @@ pub still-cleared : (awaited opened : List Bool) (r : ℕ) → length awaited �
 still-cleared [] later r n h = refl
 still-cleared (a ∷ rest) [] r n h = absurd (omega arith)
 still-cleared (a ∷ rest) (o ∷ later) zero n h =
-    let head : (a && false) ≡ false = and-none a in
+    let head : (a && false) ≡ false = and-false a in
     let tail : still_open rest later ≡ rest = still-all rest later (omega arith) (λ r e. h (suc r) e) in
     cc
 still-cleared (a ∷ rest) (o ∷ later) (suc r) n h =

@@ -6,7 +6,6 @@ use Rattle.bpf_model.specs.declared.event.Answer.{Answer}
 use Rattle.bpf_model.specs.declared.event.Answer.TheVariants as answers
 use Rattle.bpf_model.specs.declared.insn.Insn.{Insn}
 use Rattle.bpf_model.specs.declared.limits.TheConstants.{MAX_RUNS}
-use Rattle.bpf_model.specs.Event.{if_ended}
 use Rattle.bpf_model.specs.Machine as machine
 use Rattle.bpf_model.specs.Schedule.{Schedule, still_open}
 use Rattle.bpf_model.specs.Step.{insn_at}
@@ -17,6 +16,7 @@ use Rattle.view_laws.specs.Reactions.{run_shown, step_refused}
 use Rattle.world_laws.specs.Local.{local_of}
 use Rattle.world_laws.specs.Reacting.{step_at, step_in, run_step_of, word_step}
 use Rattle.world_laws.specs.Typed.{IsSound}
+use Rattle.world_laws.proofs.Stepping.{not-ended}
 use Rattle.machine.specs.declared.access.Access.{Access}
 use Rattle.machine.specs.declared.access.Local.TheVariants as code
 use Rattle.machine.specs.Requests.{access_of, resumed_view}
@@ -133,11 +133,7 @@ module _ (loaded : Loaded) (maps : List MapView) (g : GraceState) (r : ℕ) (old
 going : (o : Option (Option RunWords)) → step_refused (run_shown (option_map view_of o)) ≡ None → (run : RunWords) × (o ≡ Some (Some run)) × (run.view.exit ≡ None)
 going None e = absurd (none-some _ (sym e))
 going (Some None) e = absurd (none-some _ (sym e))
-going (Some (Some run)) e = (run, refl, on run.view.exit e)
-  where
-    on : (o : Option ℕ) → if_ended o ≡ None → o ≡ None
-    on None e = refl
-    on (Some n) e = absurd (none-some _ (sym e))
+going (Some (Some run)) e = (run, refl, not-ended run.view.exit e)
 
 module _ (maps : List MapView) (runs : List (Option RunWords)) (g : GraceState) (programs : List Loaded) (given r : ℕ) (kept : AreRunsKept runs g programs) where
   abbrev w : WorldView

@@ -1,10 +1,9 @@
 use Rattle.std.proofs.Common.{◌≡◌, ◌∙◌, Bool, true, Some, refl, sym, ap, subst}
 use Rattle.std.specs.Prelude.{◌==◌, ◌&&◌}
-use Rattle.std.proofs.lemmas.Bool.{and_from, eqb-true, eq-eqb}
+use Rattle.std.proofs.lemmas.Bool.{and_from, eqb-true, eq-eqb, and_parts}
 use Rattle.std.proofs.lemmas.Option.{none-some, same_Some, slice_get-map}
 use Rattle.bpf_model.specs.declared.limits.MapShape.{MapShape}
 use Rattle.bpf_model.specs.View.{MapView}
-use Rattle.world_laws.proofs.Words.{both}
 use Rattle.world.proofs.binding.has_shape.Goals as goal
 
 abbrev shape_of : MapView → MapShape
@@ -16,10 +15,10 @@ is_same a b =
 
 same : (a b : MapShape) → is_same a b ≡ true → a ≡ b
 same a b e =
-    let p = both (a.key_len == b.key_len) ((a.value_len == b.value_len) && ((a.entries == b.entries) && ((a.spare == b.spare) && (a.reuse_limit == b.reuse_limit)))) e in
-    let q = both (a.value_len == b.value_len) ((a.entries == b.entries) && ((a.spare == b.spare) && (a.reuse_limit == b.reuse_limit))) p.1 in
-    let r = both (a.entries == b.entries) ((a.spare == b.spare) && (a.reuse_limit == b.reuse_limit)) q.1 in
-    let s = both (a.spare == b.spare) (a.reuse_limit == b.reuse_limit) r.1 in
+    let p = and_parts (a.key_len == b.key_len) ((a.value_len == b.value_len) && ((a.entries == b.entries) && ((a.spare == b.spare) && (a.reuse_limit == b.reuse_limit)))) e in
+    let q = and_parts (a.value_len == b.value_len) ((a.entries == b.entries) && ((a.spare == b.spare) && (a.reuse_limit == b.reuse_limit))) p.1 in
+    let r = and_parts (a.entries == b.entries) ((a.spare == b.spare) && (a.reuse_limit == b.reuse_limit)) q.1 in
+    let s = and_parts (a.spare == b.spare) (a.reuse_limit == b.reuse_limit) r.1 in
     let key_len = eqb-true a.key_len b.key_len p.0 in
     let value_len = eqb-true a.value_len b.value_len q.0 in
     let entries = eqb-true a.entries b.entries r.0 in
