@@ -1,6 +1,7 @@
 -- Without map references an exit is of the instructions alone: whatever else a program was loaded with, its run makes the same steps.
 use Rattle.std.proofs.Common.{◌≡◌, ℕ, List, [], Option, Some, None, false, inl, refl, sym, ap, ◌∙◌, ℤ}
 use Rattle.std.proofs.lemmas.Bool.{false≢true}
+use Rattle.model_laws.proofs.Exits.{no_maps}
 use Rattle.bpf_model.specs.declared.insn.Insn.{Insn}
 use Rattle.bpf_model.specs.declared.insn.Insn.TheVariants.{Call, Load, LoadSigned, LoadMap}
 use Rattle.bpf_model.specs.declared.insn.CallKind.TheVariants as kinds
@@ -72,9 +73,6 @@ module _ (p : Loaded) (s new_store : Store) (opened : List Section) (run new : R
 same-program : (old new : Run) (answer : Answer) → Ends old answer new → new.program ≡ old.program
 same-program old new answer (Further e g) = g.program
 same-program old new answer (Ended n e p c x) = p
-
-abbrev no_maps : Store
-no_maps = record { elements = []; maps = [] }
 
 exits-of : (p : Loaded) (run : Run) (steps n : ℕ) → SharesNothing run → run.program.code ≡ p.code → ExitsFrom run steps n → ExitsFrom (of p run) steps n
 exits-of p run steps n shares same (exits_now _ new _ h) = exits_now (of p run) (of p new) n (λ store opened. run-of p store store opened run new (Exited n) shares same (h store opened))

@@ -4,6 +4,7 @@ use Rattle.std.specs.Prelude.{Option, Some, None, Result, Ok, Err, OnOk, codes}
 use lib.Pointwise.{pointwise}
 use Rattle.std.proofs.lemmas.Bool.{false≢true}
 use Rattle.std.proofs.lemmas.List.Concat.{flat_map-append}
+use Rattle.std.proofs.lemmas.Option.{same_Some}
 use Rattle.bpf_model.specs.declared.limits.MapShape.{MapShape}
 use Rattle.bpf_model.specs.View.{new_map_view}
 use Rattle.maps.specs.Registry.{RegistryView}
@@ -219,9 +220,6 @@ same_content c d e f g =
     ∙ ap (λ (x : RegistryView). let z : FileContent = record { context = d.context; registry = x; code = c.code } in z) f
     ∙ ap (λ (x : List ℕ). let z : FileContent = record { context = d.context; registry = d.registry; code = x } in z) g
 
-same_some : (a b : List ℕ) → Some a ≡ Some b → a ≡ b
-same_some a b e = cc
-
 second : (w v x y : List ℕ) → (w ∷ x ∷ []) ≡ v ∷ y ∷ [] → x ≡ y
 second w v x y e = cc
 
@@ -232,7 +230,7 @@ one_content lines c d h k =
     let first : h.first ≡ k.first = heads h.first k.first _ _ whole in
     let word : h.context.word ≡ k.context.word = second _ _ _ _ (sym h.context.words ∙ ap file_words first ∙ k.context.words) in
     same_content c d (same_number _ _ _ _ word h.context.number k.context.number) same.0
-    (same_some c.code d.code (sym h.code ∙ ap (λ ls. code_slots (flat_map file_words ls)) same.1 ∙ k.code))
+    (same_Some c.code d.code (sym h.code ∙ ap (λ ls. code_slots (flat_map file_words ls)) same.1 ∙ k.code))
 
 wrong_after : (front rest : List (List ℕ)) (c : FileContent) → IsWrongAfter front rest → ¬ (IsProgramFile (front ++ rest) c)
 wrong_after front [] c wrong h = wrong c (subst (λ ls. IsProgramFile ls c) (append-nil front) h)

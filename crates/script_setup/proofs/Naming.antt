@@ -1,18 +1,14 @@
 -- A map's name is ASCII.
-use Rattle.std.proofs.Common.{◌≡◌, ℕ, zero, suc, ◌<◌, ◌⊎◌, inl, inr, Bool, true, false, List, [], ◌∷◌, Some, refl, arith}
+use Rattle.std.proofs.Common.{◌≡◌, ℕ, zero, suc, ◌<◌, inl, inr, true, false, List, [], ◌∷◌, Some, refl, arith}
 use Rattle.std.specs.Prelude.{nat_le, ◌||◌, ◌&&◌, ◌==◌, slice_get, slice_index, length}
 use Rattle.std.specs.List.{list_all}
 use Rattle.std.specs.Str.{IsUtf8}
-use Rattle.std.proofs.lemmas.Bool.{and_parts, leb-true, eqb-true, false_from_ne_true}
+use Rattle.std.proofs.lemmas.Bool.{and_parts, leb-true, eqb-true, false_from_ne_true, or_cases}
 use Rattle.std.proofs.lemmas.Str.{IsUtf8-from_ascii}
 use Rattle.bpf_model.specs.declared.limits.MapShape.{MapShape}
 use Rattle.maps.specs.declared.fault.MapFault.TheVariants.{BadName}
 use Rattle.maps.specs.declared.name.TheConstants.{NAME_BYTES}
 use Rattle.maps.specs.Registry.{RegistryView, creation_fault, is_name, is_name_character, is_letter, is_digit, begins_with_letter}
-
-or-either : (x y : Bool) → (x || y) ≡ true → (x ≡ true) ⊎ (y ≡ true)
-or-either true y e = inl refl
-or-either false y e = inr e
 
 up-to : (a c b : ℕ) → (nat_le a c && nat_le c b) ≡ true → b < 128 → c < 128
 up-to a c b e h =
@@ -20,9 +16,9 @@ up-to a c b e h =
     omega (arith, q, h)
 
 small : (c : ℕ) → is_name_character c ≡ true → c < 128
-small c e = elim (or-either (is_letter c) (is_digit c || (c == 95)) e) [
+small c e = elim (or_cases (is_letter c) (is_digit c || (c == 95)) e) [
   | inl a ↦ up-to 97 c 122 a (omega arith)
-  | inr r ↦ elim (or-either (is_digit c) (c == 95) r) [
+  | inr r ↦ elim (or_cases (is_digit c) (c == 95) r) [
     | inl d ↦ up-to 48 c 57 d (omega arith)
     | inr u ↦ let q = eqb-true c 95 u in omega (arith, q)
   ]

@@ -9,13 +9,11 @@ use Rattle.std.proofs.lemmas.Bool.{false≢true}
 use Rattle.std.proofs.lemmas.Option.{none-some}
 use Rattle.std.proofs.lemmas.Map.Lookups.{exact_bytes}
 use Rattle.hash_index.specs.Order.{IsLess, IsAbove}
+use Rattle.hash_index.specs.Replies.{is_above}
+use Rattle.hash_index.proofs.Firsts.{less_tested, above_test}
 use Rattle.hash_index.proofs.Orders.{less_trans}
 use Rattle.bpf_model.specs.View.{MapView}
 use Rattle.world_parts.specs.Asking.{IsFound}
-
-abbrev pub is_above : Option (List ℕ) → List ℕ → Bool
-is_above None key = true
-is_above (Some bound) key = is_lt (slice_cmp nat_cmp bound key)
 
 abbrev pub above_in : Option (List ℕ) → List (List ℕ × ℕ) → ℕ
 above_in bound [] = 0
@@ -46,7 +44,7 @@ above_more None key other a l = tt
 above_more (Some bound) key other a l = less_trans bound key other a l
 
 above_later : (bound : Option (List ℕ)) (key other : List ℕ) → IsAbove bound key → is_above (Some key) other ≡ true → is_above bound other ≡ true
-above_later bound key other a e = above_true bound other (above_more bound key other a (is_less (slice_cmp nat_cmp key other) e))
+above_later bound key other a e = above_test bound other (above_more bound key other a (less_tested (slice_cmp nat_cmp key other) e))
 
 one_le : (p q : Bool) (m n : ℕ) → (p ≡ true → q ≡ true) → m ≤ n → cond p 1 0 + m ≤ cond q 1 0 + n
 one_le true true m n f l = omega arith
@@ -74,7 +72,7 @@ fewer_by : (bound : Option (List ℕ)) (key : List ℕ) (i : ℕ) → IsAbove bo
 fewer_by bound key i a e es true t g rest =
     let same : key ≡ e.0 = exact_bytes key e.0 (is_equal _ t) in
     let not_above : is_above (Some key) e.0 ≡ false = ap is_lt (is_equal _ t) in
-    let above : is_above bound e.0 ≡ true = above_true bound e.0 (subst (IsAbove bound) same a) in
+    let above : is_above bound e.0 ≡ true = above_test bound e.0 (subst (IsAbove bound) same a) in
     new_lt _ _ _ _ not_above above (no_more bound key a es)
 fewer_by bound key i a e es false t g rest = one_lt _ _ _ _ (above_later bound key e.0 a) (rest g)
 
