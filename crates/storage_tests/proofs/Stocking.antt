@@ -1,10 +1,11 @@
 -- Slots of a new arena that are taken one after another.
-use Rattle.std.proofs.Common.{◌≡◌, ◌∙◌, ℕ, zero, suc, ◌+◌, ◌-◌, ◌<◌, ◌≤◌, List, [], ◌∷◌, ◌++◌, length, drop, Option, Some, None, refl, sym, ap, arith, cond, eqb, Bool, false}
-use Rattle.std.specs.Prelude.{replicate, IfSome, IfNone}
+use Rattle.std.proofs.Common.{◌≡◌, ◌∙◌, ℕ, suc, ◌+◌, ◌-◌, ◌<◌, ◌≤◌, List, [], ◌∷◌, ◌++◌, length, drop, Option, Some, None, sym, ap, arith, Bool}
+use Rattle.std.specs.Prelude.{IfSome, IfNone}
 use Rattle.std.specs.List.{range_with_len}
 use Rattle.element_arena.specs.State.{ArenaState, times_in, worn_at, taken, new_arena}
-use Rattle.element_arena.proofs.Counts.{one_other}
 use Rattle.std.proofs.lemmas.List.{length-replicate}
+use Rattle.maps.proofs.Fresh.{none-worn}
+use Rattle.element_arena.proofs.Fresh.{times-before}
 use Rattle.hash_index.specs.declared.commands.Command.{Command}
 use Rattle.hash_index.specs.declared.commands.Command.TheVariants.{Link, Find, Unlink, Above}
 use Rattle.hash_index.specs.Replies.{IsReadyCommand, AreReadyCommands}
@@ -40,18 +41,6 @@ filled_new slots limit a e = let whole : slots ≡ slots - 0 = omega arith in re
   value = ap (λ (z : ArenaState). z.value_len) e;
 }
 
-none_before : (from n j : ℕ) → j < from → times_in j (range_with_len from n) ≡ 0
-none_before from zero j h = refl
-none_before from (suc n) j h =
-    let o : cond {A = ℕ} (eqb from j) 1 0 ≡ 0 = one_other from j (λ e. absurd (omega arith)) in
-    let r : times_in j (range_with_len (from + 1) n) ≡ 0 = none_before (from + 1) n j (omega arith) in
-    omega arith
-
-none_worn : (slots j : ℕ) → worn_at (replicate slots false) j ≡ 0
-none_worn zero j = refl
-none_worn (suc slots) zero = refl
-none_worn (suc slots) (suc j) = none_worn slots j
-
 pub stocked_when : (slots count : ℕ) (a : ArenaState) → IsFilled slots count a → IsStocked slots count a
 stocked_when slots count a f = record {
   long = f.long;
@@ -60,8 +49,8 @@ stocked_when slots count a f = record {
       let r : count ≤ slots = f.room in
       record {
         inside = omega arith;
-        not_free = ap (times_in j) f.free ∙ none_before count (slots - count) j h;
-        not_worn = ap (λ (w : List Bool). worn_at w j) f.worn ∙ none_worn slots j;
+        not_free = ap (times_in j) f.free ∙ times-before count (slots - count) j h;
+        not_worn = ap (λ (w : List Bool). worn_at w j) f.worn ∙ none-worn slots j;
       };
 }
 
