@@ -1,9 +1,7 @@
 -- Bytes that do not begin as a text.
 use Rattle.std.proofs.Common.{◌≡◌, ℕ, ◌+◌, ◌*◌, ◌%◌, ◌<◌, ◌≤◌, ◌==◌, ◌≢◌, true, false, List, ◌++◌, length, take, drop, refl, sym, ap, subst, ◌∙◌, take-append-drop, arith, inr}
-use Rattle.std.specs.List.{starts_with}
 use Rattle.std.proofs.lemmas.List.{length-append}
 use Rattle.std.specs.Prelude.{Some, nat_lt}
-use Rattle.std.proofs.lemmas.Bool.{false≢true}
 use Rattle.std.proofs.lemmas.Bool.Decides.{nat_tests}
 use Rattle.std.proofs.lemmas.List.{take-append-le}
 use Rattle.bpf_model.specs.declared.limits.TheConstants.{MAX_SLOTS}
