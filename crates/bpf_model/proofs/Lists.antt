@@ -3,7 +3,7 @@ use Rattle.std.proofs.Common.{◌≡◌, ◌≢◌, ℕ, zero, suc, ◌<◌, Lis
 use Rattle.std.proofs.lemmas.Option.{none-some, same_Some}
 use Rattle.std.proofs.lemmas.Slice.Zip.{AllZip-map}
 use Rattle.std.specs.List.{AllZip}
-use Rattle.std.specs.Prelude.{slice_get, slice_set, drop}
+use Rattle.std.specs.Prelude.{slice_get, slice_set, drop, take}
 
 pub get-below : {A : Type 0} (xs : List A) (i : ℕ) → i < length xs → (x : A) × (slice_get xs i ≡ Some x)
 get-below [] i h = absurd (omega arith)
@@ -75,6 +75,11 @@ pub drop-next : {A : Type 0} (xs : List A) (i : ℕ) (x : A) → slice_get xs i 
 drop-next [] i x h = absurd (none-some x h)
 drop-next (y ∷ xs) zero x h = ap (λ z. z ∷ xs) (same_Some y x h)
 drop-next (y ∷ xs) (suc i) x h = drop-next xs i x h
+
+pub take-next : {A : Type 0} (xs : List A) (i : ℕ) (x : A) → slice_get xs i ≡ Some x → take (suc i) xs ≡ take i xs ++ x ∷ []
+take-next [] i x h = absurd (none-some x h)
+take-next (y ∷ xs) zero x h = ap (λ z. z ∷ []) (same_Some y x h)
+take-next (y ∷ xs) (suc i) x h = ap (λ l. y ∷ l) (take-next xs i x h)
 
 map-self : (xs : List ℕ) → map (λ x. x) xs ≡ xs
 map-self [] = refl

@@ -4,6 +4,7 @@
 //! mean stands in `specs/`, a module for each subject; docs/DEFINITIONS.md reads them in order.
 #![tactic(auto)]
 
+mod array;
 mod call;
 mod event;
 mod id;
@@ -14,6 +15,7 @@ mod reg;
 mod slot;
 mod value;
 
+pub use array::array_of;
 pub use call::{Errno, Helper, KernelFunction};
 pub use event::{Answer, Event, EventRefusal, Given, ReapedElement, are_real};
 pub use id::{MapId, ProgId, RunId};

@@ -9,5 +9,10 @@ mod running;
 mod session;
 
 pub use running::run_script;
+use script_lines::LINE_BYTES;
+use script_stream::MAX_LINE;
 pub use script_stream::ScriptFault;
 pub use session::Session;
+
+// What is cut into lines is what is read as lines.
+const _: () = prove!(MAX_LINE == LINE_BYTES);

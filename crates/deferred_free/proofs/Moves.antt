@@ -2,11 +2,12 @@
 use Rattle.std.proofs.Common.{◌≡◌, ◌≢◌, ◌∙◌, ℕ, ◌+◌, ◌<◌, ◌≤◌, List, [], ◌∷◌, ◌++◌, Option, Some, None, inl, inr, refl, sym, ap, arith, cond, eqb, subst, drop}
 use Rattle.std.specs.Prelude.{IfSome}
 use Rattle.std.proofs.lemmas.Option.{none-some, same_Some}
+use Rattle.bpf_model.proofs.Cases.{option_cases}
 use Rattle.bpf_model.specs.Schedule.{Queues, turned}
 use Rattle.element_arena.specs.State.{ArenaState, IsTaken, LinksOf, link_at, link_in, times_in, with_link}
 use Rattle.deferred_free.specs.Queued.{queued, retired_lists, reaped_lists}
 use Rattle.element_arena.specs.Threads.{IsThread, last_slot_of}
-use Rattle.element_arena.proofs.Counts.{option_cases, one_cases, one_same, times-append}
+use Rattle.element_arena.proofs.Counts.{one_cases, one_same, times-append}
 use Rattle.element_arena.proofs.Threading.{thread-agree, thread-join, thread-some, last-none, last-held, last-append}
 use Rattle.deferred_free.specs.declared.threaded.Line.{Line}
 use Rattle.deferred_free.specs.declared.threaded.Threaded.{Threaded}

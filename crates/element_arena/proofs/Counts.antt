@@ -3,10 +3,6 @@ use Rattle.std.proofs.Common.{◌≡◌, ◌≢◌, ◌∙◌, ℕ, zero, suc, �
 use Rattle.std.proofs.lemmas.Bool.{cond-true, cond-false, eq-eqb, eqb-true, eqb-false, false_from_ne_true, cases_Bool}
 use Rattle.element_arena.specs.State.{times_in}
 
-pub option_cases : {A : Type 0} (o : Option A) → (o ≡ None) ⊎ ((x : A) × (o ≡ Some x))
-option_cases None = inl refl
-option_cases (Some x) = inr (x, refl)
-
 -- two slots are one, or they are not
 pub one_cases : (x n : ℕ) → ((x ≡ n) × (cond {A = ℕ} (eqb x n) 1 0 ≡ 1)) ⊎ ((x ≢ n) × (cond {A = ℕ} (eqb x n) 1 0 ≡ 0))
 one_cases x n = elim (cases_Bool (eqb x n)) [

@@ -7,8 +7,9 @@ use Rattle.std.specs.Cmp.Lexicographic.{slice_cmp, texts_ties, bytes_decides}
 use Rattle.std.specs.Ordering.{nat_cmp, eq_by_cmp}
 use Rattle.std.specs.FinMap as map
 use Rattle.std.specs.FinMap.{FinMap, get, insert, remove, get-insert, get-remove, get-from_entries, same_map, slice_cmp-IsAntisymmetric, nat_cmp-IsAntisymmetric}
+use Rattle.bpf_model.proofs.Cases.{option_cases}
 use Rattle.element_arena.specs.State.{times_in, is_at, entries_of, contents_of, slot_of}
-use Rattle.element_arena.proofs.Counts.{option_cases, one_cases, one_same, one_other, times_first}
+use Rattle.element_arena.proofs.Counts.{one_cases, one_same, one_other, times_first}
 
 -- whether two keys are one
 abbrev pub same_key : List ℕ → List ℕ → Bool

@@ -3,9 +3,10 @@ use Rattle.std.proofs.Common.{◌≡◌, ◌≢◌, ◌∙◌, ℕ, ◌+◌, ◌
 use Rattle.std.specs.Prelude.{slice_get, slice_set}
 use Rattle.std.proofs.lemmas.Bool.{eqb-true, eqb-false, cases_Bool}
 use Rattle.std.proofs.lemmas.Option.{none-some, same_Some, slice_get_within}
+use Rattle.bpf_model.proofs.Cases.{option_cases}
 use Rattle.element_arena.specs.State.{times_in, worn_at, flag_in}
 use Rattle.element_arena.specs.Threads.{IsThread, last_slot_of}
-use Rattle.element_arena.proofs.Counts.{option_cases, one_cases, one_same, one_other, times-append, length_once}
+use Rattle.element_arena.proofs.Counts.{one_cases, one_same, one_other, times-append, length_once}
 use Rattle.element_arena.proofs.Threading.{walk-thread, thread-agree, thread-some, thread-join, last-none, last-held, last-append}
 use Rattle.element_arena.specs.declared.cell.Standing.{Standing}
 use Rattle.element_arena.specs.declared.cell.Standing.TheVariants.{Free, Taken, Worn}

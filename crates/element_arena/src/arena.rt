@@ -11,8 +11,8 @@ ghost use Rattle.element_arena.specs.State.{link_at, new_arena, taken, value_at,
 
 use crate::blocks::{block, write_block, write_inside};
 use crate::cell::{Cell, Standing, append, given_cell, last_after};
-use crate::make::{below, fresh_cells, key_of, room_for, value_of};
-use bpf_model::{Given, KeyBytes, ValueBytes, Width};
+use crate::make::{below, fresh_cells, room_for};
+use bpf_model::{Given, KeyBytes, ValueBytes, Width, array_of};
 use byte_numbers::number_of;
 use std::alloc::{AllocError, Global};
 use std::marker::Model;
@@ -225,7 +225,7 @@ impl Arena {
         ensures value { IfOk result (λ found. found.1.items ≡ value_at self.now.slots tag.slot) }
     {
         if tag.slot < self.cells.len() && self.cells[tag.slot].generation == tag.generation {
-            Ok((key_of(self.key(tag.slot)), value_of(self.value(tag.slot))))
+            Ok((array_of(self.key(tag.slot)), array_of(self.value(tag.slot))))
         } else {
             Err(Stale)
         }

@@ -1,10 +1,8 @@
 //! What a new arena is made of.
 ghost use Rattle.std.specs.Prelude.{◌≡◌, ◌*◌, ◌≤◌, length, IfOk};
-ghost use Rattle.bpf_model.specs.declared.limits.TheConstants.{KEY_BYTES, VALUE_BYTES};
 ghost use Rattle.element_arena.specs.Fresh.{below, fresh_cells};
 
 use crate::cell::{Cell, Standing};
-use bpf_model::{KeyBytes, ValueBytes};
 use std::alloc::{AllocError, Global};
 
 /// The slot, where there are more than so many.
@@ -37,29 +35,5 @@ pub(crate) fn room_for(alloc: Global, slots: usize, len: usize) -> Result<Vec<u8
     match slots.checked_mul(len) {
         Some(room) => vec![in alloc; 0; room],
         None => Err(AllocError),
-    }
-}
-
-/// A key of these bytes.
-pub(crate) fn key_of(bytes: &[u8]) -> KeyBytes
-    requires { length bytes.now ≤ KEY_BYTES }
-    ensures { result.items ≡ bytes.now }
-{
-    let mut key = KeyBytes::new();
-    match key.try_extend_from_slice(bytes) {
-        Ok(()) => key,
-        Err(_) => unreachable!(),
-    }
-}
-
-/// A value of these bytes.
-pub(crate) fn value_of(bytes: &[u8]) -> ValueBytes
-    requires { length bytes.now ≤ VALUE_BYTES }
-    ensures { result.items ≡ bytes.now }
-{
-    let mut value = ValueBytes::new();
-    match value.try_extend_from_slice(bytes) {
-        Ok(()) => value,
-        Err(_) => unreachable!(),
     }
 }

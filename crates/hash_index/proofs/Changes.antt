@@ -4,9 +4,10 @@ use Rattle.std.specs.Prelude.{slice_get, slice_set}
 use Rattle.std.proofs.lemmas.Bool.{eqb-true, eqb-false, cases_Bool}
 use Rattle.std.proofs.lemmas.Option.{same_Some, slice_get_within}
 use Rattle.std.specs.FinMap.{get, insert, remove}
+use Rattle.bpf_model.proofs.Cases.{option_cases}
 use Rattle.element_arena.specs.State.{ArenaState, IsTaken, LinksOf, indexed, link_at, link_in, key_at, with_link, times_in, slot_of, contents_of}
 use Rattle.element_arena.specs.Threads.{IsThread, walk}
-use Rattle.element_arena.proofs.Counts.{option_cases, one_cases, one_same, length_once}
+use Rattle.element_arena.proofs.Counts.{one_cases, one_same, length_once}
 use Rattle.element_arena.proofs.Threading.{walk-thread, thread-agree, walk-agree}
 use Rattle.element_arena.proofs.Indexing.{AreUnique, get-contents, slot_of-some, slot_of-absent, slot_of-none, slot_of-present, contents-insert, contents-remove, unique-insert, unique-remove, times-get, indexed-times}
 use Rattle.hash_index.specs.Chains.{IsChain, IsCut, chain_of, bucket_of}

@@ -4,10 +4,11 @@ use Rattle.std.specs.Prelude.{slice_get, slice_set}
 use Rattle.std.proofs.lemmas.Bool.{cond-true, cond-false, eqb-true, eqb-false, cases_Bool}
 use Rattle.std.proofs.lemmas.Option.{none-some, same_Some}
 use Rattle.std.specs.FinMap.{get, insert, remove}
+use Rattle.bpf_model.proofs.Cases.{option_cases}
 use Rattle.bpf_model.specs.Schedule.{Queues, turned}
 use Rattle.bpf_model.specs.View.{SlotView, uses_at, key_in}
 use Rattle.element_arena.specs.State.{ArenaState, IsTaken, is_at, indexed, times_in, key_at, worn_at, flag_in, taken, given_back, with_slot_value, is_last_use}
-use Rattle.element_arena.proofs.Counts.{option_cases, one_cases, one_same, one_other, times-append}
+use Rattle.element_arena.proofs.Counts.{one_cases, one_same, one_other, times-append}
 use Rattle.view_laws.proofs.Lists.{key_cases, insert-same, insert-other, remove-same, remove-other}
 use Rattle.deferred_free.specs.Queued.{queued, retired_lists, reaped_lists}
 use Rattle.maps.specs.Parted.{PartsView, standings, IsParted, IsInHand, Stands}

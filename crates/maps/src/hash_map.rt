@@ -15,7 +15,7 @@ ghost use Rattle.maps.specs.Counting.{counts_of};
 
 use crate::counts::{Counts, counts_after_reap, counts_after_update};
 use crate::parts::Parts;
-use bpf_model::{Errno, Given, KeyBytes, MapShape, ValueBytes, Width};
+use bpf_model::{Errno, Given, KeyBytes, MapShape, ValueBytes, Width, array_of};
 use deferred_free::Deferred;
 use hash_index::Index;
 use std::alloc::{AllocError, Global};
@@ -64,30 +64,6 @@ fn refusal(flags: u64, present: bool, linked: usize, entries: usize) -> Option<E
     }
 }
 
-/// A key of these bytes.
-fn key_of(bytes: &[u8]) -> KeyBytes
-    requires { length bytes.now ≤ KEY_BYTES }
-    ensures { result.items ≡ bytes.now }
-{
-    let mut key = KeyBytes::new();
-    match key.try_extend_from_slice(bytes) {
-        Ok(()) => key,
-        Err(_) => unreachable!(),
-    }
-}
-
-/// A value of these bytes.
-fn value_of(bytes: &[u8]) -> ValueBytes
-    requires { length bytes.now ≤ VALUE_BYTES }
-    ensures { result.items ≡ bytes.now }
-{
-    let mut value = ValueBytes::new();
-    match value.try_extend_from_slice(bytes) {
-        Ok(()) => value,
-        Err(_) => unreachable!(),
-    }
-}
-
 impl<I: Index, D: Deferred> HashMap<I, D> {
     /// The lengths of its keys and values, and its limits.
     pub fn shape(&self) -> MapShape
@@ -117,7 +93,7 @@ impl<I: Index, D: Deferred> HashMap<I, D> {
     {
         match self.parts.find(key) {
             None => None,
-            Some(slot) => Some(value_of(self.parts.value(slot))),
+            Some(slot) => Some(array_of(self.parts.value(slot))),
         }
     }
 
@@ -226,7 +202,7 @@ impl<I: Index, D: Deferred> HashMap<I, D> {
         match self.parts.reap() {
             None => None,
             Some(slot) => {
-                let key = key_of(self.parts.key(slot));
+                let key = array_of(self.parts.key(slot));
                 let given = self.parts.give(slot);
                 self.counts = counts_after_reap(given, self.counts);
                 Some((key, given))
@@ -259,7 +235,7 @@ impl<I: Index, D: Deferred> HashMap<I, D> {
         requires { IsOccupied self.now slot }
         ensures { result.items ≡ value_at self.now.slots slot }
     {
-        value_of(self.parts.value(slot))
+        array_of(self.parts.value(slot))
     }
 
     /// The element with the least key above a bound, in byte order. Every key is above no bound.
@@ -271,8 +247,8 @@ impl<I: Index, D: Deferred> HashMap<I, D> {
         match self.parts.next_above(bound) {
             None => None,
             Some(slot) => {
-                let key = key_of(self.parts.key(slot));
-                let value = value_of(self.parts.value(slot));
+                let key = array_of(self.parts.key(slot));
+                let value = array_of(self.parts.value(slot));
                 Some((key, value))
             }
         }

@@ -5,6 +5,7 @@ use Rattle.std.proofs.Math.Dec.{eqb-suc-zero}
 use Rattle.std.proofs.lemmas.Bool.{eqb-true, eq-eqb, false_from_ne_true, and_parts, false≢true}
 use Rattle.std.proofs.lemmas.Option.{none-some, same_Some}
 use Rattle.std.proofs.lemmas.List.Sums.{sum_by-cons, sum_by-append}
+use Rattle.bpf_model.proofs.Cases.{option_cases}
 use Rattle.bpf_model.specs.Element.{Element, is_linked, is_unlinked}
 use Rattle.bpf_model.specs.Schedule.{Queues, is_any, still_open, unlinked_between, retired, or_first, first_ready, without_first}
 use Rattle.bpf_model.specs.Refines.{times}
@@ -168,12 +169,8 @@ times-rest n x xs = let e = times-cons n x xs in omega arith
 shrinks-shortened : (q : Queues) (n : ℕ) (rest : List ℕ) → q.ready ≡ n ∷ rest → Shrinks q (shortened rest q)
 shrinks-shortened q n rest e = record { next = refl; waiting = refl; ready = λ x. subst (λ l. times x rest ≤ times x l) (sym e) (times-rest x n rest) }
 
-pub option-cases : {A : Type 0} (o : Option A) → (o ≡ None) ⊎ ((x : A) × (o ≡ Some x))
-option-cases None = inl refl
-option-cases (Some x) = inr (x, refl)
-
 pub without-back : (qs : List Queues) (k : ℕ) (new : Queues) → slice_get (without_first qs) k ≡ Some new → (q : Queues) × (slice_get qs k ≡ Some q) × Shrinks q new
-without-back qs k new h = elim (option-cases (first_ready qs)) [
+without-back qs k new h = elim (option_cases (first_ready qs)) [
   | inl none ↦ (new, ap (λ l. slice_get l k) (sym (none-without qs none)) ∙ h, shrinks-same new new refl)
   | inr some ↦
       let p = first-index qs some.0 some.1 in

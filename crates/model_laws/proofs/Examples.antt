@@ -4,6 +4,7 @@ use Rattle.std.specs.Prelude.{Option, Some, None, ◌⊎◌, pos, ◌+ℤ◌, �
 use Rattle.std.proofs.lemmas.Option.{none-some, same_Some}
 use Rattle.std.proofs.lemmas.Bool.{ne_eqb, ltb-false, lt-ltb, false≢true}
 use Rattle.bpf_model.specs.declared.limits.TheConstants.{FRAME_BYTES}
+use Rattle.bpf_model.proofs.Cases.{same-pos}
 use Rattle.bpf_model.specs.declared.limits.MapShape.{MapShape}
 use Rattle.bpf_model.specs.declared.insn.Insn.{Insn}
 use Rattle.bpf_model.specs.declared.insn.Insn.TheVariants.{Alu, Load, Exit}
@@ -17,7 +18,6 @@ use Rattle.bpf_model.specs.Graph.{falls, distance, JumpsTo, GoesTo, Reached, rea
 use Rattle.bpf_model.specs.Plain.{ReadsRegister, WritesRegister, ReadsByte, WritesByte, WithoutByte, bare_entry, bare_next}
 use Rattle.bpf_model.specs.PlainMaps.{lookup_call, lock_call, unlock_call, IsGuardedLookup, IsPart, HasForm, InSection, section_entry, section_lock, section_unlock, section_next, LacksRegister, lacks_entry, lacks_call, lacks_next, IsPlainWithMaps}
 use Rattle.model_laws.specs.Example.{lookup_and_load, example_shape}
-use Rattle.model_laws.proofs.Words.{same-pos}
 
 -- what holds of each instruction of a list and the slot where it begins, the first at slot n
 abbrev EachFrom : (ℕ → Insn → Type 0) → ℕ → List Insn → Type 0

@@ -2,6 +2,7 @@
 use Rattle.std.proofs.Common.{◌≡◌, ℕ, zero, suc, ◌<◌, List, [], ◌∷◌, Some, ◌⊎◌, inl, inr, sym, ap, ◌∙◌, arith, subst, Bool}
 use Rattle.std.specs.Prelude.{slice_get}
 use Rattle.std.proofs.lemmas.Option.{none-some, same_Some}
+use Rattle.bpf_model.proofs.Cases.{same-since}
 use Rattle.bpf_model.specs.declared.event.Event.{Event}
 use Rattle.bpf_model.specs.declared.event.Answer.{Answer}
 use Rattle.bpf_model.specs.Section.{Section, AllEnded}
@@ -17,7 +18,7 @@ use Rattle.model_laws.proofs.Stores.{LifeMoves, Stays, Unlinks, Ends, is_reap, d
 use Rattle.model_laws.proofs.Past.{all-begun-later, ended-later}
 use Rattle.model_laws.proofs.Keeping.{begun-unlinked, stays_consistent}
 use Rattle.model_laws.proofs.Between.{between-along}
-use Rattle.model_laws.proofs.Lives.{linked≢unlinked, reclaimed≢unlinked, same-since}
+use Rattle.model_laws.proofs.Lives.{linked≢unlinked, reclaimed≢unlinked}
 
 -- what was linked and is unlinked after a step has the sections that were open
 life-unlinked : (reap : Bool) (opened since : List Section) (old new : Life) → LifeMoves reap opened old new → old ≡ Linked → new ≡ Unlinked since → since ≡ opened

@@ -13,9 +13,6 @@ reclaimed≢linked h = cc
 pub reclaimed≢unlinked : (since : List Section) → Reclaimed ≡ Unlinked since → ⊥
 reclaimed≢unlinked since h = cc
 
-pub same-since : (a b : List Section) → Unlinked a ≡ Unlinked b → a ≡ b
-same-since a b h = cc
-
 -- a test, counted
 abbrev pub one_if : Bool → ℕ
 one_if b = if b then 1 else 0

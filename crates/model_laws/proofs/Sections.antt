@@ -3,12 +3,9 @@ use Rattle.std.proofs.Common.{◌≡◌, ◌≢◌, ℕ, zero, suc, ◌<◌, Lis
 use Rattle.std.specs.Prelude.{slice_get, slice_set, if◌then◌else◌}
 use Rattle.std.proofs.lemmas.Bool.{ltb-true, lt-ltb}
 use Rattle.std.proofs.lemmas.Option.{none-some, same_Some}
+use Rattle.bpf_model.proofs.Cases.{in-some}
 use Rattle.bpf_model.specs.Section.{Section, Has}
 use Rattle.bpf_model.specs.Machine.{Run, is_inside, section_of, open_sections, run_in, run_at}
-
-in-some : (o : Option Run) (x : Run) → run_in (Some o) ≡ Some x → o ≡ Some x
-in-some None x h = absurd (none-some x h)
-in-some (Some y) x h = h
 
 pub run-set_cases : (runs : List (Option Run)) (r q : ℕ) (new : Option Run) (x : Run) → run_at (slice_set runs r new) q ≡ Some x → ((q ≡ r) × (new ≡ Some x)) ⊎ ((q ≢ r) × (run_at runs q ≡ Some x))
 run-set_cases [] r q new x h = absurd (none-some x h)

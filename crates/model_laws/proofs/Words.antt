@@ -1,6 +1,7 @@
 -- The words of near locations differ.
 use Rattle.std.proofs.Common.{◌≡◌, ℕ, suc, ◌+◌, ◌-◌, ◌*◌, ◌^◌, ◌<◌, ◌≤◌, List, cond, ℤ, pos, negsuc, ◌+ℤ◌, ◌↔◌, refl, sym, ap, ◌∙◌, arith, le-ltb}
 use Rattle.std.proofs.lemmas.Int.{ints}
+use Rattle.bpf_model.proofs.Cases.{same-pos}
 use Rattle.bpf_model.specs.declared.value.Reference.{Reference}
 use Rattle.bpf_model.specs.declared.value.Reference.TheVariants.{Ctx, Frame, MapRef, Elem}
 use Rattle.bpf_model.specs.Element.{Element}
@@ -84,9 +85,6 @@ near_words_fit p h =
     let low : 2 ^ 40 ≤ base_of p = b.0 in
     let high : base_of p + shift_of p < 2 ^ 50 = b.1 in
     (w.word, w.is, omega arith, omega arith)
-
-pub same-pos : (a b : ℕ) → pos a ≡ pos b → a ≡ b
-same-pos a b h = cc
 
 same-count : (p q : Location) → HasWord p → HasWord q → location_word p ≡ location_word q → base_of p + shift_of p ≡ base_of q + shift_of q
 same-count p q v w e = let s : v.word ≡ w.word = same-pos v.word w.word (sym v.is ∙ (e ∙ w.is)) in sym v.counted ∙ (ap (λ x. x + 2 ^ 29) s ∙ w.counted)

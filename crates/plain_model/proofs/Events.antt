@@ -11,6 +11,7 @@ use Rattle.bpf_model.specs.MapState.{Store, shape_of}
 use Rattle.bpf_model.specs.Machine.{Run, Machine, run_in, run_at, open_sections, with_runs, with_store}
 use Rattle.bpf_model.specs.MachineStep.{StepsRun}
 use Rattle.std.proofs.lemmas.Bool.{eq-eqb}
+use Rattle.bpf_model.proofs.Cases.{in-some}
 use Rattle.bpf_model.specs.declared.event.Answer.TheVariants.{Started}
 use Rattle.bpf_model.specs.declared.event.EventRefusal.TheVariants.{BadContext}
 use Rattle.bpf_model.specs.Machine.{Loaded, lowest_free, begins}
@@ -28,10 +29,6 @@ does-only : (m : Machine) (event : Event) (answer : Answer) (new : Machine) → 
 does-only m event answer new h d = subst (λ o. Answers o m event answer new) h d
 
 -- the run that is in a slot
-in-slot : (o : Option Run) (run : Run) → run_in (Some o) ≡ Some run → o ≡ Some run
-in-slot None run h = absurd cc
-in-slot (Some x) run h = h
-
 going-on : (o : Option Run) (run : Run) → o ≡ Some run → step_refusal o ≡ None → run.exit ≡ None
 going-on None run h e = absurd cc
 going-on (Some x) run h e =
@@ -68,7 +65,7 @@ step-does m r old answer t q new h free is s = tells-map _ _ _ _ answer done stu
     stuck : ((a : Answer) (u : Store) (p : Option Run) → SlotStep m.store (open_sections m.runs) old a u p → ⊥) → (a : Answer) (next : Machine) → DoesEvent m (events.Step r) a next → ⊥
     stuck none a next d =
         let p = does-only m (events.Step r) a next free d in
-        let o : old ≡ Some p.run = in-slot old p.run (sym at ∙ p.there) in
+        let o : old ≡ Some p.run = in-some old p.run (sym at ∙ p.there) in
         none a p.new_store (Some p.new_run) (subst (λ x. SlotStep m.store (open_sections m.runs) x a p.new_store (Some p.new_run)) (sym o) (p.new_run, refl, p.step))
 
 pub start-does : (m : Machine) (prog r : ℕ) (ctx : ArrayVec ℕ) (program : Loaded) (new : Machine) → slice_get m.programs prog ≡ Some program → length ctx.items ≡ program.context_len → lowest_free m.runs ≡ Some r →

@@ -3,7 +3,7 @@ use Rattle.std.proofs.Common.{◌≡◌, ℕ, zero, suc, ◌+◌, ◌<◌, ◌�
 use Rattle.std.specs.Prelude.{slice_get, slice_index_or, remove, drop, take}
 use Rattle.std.proofs.lemmas.List.{append_assoc, append-nil, drop_all}
 use Rattle.std.proofs.lemmas.Option.{slice_get-get_or}
-use Rattle.bpf_model.proofs.Lists.{drop-next}
+use Rattle.bpf_model.proofs.Lists.{drop-next, take-next}
 
 -- what an index reads is what stands there
 pub read-at : {A : Type 0} (xs : List A) (i : ℕ) (x : A) → i < length xs → x ≡ slice_index_or xs i x → slice_get xs i ≡ Some x
@@ -41,11 +41,6 @@ pub made-from : {A B : Type 0} (f : A → B) (xs : List A) (ys : List B) (n : �
 made-from f xs ys n d e h =
     let r = from-item f xs n d (subst (λ l. n < length l) e h) in
     (r.0, r.1, ap (λ l. slice_index_or l n d) e ∙ r.2)
-
-take-next : {A : Type 0} (xs : List A) (i : ℕ) (x : A) → slice_get xs i ≡ Some x → take (suc i) xs ≡ take i xs ++ x ∷ []
-take-next [] i x h = absurd cc
-take-next (y ∷ xs) zero x h = let e : y ≡ x = cc in ap (λ z. z ∷ []) e
-take-next (y ∷ xs) (suc i) x h = ap (λ l. y ∷ l) (take-next xs i x h)
 
 pub take-at : {A : Type 0} (xs : List A) (i : ℕ) (x : A) → slice_get xs i ≡ Some x → take (i + 1) xs ≡ take i xs ++ x ∷ []
 take-at xs i x h = let next : i + 1 ≡ suc i = omega arith in ap (λ k. take k xs) next ∙ take-next xs i x h

@@ -4,24 +4,21 @@ use Rattle.std.specs.Prelude.{slice_get, slice_index_or, Option, Some, None, ◌
 use Rattle.std.proofs.lemmas.Bool.{cases_eq}
 use Rattle.std.proofs.lemmas.Int.{ints}
 use Rattle.std.proofs.lemmas.Option.{slice_get-get_or, slice_get_within}
+use Rattle.bpf_model.proofs.Cases.{same-pos}
 use Rattle.bpf_model.specs.declared.insn.Insn.{Insn}
 use Rattle.bpf_model.specs.Graph.{JumpsTo, GoesTo, Reached, reached_entry, reached_next}
 use Rattle.bpf_model.specs.Spelling.{starts_from, slot_count}
 use Rattle.bpf_model.specs.Step.{insn_at}
-use Rattle.bpf_model.specs.Places.{starts-next, starts_ordered, starts_apart, start_of-insn, slot_count_some, LeadsTo, StartsAt}
+use Rattle.bpf_model.specs.Places.{starts-next, starts_ordered, starts_apart, start_of-insn, slot_count_some, LeadsTo, StartsAt, start-entry, start-insn, start-inside}
 use Rattle.program_graph.specs.FirstPass.{Follows, IsInsnReached, Marks}
 use Rattle.program_graph.specs.Indexes.{HasTargets, IsTarget}
-use Rattle.program_graph.proofs.Edges.{insn_here, index_here, start_within}
+use Rattle.program_graph.proofs.Edges.{index_here}
 use Rattle.program_graph.proofs.Lists.{same_some}
 
 -- the first instruction begins at slot 0
 pub first_start : (program : List Insn) (p : ℕ) → StartsAt program 0 p → p ≡ 0
 first_start [] p e = absurd (cc)
 first_start (i ∷ is) p e = sym (same_some e)
-
-pub starts_at_0 : (program : List Insn) → 0 < length program → StartsAt program 0 0
-starts_at_0 [] h = absurd (omega arith)
-starts_at_0 (i ∷ is) h = refl
 
 pub target_read : (targets : List (Option ℕ)) (k : ℕ) → k < length targets → (t : Option ℕ) × (slice_get targets k ≡ Some t)
 target_read targets k h = (slice_index_or targets k None, slice_get-get_or targets k None h)
@@ -35,15 +32,12 @@ pub record HasEdge (program : List Insn) (targets : List (Option ℕ)) (j k : �
   pub follows : Follows i target j k
   pub before : j < k
 
-pub pos_same : (a b : ℕ) → pos a ≡ pos b → a ≡ b
-pos_same a b e = omega (arith, ints)
-
 module _ (program : List Insn) (targets : List (Option ℕ)) (long : length targets ≡ length program) (all : HasTargets program targets) where
   falls_into : (j k place p : ℕ) (i : Insn) → slice_get program j ≡ Some i → StartsAt program j place → StartsAt program k p → p ≡ place + slot_count i → (k ≡ suc j) × (j < k)
   falls_into j k place p i e at there f =
       let before : place < p = omega (arith, slot_count_some i) in
       let h : j < k = starts_ordered 0 program j k place p at there before in
-      let inside : suc j < length program = omega (arith, start_within program k p there) in
+      let inside : suc j < length program = omega (arith, start-inside program k p there) in
       let next : StartsAt program (suc j) (place + slot_count i) = starts-next 0 program j place i e at inside in
       (starts_apart 0 program k (suc j) p there (next ∙ ap Some (sym f)), h)
 
@@ -53,7 +47,7 @@ module _ (program : List Insn) (targets : List (Option ℕ)) (long : length targ
       let by : jumps.0 ≡ leads.by = same_some (sym jumps.1 ∙ leads.by_is) in
       let from : place ≡ leads.from = same_some (sym at ∙ leads.from_is) in
       let to : pos p ≡ pos leads.to = jumps.2 ∙ ap (λ d. pos (place + 1) +ℤ d) by ∙ ap (λ f. pos (f + 1) +ℤ leads.by) from ∙ sym leads.sum in
-      let same : u ≡ k = starts_apart 0 program u k p (leads.to_is ∙ ap Some (sym (pos_same p leads.to to))) there in
+      let same : u ≡ k = starts_apart 0 program u k p (leads.to_is ∙ ap Some (sym (same-pos p leads.to to))) there in
       (ap Some same, subst (λ u. j < u) same leads.further)
 
   -- an edge by slots into an instruction's start is one by indexes
@@ -77,7 +71,7 @@ module _ (program : List Insn) (targets : List (Option ℕ)) (long : length targ
   -- an index that follows another gives an edge between their slots
   pub edge_from : (j k place p : ℕ) (i : Insn) (t : Option ℕ) → slice_get program j ≡ Some i → slice_get targets j ≡ Some t → Follows i t j k → StartsAt program j place → StartsAt program k p → GoesTo i place p
   edge_from j k place p i t e f (inl g) at there =
-      let inside : suc j < length program = omega (arith, start_within program k p there, g.1) in
+      let inside : suc j < length program = omega (arith, start-inside program k p there, g.1) in
       let next : StartsAt program (suc j) (place + slot_count i) = starts-next 0 program j place i e at inside in
       inl (g.0, same_some (sym there ∙ ap (slice_get (starts_from 0 program)) g.1 ∙ next))
   edge_from j k place p i t e f (inr g) at there =
@@ -91,7 +85,7 @@ module _ (program : List Insn) (targets : List (Option ℕ)) (long : length targ
   follows_further j k i t e f (inr g) = let leads : LeadsTo program j i k = subst (IsTarget program j i) g (all.each j i t e f) in leads.further
 
   pub target_inside : (j k : ℕ) (i : Insn) → slice_get program j ≡ Some i → slice_get targets j ≡ Some (Some k) → k < length program
-  target_inside j k i e f = let leads : LeadsTo program j i k = all.each j i (Some k) e f in start_within program k leads.to leads.to_is
+  target_inside j k i e f = let leads : LeadsTo program j i k = all.each j i (Some k) e f in start-inside program k leads.to leads.to_is
 
   pub target_fits : (j : ℕ) (i : Insn) (t : Option ℕ) → slice_get program j ≡ Some i → slice_get targets j ≡ Some t → IfSome t (λ k. k < length program)
   target_fits j i None e f = tt
@@ -107,7 +101,7 @@ pub reached_on : (program : List Insn) (targets : List (Option ℕ)) (long : len
     → slice_get program j ≡ Some i → slice_get targets j ≡ Some t → Follows i t j k → IsInsnReached program j → IsInsnReached program k
 reached_on program targets long all j k i t e f follows r p there =
     let s = start_of-insn 0 program j i e in
-    reached_next s.0 p i (r s.0 s.1) (insn_here program j s.0 i e s.1) (edge_from program targets long all j k s.0 p i t e f follows s.1 there)
+    reached_next s.0 p i (r s.0 s.1) (start-insn program j s.0 i e s.1) (edge_from program targets long all j k s.0 p i t e f follows s.1 there)
 
 -- what is reached and lies behind instructions that are all done is marked
 module _ (program : List Insn) (targets : List (Option ℕ)) (long : length targets ≡ length program) (all : HasTargets program targets) (reached : List Bool) (k : ℕ)
@@ -117,7 +111,7 @@ module _ (program : List Insn) (targets : List (Option ℕ)) (long : length targ
   marked p there r = elim (reached_by r) [
     | inl e ↦
         let zero_there : StartsAt program k 0 = there ∙ ap Some e in
-        let k0 : k ≡ 0 = starts_apart 0 program k 0 0 zero_there (starts_at_0 program (omega (arith, start_within program k p there))) in
+        let k0 : k ≡ 0 = starts_apart 0 program k 0 0 zero_there (start-entry program (omega (arith, start-inside program k p there))) in
         ap (slice_get reached) k0 ∙ first
     | inr e ↦
         let edge = edge_into program targets long all k e.0 p e.1 e.3 e.4 there in

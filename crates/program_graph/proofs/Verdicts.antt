@@ -4,12 +4,12 @@ use Rattle.std.specs.Prelude.{slice_index_or}
 use Rattle.std.proofs.lemmas.List.Sums.{sum_by-cons}
 use Rattle.bpf_model.specs.declared.insn.Insn.{Insn}
 use Rattle.bpf_model.specs.Spelling.{starts_from, slot_count, slot_total, IsProgram}
-use Rattle.bpf_model.specs.Places.{insn_of-start, starts_ordered, StartsAt}
+use Rattle.bpf_model.specs.Places.{insn_of-start, starts_ordered, StartsAt, start-insn}
 use Rattle.std.proofs.lemmas.Option.{slice_get_within}
 use Rattle.program_graph.specs.declared.refusal.GraphFlaw.TheVariants.{FallsOff, Unreachable}
 use Rattle.program_graph.specs.GraphFlaws.{JumpsWell, EndsWithExit, HasGraphFlaw, HasGoodGraph}
 use Rattle.program_graph.specs.FirstPass.{IsFirstUnreached, IsInsnReached}
-use Rattle.program_graph.proofs.Edges.{start_read, insn_here, index_here}
+use Rattle.program_graph.proofs.Edges.{start_read, index_here}
 
 -- a program that isn't empty has a last instruction, at the start of the last index
 pub record HasLast (n k : ℕ) (program : List Insn) : Type 0 where
@@ -58,7 +58,7 @@ unreachable_at program starts k e jumps last first =
       jumps = jumps;
       last = last;
       insn = i.0;
-      at = insn_here program k (slice_index_or starts k 0) i.0 i.1 at;
+      at = start-insn program k (slice_index_or starts k 0) i.0 i.1 at;
       unreached = first.unreached (slice_index_or starts k 0) at;
       first = λ q j h f. (let r = index_here program q j f in first.first r.0 (starts_ordered 0 program r.0 k q (slice_index_or starts k 0) r.2 at h) q r.2);
     }

@@ -42,6 +42,20 @@ impl GraphFlaw {
     }
 }
 
+impl GraphRefusal {
+    ghost use Rattle.program_graph.specs.FlawNumbers.{graph_refusal_number};
+
+    /// The number by which the refusal is known: its flaw's, or 13 for want of memory.
+    pub fn code(self) -> u8
+        ensures { result ≡ graph_refusal_number self }
+    {
+        match self {
+            GraphRefusal::Flaw { flaw, .. } => flaw.code(),
+            GraphRefusal::Memory => 13,
+        }
+    }
+}
+
 impl From<AllocError> for GraphRefusal {
     ghost use Rattle.program_graph.specs.declared.refusal.GraphRefusal.TheVariants.{Memory};
 

@@ -3,6 +3,7 @@ use Rattle.std.proofs.Common.{◌≡◌, ◌∙◌, ℕ, zero, suc, ◌+◌, Lis
 use Rattle.std.specs.Prelude.{slice_get}
 use Rattle.std.proofs.lemmas.List.{map-append}
 use Rattle.std.proofs.lemmas.Option.{none-some, same_Some}
+use Rattle.bpf_model.proofs.Lists.{take-next}
 use Rattle.bpf_model.specs.Machine.{Loaded}
 use Rattle.verifier.specs.Checked.{Checked}
 
@@ -10,11 +11,6 @@ use Rattle.verifier.specs.Checked.{Checked}
 pub record AreKept (kept : List Checked) (programs : List Loaded) : Type 0 where
   pub codes : map (λ (p : Checked). p.program) kept ≡ map (λ (l : Loaded). l.code) programs
   pub contexts : map (λ (p : Checked). p.ctx_len) kept ≡ map (λ (l : Loaded). l.context_len) programs
-
-take-next : {A : Type 0} (xs : List A) (n : ℕ) (x : A) → slice_get xs n ≡ Some x → take (suc n) xs ≡ take n xs ++ x ∷ []
-take-next [] n x e = absurd (none-some x e)
-take-next (y ∷ xs) zero x e = ap (λ z. z ∷ []) (same_Some y x e)
-take-next (y ∷ xs) (suc n) x e = ap (λ l. y ∷ l) (take-next xs n x e)
 
 map-next : {A B C : Type 0} (f : A → C) (g : B → C) (kept : List A) (xs : List B) (n : ℕ) (a : A) (b : B) → map f kept ≡ map g (take n xs) → slice_get xs n ≡ Some b → f a ≡ g b → map f (kept ++ a ∷ []) ≡ map g (take (suc n) xs)
 map-next f g kept xs n a b e at same =

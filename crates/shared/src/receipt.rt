@@ -2,7 +2,7 @@
 ghost use Rattle.std.specs.Prelude.{◌≡◌};
 
 use crate::fault::SharedFault;
-use bpf_model::{Answer, CtxBytes, Event, ProgId, RunId};
+use bpf_model::{Answer, CtxBytes, Event, ProgId, RunId, array_of};
 use std::marker::Model;
 
 /// What one call of `act_noted` did: who called, the event, the answer, and how many entries the worker has
@@ -110,17 +110,6 @@ impl Model for ExitNote {
     } };
 }
 
-/// A copy of a context.
-fn copy_of(ctx: &CtxBytes) -> CtxBytes
-    ensures { result.items ≡ ctx.now.items }
-{
-    let mut copy = CtxBytes::new();
-    match copy.try_extend_from_slice(ctx.as_slice()) {
-        Ok(()) => copy,
-        Err(_) => unreachable!(),
-    }
-}
-
 impl ExitNote {
     pub(crate) fn new(
         worker: u8,
@@ -144,7 +133,7 @@ impl ExitNote {
             number,
             run,
             prog,
-            context: copy_of(ctx),
+            context: array_of(ctx.as_slice()),
             exit,
         }
     }

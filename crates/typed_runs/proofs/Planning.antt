@@ -12,7 +12,7 @@ use Rattle.bpf_model.specs.declared.value.Reference.TheVariants.{Ctx, Frame}
 use Rattle.bpf_model.specs.declared.value.Cell.TheVariants.{Unwritten}
 use Rattle.bpf_model.specs.Spelling.{slot_count}
 use Rattle.bpf_model.specs.Graph.{distance}
-use Rattle.bpf_model.specs.Places.{StartsAt, LeadsTo, insn_at-start, starts-next, insn_of-start}
+use Rattle.bpf_model.specs.Places.{StartsAt, LeadsTo, insn_at-start, starts-next, insn_of-start, start-entry, start-insn}
 use Rattle.bpf_model.specs.Step.{State, entry, put, insn_at}
 use Rattle.bpf_model.specs.Section.{Section}
 use Rattle.bpf_model.specs.Element.{Element}
@@ -91,16 +91,6 @@ planned-at code plan k a c m at v d = record { at = at; known = v.0; planned = v
 -- an index and the slot of its instruction
 start-one : (code : List Insn) (k p q : ℕ) → StartsAt code k p → StartsAt code k q → p ≡ q
 start-one code k p q e f = same_Some p q (sym e ∙ f)
-
-start-entry : (code : List Insn) → 0 < length code → StartsAt code 0 0
-start-entry [] l = absurd (omega arith)
-start-entry (i ∷ is) l = refl
-
-pub start-insn : (code : List Insn) (k p : ℕ) (i : Insn) → slice_get code k ≡ Some i → StartsAt code k p → insn_at code p ≡ Some i
-start-insn code k p i there at = let e : p - 0 ≡ p = omega arith in subst (λ q. insn_at code q ≡ Some i) e (insn_at-start 0 code k p i there at)
-
-pub start-inside : (code : List Insn) (k p : ℕ) → StartsAt code k p → k < length code
-start-inside code k p at = let x = insn_of-start 0 code k p at in slice_get_within code k x.0 x.1
 
 module _ (code : List Insn) (shapes : List MapShape) (ctx_len : ℕ) (plan : Plan) (kept : IsPlanKept code shapes ctx_len plan) where
   -- where control falls through, and where it jumps

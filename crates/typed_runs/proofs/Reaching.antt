@@ -2,6 +2,7 @@
 use Rattle.std.proofs.Common.{◌≡◌, ℕ, suc, ◌+◌, ◌<◌, ◌⊎◌, inl, inr, arith, List, [], ◌∷◌, length, Option, Some, None, refl, sym, ap, subst, ◌∙◌}
 use Rattle.std.specs.Prelude.{slice_get}
 use Rattle.std.proofs.lemmas.Option.{none-some}
+use Rattle.bpf_model.specs.Places.{start-inside}
 use Rattle.bpf_model.specs.declared.limits.MapShape.{MapShape}
 use Rattle.bpf_model.specs.declared.limits.TheConstants.{MAX_RUNS}
 use Rattle.bpf_model.specs.declared.insn.Insn.{Insn}
@@ -34,7 +35,6 @@ use Rattle.typed_runs.specs.Verified.{Plan, AreMapsBound, AllBytes, Surrounds, I
 use Rattle.typed_runs.specs.Well.{AreVerified, IsVerifiedFor, IsTyped, IsWell}
 use Rattle.typed_runs.proofs.Kept.{Keeps, keeps-moves, describes-kept}
 use Rattle.typed_runs.proofs.Coming.{FreshRun, Comes, Stands, Starting, Stepping, does-come}
-use Rattle.typed_runs.proofs.Planning.{start-inside}
 use Rattle.typed_runs.proofs.Valued.{does-bytes, does-programs}
 
 pub bound-kept : (shapes : List MapShape) (maps : List ℕ) (old new : List MapState) → KeepsShapes old new → AreMapsBound shapes maps old → AreMapsBound shapes maps new

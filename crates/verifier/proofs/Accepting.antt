@@ -14,10 +14,10 @@ use Rattle.bpf_model.specs.Plain.{IsSimple, WritesRegister, WritesByte, Takes, W
 use Rattle.bpf_model.specs.PlainMaps.{lookup_call, lock_call, unlock_call, IsGuardedLookup, IsPart, HasForm, InSection, section_entry, section_lock, section_unlock, section_next, LacksRegister, lacks_entry, lacks_call, lacks_next, IsPlainWithMaps}
 use Rattle.bpf_model.specs.Spelling.{slot_count}
 use Rattle.bpf_model.specs.Step.{insn_at}
-use Rattle.bpf_model.specs.Places.{start_of-insn, LeadsTo, StartsAt, starts_increase}
+use Rattle.bpf_model.specs.Places.{start_of-insn, LeadsTo, StartsAt, starts_increase, start-insn}
 use Rattle.program_graph.specs.FirstPass.{Follows}
 use Rattle.program_graph.specs.Indexes.{HasTargets, IsTarget}
-use Rattle.program_graph.proofs.Edges.{insn_here, insn_read}
+use Rattle.program_graph.proofs.Edges.{insn_read}
 use Rattle.program_graph.proofs.Lists.{same_some}
 use Rattle.program_graph.proofs.Marking.{edge_from, first_start}
 use Rattle.typed_runs.specs.Kinds as model
@@ -351,7 +351,7 @@ ready_here program shapes k i a plain e known = by (stands program shapes plain 
     s = start_of-insn 0 program k i e
 
     here : insn_at program s.0 ≡ Some i
-    here = insn_here program k s.0 i e s.1
+    here = start-insn program k s.0 i e s.1
 
     by : Stands program shapes s.0 i → IsReadyInsn i (state_of a) ⊎ IsReadyWithMaps shapes i (state_of a)
     by (inl part) =
@@ -437,7 +437,7 @@ module _ (program : List Insn) (targets : List (Option ℕ)) (long : length targ
   s = start_of-insn 0 program k done.insn done.insn_is
 
   at : insn_at program s.0 ≡ Some done.insn
-  at = insn_here program k s.0 done.insn done.insn_is s.1
+  at = start-insn program k s.0 done.insn done.insn_is s.1
 
   goes_on : (m t : ℕ) → Follows done.insn done.target k m → StartsAt program m t → GoesTo done.insn s.0 t
   goes_on m t follows there = edge_from program targets long all k m s.0 t done.insn done.target done.insn_is done.target_is follows s.1 there

@@ -12,8 +12,8 @@ use Rattle.bpf_model.specs.Plain.{WritesByte}
 use Rattle.bpf_model.specs.PlainMaps.{lookup_call, IsValueLoad, IsGuardedLookup, IsPart, Keeps, HasForm, LacksRegister, lacks_call, lacks_next, IsPlainWithMaps}
 use Rattle.bpf_model.specs.Spelling.{slot_count, starts_from}
 use Rattle.bpf_model.specs.Step.{insn_at}
-use Rattle.bpf_model.specs.Places.{StartsAt, starts-next, starts_increase, starts_ordered}
-use Rattle.program_graph.proofs.Edges.{index_here, start_within}
+use Rattle.bpf_model.specs.Places.{StartsAt, starts-next, starts_increase, starts_ordered, start-inside}
+use Rattle.program_graph.proofs.Edges.{index_here}
 use Rattle.program_graph.proofs.Lists.{same_some}
 use Rattle.typed_runs.specs.Kinds.{AbsState}
 use Rattle.state_steps.specs.Lookups.{Lookup, Part, FrameCopy, KeyAddress, MapLoad, LookupCall, NullTest, ValueLoad, part_insn, Expects, Prepares}
@@ -92,7 +92,7 @@ module _ (program : List Insn) (shapes : List MapShape) (start : ℕ) (l : IsGua
       let a = index_here program (start + 2) (LoadMap 1 (pos l.map)) l.map_load in
       let b = index_here program (start + 3) i h in
       let further : a.0 < b.0 = starts_ordered 0 program a.0 b.0 (start + 2) (start + 3) a.2 b.2 (omega arith) in
-      let next : StartsAt program (suc a.0) (start + 2 + 2) = starts-next 0 program a.0 (start + 2) (LoadMap 1 (pos l.map)) a.1 a.2 (omega (arith, start_within program b.0 (start + 3) b.2, further)) in
+      let next : StartsAt program (suc a.0) (start + 2 + 2) = starts-next 0 program a.0 (start + 2) (LoadMap 1 (pos l.map)) a.1 a.2 (omega (arith, start-inside program b.0 (start + 3) b.2, further)) in
       elim (cases_eq b.0 (suc a.0)) [
         | inl e ↦ (let same : start + 3 ≡ start + 2 + 2 = same_some (sym b.2 ∙ ap (slice_get (starts_from 0 program)) e ∙ next) in absurd (omega (arith, same)))
         | inr n ↦ (let more : start + 2 + 2 < start + 3 = starts_increase 0 program (suc a.0) b.0 (start + 2 + 2) (start + 3) next b.2 (omega (arith, further, n)) in absurd (omega (arith, more)))

@@ -12,13 +12,13 @@ use Rattle.bpf_model.specs.declared.insn.Insn.TheVariants.{Exit}
 use Rattle.bpf_model.specs.declared.limits.MapShape.{MapShape}
 use Rattle.bpf_model.specs.Graph.{falls, distance}
 use Rattle.bpf_model.specs.Spelling.{slot_count, slot_total}
-use Rattle.bpf_model.specs.Places.{slot_count_some, starts_apart, starts_increase, start_of-insn, insn_of-start, LeadsTo, StartsAt}
+use Rattle.bpf_model.specs.Places.{slot_count_some, starts_apart, starts_increase, start_of-insn, insn_of-start, LeadsTo, StartsAt, start-insn, start-entry}
 use Rattle.program_graph.specs.GraphFlaws.{EndsWithExit, HasGoodGraph}
 use Rattle.program_graph.specs.FirstPass.{Follows}
 use Rattle.program_graph.specs.Indexes.{HasTargets, IsTarget}
-use Rattle.program_graph.proofs.Edges.{insn_here, insn_read}
+use Rattle.program_graph.proofs.Edges.{insn_read}
 use Rattle.program_graph.proofs.Lists.{same_some}
-use Rattle.program_graph.proofs.Marking.{edge_into, reached_by, starts_at_0}
+use Rattle.program_graph.proofs.Marking.{edge_into, reached_by}
 use Rattle.typed_runs.specs.Kinds as model
 use Rattle.typed_runs.specs.Describes.{Describes}
 use Rattle.typed_runs.specs.Verified.{Plan}
@@ -343,9 +343,9 @@ awaits_none program targets at s = record {
 -- something waits for each instruction of a good graph
 pub waits_here : (program : List Insn) (targets : List (Option ℕ)) (long : length targets ≡ length program) (all : HasTargets program targets) (k : ℕ) (at : Awaited)
     → HasGoodGraph program → Awaits program targets k at → k < length program → at k ≢ Nothing
-waits_here program targets long all k at graph w h = elim (reached_by (graph.reached s.0 i.0 (insn_here program k s.0 i.0 i.1 s.1))) [
+waits_here program targets long all k at graph w h = elim (reached_by (graph.reached s.0 i.0 (start-insn program k s.0 i.0 i.1 s.1))) [
   | inl e ↦
-      let k0 : k ≡ 0 = starts_apart 0 program k 0 0 (s.1 ∙ ap Some e) (starts_at_0 program (omega arith)) in
+      let k0 : k ≡ 0 = starts_apart 0 program k 0 0 (s.1 ∙ ap Some e) (start-entry program (omega arith)) in
       subst (λ m. at m ≢ Nothing) (sym k0) (w.first k0)
   | inr e ↦
       let edge = edge_into program targets long all k e.0 s.0 e.1 e.3 e.4 s.1 in

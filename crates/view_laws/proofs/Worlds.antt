@@ -2,6 +2,7 @@
 use Rattle.std.proofs.Common.{◌≡◌, ◌≢◌, ◌∙◌, ℕ, suc, ◌<◌, List, [], ◌∷◌, map, length, Option, Some, None, inl, inr, refl, sym, ap, arith, Bool, subst}
 use Rattle.std.specs.Prelude.{slice_get, slice_set, count_by}
 use Rattle.std.proofs.lemmas.Option.{none-some, same_Some, slice_get_within}
+use Rattle.bpf_model.proofs.Cases.{option_cases}
 use Rattle.bpf_model.specs.declared.limits.MapShape.{MapShape}
 use Rattle.bpf_model.specs.declared.event.Event.{Event}
 use Rattle.bpf_model.specs.declared.event.Event.TheVariants as events
@@ -23,7 +24,6 @@ use Rattle.view_laws.proofs.Changing.{Changes}
 use Rattle.view_laws.proofs.Mapping.{elements-other}
 use Rattle.view_laws.proofs.Wording.{slot-kept}
 use Rattle.view_laws.proofs.Listing.{named-kept, between-same, still-same, more-none}
-use Rattle.model_laws.proofs.Counting.{option-cases}
 use Rattle.bpf_model.proofs.Lists.{get-below, get-set_cases, length-set}
 
 -- what stands at a map's number
@@ -48,7 +48,7 @@ abbrev shape_at : Option MapState → Option MapShape
 shape_at o = shape_in o
 
 pub shapes-agree : (w : WorldView) (s : Schedule) → RefinesSchedule w s → (k : ℕ) → shape_of s.machine.store k ≡ shape_shown (slice_get w.maps k)
-shapes-agree w s x k = elim (option-cases (slice_get w.maps k)) [
+shapes-agree w s x k = elim (option_cases (slice_get w.maps k)) [
   | inl none ↦ ap shape_at (none-there (slice_get s.machine.store.maps k) refl none) ∙ sym (ap shape_shown none)
   | inr some ↦
       let h = here w s x k some.0 some.1 in

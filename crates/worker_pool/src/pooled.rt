@@ -7,7 +7,7 @@ ghost use Rattle.worker_pool.specs.Trails.{IsLater, IsByWorker, WasStarted, IsOf
 
 use crate::job::{Job, JobReport, Outcome, StopCause, Trail};
 use crate::reply::{dropped, exited, has_moved, started};
-use bpf_model::{CtxBytes, Event, RunId};
+use bpf_model::{Event, RunId, array_of};
 use job_queue::Serve;
 use shared::{Receipt, Shared, Worker};
 use std::sync::Wait;
@@ -17,17 +17,6 @@ use std::sync::ledger::Ledger;
 #[derive(Drop)]
 pub struct Pooled<'a, L: Ledger> {
     pub shared: &'a Shared<L>,
-}
-
-/// A copy of a context.
-fn copy_of(ctx: &CtxBytes) -> CtxBytes
-    ensures { result ≡ ctx.now }
-{
-    let mut copy = CtxBytes::new();
-    match copy.try_extend_from_slice(ctx.as_slice()) {
-        Ok(()) => copy,
-        Err(_) => unreachable!(),
-    }
 }
 
 /// Steps the run until a step is answered with something else than a move; the receipt is that step's. Each
@@ -125,7 +114,7 @@ impl<L: Ledger + Send + Sync> Serve for Pooled<'_, L> {
     /// Starts the job's program on its context, steps the run to its exit, asks for the exit value of a run of
     /// this program and context, and drops the run.
     fn serve<R: Wait>(&self, rt: &R, worker: &mut Worker<L>, job: &Job) -> JobReport<Trail> {
-        let ctx = copy_of(&job.ctx);
+        let ctx = array_of(job.ctx.as_slice());
         let event = Event::Start {
             prog: job.prog,
             ctx,

@@ -184,18 +184,26 @@ impl Setup {
         }
     }
 
-    /// What is timed: the events of the list, and each step of each run.
-    pub fn go(&mut self, tally: &mut Tally) {
+    /// Every step of a run, its exit the last.
+    fn step_through(&mut self, run: RunId, tally: &mut Tally) {
+        let step = Event::Step { run };
+        for _ in 0..=self.moves {
+            tally.note(&self.world.apply(&step));
+        }
+    }
+
+    /// What is timed: the events of the list.
+    fn answer_events(&mut self, tally: &mut Tally) {
         for event in self.events.as_slice() {
             tally.note(&self.world.apply(event));
         }
+    }
+
+    /// What is timed: the events of the list, and each step of each run.
+    pub fn go(&mut self, tally: &mut Tally) {
+        self.answer_events(tally);
         for run in 0..self.runs {
-            let step = Event::Step {
-                run: RunId::new(run),
-            };
-            for _ in 0..=self.moves {
-                tally.note(&self.world.apply(&step));
-            }
+            self.step_through(RunId::new(run), tally);
         }
     }
 

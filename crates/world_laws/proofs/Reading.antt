@@ -17,7 +17,8 @@ use Rattle.bpf_model.specs.View.{MapView, RunView, WorldView, new_map_view, map_
 use Rattle.model_laws.specs.Example.{example_shape}
 use Rattle.view_laws.specs.Views.{retired_slot, delete_result, filled_from, updated_by, shown_error}
 use Rattle.view_laws.specs.Reactions.{with_map, run_shown, shape_shown, delete_at}
-use Rattle.view_laws.proofs.Lists.{Index, insert-same}
+use Rattle.view_laws.proofs.Lists.{insert-same}
+use Rattle.bpf_model.specs.Codes.{KeyMap}
 use Rattle.world_laws.specs.Calling.{found_word, returned_view}
 use Rattle.world_laws.specs.Moving.{moves_on}
 use Rattle.world_laws.specs.Reacting.{full_reaction, full_reactions}
@@ -35,7 +36,7 @@ next w new e a es h = ap (λ (x : Answer × WorldView). x.0 ∷ (full_reactions 
 abbrev fresh : MapView
 fresh = new_map_view example_shape
 
-abbrev index : Index
+abbrev index : KeyMap
 index = insert empty key_zero.items 0
 
 no-error : shown_error fresh key_zero.items 0 ≡ None

@@ -1,11 +1,9 @@
 use Rattle.std.proofs.Common.{◌≡◌, List, ap, subst, sym, ◌∙◌}
+use Rattle.bpf_model.proofs.Cases.{same-since}
 use Rattle.bpf_model.specs.Section.{Section, AllEnded}
 use Rattle.bpf_model.specs.Element.{Unlinked}
 use Rattle.plain_store.specs.State.{life_of, sections_of}
 use Rattle.plain_store.proofs.element.has_ended.Goals as goal
-
-same-since : (a b : List Section) → Unlinked a ≡ Unlinked b → a ≡ b
-same-since a b h = cc
 
 pub returns-in-Unlinked : goal.returns-in-Unlinked
 returns-in-Unlinked c =

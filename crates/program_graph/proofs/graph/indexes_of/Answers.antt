@@ -1,7 +1,7 @@
 use Rattle.std.proofs.Common.{ℕ, ◌<◌, length, arith, ap}
 use Rattle.std.specs.Prelude.{slice_index_or}
-use Rattle.bpf_model.specs.Places.{length-starts_from, StartsAt}
-use Rattle.program_graph.proofs.Edges.{start_read, start_below, start_within, index_found, index_only}
+use Rattle.bpf_model.specs.Places.{length-starts_from, StartsAt, start-inside}
+use Rattle.program_graph.proofs.Edges.{start_read, start_below, index_found, index_only}
 use Rattle.std.proofs.lemmas.List.{length-set}
 use Rattle.std.specs.Prelude.{Option}
 use Rattle.program_graph.proofs.graph.indexes_of.Goals as goal
@@ -25,6 +25,6 @@ loop-index-preserved c =
 
 pub returns : goal.returns
 returns c = record {
-  found = λ k p e. c.loop-index.invariant.found k p (omega (arith, start_within c.args.instructions.now k p e, ap length c.requires.starts, length-starts_from 0 c.args.instructions.now)) e;
+  found = λ k p e. c.loop-index.invariant.found k p (omega (arith, start-inside c.args.instructions.now k p e, ap length c.requires.starts, length-starts_from 0 c.args.instructions.now)) e;
   only = c.loop-index.invariant.only;
 }

@@ -2,10 +2,10 @@ use Rattle.std.proofs.Common.{◌≡◌, length, arith, ap, sym, refl, subst}
 use Rattle.std.specs.Prelude.{slice_index_or, slice_get, Some, Ok}
 use Rattle.std.proofs.lemmas.Option.{slice_get_read}
 use Rattle.bpf_model.specs.Graph.{distance}
-use Rattle.bpf_model.specs.Places.{length-starts_from, StartsAt}
+use Rattle.bpf_model.specs.Places.{length-starts_from, StartsAt, start-insn}
 use Rattle.program_graph.specs.FirstPass.{target_of}
 use Rattle.program_graph.specs.Indexes.{HasTargets}
-use Rattle.program_graph.proofs.Edges.{start_read, start_below, insn_here, flaw_found, bad_jump, jumps_before, jumps_all, targets_more, is_target, jumps_more}
+use Rattle.program_graph.proofs.Edges.{start_read, start_below, flaw_found, bad_jump, jumps_before, jumps_all, targets_more, is_target, jumps_more}
 use Rattle.program_graph.proofs.Flaws.{good_has_none}
 use Rattle.program_graph.specs.GraphFlaws.{HasGraphFlaw}
 use Rattle.program_graph.proofs.graph.targets_of.Goals as goal
@@ -29,7 +29,7 @@ bad_here c =
     let here : slice_get c.args.instructions.now c.loop-index.index ≡ Some c.index-instructions-index.result = slice_get_read c.args.instructions.now (length c.args.instructions.now) c.loop-index.index c.index-instructions-index.result refl (omega arith) c.index-instructions-index.is in
     bad_jump c.args.instructions.now c.in-Err.flaw (slice_index_or c.args.starts.now c.loop-index.index 0) (record {
       insn = c.index-instructions-index.result;
-      at = insn_here c.args.instructions.now c.loop-index.index (slice_index_or c.args.starts.now c.loop-index.index 0) c.index-instructions-index.result here at;
+      at = start-insn c.args.instructions.now c.loop-index.index (slice_index_or c.args.starts.now c.loop-index.index 0) c.index-instructions-index.result here at;
       bad = flaw_found c.args.instructions.now c.args.indexes.now c.requires.indexes (slice_index_or c.args.starts.now c.loop-index.index 0) c.index-instructions-index.result c.in-Err.flaw (sym c.in-Err.ensures);
       first = jumps_before c.args.instructions.now c.loop-index.index (slice_index_or c.args.starts.now c.loop-index.index 0) at c.loop-index.invariant.jumps;
     })

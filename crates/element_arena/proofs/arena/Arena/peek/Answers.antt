@@ -17,8 +17,8 @@ value-requires c =
     let w : c.args.tag.slot < length s.cells.items = search rules in
     inside_to s.key_len s.value_len s.limit s.cells.items s.first s.keys.items s.values.items c.args.tag.slot c.args.self.now c.self.view_is w
 
-pub key_of-requires : goal.key_of-requires
-key_of-requires c =
+pub array_of-requires : goal.array_of-requires
+array_of-requires c =
     let s = c.self.inside in
     let w : c.args.tag.slot < length s.cells.items = search rules in
     let short = key-short s.key_len s.value_len s.limit s.cells.items s.first s.keys.items s.values.items c.args.tag.slot c.args.self.now c.self.view_is w in
@@ -26,8 +26,8 @@ key_of-requires c =
     let b : s.key_len ≤ KEY_BYTES = c.self.invariant.1.key_bound in
     omega arith
 
-pub value_of-requires : goal.value_of-requires
-value_of-requires c =
+pub array_of-2-requires : goal.array_of-2-requires
+array_of-2-requires c =
     let s = c.self.inside in
     let w : c.args.tag.slot < length s.cells.items = search rules in
     let short = value-short s.key_len s.value_len s.limit s.cells.items s.first s.keys.items s.values.items c.args.tag.slot c.args.self.now c.self.view_is w in

@@ -25,7 +25,7 @@ returns-in-Some-clause-some g c =
     record {
       slot = c.in-Some.slot;
       first = ap (λ (v : MapView). slice_get v.ready 0) (sym c.self.view_is) ∙ sym c.in-Some.ensures.first;
-      key_is = c.key_of-key.ensures ∙ (c.key.ensures ∙ (ap (λ (p : PartsView). key_at p.arena.slots c.in-Some.slot) c.in-Some.ensures.new ∙ ap (λ (v : MapView). key_at v.slots c.in-Some.slot) c.self.view_is));
+      key_is = c.array_of-key.ensures ∙ (c.key.ensures ∙ (ap (λ (p : PartsView). key_at p.arena.slots c.in-Some.slot) c.in-Some.ensures.new ∙ ap (λ (v : MapView). key_at v.slots c.in-Some.slot) c.self.view_is));
       given_is =
           c.give-given.ensures.given
           ∙ (ap (λ (p : PartsView). cond {A = Given} (is_last_use p.arena c.in-Some.slot) Worn Free) c.in-Some.ensures.new

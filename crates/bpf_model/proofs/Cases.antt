@@ -1,0 +1,20 @@
+-- Options, numbers, lives and run slots, by cases.
+use Rattle.std.proofs.Common.{◌≡◌, ℕ, pos, List, Option, Some, None, ◌⊎◌, inl, inr, refl}
+use Rattle.std.proofs.lemmas.Option.{none-some}
+use Rattle.bpf_model.specs.Section.{Section}
+use Rattle.bpf_model.specs.Element.{Unlinked}
+use Rattle.bpf_model.specs.Machine.{Run, run_in}
+
+pub option_cases : {A : Type 0} (o : Option A) → (o ≡ None) ⊎ ((x : A) × (o ≡ Some x))
+option_cases None = inl refl
+option_cases (Some x) = inr (x, refl)
+
+pub same-pos : (a b : ℕ) → pos a ≡ pos b → a ≡ b
+same-pos a b h = cc
+
+pub same-since : (a b : List Section) → Unlinked a ≡ Unlinked b → a ≡ b
+same-since a b h = cc
+
+pub in-some : (o : Option Run) (x : Run) → run_in (Some o) ≡ Some x → o ≡ Some x
+in-some None x h = absurd (none-some x h)
+in-some (Some y) x h = h
