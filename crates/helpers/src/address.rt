@@ -7,15 +7,7 @@ ghost use Rattle.world_laws.specs.Locating.{location_of, word_offset, word_regio
 ghost use Rattle.helpers.specs.Elements.{IsInSlot};
 
 use bpf_model::{MAX_ENTRIES, MAX_SPARE};
-
-/// Regions begin at multiples of this, one slot in each from `SLOT_BASE` on.
-const SPAN: u64 = 1 << 31;
-
-/// A word lies at most so far before the beginning of its region.
-const NEAR: u64 = 1 << 29;
-
-/// The word of the first byte of slot 0 of map 0.
-const SLOT_BASE: u64 = 1 << 43;
+use machine::{NEAR, SLOT_BASE, SPAN};
 
 /// So many regions are kept for each map.
 const MOST_SLOTS: usize = MAX_ENTRIES + MAX_SPARE;

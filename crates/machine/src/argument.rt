@@ -6,7 +6,7 @@ ghost use Rattle.world_laws.specs.Moving.{word_in};
 ghost use Rattle.world_laws.specs.Reaching.{IsInFrame};
 
 use crate::run::Run;
-use crate::workspace::{FRAME_BASE, MAP_BASE};
+use crate::regions::{FRAME_BASE, MAP_BASE};
 use bpf_model::Reg;
 
 impl Run {

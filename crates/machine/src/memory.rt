@@ -10,14 +10,10 @@ ghost use Rattle.machine.specs.Workspaces.{own_view, with_frame};
 ghost use Rattle.machine.specs.Moves.{IsIn, offset_from, own_number};
 ghost use Rattle.machine.specs.Requests.{IsInOwn};
 
-use crate::workspace::{CTX_BASE, FRAME_BASE, Workspace};
+use crate::regions::{CTX_BASE, FRAME_BASE, NEAR, SPAN};
+use crate::workspace::Workspace;
 use bpf_model::Width;
 use byte_numbers::{number_of, write_number};
-
-/// Regions begin at multiples of 2^31, and a word lies at most 2^29 away from the beginning of its own.
-const SPAN: u64 = 1 << 31;
-
-const NEAR: u64 = 1 << 29;
 
 /// Where a word lies.
 #[derive(Clone, Copy)]
@@ -44,6 +40,7 @@ fn is_in_frame(word: u64) -> bool
     FRAME_BASE - NEAR <= word && word < FRAME_BASE - NEAR + SPAN
 }
 
+/// Where a word lies.
 #[inline(always)]
 pub(crate) fn memory_of(word: u64) -> Memory
     ensures { IsIn result word }

@@ -261,15 +261,7 @@ impl<I: Index + Drop, D: Deferred + Drop> HashMap<I, D> {
         requires { IsShape shape }
         ensures { IfOk result (λ m. m ≡ new_map_view shape) }
     {
-        let slots = shape.entries + shape.spare;
-        let parts = Parts::new(
-            alloc,
-            shape.entries,
-            slots,
-            shape.key_len,
-            shape.value_len,
-            shape.reuse_limit,
-        )?;
+        let parts = Parts::new(alloc, shape)?;
         Ok(HashMap {
             shape,
             parts,

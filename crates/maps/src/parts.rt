@@ -5,13 +5,13 @@ ghost use Rattle.bpf_model.specs.Schedule.{turned};
 ghost use Rattle.bpf_model.specs.declared.event.Given.TheVariants as given;
 ghost use Rattle.bpf_model.specs.Access.{byte_count, number_at};
 ghost use Rattle.bpf_model.specs.MachineStep.{with_bytes};
-ghost use Rattle.bpf_model.specs.declared.limits.TheConstants.{KEY_BYTES, VALUE_BYTES};
+ghost use Rattle.bpf_model.specs.MapState.{IsShape};
 ghost use Rattle.element_arena.specs.State.{IsTaken, key_at, value_at, is_last_use, taken, given_back, with_slot_value, new_arena};
 ghost use Rattle.hash_index.specs.Order.{IsAbove, NoneAbove, NoneBetween};
 ghost use Rattle.deferred_free.specs.Queued.{retired_lists, reaped_lists};
 ghost use Rattle.maps.specs.Parted.{IsParted, IsInHand, Stands, without_key};
 
-use bpf_model::{Given, Width};
+use bpf_model::{Given, MapShape, Width};
 use deferred_free::Deferred;
 use element_arena::Arena;
 use hash_index::Index;
@@ -219,26 +219,26 @@ impl<I: Index, D: Deferred> Parts<I, D> {
 }
 
 impl<I: Index + Drop, D: Deferred + Drop> Parts<I, D> {
-    /// So many free slots and an index for so many keys, which has nothing.
-    pub fn new(
-        alloc: Global,
-        entries: usize,
-        slots: usize,
-        key_len: usize,
-        value_len: usize,
-        limit: u32,
-    ) -> Result<Parts<I, D>, AllocError>
-        requires key_len { key_len ≤ KEY_BYTES }
-        requires value_len { value_len ≤ VALUE_BYTES }
-        requires limit { 1 ≤ limit }
+    /// The parts of a map that has nothing: a free slot for each of its entries and spare ones, and an
+    /// index for its entries. Fails where memory runs out.
+    pub fn new(alloc: Global, shape: MapShape) -> Result<Parts<I, D>, AllocError>
+        requires { IsShape shape }
         ensures { IfOk result (λ p. p ≡ record {
           index = map.empty;
           lists = record { next = []; waiting = []; ready = [] };
-          arena = new_arena slots key_len value_len limit;
+          arena = new_arena (shape.entries + shape.spare)
+              shape.key_len shape.value_len shape.reuse_limit;
         }) }
     {
-        let arena = Arena::new(alloc, slots, key_len, value_len, limit)?;
-        let index = I::new(alloc, entries, slots)?;
+        let slots = shape.entries + shape.spare;
+        let arena = Arena::new(
+            alloc,
+            slots,
+            shape.key_len,
+            shape.value_len,
+            shape.reuse_limit,
+        )?;
+        let index = I::new(alloc, shape.entries, slots)?;
         let deferred = D::new(alloc, slots)?;
         Ok(Parts {
             arena,

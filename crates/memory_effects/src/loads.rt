@@ -5,16 +5,16 @@ ghost use Rattle.bpf_model.specs.Access.{byte_count, unsigned_width};
 ghost use Rattle.register_kinds.specs.Pairs.{AreBelow};
 ghost use Rattle.memory_effects.specs.Accesses.{PerformsAccess, IsBase, ReadsBytes, ReadsValue, LoadsNumber};
 
+use crate::environment::EnvironmentShape;
 use crate::reads::read;
 use crate::region::{Address, Region};
-use bpf_model::{Insn, MapShape, Reg, SignedWidth, Width};
+use bpf_model::{Insn, Reg, SignedWidth, Width};
 use kind_tests::{Fault, check_writable};
 use register_kinds::AbsState;
 use scalar_domain::Scalar;
 
-/// A load without sign: a number, or the reference whose eight parts are read. `ctx_len` is the
-/// length of the context, `shapes` are those of the maps of the program's list. The answer is the
-/// region that is read.
+/// A load without sign: a number, or the reference whose eight parts are read, of the context, the
+/// maps and the frame that the program is verified against. The answer is the region that is read.
 ///
 /// Errors, in this order; the state is then as it was.
 /// - `FramePointerWritten`: it sets r10.
@@ -29,24 +29,23 @@ pub fn load(
     width: Width,
     dst: Reg,
     from: Address,
-    ctx_len: usize,
-    shapes: &[MapShape],
+    shape: &EnvironmentShape,
 ) -> Result<Region, Fault>
     ensures sound { OnOk result (PerformsAccess
-        (Insn.Load width dst from.base from.offset) ctx_len shapes.now
-        state.old state.new) }
+        (Insn.Load width dst from.base from.offset) shape.now.ctx_len
+        shape.now.shapes.now state.old state.new) }
     ensures region { IfOk result (λ region. IsBase region (kind_at state.old.regs from.base)) }
     ensures bytes { (10 ≡ dst → ⊥)
         → ReadsBytes (state_of state.old) from.base (byte_count width) from.offset
         → LoadsNumber result dst (state_of state.old) (state_of state.new) }
     ensures value { (map : ℕ) → (10 ≡ dst → ⊥)
-        → ReadsValue shapes.now state.old from.base map (byte_count width) from.offset
+        → ReadsValue shape.now.shapes.now state.old from.base map (byte_count width) from.offset
         → LoadsNumber result dst (state_of state.old) (state_of state.new) }
     ensures below { (top : ℕ) → AreBelow top state.old → AreBelow top state.new }
     ensures unchanged { OnErr result (state.new ≡ state.old) }
 {
     check_writable(dst)?;
-    let reads = read(state, width, from, ctx_len, shapes)?;
+    let reads = read(state, width, from, shape)?;
     state.set(dst, reads.kind(Scalar::loaded(width)));
     Ok(reads.region())
 }
@@ -57,25 +56,24 @@ pub fn load_signed(
     width: SignedWidth,
     dst: Reg,
     from: Address,
-    ctx_len: usize,
-    shapes: &[MapShape],
+    shape: &EnvironmentShape,
 ) -> Result<Region, Fault>
     ensures sound { OnOk result (PerformsAccess
-        (Insn.LoadSigned width dst from.base from.offset) ctx_len
-        shapes.now state.old state.new) }
+        (Insn.LoadSigned width dst from.base from.offset) shape.now.ctx_len
+        shape.now.shapes.now state.old state.new) }
     ensures region { IfOk result (λ region. IsBase region (kind_at state.old.regs from.base)) }
     ensures bytes { (10 ≡ dst → ⊥)
         → ReadsBytes (state_of state.old) from.base (byte_count (unsigned_width width)) from.offset
         → LoadsNumber result dst (state_of state.old) (state_of state.new) }
     ensures value { (map : ℕ) → (10 ≡ dst → ⊥)
-        → ReadsValue shapes.now state.old from.base map (byte_count (unsigned_width width))
+        → ReadsValue shape.now.shapes.now state.old from.base map (byte_count (unsigned_width width))
         from.offset
         → LoadsNumber result dst (state_of state.old) (state_of state.new) }
     ensures below { (top : ℕ) → AreBelow top state.old → AreBelow top state.new }
     ensures unchanged { OnErr result (state.new ≡ state.old) }
 {
     check_writable(dst)?;
-    let reads = read(state, width.width(), from, ctx_len, shapes)?;
+    let reads = read(state, width.width(), from, shape)?;
     state.set(dst, reads.kind(Scalar::load_signed(width)));
     Ok(reads.region())
 }

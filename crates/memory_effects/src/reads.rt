@@ -7,6 +7,7 @@ ghost use Rattle.register_kinds.specs.States.{kind_in, kind_of, state_of};
 ghost use Rattle.register_kinds.specs.Pairs.{IsBelow, AreBelow};
 ghost use Rattle.memory_effects.specs.Accesses.{IsReadByLoad, IsBase, IsStart, ReadsBytes, ReadsValue, read_kind};
 
+use crate::environment::EnvironmentShape;
 use crate::offset::{check_placed, offset_in};
 use crate::region::{Address, Region};
 use bpf_model::{FRAME_BYTES, MapShape, Width};
@@ -79,26 +80,26 @@ pub(crate) fn read(
     state: &AbsState,
     width: Width,
     from: Address,
-    ctx_len: usize,
-    shapes: &[MapShape],
+    shape: &EnvironmentShape,
 ) -> Result<Reads, Fault>
     ensures reads { IfOk result (λ x.
-        IsReadByLoad x (state_of state.now) (byte_count width) from ctx_len shapes.now) }
+        IsReadByLoad x (state_of state.now) (byte_count width) from
+        shape.now.ctx_len shape.now.shapes.now) }
     ensures below { IfOk result (λ x. (top : ℕ) (t : Scalar) → AreBelow top state.now
         → IsBelow top (read_kind x t)) }
     ensures bytes { ReadsBytes (state_of state.now) from.base (byte_count width) from.offset
         → result ≡ Ok Reads.FrameBytes }
     ensures value { (map : ℕ)
-        → ReadsValue shapes.now state.now from.base map (byte_count width) from.offset
+        → ReadsValue shape.now.shapes.now state.now from.base map (byte_count width) from.offset
         → result ≡ Ok (Reads.Value map) }
 {
     match held(state, from.base)? {
         RegKind::Ctx(offsets) => {
-            check_placed(offsets, width, from.offset, ctx_len)?;
+            check_placed(offsets, width, from.offset, shape.ctx_len)?;
             Ok(Reads::Context)
         }
         RegKind::Value { map, offset } => {
-            let _shape = check_value(offset, width, from.offset, map, shapes)?;
+            let _shape = check_value(offset, width, from.offset, map, shape.shapes)?;
             Ok(Reads::Value(map))
         }
         RegKind::Frame(start) => read_from_frame(state, width, from, start),

@@ -3,11 +3,10 @@ ghost use Rattle.std.specs.Prelude.{◌≡◌, ℕ};
 ghost use Rattle.register_kinds.specs.Pairs.{AreBelow};
 ghost use Rattle.state_steps.specs.Stepped.{Stepped};
 
-use crate::environment::EnvironmentShape;
 use crate::flow::{Flow, single};
 use bpf_model::{Insn, Operand, Reg, SignedWidth, Width};
 use kind_tests::Fault;
-use memory_effects::{Address, load, load_signed, store};
+use memory_effects::{Address, EnvironmentShape, load, load_signed, store};
 use register_kinds::AbsState;
 
 /// A load without sign.
@@ -22,7 +21,7 @@ pub(crate) fn load_step(
         → Stepped (Insn.Load width dst from.base from.offset) shape.now.shapes.now
         shape.now.ctx_len top state.old state.new result }
 {
-    let region = load(state, width, dst, from, shape.ctx_len, shape.shapes)?;
+    let region = load(state, width, dst, from, shape)?;
     Ok(single(region))
 }
 
@@ -38,7 +37,7 @@ pub(crate) fn signed_step(
         → Stepped (Insn.LoadSigned width dst from.base from.offset) shape.now.shapes.now
         shape.now.ctx_len top state.old state.new result }
 {
-    let region = load_signed(state, width, dst, from, shape.ctx_len, shape.shapes)?;
+    let region = load_signed(state, width, dst, from, shape)?;
     Ok(single(region))
 }
 

@@ -4,12 +4,11 @@ ghost use Rattle.bpf_model.specs.declared.limits.MapShape.{MapShape};
 ghost use Rattle.register_kinds.specs.Pairs.{AreBelow};
 ghost use Rattle.state_steps.specs.Stepped.{Stepped};
 
-use crate::environment::EnvironmentShape;
 use crate::flow::{Flow, single};
 use bpf_model::{AluOp, Insn, Operand, Reg, Size, UnaryOp};
 use compute_effects::{alu, load_map, load_number, unary};
 use kind_tests::Fault;
-use memory_effects::Region;
+use memory_effects::{EnvironmentShape, Region};
 use register_kinds::AbsState;
 
 /// An operation of two operands.

@@ -13,13 +13,12 @@ ghost use Rattle.kind_tests.specs.Forks.{Forks, ForksOnNull};
 ghost use Rattle.control_effects.specs.Narrowing.{AreNarrowed};
 ghost use Rattle.state_steps.specs.Stepped.{Stepped, ComparesWell, IsEqualToNull};
 
-use crate::environment::EnvironmentShape;
 use crate::flow::{Flow, single};
 use bpf_model::{CallKind, Condition, Insn, Operand, Reg, Size};
 use call_effects::{call, fork_equal, fork_not_equal};
 use control_effects::{exit, fork, fork_value, jump_long_transfers, jump_transfers};
 use kind_tests::Fault;
-use memory_effects::Region;
+use memory_effects::{EnvironmentShape, Region};
 use register_kinds::{AbsState, Identities, RegKind};
 use std::alloc::{AllocError, Global};
 

@@ -4,11 +4,9 @@
 mod access;
 mod compute;
 mod control;
-mod environment;
 mod flow;
 mod step;
 
-pub use environment::EnvironmentShape;
 pub use flow::Flow;
-pub use memory_effects::Region;
+pub use memory_effects::{EnvironmentShape, Region};
 pub use step::transfer;

@@ -13,11 +13,10 @@ ghost use Rattle.state_steps.specs.Stepped.{Stepped};
 use crate::access::{load_step, signed_step, store_step};
 use crate::compute::{alu_step, map_step, number_step, unary_step};
 use crate::control::{branch_step, call_step, exit_step, jump_long_step, jump_step};
-use crate::environment::EnvironmentShape;
 use crate::flow::Flow;
 use bpf_model::Insn;
 use kind_tests::Fault;
-use memory_effects::Address;
+use memory_effects::{Address, EnvironmentShape};
 use register_kinds::{AbsState, Identities};
 use std::alloc::Global;
 

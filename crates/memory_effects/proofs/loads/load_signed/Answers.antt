@@ -18,10 +18,10 @@ pub returns-clause-sound : goal.returns-clause-sound
 returns-clause-sound c =
     let a = state_of c.args.state.now in
     let kind = read_kind c.in_ok-reads.reads c.load_signed.result in
-    to_alike (LoadSigned c.args.width c.args.dst c.args.from.base c.args.from.offset) c.args.shapes.now c.args.ctx_len a (with_kind c.args.dst kind a) (state_of c.set.new.self)
+    to_alike (LoadSigned c.args.width c.args.dst c.args.from.base c.args.from.offset) c.args.shape.now.shapes.now c.args.shape.now.ctx_len a (with_kind c.args.dst kind a) (state_of c.set.new.self)
     (subst (λ (k : Kind). AreAlike (with_kind c.args.dst k a) (state_of c.set.new.self)) c.kind.ensures c.set.ensures.alike)
-    (read_signed_transfers c.args.dst c.args.from c.args.ctx_len c.args.shapes.now a c.load_signed.result c.in_ok-check_writable.ensures.value c.in_ok-reads.reads c.args.width (λ n. (loaded_signed_lt c.args.width n, c.load_signed.ensures.sound n))
-    (subst (λ (w : Width). IsReadByLoad c.in_ok-reads.reads a (byte_count w) c.args.from c.args.ctx_len c.args.shapes.now) c.width.ensures c.in_ok-reads.ensures.reads))
+    (read_signed_transfers c.args.dst c.args.from c.args.shape.now.ctx_len c.args.shape.now.shapes.now a c.load_signed.result c.in_ok-check_writable.ensures.value c.in_ok-reads.reads c.args.width (λ n. (loaded_signed_lt c.args.width n, c.load_signed.ensures.sound n))
+    (subst (λ (w : Width). IsReadByLoad c.in_ok-reads.reads a (byte_count w) c.args.from c.args.shape.now.ctx_len c.args.shape.now.shapes.now) c.width.ensures c.in_ok-reads.ensures.reads))
 
 pub returns-clause-bytes : goal.returns-clause-bytes
 returns-clause-bytes c = λ ne b.
@@ -34,7 +34,7 @@ returns-clause-bytes c = λ ne b.
 
 pub returns-clause-value : goal.returns-clause-value
 returns-clause-value c = λ map ne b.
-    let read = subst (λ (w : Width). ReadsValue c.args.shapes.now c.args.state.now c.args.from.base map (byte_count w) c.args.from.offset) (sym c.width.ensures) b in record {
+    let read = subst (λ (w : Width). ReadsValue c.args.shape.now.shapes.now c.args.state.now c.args.from.base map (byte_count w) c.args.from.offset) (sym c.width.ensures) b in record {
       fine = refl;
       number = c.load_signed.result;
       alike = subst (λ (k : Kind). AreAlike (with_kind c.args.dst k (state_of c.args.state.now)) (state_of c.set.new.self))
@@ -43,6 +43,6 @@ returns-clause-value c = λ map ne b.
 
 pub returns-in_err-reads-clause-value : goal.returns-in_err-reads-clause-value
 returns-in_err-reads-clause-value c = λ map ne b.
-    let read = subst (λ (w : Width). ReadsValue c.args.shapes.now c.args.state.now c.args.from.base map (byte_count w) c.args.from.offset) (sym c.width.ensures) b in
+    let read = subst (λ (w : Width). ReadsValue c.args.shape.now.shapes.now c.args.state.now c.args.from.base map (byte_count w) c.args.from.offset) (sym c.width.ensures) b in
     let no = c.in_err-reads.ensures.value map read in
     absurd cc

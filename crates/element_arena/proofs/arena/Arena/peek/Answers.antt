@@ -26,8 +26,8 @@ array_of-requires c =
     let b : s.key_len ≤ KEY_BYTES = c.self.invariant.1.key_bound in
     omega arith
 
-pub array_of-2-requires : goal.array_of-2-requires
-array_of-2-requires c =
+pub array_of-requires-then-index-tag : goal.array_of-requires-then-index-tag
+array_of-requires-then-index-tag c =
     let s = c.self.inside in
     let w : c.args.tag.slot < length s.cells.items = search rules in
     let short = value-short s.key_len s.value_len s.limit s.cells.items s.first s.keys.items s.values.items c.args.tag.slot c.args.self.now c.self.view_is w in

@@ -1,4 +1,4 @@
-use Rattle.std.proofs.Common.{◌≡◌, ◌∙◌, ◌≤◌, [], sym, ap, subst, length, arith}
+use Rattle.std.proofs.Common.{◌≡◌, ◌∙◌, ◌+◌, ◌≤◌, [], sym, ap, subst, length, arith}
 use Rattle.std.specs.FinMap as map
 use Rattle.std.proofs.lemmas.List.{length-replicate}
 use Rattle.bpf_model.specs.Schedule.{Queues}
@@ -11,11 +11,12 @@ use Rattle.maps.proofs.parts.Parts.new.Goals as goal
 
 pub invariant_of-result : goal.invariant_of-result
 invariant_of-result g c =
-    let e1 : length c.in_ok-arena.arena.slots ≡ c.args.slots = ap (λ (a : ArenaState). length a.slots) c.in_ok-arena.ensures.new ∙ length-replicate c.args.slots unused_slot in
-    let room : length c.in_ok-arena.arena.slots ≤ c.args.slots = omega arith in
+    let slots = c.args.shape.entries + c.args.shape.spare in
+    let e1 : length c.in_ok-arena.arena.slots ≡ slots = ap (λ (a : ArenaState). length a.slots) c.in_ok-arena.ensures.new ∙ length-replicate slots unused_slot in
+    let room : length c.in_ok-arena.arena.slots ≤ slots = omega arith in
     let fi = c.in_ok-index.ensures.fits c.in_ok-arena.arena room in
     let fd = c.in_ok-deferred.ensures.fits c.in_ok-arena.arena room in
     let v = ap (λ (z : KeyMap). let r : PartsView = record { index = z; lists = g.D.Deferred.lists c.in_ok-deferred.deferred c.in_ok-arena.arena; arena = c.in_ok-arena.arena } in r) (c.in_ok-index.ensures.empty c.in_ok-arena.arena room)
     ∙ (ap (λ (q : Queues). let r : PartsView = record { index = map.empty; lists = q; arena = c.in_ok-arena.arena } in r) (c.in_ok-deferred.ensures.lists c.in_ok-arena.arena)
     ∙ ap (λ (a : ArenaState). let r : PartsView = record { index = map.empty; lists = record { next = []; waiting = []; ready = [] }; arena = a } in r) c.in_ok-arena.ensures.new) in
-    ((fi, fd), subst IsParted (sym v) (parted-fresh c.args.slots c.args.key_len c.args.value_len c.args.limit))
+    ((fi, fd), subst IsParted (sym v) (parted-fresh slots c.args.shape.key_len c.args.shape.value_len c.args.shape.reuse_limit))

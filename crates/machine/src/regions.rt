@@ -1,0 +1,20 @@
+//! Where memory stands among the words: regions begin at multiples of `SPAN`, first the context, the frame
+//! and the maps themselves, then the slots of the maps.
+
+/// Regions begin at multiples of this.
+pub const SPAN: u64 = 1 << 31;
+
+/// A word lies at most so far before the beginning of its region.
+pub const NEAR: u64 = 1 << 29;
+
+/// The word of the context's first byte.
+pub(crate) const CTX_BASE: u64 = 1 << 40;
+
+/// The word of the frame's first byte.
+pub(crate) const FRAME_BASE: u64 = 1 << 41;
+
+/// The word of the first map.
+pub(crate) const MAP_BASE: u64 = 1 << 42;
+
+/// The word of the first byte of slot 0 of map 0.
+pub const SLOT_BASE: u64 = 1 << 43;
