@@ -10,6 +10,7 @@ use Rattle.bpf_model.specs.declared.insn.Operand.TheVariants.{Register, Immediat
 use Rattle.bpf_model.specs.declared.opcode.Size.TheVariants.{Word64}
 use Rattle.bpf_model.specs.declared.opcode.Width.TheVariants.{Four, Eight}
 use Rattle.bpf_model.specs.declared.opcode.Condition.TheVariants.{Equal}
+use Rattle.bpf_model.specs.Machine.{Loaded}
 
 -- keys of 4 bytes, values of 8
 abbrev pub example_shape : MapShape
@@ -30,3 +31,7 @@ lookup_and_load =
     Call Kernel (pos 2) ∷
     Alu Move Word64 0 (Register 6) ∷
     Exit ∷ []
+
+-- the program, with the one map, on an empty context
+abbrev pub lookup_program : Loaded
+lookup_program = record { code = lookup_and_load; maps = 0 ∷ []; context_len = 0 }

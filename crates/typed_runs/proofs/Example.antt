@@ -31,7 +31,7 @@ use Rattle.bpf_model.specs.Places.{LeadsTo}
 use Rattle.bpf_model.specs.Step.{State, Environment, Outcome, Moves, Exits, after, put, sets, store_to}
 use Rattle.bpf_model.specs.Element.{Element}
 use Rattle.bpf_model.specs.MachineStep.{AccessesElement, element_store, NeverStuck}
-use Rattle.model_laws.specs.Example.{lookup_and_load, example_shape}
+use Rattle.model_laws.specs.Example.{lookup_and_load, lookup_program, example_shape}
 use Rattle.scalar_domain.specs.Scalar.{Holds}
 use Rattle.scalar_domain.specs.declared.scalar.Scalar.{Scalar}
 use Rattle.scalar_domain.specs.Constant.{constant_of}
@@ -384,17 +384,13 @@ module _ (any : Scalar) (all : (n : ℕ) → n < 2 ^ 64 → Holds any n) where
     });
   }
 
--- a machine with this program
-abbrev pub loaded : Loaded
-loaded = record { code = lookup_and_load; maps = 0 ∷ []; context_len = 0 }
-
 bound-one : (i : ℕ) (shape : MapShape) → slice_get shapes i ≡ Some shape → (map : ℕ) × (state : MapState) × (slice_get (0 ∷ []) i ≡ Some map) × (slice_get (new_map example_shape ∷ []) map ≡ Some state) × (state.shape ≡ shape)
 bound-one zero shape at = (0, new_map example_shape, refl, refl, same_Some example_shape shape at)
 bound-one (suc i) shape at = absurd (none-some shape at)
 
-safe-one : (any : Scalar) → ((n : ℕ) → n < 2 ^ 64 → Holds any n) → (p : ℕ) (program : Loaded) → slice_get (loaded ∷ []) p ≡ Some program → IsVerifiedFor (new_map example_shape ∷ []) program
-safe-one any all zero program at = subst (IsVerifiedFor (new_map example_shape ∷ [])) (same_Some loaded program at) (record { shapes = shapes; bound = record { count = refl; each = bound-one }; verified = lookup_is_verified any all })
+pub safe-one : (any : Scalar) → ((n : ℕ) → n < 2 ^ 64 → Holds any n) → (p : ℕ) (program : Loaded) → slice_get (lookup_program ∷ []) p ≡ Some program → IsVerifiedFor (new_map example_shape ∷ []) program
+safe-one any all zero program at = subst (IsVerifiedFor (new_map example_shape ∷ [])) (same_Some lookup_program program at) (record { shapes = shapes; bound = record { count = refl; each = bound-one }; verified = lookup_is_verified any all })
 safe-one any all (suc p) program at = absurd (none-some program at)
 
-pub lookup_never_stuck : (any : Scalar) → ((n : ℕ) → n < 2 ^ 64 → Holds any n) → (s : Schedule) → IsReachedSchedule (example_shape ∷ []) (record { code = lookup_and_load; maps = 0 ∷ []; context_len = 0 } ∷ []) s → NeverStuck s.machine
-lookup_never_stuck any all s r = well_never_stuck s.machine (reached_is_well (example_shape ∷ []) (loaded ∷ []) s (safe-one any all) r)
+pub lookup_never_stuck : (any : Scalar) → ((n : ℕ) → n < 2 ^ 64 → Holds any n) → (s : Schedule) → IsReachedSchedule (example_shape ∷ []) (lookup_program ∷ []) s → NeverStuck s.machine
+lookup_never_stuck any all s r = well_never_stuck s.machine (reached_is_well (example_shape ∷ []) (lookup_program ∷ []) s (safe-one any all) r)

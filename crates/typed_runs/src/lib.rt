@@ -38,7 +38,7 @@ ghost use Rattle.bpf_model.specs.Headline.{AreNeverStuck, ExitsInTime, AllExitIn
 ghost use Rattle.bpf_model.specs.Consistent.{IsConsistent};
 ghost use Rattle.scalar_domain.specs.Scalar.{Holds};
 ghost use Rattle.scalar_domain.specs.declared.scalar.Scalar.{Scalar};
-ghost use Rattle.model_laws.specs.Example.{lookup_and_load, example_shape};
+ghost use Rattle.model_laws.specs.Example.{lookup_and_load, lookup_program, example_shape};
 ghost use Rattle.typed_runs.specs.Kinds.{Kind, Num, FrameAt, ValueAt, MaybeNull, PartCell, AbsState};
 ghost use Rattle.typed_runs.specs.Describes.{Scene, scene_of, HasOffset, Describes};
 ghost use Rattle.typed_runs.specs.Effects.{with_kind, with_cells, after_call, after_lock, after_unlock, when_null, when_there, IsFresh, IsAlwaysInside, HasMap, HasBytes, IsWritten, IsPointer, IsNumberOperand};
@@ -291,7 +291,7 @@ pub fn lookup_is_verified()
 pub fn lookup_never_stuck()
     ensures { (any : Scalar) → ((n : ℕ) → n < 2 ^ 64 → Holds any n) → (s : Schedule)
         → IsReachedSchedule (example_shape ∷ [])
-        (record { code = lookup_and_load; maps = 0 ∷ []; context_len = 0 } ∷ []) s
+        (lookup_program ∷ []) s
         → NeverStuck s.machine }
 {}
 

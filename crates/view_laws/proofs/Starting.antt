@@ -7,7 +7,7 @@ use Rattle.std.proofs.lemmas.List.{length-replicate}
 use Rattle.arrayvec.specs.ArrayVec.{ArrayVec}
 use Rattle.bpf_model.specs.declared.event.Event.TheVariants as events
 use Rattle.bpf_model.specs.declared.event.Answer.TheVariants.{Started}
-use Rattle.bpf_model.specs.declared.limits.TheConstants.{FRAME_BYTES}
+use Rattle.bpf_model.specs.declared.limits.TheConstants.{FRAME_BYTES, REGISTERS}
 use Rattle.bpf_model.specs.declared.event.EventRefusal.{EventRefusal}
 use Rattle.bpf_model.specs.declared.event.EventRefusal.TheVariants.{NoProgram, BadContext, RunsFull}
 use Rattle.bpf_model.specs.Step.{entry_value}
@@ -36,7 +36,7 @@ module _ (slots : List ℕ) (es : List Element) (programs : List Loaded) where
   free-agrees (Some v ∷ vs) (None ∷ runs) h = absurd (h 0)
   free-agrees (Some v ∷ vs) (Some run ∷ runs) h = ap (option_map (λ r. r + 1)) (free-agrees vs runs (λ r. h (suc r)))
 
-  fresh-words : (r : ℕ) → r < 11 → WordIs (element_bases slots es) (entry_value r) (slice_index (fresh_view 0 []).registers r)
+  fresh-words : (r : ℕ) → r < REGISTERS → WordIs (element_bases slots es) (entry_value r) (slice_index (fresh_view 0 []).registers r)
   fresh-words zero h = tt
   fresh-words (suc zero) h = refl
   fresh-words (suc (suc zero)) h = tt

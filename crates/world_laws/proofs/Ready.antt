@@ -3,7 +3,7 @@ use Rattle.std.proofs.Common.{◌≡◌, ℕ, ◌+◌, ◌^◌, ◌<◌, ◌≢�
 use Rattle.std.specs.Prelude.{slice_get, slice_index, ℤ, pos, negsuc, FitsSigned}
 use Rattle.std.specs.Int.{w32}
 use Rattle.std.proofs.lemmas.Int.{ints}
-use Rattle.bpf_model.specs.declared.limits.TheConstants.{FRAME_BYTES}
+use Rattle.bpf_model.specs.declared.limits.TheConstants.{FRAME_BYTES, REGISTERS}
 use Rattle.bpf_model.specs.declared.insn.Insn.{Insn}
 use Rattle.bpf_model.specs.declared.insn.Operand.{Operand}
 use Rattle.bpf_model.specs.declared.insn.Operand.TheVariants.{Register, Immediate}
@@ -45,7 +45,7 @@ immediate-below (negsuc n) f = omega arith
 
 -- the words after a move, over any elements
 pub move-refines : (slots : List ℕ) (es : List Element) (programs : List Loaded) (v : RunView) (run : Run) → RunRefines slots es programs v run → (registers frame : List ℕ) (place : ℕ) (next : State)
-    → length registers ≡ 11 → ((q : ℕ) → q < 11 → WordIs (element_bases slots es) (next.regs q) (slice_index registers q))
+    → length registers ≡ REGISTERS → ((q : ℕ) → q < REGISTERS → WordIs (element_bases slots es) (next.regs q) (slice_index registers q))
     → length frame ≡ FRAME_BYTES → ((j : ℕ) → j < FRAME_BYTES → ByteIs (element_bases slots es) (next.frame j) (slice_index frame j)) → place ≡ next.place → RunRefines slots es programs (moved_view registers frame place v) (moves run next)
 move-refines slots es programs v run h registers frame place next eleven regs cells bytes at = record {
   program = h.program;
@@ -126,7 +126,7 @@ module _ (w : WorldView) (s : Schedule) (m : Matches w s) (sound : IsSound w s) 
       (l.1 k.going).planned.describes.near
 
   -- the words after a move
-  pub moved-refines : (registers frame : List ℕ) (place : ℕ) (next : State) → length registers ≡ 11 → ((q : ℕ) → q < 11 → WordIs bases (next.regs q) (slice_index registers q))
+  pub moved-refines : (registers frame : List ℕ) (place : ℕ) (next : State) → length registers ≡ REGISTERS → ((q : ℕ) → q < REGISTERS → WordIs bases (next.regs q) (slice_index registers q))
       → length frame ≡ FRAME_BYTES → ((j : ℕ) → j < FRAME_BYTES → ByteIs bases (next.frame j) (slice_index frame j)) → place ≡ next.place → Refines (moved_view registers frame place v) (moves run next)
   moved-refines registers frame place next eleven regs cells bytes at = move-refines slots es s.machine.programs v run refines registers frame place next eleven regs cells bytes at
 

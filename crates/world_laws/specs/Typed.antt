@@ -9,7 +9,7 @@ use Rattle.bpf_model.specs.declared.insn.UnaryOp.{UnaryOp}
 use Rattle.bpf_model.specs.declared.insn.UnaryOp.TheVariants.{Negate, ByteSwap, MoveSigned}
 use Rattle.bpf_model.specs.declared.insn.Operand.{Operand}
 use Rattle.bpf_model.specs.declared.insn.Operand.TheVariants.{Register, Immediate}
-use Rattle.bpf_model.specs.declared.limits.TheConstants.{MAX_MAPS}
+use Rattle.bpf_model.specs.declared.limits.TheConstants.{MAX_MAPS, REGISTERS}
 use Rattle.bpf_model.specs.declared.value.Reference.{Reference}
 use Rattle.bpf_model.specs.declared.value.Reference.TheVariants.{Ctx, Frame, MapRef, Elem}
 use Rattle.bpf_model.specs.Machine.{Loaded, Run, Machine, run_at}
@@ -22,7 +22,7 @@ use Rattle.typed_runs.specs.Well.{IsWell, AreVerified}
 -- The registers that an instruction names are r0 to r10, and a number as operand has 32 bits: in a
 -- definition they would else be any.
 abbrev pub IsRegister : ℕ → Type 0
-IsRegister r = r < 11
+IsRegister r = r < REGISTERS
 
 abbrev pub IsOperand : Operand → Type 0
 IsOperand (Register r) = IsRegister r

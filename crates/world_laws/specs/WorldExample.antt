@@ -8,18 +8,14 @@ use Rattle.bpf_model.specs.declared.event.Answer.{Answer}
 use Rattle.bpf_model.specs.declared.event.Answer.TheVariants.{Started, Moved, Exited, Ret, Done}
 use Rattle.bpf_model.specs.declared.event.Answer.TheVariants.{Reaped}
 use Rattle.bpf_model.specs.declared.event.Given.TheVariants.{Free}
-use Rattle.bpf_model.specs.Machine.{Loaded}
 use Rattle.bpf_model.specs.View.{WorldView, start_view}
-use Rattle.model_laws.specs.Example.{lookup_and_load, example_shape}
+use Rattle.model_laws.specs.Example.{lookup_program, example_shape}
 
 abbrev pub key_zero : ArrayVec ℕ
 key_zero = record { items = 0 ∷ 0 ∷ 0 ∷ 0 ∷ [] }
 
 abbrev pub two_bytes : ArrayVec ℕ
 two_bytes = record { items = 7 ∷ 1 ∷ 0 ∷ 0 ∷ 0 ∷ 0 ∷ 0 ∷ 0 ∷ [] }
-
-abbrev pub lookup_program : Loaded
-lookup_program = record { code = lookup_and_load; maps = 0 ∷ []; context_len = 0 }
 
 -- One map and the program that looks up key 0 in a section, and exits with the value.
 abbrev pub example_world : WorldView
