@@ -13,6 +13,7 @@ mod limits;
 mod opcode;
 mod reg;
 mod slot;
+mod stat;
 mod value;
 
 pub use array::array_of;
@@ -30,4 +31,5 @@ pub use opcode::{
 };
 pub use reg::Reg;
 pub use slot::Slot;
+pub use stat::Stat;
 pub use value::{Cell, Reference, Value};

@@ -11,7 +11,7 @@ use std::alloc::{AllocError, Global};
 /// Both edges of a comparison of 64 bits that jumps where what may be null is equal to the number
 /// 0. Where it is null, all registers and all bytes of the frame of its identity are 0; elsewhere
 /// they are the element's value. The state itself becomes that where control falls through, the
-/// answer is that where it jumps.
+/// answer is that where it jumps. Fails where memory runs out.
 pub fn fork_equal(state: &mut AbsState, alloc: Global, id: u32) -> Result<Box<AbsState>, AllocError>
     ensures sound { IfOk result (λ taken. (dst map : ℕ)
         → kind_in state.old.regs dst ≡ RegKind.MaybeNull map id

@@ -98,7 +98,7 @@ pub fn fork(
 }
 
 /// Both edges of a comparison with the number 0 of an element's value, which is never 0: nothing is
-/// learnt.
+/// learnt. Fails where memory runs out.
 pub fn fork_value(state: &AbsState, alloc: Global) -> Result<Box<AbsState>, AllocError>
     ensures sound { IfOk result (λ taken. (equal : Bool) (dst map : ℕ) (s : Scalar)
         → kind_in state.now.regs dst ≡ RegKind.Value map s

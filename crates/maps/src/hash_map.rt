@@ -273,7 +273,7 @@ impl<I: Index + Drop, D: Deferred + Drop> HashMap<I, D> {
         })
     }
 
-    /// Another map in the same state.
+    /// Another map in the same state. Fails where memory runs out.
     pub fn copy(&self, alloc: Global) -> Result<HashMap<I, D>, AllocError>
         ensures { IfOk result (λ m. m ≡ self.now) }
     {

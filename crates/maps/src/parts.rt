@@ -247,7 +247,7 @@ impl<I: Index + Drop, D: Deferred + Drop> Parts<I, D> {
         })
     }
 
-    /// Other parts in the same state.
+    /// Other parts in the same state. Fails where memory runs out.
     pub fn copy(&self, alloc: Global) -> Result<Parts<I, D>, AllocError>
         ensures { IfOk result (λ p. p ≡ self.now) }
     {

@@ -22,7 +22,7 @@ pub fn is_inside(slot: &Option<Run>) -> bool
     }
 }
 
-/// For each run slot whether its run is inside a section.
+/// For each run slot whether its run is inside a section. Fails where memory runs out.
 pub fn open_flags(alloc: Global, runs: &[Option<Run>]) -> Result<Vec<bool>, AllocError>
     ensures { (programs : List PlainLoaded) →
         IfOk result (λ flags. flags.items ≡ open_flags_of (runs_of programs runs.now)) }
@@ -52,7 +52,7 @@ fn push_section(sections: &mut Vec<Section>, slot: &Option<Run>) -> Result<(), A
     Ok(())
 }
 
-/// The sections that are open.
+/// The sections that are open. Fails where memory runs out.
 pub fn open_sections(alloc: Global, runs: &[Option<Run>]) -> Result<Vec<Section>, AllocError>
     ensures { (programs : List PlainLoaded) →
         IfOk result

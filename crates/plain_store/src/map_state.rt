@@ -30,7 +30,7 @@ fn put_unused(bag: &mut Vec<u32>, count: usize) -> Result<(), AllocError>
 }
 
 impl MapState {
-    /// A map of which no slot was ever used.
+    /// A map of which no slot was ever used. Fails where memory runs out.
     pub fn new(alloc: Global, shape: MapShape) -> Result<MapState, AllocError>
         ensures { IfOk result (λ m. map_of m ≡ new_map shape) }
     {

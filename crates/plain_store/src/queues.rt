@@ -36,6 +36,7 @@ pub fn retire_all(
 }
 
 /// Those that waited are ready, and those unlinked meanwhile wait, in each map.
+/// Fails where memory runs out.
 pub fn turn_all(queues: &mut [Queues]) -> Result<(), AllocError>
     ensures { OnOk result (map queues_of queues.new ≡ map turned (map queues_of queues.old)) }
 {

@@ -31,7 +31,7 @@ pub struct Store {
 }
 
 impl Store {
-    /// No element, and maps of these shapes.
+    /// No element, and maps of these shapes. Fails where memory runs out.
     pub fn new(alloc: Global, shapes: &[MapShape]) -> Result<Store, AllocError>
         ensures { IfOk result
             (λ s. store_of s ≡ record { elements = []; maps = map new_map shapes.now }) }
@@ -200,7 +200,7 @@ impl Store {
         Ok(Ok(()))
     }
 
-    /// The value of the element that the map has under the key.
+    /// The value of the element that the map has under the key. Fails where memory runs out.
     pub fn read(&self, map: usize, key: &[u8]) -> Result<Option<ValueBytes>, AllocError>
         ensures { IfOk result
             (λ found.
@@ -274,7 +274,7 @@ impl Store {
         save(&mut self.elements[n], width, o, offset, number)
     }
 
-    /// For each element the map that it is linked in.
+    /// For each element the map that it is linked in. Fails where memory runs out.
     pub fn linked_maps(&self, alloc: Global) -> Result<Vec<Option<usize>>, AllocError>
         ensures { IfOk result
             (λ maps. maps.items ≡ map linked_map (elements_of self.now.elements.items)) }

@@ -51,7 +51,7 @@ fn at_entry() -> AbsState
 
 impl AbsState {
     /// The state at a program's entry: r1 the context, r10 the end of the frame, all else
-    /// unwritten.
+    /// unwritten. Fails where memory runs out.
     pub fn entry(alloc: Global) -> Result<Box<AbsState>, AllocError>
         ensures alike { IfOk result (λ a. AreAlike entry_state (state_of a.value)) }
         ensures below { IfOk result (λ a. AreBelow 0 a.value) }
@@ -59,7 +59,7 @@ impl AbsState {
         Ok(Box::new(alloc, at_entry())?)
     }
 
-    /// An equal state.
+    /// An equal state. Fails where memory runs out.
     pub fn copy(&self, alloc: Global) -> Result<Box<AbsState>, AllocError>
         ensures { IfOk result (λ a. a.value ≡ self.now) }
     {

@@ -6,6 +6,7 @@ use Rattle.bpf_model.specs.Call.{errno_number}
 use Rattle.bpf_model.specs.declared.call.Errno.{Errno}
 use Rattle.bpf_model.specs.declared.event.Given.{Given}
 use Rattle.bpf_model.specs.declared.event.Given.TheVariants as given
+use Rattle.bpf_model.specs.declared.stat.Stat.{Stat}
 use Rattle.script_lines.specs.declared.reply.Reply.{Reply}
 use Rattle.script_lines.specs.declared.reply.Reply.TheVariants as replies
 
@@ -35,11 +36,11 @@ reaped_text map key given =
 abbrev pub counted : List ℕ → ℕ → List ℕ
 counted word number = word ++ decimal number
 
-abbrev pub stat_text : ℕ → ℕ → ℕ → ℕ → ℕ → ℕ → List ℕ
-stat_text linked unlinked reclaimed worn runs sections =
-    (counted (codes "stat linked ") linked ++ counted (codes " unlinked ") unlinked)
-    ++ (counted (codes " given ") reclaimed ++ counted (codes " worn ") worn)
-    ++ (counted (codes " runs ") runs ++ counted (codes " open ") sections)
+abbrev pub stat_text : Stat → List ℕ
+stat_text stat =
+    (counted (codes "stat linked ") stat.linked ++ counted (codes " unlinked ") stat.unlinked)
+    ++ (counted (codes " given ") stat.given ++ counted (codes " worn ") stat.worn)
+    ++ (counted (codes " runs ") stat.runs ++ counted (codes " open ") stat.«open»)
 
 -- an answer's line, without the line feed that ends it
 abbrev pub reply_line : Reply → List ℕ
@@ -53,8 +54,7 @@ reply_line replies.Moved = codes "moved"
 reply_line (replies.Exit value) = codes "exit " ++ decimal value
 reply_line replies.Done = codes "ok"
 reply_line (replies.Reaped map key given) = reaped_text map key.items given
-reply_line (replies.Stat linked unlinked reclaimed worn runs sections) =
-    stat_text linked unlinked reclaimed worn runs sections
+reply_line (replies.Stat stat) = stat_text stat
 reply_line (replies.Element key value) = bytes_text key.items ++ codes " " ++ bytes_text value.items
 reply_line replies.End = codes "end"
 reply_line (replies.Refused code slot) = codes "refused " ++ decimal code ++ slot_text slot

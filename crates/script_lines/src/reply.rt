@@ -1,7 +1,7 @@
 //! Answers.
 
 use crate::name::Name;
-use bpf_model::{Errno, Given, KeyBytes, MapId, ProgId, RunId, ValueBytes};
+use bpf_model::{Errno, Given, KeyBytes, MapId, ProgId, RunId, Stat, ValueBytes};
 
 /// What a command is answered, each one line.
 #[derive(Drop)]
@@ -31,14 +31,7 @@ pub enum Reply<'a> {
         given: Given,
     },
     /// `stat linked A unlinked B given C worn D runs E open F`.
-    Stat {
-        linked: usize,
-        unlinked: usize,
-        given: usize,
-        worn: usize,
-        runs: usize,
-        open: usize,
-    },
+    Stat(Stat),
     /// `KEY VALUE`: a line of a `dump`.
     Element {
         key: KeyBytes,

@@ -6,7 +6,7 @@ ghost use Rattle.script_lines.specs.Answers.{bytes_text, ret_text, given_text, s
 
 use crate::name::Name;
 use crate::reply::Reply;
-use bpf_model::{Errno, Given, KeyBytes, VALUE_BYTES};
+use bpf_model::{Errno, Given, KeyBytes, Stat, VALUE_BYTES};
 use itoa::Buffer;
 use std::alloc::AllocError;
 
@@ -105,21 +105,12 @@ fn push_pair(
 }
 
 #[tactic(auto, using(std::proofs::Common::append_assoc))]
-fn push_stat(
-    out: &mut Vec<u8>,
-    linked: usize,
-    unlinked: usize,
-    given: usize,
-    worn: usize,
-    runs: usize,
-    open: usize,
-) -> Result<(), AllocError>
-    ensures { OnOk result
-        (out.new.items ≡ out.old.items ++ stat_text linked unlinked given worn runs «open») }
+fn push_stat(out: &mut Vec<u8>, stat: Stat) -> Result<(), AllocError>
+    ensures { OnOk result (out.new.items ≡ out.old.items ++ stat_text stat) }
 {
-    push_pair(out, "stat linked ", linked, " unlinked ", unlinked)?;
-    push_pair(out, " given ", given, " worn ", worn)?;
-    push_pair(out, " runs ", runs, " open ", open)
+    push_pair(out, "stat linked ", stat.linked, " unlinked ", stat.unlinked)?;
+    push_pair(out, " given ", stat.given, " worn ", stat.worn)?;
+    push_pair(out, " runs ", stat.runs, " open ", stat.open)
 }
 
 #[tactic(auto, using(std::proofs::Common::append_assoc))]
@@ -163,14 +154,7 @@ fn push_line(out: &mut Vec<u8>, reply: &Reply<'_>) -> Result<(), AllocError>
         }
         Reply::Done => push_text(out, "ok"),
         Reply::Reaped { map, key, given } => push_reaped(out, map, key, *given),
-        Reply::Stat {
-            linked,
-            unlinked,
-            given,
-            worn,
-            runs,
-            open,
-        } => push_stat(out, *linked, *unlinked, *given, *worn, *runs, *open),
+        Reply::Stat(stat) => push_stat(out, *stat),
         Reply::Element { key, value } => {
             push_bytes(out, key)?;
             push_next_bytes(out, value)

@@ -1,5 +1,5 @@
 //! Answers, and their texts.
-use bpf_model::{Errno, Given, KeyBytes, MapId, ProgId, RunId, ValueBytes};
+use bpf_model::{Errno, Given, KeyBytes, MapId, ProgId, RunId, Stat, ValueBytes};
 use script_lines::{Name, Reply, write_reply};
 use std::alloc::AllocError;
 use std::test::Fail;
@@ -79,14 +79,14 @@ const REFUSALS: &[u8] = b"stat linked 1 unlinked 20 given 300 worn 4 runs 64 ope
 refused 56\nrefused 33 at 4095\nrefused 4 at 0\n";
 
 fn write_refusals(out: &mut Vec<u8>) -> Result<(), AllocError> {
-    let stat = Reply::Stat {
+    let stat = Reply::Stat(Stat {
         linked: 1,
         unlinked: 20,
         given: 300,
         worn: 4,
         runs: 64,
         open: 0,
-    };
+    });
     write_reply(&stat, out)?;
     for (code, slot) in [(56, None), (33, Some(4095)), (4, Some(0))] {
         write_reply(&Reply::Refused { code, slot }, out)?;

@@ -52,7 +52,7 @@ impl NameTable {
         }
     }
 
-    /// Adds the name of the next map.
+    /// Adds the name of the next map. Fails where memory runs out.
     pub fn add(&mut self, alloc: Global, name: &[u8]) -> Result<(), AllocError>
         ensures ok { OnOk result (self.new ≡ self.old ++ name.now ∷ []) }
         ensures err { OnErr result (self.new ≡ self.old) }

@@ -11,7 +11,6 @@ use Rattle.bpf_model.specs.Event.{event_refusal_number}
 use Rattle.bpf_model.specs.Machine.{Loaded}
 use Rattle.bpf_model.specs.View.{MapView, WorldView}
 use Rattle.world_laws.specs.Reacting.{full_reaction, full_reactions}
-use Rattle.world_parts.specs.declared.stat.Stat.{Stat}
 use Rattle.world_parts.specs.Asking.{stat_of, IsFound, HasNone}
 use Rattle.script_lines.specs.declared.reply.Reply.{Reply}
 use Rattle.script_lines.specs.declared.reply.Reply.TheVariants as replies
@@ -22,11 +21,6 @@ use Rattle.script_requests.specs.Replying.{refused, reply_to}
 -- A world is made, and maps and programs are made no more.
 abbrev pub SEALED_NUMBER : ℕ
 SEALED_NUMBER = 56
-
--- the counts of a world
-abbrev pub stat_reply : Stat → Reply
-stat_reply stat =
-    replies.Stat stat.linked stat.unlinked stat.given stat.worn stat.runs stat.«open»
 
 -- a context that is longer than any has another length than each program's
 abbrev pub overlong_refusal : Option Loaded → EventRefusal
@@ -69,7 +63,7 @@ Replies names w (asked.Overlong prog) es rs new =
 Replies names w (asked.Steps run count) es rs new =
     (answer : Answer) × MakesSteps w run count es answer new × (rs ≡ reply_to names answer ∷ [])
 Replies names w asked.Counts es rs new =
-    (es ≡ []) × (rs ≡ stat_reply (stat_of w) ∷ []) × (new ≡ w)
+    (es ≡ []) × (rs ≡ replies.Stat (stat_of w) ∷ []) × (new ≡ w)
 Replies names w (asked.Elements map) es rs new =
     (elements : List Reply) × AreElements (slice_get w.maps map) None elements
     × (es ≡ []) × (rs ≡ elements ++ replies.End ∷ []) × (new ≡ w)

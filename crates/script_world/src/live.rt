@@ -1,10 +1,10 @@
 //! A world and the names of its maps.
 
 use crate::dumping::write_elements;
-use crate::replying::{refusal_of_overlong, stat_reply};
+use crate::replying::refusal_of_overlong;
 use crate::steps::make_steps;
 use bpf_model::Event;
-use script_lines::{Command, write_reply};
+use script_lines::{Command, Reply, write_reply};
 use script_requests::{Asked, NameTable, ask, refused, write_answer};
 use std::alloc::AllocError;
 use world::World;
@@ -47,7 +47,7 @@ impl Live {
                 let answer = make_steps(&mut self.world, run, count);
                 write_answer(&self.names, &answer, out)
             }
-            Asked::Counts => write_reply(&stat_reply(self.world.stat()), out),
+            Asked::Counts => write_reply(&Reply::Stat(self.world.stat()), out),
             Asked::Elements(map) => write_elements(&self.world, map, out),
         }
     }

@@ -19,7 +19,7 @@ fn zeros(count: usize) -> CtxBytes
     bytes
 }
 
-/// So many jobs of program 0, each on a context of so many bytes, all zero.
+/// So many jobs of program 0, each on a context of so many bytes, all zero. Fails where memory runs out.
 pub fn jobs_of(alloc: Global, count: usize, ctx_len: usize) -> Result<Vec<Job>, AllocError>
     requires { ctx_len ≤ CTX_BYTES }
     ensures count { IfOk result (λ jobs. length jobs.items ≡ count) }

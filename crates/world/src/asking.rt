@@ -7,10 +7,10 @@ ghost use Rattle.world_parts.specs.Asking.{stat_of, IsFound, HasNone};
 ghost use Rattle.world_parts.specs.Programs.{program_of};
 
 use crate::world::World;
-use bpf_model::{CtxBytes, KeyBytes, MapId, ProgId, RunId, ValueBytes};
+use bpf_model::{CtxBytes, KeyBytes, MapId, ProgId, RunId, Stat, ValueBytes};
 use maps::Registry;
 use verifier::Verified;
-use world_parts::{Loaded, Stat};
+use world_parts::Loaded;
 
 impl World {
     /// The exit value of the run in a run slot, where it has ended and was started with this program's

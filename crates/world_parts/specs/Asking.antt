@@ -5,7 +5,7 @@ use Rattle.hash_index.specs.Order.{NoneAbove}
 use Rattle.bpf_model.specs.View.{MapView, WorldView}
 use Rattle.maps.specs.Counting.{linked_in, unlinked_in, worn_in}
 use Rattle.maps.specs.Shown.{IsNext}
-use Rattle.world_parts.specs.declared.stat.Stat.{Stat}
+use Rattle.bpf_model.specs.declared.stat.Stat.{Stat}
 
 -- The counts of a world.
 abbrev pub stat_of : WorldView → Stat

@@ -7,8 +7,7 @@ ghost use Rattle.world_parts.specs.Asking.{stat_of, IsFound, HasNone};
 use crate::loaded::Loaded;
 use crate::parts::Parts;
 use crate::places::{program_at, run_at};
-use crate::stat::Stat;
-use bpf_model::{CtxBytes, Insn, KeyBytes, MapId, ProgId, RunId, ValueBytes};
+use bpf_model::{CtxBytes, Insn, KeyBytes, MapId, ProgId, RunId, Stat, ValueBytes};
 use machine::Run;
 use verifier::Verified;
 

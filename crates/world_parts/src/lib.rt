@@ -13,9 +13,7 @@ mod parts;
 mod places;
 mod reclaim;
 mod starting;
-mod stat;
 mod step;
 
 pub use loaded::Loaded;
 pub use parts::Parts;
-pub use stat::Stat;

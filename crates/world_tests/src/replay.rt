@@ -1,13 +1,12 @@
 //! Machines and worlds over lines of events.
 use crate::script::{Command, command_of, tell, tell_answer};
-use bpf_model::{Answer, Event, RunId};
+use bpf_model::{Answer, Event, RunId, Stat};
 use plain_model::Machine;
 use plain_store::Fault;
 use std::alloc::{AllocError, Global};
 use std::fmt::Write;
 use std::test::Fail;
 use world::World;
-use world_parts::Stat;
 
 /// What answers events.
 pub trait Answering {

@@ -1,7 +1,7 @@
 use Rattle.std.proofs.Common.{◌≡◌, ◌∙◌, sym, ap, arith}
 use Rattle.std.specs.Prelude.{count_by, is_some}
 use Rattle.std.proofs.lemmas.Bool.Decides.{nat_tests}
-use Rattle.world_parts.specs.declared.stat.Stat.{Stat}
+use Rattle.bpf_model.specs.declared.stat.Stat.{Stat}
 use Rattle.shared.proofs.Quiet.{free-where-none, none-where-free}
 use Rattle.shared.proofs.books.is_quiet.Goals as goal
 

@@ -3,13 +3,14 @@ use Rattle.std.specs.Prelude.{OnOk, Ok, Err, slice_get}
 use Rattle.std.specs.List.{flat_map}
 use Rattle.bpf_model.specs.Event.{event_refusal_number}
 use Rattle.script_lines.specs.declared.reply.Reply.{Reply}
+use Rattle.script_lines.specs.declared.reply.Reply.TheVariants as replies
 use Rattle.script_lines.specs.declared.reply.Reply.TheVariants.{End}
 use Rattle.script_lines.specs.Answers.{reply_text}
 use Rattle.script_requests.specs.declared.asked.Asked.TheVariants as asked
 use Rattle.script_requests.specs.Replying.{refused, reply_to}
 use Rattle.world_parts.specs.Asking.{stat_of}
 use Rattle.script_world.specs.Lives.{IsReplied}
-use Rattle.script_world.specs.Replies.{AreElements, SEALED_NUMBER, stat_reply, overlong_refusal}
+use Rattle.script_world.specs.Replies.{AreElements, SEALED_NUMBER, overlong_refusal}
 use Rattle.script_world.proofs.Happening.{nothing, one_event, steps_happen}
 use Rattle.script_world.proofs.Replied.{replied, replied_once}
 use Rattle.script_world.proofs.live.Live.answer_asked.Goals as goal
@@ -39,7 +40,7 @@ returns-in-Steps c =
 
 pub returns-in-Counts : goal.returns-in-Counts
 returns-in-Counts c =
-    replied_once c.args.self.now c.args.asked asked.Counts [] c.stat_reply.result (stat_reply (stat_of c.args.self.now.world)) c.args.self.now.world _ _ c.write_reply-in-Counts.result c.in-Counts.is (nothing c.args.self.now.world c.is_world.ensures) (c.stat_reply.ensures ∙ ap stat_reply c.stat.ensures) (refl, refl, refl) c.write_reply-in-Counts.ensures
+    replied_once c.args.self.now c.args.asked asked.Counts [] (replies.Stat c.stat.result) (replies.Stat (stat_of c.args.self.now.world)) c.args.self.now.world _ _ c.write_reply-in-Counts.result c.in-Counts.is (nothing c.args.self.now.world c.is_world.ensures) (ap replies.Stat c.stat.ensures) (refl, refl, refl) c.write_reply-in-Counts.ensures
 
 pub returns-in-Elements : goal.returns-in-Elements
 returns-in-Elements c = elim (c.write_elements.result) as (λ r. OnOk r ((elements : List Reply) × AreElements (slice_get c.args.self.now.world.maps c.in-Elements.map) None elements × (c.write_elements.new.out.items ≡ c.args.out.now.items ++ flat_map reply_text (elements ++ End ∷ []))) → OnOk r (IsReplied c.args.self.now c.args.asked c.args.out.now.items c.write_elements.new.out.items c.args.self.now)) [

@@ -1,4 +1,4 @@
-//! The counts of a world.
+//! The counts that a world tells of itself.
 
 /// How many elements are linked and how many are unlinked and not yet reclaimed, over all maps; how many
 /// were reclaimed since the world began; how many slots are worn out; how many run slots are occupied; and
