@@ -99,14 +99,4 @@ impl Parts {
             Some(chosen) => find_into(chosen, key.as_slice(), answer),
         }
     }
-
-    /// The value of a key. Refused as a delete is.
-    pub fn read(&self, map: MapId, key: &KeyBytes) -> Answer
-        ensures answer { result ≡ (read_reaction self.now map key.now.items).0 }
-        ensures unchanged { (read_reaction self.now map key.now.items).1 ≡ self.now }
-    {
-        let mut answer = Answer::Done;
-        self.read_into(map, key, &mut answer);
-        answer
-    }
 }
