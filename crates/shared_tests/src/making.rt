@@ -1,7 +1,7 @@
 //! Worlds and jobs for the tests.
 
 use arrayvec::ArrayVec;
-use bpf_model::{CtxBytes, Event, KeyBytes, MapId, MapShape, ProgId, RunId, ValueBytes};
+use bpf_model::{CtxBytes, Event, KeyBytes, MapId, MapShape, ProgId, RunId, array_of};
 use insn_codec::decode;
 use maps::Registry;
 use std::alloc::{AllocError, Global};
@@ -55,19 +55,15 @@ const SHAPE: MapShape = MapShape {
 
 /// A key of 4 bytes.
 fn key_of(number: u8) -> KeyBytes {
-    let mut key = KeyBytes::new();
-    let _ = key.try_extend_from_slice(&[number, 0, 0, 0]);
-    key
+    array_of(&[number, 0, 0, 0])
 }
 
 /// Stores a value under a key, whether or not the key has one.
 pub fn update(key: u8, byte: u8) -> Event {
-    let mut value = ValueBytes::new();
-    let _ = value.try_extend_from_slice(&[byte, 0, 0, 0, 0, 0, 0, 0]);
     Event::Update {
         map: MapId::new(0),
         key: key_of(key),
-        value,
+        value: array_of(&[byte, 0, 0, 0, 0, 0, 0, 0]),
         flags: 0,
     }
 }
