@@ -38,7 +38,8 @@ pub record IsVerifiedFile (bytes : List ℕ) (program : List Insn) : Type 0 wher
   pub text_is : content.code ≡ text program
   pub verified : IsVerified program (registry_shapes content.registry) content.context
 
--- The file is such a one, with a program of so many instructions and slots.
+-- The file says a program that is verified with its maps and context, of so many instructions
+-- and slots.
 pub record IsAcceptedFile (bytes : List ℕ) (a : Accepted) : Type 0 where
   pub program : List Insn
   pub is : IsVerifiedFile bytes program
@@ -81,14 +82,16 @@ pub record IsVerifierVerdict (bytes : List ℕ) (v : Verdict) : Type 0 where
 abbrev pub IsDecodeRefusal : List ℕ → Verdict → Type 0
 IsDecodeRefusal bytes v = (v.code ≡ 13) ⊎ (IsFileVerdict bytes v ⊎ IsCodeVerdict bytes v)
 
--- Or it is the verifier's.
+-- What `check` refuses with: want of memory, a fault of the file or of its code, or the
+-- verifier's verdict.
 abbrev pub IsCheckedRefusal : List ℕ → Verdict → Type 0
 IsCheckedRefusal bytes v = IsDecodeRefusal bytes v ⊎ IsVerifierVerdict bytes v
 
--- The file has a verdict, and it isn't want of memory.
+-- The file, or its code, has a fault other than want of memory.
 abbrev pub IsRefusedByDecode : List ℕ → Type 0
 IsRefusedByDecode bytes = (v : Verdict) × (v.code ≢ 13) × IsDecodeRefusal bytes v
 
+-- so it has, or the verifier has a verdict of it
 abbrev pub IsRefusedByCheck : List ℕ → Type 0
 IsRefusedByCheck bytes = (v : Verdict) × (v.code ≢ 13) × IsCheckedRefusal bytes v
 

@@ -22,7 +22,7 @@ job_line number (Stopped run cause) =
     codes "job " ++ (decimal number
     ++ (codes " stopped " ++ (decimal (stop_cause_number cause) ++ codes "\n")))
 
--- of jobs from this number on
+-- the lines of jobs, numbered from this number on
 abbrev pub job_lines : ℕ → List Outcome → List ℕ
 job_lines number [] = []
 job_lines number (outcome ∷ outcomes) = job_line number outcome ++ job_lines (number + 1) outcomes
@@ -49,7 +49,8 @@ WritesPool count old new bytes =
     (outcomes : List Outcome) × (entries : ℕ) × ArePooled bytes count outcomes
     × Appends old new (pool_text outcomes entries)
 
--- The file says such a program, and the pool of so many workers and jobs has a fault.
+-- The file says a program that is verified with its maps and context, and the pool of so many
+-- workers and jobs has a fault.
 pub record IsPoolVerdict (workers count : ℕ) (bytes : List ℕ) (v : Verdict) : Type 0 where
   pub program : List Insn
   pub file : IsVerifiedFile bytes program
@@ -57,12 +58,13 @@ pub record IsPoolVerdict (workers count : ℕ) (bytes : List ℕ) (v : Verdict) 
   pub is : IsFaultOf workers count fault
   pub told : v.code ≡ pool_fault_number fault
 
--- It is what `check` says of the file, or else the pool's.
+-- The verdict is what `check` says of the file, or else the pool's.
 abbrev pub IsPoolRefusal : ℕ → ℕ → List ℕ → Verdict → Type 0
 IsPoolRefusal workers count bytes v =
     IsCheckedRefusal bytes v ⊎ IsPoolVerdict workers count bytes v
 
--- There is such a verdict, and it is neither want of memory nor a lost result.
+-- `pool` refuses the file or its numbers, by a verdict that is neither want of memory nor a lost
+-- result.
 abbrev pub IsRefusedByPool : ℕ → ℕ → List ℕ → Type 0
 IsRefusedByPool workers count bytes =
     (v : Verdict) × (v.code ≢ 13) × (v.code ≢ 92) × IsPoolRefusal workers count bytes v

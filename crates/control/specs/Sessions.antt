@@ -31,7 +31,7 @@ abbrev pub now_at : SetupView → Option Live → Session
 now_at setup None = sessions.Setup setup
 now_at setup (Some live) = sessions.Live live
 
--- It tracks the start of the machine that has these maps and programs.
+-- The world of these maps and programs tracks the start of the machine that has them.
 abbrev pub TracksStart : SetupView → Type 0
 TracksStart s = TracksSchedule (sealed s).world (start_schedule (shapes_made s) s.programs)
 

@@ -28,6 +28,7 @@ fn spelled(word: &str) -> &str {
 }
 
 impl Dialogue {
+    /// A dialogue without lines.
     pub fn new(alloc: Global) -> Dialogue {
         Dialogue {
             script: Vec::new(alloc),

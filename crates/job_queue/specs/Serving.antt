@@ -1,5 +1,6 @@
 -- What a pool's results say.
-use Rattle.std.specs.Prelude.{◌≡◌, ◌⊎◌, ℕ, ◌<◌, false, List, [], length, slice_get, Option, Some, All}
+use Rattle.std.specs.Prelude.{◌≡◌, ◌⊎◌, ℕ, ◌<◌, false, List, [], length, slice_get, Option, Some}
+use Rattle.std.specs.Prelude.{All}
 use Rattle.crossbeam_queue.specs.Passes.{Pass, view}
 use Rattle.job_queue.specs.Numbers.{pass_view, WasTaken}
 use Rattle.job_queue.specs.Sheet.{HasResult}

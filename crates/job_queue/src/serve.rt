@@ -3,8 +3,10 @@ use std::sync::Wait;
 
 /// What serves jobs, with a worker for each thread.
 pub trait Serve {
+    /// One job.
     type Job: Sync;
 
+    /// What a thread serves jobs with.
     type Worker: Send + Drop;
 
     /// What serving one job gives.
@@ -19,6 +21,7 @@ pub trait Serve {
     /// It is right for the job, by a worker between what it was and what it is.
     ghost fits: { Self → Self.Worker → Self.Worker → Self.Job → Self.Served → Type 0 };
 
+    /// Serves one job by a worker that may serve it, and leaves a worker that may serve the next.
     fn serve<R: Wait>(&self, rt: &R, worker: &mut Self::Worker, job: &Self::Job) -> Self::Served
         requires { ready self.now worker.old }
         ensures ready { ready self.now worker.new }
@@ -28,6 +31,7 @@ pub trait Serve {
     /// A worker that has served nothing is later than itself.
     ghost later_same: { (w : Self.Worker) → later w w };
 
+    /// What is later than a later worker is later.
     ghost later_again: { (u v w : Self.Worker) → later u v → later v w → later u w };
 
     /// What is right stays so, from an earlier beginning to a later end.

@@ -5,6 +5,7 @@ ghost use Rattle.job_queue.specs.declared.station.Station.{Station};
 ghost use Rattle.job_queue.specs.Serving.{IsNewStation, HasServed};
 
 use crate::numbers::{NumberPass, NumberQueue, Takes};
+use crate::pool::MAX_WORKERS;
 use crate::serve::Serve;
 use std::sync::Wait;
 use std::thread;
@@ -23,6 +24,7 @@ pub struct Station<W, T> {
     pub worker: W,
     pub pass: NumberPass,
     pub results: Vec<Numbered<T>>,
+    /// Whether memory ran out for a result; no further job was served then.
     pub short: bool,
 }
 
@@ -71,7 +73,7 @@ pub fn work_all<S: Serve + Sync, R: Threads + Wait + Sync>(
     thread::for_each_mut(
         rt,
         stations,
-        8,
+        MAX_WORKERS,
         &|_, station: &mut Station<S::Worker, S::Served>|
             requires { IsNewStation (IsPassOf queue.now) (S.ready serve.now) station.old }
             ensures { HasServed (S.fits serve.entry.now) S.later jobs.entry.now

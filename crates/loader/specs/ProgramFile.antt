@@ -48,7 +48,7 @@ pub record AddsMap (old : RegistryView) (line : List ℕ) (new : RegistryView) :
   pub names : new.names ≡ old.names ++ name ∷ []
   pub maps : new.maps ≡ old.maps ++ new_map_view shape ∷ []
 
--- so each of the lines, in order
+-- Each of the lines is of a map that the registry takes, one after another.
 abbrev pub AddMaps : RegistryView → List (List ℕ) → RegistryView → Type 0
 AddMaps old [] new = new ≡ old
 AddMaps old (line ∷ lines) new =

@@ -1,5 +1,6 @@
 //! A program file's lines, read one by one.
 ghost use Rattle.std.specs.Prelude.{◌≡◌, ℕ, ◌++◌, ◌∷◌, [], List, IfSome, IfNone, OnOk};
+ghost use Rattle.loader.specs.Loaded.{loaded_content};
 ghost use Rattle.loader.specs.ProgramFile.{FileContent, IsProgramFile, IsFileBeginning};
 ghost use Rattle.loader.specs.Reading.{HasLoaded, content_of};
 
@@ -12,8 +13,11 @@ use std::alloc::Global;
 /// Which lines come next.
 #[derive(Clone, Copy, Debug, PartialEq, Eq)]
 pub enum Stage {
+    /// The line of the context.
     Context,
+    /// Lines of maps, or the line `code`.
     Maps,
+    /// Lines of slots.
     Code,
 }
 
@@ -72,11 +76,7 @@ impl Loading {
     /// The file of the lines, if they are one.
     pub fn finish(self) -> Option<ProgramFile>
         ensures some { (lines : List (List ℕ)) → HasLoaded lines self →
-            IfSome result (λ f. IsProgramFile lines (record {
-              context = f.ctx_len;
-              registry = f.registry;
-              code = f.code.items;
-            })) }
+            IfSome result (λ f. IsProgramFile lines (loaded_content f)) }
         ensures none { (lines : List (List ℕ)) → HasLoaded lines self →
             IfNone result ((content : FileContent) → ¬ (IsProgramFile lines content)) }
     {

@@ -1,7 +1,8 @@
 -- The numbers by which the faults of a script are known.
 use Rattle.std.specs.Prelude.{ℕ}
 use Rattle.script_stream.specs.declared.fault.ScriptFault.{ScriptFault}
-use Rattle.script_stream.specs.declared.fault.ScriptFault.TheVariants.{BadCommand, Read, Write, Memory}
+use Rattle.script_stream.specs.declared.fault.ScriptFault.TheVariants.{BadCommand, Read, Write}
+use Rattle.script_stream.specs.declared.fault.ScriptFault.TheVariants.{Memory}
 
 abbrev pub script_fault_number : ScriptFault → ℕ
 script_fault_number (BadCommand line) = 95

@@ -1,5 +1,6 @@
 -- What a call does to the books and to the worker who calls, and what it hands out.
-use Rattle.std.specs.Prelude.{◌≡◌, ◌+◌, ◌↔◌, ℕ, List, Option, Err, IfOk, IfSome, IfNone, OnErr, OnOk}
+use Rattle.std.specs.Prelude.{◌≡◌, ◌+◌, ◌↔◌, ℕ, List, Option, Err, IfOk, IfSome, IfNone, OnErr}
+use Rattle.std.specs.Prelude.{OnOk}
 use Rattle.bpf_model.specs.declared.event.Event.{Event}
 use Rattle.bpf_model.specs.View.{WorldView}
 use Rattle.verifier.specs.Checked.{Checked}

@@ -57,7 +57,8 @@ abbrev pub IsPossibleExit : Option Checked → List ℕ → ℕ → Type 0
 IsPossibleExit None context n = ⊥
 IsPossibleExit (Some program) context n = MayExitAs program.program context n
 
--- Without map references it exits with this value, whatever other actors do.
+-- Without map references the program that was asked for exits on the context with this value,
+-- whatever other actors do.
 abbrev pub IsOwnExit : Option Checked → List ℕ → ℕ → Type 0
 IsOwnExit None context n = ⊥
 IsOwnExit (Some program) context n =

@@ -44,6 +44,7 @@ pub fn bytes_of(alloc: Global, text: &str) -> Result<Vec<u8>, Fail> {
     Ok(hex::decode(alloc, digits)?)
 }
 
+/// The context of these bytes. Fails where they are more than a context may have.
 pub fn context_of(bytes: &[u8]) -> Result<CtxBytes, Fail>
     ensures { IfOk result (λ c. c.items ≡ bytes.now) }
 {

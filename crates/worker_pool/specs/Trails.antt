@@ -1,5 +1,6 @@
 -- When a job's trail fits its outcome.
-use Rattle.std.specs.Prelude.{◌≡◌, ◌⊎◌, ◌≤◌, ℕ, List, Option, Some, None, Result, Ok, Err, slice_get}
+use Rattle.std.specs.Prelude.{◌≡◌, ◌⊎◌, ◌≤◌, ℕ, List, Option, Some, None, Result, Ok, Err}
+use Rattle.std.specs.Prelude.{slice_get}
 use Rattle.std.proofs.Common.{refl, ◌∙◌, le_trans}
 use Rattle.std.proofs.Math.Nat.{le_refl}
 use Rattle.bpf_model.specs.declared.event.Event.TheVariants as events
@@ -52,7 +53,7 @@ pub record StopsAtStart (job : Job) (start : ReceiptView) (outcome : Outcome) : 
   pub why : stop_of start.reply ≡ Some cause
   pub told : outcome ≡ Stopped None cause
 
--- It was answered with this run.
+-- The start of the job's program on its context was answered with this run.
 pub record WasStarted (job : Job) (run : ℕ) (start : ReceiptView) : Type 0 where
   pub event : start.event ≡ events.Start job.prog job.ctx
   pub reply : start.reply ≡ Ok (answers.Started run)

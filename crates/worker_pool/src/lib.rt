@@ -17,3 +17,6 @@ pub use job_queue::{MAX_JOBS, MAX_WORKERS, PoolFault, Serve};
 pub use pool::run_jobs;
 pub use pooled::Pooled;
 pub use repeated::{PoolRun, run_program};
+
+// A pool has as many workers as a shared world may have.
+const _: () = prove!(MAX_WORKERS == shared::MAX_WORKERS as usize);

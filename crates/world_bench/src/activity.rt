@@ -1,6 +1,6 @@
 //! What is answered and timed.
 
-use bpf_model::MapShape;
+use bpf_model::{KEY_BYTES, MAX_ENTRIES, MAX_REUSE, MapShape, VALUE_BYTES};
 
 /// A program whose steps are timed.
 #[derive(Clone, Copy, Debug, PartialEq, Eq)]
@@ -35,7 +35,7 @@ const fn shape(key_len: usize, value_len: usize, entries: usize) -> MapShape {
         value_len,
         entries,
         spare: entries,
-        reuse_limit: 4_294_967_295,
+        reuse_limit: MAX_REUSE,
     }
 }
 
@@ -46,7 +46,7 @@ pub const fn small() -> MapShape {
 
 /// A map of 4,096 elements with keys of 64 bytes and values of 256.
 const fn large() -> MapShape {
-    shape(64, 256, 4096)
+    shape(KEY_BYTES, VALUE_BYTES, MAX_ENTRIES)
 }
 
 /// The activities, in the order in which they are printed.

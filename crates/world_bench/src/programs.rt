@@ -27,14 +27,14 @@ pub const ARITHMETIC_MOVES: usize = 4002;
 pub const LOOKUP_8: &str = "mov64 r6, 0\nstdw [r10-8], 0\ncallbtf 1\nmov64 r2, r10\nadd64 r2, -8\n\
 ldmap r1, 0\ncall 1\njeq r0, 0, +1\nldxdw r6, [r0+0]\ncallbtf 2\nmov64 r0, r6\nexit\n";
 
-/// How many steps of it lead further on, where the key is there.
+/// How many steps of `LOOKUP_8` lead further on, where the key is there.
 pub const LOOKUP_8_MOVES: usize = 11;
 
-/// The same with a key of 64 zeros.
+/// Looks up the key of 64 zeros in a section, and loads 8 bytes of its value.
 pub const LOOKUP_64: &str = "mov64 r6, 0\nstdw [r10-8], 0\nstdw [r10-16], 0\nstdw [r10-24], 0\n\
 stdw [r10-32], 0\nstdw [r10-40], 0\nstdw [r10-48], 0\nstdw [r10-56], 0\nstdw [r10-64], 0\n\
 callbtf 1\nmov64 r2, r10\nadd64 r2, -64\nldmap r1, 0\ncall 1\njeq r0, 0, +1\n\
 ldxdw r6, [r0+0]\ncallbtf 2\nmov64 r0, r6\nexit\n";
 
-/// How many steps of it lead further on, where the key is there.
+/// How many steps of `LOOKUP_64` lead further on, where the key is there.
 pub const LOOKUP_64_MOVES: usize = 18;

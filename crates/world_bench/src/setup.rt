@@ -10,7 +10,9 @@ use crate::tally::Tally;
 use anyhow::{Result, bail};
 use arrayvec::ArrayVec;
 use asm::assemble;
-use bpf_model::{Answer, CtxBytes, Event, KeyBytes, MapId, MapShape, ProgId, RunId, ValueBytes};
+use bpf_model::{
+    Answer, CtxBytes, Event, KeyBytes, MAX_RUNS, MapId, MapShape, ProgId, RunId, ValueBytes,
+};
 use maps::Registry;
 use std::alloc::Global;
 use verifier::verify;
@@ -21,7 +23,7 @@ use world_parts::Loaded;
 const PARTS: usize = 1024;
 
 /// How many runs of a lookup a round steps, each in a run slot of its own.
-const LOOKUPS: usize = 64;
+const LOOKUPS: usize = MAX_RUNS;
 
 /// A world, and the events of a round: those of a list, or steps of so many runs with so many moves each.
 #[derive(Drop)]

@@ -1,5 +1,6 @@
 //! The programs of the cases, as lines of the assembly language parted by semicolons.
 
+/// Exits with 1.
 pub const EXIT_ONE: &str = "mov64 r0, 1; exit";
 
 /// In a section, the value of key 0, or 0.

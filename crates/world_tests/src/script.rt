@@ -110,6 +110,7 @@ fn given_name(given: Given) -> &'static str {
     }
 }
 
+/// Adds the text of an answer. Fails where memory runs out.
 pub fn tell_answer(alloc: Global, text: &mut String, answer: &Answer) -> Result<(), AllocError> {
     match answer {
         Answer::Started(run) => write!(text, "run {}", run.index()),
