@@ -99,7 +99,7 @@ refusal m events.Advance = None
 refusal m events.Reap = None
 refusal m (events.Drop run) = drop_refusal (run_at m.runs run)
 
--- The start of a program: the run takes the lowest free slot.
+-- The start of a program: the run takes the lowest free run slot.
 pub record Starts (m : Machine) (prog : ℕ) (context : List ℕ) (r : ℕ) (new : Machine) : Type 0 where
   pub program : Loaded
   pub there : slice_get m.programs prog ≡ Some program

@@ -1,4 +1,4 @@
--- The four parts of the main theorem, over whole runs of the machine: its answers, that it is never
+-- The four parts of the main theorem, over whole histories of the machine: its answers, that it is never
 -- stuck, that its runs end in time, and that elements are reclaimed late. What a world keeps is a
 -- type of its own here, with the relation to the machine's states that it tracks.
 use Rattle.std.specs.Prelude.{◌≡◌, ℕ, suc, ◌+◌, ◌<◌, ◌==◌, Bool, false, List, ◌∷◌, Option, Some}
@@ -88,7 +88,7 @@ module _ {World : Type 0} where
       (m : Machine) → Tracks old m →
       (next : Machine) × DoesEvent m event answer next × Tracks new next
 
-  -- The answers are those of a run of the machine, and the world tracks its last state.
+  -- The answers are those of a history of the machine, and the world tracks its last state.
   abbrev pub AreMachineAnswers : (World → Machine → Type 0) → World → List Event → List Answer →
       World → Type 0
   AreMachineAnswers Tracks old events answers new =
@@ -96,7 +96,7 @@ module _ {World : Type 0} where
       (states : List Machine) × IsHistory m events answers states
       × Tracks new (last_machine m states)
 
-  -- In every run of the machine with these answers, each run that hasn't ended has a step, in each
+  -- In every history of the machine with these answers, each run that hasn't ended has a step, in each
   -- state.
   abbrev pub AreNeverStuck : (World → Machine → Type 0) → World → List Event → List Answer → Type 0
   AreNeverStuck Tracks old events answers =

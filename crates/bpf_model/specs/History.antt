@@ -1,4 +1,4 @@
--- Runs of the machine: lists of events and of the answers to them, through a list of states.
+-- Histories of the machine: lists of events and of the answers to them, through a list of states.
 use Rattle.std.specs.Prelude.{◌≡◌, List, [], ◌∷◌}
 use Rattle.bpf_model.specs.declared.event.Event.{Event}
 use Rattle.bpf_model.specs.declared.event.Answer.{Answer}
@@ -22,7 +22,7 @@ abbrev pub AllStates : (Machine → Type 0) → List Machine → Type 0
 AllStates P [] = Unit {0}
 AllStates P (m ∷ states) = P m × AllStates P states
 
--- Some run of the machine from m has these answers to these events, and ends in new.
+-- Some history of the machine from m has these answers to these events, and ends in new.
 abbrev pub MachineRun : Machine → List Event → List Answer → Machine → Type 0
 MachineRun m [] [] new = new ≡ m
 MachineRun m (event ∷ events) (answer ∷ answers) new =

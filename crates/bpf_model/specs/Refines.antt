@@ -113,7 +113,7 @@ pub record RefinesSchedule (w : WorldView) (s : Schedule) : Type 0 where
   pub programs : w.programs ≡ s.machine.programs
   pub given : w.given ≡ count_by (λ e. is_reclaimed e.life) s.machine.store.elements
 
--- Some run of the machine with this runtime's choices, from the start and with events within their
+-- Some history of the machine with this runtime's choices, from the start and with events within their
 -- types, ends in the state.
 pub record IsReachedSchedule (shapes : List MapShape) (programs : List Loaded) (s : Schedule)
     : Type 0 where

@@ -23,7 +23,7 @@ pub enum Errno {
     NoEntry,
     /// E2BIG, 7: the map has as many elements as its shape allows.
     TooBig,
-    /// ENOMEM, 12: no slot of the map is free.
+    /// ENOMEM, 12: no map slot is free.
     NoMemory,
     /// EEXIST, 17: the key has an element.
     Exists,
@@ -46,6 +46,19 @@ impl Errno {
             Errno::Exists => 17,
             Errno::InvalidArgument => 22,
         }
+    }
+}
+
+ghost use Rattle.std.specs.Prelude.{◌≡◌};
+ghost use Rattle.bpf_model.specs.Call as model;
+
+/// What a helper leaves in r0 for a result: 0, or the error as a negative number.
+pub fn ret_word(ret: Result<(), Errno>) -> u64
+    ensures { result ≡ model.ret_word ret }
+{
+    match ret {
+        Ok(()) => 0,
+        Err(errno) => u64::from(errno.number()).wrapping_neg(),
     }
 }
 

@@ -18,7 +18,8 @@ pub enum Event {
     Step {
         run: RunId,
     },
-    /// The control plane stores a value under a key. Flags: any (0), only a new key (1), only a present one (2).
+    /// The control plane stores a value under a key. Flags: any (0), only a new key (1), only a present
+    /// one (2).
     Update {
         map: MapId,
         key: KeyBytes,
@@ -39,7 +40,7 @@ pub enum Event {
     Advance,
     /// One element whose grace period has ended may be reclaimed.
     Reap,
-    /// A run that has ended leaves its slot.
+    /// A run that has ended leaves its run slot.
     Drop {
         run: RunId,
     },
@@ -63,7 +64,7 @@ pub struct ReapedElement {
 /// Why an event is refused. A refused event changes nothing.
 #[derive(Clone, Copy, Debug, PartialEq, Eq)]
 pub enum EventRefusal {
-    /// No run has the slot.
+    /// No run has the run slot.
     NoRun,
     /// The run has ended.
     Ended,

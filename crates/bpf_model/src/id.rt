@@ -9,7 +9,7 @@ pub struct ProgId {
     number: usize,
 }
 
-/// A run: the slot that it occupies. Contracts see it as that number.
+/// A run: the run slot that it occupies. Contracts see it as that number.
 #[derive(Clone, Copy, Debug, PartialEq, Eq)]
 pub struct RunId {
     number: usize,
@@ -62,14 +62,14 @@ impl ProgId {
 }
 
 impl RunId {
-    /// The run of this slot; whether there is one is asked where it is used.
+    /// The run in this run slot; whether there is one is asked where it is used.
     pub fn new(number: usize) -> RunId
         ensures { result ≡ number }
     {
         RunId { number }
     }
 
-    /// The slot that it occupies.
+    /// The run slot that it occupies.
     pub fn index(self) -> usize
         ensures { result ≡ self }
     {

@@ -17,7 +17,7 @@ mod stat;
 mod value;
 
 pub use array::array_of;
-pub use call::{Errno, Helper, KernelFunction};
+pub use call::{Errno, Helper, KernelFunction, ret_word};
 pub use event::{Answer, Event, EventRefusal, Given, ReapedElement, are_real};
 pub use id::{MapId, ProgId, RunId};
 pub use insn::{AluOp, CallKind, Insn, Operand, SignExtension, UnaryOp};

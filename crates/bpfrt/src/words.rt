@@ -167,7 +167,8 @@ fn command_in_other_case(word: &str) -> Option<&'static str> {
         .find(|name| word.eq_ignore_ascii_case(name))
 }
 
-/// Why the words are no command. `clap` finds no command near a word that differs from it in every letter's case.
+/// Why the words are no command. `clap` finds no command near a word that differs from it in every
+/// letter's case.
 fn usage(alloc: Global, error: &clap::Error, words: &[String]) -> UsageFault {
     let first = words.get(1).map_or("", String::as_str);
     match (error.kind(), command_in_other_case(first)) {

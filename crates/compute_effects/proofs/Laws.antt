@@ -20,11 +20,6 @@ use Rattle.scalar_domain.proofs.Swaps.{reordered_lt}
 reduced : (n w : ℕ) → n % 2 ^ w < 2 ^ w
 reduced n w = mod_below n (2 ^ w) (pow_pos w)
 
-low_lt : (width : SwapWidth) (x : ℕ) → x % 2 ^ bits (swapped_width width) < 2 ^ 64
-low_lt swap_widths.Two x = let p = reduced x 16 in omega arith
-low_lt swap_widths.Four x = let p = reduced x 32 in omega arith
-low_lt swap_widths.Eight x = reduced x 64
-
 pub unary_lt : (op : UnaryOp) (x : ℕ) → unary op x < 2 ^ 64
 unary_lt (Negate size) x = negated_lt size x
 unary_lt (ByteSwap order width) x = reordered_lt order width x

@@ -99,7 +99,7 @@ pub(crate) fn copied(size: Size, kind: RegKind) -> Result<RegKind, Fault>
     }
 }
 
-/// What a second operand may be.
+/// What a second operand may be. Errors: those of a register that is read.
 pub fn operand(state: &AbsState, src: &Operand) -> Result<RegKind, Fault>
     ensures value { IfOk result (λ k. HasValue (state_of state.now) src.now (kind_of k)) }
     ensures written { IfOk result (λ k. IsWritten (kind_of k)) }

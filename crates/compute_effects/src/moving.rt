@@ -8,6 +8,7 @@ ghost use Rattle.compute_effects.specs.Computes.{MovesOffsets, IsNearStep, signe
 
 use bpf_model::{AluOp, Size};
 use kind_tests::Fault;
+use register_kinds::ORIGIN;
 use scalar_domain::Scalar;
 
 /// How far a reference may be moved at once, and how far from the start of its region it may point,
@@ -67,7 +68,7 @@ fn raised(offset: i32) -> Result<Scalar, Fault>
     ensures constant { (m : ℕ) → offset ≡ pos m → m ≤ 2 ^ 29
         → (s : Numbers) × (result ≡ Ok s) × IsConstant s (m + 2 ^ 29) }
 {
-    let raised = i64::from(offset) + (1 << 29);
+    let raised = i64::from(offset) + ORIGIN as i64;
     if raised < 0 || raised > 1 << 30 {
         return Err(Fault::PointerArithmetic);
     }
@@ -85,7 +86,7 @@ fn lowered(offsets: Scalar) -> Result<i32, Fault>
             if raised > 1 << 30 {
                 return Err(Fault::PointerArithmetic);
             }
-            Ok((raised as i64 - (1 << 29)) as i32)
+            Ok((raised as i64 - ORIGIN as i64) as i32)
         }
         None => Err(Fault::PointerArithmetic),
     }

@@ -43,7 +43,7 @@ pub fn jump_transfers()
         → Transfers (Insn.Jump (pos n)) shapes ctx_len a a None }
 {}
 
-/// So does one of class JMP32.
+/// A jump of class JMP32, to a slot further on, leaves all that is known as it is.
 pub fn jump_long_transfers()
     ensures { (n : ℕ) (shapes : List MapShape) (ctx_len : ℕ) (a : model.AbsState)
         → Transfers (Insn.JumpLong (pos n)) shapes ctx_len a a None }

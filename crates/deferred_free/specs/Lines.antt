@@ -1,4 +1,4 @@
--- Queues with a first and a last slot.
+-- Lines: lists of slots that are linked to one another, by the first and the last.
 use Rattle.std.specs.Prelude.{◌≡◌, ◌≢◌, ℕ, List, Option, Some, None, length}
 use Rattle.element_arena.specs.State.{ArenaState, link_at}
 use Rattle.element_arena.specs.Threads.{walk}

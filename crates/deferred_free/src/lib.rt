@@ -5,10 +5,10 @@
 //! `Threaded` keeps them in the slots' own links, `Vectors` beside them.
 #![tactic(auto)]
 
-ghost use Rattle.std.specs.Prelude.{◌≡◌, ◌≤◌, ◌<◌, ℕ, [], length, slice_get, drop, IfOk};
+ghost use Rattle.std.specs.Prelude.{◌≡◌, ◌≤◌, ◌<◌, ℕ, [], length, slice_get, IfOk};
 ghost use Rattle.bpf_model.specs.Schedule.{Queues, turned};
 ghost use Rattle.element_arena.specs.State.{ArenaState, IsTaken, LinksOf, SameAt};
-ghost use Rattle.deferred_free.specs.Queued.{queued, retired_lists};
+ghost use Rattle.deferred_free.specs.Queued.{queued, reaped_lists, retired_lists};
 
 mod threaded;
 mod vectors;
@@ -27,7 +27,7 @@ pub trait Deferred {
     /// That they are lists of this arena's slots, with room for all of them.
     ghost fits: { Self → ArenaState → Type 0 };
 
-    /// Three empty lists for an arena of at most so many slots.
+    /// Three empty lists for an arena of at most so many slots. Fails where memory runs out.
     fn new(alloc: Global, slots: usize) -> Result<Self, AllocError>
         ensures lists { IfOk result (λ x. (a : ArenaState) →
             lists x a ≡ record { next = []; waiting = []; ready = [] }) }
@@ -54,12 +54,11 @@ pub trait Deferred {
     fn reap(&mut self, arena: &mut Arena) -> Option<usize>
         requires fits { fits self.old arena.old }
         ensures first { result ≡ slice_get (lists self.old arena.old).ready 0 }
-        ensures lists { let old = lists self.old arena.old in
-            lists self.new arena.new ≡ record old { ready = drop 1 old.ready } }
+        ensures lists { lists self.new arena.new ≡ reaped_lists (lists self.old arena.old) }
         ensures fits { fits self.new arena.new }
         ensures links { LinksOf (queued (lists self.old arena.old)) arena.old arena.new };
 
-    /// Others of the same slots, over each arena that these fit.
+    /// Others of the same slots, over each arena that these fit. Fails where memory runs out.
     fn copy(&self, alloc: Global) -> Result<Self, AllocError>
         ensures { IfOk result (λ y. (a : ArenaState) → fits self.now a →
             fits y a × (lists y a ≡ lists self.now a)) };

@@ -3,10 +3,9 @@
 ghost use Rattle.std.specs.Prelude.{◌≡◌, ◌≤◌, ℕ, [], length, Some, None, IfSome, IfOk};
 ghost use Rattle.element_arena.specs.State.{ArenaState, IsTaken};
 ghost use Rattle.deferred_free.specs.Lines.{AreLinksJoined, joined_lines};
-ghost use Rattle.element_arena.specs.Kept.{last_left};
 
 use crate::Deferred;
-use element_arena::Arena;
+use element_arena::{Arena, last_after};
 use std::alloc::{AllocError, Global};
 
 /// The first and the last slot of a list whose slots are linked to one another.
@@ -43,16 +42,6 @@ fn join(arena: &mut Arena, front: Line, back: Line) -> Line
                 },
             }
         }
-    }
-}
-
-/// The last slot that is left when the first, which was linked to `rest`, leaves.
-fn last_after(rest: Option<usize>, last: Option<usize>) -> Option<usize>
-    ensures { result ≡ last_left rest last }
-{
-    match rest {
-        None => None,
-        Some(_) => last,
     }
 }
 

@@ -1,10 +1,10 @@
 //! Instructions as they are written: a mnemonic with its arguments.
 ghost use Rattle.std.specs.Prelude.{◌≡◌};
 ghost use Rattle.disasm.specs.Text.{number_argument, offset_argument, memory_argument, source_argument, unary_mnemonic as unary_mnemonic_of, store_mnemonic as store_mnemonic_of, unary_arguments as unary_arguments_of, sign_of as sign_of_number, magnitude as magnitude_of, mnemonic_of, text_arguments, statement_of};
-ghost use Rattle.bpf_model.specs.Spelling.{extension_size as extension_size_of, extension_bits as extension_bits_of};
 
 use crate::mnemonic::Mnemonic;
-use bpf_model::{Insn, Operand, Reg, SignExtension, Size, UnaryOp, Width};
+use bpf_model::{Insn, Operand, Reg, UnaryOp, Width};
+use insn_codec::extension_parts;
 
 /// The sign that a number is written with.
 #[derive(Clone, Copy, Debug, PartialEq, Eq)]
@@ -103,34 +103,13 @@ fn source(operand: &Operand) -> Argument
     }
 }
 
-fn extension_size(extension: SignExtension) -> Size
-    ensures { result ≡ extension_size_of extension }
-{
-    match extension {
-        SignExtension::ByteTo32 | SignExtension::ShortTo32 => Size::Word32,
-        SignExtension::ByteTo64 | SignExtension::ShortTo64 | SignExtension::WordTo64 => {
-            Size::Word64
-        }
-    }
-}
-
-fn extension_bits(extension: SignExtension) -> i32
-    ensures { result ≡ extension_bits_of extension }
-{
-    match extension {
-        SignExtension::ByteTo32 | SignExtension::ByteTo64 => 8,
-        SignExtension::ShortTo32 | SignExtension::ShortTo64 => 16,
-        SignExtension::WordTo64 => 32,
-    }
-}
-
 fn unary_mnemonic(op: &UnaryOp) -> Mnemonic
     ensures { result ≡ unary_mnemonic_of op.now }
 {
     match op {
         UnaryOp::Negate(size) => Mnemonic::Negate(*size),
         UnaryOp::ByteSwap { order, width } => Mnemonic::ByteSwap(*order, *width),
-        UnaryOp::MoveSigned { extension, .. } => Mnemonic::MoveSigned(extension_size(*extension)),
+        UnaryOp::MoveSigned { extension, .. } => Mnemonic::MoveSigned(extension_parts(*extension).0),
     }
 }
 
@@ -175,7 +154,7 @@ fn unary_arguments(op: &UnaryOp, dst: Reg) -> Arguments
         UnaryOp::MoveSigned { extension, src } => Arguments::Three(
             register(dst),
             register(*src),
-            number(extension_bits(*extension)),
+            number(i32::from(extension_parts(*extension).1)),
         ),
     }
 }

@@ -21,8 +21,8 @@ pub(crate) struct Cell {
     pub(crate) link: Option<usize>,
 }
 
-/// The last free slot once the first is taken, which was linked to `rest`.
-pub(crate) fn last_after(rest: Option<usize>, last: Option<usize>) -> Option<usize>
+/// The last slot that is left of a list when the first, which was linked to `rest`, leaves it.
+pub fn last_after(rest: Option<usize>, last: Option<usize>) -> Option<usize>
     ensures { result ≡ last_left rest last }
 {
     match rest {

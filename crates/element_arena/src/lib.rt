@@ -11,3 +11,4 @@ mod cell;
 mod make;
 
 pub use arena::{Arena, Stale, Tag};
+pub use cell::last_after;

@@ -12,8 +12,8 @@ ghost use Rattle.bpf_model.specs.View.{WorldView, HasExited};
 ghost use Rattle.world_invariant.specs.Invariant.{IsWorld};
 ghost use Rattle.exit_laws.specs.Exits.{MayExitAs, ExitsAs};
 
-/// A run that has ended in a world may exit so by its program's definition, over maps and open sections that other
-/// actors made. Without map references it exits so whatever they do.
+/// A run that has ended in a world may exit so by its program's definition, over maps and open sections
+/// that other actors made. Without map references it exits so whatever they do.
 pub fn exited_as_defined()
     ensures may { (w : WorldView) (r : ℕ) (code : List Insn) (context : List ℕ) (n : ℕ) →
         IsWorld w → HasExited w r code context n → MayExitAs code context n }
@@ -21,8 +21,8 @@ pub fn exited_as_defined()
         IsWorld w → HasNoMaps code → HasExited w r code context n → ExitsAs code context n }
 {}
 
-/// Without map references an exit is of the instructions alone: programs that have the same ones exit alike, whatever
-/// else they were loaded with.
+/// Without map references an exit is of the instructions alone: programs that have the same ones exit
+/// alike, whatever else they were loaded with.
 pub fn exit_alike()
     ensures { (a b : Loaded) (context : List ℕ) (steps n : ℕ) → HasNoMaps a.code → a.code ≡ b.code →
         ExitsWith a context steps n → ExitsWith b context steps n }

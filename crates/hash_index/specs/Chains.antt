@@ -5,24 +5,25 @@ use Rattle.std.specs.Prelude.{bit_xor}
 use Rattle.std.specs.Prelude.{List, [], ◌∷◌, ◌++◌, Option, cond, drop, eqb, length}
 use Rattle.element_arena.specs.State.{ArenaState, IsTaken, link_at, key_at, times_in}
 use Rattle.element_arena.specs.Threads.{IsThread, walk}
+use Rattle.hash_index.specs.declared.hash.TheConstants.{FNV_OFFSET, FNV_PRIME, WORD_FACTOR}
 use Rattle.hash_index.specs.Order.{IsLeastOf}
 
 -- FNV-1a of these bytes, in 64 bits, going on from h
 abbrev pub bytes_hash : ℕ → List ℕ → ℕ
 bytes_hash h [] = h
-bytes_hash h (byte ∷ bytes) = bytes_hash ((bit_xor h byte * 1099511628211) % 2 ^ 64) bytes
+bytes_hash h (byte ∷ bytes) = bytes_hash ((bit_xor h byte * FNV_PRIME) % 2 ^ 64) bytes
 
 -- the little-endian number of the first eight bytes
 abbrev pub hashed_word : List ℕ → ℕ
 hashed_word bytes = from_le_bytes w64 bytes
 
--- a product with its high half folded_product into the low one
+-- a product with its high half folded into the low one
 abbrev pub folded_product : ℕ → ℕ
 folded_product product = bit_xor product (product / 2 ^ 32)
 
 -- a hash that goes on with a word
 abbrev pub mixed_hash : ℕ → ℕ → ℕ
-mixed_hash h word = folded_product ((bit_xor h word * 11400714819323198485) % 2 ^ 64)
+mixed_hash h word = folded_product ((bit_xor h word * WORD_FACTOR) % 2 ^ 64)
 
 -- so many words of eight bytes, and the bytes that are left
 abbrev pub words_hash : ℕ → ℕ → List ℕ → ℕ
@@ -30,11 +31,11 @@ words_hash zero h bytes = bytes_hash h bytes
 words_hash (suc n) h bytes = words_hash n (mixed_hash h (hashed_word bytes)) (drop 8 bytes)
 
 abbrev pub hash_of : List ℕ → ℕ
-hash_of key = words_hash (length key / 8) 14695981039346656037 key
+hash_of key = words_hash (length key / 8) FNV_OFFSET key
 
 -- the bucket of a key, of a power of two of them
 abbrev pub bucket_of : ℕ → List ℕ → ℕ
-bucket_of count key = bit_and (((hash_of key * 11400714819323198485) % 2 ^ 64) / 2 ^ 32) (count - 1)
+bucket_of count key = bit_and (((hash_of key * WORD_FACTOR) % 2 ^ 64) / 2 ^ 32) (count - 1)
 
 -- the slots that the links lead through from the first one
 abbrev pub chain_of : ArenaState → Option ℕ → List ℕ

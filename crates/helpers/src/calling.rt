@@ -1,7 +1,6 @@
 //! Helpers: what a program calls with a map, a key and a value.
 ghost use Rattle.std.specs.Prelude.{◌≡◌, ℕ, ◌+◌, ◌<◌, length};
 ghost use Rattle.bpf_model.specs.declared.limits.TheConstants.{FRAME_BYTES, MAX_MAPS};
-ghost use Rattle.bpf_model.specs.Call.{ret_word};
 ghost use Rattle.view_laws.specs.Views.{deleted, updated};
 ghost use Rattle.world_laws.specs.Calling.{bytes_in, served};
 ghost use Rattle.world_laws.specs.Moving.{word_in};
@@ -9,19 +8,9 @@ ghost use Rattle.world_laws.specs.Reaching.{IsInFrame};
 ghost use Rattle.helpers.specs.Calls.{IsCall, called};
 
 use crate::address::slot_word;
-use bpf_model::{Errno, Helper, MapId, Reg};
+use bpf_model::{Helper, MapId, Reg, ret_word};
 use machine::Run;
 use maps::{Map, Registry};
-
-/// What a helper leaves in r0 for a result: 0, or the error as a negative number.
-fn word_of(outcome: Result<(), Errno>) -> u64
-    ensures { result ≡ ret_word outcome }
-{
-    match outcome {
-        Ok(()) => 0,
-        Err(errno) => 0u64.wrapping_sub(u64::from(errno.number())),
-    }
-}
 
 /// The word of the slot that the map has for the key in r2, or 0.
 fn lookup(run: &Run, map: &Map, id: MapId) -> u64
@@ -48,7 +37,7 @@ fn update(run: &Run, map: &mut Map) -> u64
     let shape = map.shape();
     let key = run.bytes_argument(Reg::R2, shape.key_len);
     let value = run.bytes_argument(Reg::R3, shape.value_len);
-    word_of(map.update(key, value, run.register(Reg::R4)))
+    ret_word(map.update(key, value, run.register(Reg::R4)))
 }
 
 /// Unlinks the element of the key in r2.
@@ -61,7 +50,7 @@ fn delete(run: &Run, map: &mut Map) -> u64
 {
     let shape = map.shape();
     let key = run.bytes_argument(Reg::R2, shape.key_len);
-    word_of(map.delete(key))
+    ret_word(map.delete(key))
 }
 
 /// Calls a helper, with the arguments in the run's registers and frame. `bound` has the numbers

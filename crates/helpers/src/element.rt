@@ -23,7 +23,8 @@ pub(crate) fn load(maps: &Registry, address: u64, offset: i16, width: Width) -> 
     }
 }
 
-/// Stores the low bytes of a number there. Whoever reads the element later finds them: a store
+/// Stores the low bytes of a number in an element's value, at an offset in bytes from a word that lies in
+/// the element's slot. Whoever reads the element later finds them: a store
 /// changes an element where it lies, while an update of its key links a new one.
 #[inline]
 pub(crate) fn store(maps: &mut Registry, address: u64, offset: i16, width: Width, number: u64)

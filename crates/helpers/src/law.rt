@@ -32,7 +32,7 @@ pub fn served_is_the_worlds()
         insn_step insn program r v w ≡ served_step access insn program word r v w }
 {}
 
-/// Where it asks nothing, the world's step changes the run alone: maps and flags stay.
+/// Where a run's instruction asks nothing, the world's step changes the run alone: maps and flags stay.
 pub fn own_changes_the_run()
     ensures { (insn : Insn) (program : Loaded) (r : ℕ) (v after : RunView) (w : WorldView)
         (asked : Option Access) (answer : Local) → IsFlagged w r v →

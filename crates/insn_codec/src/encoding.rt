@@ -41,7 +41,8 @@ fn offset_of(op: AluOp) -> i16
     }
 }
 
-fn extension_parts(extension: SignExtension) -> (Size, i16)
+/// The class of a move that extends a sign, and the offset that says of how many bits.
+pub fn extension_parts(extension: SignExtension) -> (Size, i16)
     ensures { result ≡ (extension_size extension, extension_bits extension) }
 {
     match extension {

@@ -44,13 +44,13 @@ pub fn one_fault()
         IsDecodeFault bytes f → IsDecodeFault bytes g → f ≡ g }
 {}
 
-/// The text of a program has no fault.
+/// The bytes that a program is encoded to have no fault.
 pub fn no_fault()
     ensures { (p : List Insn) → IsProgram p → (f : DecodeFault) →
         f ≢ DecodeFault.Memory → IsDecodeFault (text p) f → ⊥ }
 {}
 
-/// No two programs have one text.
+/// No two programs are encoded to the same bytes.
 pub fn one_program()
     ensures { (p q : List Insn) → IsProgram p → IsProgram q → text p ≡ text q → p ≡ q }
 {}

@@ -21,7 +21,7 @@ pub use bpf_model::{
     SwapWidth, UnaryOp, Width,
 };
 pub use decoding::decode;
-pub use encoding::encode;
+pub use encoding::{encode, extension_parts};
 pub use fault::DecodeFault;
 pub use flaw::Flaw;
 pub use law::{decode_undoes_encode, encode_undoes_decode, no_fault, one_fault, one_program};

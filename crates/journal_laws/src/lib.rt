@@ -61,9 +61,9 @@ pub fn replays_on_machine()
         × Tracks world last }
 {}
 
-/// Over a whole journal: its answers are those of a history of the machine with the runtime's choices, in which the
-/// drain law holds; and in each history with these answers no run is stuck, each exits in time, and elements are
-/// reclaimed late.
+/// Over a whole journal: its answers are those of a history of the machine with the runtime's choices,
+/// in which the drain law holds; and in each history with these answers no run is stuck, each exits in
+/// time, and elements are reclaimed late.
 pub fn replays_as_machine()
     ensures schedule { (base world : WorldView) (entries : List Entry) →
         Replays base world entries →
@@ -86,7 +86,8 @@ pub fn reaction_fits()
         IsAnswerTo event (full_reaction w event).0 }
 {}
 
-/// What a world counts is what its machine's elements tell: how many were ever unlinked, and how many reclaimed.
+/// What a world counts is what its machine's elements tell: how many were ever unlinked, and how many
+/// reclaimed.
 pub fn totals_are_machines()
     ensures unlinked { (w : WorldView) (m : Machine) → Tracks w m →
         unlinked_total w ≡ ever_unlinked m }

@@ -26,7 +26,7 @@ pub record HasCell (cells : List CellKind) (at width : ℕ) (class : CellKind) :
   pub to : k < at + width
   pub is : class_in cells k ≡ class
 
--- none is
+-- no cell of an access is of the class
 abbrev pub HasNoCell : List CellKind → ℕ → ℕ → CellKind → Type 0
 HasNoCell cells at width class = (k : ℕ) → at ≤ k → k < at + width → class_in cells k ≡ class → ⊥
 
@@ -50,7 +50,7 @@ IsCellFault cells at width MixedRegions =
     × HasCell cells at width class.Mixed
 IsCellFault cells at width e = ⊥
 
--- Why they are no bytes of numbers.
+-- Why the bytes of an access are no bytes of numbers: the first test that fails.
 abbrev pub IsBytesFault : List CellKind → ℕ → ℕ → Fault → Type 0
 IsBytesFault cells at width PointerLeak =
     AreWritten cells at width × HasCell cells at width class.Part
@@ -64,7 +64,7 @@ frame_of Mixed = Err MixedRegions
 frame_of (Frame o) = Ok o
 frame_of kind = Err WrongArgument
 
--- The numbers that it may be given.
+-- The numbers that a call may be given, or why it is given none.
 abbrev pub numbers_of : RegKind → Result Scalar Fault
 numbers_of Unwritten = Err UnwrittenRegister
 numbers_of Ended = Err OutsideSection

@@ -11,7 +11,7 @@ use bpf_model::{MapShape, Reg};
 use register_kinds::{AbsState, RegKind};
 use scalar_domain::Scalar;
 
-/// No instruction writes r10.
+/// No instruction writes r10. Error: `FramePointerWritten`.
 pub fn check_writable(dst: Reg) -> Result<(), Fault>
     ensures value { OnOk result (10 ≡ dst → ⊥) }
     ensures accepts { (10 ≡ dst → ⊥) → IsOk result }
@@ -22,7 +22,7 @@ pub fn check_writable(dst: Reg) -> Result<(), Fault>
     Ok(())
 }
 
-/// What a register holds that is read.
+/// What a register holds that is read. Errors: `UnwrittenRegister`, `OutsideSection`, `MixedRegions`.
 pub fn held(state: &AbsState, r: Reg) -> Result<RegKind, Fault>
     ensures result { result ≡ held_kind (kind_in state.now.regs r) }
     ensures value { IfOk result (λ k. kind_in state.now.regs r ≡ k) }
@@ -36,7 +36,8 @@ pub fn held(state: &AbsState, r: Reg) -> Result<RegKind, Fault>
     }
 }
 
-/// The map that a call is given, and its shape.
+/// The map that a call is given, and its shape. Errors, in this order: those of `held`,
+/// `WrongArgument`, `NoSuchMap`.
 pub fn map_argument(state: &AbsState, r: Reg, shapes: &[MapShape]) -> Result<(u32, MapShape), Fault>
     ensures map { IfOk result (λ p. kind_in state.now.regs r ≡ RegKind.Map p.0) }
     ensures shape { IfOk result (λ p. slice_get shapes.now p.0 ≡ Some p.1) }
@@ -52,7 +53,7 @@ pub fn map_argument(state: &AbsState, r: Reg, shapes: &[MapShape]) -> Result<(u3
     }
 }
 
-/// The offset in the frame that a call is given.
+/// The offset in the frame that a call is given. Errors: those of `held`, then `WrongArgument`.
 pub fn frame_argument(state: &AbsState, r: Reg) -> Result<i32, Fault>
     ensures result { result ≡ frame_of (kind_in state.now.regs r) }
     ensures value { IfOk result (λ o. kind_in state.now.regs r ≡ RegKind.Frame o) }
@@ -63,7 +64,7 @@ pub fn frame_argument(state: &AbsState, r: Reg) -> Result<i32, Fault>
     }
 }
 
-/// The numbers that a call may be given.
+/// The numbers that a call may be given. Errors: those of `held`, then `WrongArgument`.
 pub fn number_argument(state: &AbsState, r: Reg) -> Result<Scalar, Fault>
     ensures result { result ≡ numbers_of (kind_in state.now.regs r) }
     ensures value { IfOk result (λ s. kind_in state.now.regs r ≡ RegKind.Num s) }

@@ -26,7 +26,8 @@ pub fn running_can_step()
         CanStep program.code v }
 {}
 
-/// Where its instruction asks something, it may resume after the reply.
+/// Where the instruction of a run that has not ended asks something, the run may resume after the
+/// reply.
 pub fn running_can_resume()
     ensures { (w : WorldView) (s : Schedule) → Matches w s → IsSound w s →
         (r : ℕ) (run : Run) (v : RunView) → IsRunning w s r run v →

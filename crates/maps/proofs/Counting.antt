@@ -36,9 +36,6 @@ module _ (shape : MapShape) (p : PartsView) (n : ℕ) (h : IsParted p) (m : IsMa
       (λ i g. h.inside i (omega (arith, times-listed i))) in
       omega (arith, few-slots, length-append (p.lists.next ++ p.lists.waiting) p.lists.ready, length-append p.lists.next p.lists.waiting)
 
-  pub few-worn : worn_in (map_view shape p) ≤ MAX_ENTRIES + MAX_SPARE
-  few-worn = let f : length p.arena.worn ≡ length p.arena.slots = h.flags in omega (arith, few-slots, count_by-le-length (λ b. b) p.arena.worn)
-
 -- the counts after an update
 pub put-counted : (shape : MapShape) (p r : PartsView) (i : ℕ) (rest key value : List ℕ) (found : Option ℕ) (c : Counts) → IsCounted shape p c → IsMap shape r (linked_with found c.linked) →
     IfNone found (len p.index < shape.entries) → map_view shape r ≡ filled (retired_slot (map_view shape p) key found) i rest key value → IsCounted shape r (counts_linked found c)

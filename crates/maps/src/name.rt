@@ -27,7 +27,8 @@ fn are_name_characters(name: &[u8]) -> bool
     name.iter().all(|c| is_name_character(*c))
 }
 
-/// Whether a map may have this name: 1 to `NAME_BYTES` letters from `a` to `z`, digits and `_`, the first a letter.
+/// Whether a map may have this name: 1 to `NAME_BYTES` letters from `a` to `z`, digits and `_`, the
+/// first a letter.
 pub fn is_name(name: &str) -> bool
     ensures { result ≡ is_map_name name.now }
 {

@@ -18,8 +18,8 @@ use hash_index::Index;
 use std::alloc::{AllocError, Global};
 use std::marker::Model;
 
-/// The slots of a map, each of which stands in one place at most. Between two calls a slot may be in hand:
-/// taken, and in none.
+/// The slots of a map, each of which stands once at most: free, linked, in one of the three lists, or
+/// worn. Between two calls a slot may be in hand: taken, and standing nowhere.
 #[derive(Drop)]
 pub struct Parts<I: Index, D: Deferred> {
     arena: Arena,
@@ -49,7 +49,7 @@ impl<I: Index, D: Deferred> Model for Parts<I, D> {
 }
 
 impl<I: Index, D: Deferred> Parts<I, D> {
-    /// A law: each slot stands in one place at most.
+    /// A law: each slot stands once at most.
     pub fn is_parted(&self)
         ensures { IsParted self.now }
     {

@@ -40,7 +40,7 @@ pub record ReachesContext (a : Known) (r width : ℕ) (offset : ℤ) (ctx_len : 
   pub base : a.regs r ≡ CtxAt offsets
   pub inside : IsAlwaysInside offsets width offset ctx_len
 
--- in the value of an element of a map of the program's list
+-- each access through the register lies in the value of an element of a map of the program's list
 pub record ReachesValue (a : Known) (r width : ℕ) (offset : ℤ) (shapes : List MapShape) (map : ℕ)
     : Type 0 where
   pub shape : MapShape
@@ -49,7 +49,7 @@ pub record ReachesValue (a : Known) (r width : ℕ) (offset : ℤ) (shapes : Lis
   pub shape_is : slice_get shapes map ≡ Some shape
   pub inside : IsAlwaysInside offsets width offset shape.value_len
 
--- in the frame, from this byte on
+-- each access through the register lies in the frame, from this byte on
 pub record ReachesFrame (a : Known) (r width : ℕ) (offset : ℤ) (at : ℕ) : Type 0 where
   pub start : ℤ
   pub base : a.regs r ≡ FrameAt start

@@ -20,6 +20,7 @@ use scalar_domain::Scalar;
 /// - `FramePointerWritten`: it sets r10.
 /// - `UnwrittenRegister`, `OutsideSection`, `MixedRegions`: the base is so.
 /// - `NotAPointer`, `MaybeNull`: the base is a number or a map, or may be null.
+/// - `NoSuchMap`: the base is a value of a map that is not in the list.
 /// - `OutOfBounds`, then `Misaligned`: at some of its offsets the access does not lie inside its
 ///   region, or not at a multiple of its width from the region's start.
 /// - `UnwrittenFrame`, `OutsideSection`, `MixedRegions`: a byte of the frame is so.

@@ -7,20 +7,18 @@ ghost use Rattle.memory_effects.specs.Accesses.{IsStart};
 
 use bpf_model::Width;
 use kind_tests::Fault;
+use register_kinds::ORIGIN;
 use scalar_domain::Scalar;
 
-/// Offsets of the context and of values are kept so much higher.
-const RAISED: u64 = 1 << 29;
-
-/// Displacements are taken so much higher here.
+/// Offsets of accesses are kept so much higher here.
 const SHIFT: u64 = 1 << 15;
 
-/// A displacement, so much higher.
-fn raised(offset: i16) -> u64
+/// The offset of an access, `SHIFT` higher.
+fn shifted_up(offset: i16) -> u64
     ensures value { pos result ≡ offset +ℤ pos (2 ^ 15) }
     ensures bound { result < 2 ^ 16 }
 {
-    (i64::from(offset) + (1 << 15)) as u64
+    (i64::from(offset) + SHIFT as i64) as u64
 }
 
 /// Each access begins at or after the region's start, and ends at or before its end.
@@ -32,11 +30,11 @@ fn check_bounds(offsets: Scalar, by: u64, bytes: usize, len: usize) -> Result<()
         → n + by + bytes ≤ len + (2 ^ 29 + 2 ^ 15)) }
     ensures accepts { IsStart offsets → 2 ^ 15 ≤ by → by + bytes ≤ len + 2 ^ 15 → IsOk result }
 {
-    if offsets.greatest > 2 * RAISED || offsets.least + by < RAISED + SHIFT {
+    if offsets.greatest > 2 * ORIGIN || offsets.least + by < ORIGIN + SHIFT {
         return Err(Fault::OutOfBounds);
     }
     let end = offsets.greatest + by + bytes as u64;
-    if end < RAISED + SHIFT || end - (RAISED + SHIFT) > len as u64 {
+    if end < ORIGIN + SHIFT || end - (ORIGIN + SHIFT) > len as u64 {
         return Err(Fault::OutOfBounds);
     }
     Ok(())
@@ -89,7 +87,7 @@ pub(crate) fn check_placed(
     ensures accepts { (at : ℕ) → IsStart offsets
         → region_offset len (byte_count width) offset ≡ Some at → IsOk result }
 {
-    let by = raised(offset);
+    let by = shifted_up(offset);
     check_bounds(offsets, by, width.bytes(), len)?;
     check_aligned(offsets, by, width)?;
     Ok(())

@@ -167,6 +167,7 @@ fn store_value(
 /// - `NotAPointer`, `MaybeNull`: the base is a number or a map, or may be null.
 /// - `ContextWrite`: the base is the context.
 /// - `PointerLeak`: what is stored is no number, to an element or by a width below 8.
+/// - `NoSuchMap`: the base is a value of a map that is not in the list.
 /// - `OutOfBounds`, then `Misaligned`: at some of its offsets the access does not lie inside its
 ///   region, or not at a multiple of its width from the region's start.
 pub fn store(

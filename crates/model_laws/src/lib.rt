@@ -52,7 +52,7 @@ pub fn refused_exactly()
         DoesEvent m event (Answer.Refused k) new ↔ ((refusal m event ≡ Some k) × (new ≡ m)) }
 {}
 
-/// A run of the machine can be cut anywhere, and two that meet are one.
+/// A history of the machine can be cut anywhere, and two that meet are one.
 pub fn cut_anywhere()
     ensures { (m new : Machine) (es fs : List Event) (xs ys : List Answer) → length es ≡ length xs →
         MachineRun m (es ++ fs) (xs ++ ys) new ↔
@@ -107,8 +107,9 @@ pub fn section_never_reopens()
         (Has (open_sections m.runs) s → ⊥) → Has (open_sections later.runs) s → ⊥ }
 {}
 
-/// The grace-period guarantee, of every history from a consistent state: an element that is unlinked keeps the sections
-/// that are open then, is reclaimed only after that, and then each section that it keeps has ended.
+/// The grace-period guarantee, of every history from a consistent state: an element that is unlinked
+/// keeps the sections that are open then, is reclaimed only after that, and then each section that it
+/// keeps has ended.
 pub fn reclaimed_late()
     ensures { (m : Machine) (events : List Event) (answers : List Answer) (states : List Machine) →
         IsConsistent m → IsHistory m events answers states → ReclaimedLate (m ∷ states) }
@@ -120,8 +121,9 @@ pub fn starts_scheduled()
         IsScheduled (start_schedule shapes programs) }
 {}
 
-/// Each step with the runtime's choices keeps the lists right: exactly the unlinked elements stand in them, each
-/// once, those that are ready wait for no open section, and those that wait only for awaited ones.
+/// Each step with the runtime's choices keeps the lists right: exactly the unlinked elements stand in
+/// them, each once, those that are ready wait for no open section, and those that wait only for awaited
+/// ones.
 pub fn stays_scheduled()
     ensures { (old new : Schedule) (event : Event) (answer : Answer) → IsScheduled old →
         DoesScheduled old event answer new → IsScheduled new }
@@ -211,8 +213,8 @@ pub fn slots_accounted()
         length m.bag + kept_count k s.machine.store.elements + m.worn ≡ slots_of_shape m.shape }
 {}
 
-/// In such a state a map has no free slot exactly when its linked elements, its unlinked ones and its worn-out
-/// slots are as many as all its slots.
+/// In each state that is reached from the start a map has no free slot exactly when its linked
+/// elements, its unlinked ones and its worn-out slots are as many as all its slots.
 pub fn enomem_exactly()
     ensures { (shapes : List MapShape) (programs : List Loaded) (s : Schedule) (k : ℕ)
         (m : MapState) →
@@ -220,8 +222,8 @@ pub fn enomem_exactly()
         (m.bag ≡ []) ↔ IsFull k s.machine.store.elements m }
 {}
 
-/// In such a state an update answers that there is no memory only when the map is full so, and none succeeds
-/// while it is.
+/// In each state that is reached from the start an update answers that there is no memory only when the
+/// map's linked, unlinked and worn-out slots are all its slots, and none succeeds while they are.
 pub fn no_memory_when_full()
     ensures { (shapes : List MapShape) (programs : List Loaded) (s : Schedule) (k : ℕ)
         (m : MapState)
@@ -232,7 +234,8 @@ pub fn no_memory_when_full()
         × (IsFull k s.machine.store.elements m → ret ≢ Ok tt) }
 {}
 
-/// In such a state no more elements were born in a map than its slots can bear: each of them is used so often.
+/// In each state that is reached from the start no more elements were born in a map than its slots can
+/// bear: each of them is used so often.
 pub fn births_bounded()
     ensures { (shapes : List MapShape) (programs : List Loaded) (s : Schedule) (k : ℕ)
         (m : MapState) →
@@ -257,7 +260,7 @@ pub fn tracked_is_scheduled()
     ensures { (w : WorldView) (s : Schedule) → TracksSchedule w s → IsScheduled s }
 {}
 
-/// In every run of the machine from a state that a world tracks, elements are reclaimed late.
+/// In every history of the machine from a state that a world tracks, elements are reclaimed late.
 pub fn tracked_reclaimed_late()
     ensures { (w : WorldView) (events : List Event) (answers : List Answer) →
         AreReclaimedLate Tracks w events answers }
@@ -268,15 +271,16 @@ pub trait Tracking {
     ghost tracks: { Self → Schedule → Type 0 };
 }
 
-/// Over any worlds and whatever they track: answers that are steps one after another are those of a run, and the
-/// last world tracks its last state.
+/// Over any worlds and whatever they track: answers that are steps one after another are those of a
+/// run, and the last world tracks its last state.
 pub fn steps_make_history<World: Tracking>()
     ensures { (old new : World) (events : List Event) (answers : List Answer) →
         AreSteps World.tracks old events answers new →
         AnswersAsHistory World.tracks old events answers new }
 {}
 
-/// Answers that are steps one after another make a run with the runtime's choices, in which the drain law holds.
+/// Answers that are steps one after another make a run with the runtime's choices, in which the drain
+/// law holds.
 pub fn steps_make_runs()
     ensures { (old new : WorldView) (events : List Event) (answers : List Answer) →
         AreSteps TracksSchedule old events answers new →
@@ -293,8 +297,8 @@ pub fn runs_grow()
         AreScheduledAnswers TracksSchedule old (events ++ event ∷ []) (answers ++ answer ∷ []) new }
 {}
 
-/// Answers that are those of a run, and those of a run that goes on from it, are those of one run: the drain law
-/// holds over both.
+/// Answers that are those of a run, and those of a run that goes on from it, are those of one run: the
+/// drain law holds over both.
 pub fn runs_join()
     ensures { (old mid new : WorldView) (es fs : List Event) (xs ys : List Answer) →
         AreScheduledAnswers TracksSchedule old es xs mid →
@@ -313,7 +317,7 @@ pub fn runs_from_start()
         × TracksSchedule new (last_scheduled (start_schedule shapes programs) states) }
 {}
 
-/// Answers of a run with the runtime's choices are answers of a run of the machine.
+/// Answers of a history with the runtime's choices are answers of a history of the machine.
 pub fn scheduled_is_machine()
     ensures { (old new : WorldView) (events : List Event) (answers : List Answer) →
         AreScheduledAnswers TracksSchedule old events answers new →
@@ -346,7 +350,8 @@ pub fn near_words_fit()
         × (w < 2 ^ 64) }
 {}
 
-/// A fresh run of a program without map references shares nothing: it refers to its own context and frame alone.
+/// A fresh run of a program without map references shares nothing: it refers to its own context and
+/// frame alone.
 pub fn starts_sharing_nothing()
     ensures own { (name : ℕ) (program : Loaded) (context : List ℕ) → HasNoMaps program.code →
         SharesNothing (fresh_run name program context) }
@@ -359,8 +364,8 @@ pub fn stays_sharing_nothing()
         SharesNothing run → RunStep store opened run answer new_store new → SharesNothing new }
 {}
 
-/// Other actors change nothing of a run that shares nothing: a step of it leaves the maps as they are, and it is a
-/// step with the same answer, to the same run, over any other maps and open sections.
+/// Other actors change nothing of a run that shares nothing: a step of it leaves the maps as they are,
+/// and it is a step with the same answer, to the same run, over any other maps and open sections.
 pub fn others_change_nothing()
     ensures store { (store new_store : Store) (opened : List Section) (run new : Run)
         (answer : Answer) →
@@ -372,7 +377,7 @@ pub fn others_change_nothing()
         RunStep other sections run answer other new }
 {}
 
-/// Such a run has one step at most, whatever the maps and the open sections are.
+/// A run that shares nothing has one step at most, whatever the maps and the open sections are.
 pub fn one_step_alone()
     ensures answer { (store new_store other other_store : Store) (opened sections : List Section)
         (run new next : Run) (a b : Answer) →
@@ -384,8 +389,8 @@ pub fn one_step_alone()
         RunStep other sections run b other_store next → new ≡ next }
 {}
 
-/// Where a program exits on a context whatever other actors do, it has no other exit: no run of it, over any maps
-/// and open sections, exits after another number of steps or with another value.
+/// Where a program exits on a context whatever other actors do, it has no other exit: no run of it,
+/// over any maps and open sections, exits after another number of steps or with another value.
 pub fn one_exit()
     ensures steps { (program : Loaded) (context : List ℕ) (s t n k : ℕ) →
         ExitsWith program context s n → MayExitWith program context t k → s ≡ t }
@@ -400,9 +405,9 @@ pub fn exits_alone()
         MayExitWith program context s n → ExitsWith program context s n }
 {}
 
-/// A step of an instruction is what the run does by itself, or a request that the maps serve and with whose reply the
-/// run goes on, and nothing else. A request is an access to an element, the call of a helper, or to enter a section
-/// or leave one.
+/// A step of an instruction is what the run does by itself, or a request that the maps serve and with
+/// whose reply the run goes on, and nothing else. A request is an access to an element, the call of a
+/// helper, or to enter a section or leave one.
 pub fn steps_by_request()
     ensures { (i : Insn) (store new_store : Store) (opened : List Section) (run new : Run)
         (answer : Answer) →

@@ -35,7 +35,7 @@ WritesFrame at width v old false new = (frame_after at width v (cells_of old) �
 abbrev pub plain_state_of : PlainRun → State
 plain_state_of run = record {
   regs = λ r. slice_index_or run.regs r Nothing;
-  frame = λ k. slice_index_or run.frame k cells.Unwritten;
+  frame = λ k. cells_of run.frame k;
   place = run.place;
 }
 

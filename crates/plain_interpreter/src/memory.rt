@@ -48,7 +48,7 @@ fn byte_at(bytes: &[u8], at: usize) -> Option<u8>
     }
 }
 
-/// So many bytes as a little-endian number, if they are all there.
+/// So many bytes (at most 8, and none past byte 1024) as a little-endian number, if they are all there.
 pub fn number_in(bytes: &[u8], at: usize, width: usize) -> Option<u64>
     requires width { width ≤ 8 }
     requires small { at + width ≤ 1024 }

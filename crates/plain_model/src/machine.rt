@@ -30,7 +30,7 @@ use std::alloc::{AllocError, Global};
 pub struct Totals {
     pub linked: usize,
     pub unlinked: usize,
-    pub given: usize,
+    pub reclaimed: usize,
     pub worn: u64,
     pub runs: usize,
     pub open: usize,
@@ -119,15 +119,15 @@ impl Machine {
         let elements = self.store.elements.as_slice();
         let runs = self.runs.as_slice();
         let linked = elements.iter().filter(|e| e.life.is_linked()).count();
-        let given = elements.iter().filter(|e| e.life.is_reclaimed()).count();
+        let reclaimed = elements.iter().filter(|e| e.life.is_reclaimed()).count();
         let mut worn: u64 = 0;
         for state in self.store.maps.as_slice() {
             worn = worn.saturating_add(state.worn);
         }
         Totals {
             linked,
-            unlinked: elements.len().saturating_sub(linked).saturating_sub(given),
-            given,
+            unlinked: elements.len().saturating_sub(linked).saturating_sub(reclaimed),
+            reclaimed,
             worn,
             runs: runs.iter().filter(|slot| slot.is_some()).count(),
             open: runs.iter().filter(|slot| is_inside(slot)).count(),

@@ -36,7 +36,7 @@ element_in (Pointer (Frame o)) = None
 element_in (Pointer (MapRef m)) = None
 element_in (Pointer (Elem n o)) = Some (n, o)
 
--- that of the base register of a load or a store
+-- the element that the base register of a load or a store refers to, and the offset there
 abbrev pub base_element : Insn → State → Option (ℕ × ℤ)
 base_element (Load width dst src offset) m = element_in (m.regs src)
 base_element (LoadSigned width dst src offset) m = element_in (m.regs src)

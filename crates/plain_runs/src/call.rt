@@ -7,7 +7,7 @@ ghost use Rattle.bpf_model.specs.declared.insn.Insn.TheVariants as insns;
 ghost use Rattle.bpf_model.specs.declared.insn.CallKind.TheVariants as kinds;
 ghost use Rattle.bpf_model.specs.declared.call.KernelFunction.TheVariants as functions;
 ghost use Rattle.bpf_model.specs.declared.event.Answer.TheVariants as answers;
-ghost use Rattle.bpf_model.specs.Call.{ret_word as ret_word_of, helper_of, kernel_function_of};
+ghost use Rattle.bpf_model.specs.Call.{helper_of, kernel_function_of};
 ghost use Rattle.bpf_model.specs.Frame.{byte_of};
 ghost use Rattle.bpf_model.specs.Machine.{Loaded as ModelLoaded, moves};
 ghost use Rattle.bpf_model.specs.MapState.{Store as ModelStore};
@@ -24,21 +24,11 @@ use crate::run::{Loaded, Run};
 use arrayvec::ArrayVec;
 use bpf_model::{
     Answer, Cell, Errno, FRAME_BYTES, Helper, KernelFunction, KeyBytes, MAX_DEPTH, MapShape,
-    Reference, Reg, Value, ValueBytes,
+    Reference, Reg, Value, ValueBytes, ret_word,
 };
 use plain_interpreter::{PlainRun, number};
 use plain_store::{Fault, Section, Store, one_more};
 use std::alloc::Global;
-
-/// What a helper leaves in r0: 0, or the error as a negative number.
-fn ret_word(ret: Result<(), Errno>) -> u64
-    ensures { result ≡ ret_word_of ret }
-{
-    match ret {
-        Ok(()) => 0,
-        Err(errno) => u64::from(errno.number()).wrapping_neg(),
-    }
-}
 
 /// After a call r0 is its result and r1 to r5 hold nothing.
 fn returns(run: &mut Run, value: Value) -> Result<Answer, Fault>

@@ -109,7 +109,9 @@ fn step_run(
     }
 }
 
-/// A step of the run in a run slot.
+/// A step of the run in a run slot. Errors: `Stuck` where the run has no step, or its program is not
+/// there; `OutOfRange` where a count or an offset leaves 64 bits, and where no run has the slot;
+/// `Memory`.
 pub fn step_slot(
     alloc: Global,
     slot: &mut Option<Run>,

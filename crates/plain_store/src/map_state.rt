@@ -63,7 +63,8 @@ impl MapState {
         }
     }
 
-    /// A slot that was used so often comes back: to the end of the free ones, or it is worn out.
+    /// A slot that was used so often comes back: to the end of the free ones, or it is worn out. Errors:
+    /// `OutOfRange` where the uses exceed 32 bits or the count of worn slots 64; `Memory`.
     pub fn give_back(&mut self, uses: u64) -> Result<Given, Fault>
         ensures tells { TellsResult (λ given. (given ≡ given_of uses (map_of self.old))
             × (map_of self.new ≡ returned uses (map_of self.old))) ⊥ result }

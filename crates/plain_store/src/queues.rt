@@ -18,6 +18,7 @@ pub struct Queues {
 }
 
 /// The births that were linked and are unlinked now go to the ends of their maps' lists next.
+/// Fails where memory runs out.
 pub fn retire_all(
     queues: &mut [Queues],
     before: &[Option<usize>],
@@ -83,7 +84,7 @@ fn drop_first(queues: &mut Queues)
     }
 }
 
-/// That birth is ready no more.
+/// The first ready birth of the lowest map that has one is ready no more.
 pub fn take_first(queues: &mut [Queues])
     ensures { map queues_of queues.new ≡ without_first (map queues_of queues.old) }
 {

@@ -178,7 +178,8 @@ impl Store {
         }
     }
 
-    /// Removes a key, as the helper and the event do. Where memory is refused, nothing has changed.
+    /// Removes a key, as the helper and the event do: `NoEntry` where the map has no such key, or is not
+    /// there. Where memory is refused, nothing has changed.
     pub fn delete(
         &mut self,
         alloc: Global,
@@ -214,7 +215,7 @@ impl Store {
     }
 
     /// Reclaims element n, whose slot comes back. `Early` only where it may not be reclaimed: it isn't
-    /// unlinked, or a section of its set is open.
+    /// unlinked, a section of its set is open, or its map is not there. Else `OutOfRange` or `Memory`.
     pub fn reclaim(&mut self, n: usize, opened: &[Section]) -> Result<ReapedElement, Fault>
         ensures tells { TellsResult (ReclaimsTo (store_of self.old) (sections_of opened.now) n
             (store_of self.new)) ⊥ result }

@@ -212,6 +212,10 @@ fn first_marked(alloc: Global, len: usize) -> Result<Vec<bool>, AllocError>
 }
 
 /// Judges the jump graph, and says for each instruction the index to which it jumps.
+///
+/// Errors, in this order, each with the slot of its instruction: the first jump that leads back
+/// (`BackJump`) or to no instruction's start (`JumpTarget`); a last instruction that is not EXIT
+/// (`FallsOff`); the first instruction that no path reaches (`Unreachable`). `Memory` at any time.
 pub fn judge(
     alloc: Global,
     instructions: &[Insn],

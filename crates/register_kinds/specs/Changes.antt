@@ -1,4 +1,4 @@
--- What changes in a state, place by place.
+-- What changes in a state, register by register and byte by byte.
 use Rattle.std.specs.Prelude.{◌==◌, if◌then◌else◌}
 use Rattle.scalar_domain.specs.declared.scalar.Scalar.{Scalar}
 use Rattle.scalar_domain.specs.Constant.{constant_of}
@@ -13,14 +13,10 @@ use Rattle.register_kinds.specs.declared.kind.CellKind.TheVariants as class
 use Rattle.register_kinds.specs.declared.learn.Lesson.{Lesson}
 use Rattle.register_kinds.specs.declared.learn.Lesson.TheVariants.{SectionEnds, IsNull, IsThere}
 
--- the number 0 alone
-abbrev pub zero : Scalar
-zero = constant_of 0
-
 -- What is learnt at once of all that may be an element, in registers and in the frame.
 abbrev pub learnt_kind : Lesson → Kind → Kind
 learnt_kind SectionEnds kind = ended_kind kind
-learnt_kind (IsNull id) kind = null_kind id zero kind
+learnt_kind (IsNull id) kind = null_kind id number_zero kind
 learnt_kind (IsThere id) kind = there_kind id origin kind
 
 abbrev pub learnt_cell : Lesson → CellKind → CellKind

@@ -11,7 +11,7 @@ ghost use Rattle.register_kinds.specs.Pairs.{IsBelow, AreBelow};
 use crate::kind::{CellKind, RegKind};
 use crate::learn::Lesson;
 use crate::state::AbsState;
-use bpf_model::Reg;
+use bpf_model::{REGISTERS, Reg};
 
 /// The bytes of an access become of this class.
 fn fill(cells: &mut [CellKind], at: usize, width: usize, cell: CellKind)
@@ -25,7 +25,7 @@ fn fill(cells: &mut [CellKind], at: usize, width: usize, cell: CellKind)
 }
 
 /// The registers after a call: its result in r0, and nothing in r1 to r5.
-fn after_return(regs: &[RegKind; 11], returned: RegKind) -> [RegKind; 11]
+fn after_return(regs: &[RegKind; REGISTERS], returned: RegKind) -> [RegKind; REGISTERS]
     ensures { (r : ℕ) → kind_at result r ≡ returned_kind (kind_of returned) (kind_at regs.now) r }
 {
     [

@@ -3,7 +3,7 @@
 //! such states.
 //!
 //! `specs/States` says which abstract state of `typed_runs` a value of this crate is;
-//! `specs/Joined` what the kind of a joined place is.
+//! `specs/Joined` what the kind of a joined register or byte is.
 #![tactic(auto)]
 
 mod change;
@@ -20,4 +20,4 @@ pub use identities::{Identities, MAX_PAIRS};
 pub use kind::{CellKind, RegKind};
 pub use law::below_later;
 pub use learn::Lesson;
-pub use state::AbsState;
+pub use state::{AbsState, ORIGIN};

@@ -11,27 +11,27 @@ use crate::identities::{Identities, Pairs};
 use crate::join::join_kinds;
 use crate::kind::RegKind;
 use arrayvec::ArrayVec;
-use bpf_model::FRAME_BYTES;
+use bpf_model::{FRAME_BYTES, REGISTERS};
 use scalar_domain::Scalar;
 use std::alloc::{AllocError, Global};
 
-/// The offset 0, as a scalar that is kept 2^29 higher.
-pub(crate) const ORIGIN: u64 = 1 << 29;
+/// The offset 0 of the context or of a value: a scalar keeps offsets so much higher.
+pub const ORIGIN: u64 = 1 << 29;
 
 /// What is known before an instruction.
 #[derive(Clone, Copy)]
 pub struct AbsState {
-    pub regs: [RegKind; 11],
+    pub regs: [RegKind; REGISTERS],
     pub frame: FrameCells,
     /// Whether a section is open.
     pub inside: bool,
 }
 
 /// The registers at a program's entry.
-fn entry_registers() -> [RegKind; 11]
+fn entry_registers() -> [RegKind; REGISTERS]
     ensures { (r : ℕ) → kind_at result r ≡ entry_kind r }
 {
-    let mut regs = [RegKind::Unwritten; 11];
+    let mut regs = [RegKind::Unwritten; REGISTERS];
     regs[1] = RegKind::Ctx(Scalar::constant(ORIGIN));
     regs[10] = RegKind::Frame(FRAME_BYTES as i32);
     regs

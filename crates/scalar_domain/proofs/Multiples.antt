@@ -71,12 +71,6 @@ below_word n t k =
 pub sum_low : (x y t : ℕ) → t ≤ 64 → x % 2 ^ t ≡ 0 → y % 2 ^ t ≡ 0 → (x + y) % 2 ^ 64 % 2 ^ t ≡ 0
 sum_low x y t k e f = below_word (x + y) t k ∙ add-mod x y (2 ^ t) ∙ ap2 (λ a b. (a + b) % 2 ^ t) e f ∙ zero-mod (2 ^ t)
 
-again : (n t : ℕ) → n % 2 ^ t % 2 ^ t ≡ n % 2 ^ t
-again n t = ap (λ (j : ℕ). n % 2 ^ j % 2 ^ t) (omega arith) ∙ mod-mod-pow n 0 t
-
-word_low : (t : ℕ) → t ≤ 64 → 2 ^ 64 % 2 ^ t ≡ 0
-word_low t k = sym (below_word (2 ^ 64) t k) ∙ zero-mod (2 ^ t)
-
 -- a multiple times a number is a multiple
 pub product_low : (x y t : ℕ) → t ≤ 64 → x % 2 ^ t ≡ 0 → (x * y) % 2 ^ 64 % 2 ^ t ≡ 0
 product_low x y t k e = below_word (x * y) t k ∙ mul-mod x y (2 ^ t) ∙ ap (λ n. (n * (y % 2 ^ t)) % 2 ^ t) e ∙ ap (λ n. n % 2 ^ t) (omega arith) ∙ zero-mod (2 ^ t)

@@ -61,6 +61,7 @@ impl Scalar {
         }
     }
 
+    /// The bits that both have.
     #[tactic(auto, using(crate::proofs::Bits::bits_laws))]
     pub(crate) fn and(self, other: Scalar) -> Scalar
         ensures sound { (x y : ℕ) → Holds self x → Holds other y → Holds result (bit_and x y) }
@@ -81,6 +82,7 @@ impl Scalar {
         self.and(other.with_known_bits())
     }
 
+    /// The bits that either has.
     #[tactic(auto, using(crate::proofs::Bits::bits_laws))]
     pub(crate) fn or(self, other: Scalar) -> Scalar
         ensures sound { (x y : ℕ) → Holds self x → Holds other y → Holds result (bit_or x y) }
@@ -95,6 +97,7 @@ impl Scalar {
         )
     }
 
+    /// The bits that one of the two has.
     pub(crate) fn xor(self, other: Scalar) -> Scalar
         ensures sound { (x y : ℕ) → Holds self x → Holds other y → Holds result (bit_xor x y) }
     {
@@ -117,6 +120,7 @@ impl Scalar {
         }
     }
 
+    /// Each number shifted to the left, by less than 64.
     pub(crate) fn shift_left(self, by: u32) -> Scalar
         requires { by < 64 }
         ensures sound { (x : ℕ) → x < 2 ^ 64 → Holds self x → Holds result ((x * 2 ^ by) % 2 ^ 64) }
@@ -131,6 +135,7 @@ impl Scalar {
         }
     }
 
+    /// Each number shifted to the right, by less than 64.
     pub(crate) fn shift_right(self, by: u32) -> Scalar
         requires { by < 64 }
         ensures sound { (x : ℕ) → Holds self x → Holds result (x / 2 ^ by) }

@@ -194,7 +194,7 @@ fn relate_signed(relation: Relation, a: Scalar, b: Scalar, sign: u64) -> Option<
 }
 
 /// The numbers that stand in this relation to one of the other side; `None` where there are none by
-/// the bounds.
+/// the bounds, or where the relation tells nothing.
 fn relate(relation: Relation, a: Scalar, b: Scalar) -> Option<(Scalar, Scalar)>
     ensures sound { (x y : ℕ) → x < 2 ^ 64 → y < 2 ^ 64 → Holds a x → Holds b y
         → Related relation x y → IfSome result (AreHeld x y) }
@@ -223,7 +223,8 @@ fn relate(relation: Relation, a: Scalar, b: Scalar) -> Option<(Scalar, Scalar)>
     }
 }
 
-/// The numbers of each side without the one number of the other, where it has but one.
+/// The numbers of each side without the one number of the other, where it has but one. `None` where
+/// neither has but one, or where none is left.
 fn different(a: Scalar, b: Scalar) -> Option<(Scalar, Scalar)>
     ensures sound { (x y : ℕ) → x < 2 ^ 64 → y < 2 ^ 64 → Holds a x → Holds b y → x ≢ y
         → IfSome result (AreHeld x y) }

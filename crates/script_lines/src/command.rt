@@ -1,4 +1,4 @@
-//! Commands.
+//! What a line may ask for.
 
 use crate::bytes::Bytes;
 use crate::code::Code;

@@ -1,4 +1,4 @@
-//! Names.
+//! Names of maps, as a line has them.
 ghost use Rattle.std.specs.Prelude.{◌≡◌, List, ℕ, IfSome, IfNone};
 ghost use Rattle.std.specs.Str.{IsUtf8};
 

@@ -1,4 +1,4 @@
-//! Answers.
+//! What a command may be answered.
 
 use crate::name::Name;
 use bpf_model::{Errno, Given, KeyBytes, MapId, ProgId, RunId, Stat, ValueBytes};
@@ -16,7 +16,7 @@ pub enum Reply<'a> {
     Value(ValueBytes),
     /// `none`: a key without a value, or no element to reclaim.
     Nothing,
-    /// `run N`: the slot of a run that was started.
+    /// `run N`: the run slot of a run that was started.
     Run(RunId),
     /// `moved`: a step that did not end the run.
     Moved,

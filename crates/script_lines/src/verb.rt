@@ -21,7 +21,7 @@ pub(crate) enum Verb {
     Dump,
 }
 
-/// Every one.
+/// Every verb.
 pub(crate) const VERBS: [Verb; 12] = [
     Verb::Map,
     Verb::Load,

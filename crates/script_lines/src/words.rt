@@ -74,7 +74,7 @@ impl<'a> Words<'a> {
         Some(word)
     }
 
-    /// That there is none.
+    /// `Some` where no word is left, `None` where there is one.
     pub(crate) fn end(&self) -> Option<()>
         ensures some { IfSome result (λ _. self.now ≡ []) }
         ensures none { IfNone result ((word : List ℕ) × (words : List (List ℕ))

@@ -29,15 +29,6 @@ is_equal Less e = absurd (false≢true e)
 is_equal Equal e = refl
 is_equal Greater e = absurd (false≢true e)
 
-is_less : (o : Ordering) → is_lt o ≡ true → o ≡ Less
-is_less Less e = refl
-is_less Equal e = absurd (false≢true e)
-is_less Greater e = absurd (false≢true e)
-
-above_true : (bound : Option (List ℕ)) (key : List ℕ) → IsAbove bound key → is_above bound key ≡ true
-above_true None key a = refl
-above_true (Some bound) key a = ap is_lt a
-
 -- what is above a key above the bound is above the bound
 above_more : (bound : Option (List ℕ)) (key other : List ℕ) → IsAbove bound key → IsLess key other → IsAbove bound other
 above_more None key other a l = tt

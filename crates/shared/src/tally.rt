@@ -14,7 +14,8 @@ pub struct Totals {
     pub reclaimed: u64,
 }
 
-/// How many elements a world had reclaimed, and how many were unlinked and not yet reclaimed, when it was shared.
+/// How many elements a world had reclaimed, and how many were unlinked and not yet reclaimed, when it
+/// was shared.
 #[derive(Clone, Copy)]
 pub(crate) struct Origin {
     pub(crate) reclaimed: u64,

@@ -119,7 +119,8 @@ fn loaded<R: Abort>(
     Ok(Loaded { verified, maps })
 }
 
-/// A world with one map and four programs: 0 is `ONE`, 1 and 2 are lookups of the keys 0 and 1, 3 is `FIRST_BYTE`.
+/// A world with one map and four programs: 0 is `ONE`, 1 and 2 are lookups of the keys 0 and 1, 3 is
+/// `FIRST_BYTE`.
 pub fn world_of<R: Abort>(rt: &R, alloc: Global) -> Result<World, Fail> {
     let mut registry = Registry::new(alloc);
     registry.create("m", SHAPE).expect(rt, "a map");

@@ -115,8 +115,8 @@ fn nothing_at_first<I: Index + Drop>(
     Ok(told)
 }
 
-/// A copy goes on when the index that it was made of is gone: what it finds of three keys after a further unlink
-/// and link.
+/// A copy goes on when the index that it was made of is gone: what it finds of three keys after a
+/// further unlink and link.
 fn copy_goes_on<I: Index + Drop>(alloc: Global) -> Result<Vec<Option<usize>>, AllocError> {
     let mut arena = stocked(alloc, SLOTS, &[[5, 5], [4, 4], [6, 6]])?;
     let mut index = I::new(alloc, 3, SLOTS)?;

@@ -19,7 +19,8 @@ pub(crate) const SMALL: MapShape = MapShape {
     reuse_limit: 2,
 };
 
-/// The tests of an update in their order; the slots that elements take; the order of reclamation; wear; order of keys.
+/// The tests of an update in their order; the slots that elements take; the order of reclamation; wear;
+/// order of keys.
 const SMALL_LINES: &str = "slot 07 = none\n\
 put 07 0102 3 = -22\n\
 put 07 0102 2 = -2\n\

@@ -40,7 +40,7 @@ use Rattle.bpf_model.specs.Near.{IsNear}
 use Rattle.typed_runs.specs.Describes.{Scene, Naming, Stored, HasOffset, IsOf, IsOfCell, AreNear, Describes}
 use Rattle.typed_runs.specs.Effects.{with_kind, with_cells, after_call, after_lock, after_unlock, when_null, when_there, IsFresh, IsOther, IsOtherCell, IsAlwaysInside, HasBytes}
 use Rattle.typed_runs.specs.Verified.{Plan, Transfers, ActsAlone, IsVerified}
-use Rattle.typed_runs.specs.Planned.{Wider, entry_state, IsCovered}
+use Rattle.typed_runs.specs.Planned.{number_zero, origin, Wider, entry_state, IsCovered}
 use Rattle.typed_runs.proofs.Sets.{set-described}
 use Rattle.typed_runs.proofs.Arguments.{reg-is}
 use Rattle.typed_runs.proofs.Calls.{lock_transfers, unlock_transfers, lookup_transfers}
@@ -83,13 +83,7 @@ computes i dst kind v a c env m f one alone ne is d p n = record {
   lands = inl (f, ap (λ x. m.place + x) (sym one), set-described a c m dst (m.place + 1) kind v d p n);
 }
 
-abbrev pub zero_scalar : Scalar
-zero_scalar = constant_of 0
-
-abbrev pub origin : Scalar
-origin = constant_of 536870912
-
-holds-zero : Holds zero_scalar 0
+holds-zero : Holds number_zero 0
 holds-zero = record { least = omega arith; greatest = omega arith; zeros = refl; ones = refl }
 
 only-origin : (o : ℤ) → HasOffset origin o → o ≡ pos 0
@@ -110,7 +104,7 @@ module _ (any : Scalar) where
   s0 = entry_state
 
   abbrev pub s1 : AbsState
-  s1 = with_kind 6 (Num zero_scalar) s0
+  s1 = with_kind 6 (Num number_zero) s0
 
   abbrev pub s2 : AbsState
   s2 = after_lock s1
@@ -214,7 +208,7 @@ module _ (any : Scalar) (all : (n : ℕ) → n < 2 ^ 64 → Holds any n) where
 
   t0 : Transfers (Alu Move Word64 6 (Immediate (pos 0))) shapes 0 (s0 any) (s1 any) None
   t0 = alone_transfers (Alu Move Word64 6 (Immediate (pos 0))) shapes 0 (s0 any) (s1 any) None refl (λ c env m w d.
-      computes (Alu Move Word64 6 (Immediate (pos 0))) 6 (Num zero_scalar) (Number 0) (s0 any) c env m refl refl (λ es fs other h. h) (λ e. omega arith) refl d (0, refl, omega arith, holds-zero) tt)
+      computes (Alu Move Word64 6 (Immediate (pos 0))) 6 (Num number_zero) (Number 0) (s0 any) c env m refl refl (λ es fs other h. h) (λ e. omega arith) refl d (0, refl, omega arith, holds-zero) tt)
 
   t1 : Transfers (Call Kernel (pos 1)) shapes 0 (s1 any) (s2 any) None
   t1 = lock_transfers (pos 1) shapes 0 (s1 any) refl refl
@@ -260,8 +254,8 @@ module _ (any : Scalar) (all : (n : ℕ) → n < 2 ^ 64 → Holds any n) where
   t7 : Transfers (Call Helper (pos 1)) shapes 0 (s7 any) (s8 any) None
   t7 = lookup_transfers (pos 1) shapes 0 (s7 any) 0 0 example_shape refl refl (record { map_is = refl; shape_is = refl }) key fresh
 
-  t8 : Transfers (JumpIf Equal Word64 0 (Immediate (pos 0)) (pos 1)) shapes 0 (s8 any) (s9 any) (Some (when_null 0 zero_scalar (s8 any)))
-  t8 = equal_transfers shapes 0 0 1 0 0 (s8 any) zero_scalar origin holds-zero origin_has refl
+  t8 : Transfers (JumpIf Equal Word64 0 (Immediate (pos 0)) (pos 1)) shapes 0 (s8 any) (s9 any) (Some (when_null 0 number_zero (s8 any)))
+  t8 = equal_transfers shapes 0 0 1 0 0 (s8 any) number_zero origin holds-zero origin_has refl
 
   t9 : Transfers (Load Eight 6 0 (pos 0)) shapes 0 (s9 any) (with_kind 6 (Num any) (s9 any)) None
   t9 = load_transfers Eight 6 0 (pos 0) shapes 0 (s9 any) 0 example_shape origin any refl refl placed-origin (λ e. omega arith) (λ n l. all n (omega arith))
@@ -298,8 +292,8 @@ module _ (any : Scalar) (all : (n : ℕ) → n < 2 ^ 64 → Holds any n) where
     cells = λ k. tt;
   }
 
-  from-null : Wider (when_null 0 zero_scalar (s8 any)) (s10 any)
-  from-null = wide-ten (when_null 0 zero_scalar (s8 any)) refl (λ c m d. let n = reg-is (when_null 0 zero_scalar (s8 any)) c m 6 (Num zero_scalar) d refl in (n.0, n.1, n.2, all n.0 n.2))
+  from-null : Wider (when_null 0 number_zero (s8 any)) (s10 any)
+  from-null = wide-ten (when_null 0 number_zero (s8 any)) refl (λ c m d. let n = reg-is (when_null 0 number_zero (s8 any)) c m 6 (Num number_zero) d refl in (n.0, n.1, n.2, all n.0 n.2))
 
   from-load : Wider (with_kind 6 (Num any) (s9 any)) (s10 any)
   from-load = wide-ten (with_kind 6 (Num any) (s9 any)) refl (λ c m d. reg-is (with_kind 6 (Num any) (s9 any)) c m 6 (Num any) d refl)
@@ -335,7 +329,7 @@ module _ (any : Scalar) (all : (n : ℕ) → n < 2 ^ 64 → Holds any n) where
                     insn = JumpIf Equal Word64 0 (Immediate (pos 0)) (pos 1);
                     there = refl;
                     new = s9 any;
-                    taken = Some (when_null 0 zero_scalar (s8 any));
+                    taken = Some (when_null 0 number_zero (s8 any));
                     transfers = t8;
                     falls_on = λ f. (s9 any, refl, same (s9 any));
                     jumps_on = λ by j. (9, jump-to, (s10 any, refl, from-null));

@@ -31,6 +31,10 @@ pub record Joins (pair : ℕ → ℕ × ℕ) (a b c : AbsState) : Type 0 where
   pub left : IsWider (λ id. (pair id).0) a c
   pub right : IsWider (λ id. (pair id).1) b c
 
+-- the number 0 alone
+abbrev pub number_zero : Scalar
+number_zero = constant_of 0
+
 -- the offset 0 alone
 abbrev pub origin : Scalar
 origin = constant_of (2 ^ 29)

@@ -82,7 +82,7 @@ pub fn alike_wider()
     ensures { (a b : AbsState) → AreAlike a b → Wider a b }
 {}
 
-/// A narrower state before, and a wider one after, do as well.
+/// An instruction transfers also from a narrower state, and to a wider one.
 pub fn transfers_wider()
     ensures { (i : Insn) (shapes : List MapShape) (ctx_len : ℕ) (old before new other : AbsState)
         (taken also : Option AbsState) → Wider old before → Wider new other
@@ -214,13 +214,13 @@ pub fn starts_well()
         → IsWell (start_machine shapes programs) }
 {}
 
-/// It stays well, whatever event comes and whatever it answers.
+/// A well machine stays well, whatever event comes and whatever it answers.
 pub fn keeps_well()
     ensures { (m new : Machine) (event : Event) (answer : Answer) → IsWell m → IsReal event
         → DoesEvent m event answer new → IsWell new }
 {}
 
-/// Then each run that hasn't ended has a step.
+/// In a well machine each run that hasn't ended has a step.
 pub fn well_never_stuck()
     ensures { (m : Machine) → IsWell m → NeverStuck m }
 {}
@@ -287,7 +287,7 @@ pub fn lookup_is_verified()
         → IsVerified lookup_and_load (example_shape ∷ []) 0 }
 {}
 
-/// With it, and whatever the control plane does, no run is ever stuck.
+/// With the program that looks up a key, and whatever the control plane does, no run is ever stuck.
 pub fn lookup_never_stuck()
     ensures { (any : Scalar) → ((n : ℕ) → n < 2 ^ 64 → Holds any n) → (s : Schedule)
         → IsReachedSchedule (example_shape ∷ [])

@@ -44,15 +44,12 @@ here w s x k v at =
     record { state = m.0; lists = q.0; there = m.1; listed = q.1; stands = x.map k v m.0 q.0 at m.1 q.1 }
 
 -- the shape that a view shows is the machine's
-abbrev shape_at : Option MapState → Option MapShape
-shape_at o = shape_in o
-
 pub shapes-agree : (w : WorldView) (s : Schedule) → RefinesSchedule w s → (k : ℕ) → shape_of s.machine.store k ≡ shape_shown (slice_get w.maps k)
 shapes-agree w s x k = elim (option_cases (slice_get w.maps k)) [
-  | inl none ↦ ap shape_at (none-there (slice_get s.machine.store.maps k) refl none) ∙ sym (ap shape_shown none)
+  | inl none ↦ ap shape_in (none-there (slice_get s.machine.store.maps k) refl none) ∙ sym (ap shape_shown none)
   | inr some ↦
       let h = here w s x k some.0 some.1 in
-      ap shape_at h.there ∙ (ap (λ (m : MapState). Some m.shape) h.stands.state ∙ sym (ap shape_shown some.1))
+      ap shape_in h.there ∙ (ap (λ (m : MapState). Some m.shape) h.stands.state ∙ sym (ap shape_shown some.1))
 ]
   where
     none-there : (o : Option MapState) → slice_get s.machine.store.maps k ≡ o → slice_get w.maps k ≡ None → slice_get s.machine.store.maps k ≡ None

@@ -94,15 +94,15 @@ pub fn reaction_keeps()
         x.1.programs ≡ w.programs }
 {}
 
-/// A reaction to an event within its types is an answer with the runtime's choices, and the view after it tracks what
-/// follows.
+/// A reaction to an event within its types is an answer with the runtime's choices, and the view after
+/// it tracks what follows.
 pub fn reaction_tracks()
     ensures { (w : WorldView) (event : Event) (x : Answer × WorldView) → IsReal event →
         reaction w event ≡ Some x → AnswersAsScheduled TracksSchedule w event x.0 x.1 }
 {}
 
-/// A law: a step that simulates each schedule which the world tracks, to a view with the same shapes and programs,
-/// is answered as scheduled.
+/// A law: a step that simulates each schedule which the world tracks, to a view with the same shapes
+/// and programs, is answered as scheduled.
 pub fn simulates_tracks()
     ensures { (w new : WorldView) (event : Event) (answer : Answer) → IsReal event →
         shapes_of new ≡ shapes_of w → new.programs ≡ w.programs →
@@ -156,19 +156,8 @@ pub fn update_half()
         (updated v key value flags).0 }
 {}
 
-/// An element that may be accessed stands in the slot that its birth took, and a reference to it is that slot's word.
-pub fn element_shown()
-    ensures slot { (w : WorldView) (s : Schedule) → (m : Matches w s)
-        → (n : ℕ) (e : Element) (v : MapView) →
-        accessible s.machine.store.elements n ≡ Some e → slice_get w.maps e.map ≡ Some v →
-        slice_get v.slots (slice_index m.refines.slots n) ≡ Some (slot_view e) }
-    ensures word { (w : WorldView) (s : Schedule) → (m : Matches w s) → (n : ℕ) (e : Element) →
-        accessible s.machine.store.elements n ≡ Some e →
-        element_bases m.refines.slots s.machine.store.elements n ≡ slot_base e.map
-        (slice_index m.refines.slots n) }
-{}
-
-/// The first half of a run's step that stores to an element: the low bytes of a number take their place in its slot.
+/// The first half of a run's step that stores to an element: the low bytes of a number take their place
+/// in its slot.
 pub fn store_half()
     ensures { (w : WorldView) (s : Schedule) → (m : Matches w s) →
         (n : ℕ) (e : Element) (v : MapView) (offset : ℤ) (width at x : ℕ) →

@@ -11,8 +11,8 @@ use crate::world::World;
 use bpf_model::{Answer, CtxBytes, Event, ProgId, RunId};
 use world_parts::Parts;
 
-/// Puts the answer of a start in the place of another one. It stands apart, as the next two do, so that no other
-/// event pays for its locals.
+/// Puts the answer of a start in the place of another one. It stands apart, as the next two do, so that
+/// no other event pays for its locals.
 #[inline(never)]
 fn start(parts: &mut Parts, prog: ProgId, ctx: &CtxBytes, answer: &mut Answer)
     ensures answer { answer.new ≡ (full_reaction parts.old (events.Start prog ctx.now)).0 }

@@ -40,7 +40,7 @@ pub fn reaction_is_world()
         IsWorld (full_reaction w event).1 }
 {}
 
-/// So do the reactions to a list of events.
+/// The reactions to a list of events make a world of a world.
 pub fn reactions_make_world()
     ensures { (w : WorldView) (events : List Event) → IsWorld w → AreReal events →
         IsWorld (full_reactions w events).1 }
@@ -51,7 +51,7 @@ pub fn world_is_matched()
     ensures { (w : WorldView) → IsWorld w → IsMatched w }
 {}
 
-/// Its count of reclaimed elements has room for one more.
+/// A world's count of reclaimed elements has room for one more.
 pub fn count_has_room()
     ensures { (w : WorldView) → IsWorld w → w.given + 1 < 2 ^ 64 }
 {}

@@ -63,13 +63,14 @@ pub fn stays_listed()
         DoesEvent m event answer new → AreListed m → AreListed new }
 {}
 
-/// They are so in each reached state.
+/// In each reached state references to maps are to those of the program's list.
 pub fn reached_is_listed()
     ensures { (shapes : List MapShape) (programs : List Loaded) (s : Schedule) →
         IsReachedSchedule shapes programs s → AreListed s.machine }
 {}
 
-/// Arithmetic, jumps, exits, and loads and stores of the run's own context and frame.
+/// Arithmetic, jumps, exits, and loads and stores of the run's own context and frame: what they do to
+/// words is a step of the machine.
 pub fn own_step_simulates()
     ensures { (w : WorldView) (s : Schedule) → Matches w s → IsSound w s →
         (r : ℕ) (run later : Run) (v : RunView) → IsRunning w s r run v →
@@ -79,7 +80,7 @@ pub fn own_step_simulates()
         Simulates s (Event.Step r) (insn_step i run.program r v w) }
 {}
 
-/// Loads from elements and stores to them.
+/// Loads from elements and stores to them: what they do to words is a step of the machine.
 pub fn access_simulates()
     ensures { (w : WorldView) (s : Schedule) → Matches w s → IsSound w s →
         (r : ℕ) (run later : Run) (v : RunView) → IsRunning w s r run v →
@@ -90,7 +91,7 @@ pub fn access_simulates()
         Simulates s (Event.Step r) (insn_step i run.program r v w) }
 {}
 
-/// A lock and an unlock.
+/// A lock and an unlock: what they do to words is a step of the machine.
 pub fn kernel_call_simulates()
     ensures { (w : WorldView) (s : Schedule) → Matches w s → IsSound w s →
         (r : ℕ) (run later : Run) (v : RunView) → IsRunning w s r run v → (imm : ℤ) →
@@ -99,7 +100,7 @@ pub fn kernel_call_simulates()
         Simulates s (Event.Step r) (insn_step (Insn.Call CallKind.Kernel imm) run.program r v w) }
 {}
 
-/// A lookup, an update and a delete, with any result.
+/// A lookup, an update and a delete, with any result: what they do to words is a step of the machine.
 pub fn helper_call_simulates()
     ensures { (w : WorldView) (s : Schedule) → Matches w s → IsSound w s →
         (r : ℕ) (run : Run) (v : RunView) → IsRunning w s r run v →
@@ -137,8 +138,8 @@ pub fn tracked_is_sound()
     ensures { (w : WorldView) (s : Schedule) → TracksSchedule w s → IsReadyWorld w → IsSound w s }
 {}
 
-/// The main theorem above the code: the reaction to an event is a step with the runtime's choices, from each schedule
-/// that the world tracks to one that it tracks afterwards.
+/// The main theorem above the code: the reaction to an event is a step with the runtime's choices, from
+/// each schedule that the world tracks to one that it tracks afterwards.
 pub fn simulates()
     ensures { (w : WorldView) (s : Schedule) (event : Event) → TracksSchedule w s → IsReadyWorld w →
         IsReal event →
@@ -161,13 +162,13 @@ pub fn starts_ready()
         → IsReadyWorld (start_view shapes programs) }
 {}
 
-/// It stays ready.
+/// A ready world stays ready, whatever event comes.
 pub fn stays_ready()
     ensures { (w : WorldView) (event : Event) → IsReadyWorld w
         → IsReadyWorld (full_reaction w event).1 }
 {}
 
-/// Its counts stay bounded.
+/// The counts of a ready world stay bounded.
 pub fn stays_bounded()
     ensures { (w : WorldView) (s : Schedule) (event : Event) → TracksSchedule w s → IsReadyWorld w →
         IsReal event → IsBounded w → IsBounded (full_reaction w event).1 }
@@ -217,8 +218,8 @@ pub fn local_agrees()
         Agrees (local_of i v) r v w (insn_step i program r v w) }
 {}
 
-/// It asks nothing where the machine's run acts by itself, and it asks where that accesses an element. (It asks at each
-/// call, by the definition.)
+/// A run asks nothing of its world where the machine's run acts by itself, and it asks where that
+/// accesses an element. (It asks at each call, by the definition.)
 pub fn asks_exactly()
     ensures nothing { (w : WorldView) (s : Schedule) → Matches w s → IsSound w s →
         (r : ℕ) (run : Run) (v : RunView) → IsRunning w s r run v → (i : Insn) (out : Outcome) →
@@ -237,8 +238,8 @@ pub fn insn_is_there()
         (r : ℕ) (run : Run) (v : RunView) → IsRunning w s r run v → HasInsn w v }
 {}
 
-/// What a load or a store reaches is there: bytes of the context or of the frame, or of a slot that has an element; a
-/// store never reaches the context.
+/// What a load or a store reaches is there: bytes of the context or of the frame, or of a slot that has
+/// an element; a store never reaches the context.
 pub fn access_reaches()
     ensures load { (w : WorldView) (s : Schedule) → Matches w s → IsSound w s →
         (r : ℕ) (run : Run) (v : RunView) → IsRunning w s r run v →
@@ -258,8 +259,8 @@ pub fn access_reaches()
         × IsWritable (location_of (word_in v dst)) }
 {}
 
-/// A helper is called with a map of the program's list and with bytes of the frame, and a lock or an unlock comes at a
-/// depth that allows it.
+/// A helper is called with a map of the program's list and with bytes of the frame, and a lock or an
+/// unlock comes at a depth that allows it.
 pub fn calls_are_allowed()
     ensures helper { (w : WorldView) (s : Schedule) → Matches w s → IsSound w s →
         (r : ℕ) (run : Run) (v : RunView) → IsRunning w s r run v → (imm : ℤ) →
@@ -286,8 +287,8 @@ pub fn example_is_ready()
     ensures { (any : Scalar) → ((n : ℕ) → n < 2 ^ 64 → Holds any n) → IsReadyWorld example_world }
 {}
 
-/// In it a run reads an element that is deleted meanwhile, and reclaimed after its section: the answers, worked out by
-/// hand.
+/// In it a run reads an element that is deleted meanwhile, and reclaimed after its section: the
+/// answers, worked out by hand.
 pub fn example_reacts()
     ensures { (full_reactions example_world example_events).0 ≡ example_answers }
 {}

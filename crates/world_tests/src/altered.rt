@@ -121,7 +121,8 @@ impl Both {
         Ok(())
     }
 
-    /// Whether a run exits within so many steps, where the key is there at its start and taken away before this step.
+    /// Whether a run exits within so many steps, where the key is there at its start and taken away
+    /// before this step.
     fn run(&mut self, count: usize, removal: usize) -> Result<bool, Fail> {
         self.apply(put())?;
         self.apply(Event::Start {

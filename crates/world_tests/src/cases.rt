@@ -20,8 +20,8 @@ struct Setting {
     context_len: usize,
 }
 
-/// A setting and its events. Where the program is one that can be stuck, it is said by what number and at which slot
-/// the verifier refuses it, and the plain model alone goes through the events.
+/// A setting and its events. Where the program is one that can be stuck, it is said by what number and
+/// at which slot the verifier refuses it, and the plain model alone goes through the events.
 struct Case {
     setting: Setting,
     refused: Option<(u8, usize)>,
@@ -632,8 +632,8 @@ fn answers_are_as_worked_out(rt: HostRuntime) -> Result<(), Fail> {
     Ok(())
 }
 
-/// All 64 run slots are taken; then 62, 63 and 64 in the order of their tests; steps and drops at each state of a run,
-/// 60, 61 and 67; and the lowest free slot is taken.
+/// All 64 run slots are taken; then 62, 63 and 64 in the order of their tests; steps and drops at each
+/// state of a run, 60, 61 and 67; and the lowest free slot is taken.
 fn full_table(alloc: Global) -> Result<String, Fail> {
     let mut events = String::new(alloc);
     for slot in 0..64usize {

@@ -11,8 +11,8 @@ use std::test::Fail;
 use world::World;
 use world_parts::Loaded;
 
-/// A compiled program: how many bytes its context has, its maps, and its slots in hexadecimal digits; and events with
-/// their answers.
+/// A compiled program: how many bytes its context has, its maps, and its slots in hexadecimal digits;
+/// and events with their answers.
 struct Row {
     name: &'static str,
     context: usize,

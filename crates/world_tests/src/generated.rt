@@ -76,7 +76,8 @@ fn value(random: &mut Random, len: usize) -> ValueBytes {
     value
 }
 
-/// The number of a map, now and then of none; the length of its keys, now and then another; and that of its values.
+/// The number of a map, now and then of none; the length of its keys, now and then another; and that of
+/// its values.
 fn target(random: &mut Random) -> (MapId, usize, usize) {
     let number = random.below(3);
     let (key_len, value_len) = if number < 2 { (4, 8) } else { (8, 16) };

@@ -16,8 +16,8 @@ use verifier::{Refusal, Verified, verify};
 use world::World;
 use world_parts::Loaded;
 
-/// A program: lines of the assembly language, parted by a semicolon and a space; the numbers of its maps, and the
-/// length of its context.
+/// A program: lines of the assembly language, parted by a semicolon and a space; the numbers of its
+/// maps, and the length of its context.
 #[derive(Clone, Copy)]
 pub struct Source {
     pub lines: &'static str,

@@ -68,8 +68,8 @@ pub const WIDE_BOUND: &str = "ldxdw r6, [r1+0]; jgt r6, 7, +11; callbtf 1; stw [
 mov64 r2, r10; add64 r2, -4; ldmap r1, 0; call 1; jeq r0, 0, +2; add64 r0, r6; ldxb r7, [r0+0]; \
 callbtf 2; mov64 r0, 0; exit";
 
-/// Two lookups of one key, the second where a byte of the context is not 0; the first result is tested, and what the
-/// second gave is loaded from.
+/// Two lookups of one key, the second where a byte of the context is not 0; the first result is tested,
+/// and what the second gave is loaded from.
 pub const OTHER_LOOKUP: &str = "ldxb r8, [r1+0]; callbtf 1; stw [r10-4], 0; mov64 r2, r10; \
 add64 r2, -4; ldmap r1, 0; call 1; mov64 r6, r0; mov64 r7, r0; jeq r8, 0, +6; mov64 r2, r10; \
 add64 r2, -4; ldmap r1, 0; call 1; mov64 r7, r0; jeq r6, 0, +1; ldxdw r0, [r7+0]; callbtf 2; \

@@ -26,7 +26,7 @@ impl Answering for Machine {
         Stat {
             linked: totals.linked,
             unlinked: totals.unlinked,
-            given: totals.given,
+            given: totals.reclaimed,
             worn: totals.worn as usize,
             runs: totals.runs,
             open: totals.open,
