@@ -109,7 +109,9 @@ fn unary_mnemonic(op: &UnaryOp) -> Mnemonic
     match op {
         UnaryOp::Negate(size) => Mnemonic::Negate(*size),
         UnaryOp::ByteSwap { order, width } => Mnemonic::ByteSwap(*order, *width),
-        UnaryOp::MoveSigned { extension, .. } => Mnemonic::MoveSigned(extension_parts(*extension).0),
+        UnaryOp::MoveSigned { extension, .. } => Mnemonic::MoveSigned(
+            extension_parts(*extension).0,
+        ),
     }
 }
 

@@ -126,7 +126,10 @@ impl Machine {
         }
         Totals {
             linked,
-            unlinked: elements.len().saturating_sub(linked).saturating_sub(reclaimed),
+            unlinked: elements
+                .len()
+                .saturating_sub(linked)
+                .saturating_sub(reclaimed),
             reclaimed,
             worn,
             runs: runs.iter().filter(|slot| slot.is_some()).count(),

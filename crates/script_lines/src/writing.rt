@@ -108,7 +108,13 @@ fn push_pair(
 fn push_stat(out: &mut Vec<u8>, stat: Stat) -> Result<(), AllocError>
     ensures { OnOk result (out.new.items ≡ out.old.items ++ stat_text stat) }
 {
-    push_pair(out, "stat linked ", stat.linked, " unlinked ", stat.unlinked)?;
+    push_pair(
+        out,
+        "stat linked ",
+        stat.linked,
+        " unlinked ",
+        stat.unlinked,
+    )?;
     push_pair(out, " given ", stat.given, " worn ", stat.worn)?;
     push_pair(out, " runs ", stat.runs, " open ", stat.open)
 }
