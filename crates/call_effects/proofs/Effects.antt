@@ -14,7 +14,7 @@ use Rattle.std.specs.Int.Bits.{and_self}
 use Rattle.typed_runs.specs.Kinds.{Kind, Blank, Mixed, Ended, Num, CtxAt, FrameAt, MapAt, ValueAt, MaybeNull, AbsState}
 use Rattle.typed_runs.specs.Effects.{after_call, after_lock, after_unlock, IsOther, IsOtherCell, IsFresh, HasMap, HasBytes, when_null, when_there}
 use Rattle.typed_runs.specs.Verified.{Transfers}
-use Rattle.typed_runs.specs.Planned.{AreAlike, origin}
+use Rattle.typed_runs.specs.Planned.{AreAlike, number_zero, origin}
 use Rattle.typed_runs.proofs.Planning.{alike_wider, transfers_wider, origin_has, to_alike}
 use Rattle.typed_runs.proofs.Calls.{lock_transfers, unlock_transfers, lookup_transfers}
 use Rattle.typed_runs.proofs.Updating.{update_transfers, delete_transfers}
@@ -27,7 +27,7 @@ use Rattle.register_kinds.specs.declared.state.AbsState.{AbsState as StateHere}
 use Rattle.register_kinds.specs.declared.learn.Lesson.TheVariants.{IsNull, IsThere}
 use Rattle.register_kinds.specs.States.{kind_of, cell_of, kind_at, kind_in, class_in, state_of}
 use Rattle.register_kinds.specs.Pairs.{IsBelow, AreBelow}
-use Rattle.register_kinds.specs.Changes.{zero, learnt}
+use Rattle.register_kinds.specs.Changes.{learnt}
 use Rattle.kind_tests.specs.Forks.{ForksOnNull}
 use Rattle.call_effects.specs.Calls.{PerformsCall, null_jump}
 

@@ -5,8 +5,8 @@ ghost use Rattle.world_laws.specs.Calling.{bytes_in};
 ghost use Rattle.world_laws.specs.Moving.{word_in};
 ghost use Rattle.world_laws.specs.Reaching.{IsInFrame};
 
-use crate::run::Run;
 use crate::regions::{FRAME_BASE, MAP_BASE};
+use crate::run::Run;
 use bpf_model::Reg;
 
 impl Run {

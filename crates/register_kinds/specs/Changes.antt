@@ -5,7 +5,7 @@ use Rattle.scalar_domain.specs.Constant.{constant_of}
 use Rattle.typed_runs.specs.Kinds.{Kind, CellKind, AbsState}
 use Rattle.typed_runs.specs.Effects.{ended_kind, ended_cell, null_kind, null_cell, there_kind}
 use Rattle.typed_runs.specs.Effects.{there_cell}
-use Rattle.typed_runs.specs.Planned.{origin}
+use Rattle.typed_runs.specs.Planned.{number_zero, origin}
 use Rattle.register_kinds.specs.declared.kind.RegKind.{RegKind}
 use Rattle.register_kinds.specs.declared.kind.RegKind.TheVariants as kinds
 use Rattle.register_kinds.specs.declared.kind.CellKind as classes
