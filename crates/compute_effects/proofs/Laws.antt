@@ -1,17 +1,14 @@
 -- Laws of the definitions of arithmetic and of memory: the results are words of 64 bits.
-use Rattle.std.proofs.Common.{◌≡◌, ℕ, ◌%◌, ◌^◌, ◌<◌, refl, arith}
+use Rattle.std.proofs.Common.{◌≡◌, ℕ, ◌%◌, ◌^◌, ◌<◌, refl}
 use Rattle.std.specs.Prelude.{Some}
 use Rattle.std.proofs.lemmas.Nat.{mod_below, pow_pos}
-use mir.Val.{bits}
 use Rattle.bpf_model.specs.declared.insn.AluOp.{AluOp}
 use Rattle.bpf_model.specs.declared.insn.AluOp.TheVariants.{Add, Sub, Mul, Div, SignedDiv, Or, And, ShiftLeft, ShiftRight, Mod, SignedMod, Xor, Move, ShiftRightSigned}
 use Rattle.bpf_model.specs.declared.insn.UnaryOp.{UnaryOp}
 use Rattle.bpf_model.specs.declared.insn.UnaryOp.TheVariants.{Negate, ByteSwap, MoveSigned}
-use Rattle.bpf_model.specs.declared.opcode.SwapWidth.{SwapWidth}
-use Rattle.bpf_model.specs.declared.opcode.SwapWidth.TheVariants as swap_widths
 use Rattle.bpf_model.specs.declared.opcode.Size.{Size}
 use Rattle.bpf_model.specs.declared.opcode.Size.TheVariants.{Word32, Word64}
-use Rattle.bpf_model.specs.Arithmetic.{alu, swapped_width, unary}
+use Rattle.bpf_model.specs.Arithmetic.{alu, unary}
 use Rattle.bpf_model.specs.Operand.{computed}
 use Rattle.bpf_model.specs.declared.value.Value.TheVariants.{Number}
 use Rattle.scalar_domain.proofs.Words.{negated_lt, moved_signed_lt}

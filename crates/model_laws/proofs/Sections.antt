@@ -5,7 +5,7 @@ use Rattle.std.proofs.lemmas.Bool.{ltb-true, lt-ltb}
 use Rattle.std.proofs.lemmas.Option.{none-some, same_Some}
 use Rattle.bpf_model.proofs.Cases.{in-some}
 use Rattle.bpf_model.specs.Section.{Section, Has}
-use Rattle.bpf_model.specs.Machine.{Run, is_inside, section_of, open_sections, run_in, run_at}
+use Rattle.bpf_model.specs.Machine.{Run, is_inside, section_of, open_sections, run_at}
 
 pub run-set_cases : (runs : List (Option Run)) (r q : ℕ) (new : Option Run) (x : Run) → run_at (slice_set runs r new) q ≡ Some x → ((q ≡ r) × (new ≡ Some x)) ⊎ ((q ≢ r) × (run_at runs q ≡ Some x))
 run-set_cases [] r q new x h = absurd (none-some x h)

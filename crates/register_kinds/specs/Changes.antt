@@ -1,7 +1,5 @@
 -- What changes in a state, register by register and byte by byte.
 use Rattle.std.specs.Prelude.{◌==◌, if◌then◌else◌}
-use Rattle.scalar_domain.specs.declared.scalar.Scalar.{Scalar}
-use Rattle.scalar_domain.specs.Constant.{constant_of}
 use Rattle.typed_runs.specs.Kinds.{Kind, CellKind, AbsState}
 use Rattle.typed_runs.specs.Effects.{ended_kind, ended_cell, null_kind, null_cell, there_kind}
 use Rattle.typed_runs.specs.Effects.{there_cell}

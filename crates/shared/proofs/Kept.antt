@@ -1,8 +1,7 @@
 -- The programs that are kept are those of the world, as far as they were copied.
-use Rattle.std.proofs.Common.{◌≡◌, ◌∙◌, ℕ, zero, suc, ◌+◌, List, [], ◌∷◌, ◌++◌, map, take, Some, sym, ap, add-one}
+use Rattle.std.proofs.Common.{◌≡◌, ◌∙◌, ℕ, suc, ◌+◌, List, [], ◌∷◌, ◌++◌, map, take, Some, sym, ap, add-one}
 use Rattle.std.specs.Prelude.{slice_get}
 use Rattle.std.proofs.lemmas.List.{map-append}
-use Rattle.std.proofs.lemmas.Option.{none-some, same_Some}
 use Rattle.bpf_model.proofs.Lists.{take-next}
 use Rattle.bpf_model.specs.Machine.{Loaded}
 use Rattle.verifier.specs.Checked.{Checked}

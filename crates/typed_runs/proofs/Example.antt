@@ -34,7 +34,6 @@ use Rattle.bpf_model.specs.MachineStep.{AccessesElement, element_store, NeverStu
 use Rattle.model_laws.specs.Example.{lookup_and_load, lookup_program, example_shape}
 use Rattle.scalar_domain.specs.Scalar.{Holds}
 use Rattle.scalar_domain.specs.declared.scalar.Scalar.{Scalar}
-use Rattle.scalar_domain.specs.Constant.{constant_of}
 use Rattle.typed_runs.specs.Kinds.{Kind, Blank, Num, FrameAt, MapAt, MaybeNull, CellKind, BlankCell, ByteCell, AbsState}
 use Rattle.bpf_model.specs.Near.{IsNear}
 use Rattle.typed_runs.specs.Describes.{Scene, Naming, Stored, HasOffset, IsOf, IsOfCell, AreNear, Describes}

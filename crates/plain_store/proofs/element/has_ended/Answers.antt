@@ -1,7 +1,6 @@
-use Rattle.std.proofs.Common.{◌≡◌, List, ap, subst, sym, ◌∙◌}
+use Rattle.std.proofs.Common.{ap, subst, sym, ◌∙◌}
 use Rattle.bpf_model.proofs.Cases.{same-since}
-use Rattle.bpf_model.specs.Section.{Section, AllEnded}
-use Rattle.bpf_model.specs.Element.{Unlinked}
+use Rattle.bpf_model.specs.Section.{AllEnded}
 use Rattle.plain_store.specs.State.{life_of, sections_of}
 use Rattle.plain_store.proofs.element.has_ended.Goals as goal
 
