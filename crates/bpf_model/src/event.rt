@@ -98,7 +98,8 @@ pub enum Answer {
     Refused(EventRefusal),
 }
 
-fn are_bytes(bytes: &[u8])
+/// A law: the elements of a slice of bytes are bytes.
+pub fn are_bytes(bytes: &[u8])
     ensures { AreBytes bytes.now }
 {}
 

@@ -18,7 +18,7 @@ mod value;
 
 pub use array::array_of;
 pub use call::{Errno, Helper, KernelFunction, ret_word};
-pub use event::{Answer, Event, EventRefusal, Given, ReapedElement, are_real};
+pub use event::{Answer, Event, EventRefusal, Given, ReapedElement, are_bytes, are_real};
 pub use id::{MapId, ProgId, RunId};
 pub use insn::{AluOp, CallKind, Insn, Operand, SignExtension, UnaryOp};
 pub use limits::{

@@ -78,7 +78,7 @@ pub record IsVerifierVerdict (bytes : List ℕ) (v : Verdict) : Type 0 where
   pub not_plain_with_maps : v.code ≢ 13 →
       ¬ (IsPlainWithMaps source.program (registry_shapes source.registry))
 
--- Memory ran out, or it is the first fault of the file, or of its code.
+-- The verdict is want of memory, or the first fault of the file, or of its code.
 abbrev pub IsDecodeRefusal : List ℕ → Verdict → Type 0
 IsDecodeRefusal bytes v = (v.code ≡ 13) ⊎ (IsFileVerdict bytes v ⊎ IsCodeVerdict bytes v)
 
@@ -91,7 +91,8 @@ IsCheckedRefusal bytes v = IsDecodeRefusal bytes v ⊎ IsVerifierVerdict bytes v
 abbrev pub IsRefusedByDecode : List ℕ → Type 0
 IsRefusedByDecode bytes = (v : Verdict) × (v.code ≢ 13) × IsDecodeRefusal bytes v
 
--- so it has, or the verifier has a verdict of it
+-- the file or its code has a fault other than want of memory, or the verifier has such a verdict of
+-- its program
 abbrev pub IsRefusedByCheck : List ℕ → Type 0
 IsRefusedByCheck bytes = (v : Verdict) × (v.code ≢ 13) × IsCheckedRefusal bytes v
 

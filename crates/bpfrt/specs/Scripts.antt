@@ -6,16 +6,16 @@ use Rattle.control.specs.Sessions.{IsNoCommand}
 use Rattle.script_stream.specs.Answered.{Answered, AnsweredBefore}
 use Rattle.script_stream.specs.Lines.{lines_of}
 
--- It adds the answers to all lines of the input, one after another. Their events are one run of the
--- machine.
+-- `script` adds the answers to all lines of the input, one after another. Their events are one
+-- history of the machine.
 pub record AnswersAll (old new : Option (List ℕ)) (bytes : List ℕ) : Type 0 where
   pub text : List ℕ
   pub last : History
   pub answered : Answered Continues new_history (lines_of bytes) text last
   pub written : Appends old new text
 
--- A line of the input is too long or no command. It adds the answers to the lines before, and
--- nothing else.
+-- A line of the input is too long or no command. `script` adds the answers to the lines before,
+-- and nothing else.
 pub record AnswersBefore (old new : Option (List ℕ)) (bytes : List ℕ) : Type 0 where
   pub read : List ℕ
   pub rest : List ℕ

@@ -18,7 +18,7 @@ use std::io::{ErrorKind, Read};
 /// How many bytes are read at once.
 const CHUNK: usize = 4096;
 
-/// How many bytes of a text are kept: 16 MiB. A sound text of 4,096 slots has fewer than 75,000.
+/// How many bytes of a text are kept: 16 MiB. A sound text of `MAX_SLOTS` slots has fewer than 75,000.
 const TEXT_BYTES: usize = 16 << 20;
 
 /// A program, and what it is verified against.
@@ -34,8 +34,8 @@ pub struct Source {
 pub enum FileBytes {
     /// All bytes.
     Whole(Vec<u8>),
-    /// They are no text, and more than 8 for each of 4,096 slots; the remainder of their number
-    /// by 8.
+    /// The bytes are no text, and more than 8 for each of `MAX_SLOTS` slots; the remainder of their
+    /// number by 8.
     TooLong(usize),
 }
 
@@ -93,7 +93,7 @@ impl FileBytes {
         ensures found { (bytes : List ℕ) → HoldsBytes self.now bytes →
             IfOk result (IsSourceOf bytes) }
         ensures limit { IfOk result (λ s. s.ctx_len ≤ CTX_BYTES) }
-        // Nothing has happened to its maps.
+        // Nothing has happened to the source's maps.
         ensures maps { IfOk result (λ s.
             s.registry.maps ≡ map new_map_view (registry_shapes s.registry)) }
         ensures fault { (bytes : List ℕ) → HoldsBytes self.now bytes →

@@ -22,7 +22,8 @@ fn stopped<E: Write>(err: &mut E, why: ScriptFault) -> u8
     }
 }
 
-/// Answers the script that the input is.
+/// Answers the script that the input is on `out`, and answers the exit status: 0, 1 at a line that is no
+/// command, 3 for a fault.
 pub fn run_lines<R: Read, W: Write, E: Write>(
     alloc: Global,
     input: &mut R,

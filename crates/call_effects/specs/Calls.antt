@@ -36,7 +36,7 @@ abbrev pub PerformsCall : CallKind → ℤ → List MapShape → AbsState → Ab
 PerformsCall kind imm shapes old new =
     (ctx_len : ℕ) → Transfers (Call kind imm) shapes ctx_len (state_of old) (state_of new) None
 
--- a jump on the number 0, or on any other, to a slot further on
+-- a jump to a slot further on where the register is equal to 0, or where it is not
 abbrev pub null_jump : Bool → ℕ → ℕ → Insn
 null_jump equal dst n =
     JumpIf (if equal then Equal else NotEqual) Word64 dst (Immediate (pos 0)) (pos n)

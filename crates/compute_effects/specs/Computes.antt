@@ -66,7 +66,7 @@ Combines size op x y k =
     (c : Scene) (ρ : Naming) (v w : Value) → IsOf c ρ x v → IsOf c ρ y w → IsNear w →
     Gives c ρ k (computed size op v w)
 
--- From each described state it does so.
+-- In each described state the operation gives a value of the kind.
 abbrev pub Computes : Size → AluOp → ℕ → Operand → Known → Kind → Type 0
 Computes size op dst src a k =
     (c : Scene) (m : State) (d : Describes a c m) →

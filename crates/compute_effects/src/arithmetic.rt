@@ -91,16 +91,6 @@ pub fn alu(
     Ok(())
 }
 
-/// The register that an operation of one operand reads.
-fn source_of(op: &UnaryOp, dst: Reg) -> Reg
-    ensures { result ≡ unary_source op.now dst }
-{
-    match op {
-        UnaryOp::MoveSigned { src, .. } => *src,
-        UnaryOp::Negate(_) | UnaryOp::ByteSwap { .. } => dst,
-    }
-}
-
 /// An operation of one operand, a number. Errors as `alu`.
 pub fn unary(state: &mut AbsState, op: &UnaryOp, dst: Reg) -> Result<(), Fault>
     ensures sound { OnOk result (PerformsComputation (Insn.Unary op.now dst) state.old state.new) }
@@ -110,7 +100,7 @@ pub fn unary(state: &mut AbsState, op: &UnaryOp, dst: Reg) -> Result<(), Fault>
     ensures unchanged { OnErr result (state.new ≡ state.old) }
 {
     check_writable(dst)?;
-    let kind = held(state, source_of(op, dst))?;
+    let kind = held(state, op.source(dst))?;
     let n = numbers(kind)?;
     state.set(dst, RegKind::Num(Scalar::unary(*op, n)));
     Ok(())

@@ -1,4 +1,4 @@
--- A script's lines as one run of the machine.
+-- A script's lines as one history of the machine.
 use Rattle.std.specs.Prelude.{◌≡◌, ℕ, List, [], ◌++◌}
 use Rattle.bpf_model.specs.declared.event.Event.{Event}
 use Rattle.script_setup.specs.Setups.{SetupView, no_maps_or_programs}
@@ -16,7 +16,7 @@ pub record History : Type 0 where
 abbrev pub new_history : History
 new_history = record { session = new_session; made = no_maps_or_programs; events = [] }
 
--- The events are one run of the machine, from its start with these maps and programs.
+-- The events are one history of the machine, from its start with these maps and programs.
 abbrev pub RunsTo : SetupView → List Event → Session → Type 0
 RunsTo made events (sessions.Setup setup) = (made ≡ setup) × (events ≡ [])
 RunsTo made events (sessions.Live live) =
@@ -28,7 +28,7 @@ StaysMade (sessions.Setup setup) old new = Unit {0}
 StaysMade (sessions.Live live) old new = new ≡ old
 
 -- One more line is answered with this text. Its events come behind those before, and all of them
--- are one run.
+-- are one history.
 abbrev pub Continues : History → List ℕ → List ℕ → History → Type 0
 Continues old line text new =
     (events : List Event) × LineAnswers old.session line events text new.session

@@ -10,10 +10,11 @@ use Rattle.scalar_domain.specs.declared.scalar.Scalar.{Scalar}
 use Rattle.typed_runs.specs.Kinds.{Num, AbsState as Known}
 use Rattle.typed_runs.specs.Describes.{Scene, IsOf, Describes}
 
--- In each described state both sides of the comparison are numbers.
+-- a value that is a number
 abbrev pub IsNumber : Value → Type 0
 IsNumber v = (n : ℕ) × (v ≡ Number n)
 
+-- In each described state both sides of the comparison are numbers.
 abbrev pub ComparesNumbers : Known → ℕ → Operand → Type 0
 ComparesNumbers a dst src =
     (c : Scene) (m : State) → Describes a c m →

@@ -16,7 +16,7 @@ put m 00000000 0600000000000000 0 = ret -12\n\
 get m 00000000 = value 0500000000000000\n\
 get m 01000000 = none\n\
 del m 01000000 = ret -2\n",
-    // A slot is worn after its second use.
+    // A map slot is worn after its second use.
     "map m 4 8 1 0 2 = map 0\n\
 put m 00000000 0500000000000000 0 = ret 0\n\
 del m 00000000 = ret 0\n\

@@ -25,7 +25,7 @@ ReachesElement maps width offset (InSlot map slot o) =
     IsElementReached maps width map slot (o +ℤ offset)
 ReachesElement maps width offset l = ⊥
 
--- the number that it finds
+-- the number that a load at an offset from the location finds
 abbrev pub element_number : List MapView → ℕ → ℤ → Location → ℕ
 element_number maps width offset (InSlot map slot o) =
     number_from (value_of (slice_get maps map) slot) width (o +ℤ offset)

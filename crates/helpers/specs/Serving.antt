@@ -42,24 +42,25 @@ IsReply (Load address offset width) bound maps v word =
 IsReply (Call helper) bound maps v word = word ≡ (called helper bound v maps).0
 IsReply access bound maps v word = Unit {0}
 
--- the maps afterwards
+-- the maps after a request is served
 abbrev pub maps_after : Access → List ℕ → RunView → List MapView → List MapView
 maps_after (Store address offset width number) bound v maps =
     stored_element (byte_count width) number offset (location_of address) maps
 maps_after (Call helper) bound v maps = (called helper bound v maps).1
 maps_after access bound v maps = maps
 
--- the flags of sections afterwards, where the run stands in this slot
+-- these sections are open, and of the awaited ones those are awaited that still are
 abbrev pub with_opened : GraceState → List Bool → GraceState
 with_opened g opened = record { opened = opened; awaited = still_open g.awaited opened }
 
+-- the flags of sections after what the run in this run slot asks is served
 abbrev pub grace_after : Access → ℕ → GraceState → GraceState
 grace_after Enter run g = with_opened g (slice_set g.opened run true)
 grace_after Leave run g = with_opened g (slice_set g.opened run false)
 grace_after access run g = g
 
--- A run that has not ended stands in slot r of the world with this view. Its flag is set where its
--- depth says so, and no section is awaited that is not open.
+-- A run that has not ended stands in run slot r of the world with this view. Its flag is set where
+-- its depth says so, and no section is awaited that is not open.
 pub record IsFlagged (w : WorldView) (r : ℕ) (v : RunView) : Type 0 where
   pub opened : slice_get w.opened r ≡ Some (nat_lt 0 v.depth)
   pub awaited : still_open w.awaited w.opened ≡ w.awaited
@@ -68,7 +69,7 @@ pub record IsFlagged (w : WorldView) (r : ℕ) (v : RunView) : Type 0 where
 abbrev pub flags_of : WorldView → GraceState
 flags_of w = record { opened = w.opened; awaited = w.awaited }
 
--- the world in which the run in slot r has another view, with these maps and flags
+-- the world in which the run in run slot r has another view, with these maps and flags
 abbrev pub world_with : List MapView → GraceState → ℕ → RunView → WorldView → WorldView
 world_with maps g r v w =
     record {
@@ -80,7 +81,7 @@ world_with maps g r v w =
       given = w.given;
     }
 
--- The run in slot r has answered its step so, and has this view now: then x is what the world
+-- The run in run slot r has answered its step so, and has this view now: then x is what the world
 -- answers, and the world after it. A run that asks is as before.
 abbrev pub IsOwnWorld : Local → Option Access → ℕ → RunView → RunView → WorldView →
     Answer × WorldView → Type 0

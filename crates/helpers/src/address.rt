@@ -12,14 +12,14 @@ use machine::{NEAR, SLOT_BASE, SPAN};
 /// So many regions are kept for each map.
 const MOST_SLOTS: usize = MAX_ENTRIES + MAX_SPARE;
 
-/// A slot of a map.
+/// A map slot, and the number of its map.
 #[derive(Clone, Copy)]
 pub(crate) struct MapSlot {
     pub(crate) map: usize,
     pub(crate) slot: usize,
 }
 
-/// The word of the first byte of a slot.
+/// The word of the first byte of a map slot.
 #[inline]
 pub(crate) fn slot_word(map: usize, slot: usize) -> u64
     requires map { map < MAX_MAPS }
@@ -37,7 +37,7 @@ fn region_of(word: u64) -> u64
     word / SPAN + (word % SPAN + NEAR) / SPAN
 }
 
-/// The slot that a word lies in.
+/// The map slot that a word lies in.
 #[inline]
 pub(crate) fn map_slot_of(word: u64) -> MapSlot
     requires { IsInSlot (location_of word) }

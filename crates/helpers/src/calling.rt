@@ -12,7 +12,7 @@ use bpf_model::{Helper, MapId, Reg, ret_word};
 use machine::Run;
 use maps::{Map, Registry};
 
-/// The word of the slot that the map has for the key in r2, or 0.
+/// The word of the map slot that the map has for the key in r2, or 0.
 fn lookup(run: &Run, map: &Map, id: MapId) -> u64
     requires key { IsInFrame (word_in run.now.view 2) map.now.shape.key_len }
     requires id { id < MAX_MAPS }
@@ -56,7 +56,7 @@ fn delete(run: &Run, map: &mut Map) -> u64
 /// Calls a helper, with the arguments in the run's registers and frame. `bound` has the numbers
 /// of the program's maps, in the order of its list.
 ///
-/// The answer is the word for r0: of a lookup that of the slot under the key, or 0; of an
+/// The answer is the word for r0: of a lookup that of the map slot under the key, or 0; of an
 /// update and a delete 0, or the error as a negative number. A key is compared where it lies in
 /// the frame.
 pub(crate) fn call(helper: Helper, run: &Run, maps: &mut Registry, bound: &[usize]) -> u64

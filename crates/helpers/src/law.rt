@@ -17,7 +17,7 @@ ghost use Rattle.machine.specs.Requests.{access_of};
 ghost use Rattle.machine.specs.Steps.{IsLocalStep};
 ghost use Rattle.helpers.specs.Serving.{CanServe, IsFlagged, IsOwnWorld, IsReply, served_step};
 
-/// A slot that has an element, linked under its own key or waiting in one of the three lists,
+/// A map slot that has an element, linked under its own key or waiting in one of the three lists,
 /// stands somewhere in its map: what a world knows of a slot is what a map asks.
 pub fn occupied_stands()
     ensures { (v : MapView) (i : ℕ) → reaching.HasElement v i → shown.IsOccupied v i }

@@ -1,7 +1,7 @@
 //! What an instruction of a run asks of its world, served: accesses to elements, helpers and
 //! sections.
 //!
-//! Words stand for references. A word's map, slot and offset are computed from it in constant
+//! Words stand for references. A word's map, map slot and offset are computed from it in constant
 //! time; keys and values are read where they lie in the run's frame. No call takes memory, and
 //! none fails.
 #![tactic(auto)]

@@ -14,8 +14,8 @@ abbrev pub IsBadCount : ℕ → ℕ → Type 0
 IsBadCount threads workers = (threads ≡ 0) ⊎ (MAX_WORKERS < threads) ⊎ (workers < threads)
 
 module _ {J W T : Type 0} (fits : W → W → J → T → Type 0) where
-  -- It is right for the job, by one of the workers, between what that worker was before and what it
-  -- is after.
+  -- The result is right for the job, by one of the workers, between what that worker was before and
+  -- what it is after.
   pub record IsServedByOne (before after : List W) (job : J) (served : T) : Type 0 where
     pub index : ℕ
     pub first : W
@@ -24,7 +24,7 @@ module _ {J W T : Type 0} (fits : W → W → J → T → Type 0) where
     pub is : slice_get after index ≡ Some last
     pub right : fits first last job served
 
-  -- it is right for the job of this number, by one of the workers
+  -- the result is right for the job of this number, by one of the workers
   pub record IsServedFor (jobs : List J) (before after : List W) (k : ℕ) (served : T) : Type 0 where
     pub job : J
     pub at : slice_get jobs k ≡ Some job
@@ -42,7 +42,7 @@ module _ {J W T : Type 0} (fits : W → W → J → T → Type 0) where
       slice_get results k ≡ Some served
       → IsServedByOne before after job served
 
-  -- it is right for the job of this number, by a worker between `first` and `last`
+  -- the result is right for the job of this number, by a worker between `first` and `last`
   pub record IsRight (jobs : List J) (first last : W) (k : ℕ) (served : T) : Type 0 where
     pub job : J
     pub at : slice_get jobs k ≡ Some job

@@ -36,6 +36,6 @@ pub record HasBlankLine {T : Type 0} (lines : List (Option T)) : Type 0 where
   pub index : ℕ
   pub at : slice_get lines index ≡ Some None
 
--- it is spoilt, or a line has no result
+-- the sheet is spoilt, or one of its lines has no result
 abbrev pub IsUnfinished : {T : Type 0} → Sheet T → Type 0
 IsUnfinished s = (s.spoilt ≡ true) ⊎ HasBlankLine s.lines.items

@@ -15,10 +15,10 @@ pub trait Serve {
     /// The worker may serve a job.
     ghost ready: { Self → Self.Worker → Type 0 };
 
-    /// The second is the first after it has served some jobs, or none.
+    /// The second worker is the first one after it has served some jobs, or none.
     ghost later: { Self.Worker → Self.Worker → Type 0 };
 
-    /// It is right for the job, by a worker between what it was and what it is.
+    /// What was served is right for the job, by a worker between what it was and what it is.
     ghost fits: { Self → Self.Worker → Self.Worker → Self.Job → Self.Served → Type 0 };
 
     /// Serves one job by a worker that may serve it, and leaves a worker that may serve the next.

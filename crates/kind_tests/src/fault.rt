@@ -46,7 +46,7 @@ pub enum Fault {
 impl Fault {
     ghost use Rattle.kind_tests.specs.FaultNumbers.{insn_fault_number};
 
-    /// The number by which the fault is known, 23 to 39, or 13 for want of memory.
+    /// The number by which the fault is known, 23 to 37 or 39, or 13 for want of memory.
     pub fn code(self) -> u8
         ensures { result ≡ insn_fault_number self }
     {

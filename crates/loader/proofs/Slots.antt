@@ -12,6 +12,7 @@ use Rattle.maps.specs.declared.fault.MapFault.{MapFault}
 use Rattle.maps.specs.declared.fault.MapFault.TheVariants.{BadName, NameTaken, BadShape, TooMany}
 use Rattle.maps.specs.declared.name.TheConstants.{NAME_BYTES}
 use Rattle.maps.specs.Registry.{RegistryView, is_name, is_name_character, begins_with_letter, is_between, is_shape, has_name, creation_fault}
+use Rattle.maps.proofs.Names.{small_character}
 use Rattle.loader.specs.Lines.{file_words, code_slots, both_parts}
 
 -- what was added to the code is the slots of the line's words but for those that are left
@@ -58,9 +59,6 @@ reuse_within shape h e =
 
 pub too_often : (r : RegistryView) (name : List ℕ) (shape : MapShape) → MAX_REUSE < shape.reuse_limit → creation_fault r name shape ≢ None
 too_often r name shape h e = absurd (reuse_within shape h (sound_map r name shape e).1)
-
-small_character : (c : ℕ) → is_name_character c ≡ true → c < 128
-small_character c h = grind (arith, nat_tests)
 
 small_characters : (name : List ℕ) → list_all is_name_character name ≡ true → All (λ b. b < 128) name
 small_characters name h k d inside = small_character (get_or name k d) (AllPass-from_list_all is_name_character name h k d inside)

@@ -23,13 +23,13 @@ pub record IsDecimalWord (word : List ℕ) (n : ℕ) : Type 0 where
   pub value : n ≡ digits_value 10 word
   pub fits : n < 2 ^ 64
 
-abbrev bytes_of : Result (List ℕ) FromHexError → Option (List ℕ)
-bytes_of (Ok bytes) = Some bytes
-bytes_of (Err e) = None
+abbrev decoded_bytes : Result (List ℕ) FromHexError → Option (List ℕ)
+decoded_bytes (Ok bytes) = Some bytes
+decoded_bytes (Err e) = None
 
 -- the 8 bytes of a slot: sixteen hexadecimal digits, in either case
 abbrev pub slot_in : List ℕ → Option (List ℕ)
-slot_in word = bytes_of (decode_sized word 8)
+slot_in word = decoded_bytes (decode_sized word 8)
 
 abbrev pub both_parts : Option (List ℕ) → Option (List ℕ) → Option (List ℕ)
 both_parts (Some front) (Some back) = Some (front ++ back)

@@ -69,8 +69,8 @@ abbrev pub IsFileBeginning : List (List ℕ) → Type 0
 IsFileBeginning lines =
     (rest : List (List ℕ)) × (content : FileContent) × IsProgramFile (lines ++ rest) content
 
--- what is wrong behind such a beginning: the next line, or that there is none and the file is not
--- finished
+-- what is wrong behind the beginning of a program file: the next line, or that there is none and
+-- the file is not finished
 abbrev pub IsWrongAfter : List (List ℕ) → List (List ℕ) → Type 0
 IsWrongAfter front [] = (content : FileContent) → ¬ (IsProgramFile front content)
 IsWrongAfter front (line ∷ rest) = ¬ (IsFileBeginning (front ++ line ∷ []))
@@ -88,7 +88,7 @@ pub record IsFirstWrongLine (lines : List (List ℕ)) (n : ℕ) : Type 0 where
 abbrev pub heading : List ℕ
 heading = codes "bpfrt 1\n"
 
--- the bytes begin otherwise
+-- the bytes do not begin with the heading
 abbrev pub IsRawFile : List ℕ → Type 0
 IsRawFile bytes = (text : List ℕ) → ¬ (bytes ≡ heading ++ text)
 

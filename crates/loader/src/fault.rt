@@ -51,7 +51,7 @@ impl From<AllocError> for LoadFault {
 /// Why a line is not taken.
 #[derive(Clone, Copy, Debug, PartialEq, Eq)]
 pub enum LineFault {
-    /// No program file has it there.
+    /// No program file has this line there.
     Wrong,
     /// An allocation failed.
     Memory,

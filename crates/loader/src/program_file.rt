@@ -19,7 +19,7 @@ pub const HEADING: &[u8] = b"bpfrt 1\n";
 pub struct ProgramFile {
     /// The bytes of the program's context, at most `CTX_BYTES`.
     pub ctx_len: usize,
-    /// Its maps, without elements; the program names each by its number here.
+    /// The file's maps, without elements; the program names each by its number here.
     pub registry: Registry,
     /// The program's bytes, slot after slot. They may be no program.
     pub code: Vec<u8>,

@@ -19,8 +19,8 @@ abbrev pub loaded_alone : Checked → Loaded
 loaded_alone v = record { code = v.program; maps = []; context_len = v.ctx_len }
 
 -- The words are those of a run of the program: in some world that the machine tracks they are the
--- run in slot 0. It refers to its own context and frame alone, and where it exits from here, it has
--- exited so from its start.
+-- run in run slot 0. It refers to its own context and frame alone, and where it exits from here, it
+-- has exited so from its start.
 pub record StandsAlone (v : Checked) (view : RunView) : Type 0 where
   pub world : WorldView
   pub schedule : Schedule
@@ -33,7 +33,7 @@ pub record StandsAlone (v : Checked) (view : RunView) : Type 0 where
   pub so_far : (steps n : ℕ) → ExitsFrom run steps n →
       ExitsFrom (fresh_run 0 (loaded_alone v) view.context) (view.moved + steps) n
 
--- The run stands so before its next instruction.
+-- The run is at its code, and its words are those of a run by itself.
 pub record IsLone (v : Checked) (r : RunWords) : Type 0 where
   pub at : IsAt v.program r
   pub stands : StandsAlone v r.view

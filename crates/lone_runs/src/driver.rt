@@ -4,8 +4,7 @@ ghost use Rattle.bpf_model.specs.declared.limits.TheConstants.{MAX_SLOTS};
 ghost use Rattle.bpf_model.specs.Exit.{ExitsWith, MayExitWith};
 ghost use Rattle.lone_runs.specs.Lone.{loaded_alone};
 
-use crate::step::are_bytes;
-use bpf_model::CtxBytes;
+use bpf_model::{CtxBytes, are_bytes};
 use machine::{Next, Workspace};
 use verifier::Verified;
 

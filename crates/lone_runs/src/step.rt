@@ -1,9 +1,8 @@
 //! The start of a run, and its steps.
 ghost use Rattle.std.specs.Prelude.{◌≡◌, [], length};
-ghost use Rattle.bpf_model.specs.Event.{AreBytes};
 ghost use Rattle.lone_runs.specs.Lone.{IsLone, IsStep};
 
-use bpf_model::CtxBytes;
+use bpf_model::{CtxBytes, are_bytes};
 use machine::{Access, Local, Run};
 use verifier::Verified;
 
@@ -15,11 +14,6 @@ pub enum Step {
     /// The run has exited with this value.
     Exit(u64),
 }
-
-/// A law: the elements of a slice of bytes are bytes.
-pub(crate) fn are_bytes(bytes: &[u8])
-    ensures { AreBytes bytes.now }
-{}
 
 /// A run of the program on a context that has made no step.
 pub fn start_alone(verified: &Verified, ctx: &CtxBytes) -> Run

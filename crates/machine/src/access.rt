@@ -10,7 +10,7 @@ pub enum Access {
         offset: i16,
         width: Width,
     },
-    /// The low bytes of a number, to be stored there.
+    /// The low bytes of a number, to be stored at an offset in bytes from the word of an address.
     Store {
         address: u64,
         offset: i16,

@@ -20,7 +20,7 @@ use byte_numbers::{number_of, write_number};
 pub(crate) enum Memory {
     Context,
     Frame,
-    /// At a map, or in a slot of one.
+    /// At a map, or in a map slot.
     Elsewhere,
 }
 

@@ -16,5 +16,5 @@ pub(crate) const FRAME_BASE: u64 = 1 << 41;
 /// The word of the first map.
 pub(crate) const MAP_BASE: u64 = 1 << 42;
 
-/// The word of the first byte of slot 0 of map 0.
+/// The word of the first byte of map slot 0 of map 0.
 pub const SLOT_BASE: u64 = 1 << 43;

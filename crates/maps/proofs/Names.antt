@@ -1,8 +1,10 @@
 -- Names of maps among the texts that a set keeps.
-use Rattle.std.proofs.Common.{◌≡◌, ap, ◌∙◌, refl, sym, Bool, List, map}
+use Rattle.std.proofs.Common.{◌≡◌, ◌<◌, ℕ, ap, ◌∙◌, refl, sym, arith, Bool, true, List, map}
 use Rattle.std.specs.Prelude.{[], ◌∷◌, ◌++◌, ◌||◌, Some, None, not, ◌+◌, position, cond, nat_lt, length}
 use Rattle.std.specs.List.{list_any, position_or_len, prefix_len, AllZip}
+use Rattle.std.proofs.lemmas.Bool.Decides.{nat_tests}
 use Rattle.std.proofs.lemmas.List.{map-append, length-append, length-map}
+use Rattle.maps.specs.Registry.{is_name_character}
 
 pub any_named : {A B : Type 0} (v : A → B) (test : B → Bool) (xs : List A) → list_any (λ x. test (v x)) xs ≡ list_any test (map v xs)
 any_named v test [] = refl
@@ -34,3 +36,7 @@ same_named v (x ∷ xs) (y ∷ ys) h = ap (λ b. b ∷ map v ys) h.0 ∙ ap (λ 
 
 pub as_long : {A B : Type 0} (v : A → B) (xs ys : List A) → map v ys ≡ map v xs → length ys ≡ length xs
 as_long v xs ys e = sym (length-map ys v) ∙ ap length e ∙ length-map xs v
+
+-- a character of a map's name is ASCII
+pub small_character : (c : ℕ) → is_name_character c ≡ true → c < 128
+small_character c h = grind (arith, nat_tests)

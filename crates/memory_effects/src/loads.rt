@@ -67,8 +67,8 @@ pub fn load_signed(
         → ReadsBytes (state_of state.old) from.base (byte_count (unsigned_width width)) from.offset
         → LoadsNumber result dst (state_of state.old) (state_of state.new) }
     ensures value { (map : ℕ) → (10 ≡ dst → ⊥)
-        → ReadsValue shape.now.shapes.now state.old from.base map (byte_count (unsigned_width width))
-        from.offset
+        → ReadsValue shape.now.shapes.now state.old from.base map
+        (byte_count (unsigned_width width)) from.offset
         → LoadsNumber result dst (state_of state.old) (state_of state.new) }
     ensures below { (top : ℕ) → AreBelow top state.old → AreBelow top state.new }
     ensures unchanged { OnErr result (state.new ≡ state.old) }

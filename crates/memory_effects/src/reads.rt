@@ -113,7 +113,7 @@ impl Reads {
     ghost use Rattle.typed_runs.specs.Kinds.{AbsState as Known};
     ghost use Rattle.memory_effects.specs.declared.region.Address.{Address};
 
-    /// The region that it lies in.
+    /// The region that what is read lies in.
     pub(crate) fn region(&self) -> Region
         ensures { (a : Known) (width : ℕ) (from : Address) (ctx_len : ℕ) (shapes : List MapShape)
             → IsReadByLoad self.now a width from ctx_len shapes → IsBase result (a.regs from.base) }

@@ -29,7 +29,7 @@ pub enum GraphRefusal {
 impl GraphFlaw {
     ghost use Rattle.program_graph.specs.FlawNumbers.{graph_flaw_number};
 
-    /// The number by which the flaw is known.
+    /// The number by which the flaw is known, 20 to 22 or 38.
     pub fn code(self) -> u8
         ensures { result ≡ graph_flaw_number self }
     {

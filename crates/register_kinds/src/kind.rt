@@ -22,9 +22,10 @@ pub enum RegKind {
     Frame(i32),
     /// The map of this index in the program's list.
     Map(u32),
-    /// The value of an element of that map, at one of these offsets.
+    /// The value of an element of the map of this index, at one of these offsets.
     Value { map: u32, offset: Scalar },
-    /// What a lookup in that map gave: all that have one identity are null, or are one element.
+    /// What a lookup in the map of this index gave: all that have one identity are null, or are one
+    /// element.
     MaybeNull { map: u32, id: u32 },
 }
 

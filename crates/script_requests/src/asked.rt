@@ -11,9 +11,9 @@ use script_lines::{Bytes, Command};
 /// What a command asks of a world.
 #[derive(Drop)]
 pub enum Asked {
-    /// It makes a map or loads a program, which is too late.
+    /// The command makes a map or loads a program, which is too late.
     Sealed,
-    /// It is refused whatever the world is.
+    /// The command is refused whatever the world is.
     Refused(EventRefusal),
     /// An event.
     Event(Event),

@@ -8,25 +8,12 @@ use Rattle.std.proofs.lemmas.Str.{IsUtf8-from_ascii}
 use Rattle.bpf_model.specs.declared.limits.MapShape.{MapShape}
 use Rattle.maps.specs.declared.fault.MapFault.TheVariants.{BadName}
 use Rattle.maps.specs.declared.name.TheConstants.{NAME_BYTES}
+use Rattle.maps.proofs.Names.{small_character}
 use Rattle.maps.specs.Registry.{RegistryView, creation_fault, is_name, is_name_character, is_letter, is_digit, begins_with_letter}
-
-up-to : (a c b : ℕ) → (nat_le a c && nat_le c b) ≡ true → b < 128 → c < 128
-up-to a c b e h =
-    let q = leb-true c b (and_parts (nat_le a c) (nat_le c b) e).1 in
-    omega (arith, q, h)
-
-small : (c : ℕ) → is_name_character c ≡ true → c < 128
-small c e = elim (or_cases (is_letter c) (is_digit c || (c == 95)) e) [
-  | inl a ↦ up-to 97 c 122 a (omega arith)
-  | inr r ↦ elim (or_cases (is_digit c) (c == 95) r) [
-    | inl d ↦ up-to 48 c 57 d (omega arith)
-    | inr u ↦ let q = eqb-true c 95 u in omega (arith, q)
-  ]
-]
 
 all-small : (name : List ℕ) → list_all is_name_character name ≡ true → (i : ℕ) → slice_index name i < 128
 all-small [] e i = omega arith
-all-small (c ∷ name) e zero = small c (and_parts (is_name_character c) (list_all is_name_character name) e).0
+all-small (c ∷ name) e zero = small_character c (and_parts (is_name_character c) (list_all is_name_character name) e).0
 all-small (c ∷ name) e (suc i) = all-small name (and_parts (is_name_character c) (list_all is_name_character name) e).1 i
 
 not-a-name : (name : List ℕ) → (IsUtf8 name → ⊥) → is_name name ≡ false

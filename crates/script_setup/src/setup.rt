@@ -192,7 +192,7 @@ impl Setup {
     pub fn seal(self, alloc: Global) -> Result<(NameTable, World), AllocError>
         ensures names { IfOk result (λ r. r.0 ≡ self.registry.names) }
         ensures world { IfOk result (λ r. r.1 ≡ start_view (shapes_made self) self.programs) }
-        // It tracks the machine's start.
+        // The world tracks the machine's start.
         ensures start { IfOk result (λ r.
             TracksSchedule r.1 (start_schedule (shapes_made self) self.programs)) }
     {

@@ -8,8 +8,8 @@ ghost use Rattle.script_setup.specs.Setups.{SetupView};
 use bpf_model::MapShape;
 
 /// The shape of these numbers: lengths of keys and values in bytes, how many elements a map takes, how many
-/// further ones may wait for their grace periods, how often a slot is used. A number above what its field
-/// takes is none of any map's, and such a shape is refused as these numbers are.
+/// further ones may wait for their grace periods, how often a map slot may be used. A number above what
+/// its field takes is none of any map's, and such a shape is refused as these numbers are.
 pub fn shape_of(
     key_len: u64,
     value_len: u64,
@@ -21,7 +21,7 @@ pub fn shape_of(
         result ≡ shape_of_numbers key_len value_len entries spare reuse_limit }
     ensures refused { is_shape result
         ≡ is_shape (shape_of_numbers key_len value_len entries spare reuse_limit) }
-    // So a map of this shape is replied as one of these numbers.
+    // A map of the shape is replied as one of these numbers would be.
     ensures replied { (s : SetupView) (name : List ℕ) (reply : AnyReply) (new : SetupView) →
         MapReplies s name result reply new →
         MapReplies s name (shape_of_numbers key_len value_len entries spare reuse_limit) reply new }

@@ -4,7 +4,7 @@ ghost use Rattle.std.specs.Prelude.{◌≡◌, ℕ, List, ◌++◌, OnOk, OnErr,
 /// Why a line is not answered.
 #[derive(Clone, Copy, Debug, PartialEq, Eq)]
 pub enum LineFault {
-    /// It is no command.
+    /// The line is no command.
     Bad,
     /// An allocation failed.
     Memory,
@@ -12,10 +12,10 @@ pub enum LineFault {
 
 /// Answers lines, one after another.
 pub trait Respond {
-    // From the first state the line is answered with this text, and the second state is left.
+    /// From the first state the line is answered with this text, and the second state is left.
     ghost answers: { Self → List ℕ → List ℕ → Self → Type 0 };
 
-    // the line is no command
+    /// Whether the line is no command.
     ghost is_bad: { List ℕ → Type 0 };
 
     /// Adds the answer to a line, which comes without its line feed.

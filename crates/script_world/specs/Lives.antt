@@ -17,7 +17,7 @@ use Rattle.script_world.specs.declared.live.Live.{Live}
 use Rattle.script_world.specs.Replies.{Replies}
 
 -- These events happen in a world of the runtime, and leave the other. With their answers they are a
--- run of the machine with the runtime's choices.
+-- history of the machine with the runtime's choices.
 pub record Happen (w : WorldView) (events : List Event) (new : WorldView) : Type 0 where
   pub world : IsWorld w
   pub real : AreReal events

@@ -18,7 +18,7 @@ use Rattle.script_requests.specs.declared.asked.Asked.{Asked}
 use Rattle.script_requests.specs.declared.asked.Asked.TheVariants as asked
 use Rattle.script_requests.specs.Replying.{refused, reply_to}
 
--- A world is made, and maps and programs are made no more.
+-- the number of the refusal to make a map or load a program once there is a world
 abbrev pub SEALED_NUMBER : ℕ
 SEALED_NUMBER = 56
 

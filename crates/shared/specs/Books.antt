@@ -41,7 +41,7 @@ pub record WorkerView : Type 0 where
   pub made : ℕ
   pub parts : ℕ
 
--- what the journal shows beside its entries and its limit is its own
+-- the view of books with these parts; of the journal only the entries and the limit are seen
 abbrev pub books_view : WorldView → WorldView → JournalView → ℕ → ℕ → Tally → BooksView
 books_view base world journal before steps_before tally = record {
   base = base;

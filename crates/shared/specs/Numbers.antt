@@ -1,4 +1,4 @@
--- The numbers by which the faults are known.
+-- The numbers by which the faults of a shared world are known.
 use Rattle.std.specs.Prelude.{ℕ}
 use Rattle.shared.specs.declared.fault.SharedFault.{SharedFault}
 use Rattle.shared.specs.declared.fault.SharedFault.TheVariants as act

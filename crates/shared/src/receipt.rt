@@ -29,6 +29,7 @@ impl Model for Receipt {
 }
 
 impl Receipt {
+    /// The receipt of one call, by the worker of this number, who has made so many entries after it.
     pub(crate) fn new(
         worker: u8,
         number: u64,
@@ -111,6 +112,7 @@ impl Model for ExitNote {
 }
 
 impl ExitNote {
+    /// The note of one question for an exit value, with a copy of the context that was asked for.
     pub(crate) fn new(
         worker: u8,
         number: u64,

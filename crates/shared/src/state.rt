@@ -83,6 +83,7 @@ pub(crate) fn begin(
 }
 
 impl<L: Ledger> State<L> {
+    /// The books, with the cell of their counters and the one pass that writes it.
     pub(crate) fn new(books: Books<L>, cell: Arc<Meter>, pass: MeterPass) -> State<L>
         requires cell { pass.table_id ≡ (arc_value cell).table.shared.table_id }
         requires view { cell_view pass ≡ writer_at books.tally.totals }

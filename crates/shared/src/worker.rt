@@ -51,14 +51,14 @@ impl<L: Ledger> Worker<L> {
         share
     }
 
-    /// Its number, from 0 on, which its entries bear.
+    /// The worker's number, from 0 on, which its entries bear.
     pub fn number(&self) -> u8
         ensures { result ≡ self.now.number }
     {
         self.number
     }
 
-    /// How many entries it has made; its share bears the same number.
+    /// How many entries the worker has made; its share bears the same number.
     pub fn made(&self) -> u64
         ensures { result ≡ self.now.made }
     {

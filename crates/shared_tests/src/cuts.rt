@@ -16,8 +16,8 @@ fn a_run_exits_and_the_journal_is_cut(rt: HostRuntime) -> Result<(), Fail> {
     cut::<Brand, _>(&rt, rt.alloc(), Blank::new(1))
 }
 
-/// A run has its exit value after its second step. While it keeps its slot nothing is cut; after its drop the
-/// journal begins anew at the world now.
+/// A run has its exit value after its second step. While it keeps its run slot nothing is cut; after its drop
+/// the journal begins anew at the world now.
 fn cut<L: Ledger + Send + Sync, R: Wait + Abort>(
     rt: &R,
     alloc: Global,

@@ -18,7 +18,7 @@ pub const ONE: [u8; 16] = [
     0x95, 0, 0, 0, 0, 0, 0, 0, // exit
 ];
 
-/// The same for a context of 1 byte, whose exit value is that byte.
+/// Exits at the second step with the one byte of its context.
 pub const FIRST_BYTE: [u8; 16] = [
     0x71, 0x10, 0, 0, 0, 0, 0, 0, // r0 = [r1]
     0x95, 0, 0, 0, 0, 0, 0, 0, // exit
@@ -44,7 +44,7 @@ pub const fn lookup(key: u8) -> [u8; 104] {
     ]
 }
 
-/// Keys of 4 bytes, values of 8, 4 elements and 4 further slots, each used a hundred times at most.
+/// Keys of 4 bytes, values of 8, 4 elements and 4 further map slots, each used a hundred times at most.
 const SHAPE: MapShape = MapShape {
     key_len: 4,
     value_len: 8,
@@ -92,7 +92,7 @@ pub fn start(prog: usize) -> Event {
     }
 }
 
-/// A step of the run in this slot.
+/// A step of the run in this run slot.
 pub fn step(run: usize) -> Event {
     Event::Step {
         run: RunId::new(run),

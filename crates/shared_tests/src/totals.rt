@@ -11,7 +11,7 @@ use std::sync::Wait;
 use std::sync::ledger::{Blank, Ledger};
 use std::test::Fail;
 
-/// So many steps of the run in slot 0. The answer to the last.
+/// So many steps of the run in run slot 0, and the answer to the last.
 fn steps<L: Ledger, R: Wait>(
     rt: &R,
     shared: &Shared<L>,

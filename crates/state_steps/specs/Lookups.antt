@@ -26,7 +26,7 @@ pub record Lookup : Type 0 where
   pub offset : ℤ
   pub load : Insn
 
--- its six instructions
+-- the six instructions of a guarded lookup
 pub data Part : Type 0 where
   FrameCopy : Part
   KeyAddress : Part
@@ -91,7 +91,7 @@ pub record IsReadyPart (shapes : List MapShape) (l : Lookup) (p : Part) (i : Ins
   pub inside : a.inside ≡ true
   pub expects : Expects l p a
 
--- what it leaves
+-- what a part of a guarded lookup leaves
 pub record LeavesPart (l : Lookup) (p : Part) (a b : AbsState) (taken : Option AbsState)
     : Type 0 where
   pub keeps : KeepsSaved a b
@@ -112,7 +112,7 @@ IsReadyWithMaps shapes i a =
     ((l : Lookup) × (p : Part) × IsReadyPart shapes l p i a)
     ⊎ ((opens : Bool) × IsReadySection opens i a)
 
--- What an instruction leaves that is ready so.
+-- What a part of a guarded lookup leaves that is ready, and what a lock or an unlock does.
 pub record Serves (shapes : List MapShape) (i : Insn) (a b : AbsState) (taken : Option AbsState)
     : Type 0 where
   pub part : (l : Lookup) (p : Part) → IsReadyPart shapes l p i a → LeavesPart l p a b taken

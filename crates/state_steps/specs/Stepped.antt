@@ -63,7 +63,7 @@ pub record IsDone (i : Insn) (shapes : List MapShape) (ctx_len top : ℕ) (old n
   pub serves : Serves shapes i (state_of old) (state_of new)
       (option_map state_of (taken_state flow))
 
--- It is done, or refused.
+-- The instruction is done, or refused.
 pub record Stepped (i : Insn) (shapes : List MapShape) (ctx_len top : ℕ) (old new : AbsState)
     (result : Result Flow Fault) : Type 0 where
   pub done : IfOk result (IsDone i shapes ctx_len top old new)

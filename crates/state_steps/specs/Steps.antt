@@ -19,7 +19,7 @@ use Rattle.memory_effects.specs.declared.region.Region.{Region}
 use Rattle.memory_effects.specs.declared.region.Region.TheVariants as regions
 use Rattle.state_steps.specs.declared.flow.Flow.{Flow}
 
--- where it jumps, it jumps ahead
+-- where an instruction jumps, it jumps ahead
 abbrev pub IsForward : Insn → Type 0
 IsForward i = (d : ℤ) → distance i ≡ Some d → (n : ℕ) × (d ≡ pos n)
 

@@ -74,8 +74,8 @@ pub fn transfer(
     ensures keeps_taken { IfOk result (λ f. IsReadyInsn insn.now (state_of state.old)
         → IfSome (taken_state f) (λ t. KeepsFacts insn.now (state_of state.old) (state_of t))) }
 
-    // So it is of a part of a guarded lookup, and of a call that begins or ends a section; and what
-    // the next part needs is known.
+    // A part of a guarded lookup that is ready, and a call that begins or ends a section, is not
+    // refused but for want of memory; and what the next part needs is known.
     ensures accepts_maps { IsReadyWithMaps shape.now.shapes.now insn.now (state_of state.old)
         → IsFine result }
     ensures serves { IfOk result (λ f. Serves shape.now.shapes.now insn.now (state_of state.old)

@@ -313,7 +313,7 @@ part_ready program shapes plain k s i a there known start l q place is = record 
     by NullTest e = later NullTest (λ f. cc) e
     by ValueLoad e = later ValueLoad (λ f. cc) e
 
--- so is a call that begins or ends a section
+-- a call that begins or ends a section is ready
 section_ready : (program : List Insn) (shapes : List MapShape) → IsPlainWithMaps program shapes → (k s : ℕ) (i : Insn) (a : AbsState) → StartsAt program k s → insn_at program s ≡ Some i → Knows program shapes k a
     → (opens : Bool) → i ≡ section_call opens → IsReadySection opens i (state_of a)
 section_ready program shapes plain k s i a there here knows true e = record {
@@ -325,7 +325,7 @@ section_ready program shapes plain k s i a there here knows false e = record {
   before = elim (knows (Section true)) [ inl h ↦ h | inr w ↦ absurd (plain.unlock_inside s (here ∙ ap Some e) (w s there)) ];
 }
 
--- and an ordinary instruction
+-- an ordinary instruction is ready
 ordinary_ready : (program : List Insn) (shapes : List MapShape) → IsPlainWithMaps program shapes → (k s : ℕ) (i : Insn) (a : AbsState) → StartsAt program k s → insn_at program s ≡ Some i → Knows program shapes k a
     → (IsPart program shapes s → ⊥) → IsSimple i → IsReadyInsn i (state_of a)
 ordinary_ready program shapes plain k s i a there here knows away simple = record {

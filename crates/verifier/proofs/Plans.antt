@@ -369,6 +369,6 @@ passed_all program regions shapes ctx_len k t e f (inr p) = (p.0, record { start
     inside m a h = elim (cases_lt m (length program)) [
       | inl l ↦ l
       | inr l ↦
-          let none : planned (awaited t) m ≡ None = ap (λ w. option_map state_of (state_in w)) (get_or_past t.places m Nothing (omega arith)) in
+          let none : planned (awaited t) m ≡ None = ap (λ w. option_map state_of (state_in w)) (get_or_past t.by_index m Nothing (omega arith)) in
           absurd (let b : None ≡ Some a = sym none ∙ sym (p.1.rest m (omega arith)) ∙ h in cc)
     ]

@@ -29,7 +29,7 @@ pub record Justifies (c : Checked) (plan : Plan) : Type 0 where
       → slice_get c.program index ≡ Some i → base_of i ≡ Some b →
       slice_get c.regions index ≡ Some region
       → IsPlanned c.program plan index scene m → IsInRegion scene region (m.regs b)
-  -- and a conditional jump compares numbers, or tests an element for null
+  -- a conditional jump compares numbers, or tests an element for null
   pub compared : (index : ℕ) (i : Insn) (r : ℕ) (scene : Scene) (m : State)
       → slice_get c.program index ≡ Some i → Compares i r
       → IsPlanned c.program plan index scene m → IsComparable i (m.regs r)
@@ -46,12 +46,12 @@ pub record IsJustified (c : Checked) : Type 0 where
   pub plan : Plan
   pub justified : Justifies c plan
 
--- and each of its instructions has its record
+-- The program is justified, and each of its instructions has its record.
 pub record IsRecorded (c : Checked) (records : List ResolvedInsn) : Type 0 where
   pub justified : IsJustified c
   pub resolved : AreResolved c.program c.targets records
 
--- so it is verified in the words of the laws
+-- a justified program is verified in the words of the laws
 abbrev pub verified_of : (c : Checked) → IsJustified c → IsVerified c.program c.shapes c.ctx_len
 verified_of c j = record { plan = j.plan; closed = j.justified.closed }
 

@@ -14,7 +14,7 @@ use std::marker::Model;
 /// once.
 #[derive(Drop)]
 pub(crate) struct Pending {
-    places: Vec<Waiting>,
+    by_index: Vec<Waiting>,
     len: usize,
     peak: usize,
 }
@@ -24,9 +24,9 @@ impl Model for Pending {
 
     ghost Value = { Table };
 
-    ghost view = { λ v. record { places = v.places.items; peak = v.peak } };
+    ghost view = { λ v. record { by_index = v.by_index.items; peak = v.peak } };
 
-    ghost invariant = { λ v. AreStatesCounted v.places.items v.len v.peak };
+    ghost invariant = { λ v. AreStatesCounted v.by_index.items v.len v.peak };
 }
 
 impl Pending {
@@ -37,13 +37,13 @@ impl Pending {
         ensures entry { IfOk result (λ p. StartsFrom (awaited p)) }
         ensures peak { IfOk result (λ p. p.peak ≡ 1) }
     {
-        let mut places = Vec::with_capacity(alloc, len)?;
-        places.push(Waiting::Known(AbsState::entry(alloc)?))?;
+        let mut by_index = Vec::with_capacity(alloc, len)?;
+        by_index.push(Waiting::Known(AbsState::entry(alloc)?))?;
         for _ in 1..len {
-            places.push(Waiting::Nothing)?;
+            by_index.push(Waiting::Nothing)?;
         }
         Ok(Pending {
-            places,
+            by_index,
             len: 1,
             peak: 1,
         })
@@ -59,11 +59,11 @@ impl Pending {
         ensures size { size_of self.new ≡ size_of self.old }
         ensures below { AllBelow ids.new.next (awaited self.new) }
         ensures few { TakesFew MAX_PAIRS ids.old.next ids.new.next }
-        ensures peak { self.new.peak ≡ max self.old.peak (states_in self.new.places) }
+        ensures peak { self.new.peak ≡ max self.old.peak (states_in self.new.by_index) }
     {
-        let before = self.places[index].count();
-        join_into(&mut self.places[index], state, ids);
-        self.len = self.len - before + self.places[index].count();
+        let before = self.by_index[index].count();
+        join_into(&mut self.by_index[index], state, ids);
+        self.len = self.len - before + self.by_index[index].count();
         self.peak = self.peak.max(self.len);
     }
 
@@ -76,7 +76,7 @@ impl Pending {
         ensures size { size_of self.new ≡ size_of self.old }
         ensures peak { self.new.peak ≡ self.old.peak }
     {
-        let taken = std::mem::replace(&mut self.places[index], Waiting::Nothing);
+        let taken = std::mem::replace(&mut self.by_index[index], Waiting::Nothing);
         self.len -= taken.count();
         taken
     }

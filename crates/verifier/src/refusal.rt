@@ -32,7 +32,8 @@ impl Refusal {
         }
     }
 
-    /// The slot where the instruction begins at which the program is refused, counted from 0.
+    /// The slot where the instruction begins at which the program is refused, counted from 0; `None`
+    /// where memory ran out.
     pub fn slot(&self) -> Option<usize>
         ensures { result ≡ refusal_slot self.now }
     {

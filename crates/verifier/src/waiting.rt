@@ -9,11 +9,11 @@ use register_kinds::{AbsState, Identities};
 /// What waits for an instruction.
 #[derive(Drop)]
 pub(crate) enum Waiting {
-    /// No edge has led to it yet.
+    /// No edge has led to the instruction yet.
     Nothing,
-    /// What is known on all edges that have led to it.
+    /// What is known on all edges that have led to the instruction.
     Known(Box<AbsState>),
-    /// Edges have led to it with a section open, and others with none.
+    /// Edges have led to the instruction with a section open, and others with none.
     Differing,
 }
 

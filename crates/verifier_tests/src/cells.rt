@@ -185,7 +185,7 @@ static MAYBE_NULL: [(Told, &str); 12] = [
         Accepted,
         "stxdw [r10-16], r0; stb [r10-16], 9; jeq r0, 0, +0; ldxb r1, [r10-16]",
     ),
-    // It was spilled, and ends with its section.
+    // A spilled reference ends with its section.
     (
         At(33, 10),
         "stxdw [r10-16], r0; callbtf 2; ldxb r1, [r10-16]; callbtf 1",

@@ -107,7 +107,7 @@ static AFTER: [(Told, &str); 174] = [
     (Accepted, "ldmap r1, 1"),
     (At(37, 21), "ldmap r1, 2"),
     (At(37, 21), "ldmap r6, -1"),
-    // The base, before the context, what is stored and the place.
+    // The base, before the context, what is stored and the offset.
     (At(26, 21), "ldxdw r0, [r8+0]"),
     (At(26, 21), "stdw [r8+0], 1"),
     (At(26, 21), "stxw [r8+0], r9"),
@@ -128,7 +128,7 @@ static AFTER: [(Told, &str); 174] = [
     (At(27, 21), "stb [r10+0], 0"),
     (At(27, 21), "stb [r10-513], 0"),
     (At(28, 21), "sth [r10-511], 0"),
-    // The place of a load: outside, then misaligned, then the bytes.
+    // The offset of a load: outside, then misaligned, then the bytes.
     (At(27, 21), "ldxdw r0, [r9+1]"),
     (At(27, 21), "ldxb r0, [r9-1]"),
     (At(27, 21), "ldxb r0, [r9+8]"),
@@ -160,7 +160,7 @@ static AFTER: [(Told, &str); 174] = [
     (At(34, 21), "callbtf 2"),
     (At(33, 21), "call 1"),
     (At(33, 22), "mov64 r1, 0; call 1"),
-    // The arguments one after the other, each by the register, its kind, its place and its bytes.
+    // The arguments one after the other, each by the register, its kind, its offset and its bytes.
     (At(23, 21), "call 2"),
     (
         At(31, 24),
@@ -381,7 +381,7 @@ const FOUND: &str =
 
 /// What is said of that and these lines, and three instructions that end it.
 static ELEMENTS: [(Told, &str); 29] = [
-    // What is stored, before the place: outside, then misaligned.
+    // What is stored, before the offset: outside, then misaligned.
     (At(30, 12), "stxdw [r0+8], r9"),
     (At(30, 12), "stxw [r0+2], r0"),
     (At(30, 14), "ldmap r1, 0; stxdw [r0+0], r1"),
@@ -393,7 +393,7 @@ static ELEMENTS: [(Told, &str); 29] = [
     (At(27, 12), "ldxdw r1, [r0+1]"),
     (At(28, 12), "ldxh r1, [r0+5]"),
     (Accepted, "ldxsw r1, [r0+4]"),
-    // At a place that varies.
+    // At an offset that varies.
     (
         At(27, 15),
         "ldxb r1, [r9+0]; and64 r1, 7; add64 r0, r1; ldxb r2, [r0+1]",

@@ -44,25 +44,25 @@ static ROWS: [Row; 47] = [
         context: 0,
         lines: "callbtf 1; stw [r10-4], 0; mov64 r2, r10; add64 r2, -4; ldmap r1, 0; call 1; jne r0, 0, +3; callbtf 2; mov64 r0, 0; exit; mov64 r6, r0; callbtf 2; ldxdw r0, [r6+0]; exit",
     },
-    // Also inside another section.
+    // A pointer is kept over the unlock, and used inside another section.
     Row {
         told: At(33, 14),
         context: 0,
         lines: "callbtf 1; stw [r10-4], 0; mov64 r2, r10; add64 r2, -4; ldmap r1, 0; call 1; jne r0, 0, +3; callbtf 2; mov64 r0, 0; exit; mov64 r6, r0; callbtf 2; callbtf 1; ldxdw r0, [r6+0]; exit",
     },
-    // It is spilled, and read back after the unlock.
+    // A pointer is spilled, and read back after the unlock.
     Row {
         told: At(33, 13),
         context: 0,
         lines: "callbtf 1; stw [r10-4], 0; mov64 r2, r10; add64 r2, -4; ldmap r1, 0; call 1; jne r0, 0, +3; callbtf 2; mov64 r0, 0; exit; stxdw [r10-16], r0; callbtf 2; ldxdw r6, [r10-16]; mov64 r0, 0; exit",
     },
-    // It is spilled, read back before the unlock, and used.
+    // A pointer is spilled, read back before the unlock, and used.
     Row {
         told: Accepted,
         context: 0,
         lines: "callbtf 1; stw [r10-4], 0; mov64 r2, r10; add64 r2, -4; ldmap r1, 0; call 1; jne r0, 0, +3; callbtf 2; mov64 r0, 0; exit; stxdw [r10-16], r0; ldxdw r6, [r10-16]; ldxdw r7, [r6+0]; callbtf 2; mov64 r0, r7; exit",
     },
-    // It is spilled before its test for null, which tells of the copy too.
+    // A pointer is spilled before its test for null, which tells of the copy too.
     Row {
         told: Accepted,
         context: 0,
@@ -74,13 +74,13 @@ static ROWS: [Row; 47] = [
         context: 0,
         lines: "callbtf 1; stw [r10-4], 0; mov64 r2, r10; add64 r2, -4; ldmap r1, 0; call 1; mov64 r6, r0; mov64 r2, r10; add64 r2, -4; ldmap r1, 0; call 1; jeq r0, 0, +1; ldxdw r7, [r6+0]; callbtf 2; mov64 r0, 0; exit",
     },
-    // Nor where paths meet of which one has another lookup.
+    // The test of one lookup says nothing where paths meet of which one has another lookup.
     Row {
         told: At(32, 18),
         context: 1,
         lines: "ldxb r8, [r1+0]; callbtf 1; stw [r10-4], 0; mov64 r2, r10; add64 r2, -4; ldmap r1, 0; call 1; mov64 r6, r0; mov64 r7, r0; jeq r8, 0, +6; mov64 r2, r10; add64 r2, -4; ldmap r1, 0; call 1; mov64 r7, r0; jeq r6, 0, +1; ldxdw r0, [r7+0]; callbtf 2; mov64 r0, 0; exit",
     },
-    // It says so of what is tested itself.
+    // Where such paths meet, the test tells of what is tested itself.
     Row {
         told: Accepted,
         context: 1,
@@ -98,7 +98,7 @@ static ROWS: [Row; 47] = [
         context: 1,
         lines: "ldxb r6, [r1+0]; and64 r6, 7; callbtf 1; stw [r10-4], 0; mov64 r2, r10; add64 r2, -4; ldmap r1, 0; call 1; jne r0, 0, +3; callbtf 2; mov64 r0, 0; exit; add64 r0, r6; ldxb r6, [r0+0]; callbtf 2; mov64 r0, r6; exit",
     },
-    // One of 0 or 8.
+    // An index into a value of 8 bytes, of 0 or 8.
     Row {
         told: At(27, 14),
         context: 1,
@@ -128,7 +128,7 @@ static ROWS: [Row; 47] = [
         context: 8,
         lines: "ldxdw r6, [r1+0]; jgt32 r6, 7, +11; callbtf 1; stw [r10-4], 0; mov64 r2, r10; add64 r2, -4; ldmap r1, 0; call 1; jeq r0, 0, +2; add64 r0, r6; ldxb r7, [r0+0]; callbtf 2; mov64 r0, 0; exit",
     },
-    // One of 64 does.
+    // A test of 64 bits bounds a number of 64.
     Row {
         told: Accepted,
         context: 8,

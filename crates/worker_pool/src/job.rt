@@ -19,7 +19,7 @@ pub enum StopCause {
     /// An event of the job was not applied.
     Fault(SharedFault),
     /// The run that has ended is not of the job's program and context: others dropped the job's run and
-    /// started theirs in its slot.
+    /// started theirs in its run slot.
     Stranger,
 }
 

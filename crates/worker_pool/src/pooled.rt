@@ -21,8 +21,8 @@ pub struct Pooled<'a, L: Ledger> {
 
 /// Steps the run until a step is answered with something else than a move; the receipt is that step's. Each
 /// move is an entry of the worker, which counts its entries in 64 bits, so it ends. (A verified program moves
-/// fewer than 4,096 times, and a full journal ends every run; but others may start a run of theirs in a slot
-/// that they dropped the job's run from.)
+/// fewer than `MAX_SLOTS` times, and a full journal ends every run; but others may start a run of theirs in a
+/// run slot that they dropped the job's run from.)
 fn step_to_end<L: Ledger, R: Wait>(
     rt: &R,
     shared: &Shared<L>,

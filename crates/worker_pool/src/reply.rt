@@ -9,7 +9,7 @@ use crate::job::{Job, StopCause};
 use bpf_model::{Answer, RunId};
 use shared::SharedFault;
 
-/// The run that was started.
+/// The run that was started, or why there is none.
 pub fn started(reply: &Result<Answer, SharedFault>, job: &Job) -> Result<RunId, StopCause>
     requires answered { IfOk reply.now (IsMachineAnswer (Start job.now.prog job.now.ctx)) }
     ensures ok { IfOk result (λ run. reply.now ≡ Ok (Started run)) }
@@ -31,7 +31,7 @@ pub fn has_moved(reply: &Result<Answer, SharedFault>) -> bool
     matches!(reply, Ok(Answer::Moved))
 }
 
-/// Whether the run has exited, after its last step.
+/// Tells whether the run's last step was its exit, or else why it wasn't.
 pub fn exited(reply: &Result<Answer, SharedFault>, run: RunId) -> Result<(), StopCause>
     requires answered { IfOk reply.now (IsMachineAnswer (Step run)) }
     requires last { reply.now ≢ Ok Moved }
@@ -47,7 +47,7 @@ pub fn exited(reply: &Result<Answer, SharedFault>, run: RunId) -> Result<(), Sto
     }
 }
 
-/// Whether the run was dropped.
+/// Tells whether the run was dropped, or else why it wasn't.
 pub fn dropped(reply: &Result<Answer, SharedFault>, run: RunId) -> Result<(), StopCause>
     requires answered { IfOk reply.now (IsMachineAnswer (Drop run)) }
     ensures ok { OnOk result (reply.now ≡ Ok Done) }

@@ -11,8 +11,8 @@ use crate::world::World;
 use bpf_model::{Answer, CtxBytes, Event, ProgId, RunId};
 use world_parts::Parts;
 
-/// Puts the answer of a start in the place of another one. It stands apart, as the next two do, so that
-/// no other event pays for its locals.
+/// Overwrites an answer with that of a start. It stands apart, as `reap` and `drop_run` do, so that no other
+/// event pays for its locals.
 #[inline(never)]
 fn start(parts: &mut Parts, prog: ProgId, ctx: &CtxBytes, answer: &mut Answer)
     ensures answer { answer.new ≡ (full_reaction parts.old (events.Start prog ctx.now)).0 }
@@ -21,7 +21,7 @@ fn start(parts: &mut Parts, prog: ProgId, ctx: &CtxBytes, answer: &mut Answer)
     *answer = parts.start(prog, ctx);
 }
 
-/// Puts the answer of a reclamation in the place of another one.
+/// Overwrites an answer with that of a reclamation.
 #[inline(never)]
 fn reap(parts: &mut Parts, answer: &mut Answer)
     requires { parts.old.given + 1 < 2 ^ 64 }
@@ -31,7 +31,7 @@ fn reap(parts: &mut Parts, answer: &mut Answer)
     *answer = parts.reap();
 }
 
-/// Puts the answer of a drop in the place of another one.
+/// Overwrites an answer with that of a drop.
 #[inline(never)]
 fn drop_run(parts: &mut Parts, run: RunId, answer: &mut Answer)
     ensures answer { answer.new ≡ (full_reaction parts.old (events.Drop run)).0 }
@@ -40,7 +40,7 @@ fn drop_run(parts: &mut Parts, run: RunId, answer: &mut Answer)
     *answer = parts.drop_run(run);
 }
 
-/// Puts the reaction to an event in the place of another answer.
+/// Overwrites an answer with the reaction to an event.
 #[inline(always)]
 fn react(parts: &mut Parts, event: &Event, answer: &mut Answer)
     requires { IsWorld parts.old }

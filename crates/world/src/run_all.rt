@@ -25,7 +25,7 @@ fn note(answers: &mut Vec<Answer>, answer: Answer)
 impl World {
     /// Answers a list of events, one after another. The answers' memory is taken before the first of them.
     ///
-    /// An error says that it was refused, and then no event was applied.
+    /// An error says that this memory was refused, and then no event was applied.
     pub fn run_all(&mut self, alloc: Global, events: &[Event]) -> Result<Vec<Answer>, AllocError>
         ensures answer { IfOk result (λ answers.
             answers.items ≡ (full_reactions self.old events.now).0) }

@@ -15,8 +15,8 @@ use std::alloc::{AllocError, Global};
 use std::marker::Model;
 use world_parts::{Loaded, Parts};
 
-/// Maps, verified programs that are bound to them, and runs of these programs in `MAX_RUNS` slots. Contracts
-/// see the world's view; each world tracks a state of the abstract machine.
+/// Maps, verified programs that are bound to them, and runs of these programs in `MAX_RUNS` run slots.
+/// Contracts see the world's view; each world tracks a state of the abstract machine.
 #[derive(Drop)]
 pub struct World {
     pub(crate) parts: Parts,

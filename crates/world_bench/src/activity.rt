@@ -28,7 +28,7 @@ pub struct Activity {
     pub shape: MapShape,
 }
 
-/// The maps have room for twice the elements that stand in them, and as many slots more.
+/// A shape for so many elements, of which half are stored, and as many map slots more; lengths in bytes.
 const fn shape(key_len: usize, value_len: usize, entries: usize) -> MapShape {
     MapShape {
         key_len,
@@ -39,12 +39,12 @@ const fn shape(key_len: usize, value_len: usize, entries: usize) -> MapShape {
     }
 }
 
-/// A map of 1,024 elements with keys and values of 8 bytes.
+/// The shape of a map of 1,024 elements with keys and values of 8 bytes.
 pub const fn small() -> MapShape {
     shape(8, 8, 1024)
 }
 
-/// A map of 4,096 elements with keys of 64 bytes and values of 256.
+/// The shape of a map of `MAX_ENTRIES` elements with keys of `KEY_BYTES` and values of `VALUE_BYTES`.
 const fn large() -> MapShape {
     shape(KEY_BYTES, VALUE_BYTES, MAX_ENTRIES)
 }

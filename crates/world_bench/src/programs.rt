@@ -7,7 +7,7 @@ const TEN: &str =
     "add64 r0, 7\nmul64 r0, 3\nmov64 r2, r0\nxor64 r2, r1\nrsh64 r2, 5\nadd64 r0, r2\n\
 add32 r1, 11\nlsh64 r1, 1\nor64 r1, 1\nsub64 r0, r1\n";
 
-/// How often they stand in the program.
+/// How often the ten operations stand in the program.
 const TIMES: usize = 400;
 
 /// The ten operations over and over, and an exit.

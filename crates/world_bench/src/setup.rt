@@ -150,7 +150,7 @@ pub fn make_world(alloc: Global, activity: &Activity) -> Result<World> {
     Ok(world)
 }
 
-/// What the activity needs.
+/// The world of an activity, and what happens in each round.
 pub fn make_setup(alloc: Global, activity: &Activity) -> Result<Setup> {
     let shape = activity.shape;
     let world = make_world(alloc, activity)?;

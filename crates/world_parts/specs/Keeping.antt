@@ -12,7 +12,7 @@ use Rattle.world_parts.specs.Programs.{program_of}
 abbrev pub view_of : Option RunWords → Option RunView
 view_of o = option_map (λ r. r.view) o
 
--- whether the run of a slot is inside a section
+-- whether the run of a run slot is inside a section
 abbrev pub is_run_inside : Option RunWords → Bool
 is_run_inside o = is_open_view (view_of o)
 
@@ -22,7 +22,7 @@ pub record IsOfProgram (programs : List Loaded) (run : RunWords) : Type 0 where
   pub there : slice_get programs run.view.program ≡ Some program
   pub stands : IsAt program.verified.program run
 
--- There is a slot for each run that there may be. The flags of those inside a section are what
+-- There is a run slot for each run that there may be. The flags of those inside a section are what
 -- their depths say, and each run is of a program.
 pub record AreRunsKept (runs : List (Option RunWords)) (grace : GraceState) (programs : List Loaded)
     : Type 0 where
@@ -42,6 +42,6 @@ world_of maps runs grace programs given = record {
   given = given;
 }
 
--- no run is in the slot
+-- no run is in the run slot
 abbrev pub HasNoRun : List (Option RunWords) → ℕ → Type 0
 HasNoRun runs r = (run : RunWords) → slice_get runs r ≡ Some (Some run) → ⊥

@@ -2,7 +2,7 @@
 use Rattle.bpf_model.specs.Machine as machine
 use Rattle.world_parts.specs.declared.loaded.Loaded.{Loaded}
 
--- its instructions, the numbers of its maps and the length of its context
+-- a loaded program's instructions, the numbers of its maps and the length of its context
 abbrev pub program_of : Loaded → machine.Loaded
 program_of l = record {
   code = l.verified.program;

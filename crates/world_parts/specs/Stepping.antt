@@ -24,8 +24,8 @@ pub record CanAsk (loaded : Loaded) (maps : List MapView) (v : RunView) : Type 0
   pub resume : (i : Insn) (access : Access) → insn_at loaded.verified.program v.place ≡ Some i
       → access_of i v ≡ Some access → CanResume loaded.verified.program v
 
--- The run in slot r may make a step of its program: its flag is what its depth says, and what it
--- needs is there.
+-- The run in run slot r may make a step of its program: its flag is what its depth says, and what
+-- it needs is there.
 pub record CanTake (loaded : Loaded) (maps : List MapView) (g : GraceState) (r : ℕ) (run : RunWords)
     : Type 0 where
   pub stands : IsAt loaded.verified.program run
@@ -35,7 +35,7 @@ pub record CanTake (loaded : Loaded) (maps : List MapView) (g : GraceState) (r :
   pub opened : slice_get g.opened r ≡ Some (nat_lt 0 run.view.depth)
   pub depth : run.view.depth ≤ MAX_DEPTH
 
--- It has made the step: in each world with these maps and flags the run's instruction has this
+-- The run has made the step: in each world with these maps and flags its instruction has this
 -- answer, and leaves the world with the new parts.
 pub record HasTaken (loaded : Loaded) (r : ℕ) (old new : RunWords) (maps maps_after : List MapView)
     (g after : GraceState) (answer : Answer) : Type 0 where
@@ -48,7 +48,7 @@ pub record HasTaken (loaded : Loaded) (r : ℕ) (old new : RunWords) (maps maps_
   pub program : new.view.program ≡ old.view.program
   pub stands : IsAt loaded.verified.program new
 
--- The slot has a run of a program that may make a step.
+-- The run slot has a run of a program that may make a step.
 pub record IsGoing (runs : List (Option RunWords)) (programs : List Loaded) (maps : List MapView)
     (g : GraceState) (r : ℕ) : Type 0 where
   pub run : RunWords
@@ -57,7 +57,7 @@ pub record IsGoing (runs : List (Option RunWords)) (programs : List Loaded) (map
   pub of : slice_get programs run.view.program ≡ Some loaded
   pub can : CanTake loaded maps g r run
 
--- That run has made it, and no other slot has changed.
+-- The run in run slot r has made a step, and no other run slot has changed.
 pub record HasGone (runs runs_after : List (Option RunWords)) (programs : List Loaded)
     (maps maps_after : List MapView) (g after : GraceState) (r : ℕ) (answer : Answer) : Type 0 where
   pub run : RunWords

@@ -34,7 +34,7 @@ fn is_asked(found: &Run, loaded: &Loaded, program: &Verified, ctx: &CtxBytes) ->
     is_same_code(code, program.program().instructions()) && is_same_context(found.context(), ctx)
 }
 
-/// How many slots have a run.
+/// How many run slots have a run.
 fn occupied(runs: &[Option<Run>]) -> usize
     ensures { result ≡ count_by is_some runs.now }
 {

@@ -15,7 +15,7 @@ pub(crate) enum Brief {
 }
 
 impl Brief {
-    /// The answer.
+    /// The answer that the brief one stands for.
     #[inline(always)]
     pub(crate) fn into_answer(self) -> Answer
         ensures { result ≡ answer_of self }

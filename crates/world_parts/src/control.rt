@@ -85,7 +85,8 @@ impl Parts {
         self.deleted(map, key).into_answer()
     }
 
-    /// Puts the answer of a read in the place of another one: a value is copied once. Refused as a delete is.
+    /// Puts the answer of a read in the place of another one: a value is copied once. Refused where no map
+    /// has the number, or where the key has another length than the map's.
     #[inline(never)]
     pub fn read_into(&self, map: MapId, key: &KeyBytes, answer: &mut Answer)
         ensures answer { answer.new ≡ (read_reaction self.now map key.now.items).0 }

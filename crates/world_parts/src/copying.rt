@@ -15,7 +15,7 @@ fn copy_of_slot(slot: &Option<Run>) -> Option<Run>
     }
 }
 
-/// The same runs, at the same slots.
+/// The same runs, in the same run slots.
 pub(crate) fn copy_of_runs(
     alloc: Global,
     runs: &[Option<Run>],

@@ -19,7 +19,7 @@ use std::marker::Model;
 pub struct Parts {
     pub(crate) registry: Registry,
     pub(crate) grace: Grace,
-    /// `MAX_RUNS` slots, made at the start.
+    /// `MAX_RUNS` run slots, made at the start.
     pub(crate) runs: Vec<Option<Run>>,
     pub(crate) programs: Vec<Loaded>,
     pub(crate) given: usize,
@@ -77,8 +77,8 @@ impl Parts {
         })
     }
 
-    /// Equal parts: the same maps with their names, the same runs at the same slots, the same flags and
-    /// programs. The error is that there is no memory left. Like the original it takes none later.
+    /// Equal parts: the same maps with their names, the same runs in the same run slots, the same flags
+    /// and programs. The error is that there is no memory left. Like the original it takes none later.
     pub fn copy(&self, alloc: Global) -> Result<Parts, AllocError>
         ensures same { IfOk result (λ w. w ≡ self.now) }
     {

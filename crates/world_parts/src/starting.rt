@@ -57,8 +57,8 @@ impl Parts {
         }
     }
 
-    /// Drops a run that has ended, and frees its slot. Refused where no run has the slot, and where the run
-    /// has not ended.
+    /// Drops a run that has ended, and frees its run slot. Refused where no run has the run slot (`NoRun`),
+    /// and where the run has not ended (`StillRunning`).
     pub fn drop_run(&mut self, run: RunId) -> Answer
         ensures answer { result ≡ (drop_reaction self.old run).0 }
         ensures new { self.new ≡ (drop_reaction self.old run).1 }

@@ -104,7 +104,7 @@ impl Parts {
         }
     }
 
-    /// One step of a run. Refused where no run has the slot (`NoRun`), and where the run has
+    /// One step of a run. Refused where no run has the run slot (`NoRun`), and where the run has
     /// ended (`Ended`).
     ///
     /// The answer is `Moved`, or `Exited` with the exit value. No step fails or takes memory.

@@ -62,7 +62,7 @@ put 0 00000000 0600000000000000 0 = ret -12\n\
 get 0 00000000 = value 0500000000000000\n\
 del 0 01000000 = ret -2\n",
     },
-    // A slot is worn after its second use.
+    // A map slot is worn after its second use.
     Case {
         setting: Setting {
             shape: SMALL,
@@ -297,7 +297,7 @@ advance = ok\n\
 reap = reaped 0 00000000 free\n\
 step 0 2 = stuck\n",
     },
-    // Nor one that is kept over an unlock.
+    // Nothing holds an element whose pointer is kept over an unlock.
     Case {
         setting: Setting {
             shape: WIDE,
@@ -363,7 +363,7 @@ step 0 9 = moved\n\
 del 0 00000000 = ret 0\n\
 step 0 8 = stuck\n",
     },
-    // It does of its own.
+    // The test of a lookup tells of that lookup.
     Case {
         setting: Setting {
             shape: WIDE,
@@ -390,7 +390,7 @@ start 0 0000000001000000 = run 0\n\
 step 0 10 = moved\n\
 step 0 1 = stuck\n",
     },
-    // A wide one does.
+    // A test of 64 bits bounds the whole number.
     Case {
         setting: Setting {
             shape: WIDE,
@@ -442,7 +442,7 @@ start 0 05 = run 0\n\
 step 0 10 = moved\n\
 step 0 1 = stuck\n",
     },
-    // One that is.
+    // An access that is aligned.
     Case {
         setting: Setting {
             shape: WIDE,

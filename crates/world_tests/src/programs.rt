@@ -28,7 +28,7 @@ callbtf 2; mov64 r0, r6; exit";
 pub const KEPT: &str = "callbtf 1; stw [r10-4], 0; mov64 r2, r10; add64 r2, -4; ldmap r1, 0; \
 call 1; jne r0, 0, +3; callbtf 2; mov64 r0, 0; exit; mov64 r7, r0; callbtf 2; ldxdw r0, [r7+0]; exit";
 
-/// The same, with a second lock before the load.
+/// A pointer to a value is kept over the unlock, and loaded from after a second lock.
 pub const KEPT_RELOCKED: &str = "callbtf 1; stw [r10-4], 0; mov64 r2, r10; add64 r2, -4; \
 ldmap r1, 0; call 1; jne r0, 0, +3; callbtf 2; mov64 r0, 0; exit; mov64 r7, r0; callbtf 2; \
 callbtf 1; ldxdw r0, [r7+0]; exit";
@@ -43,7 +43,7 @@ pub const BYTE_BELOW_8: &str = "ldxb r6, [r1+0]; and64 r6, 7; callbtf 1; stw [r1
 mov64 r2, r10; add64 r2, -4; ldmap r1, 0; call 1; jne r0, 0, +3; callbtf 2; mov64 r0, 0; exit; \
 add64 r0, r6; ldxb r6, [r0+0]; callbtf 2; mov64 r0, r6; exit";
 
-/// The same with the index 0 or 8: the last may be past the value.
+/// The byte of key 0's value at the index 0 or 8: the last may be past the value.
 pub const BYTE_AT_8: &str = "ldxb r6, [r1+0]; and64 r6, 8; callbtf 1; stw [r10-4], 0; \
 mov64 r2, r10; add64 r2, -4; ldmap r1, 0; call 1; jne r0, 0, +3; callbtf 2; mov64 r0, 0; exit; \
 add64 r0, r6; ldxb r6, [r0+0]; callbtf 2; mov64 r0, r6; exit";
@@ -75,7 +75,7 @@ add64 r2, -4; ldmap r1, 0; call 1; mov64 r6, r0; mov64 r7, r0; jeq r8, 0, +6; mo
 add64 r2, -4; ldmap r1, 0; call 1; mov64 r7, r0; jeq r6, 0, +1; ldxdw r0, [r7+0]; callbtf 2; \
 mov64 r0, 0; exit";
 
-/// The same, but what was tested is loaded from.
+/// Two lookups of one key, as in the program above; what was tested is loaded from.
 pub const SAME_LOOKUP: &str = "ldxb r8, [r1+0]; callbtf 1; stw [r10-4], 0; mov64 r2, r10; \
 add64 r2, -4; ldmap r1, 0; call 1; mov64 r6, r0; mov64 r7, r0; jeq r8, 0, +6; mov64 r2, r10; \
 add64 r2, -4; ldmap r1, 0; call 1; mov64 r7, r0; jeq r6, 0, +1; ldxdw r0, [r6+0]; callbtf 2; \
@@ -85,7 +85,7 @@ mov64 r0, 0; exit";
 pub const UPDATE: &str = "stw [r10-4], 0; stdw [r10-16], 7; mov64 r2, r10; add64 r2, -4; \
 mov64 r3, r10; add64 r3, -16; mov64 r4, 0; ldmap r1, 0; call 2; exit";
 
-/// The same, if the key is not there.
+/// The helper's update of key 0 by value 7, if the key is not there; the result is the exit value.
 pub const UPDATE_NEW: &str = "stw [r10-4], 0; stdw [r10-16], 7; mov64 r2, r10; add64 r2, -4; \
 mov64 r3, r10; add64 r3, -16; mov64 r4, 1; ldmap r1, 0; call 2; exit";
 

@@ -26,13 +26,13 @@ const OTHER: MapShape = MapShape {
 enum Bound {
     /// A lookup, verified for one map of the first shape and bound to map 0.
     Well,
-    /// The same bound to map 1, which has the other shape.
+    /// A lookup that is bound to map 1, which has the other shape.
     OtherShape,
-    /// The same bound to map 2, which is not there.
+    /// A lookup that is bound to map 2, which is not there.
     Missing,
-    /// The same bound to no map.
+    /// A lookup that is bound to no map.
     TooFew,
-    /// The same bound to map 0 twice.
+    /// A lookup that is bound to map 0 twice.
     TooMany,
     /// A program without maps.
     None,

@@ -4,7 +4,7 @@ use Rattle.verifier.proofs.pending.Pending.start.Given as goal
 
 abbrev pub invariant-loop : goal.invariant-loop
 invariant-loop l = record {
-  long : length l.places.items ≡ l.counter;
-  entry : StartsFrom (awaited (record { places = l.places.items; peak = 1 }));
-  count : 1 ≡ states_in l.places.items;
+  long : length l.by_index.items ≡ l.counter;
+  entry : StartsFrom (awaited (record { by_index = l.by_index.items; peak = 1 }));
+  count : 1 ≡ states_in l.by_index.items;
 }
