@@ -1,5 +1,9 @@
--- Options, numbers, lives and run slots, by cases.
-use Rattle.std.proofs.Common.{◌≡◌, ℕ, pos, List, Option, Some, None, ◌⊎◌, inl, inr, refl}
+-- Options, numbers, orderings, lives and run slots, by cases.
+use Rattle.std.proofs.Common.{◌≡◌, ℕ, pos, true, List, Option, Some, None, ◌⊎◌, inl, inr, refl}
+use Rattle.std.specs.Ordering.{is_eq}
+use Rattle.std.specs.declared.cmp.Ordering.{Ordering}
+use Rattle.std.specs.declared.cmp.Ordering.TheVariants.{Less, Equal, Greater}
+use Rattle.std.proofs.lemmas.Bool.{false≢true}
 use Rattle.std.proofs.lemmas.Option.{none-some}
 use Rattle.bpf_model.specs.Section.{Section}
 use Rattle.bpf_model.specs.Element.{Unlinked}
@@ -18,3 +22,8 @@ same-since a b h = cc
 pub in-some : (o : Option Run) (x : Run) → run_in (Some o) ≡ Some x → o ≡ Some x
 in-some None x h = absurd (none-some x h)
 in-some (Some y) x h = h
+
+pub equal-is : (o : Ordering) → is_eq o ≡ true → o ≡ Equal
+equal-is Less h = absurd (false≢true h)
+equal-is Equal h = refl
+equal-is Greater h = absurd (false≢true h)

@@ -17,7 +17,7 @@ numbers_code = coded_list coded_ℕ
 abbrev pub flags_code : Coded (List Bool)
 flags_code = coded_list coded_bool
 
--- numbers of slots by their keys, in byte order
+-- numbers of map slots by their keys, in byte order
 abbrev pub KeyMap : Type 0
 KeyMap = map.FinMap (slice_cmp nat_cmp) ℕ
 
@@ -51,7 +51,7 @@ shape_code = code_by (ℕ × (ℕ × (ℕ × (ℕ × ℕ))))
     })
     (λ _. refl)
 
--- the lists of a map's unlinked elements, and how many of its slots are worn out
+-- the lists of a map's unlinked elements, and how many of its map slots are worn out
 abbrev pub ListFields : Type 0
 ListFields = List ℕ × (List ℕ × (List ℕ × ℕ))
 
@@ -75,7 +75,7 @@ view_code = code_by (MapShape × (List SlotView × (List ℕ × (KeyMap × ListF
     })
     (λ _. refl)
 
--- where a run stands: place, depth, steps led further on, exit value
+-- a run's place, its depth, how many of its steps led further on, and its exit value
 abbrev pub RunFields : Type 0
 RunFields = ℕ × (ℕ × (ℕ × Option ℕ))
 

@@ -27,7 +27,7 @@ Drains states events answers =
     slice_get states k ≡ Some later → j < k →
     HasLife first.store.elements n (Unlinked since) → HasLife later.store.elements n Reclaimed
 
--- the machine's states in a run with this runtime's choices
+-- the machine's states in a history with this runtime's choices
 abbrev pub machines : List Schedule → List Machine
 machines states = map (λ s. s.machine) states
 
@@ -39,8 +39,8 @@ module _ {World : Type 0} where
       (s : Schedule) → Tracks old s →
       (next : Schedule) × DoesScheduled s event answer next × Tracks new next
 
-  -- The answers are those of a run with this runtime's choices, in which the drain law holds, and
-  -- the world tracks its last state.
+  -- The answers are those of a history with this runtime's choices, in which the drain law holds,
+  -- and the world tracks its last state.
   abbrev pub AreScheduledAnswers : (World → Schedule → Type 0) → World → List Event → List Answer →
       World → Type 0
   AreScheduledAnswers Tracks old events answers new =

@@ -68,7 +68,7 @@ abbrev pub step_refusal : Option Run → Option EventRefusal
 step_refusal None = Some NoRun
 step_refusal (Some run) = if_ended run.exit
 
--- a drop asks for one that has
+-- a drop asks for a run that has ended
 abbrev pub if_running : Option ℕ → Option EventRefusal
 if_running None = Some StillRunning
 if_running (Some n) = None

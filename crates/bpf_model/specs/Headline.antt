@@ -1,6 +1,6 @@
--- The four parts of the main theorem, over whole histories of the machine: its answers, that it is never
--- stuck, that its runs end in time, and that elements are reclaimed late. What a world keeps is a
--- type of its own here, with the relation to the machine's states that it tracks.
+-- The four parts of the main theorem, over whole histories of the machine: its answers, that it is
+-- never stuck, that its runs exit in time, and that elements are reclaimed late. What a world keeps
+-- is a type of its own here, with the relation to the machine's states that it tracks.
 use Rattle.std.specs.Prelude.{◌≡◌, ℕ, suc, ◌+◌, ◌<◌, ◌==◌, Bool, false, List, ◌∷◌, Option, Some}
 use Rattle.std.specs.Prelude.{None, slice_get, length, take, if◌then◌else◌}
 use Rattle.bpf_model.specs.declared.event.Event.{Event}
@@ -14,8 +14,8 @@ use Rattle.bpf_model.specs.MachineStep.{NeverStuck}
 use Rattle.bpf_model.specs.Event.{DoesEvent}
 use Rattle.bpf_model.specs.History.{IsHistory, last_machine, AllStates}
 
--- How many moves the run in slot r has answered since it started there: by the answers alone, from
--- a number on for a run that was there before the first of them.
+-- How many moves the run in run slot r has answered since it started there: by the answers alone,
+-- from a number on for a run that was there before the first of them.
 abbrev pub moved_once : Answer → ℕ
 moved_once Moved = 1
 moved_once answer = 0
@@ -96,8 +96,8 @@ module _ {World : Type 0} where
       (states : List Machine) × IsHistory m events answers states
       × Tracks new (last_machine m states)
 
-  -- In every history of the machine with these answers, each run that hasn't ended has a step, in each
-  -- state.
+  -- In every history of the machine with these answers, each run that hasn't ended has a step, in
+  -- each state.
   abbrev pub AreNeverStuck : (World → Machine → Type 0) → World → List Event → List Answer → Type 0
   AreNeverStuck Tracks old events answers =
       (m : Machine) → Tracks old m → (states : List Machine) → IsHistory m events answers states

@@ -28,8 +28,8 @@ slots_of_shape shape = shape.entries + shape.spare
 abbrev pub most_births : MapShape → ℕ
 most_births shape = slots_of_shape shape * shape.reuse_limit
 
--- A map: its shape, for each free slot how often it was used (a bag: its order says nothing here),
--- and how many slots are worn out. What it has under a key stands in the elements.
+-- A map: its shape, for each free map slot how often it was used (a bag: its order says nothing
+-- here), and how many map slots are worn out. What it has under a key stands in the elements.
 pub record MapState : Type 0 where
   pub shape : MapShape
   pub bag : List ℕ

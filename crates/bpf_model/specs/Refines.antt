@@ -113,8 +113,8 @@ pub record RefinesSchedule (w : WorldView) (s : Schedule) : Type 0 where
   pub programs : w.programs ≡ s.machine.programs
   pub given : w.given ≡ count_by (λ e. is_reclaimed e.life) s.machine.store.elements
 
--- Some history of the machine with this runtime's choices, from the start and with events within their
--- types, ends in the state.
+-- Some history of the machine with this runtime's choices, from the start and with events within
+-- their types, ends in the state.
 pub record IsReachedSchedule (shapes : List MapShape) (programs : List Loaded) (s : Schedule)
     : Type 0 where
   pub events : List Event

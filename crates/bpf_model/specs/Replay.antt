@@ -1,5 +1,5 @@
--- The journal: entries that replay, as a history of the machine, from a base state in which no run slot
--- is occupied.
+-- The journal: entries that replay, as a history of the machine, from a base state in which no run
+-- slot is occupied.
 use Rattle.std.specs.Prelude.{◌≡◌, ℕ, ◌≤◌, List, None, length, map}
 use Rattle.bpf_model.specs.declared.limits.TheConstants.{MAX_JOURNAL}
 use Rattle.bpf_model.specs.declared.event.Event.{Event}

@@ -71,8 +71,8 @@ retired k old new (q ∷ qs) = record {
 abbrev pub turned : Queues → Queues
 turned q = record { next = []; waiting = q.next; ready = q.ready ++ q.waiting }
 
--- An advance does so when no run is awaited, and from then on the runs that are open are awaited;
--- else it changes nothing.
+-- An advance ends the grace period and begins the next when no run is awaited, and from then on the
+-- runs that are open are awaited; else it changes nothing.
 abbrev pub advanced : Schedule → Machine → Bool → Schedule
 advanced s m true = record { machine = m; queues = s.queues; awaited = s.awaited }
 advanced s m false = record {
@@ -111,7 +111,7 @@ scheduled s event m = record {
   awaited = still_open s.awaited (open_flags m.runs);
 }
 
--- A reap takes that birth, and finds nothing only when no list has one.
+-- A reap takes the first ready birth, and finds nothing only when no list has one.
 abbrev pub TakesFirst : Schedule → Event → Answer → Machine → Type 0
 TakesFirst s Reap (Reaped None) m = first_ready s.queues ≡ None
 TakesFirst s Reap (Reaped (Some element)) m =

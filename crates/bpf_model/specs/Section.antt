@@ -3,7 +3,7 @@ use Rattle.std.specs.Prelude.{◌≡◌, ℕ, List, Some, slice_get}
 
 -- A section is open from its lock to its unlock. It is named by its run and by how many sections
 -- the run had opened with it, so that no two sections have one name. A run is named by the number
--- of its start: the next run of the same slot is another run.
+-- of its start: the next run of the same run slot is another run.
 pub record Section : Type 0 where
   pub run : ℕ
   pub lock : ℕ

@@ -81,7 +81,7 @@ pub record RunView : Type 0 where
   pub moved : ℕ
   pub exit : Option ℕ
 
--- A world: its maps by number, its runs by slot, for each run slot whether its run is inside a
+-- A world: its maps by number, its runs by run slot, for each run slot whether its run is inside a
 -- section and whether that section is awaited, its programs, and how many elements it has
 -- reclaimed.
 pub record WorldView : Type 0 where
@@ -107,8 +107,8 @@ start_view shapes programs = record {
 abbrev pub shapes_of : WorldView → List MapShape
 shapes_of w = map (λ v. v.shape) w.maps
 
--- What is asked of a run by its slot: it has ended with this value, and was started with this code
--- on this context.
+-- What is asked of a run by its run slot: it has ended with this value, and was started with this
+-- code on this context.
 pub record HasExited (w : WorldView) (r : ℕ) (code : List Insn) (context : List ℕ) (n : ℕ)
     : Type 0 where
   pub run : RunView

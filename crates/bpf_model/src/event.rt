@@ -46,14 +46,15 @@ pub enum Event {
     },
 }
 
-/// Whether a reclaimed element's slot may be used again, or has been used as often as the map allows.
+/// Whether a reclaimed element's map slot may be used again (`Free`), or has been used as often as the
+/// map allows (`Worn`).
 #[derive(Clone, Copy, Debug, PartialEq, Eq)]
 pub enum Given {
     Free,
     Worn,
 }
 
-/// An element that was reclaimed.
+/// An element that was reclaimed: its map, its key, and whether its map slot may be used again.
 #[derive(Debug, Drop)]
 pub struct ReapedElement {
     pub map: MapId,
@@ -85,16 +86,21 @@ pub enum EventRefusal {
 /// What the machine answers to an event.
 #[derive(Debug, Drop)]
 pub enum Answer {
+    /// A start: the run slot of the new run.
     Started(RunId),
+    /// A step that did not end the run.
     Moved,
+    /// A step that ended the run, with its exit value.
     Exited(u64),
     /// An update or a delete, with its error.
     Ret(Result<(), Errno>),
     /// A read: the value of the key, where it has one.
     Found(Option<ValueBytes>),
+    /// An advance or a drop.
     Done,
     /// A reap: the element that was reclaimed, where one was.
     Reaped(Option<ReapedElement>),
+    /// Any event but an advance or a reap, by the first test that failed.
     Refused(EventRefusal),
 }
 

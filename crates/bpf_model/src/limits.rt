@@ -35,10 +35,10 @@ pub const MAX_DEPTH: usize = 1;
 /// The most linked elements that a map's shape may allow.
 pub const MAX_ENTRIES: usize = 4096;
 
-/// The most further slots that a map's shape may ask for.
+/// The most further map slots that a map's shape may ask for.
 pub const MAX_SPARE: usize = 4096;
 
-/// How often a slot may be used at most.
+/// How often a map slot may be used at most.
 pub const MAX_REUSE: u32 = 4_294_967_295;
 
 /// The most entries of a journal.
@@ -54,8 +54,8 @@ pub type KeyBytes = ArrayVec<u8, KEY_BYTES>;
 pub type ValueBytes = ArrayVec<u8, VALUE_BYTES>;
 
 /// The shape of a map: key and value lengths in bytes (1 to `KEY_BYTES`, 1 to `VALUE_BYTES`), the most linked
-/// elements (1 to `MAX_ENTRIES`), the further slots for elements that wait for reclamation (0 to `MAX_SPARE`),
-/// and how often a slot may be used (1 to `MAX_REUSE`).
+/// elements (1 to `MAX_ENTRIES`), the further map slots for elements that wait for reclamation (0 to
+/// `MAX_SPARE`), and how often a map slot may be used (1 to `MAX_REUSE`).
 #[derive(Clone, Copy, Debug, PartialEq, Eq)]
 pub struct MapShape {
     pub key_len: usize,

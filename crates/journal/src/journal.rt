@@ -127,7 +127,8 @@ impl Journal {
         self.push_answer(entry.worker, &entry.event, &entry.answer);
     }
 
-    /// As `push`, of an entry that is not made: its event and its answer stay where they are.
+    /// Adds the entry of this worker, event and answer where there is room for it. It takes no memory, and
+    /// copies the event's and the answer's bytes: both stay where they are.
     pub fn push_answer(&mut self, worker: u8, event: &Event, answer: &Answer)
         requires room { self.old.has_room ≡ true }
         requires answer { IsAnswerTo event.now answer.now }

@@ -29,7 +29,7 @@ pub fn empty_replays()
     ensures { (w : WorldView) → IsWorld w → HasNoRuns w → Replays w w [] }
 {}
 
-/// One entry more, with the answer that the world gives to its event.
+/// A journal that replays does so with one entry more, whose answer is what the world gives to its event.
 pub fn replays_push()
     ensures { (base world new : WorldView) (entries : List Entry) (entry : Entry) →
         Replays base world entries → IsReal entry.event →
@@ -52,8 +52,8 @@ pub fn replays_to_world()
         IsWorld world }
 {}
 
-/// The entries are a run of the abstract machine, from each state that the base tracks to one that the present
-/// world tracks.
+/// The entries are a history of the abstract machine, from each state that the base tracks to one that the
+/// present world tracks.
 pub fn replays_on_machine()
     ensures { (base world : WorldView) (entries : List Entry) → Replays base world entries →
         length entries ≤ MAX_JOURNAL → (m : Machine) → Tracks base m →

@@ -1,4 +1,4 @@
--- Steps with the runtime's choices, one after another, make a run.
+-- Steps with the runtime's choices, one after another, make a history.
 use Rattle.std.proofs.Common.{◌≡◌, List, [], ◌∷◌, ◌++◌, refl, sym, subst}
 use Rattle.bpf_model.specs.declared.event.Event.{Event}
 use Rattle.bpf_model.specs.declared.event.Answer.{Answer}
@@ -21,8 +21,8 @@ module _ {World : Type 0} (Tracks : World → Schedule → Type 0) where
       (first.0 ∷ rest.0, (first.1, rest.1), rest.2)
   steps_make_history old new events answers h s t = absurd h
 
-pub steps_make_runs : (old new : WorldView) (events : List Event) (answers : List Answer) → AreSteps TracksSchedule old events answers new → AreScheduledAnswers TracksSchedule old events answers new
-steps_make_runs old new events answers h s t =
+pub steps_make_scheduled : (old new : WorldView) (events : List Event) (answers : List Answer) → AreSteps TracksSchedule old events answers new → AreScheduledAnswers TracksSchedule old events answers new
+steps_make_scheduled old new events answers h s t =
     let r = steps_make_history TracksSchedule old new events answers h s t in
     (r.0, r.1, drains_from s events answers r.0 (tracked_is_scheduled old s t) r.1, r.2)
 
@@ -37,24 +37,24 @@ last-join : (s : Schedule) (states more : List Schedule) → last_scheduled s (s
 last-join s [] more = refl
 last-join s (t ∷ states) more = last-join t states more
 
-pub runs_join : (old mid new : WorldView) (es fs : List Event) (xs ys : List Answer) → AreScheduledAnswers TracksSchedule old es xs mid → AreScheduledAnswers TracksSchedule mid fs ys new → AreScheduledAnswers TracksSchedule old (es ++ fs) (xs ++ ys) new
-runs_join old mid new es fs xs ys h g s t =
+pub scheduled_join : (old mid new : WorldView) (es fs : List Event) (xs ys : List Answer) → AreScheduledAnswers TracksSchedule old es xs mid → AreScheduledAnswers TracksSchedule mid fs ys new → AreScheduledAnswers TracksSchedule old (es ++ fs) (xs ++ ys) new
+scheduled_join old mid new es fs xs ys h g s t =
     let r = h s t in
     let n = g (last_scheduled s r.0) r.3 in
     let history = history-join s es fs xs ys r.0 n.0 r.1 n.1 in
     (r.0 ++ n.0, history, drains_from s (es ++ fs) (xs ++ ys) (r.0 ++ n.0) (tracked_is_scheduled old s t) history, subst (TracksSchedule new) (sym (last-join s r.0 n.0)) n.3)
 
 -- one more step
-pub runs_grow : (old mid new : WorldView) (events : List Event) (answers : List Answer) (event : Event) (answer : Answer) → AreScheduledAnswers TracksSchedule old events answers mid →
+pub scheduled_grow : (old mid new : WorldView) (events : List Event) (answers : List Answer) (event : Event) (answer : Answer) → AreScheduledAnswers TracksSchedule old events answers mid →
     AnswersAsScheduled TracksSchedule mid event answer new → AreScheduledAnswers TracksSchedule old (events ++ event ∷ []) (answers ++ answer ∷ []) new
-runs_grow old mid new events answers event answer h step s t =
+scheduled_grow old mid new events answers event answer h step s t =
     let r = h s t in
     let n = step (last_scheduled s r.0) r.3 in
     let history = history-join s events (event ∷ []) answers (answer ∷ []) r.0 (n.0 ∷ []) r.1 (n.1, tt) in
     (r.0 ++ n.0 ∷ [], history, drains_from s (events ++ event ∷ []) (answers ++ answer ∷ []) (r.0 ++ n.0 ∷ []) (tracked_is_scheduled old s t) history, subst (TracksSchedule new) (sym (last-join s r.0 (n.0 ∷ []))) n.2)
 
-pub runs_from_start : (shapes : List MapShape) (programs : List Loaded) (old new : WorldView) (events : List Event) (answers : List Answer) → TracksSchedule old (start_schedule shapes programs) → AreScheduledAnswers TracksSchedule old events answers new →
+pub scheduled_from_start : (shapes : List MapShape) (programs : List Loaded) (old new : WorldView) (events : List Event) (answers : List Answer) → TracksSchedule old (start_schedule shapes programs) → AreScheduledAnswers TracksSchedule old events answers new →
     (states : List Schedule) × IsScheduledHistory (start_schedule shapes programs) events answers states × TracksSchedule new (last_scheduled (start_schedule shapes programs) states)
-runs_from_start shapes programs old new events answers t h =
+scheduled_from_start shapes programs old new events answers t h =
     let r = h (start_schedule shapes programs) t in
     (r.0, r.1, r.3)

@@ -3,7 +3,7 @@ use Rattle.std.specs.Prelude.{◌≡◌, ℕ, ◌<◌, ◌≤◌, List, Some}
 use Rattle.bpf_model.specs.Section.{Section, Has}
 use Rattle.bpf_model.specs.Machine.{Run, Machine, run_at}
 
--- A section has begun: its run was started, and where that run still stands in a slot, it has
+-- A section has begun: its run was started, and where that run still stands in a run slot, it has
 -- opened so many sections.
 pub record HasBegun (m : Machine) (s : Section) : Type 0 where
   pub started : s.run < m.started

@@ -15,8 +15,8 @@ module _ {World : Type 0} where
       × AnswersAsScheduled Tracks old event answer next × AreSteps Tracks next events answers new
   AreSteps Tracks old events answers new = ⊥
 
-  -- The answers are those of a run with the runtime's choices, and the last world tracks its last
-  -- state.
+  -- The answers are those of a history with the runtime's choices, and the last world tracks its
+  -- last state.
   abbrev pub AnswersAsHistory : (World → Schedule → Type 0) → World → List Event → List Answer →
       World → Type 0
   AnswersAsHistory Tracks old events answers new =

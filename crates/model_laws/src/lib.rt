@@ -1,4 +1,4 @@
-//! Laws of the abstract machine: what its definitions say of every state and every run.
+//! Laws of the abstract machine: what its definitions say of every state, every run and every history.
 //!
 //! Each is a function with an empty body, whose contract is the law.
 #![tactic(auto)]
@@ -193,8 +193,8 @@ pub fn reapable()
         first_ready s.queues ≡ Some n → IsReapable s.machine n }
 {}
 
-/// A reap that takes the first ready element, and answers with its map, its key and what becomes of its slot,
-/// is a step with the runtime's choices.
+/// A reap that takes the first ready element, and answers with its map, its key and what becomes of its map
+/// slot, is a step with the runtime's choices.
 pub fn reap_steps()
     ensures { (s : Schedule) (n : ℕ) (e : Element) (state : MapState) (taken : ReapedElement) →
         IsScheduled s → first_ready s.queues ≡ Some n →
@@ -255,7 +255,7 @@ pub fn start_tracked()
         TracksSchedule (start_view shapes programs) (start_schedule shapes programs) }
 {}
 
-/// In each state that a world tracks the lists are right too.
+/// In each state that a world tracks the lists of the runtime's choices are right.
 pub fn tracked_is_scheduled()
     ensures { (w : WorldView) (s : Schedule) → TracksSchedule w s → IsScheduled s }
 {}
@@ -268,27 +268,28 @@ pub fn tracked_reclaimed_late()
 
 /// A type of worlds, with the states that each of them tracks.
 pub trait Tracking {
+    /// Whether the world tracks the state.
     ghost tracks: { Self → Schedule → Type 0 };
 }
 
 /// Over any worlds and whatever they track: answers that are steps one after another are those of a
-/// run, and the last world tracks its last state.
+/// history, and the last world tracks its last state.
 pub fn steps_make_history<World: Tracking>()
     ensures { (old new : World) (events : List Event) (answers : List Answer) →
         AreSteps World.tracks old events answers new →
         AnswersAsHistory World.tracks old events answers new }
 {}
 
-/// Answers that are steps one after another make a run with the runtime's choices, in which the drain
-/// law holds.
-pub fn steps_make_runs()
+/// Answers that are steps one after another make a history with the runtime's choices, in which the
+/// drain law holds.
+pub fn steps_make_scheduled()
     ensures { (old new : WorldView) (events : List Event) (answers : List Answer) →
         AreSteps TracksSchedule old events answers new →
         AreScheduledAnswers TracksSchedule old events answers new }
 {}
 
-/// A run and one more step are a run.
-pub fn runs_grow()
+/// A history with the runtime's choices and one more step with them are such a history.
+pub fn scheduled_grow()
     ensures { (old mid new : WorldView) (events : List Event) (answers : List Answer)
         (event : Event)
         (answer : Answer) →
@@ -297,17 +298,17 @@ pub fn runs_grow()
         AreScheduledAnswers TracksSchedule old (events ++ event ∷ []) (answers ++ answer ∷ []) new }
 {}
 
-/// Answers that are those of a run, and those of a run that goes on from it, are those of one run: the
-/// drain law holds over both.
-pub fn runs_join()
+/// Answers that are those of a history, and those of a history that goes on from it, are those of one
+/// history: the drain law holds over both.
+pub fn scheduled_join()
     ensures { (old mid new : WorldView) (es fs : List Event) (xs ys : List Answer) →
         AreScheduledAnswers TracksSchedule old es xs mid →
         AreScheduledAnswers TracksSchedule mid fs ys new →
         AreScheduledAnswers TracksSchedule old (es ++ fs) (xs ++ ys) new }
 {}
 
-/// From a world that tracks the start, answers that are those of a run are those of a run from the start.
-pub fn runs_from_start()
+/// From a world that tracks the start, the answers of a history are those of a history from the start.
+pub fn scheduled_from_start()
     ensures { (shapes : List MapShape) (programs : List Loaded) (old new : WorldView)
         (events : List Event) (answers : List Answer) →
         TracksSchedule old (start_schedule shapes programs) →
@@ -338,7 +339,7 @@ pub fn words_of_locations()
         ↔ (pos w ≡ location_word (named_location slots es r)) }
 {}
 
-/// Two near locations with one word are one location: of one region, one slot and one offset.
+/// Two near locations with one word are one location: of one region or map slot, at one offset.
 pub fn near_words_differ()
     ensures { (p q : Location) → IsNearLocation p → IsNearLocation q
         → location_word p ≡ location_word q → p ≡ q }

@@ -28,7 +28,7 @@ abbrev pub slot_text : Option ℕ → List ℕ
 slot_text None = []
 slot_text (Some slot) = codes " at " ++ decimal slot
 
--- the name of the map, the key of the element, and what became of its slot
+-- the name of the map, the key of the element, and what became of its map slot
 abbrev pub reaped_text : List ℕ → List ℕ → Given → List ℕ
 reaped_text map key given =
     codes "reaped " ++ map ++ codes " " ++ bytes_text key ++ codes " " ++ given_text given

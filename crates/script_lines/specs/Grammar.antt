@@ -30,7 +30,7 @@ verb_name verbs.Dump = codes "dump"
 abbrev pub verb_of : List ℕ → Option Verb
 verb_of word = find (λ verb. bytes_eq (verb_name verb) word) VERBS
 
--- The words behind it. A word for a name may be any.
+-- Each command from the words behind its verb. A word for a name may be any.
 
 -- `map NAME KEY VALUE ENTRIES SPARE REUSE`
 abbrev pub map_command : List (List ℕ) → Option Command

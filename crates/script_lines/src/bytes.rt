@@ -9,8 +9,9 @@ use arrayvec::ArrayVec;
 /// The bytes that a word writes, where they are no more than a `B` takes: a key, a value or a context.
 #[derive(Debug, Drop)]
 pub enum Bytes<B> {
+    /// The bytes.
     Fit(B),
-    /// More bytes than any such thing has.
+    /// More bytes than a `B` takes, which are not kept.
     TooLong,
 }
 

@@ -32,7 +32,7 @@ impl<'a> Code<'a> {
         }
     }
 
-    /// The bytes.
+    /// The program's bytes, decoded from the hexadecimal word.
     ///
     /// # Errors
     ///

@@ -57,7 +57,7 @@ pub enum Command<'a> {
     Advance,
     /// `reap`: an element whose grace period has ended may be reclaimed.
     Reap,
-    /// `drop RUN`: a run that has ended leaves its slot.
+    /// `drop RUN`: a run that has ended leaves its run slot.
     Drop {
         run: u64,
     },

@@ -22,7 +22,7 @@ pub enum Reply<'a> {
     Moved,
     /// `exit V`: the value that a run ended with, unsigned.
     Exit(u64),
-    /// `ok`.
+    /// `ok`: an advance or a drop was done.
     Done,
     /// `reaped NAME KEY free` or `reaped NAME KEY worn`: an element that was reclaimed.
     Reaped {

@@ -12,6 +12,7 @@ use Rattle.hash_index.specs.Order.{IsLess, IsAbove}
 use Rattle.hash_index.specs.Replies.{is_above}
 use Rattle.hash_index.proofs.Firsts.{less_tested, above_test}
 use Rattle.hash_index.proofs.Orders.{less_trans}
+use Rattle.bpf_model.proofs.Cases.{equal-is}
 use Rattle.bpf_model.specs.View.{MapView}
 use Rattle.world_parts.specs.Asking.{IsFound}
 
@@ -23,11 +24,6 @@ above_in bound (e ∷ es) = cond (is_above bound e.0) 1 0 + above_in bound es
 abbrev pub keys_above : Option MapView → Option (List ℕ) → ℕ
 keys_above None bound = 0
 keys_above (Some v) bound = above_in bound (entries v.index)
-
-is_equal : (o : Ordering) → is_eq o ≡ true → o ≡ Equal
-is_equal Less e = absurd (false≢true e)
-is_equal Equal e = refl
-is_equal Greater e = absurd (false≢true e)
 
 -- what is above a key above the bound is above the bound
 above_more : (bound : Option (List ℕ)) (key other : List ℕ) → IsAbove bound key → IsLess key other → IsAbove bound other
@@ -61,8 +57,8 @@ no_more bound key a (e ∷ es) = one_le _ _ _ _ (above_later bound key e.0 a) (n
 -- at one entry: it has the key, or the key is among the rest
 fewer_by : (bound : Option (List ℕ)) (key : List ℕ) (i : ℕ) → IsAbove bound key → (e : List ℕ × ℕ) (es : List (List ℕ × ℕ)) (b : Bool) → eq_by_cmp (slice_cmp nat_cmp) key e.0 ≡ b → cond b (Some e.1) (find (slice_cmp nat_cmp) key es) ≡ Some i → (find (slice_cmp nat_cmp) key es ≡ Some i → above_in (Some key) es < above_in bound es) → above_in (Some key) (e ∷ es) < above_in bound (e ∷ es)
 fewer_by bound key i a e es true t g rest =
-    let same : key ≡ e.0 = exact_bytes key e.0 (is_equal _ t) in
-    let not_above : is_above (Some key) e.0 ≡ false = ap is_lt (is_equal _ t) in
+    let same : key ≡ e.0 = exact_bytes key e.0 (equal-is _ t) in
+    let not_above : is_above (Some key) e.0 ≡ false = ap is_lt (equal-is _ t) in
     let above : is_above bound e.0 ≡ true = above_test bound e.0 (subst (IsAbove bound) same a) in
     new_lt _ _ _ _ not_above above (no_more bound key a es)
 fewer_by bound key i a e es false t g rest = one_lt _ _ _ _ (above_later bound key e.0 a) (rest g)

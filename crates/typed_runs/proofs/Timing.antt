@@ -20,7 +20,7 @@ use Rattle.model_laws.proofs.Sections.{run-set_cases}
 use Rattle.typed_runs.specs.Well.{AreVerified, IsWell}
 use Rattle.typed_runs.proofs.Reaching.{same-insn, keeps_well, reached_is_well, real-rest}
 
--- the number is what the run in slot r has moved, where there is one
+-- the number is what the run in run slot r has moved, where there is one
 abbrev pub Counts : ℕ → ℕ → Machine → Type 0
 Counts r n m = (run : Run) → run_at m.runs r ≡ Some run → n ≡ run.moved
 

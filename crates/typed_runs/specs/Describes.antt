@@ -56,14 +56,14 @@ abbrev pub IsNullOrHeld : Scene → ℕ → Option ℕ → Type 0
 IsNullOrHeld c map None = Unit {0}
 IsNullOrHeld c map (Some n) = IsHeld c map n
 
--- the offset is one of those
+-- the offset is one that the scalar has, which keeps offsets 2^29 higher
 pub record HasOffset (s : Scalar) (o : ℤ) : Type 0 where
   pub raised : ℕ
   pub is : pos raised ≡ o +ℤ pos (2 ^ 29)
   pub limit : raised ≤ 2 ^ 30
   pub holds : Holds s raised
 
--- the context, at one of those offsets
+-- a reference to the context, at an offset that the scalar has
 pub record IsContextAt (s : Scalar) (v : Value) : Type 0 where
   pub offset : ℤ
   pub is : v ≡ Pointer (Ctx offset)

@@ -19,7 +19,7 @@ use Rattle.typed_runs.specs.Describes.{HasOffset}
 abbrev pub with_kind : ℕ → Kind → AbsState → AbsState
 with_kind r kind a = record { regs = put r kind a.regs; cells = a.cells; inside = a.inside }
 
--- after a call
+-- the registers after a call: r0 has the result's kind, and r1 to r5 may be unwritten
 abbrev pub returned_kind : Kind → (ℕ → Kind) → ℕ → Kind
 returned_kind kind regs r = if r == 0 then kind else if nat_le r 5 then Blank else regs r
 
@@ -105,8 +105,8 @@ abbrev pub IsAlwaysInside : Scalar → ℕ → ℤ → ℕ → Type 0
 IsAlwaysInside s width offset len =
     (o : ℤ) → HasOffset s o → (at : ℕ) × (region_offset len width (o +ℤ offset) ≡ Some at)
 
--- Under a renaming of identities the second kind is of what is of the first. Each side of a join is
--- so, with a renaming of its own.
+-- Each value of the first kind is one of the second, where identities are renamed. Each side of a
+-- join stands so to the joined state, with a renaming of its own.
 abbrev pub IsWiderKind : (ℕ → ℕ) → Kind → Kind → Type 0
 IsWiderKind left (MaybeNull map i) (MaybeNull map' j) = (map' ≡ map) × (left j ≡ i)
 IsWiderKind left (Num s) (Num t) = (n : ℕ) → Holds s n → Holds t n

@@ -8,7 +8,7 @@ use Rattle.bpf_model.specs.Word.{map_in}
 use Rattle.bpf_model.specs.Machine.{Run, Machine, run_at}
 use Rattle.typed_runs.specs.Describes.{AreNear}
 
--- a map below the greatest number of maps; an element in a slot below the greatest number of slots
+-- a map below the most maps; an element in a map slot below the most map slots
 abbrev pub IsWithinLimits : List ℕ → List Element → Reference → Type 0
 IsWithinLimits slots es (Ctx o) = Unit {0}
 IsWithinLimits slots es (Frame o) = Unit {0}

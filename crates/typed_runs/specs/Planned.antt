@@ -39,7 +39,7 @@ number_zero = constant_of 0
 abbrev pub origin : Scalar
 origin = constant_of (2 ^ 29)
 
--- at the entry
+-- what is known at a program's entry
 abbrev pub entry_kind : ℕ → Kind
 entry_kind r = if r == 1 then CtxAt origin else if r == 10 then FrameAt (pos FRAME_BYTES) else Blank
 

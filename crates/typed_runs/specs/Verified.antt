@@ -82,7 +82,7 @@ pub record IsPlanned (code : List Insn) (plan : Plan) (k : ℕ) (c : Scene) (m :
   pub planned : plan k ≡ Some known
   pub describes : Describes known c m
 
--- it does so further on
+-- the run stands before an instruction of a greater index than this, and the plan describes it
 pub record IsPlannedAfter (code : List Insn) (plan : Plan) (k : ℕ) (c : Scene) (m : State)
     : Type 0 where
   pub index : ℕ

@@ -14,7 +14,7 @@ pub record IsVerifiedFor (states : List MapState) (program : Loaded) : Type 0 wh
   pub bound : AreMapsBound shapes program.maps states
   pub verified : IsVerified program.code shapes program.context_len
 
--- each program, at the start with maps of these shapes
+-- each program was verified for new maps of these shapes
 abbrev pub AreVerified : List MapShape → List Loaded → Type 0
 AreVerified shapes programs = (p : ℕ) (program : Loaded) → slice_get programs p ≡ Some program
     → IsVerifiedFor (map new_map shapes) program
@@ -37,5 +37,5 @@ pub record IsWell (m : Machine) : Type 0 where
       IsVerifiedFor m.store.maps program
   pub runs : (r : ℕ) (run : Run) → run_at m.runs r ≡ Some run → run.exit ≡ None →
       IsTyped m.store run
-  -- those that have ended too
+  -- no run has moved as often as its program has instructions, no ended one either
   pub moved : (r : ℕ) (run : Run) → run_at m.runs r ≡ Some run → run.moved < length run.program.code

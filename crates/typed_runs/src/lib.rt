@@ -5,7 +5,7 @@
 //! `specs/Describes` says what a description of a run means, `specs/Effects` what calls, null tests, accesses to
 //! elements, spills and joins make of one, `specs/Verified` what a verified program promises, `specs/Well` what is
 //! so of each state that a machine of verified programs reaches. Each function has an empty body; its contract is
-//! the law. No code stands on these laws yet: they are what the verifier's and the world's contracts will cite.
+//! the law. The contracts of the verifier and of the world cite these definitions, and stand on these laws.
 #![tactic(auto)]
 
 ghost use Rattle.std.specs.Prelude.{◌≡◌, ℕ, ◌+◌, ◌^◌, ◌<◌, List, [], ◌∷◌, Option, Some, None, slice_get, unwrap_or, ℤ, pos, ◌+ℤ◌, true, false};
@@ -90,21 +90,21 @@ pub fn transfers_wider()
         → Transfers i shapes ctx_len before new taken → Transfers i shapes ctx_len old other also }
 {}
 
-/// A lock outside every section.
+/// A lock outside every section transfers: the run is inside one after it.
 pub fn lock_transfers()
     ensures { (imm : ℤ) (shapes : List MapShape) (ctx_len : ℕ) (a : AbsState)
         → kernel_function_of imm ≡ Some KernelFunction.ReadLock → a.inside ≡ false
         → Transfers (Insn.Call CallKind.Kernel imm) shapes ctx_len a (after_lock a) None }
 {}
 
-/// An unlock inside a section ends all that may be an element, in registers and in cells.
+/// An unlock inside a section transfers: it ends all that may be an element, in registers and in cells.
 pub fn unlock_transfers()
     ensures { (imm : ℤ) (shapes : List MapShape) (ctx_len : ℕ) (a : AbsState)
         → kernel_function_of imm ≡ Some KernelFunction.ReadUnlock → a.inside ≡ true
         → Transfers (Insn.Call CallKind.Kernel imm) shapes ctx_len a (after_unlock a) None }
 {}
 
-/// A lookup inside a section gives what may be null, with an identity that nothing has.
+/// A lookup inside a section transfers: r0 may be null after it, with an identity that nothing had.
 pub fn lookup_transfers()
     ensures { (imm : ℤ) (shapes : List MapShape) (ctx_len : ℕ) (a : AbsState) (map id : ℕ)
         (shape : MapShape) → helper_of imm ≡ Some Helper.Lookup → a.inside ≡ true
@@ -113,7 +113,7 @@ pub fn lookup_transfers()
         (after_call (MaybeNull map id) a) None }
 {}
 
-/// A delete: what the run holds it holds on.
+/// A delete transfers: the elements that the run holds it holds after it too.
 pub fn delete_transfers()
     ensures { (imm : ℤ) (shapes : List MapShape) (ctx_len : ℕ) (a : AbsState) (map : ℕ)
         (shape : MapShape) (t : Scalar) → ((n : ℕ) → n < 2 ^ 64 → Holds t n)
@@ -122,7 +122,7 @@ pub fn delete_transfers()
         → Transfers (Insn.Call CallKind.Helper imm) shapes ctx_len a (after_call (Num t) a) None }
 {}
 
-/// An update: what the run holds it holds on, and the new value is bytes.
+/// An update transfers: the elements that the run holds it holds after it too, and the new value is bytes.
 pub fn update_transfers()
     ensures { (imm : ℤ) (shapes : List MapShape) (ctx_len : ℕ) (a : AbsState) (map : ℕ)
         (shape : MapShape) (t : Scalar) → ((n : ℕ) → n < 2 ^ 64 → Holds t n)
@@ -131,7 +131,7 @@ pub fn update_transfers()
         → Transfers (Insn.Call CallKind.Helper imm) shapes ctx_len a (after_call (Num t) a) None }
 {}
 
-/// A test for null that jumps where it is null.
+/// A test for null that jumps where the register is null transfers: either way tells what the register is.
 pub fn equal_transfers()
     ensures { (shapes : List MapShape) (ctx_len dst n map id : ℕ) (a : AbsState) (z origin : Scalar)
         → Holds z 0 → HasOffset origin (pos 0) → a.regs dst ≡ MaybeNull map id
@@ -140,7 +140,7 @@ pub fn equal_transfers()
         shapes ctx_len a (when_there id origin a) (Some (when_null id z a)) }
 {}
 
-/// A test for null that jumps where it isn't.
+/// A test for null that jumps where the register isn't null transfers: either way tells what the register is.
 pub fn not_equal_transfers()
     ensures { (shapes : List MapShape) (ctx_len dst n map id : ℕ) (a : AbsState) (z origin : Scalar)
         → Holds z 0 → HasOffset origin (pos 0) → a.regs dst ≡ MaybeNull map id
@@ -149,7 +149,7 @@ pub fn not_equal_transfers()
         shapes ctx_len a (when_null id z a) (Some (when_there id origin a)) }
 {}
 
-/// A load from an element.
+/// A load from an element transfers: the register is a number of so many bytes after it.
 pub fn load_transfers()
     ensures { (width : Width) (dst src : ℕ) (offset : ℤ) (shapes : List MapShape) (ctx_len : ℕ)
         (a : AbsState) (map : ℕ) (shape : MapShape) (scalar t : Scalar)
@@ -160,7 +160,7 @@ pub fn load_transfers()
         (with_kind dst (Num t) a) None }
 {}
 
-/// A store of a number to an element.
+/// A store of a number to an element transfers, and what is known stays.
 pub fn store_transfers()
     ensures { (width : Width) (dst : ℕ) (offset : ℤ) (src : Operand) (shapes : List MapShape)
         (ctx_len : ℕ) (a : AbsState) (map : ℕ) (shape : MapShape) (scalar : Scalar)
@@ -170,7 +170,7 @@ pub fn store_transfers()
         → Transfers (Insn.Store width dst offset src) shapes ctx_len a a None }
 {}
 
-/// A load with sign extension from an element.
+/// A load with sign extension from an element transfers: the register is the extended number after it.
 pub fn load_signed_transfers()
     ensures { (width : SignedWidth) (dst src : ℕ) (offset : ℤ) (shapes : List MapShape)
         (ctx_len : ℕ) (a : AbsState) (map : ℕ) (shape : MapShape) (scalar t : Scalar)
@@ -183,7 +183,7 @@ pub fn load_signed_transfers()
         (with_kind dst (Num t) a) None }
 {}
 
-/// A store of eight bytes to the frame, of a value of any written kind.
+/// A store of eight bytes to the frame, of a value of any written kind, transfers: the cells have its parts.
 pub fn spill_transfers()
     ensures { (dst src : ℕ) (offset o : ℤ) (at : ℕ) (shapes : List MapShape) (ctx_len : ℕ)
         (a : AbsState) (kind : Kind) → a.regs dst ≡ FrameAt o
@@ -192,7 +192,7 @@ pub fn spill_transfers()
         (with_cells at 8 (PartCell kind) a) None }
 {}
 
-/// A load of the eight parts of what was stored.
+/// A load of the eight parts of a stored reference, or of what may be null, transfers: the register has its kind.
 pub fn fill_transfers()
     ensures { (dst src : ℕ) (offset o : ℤ) (at : ℕ) (shapes : List MapShape) (ctx_len : ℕ)
         (a : AbsState) (kind : Kind) → a.regs src ≡ FrameAt o
@@ -272,7 +272,7 @@ pub fn tracked_is_near()
         → AllStates IsNearMachine (m ∷ states) }
 {}
 
-/// Two near references with one word name one location: of one region, one slot and one offset.
+/// Two near references with one word name one location: of one region or map slot, at one offset.
 pub fn near_references_differ()
     ensures { (slots : List ℕ) (es : List Element) (r q : Reference) (w : ℕ) → IsNearReference r
         → IsNearReference q → IsWithinLimits slots es r → IsWithinLimits slots es q

@@ -1,5 +1,5 @@
--- A world's own step for each event of the control plane, as a function of its view: the answer,
--- and the view after it.
+-- A world's own step for each event but the step of a run that goes on, as a function of its view:
+-- the answer, and the view after it.
 use Rattle.std.specs.Prelude.{ℕ, suc, ◌+◌, ◌-◌, nat_lt, Bool, true, false, List, [], ◌∷◌, Option}
 use Rattle.std.specs.Prelude.{Some, None, slice_get, slice_set, length, map, replicate}
 use Rattle.std.specs.Option.{option_map}

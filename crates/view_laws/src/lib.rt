@@ -33,13 +33,14 @@ pub fn tracked_matches()
     ensures { (w : WorldView) (s : Schedule) → TracksSchedule w s → Matches w s }
 {}
 
-/// A delete, refused or not.
+/// What a world makes of a delete, refused or not, is a step of the schedule.
 pub fn delete_simulates()
     ensures { (w : WorldView) (s : Schedule) → Matches w s → (k : ℕ) (key : ArrayVec ℕ) →
         Simulates s (Event.Delete k key) (delete_reaction w k key.items) }
 {}
 
-/// An update, refused or not, with each of its errors or none.
+/// What a world makes of an update, refused or not, with each of its errors or none, is a step of the
+/// schedule.
 pub fn update_simulates()
     ensures { (w : WorldView) (s : Schedule) → Matches w s →
         (k : ℕ) (key value : ArrayVec ℕ) (flags : ℕ) →
@@ -47,31 +48,33 @@ pub fn update_simulates()
         (update_reaction w k key.items value.items flags) }
 {}
 
-/// A read, refused or not: a lookup in the index.
+/// What a world makes of a read, refused or not, is a step of the schedule: a lookup in the index.
 pub fn read_simulates()
     ensures { (w : WorldView) (s : Schedule) → Matches w s → (k : ℕ) (key : ArrayVec ℕ) →
         Simulates s (Event.Read k key) (read_reaction w k key.items) }
 {}
 
-/// An advance: where no run is awaited, a grace period ends in each map.
+/// What a world makes of an advance is a step of the schedule: where no run is awaited, a grace period
+/// ends in each map.
 pub fn advance_simulates()
     ensures { (w : WorldView) (s : Schedule) → Matches w s →
         Simulates s Event.Advance (advance_reaction w) }
 {}
 
-/// A reap: the first ready slot of the lowest map that has one is given back, or there is none.
+/// What a world makes of a reap is a step of the schedule: the first ready map slot of the lowest map
+/// that has one is given back, or there is none.
 pub fn reap_simulates()
     ensures { (w : WorldView) (s : Schedule) → Matches w s
         → Simulates s Event.Reap (reap_reaction w) }
 {}
 
-/// A start, refused or not.
+/// What a world makes of a start, refused or not, is a step of the schedule.
 pub fn start_simulates()
     ensures { (w : WorldView) (s : Schedule) → Matches w s → (prog : ℕ) (ctx : ArrayVec ℕ) →
         Simulates s (Event.Start prog ctx) (start_reaction w prog ctx.items) }
 {}
 
-/// A drop, refused or not.
+/// What a world makes of a drop, refused or not, is a step of the schedule.
 pub fn drop_simulates()
     ensures { (w : WorldView) (s : Schedule) → Matches w s → (r : ℕ) →
         Simulates s (Event.Drop r) (drop_reaction w r) }
@@ -101,8 +104,8 @@ pub fn reaction_tracks()
         reaction w event ≡ Some x → AnswersAsScheduled TracksSchedule w event x.0 x.1 }
 {}
 
-/// A law: a step that simulates each schedule which the world tracks, to a view with the same shapes
-/// and programs, is answered as scheduled.
+/// A step that simulates each schedule which the world tracks, to a view with the same shapes and
+/// programs, is answered as scheduled.
 pub fn simulates_tracks()
     ensures { (w new : WorldView) (event : Event) (answer : Answer) → IsReal event →
         shapes_of new ≡ shapes_of w → new.programs ≡ w.programs →
@@ -110,7 +113,8 @@ pub fn simulates_tracks()
         AnswersAsScheduled TracksSchedule w event answer new }
 {}
 
-/// A step of a run that leaves the maps as they are, where the new view of the run stands for the run after it.
+/// A step of a run that leaves the maps as they are is a step of the schedule, where the run's new view stands
+/// for the run after it.
 pub fn move_simulates()
     ensures { (w : WorldView) (s : Schedule) → (m : Matches w s) →
         (r : ℕ) (run later : Run) (old new : RunView) (answer : Answer) →
@@ -121,7 +125,7 @@ pub fn move_simulates()
         Simulates s (Event.Step r) (answer, with_run r (Some new) w) }
 {}
 
-/// A run's step that opens a section.
+/// A run's step that opens a section is a step of the schedule.
 pub fn lock_simulates()
     ensures { (w : WorldView) (s : Schedule) → Matches w s →
         (r : ℕ) (run : Run) (old : RunView) (imm : ℤ) → run_at s.machine.runs r ≡ Some run →
@@ -131,7 +135,7 @@ pub fn lock_simulates()
         Simulates s (Event.Step r) (Answer.Moved, with_run r (Some (locked_view old)) w) }
 {}
 
-/// A run's step that ends its section.
+/// A run's step that ends its section is a step of the schedule.
 pub fn unlock_simulates()
     ensures { (w : WorldView) (s : Schedule) → Matches w s →
         (r : ℕ) (run : Run) (old : RunView) (imm : ℤ) → run_at s.machine.runs r ≡ Some run →
@@ -141,14 +145,14 @@ pub fn unlock_simulates()
         Simulates s (Event.Step r) (Answer.Moved, with_run r (Some (unlocked_view old)) w) }
 {}
 
-/// The first half of a run's step that deletes: the maps, and the lists.
+/// Deleting in a map's view is the first half of a run's step that deletes: the maps change, and the lists.
 pub fn delete_half()
     ensures { (w : WorldView) (s : Schedule) → Matches w s → (k : ℕ) (v : MapView) (key : List ℕ) →
         slice_get w.maps k ≡ Some v →
         DeletesHalf (with_map k (deleted v key).1 w) s k key (deleted v key).0 }
 {}
 
-/// The first half of a run's step that updates.
+/// Updating a map's view is the first half of a run's step that updates.
 pub fn update_half()
     ensures { (w : WorldView) (s : Schedule) → Matches w s →
         (k : ℕ) (v : MapView) (key value : List ℕ) (flags : ℕ) → slice_get w.maps k ≡ Some v →
@@ -156,8 +160,8 @@ pub fn update_half()
         (updated v key value flags).0 }
 {}
 
-/// The first half of a run's step that stores to an element: the low bytes of a number take their place
-/// in its slot.
+/// Writing to a map's view is the first half of a run's step that stores to an element: the low bytes of a
+/// number take the place of others in its map slot.
 pub fn store_half()
     ensures { (w : WorldView) (s : Schedule) → (m : Matches w s) →
         (n : ℕ) (e : Element) (v : MapView) (offset : ℤ) (width at x : ℕ) →
@@ -171,7 +175,8 @@ pub fn store_half()
         s n width offset x }
 {}
 
-/// Both halves are a step of the run: a view that refines the first, and the run's own view after the step.
+/// A view that refines the first half of a run's step, with the run's own view after the step, is the world
+/// after a step of the schedule.
 pub fn halves_simulate()
     ensures { (w : WorldView) (s : Schedule) → Matches w s →
         (r : ℕ) (store : Store) (mid : WorldView) (refines : RefinesSchedule mid (half s store))

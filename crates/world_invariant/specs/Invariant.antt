@@ -5,8 +5,8 @@ use Rattle.bpf_model.specs.View.{WorldView}
 use Rattle.view_laws.specs.Matching.{Matches}
 use Rattle.world_laws.specs.Typed.{IsReadyWorld, IsSound}
 
--- It tracks a state of the machine with the runtime's choices, its programs are verified for its
--- maps and values of their types, and its counts have room.
+-- A world tracks a state of the machine with the runtime's choices, its programs are verified for
+-- its maps and values of their types, and its counts have room.
 pub record IsWorld (w : WorldView) : Type 0 where
   pub schedule : Schedule
   pub tracks : TracksSchedule w schedule

@@ -1,4 +1,4 @@
--- The step of a run on words is its step in the machine: for each instruction, and for the run in a slot.
+-- The step of a run on words is its step in the machine: for each instruction, and for the run in a run slot.
 use Rattle.std.proofs.Common.{◌≡◌, ℕ, List, Option, Some, None, refl, sym, ap, subst, ◌∙◌, inl, inr}
 use Rattle.std.specs.Prelude.{slice_get}
 use Rattle.std.proofs.lemmas.Option.{none-some}

@@ -14,7 +14,7 @@ use Rattle.bpf_model.specs.View.{MapView, WorldView, new_map_view, start_view, s
 use Rattle.bpf_model.specs.Refines.{TracksSchedule, Tracks, IsBounded}
 use Rattle.model_laws.specs.Steps.{AreSteps}
 use Rattle.model_laws.proofs.Bounded.{given_bounded}
-use Rattle.model_laws.proofs.Joining.{steps_make_runs}
+use Rattle.model_laws.proofs.Joining.{steps_make_scheduled}
 use Rattle.model_laws.proofs.Worlds.{scheduled_is_machine, scheduled_is_machine_once, tracked_reclaimed_late}
 use Rattle.typed_runs.specs.Well.{AreVerified}
 use Rattle.typed_runs.proofs.Reaching.{reached_is_well, real-rest, tracked_never_stuck}
@@ -100,7 +100,7 @@ are_steps w (event ∷ events) ready real =
     (first.1, answers_as_scheduled w event ready (real 0 event refl), are_steps first.1 events (ready_stays w event ready) (real-rest event events real))
 
 pub answers_scheduled : (w : WorldView) (events : List Event) → IsReadyWorld w → AreReal events → AreScheduledAnswers TracksSchedule w events (full_reactions w events).0 (full_reactions w events).1
-answers_scheduled w events ready real = steps_make_runs w (full_reactions w events).1 events (full_reactions w events).0 (are_steps w events ready real)
+answers_scheduled w events ready real = steps_make_scheduled w (full_reactions w events).1 events (full_reactions w events).0 (are_steps w events ready real)
 
 pub answers_machine : (w : WorldView) (events : List Event) → IsReadyWorld w → AreReal events → AreMachineAnswers Tracks w events (full_reactions w events).0 (full_reactions w events).1
 answers_machine w events ready real = scheduled_is_machine w (full_reactions w events).1 events (full_reactions w events).0 (answers_scheduled w events ready real)

@@ -45,7 +45,7 @@ insn_step (LoadSigned width dst src offset) program r v w =
 insn_step (Store width dst offset src) program r v w =
     stored_word (byte_count width) offset (word_in v dst) (operand_word v src) r v w
 
--- A step of the run in a slot: that of the instruction at its place.
+-- A step of the run in a run slot: the step of the instruction at its place.
 abbrev pub step_at : Option Insn → Loaded → ℕ → RunView → WorldView → Answer × WorldView
 step_at (Some i) program r v w = insn_step i program r v w
 step_at None program r v w = idle w

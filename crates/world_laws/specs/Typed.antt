@@ -63,7 +63,7 @@ IsListed count (Frame o) = Unit {0}
 IsListed count (MapRef m) = m < count
 IsListed count (Elem n o) = Unit {0}
 
--- so it is with all that the runs of the machine hold
+-- each reference to a map that a run of the machine holds is to one of its program's list
 abbrev pub AreListed : Machine → Type 0
 AreListed m = (r : ℕ) (run : Run) → run_at m.runs r ≡ Some run →
     HoldsState (IsListed (length run.program.maps)) run.state

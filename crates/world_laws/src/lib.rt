@@ -120,7 +120,8 @@ pub fn insn_simulates()
         Simulates s (Event.Step r) (insn_step i run.program r v w) }
 {}
 
-/// A run that has not ended has such an instruction: its step on words is a step of the machine.
+/// A run that has not ended has an instruction with a step in the machine, and what that does to words is
+/// a step of the machine.
 pub fn step_simulates()
     ensures { (w : WorldView) (s : Schedule) → Matches w s → IsSound w s →
         (r : ℕ) (run : Run) (v : RunView) → IsRunning w s r run v →
@@ -174,7 +175,8 @@ pub fn stays_bounded()
         IsReal event → IsBounded w → IsBounded (full_reaction w event).1 }
 {}
 
-/// The clauses of a world for one event, of the reaction.
+/// The reaction of a ready world to one event is a step with the runtime's choices and one of the machine;
+/// no run is stuck, each exits in time, and elements are reclaimed late.
 pub fn one_reaction()
     ensures schedule { (w : WorldView) (event : Event) → IsReadyWorld w → IsReal event →
         AnswersAsScheduled TracksSchedule w event (full_reaction w event).0
@@ -189,7 +191,8 @@ pub fn one_reaction()
         AreReclaimedLate Tracks w (event ∷ []) ((full_reaction w event).0 ∷ []) }
 {}
 
-/// The clauses of a world for a list of events, of the reactions one after another.
+/// The reactions of a ready world to a list of events are the answers of a history with the runtime's choices
+/// and of one of the machine; no run is stuck, each exits in time, and elements are reclaimed late.
 pub fn all_reactions()
     ensures schedule { (w : WorldView) (events : List Event) → IsReadyWorld w → AreReal events →
         AreScheduledAnswers TracksSchedule w events (full_reactions w events).0
@@ -218,8 +221,8 @@ pub fn local_agrees()
         Agrees (local_of i v) r v w (insn_step i program r v w) }
 {}
 
-/// A run asks nothing of its world where the machine's run acts by itself, and it asks where that
-/// accesses an element. (It asks at each call, by the definition.)
+/// A run asks nothing of its world where the machine's run acts by itself, and it asks where the machine's
+/// run accesses an element. (It asks at each call, by the definition.)
 pub fn asks_exactly()
     ensures nothing { (w : WorldView) (s : Schedule) → Matches w s → IsSound w s →
         (r : ℕ) (run : Run) (v : RunView) → IsRunning w s r run v → (i : Insn) (out : Outcome) →
@@ -238,8 +241,8 @@ pub fn insn_is_there()
         (r : ℕ) (run : Run) (v : RunView) → IsRunning w s r run v → HasInsn w v }
 {}
 
-/// What a load or a store reaches is there: bytes of the context or of the frame, or of a slot that has
-/// an element; a store never reaches the context.
+/// What a load or a store reaches is there: bytes of the context or of the frame, or of a map slot that
+/// has an element; a store never reaches the context.
 pub fn access_reaches()
     ensures load { (w : WorldView) (s : Schedule) → Matches w s → IsSound w s →
         (r : ℕ) (run : Run) (v : RunView) → IsRunning w s r run v →
@@ -287,8 +290,8 @@ pub fn example_is_ready()
     ensures { (any : Scalar) → ((n : ℕ) → n < 2 ^ 64 → Holds any n) → IsReadyWorld example_world }
 {}
 
-/// In it a run reads an element that is deleted meanwhile, and reclaimed after its section: the
-/// answers, worked out by hand.
+/// In the example world a run reads an element that is deleted meanwhile, and reclaimed after the run's
+/// section: the reactions answer what was worked out by hand.
 pub fn example_reacts()
     ensures { (full_reactions example_world example_events).0 ≡ example_answers }
 {}
