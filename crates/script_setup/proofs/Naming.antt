@@ -1,15 +1,15 @@
 -- A map's name is ASCII.
-use Rattle.std.proofs.Common.{◌≡◌, ℕ, zero, suc, ◌<◌, inl, inr, true, false, List, [], ◌∷◌, Some, refl, arith}
-use Rattle.std.specs.Prelude.{nat_le, ◌||◌, ◌&&◌, ◌==◌, slice_get, slice_index, length}
+use Rattle.std.proofs.Common.{◌≡◌, ℕ, zero, suc, ◌<◌, true, false, List, [], ◌∷◌, Some, refl, arith}
+use Rattle.std.specs.Prelude.{nat_le, ◌&&◌, slice_get, slice_index, length}
 use Rattle.std.specs.List.{list_all}
 use Rattle.std.specs.Str.{IsUtf8}
-use Rattle.std.proofs.lemmas.Bool.{and_parts, leb-true, eqb-true, false_from_ne_true, or_cases}
+use Rattle.std.proofs.lemmas.Bool.{and_parts, false_from_ne_true}
 use Rattle.std.proofs.lemmas.Str.{IsUtf8-from_ascii}
 use Rattle.bpf_model.specs.declared.limits.MapShape.{MapShape}
 use Rattle.maps.specs.declared.fault.MapFault.TheVariants.{BadName}
 use Rattle.maps.specs.declared.name.TheConstants.{NAME_BYTES}
 use Rattle.maps.proofs.Names.{small_character}
-use Rattle.maps.specs.Registry.{RegistryView, creation_fault, is_name, is_name_character, is_letter, is_digit, begins_with_letter}
+use Rattle.maps.specs.Registry.{RegistryView, creation_fault, is_name, is_name_character, begins_with_letter}
 
 all-small : (name : List ℕ) → list_all is_name_character name ≡ true → (i : ℕ) → slice_index name i < 128
 all-small [] e i = omega arith
