@@ -1,7 +1,7 @@
 //! Arithmetic on 64-bit words (RFC 9669, sections 4.1 to 4.3 and 5.2): total functions, without
 //! memory.
 //!
-//! Each one's contract is a definition of `bpf_model`'s `specs/Arithmetic.antt`.
+//! The contract of each function is a definition of `bpf_model`'s `specs/Arithmetic.antt`.
 #![tactic(auto)]
 
 mod comparison;

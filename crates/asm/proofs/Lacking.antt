@@ -69,7 +69,7 @@ any_argument_lacks c apart (Memory base Minus n) = memory_lacks c apart base 45 
 pub argument_lacks : (a : Argument) → Lacks 44 (argument_text a)
 argument_lacks a = any_argument_lacks 44 comma_apart a
 
--- and no arguments have a line feed
+-- no argument has a line feed
 
 feed_lacks : (a : Argument) → Lacks 10 (argument_text a)
 feed_lacks a = any_argument_lacks 10 feed_apart a

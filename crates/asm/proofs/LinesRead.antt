@@ -10,6 +10,7 @@ use Rattle.std.proofs.ByRecursion.{All-push}
 use Rattle.bpf_model.specs.declared.insn.Insn.{Insn}
 use Rattle.bpf_model.specs.Spelling.{FitsInsn}
 use Rattle.disasm.specs.Text.{line_of}
+use Rattle.asm.proofs.StatementLaws.{appended}
 use Rattle.asm.specs.Reading.{Lacks}
 use Rattle.asm.specs.Faults.{is_comment, lines_in, statements_in, IsSoundLine, IsInsnLine}
 use Rattle.asm.specs.Assembling.{IsLineOf, AddsLine, IsLineFault, IsAsmTextFault}
@@ -63,12 +64,9 @@ false_true b e f = absurd (cc)
 left_out : (line : List ℕ) (xs : List (List ℕ)) → is_comment line ≡ true → (xs ++ filter keeps (line ∷ [])) ≡ xs ++ []
 left_out line xs e = ap (λ (b : Bool). xs ++ cond (not b) (line ∷ []) []) e
 
-joined : (xs ys zs ws : List (List ℕ)) → xs ≡ zs → ys ≡ ws → (xs ++ ys) ≡ zs ++ ws
-joined xs ys zs ws e f = rw (e, f) refl
-
 kept : (line : List ℕ) (xs : List (List ℕ)) (items : List Insn) (i : Insn) → is_comment line ≡ false → xs ≡ map line_of items → line ≡ line_of i → (xs ++ filter keeps (line ∷ [])) ≡ map line_of items ++ map line_of (i ∷ [])
 kept line xs items i e same is =
-    ap (λ (b : Bool). xs ++ cond (not b) (line ∷ []) []) e ∙ joined xs (line ∷ []) (map line_of items) (map line_of (i ∷ [])) same (ap (λ (t : List ℕ). t ∷ []) is)
+    ap (λ (b : Bool). xs ++ cond (not b) (line ∷ []) []) e ∙ appended xs (line ∷ []) (map line_of items) (map line_of (i ∷ [])) same (ap (λ (t : List ℕ). t ∷ []) is)
 
 comment_read : (text line : List ℕ) (left : List (List ℕ)) (items : List Insn) (index : ℕ) → LinesRead text (line ∷ left) items index → is_comment line ≡ true → LinesRead text left items (index + 1)
 comment_read text line left items index read e =

@@ -142,7 +142,7 @@ name_lacks_any c small m = lacks_append c (stem_of m) (suffix_of m) (plain_lacks
 pub name_lacks : (m : Mnemonic) → Lacks 32 (mnemonic_text m)
 name_lacks m = name_lacks_any 32 (omega arith) m
 
--- nor begins as a comment
+-- no name begins as a comment
 alu_statement : (x : AluOp) (rest : List ℕ) → is_comment (alu_stem x ++ rest) ≡ false
 alu_statement alu.Add rest = refl
 alu_statement alu.Sub rest = refl

@@ -18,7 +18,7 @@ regroup a b d mid = simp append_assoc
 joined : (x y a b : List ℕ) → x ≡ a → y ≡ b → (x ++ 44 ∷ 32 ∷ y) ≡ a ++ 44 ∷ 32 ∷ b
 joined x y a b e f = rw (e, f) refl
 
-appended : (x y a b : List ℕ) → x ≡ a → y ≡ b → (x ++ y) ≡ a ++ b
+pub appended : {A : Type 0} (x y a b : List A) → x ≡ a → y ≡ b → (x ++ y) ≡ a ++ b
 appended x y a b e f = rw (e, f) refl
 
 two_text : (a b : Argument) → arguments_text (Two a b) ≡ 32 ∷ (argument_text a ++ 44 ∷ 32 ∷ argument_text b)

@@ -18,7 +18,7 @@ use Rattle.asm.specs.declared.form.Class.TheVariants as class
 use Rattle.asm.specs.declared.form.Form.{Form}
 use Rattle.asm.specs.declared.form.Form.TheVariants.{Zero, One, Two, Three}
 
--- `-0` is no number
+-- whether a magnitude may be written with this sign: `-0` is no number
 abbrev pub is_signed : Sign → ℕ → Bool
 is_signed Plus magnitude = true
 is_signed Minus magnitude = not (magnitude == 0)

@@ -9,7 +9,9 @@ use thiserror::Error;
 /// What is wrong with a line.
 #[derive(Clone, Copy, Debug, PartialEq, Eq)]
 pub enum LineFlaw {
+    /// The line has the form of no instruction.
     NoForm,
+    /// The line has the form of an instruction, but something in it is out of its range.
     OutOfRange,
 }
 
@@ -36,7 +38,7 @@ pub enum AsmFault {
 }
 
 impl AsmFault {
-    /// The number by which the fault is known.
+    /// The number by which the fault is known: 2, 3, or 13 to 15.
     pub fn code(&self) -> u8
         ensures { result ≡ asm_fault_number self.now }
     {
@@ -49,7 +51,7 @@ impl AsmFault {
         }
     }
 
-    /// The faulty line, where the fault is of one line.
+    /// The line that is at fault, counted from 1; `None` where the fault is of no one line.
     pub fn line(&self) -> Option<usize>
         ensures { result ≡ asm_fault_line self.now }
     {

@@ -7,6 +7,7 @@ use disasm::{Argument, Arguments, Mnemonic, Sign, Statement};
 /// A class of arguments.
 #[derive(Clone, Copy, Debug, PartialEq, Eq)]
 pub enum Class {
+    /// A register.
     Register,
     /// A register or a number.
     Source,
@@ -29,7 +30,7 @@ pub enum Form {
     Three(Class, Class, Class),
 }
 
-/// `-0` is no number.
+/// Whether a number of this magnitude may be written with this sign: `-0` is no number.
 fn is_signed(sign: Sign, magnitude: u128) -> bool
     ensures { result ≡ is_signed_number sign magnitude }
 {

@@ -4,7 +4,7 @@ ghost use Rattle.std.specs.Int.{IsInRange};
 ghost use Rattle.disasm.specs.Text.{glyphs, numeral};
 ghost use Rattle.asm.specs.Reading.{capped};
 
-/// Stands for each number from it on: no instruction takes one.
+/// 2^64, which stands for each number from 2^64 on: no instruction takes one.
 const LIMIT: u128 = 0x1_0000_0000_0000_0000;
 
 /// The number with one more digit at its end.

@@ -129,7 +129,7 @@ pub fn long_offset(argument: &Argument) -> Option<i32>
     }
 }
 
-/// A base register and an offset.
+/// The base register and the signed offset of 16 bits that the argument names; `None` where it names none.
 pub fn memory(argument: &Argument) -> Option<(Reg, i16)>
     ensures found { IfSome result (λ x.
         (argument.now ≡ memory_argument x.0 x.1) × (x.0 ≤ 10) × FitsSigned w16 x.1) }

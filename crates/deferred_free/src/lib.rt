@@ -24,7 +24,7 @@ pub trait Deferred {
     /// The three lists, over this arena.
     ghost lists: { Self → ArenaState → Queues };
 
-    /// That they are lists of this arena's slots, with room for all of them.
+    /// That the three lists are of this arena's slots, with room for all of them.
     ghost fits: { Self → ArenaState → Type 0 };
 
     /// Three empty lists for an arena of at most so many slots. Fails where memory runs out.
@@ -33,7 +33,7 @@ pub trait Deferred {
             lists x a ≡ record { next = []; waiting = []; ready = [] }) }
         ensures fits { IfOk result (λ x. (a : ArenaState) → length a.slots ≤ slots → fits x a) };
 
-    /// A taken slot that is in no list joins the end of next. It takes no memory.
+    /// A taken slot that is in no list joins the end of next. No memory is taken.
     fn retire(&mut self, arena: &mut Arena, slot: usize)
         requires fits { fits self.old arena.old }
         requires taken { IsTaken arena.old slot }
@@ -43,7 +43,7 @@ pub trait Deferred {
         ensures links { LinksOf (queued (lists self.new arena.new)) arena.old arena.new };
 
     /// A grace period ends and the next begins: what waits is ready, behind what is ready already, and
-    /// next waits. It takes no memory.
+    /// next waits. No memory is taken.
     fn advance(&mut self, arena: &mut Arena)
         requires fits { fits self.old arena.old }
         ensures lists { lists self.new arena.new ≡ turned (lists self.old arena.old) }
@@ -58,12 +58,12 @@ pub trait Deferred {
         ensures fits { fits self.new arena.new }
         ensures links { LinksOf (queued (lists self.old arena.old)) arena.old arena.new };
 
-    /// Others of the same slots, over each arena that these fit. Fails where memory runs out.
+    /// Three lists with the same slots, over each arena that these lists fit. Fails where memory runs out.
     fn copy(&self, alloc: Global) -> Result<Self, AllocError>
         ensures { IfOk result (λ y. (a : ArenaState) → fits self.now a →
             fits y a × (lists y a ≡ lists self.now a)) };
 
-    /// They read nothing of the arena but the keys, links and standing of their own slots.
+    /// The three lists read nothing of the arena but the keys, links and standing of their own slots.
     ghost frame: { (x : Self) (a b : ArenaState) → fits x a → SameAt (queued (lists x a)) a b →
         fits x b × (lists x b ≡ lists x a) };
 }

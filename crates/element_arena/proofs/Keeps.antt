@@ -1,7 +1,6 @@
 -- What is done to cells keeps them threaded.
-use Rattle.std.proofs.Common.{◌≡◌, ◌≢◌, ◌∙◌, ℕ, ◌+◌, ◌<◌, ◌≤◌, List, [], ◌∷◌, ◌++◌, length, Option, Some, None, ◌⊎◌, inl, inr, refl, sym, ap, arith, cond, eqb, subst, map}
+use Rattle.std.proofs.Common.{◌≡◌, ◌≢◌, ◌∙◌, ℕ, ◌+◌, ◌<◌, ◌≤◌, List, [], ◌∷◌, ◌++◌, length, Option, Some, None, inl, inr, refl, sym, ap, arith, cond, eqb, subst, map}
 use Rattle.std.specs.Prelude.{slice_get, slice_set}
-use Rattle.std.proofs.lemmas.Bool.{eqb-true, eqb-false, cases_Bool}
 use Rattle.std.proofs.lemmas.Option.{none-some, same_Some, slice_get_within}
 use Rattle.bpf_model.proofs.Cases.{option_cases}
 use Rattle.element_arena.specs.State.{times_in, worn_at, flag_in}
@@ -12,7 +11,7 @@ use Rattle.element_arena.specs.declared.cell.Standing.{Standing}
 use Rattle.element_arena.specs.declared.cell.Standing.TheVariants.{Free, Taken, Worn}
 use Rattle.element_arena.specs.declared.cell.Cell.{Cell}
 use Rattle.element_arena.specs.Kept.{is_worn, free_count, taken_count, raw, raw_of, free_of, IsThreaded, AreCellsKept, last_left, first_with, relinked, linked_behind}
-use Rattle.bpf_model.proofs.Lists.{get-below, get-map, get-set_other, get-set_same, length-set}
+use Rattle.bpf_model.proofs.Lists.{get-below, get-map, get-set_cases, get-set_other, get-set_same, length-set}
 
 pub free-is : (cells : List Cell) (first last : Option ℕ) (limit : ℕ) (ys : List ℕ) → IsThreaded cells first last limit ys → free_of cells first ≡ ys
 free-is cells first last limit ys t = walk-thread (raw cells) first ys (length cells) t.thread (length_once (length cells) ys t.once t.inside)
@@ -30,16 +29,6 @@ pub is_free : (s : Standing) → free_count s ≡ 1 → s ≡ Free
 is_free Free h = refl
 is_free Taken h = absurd (omega arith)
 is_free Worn h = absurd (omega arith)
-
--- a cell after one was set
-set_cases : (cells : List Cell) (i j : ℕ) (d e : Cell) → slice_get (slice_set cells i d) j ≡ Some e → ((j ≡ i) × (d ≡ e)) ⊎ ((j ≢ i) × (slice_get cells j ≡ Some e))
-set_cases cells i j d e h = elim (cases_Bool (eqb j i)) [
-  | inl y ↦
-      let s : j ≡ i = eqb-true j i y in
-      let l : i < length cells = subst (λ n. i < n) (length-set cells i d) (slice_get_within _ i e (ap (slice_get (slice_set cells i d)) (sym s) ∙ h)) in
-      inl (s, same_Some d e (sym (get-set_same cells i d l) ∙ (ap (slice_get (slice_set cells i d)) (sym s) ∙ h)))
-  | inr f ↦ let n : j ≢ i = eqb-false j i f in inr (n, sym (get-set_other cells i j d n) ∙ h)
-]
 
 module _ (cells : List Cell) (first last : Option ℕ) (limit : ℕ) where
   -- the first free slot
@@ -77,15 +66,15 @@ module _ (cells : List Cell) (first last : Option ℕ) (limit : ℕ) where
           ends = last_is c.link ys rest kk.ends;
           once = λ j. let o : times_in j (i ∷ ys) ≤ 1 = kk.once j in omega arith;
           inside = λ j h. let h' : 0 < times_in j (i ∷ ys) = omega arith in let l : j < length cells = kk.inside j h' in omega arith;
-          standing = λ j e h. elim (set_cases cells i j d e h) [
+          standing = λ j e h. elim (get-set_cases cells i j d e h) [
             | inl y ↦ ap (λ z. times_in z ys) y.0 ∙ (gone ∙ (sym f' ∙ ap (λ (z : Cell). free_count z.standing) y.1))
             | inr n ↦ let o : cond {A = ℕ} (eqb i j) 1 0 ≡ 0 = one_other i j (λ y. n.0 (sym y)) in let t : times_in j (i ∷ ys) ≡ free_count e.standing = kk.standing j e n.1 in omega arith
           ];
-          used = λ j e h. elim (set_cases cells i j d e h) [
+          used = λ j e h. elim (get-set_cases cells i j d e h) [
             | inl y ↦ let u : c.uses + free_count c.standing ≤ limit = kk.used i c at in subst (λ (z : Cell). z.uses + free_count z.standing ≤ limit) y.1 (omega arith)
             | inr n ↦ kk.used j e n.1
           ];
-          given = λ j e h. elim (set_cases cells i j d e h) [
+          given = λ j e h. elim (get-set_cases cells i j d e h) [
             | inl y ↦ let u : c.generation + taken_count c.standing ≤ c.uses = kk.given i c at in subst (λ (z : Cell). z.generation + taken_count z.standing ≤ z.uses) y.1 (omega arith)
             | inr n ↦ kk.given j e n.1
           ];
@@ -111,15 +100,15 @@ module _ (cells : List Cell) (first last : Option ℕ) (limit : ℕ) where
         ends = k.ends;
         once = k.once;
         inside = λ j h. let l : j < length cells = k.inside j h in omega arith;
-        standing = λ j e h. elim (set_cases cells i j d e h) [
+        standing = λ j e h. elim (get-set_cases cells i j d e h) [
           | inl y ↦ ap (λ z. times_in z ys) y.0 ∙ (gone ∙ (sym f' ∙ ap (λ (z : Cell). free_count z.standing) y.1))
           | inr n ↦ k.standing j e n.1
         ];
-        used = λ j e h. elim (set_cases cells i j d e h) [
+        used = λ j e h. elim (get-set_cases cells i j d e h) [
           | inl y ↦ subst (λ (z : Cell). z.uses + free_count z.standing ≤ limit) y.1 (omega arith)
           | inr n ↦ k.used j e n.1
         ];
-        given = λ j e h. elim (set_cases cells i j d e h) [
+        given = λ j e h. elim (get-set_cases cells i j d e h) [
           | inl y ↦ subst (λ (z : Cell). z.generation + taken_count z.standing ≤ z.uses) y.1 g'
           | inr n ↦ k.given j e n.1
         ];
@@ -150,15 +139,15 @@ module _ (cells : List Cell) (first last : Option ℕ) (limit : ℕ) where
       let g1 : taken_count c.standing ≡ 1 = ap taken_count was in
       let g2 : taken_count d.standing ≡ 0 = ap taken_count st in
       let f1 : free_count d.standing ≡ 1 = ap free_count st in
-      let used : (j : ℕ) (e : Cell) → slice_get (slice_set cells i d) j ≡ Some e → e.uses + free_count e.standing ≤ limit = (λ j e h. elim (set_cases cells i j d e h) [
+      let used : (j : ℕ) (e : Cell) → slice_get (slice_set cells i d) j ≡ Some e → e.uses + free_count e.standing ≤ limit = (λ j e h. elim (get-set_cases cells i j d e h) [
         | inl y ↦ subst (λ (z : Cell). z.uses + free_count z.standing ≤ limit) y.1 (omega arith)
         | inr n ↦ k.used j e n.1
       ]) in
-      let given : (j : ℕ) (e : Cell) → slice_get (slice_set cells i d) j ≡ Some e → e.generation + taken_count e.standing ≤ e.uses = (λ j e h. elim (set_cases cells i j d e h) [
+      let given : (j : ℕ) (e : Cell) → slice_get (slice_set cells i d) j ≡ Some e → e.generation + taken_count e.standing ≤ e.uses = (λ j e h. elim (get-set_cases cells i j d e h) [
         | inl y ↦ subst (λ (z : Cell). z.generation + taken_count z.standing ≤ z.uses) y.1 (omega arith)
         | inr n ↦ k.given j e n.1
       ]) in
-      let standing : (j : ℕ) (e : Cell) → slice_get (slice_set cells i d) j ≡ Some e → times_in j (free_of cells first ++ i ∷ []) ≡ free_count e.standing = (λ j e h. elim (set_cases cells i j d e h) [
+      let standing : (j : ℕ) (e : Cell) → slice_get (slice_set cells i d) j ≡ Some e → times_in j (free_of cells first ++ i ∷ []) ≡ free_count e.standing = (λ j e h. elim (get-set_cases cells i j d e h) [
         | inl y ↦ subst (λ z. times_in z (free_of cells first ++ i ∷ []) ≡ free_count e.standing) (sym y.0) (let q : free_count d.standing ≡ free_count e.standing = ap (λ (z : Cell). free_count z.standing) y.1 in omega (arith, times-append i (free_of cells first) (i ∷ []), one_same i))
         | inr n ↦ let q : times_in j (free_of cells first) ≡ free_count e.standing = k.standing j e n.1 in omega (arith, times-append j (free_of cells first) (i ∷ []), one_other i j (λ y. n.0 (sym y)))
       ]) in
@@ -211,15 +200,15 @@ module _ (cells : List Cell) (first last : Option ℕ) (limit : ℕ) where
             ends = sym (last-append (free_of cells first) (i ∷ []) i refl);
             once = once;
             inside = λ j h. let m : j < length cells = inside j h in omega arith;
-            standing = λ j x h. elim (set_cases (slice_set cells i d) l j (record b.0 { link = Some i }) x h) [
+            standing = λ j x h. elim (get-set_cases (slice_set cells i d) l j (record b.0 { link = Some i }) x h) [
               | inl y ↦ subst (λ z. times_in z (free_of cells first ++ i ∷ []) ≡ free_count x.standing) (sym y.0) (standing l b.0 before ∙ ap (λ (z : Cell). free_count z.standing) y.1)
               | inr n ↦ standing j x n.1
             ];
-            used = λ j x h. elim (set_cases (slice_set cells i d) l j (record b.0 { link = Some i }) x h) [
+            used = λ j x h. elim (get-set_cases (slice_set cells i d) l j (record b.0 { link = Some i }) x h) [
               | inl y ↦ subst (λ (z : Cell). z.uses + free_count z.standing ≤ limit) y.1 (used l b.0 before)
               | inr n ↦ used j x n.1
             ];
-            given = λ j x h. elim (set_cases (slice_set cells i d) l j (record b.0 { link = Some i }) x h) [
+            given = λ j x h. elim (get-set_cases (slice_set cells i d) l j (record b.0 { link = Some i }) x h) [
               | inl y ↦ subst (λ (z : Cell). z.generation + taken_count z.standing ≤ z.uses) y.1 (given l b.0 before)
               | inr n ↦ given j x n.1
             ];

@@ -65,7 +65,7 @@ module _ (slots : List SlotView) (cells : List Cell) (kl vl limit i : ℕ) (c : 
       (map-set link_view cells i _)
       (map-set (λ (z : Cell). z.generation) cells i _ ∙ ap (λ g. slice_set (map (λ (z : Cell). z.generation) cells) i (g + 1)) (sym generation_is))
 
-  -- and before
+  -- a taken cell is given back, before its last use
   pub free_view : (free : List ℕ) → uses_at slots i ≡ c.uses → c.standing ≡ Taken → eqb c.uses limit ≡ false →
       state_with slots (slice_set cells i (record { uses = c.uses; generation = c.generation + 1; standing = Free; link = None })) (free ++ i ∷ []) kl vl limit ≡ given_back (state_with slots cells free kl vl limit) i
   free_view free u st last =

@@ -188,7 +188,7 @@ impl Arena {
         }
     }
 
-    /// The little-endian number in the value of a taken slot, from an offset on.
+    /// The little-endian number in the value of a taken slot, from an offset in bytes on.
     pub fn load(&self, slot: usize, offset: usize, width: Width) -> u64
         requires taken { IsTaken self.now slot }
         requires inside { offset + byte_count width ≤ self.now.value_len }
@@ -199,7 +199,7 @@ impl Arena {
         number_of(value, offset, width)
     }
 
-    /// Stores the low bytes of a number in the value of a taken slot, from an offset on.
+    /// Stores the low bytes of a number in the value of a taken slot, from an offset in bytes on.
     pub fn store(&mut self, slot: usize, offset: usize, width: Width, number: u64)
         requires taken { IsTaken self.old slot }
         requires inside { offset + byte_count width ≤ self.old.value_len }

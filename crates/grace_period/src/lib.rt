@@ -19,7 +19,7 @@ use std::marker::Model;
 /// grace period waits for that section. Contracts see two lists of flags, one flag a run slot.
 #[derive(Drop)]
 pub struct Grace {
-    /// Bit r is set when the run in slot r is inside a section.
+    /// Bit r is set when the run in run slot r is inside a section.
     opened: u64,
     /// Bit r is set when that section is awaited.
     awaited: u64,
@@ -96,7 +96,7 @@ impl Grace {
         true
     }
 
-    /// Another of the same runs. It takes no memory.
+    /// An equal `Grace`: the same runs are inside sections, and the same are awaited. No memory is taken.
     pub fn copy(&self) -> Grace
         ensures { result ≡ self.now }
     {

@@ -60,7 +60,7 @@ module _ (key : ℕ → List ℕ) (xs : List ℕ) (k : List ℕ) where
     ]
   ]
 
-  -- or below it
+  -- the search by halves goes on below the middle
   pub halved_above : (m s : ℕ) → IsAscending key xs → slice_get xs m ≡ Some s → (IsLess (key s) k → ⊥) → (i t : ℕ) → m ≤ i → slice_get xs i ≡ Some t → IsLess (key t) k → ⊥
   halved_above m s asc at not_less i t h g l = elim (index_cases m i) [
     | inl less ↦ not_less (less_trans (key s) (key t) k (asc m i s t less at g) l)
@@ -114,7 +114,7 @@ module _ (key : ℕ → List ℕ) (xs : List ℕ) (k : List ℕ) where
       above = λ i t h g. subst (λ z. IsLess z (key t)) e (asc p i s t (omega arith) at g);
     }
 
-    -- and above one that stands nowhere at its position
+    -- the keys above one that does not stand at its position begin there
     pub above_here : IsAscending key xs → IsPosition key xs k p → ((s : ℕ) → slice_get xs p ≡ Some s → key s ≢ k) → IsPositionAbove key xs (Some k) p
     above_here asc f other = record {
       below = λ i t h g. less_not_back (key t) k (f.below i t h g);

@@ -41,7 +41,7 @@ bucket_of count key = bit_and (((hash_of key * WORD_FACTOR) % 2 ^ 64) / 2 ^ 32) 
 abbrev pub chain_of : ArenaState → Option ℕ → List ℕ
 chain_of a first = walk (length a.slots) (link_at a.links) first
 
--- it ends, and its slots are taken
+-- the chain from this slot ends, and its slots are taken
 pub record IsChain (a : ArenaState) (first : Option ℕ) : Type 0 where
   pub thread : IsThread (link_at a.links) first (chain_of a first)
   pub taken : (j : ℕ) → 0 < times_in j (chain_of a first) → IsTaken a j

@@ -1,4 +1,4 @@
-//! Places in a vector of slots whose keys ascend.
+//! Positions in a vector of slots whose keys ascend.
 ghost use Rattle.std.specs.Prelude.{◌≡◌, ◌≢◌, ◌<◌, ℕ, Some, length, IfSome, IfNone, option_copied, slice_get};
 ghost use Rattle.element_arena.specs.State.{key_at, slot_of};
 ghost use Rattle.hash_index.specs.Order.{IsLeastOf};

@@ -54,16 +54,16 @@ fn decode_all(alloc: Global, bytes: &[u8]) -> Result<(Vec<Insn>, Vec<usize>), De
     Ok((instructions, starts))
 }
 
-/// The program that the bytes spell: 8 to 32,768 bytes, 8 for each slot, little-endian.
+/// The program that the bytes spell: 1 to `MAX_SLOTS` slots of 8 bytes each, little-endian.
 ///
 /// The length is tested first: `Length`, `Empty`, `TooLong`. Then instruction after instruction is read, and
 /// `Insn` tells the first that is flawed, with the slot where it begins and its first flaw in the order of
 /// `Flaw`. `Memory` is told where an allocation failed.
 pub fn decode(alloc: Global, bytes: &[u8]) -> Result<Program, DecodeFault>
-    // What is read is spelled so.
+    // The bytes spell the program that is read.
     ensures found { IfOk result (λ p. bytes.now ≡ text p) }
     ensures program { IfOk result IsProgram }
-    // What is spelled so is read, unless memory runs out.
+    // A program that the bytes spell is the one that is read, unless memory runs out.
     ensures only { (p : List Insn) → IsProgram p → bytes.now ≡ text p →
         (result ≡ Ok p) ⊎ (result ≡ Err Memory) }
     // Which fault it is, and where.

@@ -17,7 +17,7 @@ pub enum DecodeFault {
     /// There are no bytes.
     #[error("there is no instruction")]
     Empty,
-    /// There are more than 32,768 bytes.
+    /// There are more than `MAX_SLOTS` slots of 8 bytes.
     #[error("there are more than 4096 slots")]
     TooLong,
     /// An instruction is flawed; the slot is the one where it begins.

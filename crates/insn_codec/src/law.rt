@@ -37,14 +37,14 @@ pub fn decode_undoes_encode(alloc: Global, program: &Program) -> Result<Program,
     decode(alloc, &bytes)
 }
 
-/// No input has two faults.
+/// No input has two faults, but that memory ran out may be said of any.
 pub fn one_fault()
     ensures { (bytes : List ℕ) (f g : DecodeFault) →
         f ≢ DecodeFault.Memory → g ≢ DecodeFault.Memory →
         IsDecodeFault bytes f → IsDecodeFault bytes g → f ≡ g }
 {}
 
-/// The bytes that a program is encoded to have no fault.
+/// The bytes that a program is encoded to have no fault, but that memory ran out may be said of any.
 pub fn no_fault()
     ensures { (p : List Insn) → IsProgram p → (f : DecodeFault) →
         f ≢ DecodeFault.Memory → IsDecodeFault (text p) f → ⊥ }

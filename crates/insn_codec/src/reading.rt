@@ -322,10 +322,10 @@ fn decode_with(opcode: Opcode, slot: Slot, next: Option<Slot>) -> Result<Insn, F
 pub fn decode_slot(slot: Slot, next: Option<Slot>) -> Result<Insn, Flaw>
     requires slot { FitsSlot slot }
     requires next { IfSome next FitsSlot }
-    // What is found is spelled so.
+    // The slots begin with the instruction that is found.
     ensures found { IfOk result (BeginsWith slot next) }
     ensures fits { IfOk result FitsInsn }
-    // What is spelled so is found.
+    // An instruction that the slots begin with is the one that is found.
     ensures only { (i : Insn) → FitsInsn i → BeginsWith slot next i → result ≡ Ok i }
     ensures flaw { IfErr result (IsInsnFlaw slot next) }
 {

@@ -11,12 +11,12 @@ use Rattle.element_arena.specs.State.{ArenaState, IsTaken, is_at, indexed, times
 use Rattle.element_arena.proofs.Counts.{one_cases, one_same, one_other, times-append}
 use Rattle.view_laws.proofs.Lists.{key_cases, insert-same, insert-other, remove-same, remove-other}
 use Rattle.deferred_free.specs.Queued.{queued, retired_lists, reaped_lists}
-use Rattle.maps.specs.Parted.{PartsView, standings, IsParted, IsInHand, Stands}
+use Rattle.maps.specs.Parted.{PartsView, standings, IsParted, IsInHand, IsInUse}
 use Rattle.bpf_model.specs.Codes.{KeyMap}
 use Rattle.bpf_model.proofs.Lists.{get-set_other, get-set_same, length-set}
 
 -- a slot that is linked or in a list is taken
-pub standing-taken : (p : PartsView) (i : ℕ) → IsParted p → Stands p i → IsTaken p.arena i
+pub standing-taken : (p : PartsView) (i : ℕ) → IsParted p → IsInUse p i → IsTaken p.arena i
 standing-taken p i h s =
     let o : standings p i ≤ 1 = h.once i in
     record { inside = h.inside i (omega arith); not_free = omega arith; not_worn = omega arith }
@@ -54,14 +54,14 @@ indexed-remove m slots k i j some key = elim (key_cases (key_at slots j) k) [
       omega arith
 ]
 
--- what counts no more than before stands in one place at most
+-- where each slot stands no more often than before, it stands once at most
 fewer : (p r : PartsView) → IsParted p → length r.arena.slots ≡ length p.arena.slots → ((j : ℕ) → standings r j ≤ standings p j) → (j : ℕ) → (standings r j ≤ 1) × (0 < standings r j → j < length r.arena.slots)
 fewer p r h long less j =
     let o : standings p j ≤ 1 = h.once j in
     let l : standings r j ≤ standings p j = less j in
     (omega arith, λ z. let i : j < length p.arena.slots = h.inside j (omega arith) in omega arith)
 
--- so does a slot more, which stood nowhere
+-- where one slot more stands, which stood nowhere, each stands once at most
 one_more : (p r : PartsView) (i : ℕ) → IsParted p → standings p i ≡ 0 → i < length r.arena.slots → length r.arena.slots ≡ length p.arena.slots → ((j : ℕ) → standings r j ≡ standings p j + cond (eqb i j) 1 0) → (j : ℕ) → (standings r j ≤ 1) × (0 < standings r j → j < length r.arena.slots)
 one_more p r i h nowhere in_ long more j = elim (one_cases i j) [
   | inl y ↦
@@ -287,5 +287,5 @@ parted-written p i value h in_ =
     }
 
 -- a slot that its key has stands
-pub linked-stands : (p : PartsView) (i : ℕ) → get p.index (key_at p.arena.slots i) ≡ Some i → Stands p i
+pub linked-stands : (p : PartsView) (i : ℕ) → get p.index (key_at p.arena.slots i) ≡ Some i → IsInUse p i
 linked-stands p i g = let one : indexed p.index p.arena.slots i ≡ 1 = ap (λ o. is_at o i) g ∙ one_same i in omega arith

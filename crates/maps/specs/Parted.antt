@@ -40,8 +40,8 @@ pub record IsInHand (p : PartsView) (i : ℕ) : Type 0 where
   pub unlisted : queued p.lists i ≡ 0
 
 -- the slot is linked or in one of the three lists
-abbrev pub Stands : PartsView → ℕ → Type 0
-Stands p i = 0 < indexed p.index p.arena.slots i + queued p.lists i
+abbrev pub IsInUse : PartsView → ℕ → Type 0
+IsInUse p i = 0 < indexed p.index p.arena.slots i + queued p.lists i
 
 -- the key's slot, if there is one, leaves the index and goes to the end of next
 abbrev pub without_key : PartsView → List ℕ → Option ℕ → PartsView

@@ -37,7 +37,7 @@ pub record IsOfShape (shape : MapShape) (a : ArenaState) : Type 0 where
   pub keys : (i : ℕ) → length (key_at a.slots i) ≤ shape.key_len
   pub values : (i : ℕ) → length (value_at a.slots i) ≤ shape.value_len
 
--- The shape is one, the arena is of it, and so many slots are linked.
+-- A map may have the shape, the arena is of it, and so many slots are linked.
 pub record IsMap (shape : MapShape) (p : PartsView) (linked : ℕ) : Type 0 where
   pub valid : IsShape shape
   pub arena : IsOfShape shape p.arena

@@ -7,14 +7,19 @@ use thiserror::Error;
 /// Why a map is not created.
 #[derive(Clone, Copy, Debug, PartialEq, Eq, Error)]
 pub enum MapFault {
+    /// The name is none that a map may have (`is_name`).
     #[error("not a name of a map")]
     BadName,
+    /// A map of the registry has the name.
     #[error("a map has that name")]
     NameTaken,
+    /// The shape is none that a map may have (`is_shape`).
     #[error("no map may have that shape")]
     BadShape,
+    /// The registry has `MAX_MAPS` maps.
     #[error("there are as many maps as there may be")]
     TooMany,
+    /// An allocation failed.
     #[error("out of memory")]
     Memory,
 }

@@ -9,7 +9,7 @@ ghost use Rattle.bpf_model.specs.MapState.{IsShape};
 ghost use Rattle.element_arena.specs.State.{IsTaken, key_at, value_at, is_last_use, taken, given_back, with_slot_value, new_arena};
 ghost use Rattle.hash_index.specs.Order.{IsAbove, NoneAbove, NoneBetween};
 ghost use Rattle.deferred_free.specs.Queued.{retired_lists, reaped_lists};
-ghost use Rattle.maps.specs.Parted.{IsParted, IsInHand, Stands, without_key};
+ghost use Rattle.maps.specs.Parted.{IsParted, IsInHand, IsInUse, without_key};
 
 use bpf_model::{Given, MapShape, Width};
 use deferred_free::Deferred;
@@ -171,17 +171,18 @@ impl<I: Index, D: Deferred> Parts<I, D> {
         self.arena.key(slot)
     }
 
-    /// The value in a slot that stands.
+    /// The value in a slot that is linked or in one of the three lists.
     pub fn value(&self, slot: usize) -> &[u8]
-        requires { Stands self.now slot }
+        requires { IsInUse self.now slot }
         ensures { result.now ≡ value_at self.now.arena.slots slot }
     {
         self.arena.value(slot)
     }
 
-    /// The number in the value of a slot that stands, from an offset on.
+    /// The little-endian number in the value of a slot that is linked or in one of the three lists, from an
+    /// offset in bytes on.
     pub fn load(&self, slot: usize, offset: usize, width: Width) -> u64
-        requires stands { Stands self.now slot }
+        requires stands { IsInUse self.now slot }
         requires inside { offset + byte_count width ≤ self.now.arena.value_len }
         ensures { number_at (slice_get (value_at self.now.arena.slots slot))
             offset (byte_count width)
@@ -190,9 +191,10 @@ impl<I: Index, D: Deferred> Parts<I, D> {
         self.arena.load(slot, offset, width)
     }
 
-    /// Stores the low bytes of a number in the value of a slot that stands, from an offset on.
+    /// Stores the low bytes of a number in the value of a slot that is linked or in one of the three lists,
+    /// from an offset in bytes on.
     pub fn store(&mut self, slot: usize, offset: usize, width: Width, number: u64)
-        requires stands { Stands self.old slot }
+        requires stands { IsInUse self.old slot }
         requires inside { offset + byte_count width ≤ self.old.arena.value_len }
         ensures { self.new ≡ record self.old {
           arena = with_slot_value self.old.arena slot

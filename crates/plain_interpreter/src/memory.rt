@@ -8,7 +8,8 @@ ghost use Rattle.plain_interpreter.specs.Plain.{cells_of, WritesFrame};
 
 use bpf_model::{Cell, FRAME_BYTES, Reference, Value, Width};
 
-/// Where an access lies in a region of this length (at most FRAME_BYTES), if it is aligned and all inside.
+/// The offset in bytes of an access in a region of this length (at most `FRAME_BYTES`), if the access is
+/// aligned and all inside.
 pub fn region_offset(len: usize, width: Width, base: i64, offset: i16) -> Option<usize>
     requires { len ≤ FRAME_BYTES }
     ensures value { result ≡ offset_within len (byte_count width) (base +ℤ offset) }

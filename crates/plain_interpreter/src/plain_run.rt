@@ -19,8 +19,8 @@ pub enum Progress {
     OutOfRange,
 }
 
-/// A run with values of known kinds: eleven registers, the frame's FRAME_BYTES cells, and the slot where
-/// the next instruction begins.
+/// A run with values of known kinds: `REGISTERS` registers, the frame's `FRAME_BYTES` cells, and the slot
+/// where the next instruction begins.
 #[derive(Drop)]
 pub struct PlainRun {
     pub(crate) regs: [Value; REGISTERS],

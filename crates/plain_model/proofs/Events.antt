@@ -28,7 +28,7 @@ does-performs m event answer new h p = subst (λ o. Answers o m event answer new
 does-only : (m : Machine) (event : Event) (answer : Answer) (new : Machine) → refusal m event ≡ None → DoesEvent m event answer new → PerformsEvent m event answer new
 does-only m event answer new h d = subst (λ o. Answers o m event answer new) h d
 
--- the run that is in a slot
+-- the run in a run slot
 going-on : (o : Option Run) (run : Run) → o ≡ Some run → step_refusal o ≡ None → run.exit ≡ None
 going-on None run h e = absurd cc
 going-on (Some x) run h e =

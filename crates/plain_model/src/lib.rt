@@ -1,7 +1,7 @@
 //! A plain model of the whole machine: slow, and as near to the definitions as a program can be.
 //!
 //! It replays lists of events over many maps and runs, with the runtime's own choices: the rules of grace
-//! periods, the order of reaping, and the slot that a new element takes. Elements stand in one list that
+//! periods, the order of reaping, and the map slot that a new element takes. Elements stand in one list that
 //! only grows, and registers and frames hold values of a known kind.
 //!
 //! [`Machine::apply`] is proved to answer each event as the definitions say (`DoesScheduled`): its answer and

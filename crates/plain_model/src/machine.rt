@@ -24,7 +24,7 @@ use plain_store::{
 };
 use std::alloc::{AllocError, Global};
 
-/// How many elements are linked, unlinked and reclaimed, how many slots are worn out, and how many run
+/// How many elements are linked, unlinked and reclaimed, how many map slots are worn out, and how many run
 /// slots are occupied and by runs inside a section.
 #[derive(Clone, Copy, Debug, PartialEq, Eq)]
 pub struct Totals {
@@ -137,7 +137,7 @@ impl Machine {
         }
     }
 
-    /// What the machine answers to an event: a step of the definition's machine, with the runtime's own
+    /// What the machine answers to an event: a step of the definitions' machine, with the runtime's own
     /// choices. Where it says `Stuck` the definition has no step; after any fault the machine is of no use.
     pub fn apply(&mut self, event: Event) -> Result<Answer, Fault>
         ensures machine { DoesAs (machine_of self.old) event result (machine_of self.new) }
@@ -147,7 +147,7 @@ impl Machine {
         self.answer(event)
     }
 
-    /// The answer, and what it says of the lists and of the slot that a new element takes.
+    /// The answer, and what it says of the lists and of the map slot that a new element takes.
     fn answer(&mut self, event: Event) -> Result<Answer, Fault>
         ensures machine { DoesAs (machine_of self.old) event result (machine_of self.new) }
         ensures lists { IfOk result

@@ -1,4 +1,4 @@
--- Runs by slot.
+-- Runs by run slot.
 use Rattle.std.proofs.Common.{◌≡◌, ℕ, ◌+◌, ◌<◌, ◌≤◌, List, [], ◌∷◌, ◌++◌, Option, Some, None, Bool, refl, sym, ap, ◌∙◌, subst, arith, length, true, false}
 use Rattle.std.specs.Prelude.{Result, slice_get, drop, take, is_some, if◌then◌else◌}
 use Rattle.std.specs.Option.{option_map}
@@ -17,7 +17,7 @@ use Rattle.plain_runs.specs.declared.run.Loaded.{Loaded}
 use Rattle.plain_runs.specs.State.{run_of, runs_of}
 use Rattle.plain_runs.specs.Acting.{RunStepsAs, SlotStepsAs}
 
--- so many slots further
+-- so many run slots further
 abbrev pub later : ℕ → Option ℕ → Option ℕ
 later n o = option_map (λ r. r + n) o
 
@@ -29,7 +29,7 @@ later-more : (n : ℕ) (o : Option ℕ) → later n (option_map (λ r. r + 1) o)
 later-more n None = refl
 later-more n (Some r) = let e : r + 1 + n ≡ r + (n + 1) = omega arith in ap Some e
 
--- the lowest free slot from slot r on
+-- the lowest free run slot from run slot r on
 abbrev pub lowest_from : List Loaded → List (Option Run) → ℕ → Option ℕ
 lowest_from programs runs r = lowest_free (runs_of programs (drop r runs))
 
@@ -70,7 +70,7 @@ open-more programs runs r x h =
     sym (open-append (runs_of programs (take r runs)) (option_map (run_of programs) x ∷ []))
     ∙ ap open_sections (sym (map-append (option_map (run_of programs)) (take r runs) (x ∷ [])) ∙ ap (runs_of programs) (sym (take-at runs r x h)))
 
--- a step of the run that a slot has, under another name
+-- a step of the run in a run slot, under another name
 pub slot-steps : (s : maps.Store) (opened : List Section) (run old new next : model.Run) (answer : Result Answer Fault) (t : maps.Store) → old ≡ run → next ≡ new → RunStepsAs s opened run answer t new → SlotStepsAs s opened (Some old) answer t (Some next)
 slot-steps s opened run old new next answer t e f h =
     tells-map _ _ _ _ answer (λ a k. (new, ap Some f, subst (λ r. RunStep s opened r a t new) (sym e) k)) (λ none a u q k. none a u k.0 (subst (λ r. RunStep s opened r a u k.0) e k.2)) h

@@ -111,7 +111,7 @@ AloneAs i s run answer new_store new_run =
     TellsResult (λ a. AloneStep i s run a new_store new_run)
     ((a : Answer) (t : maps.Store) (q : machine.Run) → AloneStep i s run a t q → ⊥) answer
 
--- the run of a slot made a step, or has none
+-- the run in a run slot made a step, or has none
 abbrev pub SlotStep : maps.Store → List Section → Option machine.Run → Answer → maps.Store →
     Option machine.Run → Type 0
 SlotStep s opened None answer new_store new = ⊥

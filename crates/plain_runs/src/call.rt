@@ -127,7 +127,7 @@ fn byte_in(run: &PlainRun, index: usize) -> Option<u8>
     }
 }
 
-/// So many bytes of the frame from an index on.
+/// So many bytes of the frame, from an offset in bytes from its start on.
 fn bytes_at<const N: usize>(run: &PlainRun, at: usize, len: usize) -> Result<ArrayVec<u8, N>, Fault>
     requires { at + len ≤ FRAME_BYTES }
     ensures { TellsResult (λ bytes. bytes_of (plain_state_of run.now).frame at len
@@ -278,6 +278,7 @@ fn helper_value(
     }
 }
 
+/// A call of a helper: what it does, and its result in r0.
 pub(crate) fn call_helper(
     alloc: Global,
     run: &mut Run,

@@ -22,6 +22,7 @@ pub struct Run {
     pub name: u64,
     /// Its program's index in the list of programs.
     pub program: usize,
+    /// The bytes of its context, as many as its program asks for.
     pub context: CtxBytes,
     /// Its registers, its frame, and the slot of its next instruction.
     pub state: PlainRun,

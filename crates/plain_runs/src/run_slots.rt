@@ -11,7 +11,7 @@ use crate::run::Run;
 use plain_store::Section;
 use std::alloc::{AllocError, Global};
 
-/// Whether the slot has a run that is inside a section.
+/// Whether the run slot has a run that is inside a section.
 pub fn is_inside(slot: &Option<Run>) -> bool
     ensures { (programs : List PlainLoaded) → result
         ≡ is_open (option_map (run_of programs) slot.now) }
@@ -34,7 +34,7 @@ pub fn open_flags(alloc: Global, runs: &[Option<Run>]) -> Result<Vec<bool>, Allo
     Ok(flags)
 }
 
-/// The section of the slot's run, where it is inside one.
+/// Adds the section of the run in a run slot, where the run is inside one.
 fn push_section(sections: &mut Vec<Section>, slot: &Option<Run>) -> Result<(), AllocError>
     ensures { (programs : List PlainLoaded) →
         OnOk result
@@ -65,7 +65,7 @@ pub fn open_sections(alloc: Global, runs: &[Option<Run>]) -> Result<Vec<Section>
     Ok(sections)
 }
 
-/// The lowest free run slot.
+/// The lowest free run slot; `None` where each has a run.
 pub fn lowest_free(runs: &[Option<Run>]) -> Option<usize>
     ensures { (programs : List PlainLoaded) → result ≡ lowest_free_of (runs_of programs runs.now) }
 {

@@ -12,7 +12,7 @@ use Rattle.plain_store.specs.declared.queues.Queues as plain
 use Rattle.plain_store.proofs.Lists.{drop-at}
 use Rattle.bpf_model.proofs.Lists.{get-map}
 
--- A list of which the first so many items have been changed, each by its place.
+-- A list of which the first so many items have been changed, each by its index.
 abbrev pub mixed : {A : Type 0} → (ℕ → A → A) → ℕ → ℕ → List A → List A
 mixed f zero i qs = qs
 mixed f (suc k) i [] = []

@@ -1,5 +1,5 @@
 -- A reclamation is one by the definition.
-use Rattle.std.proofs.Common.{◌≡◌, ℕ, List, Some, sym, ap, ◌∙◌}
+use Rattle.std.proofs.Common.{◌≡◌, ℕ, List, Some, ap, ◌∙◌}
 use Rattle.std.specs.Prelude.{slice_get, slice_set}
 use Rattle.bpf_model.specs.declared.event.Given.{Given}
 use Rattle.bpf_model.specs.Section.{Section}
@@ -7,9 +7,6 @@ use Rattle.bpf_model.specs.Element.{Element, Reclaimed, with_life}
 use Rattle.bpf_model.specs.MapState.{MapState, Store, given_of, returned}
 use Rattle.bpf_model.specs.Reclaim.{Reclaims}
 use Rattle.plain_store.specs.Births.{MayReclaim}
-
-pub same-element : (es : List Element) (n : ℕ) (x e : Element) → slice_get es n ≡ Some x → slice_get es n ≡ Some e → x ≡ e
-same-element es n x e h g = let p : Some x ≡ Some e = sym h ∙ g in cc
 
 -- x is the element, and z its map after the slot was given back
 pub reclaims-at : (s : Store) (opened : List Section) (n : ℕ) (x : Element) (y z : MapState) (given : Given) (new : Store) →

@@ -49,7 +49,7 @@ impl Life {
         }
     }
 
-    /// Whether it is unlinked, and not reclaimed yet.
+    /// Whether the element is unlinked, and not reclaimed yet.
     pub fn is_unlinked(&self) -> bool
         ensures { result ≡ is_unlinked (life_of self.now) }
     {
@@ -59,7 +59,7 @@ impl Life {
         }
     }
 
-    /// Whether it may be accessed no more.
+    /// Whether the element is reclaimed: it may be accessed no more.
     pub fn is_reclaimed(&self) -> bool
         ensures { result ≡ is_reclaimed (life_of self.now) }
     {
@@ -78,14 +78,14 @@ impl Element {
         self.life.is_linked() && self.map == map && self.key.as_slice() == key
     }
 
-    /// Whether it is a linked element of the map.
+    /// Whether the element is linked, and of the map.
     pub fn is_linked_in(&self, map: usize) -> bool
         ensures { result ≡ (is_linked (life_of self.now.life) && (self.now.map == map)) }
     {
         self.life.is_linked() && self.map == map
     }
 
-    /// The map that it is linked in.
+    /// The map that the element is linked in; `None` where it is not linked.
     pub fn linked_map(&self) -> Option<usize>
         ensures { result ≡ linked_map_of (element_of self.now) }
     {

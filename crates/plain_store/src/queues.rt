@@ -36,7 +36,7 @@ pub fn retire_all(
     Ok(())
 }
 
-/// Those that waited are ready, and those unlinked meanwhile wait, in each map.
+/// A grace period ends in each map: the births that waited are ready, and those unlinked meanwhile wait.
 /// Fails where memory runs out.
 pub fn turn_all(queues: &mut [Queues]) -> Result<(), AllocError>
     ensures { OnOk result (map queues_of queues.new ≡ map turned (map queues_of queues.old)) }
@@ -137,7 +137,7 @@ fn retire(
     Ok(())
 }
 
-/// Those that waited are ready, and those unlinked meanwhile wait.
+/// A grace period ends in a map: the births that waited are ready, and those unlinked meanwhile wait.
 fn turn(queues: &mut Queues) -> Result<(), AllocError>
     ensures { OnOk result (queues_of queues.new ≡ turned (queues_of queues.old)) }
 {

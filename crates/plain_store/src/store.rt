@@ -87,8 +87,9 @@ impl Store {
         }
     }
 
-    /// Stores a value under a key, as the helper and the event do. Where memory is refused, nothing has
-    /// changed. Without such a map the error is EINVAL.
+    /// Stores a value under a key, as the helper and the event do. Flags: any (0), only a new key (1), only
+    /// a present one (2). The inner error is that of `MapState::update_error`, or `InvalidArgument` where
+    /// there is no such map. Where memory is refused, nothing has changed.
     pub fn update(
         &mut self,
         alloc: Global,

@@ -14,7 +14,7 @@ use Rattle.scalar_domain.specs.declared.scalar.Scalar.{Scalar}
 use Rattle.scalar_domain.specs.declared.relation.Relation.{Relation}
 use Rattle.scalar_domain.specs.Scalar.{IsNoWider}
 use Rattle.scalar_domain.specs.Mask.{Within}
-use Rattle.scalar_domain.specs.Relation.{Related, Bounding, relation_on, unsigned_condition, signed_order, SignedRelated, MovesBounds, GoesAlong, TellsApart}
+use Rattle.scalar_domain.specs.Relation.{Related, Bounding, relation_on, unsigned_condition, signed_order, SignedRelated, MovesBounds, GoesAlong, TellsDifferent}
 use Rattle.scalar_domain.specs.declared.relation.Relation.TheVariants.{Different}
 use Rattle.scalar_domain.proofs.Bits.{ap2, within-and, within_le, within-trans}
 use Rattle.std.specs.Int.Bits.{and_self}
@@ -46,7 +46,7 @@ related w condition.SignedLess false x y e = tt
 related w condition.SignedLessOrEqual true x y e = tt
 related w condition.SignedLessOrEqual false x y e = tt
 
-pub tells_apart : (c : Condition) (t : Bool) → TellsApart c t → relation_on c t ≡ Different
+pub tells_apart : (c : Condition) (t : Bool) → TellsDifferent c t → relation_on c t ≡ Different
 tells_apart condition.Equal true m = absurd m
 tells_apart condition.Equal false m = refl
 tells_apart condition.Greater t m = absurd m

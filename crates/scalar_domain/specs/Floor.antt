@@ -18,7 +18,7 @@ use Rattle.bpf_model.specs.declared.opcode.Size.TheVariants.{Word32, Word64}
 use Rattle.scalar_domain.specs.declared.scalar.Scalar.{Scalar}
 use Rattle.scalar_domain.specs.Scalar.{IsConstant, IsNoWider}
 use Rattle.scalar_domain.specs.Precision.{Adds, Subtracts, Masks, ShiftsLeft, ShiftsRight}
-use Rattle.scalar_domain.specs.Relation.{MovesBounds, GoesAlong, IsBetween, TellsApart, IsNoBound}
+use Rattle.scalar_domain.specs.Relation.{MovesBounds, GoesAlong, IsBetween, TellsDifferent, IsNoBound}
 
 -- A load without sign gives a number of so many bytes.
 abbrev pub KeepsLoadFloor : Width → Scalar → Type 0
@@ -61,5 +61,5 @@ pub record KeepsEdgeFloor (size : Size) (c : Condition) (taken : Bool) (a b left
   pub no_wider_right : IsNoWider right b
   pub bounds : (k x : ℕ) → size ≡ Word64 → MovesBounds c taken → IsConstant b k → IsBetween a x
       → holds w64 c x k ≡ taken → GoesAlong c taken left k
-  pub apart : (k x : ℕ) → size ≡ Word64 → TellsApart c taken → IsConstant b k → IsBetween a x
+  pub apart : (k x : ℕ) → size ≡ Word64 → TellsDifferent c taken → IsConstant b k → IsBetween a x
       → x ≢ k → IsNoBound left k

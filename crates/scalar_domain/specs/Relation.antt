@@ -82,10 +82,10 @@ MovesBounds condition.NotEqual false = Unit {0}
 MovesBounds other taken = ⊥
 
 -- The edges on which a comparison says that two numbers differ.
-abbrev pub TellsApart : Condition → Bool → Type 0
-TellsApart condition.Equal false = Unit {0}
-TellsApart condition.NotEqual true = Unit {0}
-TellsApart other taken = ⊥
+abbrev pub TellsDifferent : Condition → Bool → Type 0
+TellsDifferent condition.Equal false = Unit {0}
+TellsDifferent condition.NotEqual true = Unit {0}
+TellsDifferent other taken = ⊥
 
 -- A number is no bound of a scalar.
 pub record IsNoBound (s : Scalar) (k : ℕ) : Type 0 where

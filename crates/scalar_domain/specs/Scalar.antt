@@ -10,7 +10,7 @@ pub record Holds (s : Scalar) (n : ℕ) : Type 0 where
   pub zeros : Within n s.may
   pub ones : Within s.must n
 
--- It stands for this number alone.
+-- The scalar stands for this number alone.
 pub record IsConstant (s : Scalar) (n : ℕ) : Type 0 where
   pub least : s.least ≡ n
   pub greatest : s.greatest ≡ n

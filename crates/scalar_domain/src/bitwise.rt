@@ -48,7 +48,7 @@ impl Scalar {
         self.may & ones_up_to(self.greatest)
     }
 
-    /// The same set; where it holds one number alone, each of that number's bits is known.
+    /// This set, with each bit of the number known where it holds one number alone.
     fn with_known_bits(self) -> Scalar
         ensures sound { (n : ℕ) → Holds self n → Holds result n }
         ensures least { result.least ≡ self.least }
@@ -149,7 +149,7 @@ impl Scalar {
         )
     }
 
-    /// By the amount modulo a size; an unknown amount gives any number.
+    /// Each number shifted to the left by the amount modulo a size; an unknown amount gives any number.
     pub(crate) fn shift_left_by(self, amount: Scalar, size: u64) -> Scalar
         requires positive { 0 < size }
         requires word { size ≤ 64 }
@@ -163,7 +163,8 @@ impl Scalar {
         }
     }
 
-    /// By the amount modulo a size; an unknown amount gives numbers up to the greatest.
+    /// Each number shifted to the right by the amount modulo a size; an unknown amount gives numbers up to
+    /// the greatest.
     pub(crate) fn shift_right_by(self, amount: Scalar, size: u64) -> Scalar
         requires positive { 0 < size }
         requires word { size ≤ 64 }

@@ -6,7 +6,7 @@ ghost use Rattle.bpf_model.specs.declared.opcode.Size.TheVariants.{Word64};
 ghost use Rattle.scalar_domain.specs.Mask.{Within};
 ghost use Rattle.scalar_domain.specs.Scalar.{Holds, IsConstant, IsNoWider};
 ghost use Rattle.scalar_domain.specs.Floor.{KeepsEdgeFloor};
-ghost use Rattle.scalar_domain.specs.Relation.{Related, SignedRelated, Bounding, MovesBounds, GoesAlong, TellsApart, IsNoBound, AreHeld, AreNoWider, IsBetween};
+ghost use Rattle.scalar_domain.specs.Relation.{Related, SignedRelated, Bounding, MovesBounds, GoesAlong, TellsDifferent, IsNoBound, AreHeld, AreNoWider, IsBetween};
 
 use crate::relation::{Relation, condition_without_sign, is_signed, relation_of};
 use crate::scalar::Scalar;
@@ -108,7 +108,7 @@ fn refine_words(
     ensures bounds { (k x : ℕ) → size ≡ Word64 → MovesBounds condition taken → IsConstant b k
         → IsBetween a x → holds w64 condition x k ≡ taken
         → IsSomeAnd result (λ p. GoesAlong condition taken p.0 k) }
-    ensures apart { (k x : ℕ) → size ≡ Word64 → TellsApart condition taken → IsConstant b k
+    ensures apart { (k x : ℕ) → size ≡ Word64 → TellsDifferent condition taken → IsConstant b k
         → IsBetween a x → x ≢ k → IsSomeAnd result (λ p. IsNoBound p.0 k) }
 {
     match size {
@@ -123,6 +123,7 @@ fn refine_words(
     }
 }
 
+/// What remains by a condition on 64 bits; `None` where it tells nothing, or no number remains.
 fn refine_wide(condition: Condition, a: Scalar, b: Scalar, taken: bool) -> Option<(Scalar, Scalar)>
     ensures sound { (x y : ℕ) → x < 2 ^ 64 → y < 2 ^ 64 → Holds a x → Holds b y
         → holds w64 condition x y ≡ taken → IfSome result (AreHeld x y) }
@@ -130,7 +131,7 @@ fn refine_wide(condition: Condition, a: Scalar, b: Scalar, taken: bool) -> Optio
     ensures bounds { (k x : ℕ) → MovesBounds condition taken → IsConstant b k → IsBetween a x
         → holds w64 condition x k ≡ taken
         → IsSomeAnd result (λ p. GoesAlong condition taken p.0 k) }
-    ensures apart { (k x : ℕ) → TellsApart condition taken → IsConstant b k → IsBetween a x
+    ensures apart { (k x : ℕ) → TellsDifferent condition taken → IsConstant b k → IsBetween a x
         → x ≢ k → IsSomeAnd result (λ p. IsNoBound p.0 k) }
 {
     if is_signed(condition) {
@@ -141,7 +142,7 @@ fn refine_wide(condition: Condition, a: Scalar, b: Scalar, taken: bool) -> Optio
     }
 }
 
-/// Of numbers below 2^32.
+/// What remains by a condition on 32 bits, of numbers below 2^32; `None` as `refine_wide`.
 fn refine_narrow(
     condition: Condition,
     a: Scalar,
@@ -160,7 +161,7 @@ fn refine_narrow(
     }
 }
 
-/// Of the low halves of any numbers.
+/// What remains by a condition on the low 32 bits, of any numbers: bits of their low halves.
 fn refine_low(condition: Condition, a: Scalar, b: Scalar, taken: bool) -> Option<(Scalar, Scalar)>
     ensures sound { (x y : ℕ) → x < 2 ^ 64 → y < 2 ^ 64 → Holds a x → Holds b y
         → holds w32 condition (x % 2 ^ 32) (y % 2 ^ 32) ≡ taken → IfSome result (AreHeld x y) }

@@ -4,7 +4,7 @@ ghost use Rattle.scalar_domain.specs.Relation.{relation_on, unsigned_condition, 
 
 use bpf_model::Condition;
 
-/// How two numbers stand to one another; `Apart`: no bit is one in both.
+/// How two numbers stand to one another. `Apart`: no bit is one in both; `Unknown`: nothing is said.
 #[derive(Clone, Copy, Debug, PartialEq, Eq)]
 pub enum Relation {
     Below,

@@ -1,4 +1,4 @@
-//! The sets, without operations.
+//! Sets of 64-bit numbers, by their bounds and known bits.
 ghost use Rattle.std.specs.Prelude.{◌≡◌, ℕ, ◌<◌, ◌≤◌, ◌-◌, ◌^◌, IsTrue, MatchOption, min, max, bit_and, bit_or, ◌↔◌};
 ghost use Rattle.bpf_model.specs.Access.{byte_count};
 ghost use Rattle.scalar_domain.specs.Mask.{Within};
@@ -98,7 +98,7 @@ impl Scalar {
         )
     }
 
-    /// The number that it stands for alone.
+    /// The number that the scalar stands for alone; `None` where it does not stand for one number alone.
     pub fn as_constant(self) -> Option<u64>
         ensures { MatchOption result ((n : ℕ) → IsConstant self n → ⊥) (λ n. IsConstant self n) }
     {
@@ -109,7 +109,7 @@ impl Scalar {
         }
     }
 
-    /// Whether it stands for this number, too.
+    /// Whether this number is one of those that the scalar stands for.
     pub fn contains(self, n: u64) -> bool
         ensures { IsTrue result ↔ Holds self n }
     {

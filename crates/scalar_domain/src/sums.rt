@@ -89,7 +89,7 @@ impl Scalar {
         }
     }
 
-    /// Bounds and bits of sums.
+    /// The sums modulo 2^64 of the numbers of two sets.
     pub(crate) fn add(self, other: Scalar) -> Scalar
         ensures sound { (x y : ℕ) → x < 2 ^ 64 → y < 2 ^ 64 → Holds self x → Holds other y
             → Holds result ((x + y) % 2 ^ 64) }
@@ -98,7 +98,7 @@ impl Scalar {
         self.sum(other, 0)
     }
 
-    /// A difference is a sum with what turns all bits of the other over, and 1.
+    /// The differences modulo 2^64 of the numbers of two sets: sums with the complement of the other, and 1.
     pub(crate) fn subtract(self, other: Scalar) -> Scalar
         ensures sound { (x y : ℕ) → x < 2 ^ 64 → y < 2 ^ 64 → Holds self x → Holds other y
             → Holds result ((x + (2 ^ 64 - y)) % 2 ^ 64) }
@@ -107,7 +107,7 @@ impl Scalar {
         self.sum(other.complement(), 1)
     }
 
-    /// Low bits that are 0 in a factor are 0 in the product.
+    /// The products modulo 2^64 of the numbers of two sets. Low bits that are 0 in a factor are 0 in them.
     pub(crate) fn multiply(self, other: Scalar) -> Scalar
         ensures { (x y : ℕ) → x < 2 ^ 64 → y < 2 ^ 64 → Holds self x → Holds other y
             → Holds result ((x * y) % 2 ^ 64) }
@@ -119,7 +119,7 @@ impl Scalar {
         }
     }
 
-    /// A quotient by zero is 0.
+    /// The quotients of the numbers of two sets; by zero it is 0.
     pub(crate) fn divide(self, other: Scalar) -> Scalar
         ensures { (x y : ℕ) → Holds self x → Holds other y
             → Holds result (if y == 0 then 0 else x / y) }
@@ -134,7 +134,7 @@ impl Scalar {
         }
     }
 
-    /// A remainder by zero is the dividend.
+    /// The remainders of the numbers of two sets; by zero it is the dividend.
     pub(crate) fn remainder(self, other: Scalar) -> Scalar
         ensures sound { (x y : ℕ) → Holds self x → Holds other y
             → Holds result (if y == 0 then x else x % y) }

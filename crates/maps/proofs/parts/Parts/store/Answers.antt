@@ -4,20 +4,20 @@ use Rattle.maps.specs.Parted.{PartsView}
 use Rattle.bpf_model.specs.Access.{byte_count}
 use Rattle.bpf_model.specs.MachineStep.{with_bytes}
 use Rattle.element_arena.specs.State.{with_slot_value, value_at}
-use Rattle.maps.specs.Parted.{Stands}
+use Rattle.maps.specs.Parted.{IsInUse}
 use Rattle.maps.proofs.Parting.{standing-taken}
 use Rattle.maps.proofs.Moves.{written-step}
 use Rattle.maps.proofs.parts.Parts.store.Goals as goal
 
 pub invariant_of-self : goal.invariant_of-self
 invariant_of-self g c =
-    let stands = subst (λ (p : PartsView). Stands p c.args.slot) (sym c.self.view_is) c.requires.stands in
+    let stands = subst (λ (p : PartsView). IsInUse p c.args.slot) (sym c.self.view_is) c.requires.stands in
     let in_ = (standing-taken _ c.args.slot c.self.invariant.1 stands).inside in
     (written-step g.row.I.Denot g.row.D.Denot g.I.Index.contents g.I.Index.fits g.D.Deferred.lists g.D.Deferred.fits g.met.I.Index.frame g.met.D.Deferred.frame c.self.inside.index c.self.inside.deferred c.self.inside.arena c.store.new.self c.args.slot _ c.self.invariant in_ c.store.ensures).0
 
 pub returns : goal.returns
 returns g c =
-    let stands = subst (λ (p : PartsView). Stands p c.args.slot) (sym c.self.view_is) c.requires.stands in
+    let stands = subst (λ (p : PartsView). IsInUse p c.args.slot) (sym c.self.view_is) c.requires.stands in
     let in_ = (standing-taken _ c.args.slot c.self.invariant.1 stands).inside in
     let s = written-step g.row.I.Denot g.row.D.Denot g.I.Index.contents g.I.Index.fits g.D.Deferred.lists g.D.Deferred.fits g.met.I.Index.frame g.met.D.Deferred.frame c.self.inside.index c.self.inside.deferred c.self.inside.arena c.store.new.self c.args.slot _ c.self.invariant in_ c.store.ensures in
     s.1
