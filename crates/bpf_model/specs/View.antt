@@ -103,9 +103,13 @@ start_view shapes programs = record {
   given = 0;
 }
 
+-- the shape of a map, as a world shows it
+abbrev pub shape_of_view : MapView → MapShape
+shape_of_view v = v.shape
+
 -- The shapes of a world's maps.
 abbrev pub shapes_of : WorldView → List MapShape
-shapes_of w = map (λ v. v.shape) w.maps
+shapes_of w = map shape_of_view w.maps
 
 -- What is asked of a run by its run slot: it has ended with this value, and was started with this
 -- code on this context.

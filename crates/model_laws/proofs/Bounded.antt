@@ -10,7 +10,7 @@ use Rattle.bpf_model.specs.declared.limits.MapShape.{MapShape}
 use Rattle.bpf_model.specs.Element.{Element, is_reclaimed}
 use Rattle.bpf_model.specs.MapState.{MapState, most_births}
 use Rattle.bpf_model.specs.Schedule.{Schedule}
-use Rattle.bpf_model.specs.View.{MapView, WorldView, shapes_of}
+use Rattle.bpf_model.specs.View.{shape_of_view as shape, WorldView, shapes_of}
 use Rattle.bpf_model.specs.Refines.{TracksSchedule}
 use Rattle.model_laws.specs.Accounted.{born_count}
 use Rattle.model_laws.proofs.Counting.{map-back}
@@ -78,9 +78,6 @@ reclaimed-most (e ∷ es) =
     let b = some-of (is_reclaimed e.life) in
     let rest = reclaimed-most es in
     omega arith
-
-abbrev shape : MapView → MapShape
-shape v = v.shape
 
 module _ (w : WorldView) (s : Schedule) (t : TracksSchedule w s) where
   in-map : (n : ℕ) (e : Element) → slice_get s.machine.store.elements n ≡ Some e → e.map < length (shapes_of w)

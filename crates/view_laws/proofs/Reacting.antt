@@ -4,7 +4,6 @@ use Rattle.std.specs.Prelude.{slice_get, slice_set}
 use Rattle.std.specs.FinMap.{get}
 use Rattle.std.proofs.lemmas.Option.{none-some, same_Some}
 use Rattle.bpf_model.specs.declared.call.Errno.{Errno}
-use Rattle.bpf_model.specs.declared.limits.MapShape.{MapShape}
 use Rattle.bpf_model.specs.declared.event.Event.{Event}
 use Rattle.bpf_model.specs.declared.event.Event.TheVariants as events
 use Rattle.bpf_model.specs.declared.event.Answer.{Answer}
@@ -16,7 +15,7 @@ use Rattle.bpf_model.specs.Machine.{Loaded, Run, run_in}
 use Rattle.bpf_model.specs.Event.{IsReal, if_ended, if_running, step_refusal, drop_refusal, refusal, key_refusal, update_refusal, start_refusal}
 use Rattle.bpf_model.specs.Schedule.{Schedule, is_any}
 use Rattle.bpf_model.specs.Drain.{AnswersAsScheduled}
-use Rattle.bpf_model.specs.View.{MapView, RunView, WorldView, shapes_of}
+use Rattle.bpf_model.specs.View.{shape_of_view as shape, MapView, RunView, WorldView, shapes_of}
 use Rattle.bpf_model.specs.Refines.{SlotRefines, TracksSchedule}
 use Rattle.model_laws.proofs.Reached.{tracked_is_scheduled}
 use Rattle.view_laws.specs.Views.{retired_slot, retired_key, deleted, filled_from, updated_by, updated, shown_error, turned_view, slot_given_back, given_at, reaped_view}
@@ -104,9 +103,6 @@ updated-shape None v key value = filled-shape v.free (retired_key v key) key val
 given-shape : (g : Given) (i : ℕ) (v : MapView) → (slot_given_back g i v).shape ≡ v.shape
 given-shape Free i v = refl
 given-shape Worn i v = refl
-
-abbrev shape : MapView → MapShape
-shape v = v.shape
 
 pub set-shapes : (vs : List MapView) (k : ℕ) (v new : MapView) → slice_get vs k ≡ Some v → new.shape ≡ v.shape → map shape (slice_set vs k new) ≡ map shape vs
 set-shapes vs k v new at same = map-set shape vs k new ∙ (ap (slice_set (map shape vs) k) same ∙ (sym (map-set shape vs k v) ∙ ap (map shape) (set-same vs k v at)))

@@ -12,12 +12,11 @@ use Rattle.bpf_model.specs.declared.event.Event.TheVariants as events
 use Rattle.bpf_model.specs.declared.insn.CallKind.TheVariants as kinds
 use Rattle.bpf_model.specs.declared.insn.Insn.{Insn}
 use Rattle.bpf_model.specs.declared.insn.Insn.TheVariants.{Store, Call}
-use Rattle.bpf_model.specs.declared.limits.MapShape.{MapShape}
 use Rattle.bpf_model.specs.Access.{byte_count}
 use Rattle.bpf_model.specs.Call.{helper_of, kernel_function_of}
 use Rattle.bpf_model.specs.Machine.{Loaded}
 use Rattle.bpf_model.specs.Step.{insn_at}
-use Rattle.bpf_model.specs.View.{MapView, RunView, WorldView}
+use Rattle.bpf_model.specs.View.{shape_of_view as shape, MapView, RunView, WorldView}
 use Rattle.model_laws.specs.Locations.{Location, InContext, InFrame, AtMap, InSlot}
 use Rattle.view_laws.specs.Views.{shown_error}
 use Rattle.view_laws.specs.Reactions.{run_shown, reaction}
@@ -26,9 +25,6 @@ use Rattle.world_laws.specs.Locating.{location_of}
 use Rattle.world_laws.specs.Moving.{word_in, operand_word, stored_slot, stored_at}
 use Rattle.world_laws.specs.Calling.{bytes_in, bound_number, serves, helped_on, helped, entered}
 use Rattle.world_laws.specs.Reacting.{insn_step, step_at, step_in, run_step_of, or_step, full_reaction}
-
-abbrev shape : MapView → MapShape
-shape v = v.shape
 
 module _ (w : WorldView) where
   slot-keeps : (width x : ℕ) (z : ℤ) (k slot : ℕ) (o : Option MapView) → slice_get w.maps k ≡ o → Keeps w (stored_slot width x z k o slot w)

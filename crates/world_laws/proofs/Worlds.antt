@@ -10,7 +10,7 @@ use Rattle.bpf_model.specs.Event.{IsReal, AreReal}
 use Rattle.bpf_model.specs.Headline.{AnswersAsMachine, AreMachineAnswers, AreNeverStuck, AllExitInTime, AreReclaimedLate}
 use Rattle.bpf_model.specs.Machine.{Loaded}
 use Rattle.bpf_model.specs.Schedule.{Schedule, DoesScheduled}
-use Rattle.bpf_model.specs.View.{MapView, WorldView, new_map_view, start_view, shapes_of}
+use Rattle.bpf_model.specs.View.{shape_of_view as shape, WorldView, new_map_view, start_view, shapes_of}
 use Rattle.bpf_model.specs.Refines.{TracksSchedule, Tracks, IsBounded}
 use Rattle.model_laws.specs.Steps.{AreSteps}
 use Rattle.model_laws.proofs.Bounded.{given_bounded}
@@ -43,9 +43,6 @@ simulates w s event t ready real =
     (d.0, d.1, d.2)
 
 -- what a world is asked for stays
-abbrev shape : MapView → MapShape
-shape v = v.shape
-
 same-count : (w new : WorldView) → shapes_of new ≡ shapes_of w → length new.maps ≡ length w.maps
 same-count w new e = sym (length-map new.maps shape) ∙ (ap length e ∙ length-map w.maps shape)
 
