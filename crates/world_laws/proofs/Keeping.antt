@@ -16,7 +16,7 @@ use Rattle.bpf_model.specs.Access.{byte_count}
 use Rattle.bpf_model.specs.Call.{helper_of, kernel_function_of}
 use Rattle.bpf_model.specs.Machine.{Loaded}
 use Rattle.bpf_model.specs.Step.{insn_at}
-use Rattle.bpf_model.specs.View.{shape_of_view as shape, MapView, RunView, WorldView}
+use Rattle.bpf_model.specs.View.{MapView, RunView, WorldView}
 use Rattle.model_laws.specs.Locations.{Location, InContext, InFrame, AtMap, InSlot}
 use Rattle.view_laws.specs.Views.{shown_error}
 use Rattle.view_laws.specs.Reactions.{run_shown, reaction}
