@@ -5,7 +5,6 @@ ghost use Rattle.std.specs.Prelude.{◌≤◌};
 ghost use Rattle.bpf_model.specs.declared.limits.TheConstants.{CTX_BYTES};
 
 mod command;
-mod decimal;
 mod measure;
 mod report;
 mod samples;
@@ -14,7 +13,8 @@ mod trial;
 use anyhow::{Result, bail};
 use command::{Command, parse_words};
 use measure::{Activity, time_per_part};
-use report::{measurement_line, sample_line};
+use measurements::measurement_line;
+use report::sample_line;
 use samples::samples;
 use std::process::ExitCode;
 use std::{env, fs};

@@ -1,13 +1,15 @@
--- Options, numbers, orderings, lives and run slots, by cases.
-use Rattle.std.proofs.Common.{◌≡◌, ℕ, pos, true, List, Option, Some, None, ◌⊎◌, inl, inr, refl}
+-- Options, numbers, orderings, lives, run slots and births, by cases.
+use Rattle.std.proofs.Common.{◌≡◌, ℕ, ◌<◌, pos, true, List, length, Option, Some, None, ◌⊎◌, inl, inr, refl, arith}
 use Rattle.std.specs.Ordering.{is_eq}
 use Rattle.std.specs.declared.cmp.Ordering.{Ordering}
 use Rattle.std.specs.declared.cmp.Ordering.TheVariants.{Less, Equal, Greater}
 use Rattle.std.proofs.lemmas.Bool.{false≢true}
-use Rattle.std.proofs.lemmas.Option.{none-some}
+use Rattle.std.proofs.lemmas.Option.{none-some, slice_get_within}
 use Rattle.bpf_model.specs.Section.{Section}
 use Rattle.bpf_model.specs.Element.{Unlinked}
 use Rattle.bpf_model.specs.Machine.{Run, run_in}
+use Rattle.bpf_model.specs.MapState.{Store}
+use Rattle.bpf_model.specs.Schedule.{TakesOldest}
 
 pub option_cases : {A : Type 0} (o : Option A) → (o ≡ None) ⊎ ((x : A) × (o ≡ Some x))
 option_cases None = inl refl
@@ -27,3 +29,7 @@ pub equal-is : (o : Ordering) → is_eq o ≡ true → o ≡ Equal
 equal-is Less h = absurd (false≢true h)
 equal-is Equal h = refl
 equal-is Greater h = absurd (false≢true h)
+
+-- where no element was born, none takes a slot
+pub oldest-none : (old new : Store) → length new.elements ≡ length old.elements → TakesOldest old new
+oldest-none old new same e before after at h g = let z : length old.elements < length new.elements = slice_get_within new.elements (length old.elements) e at in absurd (omega arith)

@@ -2,11 +2,10 @@
 use Rattle.std.specs.Prelude.{◌≡◌, ◌≢◌, ℕ, ◌<◌, ◌≤◌, List, Some, None, slice_get, length}
 use Rattle.bpf_model.specs.declared.limits.TheConstants.{MAX_DEPTH}
 use Rattle.bpf_model.specs.declared.value.Value.{Value}
-use Rattle.bpf_model.specs.declared.value.Value.TheVariants.{Nothing, Number, Pointer}
 use Rattle.bpf_model.specs.declared.value.Cell.{Cell}
-use Rattle.bpf_model.specs.declared.value.Cell.TheVariants.{Unwritten, Byte, Part}
 use Rattle.bpf_model.specs.declared.value.Reference.{Reference}
 use Rattle.bpf_model.specs.declared.value.Reference.TheVariants.{Ctx, Frame, MapRef, Elem}
+use Rattle.bpf_model.specs.Holds.{HoldsValue, HoldsCell}
 use Rattle.bpf_model.specs.Section.{Section, Has}
 use Rattle.bpf_model.specs.Element.{Element, Unlinked, IsLinkedAt}
 use Rattle.bpf_model.specs.MapState.{MapState}
@@ -20,23 +19,22 @@ IsBorn births (Frame o) = Unit {0}
 IsBorn births (MapRef m) = Unit {0}
 
 abbrev pub IsBornValue : ℕ → Value → Type 0
-IsBornValue births Nothing = Unit {0}
-IsBornValue births (Number n) = Unit {0}
-IsBornValue births (Pointer r) = IsBorn births r
+IsBornValue births v = HoldsValue (IsBorn births) v
 
 abbrev pub IsBornCell : ℕ → Cell → Type 0
-IsBornCell births Unwritten = Unit {0}
-IsBornCell births (Byte b) = Unit {0}
-IsBornCell births (Part i r) = IsBorn births r
+IsBornCell births c = HoldsCell (IsBorn births) c
+
+-- the element is of a map, with a key and a value of that map's lengths
+abbrev pub HasLengths : List MapState → Element → Type 0
+HasLengths maps e = (state : MapState) × (slice_get maps e.map ≡ Some state)
+    × (length e.key ≡ state.shape.key_len) × (length e.value ≡ state.shape.value_len)
 
 pub record IsConsistent (m : Machine) : Type 0 where
   -- a key has at most one linked element
   pub single : (map : ℕ) (key : List ℕ) (a b : ℕ) → IsLinkedAt m.store.elements map key a
       → IsLinkedAt m.store.elements map key b → a ≡ b
-  -- an element is of a map, with a key and a value of that map's lengths
-  pub lengths : (n : ℕ) (e : Element) → slice_get m.store.elements n ≡ Some e → (state : MapState)
-      × (slice_get m.store.maps e.map ≡ Some state) × (length e.key ≡ state.shape.key_len)
-      × (length e.value ≡ state.shape.value_len)
+  pub lengths : (n : ℕ) (e : Element) → slice_get m.store.elements n ≡ Some e →
+      HasLengths m.store.maps e
   -- no two runs have one name
   pub named : (r : ℕ) (run : Run) → run_at m.runs r ≡ Some run → run.name < m.started
   pub apart : (q r : ℕ) (a b : Run) → run_at m.runs q ≡ Some a → run_at m.runs r ≡ Some b →

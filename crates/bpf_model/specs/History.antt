@@ -23,9 +23,9 @@ AllStates P [] = Unit {0}
 AllStates P (m ∷ states) = P m × AllStates P states
 
 -- Some history of the machine from m has these answers to these events, and ends in new.
-abbrev pub MachineRun : Machine → List Event → List Answer → Machine → Type 0
-MachineRun m [] [] new = new ≡ m
-MachineRun m (event ∷ events) (answer ∷ answers) new =
+abbrev pub HasHistoryTo : Machine → List Event → List Answer → Machine → Type 0
+HasHistoryTo m [] [] new = new ≡ m
+HasHistoryTo m (event ∷ events) (answer ∷ answers) new =
     (next : Machine) × DoesEvent m event answer next
-    × MachineRun next events answers new
-MachineRun m events answers new = ⊥
+    × HasHistoryTo next events answers new
+HasHistoryTo m events answers new = ⊥

@@ -11,6 +11,7 @@ pub mod Frame
 pub mod Graph
 pub mod Headline
 pub mod Helper
+pub mod Holds
 pub mod Machine
 pub mod MachineStep
 pub mod MapState

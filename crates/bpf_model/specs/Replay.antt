@@ -6,7 +6,7 @@ use Rattle.bpf_model.specs.declared.event.Event.{Event}
 use Rattle.bpf_model.specs.declared.event.Answer.{Answer}
 use Rattle.bpf_model.specs.Machine.{Machine, run_at}
 use Rattle.bpf_model.specs.Event.{AreReal}
-use Rattle.bpf_model.specs.History.{MachineRun}
+use Rattle.bpf_model.specs.History.{HasHistoryTo}
 
 -- what a worker did, and the answer
 pub record JournalEntry : Type 0 where
@@ -23,4 +23,4 @@ pub record ReplaysOnMachine (base : Machine) (entries : List JournalEntry) (m : 
   pub quiet : IsQuiet base
   pub short : length entries ≤ MAX_JOURNAL
   pub real : AreReal (map (λ e. e.event) entries)
-  pub replay : MachineRun base (map (λ e. e.event) entries) (map (λ e. e.answer) entries) m
+  pub replay : HasHistoryTo base (map (λ e. e.event) entries) (map (λ e. e.answer) entries) m

@@ -107,9 +107,12 @@ start_view shapes programs = record {
 abbrev pub shape_of_view : MapView → MapShape
 shape_of_view v = v.shape
 
+abbrev pub shapes_of_maps : List MapView → List MapShape
+shapes_of_maps maps = map shape_of_view maps
+
 -- The shapes of a world's maps.
 abbrev pub shapes_of : WorldView → List MapShape
-shapes_of w = map shape_of_view w.maps
+shapes_of w = shapes_of_maps w.maps
 
 -- What is asked of a run by its run slot: it has ended with this value, and was started with this
 -- code on this context.

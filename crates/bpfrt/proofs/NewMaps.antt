@@ -3,8 +3,8 @@ use Rattle.std.proofs.Common.{◌≡◌, ℕ, List, [], ◌∷◌, ◌++◌, map
 use Rattle.std.proofs.lemmas.List.{map-append}
 use Rattle.bpf_model.specs.View.{MapView, new_map_view}
 use Rattle.bpf_model.specs.declared.limits.MapShape.{MapShape}
-use Rattle.maps.specs.Registry.{RegistryView}
-use Rattle.loader.specs.ProgramFile.{FileContent, FileSays, AddMaps, no_maps}
+use Rattle.maps.specs.Registry.{RegistryView, no_maps}
+use Rattle.loader.specs.ProgramFile.{FileContent, FileSays, AddMaps}
 use Rattle.bpfrt.proofs.Shapes.{shape_of}
 
 abbrev pub AreNew : List MapView → Type 0

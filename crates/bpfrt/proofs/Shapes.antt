@@ -3,7 +3,7 @@ use Rattle.std.proofs.Common.{◌≡◌, ◌⊎◌, ℕ, ◌+◌, ◌<◌, ◌�
 use Rattle.std.specs.Prelude.{Option, Some, None, slice_get, option_map}
 use Rattle.std.proofs.lemmas.List.{take_more, map-append}
 use Rattle.std.proofs.lemmas.Option.{slice_get_cases, same_Some, none-some}
-use Rattle.bpf_model.specs.View.{MapView}
+use Rattle.bpf_model.specs.View.{MapView, shapes_of_maps}
 use Rattle.bpf_model.specs.declared.limits.MapShape.{MapShape}
 use Rattle.bpf_model.specs.Plain.{IsPlain}
 use Rattle.bpf_model.specs.PlainMaps.{IsPlainWithMaps}
@@ -14,7 +14,6 @@ use Rattle.verifier.specs.Verdict.{IsToldOf}
 use Rattle.bpfrt.specs.declared.report.Verdict.{Verdict}
 use Rattle.bpfrt.specs.declared.program_file.Source.{Source}
 use Rattle.bpfrt.specs.Verdicts.{IsRefusalVerdict}
-use Rattle.worker_pool.specs.Outcomes.{registry_shapes}
 use Rattle.bpfrt.specs.Outputs.{IsSourceOf, IsCheckedRefusal}
 
 abbrev pub shape_of : MapView → MapShape
@@ -47,7 +46,7 @@ pub shape_missing : (maps : List MapView) (n id : ℕ) (r : Option MapShape) →
 shape_missing maps n id r same is none below =
     none_is_past maps n (slice_get_cases maps n).1 (ap (λ (k : ℕ). option_map shape_of (slice_get maps k)) (sym same) ∙ (sym is ∙ none)) below
 
-pub verifier_told : (bytes : List ℕ) (s : Source) (r : Refusal) (v : Verdict) → IsSourceOf bytes s → IsToldOf s.program r → (IsPlain s.program → r ≡ Memory) → (IsPlainWithMaps s.program (registry_shapes s.registry) → r ≡ Memory) → IsRefusalVerdict r v → IsCheckedRefusal bytes v
+pub verifier_told : (bytes : List ℕ) (s : Source) (r : Refusal) (v : Verdict) → IsSourceOf bytes s → IsToldOf s.program r → (IsPlain s.program → r ≡ Memory) → (IsPlainWithMaps s.program (shapes_of_maps s.registry.maps) → r ≡ Memory) → IsRefusalVerdict r v → IsCheckedRefusal bytes v
 verifier_told bytes s r v is found plain with_maps told = inr (record {
   source = s;
   is = is;

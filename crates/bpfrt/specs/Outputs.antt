@@ -6,6 +6,7 @@ use Rattle.bpf_model.specs.declared.insn.Insn.{Insn}
 use Rattle.bpf_model.specs.Spelling.{IsProgram, text, slot_total}
 use Rattle.bpf_model.specs.Plain.{IsPlain}
 use Rattle.bpf_model.specs.PlainMaps.{IsPlainWithMaps}
+use Rattle.bpf_model.specs.View.{shapes_of_maps}
 use Rattle.disasm.specs.Text.{program_text}
 use Rattle.insn_codec.specs.declared.fault.DecodeFault.{DecodeFault}
 use Rattle.insn_codec.specs.Faults.{IsDecodeFault}
@@ -14,7 +15,6 @@ use Rattle.loader.specs.ProgramFile.{FileContent, FileSays, IsLoadFault}
 use Rattle.typed_runs.specs.Verified.{IsVerified}
 use Rattle.verifier.specs.declared.refusal.Refusal.{Refusal}
 use Rattle.verifier.specs.Verdict.{IsToldOf}
-use Rattle.worker_pool.specs.Outcomes.{registry_shapes}
 use Rattle.bpfrt.specs.declared.report.Verdict.{Verdict}
 use Rattle.bpfrt.specs.declared.program_file.Source.{Source}
 use Rattle.bpfrt.specs.declared.run.Accepted.{Accepted}
@@ -36,7 +36,7 @@ pub record IsVerifiedFile (bytes : List ℕ) (program : List Insn) : Type 0 wher
   pub says : FileSays bytes content
   pub is : IsProgram program
   pub text_is : content.code ≡ text program
-  pub verified : IsVerified program (registry_shapes content.registry) content.context
+  pub verified : IsVerified program (shapes_of_maps content.registry.maps) content.context
 
 -- The file says a program that is verified with its maps and context, of so many instructions
 -- and slots.
@@ -76,7 +76,7 @@ pub record IsVerifierVerdict (bytes : List ℕ) (v : Verdict) : Type 0 where
   pub told : IsRefusalVerdict refusal v
   pub not_plain : v.code ≢ 13 → ¬ (IsPlain source.program)
   pub not_plain_with_maps : v.code ≢ 13 →
-      ¬ (IsPlainWithMaps source.program (registry_shapes source.registry))
+      ¬ (IsPlainWithMaps source.program (shapes_of_maps source.registry.maps))
 
 -- The verdict is want of memory, or the first fault of the file, or of its code.
 abbrev pub IsDecodeRefusal : List ℕ → Verdict → Type 0

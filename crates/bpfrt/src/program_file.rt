@@ -2,8 +2,7 @@
 ghost use Rattle.std.specs.Prelude.{◌≡◌, List, [], ℕ, ◌++◌, ◌≤◌, length, map, IfOk, IfErr, IfSome, OnOk};
 ghost use Rattle.bpf_model.specs.declared.limits.TheConstants.{CTX_BYTES};
 ghost use Rattle.bpfrt.specs.Files.{HoldsBytes};
-ghost use Rattle.bpf_model.specs.View.{new_map_view};
-ghost use Rattle.worker_pool.specs.Outcomes.{registry_shapes};
+ghost use Rattle.bpf_model.specs.View.{new_map_view, shapes_of_maps};
 ghost use Rattle.bpfrt.specs.Outputs.{IsSourceOf, IsDecodeRefusal};
 
 use crate::report::Verdict;
@@ -44,7 +43,7 @@ fn source_of(alloc: Global, bytes: &[u8]) -> Result<Source, Verdict>
     ensures found { IfOk result (IsSourceOf bytes.now) }
     ensures limit { IfOk result (λ s. s.ctx_len ≤ CTX_BYTES) }
     ensures maps { IfOk result (λ s.
-        s.registry.maps ≡ map new_map_view (registry_shapes s.registry)) }
+        s.registry.maps ≡ map new_map_view (shapes_of_maps s.registry.maps)) }
     ensures fault { IfErr result (IsDecodeRefusal bytes.now) }
 {
     let file = load(alloc, bytes)?;
@@ -95,7 +94,7 @@ impl FileBytes {
         ensures limit { IfOk result (λ s. s.ctx_len ≤ CTX_BYTES) }
         // Nothing has happened to the source's maps.
         ensures maps { IfOk result (λ s.
-            s.registry.maps ≡ map new_map_view (registry_shapes s.registry)) }
+            s.registry.maps ≡ map new_map_view (shapes_of_maps s.registry.maps)) }
         ensures fault { (bytes : List ℕ) → HoldsBytes self.now bytes →
             IfErr result (IsDecodeRefusal bytes) }
     {

@@ -331,16 +331,23 @@ const LENGTHS: [(usize, &[u8]); 6] = [
     (100_001, b"refused 1\n"),
 ];
 
-/// As many maps as there may be, and one more; a text of more slots than a program has, whose last
-/// line is wrong: that is told first.
 #[test]
-fn long_files(rt: HostRuntime) -> Result<(), Fail> {
+fn long_raw_files(rt: HostRuntime) -> Result<(), Fail> {
     let alloc = rt.alloc();
     let check = command_of(alloc, false)?;
     for (length, told) in LENGTHS {
         let bytes = moves(alloc, length)?;
         runs(&rt, alloc, &check, &mut bytes.as_slice(), &refusal(told))?;
     }
+    Ok(())
+}
+
+/// As many maps as there may be, and one more; a text of more slots than a program has, whose last
+/// line is wrong: that is told first.
+#[test]
+fn long_texts(rt: HostRuntime) -> Result<(), Fail> {
+    let alloc = rt.alloc();
+    let check = command_of(alloc, false)?;
     let maps = file_with_maps(alloc, 16)?;
     runs(&rt, alloc, &check, &mut maps.as_bytes(), &output(TWO_SLOTS))?;
     let maps = file_with_maps(alloc, 17)?;
@@ -496,6 +503,12 @@ fn pools(rt: HostRuntime) -> Result<(), Fail> {
         let pool = pool_of(alloc, workers, count)?;
         runs(&rt, alloc, &pool, &mut input, &output(text.as_bytes()))?;
     }
+    Ok(())
+}
+
+#[test]
+fn pools_that_are_refused(rt: HostRuntime) -> Result<(), Fail> {
+    let alloc = rt.alloc();
     for (file, workers, count, told) in NO_POOLS {
         let mut input = file;
         let pool = pool_of(alloc, workers, count)?;

@@ -3,9 +3,9 @@ ghost use Rattle.std.specs.Prelude.{◌≡◌, ◌≤◌, length, IfOk, IfErr};
 ghost use Rattle.bpf_model.specs.Plain.{IsPlain};
 ghost use Rattle.bpf_model.specs.PlainMaps.{IsPlainWithMaps};
 ghost use Rattle.bpf_model.specs.declared.limits.TheConstants.{CTX_BYTES, MAX_MAPS};
+ghost use Rattle.bpf_model.specs.View.{shapes_of_maps};
 ghost use Rattle.typed_runs.specs.Verified.{IsVerified};
 ghost use Rattle.verifier.specs.Verdict.{IsToldOf, IsAccepted as IsTaken};
-ghost use Rattle.worker_pool.specs.Outcomes.{registry_shapes};
 
 use crate::program_file::Source;
 use bpf_model::{MapId, MapShape};
@@ -15,7 +15,7 @@ use verifier::{Refusal, Verified, verify};
 
 /// The shapes of a registry's maps, by their numbers.
 fn shapes_of(alloc: Global, registry: &Registry) -> Result<Vec<MapShape>, AllocError>
-    ensures shapes { IfOk result (λ v. v.items ≡ registry_shapes registry.now) }
+    ensures shapes { IfOk result (λ v. v.items ≡ shapes_of_maps registry.now.maps) }
     ensures limit { IfOk result (λ v. length v.items ≤ MAX_MAPS) }
 {
     let mut shapes = Vec::new(alloc);
@@ -38,14 +38,14 @@ pub struct VerifiedSource {
 pub fn verify_source(alloc: Global, source: Source) -> Result<VerifiedSource, Refusal>
     requires { source.ctx_len ≤ CTX_BYTES }
     ensures program { IfOk result (λ v. v.verified.program ≡ source.program) }
-    ensures shapes { IfOk result (λ v. v.verified.shapes ≡ registry_shapes source.registry) }
+    ensures shapes { IfOk result (λ v. v.verified.shapes ≡ shapes_of_maps source.registry.maps) }
     ensures context { IfOk result (λ v. v.verified.ctx_len ≡ source.ctx_len) }
     ensures registry { IfOk result (λ v. v.registry ≡ source.registry) }
     ensures verified { IfOk result (λ v.
-        IsVerified source.program (registry_shapes source.registry) source.ctx_len) }
+        IsVerified source.program (shapes_of_maps source.registry.maps) source.ctx_len) }
     ensures told { IfErr result (IsToldOf source.program) }
     ensures plain { IsPlain source.program → IsTaken result }
-    ensures plain_with_maps { IsPlainWithMaps source.program (registry_shapes source.registry) →
+    ensures plain_with_maps { IsPlainWithMaps source.program (shapes_of_maps source.registry.maps) →
         IsTaken result }
 {
     let shapes = shapes_of(alloc, &source.registry)?;

@@ -5,19 +5,27 @@ use std::alloc::{AllocError, Global};
 use std::fmt::Write;
 use std::test::Fail;
 
-/// Maps, programs and runs, each with its number, and one that is refused.
-fn fill(alloc: Global, dialogue: &mut Dialogue) -> Result<(), AllocError> {
+/// As many maps as there may be, each with its number, and some that are refused.
+fn make_maps(alloc: Global, dialogue: &mut Dialogue) -> Result<(), AllocError> {
     for number in 0..16u32 {
         dialogue.ask(&format!(in alloc; "map m{number} 2 1 4096 0 1")?)?;
         dialogue.expect(&format!(in alloc; "map {number}")?)?;
     }
     dialogue.add("map m16 2 1 4096 0 1 = refused 53\nmap m16 0 1 4096 0 1 = refused 52\n")?;
-    dialogue.add("map m0 0 1 4096 0 1 = refused 51\nmap 0m 0 1 4096 0 1 = refused 50\n")?;
+    dialogue.add("map m0 0 1 4096 0 1 = refused 51\nmap 0m 0 1 4096 0 1 = refused 50\n")
+}
+
+/// As many programs as there may be, each with its number, and one that is refused.
+fn load_programs(alloc: Global, dialogue: &mut Dialogue) -> Result<(), AllocError> {
     for number in 0..64u32 {
         dialogue.ask("load 0 EXIT_ONE")?;
         dialogue.expect(&format!(in alloc; "prog {number}")?)?;
     }
-    dialogue.add("load 300 ff = refused 54\n")?;
+    dialogue.add("load 300 ff = refused 54\n")
+}
+
+/// As many runs as there may be, each with its number.
+fn start_runs(alloc: Global, dialogue: &mut Dialogue) -> Result<(), AllocError> {
     for number in 0..64u32 {
         dialogue.ask("start 63 -")?;
         dialogue.expect(&format!(in alloc; "run {number}")?)?;
@@ -25,13 +33,18 @@ fn fill(alloc: Global, dialogue: &mut Dialogue) -> Result<(), AllocError> {
     Ok(())
 }
 
-/// Elements of one map, put under falling keys, and told under rising ones.
-fn fill_map(alloc: Global, dialogue: &mut Dialogue) -> Result<(), AllocError> {
+/// Elements of one map, put under falling keys.
+fn put_elements(alloc: Global, dialogue: &mut Dialogue) -> Result<(), AllocError> {
     for number in 0..512u32 {
         let key = 65_535 - 127 * number;
         dialogue.ask(&format!(in alloc; "put m3 {key:04x} {:02x} 0", number % 256)?)?;
         dialogue.expect("ret 0")?;
     }
+    Ok(())
+}
+
+/// The elements of that map, told under rising keys.
+fn dump_elements(alloc: Global, dialogue: &mut Dialogue) -> Result<(), AllocError> {
     dialogue.ask("dump m3")?;
     for number in 0..512u32 {
         let key = 638 + 127 * number;
@@ -42,15 +55,19 @@ fn fill_map(alloc: Global, dialogue: &mut Dialogue) -> Result<(), AllocError> {
 
 #[test]
 fn one_more_is_refused(rt: HostRuntime) -> Result<(), Fail> {
-    let mut dialogue = Dialogue::new(rt.alloc());
-    fill(rt.alloc(), &mut dialogue)?;
+    let alloc = rt.alloc();
+    let mut dialogue = Dialogue::new(alloc);
+    make_maps(alloc, &mut dialogue)?;
+    load_programs(alloc, &mut dialogue)?;
+    start_runs(alloc, &mut dialogue)?;
     dialogue.add("start 0 - = refused 64\nstart 0 00 = refused 63\nstart 64 00 = refused 62\n")?;
     dialogue.add("step 5 3 = exit 1\nstep 5 = refused 61\nstep 63 1 = moved\n")?;
     dialogue.add("drop 4 = refused 67\ndrop 5 = ok\nstep 5 = refused 60\nstart 0 - = run 5\n")?;
-    fill_map(rt.alloc(), &mut dialogue)?;
+    put_elements(alloc, &mut dialogue)?;
+    dump_elements(alloc, &mut dialogue)?;
     dialogue.add("dump m2 = end\n")?;
     dialogue.add("stat = stat linked 512 unlinked 0 given 0 worn 0 runs 64 open 0\n")?;
-    let (out, end) = dialogue.run(rt.alloc());
+    let (out, end) = dialogue.run(alloc);
     assert!(rt; end.is_ok());
     assert_eq!(rt; out.as_slice(), dialogue.answers.as_slice());
     Ok(())

@@ -10,7 +10,7 @@ use Rattle.bpf_model.specs.View.{unused_slot}
 use Rattle.element_arena.specs.State.{times_in, new_arena}
 use Rattle.element_arena.specs.Threads.{IsThread, last_slot_of}
 use Rattle.element_arena.specs.Fresh.{below, fresh_cell, fresh_cells}
-use Rattle.element_arena.specs.declared.cell.Cell.{Cell}
+use Rattle.element_arena.specs.declared.cell.SlotCell.{SlotCell}
 use Rattle.element_arena.specs.Kept.{IsThreaded, raw, raw_of, free_count, taken_count, slots_shown, arena_state_of, is_worn, link_view}
 use Rattle.element_arena.proofs.Counts.{one_cases, one_other}
 use Rattle.element_arena.proofs.Slots.{state-is}
@@ -106,7 +106,7 @@ last-fresh zero = refl
 last-fresh (suc k) = let e : 0 + k ≡ k = omega arith in sym (last-range 0 k ∙ ap (λ m. Some m) e)
 
 module _ (n limit : ℕ) (some : 1 ≤ limit) (small : limit < 2 ^ 32) where
-  fresh-is : (j : ℕ) (c : Cell) → slice_get (fresh_cells n n) j ≡ Some c → (j < n) × (c ≡ fresh_cell n j)
+  fresh-is : (j : ℕ) (c : SlotCell) → slice_get (fresh_cells n n) j ≡ Some c → (j < n) × (c ≡ fresh_cell n j)
   fresh-is j c h =
       let w : j < n = subst (λ m. j < m) (length-map-range_with_len (fresh_cell n) 0 n) (slice_get_within (fresh_cells n n) j c h) in
       (w, sym (same_Some (fresh_cell n j) c (sym (get-new n j w) ∙ h)))
@@ -120,9 +120,9 @@ module _ (n limit : ℕ) (some : 1 ≤ limit) (small : limit < 2 ^ 32) where
     standing = λ j c h.
         let f = fresh-is j c h in
         let one : times_in j (range_with_len 0 n) ≡ 1 = times-here 0 n j (omega arith) (let w : j < n = f.0 in omega arith) in
-        one ∙ sym (ap (λ (z : Cell). free_count z.standing) f.1);
-    used = λ j c h. let f = fresh-is j c h in subst (λ (z : Cell). z.uses + free_count z.standing ≤ limit) (sym f.1) (omega (arith, some));
-    given = λ j c h. let f = fresh-is j c h in subst (λ (z : Cell). z.generation + taken_count z.standing ≤ z.uses) (sym f.1) (omega arith);
+        one ∙ sym (ap (λ (z : SlotCell). free_count z.standing) f.1);
+    used = λ j c h. let f = fresh-is j c h in subst (λ (z : SlotCell). z.uses + free_count z.standing ≤ limit) (sym f.1) (omega (arith, some));
+    given = λ j c h. let f = fresh-is j c h in subst (λ (z : SlotCell). z.generation + taken_count z.standing ≤ z.uses) (sym f.1) (omega arith);
     small = small;
   }
 
@@ -130,7 +130,7 @@ shown-fresh : (kl vl n i k : ℕ) (ks vs : List ℕ) → slots_shown kl vl (map 
 shown-fresh kl vl n i zero ks vs = refl
 shown-fresh kl vl n i (suc k) ks vs = ap (λ l. unused_slot ∷ l) (shown-fresh kl vl n (i + 1) k (drop kl ks) (drop vl vs))
 
-map-fresh : {A : Type 0} (f : Cell → A) (y : A) (n i k : ℕ) → ((j : ℕ) → f (fresh_cell n j) ≡ y) → map f (map (fresh_cell n) (range_with_len i k)) ≡ replicate k y
+map-fresh : {A : Type 0} (f : SlotCell → A) (y : A) (n i k : ℕ) → ((j : ℕ) → f (fresh_cell n j) ≡ y) → map f (map (fresh_cell n) (range_with_len i k)) ≡ replicate k y
 map-fresh f y n i zero h = refl
 map-fresh f y n i (suc k) h =
     ap (λ z. z ∷ map f (map (fresh_cell n) (range_with_len (i + 1) k))) (h i)

@@ -6,7 +6,7 @@ use Rattle.bpf_model.specs.View.{SlotView, uses_at}
 use Rattle.bpf_model.specs.declared.event.Given.{Given}
 use Rattle.bpf_model.specs.declared.event.Given.TheVariants as given
 use Rattle.element_arena.specs.State.{IsTaken, ArenaState, given_back, is_last_use, times_in}
-use Rattle.element_arena.specs.declared.cell.Cell.{Cell}
+use Rattle.element_arena.specs.declared.cell.SlotCell.{SlotCell}
 use Rattle.element_arena.specs.declared.cell.Standing.TheVariants.{Free, Worn}
 use Rattle.element_arena.specs.Kept.{IsThreaded, AreCellsKept, IsLaidOut, arena_state_of, free_of, state_with, slots_shown, free_count, taken_count, first_with, linked_behind, given_cell}
 use Rattle.element_arena.proofs.Keeps.{IsHeld, kept_from, taken_at, wear, free_again, last_free, length-behind}
@@ -23,12 +23,12 @@ in_range : (last : Option ℕ) (n : ℕ) → ((l : ℕ) → last ≡ Some l → 
 in_range None n h = tt
 in_range (Some l) n h = h l refl
 
-module _ (kl vl limit : ℕ) (cells : List Cell) (first last : Option ℕ) (ks vs : List ℕ) (i : ℕ) (a : ArenaState) (e : arena_state_of cells first ks vs kl vl limit ≡ a)
+module _ (kl vl limit : ℕ) (cells : List SlotCell) (first last : Option ℕ) (ks vs : List ℕ) (i : ℕ) (a : ArenaState) (e : arena_state_of cells first ks vs kl vl limit ≡ a)
     (k : AreCellsKept cells first last limit × IsLaidOut cells ks vs kl vl) (t : IsTaken a i) where
   pub held : IsHeld cells first i
   held = held_from kl vl limit cells first ks vs i (subst (λ (b : ArenaState). IsTaken b i) (sym e) t)
 
-  module _ (c : Cell) (at : slice_get cells i ≡ Some c) where
+  module _ (c : SlotCell) (at : slice_get cells i ≡ Some c) where
     uses-is : uses_at (slots_shown kl vl cells ks vs) i ≡ c.uses
     uses-is = shown-uses kl vl cells ks vs i c at
 
@@ -67,7 +67,7 @@ module _ (kl vl limit : ℕ) (cells : List Cell) (first last : Option ℕ) (ks v
         let there : 0 < times_in l (free_of cells first) = last-held (free_of cells first) l (sym k.0.ends ∙ le) in
         subst (λ n. l < n) (sym (length-set cells i (given_cell c Free))) (k.0.inside l there))
 
-    abbrev pub freed : List Cell
+    abbrev pub freed : List SlotCell
     freed = linked_behind (slice_set cells i (given_cell c Free)) last i
 
     module _ (ne : c.uses ≢ limit) where

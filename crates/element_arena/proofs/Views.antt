@@ -5,7 +5,7 @@ use Rattle.std.proofs.lemmas.Option.{none-some, same_Some}
 use Rattle.std.proofs.lemmas.Bool.{cond-true, cond-false}
 use Rattle.bpf_model.specs.View.{SlotView, uses_at}
 use Rattle.element_arena.specs.State.{ArenaState, with_link, taken, given_back, is_last_use}
-use Rattle.element_arena.specs.declared.cell.Cell.{Cell}
+use Rattle.element_arena.specs.declared.cell.SlotCell.{SlotCell}
 use Rattle.element_arena.specs.declared.cell.Standing.TheVariants.{Free, Taken, Worn}
 use Rattle.element_arena.specs.Kept.{link_view, shown_link, is_worn, state_with, relinked, linked_behind}
 use Rattle.bpf_model.proofs.Lists.{get-map, map-set, set-same}
@@ -24,7 +24,7 @@ pub same_state : (s s' : List SlotView) (f f' : List ℕ) (w w' : List Bool) (l 
     a ≡ b
 same_state s s' f f' w w' l l' g g' kl vl n p q r t u = cc
 
-module _ (slots : List SlotView) (cells : List Cell) (kl vl limit i : ℕ) (c : Cell) (at : slice_get cells i ≡ Some c) where
+module _ (slots : List SlotView) (cells : List SlotCell) (kl vl limit i : ℕ) (c : SlotCell) (at : slice_get cells i ≡ Some c) where
   -- the link of a taken cell is set
   pub set_link_view : (free : List ℕ) (to : Option ℕ) → c.standing ≡ Taken →
       state_with slots (slice_set cells i (record c { link = to })) free kl vl limit ≡ with_link (state_with slots cells free kl vl limit) i to
@@ -32,9 +32,9 @@ module _ (slots : List SlotView) (cells : List Cell) (kl vl limit i : ℕ) (c : 
       same_state slots slots free free _ _ _ _ _ _ kl vl limit
       refl
       refl
-      (map-set_same (λ (z : Cell). is_worn z.standing) cells i c (record c { link = to }) at refl)
+      (map-set_same (λ (z : SlotCell). is_worn z.standing) cells i c (record c { link = to }) at refl)
       (map-set link_view cells i (record c { link = to }) ∙ ap (λ s. slice_set (map link_view cells) i (shown_link s to)) st)
-      (map-set_same (λ (z : Cell). z.generation) cells i c (record c { link = to }) at refl)
+      (map-set_same (λ (z : SlotCell). z.generation) cells i c (record c { link = to }) at refl)
 
   -- a free cell is taken
   pub take_view : (slots' : List SlotView) (ys : List ℕ) (key value : List ℕ) → slots' ≡ slice_set slots i (record { key = key; value = value; uses = uses_at slots i + 1 }) → c.standing ≡ Free →
@@ -43,12 +43,12 @@ module _ (slots : List SlotView) (cells : List Cell) (kl vl limit i : ℕ) (c : 
       same_state slots' _ ys ys _ _ _ _ _ _ kl vl limit
       e
       refl
-      (map-set_same (λ (z : Cell). is_worn z.standing) cells i c (record { uses = c.uses + 1; generation = c.generation; standing = Taken; link = None }) at (ap is_worn (sym st)))
+      (map-set_same (λ (z : SlotCell). is_worn z.standing) cells i c (record { uses = c.uses + 1; generation = c.generation; standing = Taken; link = None }) at (ap is_worn (sym st)))
       (map-set link_view cells i _)
-      (map-set_same (λ (z : Cell). z.generation) cells i c _ at refl)
+      (map-set_same (λ (z : SlotCell). z.generation) cells i c _ at refl)
 
-  generation_is : slice_index (map (λ (z : Cell). z.generation) cells) i ≡ c.generation
-  generation_is = index-get _ i c.generation (get-map (λ (z : Cell). z.generation) cells i c at)
+  generation_is : slice_index (map (λ (z : SlotCell). z.generation) cells) i ≡ c.generation
+  generation_is = index-get _ i c.generation (get-map (λ (z : SlotCell). z.generation) cells i c at)
 
   pub last_use_is : (free : List ℕ) (b : Bool) → uses_at slots i ≡ c.uses → eqb c.uses limit ≡ b → is_last_use (state_with slots cells free kl vl limit) i ≡ b
   last_use_is free b u e = ap (λ n. eqb n limit) u ∙ e
@@ -61,9 +61,9 @@ module _ (slots : List SlotView) (cells : List Cell) (kl vl limit i : ℕ) (c : 
       same_state slots slots _ _ _ _ _ _ _ _ kl vl limit
       refl
       (sym (cond-true _ _ _ l))
-      (map-set (λ (z : Cell). is_worn z.standing) cells i _ ∙ sym (cond-true _ _ _ l))
+      (map-set (λ (z : SlotCell). is_worn z.standing) cells i _ ∙ sym (cond-true _ _ _ l))
       (map-set link_view cells i _)
-      (map-set (λ (z : Cell). z.generation) cells i _ ∙ ap (λ g. slice_set (map (λ (z : Cell). z.generation) cells) i (g + 1)) (sym generation_is))
+      (map-set (λ (z : SlotCell). z.generation) cells i _ ∙ ap (λ g. slice_set (map (λ (z : SlotCell). z.generation) cells) i (g + 1)) (sym generation_is))
 
   -- a taken cell is given back, before its last use
   pub free_view : (free : List ℕ) → uses_at slots i ≡ c.uses → c.standing ≡ Taken → eqb c.uses limit ≡ false →
@@ -73,17 +73,17 @@ module _ (slots : List SlotView) (cells : List Cell) (kl vl limit i : ℕ) (c : 
       same_state slots slots _ _ _ _ _ _ _ _ kl vl limit
       refl
       (sym (cond-false _ _ _ l))
-      (map-set_same (λ (z : Cell). is_worn z.standing) cells i c _ at (ap is_worn (sym st)) ∙ sym (cond-false _ _ _ l))
+      (map-set_same (λ (z : SlotCell). is_worn z.standing) cells i c _ at (ap is_worn (sym st)) ∙ sym (cond-false _ _ _ l))
       (map-set link_view cells i _)
-      (map-set (λ (z : Cell). z.generation) cells i _ ∙ ap (λ g. slice_set (map (λ (z : Cell). z.generation) cells) i (g + 1)) (sym generation_is))
+      (map-set (λ (z : SlotCell). z.generation) cells i _ ∙ ap (λ g. slice_set (map (λ (z : SlotCell). z.generation) cells) i (g + 1)) (sym generation_is))
 
 -- the link of a free slot is not seen
-pub behind_view : (slots : List SlotView) (cells : List Cell) (free : List ℕ) (kl vl limit : ℕ) (last : Option ℕ) (i : ℕ) → ((l : ℕ) (b : Cell) → last ≡ Some l → slice_get cells l ≡ Some b → b.standing ≡ Free) →
+pub behind_view : (slots : List SlotView) (cells : List SlotCell) (free : List ℕ) (kl vl limit : ℕ) (last : Option ℕ) (i : ℕ) → ((l : ℕ) (b : SlotCell) → last ≡ Some l → slice_get cells l ≡ Some b → b.standing ≡ Free) →
     state_with slots (linked_behind cells last i) free kl vl limit ≡ state_with slots cells free kl vl limit
 behind_view slots cells free kl vl limit None i h = refl
 behind_view slots cells free kl vl limit (Some l) i h = by_cell (slice_get cells l) refl
   where
-    by_cell : (o : Option Cell) → slice_get cells l ≡ o → state_with slots (relinked cells l (Some i) o) free kl vl limit ≡ state_with slots cells free kl vl limit
+    by_cell : (o : Option SlotCell) → slice_get cells l ≡ o → state_with slots (relinked cells l (Some i) o) free kl vl limit ≡ state_with slots cells free kl vl limit
     by_cell None at = refl
     by_cell (Some b) at =
         let st : b.standing ≡ Free = h l b refl at in
@@ -91,6 +91,6 @@ behind_view slots cells free kl vl limit (Some l) i h = by_cell (slice_get cells
         same_state slots slots free free _ _ _ _ _ _ kl vl limit
         refl
         refl
-        (map-set_same (λ (z : Cell). is_worn z.standing) cells l b (record b { link = Some i }) at refl)
+        (map-set_same (λ (z : SlotCell). is_worn z.standing) cells l b (record b { link = Some i }) at refl)
         (map-set_same link_view cells l b (record b { link = Some i }) at hide)
-        (map-set_same (λ (z : Cell). z.generation) cells l b (record b { link = Some i }) at refl)
+        (map-set_same (λ (z : SlotCell). z.generation) cells l b (record b { link = Some i }) at refl)

@@ -10,7 +10,7 @@ ghost use Rattle.element_arena.specs.State.{IsTaken, generation_at, given_back, 
 ghost use Rattle.element_arena.specs.State.{link_at, new_arena, taken, value_at, with_link, with_slot_value};
 
 use crate::blocks::{block, write_block, write_inside};
-use crate::cell::{Cell, Standing, append, given_cell, last_after};
+use crate::cell::{SlotCell, Standing, append, given_cell, last_after};
 use crate::make::{below, fresh_cells, room_for};
 use bpf_model::{Given, KeyBytes, ValueBytes, Width, array_of};
 use byte_numbers::number_of;
@@ -32,7 +32,7 @@ pub struct Stale;
 /// arena allows.
 #[derive(Drop)]
 pub struct Arena {
-    cells: Vec<Cell>,
+    cells: Vec<SlotCell>,
     keys: Vec<u8>,
     values: Vec<u8>,
     key_len: usize,
@@ -102,7 +102,7 @@ impl Arena {
             None => None,
             Some(slot) => {
                 let old = self.cells[slot];
-                self.cells[slot] = Cell {
+                self.cells[slot] = SlotCell {
                     uses: old.uses + 1,
                     generation: old.generation,
                     standing: Standing::Taken,

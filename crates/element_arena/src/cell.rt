@@ -13,7 +13,7 @@ pub(crate) enum Standing {
 
 /// What is kept of a slot beside its bytes: how often it was used, and how often given back.
 #[derive(Clone, Copy, Debug, PartialEq, Eq)]
-pub(crate) struct Cell {
+pub(crate) struct SlotCell {
     pub(crate) uses: u32,
     pub(crate) generation: u32,
     pub(crate) standing: Standing,
@@ -32,11 +32,11 @@ pub fn last_after(rest: Option<usize>, last: Option<usize>) -> Option<usize>
 }
 
 /// The cell of a slot that was given back once more.
-pub(crate) fn given_cell(old: Cell, standing: Standing) -> Cell
+pub(crate) fn given_cell(old: SlotCell, standing: Standing) -> SlotCell
     requires { old.generation + 1 < 2 ^ 32 }
     ensures { result ≡ given_cell old standing }
 {
-    Cell {
+    SlotCell {
         generation: old.generation + 1,
         standing,
         link: None,
@@ -46,7 +46,7 @@ pub(crate) fn given_cell(old: Cell, standing: Standing) -> Cell
 
 /// Links the last slot to this one, and answers the first slot.
 pub(crate) fn append(
-    cells: &mut Vec<Cell>,
+    cells: &mut Vec<SlotCell>,
     first: Option<usize>,
     last: Option<usize>,
     slot: usize,

@@ -2,7 +2,7 @@
 ghost use Rattle.std.specs.Prelude.{◌≡◌, ◌*◌, ◌≤◌, length, IfOk};
 ghost use Rattle.element_arena.specs.Fresh.{below, fresh_cells};
 
-use crate::cell::{Cell, Standing};
+use crate::cell::{SlotCell, Standing};
 use std::alloc::{AllocError, Global};
 
 /// The slot, where there are more than so many.
@@ -13,12 +13,12 @@ pub(crate) fn below(slot: usize, slots: usize) -> Option<usize>
 }
 
 /// Cells that were never used, each linked to the next.
-pub(crate) fn fresh_cells(alloc: Global, slots: usize) -> Result<Vec<Cell>, AllocError>
+pub(crate) fn fresh_cells(alloc: Global, slots: usize) -> Result<Vec<SlotCell>, AllocError>
     ensures { IfOk result (λ cells. cells.items ≡ fresh_cells slots slots) }
 {
     let mut cells = Vec::with_capacity(alloc, slots)?;
     for slot in 0..slots {
-        cells.push(Cell {
+        cells.push(SlotCell {
             uses: 0,
             generation: 0,
             standing: Standing::Free,

@@ -10,7 +10,7 @@ use Rattle.bpf_model.specs.Element.{Element}
 use Rattle.bpf_model.specs.Event.{IsReal, AreReal}
 use Rattle.bpf_model.specs.Drain.{AreScheduledAnswers}
 use Rattle.bpf_model.specs.Headline.{AreMachineAnswers, AreNeverStuck, AllExitInTime, AreReclaimedLate}
-use Rattle.bpf_model.specs.History.{MachineRun, IsHistory, last_machine}
+use Rattle.bpf_model.specs.History.{HasHistoryTo, IsHistory, last_machine}
 use Rattle.bpf_model.specs.Machine.{Loaded, Machine, Run, run_at, run_in}
 use Rattle.bpf_model.specs.Refines.{Tracks, TracksSchedule, SlotRefines}
 use Rattle.bpf_model.specs.Replay as machine
@@ -59,7 +59,7 @@ replays_push base world new entries entry h real answer is =
     }
 
 -- on the machine
-history-run : (m : Machine) (events : List Event) (answers : List Answer) (states : List Machine) → IsHistory m events answers states → MachineRun m events answers (last_machine m states)
+history-run : (m : Machine) (events : List Event) (answers : List Answer) (states : List Machine) → IsHistory m events answers states → HasHistoryTo m events answers (last_machine m states)
 history-run m [] [] [] h = refl
 history-run m (event ∷ events) (answer ∷ answers) (next ∷ states) h = (next, h.0, history-run next events answers states h.1)
 history-run m events answers states h = absurd h
@@ -88,15 +88,15 @@ pub replays_on_machine : (base world : WorldView) (entries : List Entry) → Rep
 replays_on_machine base world entries h short m t =
     let run = answers_machine base (events_of entries) h.base_is.ready h.real m t in
     let last = last_machine m run.0 in
-    let moved : MachineRun m (events_of entries) (answers_of entries) last = subst (λ (xs : List Answer). MachineRun m (events_of entries) xs last) (sym h.answers) (history-run m (events_of entries) (full_reactions base (events_of entries)).0 run.0 run.1) in
+    let moved : HasHistoryTo m (events_of entries) (answers_of entries) last = subst (λ (xs : List Answer). HasHistoryTo m (events_of entries) xs last) (sym h.answers) (history-run m (events_of entries) (full_reactions base (events_of entries)).0 run.0 run.1) in
     let l : length (map machine_entry entries) ≡ length entries = length-map entries machine_entry in (
       last,
       record {
         quiet = quiet-machine base m h.quiet t;
         short = omega (arith, l, short);
         real = subst AreReal (sym (same-events entries)) h.real;
-        replay = subst (λ (es : List Event). MachineRun m es (map (λ (e : machine.JournalEntry). e.answer) (map machine_entry entries)) last) (sym (same-events entries))
-            (subst (λ (xs : List Answer). MachineRun m (events_of entries) xs last) (sym (same-answers entries)) moved);
+        replay = subst (λ (es : List Event). HasHistoryTo m es (map (λ (e : machine.JournalEntry). e.answer) (map machine_entry entries)) last) (sym (same-events entries))
+            (subst (λ (xs : List Answer). HasHistoryTo m (events_of entries) xs last) (sym (same-answers entries)) moved);
       },
       subst (λ (w : WorldView). Tracks w last) (sym h.world_is) run.2,
     )

@@ -28,27 +28,38 @@ fn add<R: Abort>(rt: &R, journal: &mut Journal, entry: &Entry) -> Result<(), Jou
     Ok(())
 }
 
+/// Adds an entry of each kind, in the order of the kinds.
+fn add_each_kind<R: Abort>(rt: &R, journal: &mut Journal) -> Result<(), JournalFault> {
+    for kind in 0..KINDS {
+        add(rt, journal, &of_kind(kind))?;
+    }
+    Ok(())
+}
+
+/// Reads the entries of three rounds of each kind, behind which there is none.
+fn read_three_rounds<R: Abort>(rt: &R, alloc: Global, journal: &Journal) -> Result<(), Fail> {
+    for index in 0..3 * KINDS {
+        let Some(entry) = journal.entry(index) else {
+            return Err(Fail::new("an entry is missing"));
+        };
+        let found = shown(alloc, &entry)?;
+        let wanted = shown(alloc, &of_kind(index % KINDS))?;
+        assert_eq!(rt; found.as_str(), wanted.as_str());
+    }
+    assert!(rt; journal.entry(3 * KINDS).is_none());
+    Ok(())
+}
+
 #[test]
 fn every_kind_is_read_back(rt: HostRuntime) -> Result<(), Fail> {
     let mut journal = Journal::new(rt.alloc());
     assert!(rt; journal.is_empty());
     assert_eq!(rt; journal.limit(), 16_777_216);
     for round in 0..3 {
-        for kind in 0..KINDS {
-            add(&rt, &mut journal, &of_kind(kind))?;
-        }
+        add_each_kind(&rt, &mut journal)?;
         assert_eq!(rt; journal.len(), (round + 1) * KINDS);
     }
-    for index in 0..3 * KINDS {
-        let Some(entry) = journal.entry(index) else {
-            return Err(Fail::new("an entry is missing"));
-        };
-        let found = shown(rt.alloc(), &entry)?;
-        let wanted = shown(rt.alloc(), &of_kind(index % KINDS))?;
-        assert_eq!(rt; found.as_str(), wanted.as_str());
-    }
-    assert!(rt; journal.entry(3 * KINDS).is_none());
-    Ok(())
+    read_three_rounds(&rt, rt.alloc(), &journal)
 }
 
 #[test]

@@ -7,9 +7,9 @@ use Rattle.std.proofs.lemmas.List.Concat.{flat_map-append}
 use Rattle.std.proofs.lemmas.Option.{same_Some}
 use Rattle.bpf_model.specs.declared.limits.MapShape.{MapShape}
 use Rattle.bpf_model.specs.View.{new_map_view}
-use Rattle.maps.specs.Registry.{RegistryView}
+use Rattle.maps.specs.Registry.{RegistryView, no_maps}
 use Rattle.loader.specs.Lines.{file_words, IsDecimalWord, code_slots, both_parts, slot_in}
-use Rattle.loader.specs.ProgramFile.{FileContent, no_maps, IsContextLine, IsMapLine, AddsMap, AddMaps, IsProgramFile, IsFileBeginning, IsWrongAfter, IsFirstWrongLine}
+use Rattle.loader.specs.ProgramFile.{FileContent, IsContextLine, IsMapLine, AddsMap, AddMaps, IsProgramFile, IsFileBeginning, IsWrongAfter, IsFirstWrongLine}
 use Rattle.loader.specs.Reading.{AreMapsSoFar, AreShapeWords, IsAtStage}
 use Rattle.loader.proofs.Slots.{joined_nil}
 use Rattle.loader.specs.declared.fault.LineFault.{LineFault}

@@ -4,7 +4,7 @@ use Rattle.std.specs.Prelude.{Option, Some, None}
 use Rattle.bpf_model.specs.declared.limits.MapShape.{MapShape}
 use Rattle.bpf_model.specs.declared.limits.TheConstants.{CTX_BYTES}
 use Rattle.bpf_model.specs.View.{new_map_view}
-use Rattle.maps.specs.Registry.{RegistryView, creation_fault}
+use Rattle.maps.specs.Registry.{RegistryView, no_maps, creation_fault}
 use Rattle.loader.specs.Lines.{file_lines, file_words, IsDecimalWord, code_slots}
 use Rattle.loader.specs.declared.fault.LoadFault.{LoadFault}
 use Rattle.loader.specs.declared.fault.LoadFault.TheVariants.{BadFile, Memory}
@@ -14,9 +14,6 @@ pub record FileContent : Type 0 where
   pub context : ℕ
   pub registry : RegistryView
   pub code : List ℕ
-
-abbrev pub no_maps : RegistryView
-no_maps = record { names = []; maps = [] }
 
 -- `ctx N`, with at most CTX_BYTES
 pub record IsContextLine (line : List ℕ) (n : ℕ) : Type 0 where

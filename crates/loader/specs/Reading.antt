@@ -3,9 +3,9 @@ use Rattle.std.specs.Prelude.{◌≡◌, ℕ, false, ◌==◌, List, [], ◌∷�
 use Rattle.std.specs.Prelude.{Some, None}
 use Rattle.std.specs.Borrow.{Bor}
 use Rattle.bpf_model.specs.declared.limits.MapShape.{MapShape}
-use Rattle.maps.specs.Registry.{RegistryView}
+use Rattle.maps.specs.Registry.{RegistryView, no_maps}
 use Rattle.loader.specs.Lines.{file_words, IsDecimalWord}
-use Rattle.loader.specs.ProgramFile.{FileContent, IsProgramFile, IsContextLine, AddMaps, no_maps}
+use Rattle.loader.specs.ProgramFile.{FileContent, IsProgramFile, IsContextLine, AddMaps}
 use Rattle.loader.specs.declared.loading.Loading.{Loading}
 use Rattle.loader.specs.declared.loading.Stage.{Stage}
 use Rattle.loader.specs.declared.loading.Stage.TheVariants.{Context, Maps, Code}

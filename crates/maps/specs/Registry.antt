@@ -1,5 +1,5 @@
 -- The maps of a registry, in order of creation, each with its name.
-use Rattle.std.specs.Prelude.{ℕ, Bool, false, not, ◌&&◌, ◌||◌, ◌==◌, if◌then◌else◌, List, length}
+use Rattle.std.specs.Prelude.{ℕ, Bool, false, not, ◌&&◌, ◌||◌, ◌==◌, if◌then◌else◌, List, [], length}
 use Rattle.std.specs.Prelude.{Option, Some, None, slice_get, bytes_eq, nat_le, refl}
 use Rattle.std.specs.List.{list_any, list_all}
 use Rattle.bpf_model.specs.declared.limits.MapShape.{MapShape}
@@ -16,6 +16,9 @@ use Rattle.maps.specs.declared.name.TheConstants.{NAME_BYTES}
 pub record RegistryView : Type 0 where
   pub names : List (List ℕ)
   pub maps : List MapView
+
+abbrev pub no_maps : RegistryView
+no_maps = record { names = []; maps = [] }
 
 abbrev pub registry_code : Coded RegistryView
 registry_code = code_by (List (List ℕ) × List MapView)

@@ -10,10 +10,10 @@ use Rattle.bpf_model.specs.declared.event.Event.{Event}
 use Rattle.bpf_model.specs.declared.event.Answer.{Answer}
 use Rattle.bpf_model.specs.Section.{Section}
 use Rattle.bpf_model.specs.Element.{Element, Life, Linked, Unlinked, IsLinkedAt}
-use Rattle.bpf_model.specs.MapState.{MapState, Store}
+use Rattle.bpf_model.specs.MapState.{Store}
 use Rattle.bpf_model.specs.Machine.{Loaded, Run, Machine, open_sections, run_at, start_machine}
 use Rattle.bpf_model.specs.Event.{DoesEvent}
-use Rattle.bpf_model.specs.Consistent.{IsConsistent}
+use Rattle.bpf_model.specs.Consistent.{HasLengths, IsConsistent}
 use Rattle.model_laws.specs.Begun.{AllBegun}
 use Rattle.model_laws.proofs.Born.{IsBornState, more-value, more-cell, born-entry}
 use Rattle.model_laws.proofs.Moves.{RunsMove, run-before, started-grows, does-move}
@@ -84,9 +84,6 @@ module _ (reap : Bool) (opened : List Section) (s new : Store) (mv : StoreMoves 
     ]
     | inr x ↦ sym (x b lb)
   ]
-
-  abbrev HasLengths : List MapState → Element → Type 0
-  HasLengths maps e = (state : MapState) × (slice_get maps e.map ≡ Some state) × (length e.key ≡ state.shape.key_len) × (length e.value ≡ state.shape.value_len)
 
   lengths-later : (e : Element) → HasLengths s.maps e → HasLengths new.maps e
   lengths-later e h =

@@ -5,9 +5,9 @@ use Rattle.bpf_model.proofs.Cases.{same-pos}
 use Rattle.bpf_model.specs.declared.value.Reference.{Reference}
 use Rattle.bpf_model.specs.declared.value.Reference.TheVariants.{Ctx, Frame, MapRef, Elem}
 use Rattle.bpf_model.specs.Element.{Element}
-use Rattle.bpf_model.specs.declared.limits.TheConstants.{MAX_MAPS, MAX_ENTRIES, MAX_SPARE}
+use Rattle.bpf_model.specs.declared.limits.TheConstants.{MAX_MAPS}
 use Rattle.bpf_model.specs.Near.{IsNearOffset}
-use Rattle.bpf_model.specs.Word.{ctx_base, frame_base, map_base, slot_base, IsReferenceWord, element_bases}
+use Rattle.bpf_model.specs.Word.{ctx_base, frame_base, map_base, slot_base, most_slots, IsReferenceWord, element_bases}
 use Rattle.model_laws.specs.Locations.{Location, InContext, InFrame, AtMap, InSlot, IsNearLocation, location_word, named_location}
 
 near-pos : (n : ℕ) → IsNearOffset (pos n) → n ≤ 2 ^ 29
@@ -74,7 +74,7 @@ near-bounds : (p : Location) → IsNearLocation p → (2 ^ 40 ≤ base_of p) × 
 near-bounds (InContext o) h = let s : shift o ≤ 2 ^ 30 = shift-most o h in (omega arith, omega arith)
 near-bounds (InFrame o) h = let s : shift o ≤ 2 ^ 30 = shift-most o h in (omega arith, omega arith)
 near-bounds (AtMap m) h = (omega arith, omega arith)
-near-bounds (InSlot m slot o) h = let s : shift o ≤ 2 ^ 30 = shift-most o h.2 in let a : m < MAX_MAPS = h.0 in let b : slot < MAX_ENTRIES + MAX_SPARE = h.1 in (omega arith, omega arith)
+near-bounds (InSlot m slot o) h = let s : shift o ≤ 2 ^ 30 = shift-most o h.2 in let a : m < MAX_MAPS = h.0 in let b : slot < most_slots = h.1 in (omega arith, omega arith)
 
 -- each near location has a word, which is not 0
 pub near_words_fit : (p : Location) → IsNearLocation p → (w : ℕ) × (location_word p ≡ pos w) × (0 < w) × (w < 2 ^ 64)

@@ -12,7 +12,7 @@ use Rattle.bpf_model.specs.declared.opcode.SignedWidth.{SignedWidth}
 use Rattle.bpf_model.specs.Access.{byte_count, unsigned_width}
 use Rattle.bpf_model.specs.Arithmetic.{loaded_signed}
 use Rattle.bpf_model.specs.Element.{Element}
-use Rattle.bpf_model.specs.Step.{State, Environment, Outcome, Moves, Exits, after, load_from, sets}
+use Rattle.bpf_model.specs.Step.{Environment, Outcome, Moves, Exits, after, load_from, sets}
 use Rattle.bpf_model.specs.MachineStep.{element_load, element_store}
 use Rattle.plain_interpreter.specs.declared.plain_run.PlainRun.{PlainRun}
 use Rattle.plain_interpreter.specs.declared.plain_run.Progress.{Progress}
@@ -48,10 +48,6 @@ no-store es new width offset (Number k) (Pointer (Frame o)) h e = absurd cc
 no-store es new width offset (Number k) (Pointer (MapRef m)) h e = absurd cc
 no-store es new width offset (Number k) (Pointer (Elem n o)) h e = absurd cc
 
--- where the base is an element, a load or a store does nothing by itself
-from-element : (env : Environment) (m : State) (width : ℕ) (offset : ℤ) (v : Value) (n : ℕ) (o : ℤ) → v ≡ Pointer (Elem n o) → load_from env m width offset v ≡ None
-from-element env m width offset v n o e = ap (load_from env m width offset) e
-
 abbrev pair : ℕ → ℤ → ℕ × ℤ
 pair n o = (n, o)
 
@@ -70,7 +66,7 @@ pub loaded-acts : (width : Width) (dst src : ℕ) (offset : ℤ) (env : Environm
     Comes (load_outcome es (byte_count width) offset (Pointer (Elem n o)) dst (plain_state_of old)) p old new → ActsAs (Load width dst src offset) env es old p es new
 loaded-acts width dst src offset env es old new p n o b h =
     let base = element-is ((plain_state_of old).regs src) n o b in
-    by p (subst (λ v. Comes (load_outcome es (byte_count width) offset v dst (plain_state_of old)) p old new) (sym base) h) (ap (λ q. q >>= λ v. sets 1 dst v (plain_state_of old)) (from-element env (plain_state_of old) (byte_count width) offset ((plain_state_of old).regs src) n o base))
+    by p (subst (λ v. Comes (load_outcome es (byte_count width) offset v dst (plain_state_of old)) p old new) (sym base) h) (ap (λ q. q >>= λ v. sets 1 dst v (plain_state_of old)) (ap (load_from env (plain_state_of old) (byte_count width) offset) base))
   where
     found : (q : Option ℕ) (out : Outcome) → (q >>= λ k. sets 1 dst (Number k) (plain_state_of old)) ≡ Some out → (k : ℕ) × (q ≡ Some k) × (sets 1 dst (Number k) (plain_state_of old) ≡ Some out)
     found None out e = absurd cc
@@ -95,7 +91,7 @@ pub extended-acts : (width : SignedWidth) (dst src : ℕ) (offset : ℤ) (env : 
 extended-acts width dst src offset env es old new p n o b h =
     let base = element-is ((plain_state_of old).regs src) n o b in
     by p (subst (λ v. Comes (extended_outcome es width offset v dst (plain_state_of old)) p old new) (sym base) h)
-    (ap (λ q. q >>= λ v. number v >>= λ k. sets 1 dst (Number (loaded_signed width k)) (plain_state_of old)) (from-element env (plain_state_of old) (byte_count (unsigned_width width)) offset ((plain_state_of old).regs src) n o base))
+    (ap (λ q. q >>= λ v. number v >>= λ k. sets 1 dst (Number (loaded_signed width k)) (plain_state_of old)) (ap (load_from env (plain_state_of old) (byte_count (unsigned_width width)) offset) base))
   where
     found : (q : Option ℕ) (out : Outcome) → (q >>= λ k. sets 1 dst (Number (loaded_signed width k)) (plain_state_of old)) ≡ Some out → (k : ℕ) × (q ≡ Some k) × (sets 1 dst (Number (loaded_signed width k)) (plain_state_of old) ≡ Some out)
     found None out e = absurd cc

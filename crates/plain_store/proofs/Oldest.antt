@@ -9,11 +9,6 @@ use Rattle.plain_store.specs.Births.{uses_after_first, without_first_free}
 use Rattle.plain_store.proofs.Births.{without_first-at}
 use Rattle.plain_store.proofs.Lists.{first-of}
 use Rattle.bpf_model.proofs.Lists.{get-set_there, length-set}
-use Rattle.std.proofs.lemmas.Option.{slice_get_within}
-
--- where no element was born
-pub no-birth : (s t : Store) → length t.elements ≡ length s.elements → TakesOldest s t
-no-birth s t h e before after born old new = absurd (let inside = slice_get_within t.elements (length s.elements) e born in omega (arith, inside, h))
 
 changed-length : (f : Element → Element) (es : List Element) (n : ℕ) (o : Option Element) → length (set_to f es n o) ≡ length es
 changed-length f es n None = refl

@@ -2,7 +2,7 @@
 //! hexadecimal behind a colon (`:..` where there are more than any such thing has).
 use arrayvec::ArrayVec;
 use bpf_model::{KEY_BYTES, VALUE_BYTES};
-use script_lines::{Bytes, Command, Name, parse_line};
+use script_lines::{Bytes, Code, Command, Name, Names, parse_line};
 use std::alloc::{AllocError, Global};
 use std::fmt::Write;
 
@@ -39,6 +39,35 @@ fn push_value(
     }
 }
 
+/// A command by its word, with the name of a map and a key.
+fn push_keyed(
+    out: &mut String,
+    word: &str,
+    map: &Name<'_>,
+    key: &Bytes<ArrayVec<u8, KEY_BYTES>>,
+) -> Result<(), AllocError> {
+    out.push_str(word)?;
+    push_name(out, map)?;
+    push_key(out, key)
+}
+
+fn push_load(
+    out: &mut String,
+    alloc: Global,
+    ctx_len: u64,
+    code: &Code<'_>,
+    mut maps: Names<'_>,
+) -> Result<(), AllocError> {
+    write!(out, "load {ctx_len}")?;
+    push_hex(out, &code.to_vec(alloc)?)?;
+    for _ in 0..17 {
+        if let Some(name) = maps.next() {
+            push_name(out, &name)?;
+        }
+    }
+    Ok(())
+}
+
 fn push_command(out: &mut String, alloc: Global, command: Command<'_>) -> Result<(), AllocError> {
     match command {
         Command::Map {
@@ -59,39 +88,20 @@ fn push_command(out: &mut String, alloc: Global, command: Command<'_>) -> Result
         Command::Load {
             ctx_len,
             code,
-            mut maps,
-        } => {
-            write!(out, "load {ctx_len}")?;
-            push_hex(out, &code.to_vec(alloc)?)?;
-            for _ in 0..17 {
-                if let Some(name) = maps.next() {
-                    push_name(out, &name)?;
-                }
-            }
-            Ok(())
-        }
+            maps,
+        } => push_load(out, alloc, ctx_len, &code, maps),
         Command::Put {
             map,
             key,
             value,
             flags,
         } => {
-            out.push_str("put")?;
-            push_name(out, &map)?;
-            push_key(out, &key)?;
+            push_keyed(out, "put", &map, &key)?;
             push_value(out, &value)?;
             write!(out, " {flags}")
         }
-        Command::Get { map, key } => {
-            out.push_str("get")?;
-            push_name(out, &map)?;
-            push_key(out, &key)
-        }
-        Command::Del { map, key } => {
-            out.push_str("del")?;
-            push_name(out, &map)?;
-            push_key(out, &key)
-        }
+        Command::Get { map, key } => push_keyed(out, "get", &map, &key),
+        Command::Del { map, key } => push_keyed(out, "del", &map, &key),
         Command::Start { prog, ctx } => {
             write!(out, "start {prog}")?;
             push_value(out, &ctx)

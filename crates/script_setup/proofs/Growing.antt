@@ -3,10 +3,10 @@ use Rattle.std.proofs.Common.{◌≡◌, ◌∙◌, ℕ, inl, inr, List, [], ◌
 use Rattle.std.specs.Prelude.{slice_get}
 use Rattle.std.proofs.lemmas.List.{map-append}
 use Rattle.bpf_model.specs.declared.limits.MapShape.{MapShape}
-use Rattle.bpf_model.specs.View.{MapView, new_map_view}
+use Rattle.bpf_model.specs.View.{MapView, new_map_view, shapes_of_maps}
 use Rattle.world_parts.specs.declared.loaded.Loaded.{Loaded}
 use Rattle.world_invariant.specs.Binding.{IsBoundTo}
-use Rattle.world.specs.Bound.{shapes_of_maps, IsBound, AreProgramsBound}
+use Rattle.world.specs.Bound.{IsBound, AreProgramsBound}
 use Rattle.bpf_model.proofs.Lists.{get-append, get-append_cases}
 
 -- Numbers that are found in a list are found in a longer one.

@@ -5,9 +5,9 @@ use Rattle.bpf_model.specs.declared.insn.Insn.{Insn}
 use Rattle.bpf_model.specs.declared.limits.MapShape.{MapShape}
 use Rattle.bpf_model.specs.declared.limits.TheConstants.{MAX_PROGRAMS}
 use Rattle.bpf_model.specs.Machine as machine
-use Rattle.bpf_model.specs.View.{new_map_view}
-use Rattle.maps.specs.Registry.{RegistryView, registry_code}
-use Rattle.world.specs.Bound.{shapes_of_maps, AreProgramsBound}
+use Rattle.bpf_model.specs.View.{new_map_view, shapes_of_maps}
+use Rattle.maps.specs.Registry.{RegistryView, no_maps, registry_code}
+use Rattle.world.specs.Bound.{AreProgramsBound}
 use Rattle.bpf_model.specs.Codes.{program_code}
 use Rattle.world_parts.specs.declared.loaded.Loaded.{Loaded}
 
@@ -33,7 +33,7 @@ pub record IsSetup (names : List (List ℕ)) (registry : RegistryView) (loaded :
   pub few : length loaded ≤ MAX_PROGRAMS
 
 abbrev pub no_maps_or_programs : SetupView
-no_maps_or_programs = record { registry = record { names = []; maps = [] }; programs = [] }
+no_maps_or_programs = record { registry = no_maps; programs = [] }
 
 abbrev pub shapes_made : SetupView → List MapShape
 shapes_made s = shapes_of_maps s.registry.maps

@@ -23,14 +23,14 @@ use Rattle.bpf_model.specs.declared.insn.Insn.TheVariants.{Store, Call}
 use Rattle.bpf_model.specs.Access.{byte_count}
 use Rattle.bpf_model.specs.Call.{helper_of, kernel_function_of}
 use Rattle.bpf_model.specs.Event.{key_refusal, update_refusal, start_refusal}
-use Rattle.bpf_model.specs.Machine.{Loaded}
+use Rattle.bpf_model.specs.Machine.{Loaded, lowest_free}
 use Rattle.bpf_model.specs.Schedule.{is_any}
 use Rattle.bpf_model.specs.Step.{insn_at}
 use Rattle.bpf_model.specs.View.{MapView, RunView, WorldView}
 use Rattle.model_laws.specs.Locations.{Location, InContext, InFrame, AtMap, InSlot}
 use Rattle.maps.specs.Counting.{unlinked_in}
 use Rattle.view_laws.specs.Views.{retired_slot, retired_key, deleted, filled_from, updated_by, shown_error, turned_view, slot_given_back, given_at, reaped_view}
-use Rattle.view_laws.specs.Reactions.{with_map, shape_shown, refused_as, delete_at, delete_reaction, update_at, update_reaction, read_at, read_reaction, advanced_by, advance_reaction, Pick, or_pick, first_pick, reap_by, reap_reaction, free_slot, start_by, start_reaction, run_shown, step_refused, drop_refused, drop_by, drop_reaction, step_by, reaction}
+use Rattle.view_laws.specs.Reactions.{with_map, shape_shown, refused_as, delete_at, delete_reaction, update_at, update_reaction, read_at, read_reaction, advanced_by, advance_reaction, Pick, or_pick, first_pick, reap_by, reap_reaction, start_by, start_reaction, run_shown, step_refused, drop_refused, drop_by, drop_reaction, step_by, reaction}
 use Rattle.world_laws.specs.Locating.{location_of}
 use Rattle.world_laws.specs.Moving.{word_in, operand_word, stored_slot, stored_at}
 use Rattle.world_laws.specs.Calling.{bytes_in, bound_number, serves, helped_on, helped, entered}
@@ -176,7 +176,7 @@ module _ (w : WorldView) where
   same-counts x y h k = subst (IsCountedOn w) (same_Some x y h) k
 
   reaction-counts : (event : Event) (x : Answer × WorldView) → reaction w event ≡ Some x → IsCountedOn w x
-  reaction-counts (events.Start prog ctx) x h = same-counts (start_reaction w prog ctx.items) x h (start-counts (start_refusal (slice_get w.programs prog) (length ctx.items) (free_slot w.runs)) (free_slot w.runs) prog ctx.items)
+  reaction-counts (events.Start prog ctx) x h = same-counts (start_reaction w prog ctx.items) x h (start-counts (start_refusal (slice_get w.programs prog) (length ctx.items) (lowest_free w.runs)) (lowest_free w.runs) prog ctx.items)
   reaction-counts (events.Step r) x h = step-counts (step_refused (run_shown (slice_get w.runs r))) x h
   reaction-counts (events.Update map key value flags) x h = same-counts (update_reaction w map key.items value.items flags) x h (update-counts (update_refusal (shape_shown (slice_get w.maps map)) (length key.items) (length value.items)) (slice_get w.maps map) map key.items value.items flags refl)
   reaction-counts (events.Delete map key) x h = same-counts (delete_reaction w map key.items) x h (delete-counts (key_refusal (shape_shown (slice_get w.maps map)) (length key.items)) (slice_get w.maps map) map key.items refl)

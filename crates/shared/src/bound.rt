@@ -1,10 +1,9 @@
 //! A shared world of one program, which is bound to all maps.
 ghost use Rattle.std.specs.Prelude.{◌≡◌, ◌<◌, ◌≤◌, ◌∷◌, [], length, map, vec_len, IfOk};
 ghost use Rattle.bpf_model.specs.declared.limits.TheConstants.{MAX_MAPS};
-ghost use Rattle.bpf_model.specs.View.{new_map_view};
+ghost use Rattle.bpf_model.specs.View.{new_map_view, shapes_of_maps};
 ghost use Rattle.journal_laws.specs.Replay.{HasNoRuns};
 ghost use Rattle.shared.specs.declared.worker.TheConstants.{MAX_WORKERS};
-ghost use Rattle.world.specs.Bound.{shapes_of_maps};
 ghost use Rattle.world_invariant.specs.Binding.{IsBoundTo};
 
 use crate::lock::Shared;

@@ -11,7 +11,23 @@ use std::sync::Wait;
 use std::sync::ledger::{Blank, Ledger};
 use std::test::Fail;
 use std::thread::Threads;
-use worker_pool::{Outcome, StopCause, run_jobs};
+use worker_pool::{Outcome, Report, StopCause, Trail, run_jobs};
+
+/// The first two jobs stop, each for its cause, and the third exits with its context's byte.
+fn two_stop<R: Abort>(rt: &R, report: &Report<Trail>) {
+    let causes = [EventRefusal::NoProgram, EventRefusal::BadContext];
+    for (one, refusal) in report.jobs.iter().zip(causes) {
+        let cause = StopCause::Refused(refusal);
+        assert!(rt; one.outcome == Outcome::Stopped { run: None, cause });
+        assert_eq!(rt; cause.code(), refusal.code());
+    }
+    assert!(rt;
+        report
+            .jobs
+            .get(2)
+            .is_some_and(|one| one.outcome == Outcome::Exit(7))
+    );
+}
 
 #[test]
 fn refusals(rt: HostRuntime) -> Result<(), Fail> {
@@ -35,18 +51,7 @@ fn refused<L: Ledger + Send + Sync, R: Threads + Wait + Abort + Sync>(
     jobs.push(job(0, &[7]))?;
     jobs.push(job(3, &[7]))?;
     let report = run_jobs(rt, alloc, &jobs, 2, &shared, &mut hands).expect(rt, "a report");
-    let causes = [EventRefusal::NoProgram, EventRefusal::BadContext];
-    for (one, refusal) in report.jobs.iter().zip(causes) {
-        let cause = StopCause::Refused(refusal);
-        assert!(rt; one.outcome == Outcome::Stopped { run: None, cause });
-        assert_eq!(rt; cause.code(), refusal.code());
-    }
-    assert!(rt;
-        report
-            .jobs
-            .get(2)
-            .is_some_and(|one| one.outcome == Outcome::Exit(7))
-    );
+    two_stop(rt, &report);
     for workers in [0, 3, 9] {
         match run_jobs(rt, alloc, &jobs, workers, &shared, &mut hands) {
             Ok(_) => return Err(Fail::from("a pool of a wrong number of workers")),

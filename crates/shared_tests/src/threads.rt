@@ -3,9 +3,9 @@ ghost use Rattle.std.specs.Prelude.{◌≡◌};
 
 use crate::making::{update, world_of};
 use crate::mixing::event_of;
-use bpf_model::Answer;
+use bpf_model::{Answer, Event};
 use journal::Journal;
-use shared::{Counters, Finished, Shared, Worker, is_quiet};
+use shared::{Counters, Finished, Shared, Worker, Workers, is_quiet};
 use std::alloc::{AllocError, Global};
 use std::marker::Brand;
 use std::process::Abort;
@@ -87,6 +87,27 @@ fn agrees(alloc: Global, journal: &Journal, log: &Log) -> Result<bool, AllocErro
     Ok(at == log.answers.len())
 }
 
+/// Whether the journal agrees with each of the logs.
+fn all_agree(alloc: Global, journal: &Journal, logs: &[Log]) -> Result<bool, AllocError> {
+    for log in logs {
+        if !agrees(alloc, journal, log)? {
+            return Ok(false);
+        }
+    }
+    Ok(true)
+}
+
+/// The journal's events, in order.
+fn events_in(alloc: Global, journal: &Journal) -> Result<Vec<Event>, AllocError> {
+    let mut events = Vec::new(alloc);
+    for index in 0..journal.len() {
+        if let Some(entry) = journal.entry(index) {
+            events.push(entry.event)?;
+        }
+    }
+    Ok(events)
+}
+
 /// Whether the base answers the journal's events as the journal says.
 fn replays(alloc: Global, finished: Finished) -> Result<bool, AllocError> {
     let Finished {
@@ -94,12 +115,7 @@ fn replays(alloc: Global, finished: Finished) -> Result<bool, AllocError> {
         world,
         journal,
     } = finished;
-    let mut events = Vec::new(alloc);
-    for index in 0..journal.len() {
-        if let Some(entry) = journal.entry(index) {
-            events.push(entry.event)?;
-        }
-    }
+    let events = events_in(alloc, &journal)?;
     let answers = base.run_all(alloc, &events)?;
     for (index, answer) in answers.iter().enumerate() {
         let Some(entry) = journal.entry(index) else {
@@ -110,6 +126,15 @@ fn replays(alloc: Global, finished: Finished) -> Result<bool, AllocError> {
         }
     }
     Ok(answers.len() == journal.len() && base.stat() == world.stat())
+}
+
+/// How many entries the workers have made.
+fn made_by<L: Ledger>(workers: &Workers<L>) -> u64 {
+    let mut sum = 0u64;
+    for worker in &workers.list {
+        sum = sum.saturating_add(worker.made());
+    }
+    sum
 }
 
 #[test]
@@ -150,20 +175,14 @@ fn eight<L: Ledger + Send + Sync, R: Threads + Wait + Abort + Sync>(
         || watch(rt, &mut counters),
     );
     assert!(rt; rises);
-    let mut sum = 0u64;
-    for worker in &workers.list {
-        sum = sum.saturating_add(worker.made());
-    }
-    assert_eq!(rt; sum, 8000);
+    assert_eq!(rt; made_by(&workers), 8000);
     assert!(rt; workers.list.len() == 8);
     let finished = shared.finish(workers);
     assert_eq!(rt; finished.journal.len(), 8000);
     assert_eq!(rt; finished.base.stat(), first);
     let all = logs.into_inner();
     assert_eq!(rt; all.len(), 8);
-    for log in &all {
-        assert!(rt; agrees(alloc, &finished.journal, log)?);
-    }
+    assert!(rt; all_agree(alloc, &finished.journal, &all)?);
     assert!(rt; replays(alloc, finished)?);
     Ok(())
 }

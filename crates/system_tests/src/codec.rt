@@ -291,6 +291,12 @@ fn each_flaw(rt: HostRuntime) -> Result<(), Fail> {
         let third = fault_of(rt.alloc(), &[0x1800_0000_0100_0000, 0, slot, EXIT])?;
         assert_eq!(rt; third, Some((number, Some(2))), "behind, at {slot}");
     }
+    Ok(())
+}
+
+/// The second slot of a wide instruction is missing, or has a number where it may have none.
+#[test]
+fn flawed_second_slots(rt: HostRuntime) -> Result<(), Fail> {
     for wide in [0x1800_0000_0000_0000, 0x1850_0000_0000_0000] {
         let cut = fault_of(rt.alloc(), &[EXIT, wide])?;
         assert_eq!(rt; cut, Some((11, Some(1))), "at {wide}");

@@ -1,10 +1,10 @@
 -- References to locations inside the limits, of which each near one has a word of its own.
-use Rattle.std.specs.Prelude.{◌≡◌, ℕ, ◌+◌, ◌<◌, List, Some, None, slice_get, slice_index}
+use Rattle.std.specs.Prelude.{◌≡◌, ℕ, ◌<◌, List, Some, None, slice_get, slice_index}
 use Rattle.bpf_model.specs.declared.value.Reference.{Reference}
 use Rattle.bpf_model.specs.declared.value.Reference.TheVariants.{Ctx, Frame, MapRef, Elem}
-use Rattle.bpf_model.specs.declared.limits.TheConstants.{MAX_MAPS, MAX_ENTRIES, MAX_SPARE}
+use Rattle.bpf_model.specs.declared.limits.TheConstants.{MAX_MAPS}
 use Rattle.bpf_model.specs.Element.{Element}
-use Rattle.bpf_model.specs.Word.{map_in}
+use Rattle.bpf_model.specs.Word.{map_in, most_slots}
 use Rattle.bpf_model.specs.Machine.{Run, Machine, run_at}
 use Rattle.typed_runs.specs.Describes.{AreNear}
 
@@ -14,7 +14,7 @@ IsWithinLimits slots es (Ctx o) = Unit {0}
 IsWithinLimits slots es (Frame o) = Unit {0}
 IsWithinLimits slots es (MapRef map) = map < MAX_MAPS
 IsWithinLimits slots es (Elem n o) =
-    (map_in (slice_get es n) < MAX_MAPS) × (slice_index slots n < MAX_ENTRIES + MAX_SPARE)
+    (map_in (slice_get es n) < MAX_MAPS) × (slice_index slots n < most_slots)
 
 -- all references of each run that hasn't ended are near
 abbrev pub IsNearMachine : Machine → Type 0

@@ -9,6 +9,7 @@ use Rattle.bpf_model.specs.Spelling.{slot_count}
 use Rattle.bpf_model.specs.Places.{StartsAt}
 use Rattle.bpf_model.specs.Graph.{falls, JumpsTo}
 use Rattle.bpf_model.specs.Step.{State, Environment, Outcome, Moves, Exits, after, entry, insn_at}
+use Rattle.bpf_model.specs.Consistent.{HasLengths}
 use Rattle.bpf_model.specs.Section.{Section, Has}
 use Rattle.bpf_model.specs.Element.{Element, IsLinkedAt}
 use Rattle.bpf_model.specs.MapState.{MapState, Store}
@@ -37,9 +38,7 @@ pub record Surrounds (shapes : List MapShape) (ctx_len : ℕ) (s : Store) (opene
   pub section : 0 < run.depth → Has opened (section_of run)
   pub single : (map : ℕ) (key : List ℕ) (a b : ℕ) → IsLinkedAt s.elements map key a →
       IsLinkedAt s.elements map key b → a ≡ b
-  pub sizes : (n : ℕ) (e : Element) → slice_get s.elements n ≡ Some e → (state : MapState)
-      × (slice_get s.maps e.map ≡ Some state) × (length e.key ≡ state.shape.key_len)
-      × (length e.value ≡ state.shape.value_len)
+  pub sizes : (n : ℕ) (e : Element) → slice_get s.elements n ≡ Some e → HasLengths s.maps e
   pub bytes : AllBytes s.elements
   pub bound : AreMapsBound shapes run.program.maps s.maps
   pub long : length run.context ≡ ctx_len

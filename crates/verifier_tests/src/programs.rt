@@ -333,6 +333,12 @@ fn small_programs(rt: HostRuntime) -> Result<(), Fail> {
             (lines, wanted)
         );
     }
+    Ok(())
+}
+
+#[test]
+fn small_programs_with_long_keys(rt: HostRuntime) -> Result<(), Fail> {
+    let alloc = rt.alloc();
     for row in &LONG_ROWS {
         let (lines, wanted) = (row.lines, row.told);
         assert_eq!(rt;

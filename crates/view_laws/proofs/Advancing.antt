@@ -12,7 +12,8 @@ use Rattle.view_laws.specs.Views.{turned_view}
 use Rattle.view_laws.specs.Reactions.{advanced_by, advance_reaction}
 use Rattle.view_laws.specs.Matching.{Matches, Simulates}
 use Rattle.view_laws.proofs.Listing.{named-turned}
-use Rattle.view_laws.proofs.Worlds.{oldest-none, steps}
+use Rattle.bpf_model.proofs.Cases.{oldest-none}
+use Rattle.view_laws.proofs.Worlds.{steps}
 
 stands-turned : (w : WorldView) (s : Schedule) (x : RefinesSchedule w s) (k : ℕ) (v : MapView) (m : MapState) (q : Queues) → MapRefines x.slots k s.machine.store.elements q v m → MapRefines x.slots k s.machine.store.elements (turned q) (turned_view v) m
 stands-turned w s x k v m q h = record {

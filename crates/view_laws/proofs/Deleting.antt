@@ -29,7 +29,8 @@ use Rattle.view_laws.proofs.Lists.{remove-same}
 use Rattle.view_laws.proofs.Changing.{changes-same}
 use Rattle.view_laws.proofs.Mapping.{unlinks, elements-retired}
 use Rattle.view_laws.proofs.Listing.{named-kept, between-more, between-one, between-other, more-none, more-one}
-use Rattle.view_laws.proofs.Worlds.{Here, here, Turns, turned-world, shapes-agree, awaited-same, oldest-none, refuses, steps}
+use Rattle.bpf_model.proofs.Cases.{oldest-none}
+use Rattle.view_laws.proofs.Worlds.{Here, here, Turns, turned-world, shapes-agree, awaited-same, refuses, steps}
 use Rattle.bpf_model.proofs.Lists.{length-set}
 
 -- births below n have the same slots

@@ -11,7 +11,7 @@ use Rattle.bpf_model.specs.declared.event.EventRefusal.{EventRefusal}
 use Rattle.bpf_model.specs.declared.event.Given.{Given}
 use Rattle.bpf_model.specs.declared.event.Given.TheVariants.{Free, Worn}
 use Rattle.bpf_model.specs.Element.{Element}
-use Rattle.bpf_model.specs.Machine.{Loaded, Run, run_in}
+use Rattle.bpf_model.specs.Machine.{Loaded, Run, run_in, lowest_free}
 use Rattle.bpf_model.specs.Event.{IsReal, if_ended, if_running, step_refusal, drop_refusal, refusal, key_refusal, update_refusal, start_refusal}
 use Rattle.bpf_model.specs.Schedule.{Schedule, is_any}
 use Rattle.bpf_model.specs.Drain.{AnswersAsScheduled}
@@ -19,7 +19,7 @@ use Rattle.bpf_model.specs.View.{shape_of_view as shape, MapView, RunView, World
 use Rattle.bpf_model.specs.Refines.{SlotRefines, TracksSchedule}
 use Rattle.model_laws.proofs.Reached.{tracked_is_scheduled}
 use Rattle.view_laws.specs.Views.{retired_slot, retired_key, deleted, filled_from, updated_by, updated, shown_error, turned_view, slot_given_back, given_at, reaped_view}
-use Rattle.view_laws.specs.Reactions.{with_map, shape_shown, refused_as, delete_at, delete_reaction, update_at, update_reaction, read_at, read_reaction, advanced_by, advance_reaction, Pick, or_pick, first_pick, reap_by, reap_reaction, free_slot, start_by, start_reaction, run_shown, step_refused, drop_refused, drop_by, drop_reaction, step_by, reaction}
+use Rattle.view_laws.specs.Reactions.{with_map, shape_shown, refused_as, delete_at, delete_reaction, update_at, update_reaction, read_at, read_reaction, advanced_by, advance_reaction, Pick, or_pick, first_pick, reap_by, reap_reaction, start_by, start_reaction, run_shown, step_refused, drop_refused, drop_by, drop_reaction, step_by, reaction}
 use Rattle.view_laws.specs.Matching.{Matches, Simulates}
 use Rattle.view_laws.proofs.Worlds.{refuses}
 use Rattle.view_laws.proofs.Deleting.{delete_simulates}
@@ -179,7 +179,7 @@ module _ (w : WorldView) where
   same-keeps x y h k = subst (λ (z : Answer × WorldView). Keeps w z.1) (same_Some x y h) k
 
   pub reaction_keeps : (event : Event) (x : Answer × WorldView) → reaction w event ≡ Some x → Keeps w x.1
-  reaction_keeps (events.Start prog ctx) x h = same-keeps (start_reaction w prog ctx.items) x h (start-keeps (start_refusal (slice_get w.programs prog) (length ctx.items) (free_slot w.runs)) (free_slot w.runs) prog ctx.items)
+  reaction_keeps (events.Start prog ctx) x h = same-keeps (start_reaction w prog ctx.items) x h (start-keeps (start_refusal (slice_get w.programs prog) (length ctx.items) (lowest_free w.runs)) (lowest_free w.runs) prog ctx.items)
   reaction_keeps (events.Step r) x h = step-keeps (step_refused (run_shown (slice_get w.runs r))) x h
   reaction_keeps (events.Update map key value flags) x h = same-keeps (update_reaction w map key.items value.items flags) x h (update-keeps (update_refusal (shape_shown (slice_get w.maps map)) (length key.items) (length value.items)) (slice_get w.maps map) map key.items value.items flags refl)
   reaction_keeps (events.Delete map key) x h = same-keeps (delete_reaction w map key.items) x h (delete-keeps (key_refusal (shape_shown (slice_get w.maps map)) (length key.items)) (slice_get w.maps map) map key.items refl)

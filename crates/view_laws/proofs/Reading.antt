@@ -15,7 +15,8 @@ use Rattle.bpf_model.specs.View.{MapView, WorldView, value_in}
 use Rattle.view_laws.specs.Views.{value_shown}
 use Rattle.view_laws.specs.Reactions.{shape_shown, read_at, read_reaction}
 use Rattle.view_laws.specs.Matching.{Matches, Simulates}
-use Rattle.view_laws.proofs.Worlds.{here, shapes-agree, oldest-none, unchanged, refuses}
+use Rattle.bpf_model.proofs.Cases.{oldest-none}
+use Rattle.view_laws.proofs.Worlds.{here, shapes-agree, unchanged, refuses}
 
 module _ (w : WorldView) (s : Schedule) (sim : Matches w s) (k : ℕ) (key : ArrayVec ℕ) where
   refusal-is : (r : Option EventRefusal) → key_refusal (shape_shown (slice_get w.maps k)) (length key.items) ≡ r → refusal s.machine (events.Read k key) ≡ r

@@ -23,7 +23,8 @@ use Rattle.view_laws.specs.Reactions.{Pick, or_pick, first_pick, with_reaped, re
 use Rattle.view_laws.specs.Matching.{Matches, Simulates}
 use Rattle.model_laws.proofs.Tallies.{count-set, one_of}
 use Rattle.view_laws.proofs.Mapping.{reclaims, elements-given}
-use Rattle.view_laws.proofs.Worlds.{Here, here, Turns, turned-world, oldest-none, steps}
+use Rattle.bpf_model.proofs.Cases.{oldest-none}
+use Rattle.view_laws.proofs.Worlds.{Here, here, Turns, turned-world, steps}
 use Rattle.bpf_model.proofs.Lists.{get-set_other, get-set_there, length-set}
 
 -- views and lists, side by side

@@ -25,7 +25,8 @@ use Rattle.bpf_model.specs.View.{RunView, WorldView}
 use Rattle.bpf_model.specs.Refines.{RunRefines, SlotRefines, RefinesSchedule}
 use Rattle.view_laws.specs.Reactions.{is_open_view, with_run, locked_view, unlocked_view}
 use Rattle.view_laws.specs.Matching.{Matches, Simulates, half}
-use Rattle.view_laws.proofs.Worlds.{oldest-none, retired-same, steps}
+use Rattle.bpf_model.proofs.Cases.{oldest-none}
+use Rattle.view_laws.proofs.Worlds.{retired-same, steps}
 use Rattle.bpf_model.proofs.Lists.{get-set_other, get-set_there, length-set, map-set}
 
 length-still : (a b : List Bool) → length a ≡ length b → length (still_open a b) ≡ length b

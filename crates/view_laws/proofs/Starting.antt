@@ -18,14 +18,15 @@ use Rattle.bpf_model.specs.Schedule.{Schedule, DoesScheduled}
 use Rattle.bpf_model.specs.Word.{WordIs, element_bases}
 use Rattle.bpf_model.specs.View.{RunView, WorldView}
 use Rattle.bpf_model.specs.Refines.{RunRefines, SlotRefines, RefinesSchedule}
-use Rattle.view_laws.specs.Reactions.{free_slot, fresh_view, with_run, start_by, start_reaction}
+use Rattle.view_laws.specs.Reactions.{fresh_view, with_run, start_by, start_reaction}
 use Rattle.view_laws.specs.Matching.{Matches, Simulates}
-use Rattle.view_laws.proofs.Worlds.{oldest-none, refuses, steps}
+use Rattle.bpf_model.proofs.Cases.{oldest-none}
+use Rattle.view_laws.proofs.Worlds.{refuses, steps}
 use Rattle.view_laws.proofs.Running.{run-changed, run-world, lists-same}
 
 -- the same slots are free
 module _ (slots : List ℕ) (es : List Element) (programs : List Loaded) where
-  free-agrees : (vs : List (Option RunView)) (runs : List (Option Run)) → ((r : ℕ) → SlotRefines slots es programs (slice_get vs r) (slice_get runs r)) → free_slot vs ≡ lowest_free runs
+  free-agrees : (vs : List (Option RunView)) (runs : List (Option Run)) → ((r : ℕ) → SlotRefines slots es programs (slice_get vs r) (slice_get runs r)) → lowest_free vs ≡ lowest_free runs
   free-agrees [] [] h = refl
   free-agrees [] (None ∷ runs) h = absurd (h 0)
   free-agrees [] (Some run ∷ runs) h = absurd (h 0)
@@ -72,15 +73,10 @@ plus-one : (o : Option ℕ) (r : ℕ) → option_map (λ r. r + 1) o ≡ Some r 
 plus-one None r h = absurd (none-some r h)
 plus-one (Some q) r h = (q, refl, let e : q + 1 ≡ r = same_Some (q + 1) r h in omega arith)
 
-free-view : (vs : List (Option RunView)) (r : ℕ) → free_slot vs ≡ Some r → slice_get vs r ≡ Some None
-free-view [] r h = absurd (none-some r h)
-free-view (None ∷ vs) r h = ap (slice_get (None ∷ vs)) (sym (same_Some 0 r h))
-free-view (Some v ∷ vs) r h = let q = plus-one (free_slot vs) r h in ap (slice_get (Some v ∷ vs)) q.2 ∙ free-view vs q.0 q.1
-
-free-run : (runs : List (Option Run)) (r : ℕ) → lowest_free runs ≡ Some r → slice_get runs r ≡ Some None
-free-run [] r h = absurd (none-some r h)
-free-run (None ∷ runs) r h = ap (slice_get (None ∷ runs)) (sym (same_Some 0 r h))
-free-run (Some v ∷ runs) r h = let q = plus-one (lowest_free runs) r h in ap (slice_get (Some v ∷ runs)) q.2 ∙ free-run runs q.0 q.1
+free-there : {A : Type 0} (runs : List (Option A)) (r : ℕ) → lowest_free runs ≡ Some r → slice_get runs r ≡ Some None
+free-there [] r h = absurd (none-some r h)
+free-there (None ∷ runs) r h = ap (slice_get (None ∷ runs)) (sym (same_Some 0 r h))
+free-there (Some v ∷ runs) r h = let q = plus-one (lowest_free runs) r h in ap (slice_get (Some v ∷ runs)) q.2 ∙ free-there runs q.0 q.1
 
 is-there : (o : Option Loaded) (len : ℕ) (free : Option ℕ) → start_refusal o len free ≡ None → (program : Loaded) × (o ≡ Some program)
 is-there None len free h = absurd (none-some NoProgram (sym h))
@@ -90,13 +86,13 @@ module _ (w : WorldView) (s : Schedule) (sim : Matches w s) (prog : ℕ) (ctx : 
   abbrev x : RefinesSchedule w s
   x = sim.refines
 
-  agrees : free_slot w.runs ≡ lowest_free s.machine.runs
+  agrees : lowest_free w.runs ≡ lowest_free s.machine.runs
   agrees = free-agrees x.slots s.machine.store.elements s.machine.programs w.runs s.machine.runs x.runs
 
-  refusal-is : (r : Option EventRefusal) → start_refusal (slice_get w.programs prog) (length ctx.items) (free_slot w.runs) ≡ r → refusal s.machine (events.Start prog ctx) ≡ r
+  refusal-is : (r : Option EventRefusal) → start_refusal (slice_get w.programs prog) (length ctx.items) (lowest_free w.runs) ≡ r → refusal s.machine (events.Start prog ctx) ≡ r
   refusal-is r e = ap (λ l. start_refusal (slice_get l prog) (length ctx.items) (lowest_free s.machine.runs)) (sym x.programs) ∙ (ap (start_refusal (slice_get w.programs prog) (length ctx.items)) (sym agrees) ∙ e)
 
-  by : (r : Option EventRefusal) (o : Option ℕ) → start_refusal (slice_get w.programs prog) (length ctx.items) (free_slot w.runs) ≡ r → free_slot w.runs ≡ o → Simulates s (events.Start prog ctx) (start_by r o w prog ctx.items)
+  by : (r : Option EventRefusal) (o : Option ℕ) → start_refusal (slice_get w.programs prog) (length ctx.items) (lowest_free w.runs) ≡ r → lowest_free w.runs ≡ o → Simulates s (events.Start prog ctx) (start_by r o w prog ctx.items)
   by (Some r) o e free = record { next = s; does = refuses w s x sim.scheduled r (events.Start prog ctx) (refusal-is (Some r) e); matches = sim }
   by None None e free = absurd (full (slice_get w.programs prog) (length ctx.items) (ap (start_refusal (slice_get w.programs prog) (length ctx.items)) (sym free) ∙ e))
     where
@@ -104,7 +100,7 @@ module _ (w : WorldView) (s : Schedule) (sim : Matches w s) (prog : ℕ) (ctx : 
       full None len h = none-some NoProgram (sym h)
       full (Some program) len h = none-if (len == program.context_len) h
   by None (Some r) e free =
-      let p = is-there (slice_get w.programs prog) (length ctx.items) (free_slot w.runs) e in
+      let p = is-there (slice_get w.programs prog) (length ctx.items) (lowest_free w.runs) e in
       let there : slice_get s.machine.programs prog ≡ Some p.0 = ap (λ l. slice_get l prog) (sym x.programs) ∙ p.1 in
       let lowest : lowest_free s.machine.runs ≡ Some r = sym agrees ∙ free in
       let run : Run = fresh_run s.machine.started p.0 ctx.items in
@@ -119,8 +115,8 @@ module _ (w : WorldView) (s : Schedule) (sim : Matches w s) (prog : ℕ) (ctx : 
         next = t;
         does = does;
         matches = steps (with_run r (Some (fresh_view prog ctx.items)) w) s t (events.Start prog ctx) (Started r) sim.scheduled does
-            (run-world w s x r None None (Some (fresh_view prog ctx.items)) (Some run) (s.machine.started + 1) (free-view w.runs r free) (free-run s.machine.runs r lowest) (fresh-refines x.slots s.machine.store.elements s.machine.programs prog p.0 ctx.items s.machine.started there));
+            (run-world w s x r None None (Some (fresh_view prog ctx.items)) (Some run) (s.machine.started + 1) (free-there w.runs r free) (free-there s.machine.runs r lowest) (fresh-refines x.slots s.machine.store.elements s.machine.programs prog p.0 ctx.items s.machine.started there));
       }
 
   pub start_simulates : Simulates s (events.Start prog ctx) (start_reaction w prog ctx.items)
-  start_simulates = by (start_refusal (slice_get w.programs prog) (length ctx.items) (free_slot w.runs)) (free_slot w.runs) refl refl
+  start_simulates = by (start_refusal (slice_get w.programs prog) (length ctx.items) (lowest_free w.runs)) (lowest_free w.runs) refl refl

@@ -20,7 +20,8 @@ use Rattle.view_laws.specs.Matching.{Matches, half, StoresHalf}
 use Rattle.view_laws.proofs.Lists.{map-same}
 use Rattle.view_laws.proofs.Changing.{link-written, link-unwritten, count-written, changes-value}
 use Rattle.view_laws.proofs.Listing.{between-value, more-none}
-use Rattle.view_laws.proofs.Worlds.{Here, here, Turns, turned-world, oldest-none}
+use Rattle.bpf_model.proofs.Cases.{oldest-none}
+use Rattle.view_laws.proofs.Worlds.{Here, here, Turns, turned-world}
 use Rattle.bpf_model.proofs.Lists.{get-set_cases, get-set_other, get-set_there, length-set}
 
 -- an element that may be accessed is not reclaimed

@@ -28,7 +28,8 @@ use Rattle.view_laws.proofs.Changing.{Changes}
 use Rattle.view_laws.proofs.Lists.{map-same, index-append, stands-in}
 use Rattle.view_laws.proofs.Changing.{changes-trans, changes-born}
 use Rattle.view_laws.proofs.Mapping.{elements-born, slots-born}
-use Rattle.view_laws.proofs.Worlds.{Here, Turns, turned-world, shapes-agree, awaited-same, oldest-none, refuses, unchanged, retired-same, steps}
+use Rattle.bpf_model.proofs.Cases.{oldest-none}
+use Rattle.view_laws.proofs.Worlds.{Here, Turns, turned-world, shapes-agree, awaited-same, refuses, unchanged, retired-same, steps}
 use Rattle.view_laws.proofs.Deleting.{Dropped, h, drop, lists-left, lists-others}
 use Rattle.model_laws.proofs.Choices.{last-false}
 use Rattle.bpf_model.proofs.Lists.{get-append_last, get-set_other, get-set_there, length-set, set-same}

@@ -2,7 +2,7 @@
 use Rattle.std.proofs.Common.{◌≡◌, ◌≢◌, ◌∙◌, ℕ, suc, ◌<◌, List, [], ◌∷◌, map, length, Option, Some, None, inl, inr, refl, sym, ap, arith, Bool, subst}
 use Rattle.std.specs.Prelude.{slice_get, slice_set, count_by}
 use Rattle.std.proofs.lemmas.Option.{none-some, same_Some, slice_get_within}
-use Rattle.bpf_model.proofs.Cases.{option_cases}
+use Rattle.bpf_model.proofs.Cases.{option_cases, oldest-none}
 use Rattle.bpf_model.specs.declared.event.Event.{Event}
 use Rattle.bpf_model.specs.declared.event.Event.TheVariants as events
 use Rattle.bpf_model.specs.declared.event.Answer.{Answer}
@@ -12,7 +12,7 @@ use Rattle.bpf_model.specs.Element.{Element, is_reclaimed}
 use Rattle.bpf_model.specs.MapState.{MapState, Store, shape_in, shape_of}
 use Rattle.bpf_model.specs.Machine.{with_store}
 use Rattle.bpf_model.specs.Event.{Answers, refusal}
-use Rattle.bpf_model.specs.Schedule.{Queues, Schedule, open_flags, still_open, retired, scheduled, TakesOldest, TakesFirst, DoesScheduled}
+use Rattle.bpf_model.specs.Schedule.{Queues, Schedule, open_flags, still_open, retired, scheduled, TakesFirst, DoesScheduled}
 use Rattle.model_laws.specs.Scheduled.{IsScheduled}
 use Rattle.model_laws.proofs.Scheduling.{stays_scheduled}
 use Rattle.bpf_model.specs.View.{MapView, WorldView}
@@ -66,9 +66,6 @@ awaited-same w s x i = still-same s.awaited (open_flags s.machine.runs) x.flags 
 pub retired-same : (k : ℕ) (es : List Element) (qs : List Queues) → retired k es es qs ≡ qs
 retired-same k es [] = refl
 retired-same k es (q ∷ qs) = ap (λ x. x ∷ retired (suc k) es es qs) (more-none k es es q (between-same k 0 es)) ∙ ap (λ l. q ∷ l) (retired-same (suc k) es qs)
-
-pub oldest-none : (old new : Store) → length new.elements ≡ length old.elements → TakesOldest old new
-oldest-none old new same e before after at h g = let z : length old.elements < length new.elements = slice_get_within new.elements (length old.elements) e at in absurd (omega arith)
 
 -- the schedule where nothing changed
 pub unchanged : (w : WorldView) (s : Schedule) → RefinesSchedule w s → IsScheduled s → s ≡ record { machine = s.machine; queues = retired 0 s.machine.store.elements s.machine.store.elements s.queues; awaited = still_open s.awaited (open_flags s.machine.runs) }

@@ -2,7 +2,6 @@
 -- the answer, and the view after it.
 use Rattle.std.specs.Prelude.{ℕ, suc, ◌+◌, ◌-◌, nat_lt, Bool, true, false, List, [], ◌∷◌, Option}
 use Rattle.std.specs.Prelude.{Some, None, slice_get, slice_set, length, map, replicate}
-use Rattle.std.specs.Option.{option_map}
 use Rattle.bpf_model.specs.declared.limits.MapShape.{MapShape}
 use Rattle.bpf_model.specs.declared.limits.TheConstants.{FRAME_BYTES}
 use Rattle.bpf_model.specs.declared.event.Event.{Event}
@@ -16,6 +15,7 @@ use Rattle.bpf_model.specs.Event.{start_refusal, if_ended, if_running, key_refus
 use Rattle.bpf_model.specs.Schedule.{is_any, still_open}
 use Rattle.bpf_model.specs.Word.{ctx_base, frame_base}
 use Rattle.bpf_model.specs.View.{MapView, RunView, WorldView, key_in}
+use Rattle.bpf_model.specs.Machine.{lowest_free}
 use Rattle.view_laws.specs.Views.{value_read, deleted, updated, turned_view, given_at, reaped_view}
 
 -- Map k has another view.
@@ -172,12 +172,7 @@ unlocked_view v = record {
   exit = v.exit;
 }
 
--- A start takes the lowest free run slot.
-abbrev pub free_slot : List (Option RunView) → Option ℕ
-free_slot [] = None
-free_slot (None ∷ runs) = Some 0
-free_slot (Some v ∷ runs) = option_map (λ r. r + 1) (free_slot runs)
-
+-- a run before its first instruction, as a world shows it
 abbrev pub fresh_view : ℕ → List ℕ → RunView
 fresh_view prog context = record {
   program = prog;
@@ -190,6 +185,7 @@ fresh_view prog context = record {
   exit = None;
 }
 
+-- A start takes the lowest free run slot.
 abbrev pub start_by : Option EventRefusal → Option ℕ → WorldView → ℕ → List ℕ → Answer × WorldView
 start_by (Some refusal) o w prog context = refused_as refusal w
 start_by None None w prog context = refused_as RunsFull w
@@ -197,8 +193,8 @@ start_by None (Some r) w prog context = (Started r, with_run r (Some (fresh_view
 
 abbrev pub start_reaction : WorldView → ℕ → List ℕ → Answer × WorldView
 start_reaction w prog context =
-    start_by (start_refusal (slice_get w.programs prog) (length context) (free_slot w.runs))
-    (free_slot w.runs) w prog context
+    start_by (start_refusal (slice_get w.programs prog) (length context) (lowest_free w.runs))
+    (lowest_free w.runs) w prog context
 
 -- A step or a drop is refused by what the run slot shows.
 abbrev pub run_shown : Option (Option RunView) → Option RunView

@@ -1,23 +1,17 @@
 -- The jobs that a pool is given, and what their outcomes say of the program.
 use Rattle.std.specs.Prelude.{◌≡◌, ◌⊎◌, ◌<◌, ℕ, List, map, replicate, ⊤}
 use Rattle.bpf_model.specs.declared.insn.Insn.{Insn}
-use Rattle.bpf_model.specs.declared.limits.MapShape.{MapShape}
 use Rattle.bpf_model.specs.Exit.{HasNoMaps}
 use Rattle.exit_laws.specs.Exits.{MayExitAs, ExitsAs}
 use Rattle.job_queue.specs.declared.fault.PoolFault.{PoolFault}
 use Rattle.job_queue.specs.declared.fault.PoolFault.TheVariants.{BadWorkers, TooManyJobs, Memory}
 use Rattle.job_queue.specs.declared.fault.PoolFault.TheVariants.{Lost}
 use Rattle.job_queue.specs.declared.pool.TheConstants.{MAX_JOBS, MAX_WORKERS}
-use Rattle.maps.specs.Registry.{RegistryView}
 use Rattle.worker_pool.specs.declared.job.Job.{Job}
 use Rattle.worker_pool.specs.declared.job.JobReport.{JobReport}
 use Rattle.worker_pool.specs.declared.job.Outcome.{Outcome}
 use Rattle.worker_pool.specs.declared.job.Outcome.TheVariants.{Exit, Stopped}
 use Rattle.worker_pool.specs.declared.job.Trail.{Trail}
-
--- the shapes of a registry's maps, by their numbers
-abbrev pub registry_shapes : RegistryView → List MapShape
-registry_shapes registry = map (λ m. m.shape) registry.maps
 
 -- The fault is one of so many workers and jobs, or of memory or a result.
 abbrev pub IsFaultOf : ℕ → ℕ → PoolFault → Type 0

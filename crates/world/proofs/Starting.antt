@@ -7,7 +7,7 @@ use Rattle.bpf_model.specs.Machine as machine
 use Rattle.bpf_model.specs.MapState.{AreShapes, new_map}
 use Rattle.bpf_model.specs.Refines.{TracksSchedule}
 use Rattle.bpf_model.specs.Schedule.{start_schedule}
-use Rattle.bpf_model.specs.View.{MapView, WorldView, new_map_view, start_view}
+use Rattle.bpf_model.specs.View.{MapView, WorldView, new_map_view, start_view, shapes_of_maps}
 use Rattle.model_laws.proofs.Counting.{map-back}
 use Rattle.model_laws.proofs.Starting.{start_tracked}
 use Rattle.typed_runs.specs.Verified.{IsVerified}
@@ -18,7 +18,7 @@ use Rattle.world_parts.specs.Programs.{program_of}
 use Rattle.world_invariant.specs.Invariant.{IsWorld}
 use Rattle.world_invariant.proofs.Binding.{bound_is_verified}
 use Rattle.world_invariant.proofs.Keeping.{start_is_world}
-use Rattle.world.specs.Bound.{shapes_of_maps, programs_in, AreProgramsBound}
+use Rattle.world.specs.Bound.{programs_in, AreProgramsBound}
 
 -- What is known of the parts of a new world before it is made.
 pub record IsSafe (maps : List MapView) (loaded : List Loaded) : Type 0 where

@@ -2,14 +2,9 @@
 use Rattle.std.specs.Prelude.{◌≡◌, ℕ, ◌<◌, List, Some, map, slice_get}
 use Rattle.bpf_model.specs.declared.limits.MapShape.{MapShape}
 use Rattle.bpf_model.specs.Machine as machine
-use Rattle.bpf_model.specs.View.{MapView}
 use Rattle.world_invariant.specs.Binding.{IsBoundTo}
 use Rattle.world_parts.specs.declared.loaded.Loaded.{Loaded}
 use Rattle.world_parts.specs.Programs.{program_of}
-
--- the shapes of maps
-abbrev pub shapes_of_maps : List MapView → List MapShape
-shapes_of_maps maps = map (λ v. v.shape) maps
 
 -- the programs as a world shows them
 abbrev pub programs_in : List Loaded → List machine.Loaded

@@ -2,12 +2,13 @@
 ghost use Rattle.std.specs.Prelude.{◌≡◌, ◌≤◌, ◌↔◌, ℕ, length, IsTrue, IfSome, IfNone, Some, slice_get};
 ghost use Rattle.bpf_model.specs.declared.limits.TheConstants.{MAX_MAPS};
 ghost use Rattle.bpf_model.specs.MapState.{AreShapes};
+ghost use Rattle.bpf_model.specs.View.{shapes_of_maps};
 ghost use Rattle.typed_runs.specs.Verified.{IsVerified};
 ghost use Rattle.world_laws.specs.Typed.{IsTypedProgram};
 ghost use Rattle.world_invariant.specs.Binding.{IsBoundTo};
 ghost use Rattle.world_parts.specs.declared.loaded.Loaded.{Loaded};
 ghost use Rattle.world_parts.specs.Programs.{program_of};
-ghost use Rattle.world.specs.Bound.{shapes_of_maps, AreProgramsBound, IsFirstUnbound};
+ghost use Rattle.world.specs.Bound.{AreProgramsBound, IsFirstUnbound};
 
 use bpf_model::{MapId, MapShape, ProgId};
 use maps::Registry;

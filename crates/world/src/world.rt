@@ -3,9 +3,9 @@ ghost use Rattle.std.specs.Prelude.{◌≡◌, ◌⊎◌, ◌<◌, ◌≤◌, �
 ghost use Rattle.bpf_model.specs.declared.limits.TheConstants.{MAX_PROGRAMS};
 ghost use Rattle.bpf_model.specs.Refines.{TracksSchedule};
 ghost use Rattle.bpf_model.specs.Schedule.{start_schedule};
-ghost use Rattle.bpf_model.specs.View.{new_map_view, start_view};
+ghost use Rattle.bpf_model.specs.View.{new_map_view, start_view, shapes_of_maps};
 ghost use Rattle.world_invariant.specs.Invariant.{IsWorld};
-ghost use Rattle.world.specs.Bound.{shapes_of_maps, programs_in, AreProgramsBound, IsFirstUnbound};
+ghost use Rattle.world.specs.Bound.{programs_in, AreProgramsBound, IsFirstUnbound};
 
 use crate::binding::{certify_maps, certify_programs, first_unbound};
 use crate::fault::WorldFault;

@@ -3,11 +3,11 @@ ghost use Rattle.std.specs.Prelude.{◌≡◌, ◌<◌, ◌≤◌};
 ghost use Rattle.shared.specs.declared.worker.TheConstants.{MAX_WORKERS};
 
 use crate::activity::{Activity, Deed, Stepped, small};
-use crate::decimal::{Decimal, quotient};
 use crate::sequence::Sequence;
 use crate::setup::{key_of, make_world};
 use anyhow::{Result, bail};
 use bpf_model::{Answer, CtxBytes, Event, MapId, ProgId, RunId};
+use measurements::{Decimal, quotient};
 use shared::{Shared, Worker, is_quiet};
 use std::alloc::Global;
 use std::rt::Clock;

@@ -1,11 +1,11 @@
 //! Lines of a script.
 
-use crate::decimal::{Decimal, quotient};
 use crate::programs::arithmetic;
 use anyhow::{Result, bail};
 use asm::assemble;
 use control::run_script;
 use insn_codec::encode;
+use measurements::{Decimal, quotient};
 use std::alloc::Global;
 use std::fmt::Write as _;
 use std::io;

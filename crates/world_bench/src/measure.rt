@@ -1,10 +1,10 @@
 //! How long a world's answers take.
 ghost use Rattle.std.specs.Prelude.{◌<◌};
 
-use crate::decimal::{Decimal, quotient};
 use crate::setup::Setup;
 use crate::tally::Tally;
 use anyhow::{Result, ensure};
+use measurements::{Decimal, quotient};
 use std::rt::Clock;
 use std::time::{Duration, Instant};
 

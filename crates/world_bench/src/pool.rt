@@ -3,10 +3,10 @@ ghost use Rattle.std.specs.Prelude.{◌≡◌, ◌<◌, ◌≤◌};
 ghost use Rattle.shared.specs.declared.worker.TheConstants.{MAX_WORKERS};
 
 use crate::activity::{Activity, Deed, Stepped, small};
-use crate::decimal::{Decimal, quotient};
 use crate::setup::make_world;
 use anyhow::{Result, bail};
 use bpf_model::{CtxBytes, ProgId};
+use measurements::{Decimal, quotient};
 use shared::{Shared, Workers, is_quiet};
 use std::alloc::{AllocError, Global};
 use std::rt::Clock;

@@ -1,6 +1,5 @@
 //! The lines that the program prints.
 
-use crate::decimal::Decimal;
 use crate::tally::Tally;
 use std::alloc::{AllocError, Global};
 
@@ -17,12 +16,4 @@ pub fn answers_line(alloc: Global, name: &str, tally: &Tally) -> Result<String, 
         tally.other,
         tally.sum
     )
-}
-
-/// The line of a measurement: its name, and the number with two decimal places.
-pub fn measurement_line(alloc: Global, name: &str, value: Decimal) -> Result<String, AllocError> {
-    let whole = value.whole;
-    let tenths = value.hundredths / 10;
-    let hundredths = value.hundredths % 10;
-    format!(in alloc; "{name} {whole}.{tenths}{hundredths}")
 }

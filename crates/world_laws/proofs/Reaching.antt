@@ -103,7 +103,7 @@ module _ (w : WorldView) (s : Schedule) (m : Matches w s) where
 
 module _ (w : WorldView) (s : Schedule) (m : Matches w s) (sound : IsSound w s) (r : ℕ) (run : Run) (v : RunView) (k : IsRunning w s r run v) where
   inside-of : (len width at : ℕ) (z : ℤ) → region_offset len width z ≡ Some at → IsInside len width z
-  inside-of len width at z e = let p = offset_some len width z at e in record { at = at; place = p.0; inside = p.1 }
+  inside-of len width at z e = let p = offset_some len width z at e in record { at = at; at_is = p.0; inside = p.1 }
 
   slot-reaches : (width n x at : ℕ) (o offset : ℤ) (e : Element) → accessible s.machine.store.elements n ≡ Some e → region_offset (length e.value) width (o +ℤ offset) ≡ Some at → WordIs (bases w s m sound r run v k) (Pointer (Elem n o)) x → IsNear (Pointer (Elem n o)) →
       Reaches w v width offset (location_of x) × IsWritable (location_of x)

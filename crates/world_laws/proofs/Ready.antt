@@ -26,7 +26,7 @@ use Rattle.bpf_model.specs.Schedule.{Schedule}
 use Rattle.bpf_model.specs.Step.{State, insn_at}
 use Rattle.bpf_model.specs.View.{RunView, WorldView}
 use Rattle.bpf_model.specs.Word.{IsReferenceWord, WordIs, ByteIs, element_bases}
-use Rattle.model_laws.specs.Alone.{HoldsValue}
+use Rattle.bpf_model.specs.Holds.{HoldsValue}
 use Rattle.typed_runs.specs.Describes.{scene_of, AreNear}
 use Rattle.typed_runs.proofs.Reaching.{surrounds}
 use Rattle.view_laws.specs.Matching.{Matches, Simulates, half}

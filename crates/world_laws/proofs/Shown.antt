@@ -9,11 +9,10 @@ use Rattle.bpf_model.specs.MapState.{IsShape, AreShapes}
 use Rattle.bpf_model.specs.Schedule.{Schedule}
 use Rattle.bpf_model.specs.View.{MapView, WorldView, shapes_of}
 use Rattle.bpf_model.specs.Refines.{slot_view, RefinesSchedule}
-use Rattle.bpf_model.specs.Word.{element_bases, map_in, slot_base}
+use Rattle.bpf_model.specs.Word.{element_bases, map_in, slot_base, most_slots}
 use Rattle.typed_runs.specs.Describes.{Scene, IsHeld}
 use Rattle.typed_runs.specs.Well.{IsWell}
 use Rattle.view_laws.proofs.Worlds.{here}
-use Rattle.world_laws.specs.Locating.{most_slots}
 use Rattle.typed_runs.proofs.Elements.{unreclaimed}
 use Rattle.bpf_model.proofs.Lists.{get-below}
 

@@ -5,8 +5,8 @@ use Rattle.std.proofs.Math.Bool.{and-false}
 use Rattle.bpf_model.specs.Schedule.{still_open}
 
 -- what is awaited is open
-abbrev pub IsInside : List Bool → List Bool → Type 0
-IsInside awaited opened = (r : ℕ) → slice_get awaited r ≡ Some true → slice_get opened r ≡ Some true
+abbrev pub AwaitsOpen : List Bool → List Bool → Type 0
+AwaitsOpen awaited opened = (r : ℕ) → slice_get awaited r ≡ Some true → slice_get opened r ≡ Some true
 
 and-of : (a b : Bool) → (a ≡ true → b ≡ true) → (a && b) ≡ a
 and-of true b h = h refl
@@ -16,7 +16,7 @@ flag-of : (a b : Bool) → (Some a ≡ Some true → Some b ≡ Some true) → a
 flag-of a b h e = let g : Some b ≡ Some true = h (ap (λ x. Some x) e) in cc
 
 -- all that is awaited stays so, rest long rest it is open
-pub still-all : (awaited opened : List Bool) → length awaited ≡ length opened → IsInside awaited opened → still_open awaited opened ≡ awaited
+pub still-all : (awaited opened : List Bool) → length awaited ≡ length opened → AwaitsOpen awaited opened → still_open awaited opened ≡ awaited
 still-all [] later n h = refl
 still-all (a ∷ rest) [] n h = absurd (omega arith)
 still-all (a ∷ rest) (o ∷ later) n h =
@@ -25,7 +25,7 @@ still-all (a ∷ rest) (o ∷ later) n h =
     cc
 
 -- a run slot whose flag is cleared is awaited no more
-pub still-cleared : (awaited opened : List Bool) (r : ℕ) → length awaited ≡ length opened → IsInside awaited opened → still_open awaited (slice_set opened r false) ≡ slice_set awaited r false
+pub still-cleared : (awaited opened : List Bool) (r : ℕ) → length awaited ≡ length opened → AwaitsOpen awaited opened → still_open awaited (slice_set opened r false) ≡ slice_set awaited r false
 still-cleared [] later r n h = refl
 still-cleared (a ∷ rest) [] r n h = absurd (omega arith)
 still-cleared (a ∷ rest) (o ∷ later) zero n h =

@@ -11,7 +11,7 @@ use Rattle.bpf_model.specs.Machine as machine
 use Rattle.bpf_model.specs.View.{MapView, RunView, WorldView}
 use Rattle.element_arena.proofs.Views.{map-set_same}
 use Rattle.grace_period.specs.State.{GraceState, IsGrace}
-use Rattle.view_laws.specs.Reactions.{with_run, fresh_view, start_by, start_reaction, free_slot}
+use Rattle.view_laws.specs.Reactions.{with_run, fresh_view, start_by, start_reaction}
 use Rattle.machine.specs.RunWords.{RunWords, IsAt}
 use Rattle.world_parts.specs.declared.loaded.Loaded.{Loaded}
 use Rattle.world_parts.specs.Programs.{program_of}
@@ -19,6 +19,7 @@ use Rattle.world_parts.specs.Keeping.{view_of, is_run_inside, IsOfProgram, AreRu
 use Rattle.world_parts.proofs.Flags.{still-all, still-cleared}
 use Rattle.world_parts.proofs.Slots.{Runs, written}
 use Rattle.bpf_model.proofs.Lists.{length-set, map-set, set-same}
+use Rattle.bpf_model.specs.Machine.{lowest_free}
 
 same_world : (maps : List MapView) (programs : List machine.Loaded) (given : ℕ) (rs qs : List (Option RunView)) (os ps cs bs : List Bool) → rs ≡ qs → os ≡ ps → cs ≡ bs →
     let a : WorldView = record { maps = maps; runs = rs; opened = os; awaited = cs; programs = programs; given = given } in
@@ -73,19 +74,19 @@ module _ (maps : List MapView) (runs : Runs) (grace : GraceState) (programs : Li
       (sym (still-all grace.awaited grace.opened (sound.awaited ∙ sym sound.opened) sound.inside) ∙ ap (still_open grace.awaited) (sym started-opened))
 
 -- a start that neither the program nor the context refuses
-pub start-goes : (w : WorldView) (prog : ℕ) (context : List ℕ) (program : machine.Loaded) (o : Option ℕ) → slice_get w.programs prog ≡ Some program → length context ≡ program.context_len → free_slot w.runs ≡ o → start_reaction w prog context ≡ start_by (if_full o) o w prog context
+pub start-goes : (w : WorldView) (prog : ℕ) (context : List ℕ) (program : machine.Loaded) (o : Option ℕ) → slice_get w.programs prog ≡ Some program → length context ≡ program.context_len → lowest_free w.runs ≡ o → start_reaction w prog context ≡ start_by (if_full o) o w prog context
 start-goes w prog context program o there long free =
-    ap (λ p. start_by (start_refusal p (length context) (free_slot w.runs)) (free_slot w.runs) w prog context) there
-    ∙ (ap (λ z. start_by (cond z (if_full (free_slot w.runs)) (Some BadContext)) (free_slot w.runs) w prog context) (eq-eqb (length context) program.context_len long)
+    ap (λ p. start_by (start_refusal p (length context) (lowest_free w.runs)) (lowest_free w.runs) w prog context) there
+    ∙ (ap (λ z. start_by (cond z (if_full (lowest_free w.runs)) (Some BadContext)) (lowest_free w.runs) w prog context) (eq-eqb (length context) program.context_len long)
     ∙ ap (λ f. start_by (if_full f) f w prog context) free)
 
 pub started : (maps : List MapView) (runs : Runs) (grace : GraceState) (programs : List Loaded) (given prog : ℕ) (context : List ℕ) (program : Loaded) (o : Option ℕ) (w : WorldView) → world_of maps runs grace programs given ≡ w →
-    slice_get programs prog ≡ Some program → length context ≡ program.verified.ctx_len → o ≡ free_slot (map view_of runs) → start_reaction w prog context ≡ start_by (if_full o) o w prog context
+    slice_get programs prog ≡ Some program → length context ≡ program.verified.ctx_len → o ≡ lowest_free (map view_of runs) → start_reaction w prog context ≡ start_by (if_full o) o w prog context
 started maps runs grace programs given prog context program o w e there long free =
     start-goes w prog context (program_of program) o
     (ap (λ (z : WorldView). slice_get z.programs prog) (sym e) ∙ (slice_get-map program_of programs prog ∙ ap (option_map program_of) there))
     long
-    (ap (λ (z : WorldView). free_slot z.runs) (sym e) ∙ sym free)
+    (ap (λ (z : WorldView). lowest_free z.runs) (sym e) ∙ sym free)
 
 none-in : {A : Type 0} (n r : ℕ) (x : A) → slice_get (replicate n None) r ≡ Some (Some x) → ⊥
 none-in zero r x e = none-some (Some x) e

@@ -3,9 +3,9 @@ use Rattle.std.proofs.Common.{◌≡◌, ◌∙◌, ℕ, zero, suc, ◌+◌, ◌
 use Rattle.std.specs.Prelude.{slice_get, slice_set, map, option_map, is_some}
 use Rattle.std.proofs.lemmas.Bool.{false≢true}
 use Rattle.std.proofs.lemmas.Option.{none-some, same_Some, slice_get-get_or}
-use Rattle.view_laws.specs.Reactions.{free_slot}
 use Rattle.machine.specs.RunWords.{RunWords}
 use Rattle.world_parts.specs.Keeping.{view_of}
+use Rattle.bpf_model.specs.Machine.{lowest_free}
 
 abbrev pub Runs : Type 0
 Runs = List (Option RunWords)
@@ -14,7 +14,7 @@ Runs = List (Option RunWords)
 abbrev pub AreTaken : Runs → ℕ → Type 0
 AreTaken runs n = (k : ℕ) → k < n → slice_get runs k ≡ Some None → ⊥
 
-pub free-here : (runs : Runs) (n : ℕ) → slice_get runs n ≡ Some None → AreTaken runs n → free_slot (map view_of runs) ≡ Some n
+pub free-here : (runs : Runs) (n : ℕ) → slice_get runs n ≡ Some None → AreTaken runs n → lowest_free (map view_of runs) ≡ Some n
 free-here [] n e h = absurd (none-some None e)
 free-here (None ∷ runs) zero e h = refl
 free-here (None ∷ runs) (suc n) e h = absurd (h 0 (omega arith) refl)
@@ -22,7 +22,7 @@ free-here (Some r ∷ runs) zero e h = let s : Some r ≡ None = same_Some (Some
 free-here (Some r ∷ runs) (suc n) e h =
     ap (option_map (λ k. k + 1)) (free-here runs n e (λ k l g. h (suc k) (omega arith) g)) ∙ ap (λ k. Some k) (add-one n)
 
-pub free-none : (runs : Runs) → AreTaken runs (length runs) → free_slot (map view_of runs) ≡ None
+pub free-none : (runs : Runs) → AreTaken runs (length runs) → lowest_free (map view_of runs) ≡ None
 free-none [] h = refl
 free-none (None ∷ runs) h = absurd (h 0 (omega arith) refl)
 free-none (Some r ∷ runs) h = ap (option_map (λ k. k + 1)) (free-none runs (λ k l g. h (suc k) (omega arith) g))

@@ -1,7 +1,8 @@
 //! Where runs begin and end.
 ghost use Rattle.std.specs.Prelude.{◌≡◌, None, Some, map, slice_get, IfSome};
-ghost use Rattle.view_laws.specs.Reactions.{start_reaction, drop_reaction, drop_refused, run_shown, free_slot};
+ghost use Rattle.view_laws.specs.Reactions.{start_reaction, drop_reaction, drop_refused, run_shown};
 ghost use Rattle.world_parts.specs.Keeping.{view_of};
+ghost use Rattle.bpf_model.specs.Machine.{lowest_free as lowest_free_of};
 
 use crate::parts::Parts;
 use crate::places::program_at;
@@ -10,7 +11,7 @@ use machine::Run;
 
 /// The lowest free run slot.
 fn lowest_free(runs: &[Option<Run>]) -> Option<usize>
-    ensures slot { result ≡ free_slot (map view_of runs.now) }
+    ensures slot { result ≡ lowest_free_of (map view_of runs.now) }
     ensures free { IfSome result (λ r. slice_get runs.now r ≡ Some None) }
 {
     for (slot, run) in runs.iter().enumerate() {

@@ -193,6 +193,12 @@ fn a_hundred_altered_programs(rt: HostRuntime) -> Result<(), Fail> {
         let bit = number * 331 % 832;
         assert!(rt; is_safe(alloc, bit)?, "bit {bit}");
     }
+    Ok(())
+}
+
+#[test]
+fn altered_bits_and_their_refusals(rt: HostRuntime) -> Result<(), Fail> {
+    let alloc = rt.alloc();
     for (bit, code) in &KNOWN {
         let bytes = altered(alloc, *bit)?;
         let told = match judge_bytes(alloc, &bytes)? {

@@ -7,6 +7,7 @@ use crate::replay::{counts_text, replay};
 use crate::script::tell_answer;
 use bpf_model::{MapId, MapShape};
 use std::test::Fail;
+use world::World;
 
 const SHAPE: MapShape = MapShape {
     key_len: 4,
@@ -62,15 +63,20 @@ fn copy_goes_its_own_way(rt: HostRuntime) -> Result<(), Fail> {
     Ok(())
 }
 
+/// Applies the next thousand generated events.
+fn apply_events(world: &mut World, random: &mut Random) {
+    for _ in 0..1000usize {
+        let _answer = world.apply(&event(random, 0));
+    }
+}
+
 /// A copy that is made among generated events gives the answers to the rest that the original gives.
 #[test]
 fn copy_answers_alike(rt: HostRuntime) -> Result<(), Fail> {
     let alloc = rt.alloc();
     let mut world = world_of(alloc, &SHAPES, &sources())?;
     let mut random = Random::new(0x9e37_79b9_7f4a_7c15);
-    for _ in 0..1000usize {
-        let _answer = world.apply(&event(&mut random, 0));
-    }
+    apply_events(&mut world, &mut random);
     let mut copy = world.copy(alloc)?;
     for _ in 0..1000usize {
         let event = event(&mut random, 0);

@@ -7,6 +7,7 @@ use crate::programs::{
 use crate::random::Random;
 use crate::replay::{apply_both, counts_text};
 use bpf_model::{Event, KeyBytes, MapId, MapShape, ProgId, RunId, ValueBytes};
+use std::process::Abort;
 use std::test::Fail;
 
 /// The first map wears out, the second is mostly full, and the third has longer keys and values.
@@ -181,6 +182,13 @@ const SEEN: [&str; 25] = [
     "refused 67",
 ];
 
+/// The answers' texts have all that is sought in them.
+fn has_all(rt: &impl Abort, seen: &str) {
+    for text in SEEN {
+        assert!(rt; seen.contains(text), "never seen: {text}");
+    }
+}
+
 const EVENTS: usize = 8000;
 
 #[test]
@@ -202,8 +210,6 @@ fn generated_events(rt: HostRuntime) -> Result<(), Fail> {
             assert_eq!(rt; told.as_str(), wanted.as_str(), "at event {count}");
         }
     }
-    for text in SEEN {
-        assert!(rt; seen.contains(text), "never seen: {text}");
-    }
+    has_all(&rt, &seen);
     Ok(())
 }

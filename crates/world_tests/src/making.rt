@@ -1,7 +1,6 @@
 //! Machines of the plain model, and worlds, of the same maps and programs.
 ghost use Rattle.std.specs.Prelude.{◌≡◌, map, IfOk};
-ghost use Rattle.bpf_model.specs.View.{new_map_view};
-ghost use Rattle.world.specs.Bound.{shapes_of_maps};
+ghost use Rattle.bpf_model.specs.View.{new_map_view, shapes_of_maps};
 
 use arrayvec::ArrayVec;
 use asm::assemble;

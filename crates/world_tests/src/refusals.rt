@@ -143,12 +143,18 @@ fn program_told(fault: &WorldFault) -> Option<usize> {
     }
 }
 
-/// What is told of a row's programs.
-fn told(alloc: Global, row: &Row) -> Result<Option<(u8, Option<usize>)>, Fail> {
+/// So many programs without maps.
+fn programs_without_maps(alloc: Global, count: usize) -> Result<Vec<Loaded>, Fail> {
     let mut programs = Vec::new(alloc);
-    for _ in 0..row.plain {
+    for _ in 0..count {
         programs.push(program(alloc, Bound::None)?)?;
     }
+    Ok(programs)
+}
+
+/// What is told of a row's programs.
+fn told(alloc: Global, row: &Row) -> Result<Option<(u8, Option<usize>)>, Fail> {
+    let mut programs = programs_without_maps(alloc, row.plain)?;
     for bound in row.programs {
         programs.push(program(alloc, *bound)?)?;
     }

@@ -2,7 +2,7 @@ use Rattle.std.proofs.Common.{◌≡◌, ◌∙◌, ℕ, ◌+◌, ◌<◌, lengt
 use Rattle.std.specs.Prelude.{slice_get}
 use Rattle.std.proofs.lemmas.Option.{slice_get-get_or}
 use Rattle.bpf_model.specs.declared.limits.MapShape.{MapShape}
-use Rattle.world.specs.Bound.{shapes_of_maps}
+use Rattle.bpf_model.specs.View.{shapes_of_maps}
 use Rattle.world.proofs.Shapes.{bound-at, bound-more}
 use Rattle.world.proofs.binding.have_shapes.Goals as goal
 

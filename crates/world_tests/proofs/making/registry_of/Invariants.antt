@@ -1,6 +1,5 @@
 use Rattle.std.proofs.Common.{◌≡◌, map}
-use Rattle.bpf_model.specs.View.{new_map_view}
-use Rattle.world.specs.Bound.{shapes_of_maps}
+use Rattle.bpf_model.specs.View.{new_map_view, shapes_of_maps}
 use Rattle.world_tests.proofs.making.registry_of.Given as goal
 
 abbrev pub invariant-loop-number : goal.invariant-loop-number

@@ -2,7 +2,7 @@ use Rattle.std.proofs.Common.{◌∙◌, ◌<◌, ℕ, List, Option, Some, sym, 
 use Rattle.std.specs.Prelude.{slice_set, IfSome}
 use Rattle.std.proofs.lemmas.Option.{slice_get_read}
 use Rattle.std.proofs.lemmas.Bool.{eq-eqb, eqb-true, false_from_ne_true}
-use Rattle.element_arena.specs.declared.cell.Cell.{Cell}
+use Rattle.element_arena.specs.declared.cell.SlotCell.{SlotCell}
 use Rattle.element_arena.specs.Kept.{AreCellsKept, IsLaidOut, arena_state_of, linked_behind, given_cell}
 use Rattle.element_arena.specs.declared.cell.Standing.TheVariants.{Free}
 use Rattle.element_arena.proofs.Gives.{held, countable, told, worn-kept, worn-state, last-inside, freed-kept, freed-state}
@@ -45,7 +45,7 @@ invariant_of-self c =
     let s = c.self.inside in
     let h = held s.key_len s.value_len s.limit s.cells.items s.first s.last s.keys.items s.values.items c.args.slot c.args.self.now c.self.view_is c.self.invariant c.requires in
     let at = slice_get_read s.cells.items (length s.cells.items) c.args.slot c.index-old.result.now refl h.inside c.index-old.ensures in
-    subst (λ (d : Cell). AreCellsKept (slice_set s.cells.items c.args.slot d) s.first s.last s.limit × IsLaidOut (slice_set s.cells.items c.args.slot d) s.keys.items s.values.items s.key_len s.value_len)
+    subst (λ (d : SlotCell). AreCellsKept (slice_set s.cells.items c.args.slot d) s.first s.last s.limit × IsLaidOut (slice_set s.cells.items c.args.slot d) s.keys.items s.values.items s.key_len s.value_len)
     (sym c.given_cell.ensures) (worn-kept s.key_len s.value_len s.limit s.cells.items s.first s.last s.keys.items s.values.items c.args.slot c.args.self.now c.self.view_is c.self.invariant c.requires c.index-old.result.now at)
 
 pub returns-then-old-self-clause-given : goal.returns-then-old-self-clause-given
@@ -60,7 +60,7 @@ returns-then-old-self-clause-new c =
     let s = c.self.inside in
     let h = held s.key_len s.value_len s.limit s.cells.items s.first s.last s.keys.items s.values.items c.args.slot c.args.self.now c.self.view_is c.self.invariant c.requires in
     let at = slice_get_read s.cells.items (length s.cells.items) c.args.slot c.index-old.result.now refl h.inside c.index-old.ensures in
-    ap (λ (d : Cell). arena_state_of (slice_set s.cells.items c.args.slot d) s.first s.keys.items s.values.items s.key_len s.value_len s.limit) c.given_cell.ensures
+    ap (λ (d : SlotCell). arena_state_of (slice_set s.cells.items c.args.slot d) s.first s.keys.items s.values.items s.key_len s.value_len s.limit) c.given_cell.ensures
     ∙ worn-state s.key_len s.value_len s.limit s.cells.items s.first s.last s.keys.items s.values.items c.args.slot c.args.self.now c.self.view_is c.self.invariant c.requires c.index-old.result.now at (eq-eqb _ _ c.if-old-self.true)
 
 pub append-self-inside-requires : goal.append-self-inside-requires
@@ -68,15 +68,15 @@ append-self-inside-requires c =
     let s = c.self.inside in
     let h = held s.key_len s.value_len s.limit s.cells.items s.first s.last s.keys.items s.values.items c.args.slot c.args.self.now c.self.view_is c.self.invariant c.requires in
     let at = slice_get_read s.cells.items (length s.cells.items) c.args.slot c.index-old.result.now refl h.inside c.index-old.ensures in
-    subst (λ (d : Cell). IfSome s.last (λ l. l < length (slice_set s.cells.items c.args.slot d))) (sym c.given_cell-2.ensures) (last-inside s.key_len s.value_len s.limit s.cells.items s.first s.last s.keys.items s.values.items c.args.slot c.args.self.now c.self.view_is c.self.invariant c.requires c.index-old.result.now at)
+    subst (λ (d : SlotCell). IfSome s.last (λ l. l < length (slice_set s.cells.items c.args.slot d))) (sym c.given_cell-2.ensures) (last-inside s.key_len s.value_len s.limit s.cells.items s.first s.last s.keys.items s.values.items c.args.slot c.args.self.now c.self.view_is c.self.invariant c.requires c.index-old.result.now at)
 
 pub invariant_of-self-2 : goal.invariant_of-self-2
 invariant_of-self-2 c =
     let s = c.self.inside in
     let h = held s.key_len s.value_len s.limit s.cells.items s.first s.last s.keys.items s.values.items c.args.slot c.args.self.now c.self.view_is c.self.invariant c.requires in
     let at = slice_get_read s.cells.items (length s.cells.items) c.args.slot c.index-old.result.now refl h.inside c.index-old.ensures in
-    let cells = c.append-self-inside.ensures.cells ∙ ap (λ (d : Cell). linked_behind (slice_set s.cells.items c.args.slot d) s.last c.args.slot) c.given_cell-2.ensures in
-    subst (λ (cs : List Cell). AreCellsKept cs c.append-self-inside.result (Some c.args.slot) s.limit × IsLaidOut cs s.keys.items s.values.items s.key_len s.value_len) (sym cells)
+    let cells = c.append-self-inside.ensures.cells ∙ ap (λ (d : SlotCell). linked_behind (slice_set s.cells.items c.args.slot d) s.last c.args.slot) c.given_cell-2.ensures in
+    subst (λ (cs : List SlotCell). AreCellsKept cs c.append-self-inside.result (Some c.args.slot) s.limit × IsLaidOut cs s.keys.items s.values.items s.key_len s.value_len) (sym cells)
     (subst (λ (o : Option ℕ). AreCellsKept (linked_behind (slice_set s.cells.items c.args.slot (given_cell c.index-old.result.now Free)) s.last c.args.slot) o (Some c.args.slot) s.limit × IsLaidOut (linked_behind (slice_set s.cells.items c.args.slot (given_cell c.index-old.result.now Free)) s.last c.args.slot) s.keys.items s.values.items s.key_len s.value_len)
     (sym c.append-self-inside.ensures.first) (freed-kept s.key_len s.value_len s.limit s.cells.items s.first s.last s.keys.items s.values.items c.args.slot c.args.self.now c.self.view_is c.self.invariant c.requires c.index-old.result.now at c.if-old-self.false))
 
@@ -92,7 +92,7 @@ returns-clause-new c =
     let s = c.self.inside in
     let h = held s.key_len s.value_len s.limit s.cells.items s.first s.last s.keys.items s.values.items c.args.slot c.args.self.now c.self.view_is c.self.invariant c.requires in
     let at = slice_get_read s.cells.items (length s.cells.items) c.args.slot c.index-old.result.now refl h.inside c.index-old.ensures in
-    let cells = c.append-self-inside.ensures.cells ∙ ap (λ (d : Cell). linked_behind (slice_set s.cells.items c.args.slot d) s.last c.args.slot) c.given_cell-2.ensures in
-    ap (λ (cs : List Cell). arena_state_of cs c.append-self-inside.result s.keys.items s.values.items s.key_len s.value_len s.limit) cells
+    let cells = c.append-self-inside.ensures.cells ∙ ap (λ (d : SlotCell). linked_behind (slice_set s.cells.items c.args.slot d) s.last c.args.slot) c.given_cell-2.ensures in
+    ap (λ (cs : List SlotCell). arena_state_of cs c.append-self-inside.result s.keys.items s.values.items s.key_len s.value_len s.limit) cells
     ∙ (ap (λ (o : Option ℕ). arena_state_of (linked_behind (slice_set s.cells.items c.args.slot (given_cell c.index-old.result.now Free)) s.last c.args.slot) o s.keys.items s.values.items s.key_len s.value_len s.limit) c.append-self-inside.ensures.first
     ∙ freed-state s.key_len s.value_len s.limit s.cells.items s.first s.last s.keys.items s.values.items c.args.slot c.args.self.now c.self.view_is c.self.invariant c.requires c.index-old.result.now at c.if-old-self.false)

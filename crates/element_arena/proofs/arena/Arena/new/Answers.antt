@@ -1,6 +1,6 @@
 use Rattle.std.proofs.Common.{◌≡◌, ◌∙◌, ◌*◌, ◌<◌, ◌^◌, List, sym, ap, subst, length}
 use Rattle.std.proofs.lemmas.List.FromFn.{length-map-range_with_len}
-use Rattle.element_arena.specs.declared.cell.Cell.{Cell}
+use Rattle.element_arena.specs.declared.cell.SlotCell.{SlotCell}
 use Rattle.element_arena.specs.Fresh.{fresh_cell, fresh_cells}
 use Rattle.element_arena.specs.Kept.{AreCellsKept, arena_state_of}
 use Rattle.element_arena.proofs.Keeps.{kept_from}
@@ -13,8 +13,8 @@ invariant_of-result c =
     let k0 = kept_from _ _ _ c.args.limit _ (threaded-fresh c.args.slots c.args.limit c.requires.limit small) in
     let k1 = subst (λ o. AreCellsKept (fresh_cells c.args.slots c.args.slots) o (last_below c.args.slots) c.args.limit) (sym c.below.ensures) k0 in
     let k2 = subst (λ o. AreCellsKept (fresh_cells c.args.slots c.args.slots) c.below.result o c.args.limit) (sym (last-checked c.args.slots c.checked_sub.result c.checked_sub.ensures)) k1 in
-    let k3 = subst (λ (cs : List Cell). AreCellsKept cs c.below.result c.checked_sub.result c.args.limit) (sym c.in_ok-cells.ensures) k2 in
-    let long : length c.in_ok-cells.cells.items ≡ c.args.slots = ap (λ (cs : List Cell). length cs) c.in_ok-cells.ensures ∙ length-map-range_with_len (fresh_cell c.args.slots) 0 c.args.slots in (
+    let k3 = subst (λ (cs : List SlotCell). AreCellsKept cs c.below.result c.checked_sub.result c.args.limit) (sym c.in_ok-cells.ensures) k2 in
+    let long : length c.in_ok-cells.cells.items ≡ c.args.slots = ap (λ (cs : List SlotCell). length cs) c.in_ok-cells.ensures ∙ length-map-range_with_len (fresh_cell c.args.slots) 0 c.args.slots in (
       k3,
       record {
         key_room = c.in_ok-keys.ensures ∙ ap (λ n. n * c.args.key_len) (sym long);
@@ -29,7 +29,7 @@ returns c =
     let small : c.args.limit < 2 ^ 32 = c.ranges.limit.fits in
     record {
       new =
-          ap (λ (cs : List Cell). arena_state_of cs c.below.result c.in_ok-keys.keys.items c.in_ok-values.values.items c.args.key_len c.args.value_len c.args.limit) c.in_ok-cells.ensures
+          ap (λ (cs : List SlotCell). arena_state_of cs c.below.result c.in_ok-keys.keys.items c.in_ok-values.values.items c.args.key_len c.args.value_len c.args.limit) c.in_ok-cells.ensures
           ∙ (ap (λ o. arena_state_of (fresh_cells c.args.slots c.args.slots) o c.in_ok-keys.keys.items c.in_ok-values.values.items c.args.key_len c.args.value_len c.args.limit) c.below.ensures
           ∙ state-fresh c.args.slots c.args.key_len c.args.value_len c.args.limit c.in_ok-keys.keys.items c.in_ok-values.values.items c.requires.limit small);
     }

@@ -3,7 +3,7 @@ use Rattle.std.specs.Prelude.{slice_set}
 use Rattle.std.proofs.lemmas.Option.{slice_get_read}
 use Rattle.bpf_model.specs.View.{SlotView}
 use Rattle.element_arena.specs.State.{IsTaken, with_link, link_in, ArenaState}
-use Rattle.element_arena.specs.declared.cell.Cell.{Cell}
+use Rattle.element_arena.specs.declared.cell.SlotCell.{SlotCell}
 use Rattle.element_arena.specs.Kept.{free_of, state_with, slots_shown, link_view, shown_link}
 use Rattle.element_arena.proofs.Keeps.{kept_from, relink, taken_at}
 use Rattle.element_arena.proofs.Views.{set_link_view}
@@ -45,5 +45,5 @@ returns-clause-linked c =
     let t = held_from s.key_len s.value_len s.limit s.cells.items s.first s.keys.items s.values.items c.args.slot (subst (λ (a : ArenaState). IsTaken a c.args.slot) (sym c.self.view_is) c.requires) in
     let at = slice_get_read s.cells.items (length s.cells.items) c.args.slot c.index_mut-cell.result.now refl t.inside c.index_mut-cell.ensures.value in
     let was = (taken_at s.cells.items s.first s.last s.limit c.args.slot c.index_mut-cell.result.now c.self.invariant.0 t at).0 in
-    let d : Cell = record c.index_mut-cell.result.now { link = c.args.to } in
+    let d : SlotCell = record c.index_mut-cell.result.now { link = c.args.to } in
     ap link_in (get-map link_view _ c.args.slot d (get-set_same s.cells.items c.args.slot d t.inside)) ∙ ap (λ x. shown_link x c.args.to) was

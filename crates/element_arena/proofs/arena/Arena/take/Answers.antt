@@ -3,7 +3,7 @@ use Rattle.std.specs.Prelude.{slice_get, slice_set}
 use Rattle.std.proofs.lemmas.Option.{slice_get_read, same_Some}
 use Rattle.element_arena.specs.State.{taken, ArenaState}
 use Rattle.element_arena.specs.Blocks.{with_block}
-use Rattle.element_arena.specs.declared.cell.Cell.{Cell}
+use Rattle.element_arena.specs.declared.cell.SlotCell.{SlotCell}
 use Rattle.element_arena.specs.declared.cell.Standing.TheVariants.{Free, Taken}
 use Rattle.element_arena.specs.Kept.{IsThreaded, free_of, state_with, slots_shown, free_count}
 use Rattle.element_arena.proofs.BlockLaws.{length-with_block}
@@ -34,7 +34,7 @@ overflow_add-old c =
     let w : c.in-Some.slot < length s.cells.items = f.5 in
     let at : slice_get s.cells.items c.in-Some.slot ≡ Some c.index-old.result.now = slice_get_read s.cells.items (length s.cells.items) c.in-Some.slot c.index-old.result.now refl w c.index-old.ensures in
     let u : c.index-old.result.now.uses + free_count c.index-old.result.now.standing ≤ s.limit = c.self.invariant.0.used c.in-Some.slot c.index-old.result.now at in
-    let st : free_count c.index-old.result.now.standing ≡ 1 = ap free_count (ap (λ (z : Cell). z.standing) (same_Some _ _ (sym at ∙ f.3)) ∙ f.4) in
+    let st : free_count c.index-old.result.now.standing ≡ 1 = ap free_count (ap (λ (z : SlotCell). z.standing) (same_Some _ _ (sym at ∙ f.3)) ∙ f.4) in
     let b : s.limit < 2 ^ 32 = c.self.invariant.0.small in
     let l : c.index-old.result.now.uses + 1 < 2 ^ 32 = omega arith in
     search rules
@@ -63,7 +63,7 @@ invariant_of-self c =
     let f = first_free s.cells.items s.first s.last s.limit c.in-Some.slot c.self.invariant.0 c.in-Some.is in
     let w : c.in-Some.slot < length s.cells.items = f.5 in
     let at : slice_get s.cells.items c.in-Some.slot ≡ Some c.index-old.result.now = slice_get_read s.cells.items (length s.cells.items) c.in-Some.slot c.index-old.result.now refl w c.index-old.ensures in
-    let d : Cell = record { uses = c.index-old.result.now.uses + 1; generation = c.index-old.result.now.generation; standing = Taken; link = None } in
+    let d : SlotCell = record { uses = c.index-old.result.now.uses + 1; generation = c.index-old.result.now.generation; standing = Taken; link = None } in
     let tk = took s.cells.items s.first s.last s.limit c.in-Some.slot c.index-old.result.now d c.self.invariant.0 c.in-Some.is at refl refl refl in
     let tt' = subst (λ (o : Option ℕ). IsThreaded (slice_set s.cells.items c.in-Some.slot (record { uses = c.index-old.result.now.uses + 1; generation = c.index-old.result.now.generation; standing = Taken; link = None })) c.index-old.result.now.link o s.limit tk.0) (sym c.last_after-self-inside.ensures) tk.2 in
     let ek : length c.args.key.now ≡ s.key_len = c.requires.key ∙ ap (λ (a : ArenaState). a.key_len) (sym c.self.view_is) in
@@ -82,7 +82,7 @@ returns-in-Some-clause-slot c =
     let f = first_free s.cells.items s.first s.last s.limit c.in-Some.slot c.self.invariant.0 c.in-Some.is in
     let w : c.in-Some.slot < length s.cells.items = f.5 in
     let at : slice_get s.cells.items c.in-Some.slot ≡ Some c.index-old.result.now = slice_get_read s.cells.items (length s.cells.items) c.in-Some.slot c.index-old.result.now refl w c.index-old.ensures in
-    let d : Cell = record { uses = c.index-old.result.now.uses + 1; generation = c.index-old.result.now.generation; standing = Taken; link = None } in
+    let d : SlotCell = record { uses = c.index-old.result.now.uses + 1; generation = c.index-old.result.now.generation; standing = Taken; link = None } in
     let tk = took s.cells.items s.first s.last s.limit c.in-Some.slot c.index-old.result.now d c.self.invariant.0 c.in-Some.is at refl refl refl in
     let tt' = subst (λ (o : Option ℕ). IsThreaded (slice_set s.cells.items c.in-Some.slot (record { uses = c.index-old.result.now.uses + 1; generation = c.index-old.result.now.generation; standing = Taken; link = None })) c.index-old.result.now.link o s.limit tk.0) (sym c.last_after-self-inside.ensures) tk.2 in
     ap (λ (a : ArenaState). a.free) (sym c.self.view_is) ∙ (tk.1 ∙ ap (λ ys. c.in-Some.slot ∷ ys) (sym (free-is _ c.index-old.result.now.link c.last_after-self-inside.result s.limit tk.0 tt')))
@@ -93,12 +93,12 @@ returns-in-Some-clause-new c =
     let f = first_free s.cells.items s.first s.last s.limit c.in-Some.slot c.self.invariant.0 c.in-Some.is in
     let w : c.in-Some.slot < length s.cells.items = f.5 in
     let at : slice_get s.cells.items c.in-Some.slot ≡ Some c.index-old.result.now = slice_get_read s.cells.items (length s.cells.items) c.in-Some.slot c.index-old.result.now refl w c.index-old.ensures in
-    let d : Cell = record { uses = c.index-old.result.now.uses + 1; generation = c.index-old.result.now.generation; standing = Taken; link = None } in
+    let d : SlotCell = record { uses = c.index-old.result.now.uses + 1; generation = c.index-old.result.now.generation; standing = Taken; link = None } in
     let tk = took s.cells.items s.first s.last s.limit c.in-Some.slot c.index-old.result.now d c.self.invariant.0 c.in-Some.is at refl refl refl in
     let tt' = subst (λ (o : Option ℕ). IsThreaded (slice_set s.cells.items c.in-Some.slot (record { uses = c.index-old.result.now.uses + 1; generation = c.index-old.result.now.generation; standing = Taken; link = None })) c.index-old.result.now.link o s.limit tk.0) (sym c.last_after-self-inside.ensures) tk.2 in
     let ek : length c.args.key.now ≡ s.key_len = c.requires.key ∙ ap (λ (a : ArenaState). a.key_len) (sym c.self.view_is) in
     let ev : length c.args.value.now ≡ s.value_len = c.requires.value ∙ ap (λ (a : ArenaState). a.value_len) (sym c.self.view_is) in
-    let was : c.index-old.result.now.standing ≡ Free = ap (λ (z : Cell). z.standing) (same_Some _ _ (sym at ∙ f.3)) ∙ f.4 in
+    let was : c.index-old.result.now.standing ≡ Free = ap (λ (z : SlotCell). z.standing) (same_Some _ _ (sym at ∙ f.3)) ∙ f.4 in
     let free : free_of (slice_set s.cells.items c.in-Some.slot (record { uses = c.index-old.result.now.uses + 1; generation = c.index-old.result.now.generation; standing = Taken; link = None })) c.index-old.result.now.link ≡ tk.0 = free-is _ c.index-old.result.now.link c.last_after-self-inside.result s.limit tk.0 tt' in
     let shown =
     ap (λ (l : List ℕ). slots_shown s.key_len s.value_len (slice_set s.cells.items c.in-Some.slot (record { uses = c.index-old.result.now.uses + 1; generation = c.index-old.result.now.generation; standing = Taken; link = None })) l c.write_block-in-Some.new.bytes.items) c.write_block.ensures

@@ -2,8 +2,7 @@ use Rattle.std.proofs.Common.{◌≡◌, ◌∙◌, ◌++◌, ◌∷◌, [], len
 use Rattle.std.specs.Prelude.{slice_get, option_map}
 use Rattle.std.proofs.lemmas.List.{length-append}
 use Rattle.std.proofs.lemmas.Option.{slice_get-map}
-use Rattle.bpf_model.specs.View.{MapView}
-use Rattle.world.specs.Bound.{shapes_of_maps}
+use Rattle.bpf_model.specs.View.{MapView, shapes_of_maps}
 use Rattle.world_invariant.specs.Binding.{IsBoundTo}
 use Rattle.script_setup.specs.Loading.{AreMapsNamed}
 use Rattle.script_setup.proofs.Growing.{found-next}

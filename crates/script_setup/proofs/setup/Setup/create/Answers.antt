@@ -1,8 +1,8 @@
 use Rattle.std.proofs.Common.{◌≡◌, ◌∙◌, ◌∷◌, [], length, map, refl, sym, ap, subst, arith}
 use Rattle.std.proofs.lemmas.List.{length-append}
-use Rattle.bpf_model.specs.View.{new_map_view}
+use Rattle.bpf_model.specs.View.{new_map_view, shapes_of_maps}
 use Rattle.maps.specs.Registry.{creation_fault}
-use Rattle.world.specs.Bound.{shapes_of_maps, AreProgramsBound}
+use Rattle.world.specs.Bound.{AreProgramsBound}
 use Rattle.script_setup.proofs.Creating.{create-refused}
 use Rattle.script_setup.proofs.Growing.{new-more, bound-still}
 use Rattle.script_setup.proofs.Naming.{bad-name}

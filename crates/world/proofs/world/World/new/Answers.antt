@@ -1,11 +1,12 @@
 use Rattle.std.proofs.Common.{◌≡◌, ℕ, ◌≤◌, List, Some, subst, arith, rules, length}
 use Rattle.std.specs.Prelude.{slice_get, vec_len}
 use Rattle.bpf_model.specs.declared.limits.TheConstants.{MAX_PROGRAMS}
+use Rattle.bpf_model.specs.View.{shapes_of_maps}
 use Rattle.typed_runs.specs.Verified.{IsVerified}
 use Rattle.world_laws.specs.Typed.{IsTypedProgram}
 use Rattle.world_parts.specs.declared.loaded.Loaded.{Loaded}
 use Rattle.world_parts.specs.Programs.{program_of}
-use Rattle.world.specs.Bound.{shapes_of_maps, AreProgramsBound}
+use Rattle.world.specs.Bound.{AreProgramsBound}
 use Rattle.world.proofs.Starting.{IsSafe, made-is-world, made-tracks-start}
 use Rattle.world.proofs.world.World.new.Goals as goal
 
