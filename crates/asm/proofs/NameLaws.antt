@@ -5,6 +5,7 @@ use Rattle.std.proofs.lemmas.Slice.Eq.{bytes_eq-Decides}
 use Rattle.std.specs.Prelude.{Option, Some, None, IfSome}
 use Rattle.std.specs.List.{find}
 use Rattle.std.specs.Str.{bytes_eq}
+use Rattle.std.proofs.lemmas.Bool.{false≢true}
 use Rattle.bpf_model.specs.declared.opcode.Size.TheVariants.{Word32, Word64}
 use Rattle.bpf_model.specs.declared.opcode.Width.TheVariants as width
 use Rattle.bpf_model.specs.declared.opcode.SignedWidth.TheVariants as signed_width
@@ -112,9 +113,6 @@ passes_or : {X : Type 0} (test : X → Bool) (x : X) (rest : Option X) (b : Bool
 passes_or test x rest true e h = e
 passes_or test x rest false e h = h
 
-false_no : false ≡ true → ⊥
-false_no e = cc
-
 find_passes : {X : Type 0} (test : X → Bool) (xs : List X) → IfSome (find test xs) (λ x. test x ≡ true)
 find_passes test [] = tt
 find_passes test (x ∷ xs) = passes_or test x (find test xs) (test x) refl (find_passes test xs)
@@ -143,4 +141,4 @@ name_goes_on stem suffix rest name b parts e =
 
 pub name_differs : (stem suffix name : List ℕ) → ((rest : List ℕ) → name ≢ stem ++ rest) → false ≡ bytes_eq (stem ++ suffix) name
 name_differs stem suffix name other =
-    tested (stem ++ suffix) name false ((λ no. absurd (false_no no)), (λ whole. absurd (other suffix (sym whole))))
+    tested (stem ++ suffix) name false ((λ no. absurd (false≢true no)), (λ whole. absurd (other suffix (sym whole))))

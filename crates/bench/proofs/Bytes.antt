@@ -1,7 +1,7 @@
 -- The bytes 0, 1, 2 and so on.
 use Rattle.std.proofs.Common.{◌≡◌, ℕ, ◌<◌, List, length, slice_index}
 
--- so many bytes, each the number of its place
+-- so many bytes, each the number of its index
 pub record Counts (bytes : List ℕ) (n : ℕ) : Type 0 where
   pub length_is : length bytes ≡ n
   pub each : (k : ℕ) → k < n → slice_index bytes k ≡ k

@@ -1,15 +1,16 @@
 -- Options, numbers, orderings, lives, run slots and births, by cases.
-use Rattle.std.proofs.Common.{◌≡◌, ℕ, ◌<◌, pos, true, List, length, Option, Some, None, ◌⊎◌, inl, inr, refl, arith}
+use Rattle.std.proofs.Common.{◌≡◌, ℕ, ◌<◌, pos, true, List, length, Option, Some, None, ◌⊎◌, inl, inr, refl, arith, [], ◌∷◌, sym, ap, ◌∙◌}
 use Rattle.std.specs.Ordering.{is_eq}
 use Rattle.std.specs.declared.cmp.Ordering.{Ordering}
 use Rattle.std.specs.declared.cmp.Ordering.TheVariants.{Less, Equal, Greater}
 use Rattle.std.proofs.lemmas.Bool.{false≢true}
 use Rattle.std.proofs.lemmas.Option.{none-some, slice_get_within}
+use Rattle.std.specs.Prelude.{if◌then◌else◌, ◌==◌, drop}
 use Rattle.bpf_model.specs.Section.{Section}
 use Rattle.bpf_model.specs.Element.{Unlinked}
 use Rattle.bpf_model.specs.Machine.{Run, run_in}
 use Rattle.bpf_model.specs.MapState.{Store}
-use Rattle.bpf_model.specs.Schedule.{TakesOldest}
+use Rattle.bpf_model.specs.Schedule.{TakesOldest, Queues, or_first, first_ready, without_first}
 
 pub option_cases : {A : Type 0} (o : Option A) → (o ≡ None) ⊎ ((x : A) × (o ≡ Some x))
 option_cases None = inl refl
@@ -33,3 +34,15 @@ equal-is Greater h = absurd (false≢true h)
 -- where no element was born, none takes a slot
 pub oldest-none : (old new : Store) → length new.elements ≡ length old.elements → TakesOldest old new
 oldest-none old new same e before after at h g = let z : length old.elements < length new.elements = slice_get_within new.elements (length old.elements) e at in absurd (omega arith)
+
+-- where no birth is ready none is taken
+pub none-at : (ready : List ℕ) (later : Option ℕ) → or_first ready later ≡ None → (ready ≡ []) × (later ≡ None)
+none-at [] later h = (refl, h)
+none-at (n ∷ ns) later h = absurd (none-some n (sym h))
+
+pub none-without : (qs : List Queues) → first_ready qs ≡ None → without_first qs ≡ qs
+none-without [] h = refl
+none-without (q ∷ qs) h =
+    let b = none-at q.ready (first_ready qs) h in
+    ap (λ (ready : List ℕ). if length ready == 0 then q ∷ without_first qs else record { next = q.next; waiting = q.waiting; ready = drop 1 ready } ∷ qs) b.0
+    ∙ ap (λ l. q ∷ l) (none-without qs b.1)

@@ -5,6 +5,12 @@ use Rattle.std.proofs.lemmas.Slice.Zip.{AllZip-map}
 use Rattle.std.specs.List.{AllZip}
 use Rattle.std.specs.Prelude.{slice_get, slice_set, drop, take}
 
+pub heads : {A : Type 0} (x y : A) (xs ys : List A) → x ∷ xs ≡ y ∷ ys → x ≡ y
+heads x y xs ys e = cc
+
+pub tails : {A : Type 0} (x y : A) (xs ys : List A) → x ∷ xs ≡ y ∷ ys → xs ≡ ys
+tails x y xs ys e = cc
+
 pub get-below : {A : Type 0} (xs : List A) (i : ℕ) → i < length xs → (x : A) × (slice_get xs i ≡ Some x)
 get-below [] i h = absurd (omega arith)
 get-below (x ∷ xs) zero h = (x, refl)

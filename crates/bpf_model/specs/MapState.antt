@@ -1,4 +1,4 @@
--- The state of the maps (Linux BPF documentation, "BPF_MAP_TYPE_HASH"; slots and their reuse are
+-- The state of the maps (Linux BPF documentation, "BPF_MAP_TYPE_HASH"; map slots and their reuse are
 -- this runtime's own).
 use Rattle.std.specs.Prelude.{◌≡◌, ℕ, ◌+◌, ◌*◌, ◌≤◌, ◌==◌, List, [], ◌∷◌, ◌++◌, Option, Some, None}
 use Rattle.std.specs.Prelude.{slice_get, replicate, if◌then◌else◌}
@@ -20,7 +20,7 @@ pub record IsShape (shape : MapShape) : Type 0 where
 abbrev pub AreShapes : List MapShape → Type 0
 AreShapes shapes = (k : ℕ) (shape : MapShape) → slice_get shapes k ≡ Some shape → IsShape shape
 
--- How many slots a map has, and how many elements are born in them at most: each slot is used so
+-- How many map slots a map has, and how many elements are born in them at most: each slot is used so
 -- often.
 abbrev pub slots_of_shape : MapShape → ℕ
 slots_of_shape shape = shape.entries + shape.spare
@@ -40,7 +40,7 @@ pub record Store : Type 0 where
   pub elements : List Element
   pub maps : List MapState
 
--- a new map: no slot was ever used
+-- a new map: no map slot was ever used
 abbrev pub new_map : MapShape → MapState
 new_map shape = record { shape = shape; bag = replicate (slots_of_shape shape) 0; worn = 0 }
 

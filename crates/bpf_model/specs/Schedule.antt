@@ -24,6 +24,9 @@ pub record Queues : Type 0 where
   pub waiting : List ℕ
   pub ready : List ℕ
 
+abbrev pub no_queues : Queues
+no_queues = record { next = []; waiting = []; ready = [] }
+
 -- The machine; the lists of each map; and for each run slot whether its section is awaited, which
 -- the present grace period waits for.
 pub record Schedule : Type 0 where
@@ -152,6 +155,6 @@ abbrev pub start_schedule : List MapShape → List Loaded → Schedule
 start_schedule shapes programs =
     record {
       machine = start_machine shapes programs;
-      queues = map (λ _. record { next = []; waiting = []; ready = [] }) shapes;
+      queues = map (λ _. no_queues) shapes;
       awaited = replicate MAX_RUNS false;
     }

@@ -18,7 +18,7 @@ pub record SlotView : Type 0 where
   pub value : List ℕ
   pub uses : ℕ
 
--- what the slot of a number shows, where there is one
+-- the key and the value in a map slot; none where there is no such slot
 abbrev pub key_in : Option SlotView → List ℕ
 key_in None = []
 key_in (Some s) = s.key
@@ -27,7 +27,7 @@ abbrev pub value_in : Option SlotView → List ℕ
 value_in None = []
 value_in (Some s) = s.value
 
--- how often the slot of this number was used
+-- how often a map slot was used; 0 where there is no such slot
 abbrev pub uses_in : Option SlotView → ℕ
 uses_in None = 0
 uses_in (Some s) = s.uses

@@ -118,7 +118,7 @@ impl Width {
     ghost use Rattle.std.specs.Prelude.{◌≡◌, ◌≤◌};
     ghost use Rattle.bpf_model.specs.Access.{byte_count};
 
-    /// 1, 2, 4 or 8.
+    /// How many bytes: 1, 2, 4 or 8.
     pub fn bytes(self) -> usize
         ensures value { result ≡ byte_count self }
         ensures bound { result ≤ 8 }

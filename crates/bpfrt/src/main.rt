@@ -21,6 +21,7 @@ use std::io::ErrorKind;
 use std::process::ExitCode;
 use std::sync::Wait;
 use std::thread::Threads;
+use streams::{Side, stream_fault};
 
 /// Runs the command on the file that it names, or on standard input. The handle for threads and for
 /// waiting is the runtime again.
@@ -32,7 +33,7 @@ fn run_on_input<H: Threads + Wait + Sync>(rt: &HostRuntime, threads: &H, command
         None => run_command(threads, alloc, command, &mut rt.stdin(), &mut out, &mut err),
         Some(path) => match File::open(rt, path) {
             Ok(mut file) => run_command(threads, alloc, command, &mut file, &mut out, &mut err),
-            Err(_) => fault(&mut err, 96),
+            Err(error) => fault(&mut err, stream_fault(&error, Side::Input)),
         },
     }
 }

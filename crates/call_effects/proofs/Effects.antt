@@ -1,4 +1,4 @@
--- The laws, for states in code.
+-- What a call or a test for null makes of states, by the laws of the known kinds.
 use Rattle.std.proofs.Common.{◌≡◌, ℕ, ◌^◌, ◌/◌, ◌<◌, List, Some, ap, ℤ, arith, true, false}
 use Rattle.bpf_model.specs.declared.limits.MapShape.{MapShape}
 use Rattle.bpf_model.specs.declared.insn.Insn.{Insn}

@@ -12,15 +12,10 @@ use Rattle.bpf_model.specs.Call.{helper_of, kernel_function_of}
 use Rattle.kind_tests.specs.declared.fault.Fault.{Fault}
 use Rattle.kind_tests.specs.declared.fault.Fault.TheVariants.{UnknownCall, OutsideSection}
 use Rattle.kind_tests.specs.declared.fault.Fault.TheVariants.{UnpairedSection}
-use Rattle.bpf_model.specs.declared.insn.Insn.{Insn}
-use Rattle.bpf_model.specs.declared.insn.Insn.TheVariants.{Call, JumpIf}
-use Rattle.bpf_model.specs.declared.insn.Operand.TheVariants.{Immediate}
-use Rattle.bpf_model.specs.declared.opcode.Condition.TheVariants.{Equal, NotEqual}
-use Rattle.bpf_model.specs.declared.opcode.Size.TheVariants.{Word64}
+use Rattle.bpf_model.specs.declared.insn.Insn.TheVariants.{Call}
 use Rattle.typed_runs.specs.Kinds.{MaybeNull, AbsState as Known}
 use Rattle.typed_runs.specs.Effects.{after_call, after_lock, after_unlock}
 use Rattle.typed_runs.specs.Planned.{AreAlike}
-use Rattle.typed_runs.specs.Verified.{Transfers}
 use Rattle.register_kinds.specs.declared.learn.Lesson.TheVariants.{IsNull, IsThere}
 use Rattle.register_kinds.specs.Changes.{learnt}
 use Rattle.register_kinds.specs.declared.state.AbsState.{AbsState}
@@ -29,17 +24,13 @@ use Rattle.register_kinds.specs.declared.kind.RegKind.TheVariants.{Frame}
 use Rattle.register_kinds.specs.declared.kind.CellKind.TheVariants.{Byte}
 use Rattle.register_kinds.specs.States.{kind_in, state_of}
 use Rattle.kind_tests.specs.Tests.{AreAll}
+use Rattle.kind_tests.specs.Performs.{Performs}
 
 -- From each run that the old state describes the call has a step, and each leads to one that the
 -- new state describes.
 abbrev pub PerformsCall : CallKind → ℤ → List MapShape → AbsState → AbsState → Type 0
 PerformsCall kind imm shapes old new =
-    (ctx_len : ℕ) → Transfers (Call kind imm) shapes ctx_len (state_of old) (state_of new) None
-
--- a jump to a slot further on where the register is equal to 0, or where it is not
-abbrev pub null_jump : Bool → ℕ → ℕ → Insn
-null_jump equal dst n =
-    JumpIf (if equal then Equal else NotEqual) Word64 dst (Immediate (pos 0)) (pos n)
+    (ctx_len : ℕ) → Performs (Call kind imm) ctx_len shapes old new
 
 -- The first tests of a call, of its number and of the section: the first that fails, if one does.
 abbrev pub helper_fault : Option Helper → Bool → Option Fault

@@ -4,7 +4,7 @@ ghost use Rattle.bpf_model.specs.Call.{helper_of, kernel_function_of};
 ghost use Rattle.bpf_model.specs.declared.limits.MapShape.{MapShape};
 ghost use Rattle.scalar_domain.specs.declared.scalar.Scalar.{Scalar};
 ghost use Rattle.register_kinds.specs.States.{kind_in, state_of};
-ghost use Rattle.register_kinds.specs.Pairs.{AreBelow};
+ghost use Rattle.register_kinds.specs.Pairs.{AreBelow, TakesFew};
 ghost use Rattle.typed_runs.specs.Effects.{after_lock, after_unlock};
 ghost use Rattle.typed_runs.specs.Planned.{AreAlike};
 ghost use Rattle.call_effects.specs.Calls.{PerformsCall, PointsToBytes, FindsIn, helper_fault, kernel_fault, section_fault, outcome_of, Called};
@@ -79,7 +79,7 @@ fn lookup(state: &mut AbsState, shapes: &[MapShape], ids: &mut Identities) -> Re
     ensures finds { OnOk result ((map : ℕ) → kind_in state.old.regs 1 ≡ RegKind.Map map
         → FindsIn map state.old state.new) }
     ensures below { AreBelow ids.new.next state.new }
-    ensures few { (ids.old.next ≤ ids.new.next) × (ids.new.next ≤ ids.old.next + 1) }
+    ensures few { TakesFew 1 ids.old.next ids.new.next }
     ensures unchanged { OnErr result (state.new ≡ state.old) }
 {
     check_inside(state)?;
@@ -161,7 +161,7 @@ fn call_helper(
     ensures finds { OnOk result ((map : ℕ) → helper_of imm ≡ Some Helper.Lookup
         → kind_in state.old.regs 1 ≡ RegKind.Map map → FindsIn map state.old state.new) }
     ensures below { AreBelow ids.new.next state.new }
-    ensures few { (ids.old.next ≤ ids.new.next) × (ids.new.next ≤ ids.old.next + 1) }
+    ensures few { TakesFew 1 ids.old.next ids.new.next }
     ensures unchanged { OnErr result (state.new ≡ state.old) }
 {
     match Helper::from_number(imm) {
@@ -207,7 +207,7 @@ pub fn call(
         → Called (kernel_function_of imm) (state_of state.old) (state_of state.new)) }
 
     ensures below { AreBelow ids.new.next state.new }
-    ensures few { (ids.old.next ≤ ids.new.next) × (ids.new.next ≤ ids.old.next + 1) }
+    ensures few { TakesFew 1 ids.old.next ids.new.next }
     ensures unchanged { OnErr result (state.new ≡ state.old) }
 {
     match kind {

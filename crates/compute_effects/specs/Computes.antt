@@ -1,5 +1,5 @@
 -- What operations give, by the kinds of their operands.
-use Rattle.std.specs.Prelude.{◌≡◌, ℕ, ◌-◌, ◌^◌, ◌<◌, ◌≤◌, ◌⊎◌, List, Option, Some, None, ℤ, pos}
+use Rattle.std.specs.Prelude.{◌≡◌, ℕ, ◌-◌, ◌^◌, ◌<◌, ◌≤◌, ◌⊎◌, List, Option, Some, ℤ, pos}
 use Rattle.std.specs.Prelude.{◌+ℤ◌, ◌-ℤ◌, Result, Ok, IsOk}
 use Rattle.std.specs.Int.{w64}
 use Rattle.bpf_model.specs.declared.limits.MapShape.{MapShape}
@@ -18,15 +18,15 @@ use Rattle.bpf_model.specs.Step.{State}
 use Rattle.scalar_domain.specs.declared.scalar.Scalar.{Scalar}
 use Rattle.scalar_domain.specs.Scalar.{Holds, IsConstant}
 use Rattle.typed_runs.specs.Kinds.{Kind, Num, AbsState as Known}
-use Rattle.typed_runs.specs.Effects.{with_kind, IsWritten}
+use Rattle.typed_runs.specs.Effects.{with_kind, IsWritten, HasNumber}
 use Rattle.typed_runs.specs.Planned.{AreAlike}
 use Rattle.kind_tests.specs.declared.fault.Fault.{Fault}
+use Rattle.kind_tests.specs.Performs.{Performs}
 use Rattle.register_kinds.specs.declared.kind.RegKind.{RegKind}
 use Rattle.register_kinds.specs.declared.kind.RegKind.TheVariants as kinds
 use Rattle.typed_runs.specs.Describes.{Scene, Naming, HasOffset, IsOf, Describes}
-use Rattle.typed_runs.specs.Verified.{Transfers}
 use Rattle.register_kinds.specs.declared.state.AbsState.{AbsState}
-use Rattle.register_kinds.specs.States.{kind_of, kind_in, state_of}
+use Rattle.register_kinds.specs.States.{kind_of, kind_in}
 use Rattle.compute_effects.specs.declared.moving.Way.{Way}
 use Rattle.compute_effects.specs.declared.moving.Way.TheVariants.{Forward, Back}
 
@@ -34,8 +34,7 @@ use Rattle.compute_effects.specs.declared.moving.Way.TheVariants.{Forward, Back}
 -- the new state describes.
 abbrev pub PerformsComputation : Insn → AbsState → AbsState → Type 0
 PerformsComputation insn old new =
-    (shapes : List MapShape) (ctx_len : ℕ) →
-    Transfers insn shapes ctx_len (state_of old) (state_of new) None
+    (shapes : List MapShape) (ctx_len : ℕ) → Performs insn ctx_len shapes old new
 
 -- how many bytes forward a sum or a difference moves a reference
 abbrev pub signed_move : Way → ℕ → ℤ
@@ -82,19 +81,9 @@ abbrev pub IsMove : Way → Size → AluOp → Type 0
 IsMove Forward size op = (size ≡ Word64) × (op ≡ Add)
 IsMove Back size op = (size ≡ Word64) × (op ≡ Sub)
 
--- a register that is known to be a number
-abbrev pub HasNumber : Known → ℕ → Type 0
-HasNumber a r = (s : Scalar) × (a.regs r ≡ Num s)
-
 -- a number is answered
 abbrev pub GivesNumber : Result RegKind Fault → Type 0
 GivesNumber r = (t : Scalar) × (r ≡ Ok (kinds.Num t))
-
--- The instruction is not refused, and the register becomes a number.
-pub record SetsNumber (r : Result (Unit {0}) Fault) (dst : ℕ) (a b : Known) : Type 0 where
-  pub fine : IsOk r
-  pub number : Scalar
-  pub alike : AreAlike (with_kind dst (Num number) a) b
 
 -- The instruction is not refused, and the register becomes of the kind.
 pub record SetsKind (r : Result (Unit {0}) Fault) (dst : ℕ) (kind : Kind) (a b : Known)

@@ -4,11 +4,12 @@ ghost use Rattle.bpf_model.specs.declared.limits.TheConstants.{FRAME_BYTES};
 ghost use Rattle.typed_runs.specs.Kinds as model;
 ghost use Rattle.bpf_model.specs.declared.limits.MapShape.{MapShape};
 ghost use Rattle.bpf_model.specs.Operand.{unary_source};
-ghost use Rattle.typed_runs.specs.Effects.{IsNumberOperand, IsWritten};
+ghost use Rattle.kind_tests.specs.Performs.{SetsNumber};
+ghost use Rattle.typed_runs.specs.Effects.{IsNumberOperand, IsWritten, HasNumber};
 ghost use Rattle.typed_runs.specs.Verified.{Transfers};
 ghost use Rattle.register_kinds.specs.States.{kind_in, kind_of, state_of};
 ghost use Rattle.register_kinds.specs.Pairs.{IsBelow, AreBelow};
-ghost use Rattle.compute_effects.specs.Computes.{PerformsComputation, Computes, HasNumber, ReadsNumber, GivesNumber, SetsNumber, SetsKind};
+ghost use Rattle.compute_effects.specs.Computes.{PerformsComputation, Computes, ReadsNumber, GivesNumber, SetsKind};
 
 use crate::kinds::{combined, copied, numbers, operand};
 use bpf_model::{AluOp, Insn, Operand, Reg, Size, UnaryOp};

@@ -69,7 +69,7 @@ fn raised(offset: i32) -> Result<Scalar, Fault>
         → (s : Numbers) × (result ≡ Ok s) × IsConstant s (m + 2 ^ 29) }
 {
     let raised = i64::from(offset) + ORIGIN as i64;
-    if raised < 0 || raised > 1 << 30 {
+    if raised < 0 || raised > 2 * LIMIT as i64 {
         return Err(Fault::PointerArithmetic);
     }
     Ok(Scalar::constant(raised as u64))
@@ -83,7 +83,7 @@ fn lowered(offsets: Scalar) -> Result<i32, Fault>
 {
     match offsets.as_constant() {
         Some(raised) => {
-            if raised > 1 << 30 {
+            if raised > 2 * LIMIT {
                 return Err(Fault::PointerArithmetic);
             }
             Ok((raised as i64 - ORIGIN as i64) as i32)

@@ -1,4 +1,4 @@
--- The events of a script's lines are one run of the machine.
+-- The events of a script's lines are one history of the machine.
 use Rattle.std.proofs.Common.{◌≡◌, ◌∙◌, ℕ, List, [], ◌∷◌, ◌++◌, Option, Some, None, sym, ap, subst, refl, append-nil}
 use Rattle.std.specs.Prelude.{Result, Ok, Err}
 use Rattle.bpf_model.specs.declared.event.Event.{Event}
@@ -24,7 +24,7 @@ use Rattle.control.specs.declared.session.Session.TheVariants as sessions
 abbrev pub says_something : Session → List ℕ → List ℕ → Session → Type 0
 says_something old line text new = (events : List Event) × LineAnswers old line events text new
 
--- what is made after a line, and that all events are one run
+-- what is made after a line, and that all events are one history
 abbrev Onward : SetupView → List Event → Session → Type 0
 Onward made events new = (next : SetupView) × StaysMade new made next × RunsTo next events new
 

@@ -1,9 +1,9 @@
 //! Jumps without a condition, and the exit.
 ghost use Rattle.std.specs.Prelude.{◌≡◌, ℕ, List, None, OnOk, IsOk, pos, false};
-ghost use Rattle.compute_effects.specs.Computes.{HasNumber};
 ghost use Rattle.bpf_model.specs.declared.limits.MapShape.{MapShape};
 ghost use Rattle.typed_runs.specs.Kinds as model;
 ghost use Rattle.typed_runs.specs.Verified.{Transfers};
+ghost use Rattle.typed_runs.specs.Effects.{HasNumber};
 ghost use Rattle.register_kinds.specs.States.{state_of};
 
 use bpf_model::{Insn, Reg};

@@ -1,14 +1,15 @@
 //! Conditional jumps.
 ghost use Rattle.std.specs.Prelude.{◌≡◌, ℕ, ◌<◌, ◌^◌, List, IfOk, IfErr, IsOk, OnOk, OnErr, Some, Bool, true, false};
+ghost use Rattle.std.specs.Prelude.{IsOkUnless};
 ghost use Rattle.bpf_model.specs.declared.limits.MapShape.{MapShape};
 ghost use Rattle.bpf_model.specs.Step.{State};
 ghost use Rattle.bpf_model.specs.Operand.{operand_value};
 ghost use Rattle.typed_runs.specs.Kinds as model;
-ghost use Rattle.typed_runs.specs.Effects.{IsNumberOperand};
+ghost use Rattle.typed_runs.specs.Effects.{IsNumberOperand, HasNumber};
 ghost use Rattle.typed_runs.specs.Describes.{Scene, IsOf, Describes};
 ghost use Rattle.register_kinds.specs.States.{kind_in, kind_of, state_of};
 ghost use Rattle.register_kinds.specs.Pairs.{AreBelow};
-ghost use Rattle.compute_effects.specs.Computes.{HasValue, HasNumber};
+ghost use Rattle.compute_effects.specs.Computes.{HasValue};
 ghost use Rattle.kind_tests.specs.Forks.{Forks, ForksOnNull};
 ghost use Rattle.control_effects.specs.Narrowing.{ComparesNumbers, Narrows, AreNarrowed};
 
@@ -82,7 +83,7 @@ pub fn fork(
     ensures taken_narrowed { IfOk result (λ taken.
         AreNarrowed dst src.now (state_of state.old) (state_of taken.value)) }
     ensures accepts { HasNumber (state_of state.old) dst
-        → IsNumberOperand (state_of state.old) src.now → IfErr result (λ e. e ≡ Fault.Memory) }
+        → IsNumberOperand (state_of state.old) src.now → IsOkUnless result Fault.Memory }
     ensures below { (top : ℕ) → AreBelow top state.old → AreBelow top state.new }
     ensures taken_below { IfOk result (λ taken. (top : ℕ)
         → AreBelow top state.old → AreBelow top taken.value) }

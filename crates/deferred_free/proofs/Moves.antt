@@ -2,6 +2,7 @@
 use Rattle.std.proofs.Common.{◌≡◌, ◌≢◌, ◌∙◌, ℕ, ◌+◌, ◌<◌, ◌≤◌, List, [], ◌∷◌, ◌++◌, Option, Some, None, inl, inr, refl, sym, ap, arith, cond, eqb, subst, drop}
 use Rattle.std.specs.Prelude.{IfSome}
 use Rattle.std.proofs.lemmas.Option.{none-some, same_Some}
+use Rattle.std.proofs.lemmas.List.{append-nil}
 use Rattle.bpf_model.proofs.Cases.{option_cases}
 use Rattle.bpf_model.specs.Schedule.{Queues, turned}
 use Rattle.element_arena.specs.State.{ArenaState, IsTaken, LinksOf, link_at, link_in, times_in, with_link}
@@ -15,10 +16,6 @@ use Rattle.deferred_free.specs.Lines.{AreLinksJoined, joined_lines, joined_to, j
 use Rattle.element_arena.specs.Kept.{last_left}
 use Rattle.deferred_free.specs.Fits.{threaded_lists, IsLine, FitsAs, ThreadedFits}
 use Rattle.bpf_model.proofs.Lists.{get-set_other}
-
-append-nil : (xs : List ℕ) → xs ++ [] ≡ xs
-append-nil [] = refl
-append-nil (x ∷ xs) = ap (λ l. x ∷ l) (append-nil xs)
 
 pub line_join : (f g : ℕ → Option ℕ) (front back : Line) (xs ys : List ℕ) → IsLine f front xs → IsLine g back ys → ((j : ℕ) → times_in j xs ≤ 1) →
     ((l : ℕ) → front.last ≡ Some l → g l ≡ back.first) → ((j : ℕ) → front.last ≢ Some j → g j ≡ f j) → IsLine g (joined_lines front back) (xs ++ ys)

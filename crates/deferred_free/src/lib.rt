@@ -6,7 +6,7 @@
 #![tactic(auto)]
 
 ghost use Rattle.std.specs.Prelude.{◌≡◌, ◌≤◌, ◌<◌, ℕ, [], length, slice_get, IfOk};
-ghost use Rattle.bpf_model.specs.Schedule.{Queues, turned};
+ghost use Rattle.bpf_model.specs.Schedule.{Queues, turned, no_queues};
 ghost use Rattle.element_arena.specs.State.{ArenaState, IsTaken, LinksOf, SameAt};
 ghost use Rattle.deferred_free.specs.Queued.{queued, reaped_lists, retired_lists};
 
@@ -30,7 +30,7 @@ pub trait Deferred {
     /// Three empty lists for an arena of at most so many slots. Fails where memory runs out.
     fn new(alloc: Global, slots: usize) -> Result<Self, AllocError>
         ensures lists { IfOk result (λ x. (a : ArenaState) →
-            lists x a ≡ record { next = []; waiting = []; ready = [] }) }
+            lists x a ≡ no_queues) }
         ensures fits { IfOk result (λ x. (a : ArenaState) → length a.slots ≤ slots → fits x a) };
 
     /// A taken slot that is in no list joins the end of next. No memory is taken.

@@ -183,7 +183,7 @@ statement_text s = mnemonic_text s.mnemonic ++ arguments_text s.arguments
 
 -- How each instruction is written.
 
--- `negsuc n` is -(n + 1)
+-- the sign and the magnitude of a number; `negsuc n` is -(n + 1)
 abbrev pub sign_of : ℤ → Sign
 sign_of (pos n) = Plus
 sign_of (negsuc n) = Minus

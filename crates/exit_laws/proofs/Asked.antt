@@ -1,4 +1,4 @@
--- The same of an exit value that was asked for, where there is one.
+-- An exit value that was asked for, where there is one, is one of the program's definition.
 use Rattle.std.proofs.Common.{ℕ, List, Option, Some, None}
 use Rattle.std.specs.Prelude.{IfSome}
 use Rattle.bpf_model.specs.declared.insn.Insn.{Insn}

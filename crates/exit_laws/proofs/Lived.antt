@@ -1,5 +1,5 @@
 -- Each run of a reached machine has made the steps of its program from the start: what it may still exit with, or has exited with, is an exit of a fresh run.
-use Rattle.std.proofs.Common.{◌≡◌, ℕ, suc, List, [], ◌∷◌, Option, Some, None, refl, sym, ap, subst, ◌∙◌}
+use Rattle.std.proofs.Common.{◌≡◌, ℕ, suc, List, Option, Some, None, refl, sym, ap, subst, ◌∙◌}
 use Rattle.std.specs.Prelude.{slice_get}
 use Rattle.std.proofs.lemmas.Option.{none-some, same_Some}
 use Rattle.bpf_model.specs.declared.insn.Insn.{Insn}
@@ -19,14 +19,14 @@ use Rattle.bpf_model.specs.Step.{Outcome, Moves, Exits}
 use Rattle.bpf_model.specs.MapState.{Store}
 use Rattle.bpf_model.specs.Machine.{Loaded, Run, Machine, fresh_run, open_sections, run_at, run_in}
 use Rattle.bpf_model.specs.MachineStep.{OutcomeStep, KernelStep, InsnStep, RunStep}
-use Rattle.bpf_model.specs.Event.{DoesEvent, IsReal, AreReal}
+use Rattle.bpf_model.specs.Event.{DoesEvent, IsReal}
 use Rattle.bpf_model.specs.Refines.{IsReachedSchedule, RunRefines, SlotRefines}
-use Rattle.bpf_model.specs.Schedule.{Schedule, IsScheduledHistory, last_scheduled, start_schedule}
+use Rattle.bpf_model.specs.Schedule.{Schedule, start_schedule}
 use Rattle.bpf_model.specs.View.{RunView, WorldView, HasExited, shapes_of}
 use Rattle.model_laws.proofs.Exits.{exits_alone}
 use Rattle.model_laws.proofs.Keeping.{no-run}
 use Rattle.typed_runs.proofs.Coming.{Comes, Stands, Starting, Stepping, does-come}
-use Rattle.typed_runs.proofs.Reaching.{real-rest}
+use Rattle.typed_runs.proofs.Reaching.{kept-last}
 use Rattle.world_invariant.specs.Invariant.{IsWorld}
 use Rattle.exit_laws.specs.Exits.{MayExitAs, ExitsAs}
 
@@ -99,18 +99,12 @@ lived-come m new r run all (Stepping s) = lived-step m.store new.store (open_sec
 all-lived : (m new : Machine) (event : Event) (answer : Answer) → IsReal event → AllLived m → DoesEvent m event answer new → AllLived new
 all-lived m new event answer real all h r run at = lived-come m new r run all (does-come m new event answer real h r run at)
 
-lived-last : (s : Schedule) (events : List Event) (answers : List Answer) (states : List Schedule) → AllLived s.machine → AreReal events → IsScheduledHistory s events answers states → AllLived (last_scheduled s states).machine
-lived-last s [] [] [] all real h = all
-lived-last s (event ∷ events) (answer ∷ answers) (next ∷ states) all real h =
-    lived-last next events answers states (all-lived s.machine next.machine event answer (real 0 event refl) all h.0.step) (real-rest event events real) h.1
-lived-last s events answers states all real h = absurd h
-
 lived-start : (shapes : List MapShape) (programs : List Loaded) → AllLived (start_schedule shapes programs).machine
 lived-start shapes programs r run at = absurd (no-run MAX_RUNS r run at)
 
 reached_has_lived : (shapes : List MapShape) (programs : List Loaded) (s : Schedule) → IsReachedSchedule shapes programs s → AllLived s.machine
 reached_has_lived shapes programs s r =
-    subst (λ (x : Schedule). AllLived x.machine) r.last (lived-last (start_schedule shapes programs) r.events r.answers r.states (lived-start shapes programs) r.real r.history)
+    subst (λ (x : Schedule). AllLived x.machine) r.last (kept-last AllLived (λ m new event answer real h all. all-lived m new event answer real all h) (start_schedule shapes programs) r.events r.answers r.states (lived-start shapes programs) r.real r.history)
 
 -- the run of the machine that a run of the world stands for
 record StandsFor (slots : List ℕ) (s : Schedule) (r : ℕ) (v : RunView) : Type 0 where

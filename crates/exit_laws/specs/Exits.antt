@@ -12,8 +12,8 @@ pub record MayExitAs (code : List Insn) (context : List ℕ) (n : ℕ) : Type 0 
   pub steps : ℕ
   pub exits : MayExitWith program context steps n
 
--- A program of these instructions, on this context, exits with this value and with no other,
--- whatever other actors do.
+-- A program of these instructions, on this context, exits with this value, whatever other actors
+-- do (and so with no other: law `one_exit`).
 pub record ExitsAs (code : List Insn) (context : List ℕ) (n : ℕ) : Type 0 where
   pub program : Loaded
   pub code_is : program.code ≡ code

@@ -12,7 +12,8 @@ use Rattle.element_arena.specs.State as state
 use Rattle.model_laws.specs.Locations.{Location, InSlot}
 use Rattle.maps.specs.Shown as shown
 use Rattle.world_laws.specs.Reaching as reaching
-use Rattle.helpers.specs.Elements.{IsElementReached, ReachesElement}
+use Rattle.world_laws.specs.Reaching.{IsElementReached}
+use Rattle.helpers.specs.Elements.{ReachesElement}
 
 same-times : (i : ℕ) (xs : List ℕ) → refines.times i xs ≡ state.times_in i xs
 same-times i [] = refl

@@ -25,7 +25,7 @@ use Rattle.view_laws.specs.Reactions.{with_run, locked_view, unlocked_view}
 use Rattle.world_laws.specs.Calling.{serves, helped, helped_on, returned_view}
 use Rattle.world_laws.specs.Calling as calling
 use Rattle.world_laws.specs.Locating.{location_of, loaded_word, number_from, bytes_of, offset_at}
-use Rattle.world_laws.specs.Moving.{word_in, operand_word, with_word, moved_view, jumped_to, branched, moves_on, ended_view, stored_frame, stored_slot, stored_at}
+use Rattle.world_laws.specs.Moving.{word_in, operand_word, with_word, jumped_to, branched, moves_on, ended_view, stored_frame, stored_slot, stored_at, advanced_view}
 use Rattle.world_laws.specs.Local.{LocalStep, Goes, Ends, Asks, local_of, local_load, local_store, Agrees}
 use Rattle.world_laws.specs.Reacting.{insn_step}
 use Rattle.world_laws.proofs.Local.{local_agrees}
@@ -37,7 +37,7 @@ use Rattle.machine.specs.Steps.{IsLocalStep}
 use Rattle.machine.specs.Requests.{access_of, section_access, entered_view, resumed_view}
 use Rattle.helpers.specs.Calls.{IsCall, called, called_on, called_at}
 use Rattle.helpers.specs.Elements.{ReachesElement, element_number, maps_after_store, stored_element}
-use Rattle.helpers.specs.Serving.{CanServe, IsReply, maps_after, grace_after, with_opened, IsFlagged, flags_of, world_with, IsOwnWorld}
+use Rattle.helpers.specs.Serving.{CanServe, IsReply, maps_after, grace_after, with_opened, IsFlagged, grace_of, world_with, IsOwnWorld}
 use Rattle.bpf_model.proofs.Lists.{set-same}
 
 -- what a load finds, where it reaches an element
@@ -58,7 +58,7 @@ slot_is w width number map slot (negsuc n) None = refl
 module _ (r : ℕ) (v : RunView) (w : WorldView) (f : IsFlagged w r v) where
   -- the world after a move of the run, where only its maps have changed else
   abbrev on : List MapView → RunView → WorldView
-  on maps new = world_with maps (flags_of w) r new w
+  on maps new = world_with maps (grace_of w) r new w
 
   -- a move at the same depth leaves all flags
   kept : (maps : List MapView) (new : RunView) → new.depth ≡ v.depth → with_run r (Some new) (record w { maps = maps }) ≡ on maps new
@@ -72,15 +72,15 @@ module _ (r : ℕ) (v : RunView) (w : WorldView) (f : IsFlagged w r v) where
   moved maps new same = ap (λ (x : WorldView). (let y : Answer × WorldView = (answers.Moved, x) in y)) (kept maps new same)
 
   -- a lock and an unlock
-  passed : (new : RunView) (b : Bool) → nat_lt 0 new.depth ≡ b → moves_on r new w ≡ (answers.Moved, world_with w.maps (with_opened (flags_of w) (slice_set w.opened r b)) r new w)
-  passed new b e = ap (λ (c : Bool). (let y : Answer × WorldView = (answers.Moved, world_with w.maps (with_opened (flags_of w) (slice_set w.opened r c)) r new w) in y)) e
+  passed : (new : RunView) (b : Bool) → nat_lt 0 new.depth ≡ b → moves_on r new w ≡ (answers.Moved, world_with w.maps (with_opened (grace_of w) (slice_set w.opened r b)) r new w)
+  passed new b e = ap (λ (c : Bool). (let y : Answer × WorldView = (answers.Moved, world_with w.maps (with_opened (grace_of w) (slice_set w.opened r c)) r new w) in y)) e
 
   -- a store
-  stored : (width number : ℕ) (offset : ℤ) (l : Location) → ReachesElement w.maps width offset l → (new : RunView) → new ≡ moved_view v.registers v.frame (v.place + 1) v
+  stored : (width number : ℕ) (offset : ℤ) (l : Location) → ReachesElement w.maps width offset l → (new : RunView) → new ≡ advanced_view 1 v
       → stored_at width number offset l r v w ≡ (answers.Moved, on (stored_element width number offset l w.maps) new)
   stored width number offset (InSlot map slot o) h new e =
-      ap (moves_on r (moved_view v.registers v.frame (v.place + 1) v)) (slot_is w width number map slot (o +ℤ offset) (slice_get w.maps map))
-      ∙ moved (stored_element width number offset (InSlot map slot o) w.maps) (moved_view v.registers v.frame (v.place + 1) v) refl
+      ap (moves_on r (advanced_view 1 v)) (slot_is w width number map slot (o +ℤ offset) (slice_get w.maps map))
+      ∙ moved (stored_element width number offset (InSlot map slot o) w.maps) (advanced_view 1 v) refl
       ∙ ap (λ (x : RunView). (let y : Answer × WorldView = (answers.Moved, on (stored_element width number offset (InSlot map slot o) w.maps) x) in y)) (sym e)
   stored width number offset (InContext o) h new e = absurd h
   stored width number offset (InFrame o) h new e = absurd h
@@ -106,7 +106,7 @@ module _ (r : ℕ) (v : RunView) (w : WorldView) (f : IsFlagged w r v) where
   module _ (program : Loaded) (word : ℕ) where
     -- the world once the request is served and the run has gone on
     abbrev Done : Insn → Access → Type 0
-    Done i access = insn_step i program r v w ≡ (answers.Moved, world_with (maps_after access program.maps v w.maps) (grace_after access r (flags_of w)) r (resumed_view i word v) w)
+    Done i access = insn_step i program r v w ≡ (answers.Moved, world_with (maps_after access program.maps v w.maps) (grace_after access r (grace_of w)) r (resumed_view i word v) w)
 
     abbrev Served : Insn → Access → Type 0
     Served i access = CanServe access program.maps w.maps v → IsReply access program.maps w.maps v word → Done i access
@@ -120,10 +120,10 @@ module _ (r : ℕ) (v : RunView) (w : WorldView) (f : IsFlagged w r v) where
     passes imm None access e g = λ can reply. absurd (none-some access g)
     passes imm (Some ReadLock) access e g = subst (Served (insns.Call Kernel imm)) (same_Some Enter access g) (λ can reply.
         ap (λ (o : Option KernelFunction). calling.entered o r v w) e ∙ passed (locked_view v) true (lt-ltb 0 (v.depth + 1) (omega arith))
-        ∙ ap (λ (o : Option KernelFunction). (let y : Answer × WorldView = (answers.Moved, world_with w.maps (grace_after Enter r (flags_of w)) r (entered_view o v) w) in y)) (sym e))
+        ∙ ap (λ (o : Option KernelFunction). (let y : Answer × WorldView = (answers.Moved, world_with w.maps (grace_after Enter r (grace_of w)) r (entered_view o v) w) in y)) (sym e))
     passes imm (Some ReadUnlock) access e g = subst (Served (insns.Call Kernel imm)) (same_Some Leave access g) (λ can reply.
         ap (λ (o : Option KernelFunction). calling.entered o r v w) e ∙ passed (unlocked_view v) false (le-ltb 0 (v.depth - 1) (omega (arith, f.depth)))
-        ∙ ap (λ (o : Option KernelFunction). (let y : Answer × WorldView = (answers.Moved, world_with w.maps (grace_after Leave r (flags_of w)) r (entered_view o v) w) in y)) (sym e))
+        ∙ ap (λ (o : Option KernelFunction). (let y : Answer × WorldView = (answers.Moved, world_with w.maps (grace_after Leave r (grace_of w)) r (entered_view o v) w) in y)) (sym e))
 
     loads : (i : Insn) (make : ℕ → ℕ) (dst width address : ℕ) (offset : ℤ) → ReachesElement w.maps width offset (location_of address) → word ≡ element_number w.maps width offset (location_of address)
         → moves_on r (with_word 1 dst (make (loaded_word w v width offset address)) v) w ≡ (answers.Moved, on w.maps (with_word 1 dst (make word) v))
@@ -136,7 +136,7 @@ module _ (r : ℕ) (v : RunView) (w : WorldView) (f : IsFlagged w r v) where
     served_is (insns.LoadSigned width dst src offset) access e = subst (Served (insns.LoadSigned width dst src offset)) (same_Some _ access e)
         (loads (insns.LoadSigned width dst src offset) (loaded_signed width) dst (byte_count (unsigned_width width)) (word_in v src) offset)
     served_is (insns.Store width dst offset src) access e = subst (Served (insns.Store width dst offset src)) (same_Some _ access e) (λ can reply.
-        stored (byte_count width) (operand_word v src) offset (location_of (word_in v dst)) can (moved_view v.registers v.frame (v.place + 1) v) refl)
+        stored (byte_count width) (operand_word v src) offset (location_of (word_in v dst)) can (advanced_view 1 v) refl)
     served_is (insns.Call Helper imm) access e = calls imm (helper_of imm) access refl e
     served_is (insns.Call Kernel imm) access e = passes imm (kernel_function_of imm) access refl e
     served_is i access e = λ can reply. absurd (none-some access e)
@@ -191,10 +191,10 @@ keeps-run (insns.Store width dst offset src) v = store-run (byte_count width) of
 module _ (r : ℕ) (v : RunView) (w : WorldView) (f : IsFlagged w r v) (asked : Option Access) (after : RunView) (x : Answer × WorldView) where
   own : (local : LocalStep) (answer : code.Local) → Agrees local r v w x → KeepsRun v local → IsLocalStep local asked v answer after → IsOwnWorld answer asked r v after w x
   own (Goes new) answer agrees same (e, g) = subst (λ (a : code.Local). IsOwnWorld a asked r v after w x) (sym e)
-      (agrees ∙ moved r v w f w.maps new same.0 ∙ ap (λ (n : RunView). (let y : Answer × WorldView = (answers.Moved, world_with w.maps (flags_of w) r n w) in y)) (sym g))
+      (agrees ∙ moved r v w f w.maps new same.0 ∙ ap (λ (n : RunView). (let y : Answer × WorldView = (answers.Moved, world_with w.maps (grace_of w) r n w) in y)) (sym g))
   own (Ends n) answer agrees same (e, g) = subst (λ (a : code.Local). IsOwnWorld a asked r v after w x) (sym e)
       (agrees ∙ ap (λ (u : WorldView). (let y : Answer × WorldView = (answers.Exited n, u) in y)) (kept r v w f w.maps (ended_view n v) refl)
-      ∙ ap (λ (u : RunView). (let y : Answer × WorldView = (answers.Exited n, world_with w.maps (flags_of w) r u w) in y)) (sym g))
+      ∙ ap (λ (u : RunView). (let y : Answer × WorldView = (answers.Exited n, world_with w.maps (grace_of w) r u w) in y)) (sym g))
   own Asks answer agrees same (access, is, e, g) = subst (λ (a : code.Local). IsOwnWorld a asked r v after w x) (sym e) (is, g)
 
 pub own_is : (i : Insn) (program : Loaded) (r : ℕ) (v after : RunView) (w : WorldView) (asked : Option Access) (answer : code.Local) → IsFlagged w r v → IsLocalStep (local_of i v) asked v answer after → IsOwnWorld answer asked r v after w (insn_step i program r v w)
@@ -245,7 +245,7 @@ module _ (g : GraceState) (r : ℕ) (v : RunView) (opened : slice_get g.opened r
   pub goes_on : (i : Insn) (access : Access) → access_of i v ≡ Some access → GoesOn g r v access (resumed_view i word v)
   goes_on (insns.Load width dst src offset) access e = subst (λ a. GoesOn g r v a (with_word 1 dst word v)) (same_Some _ access e) (record { program = refl; opened = stays })
   goes_on (insns.LoadSigned width dst src offset) access e = subst (λ a. GoesOn g r v a (with_word 1 dst (loaded_signed width word) v)) (same_Some _ access e) (record { program = refl; opened = stays })
-  goes_on (insns.Store width dst offset src) access e = subst (λ a. GoesOn g r v a (moved_view v.registers v.frame (v.place + 1) v)) (same_Some _ access e) (record { program = refl; opened = stays })
+  goes_on (insns.Store width dst offset src) access e = subst (λ a. GoesOn g r v a (advanced_view 1 v)) (same_Some _ access e) (record { program = refl; opened = stays })
   goes_on (insns.Call Helper imm) access e = calls-on (helper_of imm) access e
   goes_on (insns.Call Kernel imm) access e = passes-on (kernel_function_of imm) access e
   goes_on i access e = absurd (none-some access e)

@@ -1,23 +1,16 @@
 -- What an access to an element's value reaches, finds and leaves, over the maps alone.
-use Rattle.std.specs.Prelude.{◌≡◌, ℕ, List, Option, Some, slice_get, slice_set, ℤ, pos, ◌+ℤ◌}
+use Rattle.std.specs.Prelude.{ℕ, List, Option, Some, slice_get, slice_set, ℤ, pos, ◌+ℤ◌}
 use Rattle.bpf_model.specs.MachineStep.{with_bytes}
 use Rattle.bpf_model.specs.View.{MapView, value_in}
 use Rattle.model_laws.specs.Locations.{Location, InSlot}
 use Rattle.view_laws.specs.Views.{written}
 use Rattle.world_laws.specs.Locating.{number_from, value_of}
-use Rattle.world_laws.specs.Reaching.{IsInside, HasElement}
+use Rattle.world_laws.specs.Reaching.{IsElementReached}
 
--- a slot of a map
+-- the location lies in a map slot
 abbrev pub IsInSlot : Location → Type 0
 IsInSlot (InSlot map slot o) = Unit {0}
 IsInSlot l = ⊥
-
--- so many bytes of the value of an element in this slot
-pub record IsElementReached (maps : List MapView) (width map slot : ℕ) (offset : ℤ) : Type 0 where
-  pub view : MapView
-  pub there : slice_get maps map ≡ Some view
-  pub occupied : HasElement view slot
-  pub inside : IsInside view.shape.value_len width offset
 
 -- The access, at an offset from the location, reaches the value of an element.
 abbrev pub ReachesElement : List MapView → ℕ → ℤ → Location → Type 0

@@ -59,15 +59,15 @@ grace_after Enter run g = with_opened g (slice_set g.opened run true)
 grace_after Leave run g = with_opened g (slice_set g.opened run false)
 grace_after access run g = g
 
--- A run that has not ended stands in run slot r of the world with this view. Its flag is set where
--- its depth says so, and no section is awaited that is not open.
+-- The flag of run slot r is set where the depth of this view says so, no section is awaited that is
+-- not open, and the depth is at most MAX_DEPTH.
 pub record IsFlagged (w : WorldView) (r : ℕ) (v : RunView) : Type 0 where
   pub opened : slice_get w.opened r ≡ Some (nat_lt 0 v.depth)
   pub awaited : still_open w.awaited w.opened ≡ w.awaited
   pub depth : v.depth ≤ MAX_DEPTH
 
-abbrev pub flags_of : WorldView → GraceState
-flags_of w = record { opened = w.opened; awaited = w.awaited }
+abbrev pub grace_of : WorldView → GraceState
+grace_of w = record { opened = w.opened; awaited = w.awaited }
 
 -- the world in which the run in run slot r has another view, with these maps and flags
 abbrev pub world_with : List MapView → GraceState → ℕ → RunView → WorldView → WorldView
@@ -85,9 +85,9 @@ world_with maps g r v w =
 -- answers, and the world after it. A run that asks is as before.
 abbrev pub IsOwnWorld : Local → Option Access → ℕ → RunView → RunView → WorldView →
     Answer × WorldView → Type 0
-IsOwnWorld Moved asked r v after w x = x ≡ (answers.Moved, world_with w.maps (flags_of w) r after w)
+IsOwnWorld Moved asked r v after w x = x ≡ (answers.Moved, world_with w.maps (grace_of w) r after w)
 IsOwnWorld (Exit n) asked r v after w x =
-    x ≡ (answers.Exited n, world_with w.maps (flags_of w) r after w)
+    x ≡ (answers.Exited n, world_with w.maps (grace_of w) r after w)
 IsOwnWorld (Shared access) asked r v after w x = (asked ≡ Some access) × (after ≡ v)
 
 -- the world's step once the request is served, with this word, and the run has gone on
@@ -95,5 +95,5 @@ abbrev pub served_step : Access → Insn → Loaded → ℕ → ℕ → RunView 
 served_step access i program word r v w = (
   answers.Moved,
   world_with (maps_after access program.maps v w.maps)
-      (grace_after access r (flags_of w)) r (resumed_view i word v) w,
+      (grace_after access r (grace_of w)) r (resumed_view i word v) w,
 )

@@ -14,7 +14,7 @@ use maps::Registry;
 /// the numbers of its program's maps.
 ///
 /// A load answers the number that it finds, and a helper the word for r0. A store, a lock and
-/// an unlock answer 0, of which the run makes nothing.
+/// an unlock answer any word: the run makes nothing of it.
 pub fn serve(
     access: Access,
     run: &Run,

@@ -12,7 +12,7 @@ pub enum PoolFault {
     TooManyJobs,
     #[error("out of memory")]
     Memory,
-    #[error("the result of a job is missing, double or of another job")]
+    #[error("the result of a job is missing or double, or is of no job")]
     Lost,
 }
 

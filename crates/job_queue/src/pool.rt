@@ -172,7 +172,7 @@ fn serve_each<S: Serve + Sync, R: Threads + Wait + Sync>(
 /// - `BadWorkers`: `threads` is 0, above `MAX_WORKERS`, or more than there are workers.
 /// - `TooManyJobs`: there are more than `MAX_JOBS`.
 /// - `Memory`: there is none; some jobs may have been served.
-/// - `Lost`: the result of a job is missing, double or of another job.
+/// - `Lost`: the result of a job is missing or double, or is of no job.
 ///
 /// That it returns is not claimed: its threads wait for one another.
 pub fn serve_all<S: Serve + Sync, R: Threads + Wait + Sync>(

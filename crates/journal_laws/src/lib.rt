@@ -41,7 +41,7 @@ pub fn replays_push()
 /// began.
 pub fn run_all_replays()
     ensures { (base : WorldView) (entries : List Entry) → IsWorld base → HasNoRuns base →
-        ((k : ℕ) (event : Event) → slice_get (events_of entries) k ≡ Some event → IsReal event) →
+        AreReal (events_of entries) →
         answers_of entries ≡ (full_reactions base (events_of entries)).0 →
         Replays base (full_reactions base (events_of entries)).1 entries }
 {}

@@ -7,6 +7,7 @@ use Rattle.std.proofs.lemmas.List.Concat.{flat_map-append}
 use Rattle.std.proofs.lemmas.Option.{same_Some}
 use Rattle.bpf_model.specs.declared.limits.MapShape.{MapShape}
 use Rattle.bpf_model.specs.View.{new_map_view}
+use Rattle.bpf_model.proofs.Lists.{heads, tails}
 use Rattle.maps.specs.Registry.{RegistryView, no_maps}
 use Rattle.loader.specs.Lines.{file_words, IsDecimalWord, code_slots, both_parts, slot_in}
 use Rattle.loader.specs.ProgramFile.{FileContent, IsContextLine, IsMapLine, AddsMap, AddMaps, IsProgramFile, IsFileBeginning, IsWrongAfter, IsFirstWrongLine}
@@ -18,12 +19,6 @@ use Rattle.loader.specs.declared.loading.Stage.TheVariants.{Context, Maps, Code}
 
 abbrev code_line : List ℕ
 code_line = codes "code"
-
-heads : (x y : List ℕ) (xs ys : List (List ℕ)) → (x ∷ xs) ≡ y ∷ ys → x ≡ y
-heads x y xs ys e = cc
-
-tails : (x y : List ℕ) (xs ys : List (List ℕ)) → (x ∷ xs) ≡ y ∷ ys → xs ≡ ys
-tails x y xs ys e = cc
 
 none_is : (x : List ℕ) (xs : List (List ℕ)) → [] ≡ x ∷ xs → ⊥
 none_is x xs e = cc

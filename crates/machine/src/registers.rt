@@ -1,8 +1,8 @@
 //! Going on after a reply.
 ghost use Rattle.std.specs.Prelude.{◌≡◌, ◌<◌, ◌≤◌};
-ghost use Rattle.world_laws.specs.Moving.{with_word};
+ghost use Rattle.world_laws.specs.Moving.{with_word, advanced_view};
 ghost use Rattle.machine.specs.RunWords.{HasRoom};
-ghost use Rattle.machine.specs.Moves.{GoesOn, advanced_view};
+ghost use Rattle.machine.specs.Moves.{GoesOn};
 
 use crate::run::Run;
 use bpf_model::Reg;

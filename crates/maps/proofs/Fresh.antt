@@ -13,6 +13,7 @@ use Rattle.bpf_model.specs.MapState.{IsShape}
 use Rattle.std.proofs.lemmas.Option.{none-some}
 use Rattle.std.proofs.lemmas.List.{length-replicate}
 use Rattle.bpf_model.specs.View.{MapView, unused_slot, new_map_view}
+use Rattle.bpf_model.specs.Schedule.{no_queues}
 use Rattle.element_arena.specs.State.{times_in, is_at, indexed, key_at, value_at, worn_at, new_arena}
 use Rattle.element_arena.proofs.Counts.{one_cases}
 use Rattle.maps.specs.Parted.{PartsView, IsParted}
@@ -47,7 +48,7 @@ no-key : (key : List ℕ) → get (map.empty {K = List ℕ} {X = ℕ} {R = slice
 no-key key = get-empty (slice_cmp nat_cmp) key
 
 abbrev pub fresh : ℕ → ℕ → ℕ → ℕ → PartsView
-fresh n key_len value_len limit = record { index = map.empty; lists = record { next = []; waiting = []; ready = [] }; arena = new_arena n key_len value_len limit }
+fresh n key_len value_len limit = record { index = map.empty; lists = no_queues; arena = new_arena n key_len value_len limit }
 
 pub parted-fresh : (n key_len value_len limit : ℕ) → IsParted (fresh n key_len value_len limit)
 parted-fresh n key_len value_len limit =

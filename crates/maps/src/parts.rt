@@ -1,7 +1,7 @@
 //! An arena with an index and the lists that stand in it.
 ghost use Rattle.std.specs.Prelude.{◌≡◌, ◌≢◌, ◌<◌, ◌≤◌, ◌+◌, ◌++◌, ◌∷◌, [], ℕ, List, length, slice_get, None, Some, IfSome, IfNone, IfOk, drop, if◌then◌else◌, option_copied};
 ghost use Rattle.std.specs.FinMap as map;
-ghost use Rattle.bpf_model.specs.Schedule.{turned};
+ghost use Rattle.bpf_model.specs.Schedule.{turned, no_queues};
 ghost use Rattle.bpf_model.specs.declared.event.Given.TheVariants as given;
 ghost use Rattle.bpf_model.specs.Access.{byte_count, number_at};
 ghost use Rattle.bpf_model.specs.MachineStep.{with_bytes};
@@ -227,7 +227,7 @@ impl<I: Index + Drop, D: Deferred + Drop> Parts<I, D> {
         requires { IsShape shape }
         ensures { IfOk result (λ p. p ≡ record {
           index = map.empty;
-          lists = record { next = []; waiting = []; ready = [] };
+          lists = no_queues;
           arena = new_arena (shape.entries + shape.spare)
               shape.key_len shape.value_len shape.reuse_limit;
         }) }

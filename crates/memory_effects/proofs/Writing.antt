@@ -1,7 +1,6 @@
 -- Stores lead from described runs to described ones.
 use Rattle.std.proofs.Common.{◌≡◌, ℕ, ◌+◌, List, Option, Some, None, inl, refl, sym, ap, subst, ◌∙◌, ℤ}
 use Rattle.std.specs.Prelude.{◌+ℤ◌}
-use Rattle.std.proofs.lemmas.Option.{none-some}
 use Rattle.bpf_model.specs.declared.limits.MapShape.{MapShape}
 use Rattle.bpf_model.specs.declared.limits.TheConstants.{FRAME_BYTES}
 use Rattle.bpf_model.specs.declared.insn.Insn.TheVariants.{Store}
@@ -9,7 +8,6 @@ use Rattle.bpf_model.specs.declared.insn.Operand.{Operand}
 use Rattle.bpf_model.specs.declared.insn.Operand.TheVariants.{Register}
 use Rattle.bpf_model.specs.declared.opcode.Width.{Width}
 use Rattle.bpf_model.specs.declared.opcode.Width.TheVariants.{Eight}
-use Rattle.bpf_model.specs.declared.value.Value.{Value}
 use Rattle.bpf_model.specs.declared.value.Value.TheVariants.{Number, Pointer}
 use Rattle.bpf_model.specs.declared.value.Reference.TheVariants.{Frame}
 use Rattle.bpf_model.specs.declared.value.Cell.{Cell}
@@ -18,20 +16,14 @@ use Rattle.bpf_model.specs.Operand.{operand_value}
 use Rattle.bpf_model.specs.Access.{byte_count, region_offset}
 use Rattle.bpf_model.specs.Frame.{with_number}
 use Rattle.bpf_model.specs.Step.{Outcome, Moves, stored, frame_after, store_to}
-use Rattle.bpf_model.specs.Element.{Element}
-use Rattle.bpf_model.specs.MachineStep.{element_store}
 use Rattle.typed_runs.specs.Kinds.{Kind, FrameAt, ByteCell, PartCell, AbsState}
 use Rattle.typed_runs.specs.Effects.{with_cells, IsNumberOperand, IsWritten}
 use Rattle.typed_runs.specs.Verified.{Transfers}
 use Rattle.typed_runs.proofs.Arguments.{reg-is}
 use Rattle.typed_runs.proofs.Local.{alone_transfers}
 use Rattle.typed_runs.proofs.Example.{bytes-described}
-use Rattle.typed_runs.proofs.Spilling.{spill_transfers}
+use Rattle.typed_runs.proofs.Spilling.{spill_transfers, no-element}
 use Rattle.typed_runs.proofs.Elements.{operand-number}
-
-not-element : (es : List Element) (width : ℕ) (offset : ℤ) (v base : Value) (n : ℕ) (o : ℤ) (new : List Element) → v ≡ Number n → base ≡ Pointer (Frame o) → element_store es width offset v base ≡ Some new → ⊥
-not-element es width offset v base n o new e f h =
-    none-some new (sym (ap (λ x. element_store es width offset x base) e ∙ ap (element_store es width offset (Number n)) f) ∙ h)
 
 pub number_stored : (width : Width) (dst : ℕ) (offset : ℤ) (src : Operand) (shapes : List MapShape) (ctx_len : ℕ) (a : AbsState) (o : ℤ) (at : ℕ) → a.regs dst ≡ FrameAt o
     → region_offset FRAME_BYTES (byte_count width) (o +ℤ offset) ≡ Some at → IsNumberOperand a src → Transfers (Store width dst offset src) shapes ctx_len a (with_cells at (byte_count width) ByteCell a) None
@@ -43,7 +35,7 @@ number_stored width dst offset src shapes ctx_len a o at e p number = alone_tran
       out = Moves (record { regs = m.regs; frame = with_number at w x.0 m.frame; place = m.place + 1 });
       after_is = ap (store_to m w offset (operand_value src m.regs)) base
           ∙ (ap (λ v. stored m w offset v (Frame o)) x.1 ∙ ap (λ q. q >>= λ k. frame_after k w (Number x.0) m.frame >>= goes) p);
-      alone = λ es fs other h. not-element es w offset (operand_value src m.regs) (m.regs dst) x.0 o fs x.1 base h.0;
+      alone = λ es fs other h. no-element es w offset (operand_value src m.regs) (m.regs dst) o fs base h.0;
       lands = inl (refl, refl, bytes-described a c m at w x.0 (m.place + 1) d);
     })
 

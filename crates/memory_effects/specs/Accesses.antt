@@ -3,29 +3,21 @@ use Rattle.std.specs.Prelude.{◌≡◌, ℕ, ◌+◌, ◌^◌, ◌<◌, ◌≤�
 use Rattle.std.specs.Prelude.{Result, IsOk}
 use Rattle.bpf_model.specs.declared.limits.TheConstants.{FRAME_BYTES}
 use Rattle.bpf_model.specs.declared.limits.MapShape.{MapShape}
-use Rattle.bpf_model.specs.declared.insn.Insn.{Insn}
 use Rattle.bpf_model.specs.Access.{region_offset}
 use Rattle.scalar_domain.specs.declared.scalar.Scalar.{Scalar}
 use Rattle.typed_runs.specs.Kinds.{Kind, Num, CtxAt, FrameAt, ValueAt, ByteCell, PartCell}
 use Rattle.typed_runs.specs.Kinds.{AbsState as Known}
-use Rattle.typed_runs.specs.Effects.{IsAlwaysInside, IsPointer, with_kind, with_cells}
+use Rattle.typed_runs.specs.Effects.{IsAlwaysInside, IsPointer, with_cells}
 use Rattle.typed_runs.specs.Planned.{AreAlike}
 use Rattle.kind_tests.specs.declared.fault.Fault.{Fault}
-use Rattle.typed_runs.specs.Verified.{Transfers}
 use Rattle.register_kinds.specs.declared.state.AbsState.{AbsState}
 use Rattle.register_kinds.specs.declared.kind.RegKind.TheVariants as kinds
-use Rattle.register_kinds.specs.States.{kind_of, kind_in, state_of}
+use Rattle.register_kinds.specs.States.{kind_of, kind_in}
 use Rattle.memory_effects.specs.declared.region.Address.{Address}
 use Rattle.memory_effects.specs.declared.region.Region.{Region}
 use Rattle.memory_effects.specs.declared.region.Region.TheVariants as regions
 use Rattle.memory_effects.specs.declared.reads.Reads.{Reads}
 use Rattle.memory_effects.specs.declared.reads.Reads.TheVariants as reads
-
--- From each run that the old state describes the instruction has a step, and each leads to one that
--- the new state describes.
-abbrev pub PerformsAccess : Insn → ℕ → List MapShape → AbsState → AbsState → Type 0
-PerformsAccess insn ctx_len shapes old new =
-    Transfers insn shapes ctx_len (state_of old) (state_of new) None
 
 -- a reference into the region; none is into no region
 abbrev pub IsBase : Region → Kind → Type 0
@@ -98,12 +90,6 @@ IsReadByLoad (reads.FramePointer kind) a width from ctx_len shapes =
 abbrev pub read_kind : Reads → Scalar → Kind
 read_kind (reads.FramePointer kind) numbers = kind_of kind
 read_kind other numbers = Num numbers
-
--- The load is not refused, and the register becomes a number.
-pub record LoadsNumber (r : Result Region Fault) (dst : ℕ) (a b : Known) : Type 0 where
-  pub fine : IsOk r
-  pub number : Scalar
-  pub alike : AreAlike (with_kind dst (Num number) a) b
 
 -- The store is not refused, and so many bytes of the frame become bytes of a number.
 pub record StoresBytes {A : Type 0} (r : Result A Fault) (at width : ℕ) (a b : Known) : Type 0 where

@@ -2,8 +2,9 @@
 ghost use Rattle.std.specs.Prelude.{◌≡◌, ℕ, OnOk, OnErr, IfOk};
 ghost use Rattle.register_kinds.specs.States.{kind_at, state_of};
 ghost use Rattle.bpf_model.specs.Access.{byte_count, unsigned_width};
+ghost use Rattle.kind_tests.specs.Performs.{Performs, SetsNumber};
 ghost use Rattle.register_kinds.specs.Pairs.{AreBelow};
-ghost use Rattle.memory_effects.specs.Accesses.{PerformsAccess, IsBase, ReadsBytes, ReadsValue, LoadsNumber};
+ghost use Rattle.memory_effects.specs.Accesses.{IsBase, ReadsBytes, ReadsValue};
 
 use crate::environment::EnvironmentShape;
 use crate::reads::read;
@@ -32,16 +33,16 @@ pub fn load(
     from: Address,
     shape: &EnvironmentShape,
 ) -> Result<Region, Fault>
-    ensures sound { OnOk result (PerformsAccess
+    ensures sound { OnOk result (Performs
         (Insn.Load width dst from.base from.offset) shape.now.ctx_len
         shape.now.shapes.now state.old state.new) }
     ensures region { IfOk result (λ region. IsBase region (kind_at state.old.regs from.base)) }
     ensures bytes { (10 ≡ dst → ⊥)
         → ReadsBytes (state_of state.old) from.base (byte_count width) from.offset
-        → LoadsNumber result dst (state_of state.old) (state_of state.new) }
+        → SetsNumber result dst (state_of state.old) (state_of state.new) }
     ensures value { (map : ℕ) → (10 ≡ dst → ⊥)
         → ReadsValue shape.now.shapes.now state.old from.base map (byte_count width) from.offset
-        → LoadsNumber result dst (state_of state.old) (state_of state.new) }
+        → SetsNumber result dst (state_of state.old) (state_of state.new) }
     ensures below { (top : ℕ) → AreBelow top state.old → AreBelow top state.new }
     ensures unchanged { OnErr result (state.new ≡ state.old) }
 {
@@ -59,17 +60,17 @@ pub fn load_signed(
     from: Address,
     shape: &EnvironmentShape,
 ) -> Result<Region, Fault>
-    ensures sound { OnOk result (PerformsAccess
+    ensures sound { OnOk result (Performs
         (Insn.LoadSigned width dst from.base from.offset) shape.now.ctx_len
         shape.now.shapes.now state.old state.new) }
     ensures region { IfOk result (λ region. IsBase region (kind_at state.old.regs from.base)) }
     ensures bytes { (10 ≡ dst → ⊥)
         → ReadsBytes (state_of state.old) from.base (byte_count (unsigned_width width)) from.offset
-        → LoadsNumber result dst (state_of state.old) (state_of state.new) }
+        → SetsNumber result dst (state_of state.old) (state_of state.new) }
     ensures value { (map : ℕ) → (10 ≡ dst → ⊥)
         → ReadsValue shape.now.shapes.now state.old from.base map
         (byte_count (unsigned_width width)) from.offset
-        → LoadsNumber result dst (state_of state.old) (state_of state.new) }
+        → SetsNumber result dst (state_of state.old) (state_of state.new) }
     ensures below { (top : ℕ) → AreBelow top state.old → AreBelow top state.new }
     ensures unchanged { OnErr result (state.new ≡ state.old) }
 {

@@ -1,10 +1,11 @@
 //! Stores.
 ghost use Rattle.std.specs.Prelude.{◌≡◌, ℕ, List, OnOk, OnErr, IfOk, Ok};
 ghost use Rattle.bpf_model.specs.Access.{byte_count};
+ghost use Rattle.kind_tests.specs.Performs.{Performs};
 ghost use Rattle.typed_runs.specs.Effects.{IsNumberOperand, IsWritten};
 ghost use Rattle.register_kinds.specs.States.{kind_in, kind_at, kind_of, state_of};
 ghost use Rattle.register_kinds.specs.Pairs.{AreBelow};
-ghost use Rattle.memory_effects.specs.Accesses.{PerformsAccess, IsBase, ReachesFrame, StoresBytes};
+ghost use Rattle.memory_effects.specs.Accesses.{IsBase, ReachesFrame, StoresBytes};
 
 use crate::offset::offset_in;
 use crate::reads::check_value;
@@ -52,7 +53,7 @@ fn store_number(
     requires base { kind_in state.old.regs to.base ≡ RegKind.Frame start }
     requires number { IsNumberOperand (state_of state.old) src.now }
     ensures sound { OnOk result ((ctx_len : ℕ) (shapes : List MapShape)
-        → PerformsAccess (Insn.Store width to.base to.offset src.now)
+        → Performs (Insn.Store width to.base to.offset src.now)
         ctx_len shapes state.old state.new) }
     ensures bytes { (at : ℕ)
         → ReachesFrame (state_of state.old) to.base (byte_count width) to.offset at
@@ -78,7 +79,7 @@ fn store_pointer(
     requires value { (r : ℕ) × (src.now ≡ Operand.Register r) × (kind_in state.old.regs r ≡ kind) }
     requires written { IsWritten (kind_of kind) }
     ensures sound { OnOk result ((ctx_len : ℕ) (shapes : List MapShape)
-        → PerformsAccess (Insn.Store width to.base to.offset src.now)
+        → Performs (Insn.Store width to.base to.offset src.now)
         ctx_len shapes state.old state.new) }
     ensures below { (top : ℕ) → AreBelow top state.old → AreBelow top state.new }
     ensures unchanged { OnErr result (state.new ≡ state.old) }
@@ -106,7 +107,7 @@ fn check_store(
     requires base { kind_in state.now.regs to.base ≡ RegKind.Value map offset }
     requires number { IsNumberOperand (state_of state.now) src.now }
     ensures sound { OnOk result ((ctx_len : ℕ)
-        → PerformsAccess (Insn.Store width to.base to.offset src.now)
+        → Performs (Insn.Store width to.base to.offset src.now)
         ctx_len shapes.now state.now state.now) }
 {
     let _shape = check_value(offset, width, to.offset, map, shapes)?;
@@ -123,7 +124,7 @@ fn store_frame(
 ) -> Result<(), Fault>
     requires base { kind_in state.old.regs to.base ≡ RegKind.Frame start }
     ensures sound { OnOk result ((ctx_len : ℕ) (shapes : List MapShape)
-        → PerformsAccess (Insn.Store width to.base to.offset src.now)
+        → Performs (Insn.Store width to.base to.offset src.now)
         ctx_len shapes state.old state.new) }
     ensures bytes { (at : ℕ) → IsNumberOperand (state_of state.old) src.now
         → ReachesFrame (state_of state.old) to.base (byte_count width) to.offset at
@@ -149,7 +150,7 @@ fn store_value(
 ) -> Result<(), Fault>
     requires base { kind_in state.now.regs to.base ≡ RegKind.Value map offset }
     ensures sound { OnOk result ((ctx_len : ℕ)
-        → PerformsAccess (Insn.Store width to.base to.offset src.now)
+        → Performs (Insn.Store width to.base to.offset src.now)
         ctx_len shapes.now state.now state.now) }
 {
     match stored_value(state, src)? {
@@ -178,7 +179,7 @@ pub fn store(
     shapes: &[MapShape],
 ) -> Result<Region, Fault>
     ensures sound { OnOk result ((ctx_len : ℕ)
-        → PerformsAccess (Insn.Store width to.base to.offset src.now)
+        → Performs (Insn.Store width to.base to.offset src.now)
         ctx_len shapes.now state.old state.new) }
     ensures region { IfOk result (λ region. IsBase region (kind_at state.old.regs to.base)) }
     ensures bytes { (at : ℕ) → IsNumberOperand (state_of state.old) src.now

@@ -5,7 +5,7 @@ use Rattle.std.proofs.Math.Dec.{eqb-suc-zero}
 use Rattle.std.proofs.lemmas.Bool.{eqb-true, eq-eqb, false_from_ne_true, and_parts, false≢true}
 use Rattle.std.proofs.lemmas.Option.{none-some, same_Some}
 use Rattle.std.proofs.lemmas.List.Sums.{sum_by-cons, sum_by-append}
-use Rattle.bpf_model.proofs.Cases.{option_cases}
+use Rattle.bpf_model.proofs.Cases.{option_cases, none-at, none-without}
 use Rattle.bpf_model.specs.Element.{Element, is_linked, is_unlinked}
 use Rattle.bpf_model.specs.Schedule.{Queues, is_any, still_open, unlinked_between, retired, or_first, first_ready, without_first}
 use Rattle.bpf_model.specs.Refines.{times}
@@ -141,18 +141,10 @@ pub first-index : (qs : List Queues) (n : ℕ) → first_ready qs ≡ Some n →
 first-index [] n h = absurd (none-some n h)
 first-index (q ∷ qs) n h = first-index_at q.ready q qs n refl h (λ g. first-index qs n g)
 
-none-at : (ready : List ℕ) (later : Option ℕ) → or_first ready later ≡ None → (ready ≡ []) × (later ≡ None)
-none-at [] later h = (refl, h)
-none-at (n ∷ ns) later h = absurd (none-some n (sym h))
-
 pub none-ready : (qs : List Queues) → first_ready qs ≡ None → (k : ℕ) (q : Queues) → slice_get qs k ≡ Some q → q.ready ≡ []
 none-ready [] h k q at = absurd (none-some q at)
 none-ready (x ∷ qs) h zero q at = ap (λ z. z.ready) (sym (same_Some x q at)) ∙ (none-at x.ready (first_ready qs) h).0
 none-ready (x ∷ qs) h (suc k) q at = none-ready qs (none-at x.ready (first_ready qs) h).1 k q at
-
-pub none-without : (qs : List Queues) → first_ready qs ≡ None → without_first qs ≡ qs
-none-without [] h = refl
-none-without (q ∷ qs) h = let b = none-at q.ready (first_ready qs) h in without-empty q qs b.0 ∙ ap (λ l. q ∷ l) (none-without qs b.1)
 
 -- lists that a reap leaves
 pub record Shrinks (q new : Queues) : Type 0 where

@@ -40,7 +40,7 @@ use Rattle.bpf_model.specs.Schedule.{Schedule, first_ready, scheduled, TakesFirs
 use Rattle.model_laws.specs.Scheduled.{IsScheduled}
 use Rattle.model_laws.proofs.Stores.{IsSingle, touches-found}
 use Rattle.model_laws.proofs.Scheduling.{same-element, stays_scheduled}
-use Rattle.bpf_model.proofs.Lists.{get-append_last, get-set_there}
+use Rattle.bpf_model.proofs.Lists.{get-append_last, get-set_there, heads, tails}
 
 -- two equal options have one content
 pub both : {A : Type 0} (o : Option A) (x y : A) → o ≡ Some x → o ≡ Some y → x ≡ y
@@ -72,12 +72,6 @@ oldest-bag s opened map m key value found count bag at l oldest =
     oldest (newborn map key value count) m (with_bag bag m)
     (ap (slice_get (mid ++ newborn map key value count ∷ [])) (sym births) ∙ get-append_last mid (newborn map key value count)) at (get-set_there s.maps map m (with_bag bag m) at)
 
-same-head : (a b : ℕ) (xs ys : List ℕ) → a ∷ xs ≡ b ∷ ys → a ≡ b
-same-head a b xs ys h = cc
-
-same-tail : (a b : ℕ) (xs ys : List ℕ) → a ∷ xs ≡ b ∷ ys → xs ≡ ys
-same-tail a b xs ys h = cc
-
 same-count : (a b : ℕ) → a + 1 - 1 ≡ b + 1 - 1 → a ≡ b
 same-count a b h = omega arith
 
@@ -86,8 +80,8 @@ replaces-one : (s : map_state.Store) (opened : List Section) (map : ℕ) (m : Ma
 replaces-one s opened map m key value found new other at l old_new old_other r q =
     let a = oldest-bag s opened map m key value found r.count r.bag at l (subst (TakesOldest s) r.new_is old_new) in
     let b = oldest-bag s opened map m key value found q.count q.bag at l (subst (TakesOldest s) q.new_is old_other) in
-    let counts : r.count ≡ q.count = same-count r.count q.count (same-head _ _ r.bag q.bag (sym a ∙ b)) in
-    let bags : r.bag ≡ q.bag = same-tail _ _ r.bag q.bag (sym a ∙ b) in
+    let counts : r.count ≡ q.count = same-count r.count q.count (heads _ _ r.bag q.bag (sym a ∙ b)) in
+    let bags : r.bag ≡ q.bag = tails _ _ r.bag q.bag (sym a ∙ b) in
     r.new_is ∙ (ap (λ x. replaced s opened map m key value found x r.bag) counts ∙ (ap (λ x. replaced s opened map m key value found q.count x) bags ∙ sym q.new_is))
 
 settles-one : (s : map_state.Store) (opened : List Section) (map : ℕ) (m : MapState) (key value : List ℕ) (found : Option ℕ) (error : Option Errno) (ret told : Result (Unit {0}) Errno) (new other : map_state.Store) → slice_get s.maps map ≡ Some m → LooksUp s map key found → TakesOldest s new → TakesOldest s other →

@@ -24,7 +24,8 @@ use Rattle.model_laws.proofs.Stores.{LifeMoves, Stays, Unlinks, Ends, StoreMoves
 use Rattle.model_laws.proofs.Counting.{newly, times-append, times-first, between-is, with_more, retired-back, map-back, any-place, place-any, first-index, none-ready, without-back}
 use Rattle.model_laws.proofs.Queueing.{Queued, queued-here}
 use Rattle.model_laws.proofs.Scheduling.{plain, first-queued, starts_scheduled, stays_scheduled}
-use Rattle.model_laws.proofs.Lives.{linked≢unlinked, reclaimed≢linked, one_if}
+use Rattle.model_laws.proofs.Lives.{linked≢unlinked, reclaimed≢linked}
+use Rattle.model_laws.proofs.Tallies.{one_of}
 use Rattle.bpf_model.proofs.Lists.{get-below, get-set_there, length-set}
 
 -- an element that isn't linked any more
@@ -57,7 +58,7 @@ not-linked Reclaimed h = refl
 
 newly-out : (k : ℕ) (e : Element) (o : Option Element) → e.life ≢ Linked → newly k (Some e) o ≡ 0
 newly-out k e None h = refl
-newly-out k e (Some f) h = ap (λ b. one_if (b && is_unlinked f.life && (e.map == k))) (not-linked e.life h)
+newly-out k e (Some f) h = ap (λ b. one_of (b && is_unlinked f.life && (e.map == k))) (not-linked e.life h)
 
 next-out : (k n : ℕ) (q : Queues) (old new : List Element) → IsOut old n → times n q.next ≡ 0 → times n (with_more k old new q).next ≡ 0
 next-out k n q old new o h =

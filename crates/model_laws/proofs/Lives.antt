@@ -1,6 +1,5 @@
 -- Lives are apart.
-use Rattle.std.proofs.Common.{◌≡◌, ℕ, List, Bool}
-use Rattle.std.specs.Prelude.{if◌then◌else◌}
+use Rattle.std.proofs.Common.{◌≡◌, List}
 use Rattle.bpf_model.specs.Section.{Section}
 use Rattle.bpf_model.specs.Element.{Linked, Unlinked, Reclaimed}
 
@@ -12,7 +11,3 @@ reclaimed≢linked h = cc
 
 pub reclaimed≢unlinked : (since : List Section) → Reclaimed ≡ Unlinked since → ⊥
 reclaimed≢unlinked since h = cc
-
--- a test, counted
-abbrev pub one_if : Bool → ℕ
-one_if b = if b then 1 else 0

@@ -17,7 +17,8 @@ use Rattle.model_laws.proofs.Stores.{LifeMoves, Stays, Unlinks, Ends, Alters, St
 use Rattle.model_laws.proofs.Past.{ended-later}
 use Rattle.model_laws.proofs.Keeping.{element-before, begun-unlinked}
 use Rattle.model_laws.proofs.Counting.{newly}
-use Rattle.model_laws.proofs.Lives.{linked≢unlinked, reclaimed≢unlinked, one_if}
+use Rattle.model_laws.proofs.Lives.{linked≢unlinked, reclaimed≢unlinked}
+use Rattle.model_laws.proofs.Tallies.{one_of}
 
 -- what is queued is an unlinked element of the map
 pub record Queued (es : List Element) (k n : ℕ) : Type 0 where
@@ -55,17 +56,17 @@ queued-most k None = omega arith
 queued-most k (Some e) = one-most (is_unlinked e.life && (e.map == k))
 
 pub queued-reclaimed : (k : ℕ) (o : Option Element) (e : Element) → o ≡ Some e → e.life ≡ Reclaimed → queued_in k o ≡ 0
-queued-reclaimed k o e h life = ap (queued_in k) h ∙ ap (λ l. one_if (is_unlinked l && (e.map == k))) life
+queued-reclaimed k o e h life = ap (queued_in k) h ∙ ap (λ l. one_of (is_unlinked l && (e.map == k))) life
 
-and-false : (a b : Bool) → b ≡ false → one_if (a && b) ≡ 0
-and-false true b h = ap one_if h
+and-false : (a b : Bool) → b ≡ false → one_of (a && b) ≡ 0
+and-false true b h = ap one_of h
 and-false false b h = refl
 
 pub queued-elsewhere : (k : ℕ) (o : Option Element) (e : Element) → o ≡ Some e → e.map ≢ k → queued_in k o ≡ 0
 queued-elsewhere k o e h ne = ap (queued_in k) h ∙ and-false (is_unlinked e.life) (e.map == k) (false_from_ne_true (e.map == k) (λ t. ne (eqb-true e.map k t)))
 
 pub queued-here : (o : Option Element) (e : Element) (since : List Section) → o ≡ Some e → e.life ≡ Unlinked since → queued_in e.map o ≡ 1
-queued-here o e since h life = ap (queued_in e.map) h ∙ (ap (λ l. one_if (is_unlinked l && (e.map == e.map))) life ∙ ap one_if (eq-eqb e.map e.map refl))
+queued-here o e since h life = ap (queued_in e.map) h ∙ (ap (λ l. one_of (is_unlinked l && (e.map == e.map))) life ∙ ap one_of (eq-eqb e.map e.map refl))
 
 -- it remembered the same sections before the step
 life-before : (reap : Bool) (opened a b : List Section) (old new : Life) → LifeMoves reap opened old new → old ≡ Unlinked a → new ≡ Unlinked b → old ≡ Unlinked b

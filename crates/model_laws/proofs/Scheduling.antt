@@ -1,5 +1,5 @@
 -- What is so of the runtime's choices at the start, and stays so.
-use Rattle.std.proofs.Common.{◌≡◌, ◌≢◌, ℕ, zero, suc, ◌+◌, ◌<◌, List, [], ◌++◌, map, replicate, Some, None, inl, inr, refl, sym, ap, ◌∙◌, arith, subst, Bool, true, false}
+use Rattle.std.proofs.Common.{◌≡◌, ◌≢◌, ℕ, zero, suc, ◌+◌, ◌<◌, List, ◌++◌, map, replicate, Some, None, inl, inr, refl, sym, ap, ◌∙◌, arith, subst, Bool, true, false}
 use Rattle.std.specs.Prelude.{slice_get, slice_set}
 use Rattle.std.proofs.lemmas.Bool.{cases_eq, cases_lt, false≢true}
 use Rattle.std.proofs.lemmas.Option.{none-some, same_Some}
@@ -17,7 +17,7 @@ use Rattle.bpf_model.specs.MapState.{Store, new_map}
 use Rattle.bpf_model.specs.Reclaim.{Reclaims}
 use Rattle.bpf_model.specs.Machine.{Loaded, Machine, open_sections, with_store}
 use Rattle.bpf_model.specs.Event.{DoesEvent}
-use Rattle.bpf_model.specs.Schedule.{Queues, Schedule, open_flags, still_open, is_any, unlinked_between, retired, turned, advanced, first_ready, without_first, reaped, scheduled, TakesFirst, DoesScheduled, start_schedule}
+use Rattle.bpf_model.specs.Schedule.{Queues, Schedule, open_flags, still_open, is_any, unlinked_between, retired, turned, advanced, first_ready, without_first, reaped, scheduled, TakesFirst, DoesScheduled, start_schedule, no_queues}
 use Rattle.bpf_model.specs.Consistent.{IsConsistent}
 use Rattle.bpf_model.specs.Refines.{times}
 use Rattle.model_laws.specs.Scheduled.{queued_in, Waits, IsScheduled}
@@ -25,10 +25,11 @@ use Rattle.model_laws.proofs.Sections.{OpenAt, open_at}
 use Rattle.model_laws.proofs.Moves.{RunsMove, does-move}
 use Rattle.model_laws.proofs.Stores.{StoreMoves, is_reap, does-moves}
 use Rattle.model_laws.proofs.Keeping.{starts_consistent, stays_consistent}
-use Rattle.model_laws.proofs.Counting.{times-append, times-first, times-other, between-is, with_more, retired-back, length-retired, map-back, still-forth, still-back, place-any, shortened, FirstIndex, first-index, none-without, without-back, length-without}
+use Rattle.model_laws.proofs.Counting.{times-append, times-first, times-other, between-is, with_more, retired-back, length-retired, map-back, still-forth, still-back, place-any, shortened, FirstIndex, first-index, without-back, length-without}
 use Rattle.model_laws.proofs.Queueing.{Queued, queued-of, queued-most, queued-reclaimed, queued-elsewhere, open-flag, keeps-waits, count-step}
 use Rattle.model_laws.proofs.Lives.{reclaimed≢unlinked}
 use Rattle.bpf_model.proofs.Lists.{get-set_cases, get-set_other}
+use Rattle.bpf_model.proofs.Cases.{none-without}
 
 abbrev total : ℕ → Queues → ℕ
 total n q = times n q.next + times n q.waiting + times n q.ready
@@ -38,9 +39,6 @@ no-flag : (n r : ℕ) → slice_get (replicate n false) r ≡ Some true → ⊥
 no-flag zero r h = none-some true h
 no-flag (suc n) zero h = false≢true (same_Some false true h)
 no-flag (suc n) (suc r) h = no-flag n r h
-
-abbrev pub no_queues : Queues
-no_queues = record { next = []; waiting = []; ready = [] }
 
 pub waits-nothing : (s : Schedule) → Waits s no_queues
 waits-nothing s = record { ended = λ n e since has born life. absurd (omega arith); awaits = λ n e since r run has born life there inside h. absurd (omega arith) }

@@ -12,11 +12,10 @@ use Rattle.bpf_model.specs.declared.limits.MapShape.{MapShape}
 use Rattle.bpf_model.specs.declared.limits.TheConstants.{MAX_RUNS}
 use Rattle.bpf_model.specs.MapState.{MapState, AreShapes, slots_of_shape, new_map}
 use Rattle.bpf_model.specs.Machine.{Loaded}
-use Rattle.bpf_model.specs.Schedule.{Queues, open_flags, start_schedule}
+use Rattle.bpf_model.specs.Schedule.{Queues, open_flags, start_schedule, no_queues}
 use Rattle.bpf_model.specs.View.{SlotView, MapView, uses_at, unused_slot, new_map_view, start_view}
 use Rattle.bpf_model.specs.Refines.{times, MapRefines, SlotRefines, RefinesSchedule, TracksSchedule}
 use Rattle.model_laws.proofs.Counting.{times-first, times-other, map-back}
-use Rattle.model_laws.proofs.Scheduling.{no_queues}
 
 -- the free slots: each once
 range-below : (n a i : ℕ) → i < a → times i (range_with_len a n) ≡ 0

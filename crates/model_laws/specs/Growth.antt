@@ -21,7 +21,7 @@ pub record IsLaterElement (old new : Element) : Type 0 where
   pub uses : new.uses ≡ old.uses
   pub life : Later old.life new.life
 
--- each element is still there
+-- each element is still there, and has gone on by at most one step
 abbrev pub ElementsGrow : List Element → List Element → Type 0
 ElementsGrow old new =
     (n : ℕ) (e : Element) → slice_get old n ≡ Some e →

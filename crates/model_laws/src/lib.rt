@@ -22,7 +22,7 @@ ghost use Rattle.bpf_model.specs.Drain.{Drains, machines, AnswersAsScheduled, Ar
 ghost use Rattle.bpf_model.specs.Plain.{IsPlain};
 ghost use Rattle.bpf_model.specs.PlainMaps.{IsPlainWithMaps};
 ghost use Rattle.bpf_model.specs.Event.{refusal, DoesEvent};
-ghost use Rattle.bpf_model.specs.History.{MachineRun, IsHistory};
+ghost use Rattle.bpf_model.specs.History.{HasHistoryTo, IsHistory};
 ghost use Rattle.bpf_model.specs.Section.{Section, Has};
 ghost use Rattle.bpf_model.specs.Consistent.{IsConsistent};
 ghost use Rattle.bpf_model.specs.Headline.{ReclaimedLate, AnswersAsMachine, AreMachineAnswers, AreReclaimedLate};
@@ -55,8 +55,8 @@ pub fn refused_exactly()
 /// A history of the machine can be cut anywhere, and two that meet are one.
 pub fn cut_anywhere()
     ensures { (m new : Machine) (es fs : List Event) (xs ys : List Answer) → length es ≡ length xs →
-        MachineRun m (es ++ fs) (xs ++ ys) new ↔
-        ((mid : Machine) × MachineRun m es xs mid × MachineRun mid fs ys new) }
+        HasHistoryTo m (es ++ fs) (xs ++ ys) new ↔
+        ((mid : Machine) × HasHistoryTo m es xs mid × HasHistoryTo mid fs ys new) }
 {}
 
 /// Elements only grow: none is taken out, its map, key and use count stay, and its life goes on by at most one

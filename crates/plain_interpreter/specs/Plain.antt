@@ -18,7 +18,7 @@ use Rattle.plain_interpreter.specs.declared.plain_run.Progress.TheVariants.{OutO
 use Rattle.plain_interpreter.specs.declared.value.Computed.{Computed}
 use Rattle.plain_interpreter.specs.declared.value.Computed.TheVariants as computed
 
--- the cells of a list
+-- the cells of a list, by their offset; past its end they are unwritten
 abbrev pub cells_of : List Cell → ℕ → Cell
 cells_of frame k = slice_index_or frame k cells.Unwritten
 
@@ -39,7 +39,7 @@ plain_state_of run = record {
   place = run.place;
 }
 
--- where a reference points
+-- the offset of a reference; 0 for a map, which has none
 abbrev pub pointed_offset : Reference → ℤ
 pointed_offset (Ctx o) = o
 pointed_offset (Frame o) = o
@@ -76,7 +76,7 @@ pub record PerformsInsn (i : Insn) (env : Environment) (old : PlainRun) (answer 
     (new : PlainRun) : Type 0 where
   pub comes : Comes (after i env (plain_state_of old)) answer old new
 
--- A run by itself steps by the instruction that begins at its slot; where none begins, or that does
+-- A run by itself steps by the instruction that begins at its place; where none begins, or that does
 -- nothing by itself, it is stuck.
 abbrev pub StepsByItself : List Insn → Environment → State → Outcome → Type 0
 StepsByItself program env m out =

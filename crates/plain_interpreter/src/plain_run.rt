@@ -76,7 +76,7 @@ impl PlainRun {
         self.regs[r.index()]
     }
 
-    /// A cell of the frame, by its index there.
+    /// A cell of the frame, by its offset from the frame's start.
     pub fn cell(&self, index: usize) -> Cell
         requires { index < FRAME_BYTES }
         ensures { result ≡ (plain_state_of self.now).frame index }

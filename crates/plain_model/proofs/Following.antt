@@ -17,14 +17,14 @@ use Rattle.plain_store.specs.declared.fault.Fault.{Fault}
 use Rattle.plain_model.specs.Following.{DoesAs}
 use Rattle.plain_store.specs.Births.{ReclaimsTo}
 use Rattle.plain_model.specs.Following.{settled, is_turn, FollowsLists}
-use Rattle.plain_store.proofs.Queueing.{none-taken}
 use Rattle.bpf_model.proofs.Lists.{get-set_there}
+use Rattle.bpf_model.proofs.Cases.{none-without}
 
 pub advance-follows : (s new : Schedule) → new.machine ≡ s.machine → new ≡ advanced s s.machine (is_any s.awaited) → FollowsLists s Advance Done new
 advance-follows s new same lists = record { first = tt; lists = lists ∙ ap (λ m. advanced s m (is_any s.awaited)) (sym same) }
 
 pub none-follows : (s : Schedule) → first_ready s.queues ≡ None → FollowsLists s Reap (Reaped None) s
-none-follows s h = record { first = h; lists = ap (λ qs. record { machine = s.machine; queues = qs; awaited = s.awaited }) (sym (none-taken s.queues h)) }
+none-follows s h = record { first = h; lists = ap (λ qs. record { machine = s.machine; queues = qs; awaited = s.awaited }) (sym (none-without s.queues h)) }
 
 pub reap-follows : (s : Schedule) (n : ℕ) (store : Store) (taken : ReapedElement) (new : Schedule) → first_ready s.queues ≡ Some n → ReclaimsTo s.machine.store (open_sections s.machine.runs) n store taken →
     new.machine ≡ with_store s.machine store → new.queues ≡ without_first s.queues → new.awaited ≡ s.awaited → FollowsLists s Reap (Reaped (Some taken)) new

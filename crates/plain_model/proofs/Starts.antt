@@ -2,9 +2,9 @@
 use Rattle.std.proofs.Common.{◌≡◌, ℕ, zero, suc, List, [], ◌∷◌, None, refl, ap, length, map}
 use Rattle.std.specs.Prelude.{replicate}
 use Rattle.bpf_model.specs.declared.limits.MapShape.{MapShape}
+use Rattle.bpf_model.specs.Schedule.{no_queues}
 use Rattle.plain_runs.specs.declared.run.Loaded.{Loaded}
 use Rattle.plain_runs.specs.State.{runs_of}
-use Rattle.plain_model.specs.State.{no_queues}
 
 pub same-for-each : (shapes : List MapShape) → replicate (length shapes) no_queues ≡ map (λ _. no_queues) shapes
 same-for-each [] = refl

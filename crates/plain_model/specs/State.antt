@@ -1,5 +1,5 @@
 -- What the machine stands for, in the words of the definitions.
-use Rattle.std.specs.Prelude.{[], map}
+use Rattle.std.specs.Prelude.{map}
 use Rattle.bpf_model.specs.Machine as machine
 use Rattle.bpf_model.specs.Schedule as schedule
 use Rattle.plain_store.specs.State.{store_of, queues_of}
@@ -13,10 +13,6 @@ machine_of m = record {
   started = m.started;
   programs = map loaded_of m.programs.items;
 }
-
--- the lists of a map in which nothing is unlinked
-abbrev pub no_queues : schedule.Queues
-no_queues = record { next = []; waiting = []; ready = [] }
 
 -- the machine with the runtime's own lists
 abbrev pub schedule_of : Machine → schedule.Schedule

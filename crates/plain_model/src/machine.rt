@@ -7,10 +7,11 @@ ghost use Rattle.bpf_model.specs.Event.{step_refusal as step_refusal_of, drop_re
 ghost use Rattle.bpf_model.specs.MapState.{shape_of};
 ghost use Rattle.bpf_model.specs.Machine.{run_at, open_sections as open_sections_of, lowest_free as lowest_free_of};
 ghost use Rattle.bpf_model.specs.Schedule.{start_schedule, DoesScheduled, TakesOldest, advanced, is_any as is_any_of};
+ghost use Rattle.bpf_model.specs.Schedule.{no_queues};
 ghost use Rattle.plain_store.specs.State.{store_of, sections_of, queues_of};
 ghost use Rattle.plain_store.specs.Retiring.{linked_map};
 ghost use Rattle.plain_runs.specs.State.{loaded_of, runs_of};
-ghost use Rattle.plain_model.specs.State.{machine_of, schedule_of, no_queues};
+ghost use Rattle.plain_model.specs.State.{machine_of, schedule_of};
 ghost use Rattle.plain_model.specs.Following.{settled, is_turn as is_turn_of, FollowsLists, DoesAs};
 
 use crate::grace::{is_any, still_open};
@@ -105,13 +106,6 @@ impl Machine {
             started: 0,
             programs,
         })
-    }
-
-    /// The elements and the maps.
-    pub fn store(&self) -> &Store
-        ensures { result.now ≡ self.now.store }
-    {
-        &self.store
     }
 
     /// The totals of the present state.

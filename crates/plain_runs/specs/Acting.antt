@@ -18,7 +18,8 @@ use Rattle.bpf_model.specs.Value.{◌>>=◌}
 use Rattle.bpf_model.specs.Access.{byte_count, unsigned_width}
 use Rattle.bpf_model.specs.Arithmetic.{loaded_signed}
 use Rattle.bpf_model.specs.Step.{State, Environment, Outcome, Moves, Exits, forward, sets}
-use Rattle.bpf_model.specs.MachineStep.{element_load, KernelStep, Acts, OutcomeStep, InsnStep}
+use Rattle.bpf_model.specs.MachineStep.{element_load, KernelStep, Acts, InsnStep}
+use Rattle.bpf_model.specs.MachineStep.{ActStep}
 use Rattle.bpf_model.specs.MachineStep.{RunStep}
 use Rattle.plain_interpreter.specs.declared.plain_run.PlainRun.{PlainRun}
 use Rattle.plain_interpreter.specs.declared.plain_run.Progress.{Progress}
@@ -99,17 +100,11 @@ RunStepsAs s opened run answer new_store new_run =
     ((a : Answer) (t : maps.Store) (q : machine.Run) → RunStep s opened run a t q → ⊥) answer
 
 -- an instruction other than a call was a step of the run, or there is none
-abbrev pub AloneStep : Insn → maps.Store → machine.Run → Answer → maps.Store → machine.Run → Type 0
-AloneStep i s run answer new_store new_run =
-    (out : Outcome) × (es : List Element)
-    × Acts i (machine.environment run) s.elements run.state out es
-    × (new_store ≡ maps.with_elements es s) × OutcomeStep out run answer new_run
-
 abbrev pub AloneAs : Insn → maps.Store → machine.Run → Result Answer Fault → maps.Store →
     machine.Run → Type 0
 AloneAs i s run answer new_store new_run =
-    TellsResult (λ a. AloneStep i s run a new_store new_run)
-    ((a : Answer) (t : maps.Store) (q : machine.Run) → AloneStep i s run a t q → ⊥) answer
+    TellsResult (λ a. ActStep i s run a new_store new_run)
+    ((a : Answer) (t : maps.Store) (q : machine.Run) → ActStep i s run a t q → ⊥) answer
 
 -- the run in a run slot made a step, or has none
 abbrev pub SlotStep : maps.Store → List Section → Option machine.Run → Answer → maps.Store →

@@ -73,7 +73,7 @@ fn read_lock(run: &mut Run) -> Result<Answer, Fault>
     returns(run, Value::Nothing)
 }
 
-/// An unlock leaves the innermost section that is open.
+/// An unlock closes a lock that is open; the section ends with its last.
 fn read_unlock(run: &mut Run) -> Result<Answer, Fault>
     requires { (plain_state_of run.old.state).place < 2 ^ 40 }
     ensures unlocks { (program : ModelLoaded) →

@@ -30,7 +30,7 @@ pub struct Run {
     pub depth: usize,
     /// How many sections it has opened.
     pub locks: u64,
-    /// How many steps it has made.
+    /// How many of its steps have led further on; an exit isn't counted.
     pub moved: u64,
     /// Its exit value, once it has ended.
     pub exit: Option<u64>,

@@ -127,17 +127,6 @@ without-here (x ∷ qs) zero q h e =
     ap (λ b. if b then x ∷ without_first qs else record { next = x.next; waiting = x.waiting; ready = drop 1 x.ready } ∷ qs) some ∙ ap (λ y. record { next = y.next; waiting = y.waiting; ready = drop 1 y.ready } ∷ qs) same
 without-here (x ∷ qs) (suc k) q h e = ap (λ l. x ∷ l) (without-here qs k q h e)
 
-nothing : (q : Queues) (qs : List Queues) (o : Option ℕ) → slice_get q.ready 0 ≡ o → first_ready (q ∷ qs) ≡ None → (first_ready qs ≡ None → without_first qs ≡ qs) → without_first (q ∷ qs) ≡ q ∷ qs
-nothing q qs None e h rest =
-    let none : (length q.ready == 0) ≡ true = eq-eqb (length q.ready) 0 (no-first q.ready e) in
-    ap (λ b. if b then q ∷ without_first qs else record { next = q.next; waiting = q.waiting; ready = drop 1 q.ready } ∷ qs) none ∙ ap (λ l. q ∷ l) (rest (sym (first-later q.ready (first_ready qs) e) ∙ h))
-nothing q qs (Some n) e h rest = absurd (let p : Some n ≡ None = sym (first-here q.ready (first_ready qs) n e) ∙ h in cc)
-
--- where no birth is ready none is taken
-pub none-taken : (qs : List Queues) → first_ready qs ≡ None → without_first qs ≡ qs
-none-taken [] h = refl
-none-taken (q ∷ qs) h = nothing q qs (slice_get q.ready 0) refl h (λ e. none-taken qs e)
-
 pub changed-one : (f : ℕ → schedule.Queues → schedule.Queues) (items xs : List plain.Queues) (k : ℕ) (x new : plain.Queues) → map queues_of xs ≡ mixed f k 0 (map queues_of items) → slice_get xs k ≡ Some x → queues_of new ≡ f k (queues_of x) →
     map queues_of (slice_set xs k new) ≡ mixed f (k + 1) 0 (map queues_of items)
 changed-one f items xs k x new inv there e =

@@ -1,4 +1,4 @@
--- Results that tell.
+-- What a result or a fault says of the machine's step.
 use Rattle.std.proofs.Common.{Ok, Err}
 use Rattle.std.specs.Prelude.{Result}
 use Rattle.plain_store.specs.declared.fault.Fault.{Fault}

@@ -1,11 +1,12 @@
 -- Stores to elements, by whether they could be made.
-use Rattle.std.specs.Prelude.{◌≡◌, ℕ, ℤ, Bool, true, false, List, length, Option, Some, None}
+use Rattle.std.specs.Prelude.{◌≡◌, ℕ, ℤ, Bool, true, false, length, Option, Some, None}
 use Rattle.bpf_model.specs.Value.{◌>>=◌}
 use Rattle.bpf_model.specs.Access.{region_offset}
 use Rattle.bpf_model.specs.Element.{Element, unless_reclaimed, with_value}
 use Rattle.bpf_model.specs.MachineStep.{with_bytes}
 
-abbrev pub StoresTo : Option (List Element) → Bool → List Element → Type 0
+-- what there is after a store, and whether one could be made
+abbrev pub StoresTo : {A : Type 0} → Option A → Bool → A → Type 0
 StoresTo o true new = o ≡ Some new
 StoresTo o false new = o ≡ None
 
@@ -16,5 +17,4 @@ saved width offset v e =
     >>= λ at. Some (with_value (with_bytes at width v e.value) e)
 
 abbrev pub SavesTo : Element → ℕ → ℤ → ℕ → Bool → Element → Type 0
-SavesTo old width offset v true new = saved width offset v old ≡ Some new
-SavesTo old width offset v false new = saved width offset v old ≡ None
+SavesTo old width offset v made new = StoresTo (saved width offset v old) made new

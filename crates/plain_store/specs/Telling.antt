@@ -1,4 +1,4 @@
--- Results that tell.
+-- What a result or a fault says of the machine's step.
 use Rattle.std.specs.Prelude.{Result, Ok, Err}
 use Rattle.plain_store.specs.declared.fault.Fault.{Fault}
 use Rattle.plain_store.specs.declared.fault.Fault.TheVariants.{Stuck, Memory, OutOfRange, Early}

@@ -108,7 +108,7 @@ fn is_retired(before: Option<usize>, k: usize, element: &Element) -> bool
     }
 }
 
-/// A number goes to the end of a list, or doesn't.
+/// Adds a number at the end of a list, where it is wanted.
 fn push_if(list: &mut Vec<usize>, wanted: bool, n: usize) -> Result<(), AllocError>
     ensures { OnOk result (list.new.items ≡ list.old.items ++ (if wanted then n ∷ [] else [])) }
 {

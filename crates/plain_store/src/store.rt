@@ -88,8 +88,8 @@ impl Store {
     }
 
     /// Stores a value under a key, as the helper and the event do. Flags: any (0), only a new key (1), only
-    /// a present one (2). The inner error is that of `MapState::update_error`, or `InvalidArgument` where
-    /// there is no such map. Where memory is refused, nothing has changed.
+    /// a present one (2). The inner error is that of `MapState::update_error`; of a map that is not there
+    /// nothing is claimed. Where memory is refused, nothing has changed.
     pub fn update(
         &mut self,
         alloc: Global,
@@ -216,7 +216,7 @@ impl Store {
     }
 
     /// Reclaims element n, whose slot comes back. `Early` only where it may not be reclaimed: it isn't
-    /// unlinked, a section of its set is open, or its map is not there. Else `OutOfRange` or `Memory`.
+    /// unlinked, a section that it keeps is open, or its map is not there. Else `OutOfRange` or `Memory`.
     pub fn reclaim(&mut self, n: usize, opened: &[Section]) -> Result<ReapedElement, Fault>
         ensures tells { TellsResult (ReclaimsTo (store_of self.old) (sections_of opened.now) n
             (store_of self.new)) ⊥ result }

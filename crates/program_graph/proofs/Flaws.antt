@@ -3,6 +3,7 @@ use Rattle.std.proofs.Common.{◌≡◌, ℕ, ◌+◌, ◌<◌, refl, sym, ◌�
 use Rattle.std.specs.Prelude.{Option, Some, None, ℤ, pos, ◌+ℤ◌}
 use Rattle.std.proofs.lemmas.Bool.{cases_lt}
 use Rattle.std.proofs.lemmas.List.{same_from_push}
+use Rattle.std.proofs.lemmas.Option.{same_Some}
 use Rattle.bpf_model.specs.declared.insn.Insn.{Insn}
 use Rattle.bpf_model.specs.declared.insn.Insn.TheVariants.{Exit}
 use Rattle.bpf_model.specs.Graph.{distance, JumpsTo}
@@ -13,7 +14,6 @@ use Rattle.program_graph.specs.declared.refusal.GraphFlaw.{GraphFlaw}
 use Rattle.program_graph.specs.declared.refusal.GraphFlaw.TheVariants.{JumpTarget, BackJump, FallsOff, Unreachable}
 use Rattle.program_graph.specs.GraphFlaws.{missing, landing_flaw, distance_flaw, jump_flaw, JumpsWell, EndsWithExit, IsFirstBadJump, IsBadEnd, IsFirstUnreachable, HasGraphFlaw, HasGoodGraph}
 use Rattle.program_graph.proofs.Edges.{nat_le_false}
-use Rattle.program_graph.proofs.Lists.{same_some}
 
 bad_jumps_same : (program : List Insn) (f g : GraphFlaw) (s t : ℕ) → IsFirstBadJump program f s → IsFirstBadJump program g t → (f ≡ g) × (s ≡ t)
 bad_jumps_same program f g s t a b = elim (cases_lt s t) [
@@ -22,8 +22,8 @@ bad_jumps_same program f g s t a b = elim (cases_lt s t) [
     | inl l ↦ absurd (let e : None ≡ Some g = sym (a.first t b.insn l b.at) ∙ b.bad in cc)
     | inr l ↦
         let same : s ≡ t = omega arith in
-        let insn : a.insn ≡ b.insn = same_some (sym a.at ∙ ap (insn_at program) same ∙ b.at) in
-        (same_some (sym a.bad ∙ ap (λ s. jump_flaw program s a.insn) same ∙ ap (jump_flaw program t) insn ∙ b.bad), same)
+        let insn : a.insn ≡ b.insn = same_Some _ _ (sym a.at ∙ ap (insn_at program) same ∙ b.at) in
+        (same_Some _ _ (sym a.bad ∙ ap (λ s. jump_flaw program s a.insn) same ∙ ap (jump_flaw program t) insn ∙ b.bad), same)
   ]
 ]
 
@@ -80,7 +80,7 @@ good_jump program slot i jumps = by (distance i) refl
     by (Some d) e =
         let j = jumps d e in
         let jump : JumpsTo i slot j.0 = j.2 in
-        let same : jump.0 ≡ d = same_some (sym jump.1 ∙ e) in
+        let same : jump.0 ≡ d = same_Some _ _ (sym jump.1 ∙ e) in
         let lands : pos j.0 ≡ pos (slot + 1) +ℤ d = jump.2 ∙ ap (λ d. pos (slot + 1) +ℤ d) same in
         ap (landing_flaw program slot) (sym lands)
         ∙ ap (λ b. cond b (Some BackJump) (missing (insn_at program j.0))) (nat_le_false j.0 slot j.3)

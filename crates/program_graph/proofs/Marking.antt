@@ -1,26 +1,23 @@
 -- Edges of the jump graph by slots and by indexes, and which instructions are reached.
 use Rattle.std.proofs.Common.{◌≡◌, ℕ, suc, ◌+◌, ◌<◌, refl, sym, ◌∙◌, ap, subst, arith, inl, inr, Bool, true, List, [], ◌∷◌, length}
-use Rattle.std.specs.Prelude.{slice_get, slice_index_or, Option, Some, None, ◌⊎◌, pos, ◌+ℤ◌, IfSome}
+use Rattle.std.specs.Prelude.{slice_get, Option, Some, None, ◌⊎◌, pos, ◌+ℤ◌, IfSome}
 use Rattle.std.proofs.lemmas.Bool.{cases_eq}
-use Rattle.std.proofs.lemmas.Option.{slice_get-get_or, slice_get_within}
+use Rattle.std.proofs.lemmas.Option.{slice_get_within, same_Some}
 use Rattle.bpf_model.proofs.Cases.{same-pos}
 use Rattle.bpf_model.specs.declared.insn.Insn.{Insn}
 use Rattle.bpf_model.specs.Graph.{JumpsTo, GoesTo, Reached, reached_entry, reached_next}
 use Rattle.bpf_model.specs.Spelling.{starts_from, slot_count}
 use Rattle.bpf_model.specs.Step.{insn_at}
 use Rattle.bpf_model.specs.Places.{starts-next, starts_ordered, starts_apart, start_of-insn, slot_count_some, LeadsTo, StartsAt, start-entry, start-insn, start-inside}
+use Rattle.bpf_model.proofs.Lists.{get-below}
 use Rattle.program_graph.specs.FirstPass.{Follows, IsInsnReached, Marks}
 use Rattle.program_graph.specs.Indexes.{HasTargets, IsTarget}
 use Rattle.program_graph.proofs.Edges.{index_here}
-use Rattle.program_graph.proofs.Lists.{same_some}
 
 -- the first instruction begins at slot 0
 pub first_start : (program : List Insn) (p : ℕ) → StartsAt program 0 p → p ≡ 0
 first_start [] p e = absurd (cc)
-first_start (i ∷ is) p e = sym (same_some e)
-
-pub target_read : (targets : List (Option ℕ)) (k : ℕ) → k < length targets → (t : Option ℕ) × (slice_get targets k ≡ Some t)
-target_read targets k h = (slice_index_or targets k None, slice_get-get_or targets k None h)
+first_start (i ∷ is) p e = sym (same_Some _ _ e)
 
 -- an edge between instructions by their indexes
 pub record HasEdge (program : List Insn) (targets : List (Option ℕ)) (j k : ℕ) (i : Insn) (place : ℕ) : Type 0 where
@@ -43,8 +40,8 @@ module _ (program : List Insn) (targets : List (Option ℕ)) (long : length targ
   jumps_into : (j k place p : ℕ) (i : Insn) (t : Option ℕ) → StartsAt program j place → StartsAt program k p → JumpsTo i place p → IsTarget program j i t → (t ≡ Some k) × (j < k)
   jumps_into j k place p i None at there jumps none = absurd (let e : Some jumps.0 ≡ None = sym jumps.1 ∙ none in cc)
   jumps_into j k place p i (Some u) at there jumps leads =
-      let by : jumps.0 ≡ leads.by = same_some (sym jumps.1 ∙ leads.by_is) in
-      let from : place ≡ leads.from = same_some (sym at ∙ leads.from_is) in
+      let by : jumps.0 ≡ leads.by = same_Some _ _ (sym jumps.1 ∙ leads.by_is) in
+      let from : place ≡ leads.from = same_Some _ _ (sym at ∙ leads.from_is) in
       let to : pos p ≡ pos leads.to = jumps.2 ∙ ap (λ d. pos (place + 1) +ℤ d) by ∙ ap (λ f. pos (f + 1) +ℤ leads.by) from ∙ sym leads.sum in
       let same : u ≡ k = starts_apart 0 program u k p (leads.to_is ∙ ap Some (sym (same-pos p leads.to to))) there in
       (ap Some same, subst (λ u. j < u) same leads.further)
@@ -57,7 +54,7 @@ module _ (program : List Insn) (targets : List (Option ℕ)) (long : length targ
       j = index_here program place i e
 
       t : (t : Option ℕ) × (slice_get targets j.0 ≡ Some t)
-      t = target_read targets j.0 (omega (arith, slice_get_within program j.0 i j.1))
+      t = get-below targets j.0 (omega (arith, slice_get_within program j.0 i j.1))
 
       at : GoesTo i place p → (j : ℕ) × HasEdge program targets j k i place
       at (inl f) =
@@ -72,11 +69,11 @@ module _ (program : List Insn) (targets : List (Option ℕ)) (long : length targ
   edge_from j k place p i t e f (inl g) at there =
       let inside : suc j < length program = omega (arith, start-inside program k p there, g.1) in
       let next : StartsAt program (suc j) (place + slot_count i) = starts-next 0 program j place i e at inside in
-      inl (g.0, same_some (sym there ∙ ap (slice_get (starts_from 0 program)) g.1 ∙ next))
+      inl (g.0, same_Some _ _ (sym there ∙ ap (slice_get (starts_from 0 program)) g.1 ∙ next))
   edge_from j k place p i t e f (inr g) at there =
       let leads : LeadsTo program j i k = subst (IsTarget program j i) g (all.each j i t e f) in
-      let from : leads.from ≡ place = same_some (sym leads.from_is ∙ at) in
-      let to : leads.to ≡ p = same_some (sym leads.to_is ∙ there) in
+      let from : leads.from ≡ place = same_Some _ _ (sym leads.from_is ∙ at) in
+      let to : leads.to ≡ p = same_Some _ _ (sym leads.to_is ∙ there) in
       inr (leads.by, leads.by_is, ap pos (sym to) ∙ leads.sum ∙ ap (λ f. pos (f + 1) +ℤ leads.by) from)
 
   pub follows_further : (j k : ℕ) (i : Insn) (t : Option ℕ) → slice_get program j ≡ Some i → slice_get targets j ≡ Some t → Follows i t j k → j < k
@@ -134,8 +131,8 @@ pub marks_ahead : (program : List Insn) (targets : List (Option ℕ)) (old new :
     → (j m : ℕ) (i : Insn) (t : Option ℕ) → j < k + 1 → slice_get program j ≡ Some i → slice_get targets j ≡ Some t → Follows i t j m → slice_get new m ≡ Some true
 marks_ahead program targets old new k insn target here there ahead marks j m i t h e f follows = elim (cases_eq j k) [
   | inl g ↦
-      let same_insn : i ≡ insn = same_some (sym e ∙ ap (slice_get program) g ∙ here) in
-      let same_target : t ≡ target = same_some (sym f ∙ ap (slice_get targets) g ∙ there) in
+      let same_insn : i ≡ insn = same_Some _ _ (sym e ∙ ap (slice_get program) g ∙ here) in
+      let same_target : t ≡ target = same_Some _ _ (sym f ∙ ap (slice_get targets) g ∙ there) in
       marks.there m (subst (λ k. Follows insn target k m) g (subst (λ t. Follows insn t j m) same_target (subst (λ i. Follows i t j m) same_insn follows)))
   | inr n ↦ marks.stays m (ahead j m i t (omega arith) e f follows)
 ]

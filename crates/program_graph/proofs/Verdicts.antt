@@ -1,4 +1,4 @@
--- What pass 1 tells: a bad end, an instruction that no path reaches, or a good graph.
+-- What the first pass tells: a bad end, an instruction that no path reaches, or a good graph.
 use Rattle.std.proofs.Common.{◌≡◌, ℕ, zero, suc, ◌+◌, ◌-◌, ◌<◌, ◌≤◌, refl, ◌∙◌, ap, arith, List, [], ◌∷◌, ◌++◌, length}
 use Rattle.std.specs.Prelude.{slice_index_or}
 use Rattle.std.proofs.lemmas.List.Sums.{sum_by-cons}

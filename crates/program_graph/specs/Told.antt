@@ -1,5 +1,5 @@
 -- What a refusal of a program's jump graph tells.
-use Rattle.std.specs.Prelude.{◌≡◌, List, Result, Ok, Err}
+use Rattle.std.specs.Prelude.{List, Result, IsOkUnless}
 use Rattle.bpf_model.specs.declared.insn.Insn.{Insn}
 use Rattle.program_graph.specs.declared.refusal.GraphRefusal.{GraphRefusal}
 use Rattle.program_graph.specs.declared.refusal.GraphRefusal.TheVariants.{Flaw, Memory}
@@ -12,5 +12,4 @@ IsFlawToldOf program Memory = Unit {0}
 
 -- no refusal but for want of memory
 abbrev pub IsAcceptedGraph : {A : Type 0} → Result A GraphRefusal → Type 0
-IsAcceptedGraph (Ok x) = Unit {0}
-IsAcceptedGraph (Err e) = e ≡ Memory
+IsAcceptedGraph r = IsOkUnless r Memory

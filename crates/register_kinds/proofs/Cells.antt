@@ -62,7 +62,7 @@ module _ (top : ℕ) (pairs : List (ℕ × ℕ)) where
   cells_joined a b c spills classes k = subst (λ x. JoinsCell top pairs (cell_at a k) (cell_at b k) (cell_of (kind_in c.spills (k / 8)) x)) (sym (classes k))
       (cell_joined (kind_in a.spills (k / 8)) (kind_in b.spills (k / 8)) (kind_in c.spills (k / 8)) (spills (k / 8)) (class_in a.cells k) (class_in b.cells k))
 
--- bytes in a list, place by place
+-- bytes in a list, item by item
 pub joined_more : (i : ℕ) (xs : List classes.CellKind) (f : ℕ → classes.CellKind) (x : classes.CellKind) → i < length xs → ((k : ℕ) → k < i → class_in xs k ≡ f k) → x ≡ f i → (k : ℕ) → k < i + 1 → class_in (slice_set xs i x) k ≡ f k
 joined_more i xs f x l done here = below_more _ i
     (λ k h. let ne : k ≢ i = omega arith in get_or-set_other xs i k x cells.Unwritten ne ∙ done k h)

@@ -1,4 +1,4 @@
--- States after a change, place by place.
+-- States after a change, register by register and byte by byte.
 use Rattle.std.proofs.Common.{◌≡◌, ◌≢◌, ℕ, ◌+◌, ◌<◌, ◌≤◌, List, length, refl, sym, subst, ◌∙◌, arith, inl, inr, below_more}
 use Rattle.std.specs.Prelude.{slice_set, slice_index_or}
 use Rattle.std.proofs.lemmas.Bool.{cases_lt}
@@ -8,7 +8,7 @@ use Rattle.register_kinds.specs.declared.learn.Lesson.{Lesson}
 use Rattle.register_kinds.specs.declared.learn.Lesson.TheVariants.{SectionEnds, IsNull, IsThere}
 use Rattle.register_kinds.specs.Changes.{learnt_kind}
 
--- Each place of a list becomes what a function makes of it.
+-- Each item of a list becomes what a function makes of it.
 module _ (A : Type 0) (d : A) where
   pub mapped_more : (i : ℕ) (xs : List A) (x : A) (P : ℕ → A → Type 0) → i < length xs → ((k : ℕ) → k < i → P k (slice_index_or xs k d)) → P i x → (k : ℕ) → k < i + 1 → P k (slice_index_or (slice_set xs i x) k d)
   mapped_more i xs x P l done here = below_more _ i

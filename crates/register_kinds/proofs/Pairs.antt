@@ -1,4 +1,4 @@
--- Joins, a place at a time, while the list of pairs grows.
+-- Joins, a register or a byte at a time, while the list of pairs grows.
 use Rattle.std.proofs.Common.{◌≡◌, ◌≢◌, ℕ, ◌+◌, ◌-◌, ◌<◌, ◌≤◌, List, length, Some, refl, sym, ap, subst, ◌∙◌, arith, inl, inr, below_more}
 use Rattle.std.specs.Prelude.{slice_get, slice_set, slice_index_or, nat_lt, unwrap_or, if◌then◌else◌}
 use Rattle.std.proofs.lemmas.Bool.{cases_lt, lt-ltb, le-ltb}
@@ -95,7 +95,7 @@ module _ (top : ℕ) (pairs : List (ℕ × ℕ)) where
   pub joins_blank : (b : Kind) → JoinsKind top pairs Blank b Blank
   joins_blank b = record { left = tt; right = wide-blank (λ id. (pair_of top pairs id).1) b; below = tt; exact = refl }
 
--- in a list, place by place
+-- in a list, item by item
 pub kinds_more : (top i : ℕ) (pairs pairs' : List (ℕ × ℕ)) (xs old others : List RegKind) (k : RegKind) → i < length xs → PairsGrow pairs pairs'
     → ((r : ℕ) → r < i → JoinsKind top pairs (kind_at old r) (kind_at others r) (kind_at xs r)) → JoinsKind top pairs' (kind_at old i) (kind_at others i) (kind_of k)
     → (r : ℕ) → r < i + 1 → JoinsKind top pairs' (kind_at old r) (kind_at others r) (kind_at (slice_set xs i k) r)

@@ -16,6 +16,10 @@ pub record AreBelow (top : ℕ) (a : AbsState) : Type 0 where
   pub regs : (r : ℕ) → IsBelow top (kind_at a.regs r)
   pub spills : (g : ℕ) → IsBelow top (kind_at a.frame.spills g)
 
+-- so many identities were taken at most
+abbrev pub TakesFew : ℕ → ℕ → ℕ → Type 0
+TakesFew count old new = (old ≤ new) × (new ≤ old + count)
+
 -- the new list is the old one, and more
 abbrev pub PairsGrow : List (ℕ × ℕ) → List (ℕ × ℕ) → Type 0
 PairsGrow old new = (k : ℕ) (p : ℕ × ℕ) → slice_get old k ≡ Some p → slice_get new k ≡ Some p

@@ -9,7 +9,7 @@ use crate::kind::{CellKind, RegKind};
 use crate::state::{AbsState, ORIGIN};
 use scalar_domain::Scalar;
 
-/// What is learnt.
+/// What is learnt at once of all that may be an element: by an unlock, or by a test for null.
 #[derive(Clone, Copy, Debug, PartialEq, Eq)]
 pub enum Lesson {
     /// The section ends: nothing is known to be an element any longer.

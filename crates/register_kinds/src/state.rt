@@ -4,7 +4,7 @@ ghost use Rattle.typed_runs.specs.Planned.{AreAlike, Joins, Wider, entry_kind, e
 ghost use Rattle.register_kinds.specs.declared.identities.TheConstants.{MAX_PAIRS};
 ghost use Rattle.register_kinds.specs.States.{kind_at, state_of};
 ghost use Rattle.register_kinds.specs.Joined.{AreJoined};
-ghost use Rattle.register_kinds.specs.Pairs.{AreBelow, IsPairing};
+ghost use Rattle.register_kinds.specs.Pairs.{AreBelow, IsPairing, TakesFew};
 
 use crate::frame::FrameCells;
 use crate::identities::{Identities, Pairs};
@@ -78,7 +78,7 @@ impl AbsState {
         ensures left { Wider (state_of self.old) (state_of self.new) }
         ensures right { Wider (state_of other.now) (state_of self.new) }
         ensures below { AreBelow ids.new.next self.new }
-        ensures few { (ids.old.next ≤ ids.new.next) × (ids.new.next ≤ ids.old.next + MAX_PAIRS) }
+        ensures few { TakesFew MAX_PAIRS ids.old.next ids.new.next }
     {
         let mut pairs: Pairs = ArrayVec::new();
         join_kinds(&mut pairs, ids.next, &mut self.regs, &other.regs);

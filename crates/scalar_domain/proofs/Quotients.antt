@@ -1,4 +1,4 @@
--- Sums that wrap or do not, and the order of products and quotients.
+-- Quotients by a positive divisor, and their order.
 use Rattle.std.proofs.Common.{◌≡◌, ℕ, zero, suc, ◌/◌, ◌<◌, ◌≤◌, ap, cond, arith}
 use Rattle.std.specs.Prelude.{◌==◌}
 use Rattle.std.proofs.lemmas.Nat.{le-div}

@@ -18,7 +18,8 @@ use Rattle.bpf_model.specs.declared.opcode.Size.TheVariants.{Word32, Word64}
 use Rattle.scalar_domain.specs.declared.scalar.Scalar.{Scalar}
 use Rattle.scalar_domain.specs.Scalar.{IsConstant, IsNoWider}
 use Rattle.scalar_domain.specs.Precision.{Adds, Subtracts, Masks, ShiftsLeft, ShiftsRight}
-use Rattle.scalar_domain.specs.Relation.{MovesBounds, GoesAlong, IsBetween, TellsDifferent, IsNoBound}
+use Rattle.scalar_domain.specs.Relation.{MovesBounds, GoesAlong, IsBetween, TellsDifferent}
+use Rattle.scalar_domain.specs.Relation.{IsNoBound}
 
 -- A load without sign gives a number of so many bytes.
 abbrev pub KeepsLoadFloor : Width → Scalar → Type 0

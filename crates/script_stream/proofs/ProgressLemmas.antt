@@ -7,7 +7,7 @@ use Rattle.script_stream.specs.declared.fault.ScriptFault.{ScriptFault}
 use Rattle.script_stream.specs.declared.fault.ScriptFault.TheVariants.{BadCommand, Read, Memory}
 use Rattle.script_stream.specs.Lines.{lines_of, ended, HasNoFeed}
 use Rattle.script_stream.specs.Answered.{Answered, AnsweredBefore, BeginsAnswered, IsBadLine}
-use Rattle.script_stream.specs.Progress.{IsAt, FailsWith, IsOutputFault}
+use Rattle.script_stream.specs.Progress.{IsProgressAt, FailsWith, IsOutputFault}
 use Rattle.script_stream.proofs.LineLemmas.{lines_of-feed, lines_of-ended, lines_of-last, lines_of-open, HasFirst, HasNoFeed-append, HaveNoFeed-snoc, ended-snoc}
 
 pub saturate_more : (n m : ℕ) → m ≡ u64_saturate n → u64_saturate (m + 1) ≡ u64_saturate (n + 1)
@@ -28,9 +28,9 @@ module _ {S : Type 0} (answers : S → List ℕ → List ℕ → S → Type 0) w
 
   -- a line has ended, and is answered
   pub IsAt-line : (old : S) (read written : List ℕ) (p q : Progress) (now new : S) (piece text : List ℕ)
-      → IsAt answers old read written p now → HasNoFeed piece → answers now (p.rest.items ++ piece) text new
+      → IsProgressAt answers old read written p now → HasNoFeed piece → answers now (p.rest.items ++ piece) text new
       → q.rest.items ≡ [] → q.out.items ≡ p.out.items ++ text → q.answered ≡ u64_saturate (p.answered + 1)
-      → IsAt answers old (read ++ (piece ++ 10 ∷ [])) written q new
+      → IsProgressAt answers old (read ++ (piece ++ 10 ∷ [])) written q new
   IsAt-line old read written p q now new piece text at clear answer rest out count =
       let line = p.rest.items ++ piece in
       record {
@@ -53,8 +53,8 @@ module _ {S : Type 0} (answers : S → List ℕ → List ℕ → S → Type 0) w
 
   -- some of what waited is written
   pub IsAt-sent : (old : S) (read written : List ℕ) (p q : Progress) (now : S) (front : List ℕ)
-      → IsAt answers old read written p now → q.rest.items ≡ p.rest.items → p.out.items ≡ front ++ q.out.items → q.answered ≡ p.answered
-      → IsAt answers old read (written ++ front) q now
+      → IsProgressAt answers old read written p now → q.rest.items ≡ p.rest.items → p.out.items ≡ front ++ q.out.items → q.answered ≡ p.answered
+      → IsProgressAt answers old read (written ++ front) q now
   IsAt-sent old read written p q now front at rest out count = record {
     lines = at.lines;
     read_is = at.read_is ∙ ap (λ r. ended at.lines ++ r) (sym rest);
@@ -69,9 +69,9 @@ module _ {S : Type 0} (answers : S → List ℕ → List ℕ → S → Type 0) w
 
   -- a line goes on
   pub IsAt-kept : (old : S) (read written : List ℕ) (p q : Progress) (now : S) (piece : List ℕ)
-      → IsAt answers old read written p now → HasNoFeed piece
+      → IsProgressAt answers old read written p now → HasNoFeed piece
       → q.rest.items ≡ p.rest.items ++ piece → q.out.items ≡ p.out.items → q.answered ≡ p.answered
-      → IsAt answers old (read ++ piece) written q now
+      → IsProgressAt answers old (read ++ piece) written q now
   IsAt-kept old read written p q now piece at clear rest out count = record {
     lines = at.lines;
     read_is =
@@ -83,7 +83,7 @@ module _ {S : Type 0} (answers : S → List ℕ → List ℕ → S → Type 0) w
   }
 
   -- the lines of what is read and of what may follow
-  lines_at : (old : S) (read written : List ℕ) (p : Progress) (now : S) (at : IsAt answers old read written p now) (after : List ℕ)
+  lines_at : (old : S) (read written : List ℕ) (p : Progress) (now : S) (at : IsProgressAt answers old read written p now) (after : List ℕ)
       → lines_of (read ++ after) ≡ at.lines ++ lines_of (p.rest.items ++ after)
   lines_at old read written p now at after =
       ap (λ r. lines_of (r ++ after)) at.read_is
@@ -92,7 +92,7 @@ module _ {S : Type 0} (answers : S → List ℕ → List ℕ → S → Type 0) w
 
   -- a beginning of what waited is written
   pub begun : (old : S) (read written : List ℕ) (p : Progress) (now : S) (front more after : List ℕ)
-      → IsAt answers old read written p now → p.out.items ≡ front ++ more → BeginsAnswered answers old (read ++ after) (written ++ front)
+      → IsProgressAt answers old read written p now → p.out.items ≡ front ++ more → BeginsAnswered answers old (read ++ after) (written ++ front)
   begun old read written p now front more after at e = record {
     first = at.lines;
     others = lines_of (p.rest.items ++ after);
@@ -107,7 +107,7 @@ module _ {S : Type 0} (answers : S → List ℕ → List ℕ → S → Type 0) w
 
   -- the next line is bad
   pub before : (is_bad : List ℕ → Type 0) (old : S) (read written : List ℕ) (p : Progress) (now : S) (after bad : List ℕ) (others : List (List ℕ)) (line : ℕ)
-      → IsAt answers old read written p now → lines_of (p.rest.items ++ after) ≡ bad ∷ others → IsBadLine is_bad bad → line ≡ u64_saturate (p.answered + 1)
+      → IsProgressAt answers old read written p now → lines_of (p.rest.items ++ after) ≡ bad ∷ others → IsBadLine is_bad bad → line ≡ u64_saturate (p.answered + 1)
       → AnsweredBefore answers is_bad old (read ++ after) line (written ++ p.out.items)
   before is_bad old read written p now after bad others line at e is number = record {
     good = at.lines;
@@ -122,7 +122,7 @@ module _ {S : Type 0} (answers : S → List ℕ → List ℕ → S → Type 0) w
 
   -- at the end of the input no line is open
   pub ends_whole : (old : S) (read written : List ℕ) (p : Progress) (now : S)
-      → IsAt answers old read written p now → p.rest.items ≡ [] → Answered answers old (lines_of read) (written ++ p.out.items) now
+      → IsProgressAt answers old read written p now → p.rest.items ≡ [] → Answered answers old (lines_of read) (written ++ p.out.items) now
   ends_whole old read written p now at e =
       let same : lines_of read ≡ at.lines =
       ap lines_of (at.read_is ∙ ap (λ r. ended at.lines ++ r) e) ∙ lines_of-ended at.lines [] at.whole ∙ append-nil at.lines
@@ -134,7 +134,7 @@ module _ {S : Type 0} (answers : S → List ℕ → List ℕ → S → Type 0) w
 
   -- or one is, which is answered
   pub ends_open : (old : S) (read written : List ℕ) (p : Progress) (now new : S) (text : List ℕ)
-      → IsAt answers old read written p now → 0 < length p.rest.items → answers now p.rest.items text new
+      → IsProgressAt answers old read written p now → 0 < length p.rest.items → answers now p.rest.items text new
       → Answered answers old (lines_of read) (written ++ (p.out.items ++ text)) new
   ends_open old read written p now new text at some answer =
       let same : lines_of read ≡ at.lines ++ p.rest.items ∷ [] =
@@ -161,7 +161,7 @@ module _ {S : Type 0} (answers : S → List ℕ → List ℕ → S → Type 0) w
 
   -- a script fails, and what waited is written before, unless that fails
   pub fails : (is_bad : List ℕ → Type 0) (old : S) (read written : List ℕ) (p : Progress) (now : S) (after front more : List ℕ) (fault told : ScriptFault)
-      → IsAt answers old read written p now → p.out.items ≡ front ++ more → ((told ≡ fault) × (more ≡ [])) ⊎ IsOutputFault told
+      → IsProgressAt answers old read written p now → p.out.items ≡ front ++ more → ((told ≡ fault) × (more ≡ [])) ⊎ IsOutputFault told
       → ((line : ℕ) → fault ≡ BadCommand line → NextIsBad is_bad p after line)
       → FailsWith answers is_bad old (read ++ after) (written ++ front) told
   fails is_bad old read written p now after front more fault told at e how next = record {
@@ -196,7 +196,7 @@ module _ {S : Type 0} (answers : S → List ℕ → List ℕ → S → Type 0) w
 
   -- the line that this piece ends is bad
   pub next_of_piece : (is_bad : List ℕ → Type 0) (old : S) (read written : List ℕ) (p : Progress) (now : S) (piece after : List ℕ) (line : ℕ)
-      → IsAt answers old read written p now → HasNoFeed piece → IsBadLine is_bad (p.rest.items ++ piece) → line ≡ u64_saturate (p.answered + 1)
+      → IsProgressAt answers old read written p now → HasNoFeed piece → IsBadLine is_bad (p.rest.items ++ piece) → line ≡ u64_saturate (p.answered + 1)
       → NextIsBad is_bad p (piece ++ 10 ∷ after) line
   next_of_piece is_bad old read written p now piece after line at clear bad number = record {
     bad = p.rest.items ++ piece;
@@ -210,7 +210,7 @@ module _ {S : Type 0} (answers : S → List ℕ → List ℕ → S → Type 0) w
 
   -- the open line is bad, at the end of the input
   pub next_at_end : (is_bad : List ℕ → Type 0) (old : S) (read written : List ℕ) (p : Progress) (now : S) (line : ℕ)
-      → IsAt answers old read written p now → 0 < length p.rest.items → IsBadLine is_bad p.rest.items → line ≡ u64_saturate (p.answered + 1)
+      → IsProgressAt answers old read written p now → 0 < length p.rest.items → IsBadLine is_bad p.rest.items → line ≡ u64_saturate (p.answered + 1)
       → NextIsBad is_bad p [] line
   next_at_end is_bad old read written p now line at some bad number = record {
     bad = p.rest.items;
@@ -229,7 +229,7 @@ module _ {S : Type 0} (answers : S → List ℕ → List ℕ → S → Type 0) w
 
   -- the open line is too long
   pub next_too_long : (is_bad : List ℕ → Type 0) (old : S) (read written : List ℕ) (p : Progress) (now : S) (piece : List ℕ) (line : ℕ)
-      → IsAt answers old read written p now → HasNoFeed piece → MAX_LINE < length (p.rest.items ++ piece) → line ≡ u64_saturate (p.answered + 1)
+      → IsProgressAt answers old read written p now → HasNoFeed piece → MAX_LINE < length (p.rest.items ++ piece) → line ≡ u64_saturate (p.answered + 1)
       → NextIsBad is_bad p piece line
   next_too_long is_bad old read written p now piece line at clear long number =
       let whole = p.rest.items ++ piece in
@@ -244,7 +244,7 @@ module _ {S : Type 0} (answers : S → List ℕ → List ℕ → S → Type 0) w
 
   -- writing fails while the script goes on
   pub fails_writing : (is_bad : List ℕ → Type 0) (old : S) (read after all written : List ℕ) (p : Progress) (now : S) (front more : List ℕ) (told : ScriptFault)
-      → IsAt answers old read written p now → read ++ after ≡ all → p.out.items ≡ front ++ more → IsOutputFault told
+      → IsProgressAt answers old read written p now → read ++ after ≡ all → p.out.items ≡ front ++ more → IsOutputFault told
       → FailsWith answers is_bad old all (written ++ front) told
   fails_writing is_bad old read after all written p now front more told at whole e how =
       subst (λ r. FailsWith answers is_bad old r (written ++ front) told) whole
@@ -252,7 +252,7 @@ module _ {S : Type 0} (answers : S → List ℕ → List ℕ → S → Type 0) w
 
   -- reading fails, and nothing waits
   pub fails_reading : (is_bad : List ℕ → Type 0) (old : S) (read written : List ℕ) (p : Progress) (now : S) (told : ScriptFault)
-      → IsAt answers old read written p now → ((line : ℕ) → told ≡ BadCommand line → ⊥)
+      → IsProgressAt answers old read written p now → ((line : ℕ) → told ≡ BadCommand line → ⊥)
       → FailsWith answers is_bad old read written told
   fails_reading is_bad old read written p now told at other = record {
     begun =
@@ -262,7 +262,7 @@ module _ {S : Type 0} (answers : S → List ℕ → List ℕ → S → Type 0) w
   }
 
   -- the start of a script
-  pub IsAt-start : (old : S) (p : Progress) → p.rest.items ≡ [] → p.out.items ≡ [] → p.answered ≡ 0 → IsAt answers old [] [] p old
+  pub IsAt-start : (old : S) (p : Progress) → p.rest.items ≡ [] → p.out.items ≡ [] → p.answered ≡ 0 → IsProgressAt answers old [] [] p old
   IsAt-start old p rest out count = record {
     lines = [];
     read_is = sym rest;
@@ -278,9 +278,9 @@ module _ {S : Type 0} (answers : S → List ℕ → List ℕ → S → Type 0) w
       subst (λ r. FailsWith answers is_bad old r written' told) p (subst (λ t. FailsWith answers is_bad old read t told) q h)
 
   pub IsAt-at : (old : S) (read read' written written' : List ℕ) (p : Progress) (now : S)
-      → read ≡ read' → written ≡ written' → IsAt answers old read written p now → IsAt answers old read' written' p now
+      → read ≡ read' → written ≡ written' → IsProgressAt answers old read written p now → IsProgressAt answers old read' written' p now
   IsAt-at old read read' written written' p now e f h =
-      subst (λ r. IsAt answers old r written' p now) e (subst (λ t. IsAt answers old read t p now) f h)
+      subst (λ r. IsProgressAt answers old r written' p now) e (subst (λ t. IsProgressAt answers old read t p now) f h)
 
 -- a fault of reading tells no line
 pub not_read_bad : (fault : ScriptFault) → (fault ≡ Read) ⊎ (fault ≡ Memory) → (line : ℕ) → fault ≡ BadCommand line → ⊥

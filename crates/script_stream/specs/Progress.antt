@@ -13,7 +13,7 @@ IsOutputFault fault = (fault ≡ Write) ⊎ (fault ≡ Memory)
 
 module _ {S : Type 0} (answers : S → List ℕ → List ℕ → S → Type 0) where
   -- Whole lines of what was read are answered: with what was written and what waits to be written.
-  pub record IsAt (old : S) (read written : List ℕ) (p : Progress) (now : S) : Type 0 where
+  pub record IsProgressAt (old : S) (read written : List ℕ) (p : Progress) (now : S) : Type 0 where
     pub lines : List (List ℕ)
     pub read_is : read ≡ ended lines ++ p.rest.items
     pub whole : HaveNoFeed lines

@@ -4,7 +4,7 @@ ghost use Rattle.std.specs.Io.KnownBytes.{Appends};
 ghost use Rattle.std.specs.Io.Iter.{u64_saturate};
 ghost use Rattle.script_stream.specs.Answered.{Answered, IsBadLine};
 ghost use Rattle.script_stream.specs.Lines.{HasNoFeed, lines_of};
-ghost use Rattle.script_stream.specs.Progress.{IsAt, FailsWith, IsOutputFault};
+ghost use Rattle.script_stream.specs.Progress.{IsProgressAt, FailsWith, IsOutputFault};
 
 use crate::fault::ScriptFault;
 use crate::lines::cut_line;
@@ -161,13 +161,13 @@ impl Progress {
         piece: &[u8],
     ) -> Result<(), ScriptFault>
         ensures ok { (first : A) (read written : List ℕ) → HasNoFeed piece.now
-            → IsAt A.answers first read written self.old responder.old
+            → IsProgressAt A.answers first read written self.old responder.old
             → OnOk result ((more : List ℕ)
             × Appends (W.contents writer.old) (W.contents writer.new) more
-            × IsAt A.answers first (read ++ (piece.now ++ 10 ∷ [])) (written ++ more)
+            × IsProgressAt A.answers first (read ++ (piece.now ++ 10 ∷ [])) (written ++ more)
             self.new responder.new) }
         ensures err { (first : A) (read written after : List ℕ) → HasNoFeed piece.now
-            → IsAt A.answers first read written self.old responder.old
+            → IsProgressAt A.answers first read written self.old responder.old
             → IfErr result (λ e. (more : List ℕ)
             × Appends (W.contents writer.old) (W.contents writer.new) more
             × FailsWith A.answers A.is_bad first (read ++ (piece.now ++ 10 ∷ after))
@@ -205,12 +205,12 @@ impl Progress {
         chunk: &[u8],
     ) -> Result<(), ScriptFault>
         ensures ok { (first : A) (read written : List ℕ)
-            → IsAt A.answers first read written self.old responder.old
+            → IsProgressAt A.answers first read written self.old responder.old
             → OnOk result ((more : List ℕ)
             × Appends (W.contents writer.old) (W.contents writer.new) more
-            × IsAt A.answers first (read ++ chunk.now) (written ++ more) self.new responder.new) }
+            × IsProgressAt A.answers first (read ++ chunk.now) (written ++ more) self.new responder.new) }
         ensures err { (first : A) (read written : List ℕ)
-            → IsAt A.answers first read written self.old responder.old
+            → IsProgressAt A.answers first read written self.old responder.old
             → IfErr result (λ e. (more : List ℕ)
             × Appends (W.contents writer.old) (W.contents writer.new) more
             × FailsWith A.answers A.is_bad first (read ++ chunk.now) (written ++ more) e) }
@@ -229,7 +229,7 @@ impl Progress {
     /// Answers what stands behind the last line feed, if there is anything.
     fn end_open<A: Respond>(&mut self, responder: &mut A) -> Result<(), ScriptFault>
         ensures ok { (first : A) (read written : List ℕ)
-            → IsAt A.answers first read written self.old responder.old
+            → IsProgressAt A.answers first read written self.old responder.old
             → OnOk result (Answered A.answers first (lines_of read) (written ++ self.new.out.items)
             responder.new) }
         ensures err { OnErr result (self.new.out.items ≡ self.old.out.items) }
@@ -250,12 +250,12 @@ impl Progress {
         writer: &mut W,
     ) -> Result<(), ScriptFault>
         ensures ok { (first : A) (read written : List ℕ)
-            → IsAt A.answers first read written self.old responder.old
+            → IsProgressAt A.answers first read written self.old responder.old
             → OnOk result ((more : List ℕ)
             × Appends (W.contents writer.old) (W.contents writer.new) more
             × Answered A.answers first (lines_of read) (written ++ more) responder.new) }
         ensures err { (first : A) (read written : List ℕ)
-            → IsAt A.answers first read written self.old responder.old
+            → IsProgressAt A.answers first read written self.old responder.old
             → IfErr result (λ e. (more : List ℕ)
             × Appends (W.contents writer.old) (W.contents writer.new) more
             × FailsWith A.answers A.is_bad first read (written ++ more) e) }

@@ -4,7 +4,7 @@ ghost use Rattle.std.specs.Io.{ReadsAtMost};
 ghost use Rattle.std.specs.Io.KnownBytes.{Appends, Consumes, IsAtEnd, Keeps};
 ghost use Rattle.script_stream.specs.Answered.{Answered};
 ghost use Rattle.script_stream.specs.Lines.{lines_of};
-ghost use Rattle.script_stream.specs.Progress.{IsAt, FailsWith};
+ghost use Rattle.script_stream.specs.Progress.{IsProgressAt, FailsWith};
 
 use crate::fault::{ScriptFault, stream_fault};
 use crate::progress::Progress;
@@ -46,17 +46,17 @@ fn serve_some<A: Respond, R: Read, W: Write>(
 ) -> Result<bool, ScriptFault>
     requires { 0 < length chunk.old }
     ensures ok { (first : A) (input written : List ℕ)
-        → IsAt A.answers first input written progress.old responder.old
+        → IsProgressAt A.answers first input written progress.old responder.old
         → IfOk result (λ goes_on. (read more : List ℕ)
         × Consumes (R.remaining reader.old) (R.remaining reader.new) read
         × Appends (W.contents writer.old) (W.contents writer.new) more
         × MatchBool goes_on
-        (IsAt A.answers first (input ++ read) (written ++ more) progress.new responder.new)
+        (IsProgressAt A.answers first (input ++ read) (written ++ more) progress.new responder.new)
         (IsAtEnd (R.remaining reader.new)
         × Answered A.answers first (lines_of (input ++ read)) (written ++ more)
         responder.new)) }
     ensures err { (first : A) (input written : List ℕ)
-        → IsAt A.answers first input written progress.old responder.old
+        → IsProgressAt A.answers first input written progress.old responder.old
         → IfErr result (λ e. (read more : List ℕ)
         × Consumes (R.remaining reader.old) (R.remaining reader.new) read
         × Appends (W.contents writer.old) (W.contents writer.new) more

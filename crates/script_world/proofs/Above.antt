@@ -18,7 +18,7 @@ abbrev pub above_in : Option (List ℕ) → List (List ℕ × ℕ) → ℕ
 above_in bound [] = 0
 above_in bound (e ∷ es) = cond (is_above bound e.0) 1 0 + above_in bound es
 
--- of a map, if there is one
+-- how many keys of a map, if there is one, are above a bound
 abbrev pub keys_above : Option MapView → Option (List ℕ) → ℕ
 keys_above None bound = 0
 keys_above (Some v) bound = above_in bound (entries v.index)

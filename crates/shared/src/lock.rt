@@ -56,7 +56,7 @@ fn programs_of(alloc: Global, world: &World) -> Result<Vec<Verified>, AllocError
 }
 
 impl<L: Ledger> Shared<L> {
-    /// Shares a world in which no run slot is occupied among 1 to 8 workers, with an empty journal and the
+    /// Shares a world in which no run slot is occupied among 1 to `MAX_WORKERS` workers, with an empty journal and the
     /// counters. The programs that it keeps are the world's, by number. The ledger has one part for
     /// each worker. The error is that there is no memory left.
     pub fn new(
@@ -179,7 +179,8 @@ impl<L: Ledger> Shared<L> {
         self.exit_noted(rt, worker, run, prog, ctx).exit()
     }
 
-    /// Makes the world its own new base and empties the journal. It waits for the lock.
+    /// Makes the world its own new base and empties the journal, as `State::cut` says; of a shared world
+    /// no clause says so, since a contract does not see what is under the lock. It waits for the lock.
     ///
     /// Errors, and then nothing has changed: `NotQuiet` where a run slot is occupied; else `Memory` where there
     /// is none for a copy of the world.

@@ -7,7 +7,7 @@ use maps::Registry;
 use std::alloc::{AllocError, Global};
 use std::process::Abort;
 use std::test::Fail;
-use verifier::verify;
+use verifier::{Verified, verify};
 use worker_pool::{Job, Outcome, Report, Trail};
 use world::World;
 use world_parts::Loaded;
@@ -99,24 +99,35 @@ pub fn step(run: usize) -> Event {
     }
 }
 
-/// A program on one map, or on none, bound to map 0.
-fn loaded<R: Abort>(
+/// A program for contexts of a length of at most 1, over maps of these shapes, of which there is at most one.
+fn verified<R: Abort>(
     rt: &R,
     alloc: Global,
     code: &[u8],
-    with_map: bool,
+    shapes: &[MapShape],
     ctx_len: usize,
-) -> Result<Loaded, Fail> {
-    let mut maps = ArrayVec::new();
-    let mut shapes = Vec::new(alloc);
-    if with_map {
-        maps.push(0);
-        shapes.push(SHAPE)?;
-    }
-    assert!(rt; ctx_len <= 1);
+) -> Verified {
+    assert!(rt; ctx_len <= 1 && shapes.len() <= 1);
     let program = decode(alloc, code).expect(rt, "a program");
-    let verified = verify(alloc, program, &shapes, ctx_len).expect(rt, "a verified program");
-    Ok(Loaded { verified, maps })
+    verify(alloc, program, shapes, ctx_len).expect(rt, "a verified program")
+}
+
+/// A program without maps.
+fn plain<R: Abort>(rt: &R, alloc: Global, code: &[u8], ctx_len: usize) -> Loaded {
+    Loaded {
+        verified: verified(rt, alloc, code, &[], ctx_len),
+        maps: ArrayVec::new(),
+    }
+}
+
+/// A program on one map, bound to map 0.
+fn on_map_0<R: Abort>(rt: &R, alloc: Global, code: &[u8]) -> Loaded {
+    let mut maps = ArrayVec::new();
+    maps.push(0);
+    Loaded {
+        verified: verified(rt, alloc, code, &[SHAPE], 0),
+        maps,
+    }
 }
 
 /// A world with one map and four programs: 0 is `ONE`, 1 and 2 are lookups of the keys 0 and 1, 3 is
@@ -125,10 +136,10 @@ pub fn world_of<R: Abort>(rt: &R, alloc: Global) -> Result<World, Fail> {
     let mut registry = Registry::new(alloc);
     registry.create("m", SHAPE).expect(rt, "a map");
     let mut programs = Vec::new(alloc);
-    programs.push(loaded(rt, alloc, &ONE, false, 0)?)?;
-    programs.push(loaded(rt, alloc, &lookup(0), true, 0)?)?;
-    programs.push(loaded(rt, alloc, &lookup(1), true, 0)?)?;
-    programs.push(loaded(rt, alloc, &FIRST_BYTE, false, 1)?)?;
+    programs.push(plain(rt, alloc, &ONE, 0))?;
+    programs.push(on_map_0(rt, alloc, &lookup(0)))?;
+    programs.push(on_map_0(rt, alloc, &lookup(1)))?;
+    programs.push(plain(rt, alloc, &FIRST_BYTE, 1))?;
     Ok(World::new(alloc, registry, programs).expect(rt, "a world"))
 }
 

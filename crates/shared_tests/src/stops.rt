@@ -3,7 +3,7 @@ ghost use Rattle.std.specs.Prelude.{◌≡◌};
 
 use crate::making::{job, jobs_of, world_of};
 use bpf_model::EventRefusal;
-use shared::{Shared, is_quiet};
+use shared::{Shared, Workers, is_quiet};
 use std::alloc::Global;
 use std::marker::Brand;
 use std::process::Abort;
@@ -11,7 +11,7 @@ use std::sync::Wait;
 use std::sync::ledger::{Blank, Ledger};
 use std::test::Fail;
 use std::thread::Threads;
-use worker_pool::{Outcome, Report, StopCause, Trail, run_jobs};
+use worker_pool::{Job, Outcome, Report, StopCause, Trail, run_jobs};
 
 /// The first two jobs stop, each for its cause, and the third exits with its context's byte.
 fn two_stop<R: Abort>(rt: &R, report: &Report<Trail>) {
@@ -27,6 +27,21 @@ fn two_stop<R: Abort>(rt: &R, report: &Report<Trail>) {
             .get(2)
             .is_some_and(|one| one.outcome == Outcome::Exit(7))
     );
+}
+
+/// The code of the fault with which a pool ends, if it does.
+fn fault_of<L: Ledger + Send + Sync, R: Threads + Wait + Sync>(
+    rt: &R,
+    alloc: Global,
+    jobs: &[Job],
+    workers: usize,
+    shared: &Shared<L>,
+    hands: &mut Workers<L>,
+) -> Option<u8> {
+    match run_jobs(rt, alloc, jobs, workers, shared, hands) {
+        Ok(_) => None,
+        Err(fault) => Some(fault.code()),
+    }
 }
 
 #[test]
@@ -53,16 +68,16 @@ fn refused<L: Ledger + Send + Sync, R: Threads + Wait + Abort + Sync>(
     let report = run_jobs(rt, alloc, &jobs, 2, &shared, &mut hands).expect(rt, "a report");
     two_stop(rt, &report);
     for workers in [0, 3, 9] {
-        match run_jobs(rt, alloc, &jobs, workers, &shared, &mut hands) {
-            Ok(_) => return Err(Fail::from("a pool of a wrong number of workers")),
-            Err(fault) => assert_eq!(rt; fault.code(), 90),
-        }
+        assert_eq!(rt;
+            fault_of(rt, alloc, &jobs, workers, &shared, &mut hands),
+            Some(90)
+        );
     }
     let many = jobs_of(alloc, &[0], 65_537)?;
-    match run_jobs(rt, alloc, &many, 1, &shared, &mut hands) {
-        Ok(_) => return Err(Fail::from("a pool of too many jobs")),
-        Err(fault) => assert_eq!(rt; fault.code(), 91),
-    }
+    assert_eq!(rt;
+        fault_of(rt, alloc, &many, 1, &shared, &mut hands),
+        Some(91)
+    );
     let none = run_jobs(rt, alloc, &[], 1, &shared, &mut hands).expect(rt, "a report");
     assert_eq!(rt; none.jobs.len(), 0);
     // two starts that are refused, and a job of two steps

@@ -13,6 +13,7 @@ use std::sync::ledger::{Blank, Ledger};
 use std::sync::{Mutex, Wait};
 use std::test::Fail;
 use std::thread::{Threads, for_each_mut, join};
+use world::World;
 
 /// How many calls each worker makes.
 const CALLS: u16 = 1000;
@@ -68,6 +69,12 @@ fn text_of(alloc: Global, answer: &Answer) -> Result<String, AllocError> {
     format!(in alloc; "{answer:?}")
 }
 
+/// Whether two answers have one text.
+fn same_text(alloc: Global, one: &Answer, other: &Answer) -> Result<bool, AllocError> {
+    let text = text_of(alloc, one)?;
+    Ok(text == text_of(alloc, other)?)
+}
+
 /// Whether the entries of a log's worker have the answers of the log, in order.
 fn agrees(alloc: Global, journal: &Journal, log: &Log) -> Result<bool, AllocError> {
     let mut at = 0;
@@ -77,7 +84,7 @@ fn agrees(alloc: Global, journal: &Journal, log: &Log) -> Result<bool, AllocErro
                 let Some(answer) = log.answers.get(at) else {
                     return Ok(false);
                 };
-                if text_of(alloc, answer)? != text_of(alloc, &entry.answer)? {
+                if !same_text(alloc, answer, &entry.answer)? {
                     return Ok(false);
                 }
                 at += 1;
@@ -108,24 +115,30 @@ fn events_in(alloc: Global, journal: &Journal) -> Result<Vec<Event>, AllocError>
     Ok(events)
 }
 
-/// Whether the base answers the journal's events as the journal says.
-fn replays(alloc: Global, finished: Finished) -> Result<bool, AllocError> {
-    let Finished {
-        mut base,
-        world,
-        journal,
-    } = finished;
-    let events = events_in(alloc, &journal)?;
-    let answers = base.run_all(alloc, &events)?;
+/// Whether these are the answers in the journal, in order.
+fn are_answers(alloc: Global, journal: &Journal, answers: &[Answer]) -> Result<bool, AllocError> {
     for (index, answer) in answers.iter().enumerate() {
         let Some(entry) = journal.entry(index) else {
             return Ok(false);
         };
-        if text_of(alloc, answer)? != text_of(alloc, &entry.answer)? {
+        if !same_text(alloc, answer, &entry.answer)? {
             return Ok(false);
         }
     }
-    Ok(answers.len() == journal.len() && base.stat() == world.stat())
+    Ok(answers.len() == journal.len())
+}
+
+/// Whether a world answers the journal's events as the journal says.
+fn answers_alike(alloc: Global, world: &mut World, journal: &Journal) -> Result<bool, AllocError> {
+    let events = events_in(alloc, journal)?;
+    let answers = world.run_all(alloc, &events)?;
+    are_answers(alloc, journal, &answers)
+}
+
+/// Whether the base answers the journal's events as the journal says, and is then as the world.
+fn replays(alloc: Global, finished: &mut Finished) -> Result<bool, AllocError> {
+    let alike = answers_alike(alloc, &mut finished.base, &finished.journal)?;
+    Ok(alike && finished.base.stat() == finished.world.stat())
 }
 
 /// How many entries the workers have made.
@@ -177,12 +190,12 @@ fn eight<L: Ledger + Send + Sync, R: Threads + Wait + Abort + Sync>(
     assert!(rt; rises);
     assert_eq!(rt; made_by(&workers), 8000);
     assert!(rt; workers.list.len() == 8);
-    let finished = shared.finish(workers);
+    let mut finished = shared.finish(workers);
     assert_eq!(rt; finished.journal.len(), 8000);
     assert_eq!(rt; finished.base.stat(), first);
     let all = logs.into_inner();
     assert_eq!(rt; all.len(), 8);
     assert!(rt; all_agree(alloc, &finished.journal, &all)?);
-    assert!(rt; replays(alloc, finished)?);
+    assert!(rt; replays(alloc, &mut finished)?);
     Ok(())
 }

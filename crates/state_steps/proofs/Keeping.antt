@@ -2,6 +2,7 @@
 use Rattle.std.proofs.Common.{◌≡◌, ℕ, Some, refl, sym, ap, subst, ◌∙◌, inl, inr, ℤ, pos, Bool, true, false}
 use Rattle.std.specs.Prelude.{◌+ℤ◌, ◌⊎◌, if◌then◌else◌}
 use Rattle.std.proofs.lemmas.Bool.{cases_eq}
+use Rattle.std.proofs.lemmas.Option.{same_Some}
 use Rattle.bpf_model.specs.declared.insn.Insn.{Insn}
 use Rattle.bpf_model.specs.declared.insn.Insn.TheVariants.{Alu, Load, LoadSigned, Store}
 use Rattle.bpf_model.specs.declared.insn.AluOp.{AluOp}
@@ -18,9 +19,9 @@ use Rattle.bpf_model.specs.declared.limits.TheConstants.{FRAME_BYTES}
 use Rattle.memory_effects.specs.Accesses.{ReachesFrame, ReadsBytes}
 use Rattle.scalar_domain.specs.declared.scalar.Scalar.{Scalar}
 use Rattle.typed_runs.specs.Kinds.{Kind, CellKind, Num, FrameAt, ByteCell, AbsState}
-use Rattle.typed_runs.specs.Effects.{with_kind, with_cells, IsNumberOperand}
+use Rattle.typed_runs.specs.Effects.{with_kind, with_cells, IsNumberOperand, HasNumber}
 use Rattle.typed_runs.specs.Planned.{AreAlike}
-use Rattle.compute_effects.specs.Computes.{HasNumber, ReadsNumber}
+use Rattle.compute_effects.specs.Computes.{ReadsNumber}
 use Rattle.control_effects.specs.Narrowing.{AreNarrowed}
 use Rattle.state_steps.specs.Facts.{Register as RegisterFact, FrameByte, FramePointer, Section, KeepsFacts, ReadsNumbers, IsReadyInsn}
 use Rattle.control_effects.proofs.Branches.{set-there, set-elsewhere}
@@ -136,10 +137,7 @@ store_reaches width dst offset src a ready = reaches width dst offset a ready.si
 pub store_number : (width : Width) (dst : ℕ) (offset : ℤ) (src : Operand) (a : AbsState) → IsReadyInsn (Store width dst offset src) a → IsNumberOperand a src
 store_number width dst offset src a ready = operand_number src a ready.registers
 
-pub some_is : (m n : ℕ) → Some m ≡ Some n → m ≡ n
-some_is m n e = cc
-
 pub taken_within : (width : Width) (offset : ℤ) (at k : ℕ) → region_offset FRAME_BYTES (byte_count width) (pos FRAME_BYTES +ℤ offset) ≡ Some at → Takes width offset k → is_within at (byte_count width) k ≡ true
 taken_within width offset at k e t =
-    let same = some_is t.0 at (sym t.1 ∙ e) in
+    let same = same_Some t.0 at (sym t.1 ∙ e) in
     subst (λ (n : ℕ). is_within n (byte_count width) k ≡ true) same (within t.0 (byte_count width) k t.2 t.3)

@@ -31,6 +31,7 @@ use Rattle.state_steps.specs.Stepped.{IsEqualToNull}
 use Rattle.bpf_model.specs.declared.opcode.Size.{Size}
 use Rattle.bpf_model.specs.declared.opcode.Size.TheVariants.{Word64}
 use Rattle.bpf_model.specs.PlainMaps.{lock_call, unlock_call, IsValueLoad}
+use Rattle.control_effects.proofs.Branches.{set-there, set-elsewhere}
 use Rattle.scalar_domain.specs.declared.scalar.Scalar.{Scalar}
 use Rattle.typed_runs.specs.Kinds.{Kind, Blank, Num, FrameAt, MapAt, ValueAt, MaybeNull, ByteCell, AbsState}
 use Rattle.typed_runs.specs.Effects.{with_kind, after_call, after_lock, after_unlock, returned_kind, ended_kind, ended_cell, IsWritten}
@@ -149,30 +150,24 @@ maybe_kind (kinds.MaybeNull m i) n id e = cc
 
 -- a register is set
 module _ (dst : ℕ) (kind : Kind) (a b : AbsState) (e : AreAlike (with_kind dst kind a) b) where
-  pub set_here : b.regs dst ≡ kind
-  set_here = e.regs dst ∙ ap (λ t. if t then kind else a.regs dst) (eq-eqb dst dst refl)
-
-  pub set_other : (r : ℕ) → (r ≡ dst → ⊥) → b.regs r ≡ a.regs r
-  set_other r n = e.regs r ∙ ap (λ t. if t then kind else a.regs r) (ne_eqb r dst n)
-
   pub key_kept : (l : Lookup) → IsKeyWritten l a → IsKeyWritten l b
   key_kept l w k p q = e.cells k ∙ w k p q
 
   -- one that calls may change
   pub set_saves : dst ≤ 5 → KeepsSaved a b
-  set_saves low (Register r) s h = (h.0, set_other r (λ p. let q : r ≡ dst = p in absurd (omega (arith, q, low, s))) ∙ h.1)
+  set_saves low (Register r) s h = (h.0, set-elsewhere dst r kind a b e (λ p. let q : r ≡ dst = p in absurd (omega (arith, q, low, s))) ∙ h.1)
   set_saves low (FrameByte k) s h = e.cells k ∙ h
-  set_saves low FramePointer s h = set_other 10 (λ p. let q : 10 ≡ dst = p in absurd (omega (arith, q, low))) ∙ h
+  set_saves low FramePointer s h = set-elsewhere dst 10 kind a b e (λ p. let q : 10 ≡ dst = p in absurd (omega (arith, q, low))) ∙ h
   set_saves low (Section inside) s h = absurd s
 
 -- a number is loaded
 pub load_saves : (dst : ℕ) (n : Scalar) (a b : AbsState) → (dst ≤ 9) → AreAlike (with_kind dst (Num n) a) b → KeepsSaved a b
 load_saves dst n a b high e (Register r) s h = elim (cases_eq r dst) [
-  | inl p ↦ (n, subst (λ q. b.regs q ≡ Num n) (sym p) (set_here dst (Num n) a b e))
-  | inr m ↦ (h.0, set_other dst (Num n) a b e r m ∙ h.1)
+  | inl p ↦ (n, subst (λ q. b.regs q ≡ Num n) (sym p) (set-there dst dst (Num n) a b e refl))
+  | inr m ↦ (h.0, set-elsewhere dst r (Num n) a b e m ∙ h.1)
 ]
 load_saves dst n a b high e (FrameByte k) s h = e.cells k ∙ h
-load_saves dst n a b high e FramePointer s h = set_other dst (Num n) a b e 10 (λ p. let q : 10 ≡ dst = p in absurd (omega (arith, q, high))) ∙ h
+load_saves dst n a b high e FramePointer s h = set-elsewhere dst 10 (Num n) a b e (λ p. let q : 10 ≡ dst = p in absurd (omega (arith, q, high))) ∙ h
 load_saves dst n a b high e (Section inside) s h = absurd s
 
 -- operations: the copy of r10, and the key's address
@@ -236,7 +231,7 @@ module _ (op : AluOp) (size : Size) (dst : ℕ) (src : Operand) (a : StateHere) 
           let e = made k h.1 d in record {
             keeps = set_saves 2 k (state_of a) b e (omega arith);
             inside = e.inside;
-            prepares = subst (λ p. Prepares l p b) (sym h.0) (key_kept 2 k (state_of a) b e l (written l p (inl h.0) ready.expects), set_here 2 k (state_of a) b e);
+            prepares = subst (λ p. Prepares l p b) (sym h.0) (key_kept 2 k (state_of a) b e l (written l p (inl h.0) ready.expects), set-there 2 2 k (state_of a) b e refl);
             keeps_taken = tt;
           }
       leaves l p ready (d, inr h) =
@@ -244,7 +239,7 @@ module _ (op : AluOp) (size : Size) (dst : ℕ) (src : Operand) (a : StateHere) 
           let e = made k h.1 d in record {
             keeps = set_saves 2 k (state_of a) b e (omega arith);
             inside = e.inside;
-            prepares = subst (λ p. Prepares l p b) (sym h.0) (key_kept 2 k (state_of a) b e l (written l p (inr h.0) ready.expects), set_here 2 k (state_of a) b e);
+            prepares = subst (λ p. Prepares l p b) (sym h.0) (key_kept 2 k (state_of a) b e l (written l p (inr h.0) ready.expects), set-there 2 2 k (state_of a) b e refl);
             keeps_taken = tt;
           }
 
@@ -283,10 +278,10 @@ module _ (dst : ℕ) (map : ℤ) (shapes : List MapShape) (a : AbsState) (R : Ki
           let k = MapAt l.map in
           let e : AreAlike (with_kind 1 k a) b = subst (λ n. AreAlike (with_kind n k a) b) d (alike k r) in
           let x : Expects l MapLoad a = subst (λ p. Expects l p a) h ready.expects in
-          let before : b.regs 2 ≡ a.regs 2 = set_other 1 k a b e 2 (λ q. absurd (omega (arith, q))) in record {
+          let before : b.regs 2 ≡ a.regs 2 = set-elsewhere 1 2 k a b e (λ q. absurd (omega (arith, q))) in record {
             keeps = set_saves 1 k a b e (omega arith);
             inside = e.inside;
-            prepares = subst (λ p. Prepares l p b) (sym h) (key_kept 1 k a b e l x.0, before ∙ x.1, set_here 1 k a b e);
+            prepares = subst (λ p. Prepares l p b) (sym h) (key_kept 1 k a b e l x.0, before ∙ x.1, set-there 1 1 k a b e refl);
             keeps_taken = tt;
           }
 

@@ -1,7 +1,7 @@
 -- Steps of instructions that have one state behind them, and of conditional jumps.
 use Rattle.std.proofs.Common.{◌≡◌, ℕ, List, Option, Some, None, refl, sym, ap, subst, ◌∙◌, inl, inr, ℤ, pos, Bool, true, false, Ok}
 use Rattle.std.specs.Prelude.{if◌then◌else◌}
-use Rattle.std.proofs.lemmas.Option.{none-some}
+use Rattle.std.proofs.lemmas.Option.{none-some, same_Some}
 use Rattle.bpf_model.specs.declared.limits.MapShape.{MapShape}
 use Rattle.bpf_model.specs.declared.insn.Insn.{Insn}
 use Rattle.bpf_model.specs.declared.insn.Insn.TheVariants.{JumpIf}
@@ -37,7 +37,6 @@ use Rattle.state_steps.specs.Steps.{IsForward, IsBranch, base_of, IsInRegion, Co
 use Rattle.state_steps.specs.Facts.{IsReadyInsn, KeepsFacts}
 use Rattle.state_steps.specs.Lookups.{Serves}
 use Rattle.state_steps.specs.Stepped.{single_flow, Stepped, ComparesWell}
-use Rattle.state_steps.proofs.Keeping.{some_is}
 
 -- an instruction that reaches no memory, compares nothing and has one state behind it
 pub record IsQuiet (i : Insn) : Type 0 where
@@ -139,7 +138,7 @@ access_step i shapes ctx_len top a b f region base e q is sound below keeps serv
   done = record {
     sound = λ forward. sound;
     branches = λ x. absurd (q.no_branch x);
-    region = λ r c m x d. subst (λ (n : ℕ). IsInRegion c region (m.regs n)) (some_is base r (sym q.base_is ∙ x)) (in_region region (kind_at a.regs base) c d.naming (m.regs base) is (d.regs base));
+    region = λ r c m x d. subst (λ (n : ℕ). IsInRegion c region (m.regs n)) (same_Some base r (sym q.base_is ∙ x)) (in_region region (kind_at a.regs base) c d.naming (m.regs base) is (d.regs base));
     compares = λ r c m x d. absurd (q.no_test r x);
     taken_below = tt;
     keeps = keeps;

@@ -5,8 +5,8 @@ use Rattle.bpf_model.specs.declared.insn.Insn.{Insn}
 use Rattle.bpf_model.specs.declared.insn.Insn.TheVariants.{Exit}
 use Rattle.bpf_model.specs.declared.limits.TheConstants.{FRAME_BYTES}
 use Rattle.bpf_model.specs.Plain.{ReadsRegister, WritesRegister, ReadsByte, WritesByte, IsSimple}
-use Rattle.scalar_domain.specs.declared.scalar.Scalar.{Scalar}
-use Rattle.typed_runs.specs.Kinds.{Num, FrameAt, ByteCell, AbsState}
+use Rattle.typed_runs.specs.Kinds.{FrameAt, ByteCell, AbsState}
+use Rattle.typed_runs.specs.Effects.{HasNumber}
 
 -- a register is a number, a byte of the frame is written, r10 is the frame's end, or a section is
 -- open or is not
@@ -17,7 +17,7 @@ pub data Fact : Type 0 where
   Section : (inside : Bool) → Fact
 
 abbrev pub FactHolds : Fact → AbsState → Type 0
-FactHolds (Register r) a = (s : Scalar) × (a.regs r ≡ Num s)
+FactHolds (Register r) a = HasNumber a r
 FactHolds (FrameByte k) a = a.cells k ≡ ByteCell
 FactHolds FramePointer a = a.regs 10 ≡ FrameAt (pos FRAME_BYTES)
 FactHolds (Section inside) a = a.inside ≡ inside

@@ -1,8 +1,9 @@
 -- What the pass over a program asks of the step of an instruction.
-use Rattle.std.specs.Prelude.{◌≡◌, ◌≢◌, ℕ, Option, Some, None, Result, Ok, Err, true, ◌⊎◌, ℤ, pos}
+use Rattle.std.specs.Prelude.{◌≡◌, ◌≢◌, ℕ, Option, Some, None, Result, true, ◌⊎◌, ℤ, pos}
+use Rattle.std.specs.Prelude.{IsOkUnless}
 use Rattle.std.specs.Prelude.{option_map}
 use Rattle.bpf_model.specs.declared.value.Value.{Value}
-use Rattle.bpf_model.specs.declared.value.Value.TheVariants.{Number, Pointer}
+use Rattle.bpf_model.specs.declared.value.Value.TheVariants.{Pointer}
 use Rattle.bpf_model.specs.declared.value.Reference.TheVariants as references
 use Rattle.bpf_model.specs.declared.insn.Insn.{Insn}
 use Rattle.bpf_model.specs.declared.insn.Insn.TheVariants.{JumpIf, Load, LoadSigned, Store}
@@ -11,6 +12,7 @@ use Rattle.bpf_model.specs.declared.opcode.Condition.TheVariants.{Equal, NotEqua
 use Rattle.bpf_model.specs.declared.opcode.Size.TheVariants.{Word64}
 use Rattle.bpf_model.specs.Graph.{falls, distance}
 use Rattle.bpf_model.specs.Plain.{Names}
+use Rattle.bpf_model.specs.Value.{IsNumber}
 use Rattle.typed_runs.specs.Describes.{Scene, IsHeld}
 use Rattle.register_kinds.specs.declared.state.AbsState.{AbsState}
 use Rattle.kind_tests.specs.declared.fault.Fault.{Fault}
@@ -27,9 +29,13 @@ IsForward i = (d : ℤ) → distance i ≡ Some d → (n : ℕ) × (d ≡ pos n)
 abbrev pub IsBranch : Insn → Type 0
 IsBranch i = (falls i ≡ true) × (distance i ≢ None)
 
+-- the state in a box
+abbrev pub unboxed : {Z : Type 0} → Option (Box AbsState Z) → Option AbsState
+unboxed o = option_map (λ b. b.value) o
+
 -- the state where a conditional jump is taken
 abbrev pub taken_state : Flow → Option AbsState
-taken_state f = option_map (λ b. b.value) f.taken
+taken_state f = unboxed f.taken
 
 -- the register through which a memory instruction reaches memory
 abbrev pub base_of : Insn → Option ℕ
@@ -60,10 +66,9 @@ IsNullTest _ = ⊥
 -- a number, or where the instruction tests for null a reference to an element
 abbrev pub IsComparable : Insn → Value → Type 0
 IsComparable i v =
-    ((n : ℕ) × (v ≡ Number n))
+    IsNumber v
     ⊎ (IsNullTest i × (n : ℕ) × (o : ℤ) × (v ≡ Pointer (references.Elem n o)))
 
 -- no refusal but for want of memory
 abbrev pub IsFine : {A : Type 0} → Result A Fault → Type 0
-IsFine (Ok x) = Unit {0}
-IsFine (Err e) = e ≡ Memory
+IsFine r = IsOkUnless r Memory

@@ -1,13 +1,13 @@
 //! Steps of jumps, of calls, and of the exit.
 ghost use Rattle.std.specs.Prelude.{◌≡◌, ℕ, ℤ, List, Ok, Some, true, ◌+◌, ◌^◌, ◌<◌, ◌≤◌, IfOk, IfErr, OnOk, OnErr, IfSome, if◌then◌else◌, pos};
+ghost use Rattle.std.specs.Prelude.{IsOkUnless};
 ghost use Rattle.bpf_model.specs.declared.limits.MapShape.{MapShape};
 ghost use Rattle.bpf_model.specs.Step.{State};
-ghost use Rattle.typed_runs.specs.Effects.{IsNumberOperand};
+ghost use Rattle.typed_runs.specs.Effects.{IsNumberOperand, HasNumber};
 ghost use Rattle.typed_runs.specs.Describes.{Scene, Describes};
 ghost use Rattle.register_kinds.specs.declared.state.AbsState.{AbsState as Known};
-ghost use Rattle.register_kinds.specs.Pairs.{AreBelow};
+ghost use Rattle.register_kinds.specs.Pairs.{AreBelow, TakesFew};
 ghost use Rattle.register_kinds.specs.States.{kind_in, state_of};
-ghost use Rattle.compute_effects.specs.Computes.{HasNumber};
 ghost use Rattle.call_effects.specs.Calls.{Splits};
 ghost use Rattle.kind_tests.specs.Forks.{Forks, ForksOnNull};
 ghost use Rattle.control_effects.specs.Narrowing.{AreNarrowed};
@@ -102,13 +102,13 @@ fn branch(
     ensures taken_narrowed { IfOk result (λ taken. HasNumber (state_of state.old) dst
         → AreNarrowed dst src.now (state_of state.old) (state_of taken.value)) }
     ensures accepts { HasNumber (state_of state.old) dst
-        → IsNumberOperand (state_of state.old) src.now → IfErr result (λ e. e ≡ Fault.Memory) }
+        → IsNumberOperand (state_of state.old) src.now → IsOkUnless result Fault.Memory }
     ensures splits { IfOk result (λ taken. (map id : ℕ)
         → IsEqualToNull condition size dst src.now map id state.old
         → Splits id state.old taken.value state.new) }
     ensures accepts_null { (map id : ℕ)
         → IsEqualToNull condition size dst src.now map id state.old
-        → IfErr result (λ e. e ≡ Fault.Memory) }
+        → IsOkUnless result Fault.Memory }
     ensures unchanged { OnErr result (state.new ≡ state.old) }
 {
     match (null_test(condition, size, src), state.kind(dst)) {
@@ -150,7 +150,7 @@ pub(crate) fn call_step(
     requires below { AreBelow ids.old.next state.old }
     ensures stepped { (ctx_len : ℕ) → Stepped (Insn.Call kind imm) shape.now.shapes.now ctx_len
         ids.new.next state.old state.new result }
-    ensures few { (ids.old.next ≤ ids.new.next) × (ids.new.next ≤ ids.old.next + 1) }
+    ensures few { TakesFew 1 ids.old.next ids.new.next }
 {
     call(state, kind, imm, shape.shapes, ids)?;
     Ok(single(Region::None))

@@ -3,7 +3,7 @@ ghost use Rattle.std.specs.Prelude.{◌≡◌, ℕ, ◌+◌, ◌^◌, ◌<◌, �
 ghost use Rattle.bpf_model.specs.Step.{State};
 ghost use Rattle.typed_runs.specs.Describes.{Scene, Describes};
 ghost use Rattle.typed_runs.specs.Verified.{Transfers};
-ghost use Rattle.register_kinds.specs.Pairs.{AreBelow};
+ghost use Rattle.register_kinds.specs.Pairs.{AreBelow, TakesFew};
 ghost use Rattle.register_kinds.specs.States.{state_of};
 ghost use Rattle.state_steps.specs.Steps.{IsForward, IsBranch, taken_state, base_of, IsInRegion, Compares, IsComparable, IsFine};
 ghost use Rattle.state_steps.specs.Facts.{IsReadyInsn, KeepsFacts};
@@ -63,7 +63,7 @@ pub fn transfer(
     // The identities that are taken.
     ensures below { AreBelow ids.new.next state.new }
     ensures taken_below { IfOk result (λ f. IfSome (taken_state f) (AreBelow ids.new.next)) }
-    ensures few { (ids.old.next ≤ ids.new.next) × (ids.new.next ≤ ids.old.next + 1) }
+    ensures few { TakesFew 1 ids.old.next ids.new.next }
     ensures unchanged { OnErr result (state.new ≡ state.old) }
 
     // An instruction that is ready is not refused but for want of memory, and what is known stays
@@ -96,7 +96,7 @@ fn perform(
     requires below { AreBelow ids.old.next state.old }
     ensures stepped { Stepped insn.now shape.now.shapes.now shape.now.ctx_len ids.new.next
         state.old state.new result }
-    ensures few { (ids.old.next ≤ ids.new.next) × (ids.new.next ≤ ids.old.next + 1) }
+    ensures few { TakesFew 1 ids.old.next ids.new.next }
 {
     match insn {
         Insn::Alu { op, size, dst, src } => alu_step(state, *op, *size, *dst, src),

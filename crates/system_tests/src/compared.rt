@@ -3,7 +3,7 @@
 ghost use Rattle.std.specs.Prelude.{◌≡◌, [], IfOk, length};
 
 use crate::judged::{bytes_of, context_of};
-use bpf_model::{Cell, CtxBytes, Reg, Value};
+use bpf_model::{CTX_BYTES, Cell, CtxBytes, FRAME_BYTES, Reg, Value};
 use insn_codec::decode;
 use lone_runs::{Step, start_alone, step_alone};
 use machine::Run;
@@ -138,7 +138,7 @@ fn same_registers(plain: &PlainRun, run: &Run) -> bool {
 
 /// Whether each byte of the frame that is written holds what was written.
 fn same_frame(plain: &PlainRun, run: &Run) -> bool {
-    for index in 0..512 {
+    for index in 0..FRAME_BYTES {
         if let Cell::Byte(byte) = plain.cell(index) {
             if run.frame().get(index) != Some(&byte) {
                 return false;
@@ -222,7 +222,7 @@ fn sum_of(verified: &Verified, ctx_len: usize) -> Result<u64, Fail>
 fn verified_of(alloc: Global, case: &Compared) -> Result<Verified, Fail>
     ensures { IfOk result (λ v. v.shapes ≡ []) }
 {
-    if case.ctx_len > 256 {
+    if case.ctx_len > CTX_BYTES {
         return Err(Fail::from("the context is too long"));
     }
     let code = bytes_of(alloc, case.code)?;

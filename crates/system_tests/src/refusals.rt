@@ -263,7 +263,7 @@ fn smallest_refused_programs(rt: HostRuntime) -> Result<(), Fail> {
 fn too_many_slots(rt: HostRuntime) -> Result<(), Fail> {
     let alloc = rt.alloc();
     let mut lines = String::new(alloc);
-    for _ in 0..4096 {
+    for _ in 0..MAX_SLOTS {
         lines.push_str("mov64 r0, 0\n")?;
     }
     lines.push_str("exit\n")?;

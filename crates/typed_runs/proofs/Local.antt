@@ -2,7 +2,7 @@
 use Rattle.std.proofs.Common.{◌≡◌, ℕ, ◌+◌, ◌<◌, ◌^◌, ◌%◌, ◌/◌, List, length, Option, Some, None, ◌⊎◌, inl, inr, refl, sym, ap, subst, ◌∙◌, pos, arith, true, false}
 use Rattle.std.specs.Prelude.{if◌then◌else◌, unwrap_or}
 use Rattle.std.proofs.lemmas.Bool.{cases_eq, eq-eqb, ne_eqb}
-use Rattle.std.proofs.lemmas.Option.{same_Some}
+use Rattle.std.proofs.lemmas.Option.{same_Some, none-some}
 use Rattle.std.proofs.lemmas.Nat.{mod_below}
 use Rattle.bpf_model.specs.declared.limits.MapShape.{MapShape}
 use Rattle.bpf_model.specs.declared.insn.Insn.{Insn}
@@ -60,16 +60,13 @@ pub record Acting (i : Insn) (s : Store) (run : Run) (new : AbsState) (taken : O
   pub bytes : AllBytes es
   pub reaches : Reaches i new taken es run out
 
-some-not-none : (n : ℕ) → Some n ≡ None → ⊥
-some-not-none n h = cc
-
 ending : (out : Outcome) (i : Insn) (new : AbsState) (taken : Option AbsState) (es : List Element) (run : Run) → Reaches i new taken es run out → (answer : Answer) × (new_run : Run) × OutcomeStep out run answer new_run
 ending (Moves next) i new taken es run h = (Moved, moves run next, (refl, refl))
 ending (Exits n) i new taken es run h = (Exited n, exits run n, (h, refl, refl))
 
 ended-leads : (out : Outcome) (i : Insn) (new : AbsState) (taken : Option AbsState) (es : List Element) (run : Run) (answer : Answer) (new_run : Run) → Reaches i new taken es run out → OutcomeStep out run answer new_run → Leads i new taken run.state.place es new_run
 ended-leads (Moves next) i new taken es run answer new_run h e = subst (λ (r : Run). Leads i new taken run.state.place es r) (sym e.1) (λ going. h)
-ended-leads (Exits n) i new taken es run answer new_run h e = λ going. absurd (some-not-none n (ap (λ (r : Run). r.exit) (sym e.2) ∙ going))
+ended-leads (Exits n) i new taken es run answer new_run h e = λ going. absurd (none-some n (sym (ap (λ (r : Run). r.exit) (sym e.2) ∙ going)))
 
 acts-goes : (i : Insn) (s : Store) (opened : List Section) (run : Run) (b : AbsState) (taken : Option AbsState) → IsNoCall i → Acting i s run b taken → HasStep i s opened run
 acts-goes i s opened run b taken plain x =

@@ -217,14 +217,15 @@ pub never_stuck_along : (m : Machine) (events : List Event) (answers : List Answ
 never_stuck_along m events answers states w real h = all-states IsWell NeverStuck (m ∷ states) well_never_stuck (well_along m events answers states w real h)
 
 -- with the runtime's choices
-well-last : (s : Schedule) (events : List Event) (answers : List Answer) (states : List Schedule) → IsWell s.machine → AreReal events → IsScheduledHistory s events answers states → IsWell (last_scheduled s states).machine
-well-last s [] [] [] w real h = w
-well-last s (event ∷ events) (answer ∷ answers) (next ∷ states) w real h =
-    well-last next events answers states (keeps_well s.machine next.machine event answer w (real 0 event refl) h.0.step) (real-rest event events real) h.1
-well-last s events answers states w real h = absurd h
+pub kept-last : (P : Machine → Type 0) → ((m new : Machine) (event : Event) (answer : Answer) → IsReal event → DoesEvent m event answer new → P m → P new)
+    → (s : Schedule) (events : List Event) (answers : List Answer) (states : List Schedule) → P s.machine → AreReal events → IsScheduledHistory s events answers states → P (last_scheduled s states).machine
+kept-last P keeps s [] [] [] p real h = p
+kept-last P keeps s (event ∷ events) (answer ∷ answers) (next ∷ states) p real h =
+    kept-last P keeps next events answers states (keeps s.machine next.machine event answer (real 0 event refl) h.0.step p) (real-rest event events real) h.1
+kept-last P keeps s events answers states p real h = absurd h
 
 pub reached_is_well : (shapes : List MapShape) (programs : List Loaded) (s : Schedule) → AreVerified shapes programs → IsReachedSchedule shapes programs s → IsWell s.machine
-reached_is_well shapes programs s safe r = subst (λ (x : Schedule). IsWell x.machine) r.last (well-last (start_schedule shapes programs) r.events r.answers r.states (starts_well shapes programs safe) r.real r.history)
+reached_is_well shapes programs s safe r = subst (λ (x : Schedule). IsWell x.machine) r.last (kept-last IsWell (λ m new event answer real h w. keeps_well m new event answer w real h) (start_schedule shapes programs) r.events r.answers r.states (starts_well shapes programs safe) r.real r.history)
 
 -- never stuck, of what a world tracks
 pub tracked_never_stuck : (w : WorldView) (events : List Event) (answers : List Answer) → AreVerified (shapes_of w) w.programs → AreReal events → AreNeverStuck Tracks w events answers

@@ -35,7 +35,7 @@ use Rattle.typed_runs.proofs.Arguments.{reg-is, cell-is}
 use Rattle.typed_runs.proofs.Local.{Acting, acts-transfers, by-itself}
 use Rattle.typed_runs.proofs.Elements.{set-is}
 
--- a place of eight bytes is a multiple of 8
+-- an access of eight bytes begins at a multiple of 8
 both-true : (a b : Bool) (o at : ℕ) → (if a && b then Some o else None) ≡ Some at → (b ≡ true) × (o ≡ at)
 both-true true true o at h = (refl, same_Some o at h)
 both-true true false o at h = absurd (none-some at h)
@@ -138,7 +138,7 @@ spilled-described a c m at place kind v e d p n = record {
   cells = λ k. spilled-cell c d.naming d.stored at v kind k (a.cells k) (m.frame k) p (in-group at k e) (d.cells k);
 }
 
-no-element : (es : List Element) (width : ℕ) (offset : ℤ) (v base : Value) (o : ℤ) (new : List Element) → base ≡ Pointer (Frame o) → element_store es width offset v base ≡ Some new → ⊥
+pub no-element : (es : List Element) (width : ℕ) (offset : ℤ) (v base : Value) (o : ℤ) (new : List Element) → base ≡ Pointer (Frame o) → element_store es width offset v base ≡ Some new → ⊥
 no-element es width offset v base o new e h = frame-none v (sym (ap (element_store es width offset v) e) ∙ h)
   where
     frame-none : (v : Value) → element_store es width offset v (Pointer (Frame o)) ≡ Some new → ⊥

@@ -157,7 +157,11 @@ abbrev pub IsPointer : Kind → Type 0
 IsPointer (Num s) = ⊥
 IsPointer kind = IsWritten kind
 
+-- a register that is known to be a number
+abbrev pub HasNumber : AbsState → ℕ → Type 0
+HasNumber a r = (s : Scalar) × (a.regs r ≡ Num s)
+
 -- an operand that is a number in each described state
 abbrev pub IsNumberOperand : AbsState → Operand → Type 0
-IsNumberOperand a (Register r) = (s : Scalar) × (a.regs r ≡ Num s)
+IsNumberOperand a (Register r) = HasNumber a r
 IsNumberOperand a (Immediate imm) = Unit {0}

@@ -110,8 +110,7 @@ pub record IsVerified (code : List Insn) (shapes : List MapShape) (ctx_len : ℕ
   pub plan : Plan
   pub closed : IsClosed code shapes ctx_len plan
 
--- An instruction that isn't a call, and what is to be shown of one that accesses no element: its
--- one outcome, by `after`. The scene is the same after it.
+-- the instruction is a call
 abbrev pub is_call : Insn → Bool
 is_call (Call kind imm) = true
 is_call i = false
@@ -127,6 +126,8 @@ LandsDescribed i new taken c place (Moves next) =
     ((falls i ≡ true) × (next.place ≡ place + slot_count i) × Describes new c next)
     ⊎ (JumpsTo i place next.place × Describes (unwrap_or taken new) c next)
 
+-- What is to be shown of an instruction that is no call and accesses no element: its one outcome,
+-- by `after`. The scene is the same after it.
 pub record ActsAlone (i : Insn) (new : AbsState) (taken : Option AbsState) (c : Scene)
     (env : Environment) (m : State) : Type 0 where
   pub out : Outcome

@@ -15,9 +15,9 @@ use Rattle.bpf_model.specs.PlainMaps.{lookup_call, lock_call, unlock_call, IsGua
 use Rattle.bpf_model.specs.Spelling.{slot_count}
 use Rattle.bpf_model.specs.Step.{insn_at}
 use Rattle.bpf_model.specs.Places.{start_of-insn, LeadsTo, StartsAt, starts_increase, start-insn}
+use Rattle.bpf_model.proofs.Lists.{get-below}
 use Rattle.program_graph.specs.FirstPass.{Follows}
 use Rattle.program_graph.specs.Indexes.{HasTargets, IsTarget}
-use Rattle.program_graph.proofs.Edges.{insn_read}
 use Rattle.program_graph.proofs.Lists.{same_some}
 use Rattle.program_graph.proofs.Marking.{edge_from, first_start}
 use Rattle.typed_runs.specs.Kinds as model
@@ -377,7 +377,7 @@ merged_known : (program : List Insn) (shapes : List MapShape) → IsPlainWithMap
 merged_known program shapes plain k at state old new merged ahead inside known before = record { paired = paired; knows = knows }
   where
     slot : (p : ℕ) × StartsAt program at p
-    slot = let i = insn_read program at inside in start_of-insn 0 program at i.0 i.1
+    slot = let i = get-below program at inside in start_of-insn 0 program at i.0 i.1
 
     same : (a : AbsState) → state_in (old at) ≡ Some a → a.inside ≡ state.inside
     same a e = one_section program shapes plain slot.0 a.inside state.inside (section_here program shapes at slot.0 a slot.1 (before.knows at a ahead e).facts) (section_here program shapes at slot.0 state slot.1 known.facts)

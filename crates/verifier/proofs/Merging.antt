@@ -9,9 +9,10 @@ use Rattle.register_kinds.specs.States.{state_of}
 use Rattle.register_kinds.specs.Pairs.{AreBelow}
 use Rattle.state_steps.specs.Facts.{Fact, FactHolds}
 use Rattle.state_steps.specs.Lookups.{Lookup, Part, Expects}
+use Rattle.state_steps.specs.Steps.{unboxed}
 use Rattle.verifier.specs.declared.waiting.Waiting.{Waiting}
 use Rattle.verifier.specs.declared.waiting.Waiting.TheVariants.{Nothing, Differing}
-use Rattle.verifier.specs.SecondPass.{Awaited, state_in, unboxed, AllBelow, JoinsTo, Joined, Merged}
+use Rattle.verifier.specs.SecondPass.{Awaited, state_in, AllBelow, JoinsTo, Joined, Merged}
 
 -- both are joined
 pub joined_from : (w new : Waiting) (a b c : AbsState) → w ≢ Differing → state_in w ≡ Some a → state_in new ≡ Some c → Wider (state_of a) (state_of c) → Wider (state_of b) (state_of c)

@@ -16,7 +16,6 @@ use Rattle.bpf_model.specs.Places.{slot_count_some, starts_apart, starts_increas
 use Rattle.program_graph.specs.GraphFlaws.{EndsWithExit, HasGoodGraph}
 use Rattle.program_graph.specs.FirstPass.{Follows}
 use Rattle.program_graph.specs.Indexes.{HasTargets, IsTarget}
-use Rattle.program_graph.proofs.Edges.{insn_read}
 use Rattle.program_graph.proofs.Lists.{same_some}
 use Rattle.program_graph.proofs.Marking.{edge_into, reached_by}
 use Rattle.typed_runs.specs.Kinds as model
@@ -33,7 +32,7 @@ use Rattle.verifier.specs.declared.waiting.Waiting.{Waiting}
 use Rattle.verifier.specs.declared.waiting.Waiting.TheVariants.{Nothing, Differing}
 use Rattle.verifier.specs.SecondPass.{Awaited, Table, size_of, awaited, state_in, planned, Fell, Jumped, Spreads, Advances, Notes, Passed, IsPassed, IsDoomed, Awaits, StartsFrom}
 use Rattle.verifier.proofs.Merging.{Later, same_later, Stays, AllStay, same_stay, merged_there, merged_later, merged_or}
-use Rattle.bpf_model.proofs.Lists.{get-append_cases}
+use Rattle.bpf_model.proofs.Lists.{get-append_cases, get-below}
 
 -- a program has no more instructions than slots
 pub length_slots : (is : List Insn) → length is ≤ slot_total is
@@ -68,7 +67,7 @@ target_fits program k i (Some t) leads = target_within program k i t leads
 -- a jump leads further on
 pub jumps_further : (program : List Insn) (targets : List (Option ℕ)) (long : length targets ≡ length program) (all : HasTargets program targets) (k : ℕ) (target : Option ℕ) → slice_get targets k ≡ Some target → (t : ℕ) → target ≡ Some t → k < t
 jumps_further program targets long all k target e t f =
-    let i = insn_read program k (let h = slice_get_within targets k target e in omega (arith, h, long)) in
+    let i = get-below program k (let h = slice_get_within targets k target e in omega (arith, h, long)) in
     let l : LeadsTo program k i.0 t = subst (IsTarget program k i.0) f (all.each k i.0 target i.1 e) in
     l.further
 
@@ -353,7 +352,7 @@ waits_here program targets long all k at graph w h = elim (reached_by (graph.rea
 ]
   where
     i : (i : Insn) × (slice_get program k ≡ Some i)
-    i = insn_read program k h
+    i = get-below program k h
 
     s : (p : ℕ) × StartsAt program k p
     s = start_of-insn 0 program k i.0 i.1

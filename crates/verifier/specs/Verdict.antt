@@ -1,5 +1,6 @@
 -- What `verify` answers: what a verified program is, and what a refusal tells.
-use Rattle.std.specs.Prelude.{◌≡◌, ℕ, ◌<◌, ◌≤◌, List, length, slice_get, Some, Result, Ok, Err}
+use Rattle.std.specs.Prelude.{◌≡◌, ℕ, ◌<◌, ◌≤◌, List, length, slice_get, Some, Result}
+use Rattle.std.specs.Prelude.{IsOkUnless}
 use Rattle.bpf_model.specs.declared.insn.Insn.{Insn}
 use Rattle.bpf_model.specs.declared.limits.TheConstants.{CTX_BYTES}
 use Rattle.bpf_model.specs.Spelling.{IsProgram}
@@ -64,5 +65,4 @@ IsToldOf program Memory = Unit {0}
 
 -- no refusal but for want of memory
 abbrev pub IsAccepted : {A : Type 0} → Result A Refusal → Type 0
-IsAccepted (Ok x) = Unit {0}
-IsAccepted (Err e) = e ≡ Memory
+IsAccepted r = IsOkUnless r Memory

@@ -1,9 +1,9 @@
 //! The states that wait.
 ghost use Rattle.std.specs.Prelude.{◌≡◌, ◌≢◌, ℕ, ◌+◌, ◌^◌, ◌<◌, ◌≤◌, max, IfOk};
 ghost use Rattle.register_kinds.specs.declared.identities.TheConstants.{MAX_PAIRS};
-ghost use Rattle.register_kinds.specs.Pairs.{AreBelow};
+ghost use Rattle.register_kinds.specs.Pairs.{AreBelow, TakesFew};
 ghost use Rattle.verifier.specs.declared.waiting.Waiting.TheVariants.{Nothing};
-ghost use Rattle.verifier.specs.SecondPass.{size_of, awaited, states_in, AllBelow, Merged, StartsFrom, TakesFew};
+ghost use Rattle.verifier.specs.SecondPass.{size_of, awaited, states_in, AllBelow, Merged, StartsFrom};
 
 use crate::waiting::{Waiting, join_into};
 use register_kinds::{AbsState, Identities};

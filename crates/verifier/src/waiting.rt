@@ -1,8 +1,8 @@
 //! What waits for an instruction.
 ghost use Rattle.std.specs.Prelude.{◌≡◌, ℕ, ◌+◌, ◌^◌, ◌<◌, IfSome, Some};
 ghost use Rattle.register_kinds.specs.declared.identities.TheConstants.{MAX_PAIRS};
-ghost use Rattle.register_kinds.specs.Pairs.{AreBelow};
-ghost use Rattle.verifier.specs.SecondPass.{occupied, state_in, TakesFew, Joined};
+ghost use Rattle.register_kinds.specs.Pairs.{AreBelow, TakesFew};
+ghost use Rattle.verifier.specs.SecondPass.{occupied, state_in, Joined};
 
 use register_kinds::{AbsState, Identities};
 

@@ -2,7 +2,7 @@
 //! the rows.
 ghost use Rattle.std.specs.Prelude.{◌≡◌};
 
-use bpf_model::MapShape;
+use bpf_model::{CTX_BYTES, MAX_MAPS, MapShape};
 use insn_codec::decode;
 use std::alloc::Global;
 use std::test::Fail;
@@ -371,7 +371,7 @@ fn bytes_of(alloc: Global, text: &str) -> Result<Vec<u8>, Fail> {
 
 /// Whether a row's program is accepted.
 fn accepted(alloc: Global, row: &Row) -> Result<bool, Fail> {
-    if row.context > 256 || row.maps.len() > 16 {
+    if row.context > CTX_BYTES || row.maps.len() > MAX_MAPS {
         return Ok(false);
     }
     let bytes = bytes_of(alloc, row.code)?;

@@ -3,7 +3,7 @@ ghost use Rattle.std.specs.Prelude.{◌≡◌, ◌≤◌, IfOk, length};
 ghost use Rattle.bpf_model.specs.declared.limits.TheConstants.{CTX_BYTES, MAX_MAPS};
 
 use asm::assemble;
-use bpf_model::MapShape;
+use bpf_model::{CTX_BYTES, MAX_MAPS, MapShape};
 use insn_codec::Program;
 use std::alloc::Global;
 use std::test::Fail;
@@ -63,7 +63,7 @@ pub fn verified(
     context: usize,
     parts: &[&str],
 ) -> Result<Result<Verified, Told>, Fail> {
-    if context > 256 || maps.len() > 16 {
+    if context > CTX_BYTES || maps.len() > MAX_MAPS {
         return Err(Fail::from("the context or the list of maps is too long"));
     }
     let program = match assembled(alloc, parts)? {

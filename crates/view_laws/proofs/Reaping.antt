@@ -14,7 +14,7 @@ use Rattle.bpf_model.specs.Reclaim.{Reclaims}
 use Rattle.bpf_model.specs.Machine.{open_sections, with_store}
 use Rattle.bpf_model.specs.Schedule.{Queues, Schedule, or_first, first_ready, without_first, DoesScheduled}
 use Rattle.model_laws.specs.Scheduled.{IsScheduled}
-use Rattle.model_laws.proofs.Counting.{times-first, times-other, times-append, shortened, without_at, none-without, length-without}
+use Rattle.model_laws.proofs.Counting.{times-first, times-other, times-append, shortened, without_at, length-without}
 use Rattle.model_laws.proofs.Queueing.{Queued, queued-of}
 use Rattle.bpf_model.specs.View.{MapView, WorldView, uses_in, uses_at, map_state_of, key_in}
 use Rattle.bpf_model.specs.Refines.{times, slot_view, IsElementKept, lists_of, named, SlotsStand, MapRefines, RefinesSchedule}
@@ -23,7 +23,7 @@ use Rattle.view_laws.specs.Reactions.{Pick, or_pick, first_pick, with_reaped, re
 use Rattle.view_laws.specs.Matching.{Matches, Simulates}
 use Rattle.model_laws.proofs.Tallies.{count-set, one_of}
 use Rattle.view_laws.proofs.Mapping.{reclaims, elements-given}
-use Rattle.bpf_model.proofs.Cases.{oldest-none}
+use Rattle.bpf_model.proofs.Cases.{oldest-none, none-without}
 use Rattle.view_laws.proofs.Worlds.{Here, here, Turns, turned-world, steps}
 use Rattle.bpf_model.proofs.Lists.{get-set_other, get-set_there, length-set}
 

@@ -16,6 +16,7 @@ use Rattle.bpf_model.specs.Schedule.{is_any, still_open}
 use Rattle.bpf_model.specs.Word.{ctx_base, frame_base}
 use Rattle.bpf_model.specs.View.{MapView, RunView, WorldView, key_in}
 use Rattle.bpf_model.specs.Machine.{lowest_free}
+use Rattle.bpf_model.specs.declared.event.ReapedElement.{ReapedElement}
 use Rattle.view_laws.specs.Views.{value_read, deleted, updated, turned_view, given_at, reaped_view}
 
 -- Map k has another view.
@@ -115,17 +116,17 @@ with_reaped p w = record {
   given = w.given + 1;
 }
 
+-- the element of a pick, as a reap tells it
+abbrev pub picked_element : Pick → ReapedElement
+picked_element p = record {
+  map = p.map;
+  key = record { items = key_in (slice_get p.view.slots p.slot) };
+  given = given_at p.view p.slot;
+}
+
 abbrev pub reap_by : Option Pick → WorldView → Answer × WorldView
 reap_by None w = (Reaped None, w)
-reap_by (Some p) w = (
-  Reaped (Some (record {
-    map = p.map;
-    key = record { items = key_in (slice_get p.view.slots p.slot) };
-    given =
-        given_at p.view p.slot;
-  })),
-  with_reaped p w,
-)
+reap_by (Some p) w = (Reaped (Some (picked_element p)), with_reaped p w)
 
 abbrev pub reap_reaction : WorldView → Answer × WorldView
 reap_reaction w = reap_by (first_pick 0 w.maps) w

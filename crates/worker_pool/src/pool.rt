@@ -23,7 +23,7 @@ use std::thread::Threads;
 /// - `BadWorkers`: `workers` is not 1 to `MAX_WORKERS`, or more than there are hands. Nothing was done.
 /// - `TooManyJobs`: there are more than `MAX_JOBS`. Nothing was done.
 /// - `Memory`: there is none for the results.
-/// - `Lost`: the result of a job is missing, double or of another job.
+/// - `Lost`: the result of a job is missing or double, or is of no job.
 ///
 /// After the last two the entries that workers made stay in the journal, and a run of a job may stay in the
 /// world. That it returns is not claimed: each event waits for the lock.

@@ -70,7 +70,7 @@ fn run_shared<L: Ledger + Send + Sync, R: Threads + Wait + Sync>(
 /// - `BadWorkers`: `workers` is not 1 to `MAX_WORKERS`.
 /// - `TooManyJobs`: `count` is above `MAX_JOBS`.
 /// - `Memory`: there is none for the world, the jobs or the results.
-/// - `Lost`: the result of a job is missing, double or of another job.
+/// - `Lost`: the result of a job is missing or double, or is of no job.
 ///
 /// That it returns is not claimed: each event waits for the lock.
 pub fn run_program<R: Threads + Wait + Sync>(

@@ -11,7 +11,8 @@ use anyhow::{Result, bail};
 use arrayvec::ArrayVec;
 use asm::assemble;
 use bpf_model::{
-    Answer, CtxBytes, Event, KeyBytes, MAX_RUNS, MapId, MapShape, ProgId, RunId, ValueBytes,
+    Answer, CtxBytes, Event, KeyBytes, MAX_ENTRIES, MAX_RUNS, MapId, MapShape, ProgId, RunId,
+    ValueBytes,
 };
 use maps::Registry;
 use std::alloc::Global;
@@ -69,7 +70,7 @@ fn reads(alloc: Global, shape: &MapShape) -> Result<Vec<Event>> {
     let mut sequence = Sequence::new();
     let mut events = Vec::with_capacity(alloc, PARTS)?;
     for _ in 0..PARTS {
-        let number = sequence.below(4096) % shape.entries.max(1) as u64;
+        let number = sequence.below(MAX_ENTRIES as u64) % shape.entries.max(1) as u64;
         events.push(Event::Read {
             map: map(),
             key: key_of(number, shape.key_len),
@@ -82,7 +83,7 @@ fn cycles(alloc: Global, shape: &MapShape) -> Result<Vec<Event>> {
     let mut sequence = Sequence::new();
     let mut events = Vec::with_capacity(alloc, 5 * PARTS)?;
     for _ in 0..PARTS {
-        let number = (sequence.below(4096) % shape.entries.max(1) as u64) | 1;
+        let number = (sequence.below(MAX_ENTRIES as u64) % shape.entries.max(1) as u64) | 1;
         events.push(update(number, shape))?;
         events.push(Event::Delete {
             map: map(),

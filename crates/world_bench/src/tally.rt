@@ -2,7 +2,7 @@
 
 use bpf_model::Answer;
 
-/// How many answers of each kind there were, and the last exit value.
+/// How many answers of each kind there were, and a sum of what they told.
 #[derive(Clone, Copy, Debug, PartialEq, Eq, Default)]
 pub struct Tally {
     pub moved: u64,
@@ -18,7 +18,7 @@ pub struct Tally {
     pub sum: u64,
 }
 
-/// One more.
+/// Adds one to a counter.
 #[inline]
 fn count(counter: &mut u64) {
     *counter = counter.wrapping_add(1);

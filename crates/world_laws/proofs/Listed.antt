@@ -1,5 +1,5 @@
 -- References to maps are to those of the program's list, in every state that is reached.
-use Rattle.std.proofs.Common.{◌≡◌, ℕ, ◌+◌, List, [], ◌∷◌, length, Option, Some, None, refl, sym, subst, Bool, true, false, inl, inr}
+use Rattle.std.proofs.Common.{◌≡◌, ℕ, ◌+◌, List, length, Option, Some, None, sym, subst, Bool, true, false, inl, inr}
 use Rattle.std.specs.Prelude.{ℤ, pos, negsuc, nat_lt, ◌==◌, if◌then◌else◌}
 use Rattle.std.proofs.lemmas.Bool.{ltb-true, false≢true}
 use Rattle.std.proofs.lemmas.Option.{none-some, cond_some}
@@ -18,12 +18,12 @@ use Rattle.bpf_model.specs.declared.value.Value.{Value}
 use Rattle.bpf_model.specs.declared.value.Value.TheVariants.{Nothing, Pointer}
 use Rattle.bpf_model.specs.declared.value.Reference.TheVariants.{MapRef}
 use Rattle.bpf_model.specs.Call.{helper_of, kernel_function_of}
-use Rattle.bpf_model.specs.Event.{DoesEvent, IsReal, AreReal}
+use Rattle.bpf_model.specs.Event.{DoesEvent, IsReal}
 use Rattle.bpf_model.specs.Machine.{Loaded, Run, Machine, environment, fresh_run, open_sections}
 use Rattle.bpf_model.specs.MachineStep.{OutcomeStep, KernelStep, HelperStep, InsnStep, returns, found_value}
 use Rattle.bpf_model.specs.MapState.{Store}
 use Rattle.bpf_model.specs.Refines.{IsReachedSchedule}
-use Rattle.bpf_model.specs.Schedule.{Schedule, IsScheduledHistory, last_scheduled, start_schedule}
+use Rattle.bpf_model.specs.Schedule.{Schedule, start_schedule}
 use Rattle.bpf_model.specs.Section.{Section}
 use Rattle.bpf_model.specs.Step.{State, Environment, Outcome, Moves, Exits, put, sets, map_value, after}
 use Rattle.bpf_model.specs.Holds.{HoldsValue}
@@ -31,7 +31,7 @@ use Rattle.model_laws.specs.Alone.{HoldsState}
 use Rattle.model_laws.proofs.Holding.{Closed, HoldsOutcome, holds-entry, holds-acts, holds-returns}
 use Rattle.model_laws.proofs.Keeping.{no-run}
 use Rattle.typed_runs.proofs.Coming.{Comes, Stands, Starting, Stepping, does-come}
-use Rattle.typed_runs.proofs.Reaching.{real-rest}
+use Rattle.typed_runs.proofs.Reaching.{kept-last}
 use Rattle.world_laws.specs.Typed.{IsListed, AreListed}
 use Rattle.world_laws.proofs.Words.{refused}
 use Rattle.model_laws.proofs.Lists.{first-step}
@@ -102,12 +102,6 @@ stays_listed m new event answer real h p r run at = came (does-come m new event 
     came (Stepping g) = insn-listed g.step.0 m.store (open_sections m.runs) g.old g.answer new.store run (p r g.old g.there) g.step.2
 
 -- so it is in each reached state
-listed-last : (s : Schedule) (events : List Event) (answers : List Answer) (states : List Schedule) → AreListed s.machine → AreReal events → IsScheduledHistory s events answers states → AreListed (last_scheduled s states).machine
-listed-last s [] [] [] p real h = p
-listed-last s (event ∷ events) (answer ∷ answers) (next ∷ states) p real h =
-    listed-last next events answers states (stays_listed s.machine next.machine event answer (real 0 event refl) h.0.step p) (real-rest event events real) h.1
-listed-last s events answers states p real h = absurd h
-
 pub reached_is_listed : (shapes : List MapShape) (programs : List Loaded) (s : Schedule) → IsReachedSchedule shapes programs s → AreListed s.machine
 reached_is_listed shapes programs s r = subst (λ (x : Schedule). AreListed x.machine) r.last
-    (listed-last (start_schedule shapes programs) r.events r.answers r.states (λ q run at. absurd (no-run MAX_RUNS q run at)) r.real r.history)
+    (kept-last AreListed stays_listed (start_schedule shapes programs) r.events r.answers r.states (λ q run at. absurd (no-run MAX_RUNS q run at)) r.real r.history)

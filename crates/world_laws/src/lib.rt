@@ -1,7 +1,7 @@
 //! Laws of whole worlds: the runtime's reaction to any event, a step of a running run too, is a step of the machine
 //! with the runtime's choices.
 //!
-//! Each is a function with an empty body, whose contract is the law.
+//! Each is a function whose contract is the law; only those of `typed` have a body.
 #![tactic(auto)]
 
 pub mod typed;

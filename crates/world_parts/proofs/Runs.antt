@@ -12,11 +12,12 @@ use Rattle.bpf_model.specs.View.{MapView, RunView, WorldView}
 use Rattle.element_arena.proofs.Views.{map-set_same}
 use Rattle.grace_period.specs.State.{GraceState, IsGrace}
 use Rattle.view_laws.specs.Reactions.{with_run, fresh_view, start_by, start_reaction}
+use Rattle.view_laws.proofs.Listing.{still-same}
 use Rattle.machine.specs.RunWords.{RunWords, IsAt}
 use Rattle.world_parts.specs.declared.loaded.Loaded.{Loaded}
 use Rattle.world_parts.specs.Programs.{program_of}
 use Rattle.world_parts.specs.Keeping.{view_of, is_run_inside, IsOfProgram, AreRunsKept, world_of}
-use Rattle.world_parts.proofs.Flags.{still-all, still-cleared}
+use Rattle.world_parts.proofs.Flags.{still-cleared}
 use Rattle.world_parts.proofs.Slots.{Runs, written}
 use Rattle.bpf_model.proofs.Lists.{length-set, map-set, set-same}
 use Rattle.bpf_model.specs.Machine.{lowest_free}
@@ -71,7 +72,7 @@ module _ (maps : List MapView) (runs : Runs) (grace : GraceState) (programs : Li
       same_world maps (map program_of programs) given _ _ _ _ _ _
       (map-set view_of runs i (Some run) ∙ ap (λ (v : RunView). slice_set (map view_of runs) i (Some v)) fresh)
       (sym started-opened)
-      (sym (still-all grace.awaited grace.opened (sound.awaited ∙ sym sound.opened) sound.inside) ∙ ap (still_open grace.awaited) (sym started-opened))
+      (sym (still-same grace.awaited grace.opened (sound.awaited ∙ sym sound.opened) sound.inside) ∙ ap (still_open grace.awaited) (sym started-opened))
 
 -- a start that neither the program nor the context refuses
 pub start-goes : (w : WorldView) (prog : ℕ) (context : List ℕ) (program : machine.Loaded) (o : Option ℕ) → slice_get w.programs prog ≡ Some program → length context ≡ program.context_len → lowest_free w.runs ≡ o → start_reaction w prog context ≡ start_by (if_full o) o w prog context

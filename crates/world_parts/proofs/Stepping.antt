@@ -23,7 +23,7 @@ use Rattle.machine.specs.Requests.{access_of, resumed_view}
 use Rattle.machine.specs.RunWords.{RunWords, IsAt}
 use Rattle.machine.specs.Steps.{CanResume, IsLocalStep}
 use Rattle.machine.proofs.Laws.{can_step, can_resume}
-use Rattle.helpers.specs.Serving.{CanServe, IsReply, IsFlagged, flags_of, grace_after, maps_after, world_with}
+use Rattle.helpers.specs.Serving.{CanServe, IsReply, IsFlagged, grace_of, grace_after, maps_after, world_with}
 use Rattle.helpers.proofs.Running.{running, flagged, can_be_served}
 use Rattle.helpers.proofs.Stepping.{own_is, own_keeps, own_asks, served_is, goes_on}
 use Rattle.world_parts.specs.declared.loaded.Loaded.{Loaded}
@@ -40,7 +40,7 @@ module _ (loaded : Loaded) (maps : List MapView) (g : GraceState) (r : ℕ) (old
   abbrev i : Insn
   i = can.step.insn
 
-  is-flagged : (w : WorldView) → flags_of w ≡ g → IsFlagged w r v
+  is-flagged : (w : WorldView) → grace_of w ≡ g → IsFlagged w r v
   is-flagged w e = record {
     opened = ap (λ (x : GraceState). slice_get x.opened r) e ∙ can.opened;
     awaited = subst (λ (x : GraceState). still_open x.awaited x.opened ≡ x.awaited) (sym e) can.pass.inside;
@@ -48,9 +48,9 @@ module _ (loaded : Loaded) (maps : List MapView) (g : GraceState) (r : ℕ) (old
   }
 
   -- the parts of a world, put in for those that they are
-  parts-are : (answer : Answer) (new : RunView) (w : WorldView) → w.maps ≡ maps → flags_of w ≡ g → (let y : Answer × WorldView = (answer, world_with w.maps (flags_of w) r new w) in y) ≡ (answer, world_with maps g r new w)
+  parts-are : (answer : Answer) (new : RunView) (w : WorldView) → w.maps ≡ maps → grace_of w ≡ g → (let y : Answer × WorldView = (answer, world_with w.maps (grace_of w) r new w) in y) ≡ (answer, world_with maps g r new w)
   parts-are answer new w em eg =
-      ap (λ (ms : List MapView). (let y : Answer × WorldView = (answer, world_with ms (flags_of w) r new w) in y)) em
+      ap (λ (ms : List MapView). (let y : Answer × WorldView = (answer, world_with ms (grace_of w) r new w) in y)) em
       ∙ ap (λ (x : GraceState). (let y : Answer × WorldView = (answer, world_with maps x r new w) in y)) eg
 
   same-flags : (new : RunView) → new.depth ≡ v.depth → g.opened ≡ slice_set g.opened r (nat_lt 0 new.depth)
@@ -119,8 +119,8 @@ module _ (loaded : Loaded) (maps : List MapView) (g : GraceState) (r : ℕ) (old
               served_is r v w (is-flagged w fg) (program_of loaded) word i access asks
               (subst (λ (l : List MapView). CanServe access bound l v) (sym fm) serves)
               (subst (λ (l : List MapView). IsReply access bound l v word) (sym fm) word-is)
-              ∙ ap (λ (l : List MapView). out (maps_after access bound v l) (grace_after access r (flags_of w)) (resumed_view i word v) w) fm
-              ∙ ap (λ (l : List MapView). out l (grace_after access r (flags_of w)) (resumed_view i word v) w) ms
+              ∙ ap (λ (l : List MapView). out (maps_after access bound v l) (grace_after access r (grace_of w)) (resumed_view i word v) w) fm
+              ∙ ap (λ (l : List MapView). out l (grace_after access r (grace_of w)) (resumed_view i word v) w) ms
               ∙ ap (λ (x : GraceState). out maps_new (grace_after access r x) (resumed_view i word v) w) fg
               ∙ ap (λ (x : GraceState). out maps_new x (resumed_view i word v) w) (sym eg)
               ∙ ap (λ (u : RunView). out maps_new g_new u w) (sym view);

@@ -5,8 +5,8 @@ use Rattle.world_parts.specs.declared.brief.Brief.{Brief}
 use Rattle.world_parts.specs.declared.brief.Brief.TheVariants as brief
 
 -- The answer that a brief one stands for.
-abbrev pub answer_of : Brief → Answer
-answer_of brief.Moved = answers.Moved
-answer_of (brief.Exited n) = answers.Exited n
-answer_of (brief.Ret outcome) = answers.Ret outcome
-answer_of (brief.Refused refusal) = answers.Refused refusal
+abbrev pub brief_answer : Brief → Answer
+brief_answer brief.Moved = answers.Moved
+brief_answer (brief.Exited n) = answers.Exited n
+brief_answer (brief.Ret outcome) = answers.Ret outcome
+brief_answer (brief.Refused refusal) = answers.Refused refusal

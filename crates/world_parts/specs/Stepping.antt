@@ -12,7 +12,7 @@ use Rattle.machine.specs.declared.access.Access.{Access}
 use Rattle.machine.specs.Requests.{access_of}
 use Rattle.machine.specs.RunWords.{RunWords, IsAt}
 use Rattle.machine.specs.Steps.{CanStep, CanResume}
-use Rattle.helpers.specs.Serving.{CanPass, CanServe, flags_of, world_with}
+use Rattle.helpers.specs.Serving.{CanPass, CanServe, grace_of, world_with}
 use Rattle.world_parts.specs.declared.loaded.Loaded.{Loaded}
 use Rattle.world_parts.specs.Programs.{program_of}
 
@@ -41,7 +41,7 @@ pub record HasTaken (loaded : Loaded) (r : ℕ) (old new : RunWords) (maps maps_
     (g after : GraceState) (answer : Answer) : Type 0 where
   pub insn : Insn
   pub here : insn_at loaded.verified.program old.view.place ≡ Some insn
-  pub step : (w : WorldView) → w.maps ≡ maps → flags_of w ≡ g
+  pub step : (w : WorldView) → w.maps ≡ maps → grace_of w ≡ g
       → insn_step insn (program_of loaded) r old.view w
       ≡ (answer, world_with maps_after after r new.view w)
   pub opened : after.opened ≡ slice_set g.opened r (nat_lt 0 new.view.depth)

@@ -1,6 +1,6 @@
 //! Answers in few bytes.
 ghost use Rattle.std.specs.Prelude.{◌≡◌};
-ghost use Rattle.world_parts.specs.Brief.{answer_of};
+ghost use Rattle.world_parts.specs.Brief.{brief_answer};
 
 use bpf_model::{Answer, Errno, EventRefusal};
 
@@ -18,7 +18,7 @@ impl Brief {
     /// The answer that the brief one stands for.
     #[inline(always)]
     pub(crate) fn into_answer(self) -> Answer
-        ensures { result ≡ answer_of self }
+        ensures { result ≡ brief_answer self }
     {
         match self {
             Brief::Moved => Answer::Moved,

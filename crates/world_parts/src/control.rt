@@ -3,7 +3,7 @@ ghost use Rattle.std.specs.Prelude.{◌≡◌};
 ghost use Rattle.bpf_model.specs.declared.event.Answer.TheVariants.{Found};
 ghost use Rattle.view_laws.specs.Reactions.{update_reaction, delete_reaction, read_reaction};
 ghost use Rattle.view_laws.specs.Views.{value_read};
-ghost use Rattle.world_parts.specs.Brief.{answer_of};
+ghost use Rattle.world_parts.specs.Brief.{brief_answer};
 
 use crate::brief::Brief;
 use crate::parts::Parts;
@@ -30,7 +30,7 @@ impl Parts {
     /// What an update is answered, where its result is one of few bytes.
     #[inline(never)]
     fn updated(&mut self, map: MapId, key: &KeyBytes, value: &ValueBytes, flags: u64) -> Brief
-        ensures answer { answer_of result
+        ensures answer { brief_answer result
             ≡ (update_reaction self.old map key.now.items value.now.items flags).0 }
         ensures new { self.new
             ≡ (update_reaction self.old map key.now.items value.now.items flags).1 }
@@ -61,7 +61,7 @@ impl Parts {
     /// What a deletion is answered, where its result is one of few bytes.
     #[inline(never)]
     fn deleted(&mut self, map: MapId, key: &KeyBytes) -> Brief
-        ensures answer { answer_of result ≡ (delete_reaction self.old map key.now.items).0 }
+        ensures answer { brief_answer result ≡ (delete_reaction self.old map key.now.items).0 }
         ensures new { self.new ≡ (delete_reaction self.old map key.now.items).1 }
     {
         let shape = match self.registry.shape(map) {

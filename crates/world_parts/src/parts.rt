@@ -77,7 +77,7 @@ impl Parts {
         })
     }
 
-    /// Equal parts: the same maps with their names, the same runs in the same run slots, the same flags
+    /// Equal parts: the same maps, the same runs in the same run slots, the same flags
     /// and programs. The error is that there is no memory left. Like the original it takes none later.
     pub fn copy(&self, alloc: Global) -> Result<Parts, AllocError>
         ensures same { IfOk result (λ w. w ≡ self.now) }

@@ -6,7 +6,7 @@ ghost use Rattle.view_laws.specs.Matching.{Matches};
 ghost use Rattle.view_laws.specs.Reactions.{run_shown, step_refused};
 ghost use Rattle.world_laws.specs.Reacting.{full_reaction, word_step};
 ghost use Rattle.world_laws.specs.Typed.{IsSound};
-ghost use Rattle.world_parts.specs.Brief.{answer_of};
+ghost use Rattle.world_parts.specs.Brief.{brief_answer};
 ghost use Rattle.world_parts.specs.Stepping.{CanTake, HasGone, HasTaken, IsGoing};
 
 use crate::brief::Brief;
@@ -29,7 +29,7 @@ fn step_run(
 ) -> Brief
     requires { CanTake loaded.now maps.old.maps grace.old slot run.old }
     ensures { HasTaken loaded.now slot run.old run.new maps.old.maps maps.new.maps grace.old
-        grace.new (answer_of result) }
+        grace.new (brief_answer result) }
 {
     match run.local_step(&loaded.verified) {
         Local::Moved => Brief::Moved,
@@ -52,7 +52,7 @@ fn step_slot(
 ) -> Brief
     requires { IsGoing runs.old.items programs.now.items maps.old.maps grace.old slot }
     ensures { HasGone runs.old.items runs.new.items programs.now.items maps.old.maps maps.new.maps
-        grace.old grace.new slot (answer_of result) }
+        grace.old grace.new slot (brief_answer result) }
 {
     match &mut runs[slot.index()] {
         Some(run) => {
@@ -79,7 +79,7 @@ impl Parts {
     fn take_step(&mut self, run: RunId) -> Brief
         requires sound { (s : Schedule) × Matches self.old s × IsSound self.old s }
         requires going { step_refused (run_shown (slice_get self.old.runs run)) ≡ None }
-        ensures answer { answer_of result ≡ (word_step self.old run).0 }
+        ensures answer { brief_answer result ≡ (word_step self.old run).0 }
         ensures new { self.new ≡ (word_step self.old run).1 }
     {
         step_slot(
@@ -95,7 +95,7 @@ impl Parts {
     #[inline(never)]
     fn stepped(&mut self, run: RunId) -> Brief
         requires sound { (s : Schedule) × Matches self.old s × IsSound self.old s }
-        ensures answer { answer_of result ≡ (full_reaction self.old (Event.Step run)).0 }
+        ensures answer { brief_answer result ≡ (full_reaction self.old (Event.Step run)).0 }
         ensures new { self.new ≡ (full_reaction self.old (Event.Step run)).1 }
     {
         match self.step_refusal(run) {

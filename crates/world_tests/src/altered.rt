@@ -4,10 +4,11 @@
 use crate::making::{bytes_of, judged, numbers_of, plain_program, registry_of};
 use crate::replay::apply_both;
 use bpf_model::{Answer, CtxBytes, Event, MapId, MapShape, ProgId, RunId};
-use insn_codec::decode;
+use insn_codec::{Program, decode};
 use plain_model::Machine;
 use std::alloc::Global;
 use std::test::Fail;
+use verifier::Verified;
 use world::World;
 use world_parts::Loaded;
 
@@ -43,27 +44,35 @@ fn altered(alloc: Global, bit: usize) -> Result<Vec<u8>, Fail> {
     Ok(bytes)
 }
 
-fn judge_bytes(alloc: Global, bytes: &[u8]) -> Result<Verdict, Fail> {
-    let program = match decode(alloc, bytes) {
-        Ok(program) => program,
-        Err(fault) => return Ok(Verdict::Refused(fault.code())),
-    };
-    let count = program.len();
-    let mut plain = Vec::new(alloc);
-    plain.push(plain_program(alloc, &program, &[0], 0)?)?;
-    let verified = match judged(alloc, program, &[SHAPE], &[0], 0)? {
-        Ok(verified) => verified,
-        Err(refusal) => return Ok(Verdict::Refused(refusal.code())),
-    };
+/// A world with this program alone, bound to map 0.
+fn world_with(alloc: Global, verified: Verified) -> Result<World, Fail> {
     let mut programs = Vec::new(alloc);
     programs.push(Loaded {
         verified,
         maps: numbers_of(&[0]),
     })?;
     let registry = registry_of(alloc, &[SHAPE])?;
-    let world = World::new(alloc, registry, programs)?;
-    let model = Machine::new(alloc, &[SHAPE], plain)?;
-    Ok(Verdict::Accepted(world, model, count))
+    Ok(World::new(alloc, registry, programs)?)
+}
+
+/// The plain model with this program alone, bound to map 0.
+fn model_with(alloc: Global, program: &Program) -> Result<Machine, Fail> {
+    let mut programs = Vec::new(alloc);
+    programs.push(plain_program(alloc, program, &[0], 0)?)?;
+    Ok(Machine::new(alloc, &[SHAPE], programs)?)
+}
+
+fn judge_bytes(alloc: Global, bytes: &[u8]) -> Result<Verdict, Fail> {
+    let program = match decode(alloc, bytes) {
+        Ok(program) => program,
+        Err(fault) => return Ok(Verdict::Refused(fault.code())),
+    };
+    let count = program.len();
+    let model = model_with(alloc, &program)?;
+    match judged(alloc, program, &[SHAPE], &[0], 0)? {
+        Ok(verified) => Ok(Verdict::Accepted(world_with(alloc, verified)?, model, count)),
+        Err(refusal) => Ok(Verdict::Refused(refusal.code())),
+    }
 }
 
 fn put() -> Event {

@@ -1,21 +1,12 @@
 //! Copies of a world: a copy answers as the original would, whatever becomes of the other.
 use crate::generated::{SHAPES, event, sources};
-use crate::making::{Source, world_of};
+use crate::making::{SHAPE, Source, world_of};
 use crate::programs::LOOKUP;
 use crate::random::Random;
-use crate::replay::{counts_text, replay};
-use crate::script::tell_answer;
-use bpf_model::{MapId, MapShape};
+use crate::replay::{answers_alike, answers_as, counts_alike};
+use bpf_model::MapId;
 use std::test::Fail;
 use world::World;
-
-const SHAPE: MapShape = MapShape {
-    key_len: 4,
-    value_len: 8,
-    entries: 4,
-    spare: 4,
-    reuse_limit: 100,
-};
 
 const LOOKING: Source = Source {
     lines: LOOKUP,
@@ -53,11 +44,11 @@ stat = stat linked 1 unlinked 0 given 1 worn 0 runs 2 open 0\n";
 fn copy_goes_its_own_way(rt: HostRuntime) -> Result<(), Fail> {
     let alloc = rt.alloc();
     let mut world = world_of(alloc, &[SHAPE], &[LOOKING])?;
-    assert_eq!(rt; replay(alloc, &mut world, BEFORE)?.as_str(), BEFORE);
+    answers_as(&rt, alloc, &mut world, BEFORE)?;
     let mut copy = world.copy(alloc)?;
-    assert_eq!(rt; replay(alloc, &mut world, AFTER)?.as_str(), AFTER);
+    answers_as(&rt, alloc, &mut world, AFTER)?;
     drop(world);
-    assert_eq!(rt; replay(alloc, &mut copy, AFTER)?.as_str(), AFTER);
+    answers_as(&rt, alloc, &mut copy, AFTER)?;
     assert_eq!(rt; copy.registry().name(MapId::new(0)), Some("m0"));
     assert_eq!(rt; copy.registry().len(), 1);
     Ok(())
@@ -80,14 +71,7 @@ fn copy_answers_alike(rt: HostRuntime) -> Result<(), Fail> {
     let mut copy = world.copy(alloc)?;
     for _ in 0..1000usize {
         let event = event(&mut random, 0);
-        let mut wanted = String::new(alloc);
-        tell_answer(alloc, &mut wanted, &world.apply(&event))?;
-        let mut told = String::new(alloc);
-        tell_answer(alloc, &mut told, &copy.apply(&event))?;
-        assert_eq!(rt; told.as_str(), wanted.as_str());
+        answers_alike(&rt, alloc, &copy.apply(&event), &world.apply(&event))?;
     }
-    let wanted = counts_text(alloc, &world)?;
-    let told = counts_text(alloc, &copy)?;
-    assert_eq!(rt; told.as_str(), wanted.as_str());
-    Ok(())
+    counts_alike(&rt, alloc, &copy, &world)
 }

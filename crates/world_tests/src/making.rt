@@ -15,6 +15,15 @@ use verifier::{Refusal, Verified, verify};
 use world::World;
 use world_parts::Loaded;
 
+/// Keys of 4 bytes, values of 8, 4 elements and 4 further map slots, each used a hundred times at most.
+pub const SHAPE: MapShape = MapShape {
+    key_len: 4,
+    value_len: 8,
+    entries: 4,
+    spare: 4,
+    reuse_limit: 100,
+};
+
 /// A program: lines of the assembly language, parted by a semicolon and a space; the numbers of its
 /// maps, and the length of its context.
 #[derive(Clone, Copy)]

@@ -1,22 +1,15 @@
 //! What a world is asked outside of events, and many events at once.
 use crate::generated::{SHAPES, event, sources};
-use crate::making::{Source, bytes_of, loaded, world_of};
+use crate::making::{SHAPE, Source, bytes_of, loaded, world_of};
 use crate::programs::{EXIT_ONE, LOAD};
 use crate::random::Random;
-use crate::replay::{counts_text, replay};
-use crate::script::tell_answer;
-use bpf_model::{CtxBytes, Event, KeyBytes, MapId, MapShape, RunId};
+use crate::replay::{answers_alike, answers_as, counts_alike};
+use bpf_model::{CtxBytes, Event, KeyBytes, MapId, RunId};
 use std::alloc::Global;
+use std::process::Abort;
 use std::test::Fail;
 use verifier::Verified;
-
-const SHAPE: MapShape = MapShape {
-    key_len: 4,
-    value_len: 8,
-    entries: 4,
-    spare: 4,
-    reuse_limit: 100,
-};
+use world::World;
 
 /// The value of the context's key, or 0.
 const LOADING: Source = Source {
@@ -71,24 +64,29 @@ static EXITS: [(usize, bool, u8, Option<u64>); 12] = [
     (64, true, 1, None),
 ];
 
+/// The world tells the exit values of the table.
+fn are_told<R: Abort>(rt: &R, world: &World, loading: &Verified, other: &Verified) {
+    for (slot, is_loading, byte, exit) in &EXITS {
+        let run = RunId::new(*slot);
+        let context: CtxBytes = bytes_of(&[*byte]);
+        let told = if *is_loading {
+            world.exit_of(run, loading, &context)
+        } else {
+            world.exit_of(run, other, &context)
+        };
+        assert_eq!(rt; told, *exit, "slot {slot}");
+    }
+}
+
 /// An exit value is told of a run that has ended, of an equal program and context, and of no other.
 #[test]
 fn exits_of_runs(rt: HostRuntime) -> Result<(), Fail> {
     let alloc = rt.alloc();
     let mut world = world_of(alloc, &[SHAPE], &[LOADING, OTHER])?;
-    assert_eq!(rt; replay(alloc, &mut world, BEFORE)?.as_str(), BEFORE);
+    answers_as(&rt, alloc, &mut world, BEFORE)?;
     let loading = verified(alloc, &LOADING)?;
     let other = verified(alloc, &OTHER)?;
-    for (slot, is_loading, byte, exit) in &EXITS {
-        let run = RunId::new(*slot);
-        let context: CtxBytes = bytes_of(&[*byte]);
-        let told = if *is_loading {
-            world.exit_of(run, &loading, &context)
-        } else {
-            world.exit_of(run, &other, &context)
-        };
-        assert_eq!(rt; told, *exit, "slot {slot}");
-    }
+    are_told(&rt, &world, &loading, &other);
     let longer = world.exit_of(RunId::new(0), &loading, &CtxBytes::new());
     assert_eq!(rt; longer, None);
     Ok(())
@@ -123,7 +121,7 @@ static ABOVE: [(usize, Option<[u8; 4]>, Option<([u8; 4], u8)>); 11] = [
 fn elements_in_order(rt: HostRuntime) -> Result<(), Fail> {
     let alloc = rt.alloc();
     let mut world = world_of(alloc, &[SHAPE, SHAPE], &[])?;
-    assert_eq!(rt; replay(alloc, &mut world, FILLED)?.as_str(), FILLED);
+    answers_as(&rt, alloc, &mut world, FILLED)?;
     for (map, above, wanted) in &ABOVE {
         let bound: Option<KeyBytes> = match above {
             Some(key) => Some(bytes_of(key)),
@@ -164,15 +162,9 @@ fn many_events_at_once(rt: HostRuntime) -> Result<(), Fail> {
     let answers = world.run_all(alloc, &events)?;
     assert_eq!(rt; answers.len(), 1500);
     for (event, answer) in events.iter().zip(answers.iter()) {
-        let mut told = String::new(alloc);
-        tell_answer(alloc, &mut told, answer)?;
-        let mut wanted = String::new(alloc);
-        tell_answer(alloc, &mut wanted, &other.apply(event))?;
-        assert_eq!(rt; told.as_str(), wanted.as_str());
+        answers_alike(&rt, alloc, answer, &other.apply(event))?;
     }
-    let told = counts_text(alloc, &world)?;
-    let wanted = counts_text(alloc, &other)?;
-    assert_eq!(rt; told.as_str(), wanted.as_str());
+    counts_alike(&rt, alloc, &world, &other)?;
     let none = world.run_all(alloc, &[])?;
     assert_eq!(rt; none.len(), 0);
     Ok(())

@@ -1,19 +1,11 @@
 //! Worlds that are not made, and the fault that is told.
-use crate::making::{assembled, judged, numbers_of, registry_of};
+use crate::making::{SHAPE, assembled, judged, numbers_of, registry_of};
 use crate::programs::{EXIT_ONE, LOOKUP};
 use bpf_model::MapShape;
 use std::alloc::Global;
 use std::test::Fail;
 use world::{World, WorldFault};
 use world_parts::Loaded;
-
-const SHAPE: MapShape = MapShape {
-    key_len: 4,
-    value_len: 8,
-    entries: 4,
-    spare: 4,
-    reuse_limit: 100,
-};
 
 /// Another shape, of equal lengths: what a program was verified for is the shape as a whole.
 const OTHER: MapShape = MapShape {

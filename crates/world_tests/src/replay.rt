@@ -5,6 +5,7 @@ use plain_model::Machine;
 use plain_store::Fault;
 use std::alloc::{AllocError, Global};
 use std::fmt::Write;
+use std::process::Abort;
 use std::test::Fail;
 use world::World;
 
@@ -86,6 +87,50 @@ pub fn replay<M: Answering>(alloc: Global, machine: &mut M, lines: &str) -> Resu
         writeln!(text, "{event} = {answer}")?;
     }
     Ok(text)
+}
+
+/// The machine answers the lines as they say.
+pub fn answers_as<M: Answering, R: Abort>(
+    rt: &R,
+    alloc: Global,
+    machine: &mut M,
+    lines: &str,
+) -> Result<(), Fail> {
+    assert_eq!(rt; replay(alloc, machine, lines)?.as_str(), lines);
+    Ok(())
+}
+
+/// The text of an answer.
+fn answer_text(alloc: Global, answer: &Answer) -> Result<String, AllocError> {
+    let mut text = String::new(alloc);
+    tell_answer(alloc, &mut text, answer)?;
+    Ok(text)
+}
+
+/// Two answers have one text.
+pub fn answers_alike<R: Abort>(
+    rt: &R,
+    alloc: Global,
+    told: &Answer,
+    wanted: &Answer,
+) -> Result<(), Fail> {
+    let told = answer_text(alloc, told)?;
+    let wanted = answer_text(alloc, wanted)?;
+    assert_eq!(rt; told.as_str(), wanted.as_str());
+    Ok(())
+}
+
+/// Two worlds have the same counts.
+pub fn counts_alike<R: Abort>(
+    rt: &R,
+    alloc: Global,
+    told: &World,
+    wanted: &World,
+) -> Result<(), Fail> {
+    let told = counts_text(alloc, told)?;
+    let wanted = counts_text(alloc, wanted)?;
+    assert_eq!(rt; told.as_str(), wanted.as_str());
+    Ok(())
 }
 
 /// The world's answer, and its text and the plain model's.

@@ -1,6 +1,6 @@
 use Rattle.std.proofs.Common.{ℕ, ◌<◌, List, length}
 use Rattle.std.specs.Io.KnownBytes.{Appends, Consumes}
-use Rattle.script_stream.specs.Progress.{IsAt}
+use Rattle.script_stream.specs.Progress.{IsProgressAt}
 use Rattle.script_stream.proofs.serving.serve.Given as goal
 
 abbrev pub invariant-loop : goal.invariant-loop
@@ -8,5 +8,5 @@ invariant-loop g l =
     (input written : List ℕ)
     × Consumes (g.R.Read.remaining l.fn.reader) (g.R.Read.remaining l.reader) input
     × Appends (g.W.Write.contents l.fn.writer) (g.W.Write.contents l.writer) written
-    × IsAt g.A.Respond.answers l.fn.responder input written l.progress l.responder
+    × IsProgressAt g.A.Respond.answers l.fn.responder input written l.progress l.responder
     × (0 < length l.chunk.items)

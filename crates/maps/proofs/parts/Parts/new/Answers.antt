@@ -1,7 +1,7 @@
-use Rattle.std.proofs.Common.{◌≡◌, ◌∙◌, ◌+◌, ◌≤◌, [], sym, ap, subst, length, arith}
+use Rattle.std.proofs.Common.{◌≡◌, ◌∙◌, ◌+◌, ◌≤◌, sym, ap, subst, length, arith}
 use Rattle.std.specs.FinMap as map
 use Rattle.std.proofs.lemmas.List.{length-replicate}
-use Rattle.bpf_model.specs.Schedule.{Queues}
+use Rattle.bpf_model.specs.Schedule.{Queues, no_queues}
 use Rattle.bpf_model.specs.View.{unused_slot}
 use Rattle.element_arena.specs.State.{ArenaState}
 use Rattle.maps.specs.Parted.{PartsView, IsParted}
@@ -18,5 +18,5 @@ invariant_of-result g c =
     let fd = c.in_ok-deferred.ensures.fits c.in_ok-arena.arena room in
     let v = ap (λ (z : KeyMap). let r : PartsView = record { index = z; lists = g.D.Deferred.lists c.in_ok-deferred.deferred c.in_ok-arena.arena; arena = c.in_ok-arena.arena } in r) (c.in_ok-index.ensures.empty c.in_ok-arena.arena room)
     ∙ (ap (λ (q : Queues). let r : PartsView = record { index = map.empty; lists = q; arena = c.in_ok-arena.arena } in r) (c.in_ok-deferred.ensures.lists c.in_ok-arena.arena)
-    ∙ ap (λ (a : ArenaState). let r : PartsView = record { index = map.empty; lists = record { next = []; waiting = []; ready = [] }; arena = a } in r) c.in_ok-arena.ensures.new) in
+    ∙ ap (λ (a : ArenaState). let r : PartsView = record { index = map.empty; lists = no_queues; arena = a } in r) c.in_ok-arena.ensures.new) in
     ((fi, fd), subst IsParted (sym v) (parted-fresh slots c.args.shape.key_len c.args.shape.value_len c.args.shape.reuse_limit))

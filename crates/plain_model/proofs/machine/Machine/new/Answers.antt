@@ -1,11 +1,10 @@
 use Rattle.std.proofs.Common.{List, [], Option, None, Bool, ap, ◌∙◌, map}
 use Rattle.std.specs.Prelude.{replicate}
-use Rattle.bpf_model.specs.Schedule.{Queues, Schedule}
+use Rattle.bpf_model.specs.Schedule.{Queues, Schedule, no_queues}
 use Rattle.bpf_model.specs.MapState.{Store, new_map}
 use Rattle.bpf_model.specs.Machine.{Run}
 use Rattle.plain_runs.specs.State.{runs_of, loaded_of}
 use Rattle.plain_store.specs.State.{queues_of}
-use Rattle.plain_model.specs.State.{no_queues}
 use Rattle.plain_model.proofs.Starts.{same-for-each, no-runs}
 use Rattle.plain_model.proofs.machine.Machine.new.Goals as goal
 

@@ -6,7 +6,7 @@ use Rattle.view_laws.specs.Matching.{Matches}
 use Rattle.view_laws.specs.Reactions.{run_shown, step_refused}
 use Rattle.world_laws.specs.Reacting.{word_step}
 use Rattle.world_laws.specs.Typed.{IsSound}
-use Rattle.world_parts.specs.Brief.{answer_of}
+use Rattle.world_parts.specs.Brief.{brief_answer}
 use Rattle.world_parts.proofs.Stepping.{is_going, gone_kept, gone_is}
 use Rattle.world_parts.proofs.parts.Parts.take_step.Goals as goal
 
@@ -22,16 +22,16 @@ step_slot-requires c =
 pub invariant_of-self : goal.invariant_of-self
 invariant_of-self c =
     gone_kept c.self.inside.registry.maps c.self.inside.runs.items c.self.inside.grace c.self.inside.programs.items c.self.inside.given c.args.run c.self.invariant
-    c.step_slot.new.runs.items c.step_slot.new.maps.maps c.step_slot.new.grace (answer_of c.step_slot.result) c.step_slot.ensures
+    c.step_slot.new.runs.items c.step_slot.new.maps.maps c.step_slot.new.grace (brief_answer c.step_slot.result) c.step_slot.ensures
 
 pub returns-clause-answer : goal.returns-clause-answer
 returns-clause-answer c =
     let e = gone_is c.self.inside.registry.maps c.self.inside.runs.items c.self.inside.grace c.self.inside.programs.items c.self.inside.given c.args.run c.self.invariant
-    c.step_slot.new.runs.items c.step_slot.new.maps.maps c.step_slot.new.grace (answer_of c.step_slot.result) c.step_slot.ensures in
+    c.step_slot.new.runs.items c.step_slot.new.maps.maps c.step_slot.new.grace (brief_answer c.step_slot.result) c.step_slot.ensures in
     sym (ap (λ (x : Answer × WorldView). x.0) e) ∙ ap (λ (w : WorldView). (word_step w c.args.run).0) c.self.view_is
 
 pub returns-clause-new : goal.returns-clause-new
 returns-clause-new c =
     let e = gone_is c.self.inside.registry.maps c.self.inside.runs.items c.self.inside.grace c.self.inside.programs.items c.self.inside.given c.args.run c.self.invariant
-    c.step_slot.new.runs.items c.step_slot.new.maps.maps c.step_slot.new.grace (answer_of c.step_slot.result) c.step_slot.ensures in
+    c.step_slot.new.runs.items c.step_slot.new.maps.maps c.step_slot.new.grace (brief_answer c.step_slot.result) c.step_slot.ensures in
     sym (ap (λ (x : Answer × WorldView). x.1) e) ∙ ap (λ (w : WorldView). (word_step w c.args.run).1) c.self.view_is

@@ -1,0 +1,24 @@
+-- What an instruction does, in words of the laws.
+use Rattle.std.specs.Prelude.{ℕ, List, None, Result, IsOk}
+use Rattle.bpf_model.specs.declared.limits.MapShape.{MapShape}
+use Rattle.bpf_model.specs.declared.insn.Insn.{Insn}
+use Rattle.scalar_domain.specs.declared.scalar.Scalar.{Scalar}
+use Rattle.typed_runs.specs.Kinds.{Num, AbsState as Known}
+use Rattle.typed_runs.specs.Effects.{with_kind}
+use Rattle.typed_runs.specs.Planned.{AreAlike}
+use Rattle.typed_runs.specs.Verified.{Transfers}
+use Rattle.register_kinds.specs.declared.state.AbsState.{AbsState}
+use Rattle.register_kinds.specs.States.{state_of}
+use Rattle.kind_tests.specs.declared.fault.Fault.{Fault}
+
+-- From each run that the old state describes the instruction has a step, and each leads to one that
+-- the new state describes.
+abbrev pub Performs : Insn → ℕ → List MapShape → AbsState → AbsState → Type 0
+Performs insn ctx_len shapes old new =
+    Transfers insn shapes ctx_len (state_of old) (state_of new) None
+
+-- The instruction is not refused, and the register becomes a number.
+pub record SetsNumber {A : Type 0} (r : Result A Fault) (dst : ℕ) (a b : Known) : Type 0 where
+  pub fine : IsOk r
+  pub number : Scalar
+  pub alike : AreAlike (with_kind dst (Num number) a) b
