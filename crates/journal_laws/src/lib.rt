@@ -3,11 +3,11 @@
 //! Each is a function with an empty body, whose contract is the law.
 #![tactic(auto)]
 
-ghost use Rattle.std.specs.Prelude.{◌≡◌, ◌≢◌, ◌≤◌, ◌+◌, ◌++◌, ◌∷◌, [], ℕ, List, Some};
-ghost use Rattle.std.specs.Prelude.{if◌then◌else◌, length, map, slice_get};
+ghost use Rattle.std.specs.Prelude.{◌≡◌, ◌≢◌, ◌≤◌, ◌+◌, ◌++◌, ◌∷◌, [], ℕ, List};
+ghost use Rattle.std.specs.Prelude.{if◌then◌else◌, length, map};
 ghost use Rattle.bpf_model.specs.declared.event.Event.{Event};
 ghost use Rattle.bpf_model.specs.declared.limits.TheConstants.{MAX_JOURNAL};
-ghost use Rattle.bpf_model.specs.Event.{IsReal};
+ghost use Rattle.bpf_model.specs.Event.{IsReal, AreReal};
 ghost use Rattle.bpf_model.specs.Machine.{Machine};
 ghost use Rattle.bpf_model.specs.Drain.{AreScheduledAnswers};
 ghost use Rattle.bpf_model.specs.Headline.{AreMachineAnswers, AreNeverStuck, AllExitInTime};

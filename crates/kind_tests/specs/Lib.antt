@@ -1,3 +1,4 @@
 pub mod FaultNumbers
 pub mod Forks
+pub mod Performs
 pub mod Tests

@@ -1,5 +1,5 @@
 -- What the pass over a program asks of the step of an instruction.
-use Rattle.std.specs.Prelude.{◌≡◌, ◌≢◌, ℕ, Option, Some, None, Result, true, ◌⊎◌, ℤ, pos}
+use Rattle.std.specs.Prelude.{◌≡◌, ◌≢◌, ℕ, Option, Some, None, Result, true, ◌⊎◌, ℤ, pos, Box}
 use Rattle.std.specs.Prelude.{IsOkUnless}
 use Rattle.std.specs.Prelude.{option_map}
 use Rattle.bpf_model.specs.declared.value.Value.{Value}

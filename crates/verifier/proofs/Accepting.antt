@@ -2,7 +2,7 @@
 use Rattle.std.proofs.Common.{◌≡◌, ◌≢◌, ℕ, zero, suc, ◌+◌, ◌<◌, ◌≤◌, refl, sym, ◌∙◌, ap, subst, arith, inl, inr, true, false, Bool, List, length}
 use Rattle.std.specs.Prelude.{slice_get, Option, Some, None, Result, Err, ◌⊎◌, unwrap_or, IfSome, option_map, ℤ, pos, ◌+ℤ◌, ◌^◌, min, max, if◌then◌else◌}
 use Rattle.std.proofs.lemmas.Bool.{cases_lt, cases_eq}
-use Rattle.std.proofs.lemmas.Option.{none-some}
+use Rattle.std.proofs.lemmas.Option.{none-some, same_Some}
 use Rattle.bpf_model.specs.declared.insn.Insn.{Insn}
 use Rattle.bpf_model.specs.declared.insn.Insn.TheVariants.{Alu, Unary, LoadNumber, LoadMap, Jump, JumpLong, JumpIf, Call, Exit, Load, LoadSigned, Store}
 use Rattle.bpf_model.specs.declared.limits.MapShape.{MapShape}
@@ -18,7 +18,6 @@ use Rattle.bpf_model.specs.Places.{start_of-insn, LeadsTo, StartsAt, starts_incr
 use Rattle.bpf_model.proofs.Lists.{get-below}
 use Rattle.program_graph.specs.FirstPass.{Follows}
 use Rattle.program_graph.specs.Indexes.{HasTargets, IsTarget}
-use Rattle.program_graph.proofs.Lists.{same_some}
 use Rattle.program_graph.proofs.Marking.{edge_from, first_start}
 use Rattle.typed_runs.specs.Kinds as model
 use Rattle.register_kinds.specs.declared.state.AbsState.{AbsState}
@@ -103,10 +102,10 @@ takes_or_not width offset k = at (region_offset FRAME_BYTES (byte_count width) (
     at : (o : Option ℕ) → region_offset FRAME_BYTES (byte_count width) (pos FRAME_BYTES +ℤ offset) ≡ o → Takes width offset k ⊎ (Takes width offset k → ⊥)
     at None e = inr (λ t. let f : None ≡ Some t.0 = sym e ∙ t.1 in cc)
     at (Some p) e = elim (cases_lt k p) [
-      | inl h ↦ inr (λ t. let same : p ≡ t.0 = same_some (sym e ∙ t.1) in let l : t.0 ≤ k = t.2 in omega arith)
+      | inl h ↦ inr (λ t. let same : p ≡ t.0 = same_Some _ _ (sym e ∙ t.1) in let l : t.0 ≤ k = t.2 in omega arith)
       | inr h ↦ elim (cases_lt k (p + byte_count width)) [
         | inl l ↦ inl (p, e, h, l)
-        | inr l ↦ inr (λ t. let same : p ≡ t.0 = same_some (sym e ∙ t.1) in let m : k < t.0 + byte_count width = t.3 in omega arith)
+        | inr l ↦ inr (λ t. let same : p ≡ t.0 = same_Some _ _ (sym e ∙ t.1) in let m : k < t.0 + byte_count width = t.3 in omega arith)
       ]
     ]
 
@@ -397,7 +396,7 @@ merged_known program shapes plain k at state old new merged ahead inside known b
         among : (o : Option AbsState) → state_in (old at) ≡ o → FactHolds fact (state_of state) → FactHolds fact (state_of a) ⊎ ((p : ℕ) → StartsAt program at p → WithoutFact program shapes fact p)
         among None g holds = inl (j.facts fact holds (λ b h. absurd (let c : Some b ≡ None = sym h ∙ g in cc)))
         among (Some b) g holds = elim ((before.knows at b ahead g).facts fact) [
-          | inl q ↦ inl (j.facts fact holds (λ c h. subst (λ c. FactHolds fact (state_of c)) (same_some (sym g ∙ h)) q))
+          | inl q ↦ inl (j.facts fact holds (λ c h. subst (λ c. FactHolds fact (state_of c)) (same_Some _ _ (sym g ∙ h)) q))
           | inr w ↦ inr w
         ]
 
@@ -407,7 +406,7 @@ merged_known program shapes plain k at state old new merged ahead inside known b
     joined_knows : (a : AbsState) → state_in (new at) ≡ Some a → IsKnown program shapes at a
     joined_knows a e = elim merged.here [
       | inl j ↦ absurd (let f : None ≡ Some a = sym (ap state_in j.0) ∙ e in cc)
-      | inr j ↦ subst (IsKnown program shapes at) (same_some (sym j.1 ∙ e)) (record { facts = facts_at j.0 j.2; expected = expected_at j.0 j.2 })
+      | inr j ↦ subst (IsKnown program shapes at) (same_Some _ _ (sym j.1 ∙ e)) (record { facts = facts_at j.0 j.2; expected = expected_at j.0 j.2 })
     ]
 
     knows : (m : ℕ) (a : AbsState) → k ≤ m → state_in (new m) ≡ Some a → IsKnown program shapes m a
@@ -422,11 +421,11 @@ same_known program shapes k old new e known = subst (AreKnown program shapes k) 
 -- what holds of an optional state
 some_of : (P : model.AbsState → Type 0) (o : Option AbsState) (s : AbsState) → o ≡ Some s → IfSome (option_map state_of o) P → P (state_of s)
 some_of P None s e h = absurd (none-some s e)
-some_of P (Some t) s e h = subst (λ t. P (state_of t)) (same_some e) h
+some_of P (Some t) s e h = subst (λ t. P (state_of t)) (same_Some _ _ e) h
 
 some_here : (P : AbsState → Type 0) (o : Option AbsState) (s : AbsState) → o ≡ Some s → IfSome o P → P s
 some_here P None s e h = absurd (none-some s e)
-some_here P (Some t) s e h = subst P (same_some e) h
+some_here P (Some t) s e h = subst P (same_Some _ _ e) h
 
 module _ (program : List Insn) (targets : List (Option ℕ)) (long : length targets ≡ length program) (all : HasTargets program targets)
     (k : ℕ) (shapes : List MapShape) (ctx_len : ℕ) (region : Region) (old new : Awaited) (done : Advances program targets k shapes ctx_len region old new) (plain : IsPlainWithMaps program shapes) (known : AreKnown program shapes k old) where
@@ -452,7 +451,7 @@ module _ (program : List Insn) (targets : List (Option ℕ)) (long : length targ
 
       by : Fell done.insn k done.spreads.next done.spreads.taken done.spreads.jumping done.rest done.spreads.mid → P b
       by (inl g) = taken b (sym g.2 ∙ f)
-      by (inr g) = of_unwrapped done.spreads.taken refl (same_some (sym g.2 ∙ f))
+      by (inr g) = of_unwrapped done.spreads.taken refl (same_Some _ _ (sym g.2 ∙ f))
 
   module _ (m : ℕ) (follows : Follows done.insn done.target k m) where
     ordinary_to : (b : AbsState) → (IsPart program shapes s.0 → ⊥) → IsSimple done.insn → KeepsFacts done.insn (state_of done.state) (state_of b) → Knows program shapes m b
@@ -506,8 +505,8 @@ module _ (program : List Insn) (targets : List (Option ℕ)) (long : length targ
 
     jumps : (p : ℕ) → StartsAt program t p → JumpsTo done.insn s.0 p
     jumps p there =
-        let from : leads.from ≡ s.0 = same_some (sym leads.from_is ∙ s.1) in
-        let to : leads.to ≡ p = same_some (sym leads.to_is ∙ there) in
+        let from : leads.from ≡ s.0 = same_Some _ _ (sym leads.from_is ∙ s.1) in
+        let to : leads.to ≡ p = same_Some _ _ (sym leads.to_is ∙ there) in
         (leads.by, leads.by_is, ap pos (sym to) ∙ leads.sum ∙ ap (λ f. pos (f + 1) +ℤ leads.by) from)
 
     jump_facts : Stands program shapes s.0 done.insn → Knows program shapes t b
@@ -580,5 +579,5 @@ known_first program shapes at s = record { paired = paired; knows = knows }
         absurd (omega (arith, zero_slot, more))
 
     knows : (m : ℕ) (a : AbsState) → 0 ≤ m → state_in (at m) ≡ Some a → IsKnown program shapes m a
-    knows zero a h e = subst (IsKnown program shapes 0) (same_some (sym s.waits ∙ e)) (record { facts = first; expected = nothing_yet })
+    knows zero a h e = subst (IsKnown program shapes 0) (same_Some _ _ (sym s.waits ∙ e)) (record { facts = first; expected = nothing_yet })
     knows (suc m) a h e = absurd (let f : None ≡ Some a = sym (ap state_in (s.only (suc m) (omega arith))) ∙ e in cc)

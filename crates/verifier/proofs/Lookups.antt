@@ -2,7 +2,7 @@
 use Rattle.std.proofs.Common.{◌≡◌, ℕ, zero, suc, ◌+◌, ◌-◌, ◌<◌, ◌≤◌, refl, sym, ◌∙◌, ap, subst, arith, inl, inr, true, List, ℤ, pos, negsuc}
 use Rattle.std.specs.Prelude.{slice_get, Option, Some, None, ◌⊎◌}
 use Rattle.std.proofs.lemmas.Bool.{cases_lt, cases_eq}
-use Rattle.std.proofs.lemmas.Option.{none-some}
+use Rattle.std.proofs.lemmas.Option.{none-some, same_Some}
 use Rattle.bpf_model.specs.declared.insn.Insn.{Insn}
 use Rattle.bpf_model.specs.declared.insn.Insn.TheVariants.{Alu, Unary, LoadNumber, LoadMap, Jump, JumpLong, JumpIf, Call, Exit, Load, LoadSigned, Store}
 use Rattle.bpf_model.specs.declared.insn.CallKind.TheVariants.{Helper, Kernel}
@@ -14,7 +14,6 @@ use Rattle.bpf_model.specs.Spelling.{slot_count, starts_from}
 use Rattle.bpf_model.specs.Step.{insn_at}
 use Rattle.bpf_model.specs.Places.{StartsAt, starts-next, starts_increase, starts_ordered, start-inside}
 use Rattle.program_graph.proofs.Edges.{index_here}
-use Rattle.program_graph.proofs.Lists.{same_some}
 use Rattle.typed_runs.specs.Kinds.{AbsState}
 use Rattle.state_steps.specs.Lookups.{Lookup, Part, FrameCopy, KeyAddress, MapLoad, LookupCall, NullTest, ValueLoad, part_insn, Expects, Prepares}
 use Rattle.verifier.specs.FactsKnown.{IsInner, lookup_of, part_slot}
@@ -94,25 +93,25 @@ module _ (program : List Insn) (shapes : List MapShape) (start : ℕ) (l : IsGua
       let further : a.0 < b.0 = starts_ordered 0 program a.0 b.0 (start + 2) (start + 3) a.2 b.2 (omega arith) in
       let next : StartsAt program (suc a.0) (start + 2 + 2) = starts-next 0 program a.0 (start + 2) (LoadMap 1 (pos l.map)) a.1 a.2 (omega (arith, start-inside program b.0 (start + 3) b.2, further)) in
       elim (cases_eq b.0 (suc a.0)) [
-        | inl e ↦ (let same : start + 3 ≡ start + 2 + 2 = same_some (sym b.2 ∙ ap (slice_get (starts_from 0 program)) e ∙ next) in absurd (omega (arith, same)))
+        | inl e ↦ (let same : start + 3 ≡ start + 2 + 2 = same_Some _ _ (sym b.2 ∙ ap (slice_get (starts_from 0 program)) e ∙ next) in absurd (omega (arith, same)))
         | inr n ↦ (let more : start + 2 + 2 < start + 3 = starts_increase 0 program (suc a.0) b.0 (start + 2 + 2) (start + 3) next b.2 (omega (arith, further, n)) in absurd (omega (arith, more)))
       ]
 
   -- what stands at its slots is its parts
   pub part_place : (place : ℕ) (i : Insn) → insn_at program place ≡ Some i → start ≤ place → place ≤ start + 6 → (p : Part) × (place ≡ start + part_slot p) × (i ≡ part_insn (lookup_of l) p)
   part_place place i h low high = elim (cases_eq place start) [
-    | inl e ↦ (FrameCopy, (let g : place ≡ start + 0 = omega (arith, e) in g), same_some (sym h ∙ ap (insn_at program) e ∙ l.frame))
+    | inl e ↦ (FrameCopy, (let g : place ≡ start + 0 = omega (arith, e) in g), same_Some _ _ (sym h ∙ ap (insn_at program) e ∙ l.frame))
     | inr n0 ↦ elim (cases_eq place (start + 1)) [
-      | inl e ↦ (KeyAddress, e, same_some (sym h ∙ ap (insn_at program) e ∙ l.key))
+      | inl e ↦ (KeyAddress, e, same_Some _ _ (sym h ∙ ap (insn_at program) e ∙ l.key))
       | inr n1 ↦ elim (cases_eq place (start + 2)) [
-        | inl e ↦ (MapLoad, e, same_some (sym h ∙ ap (insn_at program) e ∙ l.map_load))
+        | inl e ↦ (MapLoad, e, same_Some _ _ (sym h ∙ ap (insn_at program) e ∙ l.map_load))
         | inr n2 ↦ elim (cases_eq place (start + 3)) [
           | inl e ↦ absurd (not_within i (sym (ap (insn_at program) e) ∙ h))
           | inr n3 ↦ elim (cases_eq place (start + 4)) [
-            | inl e ↦ (LookupCall, e, same_some (sym h ∙ ap (insn_at program) e ∙ l.call))
+            | inl e ↦ (LookupCall, e, same_Some _ _ (sym h ∙ ap (insn_at program) e ∙ l.call))
             | inr n4 ↦ elim (cases_eq place (start + 5)) [
-              | inl e ↦ (NullTest, e, same_some (sym h ∙ ap (insn_at program) e ∙ l.guard))
-              | inr n5 ↦ (let e : place ≡ start + 6 = omega (arith, low, high, n0, n1, n2, n3, n4, n5) in (ValueLoad, e, same_some (sym h ∙ ap (insn_at program) e ∙ l.value)))
+              | inl e ↦ (NullTest, e, same_Some _ _ (sym h ∙ ap (insn_at program) e ∙ l.guard))
+              | inr n5 ↦ (let e : place ≡ start + 6 = omega (arith, low, high, n0, n1, n2, n3, n4, n5) in (ValueLoad, e, same_Some _ _ (sym h ∙ ap (insn_at program) e ∙ l.value)))
             ]
           ]
         ]
@@ -126,7 +125,7 @@ module _ (program : List Insn) (shapes : List MapShape) (start : ℕ) (l : IsGua
       let j = index_here program start _ l.frame in
       let before : j.0 < suc k = starts_ordered 0 program j.0 (suc k) start t j.2 b h in
       elim (cases_eq j.0 k) [
-        | inl e ↦ (let same : start ≡ s = same_some (sym j.2 ∙ ap (slice_get (starts_from 0 program)) e ∙ a) in omega (arith, same))
+        | inl e ↦ (let same : start ≡ s = same_Some _ _ (sym j.2 ∙ ap (slice_get (starts_from 0 program)) e ∙ a) in omega (arith, same))
         | inr n ↦ (let less = starts_increase 0 program j.0 k start s j.2 a (omega (arith, before, n)) in omega (arith, less))
       ]
 
@@ -272,7 +271,7 @@ module _ (program : List Insn) (shapes : List MapShape) (plain : IsPlainWithMaps
       by None e = inr (λ l. none-some lookup_call (sym e ∙ l.call))
       by (Some i) e = elim (lookup_or_not i) [
         | inl f ↦ (let h : insn_at program (start + 4) ≡ Some lookup_call = e ∙ ap Some f in inl (by_call start h (plain.forms (start + 4) lookup_call h)))
-        | inr n ↦ inr (λ l. n (same_some (sym e ∙ l.call)))
+        | inr n ↦ inr (λ l. n (same_Some _ _ (sym e ∙ l.call)))
       ]
 
   within_or_not : (n place : ℕ) → ((start : ℕ) × IsGuardedLookup program shapes start × (start ≤ place) × (place ≤ start + n))

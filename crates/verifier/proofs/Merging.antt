@@ -2,7 +2,7 @@
 use Rattle.std.proofs.Common.{◌≡◌, ◌≢◌, ℕ, refl, sym, ◌∙◌, ap, subst, inl, inr}
 use Rattle.std.specs.Prelude.{◌⊎◌, Option, Some, None, IsSome, IfSome, Box}
 use Rattle.std.proofs.lemmas.Bool.{cases_eq}
-use Rattle.program_graph.proofs.Lists.{same_some}
+use Rattle.std.proofs.lemmas.Option.{same_Some}
 use Rattle.typed_runs.specs.Planned.{Wider}
 use Rattle.register_kinds.specs.declared.state.AbsState.{AbsState}
 use Rattle.register_kinds.specs.States.{state_of}
@@ -23,7 +23,7 @@ joined_from w new a b c n e f wide wide' facts expects = inr (
   record {
     paired = n;
     state_stays = wide';
-    waiting_stays = λ d g. subst (λ d. Wider (state_of d) (state_of c)) (same_some (sym e ∙ g)) wide;
+    waiting_stays = λ d g. subst (λ d. Wider (state_of d) (state_of c)) (same_Some _ _ (sym e ∙ g)) wide;
     facts = λ fact p q. facts fact (q a e) p;
     expects = λ l p x y. expects l p (y a e) x;
   },
@@ -38,7 +38,7 @@ merged_below top index old new b others here k a e = elim (cases_eq k index) [
   where
     at_some : (o : Option AbsState) → o ≡ Some a → IfSome o (AreBelow top) → AreBelow top a
     at_some None f h = absurd (cc)
-    at_some (Some c) f h = subst (AreBelow top) (same_some f) h
+    at_some (Some c) f h = subst (AreBelow top) (same_Some _ _ f) h
 
 pub one_below : (top : ℕ) (at : Awaited) (k : ℕ) → AllBelow top at → IfSome (state_in (at k)) (AreBelow top)
 one_below top at k b = go (state_in (at k)) refl

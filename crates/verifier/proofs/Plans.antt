@@ -5,7 +5,7 @@ use Rattle.std.proofs.lemmas.Bool.{cases_lt, cases_eq}
 use Rattle.std.proofs.lemmas.Int.{ints}
 use Rattle.std.proofs.lemmas.List.{get_or_past}
 use Rattle.std.proofs.lemmas.List.Sums.{sum_by-cons}
-use Rattle.std.proofs.lemmas.Option.{slice_get_within}
+use Rattle.std.proofs.lemmas.Option.{slice_get_within, same_Some}
 use borrow.Author.Tests.{le-ltb, lt-ltb}
 use Rattle.bpf_model.specs.declared.insn.Insn.{Insn}
 use Rattle.bpf_model.specs.declared.insn.Insn.TheVariants.{Exit}
@@ -16,7 +16,6 @@ use Rattle.bpf_model.specs.Places.{slot_count_some, starts_apart, starts_increas
 use Rattle.program_graph.specs.GraphFlaws.{EndsWithExit, HasGoodGraph}
 use Rattle.program_graph.specs.FirstPass.{Follows}
 use Rattle.program_graph.specs.Indexes.{HasTargets, IsTarget}
-use Rattle.program_graph.proofs.Lists.{same_some}
 use Rattle.program_graph.proofs.Marking.{edge_into, reached_by}
 use Rattle.typed_runs.specs.Kinds as model
 use Rattle.typed_runs.specs.Describes.{Describes}
@@ -44,7 +43,7 @@ exit_last : (program front : List Insn) (k : ℕ) (i : Insn) → program ≡ fro
 exit_last program front k i e f g = subst (λ p. suc k < length p) (sym e) (at front k (ap (λ p. slice_get p k) (sym e) ∙ f))
   where
     at : (front : List Insn) (k : ℕ) → slice_get (front ++ Exit ∷ []) k ≡ Some i → suc k < length (front ++ Exit ∷ [])
-    at [] zero h = absurd (let same : Exit ≡ i = same_some h in let t : false ≡ true = ap falls same ∙ g in cc)
+    at [] zero h = absurd (let same : Exit ≡ i = same_Some _ _ h in let t : false ≡ true = ap falls same ∙ g in cc)
     at [] (suc k) h = absurd (cc)
     at (j ∷ front) zero h = some front
       where
@@ -85,7 +84,7 @@ planned_state w b e = go (state_in w) refl
   where
     go : (o : Option AbsState) → state_in w ≡ o → (a : AbsState) × (state_in w ≡ Some a) × (state_of a ≡ b)
     go None f = absurd (let g : None ≡ Some b = sym (ap (option_map state_of) f) ∙ e in cc)
-    go (Some a) f = (a, f, same_some (sym (ap (option_map state_of) f) ∙ e))
+    go (Some a) f = (a, f, same_Some _ _ (sym (ap (option_map state_of) f) ∙ e))
 
 -- What falls through: something waits behind, and all waits on.
 module _ (next : AbsState) (i : Insn) (k : ℕ) (taken jumping : Option AbsState) (old mid : Awaited) where
@@ -111,14 +110,14 @@ module _ (target : Option ℕ) (jumping : Option AbsState) (mid new : Awaited) w
   jumped_later (inr f) = same_later mid new f.1
 
   jumped_there : Jumped target jumping mid new → (t : ℕ) (s : AbsState) → target ≡ Some t → jumping ≡ Some s → new t ≢ Nothing
-  jumped_there (inl f) t s e g = λ h. merged_there f.0 f.1 mid new f.4 (ap new (same_some (sym f.2 ∙ e)) ∙ h)
+  jumped_there (inl f) t s e g = λ h. merged_there f.0 f.1 mid new f.4 (ap new (same_Some _ _ (sym f.2 ∙ e)) ∙ h)
   jumped_there (inr (inl f, h)) t s e g = absurd (let x : None ≡ Some t = sym f ∙ e in cc)
   jumped_there (inr (inr f, h)) t s e g = absurd (let x : None ≡ Some s = sym f ∙ g in cc)
 
   jumped_or : Jumped target jumping mid new → ((t : ℕ) × (target ≡ Some t) × (new t ≡ Differing)) ⊎ (AllStay mid new × ((t : ℕ) (s : AbsState) → target ≡ Some t → jumping ≡ Some s → Stays new t s))
   jumped_or (inl f) = elim (merged_or f.0 f.1 mid new f.4) [
     | inl h ↦ inl (f.0, f.2, h)
-    | inr h ↦ inr (h.0, λ t s e g. subst (λ t. Stays new t s) (same_some (sym f.2 ∙ e)) (subst (Stays new f.0) (same_some (sym f.3 ∙ g)) h.1))
+    | inr h ↦ inr (h.0, λ t s e g. subst (λ t. Stays new t s) (same_Some _ _ (sym f.2 ∙ e)) (subst (Stays new f.0) (same_Some _ _ (sym f.3 ∙ g)) h.1))
   ]
   jumped_or (inr (inl f, h)) = inr (same_stay mid new h, λ t s e g. absurd (let x : None ≡ Some t = sym f ∙ e in cc))
   jumped_or (inr (inr f, h)) = inr (same_stay mid new h, λ t s e g. absurd (let x : None ≡ Some s = sym f ∙ g in cc))
@@ -154,7 +153,7 @@ module _ (program : List Insn) (targets : List (Option ℕ)) (all : HasTargets p
       let t = has_target d e in
       let l = leads_to t.0 t.1 in
       let before : l.from < l.to = starts_increase 0 program k t.0 l.from l.to l.from_is l.to_is l.further in
-      let by : l.by ≡ d = same_some (sym l.by_is ∙ e) in
+      let by : l.by ≡ d = same_Some _ _ (sym l.by_is ∙ e) in
       let sum : pos l.to ≡ pos (l.from + 1) +ℤ d = l.sum ∙ ap (λ d. pos (l.from + 1) +ℤ d) by in
       (l.to - (l.from + 1), ahead l.from l.to d before sum)
     where
@@ -254,7 +253,7 @@ module _ (program : List Insn) (targets : List (Option ℕ)) (all : HasTargets p
     }
 
     known_here : (a : model.AbsState) → spliced plan k ≡ Some a → state_of done.state ≡ a
-    known_here a e = same_some (sym (ap (option_map state_of) done.waited) ∙ sym (before.rest k (omega arith)) ∙ back k a (omega arith) e)
+    known_here a e = same_Some _ _ (sym (ap (option_map state_of) done.waited) ∙ sym (before.rest k (omega arith)) ∙ back k a (omega arith) e)
 
     jumps_here : (by : ℤ) → distance done.insn ≡ Some by → (t : ℕ) × LeadsTo program k done.insn t × Covers (spliced plan) t (unwrap_or (option_map state_of spread.taken) (state_of spread.next))
     jumps_here by e =
@@ -286,7 +285,7 @@ module _ (program : List Insn) (targets : List (Option ℕ)) (all : HasTargets p
     -- the instruction of this index, where it is the one at hand
     notes_at : (j : ℕ) (i : Insn) (r : Region) → j ≡ k → slice_get program j ≡ Some i → region ≡ r → Notes program shapes ctx_len (spliced plan) j i r
     notes_at j i r e f g =
-        let same : done.insn ≡ i = same_some (sym done.insn_is ∙ ap (slice_get program) (sym e) ∙ f) in
+        let same : done.insn ≡ i = same_Some _ _ (sym done.insn_is ∙ ap (slice_get program) (sym e) ∙ f) in
         subst (λ j. Notes program shapes ctx_len (spliced plan) j i r) (sym e)
         (subst (λ i. Notes program shapes ctx_len (spliced plan) k i r) same (subst (Notes program shapes ctx_len (spliced plan) k done.insn) g notes_here))
 
@@ -313,8 +312,8 @@ module _ (program : List Insn) (targets : List (Option ℕ)) (all : HasTargets p
     first = λ e. absurd (omega arith);
     ahead = λ j m i t h l e f follows inside. elim (cases_eq j k) [
       | inl g ↦
-          let same_i : i ≡ done.insn = same_some (sym e ∙ ap (slice_get program) g ∙ done.insn_is) in
-          let same_t : t ≡ done.target = same_some (sym f ∙ ap (slice_get targets) g ∙ done.target_is) in
+          let same_i : i ≡ done.insn = same_Some _ _ (sym e ∙ ap (slice_get program) g ∙ done.insn_is) in
+          let same_t : t ≡ done.target = same_Some _ _ (sym f ∙ ap (slice_get targets) g ∙ done.target_is) in
           here m (subst (λ j. Follows done.insn done.target j m) g (subst (λ t. Follows done.insn t j m) same_t (subst (λ i. Follows i t j m) same_i follows)))
       | inr n ↦ later.waits m (λ x. w.ahead j m i t (omega arith) (omega arith) e f follows inside (sym (done.others m (let o : m ≢ k = omega arith in o)) ∙ x))
     ];

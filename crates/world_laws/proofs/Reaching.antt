@@ -190,7 +190,7 @@ module _ (w : WorldView) (s : Schedule) (m : Matches w s) (sound : IsSound w s) 
       by (out, es, inl h, kept, ends) =
           let f = store-known run.state (byte_count width) offset (operand_value src run.state.regs) (run.state.regs dst) out h.0 in
           let goal : Location → Type 0 = λ l. Reaches w v (byte_count width) offset l × IsWritable l in
-          subst goal (sym (frame-location (word_in v dst) f.o (close (Pointer (Frame f.o)) f.base_is) (word-is (Pointer (Frame f.o)) f.base_is))) (record { at = f.at; place = f.place; inside = f.inside }, tt)
+          subst goal (sym (frame-location (word_in v dst) f.o (close (Pointer (Frame f.o)) f.base_is) (word-is (Pointer (Frame f.o)) f.base_is))) (record { at = f.at; at_is = f.at_is; inside = f.inside }, tt)
       by (out, es, inr h, kept, ends) =
           let f = element-known s.machine.store.elements (byte_count width) offset (operand_value src run.state.regs) (run.state.regs dst) es h.0 in
           slot-reaches (byte_count width) f.n (word_in v dst) f.at f.o offset f.element f.access f.inside (word-is (Pointer (Elem f.n f.o)) f.base_is) (close (Pointer (Elem f.n f.o)) f.base_is)
