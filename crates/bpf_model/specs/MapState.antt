@@ -58,14 +58,15 @@ shape_in (Some m) = Some m.shape
 abbrev pub shape_of : Store → ℕ → Option MapShape
 shape_of s map = shape_in (slice_get s.maps map)
 
--- Any count may be taken out of a bag: which slot serves is left open.
+-- Any count may be taken out of a bag: which map slot serves is left open.
 pub record TakesOut (old : List ℕ) (count : ℕ) (new : List ℕ) : Type 0 where
   pub before : List ℕ
   pub after : List ℕ
   pub old_is : old ≡ before ++ count ∷ after
   pub new_is : new ≡ before ++ after
 
--- Whether a slot that was used so often may be used again, and the map after it was given back.
+-- Whether a map slot that was used so often may be used again, and the map after the slot was given
+-- back.
 abbrev pub given_of : ℕ → MapState → Given
 given_of uses m = if uses == m.shape.reuse_limit then Worn else Free
 

@@ -1,5 +1,5 @@
--- When a world refines a state of the machine: one naming of births by slots turns what the world
--- keeps into that state.
+-- When a world refines a state of the machine: one naming of births by map slots turns what the
+-- world keeps into that state.
 use Rattle.std.specs.Prelude.{◌≡◌, ℕ, ◌<◌, ◌≤◌, ◌==◌, false, List, Option, Some, None, slice_get}
 use Rattle.std.specs.Prelude.{slice_index, map, count_by, length}
 use Rattle.std.specs.List.{sum_by}
@@ -38,8 +38,8 @@ pub record SlotsStand (v : MapView) : Type 0 where
   pub once : (i : ℕ) → times i v.free ≤ 1
   pub inside : (i : ℕ) → 0 < times i v.free → i < length v.slots
 
--- The kept elements of map k stand each in a slot of its own, none of them free. The index has the
--- linked ones, and no others.
+-- The kept elements of map k stand each in a map slot of its own, none of them free. The index has
+-- the linked ones, and no others.
 pub record ElementsStand (slots : List ℕ) (k : ℕ) (es : List Element) (v : MapView) : Type 0 where
   pub occupied : (n : ℕ) (e : Element) → IsElementKept es k n e →
       slice_get v.slots (slice_index slots n) ≡ Some (slot_view e)

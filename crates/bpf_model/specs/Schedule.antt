@@ -1,5 +1,5 @@
 -- The choices of this runtime where the machine leaves one: which elements wait, when they may be
--- reclaimed, and which slot a new one takes (a grace period as in Linux's RCU: it ends when each
+-- reclaimed, and which map slot a new one takes (a grace period as in Linux's RCU: it ends when each
 -- section that was open at its beginning has ended).
 use Rattle.std.specs.Prelude.{◌≡◌, ℕ, suc, ◌-◌, ◌==◌, ◌&&◌, Bool, true, false, List, [], ◌∷◌, ◌++◌}
 use Rattle.std.specs.Prelude.{Option, Some, None, slice_get, length, map, drop, replicate}
@@ -122,8 +122,8 @@ TakesFirst s Reap (Reaped (Some element)) m =
     × HasLife s.machine.store.elements n (Unlinked since) × HasLife m.store.elements n Reclaimed
 TakesFirst s event answer m = Unit {0}
 
--- A new element takes the slot of its map that has been free longest: the bag is a queue, to whose
--- end a reclaimed slot goes.
+-- A new element takes the map slot that has been free longest: the bag is a queue, to whose end a
+-- reclaimed slot goes.
 abbrev pub TakesOldest : Store → Store → Type 0
 TakesOldest old new =
     (e : Element) (before after : MapState) →

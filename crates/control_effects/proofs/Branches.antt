@@ -63,7 +63,7 @@ narrowed_both dst r src x y a b t is e f = subst (λ (o : Operand). AreNarrowed 
   inside = f.inside ∙ e.inside;
 })
 
--- one of both edges
+-- a conditional jump goes along one of its two edges
 module _ (condition : Condition) (size : Size) (dst : ℕ) (src : Operand) (n : ℕ) (b t : AbsState) (c : Scene) (env : Environment) (m : State) where
   branch : (p q : ℕ) (taken : Bool) → compares size condition p q ≡ taken → m.regs dst ≡ Number p → operand_value src m.regs ≡ Number q → (taken ≡ true → Describes t c m) → (taken ≡ false → Describes b c m)
       → ActsAlone (JumpIf condition size dst src (pos n)) b (Some t) c env m

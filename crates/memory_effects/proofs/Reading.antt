@@ -119,7 +119,7 @@ module _ (dst src : ℕ) (offset : ℤ) (shapes : List MapShape) (ctx_len : ℕ)
         lands = inl (refl, refl, set-number c m n d (all f.n).0 (all f.n).1);
       })
 
--- whatever is read
+-- a load of each kind of what it reads
 module _ (dst : ℕ) (from : Address) (ctx_len : ℕ) (shapes : List MapShape) (a : AbsState) (t : Scalar) (ne : 10 ≡ dst → ⊥) where
   not-eight : (width : Width) (kind : Kind) → byte_count width ≡ 8 → (x : ReadsParts a from.base (byte_count width) from.offset kind) → Transfers (Load width dst from.base from.offset) shapes ctx_len a (with_kind dst kind a) None
   not-eight widths.One kind e x = absurd (omega (arith, e))

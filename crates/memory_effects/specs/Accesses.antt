@@ -47,6 +47,7 @@ pub record ReachesFrame (a : Known) (r width : ℕ) (offset : ℤ) (at : ℕ) : 
   pub base : a.regs r ≡ FrameAt start
   pub inside : region_offset FRAME_BYTES width (start +ℤ offset) ≡ Some at
 
+-- the access through the register lies in the frame, on bytes of numbers
 pub record ReadsBytes (a : Known) (r width : ℕ) (offset : ℤ) : Type 0 where
   pub at : ℕ
   pub reaches : ReachesFrame a r width offset at
@@ -69,6 +70,7 @@ pub record ReadsValue (shapes : List MapShape) (a : AbsState) (r map width : ℕ
   pub at : ℕ
   pub inside : region_offset shape.value_len width offset ≡ Some at
 
+-- the access through the register is of the eight parts of a reference that was stored in the frame
 pub record ReadsParts (a : Known) (r width : ℕ) (offset : ℤ) (kind : Kind) : Type 0 where
   pub at : ℕ
   pub reaches : ReachesFrame a r width offset at

@@ -104,7 +104,7 @@ taken-one old new count t =
     let d = length-append t.before t.after in
     omega arith
 
--- and its uses
+-- what a bag loses when a count is taken out
 module _ (old new : List ℕ) (count : ℕ) (t : TakesOut old count new) where
   taken-total : total old ≡ total new + count
   taken-total =

@@ -82,7 +82,7 @@ map-back f [] k y h = absurd (none-some y h)
 map-back f (x ∷ xs) zero y h = (x, refl, same_Some (f x) y h)
 map-back f (x ∷ xs) (suc k) y h = map-back f xs k y h
 
--- flags
+-- a flag stays awaited where it was and the run is still inside
 pub still-forth : (a b : List Bool) (r : ℕ) → slice_get a r ≡ Some true → slice_get b r ≡ Some true → slice_get (still_open a b) r ≡ Some true
 still-forth [] b r h g = absurd (none-some true h)
 still-forth (x ∷ a) [] r h g = absurd (none-some true g)

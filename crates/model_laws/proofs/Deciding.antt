@@ -49,7 +49,7 @@ both o x y h g = same_Some x y (sym h ∙ g)
 never : {A B : Type 0} (o : Option A) (x : A) → o ≡ None → o ≡ Some x → B
 never o x h g = absurd (none-some x (sym h ∙ g))
 
--- two that are one third
+-- two that are equal to a third
 pub meet : {A : Type 0} (x y z : A) → x ≡ z → y ≡ z → x ≡ y
 meet x y z h g = h ∙ sym g
 

@@ -85,7 +85,7 @@ module _ (s : Schedule) (m : Machine) (n : ℕ) where
   readied-reaped : HasReadied s n → HasReadied (reaped s m) n
   readied-reaped h k later at = let b = without-back s.queues k later at in (ap (times n) b.2.next ∙ (h k b.0 b.1).0, ap (times n) b.2.waiting ∙ (h k b.0 b.1).1)
 
-  -- a turn
+  -- after the lists were turned, the element is in no next list
   waited-turned : HasWaited (advanced s m false) n
   waited-turned k later at = let b = map-back turned s.queues k later at in subst (λ x. times n x.next ≡ 0) b.2 refl
 
@@ -123,7 +123,8 @@ module _ (s : Schedule) (m : Machine) (n : ℕ) where
   readied-scheduled (events.Read map key) o h = readied-plain o h
   readied-scheduled (events.Drop run) o h = readied-plain o h
 
--- steps
+-- what each event keeps of an element that is out of its map: it is in no next list, or in no waiting
+-- list either
 pub record Waited (s : Schedule) (n : ℕ) : Type 0 where
   pub out : IsOut s.machine.store.elements n
   pub lists : HasWaited s n

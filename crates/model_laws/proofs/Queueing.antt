@@ -91,7 +91,7 @@ in-slot (Some (Some x)) run h = ap Some h
 pub open-flag : (runs : List (Option Run)) (r : ℕ) (run : Run) → run_at runs r ≡ Some run → 0 < run.depth → slice_get (open_flags runs) r ≡ Some true
 open-flag runs r run at inside = get-map is_open runs r (Some run) (in-slot (slice_get runs r) run at) ∙ ap Some (lt-ltb 0 run.depth inside)
 
--- the waiting goes on
+-- a section that an element keeps, under another name of the same run and lock
 has-same : (since : List Section) (name old_name lock old_lock : ℕ) → name ≡ old_name → lock ≡ old_lock → Has since (record { run = name; lock = lock }) → Has since (record { run = old_name; lock = old_lock })
 has-same since name old_name lock old_lock a b h = subst (λ x. Has since (record { run = old_name; lock = x })) b (subst (λ x. Has since (record { run = x; lock = lock })) a h)
 

@@ -152,7 +152,7 @@ uses-reclaimed es n e k at = let a = sum-set (uses_of k) es n e (with_life Recla
 pub born-reclaimed : (es : List Element) (n : ℕ) (e : Element) (k : ℕ) → slice_get es n ≡ Some e → born_count k (slice_set es n (with_life Reclaimed e)) ≡ born_count k es
 born-reclaimed es n e k at = let a = count-set (λ (x : Element). x.map == k) es n e (with_life Reclaimed e) at in omega arith
 
--- so often at most
+-- the uses of a map's kept elements, where each was used so often at most
 pub uses-most : (k limit : ℕ) (es : List Element) → ((n : ℕ) (e : Element) → slice_get es n ≡ Some e → is_kept k e ≡ true → e.uses ≤ limit) → kept_uses k es ≤ kept_count k es * limit
 uses-most k limit [] h = omega arith
 uses-most k limit (e ∷ es) h =

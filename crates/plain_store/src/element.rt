@@ -28,7 +28,7 @@ pub enum Life {
     Reclaimed,
 }
 
-/// An element: its map, key and value, and the how-manieth use of a slot it is.
+/// An element: its map, key and value, and which use of its map slot it is, counted from 1.
 #[derive(Drop)]
 pub struct Element {
     pub map: usize,

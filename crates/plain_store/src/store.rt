@@ -157,7 +157,8 @@ impl Store {
         Ok(())
     }
 
-    /// The how-manieth use the next element will be of its slot, the one that has been free longest.
+    /// Which use of its map slot the next element will be, counted from 1: it takes the slot that has been
+    /// free longest.
     fn next_use(&self, map: usize) -> u64
         requires { map < length self.now.maps.items }
         ensures { NextUse (store_of self.now) map result }

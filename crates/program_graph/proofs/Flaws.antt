@@ -61,14 +61,13 @@ one_flaw program Unreachable BackJump s t a b = absurd (bad_not_well program Bac
 one_flaw program Unreachable FallsOff s t a b = absurd (bad_end_not_exit program t b a.last)
 one_flaw program Unreachable Unreachable s t a b = (refl, unreachable_same program s t a b)
 
--- a good graph has none
+-- a good graph has no flaw
 pub good_has_none : (program : List Insn) (f : GraphFlaw) (s : ℕ) → HasGoodGraph program → HasGraphFlaw program f s → ⊥
 good_has_none program JumpTarget s good a = bad_not_well program JumpTarget s a good.jumps
 good_has_none program BackJump s good a = bad_not_well program BackJump s a good.jumps
 good_has_none program FallsOff s good a = bad_end_not_exit program s a good.last
 good_has_none program Unreachable s good a = a.unreached (good.reached s a.insn a.at)
 
--- nor has a plain program
 -- A jump that leads forward to an instruction has no flaw.
 pub good_jump : (program : List Insn) (slot : ℕ) (i : Insn)
     → ((d : ℤ) → distance i ≡ Some d → (target : ℕ) × (next : Insn) × JumpsTo i slot target × (slot < target) × (insn_at program target ≡ Some next))

@@ -78,7 +78,7 @@ joined_all xs old others g e f all k = elim (cases_lt k (length others)) [
   | inr l ↦ get_or_past xs k cells.Unwritten (omega arith) ∙ sym (ap2 (λ a b. joined_class a b (is_pointer (g k))) (get_or_past old k cells.Unwritten (omega arith)) (get_or_past others k cells.Unwritten (omega arith)))
 ]
 
--- the whole states
+-- whole states are joined where their registers and their cells are
 module _ (top : ℕ) (before pairs : List (ℕ × ℕ)) (a b c : StateHere) (x : PairsGrow before pairs) (regs : (r : ℕ) → JoinsKind top before (kind_at a.regs r) (kind_at b.regs r) (kind_at c.regs r))
     (cells : (k : ℕ) → JoinsCell top pairs (cell_at a.frame k) (cell_at b.frame k) (cell_at c.frame k)) where
   pub states_join : a.inside ≡ b.inside → c.inside ≡ a.inside → Joins (pair_of top pairs) (state_of a) (state_of b) (state_of c)

@@ -11,6 +11,7 @@ use Rattle.scalar_domain.specs.declared.relation.Relation.TheVariants.{AtLeast, 
 use Rattle.scalar_domain.specs.declared.relation.Relation.TheVariants.{Apart, Unknown}
 use Rattle.scalar_domain.specs.Scalar.{Holds, IsNoWider}
 
+-- two numbers stand in this relation
 abbrev pub Related : Relation → ℕ → ℕ → Type 0
 Related Below x y = x < y
 Related AtMost x y = x ≤ y

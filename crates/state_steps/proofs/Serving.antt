@@ -327,7 +327,7 @@ pub record CallLeaves (kind : CallKind) (imm : ℤ) (a b : StateHere) : Type 0 w
   pub finds : (map : ℕ) → kind ≡ callee.Helper → helper_of imm ≡ Some helpers.Lookup → kind_in a.regs 1 ≡ kinds.Map map → FindsIn map a b
   pub called : kind ≡ callee.Kernel → Called (kernel_function_of imm) (state_of a) (state_of b)
 
--- and what isn't refused
+-- the calls that are not refused but for want of memory
 pub record CallAccepts (kind : CallKind) (imm : ℤ) (shapes : List MapShape) (a : StateHere) (result : Result (Unit {0}) Fault) : Type 0 where
   pub kernel : kind ≡ callee.Kernel → result ≡ outcome_of (section_fault kind imm a.inside)
   pub lookup : (map : ℕ) (shape : MapShape) → kind ≡ callee.Helper → helper_of imm ≡ Some helpers.Lookup → a.inside ≡ true → kind_in a.regs 1 ≡ kinds.Map map

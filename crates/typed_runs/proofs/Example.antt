@@ -97,7 +97,7 @@ only-origin o h =
 placed-origin : IsAlwaysInside origin 8 (pos 0) 8
 placed-origin o h = (0, ap (λ z. region_offset 8 8 (z +ℤ pos 0)) (only-origin o h))
 
--- the states
+-- what is known before each instruction of the example
 module _ (any : Scalar) where
   abbrev pub s0 : AbsState
   s0 = entry_state

@@ -69,6 +69,7 @@ pub record IsContextAt (s : Scalar) (v : Value) : Type 0 where
   pub is : v ≡ Pointer (Ctx offset)
   pub there : HasOffset s offset
 
+-- a reference to an element of this map that the run's section guards, at one of these offsets
 pub record IsElementOf (c : Scene) (map : ℕ) (s : Scalar) (v : Value) : Type 0 where
   pub n : ℕ
   pub offset : ℤ
@@ -114,6 +115,7 @@ pub record AreNear (regs : ℕ → Value) (frame : ℕ → Cell) : Type 0 where
   pub regs_near : (r : ℕ) → IsNear (regs r)
   pub cells_near : (k : ℕ) → IsNearCell (frame k)
 
+-- What is known is so of the run: some naming of identities fits all its registers and cells.
 pub record Describes (a : AbsState) (c : Scene) (m : State) : Type 0 where
   pub naming : Naming
   pub stored : Stored

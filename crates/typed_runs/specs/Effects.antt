@@ -56,6 +56,7 @@ abbrev pub IsOtherCell : ℕ → CellKind → Type 0
 IsOtherCell id (PartCell kind) = IsOther id kind
 IsOtherCell id cell = Unit {0}
 
+-- nothing that is known has this identity
 pub record IsFresh (id : ℕ) (a : AbsState) : Type 0 where
   pub regs : (r : ℕ) → IsOther id (a.regs r)
   pub cells : (k : ℕ) → IsOtherCell id (a.cells k)

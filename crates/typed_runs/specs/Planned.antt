@@ -62,6 +62,7 @@ pub record IsCovered (code : List Insn) (shapes : List MapShape) (ctx_len : ℕ)
   pub jumps_on : (by : ℤ) → distance insn ≡ Some by →
       (t : ℕ) × LeadsTo code k insn t × Covers plan t (unwrap_or taken new)
 
+-- The plan covers the entry, and where it says something of an instruction, what that leads to.
 pub record IsPlanKept (code : List Insn) (shapes : List MapShape) (ctx_len : ℕ) (plan : Plan)
     : Type 0 where
   pub start : Covers plan 0 entry_state

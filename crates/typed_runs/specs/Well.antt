@@ -30,6 +30,7 @@ pub record IsTyped (s : Store) (run : Run) : Type 0 where
       run.state
   pub moved : run.moved ≤ index
 
+-- What is so in each state that is reached with verified programs.
 pub record IsWell (m : Machine) : Type 0 where
   pub consistent : IsConsistent m
   pub bytes : AllBytes m.store.elements

@@ -50,7 +50,7 @@ joined_facts a b c joined inside FramePointer p q =
     j.0 refl
 joined_facts a b c joined inside (Section s) p q = inside ∙ p
 
--- and what both expect of a guarded lookup
+-- where two states meet, their join keeps what both expect of a guarded lookup
 module _ (a b c : model.AbsState) (joined : AreJoined a b c) where
   both_kinds : (r : ℕ) (x y : model.Kind) → a.regs r ≡ x → b.regs r ≡ y → IsJoinedKind x y (c.regs r)
   both_kinds r x y p q = subst (λ z. IsJoinedKind x z (c.regs r)) q (subst (λ z. IsJoinedKind z (b.regs r) (c.regs r)) p (joined.regs r))
@@ -95,7 +95,7 @@ writes_or_not (Load width dst src offset) r = cases_eq r dst
 writes_or_not (LoadSigned width dst src offset) r = cases_eq r dst
 writes_or_not (Store width dst offset src) r = inr (λ h. h)
 
--- and whether an access takes a byte
+-- an access takes a byte of the frame or doesn't
 takes_or_not : (width : Width) (offset : ℤ) (k : ℕ) → Takes width offset k ⊎ (Takes width offset k → ⊥)
 takes_or_not width offset k = at (region_offset FRAME_BYTES (byte_count width) (pos FRAME_BYTES +ℤ offset)) refl
   where

@@ -14,7 +14,7 @@ use Rattle.verifier.specs.declared.waiting.Waiting.{Waiting}
 use Rattle.verifier.specs.declared.waiting.Waiting.TheVariants.{Nothing, Differing}
 use Rattle.verifier.specs.SecondPass.{Awaited, state_in, AllBelow, JoinsTo, Joined, Merged}
 
--- both are joined
+-- the state that waits and the one that comes are both joined into the new one
 pub joined_from : (w new : Waiting) (a b c : AbsState) → w ≢ Differing → state_in w ≡ Some a → state_in new ≡ Some c → Wider (state_of a) (state_of c) → Wider (state_of b) (state_of c)
     → ((fact : Fact) → FactHolds fact (state_of a) → FactHolds fact (state_of b) → FactHolds fact (state_of c)) → ((l : Lookup) (p : Part) → Expects l p (state_of a) → Expects l p (state_of b) → Expects l p (state_of c)) → Joined w b new
 joined_from w new a b c n e f wide wide' facts expects = inr (

@@ -147,7 +147,7 @@ module _ (program : List Insn) (targets : List (Option ℕ)) (all : HasTargets p
           absurd (let g : None ≡ Some d = sym none ∙ e in cc)
       go (Some t) f = (t, f)
 
-  -- and it leads ahead
+  -- the jump of the instruction leads ahead
   forward : IsForward done.insn
   forward d e =
       let t = has_target d e in

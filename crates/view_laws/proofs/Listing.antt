@@ -38,7 +38,7 @@ between-same k b es = ap (unlinked_between k b es) (sym (append-nil es)) ∙ bet
 test-one : (e : Element) (k : ℕ) (opened : List Section) → e.life ≡ Linked → (is_linked e.life && is_unlinked (Unlinked opened) && (e.map == k)) ≡ (e.map == k)
 test-one e k opened h = ap (λ l. is_linked l && is_unlinked (Unlinked opened) && (e.map == k)) h
 
--- one is unlinked
+-- the births that an event unlinks, where one element is unlinked
 pub between-one : (k b : ℕ) (es more : List Element) (n a : ℕ) (e : Element) (opened : List Section) → slice_get es n ≡ Some e → e.life ≡ Linked → e.map ≡ k → a ≡ b + n → unlinked_between k b es (slice_set es n (with_life (Unlinked opened) e) ++ more) ≡ a ∷ []
 between-one k b [] more n a e opened at life is same = absurd (none-some e at)
 between-one k b (x ∷ es) more zero a e opened at life is same =
@@ -61,7 +61,7 @@ between-other j b [] more n e l at ne = absurd (none-some e at)
 between-other j b (x ∷ es) more zero e l at ne = pick (is_linked x.life && is_unlinked l && (x.map == j)) b _ (test-none x e j l (same_Some x e at) ne) ∙ between-more j (suc b) es more
 between-other j b (x ∷ es) more (suc n) e l at ne = pick (is_linked x.life && is_unlinked x.life && (x.map == j)) b _ (same-life x.life (x.map == j)) ∙ between-other j (suc b) es more n e l at ne
 
--- one has another value
+-- no birth is unlinked where an element has another value
 pub between-value : (j b : ℕ) (es : List Element) (n : ℕ) (e : Element) (value : List ℕ) → slice_get es n ≡ Some e → unlinked_between j b es (slice_set es n (with_value value e)) ≡ []
 between-value j b [] n e value at = absurd (none-some e at)
 between-value j b (x ∷ es) zero e value at =
@@ -93,7 +93,7 @@ more-one k n slots es fs q h =
 pub named-turned : (slots : List ℕ) (q : Queues) → turned (named slots q) ≡ named slots (turned q)
 named-turned slots q = ap (λ l. let z : Queues = record { next = []; waiting = map (slice_index slots) q.next; ready = l } in z) (sym (map-append (slice_index slots) q.ready q.waiting))
 
--- flags
+-- the awaited flags stay as they are where each is still open
 pub still-same : (a b : List Bool) → length a ≡ length b → ((r : ℕ) → slice_get a r ≡ Some true → slice_get b r ≡ Some true) → still_open a b ≡ a
 still-same [] [] l h = refl
 still-same [] (y ∷ b) l h = refl

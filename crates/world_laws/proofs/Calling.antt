@@ -71,7 +71,7 @@ module _ (w : WorldView) (s : Schedule) (m : Matches w s) (sound : IsSound w s) 
   kernel-simulates imm later (Some ReadUnlock) at e h = subst (λ o. Does w s m sound r run v k (entered o r v w)) (sym e) (unlock_simulates w s m r run v imm k.there k.shown k.going at e h.0)
   kernel-simulates imm later None at e h = absurd h
 
-  -- the map
+  -- the number of the map that an argument's word names
   map-number : (u : Value) (x map : ℕ) → WordIs b u x → (reference u >>= bound_map run.program.maps) ≡ Some map → slice_get run.program.maps (x - map_base) ≡ Some map
   map-number Nothing x map word e = absurd (none-some map e)
   map-number (Number n) x map word e = absurd (none-some map e)

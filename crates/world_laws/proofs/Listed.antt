@@ -59,7 +59,7 @@ loads-listed dst map env m out p e =
     let next : State = record { regs = put dst f.0 m.regs; frame = m.frame; place = m.place + 2 } in
     subst (HoldsOutcome (IsListed env.maps)) (refused (dst == 10) (Moves next) out f.2) (λ q. choice-listed env.maps (q == dst) f.0 (m.regs q) (map-listed env map f.0 f.1) (p.0 q), p.1)
 
--- each step keeps it
+-- each step of a run keeps that its references are to maps of its program's list
 ends-listed : (out : Outcome) (run : Run) (answer : Answer) (new : Run) → IsListedRun run → HoldsOutcome (IsListed (length run.program.maps)) out → OutcomeStep out run answer new → IsListedRun new
 ends-listed (Moves next) run answer new p q h = subst IsListedRun (sym h.1) q
 ends-listed (Exits n) run answer new p q h = subst IsListedRun (sym h.2) p

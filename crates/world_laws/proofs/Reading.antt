@@ -97,7 +97,7 @@ found-map = refl
 deletes : full_reaction found (Delete 0 key_zero) ≡ (Ret (Ok tt), deleted_world)
 deletes = deletes-in found held 0 found-map refl (insert-same empty key_zero.items 0)
 
--- the rest
+-- the events after the first
 abbrev rest : List Event
 rest = Advance ∷ Advance ∷ Reap ∷ Step 0 ∷ Step 0 ∷ Step 0 ∷ Advance ∷ Reap ∷ Step 0 ∷ Step 0 ∷ Drop 0 ∷ []
 

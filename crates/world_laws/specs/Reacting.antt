@@ -67,6 +67,7 @@ or_step (Some x) w event = x
 or_step None w (Step run) = word_step w run
 or_step None w event = idle w
 
+-- The runtime's own step on each event: the answer, and what the world keeps after it.
 abbrev pub full_reaction : WorldView → Event → Answer × WorldView
 full_reaction w event = or_step (reaction w event) w event
 
