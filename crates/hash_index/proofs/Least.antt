@@ -96,9 +96,6 @@ walk_none (suc n) next = refl
 
 -- along a chain
 module _ (a : ArenaState) (bound : Option (List ℕ)) (first before : Option ℕ) where
-  pub scan_start : IsScanned a bound first before first before
-  scan_start = record { front = []; split = refl; least_of = λ xs f. subst (λ l. IsLeastOf (key_at a.slots) bound l before) (sym (append-nil xs)) f }
-
   pub scan_step : (at r least new : Option ℕ) (slot : ℕ) → IsChain a at → at ≡ Some slot → r ≡ link_at a.links slot → IsScanned a bound first before at least →
       ((xs : List ℕ) → IsLeastOf (key_at a.slots) bound xs least → IsLeastOf (key_at a.slots) bound (xs ++ slot ∷ []) new) → IsScanned a bound first before r new
   scan_step at r least new slot c e next s more =
@@ -116,9 +113,6 @@ module _ (a : ArenaState) (bound : Option (List ℕ)) (first before : Option ℕ
 
 -- over all chains
 module _ (a : ArenaState) (bound : Option (List ℕ)) (heads : List (Option ℕ)) where
-  pub gather_start : IsGathered a bound heads heads None
-  gather_start = record { done = []; split = refl; least_of = λ j h. absurd (omega arith) }
-
   pub gather_step : (o : Option ℕ) (rest : List (Option ℕ)) (least new : Option ℕ) → IsGathered a bound heads (o ∷ rest) least →
       ((xs : List ℕ) → IsLeastOf (key_at a.slots) bound xs least → IsLeastOf (key_at a.slots) bound (xs ++ chain_of a o) new) → IsGathered a bound heads rest new
   gather_step o rest least new g more = record {
@@ -126,9 +120,6 @@ module _ (a : ArenaState) (bound : Option (List ℕ)) (heads : List (Option ℕ)
     split = g.split ∙ sym (append_assoc g.done (chain_of a o) (slots_from (length a.slots) (link_at a.links) rest));
     least_of = more g.done g.least_of;
   }
-
-  pub gather_end : (least : Option ℕ) → IsGathered a bound heads [] least → IsLeastOf (key_at a.slots) bound (chained_slots heads a) least
-  gather_end least g = subst (λ l. IsLeastOf (key_at a.slots) bound l least) (sym (g.split ∙ append-nil g.done)) g.least_of
 
 -- empty chains
 slots_of_none : (count n : ℕ) (next : ℕ → Option ℕ) → slots_from n next (replicate count None) ≡ []

@@ -141,9 +141,6 @@ module _ (key : ℕ → List ℕ) (xs : List ℕ) (k : List ℕ) (p : ℕ) where
       ]
 
 module _ (key : ℕ → List ℕ) (xs : List ℕ) (bound : Option (List ℕ)) (p : ℕ) where
-  pub all_above : bound ≡ None → p ≡ 0 → IsPositionAbove key xs bound p
-  all_above e z = subst (λ b. IsPositionAbove key xs b p) (sym e) (record { below = λ i s l. absurd (omega arith); above = λ i s l g. tt })
-
   pub least_there : (s : ℕ) → IsAscending key xs → IsPositionAbove key xs bound p → slice_get xs p ≡ Some s → IsLeastOf key bound xs (Some s)
   least_there s asc f at = (
     held_at xs p s at,

@@ -41,7 +41,7 @@ use Rattle.kind_tests.specs.Tests.{AreAll}
 use Rattle.memory_effects.specs.declared.region.Address.{Address}
 use Rattle.memory_effects.specs.declared.reads.Reads.{Reads}
 use Rattle.memory_effects.specs.declared.reads.Reads.TheVariants as reads
-use Rattle.memory_effects.specs.Accesses.{ReachesFrame, ReadsBytes, ReadsParts, IsReadByLoad, read_kind}
+use Rattle.memory_effects.specs.Accesses.{ReachesFrame, ReadsParts, IsReadByLoad, read_kind}
 
 -- A load through a value finds a number of so many bytes, and no element.
 pub record Finds (env : Environment) (m : State) (width : ℕ) (offset : ℤ) (v : Value) : Type 0 where
@@ -169,9 +169,6 @@ parts_at f at kind e all spill j l =
 module _ (a : StateHere) (from : Address) (width : Width) (start : ℤ) (at : ℕ) (base : kind_in a.regs from.base ≡ kinds.Frame start) (place : region_offset FRAME_BYTES (byte_count width) (start +ℤ from.offset) ≡ Some at) where
   pub frame_reached : ReachesFrame (state_of a) from.base (byte_count width) from.offset at
   frame_reached = record { start = start; base = ap kind_of base; inside = place }
-
-  pub bytes_read : AreAll a.frame.cells at (byte_count width) class.Byte → ReadsBytes (state_of a) from.base (byte_count width) from.offset
-  bytes_read all = record { at = at; reaches = frame_reached; bytes = λ k l h. ap (cell_of (kind_in a.frame.spills (k / 8))) (all k l h) }
 
   pub parts_read : (kind : RegKind) → at % byte_count width ≡ 0 → byte_count width ≡ 8 → kind_in a.frame.spills (at / 8) ≡ kind → is_pointer kind ≡ true → AreAll a.frame.cells at (byte_count width) class.Part
       → ReadsParts (state_of a) from.base (byte_count width) from.offset (kind_of kind)

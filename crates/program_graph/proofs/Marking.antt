@@ -76,10 +76,6 @@ module _ (program : List Insn) (targets : List (Option ℕ)) (long : length targ
       let to : leads.to ≡ p = same_Some _ _ (sym leads.to_is ∙ there) in
       inr (leads.by, leads.by_is, ap pos (sym to) ∙ leads.sum ∙ ap (λ f. pos (f + 1) +ℤ leads.by) from)
 
-  pub follows_further : (j k : ℕ) (i : Insn) (t : Option ℕ) → slice_get program j ≡ Some i → slice_get targets j ≡ Some t → Follows i t j k → j < k
-  follows_further j k i t e f (inl g) = omega (arith, g.1)
-  follows_further j k i t e f (inr g) = let leads : LeadsTo program j i k = subst (IsTarget program j i) g (all.each j i t e f) in leads.further
-
   pub target_inside : (j k : ℕ) (i : Insn) → slice_get program j ≡ Some i → slice_get targets j ≡ Some (Some k) → k < length program
   target_inside j k i e f = let leads : LeadsTo program j i k = all.each j i (Some k) e f in start-inside program k leads.to leads.to_is
 

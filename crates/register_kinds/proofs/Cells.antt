@@ -13,7 +13,7 @@ use Rattle.register_kinds.specs.declared.kind.CellKind.TheVariants as cells
 use Rattle.register_kinds.specs.declared.frame.FrameCells.{FrameCells}
 use Rattle.register_kinds.specs.declared.state.AbsState.{AbsState as StateHere}
 use Rattle.register_kinds.specs.States.{kind_of, cell_of, kind_at, kind_in, class_in, cell_at, state_of, is_pointer}
-use Rattle.register_kinds.specs.Joined.{joined_class, AreJoined}
+use Rattle.register_kinds.specs.Joined.{joined_class}
 use Rattle.register_kinds.proofs.Pairs.{kind_later}
 use Rattle.register_kinds.specs.Pairs.{IsBelow, AreBelow, PairsGrow, pair_of, JoinsKind, JoinsCell}
 
@@ -86,9 +86,6 @@ module _ (top : ℕ) (before pairs : List (ℕ × ℕ)) (a b c : StateHere) (x :
     left = record { regs = λ r. (kind_later top before pairs x _ _ _ (regs r)).left; cells = λ k. (cells k).left; inside = f };
     right = record { regs = λ r. (kind_later top before pairs x _ _ _ (regs r)).right; cells = λ k. (cells k).right; inside = f ∙ e };
   }
-
-  pub states_exact : AreJoined (state_of a) (state_of b) (state_of c)
-  states_exact = record { regs = λ r. (regs r).exact; cells = λ k. (cells k).exact }
 
   pub states_below : (n : ℕ) → n ≡ top + length pairs → ((g : ℕ) → IsBelow (top + length pairs) (kind_at c.frame.spills g)) → AreBelow n c
   states_below n e spills = record {

@@ -263,10 +263,6 @@ module _ (dst : ℕ) (map : ℤ) (shapes : List MapShape) (a : AbsState) (R : Ki
   map_part l NullTest ready = (let e = ready.insn in absurd cc)
   map_part l ValueLoad ready = absurd (subst (IsValueLoad l.shape) (sym ready.insn) ready.fitting.in_value)
 
-  pub map_ready : ((k : Kind) → R k → ⊥) → IsReadyWithMaps shapes (LoadMap dst map) a → ⊥
-  map_ready never (inl x) = never (MapAt x.0.map) (map_part x.0 x.1 x.2).2
-  map_ready never (inr x) = map_no_section x.0 dst map x.1.insn
-
   pub map_serves : (b : AbsState) → ((k : Kind) → R k → AreAlike (with_kind dst k a) b) → Serves shapes (LoadMap dst map) a b None
   map_serves b alike = record {
     part = λ l p ready. leaves l p ready (map_part l p ready);

@@ -61,14 +61,6 @@ module _ (program : List Insn) (shapes : List MapShape) (start : ℕ) (l : IsGua
   behind NullTest = refl
   behind ValueLoad = ap (λ n. 6 + n) value_load.slots
 
-  pub part_falls : (p : Part) → falls (part_insn (lookup_of l) p) ≡ true
-  part_falls FrameCopy = refl
-  part_falls KeyAddress = refl
-  part_falls MapLoad = refl
-  part_falls LookupCall = refl
-  part_falls NullTest = refl
-  part_falls ValueLoad = value_load.falls_on
-
   pub part_no_byte : (p : Part) (k : ℕ) → WritesByte (part_insn (lookup_of l) p) k → ⊥
   part_no_byte FrameCopy k h = h
   part_no_byte KeyAddress k h = h
