@@ -4,6 +4,7 @@ ghost use Rattle.std.specs.Prelude.{◌≡◌};
 
 use crate::judged::{SHAPE, bytes_of};
 use asm::assemble;
+use bpf_model::MAX_SLOTS;
 use insn_codec::{Program, decode};
 use std::alloc::Global;
 use std::test::Fail;
