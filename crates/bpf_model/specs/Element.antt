@@ -13,8 +13,8 @@ pub data Life : Type 0 where
   Unlinked : (opened : List Section) → Life
   Reclaimed : Life
 
--- An element: its map's number, the bytes of its key and of its value, and which use of its map slot
--- it is, counted from 1.
+-- An element: its map's number, the bytes of its key and of its value, which use of its map slot
+-- it is, counted from 1, and its life.
 pub record Element : Type 0 where
   pub map : ℕ
   pub key : List ℕ

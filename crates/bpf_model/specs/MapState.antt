@@ -1,5 +1,5 @@
--- The state of the maps (Linux BPF documentation, "BPF_MAP_TYPE_HASH"; map slots and their reuse are
--- this runtime's own).
+-- The state of the maps (Linux BPF documentation, "BPF_MAP_TYPE_HASH"; map slots and their reuse
+-- are this runtime's own).
 use Rattle.std.specs.Prelude.{◌≡◌, ℕ, ◌+◌, ◌*◌, ◌≤◌, ◌==◌, List, [], ◌∷◌, ◌++◌, Option, Some, None}
 use Rattle.std.specs.Prelude.{slice_get, replicate, if◌then◌else◌}
 use Rattle.bpf_model.specs.declared.limits.MapShape.{MapShape}
@@ -20,8 +20,8 @@ pub record IsShape (shape : MapShape) : Type 0 where
 abbrev pub AreShapes : List MapShape → Type 0
 AreShapes shapes = (k : ℕ) (shape : MapShape) → slice_get shapes k ≡ Some shape → IsShape shape
 
--- How many map slots a map has, and how many elements are born in them at most: each slot is used so
--- often.
+-- How many map slots a map has, and how many elements are born in them at most: each of them is
+-- used `reuse_limit` times at most.
 abbrev pub slots_of_shape : MapShape → ℕ
 slots_of_shape shape = shape.entries + shape.spare
 

@@ -68,10 +68,11 @@ abbrev pub HasForm : List Insn → List MapShape → ℕ → Insn → Type 0
 HasForm program shapes place i =
     IsPart program shapes place ⊎ ((i ≡ lock_call) ⊎ ((i ≡ unlock_call) ⊎ IsSimple i))
 
--- A path leads to the slot, at whose end a section is open, or none.
+-- the instruction is no lock and no unlock
 abbrev pub Keeps : Insn → Type 0
 Keeps i = ((i ≡ lock_call) → ⊥) × ((i ≡ unlock_call) → ⊥)
 
+-- A path leads to the slot, at whose end a section is open, or none.
 pub data InSection (program : List Insn) : Bool → ℕ → Type 0 where
   section_entry : InSection program false 0
   section_lock : (open_before : Bool) (place target : ℕ) → InSection program open_before place

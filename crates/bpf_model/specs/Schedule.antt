@@ -1,6 +1,6 @@
 -- The choices of this runtime where the machine leaves one: which elements wait, when they may be
--- reclaimed, and which map slot a new one takes (a grace period as in Linux's RCU: it ends when each
--- section that was open at its beginning has ended).
+-- reclaimed, and which map slot a new one takes (a grace period as in Linux's RCU: it ends when
+-- each section that was open at its beginning has ended).
 use Rattle.std.specs.Prelude.{◌≡◌, ℕ, suc, ◌-◌, ◌==◌, ◌&&◌, Bool, true, false, List, [], ◌∷◌, ◌++◌}
 use Rattle.std.specs.Prelude.{Option, Some, None, slice_get, length, map, drop, replicate}
 use Rattle.std.specs.Prelude.{if◌then◌else◌}

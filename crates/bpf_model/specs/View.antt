@@ -12,7 +12,7 @@ use Rattle.bpf_model.specs.declared.insn.Insn.{Insn}
 use Rattle.bpf_model.specs.MapState.{MapState, slots_of_shape}
 use Rattle.bpf_model.specs.Machine.{Loaded}
 
--- what stands in a slot of a map: key and value bytes, and how often the slot was used
+-- what stands in a map slot: key and value bytes, and how often the map slot was used
 pub record SlotView : Type 0 where
   pub key : List ℕ
   pub value : List ℕ
@@ -35,8 +35,8 @@ uses_in (Some s) = s.uses
 abbrev pub uses_at : List SlotView → ℕ → ℕ
 uses_at slots i = uses_in (slice_get slots i)
 
--- A map: its slots, the free ones in the order in which they will be taken, the slot of each key in
--- byte order, and the slots of its unlinked elements in three lists.
+-- A map: its map slots, the free ones in the order in which they will be taken, the map slot of
+-- each key in byte order, and the map slots of its unlinked elements in three lists.
 pub record MapView : Type 0 where
   pub shape : MapShape
   pub slots : List SlotView
@@ -47,15 +47,16 @@ pub record MapView : Type 0 where
   pub ready : List ℕ
   pub worn : ℕ
 
--- What the view shows of the map's state: the bag is the use counts of the free slots.
+-- What the view shows of the map's state: the bag is the use counts of the free map slots.
 abbrev pub map_state_of : MapView → MapState
 map_state_of v = record { shape = v.shape; bag = map (uses_at v.slots) v.free; worn = v.worn }
 
--- a slot that was never used
+-- a map slot that was never used
 abbrev pub unused_slot : SlotView
 unused_slot = record { key = []; value = []; uses = 0 }
 
--- A new map: its slots are all free and are taken in their order, and it has nothing under any key.
+-- A new map: all its map slots are free and are taken in their order, and it has nothing under any
+-- key.
 abbrev pub new_map_view : MapShape → MapView
 new_map_view shape = record {
   shape = shape;

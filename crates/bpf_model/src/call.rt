@@ -16,7 +16,8 @@ pub enum KernelFunction {
     ReadUnlock,
 }
 
-/// Why a map operation is refused. In a register and in an answer the number is negative.
+/// Why a map operation is refused. In r0 the number is negative (`ret_word`), and so it is in the
+/// text of a script's answer.
 #[derive(Clone, Copy, Debug, PartialEq, Eq)]
 pub enum Errno {
     /// ENOENT, 2: the key has no element.

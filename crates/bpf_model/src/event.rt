@@ -92,7 +92,7 @@ pub enum Answer {
     Moved,
     /// A step that ended the run, with its exit value.
     Exited(u64),
-    /// An update or a delete, with its error.
+    /// An update or a delete: done, or its error.
     Ret(Result<(), Errno>),
     /// A read: the value of the key, where it has one.
     Found(Option<ValueBytes>),

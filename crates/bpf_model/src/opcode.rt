@@ -102,6 +102,7 @@ pub enum Opcode {
     Alu(AluCode, Size, Source),
     Negate(Size),
     ByteSwap(ByteOrder),
+    /// The jump by the offset (class JMP, `Word64`) or by the field imm (class JMP32, `Word32`).
     Jump(Size),
     JumpIf(Condition, Size, Source),
     Call,
@@ -110,6 +111,7 @@ pub enum Opcode {
     LoadSigned(SignedWidth),
     /// A store of the field imm (class ST) or of a register (class STX).
     Store(Width, Source),
+    /// The instruction of two slots, with a number of 64 bits or a map (class LD, section 5.4).
     Wide,
     Excluded(Excluded),
 }

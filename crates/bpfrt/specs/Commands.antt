@@ -13,7 +13,8 @@ Writes (Disasm file) old new bytes = WritesText old new bytes
 Writes Script old new bytes = AnswersAll old new bytes
 Writes (Pool workers file count) old new bytes = WritesPool count old new bytes
 
--- Each command refuses in its own way. A script has answers before.
+-- What is so where a command refuses: its file or its numbers are refused; or a line of the script
+-- is bad, and the answers to the lines before are written.
 abbrev pub Refuses : Command → Option (List ℕ) → Option (List ℕ) → List ℕ → Type 0
 Refuses (Check file) old new bytes = IsRefusedByCheck bytes
 Refuses (Disasm file) old new bytes = IsRefusedByDecode bytes

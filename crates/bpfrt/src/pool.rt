@@ -75,8 +75,8 @@ fn pool_of<H: Threads + Wait + Sync>(
     Ok(run)
 }
 
-/// Runs the program that the input's bytes are, writes the lines of its jobs on `out`, and answers the
-/// exit status: 0, 1 where the file or the numbers are refused, 3 for a fault.
+/// Runs the program that the input, a program file, says, writes the lines of its jobs on `out`,
+/// and answers the exit status: 0, 1 where the file or the numbers are refused, 3 for a fault.
 pub fn run_pool<H: Threads + Wait + Sync, R: Read, W: Write, E: Write>(
     rt: &H,
     alloc: Global,

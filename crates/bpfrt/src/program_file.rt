@@ -17,7 +17,8 @@ use std::io::{ErrorKind, Read};
 /// How many bytes are read at once.
 const CHUNK: usize = 4096;
 
-/// How many bytes of a text are kept: 16 MiB. A sound text of `MAX_SLOTS` slots has fewer than 75,000.
+/// Where so many bytes of a text are kept, 16 MiB, no more are taken. A sound text of `MAX_SLOTS`
+/// slots has fewer than 75,000.
 const TEXT_BYTES: usize = 16 << 20;
 
 /// A program, and what it is verified against.
@@ -107,7 +108,8 @@ impl FileBytes {
 }
 
 /// Reads a file to its end. Of a raw file it keeps a program's bytes alone, however long it is; a
-/// text is kept as a whole, and one above `TEXT_BYTES` is want of memory.
+/// text is kept as a whole, and one that goes on where `TEXT_BYTES` or more are kept is want of
+/// memory.
 pub fn read_file<R: Read>(alloc: Global, input: &mut R) -> io::Result<FileBytes>
     ensures { IfOk result (λ file. IfSome (R.remaining input.old) (HoldsBytes file)) }
 {

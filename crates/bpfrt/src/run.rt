@@ -65,7 +65,7 @@ fn write_accepted<W: Write>(out: &mut W, accepted: &Accepted) -> io::Result<()>
     out.flush()
 }
 
-/// Checks the program that the input's bytes are.
+/// Checks the program that the input, a program file, says.
 fn run_check<R: Read, W: Write, E: Write>(
     alloc: Global,
     input: &mut R,
@@ -88,7 +88,7 @@ fn run_check<R: Read, W: Write, E: Write>(
     }
 }
 
-/// Writes the text of the program that the input's bytes are.
+/// Writes the text of the program that the input, a program file, says.
 fn run_disasm<R: Read, W: Write, E: Write>(
     alloc: Global,
     input: &mut R,

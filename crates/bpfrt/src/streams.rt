@@ -32,7 +32,7 @@ pub fn write_text<W: Write>(out: &mut W, text: &[u8]) -> io::Result<()>
     out.flush()
 }
 
-/// The status of an output that was written, or whose writing failed.
+/// The status of an output that was written, or whose writing failed, which is told on `err`.
 pub fn written<E: Write>(err: &mut E, outcome: io::Result<()>) -> u8
     ensures { MatchResult outcome (λ _. result ≡ 0) (λ _. result ≡ 3) }
 {

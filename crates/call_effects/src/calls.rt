@@ -178,7 +178,7 @@ fn call_helper(
 ///
 /// Errors: `UnknownCall`; then `UnpairedSection`, or `OutsideSection` of a lookup; then those of
 /// the arguments, from r1 on, each first as a register that is read, then `WrongArgument`,
-/// `OutOfBounds` and its bytes. The state is then as it was.
+/// `NoSuchMap` of a map, `OutOfBounds` and its bytes. The state is then as it was.
 pub fn call(
     state: &mut AbsState,
     kind: CallKind,

@@ -28,8 +28,10 @@ pub fn fork_equal(state: &mut AbsState, alloc: Global, id: u32) -> Result<Box<Ab
     Ok(taken)
 }
 
-/// Both edges of a comparison that jumps where what may be null is not equal to the number 0, as
-/// `fork_equal`.
+/// Both edges of a comparison of 64 bits that jumps where what may be null is not equal to the
+/// number 0. Where it is null, all registers and all bytes of the frame of its identity are 0;
+/// elsewhere they are the element's value. The state itself becomes that where control falls
+/// through, the answer is that where it jumps. Fails where memory runs out.
 pub fn fork_not_equal(
     state: &mut AbsState,
     alloc: Global,

@@ -92,7 +92,11 @@ pub fn alu(
     Ok(())
 }
 
-/// An operation of one operand, a number. Errors as `alu`.
+/// An operation of one operand, a number.
+///
+/// Errors, in this order; the state is then as it was: `FramePointerWritten` where it sets r10;
+/// `UnwrittenRegister`, `OutsideSection`, `MixedRegions` where the register that it reads is so;
+/// `MaybeNull` or `PointerArithmetic` where that holds what may be null, or a reference or a map.
 pub fn unary(state: &mut AbsState, op: &UnaryOp, dst: Reg) -> Result<(), Fault>
     ensures sound { OnOk result (PerformsComputation (Insn.Unary op.now dst) state.old state.new) }
     ensures numbers { (10 ≡ dst → ⊥) → HasNumber (state_of state.old) (unary_source op.now dst)

@@ -99,7 +99,8 @@ pub(crate) fn copied(size: Size, kind: RegKind) -> Result<RegKind, Fault>
     }
 }
 
-/// What a second operand may be. Errors: those of a register that is read.
+/// What a second operand may be. Errors: `UnwrittenRegister`, `OutsideSection`, `MixedRegions`
+/// where it is a register that is so.
 pub fn operand(state: &AbsState, src: &Operand) -> Result<RegKind, Fault>
     ensures value { IfOk result (λ k. HasValue (state_of state.now) src.now (kind_of k)) }
     ensures written { IfOk result (λ k. IsWritten (kind_of k)) }

@@ -15,10 +15,12 @@ threaded_lists x a = record {
   ready = line_slots a x.ready;
 }
 
+-- the line is that of the list: the links lead from its first slot through the list's to its last
 pub record IsLine (links : ℕ → Option ℕ) (l : Line) (xs : List ℕ) : Type 0 where
   pub thread : IsThread links l.first xs
   pub ends : l.last ≡ last_slot_of xs
 
+-- The three lines are those of these lists; a slot stands in them once at most, and is taken.
 pub record FitsAs (x : Threaded) (a : ArenaState) (q : Queues) : Type 0 where
   pub next : IsLine (link_at a.links) x.next q.next
   pub waiting : IsLine (link_at a.links) x.waiting q.waiting

@@ -12,6 +12,7 @@ abbrev pub joined_from : Option ℕ → Line → Line → Line
 joined_from None front back = back
 joined_from (Some l) front back = joined_to front back.last
 
+-- two lines as one, the second behind the first; an empty one adds nothing
 abbrev pub joined_lines : Line → Line → Line
 joined_lines front back = joined_from front.last front back
 

@@ -10,6 +10,7 @@ use Rattle.deferred_free.specs.declared.vectors.Vectors.{Vectors}
 abbrev pub vectors_lists : Vectors → ArenaState → Queues
 vectors_lists x a = record { next = x.next.items; waiting = x.waiting.items; ready = x.ready.items }
 
+-- Each vector has room for all slots; a slot stands in them once at most, and is taken.
 pub record VectorsFits (x : Vectors) (a : ArenaState) : Type 0 where
   pub next_room : length a.slots ≤ deque_capacity x.next
   pub waiting_room : length a.slots ≤ deque_capacity x.waiting

@@ -11,16 +11,22 @@ pub enum Mnemonic {
     MoveSigned(Size),
     Negate(Size),
     ByteSwap(ByteOrder, SwapWidth),
+    /// `lddw`: a number of 64 bits.
     LoadNumber,
+    /// `ldmap`: a map, by its index in the program's list.
     LoadMap,
+    /// `ja`
     Jump,
+    /// `ja32`: the jump whose distance stands in imm.
     JumpLong,
     JumpIf(Condition, Size),
     Call(CallKind),
     Exit,
     Load(Width),
     LoadSigned(SignedWidth),
+    /// `st`: a store of the field imm.
     Store(Width),
+    /// `stx`: a store of a register.
     StoreRegister(Width),
 }
 

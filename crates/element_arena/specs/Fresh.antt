@@ -4,6 +4,7 @@ use Rattle.std.specs.List.{range_with_len}
 use Rattle.element_arena.specs.declared.cell.Standing.TheVariants.{Free}
 use Rattle.element_arena.specs.declared.cell.SlotCell.{SlotCell}
 
+-- the number, where it is below the other
 abbrev pub below : ℕ → ℕ → Option ℕ
 below i n = if nat_lt i n then Some i else None
 

@@ -103,14 +103,17 @@ pub record IsLaidOut (cells : List SlotCell) (keys values : List ℕ) (key_len v
   pub key_bound : key_len ≤ KEY_BYTES
   pub value_bound : value_len ≤ VALUE_BYTES
 
+-- the cell of a slot that was given back once more
 abbrev pub given_cell : SlotCell → Standing → SlotCell
 given_cell c standing =
     record { uses = c.uses; generation = c.generation + 1; standing = standing; link = None }
 
+-- the last slot of a list whose first one, with this link, leaves it; none where it had no link
 abbrev pub last_left : Option ℕ → Option ℕ → Option ℕ
 last_left None last = None
 last_left (Some i) last = last
 
+-- the first slot of a list to which one is added at the end: that one, where there was no last
 abbrev pub first_with : Option ℕ → Option ℕ → ℕ → Option ℕ
 first_with first None i = Some i
 first_with first (Some l) i = first
@@ -119,6 +122,7 @@ abbrev pub relinked : List SlotCell → ℕ → Option ℕ → Option SlotCell �
 relinked cells l to None = cells
 relinked cells l to (Some c) = slice_set cells l (record c { link = to })
 
+-- the cells once the last slot of a list, if there is one, is linked to one more
 abbrev pub linked_behind : List SlotCell → Option ℕ → ℕ → List SlotCell
 linked_behind cells None i = cells
 linked_behind cells (Some l) i = relinked cells l (Some i) (slice_get cells l)

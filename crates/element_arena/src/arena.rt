@@ -57,9 +57,9 @@ impl Model for Arena {
 }
 
 impl Arena {
-    /// An arena of so many slots, all free, in ascending order. Keys have `key_len` bytes and values
-    /// `value_len`, and a slot may be used `limit` times. Fails where memory runs out; no later call but
-    /// `copy` takes any.
+    /// An arena of so many slots, all free, in ascending order. Keys have `key_len` bytes, at most
+    /// `KEY_BYTES`, and values `value_len`, at most `VALUE_BYTES`; a slot may be used `limit`
+    /// times, at least once. Fails where memory runs out; no later call but `copy` takes any.
     pub fn new(
         alloc: Global,
         slots: usize,

@@ -5,7 +5,7 @@ ghost use Rattle.element_arena.specs.Fresh.{below, fresh_cells};
 use crate::cell::{SlotCell, Standing};
 use std::alloc::{AllocError, Global};
 
-/// The slot, where there are more than so many.
+/// The slot, where it is one of so many from 0 on; else `None`.
 pub(crate) fn below(slot: usize, slots: usize) -> Option<usize>
     ensures { result ≡ below slot slots }
 {

@@ -1,4 +1,4 @@
--- Chains of slots, and the slots of many chains.
+-- The hash of a key and its bucket, and chains of slots.
 use Rattle.std.specs.Int.{from_le_bytes, w64}
 use Rattle.std.specs.Prelude.{◌≡◌, ℕ, zero, suc, ◌+◌, ◌<◌, ◌-◌, ◌*◌, ◌/◌, ◌%◌, ◌^◌, bit_and}
 use Rattle.std.specs.Prelude.{bit_xor}
@@ -30,6 +30,7 @@ abbrev pub words_hash : ℕ → ℕ → List ℕ → ℕ
 words_hash zero h bytes = bytes_hash h bytes
 words_hash (suc n) h bytes = words_hash n (mixed_hash h (hashed_word bytes)) (drop 8 bytes)
 
+-- the hash of a key: its whole words first, then the bytes that are left
 abbrev pub hash_of : List ℕ → ℕ
 hash_of key = words_hash (length key / 8) FNV_OFFSET key
 

@@ -59,8 +59,9 @@ fn hash(key: &[u8]) -> u64
     hash_bytes(hash, rest)
 }
 
-/// The bucket of a key, of so many, which are a power of two. The hash is multiplied once more, and the bits
-/// taken from the middle on: so keys that differ in their last bytes alone do not share a bucket.
+/// The bucket of a key, of so many, which are a power of two. The hash is multiplied once more,
+/// and the bits taken from bit 32 on: else keys that differ in the last two of eight bytes alone
+/// would share a bucket. Nothing is promised of how keys spread.
 pub(crate) fn bucket(key: &[u8], count: usize) -> usize
     requires { 0 < count }
     ensures bucket { result ≡ bucket_of count key.now }

@@ -64,7 +64,8 @@ impl Program {
         }
     }
 
-    /// The program of these instructions. An error says that an allocation failed.
+    /// The program of these instructions, which take 1 to `MAX_SLOTS` slots and whose fields are
+    /// in their ranges. An error says that an allocation failed.
     pub fn from_instructions(alloc: Global, instructions: Vec<Insn>) -> Result<Program, AllocError>
         requires { IsProgram instructions.items }
         ensures { IfOk result (λ p. p ≡ instructions.items) }

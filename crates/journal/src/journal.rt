@@ -18,7 +18,7 @@ use std::marker::Model;
 const ENTRY_BYTES: usize = KEY_BYTES + VALUE_BYTES;
 
 /// What workers asked and were answered, in order: at most `limit` entries. Contracts see the
-/// entries.
+/// entries, the limit, and whether one more can be added without memory.
 ///
 /// An entry takes 32 bytes, and further those of the keys, values and contexts that it has.
 #[derive(Drop)]
@@ -117,7 +117,8 @@ impl Journal {
         Ok(())
     }
 
-    /// Adds an entry where there is room for it. It takes no memory.
+    /// Adds an entry, for which there is room, and whose answer is of a kind that its event may
+    /// have. It takes no memory.
     pub fn push(&mut self, entry: &Entry)
         requires room { self.old.has_room ≡ true }
         requires answer { IsAnswerTo entry.now.event entry.now.answer }
@@ -127,8 +128,9 @@ impl Journal {
         self.push_answer(entry.worker, &entry.event, &entry.answer);
     }
 
-    /// Adds the entry of this worker, event and answer where there is room for it. It takes no memory, and
-    /// copies the event's and the answer's bytes: both stay where they are.
+    /// Adds the entry of this worker, event and answer, for which there is room; the answer is of a
+    /// kind that the event may have. It takes no memory, and copies the event's and the answer's
+    /// bytes: both stay where they are.
     pub fn push_answer(&mut self, worker: u8, event: &Event, answer: &Answer)
         requires room { self.old.has_room ≡ true }
         requires answer { IsAnswerTo event.now answer.now }

@@ -1,6 +1,7 @@
 //! The journal: who asked what of the world, and what was answered, in order.
 //!
-//! Contracts see it as the plain list of its entries.
+//! Contracts see its entries as a plain list, how many it may have, and whether one more can be
+//! added without memory.
 #![tactic(auto)]
 
 mod bytes;

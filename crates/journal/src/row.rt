@@ -29,9 +29,9 @@ impl Outcome {
     }
 }
 
-/// An entry without its bytes: those begin at `start`, first the key or the context of the event, then
-/// its value, or that of the answer. Shorter fields come before longer ones, so that a row takes 32
-/// bytes.
+/// An entry without its bytes: those begin at `start`, first the key or the context, then the
+/// value, each of the event or of the answer. Shorter fields come before longer ones, so that a
+/// row takes 32 bytes.
 #[derive(Clone, Copy, Debug)]
 pub(crate) enum Row {
     Started {

@@ -41,9 +41,10 @@ entries_by worker entries = filter (λ e. e.worker == worker) entries
 abbrev pub share_of : List Entry → ℕ → ℕ
 share_of entries worker = length (entries_by worker entries)
 
--- Each entry is of one of so many workers, and the shares of all of them.
+-- Each entry is of one of so many workers.
 abbrev pub AreOf : ℕ → List Entry → Type 0
 AreOf workers entries = (k : ℕ) (e : Entry) → slice_get entries k ≡ Some e → e.worker < workers
 
+-- the shares of so many workers, added up
 abbrev pub shares : ℕ → List Entry → ℕ
 shares workers entries = sum_by (share_of entries) (range_with_len 0 workers)

@@ -66,8 +66,9 @@ pub fn check_bytes(frame: &FrameCells, at: usize, width: usize) -> Result<(), Fa
     Ok(())
 }
 
-/// What a load of so many bytes gives. Errors as `check_bytes`, but that the eight parts of one
-/// reference give the reference.
+/// What a load of so many bytes gives: a number, or the reference whose eight parts are read.
+/// Errors, in this order: `UnwrittenFrame`, `OutsideSection`, `MixedRegions` where some byte is so,
+/// `PointerLeak` where one is part of a reference that is not read whole.
 pub fn read_frame(frame: &FrameCells, at: usize, width: usize) -> Result<Content, Fault>
     requires { at + width ≤ FRAME_BYTES }
     ensures number { IfOk result (λ c. c ≡ Content.Number

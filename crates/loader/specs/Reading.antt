@@ -47,6 +47,7 @@ pub record AreMapsSoFar (lines : List (List ℕ)) (context : ℕ) (registry : Re
   pub context_is : IsContextLine first context
   pub maps : AddMaps no_maps map_lines registry
 
+-- what the lines before a stage say: nothing, a context and maps, or a program file
 abbrev pub IsAtStage : Stage → List (List ℕ) → FileContent → Type 0
 IsAtStage Context lines c = (lines ≡ []) × (c.registry ≡ no_maps) × (c.code ≡ [])
 IsAtStage Maps lines c = AreMapsSoFar lines c.context c.registry × (c.code ≡ [])

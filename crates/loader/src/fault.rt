@@ -29,7 +29,7 @@ impl LoadFault {
         }
     }
 
-    /// The line, where the fault is of one.
+    /// The line, counted from 1, where the fault is of one.
     pub fn line(self) -> Option<usize>
         ensures { result ≡ load_fault_line self }
     {

@@ -17,7 +17,7 @@ pub const HEADING: &[u8] = b"bpfrt 1\n";
 /// What a program file says.
 #[derive(Drop)]
 pub struct ProgramFile {
-    /// The bytes of the program's context, at most `CTX_BYTES`.
+    /// How many bytes the program's context has, at most `CTX_BYTES`.
     pub ctx_len: usize,
     /// The file's maps, without elements; the program names each by its number here.
     pub registry: Registry,

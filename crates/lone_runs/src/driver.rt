@@ -15,7 +15,8 @@ pub struct Finished {
     pub steps: usize,
 }
 
-/// Runs a program that was verified with no maps on a context to its exit.
+/// Runs a program that was verified with no maps, on a context of the length that it was verified
+/// for, to its exit. It takes no memory and cannot fail.
 ///
 /// The value and the steps are those of the program's definition, which has no others, whatever other
 /// actors do; and the steps are at most as many as it has instructions.

@@ -15,7 +15,8 @@ pub enum Step {
     Exit(u64),
 }
 
-/// A run of the program on a context that has made no step.
+/// A run that has made no step, of a program that was verified with no maps, on a context of the
+/// length that it was verified for.
 pub fn start_alone(verified: &Verified, ctx: &CtxBytes) -> Run
     requires maps { verified.now.shapes ≡ [] }
     requires context { length ctx.now.items ≡ verified.now.ctx_len }

@@ -1,5 +1,5 @@
-//! Where memory stands among the words: regions begin at multiples of `SPAN`, first the context, the frame
-//! and the maps themselves, then the slots of the maps.
+//! Where memory stands among the words: regions begin at multiples of `SPAN`, first the context,
+//! the frame and the maps themselves, then the map slots.
 
 /// Regions begin at multiples of this.
 pub const SPAN: u64 = 1 << 31;

@@ -1,6 +1,6 @@
 -- The maps of a registry, in order of creation, each with its name.
-use Rattle.std.specs.Prelude.{ℕ, Bool, false, not, ◌&&◌, ◌||◌, ◌==◌, if◌then◌else◌, List, [], length}
-use Rattle.std.specs.Prelude.{Option, Some, None, slice_get, bytes_eq, nat_le, refl}
+use Rattle.std.specs.Prelude.{ℕ, Bool, false, not, ◌&&◌, ◌||◌, ◌==◌, if◌then◌else◌, List, []}
+use Rattle.std.specs.Prelude.{length, Option, Some, None, slice_get, bytes_eq, nat_le, refl}
 use Rattle.std.specs.List.{list_any, list_all}
 use Rattle.bpf_model.specs.declared.limits.MapShape.{MapShape}
 use Rattle.bpf_model.specs.declared.limits.TheConstants.{MAX_MAPS, KEY_BYTES, VALUE_BYTES}

@@ -5,8 +5,8 @@ ghost use Rattle.maps.specs.Counting.{counts_linked, counts_reaped};
 
 use bpf_model::Given;
 
-/// How many elements are linked, how many are unlinked and not yet reclaimed, and how many slots are worn
-/// out.
+/// How many elements are linked, how many are unlinked and not yet reclaimed, and how many map
+/// slots are worn out.
 #[derive(Clone, Copy, Debug, PartialEq, Eq)]
 pub struct Counts {
     pub linked: usize,

@@ -21,8 +21,8 @@ use hash_index::Index;
 use std::alloc::{AllocError, Global};
 use std::marker::Model;
 
-/// Elements by key, in slots that were all allocated when the map was made. An element that is unlinked
-/// keeps its slot until a grace period has passed.
+/// Elements by key, in map slots that were all allocated when the map was made. An element that is
+/// unlinked keeps its map slot until a grace period has passed.
 #[derive(Drop)]
 pub struct HashMap<I: Index, D: Deferred> {
     shape: MapShape,
@@ -79,7 +79,7 @@ impl<I: Index, D: Deferred> HashMap<I, D> {
         let _shape = &self.shape;
     }
 
-    /// The slot of a key. A key of another length than the map's has none.
+    /// The map slot of a key. A key of another length than the map's has none.
     pub fn lookup(&self, key: &[u8]) -> Option<usize>
         ensures slot { result ≡ map.get self.now.index key.now }
         ensures inside { IfSome result (λ i. i < MAX_ENTRIES + MAX_SPARE) }
@@ -109,7 +109,7 @@ impl<I: Index, D: Deferred> HashMap<I, D> {
         }
     }
 
-    /// How many elements are linked and unlinked, and how many slots are worn out.
+    /// How many elements are linked and unlinked, and how many map slots are worn out.
     pub fn counts(&self) -> Counts
         ensures value { result ≡ counts_of self.now }
         ensures linked { result.linked ≤ MAX_ENTRIES + MAX_SPARE }
@@ -120,10 +120,13 @@ impl<I: Index, D: Deferred> HashMap<I, D> {
         self.counts
     }
 
-    /// Links a new element under a key, in the slot that has been free longest. The element that the key
-    /// had is unlinked. Flags: any (0), only a new key (1), only a present one (2). Refused, in this order:
-    /// `InvalidArgument` for other flags, `Exists`, `NoEntry`, `TooBig` where the map has as many elements
-    /// as its shape allows, and `NoMemory` where no slot is free. It takes no memory.
+    /// Links a new element under a key, in the map slot that has been free longest; key and value
+    /// have the lengths of the map's shape. The element that the key had is unlinked. Flags: any
+    /// (0), only a new key (1), only a present one (2). It takes no memory.
+    ///
+    /// Errors, in this order, and then nothing has changed: `InvalidArgument` for other flags;
+    /// `Exists` and `NoEntry` by the flags; `TooBig` for a new key, where the map has as many
+    /// elements as its shape allows; `NoMemory` where no map slot is free.
     pub fn update(&mut self, key: &[u8], value: &[u8], flags: u64) -> Result<(), Errno>
         requires key { length key.now ≡ self.old.shape.key_len }
         requires value { length value.now ≡ self.old.shape.value_len }
@@ -165,7 +168,8 @@ impl<I: Index, D: Deferred> HashMap<I, D> {
         }
     }
 
-    /// Unlinks the element of a key. `NoEntry` where the key has none. It takes no memory.
+    /// Unlinks the element of a key. `NoEntry`, and then nothing has changed, where the key has
+    /// none; a key of another length than the map's has none. It takes no memory.
     pub fn delete(&mut self, key: &[u8]) -> Result<(), Errno>
         ensures result { result ≡ (deleted self.old key.now).0 }
         ensures new { self.new ≡ (deleted self.old key.now).1 }
@@ -210,7 +214,8 @@ impl<I: Index, D: Deferred> HashMap<I, D> {
         }
     }
 
-    /// The number in the value of an element, from an offset in bytes on.
+    /// The little-endian number in the value of the element in a map slot, from an offset in bytes
+    /// on.
     pub fn load(&self, slot: usize, offset: usize, width: Width) -> u64
         requires occupied { IsOccupied self.now slot }
         requires inside { offset + byte_count width ≤ self.now.shape.value_len }
@@ -220,7 +225,8 @@ impl<I: Index, D: Deferred> HashMap<I, D> {
         self.parts.load(slot, offset, width)
     }
 
-    /// Stores the low bytes of a number in the value of an element, from an offset in bytes on.
+    /// Stores the low bytes of a number in the value of the element in a map slot, from an offset
+    /// in bytes on.
     pub fn store(&mut self, slot: usize, offset: usize, width: Width, number: u64)
         requires occupied { IsOccupied self.old slot }
         requires inside { offset + byte_count width ≤ self.old.shape.value_len }
@@ -230,7 +236,7 @@ impl<I: Index, D: Deferred> HashMap<I, D> {
         self.parts.store(slot, offset, width, number);
     }
 
-    /// The value of an element.
+    /// The value of the element in a map slot.
     pub fn value(&self, slot: usize) -> ValueBytes
         requires { IsOccupied self.now slot }
         ensures { result.items ≡ value_at self.now.slots slot }

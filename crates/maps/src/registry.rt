@@ -183,7 +183,7 @@ impl Registry {
         Ok(MapId::new(number))
     }
 
-    /// The number of the map of this name.
+    /// The number of the map of this name; `None` where no map has it.
     #[tactic(auto, using(crate::proofs::Names::position_named))]
     pub fn id(&self, name: &str) -> Option<MapId>
         ensures { result ≡ position (bytes_eq name.now) self.now.names }

@@ -52,7 +52,8 @@ pub fn load(
     Ok(reads.region())
 }
 
-/// A load that extends the sign, of a number. Errors as `load`.
+/// A load that extends the sign, of a number. The answer is the region that is read. Errors: those
+/// of `load`, in that order; the state is then as it was.
 pub fn load_signed(
     state: &mut AbsState,
     width: SignedWidth,

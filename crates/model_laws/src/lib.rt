@@ -204,8 +204,8 @@ pub fn reap_steps()
         (new : Schedule) × DoesScheduled s Event.Reap (Answer.Reaped (Some taken)) new }
 {}
 
-/// In each state that is reached from the start, each slot of a map is free, holds an element that is not
-/// reclaimed, or is worn out.
+/// In each state that is reached from the start, a map's free map slots, its elements that are not
+/// reclaimed, and its worn-out map slots are together as many as all its map slots.
 pub fn slots_accounted()
     ensures { (shapes : List MapShape) (programs : List Loaded) (s : Schedule) (k : ℕ)
         (m : MapState) →
@@ -213,8 +213,8 @@ pub fn slots_accounted()
         length m.bag + kept_count k s.machine.store.elements + m.worn ≡ slots_of_shape m.shape }
 {}
 
-/// In each state that is reached from the start a map has no free slot exactly when its linked
-/// elements, its unlinked ones and its worn-out slots are as many as all its slots.
+/// In each state that is reached from the start a map has no free map slot exactly when its linked
+/// elements, its unlinked ones and its worn-out map slots are as many as all its map slots.
 pub fn enomem_exactly()
     ensures { (shapes : List MapShape) (programs : List Loaded) (s : Schedule) (k : ℕ)
         (m : MapState) →
@@ -223,7 +223,8 @@ pub fn enomem_exactly()
 {}
 
 /// In each state that is reached from the start an update answers that there is no memory only when the
-/// map's linked, unlinked and worn-out slots are all its slots, and none succeeds while they are.
+/// map's linked and unlinked elements and its worn-out map slots are as many as all its map slots,
+/// and none succeeds while they are.
 pub fn no_memory_when_full()
     ensures { (shapes : List MapShape) (programs : List Loaded) (s : Schedule) (k : ℕ)
         (m : MapState)
@@ -235,7 +236,7 @@ pub fn no_memory_when_full()
 {}
 
 /// In each state that is reached from the start no more elements were born in a map than its slots can
-/// bear: each of them is used so often.
+/// bear, of which each is used at most as often as the map's shape says.
 pub fn births_bounded()
     ensures { (shapes : List MapShape) (programs : List Loaded) (s : Schedule) (k : ℕ)
         (m : MapState) →

@@ -76,14 +76,14 @@ pub record PerformsInsn (i : Insn) (env : Environment) (old : PlainRun) (answer 
     (new : PlainRun) : Type 0 where
   pub comes : Comes (after i env (plain_state_of old)) answer old new
 
--- A run by itself steps by the instruction that begins at its place; where none begins, or that does
--- nothing by itself, it is stuck.
+-- A run by itself steps by the instruction that begins at its place; where none begins, or that
+-- does nothing by itself, it is stuck.
 abbrev pub StepsByItself : List Insn → Environment → State → Outcome → Type 0
 StepsByItself program env m out =
     (i : Insn) × (insn_at program m.place ≡ Some i) × (after i env m ≡ Some out)
 
--- The answer is that step. A stuck run has none, and out of range is a step to a far reference;
--- only a run that moves changes.
+-- The answer tells the step that the run makes by itself: `Stuck` that it has none, and
+-- `OutOfRange` that it would lead to a far reference; only a run that moves changes.
 abbrev pub TellsStep : List Insn → Environment → PlainRun → Progress → PlainRun → Type 0
 TellsStep program env old Moved new =
     StepsByItself program env (plain_state_of old) (Moves (plain_state_of new))

@@ -14,7 +14,7 @@ pub data Walks (program : List Insn) (env : Environment) (from : State) : ℕ �
       StepsByItself program env m (Moves next) → Walks program env from (suc steps) next
 
 -- How a run that was given so many steps ended: after fewer of them its next step was an exit, was
--- none, or led to a far reference.
+-- none, or led to a far reference; or it made them all.
 abbrev pub EndsAs : List Insn → Environment → State → ℕ → Ending → Type 0
 EndsAs program env from limit (Exited n) =
     (steps : ℕ) × (m : State) × (steps < limit) × Walks program env from steps m

@@ -224,7 +224,9 @@ impl PlainRun {
         }
     }
 
-    /// What an instruction does to the run by itself. `Stuck` where it does nothing, as a call.
+    /// What an instruction does to the run by itself, on this context and with so many maps.
+    /// `Stuck` where it does nothing, as a call; `OutOfRange` where a register would hold a
+    /// reference whose offset leaves 64 bits. Only a run that moves changes.
     pub fn perform(&mut self, insn: &Insn, context: &[u8], maps: usize) -> Progress
         requires place { self.old.place < 2 ^ 40 }
         requires context { length context.now ≤ CTX_BYTES }

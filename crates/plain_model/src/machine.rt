@@ -88,7 +88,8 @@ fn none_awaited(alloc: Global) -> Result<Vec<bool>, AllocError>
 }
 
 impl Machine {
-    /// Maps of these shapes with nothing in them, these programs, and no run.
+    /// Maps of these shapes with nothing in them, these programs, and no run. Fails where memory
+    /// runs out.
     pub fn new(
         alloc: Global,
         shapes: &[MapShape],

@@ -111,7 +111,7 @@ fn step_run(
 
 /// A step of the run in a run slot. Errors: `Stuck` where the run has no step, or its program is not
 /// there; `OutOfRange` where a count or an offset leaves 64 bits, where the run's place is 2^40 or
-/// above, and where no run has the slot; `Memory`.
+/// above, and where no run is in the run slot; `Memory`.
 pub fn step_slot(
     alloc: Global,
     slot: &mut Option<Run>,

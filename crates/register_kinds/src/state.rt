@@ -66,8 +66,9 @@ impl AbsState {
         Ok(Box::new(alloc, *self)?)
     }
 
-    /// What is known where control comes from either state. Each pair of different identities that
-    /// meets gets one new identity, so a join takes at most `MAX_PAIRS`.
+    /// What is known where control comes from either state, both with a section open or both with
+    /// none. Each pair of different identities that meets gets one new identity, so a join takes at
+    /// most `MAX_PAIRS`.
     pub fn join(&mut self, other: &AbsState, ids: &mut Identities)
         requires section { self.old.inside ≡ other.now.inside }
         requires room { ids.old.next + MAX_PAIRS < 2 ^ 32 }

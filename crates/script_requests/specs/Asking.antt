@@ -22,7 +22,8 @@ abbrev pub of_length : Bytes (ArrayVec ℕ) → (ArrayVec ℕ → Asked) → Ask
 of_length (Fit bytes) f = f bytes
 of_length TooLong f = asked.Refused BadLength
 
--- Whether a context that is longer than any is that of a program is for the world to say.
+-- A start on a context that is longer than any is refused; that the program isn't there, which the
+-- world knows, is told first.
 abbrev pub start_on : ℕ → Bytes (ArrayVec ℕ) → Asked
 start_on prog (Fit ctx) = asked.Event (events.Start prog ctx)
 start_on prog TooLong = asked.Overlong prog

@@ -30,7 +30,7 @@ impl NameTable {
         }
     }
 
-    /// The map of a name.
+    /// The map of a name; `None` where no map has it.
     pub fn find(&self, name: &[u8]) -> Option<MapId>
         ensures { IsMapOf self.now name.now result }
     {

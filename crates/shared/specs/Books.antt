@@ -36,6 +36,7 @@ pub record AreBalanced (b : BooksView) (total : ℕ) : Type 0 where
   pub few_unlinked : b.tally.totals.unlinked ≤ total
   pub few_reclaimed : b.tally.totals.reclaimed ≤ total
 
+-- a worker: its number, how many entries it has made, and how many parts of the ledger it has
 pub record WorkerView : Type 0 where
   pub number : ℕ
   pub made : ℕ

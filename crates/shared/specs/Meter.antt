@@ -12,6 +12,8 @@ pub record IsKnownOf (v : MeterView) (words : List ℕ) : Type 0 where
   pub unlinked : v.unlinked ≤ slice_index words 1
   pub reclaimed : v.reclaimed ≤ slice_index words 2
 
+-- the view of one pass is no more than the words, and the same where it writes, as only one seat's
+-- does
 pub record FitsMeter (seat : ℕ) (words : List ℕ) (by : ℕ) (v : MeterView) : Type 0 where
   pub known : IsKnownOf v words
   pub own : v.writes ≡ true → by ≡ seat

@@ -49,8 +49,9 @@ fn world_of(alloc: Global, registry: Registry, verified: Verified) -> Result<Wor
 }
 
 impl<L: Ledger> Shared<L> {
-    /// Shares a world of new maps and of one program that was verified with them. The error is that there is no
-    /// memory left.
+    /// Shares a world of new maps and of one program that was verified with them, among 1 to
+    /// `MAX_WORKERS` workers. The ledger has one part for each worker. The error is that there is
+    /// no memory left.
     pub fn of_program(
         alloc: Global,
         registry: Registry,

@@ -110,7 +110,12 @@ impl<L: Ledger> Shared<L> {
         state.act_noted(rt, worker, event)
     }
 
-    /// As `act_noted`, with the answer alone.
+    /// Applies one event, and gives its answer. It waits for the lock, and takes no memory but the
+    /// journal's.
+    ///
+    /// It is an error, and then nothing has changed, where the journal has no room (`JournalFull`)
+    /// or memory was refused (`Memory`). The contract says what an answer is, and not when there is
+    /// none: it does not see the journal under the lock.
     pub fn act<R: Wait>(
         &self,
         rt: &R,
@@ -162,7 +167,8 @@ impl<L: Ledger> Shared<L> {
         state.exit_noted(worker, run, prog, program, ctx)
     }
 
-    /// As `exit_noted`, with the exit value alone.
+    /// The exit value of a run, where it has ended and was started with this program on this
+    /// context. It makes no entry and takes no memory, and waits for the lock.
     pub fn exit_of<R: Wait>(
         &self,
         rt: &R,
@@ -189,8 +195,9 @@ impl<L: Ledger> Shared<L> {
         state.cut(alloc)
     }
 
-    /// The base, the world and the journal. The shares of all workers add up to the entries before the base
-    /// and those in the journal.
+    /// Ends the sharing, for which all workers come back, and hands out the base, the world and the
+    /// journal. The shares of all workers add up to the entries before the base and those in the
+    /// journal.
     pub fn finish(self, workers: Workers<L>) -> Finished
         requires some { 0 < vec_len workers.list }
         requires all { vec_len workers.list ≡ L.parts }

@@ -75,7 +75,7 @@ impl Receipt {
         &self.reply
     }
 
-    /// The answer alone.
+    /// The answer, or why the event was not applied, without the receipt.
     pub fn into_reply(self) -> Result<Answer, SharedFault>
         ensures { result ≡ self.reply }
     {

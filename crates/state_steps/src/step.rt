@@ -34,8 +34,8 @@ use std::alloc::Global;
 ///   from r1 on.
 /// - The exit: r0 as a register that is read; `PointerLeak`; `UnpairedSection`.
 /// - An access: `FramePointerWritten`; its base, then what is stored, as registers that are read;
-///   `NotAPointer` or `MaybeNull`; `ContextWrite`; `PointerLeak` of what is stored; `OutOfBounds`,
-///   `Misaligned`; the bytes of the frame that are read.
+///   `NotAPointer` or `MaybeNull`; `ContextWrite`; `PointerLeak` of what is stored; `NoSuchMap`;
+///   `OutOfBounds`, `Misaligned`; the bytes of the frame that are read.
 /// - `Memory`: there is none for the second state of a comparison.
 pub fn transfer(
     state: &mut AbsState,

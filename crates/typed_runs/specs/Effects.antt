@@ -47,7 +47,7 @@ after_unlock a = record {
   inside = false;
 }
 
--- no register and no cell has the identity
+-- the kind, or that of which a cell is part, has not this identity
 abbrev pub IsOther : ℕ → Kind → Type 0
 IsOther id (MaybeNull map i) = i ≡ id → ⊥
 IsOther id kind = Unit {0}

@@ -25,7 +25,7 @@ with_lists q v = record {
   worn = v.worn;
 }
 
--- A lookup: the value in the slot that the index has for the key.
+-- A lookup: the value in the map slot that the index has for the key.
 abbrev pub value_shown : MapView → Option ℕ → Option (ArrayVec ℕ)
 value_shown v None = None
 value_shown v (Some i) = Some (record { items = value_in (slice_get v.slots i) })
@@ -77,7 +77,7 @@ written v i value = record {
   worn = v.worn;
 }
 
--- A new element takes the slot that has been free longest, and the index has it for the key.
+-- A new element takes the map slot that has been free longest, and the index has it for the key.
 abbrev pub filled : MapView → ℕ → List ℕ → List ℕ → List ℕ → MapView
 filled v i rest key value = record {
   shape = v.shape;

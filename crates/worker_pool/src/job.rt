@@ -28,7 +28,8 @@ pub enum StopCause {
 pub enum Outcome {
     /// The exit value.
     Exit(u64),
-    /// No exit value. The job's run, where it has one, stays in the world.
+    /// No exit value. The job's run, where it has one, stays in the world, unless others have
+    /// dropped it.
     Stopped {
         run: Option<RunId>,
         cause: StopCause,

@@ -63,8 +63,9 @@ fn run_shared<L: Ledger + Send + Sync, R: Threads + Wait + Sync>(
     })
 }
 
-/// Runs a program so many times by so many workers, on contexts of its length that are all zero, over maps of
-/// its own that all runs share.
+/// Runs a program so many times by so many workers, on contexts of its length that are all zero,
+/// over the maps of the registry, which all runs share: new ones, of the shapes that the program
+/// was verified with.
 ///
 /// Errors: the first of these that holds.
 /// - `BadWorkers`: `workers` is not 1 to `MAX_WORKERS`.

@@ -55,7 +55,7 @@ pub(crate) fn first_unbound(registry: &Registry, loaded: &[Loaded]) -> Option<Pr
     None
 }
 
-/// A law: the maps of a registry are as many as there may be, of shapes that there may be.
+/// A law: a registry has at most `MAX_MAPS` maps, and their shapes are shapes that maps may have.
 pub(crate) fn certify_maps(registry: &Registry)
     ensures shapes { AreShapes (shapes_of_maps registry.now.maps) }
     ensures limit { length registry.now.maps ≤ MAX_MAPS }
@@ -75,7 +75,7 @@ fn certify(program: &Loaded)
     let _count = program.maps.len();
 }
 
-/// A law: each loaded program of a list is verified, and its kinds are right.
+/// A law: each loaded program of a list is verified, and a value of its type.
 pub(crate) fn certify_programs(loaded: &[Loaded])
     ensures verified { (p : ℕ) (l : Loaded) → slice_get loaded.now p ≡ Some l →
         IsVerified l.verified.program l.verified.shapes l.verified.ctx_len }

@@ -37,8 +37,9 @@ impl Model for World {
 }
 
 impl World {
-    /// A world of these maps and programs, in which nothing has happened. All the memory that it ever takes
-    /// is taken here. What it takes by value is dropped when it refuses.
+    /// A world of these programs and of these maps, which are new, in which nothing has happened.
+    /// All the memory that it ever takes is taken here. What it takes by value is dropped when it
+    /// refuses.
     ///
     /// Errors: the first of these that holds.
     /// - `TooManyPrograms`: there are more than `MAX_PROGRAMS`.
