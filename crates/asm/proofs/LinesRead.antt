@@ -9,6 +9,7 @@ use Rattle.std.proofs.lemmas.List.Splits.{slice_split_none, slice_split_at}
 use Rattle.std.proofs.ByRecursion.{All-push}
 use Rattle.bpf_model.specs.declared.insn.Insn.{Insn}
 use Rattle.bpf_model.specs.Spelling.{FitsInsn}
+use Rattle.bpf_model.proofs.Lists.{cons-same}
 use Rattle.disasm.specs.Text.{line_of}
 use Rattle.asm.proofs.StatementLaws.{appended}
 use Rattle.asm.specs.Reading.{Lacks}
@@ -115,9 +116,6 @@ line_fault text line left items index Memory read h = tt
 pub all_read : (text : List ℕ) (items : List Insn) (index : ℕ) → LinesRead text [] items index → statements_in text ≡ map line_of items
 all_read text items index read = ap (filter keeps) (read.parts ∙ append-nil read.front) ∙ read.lines
 
-pub same_tail : (x y : List ℕ) (xs ys : List (List ℕ)) → (x ∷ xs) ≡ y ∷ ys → (x ≡ y) × (xs ≡ ys)
-same_tail x y xs ys e = (cc, cc)
-
 pub cons_no : (x : List ℕ) (xs : List (List ℕ)) → (x ∷ xs) ≡ [] → ⊥
 cons_no x xs e = cc
 
@@ -128,8 +126,8 @@ same_cons : (line : List ℕ) (rest : List (List ℕ)) (is js : List Insn) → i
 same_cons line rest [] js s unique more fits_i fits_j e f = absurd (cons_no line rest e)
 same_cons line rest (i ∷ is) [] s unique more fits_i fits_j e f = absurd (cons_no line rest f)
 same_cons line rest (i ∷ is) (j ∷ js) s unique more fits_i fits_j e f =
-    let p : (line ≡ line_of i) × (rest ≡ map line_of is) = same_tail line (line_of i) rest (map line_of is) e in
-    let q : (line ≡ line_of j) × (rest ≡ map line_of js) = same_tail line (line_of j) rest (map line_of js) f in
+    let p : (line ≡ line_of i) × (rest ≡ map line_of is) = cons-same line (line_of i) rest (map line_of is) e in
+    let q : (line ≡ line_of j) × (rest ≡ map line_of js) = cons-same line (line_of j) rest (map line_of js) f in
     cons_insns i j is js (unique s i j fits_i.0 fits_j.0 p.0 q.0) (more is js fits_i.1 fits_j.1 p.1 q.1)
 
 same_step : (line : List ℕ) (front : List (List ℕ)) (is js : List Insn) (b : Bool) → is_comment line ≡ b → IsUnique line → ((is2 js2 : List Insn) → AllByRecursion FitsInsn is2 → AllByRecursion FitsInsn js2 → filter keeps front ≡ map line_of is2 → filter keeps front ≡ map line_of js2 → is2 ≡ js2) → AllByRecursion FitsInsn is → AllByRecursion FitsInsn js → filter keeps (line ∷ front) ≡ map line_of is → filter keeps (line ∷ front) ≡ map line_of js → is ≡ js

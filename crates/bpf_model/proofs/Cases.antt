@@ -1,10 +1,10 @@
 -- Options, numbers, orderings, lives, run slots and births, by cases.
-use Rattle.std.proofs.Common.{◌≡◌, ℕ, ◌<◌, pos, true, List, length, Option, Some, None, ◌⊎◌, inl, inr, refl, arith, [], ◌∷◌, sym, ap, ◌∙◌}
+use Rattle.std.proofs.Common.{◌≡◌, ℕ, ◌<◌, pos, true, List, length, Option, Some, None, ◌⊎◌, inl, inr, refl, arith, [], ◌∷◌, sym, ap, ◌∙◌, Bool, false}
 use Rattle.std.specs.Ordering.{is_eq}
 use Rattle.std.specs.declared.cmp.Ordering.{Ordering}
 use Rattle.std.specs.declared.cmp.Ordering.TheVariants.{Less, Equal, Greater}
 use Rattle.std.proofs.lemmas.Bool.{false≢true}
-use Rattle.std.proofs.lemmas.Option.{none-some, slice_get_within}
+use Rattle.std.proofs.lemmas.Option.{none-some, slice_get_within, same_Some}
 use Rattle.std.specs.Prelude.{if◌then◌else◌, ◌==◌, drop}
 use Rattle.bpf_model.specs.Section.{Section}
 use Rattle.bpf_model.specs.Element.{Unlinked}
@@ -15,6 +15,15 @@ use Rattle.bpf_model.specs.Schedule.{TakesOldest, Queues, or_first, first_ready,
 pub option_cases : {A : Type 0} (o : Option A) → (o ≡ None) ⊎ ((x : A) × (o ≡ Some x))
 option_cases None = inl refl
 option_cases (Some x) = inr (x, refl)
+
+-- two equal options have one content
+pub both : {A : Type 0} (o : Option A) (x y : A) → o ≡ Some x → o ≡ Some y → x ≡ y
+both o x y h g = same_Some x y (sym h ∙ g)
+
+-- what holds of both holds of either
+pub choice : {A : Type 0} (P : A → Type 0) (b : Bool) (x y : A) → P x → P y → P (if b then x else y)
+choice P true x y p q = p
+choice P false x y p q = q
 
 pub same-pos : (a b : ℕ) → pos a ≡ pos b → a ≡ b
 same-pos a b h = cc

@@ -4,6 +4,10 @@ use Rattle.std.proofs.lemmas.Option.{none-some, same_Some}
 use Rattle.std.proofs.lemmas.Slice.Zip.{AllZip-map}
 use Rattle.std.specs.List.{AllZip}
 use Rattle.std.specs.Prelude.{slice_get, slice_set, drop, take}
+use Rattle.std.proofs.lemmas.Bool.{cases_eq}
+
+pub cons-same : {A : Type 0} (x y : A) (xs ys : List A) → x ∷ xs ≡ y ∷ ys → (x ≡ y) × (xs ≡ ys)
+cons-same x y xs ys e = (cc, cc)
 
 pub heads : {A : Type 0} (x y : A) (xs ys : List A) → x ∷ xs ≡ y ∷ ys → x ≡ y
 heads x y xs ys e = cc
@@ -94,3 +98,16 @@ map-self (x ∷ xs) = ap (λ l. x ∷ l) (map-self xs)
 -- A list of clones is the list.
 pub cloned : (xs ys : List ℕ) → AllZip (λ x y. y ≡ x) xs ys → ys ≡ xs
 cloned xs ys h = AllZip-map (λ x. x) xs ys h ∙ map-self xs
+
+-- two keys are one, or differ
+pub key_cases : (xs ys : List ℕ) → (xs ≡ ys) ⊎ (xs ≢ ys)
+key_cases [] [] = inl refl
+key_cases [] (y ∷ ys) = inr (λ e. cc)
+key_cases (x ∷ xs) [] = inr (λ e. cc)
+key_cases (x ∷ xs) (y ∷ ys) = elim (cases_eq x y) [
+  | inl e ↦ elim (key_cases xs ys) [
+    | inl f ↦ inl (cc)
+    | inr n ↦ inr (λ h. n (cc))
+  ]
+  | inr n ↦ inr (λ h. n (cc))
+]

@@ -4,9 +4,8 @@ ghost use Rattle.bpf_model.specs.declared.limits.TheConstants.{FRAME_BYTES};
 ghost use Rattle.typed_runs.specs.Kinds as model;
 ghost use Rattle.bpf_model.specs.declared.limits.MapShape.{MapShape};
 ghost use Rattle.bpf_model.specs.Operand.{unary_source};
-ghost use Rattle.kind_tests.specs.Performs.{SetsNumber};
+ghost use Rattle.kind_tests.specs.Performs.{SetsNumber, Performs};
 ghost use Rattle.typed_runs.specs.Effects.{IsNumberOperand, IsWritten, HasNumber};
-ghost use Rattle.typed_runs.specs.Verified.{Transfers};
 ghost use Rattle.register_kinds.specs.States.{kind_in, kind_of, state_of};
 ghost use Rattle.register_kinds.specs.Pairs.{IsBelow, AreBelow};
 ghost use Rattle.compute_effects.specs.Computes.{PerformsComputation, Computes, ReadsNumber, GivesNumber, SetsKind};
@@ -141,8 +140,7 @@ fn map_index(map: i32, maps: usize) -> Result<u32, Fault>
 /// `NoSuchMap`.
 pub fn load_map(state: &mut AbsState, dst: Reg, map: i32, maps: usize) -> Result<(), Fault>
     ensures sound { OnOk result ((shapes : List MapShape) (ctx_len : ℕ) → length shapes ≡ maps
-        → Transfers (Insn.LoadMap dst map) shapes ctx_len (state_of state.old)
-        (state_of state.new) None) }
+        → Performs (Insn.LoadMap dst map) ctx_len shapes state.old state.new) }
     ensures sets { (n : ℕ) → (10 ≡ dst → ⊥) → map ≡ pos n → n < maps
         → SetsKind result dst (model.MapAt n) (state_of state.old) (state_of state.new) }
     ensures below { (top : ℕ) → AreBelow top state.old → AreBelow top state.new }

@@ -1,8 +1,8 @@
 //! Jumps without a condition, and the exit.
 ghost use Rattle.std.specs.Prelude.{◌≡◌, ℕ, List, None, OnOk, IsOk, pos, false};
 ghost use Rattle.bpf_model.specs.declared.limits.MapShape.{MapShape};
+ghost use Rattle.kind_tests.specs.Performs.{Performs};
 ghost use Rattle.typed_runs.specs.Kinds as model;
-ghost use Rattle.typed_runs.specs.Verified.{Transfers};
 ghost use Rattle.typed_runs.specs.Effects.{HasNumber};
 ghost use Rattle.register_kinds.specs.States.{state_of};
 
@@ -25,7 +25,7 @@ fn check_outside(state: &AbsState) -> Result<(), Fault>
 /// where it is no number; `UnpairedSection` inside a section.
 pub fn exit(state: &AbsState) -> Result<(), Fault>
     ensures sound { OnOk result ((shapes : List MapShape) (ctx_len : ℕ)
-        → Transfers Insn.Exit shapes ctx_len (state_of state.now) (state_of state.now) None) }
+        → Performs Insn.Exit ctx_len shapes state.now state.now) }
     ensures accepts { HasNumber (state_of state.now) 0 → state.now.inside ≡ false → IsOk result }
 {
     match held(state, Reg::R0)? {

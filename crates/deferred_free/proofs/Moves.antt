@@ -1,7 +1,7 @@
 -- What the calls leave of threaded lists.
 use Rattle.std.proofs.Common.{◌≡◌, ◌≢◌, ◌∙◌, ℕ, ◌+◌, ◌<◌, ◌≤◌, List, [], ◌∷◌, ◌++◌, Option, Some, None, inl, inr, refl, sym, ap, arith, cond, eqb, subst, drop}
 use Rattle.std.specs.Prelude.{IfSome}
-use Rattle.std.proofs.lemmas.Option.{none-some, same_Some}
+use Rattle.std.proofs.lemmas.Option.{same_Some}
 use Rattle.std.proofs.lemmas.List.{append-nil}
 use Rattle.bpf_model.proofs.Cases.{option_cases}
 use Rattle.bpf_model.specs.Schedule.{Queues, turned}
@@ -9,7 +9,7 @@ use Rattle.element_arena.specs.State.{ArenaState, IsTaken, LinksOf, link_at, lin
 use Rattle.deferred_free.specs.Queued.{queued, retired_lists, reaped_lists}
 use Rattle.element_arena.specs.Threads.{IsThread, last_slot_of}
 use Rattle.element_arena.proofs.Counts.{one_cases, one_same, times-append}
-use Rattle.element_arena.proofs.Threading.{thread-agree, thread-join, thread-some, last-none, last-held, last-append}
+use Rattle.element_arena.proofs.Threading.{thread-agree, thread-join, thread-some, last-none, last-held, last-append, left-last}
 use Rattle.deferred_free.specs.declared.threaded.Line.{Line}
 use Rattle.deferred_free.specs.declared.threaded.Threaded.{Threaded}
 use Rattle.deferred_free.specs.Lines.{AreLinksJoined, joined_lines, joined_to, joined_from}
@@ -121,18 +121,12 @@ reaped_fits x a slot f e =
         next = f.next;
         waiting = f.waiting;
         ready = subst (λ l. IsLine (link_at a.links) (record { first = link_at a.links slot; last = last_left (link_at a.links slot) x.ready.last }) l) (sym left)
-            (record { thread = s.2; ends = last_is (link_at a.links slot) s.0 s.2 (f.ready.ends ∙ ap last_slot_of split) });
+            (record { thread = s.2; ends = left-last (link_at a.links) slot x.ready.last (link_at a.links slot) s.0 s.2 (f.ready.ends ∙ ap last_slot_of split) });
         once = λ j. let o : queued (threaded_lists x a) j ≤ 1 = f.once j in omega (arith, count j, fewer j);
         taken = λ j h. f.taken j (omega (arith, count j, fewer j));
       },
       omega (arith, count slot, one_same slot),
     )
-  where
-    last_is : (o : Option ℕ) (ys : List ℕ) → IsThread (link_at a.links) o ys → x.ready.last ≡ last_slot_of (slot ∷ ys) → last_left o x.ready.last ≡ last_slot_of ys
-    last_is None [] t h = refl
-    last_is None (y ∷ ys) t h = absurd (none-some y t.0)
-    last_is (Some i) [] t h = absurd (none-some i (sym t))
-    last_is (Some i) (y ∷ ys) t h = h
 
 -- the last slot of each list is taken
 pub last_taken : (x : Threaded) (a : ArenaState) (l : Line) (xs : List ℕ) → IsLine (link_at a.links) l xs → ((j : ℕ) → 0 < times_in j xs → IsTaken a j) → (o : Option ℕ) → l.last ≡ o → (b : ArenaState) → b ≡ record a { links = b.links } → IfSome o (λ j. IsTaken b j)

@@ -1,12 +1,12 @@
 -- What is done to cells keeps them threaded.
 use Rattle.std.proofs.Common.{◌≡◌, ◌≢◌, ◌∙◌, ℕ, ◌+◌, ◌<◌, ◌≤◌, List, [], ◌∷◌, ◌++◌, length, Option, Some, None, inl, inr, refl, sym, ap, arith, cond, eqb, subst, map}
 use Rattle.std.specs.Prelude.{slice_get, slice_set}
-use Rattle.std.proofs.lemmas.Option.{none-some, same_Some, slice_get_within}
+use Rattle.std.proofs.lemmas.Option.{same_Some, slice_get_within}
 use Rattle.bpf_model.proofs.Cases.{option_cases}
 use Rattle.element_arena.specs.State.{times_in, worn_at, flag_in}
-use Rattle.element_arena.specs.Threads.{IsThread, last_slot_of}
+use Rattle.element_arena.specs.Threads.{IsThread}
 use Rattle.element_arena.proofs.Counts.{one_cases, one_same, one_other, times-append, length_once}
-use Rattle.element_arena.proofs.Threading.{walk-thread, thread-agree, thread-some, thread-join, last-none, last-held, last-append}
+use Rattle.element_arena.proofs.Threading.{walk-thread, thread-agree, thread-some, thread-join, last-none, last-held, last-append, left-last}
 use Rattle.element_arena.specs.declared.cell.Standing.{Standing}
 use Rattle.element_arena.specs.declared.cell.Standing.TheVariants.{Free, Taken, Worn}
 use Rattle.element_arena.specs.declared.cell.SlotCell.{SlotCell}
@@ -63,7 +63,7 @@ module _ (cells : List SlotCell) (first last : Option ℕ) (limit : ℕ) where
         split,
         record {
           thread = thread-agree (raw cells) (raw (slice_set cells i d)) c.link ys (λ j h. ap raw_of (get-set_other cells i j d (apart j h))) rest;
-          ends = last_is c.link ys rest kk.ends;
+          ends = left-last (raw cells) i last c.link ys rest kk.ends;
           once = λ j. let o : times_in j (i ∷ ys) ≤ 1 = kk.once j in omega arith;
           inside = λ j h. let h' : 0 < times_in j (i ∷ ys) = omega arith in let l : j < length cells = kk.inside j h' in omega arith;
           standing = λ j e h. elim (get-set_cases cells i j d e h) [
@@ -81,12 +81,6 @@ module _ (cells : List SlotCell) (first last : Option ℕ) (limit : ℕ) where
           small = kk.small;
         },
       )
-    where
-      last_is : (o : Option ℕ) (ys : List ℕ) → IsThread (raw cells) o ys → last ≡ last_slot_of (i ∷ ys) → last_left o last ≡ last_slot_of ys
-      last_is None [] t h = refl
-      last_is None (y ∷ ys) t h = absurd (none-some y t.0)
-      last_is (Some x) [] t h = absurd (none-some x (sym t))
-      last_is (Some x) (y ∷ ys) t h = h
 
   -- a taken slot whose cell changes in other parts, or wears out
   pub stays : (i : ℕ) (c d : SlotCell) → AreCellsKept cells first last limit → times_in i (free_of cells first) ≡ 0 → slice_get cells i ≡ Some c → free_count d.standing ≡ 0 → d.uses ≤ limit → d.generation + taken_count d.standing ≤ d.uses →

@@ -4,6 +4,7 @@ use Rattle.std.proofs.lemmas.Option.{none-some, same_Some}
 use Rattle.element_arena.specs.State.{times_in}
 use Rattle.element_arena.specs.Threads.{IsThread, walk, last_slot_of}
 use Rattle.element_arena.proofs.Counts.{one_same, times_first}
+use Rattle.element_arena.specs.Kept.{last_left}
 
 pub walk-thread : (next : ℕ → Option ℕ) (o : Option ℕ) (xs : List ℕ) (n : ℕ) → IsThread next o xs → length xs ≤ n → walk n next o ≡ xs
 walk-thread next o [] zero t l = refl
@@ -30,6 +31,13 @@ thread-none next o (x ∷ xs) t e = absurd (none-some x (sym e ∙ t.0))
 pub thread-some : (next : ℕ → Option ℕ) (o : Option ℕ) (xs : List ℕ) (i : ℕ) → IsThread next o xs → o ≡ Some i → (ys : List ℕ) × (xs ≡ i ∷ ys) × IsThread next (next i) ys
 thread-some next o [] i t e = absurd (none-some i (sym t ∙ e))
 thread-some next o (x ∷ xs) i t e = let y : x ≡ i = same_Some x i (sym t.0 ∙ e) in (xs, ap (λ z. z ∷ xs) y, subst (λ z. IsThread next (next z) xs) y t.1)
+
+-- the last slot of a list whose first one leaves it
+pub left-last : (next : ℕ → Option ℕ) (i : ℕ) (last o : Option ℕ) (ys : List ℕ) → IsThread next o ys → last ≡ last_slot_of (i ∷ ys) → last_left o last ≡ last_slot_of ys
+left-last next i last None [] t h = refl
+left-last next i last None (y ∷ ys) t h = absurd (none-some y t.0)
+left-last next i last (Some x) [] t h = absurd (none-some x (sym t))
+left-last next i last (Some x) (y ∷ ys) t h = h
 
 pub last-none : (xs : List ℕ) → last_slot_of xs ≡ None → xs ≡ []
 last-none [] h = refl

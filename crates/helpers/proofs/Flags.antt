@@ -3,12 +3,7 @@ use Rattle.std.proofs.Common.{◌≡◌, ◌∙◌, ℕ, zero, suc, refl, ap, Li
 use Rattle.std.specs.Prelude.{◌&&◌, Bool, true, false, slice_set}
 use Rattle.std.proofs.Math.Bool.{and-false, and-true}
 use Rattle.bpf_model.specs.Schedule.{still_open}
-
-heads : (x y : Bool) (xs ys : List Bool) → (let l : List Bool = x ∷ xs in l) ≡ (y ∷ ys) → x ≡ y
-heads x y xs ys e = cc
-
-tails : (x y : Bool) (xs ys : List Bool) → (let l : List Bool = x ∷ xs in l) ≡ (y ∷ ys) → xs ≡ ys
-tails x y xs ys e = cc
+use Rattle.bpf_model.proofs.Lists.{heads, tails}
 
 -- a section that is opened is awaited no more than before
 pub opened_awaits : (fs os : List Bool) (r : ℕ) → still_open fs os ≡ fs → still_open fs (slice_set os r true) ≡ fs

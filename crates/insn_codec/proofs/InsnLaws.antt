@@ -1,5 +1,5 @@
 -- An instruction is read again from its slots.
-use Rattle.std.proofs.Common.{◌≡◌, ℕ, ◌+◌, ◌-◌, ◌*◌, ◌/◌, ◌%◌, ◌^◌, ◌<◌, Bool, false, cond, eqb, not, List, [], ◌∷◌, take, drop, Option, Some, None, refl, sym, ap, subst, ◌∙◌, arith, ℤ, pos, of_z, ◌⊎◌, inl, inr}
+use Rattle.std.proofs.Common.{◌≡◌, ℕ, ◌+◌, ◌-◌, ◌*◌, ◌/◌, ◌%◌, ◌^◌, ◌<◌, Bool, false, cond, eqb, not, [], ◌∷◌, take, drop, Option, Some, None, refl, sym, ap, subst, ◌∙◌, arith, ℤ, pos, of_z, ◌⊎◌, inl, inr}
 use Rattle.std.specs.Ordering.{int_eq}
 use Rattle.std.specs.Int.{w32, cast_signed}
 use Rattle.std.specs.Prelude.{option_to_list}
@@ -27,6 +27,7 @@ use Rattle.bpf_model.specs.declared.insn.Insn.{Insn}
 use Rattle.bpf_model.specs.declared.insn.Insn.TheVariants.{Alu, Unary, LoadNumber, LoadMap, Jump, JumpLong, JumpIf, Call, Exit, Load, LoadSigned, Store}
 use Rattle.bpf_model.specs.Opcode.{opcode_byte}
 use Rattle.bpf_model.specs.Spelling.{FitsInsn, slots_of, slot_count, first_slot, tail_slot, opcode_of, code_of, alu_offset, extension_size, extension_bits, swap_bits, call_source}
+use Rattle.bpf_model.proofs.Lists.{cons-same}
 use Rattle.insn_codec.specs.Begins.{BeginsWith}
 use Rattle.insn_codec.specs.Faults.{flaw_with, is_excluded}
 
@@ -46,17 +47,14 @@ shape (LoadNumber dst number) = inr (record { tail = tail_slot (cast_signed w32 
 shape (LoadMap dst map) = inr (record { tail = tail_slot (pos 0); slots = refl; count = refl })
 shape i = inl (record { slots = refl; count = refl })
 
-pub heads : (a s : Slot) (xs ys : List Slot) → a ∷ xs ≡ s ∷ ys → (a ≡ s) × (xs ≡ ys)
-heads a s xs ys e = (cc, cc)
-
 one_begins : (i : Insn) (s : Slot) (next : Option Slot) → IsOneSlot i → BeginsWith s next i → (first_slot i ≡ s) × (drop 1 (slots_of i) ≡ take (slot_count i - 1) (option_to_list next))
 one_begins i s next one e =
-    let h = heads (first_slot i) s [] [] (sym one.slots ∙ e ∙ ap (λ (n : ℕ). take n (s ∷ option_to_list next)) one.count) in
+    let h = cons-same (first_slot i) s [] [] (sym one.slots ∙ e ∙ ap (λ (n : ℕ). take n (s ∷ option_to_list next)) one.count) in
     (h.0, rw (one.slots, one.count) refl)
 
 two_begin : (i : Insn) (s : Slot) (next : Option Slot) → (two : IsTwoSlots i) → BeginsWith s next i → (first_slot i ≡ s) × (drop 1 (slots_of i) ≡ take (slot_count i - 1) (option_to_list next))
 two_begin i s next two e =
-    let h = heads (first_slot i) s (two.tail ∷ []) (take 1 (option_to_list next)) (sym two.slots ∙ e ∙ ap (λ (n : ℕ). take n (s ∷ option_to_list next)) two.count) in
+    let h = cons-same (first_slot i) s (two.tail ∷ []) (take 1 (option_to_list next)) (sym two.slots ∙ e ∙ ap (λ (n : ℕ). take n (s ∷ option_to_list next)) two.count) in
     (h.0, rw (two.slots, two.count) h.1)
 
 -- the first slot, and the rest of the slots

@@ -9,11 +9,11 @@ use Rattle.bpf_model.specs.Schedule.{Queues, turned}
 use Rattle.bpf_model.specs.View.{SlotView, uses_at, key_in}
 use Rattle.element_arena.specs.State.{ArenaState, IsTaken, is_at, indexed, times_in, key_at, worn_at, flag_in, taken, given_back, with_slot_value, is_last_use}
 use Rattle.element_arena.proofs.Counts.{one_cases, one_same, one_other, times-append}
-use Rattle.view_laws.proofs.Lists.{key_cases, insert-same, insert-other, remove-same, remove-other}
+use Rattle.view_laws.proofs.Lists.{insert-same, insert-other, remove-same, remove-other}
 use Rattle.deferred_free.specs.Queued.{queued, retired_lists, reaped_lists}
 use Rattle.maps.specs.Parted.{PartsView, standings, IsParted, IsInHand, IsInUse}
 use Rattle.bpf_model.specs.Codes.{KeyMap}
-use Rattle.bpf_model.proofs.Lists.{get-set_other, get-set_same, length-set}
+use Rattle.bpf_model.proofs.Lists.{get-set_other, get-set_same, length-set, key_cases}
 
 -- a slot that is linked or in a list is taken
 pub standing-taken : (p : PartsView) (i : ℕ) → IsParted p → IsInUse p i → IsTaken p.arena i

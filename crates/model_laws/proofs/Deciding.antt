@@ -1,7 +1,7 @@
 -- With the runtime's choices an event has one answer and leads to one state.
 use Rattle.std.proofs.Common.{◌≡◌, ℕ, ◌+◌, ◌-◌, List, [], ◌∷◌, ◌++◌, length, Option, Some, None, is_some, inl, inr, refl, sym, ap, ◌∙◌, arith, false, subst, Result, ℤ}
 use Rattle.std.specs.Prelude.{slice_get, slice_set}
-use Rattle.std.proofs.lemmas.Option.{none-some, same_Some}
+use Rattle.std.proofs.lemmas.Option.{none-some}
 use Rattle.arrayvec.specs.ArrayVec.{ArrayVec}
 use Rattle.bpf_model.specs.declared.insn.Insn.{Insn}
 use Rattle.bpf_model.specs.declared.insn.Insn.TheVariants.{Call, Load, LoadSigned, Store}
@@ -41,10 +41,7 @@ use Rattle.model_laws.specs.Scheduled.{IsScheduled}
 use Rattle.model_laws.proofs.Stores.{IsSingle, touches-found}
 use Rattle.model_laws.proofs.Scheduling.{same-element, stays_scheduled}
 use Rattle.bpf_model.proofs.Lists.{get-append_last, get-set_there, heads, tails}
-
--- two equal options have one content
-pub both : {A : Type 0} (o : Option A) (x y : A) → o ≡ Some x → o ≡ Some y → x ≡ y
-both o x y h g = same_Some x y (sym h ∙ g)
+use Rattle.bpf_model.proofs.Cases.{both}
 
 never : {A B : Type 0} (o : Option A) (x : A) → o ≡ None → o ≡ Some x → B
 never o x h g = absurd (none-some x (sym h ∙ g))

@@ -19,8 +19,9 @@ use Rattle.bpf_model.specs.MapState.{Store}
 use Rattle.bpf_model.specs.Machine.{Loaded, Run, fresh_run}
 use Rattle.bpf_model.specs.MachineStep.{OutcomeStep, KernelStep, HelperStep, InsnStep, RunStep}
 use Rattle.bpf_model.specs.Schedule.{TakesOldest}
+use Rattle.bpf_model.proofs.Cases.{both}
 use Rattle.model_laws.specs.Alone.{SharesNothing}
-use Rattle.model_laws.proofs.Deciding.{both, meet, kernel-one, alone-one, run-one}
+use Rattle.model_laws.proofs.Deciding.{meet, kernel-one, alone-one, run-one}
 use Rattle.model_laws.proofs.Alone.{others_change_nothing, starts_sharing_nothing, stays_sharing_nothing}
 
 -- one step: where no element is, every lookup and every birth has one answer

@@ -29,6 +29,7 @@ use Rattle.bpf_model.specs.Holds.{HoldsValue, HoldsCell}
 use Rattle.model_laws.specs.Alone.{HoldsState}
 use Rattle.bpf_model.specs.Element.{Element}
 use Rattle.bpf_model.specs.MachineStep.{AccessesElement, Acts, returns}
+use Rattle.bpf_model.proofs.Cases.{choice}
 use Rattle.model_laws.proofs.Lists.{first-step}
 
 abbrev pub HoldsOutcome : (Reference → Type 0) → Outcome → Type 0
@@ -46,14 +47,6 @@ abbrev pub MayName : (Reference → Type 0) → Insn → Type 0
 MayName P i = names_map i ≡ true → (n : ℕ) → P (MapRef n)
 
 module _ (P : Reference → Type 0) (c : Closed P) where
-  choice-value : (b : Bool) (x y : Value) → HoldsValue P x → HoldsValue P y → HoldsValue P (if b then x else y)
-  choice-value true x y p q = p
-  choice-value false x y p q = q
-
-  choice-cell : (b : Bool) (x y : Cell) → HoldsCell P x → HoldsCell P y → HoldsCell P (if b then x else y)
-  choice-cell true x y p q = p
-  choice-cell false x y p q = q
-
   some-value : (x v : Value) → Some x ≡ Some v → HoldsValue P x → HoldsValue P v
   some-value x v h p = subst (HoldsValue P) (same_Some x v h) p
 
@@ -62,7 +55,7 @@ module _ (P : Reference → Type 0) (c : Closed P) where
 
   -- at entry
   pub holds-entry : HoldsState P entry
-  holds-entry = (λ i. choice-value (i == 1) _ _ (c.context (pos 0)) (choice-value (i == 10) _ _ (c.frame (pos FRAME_BYTES)) tt), λ k. tt)
+  holds-entry = (λ i. choice (HoldsValue P) (i == 1) _ _ (c.context (pos 0)) (choice (HoldsValue P) (i == 10) _ _ (c.frame (pos FRAME_BYTES)) tt), λ k. tt)
 
   -- a register is set
   sets-or : (b : Bool) (x out : Outcome) → (if b then None else Some x) ≡ Some out → HoldsOutcome P x → HoldsOutcome P out
@@ -70,7 +63,7 @@ module _ (P : Reference → Type 0) (c : Closed P) where
   sets-or false x out h p = some-outcome x out h p
 
   holds-sets : (slots dst : ℕ) (v : Value) (m : State) (out : Outcome) → HoldsState P m → HoldsValue P v → sets slots dst v m ≡ Some out → HoldsOutcome P out
-  holds-sets slots dst v m out p q h = sets-or (dst == 10) _ out h (λ i. choice-value (i == dst) v (m.regs i) q (p.0 i), p.1)
+  holds-sets slots dst v m out p q h = sets-or (dst == 10) _ out h (λ i. choice (HoldsValue P) (i == dst) v (m.regs i) q (p.0 i), p.1)
 
   holds-sets_some : (o : Option Value) (slots dst : ℕ) (m : State) (out : Outcome) → HoldsState P m → ((v : Value) → o ≡ Some v → HoldsValue P v) → (o >>= λ v. sets slots dst v m) ≡ Some out → HoldsOutcome P out
   holds-sets_some o slots dst m out p q h = let s = first-step o (λ v. sets slots dst v m) out h in holds-sets slots dst s.0 m out p (q s.0 s.1) s.2
@@ -156,8 +149,8 @@ module _ (P : Reference → Type 0) (c : Closed P) where
 
   holds-frame : (at width : ℕ) (v : Value) (frame new : ℕ → Cell) → HoldsValue P v → ((k : ℕ) → HoldsCell P (frame k)) → frame_after at width v frame ≡ Some new → (k : ℕ) → HoldsCell P (new k)
   holds-frame at width Nothing frame new q p h k = absurd (none-some new h)
-  holds-frame at width (Number n) frame new q p h k = subst (λ f. HoldsCell P (f k)) (same_Some (with_number at width n frame) new h) (choice-cell (is_within at width k) (Byte (n / 256 ^ (k - at) % 256)) (frame k) tt (p k))
-  holds-frame at width (Pointer r) frame new q p h k = frame-or (width == 8) (with_reference at r frame) new h (λ j. choice-cell (is_within at 8 j) (Part (j - at) r) (frame j) q (p j)) k
+  holds-frame at width (Number n) frame new q p h k = subst (λ f. HoldsCell P (f k)) (same_Some (with_number at width n frame) new h) (choice (HoldsCell P) (is_within at width k) (Byte (n / 256 ^ (k - at) % 256)) (frame k) tt (p k))
+  holds-frame at width (Pointer r) frame new q p h k = frame-or (width == 8) (with_reference at r frame) new h (λ j. choice (HoldsCell P) (is_within at 8 j) (Part (j - at) r) (frame j) q (p j)) k
 
   holds-stored : (m : State) (width : ℕ) (offset : ℤ) (v : Value) (r : Reference) (out : Outcome) → HoldsState P m → HoldsValue P v → stored m width offset v r ≡ Some out → HoldsOutcome P out
   holds-stored m width offset v (Frame o) out p q h =
@@ -223,4 +216,4 @@ module _ (P : Reference → Type 0) (c : Closed P) where
 
   -- a call
   pub holds-returns : (v : Value) (m : State) → HoldsValue P v → HoldsState P m → HoldsState P (returns v m)
-  holds-returns v m q p = (λ i. choice-value (i == 0) v (if nat_le i 5 then Nothing else m.regs i) q (choice-value (nat_le i 5) Nothing (m.regs i) tt (p.0 i)), p.1)
+  holds-returns v m q p = (λ i. choice (HoldsValue P) (i == 0) v (if nat_le i 5 then Nothing else m.regs i) q (choice (HoldsValue P) (nat_le i 5) Nothing (m.regs i) tt (p.0 i)), p.1)

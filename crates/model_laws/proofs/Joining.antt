@@ -33,7 +33,7 @@ history-join s [] fs [] ys [] more h g = g
 history-join s (e ∷ es) fs (x ∷ xs) ys (t ∷ states) more h g = (h.0, history-join t es fs xs ys states more h.1 g)
 history-join s es fs xs ys states more h g = absurd h
 
-last-join : (s : Schedule) (states more : List Schedule) → last_scheduled s (states ++ more) ≡ last_scheduled (last_scheduled s states) more
+pub last-join : (s : Schedule) (states more : List Schedule) → last_scheduled s (states ++ more) ≡ last_scheduled (last_scheduled s states) more
 last-join s [] more = refl
 last-join s (t ∷ states) more = last-join t states more
 

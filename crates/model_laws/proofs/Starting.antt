@@ -115,7 +115,7 @@ start-refined shapes programs = record {
 }
 
 -- its maps have the shapes
-shapes-start : (shapes : List MapShape) → map (λ (v : MapView). v.shape) (map new_map_view shapes) ≡ shapes
+pub shapes-start : (shapes : List MapShape) → map (λ (v : MapView). v.shape) (map new_map_view shapes) ≡ shapes
 shapes-start [] = refl
 shapes-start (shape ∷ shapes) = ap (λ l. shape ∷ l) (shapes-start shapes)
 

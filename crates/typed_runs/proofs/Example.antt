@@ -35,7 +35,7 @@ use Rattle.model_laws.specs.Example.{lookup_and_load, lookup_program, example_sh
 use Rattle.scalar_domain.specs.Scalar.{Holds}
 use Rattle.scalar_domain.specs.declared.scalar.Scalar.{Scalar}
 use Rattle.typed_runs.specs.Kinds.{Kind, Blank, Num, FrameAt, MapAt, MaybeNull, CellKind, BlankCell, ByteCell, AbsState}
-use Rattle.bpf_model.specs.Near.{IsNear}
+use Rattle.bpf_model.specs.Near.{IsNear, IsNearCell}
 use Rattle.typed_runs.specs.Describes.{Scene, Naming, Stored, HasOffset, IsOf, IsOfCell, AreNear, Describes}
 use Rattle.typed_runs.specs.Effects.{with_kind, with_cells, after_call, after_lock, after_unlock, when_null, when_there, IsFresh, IsOther, IsOtherCell, IsAlwaysInside, HasBytes}
 use Rattle.typed_runs.specs.Verified.{Plan, Transfers, ActsAlone, IsVerified}
@@ -45,7 +45,6 @@ use Rattle.typed_runs.proofs.Arguments.{reg-is}
 use Rattle.typed_runs.proofs.Calls.{lock_transfers, unlock_transfers, lookup_transfers}
 use Rattle.typed_runs.proofs.Local.{alone_transfers, equal_transfers}
 use Rattle.typed_runs.proofs.Elements.{load_transfers, set-is}
-use Rattle.typed_runs.proofs.Spilling.{near-cell}
 use Rattle.typed_runs.proofs.Planning.{kept_is_closed, origin_has}
 use Rattle.typed_runs.proofs.Reaching.{well_never_stuck, reached_is_well}
 use Rattle.typed_runs.specs.Well.{IsVerifiedFor}
@@ -54,6 +53,7 @@ use Rattle.bpf_model.specs.MapState.{MapState, new_map}
 use Rattle.bpf_model.specs.Schedule.{Schedule}
 use Rattle.bpf_model.specs.Refines.{IsReachedSchedule}
 use Rattle.bpf_model.proofs.Bytes.{within}
+use Rattle.bpf_model.proofs.Cases.{choice}
 
 -- bytes stored to the frame
 byte-cell : (c : Scene) (ρ : Naming) (σ : Stored) (b : Bool) (k n : ℕ) (cell : CellKind) (x : Cell) → n < 256 → IsOfCell c ρ σ k cell x → IsOfCell c ρ σ k (if b then ByteCell else cell) (if b then Byte n else x)
@@ -61,7 +61,7 @@ byte-cell c ρ σ true k n cell x l h = (n, refl, l)
 byte-cell c ρ σ false k n cell x l h = h
 
 near-bytes : (m : State) (at width n : ℕ) → AreNear m.regs m.frame → AreNear m.regs (with_number at width n m.frame)
-near-bytes m at width n h = record { regs_near = h.regs_near; cells_near = λ k. near-cell (is_within at width k) (Byte (n / 256 ^ (k - at) % 256)) (m.frame k) tt (h.cells_near k) }
+near-bytes m at width n h = record { regs_near = h.regs_near; cells_near = λ k. choice IsNearCell (is_within at width k) (Byte (n / 256 ^ (k - at) % 256)) (m.frame k) tt (h.cells_near k) }
 
 pub bytes-described : (a : AbsState) (c : Scene) (m : State) (at width n place : ℕ) → Describes a c m → Describes (with_cells at width ByteCell a) c (record { regs = m.regs; frame = with_number at width n m.frame; place = place })
 bytes-described a c m at width n place d = record {
@@ -178,14 +178,6 @@ covered plan i place a new b at t e next wide = record {
 same : (a : AbsState) → Wider a a
 same a c m d = d
 
-other-if : (b : Bool) (k l : Kind) → IsOther 0 k → IsOther 0 l → IsOther 0 (if b then k else l)
-other-if true k l p q = p
-other-if false k l p q = q
-
-other-cell-if : (b : Bool) (k l : CellKind) → IsOtherCell 0 k → IsOtherCell 0 l → IsOtherCell 0 (if b then k else l)
-other-cell-if true k l p q = p
-other-cell-if false k l p q = q
-
 module _ (any : Scalar) (all : (n : ℕ) → n < 2 ^ 64 → Holds any n) where
   abbrev entries : List Entry
   entries =
@@ -243,8 +235,8 @@ module _ (any : Scalar) (all : (n : ℕ) → n < 2 ^ 64 → Holds any n) where
 
   fresh : IsFresh 0 (s7 any)
   fresh = record {
-    regs = λ r. other-if (r == 1) _ _ tt (other-if (r == 2) _ _ tt (other-if (r == 2) _ _ tt (other-if (r == 0) _ _ tt (other-if (nat_le r 5) _ _ tt (other-if (r == 6) _ _ tt (other-if (r == 1) _ _ tt (other-if (r == 10) _ _ tt tt)))))));
-    cells = λ k. other-cell-if (is_within 508 4 k) _ _ tt tt;
+    regs = λ r. choice (IsOther 0) (r == 1) _ _ tt (choice (IsOther 0) (r == 2) _ _ tt (choice (IsOther 0) (r == 2) _ _ tt (choice (IsOther 0) (r == 0) _ _ tt (choice (IsOther 0) (nat_le r 5) _ _ tt (choice (IsOther 0) (r == 6) _ _ tt (choice (IsOther 0) (r == 1) _ _ tt (choice (IsOther 0) (r == 10) _ _ tt tt)))))));
+    cells = λ k. choice (IsOtherCell 0) (is_within 508 4 k) _ _ tt tt;
   }
 
   key : HasBytes (s7 any) 2 4

@@ -19,6 +19,7 @@ use Rattle.bpf_model.specs.Element.{Element}
 use Rattle.bpf_model.specs.MapState.{Store}
 use Rattle.bpf_model.specs.Machine.{Run}
 use Rattle.bpf_model.specs.MachineStep.{InsnStep}
+use Rattle.bpf_model.proofs.Cases.{both}
 use Rattle.std.specs.Int.Bits.{and_self}
 use Rattle.scalar_domain.specs.Constant.{le_self}
 use Rattle.typed_runs.specs.Kinds.{Blank, CtxAt, FrameAt, AbsState}
@@ -88,10 +89,6 @@ entry_described c out = record {
 planned-at : (code : List Insn) (plan : Plan) (k : ℕ) (a : AbsState) (c : Scene) (m : State) → StartsAt code k m.place → Covers plan k a → Describes a c m → IsPlanned code plan k c m
 planned-at code plan k a c m at v d = record { at = at; known = v.0; planned = v.1; describes = v.2 c m d }
 
--- an index and the slot of its instruction
-start-one : (code : List Insn) (k p q : ℕ) → StartsAt code k p → StartsAt code k q → p ≡ q
-start-one code k p q e f = same_Some p q (sym e ∙ f)
-
 module _ (code : List Insn) (shapes : List MapShape) (ctx_len : ℕ) (plan : Plan) (kept : IsPlanKept code shapes ctx_len plan) where
   -- where control falls through, and where it jumps
   fallen : (k place : ℕ) (i : Insn) (new : AbsState) → slice_get code k ≡ Some i → StartsAt code k place → Covers plan (suc k) new → StartsAt code (suc k) (place + slot_count i)
@@ -99,7 +96,7 @@ module _ (code : List Insn) (shapes : List MapShape) (ctx_len : ℕ) (plan : Pla
 
   jumped : (k place target t : ℕ) (i : Insn) (by : ℤ) → StartsAt code k place → distance i ≡ Some by → pos target ≡ pos (place + 1) +ℤ by → LeadsTo code k i t → StartsAt code t target
   jumped k place target t i by at far sum l =
-      let e : place ≡ l.from = start-one code k place l.from at l.from_is in
+      let e : place ≡ l.from = both _ place l.from at l.from_is in
       let d : by ≡ l.by = same_Some by l.by (sym far ∙ l.by_is) in
       let f : pos l.to ≡ pos target = l.sum ∙ (ap (λ p. pos (p + 1) +ℤ l.by) (sym e) ∙ (ap (λ d. pos (place + 1) +ℤ d) (sym d) ∙ sym sum)) in
       let g : l.to ≡ target = omega (arith, ints) in

@@ -10,6 +10,7 @@ use Rattle.bpf_model.specs.MachineStep.{found_value, returns}
 use Rattle.scalar_domain.specs.declared.scalar.Scalar.{Scalar}
 use Rattle.typed_runs.specs.Kinds.{Kind, Blank, Mixed, Ended, Num, CtxAt, FrameAt, MapAt, ValueAt, MaybeNull, CellKind, BlankCell, MixedCell, EndedCell, ByteCell, PartCell, AbsState}
 use Rattle.bpf_model.specs.Near.{IsNear}
+use Rattle.bpf_model.proofs.Cases.{choice}
 use Rattle.typed_runs.specs.Describes.{IsElementOf, Scene, IsHeld, Naming, IsNullOrHeld, IsOf, Stored, IsOfCell, AreNear, Describes}
 use Rattle.typed_runs.specs.Effects.{with_kind, returned_kind, after_call, IsOther, IsOtherCell, IsFresh, IsWiderKind, IsWiderCell, IsWider}
 
@@ -25,15 +26,11 @@ module _ (c : Scene) (ρ : Naming) where
   returned-of q k v kinds m p h = choice-of (q == 0) k (if nat_le q 5 then Blank else kinds q) v (if nat_le q 5 then Nothing else m.regs q) p (choice-of (nat_le q 5) Blank (kinds q) Nothing (m.regs q) tt h)
 
 -- what is near stays near
-near-choice : (b : Bool) (v w : Value) → IsNear v → IsNear w → IsNear (if b then v else w)
-near-choice true v w p q = p
-near-choice false v w p q = q
-
 pub near-set : (r : ℕ) (v : Value) (regs : ℕ → Value) (frame : ℕ → Cell) → IsNear v → AreNear regs frame → AreNear (put r v regs) frame
-near-set r v regs frame p h = record { regs_near = λ q. near-choice (q == r) v (regs q) p (h.regs_near q); cells_near = h.cells_near }
+near-set r v regs frame p h = record { regs_near = λ q. choice IsNear (q == r) v (regs q) p (h.regs_near q); cells_near = h.cells_near }
 
 pub near-returned : (v : Value) (m : State) → IsNear v → AreNear m.regs m.frame → AreNear (returns v m).regs m.frame
-near-returned v m p h = record { regs_near = λ q. near-choice (q == 0) v (if nat_le q 5 then Nothing else m.regs q) p (near-choice (nat_le q 5) Nothing (m.regs q) tt (h.regs_near q)); cells_near = h.cells_near }
+near-returned v m p h = record { regs_near = λ q. choice IsNear (q == 0) v (if nat_le q 5 then Nothing else m.regs q) p (choice IsNear (nat_le q 5) Nothing (m.regs q) tt (h.regs_near q)); cells_near = h.cells_near }
 
 pub near-found : (o : Option ℕ) → IsNear (found_value o)
 near-found None = tt

@@ -27,6 +27,7 @@ use Rattle.bpf_model.specs.Machine.{Run, environment}
 use Rattle.bpf_model.specs.MachineStep.{element_load, element_store, found_value}
 use Rattle.typed_runs.specs.Kinds.{Kind, Blank, Mixed, Ended, Num, CtxAt, FrameAt, MapAt, ValueAt, MaybeNull, CellKind, BlankCell, MixedCell, EndedCell, ByteCell, PartCell, AbsState}
 use Rattle.bpf_model.specs.Near.{IsNear, IsNearCell}
+use Rattle.bpf_model.proofs.Cases.{choice}
 use Rattle.typed_runs.specs.Describes.{Scene, scene_of, Naming, IsOf, Stored, part_of, IsOfCell, AreNear, Describes}
 use Rattle.typed_runs.specs.Effects.{with_kind, with_cells, IsWritten, IsPointer}
 use Rattle.typed_runs.specs.Verified.{AllBytes, Transfers}
@@ -121,12 +122,8 @@ part-near i Nothing h = tt
 part-near i (Number n) h = tt
 part-near i (Pointer r) h = h
 
-pub near-cell : (b : Bool) (x y : Cell) → IsNearCell x → IsNearCell y → IsNearCell (if b then x else y)
-near-cell true x y p q = p
-near-cell false x y p q = q
-
 near-spilled : (at : ℕ) (v : Value) (m : State) → IsNear v → AreNear m.regs m.frame → AreNear m.regs (with_value at v m.frame)
-near-spilled at v m p h = record { regs_near = h.regs_near; cells_near = λ k. near-cell (is_within at 8 k) (part_of (k - at) v) (m.frame k) (near-part (k - at) v p) (h.cells_near k) }
+near-spilled at v m p h = record { regs_near = h.regs_near; cells_near = λ k. choice IsNearCell (is_within at 8 k) (part_of (k - at) v) (m.frame k) (near-part (k - at) v p) (h.cells_near k) }
 
 spilled-described : (a : AbsState) (c : Scene) (m : State) (at place : ℕ) (kind : Kind) (v : Value) → at % 8 ≡ 0 → (d : Describes a c m) → IsOf c d.naming kind v → IsNear v → Describes (with_cells at 8 (PartCell kind) a) c (record { regs = m.regs; frame = with_value at v m.frame; place = place })
 spilled-described a c m at place kind v e d p n = record {

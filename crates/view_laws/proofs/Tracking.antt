@@ -1,5 +1,5 @@
 -- A step leads on from the schedule that a world tracks.
-use Rattle.std.proofs.Common.{◌≡◌, ℕ, List, [], ◌∷◌, ◌++◌, Some, inl, inr, refl, sym, subst}
+use Rattle.std.proofs.Common.{◌≡◌, ℕ, List, [], ◌∷◌, ◌++◌, Some, inl, inr, sym, subst}
 use Rattle.std.specs.Prelude.{slice_get}
 use Rattle.bpf_model.specs.declared.limits.MapShape.{MapShape}
 use Rattle.bpf_model.specs.declared.event.Event.{Event}
@@ -12,16 +12,13 @@ use Rattle.bpf_model.specs.View.{WorldView, shapes_of}
 use Rattle.bpf_model.specs.Refines.{IsReachedSchedule, TracksSchedule}
 use Rattle.view_laws.specs.Matching.{Matches, Simulates}
 use Rattle.bpf_model.proofs.Lists.{get-append_cases}
+use Rattle.model_laws.proofs.Joining.{last-join}
 
 history-more : (s : Schedule) (events : List Event) (answers : List Answer) (states : List Schedule) (event : Event) (answer : Answer) (t : Schedule) → IsScheduledHistory s events answers states → DoesScheduled (last_scheduled s states) event answer t →
     IsScheduledHistory s (events ++ event ∷ []) (answers ++ answer ∷ []) (states ++ t ∷ [])
 history-more s [] [] [] event answer t h d = (d, tt)
 history-more s (e ∷ events) (a ∷ answers) (next ∷ states) event answer t h d = (h.0, history-more next events answers states event answer t h.1 d)
 history-more s events answers states event answer t h d = absurd h
-
-last-more : (s : Schedule) (states : List Schedule) (t : Schedule) → last_scheduled s (states ++ t ∷ []) ≡ t
-last-more s [] t = refl
-last-more s (next ∷ states) t = last-more next states t
 
 pub real-more : (events : List Event) (event : Event) → AreReal events → IsReal event → AreReal (events ++ event ∷ [])
 real-more events event all real k e at = elim (get-append_cases events event k e at) [
@@ -36,7 +33,7 @@ reached-more shapes programs s t event answer r real d = record {
   states = r.states ++ t ∷ [];
   real = real-more r.events event r.real real;
   history = history-more (start_schedule shapes programs) r.events r.answers r.states event answer t r.history (subst (λ z. DoesScheduled z event answer t) (sym r.last) d);
-  last = last-more (start_schedule shapes programs) r.states t;
+  last = last-join (start_schedule shapes programs) r.states (t ∷ []);
 }
 
 pub simulates_tracks : (w new : WorldView) (s : Schedule) (event : Event) (answer : Answer) → TracksSchedule w s → IsReal event → shapes_of new ≡ shapes_of w → new.programs ≡ w.programs → Simulates s event (answer, new) →

@@ -15,6 +15,7 @@ use Rattle.world_laws.specs.Locating.{number_from}
 use Rattle.world_laws.proofs.Cells.{number_more, byte_known}
 use Rattle.model_laws.proofs.Lists.{first-step}
 use Rattle.bpf_model.proofs.Bytes.{before, behind, within, length-with_bytes}
+use Rattle.bpf_model.proofs.Lists.{drop-next}
 
 pub set_cond : (xs : List ℕ) (d x q : ℕ) → d < length xs → slice_index (slice_set xs d x) q ≡ (if q == d then x else slice_index xs q)
 set_cond xs d x q l = elim (cases_eq q d) [
@@ -83,11 +84,6 @@ pub number-read : (bytes : List ℕ) (width at n : ℕ) (z : ℤ) → z ≡ pos 
 number-read bytes width at n z e h = ap (number_from bytes width) e ∙ ap (λ o. unwrap_or o 0) h
 
 -- the bytes of an argument
-drop-next : (xs : List ℕ) (at : ℕ) → at < length xs → drop at xs ≡ slice_index xs at ∷ drop (suc at) xs
-drop-next [] at l = absurd (omega arith)
-drop-next (x ∷ xs) zero l = refl
-drop-next (x ∷ xs) (suc at) l = drop-next xs at (omega arith)
-
 pub argument-bytes : (bases : ℕ → ℕ) (cells : ℕ → Cell) (bytes : List ℕ) → ((k : ℕ) → k < length bytes → ByteIs bases (cells k) (slice_index bytes k)) → (len at : ℕ) (found : List ℕ) → at + len ≤ length bytes
     → bytes_at cells at len ≡ Some found → take len (drop at bytes) ≡ found
 argument-bytes bases cells bytes all zero at found l h = same_Some [] found h
@@ -96,4 +92,4 @@ argument-bytes bases cells bytes all (suc len) at found l h =
     let r = first-step (bytes_at cells (suc at) len) (λ bs. Some (b.0 ∷ bs)) found b.2 in
     let first : slice_index bytes at ≡ b.0 = byte_known bases (cells at) (slice_index bytes at) b.0 (all at (omega arith)) b.1 in
     let rest : take len (drop (suc at) bytes) ≡ r.0 = argument-bytes bases cells bytes all len (suc at) r.0 (omega arith) r.1 in
-    ap (take (suc len)) (drop-next bytes at (omega arith)) ∙ ap (λ x. x ∷ take len (drop (suc at) bytes)) first ∙ ap (λ xs. b.0 ∷ xs) rest ∙ same_Some (b.0 ∷ r.0) found r.2
+    ap (take (suc len)) (drop-next bytes at (slice_index bytes at) (slice_get-get_or bytes at 0 (omega arith))) ∙ ap (λ x. x ∷ take len (drop (suc at) bytes)) first ∙ ap (λ xs. b.0 ∷ xs) rest ∙ same_Some (b.0 ∷ r.0) found r.2

@@ -1,6 +1,6 @@
 -- References to maps are to those of the program's list, in every state that is reached.
-use Rattle.std.proofs.Common.{◌≡◌, ℕ, ◌+◌, List, length, Option, Some, None, sym, subst, Bool, true, false, inl, inr}
-use Rattle.std.specs.Prelude.{ℤ, pos, negsuc, nat_lt, ◌==◌, if◌then◌else◌}
+use Rattle.std.proofs.Common.{◌≡◌, ℕ, ◌+◌, List, length, Option, Some, None, sym, subst, true, false, inl, inr}
+use Rattle.std.specs.Prelude.{ℤ, pos, negsuc, nat_lt, ◌==◌}
 use Rattle.std.proofs.lemmas.Bool.{ltb-true, false≢true}
 use Rattle.std.proofs.lemmas.Option.{none-some, cond_some}
 use Rattle.bpf_model.specs.declared.call.Helper.{Helper}
@@ -27,6 +27,7 @@ use Rattle.bpf_model.specs.Schedule.{Schedule, start_schedule}
 use Rattle.bpf_model.specs.Section.{Section}
 use Rattle.bpf_model.specs.Step.{State, Environment, Outcome, Moves, Exits, put, sets, map_value, after}
 use Rattle.bpf_model.specs.Holds.{HoldsValue}
+use Rattle.bpf_model.proofs.Cases.{choice}
 use Rattle.model_laws.specs.Alone.{HoldsState}
 use Rattle.model_laws.proofs.Holding.{Closed, HoldsOutcome, holds-entry, holds-acts, holds-returns}
 use Rattle.model_laws.proofs.Keeping.{no-run}
@@ -49,15 +50,11 @@ map-listed env (pos n) u e =
     subst (HoldsValue (IsListed env.maps)) g.1 (ltb-true n env.maps g.0)
 map-listed env (negsuc n) u e = absurd (none-some u e)
 
-choice-listed : (count : ℕ) (b : Bool) (u v : Value) → HoldsValue (IsListed count) u → HoldsValue (IsListed count) v → HoldsValue (IsListed count) (if b then u else v)
-choice-listed count true u v p q = p
-choice-listed count false u v p q = q
-
 loads-listed : (dst : ℕ) (map : ℤ) (env : Environment) (m : State) (out : Outcome) → HoldsState (IsListed env.maps) m → after (LoadMap dst map) env m ≡ Some out → HoldsOutcome (IsListed env.maps) out
 loads-listed dst map env m out p e =
     let f = first-step (map_value env map) (λ u. sets 2 dst u m) out e in
     let next : State = record { regs = put dst f.0 m.regs; frame = m.frame; place = m.place + 2 } in
-    subst (HoldsOutcome (IsListed env.maps)) (refused (dst == 10) (Moves next) out f.2) (λ q. choice-listed env.maps (q == dst) f.0 (m.regs q) (map-listed env map f.0 f.1) (p.0 q), p.1)
+    subst (HoldsOutcome (IsListed env.maps)) (refused (dst == 10) (Moves next) out f.2) (λ q. choice (HoldsValue (IsListed env.maps)) (q == dst) f.0 (m.regs q) (map-listed env map f.0 f.1) (p.0 q), p.1)
 
 -- each step of a run keeps that its references are to maps of its program's list
 ends-listed : (out : Outcome) (run : Run) (answer : Answer) (new : Run) → IsListedRun run → HoldsOutcome (IsListed (length run.program.maps)) out → OutcomeStep out run answer new → IsListedRun new

@@ -16,6 +16,7 @@ use Rattle.model_laws.specs.Steps.{AreSteps}
 use Rattle.model_laws.proofs.Bounded.{given_bounded}
 use Rattle.model_laws.proofs.Joining.{steps_make_scheduled}
 use Rattle.model_laws.proofs.Worlds.{scheduled_is_machine, scheduled_is_machine_once, tracked_reclaimed_late}
+use Rattle.model_laws.proofs.Starting.{shapes-start}
 use Rattle.typed_runs.specs.Well.{AreVerified}
 use Rattle.typed_runs.proofs.Reaching.{reached_is_well, real-rest, tracked_never_stuck}
 use Rattle.typed_runs.proofs.Timing.{tracked_exits_in_time}
@@ -122,15 +123,11 @@ bounded_after w s (event ∷ events) t ready real b =
     bounded_after (full_reaction w event).1 first.0 events first.2 (ready_stays w event ready) (real-rest event events real) (bounded_stays w s event t ready (real 0 event refl) b)
 
 -- at the start
-new-shapes : (shapes : List MapShape) → map shape (map new_map_view shapes) ≡ shapes
-new-shapes [] = refl
-new-shapes (x ∷ xs) = ap (λ l. x ∷ l) (new-shapes xs)
-
 pub starts_ready : (shapes : List MapShape) (programs : List Loaded) → length shapes ≤ MAX_MAPS → AreVerified shapes programs → AreTypedPrograms programs → IsReadyWorld (start_view shapes programs)
 starts_ready shapes programs few verified real =
     let count : length (map new_map_view shapes) ≡ length shapes = length-map shapes new_map_view in
     record {
-      verified = subst (λ l. AreVerified l programs) (sym (new-shapes shapes)) verified;
+      verified = subst (λ l. AreVerified l programs) (sym (shapes-start shapes)) verified;
       programs = real;
       maps = omega (arith, count, few);
     }

@@ -4,11 +4,12 @@ use Rattle.bpf_model.specs.Schedule.{without_first}
 use Rattle.bpf_model.specs.Schedule as schedule
 use Rattle.plain_store.specs.State.{queues_of}
 use Rattle.plain_store.specs.declared.queues.Queues.{Queues}
-use Rattle.plain_store.proofs.Lists.{get-one, read-at}
+use Rattle.plain_store.proofs.Lists.{read-at}
 use Rattle.std.proofs.lemmas.List.{map-set}
 use Rattle.plain_store.proofs.Queueing.{without-here, without-later, is-first, not-first}
 use Rattle.plain_store.proofs.queues.take_first.Goals as goal
 use Rattle.bpf_model.proofs.Lists.{get-map}
+use Rattle.bpf_model.proofs.Cases.{both}
 
 abbrev shorter : Queues → schedule.Queues
 shorter q = record { next = (queues_of q).next; waiting = (queues_of q).waiting; ready = drop 1 (queues_of q).ready }
@@ -30,7 +31,7 @@ returns-then-is_some c =
     let bound : k < length xs = omega (arith, c.loop-k-test.true, c.loop-k.auto.queues) in
     let at_x = read-at xs k x bound c.index-queues-k.is in
     let at_y = read-at xs k y bound c.index-queues-k-then-is_some.is in
-    let same : x ≡ y = get-one xs k x y at_x at_y in
+    let same : x ≡ y = both (slice_get xs k) x y at_x at_y in
     let some : is_some (slice_get (queues_of x).ready 0) ≡ true = ap (λ q. is_some (slice_get (queues_of q).ready 0)) c.index-queues-k.is ∙ ap is_some (sym c.first_of.ensures) ∙ sym c.is_some.ensures ∙ c.if-is_some.true in
     let pos : 0 < length (queues_of y).ready = subst (λ q. 0 < length (queues_of q).ready) same (is-first (queues_of x).ready some) in
     found items xs k y c.drop_first.new.queues c.loop-k.invariant.same c.loop-k.invariant.left at_y pos (c.drop_first.ensures ∙ ap shorter (sym c.index-queues-k-then-is_some.is))

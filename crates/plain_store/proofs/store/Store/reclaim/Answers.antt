@@ -4,11 +4,12 @@ use Rattle.bpf_model.specs.Element.{Reclaimed, with_life}
 use Rattle.bpf_model.specs.MapState.{Store}
 use Rattle.plain_store.specs.State.{map_of, element_of, elements_of, store_of, sections_of}
 use Rattle.plain_store.specs.declared.element.Life.TheVariants as lives
-use Rattle.plain_store.proofs.Lists.{get-one, read-at}
+use Rattle.plain_store.proofs.Lists.{read-at}
 use Rattle.std.proofs.lemmas.List.{map-set}
 use Rattle.plain_store.proofs.Reclaims.{reclaims-at}
 use Rattle.plain_store.proofs.store.Store.reclaim.Goals as goal
 use Rattle.bpf_model.proofs.Lists.{cloned, get-map}
+use Rattle.bpf_model.proofs.Cases.{both}
 
 pub returns-clause-tells : goal.returns-clause-tells
 returns-clause-tells c =
@@ -26,7 +27,7 @@ returns-clause-tells c =
     let hx : slice_get (elements_of items) c.args.n ≡ Some (element_of x) = get-map element_of items c.args.n x (read-at items c.args.n x bound c.index-element.ensures) in
     let hagain : slice_get (elements_of items) c.args.n ≡ Some (element_of again) = get-map element_of items c.args.n again (read-at items c.args.n again bound c.index_mut-2.ensures.value) in
     let hy : slice_get (map map_of maps) x.map ≡ Some (map_of y) = get-map map_of maps x.map y (read-at maps x.map y map_bound c.index_mut.ensures.value) in
-    let one = get-one (elements_of items) c.args.n (element_of again) (element_of x) hagain hx in
+    let one = both (slice_get (elements_of items) c.args.n) (element_of again) (element_of x) hagain hx in
     let elements = map-set element_of items c.args.n _ ∙ ap (λ a. slice_set (elements_of items) c.args.n (with_life Reclaimed a)) one in
     let new_maps = map-set map_of maps x.map z in
     let new : Store = record { elements = elements_of (slice_set items c.args.n (record again { life = lives.Reclaimed })); maps = map map_of (slice_set maps x.map z) } in (
