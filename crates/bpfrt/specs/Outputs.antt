@@ -19,6 +19,7 @@ use Rattle.bpfrt.specs.declared.report.Verdict.{Verdict}
 use Rattle.bpfrt.specs.declared.program_file.Source.{Source}
 use Rattle.bpfrt.specs.declared.run.Accepted.{Accepted}
 use Rattle.bpfrt.specs.Verdicts.{IsDecodeVerdict, IsRefusalVerdict, IsLoadVerdict}
+use Rattle.bpfrt.specs.declared.report.TheConstants.{MEMORY}
 
 -- what a file says whose code is the text of a program
 abbrev pub content_with : Source → FileContent
@@ -74,13 +75,13 @@ pub record IsVerifierVerdict (bytes : List ℕ) (v : Verdict) : Type 0 where
   pub refusal : Refusal
   pub found : IsToldOf source.program refusal
   pub told : IsRefusalVerdict refusal v
-  pub not_plain : v.code ≢ 13 → ¬ (IsPlain source.program)
-  pub not_plain_with_maps : v.code ≢ 13 →
+  pub not_plain : v.code ≢ MEMORY → ¬ (IsPlain source.program)
+  pub not_plain_with_maps : v.code ≢ MEMORY →
       ¬ (IsPlainWithMaps source.program (shapes_of_maps source.registry.maps))
 
 -- The verdict is want of memory, or the first fault of the file, or of its code.
 abbrev pub IsDecodeRefusal : List ℕ → Verdict → Type 0
-IsDecodeRefusal bytes v = (v.code ≡ 13) ⊎ (IsFileVerdict bytes v ⊎ IsCodeVerdict bytes v)
+IsDecodeRefusal bytes v = (v.code ≡ MEMORY) ⊎ (IsFileVerdict bytes v ⊎ IsCodeVerdict bytes v)
 
 -- What `check` refuses with: want of memory, a fault of the file or of its code, or the
 -- verifier's verdict.
@@ -89,12 +90,12 @@ IsCheckedRefusal bytes v = IsDecodeRefusal bytes v ⊎ IsVerifierVerdict bytes v
 
 -- The file, or its code, has a fault other than want of memory.
 abbrev pub IsRefusedByDecode : List ℕ → Type 0
-IsRefusedByDecode bytes = (v : Verdict) × (v.code ≢ 13) × IsDecodeRefusal bytes v
+IsRefusedByDecode bytes = (v : Verdict) × (v.code ≢ MEMORY) × IsDecodeRefusal bytes v
 
 -- the file or its code has a fault other than want of memory, or the verifier has such a verdict of
 -- its program
 abbrev pub IsRefusedByCheck : List ℕ → Type 0
-IsRefusedByCheck bytes = (v : Verdict) × (v.code ≢ 13) × IsCheckedRefusal bytes v
+IsRefusedByCheck bytes = (v : Verdict) × (v.code ≢ MEMORY) × IsCheckedRefusal bytes v
 
 -- what `check` says of a program of so many instructions and slots
 abbrev pub accepted_line : ℕ → ℕ → List ℕ

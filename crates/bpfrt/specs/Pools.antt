@@ -13,6 +13,7 @@ use Rattle.worker_pool.specs.Numbers.{stop_cause_number}
 use Rattle.worker_pool.specs.Outcomes.{IsFaultOf, IsOutcomeOf}
 use Rattle.bpfrt.specs.declared.report.Verdict.{Verdict}
 use Rattle.bpfrt.specs.Outputs.{IsVerifiedFile, IsCheckedRefusal}
+use Rattle.bpfrt.specs.declared.report.TheConstants.{MEMORY, LOST}
 
 -- what is written of one job
 abbrev pub job_line : ℕ → Outcome → List ℕ
@@ -67,4 +68,4 @@ IsPoolRefusal workers count bytes v =
 -- result.
 abbrev pub IsRefusedByPool : ℕ → ℕ → List ℕ → Type 0
 IsRefusedByPool workers count bytes =
-    (v : Verdict) × (v.code ≢ 13) × (v.code ≢ 92) × IsPoolRefusal workers count bytes v
+    (v : Verdict) × (v.code ≢ MEMORY) × (v.code ≢ LOST) × IsPoolRefusal workers count bytes v

@@ -1,6 +1,7 @@
 //! The lines that refusals and faults make, and the statuses that go with them.
 ghost use Rattle.std.specs.Prelude.{◌≡◌, ◌≢◌, ◌⊎◌};
 ghost use Rattle.bpfrt.specs.declared.request.UsageFault.TheVariants.{Memory};
+ghost use Rattle.bpfrt.specs.declared.report.TheConstants.{MEMORY, LOST};
 
 use crate::request::UsageFault;
 use insn_codec::DecodeFault;
@@ -23,7 +24,13 @@ pub struct Verdict {
 pub const MEMORY: u8 = 13;
 
 /// The number of a job's result that is lost.
-const LOST: u8 = 92;
+pub const LOST: u8 = 92;
+
+/// The number of reading that failed.
+pub const READ: u8 = 96;
+
+/// The number of writing that failed.
+pub const WRITE: u8 = 97;
 
 impl From<DecodeFault> for Verdict {
     ghost use Rattle.bpfrt.specs.Verdicts.{IsDecodeVerdict};
@@ -82,7 +89,7 @@ impl From<PoolFault> for Verdict {
 }
 
 impl From<AllocError> for Verdict {
-    ghost from_gives = { λ _ v. v.code ≡ 13 };
+    ghost from_gives = { λ _ v. v.code ≡ MEMORY };
 
     fn from(_: AllocError) -> Verdict {
         Verdict {
@@ -105,9 +112,9 @@ pub fn fault<W: Write>(err: &mut W, code: u8) -> u8
 /// the fault where memory ran out or a result was lost, and answers the status.
 pub fn refused<W: Write>(err: &mut W, verdict: Verdict) -> u8
     ensures status { (result ≡ 1) ⊎ (result ≡ 3) }
-    ensures memory { verdict.code ≡ 13 → result ≡ 3 }
-    ensures lost { verdict.code ≡ 92 → result ≡ 3 }
-    ensures other { verdict.code ≢ 13 → verdict.code ≢ 92 → result ≡ 1 }
+    ensures memory { verdict.code ≡ MEMORY → result ≡ 3 }
+    ensures lost { verdict.code ≡ LOST → result ≡ 3 }
+    ensures other { verdict.code ≢ MEMORY → verdict.code ≢ LOST → result ≡ 1 }
 {
     let code = verdict.code;
     if code == MEMORY || code == LOST {

@@ -2,7 +2,7 @@
 ghost use Rattle.std.specs.Prelude.{◌≡◌, OnOk, MatchResult};
 ghost use Rattle.std.specs.Io.KnownBytes.{Appends};
 
-use crate::report::{MEMORY, fault};
+use crate::report::{MEMORY, READ, WRITE, fault};
 use std::io;
 use std::io::{ErrorKind, Write};
 
@@ -19,8 +19,8 @@ pub fn stream_fault(error: &io::Error, side: Side) -> u8 {
         return MEMORY;
     }
     match side {
-        Side::Input => 96,
-        Side::Output => 97,
+        Side::Input => READ,
+        Side::Output => WRITE,
     }
 }
 
