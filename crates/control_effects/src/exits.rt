@@ -4,6 +4,7 @@ ghost use Rattle.bpf_model.specs.declared.limits.MapShape.{MapShape};
 ghost use Rattle.kind_tests.specs.Performs.{Performs};
 ghost use Rattle.typed_runs.specs.Kinds as model;
 ghost use Rattle.typed_runs.specs.Effects.{HasNumber};
+ghost use Rattle.typed_runs.specs.Verified.{Transfers};
 ghost use Rattle.register_kinds.specs.States.{state_of};
 
 use bpf_model::{Insn, Reg};
