@@ -7,7 +7,7 @@ use Rattle.bpf_model.specs.View.{MapView, new_map_view, shapes_of_maps}
 use Rattle.world_parts.specs.declared.loaded.Loaded.{Loaded}
 use Rattle.world_invariant.specs.Binding.{IsBoundTo}
 use Rattle.world.specs.Bound.{IsBound, AreProgramsBound}
-use Rattle.bpf_model.proofs.Lists.{get-append, get-append_cases}
+use Rattle.bpf_model.proofs.Lists.{get-append, get-append_cases, map-next}
 
 -- Numbers that are found in a list are found in a longer one.
 pub found-more : {A : Type 0} (xs ys : List A) (numbers : List ℕ) (asked : List A) → map (slice_get xs) numbers ≡ map Some asked → map (slice_get (xs ++ ys)) numbers ≡ map Some asked
@@ -23,9 +23,7 @@ found-more xs ys (n ∷ numbers) (a ∷ asked) e =
 
 -- One more number is found after the others.
 pub found-next : {A : Type 0} (xs : List A) (numbers : List ℕ) (asked : List A) (n : ℕ) (a : A) → map (slice_get xs) numbers ≡ map Some asked → slice_get xs n ≡ Some a → map (slice_get xs) (numbers ++ n ∷ []) ≡ map Some (asked ++ a ∷ [])
-found-next xs numbers asked n a e here =
-    map-append (slice_get xs) numbers (n ∷ [])
-    ∙ (ap (λ f. f ++ slice_get xs n ∷ []) e ∙ (ap (λ o. map Some asked ++ o ∷ []) here ∙ sym (map-append Some asked (a ∷ []))))
+found-next xs numbers asked n a e here = map-next (slice_get xs) Some numbers asked n a e here
 
 -- a new map is new, and leaves the others new
 pub new-more : (maps : List MapView) (shape : MapShape) → maps ≡ map new_map_view (shapes_of_maps maps) → maps ++ new_map_view shape ∷ [] ≡ map new_map_view (shapes_of_maps (maps ++ new_map_view shape ∷ []))

@@ -2,7 +2,7 @@
 ghost use Rattle.std.specs.Prelude.{◌≡◌, ◌<◌, ◌≤◌};
 ghost use Rattle.shared.specs.declared.worker.TheConstants.{MAX_WORKERS};
 
-use crate::making::{jobs_of, update, world_of, wrong};
+use crate::making::{jobs_of, made_by, update, world_of, wrong};
 use shared::{Shared, is_quiet};
 use std::alloc::Global;
 use std::marker::Brand;
@@ -62,11 +62,7 @@ fn all_exit<L: Ledger + Send + Sync, R: Threads + Wait + Abort + Sync>(
     let report = report.expect(rt, "a report");
     assert_eq!(rt; report.jobs.len(), count);
     assert_eq!(rt; wrong(&report, values), 0);
-    let mut made = 0u64;
-    for worker in &hands.list {
-        made = made.saturating_add(worker.made());
-    }
-    assert_eq!(rt; made, entries as u64);
+    assert_eq!(rt; made_by(&hands), entries as u64);
     assert!(rt; hands.list.len() == workers as usize);
     assert_eq!(rt; shared.finish(hands).journal.len(), entries);
     Ok(())

@@ -4,8 +4,10 @@ use arrayvec::ArrayVec;
 use bpf_model::{CtxBytes, Event, KeyBytes, MapId, MapShape, ProgId, RunId, array_of};
 use insn_codec::decode;
 use maps::Registry;
+use shared::Workers;
 use std::alloc::{AllocError, Global};
 use std::process::Abort;
+use std::sync::ledger::Ledger;
 use std::test::Fail;
 use verifier::{Verified, verify};
 use worker_pool::{Job, Outcome, Report, Trail};
@@ -179,4 +181,13 @@ pub fn wrong(report: &Report<Trail>, values: &[u64]) -> u64 {
         }
     }
     wrong
+}
+
+/// How many entries the workers have made.
+pub fn made_by<L: Ledger>(workers: &Workers<L>) -> u64 {
+    let mut sum = 0u64;
+    for worker in &workers.list {
+        sum = sum.saturating_add(worker.made());
+    }
+    sum
 }

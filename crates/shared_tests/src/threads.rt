@@ -1,11 +1,11 @@
 //! Eight workers in threads.
 ghost use Rattle.std.specs.Prelude.{◌≡◌};
 
-use crate::making::{update, world_of};
+use crate::making::{made_by, update, world_of};
 use crate::mixing::event_of;
 use bpf_model::{Answer, Event};
 use journal::Journal;
-use shared::{Counters, Finished, Shared, Worker, Workers, is_quiet};
+use shared::{Counters, Finished, Shared, Worker, is_quiet};
 use std::alloc::{AllocError, Global};
 use std::marker::Brand;
 use std::process::Abort;
@@ -139,15 +139,6 @@ fn answers_alike(alloc: Global, world: &mut World, journal: &Journal) -> Result<
 fn replays(alloc: Global, finished: &mut Finished) -> Result<bool, AllocError> {
     let alike = answers_alike(alloc, &mut finished.base, &finished.journal)?;
     Ok(alike && finished.base.stat() == finished.world.stat())
-}
-
-/// How many entries the workers have made.
-fn made_by<L: Ledger>(workers: &Workers<L>) -> u64 {
-    let mut sum = 0u64;
-    for worker in &workers.list {
-        sum = sum.saturating_add(worker.made());
-    }
-    sum
 }
 
 #[test]

@@ -2,14 +2,9 @@
 //! section, or that are tested for null.
 ghost use Rattle.std.specs.Prelude.{◌≡◌};
 
-use crate::judged::{MAPS, Told, judge};
+use crate::judged::{LOOKUP, MAPS, Told, judge};
 use Told::{Accepted, At};
 use std::test::Fail;
-
-/// The beginning of each program, before slot 8: in a section, r0 is what a lookup in the first map gave, r9 is
-/// the context.
-const LOOKUP: &str =
-    "mov64 r9, r1; callbtf 1; stw [r10-4], 0; mov64 r2, r10; add64 r2, -4; ldmap r1, 0; call 1";
 
 /// What follows in the first table, before slot 12: r0 is the value of an element.
 const TESTED: &str = "jne r0, 0, +3; callbtf 2; mov64 r0, 0; exit";

@@ -2,15 +2,10 @@
 //! states wait at once.
 ghost use Rattle.std.specs.Prelude.{◌≡◌};
 
-use crate::judged::{MAPS, Told, judge, verified};
+use crate::judged::{LOOKUP, MAPS, Told, judge, verified};
 use Told::{Accepted, At};
 use std::alloc::Global;
 use std::test::Fail;
-
-/// The beginning of each program, before slot 8: in a section, r0 is what a lookup in the first map gave, r9 is
-/// the context.
-const LOOKUP: &str =
-    "mov64 r9, r1; callbtf 1; stw [r10-4], 0; mov64 r2, r10; add64 r2, -4; ldmap r1, 0; call 1";
 
 /// What follows in the first table, before slot 13: r0 is the value of an element, r8 a number.
 const TESTED: &str = "jne r0, 0, +3; callbtf 2; mov64 r0, 0; exit; ldxb r8, [r9+0]";

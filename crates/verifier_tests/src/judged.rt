@@ -9,6 +9,11 @@ use std::alloc::Global;
 use std::test::Fail;
 use verifier::{Verified, verify};
 
+/// The beginning of each program, before slot 8: in a section, r0 is what a lookup in the first map gave, r9 is
+/// the context.
+pub const LOOKUP: &str =
+    "mov64 r9, r1; callbtf 1; stw [r10-4], 0; mov64 r2, r10; add64 r2, -4; ldmap r1, 0; call 1";
+
 /// What the verifier says.
 #[derive(Clone, Copy, Debug, PartialEq, Eq)]
 pub enum Told {

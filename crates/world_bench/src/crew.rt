@@ -153,10 +153,7 @@ fn drop_run<L: Ledger, R: Wait>(
 ) {
     match progress {
         Progress::None => (),
-        Progress::Going(run) => {
-            let _ = shared.act(rt, worker, Event::Drop { run });
-        }
-        Progress::Ended(run) => {
+        Progress::Going(run) | Progress::Ended(run) => {
             let _ = shared.act(rt, worker, Event::Drop { run });
         }
     }
