@@ -93,13 +93,13 @@ take-next (y ∷ xs) zero x h = ap (λ z. z ∷ []) (same_Some y x h)
 take-next (y ∷ xs) (suc i) x h = ap (λ l. y ∷ l) (take-next xs i x h)
 
 -- two mapped lists stay equal with one more item
-pub map-next : {A B C : Type 0} (f : A → C) (g : B → C) (as : List A) (bs : List B) (a : A) (b : B) → map f as ≡ map g bs → f a ≡ g b → map f (as ++ a ∷ []) ≡ map g (bs ++ b ∷ [])
-map-next f g as bs a b e same = map-append f as (a ∷ []) ∙ (ap (λ l. l ++ f a ∷ []) e ∙ (ap (λ c. map g bs ++ c ∷ []) same ∙ sym (map-append g bs (b ∷ []))))
+pub map-next : {A B C : Type 0} (f : A → C) (g : B → C) (front : List A) (bs : List B) (a : A) (b : B) → map f front ≡ map g bs → f a ≡ g b → map f (front ++ a ∷ []) ≡ map g (bs ++ b ∷ [])
+map-next f g front bs a b e same = map-append f front (a ∷ []) ∙ (ap (λ l. l ++ f a ∷ []) e ∙ (ap (λ c. map g bs ++ c ∷ []) same ∙ sym (map-append g bs (b ∷ []))))
 
-pub map-take : {A B C : Type 0} (f : A → C) (g : B → C) (as : List A) (xs : List B) (n : ℕ) (a : A) (b : B) → map f as ≡ map g (take n xs) → slice_get xs n ≡ Some b → f a ≡ g b → map f (as ++ a ∷ []) ≡ map g (take (n + 1) xs)
-map-take f g as xs n a b e at same =
+pub map-take : {A B C : Type 0} (f : A → C) (g : B → C) (front : List A) (xs : List B) (n : ℕ) (a : A) (b : B) → map f front ≡ map g (take n xs) → slice_get xs n ≡ Some b → f a ≡ g b → map f (front ++ a ∷ []) ≡ map g (take (n + 1) xs)
+map-take f g front xs n a b e at same =
     let next : suc n ≡ n + 1 = omega arith in
-    map-next f g as (take n xs) a b e same ∙ (ap (map g) (sym (take-next xs n b at)) ∙ ap (λ k. map g (take k xs)) next)
+    map-next f g front (take n xs) a b e same ∙ (ap (map g) (sym (take-next xs n b at)) ∙ ap (λ k. map g (take k xs)) next)
 
 map-self : (xs : List ℕ) → map (λ x. x) xs ≡ xs
 map-self [] = refl
