@@ -24,7 +24,7 @@ use Rattle.bpf_model.specs.MachineStep.{OutcomeStep, KernelStep, InsnStep, RunSt
 use Rattle.bpf_model.specs.Value.{◌>>=◌, number}
 use Rattle.model_laws.specs.Alone.{HoldsState, IsOwn, SharesNothing}
 use Rattle.model_laws.proofs.Alone.{insn-all, helper-own, acts-own, starts_sharing_nothing, stays_sharing_nothing}
-use Rattle.exit_laws.proofs.Lived.{Ends, Further, Ended, insn-ends}
+use Rattle.typed_runs.proofs.Reaching.{same-insn}
 
 -- the run, as one of another program
 abbrev of : Loaded → Run → Run
@@ -70,15 +70,11 @@ module _ (p : Loaded) (s new_store : Store) (opened : List Section) (run new : R
   run-of shares same h =
       (h.0, ap (λ (code : List Insn). insn_at code run.state.place) (sym same) ∙ h.1, insn-of h.0 (insn-all (λ i. names_map i ≡ false) run.program.code run.state.place h.0 shares.code h.1) shares.state h.2)
 
-same-program : (old new : Run) (answer : Answer) → Ends old answer new → new.program ≡ old.program
-same-program old new answer (Further e g) = g.program
-same-program old new answer (Ended n e p c x) = p
-
 exits-of : (p : Loaded) (run : Run) (steps n : ℕ) → SharesNothing run → run.program.code ≡ p.code → ExitsFrom run steps n → ExitsFrom (of p run) steps n
 exits-of p run steps n shares same (exits_now _ new _ h) = exits_now (of p run) (of p new) n (λ store opened. run-of p store store opened run new (Exited n) shares same (h store opened))
 exits-of p run steps n shares same (exits_later _ next rest _ h x) =
     let first = h no_maps [] in
-    let code : next.program ≡ run.program = same-program run next Moved (insn-ends first.0 no_maps [] run Moved no_maps next first.2) in
+    let code : next.program ≡ run.program = (same-insn first.0 no_maps [] run Moved no_maps next first.2).program in
     exits_later (of p run) (of p next) rest n (λ store opened. run-of p store store opened run next Moved shares same (h store opened))
     (exits-of p next rest n (stays_sharing_nothing no_maps no_maps [] run next Moved shares first) (ap (λ (l : Loaded). l.code) code ∙ same) x)
 

@@ -3,28 +3,23 @@ use Rattle.std.proofs.Common.{◌≡◌, ℕ, suc, List, Option, Some, None, ref
 use Rattle.std.specs.Prelude.{slice_get}
 use Rattle.std.proofs.lemmas.Option.{none-some, same_Some}
 use Rattle.bpf_model.specs.declared.insn.Insn.{Insn}
-use Rattle.bpf_model.specs.declared.insn.Insn.TheVariants.{Call}
-use Rattle.bpf_model.specs.declared.insn.CallKind.TheVariants as kinds
-use Rattle.bpf_model.specs.declared.call.KernelFunction.{KernelFunction}
-use Rattle.bpf_model.specs.declared.call.KernelFunction.TheVariants.{ReadLock, ReadUnlock}
 use Rattle.bpf_model.specs.declared.event.Event.{Event}
 use Rattle.bpf_model.specs.declared.event.Answer.{Answer}
 use Rattle.bpf_model.specs.declared.event.Answer.TheVariants.{Moved, Exited}
 use Rattle.bpf_model.specs.declared.limits.TheConstants.{MAX_RUNS}
 use Rattle.bpf_model.specs.declared.limits.MapShape.{MapShape}
-use Rattle.bpf_model.specs.Call.{kernel_function_of}
 use Rattle.bpf_model.specs.Exit.{MayExitFrom, may_exit_now, may_exit_later, MayExitWith, HasNoMaps}
 use Rattle.bpf_model.specs.Section.{Section}
-use Rattle.bpf_model.specs.Step.{Outcome, Moves, Exits}
 use Rattle.bpf_model.specs.MapState.{Store}
 use Rattle.bpf_model.specs.Machine.{Loaded, Run, Machine, fresh_run, open_sections, run_at, run_in}
-use Rattle.bpf_model.specs.MachineStep.{OutcomeStep, KernelStep, InsnStep, RunStep}
+use Rattle.bpf_model.specs.MachineStep.{RunStep}
 use Rattle.bpf_model.specs.Event.{DoesEvent, IsReal}
 use Rattle.bpf_model.specs.Refines.{IsReachedSchedule, RunRefines, SlotRefines}
 use Rattle.bpf_model.specs.Schedule.{Schedule, start_schedule}
 use Rattle.bpf_model.specs.View.{RunView, WorldView, HasExited, shapes_of}
 use Rattle.model_laws.proofs.Exits.{exits_alone}
 use Rattle.model_laws.proofs.Keeping.{no-run}
+use Rattle.model_laws.proofs.Moves.{Changes, Goes, Locks, Unlocks, Ends, changed-insn}
 use Rattle.typed_runs.proofs.Coming.{Comes, Stands, Starting, Stepping, does-come}
 use Rattle.typed_runs.proofs.Reaching.{kept-last}
 use Rattle.world_invariant.specs.Invariant.{IsWorld}
@@ -44,38 +39,31 @@ lived-fresh name program context = record {
   ended = λ n e. absurd (none-some n e);
 }
 
--- A step moves the run on, or ends it.
-pub record GoesOn (old new : Run) : Type 0 where
+-- The run goes on as one of the same program on the same context.
+pub record StaysRun (old new : Run) : Type 0 where
   pub program : new.program ≡ old.program
   pub context : new.context ≡ old.context
   pub exit : new.exit ≡ old.exit
 
-pub data Ends (old : Run) (answer : Answer) (new : Run) : Type 0 where
-  Further : answer ≡ Moved → GoesOn old new → Ends old answer new
-  Ended : (n : ℕ) → answer ≡ Exited n → new.program ≡ old.program → new.context ≡ old.context → new.exit ≡ Some n → Ends old answer new
+-- A step moves the run on, or ends it.
+pub data MovesOrEnds (old : Run) (answer : Answer) (new : Run) : Type 0 where
+  Further : answer ≡ Moved → StaysRun old new → MovesOrEnds old answer new
+  Ended : (n : ℕ) → answer ≡ Exited n → new.program ≡ old.program → new.context ≡ old.context → new.exit ≡ Some n → MovesOrEnds old answer new
 
-further : (old mid new : Run) (answer : Answer) → answer ≡ Moved → new ≡ mid → GoesOn old mid → Ends old answer new
-further old mid new answer e f g = Further e (subst (GoesOn old) (sym f) g)
+further : (old mid new : Run) (answer : Answer) → answer ≡ Moved → new ≡ mid → StaysRun old mid → MovesOrEnds old answer new
+further old mid new answer e f g = Further e (subst (StaysRun old) (sym f) g)
 
-outcome-ends : (out : Outcome) (run : Run) (answer : Answer) (new : Run) → OutcomeStep out run answer new → Ends run answer new
-outcome-ends (Moves next) run answer new h = further run _ new answer h.0 h.1 (record { program = refl; context = refl; exit = refl })
-outcome-ends (Exits n) run answer new h = Ended n h.1 (ap (λ (x : Run). x.program) h.2) (ap (λ (x : Run). x.context) h.2) (ap (λ (x : Run). x.exit) h.2)
-
-kernel-ends : (f : Option KernelFunction) (run : Run) (answer : Answer) (new : Run) → KernelStep f run new → answer ≡ Moved → Ends run answer new
-kernel-ends (Some ReadLock) run answer new h e = further run _ new answer e h.1 (record { program = refl; context = refl; exit = refl })
-kernel-ends (Some ReadUnlock) run answer new h e = further run _ new answer e h.1 (record { program = refl; context = refl; exit = refl })
-kernel-ends None run answer new h e = absurd h
-
-pub insn-ends : (i : Insn) (s : Store) (opened : List Section) (run : Run) (answer : Answer) (new_store : Store) (new : Run) → InsnStep i s opened run answer new_store new → Ends run answer new
-insn-ends (Call kinds.Kernel imm) s opened run answer new_store new h = kernel-ends (kernel_function_of imm) run answer new h.0 h.1
-insn-ends (Call kinds.Helper imm) s opened run answer new_store new h = further run _ new answer h.2 h.3 (record { program = refl; context = refl; exit = refl })
-insn-ends i s opened run answer new_store new h = outcome-ends h.0 run answer new h.4
+moves-or-ends : (run : Run) (answer : Answer) (new : Run) → Changes run answer new → MovesOrEnds run answer new
+moves-or-ends run answer new (Goes next e f) = further run _ new answer e f (record { program = refl; context = refl; exit = refl })
+moves-or-ends run answer new (Locks next room e f) = further run _ new answer e f (record { program = refl; context = refl; exit = refl })
+moves-or-ends run answer new (Unlocks next inside e f) = further run _ new answer e f (record { program = refl; context = refl; exit = refl })
+moves-or-ends run answer new (Ends n out e f) = Ended n e (ap (λ (x : Run). x.program) f) (ap (λ (x : Run). x.context) f) (ap (λ (x : Run). x.exit) f)
 
 -- an exit of the run's program is one of the next run's, which is of the same
 same-exits : (old new : Run) (n : ℕ) → new.program ≡ old.program → new.context ≡ old.context → MayExit old n → MayExit new n
 same-exits old new n p c x = (x.0, subst (λ (z : Loaded × List ℕ). MayExitWith z.0 z.1 x.0 n) (λ i. (sym p i, sym c i)) x.1)
 
-lived-step : (s new_store : Store) (opened : List Section) (old new : Run) (answer : Answer) → HasLived old → old.exit ≡ None → RunStep s opened old answer new_store new → Ends old answer new → HasLived new
+lived-step : (s new_store : Store) (opened : List Section) (old new : Run) (answer : Answer) → HasLived old → old.exit ≡ None → RunStep s opened old answer new_store new → MovesOrEnds old answer new → HasLived new
 lived-step s new_store opened old new answer lived going h (Further e g) =
     let step : RunStep s opened old Moved new_store new = subst (λ (a : Answer). RunStep s opened old a new_store new) e h in record {
       going = λ on steps n x. same-exits old new n g.program g.context (lived.going going (suc steps) n (may_exit_later s new_store opened old new steps n step x));
@@ -94,7 +82,7 @@ AllLived m = (r : ℕ) (run : Run) → run_at m.runs r ≡ Some run → HasLived
 lived-come : (m new : Machine) (r : ℕ) (run : Run) → AllLived m → Comes m new r run → HasLived run
 lived-come m new r run all (Stands at) = all r run at
 lived-come m new r run all (Starting f) = subst HasLived f.is (lived-fresh m.started f.program f.context)
-lived-come m new r run all (Stepping s) = lived-step m.store new.store (open_sections m.runs) s.old run s.answer (all r s.old s.there) s.going s.step (insn-ends s.step.0 m.store (open_sections m.runs) s.old s.answer new.store run s.step.2)
+lived-come m new r run all (Stepping s) = lived-step m.store new.store (open_sections m.runs) s.old run s.answer (all r s.old s.there) s.going s.step (moves-or-ends s.old s.answer run (changed-insn s.step.0 m.store (open_sections m.runs) s.old s.answer new.store run s.step.2))
 
 all-lived : (m new : Machine) (event : Event) (answer : Answer) → IsReal event → AllLived m → DoesEvent m event answer new → AllLived new
 all-lived m new event answer real all h r run at = lived-come m new r run all (does-come m new event answer real h r run at)

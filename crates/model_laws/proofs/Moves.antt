@@ -15,6 +15,7 @@ use Rattle.bpf_model.specs.declared.event.Event.{Event}
 use Rattle.bpf_model.specs.declared.event.Event.TheVariants as events
 use Rattle.bpf_model.specs.declared.event.Answer.{Answer}
 use Rattle.bpf_model.specs.declared.event.Answer.TheVariants as answers
+use Rattle.bpf_model.specs.declared.event.Answer.TheVariants.{Moved, Exited}
 use Rattle.bpf_model.specs.declared.event.EventRefusal.{EventRefusal}
 use Rattle.bpf_model.specs.declared.value.Value.{Value}
 use Rattle.bpf_model.specs.declared.value.Value.TheVariants.{Nothing, Number}
@@ -73,19 +74,32 @@ goes-locked run next going room = record {
   ends = λ h. absurd (h going);
 }
 
-goes-ends : (out : Outcome) (run : Run) (answer : Answer) (new : Run) → OutcomeStep out run answer new → GoesOn run new
-goes-ends (Moves next) run answer new h = subst (GoesOn run) (sym h.1) (goes-moves run next)
-goes-ends (Exits n) run answer new h = subst (GoesOn run) (sym h.2) (goes-exits run n h.0)
+-- what a step makes of its run: it goes on, and may begin or end a section, or it ends outside every section
+pub data Changes (run : Run) (answer : Answer) (new : Run) : Type 0 where
+  Goes : (next : State) → answer ≡ Moved → new ≡ moves run next → Changes run answer new
+  Locks : (next : State) → run.depth < MAX_DEPTH → answer ≡ Moved → new ≡ moves (locked run) next → Changes run answer new
+  Unlocks : (next : State) → 0 < run.depth → answer ≡ Moved → new ≡ moves (unlocked run) next → Changes run answer new
+  Ends : (n : ℕ) → run.depth ≡ 0 → answer ≡ Exited n → new ≡ exits run n → Changes run answer new
 
-goes-kernel : (f : Option KernelFunction) (run new : Run) → run.exit ≡ None → KernelStep f run new → GoesOn run new
-goes-kernel (Some ReadLock) run new going h = subst (GoesOn run) (sym h.1) (goes-locked run _ going h.0)
-goes-kernel (Some ReadUnlock) run new going h = subst (GoesOn run) (sym h.1) (goes-unlocked run _ going h.0)
-goes-kernel None run new going h = absurd h
+changed-ends : (out : Outcome) (run : Run) (answer : Answer) (new : Run) → OutcomeStep out run answer new → Changes run answer new
+changed-ends (Moves next) run answer new h = Goes next h.0 h.1
+changed-ends (Exits n) run answer new h = Ends n h.0 h.1 h.2
 
-goes-insn : (i : Insn) (s : Store) (opened : List Section) (run : Run) (answer : Answer) (new_store : Store) (new : Run) → run.exit ≡ None → InsnStep i s opened run answer new_store new → GoesOn run new
-goes-insn (Call kinds.Kernel imm) s opened run answer new_store new going h = goes-kernel (kernel_function_of imm) run new going h.0
-goes-insn (Call kinds.Helper imm) s opened run answer new_store new going h = subst (GoesOn run) (sym h.3) (goes-moves run _)
-goes-insn i s opened run answer new_store new going h = goes-ends h.0 run answer new h.4
+changed-kernel : (f : Option KernelFunction) (run : Run) (answer : Answer) (new : Run) → KernelStep f run new → answer ≡ Moved → Changes run answer new
+changed-kernel (Some ReadLock) run answer new h e = Locks (returns Nothing run.state) h.0 e h.1
+changed-kernel (Some ReadUnlock) run answer new h e = Unlocks (returns Nothing run.state) h.0 e h.1
+changed-kernel None run answer new h e = absurd h
+
+pub changed-insn : (i : Insn) (s : Store) (opened : List Section) (run : Run) (answer : Answer) (new_store : Store) (new : Run) → InsnStep i s opened run answer new_store new → Changes run answer new
+changed-insn (Call kinds.Kernel imm) s opened run answer new_store new h = changed-kernel (kernel_function_of imm) run answer new h.0 h.1
+changed-insn (Call kinds.Helper imm) s opened run answer new_store new h = Goes (returns h.0 run.state) h.2 h.3
+changed-insn i s opened run answer new_store new h = changed-ends h.0 run answer new h.4
+
+goes-changed : (run : Run) (answer : Answer) (new : Run) → run.exit ≡ None → Changes run answer new → GoesOn run new
+goes-changed run answer new going (Goes next e f) = subst (GoesOn run) (sym f) (goes-moves run next)
+goes-changed run answer new going (Locks next room e f) = subst (GoesOn run) (sym f) (goes-locked run next going room)
+goes-changed run answer new going (Unlocks next inside e f) = subst (GoesOn run) (sym f) (goes-unlocked run next going inside)
+goes-changed run answer new going (Ends n out e f) = subst (GoesOn run) (sym f) (goes-exits run n out)
 
 -- its registers and its frame
 born-ends : (births : ℕ) (out : Outcome) (run : Run) (answer : Answer) (new : Run) → IsBornState births run.state → IsBornOutcome births out → OutcomeStep out run answer new → IsBornState births new.state
@@ -128,7 +142,7 @@ stays-store m new store e = Stay (ap (λ q. q.runs) e) (ap (λ q. q.started) e)
 goes-run : (m : Machine) (r : ℕ) (answer : Answer) (new : Machine) → StepsRun m r answer new → RunsMove m new
 goes-run m r answer new h =
     Go r h.run h.new_run h.there
-    (goes-insn h.step.0 m.store (open_sections m.runs) h.run answer h.new_store h.new_run h.going h.step.2)
+    (goes-changed h.run answer h.new_run h.going (changed-insn h.step.0 m.store (open_sections m.runs) h.run answer h.new_store h.new_run h.step.2))
     (born-insn h.step.0 m.store (open_sections m.runs) h.run answer h.new_store h.new_run h.step.2)
     (ap (λ q. q.runs) h.new_is) (ap (λ q. q.started) h.new_is)
 

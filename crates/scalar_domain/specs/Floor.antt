@@ -25,18 +25,20 @@ use Rattle.scalar_domain.specs.Relation.{IsNoBound}
 abbrev pub KeepsLoadFloor : Width → Scalar → Type 0
 KeepsLoadFloor width result = result.greatest < 256 ^ byte_count width
 
--- What an operation gives is at least this narrow.
+-- What an operation on 64 bits gives is at least this narrow.
+pub record KeepsWideFloor (op : AluOp) (a b result : Scalar) : Type 0 where
+  pub sum : op ≡ Add → Adds a b result
+  pub difference : op ≡ Sub → Subtracts a b result
+  pub mask : (k : ℕ) → op ≡ And → IsConstant b k → Masks k result
+  pub shift_left : (k : ℕ) → op ≡ ShiftLeft → IsConstant b k → k < 64 → ShiftsLeft k a result
+  pub shift_right : (k : ℕ) → op ≡ ShiftRight → IsConstant b k → k < 64 → ShiftsRight k a result
+  pub remainder : (k : ℕ) → op ≡ Mod → IsConstant b k → 0 < k → result.greatest < k
+
+-- What an operation gives is at least this narrow; on 32 bits, it is below 2^32.
 pub record KeepsFloor (size : Size) (op : AluOp) (a b result : Scalar) : Type 0 where
   pub constant : (x y : ℕ) → IsConstant a x → IsConstant b y → IsConstant result (alu size op x y)
   pub narrow : size ≡ Word32 → result.greatest < 2 ^ 32
-  pub sum : size ≡ Word64 → op ≡ Add → Adds a b result
-  pub difference : size ≡ Word64 → op ≡ Sub → Subtracts a b result
-  pub mask : (k : ℕ) → size ≡ Word64 → op ≡ And → IsConstant b k → Masks k result
-  pub shift_left : (k : ℕ) → size ≡ Word64 → op ≡ ShiftLeft → IsConstant b k → k < 64
-      → ShiftsLeft k a result
-  pub shift_right : (k : ℕ) → size ≡ Word64 → op ≡ ShiftRight → IsConstant b k → k < 64
-      → ShiftsRight k a result
-  pub remainder : (k : ℕ) → size ≡ Word64 → op ≡ Mod → IsConstant b k → 0 < k → result.greatest < k
+  pub wide : size ≡ Word64 → KeepsWideFloor op a b result
 
 -- How many bits the result of an operation of one operand has; a byte swap of 64 bits has them all,
 -- whatever its class.

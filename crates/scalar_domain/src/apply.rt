@@ -2,11 +2,8 @@
 ghost use Rattle.std.specs.Prelude.{◌≡◌, ℕ, ◌<◌, ◌≤◌, ◌^◌};
 ghost use Rattle.std.specs.Int.{w32, w64};
 ghost use Rattle.bpf_model.specs.Arithmetic.{operate, alu};
-ghost use Rattle.bpf_model.specs.declared.insn.AluOp.TheVariants.{Add, Sub, And, ShiftLeft, ShiftRight, Mod};
-ghost use Rattle.bpf_model.specs.declared.opcode.Size.TheVariants.{Word32, Word64};
-ghost use Rattle.scalar_domain.specs.Scalar.{Holds, IsConstant};
-ghost use Rattle.scalar_domain.specs.Precision.{Adds, Subtracts, Masks, ShiftsLeft, ShiftsRight};
-ghost use Rattle.scalar_domain.specs.Floor.{KeepsFloor};
+ghost use Rattle.scalar_domain.specs.Scalar.{Holds};
+ghost use Rattle.scalar_domain.specs.Floor.{KeepsFloor, KeepsWideFloor};
 ghost use Rattle.scalar_domain.specs.Unsigned.{unsigned_form};
 
 use crate::scalar::Scalar;
@@ -34,14 +31,7 @@ impl Scalar {
 fn apply_wide(op: AluOp, a: Scalar, b: Scalar) -> Scalar
     ensures sound { (x y : ℕ) → x < 2 ^ 64 → y < 2 ^ 64 → Holds a x → Holds b y
         → Holds result (operate w64 op x y) }
-    ensures sum { op ≡ Add → Adds a b result }
-    ensures difference { op ≡ Sub → Subtracts a b result }
-    ensures mask { (k : ℕ) → op ≡ And → IsConstant b k → Masks k result }
-    ensures shift_left { (k : ℕ) → op ≡ ShiftLeft → IsConstant b k → k < 64
-        → ShiftsLeft k a result }
-    ensures shift_right { (k : ℕ) → op ≡ ShiftRight → IsConstant b k → k < 64
-        → ShiftsRight k a result }
-    ensures remainder { (k : ℕ) → op ≡ Mod → IsConstant b k → 0 < k → result.greatest < k }
+    ensures floor { KeepsWideFloor op a b result }
 {
     if a.greatest < 1 << 63 && b.greatest < 1 << 63 {
         apply_unsigned(without_sign(op), a, b)
@@ -79,14 +69,7 @@ fn without_sign(op: AluOp) -> AluOp
 fn apply_unsigned(op: AluOp, a: Scalar, b: Scalar) -> Scalar
     ensures sound { (x y : ℕ) → x < 2 ^ 64 → y < 2 ^ 64 → Holds a x → Holds b y
         → Holds result (operate w64 op x y) }
-    ensures sum { op ≡ Add → Adds a b result }
-    ensures difference { op ≡ Sub → Subtracts a b result }
-    ensures mask { (k : ℕ) → op ≡ And → IsConstant b k → Masks k result }
-    ensures shift_left { (k : ℕ) → op ≡ ShiftLeft → IsConstant b k → k < 64
-        → ShiftsLeft k a result }
-    ensures shift_right { (k : ℕ) → op ≡ ShiftRight → IsConstant b k → k < 64
-        → ShiftsRight k a result }
-    ensures remainder { (k : ℕ) → op ≡ Mod → IsConstant b k → 0 < k → result.greatest < k }
+    ensures floor { KeepsWideFloor op a b result }
 {
     match op {
         AluOp::Add => a.add(b),

@@ -49,14 +49,16 @@ pub quiet_step : (i : Insn) (shapes : List MapShape) (ctx_len top : ℕ) (a b : 
     → (IsReadyInsn i (state_of a) → KeepsFacts i (state_of a) (state_of b)) → Serves shapes i (state_of a) (state_of b) None → Stepped i shapes ctx_len top a b (Ok f)
 quiet_step i shapes ctx_len top a b f e q sound below keeps serves = subst (λ (f : Flow). Stepped i shapes ctx_len top a b (Ok f)) (sym e) (record {
   done = record {
-    sound = sound;
-    branches = λ x. absurd (q.no_branch x);
-    region = λ r c m x d. absurd (none-some r (sym q.no_base ∙ x));
-    compares = λ r c m x d. absurd (q.no_test r x);
+    transfer = record {
+      sound = sound;
+      branches = λ x. absurd (q.no_branch x);
+      region = λ r c m x d. absurd (none-some r (sym q.no_base ∙ x));
+      compares = λ r c m x d. absurd (q.no_test r x);
+      keeps = keeps;
+      keeps_taken = λ ready. tt;
+      serves = serves;
+    };
     taken_below = tt;
-    keeps = keeps;
-    keeps_taken = λ ready. tt;
-    serves = serves;
   };
   below = below;
   unchanged = tt;
@@ -136,14 +138,16 @@ pub access_step : (i : Insn) (shapes : List MapShape) (ctx_len top : ℕ) (a b :
     → Transfers i shapes ctx_len (state_of a) (state_of b) None → AreBelow top b → (IsReadyInsn i (state_of a) → KeepsFacts i (state_of a) (state_of b)) → Serves shapes i (state_of a) (state_of b) None → Stepped i shapes ctx_len top a b (Ok f)
 access_step i shapes ctx_len top a b f region base e q is sound below keeps serves = subst (λ (f : Flow). Stepped i shapes ctx_len top a b (Ok f)) (sym e) (record {
   done = record {
-    sound = λ forward. sound;
-    branches = λ x. absurd (q.no_branch x);
-    region = λ r c m x d. subst (λ (n : ℕ). IsInRegion c region (m.regs n)) (same_Some base r (sym q.base_is ∙ x)) (in_region region (kind_at a.regs base) c d.naming (m.regs base) is (d.regs base));
-    compares = λ r c m x d. absurd (q.no_test r x);
+    transfer = record {
+      sound = λ forward. sound;
+      branches = λ x. absurd (q.no_branch x);
+      region = λ r c m x d. subst (λ (n : ℕ). IsInRegion c region (m.regs n)) (same_Some base r (sym q.base_is ∙ x)) (in_region region (kind_at a.regs base) c d.naming (m.regs base) is (d.regs base));
+      compares = λ r c m x d. absurd (q.no_test r x);
+      keeps = keeps;
+      keeps_taken = λ ready. tt;
+      serves = serves;
+    };
     taken_below = tt;
-    keeps = keeps;
-    keeps_taken = λ ready. tt;
-    serves = serves;
   };
   below = below;
   unchanged = tt;

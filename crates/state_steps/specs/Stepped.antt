@@ -1,5 +1,5 @@
 -- All that is said of the step of one instruction.
-use Rattle.std.specs.Prelude.{◌≡◌, ℕ, List, Some, None, Result, IfOk, OnErr, IfSome, IsSome, ℤ, pos}
+use Rattle.std.specs.Prelude.{◌≡◌, ℕ, List, Option, Some, None, Result, IfOk, OnErr, IfSome, IsSome, ℤ, pos}
 use Rattle.std.specs.Prelude.{option_map}
 use Rattle.bpf_model.specs.declared.limits.MapShape.{MapShape}
 use Rattle.bpf_model.specs.declared.insn.Insn.{Insn}
@@ -45,23 +45,27 @@ pub record IsEqualToNull (condition : Condition) (size : Size) (dst : ℕ) (src 
   pub src_is : src ≡ Immediate (pos 0)
   pub kind : kind_in a.regs dst ≡ kinds.MaybeNull map id
 
+-- What an instruction makes of a state: the state behind it, that where a conditional jump is
+-- taken, and the region that it reaches.
+pub record IsTransfer (i : Insn) (shapes : List MapShape) (ctx_len : ℕ) (old new : AbsState)
+    (taken : Option AbsState) (region : Region) : Type 0 where
+  pub sound : IsForward i →
+      Transfers i shapes ctx_len (state_of old) (state_of new) (option_map state_of taken)
+  pub branches : IsBranch i → IsSome taken
+  pub region : (b : ℕ) (c : Scene) (m : State) → base_of i ≡ Some b → Describes (state_of old) c m →
+      IsInRegion c region (m.regs b)
+  pub compares : (r : ℕ) (c : Scene) (m : State) → Compares i r → Describes (state_of old) c m →
+      IsComparable i (m.regs r)
+  pub keeps : IsReadyInsn i (state_of old) → KeepsFacts i (state_of old) (state_of new)
+  pub keeps_taken : IsReadyInsn i (state_of old) →
+      IfSome taken (λ t. KeepsFacts i (state_of old) (state_of t))
+  pub serves : Serves shapes i (state_of old) (state_of new) (option_map state_of taken)
+
 -- an instruction that is not refused
 pub record IsDone (i : Insn) (shapes : List MapShape) (ctx_len top : ℕ) (old new : AbsState)
     (flow : Flow) : Type 0 where
-  pub sound : IsForward i →
-      Transfers i shapes ctx_len (state_of old) (state_of new)
-      (option_map state_of (taken_state flow))
-  pub branches : IsBranch i → IsSome flow.taken
-  pub region : (b : ℕ) (c : Scene) (m : State) → base_of i ≡ Some b → Describes (state_of old) c m →
-      IsInRegion c flow.region (m.regs b)
-  pub compares : (r : ℕ) (c : Scene) (m : State) → Compares i r → Describes (state_of old) c m →
-      IsComparable i (m.regs r)
+  pub transfer : IsTransfer i shapes ctx_len old new (taken_state flow) flow.region
   pub taken_below : IfSome (taken_state flow) (AreBelow top)
-  pub keeps : IsReadyInsn i (state_of old) → KeepsFacts i (state_of old) (state_of new)
-  pub keeps_taken : IsReadyInsn i (state_of old) →
-      IfSome (taken_state flow) (λ t. KeepsFacts i (state_of old) (state_of t))
-  pub serves : Serves shapes i (state_of old) (state_of new)
-      (option_map state_of (taken_state flow))
 
 -- The instruction is done, or refused.
 pub record Stepped (i : Insn) (shapes : List MapShape) (ctx_len top : ℕ) (old new : AbsState)

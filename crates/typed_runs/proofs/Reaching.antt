@@ -6,23 +6,16 @@ use Rattle.bpf_model.specs.Places.{start-inside}
 use Rattle.bpf_model.specs.declared.limits.MapShape.{MapShape}
 use Rattle.bpf_model.specs.declared.limits.TheConstants.{MAX_RUNS}
 use Rattle.bpf_model.specs.declared.insn.Insn.{Insn}
-use Rattle.bpf_model.specs.declared.insn.Insn.TheVariants.{Call}
-use Rattle.bpf_model.specs.declared.insn.CallKind.TheVariants as kinds
-use Rattle.bpf_model.specs.declared.call.KernelFunction.{KernelFunction}
-use Rattle.bpf_model.specs.declared.call.KernelFunction.TheVariants.{ReadLock, ReadUnlock}
 use Rattle.bpf_model.specs.declared.event.Event.{Event}
 use Rattle.bpf_model.specs.declared.event.Answer.{Answer}
-use Rattle.bpf_model.specs.Call.{kernel_function_of}
-use Rattle.bpf_model.specs.Step.{Outcome, Moves, Exits}
 use Rattle.bpf_model.specs.Section.{Section}
 use Rattle.bpf_model.specs.MapState.{MapState, Store}
 use Rattle.bpf_model.specs.Machine.{Loaded, Run, Machine, open_sections, fresh_run, run_at, start_machine, moves, locked, unlocked}
-use Rattle.bpf_model.specs.MachineStep.{OutcomeStep, KernelStep, returns, InsnStep, RunStep, StepsRun, NeverStuck}
+use Rattle.bpf_model.specs.MachineStep.{InsnStep, RunStep, StepsRun, NeverStuck}
 use Rattle.bpf_model.specs.Event.{DoesEvent, AreBytes, IsReal, AreReal}
 use Rattle.bpf_model.specs.History.{IsHistory, AllStates}
 use Rattle.bpf_model.specs.Schedule.{Schedule, IsScheduledHistory, last_scheduled, start_schedule}
 use Rattle.bpf_model.specs.declared.event.Answer.TheVariants.{Moved, Exited}
-use Rattle.bpf_model.specs.declared.value.Value.TheVariants.{Nothing}
 use Rattle.bpf_model.specs.Headline.{AreNeverStuck, moved_once}
 use Rattle.bpf_model.specs.View.{WorldView}
 use Rattle.bpf_model.specs.Refines.{IsReachedSchedule, Tracks}
@@ -30,6 +23,7 @@ use Rattle.bpf_model.specs.View.{shapes_of}
 use Rattle.model_laws.proofs.Sections.{has_open}
 use Rattle.model_laws.proofs.Stores.{KeepsShapes, StoreMoves, is_reap, does-moves}
 use Rattle.model_laws.proofs.Keeping.{no-run, starts_consistent, stays_consistent}
+use Rattle.model_laws.proofs.Moves.{Changes, Goes, Locks, Unlocks, Ends, changed-insn}
 use Rattle.typed_runs.specs.Describes.{Scene, scene_of}
 use Rattle.typed_runs.specs.Verified.{Plan, AreMapsBound, AllBytes, Surrounds, IsPlanned, IsPlannedAfter, IsClosed}
 use Rattle.typed_runs.specs.Well.{AreVerified, IsVerifiedFor, IsTyped, IsWell}
@@ -73,19 +67,14 @@ same-along old mid new answer same e f h = subst (λ x. SameProgram old x new) (
 same-moves : (old mid : Run) → mid.program ≡ old.program → mid.context ≡ old.context → mid.moved ≡ old.moved + 1 → mid.exit ≡ old.exit → SameProgram old Moved mid
 same-moves old mid p c m e = record { program = p; context = c; counts = m; moved = inl (m, e) }
 
-same-ends : (out : Outcome) (run : Run) (answer : Answer) (new : Run) → OutcomeStep out run answer new → SameProgram run answer new
-same-ends (Moves next) run answer new h = same-along run _ new answer Moved h.0 h.1 (same-moves run (moves run next) refl refl refl refl)
-same-ends (Exits n) run answer new h = same-along run _ new answer (Exited n) h.1 h.2 (record { program = refl; context = refl; counts = omega arith; moved = inr refl })
-
-same-kernel : (f : Option KernelFunction) (run : Run) (answer : Answer) (new : Run) → KernelStep f run new → answer ≡ Moved → SameProgram run answer new
-same-kernel (Some ReadLock) run answer new h e = same-along run _ new answer Moved e h.1 (same-moves run (moves (locked run) (returns Nothing run.state)) refl refl refl refl)
-same-kernel (Some ReadUnlock) run answer new h e = same-along run _ new answer Moved e h.1 (same-moves run (moves (unlocked run) (returns Nothing run.state)) refl refl refl refl)
-same-kernel None run answer new h e = absurd h
+same-changed : (run : Run) (answer : Answer) (new : Run) → Changes run answer new → SameProgram run answer new
+same-changed run answer new (Goes next e f) = same-along run _ new answer Moved e f (same-moves run (moves run next) refl refl refl refl)
+same-changed run answer new (Locks next room e f) = same-along run _ new answer Moved e f (same-moves run (moves (locked run) next) refl refl refl refl)
+same-changed run answer new (Unlocks next inside e f) = same-along run _ new answer Moved e f (same-moves run (moves (unlocked run) next) refl refl refl refl)
+same-changed run answer new (Ends n out e f) = same-along run _ new answer (Exited n) e f (record { program = refl; context = refl; counts = omega arith; moved = inr refl })
 
 pub same-insn : (i : Insn) (s : Store) (opened : List Section) (run : Run) (answer : Answer) (new_store : Store) (new : Run) → InsnStep i s opened run answer new_store new → SameProgram run answer new
-same-insn (Call kinds.Kernel imm) s opened run answer new_store new h = same-kernel (kernel_function_of imm) run answer new h.0 h.1
-same-insn (Call kinds.Helper imm) s opened run answer new_store new h = same-along run _ new answer Moved h.2 h.3 (same-moves run (moves run (returns h.0 run.state)) refl refl refl refl)
-same-insn i s opened run answer new_store new h = same-ends h.0 run answer new h.4
+same-insn i s opened run answer new_store new h = same-changed run answer new (changed-insn i s opened run answer new_store new h)
 
 -- what is so around a run
 pub surrounds : (m : Machine) (r : ℕ) (run : Run) → IsWell m → run_at m.runs r ≡ Some run → run.exit ≡ None → (t : IsTyped m.store run) → Surrounds t.safe.shapes run.program.context_len m.store (open_sections m.runs) run

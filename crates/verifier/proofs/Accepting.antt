@@ -469,7 +469,7 @@ module _ (program : List Insn) (targets : List (Option ℕ)) (long : length targ
 
   leaves : (start : ℕ) (l : IsGuardedLookup program shapes start) (q : Part) → s.0 ≡ start + part_slot q → done.insn ≡ part_insn (lookup_of l) q
       → LeavesPart (lookup_of l) q (state_of done.state) (state_of done.spreads.next) (option_map state_of done.spreads.taken)
-  leaves start l q place is = done.spreads.serves.part (lookup_of l) q (part_ready program shapes plain k s.0 done.insn done.state s.1 here start l q place is)
+  leaves start l q place is = done.spreads.transfer.serves.part (lookup_of l) q (part_ready program shapes plain k s.0 done.insn done.state s.1 here start l q place is)
 
   -- where control falls through
   next_facts : Follows done.insn done.target k (suc k) → Stands program shapes s.0 done.insn → Knows program shapes (suc k) done.spreads.next
@@ -478,8 +478,8 @@ module _ (program : List Insn) (targets : List (Option ℕ)) (long : length targ
       let left = leaves part.0 part.1 q.0 q.1 q.2 in
       part_to (suc k) follows done.spreads.next part.0 part.1 q.0 q.1 q.2 left.keeps left.inside
   next_facts follows (inr (away, inl c)) =
-      section_to_next (suc k) follows done.spreads.next away c.0 c.1 (done.spreads.serves.section c.0 (section_ready program shapes plain k s.0 done.insn done.state s.1 at here.facts c.0 c.1))
-  next_facts follows (inr (away, inr simple)) = ordinary_to (suc k) follows done.spreads.next away simple (done.spreads.keeps (ready_ordinary away simple))
+      section_to_next (suc k) follows done.spreads.next away c.0 c.1 (done.spreads.transfer.serves.section c.0 (section_ready program shapes plain k s.0 done.insn done.state s.1 at here.facts c.0 c.1))
+  next_facts follows (inr (away, inr simple)) = ordinary_to (suc k) follows done.spreads.next away simple (done.spreads.transfer.keeps (ready_ordinary away simple))
 
   next_expected : Follows done.insn done.target k (suc k) → IsExpected program shapes (suc k) done.spreads.next
   next_expected follows start l p n there =
@@ -519,8 +519,8 @@ module _ (program : List Insn) (targets : List (Option ℕ)) (long : length targ
     jump_facts (inr (away, inl c)) = absurd (section_no_jump c.0 leads.by (ap distance (sym c.1) ∙ leads.by_is))
     jump_facts (inr (away, inr simple)) =
         let ready = ready_ordinary away simple in
-        ordinary_to t (inr e) b away simple (jumping_is (λ x. KeepsFacts done.insn (state_of done.state) (state_of x)) (done.spreads.keeps ready)
-        (λ x g. some_here (λ x. KeepsFacts done.insn (state_of done.state) (state_of x)) done.spreads.taken x g (done.spreads.keeps_taken ready)) b f)
+        ordinary_to t (inr e) b away simple (jumping_is (λ x. KeepsFacts done.insn (state_of done.state) (state_of x)) (done.spreads.transfer.keeps ready)
+        (λ x g. some_here (λ x. KeepsFacts done.insn (state_of done.state) (state_of x)) done.spreads.taken x g (done.spreads.transfer.keeps_taken ready)) b f)
 
     jump_known : IsKnown program shapes t b
     jump_known = record {

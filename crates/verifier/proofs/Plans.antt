@@ -161,7 +161,7 @@ module _ (program : List Insn) (targets : List (Option ℕ)) (all : HasTargets p
       ahead p q d h e = omega (arith, ints)
 
   jumping_state : (t : ℕ) → done.target ≡ Some t → spread.jumping ≡ Some (unwrap_or spread.taken spread.next)
-  jumping_state t e = jumping_is spread.next done.insn k spread.taken spread.jumping done.rest spread.mid spread.fell (λ f. spread.branches (f, has_distance t e))
+  jumping_state t e = jumping_is spread.next done.insn k spread.taken spread.jumping done.rest spread.mid spread.fell (λ f. spread.transfer.branches (f, has_distance t e))
 
   later : Later done.rest new
   later =
@@ -270,7 +270,7 @@ module _ (program : List Insn) (targets : List (Option ℕ)) (all : HasTargets p
       there = done.insn_is;
       new = state_of spread.next;
       taken = option_map state_of spread.taken;
-      transfers = spread.moves forward;
+      transfers = spread.transfer.sound forward;
       falls_on = λ f. covers_waiting (suc k) spread.next (omega arith) (steps.falls_on f);
       jumps_on = jumps_here;
     }
@@ -278,8 +278,8 @@ module _ (program : List Insn) (targets : List (Option ℕ)) (all : HasTargets p
     notes_here : Notes program shapes ctx_len (spliced plan) k done.insn region
     notes_here = record {
       covered = λ a e. subst (plans.IsCovered program shapes ctx_len (spliced plan) k) (known_here a e) covered_here;
-      reaches = λ a b c m e f d. spread.reaches b c m f (subst (λ a. Describes a c m) (sym (known_here a e)) d);
-      compares = λ a q c m e f d. spread.compares q c m f (subst (λ a. Describes a c m) (sym (known_here a e)) d);
+      reaches = λ a b c m e f d. spread.transfer.region b c m f (subst (λ a. Describes a c m) (sym (known_here a e)) d);
+      compares = λ a q c m e f d. spread.transfer.compares q c m f (subst (λ a. Describes a c m) (sym (known_here a e)) d);
     }
 
     -- the instruction of this index, where it is the one at hand

@@ -15,10 +15,12 @@ returns-then-b c =
           subst (Holds c.apply_unsigned.result)
           (ap (λ o. operate w64 o x y) w ∙ sym (wide_same c.args.op x y (omega (arith, h.greatest, c.if-a.true)) (omega (arith, k.greatest, c.if-b.true))))
           (r.sound x y p q h k);
-      sum = λ e. r.sum (w ∙ ap unsigned_form e);
-      difference = λ e. r.difference (w ∙ ap unsigned_form e);
-      mask = λ k e. r.mask k (w ∙ ap unsigned_form e);
-      shift_left = λ k e. r.shift_left k (w ∙ ap unsigned_form e);
-      shift_right = λ k e. r.shift_right k (w ∙ ap unsigned_form e);
-      remainder = λ k e. r.remainder k (w ∙ ap unsigned_form e);
+      floor = record {
+        sum = λ e. r.floor.sum (w ∙ ap unsigned_form e);
+        difference = λ e. r.floor.difference (w ∙ ap unsigned_form e);
+        mask = λ k e. r.floor.mask k (w ∙ ap unsigned_form e);
+        shift_left = λ k e. r.floor.shift_left k (w ∙ ap unsigned_form e);
+        shift_right = λ k e. r.floor.shift_right k (w ∙ ap unsigned_form e);
+        remainder = λ k e. r.floor.remainder k (w ∙ ap unsigned_form e);
+      };
     }

@@ -21,27 +21,29 @@ returns-in-Some-Some-clause-floor c =
       narrow = λ s.
           let e : c.alu.result ≡ alu Word32 c.args.op u v = c.alu.ensures ∙ ap (λ z. alu z c.args.op u v) s in
           omega (arith, c.constant.ensures.exact.greatest, e, narrow_lt c.args.op u v);
-      sum = λ s o.
-          let e : c.alu.result ≡ (u + v) % 2 ^ 64 = c.alu.ensures ∙ ap2 (λ z op. alu z op u v) s o in
-          sum_of_constants c.args.a c.args.b c.constant.result u v c.in-Some-Some.ensures c.in-Some-Some.ensures'
-          (subst (IsConstant c.constant.result) e c.constant.ensures.exact) (c.constant.ensures.zeros ∙ e) (c.constant.ensures.ones ∙ e);
-      difference = λ s o.
-          let e : c.alu.result ≡ (u + (2 ^ 64 - v)) % 2 ^ 64 = c.alu.ensures ∙ ap2 (λ z op. alu z op u v) s o ∙ word_difference u v (omega arith) in
-          difference_of_constants c.args.a c.args.b c.constant.result u v (omega (arith, c.in-Some-Some.ensures.least)) (omega arith) c.in-Some-Some.ensures c.in-Some-Some.ensures'
-          (subst (IsConstant c.constant.result) e c.constant.ensures.exact) (c.constant.ensures.zeros ∙ e) (c.constant.ensures.ones ∙ e);
-      mask = λ k s o i.
-          let e : c.alu.result ≡ bit_and u v = c.alu.ensures ∙ ap2 (λ z op. alu z op u v) s o in
-          let f : v ≡ k = sym c.in-Some-Some.ensures'.least ∙ i.least in
-          subst (λ n. Masks n c.constant.result) f (mask_of_constants c.constant.result u v
-          (subst (IsConstant c.constant.result) e c.constant.ensures.exact) (c.constant.ensures.zeros ∙ e));
-      shift_left = λ k s o i l.
-          let f : v ≡ k = sym c.in-Some-Some.ensures'.least ∙ i.least in
-          let g : v % 64 ≡ k = ap (λ n. n % 64) f ∙ mod-eq_of_lt l in
-          let e : c.alu.result ≡ (u * 2 ^ k) % 2 ^ 64 = c.alu.ensures ∙ ap2 (λ z op. alu z op u v) s o ∙ ap (λ (n : ℕ). (u * 2 ^ n) % 2 ^ 64) g in
-          shl_of_constants c.args.a c.constant.result u k l c.in-Some-Some.ensures
-          (subst (IsConstant c.constant.result) e c.constant.ensures.exact) (c.constant.ensures.zeros ∙ e);
-      shift_right = λ k s o i l. grind (arith, common_steps);
-      remainder = λ k s o i p. grind (arith, common_steps);
+      wide = λ s. record {
+        sum = λ o.
+            let e : c.alu.result ≡ (u + v) % 2 ^ 64 = c.alu.ensures ∙ ap2 (λ z op. alu z op u v) s o in
+            sum_of_constants c.args.a c.args.b c.constant.result u v c.in-Some-Some.ensures c.in-Some-Some.ensures'
+            (subst (IsConstant c.constant.result) e c.constant.ensures.exact) (c.constant.ensures.zeros ∙ e) (c.constant.ensures.ones ∙ e);
+        difference = λ o.
+            let e : c.alu.result ≡ (u + (2 ^ 64 - v)) % 2 ^ 64 = c.alu.ensures ∙ ap2 (λ z op. alu z op u v) s o ∙ word_difference u v (omega arith) in
+            difference_of_constants c.args.a c.args.b c.constant.result u v (omega (arith, c.in-Some-Some.ensures.least)) (omega arith) c.in-Some-Some.ensures c.in-Some-Some.ensures'
+            (subst (IsConstant c.constant.result) e c.constant.ensures.exact) (c.constant.ensures.zeros ∙ e) (c.constant.ensures.ones ∙ e);
+        mask = λ k o i.
+            let e : c.alu.result ≡ bit_and u v = c.alu.ensures ∙ ap2 (λ z op. alu z op u v) s o in
+            let f : v ≡ k = sym c.in-Some-Some.ensures'.least ∙ i.least in
+            subst (λ n. Masks n c.constant.result) f (mask_of_constants c.constant.result u v
+            (subst (IsConstant c.constant.result) e c.constant.ensures.exact) (c.constant.ensures.zeros ∙ e));
+        shift_left = λ k o i l.
+            let f : v ≡ k = sym c.in-Some-Some.ensures'.least ∙ i.least in
+            let g : v % 64 ≡ k = ap (λ n. n % 64) f ∙ mod-eq_of_lt l in
+            let e : c.alu.result ≡ (u * 2 ^ k) % 2 ^ 64 = c.alu.ensures ∙ ap2 (λ z op. alu z op u v) s o ∙ ap (λ (n : ℕ). (u * 2 ^ n) % 2 ^ 64) g in
+            shl_of_constants c.args.a c.constant.result u k l c.in-Some-Some.ensures
+            (subst (IsConstant c.constant.result) e c.constant.ensures.exact) (c.constant.ensures.zeros ∙ e);
+        shift_right = λ k o i l. grind (arith, common_steps);
+        remainder = λ k o i p. grind (arith, common_steps);
+      };
     }
 
 pub returns-in-Word64-clause-floor : goal.returns-in-Word64-clause-floor
@@ -50,10 +52,5 @@ returns-in-Word64-clause-floor c =
     record {
       constant = λ x y h k. grind (arith, common_steps);
       narrow = λ s. grind (arith, common_steps);
-      sum = λ s. r.sum;
-      difference = λ s. r.difference;
-      mask = λ k s. r.mask k;
-      shift_left = λ k s. r.shift_left k;
-      shift_right = λ k s. r.shift_right k;
-      remainder = λ k s. r.remainder k;
+      wide = λ s. r.floor;
     }
