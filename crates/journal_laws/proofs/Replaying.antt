@@ -20,7 +20,8 @@ use Rattle.view_laws.proofs.Tracking.{real-more}
 use Rattle.world_laws.specs.Reacting.{full_reaction, full_reactions}
 use Rattle.world_laws.proofs.Worlds.{answers_machine, answers_scheduled, never_stuck, exit_in_time, reclaimed_late}
 use Rattle.world_invariant.specs.Invariant.{IsWorld}
-use Rattle.world_invariant.proofs.Keeping.{reactions_make_world, answers_more, view_more}
+use Rattle.world_laws.proofs.Appending.{answers_grow, view_grows}
+use Rattle.world_invariant.proofs.Keeping.{reactions_make_world}
 use Rattle.journal.specs.declared.entry.Entry.{Entry}
 use Rattle.journal_laws.specs.Replay.{HasNoRuns, Replays, answers_of, events_of, machine_entry}
 
@@ -44,12 +45,8 @@ replays_push base world new entries entry h real answer is =
     let events = events_of entries in
     let longer : events_of (entries ++ entry ∷ []) ≡ events ++ entry.event ∷ [] = map_push (λ (e : Entry). e.event) entries entry in
     let others : answers_of (entries ++ entry ∷ []) ≡ answers_of entries ++ entry.answer ∷ [] = map_push (λ (e : Entry). e.answer) entries entry in
-    let last : entry.answer ≡ (full_reaction (full_reactions base events).1 entry.event).0 = answer ∙ ap (λ (w : WorldView). (full_reaction w entry.event).0) h.world_is in
-    let answered : answers_of entries ++ entry.answer ∷ [] ≡ (full_reactions base (events ++ entry.event ∷ [])).0 =
-    ap (λ (xs : List Answer). xs ++ entry.answer ∷ []) h.answers
-    ∙ (ap (λ (x : Answer). (full_reactions base events).0 ++ x ∷ []) last ∙ sym (answers_more base events entry.event)) in
-    let view : new ≡ (full_reactions base (events ++ entry.event ∷ [])).1 =
-    is ∙ (ap (λ (w : WorldView). (full_reaction w entry.event).1) h.world_is ∙ sym (view_more base events entry.event)) in
+    let answered = answers_grow base world events entry.event (answers_of entries) entry.answer h.answers h.world_is answer in
+    let view = view_grows base world new events entry.event h.world_is is in
     record {
       quiet = h.quiet;
       base_is = h.base_is;

@@ -10,8 +10,8 @@ use Rattle.bpf_model.specs.View.{new_map_view}
 use Rattle.bpf_model.proofs.Lists.{heads, tails}
 use Rattle.maps.specs.Registry.{RegistryView, no_maps}
 use Rattle.loader.specs.Lines.{file_words, IsDecimalWord, code_slots, both_parts, slot_in}
-use Rattle.loader.specs.ProgramFile.{FileContent, IsContextLine, IsMapLine, AddsMap, AddMaps, IsProgramFile, IsFileBeginning, IsWrongAfter, IsFirstWrongLine}
-use Rattle.loader.specs.Reading.{AreMapsSoFar, AreShapeWords, IsAtStage}
+use Rattle.loader.specs.ProgramFile.{FileContent, IsContextLine, AreShapeWords, IsMapLine, AddsMap, AddMaps, IsProgramFile, IsFileBeginning, IsWrongAfter, IsFirstWrongLine}
+use Rattle.loader.specs.Reading.{AreMapsSoFar, IsAtStage}
 use Rattle.loader.proofs.Slots.{joined_nil}
 use Rattle.loader.specs.declared.fault.LineFault.{LineFault}
 use Rattle.loader.specs.declared.loading.Stage.{Stage}
@@ -36,13 +36,22 @@ same_shape s t a b c d e =
     ∙ ap (λ (n : ℕ). let z : MapShape = record { key_len = t.key_len; value_len = t.value_len; entries = t.entries; spare = n; reuse_limit = s.reuse_limit } in z) d
     ∙ ap (λ (n : ℕ). let z : MapShape = record { key_len = t.key_len; value_len = t.value_len; entries = t.entries; spare = t.spare; reuse_limit = n } in z) e
 
-same_words : (a b c d e f m a2 b2 c2 d2 e2 f2 : List ℕ) → (m ∷ a ∷ b ∷ c ∷ d ∷ e ∷ f ∷ []) ≡ m ∷ a2 ∷ b2 ∷ c2 ∷ d2 ∷ e2 ∷ f2 ∷ [] → (a ≡ a2) × (b ≡ b2) × (c ≡ c2) × (d ≡ d2) × (e ≡ e2) × (f ≡ f2)
-same_words a b c d e f m a2 b2 c2 d2 e2 f2 h = ((cc), (cc), (cc), (cc), (cc), (cc))
+same_words : (a b c d e a2 b2 c2 d2 e2 : List ℕ) → (a ∷ b ∷ c ∷ d ∷ e ∷ []) ≡ a2 ∷ b2 ∷ c2 ∷ d2 ∷ e2 ∷ [] → (a ≡ a2) × (b ≡ b2) × (c ≡ c2) × (d ≡ d2) × (e ≡ e2)
+same_words a b c d e a2 b2 c2 d2 e2 h = ((cc), (cc), (cc), (cc), (cc))
+
+-- a line is of one map: its name, and what is behind it
+same_line : (m a b : List ℕ) (xs ys : List (List ℕ)) → (m ∷ a ∷ xs) ≡ m ∷ b ∷ ys → (a ≡ b) × (xs ≡ ys)
+same_line m a b xs ys e = ((cc), (cc))
+
+same_shape_words : (s t : MapShape) (numbers : List (List ℕ)) → AreShapeWords numbers s [] → AreShapeWords numbers t [] → s ≡ t
+same_shape_words s t numbers h k =
+    let w = same_words h.key h.value h.entries h.spare h.reuse k.key k.value k.entries k.spare k.reuse (sym h.words_are ∙ k.words_are) in
+    same_shape s t (same_number _ _ _ _ w.0 h.key_len k.key_len) (same_number _ _ _ _ w.1 h.value_len k.value_len) (same_number _ _ _ _ w.2 h.entries_is k.entries_is) (same_number _ _ _ _ w.3 h.spare_is k.spare_is) (same_number _ _ _ _ w.4 h.reuse_limit k.reuse_limit)
 
 pub same_map : (line name name2 : List ℕ) (s t : MapShape) → IsMapLine line name s → IsMapLine line name2 t → (name ≡ name2) × (s ≡ t)
 same_map line name name2 s t h k =
-    let w = same_words name h.key h.value h.entries h.spare h.reuse (codes "map") name2 k.key k.value k.entries k.spare k.reuse (sym h.words ∙ k.words) in
-    (w.0, same_shape s t (same_number _ _ _ _ w.1 h.key_len k.key_len) (same_number _ _ _ _ w.2 h.value_len k.value_len) (same_number _ _ _ _ w.3 h.entries_is k.entries_is) (same_number _ _ _ _ w.4 h.spare_is k.spare_is) (same_number _ _ _ _ w.5 h.reuse_limit k.reuse_limit))
+    let w = same_line (codes "map") name name2 h.numbers k.numbers (sym h.words ∙ k.words) in
+    (w.0, same_shape_words s t k.numbers (subst (λ (n : List (List ℕ)). AreShapeWords n s []) w.1 h.shape_is) k.shape_is)
 
 same_registry : (r s : RegistryView) → r.names ≡ s.names → r.maps ≡ s.maps → r ≡ s
 same_registry r s a b =
@@ -243,19 +252,8 @@ third : (a b c d : List ℕ) (xs ys : List (List ℕ)) → (a ∷ b ∷ xs) ≡ 
 third a b c d xs ys e = cc
 
 pub shape_words : (line word name1 name2 : List ℕ) (left : List (List ℕ)) (shape : MapShape) → file_words line ≡ word ∷ name1 ∷ left → IsMapLine line name2 shape → AreShapeWords left shape []
-shape_words line word name1 name2 left shape e h = record {
-  key = h.key;
-  value = h.value;
-  entries = h.entries;
-  spare = h.spare;
-  reuse = h.reuse;
-  words_are = third word name1 (codes "map") name2 _ _ (sym e ∙ h.words);
-  key_len = h.key_len;
-  value_len = h.value_len;
-  entries_is = h.entries_is;
-  spare_is = h.spare_is;
-  reuse_limit = h.reuse_limit;
-}
+shape_words line word name1 name2 left shape e h =
+    subst (λ (n : List (List ℕ)). AreShapeWords n shape []) (third (codes "map") name2 word name1 _ _ (sym h.words ∙ e)) h.shape_is
 
 pub context_refuses : (stage : Stage) (lines : List (List ℕ)) (line : List ℕ) (c : FileContent) → stage ≡ Context → ((n : ℕ) → ¬ (IsContextLine line n)) → IsAtStage stage lines c → ¬ (IsFileBeginning (lines ++ line ∷ []))
 context_refuses stage lines line c e wrong h =

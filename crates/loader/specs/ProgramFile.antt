@@ -22,19 +22,26 @@ pub record IsContextLine (line : List ℕ) (n : ℕ) : Type 0 where
   pub number : IsDecimalWord word n
   pub limit : n ≤ CTX_BYTES
 
--- `map NAME KEY VALUE ENTRIES SPARE REUSE`
-pub record IsMapLine (line name : List ℕ) (shape : MapShape) : Type 0 where
+-- The first five words are the numbers of a shape; these are left.
+pub record AreShapeWords (words : List (List ℕ)) (shape : MapShape) (rest : List (List ℕ))
+    : Type 0 where
   pub key : List ℕ
   pub value : List ℕ
   pub entries : List ℕ
   pub spare : List ℕ
   pub reuse : List ℕ
-  pub words : file_words line ≡ codes "map" ∷ name ∷ key ∷ value ∷ entries ∷ spare ∷ reuse ∷ []
+  pub words_are : words ≡ key ∷ value ∷ entries ∷ spare ∷ reuse ∷ rest
   pub key_len : IsDecimalWord key shape.key_len
   pub value_len : IsDecimalWord value shape.value_len
   pub entries_is : IsDecimalWord entries shape.entries
   pub spare_is : IsDecimalWord spare shape.spare
   pub reuse_limit : IsDecimalWord reuse shape.reuse_limit
+
+-- `map NAME KEY VALUE ENTRIES SPARE REUSE`
+pub record IsMapLine (line name : List ℕ) (shape : MapShape) : Type 0 where
+  pub numbers : List (List ℕ)
+  pub words : file_words line ≡ codes "map" ∷ name ∷ numbers
+  pub shape_is : AreShapeWords numbers shape []
 
 -- The line is of a map that the registry takes, and that is its last then.
 pub record AddsMap (old : RegistryView) (line : List ℕ) (new : RegistryView) : Type 0 where

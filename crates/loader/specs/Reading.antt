@@ -2,9 +2,8 @@
 use Rattle.std.specs.Prelude.{◌≡◌, ℕ, false, ◌==◌, List, [], ◌∷◌, All, Option}
 use Rattle.std.specs.Prelude.{Some, None}
 use Rattle.std.specs.Borrow.{Bor}
-use Rattle.bpf_model.specs.declared.limits.MapShape.{MapShape}
 use Rattle.maps.specs.Registry.{RegistryView, no_maps}
-use Rattle.loader.specs.Lines.{file_words, IsDecimalWord}
+use Rattle.loader.specs.Lines.{file_words}
 use Rattle.loader.specs.ProgramFile.{FileContent, IsProgramFile, IsContextLine, AddMaps}
 use Rattle.loader.specs.declared.loading.Loading.{Loading}
 use Rattle.loader.specs.declared.loading.Stage.{Stage}
@@ -18,21 +17,6 @@ HasNoByte at bytes = All (λ b. (b == at) ≡ false) bytes
 abbrev pub words_left : Option (Bor (List ℕ)) → List (List ℕ)
 words_left None = []
 words_left (Some rest) = file_words rest.now
-
--- the first five words are the numbers of a shape
-pub record AreShapeWords (words : List (List ℕ)) (shape : MapShape) (rest : List (List ℕ))
-    : Type 0 where
-  pub key : List ℕ
-  pub value : List ℕ
-  pub entries : List ℕ
-  pub spare : List ℕ
-  pub reuse : List ℕ
-  pub words_are : words ≡ key ∷ value ∷ entries ∷ spare ∷ reuse ∷ rest
-  pub key_len : IsDecimalWord key shape.key_len
-  pub value_len : IsDecimalWord value shape.value_len
-  pub entries_is : IsDecimalWord entries shape.entries
-  pub spare_is : IsDecimalWord spare shape.spare
-  pub reuse_limit : IsDecimalWord reuse shape.reuse_limit
 
 -- what a reader keeps says, where its lines are a program file
 abbrev pub content_of : Loading → FileContent

@@ -4,8 +4,8 @@ ghost use Rattle.bpf_model.specs.declared.limits.MapShape.{MapShape as ShapeOf};
 ghost use Rattle.bpf_model.specs.declared.limits.TheConstants.{MAX_REUSE};
 ghost use Rattle.maps.specs.Registry.{RegistryView};
 ghost use Rattle.loader.specs.Lines.{file_words, slot_in, code_slots};
-ghost use Rattle.loader.specs.ProgramFile.{IsContextLine, IsMapLine, AddsMap};
-ghost use Rattle.loader.specs.Reading.{AreShapeWords, words_left};
+ghost use Rattle.loader.specs.ProgramFile.{IsContextLine, AreShapeWords, IsMapLine, AddsMap};
+ghost use Rattle.loader.specs.Reading.{words_left};
 
 use crate::fault::LineFault;
 use crate::words::Words;

@@ -301,7 +301,7 @@ pub record StoreThere (es new : List Element) (width : ℕ) (offset : ℤ) (v ba
   pub base_is : base ≡ Pointer (Elem n o)
   pub stored : (accessible es n >>= stored_in es n width (o +ℤ offset) x) ≡ Some new
 
-store-there : (es new : List Element) (width : ℕ) (offset : ℤ) (v base : Value) → element_store es width offset v base ≡ Some new → StoreThere es new width offset v base
+pub store-there : (es new : List Element) (width : ℕ) (offset : ℤ) (v base : Value) → element_store es width offset v base ≡ Some new → StoreThere es new width offset v base
 store-there es new width offset Nothing base h = absurd (none-some new h)
 store-there es new width offset (Pointer r) base h = absurd (none-some new h)
 store-there es new width offset (Number v) Nothing h = absurd (none-some new h)

@@ -7,7 +7,8 @@ use Rattle.bpf_model.specs.declared.event.Answer.{Answer}
 use Rattle.bpf_model.specs.Event.{IsReal, AreReal}
 use Rattle.bpf_model.specs.View.{WorldView}
 use Rattle.world.proofs.Answering.{AllReact, all_scheduled}
-use Rattle.world_laws.specs.Reacting.{full_reaction, full_reactions}
+use Rattle.world_laws.specs.Reacting.{full_reactions}
+use Rattle.world_laws.proofs.Appending.{view_append}
 use Rattle.world_invariant.specs.Invariant.{IsWorld}
 use Rattle.script_world.specs.Lives.{Happen}
 use Rattle.script_world.specs.Replies.{MakesSteps}
@@ -42,12 +43,8 @@ real_append : (first rest : List Event) → AreReal first → AreReal rest → A
 real_append [] rest a b = b
 real_append (event ∷ events) rest a b = real_cons event (events ++ rest) (a zero event refl) (real_append events rest (λ k. a (suc k)) b)
 
-reactions_append : (w : WorldView) (first rest : List Event) → (full_reactions w (first ++ rest)).1 ≡ (full_reactions (full_reactions w first).1 rest).1
-reactions_append w [] rest = refl
-reactions_append w (event ∷ events) rest = reactions_append (full_reaction w event).1 events rest
-
 -- one after another
 pub happen_more : (w v u : WorldView) (first rest : List Event) → Happen w first v → Happen v rest u → Happen w (first ++ rest) u
 happen_more w v u first rest h k =
     happen w (first ++ rest) u h.world (real_append first rest h.real k.real)
-    (k.new_is ∙ (ap (λ (x : WorldView). (full_reactions x rest).1) h.new_is ∙ sym (reactions_append w first rest)))
+    (k.new_is ∙ (ap (λ (x : WorldView). (full_reactions x rest).1) h.new_is ∙ sym (view_append w first rest)))

@@ -8,7 +8,7 @@ use Rattle.bpf_model.specs.declared.event.Answer.{Answer}
 use Rattle.bpf_model.specs.declared.event.Answer.TheVariants.{Moved}
 use Rattle.bpf_model.specs.View.{WorldView}
 use Rattle.world_laws.specs.Reacting.{full_reaction, full_reactions}
-use Rattle.world.proofs.Answering.{answers_grow, view_grows}
+use Rattle.world_laws.proofs.Appending.{answers_grow, view_grows}
 use Rattle.script_world.specs.Replies.{MakesSteps}
 
 -- so many steps were answered Moved

@@ -1,5 +1,5 @@
 -- What a world answers is its reaction, to one event and to a list of events: the clauses of the laws at these values.
-use Rattle.std.proofs.Common.{◌≡◌, ◌∙◌, List, [], ◌∷◌, ◌++◌, sym, ap, subst}
+use Rattle.std.proofs.Common.{◌≡◌, List, [], ◌∷◌, sym, subst}
 use Rattle.bpf_model.specs.declared.event.Event.{Event}
 use Rattle.bpf_model.specs.declared.event.Answer.{Answer}
 use Rattle.bpf_model.specs.Drain.{AnswersAsScheduled, AreScheduledAnswers}
@@ -10,7 +10,7 @@ use Rattle.bpf_model.specs.View.{WorldView}
 use Rattle.world_laws.specs.Reacting.{full_reaction, full_reactions}
 use Rattle.world_laws.proofs.Worlds as laws
 use Rattle.world_invariant.specs.Invariant.{IsWorld}
-use Rattle.world_invariant.proofs.Keeping.{reaction_is_world, answers_more, view_more}
+use Rattle.world_invariant.proofs.Keeping.{reaction_is_world}
 
 -- one event
 pub record Reacts (w : WorldView) (event : Event) (answer : Answer) (new : WorldView) : Type 0 where
@@ -79,15 +79,3 @@ all_exit {w} {new} {events} {answers} r =
 pub all_reclaimed : {w new : WorldView} {events : List Event} {answers : List Answer} → AllReact w events answers new → AreReclaimedLate Tracks w events answers
 all_reclaimed {w} {new} {events} {answers} r =
     subst (λ (x : List Answer). AreReclaimedLate Tracks w events x) (sym r.answers_are) (laws.reclaimed_late w events)
-
--- one event more
-pub answers_grow : (w v : WorldView) (before : List Event) (event : Event) (answers : List Answer) (answer : Answer) → answers ≡ (full_reactions w before).0 → v ≡ (full_reactions w before).1 → answer ≡ (full_reaction v event).0 → answers ++ answer ∷ [] ≡ (full_reactions w (before ++ event ∷ [])).0
-answers_grow w v before event answers answer are view is =
-    let last : answer ≡ (full_reaction (full_reactions w before).1 event).0 = is ∙ ap (λ (u : WorldView). (full_reaction u event).0) view in
-    let first = ap (λ (xs : List Answer). xs ++ answer ∷ []) are in
-    let second = ap (λ (x : Answer). (full_reactions w before).0 ++ x ∷ []) last in
-    first ∙ (second ∙ sym (answers_more w before event))
-
-pub view_grows : (w v new : WorldView) (before : List Event) (event : Event) → v ≡ (full_reactions w before).1 → new ≡ (full_reaction v event).1 → new ≡ (full_reactions w (before ++ event ∷ [])).1
-view_grows w v new before event view is =
-    is ∙ (ap (λ (u : WorldView). (full_reaction u event).1) view ∙ sym (view_more w before event))

@@ -1,8 +1,7 @@
 -- A world at the start, and after its reactions.
-use Rattle.std.proofs.Common.{◌≡◌, ◌≤◌, List, [], ◌∷◌, ◌++◌, map, length, refl, ap, arith}
+use Rattle.std.proofs.Common.{◌≡◌, ◌≤◌, List, [], ◌∷◌, map, length, arith}
 use Rattle.std.proofs.lemmas.List.{length-map}
 use Rattle.bpf_model.specs.declared.event.Event.{Event}
-use Rattle.bpf_model.specs.declared.event.Answer.{Answer}
 use Rattle.bpf_model.specs.declared.limits.MapShape.{MapShape}
 use Rattle.bpf_model.specs.declared.limits.TheConstants.{MAX_MAPS, MAX_PROGRAMS}
 use Rattle.bpf_model.specs.Event.{IsReal, AreReal}
@@ -50,13 +49,3 @@ world_is_matched w is = record {
   matches = tracked_matches w is.schedule is.tracks;
   sound = tracked_is_sound w is.schedule is.tracks is.ready;
 }
-
--- one event more at the end of a list
-pub answers_more : (w : WorldView) (events : List Event) (event : Event) → (full_reactions w (events ++ event ∷ [])).0 ≡ (full_reactions w events).0 ++ (full_reaction (full_reactions w events).1 event).0 ∷ []
-answers_more w [] event = refl
-answers_more w (first ∷ events) event =
-    ap (λ (answers : List Answer). (full_reaction w first).0 ∷ answers) (answers_more (full_reaction w first).1 events event)
-
-pub view_more : (w : WorldView) (events : List Event) (event : Event) → (full_reactions w (events ++ event ∷ [])).1 ≡ (full_reaction (full_reactions w events).1 event).1
-view_more w [] event = refl
-view_more w (first ∷ events) event = view_more (full_reaction w first).1 events event

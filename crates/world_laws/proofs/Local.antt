@@ -96,6 +96,6 @@ module _ (w : WorldView) (s : Schedule) (m : Matches w s) (sound : IsSound w s) 
   asks_for_element (Store width dst offset src) out es here h =
       let f = element-known s.machine.store.elements (byte_count width) offset (operand_value src run.state.regs) (run.state.regs dst) es h.0 in
       let l = (insn-real w s m sound r run v k (Store width dst offset src) here).0 in
-      let word = subst (λ u. WordIs (bases w s m sound r run v k) u (word_in v dst)) f.base_is (register-word w s m sound r run v k dst l) in
-      ap (λ l. local_store (byte_count width) offset (operand_word v src) l v) (element-place w s m sound r run v k f.n (word_in v dst) f.o f.element f.access word (subst IsNear f.base_is ((near w s m sound r run v k).regs_near dst))).1
+      let word = subst (λ u. WordIs (bases w s m sound r run v k) u (word_in v dst)) f.there.base_is (register-word w s m sound r run v k dst l) in
+      ap (λ l. local_store (byte_count width) offset (operand_word v src) l v) (element-place w s m sound r run v k f.there.n (word_in v dst) f.there.o f.element f.access word (subst IsNear f.there.base_is ((near w s m sound r run v k).regs_near dst))).1
   asks_for_element i out es here h = absurd h

@@ -193,7 +193,7 @@ module _ (w : WorldView) (s : Schedule) (m : Matches w s) (sound : IsSound w s) 
           subst goal (sym (frame-location (word_in v dst) f.o (close (Pointer (Frame f.o)) f.base_is) (word-is (Pointer (Frame f.o)) f.base_is))) (record { at = f.at; at_is = f.at_is; inside = f.inside }, tt)
       by (out, es, inr h, kept, ends) =
           let f = element-known s.machine.store.elements (byte_count width) offset (operand_value src run.state.regs) (run.state.regs dst) es h.0 in
-          slot-reaches (byte_count width) f.n (word_in v dst) f.at f.o offset f.element f.access f.inside (word-is (Pointer (Elem f.n f.o)) f.base_is) (close (Pointer (Elem f.n f.o)) f.base_is)
+          slot-reaches (byte_count width) f.there.n (word_in v dst) f.at f.there.o offset f.element f.access f.inside (word-is (Pointer (Elem f.there.n f.there.o)) f.there.base_is) (close (Pointer (Elem f.there.n f.there.o)) f.there.base_is)
 
   -- the arguments of a helper
   in-frame : (u : Value) (x len : ℕ) (bytes : List ℕ) → WordIs (bases w s m sound r run v k) u x → frame_bytes run.state.frame len u ≡ Some bytes → IsInFrame x len

@@ -22,13 +22,10 @@ use Rattle.bpf_model.specs.Codes.{KeyMap}
 use Rattle.world_laws.specs.Calling.{found_word, returned_view}
 use Rattle.world_laws.specs.Moving.{moves_on}
 use Rattle.world_laws.specs.Reacting.{full_reaction, full_reactions}
+use Rattle.world_laws.proofs.Appending.{answers_append}
 use Rattle.world_laws.specs.WorldExample.{key_zero, two_bytes, example_world, example_events, example_answers}
 
--- events after others, and one event
-after : (w : WorldView) (es fs : List Event) → (full_reactions w (es ++ fs)).0 ≡ (full_reactions w es).0 ++ (full_reactions (full_reactions w es).1 fs).0
-after w [] fs = refl
-after w (e ∷ es) fs = ap (λ xs. (full_reaction w e).0 ∷ xs) (after (full_reaction w e).1 es fs)
-
+-- one event before others
 next : (w new : WorldView) (e : Event) (a : Answer) (es : List Event) → full_reaction w e ≡ (a, new) → (full_reactions w (e ∷ es)).0 ≡ a ∷ (full_reactions new es).0
 next w new e a es h = ap (λ (x : Answer × WorldView). x.0 ∷ (full_reactions x.1 es).0) h
 
@@ -111,7 +108,7 @@ pub example_reacts : (full_reactions example_world example_events).0 ≡ example
 example_reacts =
     next example_world stocked (Update 0 key_zero two_bytes 0) (Ret (Ok tt)) (first ++ Step 0 ∷ Delete 0 key_zero ∷ rest) updates
     ∙ ap (λ (l : List Answer). Ret (Ok tt) ∷ l) (
-    after stocked first (Step 0 ∷ Delete 0 key_zero ∷ rest)
+    answers_append stocked first (Step 0 ∷ Delete 0 key_zero ∷ rest)
     ∙ ap (λ (l : List Answer). l ++ (full_reactions before_lookup (Step 0 ∷ Delete 0 key_zero ∷ rest)).0) first-answers
     ∙ ap (λ (l : List Answer). Started 0 ∷ Moved ∷ Moved ∷ Moved ∷ Moved ∷ Moved ∷ Moved ∷ l) (
     next before_lookup found (Step 0) Moved (Delete 0 key_zero ∷ rest) looks-up

@@ -3,7 +3,8 @@ use Rattle.std.specs.Prelude.{vec_len, vec_capacity}
 use Rattle.std.proofs.lemmas.List.{take_more, take_all}
 use Rattle.bpf_model.specs.declared.event.Event.{Event}
 use Rattle.world_laws.specs.Reacting.{full_reactions}
-use Rattle.world.proofs.Answering.{AllReact, all_scheduled, all_machine, all_never_stuck, all_exit, all_reclaimed, answers_grow, view_grows}
+use Rattle.world_laws.proofs.Appending.{answers_grow, view_grows}
+use Rattle.world.proofs.Answering.{AllReact, all_scheduled, all_machine, all_never_stuck, all_exit, all_reclaimed}
 use Rattle.world.proofs.world.World.run_all.Goals as goal
 
 pub loop-event-preserved : goal.loop-event-preserved
