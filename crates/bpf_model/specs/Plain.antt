@@ -1,6 +1,6 @@
 -- Plain programs, which the verifier owes acceptance: forward jumps, every instruction reached, and
 -- on every path each register and each byte of the frame written as a number before it is read.
-use Rattle.std.specs.Prelude.{◌≡◌, ℕ, ◌+◌, ◌<◌, ◌≤◌, List, [], ◌∷◌, ◌++◌, Some, ℤ, pos, ◌+ℤ◌, ◌⊎◌}
+use Rattle.std.specs.Prelude.{◌≡◌, ℕ, ◌+◌, ◌<◌, ◌≤◌, List, Some, ℤ, pos, ◌+ℤ◌, ◌⊎◌}
 use Rattle.bpf_model.specs.declared.limits.TheConstants.{FRAME_BYTES}
 use Rattle.bpf_model.specs.declared.insn.Insn.{Insn}
 use Rattle.bpf_model.specs.declared.insn.Insn.TheVariants.{Alu, Unary, LoadNumber, LoadMap, JumpIf}
@@ -11,7 +11,7 @@ use Rattle.bpf_model.specs.declared.insn.Operand.TheVariants.{Register, Immediat
 use Rattle.bpf_model.specs.declared.opcode.Width.{Width}
 use Rattle.bpf_model.specs.Access.{byte_count, unsigned_width, region_offset}
 use Rattle.bpf_model.specs.Operand.{unary_source}
-use Rattle.bpf_model.specs.Graph.{distance, JumpsTo, GoesTo, Reached}
+use Rattle.bpf_model.specs.Graph.{GoesTo, HasForwardGraph}
 use Rattle.bpf_model.specs.Step.{insn_at}
 
 -- the registers that an operand names
@@ -82,12 +82,7 @@ pub data WithoutByte (program : List Insn) (k : ℕ) : ℕ → Type 0 where
       → (WritesByte i k → ⊥) → GoesTo i place target → WithoutByte program k target
 
 pub record IsPlain (program : List Insn) : Type 0 where
-  -- every jump goes forward to the start of an instruction
-  pub jumps : (place : ℕ) (i : Insn) (d : ℤ) → insn_at program place ≡ Some i → distance i ≡ Some d
-      → (target : ℕ) × (next : Insn) × JumpsTo i place target × (place < target)
-      × (insn_at program target ≡ Some next)
-  pub reached : (place : ℕ) (i : Insn) → insn_at program place ≡ Some i → Reached program place
-  pub last : (front : List Insn) × (program ≡ front ++ Exit ∷ [])
+  pub graph : HasForwardGraph program
   pub simple : (place : ℕ) (i : Insn) → insn_at program place ≡ Some i → IsSimple i
   -- r10 isn't written, and only the accesses to the frame read it
   pub frame_pointer : (place : ℕ) (i : Insn) → insn_at program place ≡ Some i →

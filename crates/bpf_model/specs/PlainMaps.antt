@@ -1,6 +1,6 @@
 -- Plain programs with sections and guarded lookups, which the verifier owes acceptance too. Paths
 -- are those of the jump graph.
-use Rattle.std.specs.Prelude.{◌≡◌, ℕ, ◌+◌, ◌<◌, ◌≤◌, Bool, true, false, List, [], ◌∷◌, ◌++◌, Some}
+use Rattle.std.specs.Prelude.{◌≡◌, ℕ, ◌+◌, ◌<◌, ◌≤◌, Bool, true, false, List, Some}
 use Rattle.std.specs.Prelude.{slice_get, ℤ, pos, ◌+ℤ◌, ◌⊎◌}
 use Rattle.bpf_model.specs.declared.limits.TheConstants.{FRAME_BYTES}
 use Rattle.bpf_model.specs.declared.limits.MapShape.{MapShape}
@@ -14,7 +14,7 @@ use Rattle.bpf_model.specs.declared.opcode.Size.TheVariants.{Word64}
 use Rattle.bpf_model.specs.declared.opcode.Condition.TheVariants.{Equal}
 use Rattle.bpf_model.specs.Access.{byte_count, unsigned_width, region_offset}
 use Rattle.bpf_model.specs.Step.{insn_at}
-use Rattle.bpf_model.specs.Graph.{distance, JumpsTo, GoesTo, Reached}
+use Rattle.bpf_model.specs.Graph.{JumpsTo, GoesTo, Reached, HasForwardGraph}
 use Rattle.bpf_model.specs.Plain.{ReadsRegister, WritesRegister, ReadsByte, IsSimple, WithoutByte}
 
 -- bpf_map_lookup_elem, bpf_rcu_read_lock and bpf_rcu_read_unlock
@@ -35,32 +35,63 @@ IsValueLoad shape (LoadSigned width dst src offset) = (src ≡ 0) × (6 ≤ dst)
     × (region_offset shape.value_len (byte_count (unsigned_width width)) offset ≡ Some at)
 IsValueLoad shape i = ⊥
 
--- A guarded lookup: r2 is the key's address in the frame, r1 a map of the list, then the call, a
--- test for null that skips the load, and the load. No jump leads into its middle.
-pub record IsGuardedLookup (program : List Insn) (shapes : List MapShape) (start : ℕ) : Type 0 where
-  pub offset : ℤ
-  pub at : ℕ
+-- A guarded lookup: the map's index and shape, the key's first byte in the frame and how far it is
+-- from r10, and the load from the value.
+pub record Lookup : Type 0 where
   pub map : ℕ
   pub shape : MapShape
+  pub at : ℕ
+  pub offset : ℤ
   pub load : Insn
-  pub frame : insn_at program start ≡ Some (Alu Move Word64 2 (Register 10))
-  pub key : insn_at program (start + 1) ≡ Some (Alu Add Word64 2 (Immediate offset))
-  pub map_load : insn_at program (start + 2) ≡ Some (LoadMap 1 (pos map))
-  pub call : insn_at program (start + 4) ≡ Some lookup_call
-  pub guard : insn_at program (start + 5) ≡ Some (JumpIf Equal Word64 0 (Immediate (pos 0)) (pos 1))
-  pub value : insn_at program (start + 6) ≡ Some load
-  pub in_list : slice_get shapes map ≡ Some shape
-  pub in_frame : (pos FRAME_BYTES +ℤ offset ≡ pos at) × (at < FRAME_BYTES)
-      × (at + shape.key_len ≤ FRAME_BYTES)
-  pub in_value : IsValueLoad shape load
+
+-- Its six instructions: r2 becomes the key's address in the frame, r1 the map; then the call, a
+-- test for null that skips the load, and the load.
+pub data Part : Type 0 where
+  FrameCopy : Part
+  KeyAddress : Part
+  MapLoad : Part
+  LookupCall : Part
+  NullTest : Part
+  ValueLoad : Part
+
+abbrev pub part_insn : Lookup → Part → Insn
+part_insn l FrameCopy = Alu Move Word64 2 (Register 10)
+part_insn l KeyAddress = Alu Add Word64 2 (Immediate l.offset)
+part_insn l MapLoad = LoadMap 1 (pos l.map)
+part_insn l LookupCall = lookup_call
+part_insn l NullTest = JumpIf Equal Word64 0 (Immediate (pos 0)) (pos 1)
+part_insn l ValueLoad = l.load
+
+-- how many slots behind the first each of them begins
+abbrev pub part_slot : Part → ℕ
+part_slot FrameCopy = 0
+part_slot KeyAddress = 1
+part_slot MapLoad = 2
+part_slot LookupCall = 4
+part_slot NullTest = 5
+part_slot ValueLoad = 6
+
+-- the map is one of the list, the key lies in the frame, and the load in the value
+pub record IsFitting (shapes : List MapShape) (l : Lookup) : Type 0 where
+  pub in_list : slice_get shapes l.map ≡ Some l.shape
+  pub in_frame : (pos FRAME_BYTES +ℤ l.offset ≡ pos l.at) × (l.at < FRAME_BYTES)
+      × (l.at + l.shape.key_len ≤ FRAME_BYTES)
+  pub in_value : IsValueLoad l.shape l.load
+
+-- From this slot on stands a guarded lookup, and no jump leads into its middle.
+pub record IsGuardedLookup (program : List Insn) (shapes : List MapShape) (start : ℕ) : Type 0 where
+  pub lookup : Lookup
+  pub parts : (p : Part) → insn_at program (start + part_slot p) ≡ Some (part_insn lookup p)
+  pub fitting : IsFitting shapes lookup
   pub entered : (place target : ℕ) (i : Insn) → insn_at program place ≡ Some i →
       JumpsTo i place target
-      → start < target → target ≤ start + 6 → ⊥
+      → start < target → target ≤ start + part_slot ValueLoad → ⊥
 
 -- the instruction at the slot is part of a guarded lookup
 abbrev pub IsPart : List Insn → List MapShape → ℕ → Type 0
 IsPart program shapes place =
-    (start : ℕ) × IsGuardedLookup program shapes start × (start ≤ place) × (place ≤ start + 6)
+    (start : ℕ) × IsGuardedLookup program shapes start × (start ≤ place)
+    × (place ≤ start + part_slot ValueLoad)
 
 -- what stands at a slot: a part of a guarded lookup, a lock, an unlock, or an instruction without
 -- call and map
@@ -100,12 +131,7 @@ pub data LacksRegister (program : List Insn) (shapes : List MapShape) (r : ℕ) 
       → LacksRegister program shapes r target
 
 pub record IsPlainWithMaps (program : List Insn) (shapes : List MapShape) : Type 0 where
-  -- every jump goes forward to the start of an instruction
-  pub jumps : (place : ℕ) (i : Insn) (d : ℤ) → insn_at program place ≡ Some i → distance i ≡ Some d
-      → (target : ℕ) × (next : Insn) × JumpsTo i place target × (place < target)
-      × (insn_at program target ≡ Some next)
-  pub reached : (place : ℕ) (i : Insn) → insn_at program place ≡ Some i → Reached program place
-  pub last : (front : List Insn) × (program ≡ front ++ Exit ∷ [])
+  pub graph : HasForwardGraph program
   pub forms : (place : ℕ) (i : Insn) → insn_at program place ≡ Some i →
       HasForm program shapes place i
   -- each instruction lies inside a section on every path or outside on every path
@@ -126,5 +152,5 @@ pub record IsPlainWithMaps (program : List Insn) (shapes : List MapShape) : Type
       LacksRegister program shapes r place → ⊥
   pub bytes : (place : ℕ) (i : Insn) (k : ℕ) → insn_at program place ≡ Some i
       → (IsPart program shapes place → ⊥) → ReadsByte i k → WithoutByte program k place → ⊥
-  pub keys : (start k : ℕ) (lookup : IsGuardedLookup program shapes start) → lookup.at ≤ k
-      → k < lookup.at + lookup.shape.key_len → WithoutByte program k start → ⊥
+  pub keys : (start k : ℕ) (guarded : IsGuardedLookup program shapes start) → guarded.lookup.at ≤ k
+      → k < guarded.lookup.at + guarded.lookup.shape.key_len → WithoutByte program k start → ⊥

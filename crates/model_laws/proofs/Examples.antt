@@ -16,7 +16,7 @@ use Rattle.bpf_model.specs.Spelling.{slot_count}
 use Rattle.bpf_model.specs.Step.{insn_at}
 use Rattle.bpf_model.specs.Graph.{falls, distance, JumpsTo, GoesTo, Reached, reached_entry, reached_next}
 use Rattle.bpf_model.specs.Plain.{ReadsRegister, WritesRegister, ReadsByte, WritesByte, WithoutByte, bare_entry, bare_next}
-use Rattle.bpf_model.specs.PlainMaps.{lookup_call, lock_call, unlock_call, IsGuardedLookup, IsPart, HasForm, InSection, section_entry, section_lock, section_unlock, section_next, LacksRegister, lacks_entry, lacks_call, lacks_next, IsPlainWithMaps}
+use Rattle.bpf_model.specs.PlainMaps.{lookup_call, lock_call, unlock_call, Lookup, Part, FrameCopy, KeyAddress, MapLoad, LookupCall, NullTest, ValueLoad, part_insn, part_slot, IsGuardedLookup, IsPart, HasForm, InSection, section_entry, section_lock, section_unlock, section_next, LacksRegister, lacks_entry, lacks_call, lacks_next, IsPlainWithMaps}
 use Rattle.model_laws.specs.Example.{lookup_and_load, example_shape}
 
 -- what holds of each instruction of a list and the slot where it begins, the first at slot n
@@ -326,22 +326,22 @@ first_at = visit (λ s j. j ≡ Alu Move Word64 2 (Register 10) → s ≡ 3) (
 abbrev shapes : List MapShape
 shapes = example_shape ∷ []
 
+abbrev the : Lookup
+the = record { map = 0; shape = example_shape; at = 508; offset = negsuc 3; load = Load Eight 6 0 (pos 0) }
+
+the_parts : (p : Part) → insn_at lookup_and_load (3 + part_slot p) ≡ Some (part_insn the p)
+the_parts FrameCopy = refl
+the_parts KeyAddress = refl
+the_parts MapLoad = refl
+the_parts LookupCall = refl
+the_parts NullTest = refl
+the_parts ValueLoad = refl
+
 the_lookup : IsGuardedLookup lookup_and_load shapes 3
 the_lookup = record {
-  offset = negsuc 3;
-  at = 508;
-  map = 0;
-  shape = example_shape;
-  load = Load Eight 6 0 (pos 0);
-  frame = refl;
-  key = refl;
-  map_load = refl;
-  call = refl;
-  guard = refl;
-  value = refl;
-  in_list = refl;
-  in_frame = (refl, omega arith, omega arith);
-  in_value = (refl, omega arith, omega arith, 0, refl);
+  lookup = the;
+  parts = the_parts;
+  fitting = record { in_list = refl; in_frame = (refl, omega arith, omega arith); in_value = (refl, omega arith, omega arith, 0, refl) };
   entered = λ place target i h j low high. let e : target ≡ 10 = (jump_only place i h target j).1 in absurd (omega arith);
 }
 
@@ -349,7 +349,9 @@ part : (place : ℕ) → 3 ≤ place → place ≤ 9 → IsPart lookup_and_load 
 part place low high = (3, the_lookup, low, high)
 
 start_at : (start : ℕ) → IsGuardedLookup lookup_and_load shapes start → start ≡ 3
-start_at start l = first_at start _ l.frame refl
+start_at start l =
+    let e : start ≡ start + part_slot FrameCopy = omega arith in
+    first_at start _ (ap (insn_at lookup_and_load) e ∙ l.parts FrameCopy) refl
 
 part_bounds : (place : ℕ) → IsPart lookup_and_load shapes place → (3 ≤ place) × (place ≤ 9)
 part_bounds place p =
@@ -486,13 +488,13 @@ same_offset d h = cc
 key_place : (d : ℤ) (at : ℕ) → negsuc 3 ≡ d → pos FRAME_BYTES +ℤ d ≡ pos at → at ≡ 508
 key_place d at e h = same-pos at 508 (sym h ∙ ap (λ x. pos FRAME_BYTES +ℤ x) (sym e))
 
-keys : (start k : ℕ) (lookup : IsGuardedLookup lookup_and_load shapes start) → lookup.at ≤ k → k < lookup.at + lookup.shape.key_len → WithoutByte lookup_and_load k start → ⊥
+keys : (start k : ℕ) (guarded : IsGuardedLookup lookup_and_load shapes start) → guarded.lookup.at ≤ k → k < guarded.lookup.at + guarded.lookup.shape.key_len → WithoutByte lookup_and_load k start → ⊥
 keys start k l low high path =
     let first : start ≡ 3 = start_at start l in
     let second : start + 1 ≡ 4 = omega arith in
-    let offset = same_offset l.offset (at_slot 4 (start + 1) _ _ refl second l.key) in
-    let at : l.at ≡ 508 = key_place l.offset l.at offset l.in_frame.0 in
-    let size : 4 ≡ l.shape.key_len = ap (λ x. x.key_len) (one_shape l.map l.shape l.in_list) in
+    let offset = same_offset l.lookup.offset (at_slot 4 (start + 1) _ _ refl second (l.parts KeyAddress)) in
+    let at : l.lookup.at ≡ 508 = key_place l.lookup.offset l.lookup.at offset l.fitting.in_frame.0 in
+    let size : 4 ≡ l.lookup.shape.key_len = ap (λ x. x.key_len) (one_shape l.lookup.map l.lookup.shape l.fitting.in_list) in
     let early : start ≤ 2 = bare k (omega arith) (omega arith) start path in
     absurd (omega arith)
 
@@ -759,9 +761,7 @@ bytes = visit (λ s j. (IsPart lookup_and_load shapes s → ⊥) → (k : ℕ) �
 
 pub lookup_is_plain : IsPlainWithMaps lookup_and_load shapes
 lookup_is_plain = record {
-  jumps = λ place i d h e. jumps place i h d e;
-  reached = reached;
-  last = (take 11 lookup_and_load, refl);
+  graph = record { jumps = λ place i d h e. jumps place i h d e; reached = reached; last = (take 11 lookup_and_load, refl) };
   forms = forms;
   settled = λ place within out. false≢true (settled false place out ∙ sym (settled true place within));
   lock_outside = λ place h within. false≢true (sym (section_known true false place 1 within (lock_at place lock_call h refl) refl));

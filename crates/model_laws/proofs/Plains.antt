@@ -5,11 +5,11 @@ use Rattle.bpf_model.specs.declared.limits.MapShape.{MapShape}
 use Rattle.bpf_model.specs.declared.insn.Insn.{Insn}
 use Rattle.bpf_model.specs.Step.{insn_at}
 use Rattle.bpf_model.specs.Plain.{IsPlain, IsSimple, WithoutRegister, unwritten_entry, unwritten_next}
-use Rattle.bpf_model.specs.PlainMaps.{lookup_call, lock_call, unlock_call, IsGuardedLookup, IsPart, InSection, section_entry, section_lock, section_unlock, section_next, LacksRegister, lacks_entry, lacks_call, lacks_next, IsPlainWithMaps}
+use Rattle.bpf_model.specs.PlainMaps.{lookup_call, lock_call, unlock_call, LookupCall, IsGuardedLookup, IsPart, InSection, section_entry, section_lock, section_unlock, section_next, LacksRegister, lacks_entry, lacks_call, lacks_next, IsPlainWithMaps}
 
 module _ (program : List Insn) (shapes : List MapShape) (p : IsPlain program) where
   no_guard : (start : ℕ) → IsGuardedLookup program shapes start → ⊥
-  no_guard start l = p.simple (start + 4) lookup_call l.call
+  no_guard start l = p.simple (start + 4) lookup_call (l.parts LookupCall)
 
   no_part : (place : ℕ) → IsPart program shapes place → ⊥
   no_part place part = no_guard part.0 part.1
@@ -35,9 +35,7 @@ module _ (program : List Insn) (shapes : List MapShape) (p : IsPlain program) wh
 
   pub plain_with_maps : IsPlainWithMaps program shapes
   plain_with_maps = record {
-    jumps = p.jumps;
-    reached = p.reached;
-    last = p.last;
+    graph = p.graph;
     forms = λ place i h. inr (inr (inr (p.simple place i h)));
     settled = λ place inside out. no_section place inside;
     lock_outside = λ place h inside. no_section place inside;

@@ -1,4 +1,4 @@
--- The flaw of a graph is determined, and a good graph and a plain program have none.
+-- The flaw of a graph is determined, a good graph has none, and a forward graph is good.
 use Rattle.std.proofs.Common.{◌≡◌, ℕ, ◌+◌, ◌<◌, refl, sym, ◌∙◌, ap, arith, inl, inr, List, cond}
 use Rattle.std.specs.Prelude.{Option, Some, None, ℤ, pos, ◌+ℤ◌}
 use Rattle.std.proofs.lemmas.Bool.{cases_lt}
@@ -6,13 +6,12 @@ use Rattle.std.proofs.lemmas.List.{same_from_push}
 use Rattle.std.proofs.lemmas.Option.{same_Some}
 use Rattle.bpf_model.specs.declared.insn.Insn.{Insn}
 use Rattle.bpf_model.specs.declared.insn.Insn.TheVariants.{Exit}
-use Rattle.bpf_model.specs.Graph.{distance, JumpsTo}
-use Rattle.bpf_model.specs.Plain.{IsPlain}
+use Rattle.bpf_model.specs.Graph.{distance, JumpsTo, EndsWithExit, HasForwardGraph}
 use Rattle.bpf_model.specs.Spelling.{slot_total}
 use Rattle.bpf_model.specs.Step.{insn_at}
 use Rattle.program_graph.specs.declared.refusal.GraphFlaw.{GraphFlaw}
 use Rattle.program_graph.specs.declared.refusal.GraphFlaw.TheVariants.{JumpTarget, BackJump, FallsOff, Unreachable}
-use Rattle.program_graph.specs.GraphFlaws.{missing, landing_flaw, distance_flaw, jump_flaw, JumpsWell, EndsWithExit, IsFirstBadJump, IsBadEnd, IsFirstUnreachable, HasGraphFlaw, HasGoodGraph}
+use Rattle.program_graph.specs.GraphFlaws.{missing, landing_flaw, distance_flaw, jump_flaw, JumpsWell, IsFirstBadJump, IsBadEnd, IsFirstUnreachable, HasGraphFlaw, HasGoodGraph}
 use Rattle.program_graph.proofs.Edges.{nat_le_false}
 
 bad_jumps_same : (program : List Insn) (f g : GraphFlaw) (s t : ℕ) → IsFirstBadJump program f s → IsFirstBadJump program g t → (f ≡ g) × (s ≡ t)
@@ -69,7 +68,7 @@ good_has_none program FallsOff s good a = bad_end_not_exit program s a good.last
 good_has_none program Unreachable s good a = a.unreached (good.reached s a.insn a.at)
 
 -- A jump that leads forward to an instruction has no flaw.
-pub good_jump : (program : List Insn) (slot : ℕ) (i : Insn)
+good_jump : (program : List Insn) (slot : ℕ) (i : Insn)
     → ((d : ℤ) → distance i ≡ Some d → (target : ℕ) × (next : Insn) × JumpsTo i slot target × (slot < target) × (insn_at program target ≡ Some next))
     → jump_flaw program slot i ≡ None
 good_jump program slot i jumps = by (distance i) refl
@@ -85,8 +84,5 @@ good_jump program slot i jumps = by (distance i) refl
         ∙ ap (λ b. cond b (Some BackJump) (missing (insn_at program j.0))) (nat_le_false j.0 slot j.3)
         ∙ ap missing j.4
 
-plain_jump : (program : List Insn) (slot : ℕ) (i : Insn) → IsPlain program → insn_at program slot ≡ Some i → jump_flaw program slot i ≡ None
-plain_jump program slot i plain at = good_jump program slot i (λ d e. plain.jumps slot i d at e)
-
-pub plain_graph : (program : List Insn) → IsPlain program → HasGoodGraph program
-plain_graph program plain = record { jumps = λ q i at. plain_jump program q i plain at; last = plain.last; reached = plain.reached }
+pub forward_graph : (program : List Insn) → HasForwardGraph program → HasGoodGraph program
+forward_graph program graph = record { jumps = λ slot i at. good_jump program slot i (λ d e. graph.jumps slot i d at e); last = graph.last; reached = graph.reached }

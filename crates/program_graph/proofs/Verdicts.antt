@@ -7,9 +7,10 @@ use Rattle.bpf_model.specs.Spelling.{starts_from, slot_count, slot_total, IsProg
 use Rattle.bpf_model.specs.Places.{insn_of-start, starts_ordered, StartsAt, start-insn}
 use Rattle.std.proofs.lemmas.Option.{slice_get_within}
 use Rattle.program_graph.specs.declared.refusal.GraphFlaw.TheVariants.{FallsOff, Unreachable}
-use Rattle.program_graph.specs.GraphFlaws.{JumpsWell, EndsWithExit, HasGraphFlaw, HasGoodGraph}
+use Rattle.program_graph.specs.GraphFlaws.{JumpsWell, HasGraphFlaw, HasGoodGraph}
 use Rattle.program_graph.specs.FirstPass.{IsFirstUnreached, IsInsnReached}
 use Rattle.program_graph.proofs.Edges.{start_read, index_here}
+use Rattle.bpf_model.specs.Graph.{EndsWithExit}
 
 -- a program that isn't empty has a last instruction, at the start of the last index
 pub record HasLast (n k : ℕ) (program : List Insn) : Type 0 where

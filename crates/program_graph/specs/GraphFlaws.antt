@@ -4,7 +4,7 @@ use Rattle.std.specs.Prelude.{◌≡◌, ◌≢◌, ℕ, ◌+◌, ◌<◌, nat_l
 use Rattle.std.specs.Prelude.{None, ℤ, pos, negsuc, ◌+ℤ◌, if◌then◌else◌}
 use Rattle.bpf_model.specs.declared.insn.Insn.{Insn}
 use Rattle.bpf_model.specs.declared.insn.Insn.TheVariants.{Exit}
-use Rattle.bpf_model.specs.Graph.{distance, Reached}
+use Rattle.bpf_model.specs.Graph.{distance, Reached, EndsWithExit}
 use Rattle.bpf_model.specs.Spelling.{slot_total}
 use Rattle.bpf_model.specs.Step.{insn_at}
 use Rattle.program_graph.specs.declared.refusal.GraphFlaw.{GraphFlaw}
@@ -37,9 +37,6 @@ JumpsWellBefore program slot =
 
 abbrev pub JumpsWell : List Insn → Type 0
 JumpsWell program = (q : ℕ) (i : Insn) → insn_at program q ≡ Some i → jump_flaw program q i ≡ None
-
-abbrev pub EndsWithExit : List Insn → Type 0
-EndsWithExit program = (front : List Insn) × (program ≡ front ++ Exit ∷ [])
 
 -- the first bad jump
 pub record IsFirstBadJump (program : List Insn) (flaw : GraphFlaw) (slot : ℕ) : Type 0 where

@@ -4,8 +4,8 @@ ghost use Rattle.std.specs.Prelude.{◌≡◌, ◌≢◌, ℕ, ◌+◌, ◌<◌,
 ghost use Rattle.bpf_model.specs.declared.insn.Insn.{Insn};
 ghost use Rattle.bpf_model.specs.declared.limits.TheConstants.{MAX_SLOTS};
 ghost use Rattle.bpf_model.specs.Spelling.{starts_from, slot_total, IsProgram};
-ghost use Rattle.bpf_model.specs.Graph.{falls as falls_of, distance as distance_of};
-ghost use Rattle.program_graph.specs.GraphFlaws.{JumpsWell, EndsWithExit, HasGoodGraph};
+ghost use Rattle.bpf_model.specs.Graph.{falls as falls_of, distance as distance_of, EndsWithExit};
+ghost use Rattle.program_graph.specs.GraphFlaws.{JumpsWell, HasGoodGraph};
 ghost use Rattle.program_graph.specs.Indexes.{HasTargets};
 ghost use Rattle.program_graph.specs.FirstPass.{IsIndexBySlot, landing, landed, target_of as target_spec, Marks, IsInsnReached, AreInsnsReached, IsFirstUnreached};
 ghost use Rattle.program_graph.specs.Told.{IsFlawToldOf, IsAcceptedGraph};

@@ -30,7 +30,7 @@ use Rattle.register_kinds.specs.Changes.{learnt, learnt_kind, learnt_cell}
 use Rattle.state_steps.specs.Stepped.{IsEqualToNull}
 use Rattle.bpf_model.specs.declared.opcode.Size.{Size}
 use Rattle.bpf_model.specs.declared.opcode.Size.TheVariants.{Word64}
-use Rattle.bpf_model.specs.PlainMaps.{lock_call, unlock_call, IsValueLoad}
+use Rattle.bpf_model.specs.PlainMaps.{lock_call, unlock_call, IsValueLoad, Lookup, Part, FrameCopy, KeyAddress, MapLoad, LookupCall, NullTest, ValueLoad, part_insn, IsFitting}
 use Rattle.control_effects.proofs.Branches.{set-there, set-elsewhere}
 use Rattle.scalar_domain.specs.declared.scalar.Scalar.{Scalar}
 use Rattle.typed_runs.specs.Kinds.{Kind, Blank, Num, FrameAt, MapAt, ValueAt, MaybeNull, ByteCell, AbsState}
@@ -41,7 +41,7 @@ use Rattle.register_kinds.specs.declared.kind.RegKind.TheVariants as kinds
 use Rattle.register_kinds.specs.declared.state.AbsState.{AbsState as StateHere}
 use Rattle.register_kinds.specs.States.{kind_of, cell_of, kind_in, class_in, state_of}
 use Rattle.state_steps.specs.Facts.{Register, FrameByte, FramePointer, Section}
-use Rattle.state_steps.specs.Lookups.{Lookup, Part, FrameCopy, KeyAddress, MapLoad, LookupCall, NullTest, ValueLoad, part_insn, IsFitting, IsKeyWritten, Expects, Prepares, KeepsSaved, IsReadyPart, LeavesPart, IsReadySection, LeavesSection, IsReadyWithMaps, Serves}
+use Rattle.state_steps.specs.Lookups.{IsKeyWritten, Expects, Prepares, KeepsSaved, IsReadyPart, LeavesPart, IsReadySection, LeavesSection, IsReadyWithMaps, Serves}
 
 -- what is ready among instructions that are no part of a lookup, and no call
 abbrev pub is_serving : Insn → Bool

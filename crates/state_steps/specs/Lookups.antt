@@ -1,59 +1,21 @@
 -- What is known inside a guarded lookup, from one of its instructions to the next, and of calls
 -- that begin or end a section.
-use Rattle.std.specs.Prelude.{◌≡◌, ℕ, ◌+◌, ◌<◌, ◌≤◌, ◌⊎◌, List, Option, Some, IfSome, slice_get, ℤ}
-use Rattle.std.specs.Prelude.{pos, ◌+ℤ◌, Bool, true, false, if◌then◌else◌}
+use Rattle.std.specs.Prelude.{◌≡◌, ℕ, ◌+◌, ◌<◌, ◌≤◌, ◌⊎◌, List, Option, IfSome}
+use Rattle.std.specs.Prelude.{pos, Bool, true, false, if◌then◌else◌}
 use Rattle.bpf_model.specs.declared.limits.TheConstants.{FRAME_BYTES}
 use Rattle.bpf_model.specs.declared.limits.MapShape.{MapShape}
 use Rattle.bpf_model.specs.declared.insn.Insn.{Insn}
-use Rattle.bpf_model.specs.declared.insn.Insn.TheVariants.{Alu, LoadMap, JumpIf}
-use Rattle.bpf_model.specs.declared.insn.AluOp.TheVariants.{Add, Move}
-use Rattle.bpf_model.specs.declared.insn.Operand.TheVariants.{Register as RegisterOperand}
-use Rattle.bpf_model.specs.declared.insn.Operand.TheVariants.{Immediate}
-use Rattle.bpf_model.specs.declared.opcode.Size.TheVariants.{Word64}
-use Rattle.bpf_model.specs.declared.opcode.Condition.TheVariants.{Equal}
-use Rattle.bpf_model.specs.PlainMaps.{lookup_call, lock_call, unlock_call, IsValueLoad}
+use Rattle.bpf_model.specs.PlainMaps.{lock_call, unlock_call, Lookup, Part, FrameCopy, KeyAddress}
+use Rattle.bpf_model.specs.PlainMaps.{MapLoad, LookupCall, NullTest, ValueLoad, part_insn, IsFitting}
 use Rattle.scalar_domain.specs.declared.scalar.Scalar.{Scalar}
 use Rattle.typed_runs.specs.Kinds.{FrameAt, MapAt, ValueAt, MaybeNull, AbsState}
 use Rattle.memory_effects.specs.Accesses.{IsStart}
 use Rattle.state_steps.specs.Facts.{Fact, Register, FrameByte, FramePointer, Section, FactHolds}
 
--- A guarded lookup: the map's index and shape, the key's first byte in the frame and how far it is
--- from r10, and the load from the value.
-pub record Lookup : Type 0 where
-  pub map : ℕ
-  pub shape : MapShape
-  pub at : ℕ
-  pub offset : ℤ
-  pub load : Insn
-
--- the six instructions of a guarded lookup
-pub data Part : Type 0 where
-  FrameCopy : Part
-  KeyAddress : Part
-  MapLoad : Part
-  LookupCall : Part
-  NullTest : Part
-  ValueLoad : Part
-
-abbrev pub part_insn : Lookup → Part → Insn
-part_insn l FrameCopy = Alu Move Word64 2 (RegisterOperand 10)
-part_insn l KeyAddress = Alu Add Word64 2 (Immediate l.offset)
-part_insn l MapLoad = LoadMap 1 (pos l.map)
-part_insn l LookupCall = lookup_call
-part_insn l NullTest = JumpIf Equal Word64 0 (Immediate (pos 0)) (pos 1)
-part_insn l ValueLoad = l.load
-
--- the map is one of the list, the key lies in the frame, and the load in the value
-pub record IsFitting (shapes : List MapShape) (l : Lookup) : Type 0 where
-  pub in_list : slice_get shapes l.map ≡ Some l.shape
-  pub in_frame : (pos FRAME_BYTES +ℤ l.offset ≡ pos l.at) × (l.at < FRAME_BYTES)
-      × (l.at + l.shape.key_len ≤ FRAME_BYTES)
-  pub in_value : IsValueLoad l.shape l.load
-
 abbrev pub IsKeyWritten : Lookup → AbsState → Type 0
 IsKeyWritten l a = (k : ℕ) → l.at ≤ k → k < l.at + l.shape.key_len → FactHolds (FrameByte k) a
 
--- what is known before each part, beside that a section is open
+-- what is known before each part of a guarded lookup, beside that a section is open
 abbrev pub Expects : Lookup → Part → AbsState → Type 0
 Expects l FrameCopy a = IsKeyWritten l a
 Expects l KeyAddress a = IsKeyWritten l a × (a.regs 2 ≡ FrameAt (pos FRAME_BYTES))

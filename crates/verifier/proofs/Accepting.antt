@@ -11,7 +11,7 @@ use Rattle.bpf_model.specs.declared.opcode.Width.{Width}
 use Rattle.bpf_model.specs.Access.{byte_count, region_offset}
 use Rattle.bpf_model.specs.Graph.{distance, JumpsTo, GoesTo}
 use Rattle.bpf_model.specs.Plain.{IsSimple, WritesRegister, WritesByte, Takes, WithoutByte, bare_entry, bare_next}
-use Rattle.bpf_model.specs.PlainMaps.{lookup_call, lock_call, unlock_call, IsGuardedLookup, IsPart, HasForm, InSection, section_entry, section_lock, section_unlock, section_next, LacksRegister, lacks_entry, lacks_call, lacks_next, IsPlainWithMaps}
+use Rattle.bpf_model.specs.PlainMaps.{lookup_call, lock_call, unlock_call, IsGuardedLookup, IsPart, HasForm, InSection, section_entry, section_lock, section_unlock, section_next, LacksRegister, lacks_entry, lacks_call, lacks_next, IsPlainWithMaps, Lookup, Part, FrameCopy, KeyAddress, MapLoad, LookupCall, NullTest, ValueLoad, part_insn, part_slot}
 use Rattle.bpf_model.specs.Spelling.{slot_count}
 use Rattle.bpf_model.specs.Step.{insn_at}
 use Rattle.bpf_model.specs.Places.{start_of-insn, LeadsTo, StartsAt, starts_increase, start-insn}
@@ -27,12 +27,12 @@ use Rattle.kind_tests.specs.declared.fault.Fault.{Fault}
 use Rattle.kind_tests.specs.declared.fault.Fault.TheVariants as faults
 use Rattle.memory_effects.specs.declared.region.Region.{Region}
 use Rattle.state_steps.specs.Facts.{Fact, Register, FrameByte, FramePointer, Section, FactHolds, Makes, IsReadyInsn, KeepsFacts}
-use Rattle.state_steps.specs.Lookups.{Lookup, Part, FrameCopy, KeyAddress, MapLoad, LookupCall, NullTest, ValueLoad, part_insn, IsKeyWritten, Expects, KeepsSaved, IsReadyPart, LeavesPart, IsReadySection, LeavesSection, IsReadyWithMaps}
+use Rattle.state_steps.specs.Lookups.{IsKeyWritten, Expects, KeepsSaved, IsReadyPart, LeavesPart, IsReadySection, LeavesSection, IsReadyWithMaps}
 use Rattle.verifier.specs.declared.refusal.Refusal.{Refusal}
 use Rattle.verifier.specs.declared.refusal.Refusal.TheVariants.{Memory}
 use Rattle.verifier.specs.declared.waiting.Waiting.{Waiting}
 use Rattle.verifier.specs.declared.waiting.Waiting.TheVariants.{Nothing, Known, Differing}
-use Rattle.verifier.specs.FactsKnown.{IsInner, Knows, WithoutFact, lookup_of, part_slot, IsExpected, IsKnown, AreKnown, CanAccept}
+use Rattle.verifier.specs.FactsKnown.{IsInner, Knows, WithoutFact, IsExpected, IsKnown, AreKnown, CanAccept}
 use Rattle.verifier.specs.SecondPass.{Awaited, state_in, IsConflict, JoinsTo, Merged, Fell, Jumped, Advances, StartsFrom, refusal_of}
 use Rattle.verifier.specs.Verdict.{IsAccepted}
 use Rattle.verifier.proofs.Lookups.{part_or_not, part_place, part_no_byte, part_keeps, behind, falls_from, slot_inside, slot_behind, pass_on, part_low, part_at}
@@ -210,12 +210,12 @@ module _ (program : List Insn) (shapes : List MapShape) (plain : IsPlainWithMaps
   ]
 
   -- over a part of a guarded lookup
-  module _ (start : ℕ) (l : IsGuardedLookup program shapes start) (q : Part) (place : s ≡ start + part_slot q) (is : i ≡ part_insn (lookup_of l) q) where
+  module _ (start : ℕ) (l : IsGuardedLookup program shapes start) (q : Part) (place : s ≡ start + part_slot q) (is : i ≡ part_insn l.lookup q) where
     part_here : IsPart program shapes s
     part_here = subst (IsPart program shapes) (sym place) (part_at program shapes start l q)
 
     low_on : (r t : ℕ) → r ≤ 5 → GoesTo i s t → LacksRegister program shapes r t ⊎ ((r ≤ 5) × IsInner program shapes t)
-    low_on r t low g = part_low program shapes start l plain.reached r low q t (subst (λ n. GoesTo (part_insn (lookup_of l) q) n t) place (subst (λ i. GoesTo i s t) is g))
+    low_on r t low g = part_low program shapes start l plain.graph.reached r low q t (subst (λ n. GoesTo (part_insn l.lookup q) n t) place (subst (λ i. GoesTo i s t) is g))
 
     no_byte : (j : ℕ) → WritesByte i j → ⊥
     no_byte j w = part_no_byte program shapes start l q j (subst (λ i. WritesByte i j) is w)
@@ -265,7 +265,7 @@ module _ (program : List Insn) (shapes : List MapShape) (plain : IsPlainWithMaps
           | inr w ↦ absurd (omega (arith, high, w.0))
         ])
       ]
-      | inr low ↦ inr (λ t at. inl (lacks_call s t i (plain.reached s i here) here (section_which opens i is) (omega (arith, low)) (goes t at)))
+      | inr low ↦ inr (λ t at. inl (lacks_call s t i (plain.graph.reached s i here) here (section_which opens i is) (omega (arith, low)) (goes t at)))
     ]
     section_facts left (FrameByte j) = elim (knows (FrameByte j)) [
       | inl holds ↦ inl (left.0 (FrameByte j) tt holds)
@@ -286,25 +286,25 @@ module _ (program : List Insn) (shapes : List MapShape) (plain : IsPlainWithMaps
 
 -- a part of a guarded lookup is ready where this is known
 part_ready : (program : List Insn) (shapes : List MapShape) → IsPlainWithMaps program shapes → (k s : ℕ) (i : Insn) (a : AbsState) → StartsAt program k s → IsKnown program shapes k a
-    → (start : ℕ) (l : IsGuardedLookup program shapes start) (q : Part) → s ≡ start + part_slot q → i ≡ part_insn (lookup_of l) q → IsReadyPart shapes (lookup_of l) q i (state_of a)
+    → (start : ℕ) (l : IsGuardedLookup program shapes start) (q : Part) → s ≡ start + part_slot q → i ≡ part_insn l.lookup q → IsReadyPart shapes l.lookup q i (state_of a)
 part_ready program shapes plain k s i a there known start l q place is = record {
   insn = is;
-  fitting = record { in_list = l.in_list; in_frame = l.in_frame; in_value = l.in_value };
+  fitting = l.fitting;
   frame = elim (known.facts FramePointer) [ inl h ↦ h | inr w ↦ absurd (w s there) ];
   inside = elim (known.facts (Section true)) [ inl h ↦ h | inr w ↦ absurd (plain.lookup_inside s (subst (IsPart program shapes) (sym place) (part_at program shapes start l q)) (w s there)) ];
   expects = by q place;
 }
   where
-    keys : s ≡ start + 0 → IsKeyWritten (lookup_of l) (state_of a)
+    keys : s ≡ start + 0 → IsKeyWritten l.lookup (state_of a)
     keys e j low high = elim (known.facts (FrameByte j)) [
       | inl h ↦ h
       | inr w ↦ (let f : s ≡ start = omega (arith, e) in absurd (plain.keys start j l low high (subst (WithoutByte program j) f (w s there))))
     ]
 
-    later : (q : Part) → (q ≡ FrameCopy → ⊥) → s ≡ start + part_slot q → Expects (lookup_of l) q (state_of a)
+    later : (q : Part) → (q ≡ FrameCopy → ⊥) → s ≡ start + part_slot q → Expects l.lookup q (state_of a)
     later q n e = known.expected start l q n (there ∙ ap Some e)
 
-    by : (q : Part) → s ≡ start + part_slot q → Expects (lookup_of l) q (state_of a)
+    by : (q : Part) → s ≡ start + part_slot q → Expects l.lookup q (state_of a)
     by FrameCopy e = keys e
     by KeyAddress e = later KeyAddress (λ f. cc) e
     by MapLoad e = later MapLoad (λ f. cc) e
@@ -355,7 +355,7 @@ ready_here program shapes k i a plain e known = by (stands program shapes plain 
     by : Stands program shapes s.0 i → IsReadyInsn i (state_of a) ⊎ IsReadyWithMaps shapes i (state_of a)
     by (inl part) =
         let q = part_place program shapes part.0 part.1 s.0 i here part.2 part.3 in
-        inr (inl (lookup_of part.1, q.0, part_ready program shapes plain k s.0 i a s.1 known part.0 part.1 q.0 q.1 q.2))
+        inr (inl (part.1.lookup, q.0, part_ready program shapes plain k s.0 i a s.1 known part.0 part.1 q.0 q.1 q.2))
     by (inr (away, inl c)) = inr (inr (c.0, section_ready program shapes plain k s.0 i a s.1 here known.facts c.0 c.1))
     by (inr (away, inr simple)) = inl (ordinary_ready program shapes plain k s.0 i a s.1 here known.facts away simple)
 
@@ -401,7 +401,7 @@ merged_known program shapes plain k at state old new merged ahead inside known b
         ]
 
     expected_at : (a : AbsState) → JoinsTo (old at) state a → IsExpected program shapes at a
-    expected_at a j start l p n there = j.expects (lookup_of l) p (known.expected start l p n there) (λ b h. (before.knows at b ahead h).expected start l p n there)
+    expected_at a j start l p n there = j.expects l.lookup p (known.expected start l p n there) (λ b h. (before.knows at b ahead h).expected start l p n there)
 
     joined_knows : (a : AbsState) → state_in (new at) ≡ Some a → IsKnown program shapes at a
     joined_knows a e = elim merged.here [
@@ -457,7 +457,7 @@ module _ (program : List Insn) (targets : List (Option ℕ)) (long : length targ
     ordinary_to : (b : AbsState) → (IsPart program shapes s.0 → ⊥) → IsSimple done.insn → KeepsFacts done.insn (state_of done.state) (state_of b) → Knows program shapes m b
     ordinary_to b away simple keeps = ordinary_facts program shapes plain k m s.0 done.insn done.state b s.1 at (λ t there. goes_on m t follows there) here.facts away simple keeps
 
-    part_to : (b : AbsState) (start : ℕ) (l : IsGuardedLookup program shapes start) (q : Part) → s.0 ≡ start + part_slot q → done.insn ≡ part_insn (lookup_of l) q
+    part_to : (b : AbsState) (start : ℕ) (l : IsGuardedLookup program shapes start) (q : Part) → s.0 ≡ start + part_slot q → done.insn ≡ part_insn l.lookup q
         → KeepsSaved (state_of done.state) (state_of b) → b.inside ≡ done.state.inside → Knows program shapes m b
     part_to b start l q place is keeps inside = part_facts program shapes plain k m s.0 done.insn done.state b s.1 at (λ t there. goes_on m t follows there) here.facts start l q place is keeps inside
 
@@ -467,9 +467,9 @@ module _ (program : List Insn) (targets : List (Option ℕ)) (long : length targ
   ready_ordinary : (IsPart program shapes s.0 → ⊥) → IsSimple done.insn → IsReadyInsn done.insn (state_of done.state)
   ready_ordinary away simple = ordinary_ready program shapes plain k s.0 done.insn done.state s.1 at here.facts away simple
 
-  leaves : (start : ℕ) (l : IsGuardedLookup program shapes start) (q : Part) → s.0 ≡ start + part_slot q → done.insn ≡ part_insn (lookup_of l) q
-      → LeavesPart (lookup_of l) q (state_of done.state) (state_of done.spreads.next) (option_map state_of done.spreads.taken)
-  leaves start l q place is = done.spreads.transfer.serves.part (lookup_of l) q (part_ready program shapes plain k s.0 done.insn done.state s.1 here start l q place is)
+  leaves : (start : ℕ) (l : IsGuardedLookup program shapes start) (q : Part) → s.0 ≡ start + part_slot q → done.insn ≡ part_insn l.lookup q
+      → LeavesPart l.lookup q (state_of done.state) (state_of done.spreads.next) (option_map state_of done.spreads.taken)
+  leaves start l q place is = done.spreads.transfer.serves.part l.lookup q (part_ready program shapes plain k s.0 done.insn done.state s.1 here start l q place is)
 
   -- where control falls through
   next_facts : Follows done.insn done.target k (suc k) → Stands program shapes s.0 done.insn → Knows program shapes (suc k) done.spreads.next
@@ -488,12 +488,12 @@ module _ (program : List Insn) (targets : List (Option ℕ)) (long : length targ
       let q = part_place program shapes start l s.0 done.insn at low (omega (arith, before, slot_inside program shapes start l p)) in
       let behind_is = behind program shapes start l q.0 in
       let goes = goes_on (suc k) (start + part_slot p) follows there in
-      let next : start + part_slot p ≡ s.0 + slot_count (part_insn (lookup_of l) q.0) = elim goes [
+      let next : start + part_slot p ≡ s.0 + slot_count (part_insn l.lookup q.0) = elim goes [
         | inl f ↦ f.1 ∙ ap (λ i. s.0 + slot_count i) q.2
         | inr j ↦ absurd (l.entered s.0 (start + part_slot p) done.insn at j (slot_behind program shapes start l p n) (slot_inside program shapes start l p))
       ] in
       let place = q.1 in
-      pass_on program shapes start l (lookup_of l) (state_of done.spreads.next) q.0 p n (omega (arith, next, place, behind_is)) (leaves start l q.0 q.1 q.2).prepares
+      pass_on program shapes start l l.lookup (state_of done.spreads.next) q.0 p n (omega (arith, next, place, behind_is)) (leaves start l q.0 q.1 q.2).prepares
 
   next_known : Follows done.insn done.target k (suc k) → IsKnown program shapes (suc k) done.spreads.next
   next_known follows = record { facts = next_facts follows (stands program shapes plain s.0 done.insn at); expected = next_expected follows }
@@ -535,7 +535,7 @@ module _ (program : List Insn) (targets : List (Option ℕ)) (long : length targ
   }
 
   fell_known : Fell done.insn k done.spreads.next done.spreads.taken done.spreads.jumping done.rest done.spreads.mid → AreKnown program shapes (k + 1) done.spreads.mid
-  fell_known (inl f) = merged_known program shapes plain (k + 1) (suc k) done.spreads.next done.rest done.spreads.mid f.1 (omega arith) (falls_inside program k done.insn plain.last done.insn_is f.0)
+  fell_known (inl f) = merged_known program shapes plain (k + 1) (suc k) done.spreads.next done.rest done.spreads.mid f.1 (omega arith) (falls_inside program k done.insn plain.graph.last done.insn_is f.0)
       (next_known (inl (f.0, refl))) before
   fell_known (inr f) = same_known program shapes (k + 1) done.rest done.spreads.mid f.1 before
 

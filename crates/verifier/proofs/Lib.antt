@@ -1,7 +1,6 @@
 pub mod Accepting
 pub mod Below
 pub mod Counting
-pub mod Graphs
 pub mod Justifying
 pub mod Lookups
 pub mod Merging

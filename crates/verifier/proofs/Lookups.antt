@@ -9,14 +9,14 @@ use Rattle.bpf_model.specs.declared.insn.CallKind.TheVariants.{Helper, Kernel}
 use Rattle.bpf_model.specs.declared.limits.MapShape.{MapShape}
 use Rattle.bpf_model.specs.Graph.{falls, distance, JumpsTo, GoesTo, Reached}
 use Rattle.bpf_model.specs.Plain.{WritesByte}
-use Rattle.bpf_model.specs.PlainMaps.{lookup_call, IsValueLoad, IsGuardedLookup, IsPart, Keeps, HasForm, LacksRegister, lacks_call, lacks_next, IsPlainWithMaps}
+use Rattle.bpf_model.specs.PlainMaps.{lookup_call, IsValueLoad, IsGuardedLookup, IsPart, Keeps, HasForm, LacksRegister, lacks_call, lacks_next, IsPlainWithMaps, Lookup, Part, FrameCopy, KeyAddress, MapLoad, LookupCall, NullTest, ValueLoad, part_insn, part_slot}
 use Rattle.bpf_model.specs.Spelling.{slot_count, starts_from}
 use Rattle.bpf_model.specs.Step.{insn_at}
 use Rattle.bpf_model.specs.Places.{StartsAt, starts-next, starts_increase, starts_ordered, start-inside}
 use Rattle.program_graph.proofs.Edges.{index_here}
 use Rattle.typed_runs.specs.Kinds.{AbsState}
-use Rattle.state_steps.specs.Lookups.{Lookup, Part, FrameCopy, KeyAddress, MapLoad, LookupCall, NullTest, ValueLoad, part_insn, Expects, Prepares}
-use Rattle.verifier.specs.FactsKnown.{IsInner, lookup_of, part_slot}
+use Rattle.state_steps.specs.Lookups.{Expects, Prepares}
+use Rattle.verifier.specs.FactsKnown.{IsInner}
 
 -- the slot behind each part
 abbrev pub step_slot : Part → ℕ
@@ -50,10 +50,13 @@ load_is shape (LoadSigned width dst src offset) v = record { slots = refl; falls
 load_is shape (Store width dst offset src) v = absurd v
 
 module _ (program : List Insn) (shapes : List MapShape) (start : ℕ) (l : IsGuardedLookup program shapes start) where
-  value_load : IsLoad l.load
-  value_load = load_is l.shape l.load l.in_value
+  value_load : IsLoad l.lookup.load
+  value_load = load_is l.lookup.shape l.lookup.load l.fitting.in_value
 
-  pub behind : (p : Part) → part_slot p + slot_count (part_insn (lookup_of l) p) ≡ step_slot p
+  at_start : insn_at program start ≡ Some (part_insn l.lookup FrameCopy)
+  at_start = let e : start ≡ start + part_slot FrameCopy = omega arith in ap (insn_at program) e ∙ l.parts FrameCopy
+
+  pub behind : (p : Part) → part_slot p + slot_count (part_insn l.lookup p) ≡ step_slot p
   behind FrameCopy = refl
   behind KeyAddress = refl
   behind MapLoad = refl
@@ -61,7 +64,7 @@ module _ (program : List Insn) (shapes : List MapShape) (start : ℕ) (l : IsGua
   behind NullTest = refl
   behind ValueLoad = ap (λ n. 6 + n) value_load.slots
 
-  pub part_no_byte : (p : Part) (k : ℕ) → WritesByte (part_insn (lookup_of l) p) k → ⊥
+  pub part_no_byte : (p : Part) (k : ℕ) → WritesByte (part_insn l.lookup p) k → ⊥
   part_no_byte FrameCopy k h = h
   part_no_byte KeyAddress k h = h
   part_no_byte MapLoad k h = h
@@ -69,7 +72,7 @@ module _ (program : List Insn) (shapes : List MapShape) (start : ℕ) (l : IsGua
   part_no_byte NullTest k h = h
   part_no_byte ValueLoad k h = value_load.no_byte k h
 
-  pub part_keeps : (p : Part) → Keeps (part_insn (lookup_of l) p)
+  pub part_keeps : (p : Part) → Keeps (part_insn l.lookup p)
   part_keeps FrameCopy = ((λ e. cc), (λ e. cc))
   part_keeps KeyAddress = ((λ e. cc), (λ e. cc))
   part_keeps MapLoad = ((λ e. cc), (λ e. cc))
@@ -80,30 +83,30 @@ module _ (program : List Insn) (shapes : List MapShape) (start : ℕ) (l : IsGua
   -- the instruction in the middle of the wide one isn't one
   not_within : (i : Insn) → insn_at program (start + 3) ≡ Some i → ⊥
   not_within i h =
-      let a = index_here program (start + 2) (LoadMap 1 (pos l.map)) l.map_load in
+      let a = index_here program (start + 2) (part_insn l.lookup MapLoad) (l.parts MapLoad) in
       let b = index_here program (start + 3) i h in
       let further : a.0 < b.0 = starts_ordered 0 program a.0 b.0 (start + 2) (start + 3) a.2 b.2 (omega arith) in
-      let next : StartsAt program (suc a.0) (start + 2 + 2) = starts-next 0 program a.0 (start + 2) (LoadMap 1 (pos l.map)) a.1 a.2 (omega (arith, start-inside program b.0 (start + 3) b.2, further)) in
+      let next : StartsAt program (suc a.0) (start + 2 + 2) = starts-next 0 program a.0 (start + 2) (part_insn l.lookup MapLoad) a.1 a.2 (omega (arith, start-inside program b.0 (start + 3) b.2, further)) in
       elim (cases_eq b.0 (suc a.0)) [
         | inl e ↦ (let same : start + 3 ≡ start + 2 + 2 = same_Some _ _ (sym b.2 ∙ ap (slice_get (starts_from 0 program)) e ∙ next) in absurd (omega (arith, same)))
         | inr n ↦ (let more : start + 2 + 2 < start + 3 = starts_increase 0 program (suc a.0) b.0 (start + 2 + 2) (start + 3) next b.2 (omega (arith, further, n)) in absurd (omega (arith, more)))
       ]
 
   -- what stands at its slots is its parts
-  pub part_place : (place : ℕ) (i : Insn) → insn_at program place ≡ Some i → start ≤ place → place ≤ start + 6 → (p : Part) × (place ≡ start + part_slot p) × (i ≡ part_insn (lookup_of l) p)
+  pub part_place : (place : ℕ) (i : Insn) → insn_at program place ≡ Some i → start ≤ place → place ≤ start + 6 → (p : Part) × (place ≡ start + part_slot p) × (i ≡ part_insn l.lookup p)
   part_place place i h low high = elim (cases_eq place start) [
-    | inl e ↦ (FrameCopy, (let g : place ≡ start + 0 = omega (arith, e) in g), same_Some _ _ (sym h ∙ ap (insn_at program) e ∙ l.frame))
+    | inl e ↦ (FrameCopy, (let g : place ≡ start + 0 = omega (arith, e) in g), same_Some _ _ (sym h ∙ ap (insn_at program) e ∙ at_start))
     | inr n0 ↦ elim (cases_eq place (start + 1)) [
-      | inl e ↦ (KeyAddress, e, same_Some _ _ (sym h ∙ ap (insn_at program) e ∙ l.key))
+      | inl e ↦ (KeyAddress, e, same_Some _ _ (sym h ∙ ap (insn_at program) e ∙ l.parts KeyAddress))
       | inr n1 ↦ elim (cases_eq place (start + 2)) [
-        | inl e ↦ (MapLoad, e, same_Some _ _ (sym h ∙ ap (insn_at program) e ∙ l.map_load))
+        | inl e ↦ (MapLoad, e, same_Some _ _ (sym h ∙ ap (insn_at program) e ∙ l.parts MapLoad))
         | inr n2 ↦ elim (cases_eq place (start + 3)) [
           | inl e ↦ absurd (not_within i (sym (ap (insn_at program) e) ∙ h))
           | inr n3 ↦ elim (cases_eq place (start + 4)) [
-            | inl e ↦ (LookupCall, e, same_Some _ _ (sym h ∙ ap (insn_at program) e ∙ l.call))
+            | inl e ↦ (LookupCall, e, same_Some _ _ (sym h ∙ ap (insn_at program) e ∙ l.parts LookupCall))
             | inr n4 ↦ elim (cases_eq place (start + 5)) [
-              | inl e ↦ (NullTest, e, same_Some _ _ (sym h ∙ ap (insn_at program) e ∙ l.guard))
-              | inr n5 ↦ (let e : place ≡ start + 6 = omega (arith, low, high, n0, n1, n2, n3, n4, n5) in (ValueLoad, e, same_Some _ _ (sym h ∙ ap (insn_at program) e ∙ l.value)))
+              | inl e ↦ (NullTest, e, same_Some _ _ (sym h ∙ ap (insn_at program) e ∙ l.parts NullTest))
+              | inr n5 ↦ (let e : place ≡ start + 6 = omega (arith, low, high, n0, n1, n2, n3, n4, n5) in (ValueLoad, e, same_Some _ _ (sym h ∙ ap (insn_at program) e ∙ l.parts ValueLoad)))
             ]
           ]
         ]
@@ -114,7 +117,7 @@ module _ (program : List Insn) (shapes : List MapShape) (start : ℕ) (l : IsGua
   -- control falls into its middle from its own instructions alone
   pub falls_from : (k s t : ℕ) → StartsAt program k s → StartsAt program (suc k) t → start < t → start ≤ s
   falls_from k s t a b h =
-      let j = index_here program start _ l.frame in
+      let j = index_here program start _ at_start in
       let before : j.0 < suc k = starts_ordered 0 program j.0 (suc k) start t j.2 b h in
       elim (cases_eq j.0 k) [
         | inl e ↦ (let same : start ≡ s = same_Some _ _ (sym j.2 ∙ ap (slice_get (starts_from 0 program)) e ∙ a) in omega (arith, same))
@@ -182,15 +185,15 @@ module _ (program : List Insn) (shapes : List MapShape) (start : ℕ) (l : IsGua
   -- behind the call r0 to r5 hold no number
   module _ (reached : (place : ℕ) (i : Insn) → insn_at program place ≡ Some i → Reached program place) (r : ℕ) (low : r ≤ 5) where
     lacks_5 : LacksRegister program shapes r (start + 5)
-    lacks_5 = lacks_call (start + 4) (start + 5) lookup_call (reached (start + 4) lookup_call l.call) l.call (inr (inr refl)) low (inl (refl, (let g : start + 5 ≡ start + 4 + 1 = omega arith in g)))
+    lacks_5 = lacks_call (start + 4) (start + 5) lookup_call (reached (start + 4) lookup_call (l.parts LookupCall)) (l.parts LookupCall) (inr (inr refl)) low (inl (refl, (let g : start + 5 ≡ start + 4 + 1 = omega arith in g)))
 
     lacks_6 : LacksRegister program shapes r (start + 6)
-    lacks_6 = lacks_next (start + 5) (start + 6) _ lacks_5 l.guard (λ w. absurd w) (inl (refl, (let g : start + 6 ≡ start + 5 + 1 = omega arith in g)))
+    lacks_6 = lacks_next (start + 5) (start + 6) _ lacks_5 (l.parts NullTest) (λ w. absurd w) (inl (refl, (let g : start + 6 ≡ start + 5 + 1 = omega arith in g)))
 
-    jumps_not : (p : Part) (t : ℕ) → distance (part_insn (lookup_of l) p) ≡ None → JumpsTo (part_insn (lookup_of l) p) (start + part_slot p) t → ⊥
+    jumps_not : (p : Part) (t : ℕ) → distance (part_insn l.lookup p) ≡ None → JumpsTo (part_insn l.lookup p) (start + part_slot p) t → ⊥
     jumps_not p t none j = none-some j.0 (sym none ∙ j.1)
 
-    inner : (p : Part) (t : ℕ) → t ≡ start + part_slot p + slot_count (part_insn (lookup_of l) p) → 0 < step_slot p → step_slot p ≤ 6 → IsInner program shapes t
+    inner : (p : Part) (t : ℕ) → t ≡ start + part_slot p + slot_count (part_insn l.lookup p) → 0 < step_slot p → step_slot p ≤ 6 → IsInner program shapes t
     inner p t e low high =
         let b = behind p in record {
           start = start;
@@ -200,7 +203,7 @@ module _ (program : List Insn) (shapes : List MapShape) (start : ℕ) (l : IsGua
         }
 
     -- nothing is said of them inside, and behind the lookup they lack a number
-    pub part_low : (p : Part) (t : ℕ) → GoesTo (part_insn (lookup_of l) p) (start + part_slot p) t → LacksRegister program shapes r t ⊎ ((r ≤ 5) × IsInner program shapes t)
+    pub part_low : (p : Part) (t : ℕ) → GoesTo (part_insn l.lookup p) (start + part_slot p) t → LacksRegister program shapes r t ⊎ ((r ≤ 5) × IsInner program shapes t)
     part_low FrameCopy t (inl f) = inr (low, inner FrameCopy t f.1 (omega arith) (omega arith))
     part_low FrameCopy t (inr j) = absurd (jumps_not FrameCopy t refl j)
     part_low KeyAddress t (inl f) = inr (low, inner KeyAddress t f.1 (omega arith) (omega arith))
@@ -209,8 +212,8 @@ module _ (program : List Insn) (shapes : List MapShape) (start : ℕ) (l : IsGua
     part_low MapLoad t (inr j) = absurd (jumps_not MapLoad t refl j)
     part_low LookupCall t (inl f) = inr (low, inner LookupCall t f.1 (omega arith) (omega arith))
     part_low LookupCall t (inr j) = absurd (jumps_not LookupCall t refl j)
-    part_low NullTest t g = inl (lacks_next (start + 5) t _ lacks_5 l.guard (λ w. part_at NullTest) g)
-    part_low ValueLoad t g = inl (lacks_next (start + 6) t _ lacks_6 l.value (λ w. part_at ValueLoad) g)
+    part_low NullTest t g = inl (lacks_next (start + 5) t _ lacks_5 (l.parts NullTest) (λ w. part_at NullTest) g)
+    part_low ValueLoad t g = inl (lacks_next (start + 6) t _ lacks_6 (l.parts ValueLoad) (λ w. part_at ValueLoad) g)
 
 -- a call of the lookup or not
 helper_call : (imm : ℤ) → (Call Helper imm ≡ lookup_call) ⊎ (Call Helper imm ≡ lookup_call → ⊥)
@@ -248,7 +251,7 @@ module _ (program : List Insn) (shapes : List MapShape) (plain : IsPlainWithMaps
   by_call : (start : ℕ) → insn_at program (start + 4) ≡ Some lookup_call → HasForm program shapes (start + 4) lookup_call → IsGuardedLookup program shapes start
   by_call start h (inl part) =
       let q = part_place program shapes part.0 part.1 (start + 4) lookup_call h part.2 part.3 in
-      let c = call_part (lookup_of part.1) q.0 part.1.shape part.1.in_value q.2 in
+      let c = call_part part.1.lookup q.0 part.1.lookup.shape part.1.fitting.in_value q.2 in
       let e : start + 4 ≡ part.0 + 4 = subst (λ p. start + 4 ≡ part.0 + part_slot p) c q.1 in
       let same : part.0 ≡ start = omega (arith, e) in
       subst (IsGuardedLookup program shapes) same part.1
@@ -260,10 +263,10 @@ module _ (program : List Insn) (shapes : List MapShape) (plain : IsPlainWithMaps
   guarded_or_not start = by (insn_at program (start + 4)) refl
     where
       by : (o : Option Insn) → insn_at program (start + 4) ≡ o → IsGuardedLookup program shapes start ⊎ (IsGuardedLookup program shapes start → ⊥)
-      by None e = inr (λ l. none-some lookup_call (sym e ∙ l.call))
+      by None e = inr (λ l. none-some lookup_call (sym e ∙ l.parts LookupCall))
       by (Some i) e = elim (lookup_or_not i) [
         | inl f ↦ (let h : insn_at program (start + 4) ≡ Some lookup_call = e ∙ ap Some f in inl (by_call start h (plain.forms (start + 4) lookup_call h)))
-        | inr n ↦ inr (λ l. n (same_Some _ _ (sym e ∙ l.call)))
+        | inr n ↦ inr (λ l. n (same_Some _ _ (sym e ∙ l.parts LookupCall)))
       ]
 
   within_or_not : (n place : ℕ) → ((start : ℕ) × IsGuardedLookup program shapes start × (start ≤ place) × (place ≤ start + n))

@@ -3,12 +3,13 @@ use Rattle.std.proofs.Common.{◌≡◌, ◌≢◌, ℕ, refl, sym, ◌∙◌, a
 use Rattle.std.specs.Prelude.{◌⊎◌, Option, Some, None, IsSome, IfSome, Box}
 use Rattle.std.proofs.lemmas.Bool.{cases_eq}
 use Rattle.std.proofs.lemmas.Option.{same_Some}
+use Rattle.bpf_model.specs.PlainMaps.{Lookup, Part}
 use Rattle.typed_runs.specs.Planned.{Wider}
 use Rattle.register_kinds.specs.declared.state.AbsState.{AbsState}
 use Rattle.register_kinds.specs.States.{state_of}
 use Rattle.register_kinds.specs.Pairs.{AreBelow}
 use Rattle.state_steps.specs.Facts.{Fact, FactHolds}
-use Rattle.state_steps.specs.Lookups.{Lookup, Part, Expects}
+use Rattle.state_steps.specs.Lookups.{Expects}
 use Rattle.state_steps.specs.Steps.{unboxed}
 use Rattle.verifier.specs.declared.waiting.Waiting.{Waiting}
 use Rattle.verifier.specs.declared.waiting.Waiting.TheVariants.{Nothing, Differing}

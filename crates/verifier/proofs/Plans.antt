@@ -10,10 +10,10 @@ use borrow.Author.Tests.{le-ltb, lt-ltb}
 use Rattle.bpf_model.specs.declared.insn.Insn.{Insn}
 use Rattle.bpf_model.specs.declared.insn.Insn.TheVariants.{Exit}
 use Rattle.bpf_model.specs.declared.limits.MapShape.{MapShape}
-use Rattle.bpf_model.specs.Graph.{falls, distance}
+use Rattle.bpf_model.specs.Graph.{falls, distance, EndsWithExit}
 use Rattle.bpf_model.specs.Spelling.{slot_count, slot_total}
 use Rattle.bpf_model.specs.Places.{slot_count_some, starts_apart, starts_increase, start_of-insn, insn_of-start, LeadsTo, StartsAt, start-insn, start-entry}
-use Rattle.program_graph.specs.GraphFlaws.{EndsWithExit, HasGoodGraph}
+use Rattle.program_graph.specs.GraphFlaws.{HasGoodGraph}
 use Rattle.program_graph.specs.FirstPass.{Follows}
 use Rattle.program_graph.specs.Indexes.{HasTargets, IsTarget}
 use Rattle.program_graph.proofs.Marking.{edge_into, reached_by}
@@ -21,7 +21,7 @@ use Rattle.typed_runs.specs.Kinds as model
 use Rattle.typed_runs.specs.Describes.{Describes}
 use Rattle.typed_runs.specs.Verified.{Plan}
 use Rattle.typed_runs.specs.Planned as plans
-use Rattle.typed_runs.specs.Planned.{Wider, Covers, entry_state}
+use Rattle.typed_runs.specs.Planned.{Covers, entry_state}
 use Rattle.typed_runs.proofs.Planning.{alike_wider}
 use Rattle.register_kinds.specs.declared.state.AbsState.{AbsState}
 use Rattle.register_kinds.specs.States.{state_of}

@@ -4,14 +4,13 @@ use Rattle.std.specs.Prelude.{if◌then◌else◌}
 use Rattle.bpf_model.specs.declared.insn.Insn.{Insn}
 use Rattle.bpf_model.specs.declared.limits.MapShape.{MapShape}
 use Rattle.bpf_model.specs.Plain.{WithoutByte}
-use Rattle.bpf_model.specs.PlainMaps.{IsGuardedLookup, InSection, LacksRegister}
+use Rattle.bpf_model.specs.PlainMaps.{IsGuardedLookup, InSection, LacksRegister, Part, FrameCopy, ValueLoad}
 use Rattle.bpf_model.specs.Places.{StartsAt}
 use Rattle.register_kinds.specs.declared.state.AbsState.{AbsState}
 use Rattle.register_kinds.specs.States.{state_of}
 use Rattle.state_steps.specs.Facts.{Fact, Register, FrameByte, FramePointer, Section, FactHolds}
 use Rattle.state_steps.specs.Facts.{IsReadyInsn}
-use Rattle.state_steps.specs.Lookups.{Lookup, Part, FrameCopy, KeyAddress, MapLoad, LookupCall}
-use Rattle.state_steps.specs.Lookups.{NullTest, ValueLoad, Expects, IsReadyWithMaps}
+use Rattle.state_steps.specs.Lookups.{Expects, IsReadyWithMaps}
 use Rattle.verifier.specs.declared.waiting.Waiting.TheVariants.{Differing}
 use Rattle.verifier.specs.SecondPass.{Awaited, state_in}
 
@@ -20,7 +19,7 @@ pub record IsInner (program : List Insn) (shapes : List MapShape) (slot : ℕ) :
   pub start : ℕ
   pub lookup : IsGuardedLookup program shapes start
   pub behind : start < slot
-  pub inside : slot ≤ start + 6
+  pub inside : slot ≤ start + part_slot ValueLoad
 
 -- a path leads to the slot on which nothing makes the fact hold; inside a guarded lookup nothing is
 -- said of r0 to r5
@@ -39,25 +38,12 @@ Knows program shapes index a =
     → FactHolds fact (state_of a)
     ⊎ ((slot : ℕ) → StartsAt program index slot → WithoutFact program shapes fact slot)
 
--- a guarded lookup, as its instructions see it, and where each of them begins
-abbrev pub lookup_of : {program : List Insn} {shapes : List MapShape} {start : ℕ} →
-    IsGuardedLookup program shapes start → Lookup
-lookup_of l = record { map = l.map; shape = l.shape; at = l.at; offset = l.offset; load = l.load }
-
-abbrev pub part_slot : Part → ℕ
-part_slot FrameCopy = 0
-part_slot KeyAddress = 1
-part_slot MapLoad = 2
-part_slot LookupCall = 4
-part_slot NullTest = 5
-part_slot ValueLoad = 6
-
 -- Before an instruction inside a guarded lookup it is known what it needs.
 abbrev pub IsExpected : List Insn → List MapShape → ℕ → AbsState → Type 0
 IsExpected program shapes index a =
     (start : ℕ) (l : IsGuardedLookup program shapes start) (p : Part) → (p ≡ FrameCopy → ⊥) →
     StartsAt program index (start + part_slot p)
-    → Expects (lookup_of l) p (state_of a)
+    → Expects l.lookup p (state_of a)
 
 pub record IsKnown (program : List Insn) (shapes : List MapShape) (index : ℕ) (a : AbsState)
     : Type 0 where

@@ -1,12 +1,12 @@
 use Rattle.std.proofs.Common.{◌≡◌, ℕ, ◌<◌, ◌-◌, length, arith, ap, rules}
 use Rattle.bpf_model.specs.Places.{length-starts_from}
-use Rattle.program_graph.specs.GraphFlaws.{EndsWithExit}
 use Rattle.program_graph.specs.FirstPass.{IsFirstUnreached, IsInsnReached}
 use Rattle.program_graph.proofs.Verdicts.{some_insn, bad_end, unreachable_at, good_graph}
 use Rattle.std.specs.Prelude.{slice_index_or}
 use Rattle.program_graph.specs.declared.refusal.GraphFlaw.TheVariants.{Unreachable}
 use Rattle.program_graph.proofs.Flaws.{good_has_none}
 use Rattle.program_graph.proofs.graph.judge.Goals as goal
+use Rattle.bpf_model.specs.Graph.{EndsWithExit}
 
 pub overflow_sub-result : goal.overflow_sub-result
 overflow_sub-result c = omega (arith, ap length c.requires.starts, length-starts_from 0 c.args.instructions.now, some_insn c.args.instructions.now c.requires.program)
