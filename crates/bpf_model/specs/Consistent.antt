@@ -29,10 +29,23 @@ abbrev pub HasLengths : List MapState → Element → Type 0
 HasLengths maps e = (state : MapState) × (slice_get maps e.map ≡ Some state)
     × (length e.key ≡ state.shape.key_len) × (length e.value ≡ state.shape.value_len)
 
+-- a key has at most one linked element
+abbrev pub IsSingle : List Element → Type 0
+IsSingle es = (map : ℕ) (key : List ℕ) (a b : ℕ) → IsLinkedAt es map key a →
+    IsLinkedAt es map key b → a ≡ b
+
+-- A section has begun: its run was started, and where that run still stands in a run slot, it has
+-- opened so many sections.
+pub record HasBegun (m : Machine) (s : Section) : Type 0 where
+  pub started : s.run < m.started
+  pub opened : (r : ℕ) (run : Run) → run_at m.runs r ≡ Some run → run.name ≡ s.run →
+      s.lock ≤ run.locks
+
+abbrev pub AllBegun : Machine → List Section → Type 0
+AllBegun m sections = (s : Section) → Has sections s → HasBegun m s
+
 pub record IsConsistent (m : Machine) : Type 0 where
-  -- a key has at most one linked element
-  pub single : (map : ℕ) (key : List ℕ) (a b : ℕ) → IsLinkedAt m.store.elements map key a
-      → IsLinkedAt m.store.elements map key b → a ≡ b
+  pub single : IsSingle m.store.elements
   pub lengths : (n : ℕ) (e : Element) → slice_get m.store.elements n ≡ Some e →
       HasLengths m.store.maps e
   -- no two runs have one name
@@ -40,12 +53,9 @@ pub record IsConsistent (m : Machine) : Type 0 where
   pub apart : (q r : ℕ) (a b : Run) → run_at m.runs q ≡ Some a → run_at m.runs r ≡ Some b →
       a.name ≡ b.name → q ≡ r
   -- each section that an unlinked element keeps began before, so that no later lock opens it again
-  pub past : (n : ℕ) (e : Element) (since : List Section) (s : Section) →
+  pub begun : (n : ℕ) (e : Element) (since : List Section) →
       slice_get m.store.elements n ≡ Some e
-      → e.life ≡ Unlinked since → Has since s → s.run < m.started
-  pub begun : (n : ℕ) (e : Element) (since : List Section) (s : Section) (r : ℕ) (run : Run)
-      → slice_get m.store.elements n ≡ Some e → e.life ≡ Unlinked since → Has since s
-      → run_at m.runs r ≡ Some run → run.name ≡ s.run → s.lock ≤ run.locks
+      → e.life ≡ Unlinked since → AllBegun m since
   pub deep : (r : ℕ) (run : Run) → run_at m.runs r ≡ Some run → run.depth ≤ MAX_DEPTH
   -- a run that has ended is outside every section
   pub ended : (r : ℕ) (run : Run) → run_at m.runs r ≡ Some run → run.exit ≢ None → run.depth ≡ 0

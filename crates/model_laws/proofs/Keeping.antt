@@ -13,8 +13,7 @@ use Rattle.bpf_model.specs.Element.{Element, Life, Linked, Unlinked, IsLinkedAt}
 use Rattle.bpf_model.specs.MapState.{Store}
 use Rattle.bpf_model.specs.Machine.{Loaded, Run, Machine, open_sections, run_at, start_machine}
 use Rattle.bpf_model.specs.Event.{DoesEvent}
-use Rattle.bpf_model.specs.Consistent.{HasLengths, IsConsistent}
-use Rattle.model_laws.specs.Begun.{AllBegun}
+use Rattle.bpf_model.specs.Consistent.{HasLengths, IsConsistent, IsSingle, AllBegun}
 use Rattle.model_laws.proofs.Born.{IsBornState, more-value, more-cell, born-entry}
 use Rattle.model_laws.proofs.Moves.{RunsMove, run-before, started-grows, does-move}
 use Rattle.model_laws.proofs.Stores.{LifeMoves, Stays, Unlinks, Ends, Alters, Born, StoreMoves, is_reap, does-moves}
@@ -34,8 +33,7 @@ starts_consistent shapes programs = record {
   lengths = λ n e h. absurd (none-some e h);
   named = λ r run h. absurd (no-run MAX_RUNS r run h);
   apart = λ q r a b ha hb same. absurd (no-run MAX_RUNS q a ha);
-  past = λ n e since s h life has. absurd (none-some e h);
-  begun = λ n e since s r run h life has at same. absurd (none-some e h);
+  begun = λ n e since h life. absurd (none-some e h);
   deep = λ r run h. absurd (no-run MAX_RUNS r run h);
   ended = λ r run h ended. absurd (no-run MAX_RUNS r run h);
   registers = λ r run i h. absurd (no-run MAX_RUNS r run h);
@@ -75,8 +73,7 @@ module _ (reap : Bool) (opened : List Section) (s new : Store) (mv : StoreMoves 
     | inr x ↦ inr (λ b k. x.only b (record { element = k.element; born = k.born; linked = k.linked; in_map = k.in_map ∙ sym l.in_map; under = k.under ∙ sym l.under }))
   ]
 
-  keeps-single : ((map : ℕ) (key : List ℕ) (a b : ℕ) → IsLinkedAt s.elements map key a → IsLinkedAt s.elements map key b → a ≡ b) →
-      (map : ℕ) (key : List ℕ) (a b : ℕ) → IsLinkedAt new.elements map key a → IsLinkedAt new.elements map key b → a ≡ b
+  keeps-single : IsSingle s.elements → IsSingle new.elements
   keeps-single w map key a b la lb = elim (link-before map key a la) [
     | inl x ↦ elim (link-before map key b lb) [
       | inl y ↦ w map key a b x y
@@ -109,9 +106,6 @@ module _ (reap : Bool) (opened : List Section) (s new : Store) (mv : StoreMoves 
     | inr more ↦ more
   ]
 
-pub begun-unlinked : (m : Machine) (n : ℕ) (e : Element) (since : List Section) → IsConsistent m → slice_get m.store.elements n ≡ Some e → e.life ≡ Unlinked since → AllBegun m since
-begun-unlinked m n e since w at life s has = record { started = w.past n e since s at life has; opened = λ r run there same. w.begun n e since s r run at life has there same }
-
 begun-life : (reap : Bool) (m : Machine) (old new : Life) (since : List Section) → IsConsistent m → LifeMoves reap (open_sections m.runs) old new → new ≡ Unlinked since → (old ≡ Unlinked since → AllBegun m since) → AllBegun m since
 begun-life reap m old new since w (Stays e) h k = k (sym e ∙ h)
 begun-life reap m old new since w (Unlinks l e) h k = subst (AllBegun m) (same-since _ _ (sym e ∙ h)) (open-begun m w)
@@ -120,7 +114,7 @@ begun-life reap m old new since w (Ends past r l ended e) h k = absurd (reclaime
 module _ (reap : Bool) (m new : Machine) (w : IsConsistent m) (runs : RunsMove m new) (mv : StoreMoves reap (open_sections m.runs) m.store new.store) where
   begun-new : (n : ℕ) (f : Element) (since : List Section) → slice_get new.store.elements n ≡ Some f → f.life ≡ Unlinked since → AllBegun new since
   begun-new n f since at life = elim (element-before reap (open_sections m.runs) m.store new.store n f mv at) [
-    | inl x ↦ all-begun-later m new since runs (begun-life reap m x.old.life f.life since w x.alters.life life (λ l. begun-unlinked m n x.old since w x.there l))
+    | inl x ↦ all-begun-later m new since runs (begun-life reap m x.old.life f.life since w x.alters.life life (λ l. w.begun n x.old since x.there l))
     | inr x ↦ absurd (linked≢unlinked since (sym x.linked ∙ life))
   ]
 
@@ -179,8 +173,7 @@ module _ (reap : Bool) (m new : Machine) (w : IsConsistent m) (runs : RunsMove m
     lengths = keeps-lengths reap (open_sections m.runs) m.store new.store mv w.lengths;
     named = named-new;
     apart = apart-new;
-    past = λ n e since s at life has. (begun-new n e since at life s has).started;
-    begun = λ n e since s r run at life has there same. (begun-new n e since at life s has).opened r run there same;
+    begun = begun-new;
     deep = deep-new;
     ended = ended-new;
     registers = λ r run i at. more-value _ _ (run.state.regs i) grown ((state-new r run at).0 i);

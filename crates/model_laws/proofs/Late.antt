@@ -10,13 +10,12 @@ use Rattle.bpf_model.specs.Element.{Element, Life, Linked, Unlinked, Reclaimed, 
 use Rattle.bpf_model.specs.Machine.{Machine, open_sections}
 use Rattle.bpf_model.specs.Event.{DoesEvent}
 use Rattle.bpf_model.specs.History.{IsHistory}
-use Rattle.bpf_model.specs.Consistent.{IsConsistent}
+use Rattle.bpf_model.specs.Consistent.{IsConsistent, AllBegun}
 use Rattle.bpf_model.specs.Headline.{ReclaimedLate}
-use Rattle.model_laws.specs.Begun.{AllBegun}
 use Rattle.model_laws.proofs.Moves.{does-move}
 use Rattle.model_laws.proofs.Stores.{LifeMoves, Stays, Unlinks, Ends, is_reap, does-moves}
 use Rattle.model_laws.proofs.Past.{all-begun-later, ended-later}
-use Rattle.model_laws.proofs.Keeping.{begun-unlinked, stays_consistent}
+use Rattle.model_laws.proofs.Keeping.{stays_consistent}
 use Rattle.model_laws.proofs.Between.{between-along}
 use Rattle.model_laws.proofs.Lives.{linked≢unlinked, reclaimed≢unlinked}
 
@@ -90,7 +89,7 @@ keeps-along m events answers states w h i n before after since ai bi la lb = abs
 ended-from : (m : Machine) (events : List Event) (answers : List Answer) (states : List Machine) → IsConsistent m → IsHistory m events answers states → (j n : ℕ) (later : Machine) (since : List Section) →
     slice_get (m ∷ states) j ≡ Some later → HasLife m.store.elements n (Unlinked since) → HasLife later.store.elements n Reclaimed → AllEnded since (open_sections later.runs)
 ended-from m events answers states w h j n later since at unlinked reclaimed =
-    kept-reclaimed later n since (kept-along m events answers states n since w (begun-unlinked m n unlinked.0 since w unlinked.1 unlinked.2) (inl unlinked) h j later at) reclaimed
+    kept-reclaimed later n since (kept-along m events answers states n since w (w.begun n unlinked.0 since unlinked.1 unlinked.2) (inl unlinked) h j later at) reclaimed
 
 ended-along : (m : Machine) (events : List Event) (answers : List Answer) (states : List Machine) → IsConsistent m → IsHistory m events answers states → (i j n : ℕ) (first later : Machine) (since : List Section) →
     slice_get (m ∷ states) i ≡ Some first → slice_get (m ∷ states) j ≡ Some later → i < j → HasLife first.store.elements n (Unlinked since) → HasLife later.store.elements n Reclaimed → AllEnded since (open_sections later.runs)

@@ -10,15 +10,15 @@ use Rattle.bpf_model.specs.MapState.{Store}
 use Rattle.bpf_model.specs.Machine.{Run, open_sections, run_in, run_at}
 use Rattle.bpf_model.specs.Schedule.{Queues, Schedule, is_open, open_flags}
 use Rattle.bpf_model.specs.Refines.{times}
-use Rattle.model_laws.specs.Begun.{AllBegun}
 use Rattle.model_laws.specs.Scheduled.{queued_in, Waits, IsScheduled}
 use Rattle.model_laws.proofs.Moves.{RunsMove, run-before}
 use Rattle.model_laws.proofs.Stores.{LifeMoves, Stays, Unlinks, Ends, Alters, StoreMoves}
 use Rattle.model_laws.proofs.Past.{ended-later}
-use Rattle.model_laws.proofs.Keeping.{element-before, begun-unlinked}
+use Rattle.model_laws.proofs.Keeping.{element-before}
 use Rattle.model_laws.proofs.Counting.{newly}
 use Rattle.model_laws.proofs.Lives.{linked≢unlinked, reclaimed≢unlinked}
 use Rattle.model_laws.proofs.Tallies.{one_of}
+use Rattle.bpf_model.specs.Consistent.{AllBegun}
 
 -- what is queued is an unlinked element of the map
 pub record Queued (es : List Element) (k n : ℕ) : Type 0 where
@@ -100,7 +100,7 @@ module _ (reap : Bool) (s new : Schedule) (w : IsScheduled s) (runs : RunsMove s
   ended-kept k n q f since at has born life =
       let d = queued-of s k n q w at (omega arith) in
       let b = since-before reap (open_sections s.machine.runs) s.machine.store new.machine.store k n f since mv d born life in
-      ended-later s.machine new.machine since runs (begun-unlinked s.machine n b.0 since w.consistent b.1 b.2) ((w.waits k q at).ended n b.0 since has b.1 b.2)
+      ended-later s.machine new.machine since runs (w.consistent.begun n b.0 since b.1 b.2) ((w.waits k q at).ended n b.0 since has b.1 b.2)
 
   awaited-before : (k n : ℕ) (q : Queues) (e : Element) (since : List Section) (r : ℕ) (run : Run) → slice_get s.queues k ≡ Some q → 0 < times n q.waiting → slice_get s.machine.store.elements n ≡ Some e → e.life ≡ Unlinked since → AllBegun s.machine since →
       run_at new.machine.runs r ≡ Some run → 0 < run.depth → Has since (record { run = run.name; lock = run.locks }) → slice_get s.awaited r ≡ Some true
@@ -125,7 +125,7 @@ module _ (reap : Bool) (s new : Schedule) (w : IsScheduled s) (runs : RunsMove s
         let waited : 0 < times n q.waiting = subst (λ l. 0 < times n l) waiting has in
         let d = queued-of s k n q w at (omega arith) in
         let b = since-before reap (open_sections s.machine.runs) s.machine.store new.machine.store k n f since mv d born life in
-        keeps r run there inside (awaited-before k n q b.0 since r run at waited b.1 b.2 (begun-unlinked s.machine n b.0 since w.consistent b.1 b.2) there inside h);
+        keeps r run there inside (awaited-before k n q b.0 since r run at waited b.1 b.2 (w.consistent.begun n b.0 since b.1 b.2) there inside h);
   }
 
 -- the counts after a step that isn't a reap

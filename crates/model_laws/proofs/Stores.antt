@@ -32,9 +32,10 @@ use Rattle.bpf_model.specs.Step.{State, Environment, Outcome}
 use Rattle.bpf_model.specs.Section.{Section, AllEnded}
 use Rattle.bpf_model.specs.Element.{Element, Life, Linked, Unlinked, Reclaimed, IsLinkedAt, IsAbsent, with_value, with_life, set_to, changed, unlinked, unless_reclaimed, accessible}
 use Rattle.bpf_model.specs.MapState as map_state
-use Rattle.bpf_model.specs.MapState.{MapState, TakesOut, with_bag, with_elements, with_given, given_of, returned, shape_in, shape_of}
+use Rattle.bpf_model.specs.MapState.{MapState, with_bag, with_elements, with_given, given_of, returned, shape_in, shape_of}
 use Rattle.bpf_model.specs.Helper.{LooksUp, Replaces, Settles, Updates, Removes, Deletes, newborn}
 use Rattle.bpf_model.specs.Reclaim.{Reclaims}
+use Rattle.bpf_model.specs.Consistent.{HasLengths, IsSingle}
 use Rattle.bpf_model.specs.Machine.{Run, Machine, environment, open_sections}
 use Rattle.bpf_model.specs.MachineStep.{AccessesElement, Acts, HelperStep, InsnStep, element_store, stored_in, with_bytes, bytes_at, bytes_from, frame_bytes, key_argument, value_argument}
 use Rattle.bpf_model.specs.Event.{PerformsEvent, Answers, DoesEvent, refusal, update_refusal}
@@ -98,7 +99,7 @@ pub record Born (s new : map_state.Store) (n : ℕ) (f : Element) : Type 0 where
   pub last : n ≡ length s.elements
   pub linked : f.life ≡ Linked
   pub only : (a : ℕ) → IsLinkedAt new.elements f.map f.key a → a ≡ n
-  pub fits : (state : MapState) × (slice_get s.maps f.map ≡ Some state) × (length f.key ≡ state.shape.key_len) × (length f.value ≡ state.shape.value_len)
+  pub fits : HasLengths s.maps f
 
 abbrev pub KeepsShapes : List MapState → List MapState → Type 0
 KeepsShapes old new = (k : ℕ) (state : MapState) → slice_get old k ≡ Some state → (next : MapState) × (slice_get new k ≡ Some next) × (next.shape ≡ state.shape)
@@ -172,9 +173,6 @@ touches-acts i opened env es m out new (inl h) = touches-along opened es new h.1
 touches-acts i opened env es m out new (inr h) = touches-access i opened es m out new h
 
 -- a birth
-abbrev pub IsSingle : List Element → Type 0
-IsSingle es = (map : ℕ) (key : List ℕ) (a b : ℕ) → IsLinkedAt es map key a → IsLinkedAt es map key b → a ≡ b
-
 abbrev Fits : map_state.Store → ℕ → List ℕ → List ℕ → Type 0
 Fits s map key value = (state : MapState) → slice_get s.maps map ≡ Some state → (length key ≡ state.shape.key_len) × (length value ≡ state.shape.value_len)
 
@@ -199,7 +197,7 @@ born-last : (s new : map_state.Store) (n : ℕ) (nb f : Element) → nb ≡ f �
 born-last s new n nb f e h = subst (Born s new n) e h
 
 moves-birth : (opened : List Section) (s new : map_state.Store) (mid : List Element) (maps : List MapState) (nb : Element) → Touches false opened s.elements mid → IsAbsent mid nb.map nb.key →
-    ((state : MapState) × (slice_get s.maps nb.map ≡ Some state) × (length nb.key ≡ state.shape.key_len) × (length nb.value ≡ state.shape.value_len)) → nb.life ≡ Linked →
+    HasLengths s.maps nb → nb.life ≡ Linked →
     KeepsShapes s.maps maps → length maps ≡ length s.maps → new ≡ record { elements = mid ++ nb ∷ []; maps = maps } → StoreMoves false opened s new
 moves-birth opened s new mid maps nb t absent fits linked shapes count e =
     let all : map_state.Store = record { elements = mid ++ nb ∷ []; maps = maps } in

@@ -1,5 +1,4 @@
 pub mod Growth
-pub mod Begun
 pub mod Scheduled
 pub mod Locations
 pub mod Steps

@@ -15,7 +15,8 @@ use Rattle.bpf_model.specs.MachineStep.{InsnStep}
 use Rattle.bpf_model.specs.Event.{DoesEvent}
 use Rattle.bpf_model.specs.Consistent.{IsConsistent}
 use Rattle.model_laws.proofs.Sections.{has_open}
-use Rattle.model_laws.proofs.Stores.{LifeMoves, Stays, Unlinks, Ends, Alters, Touches, StoreMoves, IsSingle, is_reap, does-moves, moves-insn}
+use Rattle.bpf_model.specs.Consistent.{IsSingle}
+use Rattle.model_laws.proofs.Stores.{LifeMoves, Stays, Unlinks, Ends, Alters, Touches, StoreMoves, is_reap, does-moves, moves-insn}
 use Rattle.typed_runs.specs.Kinds.{Kind, Blank, Mixed, Ended, Num, CtxAt, FrameAt, MapAt, ValueAt, MaybeNull, CellKind, BlankCell, MixedCell, EndedCell, ByteCell, PartCell, AbsState}
 use Rattle.typed_runs.specs.Describes.{Scene, scene_of, IsGuarded, IsHeld, Naming, IsNullOrHeld, IsOf, Stored, IsOfCell, Describes}
 

@@ -9,9 +9,9 @@ use Rattle.bpf_model.specs.Spelling.{slot_count}
 use Rattle.bpf_model.specs.Places.{StartsAt}
 use Rattle.bpf_model.specs.Graph.{falls, JumpsTo}
 use Rattle.bpf_model.specs.Step.{State, Environment, Outcome, Moves, Exits, after, entry, insn_at}
-use Rattle.bpf_model.specs.Consistent.{HasLengths}
+use Rattle.bpf_model.specs.Consistent.{HasLengths, IsSingle}
 use Rattle.bpf_model.specs.Section.{Section, Has}
-use Rattle.bpf_model.specs.Element.{Element, IsLinkedAt}
+use Rattle.bpf_model.specs.Element.{Element}
 use Rattle.bpf_model.specs.MapState.{MapState, Store}
 use Rattle.bpf_model.specs.Machine.{Run, section_of}
 use Rattle.bpf_model.specs.MachineStep.{AccessesElement, InsnStep}
@@ -36,8 +36,7 @@ pub record Surrounds (shapes : List MapShape) (ctx_len : ℕ) (s : Store) (opene
     (run : Run) : Type 0 where
   pub going : run.exit ≡ None
   pub section : 0 < run.depth → Has opened (section_of run)
-  pub single : (map : ℕ) (key : List ℕ) (a b : ℕ) → IsLinkedAt s.elements map key a →
-      IsLinkedAt s.elements map key b → a ≡ b
+  pub single : IsSingle s.elements
   pub sizes : (n : ℕ) (e : Element) → slice_get s.elements n ≡ Some e → HasLengths s.maps e
   pub bytes : AllBytes s.elements
   pub bound : AreMapsBound shapes run.program.maps s.maps
