@@ -1,5 +1,5 @@
 -- Options, numbers, orderings, lives, run slots and births, by cases.
-use Rattle.std.proofs.Common.{◌≡◌, ℕ, ◌<◌, pos, true, List, length, Option, Some, None, ◌⊎◌, inl, inr, refl, arith, [], ◌∷◌, sym, ap, ◌∙◌, Bool, false}
+use Rattle.std.proofs.Common.{◌≡◌, ℕ, ◌<◌, pos, true, List, length, Option, Some, None, ◌⊎◌, inl, inr, refl, arith, [], ◌∷◌, sym, ap, subst, ◌∙◌, Bool, false}
 use Rattle.std.specs.Ordering.{is_eq}
 use Rattle.std.specs.declared.cmp.Ordering.{Ordering}
 use Rattle.std.specs.declared.cmp.Ordering.TheVariants.{Less, Equal, Greater}
@@ -7,8 +7,10 @@ use Rattle.std.proofs.lemmas.Bool.{false≢true}
 use Rattle.std.proofs.lemmas.Option.{none-some, slice_get_within, same_Some}
 use Rattle.std.specs.Prelude.{if◌then◌else◌, ◌==◌, drop}
 use Rattle.bpf_model.specs.Section.{Section}
-use Rattle.bpf_model.specs.Element.{Unlinked}
-use Rattle.bpf_model.specs.Machine.{Run, run_in}
+use Rattle.bpf_model.specs.Element.{Element, Unlinked}
+use Rattle.bpf_model.specs.Machine.{Loaded, Run, run_in}
+use Rattle.bpf_model.specs.Refines.{RunRefines, SlotRefines}
+use Rattle.bpf_model.specs.View.{RunView}
 use Rattle.bpf_model.specs.MapState.{Store}
 use Rattle.bpf_model.specs.Schedule.{TakesOldest, Queues, or_first, first_ready, without_first}
 
@@ -55,3 +57,13 @@ none-without (q ∷ qs) h =
     let b = none-at q.ready (first_ready qs) h in
     ap (λ (ready : List ℕ). if length ready == 0 then q ∷ without_first qs else record { next = q.next; waiting = q.waiting; ready = drop 1 ready } ∷ qs) b.0
     ∙ ap (λ l. q ∷ l) (none-without qs b.1)
+
+-- a run of the world stands for one of the machine
+pub run-behind : (slots : List ℕ) (es : List Element) (programs : List Loaded) (v : RunView) (shown : Option (Option RunView)) (o : Option (Option Run)) → shown ≡ Some (Some v) → SlotRefines slots es programs shown o →
+    (run : Run) × (o ≡ Some (Some run)) × RunRefines slots es programs v run
+run-behind slots es programs v shown o e h = by o (subst (λ x. SlotRefines slots es programs x o) e h)
+  where
+    by : (o : Option (Option Run)) → SlotRefines slots es programs (Some (Some v)) o → (run : Run) × (o ≡ Some (Some run)) × RunRefines slots es programs v run
+    by None h = absurd h
+    by (Some None) h = absurd h
+    by (Some (Some run)) h = (run, refl, h)

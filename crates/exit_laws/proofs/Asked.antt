@@ -1,6 +1,7 @@
 -- An exit value that was asked for, where there is one, is one of the program's definition.
-use Rattle.std.proofs.Common.{ℕ, List, Option, Some, None}
+use Rattle.std.proofs.Common.{ℕ, List, Option}
 use Rattle.std.specs.Prelude.{IfSome}
+use Rattle.std.proofs.lemmas.Option.{IfSome_then}
 use Rattle.bpf_model.specs.declared.insn.Insn.{Insn}
 use Rattle.bpf_model.specs.Exit.{HasNoMaps}
 use Rattle.bpf_model.specs.View.{WorldView, HasExited}
@@ -8,13 +9,9 @@ use Rattle.world_invariant.specs.Invariant.{IsWorld}
 use Rattle.exit_laws.specs.Exits.{MayExitAs, ExitsAs}
 use Rattle.exit_laws.proofs.Lived.{may_exit_as, exits_as}
 
-pub map-some : (o : Option ℕ) (P Q : ℕ → Type 0) → ((n : ℕ) → P n → Q n) → IfSome o P → IfSome o Q
-map-some None P Q f h = h
-map-some (Some n) P Q f h = f n h
-
 module _ (w : WorldView) (r : ℕ) (code : List Insn) (context : List ℕ) (exit : Option ℕ) (is : IsWorld w) (h : IfSome exit (λ n. HasExited w r code context n)) where
   pub asked_may : IfSome exit (λ n. MayExitAs code context n)
-  asked_may = map-some exit (λ n. HasExited w r code context n) (λ n. MayExitAs code context n) (λ n x. may_exit_as w r code context n is x) h
+  asked_may = IfSome_then exit h (λ n x. may_exit_as w r code context n is x)
 
   pub asked_alone : IfSome exit (λ n. HasNoMaps code → ExitsAs code context n)
-  asked_alone = map-some exit (λ n. MayExitAs code context n) (λ n. HasNoMaps code → ExitsAs code context n) (λ n x none. exits_as code context n none x) asked_may
+  asked_alone = IfSome_then exit asked_may (λ n x none. exits_as code context n none x)

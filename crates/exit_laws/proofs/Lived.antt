@@ -1,5 +1,5 @@
 -- Each run of a reached machine has made the steps of its program from the start: what it may still exit with, or has exited with, is an exit of a fresh run.
-use Rattle.std.proofs.Common.{◌≡◌, ℕ, suc, List, Option, Some, None, refl, sym, ap, subst, ◌∙◌}
+use Rattle.std.proofs.Common.{◌≡◌, ℕ, suc, List, Some, None, refl, sym, ap, subst, ◌∙◌}
 use Rattle.std.specs.Prelude.{slice_get}
 use Rattle.std.proofs.lemmas.Option.{none-some, same_Some}
 use Rattle.bpf_model.specs.declared.insn.Insn.{Insn}
@@ -14,9 +14,10 @@ use Rattle.bpf_model.specs.MapState.{Store}
 use Rattle.bpf_model.specs.Machine.{Loaded, Run, Machine, fresh_run, open_sections, run_at, run_in}
 use Rattle.bpf_model.specs.MachineStep.{RunStep}
 use Rattle.bpf_model.specs.Event.{DoesEvent, IsReal}
-use Rattle.bpf_model.specs.Refines.{IsReachedSchedule, RunRefines, SlotRefines}
+use Rattle.bpf_model.specs.Refines.{IsReachedSchedule, RunRefines}
+use Rattle.bpf_model.proofs.Cases.{run-behind}
 use Rattle.bpf_model.specs.Schedule.{Schedule, start_schedule}
-use Rattle.bpf_model.specs.View.{RunView, WorldView, HasExited, shapes_of}
+use Rattle.bpf_model.specs.View.{WorldView, HasExited, shapes_of}
 use Rattle.model_laws.proofs.Exits.{exits_alone}
 use Rattle.model_laws.proofs.Keeping.{no-run}
 use Rattle.model_laws.proofs.Moves.{Changes, Goes, Locks, Unlocks, Ends, changed-insn}
@@ -94,32 +95,20 @@ reached_has_lived : (shapes : List MapShape) (programs : List Loaded) (s : Sched
 reached_has_lived shapes programs s r =
     subst (λ (x : Schedule). AllLived x.machine) r.last (kept-last AllLived (λ m new event answer real h all. all-lived m new event answer real all h) (start_schedule shapes programs) r.events r.answers r.states (lived-start shapes programs) r.real r.history)
 
--- the run of the machine that a run of the world stands for
-record StandsFor (slots : List ℕ) (s : Schedule) (r : ℕ) (v : RunView) : Type 0 where
-  pub run : Run
-  pub there : run_at s.machine.runs r ≡ Some run
-  pub refines : RunRefines slots s.machine.store.elements s.machine.programs v run
-
-stands-in : (slots : List ℕ) (s : Schedule) (r : ℕ) (v : RunView) (o : Option (Option Run)) → slice_get s.machine.runs r ≡ o → SlotRefines slots s.machine.store.elements s.machine.programs (Some (Some v)) o → StandsFor slots s r v
-stands-in slots s r v None e h = absurd h
-stands-in slots s r v (Some None) e h = absurd h
-stands-in slots s r v (Some (Some run)) e h = record { run = run; there = ap run_in e; refines = h }
-
 module _ (w : WorldView) (r : ℕ) (code : List Insn) (context : List ℕ) (n : ℕ) (is : IsWorld w) (h : HasExited w r code context n) where
-  stands : StandsFor is.tracks.refines.slots is.schedule r h.run
-  stands = stands-in is.tracks.refines.slots is.schedule r h.run (slice_get is.schedule.machine.runs r) refl
-      (subst (λ (o : Option (Option RunView)). SlotRefines is.tracks.refines.slots is.schedule.machine.store.elements is.schedule.machine.programs o (slice_get is.schedule.machine.runs r)) h.there (is.tracks.refines.runs r))
+  stands : (run : Run) × (slice_get is.schedule.machine.runs r ≡ Some (Some run)) × RunRefines is.tracks.refines.slots is.schedule.machine.store.elements is.schedule.machine.programs h.run run
+  stands = run-behind is.tracks.refines.slots is.schedule.machine.store.elements is.schedule.machine.programs h.run (slice_get w.runs r) (slice_get is.schedule.machine.runs r) h.there (is.tracks.refines.runs r)
 
-  same-program : stands.run.program ≡ h.program
-  same-program = same_Some stands.run.program h.program (sym stands.refines.program ∙ (ap (λ (ps : List Loaded). slice_get ps h.run.program) (sym is.tracks.refines.programs) ∙ h.loaded))
+  same-program : stands.0.program ≡ h.program
+  same-program = same_Some stands.0.program h.program (sym stands.2.program ∙ (ap (λ (ps : List Loaded). slice_get ps h.run.program) (sym is.tracks.refines.programs) ∙ h.loaded))
 
   pub may_exit_as : MayExitAs code context n
   may_exit_as =
-      let x : MayExit stands.run n = (reached_has_lived (shapes_of w) w.programs is.schedule is.tracks.reached r stands.run stands.there).ended n (sym stands.refines.exit ∙ h.ended) in record {
-        program = stands.run.program;
+      let x : MayExit stands.0 n = (reached_has_lived (shapes_of w) w.programs is.schedule is.tracks.reached r stands.0 (ap run_in stands.1)).ended n (sym stands.2.exit ∙ h.ended) in record {
+        program = stands.0.program;
         code_is = ap (λ (l : Loaded). l.code) same-program ∙ h.code_is;
         steps = x.0;
-        exits = subst (λ (c : List ℕ). MayExitWith stands.run.program c x.0 n) (sym stands.refines.context ∙ h.context_is) x.1;
+        exits = subst (λ (c : List ℕ). MayExitWith stands.0.program c x.0 n) (sym stands.2.context ∙ h.context_is) x.1;
       }
 
 -- without map references it is the one exit

@@ -13,8 +13,7 @@ use Rattle.bpf_model.specs.declared.limits.TheConstants.{MAX_DEPTH}
 use Rattle.bpf_model.specs.Access.{byte_count, unsigned_width}
 use Rattle.bpf_model.specs.Arithmetic.{loaded_signed}
 use Rattle.bpf_model.specs.Call.{kernel_function_of}
-use Rattle.bpf_model.specs.Machine.{Loaded, Run}
-use Rattle.bpf_model.specs.Refines.{SlotRefines}
+use Rattle.bpf_model.specs.Machine.{Loaded, Run, run_in}
 use Rattle.bpf_model.specs.Schedule.{Schedule, is_open, still_open}
 use Rattle.bpf_model.specs.Step.{insn_at}
 use Rattle.bpf_model.specs.View.{RunView, WorldView}
@@ -28,7 +27,7 @@ use Rattle.world_laws.specs.Reaching.{Reaches, IsWritable, HasArguments}
 use Rattle.world_laws.specs.Typed.{IsSound, IsRunning}
 use Rattle.model_laws.proofs.Queueing.{in-slot}
 use Rattle.world_laws.proofs.Ready.{refines}
-use Rattle.world_laws.proofs.Stepping.{run-behind}
+use Rattle.bpf_model.proofs.Cases.{run-behind}
 use Rattle.machine.proofs.Laws.{same-program}
 use Rattle.world_laws.proofs.Reaching.{load_reaches, load_signed_reaches, store_reaches, helper_arguments}
 use Rattle.machine.specs.declared.access.Access.{Access}
@@ -41,8 +40,8 @@ use Rattle.helpers.specs.Serving.{CanServe, IsFlagged}
 -- the machine's run in the slot of a run that has not ended
 pub running : (w : WorldView) (s : Schedule) → Matches w s → (r : ℕ) (v : RunView) → slice_get w.runs r ≡ Some (Some v) → v.exit ≡ None → (run : Run) × IsRunning w s r run v
 running w s m r v shown going =
-    let y = run-behind m.refines.slots s.machine.store.elements s.machine.programs v (slice_get s.machine.runs r) (subst (λ o. SlotRefines m.refines.slots s.machine.store.elements s.machine.programs o (slice_get s.machine.runs r)) shown (m.refines.runs r)) going in
-    (y.0, record { there = y.1; shown = shown; going = y.2 })
+    let y = run-behind m.refines.slots s.machine.store.elements s.machine.programs v (slice_get w.runs r) (slice_get s.machine.runs r) shown (m.refines.runs r) in
+    (y.0, record { there = ap run_in y.1; shown = shown; going = sym y.2.exit ∙ going })
 
 goes-asks : (new : RunView) → Goes new ≡ Asks → ⊥
 goes-asks new e = absurd (cc)

@@ -29,7 +29,7 @@ use Rattle.typed_runs.specs.Verified.{IsEnvironment, Transfers}
 use Rattle.typed_runs.proofs.Sets.{set-described}
 use Rattle.typed_runs.proofs.Arguments.{reg-is, cell-is}
 use Rattle.typed_runs.proofs.Local.{alone_transfers}
-use Rattle.typed_runs.proofs.Elements.{number_read, offset-inside, set-is, load_transfers, load_signed_transfers, wide-fits}
+use Rattle.typed_runs.proofs.Elements.{number_read, offset_some, set-is, load_transfers, load_signed_transfers, wide-fits}
 use Rattle.typed_runs.proofs.Spilling.{fill_transfers, no-element-load}
 use Rattle.register_kinds.specs.declared.kind.RegKind.{RegKind}
 use Rattle.register_kinds.specs.declared.kind.RegKind.TheVariants as kinds
@@ -56,7 +56,7 @@ ctx-alone es width offset v o k e h = none-some k (sym (ap (element_load es widt
 context-finds : (ctx_len maps width : ℕ) (offset : ℤ) (s : Scalar) (env : Environment) (m : State) (v : Value) → IsEnvironment ctx_len maps env → IsContextAt s v → IsAlwaysInside s width offset ctx_len → Finds env m width offset v
 context-finds ctx_len maps width offset s env m v i x inside =
     let p = inside x.offset x.there in
-    let fits : p.0 + width ≤ ctx_len = offset-inside ctx_len width (x.offset +ℤ offset) p.0 p.1 in
+    let fits : p.0 + width ≤ ctx_len = (offset_some ctx_len width (x.offset +ℤ offset) p.0 p.1).1 in
     let byte : (k : ℕ) → p.0 ≤ k → k < p.0 + width → (b : ℕ) × (slice_get env.context k ≡ Some b) × (b < 256) = λ k l h.
     let at : slice_get env.context k ≡ Some (slice_index_or env.context k 0) = slice_get-get_or env.context k 0 (omega (arith, i.long, fits, h)) in
     (slice_index_or env.context k 0, at, i.bytes k (slice_index_or env.context k 0) at)

@@ -1,5 +1,5 @@
 -- A world reclaims no more elements than its maps' slots can bear.
-use Rattle.std.proofs.Common.{◌≡◌, ℕ, suc, ◌+◌, ◌<◌, ◌≤◌, List, [], ◌∷◌, length, Some, Bool, true, false, inl, inr, refl, sym, ap, ◌∙◌, arith, subst}
+use Rattle.std.proofs.Common.{◌≡◌, ℕ, suc, ◌+◌, ◌<◌, ◌≤◌, List, [], ◌∷◌, length, Some, inl, inr, refl, sym, ap, ◌∙◌, arith, subst}
 use Rattle.std.specs.Prelude.{slice_get, ◌==◌, count_by}
 use Rattle.std.specs.List.{sum_by}
 use Rattle.std.proofs.lemmas.Bool.{cases_eq}
@@ -14,7 +14,7 @@ use Rattle.bpf_model.specs.View.{shape_of_view as shape, WorldView, shapes_of}
 use Rattle.bpf_model.specs.Refines.{TracksSchedule}
 use Rattle.model_laws.specs.Accounted.{born_count}
 use Rattle.model_laws.proofs.Counting.{map-back}
-use Rattle.model_laws.proofs.Tallies.{one_of, of_map, of-same, of-other, count-cons}
+use Rattle.model_laws.proofs.Tallies.{of_map, of-same, of-other, count-cons, one-most}
 use Rattle.model_laws.proofs.Reached.{tracked_is_scheduled}
 use Rattle.model_laws.proofs.Accounting.{births_bounded}
 use Rattle.bpf_model.proofs.Lists.{get-below}
@@ -67,15 +67,11 @@ born-most k (shape ∷ shapes) es h =
     let rest = born-most (suc k) shapes es (λ i j x at is. h (suc i) j x at (omega arith)) in
     omega arith
 
-some-of : (b : Bool) → one_of b ≤ 1
-some-of true = omega arith
-some-of false = omega arith
-
 reclaimed-most : (es : List Element) → count_by (λ e. is_reclaimed e.life) es ≤ length es
 reclaimed-most [] = omega arith
 reclaimed-most (e ∷ es) =
     let a = count-cons (λ (x : Element). is_reclaimed x.life) e es in
-    let b = some-of (is_reclaimed e.life) in
+    let b = one-most (is_reclaimed e.life) in
     let rest = reclaimed-most es in
     omega arith
 

@@ -26,8 +26,8 @@ steps_make_scheduled old new events answers h s t =
     let r = steps_make_history TracksSchedule old new events answers h s t in
     (r.0, r.1, drains_from s events answers r.0 (tracked_is_scheduled old s t) r.1, r.2)
 
--- two runs that meet
-history-join : (s : Schedule) (es fs : List Event) (xs ys : List Answer) (states more : List Schedule) → IsScheduledHistory s es xs states → IsScheduledHistory (last_scheduled s states) fs ys more →
+-- two histories that meet
+pub history-join : (s : Schedule) (es fs : List Event) (xs ys : List Answer) (states more : List Schedule) → IsScheduledHistory s es xs states → IsScheduledHistory (last_scheduled s states) fs ys more →
     IsScheduledHistory s (es ++ fs) (xs ++ ys) (states ++ more)
 history-join s [] fs [] ys [] more h g = g
 history-join s (e ∷ es) fs (x ∷ xs) ys (t ∷ states) more h g = (h.0, history-join t es fs xs ys states more h.1 g)

@@ -1,7 +1,7 @@
 -- What is queued is unlinked, and what it waits for stays.
 use Rattle.std.proofs.Common.{◌≡◌, ◌≢◌, ℕ, ◌+◌, ◌<◌, ◌≤◌, List, map, Option, Some, None, inl, inr, refl, sym, ap, ◌∙◌, arith, subst, Bool, true, false}
 use Rattle.std.specs.Prelude.{slice_get, ◌==◌, ◌&&◌, if◌then◌else◌}
-use Rattle.std.proofs.lemmas.Bool.{eqb-true, eq-eqb, false_from_ne_true, and_parts, false≢true, lt-ltb}
+use Rattle.std.proofs.lemmas.Bool.{eqb-true, eq-eqb, false_from_ne_true, and_parts, false≢true, lt-ltb, and_right}
 use Rattle.std.proofs.lemmas.Option.{none-some, same_Some}
 use Rattle.bpf_model.proofs.Lists.{get-map}
 use Rattle.bpf_model.specs.Section.{Section, Has, AllEnded}
@@ -17,7 +17,7 @@ use Rattle.model_laws.proofs.Past.{ended-later}
 use Rattle.model_laws.proofs.Keeping.{element-before}
 use Rattle.model_laws.proofs.Counting.{newly}
 use Rattle.model_laws.proofs.Lives.{linked≢unlinked, reclaimed≢unlinked}
-use Rattle.model_laws.proofs.Tallies.{one_of}
+use Rattle.model_laws.proofs.Tallies.{one_of, one-most}
 use Rattle.bpf_model.specs.Consistent.{AllBegun}
 
 -- what is queued is an unlinked element of the map
@@ -47,10 +47,6 @@ queued-option es k n (Some e) at h =
 pub queued-of : (s : Schedule) (k n : ℕ) (q : Queues) → IsScheduled s → slice_get s.queues k ≡ Some q → 0 < times n q.next + times n q.waiting + times n q.ready → Queued s.machine.store.elements k n
 queued-of s k n q w at h = queued-option s.machine.store.elements k n (slice_get s.machine.store.elements n) refl (subst (λ x. 0 < x) (w.queued k n q at) h)
 
-one-most : (b : Bool) → (if b then 1 else 0) ≤ 1
-one-most true = omega arith
-one-most false = omega arith
-
 pub queued-most : (k : ℕ) (o : Option Element) → queued_in k o ≤ 1
 queued-most k None = omega arith
 queued-most k (Some e) = one-most (is_unlinked e.life && (e.map == k))
@@ -58,12 +54,8 @@ queued-most k (Some e) = one-most (is_unlinked e.life && (e.map == k))
 pub queued-reclaimed : (k : ℕ) (o : Option Element) (e : Element) → o ≡ Some e → e.life ≡ Reclaimed → queued_in k o ≡ 0
 queued-reclaimed k o e h life = ap (queued_in k) h ∙ ap (λ l. one_of (is_unlinked l && (e.map == k))) life
 
-and-false : (a b : Bool) → b ≡ false → one_of (a && b) ≡ 0
-and-false true b h = ap one_of h
-and-false false b h = refl
-
 pub queued-elsewhere : (k : ℕ) (o : Option Element) (e : Element) → o ≡ Some e → e.map ≢ k → queued_in k o ≡ 0
-queued-elsewhere k o e h ne = ap (queued_in k) h ∙ and-false (is_unlinked e.life) (e.map == k) (false_from_ne_true (e.map == k) (λ t. ne (eqb-true e.map k t)))
+queued-elsewhere k o e h ne = ap (queued_in k) h ∙ ap one_of (and_right (is_unlinked e.life) (e.map == k) (false_from_ne_true (e.map == k) (λ t. ne (eqb-true e.map k t))))
 
 pub queued-here : (o : Option Element) (e : Element) (since : List Section) → o ≡ Some e → e.life ≡ Unlinked since → queued_in e.map o ≡ 1
 queued-here o e since h life = ap (queued_in e.map) h ∙ (ap (λ l. one_of (is_unlinked l && (e.map == e.map))) life ∙ ap one_of (eq-eqb e.map e.map refl))

@@ -3,7 +3,7 @@ use Rattle.std.proofs.Common.{◌≡◌, ℕ, zero, suc, ◌+◌, ◌*◌, ◌�
 use Rattle.std.specs.Prelude.{slice_get, slice_set, ◌==◌, ◌&&◌, not, count_by}
 use Rattle.std.specs.List.{sum_by}
 use Rattle.std.proofs.Math.Nat.{add-mul}
-use Rattle.std.proofs.lemmas.Bool.{eq-eqb, eqb-true, false_from_ne_true, false≢true}
+use Rattle.std.proofs.lemmas.Bool.{eq-eqb, eqb-true, false_from_ne_true, false≢true, and_right}
 use Rattle.std.proofs.lemmas.Option.{none-some, same_Some}
 use Rattle.std.proofs.lemmas.List.Sums.{sum_by-cons, sum_by_push}
 use Rattle.bpf_model.specs.Section.{Section}
@@ -125,11 +125,12 @@ kept-was opened old new k n f t at kept =
     (e.0, e.1, sym (kept-altered opened k e.0 g.0 g.2) ∙ (ap (is_kept k) same ∙ kept), ap (λ (x : Element). x.uses) (sym same) ∙ g.2.uses)
 
 not-kept : (k : ℕ) (e : Element) → (e.map ≡ k → ⊥) → is_kept k e ≡ false
-not-kept k e ne = and-false (not (is_reclaimed e.life)) (e.map == k) (false_from_ne_true (e.map == k) (λ t. ne (eqb-true e.map k t)))
-  where
-    and-false : (a b : Bool) → b ≡ false → (a && b) ≡ false
-    and-false true b h = h
-    and-false false b h = refl
+not-kept k e ne = and_right (not (is_reclaimed e.life)) (e.map == k) (false_from_ne_true (e.map == k) (λ t. ne (eqb-true e.map k t)))
+
+-- a bit is one at most
+pub one-most : (b : Bool) → one_of b ≤ 1
+one-most true = omega arith
+one-most false = omega arith
 
 pub kept-is : (k : ℕ) (e : Element) (l : Life) → e.life ≡ l → is_reclaimed l ≡ false → e.map ≡ k → is_kept k e ≡ true
 kept-is k e l life h in_map = ap (λ x. not (is_reclaimed x) && (e.map == k)) life ∙ (ap (λ b. not b && (e.map == k)) h ∙ eq-eqb e.map k in_map)

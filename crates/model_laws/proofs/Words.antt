@@ -89,9 +89,9 @@ near_words_fit p h =
 same-count : (p q : Location) → HasWord p → HasWord q → location_word p ≡ location_word q → base_of p + shift_of p ≡ base_of q + shift_of q
 same-count p q v w e = let s : v.word ≡ w.word = same-pos v.word w.word (sym v.is ∙ (e ∙ w.is)) in sym v.counted ∙ (ap (λ x. x + 2 ^ 29) s ∙ w.counted)
 
-same-slot : (m n a b s t : ℕ) → a < 8192 → b < 8192 → s ≤ 2 ^ 30 → t ≤ 2 ^ 30 → slot_base m a + s ≡ slot_base n b + t → (m ≡ n) × (a ≡ b) × (s ≡ t)
+same-slot : (m n a b s t : ℕ) → a < most_slots → b < most_slots → s ≤ 2 ^ 30 → t ≤ 2 ^ 30 → slot_base m a + s ≡ slot_base n b + t → (m ≡ n) × (a ≡ b) × (s ≡ t)
 same-slot m n a b s t ha hb hs ht e =
-    let one : 8192 * m + a ≡ 8192 * n + b = omega arith in
+    let one : most_slots * m + a ≡ most_slots * n + b = omega arith in
     let maps : m ≡ n = omega arith in
     (maps, omega arith, omega arith)
 

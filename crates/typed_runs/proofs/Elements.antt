@@ -1,8 +1,8 @@
 -- Loads from elements and stores to them: an element that is held isn't reclaimed, and its value is as long as its map's shape says.
-use Rattle.std.proofs.Common.{◌≡◌, ℕ, zero, suc, ◌+◌, ◌*◌, ◌<◌, ◌≤◌, ◌^◌, ◌%◌, ◌/◌, List, length, Option, Some, None, inl, inr, refl, sym, ap, subst, ◌∙◌, ℤ, pos, negsuc, arith, Bool, true, false}
+use Rattle.std.proofs.Common.{◌≡◌, ℕ, zero, suc, ◌+◌, ◌*◌, ◌<◌, ◌≤◌, ◌^◌, ◌%◌, ◌/◌, List, length, Option, Some, None, inl, inr, refl, sym, ap, subst, ◌∙◌, ℤ, pos, negsuc, arith, false}
 use Rattle.std.specs.Prelude.{slice_get, slice_set, if◌then◌else◌, ◌==◌, ◌&&◌, ◌+ℤ◌, nat_le}
-use Rattle.std.proofs.lemmas.Bool.{ne_eqb, leb-true}
-use Rattle.std.proofs.lemmas.Option.{none-some, same_Some}
+use Rattle.std.proofs.lemmas.Bool.{ne_eqb, leb-true, and_parts}
+use Rattle.std.proofs.lemmas.Option.{none-some, same_Some, cond_some}
 use Rattle.std.proofs.lemmas.Nat.{mod_below}
 use Rattle.std.proofs.Math.Nat.{pow-suc}
 use Rattle.bpf_model.specs.declared.limits.MapShape.{MapShape}
@@ -58,18 +58,12 @@ value-long shapes ctx_len s opened run map n shape w at h =
     z.3 ∙ (ap (λ x. x.shape.value_len) state ∙ ap (λ x. x.value_len) b.shape_is)
 
 -- an access lies inside
-inside-or : (a b : Bool) (o at : ℕ) → (if a && b then Some o else None) ≡ Some at → (a ≡ true) × (o ≡ at)
-inside-or true true o at h = (refl, same_Some o at h)
-inside-or true false o at h = absurd (none-some at h)
-inside-or false b o at h = absurd (none-some at h)
-
-pub offset-inside : (len width : ℕ) (o : ℤ) (at : ℕ) → region_offset len width o ≡ Some at → at + width ≤ len
-offset-inside len width (pos o) at h =
-    let x = inside-or (nat_le (o + width) len) (o % width == 0) o at h in
-    let l : o + width ≤ len = leb-true _ _ x.0 in
-    let e : o ≡ at = x.1 in
-    omega arith
-offset-inside len width (negsuc o) at h = absurd (none-some at h)
+pub offset_some : (len width : ℕ) (z : ℤ) (at : ℕ) → region_offset len width z ≡ Some at → (z ≡ pos at) × (at + width ≤ len)
+offset_some len width (pos o) at e =
+    let c = cond_some (nat_le (o + width) len && (o % width == 0)) o at e in
+    let l : o + width ≤ len = leb-true (o + width) len (and_parts (nat_le (o + width) len) (o % width == 0) c.0).0 in
+    (ap pos c.1, omega arith)
+offset_some len width (negsuc o) at e = absurd (cc)
 
 pub number_read : (bytes : ℕ → Option ℕ) (at width : ℕ) → ((k : ℕ) → at ≤ k → k < at + width → (b : ℕ) × (bytes k ≡ Some b) × (b < 256))
     → (n : ℕ) × (number_at bytes at width ≡ Some n) × (n < 256 ^ width)

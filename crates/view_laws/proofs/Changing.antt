@@ -1,7 +1,7 @@
 -- What a new life of an element, and a birth, leave as it was.
 use Rattle.std.proofs.Common.{◌≡◌, ◌≢◌, ◌∙◌, ℕ, ◌+◌, ◌<◌, ◌≤◌, List, [], ◌∷◌, ◌++◌, length, Some, ◌⊎◌, inl, inr, refl, sym, ap, arith, cond, Bool, true, false, subst}
 use Rattle.std.specs.Prelude.{slice_get, slice_set, slice_index, count_by, ◌==◌, ◌&&◌}
-use Rattle.std.proofs.lemmas.Bool.{cases_eq, cases_lt, eqb-true, false_from_ne_true, false≢true}
+use Rattle.std.proofs.lemmas.Bool.{cases_eq, cases_lt, eqb-true, false_from_ne_true, false≢true, and_right}
 use Rattle.std.proofs.lemmas.Option.{same_Some, slice_get_within}
 use Rattle.std.proofs.lemmas.List.{length-append}
 use Rattle.std.proofs.lemmas.List.Sums.{sum_by_push}
@@ -74,12 +74,8 @@ changes-trans k slots names more es fs gs a b = record {
 abbrev counts_as : ℕ → Element → Bool
 counts_as k e = is_linked e.life && (e.map == k)
 
-and-no : (a b : Bool) → b ≡ false → one_of (a && b) ≡ 0
-and-no true b h = ap one_of h
-and-no false b h = refl
-
 no-count : (e : Element) (j : ℕ) → e.map ≢ j → one_of (counts_as j e) ≡ 0
-no-count e j ne = and-no (is_linked e.life) (e.map == j) (false_from_ne_true (e.map == j) (λ t. ne (eqb-true e.map j t)))
+no-count e j ne = ap one_of (and_right (is_linked e.life) (e.map == j) (false_from_ne_true (e.map == j) (λ t. ne (eqb-true e.map j t))))
 
 module _ (k : ℕ) (es : List Element) (n : ℕ) (e : Element) (l : Life) (born : slice_get es n ≡ Some e) (in_map : e.map ≡ k) where
   abbrev fs : List Element

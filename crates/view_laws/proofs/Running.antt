@@ -2,7 +2,7 @@
 use Rattle.std.proofs.Common.{◌≡◌, ◌∙◌, ℕ, suc, ◌+◌, ◌-◌, ◌<◌, List, [], ◌∷◌, length, Option, Some, None, inl, inr, refl, sym, ap, arith, Bool, true, false, subst, ℤ}
 use Rattle.std.specs.Prelude.{slice_get, slice_set, slice_index, nat_lt, nat_le, ◌==◌, if◌then◌else◌}
 use Rattle.std.proofs.lemmas.Bool.{cases_eq}
-use Rattle.std.proofs.lemmas.Option.{none-some, same_Some}
+use Rattle.std.proofs.lemmas.Option.{same_Some}
 use Rattle.bpf_model.specs.declared.limits.TheConstants.{MAX_DEPTH}
 use Rattle.bpf_model.specs.declared.insn.Insn.TheVariants.{Call}
 use Rattle.bpf_model.specs.declared.insn.CallKind.TheVariants as kinds
@@ -25,7 +25,7 @@ use Rattle.bpf_model.specs.View.{RunView, WorldView}
 use Rattle.bpf_model.specs.Refines.{RunRefines, SlotRefines, RefinesSchedule}
 use Rattle.view_laws.specs.Reactions.{is_open_view, with_run, locked_view, unlocked_view}
 use Rattle.view_laws.specs.Matching.{Matches, Simulates, half}
-use Rattle.bpf_model.proofs.Cases.{oldest-none}
+use Rattle.bpf_model.proofs.Cases.{oldest-none, run-behind}
 use Rattle.view_laws.proofs.Worlds.{retired-same, steps}
 use Rattle.bpf_model.proofs.Lists.{get-set_other, get-set_there, length-set, map-set}
 
@@ -74,19 +74,12 @@ run-world w s x r old before v run started at there h =
       given = x.given;
     }
 
-run-there : (slots : List ℕ) (es : List Element) (programs : List Loaded) (v : Option (Option RunView)) (run : Option (Option Run)) (old : RunView) → v ≡ Some (Some old) → SlotRefines slots es programs v run → (before : Run) × (run ≡ Some (Some before)) × RunRefines slots es programs old before
-run-there slots es programs None run old e h = absurd (none-some _ e)
-run-there slots es programs (Some None) run old e h = absurd (none-some _ (same_Some _ _ e))
-run-there slots es programs (Some (Some v)) None old e h = absurd h
-run-there slots es programs (Some (Some v)) (Some None) old e h = absurd h
-run-there slots es programs (Some (Some v)) (Some (Some before)) old e h = (before, refl, subst (λ z. RunRefines slots es programs z before) (same_Some _ _ (same_Some _ _ e)) h)
-
 module _ (w : WorldView) (s : Schedule) (sim : Matches w s) (r : ℕ) where
   abbrev x : RefinesSchedule w s
   x = sim.refines
 
   there : (old : RunView) → slice_get w.runs r ≡ Some (Some old) → (before : Run) × (slice_get s.machine.runs r ≡ Some (Some before)) × RunRefines x.slots s.machine.store.elements s.machine.programs old before
-  there old at = run-there x.slots s.machine.store.elements s.machine.programs (slice_get w.runs r) (slice_get s.machine.runs r) old at (x.runs r)
+  there old at = run-behind x.slots s.machine.store.elements s.machine.programs old (slice_get w.runs r) (slice_get s.machine.runs r) at (x.runs r)
 
   pub lists-same : (run : Option Run) (started : ℕ) → run-changed s r run started ≡ record {
     machine = (run-changed s r run started).machine;
@@ -116,7 +109,7 @@ module _ (w : WorldView) (s : Schedule) (sim : Matches w s) (r : ℕ) where
   pub halves_simulate : (store : Store) (u : WorldView) (y : RefinesSchedule u (half s store)) (run later : Run) (old new : RunView) (answer : Answer) → run_at s.machine.runs r ≡ Some run → slice_get u.runs r ≡ Some (Some old) → RunRefines y.slots store.elements s.machine.programs new later →
       TakesOldest s.machine.store store → StepsRun s.machine r answer (with_runs (with_store s.machine store) (slice_set s.machine.runs r (Some later))) → Simulates s (events.Step r) (answer, with_run r (Some new) u)
   halves_simulate store u y run later old new answer run_is at h oldest step =
-      let b = run-there y.slots store.elements s.machine.programs (slice_get u.runs r) (slice_get s.machine.runs r) old at (y.runs r) in
+      let b = run-behind y.slots store.elements s.machine.programs old (slice_get u.runs r) (slice_get s.machine.runs r) at (y.runs r) in
       let t : Schedule = run-changed (half s store) r (Some later) s.machine.started in
       let does : DoesScheduled s (events.Step r) answer t = record {
         step = subst (λ z. Answers z s.machine (events.Step r) answer t.machine) (sym (going step.run step.there step.going)) step;

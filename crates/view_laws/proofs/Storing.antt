@@ -9,7 +9,6 @@ use Rattle.bpf_model.specs.Element.{Element, is_linked, is_reclaimed, with_value
 use Rattle.bpf_model.specs.MapState.{MapState, Store, with_elements}
 use Rattle.bpf_model.specs.MachineStep.{stored_in, with_bytes}
 use Rattle.bpf_model.specs.Schedule.{Queues, Schedule, retired}
-use Rattle.bpf_model.specs.Word.{slot_base, map_in, element_bases}
 use Rattle.bpf_model.specs.View.{SlotView, MapView, WorldView, uses_in, uses_at, map_state_of, key_in, value_in}
 use Rattle.bpf_model.specs.Refines.{slot_view, IsElementKept, SlotsStand, ElementsStand, RefinesSchedule, named}
 use Rattle.model_laws.proofs.Counting.{retired-back, length-retired}
@@ -46,9 +45,6 @@ module _ (w : WorldView) (s : Schedule) (m : Matches w s) (n : ℕ) (e : Element
 
   pub shown : slice_get v.slots (slice_index m.refines.slots n) ≡ Some (slot_view e)
   shown = (here w s m.refines e.map v at).stands.elements.occupied n e (record { born = born; in_map = refl; kept = kept })
-
-pub based : (w : WorldView) (s : Schedule) (m : Matches w s) (n : ℕ) (e : Element) → accessible s.machine.store.elements n ≡ Some e → element_bases m.refines.slots s.machine.store.elements n ≡ slot_base e.map (slice_index m.refines.slots n)
-based w s m n e access = ap (λ o. slot_base (map_in o) (slice_index m.refines.slots n)) (accessible-born s.machine.store.elements n (slice_get s.machine.store.elements n) e refl access)
 
 -- a slot with another value
 uses-kept : (slots : List SlotView) (i : ℕ) (old new : SlotView) → slice_get slots i ≡ Some old → new.uses ≡ old.uses → (x : ℕ) → uses_at (slice_set slots i new) x ≡ uses_at slots x

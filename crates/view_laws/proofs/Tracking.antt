@@ -1,24 +1,17 @@
 -- A step leads on from the schedule that a world tracks.
-use Rattle.std.proofs.Common.{◌≡◌, ℕ, List, [], ◌∷◌, ◌++◌, Some, inl, inr, sym, subst}
-use Rattle.std.specs.Prelude.{slice_get}
+use Rattle.std.proofs.Common.{◌≡◌, List, [], ◌∷◌, ◌++◌, inl, inr, sym, subst}
 use Rattle.bpf_model.specs.declared.limits.MapShape.{MapShape}
 use Rattle.bpf_model.specs.declared.event.Event.{Event}
 use Rattle.bpf_model.specs.declared.event.Answer.{Answer}
 use Rattle.bpf_model.specs.Event.{IsReal, AreReal}
 use Rattle.bpf_model.specs.Machine.{Loaded}
-use Rattle.bpf_model.specs.MapState.{IsShape}
-use Rattle.bpf_model.specs.Schedule.{Schedule, DoesScheduled, IsScheduledHistory, last_scheduled, start_schedule}
+use Rattle.bpf_model.specs.MapState.{AreShapes}
+use Rattle.bpf_model.specs.Schedule.{Schedule, DoesScheduled, start_schedule}
 use Rattle.bpf_model.specs.View.{WorldView, shapes_of}
 use Rattle.bpf_model.specs.Refines.{IsReachedSchedule, TracksSchedule}
 use Rattle.view_laws.specs.Matching.{Matches, Simulates}
 use Rattle.bpf_model.proofs.Lists.{get-append_cases}
-use Rattle.model_laws.proofs.Joining.{last-join}
-
-history-more : (s : Schedule) (events : List Event) (answers : List Answer) (states : List Schedule) (event : Event) (answer : Answer) (t : Schedule) → IsScheduledHistory s events answers states → DoesScheduled (last_scheduled s states) event answer t →
-    IsScheduledHistory s (events ++ event ∷ []) (answers ++ answer ∷ []) (states ++ t ∷ [])
-history-more s [] [] [] event answer t h d = (d, tt)
-history-more s (e ∷ events) (a ∷ answers) (next ∷ states) event answer t h d = (h.0, history-more next events answers states event answer t h.1 d)
-history-more s events answers states event answer t h d = absurd h
+use Rattle.model_laws.proofs.Joining.{history-join, last-join}
 
 pub real-more : (events : List Event) (event : Event) → AreReal events → IsReal event → AreReal (events ++ event ∷ [])
 real-more events event all real k e at = elim (get-append_cases events event k e at) [
@@ -32,19 +25,19 @@ reached-more shapes programs s t event answer r real d = record {
   answers = r.answers ++ answer ∷ [];
   states = r.states ++ t ∷ [];
   real = real-more r.events event r.real real;
-  history = history-more (start_schedule shapes programs) r.events r.answers r.states event answer t r.history (subst (λ z. DoesScheduled z event answer t) (sym r.last) d);
+  history = history-join (start_schedule shapes programs) r.events (event ∷ []) r.answers (answer ∷ []) r.states (t ∷ []) r.history (subst (λ z. DoesScheduled z event answer t) (sym r.last) d, tt);
   last = last-join (start_schedule shapes programs) r.states (t ∷ []);
 }
 
 pub simulates_tracks : (w new : WorldView) (s : Schedule) (event : Event) (answer : Answer) → TracksSchedule w s → IsReal event → shapes_of new ≡ shapes_of w → new.programs ≡ w.programs → Simulates s event (answer, new) →
     (next : Schedule) × DoesScheduled s event answer next × TracksSchedule new next × Matches new next
 simulates_tracks w new s event answer t real shapes programs h =
-    let Limits : List MapShape → Type 0 = λ l. (k : ℕ) (shape : MapShape) → slice_get l k ≡ Some shape → IsShape shape in (
+    (
       h.next,
       h.does,
       record {
         refines = h.matches.refines;
-        limits = subst Limits (sym shapes) t.limits;
+        limits = subst AreShapes (sym shapes) t.limits;
         reached = subst (λ l. IsReachedSchedule l new.programs h.next) (sym shapes) (subst (λ l. IsReachedSchedule (shapes_of w) l h.next) (sym programs) (reached-more (shapes_of w) w.programs s h.next event answer t.reached real h.does));
       },
       h.matches,

@@ -6,7 +6,7 @@ use Rattle.std.proofs.lemmas.Int.{ints}
 use Rattle.std.proofs.lemmas.Bool.{leb-true}
 use Rattle.std.proofs.lemmas.List.{length-set}
 use Rattle.std.proofs.lemmas.Option.{none-some, same_Some, slice_get_within}
-use Rattle.bpf_model.specs.declared.limits.TheConstants.{FRAME_BYTES}
+use Rattle.bpf_model.specs.declared.limits.TheConstants.{FRAME_BYTES, REGISTERS}
 use Rattle.bpf_model.specs.declared.call.Helper.{Helper}
 use Rattle.bpf_model.specs.declared.call.Helper.TheVariants.{Lookup, Update, Delete}
 use Rattle.bpf_model.specs.declared.call.KernelFunction.{KernelFunction}
@@ -54,7 +54,7 @@ word-returned bases false false x y u v p q = q
 
 returned-refines : (slots : List ℕ) (es : List Element) (programs : List Loaded) (v : RunView) (run : Run) → RunRefines slots es programs v run → (ret : Value) (word : ℕ) → WordIs (element_bases slots es) ret word → RunRefines slots es programs (returned_view word v) (moves run (returns ret run.state))
 returned-refines slots es programs v run h ret word is =
-    let eleven : length v.registers ≡ 11 = h.eleven in
+    let eleven : length v.registers ≡ REGISTERS = h.eleven in
     let bases = element_bases slots es in
     move-refines slots es programs v run h (slice_set v.registers 0 word) v.frame (v.place + 1) (returns ret run.state) (length-set v.registers 0 word ∙ h.eleven)
     (λ q l. subst (λ y. WordIs bases (returned_value ret run.state.regs q) y) (sym (set_cond v.registers 0 word q (omega (arith, eleven))))

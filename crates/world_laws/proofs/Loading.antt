@@ -2,6 +2,7 @@
 use Rattle.std.proofs.Common.{◌≡◌, ℕ, ◌+◌, ◌≤◌, refl, sym, ap, subst, ◌∙◌, arith, Some, None, List, length, inr, Bool, true, false}
 use Rattle.std.specs.Prelude.{slice_get, slice_index, ℤ, pos, ◌+ℤ◌, if◌then◌else◌}
 use Rattle.std.proofs.lemmas.Option.{none-some, same_Some}
+use Rattle.typed_runs.proofs.Elements.{offset_some}
 use Rattle.bpf_model.specs.declared.limits.TheConstants.{FRAME_BYTES}
 use Rattle.bpf_model.specs.declared.insn.Insn.TheVariants.{Load, LoadSigned}
 use Rattle.bpf_model.specs.declared.opcode.Width.{Width}
@@ -27,7 +28,7 @@ use Rattle.world_laws.specs.Locating.{location_of, value_of, bytes_of, offset_at
 use Rattle.world_laws.specs.Moving.{word_in}
 use Rattle.world_laws.specs.Reacting.{insn_step}
 use Rattle.world_laws.specs.Typed.{IsSound, IsRunning}
-use Rattle.world_laws.proofs.Words.{offset_some, number_word}
+use Rattle.world_laws.proofs.Words.{number_word}
 use Rattle.world_laws.proofs.Cells.{read_word}
 use Rattle.world_laws.proofs.Places.{context-location, frame-location, slot-location}
 use Rattle.world_laws.proofs.Bytes.{number-there, number-read}

@@ -5,6 +5,7 @@ use Rattle.std.specs.FinMap.{get}
 use Rattle.std.proofs.lemmas.Int.{ints}
 use Rattle.std.proofs.lemmas.Bool.{cases_eq, eq-eqb, leb-true}
 use Rattle.std.proofs.lemmas.Option.{none-some, same_Some}
+use Rattle.typed_runs.proofs.Elements.{offset_some}
 use Rattle.bpf_model.specs.declared.limits.TheConstants.{FRAME_BYTES}
 use Rattle.bpf_model.specs.declared.call.Helper.{Helper}
 use Rattle.bpf_model.specs.declared.call.Helper.TheVariants.{Lookup, Update, Delete}
@@ -47,7 +48,6 @@ use Rattle.world_laws.specs.Locating.{location_of}
 use Rattle.world_laws.specs.Moving.{word_in}
 use Rattle.world_laws.specs.Reaching.{IsInside, HasElement, Reaches, IsWritable, IsInFrame, IsCalled, HasArguments, IsAllowed, HasInsn}
 use Rattle.world_laws.specs.Typed.{IsRegister, IsSound, IsRunning}
-use Rattle.world_laws.proofs.Words.{offset_some}
 use Rattle.world_laws.proofs.Places.{context-location, frame-location}
 use Rattle.world_laws.proofs.Shown.{Shown}
 use Rattle.world_laws.proofs.Ready.{bases, refines, near, register-word}

@@ -3,7 +3,7 @@ use Rattle.std.proofs.Common.{◌≡◌, ℕ, ◌+◌, ◌^◌, ◌<◌, ◌≢�
 use Rattle.std.specs.Prelude.{slice_get, slice_index, ℤ, pos, negsuc, FitsSigned}
 use Rattle.std.specs.Int.{w32}
 use Rattle.std.proofs.lemmas.Int.{ints}
-use Rattle.bpf_model.specs.declared.limits.TheConstants.{FRAME_BYTES, REGISTERS}
+use Rattle.bpf_model.specs.declared.limits.TheConstants.{FRAME_BYTES, REGISTERS, MAX_MAPS}
 use Rattle.bpf_model.specs.declared.insn.Insn.{Insn}
 use Rattle.bpf_model.specs.declared.insn.Operand.{Operand}
 use Rattle.bpf_model.specs.declared.insn.Operand.TheVariants.{Register, Immediate}
@@ -102,13 +102,13 @@ module _ (w : WorldView) (s : Schedule) (m : Matches w s) (sound : IsSound w s) 
       let slot = x.few_slots in
       (omega (arith, b, few, slot), omega (arith, b, few, slot))
 
-  pub reference-fits : (q : Reference) (x : ℕ) → IsReferenceWord bases q x → IsNearReference q → IsListed 16 q → IsSure (scene_of es run) (Pointer q) → IsBased bases q × (x < 2 ^ 64)
+  pub reference-fits : (q : Reference) (x : ℕ) → IsReferenceWord bases q x → IsNearReference q → IsListed MAX_MAPS q → IsSure (scene_of es run) (Pointer q) → IsBased bases q × (x < 2 ^ 64)
   reference-fits (Ctx o) x e n l h = (tt, omega (arith, ints, e, n))
   reference-fits (Frame o) x e n l h = (tt, omega (arith, ints, e, n))
   reference-fits (MapRef i) x e n l h = (tt, omega (arith, ints, e, l))
   reference-fits (Elem b o) x e n l h = let f = based (Elem b o) h in (f, omega (arith, ints, e, n, f.0, f.1))
 
-  pub value-fits : (u : Value) (x : ℕ) → u ≢ Nothing → WordIs bases u x → IsNear u → HoldsValue (IsListed 16) u → IsSure (scene_of es run) u → x < 2 ^ 64
+  pub value-fits : (u : Value) (x : ℕ) → u ≢ Nothing → WordIs bases u x → IsNear u → HoldsValue (IsListed MAX_MAPS) u → IsSure (scene_of es run) u → x < 2 ^ 64
   value-fits Nothing x some e n l h = absurd (some refl)
   value-fits (Number a) x some e n l h = omega (arith, e, h)
   value-fits (Pointer q) x some e n l h = (reference-fits q x e n l h).1

@@ -15,7 +15,6 @@ use Rattle.bpf_model.specs.Event.{if_ended}
 use Rattle.bpf_model.specs.Machine.{Loaded, Run, run_in, environment, open_sections}
 use Rattle.bpf_model.specs.MachineStep.{AccessesElement, Acts, OutcomeStep, InsnStep}
 use Rattle.bpf_model.specs.MapState as map_state
-use Rattle.bpf_model.specs.Refines.{SlotRefines}
 use Rattle.bpf_model.specs.Schedule.{Schedule}
 use Rattle.bpf_model.specs.Step.{Outcome, after, insn_at}
 use Rattle.bpf_model.specs.View.{RunView, WorldView}
@@ -30,6 +29,7 @@ use Rattle.world_laws.proofs.Own.{alu-simulates, unary-simulates, number-simulat
 use Rattle.world_laws.proofs.Loading.{load-simulates, load-signed-simulates, element-load-simulates, element-load-signed-simulates}
 use Rattle.world_laws.proofs.Storing.{store-simulates, element-store-simulates}
 use Rattle.world_laws.proofs.Calling.{kernel-simulates, helper-simulates}
+use Rattle.bpf_model.proofs.Cases.{run-behind}
 
 module _ (w : WorldView) (s : Schedule) (m : Matches w s) (sound : IsSound w s) (r : ℕ) (run : Run) (v : RunView) (k : IsRunning w s r run v) where
   pub own_step_simulates : (i : Insn) (out : Outcome) (answer : Answer) (later : Run) → insn_at run.program.code run.state.place ≡ Some i → after i (environment run) run.state ≡ Some out → OutcomeStep out run answer later → Simulates s (events.Step r) (insn_step i run.program r v w)
@@ -85,11 +85,6 @@ slot-shown : (o : Option (Option RunView)) (v : RunView) → run_shown o ≡ Som
 slot-shown None v e = absurd (none-some v e)
 slot-shown (Some o) v e = ap Some e
 
-pub run-behind : (slots : List ℕ) (es : List Element) (programs : List Loaded) (v : RunView) (o : Option (Option Run)) → SlotRefines slots es programs (Some (Some v)) o → v.exit ≡ None → (run : Run) × (run_in o ≡ Some run) × (run.exit ≡ None)
-run-behind slots es programs v None h e = absurd h
-run-behind slots es programs v (Some None) h e = absurd h
-run-behind slots es programs v (Some (Some run)) h e = (run, refl, sym h.exit ∙ e)
-
 not-refused : (o : Option EventRefusal) (w : WorldView) → step_by o w ≡ None → o ≡ None
 not-refused None w e = refl
 not-refused (Some refusal) w e = absurd (none-some _ (sym e))
@@ -99,8 +94,8 @@ module _ (w : WorldView) (s : Schedule) (m : Matches w s) (sound : IsSound w s) 
   running-step r e =
       let x = going-shown (run_shown (slice_get w.runs r)) e in
       let at = slot-shown (slice_get w.runs r) x.0 x.1 in
-      let y = run-behind m.refines.slots s.machine.store.elements s.machine.programs x.0 (slice_get s.machine.runs r) (subst (λ o. SlotRefines m.refines.slots s.machine.store.elements s.machine.programs o (slice_get s.machine.runs r)) at (m.refines.runs r)) x.2 in
-      step_simulates w s m sound r y.0 x.0 (record { there = y.1; shown = at; going = y.2 })
+      let y = run-behind m.refines.slots s.machine.store.elements s.machine.programs x.0 (slice_get w.runs r) (slice_get s.machine.runs r) at (m.refines.runs r) in
+      step_simulates w s m sound r y.0 x.0 (record { there = ap run_in y.1; shown = at; going = sym y.2.exit ∙ x.2 })
 
   left : (event : Event) → reaction w event ≡ None → Simulates s event (or_step None w event)
   left (events.Step r) e = running-step r (not-refused (step_refused (run_shown (slice_get w.runs r))) w e)

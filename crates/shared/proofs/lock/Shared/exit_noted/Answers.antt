@@ -1,6 +1,4 @@
-use Rattle.std.specs.Prelude.{slice_get}
-use Rattle.shared.specs.Receipts.{HasExitedOnce, IsPossibleExit, IsOwnExit}
-use Rattle.exit_laws.proofs.Asked.{map-some}
+use Rattle.std.proofs.lemmas.Option.{IfSome_then}
 use Rattle.shared.proofs.Exits.{exits-once, possible-once, own-once}
 use Rattle.shared.proofs.lock.Shared.exit_noted.Goals as goal
 
@@ -10,8 +8,8 @@ returns-clause-exit g c =
 
 pub returns-clause-may : goal.returns-clause-may
 returns-clause-may g c =
-    map-some c.exit_noted.result.exit (HasExitedOnce c.args.self.now c.args.run c.args.prog c.args.ctx.now.items) (IsPossibleExit (slice_get c.args.self.now c.args.prog) c.args.ctx.now.items) (possible-once c.args.self.now c.args.run c.args.prog c.args.ctx.now.items) (returns-clause-exit g c)
+    IfSome_then c.exit_noted.result.exit (returns-clause-exit g c) (possible-once c.args.self.now c.args.run c.args.prog c.args.ctx.now.items)
 
 pub returns-clause-alone : goal.returns-clause-alone
 returns-clause-alone g c =
-    map-some c.exit_noted.result.exit (HasExitedOnce c.args.self.now c.args.run c.args.prog c.args.ctx.now.items) (IsOwnExit (slice_get c.args.self.now c.args.prog) c.args.ctx.now.items) (own-once c.args.self.now c.args.run c.args.prog c.args.ctx.now.items) (returns-clause-exit g c)
+    IfSome_then c.exit_noted.result.exit (returns-clause-exit g c) (own-once c.args.self.now c.args.run c.args.prog c.args.ctx.now.items)
