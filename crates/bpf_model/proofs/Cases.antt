@@ -9,7 +9,7 @@ use Rattle.std.specs.Prelude.{if◌then◌else◌, ◌==◌, drop}
 use Rattle.bpf_model.specs.Section.{Section}
 use Rattle.bpf_model.specs.Element.{Element, Unlinked}
 use Rattle.bpf_model.specs.Machine.{Loaded, Run, run_in}
-use Rattle.bpf_model.specs.Refines.{RunRefines, SlotRefines}
+use Rattle.bpf_model.specs.Refines.{RunRefines, RunSlotRefines}
 use Rattle.bpf_model.specs.View.{RunView}
 use Rattle.bpf_model.specs.MapState.{Store}
 use Rattle.bpf_model.specs.Schedule.{TakesOldest, Queues, or_first, first_ready, without_first}
@@ -59,11 +59,11 @@ none-without (q ∷ qs) h =
     ∙ ap (λ l. q ∷ l) (none-without qs b.1)
 
 -- a run of the world stands for one of the machine
-pub run-behind : (slots : List ℕ) (es : List Element) (programs : List Loaded) (v : RunView) (shown : Option (Option RunView)) (o : Option (Option Run)) → shown ≡ Some (Some v) → SlotRefines slots es programs shown o →
+pub run-behind : (slots : List ℕ) (es : List Element) (programs : List Loaded) (v : RunView) (shown : Option (Option RunView)) (o : Option (Option Run)) → shown ≡ Some (Some v) → RunSlotRefines slots es programs shown o →
     (run : Run) × (o ≡ Some (Some run)) × RunRefines slots es programs v run
-run-behind slots es programs v shown o e h = by o (subst (λ x. SlotRefines slots es programs x o) e h)
+run-behind slots es programs v shown o e h = by o (subst (λ x. RunSlotRefines slots es programs x o) e h)
   where
-    by : (o : Option (Option Run)) → SlotRefines slots es programs (Some (Some v)) o → (run : Run) × (o ≡ Some (Some run)) × RunRefines slots es programs v run
+    by : (o : Option (Option Run)) → RunSlotRefines slots es programs (Some (Some v)) o → (run : Run) × (o ≡ Some (Some run)) × RunRefines slots es programs v run
     by None h = absurd h
     by (Some None) h = absurd h
     by (Some (Some run)) h = (run, refl, h)

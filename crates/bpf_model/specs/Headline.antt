@@ -14,8 +14,7 @@ use Rattle.bpf_model.specs.MachineStep.{NeverStuck}
 use Rattle.bpf_model.specs.Event.{DoesEvent}
 use Rattle.bpf_model.specs.History.{IsHistory, last_machine, AllStates}
 
--- How many moves the run in run slot r has answered since it started there: by the answers alone,
--- from a number on for a run that was there before the first of them.
+-- one, where the run went on
 abbrev pub moved_once : Answer → ℕ
 moved_once Moved = 1
 moved_once answer = 0
@@ -29,6 +28,8 @@ moves_after r n (Step q) answer = if q == r then n + moved_once answer else n
 moves_after r n (Start prog ctx) answer = if is_start_in r answer then 0 else n
 moves_after r n event answer = n
 
+-- How many moves the run in run slot r has answered since it started there: by the answers alone,
+-- from a number on for a run that was there before the first of them.
 abbrev pub moves_of : ℕ → ℕ → List Event → List Answer → ℕ
 moves_of r n (event ∷ events) (answer ∷ answers) =
     moves_of r (moves_after r n event answer) events answers

@@ -39,18 +39,18 @@ WritesRegister (LoadSigned width dst src offset) r = r ≡ dst
 WritesRegister _ r = ⊥
 
 -- An access with base r10 takes byte k of the frame: an aligned access, all of its bytes inside.
-abbrev pub Takes : Width → ℤ → ℕ → Type 0
-Takes width offset k =
+abbrev pub TakesByte : Width → ℤ → ℕ → Type 0
+TakesByte width offset k =
     (at : ℕ) × (region_offset FRAME_BYTES (byte_count width) (pos FRAME_BYTES +ℤ offset) ≡ Some at)
     × (at ≤ k) × (k < at + byte_count width)
 
 abbrev pub ReadsByte : Insn → ℕ → Type 0
-ReadsByte (Load width dst src offset) k = Takes width offset k
-ReadsByte (LoadSigned width dst src offset) k = Takes (unsigned_width width) offset k
+ReadsByte (Load width dst src offset) k = TakesByte width offset k
+ReadsByte (LoadSigned width dst src offset) k = TakesByte (unsigned_width width) offset k
 ReadsByte _ k = ⊥
 
 abbrev pub WritesByte : Insn → ℕ → Type 0
-WritesByte (Store width dst offset src) k = Takes width offset k
+WritesByte (Store width dst offset src) k = TakesByte width offset k
 WritesByte _ k = ⊥
 
 -- an aligned access to the frame with base r10, all bytes inside

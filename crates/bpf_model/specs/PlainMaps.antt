@@ -100,8 +100,8 @@ HasForm program shapes place i =
     IsPart program shapes place ⊎ ((i ≡ lock_call) ⊎ ((i ≡ unlock_call) ⊎ IsSimple i))
 
 -- the instruction is no lock and no unlock
-abbrev pub Keeps : Insn → Type 0
-Keeps i = ((i ≡ lock_call) → ⊥) × ((i ≡ unlock_call) → ⊥)
+abbrev pub KeepsSection : Insn → Type 0
+KeepsSection i = ((i ≡ lock_call) → ⊥) × ((i ≡ unlock_call) → ⊥)
 
 -- A path leads to the slot, at whose end a section is open, or none.
 pub data InSection (program : List Insn) : Bool → ℕ → Type 0 where
@@ -114,7 +114,7 @@ pub data InSection (program : List Insn) : Bool → ℕ → Type 0 where
       InSection program false target
   section_next : (open_before : Bool) (place target : ℕ) (i : Insn) →
       InSection program open_before place
-      → insn_at program place ≡ Some i → Keeps i → GoesTo i place target →
+      → insn_at program place ≡ Some i → KeepsSection i → GoesTo i place target →
       InSection program open_before target
 
 -- A path leads to the slot on which the register isn't written since the entry or the last call,

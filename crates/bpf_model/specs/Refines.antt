@@ -31,7 +31,7 @@ pub record IsElementKept (es : List Element) (k n : ℕ) (e : Element) : Type 0 
   pub in_map : e.map ≡ k
   pub kept : is_reclaimed e.life ≡ false
 
--- The slots of a map: as many as its shape says; each free one is one of them and stands once among
+-- The map slots of a map: as many as its shape says; each free one is one of them and stands once among
 -- the free.
 pub record SlotsStand (v : MapView) : Type 0 where
   pub room : length v.slots ≡ slots_of_shape v.shape
@@ -64,7 +64,7 @@ named slots q = record {
   ready = map (slice_index slots) q.ready;
 }
 
--- Map k: its state and its lists are what the view shows, and its slots and elements stand in it.
+-- Map k: its state and its lists are what the view shows, and its map slots and elements stand in it.
 pub record MapRefines (slots : List ℕ) (k : ℕ) (es : List Element) (q : Queues) (v : MapView)
     (m : MapState) : Type 0 where
   pub state : m ≡ map_state_of v
@@ -88,14 +88,14 @@ pub record RunRefines (slots : List ℕ) (es : List Element) (programs : List Lo
   pub moved : w.moved ≡ run.moved
   pub exit : w.exit ≡ run.exit
 
-abbrev pub SlotRefines : List ℕ → List Element → List Loaded → Option (Option RunView) →
+abbrev pub RunSlotRefines : List ℕ → List Element → List Loaded → Option (Option RunView) →
     Option (Option Run) → Type 0
-SlotRefines slots es programs None None = Unit {0}
-SlotRefines slots es programs (Some None) (Some None) = Unit {0}
-SlotRefines slots es programs (Some (Some w)) (Some (Some run)) = RunRefines slots es programs w run
-SlotRefines slots es programs w run = ⊥
+RunSlotRefines slots es programs None None = Unit {0}
+RunSlotRefines slots es programs (Some None) (Some None) = Unit {0}
+RunSlotRefines slots es programs (Some (Some w)) (Some (Some run)) = RunRefines slots es programs w run
+RunSlotRefines slots es programs w run = ⊥
 
--- The world refines the schedule's machine. The slots are those of all births, in order; like the
+-- The world refines the schedule's machine. The map slots are those of all births, in order; like the
 -- elements, this list only grows.
 pub record RefinesSchedule (w : WorldView) (s : Schedule) : Type 0 where
   pub slots : List ℕ
@@ -105,7 +105,7 @@ pub record RefinesSchedule (w : WorldView) (s : Schedule) : Type 0 where
   pub map : (k : ℕ) (v : MapView) (m : MapState) (q : Queues) → slice_get w.maps k ≡ Some v
       → slice_get s.machine.store.maps k ≡ Some m → slice_get s.queues k ≡ Some q →
       MapRefines slots k s.machine.store.elements q v m
-  pub runs : (r : ℕ) → SlotRefines slots s.machine.store.elements s.machine.programs
+  pub runs : (r : ℕ) → RunSlotRefines slots s.machine.store.elements s.machine.programs
       (slice_get w.runs r) (slice_get s.machine.runs r)
   pub opened : w.opened ≡ open_flags s.machine.runs
   pub awaited : w.awaited ≡ s.awaited
@@ -136,7 +136,7 @@ abbrev pub Tracks : WorldView → Machine → Type 0
 Tracks w m = (s : Schedule) × (s.machine ≡ m) × TracksSchedule w s
 
 -- Further limits of a world: so many maps and programs at most, and no more reclaimed elements than
--- the maps' slots can ever bear. So every number that a world counts has room.
+-- the map slots can ever bear. So every number that a world counts has room.
 pub record IsBounded (w : WorldView) : Type 0 where
   pub maps : length w.maps ≤ MAX_MAPS
   pub programs : length w.programs ≤ MAX_PROGRAMS

@@ -22,7 +22,7 @@ use Rattle.bpf_model.specs.View.{MapView, RunView, WorldView}
 use Rattle.grace_period.specs.State.{GraceState}
 use Rattle.model_laws.specs.Locations.{Location, InContext, InFrame, AtMap, InSlot}
 use Rattle.view_laws.specs.Reactions.{with_run, locked_view, unlocked_view}
-use Rattle.world_laws.specs.Calling.{serves, helped, helped_on, returned_view}
+use Rattle.world_laws.specs.Calling.{serves, helper_called, helper_called_on, returned_view}
 use Rattle.world_laws.specs.Calling as calling
 use Rattle.world_laws.specs.Locating.{location_of, loaded_word, number_from, bytes_of, offset_at}
 use Rattle.world_laws.specs.Moving.{word_in, operand_word, with_word, jumped_to, branched, moves_on, ended_view, stored_frame, stored_slot, stored_at, advanced_view}
@@ -93,11 +93,11 @@ module _ (r : ℕ) (v : RunView) (w : WorldView) (f : IsFlagged w r v) where
   helping Delete map m = moved (called_at Delete map (Some m) v w.maps).1 (returned_view (called_at Delete map (Some m) v w.maps).0 v) refl
 
   helped_is : (helper : HelperId) (program : Loaded) → (c : IsCall helper program.maps w.maps v) → (word : ℕ) → word ≡ (called helper program.maps v w.maps).0
-      → helped (Some helper) program r v w ≡ (answers.Moved, on (called helper program.maps v w.maps).1 (returned_view word v))
+      → helper_called (Some helper) program r v w ≡ (answers.Moved, on (called helper program.maps v w.maps).1 (returned_view word v))
   helped_is helper program c word e =
       let known : called helper program.maps v w.maps ≡ called_at helper c.map (Some c.view) v w.maps =
       ap (λ (o : Option ℕ). called_on helper o v w.maps) c.named ∙ ap (λ (m : Option MapView). called_at helper c.map m v w.maps) c.there in
-      ap (λ (o : Option ℕ). helped_on helper o r v w) c.named
+      ap (λ (o : Option ℕ). helper_called_on helper o r v w) c.named
       ∙ ap (λ (m : Option MapView). serves helper c.map m r v w) c.there
       ∙ helping helper c.map c.view
       ∙ ap (λ (x : ℕ × List MapView). (let y : Answer × WorldView = (answers.Moved, on x.1 (returned_view x.0 v)) in y)) (sym known)
@@ -114,7 +114,7 @@ module _ (r : ℕ) (v : RunView) (w : WorldView) (f : IsFlagged w r v) where
     calls : (imm : ℤ) (o : Option HelperId) (access : Access) → helper_of imm ≡ o → option_map Call o ≡ Some access → Served (insns.Call Helper imm) access
     calls imm None access e g = λ can reply. absurd (none-some access g)
     calls imm (Some helper) access e g = subst (Served (insns.Call Helper imm)) (same_Some (Call helper) access g) (λ can reply.
-        ap (λ (o : Option HelperId). helped o program r v w) e ∙ helped_is helper program can word reply)
+        ap (λ (o : Option HelperId). helper_called o program r v w) e ∙ helped_is helper program can word reply)
 
     passes : (imm : ℤ) (o : Option KernelFunction) (access : Access) → kernel_function_of imm ≡ o → option_map section_access o ≡ Some access → Served (insns.Call Kernel imm) access
     passes imm None access e g = λ can reply. absurd (none-some access g)

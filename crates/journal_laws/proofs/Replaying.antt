@@ -12,7 +12,7 @@ use Rattle.bpf_model.specs.Drain.{AreScheduledAnswers}
 use Rattle.bpf_model.specs.Headline.{AreMachineAnswers, AreNeverStuck, AllExitInTime, AreReclaimedLate}
 use Rattle.bpf_model.specs.History.{HasHistoryTo, IsHistory, last_machine}
 use Rattle.bpf_model.specs.Machine.{Loaded, Machine, Run, run_at, run_in}
-use Rattle.bpf_model.specs.Refines.{Tracks, TracksSchedule, SlotRefines}
+use Rattle.bpf_model.specs.Refines.{Tracks, TracksSchedule, RunSlotRefines}
 use Rattle.bpf_model.specs.Replay as machine
 use Rattle.bpf_model.specs.View.{RunView, WorldView}
 use Rattle.view_laws.specs.Reactions.{run_shown}
@@ -61,13 +61,13 @@ history-run m [] [] [] h = refl
 history-run m (event ∷ events) (answer ∷ answers) (next ∷ states) h = (next, h.0, history-run next events answers states h.1)
 history-run m events answers states h = absurd h
 
-quiet-slot : (slots : List ℕ) (es : List Element) (programs : List Loaded) (o : Option (Option RunView)) (p : Option (Option Run)) → SlotRefines slots es programs o p → run_shown o ≡ None → run_in p ≡ None
+quiet-slot : (slots : List ℕ) (es : List Element) (programs : List Loaded) (o : Option (Option RunView)) (p : Option (Option Run)) → RunSlotRefines slots es programs o p → run_shown o ≡ None → run_in p ≡ None
 quiet-slot slots es programs None None h e = refl
 quiet-slot slots es programs (Some None) (Some None) h e = refl
 quiet-slot slots es programs (Some (Some v)) (Some (Some run)) h e = absurd (none-some v (sym e))
 quiet-slot slots es programs o p h e = absurd h
 
-quiet-machine : (base : WorldView) (m : Machine) → HasNoRuns base → Tracks base m → machine.IsQuiet m
+quiet-machine : (base : WorldView) (m : Machine) → HasNoRuns base → Tracks base m → machine.HasNoRuns m
 quiet-machine base m quiet t r =
     let s = t.0 in
     let here : run_at s.machine.runs r ≡ None = quiet-slot t.2.refines.slots s.machine.store.elements s.machine.programs (slice_get base.runs r) (slice_get s.machine.runs r) (t.2.refines.runs r) (quiet r) in

@@ -27,7 +27,7 @@ use Rattle.typed_runs.proofs.Reaching.{SameProgram, same-insn, well_never_stuck}
 use Rattle.view_laws.specs.Matching.{Matches}
 use Rattle.view_laws.specs.Reactions.{with_run}
 use Rattle.view_laws.proofs.Reacting.{tracked_matches}
-use Rattle.world_laws.specs.Calling.{entered}
+use Rattle.world_laws.specs.Calling.{kernel_called}
 use Rattle.world_laws.specs.Local as laws
 use Rattle.world_laws.specs.Moving.{ended_view, ends_with, moves_on}
 use Rattle.world_laws.specs.Reacting.{full_reaction, insn_step}
@@ -96,7 +96,7 @@ section-is ReadUnlock = refl
 pub asks-else : (view after : RunView) (insn : Insn) (access other : Access) → AsksSection view after insn access → access ≡ other → is-section other ≡ false → ⊥
 asks-else view after insn access other a e h = absurd (false≢true (sym h ∙ (ap is-section (sym e ∙ a.access_is) ∙ section-is a.function)))
 
-entered-moves : (o : Option KernelFunction) (f : KernelFunction) (view : RunView) (w : WorldView) → o ≡ Some f → entered o 0 view w ≡ moves_on 0 (entered_view o view) w
+entered-moves : (o : Option KernelFunction) (f : KernelFunction) (view : RunView) (w : WorldView) → o ≡ Some f → kernel_called o 0 view w ≡ moves_on 0 (entered_view o view) w
 entered-moves None f view w e = absurd (none-some f e)
 entered-moves (Some ReadLock) f view w e = refl
 entered-moves (Some ReadUnlock) f view w e = refl

@@ -333,7 +333,7 @@ accounts-answers : (o : Option EventRefusal) (m : Machine) (event : Event) (answ
 accounts-answers None m event answer new h = accounts-performs m event answer new h
 accounts-answers (Some k) m event answer new h = accounts-same m.store new.store (ap (λ x. x.store) h.1)
 
--- a run
+-- a history
 accounted-along : (s : Schedule) (events : List Event) (answers : List Answer) (states : List Schedule) → Accounted s.machine.store → IsScheduledHistory s events answers states → Accounted (last_scheduled s states).machine.store
 accounted-along s [] [] [] a h = a
 accounted-along s (event ∷ events) (answer ∷ answers) (next ∷ states) a h =

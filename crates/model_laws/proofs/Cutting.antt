@@ -1,4 +1,4 @@
--- Runs of the machine, cut and joined.
+-- Histories of the machine, cut and joined.
 use Rattle.std.proofs.Common.{◌≡◌, List, [], ◌∷◌, ◌++◌, length, refl, subst, arith}
 use Rattle.std.specs.Prelude.{◌↔◌}
 use Rattle.bpf_model.specs.declared.event.Event.{Event}

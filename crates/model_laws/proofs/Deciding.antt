@@ -376,7 +376,7 @@ one_answer s t u event a b w h g =
     let one = answers-one s w t.machine u.machine (refusal s.machine event) event a b h.first g.first h.oldest g.oldest h.step g.step in
     (one.0, h.lists ∙ (ap (scheduled s event) one.1 ∙ sym g.lists))
 
--- a whole run
+-- a whole history
 same-cons : {A : Type 0} (x y : A) (xs ys : List A) → x ≡ y → xs ≡ ys → x ∷ xs ≡ y ∷ ys
 same-cons x y xs ys h g = ap (λ z. z ∷ xs) h ∙ ap (λ zs. y ∷ zs) g
 

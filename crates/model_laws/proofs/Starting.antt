@@ -14,7 +14,7 @@ use Rattle.bpf_model.specs.MapState.{MapState, AreShapes, slots_of_shape, new_ma
 use Rattle.bpf_model.specs.Machine.{Loaded}
 use Rattle.bpf_model.specs.Schedule.{Queues, open_flags, start_schedule, no_queues}
 use Rattle.bpf_model.specs.View.{SlotView, MapView, uses_at, unused_slot, new_map_view, start_view}
-use Rattle.bpf_model.specs.Refines.{times, MapRefines, SlotRefines, RefinesSchedule, TracksSchedule}
+use Rattle.bpf_model.specs.Refines.{times, MapRefines, RunSlotRefines, RefinesSchedule, TracksSchedule}
 use Rattle.model_laws.proofs.Counting.{times-first, times-other, map-back}
 
 -- the free slots: each once
@@ -91,7 +91,7 @@ maps-refine shapes k v m q hv hm hq =
     let two : MapRefines [] k [] no_queues v m = subst (λ x. MapRefines [] k [] no_queues x m) a.2 one in
     subst (λ x. MapRefines [] k [] x v m) c.2 two
 
-runs-refine : (programs : List Loaded) (n r : ℕ) → SlotRefines [] [] programs (slice_get (replicate n None) r) (slice_get (replicate n None) r)
+runs-refine : (programs : List Loaded) (n r : ℕ) → RunSlotRefines [] [] programs (slice_get (replicate n None) r) (slice_get (replicate n None) r)
 runs-refine programs zero r = tt
 runs-refine programs (suc n) zero = tt
 runs-refine programs (suc n) (suc r) = runs-refine programs n r

@@ -33,7 +33,7 @@ use Rattle.view_laws.specs.Views.{retired_slot, retired_key, deleted, filled_fro
 use Rattle.view_laws.specs.Reactions.{with_map, shape_shown, refused_as, delete_at, delete_reaction, update_at, update_reaction, read_at, read_reaction, advanced_by, advance_reaction, Pick, or_pick, first_pick, reap_by, reap_reaction, start_by, start_reaction, run_shown, step_refused, drop_refused, drop_by, drop_reaction, step_by, reaction}
 use Rattle.world_laws.specs.Locating.{location_of}
 use Rattle.world_laws.specs.Moving.{word_in, operand_word, stored_slot, stored_at}
-use Rattle.world_laws.specs.Calling.{bytes_in, bound_number, serves, helped_on, helped, entered}
+use Rattle.world_laws.specs.Calling.{bytes_in, bound_number, serves, helper_called_on, helper_called, kernel_called}
 use Rattle.world_laws.specs.Reacting.{insn_step, step_at, step_in, run_step_of, or_step, full_reaction}
 use Rattle.shared.specs.Tally.{CountsOn, reclaimed_by, unreclaimed_in}
 
@@ -208,15 +208,15 @@ module _ (w : WorldView) where
       let c = in-map Moved k m _ refl e (retired-gains m key (get m.index key)) in record { counts = c.counts; given = c.given }
   serves-counts helper k r v None e = still _ w refl refl refl
 
-  helped_on-counts : (helper : Helper) (o : Option ℕ) (r : ℕ) (v : RunView) → IsCountedOn w (helped_on helper o r v w)
+  helped_on-counts : (helper : Helper) (o : Option ℕ) (r : ℕ) (v : RunView) → IsCountedOn w (helper_called_on helper o r v w)
   helped_on-counts helper (Some k) r v = serves-counts helper k r v (slice_get w.maps k) refl
   helped_on-counts helper None r v = still _ w refl refl refl
 
-  helped-counts : (o : Option Helper) (program : Loaded) (r : ℕ) (v : RunView) → IsCountedOn w (helped o program r v w)
+  helped-counts : (o : Option Helper) (program : Loaded) (r : ℕ) (v : RunView) → IsCountedOn w (helper_called o program r v w)
   helped-counts (Some helper) program r v = helped_on-counts helper (bound_number program v) r v
   helped-counts None program r v = still _ w refl refl refl
 
-  entered-counts : (o : Option KernelFunction) (r : ℕ) (v : RunView) → IsCountedOn w (entered o r v w)
+  entered-counts : (o : Option KernelFunction) (r : ℕ) (v : RunView) → IsCountedOn w (kernel_called o r v w)
   entered-counts (Some ReadLock) r v = still _ _ refl refl refl
   entered-counts (Some ReadUnlock) r v = still _ _ refl refl refl
   entered-counts None r v = still _ w refl refl refl

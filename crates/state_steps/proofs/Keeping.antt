@@ -11,7 +11,7 @@ use Rattle.bpf_model.specs.declared.insn.Operand.{Operand}
 use Rattle.bpf_model.specs.declared.insn.Operand.TheVariants.{Register, Immediate}
 use Rattle.bpf_model.specs.declared.opcode.Size.{Size}
 use Rattle.bpf_model.specs.Frame.{is_within}
-use Rattle.bpf_model.specs.Plain.{WritesRegister, WritesByte, Names, Takes, IsFrameAccess}
+use Rattle.bpf_model.specs.Plain.{WritesRegister, WritesByte, Names, TakesByte, IsFrameAccess}
 use Rattle.bpf_model.specs.Access.{byte_count, unsigned_width, region_offset}
 use Rattle.bpf_model.specs.declared.opcode.Width.{Width}
 use Rattle.bpf_model.specs.declared.opcode.SignedWidth.{SignedWidth}
@@ -121,7 +121,7 @@ module _ (size : Size) (dst : ℕ) (src : Operand) (a : AbsState) where
 reaches : (width : Width) (base : ℕ) (offset : ℤ) (a : AbsState) (f : IsFrameAccess width base offset) → a.regs 10 ≡ FrameAt (pos FRAME_BYTES) → ReachesFrame a base (byte_count width) offset f.1
 reaches width base offset a f e = record { start = pos FRAME_BYTES; base = ap a.regs f.0 ∙ e; inside = f.2 }
 
-reads_bytes : (width : Width) (base : ℕ) (offset : ℤ) (a : AbsState) (f : IsFrameAccess width base offset) → a.regs 10 ≡ FrameAt (pos FRAME_BYTES) → ((k : ℕ) → Takes width offset k → a.cells k ≡ ByteCell)
+reads_bytes : (width : Width) (base : ℕ) (offset : ℤ) (a : AbsState) (f : IsFrameAccess width base offset) → a.regs 10 ≡ FrameAt (pos FRAME_BYTES) → ((k : ℕ) → TakesByte width offset k → a.cells k ≡ ByteCell)
     → ReadsBytes a base (byte_count width) offset
 reads_bytes width base offset a f e bytes = record { at = f.1; reaches = reaches width base offset a f e; bytes = λ k l h. bytes k (f.1, f.2, l, h) }
 
@@ -137,7 +137,7 @@ store_reaches width dst offset src a ready = reaches width dst offset a ready.si
 pub store_number : (width : Width) (dst : ℕ) (offset : ℤ) (src : Operand) (a : AbsState) → IsReadyInsn (Store width dst offset src) a → IsNumberOperand a src
 store_number width dst offset src a ready = operand_number src a ready.registers
 
-pub taken_within : (width : Width) (offset : ℤ) (at k : ℕ) → region_offset FRAME_BYTES (byte_count width) (pos FRAME_BYTES +ℤ offset) ≡ Some at → Takes width offset k → is_within at (byte_count width) k ≡ true
+pub taken_within : (width : Width) (offset : ℤ) (at k : ℕ) → region_offset FRAME_BYTES (byte_count width) (pos FRAME_BYTES +ℤ offset) ≡ Some at → TakesByte width offset k → is_within at (byte_count width) k ≡ true
 taken_within width offset at k e t =
     let same = same_Some t.0 at (sym t.1 ∙ e) in
     subst (λ (n : ℕ). is_within n (byte_count width) k ≡ true) same (within t.0 (byte_count width) k t.2 t.3)

@@ -57,7 +57,7 @@ Leads i new taken place es run = run.exit ≡ None →
     ⊎ (JumpsTo i place run.state.place
     × Describes (unwrap_or taken new) (scene_of es run) run.state)
 
--- What `transfer` ensures: from each described state the instruction isn't stuck, each of its steps
+-- What `transfer` (crate `state_steps`) ensures: from each described state the instruction isn't stuck, each of its steps
 -- leads to a described one, and bytes stay bytes.
 pub record Transfers (i : Insn) (shapes : List MapShape) (ctx_len : ℕ) (old new : AbsState)
     (taken : Option AbsState) : Type 0 where

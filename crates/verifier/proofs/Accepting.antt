@@ -10,7 +10,7 @@ use Rattle.bpf_model.specs.declared.limits.TheConstants.{FRAME_BYTES}
 use Rattle.bpf_model.specs.declared.opcode.Width.{Width}
 use Rattle.bpf_model.specs.Access.{byte_count, region_offset}
 use Rattle.bpf_model.specs.Graph.{distance, JumpsTo, GoesTo}
-use Rattle.bpf_model.specs.Plain.{IsSimple, WritesRegister, WritesByte, Takes, WithoutByte, bare_entry, bare_next}
+use Rattle.bpf_model.specs.Plain.{IsSimple, WritesRegister, WritesByte, TakesByte, WithoutByte, bare_entry, bare_next}
 use Rattle.bpf_model.specs.PlainMaps.{lookup_call, lock_call, unlock_call, IsGuardedLookup, IsPart, HasForm, InSection, section_entry, section_lock, section_unlock, section_next, LacksRegister, lacks_entry, lacks_call, lacks_next, IsPlainWithMaps, Lookup, Part, FrameCopy, KeyAddress, MapLoad, LookupCall, NullTest, ValueLoad, part_insn, part_slot}
 use Rattle.bpf_model.specs.Spelling.{slot_count}
 use Rattle.bpf_model.specs.Step.{insn_at}
@@ -96,10 +96,10 @@ writes_or_not (LoadSigned width dst src offset) r = cases_eq r dst
 writes_or_not (Store width dst offset src) r = inr (λ h. h)
 
 -- an access takes a byte of the frame or doesn't
-takes_or_not : (width : Width) (offset : ℤ) (k : ℕ) → Takes width offset k ⊎ (Takes width offset k → ⊥)
+takes_or_not : (width : Width) (offset : ℤ) (k : ℕ) → TakesByte width offset k ⊎ (TakesByte width offset k → ⊥)
 takes_or_not width offset k = at (region_offset FRAME_BYTES (byte_count width) (pos FRAME_BYTES +ℤ offset)) refl
   where
-    at : (o : Option ℕ) → region_offset FRAME_BYTES (byte_count width) (pos FRAME_BYTES +ℤ offset) ≡ o → Takes width offset k ⊎ (Takes width offset k → ⊥)
+    at : (o : Option ℕ) → region_offset FRAME_BYTES (byte_count width) (pos FRAME_BYTES +ℤ offset) ≡ o → TakesByte width offset k ⊎ (TakesByte width offset k → ⊥)
     at None e = inr (λ t. let f : None ≡ Some t.0 = sym e ∙ t.1 in cc)
     at (Some p) e = elim (cases_lt k p) [
       | inl h ↦ inr (λ t. let same : p ≡ t.0 = same_Some _ _ (sym e ∙ t.1) in let l : t.0 ≤ k = t.2 in omega arith)

@@ -9,7 +9,7 @@ use Rattle.bpf_model.specs.declared.insn.CallKind.TheVariants.{Helper, Kernel}
 use Rattle.bpf_model.specs.declared.limits.MapShape.{MapShape}
 use Rattle.bpf_model.specs.Graph.{falls, distance, JumpsTo, GoesTo, Reached}
 use Rattle.bpf_model.specs.Plain.{WritesByte}
-use Rattle.bpf_model.specs.PlainMaps.{lookup_call, IsValueLoad, IsGuardedLookup, IsPart, Keeps, HasForm, LacksRegister, lacks_call, lacks_next, IsPlainWithMaps, Lookup, Part, FrameCopy, KeyAddress, MapLoad, LookupCall, NullTest, ValueLoad, part_insn, part_slot}
+use Rattle.bpf_model.specs.PlainMaps.{lookup_call, IsValueLoad, IsGuardedLookup, IsPart, KeepsSection, HasForm, LacksRegister, lacks_call, lacks_next, IsPlainWithMaps, Lookup, Part, FrameCopy, KeyAddress, MapLoad, LookupCall, NullTest, ValueLoad, part_insn, part_slot}
 use Rattle.bpf_model.specs.Spelling.{slot_count, starts_from}
 use Rattle.bpf_model.specs.Step.{insn_at}
 use Rattle.bpf_model.specs.Places.{StartsAt, starts-next, starts_increase, starts_ordered, start-inside}
@@ -33,7 +33,7 @@ record IsLoad (i : Insn) : Type 0 where
   falls_on : falls i ≡ true
   no_jump : distance i ≡ None
   no_byte : (k : ℕ) → WritesByte i k → ⊥
-  no_call : Keeps i
+  no_call : KeepsSection i
 
 load_is : (shape : MapShape) (i : Insn) → IsValueLoad shape i → IsLoad i
 load_is shape (Alu op size dst src) v = absurd v
@@ -72,7 +72,7 @@ module _ (program : List Insn) (shapes : List MapShape) (start : ℕ) (l : IsGua
   part_no_byte NullTest k h = h
   part_no_byte ValueLoad k h = value_load.no_byte k h
 
-  pub part_keeps : (p : Part) → Keeps (part_insn l.lookup p)
+  pub part_keeps : (p : Part) → KeepsSection (part_insn l.lookup p)
   part_keeps FrameCopy = ((λ e. cc), (λ e. cc))
   part_keeps KeyAddress = ((λ e. cc), (λ e. cc))
   part_keeps MapLoad = ((λ e. cc), (λ e. cc))

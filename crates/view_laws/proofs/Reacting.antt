@@ -16,7 +16,7 @@ use Rattle.bpf_model.specs.Event.{IsReal, if_ended, if_running, step_refusal, dr
 use Rattle.bpf_model.specs.Schedule.{Schedule, is_any}
 use Rattle.bpf_model.specs.Drain.{AnswersAsScheduled}
 use Rattle.bpf_model.specs.View.{shape_of_view as shape, MapView, RunView, WorldView, shapes_of}
-use Rattle.bpf_model.specs.Refines.{SlotRefines, TracksSchedule}
+use Rattle.bpf_model.specs.Refines.{RunSlotRefines, TracksSchedule}
 use Rattle.model_laws.proofs.Reached.{tracked_is_scheduled}
 use Rattle.view_laws.specs.Views.{retired_slot, retired_key, deleted, filled_from, updated_by, updated, shown_error, turned_view, slot_given_back, given_at, reaped_view}
 use Rattle.view_laws.specs.Reactions.{with_map, shape_shown, refused_as, delete_at, delete_reaction, update_at, update_reaction, read_at, read_reaction, advanced_by, advance_reaction, Pick, or_pick, first_pick, reap_by, reap_reaction, start_by, start_reaction, run_shown, step_refused, drop_refused, drop_by, drop_reaction, step_by, reaction}
@@ -33,13 +33,13 @@ use Rattle.view_laws.proofs.Tracking.{simulates_tracks}
 use Rattle.bpf_model.proofs.Lists.{map-set, set-same}
 
 -- the refusals of a step and of a drop
-step-refusal_is : (slots : List ℕ) (es : List Element) (programs : List Loaded) (v : Option (Option RunView)) (run : Option (Option Run)) → SlotRefines slots es programs v run → step_refusal (run_in run) ≡ step_refused (run_shown v)
+step-refusal_is : (slots : List ℕ) (es : List Element) (programs : List Loaded) (v : Option (Option RunView)) (run : Option (Option Run)) → RunSlotRefines slots es programs v run → step_refusal (run_in run) ≡ step_refused (run_shown v)
 step-refusal_is slots es programs None None h = refl
 step-refusal_is slots es programs (Some None) (Some None) h = refl
 step-refusal_is slots es programs (Some (Some v)) (Some (Some run)) h = ap if_ended (sym h.exit)
 step-refusal_is slots es programs v run h = absurd h
 
-drop-refusal_is : (slots : List ℕ) (es : List Element) (programs : List Loaded) (v : Option (Option RunView)) (run : Option (Option Run)) → SlotRefines slots es programs v run → drop_refusal (run_in run) ≡ drop_refused (run_shown v)
+drop-refusal_is : (slots : List ℕ) (es : List Element) (programs : List Loaded) (v : Option (Option RunView)) (run : Option (Option Run)) → RunSlotRefines slots es programs v run → drop_refusal (run_in run) ≡ drop_refused (run_shown v)
 drop-refusal_is slots es programs None None h = refl
 drop-refusal_is slots es programs (Some None) (Some None) h = refl
 drop-refusal_is slots es programs (Some (Some v)) (Some (Some run)) h = ap if_running (sym h.exit)

@@ -22,7 +22,7 @@ use Rattle.bpf_model.specs.Event.{Answers, refusal, step_refusal, if_ended, drop
 use Rattle.bpf_model.specs.Schedule.{Schedule, is_open, open_flags, still_open, retired, TakesOldest, DoesScheduled}
 use Rattle.bpf_model.specs.Word.{WordIs, element_bases}
 use Rattle.bpf_model.specs.View.{RunView, WorldView}
-use Rattle.bpf_model.specs.Refines.{RunRefines, SlotRefines, RefinesSchedule}
+use Rattle.bpf_model.specs.Refines.{RunRefines, RunSlotRefines, RefinesSchedule}
 use Rattle.view_laws.specs.Reactions.{is_open_view, with_run, locked_view, unlocked_view}
 use Rattle.view_laws.specs.Matching.{Matches, Simulates, half}
 use Rattle.bpf_model.proofs.Cases.{oldest-none, run-behind}
@@ -35,7 +35,7 @@ length-still [] (y ∷ b) l = absurd (omega arith)
 length-still (x ∷ a) [] l = absurd (omega arith)
 length-still (x ∷ a) (y ∷ b) l = ap suc (length-still a b (omega arith))
 
-open-is : (slots : List ℕ) (es : List Element) (programs : List Loaded) (v : Option RunView) (run : Option Run) → SlotRefines slots es programs (Some v) (Some run) → is_open run ≡ is_open_view v
+open-is : (slots : List ℕ) (es : List Element) (programs : List Loaded) (v : Option RunView) (run : Option Run) → RunSlotRefines slots es programs (Some v) (Some run) → is_open run ≡ is_open_view v
 open-is slots es programs None None h = refl
 open-is slots es programs (Some v) (Some run) h = ap (nat_lt 0) (sym h.depth)
 open-is slots es programs v run h = absurd h
@@ -49,7 +49,7 @@ run-changed s r run started = record {
 
 -- the other half of a step: the store stays, and one run slot changes
 pub run-world : (w : WorldView) (s : Schedule) (x : RefinesSchedule w s) (r : ℕ) (old : Option RunView) (before : Option Run) (v : Option RunView) (run : Option Run) (started : ℕ) → slice_get w.runs r ≡ Some old → slice_get s.machine.runs r ≡ Some before →
-    SlotRefines x.slots s.machine.store.elements s.machine.programs (Some v) (Some run) → RefinesSchedule (with_run r v w) (run-changed s r run started)
+    RunSlotRefines x.slots s.machine.store.elements s.machine.programs (Some v) (Some run) → RefinesSchedule (with_run r v w) (run-changed s r run started)
 run-world w s x r old before v run started at there h =
     let opened : slice_set w.opened r (is_open_view v) ≡ open_flags (slice_set s.machine.runs r run) =
     ap (λ b. slice_set w.opened r b) (sym (open-is x.slots s.machine.store.elements s.machine.programs v run h)) ∙ (ap (λ l. slice_set l r (is_open run)) x.opened ∙ sym (map-set is_open s.machine.runs r run)) in
@@ -60,11 +60,11 @@ run-world w s x r old before v run started at there h =
       map = x.map;
       runs = λ q. elim (cases_eq q r) [
         | inl same ↦
-            let P : Option (Option RunView) → Option (Option Run) → Type 0 = SlotRefines x.slots s.machine.store.elements s.machine.programs in
+            let P : Option (Option RunView) → Option (Option Run) → Type 0 = RunSlotRefines x.slots s.machine.store.elements s.machine.programs in
             subst (λ z. P (slice_get (slice_set w.runs r v) z) (slice_get (slice_set s.machine.runs r run) z)) (sym same)
             (subst (λ z. P z (slice_get (slice_set s.machine.runs r run) r)) (sym (get-set_there w.runs r old v at)) (subst (λ z. P (Some v) z) (sym (get-set_there s.machine.runs r before run there)) h))
         | inr ne ↦
-            let P : Option (Option RunView) → Option (Option Run) → Type 0 = SlotRefines x.slots s.machine.store.elements s.machine.programs in
+            let P : Option (Option RunView) → Option (Option Run) → Type 0 = RunSlotRefines x.slots s.machine.store.elements s.machine.programs in
             subst (λ z. P z (slice_get (slice_set s.machine.runs r run) q)) (sym (get-set_other w.runs r q v ne)) (subst (λ z. P (slice_get w.runs q) z) (sym (get-set_other s.machine.runs r q run ne)) (x.runs q))
       ];
       opened = opened;

@@ -17,7 +17,7 @@ use Rattle.bpf_model.specs.Event.{Answers, refusal, start_refusal}
 use Rattle.bpf_model.specs.Schedule.{Schedule, DoesScheduled}
 use Rattle.bpf_model.specs.Word.{WordIs, element_bases}
 use Rattle.bpf_model.specs.View.{RunView, WorldView}
-use Rattle.bpf_model.specs.Refines.{RunRefines, SlotRefines, RefinesSchedule}
+use Rattle.bpf_model.specs.Refines.{RunRefines, RunSlotRefines, RefinesSchedule}
 use Rattle.view_laws.specs.Reactions.{fresh_view, with_run, start_by, start_reaction}
 use Rattle.view_laws.specs.Matching.{Matches, Simulates}
 use Rattle.bpf_model.proofs.Cases.{oldest-none}
@@ -26,7 +26,7 @@ use Rattle.view_laws.proofs.Running.{run-changed, run-world, lists-same}
 
 -- the same slots are free
 module _ (slots : List ℕ) (es : List Element) (programs : List Loaded) where
-  free-agrees : (vs : List (Option RunView)) (runs : List (Option Run)) → ((r : ℕ) → SlotRefines slots es programs (slice_get vs r) (slice_get runs r)) → lowest_free vs ≡ lowest_free runs
+  free-agrees : (vs : List (Option RunView)) (runs : List (Option Run)) → ((r : ℕ) → RunSlotRefines slots es programs (slice_get vs r) (slice_get runs r)) → lowest_free vs ≡ lowest_free runs
   free-agrees [] [] h = refl
   free-agrees [] (None ∷ runs) h = absurd (h 0)
   free-agrees [] (Some run ∷ runs) h = absurd (h 0)

@@ -13,7 +13,7 @@ use Rattle.bpf_model.specs.Word.{slot_base, IsReferenceWord, WordIs, ByteIs, ele
 use Rattle.bpf_model.specs.Consistent.{IsBorn, IsBornValue, IsBornCell}
 use Rattle.model_laws.proofs.Born.{IsBornState}
 use Rattle.bpf_model.specs.View.{RunView}
-use Rattle.bpf_model.specs.Refines.{RunRefines, SlotRefines}
+use Rattle.bpf_model.specs.Refines.{RunRefines, RunSlotRefines}
 use Rattle.view_laws.proofs.Changing.{Changes}
 
 module _ (k : ℕ) (slots names : List ℕ) (es fs : List Element) (c : Changes k slots names es fs) where
@@ -54,7 +54,7 @@ module _ (k : ℕ) (slots names : List ℕ) (es fs : List Element) (c : Changes 
   abbrev pub AreBorn : Option (Option Run) → Type 0
   AreBorn run = (x : Run) → run_in run ≡ Some x → IsBornState (length es) x.state
 
-  pub slot-kept : (programs : List Loaded) (w : Option (Option RunView)) (run : Option (Option Run)) → AreBorn run → SlotRefines slots es programs w run → SlotRefines names fs programs w run
+  pub slot-kept : (programs : List Loaded) (w : Option (Option RunView)) (run : Option (Option Run)) → AreBorn run → RunSlotRefines slots es programs w run → RunSlotRefines names fs programs w run
   slot-kept programs None None b h = tt
   slot-kept programs (Some None) (Some None) b h = tt
   slot-kept programs (Some (Some w)) (Some (Some run)) b h = run-kept programs w run (b run refl) h

@@ -217,11 +217,12 @@ drop_by None w r = (Done, with_run r None w)
 abbrev pub drop_reaction : WorldView → ℕ → Answer × WorldView
 drop_reaction w r = drop_by (drop_refused (run_shown (slice_get w.runs r))) w r
 
--- The reaction to an event; None: a run makes a step, which its instruction decides.
+-- a step that is refused; one that is not, its instruction decides
 abbrev pub step_by : Option EventRefusal → WorldView → Option (Answer × WorldView)
 step_by (Some refusal) w = Some (refused_as refusal w)
 step_by None w = None
 
+-- The reaction to an event; None: a run makes a step, which its instruction decides.
 abbrev pub reaction : WorldView → Event → Option (Answer × WorldView)
 reaction w (events.Start prog ctx) = Some (start_reaction w prog ctx.items)
 reaction w (events.Step run) = step_by (step_refused (run_shown (slice_get w.runs run))) w

@@ -38,7 +38,7 @@ use Rattle.view_laws.proofs.Running.{lock_simulates, unlock_simulates, halves_si
 use Rattle.view_laws.proofs.Deleting.{delete_half}
 use Rattle.view_laws.proofs.Updating.{update_half}
 use Rattle.world_laws.specs.Moving.{word_in, moves_on}
-use Rattle.world_laws.specs.Calling.{bound_number, bytes_in, returned_view, found_word, serves, helped_on, helped, entered}
+use Rattle.world_laws.specs.Calling.{bound_number, bytes_in, returned_view, found_word, serves, helper_called_on, helper_called, kernel_called}
 use Rattle.world_laws.specs.Reacting.{insn_step}
 use Rattle.world_laws.specs.Typed.{IsSound, IsRunning}
 use Rattle.world_laws.proofs.Words.{number_word}
@@ -67,8 +67,8 @@ module _ (w : WorldView) (s : Schedule) (m : Matches w s) (sound : IsSound w s) 
 
   -- a lock and an unlock
   pub kernel-simulates : (imm : ℤ) (later : Run) (o : Option KernelFunction) → Known w s m sound r run v k (Call kinds.Kernel imm) → kernel_function_of imm ≡ o → KernelStep o run later → Does w s m sound r run v k (insn_step (Call kinds.Kernel imm) run.program r v w)
-  kernel-simulates imm later (Some ReadLock) at e h = subst (λ o. Does w s m sound r run v k (entered o r v w)) (sym e) (lock_simulates w s m r run v imm k.there k.shown k.going at e h.0)
-  kernel-simulates imm later (Some ReadUnlock) at e h = subst (λ o. Does w s m sound r run v k (entered o r v w)) (sym e) (unlock_simulates w s m r run v imm k.there k.shown k.going at e h.0)
+  kernel-simulates imm later (Some ReadLock) at e h = subst (λ o. Does w s m sound r run v k (kernel_called o r v w)) (sym e) (lock_simulates w s m r run v imm k.there k.shown k.going at e h.0)
+  kernel-simulates imm later (Some ReadUnlock) at e h = subst (λ o. Does w s m sound r run v k (kernel_called o r v w)) (sym e) (unlock_simulates w s m r run v imm k.there k.shown k.going at e h.0)
   kernel-simulates imm later None at e h = absurd h
 
   -- the number of the map that an argument's word names
@@ -136,8 +136,8 @@ module _ (w : WorldView) (s : Schedule) (m : Matches w s) (sound : IsSound w s) 
   -- what the call does, by the arguments that it is made with
   called-with : (imm : ℤ) (helper : Helper) (map : ℕ) (view : MapView) → helper_of imm ≡ Some helper → bound_number run.program v ≡ Some map → slice_get w.maps map ≡ Some view → Does w s m sound r run v k (serves helper map (Some view) r v w) → Does w s m sound r run v k (insn_step (Call kinds.Helper imm) run.program r v w)
   called-with imm helper map view e bound there h =
-      subst (λ o. Does w s m sound r run v k (helped o run.program r v w)) (sym e)
-      (subst (λ o. Does w s m sound r run v k (helped_on helper o r v w)) (sym bound)
+      subst (λ o. Does w s m sound r run v k (helper_called o run.program r v w)) (sym e)
+      (subst (λ o. Does w s m sound r run v k (helper_called_on helper o r v w)) (sym bound)
       (subst (λ o. Does w s m sound r run v k (serves helper map o r v w)) (sym there) h))
 
   -- a lookup

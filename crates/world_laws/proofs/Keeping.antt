@@ -23,7 +23,7 @@ use Rattle.view_laws.specs.Reactions.{run_shown, reaction}
 use Rattle.view_laws.proofs.Reacting.{Keeps, reaction_keeps, retired-shape, updated-shape, map-keeps}
 use Rattle.world_laws.specs.Locating.{location_of}
 use Rattle.world_laws.specs.Moving.{word_in, operand_word, stored_slot, stored_at}
-use Rattle.world_laws.specs.Calling.{bytes_in, bound_number, serves, helped_on, helped, entered}
+use Rattle.world_laws.specs.Calling.{bytes_in, bound_number, serves, helper_called_on, helper_called, kernel_called}
 use Rattle.world_laws.specs.Reacting.{insn_step, step_at, step_in, run_step_of, or_step, full_reaction}
 
 module _ (w : WorldView) where
@@ -46,15 +46,15 @@ module _ (w : WorldView) where
   serves-keeps Delete k r v (Some m) e = let key = bytes_in v 2 m.shape.key_len in map-keeps w k m _ e (retired-shape m key (get m.index key))
   serves-keeps helper k r v None e = (refl, refl)
 
-  helped_on-keeps : (helper : Helper) (o : Option ℕ) (r : ℕ) (v : RunView) → Keeps w (helped_on helper o r v w).1
+  helped_on-keeps : (helper : Helper) (o : Option ℕ) (r : ℕ) (v : RunView) → Keeps w (helper_called_on helper o r v w).1
   helped_on-keeps helper (Some k) r v = serves-keeps helper k r v (slice_get w.maps k) refl
   helped_on-keeps helper None r v = (refl, refl)
 
-  helped-keeps : (o : Option Helper) (program : Loaded) (r : ℕ) (v : RunView) → Keeps w (helped o program r v w).1
+  helped-keeps : (o : Option Helper) (program : Loaded) (r : ℕ) (v : RunView) → Keeps w (helper_called o program r v w).1
   helped-keeps (Some helper) program r v = helped_on-keeps helper (bound_number program v) r v
   helped-keeps None program r v = (refl, refl)
 
-  entered-keeps : (o : Option KernelFunction) (r : ℕ) (v : RunView) → Keeps w (entered o r v w).1
+  entered-keeps : (o : Option KernelFunction) (r : ℕ) (v : RunView) → Keeps w (kernel_called o r v w).1
   entered-keeps (Some ReadLock) r v = (refl, refl)
   entered-keeps (Some ReadUnlock) r v = (refl, refl)
   entered-keeps None r v = (refl, refl)

@@ -21,7 +21,7 @@ use Rattle.bpf_model.specs.MachineStep.{InsnStep}
 use Rattle.bpf_model.specs.Near.{IsNear, IsNearReference}
 use Rattle.bpf_model.specs.Operand.{operand_value}
 use Rattle.bpf_model.specs.MapState.{Store}
-use Rattle.bpf_model.specs.Refines.{RunRefines, SlotRefines, RefinesSchedule}
+use Rattle.bpf_model.specs.Refines.{RunRefines, RunSlotRefines, RefinesSchedule}
 use Rattle.bpf_model.specs.Schedule.{Schedule}
 use Rattle.bpf_model.specs.Step.{State, insn_at}
 use Rattle.bpf_model.specs.View.{RunView, WorldView}
@@ -74,8 +74,8 @@ module _ (w : WorldView) (s : Schedule) (m : Matches w s) (sound : IsSound w s) 
   Refines new later = RunRefines slots es s.machine.programs new later
 
   pub refines : Refines v run
-  refines = subst (λ o. SlotRefines slots es s.machine.programs o (Some (Some run))) k.shown
-      (subst (SlotRefines slots es s.machine.programs (slice_get w.runs r)) (in-slot (slice_get s.machine.runs r) run k.there) (m.refines.runs r))
+  refines = subst (λ o. RunSlotRefines slots es s.machine.programs o (Some (Some run))) k.shown
+      (subst (RunSlotRefines slots es s.machine.programs (slice_get w.runs r)) (in-slot (slice_get s.machine.runs r) run k.there) (m.refines.runs r))
 
   pub near : AreNear run.state.regs run.state.frame
   near = run-near s.machine r run sound.well k.there k.going
@@ -133,5 +133,5 @@ module _ (w : WorldView) (s : Schedule) (m : Matches w s) (sound : IsSound w s) 
   -- what the run stands for when the maps have changed
   pub half-refines : (store : Store) (u : WorldView) (y : RefinesSchedule u (half s store)) → u.runs ≡ w.runs → RunRefines y.slots store.elements s.machine.programs v run
   half-refines store u y same =
-      subst (λ o. SlotRefines y.slots store.elements s.machine.programs o (Some (Some run))) (ap (λ runs. slice_get runs r) same ∙ k.shown)
-      (subst (SlotRefines y.slots store.elements s.machine.programs (slice_get u.runs r)) (in-slot (slice_get s.machine.runs r) run k.there) (y.runs r))
+      subst (λ o. RunSlotRefines y.slots store.elements s.machine.programs o (Some (Some run))) (ap (λ runs. slice_get runs r) same ∙ k.shown)
+      (subst (RunSlotRefines y.slots store.elements s.machine.programs (slice_get u.runs r)) (in-slot (slice_get s.machine.runs r) run k.there) (y.runs r))

@@ -20,7 +20,7 @@ use Rattle.view_laws.specs.Reactions.{run_shown, reaction}
 use Rattle.world_laws.specs.Locating.{loaded_word}
 use Rattle.world_laws.specs.Moving.{word_in, operand_word, with_word, jumped_by, branched, map_word}
 use Rattle.world_laws.specs.Moving.{moves_on, ends_with, stored_word}
-use Rattle.world_laws.specs.Calling.{idle, helped, entered}
+use Rattle.world_laws.specs.Calling.{idle, helper_called, kernel_called}
 
 -- What an instruction does to a run's words, in run slot r of a world.
 abbrev pub insn_step : Insn → Loaded → ℕ → RunView → WorldView → Answer × WorldView
@@ -34,8 +34,8 @@ insn_step (Jump offset) program r v w = moves_on r (jumped_by offset v) w
 insn_step (JumpLong imm) program r v w = moves_on r (jumped_by imm v) w
 insn_step (JumpIf condition size dst src offset) program r v w =
     moves_on r (branched (compares size condition (word_in v dst) (operand_word v src)) offset v) w
-insn_step (Call Helper imm) program r v w = helped (helper_of imm) program r v w
-insn_step (Call Kernel imm) program r v w = entered (kernel_function_of imm) r v w
+insn_step (Call Helper imm) program r v w = helper_called (helper_of imm) program r v w
+insn_step (Call Kernel imm) program r v w = kernel_called (kernel_function_of imm) r v w
 insn_step Exit program r v w = ends_with r v (word_in v 0) w
 insn_step (Load width dst src offset) program r v w =
     moves_on r (with_word 1 dst (loaded_word w v (byte_count width) offset (word_in v src)) v) w
@@ -71,10 +71,11 @@ or_step None w event = idle w
 abbrev pub full_reaction : WorldView → Event → Answer × WorldView
 full_reaction w event = or_step (reaction w event) w event
 
--- the answers to events one after another, and the view after them
+-- an answer before the later ones
 abbrev pub with_first_answer : Answer → List Answer × WorldView → List Answer × WorldView
 with_first_answer answer rest = (answer ∷ rest.0, rest.1)
 
+-- the answers to events one after another, and the view after them
 abbrev pub full_reactions : WorldView → List Event → List Answer × WorldView
 full_reactions w [] = ([], w)
 full_reactions w (event ∷ events) =
