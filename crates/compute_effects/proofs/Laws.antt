@@ -1,7 +1,6 @@
 -- Laws of the definitions of arithmetic and of memory: the results are words of 64 bits.
-use Rattle.std.proofs.Common.{◌≡◌, ℕ, ◌%◌, ◌^◌, ◌<◌, refl}
+use Rattle.std.proofs.Common.{◌≡◌, ℕ, ◌^◌, ◌<◌, refl}
 use Rattle.std.specs.Prelude.{Some}
-use Rattle.std.proofs.lemmas.Nat.{mod_below, pow_pos}
 use Rattle.bpf_model.specs.declared.insn.AluOp.{AluOp}
 use Rattle.bpf_model.specs.declared.insn.AluOp.TheVariants.{Add, Sub, Mul, Div, SignedDiv, Or, And, ShiftLeft, ShiftRight, Mod, SignedMod, Xor, Move, ShiftRightSigned}
 use Rattle.bpf_model.specs.declared.insn.UnaryOp.{UnaryOp}
@@ -13,9 +12,6 @@ use Rattle.bpf_model.specs.Operand.{computed}
 use Rattle.bpf_model.specs.declared.value.Value.TheVariants.{Number}
 use Rattle.scalar_domain.proofs.Words.{negated_lt, moved_signed_lt}
 use Rattle.scalar_domain.proofs.Swaps.{reordered_lt}
-
-reduced : (n w : ℕ) → n % 2 ^ w < 2 ^ w
-reduced n w = mod_below n (2 ^ w) (pow_pos w)
 
 pub unary_lt : (op : UnaryOp) (x : ℕ) → unary op x < 2 ^ 64
 unary_lt (Negate size) x = negated_lt size x

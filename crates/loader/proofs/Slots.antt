@@ -1,5 +1,5 @@
 -- The slots of a line, word by word; and names and shapes that no map has.
-use Rattle.std.proofs.Common.{◌≡◌, ◌≢◌, ℕ, ◌<◌, Bool, true, false, not, cond, ◌&&◌, List, [], ◌++◌, length, get_or, All, refl, sym, ap, arith, append_assoc}
+use Rattle.std.proofs.Common.{◌≡◌, ◌≢◌, ℕ, ◌<◌, Bool, true, false, not, cond, ◌&&◌, List, [], ◌++◌, length, get_or, All, refl, arith}
 use Rattle.std.specs.Prelude.{Option, Some, None, nat_le, slice_get}
 use Rattle.std.specs.List.{list_all}
 use Rattle.std.specs.Str.{IsAscii}
@@ -24,10 +24,6 @@ pub record HasSlots (line : List ℕ) (left : List (List ℕ)) (old new : List �
 pub joined_nil : (x : Option (List ℕ)) → x ≡ both_parts (Some []) x
 joined_nil None = refl
 joined_nil (Some bytes) = refl
-
-joined_more : (front bytes : List ℕ) (x : Option (List ℕ)) → both_parts (Some front) (both_parts (Some bytes) x) ≡ both_parts (Some (front ++ bytes)) x
-joined_more front bytes None = refl
-joined_more front bytes (Some back) = ap Some (sym (append_assoc front bytes back))
 
 -- a registry takes no such map
 

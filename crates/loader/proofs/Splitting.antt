@@ -18,9 +18,6 @@ no_byte_more at bytes i inside h other =
     subst (HasNoByte at) (sym (take_more bytes i 0 inside))
     (All-append (λ b. (b == at) ≡ false) (take i bytes) (get_or bytes i 0 ∷ []) h (All-cons (λ b. (b == at) ≡ false) (get_or bytes i 0) [] (differs at (get_or bytes i 0) other) (All-nil (λ b. (b == at) ≡ false))))
 
-abbrev pub is_space : ℕ → Bool
-is_space b = b == 32
-
 -- words
 
 pub one_word : (line : List ℕ) → HasNoByte 32 line → file_words line ≡ line ∷ []

@@ -24,11 +24,6 @@ pub record IsReadTo (text rest : List ℕ) (loading : Loading) (number : ℕ) : 
   pub room : number + length rest ≤ length text + 2
 
 -- the first line of a text that is not empty, and the lines of what is behind it
-
-rest_of : Option (Bor (List ℕ)) → List ℕ
-rest_of None = []
-rest_of (Some rest) = rest.now
-
 pub lines_cut : (text front : List ℕ) (rest : Option (Bor (List ℕ))) (more : List ℕ) → 0 < length text → HasNoByte 10 front → MatchOption rest (text ≡ front) (λ r. text ≡ front ++ 10 ∷ r.now) → MatchOption rest (more ≡ []) (λ r. more ≡ r.now) → (file_lines text ≡ front ∷ file_lines more) × (length more < length text)
 lines_cut [] front None more some h e f = absurd (omega arith)
 lines_cut (b ∷ text) front None more some h e f =

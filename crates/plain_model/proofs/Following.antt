@@ -1,22 +1,22 @@
 -- The lists after each event.
-use Rattle.std.proofs.Common.{◌≡◌, ℕ, Some, None, refl, sym, ap, ◌∙◌, false}
+use Rattle.std.proofs.Common.{◌≡◌, ℕ, Some, None, refl, sym, ap, ◌∙◌}
 use Rattle.std.specs.Prelude.{slice_get, slice_set}
 use Rattle.bpf_model.specs.declared.event.Event.{Event}
-use Rattle.bpf_model.specs.declared.event.Event.TheVariants.{Start, Step, Update, Delete, Read, Advance, Reap, Drop}
+use Rattle.bpf_model.specs.declared.event.Event.TheVariants.{Advance, Reap}
 use Rattle.bpf_model.specs.declared.event.Answer.{Answer}
 use Rattle.bpf_model.specs.declared.event.Answer.TheVariants.{Done, Reaped}
 use Rattle.bpf_model.specs.declared.event.ReapedElement.{ReapedElement}
 use Rattle.bpf_model.specs.Element.{Reclaimed, with_life}
 use Rattle.bpf_model.specs.MapState.{Store}
 use Rattle.bpf_model.specs.Machine.{with_store, open_sections}
-use Rattle.bpf_model.specs.Schedule.{Schedule, advanced, is_any, first_ready, without_first, retired, still_open, open_flags}
+use Rattle.bpf_model.specs.Schedule.{Schedule, advanced, is_any, first_ready, without_first}
 use Rattle.std.proofs.Common.{Ok, Err}
 use Rattle.std.specs.Prelude.{Result, IfOk, OnOk}
 use Rattle.bpf_model.specs.Schedule.{TakesOldest, DoesScheduled}
 use Rattle.plain_store.specs.declared.fault.Fault.{Fault}
 use Rattle.plain_model.specs.Following.{DoesAs}
 use Rattle.plain_store.specs.Births.{ReclaimsTo}
-use Rattle.plain_model.specs.Following.{settled, is_turn, FollowsLists}
+use Rattle.plain_model.specs.Following.{FollowsLists}
 use Rattle.bpf_model.proofs.Lists.{get-set_there}
 use Rattle.bpf_model.proofs.Cases.{none-without}
 
@@ -37,22 +37,6 @@ reap-follows s n store taken new h r machine queues awaited =
       first = (n, c.since, h, (e, c.born, c.unlinked), (with_life Reclaimed e, after, refl));
       lists = ap (λ qs. record { machine = new.machine; queues = qs; awaited = new.awaited }) queues ∙ ap (λ f. record { machine = new.machine; queues = without_first s.queues; awaited = f }) awaited;
     }
-
-same : (s mid : Schedule) → mid.queues ≡ s.queues → mid.awaited ≡ s.awaited →
-    settled mid s.machine.store.elements ≡ record { machine = mid.machine; queues = retired 0 s.machine.store.elements mid.machine.store.elements s.queues; awaited = still_open s.awaited (open_flags mid.machine.runs) }
-same s mid queues awaited =
-    ap (λ qs. record { machine = mid.machine; queues = retired 0 s.machine.store.elements mid.machine.store.elements qs; awaited = still_open mid.awaited (open_flags mid.machine.runs) }) queues
-    ∙ ap (λ f. record { machine = mid.machine; queues = retired 0 s.machine.store.elements mid.machine.store.elements s.queues; awaited = still_open f (open_flags mid.machine.runs) }) awaited
-
-other : (s mid : Schedule) (event : Event) (answer : Answer) → is_turn event ≡ false → mid.queues ≡ s.queues → mid.awaited ≡ s.awaited → FollowsLists s event answer (settled mid s.machine.store.elements)
-other s mid Advance answer h queues awaited = absurd cc
-other s mid Reap answer h queues awaited = absurd cc
-other s mid (Start prog ctx) answer h queues awaited = record { first = tt; lists = same s mid queues awaited }
-other s mid (Step run) answer h queues awaited = record { first = tt; lists = same s mid queues awaited }
-other s mid (Update map key value flags) answer h queues awaited = record { first = tt; lists = same s mid queues awaited }
-other s mid (Delete map key) answer h queues awaited = record { first = tt; lists = same s mid queues awaited }
-other s mid (Read map key) answer h queues awaited = record { first = tt; lists = same s mid queues awaited }
-other s mid (Drop run) answer h queues awaited = record { first = tt; lists = same s mid queues awaited }
 
 -- the three parts of a step with the runtime's choices
 pub schedules : (s new : Schedule) (event : Event) (result : Result Answer Fault) → DoesAs s.machine event result new.machine → IfOk result (λ answer. FollowsLists s event answer new) →

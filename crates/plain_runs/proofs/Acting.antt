@@ -13,7 +13,7 @@ use Rattle.bpf_model.specs.Access.{byte_count, unsigned_width}
 use Rattle.bpf_model.specs.Arithmetic.{loaded_signed}
 use Rattle.bpf_model.specs.Element.{Element}
 use Rattle.bpf_model.specs.Step.{Environment, Outcome, Moves, Exits, after, load_from, sets}
-use Rattle.bpf_model.specs.MachineStep.{element_load, element_store}
+use Rattle.bpf_model.specs.MachineStep.{element_load}
 use Rattle.plain_interpreter.specs.declared.plain_run.PlainRun.{PlainRun}
 use Rattle.plain_interpreter.specs.declared.plain_run.Progress.{Progress}
 use Rattle.plain_interpreter.specs.declared.plain_run.Progress.TheVariants as progress
@@ -28,25 +28,6 @@ use Rattle.bpf_model.specs.Section.{Section}
 use Rattle.bpf_model.specs.MapState as maps
 use Rattle.bpf_model.specs.Machine.{Run}
 use Rattle.plain_store.specs.declared.fault.Fault.{Fault}
-
--- where the base is no element, nothing is accessed there
-no-load : (es : List Element) (width : ℕ) (offset : ℤ) (v : Value) (n : ℕ) → element_in v ≡ None → element_load es width offset v ≡ Some n → ⊥
-no-load es width offset Nothing n h e = absurd cc
-no-load es width offset (Number k) n h e = absurd cc
-no-load es width offset (Pointer (Ctx o)) n h e = absurd cc
-no-load es width offset (Pointer (Frame o)) n h e = absurd cc
-no-load es width offset (Pointer (MapRef m)) n h e = absurd cc
-no-load es width offset (Pointer (Elem k o)) n h e = absurd cc
-
-no-store : (es new : List Element) (width : ℕ) (offset : ℤ) (x v : Value) → element_in v ≡ None → element_store es width offset x v ≡ Some new → ⊥
-no-store es new width offset Nothing v h e = absurd cc
-no-store es new width offset (Pointer r) v h e = absurd cc
-no-store es new width offset (Number k) Nothing h e = absurd cc
-no-store es new width offset (Number k) (Number m) h e = absurd cc
-no-store es new width offset (Number k) (Pointer (Ctx o)) h e = absurd cc
-no-store es new width offset (Number k) (Pointer (Frame o)) h e = absurd cc
-no-store es new width offset (Number k) (Pointer (MapRef m)) h e = absurd cc
-no-store es new width offset (Number k) (Pointer (Elem n o)) h e = absurd cc
 
 abbrev pair : ℕ → ℤ → ℕ × ℤ
 pair n o = (n, o)

@@ -1,64 +1,22 @@
--- The flaw of a graph is determined, a good graph has none, and a forward graph is good.
-use Rattle.std.proofs.Common.{◌≡◌, ℕ, ◌+◌, ◌<◌, refl, sym, ◌∙◌, ap, arith, inl, inr, List, cond}
+-- A good graph has no flaw, and a forward graph is good.
+use Rattle.std.proofs.Common.{◌≡◌, ℕ, ◌+◌, ◌<◌, refl, sym, ◌∙◌, ap, List, cond}
 use Rattle.std.specs.Prelude.{Option, Some, None, ℤ, pos, ◌+ℤ◌}
-use Rattle.std.proofs.lemmas.Bool.{cases_lt}
 use Rattle.std.proofs.lemmas.List.{same_from_push}
 use Rattle.std.proofs.lemmas.Option.{same_Some}
 use Rattle.bpf_model.specs.declared.insn.Insn.{Insn}
 use Rattle.bpf_model.specs.declared.insn.Insn.TheVariants.{Exit}
 use Rattle.bpf_model.specs.Graph.{distance, JumpsTo, EndsWithExit, HasForwardGraph}
-use Rattle.bpf_model.specs.Spelling.{slot_total}
 use Rattle.bpf_model.specs.Step.{insn_at}
 use Rattle.program_graph.specs.declared.refusal.GraphFlaw.{GraphFlaw}
 use Rattle.program_graph.specs.declared.refusal.GraphFlaw.TheVariants.{JumpTarget, BackJump, FallsOff, Unreachable}
-use Rattle.program_graph.specs.GraphFlaws.{missing, landing_flaw, distance_flaw, jump_flaw, JumpsWell, IsFirstBadJump, IsBadEnd, IsFirstUnreachable, HasGraphFlaw, HasGoodGraph}
+use Rattle.program_graph.specs.GraphFlaws.{missing, landing_flaw, distance_flaw, jump_flaw, JumpsWell, IsFirstBadJump, IsBadEnd, HasGraphFlaw, HasGoodGraph}
 use Rattle.program_graph.proofs.Edges.{nat_le_false}
-
-bad_jumps_same : (program : List Insn) (f g : GraphFlaw) (s t : ℕ) → IsFirstBadJump program f s → IsFirstBadJump program g t → (f ≡ g) × (s ≡ t)
-bad_jumps_same program f g s t a b = elim (cases_lt s t) [
-  | inl h ↦ absurd (let e : None ≡ Some f = sym (b.first s a.insn h a.at) ∙ a.bad in cc)
-  | inr h ↦ elim (cases_lt t s) [
-    | inl l ↦ absurd (let e : None ≡ Some g = sym (a.first t b.insn l b.at) ∙ b.bad in cc)
-    | inr l ↦
-        let same : s ≡ t = omega arith in
-        let insn : a.insn ≡ b.insn = same_Some _ _ (sym a.at ∙ ap (insn_at program) same ∙ b.at) in
-        (same_Some _ _ (sym a.bad ∙ ap (λ s. jump_flaw program s a.insn) same ∙ ap (jump_flaw program t) insn ∙ b.bad), same)
-  ]
-]
 
 bad_not_well : (program : List Insn) (f : GraphFlaw) (s : ℕ) → IsFirstBadJump program f s → JumpsWell program → ⊥
 bad_not_well program f s a well = (let e : None ≡ Some f = sym (well s a.insn a.at) ∙ a.bad in cc)
 
 bad_end_not_exit : (program : List Insn) (s : ℕ) → IsBadEnd program s → EndsWithExit program → ⊥
 bad_end_not_exit program s a last = a.other (same_from_push a.front last.0 a.insn Exit (sym a.last ∙ last.1)).1
-
-bad_ends_same : (program : List Insn) (s t : ℕ) → IsBadEnd program s → IsBadEnd program t → s ≡ t
-bad_ends_same program s t a b = a.slot_is ∙ ap slot_total (same_from_push a.front b.front a.insn b.insn (sym a.last ∙ b.last)).0 ∙ sym b.slot_is
-
-unreachable_same : (program : List Insn) (s t : ℕ) → IsFirstUnreachable program s → IsFirstUnreachable program t → s ≡ t
-unreachable_same program s t a b = elim (cases_lt s t) [
-  | inl h ↦ absurd (a.unreached (b.first s a.insn h a.at))
-  | inr h ↦ elim (cases_lt t s) [ inl l ↦ absurd (b.unreached (a.first t b.insn l b.at)) | inr l ↦ omega arith ]
-]
-
--- the flaw of a graph and its slot are determined
-pub one_flaw : (program : List Insn) (f g : GraphFlaw) (s t : ℕ) → HasGraphFlaw program f s → HasGraphFlaw program g t → (f ≡ g) × (s ≡ t)
-one_flaw program JumpTarget JumpTarget s t a b = bad_jumps_same program JumpTarget JumpTarget s t a b
-one_flaw program JumpTarget BackJump s t a b = bad_jumps_same program JumpTarget BackJump s t a b
-one_flaw program JumpTarget FallsOff s t a b = absurd (bad_not_well program JumpTarget s a b.jumps)
-one_flaw program JumpTarget Unreachable s t a b = absurd (bad_not_well program JumpTarget s a b.jumps)
-one_flaw program BackJump JumpTarget s t a b = bad_jumps_same program BackJump JumpTarget s t a b
-one_flaw program BackJump BackJump s t a b = bad_jumps_same program BackJump BackJump s t a b
-one_flaw program BackJump FallsOff s t a b = absurd (bad_not_well program BackJump s a b.jumps)
-one_flaw program BackJump Unreachable s t a b = absurd (bad_not_well program BackJump s a b.jumps)
-one_flaw program FallsOff JumpTarget s t a b = absurd (bad_not_well program JumpTarget t b a.jumps)
-one_flaw program FallsOff BackJump s t a b = absurd (bad_not_well program BackJump t b a.jumps)
-one_flaw program FallsOff FallsOff s t a b = (refl, bad_ends_same program s t a b)
-one_flaw program FallsOff Unreachable s t a b = absurd (bad_end_not_exit program s a b.last)
-one_flaw program Unreachable JumpTarget s t a b = absurd (bad_not_well program JumpTarget t b a.jumps)
-one_flaw program Unreachable BackJump s t a b = absurd (bad_not_well program BackJump t b a.jumps)
-one_flaw program Unreachable FallsOff s t a b = absurd (bad_end_not_exit program t b a.last)
-one_flaw program Unreachable Unreachable s t a b = (refl, unreachable_same program s t a b)
 
 -- a good graph has no flaw
 pub good_has_none : (program : List Insn) (f : GraphFlaw) (s : ℕ) → HasGoodGraph program → HasGraphFlaw program f s → ⊥
