@@ -1,7 +1,6 @@
 //! Operations on one word: negation, bytes in another order, low bits as signed numbers.
 ghost use Rattle.std.specs.Prelude.{◌≡◌, ◌%◌};
-ghost use Rattle.std.specs.Int.{w8, w16, w32, w64};
-ghost use Rattle.bpf_model.specs.Arithmetic.{negated, reordered, moved_signed, loaded_signed, extended, unary as unary_of, immediate as immediate_of};
+ghost use Rattle.bpf_model.specs.Arithmetic.{negated, reordered, moved_signed, loaded_signed, unary as unary_of, immediate as immediate_of};
 
 use crate::operate::low_half;
 use bpf_model::{ByteOrder, SignExtension, SignedWidth, Size, SwapWidth, UnaryOp};

@@ -1,5 +1,5 @@
 //! Lookup, update and delete; lock and unlock.
-ghost use Rattle.std.specs.Prelude.{◌≡◌, ℕ, IfSome, Err, IsOk, slice_get, ◌+◌, ◌^◌, ◌<◌, ◌≤◌, OnOk, OnErr, Some, List, ℤ, true};
+ghost use Rattle.std.specs.Prelude.{◌≡◌, ℕ, IfSome, Err, IsOk, slice_get, ◌+◌, ◌^◌, ◌<◌, OnOk, OnErr, Some, List, ℤ, true};
 ghost use Rattle.bpf_model.specs.Call.{helper_of, kernel_function_of};
 ghost use Rattle.bpf_model.specs.declared.limits.MapShape.{MapShape};
 ghost use Rattle.scalar_domain.specs.declared.scalar.Scalar.{Scalar};

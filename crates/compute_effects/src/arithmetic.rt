@@ -1,5 +1,5 @@
 //! Instructions that compute, and those that load a number or a map from the program.
-ghost use Rattle.std.specs.Prelude.{◌≡◌, ℕ, ◌<◌, ◌≤◌, OnOk, OnErr, IfOk, Ok, ℤ, pos, ◌+ℤ◌, List, length, None};
+ghost use Rattle.std.specs.Prelude.{◌≡◌, ℕ, ◌<◌, ◌≤◌, OnOk, OnErr, IfOk, Ok, ℤ, pos, ◌+ℤ◌, List, length};
 ghost use Rattle.bpf_model.specs.declared.limits.TheConstants.{FRAME_BYTES};
 ghost use Rattle.typed_runs.specs.Kinds as model;
 ghost use Rattle.bpf_model.specs.declared.limits.MapShape.{MapShape};

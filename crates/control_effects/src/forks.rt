@@ -1,13 +1,9 @@
 //! Conditional jumps.
-ghost use Rattle.std.specs.Prelude.{◌≡◌, ℕ, ◌<◌, ◌^◌, List, IfOk, IfErr, IsOk, OnOk, OnErr, Some, Bool, true, false};
+ghost use Rattle.std.specs.Prelude.{◌≡◌, ℕ, ◌<◌, IfOk, IsOk, OnOk, OnErr, Bool, true, false};
 ghost use Rattle.std.specs.Prelude.{IsOkUnless};
-ghost use Rattle.bpf_model.specs.declared.limits.MapShape.{MapShape};
-ghost use Rattle.bpf_model.specs.Step.{State};
-ghost use Rattle.bpf_model.specs.Operand.{operand_value};
 ghost use Rattle.typed_runs.specs.Kinds as model;
 ghost use Rattle.typed_runs.specs.Effects.{IsNumberOperand, HasNumber};
-ghost use Rattle.typed_runs.specs.Describes.{Scene, IsOf, Describes};
-ghost use Rattle.register_kinds.specs.States.{kind_in, kind_of, state_of};
+ghost use Rattle.register_kinds.specs.States.{kind_in, state_of};
 ghost use Rattle.register_kinds.specs.Pairs.{AreBelow};
 ghost use Rattle.compute_effects.specs.Computes.{HasValue};
 ghost use Rattle.kind_tests.specs.Forks.{Forks, ForksOnNull};

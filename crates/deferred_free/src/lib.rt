@@ -5,7 +5,7 @@
 //! `Threaded` keeps them in the slots' own links, `Vectors` beside them.
 #![tactic(auto)]
 
-ghost use Rattle.std.specs.Prelude.{◌≡◌, ◌≤◌, ◌<◌, ℕ, [], length, slice_get, IfOk};
+ghost use Rattle.std.specs.Prelude.{◌≡◌, ◌≤◌, ◌<◌, length, slice_get, IfOk};
 ghost use Rattle.bpf_model.specs.Schedule.{Queues, turned, no_queues};
 ghost use Rattle.element_arena.specs.State.{ArenaState, IsTaken, LinksOf, SameAt};
 ghost use Rattle.deferred_free.specs.Queued.{queued, reaped_lists, retired_lists};

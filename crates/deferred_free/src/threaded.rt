@@ -1,7 +1,7 @@
 //! The three lists, threaded through the links of their slots.
 
-ghost use Rattle.std.specs.Prelude.{◌≡◌, ◌≤◌, ℕ, [], length, Some, None, IfSome, IfOk};
-ghost use Rattle.element_arena.specs.State.{ArenaState, IsTaken};
+ghost use Rattle.std.specs.Prelude.{◌≡◌, Some, None, IfSome};
+ghost use Rattle.element_arena.specs.State.{IsTaken};
 ghost use Rattle.deferred_free.specs.Lines.{AreLinksJoined, joined_lines};
 
 use crate::Deferred;

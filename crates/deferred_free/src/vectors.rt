@@ -1,6 +1,6 @@
 //! The three lists in vectors.
 
-ghost use Rattle.std.specs.Prelude.{◌≡◌, ◌<◌, ◌≤◌, ◌+◌, ◌++◌, ◌∷◌, [], ℕ, IfOk};
+ghost use Rattle.std.specs.Prelude.{◌≡◌, ◌<◌, ◌≤◌, ◌+◌, ◌++◌, [], IfOk};
 ghost use Rattle.std.specs.VecDeque.{deque_len, deque_capacity};
 
 use crate::Deferred;

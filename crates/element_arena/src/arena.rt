@@ -1,5 +1,5 @@
 //! The slots of one map.
-ghost use Rattle.std.specs.Prelude.{◌≡◌, ◌≢◌, ◌+◌, ◌<◌, ◌≤◌, ◌∷◌, [], ℕ, length, slice_get};
+ghost use Rattle.std.specs.Prelude.{◌≡◌, ◌≢◌, ◌+◌, ◌<◌, ◌≤◌, ◌∷◌, [], length, slice_get};
 ghost use Rattle.std.specs.Prelude.{slice_index, None, Some, IfSome, IfNone, IfOk, IfErr};
 ghost use Rattle.std.specs.Prelude.{if◌then◌else◌};
 ghost use Rattle.bpf_model.specs.Access.{byte_count, number_at};

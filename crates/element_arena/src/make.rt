@@ -1,5 +1,5 @@
 //! What a new arena is made of.
-ghost use Rattle.std.specs.Prelude.{◌≡◌, ◌*◌, ◌≤◌, length, IfOk};
+ghost use Rattle.std.specs.Prelude.{◌≡◌, ◌*◌, length, IfOk};
 ghost use Rattle.element_arena.specs.Fresh.{below, fresh_cells};
 
 use crate::cell::{SlotCell, Standing};

@@ -1,8 +1,7 @@
 //! Helpers: what a program calls with a map, a key and a value.
-ghost use Rattle.std.specs.Prelude.{◌≡◌, ℕ, ◌+◌, ◌<◌, length};
+ghost use Rattle.std.specs.Prelude.{◌≡◌, ℕ, ◌<◌, length};
 ghost use Rattle.bpf_model.specs.declared.limits.TheConstants.{FRAME_BYTES, MAX_MAPS};
-ghost use Rattle.view_laws.specs.Views.{deleted, updated};
-ghost use Rattle.world_laws.specs.Calling.{bytes_in, served};
+ghost use Rattle.world_laws.specs.Calling.{served};
 ghost use Rattle.world_laws.specs.Moving.{word_in};
 ghost use Rattle.world_laws.specs.Reaching.{IsInFrame};
 ghost use Rattle.helpers.specs.Calls.{IsCall, called};

@@ -1,7 +1,7 @@
 //! Instructions out of slots.
-ghost use Rattle.std.specs.Prelude.{[], ◌≤◌, OnErr, ◌≢◌, ◌⊎◌, pos, IsNone, ◌≡◌, ◌%◌, ◌/◌, ◌^◌, ◌∷◌, take, IfOk, IfErr, IfSome, true, false, option_to_list, option_copied};
+ghost use Rattle.std.specs.Prelude.{[], ◌≤◌, OnErr, ◌≢◌, ◌⊎◌, pos, IsNone, ◌≡◌, ◌%◌, ◌/◌, ◌^◌, ◌∷◌, IfOk, IfErr, IfSome, true, false};
 ghost use Rattle.std.specs.Int.{w32, cast_signed};
-ghost use Rattle.bpf_model.specs.Spelling.{alu_offset, extension_size, extension_bits, swap_bits, FitsSlot, FitsInsn, slots_of, call_source, source_of, first_slot, slot_count, code_of, opcode_of};
+ghost use Rattle.bpf_model.specs.Spelling.{alu_offset, extension_size, extension_bits, swap_bits, FitsSlot, FitsInsn, slots_of, call_source, source_of, first_slot, code_of, opcode_of};
 ghost use Rattle.bpf_model.specs.declared.insn.Insn.{Insn};
 ghost use Rattle.bpf_model.specs.Opcode.{opcode_byte};
 ghost use Rattle.insn_codec.specs.Begins.{BeginsWith};

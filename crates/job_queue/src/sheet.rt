@@ -1,5 +1,5 @@
 //! The results of all threads, brought into job order.
-ghost use Rattle.std.specs.Prelude.{◌≡◌, ◌≢◌, ◌⊎◌, ℕ, ◌+◌, ◌≤◌, ◌++◌, length, slice_get, Some, None, IfErr, IfOk, OnOk, false, vec_len, vec_capacity, map};
+ghost use Rattle.std.specs.Prelude.{◌≡◌, ◌⊎◌, ℕ, ◌+◌, ◌≤◌, ◌++◌, slice_get, Some, None, IfErr, IfOk, OnOk, false, vec_len, vec_capacity, map};
 ghost use Rattle.std.specs.List.{list_any};
 ghost use Rattle.job_queue.specs.Sheet.{is_short, IsAmong, IsBlank, IsUnfinished, StandsIn, worker_of};
 

@@ -1,5 +1,4 @@
 //! Adding, reading back, a full journal, and cutting.
-ghost use Rattle.std.specs.Prelude.{◌≡◌, true};
 ghost use Rattle.journal.specs.Entries.{IsAnswerTo};
 
 use crate::entries::{KINDS, of_kind};

@@ -1,5 +1,5 @@
 //! Tests of bytes of the frame.
-ghost use Rattle.std.specs.Prelude.{◌≡◌, ℕ, ◌+◌, ◌/◌, ◌≤◌, length, IsTrue, IsFalse, OnOk, IfOk, IfErr, IsOk, true, Ok};
+ghost use Rattle.std.specs.Prelude.{◌≡◌, ◌+◌, ◌/◌, ◌≤◌, length, IsTrue, IsFalse, OnOk, IfOk, IfErr, IsOk, true, Ok};
 ghost use Rattle.bpf_model.specs.declared.limits.TheConstants.{FRAME_BYTES};
 ghost use Rattle.register_kinds.specs.States.{kind_in, is_pointer};
 ghost use Rattle.kind_tests.specs.Tests.{HasCell, HasNoCell, AreAll, AreWritten, IsCellFault, IsBytesFault};

@@ -2,7 +2,7 @@
 ghost use Rattle.std.specs.Prelude.{◌≡◌, ℕ, ◌++◌, ◌∷◌, [], List, IfSome, IfNone, OnOk};
 ghost use Rattle.loader.specs.Loaded.{loaded_content};
 ghost use Rattle.loader.specs.ProgramFile.{FileContent, IsProgramFile, IsFileBeginning};
-ghost use Rattle.loader.specs.Reading.{HasLoaded, content_of};
+ghost use Rattle.loader.specs.Reading.{HasLoaded};
 
 use crate::fault::LineFault;
 use crate::line::{add_map, add_slots, context_of};

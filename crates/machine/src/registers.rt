@@ -1,5 +1,5 @@
 //! Going on after a reply.
-ghost use Rattle.std.specs.Prelude.{◌≡◌, ◌<◌, ◌≤◌};
+ghost use Rattle.std.specs.Prelude.{◌≤◌};
 ghost use Rattle.world_laws.specs.Moving.{with_word, advanced_view};
 ghost use Rattle.machine.specs.RunWords.{HasRoom};
 ghost use Rattle.machine.specs.Moves.{GoesOn};

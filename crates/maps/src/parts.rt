@@ -1,12 +1,12 @@
 //! An arena with an index and the lists that stand in it.
-ghost use Rattle.std.specs.Prelude.{◌≡◌, ◌≢◌, ◌<◌, ◌≤◌, ◌+◌, ◌++◌, ◌∷◌, [], ℕ, List, length, slice_get, None, Some, IfSome, IfNone, IfOk, drop, if◌then◌else◌, option_copied};
+ghost use Rattle.std.specs.Prelude.{◌≡◌, ◌<◌, ◌≤◌, ◌+◌, ◌∷◌, [], length, slice_get, None, Some, IfSome, IfNone, IfOk, if◌then◌else◌, option_copied};
 ghost use Rattle.std.specs.FinMap as map;
 ghost use Rattle.bpf_model.specs.Schedule.{turned, no_queues};
 ghost use Rattle.bpf_model.specs.declared.event.Given.TheVariants as given;
 ghost use Rattle.bpf_model.specs.Access.{byte_count, number_at};
 ghost use Rattle.bpf_model.specs.MachineStep.{with_bytes};
 ghost use Rattle.bpf_model.specs.MapState.{IsShape};
-ghost use Rattle.element_arena.specs.State.{IsTaken, key_at, value_at, is_last_use, taken, given_back, with_slot_value, new_arena};
+ghost use Rattle.element_arena.specs.State.{key_at, value_at, is_last_use, taken, given_back, with_slot_value, new_arena};
 ghost use Rattle.hash_index.specs.Order.{IsAbove, NoneAbove, NoneBetween};
 ghost use Rattle.deferred_free.specs.Queued.{retired_lists, reaped_lists};
 ghost use Rattle.maps.specs.Parted.{IsParted, IsInHand, IsInUse, without_key};

@@ -3,7 +3,7 @@
 //! Each is a function with an empty body, whose contract is the law.
 #![tactic(auto)]
 
-ghost use Rattle.std.specs.Prelude.{◌≡◌, ℕ, ◌+◌, ◌<◌, ◌≤◌, ◌^◌, ℤ, pos, Bool, false, List, [], ◌++◌, ◌∷◌, length, slice_get, Option, Some, None, ◌↔◌, ◌⊎◌, ◌≢◌, Result, Ok, Err};
+ghost use Rattle.std.specs.Prelude.{◌≡◌, ℕ, ◌+◌, ◌<◌, ◌≤◌, ◌^◌, pos, false, List, [], ◌++◌, ◌∷◌, length, slice_get, Option, Some, None, ◌↔◌, ◌⊎◌, ◌≢◌, Result, Ok, Err};
 ghost use Rattle.std.specs.List.{sum_by};
 ghost use Rattle.bpf_model.specs.declared.call.Errno.{Errno};
 ghost use Rattle.bpf_model.specs.declared.call.Errno.TheVariants.{NoMemory};
@@ -13,7 +13,7 @@ ghost use Rattle.bpf_model.specs.declared.event.EventRefusal.{EventRefusal};
 ghost use Rattle.bpf_model.specs.declared.event.ReapedElement.{ReapedElement};
 ghost use Rattle.bpf_model.specs.MapState.{MapState, Store, AreShapes, slots_of_shape, most_births, given_of};
 ghost use Rattle.bpf_model.specs.Helper.{Updates};
-ghost use Rattle.bpf_model.specs.Element.{Element, Linked, Reclaimed, HasLife};
+ghost use Rattle.bpf_model.specs.Element.{Element, Reclaimed, HasLife};
 ghost use Rattle.bpf_model.specs.declared.insn.Insn.{Insn};
 ghost use Rattle.bpf_model.specs.declared.limits.MapShape.{MapShape};
 ghost use Rattle.bpf_model.specs.Machine.{Machine, Loaded, open_sections, start_machine};

@@ -1,5 +1,5 @@
 //! The elements of all maps, and the maps.
-ghost use Rattle.std.specs.Prelude.{ℕ, ◌≡◌, ◌+ℤ◌, [], ◌<◌, IfOk, OnErr, OnOk, Some, Err, length, map};
+ghost use Rattle.std.specs.Prelude.{◌≡◌, [], ◌<◌, IfOk, OnErr, OnOk, Some, Err, length, map};
 ghost use Rattle.std.specs.Option.{option_map};
 ghost use Rattle.bpf_model.specs.Element.{linked_count as linked_count_of, unlinked};
 ghost use Rattle.bpf_model.specs.MapState.{shape_of, new_map};

@@ -1,13 +1,13 @@
 //! Where jumps lead, whether the last instruction is EXIT, and whether each
 //! instruction is reached.
-ghost use Rattle.std.specs.Prelude.{◌≡◌, ◌≢◌, ℕ, ◌+◌, ◌<◌, ◌^◌, ◌≤◌, ◌↔◌, true, length, slice_get, IfOk, IfErr, IfSome, OnOk, IsErr, IsTrue, Some, None, Option, Ok, Err, pos, ◌+ℤ◌, ◌≤ℤ◌, ℤ, MatchOption};
+ghost use Rattle.std.specs.Prelude.{◌≡◌, ℕ, ◌+◌, ◌<◌, ◌^◌, ◌≤◌, ◌↔◌, true, length, slice_get, IfOk, IfErr, IfSome, OnOk, IsTrue, Some, None, Option, Ok, Err, pos, ◌+ℤ◌, ◌≤ℤ◌, ℤ, MatchOption};
 ghost use Rattle.bpf_model.specs.declared.insn.Insn.{Insn};
 ghost use Rattle.bpf_model.specs.declared.limits.TheConstants.{MAX_SLOTS};
 ghost use Rattle.bpf_model.specs.Spelling.{starts_from, slot_total, IsProgram};
 ghost use Rattle.bpf_model.specs.Graph.{falls as falls_of, distance as distance_of, EndsWithExit};
 ghost use Rattle.program_graph.specs.GraphFlaws.{JumpsWell, HasGoodGraph};
 ghost use Rattle.program_graph.specs.Indexes.{HasTargets};
-ghost use Rattle.program_graph.specs.FirstPass.{IsIndexBySlot, landing, landed, target_of as target_spec, Marks, IsInsnReached, AreInsnsReached, IsFirstUnreached};
+ghost use Rattle.program_graph.specs.FirstPass.{IsIndexBySlot, landing, landed, target_of as target_spec, Marks, AreInsnsReached, IsFirstUnreached};
 ghost use Rattle.program_graph.specs.Told.{IsFlawToldOf, IsAcceptedGraph};
 
 use crate::refusal::{GraphFlaw, GraphRefusal};

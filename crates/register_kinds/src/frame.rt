@@ -1,8 +1,8 @@
 //! The bytes of the frame, by what is known of each.
-ghost use Rattle.std.specs.Prelude.{◌≡◌, ℕ, ◌+◌, ◌/◌, ◌^◌, ◌<◌, ◌≤◌, length};
+ghost use Rattle.std.specs.Prelude.{◌≡◌, ℕ, ◌+◌, ◌^◌, ◌<◌, ◌≤◌, length};
 ghost use Rattle.register_kinds.specs.declared.identities.TheConstants.{MAX_PAIRS};
 ghost use Rattle.register_kinds.specs.States.{kind_in, class_in, kind_at, cell_at};
-ghost use Rattle.register_kinds.specs.Pairs.{IsBelow, PairsGrow, IsTable, JoinsKind, JoinsCell};
+ghost use Rattle.register_kinds.specs.Pairs.{IsBelow, PairsGrow, IsTable, JoinsCell};
 
 use crate::identities::Pairs;
 use crate::join::{join_cells, join_kinds};

@@ -1,5 +1,5 @@
 //! What operations of two operands can give, of numbers in two sets.
-ghost use Rattle.std.specs.Prelude.{◌≡◌, ℕ, ◌<◌, ◌≤◌, ◌^◌};
+ghost use Rattle.std.specs.Prelude.{◌≡◌, ℕ, ◌<◌, ◌^◌};
 ghost use Rattle.std.specs.Int.{w32, w64};
 ghost use Rattle.bpf_model.specs.Arithmetic.{operate, alu};
 ghost use Rattle.scalar_domain.specs.Scalar.{Holds};

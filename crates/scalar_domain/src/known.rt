@@ -1,5 +1,5 @@
 //! Known bits of sums.
-ghost use Rattle.std.specs.Prelude.{◌≡◌, ℕ, ◌+◌, ◌-◌, ◌%◌, ◌^◌, ◌<◌, ◌≤◌};
+ghost use Rattle.std.specs.Prelude.{ℕ, ◌+◌, ◌-◌, ◌%◌, ◌^◌, ◌≤◌};
 ghost use Rattle.scalar_domain.specs.Mask.{Within, HasBits, AreKnownBelow};
 
 /// Bits that may be one, and bits that are.

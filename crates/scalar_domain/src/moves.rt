@@ -1,5 +1,5 @@
 //! What operations of one operand can give, of a number in a set.
-ghost use Rattle.std.specs.Prelude.{◌≡◌, ℕ, ◌<◌, ◌^◌};
+ghost use Rattle.std.specs.Prelude.{ℕ, ◌<◌, ◌^◌};
 ghost use Rattle.bpf_model.specs.Arithmetic.{negated, reordered, moved_signed, loaded_signed, unary};
 ghost use Rattle.bpf_model.specs.declared.insn.UnaryOp.TheVariants.{Negate, ByteSwap, MoveSigned};
 ghost use Rattle.scalar_domain.specs.Scalar.{Holds};

@@ -2,7 +2,6 @@
 use Rattle.std.specs.Prelude.{ℕ, nat_le, if◌then◌else◌, List, [], ◌∷◌, length, codes, bytes_eq}
 use Rattle.std.specs.Prelude.{Option, Some, None}
 use Rattle.std.specs.List.{find}
-use Rattle.bpf_model.specs.Value.{◌>>=◌}
 use Rattle.script_lines.specs.Words.{number_in, count_in, hex_bytes_in, key_bytes_in}
 use Rattle.script_lines.specs.Words.{value_bytes_in, context_bytes_in}
 use Rattle.script_lines.specs.declared.command.Command.{Command}

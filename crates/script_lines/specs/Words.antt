@@ -9,7 +9,6 @@ use Rattle.std.specs.Str.Parse.{digits_value}
 use Rattle.arrayvec.specs.ArrayVec.{ArrayVec}
 use Rattle.hex.specs.Hex.{decode_of}
 use Rattle.bpf_model.specs.declared.limits.TheConstants.{KEY_BYTES, VALUE_BYTES, CTX_BYTES}
-use Rattle.bpf_model.specs.Value.{◌>>=◌}
 use Rattle.script_lines.specs.declared.bytes.Bytes.{Bytes}
 use Rattle.script_lines.specs.declared.bytes.Bytes.TheVariants.{Fit, TooLong}
 use Rattle.script_lines.specs.declared.parsing.TheConstants.{MAX_COUNT}

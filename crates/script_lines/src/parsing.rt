@@ -1,6 +1,6 @@
 //! Commands out of lines.
-ghost use Rattle.std.specs.Prelude.{◌≡◌, [], IfSome, IfNone};
-ghost use Rattle.script_lines.specs.Words.{words_of, number_in, count_in};
+ghost use Rattle.std.specs.Prelude.{◌≡◌, []};
+ghost use Rattle.script_lines.specs.Words.{words_of, count_in};
 ghost use Rattle.script_lines.specs.Grammar.{map_command, load_command, put_command, get_command, del_command, start_command, step_command, drop_command, dump_command, alone, arguments_for, command_of};
 ghost use Rattle.script_lines.specs.Lines.{is_silent as says_nothing, has_outer_space as has_space_outside, line_says};
 

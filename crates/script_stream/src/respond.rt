@@ -1,5 +1,5 @@
 //! What answers the lines of a script.
-ghost use Rattle.std.specs.Prelude.{◌≡◌, ℕ, List, ◌++◌, OnOk, OnErr, Err, vec_len, take};
+ghost use Rattle.std.specs.Prelude.{◌≡◌, ℕ, List, ◌++◌, OnOk, OnErr, Err};
 
 /// Why a line is not answered.
 #[derive(Clone, Copy, Debug, PartialEq, Eq)]

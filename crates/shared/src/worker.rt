@@ -1,5 +1,5 @@
 //! Those who make entries.
-ghost use Rattle.std.specs.Prelude.{◌≡◌, ◌+◌, ◌<◌, ◌≤◌, vec_len, sum_by, All, IfOk};
+ghost use Rattle.std.specs.Prelude.{◌≡◌, ◌<◌, vec_len, sum_by, All, IfOk};
 ghost use Rattle.shared.specs.Books.{WorkerView};
 
 use std::alloc::{AllocError, Global};

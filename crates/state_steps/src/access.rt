@@ -1,5 +1,5 @@
 //! Steps of loads and stores.
-ghost use Rattle.std.specs.Prelude.{◌≡◌, ℕ};
+ghost use Rattle.std.specs.Prelude.{ℕ};
 ghost use Rattle.register_kinds.specs.Pairs.{AreBelow};
 ghost use Rattle.state_steps.specs.Stepped.{Stepped};
 

@@ -1,5 +1,5 @@
 //! Steps of instructions that compute, and of those that load a number or a map from the program.
-ghost use Rattle.std.specs.Prelude.{◌≡◌, ℕ, ℤ, List};
+ghost use Rattle.std.specs.Prelude.{ℕ, List};
 ghost use Rattle.bpf_model.specs.declared.limits.MapShape.{MapShape};
 ghost use Rattle.register_kinds.specs.Pairs.{AreBelow};
 ghost use Rattle.state_steps.specs.Stepped.{Stepped};

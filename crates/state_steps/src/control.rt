@@ -1,10 +1,8 @@
 //! Steps of jumps, of calls, and of the exit.
-ghost use Rattle.std.specs.Prelude.{◌≡◌, ℕ, ℤ, List, Ok, Some, true, ◌+◌, ◌^◌, ◌<◌, ◌≤◌, IfOk, IfErr, OnOk, OnErr, IfSome, if◌then◌else◌, pos};
+ghost use Rattle.std.specs.Prelude.{◌≡◌, ℕ, ℤ, List, Ok, Some, true, ◌+◌, ◌^◌, ◌<◌, IfOk, OnOk, OnErr, IfSome, if◌then◌else◌, pos};
 ghost use Rattle.std.specs.Prelude.{IsOkUnless};
 ghost use Rattle.bpf_model.specs.declared.limits.MapShape.{MapShape};
-ghost use Rattle.bpf_model.specs.Step.{State};
 ghost use Rattle.typed_runs.specs.Effects.{IsNumberOperand, HasNumber};
-ghost use Rattle.typed_runs.specs.Describes.{Scene, Describes};
 ghost use Rattle.register_kinds.specs.declared.state.AbsState.{AbsState as Known};
 ghost use Rattle.register_kinds.specs.Pairs.{AreBelow, TakesFew};
 ghost use Rattle.register_kinds.specs.States.{kind_in, state_of};

@@ -1,5 +1,5 @@
 //! The step of any instruction.
-ghost use Rattle.std.specs.Prelude.{◌≡◌, ℕ, ◌+◌, ◌^◌, ◌<◌, ◌≤◌, IfOk, OnOk, OnErr, IfSome, IsSome, Some, option_map};
+ghost use Rattle.std.specs.Prelude.{◌≡◌, ℕ, ◌+◌, ◌^◌, ◌<◌, IfOk, OnOk, OnErr, IfSome, IsSome, Some, option_map};
 ghost use Rattle.bpf_model.specs.Step.{State};
 ghost use Rattle.typed_runs.specs.Describes.{Scene, Describes};
 ghost use Rattle.typed_runs.specs.Verified.{Transfers};

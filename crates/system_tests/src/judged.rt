@@ -1,5 +1,5 @@
 //! What becomes of program bytes: a fault of the decoder, a refusal of the verifier, or an exit.
-ghost use Rattle.std.specs.Prelude.{◌≡◌, IfOk, length};
+ghost use Rattle.std.specs.Prelude.{◌≡◌, IfOk};
 
 use bpf_model::{CTX_BYTES, CtxBytes, MapShape};
 use insn_codec::decode;

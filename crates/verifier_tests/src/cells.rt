@@ -1,6 +1,5 @@
 //! What is known of bytes of the frame: spilled references, of which bytes are written over, that end with their
 //! section, or that are tested for null.
-ghost use Rattle.std.specs.Prelude.{◌≡◌};
 
 use crate::judged::{LOOKUP, MAPS, Told, judge};
 use Told::{Accepted, At};

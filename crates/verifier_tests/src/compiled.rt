@@ -1,6 +1,5 @@
 //! Programs that clang compiled from C: the sources are those of examples/c, and `program.py --rows` there writes
 //! the rows.
-ghost use Rattle.std.specs.Prelude.{◌≡◌};
 
 use bpf_model::{CTX_BYTES, MAX_MAPS, MapShape};
 use insn_codec::decode;

@@ -1,6 +1,5 @@
 //! What is known where paths meet: registers of different kinds, lookups with one identity or two, and how many
 //! states wait at once.
-ghost use Rattle.std.specs.Prelude.{◌≡◌};
 
 use crate::judged::{LOOKUP, MAPS, Told, judge, verified};
 use Told::{Accepted, At};

@@ -1,5 +1,4 @@
 //! What the verifier says of a program in assembly text.
-ghost use Rattle.std.specs.Prelude.{◌≡◌, ◌≤◌, IfOk, length};
 ghost use Rattle.bpf_model.specs.declared.limits.TheConstants.{CTX_BYTES, MAX_MAPS};
 
 use asm::assemble;

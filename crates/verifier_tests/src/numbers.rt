@@ -1,5 +1,4 @@
 //! What is known of numbers: where the context is accessed at offsets that vary.
-ghost use Rattle.std.specs.Prelude.{◌≡◌};
 
 use crate::judged::{MAPS, Told, judge};
 use Told::{Accepted, At};

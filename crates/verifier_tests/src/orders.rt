@@ -1,5 +1,4 @@
 //! Which refusal is told of an instruction of which several tests fail: the one that comes first.
-ghost use Rattle.std.specs.Prelude.{◌≡◌};
 
 use crate::judged::{MAPS, Told, judge};
 use Told::{Accepted, At};

@@ -1,5 +1,4 @@
 //! Small programs with maps, and what the verifier says of each.
-ghost use Rattle.std.specs.Prelude.{◌≡◌};
 
 use crate::judged::{SHAPE, Told, judge};
 use Told::{Accepted, At};

@@ -1,5 +1,5 @@
 -- The jobs that a pool is given, and what their outcomes say of the program.
-use Rattle.std.specs.Prelude.{◌≡◌, ◌⊎◌, ◌<◌, ℕ, List, map, replicate, ⊤}
+use Rattle.std.specs.Prelude.{◌≡◌, ◌⊎◌, ◌<◌, ℕ, List, replicate, ⊤}
 use Rattle.bpf_model.specs.declared.insn.Insn.{Insn}
 use Rattle.bpf_model.specs.Exit.{HasNoMaps}
 use Rattle.exit_laws.specs.Exits.{MayExitAs, ExitsAs}

@@ -1,5 +1,5 @@
 //! One worker serves one job.
-ghost use Rattle.std.specs.Prelude.{◌≡◌, ◌≢◌, ◌≤◌, Ok, Some, IfOk, IfErr};
+ghost use Rattle.std.specs.Prelude.{◌≡◌, ◌≢◌, Ok, Some, IfOk};
 ghost use Rattle.bpf_model.specs.declared.event.Event.TheVariants.{Start, Step};
 ghost use Rattle.bpf_model.specs.declared.event.Answer.TheVariants.{Moved};
 ghost use Rattle.shared.specs.Receipts.{IsMachineAnswer};

@@ -1,7 +1,7 @@
 //! `world_bench`: what a world answers to lists of events, and how long its answers take.
 #![tactic(auto)]
 
-ghost use Rattle.std.specs.Prelude.{◌≡◌, ◌<◌, ◌≤◌};
+ghost use Rattle.std.specs.Prelude.{◌<◌, ◌≤◌};
 ghost use Rattle.shared.specs.declared.worker.TheConstants.{MAX_WORKERS};
 
 mod activity;

@@ -1,5 +1,5 @@
 //! A world in which an activity can go on.
-ghost use Rattle.std.specs.Prelude.{◌≤◌, ◌<◌};
+ghost use Rattle.std.specs.Prelude.{◌<◌};
 
 use crate::activity::{Activity, Deed, Stepped};
 use crate::programs::{

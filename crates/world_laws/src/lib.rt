@@ -6,7 +6,7 @@
 
 pub mod typed;
 
-ghost use Rattle.std.specs.Prelude.{◌≡◌, ℕ, ◌^◌, ◌<◌, ◌≤◌, ℤ, List, [], ◌∷◌, Option, Some, length};
+ghost use Rattle.std.specs.Prelude.{◌≡◌, ℕ, ◌^◌, ◌<◌, ◌≤◌, ℤ, List, [], ◌∷◌, Some, length};
 ghost use Rattle.bpf_model.specs.declared.call.Helper.{Helper};
 ghost use Rattle.bpf_model.specs.declared.call.KernelFunction.{KernelFunction};
 ghost use Rattle.bpf_model.specs.declared.event.Event.{Event};

@@ -1,5 +1,5 @@
 //! What a world keeps.
-ghost use Rattle.std.specs.Prelude.{◌≡◌, Some, None, [], map, replicate, slice_get, option_map, option_copied, IfOk, false};
+ghost use Rattle.std.specs.Prelude.{◌≡◌, None, map, replicate, slice_get, option_map, option_copied, IfOk, false};
 ghost use Rattle.bpf_model.specs.declared.limits.TheConstants.{MAX_RUNS};
 ghost use Rattle.world_parts.specs.Programs.{program_of};
 

@@ -1,5 +1,5 @@
 //! The step of a run.
-ghost use Rattle.std.specs.Prelude.{◌≡◌, ℕ, None, slice_get};
+ghost use Rattle.std.specs.Prelude.{◌≡◌, None, slice_get};
 ghost use Rattle.bpf_model.specs.declared.event.Event.{Event};
 ghost use Rattle.bpf_model.specs.Schedule.{Schedule};
 ghost use Rattle.view_laws.specs.Matching.{Matches};
