@@ -6,20 +6,14 @@ use crate::trial::{Trial, counted_run, counting_bytes};
 use anyhow::{Result, ensure};
 use bpf_model::CtxBytes;
 use lone_runs::run_to_exit;
-use measurements::{Decimal, quotient};
+use measurements::{BATCHES, Decimal, LEAST_MILLIS, quotient};
 use std::alloc::Global;
 use std::rt::Clock;
 use std::time::{Duration, Instant};
 use verifier::verify;
 
-/// How many milliseconds a batch takes at least, so that reading the clock does not count.
-const LEAST_MILLIS: u64 = 50;
-
 /// A batch has at most 2 to this power of calls.
 const MOST_DOUBLINGS: u32 = 24;
-
-/// How many batches are timed. The quickest counts, since whatever else the computer does only adds time.
-const BATCHES: u32 = 10;
 
 /// What is timed.
 #[derive(Clone, Copy, Debug, PartialEq, Eq)]

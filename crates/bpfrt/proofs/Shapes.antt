@@ -3,7 +3,7 @@ use Rattle.std.proofs.Common.{◌≡◌, ◌⊎◌, ℕ, ◌+◌, ◌<◌, ◌�
 use Rattle.std.specs.Prelude.{Option, Some, None, slice_get, option_map}
 use Rattle.std.proofs.lemmas.List.{take_more, map-append}
 use Rattle.std.proofs.lemmas.Option.{slice_get_cases, same_Some, none-some}
-use Rattle.bpf_model.specs.View.{MapView, shapes_of_maps}
+use Rattle.bpf_model.specs.View.{MapView, shapes_of_maps, shape_of_view as shape_of}
 use Rattle.bpf_model.specs.declared.limits.MapShape.{MapShape}
 use Rattle.bpf_model.specs.Plain.{IsPlain}
 use Rattle.bpf_model.specs.PlainMaps.{IsPlainWithMaps}
@@ -15,9 +15,6 @@ use Rattle.bpfrt.specs.declared.report.Verdict.{Verdict}
 use Rattle.bpfrt.specs.declared.program_file.Source.{Source}
 use Rattle.bpfrt.specs.Verdicts.{IsRefusalVerdict}
 use Rattle.bpfrt.specs.Outputs.{IsSourceOf, IsCheckedRefusal}
-
-abbrev pub shape_of : MapView → MapShape
-shape_of m = m.shape
 
 abbrev IsAt : List MapView → ℕ → Type 0
 IsAt maps n =

@@ -1,9 +1,9 @@
 //! Commands while maps and programs are being made.
 ghost use Rattle.std.specs.Prelude.{◌≡◌, ◌++◌, List, IfOk};
 ghost use Rattle.std.specs.List.{flat_map};
-ghost use Rattle.bpf_model.specs.declared.event.Event.{Event as MachineEvent};
+ghost use Rattle.bpf_model.specs.declared.event.Event.{Event};
 ghost use Rattle.script_lines.specs.Answers.{reply_text};
-ghost use Rattle.script_lines.specs.declared.reply.Reply.{Reply as Told};
+ghost use Rattle.script_lines.specs.declared.reply.Reply.{Reply};
 ghost use Rattle.script_world.specs.Lives.{LiveReplies};
 ghost use Rattle.control.specs.Sessions.{SetupReplies, TracksStart, sealed, now_at};
 
@@ -20,7 +20,7 @@ fn answer_first(
     command: Command<'_>,
     out: &mut Vec<u8>,
 ) -> Result<Live, AllocError>
-    ensures { IfOk result (λ live. (replies : List Told)
+    ensures { IfOk result (λ live. (replies : List Reply)
         × TracksStart setup.old × LiveReplies (sealed setup.old) command.entry replies live
         × (out.new.items ≡ out.old.items ++ flat_map reply_text replies)) }
 {
@@ -39,7 +39,7 @@ pub(crate) fn answer_setup(
     command: Command<'_>,
     out: &mut Vec<u8>,
 ) -> Result<Option<Live>, AllocError>
-    ensures { IfOk result (λ live. (events : List MachineEvent) × (replies : List Told)
+    ensures { IfOk result (λ live. (events : List Event) × (replies : List Reply)
         × SetupReplies setup.old command.entry events replies (now_at setup.new live)
         × (out.new.items ≡ out.old.items ++ flat_map reply_text replies)) }
 {

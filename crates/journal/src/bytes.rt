@@ -3,7 +3,7 @@ ghost use Rattle.std.specs.Prelude.{◌≡◌, ◌+◌, ◌≤◌, ◌++◌, len
 ghost use Rattle.journal.specs.Rows.{answer_bytes, event_bytes, string_in};
 
 use arrayvec::ArrayVec;
-use bpf_model::{Answer, Event};
+use bpf_model::{Answer, Event, array_of};
 
 /// The string of so many bytes that begins at `start`.
 pub(crate) fn string_at<const N: usize>(bytes: &[u8], start: usize, len: usize) -> ArrayVec<u8, N>
@@ -11,10 +11,7 @@ pub(crate) fn string_at<const N: usize>(bytes: &[u8], start: usize, len: usize) 
     requires fits { len ≤ N }
     ensures { result ≡ string_in bytes.now start len }
 {
-    match ArrayVec::try_from(&bytes[start..start + len]) {
-        Ok(string) => string,
-        Err(_) => unreachable!(),
-    }
+    array_of(&bytes[start..start + len])
 }
 
 /// Adds a string where there is room for it.

@@ -1,14 +1,14 @@
-//! An entry of each kind, with the greatest numbers and the longest strings among them.
+//! Sample entries, one of each kind at least, with the greatest numbers and the longest strings among them.
 ghost use Rattle.journal.specs.Entries.{IsAnswerTo};
 
 use arrayvec::ArrayVec;
 use bpf_model::{Answer, Errno, Event, EventRefusal, Given, MapId, ProgId, ReapedElement, RunId};
 use journal::Entry;
 
-/// How many kinds there are: those of runs, and then those of maps.
-pub const KINDS: usize = RUN_KINDS + 12;
+/// How many sample entries there are: those of runs, and then those of maps.
+pub const SAMPLES: usize = RUN_SAMPLES + 12;
 
-const RUN_KINDS: usize = 8;
+const RUN_SAMPLES: usize = 8;
 
 /// So many bytes, counted up from the first, as far as there is room.
 fn string<const N: usize>(first: u8, count: u16) -> ArrayVec<u8, N> {
@@ -32,15 +32,15 @@ fn entry(worker: u8, event: Event, answer: Answer) -> Entry
     }
 }
 
-/// What runs ask and are answered: the first kinds.
-fn of_runs(kind: usize) -> Entry
+/// What runs ask and are answered: the first samples.
+fn of_runs(number: usize) -> Entry
     ensures { IsAnswerTo result.event result.answer }
 {
     let run = RunId::new(usize::MAX);
     let prog = ProgId::new(usize::MAX);
     let step = Event::Step { run };
     let leave = Event::Drop { run };
-    match kind {
+    match number {
         0 => entry(
             1,
             Event::Start {
@@ -66,8 +66,8 @@ fn of_runs(kind: usize) -> Entry
     }
 }
 
-/// What is asked of maps: the other kinds.
-fn of_maps(kind: usize) -> Entry
+/// What is asked of maps: the other samples.
+fn of_maps(number: usize) -> Entry
     ensures { IsAnswerTo result.event result.answer }
 {
     let map = MapId::new(usize::MAX);
@@ -96,7 +96,7 @@ fn of_maps(kind: usize) -> Entry
         key: string(9, 0),
         given: Given::Worn,
     };
-    match kind {
+    match number {
         0 => entry(0, update, Answer::Ret(Ok(()))),
         1 => entry(1, update, Answer::Ret(Err(Errno::NoMemory))),
         2 => entry(2, update, refused),
@@ -112,13 +112,13 @@ fn of_maps(kind: usize) -> Entry
     }
 }
 
-/// The entry of a kind.
-pub fn of_kind(kind: usize) -> Entry
+/// The sample entry of this number.
+pub fn sample(number: usize) -> Entry
     ensures { IsAnswerTo result.event result.answer }
 {
-    if kind < RUN_KINDS {
-        of_runs(kind)
+    if number < RUN_SAMPLES {
+        of_runs(number)
     } else {
-        of_maps(kind - RUN_KINDS)
+        of_maps(number - RUN_SAMPLES)
     }
 }

@@ -1,7 +1,7 @@
 //! Adding, reading back, a full journal, and cutting.
 ghost use Rattle.journal.specs.Entries.{IsAnswerTo};
 
-use crate::entries::{KINDS, of_kind};
+use crate::entries::{SAMPLES, sample};
 use journal::{Entry, Journal, JournalFault};
 use std::alloc::{AllocError, Global};
 use std::process::Abort;
@@ -27,36 +27,36 @@ fn add<R: Abort>(rt: &R, journal: &mut Journal, entry: &Entry) -> Result<(), Jou
     Ok(())
 }
 
-/// Adds an entry of each kind, in the order of the kinds.
-fn add_each_kind<R: Abort>(rt: &R, journal: &mut Journal) -> Result<(), JournalFault> {
-    for kind in 0..KINDS {
-        add(rt, journal, &of_kind(kind))?;
+/// Adds each sample entry, in their order.
+fn add_each_sample<R: Abort>(rt: &R, journal: &mut Journal) -> Result<(), JournalFault> {
+    for number in 0..SAMPLES {
+        add(rt, journal, &sample(number))?;
     }
     Ok(())
 }
 
-/// Reads the entries of three rounds of each kind, behind which there is none.
+/// Reads the entries of three rounds of samples, behind which there is none.
 fn read_three_rounds<R: Abort>(rt: &R, alloc: Global, journal: &Journal) -> Result<(), Fail> {
-    for index in 0..3 * KINDS {
+    for index in 0..3 * SAMPLES {
         let Some(entry) = journal.entry(index) else {
             return Err(Fail::new("an entry is missing"));
         };
         let found = shown(alloc, &entry)?;
-        let wanted = shown(alloc, &of_kind(index % KINDS))?;
+        let wanted = shown(alloc, &sample(index % SAMPLES))?;
         assert_eq!(rt; found.as_str(), wanted.as_str());
     }
-    assert!(rt; journal.entry(3 * KINDS).is_none());
+    assert!(rt; journal.entry(3 * SAMPLES).is_none());
     Ok(())
 }
 
 #[test]
-fn every_kind_is_read_back(rt: HostRuntime) -> Result<(), Fail> {
+fn every_sample_is_read_back(rt: HostRuntime) -> Result<(), Fail> {
     let mut journal = Journal::new(rt.alloc());
     assert!(rt; journal.is_empty());
     assert_eq!(rt; journal.limit(), 16_777_216);
     for round in 0..3 {
-        add_each_kind(&rt, &mut journal)?;
-        assert_eq!(rt; journal.len(), (round + 1) * KINDS);
+        add_each_sample(&rt, &mut journal)?;
+        assert_eq!(rt; journal.len(), (round + 1) * SAMPLES);
     }
     read_three_rounds(&rt, rt.alloc(), &journal)
 }
@@ -67,8 +67,8 @@ fn a_full_journal_is_cut(rt: HostRuntime) -> Result<(), Fail> {
     assert_eq!(rt; journal.limit(), 2);
     for _ in 0..2 {
         assert!(rt; journal.is_empty());
-        add(&rt, &mut journal, &of_kind(3))?;
-        add(&rt, &mut journal, &of_kind(8))?;
+        add(&rt, &mut journal, &sample(3))?;
+        add(&rt, &mut journal, &sample(8))?;
         assert_eq!(rt; journal.reserve_one(), Err(JournalFault::Full));
         assert_eq!(rt; journal.len(), 2);
         journal.cut();

@@ -69,7 +69,7 @@ same_added old r s line h k =
 
 code_is_no_map : (old new : RegistryView) (line : List ℕ) → line ≡ code_line → AddsMap old line new → ⊥
 code_is_no_map old new line e h =
-    let w : (code_line ∷ []) ≡ codes "map" ∷ h.name ∷ h.is.key ∷ h.is.value ∷ h.is.entries ∷ h.is.spare ∷ h.is.reuse ∷ [] = sym (ap file_words e) ∙ h.is.words in
+    let w : (code_line ∷ []) ≡ codes "map" ∷ h.name ∷ h.is.numbers = sym (ap file_words e) ∙ h.is.words in
     none_is _ _ (tails code_line (codes "map") [] _ w)
 
 -- more lines of maps

@@ -1,4 +1,4 @@
-//! Going on after a reply.
+//! A run goes on by one instruction, and a register may be set.
 ghost use Rattle.std.specs.Prelude.{◌≤◌};
 ghost use Rattle.world_laws.specs.Moving.{with_word, advanced_view};
 ghost use Rattle.machine.specs.RunWords.{HasRoom};

@@ -8,3 +8,4 @@ pub mod Leaving
 pub mod Names
 pub mod Picking
 pub mod Counting
+pub mod NewMaps

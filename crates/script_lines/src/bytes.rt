@@ -5,6 +5,7 @@ ghost use Rattle.hex.specs.Hex.{is_hex_digit as is_digit};
 ghost use Rattle.script_lines.specs.Words.{hex_bytes_in, sized_bytes_in};
 
 use arrayvec::ArrayVec;
+use bpf_model::array_of;
 
 /// The bytes that a word writes, where they are no more than a `B` takes: a key, a value or a context.
 #[derive(Debug, Drop)]
@@ -70,9 +71,5 @@ pub(crate) fn bytes_of<const N: usize>(word: &[u8]) -> Option<Bytes<ArrayVec<u8,
     let mut room = [0; N];
     let out = &mut room[..count];
     decode(word, out);
-    let mut bytes = ArrayVec::new();
-    match bytes.try_extend_from_slice(out) {
-        Ok(()) => Some(Bytes::Fit(bytes)),
-        Err(_) => unreachable!(),
-    }
+    Some(Bytes::Fit(array_of(out)))
 }

@@ -1,9 +1,9 @@
 -- Setups that grow by a map or a program.
-use Rattle.std.proofs.Common.{◌≡◌, ◌∙◌, ℕ, inl, inr, List, [], ◌∷◌, ◌++◌, map, Some, refl, sym, ap, subst}
+use Rattle.std.proofs.Common.{◌≡◌, ℕ, inl, inr, List, [], ◌∷◌, ◌++◌, map, Some, refl, sym, subst}
 use Rattle.std.specs.Prelude.{slice_get}
 use Rattle.std.proofs.lemmas.List.{map-append}
 use Rattle.bpf_model.specs.declared.limits.MapShape.{MapShape}
-use Rattle.bpf_model.specs.View.{MapView, new_map_view, shapes_of_maps}
+use Rattle.bpf_model.specs.View.{MapView, shapes_of_maps}
 use Rattle.world_parts.specs.declared.loaded.Loaded.{Loaded}
 use Rattle.world_invariant.specs.Binding.{IsBoundTo}
 use Rattle.world.specs.Bound.{IsBound, AreProgramsBound}
@@ -24,13 +24,6 @@ found-more xs ys (n ∷ numbers) (a ∷ asked) e =
 -- One more number is found after the others.
 pub found-next : {A : Type 0} (xs : List A) (numbers : List ℕ) (asked : List A) (n : ℕ) (a : A) → map (slice_get xs) numbers ≡ map Some asked → slice_get xs n ≡ Some a → map (slice_get xs) (numbers ++ n ∷ []) ≡ map Some (asked ++ a ∷ [])
 found-next xs numbers asked n a e here = map-next (slice_get xs) Some numbers asked n a e here
-
--- a new map is new, and leaves the others new
-pub new-more : (maps : List MapView) (shape : MapShape) → maps ≡ map new_map_view (shapes_of_maps maps) → maps ++ new_map_view shape ∷ [] ≡ map new_map_view (shapes_of_maps (maps ++ new_map_view shape ∷ []))
-new-more maps shape e =
-    ap (λ m. m ++ new_map_view shape ∷ []) e
-    ∙ (sym (map-append new_map_view (shapes_of_maps maps) (shape ∷ []))
-    ∙ ap (map new_map_view) (sym (map-append (λ v. v.shape) maps (new_map_view shape ∷ []))))
 
 -- programs stay bound where a map is added
 pub bound-still : (maps : List MapView) (v : MapView) (loaded : List Loaded) → AreProgramsBound (shapes_of_maps maps) loaded → AreProgramsBound (shapes_of_maps (maps ++ v ∷ [])) loaded

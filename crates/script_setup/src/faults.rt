@@ -3,7 +3,7 @@ ghost use Rattle.std.specs.Prelude.{◌≡◌, ◌≢◌, IfOk};
 ghost use Rattle.maps.specs.Registry.{map_fault_number};
 ghost use Rattle.insn_codec.specs.Faults.{decode_fault_number, decode_fault_slot};
 ghost use Rattle.verifier.specs.Numbers.{refusal_number, refusal_slot};
-ghost use Rattle.script_lines.specs.declared.reply.Reply.TheVariants as Told;
+ghost use Rattle.script_lines.specs.declared.reply.Reply.TheVariants as replies;
 ghost use Rattle.script_requests.specs.Replying.{refused as refused_by};
 
 use insn_codec::DecodeFault;
@@ -28,7 +28,7 @@ pub(crate) fn uncreated(fault: MapFault) -> Result<Reply<'static>, AllocError>
 pub(crate) fn undecoded(fault: DecodeFault) -> Result<Reply<'static>, AllocError>
     ensures known { IfOk result (λ _. fault ≢ DecodeFault.Memory) }
     ensures reply { IfOk result (λ reply.
-        reply ≡ Told.Refused (decode_fault_number fault) (decode_fault_slot fault)) }
+        reply ≡ replies.Refused (decode_fault_number fault) (decode_fault_slot fault)) }
 {
     match fault {
         DecodeFault::Memory => Err(AllocError),
@@ -43,7 +43,7 @@ pub(crate) fn undecoded(fault: DecodeFault) -> Result<Reply<'static>, AllocError
 pub(crate) fn unverified(refusal: Refusal) -> Result<Reply<'static>, AllocError>
     ensures known { IfOk result (λ _. refusal ≢ Refusal.Memory) }
     ensures reply { IfOk result (λ reply.
-        reply ≡ Told.Refused (refusal_number refusal) (refusal_slot refusal)) }
+        reply ≡ replies.Refused (refusal_number refusal) (refusal_slot refusal)) }
 {
     match refusal {
         Refusal::Memory => Err(AllocError),

@@ -1,7 +1,7 @@
 //! The shape of a map by the numbers of a line.
 ghost use Rattle.std.specs.Prelude.{◌≡◌, ℕ, List, true};
 ghost use Rattle.maps.specs.Registry.{is_shape};
-ghost use Rattle.script_lines.specs.declared.reply.Reply.{Reply as AnyReply};
+ghost use Rattle.script_lines.specs.declared.reply.Reply.{Reply};
 ghost use Rattle.script_setup.specs.Loading.{MapReplies, shape_of_numbers};
 ghost use Rattle.script_setup.specs.Setups.{SetupView};
 
@@ -22,7 +22,7 @@ pub fn shape_of(
     ensures refused { is_shape result
         ≡ is_shape (shape_of_numbers key_len value_len entries spare reuse_limit) }
     // A map of the shape is replied as one of these numbers would be.
-    ensures replied { (s : SetupView) (name : List ℕ) (reply : AnyReply) (new : SetupView) →
+    ensures replied { (s : SetupView) (name : List ℕ) (reply : Reply) (new : SetupView) →
         MapReplies s name result reply new →
         MapReplies s name (shape_of_numbers key_len value_len entries spare reuse_limit) reply new }
 {

@@ -1,7 +1,8 @@
 -- How bytes fall into lines.
 use Rattle.std.proofs.Common.{◌≡◌, ◌≢◌, ℕ, ◌==◌, false, List, [], ◌∷◌, ◌++◌, refl, sym, ap, ◌∙◌, append_assoc, arith}
 use Rattle.std.proofs.lemmas.Grind.{common_steps}
-use Rattle.script_stream.specs.Lines.{before_first, lines_of, ended, HasNoFeed, HaveNoFeed}
+use Rattle.std.specs.List.{onto_first}
+use Rattle.script_stream.specs.Lines.{lines_of, ended, HasNoFeed, HaveNoFeed}
 
 not_feed : (b : ℕ) → b ≢ 10 → (b == 10) ≡ false
 not_feed b h = grind (arith, common_steps)
@@ -30,15 +31,15 @@ pub record HasFirst (front : List ℕ) (lines : List (List ℕ)) : Type 0 where
   pub others : List (List ℕ)
   pub is : lines ≡ (front ++ more) ∷ others
 
-before_first-first : (b : ℕ) (lines : List (List ℕ)) → HasFirst (b ∷ []) (before_first b lines)
-before_first-first b [] = record { more = []; others = []; is = refl }
-before_first-first b (line ∷ lines) = record { more = line; others = lines; is = refl }
+onto_first-first : (b : ℕ) (lines : List (List ℕ)) → HasFirst (b ∷ []) (onto_first b lines)
+onto_first-first b [] = record { more = []; others = []; is = refl }
+onto_first-first b (line ∷ lines) = record { more = line; others = lines; is = refl }
 
 pub lines_of-open : (b : ℕ) (line after : List ℕ) → HasNoFeed (b ∷ line) → HasFirst (b ∷ line) (lines_of ((b ∷ line) ++ after))
-lines_of-open b [] after h = rw (not_feed b h.0) (before_first-first b (lines_of after))
+lines_of-open b [] after h = rw (not_feed b h.0) (onto_first-first b (lines_of after))
 lines_of-open b (c ∷ line) after h =
     let later = lines_of-open c line after h.1 in
-    rw (not_feed b h.0) (record { more = later.more; others = later.others; is = ap (before_first b) later.is })
+    rw (not_feed b h.0) (record { more = later.more; others = later.others; is = ap (onto_first b) later.is })
 
 pub HasNoFeed-append : (a b : List ℕ) → HasNoFeed a → HasNoFeed b → HasNoFeed (a ++ b)
 HasNoFeed-append [] b h k = k

@@ -1,16 +1,11 @@
 -- The lines of a stream of bytes.
 use Rattle.std.specs.Prelude.{ℕ, ◌==◌, ◌≢◌, List, [], ◌∷◌, ◌++◌, if◌then◌else◌}
-use Rattle.std.specs.List.{AllByRecursion}
-
--- a byte before the first line
-abbrev pub before_first : ℕ → List (List ℕ) → List (List ℕ)
-before_first b [] = (b ∷ []) ∷ []
-before_first b (line ∷ lines) = (b ∷ line) ∷ lines
+use Rattle.std.specs.List.{AllByRecursion, onto_first}
 
 -- A line feed (10) ends a line; the last line may lack it.
 abbrev pub lines_of : List ℕ → List (List ℕ)
 lines_of [] = []
-lines_of (b ∷ bytes) = if b == 10 then [] ∷ lines_of bytes else before_first b (lines_of bytes)
+lines_of (b ∷ bytes) = if b == 10 then [] ∷ lines_of bytes else onto_first b (lines_of bytes)
 
 -- lines with their line feeds
 abbrev pub ended : List (List ℕ) → List ℕ

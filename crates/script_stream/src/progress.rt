@@ -208,7 +208,8 @@ impl Progress {
             → IsProgressAt A.answers first read written self.old responder.old
             → OnOk result ((more : List ℕ)
             × Appends (W.contents writer.old) (W.contents writer.new) more
-            × IsProgressAt A.answers first (read ++ chunk.now) (written ++ more) self.new responder.new) }
+            × IsProgressAt A.answers first (read ++ chunk.now) (written ++ more)
+            self.new responder.new) }
         ensures err { (first : A) (read written : List ℕ)
             → IsProgressAt A.answers first read written self.old responder.old
             → IfErr result (λ e. (more : List ℕ)

@@ -11,7 +11,7 @@ use crate::fault::{CutFault, SharedFault};
 use crate::receipt::{ExitNote, Receipt};
 use crate::state::{State, begin};
 use crate::tally::Origin;
-use crate::worker::{Worker, Workers, hands, merged};
+use crate::worker::{Worker, Workers, merged, new_workers};
 use bpf_model::{Answer, CtxBytes, Event, MAX_PROGRAMS, ProgId, RunId};
 use journal::Journal;
 use std::alloc::{AllocError, Global};
@@ -81,7 +81,7 @@ impl<L: Ledger> Shared<L> {
         let base = world.copy(alloc)?;
         let (cell, pass, counters) = begin(alloc, Origin::of(&world))?;
         let (book, all) = blank.open::<L>();
-        let workers = hands(alloc, all, workers)?;
+        let workers = new_workers(alloc, all, workers)?;
         let books = Books::new(base, world, Journal::new(alloc), book);
         let shared = Shared {
             state: Mutex::new(State::new(books, cell, pass)),

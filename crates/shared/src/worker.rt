@@ -73,7 +73,7 @@ pub struct Workers<L: Ledger> {
 }
 
 /// So many workers, each with one part of the ledger.
-pub(crate) fn hands<L: Ledger>(
+pub(crate) fn new_workers<L: Ledger>(
     alloc: Global,
     mut all: Share<L>,
     workers: u8,

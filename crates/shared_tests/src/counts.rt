@@ -56,15 +56,15 @@ fn all_exit<L: Ledger + Send + Sync, R: Threads + Wait + Abort + Sync>(
     let mut world = world_of(rt, alloc)?;
     world.apply(&update(0, 5));
     assert!(rt; is_quiet(&world));
-    let (shared, mut hands, _) = Shared::<L>::new(alloc, world, workers, blank)?;
+    let (shared, mut all_workers, _) = Shared::<L>::new(alloc, world, workers, blank)?;
     let jobs = jobs_of(alloc, programs, count)?;
-    let report = run_jobs(rt, alloc, &jobs, workers as usize, &shared, &mut hands);
+    let report = run_jobs(rt, alloc, &jobs, workers as usize, &shared, &mut all_workers);
     let report = report.expect(rt, "a report");
     assert_eq!(rt; report.jobs.len(), count);
     assert_eq!(rt; wrong(&report, values), 0);
-    assert_eq!(rt; made_by(&hands), entries as u64);
-    assert!(rt; hands.list.len() == workers as usize);
-    assert_eq!(rt; shared.finish(hands).journal.len(), entries);
+    assert_eq!(rt; made_by(&all_workers), entries as u64);
+    assert!(rt; all_workers.list.len() == workers as usize);
+    assert_eq!(rt; shared.finish(all_workers).journal.len(), entries);
     Ok(())
 }
 

@@ -36,9 +36,9 @@ fn fault_of<L: Ledger + Send + Sync, R: Threads + Wait + Sync>(
     jobs: &[Job],
     workers: usize,
     shared: &Shared<L>,
-    hands: &mut Workers<L>,
+    all_workers: &mut Workers<L>,
 ) -> Option<u8> {
-    match run_jobs(rt, alloc, jobs, workers, shared, hands) {
+    match run_jobs(rt, alloc, jobs, workers, shared, all_workers) {
         Ok(_) => None,
         Err(fault) => Some(fault.code()),
     }
@@ -60,28 +60,28 @@ fn refused<L: Ledger + Send + Sync, R: Threads + Wait + Abort + Sync>(
 {
     let world = world_of(rt, alloc)?;
     assert!(rt; is_quiet(&world));
-    let (shared, mut hands, _) = Shared::<L>::new(alloc, world, 2, blank)?;
+    let (shared, mut all_workers, _) = Shared::<L>::new(alloc, world, 2, blank)?;
     let mut jobs = Vec::new(alloc);
     jobs.push(job(9, &[]))?;
     jobs.push(job(0, &[7]))?;
     jobs.push(job(3, &[7]))?;
-    let report = run_jobs(rt, alloc, &jobs, 2, &shared, &mut hands).expect(rt, "a report");
+    let report = run_jobs(rt, alloc, &jobs, 2, &shared, &mut all_workers).expect(rt, "a report");
     two_stop(rt, &report);
     for workers in [0, 3, 9] {
         assert_eq!(rt;
-            fault_of(rt, alloc, &jobs, workers, &shared, &mut hands),
+            fault_of(rt, alloc, &jobs, workers, &shared, &mut all_workers),
             Some(90)
         );
     }
     let many = jobs_of(alloc, &[0], 65_537)?;
     assert_eq!(rt;
-        fault_of(rt, alloc, &many, 1, &shared, &mut hands),
+        fault_of(rt, alloc, &many, 1, &shared, &mut all_workers),
         Some(91)
     );
-    let none = run_jobs(rt, alloc, &[], 1, &shared, &mut hands).expect(rt, "a report");
+    let none = run_jobs(rt, alloc, &[], 1, &shared, &mut all_workers).expect(rt, "a report");
     assert_eq!(rt; none.jobs.len(), 0);
     // two starts that are refused, and a job of two steps
-    assert!(rt; hands.list.len() == 2);
-    assert_eq!(rt; shared.finish(hands).journal.len(), 6);
+    assert!(rt; all_workers.list.len() == 2);
+    assert_eq!(rt; shared.finish(all_workers).journal.len(), 6);
     Ok(())
 }

@@ -52,7 +52,7 @@ quiet_step i shapes ctx_len top a b f e q sound below keeps serves = subst (λ (
     transfer = record {
       sound = sound;
       branches = λ x. absurd (q.no_branch x);
-      region = λ r c m x d. absurd (none-some r (sym q.no_base ∙ x));
+      reaches = λ r c m x d. absurd (none-some r (sym q.no_base ∙ x));
       compares = λ r c m x d. absurd (q.no_test r x);
       keeps = keeps;
       keeps_taken = λ ready. tt;
@@ -141,7 +141,7 @@ access_step i shapes ctx_len top a b f region base e q is sound below keeps serv
     transfer = record {
       sound = λ forward. sound;
       branches = λ x. absurd (q.no_branch x);
-      region = λ r c m x d. subst (λ (n : ℕ). IsInRegion c region (m.regs n)) (same_Some base r (sym q.base_is ∙ x)) (in_region region (kind_at a.regs base) c d.naming (m.regs base) is (d.regs base));
+      reaches = λ r c m x d. subst (λ (n : ℕ). IsInRegion c region (m.regs n)) (same_Some base r (sym q.base_is ∙ x)) (in_region region (kind_at a.regs base) c d.naming (m.regs base) is (d.regs base));
       compares = λ r c m x d. absurd (q.no_test r x);
       keeps = keeps;
       keeps_taken = λ ready. tt;

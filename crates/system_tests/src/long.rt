@@ -9,7 +9,7 @@ const JUMP_OVER_ONE_IF_ZERO: [u8; 8] = [0x15, 0, 1, 0, 0, 0, 0, 0];
 
 const EXIT: [u8; 8] = [0x95, 0, 0, 0, 0, 0, 0, 0];
 
-/// So many times two slots, then two more.
+/// A move of zero, so many times these two slots, and the last one.
 fn repeated(
     alloc: Global,
     times: usize,

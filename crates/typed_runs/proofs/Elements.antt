@@ -87,7 +87,7 @@ element-loads shapes ctx_len s opened run map shape scalar width offset v w at p
     let long = value-long shapes ctx_len s opened run map x.n shape w at x.held in
     let p = placed x.offset x.there in
     let place : region_offset (length x.held.element.value) width (x.offset +ℤ offset) ≡ Some p.0 = ap (λ l. region_offset l width (x.offset +ℤ offset)) long ∙ p.1 in
-    let r = number_read (slice_get x.held.element.value) p.0 width (value-bytes x.held.element.value p.0 width (w.bytes x.n x.held.element x.held.born) (offset-inside _ _ _ _ place)) in (
+    let r = number_read (slice_get x.held.element.value) p.0 width (value-bytes x.held.element.value p.0 width (w.bytes x.n x.held.element x.held.born) (offset_some _ _ _ _ place).1) in (
       r.0,
       ap (element_load s.elements width offset) x.is
           ∙ (ap (λ o. o >>= loaded_from width (x.offset +ℤ offset)) (accessible-held (scene_of s.elements run) map x.n x.held)

@@ -278,7 +278,7 @@ module _ (program : List Insn) (targets : List (Option ℕ)) (all : HasTargets p
     notes_here : Notes program shapes ctx_len (spliced plan) k done.insn region
     notes_here = record {
       covered = λ a e. subst (plans.IsCovered program shapes ctx_len (spliced plan) k) (known_here a e) covered_here;
-      reaches = λ a b c m e f d. spread.transfer.region b c m f (subst (λ a. Describes a c m) (sym (known_here a e)) d);
+      reaches = λ a b c m e f d. spread.transfer.reaches b c m f (subst (λ a. Describes a c m) (sym (known_here a e)) d);
       compares = λ a q c m e f d. spread.transfer.compares q c m f (subst (λ a. Describes a c m) (sym (known_here a e)) d);
     }
 

@@ -16,11 +16,11 @@ use std::sync::Wait;
 use std::sync::ledger::Ledger;
 use std::thread::Threads;
 
-/// Serves all jobs from a shared world by so many workers at once, each in a thread of its own: one outcome a
-/// job, in job order. The workers come back whatever the answer, in their order.
+/// Serves all jobs from a shared world by the first of its workers, each in a thread of its own: one outcome a job,
+/// in job order. The workers come back whatever the answer, in their order.
 ///
 /// Errors: the first of these that holds.
-/// - `BadWorkers`: `workers` is not 1 to `MAX_WORKERS`, or more than there are hands. Nothing was done.
+/// - `BadWorkers`: `threads` is not 1 to `MAX_WORKERS`, or more than there are workers. Nothing was done.
 /// - `TooManyJobs`: there are more than `MAX_JOBS`. Nothing was done.
 /// - `Memory`: there is none for the results.
 /// - `Lost`: the result of a job is missing or double, or is of no job.
@@ -31,26 +31,26 @@ pub fn run_jobs<L: Ledger + Send + Sync, R: Threads + Wait + Sync>(
     rt: &R,
     alloc: Global,
     jobs: &[Job],
-    workers: usize,
+    threads: usize,
     shared: &Shared<L>,
-    hands: &mut Workers<L>,
+    workers: &mut Workers<L>,
 ) -> Result<Report<Trail>, PoolFault>
-    ensures bad_workers { IsBadCount workers (vec_len hands.old.list) →
+    ensures bad_workers { IsBadCount threads (vec_len workers.old.list) →
         result ≡ Err faults.BadWorkers }
-    ensures too_many_jobs { (IsBadCount workers (vec_len hands.old.list) → ⊥)
+    ensures too_many_jobs { (IsBadCount threads (vec_len workers.old.list) → ⊥)
         → MAX_JOBS < length jobs.now → result ≡ Err faults.TooManyJobs }
-    ensures served { (IsBadCount workers (vec_len hands.old.list) → ⊥)
+    ensures served { (IsBadCount threads (vec_len workers.old.list) → ⊥)
         → length jobs.now ≤ MAX_JOBS
         → IsOk result ⊎ (result ≡ Err faults.Memory) ⊎ (result ≡ Err faults.Lost) }
-    ensures refused { IsBadCount workers (vec_len hands.old.list) ⊎ (MAX_JOBS < length jobs.now)
-        → hands.new ≡ hands.old }
-    ensures hands { AllZip IsLater hands.old.list.items hands.new.list.items }
+    ensures refused { IsBadCount threads (vec_len workers.old.list) ⊎ (MAX_JOBS < length jobs.now)
+        → workers.new ≡ workers.old }
+    ensures later { AllZip IsLater workers.old.list.items workers.new.list.items }
     ensures count { IfOk result (λ report. vec_len report.jobs ≡ length jobs.now) }
     ensures each { IfOk result (λ report. AreServed (IsServedJob shared.now) jobs.now
-        hands.old.list.items hands.new.list.items report.jobs.items) }
+        workers.old.list.items workers.new.list.items report.jobs.items) }
 {
     let pooled = Pooled { shared };
-    match serve_all(rt, alloc, &pooled, jobs, workers, &mut hands.list) {
+    match serve_all(rt, alloc, &pooled, jobs, threads, &mut workers.list) {
         Ok(jobs) => Ok(Report { jobs }),
         Err(fault) => Err(fault),
     }

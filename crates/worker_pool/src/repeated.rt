@@ -49,14 +49,14 @@ fn run_shared<L: Ledger + Send + Sync, R: Threads + Wait + Sync>(
         IfOk result (λ r. All (IsReportOf verified.program ctx_len) r.report.jobs.items) }
 {
     let shared = Shared::<L>::of_program(alloc, registry, verified, workers, blank);
-    let Ok((shared, mut hands)) = shared else {
+    let Ok((shared, mut all_workers)) = shared else {
         return Err(PoolFault::Memory);
     };
-    let report = match run_jobs(rt, alloc, jobs, workers as usize, &shared, &mut hands) {
+    let report = match run_jobs(rt, alloc, jobs, workers as usize, &shared, &mut all_workers) {
         Ok(report) => report,
         Err(fault) => return Err(fault),
     };
-    let finished = shared.finish(hands);
+    let finished = shared.finish(all_workers);
     Ok(PoolRun {
         report,
         entries: finished.journal.len(),

@@ -39,9 +39,12 @@ const fn shape(key_len: usize, value_len: usize, entries: usize) -> MapShape {
     }
 }
 
-/// The shape of a map of 1,024 elements with keys and values of 8 bytes.
+/// How many elements a small map has; the names of the activities tell it.
+pub const SMALL_ENTRIES: usize = 1024;
+
+/// The shape of a map of `SMALL_ENTRIES` elements with keys and values of 8 bytes.
 pub const fn small() -> MapShape {
-    shape(8, 8, 1024)
+    shape(8, 8, SMALL_ENTRIES)
 }
 
 /// The shape of a map of `MAX_ENTRIES` elements with keys of `KEY_BYTES` and values of `VALUE_BYTES`.

@@ -2,7 +2,8 @@
 ghost use Rattle.std.specs.Prelude.{◌≡◌, ◌<◌, ◌≤◌};
 ghost use Rattle.shared.specs.declared.worker.TheConstants.{MAX_WORKERS};
 
-use crate::activity::{Activity, Deed, Stepped, small};
+use crate::activity::{Activity, Deed, SMALL_ENTRIES, Stepped, small};
+use crate::measure::LONG_TASK_BATCHES;
 use crate::sequence::Sequence;
 use crate::setup::{key_of, make_world};
 use anyhow::{Result, bail};
@@ -37,9 +38,6 @@ pub struct Crew {
 
 /// How many calls each worker makes in a batch.
 const CALLS: u32 = 50_000;
-
-/// How many batches are timed. The quickest counts.
-const BATCHES: u32 = 5;
 
 const fn make_crew(name: &'static str, task: Task, workers: u8) -> Crew {
     Crew {
@@ -112,19 +110,19 @@ impl Progress {
 fn read(sequence: &mut Sequence) -> Event {
     Event::Read {
         map: MapId::new(0),
-        key: key_of(sequence.below(1024), 8),
+        key: key_of(sequence.below(SMALL_ENTRIES as u64), 8),
     }
 }
 
 /// What a worker goes by: its task, the keys that it reads, and its run.
 #[derive(Drop)]
-struct Hand {
+struct Caller {
     task: Task,
     sequence: Sequence,
     progress: Progress,
 }
 
-impl Hand {
+impl Caller {
     /// The event that comes next.
     fn next(&mut self) -> Event {
         match self.task {
@@ -136,10 +134,10 @@ impl Hand {
 }
 
 /// One call of a worker.
-fn call<L: Ledger, R: Wait>(rt: &R, shared: &Shared<L>, worker: &mut Worker<L>, hand: &mut Hand) {
-    let event = hand.next();
+fn call<L: Ledger, R: Wait>(rt: &R, shared: &Shared<L>, worker: &mut Worker<L>, caller: &mut Caller) {
+    let event = caller.next();
     match shared.act(rt, worker, event) {
-        Ok(answer) => hand.progress = hand.progress.after(&answer),
+        Ok(answer) => caller.progress = caller.progress.after(&answer),
         Err(_) => (),
     }
 }
@@ -167,15 +165,15 @@ fn work<L: Ledger, R: Wait>(
     task: Task,
     calls: u32,
 ) {
-    let mut hand = Hand {
+    let mut caller = Caller {
         task,
         sequence: Sequence::new(),
         progress: Progress::None,
     };
     for _ in 0..calls {
-        call(rt, shared, worker, &mut hand);
+        call(rt, shared, worker, &mut caller);
     }
-    drop_run(rt, shared, worker, hand.progress);
+    drop_run(rt, shared, worker, caller.progress);
 }
 
 /// The time of so many calls by each worker.
@@ -213,10 +211,10 @@ pub fn time_per_call<L: Ledger + Send + Sync, R: Threads + Wait + Clock + Sync>(
     if !is_quiet(&world) {
         bail!("a run was left");
     }
-    let (shared, mut hands, _) = Shared::<L>::new(alloc, world, workers, blank)?;
+    let (shared, mut all_workers, _) = Shared::<L>::new(alloc, world, workers, blank)?;
     let mut best = Duration::MAX;
-    for _ in 0..BATCHES {
-        let time = time_of(rt, &shared, &mut hands.list, task, CALLS)?;
+    for _ in 0..LONG_TASK_BATCHES {
+        let time = time_of(rt, &shared, &mut all_workers.list, task, CALLS)?;
         best = best.min(time);
     }
     let calls = u128::from(CALLS) * u128::from(workers);

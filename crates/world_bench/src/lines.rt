@@ -1,8 +1,11 @@
 //! Lines of a script.
 
+use crate::activity::SMALL_ENTRIES;
+use crate::measure::LONG_TASK_BATCHES;
 use crate::programs::arithmetic;
 use anyhow::{Result, bail};
 use asm::assemble;
+use bpf_model::MAX_REUSE;
 use control::run_script;
 use insn_codec::encode;
 use measurements::{Decimal, quotient};
@@ -15,9 +18,6 @@ use std::time::{Duration, Instant};
 
 /// How many times a script stores a value, reads it, and makes a step of a run.
 const ROUNDS: u32 = 4000;
-
-/// How many times the script is timed. The quickest counts.
-const BATCHES: u32 = 5;
 
 /// Takes bytes, and keeps their number alone.
 #[derive(Drop)]
@@ -48,7 +48,11 @@ fn program_digits(alloc: Global) -> Result<String> {
 
 /// A script of one map, one program and one run, and of three lines a round.
 fn script(alloc: Global) -> Result<String> {
-    let mut text = String::from_str(alloc, "map m 8 8 1024 1024 4294967295\nload 0 ")?;
+    let mut text = String::new(alloc);
+    write!(
+        text,
+        "map m 8 8 {SMALL_ENTRIES} {SMALL_ENTRIES} {MAX_REUSE}\nload 0 "
+    )?;
     text.push_str(&program_digits(alloc)?)?;
     text.push_str("\nstart 0 -\n")?;
     add_rounds(&mut text)?;
@@ -57,7 +61,7 @@ fn script(alloc: Global) -> Result<String> {
 
 fn add_rounds(text: &mut String) -> Result<()> {
     for round in 0..ROUNDS {
-        let key = round % 1024;
+        let key = round % SMALL_ENTRIES as u32;
         write!(
             text,
             "put m {key:016x} 0100000000000000 0\nget m {key:016x}\nstep 0\n"
@@ -81,7 +85,7 @@ fn time_of_script(clock: &impl Clock, alloc: Global, text: &str) -> Result<Durat
 pub fn time_per_line(clock: &impl Clock, alloc: Global) -> Result<Decimal> {
     let text = script(alloc)?;
     let mut best = Duration::MAX;
-    for _ in 0..BATCHES {
+    for _ in 0..LONG_TASK_BATCHES {
         best = best.min(time_of_script(clock, alloc, &text)?);
     }
     Ok(quotient(best.as_nanos(), 3 * u128::from(ROUNDS)))

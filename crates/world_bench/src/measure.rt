@@ -4,18 +4,15 @@ ghost use Rattle.std.specs.Prelude.{◌<◌};
 use crate::setup::Setup;
 use crate::tally::Tally;
 use anyhow::{Result, ensure};
-use measurements::{Decimal, quotient};
+use measurements::{BATCHES, Decimal, LEAST_MILLIS, quotient};
 use std::rt::Clock;
 use std::time::{Duration, Instant};
 
-/// How many milliseconds a batch takes at least, so that reading the clock does not count.
-const LEAST_MILLIS: u64 = 50;
+/// How many batches are timed of what takes long: scripts, crews of workers, and pools of jobs.
+pub const LONG_TASK_BATCHES: u32 = 5;
 
 /// A batch has at most so many rounds.
 const MOST_ROUNDS: u32 = 1_000_000;
-
-/// How many batches are timed. The quickest counts, since whatever else the computer does only adds time.
-const BATCHES: u32 = 10;
 
 /// How many rounds take long enough to be timed, and their time.
 fn time_batch(clock: &impl Clock, setup: &mut Setup, tally: &mut Tally) -> Result<(u32, Duration)> {

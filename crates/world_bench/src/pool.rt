@@ -3,6 +3,7 @@ ghost use Rattle.std.specs.Prelude.{◌≡◌, ◌<◌, ◌≤◌};
 ghost use Rattle.shared.specs.declared.worker.TheConstants.{MAX_WORKERS};
 
 use crate::activity::{Activity, Deed, Stepped, small};
+use crate::measure::LONG_TASK_BATCHES;
 use crate::setup::make_world;
 use anyhow::{Result, bail};
 use bpf_model::{CtxBytes, ProgId};
@@ -18,9 +19,6 @@ use worker_pool::{Job, run_jobs};
 
 /// How many jobs a batch has. Each is a lookup: a start, 12 steps, its exit value and its drop.
 const JOBS: u32 = 2000;
-
-/// How many batches are timed. The quickest counts.
-const BATCHES: u32 = 5;
 
 fn make_jobs(alloc: Global) -> Result<Vec<Job>, AllocError> {
     let mut jobs = Vec::new(alloc);
@@ -38,12 +36,12 @@ fn time_of_jobs<L: Ledger + Send + Sync, R: Threads + Wait + Clock + Sync>(
     rt: &R,
     alloc: Global,
     shared: &Shared<L>,
-    hands: &mut Workers<L>,
+    all_workers: &mut Workers<L>,
     jobs: &[Job],
     workers: u8,
 ) -> Result<Duration> {
     let start = Instant::now(rt)?;
-    match run_jobs(rt, alloc, jobs, workers.into(), shared, hands) {
+    match run_jobs(rt, alloc, jobs, workers.into(), shared, all_workers) {
         Ok(_report) => Ok(start.elapsed(rt)?),
         Err(fault) => bail!("{fault}"),
     }
@@ -70,10 +68,10 @@ pub fn time_per_job<L: Ledger + Send + Sync, R: Threads + Wait + Clock + Sync>(
         bail!("a run was left");
     }
     let jobs = make_jobs(alloc)?;
-    let (shared, mut hands, _) = Shared::<L>::new(alloc, world, workers, blank)?;
+    let (shared, mut all_workers, _) = Shared::<L>::new(alloc, world, workers, blank)?;
     let mut best = Duration::MAX;
-    for _ in 0..BATCHES {
-        let time = time_of_jobs(rt, alloc, &shared, &mut hands, &jobs, workers)?;
+    for _ in 0..LONG_TASK_BATCHES {
+        let time = time_of_jobs(rt, alloc, &shared, &mut all_workers, &jobs, workers)?;
         best = best.min(time);
     }
     Ok(quotient(best.as_nanos(), u128::from(JOBS)))

@@ -20,8 +20,8 @@ pub fn arithmetic(alloc: Global) -> Result<String, AllocError> {
     Ok(text)
 }
 
-/// How many instructions the arithmetic has, all but its exit.
-pub const ARITHMETIC_MOVES: usize = 4002;
+/// How many instructions the arithmetic has, all but its exit: two moves, and the ten operations over and over.
+pub const ARITHMETIC_MOVES: usize = 2 + 10 * TIMES;
 
 /// Looks up the key of 8 zeros in a section, and loads 8 bytes of its value.
 pub const LOOKUP_8: &str = "mov64 r6, 0\nstdw [r10-8], 0\ncallbtf 1\nmov64 r2, r10\nadd64 r2, -8\n\

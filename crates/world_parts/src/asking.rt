@@ -1,12 +1,12 @@
 //! What is asked of a world outside of events.
 ghost use Rattle.std.specs.Prelude.{◌≡◌, ℕ, Decides, slice_get, option_map, option_copied, IfSome, IfNone, count_by, is_some};
-ghost use Rattle.world_parts.specs.Keeping.{is_run_inside as has_open_lock};
+ghost use Rattle.world_parts.specs.Keeping.{is_run_inside as is_inside};
 ghost use Rattle.bpf_model.specs.View.{HasExited};
 ghost use Rattle.world_parts.specs.Asking.{stat_of, IsFound, HasNone};
 
 use crate::loaded::Loaded;
 use crate::parts::Parts;
-use crate::places::{program_at, run_at};
+use crate::by_number::{program_at, run_at};
 use bpf_model::{CtxBytes, Insn, KeyBytes, MapId, ProgId, RunId, Stat, ValueBytes};
 use machine::Run;
 use verifier::Verified;
@@ -49,7 +49,7 @@ fn occupied(runs: &[Option<Run>]) -> usize
 
 /// Whether the run of a run slot is inside a section.
 fn is_run_inside(run: &Option<Run>) -> bool
-    ensures { result ≡ has_open_lock run.now }
+    ensures { result ≡ is_inside run.now }
 {
     match run {
         None => false,
@@ -59,7 +59,7 @@ fn is_run_inside(run: &Option<Run>) -> bool
 
 /// How many runs are inside a section.
 fn inside(runs: &[Option<Run>]) -> usize
-    ensures { result ≡ count_by has_open_lock runs.now }
+    ensures { result ≡ count_by is_inside runs.now }
 {
     let mut count = 0;
     for run in runs {

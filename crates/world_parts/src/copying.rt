@@ -6,12 +6,12 @@ use machine::Run;
 use std::alloc::{AllocError, Global};
 
 /// The same run, if there is one.
-fn copy_of_slot(slot: &Option<Run>) -> Option<Run>
-    ensures { result ≡ slot.now }
+fn copy_of_run(run: &Option<Run>) -> Option<Run>
+    ensures { result ≡ run.now }
 {
-    match slot {
+    match run {
         None => None,
-        Some(run) => Some(run.copy()),
+        Some(found) => Some(found.copy()),
     }
 }
 
@@ -24,7 +24,7 @@ pub(crate) fn copy_of_runs(
 {
     let mut copy = Vec::with_capacity(alloc, runs.len())?;
     for slot in runs {
-        copy.push(copy_of_slot(slot))?;
+        copy.push(copy_of_run(slot))?;
     }
     Ok(copy)
 }

@@ -5,12 +5,12 @@
 #![tactic(auto)]
 
 mod asking;
+mod by_number;
 mod brief;
 mod control;
 mod copying;
 mod loaded;
 mod parts;
-mod places;
 mod reclaim;
 mod starting;
 mod step;

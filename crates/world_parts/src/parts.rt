@@ -5,7 +5,7 @@ ghost use Rattle.world_parts.specs.Programs.{program_of};
 
 use crate::copying::{copy_of_programs, copy_of_runs};
 use crate::loaded::Loaded;
-use crate::places::program_at;
+use crate::by_number::program_at;
 use bpf_model::{MAX_RUNS, ProgId};
 use grace_period::Grace;
 use machine::Run;

@@ -5,7 +5,7 @@ ghost use Rattle.world_parts.specs.Keeping.{view_of};
 ghost use Rattle.bpf_model.specs.Machine.{lowest_free as lowest_free_of};
 
 use crate::parts::Parts;
-use crate::places::program_at;
+use crate::by_number::program_at;
 use bpf_model::{Answer, CtxBytes, EventRefusal, ProgId, RunId};
 use machine::Run;
 

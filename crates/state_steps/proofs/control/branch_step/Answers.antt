@@ -20,7 +20,7 @@ returns c = λ offset shapes ctx_len top below.
               let p = forward offset refl in
               subst (λ (z : ℤ). Transfers (JumpIf c.args.condition c.args.size c.args.dst c.args.src.now z) shapes ctx_len a b (Some (state_of c.in_ok-taken.taken.value))) (sym p.1) (t.sound shapes ctx_len p.0);
           branches = λ x. refl;
-          region = λ r scene m x d. absurd (none-some r x);
+          reaches = λ r scene m x d. absurd (none-some r x);
           compares = t.compares offset;
           keeps = λ ready. narrow_keeps i c.args.dst c.args.src.now (pos FRAME_BYTES) a b (λ r x. x) (λ k x. x) ready.registers ready.frame (t.narrowed (ready.registers c.args.dst (inl refl)));
           keeps_taken = λ ready. narrow_keeps i c.args.dst c.args.src.now (pos FRAME_BYTES) a (state_of c.in_ok-taken.taken.value) (λ r x. x) (λ k x. x) ready.registers ready.frame (t.taken_narrowed (ready.registers c.args.dst (inl refl)));

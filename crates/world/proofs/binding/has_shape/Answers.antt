@@ -3,11 +3,8 @@ use Rattle.std.specs.Prelude.{◌==◌, ◌&&◌}
 use Rattle.std.proofs.lemmas.Bool.{and_from, eqb-true, eq-eqb, and_parts}
 use Rattle.std.proofs.lemmas.Option.{none-some, same_Some, slice_get-map}
 use Rattle.bpf_model.specs.declared.limits.MapShape.{MapShape}
-use Rattle.bpf_model.specs.View.{MapView}
+use Rattle.bpf_model.specs.View.{shape_of_view as shape_of}
 use Rattle.world.proofs.binding.has_shape.Goals as goal
-
-abbrev shape_of : MapView → MapShape
-shape_of v = v.shape
 
 abbrev is_same : MapShape → MapShape → Bool
 is_same a b =

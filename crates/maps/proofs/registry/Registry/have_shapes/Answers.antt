@@ -1,14 +1,10 @@
 use Rattle.std.proofs.Common.{◌≡◌, ◌∙◌, List, ap, sym, subst}
 use Rattle.std.specs.Prelude.{slice_get, Some}
-use Rattle.bpf_model.specs.declared.limits.MapShape.{MapShape}
 use Rattle.bpf_model.specs.MapState.{IsShape}
-use Rattle.bpf_model.specs.View.{MapView}
+use Rattle.bpf_model.specs.View.{MapView, shape_of_view as shape_of}
 use Rattle.model_laws.proofs.Counting.{map-back}
 use Rattle.maps.specs.Registry.{RegistryView}
 use Rattle.maps.proofs.registry.Registry.have_shapes.Goals as goal
-
-abbrev shape_of : MapView → MapShape
-shape_of v = v.shape
 
 pub returns : goal.returns
 returns c = λ k shape at.

@@ -4,7 +4,8 @@ use Rattle.bpf_model.specs.View.{new_map_view, shapes_of_maps}
 use Rattle.maps.specs.Registry.{creation_fault}
 use Rattle.world.specs.Bound.{AreProgramsBound}
 use Rattle.script_setup.proofs.Creating.{create-refused}
-use Rattle.script_setup.proofs.Growing.{new-more, bound-still}
+use Rattle.maps.proofs.NewMaps.{new-more}
+use Rattle.script_setup.proofs.Growing.{bound-still}
 use Rattle.script_setup.proofs.Naming.{bad-name}
 use Rattle.script_setup.proofs.setup.Setup.create.Goals as goal
 
