@@ -119,10 +119,10 @@ module _ (r : ℕ) (v : RunView) (w : WorldView) (f : IsFlagged w r v) where
     passes : (imm : ℤ) (o : Option KernelFunction) (access : Access) → kernel_function_of imm ≡ o → option_map section_access o ≡ Some access → Served (insns.Call Kernel imm) access
     passes imm None access e g = λ can reply. absurd (none-some access g)
     passes imm (Some ReadLock) access e g = subst (Served (insns.Call Kernel imm)) (same_Some Enter access g) (λ can reply.
-        ap (λ (o : Option KernelFunction). calling.entered o r v w) e ∙ passed (locked_view v) true (lt-ltb 0 (v.depth + 1) (omega arith))
+        ap (λ (o : Option KernelFunction). calling.kernel_called o r v w) e ∙ passed (locked_view v) true (lt-ltb 0 (v.depth + 1) (omega arith))
         ∙ ap (λ (o : Option KernelFunction). (let y : Answer × WorldView = (answers.Moved, world_with w.maps (grace_after Enter r (grace_of w)) r (entered_view o v) w) in y)) (sym e))
     passes imm (Some ReadUnlock) access e g = subst (Served (insns.Call Kernel imm)) (same_Some Leave access g) (λ can reply.
-        ap (λ (o : Option KernelFunction). calling.entered o r v w) e ∙ passed (unlocked_view v) false (le-ltb 0 (v.depth - 1) (omega (arith, f.depth)))
+        ap (λ (o : Option KernelFunction). calling.kernel_called o r v w) e ∙ passed (unlocked_view v) false (le-ltb 0 (v.depth - 1) (omega (arith, f.depth)))
         ∙ ap (λ (o : Option KernelFunction). (let y : Answer × WorldView = (answers.Moved, world_with w.maps (grace_after Leave r (grace_of w)) r (entered_view o v) w) in y)) (sym e))
 
     loads : (i : Insn) (make : ℕ → ℕ) (dst width address : ℕ) (offset : ℤ) → ReachesElement w.maps width offset (location_of address) → word ≡ element_number w.maps width offset (location_of address)

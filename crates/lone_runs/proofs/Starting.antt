@@ -1,7 +1,6 @@
 -- The start of a run by itself, in a world of its one program.
 use Rattle.std.proofs.Common.{◌≡◌, ℕ, zero, suc, ◌+◌, List, [], ◌∷◌, length, Option, Some, None, true, refl, sym, ap, subst, ◌∙◌, arith}
 use Rattle.std.specs.Prelude.{slice_get, ◌==◌, if◌then◌else◌}
-use Rattle.std.specs.List.{AllByRecursion}
 use Rattle.std.proofs.lemmas.Bool.{eq-eqb}
 use Rattle.std.proofs.lemmas.Option.{none-some, same_Some}
 use Rattle.bpf_model.specs.declared.event.Answer.{Answer}
@@ -10,18 +9,12 @@ use Rattle.bpf_model.specs.declared.event.Event.{Event}
 use Rattle.bpf_model.specs.declared.event.Event.TheVariants as events
 use Rattle.bpf_model.specs.declared.event.EventRefusal.{EventRefusal}
 use Rattle.bpf_model.specs.declared.event.EventRefusal.TheVariants.{BadContext}
-use Rattle.bpf_model.specs.declared.insn.Insn.{Insn}
-use Rattle.bpf_model.specs.declared.insn.Insn.TheVariants.{Alu, Unary, LoadNumber, LoadMap, Jump, JumpLong, JumpIf, Call, Exit, Load, LoadSigned, Store}
-use Rattle.bpf_model.specs.declared.insn.Operand.{Operand}
-use Rattle.bpf_model.specs.declared.insn.Operand.TheVariants.{Register, Immediate}
-use Rattle.bpf_model.specs.declared.insn.UnaryOp.{UnaryOp}
-use Rattle.bpf_model.specs.declared.insn.UnaryOp.TheVariants.{Negate, ByteSwap, MoveSigned}
 use Rattle.bpf_model.specs.Event.{Answers, AreBytes, Starts, refusal}
 use Rattle.bpf_model.specs.Exit.{ExitsFrom}
 use Rattle.bpf_model.specs.Machine.{Loaded, Machine, fresh_run, run_at}
 use Rattle.bpf_model.specs.Refines.{TracksSchedule}
 use Rattle.bpf_model.specs.Schedule.{DoesScheduled, Schedule, start_schedule}
-use Rattle.bpf_model.specs.Spelling.{FitsInsn, FitsOperand, FitsUnary}
+use Rattle.bpf_model.specs.Spelling.{FitsInsn}
 use Rattle.bpf_model.specs.View.{WorldView, start_view}
 use Rattle.model_laws.proofs.Holding.{holds-entry}
 use Rattle.model_laws.specs.Alone.{IsOwn}
@@ -30,41 +23,13 @@ use Rattle.typed_runs.specs.Verified.{IsVerified}
 use Rattle.typed_runs.specs.Well.{AreVerified, IsVerifiedFor}
 use Rattle.view_laws.specs.Reactions.{fresh_view, start_by, with_run}
 use Rattle.world_laws.specs.Reacting.{full_reaction}
-use Rattle.world_laws.specs.Typed.{AreTypedPrograms, IsInsn, IsOperand, IsTypedProgram, IsReadyWorld, IsUnary}
+use Rattle.world_laws.specs.Typed.{AreTypedPrograms, IsTypedProgram, IsReadyWorld}
+use Rattle.world_laws.proofs.Codes.{all-get}
 use Rattle.world_laws.proofs.Worlds.{ready_stays, simulates, starts_ready}
 use Rattle.verifier.specs.Checked.{Checked}
 use Rattle.verifier.specs.Verdict.{IsJustified}
 use Rattle.lone_runs.specs.Lone.{StandsAlone, loaded_alone}
 use Rattle.model_laws.proofs.Alone.{own-closed}
-
--- the instructions are values of their type
-operand-real : (src : Operand) → FitsOperand src → IsOperand src
-operand-real (Register r) h = omega (arith, h)
-operand-real (Immediate imm) h = h
-
-unary-real : (op : UnaryOp) → FitsUnary op → IsUnary op
-unary-real (Negate size) h = tt
-unary-real (ByteSwap order width) h = tt
-unary-real (MoveSigned extension src) h = omega (arith, h)
-
-insn-real : (i : Insn) → FitsInsn i → IsInsn i
-insn-real (Alu op size dst src) h = (omega (arith, h.0), operand-real src h.1)
-insn-real (Unary op dst) h = (omega (arith, h.0), unary-real op h.1)
-insn-real (LoadNumber dst n) h = omega (arith, h.0)
-insn-real (LoadMap dst map) h = omega (arith, h.0)
-insn-real (Jump offset) h = tt
-insn-real (JumpLong imm) h = tt
-insn-real (JumpIf condition size dst src offset) h = (omega (arith, h.0), operand-real src h.1)
-insn-real (Call kind imm) h = tt
-insn-real Exit h = tt
-insn-real (Load width dst src offset) h = (omega (arith, h.0), omega (arith, h.1))
-insn-real (LoadSigned width dst src offset) h = (omega (arith, h.0), omega (arith, h.1))
-insn-real (Store width dst offset src) h = (omega (arith, h.0), operand-real src h.1)
-
-code-real : (code : List Insn) → AllByRecursion FitsInsn code → (k : ℕ) (i : Insn) → slice_get code k ≡ Some i → IsInsn i
-code-real [] h k i e = absurd (none-some i e)
-code-real (j ∷ is) h zero i e = subst IsInsn (same_Some j i e) (insn-real j h.0)
-code-real (j ∷ is) h (suc k) i e = code-real is h.1 k i e
 
 one : (P : Loaded → Type 0) (program : Loaded) → P program → (p : ℕ) (q : Loaded) → slice_get (program ∷ []) p ≡ Some q → P q
 one P program h zero q e = subst P (same_Some program q e) h
@@ -91,7 +56,7 @@ module _ (v : Checked) (justified : IsJustified v) (verified : IsVerified v.prog
   })
 
   are-programs : AreTypedPrograms programs
-  are-programs = one IsTypedProgram (loaded_alone v) (record { code = code-real v.program justified.program.fits; maps = omega arith })
+  are-programs = one IsTypedProgram (loaded_alone v) (record { code = all-get FitsInsn v.program justified.program.fits; maps = omega arith })
 
   ready : IsReadyWorld world
   ready = starts_ready [] programs (omega arith) are-verified are-programs

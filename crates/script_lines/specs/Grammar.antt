@@ -5,6 +5,7 @@ use Rattle.std.specs.List.{find}
 use Rattle.script_lines.specs.Words.{number_in, count_in, hex_bytes_in, key_bytes_in}
 use Rattle.script_lines.specs.Words.{value_bytes_in, context_bytes_in}
 use Rattle.script_lines.specs.declared.command.Command.{Command}
+use Rattle.bpf_model.specs.Value.{◌>>=◌}
 use Rattle.script_lines.specs.declared.command.Command.TheVariants as commands
 use Rattle.bpf_model.specs.declared.limits.TheConstants.{MAX_MAPS}
 use Rattle.script_lines.specs.declared.verb.Verb.{Verb}

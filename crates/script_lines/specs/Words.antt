@@ -7,6 +7,7 @@ use Rattle.std.specs.Result.{result_ok}
 use Rattle.std.specs.Str.{all_ascii_digits}
 use Rattle.std.specs.Str.Parse.{digits_value}
 use Rattle.arrayvec.specs.ArrayVec.{ArrayVec}
+use Rattle.bpf_model.specs.Value.{◌>>=◌}
 use Rattle.hex.specs.Hex.{decode_of}
 use Rattle.bpf_model.specs.declared.limits.TheConstants.{KEY_BYTES, VALUE_BYTES, CTX_BYTES}
 use Rattle.script_lines.specs.declared.bytes.Bytes.{Bytes}

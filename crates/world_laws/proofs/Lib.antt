@@ -13,6 +13,7 @@ pub mod Listed
 pub mod Stepping
 pub mod Keeping
 pub mod Worlds
+pub mod Codes
 pub mod Appending
 pub mod Examples
 pub mod Flags

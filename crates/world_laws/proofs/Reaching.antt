@@ -47,7 +47,7 @@ use Rattle.view_laws.proofs.Worlds.{here}
 use Rattle.world_laws.specs.Locating.{location_of}
 use Rattle.world_laws.specs.Moving.{word_in}
 use Rattle.world_laws.specs.Reaching.{IsInside, HasElement, Reaches, IsWritable, IsInFrame, IsCalled, HasArguments, IsAllowed, HasInsn}
-use Rattle.world_laws.specs.Typed.{IsRegister, IsSound, IsRunning}
+use Rattle.world_laws.specs.Typed.{IsSound, IsRunning}
 use Rattle.world_laws.proofs.Places.{context-location, frame-location}
 use Rattle.world_laws.proofs.Shown.{Shown}
 use Rattle.world_laws.proofs.Ready.{bases, refines, near, register-word}
@@ -153,7 +153,7 @@ module _ (w : WorldView) (s : Schedule) (m : Matches w s) (sound : IsSound w s) 
   pub load_reaches : (width : Width) (dst src : ℕ) (offset : ℤ) → Known w s m sound r run v k (Load width dst src offset) → Reaches w v (byte_count width) offset (location_of (word_in v src))
   load_reaches width dst src offset here = by (stepping (Load width dst src offset) here).3
     where
-      l : IsRegister src
+      l : src ≤ 10
       l = (insn-real w s m sound r run v k (Load width dst src offset) here).1
 
       by : {answer : Answer} {new : map_state.Store} {later : Run} → InsnStep (Load width dst src offset) s.machine.store (open_sections s.machine.runs) run answer new later → Reaches w v (byte_count width) offset (location_of (word_in v src))
@@ -165,7 +165,7 @@ module _ (w : WorldView) (s : Schedule) (m : Matches w s) (sound : IsSound w s) 
   pub load_signed_reaches : (width : SignedWidth) (dst src : ℕ) (offset : ℤ) → Known w s m sound r run v k (LoadSigned width dst src offset) → Reaches w v (byte_count (unsigned_width width)) offset (location_of (word_in v src))
   load_signed_reaches width dst src offset here = by (stepping (LoadSigned width dst src offset) here).3
     where
-      l : IsRegister src
+      l : src ≤ 10
       l = (insn-real w s m sound r run v k (LoadSigned width dst src offset) here).1
 
       by : {answer : Answer} {new : map_state.Store} {later : Run} → InsnStep (LoadSigned width dst src offset) s.machine.store (open_sections s.machine.runs) run answer new later → Reaches w v (byte_count (unsigned_width width)) offset (location_of (word_in v src))
@@ -177,7 +177,7 @@ module _ (w : WorldView) (s : Schedule) (m : Matches w s) (sound : IsSound w s) 
   pub store_reaches : (width : Width) (dst : ℕ) (offset : ℤ) (src : Operand) → Known w s m sound r run v k (Store width dst offset src) → Reaches w v (byte_count width) offset (location_of (word_in v dst)) × IsWritable (location_of (word_in v dst))
   store_reaches width dst offset src here = by (stepping (Store width dst offset src) here).3
     where
-      l : IsRegister dst
+      l : dst ≤ 10
       l = (insn-real w s m sound r run v k (Store width dst offset src) here).0
 
       word-is : (base : Value) → run.state.regs dst ≡ base → WordIs (bases w s m sound r run v k) base (word_in v dst)

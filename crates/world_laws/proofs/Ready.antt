@@ -1,8 +1,9 @@
 -- A run before its step: what its words stand for, and what the instruction at hand needs.
-use Rattle.std.proofs.Common.{◌≡◌, ℕ, ◌+◌, ◌^◌, ◌<◌, ◌≢◌, refl, ap, subst, ◌∙◌, arith, Some, List, length}
+use Rattle.std.proofs.Common.{◌≡◌, ℕ, ◌+◌, ◌^◌, ◌<◌, ◌≢◌, refl, ap, subst, ◌∙◌, arith, Some, List, length, ◌≤◌}
 use Rattle.std.specs.Prelude.{slice_get, slice_index, ℤ, pos, negsuc, FitsSigned}
 use Rattle.std.specs.Int.{w32}
 use Rattle.std.proofs.lemmas.Int.{ints}
+use Rattle.bpf_model.specs.Spelling.{FitsOperand}
 use Rattle.bpf_model.specs.declared.limits.TheConstants.{FRAME_BYTES, REGISTERS, MAX_MAPS}
 use Rattle.bpf_model.specs.declared.insn.Insn.{Insn}
 use Rattle.bpf_model.specs.declared.insn.Operand.{Operand}
@@ -33,7 +34,7 @@ use Rattle.view_laws.specs.Matching.{Matches, Simulates, half}
 use Rattle.view_laws.specs.Reactions.{with_run}
 use Rattle.view_laws.proofs.Running.{move_simulates}
 use Rattle.world_laws.specs.Moving.{word_in, operand_word, moved_view}
-use Rattle.world_laws.specs.Typed.{IsRegister, IsOperand, IsListed, IsSound, IsRunning}
+use Rattle.world_laws.specs.Typed.{IsListed, IsSound, IsRunning}
 use Rattle.world_laws.proofs.Words.{IsBased}
 use Rattle.world_laws.proofs.Sure.{IsSure, typed, run-near}
 use Rattle.world_laws.proofs.Shown.{shown, held-kept}
@@ -80,10 +81,10 @@ module _ (w : WorldView) (s : Schedule) (m : Matches w s) (sound : IsSound w s) 
   pub near : AreNear run.state.regs run.state.frame
   near = run-near s.machine r run sound.well k.there k.going
 
-  pub register-word : (q : ℕ) → IsRegister q → WordIs bases (run.state.regs q) (word_in v q)
-  register-word q l = refines.registers q l
+  pub register-word : (q : ℕ) → q ≤ 10 → WordIs bases (run.state.regs q) (word_in v q)
+  register-word q l = refines.registers q (omega (arith, l))
 
-  pub operand-stands : (src : Operand) → IsOperand src → WordIs bases (operand_value src run.state.regs) (operand_word v src)
+  pub operand-stands : (src : Operand) → FitsOperand src → WordIs bases (operand_value src run.state.regs) (operand_word v src)
   operand-stands (Register q) l = register-word q l
   operand-stands (Immediate imm) l = refl
 

@@ -1,55 +1,22 @@
 -- Programs as values of their types, and what a world keeps beside tracking a schedule.
-use Rattle.std.specs.Prelude.{◌≡◌, ℕ, ◌<◌, ◌≤◌, List, length, Some, None, slice_get, FitsSigned}
-use Rattle.std.specs.Int.{w32}
+use Rattle.std.specs.Prelude.{◌≡◌, ℕ, ◌<◌, ◌≤◌, List, length, Some, None, slice_get}
 use Rattle.bpf_model.specs.declared.insn.Insn.{Insn}
-use Rattle.bpf_model.specs.declared.insn.Insn.TheVariants.{Alu, Unary, LoadNumber, LoadMap, Jump}
-use Rattle.bpf_model.specs.declared.insn.Insn.TheVariants.{JumpLong, JumpIf, Call, Exit, Load}
-use Rattle.bpf_model.specs.declared.insn.Insn.TheVariants.{LoadSigned, Store}
-use Rattle.bpf_model.specs.declared.insn.UnaryOp.{UnaryOp}
-use Rattle.bpf_model.specs.declared.insn.UnaryOp.TheVariants.{Negate, ByteSwap, MoveSigned}
-use Rattle.bpf_model.specs.declared.insn.Operand.{Operand}
-use Rattle.bpf_model.specs.declared.insn.Operand.TheVariants.{Register, Immediate}
-use Rattle.bpf_model.specs.declared.limits.TheConstants.{MAX_MAPS, REGISTERS}
+use Rattle.bpf_model.specs.declared.limits.TheConstants.{MAX_MAPS}
 use Rattle.bpf_model.specs.declared.value.Reference.{Reference}
 use Rattle.bpf_model.specs.declared.value.Reference.TheVariants.{Ctx, Frame, MapRef, Elem}
 use Rattle.bpf_model.specs.Machine.{Loaded, Run, Machine, run_at}
 use Rattle.bpf_model.specs.MapState.{AreShapes}
 use Rattle.bpf_model.specs.Schedule.{Schedule}
+use Rattle.bpf_model.specs.Spelling.{FitsInsn}
 use Rattle.bpf_model.specs.View.{RunView, WorldView, shapes_of}
 use Rattle.model_laws.specs.Alone.{HoldsState}
 use Rattle.typed_runs.specs.Well.{IsWell, AreVerified}
 
--- The registers that an instruction names are r0 to r10, and a number as operand has 32 bits: in a
--- definition they would else be any.
-abbrev pub IsRegister : ℕ → Type 0
-IsRegister r = r < REGISTERS
-
-abbrev pub IsOperand : Operand → Type 0
-IsOperand (Register r) = IsRegister r
-IsOperand (Immediate imm) = FitsSigned w32 imm
-
-abbrev pub IsUnary : UnaryOp → Type 0
-IsUnary (Negate size) = Unit {0}
-IsUnary (ByteSwap order width) = Unit {0}
-IsUnary (MoveSigned extension src) = IsRegister src
-
-abbrev pub IsInsn : Insn → Type 0
-IsInsn (Alu op size dst src) = IsRegister dst × IsOperand src
-IsInsn (Unary op dst) = IsRegister dst × IsUnary op
-IsInsn (LoadNumber dst n) = IsRegister dst
-IsInsn (LoadMap dst map) = IsRegister dst
-IsInsn (Jump offset) = Unit {0}
-IsInsn (JumpLong imm) = Unit {0}
-IsInsn (JumpIf condition size dst src offset) = IsRegister dst × IsOperand src
-IsInsn (Call kind imm) = Unit {0}
-IsInsn Exit = Unit {0}
-IsInsn (Load width dst src offset) = IsRegister dst × IsRegister src
-IsInsn (LoadSigned width dst src offset) = IsRegister dst × IsRegister src
-IsInsn (Store width dst offset src) = IsRegister dst × IsOperand src
-
--- A program is a value of its type: so are its instructions, and its list of maps has a limit.
+-- A program is a value of its type: its instructions name registers and numbers that there are (in
+-- a definition they would else be any), and its list of maps has a limit.
 pub record IsTypedProgram (program : Loaded) : Type 0 where
-  pub code : (k : ℕ) (i : Insn) → slice_get program.code k ≡ Some i → IsInsn i
+  pub code : (k : ℕ) (i : Insn) → slice_get program.code k ≡ Some i →
+      FitsInsn i
   pub maps : length program.maps ≤ MAX_MAPS
 
 abbrev pub AreTypedPrograms : List Loaded → Type 0
