@@ -5,7 +5,7 @@ use Rattle.std.specs.List.{AllByRecursion, filter}
 use Rattle.bpf_model.specs.declared.insn.Insn.{Insn}
 use Rattle.bpf_model.specs.declared.limits.TheConstants.{MAX_SLOTS}
 use Rattle.bpf_model.specs.Spelling.{FitsInsn, slot_total}
-use Rattle.bpf_model.proofs.Lists.{cons-same}
+use Rattle.bpf_model.proofs.Lists.{cons-same, cons-nil}
 use Rattle.disasm.specs.Text.{line_of}
 use Rattle.asm.specs.Grammar.{IsFormedLine}
 use Rattle.asm.specs.Faults.{is_comment, statements_in, IsSoundLine, IsInsnLine, IsFirstLineFlaw, IsAsmFault}
@@ -13,7 +13,7 @@ use Rattle.asm.specs.declared.fault.LineFlaw.{LineFlaw}
 use Rattle.asm.specs.declared.fault.LineFlaw.TheVariants.{NoForm, OutOfRange}
 use Rattle.asm.specs.declared.fault.AsmFault.{AsmFault}
 use Rattle.asm.specs.declared.fault.AsmFault.TheVariants.{BadLine, BadOperand, TooLong, Empty, Memory}
-use Rattle.asm.proofs.LinesRead.{keeps, cons_no}
+use Rattle.asm.proofs.LinesRead.{keeps}
 use Rattle.asm.proofs.Assembled.{flaw_no, is_insn_line}
 
 -- Of two faulty lines behind sound ones neither stands before the other.
@@ -45,7 +45,7 @@ no_flaw text f n h is fits e =
 
 none_long : (is : List Insn) → [] ≡ map line_of is → MAX_SLOTS < slot_total is → ⊥
 none_long [] e long = omega arith
-none_long (i ∷ is) e long = cons_no (line_of i) (map line_of is) (sym e)
+none_long (i ∷ is) e long = cons-nil (line_of i) (map line_of is) (sym e)
 
 pub one_fault : (text : List ℕ) (f g : AsmFault) → f ≢ Memory → g ≢ Memory → IsAsmFault text f → IsAsmFault text g → f ≡ g
 one_fault text (BadLine n) (BadLine m) a b h k = ap BadLine (flaws_meet text NoForm NoForm n m h k).0

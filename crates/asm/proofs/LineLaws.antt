@@ -1,6 +1,7 @@
 -- What a line's statement says of the line.
-use Rattle.std.proofs.Common.{ℕ, ◌≡◌, ◌++◌, List, Bool, true, false, sym, ap, subst, ◌∙◌}
+use Rattle.std.proofs.Common.{ℕ, ◌≡◌, ◌++◌, List, true, sym, ap, subst, ◌∙◌}
 use Rattle.std.specs.Prelude.{Option, Some, None, Result, Ok}
+use Rattle.std.proofs.lemmas.Option.{none-some, same_Some}
 use Rattle.bpf_model.specs.Spelling.{FitsInsn}
 use Rattle.bpf_model.specs.declared.insn.Insn.{Insn}
 use Rattle.disasm.specs.Text.{mnemonic_text, arguments_text, line_of, mnemonic_of, text_arguments, statement_of}
@@ -12,20 +13,14 @@ use Rattle.asm.specs.Reading.{IsStatementRead, ReadsStatement, capped_arguments,
 use Rattle.asm.specs.declared.fault.LineFlaw.{LineFlaw}
 use Rattle.asm.proofs.FormLaws.{IsSmall, formed_capped, formed_of, capped_of, small_of, back_same, told}
 
-some_same : {A : Type 0} (x y : A) → (let s : Option A = Some x in s ≡ Some y) → x ≡ y
-some_same x y e = cc
-
-none_no : {A : Type 0} (y : A) → (let s : Option A = None in s ≡ Some y) → ⊥
-none_no y e = cc
-
 pub insn_statement : (line : List ℕ) (s : Statement) → ReadsStatement line (Some s) → (i : Insn) → FitsInsn i → line ≡ line_of i → s ≡ statement_of i
-insn_statement line s reads i fits e = some_same s (capped_statement (statement_of i)) (reads (statement_of i) e) ∙ capped_of i fits
+insn_statement line s reads i fits e = same_Some s (capped_statement (statement_of i)) (reads (statement_of i) e) ∙ capped_of i fits
 
 pub no_insn : (line : List ℕ) → ReadsStatement line None → (i : Insn) → line ≡ line_of i → ⊥
-no_insn line reads i e = none_no (capped_statement (statement_of i)) (reads (statement_of i) e)
+no_insn line reads i e = none-some (capped_statement (statement_of i)) (reads (statement_of i) e)
 
 pub formed_line : (line : List ℕ) (s : Statement) → ReadsStatement line (Some s) → IsFormedLine line → is_formed s ≡ true
-formed_line line s reads h = ap is_formed (some_same s (capped_statement h.statement) (reads h.statement h.text)) ∙ formed_capped h.statement ∙ h.formed
+formed_line line s reads h = ap is_formed (same_Some s (capped_statement h.statement) (reads h.statement h.text)) ∙ formed_capped h.statement ∙ h.formed
 
 pub formed_insn : (line : List ℕ) (s : Statement) → ReadsStatement line (Some s) → (i : Insn) → FitsInsn i → line ≡ line_of i → is_formed s ≡ true
 formed_insn line s reads i fits e = ap is_formed (insn_statement line s reads i fits e) ∙ formed_of i
@@ -48,10 +43,7 @@ insn_is line s r reads only i fits e =
     told s.mnemonic s.arguments r only i fits (ap (λ (t : Statement). t.mnemonic) same) (ap (λ (t : Statement). t.arguments) same)
 
 pub ok_is : (line : List ℕ) (s : Statement) (j : Insn) → ReadsStatement line (Some s) → IsOnlyInsn s.mnemonic s.arguments (Some j) → (i : Insn) → FitsInsn i → line ≡ line_of i → (let r : Result Insn LineFlaw = Ok j in r ≡ Ok i)
-ok_is line s j reads only i fits e = ap Ok (some_same j i (insn_is line s (Some j) reads only i fits e))
+ok_is line s j reads only i fits e = ap Ok (same_Some j i (insn_is line s (Some j) reads only i fits e))
 
 pub not_insn : (line : List ℕ) (s : Statement) → ReadsStatement line (Some s) → IsOnlyInsn s.mnemonic s.arguments None → (i : Insn) → FitsInsn i → line ≡ line_of i → ⊥
-not_insn line s reads only i fits e = none_no i (insn_is line s None reads only i fits e)
-
-pub true_no : (b : Bool) → false ≡ b → b ≡ true → ⊥
-true_no b e f = cc
+not_insn line s reads only i fits e = none-some i (insn_is line s None reads only i fits e)

@@ -7,9 +7,10 @@ use Rattle.std.proofs.lemmas.List.{map-append, append-nil, get_or_default}
 use Rattle.std.proofs.lemmas.List.Elements.{filter-append}
 use Rattle.std.proofs.lemmas.List.Splits.{slice_split_none, slice_split_at}
 use Rattle.std.proofs.ByRecursion.{All-push}
+use Rattle.std.proofs.lemmas.Bool.{false≢true}
 use Rattle.bpf_model.specs.declared.insn.Insn.{Insn}
 use Rattle.bpf_model.specs.Spelling.{FitsInsn}
-use Rattle.bpf_model.proofs.Lists.{cons-same}
+use Rattle.bpf_model.proofs.Lists.{cons-same, cons-nil}
 use Rattle.disasm.specs.Text.{line_of}
 use Rattle.asm.proofs.StatementLaws.{appended}
 use Rattle.asm.specs.Reading.{Lacks}
@@ -59,9 +60,6 @@ insn_line line i h = record { instruction = i; fits = h.fits; text = h.text }
 unique_line : (line : List ℕ) (i : Insn) → IsLineOf line i → IsUnique line
 unique_line line i h statement j k fits_j fits_k e f = sym (h.only j fits_j e) ∙ h.only k fits_k f
 
-false_true : {A : Type 0} (b : Bool) → b ≡ true → b ≡ false → A
-false_true b e f = absurd (cc)
-
 left_out : (line : List ℕ) (xs : List (List ℕ)) → is_comment line ≡ true → (xs ++ filter keeps (line ∷ [])) ≡ xs ++ []
 left_out line xs e = ap (λ (b : Bool). xs ++ cond (not b) (line ∷ []) []) e
 
@@ -75,8 +73,8 @@ comment_read text line left items index read e =
       front = read.front ++ line ∷ [];
       parts = read.parts ∙ sym (append_assoc read.front (line ∷ []) left);
       number = rw (read.number) (sym (length-append read.front (line ∷ [])));
-      sound = All-push IsSoundLine read.front line read.sound (λ f. false_true (is_comment line) e f);
-      unique = All-push IsUnique read.front line read.unique (λ f. false_true (is_comment line) e f);
+      sound = All-push IsSoundLine read.front line read.sound (λ f. absurd (false≢true (sym f ∙ e)));
+      unique = All-push IsUnique read.front line read.unique (λ f. absurd (false≢true (sym f ∙ e)));
       lines = filter-append keeps read.front (line ∷ []) ∙ left_out line (filter keeps read.front) e ∙ append-nil (filter keeps read.front) ∙ read.lines;
       fits = read.fits;
     }
@@ -116,15 +114,12 @@ line_fault text line left items index Memory read h = tt
 pub all_read : (text : List ℕ) (items : List Insn) (index : ℕ) → LinesRead text [] items index → statements_in text ≡ map line_of items
 all_read text items index read = ap (filter keeps) (read.parts ∙ append-nil read.front) ∙ read.lines
 
-pub cons_no : (x : List ℕ) (xs : List (List ℕ)) → (x ∷ xs) ≡ [] → ⊥
-cons_no x xs e = cc
-
 cons_insns : (i j : Insn) (is js : List Insn) → i ≡ j → is ≡ js → (i ∷ is) ≡ j ∷ js
 cons_insns i j is js e f = cc
 
 same_cons : (line : List ℕ) (rest : List (List ℕ)) (is js : List Insn) → is_comment line ≡ false → IsUnique line → ((is2 js2 : List Insn) → AllByRecursion FitsInsn is2 → AllByRecursion FitsInsn js2 → rest ≡ map line_of is2 → rest ≡ map line_of js2 → is2 ≡ js2) → AllByRecursion FitsInsn is → AllByRecursion FitsInsn js → (line ∷ rest) ≡ map line_of is → (line ∷ rest) ≡ map line_of js → is ≡ js
-same_cons line rest [] js s unique more fits_i fits_j e f = absurd (cons_no line rest e)
-same_cons line rest (i ∷ is) [] s unique more fits_i fits_j e f = absurd (cons_no line rest f)
+same_cons line rest [] js s unique more fits_i fits_j e f = absurd (cons-nil line rest e)
+same_cons line rest (i ∷ is) [] s unique more fits_i fits_j e f = absurd (cons-nil line rest f)
 same_cons line rest (i ∷ is) (j ∷ js) s unique more fits_i fits_j e f =
     let p : (line ≡ line_of i) × (rest ≡ map line_of is) = cons-same line (line_of i) rest (map line_of is) e in
     let q : (line ≡ line_of j) × (rest ≡ map line_of js) = cons-same line (line_of j) rest (map line_of js) f in
@@ -141,8 +136,8 @@ same_step line front is js false s unique more fits_i fits_j e f =
 -- the lines of two lists of instructions are those of one
 same_insns : (front : List (List ℕ)) (is js : List Insn) → AllByRecursion IsUnique front → AllByRecursion FitsInsn is → AllByRecursion FitsInsn js → filter keeps front ≡ map line_of is → filter keeps front ≡ map line_of js → is ≡ js
 same_insns [] [] [] unique fits_i fits_j e f = refl
-same_insns [] [] (j ∷ js) unique fits_i fits_j e f = absurd (cons_no (line_of j) (map line_of js) (sym f))
-same_insns [] (i ∷ is) js unique fits_i fits_j e f = absurd (cons_no (line_of i) (map line_of is) (sym e))
+same_insns [] [] (j ∷ js) unique fits_i fits_j e f = absurd (cons-nil (line_of j) (map line_of js) (sym f))
+same_insns [] (i ∷ is) js unique fits_i fits_j e f = absurd (cons-nil (line_of i) (map line_of is) (sym e))
 same_insns (line ∷ front) is js unique fits_i fits_j e f =
     same_step line front is js (is_comment line) refl unique.0 (λ is2 js2 g h k l. same_insns front is2 js2 unique.1 g h k l) fits_i fits_j e f
 

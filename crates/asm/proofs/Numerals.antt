@@ -5,12 +5,9 @@ use Rattle.std.specs.Int.{IsInRange}
 use Rattle.std.specs.Int.Digits.{digits_of, AllBelowBase}
 use Rattle.std.proofs.lemmas.Int.Digits.{first_digits_of, all_below_base_digits_of, same_from_digits_of}
 use Rattle.std.proofs.lemmas.List.{take_more, length-map}
-use Rattle.disasm.specs.Text.{glyphs, numeral}
+use Rattle.disasm.specs.Text.{glyph, glyphs, numeral}
 use Rattle.disasm.proofs.Numerals.{above_zero, last_digit}
 use Rattle.asm.specs.Reading.{capped}
-
-abbrev glyph : ℕ → ℕ
-glyph digit = 48 + digit
 
 pub glyphs_push : (n d : ℕ) → d < 10 → 0 < n * 10 + d → glyphs (n * 10 + d) ≡ glyphs n ++ (48 + d) ∷ []
 glyphs_push n d small some =

@@ -11,7 +11,7 @@ use Rattle.disasm.specs.declared.statement.Statement.{Statement}
 use Rattle.asm.specs.Reading.{IsArgumentsRead, ReadsArguments, IsStatementRead, capped_argument, capped_arguments, Lacks}
 use Rattle.asm.proofs.Lacking.{not_lacks, argument_lacks}
 use Rattle.asm.proofs.PlainNames.{name_lacks}
-use Rattle.bpf_model.proofs.Lists.{tails}
+use Rattle.bpf_model.proofs.Lists.{tails, cons-nil}
 
 regroup : (a b d mid : List ℕ) → (((a ++ mid) ++ b) ++ mid) ++ d ≡ a ++ (mid ++ (b ++ (mid ++ d)))
 regroup a b d mid = simp append_assoc
@@ -28,9 +28,6 @@ two_text a b = ap (λ t. 32 ∷ t) (append_assoc (argument_text a) (44 ∷ 32 �
 three_text : (a b d : Argument) → arguments_text (Three a b d) ≡ 32 ∷ (argument_text a ++ 44 ∷ 32 ∷ (argument_text b ++ 44 ∷ 32 ∷ argument_text d))
 three_text a b d = ap (λ t. 32 ∷ t) (regroup (argument_text a) (argument_text b) (argument_text d) (44 ∷ 32 ∷ []))
 
-not_empty : (b : ℕ) (xs : List ℕ) → (b ∷ xs) ≡ [] → ⊥
-not_empty b xs e = cc
-
 -- what the cut at the first comma and space said of a text
 abbrev pub NoCut : List ℕ → Type 0
 NoCut text = (front back : List ℕ) → Lacks 44 front → text ≡ front ++ 44 ∷ 32 ∷ back → ⊥
@@ -42,7 +39,7 @@ one_not_cut : (text x y : List ℕ) (a : Argument) → text ≡ x ++ 44 ∷ 32 �
 one_not_cut text x y a parts e = not_lacks 44 x (32 ∷ y) (rw (sym parts ∙ e) (argument_lacks a))
 
 pub one_only : (text : List ℕ) (r : Option Arguments) → NoCut text → ((a : Argument) → text ≡ argument_text a → r ≡ Some (One (capped_argument a))) → ReadsArguments text r
-one_only text r uncut read Zero e = absurd (not_empty 32 text e)
+one_only text r uncut read Zero e = absurd (cons-nil 32 text e)
 one_only text r uncut read (One a) e = read a (tails 32 32 text (argument_text a) e)
 one_only text r uncut read (Two a b) e =
     absurd (uncut (argument_text a) (argument_text b) (argument_lacks a) (tails 32 32 text (argument_text a ++ 44 ∷ 32 ∷ argument_text b) (e ∙ two_text a b)))
@@ -50,7 +47,7 @@ one_only text r uncut read (Three a b d) e =
     absurd (uncut (argument_text a) (argument_text b ++ 44 ∷ 32 ∷ argument_text d) (argument_lacks a) (tails 32 32 text (argument_text a ++ 44 ∷ 32 ∷ (argument_text b ++ 44 ∷ 32 ∷ argument_text d)) (e ∙ three_text a b d)))
 
 pub two_only : (text x y : List ℕ) (r : Option Arguments) → text ≡ x ++ 44 ∷ 32 ∷ y → IsCut text x y → NoCut y → ((a b : Argument) → x ≡ argument_text a → y ≡ argument_text b → r ≡ Some (Two (capped_argument a) (capped_argument b))) → ReadsArguments text r
-two_only text x y r parts first uncut read Zero e = absurd (not_empty 32 text e)
+two_only text x y r parts first uncut read Zero e = absurd (cons-nil 32 text e)
 two_only text x y r parts first uncut read (One a) e = absurd (one_not_cut text x y a parts (tails 32 32 text (argument_text a) e))
 two_only text x y r parts first uncut read (Two a b) e =
     let same : (x ≡ argument_text a) × (y ≡ argument_text b) = first (argument_text a) (argument_text b) (argument_lacks a) (tails 32 32 text (argument_text a ++ 44 ∷ 32 ∷ argument_text b) (e ∙ two_text a b)) in
@@ -61,7 +58,7 @@ two_only text x y r parts first uncut read (Three a b d) e =
     absurd (uncut (argument_text b) (argument_text d) (argument_lacks b) same.1)
 
 pub three_only : (text x rest y z : List ℕ) (r : Option Arguments) → text ≡ x ++ 44 ∷ 32 ∷ rest → IsCut text x rest → rest ≡ y ++ 44 ∷ 32 ∷ z → IsCut rest y z → ((a b d : Argument) → x ≡ argument_text a → y ≡ argument_text b → z ≡ argument_text d → r ≡ Some (Three (capped_argument a) (capped_argument b) (capped_argument d))) → ReadsArguments text r
-three_only text x rest y z r parts first parts2 second read Zero e = absurd (not_empty 32 text e)
+three_only text x rest y z r parts first parts2 second read Zero e = absurd (cons-nil 32 text e)
 three_only text x rest y z r parts first parts2 second read (One a) e = absurd (one_not_cut text x rest a parts (tails 32 32 text (argument_text a) e))
 three_only text x rest y z r parts first parts2 second read (Two a b) e =
     let same : (x ≡ argument_text a) × (rest ≡ argument_text b) = first (argument_text a) (argument_text b) (argument_lacks a) (tails 32 32 text (argument_text a ++ 44 ∷ 32 ∷ argument_text b) (e ∙ two_text a b)) in

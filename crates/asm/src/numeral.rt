@@ -5,7 +5,7 @@ ghost use Rattle.disasm.specs.Text.{glyphs, numeral};
 ghost use Rattle.asm.specs.Reading.{capped};
 
 /// 2^64, which stands for each number from 2^64 on: no instruction takes one.
-const LIMIT: u128 = 0x1_0000_0000_0000_0000;
+pub(crate) const CAP: u128 = 0x1_0000_0000_0000_0000;
 
 /// The number with one more digit at its end.
 fn push_digit(value: u128, digit: u8) -> u128
@@ -15,7 +15,7 @@ fn push_digit(value: u128, digit: u8) -> u128
     ensures limit { result ≤ 2 ^ 64 }
 {
     let next = value * 10 + u128::from(digit);
-    if next < LIMIT { next } else { LIMIT }
+    if next < CAP { next } else { CAP }
 }
 
 /// The number of digits of which the first is not 0, or `None` where one of them is no digit.

@@ -6,6 +6,7 @@ ghost use Rattle.bpf_model.specs.declared.insn.Operand.{Operand as OperandOf};
 ghost use Rattle.bpf_model.specs.declared.insn.SignExtension.{SignExtension as SignExtensionOf};
 ghost use Rattle.disasm.specs.Text.{sign_of, magnitude as magnitude_of, number_argument, offset_argument, memory_argument, source_argument};
 
+use crate::numeral::CAP;
 use disasm::{Argument, Sign};
 use insn_codec::{Operand, Reg, SignExtension, Size};
 
@@ -86,9 +87,7 @@ pub fn unsigned(argument: &Argument) -> Option<u64>
     ensures only { (n : ℕ) → n < 2 ^ 64 → argument.now ≡ Argument.Number n → result ≡ Some n }
 {
     match argument {
-        Argument::Number(magnitude) if *magnitude < 0x1_0000_0000_0000_0000 => {
-            Some(*magnitude as u64)
-        }
+        Argument::Number(magnitude) if *magnitude < CAP => Some(*magnitude as u64),
         _ => None,
     }
 }

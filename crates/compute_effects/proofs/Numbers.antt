@@ -2,11 +2,11 @@
 use Rattle.std.proofs.Common.{◌≡◌, ℕ, ◌+◌, ◌^◌, ◌≤◌, ap, Ok, Err, ℤ, pos, arith}
 use Rattle.std.proofs.lemmas.Int.{ints}
 use Rattle.std.specs.Prelude.{Result, IsOk, IfOk}
+use Rattle.register_kinds.proofs.Kinds.{kind_is}
 use Rattle.bpf_model.specs.declared.insn.Operand.TheVariants.{Immediate}
 use Rattle.scalar_domain.specs.declared.scalar.Scalar.{Scalar}
 use Rattle.scalar_domain.specs.Scalar.{Holds, IsConstant}
 use Rattle.typed_runs.specs.Describes.{HasOffset}
-use Rattle.compute_effects.specs.declared.moving.Way.{Way}
 use Rattle.typed_runs.specs.Kinds.{Num}
 use Rattle.register_kinds.specs.declared.kind.RegKind.{RegKind}
 use Rattle.register_kinds.specs.declared.kind.RegKind.TheVariants as kinds
@@ -14,22 +14,8 @@ use Rattle.register_kinds.specs.States.{kind_of}
 use Rattle.kind_tests.specs.declared.fault.Fault.{Fault}
 use Rattle.kind_tests.specs.Tests.{held_kind}
 
-pub number_kind : (k : RegKind) (s : Scalar) → kind_of k ≡ Num s → k ≡ kinds.Num s
-number_kind kinds.Unwritten s e = absurd cc
-number_kind kinds.Ended s e = absurd cc
-number_kind kinds.Mixed s e = absurd cc
-number_kind (kinds.Num t) s e = cc
-number_kind (kinds.Ctx t) s e = absurd cc
-number_kind (kinds.Frame o) s e = absurd cc
-number_kind (kinds.Map m) s e = absurd cc
-number_kind (kinds.Value m t) s e = absurd cc
-number_kind (kinds.MaybeNull m i) s e = absurd cc
-
 pub held_number : (k : RegKind) (s : Scalar) → kind_of k ≡ Num s → held_kind k ≡ Ok (kinds.Num s)
-held_number k s e = ap held_kind (number_kind k s e)
-
-pub ok_is : (a b : RegKind) → ◌≡◌ {A = Result RegKind Fault} (Ok a) (Ok b) → a ≡ b
-ok_is a b e = cc
+held_number k s e = ap held_kind (kind_is k (Num s) e)
 
 pub same_immediate : (a b : ℤ) → Immediate a ≡ Immediate b → a ≡ b
 same_immediate a b e = cc
@@ -44,15 +30,9 @@ same_numbers a b e = cc
 pub constant_holds : (s : Scalar) (n : ℕ) → IsConstant s n → Holds s n
 constant_holds s n e = record { least = omega (arith, e.least); greatest = omega (arith, e.greatest); zeros = e.zeros; ones = e.ones }
 
-pub ok_scalar : (a b : Scalar) → ◌≡◌ {A = Result Scalar Fault} (Ok a) (Ok b) → a ≡ b
-ok_scalar a b e = cc
-
 pub ok_value : (r : Result ℤ Fault) (z : ℤ) → IsOk r → IfOk r (λ p. p ≡ z) → r ≡ Ok z
 ok_value (Ok p) z o e = ap Ok e
 ok_value (Err f) z o e = absurd cc
-
-pub ok_way : (a b : Way) → ◌≡◌ {A = Result Way Fault} (Ok a) (Ok b) → a ≡ b
-ok_way a b e = cc
 
 -- the offset in the frame that is the one of a set
 pub offset_is : (s : Scalar) (at : ℕ) → IsConstant s (at + 2 ^ 29) → at ≤ 2 ^ 29 → HasOffset s (pos at)

@@ -13,7 +13,7 @@ use scalar_domain::Scalar;
 
 /// How far a reference may be moved at once, and how far from the start of its region it may point,
 /// either way.
-const LIMIT: u64 = 1 << 29;
+const NEAR_LIMIT: u64 = 1 << 29;
 
 /// Which way a reference is moved: by a sum, or by a difference.
 #[derive(Clone, Copy, Debug, PartialEq, Eq)]
@@ -27,7 +27,7 @@ fn check_step(by: Scalar) -> Result<(), Fault>
     ensures steps { OnOk result ((n : ℕ) → Holds by n → IsNearStep n) }
     ensures accepts { (n : ℕ) → IsConstant by n → IsNearStep n → IsOk result }
 {
-    if by.greatest <= LIMIT || by.least >= u64::MAX - (LIMIT - 1) {
+    if by.greatest <= NEAR_LIMIT || by.least >= u64::MAX - (NEAR_LIMIT - 1) {
         return Ok(());
     }
     Err(Fault::PointerArithmetic)
@@ -56,7 +56,7 @@ pub(crate) fn moved(way: Way, offset: Scalar, by: Scalar) -> Result<Scalar, Faul
 {
     check_step(by)?;
     let new = shifted(way, offset, by);
-    if new.greatest > 2 * LIMIT {
+    if new.greatest > 2 * NEAR_LIMIT {
         return Err(Fault::PointerArithmetic);
     }
     Ok(new)
@@ -69,7 +69,7 @@ fn raised(offset: i32) -> Result<Scalar, Fault>
         → (s : Numbers) × (result ≡ Ok s) × IsConstant s (m + 2 ^ 29) }
 {
     let raised = i64::from(offset) + ORIGIN as i64;
-    if raised < 0 || raised > 2 * LIMIT as i64 {
+    if raised < 0 || raised > 2 * NEAR_LIMIT as i64 {
         return Err(Fault::PointerArithmetic);
     }
     Ok(Scalar::constant(raised as u64))
@@ -83,7 +83,7 @@ fn lowered(offsets: Scalar) -> Result<i32, Fault>
 {
     match offsets.as_constant() {
         Some(raised) => {
-            if raised > 2 * LIMIT {
+            if raised > 2 * NEAR_LIMIT {
                 return Err(Fault::PointerArithmetic);
             }
             Ok((raised as i64 - ORIGIN as i64) as i32)

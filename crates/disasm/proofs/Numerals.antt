@@ -7,10 +7,7 @@ use Rattle.std.proofs.lemmas.Int.Digits.{digits_of_step}
 use Rattle.std.proofs.lemmas.Fmt.{decimal_by_steps_wide}
 use Rattle.std.proofs.lemmas.Bool.Decides.{nat_tests}
 use Rattle.std.proofs.lemmas.List.{map_push}
-use Rattle.disasm.specs.Text.{glyphs, numeral}
-
-abbrev glyph : ℕ → ℕ
-glyph digit = 48 + digit
+use Rattle.disasm.specs.Text.{glyph, glyphs, numeral}
 
 pub above_zero : (n : ℕ) → 0 < n → numeral n ≡ glyphs n
 above_zero n h = grind (arith, nat_tests)

@@ -150,10 +150,13 @@ mnemonic_text m = stem_of m ++ suffix_of m
 
 -- Arguments, with numbers of any size.
 
--- the decimal digits of a number as bytes, without leading zeros: none for 0, whose digit is byte
--- 48
+-- the byte of a decimal digit; that of 0 is byte 48
+abbrev pub glyph : ℕ → ℕ
+glyph digit = 48 + digit
+
+-- the decimal digits of a number as bytes, without leading zeros: none for 0
 abbrev pub glyphs : ℕ → List ℕ
-glyphs n = map (λ digit. 48 + digit) (digits_of 10 n)
+glyphs n = map glyph (digits_of 10 n)
 
 -- a number in decimal
 abbrev pub numeral : ℕ → List ℕ

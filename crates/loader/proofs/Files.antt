@@ -7,7 +7,7 @@ use Rattle.std.proofs.lemmas.List.Concat.{flat_map-append}
 use Rattle.std.proofs.lemmas.Option.{same_Some}
 use Rattle.bpf_model.specs.declared.limits.MapShape.{MapShape}
 use Rattle.bpf_model.specs.View.{new_map_view}
-use Rattle.bpf_model.proofs.Lists.{heads, tails}
+use Rattle.bpf_model.proofs.Lists.{heads, tails, cons-nil}
 use Rattle.maps.specs.Registry.{RegistryView, no_maps}
 use Rattle.loader.specs.Lines.{file_words, IsDecimalWord, code_slots, both_parts, slot_in}
 use Rattle.loader.specs.ProgramFile.{FileContent, IsContextLine, AreShapeWords, IsMapLine, AddsMap, AddMaps, IsProgramFile, IsFileBeginning, IsWrongAfter, IsFirstWrongLine}
@@ -19,9 +19,6 @@ use Rattle.loader.specs.declared.loading.Stage.TheVariants.{Context, Maps, Code}
 
 abbrev code_line : List ℕ
 code_line = codes "code"
-
-none_is : (x : List ℕ) (xs : List (List ℕ)) → [] ≡ x ∷ xs → ⊥
-none_is x xs e = cc
 
 -- a line tells one map, and a registry becomes one other by it
 
@@ -70,7 +67,7 @@ same_added old r s line h k =
 code_is_no_map : (old new : RegistryView) (line : List ℕ) → line ≡ code_line → AddsMap old line new → ⊥
 code_is_no_map old new line e h =
     let w : (code_line ∷ []) ≡ codes "map" ∷ h.name ∷ h.is.numbers = sym (ap file_words e) ∙ h.is.words in
-    none_is _ _ (tails code_line (codes "map") [] _ w)
+    cons-nil _ _ (sym (tails code_line (codes "map") [] _ w))
 
 -- more lines of maps
 
@@ -100,8 +97,8 @@ no_map_line old r s (m ∷ ms) (n ∷ ns) ds line rest h k other wrong e =
     no_map_line h.0 r s ms ns ds line rest h.2 (subst (λ x. AddMaps x ns s) next k.2) other wrong (tails m n (ms ++ line ∷ rest) (ns ++ code_line ∷ ds) e)
 
 no_code_line : (old r : RegistryView) (ms ns ds : List (List ℕ)) → AddMaps old ms r → ms ≡ ns ++ code_line ∷ ds → ⊥
-no_code_line old r [] [] ds h e = none_is code_line ds e
-no_code_line old r [] (n ∷ ns) ds h e = none_is n (ns ++ code_line ∷ ds) e
+no_code_line old r [] [] ds h e = cons-nil code_line ds (sym e)
+no_code_line old r [] (n ∷ ns) ds h e = cons-nil n (ns ++ code_line ∷ ds) (sym e)
 no_code_line old r (m ∷ ms) [] ds h e = code_is_no_map old h.0 m (heads m code_line ms ds e) h.1
 no_code_line old r (m ∷ ms) (n ∷ ns) ds h e = no_code_line h.0 r ms ns ds h.2 (tails m n ms (ns ++ code_line ∷ ds) e)
 
@@ -211,7 +208,7 @@ slots_wrong lines line c h e b =
 -- no file ends there
 
 pub none_unfinished : (lines : List (List ℕ)) → lines ≡ [] → (c : FileContent) → ¬ (IsProgramFile lines c)
-none_unfinished lines e c h = none_is h.first _ (sym e ∙ h.parts)
+none_unfinished lines e c h = cons-nil h.first _ (sym (sym e ∙ h.parts))
 
 pub maps_unfinished : (lines : List (List ℕ)) (n : ℕ) (r : RegistryView) → AreMapsSoFar lines n r → (c : FileContent) → ¬ (IsProgramFile lines c)
 maps_unfinished lines n r h c k = no_code_line no_maps r h.map_lines k.map_lines k.code_lines h.maps (tails h.first k.first _ _ (sym h.parts ∙ k.parts))

@@ -1,4 +1,3 @@
 pub mod Placing
 pub mod Reading
 pub mod Writing
-pub mod Numbers

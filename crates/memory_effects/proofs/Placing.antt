@@ -22,8 +22,8 @@ same_remainder widths.Two s n h e = low-known 1 n s.may s.must h.zeros h.ones e
 same_remainder widths.Four s n h e = low-known 2 n s.may s.must h.zeros h.ones e
 same_remainder widths.Eight s n h e = low-known 3 n s.may s.must h.zeros h.ones e
 
-at-place : (len width p : ℕ) → p + width ≤ len → p % width ≡ 0 → region_offset len width (pos p) ≡ Some p
-at-place len width p l e =
+offset_inside : (len width p : ℕ) → p + width ≤ len → p % width ≡ 0 → region_offset len width (pos p) ≡ Some p
+offset_inside len width p l e =
     ap (λ b. if b && (p % width == 0) then Some p else None) (le-leb (p + width) len l) ∙ ap (λ b. if b then Some p else None) (eq-eqb (p % width) 0 e)
 
 shifted : (width : Width) (m p : ℕ) → m ≡ p + (2 ^ 29 + 2 ^ 15) → m % byte_count width ≡ 0 → p % byte_count width ≡ 0
@@ -43,4 +43,4 @@ always_inside s width offset len by e start end aligned o h =
     let is : pos n ≡ o +ℤ pos (2 ^ 29) = h.is in
     let sum : (o +ℤ offset) ≡ pos p = omega (arith, ints, is, e, back) in
     let fits : p + byte_count width ≤ len = omega (arith, high, back) in
-    (p, ap (region_offset len (byte_count width)) sum ∙ at-place len (byte_count width) p fits (shifted width (n + by) p back (aligned n h.holds)))
+    (p, ap (region_offset len (byte_count width)) sum ∙ offset_inside len (byte_count width) p fits (shifted width (n + by) p back (aligned n h.holds)))

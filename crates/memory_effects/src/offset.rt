@@ -107,7 +107,7 @@ fn first_byte(base: i32, offset: i16) -> Option<usize>
 
 /// Where an access begins, again, if all of it lies inside a region of this length, and aligned.
 fn inside(len: usize, width: Width, first: usize) -> Result<usize, Fault>
-    ensures place { IfOk result (λ n. region_offset len (byte_count width) (pos first) ≡ Some n) }
+    ensures value { IfOk result (λ n. region_offset len (byte_count width) (pos first) ≡ Some n) }
     ensures inside { IfOk result (λ n. n + byte_count width ≤ len) }
     ensures aligned { IfOk result (λ n. n % byte_count width ≡ 0) }
     ensures accepts { (n : ℕ) → region_offset len (byte_count width) (pos first) ≡ Some n
@@ -126,7 +126,7 @@ fn inside(len: usize, width: Width, first: usize) -> Result<usize, Fault>
 /// Where an access through a base at this offset begins in a region of this length, if all of it
 /// lies inside, and aligned.
 pub(crate) fn offset_in(len: usize, width: Width, base: i32, offset: i16) -> Result<usize, Fault>
-    ensures place { IfOk result (λ n. region_offset len (byte_count width) (base +ℤ offset)
+    ensures value { IfOk result (λ n. region_offset len (byte_count width) (base +ℤ offset)
         ≡ Some n) }
     ensures inside { IfOk result (λ n. n + byte_count width ≤ len) }
     ensures aligned { IfOk result (λ n. n % byte_count width ≡ 0) }

@@ -16,12 +16,13 @@ pub record IsIndexBySlot (program : List Insn) (indexes : List (Option ℕ)) : T
   pub only : (slot index : ℕ) → slice_get indexes slot ≡ Some (Some index) →
       StartsAt program index slot
 
--- where a jump over a distance lands, by the indexes of the slots
+-- the target, by what the indexes have at a slot
 abbrev pub landed : Option (Option ℕ) → Result ℕ GraphFlaw
 landed (Some (Some target)) = Ok target
 landed (Some None) = Err JumpTarget
 landed None = Err JumpTarget
 
+-- where a jump over a distance lands, by the indexes of the slots
 abbrev pub landing : List (Option ℕ) → ℕ → ℤ → Result ℕ GraphFlaw
 landing indexes slot (negsuc n) = Err BackJump
 landing indexes slot (pos to) =

@@ -10,7 +10,7 @@ use crate::kind::{CellKind, RegKind};
 use bpf_model::FRAME_BYTES;
 
 /// How many aligned groups of eight bytes the frame has.
-pub const GROUPS: usize = 64;
+pub const GROUPS: usize = FRAME_BYTES / 8;
 
 /// What is known of each byte of the frame. What parts are parts of stands once for each aligned
 /// group of eight bytes; a group without parts may keep an old one.

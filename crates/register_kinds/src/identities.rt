@@ -3,11 +3,13 @@ ghost use Rattle.std.specs.Prelude.{◌≡◌, ◌≢◌, ℕ, ◌+◌, ◌^◌,
 ghost use Rattle.typed_runs.specs.Kinds as model;
 ghost use Rattle.register_kinds.specs.Pairs.{PairsGrow, IsTable, JoinsKind};
 
+use crate::frame::GROUPS;
 use arrayvec::ArrayVec;
+use bpf_model::REGISTERS;
 
 /// The most pairs of identities that can meet in the joining of two states: one for each register,
 /// and one for each eight bytes of the frame.
-pub const MAX_PAIRS: usize = 75;
+pub const MAX_PAIRS: usize = REGISTERS + GROUPS;
 
 /// The identities that are taken: those below this number.
 #[derive(Drop)]

@@ -46,9 +46,6 @@ parity : (p x p' q y q' k m k' l s g u : ℕ) → p ≤ x → x ≤ p' → p' �
     → (s ≤ max l u) × (min l (1 - u) ≤ s)
 parity p x p' q y q' k m k' l s g u h1 h2 h3 h4 h5 h6 h7 h8 h9 e1 e2 e3 e4 = (omega arith, omega arith)
 
-word_bit : (n i : ℕ) → i < 64 → bit_at (n % 2 ^ 64) i ≡ bit_at n i
-word_bit n i h = low_bit n 64 i h
-
 -- the bits that stay open in a sum of words, as the code has them
 abbrev pub opened : ℕ → ℕ → ℕ → ℕ → ℕ → ℕ → ℕ
 opened a a' b b' l g = bit_or (bit_or (bit_xor a' a) (bit_xor b' b)) (bit_xor l g)
@@ -68,7 +65,7 @@ between a x a' b y b' c l g i e f small ha ha' hb hb' h =
     (within_bit b y i hb) (within_bit y b' i hb') (omega (arith, bit_at-lt b' i))
     (carry_mono a b x y c i (low_le a x i ha) (low_le b y i hb)) (carry_mono x y a' b' c i (low_le x a' i ha') (low_le y b' i hb'))
     (carry_small a' b' c i small)
-    (ap (λ n. bit_at n i) e ∙ word_bit _ i h ∙ bit_of_sum a b c i) (word_bit _ i h ∙ bit_of_sum x y c i) (ap (λ n. bit_at n i) f ∙ word_bit _ i h ∙ bit_of_sum a' b' c i)
+    (ap (λ n. bit_at n i) e ∙ low_bit _ 64 i h ∙ bit_of_sum a b c i) (low_bit _ 64 i h ∙ bit_of_sum x y c i) (ap (λ n. bit_at n i) f ∙ low_bit _ 64 i h ∙ bit_of_sum a' b' c i)
     (opened_bit a a' b b' l g i)
 
 past : (n i : ℕ) → 64 ≤ i → bit_at (n % 2 ^ 64) i ≡ 0

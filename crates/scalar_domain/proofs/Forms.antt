@@ -3,10 +3,10 @@ use Rattle.std.proofs.Common.{◌≡◌, ℕ, ◌+◌, ◌-◌, ◌*◌, ◌/◌
 use Rattle.std.specs.Prelude.{◌==◌, ◌-ℤ◌, neg_ℤ, int_div, int_rem, unsigned_abs}
 use Rattle.std.specs.Int.{Width, w32, w64, int_shr}
 use mir.Val.{bits, hbits}
-use lib.Pow.{mod-mod-pow}
 use Rattle.std.proofs.lemmas.Int.{ints, to_z_pos, int_rem_euclid_is}
 use Rattle.std.proofs.lemmas.Nat.{pow_pos, shr_le}
 use Rattle.std.proofs.Math.Nat.{mod-eq_of_lt, div-le_self, mod-le}
+use Rattle.scalar_domain.proofs.Multiples.{below_word}
 use Rattle.bpf_model.specs.Arithmetic.{operate, word, signed}
 use Rattle.bpf_model.specs.declared.insn.AluOp.{AluOp}
 use Rattle.bpf_model.specs.declared.insn.AluOp.TheVariants.{Add, Sub, Mul, Div, SignedDiv, Or, And, ShiftLeft, ShiftRight, Mod, SignedMod, Xor, Move, ShiftRightSigned}
@@ -25,9 +25,6 @@ negated_difference x q = ap unsigned_abs (int_rem_euclid_is (neg_ℤ (pos x)) (p
 
 pub short_negated : (x : ℕ) → x < 2 ^ 32 → word w32 (neg_ℤ (pos x)) ≡ (0 + (2 ^ 64 - x)) % 2 ^ 32
 short_negated x q = ap unsigned_abs (int_rem_euclid_is (neg_ℤ (pos x)) (pos (2 ^ 32)) (2 ^ 32) (2 ^ 32) (0 + (2 ^ 64 - x)) (pow_pos 32) refl (omega (arith, ints)))
-
-pub low_twice : (n : ℕ) → n % 2 ^ 64 % 2 ^ 32 ≡ n % 2 ^ 32
-low_twice n = mod-mod-pow n 32 32
 
 -- Signed readings of words whose sign bit is 0.
 whole : (w : Width) (n m : ℕ) → n ≤ m → m < 2 ^ bits w → word w (pos n) ≡ n
@@ -64,9 +61,9 @@ short_same op x y p q = unsigned_same w32 (λ n h. omega arith) op x y p q
 -- On words of 32 bits, the operations are those on 64 bits, cut.
 pub low_same : (op : AluOp) (x y : ℕ) → x < 2 ^ 32 → y < 2 ^ 32 → (op ≡ SignedDiv → ⊥) → (op ≡ SignedMod → ⊥) → (op ≡ ShiftLeft → ⊥) → (op ≡ ShiftRight → ⊥) → (op ≡ ShiftRightSigned → ⊥) →
     operate w64 op x y % 2 ^ 32 ≡ operate w32 op x y
-low_same Add x y p q d m l r s = low_twice (x + y)
-low_same Sub x y p q d m l r s = ap (λ n. n % 2 ^ 32) (word_difference x y (omega arith)) ∙ low_twice (x + (2 ^ 64 - y)) ∙ sym (short_difference x y q)
-low_same Mul x y p q d m l r s = low_twice (x * y)
+low_same Add x y p q d m l r s = below_word (x + y) 32 (omega arith)
+low_same Sub x y p q d m l r s = ap (λ n. n % 2 ^ 32) (word_difference x y (omega arith)) ∙ below_word (x + (2 ^ 64 - y)) 32 (omega arith) ∙ sym (short_difference x y q)
+low_same Mul x y p q d m l r s = below_word (x * y) 32 (omega arith)
 low_same Div x y p q d m l r s = mod-eq_of_lt (operate_lt w32 Div x y p q)
 low_same Or x y p q d m l r s = mod-eq_of_lt (operate_lt w32 Or x y p q)
 low_same And x y p q d m l r s = mod-eq_of_lt (operate_lt w32 And x y p q)

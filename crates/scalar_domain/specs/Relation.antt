@@ -47,7 +47,7 @@ relation_on condition.GreaterOrEqual false = Below
 relation_on condition.SharesBits false = Apart
 relation_on other taken = Unknown
 
--- The unsigned form of a condition, and whether a condition is a signed order.
+-- The unsigned form of a condition.
 abbrev pub unsigned_condition : Condition → Condition
 unsigned_condition condition.SignedLess = condition.Less
 unsigned_condition condition.SignedLessOrEqual = condition.LessOrEqual
@@ -55,6 +55,7 @@ unsigned_condition condition.SignedGreater = condition.Greater
 unsigned_condition condition.SignedGreaterOrEqual = condition.GreaterOrEqual
 unsigned_condition other = other
 
+-- whether a condition is a signed order
 abbrev pub signed_order : Condition → Bool
 signed_order condition.SignedLess = true
 signed_order condition.SignedLessOrEqual = true

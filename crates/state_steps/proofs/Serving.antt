@@ -1,7 +1,9 @@
 -- Parts of guarded lookups and calls that begin or end a section are accepted, and leave what the next part needs.
 use Rattle.std.proofs.Common.{◌≡◌, ℕ, ◌/◌, ◌<◌, ◌≤◌, List, length, Option, Some, None, refl, sym, ap, subst, ◌∙◌, inl, inr, arith, ℤ, pos, Bool, true, false}
 use Rattle.std.specs.Prelude.{◌⊎◌, nat_le, if◌then◌else◌, ◌+ℤ◌, slice_get, Result, IsOk}
-use Rattle.std.proofs.lemmas.Bool.{cases_eq, eq-eqb, ne_eqb, lt-leb}
+use Rattle.std.proofs.lemmas.Bool.{cases_eq, eq-eqb, ne_eqb, lt-leb, false≢true}
+use Rattle.typed_runs.specs.Verified.{is_call}
+use Rattle.register_kinds.proofs.Kinds.{kind_is}
 use Rattle.bpf_model.specs.declared.limits.TheConstants.{FRAME_BYTES}
 use Rattle.bpf_model.specs.declared.limits.MapShape.{MapShape}
 use Rattle.bpf_model.specs.declared.insn.Insn.{Insn}
@@ -30,7 +32,7 @@ use Rattle.register_kinds.specs.Changes.{learnt, learnt_kind, learnt_cell}
 use Rattle.state_steps.specs.Stepped.{IsEqualToNull}
 use Rattle.bpf_model.specs.declared.opcode.Size.{Size}
 use Rattle.bpf_model.specs.declared.opcode.Size.TheVariants.{Word64}
-use Rattle.bpf_model.specs.PlainMaps.{lock_call, unlock_call, IsValueLoad, Lookup, Part, FrameCopy, KeyAddress, MapLoad, LookupCall, NullTest, ValueLoad, part_insn, IsFitting}
+use Rattle.bpf_model.specs.PlainMaps.{IsValueLoad, Lookup, Part, FrameCopy, KeyAddress, MapLoad, LookupCall, NullTest, ValueLoad, part_insn, IsFitting}
 use Rattle.control_effects.proofs.Branches.{set-there, set-elsewhere}
 use Rattle.scalar_domain.specs.declared.scalar.Scalar.{Scalar}
 use Rattle.typed_runs.specs.Kinds.{Kind, Blank, Num, FrameAt, MapAt, ValueAt, MaybeNull, ByteCell, AbsState}
@@ -41,7 +43,7 @@ use Rattle.register_kinds.specs.declared.kind.RegKind.TheVariants as kinds
 use Rattle.register_kinds.specs.declared.state.AbsState.{AbsState as StateHere}
 use Rattle.register_kinds.specs.States.{kind_of, cell_of, kind_in, class_in, state_of}
 use Rattle.state_steps.specs.Facts.{Register, FrameByte, FramePointer, Section}
-use Rattle.state_steps.specs.Lookups.{IsKeyWritten, Expects, Prepares, KeepsSaved, IsReadyPart, LeavesPart, IsReadySection, LeavesSection, IsReadyWithMaps, Serves}
+use Rattle.state_steps.specs.Lookups.{IsKeyWritten, Expects, Prepares, KeepsSaved, IsReadyPart, LeavesPart, IsReadySection, LeavesSection, IsReadyWithMaps, Serves, section_call}
 
 -- what is ready among instructions that are no part of a lookup, and no call
 abbrev pub is_serving : Insn → Bool
@@ -80,7 +82,7 @@ part_serving shapes l LookupCall f = refl
 part_serving shapes l NullTest f = refl
 part_serving shapes l ValueLoad f = value_load_serving l.shape l.load f.in_value
 
-section_serving : (opens : Bool) → is_serving (if opens then lock_call else unlock_call) ≡ true
+section_serving : (opens : Bool) → is_serving (section_call opens) ≡ true
 section_serving true = refl
 section_serving false = refl
 
@@ -99,54 +101,9 @@ module _ (shapes : List MapShape) (i : Insn) (idle : is_serving i ≡ false) (a 
   never_ready (inr x) = no_section x.0 x.1
 
 -- an instruction that is no call begins and ends no section
-section_no_alu : (opens : Bool) (op : AluOp) (size : Size) (dst : ℕ) (src : Operand) → Alu op size dst src ≡ (if opens then lock_call else unlock_call) → ⊥
-section_no_alu true op size dst src e = cc
-section_no_alu false op size dst src e = cc
-
--- kinds in the code
-pub frame_kind : (k : RegKind) (o : ℤ) → kind_of k ≡ FrameAt o → k ≡ kinds.Frame o
-frame_kind kinds.Unwritten o e = absurd cc
-frame_kind kinds.Ended o e = absurd cc
-frame_kind kinds.Mixed o e = absurd cc
-frame_kind (kinds.Num t) o e = absurd cc
-frame_kind (kinds.Ctx t) o e = absurd cc
-frame_kind (kinds.Frame p) o e = cc
-frame_kind (kinds.Map m) o e = absurd cc
-frame_kind (kinds.Value m t) o e = absurd cc
-frame_kind (kinds.MaybeNull m i) o e = absurd cc
-
-pub map_kind : (k : RegKind) (n : ℕ) → kind_of k ≡ MapAt n → k ≡ kinds.Map n
-map_kind kinds.Unwritten n e = absurd cc
-map_kind kinds.Ended n e = absurd cc
-map_kind kinds.Mixed n e = absurd cc
-map_kind (kinds.Num t) n e = absurd cc
-map_kind (kinds.Ctx t) n e = absurd cc
-map_kind (kinds.Frame p) n e = absurd cc
-map_kind (kinds.Map m) n e = cc
-map_kind (kinds.Value m t) n e = absurd cc
-map_kind (kinds.MaybeNull m i) n e = absurd cc
-
-pub value_kind : (k : RegKind) (n : ℕ) (s : Scalar) → kind_of k ≡ ValueAt n s → k ≡ kinds.Value n s
-value_kind kinds.Unwritten n s e = absurd cc
-value_kind kinds.Ended n s e = absurd cc
-value_kind kinds.Mixed n s e = absurd cc
-value_kind (kinds.Num t) n s e = absurd cc
-value_kind (kinds.Ctx t) n s e = absurd cc
-value_kind (kinds.Frame p) n s e = absurd cc
-value_kind (kinds.Map m) n s e = absurd cc
-value_kind (kinds.Value m t) n s e = cc
-value_kind (kinds.MaybeNull m i) n s e = absurd cc
-
-pub maybe_kind : (k : RegKind) (n id : ℕ) → kind_of k ≡ MaybeNull n id → k ≡ kinds.MaybeNull n id
-maybe_kind kinds.Unwritten n id e = absurd cc
-maybe_kind kinds.Ended n id e = absurd cc
-maybe_kind kinds.Mixed n id e = absurd cc
-maybe_kind (kinds.Num t) n id e = absurd cc
-maybe_kind (kinds.Ctx t) n id e = absurd cc
-maybe_kind (kinds.Frame p) n id e = absurd cc
-maybe_kind (kinds.Map m) n id e = absurd cc
-maybe_kind (kinds.Value m t) n id e = absurd cc
-maybe_kind (kinds.MaybeNull m i) n id e = cc
+pub no_section_call : (i : Insn) (opens : Bool) → is_call i ≡ false → i ≡ section_call opens → ⊥
+no_section_call i true none e = false≢true (sym none ∙ ap is_call e)
+no_section_call i false none e = false≢true (sym none ∙ ap is_call e)
 
 -- a register is set
 module _ (dst : ℕ) (kind : Kind) (a b : AbsState) (e : AreAlike (with_kind dst kind a) b) where
@@ -193,7 +150,7 @@ module _ (op : AluOp) (size : Size) (dst : ℕ) (src : Operand) (a : StateHere) 
       let o : op ≡ Add = cc in
       let z : size ≡ Word64 = cc in
       let s : src ≡ Immediate l.offset = cc in
-      let k = frame_kind (kind_in a.regs 2) (pos FRAME_BYTES) f in
+      let k = kind_is (kind_in a.regs 2) (FrameAt (pos FRAME_BYTES)) f in
       (d, inr (refl, frame FRAME_BYTES l.at l.offset o z s (λ p. let q : 10 ≡ 2 = p ∙ d in absurd (omega (arith, q))) (ap (kind_in a.regs) d ∙ k) (omega arith) (omega (arith, fit.in_frame.1)) fit.in_frame.0))
 
   pub alu_part : (shapes : List MapShape) (l : Lookup) (p : Part) → IsReadyPart shapes l p (Alu op size dst src) (state_of a) → SetsByPart l p
@@ -206,12 +163,12 @@ module _ (op : AluOp) (size : Size) (dst : ℕ) (src : Operand) (a : StateHere) 
 
   pub alu_ready : (shapes : List MapShape) → ((k : Kind) → R k → ⊥) → IsReadyWithMaps shapes (Alu op size dst src) (state_of a) → ⊥
   alu_ready shapes never (inl x) = elim (alu_part shapes x.0 x.1 x.2).1 [ inl h ↦ never (FrameAt (pos FRAME_BYTES)) h.1 | inr h ↦ never (FrameAt (pos x.0.at)) h.1 ]
-  alu_ready shapes never (inr x) = section_no_alu x.0 op size dst src x.1.insn
+  alu_ready shapes never (inr x) = no_section_call (Alu op size dst src) x.0 refl x.1.insn
 
   pub alu_serves : (shapes : List MapShape) (b : AbsState) → ((k : Kind) → R k → AreAlike (with_kind dst k (state_of a)) b) → Serves shapes (Alu op size dst src) (state_of a) b None
   alu_serves shapes b alike = record {
     part = λ l p ready. leaves l p ready (alu_part shapes l p ready);
-    section = λ opens ready. absurd (section_no_alu opens op size dst src ready.insn);
+    section = λ opens ready. absurd (no_section_call (Alu op size dst src) opens refl ready.insn);
   }
     where
       made : (k : Kind) → R k → dst ≡ 2 → AreAlike (with_kind 2 k (state_of a)) b
@@ -247,10 +204,6 @@ module _ (op : AluOp) (size : Size) (dst : ℕ) (src : Operand) (a : StateHere) 
 map_load : (dst : ℕ) (map : ℤ) (l : Lookup) → LoadMap dst map ≡ part_insn l MapLoad → (dst ≡ 1) × (map ≡ pos l.map)
 map_load dst map l e = (cc, cc)
 
-map_no_section : (opens : Bool) (dst : ℕ) (map : ℤ) → LoadMap dst map ≡ (if opens then lock_call else unlock_call) → ⊥
-map_no_section true dst map e = cc
-map_no_section false dst map e = cc
-
 module _ (dst : ℕ) (map : ℤ) (shapes : List MapShape) (a : AbsState) (R : Kind → Type 0)
     (sets : (n : ℕ) → (10 ≡ dst → ⊥) → map ≡ pos n → n < length shapes → R (MapAt n)) where
   map_part : (l : Lookup) (p : Part) → IsReadyPart shapes l p (LoadMap dst map) a → (p ≡ MapLoad) × (dst ≡ 1) × R (MapAt l.map)
@@ -266,7 +219,7 @@ module _ (dst : ℕ) (map : ℤ) (shapes : List MapShape) (a : AbsState) (R : Ki
   pub map_serves : (b : AbsState) → ((k : Kind) → R k → AreAlike (with_kind dst k a) b) → Serves shapes (LoadMap dst map) a b None
   map_serves b alike = record {
     part = λ l p ready. leaves l p ready (map_part l p ready);
-    section = λ opens ready. absurd (map_no_section opens dst map ready.insn);
+    section = λ opens ready. absurd (no_section_call (LoadMap dst map) opens refl ready.insn);
   }
     where
       leaves : (l : Lookup) (p : Part) → IsReadyPart shapes l p (LoadMap dst map) a → (p ≡ MapLoad) × (dst ≡ 1) × R (MapAt l.map) → LeavesPart l p a b None
@@ -313,7 +266,7 @@ byte_class spill class.Part e = absurd cc
 key_bytes : (shapes : List MapShape) (l : Lookup) (a : StateHere) → IsFitting shapes l → Expects l LookupCall (state_of a) → PointsToBytes a 2 l.shape.key_len
 key_bytes shapes l a fit x = record {
   at = l.at;
-  start = frame_kind (kind_in a.regs 2) (pos l.at) x.1;
+  start = kind_is (kind_in a.regs 2) (FrameAt (pos l.at)) x.1;
   inside = fit.in_frame.2;
   bytes = λ k p q. byte_class (kind_in a.frame.spills (k / 8)) (class_in a.frame.cells k) (x.0 k p q);
 }
@@ -346,7 +299,7 @@ module _ (kind : CallKind) (imm : ℤ) (shapes : List MapShape) (a : StateHere) 
   section_is false ready = (let e = ready.insn in (cc, cc))
 
   called_map : (l : Lookup) (p : Part) (ready : IsReadyPart shapes l p (Call kind imm) (state_of a)) → p ≡ LookupCall → kind_in a.regs 1 ≡ kinds.Map l.map
-  called_map l p ready h = let x : Expects l LookupCall (state_of a) = subst (λ p. Expects l p (state_of a)) h ready.expects in map_kind (kind_in a.regs 1) l.map x.2
+  called_map l p ready h = let x : Expects l LookupCall (state_of a) = subst (λ p. Expects l p (state_of a)) h ready.expects in kind_is (kind_in a.regs 1) (MapAt l.map) x.2
 
   pub call_ready : (result : Result (Unit {0}) Fault) → CallAccepts kind imm shapes a result → IsReadyWithMaps shapes (Call kind imm) (state_of a) → IsOk result
   call_ready result accepts (inl (l, p, ready)) =
@@ -388,10 +341,6 @@ module _ (kind : CallKind) (imm : ℤ) (shapes : List MapShape) (a : StateHere) 
           (unlock_saves (state_of a) (state_of b) f, f.inside)
 
 -- a test for null
-branch_no_section : (opens : Bool) (condition : Condition) (size : Size) (dst : ℕ) (src : Operand) (offset : ℤ) → JumpIf condition size dst src offset ≡ (if opens then lock_call else unlock_call) → ⊥
-branch_no_section true condition size dst src offset e = cc
-branch_no_section false condition size dst src offset e = cc
-
 null_saves : (id : ℕ) (a b : AbsState) → AreAlike (learnt (IsNull id) a) b → KeepsSaved a b
 null_saves id a b e (Register r) s h = (h.0, e.regs r ∙ ap (learnt_kind (IsNull id)) h.1)
 null_saves id a b e (FrameByte k) s h = e.cells k ∙ ap (learnt_cell (IsNull id)) h
@@ -419,17 +368,17 @@ module _ (condition : Condition) (size : Size) (dst : ℕ) (src : Operand) (offs
       let c : condition ≡ Equal = cc in
       let z : size ≡ Word64 = cc in
       let s : src ≡ Immediate (pos 0) = cc in
-      (refl, d, (ready.expects.0, record { condition_is = c; size_is = z; src_is = s; kind = ap (kind_in a.regs) d ∙ maybe_kind (kind_in a.regs 0) l.map ready.expects.0 ready.expects.1 }))
+      (refl, d, (ready.expects.0, record { condition_is = c; size_is = z; src_is = s; kind = ap (kind_in a.regs) d ∙ kind_is (kind_in a.regs 0) (MaybeNull l.map ready.expects.0) ready.expects.1 }))
   branch_part l ValueLoad ready = absurd (subst (IsValueLoad l.shape) (sym ready.insn) ready.fitting.in_value)
 
   pub branch_ready : IsReadyWithMaps shapes (JumpIf condition size dst src offset) (state_of a) → (map id : ℕ) × IsEqualToNull condition size dst src map id a
   branch_ready (inl x) = let r = (branch_part x.0 x.1 x.2).2 in (x.0.map, r.0, r.1)
-  branch_ready (inr x) = absurd (branch_no_section x.0 condition size dst src offset x.1.insn)
+  branch_ready (inr x) = absurd (no_section_call (JumpIf condition size dst src offset) x.0 refl x.1.insn)
 
   pub branch_serves : (b t : StateHere) → ((map id : ℕ) → IsEqualToNull condition size dst src map id a → Splits id a t b) → Serves shapes (JumpIf condition size dst src offset) (state_of a) (state_of b) (Some (state_of t))
   branch_serves b t splits = record {
     part = λ l p ready. leaves l p ready (branch_part l p ready);
-    section = λ opens ready. absurd (branch_no_section opens condition size dst src offset ready.insn);
+    section = λ opens ready. absurd (no_section_call (JumpIf condition size dst src offset) opens refl ready.insn);
   }
     where
       leaves : (l : Lookup) (p : Part) → IsReadyPart shapes l p (JumpIf condition size dst src offset) (state_of a) → (p ≡ NullTest) × (dst ≡ 0) × ((id : ℕ) × IsEqualToNull condition size dst src l.map id a)
@@ -446,7 +395,7 @@ module _ (condition : Condition) (size : Size) (dst : ℕ) (src : Operand) (offs
 -- a load from the value
 module _ (i : Insn) (dst base width : ℕ) (offset : ℤ) (shapes : List MapShape) (a : StateHere)
     (is_load : (shape : MapShape) → IsValueLoad shape i → (base ≡ 0) × (6 ≤ dst) × (dst ≤ 9) × (at : ℕ) × (region_offset shape.value_len width offset ≡ Some at))
-    (no_other : (l : Lookup) (p : Part) → i ≡ part_insn l p → p ≡ ValueLoad) (no_call : (opens : Bool) → i ≡ (if opens then lock_call else unlock_call) → ⊥) where
+    (no_other : (l : Lookup) (p : Part) → i ≡ part_insn l p → p ≡ ValueLoad) (no_call : (opens : Bool) → i ≡ (section_call opens) → ⊥) where
   -- what is read, into r6 to r9
   abbrev pub LoadsByPart : Lookup → Part → Type 0
   LoadsByPart l p = (p ≡ ValueLoad) × (dst ≤ 9) × (10 ≡ dst → ⊥) × ReadsValue shapes a base l.map width offset
@@ -464,7 +413,7 @@ module _ (i : Insn) (dst base width : ℕ) (offset : ℤ) (shapes : List MapShap
           shape = l.shape;
           shape_is = ready.fitting.in_list;
           offsets = x.0;
-          base = ap (kind_in a.regs) v.0 ∙ value_kind (kind_in a.regs 0) l.map x.0 x.1;
+          base = ap (kind_in a.regs) v.0 ∙ kind_is (kind_in a.regs 0) (ValueAt l.map x.0) x.1;
           start = x.2;
           at = v.3;
           inside = v.4;
@@ -505,11 +454,3 @@ signed_no_other width dst base offset l MapLoad e = absurd cc
 signed_no_other width dst base offset l LookupCall e = absurd cc
 signed_no_other width dst base offset l NullTest e = absurd cc
 signed_no_other width dst base offset l ValueLoad e = refl
-
-pub load_no_call : (width : Width) (dst base : ℕ) (offset : ℤ) (opens : Bool) → Load width dst base offset ≡ (if opens then lock_call else unlock_call) → ⊥
-load_no_call width dst base offset true e = cc
-load_no_call width dst base offset false e = cc
-
-pub signed_no_call : (width : SignedWidth) (dst base : ℕ) (offset : ℤ) (opens : Bool) → LoadSigned width dst base offset ≡ (if opens then lock_call else unlock_call) → ⊥
-signed_no_call width dst base offset true e = cc
-signed_no_call width dst base offset false e = cc

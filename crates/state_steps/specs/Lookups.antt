@@ -61,9 +61,13 @@ pub record LeavesPart (l : Lookup) (p : Part) (a b : AbsState) (taken : Option A
   pub prepares : Prepares l p b
   pub keeps_taken : IfSome taken (λ t. KeepsSaved a t × (t.inside ≡ a.inside))
 
+-- a call that begins a section, or one that ends it
+abbrev pub section_call : Bool → Insn
+section_call opens = if opens then lock_call else unlock_call
+
 -- a lock outside every section, or an unlock inside one
 pub record IsReadySection (opens : Bool) (i : Insn) (a : AbsState) : Type 0 where
-  pub insn : i ≡ (if opens then lock_call else unlock_call)
+  pub insn : i ≡ section_call opens
   pub before : a.inside ≡ (if opens then false else true)
 
 abbrev pub LeavesSection : Bool → AbsState → AbsState → Type 0

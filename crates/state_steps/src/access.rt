@@ -26,7 +26,7 @@ pub(crate) fn load_step(
 }
 
 /// A load that extends the sign.
-pub(crate) fn signed_step(
+pub(crate) fn load_signed_step(
     state: &mut AbsState,
     width: SignedWidth,
     dst: Reg,

@@ -36,7 +36,7 @@ pub(crate) fn unary_step(state: &mut AbsState, op: &UnaryOp, dst: Reg) -> Result
 }
 
 /// The wide instruction with a number.
-pub(crate) fn number_step(state: &mut AbsState, dst: Reg, number: u64) -> Result<Flow, Fault>
+pub(crate) fn load_number_step(state: &mut AbsState, dst: Reg, number: u64) -> Result<Flow, Fault>
     ensures { (shapes : List MapShape) (ctx_len top : ℕ) → AreBelow top state.old
         → Stepped (Insn.LoadNumber dst number) shapes ctx_len top state.old state.new result }
 {
@@ -45,7 +45,7 @@ pub(crate) fn number_step(state: &mut AbsState, dst: Reg, number: u64) -> Result
 }
 
 /// The wide instruction with a map.
-pub(crate) fn map_step(
+pub(crate) fn load_map_step(
     state: &mut AbsState,
     dst: Reg,
     map: i32,

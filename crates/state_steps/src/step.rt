@@ -10,8 +10,8 @@ ghost use Rattle.state_steps.specs.Facts.{IsReadyInsn, KeepsFacts};
 ghost use Rattle.state_steps.specs.Lookups.{IsReadyWithMaps, Serves};
 ghost use Rattle.state_steps.specs.Stepped.{Stepped};
 
-use crate::access::{load_step, signed_step, store_step};
-use crate::compute::{alu_step, map_step, number_step, unary_step};
+use crate::access::{load_step, load_signed_step, store_step};
+use crate::compute::{alu_step, load_map_step, load_number_step, unary_step};
 use crate::control::{branch_step, call_step, exit_step, jump_long_step, jump_step};
 use crate::flow::Flow;
 use bpf_model::Insn;
@@ -101,8 +101,8 @@ fn perform(
     match insn {
         Insn::Alu { op, size, dst, src } => alu_step(state, *op, *size, *dst, src),
         Insn::Unary { op, dst } => unary_step(state, op, *dst),
-        Insn::LoadNumber { dst, number } => number_step(state, *dst, *number),
-        Insn::LoadMap { dst, map } => map_step(state, *dst, *map, shape),
+        Insn::LoadNumber { dst, number } => load_number_step(state, *dst, *number),
+        Insn::LoadMap { dst, map } => load_map_step(state, *dst, *map, shape),
         Insn::Jump { .. } => Ok(jump_step()),
         Insn::JumpLong { .. } => Ok(jump_long_step()),
         Insn::JumpIf {
@@ -136,7 +136,7 @@ fn perform(
                 base: *src,
                 offset: *offset,
             };
-            signed_step(state, *width, *dst, from, shape)
+            load_signed_step(state, *width, *dst, from, shape)
         }
         Insn::Store {
             width,

@@ -27,7 +27,7 @@ use Rattle.kind_tests.specs.declared.fault.Fault.{Fault}
 use Rattle.kind_tests.specs.declared.fault.Fault.TheVariants as faults
 use Rattle.memory_effects.specs.declared.region.Region.{Region}
 use Rattle.state_steps.specs.Facts.{Fact, Register, FrameByte, FramePointer, Section, FactHolds, Makes, IsReadyInsn, KeepsFacts}
-use Rattle.state_steps.specs.Lookups.{IsKeyWritten, Expects, KeepsSaved, IsReadyPart, LeavesPart, IsReadySection, LeavesSection, IsReadyWithMaps}
+use Rattle.state_steps.specs.Lookups.{IsKeyWritten, Expects, KeepsSaved, IsReadyPart, LeavesPart, IsReadySection, LeavesSection, IsReadyWithMaps, section_call}
 use Rattle.verifier.specs.declared.refusal.Refusal.{Refusal}
 use Rattle.verifier.specs.declared.refusal.Refusal.TheVariants.{Memory}
 use Rattle.verifier.specs.declared.waiting.Waiting.{Waiting}
@@ -128,10 +128,6 @@ makes_or_not i (Register r) = writes_or_not i r
 makes_or_not i (FrameByte k) = writes_byte_or_not i k
 makes_or_not i FramePointer = inr (λ h. h)
 makes_or_not i (Section inside) = inr (λ h. h)
-
--- a call that begins a section, or one that ends it
-abbrev pub section_call : Bool → Insn
-section_call opens = if opens then lock_call else unlock_call
 
 section_no_jump : (opens : Bool) (d : ℤ) → distance (section_call opens) ≡ Some d → ⊥
 section_no_jump true d e = none-some d e

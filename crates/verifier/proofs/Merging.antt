@@ -30,7 +30,7 @@ joined_from w new a b c n e f wide wide' facts expects = inr (
   },
 )
 
--- all that waits is below, but for one place: there too
+-- all that waits is below, but for one index: there too
 pub merged_below : (top index : ℕ) (old new : Awaited) → AllBelow top old → ((k : ℕ) → k ≢ index → new k ≡ old k) → IfSome (state_in (new index)) (AreBelow top) → AllBelow top new
 merged_below top index old new b others here k a e = elim (cases_eq k index) [
   | inl g ↦ at_some (state_in (new index)) (ap (λ k. state_in (new k)) (sym g) ∙ e) here

@@ -29,7 +29,7 @@ use Rattle.memory_effects.specs.declared.region.Region.{Region}
 use Rattle.state_steps.specs.Steps.{IsForward}
 use Rattle.verifier.specs.declared.waiting.Waiting.{Waiting}
 use Rattle.verifier.specs.declared.waiting.Waiting.TheVariants.{Nothing, Differing}
-use Rattle.verifier.specs.SecondPass.{Awaited, Table, size_of, awaited, state_in, planned, Fell, Jumped, Spreads, Advances, Notes, Passed, IsPassed, IsDoomed, Awaits, StartsFrom}
+use Rattle.verifier.specs.SecondPass.{Awaited, Table, size_of, awaited, state_in, planned, Fell, Jumped, Spreads, Advances, Notes, Passed, IsPassed, DiffersAhead, Awaits, StartsFrom}
 use Rattle.verifier.proofs.Merging.{Later, same_later, Stays, AllStay, same_stay, merged_there, merged_later, merged_or}
 use Rattle.bpf_model.proofs.Lists.{get-append_cases, get-below}
 
@@ -179,7 +179,7 @@ module _ (program : List Insn) (targets : List (Option ℕ)) (all : HasTargets p
   along m a s stay = let r = stay m s.0 s.1 in (r.0, r.1, λ c x d. r.2 c x (s.2 c x d))
 
   -- the sections of two states differ, or all is well
-  pub steps_or : IsDoomed (length program) (k + 1) new ⊎ Steps
+  pub steps_or : DiffersAhead (length program) (k + 1) new ⊎ Steps
   steps_or = elim (fell_or spread.next done.insn k spread.taken spread.jumping done.rest spread.mid spread.fell) [
     | inl f ↦ inl (record {
       index = suc k;
@@ -203,8 +203,8 @@ module _ (program : List Insn) (targets : List (Option ℕ)) (all : HasTargets p
   ]
 
   -- states that differ go on to differ
-  pub doomed_on : IsDoomed (length program) k old → IsDoomed (length program) (k + 1) new
-  doomed_on d =
+  pub differs_on : DiffersAhead (length program) k old → DiffersAhead (length program) (k + 1) new
+  differs_on d =
       let other : d.index ≢ k = (λ e. (let g : None ≡ Some done.state = sym (ap state_in (ap old (sym e) ∙ d.differs)) ∙ done.waited in cc)) in
       record { index = d.index; ahead = (let h = d.ahead in omega arith); inside = d.inside; differs = later.differs d.index (done.others d.index other ∙ d.differs) }
 
@@ -301,9 +301,9 @@ module _ (program : List Insn) (targets : List (Option ℕ)) (all : HasTargets p
 
   -- one more instruction is done
   pub passed_more : (regions : List Region) → length regions ≡ k
-      → IsDoomed (length program) k old ⊎ ((plan : Plan) × Passed program regions shapes ctx_len k plan old)
-      → IsDoomed (length program) (k + 1) new ⊎ ((plan : Plan) × Passed program (regions ++ region ∷ []) shapes ctx_len (k + 1) plan new)
-  passed_more regions count (inl d) = inl (doomed_on d)
+      → DiffersAhead (length program) k old ⊎ ((plan : Plan) × Passed program regions shapes ctx_len k plan old)
+      → DiffersAhead (length program) (k + 1) new ⊎ ((plan : Plan) × Passed program (regions ++ region ∷ []) shapes ctx_len (k + 1) plan new)
+  passed_more regions count (inl d) = inl (differs_on d)
   passed_more regions count (inr p) = elim steps_or [ inl d ↦ inl d | inr s ↦ inr (spliced p.0, passed_here regions p.0 p.1 count s) ]
 
   -- what waits after the instruction
@@ -358,7 +358,7 @@ waits_here program targets long all k at graph w h = elim (reached_by (graph.rea
 
 -- all instructions are done
 pub passed_all : (program : List Insn) (regions : List Region) (shapes : List MapShape) (ctx_len k : ℕ) (t : Table) → k ≡ length program → size_of t ≡ length program
-    → IsDoomed (length program) k (awaited t) ⊎ ((plan : Plan) × Passed program regions shapes ctx_len k plan (awaited t))
+    → DiffersAhead (length program) k (awaited t) ⊎ ((plan : Plan) × Passed program regions shapes ctx_len k plan (awaited t))
     → (plan : Plan) × IsPassed program regions shapes ctx_len plan
 passed_all program regions shapes ctx_len k t e f (inl d) = absurd (let h = d.ahead in let l = d.inside in omega arith)
 passed_all program regions shapes ctx_len k t e f (inr p) = (p.0, record { start = p.1.start; inside = inside; each = p.1.each })

@@ -1,15 +1,16 @@
 use Rattle.std.proofs.Common.{sym}
-use Rattle.asm.proofs.LineLaws.{no_insn, formed_line, formed_insn, has_form, text_is, ok_is, not_insn, true_no}
+use Rattle.std.proofs.lemmas.Bool.{false≢true}
+use Rattle.asm.proofs.LineLaws.{no_insn, formed_line, formed_insn, has_form, text_is, ok_is, not_insn}
 use Rattle.asm.proofs.line.read_insn.Goals as goal
 
 pub returns-in_default-clause-only : goal.returns-in_default-clause-only
 returns-in_default-clause-only c i h e = absurd (no_insn c.args.line.now c.in_default.ensures.only i e)
 
 pub returns-then-not-is_formed-clause-only : goal.returns-then-not-is_formed-clause-only
-returns-then-not-is_formed-clause-only c i h e = absurd (true_no _ c.if-not-is_formed.ensures (formed_insn c.args.line.now c.in-Some.statement c.in-Some.ensures.only i h e))
+returns-then-not-is_formed-clause-only c i h e = absurd (false≢true (c.if-not-is_formed.ensures ∙ formed_insn c.args.line.now c.in-Some.statement c.in-Some.ensures.only i h e))
 
 pub returns-then-not-is_formed-clause-flaw : goal.returns-then-not-is_formed-clause-flaw
-returns-then-not-is_formed-clause-flaw c h = true_no _ c.if-not-is_formed.ensures (formed_line c.args.line.now c.in-Some.statement c.in-Some.ensures.only h)
+returns-then-not-is_formed-clause-flaw c h = false≢true (c.if-not-is_formed.ensures ∙ formed_line c.args.line.now c.in-Some.statement c.in-Some.ensures.only h)
 
 pub returns-in-Some-insn_from-clause-found : goal.returns-in-Some-insn_from-clause-found
 returns-in-Some-insn_from-clause-found c = (

@@ -1,9 +1,9 @@
+use Rattle.kind_tests.proofs.Results.{same_Ok}
 use Rattle.register_kinds.specs.States.{kind_of, state_of}
 use Rattle.std.proofs.Common.{refl, subst}
 use Rattle.typed_runs.specs.Effects.{with_kind}
 use Rattle.typed_runs.specs.Planned.{AreAlike}
 use Rattle.register_kinds.specs.declared.kind.RegKind.{RegKind}
-use Rattle.compute_effects.proofs.Numbers.{ok_is}
 use Rattle.compute_effects.proofs.Combining.{alu_sound}
 use Rattle.compute_effects.proofs.arithmetic.alu.Goals as goal
 
@@ -15,5 +15,5 @@ returns-clause-numbers c = λ ne reads src.
     let k = c.in_ok-kind.ensures.numbers reads src in record {
       fine = refl;
       number = k.0;
-      alike = subst (λ (k : RegKind). AreAlike (with_kind c.args.dst (kind_of k) (state_of c.args.state.now)) (state_of c.set.new.self)) (ok_is _ _ k.1) c.set.ensures.alike;
+      alike = subst (λ (k : RegKind). AreAlike (with_kind c.args.dst (kind_of k) (state_of c.args.state.now)) (state_of c.set.new.self)) (same_Ok _ _ k.1) c.set.ensures.alike;
     }

@@ -1,6 +1,8 @@
 use Rattle.std.proofs.Common.{sym, ◌∙◌, inl, inr}
-use Rattle.compute_effects.proofs.Numbers.{number_kind, ok_is}
 use Rattle.std.proofs.lemmas.Result.{IfOk-weaker}
+use Rattle.typed_runs.specs.Kinds.{Num}
+use Rattle.register_kinds.proofs.Kinds.{kind_is}
+use Rattle.kind_tests.proofs.Results.{same_Ok}
 use Rattle.register_kinds.specs.States.{kind_of, state_of}
 use Rattle.compute_effects.proofs.Combining.{moves_compute, others_compute}
 use Rattle.compute_effects.proofs.arithmetic.computed_kind.Goals as goal
@@ -21,15 +23,15 @@ returns-in_ok-y-in_default c = record {
     | inl e ↦ absurd (c.in_default.not-Move e)
     | inr p ↦
         let y = c.in_ok-y-in_default.ensures.numbers src in
-        c.combined.ensures.numbers p.0 y.0 (sym c.in_ok-x-in_default.ensures.value ∙ number_kind _ p.0 p.1) (ok_is _ _ y.1)
+        c.combined.ensures.numbers p.0 y.0 (sym c.in_ok-x-in_default.ensures.value ∙ kind_is _ (Num p.0) p.1) (same_Ok _ _ y.1)
   ];
   copies = λ s op size src w. absurd (c.in_default.not-Move op);
   frame = λ m at imm op size src x l h s.
       let y = c.in_ok-y-in_default.ensures.operand.number imm src in
-      c.combined.ensures.frame m at imm y.0 size op (sym c.in_ok-x-in_default.ensures.value ∙ x) (ok_is _ _ y.1) y.2 l h s;
+      c.combined.ensures.frame m at imm y.0 size op (sym c.in_ok-x-in_default.ensures.value ∙ x) (same_Ok _ _ y.1) y.2 l h s;
 }
 
 pub returns-in_ok-operand-in-Move-clause-numbers : goal.returns-in_ok-operand-in-Move-clause-numbers
 returns-in_ok-operand-in-Move-clause-numbers c = λ reads src.
     let y = c.in_ok-operand-in-Move.ensures.numbers src in
-    c.copied.ensures.numbers y.0 (ok_is _ _ y.1)
+    c.copied.ensures.numbers y.0 (same_Ok _ _ y.1)

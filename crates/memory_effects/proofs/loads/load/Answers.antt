@@ -1,5 +1,5 @@
 use Rattle.std.proofs.Common.{refl, subst, ap, ◌∙◌}
-use Rattle.memory_effects.proofs.Numbers.{reads_is}
+use Rattle.kind_tests.proofs.Results.{same_Ok}
 use Rattle.bpf_model.specs.declared.insn.Insn.TheVariants.{Load}
 use Rattle.typed_runs.specs.Kinds.{Kind}
 use Rattle.typed_runs.specs.Effects.{with_kind}
@@ -23,7 +23,7 @@ returns-clause-bytes c = λ ne b. record {
   fine = refl;
   number = c.loaded.result;
   alike = subst (λ (k : Kind). AreAlike (with_kind c.args.dst k (state_of c.args.state.now)) (state_of c.set.new.self))
-      (c.kind.ensures ∙ ap (λ x. read_kind x c.loaded.result) (reads_is _ _ (c.in_ok-reads.ensures.bytes b))) c.set.ensures.alike;
+      (c.kind.ensures ∙ ap (λ x. read_kind x c.loaded.result) (same_Ok _ _ (c.in_ok-reads.ensures.bytes b))) c.set.ensures.alike;
 }
 
 pub returns-clause-value : goal.returns-clause-value
@@ -31,7 +31,7 @@ returns-clause-value c = λ map ne b. record {
   fine = refl;
   number = c.loaded.result;
   alike = subst (λ (k : Kind). AreAlike (with_kind c.args.dst k (state_of c.args.state.now)) (state_of c.set.new.self))
-      (c.kind.ensures ∙ ap (λ x. read_kind x c.loaded.result) (reads_is _ _ (c.in_ok-reads.ensures.value map b))) c.set.ensures.alike;
+      (c.kind.ensures ∙ ap (λ x. read_kind x c.loaded.result) (same_Ok _ _ (c.in_ok-reads.ensures.value map b))) c.set.ensures.alike;
 }
 
 pub returns-in_err-reads-clause-value : goal.returns-in_err-reads-clause-value

@@ -1,6 +1,6 @@
 use Rattle.std.proofs.Common.{refl, subst, sym, ap, ◌∙◌}
 use Rattle.memory_effects.specs.Accesses.{ReadsBytes, ReadsValue}
-use Rattle.memory_effects.proofs.Numbers.{reads_is}
+use Rattle.kind_tests.proofs.Results.{same_Ok}
 use Rattle.bpf_model.specs.declared.insn.Insn.TheVariants.{LoadSigned}
 use Rattle.bpf_model.specs.declared.opcode.Width.{Width}
 use Rattle.bpf_model.specs.Access.{byte_count}
@@ -29,7 +29,7 @@ returns-clause-bytes c = λ ne b.
       fine = refl;
       number = c.load_signed.result;
       alike = subst (λ (k : Kind). AreAlike (with_kind c.args.dst k (state_of c.args.state.now)) (state_of c.set.new.self))
-          (c.kind.ensures ∙ ap (λ x. read_kind x c.load_signed.result) (reads_is _ _ (c.in_ok-reads.ensures.bytes read))) c.set.ensures.alike;
+          (c.kind.ensures ∙ ap (λ x. read_kind x c.load_signed.result) (same_Ok _ _ (c.in_ok-reads.ensures.bytes read))) c.set.ensures.alike;
     }
 
 pub returns-clause-value : goal.returns-clause-value
@@ -38,7 +38,7 @@ returns-clause-value c = λ map ne b.
       fine = refl;
       number = c.load_signed.result;
       alike = subst (λ (k : Kind). AreAlike (with_kind c.args.dst k (state_of c.args.state.now)) (state_of c.set.new.self))
-          (c.kind.ensures ∙ ap (λ x. read_kind x c.load_signed.result) (reads_is _ _ (c.in_ok-reads.ensures.value map read))) c.set.ensures.alike;
+          (c.kind.ensures ∙ ap (λ x. read_kind x c.load_signed.result) (same_Ok _ _ (c.in_ok-reads.ensures.value map read))) c.set.ensures.alike;
     }
 
 pub returns-in_err-reads-clause-value : goal.returns-in_err-reads-clause-value

@@ -2,14 +2,15 @@ use Rattle.std.proofs.Common.{◌≡◌, ◌*◌, ◌/◌, ◌%◌, ◌^◌, sym
 use Rattle.std.specs.Int.{w32}
 use Rattle.std.proofs.lemmas.Nat.{shr_le}
 use Rattle.std.proofs.Math.Nat.{mod-eq_of_lt}
+use Rattle.scalar_domain.proofs.Multiples.{below_word}
 use Rattle.bpf_model.specs.Arithmetic.{operate}
 use Rattle.scalar_domain.specs.Scalar.{Holds}
-use Rattle.scalar_domain.proofs.Forms.{low_twice, low_same}
+use Rattle.scalar_domain.proofs.Forms.{low_same}
 use Rattle.scalar_domain.proofs.apply.apply_short.Goals as goal
 
 pub returns-in-ShiftLeft-clause-sound : goal.returns-in-ShiftLeft-clause-sound
 returns-in-ShiftLeft-clause-sound c = λ x y p q h k.
-    subst (Holds c.low_bits.result) (low_twice (x * 2 ^ (y % 32)) ∙ sym (ap (λ o. operate w32 o x y) c.in-ShiftLeft.is))
+    subst (Holds c.low_bits.result) (below_word (x * 2 ^ (y % 32)) 32 (omega arith) ∙ sym (ap (λ o. operate w32 o x y) c.in-ShiftLeft.is))
     (c.low_bits.ensures.sound _ (c.shift_left_by.ensures.sound x y (omega (arith, p)) h k))
 
 pub returns-in-ShiftRight-clause-sound : goal.returns-in-ShiftRight-clause-sound

@@ -14,14 +14,14 @@ returns-in-Unary-clause-stepped c = subst (λ (i : Insn). Stepped i c.args.shape
     (c.unary_step.ensures c.args.shape.now.shapes.now c.args.shape.now.ctx_len c.args.ids.now.next c.requires.below)
 
 pub returns-in-LoadNumber-clause-stepped : goal.returns-in-LoadNumber-clause-stepped
-returns-in-LoadNumber-clause-stepped c = subst (λ (i : Insn). Stepped i c.args.shape.now.shapes.now c.args.shape.now.ctx_len c.args.ids.now.next c.args.state.now c.number_step.new.state c.number_step.result) (sym c.in-LoadNumber.is)
-    (c.number_step.ensures c.args.shape.now.shapes.now c.args.shape.now.ctx_len c.args.ids.now.next c.requires.below)
+returns-in-LoadNumber-clause-stepped c = subst (λ (i : Insn). Stepped i c.args.shape.now.shapes.now c.args.shape.now.ctx_len c.args.ids.now.next c.args.state.now c.load_number_step.new.state c.load_number_step.result) (sym c.in-LoadNumber.is)
+    (c.load_number_step.ensures c.args.shape.now.shapes.now c.args.shape.now.ctx_len c.args.ids.now.next c.requires.below)
 
 pub returns-in-LoadMap-clause-stepped : goal.returns-in-LoadMap-clause-stepped
 returns-in-LoadMap-clause-stepped c =
     let f : SFits w32 c.in-LoadMap.map = search rules in
-    subst (λ (i : Insn). Stepped i c.args.shape.now.shapes.now c.args.shape.now.ctx_len c.args.ids.now.next c.args.state.now c.map_step.new.state c.map_step.result) (sym c.in-LoadMap.is)
-    (simp to_z-of_z at (c.map_step.ensures c.args.shape.now.ctx_len c.args.ids.now.next c.requires.below))
+    subst (λ (i : Insn). Stepped i c.args.shape.now.shapes.now c.args.shape.now.ctx_len c.args.ids.now.next c.args.state.now c.load_map_step.new.state c.load_map_step.result) (sym c.in-LoadMap.is)
+    (simp to_z-of_z at (c.load_map_step.ensures c.args.shape.now.ctx_len c.args.ids.now.next c.requires.below))
 
 pub returns-in-JumpIf-clause-stepped : goal.returns-in-JumpIf-clause-stepped
 returns-in-JumpIf-clause-stepped c = subst (λ (i : Insn). Stepped i c.args.shape.now.shapes.now c.args.shape.now.ctx_len c.args.ids.now.next c.args.state.now c.branch_step.new.state c.branch_step.result) (sym c.in-JumpIf.is)

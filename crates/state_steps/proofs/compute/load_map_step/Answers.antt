@@ -6,7 +6,7 @@ use Rattle.register_kinds.specs.States.{state_of}
 use Rattle.compute_effects.specs.Computes.{SetsKind}
 use Rattle.state_steps.proofs.Serving.{map_serves}
 use Rattle.state_steps.proofs.Stepping.{quiet_step}
-use Rattle.state_steps.proofs.compute.map_step.Goals as goal
+use Rattle.state_steps.proofs.compute.load_map_step.Goals as goal
 
 pub returns : goal.returns
 returns c = λ ctx_len top below.

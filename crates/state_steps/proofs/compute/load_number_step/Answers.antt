@@ -4,7 +4,7 @@ use Rattle.register_kinds.specs.States.{state_of}
 use Rattle.state_steps.proofs.Serving.{serves_none}
 use Rattle.state_steps.proofs.Stepping.{quiet_step}
 use Rattle.state_steps.proofs.Keeping.{set_keeps}
-use Rattle.state_steps.proofs.compute.number_step.Goals as goal
+use Rattle.state_steps.proofs.compute.load_number_step.Goals as goal
 
 pub returns : goal.returns
 returns c = λ shapes ctx_len top below.
