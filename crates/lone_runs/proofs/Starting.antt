@@ -23,7 +23,7 @@ use Rattle.typed_runs.specs.Verified.{IsVerified}
 use Rattle.typed_runs.specs.Well.{AreVerified, IsVerifiedFor}
 use Rattle.view_laws.specs.Reactions.{fresh_view, start_by, with_run}
 use Rattle.world_laws.specs.Reacting.{full_reaction}
-use Rattle.world_laws.specs.Typed.{AreTypedPrograms, IsTypedProgram, IsReadyWorld}
+use Rattle.world_laws.specs.Typed.{AreRealPrograms, IsRealProgram, IsReadyWorld}
 use Rattle.world_laws.proofs.Codes.{all-get}
 use Rattle.world_laws.proofs.Worlds.{ready_stays, simulates, starts_ready}
 use Rattle.verifier.specs.Checked.{Checked}
@@ -55,8 +55,8 @@ module _ (v : Checked) (justified : IsJustified v) (verified : IsVerified v.prog
     verified = verified;
   })
 
-  are-programs : AreTypedPrograms programs
-  are-programs = one IsTypedProgram (loaded_alone v) (record { code = all-get FitsInsn v.program justified.program.fits; maps = omega arith })
+  are-programs : AreRealPrograms programs
+  are-programs = one IsRealProgram (loaded_alone v) (record { code = all-get FitsInsn v.program justified.program.fits; maps = omega arith })
 
   ready : IsReadyWorld world
   ready = starts_ready [] programs (omega arith) are-verified are-programs

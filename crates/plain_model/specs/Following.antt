@@ -35,7 +35,7 @@ pub record FollowsLists (s : Schedule) (event : Event) (answer : Answer) (new : 
   pub lists : new ≡ scheduled s event new.machine
 
 -- an advance or a reap
-abbrev pub is_turn : Event → Bool
-is_turn Advance = true
-is_turn Reap = true
-is_turn _ = false
+abbrev pub is_advance_or_reap : Event → Bool
+is_advance_or_reap Advance = true
+is_advance_or_reap Reap = true
+is_advance_or_reap _ = false

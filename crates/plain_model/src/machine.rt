@@ -12,7 +12,7 @@ ghost use Rattle.plain_store.specs.State.{store_of, sections_of, queues_of};
 ghost use Rattle.plain_store.specs.Retiring.{linked_map};
 ghost use Rattle.plain_runs.specs.State.{loaded_of, runs_of};
 ghost use Rattle.plain_model.specs.State.{machine_of, schedule_of};
-ghost use Rattle.plain_model.specs.Following.{settled, is_turn as is_turn_of, FollowsLists, DoesAs};
+ghost use Rattle.plain_model.specs.Following.{settled, is_advance_or_reap as is_advance_or_reap_of, FollowsLists, DoesAs};
 
 use crate::grace::{is_any, still_open};
 use bpf_model::{
@@ -150,8 +150,8 @@ impl Machine {
         ensures oldest { OnOk result
             (TakesOldest (store_of self.old.store) (store_of self.new.store)) }
     {
-        if is_turn(&event) {
-            self.take_turn(event)
+        if is_advance_or_reap(&event) {
+            self.advance_or_reap(event)
         } else {
             let before = self.store.linked_maps(self.alloc)?;
             let answer = self.perform(event)?;
@@ -161,7 +161,7 @@ impl Machine {
     }
 
     /// What the machine answers to an advance or a reap.
-    fn take_turn(&mut self, event: Event) -> Result<Answer, Fault>
+    fn advance_or_reap(&mut self, event: Event) -> Result<Answer, Fault>
         ensures machine { DoesAs (machine_of self.old) event result (machine_of self.new) }
         ensures lists { IfOk result
             (λ answer. FollowsLists (schedule_of self.old) event answer (schedule_of self.new)) }
@@ -465,8 +465,8 @@ impl Machine {
 }
 
 /// Whether the event is one by which the runtime reclaims elements: an advance or a reap.
-fn is_turn(event: &Event) -> bool
-    ensures { result ≡ is_turn_of event.now }
+fn is_advance_or_reap(event: &Event) -> bool
+    ensures { result ≡ is_advance_or_reap_of event.now }
 {
     match event {
         Event::Advance => true,

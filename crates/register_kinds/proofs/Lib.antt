@@ -1,4 +1,4 @@
 pub mod Pairs
 pub mod Cells
 pub mod Changes
-pub mod Kinds
+pub mod KindLaws

@@ -11,7 +11,7 @@ use Rattle.shared.specs.Books.{TotalsRise}
 use Rattle.shared.specs.Meter.{IsKnownOf, FitsMeter, IsMetered, writer_of, writer_at, reader_of, Wrote, Read}
 
 pub begins : IsMetered (0 ∷ 0 ∷ 0 ∷ []) (writer_of 0 0 0 ∷ [])
-begins = record { seat = 0; each = one }
+begins = record { writer = 0; each = one }
   where
     one : (by : ℕ) (v : MeterView) → get_elem? (writer_of 0 0 0 ∷ []) by ≡ some v → FitsMeter 0 (0 ∷ 0 ∷ 0 ∷ []) by v
     one zero v e = subst (FitsMeter 0 (0 ∷ 0 ∷ 0 ∷ []) 0) (some-injective _ _ e) record { known = record { steps = le_refl 0; unlinked = le_refl 0; reclaimed = le_refl 0 }; own = λ _. refl; same = λ _. refl }
@@ -25,9 +25,9 @@ writes by a b c x y z p q r words views h at =
     let same : words ≡ a ∷ b ∷ c ∷ [] = mine.same refl in (
       writer_of x y z,
       record {
-        seat = h.seat;
+        writer = h.writer;
         each = λ j u e. ⊎_elim
-            (λ (t : (j ≡ by) × (writer_of x y z ≡ u)). subst (λ (k : ℕ × MeterView). FitsMeter h.seat new k.0 k.1) (λ i. (sym t.0 i, t.1 i)) record { known = record { steps = le_refl x; unlinked = le_refl y; reclaimed = le_refl z }; own = λ _. mine.own refl; same = λ _. refl })
+            (λ (t : (j ≡ by) × (writer_of x y z ≡ u)). subst (λ (k : ℕ × MeterView). FitsMeter h.writer new k.0 k.1) (λ i. (sym t.0 i, t.1 i)) record { known = record { steps = le_refl x; unlinked = le_refl y; reclaimed = le_refl z }; own = λ _. mine.own refl; same = λ _. refl })
             (λ (t : (j ≢ by) × (get_elem? views j ≡ some u)). let f = h.each j u t.1 in let g = subst (IsKnownOf u) same f.known in record {
               known = record { steps = le_trans g.steps p; unlinked = le_trans g.unlinked q; reclaimed = le_trans g.reclaimed r };
               own = f.own;
@@ -46,9 +46,9 @@ reads by v not words views h at =
     let off : v.writes ≡ true → ⊥ = λ k. true≢false (sym k ∙ not) in (
       w,
       record {
-        seat = h.seat;
+        writer = h.writer;
         each = λ j u e. ⊎_elim
-            (λ (t : (j ≡ by) × (w ≡ u)). subst (λ (k : ℕ × MeterView). FitsMeter h.seat words k.0 k.1) (λ i. (sym t.0 i, t.1 i)) record { known = record { steps = le_refl _; unlinked = le_refl _; reclaimed = le_refl _ }; own = λ k. absurd (off k); same = λ k. absurd (off k) })
+            (λ (t : (j ≡ by) × (w ≡ u)). subst (λ (k : ℕ × MeterView). FitsMeter h.writer words k.0 k.1) (λ i. (sym t.0 i, t.1 i)) record { known = record { steps = le_refl _; unlinked = le_refl _; reclaimed = le_refl _ }; own = λ k. absurd (off k); same = λ k. absurd (off k) })
             (λ (t : (j ≢ by) × (get_elem? views j ≡ some u)). h.each j u t.1)
             (at_set views by j w u e);
       },
@@ -59,10 +59,10 @@ reads by v not words views h at =
 pub forks : (by : ℕ) (v : MeterView) → Forks IsMetered by v v (reader_of v)
 forks by v words views h at =
     let mine = h.each by v at in record {
-      seat = h.seat;
+      writer = h.writer;
       each = λ j u e. ⊎_elim
           (λ was. h.each j u (subst (λ l. get_elem? l j ≡ some u) (set_again views by v at) was))
-          (λ (same : reader_of v ≡ u). subst (FitsMeter h.seat words j) same record { known = record { steps = mine.known.steps; unlinked = mine.known.unlinked; reclaimed = mine.known.reclaimed }; own = λ k. absurd (true≢false (sym k)); same = λ k. absurd (true≢false (sym k)) })
+          (λ (same : reader_of v ≡ u). subst (FitsMeter h.writer words j) same record { known = record { steps = mine.known.steps; unlinked = mine.known.unlinked; reclaimed = mine.known.reclaimed }; own = λ k. absurd (true≢false (sym k)); same = λ k. absurd (true≢false (sym k)) })
           (at_snoc (set views by v) (reader_of v) u j e);
     }
 

@@ -12,17 +12,17 @@ pub record IsKnownOf (v : MeterView) (words : List ℕ) : Type 0 where
   pub unlinked : v.unlinked ≤ slice_index words 1
   pub reclaimed : v.reclaimed ≤ slice_index words 2
 
--- the view of one pass is no more than the words, and the same where it writes, as only one seat's
+-- the view of one pass is no more than the words, and the same where it writes, as only one pass
 -- does
-pub record FitsMeter (seat : ℕ) (words : List ℕ) (by : ℕ) (v : MeterView) : Type 0 where
+pub record FitsMeter (writer : ℕ) (words : List ℕ) (by : ℕ) (v : MeterView) : Type 0 where
   pub known : IsKnownOf v words
-  pub own : v.writes ≡ true → by ≡ seat
+  pub own : v.writes ≡ true → by ≡ writer
   pub same : v.writes ≡ true → words ≡ v.steps ∷ v.unlinked ∷ v.reclaimed ∷ []
 
--- one seat writes, and each view fits
+-- one pass writes, and each view fits
 pub record IsMetered (words : List ℕ) (views : List MeterView) : Type 0 where
-  pub seat : ℕ
-  pub each : (by : ℕ) (v : MeterView) → get_elem? views by ≡ some v → FitsMeter seat words by v
+  pub writer : ℕ
+  pub each : (by : ℕ) (v : MeterView) → get_elem? views by ≡ some v → FitsMeter writer words by v
 
 abbrev pub writer_of : ℕ → ℕ → ℕ → MeterView
 writer_of steps unlinked reclaimed =

@@ -3,7 +3,7 @@ use Rattle.std.proofs.Common.{◌≡◌, ℕ, ◌/◌, ◌<◌, ◌≤◌, List,
 use Rattle.std.specs.Prelude.{◌⊎◌, nat_le, if◌then◌else◌, ◌+ℤ◌, slice_get, Result, IsOk}
 use Rattle.std.proofs.lemmas.Bool.{cases_eq, eq-eqb, ne_eqb, lt-leb, false≢true}
 use Rattle.typed_runs.specs.Verified.{is_call}
-use Rattle.register_kinds.proofs.Kinds.{kind_is}
+use Rattle.register_kinds.proofs.KindLaws.{kind_is}
 use Rattle.bpf_model.specs.declared.limits.TheConstants.{FRAME_BYTES}
 use Rattle.bpf_model.specs.declared.limits.MapShape.{MapShape}
 use Rattle.bpf_model.specs.declared.insn.Insn.{Insn}

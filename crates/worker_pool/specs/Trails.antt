@@ -12,7 +12,7 @@ use Rattle.verifier.specs.Checked.{Checked}
 use Rattle.shared.specs.Receipts.{ReceiptView, NoteView, HasExitedOnce, IsPossibleExit, IsOwnExit}
 use Rattle.worker_pool.specs.declared.job.Job.{Job}
 use Rattle.worker_pool.specs.declared.job.StopCause.{StopCause}
-use Rattle.worker_pool.specs.declared.job.StopCause.TheVariants.{Refused, Fault, Stranger}
+use Rattle.worker_pool.specs.declared.job.StopCause.TheVariants.{Refused, Fault, OtherRun}
 use Rattle.worker_pool.specs.declared.job.Outcome.{Outcome}
 use Rattle.worker_pool.specs.declared.job.Outcome.TheVariants.{Exit, Stopped}
 use Rattle.worker_pool.specs.declared.job.Trail.{Trail}
@@ -41,7 +41,7 @@ abbrev pub IsOfWorker : WorkerView → WorkerView → Trail → Type 0
 IsOfWorker first last (trails.Unstarted start) = IsByWorker first last start
 IsOfWorker first last (trails.Halted start step) =
     IsByWorker first last start × IsByWorker first last step
-IsOfWorker first last (trails.Strange start step note) =
+IsOfWorker first last (trails.OtherRun start step note) =
     IsByWorker first last start × IsByWorker first last step
 IsOfWorker first last (trails.Ended start step note dropped) =
     IsByWorker first last start × IsByWorker first last step × IsByWorker first last dropped
@@ -84,9 +84,9 @@ pub record AsksForExit (job : Job) (run : ℕ) (step : ReceiptView) (note : Note
   pub context : note.context ≡ job.ctx.items
 
 -- The run that exited is another's.
-pub record IsStrange (run : ℕ) (note : NoteView) (outcome : Outcome) : Type 0 where
+pub record IsOtherRun (run : ℕ) (note : NoteView) (outcome : Outcome) : Type 0 where
   pub none : note.exit ≡ None
-  pub told : outcome ≡ Stopped (Some run) Stranger
+  pub told : outcome ≡ Stopped (Some run) OtherRun
 
 -- The outcome is the exit value, once the run was dropped; else it tells why the run wasn't.
 abbrev pub TellsExit : ℕ → ℕ → Result Answer SharedFault → Outcome → Type 0
@@ -113,9 +113,9 @@ abbrev pub FitsJob : List Checked → Job → Outcome → Trail → Type 0
 FitsJob programs job outcome (trails.Unstarted start) = StopsAtStart job start outcome
 FitsJob programs job outcome (trails.Halted start step) =
     (run : ℕ) × WasStarted job run start × StopsAtStep run step outcome
-FitsJob programs job outcome (trails.Strange start step note) =
+FitsJob programs job outcome (trails.OtherRun start step note) =
     (run : ℕ) × WasStarted job run start × ExitsAtStep run step × AsksForExit job run step note
-    × IsStrange run note outcome
+    × IsOtherRun run note outcome
 FitsJob programs job outcome (trails.Ended start step note dropped) =
     (run : ℕ) × WasStarted job run start × ExitsAtStep run step × AsksForExit job run step note
     × ExitsWithValue programs job run note dropped outcome
@@ -147,7 +147,7 @@ of_wider : (t u v w : WorkerView) (trail : Trail) → IsLater t u → IsLater v 
 of_wider t u v w (trails.Unstarted start) a b by = by_wider t u v w start a b by
 of_wider t u v w (trails.Halted start step) a b by =
     (by_wider t u v w start a b by.0, by_wider t u v w step a b by.1)
-of_wider t u v w (trails.Strange start step note) a b by =
+of_wider t u v w (trails.OtherRun start step note) a b by =
     (by_wider t u v w start a b by.0, by_wider t u v w step a b by.1)
 of_wider t u v w (trails.Ended start step note dropped) a b by = (
   by_wider t u v w start a b by.0,

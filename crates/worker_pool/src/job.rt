@@ -20,7 +20,7 @@ pub enum StopCause {
     Fault(SharedFault),
     /// The run that has ended is not of the job's program and context: others dropped the job's run and
     /// started theirs in its run slot.
-    Stranger,
+    OtherRun,
 }
 
 /// What came of one job.
@@ -50,7 +50,7 @@ pub enum Trail {
         step: Receipt,
     },
     /// The run that has ended is another's.
-    Strange {
+    OtherRun {
         start: Receipt,
         step: Receipt,
         note: ExitNote,
@@ -88,7 +88,7 @@ impl StopCause {
         match self {
             StopCause::Refused(refusal) => refusal.code(),
             StopCause::Fault(fault) => fault.code(),
-            StopCause::Stranger => 93,
+            StopCause::OtherRun => 93,
         }
     }
 }

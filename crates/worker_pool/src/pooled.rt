@@ -71,10 +71,10 @@ fn finish_job<L: Ledger, R: Wait>(
     let note = shared.exit_noted(rt, worker, run, job.prog, &job.ctx);
     let Some(value) = note.exit() else {
         let run = Some(run);
-        let cause = StopCause::Stranger;
+        let cause = StopCause::OtherRun;
         return JobReport {
             outcome: Outcome::Stopped { run, cause },
-            trail: Trail::Strange { start, step, note },
+            trail: Trail::OtherRun { start, step, note },
         };
     };
     let end = shared.act_noted(rt, worker, Event::Drop { run });

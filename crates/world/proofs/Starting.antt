@@ -12,7 +12,7 @@ use Rattle.model_laws.proofs.Counting.{map-back}
 use Rattle.model_laws.proofs.Starting.{start_tracked}
 use Rattle.typed_runs.specs.Verified.{IsVerified}
 use Rattle.typed_runs.specs.Well.{IsVerifiedFor, AreVerified}
-use Rattle.world_laws.specs.Typed.{IsTypedProgram, AreTypedPrograms}
+use Rattle.world_laws.specs.Typed.{IsRealProgram, AreRealPrograms}
 use Rattle.world_parts.specs.declared.loaded.Loaded.{Loaded}
 use Rattle.world_parts.specs.Programs.{program_of}
 use Rattle.world_invariant.specs.Invariant.{IsWorld}
@@ -28,7 +28,7 @@ pub record IsSafe (maps : List MapView) (loaded : List Loaded) : Type 0 where
   pub programs_limit : length loaded ≤ MAX_PROGRAMS
   pub bound : AreProgramsBound (shapes_of_maps maps) loaded
   pub verified : (p : ℕ) (x : Loaded) → slice_get loaded p ≡ Some x → IsVerified x.verified.program x.verified.shapes x.verified.ctx_len
-  pub real : (p : ℕ) (x : Loaded) → slice_get loaded p ≡ Some x → IsTypedProgram (program_of x)
+  pub real : (p : ℕ) (x : Loaded) → slice_get loaded p ≡ Some x → IsRealProgram (program_of x)
 
 abbrev view_of : List machine.Loaded → List MapView → WorldView
 view_of programs maps = record { maps = maps; runs = replicate MAX_RUNS None; opened = replicate MAX_RUNS false; awaited = replicate MAX_RUNS false; programs = programs; given = 0 }
@@ -43,10 +43,10 @@ are_verified maps loaded safe p program at =
     let one = bound_is_verified (shapes_of_maps maps) x.verified.shapes (program_of x) (safe.bound p x of_loaded.1) (safe.verified p x of_loaded.1) in
     subst (IsVerifiedFor (map new_map (shapes_of_maps maps))) of_loaded.2 one
 
-are_programs : (maps : List MapView) (loaded : List Loaded) → IsSafe maps loaded → AreTypedPrograms (programs_in loaded)
+are_programs : (maps : List MapView) (loaded : List Loaded) → IsSafe maps loaded → AreRealPrograms (programs_in loaded)
 are_programs maps loaded safe p program at =
     let of_loaded = map-back program_of loaded p program at in
-    subst IsTypedProgram of_loaded.2 (safe.real p of_loaded.0 of_loaded.1)
+    subst IsRealProgram of_loaded.2 (safe.real p of_loaded.0 of_loaded.1)
 
 pub start-is-world : {maps : List MapView} {loaded : List Loaded} → IsSafe maps loaded → IsWorld (start_view (shapes_of_maps maps) (programs_in loaded))
 start-is-world {maps} {loaded} safe =

@@ -4,7 +4,7 @@ ghost use Rattle.bpf_model.specs.declared.limits.TheConstants.{MAX_MAPS};
 ghost use Rattle.bpf_model.specs.MapState.{AreShapes};
 ghost use Rattle.bpf_model.specs.View.{shapes_of_maps};
 ghost use Rattle.typed_runs.specs.Verified.{IsVerified};
-ghost use Rattle.world_laws.specs.Typed.{IsTypedProgram};
+ghost use Rattle.world_laws.specs.Typed.{IsRealProgram};
 ghost use Rattle.world_invariant.specs.Binding.{IsBoundTo};
 ghost use Rattle.world_parts.specs.declared.loaded.Loaded.{Loaded};
 ghost use Rattle.world_parts.specs.Programs.{program_of};
@@ -68,7 +68,7 @@ pub(crate) fn certify_maps(registry: &Registry)
 fn certify(program: &Loaded)
     ensures verified { IsVerified program.now.verified.program program.now.verified.shapes
         program.now.verified.ctx_len }
-    ensures real { IsTypedProgram (program_of program.now) }
+    ensures real { IsRealProgram (program_of program.now) }
 {
     let code = program.verified.program();
     code_is_real(code.instructions());
@@ -80,7 +80,7 @@ pub(crate) fn certify_programs(loaded: &[Loaded])
     ensures verified { (p : ℕ) (l : Loaded) → slice_get loaded.now p ≡ Some l →
         IsVerified l.verified.program l.verified.shapes l.verified.ctx_len }
     ensures real { (p : ℕ) (l : Loaded) → slice_get loaded.now p ≡ Some l →
-        IsTypedProgram (program_of l) }
+        IsRealProgram (program_of l) }
 {
     for program in loaded {
         certify(program);

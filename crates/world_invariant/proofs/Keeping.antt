@@ -14,11 +14,11 @@ use Rattle.typed_runs.specs.Well.{AreVerified}
 use Rattle.typed_runs.proofs.Reaching.{real-rest}
 use Rattle.view_laws.proofs.Reacting.{tracked_matches}
 use Rattle.world_laws.specs.Reacting.{full_reaction, full_reactions}
-use Rattle.world_laws.specs.Typed.{AreTypedPrograms}
+use Rattle.world_laws.specs.Typed.{AreRealPrograms}
 use Rattle.world_laws.proofs.Worlds.{starts_ready, ready_stays, bounded_stays, simulates, tracked_is_sound}
 use Rattle.world_invariant.specs.Invariant.{IsWorld, IsMatched}
 
-pub start_is_world : (shapes : List MapShape) (programs : List Loaded) → AreShapes shapes → length shapes ≤ MAX_MAPS → length programs ≤ MAX_PROGRAMS → AreVerified shapes programs → AreTypedPrograms programs → IsWorld (start_view shapes programs)
+pub start_is_world : (shapes : List MapShape) (programs : List Loaded) → AreShapes shapes → length shapes ≤ MAX_MAPS → length programs ≤ MAX_PROGRAMS → AreVerified shapes programs → AreRealPrograms programs → IsWorld (start_view shapes programs)
 start_is_world shapes programs right few few_programs verified real =
     let count : length (map new_map_view shapes) ≡ length shapes = length-map shapes new_map_view in
     record {

@@ -14,7 +14,7 @@ ghost use Rattle.bpf_model.specs.View.{WorldView, start_view};
 ghost use Rattle.typed_runs.specs.Verified.{IsVerified};
 ghost use Rattle.typed_runs.specs.Well.{IsVerifiedFor, AreVerified};
 ghost use Rattle.world_laws.specs.Reacting.{full_reaction, full_reactions};
-ghost use Rattle.world_laws.specs.Typed.{AreTypedPrograms};
+ghost use Rattle.world_laws.specs.Typed.{AreRealPrograms};
 ghost use Rattle.world_invariant.specs.Binding.{IsBoundTo};
 ghost use Rattle.world_invariant.specs.Invariant.{IsWorld, IsMatched};
 
@@ -30,7 +30,7 @@ pub fn bound_is_verified()
 pub fn start_is_world()
     ensures { (shapes : List MapShape) (programs : List Loaded) → AreShapes shapes →
         length shapes ≤ MAX_MAPS → length programs ≤ MAX_PROGRAMS →
-        AreVerified shapes programs → AreTypedPrograms programs
+        AreVerified shapes programs → AreRealPrograms programs
         → IsWorld (start_view shapes programs) }
 {}
 

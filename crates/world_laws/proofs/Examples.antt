@@ -8,7 +8,7 @@ use Rattle.model_laws.specs.Example.{lookup_and_load, lookup_program, example_sh
 use Rattle.scalar_domain.specs.Scalar.{Holds}
 use Rattle.scalar_domain.specs.declared.scalar.Scalar.{Scalar}
 use Rattle.typed_runs.proofs.Example.{safe-one}
-use Rattle.world_laws.specs.Typed.{IsTypedProgram, AreTypedPrograms, IsReadyWorld}
+use Rattle.world_laws.specs.Typed.{IsRealProgram, AreRealPrograms, IsReadyWorld}
 use Rattle.world_laws.specs.WorldExample.{example_world}
 use Rattle.world_laws.proofs.Codes.{all-get}
 use Rattle.world_laws.proofs.Worlds.{starts_ready}
@@ -17,8 +17,8 @@ code-real : AllByRecursion FitsInsn lookup_and_load
 code-real =
     ((omega arith, sfits_lit tt), (sfits_lit tt, ((omega arith, sfits_lit tt, sfits_lit tt), ((omega arith, omega arith), ((omega arith, sfits_lit tt), ((omega arith, sfits_lit tt), (sfits_lit tt, ((omega arith, sfits_lit tt, sfits_lit tt), ((omega arith, omega arith, sfits_lit tt), (sfits_lit tt, ((omega arith, omega arith), (tt, tt))))))))))))
 
-one-program : AreTypedPrograms (lookup_program ∷ [])
-one-program zero program e = subst IsTypedProgram (same_Some lookup_program program e) (record { code = all-get FitsInsn lookup_and_load code-real; maps = omega arith })
+one-program : AreRealPrograms (lookup_program ∷ [])
+one-program zero program e = subst IsRealProgram (same_Some lookup_program program e) (record { code = all-get FitsInsn lookup_and_load code-real; maps = omega arith })
 one-program (suc p) program e = absurd (none-some program e)
 
 module _ (any : Scalar) (all : (n : ℕ) → n < 2 ^ 64 → Holds any n) where

@@ -23,7 +23,7 @@ use Rattle.typed_runs.proofs.Timing.{tracked_exits_in_time}
 use Rattle.view_laws.proofs.Reacting.{tracked_matches}
 use Rattle.view_laws.proofs.Tracking.{simulates_tracks}
 use Rattle.world_laws.specs.Reacting.{full_reaction, full_reactions}
-use Rattle.world_laws.specs.Typed.{AreTypedPrograms, IsReadyWorld, IsSound}
+use Rattle.world_laws.specs.Typed.{AreRealPrograms, IsReadyWorld, IsSound}
 use Rattle.world_laws.proofs.Listed.{reached_is_listed}
 use Rattle.world_laws.proofs.Stepping.{full_simulates}
 use Rattle.world_laws.proofs.Keeping.{full_keeps}
@@ -55,7 +55,7 @@ ready_stays w event ready =
     let few : length w.maps ≤ MAX_MAPS = ready.maps in
     record {
       verified = subst (λ shapes. AreVerified shapes new.programs) (sym k.0) (subst (AreVerified (shapes_of w)) (sym k.1) ready.verified);
-      programs = subst AreTypedPrograms (sym k.1) ready.programs;
+      programs = subst AreRealPrograms (sym k.1) ready.programs;
       maps = omega (arith, count, few);
     }
 
@@ -123,7 +123,7 @@ bounded_after w s (event ∷ events) t ready real b =
     bounded_after (full_reaction w event).1 first.0 events first.2 (ready_stays w event ready) (real-rest event events real) (bounded_stays w s event t ready (real 0 event refl) b)
 
 -- at the start
-pub starts_ready : (shapes : List MapShape) (programs : List Loaded) → length shapes ≤ MAX_MAPS → AreVerified shapes programs → AreTypedPrograms programs → IsReadyWorld (start_view shapes programs)
+pub starts_ready : (shapes : List MapShape) (programs : List Loaded) → length shapes ≤ MAX_MAPS → AreVerified shapes programs → AreRealPrograms programs → IsReadyWorld (start_view shapes programs)
 starts_ready shapes programs few verified real =
     let count : length (map new_map_view shapes) ≡ length shapes = length-map shapes new_map_view in
     record {

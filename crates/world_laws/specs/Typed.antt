@@ -14,14 +14,14 @@ use Rattle.typed_runs.specs.Well.{IsWell, AreVerified}
 
 -- A program is a value of its type: its instructions name registers and numbers that there are (in
 -- a definition they would else be any), and its list of maps has a limit.
-pub record IsTypedProgram (program : Loaded) : Type 0 where
+pub record IsRealProgram (program : Loaded) : Type 0 where
   pub code : (k : ℕ) (i : Insn) → slice_get program.code k ≡ Some i →
       FitsInsn i
   pub maps : length program.maps ≤ MAX_MAPS
 
-abbrev pub AreTypedPrograms : List Loaded → Type 0
-AreTypedPrograms programs =
-    (p : ℕ) (program : Loaded) → slice_get programs p ≡ Some program → IsTypedProgram program
+abbrev pub AreRealPrograms : List Loaded → Type 0
+AreRealPrograms programs =
+    (p : ℕ) (program : Loaded) → slice_get programs p ≡ Some program → IsRealProgram program
 
 -- A reference to a map is to one of the program's list.
 abbrev pub IsListed : ℕ → Reference → Type 0
@@ -39,7 +39,7 @@ AreListed m = (r : ℕ) (run : Run) → run_at m.runs r ≡ Some run →
 -- types, and no more maps than there may be.
 pub record IsReadyWorld (w : WorldView) : Type 0 where
   pub verified : AreVerified (shapes_of w) w.programs
-  pub programs : AreTypedPrograms w.programs
+  pub programs : AreRealPrograms w.programs
   pub maps : length w.maps ≤ MAX_MAPS
 
 -- The machine's runs are of verified programs, and what the world keeps of them is within its
@@ -49,7 +49,7 @@ pub record IsSound (w : WorldView) (s : Schedule) : Type 0 where
   pub listed : AreListed s.machine
   pub limits : AreShapes (shapes_of w)
   pub maps : length w.maps ≤ MAX_MAPS
-  pub programs : AreTypedPrograms w.programs
+  pub programs : AreRealPrograms w.programs
 
 -- A run that hasn't ended, with what the world keeps of it.
 pub record IsRunning (w : WorldView) (s : Schedule) (r : ℕ) (run : Run) (v : RunView) : Type 0 where

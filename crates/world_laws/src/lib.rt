@@ -48,7 +48,7 @@ ghost use Rattle.world_laws.specs.Locating.{location_of};
 ghost use Rattle.world_laws.specs.Moving.{word_in};
 ghost use Rattle.world_laws.specs.Reaching.{Reaches, IsWritable, HasArguments, IsAllowed, HasInsn};
 ghost use Rattle.world_laws.specs.Reacting.{insn_step, word_step, full_reaction, full_reactions};
-ghost use Rattle.world_laws.specs.Typed.{AreTypedPrograms, AreListed, IsReadyWorld, IsSound, IsRunning};
+ghost use Rattle.world_laws.specs.Typed.{AreRealPrograms, AreListed, IsReadyWorld, IsSound, IsRunning};
 
 /// The word of a near reference within the limits tells the location that the reference names.
 pub fn words_tell_locations()
@@ -159,7 +159,7 @@ pub fn full_reaction_keeps()
 /// At the start a world is ready, with verified programs of their types and not too many maps.
 pub fn starts_ready()
     ensures { (shapes : List MapShape) (programs : List Loaded) → length shapes ≤ MAX_MAPS →
-        AreVerified shapes programs → AreTypedPrograms programs
+        AreVerified shapes programs → AreRealPrograms programs
         → IsReadyWorld (start_view shapes programs) }
 {}
 

@@ -1,7 +1,7 @@
 use Rattle.std.proofs.Common.{sym, ◌∙◌, inl, inr}
 use Rattle.std.proofs.lemmas.Result.{IfOk-weaker}
 use Rattle.typed_runs.specs.Kinds.{Num}
-use Rattle.register_kinds.proofs.Kinds.{kind_is}
+use Rattle.register_kinds.proofs.KindLaws.{kind_is}
 use Rattle.kind_tests.proofs.Results.{same_Ok}
 use Rattle.register_kinds.specs.States.{kind_of, state_of}
 use Rattle.compute_effects.proofs.Combining.{moves_compute, others_compute}

@@ -1,5 +1,5 @@
 use Rattle.typed_runs.specs.Verified.{IsVerified}
-use Rattle.world_laws.specs.Typed.{IsTypedProgram}
+use Rattle.world_laws.specs.Typed.{IsRealProgram}
 use Rattle.world_parts.specs.declared.loaded.Loaded.{Loaded}
 use Rattle.world_parts.specs.Programs.{program_of}
 use Rattle.world.proofs.Shapes.{each-more, each-all}
@@ -9,7 +9,7 @@ abbrev IsSafe : Loaded → Type 0
 IsSafe x = IsVerified x.verified.program x.verified.shapes x.verified.ctx_len
 
 abbrev IsReal : Loaded → Type 0
-IsReal x = IsTypedProgram (program_of x)
+IsReal x = IsRealProgram (program_of x)
 
 pub loop-program-preserved : goal.loop-program-preserved
 loop-program-preserved c = record {

@@ -1,7 +1,7 @@
 use Rattle.std.proofs.Common.{◌≡◌, ℕ, ◌<◌}
 use Rattle.std.specs.Prelude.{slice_get, Some}
 use Rattle.typed_runs.specs.Verified.{IsVerified}
-use Rattle.world_laws.specs.Typed.{IsTypedProgram}
+use Rattle.world_laws.specs.Typed.{IsRealProgram}
 use Rattle.world_parts.specs.declared.loaded.Loaded.{Loaded}
 use Rattle.world_parts.specs.Programs.{program_of}
 use Rattle.world.proofs.binding.certify_programs.Given as goal
@@ -9,5 +9,5 @@ use Rattle.world.proofs.binding.certify_programs.Given as goal
 abbrev pub invariant-loop-program : goal.invariant-loop-program
 invariant-loop-program l = record {
   verified : (p : ℕ) (x : Loaded) → p < l.program-index → slice_get l.loaded p ≡ Some x → IsVerified x.verified.program x.verified.shapes x.verified.ctx_len;
-  real : (p : ℕ) (x : Loaded) → p < l.program-index → slice_get l.loaded p ≡ Some x → IsTypedProgram (program_of x);
+  real : (p : ℕ) (x : Loaded) → p < l.program-index → slice_get l.loaded p ≡ Some x → IsRealProgram (program_of x);
 }

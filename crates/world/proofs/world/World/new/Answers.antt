@@ -3,7 +3,7 @@ use Rattle.std.specs.Prelude.{slice_get, vec_len}
 use Rattle.bpf_model.specs.declared.limits.TheConstants.{MAX_PROGRAMS}
 use Rattle.bpf_model.specs.View.{shapes_of_maps}
 use Rattle.typed_runs.specs.Verified.{IsVerified}
-use Rattle.world_laws.specs.Typed.{IsTypedProgram}
+use Rattle.world_laws.specs.Typed.{IsRealProgram}
 use Rattle.world_parts.specs.declared.loaded.Loaded.{Loaded}
 use Rattle.world_parts.specs.Programs.{program_of}
 use Rattle.world.specs.Bound.{AreProgramsBound}
@@ -28,7 +28,7 @@ invariant_of-result c =
       programs_limit = few loaded (vec_len c.args.loaded) count limit;
       bound = bound;
       verified = subst (λ (xs : List Loaded). (p : ℕ) (x : Loaded) → slice_get xs p ≡ Some x → IsVerified x.verified.program x.verified.shapes x.verified.ctx_len) same c.certify_programs.ensures.verified;
-      real = subst (λ (xs : List Loaded). (p : ℕ) (x : Loaded) → slice_get xs p ≡ Some x → IsTypedProgram (program_of x)) same c.certify_programs.ensures.real;
+      real = subst (λ (xs : List Loaded). (p : ℕ) (x : Loaded) → slice_get xs p ≡ Some x → IsRealProgram (program_of x)) same c.certify_programs.ensures.real;
     } in
     made-is-world safe c.in-Ok.parts c.in-Ok.ensures
 
@@ -47,6 +47,6 @@ returns-in-Ok-clause-start c =
       programs_limit = few loaded (vec_len c.args.loaded) count limit;
       bound = bound;
       verified = subst (λ (xs : List Loaded). (p : ℕ) (x : Loaded) → slice_get xs p ≡ Some x → IsVerified x.verified.program x.verified.shapes x.verified.ctx_len) same c.certify_programs.ensures.verified;
-      real = subst (λ (xs : List Loaded). (p : ℕ) (x : Loaded) → slice_get xs p ≡ Some x → IsTypedProgram (program_of x)) same c.certify_programs.ensures.real;
+      real = subst (λ (xs : List Loaded). (p : ℕ) (x : Loaded) → slice_get xs p ≡ Some x → IsRealProgram (program_of x)) same c.certify_programs.ensures.real;
     } in
     made-tracks-start safe c.in-Ok.parts c.in-Ok.ensures

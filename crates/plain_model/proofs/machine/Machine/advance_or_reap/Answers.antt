@@ -5,7 +5,7 @@ use Rattle.plain_model.specs.State.{machine_of, schedule_of}
 use Rattle.plain_model.specs.Following.{DoesAs}
 use Rattle.plain_model.specs.Following.{FollowsLists}
 use Rattle.plain_model.proofs.Following.{advance-follows}
-use Rattle.plain_model.proofs.machine.Machine.take_turn.Goals as goal
+use Rattle.plain_model.proofs.machine.Machine.advance_or_reap.Goals as goal
 
 pub returns-in_ok-advance-in-Advance-clause-lists : goal.returns-in_ok-advance-in-Advance-clause-lists
 returns-in_ok-advance-in-Advance-clause-lists c =
