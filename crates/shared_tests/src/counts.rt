@@ -58,7 +58,14 @@ fn all_exit<L: Ledger + Send + Sync, R: Threads + Wait + Abort + Sync>(
     assert!(rt; is_quiet(&world));
     let (shared, mut all_workers, _) = Shared::<L>::new(alloc, world, workers, blank)?;
     let jobs = jobs_of(alloc, programs, count)?;
-    let report = run_jobs(rt, alloc, &jobs, workers as usize, &shared, &mut all_workers);
+    let report = run_jobs(
+        rt,
+        alloc,
+        &jobs,
+        workers as usize,
+        &shared,
+        &mut all_workers,
+    );
     let report = report.expect(rt, "a report");
     assert_eq!(rt; report.jobs.len(), count);
     assert_eq!(rt; wrong(&report, values), 0);

@@ -10,7 +10,7 @@ ghost use Rattle.state_steps.specs.Facts.{IsReadyInsn, KeepsFacts};
 ghost use Rattle.state_steps.specs.Lookups.{IsReadyWithMaps, Serves};
 ghost use Rattle.state_steps.specs.Stepped.{Stepped};
 
-use crate::access::{load_step, load_signed_step, store_step};
+use crate::access::{load_signed_step, load_step, store_step};
 use crate::compute::{alu_step, load_map_step, load_number_step, unary_step};
 use crate::control::{branch_step, call_step, exit_step, jump_long_step, jump_step};
 use crate::flow::Flow;

@@ -31,14 +31,13 @@ reached-more shapes programs s t event answer r real d = record {
 
 pub simulates_tracks : (w new : WorldView) (s : Schedule) (event : Event) (answer : Answer) → TracksSchedule w s → IsReal event → shapes_of new ≡ shapes_of w → new.programs ≡ w.programs → Simulates s event (answer, new) →
     (next : Schedule) × DoesScheduled s event answer next × TracksSchedule new next × Matches new next
-simulates_tracks w new s event answer t real shapes programs h =
-    (
-      h.next,
-      h.does,
-      record {
-        refines = h.matches.refines;
-        limits = subst AreShapes (sym shapes) t.limits;
-        reached = subst (λ l. IsReachedSchedule l new.programs h.next) (sym shapes) (subst (λ l. IsReachedSchedule (shapes_of w) l h.next) (sym programs) (reached-more (shapes_of w) w.programs s h.next event answer t.reached real h.does));
-      },
-      h.matches,
-    )
+simulates_tracks w new s event answer t real shapes programs h = (
+  h.next,
+  h.does,
+  record {
+    refines = h.matches.refines;
+    limits = subst AreShapes (sym shapes) t.limits;
+    reached = subst (λ l. IsReachedSchedule l new.programs h.next) (sym shapes) (subst (λ l. IsReachedSchedule (shapes_of w) l h.next) (sym programs) (reached-more (shapes_of w) w.programs s h.next event answer t.reached real h.does));
+  },
+  h.matches,
+)

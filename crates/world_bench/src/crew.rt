@@ -134,7 +134,12 @@ impl Caller {
 }
 
 /// One call of a worker.
-fn call<L: Ledger, R: Wait>(rt: &R, shared: &Shared<L>, worker: &mut Worker<L>, caller: &mut Caller) {
+fn call<L: Ledger, R: Wait>(
+    rt: &R,
+    shared: &Shared<L>,
+    worker: &mut Worker<L>,
+    caller: &mut Caller,
+) {
     let event = caller.next();
     match shared.act(rt, worker, event) {
         Ok(answer) => caller.progress = caller.progress.after(&answer),

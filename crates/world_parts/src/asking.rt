@@ -4,9 +4,9 @@ ghost use Rattle.world_parts.specs.Keeping.{is_run_inside as is_inside};
 ghost use Rattle.bpf_model.specs.View.{HasExited};
 ghost use Rattle.world_parts.specs.Asking.{stat_of, IsFound, HasNone};
 
+use crate::by_number::{program_at, run_at};
 use crate::loaded::Loaded;
 use crate::parts::Parts;
-use crate::by_number::{program_at, run_at};
 use bpf_model::{CtxBytes, Insn, KeyBytes, MapId, ProgId, RunId, Stat, ValueBytes};
 use machine::Run;
 use verifier::Verified;

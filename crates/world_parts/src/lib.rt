@@ -5,8 +5,8 @@
 #![tactic(auto)]
 
 mod asking;
-mod by_number;
 mod brief;
+mod by_number;
 mod control;
 mod copying;
 mod loaded;

@@ -3,9 +3,9 @@ ghost use Rattle.std.specs.Prelude.{◌≡◌, None, map, replicate, slice_get, 
 ghost use Rattle.bpf_model.specs.declared.limits.TheConstants.{MAX_RUNS};
 ghost use Rattle.world_parts.specs.Programs.{program_of};
 
+use crate::by_number::program_at;
 use crate::copying::{copy_of_programs, copy_of_runs};
 use crate::loaded::Loaded;
-use crate::by_number::program_at;
 use bpf_model::{MAX_RUNS, ProgId};
 use grace_period::Grace;
 use machine::Run;

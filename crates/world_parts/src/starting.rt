@@ -4,8 +4,8 @@ ghost use Rattle.view_laws.specs.Reactions.{start_reaction, drop_reaction, drop_
 ghost use Rattle.world_parts.specs.Keeping.{view_of};
 ghost use Rattle.bpf_model.specs.Machine.{lowest_free as lowest_free_of};
 
-use crate::parts::Parts;
 use crate::by_number::program_at;
+use crate::parts::Parts;
 use bpf_model::{Answer, CtxBytes, EventRefusal, ProgId, RunId};
 use machine::Run;
 
