@@ -24,7 +24,7 @@ pub fn stream_fault(error: &io::Error, side: Side) -> u8 {
     }
 }
 
-/// Writes a text, and hands it on.
+/// Writes all of a text, and flushes the stream.
 pub fn write_text<W: Write>(out: &mut W, text: &[u8]) -> io::Result<()>
     ensures { OnOk result (Appends (W.contents out.old) (W.contents out.new) text.now) }
 {

@@ -8,7 +8,7 @@ use Rattle.bpf_model.specs.Schedule.{TakesOldest}
 use Rattle.plain_store.specs.Births.{uses_after_first, without_first_free}
 use Rattle.plain_store.proofs.Births.{without_first-at}
 use Rattle.plain_store.proofs.Lists.{first-of}
-use Rattle.bpf_model.proofs.Lists.{get-set_there, length-set}
+use Rattle.bpf_model.proofs.Lists.{get-set_there, length-set, get-append_last}
 
 changed-length : (f : Element → Element) (es : List Element) (n : ℕ) (o : Option Element) → length (set_to f es n o) ≡ length es
 changed-length f es n None = refl
@@ -18,16 +18,11 @@ pub unlinked-length : (opened : List Section) (es : List Element) (found : Optio
 unlinked-length opened es None = refl
 unlinked-length opened es (Some n) = changed-length (with_life (Unlinked opened)) es n (slice_get es n)
 
-last-is : (xs : List Element) (x : Element) (n : ℕ) → n ≡ length xs → slice_get (xs ++ x ∷ []) n ≡ Some x
-last-is [] x n h = ap (slice_get (x ∷ [])) h
-last-is (y ∷ xs) x zero h = absurd (omega arith)
-last-is (y ∷ xs) x (suc n) h = last-is xs x n (omega arith)
-
 pub birth : (s t : Store) (opened : List Section) (k : ℕ) (m : MapState) (key value : List ℕ) (found : Option ℕ) (use_count : ℕ) → slice_get s.maps k ≡ Some m → 0 < length m.bag → use_count ≡ uses_after_first m.bag →
     t.elements ≡ unlinked opened s.elements found ++ record { map = k; key = key; value = value; uses = use_count; life = Linked } ∷ [] → t.maps ≡ without_first_free s.maps k → TakesOldest s t
 birth s t opened k m key value found use_count h free uses elements maps e before after born old new =
     let x : Element = record { map = k; key = key; value = value; uses = use_count; life = Linked } in
-    let at : slice_get t.elements (length s.elements) ≡ Some x = ap (λ l. slice_get l (length s.elements)) elements ∙ last-is (unlinked opened s.elements found) x (length s.elements) (sym (unlinked-length opened s.elements found)) in
+    let at : slice_get t.elements (length s.elements) ≡ Some x = ap (λ l. slice_get l (length s.elements)) elements ∙ (ap (slice_get (unlinked opened s.elements found ++ x ∷ [])) (sym (unlinked-length opened s.elements found)) ∙ get-append_last (unlinked opened s.elements found) x) in
     let both : Some e ≡ Some x = sym born ∙ at in
     let is_x : e ≡ x = cc in
     let old_k : slice_get s.maps k ≡ Some before = ap (λ y. slice_get s.maps y.map) (sym is_x) ∙ old in

@@ -37,8 +37,6 @@ none-among xs s j h before has = elim (cases_lt has.0 j) [
       absurd cc
 ]
 
--- this section is one of them
-
 -- one section that is open keeps the others
 pub not-ended : (xs opened : List Section) (d : Section) (i : ℕ) → i < length xs → model.Has (sections_of opened) (section_shown (slice_index_or xs i d)) →
     model.AllEnded (sections_of xs) (sections_of opened) → ⊥

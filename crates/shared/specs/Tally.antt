@@ -37,6 +37,7 @@ pub record IsTallyOf (t : Tally) (w : WorldView) : Type 0 where
   pub unlinked : t.origin.reclaimed + t.origin.unreclaimed + t.totals.unlinked ≡ unlinked_total w
   pub reclaimed : t.origin.reclaimed + t.totals.reclaimed ≡ w.given
 
+-- the greatest number of 64 bits, at which the sums of the counters stop
 abbrev pub most : ℕ
 most = 2 ^ 64 - 1
 

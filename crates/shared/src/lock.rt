@@ -1,4 +1,4 @@
-//! The lock.
+//! A world behind a lock: how its sharing begins and ends, and what workers ask of it.
 ghost use Rattle.std.specs.Prelude.{◌≡◌, ℕ, ◌+◌, ◌<◌, ◌≤◌, length, map, vec_len, sum_by, All, IfOk, IfSome, OnErr, OnOk, option_copied, slice_get};
 ghost use Rattle.shared.specs.declared.worker.TheConstants.{MAX_WORKERS};
 ghost use Rattle.shared.specs.Receipts.{HasExitedOnce, IsMachineAnswer, IsOwnExit, IsPossibleExit};

@@ -1,5 +1,5 @@
 //! Each case is a machine and a list of events, each with the answer that it must have.
-use crate::making::{Source, assembled, judged, machine_of, world_of};
+use crate::making::{SHAPE, Source, assembled, judged, machine_of, world_of};
 use crate::programs::{
     BYTE_AT_8, BYTE_BELOW_8, DELETE, EXIT_ONE, KEPT, KEPT_RELOCKED, LOOKUP, NARROW_BOUND,
     OTHER_LOOKUP, SAME_LOOKUP, SPILL_KEPT, SPILLED, STORE_NINE, TWO_AT_EVEN, TWO_AT_ODD, UNGUARDED,
@@ -34,14 +34,6 @@ const SMALL: MapShape = MapShape {
     entries: 1,
     spare: 0,
     reuse_limit: 2,
-};
-
-const WIDE: MapShape = MapShape {
-    key_len: 4,
-    value_len: 8,
-    entries: 4,
-    spare: 4,
-    reuse_limit: 100,
 };
 
 static CASES: [Case; 34] = [
@@ -86,7 +78,7 @@ stat = stat linked 0 unlinked 0 given 2 worn 1 runs 0 open 0\n",
     // An open section holds an element.
     Case {
         setting: Setting {
-            shape: WIDE,
+            shape: SHAPE,
             program: LOOKUP,
             context_len: 0,
         },
@@ -106,7 +98,7 @@ step 0 2 = exit 5\n",
     // An element that is unlinked in a grace period waits for the next one.
     Case {
         setting: Setting {
-            shape: WIDE,
+            shape: SHAPE,
             program: LOOKUP,
             context_len: 0,
         },
@@ -134,7 +126,7 @@ stat = stat linked 0 unlinked 0 given 2 worn 0 runs 2 open 0\n",
     // Who holds an element sees its own value.
     Case {
         setting: Setting {
-            shape: WIDE,
+            shape: SHAPE,
             program: LOOKUP,
             context_len: 0,
         },
@@ -152,7 +144,7 @@ drop 0 = refused 60\n",
     // Each refusal is that of the first test that fails.
     Case {
         setting: Setting {
-            shape: WIDE,
+            shape: SHAPE,
             program: EXIT_ONE,
             context_len: 0,
         },
@@ -174,7 +166,7 @@ stat = stat linked 0 unlinked 0 given 0 worn 0 runs 0 open 0\n",
     // A held element outlives two updates.
     Case {
         setting: Setting {
-            shape: WIDE,
+            shape: SHAPE,
             program: LOOKUP,
             context_len: 0,
         },
@@ -198,7 +190,7 @@ reap = none\n",
     // A reap takes the first of the lowest map.
     Case {
         setting: Setting {
-            shape: WIDE,
+            shape: SHAPE,
             program: EXIT_ONE,
             context_len: 0,
         },
@@ -220,7 +212,7 @@ reap = none\n",
     // A lookup that is guarded.
     Case {
         setting: Setting {
-            shape: WIDE,
+            shape: SHAPE,
             program: LOOKUP,
             context_len: 0,
         },
@@ -233,7 +225,7 @@ step 0 1 = exit 5\n",
     // A lookup that finds nothing.
     Case {
         setting: Setting {
-            shape: WIDE,
+            shape: SHAPE,
             program: LOOKUP,
             context_len: 0,
         },
@@ -245,7 +237,7 @@ step 0 1 = exit 0\n",
     // A store to an element.
     Case {
         setting: Setting {
-            shape: WIDE,
+            shape: SHAPE,
             program: STORE_NINE,
             context_len: 0,
         },
@@ -259,7 +251,7 @@ get 0 00000000 = value 0900000000000000\n",
     // A pointer that is spilled.
     Case {
         setting: Setting {
-            shape: WIDE,
+            shape: SHAPE,
             program: SPILLED,
             context_len: 0,
         },
@@ -271,7 +263,7 @@ step 0 14 = exit 5\n",
     // Null is loaded from.
     Case {
         setting: Setting {
-            shape: WIDE,
+            shape: SHAPE,
             program: UNGUARDED,
             context_len: 0,
         },
@@ -283,7 +275,7 @@ step 0 1 = stuck\n",
     // Nothing holds an element that is looked up outside a section.
     Case {
         setting: Setting {
-            shape: WIDE,
+            shape: SHAPE,
             program: UNLOCKED,
             context_len: 0,
         },
@@ -300,7 +292,7 @@ step 0 2 = stuck\n",
     // Nothing holds an element whose pointer is kept over an unlock.
     Case {
         setting: Setting {
-            shape: WIDE,
+            shape: SHAPE,
             program: KEPT,
             context_len: 0,
         },
@@ -317,7 +309,7 @@ step 0 1 = stuck\n",
     // A second section does not hold it.
     Case {
         setting: Setting {
-            shape: WIDE,
+            shape: SHAPE,
             program: KEPT_RELOCKED,
             context_len: 0,
         },
@@ -334,7 +326,7 @@ step 0 2 = stuck\n",
     // A spilled pointer does not outlive its element.
     Case {
         setting: Setting {
-            shape: WIDE,
+            shape: SHAPE,
             program: SPILL_KEPT,
             context_len: 0,
         },
@@ -352,7 +344,7 @@ step 0 1 = stuck\n",
     // The test of one lookup says nothing of another.
     Case {
         setting: Setting {
-            shape: WIDE,
+            shape: SHAPE,
             program: OTHER_LOOKUP,
             context_len: 1,
         },
@@ -366,7 +358,7 @@ step 0 8 = stuck\n",
     // The test of a lookup tells of that lookup.
     Case {
         setting: Setting {
-            shape: WIDE,
+            shape: SHAPE,
             program: SAME_LOOKUP,
             context_len: 1,
         },
@@ -380,7 +372,7 @@ step 0 8 = moved\n",
     // A narrow test does not bound the upper half.
     Case {
         setting: Setting {
-            shape: WIDE,
+            shape: SHAPE,
             program: NARROW_BOUND,
             context_len: 8,
         },
@@ -393,7 +385,7 @@ step 0 1 = stuck\n",
     // A test of 64 bits bounds the whole number.
     Case {
         setting: Setting {
-            shape: WIDE,
+            shape: SHAPE,
             program: WIDE_BOUND,
             context_len: 8,
         },
@@ -405,7 +397,7 @@ step 0 11 = exit 0\n",
     // An index below the value's length.
     Case {
         setting: Setting {
-            shape: WIDE,
+            shape: SHAPE,
             program: BYTE_BELOW_8,
             context_len: 1,
         },
@@ -418,7 +410,7 @@ step 0 1 = exit 3\n",
     // An index past the value.
     Case {
         setting: Setting {
-            shape: WIDE,
+            shape: SHAPE,
             program: BYTE_AT_8,
             context_len: 1,
         },
@@ -432,7 +424,7 @@ step 0 1 = stuck\n",
     // An access that is not aligned.
     Case {
         setting: Setting {
-            shape: WIDE,
+            shape: SHAPE,
             program: TWO_AT_ODD,
             context_len: 1,
         },
@@ -445,7 +437,7 @@ step 0 1 = stuck\n",
     // An access that is aligned.
     Case {
         setting: Setting {
-            shape: WIDE,
+            shape: SHAPE,
             program: TWO_AT_EVEN,
             context_len: 1,
         },
@@ -457,7 +449,7 @@ step 0 14 = exit 0\n",
     // A lock inside a section.
     Case {
         setting: Setting {
-            shape: WIDE,
+            shape: SHAPE,
             program: "callbtf 1; callbtf 1; callbtf 2; mov64 r0, 0; exit",
             context_len: 0,
         },
@@ -469,7 +461,7 @@ step 0 1 = stuck\n",
     // An unlock outside one.
     Case {
         setting: Setting {
-            shape: WIDE,
+            shape: SHAPE,
             program: "mov64 r0, 0; callbtf 2; exit",
             context_len: 0,
         },
@@ -481,7 +473,7 @@ step 0 1 = stuck\n",
     // A helper that is none.
     Case {
         setting: Setting {
-            shape: WIDE,
+            shape: SHAPE,
             program: "mov64 r0, 0; call 4; exit",
             context_len: 0,
         },
@@ -493,7 +485,7 @@ step 0 1 = stuck\n",
     // After a lock r0 holds nothing.
     Case {
         setting: Setting {
-            shape: WIDE,
+            shape: SHAPE,
             program: "callbtf 1; mov64 r1, r0; callbtf 2; mov64 r0, 0; exit",
             context_len: 0,
         },
@@ -505,7 +497,7 @@ step 0 1 = stuck\n",
     // A lookup whose arguments hold nothing.
     Case {
         setting: Setting {
-            shape: WIDE,
+            shape: SHAPE,
             program: "callbtf 1; mov64 r7, r10; call 1; callbtf 2; mov64 r0, 0; exit",
             context_len: 0,
         },
@@ -517,7 +509,7 @@ step 0 1 = stuck\n",
     // An exit inside a section.
     Case {
         setting: Setting {
-            shape: WIDE,
+            shape: SHAPE,
             program: "callbtf 1; mov64 r0, 0; exit",
             context_len: 0,
         },
@@ -529,7 +521,7 @@ step 0 1 = stuck\n",
     // The helpers update and delete.
     Case {
         setting: Setting {
-            shape: WIDE,
+            shape: SHAPE,
             program: UPDATE,
             context_len: 0,
         },
@@ -541,7 +533,7 @@ get 0 00000000 = value 0700000000000000\n",
     // An error of a helper is a negative number of 64 bits.
     Case {
         setting: Setting {
-            shape: WIDE,
+            shape: SHAPE,
             program: UPDATE_NEW,
             context_len: 0,
         },
@@ -555,7 +547,7 @@ stat = stat linked 1 unlinked 0 given 0 worn 0 runs 1 open 0\n",
     // A deletion unlinks.
     Case {
         setting: Setting {
-            shape: WIDE,
+            shape: SHAPE,
             program: DELETE,
             context_len: 0,
         },
@@ -655,7 +647,7 @@ fn run_slots(rt: HostRuntime) -> Result<(), Fail> {
     let alloc = rt.alloc();
     let events = full_table(alloc)?;
     let setting = Setting {
-        shape: WIDE,
+        shape: SHAPE,
         program: EXIT_ONE,
         context_len: 0,
     };

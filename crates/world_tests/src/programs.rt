@@ -75,7 +75,8 @@ add64 r2, -4; ldmap r1, 0; call 1; mov64 r6, r0; mov64 r7, r0; jeq r8, 0, +6; mo
 add64 r2, -4; ldmap r1, 0; call 1; mov64 r7, r0; jeq r6, 0, +1; ldxdw r0, [r7+0]; callbtf 2; \
 mov64 r0, 0; exit";
 
-/// Two lookups of one key, as in the program above; what was tested is loaded from.
+/// Two lookups of one key, the second where a byte of the context is not 0; the first result is tested, and loaded
+/// from.
 pub const SAME_LOOKUP: &str = "ldxb r8, [r1+0]; callbtf 1; stw [r10-4], 0; mov64 r2, r10; \
 add64 r2, -4; ldmap r1, 0; call 1; mov64 r6, r0; mov64 r7, r0; jeq r8, 0, +6; mov64 r2, r10; \
 add64 r2, -4; ldmap r1, 0; call 1; mov64 r7, r0; jeq r6, 0, +1; ldxdw r0, [r6+0]; callbtf 2; \
@@ -120,7 +121,7 @@ pub const BYTE_OF_16: &str = "ldxb r7, [r1+0]; ldxb r8, [r1+1]; and64 r8, 15; st
 mov64 r6, 0; callbtf 1; mov64 r2, r10; add64 r2, -8; ldmap r1, 0; call 1; jeq r0, 0, +2; \
 add64 r0, r8; ldxb r6, [r0+0]; callbtf 2; mov64 r0, r6; exit";
 
-/// A byte is stored there.
+/// A byte of the context is stored into a value of 16, at the index that the low half of another byte is.
 pub const STORE_BYTE: &str = "ldxb r7, [r1+0]; ldxb r8, [r1+1]; ldxb r9, [r1+2]; and64 r8, 15; \
 stxdw [r10-8], r7; callbtf 1; mov64 r2, r10; add64 r2, -8; ldmap r1, 0; call 1; mov64 r6, 0; \
 jeq r0, 0, +3; add64 r0, r8; stxb [r0+0], r9; mov64 r6, 1; callbtf 2; mov64 r0, r6; exit";
