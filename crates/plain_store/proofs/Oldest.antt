@@ -1,5 +1,5 @@
 -- A new element takes the slot that has been free longest.
-use Rattle.std.proofs.Common.{◌≡◌, ℕ, zero, suc, ◌+◌, ◌<◌, List, [], ◌∷◌, ◌++◌, Option, Some, None, refl, sym, ap, ◌∙◌, arith, length}
+use Rattle.std.proofs.Common.{◌≡◌, ℕ, ◌+◌, ◌<◌, List, [], ◌∷◌, ◌++◌, Option, Some, None, refl, sym, ap, ◌∙◌, arith, length}
 use Rattle.std.specs.Prelude.{slice_get, drop, ◌-◌}
 use Rattle.bpf_model.specs.Section.{Section}
 use Rattle.bpf_model.specs.Element.{Element, Unlinked, Linked, with_life, set_to, unlinked}

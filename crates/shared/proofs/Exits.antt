@@ -1,17 +1,17 @@
 -- An exit value that the world answers is one that some world answered.
 use Rattle.std.proofs.Common.{◌≡◌, ℕ, List, Option, Some, None, subst}
 use Rattle.std.specs.Prelude.{IfSome, slice_get}
+use Rattle.std.proofs.lemmas.Option.{IfSome_then}
 use Rattle.bpf_model.specs.View.{WorldView}
 use Rattle.verifier.specs.Checked.{Checked}
 use Rattle.world_invariant.specs.Invariant.{IsWorld}
 use Rattle.exit_laws.proofs.Lived.{may_exit_as, exits_as}
-use Rattle.exit_laws.proofs.Asked.{map-some}
 use Rattle.shared.specs.Receipts.{IsExitOf, HasExitedOnce, IsPossibleExit, IsOwnExit}
 
 pub exits-once : (programs : List Checked) (p : Option Checked) (w : WorldView) (run prog : ℕ) (context : List ℕ) (exit : Option ℕ) → IsWorld w → p ≡ slice_get programs prog
     → IfSome exit (λ n. IsExitOf w run p context n) → IfSome exit (λ n. HasExitedOnce programs run prog context n)
 exits-once programs p w run prog context exit is same h =
-    map-some exit (λ n. IsExitOf w run p context n) (λ n. HasExitedOnce programs run prog context n) (λ n e. record { world = w; is_world = is; exited = subst (λ (q : Option Checked). IsExitOf w run q context n) same e }) h
+    IfSome_then exit h (λ n e. record { world = w; is_world = is; exited = subst (λ (q : Option Checked). IsExitOf w run q context n) same e })
 
 -- such a value is one of the program's definition
 possible : (o : Option Checked) (w : WorldView) (run : ℕ) (context : List ℕ) (n : ℕ) → IsWorld w → IsExitOf w run o context n → IsPossibleExit o context n
