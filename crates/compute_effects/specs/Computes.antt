@@ -17,7 +17,7 @@ use Rattle.bpf_model.specs.Near.{IsNear}
 use Rattle.bpf_model.specs.Step.{State}
 use Rattle.scalar_domain.specs.declared.scalar.Scalar.{Scalar}
 use Rattle.scalar_domain.specs.Scalar.{Holds, IsConstant}
-use Rattle.typed_runs.specs.Kinds.{Kind, Num, AbsState as Known}
+use Rattle.typed_runs.specs.Kinds.{Kind, AbsState as Known}
 use Rattle.typed_runs.specs.Effects.{with_kind, IsWritten, HasNumber}
 use Rattle.typed_runs.specs.Planned.{AreAlike}
 use Rattle.kind_tests.specs.declared.fault.Fault.{Fault}

@@ -1,5 +1,5 @@
 -- References to maps are to those of the program's list, in every state that is reached.
-use Rattle.std.proofs.Common.{◌≡◌, ℕ, ◌+◌, List, length, Option, Some, None, sym, subst, true, false, inl, inr}
+use Rattle.std.proofs.Common.{◌≡◌, ℕ, ◌+◌, List, length, Option, Some, None, sym, subst, inl, inr}
 use Rattle.std.specs.Prelude.{ℤ, pos, negsuc, nat_lt, ◌==◌}
 use Rattle.std.proofs.lemmas.Bool.{ltb-true, false≢true}
 use Rattle.std.proofs.lemmas.Option.{none-some, cond_some}
