@@ -10,9 +10,8 @@ mod session;
 
 pub use running::run_script;
 use script_lines::LINE_BYTES;
-use script_stream::MAX_LINE;
 pub use script_stream::ScriptFault;
 pub use session::Session;
 
 // What is cut into lines is what is read as lines.
-const _: () = prove!(MAX_LINE == LINE_BYTES);
+const _: () = prove!(LINE_BYTES == script_stream::LINE_BYTES);

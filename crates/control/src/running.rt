@@ -67,10 +67,10 @@ impl Respond for Script {
 
 /// Runs a script: reads lines to the end of the input, answers each command, and writes the answers and
 /// nothing else. What is answered is written and handed on before more is read, so that a host may wait for
-/// an answer before it writes its next line. A line is at most `MAX_LINE` bytes without its line feed.
+/// an answer before it writes its next line. A line is at most `LINE_BYTES` bytes without its line feed.
 ///
 /// Errors: the first that is met.
-/// - `BadCommand` (95): with the first line that is longer than `MAX_LINE` bytes or no command, counted
+/// - `BadCommand` (95): with the first line that is longer than `LINE_BYTES` bytes or no command, counted
 ///   from 1. Written is exactly what answers the lines before.
 /// - `Read` (96), `Write` (97), `Memory` (13): the reader or the writer failed (a write of no bytes is a
 ///   failure too), or an allocation did. Written is a beginning of the answers to the lines read.

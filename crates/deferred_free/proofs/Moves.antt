@@ -3,13 +3,14 @@ use Rattle.std.proofs.Common.{◌≡◌, ◌≢◌, ◌∙◌, ℕ, ◌+◌, ◌
 use Rattle.std.specs.Prelude.{IfSome}
 use Rattle.std.proofs.lemmas.Option.{same_Some}
 use Rattle.std.proofs.lemmas.List.{append-nil}
+use Rattle.deferred_free.specs.Frame.{line_agree}
 use Rattle.bpf_model.proofs.Cases.{option_cases}
 use Rattle.bpf_model.specs.Schedule.{Queues, turned}
 use Rattle.element_arena.specs.State.{ArenaState, IsTaken, LinksOf, link_at, link_in, times_in, with_link}
 use Rattle.deferred_free.specs.Queued.{queued, retired_lists, reaped_lists}
 use Rattle.element_arena.specs.Threads.{IsThread, last_slot_of}
 use Rattle.element_arena.proofs.Counts.{one_cases, one_same, times-append}
-use Rattle.element_arena.proofs.Threading.{thread-agree, thread-join, thread-some, last-none, last-held, last-append, left-last}
+use Rattle.element_arena.proofs.Threading.{thread-join, thread-some, last-none, last-held, last-append, left-last}
 use Rattle.deferred_free.specs.declared.threaded.Line.{Line}
 use Rattle.deferred_free.specs.declared.threaded.Threaded.{Threaded}
 use Rattle.deferred_free.specs.Lines.{AreLinksJoined, joined_lines, joined_to, joined_from}
@@ -43,9 +44,6 @@ pub taken_same : (a b : ArenaState) (j : ℕ) → b ≡ record a { links = b.lin
 taken_same a b j e t =
     let c : IsTaken (record a { links = b.links }) j = record { inside = t.inside; not_free = t.not_free; not_worn = t.not_worn } in
     subst (λ z. IsTaken z j) (sym e) c
-
-line_agree : (f g : ℕ → Option ℕ) (l : Line) (xs : List ℕ) → IsLine f l xs → ((j : ℕ) → 0 < times_in j xs → g j ≡ f j) → IsLine g l xs
-line_agree f g l xs t h = record { thread = thread-agree f g l.first xs h t.thread; ends = t.ends }
 
 -- the last slot of a list is one of its slots
 last_in : (f : ℕ → Option ℕ) (l : Line) (xs : List ℕ) (j : ℕ) → IsLine f l xs → l.last ≡ Some j → 0 < times_in j xs

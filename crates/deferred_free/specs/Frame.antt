@@ -1,5 +1,5 @@
 -- The lists read nothing but their own slots.
-use Rattle.std.proofs.Common.{◌≡◌, ℕ, ◌<◌, ◌≤◌, List, sym, subst, arith, length}
+use Rattle.std.proofs.Common.{◌≡◌, ℕ, ◌<◌, ◌≤◌, List, Option, sym, subst, arith, length}
 use Rattle.bpf_model.specs.Schedule.{Queues}
 use Rattle.element_arena.specs.State.{ArenaState, IsTaken, SameAt, link_at, times_in}
 use Rattle.deferred_free.specs.Queued.{queued}
@@ -35,22 +35,21 @@ lists-are x a q f =
 pub fits_from : (x : Threaded) (a : ArenaState) (q : Queues) → FitsAs x a q → ThreadedFits x a
 fits_from x a q f = subst (FitsAs x a) (sym (lists-are x a q f)) f
 
-line_agree : (a b : ArenaState) (l : Line) (xs : List ℕ) → IsLine (link_at a.links) l xs →
-    ((j : ℕ) → 0 < times_in j xs → link_at b.links j ≡ link_at a.links j) →
-    IsLine (link_at b.links) l xs
-line_agree a b l xs t h =
-    record {
-      thread = thread-agree (link_at a.links) (link_at b.links) l.first xs h t.thread;
-      ends = t.ends;
-    }
+pub line_agree : (f g : ℕ → Option ℕ) (l : Line) (xs : List ℕ) → IsLine f l xs →
+    ((j : ℕ) → 0 < times_in j xs → g j ≡ f j) → IsLine g l xs
+line_agree f g l xs t h =
+    record { thread = thread-agree f g l.first xs h t.thread; ends = t.ends }
 
 agreed : (x : Threaded) (a b : ArenaState) → ThreadedFits x a →
     SameAt (queued (threaded_lists x a)) a b → FitsAs x b (threaded_lists x a)
 agreed x a b f s = record {
-  next = line_agree a b x.next (threaded_lists x a).next f.next (λ j h. s.link j (omega arith));
-  waiting = line_agree a b x.waiting (threaded_lists x a).waiting f.waiting
+  next = line_agree (link_at a.links) (link_at b.links) x.next (threaded_lists x a).next f.next
       (λ j h. s.link j (omega arith));
-  ready = line_agree a b x.ready (threaded_lists x a).ready f.ready (λ j h. s.link j (omega arith));
+  waiting = line_agree (link_at a.links) (link_at b.links) x.waiting (threaded_lists x a).waiting
+      f.waiting
+      (λ j h. s.link j (omega arith));
+  ready = line_agree (link_at a.links) (link_at b.links) x.ready (threaded_lists x a).ready f.ready
+      (λ j h. s.link j (omega arith));
   once = f.once;
   taken = s.taken;
 }

@@ -23,7 +23,7 @@ times-before i (suc k) j h =
     let ne : i ≢ j = omega arith in
     omega (arith, one_other i j ne)
 
-times-once : (i k j : ℕ) → times_in j (range_with_len i k) ≤ 1
+pub times-once : (i k j : ℕ) → times_in j (range_with_len i k) ≤ 1
 times-once i zero j = omega arith
 times-once i (suc k) j = elim (one_cases i j) [
   | inl y ↦
@@ -34,7 +34,7 @@ times-once i (suc k) j = elim (one_cases i j) [
   | inr n ↦ let o : cond {A = ℕ} (eqb i j) 1 0 ≡ 0 = n.1 in let rest : times_in j (range_with_len (i + 1) k) ≤ 1 = times-once (i + 1) k j in omega arith
 ]
 
-times-below : (i k j : ℕ) → 0 < times_in j (range_with_len i k) → j < i + k
+pub times-below : (i k j : ℕ) → 0 < times_in j (range_with_len i k) → j < i + k
 times-below i zero j h = absurd (omega arith)
 times-below i (suc k) j h = elim (one_cases i j) [
   | inl y ↦ let e : i ≡ j = y.0 in omega arith

@@ -123,7 +123,7 @@ module _ (cells : List SlotCell) (first last : Option ℕ) (limit : ℕ) where
       let w : flag_in (Some (is_worn c.0.standing)) ≡ 0 = ap flag_in (sym (get-map (λ (z : SlotCell). is_worn z.standing) cells i c.0 c.1)) ∙ t.not_worn in
       (c.0, c.1, is_taken c.0.standing f w, gone, in_)
 
-  -- the other parts of what is kept, where cells are new at i and l alone
+  -- a taken slot with a use left is free again, behind the others
   pub gave : (i : ℕ) (c d : SlotCell) → AreCellsKept cells first last limit → times_in i (free_of cells first) ≡ 0 → slice_get cells i ≡ Some c → d.uses ≡ c.uses → c.uses < limit → d.generation ≡ c.generation + 1 → c.standing ≡ Taken → d.standing ≡ Free → d.link ≡ None →
       IsThreaded (linked_behind (slice_set cells i d) last i) (first_with first last i) (Some i) limit (free_of cells first ++ i ∷ [])
   gave i c d k gone at uses under gen was st li =

@@ -1,8 +1,8 @@
 -- What a change of one chain leaves of the buckets.
-use Rattle.std.proofs.Common.{◌≡◌, ◌≢◌, ◌∙◌, ℕ, zero, suc, ◌+◌, ◌<◌, ◌≤◌, List, ◌∷◌, length, Option, Some, None, ◌⊎◌, inl, inr, refl, sym, ap, arith, cond, eqb, subst}
+use Rattle.std.proofs.Common.{◌≡◌, ◌≢◌, ◌∙◌, ℕ, zero, suc, ◌+◌, ◌<◌, ◌≤◌, List, ◌∷◌, length, Option, Some, None, inl, inr, refl, sym, ap, arith, cond, eqb, subst}
 use Rattle.std.specs.Prelude.{slice_get, slice_set}
 use Rattle.std.proofs.lemmas.Bool.{eqb-true, eqb-false, cases_Bool}
-use Rattle.std.proofs.lemmas.Option.{same_Some, slice_get_within}
+use Rattle.std.proofs.lemmas.Option.{same_Some}
 use Rattle.std.specs.FinMap.{get, insert, remove}
 use Rattle.bpf_model.proofs.Cases.{option_cases}
 use Rattle.element_arena.specs.State.{ArenaState, IsTaken, LinksOf, indexed, link_at, link_in, key_at, with_link, times_in, slot_of, contents_of}
@@ -13,7 +13,7 @@ use Rattle.element_arena.proofs.Indexing.{AreUnique, get-contents, slot_of-some,
 use Rattle.hash_index.specs.Chains.{IsChain, IsCut, chain_of, bucket_of}
 use Rattle.hash_index.specs.Buckets.{slots_from, chained_slots, HeadsFit}
 use Rattle.hash_index.specs.Many.{chain_among, chains_apart, chain_having, slots-set}
-use Rattle.bpf_model.proofs.Lists.{get-set_other, get-set_same, length-set}
+use Rattle.bpf_model.proofs.Lists.{get-set_other, get-set_cases, length-set}
 
 pub home_chain : (heads : List (Option ℕ)) (a : ArenaState) (k : ℕ) (o : Option ℕ) → HeadsFit heads a → slice_get heads k ≡ Some o → IsChain a o
 home_chain heads a k o f h = record {
@@ -79,12 +79,6 @@ module _ (heads : List (Option ℕ)) (a : ArenaState) (ls : List (Option ℕ)) (
       slots-set (length a.slots) (link_at a.links) (link_at ls) heads k o p j h (λ m q ne at. walk-agree (length a.slots) (link_at a.links) (link_at ls) q (others m q ne at)) in
       omega arith
 
-  set_cases : (m : ℕ) (q : Option ℕ) → slice_get heads k ≡ Some o → slice_get (slice_set heads k p) m ≡ Some q → ((m ≡ k) × (p ≡ q)) ⊎ ((m ≢ k) × (slice_get heads m ≡ Some q))
-  set_cases m q h at = elim (cases_Bool (eqb m k)) [
-    | inl y ↦ let e : m ≡ k = eqb-true m k y in inl (e, same_Some p q (sym (get-set_same heads k p (slice_get_within heads k o h)) ∙ (ap (slice_get (slice_set heads k p)) (sym e) ∙ at)))
-    | inr n ↦ let ne : m ≢ k = eqb-false m k n in inr (ne, sym (get-set_other heads k m p ne) ∙ at)
-  ]
-
   pub changed_fits : HeadsFit heads a → slice_get heads k ≡ Some o → IsThread (link_at ls) p ys → ((j : ℕ) → times_in j ys ≤ 1) → ((j : ℕ) → 0 < times_in j ys → IsTaken a j) → ((j : ℕ) → 0 < times_in j ys → bucket_of (length heads) (key_at a.slots j) ≡ k) →
       ((m : ℕ) (q : Option ℕ) → m ≢ k → slice_get heads m ≡ Some q → (j : ℕ) → 0 < times_in j (chain_of a q) → link_at ls j ≡ link_at a.links j) →
       ((j : ℕ) → times_in j (chained_slots (slice_set heads k p) (record a { links = ls })) ≤ 1) →
@@ -97,11 +91,11 @@ module _ (heads : List (Option ℕ)) (a : ArenaState) (ls : List (Option ℕ)) (
       let w : walk (length a.slots) (link_at ls) p ≡ ys = changed_walk t once taken in
       record {
         some = omega arith;
-        thread = λ m q at. elim (set_cases m q h at) [
+        thread = λ m q at. elim (get-set_cases heads k m p q at) [
           | inl y ↦ subst (λ z. IsThread (link_at ls) z (walk (length a.slots) (link_at ls) z)) y.1 (subst (IsThread (link_at ls) p) (sym w) t)
           | inr n ↦ subst (IsThread (link_at ls) q) (sym (walk-agree (length a.slots) (link_at a.links) (link_at ls) q (others m q n.0 n.1))) (thread-agree (link_at a.links) (link_at ls) q _ (others m q n.0 n.1) (f.thread m q n.1))
         ];
-        home = λ m q at j i. elim (set_cases m q h at) [
+        home = λ m q at j i. elim (get-set_cases heads k m p q at) [
           | inl y ↦
               let i' : 0 < times_in j ys = subst (λ xs. 0 < times_in j xs) w (subst (λ z. 0 < times_in j (walk (length a.slots) (link_at ls) z)) (sym y.1) i) in
               ap (λ n. bucket_of n (key_at a.slots j)) long ∙ (home j i' ∙ sym y.0)

@@ -5,7 +5,7 @@ use Rattle.std.specs.Prelude.{bit_xor}
 use Rattle.std.specs.Prelude.{List, [], ◌∷◌, ◌++◌, Option, cond, drop, eqb, length}
 use Rattle.element_arena.specs.State.{ArenaState, IsTaken, link_at, key_at, times_in}
 use Rattle.element_arena.specs.Threads.{IsThread, walk}
-use Rattle.hash_index.specs.declared.hash.TheConstants.{FNV_OFFSET, FNV_PRIME, WORD_FACTOR}
+use Rattle.hash_index.specs.declared.hash.TheConstants.{FNV_OFFSET, FNV_PRIME, WORD_BYTES, WORD_FACTOR}
 use Rattle.hash_index.specs.Order.{IsLeastOf}
 
 -- FNV-1a of these bytes, in 64 bits, going on from h
@@ -25,14 +25,15 @@ folded_product product = bit_xor product (product / 2 ^ 32)
 abbrev pub mixed_hash : ℕ → ℕ → ℕ
 mixed_hash h word = folded_product ((bit_xor h word * WORD_FACTOR) % 2 ^ 64)
 
--- so many words of eight bytes, and the bytes that are left
+-- so many words, and the bytes that are left
 abbrev pub words_hash : ℕ → ℕ → List ℕ → ℕ
 words_hash zero h bytes = bytes_hash h bytes
-words_hash (suc n) h bytes = words_hash n (mixed_hash h (hashed_word bytes)) (drop 8 bytes)
+words_hash (suc n) h bytes =
+    words_hash n (mixed_hash h (hashed_word bytes)) (drop WORD_BYTES bytes)
 
 -- the hash of a key: its whole words first, then the bytes that are left
 abbrev pub hash_of : List ℕ → ℕ
-hash_of key = words_hash (length key / 8) FNV_OFFSET key
+hash_of key = words_hash (length key / WORD_BYTES) FNV_OFFSET key
 
 -- the bucket of a key, of a power of two of them
 abbrev pub bucket_of : ℕ → List ℕ → ℕ

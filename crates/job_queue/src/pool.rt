@@ -37,7 +37,7 @@ fn unchanged<S: Serve>(workers: &[S::Worker])
 {}
 
 /// A station for each of the last workers, from `first` on, in order.
-fn man<S: Serve>(
+fn stations_of<S: Serve>(
     alloc: Global,
     queue: &NumberQueue,
     pass: &mut NumberPass,
@@ -72,7 +72,7 @@ fn man<S: Serve>(
 
 /// Serves all jobs by the stations, adds their workers to the others, and brings the results onto the sheet.
 /// Whether some thread was short of memory.
-fn employ<S: Serve + Sync, R: Threads + Wait + Sync>(
+fn serve_at<S: Serve + Sync, R: Threads + Wait + Sync>(
     rt: &R,
     queue: &NumberQueue,
     serve: &S,
@@ -156,10 +156,10 @@ fn serve_each<S: Serve + Sync, R: Threads + Wait + Sync>(
         mut sheet,
         results,
     } = prepare(rt, alloc, jobs.len())?;
-    let Ok(stations) = man(alloc, &queue, &mut pass, serve, workers, first) else {
+    let Ok(stations) = stations_of(alloc, &queue, &mut pass, serve, workers, first) else {
         return Err(PoolFault::Memory);
     };
-    if employ(rt, &queue, serve, jobs, stations, workers, &mut sheet) {
+    if serve_at(rt, &queue, serve, jobs, stations, workers, &mut sheet) {
         return Err(PoolFault::Memory);
     }
     sheet.read_out(results)

@@ -116,6 +116,13 @@ entry_of bytes (rows.Dropped worker run) =
 entry_of bytes (rows.NotDropped worker refusal run) =
     record { worker = worker; event = events.Drop run; answer = answers.Refused refusal }
 
+-- the row is of a read
+abbrev pub IsReadRow : Row → Type 0
+IsReadRow (rows.Found worker key_len value_len map start) = Unit {0}
+IsReadRow (rows.NotFound worker key_len map start) = Unit {0}
+IsReadRow (rows.NotRead worker refusal key_len map start) = Unit {0}
+IsReadRow row = ⊥
+
 -- The strings of a row end before the end of so many bytes, and each is no longer than its kind may
 -- be.
 abbrev pub IsStored : ℕ → Row → Type 0

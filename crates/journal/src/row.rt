@@ -1,6 +1,6 @@
 //! The fixed part of an entry.
 ghost use Rattle.std.specs.Prelude.{◌≡◌, ℕ, List, length};
-ghost use Rattle.journal.specs.Rows.{IsStored, answer_of, entry_of};
+ghost use Rattle.journal.specs.Rows.{IsReadRow, IsStored, answer_of, entry_of};
 
 use crate::bytes::string_at;
 use crate::entry::Entry;
@@ -202,6 +202,20 @@ impl Row {
                 map,
                 key: string_at(bytes, start, key_len as usize),
             },
+            Row::Found { .. } | Row::NotFound { .. } | Row::NotRead { .. } => self.read_event(bytes),
+            Row::Advanced { .. } => Event::Advance,
+            Row::Reclaimed { .. } | Row::NothingReady { .. } => Event::Reap,
+            Row::Dropped { run, .. } | Row::NotDropped { run, .. } => Event::Drop { run },
+        }
+    }
+
+    /// The event of a row that is of a read.
+    fn read_event(&self, bytes: &[u8]) -> Event
+        requires stored { IsStored (length bytes.now) self.now }
+        requires read { IsReadRow self.now }
+        ensures { result ≡ (entry_of bytes.now self.now).event }
+    {
+        match *self {
             Row::Found {
                 key_len,
                 map,
@@ -223,9 +237,7 @@ impl Row {
                 map,
                 key: string_at(bytes, start, key_len as usize),
             },
-            Row::Advanced { .. } => Event::Advance,
-            Row::Reclaimed { .. } | Row::NothingReady { .. } => Event::Reap,
-            Row::Dropped { run, .. } | Row::NotDropped { run, .. } => Event::Drop { run },
+            _ => unreachable!(),
         }
     }
 

@@ -1,12 +1,12 @@
 -- A journal whose entries replay: from a base without runs, the runtime reacts to the events one
 -- after another with the answers that stand there, and the present world is the one that it comes
 -- to.
-use Rattle.std.specs.Prelude.{◌≡◌, ℕ, List, None, map, slice_get}
+use Rattle.std.specs.Prelude.{◌≡◌, ℕ, List, Option, None, map, slice_get}
 use Rattle.bpf_model.specs.declared.event.Event.{Event}
 use Rattle.bpf_model.specs.declared.event.Answer.{Answer}
 use Rattle.bpf_model.specs.Event.{AreReal}
 use Rattle.bpf_model.specs.Replay as machine
-use Rattle.bpf_model.specs.View.{WorldView}
+use Rattle.bpf_model.specs.View.{RunView, WorldView}
 use Rattle.view_laws.specs.Reactions.{run_shown}
 use Rattle.world_laws.specs.Reacting.{full_reactions}
 use Rattle.world_invariant.specs.Invariant.{IsWorld}
@@ -18,9 +18,13 @@ events_of entries = map (λ e. e.event) entries
 abbrev pub answers_of : List Entry → List Answer
 answers_of entries = map (λ e. e.answer) entries
 
+-- no run slot is occupied
+abbrev pub AreFree : List (Option RunView) → Type 0
+AreFree runs = (r : ℕ) → run_shown (slice_get runs r) ≡ None
+
 -- no run slot of the world is occupied
 abbrev pub HasNoRuns : WorldView → Type 0
-HasNoRuns w = (r : ℕ) → run_shown (slice_get w.runs r) ≡ None
+HasNoRuns w = AreFree w.runs
 
 pub record Replays (base world : WorldView) (entries : List Entry) : Type 0 where
   pub quiet : HasNoRuns base

@@ -3,6 +3,7 @@ use Rattle.std.specs.Prelude.{◌≡◌, ◌≢◌, ℕ, ◌==◌, ◌<◌, ◌^
 use Rattle.std.specs.Prelude.{length, slice_index, Option, Some, None, Result, Ok, Err}
 use Rattle.std.specs.List.{slice_split, onto_first}
 use Rattle.std.specs.Str.Parse.{IsNumeral, digits_value}
+use Rattle.loader.specs.declared.line.TheConstants.{SLOT_BYTES}
 use Rattle.hex.specs.Hex.{decode_sized}
 use Rattle.hex.specs.declared.error.FromHexError.{FromHexError}
 
@@ -27,9 +28,9 @@ abbrev decoded_bytes : Result (List ℕ) FromHexError → Option (List ℕ)
 decoded_bytes (Ok bytes) = Some bytes
 decoded_bytes (Err e) = None
 
--- the 8 bytes of a slot: sixteen hexadecimal digits, in either case
+-- the bytes of a slot: two hexadecimal digits each, in either case
 abbrev pub slot_in : List ℕ → Option (List ℕ)
-slot_in word = decoded_bytes (decode_sized word 8)
+slot_in word = decoded_bytes (decode_sized word SLOT_BYTES)
 
 abbrev pub both_parts : Option (List ℕ) → Option (List ℕ) → Option (List ℕ)
 both_parts (Some front) (Some back) = Some (front ++ back)

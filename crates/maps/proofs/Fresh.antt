@@ -1,5 +1,5 @@
 -- A new arena, with nothing linked and nothing in a list.
-use Rattle.std.proofs.Common.{◌≡◌, ◌∙◌, ℕ, zero, suc, ◌+◌, ◌<◌, ◌≤◌, List, [], length, None, inl, inr, refl, sym, ap, arith, cond, eqb, Bool, false}
+use Rattle.std.proofs.Common.{◌≡◌, ◌∙◌, ℕ, zero, suc, ◌+◌, ◌<◌, ◌≤◌, List, [], length, None, refl, sym, ap, arith, cond, Bool, false}
 use Rattle.std.specs.Prelude.{replicate, count_by}
 use Rattle.std.specs.List.{range_with_len}
 use Rattle.std.specs.Ordering.{nat_cmp}
@@ -8,6 +8,7 @@ use Rattle.std.specs.FinMap as map
 use Rattle.std.specs.FinMap.{get, get-empty, len-empty}
 use Rattle.std.proofs.lemmas.List.Folds.{sum_by-replicate}
 use Rattle.std.proofs.Math.Nat.{mul-zero}
+use Rattle.element_arena.proofs.Fresh.{times-once, times-below}
 use Rattle.bpf_model.specs.declared.limits.MapShape.{MapShape}
 use Rattle.bpf_model.specs.MapState.{IsShape}
 use Rattle.std.proofs.lemmas.Option.{none-some}
@@ -15,29 +16,8 @@ use Rattle.std.proofs.lemmas.List.{length-replicate}
 use Rattle.bpf_model.specs.View.{MapView, unused_slot, new_map_view}
 use Rattle.bpf_model.specs.Schedule.{no_queues}
 use Rattle.element_arena.specs.State.{times_in, is_at, indexed, key_at, value_at, worn_at, new_arena}
-use Rattle.element_arena.proofs.Counts.{one_cases}
 use Rattle.maps.specs.Parted.{PartsView, IsParted}
 use Rattle.maps.specs.Shown.{map_view, IsMap}
-
-range-times : (a n i : ℕ) → (times_in i (range_with_len a n) ≤ 1) × (0 < times_in i (range_with_len a n) → (a ≤ i) × (i < a + n))
-range-times a zero i = (omega arith, λ h. absurd (omega arith))
-range-times a (suc n) i =
-    let r = range-times (a + 1) n i in
-    elim (one_cases a i) [
-      | inl y ↦
-          let c : cond {A = ℕ} (eqb a i) 1 0 ≡ 1 = y.1 in
-          let e : a ≡ i = y.0 in
-          let z : times_in i (range_with_len (a + 1) n) ≡ 0 = none (times_in i (range_with_len (a + 1) n)) (λ h. let b = (r.1 h).0 in omega arith) in
-          (omega arith, λ h. (omega arith, omega arith))
-      | inr ne ↦
-          let c : cond {A = ℕ} (eqb a i) 1 0 ≡ 0 = ne.1 in
-          let o : times_in i (range_with_len (a + 1) n) ≤ 1 = r.0 in
-          (omega arith, λ h. let b = r.1 (omega arith) in let b0 : a + 1 ≤ i = b.0 in let b1 : i < a + 1 + n = b.1 in (omega arith, omega arith))
-    ]
-  where
-    none : (k : ℕ) → (0 < k → ⊥) → k ≡ 0
-    none zero h = refl
-    none (suc k) h = absurd (h (omega arith))
 
 pub none-worn : (n i : ℕ) → worn_at (replicate n false) i ≡ 0
 none-worn zero i = refl
@@ -56,8 +36,8 @@ parted-fresh n key_len value_len limit =
     let long : length (replicate n unused_slot) ≡ n = length-replicate n unused_slot in
     let flags : length (replicate n false) ≡ n = length-replicate n false in
     record {
-      once = λ i. let o = (range-times 0 n i).0 in omega (arith, unlinked i, none-worn n i);
-      inside = λ i h. let b = ((range-times 0 n i).1 (omega (arith, unlinked i, none-worn n i))).1 in omega arith;
+      once = λ i. let o : times_in i (range_with_len 0 n) ≤ 1 = times-once 0 n i in omega (arith, unlinked i, none-worn n i);
+      inside = λ i h. let b : i < 0 + n = times-below 0 n i (omega (arith, unlinked i, none-worn n i)) in omega arith;
       keyed = λ key i h. absurd (none-some i (sym (no-key key) ∙ h));
       flags = omega arith;
     }

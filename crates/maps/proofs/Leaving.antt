@@ -3,7 +3,7 @@ use Rattle.std.proofs.Common.{◌≡◌, ◌∙◌, ℕ, zero, suc, ◌+◌, ◌
 use Rattle.std.specs.Prelude.{slice_set, count_by, ◌==◌}
 use Rattle.std.specs.FinMap.{get, remove}
 use Rattle.std.proofs.lemmas.Bool.{cond-true, cond-false, cases_Bool}
-use Rattle.std.proofs.lemmas.List.Sums.{sum_by-cons}
+use Rattle.model_laws.proofs.Tallies.{count-cons}
 use Rattle.bpf_model.specs.declared.event.Given.{Given}
 use Rattle.bpf_model.specs.declared.event.Given.TheVariants.{Free, Worn}
 use Rattle.bpf_model.specs.declared.limits.MapShape.{MapShape}
@@ -26,19 +26,16 @@ retired-kept shape p r i n h g e =
     } in
     subst (λ (z : PartsView). IsMap shape z (n - 1)) (sym e) k
 
-count-cons : (b : Bool) (xs : List Bool) → count_by (λ b. b) (b ∷ xs) ≡ cond b 1 0 + count_by (λ b. b) xs
-count-cons b xs = sum_by-cons (λ (x : Bool). cond {A = ℕ} x 1 0) b xs
-
 count-set : (xs : List Bool) (i : ℕ) → worn_at xs i ≡ 0 → i < length xs → count_by (λ b. b) (slice_set xs i true) ≡ count_by (λ b. b) xs + 1
 count-set [] i w h = absurd (omega arith)
 count-set (true ∷ xs) zero w h = absurd (omega arith)
 count-set (false ∷ xs) zero w h =
-    let n : count_by (λ b. b) (true ∷ xs) ≡ 1 + count_by (λ b. b) xs = count-cons true xs in
-    let o : count_by (λ b. b) (false ∷ xs) ≡ 0 + count_by (λ b. b) xs = count-cons false xs in
+    let n : count_by (λ b. b) (true ∷ xs) ≡ 1 + count_by (λ b. b) xs = count-cons (λ b. b) true xs in
+    let o : count_by (λ b. b) (false ∷ xs) ≡ 0 + count_by (λ b. b) xs = count-cons (λ b. b) false xs in
     n ∙ omega arith
 count-set (b ∷ xs) (suc i) w h =
-    let n : count_by (λ b. b) (b ∷ slice_set xs i true) ≡ cond b 1 0 + count_by (λ b. b) (slice_set xs i true) = count-cons b (slice_set xs i true) in
-    let o : count_by (λ b. b) (b ∷ xs) ≡ cond b 1 0 + count_by (λ b. b) xs = count-cons b xs in
+    let n : count_by (λ b. b) (b ∷ slice_set xs i true) ≡ cond b 1 0 + count_by (λ b. b) (slice_set xs i true) = count-cons (λ b. b) b (slice_set xs i true) in
+    let o : count_by (λ b. b) (b ∷ xs) ≡ cond b 1 0 + count_by (λ b. b) xs = count-cons (λ b. b) b xs in
     let r : count_by (λ b. b) (slice_set xs i true) ≡ count_by (λ b. b) xs + 1 = count-set xs i w (omega arith) in
     n ∙ omega arith
 

@@ -28,7 +28,7 @@ sum-same f (x ∷ xs) (y ∷ ys) l h =
     let rest : sum_by f ys ≡ sum_by f xs = sum-same f xs ys (omega arith) (λ n z at. h (suc n) z at) in
     sum_by-cons f y ys ∙ (ap (λ b. b + sum_by f ys) e ∙ (ap (λ k. f x + k) rest ∙ sym (sum_by-cons f x xs)))
 
-sum-set : {A : Type 0} (f : A → ℕ) (xs : List A) (n : ℕ) (x y : A) → slice_get xs n ≡ Some x → sum_by f (slice_set xs n y) + f x ≡ sum_by f xs + f y
+pub sum-set : {A : Type 0} (f : A → ℕ) (xs : List A) (n : ℕ) (x y : A) → slice_get xs n ≡ Some x → sum_by f (slice_set xs n y) + f x ≡ sum_by f xs + f y
 sum-set f [] n x y h = absurd (none-some x h)
 sum-set f (z ∷ xs) zero x y h =
     let a = sum_by-cons f y xs in

@@ -2,12 +2,12 @@
 -- left.
 use Rattle.std.specs.Prelude.{◌≡◌, ℕ, ◌+◌, ◌<◌, ◌⊎◌, List, [], ◌∷◌, ◌++◌, length}
 use Rattle.std.specs.Io.Iter.{u64_saturate}
-use Rattle.script_stream.specs.declared.progress.TheConstants.{MAX_LINE}
+use Rattle.script_stream.specs.declared.progress.TheConstants.{LINE_BYTES}
 use Rattle.script_stream.specs.Lines.{lines_of}
 
 -- A line that ends the script: it is too long, or no command.
 abbrev pub IsBadLine : (List ℕ → Type 0) → List ℕ → Type 0
-IsBadLine is_bad line = (MAX_LINE < length line) ⊎ is_bad line
+IsBadLine is_bad line = (LINE_BYTES < length line) ⊎ is_bad line
 
 module _ {S : Type 0} (answers : S → List ℕ → List ℕ → S → Type 0) where
   -- The text is that of the answers to these lines, and they lead from one state to the other.

@@ -1,6 +1,6 @@
 //! Scripts as streams: the lines of a reader are answered one after another, and the answers written.
 //!
-//! Memory is bounded: a line is at most `MAX_LINE` bytes without its line feed, and what is answered is
+//! Memory is bounded: a line is at most `LINE_BYTES` bytes without its line feed, and what is answered is
 //! written out before more is read. So a host that waits for an answer before it writes its next line has it,
 //! and lines that come in one read cost one write.
 #![tactic(auto)]
@@ -13,6 +13,6 @@ mod serving;
 mod writing;
 
 pub use fault::ScriptFault;
-pub use progress::MAX_LINE;
+pub use progress::LINE_BYTES;
 pub use respond::{LineFault, Respond};
 pub use serving::serve;

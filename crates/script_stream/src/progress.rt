@@ -14,7 +14,7 @@ use std::alloc::Global;
 use std::io::Write;
 
 /// The most bytes of a line, without its line feed.
-pub const MAX_LINE: usize = 70_000;
+pub const LINE_BYTES: usize = 70_000;
 
 /// Answers of so many bytes are written before the next line is answered.
 const MOST_WAITING: usize = 65_536;
@@ -51,7 +51,7 @@ fn answer<A: Respond>(
     ensures bad { (n : ℕ) → result ≡ Err (ScriptFault.BadCommand n)
         → (n ≡ number) × IsBadLine A.is_bad line.now }
 {
-    if line.len() > MAX_LINE {
+    if line.len() > LINE_BYTES {
         return Err(ScriptFault::BadCommand { line: number });
     }
     let before = out.len();
@@ -186,10 +186,10 @@ impl Progress {
         ensures answered { self.new.answered ≡ self.old.answered }
         ensures bad { (n : ℕ) → result ≡ Err (ScriptFault.BadCommand n)
             → (n ≡ u64_saturate (self.old.answered + 1))
-            × (MAX_LINE < length (self.old.rest.items ++ piece.now)) }
+            × (LINE_BYTES < length (self.old.rest.items ++ piece.now)) }
     {
         self.rest.extend_from_slice(piece)?;
-        if self.rest.len() > MAX_LINE {
+        if self.rest.len() > LINE_BYTES {
             return Err(ScriptFault::BadCommand {
                 line: self.answered.saturating_add(1),
             });

@@ -76,7 +76,7 @@ fn serve_some<A: Respond, R: Read, W: Write>(
 /// answered is written and handed on before more is read.
 ///
 /// Errors: the first that is met.
-/// - `BadCommand`: with the first line that is longer than `MAX_LINE` bytes or no command. Written is
+/// - `BadCommand`: with the first line that is longer than `LINE_BYTES` bytes or no command. Written is
 ///   exactly what answers the lines before. A line that is too long is told without reading on.
 /// - `Read`, `Write`, `Memory`: the reader or the writer failed (a write of no bytes is a failure too), or
 ///   an allocation did. Written is a beginning of the answers to the lines read.

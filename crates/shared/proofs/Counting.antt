@@ -1,10 +1,12 @@
 -- Each reaction unlinks or reclaims at most one element, and says so where it reclaims.
-use Rattle.std.proofs.Common.{◌≡◌, ◌∙◌, ℕ, zero, suc, ◌+◌, ◌≤◌, List, [], ◌∷◌, map, length, Option, Some, None, refl, sym, ap, subst, arith, Bool, true, false, length-append, length-drop}
-use Rattle.std.specs.Prelude.{slice_get, slice_set, ℤ, pos, negsuc, ◌+ℤ◌}
+use Rattle.std.proofs.Common.{◌≡◌, ◌∙◌, ℕ, ◌+◌, ◌≤◌, List, [], ◌∷◌, map, length, Option, Some, None, refl, ap, subst, arith, Bool, true, false, length-append, length-drop}
+use Rattle.std.specs.Prelude.{slice_get, ℤ, pos, negsuc, ◌+ℤ◌}
 use Rattle.std.specs.List.{sum_by}
 use Rattle.std.specs.FinMap.{get}
 use Rattle.std.proofs.lemmas.List.Sums.{sum_by-cons}
 use Rattle.std.proofs.lemmas.Option.{none-some, same_Some}
+use Rattle.view_laws.proofs.Reacting.{picked-at}
+use Rattle.model_laws.proofs.Tallies.{sum-set}
 use Rattle.bpf_model.specs.declared.call.Errno.{Errno}
 use Rattle.bpf_model.specs.declared.call.Helper.{Helper}
 use Rattle.bpf_model.specs.declared.call.Helper.TheVariants.{Lookup, Update, Delete}
@@ -30,7 +32,7 @@ use Rattle.bpf_model.specs.View.{MapView, RunView, WorldView}
 use Rattle.model_laws.specs.Locations.{Location, InContext, InFrame, AtMap, InSlot}
 use Rattle.maps.specs.Counting.{unlinked_in}
 use Rattle.view_laws.specs.Views.{retired_slot, retired_key, deleted, filled_from, updated_by, shown_error, turned_view, slot_given_back, given_at, reaped_view}
-use Rattle.view_laws.specs.Reactions.{with_map, shape_shown, refused_as, delete_at, delete_reaction, update_at, update_reaction, read_at, read_reaction, advanced_by, advance_reaction, Pick, or_pick, first_pick, reap_by, reap_reaction, start_by, start_reaction, run_shown, step_refused, drop_refused, drop_by, drop_reaction, step_by, reaction}
+use Rattle.view_laws.specs.Reactions.{with_map, shape_shown, refused_as, delete_at, delete_reaction, update_at, update_reaction, read_at, read_reaction, advanced_by, advance_reaction, Pick, first_pick, reap_by, reap_reaction, start_by, start_reaction, run_shown, step_refused, drop_refused, drop_by, drop_reaction, step_by, reaction}
 use Rattle.world_laws.specs.Locating.{location_of}
 use Rattle.world_laws.specs.Moving.{word_in, operand_word, stored_slot, stored_at}
 use Rattle.world_laws.specs.Calling.{bytes_in, bound_number, serves, helper_called_on, helper_called, kernel_called}
@@ -59,20 +61,6 @@ updated-gains (Some e) v key value = gains-none v v refl
 updated-gains None v key value =
     let g = retired-gains v key (get v.index key) in record { more = g.more; one = g.one; sum = filled-same v.free (retired_key v key) key value ∙ g.sum }
 
--- the sum over all maps, where one has another view
-sum-set : (vs : List MapView) (k : ℕ) (v new : MapView) → slice_get vs k ≡ Some v → sum_by unlinked_in (slice_set vs k new) + unlinked_in v ≡ sum_by unlinked_in vs + unlinked_in new
-sum-set [] k v new e = absurd (none-some v e)
-sum-set (x ∷ vs) zero v new e =
-    let same : unlinked_in x ≡ unlinked_in v = ap unlinked_in (same_Some x v e) in
-    let a = sum_by-cons unlinked_in new vs in
-    let b = sum_by-cons unlinked_in x vs in
-    omega (arith, same, a, b)
-sum-set (x ∷ vs) (suc k) v new e =
-    let rest = sum-set vs k v new e in
-    let a = sum_by-cons unlinked_in x (slice_set vs k new) in
-    let b = sum_by-cons unlinked_in x vs in
-    omega (arith, rest, a, b)
-
 turned-sum : (vs : List MapView) → sum_by unlinked_in (map turned_view vs) ≡ sum_by unlinked_in vs
 turned-sum [] = refl
 turned-sum (v ∷ vs) =
@@ -87,32 +75,6 @@ pub record IsCountedOn (w : WorldView) (x : Answer × WorldView) : Type 0 where
   pub counts : CountsOn x.0 (unreclaimed_in w) (unreclaimed_in x.1)
   pub given : x.1.given ≡ w.given + reclaimed_by x.0
 
--- the map that a reap picks is there, and has a ready slot
-record IsPickedAt (k : ℕ) (vs : List MapView) (p : Pick) : Type 0 where
-  pub index : ℕ
-  pub number : p.map ≡ k + index
-  pub there : slice_get vs index ≡ Some p.view
-  pub some : 1 ≤ length p.view.ready
-
-picked-first : (k : ℕ) (v : MapView) (vs : List MapView) (p : Pick) (ready : List ℕ) → v.ready ≡ ready → (first_pick (suc k) vs ≡ Some p → IsPickedAt (suc k) vs p) → or_pick ready k v (first_pick (suc k) vs) ≡ Some p → IsPickedAt k (v ∷ vs) p
-picked-first k v vs p [] e more h =
-    let later = more h in
-    let number : p.map ≡ suc k + later.index = later.number in record { index = suc later.index; number = omega arith; there = later.there; some = later.some }
-picked-first k v vs p (i ∷ rest) e more h =
-    let is : record { map = k; view = v; slot = i } ≡ p = same_Some _ p h in
-    let number : p.map ≡ k = ap (λ (z : Pick). z.map) (sym is) in
-    let view : p.view ≡ v = ap (λ (z : Pick). z.view) (sym is) in
-    let n : length p.view.ready ≡ length (i ∷ rest) = ap (λ (z : MapView). length z.ready) view ∙ ap length e in record {
-      index = 0;
-      number = omega arith;
-      there = ap (λ (z : Pick). Some z.view) is;
-      some = omega (arith, n);
-    }
-
-picked-at : (k : ℕ) (vs : List MapView) (p : Pick) → first_pick k vs ≡ Some p → IsPickedAt k vs p
-picked-at k [] p h = absurd (none-some p h)
-picked-at k (v ∷ vs) p h = picked-first k v vs p v.ready refl (λ g. picked-at (suc k) vs p g) h
-
 returned-count : (g : Given) (i : ℕ) (v : MapView) → 1 ≤ length v.ready → unlinked_in (slot_given_back g i v) + 1 ≡ unlinked_in v
 returned-count Free i v some = let n = length-drop 1 v.ready in omega (arith, n, some)
 returned-count Worn i v some = let n = length-drop 1 v.ready in omega (arith, n, some)
@@ -125,7 +87,7 @@ module _ (w : WorldView) where
   -- one map has another view
   in-map : (answer : Answer) (k : ℕ) (v new : MapView) → reclaimed_by answer ≡ 0 → slice_get w.maps k ≡ Some v → Gains v new → IsCountedOn w (answer, with_map k new w)
   in-map answer k v new none at g =
-      let s = sum-set w.maps k v new at in
+      let s = sum-set unlinked_in w.maps k v new at in
       let m = g.sum in
       let one = g.one in record { counts = record { unlinked = g.more; one = omega (arith, none, one); sum = omega (arith, none, s, m) }; given = omega (arith, none) }
 
@@ -153,7 +115,7 @@ module _ (w : WorldView) where
   reap-counts (Some p) h =
       let x = picked-at 0 w.maps p h in
       let number : p.map ≡ x.index = x.number ∙ (let z : 0 + x.index ≡ x.index = omega arith in z) in
-      let s = sum-set w.maps p.map p.view (reaped_view p.view p.slot) (ap (slice_get w.maps) number ∙ x.there) in
+      let s = sum-set unlinked_in w.maps p.map p.view (reaped_view p.view p.slot) (ap (slice_get w.maps) number ∙ x.there) in
       let n = returned-count (given_at p.view p.slot) p.slot p.view x.some in record {
         counts = record { unlinked = 0; one = omega arith; sum = omega (arith, s, n) };
         given = refl;

@@ -1,5 +1,5 @@
 -- A reaction to an event is a step of each schedule that the world matches, and it keeps the shapes of the maps and the programs.
-use Rattle.std.proofs.Common.{◌≡◌, ◌∙◌, ℕ, suc, ◌+◌, List, [], ◌∷◌, map, length, Option, Some, None, refl, sym, ap, subst, arith, Bool, true, false}
+use Rattle.std.proofs.Common.{◌≡◌, ◌∙◌, ℕ, suc, ◌+◌, List, [], ◌∷◌, map, length, Option, Some, None, refl, sym, ap, subst, arith, Bool, true, false, ◌≤◌}
 use Rattle.std.specs.Prelude.{slice_get, slice_set}
 use Rattle.std.specs.FinMap.{get}
 use Rattle.std.proofs.lemmas.Option.{none-some, same_Some}
@@ -111,23 +111,31 @@ turned-shapes : (vs : List MapView) → map shape (map turned_view vs) ≡ map s
 turned-shapes [] = refl
 turned-shapes (v ∷ vs) = ap (λ l. v.shape ∷ l) (turned-shapes vs)
 
--- the map that a reap picks is there
-abbrev PickedAt : ℕ → List MapView → Pick → Type 0
-PickedAt k vs p = (place : ℕ) × (p.map ≡ k + place) × (slice_get vs place ≡ Some p.view)
+-- the map that a reap picks is there, and has a ready slot
+pub record IsPickedAt (k : ℕ) (vs : List MapView) (p : Pick) : Type 0 where
+  pub index : ℕ
+  pub number : p.map ≡ k + index
+  pub there : slice_get vs index ≡ Some p.view
+  pub some : 1 ≤ length p.view.ready
 
-picked-first : (k : ℕ) (v : MapView) (vs : List MapView) (p : Pick) (ready : List ℕ) → (first_pick (suc k) vs ≡ Some p → PickedAt (suc k) vs p) → or_pick ready k v (first_pick (suc k) vs) ≡ Some p → PickedAt k (v ∷ vs) p
-picked-first k v vs p [] more h =
+picked-first : (k : ℕ) (v : MapView) (vs : List MapView) (p : Pick) (ready : List ℕ) → v.ready ≡ ready → (first_pick (suc k) vs ≡ Some p → IsPickedAt (suc k) vs p) → or_pick ready k v (first_pick (suc k) vs) ≡ Some p → IsPickedAt k (v ∷ vs) p
+picked-first k v vs p [] e more h =
     let later = more h in
-    let number : p.map ≡ suc k + later.0 = later.1 in
-    (suc later.0, omega arith, later.2)
-picked-first k v vs p (i ∷ rest) more h =
+    let number : p.map ≡ suc k + later.index = later.number in record { index = suc later.index; number = omega arith; there = later.there; some = later.some }
+picked-first k v vs p (i ∷ rest) e more h =
     let is : record { map = k; view = v; slot = i } ≡ p = same_Some _ p h in
     let number : p.map ≡ k = ap (λ (z : Pick). z.map) (sym is) in
-    (0, omega arith, ap (λ (z : Pick). Some z.view) is)
+    let view : p.view ≡ v = ap (λ (z : Pick). z.view) (sym is) in
+    let n : length p.view.ready ≡ length (i ∷ rest) = ap (λ (z : MapView). length z.ready) view ∙ ap length e in record {
+      index = 0;
+      number = omega arith;
+      there = ap (λ (z : Pick). Some z.view) is;
+      some = omega (arith, n);
+    }
 
-picked-at : (k : ℕ) (vs : List MapView) (p : Pick) → first_pick k vs ≡ Some p → PickedAt k vs p
+pub picked-at : (k : ℕ) (vs : List MapView) (p : Pick) → first_pick k vs ≡ Some p → IsPickedAt k vs p
 picked-at k [] p h = absurd (none-some p h)
-picked-at k (v ∷ vs) p h = picked-first k v vs p v.ready (λ g. picked-at (suc k) vs p g) h
+picked-at k (v ∷ vs) p h = picked-first k v vs p v.ready refl (λ g. picked-at (suc k) vs p g) h
 
 abbrev pub Keeps : WorldView → WorldView → Type 0
 Keeps w new = (shapes_of new ≡ shapes_of w) × (new.programs ≡ w.programs)
@@ -159,8 +167,8 @@ module _ (w : WorldView) where
   reap-keeps None h = (refl, refl)
   reap-keeps (Some p) h =
       let x = picked-at 0 w.maps p h in
-      let number : p.map ≡ x.0 = x.1 ∙ (let z : 0 + x.0 ≡ x.0 = omega arith in z) in
-      (set-shapes w.maps p.map p.view (reaped_view p.view p.slot) (ap (slice_get w.maps) number ∙ x.2) (given-shape (given_at p.view p.slot) p.slot p.view), refl)
+      let number : p.map ≡ x.index = x.number ∙ (let z : 0 + x.index ≡ x.index = omega arith in z) in
+      (set-shapes w.maps p.map p.view (reaped_view p.view p.slot) (ap (slice_get w.maps) number ∙ x.there) (given-shape (given_at p.view p.slot) p.slot p.view), refl)
 
   start-keeps : (r : Option EventRefusal) (o : Option ℕ) (prog : ℕ) (context : List ℕ) → Keeps w (start_by r o w prog context).1
   start-keeps (Some refusal) o prog context = (refl, refl)

@@ -1,5 +1,5 @@
 -- Programs that are bound to maps of the shapes that they were verified for, one number of a list after another.
-use Rattle.std.proofs.Common.{◌≡◌, ◌∙◌, ℕ, zero, suc, ◌+◌, ◌<◌, ◌≤◌, ◌⊎◌, inl, inr, List, [], ◌∷◌, map, length, take, get_or, Option, Some, refl, sym, ap, subst, arith}
+use Rattle.std.proofs.Common.{◌≡◌, ◌∙◌, ℕ, zero, suc, ◌+◌, ◌<◌, ◌≤◌, List, [], ◌∷◌, map, length, take, get_or, Option, Some, sym, ap, subst, arith, below_more}
 use Rattle.std.specs.Prelude.{slice_get}
 use Rattle.std.proofs.lemmas.Option.{none-some, same_Some, slice_get_within, get_or_from_slice_get}
 use Rattle.bpf_model.specs.declared.limits.MapShape.{MapShape}
@@ -24,22 +24,11 @@ bound-at shapes asked numbers i n s bound here there =
     let same : found.0 ≡ n = same_Some found.0 n (sym found.1 ∙ here) in
     subst (λ (k : ℕ). slice_get shapes k ≡ Some s) same found.2
 
--- the first is one
-either : (p q : ℕ) → (p ≡ q) ⊎ ((p < q) ⊎ (q < p))
-either zero zero = inl refl
-either zero (suc q) = inr (inl (omega arith))
-either (suc p) zero = inr (inr (omega arith))
-either (suc p) (suc q) = elim (either p q) [ inl e ↦ inl (ap suc e) | inr less ↦ elim less [ inl h ↦ inr (inl (omega arith)) | inr h ↦ inr (inr (omega arith)) ] ]
-
 -- What is so of each element before an index, and of the one at it, is so of each up to it.
 pub each-more : {X : Type 0} (P : X → Type 0) (xs : List X) (i : ℕ) (e : X) → e ≡ get_or xs i e → P e → ((p : ℕ) (x : X) → p < i → slice_get xs p ≡ Some x → P x) → (p : ℕ) (x : X) → p < i + 1 → slice_get xs p ≡ Some x → P x
 each-more {X} P xs i e is holds before p x h at =
-    elim (either p i) [
-      | inl same ↦
-          let found : get_or xs p e ≡ x = get_or_from_slice_get xs p x e at in
-          subst P (is ∙ (ap (λ (k : ℕ). get_or xs k e) (sym same) ∙ found)) holds
-      | inr less ↦ elim less [ inl earlier ↦ before p x earlier at | inr later ↦ absurd (omega arith) ]
-    ]
+    below_more (λ (k : ℕ). (y : X) → slice_get xs k ≡ Some y → P y) i (λ k l y there. before k y l there)
+    (λ y there. subst P (is ∙ get_or_from_slice_get xs i y e there) holds) p h x at
 
 pub each-all : {X : Type 0} (P : X → Type 0) (xs : List X) (i : ℕ) → length xs ≤ i → ((p : ℕ) (x : X) → p < i → slice_get xs p ≡ Some x → P x) → (p : ℕ) (x : X) → slice_get xs p ≡ Some x → P x
 each-all P xs i end before p x at =

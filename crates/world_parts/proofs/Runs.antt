@@ -18,8 +18,8 @@ use Rattle.world_parts.specs.declared.loaded.Loaded.{Loaded}
 use Rattle.world_parts.specs.Programs.{program_of}
 use Rattle.world_parts.specs.Keeping.{view_of, is_run_inside, IsOfProgram, AreRunsKept, world_of}
 use Rattle.world_parts.proofs.Flags.{still-cleared}
-use Rattle.world_parts.proofs.Slots.{Runs, written}
-use Rattle.bpf_model.proofs.Lists.{length-set, map-set, set-same}
+use Rattle.world_parts.proofs.Slots.{Runs}
+use Rattle.bpf_model.proofs.Lists.{length-set, map-set, set-same, get-set_cases}
 use Rattle.bpf_model.specs.Machine.{lowest_free}
 
 same_world : (maps : List MapView) (programs : List machine.Loaded) (given : ℕ) (rs qs : List (Option RunView)) (os ps cs bs : List Bool) → rs ≡ qs → os ≡ ps → cs ≡ bs →
@@ -33,9 +33,9 @@ module _ (maps : List MapView) (runs : Runs) (grace new : GraceState) (programs 
   dropped-kept = record {
     slots = length-set runs i None ∙ kept.slots;
     opened = opened ∙ (ap (λ (os : List Bool). slice_set os r false) kept.opened ∙ (ap (λ k. slice_set (map is_run_inside runs) k false) (sym same) ∙ sym (map-set is_run_inside runs i None)));
-    of_program = λ k run e. elim (written runs i k None (Some run) e) [
-      | inl z ↦ absurd (none-some run z)
-      | inr z ↦ kept.of_program k run z
+    of_program = λ k run e. elim (get-set_cases runs i k None (Some run) e) [
+      | inl z ↦ absurd (none-some run z.1)
+      | inr z ↦ kept.of_program k run z.1
     ];
   }
 
@@ -57,13 +57,13 @@ module _ (maps : List MapView) (runs : Runs) (grace : GraceState) (programs : Li
   started-kept = record {
     slots = length-set runs i (Some run) ∙ kept.slots;
     opened = kept.opened ∙ sym (map-set_same is_run_inside runs i None (Some run) free started-shut);
-    of_program = λ k other e. elim (written runs i k (Some run) (Some other) e) [
-      | inl z ↦ subst (IsOfProgram programs) (same_Some run other z) (record {
+    of_program = λ k other e. elim (get-set_cases runs i k (Some run) (Some other) e) [
+      | inl z ↦ subst (IsOfProgram programs) (same_Some run other z.1) (record {
         program = program;
         there = ap (λ (v : RunView). slice_get programs v.program) fresh ∙ there;
         stands = stands;
       })
-      | inr z ↦ kept.of_program k other z
+      | inr z ↦ kept.of_program k other z.1
     ];
   }
 

@@ -1,6 +1,6 @@
--- Run slots: the lowest free one, and what stands in them after one was written.
-use Rattle.std.proofs.Common.{◌≡◌, ◌∙◌, ℕ, zero, suc, ◌+◌, ◌<◌, List, [], ◌∷◌, length, Option, Some, None, ◌⊎◌, inl, inr, refl, sym, ap, arith, add-one, below_more, get_or, true, false}
-use Rattle.std.specs.Prelude.{slice_get, slice_set, map, option_map, is_some}
+-- Run slots: the lowest free one.
+use Rattle.std.proofs.Common.{◌≡◌, ◌∙◌, ℕ, zero, suc, ◌+◌, ◌<◌, List, [], ◌∷◌, length, Option, Some, None, refl, sym, ap, arith, add-one, below_more, get_or, true, false}
+use Rattle.std.specs.Prelude.{slice_get, map, option_map, is_some}
 use Rattle.std.proofs.lemmas.Bool.{false≢true}
 use Rattle.std.proofs.lemmas.Option.{none-some, same_Some, slice_get-get_or}
 use Rattle.machine.specs.RunWords.{RunWords}
@@ -26,14 +26,6 @@ pub free-none : (runs : Runs) → AreTaken runs (length runs) → lowest_free (m
 free-none [] h = refl
 free-none (None ∷ runs) h = absurd (h 0 (omega arith) refl)
 free-none (Some r ∷ runs) h = ap (option_map (λ k. k + 1)) (free-none runs (λ k l g. h (suc k) (omega arith) g))
-
--- a slot that was written has what was written, and any other what it had
-pub written : {A : Type 0} (xs : List A) (i r : ℕ) (y x : A) → slice_get (slice_set xs i y) r ≡ Some x → (y ≡ x) ⊎ (slice_get xs r ≡ Some x)
-written [] i r y x e = absurd (none-some x e)
-written (z ∷ zs) zero zero y x e = inl (same_Some y x e)
-written (z ∷ zs) zero (suc r) y x e = inr e
-written (z ∷ zs) (suc i) zero y x e = inr e
-written (z ∷ zs) (suc i) (suc r) y x e = written zs i r y x e
 
 none-of : {A : Type 0} (o : Option A) → is_some o ≡ false → o ≡ None
 none-of None e = refl

@@ -30,8 +30,7 @@ use Rattle.world_parts.specs.declared.loaded.Loaded.{Loaded}
 use Rattle.world_parts.specs.Programs.{program_of}
 use Rattle.world_parts.specs.Keeping.{view_of, is_run_inside, IsOfProgram, AreRunsKept, world_of}
 use Rattle.world_parts.specs.Stepping.{CanTake, HasTaken, IsGoing, HasGone}
-use Rattle.world_parts.proofs.Slots.{written}
-use Rattle.bpf_model.proofs.Lists.{length-set, map-set, set-same}
+use Rattle.bpf_model.proofs.Lists.{length-set, map-set, set-same, get-set_cases}
 
 module _ (loaded : Loaded) (maps : List MapView) (g : GraceState) (r : ℕ) (old : RunWords) (can : CanTake loaded maps g r old) where
   abbrev v : RunView
@@ -179,13 +178,13 @@ module _ (maps : List MapView) (runs : List (Option RunWords)) (g : GraceState) 
     gone_kept = subst (λ (l : List (Option RunWords)). AreRunsKept l g_new programs) (sym gone.runs_are) (record {
       slots = length-set runs r (Some gone.new) ∙ kept.slots;
       opened = gone.taken.opened ∙ ap (λ os. slice_set os r (nat_lt 0 gone.new.view.depth)) kept.opened ∙ sym (map-set is_run_inside runs r (Some gone.new));
-      of_program = λ k run e. elim (written runs r k (Some gone.new) (Some run) e) [
-        | inl z ↦ subst (IsOfProgram programs) (same_Some gone.new run z) (record {
+      of_program = λ k run e. elim (get-set_cases runs r k (Some gone.new) (Some run) e) [
+        | inl z ↦ subst (IsOfProgram programs) (same_Some gone.new run z.1) (record {
           program = gone.loaded;
           there = ap (slice_get programs) gone.taken.program ∙ gone.of;
           stands = gone.taken.stands;
         })
-        | inr z ↦ kept.of_program k run z
+        | inr z ↦ kept.of_program k run z.1
       ];
     })
 

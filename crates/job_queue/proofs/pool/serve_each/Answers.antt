@@ -8,22 +8,22 @@ use Rattle.job_queue.specs.Sheet.{worker_of}
 use Rattle.job_queue.proofs.Serving.{results_right}
 use Rattle.job_queue.proofs.pool.serve_each.Goals as goal
 
-pub employ-requires-clause-ready : goal.employ-requires-clause-ready
-employ-requires-clause-ready g c κs within =
+pub serve_at-requires-clause-ready : goal.serve_at-requires-clause-ready
+serve_at-requires-clause-ready g c κs within =
     subst (All (g.S.Serve.ready c.args.serve.now)) (sym c.in-Ok.ensures.workers) (All-take (g.S.Serve.ready c.args.serve.now) c.args.first c.args.workers.now.items c.requires.ready)
 
-pub employ-requires-clause-room : goal.employ-requires-clause-room
-employ-requires-clause-room g c κs within =
+pub serve_at-requires-clause-room : goal.serve_at-requires-clause-room
+serve_at-requires-clause-room g c κs within =
     let old = c.args.workers.now in
     let is_old : vec_len old ≡ length old.items = old.ok.0 in
-    let new = c.man.new.workers in
+    let new = c.stations_of.new.workers in
     let is_new : vec_len new ≡ length new.items = new.ok.0 in
     let taken : length new.items ≡ c.args.first = ap length c.in-Ok.ensures.workers ∙ length-take-le c.args.first old.items (omega arith) in
     let st = c.in-Ok.stations in
     let is_st : vec_len st ≡ length st.items = st.ok.0 in
     let mapped : length (map worker_of st.items) ≡ length st.items = length-map st.items worker_of in
     let dropped : length (map worker_of st.items) ≡ length old.items - c.args.first = ap length c.in-Ok.ensures.stations ∙ length-drop c.args.first old.items in
-    let same = c.man.ensures.capacity in
+    let same = c.stations_of.ensures.capacity in
     let full = old.ok.1 in
     omega arith
 
@@ -31,10 +31,10 @@ pub returns-clause-each : goal.returns-clause-each
 returns-clause-each g c =
     let whole = ap (λ z. z ++ map worker_of c.in-Ok.stations.items) c.in-Ok.ensures.workers ∙ (ap (λ z. take c.args.first c.args.workers.now.items ++ z) c.in-Ok.ensures.stations ∙ take-append-drop c.args.first c.args.workers.now.items) in
     let fits = g.S.Serve.fits c.args.serve.now in
-    let after = c.employ.new.workers.items in
-    let lines = c.employ.new.sheet.lines.items in
+    let after = c.serve_at.new.workers.items in
+    let lines = c.serve_at.new.sheet.lines.items in
     IfOk-weaker c.read_out.result _ _
-    (λ v same. results_right fits c.args.jobs.now c.args.workers.now.items after lines v.items (subst (λ z. AreRightLines fits c.args.jobs.now z after lines) whole c.employ.ensures.lines) same)
+    (λ v same. results_right fits c.args.jobs.now c.args.workers.now.items after lines v.items (subst (λ z. AreRightLines fits c.args.jobs.now z after lines) whole c.serve_at.ensures.lines) same)
     c.read_out.ensures.lines
 
 pub returns-clause-err : goal.returns-clause-err

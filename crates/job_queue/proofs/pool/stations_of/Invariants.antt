@@ -3,7 +3,7 @@ use Rattle.std.specs.Prelude.{All}
 use Rattle.crossbeam_queue.specs.Passes.{IsPassOf}
 use Rattle.job_queue.specs.Serving.{IsNewStation}
 use Rattle.job_queue.specs.Sheet.{worker_of}
-use Rattle.job_queue.proofs.pool.man.Given as goal
+use Rattle.job_queue.proofs.pool.stations_of.Given as goal
 
 abbrev pub invariant-loop-worker : goal.invariant-loop-worker
 invariant-loop-worker g l = record {

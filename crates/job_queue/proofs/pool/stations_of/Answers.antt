@@ -7,7 +7,7 @@ use Rattle.job_queue.specs.Serving.{IsNewStation}
 use Rattle.job_queue.specs.Sheet.{worker_of}
 use Rattle.job_queue.proofs.QueueRule.{forks}
 use Rattle.job_queue.proofs.Serving.{all_one, all_uncons}
-use Rattle.job_queue.proofs.pool.man.Goals as goal
+use Rattle.job_queue.proofs.pool.stations_of.Goals as goal
 
 pub another-pass-requires-clause-rule : goal.another-pass-requires-clause-rule
 another-pass-requires-clause-rule g c = forks _ _

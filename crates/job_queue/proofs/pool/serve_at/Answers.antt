@@ -4,7 +4,7 @@ use Rattle.crossbeam_queue.specs.Passes.{IsPassOf}
 use Rattle.job_queue.specs.Serving.{IsServedFor}
 use Rattle.job_queue.specs.Sheet.{worker_of, StandsIn}
 use Rattle.job_queue.proofs.Serving.{stands_right, workers_later, workers_ready, written_back}
-use Rattle.job_queue.proofs.pool.employ.Goals as goal
+use Rattle.job_queue.proofs.pool.serve_at.Goals as goal
 
 pub returns-clause-ready : goal.returns-clause-ready
 returns-clause-ready g c =
