@@ -202,7 +202,9 @@ impl Row {
                 map,
                 key: string_at(bytes, start, key_len as usize),
             },
-            Row::Found { .. } | Row::NotFound { .. } | Row::NotRead { .. } => self.read_event(bytes),
+            Row::Found { .. } | Row::NotFound { .. } | Row::NotRead { .. } => self.read_event(
+                bytes,
+            ),
             Row::Advanced { .. } => Event::Advance,
             Row::Reclaimed { .. } | Row::NothingReady { .. } => Event::Reap,
             Row::Dropped { run, .. } | Row::NotDropped { run, .. } => Event::Drop { run },
