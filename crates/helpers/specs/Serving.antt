@@ -31,7 +31,7 @@ CanServe Enter bound maps v = Unit {0}
 CanServe Leave bound maps v = Unit {0}
 
 -- a run slot has a flag, and an awaited section is open
-pub record CanPass (g : GraceState) (run : ℕ) : Type 0 where
+pub record HasFlag (g : GraceState) (run : ℕ) : Type 0 where
   pub slot : run < MAX_RUNS
   pub inside : still_open g.awaited g.opened ≡ g.awaited
 

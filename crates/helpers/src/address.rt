@@ -9,8 +9,8 @@ ghost use Rattle.helpers.specs.Elements.{IsInSlot};
 use bpf_model::{MAX_ENTRIES, MAX_SPARE};
 use machine::{NEAR, SLOT_BASE, SPAN};
 
-/// So many regions are kept for each map.
-const MOST_SLOTS: usize = MAX_ENTRIES + MAX_SPARE;
+/// So many map slots are kept for each map, each a region of its own.
+const MAP_SLOTS: usize = MAX_ENTRIES + MAX_SPARE;
 
 /// A map slot, and the number of its map.
 #[derive(Clone, Copy)]
@@ -26,7 +26,7 @@ pub(crate) fn slot_word(map: usize, slot: usize) -> u64
     requires slot { slot < MAX_ENTRIES + MAX_SPARE }
     ensures { result ≡ slot_base map slot }
 {
-    SLOT_BASE + (MOST_SLOTS * map + slot) as u64 * SPAN
+    SLOT_BASE + (MAP_SLOTS * map + slot) as u64 * SPAN
 }
 
 /// The number of the region near whose first byte a word lies.
@@ -45,8 +45,8 @@ pub(crate) fn map_slot_of(word: u64) -> MapSlot
 {
     let number = (region_of(word) - SLOT_BASE / SPAN) as usize;
     MapSlot {
-        map: number / MOST_SLOTS,
-        slot: number % MOST_SLOTS,
+        map: number / MAP_SLOTS,
+        slot: number % MAP_SLOTS,
     }
 }
 
@@ -55,6 +55,6 @@ pub(crate) fn map_slot_of(word: u64) -> MapSlot
 pub(crate) fn offset_in(word: u64, offset: i16) -> usize
     ensures { (at : ℕ) → at < 2 ^ 31 → word_offset word +ℤ offset ≡ pos at → result ≡ at }
 {
-    let address = word.wrapping_add(i64::from(offset).cast_unsigned());
-    (address % SPAN) as usize
+    let moved = word.wrapping_add(i64::from(offset).cast_unsigned());
+    (moved % SPAN) as usize
 }

@@ -1,6 +1,6 @@
 //! What a run asks, served.
 ghost use Rattle.std.specs.Prelude.{◌≡◌};
-ghost use Rattle.helpers.specs.Serving.{CanPass, CanServe, IsReply, grace_after, maps_after};
+ghost use Rattle.helpers.specs.Serving.{CanServe, HasFlag, IsReply, grace_after, maps_after};
 
 use crate::calling::call;
 use crate::element::{load, store};
@@ -23,7 +23,7 @@ pub fn serve(
     maps: &mut Registry,
     grace: &mut Grace,
 ) -> u64
-    requires pass { CanPass grace.old slot }
+    requires flag { HasFlag grace.old slot }
     requires serve { CanServe access bound.now maps.old.maps run.now.view }
     ensures word { IsReply access bound.now maps.old.maps run.now.view result }
     ensures maps { maps.new.maps ≡ maps_after access bound.now run.now.view maps.old.maps }

@@ -298,7 +298,7 @@ fn store_class_bits(source: Source) -> u8
     }
 }
 
-fn swap_bits(order: ByteOrder) -> u8
+fn byte_of_swap(order: ByteOrder) -> u8
     ensures { result ≡ swap_byte order }
 {
     match order {
@@ -308,7 +308,7 @@ fn swap_bits(order: ByteOrder) -> u8
     }
 }
 
-fn excluded_bits(excluded: Excluded) -> u8
+fn byte_of_excluded(excluded: Excluded) -> u8
     ensures { result ≡ excluded_byte excluded }
 {
     match excluded {
@@ -332,7 +332,7 @@ pub fn byte_of(opcode: Opcode) -> u8
             alu_code_bits(code) + source_bits(source) + alu_class_bits(size)
         }
         Opcode::Negate(size) => 0x80 + alu_class_bits(size),
-        Opcode::ByteSwap(order) => swap_bits(order),
+        Opcode::ByteSwap(order) => byte_of_swap(order),
         Opcode::Jump(size) => jump_class_bits(size),
         Opcode::JumpIf(condition, size, source) => {
             condition_bits(condition) + source_bits(source) + jump_class_bits(size)
@@ -343,6 +343,6 @@ pub fn byte_of(opcode: Opcode) -> u8
         Opcode::LoadSigned(width) => 0x81 + signed_width_bits(width),
         Opcode::Store(width, source) => store_class_bits(source) + width_bits(width),
         Opcode::Wide => 0x18,
-        Opcode::Excluded(excluded) => excluded_bits(excluded),
+        Opcode::Excluded(excluded) => byte_of_excluded(excluded),
     }
 }

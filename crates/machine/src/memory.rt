@@ -56,22 +56,22 @@ pub(crate) fn memory_of(word: u64) -> Memory
 
 /// A word, moved by an offset.
 #[inline(always)]
-fn address_of(word: u64, offset: i16) -> u64
+fn moved_word(word: u64, offset: i16) -> u64
     ensures { (a : ℕ) → a < 2 ^ 64 → pos word +ℤ offset ≡ pos a → result ≡ a }
 {
     word.wrapping_add(i64::from(offset).cast_unsigned())
 }
 
-/// An address, counted from the first byte of its region.
+/// An offset from an address, counted from the first byte of its region.
 #[inline(always)]
 fn offset_in(base: u64, address: u64, offset: i16) -> usize
     ensures { (at : ℕ) → base + at < 2 ^ 64 → offset_from base address offset ≡ pos at →
         result ≡ at }
 {
-    address_of(address, offset).wrapping_sub(base) as usize
+    moved_word(address, offset).wrapping_sub(base) as usize
 }
 
-/// The number at an address of the region that has these bytes.
+/// The number at an offset from an address of the region that has these bytes.
 #[inline(always)]
 fn number_in(bytes: &[u8], base: u64, address: u64, offset: i16, width: Width) -> u64
     requires inside { IsInside (length bytes.now) (byte_count width)

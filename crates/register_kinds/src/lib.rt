@@ -11,13 +11,11 @@ mod frame;
 mod identities;
 mod join;
 mod kind;
-mod law;
 mod learn;
 mod state;
 
 pub use frame::FrameCells;
 pub use identities::{Identities, MAX_PAIRS};
 pub use kind::{CellKind, RegKind};
-pub use law::below_later;
 pub use learn::Lesson;
 pub use state::{AbsState, ORIGIN};

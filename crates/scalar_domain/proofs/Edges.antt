@@ -199,8 +199,8 @@ goes_along c t r o k x e m f h =
     let g = subst (λ q. Bounding q → Related q x k → IsSomeAnd o (BothRelated q k)) e f (bounding c t m) (related w64 c t x k h) in
     some_and {P = BothRelated (relation_on c t) k} o (λ p b. record { least = along c t p.0.least k m b.0; greatest = along c t p.0.greatest k m b.1 }) g
 
-pub short_compares : (c : Condition) (x y : ℕ) → x < 2 ^ 32 → y < 2 ^ 32 → holds w32 c (x % 2 ^ 32) (y % 2 ^ 32) ≡ holds w32 c x y
-short_compares c x y p q = ap2 (holds w32 c) (mod-eq_of_lt p) (mod-eq_of_lt q)
+pub narrow_compares : (c : Condition) (x y : ℕ) → x < 2 ^ 32 → y < 2 ^ 32 → holds w32 c (x % 2 ^ 32) (y % 2 ^ 32) ≡ holds w32 c x y
+narrow_compares c x y p q = ap2 (holds w32 c) (mod-eq_of_lt p) (mod-eq_of_lt q)
 
 pub outside : (m x : ℕ) → m < 2 ^ 64 → x < 2 ^ 64 → bit_and m x ≡ 0 → Within x (2 ^ 64 - 1 - m)
 outside m x p q e = and_comm x (2 ^ 64 - 1 - m) ∙ omega (arith, and-not 64 m x p q, e)

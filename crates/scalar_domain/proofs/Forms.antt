@@ -17,14 +17,14 @@ use Rattle.scalar_domain.proofs.Words.{operate_lt}
 pub word_difference : (x y : ℕ) → y < 2 ^ 64 → word w64 (pos x -ℤ pos y) ≡ (x + (2 ^ 64 - y)) % 2 ^ 64
 word_difference x y q = ap unsigned_abs (int_rem_euclid_is (pos x -ℤ pos y) (pos (2 ^ 64)) (2 ^ 64) 1 (x + (2 ^ 64 - y)) (pow_pos 64) refl (omega (arith, ints)))
 
-pub short_difference : (x y : ℕ) → y < 2 ^ 32 → word w32 (pos x -ℤ pos y) ≡ (x + (2 ^ 64 - y)) % 2 ^ 32
-short_difference x y q = ap unsigned_abs (int_rem_euclid_is (pos x -ℤ pos y) (pos (2 ^ 32)) (2 ^ 32) (2 ^ 32) (x + (2 ^ 64 - y)) (pow_pos 32) refl (omega (arith, ints)))
+pub narrow_difference : (x y : ℕ) → y < 2 ^ 32 → word w32 (pos x -ℤ pos y) ≡ (x + (2 ^ 64 - y)) % 2 ^ 32
+narrow_difference x y q = ap unsigned_abs (int_rem_euclid_is (pos x -ℤ pos y) (pos (2 ^ 32)) (2 ^ 32) (2 ^ 32) (x + (2 ^ 64 - y)) (pow_pos 32) refl (omega (arith, ints)))
 
 pub negated_difference : (x : ℕ) → x < 2 ^ 64 → word w64 (neg_ℤ (pos x)) ≡ (0 + (2 ^ 64 - x)) % 2 ^ 64
 negated_difference x q = ap unsigned_abs (int_rem_euclid_is (neg_ℤ (pos x)) (pos (2 ^ 64)) (2 ^ 64) 1 (0 + (2 ^ 64 - x)) (pow_pos 64) refl (omega (arith, ints)))
 
-pub short_negated : (x : ℕ) → x < 2 ^ 32 → word w32 (neg_ℤ (pos x)) ≡ (0 + (2 ^ 64 - x)) % 2 ^ 32
-short_negated x q = ap unsigned_abs (int_rem_euclid_is (neg_ℤ (pos x)) (pos (2 ^ 32)) (2 ^ 32) (2 ^ 32) (0 + (2 ^ 64 - x)) (pow_pos 32) refl (omega (arith, ints)))
+pub narrow_negated : (x : ℕ) → x < 2 ^ 32 → word w32 (neg_ℤ (pos x)) ≡ (0 + (2 ^ 64 - x)) % 2 ^ 32
+narrow_negated x q = ap unsigned_abs (int_rem_euclid_is (neg_ℤ (pos x)) (pos (2 ^ 32)) (2 ^ 32) (2 ^ 32) (0 + (2 ^ 64 - x)) (pow_pos 32) refl (omega (arith, ints)))
 
 -- Signed readings of words whose sign bit is 0.
 whole : (w : Width) (n m : ℕ) → n ≤ m → m < 2 ^ bits w → word w (pos n) ≡ n
@@ -55,14 +55,14 @@ unsigned_same w half Move x y p q = refl
 pub wide_same : (op : AluOp) (x y : ℕ) → x < 2 ^ 63 → y < 2 ^ 63 → operate w64 op x y ≡ operate w64 (unsigned_form op) x y
 wide_same op x y p q = unsigned_same w64 (λ n h. omega arith) op x y p q
 
-pub short_same : (op : AluOp) (x y : ℕ) → x < 2 ^ 31 → y < 2 ^ 31 → operate w32 op x y ≡ operate w32 (unsigned_form op) x y
-short_same op x y p q = unsigned_same w32 (λ n h. omega arith) op x y p q
+pub narrow_same : (op : AluOp) (x y : ℕ) → x < 2 ^ 31 → y < 2 ^ 31 → operate w32 op x y ≡ operate w32 (unsigned_form op) x y
+narrow_same op x y p q = unsigned_same w32 (λ n h. omega arith) op x y p q
 
 -- On words of 32 bits, the operations are those on 64 bits, cut.
 pub low_same : (op : AluOp) (x y : ℕ) → x < 2 ^ 32 → y < 2 ^ 32 → (op ≡ SignedDiv → ⊥) → (op ≡ SignedMod → ⊥) → (op ≡ ShiftLeft → ⊥) → (op ≡ ShiftRight → ⊥) → (op ≡ ShiftRightSigned → ⊥) →
     operate w64 op x y % 2 ^ 32 ≡ operate w32 op x y
 low_same Add x y p q d m l r s = below_word (x + y) 32 (omega arith)
-low_same Sub x y p q d m l r s = ap (λ n. n % 2 ^ 32) (word_difference x y (omega arith)) ∙ below_word (x + (2 ^ 64 - y)) 32 (omega arith) ∙ sym (short_difference x y q)
+low_same Sub x y p q d m l r s = ap (λ n. n % 2 ^ 32) (word_difference x y (omega arith)) ∙ below_word (x + (2 ^ 64 - y)) 32 (omega arith) ∙ sym (narrow_difference x y q)
 low_same Mul x y p q d m l r s = below_word (x * y) 32 (omega arith)
 low_same Div x y p q d m l r s = mod-eq_of_lt (operate_lt w32 Div x y p q)
 low_same Or x y p q d m l r s = mod-eq_of_lt (operate_lt w32 Or x y p q)

@@ -47,9 +47,9 @@ fn apply_narrow(op: AluOp, a: Scalar, b: Scalar) -> Scalar
     ensures bound { result.greatest < 2 ^ 32 }
 {
     if a.greatest < 1 << 31 && b.greatest < 1 << 31 {
-        apply_short(without_sign(op), a, b)
+        apply_narrow_unsigned(without_sign(op), a, b)
     } else {
-        apply_short(op, a, b)
+        apply_narrow_unsigned(op, a, b)
     }
 }
 
@@ -88,7 +88,7 @@ fn apply_unsigned(op: AluOp, a: Scalar, b: Scalar) -> Scalar
 }
 
 /// What an operation on 32 bits can give, of numbers below 2^32; of a signed one nothing is known.
-fn apply_short(op: AluOp, a: Scalar, b: Scalar) -> Scalar
+fn apply_narrow_unsigned(op: AluOp, a: Scalar, b: Scalar) -> Scalar
     ensures sound { (x y : ℕ) → x < 2 ^ 32 → y < 2 ^ 32 → Holds a x → Holds b y
         → Holds result (operate w32 op x y) }
     ensures bound { result.greatest < 2 ^ 32 }

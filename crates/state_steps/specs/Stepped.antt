@@ -52,8 +52,8 @@ pub record IsTransfer (i : Insn) (shapes : List MapShape) (ctx_len : ℕ) (old n
   pub sound : IsForward i →
       Transfers i shapes ctx_len (state_of old) (state_of new) (option_map state_of taken)
   pub branches : IsBranch i → IsSome taken
-  pub reaches : (b : ℕ) (c : Scene) (m : State) → base_of i ≡ Some b → Describes (state_of old) c m →
-      IsInRegion c region (m.regs b)
+  pub reaches : (b : ℕ) (c : Scene) (m : State) → base_of i ≡ Some b →
+      Describes (state_of old) c m → IsInRegion c region (m.regs b)
   pub compares : (r : ℕ) (c : Scene) (m : State) → Compares i r → Describes (state_of old) c m →
       IsComparable i (m.regs r)
   pub keeps : IsReadyInsn i (state_of old) → KeepsFacts i (state_of old) (state_of new)

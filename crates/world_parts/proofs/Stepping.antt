@@ -42,7 +42,7 @@ module _ (loaded : Loaded) (maps : List MapView) (g : GraceState) (r : ℕ) (old
   is-flagged : (w : WorldView) → grace_of w ≡ g → IsFlagged w r v
   is-flagged w e = record {
     opened = ap (λ (x : GraceState). slice_get x.opened r) e ∙ can.opened;
-    awaited = subst (λ (x : GraceState). still_open x.awaited x.opened ≡ x.awaited) (sym e) can.pass.inside;
+    awaited = subst (λ (x : GraceState). still_open x.awaited x.opened ≡ x.awaited) (sym e) can.flag.inside;
     depth = can.depth;
   }
 
@@ -166,7 +166,7 @@ module _ (maps : List MapView) (runs : List (Option RunWords)) (g : GraceState) 
             serve = can_be_served w s m sound r y.0 x.0.view y.1 (program_of of.program) at;
             resume = can_resume w s m sound r y.0 x.0.view y.1 (program_of of.program) at;
           };
-          pass = record { slot = within; inside = f.awaited };
+          flag = record { slot = within; inside = f.awaited };
           opened = f.opened;
           depth = f.depth;
         };

@@ -12,7 +12,7 @@ use Rattle.machine.specs.declared.access.Access.{Access}
 use Rattle.machine.specs.Requests.{access_of}
 use Rattle.machine.specs.RunWords.{RunWords, IsAt}
 use Rattle.machine.specs.Steps.{CanStep, CanResume}
-use Rattle.helpers.specs.Serving.{CanPass, CanServe, grace_of, world_with}
+use Rattle.helpers.specs.Serving.{CanServe, HasFlag, grace_of, world_with}
 use Rattle.world_parts.specs.declared.loaded.Loaded.{Loaded}
 use Rattle.world_parts.specs.Programs.{program_of}
 
@@ -31,7 +31,7 @@ pub record CanTake (loaded : Loaded) (maps : List MapView) (g : GraceState) (r :
   pub stands : IsAt loaded.verified.program run
   pub step : CanStep loaded.verified.program run.view
   pub ask : CanAsk loaded maps run.view
-  pub pass : CanPass g r
+  pub flag : HasFlag g r
   pub opened : slice_get g.opened r ≡ Some (nat_lt 0 run.view.depth)
   pub depth : run.view.depth ≤ MAX_DEPTH
 

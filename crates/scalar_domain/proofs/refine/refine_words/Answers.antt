@@ -1,6 +1,6 @@
 use Rattle.std.proofs.Common.{◌<◌, ◌^◌, sym, ◌∙◌, ap, arith}
 use Rattle.bpf_model.specs.Arithmetic.{compares}
-use Rattle.scalar_domain.proofs.Edges.{short_compares}
+use Rattle.scalar_domain.proofs.Edges.{narrow_compares}
 use Rattle.scalar_domain.proofs.refine.refine_words.Goals as goal
 
 pub returns-then-b-lt4294967296-clause-sound : goal.returns-then-b-lt4294967296-clause-sound
@@ -8,7 +8,7 @@ returns-then-b-lt4294967296-clause-sound c = λ x y p q h k e.
     let l : x < 2 ^ 32 = omega (arith, h.greatest, c.if-a-lt4294967296.true) in
     let m : y < 2 ^ 32 = omega (arith, k.greatest, c.if-b-lt4294967296.true) in
     c.refine_narrow.ensures.sound x y l m h k
-    (sym (short_compares c.args.condition x y l m) ∙ sym (ap (λ s. compares s c.args.condition x y) c.in-Word32.is) ∙ e)
+    (sym (narrow_compares c.args.condition x y l m) ∙ sym (ap (λ s. compares s c.args.condition x y) c.in-Word32.is) ∙ e)
 
 pub returns-in-Word64-clause-apart : goal.returns-in-Word64-clause-apart
 returns-in-Word64-clause-apart c = λ k x s. c.refine_wide.ensures.apart k x

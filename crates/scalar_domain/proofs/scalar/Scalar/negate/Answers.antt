@@ -3,7 +3,7 @@ use Rattle.std.proofs.lemmas.Nat.{mod_below, pow_pos}
 use Rattle.scalar_domain.proofs.Multiples.{below_word}
 use Rattle.bpf_model.specs.Arithmetic.{negated}
 use Rattle.scalar_domain.specs.Scalar.{Holds}
-use Rattle.scalar_domain.proofs.Forms.{negated_difference, short_negated}
+use Rattle.scalar_domain.proofs.Forms.{negated_difference, narrow_negated}
 use Rattle.scalar_domain.proofs.scalar.Scalar.negate.Goals as goal
 
 pub returns-in-Word64-clause-sound : goal.returns-in-Word64-clause-sound
@@ -15,5 +15,5 @@ pub returns-in-Word32-clause-sound : goal.returns-in-Word32-clause-sound
 returns-in-Word32-clause-sound c = λ x p h.
     let l : x % 2 ^ 32 < 2 ^ 32 = mod_below x (2 ^ 32) (pow_pos 32) in
     subst (Holds c.low_bits-in-Word32.result)
-    (below_word (0 + (2 ^ 64 - x % 2 ^ 32)) 32 (omega arith) ∙ sym (ap (λ s. negated s x) c.in-Word32.is ∙ short_negated (x % 2 ^ 32) l))
+    (below_word (0 + (2 ^ 64 - x % 2 ^ 32)) 32 (omega arith) ∙ sym (ap (λ s. negated s x) c.in-Word32.is ∙ narrow_negated (x % 2 ^ 32) l))
     (c.low_bits-in-Word32.ensures.sound _ (c.subtract-in-Word32.ensures.sound 0 (x % 2 ^ 32) (omega arith) (omega (arith, l)) c.constant-in-Word32.ensures.sound (c.low_bits.ensures.sound x h)))

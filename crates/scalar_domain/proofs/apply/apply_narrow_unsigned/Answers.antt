@@ -6,7 +6,7 @@ use Rattle.scalar_domain.proofs.Multiples.{below_word}
 use Rattle.bpf_model.specs.Arithmetic.{operate}
 use Rattle.scalar_domain.specs.Scalar.{Holds}
 use Rattle.scalar_domain.proofs.Forms.{low_same}
-use Rattle.scalar_domain.proofs.apply.apply_short.Goals as goal
+use Rattle.scalar_domain.proofs.apply.apply_narrow_unsigned.Goals as goal
 
 pub returns-in-ShiftLeft-clause-sound : goal.returns-in-ShiftLeft-clause-sound
 returns-in-ShiftLeft-clause-sound c = λ x y p q h k.
