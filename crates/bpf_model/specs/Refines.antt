@@ -92,7 +92,8 @@ abbrev pub RunSlotRefines : List ℕ → List Element → List Loaded → Option
     Option (Option Run) → Type 0
 RunSlotRefines slots es programs None None = Unit {0}
 RunSlotRefines slots es programs (Some None) (Some None) = Unit {0}
-RunSlotRefines slots es programs (Some (Some w)) (Some (Some run)) = RunRefines slots es programs w run
+RunSlotRefines slots es programs (Some (Some w)) (Some (Some run)) =
+    RunRefines slots es programs w run
 RunSlotRefines slots es programs w run = ⊥
 
 -- The world refines the schedule's machine. The map slots are those of all births, in order; like the

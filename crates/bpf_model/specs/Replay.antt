@@ -15,12 +15,12 @@ pub record JournalEntry : Type 0 where
   pub answer : Answer
 
 -- no run slot is occupied
-abbrev pub HasNoRuns : Machine → Type 0
-HasNoRuns m = (r : ℕ) → run_at m.runs r ≡ None
+abbrev pub HasNoRunsOnMachine : Machine → Type 0
+HasNoRunsOnMachine m = (r : ℕ) → run_at m.runs r ≡ None
 
 pub record ReplaysOnMachine (base : Machine) (entries : List JournalEntry) (m : Machine) :
     Type 0 where
-  pub quiet : HasNoRuns base
+  pub quiet : HasNoRunsOnMachine base
   pub short : length entries ≤ MAX_JOURNAL
   pub real : AreReal (map (λ e. e.event) entries)
   pub replay : HasHistoryTo base (map (λ e. e.event) entries) (map (λ e. e.answer) entries) m

@@ -12,14 +12,12 @@ use Rattle.bpf_model.specs.declared.opcode.Condition.TheVariants.{Equal, NotEqua
 use Rattle.bpf_model.specs.declared.opcode.Size.TheVariants.{Word64}
 use Rattle.scalar_domain.specs.Scalar.{Holds}
 use Rattle.scalar_domain.specs.declared.scalar.Scalar.{Scalar}
-use Rattle.scalar_domain.specs.Constant.{le_self}
-use Rattle.std.specs.Int.Bits.{and_self}
 use Rattle.std.specs.Prelude.{Bool, if◌then◌else◌, pos}
 use Rattle.typed_runs.specs.Kinds.{Kind, Blank, Mixed, Ended, Num, CtxAt, FrameAt, MapAt, ValueAt, MaybeNull, AbsState}
 use Rattle.typed_runs.specs.Effects.{after_call, after_lock, after_unlock, IsOther, IsOtherCell, IsFresh, HasMap, HasBytes, when_null, when_there}
 use Rattle.typed_runs.specs.Verified.{Transfers}
 use Rattle.typed_runs.specs.Planned.{AreAlike, number_zero, origin}
-use Rattle.typed_runs.proofs.Planning.{alike_wider, transfers_wider, origin_has, to_alike}
+use Rattle.typed_runs.proofs.Planning.{alike_wider, transfers_wider, origin_has, zero_holds, to_alike}
 use Rattle.typed_runs.proofs.Calls.{lock_transfers, unlock_transfers, lookup_transfers}
 use Rattle.typed_runs.proofs.Updating.{update_transfers, delete_transfers}
 use Rattle.typed_runs.proofs.Local.{equal_transfers, not_equal_transfers}
@@ -88,16 +86,12 @@ pub delete_sound : (a b : StateHere) (shapes : List MapShape) (map : ℕ) (shape
 delete_sound a b shapes map shape t all m key e imm f ctx_len =
     to_alike (Call callee.Helper imm) shapes ctx_len (state_of a) (after_call (Num t) (state_of a)) (state_of b) e (delete_transfers imm shapes ctx_len (state_of a) map shape t all m key f)
 
--- tests for null
-zero-holds : Holds number_zero 0
-zero-holds = record { least = le_self 0; greatest = le_self 0; zeros = and_self 0; ones = and_self 0 }
-
 pub fork_equal : (a b taken : StateHere) (id dst map : ℕ) → AreAlike (learnt (IsThere id) (state_of a)) (state_of b) → AreAlike (learnt (IsNull id) (state_of a)) (state_of taken) → kind_in a.regs dst ≡ kinds.MaybeNull map id → ForksOnNull true dst a b taken
 fork_equal a b taken id dst map e f g shapes ctx_len n =
     to-both (null_jump true dst n) shapes ctx_len (state_of a) (when_there id origin (state_of a)) (state_of b) (when_null id number_zero (state_of a)) (state_of taken) e f
-    (equal_transfers shapes ctx_len dst n map id (state_of a) number_zero origin zero-holds origin_has (ap kind_of g))
+    (equal_transfers shapes ctx_len dst n map id (state_of a) number_zero origin zero_holds origin_has (ap kind_of g))
 
 pub fork_not_equal : (a b taken : StateHere) (id dst map : ℕ) → AreAlike (learnt (IsNull id) (state_of a)) (state_of b) → AreAlike (learnt (IsThere id) (state_of a)) (state_of taken) → kind_in a.regs dst ≡ kinds.MaybeNull map id → ForksOnNull false dst a b taken
 fork_not_equal a b taken id dst map e f g shapes ctx_len n =
     to-both (null_jump false dst n) shapes ctx_len (state_of a) (when_null id number_zero (state_of a)) (state_of b) (when_there id origin (state_of a)) (state_of taken) e f
-    (not_equal_transfers shapes ctx_len dst n map id (state_of a) number_zero origin zero-holds origin_has (ap kind_of g))
+    (not_equal_transfers shapes ctx_len dst n map id (state_of a) number_zero origin zero_holds origin_has (ap kind_of g))

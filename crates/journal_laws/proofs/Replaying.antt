@@ -67,7 +67,7 @@ quiet-slot slots es programs (Some None) (Some None) h e = refl
 quiet-slot slots es programs (Some (Some v)) (Some (Some run)) h e = absurd (none-some v (sym e))
 quiet-slot slots es programs o p h e = absurd h
 
-quiet-machine : (base : WorldView) (m : Machine) → HasNoRuns base → Tracks base m → machine.HasNoRuns m
+quiet-machine : (base : WorldView) (m : Machine) → HasNoRuns base → Tracks base m → machine.HasNoRunsOnMachine m
 quiet-machine base m quiet t r =
     let s = t.0 in
     let here : run_at s.machine.runs r ≡ None = quiet-slot t.2.refines.slots s.machine.store.elements s.machine.programs (slice_get base.runs r) (slice_get s.machine.runs r) (t.2.refines.runs r) (quiet r) in

@@ -21,7 +21,7 @@ use Rattle.bpf_model.specs.Step.{Environment, Exits, Moves, Outcome, State, afte
 use Rattle.model_laws.specs.Alone.{HoldsState, IsOwn}
 use Rattle.model_laws.proofs.Alone.{acts-own, helper-own, own-closed}
 use Rattle.model_laws.proofs.Holding.{HoldsOutcome, holds-after, holds-returns}
-use Rattle.model_laws.proofs.Lists.{first-step}
+use Rattle.model_laws.proofs.Computations.{first-step}
 
 -- where there are no maps, none is loaded
 if-none : (b : Bool) (u v : Value) → (b ≡ true → ⊥) → (if b then Some u else None) ≡ Some v → ⊥

@@ -20,7 +20,7 @@ times-cons n x xs = sum_by-cons (λ y. cond (y == n) 1 0) x xs
 pub times-first : (n x : ℕ) (xs : List ℕ) → x ≡ n → times n (x ∷ xs) ≡ 1 + times n xs
 times-first n x xs e = times-cons n x xs ∙ ap (λ b. cond {A = ℕ} b 1 0 + times n xs) (eq-eqb x n e)
 
-zero-plus : (k : ℕ) → 0 + k ≡ k
+pub zero-plus : (k : ℕ) → 0 + k ≡ k
 zero-plus k = omega arith
 
 pub times-other : (n x : ℕ) (xs : List ℕ) → (x ≡ n → ⊥) → times n (x ∷ xs) ≡ times n xs

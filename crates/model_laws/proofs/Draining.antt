@@ -3,6 +3,7 @@ use Rattle.std.proofs.Common.{◌≡◌, ◌≢◌, ℕ, zero, suc, ◌+◌, ◌
 use Rattle.std.specs.Prelude.{slice_get, slice_set, ◌==◌, ◌&&◌}
 use Rattle.std.proofs.lemmas.Bool.{false_from_ne_true, false≢true}
 use Rattle.std.proofs.lemmas.Option.{none-some, same_Some, slice_get_within}
+use Rattle.bpf_model.proofs.Cases.{oldest-none}
 use Rattle.bpf_model.specs.declared.limits.MapShape.{MapShape}
 use Rattle.bpf_model.specs.declared.event.Event.{Event}
 use Rattle.bpf_model.specs.declared.event.Event.TheVariants as events
@@ -259,12 +260,6 @@ pub reapable : (shapes : List MapShape) (programs : List Loaded) (evs : List Eve
 reapable shapes programs evs ans states j n s h at first = reapable_in s n (scheduled-along (start_schedule shapes programs) evs ans states (starts_scheduled shapes programs) h j s at) first
 
 -- a reap of it is a step
-none-after : (es : List Element) (e : Element) → slice_get es (length es) ≡ Some e → ⊥
-none-after es e h = let bad : length es < length es = slice_get_within es (length es) e h in absurd (omega arith)
-
-no-birth : (es new : List Element) (e : Element) → length new ≡ length es → slice_get new (length es) ≡ Some e → ⊥
-no-birth es new e same h = none-after new e (ap (slice_get new) same ∙ h)
-
 takes-first : (s : Schedule) (n : ℕ) (e : Element) (taken : ReapedElement) (store : Store) → first_ready s.queues ≡ Some n → Reclaims s.machine.store (open_sections s.machine.runs) n e taken.given store → taken.map ≡ e.map → taken.key.items ≡ e.key →
     (new : Schedule) × DoesScheduled s events.Reap (answers.Reaped (Some taken)) new
 takes-first s n e taken store first r map key =
@@ -275,7 +270,7 @@ takes-first s n e taken store first r map key =
       record {
         step = (n, e, store, r, map, key, refl);
         first = (n, r.since, first, (e, r.born, r.unlinked), (with_life Reclaimed e, gone, refl));
-        oldest = λ f before after at old new. absurd (no-birth s.machine.store.elements store.elements f same at);
+        oldest = oldest-none s.machine.store store same;
         lists = refl;
       },
     )

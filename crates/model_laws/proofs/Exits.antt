@@ -1,6 +1,6 @@
 -- A run has one exit at most where its steps need no others, and without map references they never do.
-use Rattle.std.proofs.Common.{◌≡◌, ℕ, suc, List, [], Option, Some, None, refl, sym, ap, ◌∙◌, subst, length, ◌<◌, arith}
-use Rattle.std.proofs.lemmas.Option.{none-some, slice_get_within}
+use Rattle.std.proofs.Common.{◌≡◌, ℕ, suc, List, [], Option, Some, None, refl, sym, ap, ◌∙◌, subst}
+use Rattle.std.proofs.lemmas.Option.{none-some}
 use Rattle.bpf_model.specs.declared.insn.Insn.{Insn}
 use Rattle.bpf_model.specs.declared.insn.Insn.TheVariants.{Call}
 use Rattle.bpf_model.specs.declared.insn.CallKind.TheVariants as kinds
@@ -18,8 +18,7 @@ use Rattle.bpf_model.specs.Section.{Section}
 use Rattle.bpf_model.specs.MapState.{Store}
 use Rattle.bpf_model.specs.Machine.{Loaded, Run, fresh_run}
 use Rattle.bpf_model.specs.MachineStep.{OutcomeStep, KernelStep, HelperStep, InsnStep, RunStep}
-use Rattle.bpf_model.specs.Schedule.{TakesOldest}
-use Rattle.bpf_model.proofs.Cases.{both}
+use Rattle.bpf_model.proofs.Cases.{both, oldest-none}
 use Rattle.model_laws.specs.Alone.{SharesNothing}
 use Rattle.model_laws.proofs.Deciding.{meet, kernel-one, alone-one, run-one}
 use Rattle.model_laws.proofs.Alone.{others_change_nothing, starts_sharing_nothing, stays_sharing_nothing}
@@ -28,15 +27,12 @@ use Rattle.model_laws.proofs.Alone.{others_change_nothing, starts_sharing_nothin
 abbrev pub no_maps : Store
 no_maps = record { elements = []; maps = [] }
 
-keeps-oldest : (s : Store) → TakesOldest s s
-keeps-oldest s e before after at old new = let bad : length s.elements < length s.elements = slice_get_within s.elements (length s.elements) e at in absurd (omega arith)
-
 pub one_step_alone : (store new_store other other_store : Store) (opened sections : List Section) (run new next : Run) (a b : Answer) → SharesNothing run →
     RunStep store opened run a new_store new → RunStep other sections run b other_store next → (a ≡ b) × (new ≡ next)
 one_step_alone store new_store other other_store opened sections run new next a b p h g =
     let x = (others_change_nothing store new_store opened run new a p h).1 no_maps [] in
     let y = (others_change_nothing other other_store sections run next b p g).1 no_maps [] in
-    let one = run-one no_maps [] run a b no_maps no_maps new next (λ map key n k l r. absurd (none-some l.element l.born)) (keeps-oldest no_maps) (keeps-oldest no_maps) x y in
+    let one = run-one no_maps [] run a b no_maps no_maps new next (λ map key n k l r. absurd (none-some l.element l.born)) (oldest-none no_maps no_maps refl) (oldest-none no_maps no_maps refl) x y in
     (one.0, one.2)
 
 -- the number of its start doesn't matter

@@ -30,7 +30,7 @@ use Rattle.model_laws.specs.Alone.{HoldsState}
 use Rattle.bpf_model.specs.Element.{Element}
 use Rattle.bpf_model.specs.MachineStep.{AccessesElement, Acts, returns}
 use Rattle.bpf_model.proofs.Cases.{choice}
-use Rattle.model_laws.proofs.Lists.{first-step}
+use Rattle.model_laws.proofs.Computations.{first-step}
 
 abbrev pub HoldsOutcome : (Reference → Type 0) → Outcome → Type 0
 HoldsOutcome P (Moves next) = HoldsState P next

@@ -1,4 +1,4 @@
-pub mod Lists
+pub mod Computations
 pub mod Lives
 pub mod Growing
 pub mod Stepping

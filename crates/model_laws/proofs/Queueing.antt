@@ -15,7 +15,7 @@ use Rattle.model_laws.proofs.Moves.{RunsMove, run-before}
 use Rattle.model_laws.proofs.Stores.{LifeMoves, Stays, Unlinks, Ends, Alters, StoreMoves}
 use Rattle.model_laws.proofs.Past.{ended-later}
 use Rattle.model_laws.proofs.Keeping.{element-before}
-use Rattle.model_laws.proofs.Counting.{newly}
+use Rattle.model_laws.proofs.Counting.{newly, zero-plus}
 use Rattle.model_laws.proofs.Lives.{linked≢unlinked, reclaimed≢unlinked}
 use Rattle.model_laws.proofs.Tallies.{one_of, one-most}
 use Rattle.bpf_model.specs.Consistent.{AllBegun}
@@ -130,16 +130,13 @@ newly_life k l new map = if is_linked l && is_unlinked new && (map == k) then 1 
 plus-zero : (x : ℕ) → x ≡ x + 0
 plus-zero x = omega arith
 
-zero-plus : (x : ℕ) → x ≡ 0 + x
-zero-plus x = omega arith
-
 count-same : (k : ℕ) (l : Life) (map : ℕ) → queued_life k l map ≡ queued_life k l map + newly_life k l l map
 count-same k Linked map = refl
 count-same k (Unlinked since) map = plus-zero (if map == k then 1 else 0)
 count-same k Reclaimed map = refl
 
 count-unlinked : (k : ℕ) (opened : List Section) (map : ℕ) → queued_life k (Unlinked opened) map ≡ queued_life k Linked map + newly_life k Linked (Unlinked opened) map
-count-unlinked k opened map = zero-plus (if map == k then 1 else 0)
+count-unlinked k opened map = sym (zero-plus (if map == k then 1 else 0))
 
 count-life : (k : ℕ) (opened : List Section) (old new : Life) (map : ℕ) → LifeMoves false opened old new → queued_life k new map ≡ queued_life k old map + newly_life k old new map
 count-life k opened old new map (Stays e) = subst (λ x. queued_life k x map ≡ queued_life k old map + newly_life k old x map) (sym e) (count-same k old map)

@@ -27,7 +27,7 @@ use Rattle.bpf_model.specs.MapState as map_state
 use Rattle.bpf_model.specs.Machine.{Run, environment, moves, locked, unlocked}
 use Rattle.bpf_model.specs.MachineStep.{Acts, AccessesElement, OutcomeStep, KernelStep, LookupStep, UpdateStep, DeleteStep, HelperStep, InsnStep, loaded_from, stored_in, element_load, element_store, bound_map, map_argument, key_argument, frame_bytes, found_value, returns}
 use Rattle.bpf_model.specs.Request.{ArgumentKind, MapOfProgram, KeyOfMap, ValueOfMap, AnyNumber, ElementOrNull, Argument, MapArgument, BytesArgument, NumberArgument, Request, LoadElement, StoreElement, CallHelper, Enter, Leave, named_map, called_shape, signature_of, argument_of, arguments_of, load_request, store_request, section_request, asks, extended_reply, loads, Calls, IsOfKind, ServesRequest, Resumes, bound_shape, StepsAlone, StepsServed}
-use Rattle.model_laws.proofs.Lists.{first-step, then-step}
+use Rattle.model_laws.proofs.Computations.{first-step, then-step}
 
 -- steps of a computation, taken together
 steps-apart : {A B C : Type 0} (o : Option A) (f : A → Option B) (g : B → Option C) → (o >>= λ x. f x >>= g) ≡ ((o >>= f) >>= g)

@@ -30,7 +30,7 @@ use Rattle.bpf_model.specs.Event.{PerformsEvent, Answers, DoesEvent, refusal}
 use Rattle.bpf_model.specs.History.{IsHistory}
 use Rattle.bpf_model.specs.Element.{Reclaimed, HasLife}
 use Rattle.model_laws.specs.Growth.{ElementsGrow}
-use Rattle.model_laws.proofs.Lists.{first-step}
+use Rattle.model_laws.proofs.Computations.{first-step}
 use Rattle.model_laws.proofs.Growing.{grows-same, grows-along, grows-append, grows-set, grows-changed, grows-unlinked, follows-value, follows-reclaimed, stays-reclaimed}
 
 -- a store to an element

@@ -39,7 +39,7 @@ use Rattle.bpf_model.specs.Consistent.{HasLengths, IsSingle}
 use Rattle.bpf_model.specs.Machine.{Run, Machine, environment, open_sections}
 use Rattle.bpf_model.specs.MachineStep.{AccessesElement, Acts, HelperStep, InsnStep, element_store, stored_in, with_bytes, bytes_at, bytes_from, frame_bytes, key_argument, value_argument}
 use Rattle.bpf_model.specs.Event.{PerformsEvent, Answers, DoesEvent, refusal, update_refusal}
-use Rattle.model_laws.proofs.Lists.{first-step}
+use Rattle.model_laws.proofs.Computations.{first-step}
 use Rattle.model_laws.proofs.Lives.{linked≢unlinked}
 use Rattle.bpf_model.proofs.Bytes.{length-with_bytes}
 use Rattle.bpf_model.proofs.Lists.{get-append, get-append_cases, get-set_cases, get-set_other, get-set_there, length-set}

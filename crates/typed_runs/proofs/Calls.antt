@@ -1,6 +1,7 @@
 -- Calls of a described run.
 use Rattle.std.proofs.Common.{◌≡◌, ℕ, ◌+◌, ◌-◌, ◌<◌, List, Option, Some, None, inl, refl, sym, ap, subst, ◌∙◌, ℤ, arith, true, false}
 use Rattle.std.specs.Prelude.{slice_get}
+use Rattle.typed_runs.proofs.Valued.{same-bytes}
 use Rattle.bpf_model.specs.declared.limits.MapShape.{MapShape}
 use Rattle.bpf_model.specs.declared.limits.TheConstants.{MAX_DEPTH}
 use Rattle.bpf_model.specs.declared.insn.Insn.{Insn}
@@ -25,7 +26,7 @@ use Rattle.bpf_model.specs.MachineStep.{KernelStep, HelperStep, LookupStep, foun
 use Rattle.typed_runs.specs.Kinds.{Kind, Blank, Mixed, Ended, Num, CtxAt, FrameAt, MapAt, ValueAt, MaybeNull, CellKind, BlankCell, MixedCell, EndedCell, ByteCell, PartCell, AbsState}
 use Rattle.typed_runs.specs.Describes.{Scene, scene_of, IsGuarded, Naming, IsNullOrHeld, IsOf, Stored, IsOfCell, Describes, depth_of}
 use Rattle.typed_runs.specs.Effects.{after_call, after_lock, after_unlock, ended_kind, ended_cell, IsFresh, HasMap, HasBytes}
-use Rattle.typed_runs.specs.Verified.{AllBytes, Leads, Transfers}
+use Rattle.typed_runs.specs.Verified.{Leads, Transfers}
 use Rattle.typed_runs.proofs.Kept.{HoldsOn, of-kept, cell-kept}
 use Rattle.typed_runs.proofs.Sets.{returned-of, near-returned, named-described}
 use Rattle.typed_runs.proofs.Finding.{looks-up}
@@ -35,9 +36,6 @@ use Rattle.typed_runs.proofs.Arguments.{bound, map-listed, map-is, key-is}
 pub falls-to : (i : Insn) (new : AbsState) (taken : Option AbsState) (es : List Element) (run : Run) (next : State) (place : ℕ) (new_run : Run) → falls i ≡ true → next.place ≡ place + slot_count i → Describes new (scene_of es run) next →
     new_run ≡ moves run next → Leads i new taken place es new_run
 falls-to i new taken es run next place new_run f at d e = subst (λ (r : Run). Leads i new taken place es r) (sym e) (λ going. inl (f, at, d))
-
-same-bytes : (s new : Store) → new ≡ s → AllBytes s.elements → AllBytes new.elements
-same-bytes s new e h = subst (λ (x : Store). AllBytes x.elements) (sym e) h
 
 -- what is known inside a section
 inside-deep : (a : AbsState) (c : Scene) (m : State) → Describes a c m → a.inside ≡ true → c.depth ≡ 1

@@ -45,7 +45,7 @@ use Rattle.typed_runs.proofs.Arguments.{reg-is}
 use Rattle.typed_runs.proofs.Calls.{lock_transfers, unlock_transfers, lookup_transfers}
 use Rattle.typed_runs.proofs.Local.{alone_transfers, equal_transfers}
 use Rattle.typed_runs.proofs.Elements.{load_transfers, set-is}
-use Rattle.typed_runs.proofs.Planning.{kept_is_closed, origin_has}
+use Rattle.typed_runs.proofs.Planning.{kept_is_closed, origin_has, zero_holds}
 use Rattle.typed_runs.proofs.Reaching.{well_never_stuck, reached_is_well}
 use Rattle.typed_runs.specs.Well.{IsVerifiedFor}
 use Rattle.bpf_model.specs.Machine.{Loaded}
@@ -81,9 +81,6 @@ computes i dst kind v a c env m f one alone ne is d p n = record {
   alone = alone;
   lands = inl (f, ap (λ x. m.place + x) (sym one), set-described a c m dst (m.place + 1) kind v d p n);
 }
-
-holds-zero : Holds number_zero 0
-holds-zero = record { least = omega arith; greatest = omega arith; zeros = refl; ones = refl }
 
 only-origin : (o : ℤ) → HasOffset origin o → o ≡ pos 0
 only-origin o h =
@@ -199,7 +196,7 @@ module _ (any : Scalar) (all : (n : ℕ) → n < 2 ^ 64 → Holds any n) where
 
   t0 : Transfers (Alu Move Word64 6 (Immediate (pos 0))) shapes 0 (s0 any) (s1 any) None
   t0 = alone_transfers (Alu Move Word64 6 (Immediate (pos 0))) shapes 0 (s0 any) (s1 any) None refl (λ c env m w d.
-      computes (Alu Move Word64 6 (Immediate (pos 0))) 6 (Num number_zero) (Number 0) (s0 any) c env m refl refl (λ es fs other h. h) (λ e. omega arith) refl d (0, refl, omega arith, holds-zero) tt)
+      computes (Alu Move Word64 6 (Immediate (pos 0))) 6 (Num number_zero) (Number 0) (s0 any) c env m refl refl (λ es fs other h. h) (λ e. omega arith) refl d (0, refl, omega arith, zero_holds) tt)
 
   t1 : Transfers (Call Kernel (pos 1)) shapes 0 (s1 any) (s2 any) None
   t1 = lock_transfers (pos 1) shapes 0 (s1 any) refl refl
@@ -246,7 +243,7 @@ module _ (any : Scalar) (all : (n : ℕ) → n < 2 ^ 64 → Holds any n) where
   t7 = lookup_transfers (pos 1) shapes 0 (s7 any) 0 0 example_shape refl refl (record { map_is = refl; shape_is = refl }) key fresh
 
   t8 : Transfers (JumpIf Equal Word64 0 (Immediate (pos 0)) (pos 1)) shapes 0 (s8 any) (s9 any) (Some (when_null 0 number_zero (s8 any)))
-  t8 = equal_transfers shapes 0 0 1 0 0 (s8 any) number_zero origin holds-zero origin_has refl
+  t8 = equal_transfers shapes 0 0 1 0 0 (s8 any) number_zero origin zero_holds origin_has refl
 
   t9 : Transfers (Load Eight 6 0 (pos 0)) shapes 0 (s9 any) (with_kind 6 (Num any) (s9 any)) None
   t9 = load_transfers Eight 6 0 (pos 0) shapes 0 (s9 any) 0 example_shape origin any refl refl placed-origin (λ e. omega arith) (λ n l. all n (omega arith))

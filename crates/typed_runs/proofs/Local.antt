@@ -1,6 +1,6 @@
 -- Instructions that a described run makes by itself, and null tests.
-use Rattle.std.proofs.Common.{◌≡◌, ℕ, ◌+◌, ◌<◌, ◌^◌, ◌%◌, ◌/◌, List, length, Option, Some, None, ◌⊎◌, inl, inr, refl, sym, ap, subst, ◌∙◌, pos, arith, true, false}
-use Rattle.std.specs.Prelude.{if◌then◌else◌, unwrap_or}
+use Rattle.std.proofs.Common.{◌≡◌, ℕ, ◌+◌, ◌<◌, ◌^◌, ◌%◌, ◌/◌, List, length, Option, Some, None, inl, inr, refl, sym, ap, subst, ◌∙◌, pos, arith, false}
+use Rattle.std.specs.Prelude.{if◌then◌else◌}
 use Rattle.std.proofs.lemmas.Bool.{cases_eq, eq-eqb, ne_eqb}
 use Rattle.std.proofs.lemmas.Option.{same_Some, none-some}
 use Rattle.std.proofs.lemmas.Nat.{mod_below}
@@ -20,14 +20,12 @@ use Rattle.bpf_model.specs.declared.value.Cell.TheVariants.{Byte}
 use Rattle.bpf_model.specs.Arithmetic.{immediate}
 use Rattle.bpf_model.specs.Value.{◌>>=◌}
 use Rattle.bpf_model.specs.Operand.{decided}
-use Rattle.bpf_model.specs.Spelling.{slot_count}
-use Rattle.bpf_model.specs.Graph.{falls, JumpsTo}
 use Rattle.bpf_model.specs.Step.{State, Outcome, Moves, Exits, after, forward, jumps_by}
 use Rattle.bpf_model.specs.Section.{Section}
 use Rattle.bpf_model.specs.Element.{Element}
 use Rattle.bpf_model.specs.MapState.{Store, with_elements}
 use Rattle.bpf_model.specs.Machine.{Run, environment, moves, exits}
-use Rattle.bpf_model.specs.MachineStep.{AccessesElement, Acts, OutcomeStep, InsnStep, found_value}
+use Rattle.bpf_model.specs.MachineStep.{AccessesElement, Acts, OutcomeStep, InsnStep, found_value, ActStep}
 use Rattle.scalar_domain.specs.Scalar.{Holds}
 use Rattle.scalar_domain.specs.declared.scalar.Scalar.{Scalar}
 use Rattle.typed_runs.specs.Kinds.{Kind, Blank, Mixed, Ended, Num, CtxAt, FrameAt, MapAt, ValueAt, MaybeNull, CellKind, BlankCell, MixedCell, EndedCell, ByteCell, PartCell, AbsState}
@@ -36,20 +34,10 @@ use Rattle.typed_runs.specs.Effects.{null_kind, null_cell, there_kind, there_cel
 use Rattle.typed_runs.specs.Verified.{AllBytes, Surrounds, HasStep, Leads, Transfers, is_call, IsEnvironment, LandsDescribed, TransfersAlone}
 use Rattle.typed_runs.proofs.Arguments.{reg-is}
 
--- what an instruction other than a call does
-abbrev pub Acted : Insn → Store → Run → Answer → Store → Run → Type 0
-Acted i s run answer new_store new_run = (out : Outcome) × (es : List Element) × Acts i (environment run) s.elements run.state out es × (new_store ≡ with_elements es s) × OutcomeStep out run answer new_run
-
+-- an instruction's steps are those of one that is no call
 abbrev pub IsNoCall : Insn → Type 0
 IsNoCall i = (s : Store) (opened : List Section) (run : Run) (answer : Answer) (new_store : Store) (new_run : Run) →
-    (Acted i s run answer new_store new_run → InsnStep i s opened run answer new_store new_run) × (InsnStep i s opened run answer new_store new_run → Acted i s run answer new_store new_run)
-
--- where an outcome leads, among elements
-abbrev pub Reaches : Insn → AbsState → Option AbsState → List Element → Run → Outcome → Type 0
-Reaches i new taken es run (Exits n) = run.depth ≡ 0
-Reaches i new taken es run (Moves next) =
-    ((falls i ≡ true) × (next.place ≡ run.state.place + slot_count i) × Describes new (scene_of es run) next)
-    ⊎ (JumpsTo i run.state.place next.place × Describes (unwrap_or taken new) (scene_of es run) next)
+    (ActStep i s run answer new_store new_run → InsnStep i s opened run answer new_store new_run) × (InsnStep i s opened run answer new_store new_run → ActStep i s run answer new_store new_run)
 
 -- The one outcome and the elements after it.
 pub record Acting (i : Insn) (s : Store) (run : Run) (new : AbsState) (taken : Option AbsState) : Type 0 where
@@ -58,13 +46,13 @@ pub record Acting (i : Insn) (s : Store) (run : Run) (new : AbsState) (taken : O
   pub acts : Acts i (environment run) s.elements run.state out es
   pub only : (other : Outcome) (fs : List Element) → Acts i (environment run) s.elements run.state other fs → (out ≡ other) × (es ≡ fs)
   pub bytes : AllBytes es
-  pub reaches : Reaches i new taken es run out
+  pub reaches : LandsDescribed i new taken (scene_of es run) run.state.place out
 
-ending : (out : Outcome) (i : Insn) (new : AbsState) (taken : Option AbsState) (es : List Element) (run : Run) → Reaches i new taken es run out → (answer : Answer) × (new_run : Run) × OutcomeStep out run answer new_run
+ending : (out : Outcome) (i : Insn) (new : AbsState) (taken : Option AbsState) (es : List Element) (run : Run) → LandsDescribed i new taken (scene_of es run) run.state.place out → (answer : Answer) × (new_run : Run) × OutcomeStep out run answer new_run
 ending (Moves next) i new taken es run h = (Moved, moves run next, (refl, refl))
 ending (Exits n) i new taken es run h = (Exited n, exits run n, (h, refl, refl))
 
-ended-leads : (out : Outcome) (i : Insn) (new : AbsState) (taken : Option AbsState) (es : List Element) (run : Run) (answer : Answer) (new_run : Run) → Reaches i new taken es run out → OutcomeStep out run answer new_run → Leads i new taken run.state.place es new_run
+ended-leads : (out : Outcome) (i : Insn) (new : AbsState) (taken : Option AbsState) (es : List Element) (run : Run) (answer : Answer) (new_run : Run) → LandsDescribed i new taken (scene_of es run) run.state.place out → OutcomeStep out run answer new_run → Leads i new taken run.state.place es new_run
 ended-leads (Moves next) i new taken es run answer new_run h e = subst (λ (r : Run). Leads i new taken run.state.place es r) (sym e.1) (λ going. h)
 ended-leads (Exits n) i new taken es run answer new_run h e = λ going. absurd (none-some n (sym (ap (λ (r : Run). r.exit) (sym e.2) ∙ going)))
 
@@ -73,7 +61,7 @@ acts-goes i s opened run b taken plain x =
     let e = ending x.out i b taken x.es run x.reaches in
     (e.0, with_elements x.es s, e.1, (plain s opened run e.0 (with_elements x.es s) e.1).0 (x.out, x.es, x.acts, refl, e.2))
 
-acts-leads : (i : Insn) (s : Store) (run : Run) (b : AbsState) (taken : Option AbsState) (answer : Answer) (new_store : Store) (new_run : Run) → Acting i s run b taken → Acted i s run answer new_store new_run → AllBytes new_store.elements × Leads i b taken run.state.place new_store.elements new_run
+acts-leads : (i : Insn) (s : Store) (run : Run) (b : AbsState) (taken : Option AbsState) (answer : Answer) (new_store : Store) (new_run : Run) → Acting i s run b taken → ActStep i s run answer new_store new_run → AllBytes new_store.elements × Leads i b taken run.state.place new_store.elements new_run
 acts-leads i s run b taken answer new_store new_run x h =
     let o = x.only h.0 h.1 h.2 in
     subst (λ (y : Store). AllBytes y.elements × Leads i b taken run.state.place y.elements new_run) (sym h.3)
@@ -89,7 +77,7 @@ acts-transfers i shapes ctx_len a b taken plain f = record {
 
 -- A step of the run by itself is the only one, where no element is accessed.
 pub by-itself : (i : Insn) (s : Store) (run : Run) (b : AbsState) (taken : Option AbsState) (out : Outcome) → AllBytes s.elements → after i (environment run) run.state ≡ Some out →
-    ((other : Outcome) (fs : List Element) → AccessesElement i s.elements run.state other fs → ⊥) → Reaches i b taken s.elements run out → Acting i s run b taken
+    ((other : Outcome) (fs : List Element) → AccessesElement i s.elements run.state other fs → ⊥) → LandsDescribed i b taken (scene_of s.elements run) run.state.place out → Acting i s run b taken
 by-itself i s run b taken out bytes e plain r = record {
   out = out;
   es = s.elements;
@@ -111,14 +99,10 @@ no-call i e s opened run answer new_store new_run = (λ h. h, λ h. h)
 environment-is : (shapes : List MapShape) (ctx_len : ℕ) (s : Store) (opened : List Section) (run : Run) → Surrounds shapes ctx_len s opened run → IsEnvironment ctx_len (length shapes) (environment run)
 environment-is shapes ctx_len s opened run w = record { long = w.long; bytes = w.context; bound = w.bound.count }
 
-lands-reaches : (out : Outcome) (i : Insn) (b : AbsState) (taken : Option AbsState) (es : List Element) (run : Run) → LandsDescribed i b taken (scene_of es run) run.state.place out → Reaches i b taken es run out
-lands-reaches (Moves next) i b taken es run h = h
-lands-reaches (Exits n) i b taken es run h = h
-
 pub alone_transfers : (i : Insn) (shapes : List MapShape) (ctx_len : ℕ) (a b : AbsState) (taken : Option AbsState) → is_call i ≡ false → TransfersAlone i shapes ctx_len a b taken → Transfers i shapes ctx_len a b taken
 alone_transfers i shapes ctx_len a b taken e f = acts-transfers i shapes ctx_len a b taken (no-call i e) (λ s opened run w d.
     let x = f (scene_of s.elements run) (environment run) run.state (environment-is shapes ctx_len s opened run w) d in
-    by-itself i s run b taken x.out w.bytes x.after_is (λ other fs h. x.alone s.elements fs other h) (lands-reaches x.out i b taken s.elements run x.lands))
+    by-itself i s run b taken x.out w.bytes x.after_is (λ other fs h. x.alone s.elements fs other h) x.lands)
 
 -- null tests
 number-of : (ρ : Naming) (id : ℕ) (v : Value) → ρ id ≡ None → v ≡ found_value (ρ id) → v ≡ Number 0

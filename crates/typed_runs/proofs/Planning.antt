@@ -3,6 +3,7 @@ use Rattle.std.proofs.Common.{◌≡◌, ℕ, suc, ◌+◌, ◌^◌, List, Optio
 use Rattle.std.specs.Prelude.{if◌then◌else◌, ◌==◌, slice_get, pos, ◌+ℤ◌, unwrap_or}
 use Rattle.std.proofs.lemmas.Option.{same_Some}
 use Rattle.std.proofs.lemmas.Int.{ints}
+use Rattle.scalar_domain.specs.Scalar.{Holds}
 use Rattle.bpf_model.specs.declared.limits.TheConstants.{FRAME_BYTES}
 use Rattle.bpf_model.specs.declared.insn.Insn.{Insn}
 use Rattle.bpf_model.specs.declared.limits.MapShape.{MapShape}
@@ -25,7 +26,7 @@ use Rattle.scalar_domain.specs.Constant.{le_self}
 use Rattle.typed_runs.specs.Kinds.{Blank, CtxAt, FrameAt, AbsState}
 use Rattle.typed_runs.specs.Describes.{Scene, scene_of, HasOffset, IsContextAt, IsOf, IsOfCell, AreNear, Describes, depth_of}
 use Rattle.typed_runs.specs.Verified.{Plan, AllBytes, Surrounds, Leads, Transfers, IsPlanned, IsPlannedAfter, IsClosed}
-use Rattle.typed_runs.specs.Planned.{origin, Wider, AreAlike, Joins, entry_state, Covers, IsCovered, IsPlanKept}
+use Rattle.typed_runs.specs.Planned.{origin, number_zero, Wider, AreAlike, Joins, entry_state, Covers, IsCovered, IsPlanKept}
 use Rattle.typed_runs.proofs.Sets.{choice-of, near-set, widened}
 
 pub join_left : (pair : ℕ → ℕ × ℕ) (a b c : AbsState) → Joins pair a b c → Wider a c
@@ -71,6 +72,10 @@ entry-near = near-set 1 (Pointer (Ctx (pos 0))) (put 10 (Pointer (Frame (pos FRA
 -- the offset 0 is the one of the scalar
 pub origin_has : HasOffset origin (pos 0)
 origin_has = record { raised = 2 ^ 29; is = refl; limit = omega arith; holds = record { least = le_self (2 ^ 29); greatest = le_self (2 ^ 29); zeros = and_self (2 ^ 29); ones = and_self (2 ^ 29) } }
+
+-- the number 0 is the one of the scalar
+pub zero_holds : Holds number_zero 0
+zero_holds = record { least = le_self 0; greatest = le_self 0; zeros = and_self 0; ones = and_self 0 }
 
 context-start : IsContextAt origin (Pointer (Ctx (pos 0)))
 context-start = record { offset = pos 0; is = refl; there = origin_has }

@@ -59,29 +59,29 @@ bytes-removes s opened ret new (Some n) h r = bytes-along _ new.elements (ap (λ
 pub bytes-deletes : (s : Store) (opened : List Section) (map : ℕ) (key : List ℕ) (ret : Result (Unit {0}) Errno) (new : Store) → AllBytes s.elements → Deletes s opened map key ret new → AllBytes new.elements
 bytes-deletes s opened map key ret new h d = bytes-removes s opened ret new d.0 h d.2
 
-same-bytes : (m new : Machine) → new.store ≡ m.store → AllBytes m.store.elements → AllBytes new.store.elements
-same-bytes m new e h = bytes-along m.store.elements new.store.elements (ap (λ s. s.elements) e) h
+pub same-bytes : (s new : Store) → new ≡ s → AllBytes s.elements → AllBytes new.elements
+same-bytes s new e h = bytes-along s.elements new.elements (ap (λ x. x.elements) e) h
 
 -- of a step of a run it is known by its program's verification
 performs-bytes : (m : Machine) (event : Event) (answer : Answer) (new : Machine) → IsReal event → ((r : ℕ) → StepsRun m r answer new → AllBytes new.store.elements) → AllBytes m.store.elements → PerformsEvent m event answer new → AllBytes new.store.elements
-performs-bytes m (events.Start prog ctx) (answers.Started r) new real step h p = same-bytes m new (ap (λ x. x.store) p.new_is) h
+performs-bytes m (events.Start prog ctx) (answers.Started r) new real step h p = same-bytes m.store new.store (ap (λ x. x.store) p.new_is) h
 performs-bytes m (events.Step r) answer new real step h p = step r p
 performs-bytes m (events.Update map key value flags) (answers.Ret ret) new real step h p =
     subst (λ (s : Store). AllBytes s.elements) (ap (λ x. x.store) (sym p.2)) (bytes-updates m.store (open_sections m.runs) map key.items value.items flags ret p.0 h real.2 p.1)
 performs-bytes m (events.Delete map key) (answers.Ret ret) new real step h p =
     subst (λ (s : Store). AllBytes s.elements) (ap (λ x. x.store) (sym p.2)) (bytes-deletes m.store (open_sections m.runs) map key.items ret p.0 h p.1)
-performs-bytes m (events.Read map key) (answers.Found (Some value)) new real step h p = same-bytes m new (ap (λ x. x.store) p.1) h
-performs-bytes m (events.Read map key) (answers.Found None) new real step h p = same-bytes m new (ap (λ x. x.store) p.1) h
-performs-bytes m events.Advance answers.Done new real step h p = same-bytes m new (ap (λ x. x.store) p) h
-performs-bytes m events.Reap (answers.Reaped None) new real step h p = same-bytes m new (ap (λ x. x.store) p) h
+performs-bytes m (events.Read map key) (answers.Found (Some value)) new real step h p = same-bytes m.store new.store (ap (λ x. x.store) p.1) h
+performs-bytes m (events.Read map key) (answers.Found None) new real step h p = same-bytes m.store new.store (ap (λ x. x.store) p.1) h
+performs-bytes m events.Advance answers.Done new real step h p = same-bytes m.store new.store (ap (λ x. x.store) p) h
+performs-bytes m events.Reap (answers.Reaped None) new real step h p = same-bytes m.store new.store (ap (λ x. x.store) p) h
 performs-bytes m events.Reap (answers.Reaped (Some reaped)) new real step h p =
     subst (λ (s : Store). AllBytes s.elements) (sym p.3.new_is ∙ ap (λ x. x.store) (sym p.6)) (bytes-set m.store.elements p.0 (with_life Reclaimed p.1) h (h p.0 p.1 p.3.born))
-performs-bytes m (events.Drop r) answers.Done new real step h p = same-bytes m new (ap (λ x. x.store) p) h
+performs-bytes m (events.Drop r) answers.Done new real step h p = same-bytes m.store new.store (ap (λ x. x.store) p) h
 performs-bytes m event answer new real step h p = absurd p
 
 answers-bytes : (o : Option EventRefusal) (m : Machine) (event : Event) (answer : Answer) (new : Machine) → IsReal event → ((r : ℕ) → StepsRun m r answer new → AllBytes new.store.elements) → AllBytes m.store.elements → Answers o m event answer new → AllBytes new.store.elements
 answers-bytes None m event answer new real step h p = performs-bytes m event answer new real step h p
-answers-bytes (Some k) m event answer new real step h p = same-bytes m new (ap (λ x. x.store) p.1) h
+answers-bytes (Some k) m event answer new real step h p = same-bytes m.store new.store (ap (λ x. x.store) p.1) h
 
 pub does-bytes : (m new : Machine) (event : Event) (answer : Answer) → IsReal event → ((r : ℕ) → StepsRun m r answer new → AllBytes new.store.elements) → AllBytes m.store.elements → DoesEvent m event answer new → AllBytes new.store.elements
 does-bytes m new event answer real step h p = answers-bytes (refusal m event) m event answer new real step h p

@@ -48,17 +48,21 @@ abbrev pub HasStep : Insn → Store → List Section → Run → Type 0
 HasStep i s opened run = (answer : Answer) × (new_store : Store) × (new_run : Run)
     × InsnStep i s opened run answer new_store new_run
 
--- The run has ended, or is described where control falls through, or where it jumps: by the state
--- beside it, where there is one.
-abbrev pub Leads : Insn → AbsState → Option AbsState → ℕ → List Element → Run → Type 0
-Leads i new taken place es run = run.exit ≡ None →
-    ((falls i ≡ true) × (run.state.place ≡ place + slot_count i)
-    × Describes new (scene_of es run) run.state)
-    ⊎ (JumpsTo i place run.state.place
-    × Describes (unwrap_or taken new) (scene_of es run) run.state)
+-- An exit is outside every section. Else the run is described where control falls through, or where
+-- it jumps: by the state beside it, where there is one.
+abbrev pub LandsDescribed : Insn → AbsState → Option AbsState → Scene → ℕ → Outcome → Type 0
+LandsDescribed i new taken c place (Exits n) = c.depth ≡ 0
+LandsDescribed i new taken c place (Moves next) =
+    ((falls i ≡ true) × (next.place ≡ place + slot_count i) × Describes new c next)
+    ⊎ (JumpsTo i place next.place × Describes (unwrap_or taken new) c next)
 
--- What `transfer` (crate `state_steps`) ensures: from each described state the instruction isn't stuck, each of its steps
--- leads to a described one, and bytes stay bytes.
+-- the run has ended, or is described where it goes on
+abbrev pub Leads : Insn → AbsState → Option AbsState → ℕ → List Element → Run → Type 0
+Leads i new taken place es run =
+    run.exit ≡ None → LandsDescribed i new taken (scene_of es run) place (Moves run.state)
+
+-- What `transfer` (crate `state_steps`) ensures: from each described state the instruction isn't
+-- stuck, each of its steps leads to a described one, and bytes stay bytes.
 pub record Transfers (i : Insn) (shapes : List MapShape) (ctx_len : ℕ) (old new : AbsState)
     (taken : Option AbsState) : Type 0 where
   pub goes : (s : Store) (opened : List Section) (run : Run) → Surrounds shapes ctx_len s opened run
@@ -118,12 +122,6 @@ pub record IsEnvironment (ctx_len maps : ℕ) (env : Environment) : Type 0 where
   pub long : length env.context ≡ ctx_len
   pub bytes : AreBytes env.context
   pub bound : env.maps ≡ maps
-
-abbrev pub LandsDescribed : Insn → AbsState → Option AbsState → Scene → ℕ → Outcome → Type 0
-LandsDescribed i new taken c place (Exits n) = c.depth ≡ 0
-LandsDescribed i new taken c place (Moves next) =
-    ((falls i ≡ true) × (next.place ≡ place + slot_count i) × Describes new c next)
-    ⊎ (JumpsTo i place next.place × Describes (unwrap_or taken new) c next)
 
 -- What is to be shown of an instruction that is no call and accesses no element: its one outcome,
 -- by `after`. The scene is the same after it.

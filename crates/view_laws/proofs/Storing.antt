@@ -24,7 +24,7 @@ use Rattle.view_laws.proofs.Worlds.{Here, here, Turns, turned-world}
 use Rattle.bpf_model.proofs.Lists.{get-set_cases, get-set_other, get-set_there, length-set}
 
 -- an element that may be accessed is not reclaimed
-accessible-kept : (es : List Element) (n : ℕ) (o : Option Element) (e : Element) → slice_get es n ≡ o → (o >>= unless_reclaimed) ≡ Some e → is_reclaimed e.life ≡ false
+pub accessible-kept : (es : List Element) (n : ℕ) (o : Option Element) (e : Element) → slice_get es n ≡ o → (o >>= unless_reclaimed) ≡ Some e → is_reclaimed e.life ≡ false
 accessible-kept es n None e at h = absurd (none-some e h)
 accessible-kept es n (Some x) e at h = choice (is_reclaimed x.life) refl h
   where

@@ -13,7 +13,7 @@ use Rattle.bpf_model.specs.Value.{◌>>=◌}
 use Rattle.bpf_model.specs.Word.{ByteIs}
 use Rattle.world_laws.specs.Locating.{number_from}
 use Rattle.world_laws.proofs.Cells.{number_more, byte_known}
-use Rattle.model_laws.proofs.Lists.{first-step}
+use Rattle.model_laws.proofs.Computations.{first-step}
 use Rattle.bpf_model.proofs.Bytes.{before, behind, within, length-with_bytes}
 use Rattle.bpf_model.proofs.Lists.{drop-next}
 

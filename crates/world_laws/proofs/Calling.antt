@@ -29,7 +29,7 @@ use Rattle.bpf_model.specs.Schedule.{Schedule}
 use Rattle.bpf_model.specs.Value.{◌>>=◌, reference}
 use Rattle.bpf_model.specs.View.{MapView, RunView, WorldView}
 use Rattle.bpf_model.specs.Word.{WordIs, element_bases, map_in, slot_base, map_base, frame_base}
-use Rattle.model_laws.proofs.Lists.{first-step}
+use Rattle.model_laws.proofs.Computations.{first-step}
 use Rattle.view_laws.specs.Matching.{Matches}
 use Rattle.view_laws.specs.Reactions.{with_map}
 use Rattle.view_laws.specs.Views.{deleted, updated}

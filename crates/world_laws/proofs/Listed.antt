@@ -35,7 +35,7 @@ use Rattle.typed_runs.proofs.Coming.{Comes, Stands, Starting, Stepping, does-com
 use Rattle.typed_runs.proofs.Reaching.{kept-last}
 use Rattle.world_laws.specs.Typed.{IsListed, AreListed}
 use Rattle.world_laws.proofs.Words.{refused}
-use Rattle.model_laws.proofs.Lists.{first-step}
+use Rattle.model_laws.proofs.Computations.{first-step}
 
 listed-closed : (count : ℕ) → Closed (IsListed count)
 listed-closed count = record { context = λ o. tt; frame = λ o. tt; moved = λ n o p h. h }

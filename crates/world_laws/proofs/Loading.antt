@@ -1,7 +1,9 @@
 -- Loads: from the context, from the frame, and from elements.
-use Rattle.std.proofs.Common.{◌≡◌, ℕ, ◌+◌, ◌≤◌, refl, sym, ap, subst, ◌∙◌, arith, Some, None, List, length, inr, Bool, true, false}
-use Rattle.std.specs.Prelude.{slice_get, slice_index, ℤ, pos, ◌+ℤ◌, if◌then◌else◌}
+use Rattle.std.proofs.Common.{◌≡◌, ℕ, ◌+◌, ◌≤◌, refl, sym, ap, subst, ◌∙◌, arith, Some, List, length, inr, false}
+use Rattle.std.specs.Prelude.{slice_get, slice_index, ℤ, pos, ◌+ℤ◌}
 use Rattle.std.proofs.lemmas.Option.{none-some, same_Some}
+use Rattle.view_laws.proofs.Storing.{accessible-kept}
+use Rattle.model_laws.proofs.Stores.{accessible-born}
 use Rattle.typed_runs.proofs.Elements.{offset_some}
 use Rattle.bpf_model.specs.declared.limits.TheConstants.{FRAME_BYTES}
 use Rattle.bpf_model.specs.declared.insn.Insn.TheVariants.{Load, LoadSigned}
@@ -12,7 +14,7 @@ use Rattle.bpf_model.specs.declared.value.Value.TheVariants.{Nothing, Number, Po
 use Rattle.bpf_model.specs.declared.value.Reference.TheVariants.{Ctx, Frame, MapRef, Elem}
 use Rattle.bpf_model.specs.Access.{byte_count, unsigned_width, region_offset, number_at}
 use Rattle.bpf_model.specs.Arithmetic.{loaded_signed}
-use Rattle.bpf_model.specs.Element.{Element, accessible, unless_reclaimed, is_reclaimed}
+use Rattle.bpf_model.specs.Element.{Element, accessible, is_reclaimed}
 use Rattle.bpf_model.specs.Frame.{read}
 use Rattle.bpf_model.specs.Machine.{Run, environment}
 use Rattle.bpf_model.specs.MachineStep.{AccessesElement, element_load, loaded_from}
@@ -35,18 +37,11 @@ use Rattle.world_laws.proofs.Bytes.{number-there, number-read}
 use Rattle.world_laws.proofs.Shown.{Shown, shown}
 use Rattle.world_laws.proofs.Ready.{bases, refines, near, register-word, byte-stands}
 use Rattle.world_laws.proofs.Own.{Known, StepsBy, Does, alone-step, insn-real, set}
-use Rattle.model_laws.proofs.Lists.{first-step}
+use Rattle.model_laws.proofs.Computations.{first-step}
 
 -- an element that may be accessed is there, and not reclaimed
 pub accessible-known : (es : List Element) (n : ℕ) (e : Element) → accessible es n ≡ Some e → (slice_get es n ≡ Some e) × (is_reclaimed e.life ≡ false)
-accessible-known es n e h =
-    let f = first-step (slice_get es n) unless_reclaimed e h in
-    let g = choice f.0 (is_reclaimed f.0.life) refl f.2 in
-    (f.1 ∙ ap Some g.0, g.1)
-  where
-    choice : (x : Element) (b : Bool) → is_reclaimed x.life ≡ b → (if b then None else Some x) ≡ Some e → (x ≡ e) × (is_reclaimed e.life ≡ false)
-    choice x true is g = absurd (none-some e g)
-    choice x false is g = (same_Some x e g, ap (λ (z : Element). is_reclaimed z.life) (sym (same_Some x e g)) ∙ is)
+accessible-known es n e h = (accessible-born es n (slice_get es n) e refl h, accessible-kept es n (slice_get es n) e refl h)
 
 module _ (w : WorldView) (s : Schedule) (m : Matches w s) (sound : IsSound w s) (r : ℕ) (run : Run) (v : RunView) (k : IsRunning w s r run v) where
   -- a load at a known location

@@ -31,7 +31,7 @@ use Rattle.world_laws.proofs.Ready.{bases, near, register-word}
 use Rattle.world_laws.proofs.Own.{Known, insn-real}
 use Rattle.world_laws.proofs.Loading.{element-place}
 use Rattle.world_laws.proofs.Storing.{store-known, element-known}
-use Rattle.model_laws.proofs.Lists.{first-step}
+use Rattle.model_laws.proofs.Computations.{first-step}
 
 load-agrees : (width dst : ℕ) (offset : ℤ) (make : ℕ → ℕ) (l : Location) (r : ℕ) (v : RunView) (w : WorldView) → Agrees (local_load width offset dst make l v) r v w (moves_on r (with_word 1 dst (make (number_from (bytes_of w v l) width (offset_at l +ℤ offset))) v) w)
 load-agrees width dst offset make (InContext o) r v w = refl

@@ -55,7 +55,7 @@ use Rattle.world_laws.proofs.Own.{Known, insn-real}
 use Rattle.world_laws.proofs.Loading.{accessible-known, element-place}
 use Rattle.world_laws.proofs.Calling.{CalledWith, called}
 use Rattle.world_laws.proofs.Storing.{store-known, element-known}
-use Rattle.model_laws.proofs.Lists.{first-step}
+use Rattle.model_laws.proofs.Computations.{first-step}
 
 times-image : (f : ℕ → ℕ) (n : ℕ) (xs : List ℕ) → times n xs ≤ times (f n) (map f xs)
 times-image f n [] = omega arith

@@ -23,7 +23,7 @@ use Rattle.world_laws.specs.Calling.{found_word, returned_view}
 use Rattle.world_laws.specs.Moving.{moves_on}
 use Rattle.world_laws.specs.Reacting.{full_reaction, full_reactions}
 use Rattle.world_laws.proofs.Appending.{answers_append}
-use Rattle.world_laws.specs.WorldExample.{key_zero, two_bytes, example_world, example_events, example_answers}
+use Rattle.world_laws.specs.WorldExample.{key_zero, value_263, example_world, example_events, example_answers}
 
 -- one event before others
 next : (w new : WorldView) (e : Event) (a : Answer) (es : List Event) → full_reaction w e ≡ (a, new) → (full_reactions w (e ∷ es)).0 ≡ a ∷ (full_reactions new es).0
@@ -42,12 +42,12 @@ no-error =
     ∙ ap (λ n. update_error 0 false n (map_state_of fresh)) (len-empty (slice_cmp nat_cmp) ℕ)
 
 abbrev stocked : WorldView
-stocked = with_map 0 (filled_from fresh.free fresh key_zero.items two_bytes.items) example_world
+stocked = with_map 0 (filled_from fresh.free fresh key_zero.items value_263.items) example_world
 
-updates : full_reaction example_world (Update 0 key_zero two_bytes 0) ≡ (Ret (Ok tt), stocked)
+updates : full_reaction example_world (Update 0 key_zero value_263 0) ≡ (Ret (Ok tt), stocked)
 updates =
-    ap (λ (o : Option Errno). (Ret (updated_by o fresh key_zero.items two_bytes.items).0, with_map 0 (updated_by o fresh key_zero.items two_bytes.items).1 example_world)) no-error
-    ∙ ap (λ (o : Option ℕ). (Ret (Ok tt), with_map 0 (filled_from fresh.free (retired_slot fresh key_zero.items o) key_zero.items two_bytes.items) example_world)) (get-empty (slice_cmp nat_cmp) key_zero.items)
+    ap (λ (o : Option Errno). (Ret (updated_by o fresh key_zero.items value_263.items).0, with_map 0 (updated_by o fresh key_zero.items value_263.items).1 example_world)) no-error
+    ∙ ap (λ (o : Option ℕ). (Ret (Ok tt), with_map 0 (filled_from fresh.free (retired_slot fresh key_zero.items o) key_zero.items value_263.items) example_world)) (get-empty (slice_cmp nat_cmp) key_zero.items)
 
 -- up to the lookup
 abbrev first : List Event
@@ -75,7 +75,7 @@ looks-up = ap (λ (o : Option ℕ). moves_on 0 (returned_view (found_word 0 o) r
 
 -- the delete
 abbrev held : MapView
-held = filled_from fresh.free fresh key_zero.items two_bytes.items
+held = filled_from fresh.free fresh key_zero.items value_263.items
 
 abbrev deleted_world : WorldView
 deleted_world = with_map 0 (retired_slot held key_zero.items (Some 0)) found
@@ -106,7 +106,7 @@ rest-answers = refl
 
 pub example_reacts : (full_reactions example_world example_events).0 ≡ example_answers
 example_reacts =
-    next example_world stocked (Update 0 key_zero two_bytes 0) (Ret (Ok tt)) (first ++ Step 0 ∷ Delete 0 key_zero ∷ rest) updates
+    next example_world stocked (Update 0 key_zero value_263 0) (Ret (Ok tt)) (first ++ Step 0 ∷ Delete 0 key_zero ∷ rest) updates
     ∙ ap (λ (l : List Answer). Ret (Ok tt) ∷ l) (
     answers_append stocked first (Step 0 ∷ Delete 0 key_zero ∷ rest)
     ∙ ap (λ (l : List Answer). l ++ (full_reactions before_lookup (Step 0 ∷ Delete 0 key_zero ∷ rest)).0) first-answers

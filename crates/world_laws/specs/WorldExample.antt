@@ -14,8 +14,8 @@ use Rattle.model_laws.specs.Example.{lookup_program, example_shape}
 abbrev pub key_zero : ArrayVec ℕ
 key_zero = record { items = 0 ∷ 0 ∷ 0 ∷ 0 ∷ [] }
 
-abbrev pub two_bytes : ArrayVec ℕ
-two_bytes = record { items = 7 ∷ 1 ∷ 0 ∷ 0 ∷ 0 ∷ 0 ∷ 0 ∷ 0 ∷ [] }
+abbrev pub value_263 : ArrayVec ℕ
+value_263 = record { items = 7 ∷ 1 ∷ 0 ∷ 0 ∷ 0 ∷ 0 ∷ 0 ∷ 0 ∷ [] }
 
 -- One map and the program that looks up key 0 in a section, and exits with the value.
 abbrev pub example_world : WorldView
@@ -26,7 +26,7 @@ example_world = start_view (example_shape ∷ []) (lookup_program ∷ [])
 -- step. Then the grace period ends, and the element is reclaimed.
 abbrev pub example_events : List Event
 example_events =
-    Update 0 key_zero two_bytes 0 ∷ Start 0 (record { items = [] }) ∷ Step 0 ∷ Step 0 ∷ Step 0
+    Update 0 key_zero value_263 0 ∷ Start 0 (record { items = [] }) ∷ Step 0 ∷ Step 0 ∷ Step 0
     ∷ Step 0 ∷ Step 0 ∷ Step 0 ∷ Step 0 ∷
     Delete 0 key_zero ∷ Advance ∷ Advance ∷ Reap ∷
     Step 0 ∷ Step 0 ∷ Step 0 ∷ Advance ∷ Reap ∷ Step 0 ∷ Step 0 ∷ Drop 0 ∷ []

@@ -83,12 +83,8 @@ pub fn insn_is_real(insn: &Insn)
             src,
             offset: by,
             ..
-        } => {
-            register(*dst);
-            register(*src);
-            offset(*by);
         }
-        Insn::LoadSigned {
+        | Insn::LoadSigned {
             dst,
             src,
             offset: by,
