@@ -86,6 +86,7 @@ pub delete_sound : (a b : StateHere) (shapes : List MapShape) (map : ℕ) (shape
 delete_sound a b shapes map shape t all m key e imm f ctx_len =
     to_alike (Call callee.Helper imm) shapes ctx_len (state_of a) (after_call (Num t) (state_of a)) (state_of b) e (delete_transfers imm shapes ctx_len (state_of a) map shape t all m key f)
 
+-- tests for null
 pub fork_equal : (a b taken : StateHere) (id dst map : ℕ) → AreAlike (learnt (IsThere id) (state_of a)) (state_of b) → AreAlike (learnt (IsNull id) (state_of a)) (state_of taken) → kind_in a.regs dst ≡ kinds.MaybeNull map id → ForksOnNull true dst a b taken
 fork_equal a b taken id dst map e f g shapes ctx_len n =
     to-both (null_jump true dst n) shapes ctx_len (state_of a) (when_there id origin (state_of a)) (state_of b) (when_null id number_zero (state_of a)) (state_of taken) e f
