@@ -18,17 +18,17 @@ use maps::Registry;
 pub fn serve(
     access: Access,
     run: &Run,
-    slot: RunId,
+    run_slot: RunId,
     bound: &[usize],
     maps: &mut Registry,
     grace: &mut Grace,
 ) -> u64
-    requires flag { HasFlag grace.old slot }
+    requires flag { HasFlag grace.old run_slot }
     requires serve { CanServe access bound.now maps.old.maps run.now.view }
     ensures word { IsReply access bound.now maps.old.maps run.now.view result }
     ensures maps { maps.new.maps ≡ maps_after access bound.now run.now.view maps.old.maps }
     ensures names { maps.new.names ≡ maps.old.names }
-    ensures grace { grace.new ≡ grace_after access slot grace.old }
+    ensures grace { grace.new ≡ grace_after access run_slot grace.old }
 {
     match access {
         Access::Load {
@@ -47,11 +47,11 @@ pub fn serve(
         }
         Access::Call { helper } => call(helper, run, maps, bound),
         Access::Enter => {
-            enter(grace, slot);
+            enter(grace, run_slot);
             0
         }
         Access::Leave => {
-            leave(grace, slot);
+            leave(grace, run_slot);
             0
         }
     }

@@ -22,20 +22,20 @@ use maps::Registry;
 /// and the run goes on with the reply.
 fn step_run(
     run: &mut Run,
-    slot: RunId,
+    run_slot: RunId,
     loaded: &Loaded,
     maps: &mut Registry,
     grace: &mut Grace,
 ) -> Brief
-    requires { CanTake loaded.now maps.old.maps grace.old slot run.old }
-    ensures { HasTaken loaded.now slot run.old run.new maps.old.maps maps.new.maps grace.old
+    requires { CanTake loaded.now maps.old.maps grace.old run_slot run.old }
+    ensures { HasTaken loaded.now run_slot run.old run.new maps.old.maps maps.new.maps grace.old
         grace.new (brief_answer result) }
 {
     match run.local_step(&loaded.verified) {
         Local::Moved => Brief::Moved,
         Local::Exit(value) => Brief::Exited(value),
         Local::Shared(access) => {
-            let word = serve(access, run, slot, loaded.maps.as_slice(), maps, grace);
+            let word = serve(access, run, run_slot, loaded.maps.as_slice(), maps, grace);
             run.resume(&loaded.verified, word);
             Brief::Moved
         }
@@ -46,18 +46,18 @@ fn step_run(
 fn step_slot(
     runs: &mut Vec<Option<Run>>,
     programs: &Vec<Loaded>,
-    slot: RunId,
+    run_slot: RunId,
     maps: &mut Registry,
     grace: &mut Grace,
 ) -> Brief
-    requires { IsGoing runs.old.items programs.now.items maps.old.maps grace.old slot }
+    requires { IsGoing runs.old.items programs.now.items maps.old.maps grace.old run_slot }
     ensures { HasGone runs.old.items runs.new.items programs.now.items maps.old.maps maps.new.maps
-        grace.old grace.new slot (brief_answer result) }
+        grace.old grace.new run_slot (brief_answer result) }
 {
-    match &mut runs[slot.index()] {
+    match &mut runs[run_slot.index()] {
         Some(run) => {
             let loaded = &programs[run.program()];
-            step_run(run, slot, loaded, maps, grace)
+            step_run(run, run_slot, loaded, maps, grace)
         }
         None => unreachable!(),
     }
