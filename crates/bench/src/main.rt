@@ -40,9 +40,9 @@ fn measure_file(rt: &HostRuntime, file: &str, ctx_len: usize) -> Result<()>
         Err(error) => bail!("{file}: {error}"),
     };
     let trial = trial_of(alloc, bytes.as_slice(), ctx_len)?;
-    let outcome = counted_run(&trial);
-    let exit = outcome.exit;
-    let instructions = outcome.instructions;
+    let finished = counted_run(&trial);
+    let exit = finished.value;
+    let instructions = finished.steps;
     let run_time = time_per_part(alloc, rt, Activity::Runs, &trial, instructions as u64)?;
     let verify_time = time_per_part(alloc, rt, Activity::Verifications, &trial, 1000)?;
     println!(rt; "exit {exit}")?;

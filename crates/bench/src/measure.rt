@@ -40,7 +40,7 @@ fn time_runs(clock: &impl Clock, trial: &Trial, calls: u32) -> Result<Duration>
     requires { IsReadyTrial trial.now }
 {
     let copy = counting_bytes(trial.verified.ctx_len());
-    let expected = counted_run(trial).exit;
+    let expected = counted_run(trial).value;
     let mut exit = expected;
     let start = Instant::now(clock)?;
     for _ in 0..calls {

@@ -1,16 +1,16 @@
 //! The lines that the program prints.
 ghost use Rattle.std.specs.Prelude.{◌≡◌, ◌++◌, IfOk, string_bytes, codes, decimal};
 
-use crate::trial::Outcome;
+use lone_runs::Finished;
 use std::alloc::{AllocError, Global};
 
 /// The line of a program that is built in: its name, and what it came to.
-pub fn sample_line(alloc: Global, name: &str, outcome: Outcome) -> Result<String, AllocError>
+pub fn sample_line(alloc: Global, name: &str, finished: Finished) -> Result<String, AllocError>
     ensures { IfOk result (λ s. string_bytes s ≡ name.now
-        ++ (codes " exit " ++ (decimal outcome.exit
-        ++ (codes " instructions " ++ decimal outcome.instructions)))) }
+        ++ (codes " exit " ++ (decimal finished.value
+        ++ (codes " instructions " ++ decimal finished.steps)))) }
 {
-    let exit = outcome.exit;
-    let instructions = outcome.instructions;
+    let exit = finished.value;
+    let instructions = finished.steps;
     format!(in alloc; "{name} exit {exit} instructions {instructions}")
 }

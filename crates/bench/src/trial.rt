@@ -9,7 +9,7 @@ ghost use Rattle.bench.specs.Trials.{IsReadyTrial};
 use anyhow::Result;
 use bpf_model::CtxBytes;
 use insn_codec::decode;
-use lone_runs::run_to_exit;
+use lone_runs::{Finished, run_to_exit};
 use std::alloc::Global;
 use verifier::{Verified, verify};
 
@@ -18,13 +18,6 @@ use verifier::{Verified, verify};
 pub struct Trial {
     pub verified: Verified,
     pub ctx: CtxBytes,
-}
-
-/// What a run came to: the value with which the program exited, and how many instructions it executed.
-#[derive(Clone, Copy, Debug, PartialEq, Eq)]
-pub struct Outcome {
-    pub exit: u64,
-    pub instructions: usize,
 }
 
 /// The context bytes 0, 1, 2 and so on.
@@ -57,17 +50,13 @@ pub fn trial_of(alloc: Global, bytes: &[u8], ctx_len: usize) -> Result<Trial>
     })
 }
 
-/// What a run of the program on the context comes to.
-pub fn counted_run(trial: &Trial) -> Outcome
+/// The value with which a run of the program on the context exits, and how many instructions it executes.
+pub fn counted_run(trial: &Trial) -> Finished
     requires { IsReadyTrial trial.now }
-    ensures least { 0 < result.instructions }
-    ensures limit { result.instructions ≤ MAX_SLOTS }
+    ensures least { 0 < result.steps }
+    ensures limit { result.steps ≤ MAX_SLOTS }
     ensures exits { ExitsWith (loaded_alone trial.now.verified) trial.now.ctx.items
-        result.instructions result.exit }
+        result.steps result.value }
 {
-    let finished = run_to_exit(&trial.verified, &trial.ctx);
-    Outcome {
-        exit: finished.value,
-        instructions: finished.steps,
-    }
+    run_to_exit(&trial.verified, &trial.ctx)
 }
