@@ -29,7 +29,7 @@ pub fn byte_swap(order: ByteOrder, width: SwapWidth, dst: u64) -> u64
             u64::from(((dst % 0x1_0000) as u16).swap_bytes())
         }
         (ByteOrder::ToBig | ByteOrder::Swap, SwapWidth::Four) => {
-            u64::from(((dst % 0x1_0000_0000) as u32).swap_bytes())
+            u64::from(low_half(dst).swap_bytes())
         }
         (ByteOrder::ToBig | ByteOrder::Swap, SwapWidth::Eight) => dst.swap_bytes(),
     }
@@ -51,9 +51,7 @@ pub fn move_signed(extension: SignExtension, src: u64) -> u64
         SignExtension::ShortTo64 => {
             i64::from(((src % 0x1_0000) as u16).cast_signed()).cast_unsigned()
         }
-        SignExtension::WordTo64 => {
-            i64::from(((src % 0x1_0000_0000) as u32).cast_signed()).cast_unsigned()
-        }
+        SignExtension::WordTo64 => { i64::from(low_half(src).cast_signed()).cast_unsigned() }
     }
 }
 

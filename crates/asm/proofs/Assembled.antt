@@ -58,13 +58,13 @@ is_insn_line [] line rest is s fits e = head_line line (filter keeps rest) is fi
 is_insn_line (first ∷ front) line rest is s fits e =
     step_line first (front ++ line ∷ rest) line is (is_comment first) refl (λ is2 fits2 e2. is_insn_line front line rest is2 s fits2 e2) fits e
 
-flaw_of : (text : List ℕ) (f : LineFlaw) (n : ℕ) → IsFirstLineFlaw text f n → (p : List Insn) → IsProgram p → statements_in text ≡ map line_of p → ⊥
-flaw_of text f n h p program e =
-    flaw_no h.line f h.flawed (is_insn_line h.front h.line h.rest p h.statement program.fits (sym (ap (filter keeps) h.parts) ∙ e))
+pub no_flaw : (text : List ℕ) (f : LineFlaw) (n : ℕ) → IsFirstLineFlaw text f n → (is : List Insn) → AllByRecursion FitsInsn is → statements_in text ≡ map line_of is → ⊥
+no_flaw text f n h is fits e =
+    flaw_no h.line f h.flawed (is_insn_line h.front h.line h.rest is h.statement fits (sym (ap (filter keeps) h.parts) ∙ e))
 
 pub text_fault_only : (text : List ℕ) (f : AsmFault) → IsAsmTextFault text f → (p : List Insn) → IsProgram p → statements_in text ≡ map line_of p → f ≡ Memory
-text_fault_only text (BadLine n) h p program e = absurd (flaw_of text NoForm n h p program e)
-text_fault_only text (BadOperand n) h p program e = absurd (flaw_of text OutOfRange n h p program e)
+text_fault_only text (BadLine n) h p program e = absurd (no_flaw text NoForm n h p program.fits e)
+text_fault_only text (BadOperand n) h p program e = absurd (no_flaw text OutOfRange n h p program.fits e)
 text_fault_only text TooLong h p program e = absurd h
 text_fault_only text Empty h p program e = absurd h
 text_fault_only text Memory h p program e = refl

@@ -1,20 +1,19 @@
 -- A text has one fault.
 use Rattle.std.proofs.Common.{ℕ, ◌≡◌, ◌≢◌, ◌+◌, ◌<◌, false, List, [], ◌∷◌, ◌++◌, length, refl, sym, ap, subst, ◌∙◌, arith}
 use Rattle.std.specs.Prelude.{map}
-use Rattle.std.specs.List.{AllByRecursion, filter}
+use Rattle.std.specs.List.{AllByRecursion}
 use Rattle.bpf_model.specs.declared.insn.Insn.{Insn}
 use Rattle.bpf_model.specs.declared.limits.TheConstants.{MAX_SLOTS}
-use Rattle.bpf_model.specs.Spelling.{FitsInsn, slot_total}
+use Rattle.bpf_model.specs.Spelling.{slot_total}
 use Rattle.bpf_model.proofs.Lists.{cons-same, cons-nil}
 use Rattle.disasm.specs.Text.{line_of}
 use Rattle.asm.specs.Grammar.{IsFormedLine}
-use Rattle.asm.specs.Faults.{is_comment, statements_in, IsSoundLine, IsInsnLine, IsFirstLineFlaw, IsAsmFault}
+use Rattle.asm.specs.Faults.{is_comment, IsSoundLine, IsInsnLine, IsFirstLineFlaw, IsAsmFault}
 use Rattle.asm.specs.declared.fault.LineFlaw.{LineFlaw}
 use Rattle.asm.specs.declared.fault.LineFlaw.TheVariants.{NoForm, OutOfRange}
 use Rattle.asm.specs.declared.fault.AsmFault.{AsmFault}
 use Rattle.asm.specs.declared.fault.AsmFault.TheVariants.{BadLine, BadOperand, TooLong, Empty, Memory}
-use Rattle.asm.proofs.LinesRead.{keeps}
-use Rattle.asm.proofs.Assembled.{flaw_no, is_insn_line}
+use Rattle.asm.proofs.Assembled.{flaw_no, no_flaw}
 
 -- Of two faulty lines behind sound ones neither stands before the other.
 same_faulty_line : (front front2 : List (List ℕ)) (line line2 : List ℕ) (rest rest2 : List (List ℕ)) → (front ++ line ∷ rest) ≡ front2 ++ line2 ∷ rest2 → AllByRecursion IsSoundLine front → AllByRecursion IsSoundLine front2 → is_comment line ≡ false → is_comment line2 ≡ false → ¬ (IsInsnLine line) → ¬ (IsInsnLine line2) → (length front ≡ length front2) × (line ≡ line2)
@@ -38,10 +37,6 @@ no_both : (text : List ℕ) (n m : ℕ) → IsFirstLineFlaw text NoForm n → Is
 no_both text n m h k =
     let met : (n ≡ m) × (h.line ≡ k.line) = flaws_meet text NoForm OutOfRange n m h k in
     h.flawed (subst (λ (l : List ℕ). IsFormedLine l) (sym met.1) k.flawed.0)
-
-no_flaw : (text : List ℕ) (f : LineFlaw) (n : ℕ) → IsFirstLineFlaw text f n → (is : List Insn) → AllByRecursion FitsInsn is → statements_in text ≡ map line_of is → ⊥
-no_flaw text f n h is fits e =
-    flaw_no h.line f h.flawed (is_insn_line h.front h.line h.rest is h.statement fits (sym (ap (filter keeps) h.parts) ∙ e))
 
 none_long : (is : List Insn) → [] ≡ map line_of is → MAX_SLOTS < slot_total is → ⊥
 none_long [] e long = omega arith

@@ -6,6 +6,7 @@ use Rattle.std.specs.Prelude.{Option, Some, None, IfSome}
 use Rattle.std.specs.List.{find}
 use Rattle.std.specs.Str.{bytes_eq}
 use Rattle.std.proofs.lemmas.Bool.{false≢true}
+use Rattle.std.proofs.lemmas.List.{append_cancel_left}
 use Rattle.bpf_model.specs.declared.opcode.Size.TheVariants.{Word32, Word64}
 use Rattle.bpf_model.specs.declared.opcode.Width.TheVariants as width
 use Rattle.bpf_model.specs.declared.opcode.SignedWidth.TheVariants as signed_width
@@ -125,10 +126,6 @@ named_found name (Some m) e =
     let is : test m ≡ true = subst (λ (o : Option Mnemonic). IfSome o (λ x. test x ≡ true)) (sym e) passed in
     sym ((bytes_eq-Decides (mnemonic_text m) name).0 is)
 
-cancel : (front xs ys : List ℕ) → (front ++ xs) ≡ front ++ ys → xs ≡ ys
-cancel [] xs ys e = e
-cancel (b ∷ front) xs ys e = cancel front xs ys (cc)
-
 tested : (xs ys : List ℕ) (b : Bool) → Decides b (xs ≡ ys) → b ≡ bytes_eq xs ys
 tested xs ys b h = search (rules, bytes_eq-Decides)
 
@@ -136,7 +133,7 @@ pub name_goes_on : (stem suffix rest name : List ℕ) (b : Bool) → name ≡ st
 name_goes_on stem suffix rest name b parts e =
     tested (stem ++ suffix) name b (
       (λ yes. let same : rest ≡ suffix = (bytes_eq-Decides rest suffix).0 (sym e ∙ yes) in rw (sym same) (sym parts)),
-      (λ whole. e ∙ (bytes_eq-Decides rest suffix).1 (cancel stem rest suffix (sym parts ∙ sym whole))),
+      (λ whole. e ∙ (bytes_eq-Decides rest suffix).1 (append_cancel_left stem rest suffix (sym parts ∙ sym whole))),
     )
 
 pub name_differs : (stem suffix name : List ℕ) → ((rest : List ℕ) → name ≢ stem ++ rest) → false ≡ bytes_eq (stem ++ suffix) name

@@ -97,8 +97,8 @@ fn jump(arguments: &Arguments) -> Option<Insn>
     ensures only { IsOnlyInsn Mnemonic.Jump arguments.now result }
 {
     match arguments {
-        Arguments::One(target) => Some(Insn::Jump {
-            offset: offset(target)?,
+        Arguments::One(distance) => Some(Insn::Jump {
+            offset: offset(distance)?,
         }),
         _ => None,
     }
@@ -109,8 +109,8 @@ fn jump_long(arguments: &Arguments) -> Option<Insn>
     ensures only { IsOnlyInsn Mnemonic.JumpLong arguments.now result }
 {
     match arguments {
-        Arguments::One(target) => Some(Insn::JumpLong {
-            imm: long_offset(target)?,
+        Arguments::One(distance) => Some(Insn::JumpLong {
+            imm: long_offset(distance)?,
         }),
         _ => None,
     }
@@ -121,12 +121,12 @@ fn jump_if(condition: Condition, size: Size, arguments: &Arguments) -> Option<In
     ensures only { IsOnlyInsn (Mnemonic.JumpIf condition size) arguments.now result }
 {
     match arguments {
-        Arguments::Three(dst, src, target) => Some(Insn::JumpIf {
+        Arguments::Three(dst, src, distance) => Some(Insn::JumpIf {
             condition,
             size,
             dst: register(dst)?,
             src: source(src)?,
-            offset: offset(target)?,
+            offset: offset(distance)?,
         }),
         _ => None,
     }

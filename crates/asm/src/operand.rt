@@ -8,7 +8,7 @@ ghost use Rattle.disasm.specs.Text.{sign_of, magnitude as magnitude_of, number_a
 
 use crate::numeral::CAP;
 use disasm::{Argument, Sign};
-use insn_codec::{Operand, Reg, SignExtension, Size};
+use insn_codec::{Operand, Reg, SignExtension, Size, extension_of};
 
 /// The number of this sign and magnitude, where it has 32 bits. 0 has no minus.
 fn signed32(sign: Sign, magnitude: u128) -> Option<i32>
@@ -152,13 +152,5 @@ pub fn extension(size: Size, argument: &Argument) -> Option<SignExtension>
         extension_size x ≡ size → argument.now ≡ number_argument (extension_bits x) →
         result ≡ Some x }
 {
-    let bits = number(argument)?;
-    match (size, bits) {
-        (Size::Word32, 8) => Some(SignExtension::ByteTo32),
-        (Size::Word32, 16) => Some(SignExtension::ShortTo32),
-        (Size::Word64, 8) => Some(SignExtension::ByteTo64),
-        (Size::Word64, 16) => Some(SignExtension::ShortTo64),
-        (Size::Word64, 32) => Some(SignExtension::WordTo64),
-        _ => None,
-    }
+    extension_of(size, i16::try_from(number(argument)?).ok()?)
 }

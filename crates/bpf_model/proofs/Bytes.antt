@@ -5,7 +5,7 @@ use Rattle.std.proofs.lemmas.Bool.{le-leb, lt-leb}
 use borrow.Author.Tests.{lt-ltb, le-ltb}
 use Rattle.bpf_model.specs.Frame.{is_within}
 use Rattle.bpf_model.specs.MachineStep.{with_bytes}
-use Rattle.bpf_model.proofs.Lists.{length-set}
+use Rattle.std.proofs.lemmas.List.{length-set}
 
 pub within : (at width k : ℕ) → at ≤ k → k < at + width → is_within at width k ≡ true
 within at width k h l = ap (λ t. t && nat_lt k (at + width)) (le-leb at k h) ∙ lt-ltb k (at + width) l

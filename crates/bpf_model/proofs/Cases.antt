@@ -8,7 +8,7 @@ use Rattle.std.proofs.lemmas.Option.{none-some, slice_get_within, same_Some}
 use Rattle.std.specs.Prelude.{if◌then◌else◌, ◌==◌, drop}
 use Rattle.bpf_model.specs.Section.{Section}
 use Rattle.bpf_model.specs.Element.{Element, Unlinked}
-use Rattle.bpf_model.specs.Machine.{Loaded, Run, run_in}
+use Rattle.bpf_model.specs.Machine.{Loaded, Run}
 use Rattle.bpf_model.specs.Refines.{RunRefines, RunSlotRefines}
 use Rattle.bpf_model.specs.View.{RunView}
 use Rattle.bpf_model.specs.MapState.{Store}
@@ -32,10 +32,6 @@ same-pos a b h = cc
 
 pub same-since : (a b : List Section) → Unlinked a ≡ Unlinked b → a ≡ b
 same-since a b h = cc
-
-pub in-some : (o : Option Run) (x : Run) → run_in (Some o) ≡ Some x → o ≡ Some x
-in-some None x h = absurd (none-some x h)
-in-some (Some y) x h = h
 
 pub equal-is : (o : Ordering) → is_eq o ≡ true → o ≡ Equal
 equal-is Less h = absurd (false≢true h)

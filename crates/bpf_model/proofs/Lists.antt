@@ -3,9 +3,9 @@ use Rattle.std.proofs.Common.{◌≡◌, ◌≢◌, ℕ, zero, suc, ◌<◌, Lis
 use Rattle.std.proofs.lemmas.Option.{none-some, same_Some}
 use Rattle.std.proofs.lemmas.Slice.Zip.{AllZip-map}
 use Rattle.std.specs.List.{AllZip}
-use Rattle.std.specs.Prelude.{slice_get, slice_set, drop, take}
+use Rattle.std.specs.Prelude.{slice_get, slice_set, drop, take, replicate}
 use Rattle.std.proofs.lemmas.Bool.{cases_eq}
-use Rattle.std.proofs.lemmas.List.{map-append}
+use Rattle.std.proofs.lemmas.List.{map-append, map-id}
 
 pub cons-same : {A : Type 0} (x y : A) (xs ys : List A) → x ∷ xs ≡ y ∷ ys → (x ≡ y) × (xs ≡ ys)
 cons-same x y xs ys e = (cc, cc)
@@ -30,6 +30,12 @@ get-map f [] i x h = absurd (none-some x h)
 get-map f (y ∷ xs) zero x h = ap (λ z. Some (f z)) (same_Some y x h)
 get-map f (y ∷ xs) (suc i) x h = get-map f xs i x h
 
+-- a list of one value has no other
+pub get-replicate : {A : Type 0} (n k : ℕ) (x y : A) → slice_get (replicate n x) k ≡ Some y → y ≡ x
+get-replicate zero k x y h = absurd (none-some y h)
+get-replicate (suc n) zero x y h = sym (same_Some x y h)
+get-replicate (suc n) (suc k) x y h = get-replicate n k x y h
+
 pub get-append : {A : Type 0} (xs ys : List A) (i : ℕ) (x : A) → slice_get xs i ≡ Some x → slice_get (xs ++ ys) i ≡ Some x
 get-append [] ys i x h = absurd (none-some x h)
 get-append (y ∷ xs) ys zero x h = h
@@ -44,11 +50,6 @@ get-append_cases [] y zero z h = inr (refl, same_Some _ _ h)
 get-append_cases [] y (suc i) z h = inl h
 get-append_cases (x ∷ xs) y zero z h = inl h
 get-append_cases (x ∷ xs) y (suc i) z h = elim (get-append_cases xs y i z h) [ inl p ↦ inl p | inr p ↦ inr (ap suc p.0, p.1) ]
-
-pub length-set : {A : Type 0} (xs : List A) (i : ℕ) (y : A) → length (slice_set xs i y) ≡ length xs
-length-set [] i y = refl
-length-set (z ∷ xs) zero y = refl
-length-set (z ∷ xs) (suc i) y = ap suc (length-set xs i y)
 
 pub get-set_same : {A : Type 0} (xs : List A) (i : ℕ) (y : A) → i < length xs → slice_get (slice_set xs i y) i ≡ Some y
 get-set_same [] i y h = absurd (omega arith)
@@ -81,11 +82,6 @@ set-same [] i y h = refl
 set-same (z ∷ xs) zero y h = ap (λ w. w ∷ xs) (sym (same_Some _ _ h))
 set-same (z ∷ xs) (suc i) y h = ap (λ l. z ∷ l) (set-same xs i y h)
 
-pub map-set : {A B : Type 0} (f : A → B) (xs : List A) (i : ℕ) (y : A) → map f (slice_set xs i y) ≡ slice_set (map f xs) i (f y)
-map-set f [] i y = refl
-map-set f (x ∷ xs) zero y = refl
-map-set f (x ∷ xs) (suc i) y = ap (λ l. f x ∷ l) (map-set f xs i y)
-
 pub drop-next : {A : Type 0} (xs : List A) (i : ℕ) (x : A) → slice_get xs i ≡ Some x → drop i xs ≡ x ∷ drop (suc i) xs
 drop-next [] i x h = absurd (none-some x h)
 drop-next (y ∷ xs) zero x h = ap (λ z. z ∷ xs) (same_Some y x h)
@@ -105,13 +101,9 @@ map-take f g front xs n a b e at same =
     let next : suc n ≡ n + 1 = omega arith in
     map-next f g front (take n xs) a b e same ∙ (ap (map g) (sym (take-next xs n b at)) ∙ ap (λ k. map g (take k xs)) next)
 
-map-self : (xs : List ℕ) → map (λ x. x) xs ≡ xs
-map-self [] = refl
-map-self (x ∷ xs) = ap (λ l. x ∷ l) (map-self xs)
-
 -- A list of clones is the list.
 pub cloned : (xs ys : List ℕ) → AllZip (λ x y. y ≡ x) xs ys → ys ≡ xs
-cloned xs ys h = AllZip-map (λ x. x) xs ys h ∙ map-self xs
+cloned xs ys h = AllZip-map (λ x. x) xs ys h ∙ map-id xs
 
 -- two keys are one, or differ
 pub key_cases : (xs ys : List ℕ) → (xs ≡ ys) ⊎ (xs ≢ ys)

@@ -8,7 +8,8 @@ use Rattle.bpf_model.specs.declared.event.Answer.TheVariants.{Reaped}
 use Rattle.bpf_model.specs.Section.{Section}
 use Rattle.bpf_model.specs.Element.{Unlinked, Reclaimed, HasLife}
 use Rattle.bpf_model.specs.Machine.{Machine, open_sections}
-use Rattle.bpf_model.specs.Schedule.{Schedule, DoesScheduled, IsScheduledHistory, last_scheduled}
+use Rattle.bpf_model.specs.Schedule.{Schedule, DoesScheduled, IsScheduledHistory}
+use Rattle.bpf_model.specs.History.{last_of}
 
 -- Event k is an advance, and no section is open at it.
 pub record IsQuietAdvance (states : List Machine) (events : List Event) (k : ℕ) (m : Machine)
@@ -46,4 +47,4 @@ module _ {World : Type 0} where
   AreScheduledAnswers Tracks old events answers new =
       (s : Schedule) → Tracks old s →
       (states : List Schedule) × IsScheduledHistory s events answers states
-      × Drains (machines (s ∷ states)) events answers × Tracks new (last_scheduled s states)
+      × Drains (machines (s ∷ states)) events answers × Tracks new (last_of s states)

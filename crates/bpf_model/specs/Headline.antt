@@ -12,7 +12,7 @@ use Rattle.bpf_model.specs.Element.{Linked, Unlinked, Reclaimed, HasLife}
 use Rattle.bpf_model.specs.Machine.{Run, Machine, open_sections, run_at}
 use Rattle.bpf_model.specs.MachineStep.{NeverStuck}
 use Rattle.bpf_model.specs.Event.{DoesEvent}
-use Rattle.bpf_model.specs.History.{IsHistory, last_machine, AllStates}
+use Rattle.bpf_model.specs.History.{IsHistory, last_of, AllStates}
 
 -- one, where the run went on
 abbrev pub moved_once : Answer → ℕ
@@ -95,7 +95,7 @@ module _ {World : Type 0} where
   AreMachineAnswers Tracks old events answers new =
       (m : Machine) → Tracks old m →
       (states : List Machine) × IsHistory m events answers states
-      × Tracks new (last_machine m states)
+      × Tracks new (last_of m states)
 
   -- In every history of the machine with these answers, each run that hasn't ended has a step, in
   -- each state.

@@ -12,10 +12,10 @@ IsHistory m (event ∷ events) (answer ∷ answers) (next ∷ states) =
     DoesEvent m event answer next × IsHistory next events answers states
 IsHistory m events answers states = ⊥
 
--- the state that it ends in
-abbrev pub last_machine : Machine → List Machine → Machine
-last_machine m [] = m
-last_machine m (next ∷ states) = last_machine next states
+-- the last of some states, or the one before them where there is none
+abbrev pub last_of : {A : Type 0} → A → List A → A
+last_of a [] = a
+last_of a (next ∷ states) = last_of next states
 
 -- a fact holds of each of the states
 abbrev pub AllStates : (Machine → Type 0) → List Machine → Type 0

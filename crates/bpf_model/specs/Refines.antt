@@ -14,9 +14,10 @@ use Rattle.bpf_model.specs.MapState.{MapState, AreShapes, slots_of_shape, most_b
 use Rattle.bpf_model.specs.Machine.{Loaded, Run, Machine}
 use Rattle.bpf_model.specs.Event.{AreReal}
 use Rattle.bpf_model.specs.Schedule.{Queues, Schedule, open_flags, IsScheduledHistory}
-use Rattle.bpf_model.specs.Schedule.{last_scheduled, start_schedule}
+use Rattle.bpf_model.specs.Schedule.{start_schedule}
 use Rattle.bpf_model.specs.View.{SlotView, MapView, RunView, WorldView, map_state_of, shapes_of}
 use Rattle.bpf_model.specs.Word.{WordIs, ByteIs, element_bases}
+use Rattle.bpf_model.specs.History.{last_of}
 
 -- how often a number stands in a list
 abbrev pub times : ℕ → List ℕ → ℕ
@@ -123,7 +124,7 @@ pub record IsReachedSchedule (shapes : List MapShape) (programs : List Loaded) (
   pub states : List Schedule
   pub real : AreReal events
   pub history : IsScheduledHistory (start_schedule shapes programs) events answers states
-  pub last : last_scheduled (start_schedule shapes programs) states ≡ s
+  pub last : last_of (start_schedule shapes programs) states ≡ s
 
 -- The world tracks a state that it refines and that is reached from the start with its maps and
 -- programs. (Words alone don't tell a number from a reference, nor either from nothing: a world

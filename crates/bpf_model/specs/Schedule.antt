@@ -59,15 +59,18 @@ unlinked_between map n (old ∷ olds) (new ∷ news) =
     else unlinked_between map (suc n) olds news
 unlinked_between map n olds news = []
 
--- An unlinked element goes to the end of its map's list next; the first of these lists is that of
--- map k.
-abbrev pub retired : ℕ → List Element → List Element → List Queues → List Queues
-retired k old new [] = []
-retired k old new (q ∷ qs) = record {
+-- An unlinked element goes to the end of its map's list next: of the lists of map k, and of those of
+-- all maps, the first of which are map k's.
+abbrev pub retired_in : ℕ → List Element → List Element → Queues → Queues
+retired_in k old new q = record {
   next = q.next ++ unlinked_between k 0 old new;
   waiting = q.waiting;
   ready = q.ready;
-} ∷ retired (suc k) old new qs
+}
+
+abbrev pub retired : ℕ → List Element → List Element → List Queues → List Queues
+retired k old new [] = []
+retired k old new (q ∷ qs) = retired_in k old new q ∷ retired (suc k) old new qs
 
 -- A grace period ends and the next begins: those that waited are ready, and those unlinked
 -- meanwhile wait.
@@ -145,10 +148,6 @@ IsScheduledHistory s (event ∷ events) (answer ∷ answers) (next ∷ states) =
     DoesScheduled s event answer next
     × IsScheduledHistory next events answers states
 IsScheduledHistory s events answers states = ⊥
-
-abbrev pub last_scheduled : Schedule → List Schedule → Schedule
-last_scheduled s [] = s
-last_scheduled s (next ∷ states) = last_scheduled next states
 
 -- the start: nothing waits, and no run is awaited
 abbrev pub start_schedule : List MapShape → List Loaded → Schedule

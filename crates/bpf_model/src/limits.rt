@@ -20,6 +20,9 @@ pub const KEY_BYTES: usize = 64;
 /// The most bytes of a value.
 pub const VALUE_BYTES: usize = 256;
 
+/// How many bytes from the start of its region a reference may point, either way.
+pub const NEAR_LIMIT: u64 = 1 << 29;
+
 /// The most maps of a program's list, and of a registry.
 pub const MAX_MAPS: usize = 16;
 

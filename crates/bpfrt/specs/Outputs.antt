@@ -24,7 +24,7 @@ use Rattle.bpfrt.specs.declared.report.TheConstants.{MEMORY}
 -- what a file says whose code is the text of a program
 abbrev pub content_with : Source → FileContent
 content_with s =
-    record { context = s.ctx_len; registry = s.registry; code = text s.program }
+    record { ctx_len = s.ctx_len; registry = s.registry; code = text s.program }
 
 -- The file says this program, with these maps and this context.
 pub record IsSourceOf (bytes : List ℕ) (s : Source) : Type 0 where
@@ -37,7 +37,7 @@ pub record IsVerifiedFile (bytes : List ℕ) (program : List Insn) : Type 0 wher
   pub says : FileSays bytes content
   pub is : IsProgram program
   pub text_is : content.code ≡ text program
-  pub verified : IsVerified program (shapes_of_maps content.registry.maps) content.context
+  pub verified : IsVerified program (shapes_of_maps content.registry.maps) content.ctx_len
 
 -- The file says a program that is verified with its maps and context, of so many instructions
 -- and slots.

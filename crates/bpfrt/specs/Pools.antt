@@ -42,7 +42,7 @@ pub record ArePooled (bytes : List ℕ) (count : ℕ) (outcomes : List Outcome) 
   pub program : List Insn
   pub file : IsVerifiedFile bytes program
   pub number : length outcomes ≡ count
-  pub each : All (IsOutcomeOf program file.content.context) outcomes
+  pub each : All (IsOutcomeOf program file.content.ctx_len) outcomes
 
 -- what `pool` adds to the output
 abbrev pub WritesPool : ℕ → Option (List ℕ) → Option (List ℕ) → List ℕ → Type 0

@@ -142,7 +142,7 @@ fn grammar<'a>(alloc: Global) -> Result<clap::Command<'a>, AllocError> {
         .subcommand(pool_grammar(alloc)?)
 }
 
-/// The text without line ends behind it, and with U+FFFD for each other control character, which could come
+/// The text without white space behind it, and with U+FFFD for each other control character, which could come
 /// from a word and change what a terminal shows.
 fn shown(alloc: Global, text: &str) -> Result<String, AllocError> {
     let mut shown = String::new(alloc);

@@ -1,5 +1,5 @@
 -- Calls and tests for null in words of the laws.
-use Rattle.std.specs.Prelude.{◌≡◌, ℕ, ◌≤◌, ◌+◌, List, Option, Some, None, Result, Ok, Err, ℤ, pos}
+use Rattle.std.specs.Prelude.{◌≡◌, ℕ, List, Option, Some, None, Result, Ok, Err, ℤ}
 use Rattle.std.specs.Prelude.{Bool, if◌then◌else◌}
 use Rattle.bpf_model.specs.declared.limits.MapShape.{MapShape}
 use Rattle.bpf_model.specs.declared.insn.CallKind.{CallKind}
@@ -19,11 +19,7 @@ use Rattle.typed_runs.specs.Planned.{AreAlike}
 use Rattle.register_kinds.specs.declared.learn.Lesson.TheVariants.{IsNull, IsThere}
 use Rattle.register_kinds.specs.Changes.{learnt}
 use Rattle.register_kinds.specs.declared.state.AbsState.{AbsState}
-use Rattle.bpf_model.specs.declared.limits.TheConstants.{FRAME_BYTES}
-use Rattle.register_kinds.specs.declared.kind.RegKind.TheVariants.{Frame}
-use Rattle.register_kinds.specs.declared.kind.CellKind.TheVariants.{Byte}
-use Rattle.register_kinds.specs.States.{kind_in, state_of}
-use Rattle.kind_tests.specs.Tests.{AreAll}
+use Rattle.register_kinds.specs.States.{state_of}
 use Rattle.kind_tests.specs.Performs.{Performs}
 
 -- From each run that the old state describes the call has a step, and each leads to one that the
@@ -51,13 +47,6 @@ section_fault callee.Kernel imm inside = kernel_fault (kernel_function_of imm) i
 abbrev pub outcome_of : Option Fault → Result (Unit {0}) Fault
 outcome_of None = Ok tt
 outcome_of (Some e) = Err e
-
--- A register points to so many bytes of the frame, each a byte of a number.
-pub record PointsToBytes (a : AbsState) (r len : ℕ) : Type 0 where
-  pub at : ℕ
-  pub start : kind_in a.regs r ≡ Frame (pos at)
-  pub inside : at + len ≤ FRAME_BYTES
-  pub bytes : AreAll a.frame.cells at len Byte
 
 -- After the call r0 may be null, or an element of the map, by an identity; r1 to r5 hold nothing.
 pub record FindsIn (map : ℕ) (a b : AbsState) : Type 0 where

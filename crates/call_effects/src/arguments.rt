@@ -4,7 +4,6 @@ ghost use Rattle.bpf_model.specs.declared.limits.TheConstants.{FRAME_BYTES};
 ghost use Rattle.typed_runs.specs.Effects.{HasBytes, HasMap};
 ghost use Rattle.bpf_model.specs.declared.limits.MapShape.{MapShape};
 ghost use Rattle.register_kinds.specs.States.{kind_in, state_of};
-ghost use Rattle.call_effects.specs.Calls.{PointsToBytes};
 
 use bpf_model::{FRAME_BYTES, MapShape, Reg};
 use kind_tests::{Fault, check_bytes, frame_argument, map_argument};
@@ -30,7 +29,7 @@ fn frame_start(offset: i32, len: usize) -> Result<usize, Fault>
 /// is read, then `WrongArgument`, `OutOfBounds`, and those of the bytes.
 pub(crate) fn check_bytes_argument(state: &AbsState, r: Reg, len: usize) -> Result<(), Fault>
     ensures bytes { OnOk result (HasBytes (state_of state.now) r len) }
-    ensures accepts { PointsToBytes state.now r len → IsOk result }
+    ensures accepts { HasBytes (state_of state.now) r len → IsOk result }
 {
     let offset = frame_argument(state, r)?;
     let at = frame_start(offset, len)?;

@@ -5,9 +5,9 @@ ghost use Rattle.bpf_model.specs.declared.limits.MapShape.{MapShape};
 ghost use Rattle.scalar_domain.specs.declared.scalar.Scalar.{Scalar};
 ghost use Rattle.register_kinds.specs.States.{kind_in, state_of};
 ghost use Rattle.register_kinds.specs.Pairs.{AreBelow, TakesFew};
-ghost use Rattle.typed_runs.specs.Effects.{after_lock, after_unlock};
+ghost use Rattle.typed_runs.specs.Effects.{HasBytes, after_lock, after_unlock};
 ghost use Rattle.typed_runs.specs.Planned.{AreAlike};
-ghost use Rattle.call_effects.specs.Calls.{PerformsCall, PointsToBytes, FindsIn, helper_fault, kernel_fault, section_fault, outcome_of, Called};
+ghost use Rattle.call_effects.specs.Calls.{PerformsCall, FindsIn, helper_fault, kernel_fault, section_fault, outcome_of, Called};
 
 use crate::arguments::{called_map, check_bytes_argument};
 use bpf_model::{CallKind, Helper, KernelFunction, MapShape, Reg};
@@ -74,7 +74,7 @@ fn lookup(state: &mut AbsState, shapes: &[MapShape], ids: &mut Identities) -> Re
         ≡ Err e) }
     ensures accepts { (map : ℕ) (shape : MapShape) → state.old.inside ≡ true
         → kind_in state.old.regs 1 ≡ RegKind.Map map
-        → slice_get shapes.now map ≡ Some shape → PointsToBytes state.old 2 shape.key_len
+        → slice_get shapes.now map ≡ Some shape → HasBytes (state_of state.old) 2 shape.key_len
         → IsOk result }
     ensures finds { OnOk result ((map : ℕ) → kind_in state.old.regs 1 ≡ RegKind.Map map
         → FindsIn map state.old state.new) }
@@ -97,7 +97,7 @@ fn update(state: &mut AbsState, shapes: &[MapShape]) -> Result<(), Fault>
         → PerformsCall CallKind.Helper imm shapes.now state.old state.new) }
     ensures accepts { (map : ℕ) (shape : MapShape) (q : Scalar)
         → kind_in state.old.regs 1 ≡ RegKind.Map map → slice_get shapes.now map ≡ Some shape
-        → PointsToBytes state.old 2 shape.key_len → PointsToBytes state.old 3 shape.value_len
+        → HasBytes (state_of state.old) 2 shape.key_len → HasBytes (state_of state.old) 3 shape.value_len
         → kind_in state.old.regs 4 ≡ RegKind.Num q → IsOk result }
     ensures below { (top : ℕ) → AreBelow top state.old → AreBelow top state.new }
     ensures unchanged { OnErr result (state.new ≡ state.old) }
@@ -115,7 +115,7 @@ fn delete(state: &mut AbsState, shapes: &[MapShape]) -> Result<(), Fault>
     ensures sound { OnOk result ((imm : ℤ) → helper_of imm ≡ Some Helper.Delete
         → PerformsCall CallKind.Helper imm shapes.now state.old state.new) }
     ensures accepts { (map : ℕ) (shape : MapShape) → kind_in state.old.regs 1 ≡ RegKind.Map map
-        → slice_get shapes.now map ≡ Some shape → PointsToBytes state.old 2 shape.key_len
+        → slice_get shapes.now map ≡ Some shape → HasBytes (state_of state.old) 2 shape.key_len
         → IsOk result }
     ensures below { (top : ℕ) → AreBelow top state.old → AreBelow top state.new }
     ensures unchanged { OnErr result (state.new ≡ state.old) }
@@ -156,7 +156,7 @@ fn call_helper(
     ensures first { IfSome (helper_fault (helper_of imm) state.old.inside) (λ e. result ≡ Err e) }
     ensures accepts_lookup { (map : ℕ) (shape : MapShape) → helper_of imm ≡ Some Helper.Lookup
         → state.old.inside ≡ true → kind_in state.old.regs 1 ≡ RegKind.Map map
-        → slice_get shapes.now map ≡ Some shape → PointsToBytes state.old 2 shape.key_len
+        → slice_get shapes.now map ≡ Some shape → HasBytes (state_of state.old) 2 shape.key_len
         → IsOk result }
     ensures finds { OnOk result ((map : ℕ) → helper_of imm ≡ Some Helper.Lookup
         → kind_in state.old.regs 1 ≡ RegKind.Map map → FindsIn map state.old state.new) }
@@ -195,7 +195,7 @@ pub fn call(
     ensures accepts_lookup { (map : ℕ) (shape : MapShape) → kind ≡ CallKind.Helper
         → helper_of imm ≡ Some Helper.Lookup
         → state.old.inside ≡ true → kind_in state.old.regs 1 ≡ RegKind.Map map
-        → slice_get shapes.now map ≡ Some shape → PointsToBytes state.old 2 shape.key_len
+        → slice_get shapes.now map ≡ Some shape → HasBytes (state_of state.old) 2 shape.key_len
         → IsOk result }
 
     // A lookup leaves in r0 what may be null or an element of the map; a lock opens a section, an

@@ -2,7 +2,7 @@
 use Rattle.std.proofs.Common.{◌≡◌, ℕ, ◌+◌, ◌^◌, ◌<◌, ◌≤◌, List, length, Some, None, inl, refl, sym, ap, subst, ◌∙◌, ℤ, pos, arith, true, false}
 use Rattle.std.specs.Prelude.{◌+ℤ◌, if◌then◌else◌}
 use Rattle.std.proofs.lemmas.Int.{ints}
-use Rattle.std.proofs.lemmas.Bool.{lt-ltb, ne_eqb}
+use Rattle.std.proofs.lemmas.Bool.{lt-ltb}
 use Rattle.bpf_model.specs.declared.limits.MapShape.{MapShape}
 use Rattle.bpf_model.specs.declared.value.Value.{Value}
 use Rattle.bpf_model.specs.declared.value.Value.TheVariants.{Number, Pointer}
@@ -35,8 +35,9 @@ use Rattle.typed_runs.specs.Planned.{AreAlike}
 use Rattle.typed_runs.proofs.Sets.{set-described}
 use Rattle.typed_runs.proofs.Arguments.{reg-is}
 use Rattle.typed_runs.proofs.Local.{alone_transfers}
+use Rattle.typed_runs.proofs.Elements.{set-is}
 use Rattle.scalar_domain.proofs.Bits.{ap2}
-use Rattle.typed_runs.proofs.Planning.{alike_wider, transfers_wider}
+use Rattle.typed_runs.proofs.Planning.{to_alike}
 use Rattle.register_kinds.specs.declared.kind.RegKind.{RegKind}
 use Rattle.register_kinds.specs.declared.kind.RegKind.TheVariants as kinds
 use Rattle.register_kinds.specs.declared.state.AbsState.{AbsState as StateHere}
@@ -123,17 +124,14 @@ pub record Sets (i : Insn) (ctx_len maps : ℕ) (dst : ℕ) (a : AbsState) (k : 
   pub nothing : (es fs : List Element) (m : State) (out : Outcome) → AccessesElement i es m out fs → ⊥
   pub value : (c : Scene) (env : Environment) (m : State) → IsEnvironment ctx_len maps env → (d : Describes a c m) → (v : Value) × (after i env m ≡ sets (slot_count i) dst v m) × IsOf c d.naming k v × IsNear v
 
-set-wide : (slots dst : ℕ) (v : Value) (m : State) → (10 ≡ dst → ⊥) → sets slots dst v m ≡ Some (Goes (record { regs = put dst v m.regs; frame = m.frame; place = m.place + slots }))
-set-wide slots dst v m ne = ap (λ b. if b then None else Some (Goes (record { regs = put dst v m.regs; frame = m.frame; place = m.place + slots }))) (ne_eqb dst 10 (λ e. ne (sym e)))
-
 pub sets_transfers : (i : Insn) (shapes : List MapShape) (ctx_len dst : ℕ) (a b : StateHere) (k : Kind) → Sets i ctx_len (length shapes) dst (state_of a) k → (10 ≡ dst → ⊥) → AreAlike (with_kind dst k (state_of a)) (state_of b)
     → Transfers i shapes ctx_len (state_of a) (state_of b) None
 sets_transfers i shapes ctx_len dst a b k s ne alike =
-    transfers_wider i shapes ctx_len (state_of a) (state_of a) (with_kind dst k (state_of a)) (state_of b) None None (λ c m d. d) (alike_wider _ _ alike) (alike_wider _ _ alike)
+    to_alike i shapes ctx_len (state_of a) (with_kind dst k (state_of a)) (state_of b) alike
     (alone_transfers i shapes ctx_len (state_of a) (with_kind dst k (state_of a)) None s.no_call (λ c env m e d.
     let x = s.value c env m e d in record {
       out = Goes (record { regs = put dst x.0 m.regs; frame = m.frame; place = m.place + slot_count i });
-      after_is = x.1 ∙ set-wide (slot_count i) dst x.0 m ne;
+      after_is = x.1 ∙ set-is (slot_count i) dst x.0 m ne;
       alone = λ es fs other h. s.nothing es fs m other h;
       lands = inl (s.falls_on, refl, set-described (state_of a) c m dst (m.place + slot_count i) k x.0 d x.2 x.3);
     }))

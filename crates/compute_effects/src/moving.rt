@@ -6,14 +6,10 @@ ghost use Rattle.scalar_domain.specs.Scalar.{Holds, IsConstant};
 ghost use Rattle.typed_runs.specs.Describes.{HasOffset};
 ghost use Rattle.compute_effects.specs.Computes.{MovesOffsets, IsNearStep, signed_move, shifted_word};
 
-use bpf_model::{AluOp, Size};
+use bpf_model::{AluOp, NEAR_LIMIT, Size};
 use kind_tests::Fault;
 use register_kinds::ORIGIN;
 use scalar_domain::Scalar;
-
-/// How far a reference may be moved at once, and how far from the start of its region it may point,
-/// either way.
-const NEAR_LIMIT: u64 = 1 << 29;
 
 /// Which way a reference is moved: by a sum, or by a difference.
 #[derive(Clone, Copy, Debug, PartialEq, Eq)]
@@ -22,7 +18,8 @@ pub(crate) enum Way {
     Back,
 }
 
-/// Each of the numbers, read as a signed one, lies within the limit, and all have one sign.
+/// Each of the numbers, read as a signed one, lies within the limit, so far as a reference may be moved at
+/// once, and all have one sign.
 fn check_step(by: Scalar) -> Result<(), Fault>
     ensures steps { OnOk result ((n : ℕ) → Holds by n → IsNearStep n) }
     ensures accepts { (n : ℕ) → IsConstant by n → IsNearStep n → IsOk result }

@@ -21,8 +21,9 @@ use Rattle.control.specs.Sessions.{AnswersCommand, LineAnswers, RepliesOnce, Ses
 use Rattle.control.specs.declared.session.Session.{Session}
 use Rattle.control.specs.declared.session.Session.TheVariants as sessions
 
-abbrev pub says_something : Session → List ℕ → List ℕ → Session → Type 0
-says_something old line text new = (events : List Event) × LineAnswers old line events text new
+-- the line is answered with this text, by whatever events
+abbrev pub IsAnswered : Session → List ℕ → List ℕ → Session → Type 0
+IsAnswered old line text new = (events : List Event) × LineAnswers old line events text new
 
 -- what is made after a line, and that all events are one history
 abbrev Onward : SetupView → List Event → Session → Type 0
@@ -84,13 +85,13 @@ says_runs made before events (Err bad) old text new r a = absurd a
 abbrev pub history : Session → SetupView → List Event → History
 history session made events = record { session = session; made = made; events = events }
 
-pub histories : (old : Session) (made : SetupView) (before : List Event) (lines : List (List ℕ)) (text : List ℕ) (new : Session) → RunsTo made before old → Answered says_something old lines text new → (last : SetupView) × (events : List Event) × Answered Continues (history old made before) lines text (history new last events)
+pub histories : (old : Session) (made : SetupView) (before : List Event) (lines : List (List ℕ)) (text : List ℕ) (new : Session) → RunsTo made before old → Answered IsAnswered old lines text new → (last : SetupView) × (events : List Event) × Answered Continues (history old made before) lines text (history new last events)
 histories old made before [] text new r (t, n) = (made, before, (t, λ i. history (n i) made before))
 histories old made before (line ∷ lines) text new r (first, rest, mid, (events, a), more, e) =
     let there = says_runs made before events (line_says line) old first mid r a in
     let later = histories mid there.0 (before ++ events) lines rest new there.2 more in
     (later.0, later.1, (first, rest, history mid there.0 (before ++ events), (events, a, refl, there.1, there.2), later.2, e))
 
-pub fails_at : (is_bad : List ℕ → Type 0) (old : Session) (made : SetupView) (past : List Event) (read written : List ℕ) (fault : ScriptFault) → RunsTo made past old → FailsWith says_something is_bad old read written fault → FailsWith Continues is_bad (history old made past) read written fault
+pub fails_at : (is_bad : List ℕ → Type 0) (old : Session) (made : SetupView) (past : List Event) (read written : List ℕ) (fault : ScriptFault) → RunsTo made past old → FailsWith IsAnswered is_bad old read written fault → FailsWith Continues is_bad (history old made past) read written fault
 fails_at is_bad old made past read written fault r f =
-    fails_by says_something Continues is_bad old (history old made past) read written fault (λ lines text new a. let all = histories old made past lines text new r a in (history new all.0 all.1, all.2)) f
+    fails_by IsAnswered Continues is_bad old (history old made past) read written fault (λ lines text new a. let all = histories old made past lines text new r a in (history new all.0 all.1, all.2)) f

@@ -6,10 +6,11 @@ use Rattle.std.proofs.lemmas.List.{append-nil}
 use Rattle.deferred_free.specs.Frame.{line_agree}
 use Rattle.bpf_model.proofs.Cases.{option_cases}
 use Rattle.bpf_model.specs.Schedule.{Queues, turned}
-use Rattle.element_arena.specs.State.{ArenaState, IsTaken, LinksOf, link_at, link_in, times_in, with_link}
+use Rattle.element_arena.specs.State.{ArenaState, IsTaken, LinksOf, link_at, times_in, with_link}
 use Rattle.deferred_free.specs.Queued.{queued, retired_lists, reaped_lists}
 use Rattle.element_arena.specs.Threads.{IsThread, last_slot_of}
 use Rattle.element_arena.proofs.Counts.{one_cases, one_same, times-append}
+use Rattle.element_arena.proofs.Views.{taken_same}
 use Rattle.element_arena.proofs.Threading.{thread-join, thread-some, last-none, last-held, last-append, left-last}
 use Rattle.deferred_free.specs.declared.threaded.Line.{Line}
 use Rattle.deferred_free.specs.declared.threaded.Threaded.{Threaded}
@@ -17,6 +18,7 @@ use Rattle.deferred_free.specs.Lines.{AreLinksJoined, joined_lines, joined_to, j
 use Rattle.element_arena.specs.Kept.{last_left}
 use Rattle.deferred_free.specs.Fits.{threaded_lists, IsLine, FitsAs, ThreadedFits}
 use Rattle.bpf_model.proofs.Lists.{get-set_other}
+use Rattle.std.specs.Option.{option_flatten}
 
 pub line_join : (f g : ℕ → Option ℕ) (front back : Line) (xs ys : List ℕ) → IsLine f front xs → IsLine g back ys → ((j : ℕ) → times_in j xs ≤ 1) →
     ((l : ℕ) → front.last ≡ Some l → g l ≡ back.first) → ((j : ℕ) → front.last ≢ Some j → g j ≡ f j) → IsLine g (joined_lines front back) (xs ++ ys)
@@ -39,12 +41,6 @@ line_join f g front back xs ys t u once at others = elim (option_cases front.las
       ])
 ]
 
--- an arena that is another but for its links has the same slots taken
-pub taken_same : (a b : ArenaState) (j : ℕ) → b ≡ record a { links = b.links } → IsTaken a j → IsTaken b j
-taken_same a b j e t =
-    let c : IsTaken (record a { links = b.links }) j = record { inside = t.inside; not_free = t.not_free; not_worn = t.not_worn } in
-    subst (λ z. IsTaken z j) (sym e) c
-
 -- the last slot of a list is one of its slots
 last_in : (f : ℕ → Option ℕ) (l : Line) (xs : List ℕ) (j : ℕ) → IsLine f l xs → l.last ≡ Some j → 0 < times_in j xs
 last_in f l xs j t e = last-held xs j (sym t.ends ∙ e)
@@ -55,7 +51,7 @@ retired_fits x a m b slot f t apart e1 l1 j1 =
     let q : Queues = threaded_lists x a in
     let not_slot : (j : ℕ) → 0 < queued (threaded_lists x a) j → j ≢ slot = λ j h y. let h' : 0 < queued (threaded_lists x a) slot = subst (λ z. 0 < queued (threaded_lists x a) z) y h in absurd (omega arith) in
     let in_next : (j : ℕ) → x.next.last ≡ Some j → 0 < times_in j (threaded_lists x a).next = λ j h. last_in (link_at a.links) x.next (threaded_lists x a).next j f.next h in
-    let m_other : (j : ℕ) → j ≢ slot → link_at m.links j ≡ link_at a.links j = λ j n. ap (λ (z : ArenaState). link_at z.links j) e1 ∙ ap link_in (get-set_other a.links slot j None n) in
+    let m_other : (j : ℕ) → j ≢ slot → link_at m.links j ≡ link_at a.links j = λ j n. ap (λ (z : ArenaState). link_at z.links j) e1 ∙ ap option_flatten (get-set_other a.links slot j None n) in
     let b_other : (j : ℕ) → j ≢ slot → x.next.last ≢ Some j → link_at b.links j ≡ link_at a.links j = λ j n k. j1.others j k ∙ m_other j n in
     let last_not : x.next.last ≢ Some slot = λ y. let h : 0 < times_in slot (threaded_lists x a).next = in_next slot y in absurd (omega arith) in
     let rest : b ≡ record a { links = b.links } = j1.rest ∙ (let ls : List (Option ℕ) = b.links in ap (λ (z : ArenaState). let r : ArenaState = record z { links = b.links } in r) e1) in

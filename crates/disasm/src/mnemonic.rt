@@ -17,7 +17,7 @@ pub enum Mnemonic {
     LoadMap,
     /// `ja`
     Jump,
-    /// `ja32`: the jump whose offset stands in imm.
+    /// `ja32`: the jump of class JMP32, whose distance stands in imm.
     JumpLong,
     JumpIf(Condition, Size),
     Call(CallKind),

@@ -172,14 +172,14 @@ fn arguments_for(insn: &Insn) -> Arguments
             Argument::Number(u128::from(*number)),
         ),
         Insn::LoadMap { dst, map } => Arguments::Two(register(*dst), number(*map)),
-        Insn::Jump { offset: target } => Arguments::One(offset(i32::from(*target))),
+        Insn::Jump { offset: distance } => Arguments::One(offset(i32::from(*distance))),
         Insn::JumpLong { imm } => Arguments::One(offset(*imm)),
         Insn::JumpIf {
             dst,
             src,
-            offset: target,
+            offset: distance,
             ..
-        } => Arguments::Three(register(*dst), source(src), offset(i32::from(*target))),
+        } => Arguments::Three(register(*dst), source(src), offset(i32::from(*distance))),
         Insn::Call { imm, .. } => Arguments::One(number(*imm)),
         Insn::Exit => Arguments::Zero,
         Insn::Load {

@@ -13,7 +13,7 @@ use Rattle.element_arena.proofs.Keeps.{IsHeld, kept_from, taken_at, wear, free_a
 use Rattle.element_arena.proofs.Threading.{last-held}
 use Rattle.element_arena.proofs.Views.{wear_view, free_view, behind_view, last_use_is}
 use Rattle.element_arena.proofs.Slots.{held_from, state-is, shown-same, shown-behind, shown-uses, laid-out}
-use Rattle.bpf_model.proofs.Lists.{length-set}
+use Rattle.std.proofs.lemmas.List.{length-set}
 
 -- what is told of the slot
 abbrev pub answer : Bool → Given

@@ -1,28 +1,16 @@
 -- The finite map of an index, whatever the order of its slots.
-use Rattle.std.proofs.Common.{◌≡◌, ◌≢◌, ◌∙◌, ℕ, ◌+◌, ◌<◌, ◌≤◌, List, [], ◌∷◌, Some, None, inl, inr, refl, sym, ap, arith, cond, eqb, Bool, true, false, subst}
-use Rattle.std.proofs.lemmas.Bool.{cond-true, cond-false, eqb-true, eqb-false, false_from_ne_true, false≢true, cases_Bool}
+use Rattle.std.proofs.Common.{◌≡◌, ◌≢◌, ◌∙◌, ℕ, ◌+◌, ◌<◌, ◌≤◌, List, [], ◌∷◌, Some, None, inl, inr, refl, sym, ap, arith, cond, eqb, subst}
+use Rattle.std.proofs.lemmas.Bool.{cond-true, cond-false, eqb-true, eqb-false, false_from_ne_true, cases_Bool}
 use Rattle.std.proofs.lemmas.Option.{none-some, same_Some}
 use Rattle.std.proofs.lemmas.Cmp.{nat_list_cmp_total}
-use Rattle.std.specs.Cmp.Lexicographic.{slice_cmp, texts_ties, bytes_decides}
-use Rattle.std.specs.Ordering.{nat_cmp, eq_by_cmp}
+use Rattle.std.specs.Cmp.Lexicographic.{slice_cmp}
+use Rattle.std.specs.Ordering.{nat_cmp}
 use Rattle.std.specs.FinMap as map
 use Rattle.std.specs.FinMap.{FinMap, get, insert, remove, get-insert, get-remove, get-from_entries, same_map, slice_cmp-IsAntisymmetric, nat_cmp-IsAntisymmetric}
 use Rattle.bpf_model.proofs.Cases.{option_cases}
+use Rattle.bpf_model.proofs.Keys.{same_key, same_key-true, same_key-false}
 use Rattle.element_arena.specs.State.{times_in, is_at, entries_of, contents_of, slot_of}
 use Rattle.element_arena.proofs.Counts.{one_cases, one_same, one_other, times_first}
-
--- whether two keys are one
-abbrev pub same_key : List ℕ → List ℕ → Bool
-same_key a b = eq_by_cmp (slice_cmp nat_cmp) a b
-
-pub same_key-true : (a b : List ℕ) → same_key a b ≡ true → a ≡ b
-same_key-true a b h = (bytes_decides a b).0 (texts_ties a b ∙ h)
-
-pub same-same_key : (a b : List ℕ) → a ≡ b → same_key a b ≡ true
-same-same_key a b e = sym (texts_ties a b) ∙ (bytes_decides a b).1 e
-
-pub same_key-false : (a b : List ℕ) → same_key a b ≡ false → a ≢ b
-same_key-false a b h e = false≢true (sym h ∙ same-same_key a b e)
 
 pub get_at-insert : (m : FinMap (slice_cmp nat_cmp) ℕ) (k : List ℕ) (v : ℕ) (q : List ℕ) → get (insert m k v) q ≡ cond (same_key q k) (Some v) (get m q)
 get_at-insert m k v q = get-insert nat_list_cmp_total m k v q

@@ -10,8 +10,9 @@ use Rattle.element_arena.proofs.Threading.{walk-thread, thread-agree, thread-som
 use Rattle.element_arena.specs.declared.cell.Standing.{Standing}
 use Rattle.element_arena.specs.declared.cell.Standing.TheVariants.{Free, Taken, Worn}
 use Rattle.element_arena.specs.declared.cell.SlotCell.{SlotCell}
-use Rattle.element_arena.specs.Kept.{is_worn, free_count, taken_count, raw, raw_of, free_of, IsThreaded, AreCellsKept, last_left, first_with, relinked, linked_behind}
-use Rattle.bpf_model.proofs.Lists.{get-below, get-map, get-set_cases, get-set_other, get-set_same, length-set}
+use Rattle.element_arena.specs.Kept.{is_worn, free_count, taken_count, raw, raw_of, free_of, given_cell, IsThreaded, AreCellsKept, last_left, first_with, relinked, linked_behind}
+use Rattle.std.proofs.lemmas.List.{length-set}
+use Rattle.bpf_model.proofs.Lists.{get-below, get-map, get-set_cases, get-set_other, get-set_same}
 
 pub free-is : (cells : List SlotCell) (first last : Option ℕ) (limit : ℕ) (ys : List ℕ) → IsThreaded cells first last limit ys → free_of cells first ≡ ys
 free-is cells first last limit ys t = walk-thread (raw cells) first ys (length cells) t.thread (length_once (length cells) ys t.once t.inside)
@@ -220,22 +221,22 @@ module _ (cells : List SlotCell) (first last : Option ℕ) (limit : ℕ) where
       stays i c (record c { link = to }) k s.1 at f (omega arith) (k.given i c at)
 
   pub wear : (i : ℕ) (c : SlotCell) → AreCellsKept cells first last limit → IsHeld cells first i → slice_get cells i ≡ Some c →
-      IsThreaded (slice_set cells i (record { uses = c.uses; generation = c.generation + 1; standing = Worn; link = None })) first last limit (free_of cells first)
+      IsThreaded (slice_set cells i (given_cell c Worn)) first last limit (free_of cells first)
   wear i c k t at =
       let s = taken_at i c k t at in
       let f : free_count c.standing ≡ 0 = ap free_count s.0 in
       let g : taken_count c.standing ≡ 1 = ap taken_count s.0 in
       let u : c.uses + free_count c.standing ≤ limit = k.used i c at in
       let v : c.generation + taken_count c.standing ≤ c.uses = k.given i c at in
-      stays i c (record { uses = c.uses; generation = c.generation + 1; standing = Worn; link = None }) k s.1 at refl (omega arith) (omega arith)
+      stays i c (given_cell c Worn) k s.1 at refl (omega arith) (omega arith)
 
   pub free_again : (i : ℕ) (c : SlotCell) → AreCellsKept cells first last limit → IsHeld cells first i → slice_get cells i ≡ Some c → c.uses ≢ limit →
-      IsThreaded (linked_behind (slice_set cells i (record { uses = c.uses; generation = c.generation + 1; standing = Free; link = None })) last i) (first_with first last i) (Some i) limit (free_of cells first ++ i ∷ [])
+      IsThreaded (linked_behind (slice_set cells i (given_cell c Free)) last i) (first_with first last i) (Some i) limit (free_of cells first ++ i ∷ [])
   free_again i c k t at ne =
       let s = taken_at i c k t at in
       let f : free_count c.standing ≡ 0 = ap free_count s.0 in
       let u : c.uses + free_count c.standing ≤ limit = k.used i c at in
-      gave i c (record { uses = c.uses; generation = c.generation + 1; standing = Free; link = None }) k s.1 at refl (omega arith) refl s.0 refl refl
+      gave i c (given_cell c Free) k s.1 at refl (omega arith) refl s.0 refl refl
 
   -- the last free slot is free
   pub last_free : (i l : ℕ) (b d : SlotCell) → AreCellsKept cells first last limit → times_in i (free_of cells first) ≡ 0 → last ≡ Some l → slice_get (slice_set cells i d) l ≡ Some b → (b.standing ≡ Free) × (l < length cells)

@@ -1,22 +1,18 @@
 -- How the state shows what is done to one cell.
-use Rattle.std.proofs.Common.{◌≡◌, ◌∙◌, ℕ, zero, suc, ◌+◌, List, [], ◌∷◌, ◌++◌, Option, Some, None, refl, sym, ap, eqb, Bool, true, false, map}
+use Rattle.std.proofs.Common.{◌≡◌, ◌∙◌, ℕ, ◌+◌, List, [], ◌∷◌, ◌++◌, Option, Some, None, refl, sym, ap, subst, eqb, Bool, true, false, map}
 use Rattle.std.specs.Prelude.{slice_get, slice_set, slice_index}
-use Rattle.std.proofs.lemmas.Option.{none-some, same_Some}
+use Rattle.std.proofs.lemmas.Option.{get_or_from_slice_get}
 use Rattle.std.proofs.lemmas.Bool.{cond-true, cond-false}
 use Rattle.bpf_model.specs.View.{SlotView, uses_at}
-use Rattle.element_arena.specs.State.{ArenaState, with_link, taken, given_back, is_last_use}
+use Rattle.element_arena.specs.State.{ArenaState, IsTaken, with_link, taken, given_back, is_last_use}
 use Rattle.element_arena.specs.declared.cell.SlotCell.{SlotCell}
 use Rattle.element_arena.specs.declared.cell.Standing.TheVariants.{Free, Taken, Worn}
-use Rattle.element_arena.specs.Kept.{link_view, shown_link, is_worn, state_with, relinked, linked_behind}
-use Rattle.bpf_model.proofs.Lists.{get-map, map-set, set-same}
+use Rattle.element_arena.specs.Kept.{given_cell, link_view, shown_link, is_worn, state_with, relinked, linked_behind}
+use Rattle.std.proofs.lemmas.List.{map-set}
+use Rattle.bpf_model.proofs.Lists.{get-map, set-same}
 
 pub map-set_same : {A B : Type 0} (f : A → B) (xs : List A) (i : ℕ) (x y : A) → slice_get xs i ≡ Some x → f y ≡ f x → map f (slice_set xs i y) ≡ map f xs
 map-set_same f xs i x y h e = map-set f xs i y ∙ set-same (map f xs) i (f y) (get-map f xs i x h ∙ ap (λ z. Some z) (sym e))
-
-pub index-get : (xs : List ℕ) (i x : ℕ) → slice_get xs i ≡ Some x → slice_index xs i ≡ x
-index-get [] i x h = absurd (none-some x h)
-index-get (y ∷ xs) zero x h = same_Some y x h
-index-get (y ∷ xs) (suc i) x h = index-get xs i x h
 
 pub same_state : (s s' : List SlotView) (f f' : List ℕ) (w w' : List Bool) (l l' : List (Option ℕ)) (g g' : List ℕ) (kl vl n : ℕ) → s ≡ s' → f ≡ f' → w ≡ w' → l ≡ l' → g ≡ g' →
     let a : ArenaState = record { slots = s; free = f; worn = w; links = l; generations = g; key_len = kl; value_len = vl; limit = n } in
@@ -48,14 +44,14 @@ module _ (slots : List SlotView) (cells : List SlotCell) (kl vl limit i : ℕ) (
       (map-set_same (λ (z : SlotCell). z.generation) cells i c _ at refl)
 
   generation_is : slice_index (map (λ (z : SlotCell). z.generation) cells) i ≡ c.generation
-  generation_is = index-get _ i c.generation (get-map (λ (z : SlotCell). z.generation) cells i c at)
+  generation_is = get_or_from_slice_get _ i c.generation 0 (get-map (λ (z : SlotCell). z.generation) cells i c at)
 
   pub last_use_is : (free : List ℕ) (b : Bool) → uses_at slots i ≡ c.uses → eqb c.uses limit ≡ b → is_last_use (state_with slots cells free kl vl limit) i ≡ b
   last_use_is free b u e = ap (λ n. eqb n limit) u ∙ e
 
   -- a taken cell is given back, after its last use
   pub wear_view : (free : List ℕ) → uses_at slots i ≡ c.uses → eqb c.uses limit ≡ true →
-      state_with slots (slice_set cells i (record { uses = c.uses; generation = c.generation + 1; standing = Worn; link = None })) free kl vl limit ≡ given_back (state_with slots cells free kl vl limit) i
+      state_with slots (slice_set cells i (given_cell c Worn)) free kl vl limit ≡ given_back (state_with slots cells free kl vl limit) i
   wear_view free u last =
       let l : is_last_use (state_with slots cells free kl vl limit) i ≡ true = last_use_is free true u last in
       same_state slots slots _ _ _ _ _ _ _ _ kl vl limit
@@ -67,7 +63,7 @@ module _ (slots : List SlotView) (cells : List SlotCell) (kl vl limit i : ℕ) (
 
   -- a taken cell is given back, before its last use
   pub free_view : (free : List ℕ) → uses_at slots i ≡ c.uses → c.standing ≡ Taken → eqb c.uses limit ≡ false →
-      state_with slots (slice_set cells i (record { uses = c.uses; generation = c.generation + 1; standing = Free; link = None })) (free ++ i ∷ []) kl vl limit ≡ given_back (state_with slots cells free kl vl limit) i
+      state_with slots (slice_set cells i (given_cell c Free)) (free ++ i ∷ []) kl vl limit ≡ given_back (state_with slots cells free kl vl limit) i
   free_view free u st last =
       let l : is_last_use (state_with slots cells free kl vl limit) i ≡ false = last_use_is free false u last in
       same_state slots slots _ _ _ _ _ _ _ _ kl vl limit
@@ -76,6 +72,12 @@ module _ (slots : List SlotView) (cells : List SlotCell) (kl vl limit i : ℕ) (
       (map-set_same (λ (z : SlotCell). is_worn z.standing) cells i c _ at (ap is_worn (sym st)) ∙ sym (cond-false _ _ _ l))
       (map-set link_view cells i _)
       (map-set (λ (z : SlotCell). z.generation) cells i _ ∙ ap (λ g. slice_set (map (λ (z : SlotCell). z.generation) cells) i (g + 1)) (sym generation_is))
+
+-- an arena that is another but for its links has the same slots taken
+pub taken_same : (a b : ArenaState) (j : ℕ) → b ≡ record a { links = b.links } → IsTaken a j → IsTaken b j
+taken_same a b j e t =
+    let c : IsTaken (record a { links = b.links }) j = record { inside = t.inside; not_free = t.not_free; not_worn = t.not_worn } in
+    subst (λ z. IsTaken z j) (sym e) c
 
 -- the link of a free slot is not seen
 pub behind_view : (slots : List SlotView) (cells : List SlotCell) (free : List ℕ) (kl vl limit : ℕ) (last : Option ℕ) (i : ℕ) → ((l : ℕ) (b : SlotCell) → last ≡ Some l → slice_get cells l ≡ Some b → b.standing ≡ Free) →

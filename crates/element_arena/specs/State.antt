@@ -7,6 +7,7 @@ use Rattle.std.specs.Ordering.{nat_cmp, eq_by_cmp}
 use Rattle.std.specs.Cmp.Lexicographic.{slice_cmp}
 use Rattle.std.specs.FinMap.{FinMap, get, from_entries}
 use Rattle.bpf_model.specs.View.{SlotView, key_in, value_in, uses_at, unused_slot}
+use Rattle.std.specs.Option.{option_flatten}
 
 -- An arena. Keys and values have these lengths, and a slot may be used so often.
 pub record ArenaState : Type 0 where
@@ -30,12 +31,8 @@ key_at slots i = key_in (slice_get slots i)
 abbrev pub value_at : List SlotView → ℕ → List ℕ
 value_at slots i = value_in (slice_get slots i)
 
-abbrev pub link_in : Option (Option ℕ) → Option ℕ
-link_in None = None
-link_in (Some o) = o
-
 abbrev pub link_at : List (Option ℕ) → ℕ → Option ℕ
-link_at links i = link_in (slice_get links i)
+link_at links i = option_flatten (slice_get links i)
 
 abbrev pub flag_in : Option Bool → ℕ
 flag_in None = 0

@@ -11,7 +11,7 @@ use Rattle.bpf_model.specs.declared.limits.MapShape.{MapShape}
 use Rattle.bpf_model.specs.Exit.{MayExitFrom, may_exit_now, may_exit_later, MayExitWith, HasNoMaps}
 use Rattle.bpf_model.specs.Section.{Section}
 use Rattle.bpf_model.specs.MapState.{Store}
-use Rattle.bpf_model.specs.Machine.{Loaded, Run, Machine, fresh_run, open_sections, run_at, run_in}
+use Rattle.bpf_model.specs.Machine.{Loaded, Run, Machine, fresh_run, open_sections, run_at}
 use Rattle.bpf_model.specs.MachineStep.{RunStep}
 use Rattle.bpf_model.specs.Event.{DoesEvent, IsReal}
 use Rattle.bpf_model.specs.Refines.{IsReachedSchedule, RunRefines}
@@ -25,6 +25,7 @@ use Rattle.typed_runs.proofs.Coming.{Comes, Stands, Starting, Stepping, does-com
 use Rattle.typed_runs.proofs.Reaching.{kept-last}
 use Rattle.world_invariant.specs.Invariant.{IsWorld}
 use Rattle.exit_laws.specs.Exits.{MayExitAs, ExitsAs}
+use Rattle.std.specs.Option.{option_flatten}
 
 -- an exit of the run's program on its context
 abbrev MayExit : Run → ℕ → Type 0
@@ -104,7 +105,7 @@ module _ (w : WorldView) (r : ℕ) (code : List Insn) (context : List ℕ) (n : 
 
   pub may_exit_as : MayExitAs code context n
   may_exit_as =
-      let x : MayExit stands.0 n = (reached_has_lived (shapes_of w) w.programs is.schedule is.tracks.reached r stands.0 (ap run_in stands.1)).ended n (sym stands.2.exit ∙ h.ended) in record {
+      let x : MayExit stands.0 n = (reached_has_lived (shapes_of w) w.programs is.schedule is.tracks.reached r stands.0 (ap option_flatten stands.1)).ended n (sym stands.2.exit ∙ h.ended) in record {
         program = stands.0.program;
         code_is = ap (λ (l : Loaded). l.code) same-program ∙ h.code_is;
         steps = x.0;

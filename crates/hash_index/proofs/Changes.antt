@@ -1,19 +1,23 @@
 -- What a change of one chain leaves of the buckets.
-use Rattle.std.proofs.Common.{◌≡◌, ◌≢◌, ◌∙◌, ℕ, zero, suc, ◌+◌, ◌<◌, ◌≤◌, List, ◌∷◌, length, Option, Some, None, inl, inr, refl, sym, ap, arith, cond, eqb, subst}
+use Rattle.std.proofs.Common.{◌≡◌, ◌≢◌, ◌∙◌, ℕ, ◌+◌, ◌<◌, ◌≤◌, List, ◌∷◌, length, Option, Some, None, inl, inr, refl, sym, ap, arith, cond, eqb, subst}
 use Rattle.std.specs.Prelude.{slice_get, slice_set}
-use Rattle.std.proofs.lemmas.Bool.{eqb-true, eqb-false, cases_Bool}
 use Rattle.std.proofs.lemmas.Option.{same_Some}
 use Rattle.std.specs.FinMap.{get, insert, remove}
 use Rattle.bpf_model.proofs.Cases.{option_cases}
-use Rattle.element_arena.specs.State.{ArenaState, IsTaken, LinksOf, indexed, link_at, link_in, key_at, with_link, times_in, slot_of, contents_of}
+use Rattle.element_arena.specs.State.{ArenaState, IsTaken, LinksOf, indexed, link_at, key_at, with_link, times_in, slot_of, contents_of}
 use Rattle.element_arena.specs.Threads.{IsThread, walk}
 use Rattle.element_arena.proofs.Counts.{one_cases, one_same, length_once}
 use Rattle.element_arena.proofs.Threading.{walk-thread, thread-agree, walk-agree}
+use Rattle.element_arena.proofs.Views.{taken_same}
 use Rattle.element_arena.proofs.Indexing.{AreUnique, get-contents, slot_of-some, slot_of-absent, slot_of-none, slot_of-present, contents-insert, contents-remove, unique-insert, unique-remove, times-get, indexed-times}
 use Rattle.hash_index.specs.Chains.{IsChain, IsCut, chain_of, bucket_of}
+use Rattle.hash_index.proofs.Ordered.{absent_gone}
 use Rattle.hash_index.specs.Buckets.{slots_from, chained_slots, HeadsFit}
 use Rattle.hash_index.specs.Many.{chain_among, chains_apart, chain_having, slots-set}
-use Rattle.bpf_model.proofs.Lists.{get-set_other, get-set_cases, length-set}
+use Rattle.std.proofs.lemmas.List.{length-set}
+use Rattle.bpf_model.proofs.Lists.{get-set_other, get-set_cases}
+use Rattle.hash_index.proofs.Steps.{walk_none}
+use Rattle.std.specs.Option.{option_flatten}
 
 pub home_chain : (heads : List (Option ℕ)) (a : ArenaState) (k : ℕ) (o : Option ℕ) → HeadsFit heads a → slice_get heads k ≡ Some o → IsChain a o
 home_chain heads a k o f h = record {
@@ -57,14 +61,7 @@ can_cut heads a k o slot f h at present = record {
 
 -- no slot stands in a chain that has no first slot
 pub none_held : {A : Type 0} (a : ArenaState) (slot : ℕ) → 0 < times_in slot (chain_of a None) → A
-none_held a slot h = absurd (let z : times_in slot (chain_of a None) ≡ 0 = empty (length a.slots) in omega arith)
-  where
-    empty : (n : ℕ) → times_in slot (walk n (link_at a.links) None) ≡ 0
-    empty zero = refl
-    empty (suc n) = refl
-
-taken_with : (a : ArenaState) (ls : List (Option ℕ)) (j : ℕ) → IsTaken a j → IsTaken (record a { links = ls }) j
-taken_with a ls j t = record { inside = t.inside; not_free = t.not_free; not_worn = t.not_worn }
+none_held a slot h = absurd (let z : times_in slot (chain_of a None) ≡ 0 = ap (times_in slot) (walk_none (length a.slots) (link_at a.links)) in omega arith)
 
 module _ (heads : List (Option ℕ)) (a : ArenaState) (ls : List (Option ℕ)) (k : ℕ) (o p : Option ℕ) (ys : List ℕ) where
   changed_walk : IsThread (link_at ls) p ys → ((j : ℕ) → times_in j ys ≤ 1) → ((j : ℕ) → 0 < times_in j ys → IsTaken a j) → walk (length a.slots) (link_at ls) p ≡ ys
@@ -104,11 +101,11 @@ module _ (heads : List (Option ℕ)) (a : ArenaState) (ls : List (Option ℕ)) (
               ap (λ n. bucket_of n (key_at a.slots j)) long ∙ f.home m q n.1 j i'
         ];
         once = all_once;
-        taken = λ j i. taken_with a ls j (all_taken j i);
+        taken = λ j i. taken_same a (record a { links = ls }) j refl (all_taken j i);
         unique = unique;
       }
 
--- a slot joins at the head of its chain
+-- what it leaves that a slot joins at the head of its chain, and that one leaves its chain
 pub record Linked (heads new : List (Option ℕ)) (a b : ArenaState) (slot : ℕ) : Type 0 where
   pub fits : HeadsFit new b
   pub contents : contents_of (key_at b.slots) (chained_slots new b) ≡ insert (contents_of (key_at a.slots) (chained_slots heads a)) (key_at a.slots slot) slot
@@ -125,10 +122,7 @@ module _ (heads : List (Option ℕ)) (a : ArenaState) (ls : List (Option ℕ)) (
   linked f h at t absent here there =
       let key : ℕ → List ℕ = key_at a.slots in
       let none : slot_of (key_at a.slots) (chained_slots heads a) (key_at a.slots slot) ≡ None = sym (get-contents (key_at a.slots) (chained_slots heads a) (key_at a.slots slot)) ∙ absent in
-      let gone : times_in slot (chained_slots heads a) ≡ 0 = elim (cases_Bool (eqb (times_in slot (chained_slots heads a)) 0)) [
-        | inl y ↦ eqb-true _ 0 y
-        | inr y ↦ let ne : times_in slot (chained_slots heads a) ≢ 0 = eqb-false _ 0 y in absurd (slot_of-none (key_at a.slots) (chained_slots heads a) (key_at a.slots slot) slot none (omega arith) refl)
-      ] in
+      let gone : times_in slot (chained_slots heads a) ≡ 0 = absent_gone a (chained_slots heads a) slot absent in
       let among : (m : ℕ) (q : Option ℕ) → slice_get heads m ≡ Some q → (j : ℕ) → times_in j (chain_of a q) ≤ times_in j (chained_slots heads a) = λ m q e j. chain_among (length a.slots) (link_at a.links) heads m q j e in
       let apart : (m : ℕ) (q : Option ℕ) → slice_get heads m ≡ Some q → (j : ℕ) → 0 < times_in j (chain_of a q) → j ≢ slot = λ m q e j i y. let i' : 0 < times_in slot (chain_of a q) = subst (λ z. 0 < times_in z (chain_of a q)) y i in let l : times_in slot (chain_of a q) ≤ times_in slot (chained_slots heads a) = among m q e slot in absurd (omega arith) in
       let th : IsThread (link_at ls) (Some slot) (slot ∷ chain_of a o) = (refl, subst (λ q. IsThread (link_at ls) q (chain_of a o)) (sym here) (thread-agree (link_at a.links) (link_at ls) o (chain_of a o) (λ j i. there j (apart k o h j i)) (f.thread k o h))) in
@@ -203,7 +197,7 @@ pub linked_in : (heads : List (Option ℕ)) (a b : ArenaState) (k : ℕ) (o : Op
 linked_in heads a b k o slot f h at t absent new here =
     let ls : List (Option ℕ) = slice_set a.links slot o in
     subst (λ z. Linked heads (slice_set heads k (Some slot)) a z slot) (sym new)
-    (linked heads a (slice_set a.links slot o) k o slot f h at t absent (ap (λ (z : ArenaState). link_at z.links slot) (sym new) ∙ here) (λ j n. ap link_in (get-set_other a.links slot j o n)))
+    (linked heads a (slice_set a.links slot o) k o slot f h at t absent (ap (λ (z : ArenaState). link_at z.links slot) (sym new) ∙ here) (λ j n. ap option_flatten (get-set_other a.links slot j o n)))
 
 pub unlinked_in : (heads : List (Option ℕ)) (a b : ArenaState) (k : ℕ) (o p : Option ℕ) (slot : ℕ) → HeadsFit heads a → slice_get heads k ≡ Some o → k ≡ bucket_of (length heads) (key_at a.slots slot) → get (contents_of (key_at a.slots) (chained_slots heads a)) (key_at a.slots slot) ≡ Some slot →
     IsCut a b o slot p → Unlinked heads (slice_set heads k p) a b slot

@@ -8,10 +8,10 @@ use Rattle.std.specs.Cmp.Lexicographic.{slice_cmp}
 use Rattle.std.specs.FinMap.{FinMap, get, entries, entries_sorted, get-entries, find, is_sorted}
 use Rattle.std.proofs.lemmas.Bool.{cond-true, cond-false, false≢true, false_from_ne_true, cases_Bool}
 use Rattle.std.proofs.lemmas.Option.{none-some}
-use Rattle.element_arena.proofs.Indexing.{same_key, same_key-true, same-same_key}
 use Rattle.hash_index.specs.Order.{IsLess, IsAbove, NoneAbove, NoneBetween}
 use Rattle.hash_index.specs.Replies.{is_above, first_above}
 use Rattle.hash_index.proofs.Orders.{less_other}
+use Rattle.bpf_model.proofs.Keys.{same_key, same_key-true, same-same_key}
 
 left_true : (a b : Bool) → T (a && b) → T a
 left_true true b h = tt

@@ -1,8 +1,7 @@
 -- The slot of the least key above a bound, among slots that are looked at one after another.
 use Rattle.std.proofs.Common.{◌≡◌, ◌∙◌, ℕ, zero, suc, ◌<◌, List, [], ◌∷◌, ◌++◌, length, Option, Some, None, ◌⊎◌, inl, inr, refl, sym, ap, arith, cond, eqb, subst, append_assoc}
 use Rattle.std.specs.Prelude.{slice_get, replicate, IfSome, IfNone}
-use Rattle.std.proofs.lemmas.List.{append-nil}
-use Rattle.std.proofs.lemmas.Option.{none-some, same_Some}
+use Rattle.std.proofs.lemmas.List.{append-nil, length-replicate}
 use Rattle.std.specs.FinMap.{get, empty}
 use Rattle.element_arena.specs.State.{ArenaState, times_in, key_at, link_at, contents_of}
 use Rattle.element_arena.specs.Threads.{IsThread, walk}
@@ -12,7 +11,8 @@ use Rattle.hash_index.specs.Order.{IsLess, IsAbove, NoneAbove, NoneBetween, IsLe
 use Rattle.hash_index.specs.Chains.{IsChain, IsScanned, chain_of}
 use Rattle.hash_index.specs.Buckets.{HeadsFit, IsGathered, slots_from, chained_slots}
 use Rattle.hash_index.proofs.Orders.{less_trans, less_other}
-use Rattle.hash_index.proofs.Steps.{chain_step, chain_at}
+use Rattle.hash_index.proofs.Steps.{chain_step, chain_at, walk_none}
+use Rattle.bpf_model.proofs.Lists.{get-replicate}
 
 -- what it says of the finite map
 module _ (key : ℕ → List ℕ) (xs : List ℕ) (bound : Option (List ℕ)) where
@@ -90,10 +90,6 @@ module _ (key : ℕ → List ℕ) (bound : Option (List ℕ)) (slot : ℕ) (xs :
     ],
   )
 
-walk_none : (n : ℕ) (next : ℕ → Option ℕ) → walk n next None ≡ []
-walk_none zero next = refl
-walk_none (suc n) next = refl
-
 -- along a chain
 module _ (a : ArenaState) (bound : Option (List ℕ)) (first before : Option ℕ) where
   pub scan_step : (at r least new : Option ℕ) (slot : ℕ) → IsChain a at → at ≡ Some slot → r ≡ link_at a.links slot → IsScanned a bound first before at least →
@@ -126,25 +122,16 @@ slots_of_none : (count n : ℕ) (next : ℕ → Option ℕ) → slots_from n nex
 slots_of_none zero n next = refl
 slots_of_none (suc count) n next = ap (λ l. l ++ slots_from n next (replicate count None)) (walk_none n next) ∙ slots_of_none count n next
 
-head_of_none : (count k : ℕ) (o : Option ℕ) → slice_get (replicate count None) k ≡ Some o → o ≡ None
-head_of_none zero k o h = absurd (none-some o h)
-head_of_none (suc count) zero o h = sym (same_Some None o h)
-head_of_none (suc count) (suc k) o h = head_of_none count k o h
-
-length_none : (count : ℕ) → length (replicate {A = Option ℕ} count None) ≡ count
-length_none zero = refl
-length_none (suc count) = ap suc (length_none count)
-
 module _ (heads : List (Option ℕ)) (count : ℕ) (a : ArenaState) where
   pub fits_none : heads ≡ replicate count None → 0 < count → HeadsFit heads a
   fits_none e some =
       let slots : chained_slots heads a ≡ [] = ap (slots_from (length a.slots) (link_at a.links)) e ∙ slots_of_none count (length a.slots) (link_at a.links) in
-      let long : length heads ≡ count = ap (λ (l : List (Option ℕ)). length l) e ∙ length_none count in
+      let long : length heads ≡ count = ap (λ (l : List (Option ℕ)). length l) e ∙ length-replicate {A = Option ℕ} count None in
       let zero_times : (j : ℕ) → times_in j (chained_slots heads a) ≡ 0 = λ j. ap (times_in j) slots in
-      let none : (k : ℕ) (o : Option ℕ) → slice_get heads k ≡ Some o → walk (length a.slots) (link_at a.links) o ≡ [] = λ k o h. ap (walk (length a.slots) (link_at a.links)) (head_of_none count k o (ap (λ l. slice_get l k) (sym e) ∙ h)) ∙ walk_none (length a.slots) (link_at a.links) in
+      let none : (k : ℕ) (o : Option ℕ) → slice_get heads k ≡ Some o → walk (length a.slots) (link_at a.links) o ≡ [] = λ k o h. ap (walk (length a.slots) (link_at a.links)) (get-replicate count k None o (ap (λ l. slice_get l k) (sym e) ∙ h)) ∙ walk_none (length a.slots) (link_at a.links) in
       record {
         some = omega arith;
-        thread = λ k o h. subst (IsThread (link_at a.links) o) (sym (none k o h)) (head_of_none count k o (ap (λ l. slice_get l k) (sym e) ∙ h));
+        thread = λ k o h. subst (IsThread (link_at a.links) o) (sym (none k o h)) (get-replicate count k None o (ap (λ l. slice_get l k) (sym e) ∙ h));
         home = λ k o h j i. let z : times_in j (walk (length a.slots) (link_at a.links) o) ≡ 0 = ap (times_in j) (none k o h) in absurd (omega arith);
         once = λ j. omega (arith, zero_times j);
         taken = λ j i. absurd (omega (arith, zero_times j));

@@ -26,7 +26,7 @@ times-remove (x ∷ xs) zero i j h = let y : cond {A = ℕ} (eqb x j) 1 0 ≡ co
 times-remove (x ∷ xs) (suc p) i j h = omega (arith, times-remove xs p i j h)
 
 -- a slot whose key is absent is not there
-absent_gone : (a : ArenaState) (xs : List ℕ) (slot : ℕ) → map.get (contents_of (key_at a.slots) xs) (key_at a.slots slot) ≡ None → times_in slot xs ≡ 0
+pub absent_gone : (a : ArenaState) (xs : List ℕ) (slot : ℕ) → map.get (contents_of (key_at a.slots) xs) (key_at a.slots slot) ≡ None → times_in slot xs ≡ 0
 absent_gone a xs slot h = elim (cases_Bool (eqb (times_in slot xs) 0)) [
   | inl y ↦ eqb-true _ 0 y
   | inr y ↦ let ne : times_in slot xs ≢ 0 = eqb-false _ 0 y in absurd (slot_of-none (key_at a.slots) xs (key_at a.slots slot) slot (sym (get-contents (key_at a.slots) xs (key_at a.slots slot)) ∙ h) (omega arith) refl)

@@ -9,10 +9,11 @@ use Rattle.std.proofs.lemmas.Cmp.{nat_list_cmp_total}
 use Rattle.std.proofs.lemmas.Map.Lookups.{exact_bytes}
 use Rattle.std.proofs.lemmas.Option.{none-some, same_Some}
 use Rattle.element_arena.specs.State.{ArenaState, key_at}
-use Rattle.element_arena.proofs.Indexing.{same_key, same_key-true, get_at-insert, get_at-remove}
+use Rattle.element_arena.proofs.Indexing.{get_at-insert, get_at-remove}
 use Rattle.hash_index.specs.declared.commands.Command.{Command}
 use Rattle.hash_index.specs.declared.commands.Command.TheVariants.{Link, Find, Unlink, Above}
 use Rattle.hash_index.specs.Replies.{IsKeyed, reply_of, after_command, replies}
+use Rattle.bpf_model.proofs.Keys.{same_key, same_key-true}
 
 pub remove_absent : (m : FinMap (slice_cmp nat_cmp) ℕ) (k : List ℕ) → get m k ≡ None → remove m k ≡ m
 remove_absent m k h = same_map nat_list_cmp_total exact_bytes _ _ (λ q. get_at-remove m k q ∙ elim (cases_Bool (same_key q k)) [

@@ -1,13 +1,18 @@
 -- Steps along a chain.
 use Rattle.std.proofs.Common.{◌≡◌, ◌≢◌, ◌∙◌, ℕ, zero, suc, ◌+◌, ◌<◌, ◌≤◌, List, [], ◌∷◌, ◌++◌, length, Option, Some, None, refl, sym, ap, arith, cond, eqb, subst, append_assoc, length-append}
 use Rattle.std.proofs.lemmas.Bool.{cond-false, false_from_ne_true}
-use Rattle.element_arena.specs.State.{ArenaState, IsTaken, link_at, link_in, key_at, with_link, times_in, slot_of}
+use Rattle.element_arena.specs.State.{ArenaState, IsTaken, link_at, key_at, with_link, times_in, slot_of}
 use Rattle.element_arena.specs.Threads.{IsThread, walk}
 use Rattle.element_arena.proofs.Counts.{one_same, one_other, times-append}
-use Rattle.element_arena.proofs.Indexing.{same_key-true}
 use Rattle.element_arena.proofs.Threading.{walk-thread, thread-none, thread-some, thread-skip}
 use Rattle.hash_index.specs.Chains.{IsChain, IsBefore, IsOn, IsCut, chain_of}
 use Rattle.bpf_model.proofs.Lists.{get-set_other}
+use Rattle.bpf_model.proofs.Keys.{same_key-true}
+use Rattle.std.specs.Option.{option_flatten}
+
+pub walk_none : (n : ℕ) (next : ℕ → Option ℕ) → walk n next None ≡ []
+walk_none zero next = refl
+walk_none (suc n) next = refl
 
 pub walk_short : (n : ℕ) (next : ℕ → Option ℕ) (o : Option ℕ) → length (walk n next o) ≤ n
 walk_short zero next o = omega arith
@@ -112,7 +117,7 @@ before_in chain last slot p =
 pub cut_after : (a b : ArenaState) (first last slot : ℕ) (r : Option ℕ) → IsChain a (Some first) → ((j : ℕ) → times_in j (chain_of a (Some first)) ≤ 1) → IsBefore (chain_of a (Some first)) last slot → r ≡ link_at a.links slot → b ≡ with_link a last r → link_at b.links last ≡ r →
     IsCut a b (Some first) slot (Some first)
 cut_after a b first last slot r c once p next new linked =
-    let at : (j : ℕ) → j ≢ last → link_at b.links j ≡ link_at a.links j = λ j n. ap (λ (z : ArenaState). link_at z.links j) new ∙ ap link_in (get-set_other a.links last j r n) in
+    let at : (j : ℕ) → j ≢ last → link_at b.links j ≡ link_at a.links j = λ j n. ap (λ (z : ArenaState). link_at z.links j) new ∙ ap option_flatten (get-set_other a.links last j r n) in
     let count : (j : ℕ) → times_in j (chain_of a (Some first)) ≡ times_in j (p.front ++ last ∷ slot ∷ p.back) = λ j. ap (times_in j) p.split in
     let in_ : 0 < times_in last (chain_of a (Some first)) = (before_in _ last slot p).0 in
     record {

@@ -2,13 +2,13 @@
 use Rattle.std.proofs.Common.{◌≡◌, ◌∙◌, ℕ, ◌+◌, refl, sym, ap, arith, List, [], ◌∷◌, cond, inl, inr, Some}
 use Rattle.std.specs.Prelude.{◌==◌, slice_get, ℤ, ◌+ℤ◌}
 use Rattle.std.specs.FinMap.{get}
-use Rattle.std.proofs.lemmas.Bool.{eq-eqb}
 use Rattle.std.proofs.lemmas.List.Sums.{sum_by-cons}
 use Rattle.std.proofs.lemmas.Option.{same_Some}
 use Rattle.std.proofs.Common.{subst}
 use Rattle.bpf_model.specs.View.{MapView}
 use Rattle.bpf_model.specs.Refines as refines
 use Rattle.element_arena.specs.State as state
+use Rattle.element_arena.proofs.Counts.{one_same}
 use Rattle.model_laws.specs.Locations.{Location, InSlot}
 use Rattle.maps.specs.Shown as shown
 use Rattle.world_laws.specs.Reaching as reaching
@@ -19,13 +19,10 @@ same-times : (i : ℕ) (xs : List ℕ) → refines.times i xs ≡ state.times_in
 same-times i [] = refl
 same-times i (x ∷ xs) = sum_by-cons (λ (y : ℕ). cond {A = ℕ} (y == i) 1 0) x xs ∙ ap (λ n. cond (x == i) 1 0 + n) (same-times i xs)
 
-at-itself : (i : ℕ) → state.is_at (Some i) i ≡ 1
-at-itself i = ap (λ b. cond b 1 0) (eq-eqb i i refl)
-
 pub stands : (v : MapView) (i : ℕ) → reaching.HasElement v i → shown.IsOccupied v i
 stands v i (inl h) =
     let e : get v.index (state.key_at v.slots i) ≡ Some i = h in
-    let n : state.indexed v.index v.slots i ≡ 1 = ap (λ o. state.is_at o i) e ∙ at-itself i in
+    let n : state.indexed v.index v.slots i ≡ 1 = ap (λ o. state.is_at o i) e ∙ one_same i in
     omega arith
 stands v i (inr h) =
     let a = same-times i v.next in

@@ -1,7 +1,7 @@
 -- A run that has not ended in a world whose programs are verified: its flag, and that what it asks can be served.
-use Rattle.std.proofs.Common.{◌≡◌, ◌∙◌, ℕ, ◌≤◌, sym, ap, subst, List, Option, Some, None, Bool}
-use Rattle.std.specs.Prelude.{slice_get, nat_lt, option_map, ℤ}
-use Rattle.std.proofs.lemmas.Option.{none-some, same_Some, slice_get-map}
+use Rattle.std.proofs.Common.{◌≡◌, ◌∙◌, ℕ, ◌≤◌, refl, sym, ap, subst, Option, Some, None}
+use Rattle.std.specs.Prelude.{slice_get, option_map, ℤ}
+use Rattle.std.proofs.lemmas.Option.{none-some, same_Some}
 use Rattle.bpf_model.specs.declared.call.Helper.{Helper as HelperId}
 use Rattle.bpf_model.specs.declared.call.Helper.TheVariants.{Lookup, Update, Delete}
 use Rattle.bpf_model.specs.declared.call.KernelFunction.{KernelFunction}
@@ -13,19 +13,18 @@ use Rattle.bpf_model.specs.declared.limits.TheConstants.{MAX_DEPTH}
 use Rattle.bpf_model.specs.Access.{byte_count, unsigned_width}
 use Rattle.bpf_model.specs.Arithmetic.{loaded_signed}
 use Rattle.bpf_model.specs.Call.{kernel_function_of}
-use Rattle.bpf_model.specs.Machine.{Loaded, Run, run_in}
-use Rattle.bpf_model.specs.Schedule.{Schedule, is_open, still_open}
+use Rattle.bpf_model.specs.Machine.{Loaded, Run}
+use Rattle.bpf_model.specs.Schedule.{Schedule}
 use Rattle.bpf_model.specs.Step.{insn_at}
 use Rattle.bpf_model.specs.View.{RunView, WorldView}
 use Rattle.model_laws.specs.Locations.{Location, InContext, InFrame, AtMap, InSlot}
 use Rattle.view_laws.specs.Matching.{Matches}
-use Rattle.view_laws.proofs.Worlds.{awaited-same}
+use Rattle.world_laws.proofs.Flags.{flag, awaited_open}
 use Rattle.world_laws.specs.Local.{Goes, Asks, local_of, local_load, local_store}
 use Rattle.world_laws.specs.Locating.{location_of}
 use Rattle.world_laws.specs.Moving.{word_in, operand_word}
 use Rattle.world_laws.specs.Reaching.{Reaches, IsWritable, HasArguments}
 use Rattle.world_laws.specs.Typed.{IsSound, IsRunning}
-use Rattle.model_laws.proofs.Queueing.{in-slot}
 use Rattle.world_laws.proofs.Ready.{refines}
 use Rattle.bpf_model.proofs.Cases.{run-behind}
 use Rattle.machine.proofs.Laws.{same-program}
@@ -36,12 +35,13 @@ use Rattle.machine.specs.Requests.{access_of, section_access}
 use Rattle.helpers.specs.Calls.{IsCall}
 use Rattle.helpers.specs.Elements.{ReachesElement}
 use Rattle.helpers.specs.Serving.{CanServe, IsFlagged}
+use Rattle.std.specs.Option.{option_flatten}
 
 -- the machine's run in the slot of a run that has not ended
 pub running : (w : WorldView) (s : Schedule) → Matches w s → (r : ℕ) (v : RunView) → slice_get w.runs r ≡ Some (Some v) → v.exit ≡ None → (run : Run) × IsRunning w s r run v
 running w s m r v shown going =
     let y = run-behind m.refines.slots s.machine.store.elements s.machine.programs v (slice_get w.runs r) (slice_get s.machine.runs r) shown (m.refines.runs r) in
-    (y.0, record { there = ap run_in y.1; shown = shown; going = sym y.2.exit ∙ going })
+    (y.0, record { there = ap option_flatten y.1; shown = shown; going = sym y.2.exit ∙ going })
 
 goes-asks : (new : RunView) → Goes new ≡ Asks → ⊥
 goes-asks new e = absurd (cc)
@@ -63,16 +63,8 @@ module _ (w : WorldView) (s : Schedule) (m : Matches w s) (sound : IsSound w s) 
   flagged =
       let depth : v.depth ≡ run.depth = (refines w s m sound r run v k).depth in
       record {
-        opened =
-            ap (λ (l : List Bool). slice_get l r) m.refines.opened
-            ∙ slice_get-map is_open s.machine.runs r
-            ∙ ap (option_map is_open) (in-slot (slice_get s.machine.runs r) run k.there)
-            ∙ ap (λ (n : ℕ). Some (nat_lt 0 n)) (sym depth);
-        awaited =
-            ap (λ (l : List Bool). still_open l w.opened) m.refines.awaited
-            ∙ ap (still_open s.awaited) m.refines.opened
-            ∙ awaited-same w s m.refines m.scheduled
-            ∙ sym m.refines.awaited;
+        opened = flag w s m sound r run v v k refl;
+        awaited = awaited_open w s m;
         depth = subst (λ n. n ≤ MAX_DEPTH) (sym depth) (m.scheduled.consistent.deep r run k.there);
       }
 

@@ -218,8 +218,8 @@ own_asks i v after asked access h = by (local_of i v) h
     by (Ends n) (e, g) = absurd (cc)
     by Asks (other, is, e, g) = let same : access ≡ other = cc in (refl, is ∙ ap Some (sym same), g)
 
--- A run that goes on after a reply: its program, and its flag.
-pub record GoesOn (g : GraceState) (r : ℕ) (v : RunView) (access : Access) (new : RunView) : Type 0 where
+-- A run that was resumed after a reply: its program, and its flag.
+pub record IsResumed (g : GraceState) (r : ℕ) (v : RunView) (access : Access) (new : RunView) : Type 0 where
   pub program : new.program ≡ v.program
   pub opened : (grace_after access r g).opened ≡ slice_set g.opened r (nat_lt 0 new.depth)
 
@@ -227,25 +227,25 @@ module _ (g : GraceState) (r : ℕ) (v : RunView) (opened : slice_get g.opened r
   stays : g.opened ≡ slice_set g.opened r (nat_lt 0 v.depth)
   stays = sym (set-same g.opened r (nat_lt 0 v.depth) opened)
 
-  calls-on : (o : Option HelperId) (access : Access) → option_map Call o ≡ Some access → GoesOn g r v access (returned_view word v)
+  calls-on : (o : Option HelperId) (access : Access) → option_map Call o ≡ Some access → IsResumed g r v access (returned_view word v)
   calls-on None access e = absurd (none-some access e)
-  calls-on (Some helper) access e = subst (λ a. GoesOn g r v a (returned_view word v)) (same_Some (Call helper) access e) (record { program = refl; opened = stays })
+  calls-on (Some helper) access e = subst (λ a. IsResumed g r v a (returned_view word v)) (same_Some (Call helper) access e) (record { program = refl; opened = stays })
 
-  passes-on : (o : Option KernelFunction) (access : Access) → option_map section_access o ≡ Some access → GoesOn g r v access (entered_view o v)
+  passes-on : (o : Option KernelFunction) (access : Access) → option_map section_access o ≡ Some access → IsResumed g r v access (entered_view o v)
   passes-on None access e = absurd (none-some access e)
-  passes-on (Some ReadLock) access e = subst (λ a. GoesOn g r v a (locked_view v)) (same_Some Enter access e) (record {
+  passes-on (Some ReadLock) access e = subst (λ a. IsResumed g r v a (locked_view v)) (same_Some Enter access e) (record {
     program = refl;
     opened = ap (λ b. slice_set g.opened r b) (sym (lt-ltb 0 (v.depth + 1) (omega arith)));
   })
-  passes-on (Some ReadUnlock) access e = subst (λ a. GoesOn g r v a (unlocked_view v)) (same_Some Leave access e) (record {
+  passes-on (Some ReadUnlock) access e = subst (λ a. IsResumed g r v a (unlocked_view v)) (same_Some Leave access e) (record {
     program = refl;
     opened = ap (λ b. slice_set g.opened r b) (sym (le-ltb 0 (v.depth - 1) (omega (arith, depth))));
   })
 
-  pub goes_on : (i : Insn) (access : Access) → access_of i v ≡ Some access → GoesOn g r v access (resumed_view i word v)
-  goes_on (insns.Load width dst src offset) access e = subst (λ a. GoesOn g r v a (with_word 1 dst word v)) (same_Some _ access e) (record { program = refl; opened = stays })
-  goes_on (insns.LoadSigned width dst src offset) access e = subst (λ a. GoesOn g r v a (with_word 1 dst (loaded_signed width word) v)) (same_Some _ access e) (record { program = refl; opened = stays })
-  goes_on (insns.Store width dst offset src) access e = subst (λ a. GoesOn g r v a (advanced_view 1 v)) (same_Some _ access e) (record { program = refl; opened = stays })
+  pub goes_on : (i : Insn) (access : Access) → access_of i v ≡ Some access → IsResumed g r v access (resumed_view i word v)
+  goes_on (insns.Load width dst src offset) access e = subst (λ a. IsResumed g r v a (with_word 1 dst word v)) (same_Some _ access e) (record { program = refl; opened = stays })
+  goes_on (insns.LoadSigned width dst src offset) access e = subst (λ a. IsResumed g r v a (with_word 1 dst (loaded_signed width word) v)) (same_Some _ access e) (record { program = refl; opened = stays })
+  goes_on (insns.Store width dst offset src) access e = subst (λ a. IsResumed g r v a (advanced_view 1 v)) (same_Some _ access e) (record { program = refl; opened = stays })
   goes_on (insns.Call Helper imm) access e = calls-on (helper_of imm) access e
   goes_on (insns.Call Kernel imm) access e = passes-on (kernel_function_of imm) access e
   goes_on i access e = absurd (none-some access e)

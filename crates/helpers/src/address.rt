@@ -6,8 +6,8 @@ ghost use Rattle.model_laws.specs.Locations.{InSlot};
 ghost use Rattle.world_laws.specs.Locating.{location_of, word_offset, word_region};
 ghost use Rattle.helpers.specs.Elements.{IsInSlot};
 
-use bpf_model::{MAX_ENTRIES, MAX_SPARE};
-use machine::{NEAR, SLOT_BASE, SPAN};
+use bpf_model::{MAX_ENTRIES, MAX_SPARE, NEAR_LIMIT};
+use machine::{SLOT_BASE, SPAN};
 
 /// So many map slots are kept for each map, each a region of its own.
 const MAP_SLOTS: usize = MAX_ENTRIES + MAX_SPARE;
@@ -34,7 +34,7 @@ pub(crate) fn slot_word(map: usize, slot: usize) -> u64
 fn region_of(word: u64) -> u64
     ensures { result ≡ word_region word }
 {
-    word / SPAN + (word % SPAN + NEAR) / SPAN
+    word / SPAN + (word % SPAN + NEAR_LIMIT) / SPAN
 }
 
 /// The map slot that a word lies in.

@@ -1,6 +1,7 @@
 -- What is read so far, and what is left.
 use Rattle.std.proofs.Common.{◌≡◌, ℕ, ◌+◌, ◌*◌, ◌%◌, ◌<◌, List, [], ◌∷◌, ◌++◌, length, refl, sym, ap, ◌∙◌, arith, append_assoc, true, false, eqb, inl, inr}
 use Rattle.std.specs.List.{AllByRecursion}
+use Rattle.std.proofs.ByRecursion.{All-push}
 use Rattle.std.proofs.lemmas.Bool.Decides.{nat_tests}
 use Rattle.std.proofs.lemmas.List.{append-nil, length-append}
 use Rattle.std.proofs.lemmas.List.Sums.{sum_by-cons}
@@ -43,10 +44,6 @@ pub length_text : (is : List Insn) → length (text is) ≡ 8 * slot_total is
 length_text [] = refl
 length_text (i ∷ is) = omega (arith, length-append (spelling i) (text is), length_spelling i, length_text is, total_cons i is)
 
-fits_push : (front : List Insn) (i : Insn) → AllByRecursion FitsInsn front → FitsInsn i → AllByRecursion FitsInsn (front ++ i ∷ [])
-fits_push [] i h f = (f, tt)
-fits_push (x ∷ front) i h f = (h.0, fits_push front i h.1 f)
-
 text_push : (front : List Insn) (i : Insn) → text (front ++ i ∷ []) ≡ text front ++ spelling i
 text_push [] i = append-nil (spelling i)
 text_push (x ∷ front) i = ap (λ (t : List ℕ). spelling x ++ t) (text_push front i) ∙ sym (append_assoc (spelling x) (text front) (spelling i))
@@ -76,7 +73,7 @@ goes_on bytes front starts slot rest after i so_far long fits parts only =
     let l : length rest ≡ 8 * slot_count i + length after = ap (λ (x : List ℕ). length x) parts ∙ length-append (spelling i) after ∙ ap (λ (k : ℕ). k + length after) (length_spelling i) in
     record {
       parts = so_far.parts ∙ ap (λ (r : List ℕ). text front ++ r) parts ∙ sym (append_assoc (text front) (spelling i) after) ∙ ap (λ (t : List ℕ). t ++ after) (sym (text_push front i));
-      fits = fits_push front i so_far.fits fits;
+      fits = All-push FitsInsn front i so_far.fits fits;
       slot_is = total_push front i ∙ ap (λ (k : ℕ). k + slot_count i) so_far.slot_is;
       starts_are = rw (so_far.starts_are, starts_push 0 front i, ← so_far.slot_is) (ap (λ (k : ℕ). starts_from 0 front ++ k ∷ []) (let z : slot_total front ≡ 0 + slot_total front = omega arith in z));
       left = omega (arith, so_far.left);

@@ -26,3 +26,4 @@ pub use fault::DecodeFault;
 pub use flaw::Flaw;
 pub use law::{decode_undoes_encode, encode_undoes_decode, no_fault, one_fault, one_program};
 pub use program::Program;
+pub use reading::extension_of;

@@ -3,6 +3,7 @@ ghost use Rattle.std.specs.Prelude.{[], ◌≤◌, OnErr, ◌≢◌, ◌⊎◌, 
 ghost use Rattle.std.specs.Int.{w32, cast_signed};
 ghost use Rattle.bpf_model.specs.Spelling.{alu_offset, extension_size, extension_bits, swap_bits, FitsSlot, FitsInsn, slots_of, call_source, source_of, first_slot, code_of, opcode_of};
 ghost use Rattle.bpf_model.specs.declared.insn.Insn.{Insn};
+ghost use Rattle.bpf_model.specs.declared.insn.SignExtension.{SignExtension as SignExtensionOf};
 ghost use Rattle.bpf_model.specs.Opcode.{opcode_byte};
 ghost use Rattle.insn_codec.specs.Begins.{BeginsWith};
 ghost use Rattle.insn_codec.specs.Faults.{IsInsnFlaw, flaw_with, has_bad_offset, has_bad_width, tail_flaw, has_unused, used_fields, has_unsupported_source as unsupported_source, is_excluded as is_excluded_opcode};
@@ -83,7 +84,10 @@ fn op_of(code: AluCode, offset: i16) -> Option<AluOp>
     Some(op)
 }
 
-fn extension_of(size: Size, offset: i16) -> Option<SignExtension>
+/// The sign extension to a size from so many bits: 8 or 16, and to 64 bits also 32.
+pub fn extension_of(size: Size, offset: i16) -> Option<SignExtension>
+    ensures only { (x : SignExtensionOf) →
+        extension_size x ≡ size → extension_bits x ≡ offset → result ≡ Some x }
     ensures some { IfSome result (λ x. (extension_size x ≡ size) × (extension_bits x ≡ offset)) }
     ensures none { IsNone result →
         (offset ≢ pos 8) × (offset ≢ pos 16) × (size ≡ Size.Word64 → offset ≢ pos 32) }

@@ -1,10 +1,10 @@
 -- Each move keeps the queue's rule.
-use Rattle.std.proofs.Common.{◌≡◌, ◌≢◌, ◌⊎◌, ℕ, zero, suc, ◌+◌, ◌<◌, ◌≤◌, true, false, true≢false, List, [], ◌∷◌, ◌++◌, length, set, refl, sym, ap, ◌∙◌, subst, ⊎_elim, inl, inr, arith, length-append}
+use Rattle.std.proofs.Common.{◌≡◌, ◌≢◌, ◌⊎◌, ℕ, zero, suc, ◌+◌, ◌<◌, ◌≤◌, true, false, true≢false, List, [], ◌∷◌, ◌++◌, length, set, refl, sym, ◌∙◌, subst, ⊎_elim, inl, inr, arith, length-append}
 use mathlib.Core.Option.{some, some-injective, some-ne-none}
 use lib.ListN.{get_elem?}
 use Rattle.crossbeam_queue.specs.Fifo.{Pushes, Pops, Forks, Learns}
 use Rattle.crossbeam_queue.proofs.Lists.{at_set}
-use Rattle.atomic_table.proofs.Lists.{set_again}
+use Rattle.atomic_table.proofs.Lists.{at_snoc, set_again}
 use Rattle.job_queue.specs.declared.numbers.PassView.{PassView}
 use Rattle.job_queue.specs.Numbers.{pass_view, CountsFrom, WasTaken, FallsFrom, KnowsPass, HandsOutOnce}
 
@@ -93,12 +93,6 @@ takes by v x items views h at =
       refl,
     )
 
-at_end : (l : List PassView) (a b : PassView) (j : ℕ) → get_elem? (l ++ a ∷ []) j ≡ some b → (get_elem? l j ≡ some b) ⊎ ((j ≡ length l) × (a ≡ b))
-at_end [] a b zero e = inr (refl, some-injective a b e)
-at_end [] a b (suc j) e = absurd (some-ne-none b (sym e))
-at_end (x ∷ xs) a b zero e = inl e
-at_end (x ∷ xs) a b (suc j) e = ⊎_elim (λ t. inl t) (λ t. inr (ap suc t.0, t.1)) (at_end xs a b j e)
-
 pub forks : (by : ℕ) (v : PassView) → Forks HandsOutOnce by v v (pass_view false 0 [])
 forks by v items views h at =
     let w = pass_view false 0 [] in
@@ -108,14 +102,14 @@ forks by v items views h at =
       putter = h.putter;
       in_order = h.in_order;
       each = λ j u e. ⊎_elim (λ t. h.each j u (subst (λ l. get_elem? l j ≡ some u) same t))
-          (λ (t : (j ≡ length (set views by v)) × (w ≡ u)). subst (KnowsPass h.front (length items) h.putter j) t.1 record { next = λ p. absurd (true≢false (sym p)); once = tt })
-          (at_end (set views by v) w u j e);
+          (λ (t : w ≡ u). subst (KnowsPass h.front (length items) h.putter j) t record { next = λ p. absurd (true≢false (sym p)); once = tt })
+          (at_snoc (set views by v) w u j e);
       apart = λ j k y p q ne a b c d. ⊎_elim
           (λ s. ⊎_elim (λ t. h.apart j k y p q ne (subst (λ l. get_elem? l j ≡ some p) same s) (subst (λ l. get_elem? l k ≡ some q) same t) c d)
-          (λ (t : (k ≡ length (set views by v)) × (w ≡ q)). subst (λ (z : PassView). WasTaken y z.taken) (sym t.1) d)
-          (at_end (set views by v) w q k b))
-          (λ (s : (j ≡ length (set views by v)) × (w ≡ p)). subst (λ (z : PassView). WasTaken y z.taken) (sym s.1) c)
-          (at_end (set views by v) w p j a);
+          (λ (t : w ≡ q). subst (λ (z : PassView). WasTaken y z.taken) (sym t) d)
+          (at_snoc (set views by v) w q k b))
+          (λ (s : w ≡ p). subst (λ (z : PassView). WasTaken y z.taken) (sym s) c)
+          (at_snoc (set views by v) w p j a);
     }
 
 pub learns : (by : ℕ) (v : PassView) → Learns HandsOutOnce by v (λ items. Unit {0})

@@ -129,23 +129,11 @@ module _ {J W T : Type 0} (fits : W → W → J → T → Type 0) (later : W →
   pub workers_ready : All ready front → All ready after
   workers_ready all = subst (All ready) (sym is) (All-append ready front (map worker_of ys) all (All-map ready worker_of ys (λ k d l. (each k d (omega arith)).ready_now)))
 
-pub all_uncons : {X : Type 0} (P : X → Type 0) (x : X) (xs : List X) → All P (x ∷ xs) → P x × All P xs
-all_uncons P x xs all = (all 0 x (omega arith), λ k d l. all (suc k) d (omega arith))
-
-pub all_one : {X : Type 0} (P : X → Type 0) (x : X) → P x → All P (x ∷ [])
-all_one P x p zero d l = p
-all_one P x p (suc k) d l = let no : ⊥ = omega arith in absurd no
-
-some_at : {X : Type 0} (xs : List X) (k : ℕ) (x : X) → slice_get xs k ≡ Some x → slice_get (map (λ (z : X). Some z) xs) k ≡ Some (Some x)
-some_at [] k x e = absurd (cc)
-some_at (y ∷ ys) zero x e = ap (λ z. Some z) e
-some_at (y ∷ ys) (suc k) x e = some_at ys k x e
-
 -- what was read out of the sheet is right for its job
 pub results_right : {J W T : Type 0} (fits : W → W → J → T → Type 0) (jobs : List J) (before after : List W) (lines : List (Option T)) (results : List T) → AreRightLines fits jobs before after lines
     → map (λ (z : T). Some z) results ≡ lines → AreServed fits jobs before after results
 results_right {J} {W} {T} fits jobs before after lines results right same k job served at is =
-    let r = right k served (subst (λ z. slice_get z k ≡ Some (Some served)) same (some_at results k served is)) in
+    let r = right k served (subst (λ z. slice_get z k ≡ Some (Some served)) same (slice_get-map (λ (z : T). Some z) results k ∙ ap (option_map (λ (z : T). Some z)) is)) in
     subst (λ z. IsServedByOne fits before after z served) (ap (λ (o : Option J). unwrap_or o job) (sym r.at ∙ at)) r.by_one
 
 -- what a mutable slice of a whole vector leaves in it

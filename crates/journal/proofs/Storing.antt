@@ -1,8 +1,8 @@
 -- A row stands for its entry, and goes on to where more bytes come behind its own.
-use Rattle.std.proofs.Common.{◌≡◌, ◌∙◌, ℕ, zero, suc, ◌+◌, ◌≤◌, List, [], ◌∷◌, ◌++◌, map, length, take, drop, Some, None, ◌-◌, refl, sym, ap, subst, arith}
+use Rattle.std.proofs.Common.{◌≡◌, ◌∙◌, ℕ, inl, inr, suc, ◌+◌, ◌≤◌, List, [], ◌∷◌, ◌++◌, map, length, take, drop, Some, None, ◌-◌, refl, sym, ap, subst, arith}
 use Rattle.std.specs.Prelude.{slice_get}
 use Rattle.std.proofs.lemmas.List.{append_assoc, append-nil, drop_at, take_at, drop-append-le, take-append-le, length-append, length-drop, map_push}
-use Rattle.std.proofs.lemmas.Option.{none-some, same_Some}
+use Rattle.bpf_model.proofs.Lists.{get-append_cases}
 use Rattle.bpf_model.specs.declared.limits.TheConstants.{KEY_BYTES, VALUE_BYTES}
 use Rattle.arrayvec.specs.ArrayVec.{ArrayVec}
 use Rattle.bpf_model.specs.declared.event.Event.TheVariants as events
@@ -123,10 +123,8 @@ stored-later n m (rows.NotDropped worker refusal run) l h = tt
 
 -- one more row
 stored-more : (n : ℕ) (all : List Row) (row : Row) → ((k : ℕ) (r : Row) → slice_get all k ≡ Some r → IsStored n r) → IsStored n row → (k : ℕ) (r : Row) → slice_get (all ++ row ∷ []) k ≡ Some r → IsStored n r
-stored-more n [] row each last zero r at = subst (IsStored n) (same_Some row r at) last
-stored-more n [] row each last (suc k) r at = absurd (none-some r at)
-stored-more n (x ∷ others) row each last zero r at = each zero r at
-stored-more n (x ∷ others) row each last (suc k) r at = stored-more n others row (λ j q h. each (suc j) q h) last k r at
+stored-more n all row each last k r at =
+    elim (get-append_cases all row k r at) [ inl before ↦ each k r before | inr there ↦ subst (IsStored n) there.1 last ]
 
 pub stored-push : (all : List Row) (bytes : List ℕ) (e : Entry) (row : Row) → AreStored all bytes → IsRowOf (length bytes) e row → AreStored (all ++ row ∷ []) (bytes ++ entry_bytes e)
 stored-push all bytes e row each is =

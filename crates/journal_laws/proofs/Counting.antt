@@ -21,7 +21,7 @@ use Rattle.model_laws.proofs.Tallies.{count-cons, one_of}
 use Rattle.journal_laws.specs.Totals.{ever_reclaimed, ever_unlinked, reclaimed_total, unlinked_total}
 use Rattle.bpf_model.proofs.Lists.{get-below}
 
--- A list has each number as often as a test passes at that index of another: then it is as long as the test passes.
+-- 1 where an index has an unlinked element, else 0
 abbrev flag : Option Element → ℕ
 flag None = 0
 flag (Some e) = one_of (is_unlinked e.life)
@@ -47,6 +47,7 @@ times-lowered n (suc m ∷ xs) =
     ∙ (ap (λ k. one_of (suc m == suc n) + k) (times-lowered n xs)
     ∙ sym (sum_by-cons (λ y. cond (y == suc n) 1 0) (suc m) xs)))
 
+-- A list that has each number as often as the flag of that index says is as long as there are unlinked elements.
 count-of : (xs : List ℕ) (es : List Element) → ((n : ℕ) → times n xs ≡ flag (slice_get es n)) → length xs ≡ count_by (λ e. is_unlinked e.life) es
 count-of [] [] h = refl
 count-of (x ∷ xs) [] h = let t = times-first x x xs refl in let z : times x (x ∷ xs) ≡ 0 = h x in absurd (omega (arith, t, z))

@@ -6,7 +6,7 @@ use Rattle.bpf_model.specs.declared.event.Event.{Event}
 use Rattle.bpf_model.specs.Element.{Element, Life, Linked, Unlinked, Reclaimed, is_linked, is_reclaimed}
 use Rattle.bpf_model.specs.Event.{IsReal}
 use Rattle.bpf_model.specs.View.{WorldView}
-use Rattle.model_laws.specs.Growth.{Later, IsLaterElement, ElementsGrow}
+use Rattle.model_laws.specs.Growth.{IsLaterLife, IsLaterElement, ElementsGrow}
 use Rattle.model_laws.proofs.Stepping.{elements_only_grow}
 use Rattle.model_laws.proofs.Tallies.{count-cons, one_of}
 use Rattle.world_laws.specs.Reacting.{full_reaction}
@@ -31,7 +31,7 @@ count-grows p keeps (e ∷ old) (f ∷ new) g =
     let b = count-cons p f new in
     omega (arith, one, rest, a, b)
 
-stays-unlinked : (a b : Life) → Later a b → not (is_linked a) ≡ true → not (is_linked b) ≡ true
+stays-unlinked : (a b : Life) → IsLaterLife a b → not (is_linked a) ≡ true → not (is_linked b) ≡ true
 stays-unlinked Linked b h t = absurd (cc)
 stays-unlinked (Unlinked s) Linked h t = absurd h
 stays-unlinked (Unlinked s) (Unlinked u) h t = refl
@@ -40,7 +40,7 @@ stays-unlinked Reclaimed Linked h t = absurd h
 stays-unlinked Reclaimed (Unlinked u) h t = absurd h
 stays-unlinked Reclaimed Reclaimed h t = refl
 
-stays-reclaimed : (a b : Life) → Later a b → is_reclaimed a ≡ true → is_reclaimed b ≡ true
+stays-reclaimed : (a b : Life) → IsLaterLife a b → is_reclaimed a ≡ true → is_reclaimed b ≡ true
 stays-reclaimed Linked b h t = absurd (cc)
 stays-reclaimed (Unlinked s) b h t = absurd (cc)
 stays-reclaimed Reclaimed Linked h t = absurd h

@@ -10,12 +10,11 @@ use Rattle.bpf_model.specs.Element.{Element}
 use Rattle.bpf_model.specs.Event.{IsReal, AreReal}
 use Rattle.bpf_model.specs.Drain.{AreScheduledAnswers}
 use Rattle.bpf_model.specs.Headline.{AreMachineAnswers, AreNeverStuck, AllExitInTime, AreReclaimedLate}
-use Rattle.bpf_model.specs.History.{HasHistoryTo, IsHistory, last_machine}
-use Rattle.bpf_model.specs.Machine.{Loaded, Machine, Run, run_at, run_in}
+use Rattle.bpf_model.specs.History.{HasHistoryTo, IsHistory, last_of}
+use Rattle.bpf_model.specs.Machine.{Loaded, Machine, Run, run_at}
 use Rattle.bpf_model.specs.Refines.{Tracks, TracksSchedule, RunSlotRefines}
 use Rattle.bpf_model.specs.Replay as machine
 use Rattle.bpf_model.specs.View.{RunView, WorldView}
-use Rattle.view_laws.specs.Reactions.{run_shown}
 use Rattle.view_laws.proofs.Tracking.{real-more}
 use Rattle.world_laws.specs.Reacting.{full_reaction, full_reactions}
 use Rattle.world_laws.proofs.Worlds.{answers_machine, answers_scheduled, never_stuck, exit_in_time, reclaimed_late}
@@ -24,6 +23,7 @@ use Rattle.world_laws.proofs.Appending.{answers_grow, view_grows}
 use Rattle.world_invariant.proofs.Keeping.{reactions_make_world}
 use Rattle.journal.specs.declared.entry.Entry.{Entry}
 use Rattle.journal_laws.specs.Replay.{HasNoRuns, Replays, answers_of, events_of, machine_entry}
+use Rattle.std.specs.Option.{option_flatten}
 
 pub empty_replays : (w : WorldView) → IsWorld w → HasNoRuns w → Replays w w []
 empty_replays w is quiet = record {
@@ -56,12 +56,12 @@ replays_push base world new entries entry h real answer is =
     }
 
 -- on the machine
-history-run : (m : Machine) (events : List Event) (answers : List Answer) (states : List Machine) → IsHistory m events answers states → HasHistoryTo m events answers (last_machine m states)
+history-run : (m : Machine) (events : List Event) (answers : List Answer) (states : List Machine) → IsHistory m events answers states → HasHistoryTo m events answers (last_of m states)
 history-run m [] [] [] h = refl
 history-run m (event ∷ events) (answer ∷ answers) (next ∷ states) h = (next, h.0, history-run next events answers states h.1)
 history-run m events answers states h = absurd h
 
-quiet-slot : (slots : List ℕ) (es : List Element) (programs : List Loaded) (o : Option (Option RunView)) (p : Option (Option Run)) → RunSlotRefines slots es programs o p → run_shown o ≡ None → run_in p ≡ None
+quiet-slot : (slots : List ℕ) (es : List Element) (programs : List Loaded) (o : Option (Option RunView)) (p : Option (Option Run)) → RunSlotRefines slots es programs o p → option_flatten o ≡ None → option_flatten p ≡ None
 quiet-slot slots es programs None None h e = refl
 quiet-slot slots es programs (Some None) (Some None) h e = refl
 quiet-slot slots es programs (Some (Some v)) (Some (Some run)) h e = absurd (none-some v (sym e))
@@ -84,7 +84,7 @@ same-answers (e ∷ entries) = ap (λ (xs : List Answer). e.answer ∷ xs) (same
 pub replays_on_machine : (base world : WorldView) (entries : List Entry) → Replays base world entries → length entries ≤ MAX_JOURNAL → (m : Machine) → Tracks base m → (last : Machine) × machine.ReplaysOnMachine m (map machine_entry entries) last × Tracks world last
 replays_on_machine base world entries h short m t =
     let run = answers_machine base (events_of entries) h.base_is.ready h.real m t in
-    let last = last_machine m run.0 in
+    let last = last_of m run.0 in
     let moved : HasHistoryTo m (events_of entries) (answers_of entries) last = subst (λ (xs : List Answer). HasHistoryTo m (events_of entries) xs last) (sym h.answers) (history-run m (events_of entries) (full_reactions base (events_of entries)).0 run.0 run.1) in
     let l : length (map machine_entry entries) ≡ length entries = length-map entries machine_entry in (
       last,

@@ -8,7 +8,7 @@ use Rattle.std.proofs.lemmas.List.{append-nil}
 use Rattle.std.proofs.lemmas.List.Sums.{sum_by-cons, sum_by_push}
 use Rattle.model_laws.proofs.Tallies.{count-cons, one_of}
 use Rattle.journal.specs.declared.entry.Entry.{Entry}
-use Rattle.journal_laws.specs.Totals.{AreOf, entries_by, is_step, share_of, shares, steps_of}
+use Rattle.journal_laws.specs.Totals.{AreOfWorkers, entries_by, is_step, share_of, shares, steps_of}
 
 longer : (b : Bool) (e : Entry) (es : List Entry) → length (cond b (e ∷ es) es) ≡ one_of b + length es
 longer true e es = omega arith
@@ -50,7 +50,7 @@ once x a (suc n) (suc i) e l =
     let r = once x (a + 1) n i (omega (arith, e)) (omega (arith, l)) in
     omega (arith, c, d, r)
 
-pub shares_add_up : (workers : ℕ) (entries : List Entry) → AreOf workers entries → shares workers entries ≡ length entries
+pub shares_add_up : (workers : ℕ) (entries : List Entry) → AreOfWorkers workers entries → shares workers entries ≡ length entries
 shares_add_up workers [] of = shares-none (range_with_len 0 workers)
 shares_add_up workers (e ∷ es) of =
     let a = shares-more e es (range_with_len 0 workers) in

@@ -42,8 +42,8 @@ abbrev pub share_of : List Entry → ℕ → ℕ
 share_of entries worker = length (entries_by worker entries)
 
 -- Each entry is of one of so many workers.
-abbrev pub AreOf : ℕ → List Entry → Type 0
-AreOf workers entries = (k : ℕ) (e : Entry) → slice_get entries k ≡ Some e → e.worker < workers
+abbrev pub AreOfWorkers : ℕ → List Entry → Type 0
+AreOfWorkers workers entries = (k : ℕ) (e : Entry) → slice_get entries k ≡ Some e → e.worker < workers
 
 -- the shares of so many workers, added up
 abbrev pub shares : ℕ → List Entry → ℕ

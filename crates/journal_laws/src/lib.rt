@@ -21,7 +21,7 @@ ghost use Rattle.journal.specs.Entries.{IsAnswerTo};
 ghost use Rattle.journal.specs.declared.entry.Entry.{Entry};
 ghost use Rattle.journal_laws.specs.Replay.{HasNoRuns, Replays, answers_of, events_of};
 ghost use Rattle.journal_laws.specs.Replay.{machine_entry};
-ghost use Rattle.journal_laws.specs.Totals.{AreOf, entries_by, ever_reclaimed, ever_unlinked};
+ghost use Rattle.journal_laws.specs.Totals.{AreOfWorkers, entries_by, ever_reclaimed, ever_unlinked};
 ghost use Rattle.journal_laws.specs.Totals.{is_step, reclaimed_total, shares, steps_of, unlinked_total};
 
 /// An empty journal replays from any world without runs.
@@ -121,6 +121,6 @@ pub fn counts_push()
 
 /// The shares of all workers add up to the entries.
 pub fn shares_add_up()
-    ensures { (workers : ℕ) (entries : List Entry) → AreOf workers entries →
+    ensures { (workers : ℕ) (entries : List Entry) → AreOfWorkers workers entries →
         shares workers entries ≡ length entries }
 {}

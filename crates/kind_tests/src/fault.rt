@@ -21,7 +21,7 @@ pub enum Fault {
     Misaligned,
     #[error("a byte of the frame is read that is not written on every path")]
     UnwrittenFrame,
-    #[error("a pointer or a map is stored or returned")]
+    #[error("a pointer or a map is stored to an element, stored or read in part, or returned")]
     PointerLeak,
     #[error("a register or a byte of the frame is read that holds different kinds on different paths")]
     MixedRegions,

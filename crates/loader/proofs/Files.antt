@@ -4,7 +4,7 @@ use Rattle.std.specs.Prelude.{Option, Some, None, Result, Ok, Err, OnOk, codes}
 use lib.Pointwise.{pointwise}
 use Rattle.std.proofs.lemmas.Bool.{false≢true}
 use Rattle.std.proofs.lemmas.List.Concat.{flat_map-append}
-use Rattle.std.proofs.lemmas.Option.{same_Some}
+use Rattle.std.proofs.lemmas.Option.{none-some, same_Some}
 use Rattle.bpf_model.specs.declared.limits.MapShape.{MapShape}
 use Rattle.bpf_model.specs.View.{new_map_view}
 use Rattle.bpf_model.proofs.Lists.{heads, tails, cons-nil}
@@ -107,7 +107,7 @@ no_code_line old r (m ∷ ms) (n ∷ ns) ds h e = no_code_line h.0 r ms ns ds h.
 pub none_begins : IsFileBeginning []
 none_begins = (
   codes "ctx 0" ∷ code_line ∷ [],
-  record { context = 0; registry = no_maps; code = [] },
+  record { ctx_len = 0; registry = no_maps; code = [] },
   record {
     first = codes "ctx 0";
     map_lines = [];
@@ -119,7 +119,7 @@ none_begins = (
   },
 )
 
-pub maps_begin : (lines : List (List ℕ)) (context : ℕ) (r : RegistryView) → AreMapsSoFar lines context r → IsProgramFile (lines ++ code_line ∷ []) (record { context = context; registry = r; code = [] })
+pub maps_begin : (lines : List (List ℕ)) (context : ℕ) (r : RegistryView) → AreMapsSoFar lines context r → IsProgramFile (lines ++ code_line ∷ []) (record { ctx_len = context; registry = r; code = [] })
 maps_begin lines context r h = record {
   first = h.first;
   map_lines = h.map_lines;
@@ -135,14 +135,14 @@ file_begins lines c h = ([], c, subst (λ ls. IsProgramFile ls c) (sym (append-n
 
 pub stage_begins : (stage : Stage) (lines : List (List ℕ)) (c : FileContent) → IsAtStage stage lines c → IsFileBeginning lines
 stage_begins Context lines c h = subst IsFileBeginning (sym h.0) none_begins
-stage_begins Maps lines c h = (code_line ∷ [], record { context = c.context; registry = c.registry; code = [] }, maps_begin lines c.context c.registry h.0)
+stage_begins Maps lines c h = (code_line ∷ [], record { ctx_len = c.ctx_len; registry = c.registry; code = [] }, maps_begin lines c.ctx_len c.registry h.0)
 stage_begins Code lines c h = file_begins lines c h
 
 pub context_wrong : (lines : List (List ℕ)) (line : List ℕ) → lines ≡ [] → ((n : ℕ) → ¬ (IsContextLine line n)) → ¬ (IsFileBeginning (lines ++ line ∷ []))
 context_wrong lines line e wrong b =
     let h = b.2 in
     let whole : (line ∷ b.0) ≡ h.first ∷ (h.map_lines ++ code_line ∷ h.code_lines) = sym (ap (λ ls. (ls ++ line ∷ []) ++ b.0) e) ∙ h.parts in
-    wrong b.1.context (subst (λ l. IsContextLine l b.1.context) (sym (heads line h.first b.0 _ whole)) h.context)
+    wrong b.1.ctx_len (subst (λ l. IsContextLine l b.1.ctx_len) (sym (heads line h.first b.0 _ whole)) h.context)
 
 pub map_taken : (lines : List (List ℕ)) (line : List ℕ) (n : ℕ) (r s : RegistryView) → AreMapsSoFar lines n r → AddsMap r line s → AreMapsSoFar (lines ++ line ∷ []) n s
 map_taken lines line n r s h k = record {
@@ -177,7 +177,7 @@ joined_none (Some a) = refl
 lines_append : (xs ys : List (List ℕ)) → code_slots (flat_map file_words (xs ++ ys)) ≡ both_parts (code_slots (flat_map file_words xs)) (code_slots (flat_map file_words ys))
 lines_append xs ys = ap code_slots (flat_map-append file_words xs ys) ∙ slots_append (flat_map file_words xs) (flat_map file_words ys)
 
-pub slots_taken : (lines : List (List ℕ)) (line : List ℕ) (n : ℕ) (r : RegistryView) (code new bytes : List ℕ) → IsProgramFile lines (record { context = n; registry = r; code = code }) → code_slots (file_words line) ≡ Some bytes → new ≡ code ++ bytes → IsProgramFile (lines ++ line ∷ []) (record { context = n; registry = r; code = new })
+pub slots_taken : (lines : List (List ℕ)) (line : List ℕ) (n : ℕ) (r : RegistryView) (code new bytes : List ℕ) → IsProgramFile lines (record { ctx_len = n; registry = r; code = code }) → code_slots (file_words line) ≡ Some bytes → new ≡ code ++ bytes → IsProgramFile (lines ++ line ∷ []) (record { ctx_len = n; registry = r; code = new })
 slots_taken lines line n r code new bytes h e added =
     let one : code_slots (flat_map file_words (line ∷ [])) ≡ Some bytes = ap code_slots (append-nil (file_words line)) ∙ e in
     record {
@@ -190,9 +190,6 @@ slots_taken lines line n r code new bytes h e added =
       code = lines_append h.code_lines (line ∷ []) ∙ ap₂ both_parts h.code one ∙ ap Some (sym added);
     }
 
-some_none : (bytes : List ℕ) → Some bytes ≡ None → ⊥
-some_none bytes e = cc
-
 pub slots_wrong : (lines : List (List ℕ)) (line : List ℕ) (c : FileContent) → IsProgramFile lines c → code_slots (file_words line) ≡ None → ¬ (IsFileBeginning (lines ++ line ∷ []))
 slots_wrong lines line c h e b =
     let k = b.2 in
@@ -203,7 +200,7 @@ slots_wrong lines line c h e b =
     let same = same_parts no_maps c.registry b.1.registry h.map_lines k.map_lines (h.code_lines ++ line ∷ b.0) k.code_lines h.maps k.maps (tails h.first k.first _ _ whole) in
     let rest : code_slots (flat_map file_words (line ∷ b.0)) ≡ None = slots_append (file_words line) (flat_map file_words b.0) ∙ ap (λ s. both_parts s (code_slots (flat_map file_words b.0))) e in
     let none : code_slots (flat_map file_words k.code_lines) ≡ None = ap (λ ls. code_slots (flat_map file_words ls)) (sym same.1) ∙ lines_append h.code_lines (line ∷ b.0) ∙ ap (both_parts (code_slots (flat_map file_words h.code_lines))) rest ∙ joined_none _ in
-    some_none b.1.code (sym k.code ∙ none)
+    none-some b.1.code (sym none ∙ k.code)
 
 -- no file ends there
 
@@ -215,11 +212,11 @@ maps_unfinished lines n r h c k = no_code_line no_maps r h.map_lines k.map_lines
 
 -- a file says one thing
 
-same_content : (c d : FileContent) → c.context ≡ d.context → c.registry ≡ d.registry → c.code ≡ d.code → c ≡ d
+same_content : (c d : FileContent) → c.ctx_len ≡ d.ctx_len → c.registry ≡ d.registry → c.code ≡ d.code → c ≡ d
 same_content c d e f g =
-    ap (λ (x : ℕ). let z : FileContent = record { context = x; registry = c.registry; code = c.code } in z) e
-    ∙ ap (λ (x : RegistryView). let z : FileContent = record { context = d.context; registry = x; code = c.code } in z) f
-    ∙ ap (λ (x : List ℕ). let z : FileContent = record { context = d.context; registry = d.registry; code = x } in z) g
+    ap (λ (x : ℕ). let z : FileContent = record { ctx_len = x; registry = c.registry; code = c.code } in z) e
+    ∙ ap (λ (x : RegistryView). let z : FileContent = record { ctx_len = d.ctx_len; registry = x; code = c.code } in z) f
+    ∙ ap (λ (x : List ℕ). let z : FileContent = record { ctx_len = d.ctx_len; registry = d.registry; code = x } in z) g
 
 second : (w v x y : List ℕ) → (w ∷ x ∷ []) ≡ v ∷ y ∷ [] → x ≡ y
 second w v x y e = cc
@@ -256,20 +253,20 @@ pub context_refuses : (stage : Stage) (lines : List (List ℕ)) (line : List ℕ
 context_refuses stage lines line c e wrong h =
     let k = subst (λ (s : Stage). IsAtStage s lines c) e h in context_wrong lines line k.0 wrong
 
-pub maps_step : (stage : Stage) (lines : List (List ℕ)) (line : List ℕ) (c : FileContent) (s : RegistryView) (r : Result (Unit {0}) LineFault) → stage ≡ Maps → OnOk r (AddsMap c.registry line s) → IsAtStage stage lines c → OnOk r (IsAtStage stage (lines ++ line ∷ []) (record { context = c.context; registry = s; code = c.code }))
+pub maps_step : (stage : Stage) (lines : List (List ℕ)) (line : List ℕ) (c : FileContent) (s : RegistryView) (r : Result (Unit {0}) LineFault) → stage ≡ Maps → OnOk r (AddsMap c.registry line s) → IsAtStage stage lines c → OnOk r (IsAtStage stage (lines ++ line ∷ []) (record { ctx_len = c.ctx_len; registry = s; code = c.code }))
 maps_step stage lines line c s (Ok x) e added h =
     let k = subst (λ (t : Stage). IsAtStage t lines c) e h in
-    subst (λ (t : Stage). IsAtStage t (lines ++ line ∷ []) (record { context = c.context; registry = s; code = c.code })) (sym e) (map_taken lines line c.context c.registry s k.0 added, k.1)
+    subst (λ (t : Stage). IsAtStage t (lines ++ line ∷ []) (record { ctx_len = c.ctx_len; registry = s; code = c.code })) (sym e) (map_taken lines line c.ctx_len c.registry s k.0 added, k.1)
 maps_step stage lines line c s (Err f) e added h = tt
 
 pub maps_refuse : (stage : Stage) (lines : List (List ℕ)) (line : List ℕ) (c : FileContent) → stage ≡ Maps → line ≢ code_line → ((s : RegistryView) → ¬ (AddsMap c.registry line s)) → IsAtStage stage lines c → ¬ (IsFileBeginning (lines ++ line ∷ []))
 maps_refuse stage lines line c e other wrong h =
-    let k = subst (λ (t : Stage). IsAtStage t lines c) e h in map_wrong lines line c.context c.registry k.0 other wrong
+    let k = subst (λ (t : Stage). IsAtStage t lines c) e h in map_wrong lines line c.ctx_len c.registry k.0 other wrong
 
-pub code_step : (stage : Stage) (lines : List (List ℕ)) (line : List ℕ) (c : FileContent) (new : List ℕ) (r : Result (Unit {0}) LineFault) → stage ≡ Code → OnOk r ((bytes : List ℕ) × (code_slots (file_words line) ≡ Some bytes) × (new ≡ c.code ++ bytes)) → IsAtStage stage lines c → OnOk r (IsAtStage stage (lines ++ line ∷ []) (record { context = c.context; registry = c.registry; code = new }))
+pub code_step : (stage : Stage) (lines : List (List ℕ)) (line : List ℕ) (c : FileContent) (new : List ℕ) (r : Result (Unit {0}) LineFault) → stage ≡ Code → OnOk r ((bytes : List ℕ) × (code_slots (file_words line) ≡ Some bytes) × (new ≡ c.code ++ bytes)) → IsAtStage stage lines c → OnOk r (IsAtStage stage (lines ++ line ∷ []) (record { ctx_len = c.ctx_len; registry = c.registry; code = new }))
 code_step stage lines line c new (Ok x) e added h =
-    subst (λ (t : Stage). IsAtStage t (lines ++ line ∷ []) (record { context = c.context; registry = c.registry; code = new })) (sym e)
-    (slots_taken lines line c.context c.registry c.code new added.0 (subst (λ (t : Stage). IsAtStage t lines c) e h) added.1 added.2)
+    subst (λ (t : Stage). IsAtStage t (lines ++ line ∷ []) (record { ctx_len = c.ctx_len; registry = c.registry; code = new })) (sym e)
+    (slots_taken lines line c.ctx_len c.registry c.code new added.0 (subst (λ (t : Stage). IsAtStage t lines c) e h) added.1 added.2)
 code_step stage lines line c new (Err f) e added h = tt
 
 pub code_refuses : (stage : Stage) (lines : List (List ℕ)) (line : List ℕ) (c : FileContent) → stage ≡ Code → code_slots (file_words line) ≡ None → IsAtStage stage lines c → ¬ (IsFileBeginning (lines ++ line ∷ []))
@@ -277,5 +274,5 @@ code_refuses stage lines line c e none h = slots_wrong lines line c (subst (λ (
 
 pub unfinished : (stage : Stage) (lines : List (List ℕ)) (c d : FileContent) → stage ≢ Code → IsAtStage stage lines c → ¬ (IsProgramFile lines d)
 unfinished Context lines c d other h = none_unfinished lines h.0 d
-unfinished Maps lines c d other h = maps_unfinished lines c.context c.registry h.0 d
+unfinished Maps lines c d other h = maps_unfinished lines c.ctx_len c.registry h.0 d
 unfinished Code lines c d other h = absurd (other refl)

@@ -7,7 +7,7 @@ use Rattle.loader.specs.declared.fault.LoadFault.TheVariants.{BadFile, Memory}
 use Rattle.loader.specs.declared.program_file.ProgramFile.{ProgramFile}
 
 abbrev pub loaded_content : ProgramFile → FileContent
-loaded_content f = record { context = f.ctx_len; registry = f.registry; code = f.code.items }
+loaded_content f = record { ctx_len = f.ctx_len; registry = f.registry; code = f.code.items }
 
 -- why the lines of a text are no program file
 abbrev pub IsFileTextFault : List ℕ → LoadFault → Type 0

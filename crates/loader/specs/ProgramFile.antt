@@ -11,7 +11,7 @@ use Rattle.loader.specs.declared.fault.LoadFault.TheVariants.{BadFile, Memory}
 
 -- the context's length in bytes, the maps, and the bytes of the program
 pub record FileContent : Type 0 where
-  pub context : ℕ
+  pub ctx_len : ℕ
   pub registry : RegistryView
   pub code : List ℕ
 
@@ -64,7 +64,7 @@ pub record IsProgramFile (lines : List (List ℕ)) (content : FileContent) : Typ
   pub map_lines : List (List ℕ)
   pub code_lines : List (List ℕ)
   pub parts : lines ≡ first ∷ (map_lines ++ codes "code" ∷ code_lines)
-  pub context : IsContextLine first content.context
+  pub context : IsContextLine first content.ctx_len
   pub maps : AddMaps no_maps map_lines content.registry
   pub code : code_slots (flat_map file_words code_lines) ≡ Some content.code
 
@@ -98,7 +98,7 @@ IsRawFile bytes = (text : List ℕ) → ¬ (bytes ≡ heading ++ text)
 
 -- What a raw file says: its bytes are the program, with no context and no maps.
 abbrev pub raw_content : List ℕ → FileContent
-raw_content bytes = record { context = 0; registry = no_maps; code = bytes }
+raw_content bytes = record { ctx_len = 0; registry = no_maps; code = bytes }
 
 -- What a file of these bytes says.
 abbrev pub FileSays : List ℕ → FileContent → Type 0

@@ -20,21 +20,21 @@ words_left (Some rest) = file_words rest.now
 
 -- what a reader keeps says, where its lines are a program file
 abbrev pub content_of : Loading → FileContent
-content_of l = record { context = l.ctx_len; registry = l.registry; code = l.code.items }
+content_of l = record { ctx_len = l.ctx_len; registry = l.registry; code = l.code.items }
 
 -- the lines are a context and maps
-pub record AreMapsSoFar (lines : List (List ℕ)) (context : ℕ) (registry : RegistryView)
+pub record AreMapsSoFar (lines : List (List ℕ)) (ctx_len : ℕ) (registry : RegistryView)
     : Type 0 where
   pub first : List ℕ
   pub map_lines : List (List ℕ)
   pub parts : lines ≡ first ∷ map_lines
-  pub context_is : IsContextLine first context
+  pub context_is : IsContextLine first ctx_len
   pub maps : AddMaps no_maps map_lines registry
 
 -- what the lines before a stage say: nothing, a context and maps, or a program file
 abbrev pub IsAtStage : Stage → List (List ℕ) → FileContent → Type 0
 IsAtStage Context lines c = (lines ≡ []) × (c.registry ≡ no_maps) × (c.code ≡ [])
-IsAtStage Maps lines c = AreMapsSoFar lines c.context c.registry × (c.code ≡ [])
+IsAtStage Maps lines c = AreMapsSoFar lines c.ctx_len c.registry × (c.code ≡ [])
 IsAtStage Code lines c = IsProgramFile lines c
 
 -- What has been read of these lines.

@@ -15,7 +15,7 @@ use Rattle.bpf_model.specs.declared.insn.Insn.TheVariants.{Call}
 use Rattle.bpf_model.specs.Call.{helper_of, kernel_function_of}
 use Rattle.bpf_model.specs.Event.{Answers, if_ended, refusal, step_refusal}
 use Rattle.bpf_model.specs.Exit.{ExitsFrom, ExitsWith, exits_later, exits_now}
-use Rattle.bpf_model.specs.Machine.{Loaded, Machine, Run, environment, fresh_run, open_sections, run_at, run_in}
+use Rattle.bpf_model.specs.Machine.{Loaded, Machine, Run, environment, fresh_run, open_sections, run_at}
 use Rattle.bpf_model.specs.MachineStep.{InsnStep, RunStep, StepsRun}
 use Rattle.bpf_model.specs.MapState as map_state
 use Rattle.bpf_model.specs.Refines.{RunRefines, TracksSchedule}
@@ -47,8 +47,9 @@ use Rattle.lone_runs.specs.Lone.{StandsAlone, loaded_alone}
 use Rattle.lone_runs.proofs.Alone.{StepsAnywhere, steps_anywhere}
 use Rattle.model_laws.proofs.Alone.{acts-own, helper-own}
 use Rattle.bpf_model.proofs.Lists.{get-set_there}
+use Rattle.std.specs.Option.{option_flatten}
 
-set-there : (runs : List (Option Run)) (old : Run) (new : Option Run) (o : Option (Option Run)) → slice_get runs 0 ≡ o → run_in o ≡ Some old → slice_get (slice_set runs 0 new) 0 ≡ Some new
+set-there : (runs : List (Option Run)) (old : Run) (new : Option Run) (o : Option (Option Run)) → slice_get runs 0 ≡ o → option_flatten o ≡ Some old → slice_get (slice_set runs 0 new) 0 ≡ Some new
 set-there runs old new None e h = absurd (none-some old h)
 set-there runs old new (Some before) e h = get-set_there runs 0 before new e
 
@@ -83,7 +84,7 @@ section-asked view after imm (Some function) a access e h f same =
       same = same;
     }
 
--- nothing else is asked
+-- whether it is a section that is asked for
 abbrev is-section : Access → Bool
 is-section accesses.Enter = true
 is-section accesses.Leave = true
@@ -171,7 +172,7 @@ module _ (v : Checked) (view : RunView) (x : StandsAlone v view) where
         tracks = tracks;
         ready = ready;
         run = st.new_run;
-        there = ap (λ (n : Machine). run_at n.runs 0) st.new_is ∙ ap run_in (set-there m.runs x.run (Some st.new_run) (slice_get m.runs 0) refl x.running.there);
+        there = ap (λ (n : Machine). run_at n.runs 0) st.new_is ∙ ap option_flatten (set-there m.runs x.run (Some st.new_run) (slice_get m.runs 0) refl x.running.there);
         insn = step.0;
         here = step.1;
         same = same-insn step.0 m.store (open_sections m.runs) x.run answer st.new_store st.new_run step.2;

@@ -10,9 +10,9 @@ ghost use Rattle.machine.specs.Workspaces.{own_view, with_frame};
 ghost use Rattle.machine.specs.Moves.{IsIn, offset_from, own_number};
 ghost use Rattle.machine.specs.Requests.{IsInOwn};
 
-use crate::regions::{CTX_BASE, FRAME_BASE, NEAR, SPAN};
+use crate::regions::{CTX_BASE, FRAME_BASE, SPAN};
 use crate::workspace::Workspace;
-use bpf_model::Width;
+use bpf_model::{NEAR_LIMIT, Width};
 use byte_numbers::{number_of, write_number};
 
 /// Where a word lies.
@@ -29,7 +29,7 @@ pub(crate) enum Memory {
 fn is_in_context(word: u64) -> bool
     ensures { result ≡ (word_region word == word_region ctx_base) }
 {
-    CTX_BASE - NEAR <= word && word < CTX_BASE - NEAR + SPAN
+    CTX_BASE - NEAR_LIMIT <= word && word < CTX_BASE - NEAR_LIMIT + SPAN
 }
 
 /// Whether a word lies in the frame.
@@ -37,7 +37,7 @@ fn is_in_context(word: u64) -> bool
 fn is_in_frame(word: u64) -> bool
     ensures { result ≡ (word_region word == word_region frame_base) }
 {
-    FRAME_BASE - NEAR <= word && word < FRAME_BASE - NEAR + SPAN
+    FRAME_BASE - NEAR_LIMIT <= word && word < FRAME_BASE - NEAR_LIMIT + SPAN
 }
 
 /// Where a word lies.

@@ -4,9 +4,6 @@
 /// Regions begin at multiples of this.
 pub const SPAN: u64 = 1 << 31;
 
-/// A word lies at most so far before the beginning of its region.
-pub const NEAR: u64 = 1 << 29;
-
 /// The word of the context's first byte.
 pub(crate) const CTX_BASE: u64 = 1 << 40;
 

@@ -19,7 +19,7 @@ use Rattle.maps.specs.Parted.{PartsView, IsParted, standings}
 use Rattle.maps.specs.Shown.{map_view, linked_with, IsMap}
 
 module _ (shape : MapShape) (p : PartsView) (n : ℕ) (h : IsParted p) (m : IsMap shape p n) where
-  few-slots : length p.arena.slots ≤ MAX_ENTRIES + MAX_SPARE
+  pub few-slots : length p.arena.slots ≤ MAX_ENTRIES + MAX_SPARE
   few-slots = let valid : IsShape shape = m.valid in let long : length p.arena.slots ≡ slots_of_shape shape = m.arena.slots in omega arith
 
   abbrev listed : List ℕ

@@ -1,14 +1,15 @@
 -- What a delete and a reap leave of a map.
-use Rattle.std.proofs.Common.{◌≡◌, ◌∙◌, ℕ, zero, suc, ◌+◌, ◌-◌, ◌<◌, List, [], ◌∷◌, ◌++◌, length, Option, Some, inl, inr, sym, ap, arith, Bool, true, false, subst, cond}
+use Rattle.std.proofs.Common.{◌≡◌, ◌∙◌, ℕ, ◌+◌, ◌-◌, ◌<◌, List, [], ◌∷◌, ◌++◌, length, Option, Some, inl, inr, sym, ap, arith, Bool, true, subst, cond}
 use Rattle.std.specs.Prelude.{slice_set, count_by, ◌==◌}
 use Rattle.std.specs.FinMap.{get, remove}
 use Rattle.std.proofs.lemmas.Bool.{cond-true, cond-false, cases_Bool}
-use Rattle.model_laws.proofs.Tallies.{count-cons}
+use Rattle.model_laws.proofs.Tallies.{count-set, one_of}
+use Rattle.bpf_model.proofs.Lists.{get-below}
 use Rattle.bpf_model.specs.declared.event.Given.{Given}
 use Rattle.bpf_model.specs.declared.event.Given.TheVariants.{Free, Worn}
 use Rattle.bpf_model.specs.declared.limits.MapShape.{MapShape}
 use Rattle.bpf_model.specs.View.{MapView, uses_at}
-use Rattle.element_arena.specs.State.{key_at, worn_at, is_last_use, given_back}
+use Rattle.element_arena.specs.State.{key_at, worn_at, flag_in, is_last_use, given_back}
 use Rattle.view_laws.specs.Views.{given_at, reaped_view}
 use Rattle.view_laws.specs.Views as views
 use Rattle.view_laws.proofs.Lists.{len-remove_found}
@@ -26,18 +27,12 @@ retired-kept shape p r i n h g e =
     } in
     subst (λ (z : PartsView). IsMap shape z (n - 1)) (sym e) k
 
-count-set : (xs : List Bool) (i : ℕ) → worn_at xs i ≡ 0 → i < length xs → count_by (λ b. b) (slice_set xs i true) ≡ count_by (λ b. b) xs + 1
-count-set [] i w h = absurd (omega arith)
-count-set (true ∷ xs) zero w h = absurd (omega arith)
-count-set (false ∷ xs) zero w h =
-    let n : count_by (λ b. b) (true ∷ xs) ≡ 1 + count_by (λ b. b) xs = count-cons (λ b. b) true xs in
-    let o : count_by (λ b. b) (false ∷ xs) ≡ 0 + count_by (λ b. b) xs = count-cons (λ b. b) false xs in
-    n ∙ omega arith
-count-set (b ∷ xs) (suc i) w h =
-    let n : count_by (λ b. b) (b ∷ slice_set xs i true) ≡ cond b 1 0 + count_by (λ b. b) (slice_set xs i true) = count-cons (λ b. b) b (slice_set xs i true) in
-    let o : count_by (λ b. b) (b ∷ xs) ≡ cond b 1 0 + count_by (λ b. b) xs = count-cons (λ b. b) b xs in
-    let r : count_by (λ b. b) (slice_set xs i true) ≡ count_by (λ b. b) xs + 1 = count-set xs i w (omega arith) in
-    n ∙ omega arith
+count-worn : (xs : List Bool) (i : ℕ) → worn_at xs i ≡ 0 → i < length xs → count_by (λ b. b) (slice_set xs i true) ≡ count_by (λ b. b) xs + 1
+count-worn xs i w h =
+    let x = get-below xs i h in
+    let was : one_of x.0 ≡ 0 = sym (ap flag_in x.1) ∙ w in
+    let more : count_by (λ b. b) (slice_set xs i true) + one_of x.0 ≡ count_by (λ b. b) xs + 1 = count-set (λ (b : Bool). b) xs i x.0 true x.1 in
+    omega arith
 
 module _ (shape : MapShape) (p : PartsView) (i : ℕ) (l : List (Option ℕ)) (a : IsOfShape shape p.arena) where
   pub given-is : given_at (map_view shape p) i ≡ cond (is_last_use p.arena i) Worn Free
@@ -62,7 +57,7 @@ module _ (shape : MapShape) (p : PartsView) (i : ℕ) (l : List (Option ℕ)) (a
   reaped-shown w h = elim (cases_Bool (is_last_use p.arena i)) [
     | inl y ↦
         ap (λ b. by_last b) y
-        ∙ (ap (λ n. with_worn n) (count-set p.arena.worn i w h)
+        ∙ (ap (λ n. with_worn n) (count-worn p.arena.worn i w h)
         ∙ sym (ap (λ gv. views.slot_given_back gv i (map_view shape p)) (given-is ∙ cond-true _ _ _ y)))
     | inr n ↦ ap (λ b. by_last b) n ∙ sym (ap (λ gv. views.slot_given_back gv i (map_view shape p)) (given-is ∙ cond-false _ _ _ n))
   ]

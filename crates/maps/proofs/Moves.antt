@@ -2,14 +2,16 @@
 use Rattle.std.proofs.Common.{◌≡◌, ◌≢◌, ◌∙◌, ℕ, ◌+◌, ◌<◌, ◌≤◌, List, [], ◌∷◌, ◌++◌, length, Some, None, refl, sym, ap, arith, cond, eqb, subst}
 use Rattle.std.specs.FinMap.{get, insert, remove}
 use Rattle.bpf_model.specs.Schedule.{Queues, turned}
-use Rattle.element_arena.specs.State.{ArenaState, IsTaken, LinksOf, SameAt, is_at, indexed, times_in, link_in, key_at, taken, given_back, with_slot_value}
+use Rattle.element_arena.specs.State.{ArenaState, IsTaken, LinksOf, SameAt, is_at, indexed, times_in, key_at, taken, given_back, with_slot_value}
 use Rattle.element_arena.proofs.Counts.{one_same, one_other, times-append}
-use Rattle.deferred_free.proofs.Moves.{taken_same}
+use Rattle.element_arena.proofs.Views.{taken_same}
 use Rattle.deferred_free.specs.Queued.{queued, retired_lists, reaped_lists}
 use Rattle.maps.specs.Parted.{PartsView, standings, IsParted, IsInHand}
 use Rattle.bpf_model.specs.Codes.{KeyMap}
 use Rattle.maps.proofs.Parting.{standing-taken, indexed-insert, parted-links, parted-inserted, parted-removed, removed-held, parted-retired, parted-turned, parted-reaped, parted-taken, taken-held, taken-indexed, other-key, taken-key, parted-given, written-key, parted-written}
-use Rattle.bpf_model.proofs.Lists.{get-set_other, length-set}
+use Rattle.std.proofs.lemmas.List.{length-set}
+use Rattle.bpf_model.proofs.Lists.{get-set_other}
+use Rattle.std.specs.Option.{option_flatten}
 
 -- an arena that is another but for its links has the same slots in hand
 pub held-links : (m : KeyMap) (q : Queues) (a b : ArenaState) (j : ℕ) → b ≡ record a { links = b.links } → IsInHand (record { index = m; lists = q; arena = a }) j → IsInHand (record { index = m; lists = q; arena = b }) j
@@ -135,7 +137,7 @@ module _ (X Y : Type 0) (contents : X → ArenaState → KeyMap) (fits_index : X
       let agree : (own : ℕ → ℕ) → ((j : ℕ) → 0 < own j → (j ≢ i) × IsTaken (taken a i rest key value) j) → SameAt own a (taken a i rest key value) = (λ own g. record {
         long = length-set a.slots i _;
         key = λ j o. other-key (record { index = contents x a; lists = lists y a; arena = a }) i rest key value h split j (g j o).0;
-        link = λ j o. ap link_in (get-set_other a.links i j None (g j o).0);
+        link = λ j o. ap option_flatten (get-set_other a.links i j None (g j o).0);
         taken = λ j o. (g j o).1;
       }) in
       let same : (j : ℕ) → indexed (contents x a) (taken a i rest key value).slots j ≡ indexed (contents x a) a.slots j = taken-indexed (record { index = contents x a; lists = lists y a; arena = a }) i rest key value h split in
@@ -162,7 +164,7 @@ module _ (X Y : Type 0) (contents : X → ArenaState → KeyMap) (fits_index : X
       let agree : (own : ℕ → ℕ) → ((j : ℕ) → 0 < own j → (j ≢ i) × IsTaken (given_back a i) j) → SameAt own a (given_back a i) = (λ own g. record {
         long = refl;
         key = λ j o. refl;
-        link = λ j o. ap link_in (get-set_other a.links i j None (g j o).0);
+        link = λ j o. ap option_flatten (get-set_other a.links i j None (g j o).0);
         taken = λ j o. (g j o).1;
       }) in
       let si = agree (indexed (contents x a) a.slots) (λ j g. (nowhere j (omega arith), standing-taken (record { index = contents x a; lists = lists y a; arena = given_back a i }) j pt (omega arith))) in

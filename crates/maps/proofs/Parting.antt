@@ -13,7 +13,8 @@ use Rattle.view_laws.proofs.Lists.{insert-same, insert-other, remove-same, remov
 use Rattle.deferred_free.specs.Queued.{queued, retired_lists, reaped_lists}
 use Rattle.maps.specs.Parted.{PartsView, standings, IsParted, IsInHand, IsInUse}
 use Rattle.bpf_model.specs.Codes.{KeyMap}
-use Rattle.bpf_model.proofs.Lists.{get-set_other, get-set_same, length-set, key_cases}
+use Rattle.std.proofs.lemmas.List.{length-set}
+use Rattle.bpf_model.proofs.Lists.{get-set_other, get-set_same, key_cases}
 
 -- a slot that is linked or in a list is taken
 pub standing-taken : (p : PartsView) (i : ℕ) → IsParted p → IsInUse p i → IsTaken p.arena i

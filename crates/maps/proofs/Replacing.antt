@@ -1,8 +1,9 @@
 -- A slot in hand, while the slot that its key had is unlinked.
-use Rattle.std.proofs.Common.{◌≡◌, ◌∙◌, ℕ, ◌+◌, [], ◌∷◌, ◌++◌, Some, None, sym, ap, arith, cond, eqb, subst}
+use Rattle.std.proofs.Common.{◌≡◌, ◌∙◌, ℕ, ◌+◌, [], ◌∷◌, ◌++◌, Some, None, refl, sym, ap, arith, cond, eqb, subst}
 use Rattle.std.specs.FinMap.{get, remove}
 use Rattle.element_arena.specs.State.{is_at, times_in, key_at}
 use Rattle.element_arena.proofs.Counts.{times-append}
+use Rattle.element_arena.proofs.Views.{taken_same}
 use Rattle.view_laws.proofs.Lists.{remove-same}
 use Rattle.deferred_free.specs.Queued.{queued, retired_lists}
 use Rattle.maps.specs.Parted.{PartsView, IsParted, IsInHand}
@@ -16,7 +17,7 @@ held-after p r i old h held g e =
     let unlisted : queued p.lists i ≡ 0 = held.unlisted in
     let more : times_in i (p.lists.next ++ old ∷ []) ≡ times_in i p.lists.next + (cond {A = ℕ} (eqb old i) 1 0 + 0) = times-append i p.lists.next (old ∷ []) in
     let held' : IsInHand (record { index = remove p.index (key_at p.arena.slots old); lists = retired_lists p.lists old; arena = record p.arena { links = r.arena.links } }) i = record {
-      taken = record { inside = held.taken.inside; not_free = held.taken.not_free; not_worn = held.taken.not_worn };
+      taken = taken_same p.arena (record p.arena { links = r.arena.links }) i refl held.taken;
       unlinked = ap (λ o. is_at o i) gone;
       unlisted = omega arith;
     } in

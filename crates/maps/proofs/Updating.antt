@@ -17,7 +17,7 @@ use Rattle.view_laws.proofs.Lists.{remove-same, len-remove_found, len-insert_new
 use Rattle.maps.specs.Parted.{PartsView, without_key}
 use Rattle.bpf_model.specs.Codes.{KeyMap}
 use Rattle.maps.specs.Shown.{map_view, IsMap, IsOfShape, or_no_memory, linked_with, put_in}
-use Rattle.bpf_model.proofs.Lists.{length-set}
+use Rattle.std.proofs.lemmas.List.{length-set}
 
 -- an update that a test refuses
 pub refused : (v : MapView) (key value : List ℕ) (flags : ℕ) (e : Errno) → shown_error v key flags ≡ Some e → updated v key value flags ≡ (Err e, v)

@@ -1,7 +1,7 @@
 -- Loads lead from described runs to described ones.
-use Rattle.std.proofs.Common.{◌≡◌, ℕ, ◌+◌, ◌/◌, ◌%◌, ◌^◌, ◌<◌, ◌≤◌, List, length, Some, None, inl, refl, sym, ap, subst, ◌∙◌, ℤ, arith, true}
+use Rattle.std.proofs.Common.{◌≡◌, ℕ, ◌+◌, ◌/◌, ◌%◌, ◌^◌, ◌<◌, ◌≤◌, List, length, Some, None, inl, refl, ap, subst, ◌∙◌, ℤ, arith, true}
 use Rattle.std.specs.Prelude.{slice_get, slice_index_or, ◌+ℤ◌}
-use Rattle.std.proofs.lemmas.Option.{none-some, slice_get-get_or}
+use Rattle.std.proofs.lemmas.Option.{slice_get-get_or}
 use Rattle.bpf_model.specs.declared.limits.MapShape.{MapShape}
 use Rattle.bpf_model.specs.declared.limits.TheConstants.{FRAME_BYTES}
 use Rattle.bpf_model.specs.declared.insn.Insn.TheVariants.{Load, LoadSigned}
@@ -50,9 +50,6 @@ pub record Finds (env : Environment) (m : State) (width : ℕ) (offset : ℤ) (v
   pub bound : n < 256 ^ width
   pub alone : (es : List Element) (k : ℕ) → element_load es width offset v ≡ Some k → ⊥
 
-ctx-alone : (es : List Element) (width : ℕ) (offset : ℤ) (v : Value) (o : ℤ) (k : ℕ) → v ≡ Pointer (Ctx o) → element_load es width offset v ≡ Some k → ⊥
-ctx-alone es width offset v o k e h = none-some k (sym (ap (element_load es width offset) e) ∙ h)
-
 context-finds : (ctx_len maps width : ℕ) (offset : ℤ) (s : Scalar) (env : Environment) (m : State) (v : Value) → IsEnvironment ctx_len maps env → IsContextAt s v → IsAlwaysInside s width offset ctx_len → Finds env m width offset v
 context-finds ctx_len maps width offset s env m v i x inside =
     let p = inside x.offset x.there in
@@ -67,7 +64,7 @@ context-finds ctx_len maps width offset s env m v i x inside =
           ∙ (ap (λ len. region_offset len width (x.offset +ℤ offset) >>= λ at. number_at (slice_get env.context) at width >>= λ n. Some (Number n)) i.long
           ∙ (ap (λ q. q >>= λ at. number_at (slice_get env.context) at width >>= λ n. Some (Number n)) p.1 ∙ ap (λ q. q >>= λ n. Some (Number n)) r.1));
       bound = r.2;
-      alone = λ es k. ctx-alone es width offset v x.offset k x.is;
+      alone = λ es k. no-element-load es width offset v (Ctx x.offset) k tt x.is;
     }
 
 some-bytes : (width : Width) → 0 < byte_count width
@@ -88,7 +85,7 @@ frame-finds width at r o offset a c env m d e p bytes =
       loads = ap (load_from env m (byte_count width) offset) base
           ∙ (ap (λ q. q >>= λ at. read m.frame at (byte_count width)) p ∙ (ap (found m.frame at (byte_count width)) first.1 ∙ ap (λ q. q >>= λ n. Some (Number n)) n.1));
       bound = n.2;
-      alone = λ es k. no-element-load es (byte_count width) offset (m.regs r) o k base;
+      alone = λ es k. no-element-load es (byte_count width) offset (m.regs r) (Frame o) k tt base;
     }
 
 -- a load that finds a number in each described state
@@ -102,7 +99,7 @@ module _ (dst src : ℕ) (offset : ℤ) (shapes : List MapShape) (ctx_len : ℕ)
   found_transfers width all finds = alone_transfers (Load width dst src offset) shapes ctx_len a (with_kind dst (Num t) a) None refl (λ c env m i d.
       let f = finds c env m i d in record {
         out = Moves (record { regs = put dst (Number f.n) m.regs; frame = m.frame; place = m.place + 1 });
-        after_is = ap (λ q. q >>= λ v. sets 1 dst v m) f.loads ∙ set-is dst (Number f.n) m ne;
+        after_is = ap (λ q. q >>= λ v. sets 1 dst v m) f.loads ∙ set-is 1 dst (Number f.n) m ne;
         alone = λ es fs other h. f.alone es h.0 h.1;
         lands = inl (refl, refl, set-number c m f.n d (wide-fits width f.n f.bound) (all f.n f.bound));
       })
@@ -114,7 +111,7 @@ module _ (dst src : ℕ) (offset : ℤ) (shapes : List MapShape) (ctx_len : ℕ)
       let f = finds c env m i d in
       let n : ℕ = loaded_signed width f.n in record {
         out = Moves (record { regs = put dst (Number n) m.regs; frame = m.frame; place = m.place + 1 });
-        after_is = ap (λ q. q >>= λ v. number v >>= λ k. sets 1 dst (Number (loaded_signed width k)) m) f.loads ∙ set-is dst (Number n) m ne;
+        after_is = ap (λ q. q >>= λ v. number v >>= λ k. sets 1 dst (Number (loaded_signed width k)) m) f.loads ∙ set-is 1 dst (Number n) m ne;
         alone = λ es fs other h. f.alone es h.0 h.1;
         lands = inl (refl, refl, set-number c m n d (all f.n).0 (all f.n).1);
       })

@@ -35,7 +35,7 @@ number_stored width dst offset src shapes ctx_len a o at e p number = alone_tran
       out = Moves (record { regs = m.regs; frame = with_number at w x.0 m.frame; place = m.place + 1 });
       after_is = ap (store_to m w offset (operand_value src m.regs)) base
           ∙ (ap (λ v. stored m w offset v (Frame o)) x.1 ∙ ap (λ q. q >>= λ k. frame_after k w (Number x.0) m.frame >>= goes) p);
-      alone = λ es fs other h. no-element es w offset (operand_value src m.regs) (m.regs dst) o fs base h.0;
+      alone = λ es fs other h. no-element es w offset (operand_value src m.regs) (m.regs dst) (Frame o) fs tt base h.0;
       lands = inl (refl, refl, bytes-described a c m at w x.0 (m.place + 1) d);
     })
 

@@ -1,10 +1,10 @@
 -- Each slot of a map is free, holds an element that isn't reclaimed, or is worn out.
 use Rattle.std.proofs.Common.{◌≡◌, ◌≢◌, ℕ, zero, suc, ◌+◌, ◌*◌, ◌<◌, ◌≤◌, List, [], ◌∷◌, ◌++◌, length, replicate, Option, Some, None, inl, inr, refl, sym, ap, ◌∙◌, arith, subst, Result, Bool, true, false}
-use Rattle.std.specs.Prelude.{slice_get, slice_set, ◌↔◌, ◌==◌, ◌&&◌, not, if◌then◌else◌}
+use Rattle.std.specs.Prelude.{slice_get, slice_set, ◌↔◌, ◌==◌, not, if◌then◌else◌}
 use Rattle.std.specs.List.{sum_by}
 use Rattle.std.proofs.Math.Nat.{add-mul}
 use Rattle.std.proofs.Math.Numerals.{lt_of_le_of_ne}
-use Rattle.std.proofs.lemmas.Bool.{cases_eq, eqb-true, eq-eqb, false≢true}
+use Rattle.std.proofs.lemmas.Bool.{cases_eq, eqb-true, eq-eqb, false≢true, and_parts}
 use Rattle.std.proofs.lemmas.Option.{none-some}
 use Rattle.std.proofs.lemmas.List.Sums.{sum_by-cons, sum_by-append, sum_by_push}
 use Rattle.std.proofs.lemmas.List.Folds.{sum_by-replicate}
@@ -33,13 +33,14 @@ use Rattle.bpf_model.specs.Reclaim.{Reclaims}
 use Rattle.bpf_model.specs.Machine.{Run, Machine, Loaded, environment, open_sections, start_machine}
 use Rattle.bpf_model.specs.MachineStep.{HelperStep, InsnStep}
 use Rattle.bpf_model.specs.Event.{PerformsEvent, Answers, refusal}
-use Rattle.bpf_model.specs.Schedule.{Schedule, IsScheduledHistory, last_scheduled, start_schedule}
+use Rattle.bpf_model.specs.Schedule.{Schedule, IsScheduledHistory, start_schedule}
 use Rattle.bpf_model.specs.Refines.{times, IsReachedSchedule}
 use Rattle.model_laws.specs.Accounted.{kept_count, born_count, IsFull}
 use Rattle.model_laws.proofs.Stores.{Touches, touches-found, touches-acts, shape-given}
 use Rattle.model_laws.proofs.Counting.{map-back, times-append, times-first, times-other}
 use Rattle.model_laws.proofs.Tallies.{is_kept, of-same, of-other, kept-touched, kept-born, kept-reclaimed, kept-kinds, kept_uses, uses-touched, born-touched, kept-was, kept-is, uses-here, uses-away, uses-born, born-born, uses-reclaimed, born-reclaimed, uses-most}
 use Rattle.bpf_model.proofs.Lists.{get-append_cases, get-set_cases}
+use Rattle.bpf_model.specs.History.{last_of}
 
 abbrev total : List ℕ → ℕ
 total counts = sum_by (λ c. c) counts
@@ -90,10 +91,6 @@ adds-touched opened es fs k m t a = record {
 
 accounts-elements : (opened : List Section) (s new : Store) (es : List Element) → Touches false opened s.elements es → new ≡ with_elements es s → Accounts s new
 accounts-elements opened s new es t e h = subst Accounted (sym e) (λ k m at. adds-touched opened s.elements es k m t (h k m at))
-
-and-right : (a b : Bool) → (a && b) ≡ true → b ≡ true
-and-right true b h = h
-and-right false b h = absurd (false≢true h)
 
 -- a birth takes a slot out of the bag
 taken-one : (old new : List ℕ) (count : ℕ) → TakesOut old count new → length old ≡ length new + 1
@@ -185,7 +182,7 @@ module _ (s : Store) (map : ℕ) (m : MapState) (h : Accounted s) (opened : List
         free = a.free;
         kept = λ some n e g kept. elim (get-append_cases mid nb n e g) [
           | inl x ↦ a.kept some n e x kept
-          | inr x ↦ absurd (away (sym (eqb-true e.map k (and-right (not (is_reclaimed e.life)) (e.map == k) kept)) ∙ ap (λ (z : Element). z.map) (sym x.1)))
+          | inr x ↦ absurd (away (sym (eqb-true e.map k (and_parts (not (is_reclaimed e.life)) (e.map == k) kept).1) ∙ ap (λ (z : Element). z.map) (sym x.1)))
         ];
       }
 
@@ -334,7 +331,7 @@ accounts-answers None m event answer new h = accounts-performs m event answer ne
 accounts-answers (Some k) m event answer new h = accounts-same m.store new.store (ap (λ x. x.store) h.1)
 
 -- a history
-accounted-along : (s : Schedule) (events : List Event) (answers : List Answer) (states : List Schedule) → Accounted s.machine.store → IsScheduledHistory s events answers states → Accounted (last_scheduled s states).machine.store
+accounted-along : (s : Schedule) (events : List Event) (answers : List Answer) (states : List Schedule) → Accounted s.machine.store → IsScheduledHistory s events answers states → Accounted (last_of s states).machine.store
 accounted-along s [] [] [] a h = a
 accounted-along s (event ∷ events) (answer ∷ answers) (next ∷ states) a h =
     accounted-along next events answers states (accounts-answers (refusal s.machine event) s.machine event answer next.machine h.0.step a) h.1

@@ -7,7 +7,7 @@ use Rattle.std.proofs.lemmas.Option.{none-some, same_Some}
 use Rattle.std.proofs.lemmas.List.Sums.{sum_by-cons, sum_by-append}
 use Rattle.bpf_model.proofs.Cases.{option_cases, none-at, none-without}
 use Rattle.bpf_model.specs.Element.{Element, is_linked, is_unlinked}
-use Rattle.bpf_model.specs.Schedule.{Queues, is_any, still_open, unlinked_between, retired, or_first, first_ready, without_first}
+use Rattle.bpf_model.specs.Schedule.{Queues, is_any, still_open, retired_in, unlinked_between, retired, or_first, first_ready, without_first}
 use Rattle.bpf_model.specs.Refines.{times}
 use Rattle.bpf_model.proofs.Lists.{get-set_cases}
 
@@ -61,16 +61,12 @@ between-at map b (o ∷ olds) (w ∷ news) (suc j) x e =
 pub between-is : (map : ℕ) (olds news : List Element) (x : ℕ) → times x (unlinked_between map 0 olds news) ≡ newly map (slice_get olds x) (slice_get news x)
 between-is map olds news x = between-at map 0 olds news x x (omega arith)
 
--- the lists after an unlinking
-abbrev pub with_more : ℕ → List Element → List Element → Queues → Queues
-with_more k old new q = record { next = q.next ++ unlinked_between k 0 old new; waiting = q.waiting; ready = q.ready }
-
-retired-at : (old new : List Element) (qs : List Queues) (k j i : ℕ) (q' : Queues) → i ≡ k + j → slice_get (retired k old new qs) j ≡ Some q' → (q : Queues) × (slice_get qs j ≡ Some q) × (with_more i old new q ≡ q')
+retired-at : (old new : List Element) (qs : List Queues) (k j i : ℕ) (q' : Queues) → i ≡ k + j → slice_get (retired k old new qs) j ≡ Some q' → (q : Queues) × (slice_get qs j ≡ Some q) × (retired_in i old new q ≡ q')
 retired-at old new [] k j i q' e h = absurd (none-some q' h)
-retired-at old new (q ∷ qs) k zero i q' e h = let s : i ≡ k = omega arith in (q, refl, ap (λ z. with_more z old new q) s ∙ same_Some (with_more k old new q) q' h)
+retired-at old new (q ∷ qs) k zero i q' e h = let s : i ≡ k = omega arith in (q, refl, ap (λ z. retired_in z old new q) s ∙ same_Some (retired_in k old new q) q' h)
 retired-at old new (q ∷ qs) k (suc j) i q' e h = retired-at old new qs (suc k) j i q' (omega arith) h
 
-pub retired-back : (old new : List Element) (qs : List Queues) (k : ℕ) (q' : Queues) → slice_get (retired 0 old new qs) k ≡ Some q' → (q : Queues) × (slice_get qs k ≡ Some q) × (with_more k old new q ≡ q')
+pub retired-back : (old new : List Element) (qs : List Queues) (k : ℕ) (q' : Queues) → slice_get (retired 0 old new qs) k ≡ Some q' → (q : Queues) × (slice_get qs k ≡ Some q) × (retired_in k old new q ≡ q')
 retired-back old new qs k q' h = retired-at old new qs 0 k k q' (omega arith) h
 
 pub length-retired : (old new : List Element) (qs : List Queues) (k : ℕ) → length (retired k old new qs) ≡ length qs

@@ -16,18 +16,19 @@ use Rattle.bpf_model.specs.Element.{Element, Life, Linked, Unlinked, Reclaimed, 
 use Rattle.bpf_model.specs.MapState.{MapState, Store, given_of}
 use Rattle.bpf_model.specs.Reclaim.{Reclaims}
 use Rattle.bpf_model.specs.Machine.{Loaded, Machine, open_sections, with_store}
-use Rattle.bpf_model.specs.Schedule.{Queues, Schedule, open_flags, is_any, unlinked_between, turned, advanced, first_ready, reaped, scheduled, TakesFirst, DoesScheduled, IsScheduledHistory, start_schedule}
+use Rattle.bpf_model.specs.Schedule.{Queues, Schedule, open_flags, is_any, retired_in, unlinked_between, turned, advanced, first_ready, reaped, scheduled, TakesFirst, DoesScheduled, IsScheduledHistory, start_schedule}
 use Rattle.bpf_model.specs.Drain.{IsQuietAdvance, Drains, machines}
 use Rattle.bpf_model.specs.Refines.{times}
 use Rattle.model_laws.specs.Scheduled.{IsScheduled, IsReapable}
 use Rattle.model_laws.proofs.Advancing.{no_flag}
 use Rattle.model_laws.proofs.Stores.{LifeMoves, Stays, Unlinks, Ends, StoreMoves, is_reap, does-moves}
-use Rattle.model_laws.proofs.Counting.{newly, times-append, times-first, between-is, with_more, retired-back, map-back, any-place, place-any, first-index, none-ready, without-back}
+use Rattle.model_laws.proofs.Counting.{newly, times-append, times-first, between-is, retired-back, map-back, any-place, place-any, first-index, none-ready, without-back}
 use Rattle.model_laws.proofs.Queueing.{Queued, queued-here}
 use Rattle.model_laws.proofs.Scheduling.{plain, first-queued, starts_scheduled, stays_scheduled}
 use Rattle.model_laws.proofs.Lives.{linked≢unlinked, reclaimed≢linked}
 use Rattle.model_laws.proofs.Tallies.{one_of}
-use Rattle.bpf_model.proofs.Lists.{get-below, get-set_there, length-set}
+use Rattle.std.proofs.lemmas.List.{length-set}
+use Rattle.bpf_model.proofs.Lists.{get-below, get-set_there}
 
 -- an element that isn't linked any more
 pub record IsOut (es : List Element) (n : ℕ) : Type 0 where
@@ -61,7 +62,7 @@ newly-out : (k : ℕ) (e : Element) (o : Option Element) → e.life ≢ Linked �
 newly-out k e None h = refl
 newly-out k e (Some f) h = ap (λ b. one_of (b && is_unlinked f.life && (e.map == k))) (not-linked e.life h)
 
-next-out : (k n : ℕ) (q : Queues) (old new : List Element) → IsOut old n → times n q.next ≡ 0 → times n (with_more k old new q).next ≡ 0
+next-out : (k n : ℕ) (q : Queues) (old new : List Element) → IsOut old n → times n q.next ≡ 0 → times n (retired_in k old new q).next ≡ 0
 next-out k n q old new o h =
     let a = times-append n q.next (unlinked_between k 0 old new) in
     let b = between-is k old new n in

@@ -4,21 +4,21 @@ use Rattle.std.specs.Prelude.{slice_get, slice_set}
 use Rattle.std.proofs.lemmas.Bool.{cases_eq}
 use Rattle.bpf_model.specs.Section.{Section}
 use Rattle.bpf_model.specs.Element.{Element, Life, Linked, Unlinked, Reclaimed, IsLinkedAt, HasLife, with_life, with_value, set_to, changed, unlinked}
-use Rattle.model_laws.specs.Growth.{Later, IsLaterElement, ElementsGrow}
+use Rattle.model_laws.specs.Growth.{IsLaterLife, IsLaterElement, ElementsGrow}
 use Rattle.bpf_model.proofs.Lists.{get-append, get-set_other, get-set_there}
 
-later-same : (l : Life) → Later l l
+later-same : (l : Life) → IsLaterLife l l
 later-same Linked = tt
 later-same (Unlinked s) = refl
 later-same Reclaimed = tt
 
-later-unlinked : (l : Life) (since : List Section) → l ≡ Linked → Later l (Unlinked since)
-later-unlinked l since h = subst (λ x. Later x (Unlinked since)) (sym h) tt
+later-unlinked : (l : Life) (since : List Section) → l ≡ Linked → IsLaterLife l (Unlinked since)
+later-unlinked l since h = subst (λ x. IsLaterLife x (Unlinked since)) (sym h) tt
 
-later-reclaimed : (l : Life) (since : List Section) → l ≡ Unlinked since → Later l Reclaimed
-later-reclaimed l since h = subst (λ x. Later x Reclaimed) (sym h) tt
+later-reclaimed : (l : Life) (since : List Section) → l ≡ Unlinked since → IsLaterLife l Reclaimed
+later-reclaimed l since h = subst (λ x. IsLaterLife x Reclaimed) (sym h) tt
 
-only-reclaimed : (a b : Life) → a ≡ Reclaimed → Later a b → b ≡ Reclaimed
+only-reclaimed : (a b : Life) → a ≡ Reclaimed → IsLaterLife a b → b ≡ Reclaimed
 only-reclaimed Linked b e h = absurd (cc)
 only-reclaimed (Unlinked s) b e h = absurd (cc)
 only-reclaimed Reclaimed Linked e h = absurd h

@@ -7,7 +7,7 @@ use Rattle.bpf_model.proofs.Lists.{get-map}
 use Rattle.bpf_model.specs.Section.{Section, Has, AllEnded}
 use Rattle.bpf_model.specs.Element.{Element, Life, Linked, Unlinked, Reclaimed, is_linked, is_unlinked}
 use Rattle.bpf_model.specs.MapState.{Store}
-use Rattle.bpf_model.specs.Machine.{Run, open_sections, run_in, run_at}
+use Rattle.bpf_model.specs.Machine.{Run, open_sections, run_at}
 use Rattle.bpf_model.specs.Schedule.{Queues, Schedule, is_open, open_flags}
 use Rattle.bpf_model.specs.Refines.{times}
 use Rattle.model_laws.specs.Scheduled.{queued_in, Waits, IsScheduled}
@@ -19,6 +19,7 @@ use Rattle.model_laws.proofs.Counting.{newly, zero-plus}
 use Rattle.model_laws.proofs.Lives.{linked≢unlinked, reclaimed≢unlinked}
 use Rattle.model_laws.proofs.Tallies.{one_of, one-most}
 use Rattle.bpf_model.specs.Consistent.{AllBegun}
+use Rattle.std.specs.Option.{option_flatten}
 
 -- what is queued is an unlinked element of the map
 pub record Queued (es : List Element) (k n : ℕ) : Type 0 where
@@ -75,7 +76,7 @@ since-before reap opened s new k n f since mv q at life = elim (element-before r
 ]
 
 -- a run that is inside is flagged as open
-pub in-slot : (o : Option (Option Run)) (run : Run) → run_in o ≡ Some run → o ≡ Some (Some run)
+pub in-slot : (o : Option (Option Run)) (run : Run) → option_flatten o ≡ Some run → o ≡ Some (Some run)
 in-slot None run h = absurd (none-some run h)
 in-slot (Some None) run h = absurd (none-some run h)
 in-slot (Some (Some x)) run h = ap Some h

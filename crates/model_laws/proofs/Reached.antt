@@ -4,13 +4,14 @@ use Rattle.bpf_model.specs.declared.limits.MapShape.{MapShape}
 use Rattle.bpf_model.specs.declared.event.Event.{Event}
 use Rattle.bpf_model.specs.declared.event.Answer.{Answer}
 use Rattle.bpf_model.specs.Machine.{Loaded}
-use Rattle.bpf_model.specs.Schedule.{Schedule, IsScheduledHistory, last_scheduled, start_schedule}
+use Rattle.bpf_model.specs.Schedule.{Schedule, IsScheduledHistory, start_schedule}
 use Rattle.bpf_model.specs.View.{WorldView, shapes_of}
 use Rattle.bpf_model.specs.Refines.{IsReachedSchedule, TracksSchedule}
 use Rattle.model_laws.specs.Scheduled.{IsScheduled}
 use Rattle.model_laws.proofs.Scheduling.{starts_scheduled, stays_scheduled}
+use Rattle.bpf_model.specs.History.{last_of}
 
-pub scheduled-last : (s : Schedule) (events : List Event) (answers : List Answer) (states : List Schedule) → IsScheduled s → IsScheduledHistory s events answers states → IsScheduled (last_scheduled s states)
+pub scheduled-last : (s : Schedule) (events : List Event) (answers : List Answer) (states : List Schedule) → IsScheduled s → IsScheduledHistory s events answers states → IsScheduled (last_of s states)
 scheduled-last s [] [] [] w h = w
 scheduled-last s (event ∷ events) (answer ∷ answers) (next ∷ states) w h = scheduled-last next events answers states (stays_scheduled s next event answer w h.0) h.1
 scheduled-last s events answers states w h = absurd h

@@ -2,6 +2,7 @@
 use Rattle.std.proofs.Common.{◌≡◌, ℕ, suc, List, [], ◌∷◌, Option, Some, None, Bool, true, false, ◌⊎◌, inl, inr, refl, sym, ap, ◌∙◌, subst, ℤ, ◌+ℤ◌}
 use Rattle.std.specs.Prelude.{◌==◌, ◌↔◌, slice_get, if◌then◌else◌}
 use Rattle.std.proofs.lemmas.Option.{none-some, same_Some}
+use Rattle.std.proofs.lemmas.Bool.{cond-false}
 use Rattle.bpf_model.specs.declared.limits.MapShape.{MapShape}
 use Rattle.bpf_model.specs.declared.insn.Insn.{Insn}
 use Rattle.bpf_model.specs.declared.insn.Insn.TheVariants.{Call, Load, LoadSigned, Store}
@@ -347,9 +348,6 @@ set-some : (b : Bool) (x out : Outcome) → (if b then None else Some x) ≡ Som
 set-some true x out h = absurd (none-some out h)
 set-some false x out h = (refl, same_Some x out h)
 
-set-free : (b : Bool) (x : Outcome) → b ≡ false → (if b then None else Some x) ≡ Some x
-set-free b x e = ap (λ c. if c then None else Some x) e
-
 -- a request that is asked is none that the run meets by itself
 pub asks_or_acts : (i : Insn) (shapes : ℕ → Option MapShape) (env : Environment) (m : State) (request : Request) → asks i shapes m ≡ Some request → after i env m ≡ None
 asks_or_acts (Load width dst src offset) shapes env m request h =
@@ -456,7 +454,7 @@ module _ (s : map_state.Store) (opened : List Section) (run : Run) (answer : Ans
       let goes : new_run ≡ moves run (loads dst h.reply run.state) = subst (λ x. Resumes x (Load width dst src offset) h.reply run new_run) is h.resumes in (
         Moves (loads dst (Number done.0) run.state),
         s.elements,
-        inr (done.0, ap (element_load s.elements (byte_count width) offset) a.base_is ∙ done.1, set-free (dst == 10) _ a.free, refl),
+        inr (done.0, ap (element_load s.elements (byte_count width) offset) a.base_is ∙ done.1, cond-false (dst == 10) _ _ a.free, refl),
         done.3,
         (h.answer_is, goes ∙ ap (λ v. moves run (loads dst v run.state)) done.2),
       )
@@ -467,7 +465,7 @@ module _ (s : map_state.Store) (opened : List Section) (run : Run) (answer : Ans
       let goes : new_run ≡ moves run (loads dst (extended_reply width h.reply) run.state) = subst (λ x. Resumes x (LoadSigned width dst src offset) h.reply run new_run) is h.resumes in (
         Moves (loads dst (Number (loaded_signed width done.0)) run.state),
         s.elements,
-        inr (done.0, ap (element_load s.elements (byte_count (unsigned_width width)) offset) a.base_is ∙ done.1, set-free (dst == 10) _ a.free, refl),
+        inr (done.0, ap (element_load s.elements (byte_count (unsigned_width width)) offset) a.base_is ∙ done.1, cond-false (dst == 10) _ _ a.free, refl),
         done.3,
         (h.answer_is, goes ∙ ap (λ v. moves run (loads dst (extended_reply width v) run.state)) done.2),
       )

@@ -1,8 +1,8 @@
 -- What is so of the runtime's choices at the start, and stays so.
-use Rattle.std.proofs.Common.{◌≡◌, ◌≢◌, ℕ, zero, suc, ◌+◌, ◌<◌, List, ◌++◌, map, replicate, Some, None, inl, inr, refl, sym, ap, ◌∙◌, arith, subst, Bool, true, false}
+use Rattle.std.proofs.Common.{◌≡◌, ◌≢◌, ℕ, ◌+◌, ◌<◌, List, ◌++◌, map, replicate, Some, None, inl, inr, refl, sym, ap, ◌∙◌, arith, subst, Bool, true, false}
 use Rattle.std.specs.Prelude.{slice_get, slice_set}
 use Rattle.std.proofs.lemmas.Bool.{cases_eq, cases_lt, false≢true}
-use Rattle.std.proofs.lemmas.Option.{none-some, same_Some}
+use Rattle.std.proofs.lemmas.Option.{same_Some}
 use Rattle.std.proofs.lemmas.List.{length-map}
 use Rattle.bpf_model.specs.declared.limits.MapShape.{MapShape}
 use Rattle.bpf_model.specs.declared.limits.TheConstants.{MAX_RUNS}
@@ -17,7 +17,7 @@ use Rattle.bpf_model.specs.MapState.{Store, new_map}
 use Rattle.bpf_model.specs.Reclaim.{Reclaims}
 use Rattle.bpf_model.specs.Machine.{Loaded, Machine, open_sections, with_store}
 use Rattle.bpf_model.specs.Event.{DoesEvent}
-use Rattle.bpf_model.specs.Schedule.{Queues, Schedule, open_flags, still_open, is_any, unlinked_between, retired, turned, advanced, first_ready, without_first, reaped, scheduled, TakesFirst, DoesScheduled, start_schedule, no_queues}
+use Rattle.bpf_model.specs.Schedule.{Queues, Schedule, open_flags, still_open, is_any, retired_in, unlinked_between, retired, turned, advanced, first_ready, without_first, reaped, scheduled, TakesFirst, DoesScheduled, start_schedule, no_queues}
 use Rattle.bpf_model.specs.Consistent.{IsConsistent}
 use Rattle.bpf_model.specs.Refines.{times}
 use Rattle.model_laws.specs.Scheduled.{queued_in, Waits, IsScheduled}
@@ -25,10 +25,10 @@ use Rattle.model_laws.proofs.Sections.{OpenAt, open_at}
 use Rattle.model_laws.proofs.Moves.{RunsMove, does-move}
 use Rattle.model_laws.proofs.Stores.{StoreMoves, is_reap, does-moves}
 use Rattle.model_laws.proofs.Keeping.{starts_consistent, stays_consistent}
-use Rattle.model_laws.proofs.Counting.{times-append, times-first, times-other, between-is, with_more, retired-back, length-retired, map-back, still-forth, still-back, place-any, shortened, FirstIndex, first-index, without-back, length-without}
+use Rattle.model_laws.proofs.Counting.{times-append, times-first, times-other, between-is, retired-back, length-retired, map-back, still-forth, still-back, place-any, shortened, FirstIndex, first-index, without-back, length-without}
 use Rattle.model_laws.proofs.Queueing.{Queued, queued-of, queued-most, queued-reclaimed, queued-elsewhere, open-flag, keeps-waits, count-step}
 use Rattle.model_laws.proofs.Lives.{reclaimed≢unlinked}
-use Rattle.bpf_model.proofs.Lists.{get-set_cases, get-set_other}
+use Rattle.bpf_model.proofs.Lists.{get-set_cases, get-set_other, get-replicate}
 use Rattle.bpf_model.proofs.Cases.{none-without}
 
 abbrev total : ℕ → Queues → ℕ
@@ -36,9 +36,7 @@ total n q = times n q.next + times n q.waiting + times n q.ready
 
 -- the start
 no-flag : (n r : ℕ) → slice_get (replicate n false) r ≡ Some true → ⊥
-no-flag zero r h = none-some true h
-no-flag (suc n) zero h = false≢true (same_Some false true h)
-no-flag (suc n) (suc r) h = no-flag n r h
+no-flag n r h = false≢true (sym (get-replicate n r false true h))
 
 pub waits-nothing : (s : Schedule) → Waits s no_queues
 waits-nothing s = record { ended = λ n e since has born life. absurd (omega arith); awaits = λ n e since r run has born life there inside h. absurd (omega arith) }
@@ -57,7 +55,7 @@ abbrev pub plain : Schedule → Machine → Schedule
 plain s m = record { machine = m; queues = retired 0 s.machine.store.elements m.store.elements s.queues; awaited = still_open s.awaited (open_flags m.runs) }
 
 module _ (s : Schedule) (m : Machine) (w : IsScheduled s) (consistent : IsConsistent m) (runs : RunsMove s.machine m) (mv : StoreMoves false (open_sections s.machine.runs) s.machine.store m.store) where
-  plain-total : (k n : ℕ) (q : Queues) → slice_get s.queues k ≡ Some q → total n (with_more k s.machine.store.elements m.store.elements q) ≡ queued_in k (slice_get m.store.elements n)
+  plain-total : (k n : ℕ) (q : Queues) → slice_get s.queues k ≡ Some q → total n (retired_in k s.machine.store.elements m.store.elements q) ≡ queued_in k (slice_get m.store.elements n)
   plain-total k n q at =
       let a = times-append n q.next (unlinked_between k 0 s.machine.store.elements m.store.elements) in
       let b = between-is k s.machine.store.elements m.store.elements n in
@@ -74,7 +72,7 @@ module _ (s : Schedule) (m : Machine) (w : IsScheduled s) (consistent : IsConsis
     waits = λ k later at.
         let b = retired-back s.machine.store.elements m.store.elements s.queues k later at in
         subst (Waits (plain s m)) b.2
-        (keeps-waits false s (plain s m) w runs mv (λ r run there inside h. still-forth s.awaited (open_flags m.runs) r h (open-flag m.runs r run there inside)) k b.0 (with_more k s.machine.store.elements m.store.elements b.0) b.1 refl (λ n. omega arith));
+        (keeps-waits false s (plain s m) w runs mv (λ r run there inside h. still-forth s.awaited (open_flags m.runs) r h (open-flag m.runs r run there inside)) k b.0 (retired_in k s.machine.store.elements m.store.elements b.0) b.1 refl (λ n. omega arith));
   }
 
 -- an advance

@@ -3,13 +3,12 @@ use Rattle.std.proofs.Common.{◌≡◌, ◌≢◌, ℕ, zero, suc, ◌<◌, Lis
 use Rattle.std.specs.Prelude.{slice_get, slice_set, if◌then◌else◌}
 use Rattle.std.proofs.lemmas.Bool.{ltb-true, lt-ltb}
 use Rattle.std.proofs.lemmas.Option.{none-some, same_Some}
-use Rattle.bpf_model.proofs.Cases.{in-some}
 use Rattle.bpf_model.specs.Section.{Section, Has}
 use Rattle.bpf_model.specs.Machine.{Run, is_inside, section_of, open_sections, run_at}
 
 pub run-set_cases : (runs : List (Option Run)) (r q : ℕ) (new : Option Run) (x : Run) → run_at (slice_set runs r new) q ≡ Some x → ((q ≡ r) × (new ≡ Some x)) ⊎ ((q ≢ r) × (run_at runs q ≡ Some x))
 run-set_cases [] r q new x h = absurd (none-some x h)
-run-set_cases (y ∷ runs) zero zero new x h = inl (refl, in-some new x h)
+run-set_cases (y ∷ runs) zero zero new x h = inl (refl, h)
 run-set_cases (y ∷ runs) zero (suc q) new x h = inr (λ e. absurd (omega arith), h)
 run-set_cases (y ∷ runs) (suc r) zero new x h = inr (λ e. absurd (omega arith), h)
 run-set_cases (y ∷ runs) (suc r) (suc q) new x h = elim (run-set_cases runs r q new x h) [ inl p ↦ inl (ap suc p.0, p.1) | inr p ↦ inr (λ e. p.0 (omega arith), p.1) ]

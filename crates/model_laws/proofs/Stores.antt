@@ -42,7 +42,8 @@ use Rattle.bpf_model.specs.Event.{PerformsEvent, Answers, DoesEvent, refusal, up
 use Rattle.model_laws.proofs.Computations.{first-step}
 use Rattle.model_laws.proofs.Lives.{linked≢unlinked}
 use Rattle.bpf_model.proofs.Bytes.{length-with_bytes}
-use Rattle.bpf_model.proofs.Lists.{get-append, get-append_cases, get-set_cases, get-set_other, get-set_there, length-set}
+use Rattle.std.proofs.lemmas.List.{length-set}
+use Rattle.bpf_model.proofs.Lists.{get-append, get-append_cases, get-set_cases, get-set_other, get-set_there}
 
 -- How a life goes on in one step: it stays, the element is unlinked, or (in a reap) its sections have ended.
 pub data LifeMoves (reap : Bool) (opened : List Section) (old new : Life) : Type 0 where

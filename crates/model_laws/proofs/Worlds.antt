@@ -3,9 +3,9 @@ use Rattle.std.proofs.Common.{◌≡◌, List, [], ◌∷◌, refl, ap, ◌∙�
 use Rattle.bpf_model.specs.declared.event.Event.{Event}
 use Rattle.bpf_model.specs.declared.event.Answer.{Answer}
 use Rattle.bpf_model.specs.Event.{DoesEvent}
-use Rattle.bpf_model.specs.History.{IsHistory, last_machine}
+use Rattle.bpf_model.specs.History.{IsHistory, last_of}
 use Rattle.bpf_model.specs.Headline.{AnswersAsMachine, AreMachineAnswers, AreReclaimedLate}
-use Rattle.bpf_model.specs.Schedule.{Schedule, IsScheduledHistory, last_scheduled}
+use Rattle.bpf_model.specs.Schedule.{Schedule, IsScheduledHistory}
 use Rattle.bpf_model.specs.Drain.{AnswersAsScheduled, AreScheduledAnswers, machines}
 use Rattle.bpf_model.specs.View.{WorldView}
 use Rattle.bpf_model.specs.Refines.{TracksSchedule, Tracks}
@@ -22,7 +22,7 @@ machine-history s [] [] [] h = tt
 machine-history s (event ∷ events) (answer ∷ answers) (next ∷ states) h = (h.0.step, machine-history next events answers states h.1)
 machine-history s events answers states h = absurd h
 
-machine-last : (s : Schedule) (states : List Schedule) → (last_scheduled s states).machine ≡ last_machine s.machine (machines states)
+machine-last : (s : Schedule) (states : List Schedule) → (last_of s states).machine ≡ last_of s.machine (machines states)
 machine-last s [] = refl
 machine-last s (next ∷ states) = machine-last next states
 
@@ -30,7 +30,7 @@ pub scheduled_is_machine : (old new : WorldView) (events : List Event) (answers 
 scheduled_is_machine old new events answers h m t =
     let r = h t.0 t.2 in
     let history : IsHistory m events answers (machines r.0) = subst (λ x. IsHistory x events answers (machines r.0)) t.1 (machine-history t.0 events answers r.0 r.1) in
-    (machines r.0, history, (last_scheduled t.0 r.0, machine-last t.0 r.0 ∙ ap (λ x. last_machine x (machines r.0)) t.1, r.3))
+    (machines r.0, history, (last_of t.0 r.0, machine-last t.0 r.0 ∙ ap (λ x. last_of x (machines r.0)) t.1, r.3))
 
 pub scheduled_is_machine_once : (old new : WorldView) (event : Event) (answer : Answer) → AnswersAsScheduled TracksSchedule old event answer new → AnswersAsMachine Tracks old event answer new
 scheduled_is_machine_once old new event answer h m t =

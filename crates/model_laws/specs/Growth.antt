@@ -4,22 +4,22 @@ use Rattle.bpf_model.specs.Element.{Element, Life, Linked, Unlinked, Reclaimed}
 
 -- a life goes on by at most one step: a linked one stays so or is unlinked, an unlinked one keeps
 -- its sections or is reclaimed, a reclaimed one stays so
-abbrev pub Later : Life → Life → Type 0
-Later Linked Linked = Unit {0}
-Later Linked (Unlinked t) = Unit {0}
-Later Linked Reclaimed = ⊥
-Later (Unlinked s) Linked = ⊥
-Later (Unlinked s) (Unlinked t) = s ≡ t
-Later (Unlinked s) Reclaimed = Unit {0}
-Later Reclaimed Linked = ⊥
-Later Reclaimed (Unlinked t) = ⊥
-Later Reclaimed Reclaimed = Unit {0}
+abbrev pub IsLaterLife : Life → Life → Type 0
+IsLaterLife Linked Linked = Unit {0}
+IsLaterLife Linked (Unlinked t) = Unit {0}
+IsLaterLife Linked Reclaimed = ⊥
+IsLaterLife (Unlinked s) Linked = ⊥
+IsLaterLife (Unlinked s) (Unlinked t) = s ≡ t
+IsLaterLife (Unlinked s) Reclaimed = Unit {0}
+IsLaterLife Reclaimed Linked = ⊥
+IsLaterLife Reclaimed (Unlinked t) = ⊥
+IsLaterLife Reclaimed Reclaimed = Unit {0}
 
 pub record IsLaterElement (old new : Element) : Type 0 where
   pub in_map : new.map ≡ old.map
   pub under : new.key ≡ old.key
   pub uses : new.uses ≡ old.uses
-  pub life : Later old.life new.life
+  pub life : IsLaterLife old.life new.life
 
 -- each element is still there, and has gone on by at most one step
 abbrev pub ElementsGrow : List Element → List Element → Type 0

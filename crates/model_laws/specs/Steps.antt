@@ -2,8 +2,9 @@
 use Rattle.std.specs.Prelude.{◌≡◌, List, [], ◌∷◌}
 use Rattle.bpf_model.specs.declared.event.Event.{Event}
 use Rattle.bpf_model.specs.declared.event.Answer.{Answer}
-use Rattle.bpf_model.specs.Schedule.{Schedule, IsScheduledHistory, last_scheduled}
+use Rattle.bpf_model.specs.Schedule.{Schedule, IsScheduledHistory}
 use Rattle.bpf_model.specs.Drain.{AnswersAsScheduled}
+use Rattle.bpf_model.specs.History.{last_of}
 
 module _ {World : Type 0} where
   -- Each answer is a step with the runtime's choices, from the world after the answer before it;
@@ -22,4 +23,4 @@ module _ {World : Type 0} where
   AnswersAsHistory Tracks old events answers new =
       (s : Schedule) → Tracks old s →
       (states : List Schedule) × IsScheduledHistory s events answers states
-      × Tracks new (last_scheduled s states)
+      × Tracks new (last_of s states)

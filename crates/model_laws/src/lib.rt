@@ -17,12 +17,12 @@ ghost use Rattle.bpf_model.specs.Element.{Element, Reclaimed, HasLife};
 ghost use Rattle.bpf_model.specs.declared.insn.Insn.{Insn};
 ghost use Rattle.bpf_model.specs.declared.limits.MapShape.{MapShape};
 ghost use Rattle.bpf_model.specs.Machine.{Machine, Loaded, open_sections, start_machine};
-ghost use Rattle.bpf_model.specs.Schedule.{Queues, Schedule, is_any, first_ready, DoesScheduled, IsScheduledHistory, last_scheduled, start_schedule};
+ghost use Rattle.bpf_model.specs.Schedule.{Queues, Schedule, is_any, first_ready, DoesScheduled, IsScheduledHistory, start_schedule};
 ghost use Rattle.bpf_model.specs.Drain.{Drains, machines, AnswersAsScheduled, AreScheduledAnswers};
 ghost use Rattle.bpf_model.specs.Plain.{IsPlain};
 ghost use Rattle.bpf_model.specs.PlainMaps.{IsPlainWithMaps};
 ghost use Rattle.bpf_model.specs.Event.{refusal, DoesEvent};
-ghost use Rattle.bpf_model.specs.History.{HasHistoryTo, IsHistory};
+ghost use Rattle.bpf_model.specs.History.{HasHistoryTo, IsHistory, last_of};
 ghost use Rattle.bpf_model.specs.Section.{Section, Has};
 ghost use Rattle.bpf_model.specs.Consistent.{IsConsistent, HasBegun};
 ghost use Rattle.bpf_model.specs.Headline.{ReclaimedLate, AnswersAsMachine, AreMachineAnswers, AreReclaimedLate};
@@ -315,7 +315,7 @@ pub fn scheduled_from_start()
         AreScheduledAnswers TracksSchedule old events answers new →
         (states : List Schedule)
         × IsScheduledHistory (start_schedule shapes programs) events answers states
-        × TracksSchedule new (last_scheduled (start_schedule shapes programs) states) }
+        × TracksSchedule new (last_of (start_schedule shapes programs) states) }
 {}
 
 /// Answers of a history with the runtime's choices are answers of a history of the machine.

@@ -4,14 +4,13 @@ use Rattle.std.specs.Prelude.{Result, slice_get, slice_set, length, if◌then◌
 use Rattle.bpf_model.specs.declared.event.Event.{Event}
 use Rattle.bpf_model.specs.declared.event.Event.TheVariants as events
 use Rattle.bpf_model.specs.declared.event.Answer.{Answer}
-use Rattle.std.specs.Option.{option_map}
+use Rattle.std.specs.Option.{option_map, option_flatten}
 use Rattle.bpf_model.specs.declared.event.Answer.TheVariants.{Found}
 use Rattle.plain_store.specs.Births.{Finds}
 use Rattle.bpf_model.specs.MapState.{Store, shape_of}
-use Rattle.bpf_model.specs.Machine.{Run, Machine, run_in, run_at, open_sections, with_runs, with_store}
+use Rattle.bpf_model.specs.Machine.{Run, Machine, run_at, open_sections, with_runs, with_store}
 use Rattle.bpf_model.specs.MachineStep.{StepsRun}
 use Rattle.std.proofs.lemmas.Bool.{eq-eqb}
-use Rattle.bpf_model.proofs.Cases.{in-some}
 use Rattle.bpf_model.specs.declared.event.Answer.TheVariants.{Started}
 use Rattle.bpf_model.specs.declared.event.EventRefusal.TheVariants.{BadContext}
 use Rattle.bpf_model.specs.Machine.{Loaded, lowest_free, begins}
@@ -44,13 +43,13 @@ pub step-does : (m : Machine) (r : ℕ) (old : Option Run) (answer : Result Answ
     new ≡ with_runs (with_store m t) (slice_set m.runs r q) → SlotStepsAs m.store (open_sections m.runs) old answer t q → DoesAs m (events.Step r) answer new
 step-does m r old answer t q new h free is s = tells-map _ _ _ _ answer done stuck s
   where
-    at : run_at m.runs r ≡ run_in (Some old)
-    at = ap run_in h
+    at : run_at m.runs r ≡ option_flatten (Some old)
+    at = ap option_flatten h
 
     done : (a : Answer) → SlotStep m.store (open_sections m.runs) old a t q → DoesEvent m (events.Step r) a new
     done a k = does-performs m (events.Step r) a new free (moved old a k at)
       where
-        moved : (o : Option Run) (a : Answer) → SlotStep m.store (open_sections m.runs) o a t q → run_at m.runs r ≡ run_in (Some o) → StepsRun m r a new
+        moved : (o : Option Run) (a : Answer) → SlotStep m.store (open_sections m.runs) o a t q → run_at m.runs r ≡ option_flatten (Some o) → StepsRun m r a new
         moved None a k e = absurd k
         moved (Some run) a k e = record {
           run = run;
@@ -65,7 +64,7 @@ step-does m r old answer t q new h free is s = tells-map _ _ _ _ answer done stu
     stuck : ((a : Answer) (u : Store) (p : Option Run) → SlotStep m.store (open_sections m.runs) old a u p → ⊥) → (a : Answer) (next : Machine) → DoesEvent m (events.Step r) a next → ⊥
     stuck none a next d =
         let p = does-only m (events.Step r) a next free d in
-        let o : old ≡ Some p.run = in-some old p.run (sym at ∙ p.there) in
+        let o : old ≡ Some p.run = sym at ∙ p.there in
         none a p.new_store (Some p.new_run) (subst (λ x. SlotStep m.store (open_sections m.runs) x a p.new_store (Some p.new_run)) (sym o) (p.new_run, refl, p.step))
 
 pub start-does : (m : Machine) (prog r : ℕ) (ctx : ArrayVec ℕ) (program : Loaded) (new : Machine) → slice_get m.programs prog ≡ Some program → length ctx.items ≡ program.context_len → lowest_free m.runs ≡ Some r →

@@ -16,4 +16,4 @@
 mod grace;
 mod machine;
 
-pub use machine::{Machine, Totals};
+pub use machine::Machine;

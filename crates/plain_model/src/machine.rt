@@ -17,25 +17,13 @@ ghost use Rattle.plain_model.specs.Following.{settled, is_advance_or_reap as is_
 use crate::grace::{is_any, still_open};
 use bpf_model::{
     Answer, CtxBytes, Event, EventRefusal, KeyBytes, MAX_RUNS, MapId, MapShape, ProgId, RunId,
-    ValueBytes,
+    Stat, ValueBytes,
 };
 use plain_runs::{Loaded, Run, is_inside, lowest_free, open_flags, open_sections, step_slot};
 use plain_store::{
     Fault, Queues, Section, Store, first_ready, one_more, retire_all, take_first, turn_all,
 };
 use std::alloc::{AllocError, Global};
-
-/// How many elements are linked, unlinked and reclaimed, how many map slots are worn out, and how many run
-/// slots are occupied and by runs inside a section.
-#[derive(Clone, Copy, Debug, PartialEq, Eq)]
-pub struct Totals {
-    pub linked: usize,
-    pub unlinked: usize,
-    pub reclaimed: usize,
-    pub worn: u64,
-    pub runs: usize,
-    pub open: usize,
-}
 
 /// The machine, with each map's lists of unlinked elements, and for each run slot whether its section is
 /// awaited.
@@ -109,24 +97,21 @@ impl Machine {
         })
     }
 
-    /// The totals of the present state.
-    pub fn totals(&self) -> Totals {
+    /// The counts of the present state.
+    pub fn stat(&self) -> Stat {
         let elements = self.store.elements.as_slice();
         let runs = self.runs.as_slice();
         let linked = elements.iter().filter(|e| e.life.is_linked()).count();
-        let reclaimed = elements.iter().filter(|e| e.life.is_reclaimed()).count();
+        let given = elements.iter().filter(|e| e.life.is_reclaimed()).count();
         let mut worn: u64 = 0;
         for state in self.store.maps.as_slice() {
             worn = worn.saturating_add(state.worn);
         }
-        Totals {
+        Stat {
             linked,
-            unlinked: elements
-                .len()
-                .saturating_sub(linked)
-                .saturating_sub(reclaimed),
-            reclaimed,
-            worn,
+            unlinked: elements.len().saturating_sub(linked).saturating_sub(given),
+            given,
+            worn: worn as usize,
             runs: runs.iter().filter(|slot| slot.is_some()).count(),
             open: runs.iter().filter(|slot| is_inside(slot)).count(),
         }

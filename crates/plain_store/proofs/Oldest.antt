@@ -8,7 +8,8 @@ use Rattle.bpf_model.specs.Schedule.{TakesOldest}
 use Rattle.plain_store.specs.Births.{uses_after_first, without_first_free}
 use Rattle.plain_store.proofs.Births.{without_first-at}
 use Rattle.plain_store.proofs.Lists.{first-of}
-use Rattle.bpf_model.proofs.Lists.{get-set_there, length-set, get-append_last}
+use Rattle.std.proofs.lemmas.List.{length-set}
+use Rattle.bpf_model.proofs.Lists.{get-set_there, get-append_last}
 
 changed-length : (f : Element → Element) (es : List Element) (n : ℕ) (o : Option Element) → length (set_to f es n o) ≡ length es
 changed-length f es n None = refl

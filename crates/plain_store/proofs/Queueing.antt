@@ -4,9 +4,8 @@ use Rattle.std.specs.Prelude.{slice_get, slice_set, drop, take, is_some, ◌&&�
 use Rattle.std.proofs.lemmas.List.{append_assoc, append-nil, drop_all, map-set}
 use Rattle.std.proofs.lemmas.Bool.{eq-eqb, ne_eqb}
 use Rattle.bpf_model.specs.Element.{Element, is_linked, is_unlinked}
-use Rattle.bpf_model.specs.Schedule.{Queues, turned, retired, unlinked_between, first_ready, or_first, without_first}
+use Rattle.bpf_model.specs.Schedule.{Queues, turned, retired, retired_in, unlinked_between, first_ready, or_first, without_first}
 use Rattle.bpf_model.specs.Schedule as schedule
-use Rattle.plain_store.specs.Retiring.{retire_in}
 use Rattle.plain_store.specs.State.{queues_of}
 use Rattle.plain_store.specs.declared.queues.Queues as plain
 use Rattle.plain_store.proofs.Lists.{drop-at}
@@ -45,11 +44,11 @@ all-turned [] (suc k) i h = refl
 all-turned (q ∷ qs) zero i h = absurd (omega arith)
 all-turned (q ∷ qs) (suc k) i h = ap (λ l. turned q ∷ l) (all-turned qs k (suc i) (omega arith))
 
-pub all-retired : (olds news : List Element) (qs : List Queues) (k i : ℕ) → length qs ≤ k → mixed (retire_in olds news) k i qs ≡ retired i olds news qs
+pub all-retired : (olds news : List Element) (qs : List Queues) (k i : ℕ) → length qs ≤ k → mixed (λ j. retired_in j olds news) k i qs ≡ retired i olds news qs
 all-retired olds news [] zero i h = refl
 all-retired olds news [] (suc k) i h = refl
 all-retired olds news (q ∷ qs) zero i h = absurd (omega arith)
-all-retired olds news (q ∷ qs) (suc k) i h = ap (λ l. retire_in olds news i q ∷ l) (all-retired olds news qs k (suc i) (omega arith))
+all-retired olds news (q ∷ qs) (suc k) i h = ap (λ l. retired_in i olds news q ∷ l) (all-retired olds news qs k (suc i) (omega arith))
 
 -- one more element that was unlinked, or wasn't
 pub if-retired : (done rest : List ℕ) (n : ℕ) (b : Bool) → done ++ (if b then n ∷ rest else rest) ≡ (done ++ (if b then n ∷ [] else [])) ++ rest

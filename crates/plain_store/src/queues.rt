@@ -1,8 +1,8 @@
 //! The lists of a map's unlinked elements, which wait to be reclaimed.
 ghost use Rattle.std.specs.Prelude.{◌≡◌, ◌∷◌, [], ◌++◌, ◌&&◌, ◌==◌, if◌then◌else◌, slice_get, drop, OnOk, List, map};
 ghost use Rattle.bpf_model.specs.Element.{Element as ModelElement, is_linked as is_linked_of, is_unlinked as is_unlinked_of};
-ghost use Rattle.bpf_model.specs.Schedule.{turned, retired, first_ready as first_ready_of, without_first};
-ghost use Rattle.plain_store.specs.Retiring.{linked_map, retire_in};
+ghost use Rattle.bpf_model.specs.Schedule.{turned, retired, retired_in, first_ready as first_ready_of, without_first};
+ghost use Rattle.plain_store.specs.Retiring.{linked_map};
 ghost use Rattle.plain_store.specs.State.{element_of, elements_of, queues_of};
 
 use crate::element::Element;
@@ -129,7 +129,7 @@ fn retire(
         ≡ map linked_map olds →
         OnOk result
         (queues_of queues.new
-        ≡ retire_in olds (elements_of elements.now) k (queues_of queues.old)) }
+        ≡ retired_in k olds (elements_of elements.now) (queues_of queues.old)) }
 {
     for n in 0..before.len().min(elements.len()) {
         push_if(&mut queues.next, is_retired(before[n], k, &elements[n]), n)?;

@@ -10,7 +10,7 @@ use Rattle.bpf_model.specs.Step.{insn_at}
 use Rattle.program_graph.specs.declared.refusal.GraphFlaw.{GraphFlaw}
 use Rattle.program_graph.specs.declared.refusal.GraphFlaw.TheVariants.{JumpTarget, BackJump, FallsOff, Unreachable}
 use Rattle.program_graph.specs.GraphFlaws.{missing, landing_flaw, distance_flaw, jump_flaw, JumpsWell, IsFirstBadJump, IsBadEnd, HasGraphFlaw, HasGoodGraph}
-use Rattle.program_graph.proofs.Edges.{nat_le_false}
+use Rattle.std.proofs.lemmas.Bool.{lt-leb}
 
 bad_not_well : (program : List Insn) (f : GraphFlaw) (s : ℕ) → IsFirstBadJump program f s → JumpsWell program → ⊥
 bad_not_well program f s a well = (let e : None ≡ Some f = sym (well s a.insn a.at) ∙ a.bad in cc)
@@ -39,7 +39,7 @@ good_jump program slot i jumps = by (distance i) refl
         let same : jump.0 ≡ d = same_Some _ _ (sym jump.1 ∙ e) in
         let lands : pos j.0 ≡ pos (slot + 1) +ℤ d = jump.2 ∙ ap (λ d. pos (slot + 1) +ℤ d) same in
         ap (landing_flaw program slot) (sym lands)
-        ∙ ap (λ b. cond b (Some BackJump) (missing (insn_at program j.0))) (nat_le_false j.0 slot j.3)
+        ∙ ap (λ b. cond b (Some BackJump) (missing (insn_at program j.0))) (lt-leb j.0 slot j.3)
         ∙ ap missing j.4
 
 pub forward_graph : (program : List Insn) → HasForwardGraph program → HasGoodGraph program

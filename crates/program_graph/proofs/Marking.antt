@@ -76,12 +76,13 @@ module _ (program : List Insn) (targets : List (Option ℕ)) (long : length targ
       let to : leads.to ≡ p = same_Some _ _ (sym leads.to_is ∙ there) in
       inr (leads.by, leads.by_is, ap pos (sym to) ∙ leads.sum ∙ ap (λ f. pos (f + 1) +ℤ leads.by) from)
 
-  pub target_inside : (j k : ℕ) (i : Insn) → slice_get program j ≡ Some i → slice_get targets j ≡ Some (Some k) → k < length program
-  target_inside j k i e f = let leads : LeadsTo program j i k = all.each j i (Some k) e f in start-inside program k leads.to leads.to_is
+-- a target stands inside the program
+pub target_within : (program : List Insn) (k : ℕ) (i : Insn) (t : ℕ) → IsTarget program k i (Some t) → t < length program
+target_within program k i t leads = start-inside program t leads.to leads.to_is
 
-  pub target_fits : (j : ℕ) (i : Insn) (t : Option ℕ) → slice_get program j ≡ Some i → slice_get targets j ≡ Some t → IfSome t (λ k. k < length program)
-  target_fits j i None e f = tt
-  target_fits j i (Some k) e f = target_inside j k i e f
+pub target_fits : (program : List Insn) (k : ℕ) (i : Insn) (target : Option ℕ) → IsTarget program k i target → IfSome target (λ t. t < length program)
+target_fits program k i None leads = tt
+target_fits program k i (Some t) leads = target_within program k i t leads
 
 -- a slot that is reached and isn't the first is reached along an edge
 pub reached_by : {program : List Insn} {p : ℕ} → Reached program p → (p ≡ 0) ⊎ ((place : ℕ) × (i : Insn) × Reached program place × (insn_at program place ≡ Some i) × GoesTo i place p)

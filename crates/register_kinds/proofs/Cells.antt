@@ -1,8 +1,8 @@
 -- Joins of whole states: cells by what was stored in their groups.
-use Rattle.std.proofs.Common.{◌≡◌, ◌≢◌, ℕ, ◌+◌, ◌/◌, ◌<◌, ◌≤◌, List, length, refl, sym, subst, ◌∙◌, arith, inl, inr, below_more}
-use Rattle.std.specs.Prelude.{slice_set, if◌then◌else◌}
+use Rattle.std.proofs.Common.{◌≡◌, ℕ, ◌+◌, ◌/◌, ◌<◌, List, length, refl, sym, subst, ◌∙◌, arith, inl, inr}
+use Rattle.std.specs.Prelude.{if◌then◌else◌}
 use Rattle.std.proofs.lemmas.Bool.{cases_lt}
-use Rattle.std.proofs.lemmas.List.{get_or-set_same, get_or-set_other, get_or_past}
+use Rattle.std.proofs.lemmas.List.{get_or_past}
 use Rattle.typed_runs.specs.Kinds.{PartCell}
 use Rattle.typed_runs.specs.Planned.{Joins}
 use Rattle.scalar_domain.proofs.Bits.{ap2}
@@ -63,14 +63,6 @@ module _ (top : ℕ) (pairs : List (ℕ × ℕ)) where
       (cell_joined (kind_in a.spills (k / 8)) (kind_in b.spills (k / 8)) (kind_in c.spills (k / 8)) (spills (k / 8)) (class_in a.cells k) (class_in b.cells k))
 
 -- bytes in a list, item by item
-pub joined_more : (i : ℕ) (xs : List classes.CellKind) (f : ℕ → classes.CellKind) (x : classes.CellKind) → i < length xs → ((k : ℕ) → k < i → class_in xs k ≡ f k) → x ≡ f i → (k : ℕ) → k < i + 1 → class_in (slice_set xs i x) k ≡ f k
-joined_more i xs f x l done here = below_more _ i
-    (λ k h. let ne : k ≢ i = omega arith in get_or-set_other xs i k x cells.Unwritten ne ∙ done k h)
-    (get_or-set_same xs i x cells.Unwritten l ∙ here)
-
-pub joined_kept : (i : ℕ) (xs old : List classes.CellKind) (x : classes.CellKind) → ((k : ℕ) → i ≤ k → class_in xs k ≡ class_in old k) → (k : ℕ) → i + 1 ≤ k → class_in (slice_set xs i x) k ≡ class_in old k
-joined_kept i xs old x rest k h = let ne : k ≢ i = omega arith in get_or-set_other xs i k x cells.Unwritten ne ∙ rest k (omega arith)
-
 pub joined_all : (xs old others : List classes.CellKind) (g : ℕ → RegKind) → length xs ≡ length others → length old ≡ length others
     → ((k : ℕ) → k < length others → class_in xs k ≡ joined_class (class_in old k) (class_in others k) (is_pointer (g k))) → (k : ℕ) → class_in xs k ≡ joined_class (class_in old k) (class_in others k) (is_pointer (g k))
 joined_all xs old others g e f all k = elim (cases_lt k (length others)) [

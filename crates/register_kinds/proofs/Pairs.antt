@@ -103,9 +103,6 @@ kinds_more top i pairs pairs' xs old others k l x done here = below_more _ i
     (λ r h. let ne : r ≢ i = omega arith in subst (λ y. JoinsKind top pairs' (kind_at old r) (kind_at others r) (kind_of y)) (sym (get_or-set_other xs i r k kinds.Unwritten ne)) (kind_later top pairs pairs' x _ _ _ (done r h)))
     (subst (λ y. JoinsKind top pairs' (kind_at old i) (kind_at others i) (kind_of y)) (sym (get_or-set_same xs i k kinds.Unwritten l)) here)
 
-pub kinds_kept : (i : ℕ) (xs old : List RegKind) (k : RegKind) → ((r : ℕ) → i ≤ r → kind_in xs r ≡ kind_in old r) → (r : ℕ) → i + 1 ≤ r → kind_in (slice_set xs i k) r ≡ kind_in old r
-kinds_kept i xs old k rest r h = let ne : r ≢ i = omega arith in get_or-set_other xs i r k kinds.Unwritten ne ∙ rest r (omega arith)
-
 pub kinds_all : (top : ℕ) (pairs : List (ℕ × ℕ)) (old others xs : List RegKind) → length xs ≡ length others → length old ≡ length others
     → ((r : ℕ) → r < length others → JoinsKind top pairs (kind_at old r) (kind_at others r) (kind_at xs r)) → (r : ℕ) → JoinsKind top pairs (kind_at old r) (kind_at others r) (kind_at xs r)
 kinds_all top pairs old others xs e f all r = elim (cases_lt r (length others)) [

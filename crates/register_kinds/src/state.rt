@@ -11,12 +11,12 @@ use crate::identities::{Identities, Pairs};
 use crate::join::join_kinds;
 use crate::kind::RegKind;
 use arrayvec::ArrayVec;
-use bpf_model::{FRAME_BYTES, REGISTERS};
+use bpf_model::{FRAME_BYTES, NEAR_LIMIT, REGISTERS};
 use scalar_domain::Scalar;
 use std::alloc::{AllocError, Global};
 
 /// The offset 0 of the context or of a value: a scalar keeps offsets so much higher.
-pub const ORIGIN: u64 = 1 << 29;
+pub const ORIGIN: u64 = NEAR_LIMIT;
 
 /// What is known before an instruction.
 #[derive(Clone, Copy)]

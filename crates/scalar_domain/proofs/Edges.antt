@@ -19,19 +19,16 @@ use Rattle.scalar_domain.specs.declared.relation.Relation.TheVariants.{Different
 use Rattle.scalar_domain.proofs.Bits.{ap2, within-and, within_le, within-trans}
 use Rattle.std.specs.Int.Bits.{and_self}
 
-differ : (x y : ℕ) → (x == y) ≡ false → x ≢ y
-differ x y e = eqb-false x y e
-
 pub related : (w : Width) (c : Condition) (t : Bool) (x y : ℕ) → holds w c x y ≡ t → Related (relation_on c t) x y
 related w condition.Equal true x y e = eqb-true x y e
-related w condition.Equal false x y e = differ x y e
+related w condition.Equal false x y e = eqb-false x y e
 related w condition.Greater true x y e = ltb-true y x e
 related w condition.Greater false x y e = ltb-false y x e
 related w condition.GreaterOrEqual true x y e = leb-true y x e
 related w condition.GreaterOrEqual false x y e = leb-false y x e
 related w condition.SharesBits true x y e = tt
 related w condition.SharesBits false x y e = eqb-true (bit_and x y) 0 (not-false (bit_and x y == 0) e)
-related w condition.NotEqual true x y e = differ x y (not-true (x == y) e)
+related w condition.NotEqual true x y e = eqb-false x y (not-true (x == y) e)
 related w condition.NotEqual false x y e = eqb-true x y (not-false (x == y) e)
 related w condition.SignedGreater true x y e = tt
 related w condition.SignedGreater false x y e = tt

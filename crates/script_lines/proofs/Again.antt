@@ -46,12 +46,12 @@ is_some_word : (word : List ℕ) → is_word word ≡ true → 0 < length word
 is_some_word [] h = cc h
 is_some_word (c ∷ word) h = omega arith
 
-one_of : (b : Bool) → (b || false) ≡ true → b ≡ true
-one_of true h = refl
-one_of false h = h
+left_true : (b : Bool) → (b || false) ≡ true → b ≡ true
+left_true true h = refl
+left_true false h = h
 
 one_digit : (word : List ℕ) → begins_well word ≡ true → get_or word 0 0 ≡ 48 → length word ≡ 1
-one_digit word h first = eqb-true (length word) 1 (one_of (length word == 1) (rw first at h))
+one_digit word h first = eqb-true (length word) 1 (left_true (length word == 1) (rw first at h))
 
 pub number_once : (word : List ℕ) (n : ℕ) → number_in word ≡ Some n → word ≡ decimal n
 number_once word n h =
@@ -63,8 +63,8 @@ number_once word n h =
     let limit : digits_value 10 word < 2 ^ 64 = grind (arith, nat_tests) in
     sym (decimal-digits_value own word digits.1 (is_some_word word parts.0) (one_digit word digits.0) limit) ∙ ap decimal read.1
 
-not_dash : (b : ℕ) (bytes : List ℕ) → bytes_eq (encode_lower (b ∷ bytes)) (codes "-") ≡ false
-not_dash b bytes =
+digits_no_dash : (b : ℕ) (bytes : List ℕ) → bytes_eq (encode_lower (b ∷ bytes)) (codes "-") ≡ false
+digits_no_dash b bytes =
     false_from_ne_true (bytes_eq (encode_lower (b ∷ bytes)) (codes "-")) (λ same.
     let e : length (encode_lower (b ∷ bytes)) ≡ 1 = ap length ((bytes_eq-Decides (encode_lower (b ∷ bytes)) (codes "-")).0 same) in
     let twice : length (encode_lower (b ∷ bytes)) ≡ 2 * length (b ∷ bytes) = length-encode_with lower_digits (b ∷ bytes) in
@@ -77,7 +77,7 @@ some_text b bytes =
 
 digits_again : (b : ℕ) (bytes : List ℕ) → IsBytes (b ∷ bytes) → hex_bytes_in (encode_lower (b ∷ bytes)) ≡ Some (b ∷ bytes)
 digits_again b bytes h =
-    let dash = not_dash b bytes in
+    let dash = digits_no_dash b bytes in
     let again : decode_of (encode_lower (b ∷ bytes)) ≡ Ok (b ∷ bytes) = decode_of-encode_lower (b ∷ bytes) h in
     rw (dash, again) refl
 

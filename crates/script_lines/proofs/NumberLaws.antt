@@ -15,7 +15,7 @@ pub record IsReadSoFar (digits : List ℕ) (i value : ℕ) : Type 0 where
   pub value_same : digits_value 10 digits ≡ digits_value_after 10 value (drop i digits)
   pub limit : value < 2 ^ 64
 
--- the number of digits that are all digits, below 2 ^ 64
+-- the value, where all bytes are digits and it is below 2 ^ 64
 abbrev pub small : Bool → ℕ → Option ℕ
 small digits value = if digits && nat_lt value (2 ^ 64) then Some value else None
 

@@ -1,7 +1,7 @@
 //! What a line says, written out: the command's name, and in order its names, its numbers, and its bytes in
 //! hexadecimal behind a colon (`:..` where there are more than any such thing has).
 use arrayvec::ArrayVec;
-use bpf_model::{KEY_BYTES, VALUE_BYTES};
+use bpf_model::{KEY_BYTES, MAX_MAPS};
 use script_lines::{Bytes, Code, Command, Name, Names, parse_line};
 use std::alloc::{AllocError, Global};
 use std::fmt::Write;
@@ -21,19 +21,12 @@ fn push_name(out: &mut String, name: &Name<'_>) -> Result<(), AllocError> {
     }
 }
 
-fn push_key(out: &mut String, key: &Bytes<ArrayVec<u8, KEY_BYTES>>) -> Result<(), AllocError> {
-    match key {
-        Bytes::Fit(bytes) => push_hex(out, bytes),
-        Bytes::TooLong => out.push_str(" :.."),
-    }
-}
-
-/// A value or a context.
-fn push_value(
+/// A key, a value or a context.
+fn push_bytes<const N: usize>(
     out: &mut String,
-    value: &Bytes<ArrayVec<u8, VALUE_BYTES>>,
+    bytes: &Bytes<ArrayVec<u8, N>>,
 ) -> Result<(), AllocError> {
-    match value {
+    match bytes {
         Bytes::Fit(bytes) => push_hex(out, bytes),
         Bytes::TooLong => out.push_str(" :.."),
     }
@@ -48,7 +41,7 @@ fn push_keyed(
 ) -> Result<(), AllocError> {
     out.push_str(word)?;
     push_name(out, map)?;
-    push_key(out, key)
+    push_bytes(out, key)
 }
 
 fn push_load(
@@ -60,7 +53,7 @@ fn push_load(
 ) -> Result<(), AllocError> {
     write!(out, "load {ctx_len}")?;
     push_hex(out, &code.to_vec(alloc)?)?;
-    for _ in 0..17 {
+    for _ in 0..MAX_MAPS + 1 {
         if let Some(name) = maps.next() {
             push_name(out, &name)?;
         }
@@ -97,14 +90,14 @@ fn push_command(out: &mut String, alloc: Global, command: Command<'_>) -> Result
             flags,
         } => {
             push_keyed(out, "put", &map, &key)?;
-            push_value(out, &value)?;
+            push_bytes(out, &value)?;
             write!(out, " {flags}")
         }
         Command::Get { map, key } => push_keyed(out, "get", &map, &key),
         Command::Del { map, key } => push_keyed(out, "del", &map, &key),
         Command::Start { prog, ctx } => {
             write!(out, "start {prog}")?;
-            push_value(out, &ctx)
+            push_bytes(out, &ctx)
         }
         Command::Step { run, count } => write!(out, "step {run} {count}"),
         Command::Advance => out.push_str("advance"),

@@ -1,5 +1,5 @@
 -- The books stay balanced: with one entry more, and when the journal is cut.
-use Rattle.std.proofs.Common.{◌≡◌, ◌∙◌, ℕ, ◌+◌, ◌^◌, ◌<◌, ◌≤◌, Bool, true, false, List, [], ◌∷◌, ◌++◌, length, cond, sym, ap, subst, arith, length-append}
+use Rattle.std.proofs.Common.{◌≡◌, ◌∙◌, ℕ, ◌+◌, ◌^◌, ◌<◌, ◌≤◌, List, [], ◌∷◌, ◌++◌, length, sym, ap, subst, arith, length-append}
 use Rattle.bpf_model.specs.declared.event.Event.{Event}
 use Rattle.bpf_model.specs.declared.event.Answer.{Answer}
 use Rattle.bpf_model.specs.Event.{IsReal}
@@ -9,6 +9,7 @@ use Rattle.journal_laws.specs.Replay.{Replays}
 use Rattle.journal_laws.specs.Totals.{is_step, steps_of}
 use Rattle.journal_laws.proofs.Replaying.{replays_push}
 use Rattle.journal_laws.proofs.Sharing.{steps_push}
+use Rattle.model_laws.proofs.Tallies.{one-most}
 use Rattle.world_laws.specs.Reacting.{full_reaction}
 use Rattle.shared.specs.declared.tally.Origin.{Origin}
 use Rattle.shared.specs.declared.tally.Tally.{Tally}
@@ -22,11 +23,6 @@ counted-here w new event answer a n = subst (IsCountedOn w) (λ i. (sym a i, sym
 
 pub counts-on : (w new : WorldView) (event : Event) (answer : Answer) (unreclaimed : ℕ) → unreclaimed ≡ unreclaimed_in w → answer ≡ (full_reaction w event).0 → new ≡ (full_reaction w event).1 → CountsOn answer unreclaimed (unreclaimed_in new)
 counts-on w new event answer unreclaimed same a n = subst (λ (k : ℕ). CountsOn answer k (unreclaimed_in new)) (sym same) (counted-here w new event answer a n).counts
-
--- what an answer counts is one at most
-one-if : (b : Bool) → cond {A = ℕ} b 1 0 ≤ 1
-one-if true = omega arith
-one-if false = omega arith
 
 pub tally-push : (old new : Tally) (w next : WorldView) (event : Event) (answer : Answer) → IsTallyOf old w → answer ≡ (full_reaction w event).0 → next ≡ (full_reaction w event).1
     → new.origin ≡ old.origin → new.unreclaimed ≡ unreclaimed_in next
@@ -60,7 +56,7 @@ balanced-push old new total worker event answer b fits real e unr rec unl =
     let n : length new.journal ≡ length old.journal + 1 = ap length e.journal ∙ length-append old.journal (entry ∷ []) in
     let s : steps_of new.journal ≡ steps_of old.journal + steps_by answer = ap steps_of e.journal ∙ steps_push old.journal entry in
     let t = tally-push old.tally new.tally old.world new.world event answer b.tally e.answers e.world e.origin unr rec unl in
-    let one : steps_by answer ≤ 1 = one-if (is_step answer) in
+    let one : steps_by answer ≤ 1 = one-most (is_step answer) in
     let count = b.count in
     let before = e.before in
     let steps = b.steps in

@@ -16,7 +16,7 @@ pub record IsEntered (old : BooksView) (caller : WorkerView) (event : Event) (re
     (new : BooksView) (later : WorkerView) : Type 0 where
   pub worker : receipt.worker ≡ caller.number
   pub asked : receipt.event ≡ event
-  pub number : receipt.number ≡ later.made
+  pub count : receipt.made ≡ later.made
   pub entered : IfOk receipt.reply (λ answer. Enters old caller.number event answer new)
   pub answered : IfOk receipt.reply (IsMachineAnswer event)
   pub made : OnOk receipt.reply (later.made ≡ caller.made + 1)
@@ -30,7 +30,7 @@ pub record IsEntered (old : BooksView) (caller : WorkerView) (event : Event) (re
 pub record IsExitNote (w : WorldView) (caller : WorkerView) (run prog : ℕ)
     (program : Option Checked) (context : List ℕ) (note : NoteView) : Type 0 where
   pub worker : note.worker ≡ caller.number
-  pub number : note.number ≡ caller.made
+  pub count : note.made ≡ caller.made
   pub run_is : note.run ≡ run
   pub prog_is : note.prog ≡ prog
   pub context_is : note.context ≡ context

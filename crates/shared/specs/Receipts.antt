@@ -15,14 +15,14 @@ use Rattle.shared.specs.declared.fault.SharedFault.{SharedFault}
 -- who called, how many entries it has made, the event, and the answer
 pub record ReceiptView : Type 0 where
   pub worker : ℕ
-  pub number : ℕ
+  pub made : ℕ
   pub event : Event
   pub reply : Result Answer SharedFault
 
 -- who asked, how many entries it has made, for which run, program and context, and the exit value
 pub record NoteView : Type 0 where
   pub worker : ℕ
-  pub number : ℕ
+  pub made : ℕ
   pub run : ℕ
   pub prog : ℕ
   pub context : List ℕ

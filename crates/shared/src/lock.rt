@@ -99,7 +99,7 @@ impl<L: Ledger> Shared<L> {
     pub fn act_noted<R: Wait>(&self, rt: &R, worker: &mut Worker<L>, event: Event) -> Receipt
         ensures worker { result.worker ≡ worker.old.number }
         ensures event { result.event ≡ event }
-        ensures number { result.number ≡ worker.new.made }
+        ensures count { result.made ≡ worker.new.made }
         ensures answered { IfOk result.reply (IsMachineAnswer event) }
         ensures made { OnOk result.reply (worker.new.made ≡ worker.old.made + 1) }
         ensures same_worker { (worker.new.number ≡ worker.old.number)
@@ -149,7 +149,7 @@ impl<L: Ledger> Shared<L> {
         ctx: &CtxBytes,
     ) -> ExitNote
         ensures worker { result.worker ≡ worker.now.number }
-        ensures number { result.number ≡ worker.now.made }
+        ensures count { result.made ≡ worker.now.made }
         ensures run { result.run ≡ run }
         ensures prog { result.prog ≡ prog }
         ensures context { result.context ≡ ctx.now.items }

@@ -10,7 +10,7 @@ use std::marker::Model;
 #[derive(Debug, Drop)]
 pub struct Receipt {
     worker: u8,
-    number: u64,
+    made: u64,
     event: Event,
     reply: Result<Answer, SharedFault>,
 }
@@ -22,7 +22,7 @@ impl Model for Receipt {
 
     ghost view = { λ r. record {
       worker = r.worker;
-      number = r.number;
+      made = r.made;
       event = r.event;
       reply = r.reply;
     } };
@@ -32,16 +32,16 @@ impl Receipt {
     /// The receipt of one call, by the worker of this number, who has made so many entries after it.
     pub(crate) fn new(
         worker: u8,
-        number: u64,
+        made: u64,
         event: Event,
         reply: Result<Answer, SharedFault>,
     ) -> Receipt
         ensures { result
-            ≡ record { worker = worker; number = number; event = event; reply = reply } }
+            ≡ record { worker = worker; made = made; event = event; reply = reply } }
     {
         Receipt {
             worker,
-            number,
+            made,
             event,
             reply,
         }
@@ -55,10 +55,10 @@ impl Receipt {
     }
 
     /// How many entries the worker has made, after the call.
-    pub fn number(&self) -> u64
-        ensures { result ≡ self.now.number }
+    pub fn made(&self) -> u64
+        ensures { result ≡ self.now.made }
     {
-        self.number
+        self.made
     }
 
     /// The event.
@@ -89,7 +89,7 @@ impl Receipt {
 #[derive(Debug, Drop)]
 pub struct ExitNote {
     worker: u8,
-    number: u64,
+    made: u64,
     run: RunId,
     prog: ProgId,
     context: CtxBytes,
@@ -103,7 +103,7 @@ impl Model for ExitNote {
 
     ghost view = { λ n. record {
       worker = n.worker;
-      number = n.number;
+      made = n.made;
       run = n.run;
       prog = n.prog;
       context = n.context.items;
@@ -115,7 +115,7 @@ impl ExitNote {
     /// The note of one question for an exit value, with a copy of the context that was asked for.
     pub(crate) fn new(
         worker: u8,
-        number: u64,
+        made: u64,
         run: RunId,
         prog: ProgId,
         ctx: &CtxBytes,
@@ -123,7 +123,7 @@ impl ExitNote {
     ) -> ExitNote
         ensures { result ≡ record {
           worker = worker;
-          number = number;
+          made = made;
           run = run;
           prog = prog;
           context = ctx.now.items;
@@ -132,7 +132,7 @@ impl ExitNote {
     {
         ExitNote {
             worker,
-            number,
+            made,
             run,
             prog,
             context: array_of(ctx.as_slice()),
@@ -148,10 +148,10 @@ impl ExitNote {
     }
 
     /// How many entries the worker has made.
-    pub fn number(&self) -> u64
-        ensures { result ≡ self.now.number }
+    pub fn made(&self) -> u64
+        ensures { result ≡ self.now.made }
     {
-        self.number
+        self.made
     }
 
     /// The run that was asked for.

@@ -41,15 +41,12 @@ fn cut<L: Ledger + Send + Sync, R: Wait + Abort>(
         let last = shared.act(rt, worker, step(0));
         assert!(rt; matches!(last, Ok(Answer::Exited(1))));
         let note = shared.exit_noted(rt, worker, run, prog, &ctx);
-        assert_eq!(rt;
-            (note.exit(), note.number(), note.worker()),
-            (Some(1), 4, 0)
-        );
+        assert_eq!(rt; (note.exit(), note.made(), note.worker()), (Some(1), 4, 0));
         assert_eq!(rt; shared.exit_of(rt, worker, run, ProgId::new(1), &ctx), None);
         let _ = shared.act(rt, worker, Event::Drop { run });
         assert_eq!(rt; shared.cut(rt, alloc), Ok(()));
         let receipt = shared.act_noted(rt, worker, step(0));
-        assert_eq!(rt; (receipt.worker(), receipt.number()), (0, 6));
+        assert_eq!(rt; (receipt.worker(), receipt.made()), (0, 6));
         assert!(rt; matches!(receipt.event(), Event::Step { .. }));
         assert!(rt; matches!(receipt.reply(), Ok(Answer::Refused(_))));
     }

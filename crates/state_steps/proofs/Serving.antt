@@ -1,5 +1,5 @@
 -- Parts of guarded lookups and calls that begin or end a section are accepted, and leave what the next part needs.
-use Rattle.std.proofs.Common.{◌≡◌, ℕ, ◌/◌, ◌<◌, ◌≤◌, List, length, Option, Some, None, refl, sym, ap, subst, ◌∙◌, inl, inr, arith, ℤ, pos, Bool, true, false}
+use Rattle.std.proofs.Common.{◌≡◌, ℕ, ◌<◌, ◌≤◌, List, length, Option, Some, None, refl, sym, ap, subst, ◌∙◌, inl, inr, arith, ℤ, pos, Bool, true, false}
 use Rattle.std.specs.Prelude.{◌⊎◌, nat_le, if◌then◌else◌, ◌+ℤ◌, slice_get, Result, IsOk}
 use Rattle.std.proofs.lemmas.Bool.{cases_eq, eq-eqb, ne_eqb, lt-leb, false≢true}
 use Rattle.typed_runs.specs.Verified.{is_call}
@@ -14,10 +14,8 @@ use Rattle.bpf_model.specs.Call.{helper_of, kernel_function_of}
 use Rattle.bpf_model.specs.declared.call.Helper.TheVariants as helpers
 use Rattle.bpf_model.specs.declared.insn.CallKind.{CallKind}
 use Rattle.bpf_model.specs.declared.insn.CallKind.TheVariants as callee
-use Rattle.call_effects.specs.Calls.{PointsToBytes, FindsIn, Called, Splits, section_fault, outcome_of}
+use Rattle.call_effects.specs.Calls.{FindsIn, Called, Splits, section_fault, outcome_of}
 use Rattle.kind_tests.specs.declared.fault.Fault.{Fault}
-use Rattle.register_kinds.specs.declared.kind.CellKind as classes
-use Rattle.register_kinds.specs.declared.kind.CellKind.TheVariants as class
 use Rattle.std.proofs.lemmas.Option.{slice_get_within}
 use Rattle.bpf_model.specs.declared.insn.Operand.{Operand}
 use Rattle.bpf_model.specs.declared.insn.Operand.TheVariants.{Register as RegisterOperand, Immediate}
@@ -35,13 +33,13 @@ use Rattle.bpf_model.specs.declared.opcode.Size.TheVariants.{Word64}
 use Rattle.bpf_model.specs.PlainMaps.{IsValueLoad, Lookup, Part, FrameCopy, KeyAddress, MapLoad, LookupCall, NullTest, ValueLoad, part_insn, IsFitting}
 use Rattle.control_effects.proofs.Branches.{set-there, set-elsewhere}
 use Rattle.scalar_domain.specs.declared.scalar.Scalar.{Scalar}
-use Rattle.typed_runs.specs.Kinds.{Kind, Blank, Num, FrameAt, MapAt, ValueAt, MaybeNull, ByteCell, AbsState}
-use Rattle.typed_runs.specs.Effects.{with_kind, after_call, after_lock, after_unlock, returned_kind, ended_kind, ended_cell, IsWritten}
+use Rattle.typed_runs.specs.Kinds.{Kind, Blank, Num, FrameAt, MapAt, ValueAt, MaybeNull, AbsState}
+use Rattle.typed_runs.specs.Effects.{with_kind, after_call, after_lock, after_unlock, returned_kind, ended_kind, ended_cell, IsWritten, HasBytes}
 use Rattle.typed_runs.specs.Planned.{AreAlike, origin}
 use Rattle.register_kinds.specs.declared.kind.RegKind.{RegKind}
 use Rattle.register_kinds.specs.declared.kind.RegKind.TheVariants as kinds
 use Rattle.register_kinds.specs.declared.state.AbsState.{AbsState as StateHere}
-use Rattle.register_kinds.specs.States.{kind_of, cell_of, kind_in, class_in, state_of}
+use Rattle.register_kinds.specs.States.{kind_of, kind_in, state_of}
 use Rattle.state_steps.specs.Facts.{Register, FrameByte, FramePointer, Section}
 use Rattle.state_steps.specs.Lookups.{IsKeyWritten, Expects, Prepares, KeepsSaved, IsReadyPart, LeavesPart, IsReadySection, LeavesSection, IsReadyWithMaps, Serves, section_call}
 
@@ -256,20 +254,8 @@ unlock_saves a b e (FrameByte k) s h = e.cells k ∙ ap ended_cell h
 unlock_saves a b e FramePointer s h = e.regs 10 ∙ ap ended_kind h
 unlock_saves a b e (Section inside) s h = absurd s
 
-byte_class : (spill : RegKind) (c : classes.CellKind) → cell_of spill c ≡ ByteCell → c ≡ class.Byte
-byte_class spill class.Unwritten e = absurd cc
-byte_class spill class.Ended e = absurd cc
-byte_class spill class.Mixed e = absurd cc
-byte_class spill class.Byte e = refl
-byte_class spill class.Part e = absurd cc
-
-key_bytes : (shapes : List MapShape) (l : Lookup) (a : StateHere) → IsFitting shapes l → Expects l LookupCall (state_of a) → PointsToBytes a 2 l.shape.key_len
-key_bytes shapes l a fit x = record {
-  at = l.at;
-  start = kind_is (kind_in a.regs 2) (FrameAt (pos l.at)) x.1;
-  inside = fit.in_frame.2;
-  bytes = λ k p q. byte_class (kind_in a.frame.spills (k / 8)) (class_in a.frame.cells k) (x.0 k p q);
-}
+key_bytes : (shapes : List MapShape) (l : Lookup) (a : AbsState) → IsFitting shapes l → Expects l LookupCall a → HasBytes a 2 l.shape.key_len
+key_bytes shapes l a fit x = record { at = l.at; frame = x.1; inside = fit.in_frame.2; bytes = x.0 }
 
 -- what is said of a call that is not refused
 pub record CallLeaves (kind : CallKind) (imm : ℤ) (a b : StateHere) : Type 0 where
@@ -280,7 +266,7 @@ pub record CallLeaves (kind : CallKind) (imm : ℤ) (a b : StateHere) : Type 0 w
 pub record CallAccepts (kind : CallKind) (imm : ℤ) (shapes : List MapShape) (a : StateHere) (result : Result (Unit {0}) Fault) : Type 0 where
   pub kernel : kind ≡ callee.Kernel → result ≡ outcome_of (section_fault kind imm a.inside)
   pub lookup : (map : ℕ) (shape : MapShape) → kind ≡ callee.Helper → helper_of imm ≡ Some helpers.Lookup → a.inside ≡ true → kind_in a.regs 1 ≡ kinds.Map map
-      → slice_get shapes map ≡ Some shape → PointsToBytes a 2 shape.key_len → IsOk result
+      → slice_get shapes map ≡ Some shape → HasBytes (state_of a) 2 shape.key_len → IsOk result
 
 module _ (kind : CallKind) (imm : ℤ) (shapes : List MapShape) (a : StateHere) where
   call_part : (l : Lookup) (p : Part) → IsReadyPart shapes l p (Call kind imm) (state_of a) → (p ≡ LookupCall) × (kind ≡ callee.Helper) × (imm ≡ pos 1)
@@ -305,7 +291,7 @@ module _ (kind : CallKind) (imm : ℤ) (shapes : List MapShape) (a : StateHere) 
   call_ready result accepts (inl (l, p, ready)) =
       let e = call_part l p ready in
       let x : Expects l LookupCall (state_of a) = subst (λ p. Expects l p (state_of a)) e.0 ready.expects in
-      accepts.lookup l.map l.shape e.1 (lookup_number e.2) ready.inside (called_map l p ready e.0) ready.fitting.in_list (key_bytes shapes l a ready.fitting x)
+      accepts.lookup l.map l.shape e.1 (lookup_number e.2) ready.inside (called_map l p ready e.0) ready.fitting.in_list (key_bytes shapes l (state_of a) ready.fitting x)
   call_ready result accepts (inr (true, ready)) =
       let e = section_is true ready in
       let f : result ≡ outcome_of (section_fault callee.Kernel (pos 1) false) = accepts.kernel e.0 ∙ ap (λ k. outcome_of (section_fault k imm a.inside)) e.0

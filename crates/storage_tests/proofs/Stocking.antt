@@ -3,14 +3,13 @@ use Rattle.std.proofs.Common.{◌≡◌, ◌∙◌, ℕ, suc, ◌+◌, ◌-◌, 
 use Rattle.std.specs.Prelude.{IfSome, IfNone}
 use Rattle.std.specs.List.{range_with_len}
 use Rattle.element_arena.specs.State.{ArenaState, times_in, worn_at, taken, new_arena}
-use Rattle.std.proofs.lemmas.List.{length-replicate}
+use Rattle.std.proofs.lemmas.List.{length-replicate, length-set}
 use Rattle.maps.proofs.Fresh.{none-worn}
 use Rattle.element_arena.proofs.Fresh.{times-before}
 use Rattle.hash_index.specs.declared.commands.Command.{Command}
 use Rattle.hash_index.specs.declared.commands.Command.TheVariants.{Link, Find, Unlink, Above}
 use Rattle.hash_index.specs.Replies.{IsReadyCommand, AreReadyCommands}
 use Rattle.storage_tests.specs.Stock.{IsStocked, IsFilled, IsLinkable, AreLinkable}
-use Rattle.bpf_model.proofs.Lists.{length-set}
 
 range_step : (slots count : ℕ) → count < slots → range_with_len count (slots - count) ≡ count ∷ range_with_len (count + 1) (slots - (count + 1))
 range_step slots count h = let e : slots - count ≡ suc (slots - (count + 1)) = omega arith in ap (range_with_len count) e

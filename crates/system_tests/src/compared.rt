@@ -3,7 +3,7 @@
 ghost use Rattle.std.specs.Prelude.{◌≡◌, [], IfOk, length};
 
 use crate::judged::{bytes_of, context_of};
-use bpf_model::{CTX_BYTES, Cell, CtxBytes, FRAME_BYTES, Reg, Value};
+use bpf_model::{CTX_BYTES, Cell, CtxBytes, FRAME_BYTES, REGISTERS, Reg, Value};
 use insn_codec::decode;
 use lone_runs::{Step, start_alone, step_alone};
 use machine::Run;
@@ -124,7 +124,7 @@ static PROGRAMS: [Compared; 16] = [
 
 /// Whether each register that is a number holds it.
 fn same_registers(plain: &PlainRun, run: &Run) -> bool {
-    for number in 0..11 {
+    for number in 0..REGISTERS as u8 {
         if let Some(r) = Reg::new(number) {
             if let Value::Number(n) = plain.register(r) {
                 if run.register(r) != n {

@@ -108,8 +108,8 @@ no-load env m width offset v b o e = ap (load_from env m width offset) e
 no-store : (m : State) (width : ℕ) (offset : ℤ) (v base : Value) (b : ℕ) (o : ℤ) → base ≡ Pointer (Elem b o) → store_to m width offset v base ≡ None
 no-store m width offset v base b o e = ap (store_to m width offset v) e
 
-pub set-is : (dst : ℕ) (v : Value) (m : State) → (10 ≡ dst → ⊥) → sets 1 dst v m ≡ Some (Moves (record { regs = put dst v m.regs; frame = m.frame; place = m.place + 1 }))
-set-is dst v m ne = ap (λ b. if b then None else Some (Moves (record { regs = put dst v m.regs; frame = m.frame; place = m.place + 1 }))) (ne_eqb dst 10 (λ e. ne (sym e)))
+pub set-is : (slots dst : ℕ) (v : Value) (m : State) → (10 ≡ dst → ⊥) → sets slots dst v m ≡ Some (Moves (record { regs = put dst v m.regs; frame = m.frame; place = m.place + slots }))
+set-is slots dst v m ne = ap (λ b. if b then None else Some (Moves (record { regs = put dst v m.regs; frame = m.frame; place = m.place + slots }))) (ne_eqb dst 10 (λ e. ne (sym e)))
 
 module _ (width : Width) (dst src : ℕ) (offset : ℤ) (shapes : List MapShape) (ctx_len : ℕ) (a : AbsState) (map : ℕ) (shape : MapShape) (scalar t : Scalar) where
   load-acts : a.regs src ≡ ValueAt map scalar → slice_get shapes map ≡ Some shape → IsAlwaysInside scalar (byte_count width) offset shape.value_len → (10 ≡ dst → ⊥) → ((n : ℕ) → n < 256 ^ byte_count width → Holds t n) →
@@ -121,10 +121,10 @@ module _ (width : Width) (dst src : ℕ) (offset : ℤ) (shapes : List MapShape)
       let nothing = no-load (environment run) run.state (byte_count width) offset (run.state.regs src) x.n x.offset x.is in record {
         out = out;
         es = s.elements;
-        acts = inr (l.0, l.1, set-is dst (Number l.0) run.state ne, refl);
+        acts = inr (l.0, l.1, set-is 1 dst (Number l.0) run.state ne, refl);
         only = λ other fs h. elim h [
           | inl y ↦ absurd (none-some other (sym (ap (λ o. o >>= λ v. sets 1 dst v run.state) nothing) ∙ y.0))
-          | inr y ↦ (same_Some out other (sym (set-is dst (Number l.0) run.state ne) ∙ (ap (λ n. sets 1 dst (Number n) run.state) (same_Some l.0 y.0 (sym l.1 ∙ y.1)) ∙ y.2)), sym y.3)
+          | inr y ↦ (same_Some out other (sym (set-is 1 dst (Number l.0) run.state ne) ∙ (ap (λ n. sets 1 dst (Number n) run.state) (same_Some l.0 y.0 (sym l.1 ∙ y.1)) ∙ y.2)), sym y.3)
         ];
         bytes = w.bytes;
         reaches = inl (refl, refl, set-described a (scene_of s.elements run) run.state dst (run.state.place + 1) (Num t) (Number l.0) d (l.0, refl, wide-fits width l.0 l.2, all l.0 l.2) tt);
@@ -210,10 +210,10 @@ module _ (width : SignedWidth) (dst src : ℕ) (offset : ℤ) (shapes : List Map
       let fits = all l.0 l.2 in record {
         out = out;
         es = s.elements;
-        acts = inr (l.0, l.1, set-is dst v run.state ne, refl);
+        acts = inr (l.0, l.1, set-is 1 dst v run.state ne, refl);
         only = λ other fs h. elim h [
           | inl y ↦ absurd (none-some other (sym (ap (λ o. o >>= λ q. number q >>= λ n. sets 1 dst (Number (loaded_signed width n)) run.state) nothing) ∙ y.0))
-          | inr y ↦ (same_Some out other (sym (set-is dst v run.state ne) ∙ (ap (λ n. sets 1 dst (Number (loaded_signed width n)) run.state) (same_Some l.0 y.0 (sym l.1 ∙ y.1)) ∙ y.2)), sym y.3)
+          | inr y ↦ (same_Some out other (sym (set-is 1 dst v run.state ne) ∙ (ap (λ n. sets 1 dst (Number (loaded_signed width n)) run.state) (same_Some l.0 y.0 (sym l.1 ∙ y.1)) ∙ y.2)), sym y.3)
         ];
         bytes = w.bytes;
         reaches = inl (refl, refl, set-described a (scene_of s.elements run) run.state dst (run.state.place + 1) (Num t) v d (loaded_signed width l.0, refl, fits.0, fits.1) tt);

@@ -77,7 +77,7 @@ bytes-described a c m at width n place d = record {
 computes : (i : Insn) (dst : ℕ) (kind : Kind) (v : Value) (a : AbsState) (c : Scene) (env : Environment) (m : State) → falls i ≡ true → slot_count i ≡ 1 → ((es fs : List Element) (other : Outcome) → AccessesElement i es m other fs → ⊥) → (10 ≡ dst → ⊥) → after i env m ≡ sets 1 dst v m → (d : Describes a c m) → IsOf c d.naming kind v → IsNear v → ActsAlone i (with_kind dst kind a) None c env m
 computes i dst kind v a c env m f one alone ne is d p n = record {
   out = Moves (record { regs = put dst v m.regs; frame = m.frame; place = m.place + 1 });
-  after_is = is ∙ set-is dst v m ne;
+  after_is = is ∙ set-is 1 dst v m ne;
   alone = alone;
   lands = inl (f, ap (λ x. m.place + x) (sym one), set-described a c m dst (m.place + 1) kind v d p n);
 }

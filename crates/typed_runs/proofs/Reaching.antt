@@ -13,8 +13,8 @@ use Rattle.bpf_model.specs.MapState.{MapState, Store}
 use Rattle.bpf_model.specs.Machine.{Loaded, Run, Machine, open_sections, fresh_run, run_at, start_machine, moves, locked, unlocked}
 use Rattle.bpf_model.specs.MachineStep.{InsnStep, RunStep, StepsRun, NeverStuck}
 use Rattle.bpf_model.specs.Event.{DoesEvent, AreBytes, IsReal, AreReal}
-use Rattle.bpf_model.specs.History.{IsHistory, AllStates}
-use Rattle.bpf_model.specs.Schedule.{Schedule, IsScheduledHistory, last_scheduled, start_schedule}
+use Rattle.bpf_model.specs.History.{IsHistory, AllStates, last_of}
+use Rattle.bpf_model.specs.Schedule.{Schedule, IsScheduledHistory, start_schedule}
 use Rattle.bpf_model.specs.declared.event.Answer.TheVariants.{Moved, Exited}
 use Rattle.bpf_model.specs.Headline.{AreNeverStuck, moved_once}
 use Rattle.bpf_model.specs.View.{WorldView}
@@ -207,7 +207,7 @@ never_stuck_along m events answers states w real h = all-states IsWell NeverStuc
 
 -- with the runtime's choices
 pub kept-last : (P : Machine → Type 0) → ((m new : Machine) (event : Event) (answer : Answer) → IsReal event → DoesEvent m event answer new → P m → P new)
-    → (s : Schedule) (events : List Event) (answers : List Answer) (states : List Schedule) → P s.machine → AreReal events → IsScheduledHistory s events answers states → P (last_scheduled s states).machine
+    → (s : Schedule) (events : List Event) (answers : List Answer) (states : List Schedule) → P s.machine → AreReal events → IsScheduledHistory s events answers states → P (last_of s states).machine
 kept-last P keeps s [] [] [] p real h = p
 kept-last P keeps s (event ∷ events) (answer ∷ answers) (next ∷ states) p real h =
     kept-last P keeps next events answers states (keeps s.machine next.machine event answer (real 0 event refl) h.0.step p) (real-rest event events real) h.1

@@ -22,6 +22,9 @@ use Rattle.bpf_model.specs.Access.{region_offset, number_at}
 use Rattle.bpf_model.specs.Frame.{byte_of, is_same_reference, is_part, are_parts, found, read, is_within}
 use Rattle.bpf_model.specs.Step.{State, Outcome, Moves, put, sets, load_from, frame_after, store_to}
 use Rattle.bpf_model.specs.Element.{Element}
+use Rattle.bpf_model.specs.Holds.{HoldsValue}
+use Rattle.model_laws.specs.Alone.{IsOwn}
+use Rattle.model_laws.proofs.Alone.{load-own, store-own}
 use Rattle.bpf_model.specs.MapState.{Store as Maps}
 use Rattle.bpf_model.specs.Machine.{Run, environment}
 use Rattle.bpf_model.specs.MachineStep.{element_load, element_store, found_value}
@@ -135,16 +138,12 @@ spilled-described a c m at place kind v e d p n = record {
   cells = λ k. spilled-cell c d.naming d.stored at v kind k (a.cells k) (m.frame k) p (in-group at k e) (d.cells k);
 }
 
-pub no-element : (es : List Element) (width : ℕ) (offset : ℤ) (v base : Value) (o : ℤ) (new : List Element) → base ≡ Pointer (Frame o) → element_store es width offset v base ≡ Some new → ⊥
-no-element es width offset v base o new e h = frame-none v (sym (ap (element_store es width offset v) e) ∙ h)
-  where
-    frame-none : (v : Value) → element_store es width offset v (Pointer (Frame o)) ≡ Some new → ⊥
-    frame-none Nothing h = none-some new h
-    frame-none (Number n) h = none-some new h
-    frame-none (Pointer r) h = none-some new h
+-- a reference to the run's own context or frame reaches no element
+pub no-element : (es : List Element) (width : ℕ) (offset : ℤ) (v base : Value) (r : Reference) (new : List Element) → IsOwn r → base ≡ Pointer r → element_store es width offset v base ≡ Some new → ⊥
+no-element es width offset v base r new own e h = store-own es new width offset v base (subst (HoldsValue IsOwn) (sym e) own) h
 
-pub no-element-load : (es : List Element) (width : ℕ) (offset : ℤ) (base : Value) (o : ℤ) (n : ℕ) → base ≡ Pointer (Frame o) → element_load es width offset base ≡ Some n → ⊥
-no-element-load es width offset base o n e h = none-some n (sym (ap (element_load es width offset) e) ∙ h)
+pub no-element-load : (es : List Element) (width : ℕ) (offset : ℤ) (base : Value) (r : Reference) (n : ℕ) → IsOwn r → base ≡ Pointer r → element_load es width offset base ≡ Some n → ⊥
+no-element-load es width offset base r n own e h = load-own es width offset base n (subst (HoldsValue IsOwn) (sym e) own) h
 
 module _ (dst src : ℕ) (offset o : ℤ) (at : ℕ) (shapes : List MapShape) (ctx_len : ℕ) (a : AbsState) (kind : Kind) where
   spill-acts : a.regs dst ≡ FrameAt o → region_offset FRAME_BYTES 8 (o +ℤ offset) ≡ Some at → a.regs src ≡ kind → IsWritten kind → (s : Maps) (run : Run) → AllBytes s.elements → Describes a (scene_of s.elements run) run.state →
@@ -155,7 +154,7 @@ module _ (dst src : ℕ) (offset o : ℤ) (at : ℕ) (shapes : List MapShape) (c
       let goes : (ℕ → Cell) → Option Outcome = λ frame. Some (Moves (record { regs = run.state.regs; frame = frame; place = run.state.place + 1 })) in
       by-itself (Store Eight dst offset (Register src)) s run (with_cells at 8 (PartCell kind) a) None (Moves (record { regs = run.state.regs; frame = with_value at (run.state.regs src) run.state.frame; place = run.state.place + 1 })) bytes
       (ap (store_to run.state 8 offset (run.state.regs src)) base ∙ (ap (λ q. q >>= λ k. frame_after k 8 (run.state.regs src) run.state.frame >>= goes) p ∙ ap (λ q. q >>= goes) (frame-is at (run.state.regs src) run.state.frame (written (scene_of s.elements run) d.naming kind (run.state.regs src) w v))))
-      (λ other fs h. no-element s.elements 8 offset (run.state.regs src) (run.state.regs dst) o fs base h.0)
+      (λ other fs h. no-element s.elements 8 offset (run.state.regs src) (run.state.regs dst) (Frame o) fs tt base h.0)
       (inl (refl, refl, spilled-described a (scene_of s.elements run) run.state at (run.state.place + 1) kind (run.state.regs src) (aligned (o +ℤ offset) at p) d v (d.near.regs_near src)))
 
   pub spill_transfers : a.regs dst ≡ FrameAt o → region_offset FRAME_BYTES 8 (o +ℤ offset) ≡ Some at → a.regs src ≡ kind → IsWritten kind → Transfers (Store Eight dst offset (Register src)) shapes ctx_len a (with_cells at 8 (PartCell kind) a) None
@@ -246,8 +245,8 @@ module _ (dst src : ℕ) (offset o : ℤ) (at : ℕ) (shapes : List MapShape) (c
       let of_kind : IsOf c d.naming kind v = (part 0 (omega arith)).1 in
       let reads : read m.frame at 8 ≡ Some v = read-back m.frame at v (pointer-value c d.naming kind v w of_kind) (λ j l. (part j l).0) in
       by-itself (Load Eight dst src offset) s run (with_kind dst kind a) None (Moves (record { regs = put dst v m.regs; frame = m.frame; place = m.place + 1 })) bytes
-      (ap (λ q. q >>= λ y. sets 1 dst y m) (ap (load_from (environment run) m 8 offset) base ∙ (ap (λ q. q >>= λ k. read m.frame k 8) p ∙ reads)) ∙ set-is dst v m ne)
-      (λ other fs h. no-element-load s.elements 8 offset (m.regs src) o h.0 base h.1)
+      (ap (λ q. q >>= λ y. sets 1 dst y m) (ap (load_from (environment run) m 8 offset) base ∙ (ap (λ q. q >>= λ k. read m.frame k 8) p ∙ reads)) ∙ set-is 1 dst v m ne)
+      (λ other fs h. no-element-load s.elements 8 offset (m.regs src) (Frame o) h.0 tt base h.1)
       (inl (refl, refl, set-described a c m dst (m.place + 1) kind v d of_kind (part-near 0 v (subst IsNearCell (part 0 (omega arith)).0 (d.near.cells_near (at + 0))))))
 
   pub fill_transfers : a.regs src ≡ FrameAt o → region_offset FRAME_BYTES 8 (o +ℤ offset) ≡ Some at → ((j : ℕ) → j < 8 → a.cells (at + j) ≡ PartCell kind) → IsPointer kind → (10 ≡ dst → ⊥) → Transfers (Load Eight dst src offset) shapes ctx_len a (with_kind dst kind a) None

@@ -18,7 +18,7 @@ use Rattle.bpf_model.specs.Places.{start_of-insn, LeadsTo, StartsAt, starts_incr
 use Rattle.bpf_model.proofs.Lists.{get-below}
 use Rattle.program_graph.specs.FirstPass.{Follows}
 use Rattle.program_graph.specs.Indexes.{HasTargets, IsTarget}
-use Rattle.program_graph.proofs.Marking.{edge_from, first_start}
+use Rattle.program_graph.proofs.Marking.{edge_from, first_start, target_within}
 use Rattle.typed_runs.specs.Kinds as model
 use Rattle.register_kinds.specs.declared.state.AbsState.{AbsState}
 use Rattle.register_kinds.specs.States.{state_of}
@@ -36,7 +36,7 @@ use Rattle.verifier.specs.FactsKnown.{IsInner, Knows, WithoutFact, IsExpected, I
 use Rattle.verifier.specs.SecondPass.{Awaited, state_in, IsConflict, JoinsTo, Merged, Fell, Jumped, Advances, StartsFrom, refusal_of}
 use Rattle.verifier.specs.Verdict.{IsAccepted}
 use Rattle.verifier.proofs.Lookups.{part_or_not, part_place, part_no_byte, part_keeps, behind, falls_from, slot_inside, slot_behind, pass_on, part_low, part_at}
-use Rattle.verifier.proofs.Plans.{falls_inside, target_within}
+use Rattle.verifier.proofs.Plans.{falls_inside}
 
 -- what both states know the joined one knows
 pub joined_facts : (a b c : model.AbsState) → AreJoined a b c → c.inside ≡ a.inside → (fact : Fact) → FactHolds fact a → FactHolds fact b → FactHolds fact c

@@ -1,6 +1,6 @@
 -- The second pass keeps a plan that each step keeps.
 use Rattle.std.proofs.Common.{◌≡◌, ◌≢◌, ℕ, zero, suc, ◌+◌, ◌-◌, ◌<◌, ◌≤◌, refl, sym, ◌∙◌, ap, subst, arith, inl, inr, true, false, cond, List, [], ◌∷◌, ◌++◌, length}
-use Rattle.std.specs.Prelude.{slice_get, Option, Some, None, ltb, unwrap_or, option_map, IsSome, IfSome, ℤ, pos, ◌+ℤ◌, ◌⊎◌}
+use Rattle.std.specs.Prelude.{slice_get, Option, Some, None, ltb, unwrap_or, option_map, IsSome, ℤ, pos, ◌+ℤ◌, ◌⊎◌}
 use Rattle.std.proofs.lemmas.Bool.{cases_lt, cases_eq}
 use Rattle.std.proofs.lemmas.Int.{ints}
 use Rattle.std.proofs.lemmas.List.{get_or_past}
@@ -12,11 +12,11 @@ use Rattle.bpf_model.specs.declared.insn.Insn.TheVariants.{Exit}
 use Rattle.bpf_model.specs.declared.limits.MapShape.{MapShape}
 use Rattle.bpf_model.specs.Graph.{falls, distance, EndsWithExit}
 use Rattle.bpf_model.specs.Spelling.{slot_count, slot_total}
-use Rattle.bpf_model.specs.Places.{slot_count_some, starts_apart, starts_increase, start_of-insn, insn_of-start, LeadsTo, StartsAt, start-insn, start-entry}
+use Rattle.bpf_model.specs.Places.{slot_count_some, starts_apart, starts_increase, start_of-insn, LeadsTo, StartsAt, start-insn, start-entry}
 use Rattle.program_graph.specs.GraphFlaws.{HasGoodGraph}
 use Rattle.program_graph.specs.FirstPass.{Follows}
 use Rattle.program_graph.specs.Indexes.{HasTargets, IsTarget}
-use Rattle.program_graph.proofs.Marking.{edge_into, reached_by}
+use Rattle.program_graph.proofs.Marking.{edge_into, reached_by, target_within}
 use Rattle.typed_runs.specs.Kinds as model
 use Rattle.typed_runs.specs.Describes.{Describes}
 use Rattle.typed_runs.specs.Verified.{Plan}
@@ -54,14 +54,6 @@ exit_last program front k i e f g = subst (λ p. suc k < length p) (sym e) (at f
 
 pub falls_inside : (program : List Insn) (k : ℕ) (i : Insn) → EndsWithExit program → slice_get program k ≡ Some i → falls i ≡ true → suc k < length program
 falls_inside program k i last e f = exit_last program last.0 k i last.1 e f
-
--- a target stands inside the program
-pub target_within : (program : List Insn) (k : ℕ) (i : Insn) (t : ℕ) → IsTarget program k i (Some t) → t < length program
-target_within program k i t leads = let j = insn_of-start 0 program t leads.to leads.to_is in slice_get_within program t j.0 j.1
-
-pub target_fits : (program : List Insn) (k : ℕ) (i : Insn) (target : Option ℕ) → IsTarget program k i target → IfSome target (λ t. t < length program)
-target_fits program k i None leads = tt
-target_fits program k i (Some t) leads = target_within program k i t leads
 
 -- a jump leads further on
 pub jumps_further : (program : List Insn) (targets : List (Option ℕ)) (long : length targets ≡ length program) (all : HasTargets program targets) (k : ℕ) (target : Option ℕ) → slice_get targets k ≡ Some target → (t : ℕ) → target ≡ Some t → k < t

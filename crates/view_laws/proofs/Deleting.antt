@@ -3,7 +3,7 @@ use Rattle.std.proofs.Common.{◌≡◌, ◌≢◌, ◌∙◌, ℕ, ◌+◌, ◌
 use Rattle.std.specs.Prelude.{slice_get, slice_set, slice_index, count_by, is_some}
 use Rattle.std.specs.FinMap.{get}
 use Rattle.std.proofs.lemmas.Option.{none-some, same_Some, slice_get_within}
-use Rattle.std.proofs.lemmas.List.{append-nil}
+use Rattle.std.proofs.lemmas.List.{append-nil, length-set}
 use Rattle.bpf_model.specs.declared.event.Event.TheVariants as events
 use Rattle.bpf_model.specs.declared.event.Answer.TheVariants.{Ret}
 use Rattle.bpf_model.specs.declared.event.EventRefusal.{EventRefusal}
@@ -15,9 +15,9 @@ use Rattle.bpf_model.specs.MapState.{Store, with_elements}
 use Rattle.bpf_model.specs.Helper.{LooksUp, Removes, Deletes}
 use Rattle.bpf_model.specs.Machine.{open_sections, with_store}
 use Rattle.bpf_model.specs.Event.{Answers, key_refusal, refusal}
-use Rattle.bpf_model.specs.Schedule.{Queues, Schedule, retired, unlinked_between, still_open, open_flags, DoesScheduled}
+use Rattle.bpf_model.specs.Schedule.{Queues, Schedule, retired, retired_in, unlinked_between, still_open, open_flags, DoesScheduled}
 use Rattle.model_laws.specs.Scheduled.{IsScheduled}
-use Rattle.model_laws.proofs.Counting.{retired-back, length-retired, with_more}
+use Rattle.model_laws.proofs.Counting.{retired-back, length-retired}
 use Rattle.bpf_model.specs.View.{MapView, WorldView, map_state_of}
 use Rattle.bpf_model.specs.Refines.{lists_of, named, ElementsStand, SlotsStand, RefinesSchedule}
 use Rattle.view_laws.specs.Views.{retired_key, retired_slot, delete_result, deleted}
@@ -31,7 +31,6 @@ use Rattle.view_laws.proofs.Mapping.{unlinks, elements-retired}
 use Rattle.view_laws.proofs.Listing.{named-kept, between-more, between-one, between-other, more-none, more-one}
 use Rattle.bpf_model.proofs.Cases.{oldest-none}
 use Rattle.view_laws.proofs.Worlds.{Here, here, Turns, turned-world, shapes-agree, awaited-same, refuses, steps}
-use Rattle.bpf_model.proofs.Lists.{length-set}
 
 -- births below n have the same slots
 abbrev pub Renames : List ℕ → List ℕ → ℕ → Type 0
@@ -48,7 +47,7 @@ pub record Drops (slots : List ℕ) (k : ℕ) (store : Store) (opened : List Sec
   pub long : length left ≡ length store.elements
   pub changes : Changes k slots slots store.elements left
   pub given : count_by (λ e. is_reclaimed e.life) left ≡ count_by (λ e. is_reclaimed e.life) store.elements
-  pub lists : (more : List Element) (names : List ℕ) → Renames slots names (length store.elements) → lists_of new ≡ named names (with_more k store.elements (left ++ more) q)
+  pub lists : (more : List Element) (names : List ℕ) → Renames slots names (length store.elements) → lists_of new ≡ named names (retired_in k store.elements (left ++ more) q)
   pub others : (j : ℕ) → j ≢ k → (more : List Element) → unlinked_between j 0 store.elements (left ++ more) ≡ []
   pub state : map_state_of new ≡ map_state_of v
   pub slots_same : new.slots ≡ v.slots
@@ -138,7 +137,7 @@ module _ (w : WorldView) (s : Schedule) (x : RefinesSchedule w s) (i : IsSchedul
   lists-left d more names same q g =
       let b = retired-back s.machine.store.elements (d.left ++ more) s.queues k q g in
       let one : h.lists ≡ b.0 = same_Some h.lists b.0 (sym h.listed ∙ b.1) in
-      d.lists more names same ∙ ap (named names) (ap (with_more k s.machine.store.elements (d.left ++ more)) one ∙ b.2)
+      d.lists more names same ∙ ap (named names) (ap (retired_in k s.machine.store.elements (d.left ++ more)) one ∙ b.2)
 
   pub lists-others : (d : Dropped) (more : List Element) (j : ℕ) (q : Queues) → j ≢ k → slice_get (retired 0 s.machine.store.elements (d.left ++ more) s.queues) j ≡ Some q → slice_get s.queues j ≡ Some q
   lists-others d more j q ne g =

@@ -17,7 +17,8 @@ use Rattle.view_laws.proofs.Changing.{Changes}
 use Rattle.model_laws.proofs.Tallies.{one_of, count-set}
 use Rattle.view_laws.proofs.Lists.{insert-same, insert-other, remove-same, remove-other, len-remove_found, len-insert_new, index-append, index-last}
 use Rattle.view_laws.proofs.Changing.{changes-life, link-kept, link-back, not-linked, link-grown, link-cases, count-born}
-use Rattle.bpf_model.proofs.Lists.{get-append_cases, get-append_last, get-below, get-set_cases, get-set_other, get-set_there, length-set, key_cases}
+use Rattle.std.proofs.lemmas.List.{length-set}
+use Rattle.bpf_model.proofs.Lists.{get-append_cases, get-append_last, get-below, get-set_cases, get-set_other, get-set_there, key_cases}
 
 -- a kept element of the map was one before
 record Kin (slots names : List ℕ) (k : ℕ) (es : List Element) (n : ℕ) (f : Element) : Type 0 where

@@ -11,7 +11,7 @@ use Rattle.bpf_model.specs.declared.event.EventRefusal.{EventRefusal}
 use Rattle.bpf_model.specs.declared.event.Given.{Given}
 use Rattle.bpf_model.specs.declared.event.Given.TheVariants.{Free, Worn}
 use Rattle.bpf_model.specs.Element.{Element}
-use Rattle.bpf_model.specs.Machine.{Loaded, Run, run_in, lowest_free}
+use Rattle.bpf_model.specs.Machine.{Loaded, Run, lowest_free}
 use Rattle.bpf_model.specs.Event.{IsReal, if_ended, if_running, step_refusal, drop_refusal, refusal, key_refusal, update_refusal, start_refusal}
 use Rattle.bpf_model.specs.Schedule.{Schedule, is_any}
 use Rattle.bpf_model.specs.Drain.{AnswersAsScheduled}
@@ -19,7 +19,7 @@ use Rattle.bpf_model.specs.View.{shape_of_view as shape, MapView, RunView, World
 use Rattle.bpf_model.specs.Refines.{RunSlotRefines, TracksSchedule}
 use Rattle.model_laws.proofs.Reached.{tracked_is_scheduled}
 use Rattle.view_laws.specs.Views.{retired_slot, retired_key, deleted, filled_from, updated_by, updated, shown_error, turned_view, slot_given_back, given_at, reaped_view}
-use Rattle.view_laws.specs.Reactions.{with_map, shape_shown, refused_as, delete_at, delete_reaction, update_at, update_reaction, read_at, read_reaction, advanced_by, advance_reaction, Pick, or_pick, first_pick, reap_by, reap_reaction, start_by, start_reaction, run_shown, step_refused, drop_refused, drop_by, drop_reaction, step_by, reaction}
+use Rattle.view_laws.specs.Reactions.{with_map, shape_shown, refused_as, delete_at, delete_reaction, update_at, update_reaction, read_at, read_reaction, advanced_by, advance_reaction, Pick, or_pick, first_pick, reap_by, reap_reaction, start_by, start_reaction, step_refused, drop_refused, drop_by, drop_reaction, step_by, reaction}
 use Rattle.view_laws.specs.Matching.{Matches, Simulates}
 use Rattle.view_laws.proofs.Worlds.{refuses}
 use Rattle.view_laws.proofs.Deleting.{delete_simulates}
@@ -30,34 +30,36 @@ use Rattle.view_laws.proofs.Reading.{read_simulates}
 use Rattle.view_laws.proofs.Running.{dropped_run}
 use Rattle.view_laws.proofs.Starting.{start_simulates}
 use Rattle.view_laws.proofs.Tracking.{simulates_tracks}
-use Rattle.bpf_model.proofs.Lists.{map-set, set-same}
+use Rattle.std.proofs.lemmas.List.{map-set}
+use Rattle.bpf_model.proofs.Lists.{set-same}
+use Rattle.std.specs.Option.{option_flatten}
 
 -- the refusals of a step and of a drop
-step-refusal_is : (slots : List ℕ) (es : List Element) (programs : List Loaded) (v : Option (Option RunView)) (run : Option (Option Run)) → RunSlotRefines slots es programs v run → step_refusal (run_in run) ≡ step_refused (run_shown v)
+step-refusal_is : (slots : List ℕ) (es : List Element) (programs : List Loaded) (v : Option (Option RunView)) (run : Option (Option Run)) → RunSlotRefines slots es programs v run → step_refusal (option_flatten run) ≡ step_refused (option_flatten v)
 step-refusal_is slots es programs None None h = refl
 step-refusal_is slots es programs (Some None) (Some None) h = refl
 step-refusal_is slots es programs (Some (Some v)) (Some (Some run)) h = ap if_ended (sym h.exit)
 step-refusal_is slots es programs v run h = absurd h
 
-drop-refusal_is : (slots : List ℕ) (es : List Element) (programs : List Loaded) (v : Option (Option RunView)) (run : Option (Option Run)) → RunSlotRefines slots es programs v run → drop_refusal (run_in run) ≡ drop_refused (run_shown v)
+drop-refusal_is : (slots : List ℕ) (es : List Element) (programs : List Loaded) (v : Option (Option RunView)) (run : Option (Option Run)) → RunSlotRefines slots es programs v run → drop_refusal (option_flatten run) ≡ drop_refused (option_flatten v)
 drop-refusal_is slots es programs None None h = refl
 drop-refusal_is slots es programs (Some None) (Some None) h = refl
 drop-refusal_is slots es programs (Some (Some v)) (Some (Some run)) h = ap if_running (sym h.exit)
 drop-refusal_is slots es programs v run h = absurd h
 
 module _ (w : WorldView) (s : Schedule) (m : Matches w s) where
-  step-refused : (r : ℕ) (k : EventRefusal) → step_refused (run_shown (slice_get w.runs r)) ≡ Some k → Simulates s (events.Step r) (refused_as k w)
+  step-refused : (r : ℕ) (k : EventRefusal) → step_refused (option_flatten (slice_get w.runs r)) ≡ Some k → Simulates s (events.Step r) (refused_as k w)
   step-refused r k e = record {
     next = s;
     does = refuses w s m.refines m.scheduled k (events.Step r) (step-refusal_is m.refines.slots s.machine.store.elements s.machine.programs (slice_get w.runs r) (slice_get s.machine.runs r) (m.refines.runs r) ∙ e);
     matches = m;
   }
 
-  step-by : (r : ℕ) (o : Option EventRefusal) → step_refused (run_shown (slice_get w.runs r)) ≡ o → (x : Answer × WorldView) → step_by o w ≡ Some x → Simulates s (events.Step r) x
+  step-by : (r : ℕ) (o : Option EventRefusal) → step_refused (option_flatten (slice_get w.runs r)) ≡ o → (x : Answer × WorldView) → step_by o w ≡ Some x → Simulates s (events.Step r) x
   step-by r (Some k) e x h = subst (Simulates s (events.Step r)) (same_Some (refused_as k w) x h) (step-refused r k e)
   step-by r None e x h = absurd (none-some x h)
 
-  ended-shown : (o : Option (Option RunView)) → drop_refused (run_shown o) ≡ None → (v : RunView) × (n : ℕ) × (o ≡ Some (Some v)) × (v.exit ≡ Some n)
+  ended-shown : (o : Option (Option RunView)) → drop_refused (option_flatten o) ≡ None → (v : RunView) × (n : ℕ) × (o ≡ Some (Some v)) × (v.exit ≡ Some n)
   ended-shown None h = absurd (none-some _ (sym h))
   ended-shown (Some None) h = absurd (none-some _ (sym h))
   ended-shown (Some (Some v)) h = by v.exit refl h
@@ -67,9 +69,9 @@ module _ (w : WorldView) (s : Schedule) (m : Matches w s) where
       by (Some n) e g = (v, n, refl, e)
 
   pub drop_simulates : (r : ℕ) → Simulates s (events.Drop r) (drop_reaction w r)
-  drop_simulates r = by (drop_refused (run_shown (slice_get w.runs r))) refl
+  drop_simulates r = by (drop_refused (option_flatten (slice_get w.runs r))) refl
     where
-      by : (o : Option EventRefusal) → drop_refused (run_shown (slice_get w.runs r)) ≡ o → Simulates s (events.Drop r) (drop_by o w r)
+      by : (o : Option EventRefusal) → drop_refused (option_flatten (slice_get w.runs r)) ≡ o → Simulates s (events.Drop r) (drop_by o w r)
       by (Some k) e = record {
         next = s;
         does = refuses w s m.refines m.scheduled k (events.Drop r) (drop-refusal_is m.refines.slots s.machine.store.elements s.machine.programs (slice_get w.runs r) (slice_get s.machine.runs r) (m.refines.runs r) ∙ e);
@@ -79,7 +81,7 @@ module _ (w : WorldView) (s : Schedule) (m : Matches w s) where
 
   pub reaction_simulates : (event : Event) (x : Answer × WorldView) → reaction w event ≡ Some x → Simulates s event x
   reaction_simulates (events.Start prog ctx) x h = subst (Simulates s (events.Start prog ctx)) (same_Some _ x h) (start_simulates w s m prog ctx)
-  reaction_simulates (events.Step r) x h = step-by r (step_refused (run_shown (slice_get w.runs r))) refl x h
+  reaction_simulates (events.Step r) x h = step-by r (step_refused (option_flatten (slice_get w.runs r))) refl x h
   reaction_simulates (events.Update map key value flags) x h = subst (Simulates s (events.Update map key value flags)) (same_Some _ x h) (update_simulates w s m map key value flags)
   reaction_simulates (events.Delete map key) x h = subst (Simulates s (events.Delete map key)) (same_Some _ x h) (delete_simulates w s m map key)
   reaction_simulates (events.Read map key) x h = subst (Simulates s (events.Read map key)) (same_Some _ x h) (read_simulates w s m map key)
@@ -188,13 +190,13 @@ module _ (w : WorldView) where
 
   pub reaction_keeps : (event : Event) (x : Answer × WorldView) → reaction w event ≡ Some x → Keeps w x.1
   reaction_keeps (events.Start prog ctx) x h = same-keeps (start_reaction w prog ctx.items) x h (start-keeps (start_refusal (slice_get w.programs prog) (length ctx.items) (lowest_free w.runs)) (lowest_free w.runs) prog ctx.items)
-  reaction_keeps (events.Step r) x h = step-keeps (step_refused (run_shown (slice_get w.runs r))) x h
+  reaction_keeps (events.Step r) x h = step-keeps (step_refused (option_flatten (slice_get w.runs r))) x h
   reaction_keeps (events.Update map key value flags) x h = same-keeps (update_reaction w map key.items value.items flags) x h (update-keeps (update_refusal (shape_shown (slice_get w.maps map)) (length key.items) (length value.items)) (slice_get w.maps map) map key.items value.items flags refl)
   reaction_keeps (events.Delete map key) x h = same-keeps (delete_reaction w map key.items) x h (delete-keeps (key_refusal (shape_shown (slice_get w.maps map)) (length key.items)) (slice_get w.maps map) map key.items refl)
   reaction_keeps (events.Read map key) x h = same-keeps (read_reaction w map key.items) x h (read-keeps (key_refusal (shape_shown (slice_get w.maps map)) (length key.items)) (slice_get w.maps map) key.items)
   reaction_keeps events.Advance x h = same-keeps (advance_reaction w) x h (advance-keeps (is_any w.awaited))
   reaction_keeps events.Reap x h = same-keeps (reap_reaction w) x h (reap-keeps (first_pick 0 w.maps) refl)
-  reaction_keeps (events.Drop r) x h = same-keeps (drop_reaction w r) x h (drop-keeps (drop_refused (run_shown (slice_get w.runs r))) r)
+  reaction_keeps (events.Drop r) x h = same-keeps (drop_reaction w r) x h (drop-keeps (drop_refused (option_flatten (slice_get w.runs r))) r)
 
 -- what a world tracks it matches, and it goes on tracking
 pub tracked_matches : (w : WorldView) (s : Schedule) → TracksSchedule w s → Matches w s

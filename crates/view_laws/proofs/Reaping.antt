@@ -4,7 +4,7 @@ use Rattle.std.specs.Prelude.{slice_get, slice_set, slice_index, count_by, if◌
 use Rattle.std.proofs.Math.Dec.{eqb-suc-zero}
 use Rattle.std.proofs.lemmas.Bool.{cases_eq}
 use Rattle.std.proofs.lemmas.Option.{same_Some, slice_get_within}
-use Rattle.std.proofs.lemmas.List.{map-append}
+use Rattle.std.proofs.lemmas.List.{map-append, length-set}
 use Rattle.bpf_model.specs.declared.event.Event.TheVariants as events
 use Rattle.bpf_model.specs.declared.event.Given.{Given}
 use Rattle.bpf_model.specs.declared.event.Given.TheVariants.{Free, Worn}
@@ -25,7 +25,7 @@ use Rattle.model_laws.proofs.Tallies.{count-set, one_of}
 use Rattle.view_laws.proofs.Mapping.{reclaims, elements-given}
 use Rattle.bpf_model.proofs.Cases.{oldest-none, none-without}
 use Rattle.view_laws.proofs.Worlds.{Here, here, Turns, turned-world, steps}
-use Rattle.bpf_model.proofs.Lists.{get-set_other, get-set_there, length-set}
+use Rattle.bpf_model.proofs.Lists.{get-set_other, get-set_there}
 
 -- views and lists, side by side
 record Picked (slots : List ℕ) (k : ℕ) (vs : List MapView) (qs : List Queues) : Type 0 where

@@ -16,7 +16,7 @@ use Rattle.bpf_model.specs.Call.{kernel_function_of}
 use Rattle.bpf_model.specs.Step.{insn_at}
 use Rattle.bpf_model.specs.Element.{Element}
 use Rattle.bpf_model.specs.MapState.{Store}
-use Rattle.bpf_model.specs.Machine.{Loaded, Run, run_in, run_at, moves, locked, unlocked, with_runs, with_store}
+use Rattle.bpf_model.specs.Machine.{Loaded, Run, run_at, moves, locked, unlocked, with_runs, with_store}
 use Rattle.bpf_model.specs.MachineStep.{StepsRun, KernelStep, returns}
 use Rattle.bpf_model.specs.Event.{Answers, refusal, step_refusal, if_ended, drop_refusal, if_running}
 use Rattle.bpf_model.specs.Schedule.{Schedule, is_open, open_flags, still_open, retired, TakesOldest, DoesScheduled}
@@ -27,7 +27,9 @@ use Rattle.view_laws.specs.Reactions.{is_open_view, with_run, locked_view, unloc
 use Rattle.view_laws.specs.Matching.{Matches, Simulates, half}
 use Rattle.bpf_model.proofs.Cases.{oldest-none, run-behind}
 use Rattle.view_laws.proofs.Worlds.{retired-same, steps}
-use Rattle.bpf_model.proofs.Lists.{get-set_other, get-set_there, length-set, map-set}
+use Rattle.std.proofs.lemmas.List.{length-set, map-set}
+use Rattle.bpf_model.proofs.Lists.{get-set_other, get-set_there}
+use Rattle.std.specs.Option.{option_flatten}
 
 length-still : (a b : List Bool) → length a ≡ length b → length (still_open a b) ≡ length b
 length-still [] [] l = refl
@@ -127,7 +129,7 @@ module _ (w : WorldView) (s : Schedule) (sim : Matches w s) (r : ℕ) where
 
   module _ (run : Run) (old : RunView) (imm : ℤ) (run_is : run_at s.machine.runs r ≡ Some run) (at : slice_get w.runs r ≡ Some (Some old)) (alive : run.exit ≡ None) (insn : insn_at run.program.code run.state.place ≡ Some (Call kinds.Kernel imm)) where
     refines : RunRefines x.slots s.machine.store.elements s.machine.programs old run
-    refines = let b = there old at in subst (RunRefines x.slots s.machine.store.elements s.machine.programs old) (same_Some b.0 run (ap run_in (sym b.1) ∙ run_is)) b.2
+    refines = let b = there old at in subst (RunRefines x.slots s.machine.store.elements s.machine.programs old) (same_Some b.0 run (ap option_flatten (sym b.1) ∙ run_is)) b.2
 
     call-step : (later : Run) → KernelStep (kernel_function_of imm) run later → StepsRun s.machine r Moved (with_runs s.machine (slice_set s.machine.runs r (Some later)))
     call-step later k = record { run = run; there = run_is; going = alive; new_store = s.machine.store; new_run = later; step = (Call kinds.Kernel imm, insn, (k, refl, refl)); new_is = refl }
@@ -170,7 +172,7 @@ module _ (w : WorldView) (s : Schedule) (sim : Matches w s) (r : ℕ) where
   dropped_run n old at ended =
       let b = there old at in
       let t : Schedule = run-changed s r None s.machine.started in
-      let pass : refusal s.machine (events.Drop r) ≡ None = ap (λ o. drop_refusal (run_in o)) b.1 ∙ ap if_running (sym b.2.exit ∙ ended) in
+      let pass : refusal s.machine (events.Drop r) ≡ None = ap (λ o. drop_refusal (option_flatten o)) b.1 ∙ ap if_running (sym b.2.exit ∙ ended) in
       let does : DoesScheduled s (events.Drop r) Done t = record {
         step = subst (λ z. Answers z s.machine (events.Drop r) Done t.machine) (sym pass) refl;
         first = tt;

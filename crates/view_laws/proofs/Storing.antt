@@ -21,7 +21,8 @@ use Rattle.view_laws.proofs.Changing.{link-written, link-unwritten, count-writte
 use Rattle.view_laws.proofs.Listing.{between-value, more-none}
 use Rattle.bpf_model.proofs.Cases.{oldest-none}
 use Rattle.view_laws.proofs.Worlds.{Here, here, Turns, turned-world}
-use Rattle.bpf_model.proofs.Lists.{get-set_cases, get-set_other, get-set_there, length-set}
+use Rattle.std.proofs.lemmas.List.{length-set}
+use Rattle.bpf_model.proofs.Lists.{get-set_cases, get-set_other, get-set_there}
 
 -- an element that may be accessed is not reclaimed
 pub accessible-kept : (es : List Element) (n : ℕ) (o : Option Element) (e : Element) → slice_get es n ≡ o → (o >>= unless_reclaimed) ≡ Some e → is_reclaimed e.life ≡ false

@@ -3,7 +3,7 @@ use Rattle.std.proofs.Common.{◌≡◌, ◌∙◌, ℕ, ◌+◌, ◌-◌, ◌<�
 use Rattle.std.specs.Prelude.{slice_get, slice_set, slice_index, count_by, is_some, cond, not, nat_lt, nat_le, ◌==◌, ◌&&◌}
 use Rattle.std.specs.FinMap.{get, len}
 use Rattle.std.proofs.lemmas.Option.{none-some, same_Some}
-use Rattle.std.proofs.lemmas.List.{length-append}
+use Rattle.std.proofs.lemmas.List.{length-append, length-set}
 use Rattle.std.proofs.lemmas.List.Sums.{sum_by_push}
 use Rattle.bpf_model.specs.declared.call.Errno.{Errno}
 use Rattle.bpf_model.specs.declared.event.Event.TheVariants as events
@@ -32,7 +32,7 @@ use Rattle.bpf_model.proofs.Cases.{oldest-none}
 use Rattle.view_laws.proofs.Worlds.{Here, Turns, turned-world, shapes-agree, awaited-same, refuses, unchanged, retired-same, steps}
 use Rattle.view_laws.proofs.Deleting.{Dropped, h, drop, lists-left, lists-others}
 use Rattle.model_laws.proofs.Choices.{last-false}
-use Rattle.bpf_model.proofs.Lists.{get-append_last, get-set_other, get-set_there, length-set, set-same}
+use Rattle.bpf_model.proofs.Lists.{get-append_last, get-set_other, get-set_there, set-same}
 
 free-has : (v : MapView) (free : List ℕ) → v.free ≡ free → (length (map (uses_at v.slots) free) == 0) ≡ false → (i : ℕ) × (rest : List ℕ) × (free ≡ i ∷ rest)
 free-has v [] e h = absurd (cc)

@@ -8,13 +8,14 @@ use Rattle.bpf_model.specs.declared.value.Reference.TheVariants.{Ctx, Frame, Map
 use Rattle.bpf_model.specs.declared.value.Cell.{Cell}
 use Rattle.bpf_model.specs.declared.value.Cell.TheVariants.{Unwritten, Byte, Part}
 use Rattle.bpf_model.specs.Element.{Element}
-use Rattle.bpf_model.specs.Machine.{Loaded, Run, run_in}
+use Rattle.bpf_model.specs.Machine.{Loaded, Run}
 use Rattle.bpf_model.specs.Word.{slot_base, IsReferenceWord, WordIs, ByteIs, element_bases}
 use Rattle.bpf_model.specs.Consistent.{IsBorn, IsBornValue, IsBornCell}
 use Rattle.model_laws.proofs.Born.{IsBornState}
 use Rattle.bpf_model.specs.View.{RunView}
 use Rattle.bpf_model.specs.Refines.{RunRefines, RunSlotRefines}
 use Rattle.view_laws.proofs.Changing.{Changes}
+use Rattle.std.specs.Option.{option_flatten}
 
 module _ (k : ℕ) (slots names : List ℕ) (es fs : List Element) (c : Changes k slots names es fs) where
   base-kept : (n : ℕ) → n < length es → element_bases names fs n ≡ element_bases slots es n
@@ -52,7 +53,7 @@ module _ (k : ℕ) (slots names : List ℕ) (es fs : List Element) (c : Changes 
 
   -- each reference of the run is to an element that was born
   abbrev pub AreBorn : Option (Option Run) → Type 0
-  AreBorn run = (x : Run) → run_in run ≡ Some x → IsBornState (length es) x.state
+  AreBorn run = (x : Run) → option_flatten run ≡ Some x → IsBornState (length es) x.state
 
   pub slot-kept : (programs : List Loaded) (w : Option (Option RunView)) (run : Option (Option Run)) → AreBorn run → RunSlotRefines slots es programs w run → RunSlotRefines names fs programs w run
   slot-kept programs None None b h = tt

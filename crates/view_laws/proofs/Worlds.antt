@@ -23,7 +23,8 @@ use Rattle.view_laws.proofs.Changing.{Changes}
 use Rattle.view_laws.proofs.Mapping.{elements-other}
 use Rattle.view_laws.proofs.Wording.{slot-kept}
 use Rattle.view_laws.proofs.Listing.{named-kept, between-same, still-same, more-none}
-use Rattle.bpf_model.proofs.Lists.{get-below, get-set_cases, length-set}
+use Rattle.std.proofs.lemmas.List.{length-set}
+use Rattle.bpf_model.proofs.Lists.{get-below, get-set_cases}
 
 -- what stands at a map's number
 pub record Here (w : WorldView) (s : Schedule) (x : RefinesSchedule w s) (k : ℕ) (v : MapView) : Type 0 where

@@ -18,6 +18,7 @@ use Rattle.bpf_model.specs.View.{MapView, RunView, WorldView, key_in}
 use Rattle.bpf_model.specs.Machine.{lowest_free}
 use Rattle.bpf_model.specs.declared.event.ReapedElement.{ReapedElement}
 use Rattle.view_laws.specs.Views.{value_read, deleted, updated, turned_view, given_at, reaped_view}
+use Rattle.std.specs.Option.{option_flatten}
 
 -- Map k has another view.
 abbrev pub with_map : ℕ → MapView → WorldView → WorldView
@@ -198,10 +199,6 @@ start_reaction w prog context =
     (lowest_free w.runs) w prog context
 
 -- A step or a drop is refused by what the run slot shows.
-abbrev pub run_shown : Option (Option RunView) → Option RunView
-run_shown None = None
-run_shown (Some o) = o
-
 abbrev pub step_refused : Option RunView → Option EventRefusal
 step_refused None = Some NoRun
 step_refused (Some v) = if_ended v.exit
@@ -215,7 +212,7 @@ drop_by (Some refusal) w r = refused_as refusal w
 drop_by None w r = (Done, with_run r None w)
 
 abbrev pub drop_reaction : WorldView → ℕ → Answer × WorldView
-drop_reaction w r = drop_by (drop_refused (run_shown (slice_get w.runs r))) w r
+drop_reaction w r = drop_by (drop_refused (option_flatten (slice_get w.runs r))) w r
 
 -- a step that is refused; one that is not, its instruction decides
 abbrev pub step_by : Option EventRefusal → WorldView → Option (Answer × WorldView)
@@ -225,7 +222,7 @@ step_by None w = None
 -- The reaction to an event; None: a run makes a step, which its instruction decides.
 abbrev pub reaction : WorldView → Event → Option (Answer × WorldView)
 reaction w (events.Start prog ctx) = Some (start_reaction w prog ctx.items)
-reaction w (events.Step run) = step_by (step_refused (run_shown (slice_get w.runs run))) w
+reaction w (events.Step run) = step_by (step_refused (option_flatten (slice_get w.runs run))) w
 reaction w (events.Update map key value flags) =
     Some (update_reaction w map key.items value.items flags)
 reaction w (events.Delete map key) = Some (delete_reaction w map key.items)

@@ -33,8 +33,8 @@ pub record IsLater (first last : WorkerView) : Type 0 where
 -- A receipt of this worker, from between its count of entries before and after.
 pub record IsByWorker (first last : WorkerView) (receipt : ReceiptView) : Type 0 where
   pub worker : receipt.worker ≡ first.number
-  pub since : first.made ≤ receipt.number
-  pub until : receipt.number ≤ last.made
+  pub since : first.made ≤ receipt.made
+  pub until : receipt.made ≤ last.made
 
 -- all receipts of a trail are of one worker (a note says itself of which it is)
 abbrev pub IsOfWorker : WorkerView → WorkerView → Trail → Type 0
@@ -78,7 +78,7 @@ pub record ExitsAtStep (run : ℕ) (step : ReceiptView) : Type 0 where
 -- and context.
 pub record AsksForExit (job : Job) (run : ℕ) (step : ReceiptView) (note : NoteView) : Type 0 where
   pub worker : note.worker ≡ step.worker
-  pub number : note.number ≡ step.number
+  pub count : note.made ≡ step.made
   pub run_is : note.run ≡ run
   pub prog : note.prog ≡ job.prog
   pub context : note.context ≡ job.ctx.items

@@ -16,7 +16,7 @@ use std::sync::Wait;
 use std::sync::ledger::Ledger;
 use std::thread::Threads;
 
-/// Serves all jobs from a shared world by the first of its workers, each in a thread of its own: one outcome a job,
+/// Serves all jobs from a shared world by the last of its workers, each in a thread of its own: one outcome a job,
 /// in job order. The workers come back whatever the answer, in their order.
 ///
 /// Errors: the first of these that holds.

@@ -31,7 +31,7 @@ fn step_to_end<L: Ledger, R: Wait>(
 ) -> Receipt
     ensures event { result.event ≡ Step run }
     ensures answered { IfOk result.reply (IsMachineAnswer (Step run)) }
-    ensures number { result.number ≡ worker.new.made }
+    ensures count { result.made ≡ worker.new.made }
     ensures last { result.reply ≢ Ok Moved }
     ensures later { IsLater worker.old worker.new }
     ensures by { IsByWorker worker.old worker.new result }

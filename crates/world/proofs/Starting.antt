@@ -1,8 +1,8 @@
 -- A world of new maps, and programs that are bound to them.
-use Rattle.std.proofs.Common.{◌≡◌, ◌∙◌, ℕ, ◌≤◌, List, map, replicate, length, false, None, Some, sym, ap, subst, arith}
+use Rattle.std.proofs.Common.{◌≡◌, ◌∙◌, ℕ, ◌≤◌, List, map, length, Some, sym, ap, subst, arith}
 use Rattle.std.specs.Prelude.{slice_get}
 use Rattle.std.proofs.lemmas.List.{length-map}
-use Rattle.bpf_model.specs.declared.limits.TheConstants.{MAX_MAPS, MAX_PROGRAMS, MAX_RUNS}
+use Rattle.bpf_model.specs.declared.limits.TheConstants.{MAX_MAPS, MAX_PROGRAMS}
 use Rattle.bpf_model.specs.Machine as machine
 use Rattle.bpf_model.specs.MapState.{AreShapes, new_map}
 use Rattle.bpf_model.specs.Refines.{TracksSchedule}
@@ -15,6 +15,7 @@ use Rattle.typed_runs.specs.Well.{IsVerifiedFor, AreVerified}
 use Rattle.world_laws.specs.Typed.{IsRealProgram, AreRealPrograms}
 use Rattle.world_parts.specs.declared.loaded.Loaded.{Loaded}
 use Rattle.world_parts.specs.Programs.{program_of}
+use Rattle.world_parts.specs.Keeping.{unused_world}
 use Rattle.world_invariant.specs.Invariant.{IsWorld}
 use Rattle.world_invariant.proofs.Binding.{bound_is_verified}
 use Rattle.world_invariant.proofs.Keeping.{start_is_world}
@@ -30,11 +31,8 @@ pub record IsSafe (maps : List MapView) (loaded : List Loaded) : Type 0 where
   pub verified : (p : ℕ) (x : Loaded) → slice_get loaded p ≡ Some x → IsVerified x.verified.program x.verified.shapes x.verified.ctx_len
   pub real : (p : ℕ) (x : Loaded) → slice_get loaded p ≡ Some x → IsRealProgram (program_of x)
 
-abbrev view_of : List machine.Loaded → List MapView → WorldView
-view_of programs maps = record { maps = maps; runs = replicate MAX_RUNS None; opened = replicate MAX_RUNS false; awaited = replicate MAX_RUNS false; programs = programs; given = 0 }
-
-pub made-is-start : {maps : List MapView} {loaded : List Loaded} → IsSafe maps loaded → (w : WorldView) → w ≡ view_of (programs_in loaded) maps → w ≡ start_view (shapes_of_maps maps) (programs_in loaded)
-made-is-start {maps} {loaded} safe w e = e ∙ ap (view_of (programs_in loaded)) safe.new_maps
+pub made-is-start : {maps : List MapView} {loaded : List Loaded} → IsSafe maps loaded → (w : WorldView) → w ≡ unused_world maps (programs_in loaded) → w ≡ start_view (shapes_of_maps maps) (programs_in loaded)
+made-is-start {maps} {loaded} safe w e = e ∙ ap (λ (ms : List MapView). unused_world ms (programs_in loaded)) safe.new_maps
 
 are_verified : (maps : List MapView) (loaded : List Loaded) → IsSafe maps loaded → AreVerified (shapes_of_maps maps) (programs_in loaded)
 are_verified maps loaded safe p program at =
@@ -55,9 +53,9 @@ start-is-world {maps} {loaded} safe =
     let few_programs : length (programs_in loaded) ≤ MAX_PROGRAMS = let count : length (programs_in loaded) ≡ length loaded = length-map loaded program_of in let limit : length loaded ≤ MAX_PROGRAMS = safe.programs_limit in omega arith in
     start_is_world (shapes_of_maps maps) (programs_in loaded) safe.shapes few few_programs (are_verified maps loaded safe) (are_programs maps loaded safe)
 
-pub made-is-world : {maps : List MapView} {loaded : List Loaded} → IsSafe maps loaded → (w : WorldView) → w ≡ view_of (programs_in loaded) maps → IsWorld w
+pub made-is-world : {maps : List MapView} {loaded : List Loaded} → IsSafe maps loaded → (w : WorldView) → w ≡ unused_world maps (programs_in loaded) → IsWorld w
 made-is-world safe w e = subst IsWorld (sym (made-is-start safe w e)) (start-is-world safe)
 
-pub made-tracks-start : {maps : List MapView} {loaded : List Loaded} → IsSafe maps loaded → (w : WorldView) → w ≡ view_of (programs_in loaded) maps → TracksSchedule w (start_schedule (shapes_of_maps maps) (programs_in loaded))
+pub made-tracks-start : {maps : List MapView} {loaded : List Loaded} → IsSafe maps loaded → (w : WorldView) → w ≡ unused_world maps (programs_in loaded) → TracksSchedule w (start_schedule (shapes_of_maps maps) (programs_in loaded))
 made-tracks-start {maps} {loaded} safe w e =
     subst (λ (v : WorldView). TracksSchedule v (start_schedule (shapes_of_maps maps) (programs_in loaded))) (sym (made-is-start safe w e)) (start_tracked (shapes_of_maps maps) (programs_in loaded) safe.shapes)

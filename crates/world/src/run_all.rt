@@ -10,7 +10,7 @@ use bpf_model::{Answer, Event, are_real};
 use std::alloc::{AllocError, Global};
 
 /// Adds an answer where there is room for it.
-fn note(answers: &mut Vec<Answer>, answer: Answer)
+fn push_answer(answers: &mut Vec<Answer>, answer: Answer)
     requires { vec_len answers.old < vec_capacity answers.old }
     ensures items { answers.new.items ≡ answers.old.items ++ answer ∷ [] }
     ensures len { vec_len answers.new ≡ vec_len answers.old + 1 }
@@ -53,7 +53,7 @@ impl World {
         let mut answers = Vec::with_capacity(alloc, events.len())?;
         for event in events {
             let answer = self.apply(event);
-            note(&mut answers, answer);
+            push_answer(&mut answers, answer);
         }
         Ok(answers)
     }

@@ -2,7 +2,8 @@
 use Rattle.std.proofs.Common.{◌≡◌, ◌∙◌, ℕ, zero, suc, List, [], ◌∷◌, map, length, Some, refl, sym, ap}
 use Rattle.std.specs.Prelude.{slice_get}
 use Rattle.std.proofs.lemmas.List.{length-map}
-use Rattle.std.proofs.lemmas.Option.{none-some, same_Some}
+use Rattle.std.proofs.lemmas.Option.{none-some}
+use Rattle.bpf_model.proofs.Lists.{get-map}
 use Rattle.bpf_model.specs.declared.limits.MapShape.{MapShape}
 use Rattle.bpf_model.specs.Machine.{Loaded}
 use Rattle.bpf_model.specs.MapState.{new_map}
@@ -22,11 +23,6 @@ bound-each shapes (a ∷ asked) (n ∷ numbers) bound (suc i) shape at =
     let rest : map (slice_get shapes) numbers ≡ map Some asked = cc in
     bound-each shapes asked numbers rest i shape at
 
-new-at : (shapes : List MapShape) (number : ℕ) (shape : MapShape) → slice_get shapes number ≡ Some shape → slice_get (map new_map shapes) number ≡ Some (new_map shape)
-new-at [] number shape at = absurd (none-some shape at)
-new-at (x ∷ shapes) zero shape at = ap (λ s. Some (new_map s)) (same_Some x shape at)
-new-at (x ∷ shapes) (suc number) shape at = new-at shapes number shape at
-
 pub bound_is_verified : (shapes asked : List MapShape) (program : Loaded) → IsBoundTo shapes asked program.maps → IsVerified program.code asked program.context_len → IsVerifiedFor (map new_map shapes) program
 bound_is_verified shapes asked program bound verified = record {
   shapes = asked;
@@ -34,7 +30,7 @@ bound_is_verified shapes asked program bound verified = record {
     count = bound-count shapes asked program.maps bound;
     each = λ i shape at.
         let there = bound-each shapes asked program.maps bound i shape at in
-        (there.0, new_map shape, there.1, new-at shapes there.0 shape there.2, refl);
+        (there.0, new_map shape, there.1, get-map new_map shapes there.0 shape there.2, refl);
   };
   verified = verified;
 }

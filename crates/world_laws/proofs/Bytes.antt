@@ -1,7 +1,7 @@
 -- Bytes of lists: those that a number was written to, those that a load reads, those of an argument.
-use Rattle.std.proofs.Common.{◌≡◌, ℕ, zero, suc, ◌+◌, ◌-◌, ◌*◌, ◌/◌, ◌%◌, ◌^◌, ◌<◌, ◌≤◌, refl, sym, ◌∙◌, ap, subst, arith, Bool, true, false, length, List, [], ◌∷◌, inl, inr, ◌≢◌}
+use Rattle.std.proofs.Common.{◌≡◌, ℕ, zero, suc, ◌+◌, ◌-◌, ◌*◌, ◌/◌, ◌%◌, ◌^◌, ◌<◌, ◌≤◌, refl, sym, ◌∙◌, ap, subst, arith, length, List, [], ◌∷◌, inl, inr, ◌≢◌}
 use Rattle.std.specs.Prelude.{Some, ◌==◌, if◌then◌else◌, slice_get, slice_index, slice_set, take, drop, unwrap_or, ℤ, pos}
-use Rattle.std.proofs.lemmas.Bool.{cases_lt, cases_eq, eq-eqb, ne_eqb}
+use Rattle.std.proofs.lemmas.Bool.{cases_lt, cases_eq, eq-eqb, ne_eqb, cond-true, cond-false}
 use Rattle.std.proofs.lemmas.List.{get_or-set_same, get_or-set_other}
 use Rattle.std.proofs.lemmas.Option.{slice_get-get_or, same_Some}
 use Rattle.std.proofs.Math.Nat.{pow-suc, div-div-eq-div-mul}
@@ -24,12 +24,6 @@ set_cond xs d x q l = elim (cases_eq q d) [
   | inr n ↦ get_or-set_other xs d q x 0 n ∙ sym (ap (λ t. if t then x else slice_index xs q) (ne_eqb q d n))
 ]
 
-chosen : (t : Bool) (x y : ℕ) → t ≡ true → (if t then x else y) ≡ x
-chosen t x y e = ap (λ t. if t then x else y) e
-
-passed : (t : Bool) (x y : ℕ) → t ≡ false → (if t then x else y) ≡ y
-passed t x y e = ap (λ t. if t then x else y) e
-
 digit : (n at k : ℕ) → suc at ≤ k → n / 256 / 256 ^ (k - suc at) ≡ n / 256 ^ (k - at)
 digit n at k h =
     let e : suc (k - suc at) ≡ k - at = omega arith in
@@ -43,25 +37,25 @@ first-digit n at k e = let f : k - at ≡ 0 = omega arith in ap (λ (e : ℕ). n
 -- the bytes after a number was written
 pub bytes-written : (width at n : ℕ) (xs : List ℕ) → at + width ≤ length xs → (k : ℕ) → slice_index (with_bytes at width n xs) k ≡ (if is_within at width k then n / 256 ^ (k - at) % 256 else slice_index xs k)
 bytes-written zero at n xs l k = elim (cases_lt k at) [
-  | inl h ↦ sym (passed (is_within at 0 k) (n / 256 ^ (k - at) % 256) (slice_index xs k) (before at 0 k h))
-  | inr h ↦ sym (passed (is_within at 0 k) (n / 256 ^ (k - at) % 256) (slice_index xs k) (behind at 0 k (omega arith)))
+  | inl h ↦ sym (cond-false (is_within at 0 k) (n / 256 ^ (k - at) % 256) (slice_index xs k) (before at 0 k h))
+  | inr h ↦ sym (cond-false (is_within at 0 k) (n / 256 ^ (k - at) % 256) (slice_index xs k) (behind at 0 k (omega arith)))
 ]
 bytes-written (suc width) at n xs l k =
     let ys = with_bytes (suc at) width (n / 256) xs in
     let more = bytes-written width (suc at) (n / 256) xs (omega arith) k in
     let same : length ys ≡ length xs = length-with_bytes (suc at) width (n / 256) xs in
     set_cond ys at (n % 256) k (omega arith) ∙ elim (cases_eq k at) [
-      | inl e ↦ chosen (k == at) (n % 256) (slice_index ys k) (eq-eqb k at e) ∙ sym (first-digit n at k e)
-          ∙ sym (chosen (is_within at (suc width) k) (n / 256 ^ (k - at) % 256) (slice_index xs k) (within at (suc width) k (omega arith) (omega arith)))
-      | inr d ↦ passed (k == at) (n % 256) (slice_index ys k) (ne_eqb k at d) ∙ more ∙ elim (cases_lt k at) [
-        | inl h ↦ passed (is_within (suc at) width k) (n / 256 / 256 ^ (k - suc at) % 256) (slice_index xs k) (before (suc at) width k (omega arith))
-            ∙ sym (passed (is_within at (suc width) k) (n / 256 ^ (k - at) % 256) (slice_index xs k) (before at (suc width) k h))
+      | inl e ↦ cond-true (k == at) (n % 256) (slice_index ys k) (eq-eqb k at e) ∙ sym (first-digit n at k e)
+          ∙ sym (cond-true (is_within at (suc width) k) (n / 256 ^ (k - at) % 256) (slice_index xs k) (within at (suc width) k (omega arith) (omega arith)))
+      | inr d ↦ cond-false (k == at) (n % 256) (slice_index ys k) (ne_eqb k at d) ∙ more ∙ elim (cases_lt k at) [
+        | inl h ↦ cond-false (is_within (suc at) width k) (n / 256 / 256 ^ (k - suc at) % 256) (slice_index xs k) (before (suc at) width k (omega arith))
+            ∙ sym (cond-false (is_within at (suc width) k) (n / 256 ^ (k - at) % 256) (slice_index xs k) (before at (suc width) k h))
         | inr h ↦ elim (cases_lt k (suc at + width)) [
-          | inl m ↦ chosen (is_within (suc at) width k) (n / 256 / 256 ^ (k - suc at) % 256) (slice_index xs k) (within (suc at) width k (beyond h d) m)
+          | inl m ↦ cond-true (is_within (suc at) width k) (n / 256 / 256 ^ (k - suc at) % 256) (slice_index xs k) (within (suc at) width k (beyond h d) m)
               ∙ ap (λ m. m % 256) (digit n at k (beyond h d))
-              ∙ sym (chosen (is_within at (suc width) k) (n / 256 ^ (k - at) % 256) (slice_index xs k) (within at (suc width) k h (omega arith)))
-          | inr m ↦ passed (is_within (suc at) width k) (n / 256 / 256 ^ (k - suc at) % 256) (slice_index xs k) (behind (suc at) width k m)
-              ∙ sym (passed (is_within at (suc width) k) (n / 256 ^ (k - at) % 256) (slice_index xs k) (behind at (suc width) k (omega arith)))
+              ∙ sym (cond-true (is_within at (suc width) k) (n / 256 ^ (k - at) % 256) (slice_index xs k) (within at (suc width) k h (omega arith)))
+          | inr m ↦ cond-false (is_within (suc at) width k) (n / 256 / 256 ^ (k - suc at) % 256) (slice_index xs k) (behind (suc at) width k m)
+              ∙ sym (cond-false (is_within at (suc width) k) (n / 256 ^ (k - at) % 256) (slice_index xs k) (behind at (suc width) k (omega arith)))
         ]
       ]
     ]

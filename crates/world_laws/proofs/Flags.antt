@@ -14,8 +14,17 @@ use Rattle.world_laws.proofs.Ready.{refines}
 use Rattle.model_laws.proofs.Queueing.{in-slot}
 use Rattle.bpf_model.proofs.Lists.{set-same}
 
+module _ (w : WorldView) (s : Schedule) (m : Matches w s) where
+  -- no section is awaited that is not open
+  pub awaited_open : still_open w.awaited w.opened ≡ w.awaited
+  awaited_open =
+      ap (λ (l : List Bool). still_open l w.opened) m.refines.awaited
+      ∙ ap (still_open s.awaited) m.refines.opened
+      ∙ awaited-same w s m.refines m.scheduled
+      ∙ sym m.refines.awaited
+
 module _ (w : WorldView) (s : Schedule) (m : Matches w s) (sound : IsSound w s) (r : ℕ) (run : Run) (v new : RunView) (k : IsRunning w s r run v) (same : new.depth ≡ v.depth) where
-  flag : slice_get w.opened r ≡ Some (nat_lt 0 new.depth)
+  pub flag : slice_get w.opened r ≡ Some (nat_lt 0 new.depth)
   flag =
       let depth : new.depth ≡ run.depth = same ∙ (refines w s m sound r run v k).depth in
       ap (λ (l : List Bool). slice_get l r) m.refines.opened
@@ -27,9 +36,4 @@ module _ (w : WorldView) (s : Schedule) (m : Matches w s) (sound : IsSound w s) 
   opened_stays = set-same w.opened r (nat_lt 0 new.depth) flag
 
   pub awaited_stays : (with_run r (Some new) w).awaited ≡ w.awaited
-  awaited_stays =
-      ap (still_open w.awaited) opened_stays
-      ∙ ap (λ (l : List Bool). still_open l w.opened) m.refines.awaited
-      ∙ ap (still_open s.awaited) m.refines.opened
-      ∙ awaited-same w s m.refines m.scheduled
-      ∙ sym m.refines.awaited
+  awaited_stays = ap (still_open w.awaited) opened_stays ∙ awaited_open w s m

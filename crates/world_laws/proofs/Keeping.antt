@@ -19,12 +19,13 @@ use Rattle.bpf_model.specs.Step.{insn_at}
 use Rattle.bpf_model.specs.View.{MapView, RunView, WorldView}
 use Rattle.model_laws.specs.Locations.{Location, InContext, InFrame, AtMap, InSlot}
 use Rattle.view_laws.specs.Views.{shown_error}
-use Rattle.view_laws.specs.Reactions.{run_shown, reaction}
+use Rattle.view_laws.specs.Reactions.{reaction}
 use Rattle.view_laws.proofs.Reacting.{Keeps, reaction_keeps, retired-shape, updated-shape, map-keeps}
 use Rattle.world_laws.specs.Locating.{location_of}
 use Rattle.world_laws.specs.Moving.{word_in, operand_word, stored_slot, stored_at}
 use Rattle.world_laws.specs.Calling.{bytes_in, bound_number, serves, helper_called_on, helper_called, kernel_called}
 use Rattle.world_laws.specs.Reacting.{insn_step, step_at, step_in, run_step_of, or_step, full_reaction}
+use Rattle.std.specs.Option.{option_flatten}
 
 module _ (w : WorldView) where
   slot-keeps : (width x : ℕ) (z : ℤ) (k slot : ℕ) (o : Option MapView) → slice_get w.maps k ≡ o → Keeps w (stored_slot width x z k o slot w)
@@ -78,7 +79,7 @@ module _ (w : WorldView) where
   of-keeps None r = (refl, refl)
 
   left-keeps : (event : Event) → Keeps w (or_step None w event).1
-  left-keeps (events.Step r) = of-keeps (run_shown (slice_get w.runs r)) r
+  left-keeps (events.Step r) = of-keeps (option_flatten (slice_get w.runs r)) r
   left-keeps event = (refl, refl)
 
   either-keeps : (event : Event) (o : Option (Answer × WorldView)) → reaction w event ≡ o → Keeps w (or_step o w event).1

@@ -16,7 +16,7 @@ use Rattle.bpf_model.specs.Helper.{update_error}
 use Rattle.bpf_model.specs.View.{MapView, RunView, WorldView, new_map_view, map_state_of}
 use Rattle.model_laws.specs.Example.{example_shape}
 use Rattle.view_laws.specs.Views.{retired_slot, delete_result, filled_from, updated_by, shown_error}
-use Rattle.view_laws.specs.Reactions.{with_map, run_shown, shape_shown, delete_at}
+use Rattle.view_laws.specs.Reactions.{with_map, shape_shown, delete_at}
 use Rattle.view_laws.proofs.Lists.{insert-same}
 use Rattle.bpf_model.specs.Codes.{KeyMap}
 use Rattle.world_laws.specs.Calling.{found_word, returned_view}
@@ -24,6 +24,7 @@ use Rattle.world_laws.specs.Moving.{moves_on}
 use Rattle.world_laws.specs.Reacting.{full_reaction, full_reactions}
 use Rattle.world_laws.proofs.Appending.{answers_append}
 use Rattle.world_laws.specs.WorldExample.{key_zero, value_263, example_world, example_events, example_answers}
+use Rattle.std.specs.Option.{option_flatten}
 
 -- one event before others
 next : (w new : WorldView) (e : Event) (a : Answer) (es : List Event) → full_reaction w e ≡ (a, new) → (full_reactions w (e ∷ es)).0 ≡ a ∷ (full_reactions new es).0
@@ -65,7 +66,7 @@ or_fresh None = record { program = 0; context = []; registers = []; frame = []; 
 or_fresh (Some v) = v
 
 abbrev running : RunView
-running = or_fresh (run_shown (slice_get before_lookup.runs 0))
+running = or_fresh (option_flatten (slice_get before_lookup.runs 0))
 
 abbrev found : WorldView
 found = (moves_on 0 (returned_view (found_word 0 (Some 0)) running) before_lookup).1

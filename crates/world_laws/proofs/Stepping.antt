@@ -12,7 +12,7 @@ use Rattle.bpf_model.specs.declared.insn.Insn.TheVariants.{Alu, Unary, LoadNumbe
 use Rattle.bpf_model.specs.Call.{helper_of, kernel_function_of}
 use Rattle.bpf_model.specs.Element.{Element}
 use Rattle.bpf_model.specs.Event.{if_ended}
-use Rattle.bpf_model.specs.Machine.{Loaded, Run, run_in, environment, open_sections}
+use Rattle.bpf_model.specs.Machine.{Loaded, Run, environment, open_sections}
 use Rattle.bpf_model.specs.MachineStep.{AccessesElement, Acts, OutcomeStep, InsnStep}
 use Rattle.bpf_model.specs.MapState as map_state
 use Rattle.bpf_model.specs.Schedule.{Schedule}
@@ -20,7 +20,7 @@ use Rattle.bpf_model.specs.Step.{Outcome, after, insn_at}
 use Rattle.bpf_model.specs.View.{RunView, WorldView}
 use Rattle.typed_runs.proofs.Reaching.{well_never_stuck}
 use Rattle.view_laws.specs.Matching.{Matches, Simulates}
-use Rattle.view_laws.specs.Reactions.{run_shown, step_refused, step_by, reaction}
+use Rattle.view_laws.specs.Reactions.{step_refused, step_by, reaction}
 use Rattle.view_laws.proofs.Reacting.{reaction_simulates}
 use Rattle.world_laws.specs.Reacting.{insn_step, step_at, step_in, run_step_of, word_step, or_step, full_reaction}
 use Rattle.world_laws.specs.Typed.{IsSound, IsRunning}
@@ -30,6 +30,7 @@ use Rattle.world_laws.proofs.Loading.{load-simulates, load-signed-simulates, ele
 use Rattle.world_laws.proofs.Storing.{store-simulates, element-store-simulates}
 use Rattle.world_laws.proofs.Calling.{kernel-simulates, helper-simulates}
 use Rattle.bpf_model.proofs.Cases.{run-behind}
+use Rattle.std.specs.Option.{option_flatten}
 
 module _ (w : WorldView) (s : Schedule) (m : Matches w s) (sound : IsSound w s) (r : ℕ) (run : Run) (v : RunView) (k : IsRunning w s r run v) where
   pub own_step_simulates : (i : Insn) (out : Outcome) (answer : Answer) (later : Run) → insn_at run.program.code run.state.place ≡ Some i → after i (environment run) run.state ≡ Some out → OutcomeStep out run answer later → Simulates s (events.Step r) (insn_step i run.program r v w)
@@ -68,7 +69,7 @@ module _ (w : WorldView) (s : Schedule) (m : Matches w s) (sound : IsSound w s) 
       let h = refines w s m sound r run v k in
       let loaded : slice_get w.programs v.program ≡ Some run.program = ap (λ (ps : List Loaded). slice_get ps v.program) m.refines.programs ∙ h.program in
       let at : insn_at run.program.code v.place ≡ Some n.3.0 = ap (insn_at run.program.code) h.place ∙ n.3.1 in
-      subst (λ o. Simulates s (events.Step r) (run_step_of (run_shown o) r w)) (sym k.shown)
+      subst (λ o. Simulates s (events.Step r) (run_step_of (option_flatten o) r w)) (sym k.shown)
       (subst (λ o. Simulates s (events.Step r) (step_in o r v w)) (sym loaded)
       (subst (λ o. Simulates s (events.Step r) (step_at o run.program r v w)) (sym at) (insn_simulates n.3.0 n.0 n.1 n.2 n.3.1 n.3.2)))
 
@@ -81,7 +82,7 @@ going-shown : (o : Option RunView) → step_refused o ≡ None → (v : RunView)
 going-shown None e = absurd (none-some _ (sym e))
 going-shown (Some v) e = (v, refl, not-ended v.exit e)
 
-slot-shown : (o : Option (Option RunView)) (v : RunView) → run_shown o ≡ Some v → o ≡ Some (Some v)
+slot-shown : (o : Option (Option RunView)) (v : RunView) → option_flatten o ≡ Some v → o ≡ Some (Some v)
 slot-shown None v e = absurd (none-some v e)
 slot-shown (Some o) v e = ap Some e
 
@@ -90,15 +91,15 @@ not-refused None w e = refl
 not-refused (Some refusal) w e = absurd (none-some _ (sym e))
 
 module _ (w : WorldView) (s : Schedule) (m : Matches w s) (sound : IsSound w s) where
-  running-step : (r : ℕ) → step_refused (run_shown (slice_get w.runs r)) ≡ None → Simulates s (events.Step r) (word_step w r)
+  running-step : (r : ℕ) → step_refused (option_flatten (slice_get w.runs r)) ≡ None → Simulates s (events.Step r) (word_step w r)
   running-step r e =
-      let x = going-shown (run_shown (slice_get w.runs r)) e in
+      let x = going-shown (option_flatten (slice_get w.runs r)) e in
       let at = slot-shown (slice_get w.runs r) x.0 x.1 in
       let y = run-behind m.refines.slots s.machine.store.elements s.machine.programs x.0 (slice_get w.runs r) (slice_get s.machine.runs r) at (m.refines.runs r) in
-      step_simulates w s m sound r y.0 x.0 (record { there = ap run_in y.1; shown = at; going = sym y.2.exit ∙ x.2 })
+      step_simulates w s m sound r y.0 x.0 (record { there = ap option_flatten y.1; shown = at; going = sym y.2.exit ∙ x.2 })
 
   left : (event : Event) → reaction w event ≡ None → Simulates s event (or_step None w event)
-  left (events.Step r) e = running-step r (not-refused (step_refused (run_shown (slice_get w.runs r))) w e)
+  left (events.Step r) e = running-step r (not-refused (step_refused (option_flatten (slice_get w.runs r))) w e)
   left (events.Start prog ctx) e = absurd (none-some _ (sym e))
   left (events.Update map key value flags) e = absurd (none-some _ (sym e))
   left (events.Delete map key) e = absurd (none-some _ (sym e))

@@ -1,5 +1,5 @@
 -- What a start and a drop leave of a world.
-use Rattle.std.proofs.Common.{◌≡◌, ◌∙◌, ℕ, zero, suc, List, length, Bool, false, Option, Some, None, inl, inr, sym, ap, subst, cond}
+use Rattle.std.proofs.Common.{◌≡◌, ◌∙◌, ℕ, List, length, Bool, false, Option, Some, None, inl, inr, sym, ap, subst, cond}
 use Rattle.std.specs.Prelude.{slice_get, slice_set, map, option_map, nat_lt, replicate}
 use Rattle.std.proofs.lemmas.Option.{none-some, same_Some, slice_get-map}
 use Rattle.std.proofs.lemmas.Bool.{eq-eqb}
@@ -19,7 +19,8 @@ use Rattle.world_parts.specs.Programs.{program_of}
 use Rattle.world_parts.specs.Keeping.{view_of, is_run_inside, IsOfProgram, AreRunsKept, world_of}
 use Rattle.world_parts.proofs.Flags.{still-cleared}
 use Rattle.world_parts.proofs.Slots.{Runs}
-use Rattle.bpf_model.proofs.Lists.{length-set, map-set, set-same, get-set_cases}
+use Rattle.std.proofs.lemmas.List.{length-set, map-set}
+use Rattle.bpf_model.proofs.Lists.{set-same, get-set_cases, get-replicate}
 use Rattle.bpf_model.specs.Machine.{lowest_free}
 
 same_world : (maps : List MapView) (programs : List machine.Loaded) (given : ℕ) (rs qs : List (Option RunView)) (os ps cs bs : List Bool) → rs ≡ qs → os ≡ ps → cs ≡ bs →
@@ -90,9 +91,7 @@ started maps runs grace programs given prog context program o w e there long fre
     (ap (λ (z : WorldView). lowest_free z.runs) (sym e) ∙ sym free)
 
 none-in : {A : Type 0} (n r : ℕ) (x : A) → slice_get (replicate n None) r ≡ Some (Some x) → ⊥
-none-in zero r x e = none-some (Some x) e
-none-in {A} (suc n) zero x e = let s : ◌≡◌ {A = Option A} None (Some x) = same_Some None (Some x) e in none-some x s
-none-in (suc n) (suc r) x e = none-in n r x e
+none-in n r x e = none-some x (sym (get-replicate n r None (Some x) e))
 
 pub fresh-kept : (runs : Runs) (grace : GraceState) (programs : List Loaded) → runs ≡ replicate MAX_RUNS None → grace.opened ≡ replicate MAX_RUNS false → AreRunsKept runs grace programs
 fresh-kept runs grace programs e o = record {

@@ -12,7 +12,7 @@ use Rattle.bpf_model.specs.Step.{insn_at}
 use Rattle.bpf_model.specs.View.{MapView, RunView, WorldView}
 use Rattle.grace_period.specs.State.{GraceState}
 use Rattle.view_laws.specs.Matching.{Matches}
-use Rattle.view_laws.specs.Reactions.{run_shown, step_refused}
+use Rattle.view_laws.specs.Reactions.{step_refused}
 use Rattle.world_laws.specs.Local.{local_of}
 use Rattle.world_laws.specs.Reacting.{step_at, step_in, run_step_of, word_step}
 use Rattle.world_laws.specs.Typed.{IsSound}
@@ -30,7 +30,9 @@ use Rattle.world_parts.specs.declared.loaded.Loaded.{Loaded}
 use Rattle.world_parts.specs.Programs.{program_of}
 use Rattle.world_parts.specs.Keeping.{view_of, is_run_inside, IsOfProgram, AreRunsKept, world_of}
 use Rattle.world_parts.specs.Stepping.{CanTake, HasTaken, IsGoing, HasGone}
-use Rattle.bpf_model.proofs.Lists.{length-set, map-set, set-same, get-set_cases}
+use Rattle.std.proofs.lemmas.List.{length-set, map-set}
+use Rattle.bpf_model.proofs.Lists.{set-same, get-set_cases}
+use Rattle.std.specs.Option.{option_flatten}
 
 module _ (loaded : Loaded) (maps : List MapView) (g : GraceState) (r : ℕ) (old : RunWords) (can : CanTake loaded maps g r old) where
   abbrev v : RunView
@@ -129,7 +131,7 @@ module _ (loaded : Loaded) (maps : List MapView) (g : GraceState) (r : ℕ) (old
         }
 
 -- a run slot from which a step is not refused
-going : (o : Option (Option RunWords)) → step_refused (run_shown (option_map view_of o)) ≡ None → (run : RunWords) × (o ≡ Some (Some run)) × (run.view.exit ≡ None)
+going : (o : Option (Option RunWords)) → step_refused (option_flatten (option_map view_of o)) ≡ None → (run : RunWords) × (o ≡ Some (Some run)) × (run.view.exit ≡ None)
 going None e = absurd (none-some _ (sym e))
 going (Some None) e = absurd (none-some _ (sym e))
 going (Some (Some run)) e = (run, refl, not-ended run.view.exit e)
@@ -145,9 +147,9 @@ module _ (maps : List MapView) (runs : List (Option RunWords)) (g : GraceState) 
   run-at run e = slice_get-map view_of runs r ∙ ap (option_map view_of) e
 
   -- in a sound world the run in a slot may make a step, unless that is refused
-  pub is_going : (s : Schedule) → Matches w s → IsSound w s → step_refused (run_shown (slice_get w.runs r)) ≡ None → IsGoing runs programs maps g r
+  pub is_going : (s : Schedule) → Matches w s → IsSound w s → step_refused (option_flatten (slice_get w.runs r)) ≡ None → IsGoing runs programs maps g r
   is_going s m sound e =
-      let x = going (slice_get runs r) (ap (λ o. step_refused (run_shown o)) (sym (slice_get-map view_of runs r)) ∙ e) in
+      let x = going (slice_get runs r) (ap (λ o. step_refused (option_flatten o)) (sym (slice_get-map view_of runs r)) ∙ e) in
       let shown = run-at x.0 x.1 in
       let y = running w s m r x.0.view shown x.2 in
       let of = kept.of_program r x.0 x.1 in
@@ -193,7 +195,7 @@ module _ (maps : List MapView) (runs : List (Option RunWords)) (g : GraceState) 
     gone_is =
         let run : RunWords = gone.run in
         let out : List (Option RunView) → Answer × WorldView = λ (l : List (Option RunView)). (answer, record { maps = maps_new; runs = l; opened = g_new.opened; awaited = g_new.awaited; programs = w.programs; given = given }) in
-        ap (λ (o : Option (Option RunView)). run_step_of (run_shown o) r w) (run-at run gone.there)
+        ap (λ (o : Option (Option RunView)). run_step_of (option_flatten o) r w) (run-at run gone.there)
         ∙ ap (λ (o : Option machine.Loaded). step_in o r run.view w) (loaded-shown run gone.loaded gone.of)
         ∙ ap (λ (o : Option Insn). step_at o (program_of gone.loaded) r run.view w) gone.taken.here
         ∙ gone.taken.step w refl refl

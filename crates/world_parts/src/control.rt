@@ -27,7 +27,7 @@ fn find_into(chosen: &Map, key: &[u8], answer: &mut Answer)
 }
 
 impl Parts {
-    /// What an update is answered, where its result is one of few bytes.
+    /// Does an update as `update` says, and answers it in few bytes.
     #[inline(never)]
     fn updated(&mut self, map: MapId, key: &KeyBytes, value: &ValueBytes, flags: u64) -> Brief
         ensures answer { brief_answer result
@@ -58,7 +58,7 @@ impl Parts {
         self.updated(map, key, value, flags).into_answer()
     }
 
-    /// What a deletion is answered, where its result is one of few bytes.
+    /// Does a deletion as `delete` says, and answers it in few bytes.
     #[inline(never)]
     fn deleted(&mut self, map: MapId, key: &KeyBytes) -> Brief
         ensures answer { brief_answer result ≡ (delete_reaction self.old map key.now.items).0 }

@@ -1,6 +1,7 @@
 //! What a world keeps.
 ghost use Rattle.std.specs.Prelude.{◌≡◌, None, map, replicate, slice_get, option_map, option_copied, IfOk, false};
 ghost use Rattle.bpf_model.specs.declared.limits.TheConstants.{MAX_RUNS};
+ghost use Rattle.world_parts.specs.Keeping.{unused_world};
 ghost use Rattle.world_parts.specs.Programs.{program_of};
 
 use crate::by_number::program_at;
@@ -40,7 +41,7 @@ impl Model for Parts {
     ghost invariant = { λ p. AreRunsKept p.runs.items p.grace p.programs.items };
 }
 
-/// So many free run slots.
+/// `MAX_RUNS` free run slots.
 fn free_slots(alloc: Global) -> Result<Vec<Option<Run>>, AllocError>
     ensures { IfOk result (λ v. v.items ≡ replicate MAX_RUNS None) }
 {
@@ -58,14 +59,7 @@ impl Parts {
         registry: Registry,
         programs: Vec<Loaded>,
     ) -> Result<Parts, AllocError>
-        ensures { IfOk result (λ w. w ≡ record {
-          maps = registry.maps;
-          runs = replicate MAX_RUNS None;
-          opened = replicate MAX_RUNS false;
-          awaited = replicate MAX_RUNS false;
-          programs = map program_of programs.items;
-          given = 0;
-        }) }
+        ensures { IfOk result (λ w. w ≡ unused_world registry.maps (map program_of programs.items)) }
     {
         let runs = free_slots(alloc)?;
         Ok(Parts {

@@ -6,7 +6,7 @@ use crate::programs::{
 };
 use crate::random::Random;
 use crate::replay::{apply_both, counts_text};
-use bpf_model::{Event, KeyBytes, MapId, MapShape, ProgId, RunId, ValueBytes};
+use bpf_model::{Event, KeyBytes, MAX_REUSE, MapId, MapShape, ProgId, RunId, ValueBytes};
 use std::process::Abort;
 use std::test::Fail;
 
@@ -24,7 +24,7 @@ pub const SHAPES: [MapShape; 3] = [
         value_len: 8,
         entries: 2,
         spare: 2,
-        reuse_limit: 4_294_967_295,
+        reuse_limit: MAX_REUSE,
     },
     MapShape {
         key_len: 8,

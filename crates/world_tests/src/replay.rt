@@ -23,15 +23,7 @@ impl Answering for Machine {
     }
 
     fn counts(&self) -> Stat {
-        let totals = self.totals();
-        Stat {
-            linked: totals.linked,
-            unlinked: totals.unlinked,
-            given: totals.reclaimed,
-            worn: totals.worn as usize,
-            runs: totals.runs,
-            open: totals.open,
-        }
+        self.stat()
     }
 }
 

@@ -2,7 +2,7 @@
 use bpf_model::{AluOp, Cell, Insn, Operand, Reference, Reg, Size, Value, Width};
 use plain_interpreter::{Ending, PlainRun, Progress};
 
-/// A program of three steps; the numbers of its instructions are those of RFC 9669, section 4.1.
+/// A program of four steps: the sum of two numbers is stored in the last byte of the frame, and is the exit value.
 const SUM_STORED: [Insn; 4] = [
     Insn::Alu {
         op: AluOp::Move,

@@ -21,7 +21,7 @@ pub(crate) const STRAIGHT: &[&str] = &[
     "9500000000000000", // exit
 ];
 
-/// Each condition once in each class, over bytes of the context.
+/// Each condition in each class, over bytes of the context.
 pub(crate) const BRANCHES: &[&str] = &[
     "b700000000000000", // mov64 r0, 0
     "7112050000000000", // ldxb r2, [r1+5]

@@ -1,8 +1,8 @@
 use Rattle.std.proofs.Common.{◌∙◌, sym}
 use Rattle.element_arena.specs.State.{key_at}
-use Rattle.element_arena.proofs.Indexing.{same_key-false}
 use Rattle.hash_index.proofs.Steps.{chain_step, chain_at, searched, shorter}
 use Rattle.hash_index.proofs.chain.search.Goals as goal
+use Rattle.bpf_model.proofs.Keys.{same_key-false}
 
 pub has_key-requires : goal.has_key-requires
 has_key-requires c = (chain_step c.args.arena.now c.in-Some.slot (chain_at c.args.arena.now c.loop-at.at c.in-Some.slot c.loop-at.invariant.chain c.in-Some.is)).2.inside

@@ -1,13 +1,12 @@
-use Rattle.std.proofs.Common.{◌≡◌, ℕ, ◌-◌, ◌*◌, List, ◌++◌, length, take, drop, Option, sym, refl, arith, subst}
+use Rattle.std.proofs.Common.{◌≡◌, ℕ, ◌*◌, List, ◌++◌, drop, Option, sym, refl, arith, subst}
 use Rattle.std.proofs.lemmas.Result.{err_from_is_err_and}
-use Rattle.std.proofs.lemmas.List.{take_all, length-drop}
+use Rattle.std.proofs.lemmas.List.{take_rest}
 use Rattle.bpf_model.specs.declared.slot.Slot.{Slot}
 use Rattle.bpf_model.specs.declared.insn.Insn.{Insn}
 use Rattle.bpf_model.specs.Spelling.{FitsInsn, spelling, slot_count, slot_at, next_slot_at}
 use Rattle.insn_codec.specs.declared.flaw.Flaw.{Flaw}
 use Rattle.insn_codec.specs.Faults.{IsInsnFlaw, IsInsnFlawAt}
 use Rattle.insn_codec.specs.Begins.{BeginsWith}
-use Rattle.insn_codec.proofs.InsnLaws.{}
 use Rattle.insn_codec.proofs.TextLaws.{front_of, again}
 use Rattle.insn_codec.proofs.decoding.decode_first.Goals as goal
 
@@ -23,9 +22,6 @@ begins_from bytes s next i e d h = subst (λ (n : Option Slot). BeginsWith s n i
 spelled : (bytes : List ℕ) (s : Slot) (next : Option Slot) (i : Insn) (rest : List ℕ) → s ≡ slot_at bytes → next ≡ next_slot_at bytes → FitsInsn i → bytes ≡ spelling i ++ rest → BeginsWith s next i
 spelled bytes s next i rest e d f p = begins_from bytes s next i e d (subst (λ (b : List ℕ). BeginsWith (slot_at b) (next_slot_at b) i) (sym p) (again i rest f).begins)
 
-rest_of : (bytes : List ℕ) (n : ℕ) → take (length bytes - n) (drop n bytes) ≡ drop n bytes
-rest_of bytes n = take_all (length bytes - n) (drop n bytes) (omega (arith, length-drop n bytes))
-
 pub returns-in_err-instruction-clause-flaw : goal.returns-in_err-instruction-clause-flaw
 returns-in_err-instruction-clause-flaw c = let p = err_from_is_err_and c.from_residual.result c.from_residual.ensures.1 in
     rw (p.1, p.2) (flaw_at c.args.bytes.now _ _ _ c.slot_from.ensures.value c.next_slot_from.ensures.value c.in_err-instruction.ensures.flaw)
@@ -40,7 +36,7 @@ pub returns-clause-found : goal.returns-clause-found
 returns-clause-found c =
     let i = c.in_ok-instruction.instruction in
     let f = front_of i c.args.bytes.now (λ k. omega (arith, c.type_inv.bytes k)) c.requires (begins_at c.args.bytes.now _ _ i c.slot_from.ensures.value c.next_slot_from.ensures.value c.in_ok-instruction.ensures.found) in
-    rw (rest_of c.args.bytes.now (8 * c.slot_count.result), c.slot_count.ensures.value) f.parts
+    rw (take_rest c.args.bytes.now (8 * c.slot_count.result), c.slot_count.ensures.value) f.parts
 
 same_start : (bytes : List ℕ) (i j : Insn) (rest : List ℕ) (n : ℕ) → FitsInsn i → j ≡ i → n ≡ slot_count j → bytes ≡ spelling i ++ rest → drop (8 * n) bytes ≡ rest
 same_start bytes i j rest n f e k p = rw (k, e, p) (again i rest f).rest_is
@@ -50,4 +46,4 @@ returns-clause-only c = λ i rest fits parts.
     let e = c.decode_slot.ensures.only i fits (spelled c.args.bytes.now _ _ i rest c.slot_from.ensures.value c.next_slot_from.ensures.value fits parts) in
     let w = c.in_ok-instruction.was in
     let same : c.in_ok-instruction.instruction ≡ i = cc in
-    ((same, rw (rest_of c.args.bytes.now (8 * c.slot_count.result)) (same_start c.args.bytes.now i _ rest _ fits same c.slot_count.ensures.value parts)), refl)
+    ((same, rw (take_rest c.args.bytes.now (8 * c.slot_count.result)) (same_start c.args.bytes.now i _ rest _ fits same c.slot_count.ensures.value parts)), refl)

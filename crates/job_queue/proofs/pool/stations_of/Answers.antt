@@ -1,12 +1,11 @@
 use Rattle.std.proofs.Common.{rules, ◌++◌, ◌∷◌, [], map, ap, sym, subst, ◌∙◌, arith}
 use Rattle.std.specs.Prelude.{All}
-use Rattle.std.proofs.lemmas.List.Elements.{All-append, All-drop}
+use Rattle.std.proofs.lemmas.List.Elements.{All-append, All-cons, All-drop, All-head, All-nil, All-tail}
 use Rattle.std.proofs.lemmas.List.{map-append}
 use Rattle.crossbeam_queue.specs.Passes.{IsPassOf}
 use Rattle.job_queue.specs.Serving.{IsNewStation}
 use Rattle.job_queue.specs.Sheet.{worker_of}
 use Rattle.job_queue.proofs.QueueRule.{forks}
-use Rattle.job_queue.proofs.Serving.{all_one, all_uncons}
 use Rattle.job_queue.proofs.pool.stations_of.Goals as goal
 
 pub another-pass-requires-clause-rule : goal.another-pass-requires-clause-rule
@@ -17,11 +16,11 @@ loop-worker-preserved g c =
     let i = c.loop-worker.invariant in
     let ready = g.S.Serve.ready c.args.serve.now in
     let fresh = IsNewStation (IsPassOf c.args.queue.now) ready in
-    let s = all_uncons ready c.in-Some.worker c.next.new.self.rest.items (subst (All ready) c.in-Some.ensures.steps.0 i.ready) in
+    let all = subst (All ready) c.in-Some.ensures.steps.0 i.ready in
     record {
       pass = search rules;
-      ready = s.1;
-      fresh = subst (All fresh) (sym c.push_reserved.ensures.items) (All-append fresh c.loop-worker.stations.items _ i.fresh (all_one fresh _ record { pass = search rules; fresh = search rules; ready_now = s.0; nothing = search rules }));
+      ready = All-tail ready c.in-Some.worker c.next.new.self.rest.items all;
+      fresh = subst (All fresh) (sym c.push_reserved.ensures.items) (All-append fresh c.loop-worker.stations.items _ i.fresh (All-cons fresh _ [] record { pass = search rules; fresh = search rules; ready_now = All-head ready c.in-Some.worker c.next.new.self.rest.items all; nothing = search rules } (All-nil fresh)));
       stations = ap (map worker_of) c.push_reserved.ensures.items ∙ (map-append worker_of c.loop-worker.stations.items _ ∙ ap (λ z. z ++ c.in-Some.worker ∷ []) i.stations);
       room = search rules;
     }

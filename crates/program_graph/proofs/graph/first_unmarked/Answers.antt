@@ -30,7 +30,8 @@ mark-requires-clause-target c =
     let here : slice_get c.args.targets.now c.loop-index.index ≡ Some (slice_index_or c.args.targets.now c.loop-index.index None) = slice_get-get_or c.args.targets.now c.loop-index.index None (omega arith) in
     let insn : slice_get c.args.instructions.now c.loop-index.index ≡ Some c.index-instructions-index.result = slice_get_read c.args.instructions.now (length c.args.instructions.now) c.loop-index.index c.index-instructions-index.result refl (omega arith) c.index-instructions-index.is in
     subst (λ n. IfSome (slice_index_or c.args.targets.now c.loop-index.index None) (λ t. t < n)) (sym c.loop-index.invariant.long)
-    (target_fits c.args.instructions.now c.args.targets.now c.requires.long c.requires.targets c.loop-index.index c.index-instructions-index.result (slice_index_or c.args.targets.now c.loop-index.index None) insn here)
+    (target_fits c.args.instructions.now c.loop-index.index c.index-instructions-index.result (slice_index_or c.args.targets.now c.loop-index.index None)
+    (c.requires.targets.each c.loop-index.index c.index-instructions-index.result (slice_index_or c.args.targets.now c.loop-index.index None) insn here))
 
 pub loop-index-preserved : goal.loop-index-preserved
 loop-index-preserved c =

@@ -4,7 +4,8 @@ use Rattle.register_kinds.specs.declared.kind.RegKind.{RegKind}
 use Rattle.register_kinds.specs.declared.kind.RegKind.TheVariants.{Unwritten}
 use Rattle.register_kinds.specs.States.{kind_of, kind_at}
 use Rattle.register_kinds.specs.Pairs.{JoinsKind}
-use Rattle.register_kinds.proofs.Pairs.{kinds_more, kinds_kept, kinds_all}
+use Rattle.register_kinds.proofs.Pairs.{kinds_more, kinds_all}
+use Rattle.register_kinds.proofs.Changes.{mapped_kept}
 use Rattle.register_kinds.proofs.join.join_kinds.Goals as goal
 
 pub loop-i-preserved : goal.loop-i-preserved
@@ -16,7 +17,7 @@ loop-i-preserved c =
       done = kinds_more c.args.top c.loop-i.i c.loop-i.pairs.items c.join_kind.new.pairs.items c.loop-i.kinds c.args.kinds.now c.args.others.now c.join_kind.result (omega arith) c.join_kind.ensures.grows c.loop-i.invariant.done
           (subst (λ (k : RegKind). JoinsKind c.args.top c.join_kind.new.pairs.items (kind_of k) (kind_at c.args.others.now i) (kind_of c.join_kind.result)) e
           (subst (λ (k : RegKind). JoinsKind c.args.top c.join_kind.new.pairs.items (kind_of c.index-kinds-i.result) (kind_of k) (kind_of c.join_kind.result)) f c.join_kind.ensures.joins));
-      rest = kinds_kept c.loop-i.i c.loop-i.kinds c.args.kinds.now c.join_kind.result c.loop-i.invariant.rest;
+      rest = mapped_kept RegKind Unwritten c.loop-i.i c.loop-i.kinds c.args.kinds.now c.join_kind.result c.loop-i.invariant.rest;
       table = c.join_kind.ensures.table;
       grows = λ k p at. c.join_kind.ensures.grows k p (c.loop-i.invariant.grows k p at);
       few = omega (arith, c.join_kind.ensures.few, c.loop-i.invariant.few);

@@ -1,17 +1,10 @@
-use Rattle.std.proofs.Common.{◌≡◌, Bool, true, false, MatchBool, ◌++◌, [], refl, arith, inl, inr}
+use Rattle.std.proofs.Common.{◌++◌, [], refl, arith, inl, inr}
+use Rattle.std.proofs.lemmas.Bool.{MatchBool-at_true, MatchBool-at_false}
 use Rattle.std.proofs.KnownBytes.{Appends-trans, Consumes-trans, Consumes-nil, Appends-nil}
 use Rattle.std.specs.List.{length_refill}  -- `with_items` keeps the length
 use Rattle.std.proofs.lemmas.Result.{err_from_is_err_and}
 use Rattle.script_stream.proofs.ProgressLemmas.{fails_reading, IsAt-start, not_read_bad}
 use Rattle.script_stream.proofs.serving.serve.Goals as goal
-
-at_false : (b : Bool) (A B : Type 0) → b ≡ false → MatchBool b A B → B
-at_false false A B e h = h
-at_false true A B e h = absurd (cc e)
-
-at_true : (b : Bool) (A B : Type 0) → b ≡ true → MatchBool b A B → A
-at_true true A B e h = h
-at_true false A B e h = absurd (cc e)
 
 pub returns-in_err-chunk-clause-failed : goal.returns-in_err-chunk-clause-failed
 returns-in_err-chunk-clause-failed g c =
@@ -41,7 +34,7 @@ pub returns-then-not-goes_on-clause-text : goal.returns-then-not-goes_on-clause-
 returns-then-not-goes_on-clause-text g c =
     let inv = c.loop.invariant in
     let o = c.in_ok-goes_on.ensures.ok c.args.responder.now inv.0 inv.1 inv.4 in
-    let last = at_false c.in_ok-goes_on.goes_on _ _ c.if-not-goes_on.true o.4 in
+    let last = MatchBool-at_false _ _ c.if-not-goes_on.true o.4 in
     (inv.0 ++ o.0, inv.1 ++ o.1, Consumes-trans _ _ _ inv.0 o.0 inv.2 o.2, last.0, Appends-trans _ _ _ inv.1 o.1 inv.3 o.3, last.1)
 
 pub loop-preserved : goal.loop-preserved
@@ -52,7 +45,7 @@ loop-preserved g c =
       inv.1 ++ o.1,
       Consumes-trans _ _ _ inv.0 o.0 inv.2 o.2,
       Appends-trans _ _ _ inv.1 o.1 inv.3 o.3,
-      at_true c.in_ok-goes_on.goes_on _ _ c.if-not-goes_on.false o.4,
+      MatchBool-at_true _ _ c.if-not-goes_on.false o.4,
       omega (arith, length_refill c.loop.chunk.len c.loop.chunk.items c.serve_some.new.chunk (omega (arith, c.loop.chunk.ok.0))),
     )
 

@@ -12,7 +12,7 @@ returns-in_default-exit-clause-fits g c =
       c.args.run,
       c.requires.started,
       record { event = s.event; exits = subst HasExitReply c.reply.ensures c.in_default.ensures.ok },
-      record { worker = n.worker ∙ (s.later.number ∙ sym s.by.worker); number = n.number ∙ sym s.number; run_is = n.run; prog = n.prog; context = n.context },
+      record { worker = n.worker ∙ (s.later.number ∙ sym s.by.worker); count = n.count ∙ sym s.count; run_is = n.run; prog = n.prog; context = n.context },
       record { none = sym c.exit.ensures ∙ c.in_default-exit.is; told = refl },
     )
 
@@ -24,7 +24,7 @@ returns-clause-fits g c =
       c.args.run,
       c.requires.started,
       record { event = s.event; exits = subst HasExitReply c.reply.ensures c.in_default.ensures.ok },
-      record { worker = n.worker ∙ (s.later.number ∙ sym s.by.worker); number = n.number ∙ sym s.number; run_is = n.run; prog = n.prog; context = n.context },
+      record { worker = n.worker ∙ (s.later.number ∙ sym s.by.worker); count = n.count ∙ sym s.count; run_is = n.run; prog = n.prog; context = n.context },
       record {
         value = c.in-Some.value;
         noted = noted;

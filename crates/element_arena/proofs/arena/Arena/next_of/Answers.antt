@@ -1,11 +1,12 @@
 use Rattle.std.proofs.Common.{◌∙◌, ◌<◌, sym, ap, subst, rules, length, refl}
 use Rattle.std.proofs.lemmas.Option.{slice_get_read}
-use Rattle.element_arena.specs.State.{IsTaken, link_at, link_in, ArenaState}
+use Rattle.element_arena.specs.State.{IsTaken, link_at, ArenaState}
 use Rattle.element_arena.specs.Kept.{link_view, shown_link}
 use Rattle.element_arena.proofs.Keeps.{taken_at, taken_cell}
 use Rattle.element_arena.proofs.Slots.{held_from}
 use Rattle.element_arena.proofs.arena.Arena.next_of.Goals as goal
 use Rattle.bpf_model.proofs.Lists.{get-map}
+use Rattle.std.specs.Option.{option_flatten}
 
 pub returns : goal.returns
 returns c =
@@ -14,7 +15,7 @@ returns c =
     let w = (taken_cell s.cells.items s.first s.last s.limit c.args.slot c.self.invariant.0 t).4 in
     let at = slice_get_read s.cells.items (length s.cells.items) c.args.slot c.index.result.now refl w c.index.ensures in
     let was = (taken_at s.cells.items s.first s.last s.limit c.args.slot c.index.result.now c.self.invariant.0 t at).0 in
-    sym (ap (λ (a : ArenaState). link_at a.links c.args.slot) (sym c.self.view_is) ∙ (ap link_in (get-map link_view s.cells.items c.args.slot c.index.result.now at) ∙ ap (λ x. shown_link x c.index.result.now.link) was))
+    sym (ap (λ (a : ArenaState). link_at a.links c.args.slot) (sym c.self.view_is) ∙ (ap option_flatten (get-map link_view s.cells.items c.args.slot c.index.result.now at) ∙ ap (λ x. shown_link x c.index.result.now.link) was))
 
 pub index-requires : goal.index-requires
 index-requires c =

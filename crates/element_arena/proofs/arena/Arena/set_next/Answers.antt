@@ -2,14 +2,16 @@ use Rattle.std.proofs.Common.{◌∙◌, ◌<◌, List, sym, ap, subst, rules, l
 use Rattle.std.specs.Prelude.{slice_set}
 use Rattle.std.proofs.lemmas.Option.{slice_get_read}
 use Rattle.bpf_model.specs.View.{SlotView}
-use Rattle.element_arena.specs.State.{IsTaken, with_link, link_in, ArenaState}
+use Rattle.element_arena.specs.State.{IsTaken, with_link, ArenaState}
 use Rattle.element_arena.specs.declared.cell.SlotCell.{SlotCell}
 use Rattle.element_arena.specs.Kept.{free_of, state_with, slots_shown, link_view, shown_link}
 use Rattle.element_arena.proofs.Keeps.{kept_from, relink, taken_at}
 use Rattle.element_arena.proofs.Views.{set_link_view}
 use Rattle.element_arena.proofs.Slots.{held_from, state-is, shown-same, laid-out}
 use Rattle.element_arena.proofs.arena.Arena.set_next.Goals as goal
-use Rattle.bpf_model.proofs.Lists.{get-map, get-set_same, length-set}
+use Rattle.std.proofs.lemmas.List.{length-set}
+use Rattle.bpf_model.proofs.Lists.{get-map, get-set_same}
+use Rattle.std.specs.Option.{option_flatten}
 
 pub index_mut-cell-requires : goal.index_mut-cell-requires
 index_mut-cell-requires c =
@@ -46,4 +48,4 @@ returns-clause-linked c =
     let at = slice_get_read s.cells.items (length s.cells.items) c.args.slot c.index_mut-cell.result.now refl t.inside c.index_mut-cell.ensures.value in
     let was = (taken_at s.cells.items s.first s.last s.limit c.args.slot c.index_mut-cell.result.now c.self.invariant.0 t at).0 in
     let d : SlotCell = record c.index_mut-cell.result.now { link = c.args.to } in
-    ap link_in (get-map link_view _ c.args.slot d (get-set_same s.cells.items c.args.slot d t.inside)) ∙ ap (λ x. shown_link x c.args.to) was
+    ap option_flatten (get-map link_view _ c.args.slot d (get-set_same s.cells.items c.args.slot d t.inside)) ∙ ap (λ x. shown_link x c.args.to) was

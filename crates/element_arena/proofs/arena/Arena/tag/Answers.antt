@@ -1,9 +1,8 @@
 use Rattle.std.proofs.Common.{◌≡◌, ◌∙◌, ◌<◌, sym, ap, rules, length, refl}
 use Rattle.std.specs.Prelude.{slice_index}
-use Rattle.std.proofs.lemmas.Option.{slice_get_read}
+use Rattle.std.proofs.lemmas.Option.{slice_get_read, get_or_from_slice_get}
 use Rattle.element_arena.specs.State.{ArenaState}
 use Rattle.element_arena.specs.declared.cell.SlotCell.{SlotCell}
-use Rattle.element_arena.proofs.Views.{index-get}
 use Rattle.element_arena.proofs.Slots.{inside_from}
 use Rattle.element_arena.proofs.arena.Arena.tag.Goals as goal
 use Rattle.bpf_model.proofs.Lists.{get-map}
@@ -21,5 +20,5 @@ returns c =
     let at = slice_get_read s.cells.items (length s.cells.items) c.args.slot c.index.result.now refl w c.index.ensures in
     let e : c.index.result.now.generation ≡ slice_index c.args.self.now.generations c.args.slot =
     sym (ap (λ (a : ArenaState). slice_index a.generations c.args.slot) (sym c.self.view_is)
-    ∙ index-get _ c.args.slot c.index.result.now.generation (get-map (λ (z : SlotCell). z.generation) s.cells.items c.args.slot c.index.result.now at)) in
+    ∙ get_or_from_slice_get _ c.args.slot c.index.result.now.generation 0 (get-map (λ (z : SlotCell). z.generation) s.cells.items c.args.slot c.index.result.now at)) in
     cc

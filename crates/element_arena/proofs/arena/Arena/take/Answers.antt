@@ -11,7 +11,7 @@ use Rattle.element_arena.proofs.Keeps.{kept_from, free-is, first_free, took}
 use Rattle.element_arena.proofs.Slots.{state-is, shown-taken, inside-bytes, laid-out}
 use Rattle.element_arena.proofs.Views.{take_view}
 use Rattle.element_arena.proofs.arena.Arena.take.Goals as goal
-use Rattle.bpf_model.proofs.Lists.{length-set}
+use Rattle.std.proofs.lemmas.List.{length-set}
 
 pub index-old-requires : goal.index-old-requires
 index-old-requires c =

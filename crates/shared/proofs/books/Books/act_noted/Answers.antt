@@ -66,11 +66,11 @@ returns-clause-noted g c =
     let new : BooksView = books_view c.self.inside.base c.apply-answer.new.self c.push_answer.new.self c.self.inside.before c.self.inside.steps_before c.count.new.self in
     let caller : WorkerView = record { number = c.worker.inside.number; made = c.worker.inside.made; parts = c.worker.inside.share.parts } in
     let later : WorkerView = record { number = c.worker.inside.number; made = c.worker.inside.made + 1; parts = c.add.new.share.parts } in
-    let receipt : ReceiptView = record { worker = c.worker.inside.number; number = c.worker.inside.made + 1; event = c.args.event; reply = Ok c.apply-answer.result } in
+    let receipt : ReceiptView = record { worker = c.worker.inside.number; made = c.worker.inside.made + 1; event = c.args.event; reply = Ok c.apply-answer.result } in
     let made : IsEntered old caller c.args.event receipt new later = record {
       worker = refl;
       asked = refl;
-      number = refl;
+      count = refl;
       entered = entered _ _ _ c.self.inside.journal c.make_room.new.journal c.push_answer.new.self _ _ _ _ _ _ _ c.make_room.ensures.entries c.make_room.ensures.limit c.push_answer.ensures.entries c.push_answer.ensures.limit
           c.apply-answer.ensures.answer c.apply-answer.ensures.new c.count.ensures.origin c.count.ensures.steps;
       answered = answered c.self.inside.world c.args.event c.apply-answer.result c.is_world.ensures c.is_real.ensures c.apply-answer.ensures.answer;

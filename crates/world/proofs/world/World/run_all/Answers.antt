@@ -17,10 +17,10 @@ loop-event-preserved c =
     let answers = answers_grow w c.loop-event.self (take i es) e c.loop-event.answers.items c.apply-answer.result c.loop-event.invariant.answers c.loop-event.invariant.view c.apply-answer.ensures.answer in
     let view = view_grows w c.loop-event.self c.apply-answer.new.self (take i es) e c.loop-event.invariant.view c.apply-answer.ensures.new in
     record {
-      answers = c.note.ensures.items ∙ (answers ∙ ap (λ (xs : List Event). (full_reactions w xs).0) (sym taken));
+      answers = c.push_answer.ensures.items ∙ (answers ∙ ap (λ (xs : List Event). (full_reactions w xs).0) (sym taken));
       view = view ∙ ap (λ (xs : List Event). (full_reactions w xs).1) (sym taken);
-      count = let l : vec_len c.note.new.answers ≡ vec_len c.loop-event.answers + 1 = c.note.ensures.len in let n : vec_len c.loop-event.answers ≡ i = c.loop-event.invariant.count in omega arith;
-      room = let r : vec_capacity c.loop-event.answers ≤ vec_capacity c.note.new.answers = c.note.ensures.room in let a : length es ≤ vec_capacity c.loop-event.answers = c.loop-event.invariant.room in omega arith;
+      count = let l : vec_len c.push_answer.new.answers ≡ vec_len c.loop-event.answers + 1 = c.push_answer.ensures.len in let n : vec_len c.loop-event.answers ≡ i = c.loop-event.invariant.count in omega arith;
+      room = let r : vec_capacity c.loop-event.answers ≤ vec_capacity c.push_answer.new.answers = c.push_answer.ensures.room in let a : length es ≤ vec_capacity c.loop-event.answers = c.loop-event.invariant.room in omega arith;
     }
 
 pub returns-clause-schedule : goal.returns-clause-schedule

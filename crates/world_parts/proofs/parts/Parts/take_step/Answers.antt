@@ -3,16 +3,17 @@ use Rattle.std.specs.Prelude.{None, slice_get}
 use Rattle.bpf_model.specs.declared.event.Answer.{Answer}
 use Rattle.bpf_model.specs.View.{WorldView}
 use Rattle.view_laws.specs.Matching.{Matches}
-use Rattle.view_laws.specs.Reactions.{run_shown, step_refused}
+use Rattle.view_laws.specs.Reactions.{step_refused}
 use Rattle.world_laws.specs.Reacting.{word_step}
 use Rattle.world_laws.specs.Typed.{IsSound}
 use Rattle.world_parts.specs.Brief.{brief_answer}
 use Rattle.world_parts.proofs.Stepping.{is_going, gone_kept, gone_is}
 use Rattle.world_parts.proofs.parts.Parts.take_step.Goals as goal
+use Rattle.std.specs.Option.{option_flatten}
 
 pub step_slot-requires : goal.step_slot-requires
 step_slot-requires c =
-    let here : WorldView → Type 0 = λ (w : WorldView). step_refused (run_shown (slice_get w.runs c.args.run)) ≡ None in
+    let here : WorldView → Type 0 = λ (w : WorldView). step_refused (option_flatten (slice_get w.runs c.args.run)) ≡ None in
     is_going c.self.inside.registry.maps c.self.inside.runs.items c.self.inside.grace c.self.inside.programs.items c.self.inside.given c.args.run c.self.invariant
     c.requires.sound.0
     (subst (λ (w : WorldView). Matches w c.requires.sound.0) (sym c.self.view_is) c.requires.sound.1)
