@@ -1,4 +1,5 @@
 pub mod Offsets
 pub mod Laws
 pub mod Combining
+pub mod Known
 pub mod Numbers

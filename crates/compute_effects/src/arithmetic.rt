@@ -9,6 +9,10 @@ ghost use Rattle.typed_runs.specs.Effects.{IsNumberOperand, IsWritten, HasNumber
 ghost use Rattle.register_kinds.specs.States.{kind_in, kind_of, state_of};
 ghost use Rattle.register_kinds.specs.Pairs.{IsBelow, AreBelow};
 ghost use Rattle.compute_effects.specs.Computes.{PerformsComputation, Computes, ReadsNumber, GivesNumber, SetsKind};
+ghost use Rattle.compute_effects.specs.Floor.{IsNumbers, operand_kind, LeavesKnown};
+ghost use Rattle.scalar_domain.specs.Floor.{KeepsUnaryFloor};
+ghost use Rattle.scalar_domain.specs.Scalar.{IsConstant};
+ghost use Rattle.scalar_domain.specs.declared.scalar.Scalar.{Scalar as Numbers};
 
 use crate::kinds::{combined, copied, numbers, operand};
 use bpf_model::{AluOp, Insn, Operand, Reg, Size, UnaryOp};
@@ -26,6 +30,8 @@ fn computed_kind(
 ) -> Result<RegKind, Fault>
     ensures sound { IfOk result
         (λ k. Computes size op dst src.now (state_of state.now) (kind_of k)) }
+    ensures floor { IfOk result (λ k. LeavesKnown size op (kind_of (kind_in state.now.regs dst))
+        (operand_kind src.now (state_of state.now)) (kind_of k)) }
     ensures below { IfOk result (λ k. (top : ℕ) → AreBelow top state.now
         → IsBelow top (kind_of k)) }
     ensures numbers { ReadsNumber op (state_of state.now) dst
@@ -67,6 +73,8 @@ pub fn alu(
 ) -> Result<(), Fault>
     ensures sound { OnOk result (PerformsComputation (Insn.Alu op size dst src.now)
         state.old state.new) }
+    ensures floor { OnOk result (LeavesKnown size op (kind_of (kind_in state.old.regs dst))
+        (operand_kind src.now (state_of state.old)) (kind_of (kind_in state.new.regs dst))) }
     ensures numbers { (10 ≡ dst → ⊥) → ReadsNumber op (state_of state.old) dst
         → IsNumberOperand (state_of state.old) src.now
         → SetsNumber result dst (state_of state.old) (state_of state.new) }
@@ -98,6 +106,9 @@ pub fn alu(
 /// `MaybeNull` or `PointerArithmetic` where that holds what may be null, or a reference or a map.
 pub fn unary(state: &mut AbsState, op: &UnaryOp, dst: Reg) -> Result<(), Fault>
     ensures sound { OnOk result (PerformsComputation (Insn.Unary op.now dst) state.old state.new) }
+    ensures floor { OnOk result ((a : Numbers)
+        → kind_of (kind_in state.old.regs (unary_source op.now dst)) ≡ model.Num a
+        → IsNumbers (KeepsUnaryFloor op.now a) (kind_of (kind_in state.new.regs dst))) }
     ensures numbers { (10 ≡ dst → ⊥) → HasNumber (state_of state.old) (unary_source op.now dst)
         → SetsNumber result dst (state_of state.old) (state_of state.new) }
     ensures below { (top : ℕ) → AreBelow top state.old → AreBelow top state.new }
@@ -114,6 +125,8 @@ pub fn unary(state: &mut AbsState, op: &UnaryOp, dst: Reg) -> Result<(), Fault>
 pub fn load_number(state: &mut AbsState, dst: Reg, number: u64) -> Result<(), Fault>
     ensures sound { OnOk result (PerformsComputation (Insn.LoadNumber dst number)
         state.old state.new) }
+    ensures floor { OnOk result (IsNumbers (λ s. IsConstant s number)
+        (kind_of (kind_in state.new.regs dst))) }
     ensures numbers { (10 ≡ dst → ⊥)
         → SetsNumber result dst (state_of state.old) (state_of state.new) }
     ensures below { (top : ℕ) → AreBelow top state.old → AreBelow top state.new }

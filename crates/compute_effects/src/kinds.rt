@@ -1,5 +1,5 @@
 //! What operations give, by the kinds of their operands.
-ghost use Rattle.std.specs.Prelude.{◌≡◌, ℕ, ◌+◌, ◌≤◌, ◌^◌, ℤ, pos, ◌+ℤ◌, IfOk, Ok};
+ghost use Rattle.std.specs.Prelude.{◌≡◌, ℕ, ◌+◌, ◌≤◌, ◌^◌, ℤ, pos, ◌+ℤ◌, IfOk, OnOk, Ok};
 ghost use Rattle.bpf_model.specs.declared.limits.TheConstants.{FRAME_BYTES};
 ghost use Rattle.bpf_model.specs.Arithmetic.{immediate};
 ghost use Rattle.scalar_domain.specs.declared.scalar.Scalar.{Scalar as Numbers};
@@ -9,6 +9,8 @@ ghost use Rattle.typed_runs.specs.Effects.{IsWritten, IsNumberOperand};
 ghost use Rattle.register_kinds.specs.States.{kind_of, state_of};
 ghost use Rattle.register_kinds.specs.Pairs.{IsBelow, AreBelow};
 ghost use Rattle.compute_effects.specs.Computes.{Combines, HasValue, IsMove, IsNearStep, shifted_word, GivesNumber, HasOperand};
+ghost use Rattle.compute_effects.specs.Floor.{IsNumbers, operand_kind, CombinesKnown};
+ghost use Rattle.scalar_domain.specs.Floor.{KeepsFloor};
 
 use crate::moving::{Way, moved, moved_in_frame};
 use bpf_model::{AluOp, Operand, Size};
@@ -32,6 +34,7 @@ fn way_of(size: Size, op: AluOp) -> Result<Way, Fault>
 fn moved_kind(way: Way, x: RegKind, by: Scalar) -> Result<RegKind, Fault>
     ensures sound { IfOk result (λ k. (size : Size) (op : AluOp) → IsMove way size op
         → Combines size op (kind_of x) (model.Num by) (kind_of k)) }
+    ensures reference { OnOk result ((a : Numbers) → kind_of x ≡ model.Num a → ⊥) }
     ensures below { IfOk result (λ k. (top : ℕ) → IsBelow top (kind_of k)) }
     ensures frame { (m n at : ℕ) → x ≡ RegKind.Frame (pos m) → m ≤ 2 ^ 29 → IsConstant by n
         → IsNearStep n → shifted_word way (m + 2 ^ 29) n ≡ at + 2 ^ 29 → at ≤ 2 ^ 29
@@ -51,6 +54,7 @@ fn moved_kind(way: Way, x: RegKind, by: Scalar) -> Result<RegKind, Fault>
 /// What an operation of two operands leaves that is no move.
 pub(crate) fn combined(size: Size, op: AluOp, x: RegKind, y: RegKind) -> Result<RegKind, Fault>
     ensures sound { IfOk result (λ k. Combines size op (kind_of x) (kind_of y) (kind_of k)) }
+    ensures floor { IfOk result (λ k. CombinesKnown size op (kind_of x) (kind_of y) (kind_of k)) }
     ensures below { IfOk result (λ k. (top : ℕ) → IsBelow top (kind_of k)) }
     ensures numbers { (a b : Scalar) → x ≡ RegKind.Num a → y ≡ RegKind.Num b → GivesNumber result }
     ensures frame { (m at : ℕ) (imm : ℤ) (by : Numbers) → size ≡ Size.Word64 → op ≡ AluOp.Add
@@ -84,6 +88,8 @@ pub(crate) fn copied(size: Size, kind: RegKind) -> Result<RegKind, Fault>
     requires { IsWritten (kind_of kind) }
     ensures sound { IfOk result
         (λ k. Combines size AluOp.Move model.Blank (kind_of kind) (kind_of k)) }
+    ensures floor { IfOk result (λ k. (a b : Numbers) → kind_of kind ≡ model.Num b
+        → IsNumbers (KeepsFloor size AluOp.Move a b) (kind_of k)) }
     ensures below { IfOk result (λ k. (top : ℕ) → IsBelow top (kind_of kind)
         → IsBelow top (kind_of k)) }
     ensures numbers { (s : Scalar) → kind ≡ RegKind.Num s → GivesNumber result }
@@ -103,6 +109,7 @@ pub(crate) fn copied(size: Size, kind: RegKind) -> Result<RegKind, Fault>
 /// where it is a register that is so.
 pub fn operand(state: &AbsState, src: &Operand) -> Result<RegKind, Fault>
     ensures value { IfOk result (λ k. HasValue (state_of state.now) src.now (kind_of k)) }
+    ensures kind { IfOk result (λ k. operand_kind src.now (state_of state.now) ≡ kind_of k) }
     ensures written { IfOk result (λ k. IsWritten (kind_of k)) }
     ensures below { IfOk result (λ k. (top : ℕ) → AreBelow top state.now
         → IsBelow top (kind_of k)) }

@@ -1,7 +1,7 @@
 -- Conditional jumps and exits lead from described runs to described ones.
 use Rattle.std.proofs.Common.{◌≡◌, ℕ, ◌+◌, ◌^◌, ◌<◌, List, Some, None, inl, inr, refl, sym, ap, subst, ◌∙◌, ℤ, pos, true, false, Bool}
 use Rattle.std.specs.Prelude.{if◌then◌else◌}
-use Rattle.std.proofs.lemmas.Bool.{cases_eq, eq-eqb, ne_eqb}
+use Rattle.std.proofs.lemmas.Bool.{cases_eq}
 use Rattle.bpf_model.specs.declared.limits.MapShape.{MapShape}
 use Rattle.bpf_model.specs.declared.insn.Insn.TheVariants.{Jump, JumpLong, JumpIf, Exit}
 use Rattle.bpf_model.specs.declared.insn.Operand.{Operand}
@@ -17,7 +17,7 @@ use Rattle.bpf_model.specs.Operand.{operand_value, decided}
 use Rattle.bpf_model.specs.Step.{State, Environment, Moves, Exits, forward, jumps_by}
 use Rattle.scalar_domain.specs.declared.scalar.Scalar.{Scalar}
 use Rattle.scalar_domain.specs.Scalar.{Holds}
-use Rattle.typed_runs.specs.Kinds.{Kind, Num, ValueAt, AbsState}
+use Rattle.typed_runs.specs.Kinds.{Num, ValueAt, AbsState}
 use Rattle.typed_runs.specs.Describes.{Scene, Describes, depth_of}
 use Rattle.typed_runs.specs.Effects.{with_kind}
 use Rattle.typed_runs.specs.Verified.{ActsAlone, Transfers}
@@ -31,15 +31,13 @@ use Rattle.register_kinds.specs.declared.state.AbsState.{AbsState as StateHere}
 use Rattle.register_kinds.specs.States.{kind_of, kind_in, state_of}
 use Rattle.compute_effects.specs.Computes.{HasValue}
 use Rattle.kind_tests.specs.Forks.{Forks, ForksOnNull}
-use Rattle.control_effects.specs.Narrowing.{ComparesNumbers, Narrows, AreNarrowed}
+use Rattle.control_effects.specs.Narrowing.{ComparesNumbers, Narrows, AreNarrowed, SetsSides, NarrowsKnown}
+use Rattle.kind_tests.proofs.Setting.{set-there, set-elsewhere}
+use Rattle.compute_effects.specs.Floor.{operand_kind}
+use Rattle.compute_effects.proofs.Known.{same_num}
+use Rattle.scalar_domain.specs.Floor.{KeepsEdgeFloor}
 
 -- what is set, and what stays
-pub set-there : (r q : ℕ) (k : Kind) (a b : AbsState) → AreAlike (with_kind r k a) b → q ≡ r → b.regs q ≡ k
-set-there r q k a b e p = e.regs q ∙ ap (λ t. if t then k else a.regs q) (eq-eqb q r p)
-
-pub set-elsewhere : (r q : ℕ) (k : Kind) (a b : AbsState) → AreAlike (with_kind r k a) b → (q ≡ r → ⊥) → b.regs q ≡ a.regs q
-set-elsewhere r q k a b e n = e.regs q ∙ ap (λ t. if t then k else a.regs q) (ne_eqb q r n)
-
 pub narrowed_one : (dst : ℕ) (src : Operand) (imm : ℤ) (x : Scalar) (a b : StateHere) → src ≡ Immediate imm → AreAlike (with_kind dst (Num x) (state_of a)) (state_of b) → AreNarrowed dst src (state_of a) (state_of b)
 narrowed_one dst src imm x a b is e = subst (λ (o : Operand). AreNarrowed dst o (state_of a) (state_of b)) (sym is) (record {
   sides = λ r p. elim p [
@@ -149,3 +147,29 @@ jump_long_transfers n shapes ctx_len a = alone_transfers (JumpLong (pos n)) shap
   alone = λ es fs other h. h;
   lands = inr ((pos n, refl, refl), placed-described a c m (m.place + 1 + n) d);
 })
+
+-- the sides of a comparison, where the second is a number or a register
+pub sides_one : (dst : ℕ) (src : Operand) (imm : ℤ) (x y : Scalar) (a b : StateHere) → src ≡ Immediate imm → AreAlike (with_kind dst (Num x) (state_of a)) (state_of b) → SetsSides dst src x y (state_of b)
+sides_one dst src imm x y a b is e = subst (λ (o : Operand). SetsSides dst o x y (state_of b)) (sym is) (record {
+  first = set-there dst dst (Num x) (state_of a) (state_of b) e refl;
+  second = λ r names n. absurd names;
+})
+
+pub sides_both : (dst r : ℕ) (src : Operand) (x y : Scalar) (a b t : StateHere) → src ≡ Register r → AreAlike (with_kind r (Num y) (state_of a)) (state_of b) → AreAlike (with_kind dst (Num x) (state_of b)) (state_of t)
+    → SetsSides dst src x y (state_of t)
+sides_both dst r src x y a b t is e f = subst (λ (o : Operand). SetsSides dst o x y (state_of t)) (sym is) (record {
+  first = set-there dst dst (Num x) (state_of b) (state_of t) f refl;
+  second = λ s names n. set-elsewhere dst s (Num x) (state_of b) (state_of t) f n ∙ set-there r s (Num y) (state_of a) (state_of b) e names;
+})
+
+-- an edge of a comparison of numbers
+pub edge_known : (size : Size) (condition : Condition) (taken : Bool) (dst : ℕ) (src : Operand) (p q left right : Scalar) (a b : AbsState) → a.regs dst ≡ Num p → operand_kind src a ≡ Num q
+    → KeepsEdgeFloor size condition taken p q left right → SetsSides dst src left right b → NarrowsKnown size condition taken dst src a b
+edge_known size condition taken dst src p q left right a b e f floor sides x y g h =
+    let u : p ≡ x = same_num p x (sym e ∙ g) in
+    let v : q ≡ y = same_num q y (sym f ∙ h) in record {
+      left = left;
+      right = right;
+      sides = sides;
+      floor = subst (λ x. KeepsEdgeFloor size condition taken x y left right) u (subst (λ y. KeepsEdgeFloor size condition taken p y left right) v floor);
+    }

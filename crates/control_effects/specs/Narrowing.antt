@@ -1,5 +1,5 @@
 -- What a comparison tells of its two sides, in words of the laws.
-use Rattle.std.specs.Prelude.{◌≡◌, ℕ, ◌⊎◌}
+use Rattle.std.specs.Prelude.{◌≡◌, ℕ, ◌⊎◌, Bool}
 use Rattle.bpf_model.specs.declared.insn.Operand.{Operand}
 use Rattle.bpf_model.specs.Operand.{operand_value}
 use Rattle.bpf_model.specs.Plain.{Names}
@@ -9,6 +9,10 @@ use Rattle.scalar_domain.specs.declared.scalar.Scalar.{Scalar}
 use Rattle.typed_runs.specs.Kinds.{Num, AbsState as Known}
 use Rattle.typed_runs.specs.Describes.{Scene, IsOf, Describes}
 use Rattle.typed_runs.specs.Effects.{HasNumber}
+use Rattle.bpf_model.specs.declared.opcode.Condition.{Condition}
+use Rattle.bpf_model.specs.declared.opcode.Size.{Size}
+use Rattle.scalar_domain.specs.Floor.{KeepsEdgeFloor}
+use Rattle.compute_effects.specs.Floor.{operand_kind}
 
 -- In each described state both sides of the comparison are numbers.
 abbrev pub ComparesNumbers : Known → ℕ → Operand → Type 0
@@ -29,3 +33,23 @@ pub record AreNarrowed (dst : ℕ) (src : Operand) (a b : Known) : Type 0 where
   pub others : (r : ℕ) → ((r ≡ dst) ⊎ Names src r → ⊥) → b.regs r ≡ a.regs r
   pub cells : (k : ℕ) → b.cells k ≡ a.cells k
   pub inside : b.inside ≡ a.inside
+
+-- The first side of the comparison holds these numbers, and the second those, where it is another
+-- register.
+pub record SetsSides (dst : ℕ) (src : Operand) (x y : Scalar) (b : Known) : Type 0 where
+  pub first : b.regs dst ≡ Num x
+  pub second : (r : ℕ) → Names src r → (r ≡ dst → ⊥) → b.regs r ≡ Num y
+
+-- On an edge both sides hold numbers that are no wider than the scalar domain's.
+pub record IsEdge (size : Size) (condition : Condition) (taken : Bool) (dst : ℕ) (src : Operand)
+    (x y : Scalar) (b : Known) : Type 0 where
+  pub left : Scalar
+  pub right : Scalar
+  pub sides : SetsSides dst src left right b
+  pub floor : KeepsEdgeFloor size condition taken x y left right
+
+-- So it is where numbers are compared.
+abbrev pub NarrowsKnown : Size → Condition → Bool → ℕ → Operand → Known → Known → Type 0
+NarrowsKnown size condition taken dst src a b =
+    (x y : Scalar) → a.regs dst ≡ Num x → operand_kind src a ≡ Num y →
+    IsEdge size condition taken dst src x y b

@@ -7,7 +7,8 @@ ghost use Rattle.register_kinds.specs.States.{kind_in, state_of};
 ghost use Rattle.register_kinds.specs.Pairs.{AreBelow};
 ghost use Rattle.compute_effects.specs.Computes.{HasValue};
 ghost use Rattle.kind_tests.specs.Forks.{Forks, ForksOnNull};
-ghost use Rattle.control_effects.specs.Narrowing.{ComparesNumbers, Narrows, AreNarrowed};
+ghost use Rattle.control_effects.specs.Narrowing.{ComparesNumbers, Narrows, AreNarrowed, SetsSides, NarrowsKnown};
+ghost use Rattle.compute_effects.specs.Floor.{operand_kind};
 
 use bpf_model::{Condition, Operand, Reg, Size};
 use compute_effects::operand;
@@ -34,6 +35,7 @@ fn compared(x: RegKind, y: RegKind) -> Result<(Scalar, Scalar), Fault>
 fn sides(state: &AbsState, dst: Reg, src: &Operand) -> Result<(Scalar, Scalar), Fault>
     ensures left { IfOk result (λ p. kind_in state.now.regs dst ≡ RegKind.Num p.0) }
     ensures right { IfOk result (λ p. HasValue (state_of state.now) src.now (model.Num p.1)) }
+    ensures known { IfOk result (λ p. operand_kind src.now (state_of state.now) ≡ model.Num p.1) }
     ensures accepts { HasNumber (state_of state.now) dst
         → IsNumberOperand (state_of state.now) src.now → IsOk result }
 {
@@ -46,6 +48,7 @@ fn sides(state: &AbsState, dst: Reg, src: &Operand) -> Result<(Scalar, Scalar), 
 fn narrow(state: &mut AbsState, dst: Reg, src: &Operand, x: Scalar, y: Scalar)
     ensures sound { Narrows dst src.now x y (state_of state.old) (state_of state.new) }
     ensures narrowed { AreNarrowed dst src.now (state_of state.old) (state_of state.new) }
+    ensures sides { SetsSides dst src.now x y (state_of state.new) }
     ensures below { (top : ℕ) → AreBelow top state.old → AreBelow top state.new }
 {
     match src {
@@ -74,6 +77,13 @@ pub fn fork(
     ensures sound { IfOk result (λ taken.
         Forks condition size dst src.now state.old state.new taken.value) }
     ensures compares { OnOk result (ComparesNumbers (state_of state.old) dst src.now) }
+
+    // On either edge no more is forgotten than the scalar domain forgets.
+    ensures floor { OnOk result (NarrowsKnown size condition false dst src.now
+        (state_of state.old) (state_of state.new)) }
+    ensures taken_floor { IfOk result (λ taken. NarrowsKnown size condition true dst src.now
+        (state_of state.old) (state_of taken.value)) }
+
     ensures narrowed { OnOk result
         (AreNarrowed dst src.now (state_of state.old) (state_of state.new)) }
     ensures taken_narrowed { IfOk result (λ taken.

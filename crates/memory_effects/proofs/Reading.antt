@@ -1,5 +1,5 @@
 -- Loads lead from described runs to described ones.
-use Rattle.std.proofs.Common.{◌≡◌, ℕ, ◌+◌, ◌/◌, ◌%◌, ◌^◌, ◌<◌, ◌≤◌, List, length, Some, None, inl, refl, ap, subst, ◌∙◌, ℤ, arith, true}
+use Rattle.std.proofs.Common.{◌≡◌, ℕ, ◌+◌, ◌/◌, ◌%◌, ◌^◌, ◌<◌, ◌≤◌, List, length, Some, None, inl, inr, refl, ap, subst, ◌∙◌, ℤ, arith, true}
 use Rattle.std.specs.Prelude.{slice_get, slice_index_or, ◌+ℤ◌}
 use Rattle.std.proofs.lemmas.Option.{slice_get-get_or}
 use Rattle.bpf_model.specs.declared.limits.MapShape.{MapShape}
@@ -41,7 +41,8 @@ use Rattle.kind_tests.specs.Tests.{AreAll}
 use Rattle.memory_effects.specs.declared.region.Address.{Address}
 use Rattle.memory_effects.specs.declared.reads.Reads.{Reads}
 use Rattle.memory_effects.specs.declared.reads.Reads.TheVariants as reads
-use Rattle.memory_effects.specs.Accesses.{ReachesFrame, ReadsParts, IsReadByLoad, read_kind}
+use Rattle.memory_effects.specs.Accesses.{ReachesFrame, ReadsParts, IsReadByLoad, read_kind, LoadsKnown}
+use Rattle.scalar_domain.specs.Floor.{KeepsLoadFloor}
 
 -- A load through a value finds a number of so many bytes, and no element.
 pub record Finds (env : Environment) (m : State) (width : ℕ) (offset : ℤ) (v : Value) : Type 0 where
@@ -176,3 +177,10 @@ module _ (a : StateHere) (from : Address) (width : Width) (start : ℤ) (at : �
     parts = parts_at a.frame at kind (subst (λ w. at % w ≡ 0) wide aligned) (subst (λ w. AreAll a.frame.cells at w class.Part) wide all) spill;
     pointer = pointer-kind kind pointer;
   }
+
+-- what a load gives is as wide as its access, where it is a number
+pub load_known : (x : Reads) (t : Scalar) (width : Width) (a : AbsState) (from : Address) (ctx_len : ℕ) (shapes : List MapShape) → IsReadByLoad x a (byte_count width) from ctx_len shapes → KeepsLoadFloor width t → LoadsKnown width (read_kind x t)
+load_known reads.Context t width a from ctx_len shapes h floor = inl (t, refl, floor)
+load_known (reads.Value map) t width a from ctx_len shapes h floor = inl (t, refl, floor)
+load_known reads.FrameBytes t width a from ctx_len shapes h floor = inl (t, refl, floor)
+load_known (reads.FramePointer kind) t width a from ctx_len shapes h floor = inr h.pointer

@@ -1,5 +1,5 @@
 -- What loads and stores reach, in words of the laws.
-use Rattle.std.specs.Prelude.{◌≡◌, ℕ, ◌+◌, ◌^◌, ◌<◌, ◌≤◌, List, Some, slice_get, ℤ, ◌+ℤ◌}
+use Rattle.std.specs.Prelude.{◌≡◌, ℕ, ◌+◌, ◌^◌, ◌<◌, ◌≤◌, ◌⊎◌, List, Some, slice_get, ℤ, ◌+ℤ◌}
 use Rattle.std.specs.Prelude.{Result, IsOk}
 use Rattle.bpf_model.specs.declared.limits.TheConstants.{FRAME_BYTES}
 use Rattle.bpf_model.specs.declared.limits.MapShape.{MapShape}
@@ -18,6 +18,8 @@ use Rattle.memory_effects.specs.declared.region.Region.{Region}
 use Rattle.memory_effects.specs.declared.region.Region.TheVariants as regions
 use Rattle.memory_effects.specs.declared.reads.Reads.{Reads}
 use Rattle.memory_effects.specs.declared.reads.Reads.TheVariants as reads
+use Rattle.scalar_domain.specs.Floor.{KeepsLoadFloor}
+use Rattle.bpf_model.specs.declared.opcode.Width.{Width}
 
 -- a reference into the region; none is into no region
 abbrev pub IsBase : Region → Kind → Type 0
@@ -97,3 +99,7 @@ read_kind other numbers = Num numbers
 pub record StoresBytes {A : Type 0} (r : Result A Fault) (at width : ℕ) (a b : Known) : Type 0 where
   pub fine : IsOk r
   pub alike : AreAlike (with_cells at width ByteCell a) b
+
+-- What a load without sign gives is a number of so many bytes, or the reference whose parts are read.
+abbrev pub LoadsKnown : Width → Kind → Type 0
+LoadsKnown width k = ((s : Scalar) × (k ≡ Num s) × KeepsLoadFloor width s) ⊎ IsPointer k

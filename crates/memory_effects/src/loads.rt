@@ -4,7 +4,7 @@ ghost use Rattle.register_kinds.specs.States.{kind_at, state_of};
 ghost use Rattle.bpf_model.specs.Access.{byte_count, unsigned_width};
 ghost use Rattle.kind_tests.specs.Performs.{Performs, SetsNumber};
 ghost use Rattle.register_kinds.specs.Pairs.{AreBelow};
-ghost use Rattle.memory_effects.specs.Accesses.{IsBase, ReadsBytes, ReadsValue};
+ghost use Rattle.memory_effects.specs.Accesses.{IsBase, ReadsBytes, ReadsValue, LoadsKnown};
 
 use crate::environment::EnvironmentShape;
 use crate::reads::read;
@@ -36,6 +36,7 @@ pub fn load(
     ensures sound { OnOk result (Performs
         (Insn.Load width dst from.base from.offset) shape.now.ctx_len
         shape.now.shapes.now state.old state.new) }
+    ensures floor { OnOk result (LoadsKnown width (kind_at state.new.regs dst)) }
     ensures region { IfOk result (λ region. IsBase region (kind_at state.old.regs from.base)) }
     ensures bytes { (10 ≡ dst → ⊥)
         → ReadsBytes (state_of state.old) from.base (byte_count width) from.offset

@@ -31,7 +31,6 @@ use Rattle.state_steps.specs.Stepped.{IsEqualToNull}
 use Rattle.bpf_model.specs.declared.opcode.Size.{Size}
 use Rattle.bpf_model.specs.declared.opcode.Size.TheVariants.{Word64}
 use Rattle.bpf_model.specs.PlainMaps.{IsValueLoad, Lookup, Part, FrameCopy, KeyAddress, MapLoad, LookupCall, NullTest, ValueLoad, part_insn, IsFitting}
-use Rattle.control_effects.proofs.Branches.{set-there, set-elsewhere}
 use Rattle.scalar_domain.specs.declared.scalar.Scalar.{Scalar}
 use Rattle.typed_runs.specs.Kinds.{Kind, Blank, Num, FrameAt, MapAt, ValueAt, MaybeNull, AbsState}
 use Rattle.typed_runs.specs.Effects.{with_kind, after_call, after_lock, after_unlock, returned_kind, ended_kind, ended_cell, IsWritten, HasBytes}
@@ -42,6 +41,7 @@ use Rattle.register_kinds.specs.declared.state.AbsState.{AbsState as StateHere}
 use Rattle.register_kinds.specs.States.{kind_of, kind_in, state_of}
 use Rattle.state_steps.specs.Facts.{Register, FrameByte, FramePointer, Section}
 use Rattle.state_steps.specs.Lookups.{IsKeyWritten, Expects, Prepares, KeepsSaved, IsReadyPart, LeavesPart, IsReadySection, LeavesSection, IsReadyWithMaps, Serves, section_call}
+use Rattle.kind_tests.proofs.Setting.{set-there, set-elsewhere}
 
 -- what is ready among instructions that are no part of a lookup, and no call
 abbrev pub is_serving : Insn → Bool

@@ -19,7 +19,7 @@ use Rattle.bpf_model.specs.Operand.{operand_value}
 use Rattle.bpf_model.specs.Plain.{Names}
 use Rattle.bpf_model.specs.Step.{State}
 use Rattle.scalar_domain.specs.declared.scalar.Scalar.{Scalar}
-use Rattle.typed_runs.specs.Kinds.{Kind}
+use Rattle.typed_runs.specs.Kinds.{Kind, Num}
 use Rattle.typed_runs.specs.Describes.{Scene, Naming, IsOf}
 use Rattle.typed_runs.specs.Verified.{Transfers}
 use Rattle.register_kinds.specs.declared.kind.RegKind.TheVariants as kinds
@@ -37,6 +37,8 @@ use Rattle.state_steps.specs.Steps.{IsForward, IsBranch, base_of, IsInRegion, Co
 use Rattle.state_steps.specs.Facts.{IsReadyInsn, KeepsFacts}
 use Rattle.state_steps.specs.Lookups.{Serves}
 use Rattle.state_steps.specs.Stepped.{single_flow, Stepped, ComparesWell}
+use Rattle.state_steps.specs.Floor.{KeepsInsnFloor}
+use Rattle.register_kinds.specs.declared.kind.RegKind.{RegKind}
 
 -- an instruction that reaches no memory, compares nothing and has one state behind it
 pub record IsQuiet (i : Insn) : Type 0 where
@@ -46,8 +48,8 @@ pub record IsQuiet (i : Insn) : Type 0 where
 
 pub quiet_step : (i : Insn) (shapes : List MapShape) (ctx_len top : ℕ) (a b : AbsState) (f : Flow) → f ≡ single_flow regions.None → IsQuiet i
     → (IsForward i → Transfers i shapes ctx_len (state_of a) (state_of b) None) → AreBelow top b
-    → (IsReadyInsn i (state_of a) → KeepsFacts i (state_of a) (state_of b)) → Serves shapes i (state_of a) (state_of b) None → Stepped i shapes ctx_len top a b (Ok f)
-quiet_step i shapes ctx_len top a b f e q sound below keeps serves = subst (λ (f : Flow). Stepped i shapes ctx_len top a b (Ok f)) (sym e) (record {
+    → (IsReadyInsn i (state_of a) → KeepsFacts i (state_of a) (state_of b)) → Serves shapes i (state_of a) (state_of b) None → KeepsInsnFloor i (state_of a) (state_of b) None → Stepped i shapes ctx_len top a b (Ok f)
+quiet_step i shapes ctx_len top a b f e q sound below keeps serves floor = subst (λ (f : Flow). Stepped i shapes ctx_len top a b (Ok f)) (sym e) (record {
   done = record {
     transfer = record {
       sound = sound;
@@ -57,6 +59,7 @@ quiet_step i shapes ctx_len top a b f e q sound below keeps serves = subst (λ (
       keeps = keeps;
       keeps_taken = λ ready. tt;
       serves = serves;
+      floor = floor;
     };
     taken_below = tt;
   };
@@ -135,8 +138,8 @@ pub record IsAccess (i : Insn) (base : ℕ) : Type 0 where
   pub no_branch : IsBranch i → ⊥
 
 pub access_step : (i : Insn) (shapes : List MapShape) (ctx_len top : ℕ) (a b : AbsState) (f : Flow) (region : Region) (base : ℕ) → f ≡ single_flow region → IsAccess i base → IsBase region (kind_at a.regs base)
-    → Transfers i shapes ctx_len (state_of a) (state_of b) None → AreBelow top b → (IsReadyInsn i (state_of a) → KeepsFacts i (state_of a) (state_of b)) → Serves shapes i (state_of a) (state_of b) None → Stepped i shapes ctx_len top a b (Ok f)
-access_step i shapes ctx_len top a b f region base e q is sound below keeps serves = subst (λ (f : Flow). Stepped i shapes ctx_len top a b (Ok f)) (sym e) (record {
+    → Transfers i shapes ctx_len (state_of a) (state_of b) None → AreBelow top b → (IsReadyInsn i (state_of a) → KeepsFacts i (state_of a) (state_of b)) → Serves shapes i (state_of a) (state_of b) None → KeepsInsnFloor i (state_of a) (state_of b) None → Stepped i shapes ctx_len top a b (Ok f)
+access_step i shapes ctx_len top a b f region base e q is sound below keeps serves floor = subst (λ (f : Flow). Stepped i shapes ctx_len top a b (Ok f)) (sym e) (record {
   done = record {
     transfer = record {
       sound = λ forward. sound;
@@ -146,6 +149,7 @@ access_step i shapes ctx_len top a b f region base e q is sound below keeps serv
       keeps = keeps;
       keeps_taken = λ ready. tt;
       serves = serves;
+      floor = floor;
     };
     taken_below = tt;
   };
@@ -154,3 +158,10 @@ access_step i shapes ctx_len top a b f region base e q is sound below keeps serv
   accepts = λ ready. tt;
   accepts_maps = λ ready. tt;
 })
+
+-- what may be null and an element's value are no numbers
+pub null_no_number : (k : RegKind) (map id : ℕ) (s : Scalar) → k ≡ kinds.MaybeNull map id → kind_of k ≡ Num s → ⊥
+null_no_number k map id s e n = (let z : kind_of (kinds.MaybeNull map id) ≡ Num s = ap kind_of (sym e) ∙ n in cc)
+
+pub value_no_number : (k : RegKind) (map : ℕ) (offset s : Scalar) → k ≡ kinds.Value map offset → kind_of k ≡ Num s → ⊥
+value_no_number k map offset s e n = (let z : kind_of (kinds.Value map offset) ≡ Num s = ap kind_of (sym e) ∙ n in cc)

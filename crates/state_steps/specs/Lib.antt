@@ -2,3 +2,4 @@ pub mod Facts
 pub mod Lookups
 pub mod Steps
 pub mod Stepped
+pub mod Floor

@@ -25,6 +25,7 @@ use Rattle.state_steps.specs.Steps.{IsForward, IsBranch, taken_state, base_of, I
 use Rattle.state_steps.specs.Steps.{IsComparable, IsFine}
 use Rattle.state_steps.specs.Facts.{IsReadyInsn, KeepsFacts}
 use Rattle.state_steps.specs.Lookups.{IsReadyWithMaps, Serves}
+use Rattle.state_steps.specs.Floor.{KeepsInsnFloor}
 
 -- the flow of an instruction that has no second state behind it
 abbrev pub single_flow : Region → Flow
@@ -60,6 +61,7 @@ pub record IsTransfer (i : Insn) (shapes : List MapShape) (ctx_len : ℕ) (old n
   pub keeps_taken : IsReadyInsn i (state_of old) →
       IfSome taken (λ t. KeepsFacts i (state_of old) (state_of t))
   pub serves : Serves shapes i (state_of old) (state_of new) (option_map state_of taken)
+  pub floor : KeepsInsnFloor i (state_of old) (state_of new) (option_map state_of taken)
 
 -- an instruction that is not refused
 pub record IsDone (i : Insn) (shapes : List MapShape) (ctx_len top : ℕ) (old new : AbsState)

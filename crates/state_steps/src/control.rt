@@ -1,5 +1,5 @@
 //! Steps of jumps, of calls, and of the exit.
-ghost use Rattle.std.specs.Prelude.{◌≡◌, ℕ, ℤ, List, Ok, Some, true, ◌+◌, ◌^◌, ◌<◌, IfOk, OnOk, OnErr, IfSome, if◌then◌else◌, pos};
+ghost use Rattle.std.specs.Prelude.{◌≡◌, ℕ, ℤ, List, Ok, Some, true, false, ◌+◌, ◌^◌, ◌<◌, IfOk, OnOk, OnErr, IfSome, if◌then◌else◌, pos};
 ghost use Rattle.std.specs.Prelude.{IsOkUnless};
 ghost use Rattle.bpf_model.specs.declared.limits.MapShape.{MapShape};
 ghost use Rattle.typed_runs.specs.Effects.{IsNumberOperand, HasNumber};
@@ -8,7 +8,7 @@ ghost use Rattle.register_kinds.specs.Pairs.{AreBelow, TakesFew};
 ghost use Rattle.register_kinds.specs.States.{kind_in, state_of};
 ghost use Rattle.call_effects.specs.Calls.{Splits};
 ghost use Rattle.kind_tests.specs.Forks.{Forks, ForksOnNull};
-ghost use Rattle.control_effects.specs.Narrowing.{AreNarrowed};
+ghost use Rattle.control_effects.specs.Narrowing.{AreNarrowed, NarrowsKnown};
 ghost use Rattle.state_steps.specs.Stepped.{Stepped, ComparesWell, IsEqualToNull};
 
 use crate::flow::{Flow, single};
@@ -92,6 +92,10 @@ fn branch(
     ensures sound { IfOk result (λ taken.
         Forks condition size dst src.now state.old state.new taken.value) }
     ensures compares { OnOk result (ComparesWell condition size dst src.now (state_of state.old)) }
+    ensures floor { OnOk result (NarrowsKnown size condition false dst src.now
+        (state_of state.old) (state_of state.new)) }
+    ensures taken_floor { IfOk result (λ taken. NarrowsKnown size condition true dst src.now
+        (state_of state.old) (state_of taken.value)) }
     ensures below { (top : ℕ) → AreBelow top state.old → AreBelow top state.new }
     ensures taken_below { IfOk result (λ taken. (top : ℕ)
         → AreBelow top state.old → AreBelow top taken.value) }

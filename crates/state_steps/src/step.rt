@@ -9,6 +9,7 @@ ghost use Rattle.state_steps.specs.Steps.{IsForward, IsBranch, taken_state, base
 ghost use Rattle.state_steps.specs.Facts.{IsReadyInsn, KeepsFacts};
 ghost use Rattle.state_steps.specs.Lookups.{IsReadyWithMaps, Serves};
 ghost use Rattle.state_steps.specs.Stepped.{Stepped};
+ghost use Rattle.state_steps.specs.Floor.{KeepsInsnFloor};
 
 use crate::access::{load_signed_step, load_step, store_step};
 use crate::compute::{alu_step, load_map_step, load_number_step, unary_step};
@@ -65,6 +66,10 @@ pub fn transfer(
     ensures taken_below { IfOk result (λ f. IfSome (taken_state f) (AreBelow ids.new.next)) }
     ensures few { TakesFew 1 ids.old.next ids.new.next }
     ensures unchanged { OnErr result (state.new ≡ state.old) }
+
+    // Of numbers no more is forgotten than the scalar domain forgets.
+    ensures floor { IfOk result (λ f. KeepsInsnFloor insn.now (state_of state.old)
+        (state_of state.new) (option_map state_of (taken_state f))) }
 
     // An instruction that is ready is not refused but for want of memory, and what is known stays
     // known.

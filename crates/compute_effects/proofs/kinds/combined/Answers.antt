@@ -8,6 +8,7 @@ use Rattle.compute_effects.proofs.Offsets.{step_inside}
 use Rattle.compute_effects.proofs.Numbers.{same_numbers}
 use Rattle.compute_effects.proofs.Combining.{numbers_combine}
 use Rattle.compute_effects.proofs.kinds.combined.Goals as goal
+use Rattle.compute_effects.proofs.Known.{numbers_known}
 
 pub returns-in-Num-Num-clause-sound : goal.returns-in-Num-Num-clause-sound
 returns-in-Num-Num-clause-sound c = numbers_combine c.args.size c.args.op c.args.x c.args.y c.in-Num-Num.a c.in-Num-Num.b c.apply.result c.in-Num-Num.is-0 c.in-Num-Num.is-1 c.apply.ensures.sound
@@ -22,3 +23,6 @@ returns-in_ok-way_of-in_default-Num-clause-frame c = λ m at imm by size op x y 
     let same = same_numbers by c.in_default-Num.by (sym y ∙ c.in_default-Num.is-1) in
     c.moved_kind.ensures.frame m (immediate imm) at x (omega (arith, l)) (subst (λ t. IsConstant t (immediate imm)) same n) moves.0
     (subst (λ way. shifted_word way (m + 2 ^ 29) (immediate imm) ≡ at + 2 ^ 29) (sym forward) moves.1) (omega (arith, h))
+
+pub returns-in-Num-Num-clause-floor : goal.returns-in-Num-Num-clause-floor
+returns-in-Num-Num-clause-floor c = numbers_known c.args.size c.args.op c.args.x c.args.y c.in-Num-Num.a c.in-Num-Num.b c.apply.result c.in-Num-Num.is-0 c.in-Num-Num.is-1 c.apply.ensures.floor

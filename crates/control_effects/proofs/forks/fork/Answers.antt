@@ -1,8 +1,8 @@
-use Rattle.std.proofs.Common.{◌≡◌, subst, ◌∙◌}
+use Rattle.std.proofs.Common.{◌≡◌, ap, subst, ◌∙◌, true, false}
 use Rattle.register_kinds.specs.declared.state.AbsState.{AbsState}
-use Rattle.register_kinds.specs.States.{state_of}
+use Rattle.register_kinds.specs.States.{state_of, kind_of}
 use Rattle.control_effects.specs.Narrowing.{Narrows}
-use Rattle.control_effects.proofs.Branches.{fork_sound, numbers_compared}
+use Rattle.control_effects.proofs.Branches.{fork_sound, numbers_compared, edge_known}
 use Rattle.control_effects.proofs.forks.fork.Goals as goal
 
 pub returns-clause-sound : goal.returns-clause-sound
@@ -16,3 +16,15 @@ returns-clause-sound c =
 
 pub returns-clause-compares : goal.returns-clause-compares
 returns-clause-compares c = numbers_compared c.args.dst c.args.src.now c.in_ok-x.x c.in_ok-x.y c.args.state.now c.in_ok-x.ensures.left c.in_ok-x.ensures.right
+
+pub returns-clause-floor : goal.returns-clause-floor
+returns-clause-floor c =
+    let f = c.refine-2.result in
+    edge_known c.args.size c.args.condition false c.args.dst c.args.src.now c.in_ok-x.x c.in_ok-x.y f.0 f.1 (state_of c.args.state.now) (state_of c.narrow-2.new.state)
+    (ap kind_of c.in_ok-x.ensures.left) c.in_ok-x.ensures.known c.refine-2.ensures.floor c.narrow-2.ensures.sides
+
+pub returns-clause-taken_floor : goal.returns-clause-taken_floor
+returns-clause-taken_floor c =
+    let t = c.refine.result in
+    edge_known c.args.size c.args.condition true c.args.dst c.args.src.now c.in_ok-x.x c.in_ok-x.y t.0 t.1 (state_of c.args.state.now) (state_of c.narrow.new.state)
+    (ap kind_of c.in_ok-x.ensures.left) c.in_ok-x.ensures.known c.refine.ensures.floor c.narrow.ensures.sides

@@ -1,14 +1,15 @@
-use Rattle.std.proofs.Common.{refl, subst, ap, ◌∙◌}
+use Rattle.std.proofs.Common.{refl, sym, subst, ap, ◌∙◌}
 use Rattle.kind_tests.proofs.Results.{same_Ok}
 use Rattle.bpf_model.specs.declared.insn.Insn.TheVariants.{Load}
 use Rattle.typed_runs.specs.Kinds.{Kind}
 use Rattle.typed_runs.specs.Effects.{with_kind}
 use Rattle.typed_runs.specs.Planned.{AreAlike}
-use Rattle.register_kinds.specs.States.{state_of}
-use Rattle.memory_effects.specs.Accesses.{read_kind}
-use Rattle.memory_effects.proofs.Reading.{read_transfers}
+use Rattle.register_kinds.specs.States.{state_of, kind_of}
+use Rattle.memory_effects.specs.Accesses.{read_kind, LoadsKnown}
+use Rattle.memory_effects.proofs.Reading.{read_transfers, load_known}
 use Rattle.memory_effects.proofs.loads.load.Goals as goal
 use Rattle.typed_runs.proofs.Planning.{to_alike}
+use Rattle.kind_tests.proofs.Setting.{set-there}
 
 pub returns-clause-sound : goal.returns-clause-sound
 returns-clause-sound c =
@@ -36,3 +37,10 @@ returns-clause-value c = λ map ne b. record {
 
 pub returns-in_err-reads-clause-value : goal.returns-in_err-reads-clause-value
 returns-in_err-reads-clause-value c = λ map ne b. (let no = c.in_err-reads.ensures.value map b in absurd cc)
+
+pub returns-clause-floor : goal.returns-clause-floor
+returns-clause-floor c =
+    let a = state_of c.args.state.now in
+    let there = set-there c.args.dst c.args.dst (kind_of c.kind.result) a (state_of c.set.new.self) c.set.ensures.alike refl in
+    subst (λ (k : Kind). LoadsKnown c.args.width k) (sym (there ∙ c.kind.ensures))
+    (load_known c.in_ok-reads.reads c.loaded.result c.args.width a c.args.from c.args.shape.now.ctx_len c.args.shape.now.shapes.now c.in_ok-reads.ensures.reads c.loaded.ensures.floor)

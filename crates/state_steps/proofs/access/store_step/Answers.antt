@@ -26,3 +26,4 @@ returns c = λ top below.
     let n = c.in_ok-region.ensures.bytes ready.simple.1 (store_number c.args.width c.args.to.base c.args.to.offset c.args.src.now (state_of c.args.state.now) ready) (store_reaches c.args.width c.args.to.base c.args.to.offset c.args.src.now (state_of c.args.state.now) ready) in
     store_keeps (Store c.args.width c.args.to.base c.args.to.offset c.args.src.now) ready.simple.1 (byte_count c.args.width) (state_of a) (state_of b) (λ r w. w) (λ k t. taken_within c.args.width c.args.to.offset ready.simple.1 k ready.simple.2 t) n.alike)
     (serves_none c.args.shape.now.shapes.now (Store c.args.width c.args.to.base c.args.to.offset c.args.src.now) refl (state_of a) (state_of b) None)
+    tt

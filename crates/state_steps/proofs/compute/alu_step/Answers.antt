@@ -17,6 +17,7 @@ returns c = λ shapes ctx_len top below.
     let n = c.in_ok-alu.ensures.numbers ready.keeps_frame r.0 r.1 in
     set_keeps (Alu c.args.op c.args.size c.args.dst c.args.src.now) c.args.dst n.number (state_of a) (state_of b) (record { writes = λ r w. w; no_bytes = λ k w. w }) ready.keeps_frame n.alike)
     (alu_serves c.args.op c.args.size c.args.dst c.args.src.now a (λ k. SetsKind c.alu.result c.args.dst k (state_of a) (state_of b)) c.alu.ensures.copies c.alu.ensures.frame shapes (state_of b) (λ k r. r.alike))
+    c.in_ok-alu.ensures.floor
 
 pub returns-in_err-alu : goal.returns-in_err-alu
 returns-in_err-alu c = λ shapes ctx_len top below. record {

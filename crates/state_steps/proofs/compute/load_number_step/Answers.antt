@@ -15,3 +15,4 @@ returns c = λ shapes ctx_len top below.
     let n = c.in_ok-load_number.ensures.numbers ready.keeps_frame in
     set_keeps (LoadNumber c.args.dst c.args.number) c.args.dst n.number (state_of a) (state_of b) (record { writes = λ r w. w; no_bytes = λ k w. w }) ready.keeps_frame n.alike)
     (serves_none shapes (LoadNumber c.args.dst c.args.number) refl (state_of a) (state_of b) None)
+    c.in_ok-load_number.ensures.floor

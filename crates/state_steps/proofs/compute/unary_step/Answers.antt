@@ -16,3 +16,4 @@ returns c = λ shapes ctx_len top below.
     let n = c.in_ok-unary.ensures.numbers ready.keeps_frame (ready.registers (unary_source c.args.op.now c.args.dst) refl) in
     set_keeps (Unary c.args.op.now c.args.dst) c.args.dst n.number (state_of a) (state_of b) (record { writes = λ r w. w; no_bytes = λ k w. w }) ready.keeps_frame n.alike)
     (serves_none shapes (Unary c.args.op.now c.args.dst) refl (state_of a) (state_of b) None)
+    c.in_ok-unary.ensures.floor

@@ -1,6 +1,6 @@
 use Rattle.std.proofs.Common.{sym, ◌∙◌}
 use Rattle.std.proofs.lemmas.Result.{on_ok_weaker}
-use Rattle.state_steps.proofs.Stepping.{null_forks, maybe_compares, value_compares, numbers_compare}
+use Rattle.state_steps.proofs.Stepping.{null_forks, maybe_compares, value_compares, numbers_compare, null_no_number, value_no_number}
 use Rattle.state_steps.proofs.control.branch.Goals as goal
 
 pub returns-in_ok-null_branch-in-Some-MaybeNull-clause-sound : goal.returns-in_ok-null_branch-in-Some-MaybeNull-clause-sound
@@ -33,3 +33,15 @@ returns-in_ok-fork_value-in-Some-Value-clause-compares c =
 
 pub returns-in_default-clause-compares : goal.returns-in_default-clause-compares
 returns-in_default-clause-compares c = on_ok_weaker c.fork.result (numbers_compare c.args.condition c.args.size c.args.dst c.args.src.now c.args.state.now) c.fork.ensures.compares
+
+pub returns-in_ok-null_branch-in-Some-MaybeNull-clause-floor : goal.returns-in_ok-null_branch-in-Some-MaybeNull-clause-floor
+returns-in_ok-null_branch-in-Some-MaybeNull-clause-floor c = λ x y e f. absurd (null_no_number _ _ _ x (sym c.kind.ensures ∙ c.in-Some-MaybeNull.is-1) e)
+
+pub returns-in_ok-null_branch-in-Some-MaybeNull-clause-taken_floor : goal.returns-in_ok-null_branch-in-Some-MaybeNull-clause-taken_floor
+returns-in_ok-null_branch-in-Some-MaybeNull-clause-taken_floor c = λ x y e f. absurd (null_no_number _ _ _ x (sym c.kind.ensures ∙ c.in-Some-MaybeNull.is-1) e)
+
+pub returns-in_ok-fork_value-in-Some-Value-clause-floor : goal.returns-in_ok-fork_value-in-Some-Value-clause-floor
+returns-in_ok-fork_value-in-Some-Value-clause-floor c = λ x y e f. absurd (value_no_number _ _ _ x (sym c.kind.ensures ∙ c.in-Some-Value.is-1) e)
+
+pub returns-in_ok-fork_value-in-Some-Value-clause-taken_floor : goal.returns-in_ok-fork_value-in-Some-Value-clause-taken_floor
+returns-in_ok-fork_value-in-Some-Value-clause-taken_floor c = λ x y e f. absurd (value_no_number _ _ _ x (sym c.kind.ensures ∙ c.in-Some-Value.is-1) e)

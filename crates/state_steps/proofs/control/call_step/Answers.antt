@@ -29,3 +29,4 @@ returns-clause-stepped c = λ ctx_len.
     quiet_step (Call c.args.kind c.args.imm) c.args.shape.now.shapes.now ctx_len c.call.new.ids.next c.args.state.now c.call.new.state c.single.result c.single.ensures (record { no_base = refl; no_test = λ r x. x; no_branch = λ x. x.1 refl })
     (λ forward. sound ctx_len) c.call.ensures.below (λ ready. absurd ready.simple)
     (call_serves c.args.kind c.args.imm c.args.shape.now.shapes.now c.args.state.now c.call.new.state (record { finds = finds; called = called }))
+    tt

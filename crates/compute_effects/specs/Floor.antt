@@ -1,0 +1,32 @@
+-- How much is known, at least, of the numbers that an operation leaves: as much as the scalar domain
+-- tells of its result.
+use Rattle.std.specs.Prelude.{◌≡◌, ◌⊎◌}
+use Rattle.bpf_model.specs.Arithmetic.{immediate}
+use Rattle.bpf_model.specs.declared.insn.AluOp.{AluOp}
+use Rattle.bpf_model.specs.declared.insn.AluOp.TheVariants.{Move}
+use Rattle.bpf_model.specs.declared.insn.Operand.{Operand}
+use Rattle.bpf_model.specs.declared.insn.Operand.TheVariants.{Register, Immediate}
+use Rattle.bpf_model.specs.declared.opcode.Size.{Size}
+use Rattle.scalar_domain.specs.declared.scalar.Scalar.{Scalar}
+use Rattle.scalar_domain.specs.Constant.{constant_of}
+use Rattle.scalar_domain.specs.Floor.{KeepsFloor}
+use Rattle.typed_runs.specs.Kinds.{Kind, Num, AbsState}
+
+-- the kind is that of numbers of which this is known
+abbrev pub IsNumbers : (Scalar → Type 0) → Kind → Type 0
+IsNumbers P k = (s : Scalar) × (k ≡ Num s) × P s
+
+-- the kind of a second operand
+abbrev pub operand_kind : Operand → AbsState → Kind
+operand_kind (Register r) a = a.regs r
+operand_kind (Immediate imm) a = Num (constant_of (immediate imm))
+
+-- Of numbers the operation leaves numbers that are no wider than the scalar domain's.
+abbrev pub CombinesKnown : Size → AluOp → Kind → Kind → Kind → Type 0
+CombinesKnown size op x y k =
+    (a b : Scalar) → x ≡ Num a → y ≡ Num b → IsNumbers (KeepsFloor size op a b) k
+
+-- So do all operations, of which a move reads nothing of its first operand.
+abbrev pub LeavesKnown : Size → AluOp → Kind → Kind → Kind → Type 0
+LeavesKnown size op x y k =
+    (a b : Scalar) → (op ≡ Move) ⊎ (x ≡ Num a) → y ≡ Num b → IsNumbers (KeepsFloor size op a b) k
