@@ -34,6 +34,10 @@ event_refusal_number StillRunning = 67
 abbrev pub AreBytes : List ℕ → Type 0
 AreBytes bytes = (k b : ℕ) → slice_get bytes k ≡ Some b → b < 2 ^ 8
 
+-- so is each value of these elements
+abbrev pub AllBytes : List Element → Type 0
+AllBytes es = (n : ℕ) (e : Element) → slice_get es n ≡ Some e → AreBytes e.value
+
 abbrev pub IsReal : Event → Type 0
 IsReal (events.Start prog ctx) = (prog < 2 ^ 64) × AreBytes ctx.items
 IsReal (events.Step run) = run < 2 ^ 64

@@ -7,6 +7,7 @@ use Rattle.bpf_model.specs.declared.opcode.Size.TheVariants.{Word32, Word64}
 use Rattle.scalar_domain.specs.declared.scalar.Scalar.{Scalar}
 use Rattle.scalar_domain.specs.Scalar.{IsConstant}
 use Rattle.scalar_domain.specs.Floor.{KeepsWideFloor, KeepsFloor}
+use Rattle.scalar_domain.proofs.Edges.{no_wider-refl}
 use Rattle.typed_runs.specs.Kinds.{Num}
 use Rattle.register_kinds.specs.declared.kind.RegKind.{RegKind}
 use Rattle.register_kinds.specs.declared.kind.RegKind.TheVariants as kinds
@@ -32,6 +33,7 @@ move_wide a b = record {
   shift_left = λ k e. absurd cc;
   shift_right = λ k e. absurd cc;
   remainder = λ k e. absurd cc;
+  move = λ e. no_wider-refl b;
 }
 
 move_known : (a b : Scalar) → KeepsFloor Word64 Move a b b

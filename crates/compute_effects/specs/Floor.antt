@@ -1,5 +1,5 @@
 -- How much is known, at least, of the numbers that an operation leaves: as much as the scalar domain
--- tells of its result.
+-- promises of its result.
 use Rattle.std.specs.Prelude.{◌≡◌, ◌⊎◌}
 use Rattle.bpf_model.specs.Arithmetic.{immediate}
 use Rattle.bpf_model.specs.declared.insn.AluOp.{AluOp}
@@ -21,7 +21,7 @@ abbrev pub operand_kind : Operand → AbsState → Kind
 operand_kind (Register r) a = a.regs r
 operand_kind (Immediate imm) a = Num (constant_of (immediate imm))
 
--- Of numbers the operation leaves numbers that are no wider than the scalar domain's.
+-- Of numbers the operation leaves numbers that are as narrow as the scalar domain promises.
 abbrev pub CombinesKnown : Size → AluOp → Kind → Kind → Kind → Type 0
 CombinesKnown size op x y k =
     (a b : Scalar) → x ≡ Num a → y ≡ Num b → IsNumbers (KeepsFloor size op a b) k

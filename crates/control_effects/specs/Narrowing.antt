@@ -40,7 +40,7 @@ pub record SetsSides (dst : ℕ) (src : Operand) (x y : Scalar) (b : Known) : Ty
   pub first : b.regs dst ≡ Num x
   pub second : (r : ℕ) → Names src r → (r ≡ dst → ⊥) → b.regs r ≡ Num y
 
--- On an edge both sides hold numbers that are no wider than the scalar domain's.
+-- On an edge both sides hold numbers that are as narrow as the scalar domain promises.
 pub record IsEdge (size : Size) (condition : Condition) (taken : Bool) (dst : ℕ) (src : Operand)
     (x y : Scalar) (b : Known) : Type 0 where
   pub left : Scalar

@@ -78,7 +78,7 @@ pub fn fork(
         Forks condition size dst src.now state.old state.new taken.value) }
     ensures compares { OnOk result (ComparesNumbers (state_of state.old) dst src.now) }
 
-    // On either edge no more is forgotten than the scalar domain forgets.
+    // On either edge both sides are as narrow as the scalar domain promises.
     ensures floor { OnOk result (NarrowsKnown size condition false dst src.now
         (state_of state.old) (state_of state.new)) }
     ensures taken_floor { IfOk result (λ taken. NarrowsKnown size condition true dst src.now

@@ -117,6 +117,12 @@ module _ (dst src : ℕ) (offset : ℤ) (shapes : List MapShape) (ctx_len : ℕ)
         lands = inl (refl, refl, set-number c m n d (all f.n).0 (all f.n).1);
       })
 
+-- a load that extends the sign reads fewer bytes than a reference has
+narrow : (width : SignedWidth) → byte_count (unsigned_width width) ≡ 8 → ⊥
+narrow signed_widths.One e = omega (arith, e)
+narrow signed_widths.Two e = omega (arith, e)
+narrow signed_widths.Four e = omega (arith, e)
+
 -- a load of each kind of what it reads
 module _ (dst : ℕ) (from : Address) (ctx_len : ℕ) (shapes : List MapShape) (a : AbsState) (t : Scalar) (ne : 10 ≡ dst → ⊥) where
   not-eight : (width : Width) (kind : Kind) → byte_count width ≡ 8 → (x : ReadsParts a from.base (byte_count width) from.offset kind) → Transfers (Load width dst from.base from.offset) shapes ctx_len a (with_kind dst kind a) None
@@ -132,11 +138,6 @@ module _ (dst : ℕ) (from : Address) (ctx_len : ℕ) (shapes : List MapShape) (
   read_transfers reads.FrameBytes width all x = found_transfers dst from.base from.offset shapes ctx_len a t ne width all
       (λ c env m i d. frame-finds width x.at from.base x.reaches.start from.offset a c env m d x.reaches.base x.reaches.inside x.bytes)
   read_transfers (reads.FramePointer kind) width all x = not-eight width (kind_of kind) x.wide x
-
-  narrow : (width : SignedWidth) → byte_count (unsigned_width width) ≡ 8 → ⊥
-  narrow signed_widths.One e = omega (arith, e)
-  narrow signed_widths.Two e = omega (arith, e)
-  narrow signed_widths.Four e = omega (arith, e)
 
   pub read_signed_transfers : (x : Reads) (width : SignedWidth) → ((n : ℕ) → (loaded_signed width n < 2 ^ 64) × Holds t (loaded_signed width n)) → IsReadByLoad x a (byte_count (unsigned_width width)) from ctx_len shapes
       → Transfers (LoadSigned width dst from.base from.offset) shapes ctx_len a (with_kind dst (read_kind x t) a) None
@@ -184,3 +185,10 @@ load_known reads.Context t width a from ctx_len shapes h floor = inl (t, refl, f
 load_known (reads.Value map) t width a from ctx_len shapes h floor = inl (t, refl, floor)
 load_known reads.FrameBytes t width a from ctx_len shapes h floor = inl (t, refl, floor)
 load_known (reads.FramePointer kind) t width a from ctx_len shapes h floor = inr h.pointer
+
+-- and of one that extends the sign it is a number
+pub number_loaded : (x : Reads) (t : Scalar) (width : SignedWidth) (a : AbsState) (from : Address) (ctx_len : ℕ) (shapes : List MapShape) → IsReadByLoad x a (byte_count (unsigned_width width)) from ctx_len shapes → (s : Scalar) × (read_kind x t ≡ Num s)
+number_loaded reads.Context t width a from ctx_len shapes h = (t, refl)
+number_loaded (reads.Value map) t width a from ctx_len shapes h = (t, refl)
+number_loaded reads.FrameBytes t width a from ctx_len shapes h = (t, refl)
+number_loaded (reads.FramePointer kind) t width a from ctx_len shapes h = absurd (narrow width h.wide)

@@ -2,6 +2,7 @@
 ghost use Rattle.std.specs.Prelude.{◌≡◌, ℕ, OnOk, OnErr, IfOk};
 ghost use Rattle.register_kinds.specs.States.{kind_at, state_of};
 ghost use Rattle.bpf_model.specs.Access.{byte_count, unsigned_width};
+ghost use Rattle.typed_runs.specs.Effects.{HasNumber};
 ghost use Rattle.kind_tests.specs.Performs.{Performs, SetsNumber};
 ghost use Rattle.register_kinds.specs.Pairs.{AreBelow};
 ghost use Rattle.memory_effects.specs.Accesses.{IsBase, ReadsBytes, ReadsValue, LoadsKnown};
@@ -65,6 +66,7 @@ pub fn load_signed(
     ensures sound { OnOk result (Performs
         (Insn.LoadSigned width dst from.base from.offset) shape.now.ctx_len
         shape.now.shapes.now state.old state.new) }
+    ensures floor { OnOk result (HasNumber (state_of state.new) dst) }
     ensures region { IfOk result (λ region. IsBase region (kind_at state.old.regs from.base)) }
     ensures bytes { (10 ≡ dst → ⊥)
         → ReadsBytes (state_of state.old) from.base (byte_count (unsigned_width width)) from.offset

@@ -67,9 +67,9 @@ module _ (name : ℕ) (s : Store) (opened : List Section) (run : Run) where
   run-renamed answer new_store new h = (h.0, h.1, insn-renamed h.0 answer new_store new h.2)
 
 may_exit-renamed : (name : ℕ) (run : Run) (steps n : ℕ) → MayExitFrom run steps n → MayExitFrom (renamed name run) steps n
-may_exit-renamed name run steps n (may_exit_now store new_store opened _ new _ h) = may_exit_now store new_store opened (renamed name run) (renamed name new) n (run-renamed name store opened run (Exited n) new_store new h)
-may_exit-renamed name run steps n (may_exit_later store new_store opened _ next rest _ h x) =
-    may_exit_later store new_store opened (renamed name run) (renamed name next) rest n (run-renamed name store opened run Moved new_store next h) (may_exit-renamed name next rest n x)
+may_exit-renamed name run steps n (may_exit_now store new_store opened _ new _ bytes h) = may_exit_now store new_store opened (renamed name run) (renamed name new) n bytes (run-renamed name store opened run (Exited n) new_store new h)
+may_exit-renamed name run steps n (may_exit_later store new_store opened _ next rest _ bytes h x) =
+    may_exit_later store new_store opened (renamed name run) (renamed name next) rest n bytes (run-renamed name store opened run Moved new_store next h) (may_exit-renamed name next rest n x)
 
 -- A step that a run makes whatever the maps are is its only one. It is no helper's, which without maps has none.
 abbrev Anywhere : Run → Answer → Run → Type 0
@@ -102,15 +102,15 @@ pub moved≢exited : (n : ℕ) → Moved ≡ Exited n → ⊥
 moved≢exited n h = absurd (cc)
 
 now-one : (run new : Run) (t n k : ℕ) → Anywhere run (Exited n) new → MayExitFrom run t k → (1 ≡ t) × (n ≡ k)
-now-one run new t n k p (may_exit_now store new_store opened _ next _ g) = (refl, same-exit n k (only-step store new_store opened run new next (Exited n) (Exited k) p g).0)
-now-one run new t n k p (may_exit_later store new_store opened _ next rest _ g y) = absurd (moved≢exited n (sym (only-step store new_store opened run new next (Exited n) Moved p g).0))
+now-one run new t n k p (may_exit_now store new_store opened _ next _ bytes g) = (refl, same-exit n k (only-step store new_store opened run new next (Exited n) (Exited k) p g).0)
+now-one run new t n k p (may_exit_later store new_store opened _ next rest _ bytes g y) = absurd (moved≢exited n (sym (only-step store new_store opened run new next (Exited n) Moved p g).0))
 
 abbrev HasRest : Run → ℕ → ℕ → Type 0
 HasRest next t k = (rest : ℕ) × (suc rest ≡ t) × MayExitFrom next rest k
 
 later-rest : (run next : Run) (t k : ℕ) → Anywhere run Moved next → MayExitFrom run t k → HasRest next t k
-later-rest run next t k p (may_exit_now store new_store opened _ new _ g) = absurd (moved≢exited k (only-step store new_store opened run next new Moved (Exited k) p g).0)
-later-rest run next t k p (may_exit_later store new_store opened _ other rest _ g y) =
+later-rest run next t k p (may_exit_now store new_store opened _ new _ bytes g) = absurd (moved≢exited k (only-step store new_store opened run next new Moved (Exited k) p g).0)
+later-rest run next t k p (may_exit_later store new_store opened _ other rest _ bytes g y) =
     let same : next ≡ other = (only-step store new_store opened run next other Moved Moved p g).1 in
     (rest, refl, subst (λ z. MayExitFrom z rest k) (sym same) y)
 
@@ -126,8 +126,8 @@ one_exit program context s t n k x y = exit-one (fresh_run x.0 program context) 
 
 -- a run that shares nothing makes each of its steps whatever the maps are
 exits-alone : (run : Run) (s n : ℕ) → SharesNothing run → MayExitFrom run s n → ExitsFrom run s n
-exits-alone run s n p (may_exit_now store new_store opened _ new _ h) = exits_now run new n ((others_change_nothing store new_store opened run new (Exited n) p h).1)
-exits-alone run s n p (may_exit_later store new_store opened _ next rest _ h x) =
+exits-alone run s n p (may_exit_now store new_store opened _ new _ bytes h) = exits_now run new n ((others_change_nothing store new_store opened run new (Exited n) p h).1)
+exits-alone run s n p (may_exit_later store new_store opened _ next rest _ bytes h x) =
     exits_later run next rest n ((others_change_nothing store new_store opened run next Moved p h).1) (exits-alone next rest n (stays_sharing_nothing store new_store opened run next Moved p h) x)
 
 pub exits_alone : (program : Loaded) (context : List ℕ) (s n : ℕ) → HasNoMaps program.code → MayExitWith program context s n → ExitsWith program context s n

@@ -5,7 +5,7 @@ use Rattle.std.specs.Int.Bits.{and_self}
 use Rattle.std.proofs.lemmas.Nat.{and_le_r}
 use Rattle.std.proofs.Math.Nat.{mod-eq_of_lt}
 use Rattle.scalar_domain.specs.declared.scalar.Scalar.{Scalar}
-use Rattle.scalar_domain.specs.Scalar.{IsConstant}
+use Rattle.scalar_domain.specs.Scalar.{IsConstant, IsNoWider}
 use Rattle.scalar_domain.specs.Mask.{Within}
 use Rattle.scalar_domain.specs.Precision.{Adds, Subtracts, Masks, ShiftsLeft}
 use Rattle.scalar_domain.proofs.Bits.{and-within_r}
@@ -46,4 +46,12 @@ shl_of_constants a r u k l c e f = record {
       let g : (u * 2 ^ k) % 2 ^ 64 ≡ u * 2 ^ k = mod-eq_of_lt (omega (arith, i, p)) in
       omega (arith, g, i, e.greatest);
   zeros = ap (λ n. n % 2 ^ k) f ∙ low_zeros u k l;
+}
+
+pub move_of_constants : (b r : Scalar) (v : ℕ) → IsConstant b v → IsConstant r v → r.may ≡ v → r.must ≡ v → IsNoWider r b
+move_of_constants b r v d e f g = record {
+  least = omega (arith, d.least, e.least);
+  greatest = omega (arith, d.greatest, e.greatest);
+  zeros = subst (λ m. Within m b.may) (sym f) d.zeros;
+  ones = subst (λ m. Within b.must m) (sym g) d.ones;
 }

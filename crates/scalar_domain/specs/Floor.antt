@@ -7,7 +7,7 @@ use Rattle.bpf_model.specs.Arithmetic.{alu, unary, holds, swapped_width}
 use Rattle.bpf_model.specs.Access.{byte_count}
 use Rattle.bpf_model.specs.declared.insn.AluOp.{AluOp}
 use Rattle.bpf_model.specs.declared.insn.AluOp.TheVariants.{Add, Sub, And, ShiftLeft, ShiftRight}
-use Rattle.bpf_model.specs.declared.insn.AluOp.TheVariants.{Mod}
+use Rattle.bpf_model.specs.declared.insn.AluOp.TheVariants.{Mod, Move}
 use Rattle.bpf_model.specs.declared.insn.UnaryOp.{UnaryOp}
 use Rattle.bpf_model.specs.declared.insn.UnaryOp.TheVariants.{Negate, ByteSwap, MoveSigned}
 use Rattle.bpf_model.specs.declared.insn.SignExtension.TheVariants.{ByteTo32, ShortTo32}
@@ -33,6 +33,7 @@ pub record KeepsWideFloor (op : AluOp) (a b result : Scalar) : Type 0 where
   pub shift_left : (k : ℕ) → op ≡ ShiftLeft → IsConstant b k → k < 64 → ShiftsLeft k a result
   pub shift_right : (k : ℕ) → op ≡ ShiftRight → IsConstant b k → k < 64 → ShiftsRight k a result
   pub remainder : (k : ℕ) → op ≡ Mod → IsConstant b k → 0 < k → result.greatest < k
+  pub move : op ≡ Move → IsNoWider result b
 
 -- What an operation gives is at least this narrow; on 32 bits, it is below 2^32.
 pub record KeepsFloor (size : Size) (op : AluOp) (a b result : Scalar) : Type 0 where

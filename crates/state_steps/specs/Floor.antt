@@ -1,20 +1,24 @@
--- How much is known, at least, of numbers after an instruction: as much as the scalar domain tells.
+-- How much is known, at least, of the numbers that an instruction writes or compares: as much as
+-- the scalar domain promises.
 use Rattle.std.specs.Prelude.{◌≡◌, true, false, Option, IfSome}
 use Rattle.bpf_model.specs.Operand.{unary_source}
 use Rattle.bpf_model.specs.declared.insn.Insn.{Insn}
 use Rattle.bpf_model.specs.declared.insn.Insn.TheVariants.{Alu, Unary, LoadNumber, JumpIf, Load}
+use Rattle.bpf_model.specs.declared.insn.Insn.TheVariants.{LoadSigned}
 use Rattle.scalar_domain.specs.declared.scalar.Scalar.{Scalar}
 use Rattle.scalar_domain.specs.Scalar.{IsConstant}
 use Rattle.scalar_domain.specs.Floor.{KeepsUnaryFloor}
 use Rattle.typed_runs.specs.Kinds.{Num, AbsState}
+use Rattle.typed_runs.specs.Effects.{HasNumber}
 use Rattle.memory_effects.specs.Accesses.{LoadsKnown}
 use Rattle.compute_effects.specs.Floor.{IsNumbers, operand_kind, LeavesKnown}
 use Rattle.control_effects.specs.Narrowing.{NarrowsKnown}
 
 -- From the first state the instruction leads to the second, and to the third where it is a jump that
--- is taken. Operations of numbers leave numbers no wider than the scalar domain's; a wide instruction
--- leaves its number; a load without sign gives a number of its width, or the reference whose parts it
--- reads; and on both edges of a comparison of numbers these are no wider than the scalar domain's.
+-- is taken. Operations of numbers leave numbers as narrow as the scalar domain promises; a wide
+-- instruction leaves its number; a load without sign gives a number of its width, or the reference
+-- whose parts it reads, and one that extends the sign a number; and on both edges of a comparison of
+-- numbers these are as narrow as the scalar domain promises.
 abbrev pub KeepsInsnFloor : Insn → AbsState → AbsState → Option AbsState → Type 0
 KeepsInsnFloor (Alu op size dst src) a b taken =
     LeavesKnown size op (a.regs dst) (operand_kind src a) (b.regs dst)
@@ -23,6 +27,7 @@ KeepsInsnFloor (Unary op dst) a b taken =
     IsNumbers (KeepsUnaryFloor op s) (b.regs dst)
 KeepsInsnFloor (LoadNumber dst n) a b taken = IsNumbers (λ s. IsConstant s n) (b.regs dst)
 KeepsInsnFloor (Load width dst src offset) a b taken = LoadsKnown width (b.regs dst)
+KeepsInsnFloor (LoadSigned width dst src offset) a b taken = HasNumber b dst
 KeepsInsnFloor (JumpIf condition size dst src offset) a b taken =
     NarrowsKnown size condition false dst src a b
     × IfSome taken (NarrowsKnown size condition true dst src a)

@@ -67,7 +67,8 @@ pub fn transfer(
     ensures few { TakesFew 1 ids.old.next ids.new.next }
     ensures unchanged { OnErr result (state.new ≡ state.old) }
 
-    // Of numbers no more is forgotten than the scalar domain forgets.
+    // Of the number that is written, and of both sides of a comparison, as much is known as the
+    // scalar domain promises.
     ensures floor { IfOk result (λ f. KeepsInsnFloor insn.now (state_of state.old)
         (state_of state.new) (option_map state_of (taken_state f))) }
 

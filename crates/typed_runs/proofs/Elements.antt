@@ -25,14 +25,14 @@ use Rattle.bpf_model.specs.Element.{Element, Life, Linked, Unlinked, Reclaimed, 
 use Rattle.bpf_model.specs.MapState.{Store as Maps}
 use Rattle.bpf_model.specs.Machine.{Run, environment}
 use Rattle.bpf_model.specs.MachineStep.{element_load, element_store, loaded_from, stored_in, with_bytes}
-use Rattle.bpf_model.specs.Event.{AreBytes}
+use Rattle.bpf_model.specs.Event.{AreBytes, AllBytes}
 use Rattle.model_laws.proofs.Stores.{touches-stored}
 use Rattle.scalar_domain.specs.Scalar.{Holds}
 use Rattle.scalar_domain.specs.declared.scalar.Scalar.{Scalar}
 use Rattle.typed_runs.specs.Kinds.{Num, ValueAt, AbsState}
 use Rattle.typed_runs.specs.Describes.{Scene, scene_of, IsGuarded, IsHeld, IsElementOf, Describes}
 use Rattle.typed_runs.specs.Effects.{with_kind, IsAlwaysInside, IsNumberOperand}
-use Rattle.typed_runs.specs.Verified.{AllBytes, Surrounds, Transfers}
+use Rattle.typed_runs.specs.Verified.{Surrounds, Transfers}
 use Rattle.typed_runs.proofs.Kept.{Keeps, keeps-touches, describes-kept}
 use Rattle.typed_runs.proofs.Valued.{bytes-changed}
 use Rattle.typed_runs.proofs.Sets.{set-described, placed-described}

@@ -28,10 +28,11 @@ use Rattle.bpf_model.specs.Machine.{Run, environment, moves, exits}
 use Rattle.bpf_model.specs.MachineStep.{AccessesElement, Acts, OutcomeStep, InsnStep, found_value, ActStep}
 use Rattle.scalar_domain.specs.Scalar.{Holds}
 use Rattle.scalar_domain.specs.declared.scalar.Scalar.{Scalar}
+use Rattle.bpf_model.specs.Event.{AllBytes}
 use Rattle.typed_runs.specs.Kinds.{Kind, Blank, Mixed, Ended, Num, CtxAt, FrameAt, MapAt, ValueAt, MaybeNull, CellKind, BlankCell, MixedCell, EndedCell, ByteCell, PartCell, AbsState}
 use Rattle.typed_runs.specs.Describes.{Scene, scene_of, Naming, IsNullOrHeld, HasOffset, IsOf, Stored, part_of, IsOfCell, Describes}
 use Rattle.typed_runs.specs.Effects.{null_kind, null_cell, there_kind, there_cell, when_null, when_there}
-use Rattle.typed_runs.specs.Verified.{AllBytes, Surrounds, HasStep, Leads, Transfers, is_call, IsEnvironment, LandsDescribed, TransfersAlone}
+use Rattle.typed_runs.specs.Verified.{Surrounds, HasStep, Leads, Transfers, is_call, IsEnvironment, LandsDescribed, TransfersAlone}
 use Rattle.typed_runs.proofs.Arguments.{reg-is}
 
 -- an instruction's steps are those of one that is no call

@@ -23,9 +23,10 @@ use Rattle.bpf_model.specs.MachineStep.{InsnStep}
 use Rattle.bpf_model.proofs.Cases.{both}
 use Rattle.std.specs.Int.Bits.{and_self}
 use Rattle.scalar_domain.specs.Constant.{le_self}
+use Rattle.bpf_model.specs.Event.{AllBytes}
 use Rattle.typed_runs.specs.Kinds.{Blank, CtxAt, FrameAt, AbsState}
 use Rattle.typed_runs.specs.Describes.{Scene, scene_of, HasOffset, IsContextAt, IsOf, IsOfCell, AreNear, Describes, depth_of}
-use Rattle.typed_runs.specs.Verified.{Plan, AllBytes, Surrounds, Leads, Transfers, IsPlanned, IsPlannedAfter, IsClosed}
+use Rattle.typed_runs.specs.Verified.{Plan, Surrounds, Leads, Transfers, IsPlanned, IsPlannedAfter, IsClosed}
 use Rattle.typed_runs.specs.Planned.{origin, number_zero, Wider, AreAlike, Joins, entry_state, Covers, IsCovered, IsPlanKept}
 use Rattle.typed_runs.proofs.Sets.{choice-of, near-set, widened}
 

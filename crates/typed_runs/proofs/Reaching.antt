@@ -12,7 +12,7 @@ use Rattle.bpf_model.specs.Section.{Section}
 use Rattle.bpf_model.specs.MapState.{MapState, Store}
 use Rattle.bpf_model.specs.Machine.{Loaded, Run, Machine, open_sections, fresh_run, run_at, start_machine, moves, locked, unlocked}
 use Rattle.bpf_model.specs.MachineStep.{InsnStep, RunStep, StepsRun, NeverStuck}
-use Rattle.bpf_model.specs.Event.{DoesEvent, AreBytes, IsReal, AreReal}
+use Rattle.bpf_model.specs.Event.{DoesEvent, AreBytes, IsReal, AreReal, AllBytes}
 use Rattle.bpf_model.specs.History.{IsHistory, AllStates, last_of}
 use Rattle.bpf_model.specs.Schedule.{Schedule, IsScheduledHistory, start_schedule}
 use Rattle.bpf_model.specs.declared.event.Answer.TheVariants.{Moved, Exited}
@@ -25,7 +25,7 @@ use Rattle.model_laws.proofs.Stores.{KeepsShapes, StoreMoves, is_reap, does-move
 use Rattle.model_laws.proofs.Keeping.{no-run, starts_consistent, stays_consistent}
 use Rattle.model_laws.proofs.Moves.{Changes, Goes, Locks, Unlocks, Ends, changed-insn}
 use Rattle.typed_runs.specs.Describes.{Scene, scene_of}
-use Rattle.typed_runs.specs.Verified.{Plan, AreMapsBound, AllBytes, Surrounds, IsPlanned, IsPlannedAfter, IsClosed}
+use Rattle.typed_runs.specs.Verified.{Plan, AreMapsBound, Surrounds, IsPlanned, IsPlannedAfter, IsClosed}
 use Rattle.typed_runs.specs.Well.{AreVerified, IsVerifiedFor, IsTyped, IsWell}
 use Rattle.typed_runs.proofs.Kept.{Keeps, keeps-moves, describes-kept}
 use Rattle.typed_runs.proofs.Coming.{FreshRun, Comes, Stands, Starting, Stepping, does-come}

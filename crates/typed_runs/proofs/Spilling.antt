@@ -28,12 +28,13 @@ use Rattle.model_laws.proofs.Alone.{load-own, store-own}
 use Rattle.bpf_model.specs.MapState.{Store as Maps}
 use Rattle.bpf_model.specs.Machine.{Run, environment}
 use Rattle.bpf_model.specs.MachineStep.{element_load, element_store, found_value}
+use Rattle.bpf_model.specs.Event.{AllBytes}
 use Rattle.typed_runs.specs.Kinds.{Kind, Blank, Mixed, Ended, Num, CtxAt, FrameAt, MapAt, ValueAt, MaybeNull, CellKind, BlankCell, MixedCell, EndedCell, ByteCell, PartCell, AbsState}
 use Rattle.bpf_model.specs.Near.{IsNear, IsNearCell}
 use Rattle.bpf_model.proofs.Cases.{choice}
 use Rattle.typed_runs.specs.Describes.{Scene, scene_of, Naming, IsOf, Stored, part_of, IsOfCell, AreNear, Describes}
 use Rattle.typed_runs.specs.Effects.{with_kind, with_cells, IsWritten, IsPointer}
-use Rattle.typed_runs.specs.Verified.{AllBytes, Transfers}
+use Rattle.typed_runs.specs.Verified.{Transfers}
 use Rattle.typed_runs.proofs.Sets.{set-described}
 use Rattle.typed_runs.proofs.Arguments.{reg-is, cell-is}
 use Rattle.typed_runs.proofs.Local.{Acting, acts-transfers, by-itself}

@@ -13,8 +13,7 @@ use Rattle.bpf_model.specs.MapState.{MapState, Store}
 use Rattle.bpf_model.specs.Helper.{Replaces, Settles, Updates, Removes, Deletes, newborn}
 use Rattle.bpf_model.specs.Machine.{Machine, open_sections}
 use Rattle.bpf_model.specs.MachineStep.{StepsRun}
-use Rattle.bpf_model.specs.Event.{PerformsEvent, Answers, DoesEvent, refusal, AreBytes, IsReal}
-use Rattle.typed_runs.specs.Verified.{AllBytes}
+use Rattle.bpf_model.specs.Event.{PerformsEvent, Answers, DoesEvent, refusal, AreBytes, IsReal, AllBytes}
 use Rattle.bpf_model.proofs.Lists.{get-append_cases, get-set_cases}
 
 bytes-along : (es new : List Element) → new ≡ es → AllBytes es → AllBytes new

@@ -15,7 +15,7 @@ use Rattle.bpf_model.specs.Element.{Element}
 use Rattle.bpf_model.specs.MapState.{MapState, Store}
 use Rattle.bpf_model.specs.Machine.{Run, section_of}
 use Rattle.bpf_model.specs.MachineStep.{AccessesElement, InsnStep}
-use Rattle.bpf_model.specs.Event.{AreBytes}
+use Rattle.bpf_model.specs.Event.{AreBytes, AllBytes}
 use Rattle.typed_runs.specs.Kinds.{AbsState}
 use Rattle.typed_runs.specs.Describes.{Scene, scene_of, Describes}
 
@@ -26,9 +26,6 @@ pub record AreMapsBound (shapes : List MapShape) (maps : List ℕ)
   pub each : (i : ℕ) (shape : MapShape) → slice_get shapes i ≡ Some shape →
       (map : ℕ) × (state : MapState)
       × (slice_get maps i ≡ Some map) × (slice_get states map ≡ Some state) × (state.shape ≡ shape)
-
-abbrev pub AllBytes : List Element → Type 0
-AllBytes es = (n : ℕ) (e : Element) → slice_get es n ≡ Some e → AreBytes e.value
 
 -- What is so around a run that hasn't ended, in each state that is reached, of a program that was
 -- verified against these shapes.

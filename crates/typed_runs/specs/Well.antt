@@ -4,9 +4,9 @@ use Rattle.bpf_model.specs.declared.limits.MapShape.{MapShape}
 use Rattle.bpf_model.specs.MapState.{MapState, Store, new_map}
 use Rattle.bpf_model.specs.Machine.{Loaded, Run, Machine, run_at}
 use Rattle.bpf_model.specs.Consistent.{IsConsistent}
-use Rattle.bpf_model.specs.Event.{AreBytes}
+use Rattle.bpf_model.specs.Event.{AreBytes, AllBytes}
 use Rattle.typed_runs.specs.Describes.{scene_of}
-use Rattle.typed_runs.specs.Verified.{IsPlanned, AreMapsBound, AllBytes, IsVerified}
+use Rattle.typed_runs.specs.Verified.{IsPlanned, AreMapsBound, IsVerified}
 
 -- the program was verified, against the shapes of the maps that it is bound to
 pub record IsVerifiedFor (states : List MapState) (program : Loaded) : Type 0 where

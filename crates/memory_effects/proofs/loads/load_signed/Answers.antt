@@ -7,12 +7,13 @@ use Rattle.bpf_model.specs.Access.{byte_count}
 use Rattle.typed_runs.specs.Kinds.{Kind}
 use Rattle.typed_runs.specs.Effects.{with_kind}
 use Rattle.typed_runs.specs.Planned.{AreAlike}
-use Rattle.register_kinds.specs.States.{state_of}
+use Rattle.register_kinds.specs.States.{kind_of, state_of}
 use Rattle.memory_effects.specs.Accesses.{read_kind, IsReadByLoad}
-use Rattle.memory_effects.proofs.Reading.{read_signed_transfers}
+use Rattle.memory_effects.proofs.Reading.{read_signed_transfers, number_loaded}
 use Rattle.scalar_domain.proofs.Words.{loaded_signed_lt}
 use Rattle.memory_effects.proofs.loads.load_signed.Goals as goal
 use Rattle.typed_runs.proofs.Planning.{to_alike}
+use Rattle.kind_tests.proofs.Setting.{set-there}
 
 pub returns-clause-sound : goal.returns-clause-sound
 returns-clause-sound c =
@@ -46,3 +47,11 @@ returns-in_err-reads-clause-value c = λ map ne b.
     let read = subst (λ (w : Width). ReadsValue c.args.shape.now.shapes.now c.args.state.now c.args.from.base map (byte_count w) c.args.from.offset) (sym c.width.ensures) b in
     let no = c.in_err-reads.ensures.value map read in
     absurd cc
+
+pub returns-clause-floor : goal.returns-clause-floor
+returns-clause-floor c =
+    let a = state_of c.args.state.now in
+    let there = set-there c.args.dst c.args.dst (kind_of c.kind.result) a (state_of c.set.new.self) c.set.ensures.alike refl in
+    let n = number_loaded c.in_ok-reads.reads c.load_signed.result c.args.width a c.args.from c.args.shape.now.ctx_len c.args.shape.now.shapes.now
+        (subst (λ (w : Width). IsReadByLoad c.in_ok-reads.reads a (byte_count w) c.args.from c.args.shape.now.ctx_len c.args.shape.now.shapes.now) c.width.ensures c.in_ok-reads.ensures.reads) in
+    (n.0, there ∙ (c.kind.ensures ∙ n.1))

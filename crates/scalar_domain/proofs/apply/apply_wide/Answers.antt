@@ -22,5 +22,6 @@ returns-then-b c =
         shift_left = λ k e. r.floor.shift_left k (w ∙ ap unsigned_form e);
         shift_right = λ k e. r.floor.shift_right k (w ∙ ap unsigned_form e);
         remainder = λ k e. r.floor.remainder k (w ∙ ap unsigned_form e);
+        move = λ e. r.floor.move (w ∙ ap unsigned_form e);
       };
     }

@@ -30,4 +30,4 @@ returns c = λ top below.
     set_keeps (LoadSigned c.args.width c.args.dst c.args.from.base c.args.from.offset) c.args.dst n.number (state_of a) (state_of b) (record { writes = λ r w. w; no_bytes = λ k w. w }) ready.keeps_frame n.alike)
     (load_serves (LoadSigned c.args.width c.args.dst c.args.from.base c.args.from.offset) c.args.dst c.args.from.base (byte_count (unsigned_width c.args.width)) c.args.from.offset c.args.shape.now.shapes.now a (λ shape v. v) (signed_no_other c.args.width c.args.dst c.args.from.base c.args.from.offset) (λ opens. no_section_call (LoadSigned c.args.width c.args.dst c.args.from.base c.args.from.offset) opens refl)
     (state_of b) (λ map ne reads. let n = c.in_ok-region.ensures.value map ne reads in (n.number, n.alike)))
-    tt
+    c.in_ok-region.ensures.floor

@@ -9,7 +9,7 @@ use Rattle.scalar_domain.specs.Precision.{Masks}
 use Rattle.scalar_domain.proofs.Bits.{ap2}
 use Rattle.scalar_domain.proofs.Words.{narrow_lt}
 use Rattle.scalar_domain.proofs.Forms.{word_difference}
-use Rattle.scalar_domain.proofs.Constants.{sum_of_constants, difference_of_constants, mask_of_constants, shl_of_constants}
+use Rattle.scalar_domain.proofs.Constants.{sum_of_constants, difference_of_constants, mask_of_constants, shl_of_constants, move_of_constants}
 use Rattle.scalar_domain.proofs.scalar.Scalar.apply.Goals as goal
 
 pub returns-in-Some-Some-clause-floor : goal.returns-in-Some-Some-clause-floor
@@ -43,6 +43,10 @@ returns-in-Some-Some-clause-floor c =
             (subst (IsConstant c.constant.result) e c.constant.ensures.exact) (c.constant.ensures.zeros ∙ e);
         shift_right = λ k o i l. grind (arith, common_steps);
         remainder = λ k o i p. grind (arith, common_steps);
+        move = λ o.
+            let e : c.alu.result ≡ v = c.alu.ensures ∙ ap2 (λ z op. alu z op u v) s o in
+            move_of_constants c.args.b c.constant.result v c.in-Some-Some.ensures'
+            (subst (IsConstant c.constant.result) e c.constant.ensures.exact) (c.constant.ensures.zeros ∙ e) (c.constant.ensures.ones ∙ e);
       };
     }
 
