@@ -21,7 +21,7 @@ use Rattle.asm.proofs.Lacking.{lacks_append, arguments_lack_feed}
 use Rattle.asm.proofs.PlainNames.{name_lacks_any, stem_statement}
 use Rattle.asm.proofs.LinesRead.{keeps, first_line}
 use Rattle.bpf_model.specs.Places.{slot_count_some}
-use Rattle.bpf_model.proofs.Lists.{cons-same, cons-nil}
+use Rattle.bpf_model.proofs.Lists.{cons-nil, heads, tails}
 
 -- a program takes a slot at least
 
@@ -43,7 +43,7 @@ flaw_no line OutOfRange flawed h = flawed.1 h
 
 head_line : (line : List ℕ) (rest : List (List ℕ)) (is : List Insn) → AllByRecursion FitsInsn is → (line ∷ rest) ≡ map line_of is → IsInsnLine line
 head_line line rest [] fits e = absurd (cons-nil line rest e)
-head_line line rest (i ∷ is) fits e = record { instruction = i; fits = fits.0; text = (cons-same line (line_of i) rest (map line_of is) e).0 }
+head_line line rest (i ∷ is) fits e = record { instruction = i; fits = fits.0; text = heads line (line_of i) rest (map line_of is) e }
 
 kept : (b : Bool) (line : List ℕ) (rest : List (List ℕ)) → is_comment line ≡ b → filter keeps (line ∷ rest) ≡ cond (not b) (line ∷ filter keeps rest) (filter keeps rest)
 kept b line rest e = ap (λ (d : Bool). cond (not d) (line ∷ filter keeps rest) (filter keeps rest)) e
@@ -51,7 +51,7 @@ kept b line rest e = ap (λ (d : Bool). cond (not d) (line ∷ filter keeps rest
 step_line : (first : List ℕ) (rest : List (List ℕ)) (line : List ℕ) (is : List Insn) (b : Bool) → is_comment first ≡ b → ((is2 : List Insn) → AllByRecursion FitsInsn is2 → filter keeps rest ≡ map line_of is2 → IsInsnLine line) → AllByRecursion FitsInsn is → filter keeps (first ∷ rest) ≡ map line_of is → IsInsnLine line
 step_line first rest line is true s more fits e = more is fits (sym (kept true first rest s) ∙ e)
 step_line first rest line [] false s more fits e = absurd (cons-nil first (filter keeps rest) (sym (kept false first rest s) ∙ e))
-step_line first rest line (i ∷ is) false s more fits e = more is fits.1 (cons-same first (line_of i) (filter keeps rest) (map line_of is) (sym (kept false first rest s) ∙ e)).1
+step_line first rest line (i ∷ is) false s more fits e = more is fits.1 (tails first (line_of i) (filter keeps rest) (map line_of is) (sym (kept false first rest s) ∙ e))
 
 pub is_insn_line : (front : List (List ℕ)) (line : List ℕ) (rest : List (List ℕ)) (is : List Insn) → is_comment line ≡ false → AllByRecursion FitsInsn is → filter keeps (front ++ line ∷ rest) ≡ map line_of is → IsInsnLine line
 is_insn_line [] line rest is s fits e = head_line line (filter keeps rest) is fits (sym (kept false line rest s) ∙ e)

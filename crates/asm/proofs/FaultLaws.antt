@@ -5,7 +5,7 @@ use Rattle.std.specs.List.{AllByRecursion}
 use Rattle.bpf_model.specs.declared.insn.Insn.{Insn}
 use Rattle.bpf_model.specs.declared.limits.TheConstants.{MAX_SLOTS}
 use Rattle.bpf_model.specs.Spelling.{slot_total}
-use Rattle.bpf_model.proofs.Lists.{cons-same, cons-nil}
+use Rattle.bpf_model.proofs.Lists.{cons-nil, heads, tails}
 use Rattle.disasm.specs.Text.{line_of}
 use Rattle.asm.specs.Grammar.{IsFormedLine}
 use Rattle.asm.specs.Faults.{is_comment, IsSoundLine, IsInsnLine, IsFirstLineFlaw, IsAsmFault}
@@ -17,15 +17,15 @@ use Rattle.asm.proofs.Assembled.{flaw_no, no_flaw}
 
 -- Of two faulty lines behind sound ones neither stands before the other.
 same_faulty_line : (front front2 : List (List ℕ)) (line line2 : List ℕ) (rest rest2 : List (List ℕ)) → (front ++ line ∷ rest) ≡ front2 ++ line2 ∷ rest2 → AllByRecursion IsSoundLine front → AllByRecursion IsSoundLine front2 → is_comment line ≡ false → is_comment line2 ≡ false → ¬ (IsInsnLine line) → ¬ (IsInsnLine line2) → (length front ≡ length front2) × (line ≡ line2)
-same_faulty_line [] [] line line2 rest rest2 e sound sound2 s s2 bad bad2 = (refl, (cons-same line line2 rest rest2 e).0)
+same_faulty_line [] [] line line2 rest rest2 e sound sound2 s s2 bad bad2 = (refl, heads line line2 rest rest2 e)
 same_faulty_line [] (first ∷ front2) line line2 rest rest2 e sound sound2 s s2 bad bad2 =
-    let same : line ≡ first = (cons-same line first rest (front2 ++ line2 ∷ rest2) e).0 in
+    let same : line ≡ first = heads line first rest (front2 ++ line2 ∷ rest2) e in
     absurd (bad (subst (λ (l : List ℕ). IsInsnLine l) (sym same) (sound2.0 (sym (ap is_comment same) ∙ s))))
 same_faulty_line (first ∷ front) [] line line2 rest rest2 e sound sound2 s s2 bad bad2 =
-    let same : first ≡ line2 = (cons-same first line2 (front ++ line ∷ rest) rest2 e).0 in
+    let same : first ≡ line2 = heads first line2 (front ++ line ∷ rest) rest2 e in
     absurd (bad2 (subst (λ (l : List ℕ). IsInsnLine l) same (sound.0 (ap is_comment same ∙ s2))))
 same_faulty_line (first ∷ front) (first2 ∷ front2) line line2 rest rest2 e sound sound2 s s2 bad bad2 =
-    let more : (length front ≡ length front2) × (line ≡ line2) = same_faulty_line front front2 line line2 rest rest2 (cons-same first first2 (front ++ line ∷ rest) (front2 ++ line2 ∷ rest2) e).1 sound.1 sound2.1 s s2 bad bad2 in
+    let more : (length front ≡ length front2) × (line ≡ line2) = same_faulty_line front front2 line line2 rest rest2 (tails first first2 (front ++ line ∷ rest) (front2 ++ line2 ∷ rest2) e) sound.1 sound2.1 s s2 bad bad2 in
     (omega (arith, more.0), more.1)
 
 flaws_meet : (text : List ℕ) (f g : LineFlaw) (n m : ℕ) → (h : IsFirstLineFlaw text f n) → (k : IsFirstLineFlaw text g m) → (n ≡ m) × (h.line ≡ k.line)

@@ -10,7 +10,7 @@ use Rattle.std.proofs.ByRecursion.{All-push}
 use Rattle.std.proofs.lemmas.Bool.{false≢true}
 use Rattle.bpf_model.specs.declared.insn.Insn.{Insn}
 use Rattle.bpf_model.specs.Spelling.{FitsInsn}
-use Rattle.bpf_model.proofs.Lists.{cons-same, cons-nil}
+use Rattle.bpf_model.proofs.Lists.{cons-nil, heads, tails}
 use Rattle.disasm.specs.Text.{line_of}
 use Rattle.asm.proofs.StatementLaws.{appended}
 use Rattle.asm.specs.Reading.{Lacks}
@@ -121,9 +121,11 @@ same_cons : (line : List ℕ) (rest : List (List ℕ)) (is js : List Insn) → i
 same_cons line rest [] js s unique more fits_i fits_j e f = absurd (cons-nil line rest e)
 same_cons line rest (i ∷ is) [] s unique more fits_i fits_j e f = absurd (cons-nil line rest f)
 same_cons line rest (i ∷ is) (j ∷ js) s unique more fits_i fits_j e f =
-    let p : (line ≡ line_of i) × (rest ≡ map line_of is) = cons-same line (line_of i) rest (map line_of is) e in
-    let q : (line ≡ line_of j) × (rest ≡ map line_of js) = cons-same line (line_of j) rest (map line_of js) f in
-    cons_insns i j is js (unique s i j fits_i.0 fits_j.0 p.0 q.0) (more is js fits_i.1 fits_j.1 p.1 q.1)
+    let p : line ≡ line_of i = heads line (line_of i) rest (map line_of is) e in
+    let q : line ≡ line_of j = heads line (line_of j) rest (map line_of js) f in
+    let behind_p : rest ≡ map line_of is = tails line (line_of i) rest (map line_of is) e in
+    let behind_q : rest ≡ map line_of js = tails line (line_of j) rest (map line_of js) f in
+    cons_insns i j is js (unique s i j fits_i.0 fits_j.0 p q) (more is js fits_i.1 fits_j.1 behind_p behind_q)
 
 same_step : (line : List ℕ) (front : List (List ℕ)) (is js : List Insn) (b : Bool) → is_comment line ≡ b → IsUnique line → ((is2 js2 : List Insn) → AllByRecursion FitsInsn is2 → AllByRecursion FitsInsn js2 → filter keeps front ≡ map line_of is2 → filter keeps front ≡ map line_of js2 → is2 ≡ js2) → AllByRecursion FitsInsn is → AllByRecursion FitsInsn js → filter keeps (line ∷ front) ≡ map line_of is → filter keeps (line ∷ front) ≡ map line_of js → is ≡ js
 same_step line front is js true s unique more fits_i fits_j e f =

@@ -1,10 +1,11 @@
 -- Numerals: their bytes are digits, the first is 0 in that of 0 alone, and each number has its own.
-use Rattle.std.proofs.Common.{ℕ, zero, suc, ◌≡◌, ◌≢◌, ◌+◌, ◌-◌, ◌*◌, ◌/◌, ◌%◌, ◌^◌, ◌<◌, ◌≤◌, List, [], ◌∷◌, ◌++◌, length, get_or, take, refl, sym, ap, ◌∙◌, arith, ◌⊎◌, inl, inr}
+use Rattle.std.proofs.Common.{ℕ, zero, suc, ◌≡◌, ◌≢◌, ◌+◌, ◌-◌, ◌*◌, ◌/◌, ◌%◌, ◌^◌, ◌<◌, ◌≤◌, List, [], ◌∷◌, ◌++◌, length, get_or, take, refl, sym, ap, ◌∙◌, arith, inl, inr}
 use Rattle.std.specs.Prelude.{map, Option, Some, None, IfSome, IfNone}
 use Rattle.std.specs.Int.{IsInRange}
 use Rattle.std.specs.Int.Digits.{digits_of, AllBelowBase}
 use Rattle.std.proofs.lemmas.Int.Digits.{first_digits_of, all_below_base_digits_of, same_from_digits_of}
 use Rattle.std.proofs.lemmas.List.{take_more, length-map}
+use Rattle.std.proofs.Math.Nat.{eq-zero-or-pos}
 use Rattle.disasm.specs.Text.{glyph, glyphs, numeral}
 use Rattle.disasm.proofs.Numerals.{above_zero, last_digit}
 use Rattle.asm.specs.Reading.{capped}
@@ -54,11 +55,6 @@ pub glyphs_injective : (m n : ℕ) → glyphs m ≡ glyphs n → m ≡ n
 glyphs_injective m n e =
     same_from_digits_of 10 m n (omega arith) (sym (unglyphs_glyphs (digits_of 10 m)) ∙ ap unglyphs e ∙ unglyphs_glyphs (digits_of 10 n))
 
--- either 0 or above
-pub by_sign : (n : ℕ) → (n ≡ 0) ⊎ (0 < n)
-by_sign zero = inl refl
-by_sign (suc n) = inr (omega arith)
-
 zero_digit : (n k : ℕ) → n ≡ 0 → k < length (numeral n) → IsInRange 48 57 (get_or (numeral n) k 0)
 zero_digit n k e = rw e (λ (h : k < 1). let f : k ≡ 0 = omega arith in rw f (omega arith, omega arith))
 
@@ -66,18 +62,18 @@ above_digit : (n k : ℕ) → 0 < n → k < length (numeral n) → IsInRange 48 
 above_digit n k p = rw (above_zero n p) (glyphs_digit n k)
 
 pub numeral_digit : (n k : ℕ) → k < length (numeral n) → IsInRange 48 57 (get_or (numeral n) k 0)
-numeral_digit n k h = elim (by_sign n) [ inl e ↦ zero_digit n k e h | inr p ↦ above_digit n k p h ]
+numeral_digit n k h = elim (eq-zero-or-pos n) [ inl e ↦ zero_digit n k e h | inr p ↦ above_digit n k p h ]
 
 pub numeral_some : (n : ℕ) → 0 < length (numeral n)
-numeral_some n = elim (by_sign n) [ inl e ↦ rw e (omega arith) | inr p ↦ rw (above_zero n p) (glyphs_some n p) ]
+numeral_some n = elim (eq-zero-or-pos n) [ inl e ↦ rw e (omega arith) | inr p ↦ rw (above_zero n p) (glyphs_some n p) ]
 
 pub numeral_first : (n : ℕ) → get_or (numeral n) 0 0 ≡ 48 → n ≡ 0
-numeral_first n h = elim (by_sign n) [ inl e ↦ e | inr p ↦ absurd (let q : 48 < get_or (glyphs n) 0 0 = glyphs_first n p in let r : get_or (glyphs n) 0 0 ≡ 48 = sym (ap (λ ds. get_or ds 0 0) (above_zero n p)) ∙ h in omega arith) ]
+numeral_first n h = elim (eq-zero-or-pos n) [ inl e ↦ e | inr p ↦ absurd (let q : 48 < get_or (glyphs n) 0 0 = glyphs_first n p in let r : get_or (glyphs n) 0 0 ≡ 48 = sym (ap (λ ds. get_or ds 0 0) (above_zero n p)) ∙ h in omega arith) ]
 
 pub numeral_injective : (m n : ℕ) → numeral m ≡ numeral n → m ≡ n
-numeral_injective m n e = elim (by_sign m) [
+numeral_injective m n e = elim (eq-zero-or-pos m) [
   | inl mz ↦ mz ∙ sym (numeral_first n (sym (ap (λ ds. get_or ds 0 0) e) ∙ rw mz refl))
-  | inr mp ↦ elim (by_sign n) [
+  | inr mp ↦ elim (eq-zero-or-pos n) [
     | inl nz ↦ numeral_first m (ap (λ ds. get_or ds 0 0) e ∙ rw nz refl) ∙ sym nz
     | inr np ↦ glyphs_injective m n (sym (above_zero m mp) ∙ e ∙ above_zero n np)
   ]
@@ -104,7 +100,7 @@ read_more digits i value next so_far inside digit first pushed limit =
     let d : ℕ = get_or digits i 0 - 48 in
     let low : 48 ≤ get_or digits i 0 = digit.0 in
     let high : get_or digits i 0 ≤ 57 = digit.1 in
-    let some : 0 < so_far.n * 10 + d = elim (by_sign i) [ inl e ↦ not_zero so_far.n d (first_digit digits i e low first) | inr p ↦ let q : 0 < so_far.n = so_far.some p in omega arith ] in
+    let some : 0 < so_far.n * 10 + d = elim (eq-zero-or-pos i) [ inl e ↦ not_zero so_far.n d (first_digit digits i e low first) | inr p ↦ let q : 0 < so_far.n = so_far.some p in omega arith ] in
     let same : 48 + d ≡ get_or digits i 0 = omega arith in
     record {
       n = so_far.n * 10 + d;

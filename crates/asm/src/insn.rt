@@ -3,7 +3,7 @@ ghost use Rattle.std.specs.Prelude.{IfSome};
 ghost use Rattle.asm.specs.Reading.{IsInsnOf, IsOnlyInsn};
 
 use crate::operand::{extension, long_offset, memory, number, offset, register, source, unsigned};
-use disasm::{Argument, Arguments, Mnemonic, Statement};
+use disasm::{Arguments, Mnemonic, Statement};
 use insn_codec::{
     AluOp, ByteOrder, CallKind, Condition, Insn, Operand, SignedWidth, Size, SwapWidth, UnaryOp,
     Width,

@@ -1,8 +1,7 @@
 -- Which bytes a number is written to, in a frame and in a list.
 use Rattle.std.proofs.Common.{◌≡◌, ℕ, zero, suc, ◌+◌, ◌/◌, ◌%◌, ◌<◌, ◌≤◌, refl, ◌∙◌, ap, arith, true, false, List, length}
 use Rattle.std.specs.Prelude.{◌&&◌, nat_lt}
-use Rattle.std.proofs.lemmas.Bool.{le-leb, lt-leb}
-use borrow.Author.Tests.{lt-ltb, le-ltb}
+use Rattle.std.proofs.lemmas.Bool.{le-leb, lt-leb, lt-ltb, le-ltb}
 use Rattle.bpf_model.specs.Frame.{is_within}
 use Rattle.bpf_model.specs.MachineStep.{with_bytes}
 use Rattle.std.proofs.lemmas.List.{length-set}

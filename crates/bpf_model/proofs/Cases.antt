@@ -6,6 +6,7 @@ use Rattle.std.specs.declared.cmp.Ordering.TheVariants.{Less, Equal, Greater}
 use Rattle.std.proofs.lemmas.Bool.{false≢true}
 use Rattle.std.proofs.lemmas.Option.{none-some, slice_get_within, same_Some}
 use Rattle.std.specs.Prelude.{if◌then◌else◌, ◌==◌, drop}
+use Rattle.std.specs.Option.{option_flatten}
 use Rattle.bpf_model.specs.Section.{Section}
 use Rattle.bpf_model.specs.Element.{Element, Unlinked}
 use Rattle.bpf_model.specs.Machine.{Loaded, Run}
@@ -21,6 +22,11 @@ option_cases (Some x) = inr (x, refl)
 -- two equal options have one content
 pub both : {A : Type 0} (o : Option A) (x y : A) → o ≡ Some x → o ≡ Some y → x ≡ y
 both o x y h g = same_Some x y (sym h ∙ g)
+
+-- what is in an option of an option, where something is
+pub flattened : {A : Type 0} (o : Option (Option A)) (x : A) → option_flatten o ≡ Some x → o ≡ Some (Some x)
+flattened None x h = absurd (none-some x h)
+flattened (Some o) x h = ap Some h
 
 -- what holds of both holds of either
 pub choice : {A : Type 0} (P : A → Type 0) (b : Bool) (x y : A) → P x → P y → P (if b then x else y)

@@ -1,14 +1,11 @@
 -- Lists that are read, written, grown or cut at an index.
 use Rattle.std.proofs.Common.{◌≡◌, ◌≢◌, ℕ, zero, suc, ◌<◌, List, [], ◌∷◌, ◌++◌, length, Some, ◌⊎◌, inl, inr, refl, sym, ◌∙◌, ap, arith, map, ◌+◌}
-use Rattle.std.proofs.lemmas.Option.{none-some, same_Some}
+use Rattle.std.proofs.lemmas.Option.{none-some, same_Some, slice_get_within}
 use Rattle.std.proofs.lemmas.Slice.Zip.{AllZip-map}
 use Rattle.std.specs.List.{AllZip}
 use Rattle.std.specs.Prelude.{slice_get, slice_set, drop, take, replicate}
 use Rattle.std.proofs.lemmas.Bool.{cases_eq}
 use Rattle.std.proofs.lemmas.List.{map-append, map-id}
-
-pub cons-same : {A : Type 0} (x y : A) (xs ys : List A) → x ∷ xs ≡ y ∷ ys → (x ≡ y) × (xs ≡ ys)
-cons-same x y xs ys e = (cc, cc)
 
 -- a list with an item is not empty
 pub cons-nil : {A : Type 0} (x : A) (xs : List A) → (x ∷ xs) ≡ [] → ⊥
@@ -56,11 +53,9 @@ get-set_same [] i y h = absurd (omega arith)
 get-set_same (z ∷ xs) zero y h = refl
 get-set_same (z ∷ xs) (suc i) y h = get-set_same xs i y (omega arith)
 
--- an item in place of one that stands there
+-- an item that is written over one that stands there
 pub get-set_there : {A : Type 0} (xs : List A) (i : ℕ) (x y : A) → slice_get xs i ≡ Some x → slice_get (slice_set xs i y) i ≡ Some y
-get-set_there [] i x y h = absurd (none-some x h)
-get-set_there (z ∷ xs) zero x y h = refl
-get-set_there (z ∷ xs) (suc i) x y h = get-set_there xs i x y h
+get-set_there xs i x y h = get-set_same xs i y (slice_get_within xs i x h)
 
 pub get-set_other : {A : Type 0} (xs : List A) (i j : ℕ) (y : A) → j ≢ i → slice_get (slice_set xs i y) j ≡ slice_get xs j
 get-set_other [] i j y h = refl

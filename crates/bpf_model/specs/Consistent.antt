@@ -11,7 +11,7 @@ use Rattle.bpf_model.specs.Element.{Element, Unlinked, IsLinkedAt}
 use Rattle.bpf_model.specs.MapState.{MapState}
 use Rattle.bpf_model.specs.Machine.{Run, Machine, run_at}
 
--- each reference is to an element that was born
+-- the reference is to an element that was born, or to no element
 abbrev pub IsBorn : ℕ → Reference → Type 0
 IsBorn births (Elem n o) = n < births
 IsBorn births (Ctx o) = Unit {0}

@@ -29,8 +29,8 @@ ReadsRegister Exit r = r ≡ 0
 ReadsRegister (Store width dst offset src) r = Names src r
 ReadsRegister _ r = ⊥
 
--- The instruction writes the register, where it has no call and no map: what `ldmap` or a call leaves
--- there isn't counted.
+-- The instruction writes the register, where it has no call and no map: what `ldmap` or a call
+-- leaves there isn't counted.
 abbrev pub WritesRegister : Insn → ℕ → Type 0
 WritesRegister (Alu op size dst src) r = r ≡ dst
 WritesRegister (Unary op dst) r = r ≡ dst

@@ -46,15 +46,15 @@ pub record Lookup : Type 0 where
 
 -- Its six instructions: r2 becomes the key's address in the frame, r1 the map; then the call, a
 -- test for null that skips the load, and the load.
-pub data Part : Type 0 where
-  FrameCopy : Part
-  KeyAddress : Part
-  MapLoad : Part
-  LookupCall : Part
-  NullTest : Part
-  ValueLoad : Part
+pub data LookupPart : Type 0 where
+  FrameCopy : LookupPart
+  KeyAddress : LookupPart
+  MapLoad : LookupPart
+  LookupCall : LookupPart
+  NullTest : LookupPart
+  ValueLoad : LookupPart
 
-abbrev pub part_insn : Lookup → Part → Insn
+abbrev pub part_insn : Lookup → LookupPart → Insn
 part_insn l FrameCopy = Alu Move Word64 2 (Register 10)
 part_insn l KeyAddress = Alu Add Word64 2 (Immediate l.offset)
 part_insn l MapLoad = LoadMap 1 (pos l.map)
@@ -63,7 +63,7 @@ part_insn l NullTest = JumpIf Equal Word64 0 (Immediate (pos 0)) (pos 1)
 part_insn l ValueLoad = l.load
 
 -- how many slots behind the first each of them begins
-abbrev pub part_slot : Part → ℕ
+abbrev pub part_slot : LookupPart → ℕ
 part_slot FrameCopy = 0
 part_slot KeyAddress = 1
 part_slot MapLoad = 2
@@ -81,15 +81,15 @@ pub record IsFitting (shapes : List MapShape) (l : Lookup) : Type 0 where
 -- From this slot on stands a guarded lookup, and no jump leads into its middle.
 pub record IsGuardedLookup (program : List Insn) (shapes : List MapShape) (start : ℕ) : Type 0 where
   pub lookup : Lookup
-  pub parts : (p : Part) → insn_at program (start + part_slot p) ≡ Some (part_insn lookup p)
+  pub parts : (p : LookupPart) → insn_at program (start + part_slot p) ≡ Some (part_insn lookup p)
   pub fitting : IsFitting shapes lookup
   pub entered : (place target : ℕ) (i : Insn) → insn_at program place ≡ Some i →
       JumpsTo i place target
       → start < target → target ≤ start + part_slot ValueLoad → ⊥
 
 -- the instruction at the slot is part of a guarded lookup
-abbrev pub IsPart : List Insn → List MapShape → ℕ → Type 0
-IsPart program shapes place =
+abbrev pub IsLookupPart : List Insn → List MapShape → ℕ → Type 0
+IsLookupPart program shapes place =
     (start : ℕ) × IsGuardedLookup program shapes start × (start ≤ place)
     × (place ≤ start + part_slot ValueLoad)
 
@@ -97,7 +97,7 @@ IsPart program shapes place =
 -- call and map
 abbrev pub HasForm : List Insn → List MapShape → ℕ → Insn → Type 0
 HasForm program shapes place i =
-    IsPart program shapes place ⊎ ((i ≡ lock_call) ⊎ ((i ≡ unlock_call) ⊎ IsSimple i))
+    IsLookupPart program shapes place ⊎ ((i ≡ lock_call) ⊎ ((i ≡ unlock_call) ⊎ IsSimple i))
 
 -- the instruction is no lock and no unlock
 abbrev pub KeepsSection : Insn → Type 0
@@ -126,7 +126,7 @@ pub data LacksRegister (program : List Insn) (shapes : List MapShape) (r : ℕ) 
       → (i ≡ lock_call) ⊎ ((i ≡ unlock_call) ⊎ (i ≡ lookup_call)) → r ≤ 5 → GoesTo i place target
       → LacksRegister program shapes r target
   lacks_next : (place target : ℕ) (i : Insn) → LacksRegister program shapes r place
-      → insn_at program place ≡ Some i → (WritesRegister i r → IsPart program shapes place) →
+      → insn_at program place ≡ Some i → (WritesRegister i r → IsLookupPart program shapes place) →
       GoesTo i place target
       → LacksRegister program shapes r target
 
@@ -142,15 +142,17 @@ pub record IsPlainWithMaps (program : List Insn) (shapes : List MapShape) : Type
       InSection program false place → ⊥
   pub exit_outside : (place : ℕ) → insn_at program place ≡ Some Exit →
       InSection program true place → ⊥
-  pub lookup_inside : (place : ℕ) → IsPart program shapes place → InSection program false place → ⊥
+  pub lookup_inside : (place : ℕ) → IsLookupPart program shapes place →
+      InSection program false place → ⊥
   -- r10 isn't written, and only the accesses to the frame and the guarded lookups read it
   pub frame_pointer : (place : ℕ) (i : Insn) → insn_at program place ≡ Some i
-      → (IsPart program shapes place → ⊥) → (WritesRegister i 10 → ⊥) × (ReadsRegister i 10 → ⊥)
+      → (IsLookupPart program shapes place → ⊥) →
+      (WritesRegister i 10 → ⊥) × (ReadsRegister i 10 → ⊥)
   -- each register and each byte of the frame is written before it is read
   pub registers : (place : ℕ) (i : Insn) (r : ℕ) → insn_at program place ≡ Some i
-      → (IsPart program shapes place → ⊥) → ReadsRegister i r →
+      → (IsLookupPart program shapes place → ⊥) → ReadsRegister i r →
       LacksRegister program shapes r place → ⊥
   pub bytes : (place : ℕ) (i : Insn) (k : ℕ) → insn_at program place ≡ Some i
-      → (IsPart program shapes place → ⊥) → ReadsByte i k → WithoutByte program k place → ⊥
+      → (IsLookupPart program shapes place → ⊥) → ReadsByte i k → WithoutByte program k place → ⊥
   pub keys : (start k : ℕ) (guarded : IsGuardedLookup program shapes start) → guarded.lookup.at ≤ k
       → k < guarded.lookup.at + guarded.lookup.shape.key_len → WithoutByte program k start → ⊥

@@ -32,8 +32,8 @@ pub record IsElementKept (es : List Element) (k n : ℕ) (e : Element) : Type 0 
   pub in_map : e.map ≡ k
   pub kept : is_reclaimed e.life ≡ false
 
--- The map slots of a map: as many as its shape says; each free one is one of them and stands once among
--- the free.
+-- The map slots of a map: as many as its shape says; each free one is one of them and stands once
+-- among the free.
 pub record SlotsStand (v : MapView) : Type 0 where
   pub room : length v.slots ≡ slots_of_shape v.shape
   pub once : (i : ℕ) → times i v.free ≤ 1
@@ -54,7 +54,7 @@ pub record ElementsStand (slots : List ℕ) (k : ℕ) (es : List Element) (v : M
       get v.index key ≡ Some (slice_index slots n)
   pub counted : len v.index ≡ linked_count k es
 
--- the lists of a view, and those of the births, each birth by its slot
+-- the lists of a view, and those of the births, each birth by its map slot
 abbrev pub lists_of : MapView → Queues
 lists_of v = record { next = v.next; waiting = v.waiting; ready = v.ready }
 
@@ -65,7 +65,8 @@ named slots q = record {
   ready = map (slice_index slots) q.ready;
 }
 
--- Map k: its state and its lists are what the view shows, and its map slots and elements stand in it.
+-- Map k: its state and its lists are what the view shows, and its map slots and elements stand in
+-- it.
 pub record MapRefines (slots : List ℕ) (k : ℕ) (es : List Element) (q : Queues) (v : MapView)
     (m : MapState) : Type 0 where
   pub state : m ≡ map_state_of v
@@ -97,8 +98,8 @@ RunSlotRefines slots es programs (Some (Some w)) (Some (Some run)) =
     RunRefines slots es programs w run
 RunSlotRefines slots es programs w run = ⊥
 
--- The world refines the schedule's machine. The map slots are those of all births, in order; like the
--- elements, this list only grows.
+-- The world refines the schedule's machine. The map slots are those of all births, in order; like
+-- the elements, this list only grows.
 pub record RefinesSchedule (w : WorldView) (s : Schedule) : Type 0 where
   pub slots : List ℕ
   pub named : length slots ≡ length s.machine.store.elements

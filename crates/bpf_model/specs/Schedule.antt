@@ -59,8 +59,8 @@ unlinked_between map n (old ∷ olds) (new ∷ news) =
     else unlinked_between map (suc n) olds news
 unlinked_between map n olds news = []
 
--- An unlinked element goes to the end of its map's list next: of the lists of map k, and of those of
--- all maps, the first of which are map k's.
+-- An unlinked element goes to the end of its map's list next: of the lists of map k, and of those
+-- of all maps, the first of which are map k's.
 abbrev pub retired_in : ℕ → List Element → List Element → Queues → Queues
 retired_in k old new q = record {
   next = q.next ++ unlinked_between k 0 old new;
@@ -126,7 +126,7 @@ TakesFirst s Reap (Reaped (Some element)) m =
 TakesFirst s event answer m = Unit {0}
 
 -- A new element takes the map slot that has been free longest: the bag is a queue, to whose end a
--- reclaimed slot goes.
+-- reclaimed map slot goes.
 abbrev pub TakesOldest : Store → Store → Type 0
 TakesOldest old new =
     (e : Element) (before after : MapState) →

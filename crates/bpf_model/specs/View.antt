@@ -111,6 +111,10 @@ shape_of_view v = v.shape
 abbrev pub shapes_of_maps : List MapView → List MapShape
 shapes_of_maps maps = map shape_of_view maps
 
+-- nothing has happened to these maps: each is a new one of its shape
+abbrev pub AreNewMaps : List MapView → Type 0
+AreNewMaps maps = maps ≡ map new_map_view (shapes_of_maps maps)
+
 -- The shapes of a world's maps.
 abbrev pub shapes_of : WorldView → List MapShape
 shapes_of w = shapes_of_maps w.maps

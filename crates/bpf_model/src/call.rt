@@ -16,7 +16,7 @@ pub enum KernelFunction {
     ReadUnlock,
 }
 
-/// Why a map operation is refused. In r0 the number is negative (`ret_word`), and so it is in the
+/// Why a map operation fails. In r0 the number is negative (`ret_word`), and so it is in the
 /// text of a script's answer.
 #[derive(Clone, Copy, Debug, PartialEq, Eq)]
 pub enum Errno {

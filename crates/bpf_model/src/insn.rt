@@ -44,11 +44,11 @@ pub enum SignExtension {
 /// a sign, which has a source of its own.
 #[derive(Clone, Copy, Debug, PartialEq, Eq)]
 pub enum UnaryOp {
-    /// NEG
+    /// NEG: zero less the register.
     Negate(Size),
-    /// END
+    /// END: the low bytes of the register in another order.
     ByteSwap { order: ByteOrder, width: SwapWidth },
-    /// MOVSX
+    /// MOVSX: the low bits of `src` as a signed number.
     MoveSigned { extension: SignExtension, src: Reg },
 }
 

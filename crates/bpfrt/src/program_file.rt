@@ -1,8 +1,8 @@
 //! The bytes of a program file, read in bounded memory where it is raw, and what they say.
-ghost use Rattle.std.specs.Prelude.{◌≡◌, List, [], ℕ, ◌++◌, ◌≤◌, length, map, IfOk, IfErr, IfSome, OnOk};
+ghost use Rattle.std.specs.Prelude.{List, [], ℕ, ◌++◌, ◌≤◌, length, IfOk, IfErr, IfSome, OnOk};
 ghost use Rattle.bpf_model.specs.declared.limits.TheConstants.{CTX_BYTES};
 ghost use Rattle.bpfrt.specs.Files.{HoldsBytes};
-ghost use Rattle.bpf_model.specs.View.{new_map_view, shapes_of_maps};
+ghost use Rattle.bpf_model.specs.View.{AreNewMaps};
 ghost use Rattle.bpfrt.specs.Outputs.{IsSourceOf, IsDecodeRefusal};
 
 use crate::report::Verdict;
@@ -43,8 +43,7 @@ pub enum FileBytes {
 fn source_of(alloc: Global, bytes: &[u8]) -> Result<Source, Verdict>
     ensures found { IfOk result (IsSourceOf bytes.now) }
     ensures limit { IfOk result (λ s. s.ctx_len ≤ CTX_BYTES) }
-    ensures maps { IfOk result (λ s.
-        s.registry.maps ≡ map new_map_view (shapes_of_maps s.registry.maps)) }
+    ensures maps { IfOk result (λ s. AreNewMaps s.registry.maps) }
     ensures fault { IfErr result (IsDecodeRefusal bytes.now) }
 {
     let file = load(alloc, bytes)?;
@@ -94,8 +93,7 @@ impl FileBytes {
             IfOk result (IsSourceOf bytes) }
         ensures limit { IfOk result (λ s. s.ctx_len ≤ CTX_BYTES) }
         // Nothing has happened to the source's maps.
-        ensures maps { IfOk result (λ s.
-            s.registry.maps ≡ map new_map_view (shapes_of_maps s.registry.maps)) }
+        ensures maps { IfOk result (λ s. AreNewMaps s.registry.maps) }
         ensures fault { (bytes : List ℕ) → HoldsBytes self.now bytes →
             IfErr result (IsDecodeRefusal bytes) }
     {

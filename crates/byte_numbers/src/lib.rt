@@ -1,5 +1,5 @@
-//! Little-endian numbers in memory (RFC 9669, section 5.1; that memory is little-endian is own): the
-//! reads and writes of the frame, of a context and of an element's value.
+//! Little-endian numbers in memory (RFC 9669, section 5.1; that memory is little-endian is this runtime's
+//! choice): the reads and writes of the frame, of a context and of an element's value.
 #![tactic(auto)]
 
 ghost use Rattle.std.specs.Prelude.{◌≡◌, ◌+◌, ◌<◌, ◌≤◌, length, slice_get, Some};

@@ -97,7 +97,8 @@ fn update(state: &mut AbsState, shapes: &[MapShape]) -> Result<(), Fault>
         → PerformsCall CallKind.Helper imm shapes.now state.old state.new) }
     ensures accepts { (map : ℕ) (shape : MapShape) (q : Scalar)
         → kind_in state.old.regs 1 ≡ RegKind.Map map → slice_get shapes.now map ≡ Some shape
-        → HasBytes (state_of state.old) 2 shape.key_len → HasBytes (state_of state.old) 3 shape.value_len
+        → HasBytes (state_of state.old) 2 shape.key_len
+        → HasBytes (state_of state.old) 3 shape.value_len
         → kind_in state.old.regs 4 ≡ RegKind.Num q → IsOk result }
     ensures below { (top : ℕ) → AreBelow top state.old → AreBelow top state.new }
     ensures unchanged { OnErr result (state.new ≡ state.old) }

@@ -1,5 +1,5 @@
 -- What operations give, from operands of these kinds.
-use Rattle.std.proofs.Common.{◌≡◌, ℕ, ◌+◌, ◌^◌, ◌<◌, ◌≤◌, List, length, Some, None, inl, refl, sym, ap, subst, ◌∙◌, ℤ, pos, arith, true, false}
+use Rattle.std.proofs.Common.{◌≡◌, ℕ, ◌+◌, ◌^◌, ◌<◌, ◌≤◌, List, length, Some, None, inl, refl, sym, ap, ap₂, subst, ◌∙◌, ℤ, pos, arith, true, false}
 use Rattle.std.specs.Prelude.{◌+ℤ◌, if◌then◌else◌}
 use Rattle.std.proofs.lemmas.Int.{ints}
 use Rattle.std.proofs.lemmas.Bool.{lt-ltb}
@@ -36,7 +36,6 @@ use Rattle.typed_runs.proofs.Sets.{set-described}
 use Rattle.typed_runs.proofs.Arguments.{reg-is}
 use Rattle.typed_runs.proofs.Local.{alone_transfers}
 use Rattle.typed_runs.proofs.Elements.{set-is}
-use Rattle.scalar_domain.proofs.Bits.{ap2}
 use Rattle.typed_runs.proofs.Planning.{to_alike}
 use Rattle.register_kinds.specs.declared.kind.RegKind.{RegKind}
 use Rattle.register_kinds.specs.declared.kind.RegKind.TheVariants as kinds
@@ -55,7 +54,7 @@ numbers_combine size op x y a b r e f sound =
     subst (λ k. Combines size op (kind_of k) (kind_of y) (Num r)) (sym e) (subst (λ k. Combines size op (Num a) (kind_of k) (Num r)) (sym f)
     (λ c ρ v w i j near. (
       Number (alu size op i.0 j.0),
-      ap2 (computed size op) i.1 j.1 ∙ computed_numbers size op i.0 j.0,
+      ap₂ (computed size op) i.1 j.1 ∙ computed_numbers size op i.0 j.0,
       (alu size op i.0 j.0, refl, alu_lt size op i.0 j.0 i.2 j.2, sound i.0 j.0 i.2 j.2 i.3 j.3),
       tt,
     )))
@@ -68,19 +67,19 @@ near-offset t o h =
     (omega (arith, ints, e, l), omega (arith, ints, e, l))
 
 ctx-moved : (way : Way) (size : Size) (op : AluOp) (o : ℤ) (n : ℕ) → IsMove way size op → computed size op (Pointer (Ctx o)) (Number n) ≡ Some (Pointer (Ctx (o +ℤ signed_move way n)))
-ctx-moved Forward size op o n h = ap2 (λ s p. computed s p (Pointer (Ctx o)) (Number n)) h.0 h.1
-ctx-moved Back size op o n h = ap2 (λ s p. computed s p (Pointer (Ctx o)) (Number n)) h.0 h.1
+ctx-moved Forward size op o n h = ap₂ (λ s p. computed s p (Pointer (Ctx o)) (Number n)) h.0 h.1
+ctx-moved Back size op o n h = ap₂ (λ s p. computed s p (Pointer (Ctx o)) (Number n)) h.0 h.1
 
 element-moved : (way : Way) (size : Size) (op : AluOp) (e : ℕ) (o : ℤ) (n : ℕ) → IsMove way size op → computed size op (Pointer (Elem e o)) (Number n) ≡ Some (Pointer (Elem e (o +ℤ signed_move way n)))
-element-moved Forward size op e o n h = ap2 (λ s p. computed s p (Pointer (Elem e o)) (Number n)) h.0 h.1
-element-moved Back size op e o n h = ap2 (λ s p. computed s p (Pointer (Elem e o)) (Number n)) h.0 h.1
+element-moved Forward size op e o n h = ap₂ (λ s p. computed s p (Pointer (Elem e o)) (Number n)) h.0 h.1
+element-moved Back size op e o n h = ap₂ (λ s p. computed s p (Pointer (Elem e o)) (Number n)) h.0 h.1
 
 pub context_moves : (way : Way) (x : RegKind) (s by t : Scalar) → x ≡ kinds.Ctx s → MovesOffsets way s by t → (size : Size) (op : AluOp) → IsMove way size op → Combines size op (kind_of x) (Num by) (CtxAt t)
 context_moves way x s by t e moves size op is = subst (λ k. Combines size op (kind_of k) (Num by) (CtxAt t)) (sym e) (λ c ρ v w i j near.
     let there = moves i.offset j.0 i.there j.2 j.3 in
     let o : ℤ = i.offset +ℤ signed_move way j.0 in (
       Pointer (Ctx o),
-      ap2 (computed size op) i.is j.1 ∙ ctx-moved way size op i.offset j.0 is,
+      ap₂ (computed size op) i.is j.1 ∙ ctx-moved way size op i.offset j.0 is,
       record { offset = o; is = refl; there = there },
       near-offset t o there,
     ))
@@ -90,7 +89,7 @@ value_moves way x map s by t e moves size op is = subst (λ k. Combines size op 
     let there = moves i.offset j.0 i.there j.2 j.3 in
     let o : ℤ = i.offset +ℤ signed_move way j.0 in (
       Pointer (Elem i.n o),
-      ap2 (computed size op) i.is j.1 ∙ element-moved way size op i.n i.offset j.0 is,
+      ap₂ (computed size op) i.is j.1 ∙ element-moved way size op i.n i.offset j.0 is,
       record { n = i.n; offset = o; is = refl; there = there; held = i.held },
       near-offset t o there,
     ))

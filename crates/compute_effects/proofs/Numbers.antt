@@ -23,9 +23,6 @@ same_immediate a b e = cc
 pub same_frame : (a b : ℤ) → kinds.Frame a ≡ kinds.Frame b → a ≡ b
 same_frame a b e = cc
 
-pub same_numbers : (a b : Scalar) → kinds.Num a ≡ kinds.Num b → a ≡ b
-same_numbers a b e = cc
-
 -- one number alone is what the set holds
 pub constant_holds : (s : Scalar) (n : ℕ) → IsConstant s n → Holds s n
 constant_holds s n e = record { least = omega (arith, e.least); greatest = omega (arith, e.greatest); zeros = e.zeros; ones = e.ones }

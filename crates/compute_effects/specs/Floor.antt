@@ -1,5 +1,5 @@
--- How much is known, at least, of the numbers that an operation leaves: as much as the scalar domain
--- promises of its result.
+-- How much is known, at least, of the numbers that an operation leaves: as much as the scalar
+-- domain promises of its result.
 use Rattle.std.specs.Prelude.{◌≡◌, ◌⊎◌}
 use Rattle.bpf_model.specs.Arithmetic.{immediate}
 use Rattle.bpf_model.specs.declared.insn.AluOp.{AluOp}
@@ -11,10 +11,7 @@ use Rattle.scalar_domain.specs.declared.scalar.Scalar.{Scalar}
 use Rattle.scalar_domain.specs.Constant.{constant_of}
 use Rattle.scalar_domain.specs.Floor.{KeepsFloor}
 use Rattle.typed_runs.specs.Kinds.{Kind, Num, AbsState}
-
--- the kind is that of numbers of which this is known
-abbrev pub IsNumbers : (Scalar → Type 0) → Kind → Type 0
-IsNumbers P k = (s : Scalar) × (k ≡ Num s) × P s
+use Rattle.kind_tests.specs.Performs.{IsNumbers}
 
 -- the kind of a second operand
 abbrev pub operand_kind : Operand → AbsState → Kind
@@ -26,7 +23,8 @@ abbrev pub CombinesKnown : Size → AluOp → Kind → Kind → Kind → Type 0
 CombinesKnown size op x y k =
     (a b : Scalar) → x ≡ Num a → y ≡ Num b → IsNumbers (KeepsFloor size op a b) k
 
--- So do all operations, of which a move reads nothing of its first operand.
+-- Of numbers any operation leaves numbers as narrow as the scalar domain promises; of a move the
+-- first operand may be of any kind, since it is not read.
 abbrev pub LeavesKnown : Size → AluOp → Kind → Kind → Kind → Type 0
 LeavesKnown size op x y k =
     (a b : Scalar) → (op ≡ Move) ⊎ (x ≡ Num a) → y ≡ Num b → IsNumbers (KeepsFloor size op a b) k

@@ -37,7 +37,7 @@ use Rattle.compute_effects.specs.Floor.{operand_kind}
 use Rattle.compute_effects.proofs.Known.{same_num}
 use Rattle.scalar_domain.specs.Floor.{KeepsEdgeFloor}
 
--- what is set, and what stays
+-- the sides of a comparison become numbers, and all else stays as it is
 pub narrowed_one : (dst : ℕ) (src : Operand) (imm : ℤ) (x : Scalar) (a b : StateHere) → src ≡ Immediate imm → AreAlike (with_kind dst (Num x) (state_of a)) (state_of b) → AreNarrowed dst src (state_of a) (state_of b)
 narrowed_one dst src imm x a b is e = subst (λ (o : Operand). AreNarrowed dst o (state_of a) (state_of b)) (sym is) (record {
   sides = λ r p. elim p [

@@ -40,16 +40,17 @@ pub record SetsSides (dst : ℕ) (src : Operand) (x y : Scalar) (b : Known) : Ty
   pub first : b.regs dst ≡ Num x
   pub second : (r : ℕ) → Names src r → (r ≡ dst → ⊥) → b.regs r ≡ Num y
 
--- On an edge both sides hold numbers that are as narrow as the scalar domain promises.
-pub record IsEdge (size : Size) (condition : Condition) (taken : Bool) (dst : ℕ) (src : Operand)
+-- Of a comparison of numbers in these two sets: on this edge both sides hold numbers that are as
+-- narrow as the scalar domain promises.
+pub record KeepsSides (size : Size) (condition : Condition) (taken : Bool) (dst : ℕ) (src : Operand)
     (x y : Scalar) (b : Known) : Type 0 where
   pub left : Scalar
   pub right : Scalar
   pub sides : SetsSides dst src left right b
   pub floor : KeepsEdgeFloor size condition taken x y left right
 
--- So it is where numbers are compared.
+-- On this edge the second state knows both sides so where they are numbers in the first.
 abbrev pub NarrowsKnown : Size → Condition → Bool → ℕ → Operand → Known → Known → Type 0
 NarrowsKnown size condition taken dst src a b =
     (x y : Scalar) → a.regs dst ≡ Num x → operand_kind src a ≡ Num y →
-    IsEdge size condition taken dst src x y b
+    KeepsSides size condition taken dst src x y b

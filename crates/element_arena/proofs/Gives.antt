@@ -9,7 +9,7 @@ use Rattle.element_arena.specs.State.{IsTaken, ArenaState, given_back, is_last_u
 use Rattle.element_arena.specs.declared.cell.SlotCell.{SlotCell}
 use Rattle.element_arena.specs.declared.cell.Standing.TheVariants.{Free, Worn}
 use Rattle.element_arena.specs.Kept.{IsThreaded, AreCellsKept, IsLaidOut, arena_state_of, free_of, state_with, slots_shown, free_count, taken_count, first_with, linked_behind, given_cell}
-use Rattle.element_arena.proofs.Keeps.{IsHeld, kept_from, taken_at, wear, free_again, last_free, length-behind}
+use Rattle.element_arena.proofs.Keeps.{IsTakenCell, kept_from, taken_at, wear, free_again, last_free, length-behind}
 use Rattle.element_arena.proofs.Threading.{last-held}
 use Rattle.element_arena.proofs.Views.{wear_view, free_view, behind_view, last_use_is}
 use Rattle.element_arena.proofs.Slots.{held_from, state-is, shown-same, shown-behind, shown-uses, laid-out}
@@ -25,7 +25,7 @@ in_range (Some l) n h = h l refl
 
 module _ (kl vl limit : ℕ) (cells : List SlotCell) (first last : Option ℕ) (ks vs : List ℕ) (i : ℕ) (a : ArenaState) (e : arena_state_of cells first ks vs kl vl limit ≡ a)
     (k : AreCellsKept cells first last limit × IsLaidOut cells ks vs kl vl) (t : IsTaken a i) where
-  pub held : IsHeld cells first i
+  pub held : IsTakenCell cells first i
   held = held_from kl vl limit cells first ks vs i (subst (λ (b : ArenaState). IsTaken b i) (sym e) t)
 
   module _ (c : SlotCell) (at : slice_get cells i ≡ Some c) where

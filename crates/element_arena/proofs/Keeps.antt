@@ -21,7 +21,7 @@ pub kept_from : (cells : List SlotCell) (first last : Option ℕ) (limit : ℕ) 
 kept_from cells first last limit ys t = subst (IsThreaded cells first last limit) (sym (free-is cells first last limit ys t)) t
 
 -- what a taken slot's cell is known by
-pub record IsHeld (cells : List SlotCell) (first : Option ℕ) (i : ℕ) : Type 0 where
+pub record IsTakenCell (cells : List SlotCell) (first : Option ℕ) (i : ℕ) : Type 0 where
   pub inside : i < length cells
   pub not_free : times_in i (free_of cells first) ≡ 0
   pub not_worn : worn_at (map (λ c. is_worn c.standing) cells) i ≡ 0
@@ -115,7 +115,7 @@ module _ (cells : List SlotCell) (first last : Option ℕ) (limit : ℕ) where
   is_taken Taken h w = refl
   is_taken Worn h w = absurd (omega arith)
 
-  pub taken_cell : (i : ℕ) → AreCellsKept cells first last limit → IsHeld cells first i → (c : SlotCell) × (slice_get cells i ≡ Some c) × (c.standing ≡ Taken) × (times_in i (free_of cells first) ≡ 0) × (i < length cells)
+  pub taken_cell : (i : ℕ) → AreCellsKept cells first last limit → IsTakenCell cells first i → (c : SlotCell) × (slice_get cells i ≡ Some c) × (c.standing ≡ Taken) × (times_in i (free_of cells first) ≡ 0) × (i < length cells)
   taken_cell i k t =
       let in_ : i < length cells = t.inside in
       let c = get-below cells i in_ in
@@ -210,17 +210,17 @@ module _ (cells : List SlotCell) (first last : Option ℕ) (limit : ℕ) where
             small = k.small;
           }))
 
-  pub taken_at : (i : ℕ) (c : SlotCell) → AreCellsKept cells first last limit → IsHeld cells first i → slice_get cells i ≡ Some c → (c.standing ≡ Taken) × (times_in i (free_of cells first) ≡ 0)
+  pub taken_at : (i : ℕ) (c : SlotCell) → AreCellsKept cells first last limit → IsTakenCell cells first i → slice_get cells i ≡ Some c → (c.standing ≡ Taken) × (times_in i (free_of cells first) ≡ 0)
   taken_at i c k t at = let s = taken_cell i k t in (ap (λ (z : SlotCell). z.standing) (same_Some _ _ (sym at ∙ s.1)) ∙ s.2, s.3)
 
-  pub relink : (i : ℕ) (c : SlotCell) (to : Option ℕ) → AreCellsKept cells first last limit → IsHeld cells first i → slice_get cells i ≡ Some c → IsThreaded (slice_set cells i (record c { link = to })) first last limit (free_of cells first)
+  pub relink : (i : ℕ) (c : SlotCell) (to : Option ℕ) → AreCellsKept cells first last limit → IsTakenCell cells first i → slice_get cells i ≡ Some c → IsThreaded (slice_set cells i (record c { link = to })) first last limit (free_of cells first)
   relink i c to k t at =
       let s = taken_at i c k t at in
       let f : free_count c.standing ≡ 0 = ap free_count s.0 in
       let u : c.uses + free_count c.standing ≤ limit = k.used i c at in
       stays i c (record c { link = to }) k s.1 at f (omega arith) (k.given i c at)
 
-  pub wear : (i : ℕ) (c : SlotCell) → AreCellsKept cells first last limit → IsHeld cells first i → slice_get cells i ≡ Some c →
+  pub wear : (i : ℕ) (c : SlotCell) → AreCellsKept cells first last limit → IsTakenCell cells first i → slice_get cells i ≡ Some c →
       IsThreaded (slice_set cells i (given_cell c Worn)) first last limit (free_of cells first)
   wear i c k t at =
       let s = taken_at i c k t at in
@@ -230,7 +230,7 @@ module _ (cells : List SlotCell) (first last : Option ℕ) (limit : ℕ) where
       let v : c.generation + taken_count c.standing ≤ c.uses = k.given i c at in
       stays i c (given_cell c Worn) k s.1 at refl (omega arith) (omega arith)
 
-  pub free_again : (i : ℕ) (c : SlotCell) → AreCellsKept cells first last limit → IsHeld cells first i → slice_get cells i ≡ Some c → c.uses ≢ limit →
+  pub free_again : (i : ℕ) (c : SlotCell) → AreCellsKept cells first last limit → IsTakenCell cells first i → slice_get cells i ≡ Some c → c.uses ≢ limit →
       IsThreaded (linked_behind (slice_set cells i (given_cell c Free)) last i) (first_with first last i) (Some i) limit (free_of cells first ++ i ∷ [])
   free_again i c k t at ne =
       let s = taken_at i c k t at in

@@ -8,7 +8,7 @@ use Rattle.element_arena.specs.State.{ArenaState, IsTaken, key_at, value_at, gen
 use Rattle.element_arena.specs.Blocks.{block, with_block}
 use Rattle.element_arena.specs.Kept.{shown_bytes, slots_shown, state_with, arena_state_of, free_of, IsThreaded, AreCellsKept, IsLaidOut, taken_count, relinked, linked_behind}
 use Rattle.element_arena.specs.declared.cell.SlotCell.{SlotCell}
-use Rattle.element_arena.proofs.Keeps.{IsHeld, free-is, taken_cell}
+use Rattle.element_arena.proofs.Keeps.{IsTakenCell, free-is, taken_cell}
 use Rattle.element_arena.proofs.BlockLaws.{room, block-zero, block-suc, times-suc, first-here, rest-here, first-past, rest-past}
 use Rattle.bpf_model.proofs.Lists.{get-below, get-map}
 
@@ -19,7 +19,7 @@ pub length-shown : (kl vl : ℕ) (cells : List SlotCell) (ks vs : List ℕ) → 
 length-shown kl vl [] ks vs = refl
 length-shown kl vl (c ∷ cells) ks vs = ap suc (length-shown kl vl cells (drop kl ks) (drop vl vs))
 
-pub held_from : (kl vl limit : ℕ) (cells : List SlotCell) (first : Option ℕ) (ks vs : List ℕ) (i : ℕ) → IsTaken (arena_state_of cells first ks vs kl vl limit) i → IsHeld cells first i
+pub held_from : (kl vl limit : ℕ) (cells : List SlotCell) (first : Option ℕ) (ks vs : List ℕ) (i : ℕ) → IsTaken (arena_state_of cells first ks vs kl vl limit) i → IsTakenCell cells first i
 held_from kl vl limit cells first ks vs i t =
     record { inside = subst (λ n. i < n) (length-shown kl vl cells ks vs) t.inside; not_free = t.not_free; not_worn = t.not_worn }
 
@@ -144,7 +144,7 @@ shown-stored kl vl new cells ks vs i c at some e lv =
         ∙ ap (λ l. record { key = shown_bytes b.uses (take kl ks); value = shown_bytes b.uses (take (length new) vs); uses = b.uses } ∷ l) (stored cells (drop kl ks) (drop (length new) vs) i at lv'))
 
 -- a taken slot was used
-pub used_of : (cells : List SlotCell) (first last : Option ℕ) (limit i : ℕ) → AreCellsKept cells first last limit → IsHeld cells first i → (c : SlotCell) × (slice_get cells i ≡ Some c) × (c.uses ≡ 0 → ⊥)
+pub used_of : (cells : List SlotCell) (first last : Option ℕ) (limit i : ℕ) → AreCellsKept cells first last limit → IsTakenCell cells first i → (c : SlotCell) × (slice_get cells i ≡ Some c) × (c.uses ≡ 0 → ⊥)
 used_of cells first last limit i k h =
     let t = taken_cell cells first last limit i k h in
     let g : t.0.generation + taken_count t.0.standing ≤ t.0.uses = k.given i t.0 t.1 in

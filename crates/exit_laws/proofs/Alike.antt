@@ -22,7 +22,8 @@ use Rattle.bpf_model.specs.MapState.{Store}
 use Rattle.bpf_model.specs.Machine.{Loaded, Run, environment, fresh_run}
 use Rattle.bpf_model.specs.MachineStep.{OutcomeStep, KernelStep, InsnStep, RunStep}
 use Rattle.bpf_model.specs.Value.{◌>>=◌, number}
-use Rattle.model_laws.specs.Alone.{HoldsState, IsOwn, SharesNothing}
+use Rattle.bpf_model.specs.Holds.{HoldsState}
+use Rattle.model_laws.specs.Alone.{IsOwn, SharesNothing}
 use Rattle.model_laws.proofs.Alone.{insn-all, helper-own, acts-own, starts_sharing_nothing, stays_sharing_nothing}
 use Rattle.typed_runs.proofs.Reaching.{same-insn}
 

@@ -5,7 +5,7 @@ use Rattle.std.specs.Ordering.{nat_cmp, is_lt, ordering_reverse}
 use Rattle.std.specs.declared.cmp.Ordering.{Ordering}
 use Rattle.std.specs.declared.cmp.Ordering.TheVariants.{Less, Equal, Greater}
 use Rattle.std.specs.Cmp.Lexicographic.{slice_cmp}
-use Rattle.std.proofs.lemmas.Bool.{false≢true}
+use Rattle.std.proofs.lemmas.Bool.{cases_order, false≢true}
 use Rattle.std.proofs.lemmas.Cmp.{nat_list_cmp_total, tied_itself}
 use Rattle.std.proofs.lemmas.Map.Lookups.{exact_bytes}
 use Rattle.std.proofs.lemmas.Option.{none-some, same_Some, slice_get_within}
@@ -37,35 +37,23 @@ less_or_more a b ne not_less = by (slice_cmp nat_cmp a b) refl
     by Equal h = absurd (ne (exact_bytes a b h))
     by Greater h = nat_list_cmp_total.antisymm b a ∙ ap ordering_reverse h
 
-index_cases : (i p : ℕ) → (i < p) ⊎ ((i ≡ p) ⊎ (p < i))
-index_cases zero zero = inr (inl refl)
-index_cases zero (suc p) = inl (omega arith)
-index_cases (suc i) zero = inr (inr (omega arith))
-index_cases (suc i) (suc p) = elim (index_cases i p) [
-  | inl l ↦ inl (omega arith)
-  | inr r ↦ elim r [
-    | inl e ↦ inr (inl (ap suc e))
-    | inr g ↦ inr (inr (omega arith))
-  ]
-]
-
 module _ (key : ℕ → List ℕ) (xs : List ℕ) (k : List ℕ) where
   -- the search by halves goes on above the middle
   pub halved_below : (m s : ℕ) → IsAscending key xs → slice_get xs m ≡ Some s → IsLess (key s) k → (i t : ℕ) → i < m + 1 → slice_get xs i ≡ Some t → IsLess (key t) k
-  halved_below m s asc at l i t h g = elim (index_cases i m) [
-    | inl less ↦ less_trans (key t) (key s) k (asc i m t s less g at) l
+  halved_below m s asc at l i t h g = elim (cases_order i m) [
+    | inl e ↦ subst (λ z. IsLess (key z) k) (same_Some s t (sym at ∙ (ap (slice_get xs) (sym e) ∙ g))) l
     | inr r ↦ elim r [
-      | inl e ↦ subst (λ z. IsLess (key z) k) (same_Some s t (sym at ∙ (ap (slice_get xs) (sym e) ∙ g))) l
+      | inl less ↦ less_trans (key t) (key s) k (asc i m t s less g at) l
       | inr more ↦ absurd (omega arith)
     ]
   ]
 
   -- the search by halves goes on below the middle
   pub halved_above : (m s : ℕ) → IsAscending key xs → slice_get xs m ≡ Some s → (IsLess (key s) k → ⊥) → (i t : ℕ) → m ≤ i → slice_get xs i ≡ Some t → IsLess (key t) k → ⊥
-  halved_above m s asc at not_less i t h g l = elim (index_cases m i) [
-    | inl less ↦ not_less (less_trans (key s) (key t) k (asc m i s t less at g) l)
+  halved_above m s asc at not_less i t h g l = elim (cases_order m i) [
+    | inl e ↦ not_less (subst (λ z. IsLess (key z) k) (same_Some t s (sym g ∙ (ap (slice_get xs) (sym e) ∙ at))) l)
     | inr r ↦ elim r [
-      | inl e ↦ not_less (subst (λ z. IsLess (key z) k) (same_Some t s (sym g ∙ (ap (slice_get xs) (sym e) ∙ at))) l)
+      | inl less ↦ not_less (less_trans (key s) (key t) k (asc m i s t less at g) l)
       | inr more ↦ absurd (omega arith)
     ]
   ]
@@ -75,10 +63,10 @@ module _ (key : ℕ → List ℕ) (xs : List ℕ) (k : List ℕ) where
     pub not_at_position : IsAscending key xs → IsPosition key xs k p → ((s : ℕ) → slice_get xs p ≡ Some s → key s ≢ k) → (j : ℕ) → 0 < times_in j xs → key j ≢ k
     not_at_position asc f other j h e =
         let r = index_held xs j h in
-        elim (index_cases r.0 p) [
-          | inl less ↦ less_other (key j) k (f.below r.0 j less r.1) e
+        elim (cases_order r.0 p) [
+          | inl same ↦ other j (ap (slice_get xs) (sym same) ∙ r.1) e
           | inr q ↦ elim q [
-            | inl same ↦ other j (ap (slice_get xs) (sym same) ∙ r.1) e
+            | inl less ↦ less_other (key j) k (f.below r.0 j less r.1) e
             | inr more ↦
                 let in_ : r.0 < length xs = slice_get_within xs r.0 j r.1 in
                 let s = get-below xs p (omega arith) in
@@ -90,10 +78,10 @@ module _ (key : ℕ → List ℕ) (xs : List ℕ) (k : List ℕ) where
     pub stands_at : (j : ℕ) → IsAscending key xs → IsPosition key xs k p → 0 < times_in j xs → key j ≡ k → slice_get xs p ≡ Some j
     stands_at j asc f h e =
         let r = index_held xs j h in
-        elim (index_cases r.0 p) [
-          | inl less ↦ absurd (less_other (key j) k (f.below r.0 j less r.1) e)
+        elim (cases_order r.0 p) [
+          | inl same ↦ ap (slice_get xs) (sym same) ∙ r.1
           | inr q ↦ elim q [
-            | inl same ↦ ap (slice_get xs) (sym same) ∙ r.1
+            | inl less ↦ absurd (less_other (key j) k (f.below r.0 j less r.1) e)
             | inr more ↦ absurd (
                 let in_ : r.0 < length xs = slice_get_within xs r.0 j r.1 in
                 let s = get-below xs p (omega arith) in
@@ -104,10 +92,10 @@ module _ (key : ℕ → List ℕ) (xs : List ℕ) (k : List ℕ) where
     -- the keys above one that stands at its position begin behind it
     pub above_after : (s : ℕ) → IsAscending key xs → IsPosition key xs k p → slice_get xs p ≡ Some s → key s ≡ k → IsPositionAbove key xs (Some k) (p + 1)
     above_after s asc f at e = record {
-      below = λ i t h g l. elim (index_cases i p) [
-        | inl less ↦ less_not_back (key t) k (f.below i t less g) l
+      below = λ i t h g l. elim (cases_order i p) [
+        | inl same ↦ less_other k (key t) l (sym e ∙ ap key (same_Some s t (sym at ∙ (ap (slice_get xs) (sym same) ∙ g))))
         | inr q ↦ elim q [
-          | inl same ↦ less_other k (key t) l (sym e ∙ ap key (same_Some s t (sym at ∙ (ap (slice_get xs) (sym same) ∙ g))))
+          | inl less ↦ less_not_back (key t) k (f.below i t less g) l
           | inr more ↦ absurd (omega arith)
         ]
       ];
@@ -132,10 +120,10 @@ module _ (key : ℕ → List ℕ) (xs : List ℕ) (k : List ℕ) (p : ℕ) where
   unique-ascending asc i j hi hj e =
       let a = index_held xs i hi in
       let b = index_held xs j hj in
-      elim (index_cases a.0 b.0) [
-        | inl less ↦ absurd (less_other (key i) (key j) (asc a.0 b.0 i j less a.1 b.1) e)
+      elim (cases_order a.0 b.0) [
+        | inl same ↦ same_Some i j (sym a.1 ∙ (ap (slice_get xs) same ∙ b.1))
         | inr q ↦ elim q [
-          | inl same ↦ same_Some i j (sym a.1 ∙ (ap (slice_get xs) same ∙ b.1))
+          | inl less ↦ absurd (less_other (key i) (key j) (asc a.0 b.0 i j less a.1 b.1) e)
           | inr more ↦ absurd (less_other (key j) (key i) (asc b.0 a.0 j i more b.1 a.1) (sym e))
         ]
       ]
@@ -147,10 +135,10 @@ module _ (key : ℕ → List ℕ) (xs : List ℕ) (bound : Option (List ℕ)) (p
     f.above p s (omega arith) at,
     λ j h a l.
         let r = index_held xs j h in
-        elim (index_cases r.0 p) [
-          | inl less ↦ f.below r.0 j less r.1 a
+        elim (cases_order r.0 p) [
+          | inl same ↦ less_other (key j) (key s) l (ap key (same_Some j s (sym r.1 ∙ (ap (slice_get xs) same ∙ at))))
           | inr q ↦ elim q [
-            | inl same ↦ less_other (key j) (key s) l (ap key (same_Some j s (sym r.1 ∙ (ap (slice_get xs) same ∙ at))))
+            | inl less ↦ f.below r.0 j less r.1 a
             | inr more ↦ less_not_back (key j) (key s) l (asc p r.0 s j more at r.1)
           ]
         ],

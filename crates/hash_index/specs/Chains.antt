@@ -5,7 +5,8 @@ use Rattle.std.specs.Prelude.{bit_xor}
 use Rattle.std.specs.Prelude.{List, [], ◌∷◌, ◌++◌, Option, cond, drop, eqb, length}
 use Rattle.element_arena.specs.State.{ArenaState, IsTaken, link_at, key_at, times_in}
 use Rattle.element_arena.specs.Threads.{IsThread, walk}
-use Rattle.hash_index.specs.declared.hash.TheConstants.{FNV_OFFSET, FNV_PRIME, WORD_BYTES, WORD_FACTOR}
+use Rattle.hash_index.specs.declared.hash.TheConstants.{FNV_OFFSET, FNV_PRIME, WORD_BYTES}
+use Rattle.hash_index.specs.declared.hash.TheConstants.{WORD_FACTOR}
 use Rattle.hash_index.specs.Order.{IsLeastOf}
 
 -- FNV-1a of these bytes, in 64 bits, going on from h

@@ -6,7 +6,8 @@ use Rattle.bpf_model.specs.declared.call.Helper.{Helper}
 use Rattle.bpf_model.specs.View.{MapView, RunView}
 use Rattle.bpf_model.specs.Word.{map_base}
 use Rattle.world_laws.specs.Moving.{word_in}
-use Rattle.helpers.specs.Calls.{IsCall, called, called_on, called_at}
+use Rattle.world_laws.specs.Reaching.{IsCall}
+use Rattle.helpers.specs.Calls.{called, called_on, called_at}
 
 module _ (helper known : Helper) (bound : List ℕ) (maps : List MapView) (v : RunView) (c : IsCall helper bound maps v) (k id : ℕ) (at : k ≡ word_in v 1 - map_base) (is : id ≡ slice_index bound k) where
   numbered : id ≡ c.map

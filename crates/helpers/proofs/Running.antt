@@ -2,8 +2,6 @@
 use Rattle.std.proofs.Common.{◌≡◌, ◌∙◌, ℕ, ◌≤◌, refl, sym, ap, subst, Option, Some, None}
 use Rattle.std.specs.Prelude.{slice_get, option_map, ℤ}
 use Rattle.std.proofs.lemmas.Option.{none-some, same_Some}
-use Rattle.bpf_model.specs.declared.call.Helper.{Helper as HelperId}
-use Rattle.bpf_model.specs.declared.call.Helper.TheVariants.{Lookup, Update, Delete}
 use Rattle.bpf_model.specs.declared.call.KernelFunction.{KernelFunction}
 use Rattle.bpf_model.specs.declared.call.KernelFunction.TheVariants.{ReadLock, ReadUnlock}
 use Rattle.bpf_model.specs.declared.insn.CallKind.TheVariants.{Helper, Kernel}
@@ -23,7 +21,7 @@ use Rattle.world_laws.proofs.Flags.{flag, awaited_open}
 use Rattle.world_laws.specs.Local.{Goes, Asks, local_of, local_load, local_store}
 use Rattle.world_laws.specs.Locating.{location_of}
 use Rattle.world_laws.specs.Moving.{word_in, operand_word}
-use Rattle.world_laws.specs.Reaching.{Reaches, IsWritable, HasArguments}
+use Rattle.world_laws.specs.Reaching.{Reaches, IsWritable}
 use Rattle.world_laws.specs.Typed.{IsSound, IsRunning}
 use Rattle.world_laws.proofs.Ready.{refines}
 use Rattle.bpf_model.proofs.Cases.{run-behind}
@@ -32,7 +30,6 @@ use Rattle.world_laws.proofs.Reaching.{load_reaches, load_signed_reaches, store_
 use Rattle.machine.specs.declared.access.Access.{Access}
 use Rattle.machine.specs.declared.access.Access.TheVariants.{Call}
 use Rattle.machine.specs.Requests.{access_of, section_access}
-use Rattle.helpers.specs.Calls.{IsCall}
 use Rattle.helpers.specs.Elements.{ReachesElement}
 use Rattle.helpers.specs.Serving.{CanServe, IsFlagged}
 use Rattle.std.specs.Option.{option_flatten}
@@ -68,11 +65,6 @@ module _ (w : WorldView) (s : Schedule) (m : Matches w s) (sound : IsSound w s) 
         depth = subst (λ n. n ≤ MAX_DEPTH) (sym depth) (m.scheduled.consistent.deep r run k.there);
       }
 
-  calls : (helper : HelperId) → HasArguments helper w run.program v → IsCall helper run.program.maps w.maps v
-  calls Lookup c = record { map = c.map; view = c.view; named = c.bound; there = c.there; arguments = c.key; frame = (refines w s m sound r run v k).cells }
-  calls Delete c = record { map = c.map; view = c.view; named = c.bound; there = c.there; arguments = c.key; frame = (refines w s m sound r run v k).cells }
-  calls Update c = record { map = c.0.map; view = c.0.view; named = c.0.bound; there = c.0.there; arguments = (c.0.key, c.1); frame = (refines w s m sound r run v k).cells }
-
   abbrev Can : Access → Type 0
   Can access = CanServe access run.program.maps w.maps v
 
@@ -93,7 +85,7 @@ module _ (w : WorldView) (s : Schedule) (m : Matches w s) (sound : IsSound w s) 
       (stores-element w v (byte_count width) offset (operand_word v src) (location_of (word_in v dst)) (store_reaches w s m sound r run v k width dst offset src here) asks)
   can-here (insns.Call Helper imm) access here asks e =
       let x = helper_arguments w s m sound r run v k imm here in
-      subst Can (same_Some (Call x.0) access (ap (option_map Call) (sym x.1) ∙ e)) (calls x.0 x.2)
+      subst Can (same_Some (Call x.0) access (ap (option_map Call) (sym x.1) ∙ e)) x.2
   can-here (insns.Call Kernel imm) access here asks e = passes (kernel_function_of imm) access e
   can-here i access here asks e = absurd (none-some access e)
 

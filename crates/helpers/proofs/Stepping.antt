@@ -2,7 +2,7 @@
 use Rattle.std.proofs.Common.{◌≡◌, ◌∙◌, ℕ, ◌+◌, ◌-◌, ◌≤◌, refl, sym, ap, subst, arith, List, Option, Some, None, Bool, true, false}
 use Rattle.std.specs.Prelude.{slice_get, slice_set, nat_lt, option_map, ℤ, pos, negsuc, ◌+ℤ◌}
 use Rattle.std.proofs.lemmas.Option.{none-some, same_Some}
-use borrow.Author.Tests.{lt-ltb, le-ltb}
+use Rattle.std.proofs.lemmas.Bool.{lt-ltb, le-ltb}
 use Rattle.bpf_model.specs.declared.call.Helper.{Helper as HelperId}
 use Rattle.bpf_model.specs.declared.call.Helper.TheVariants.{Lookup, Update, Delete}
 use Rattle.bpf_model.specs.declared.call.KernelFunction.{KernelFunction}
@@ -35,7 +35,8 @@ use Rattle.machine.specs.declared.access.Local as code
 use Rattle.machine.specs.declared.access.Local.TheVariants as code_answers
 use Rattle.machine.specs.Steps.{IsLocalStep}
 use Rattle.machine.specs.Requests.{access_of, section_access, entered_view, resumed_view}
-use Rattle.helpers.specs.Calls.{IsCall, called, called_on, called_at}
+use Rattle.world_laws.specs.Reaching.{IsCall}
+use Rattle.helpers.specs.Calls.{called, called_on, called_at}
 use Rattle.helpers.specs.Elements.{ReachesElement, element_number, maps_after_store, stored_element}
 use Rattle.helpers.specs.Serving.{CanServe, IsReply, maps_after, grace_after, with_opened, IsFlagged, grace_of, world_with, IsOwnWorld}
 use Rattle.bpf_model.proofs.Lists.{set-same}

@@ -1,30 +1,11 @@
--- What a helper is called with, what it leaves in r0, and what it makes of the maps.
-use Rattle.std.specs.Prelude.{◌≡◌, ℕ, ◌-◌, List, length, Option, Some, None, slice_get, slice_set}
+-- What a helper leaves in r0, and what it makes of the maps.
+use Rattle.std.specs.Prelude.{ℕ, ◌-◌, List, Option, Some, None, slice_get, slice_set}
 use Rattle.bpf_model.specs.declared.call.Helper.{Helper}
-use Rattle.bpf_model.specs.declared.call.Helper.TheVariants.{Lookup, Update}
-use Rattle.bpf_model.specs.declared.limits.TheConstants.{FRAME_BYTES}
+use Rattle.bpf_model.specs.declared.call.Helper.TheVariants.{Lookup}
 use Rattle.bpf_model.specs.View.{MapView, RunView}
 use Rattle.bpf_model.specs.Word.{map_base}
 use Rattle.world_laws.specs.Calling.{served}
 use Rattle.world_laws.specs.Moving.{word_in}
-use Rattle.world_laws.specs.Reaching.{IsInFrame}
-
--- a key in r2, and for an update a value in r3: so many bytes of the frame
-abbrev pub AreInFrame : Helper → MapView → RunView → Type 0
-AreInFrame Update m v =
-    IsInFrame (word_in v 2) m.shape.key_len × IsInFrame (word_in v 3) m.shape.value_len
-AreInFrame helper m v = IsInFrame (word_in v 2) m.shape.key_len
-
--- The run calls the helper with a map of its program's list, whose maps have these numbers, and
--- with bytes of its frame.
-pub record IsCall (helper : Helper) (bound : List ℕ) (maps : List MapView) (v : RunView)
-    : Type 0 where
-  pub map : ℕ
-  pub view : MapView
-  pub named : slice_get bound (word_in v 1 - map_base) ≡ Some map
-  pub there : slice_get maps map ≡ Some view
-  pub arguments : AreInFrame helper view v
-  pub frame : length v.frame ≡ FRAME_BYTES
 
 -- The word for r0, and the maps afterwards: a lookup changes none. (A map that is not there changes
 -- nothing: no verified program names one.)

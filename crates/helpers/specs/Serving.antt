@@ -12,13 +12,14 @@ use Rattle.bpf_model.specs.Schedule.{still_open}
 use Rattle.bpf_model.specs.View.{MapView, RunView, WorldView}
 use Rattle.grace_period.specs.State.{GraceState}
 use Rattle.world_laws.specs.Locating.{location_of}
+use Rattle.world_laws.specs.Reaching.{IsCall}
 use Rattle.machine.specs.declared.access.Access.{Access}
 use Rattle.machine.specs.declared.access.Access.TheVariants.{Load, Store, Call, Enter, Leave}
 use Rattle.machine.specs.declared.access.Local.{Local}
 use Rattle.machine.specs.declared.access.Local.TheVariants.{Moved, Shared, Exit}
 use Rattle.machine.specs.Requests.{resumed_view}
 use Rattle.helpers.specs.Elements.{ReachesElement, element_number, stored_element}
-use Rattle.helpers.specs.Calls.{IsCall, called}
+use Rattle.helpers.specs.Calls.{called}
 
 -- What a request needs: an element where it reaches, or the arguments of a helper.
 abbrev pub CanServe : Access → List ℕ → List MapView → RunView → Type 0

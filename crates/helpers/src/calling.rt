@@ -3,8 +3,8 @@ ghost use Rattle.std.specs.Prelude.{◌≡◌, ℕ, ◌<◌, length};
 ghost use Rattle.bpf_model.specs.declared.limits.TheConstants.{FRAME_BYTES, MAX_MAPS};
 ghost use Rattle.world_laws.specs.Calling.{served};
 ghost use Rattle.world_laws.specs.Moving.{word_in};
-ghost use Rattle.world_laws.specs.Reaching.{IsInFrame};
-ghost use Rattle.helpers.specs.Calls.{IsCall, called};
+ghost use Rattle.world_laws.specs.Reaching.{IsCall, IsInFrame};
+ghost use Rattle.helpers.specs.Calls.{called};
 
 use crate::address::slot_word;
 use bpf_model::{Helper, MapId, Reg, ret_word};

@@ -27,7 +27,7 @@ use Rattle.bpf_model.specs.declared.insn.Insn.{Insn}
 use Rattle.bpf_model.specs.declared.insn.Insn.TheVariants.{Alu, Unary, LoadNumber, LoadMap, Jump, JumpLong, JumpIf, Call, Exit, Load, LoadSigned, Store}
 use Rattle.bpf_model.specs.Opcode.{opcode_byte}
 use Rattle.bpf_model.specs.Spelling.{FitsInsn, slots_of, slot_count, first_slot, tail_slot, opcode_of, code_of, alu_offset, extension_size, extension_bits, swap_bits, call_source}
-use Rattle.bpf_model.proofs.Lists.{cons-same}
+use Rattle.bpf_model.proofs.Lists.{heads, tails}
 use Rattle.insn_codec.specs.Begins.{BeginsWith}
 use Rattle.insn_codec.specs.Faults.{flaw_with, is_excluded}
 
@@ -49,13 +49,14 @@ shape i = inl (record { slots = refl; count = refl })
 
 one_begins : (i : Insn) (s : Slot) (next : Option Slot) → IsOneSlot i → BeginsWith s next i → (first_slot i ≡ s) × (drop 1 (slots_of i) ≡ take (slot_count i - 1) (option_to_list next))
 one_begins i s next one e =
-    let h = cons-same (first_slot i) s [] [] (sym one.slots ∙ e ∙ ap (λ (n : ℕ). take n (s ∷ option_to_list next)) one.count) in
-    (h.0, rw (one.slots, one.count) refl)
+    let h = heads (first_slot i) s [] [] (sym one.slots ∙ e ∙ ap (λ (n : ℕ). take n (s ∷ option_to_list next)) one.count) in
+    (h, rw (one.slots, one.count) refl)
 
 two_begin : (i : Insn) (s : Slot) (next : Option Slot) → (two : IsTwoSlots i) → BeginsWith s next i → (first_slot i ≡ s) × (drop 1 (slots_of i) ≡ take (slot_count i - 1) (option_to_list next))
 two_begin i s next two e =
-    let h = cons-same (first_slot i) s (two.tail ∷ []) (take 1 (option_to_list next)) (sym two.slots ∙ e ∙ ap (λ (n : ℕ). take n (s ∷ option_to_list next)) two.count) in
-    (h.0, rw (two.slots, two.count) h.1)
+    let both : first_slot i ∷ two.tail ∷ [] ≡ s ∷ take 1 (option_to_list next) = sym two.slots ∙ e ∙ ap (λ (n : ℕ). take n (s ∷ option_to_list next)) two.count in
+    let behind = tails (first_slot i) s (two.tail ∷ []) (take 1 (option_to_list next)) both in
+    (heads (first_slot i) s (two.tail ∷ []) (take 1 (option_to_list next)) both, rw (two.slots, two.count) behind)
 
 -- the first slot, and the rest of the slots
 pub begins_parts : (i : Insn) (s : Slot) (next : Option Slot) → BeginsWith s next i → (first_slot i ≡ s) × (drop 1 (slots_of i) ≡ take (slot_count i - 1) (option_to_list next))

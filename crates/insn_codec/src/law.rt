@@ -1,5 +1,5 @@
-//! What the definitions say of every input and every program, and that `decode` and `encode` are inverse to
-//! each other.
+//! What the definitions say of every input and every program, and what `decode` and `encode` give one after
+//! the other.
 ghost use Rattle.std.specs.Prelude.{◌≡◌, ◌≢◌, ℕ, List, IfOk, IfErr};
 ghost use Rattle.bpf_model.specs.declared.insn.Insn.{Insn};
 ghost use Rattle.bpf_model.specs.Spelling.{text, IsProgram};
@@ -11,7 +11,9 @@ use crate::fault::DecodeFault;
 use crate::program::Program;
 use std::alloc::Global;
 
-/// `encode(decode(b)) = b`: a program is encoded to the bytes that it was decoded from.
+/// Decodes the bytes and encodes the program. Where neither fails, that gives the bytes again:
+/// `encode(decode(b)) = b`. (The clause is of this body; it follows from `found` of `decode` and `text` of
+/// `encode`.)
 ///
 /// # Errors
 ///
@@ -24,7 +26,9 @@ pub fn encode_undoes_decode(alloc: Global, bytes: &[u8]) -> Result<Vec<u8>, Deco
     Ok(encode(alloc, &program)?)
 }
 
-/// `decode(encode(p)) = p`: a program is decoded from the bytes that it is encoded to.
+/// Encodes the program and decodes the bytes. Where neither fails, that gives the program again:
+/// `decode(encode(p)) = p`. (The clause is of this body; it follows from `text` of `encode` and `only` of
+/// `decode`.)
 ///
 /// # Errors
 ///

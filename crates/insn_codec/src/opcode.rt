@@ -190,7 +190,8 @@ fn of_memory(byte: u8) -> Option<Opcode>
     })
 }
 
-/// The opcode of a byte: the low three bits are its class, the next one tells a register from a number.
+/// The opcode of a byte: the low three bits are its class, and in arithmetic and jumps the next one tells a
+/// register from a number.
 pub fn opcode_from(byte: u8) -> Option<Opcode>
     ensures found { IfSome result (λ o. opcode_byte o ≡ byte) }
     ensures only { (o : Opcode) → opcode_byte o ≡ byte → result ≡ Some o }

@@ -5,7 +5,7 @@ ghost use Rattle.journal.specs.Entries.{IsAnswerTo};
 ghost use Rattle.journal.specs.Rows.{IsOutcome, IsRowOf, answer_of, entry_from};
 
 use crate::row::{Outcome, Row};
-use bpf_model::{Answer, CtxBytes, Event, KeyBytes, MapId, ProgId, RunId, ValueBytes};
+use bpf_model::{Answer, CtxBytes, Event, KeyBytes, MapId, ProgId, RunId};
 
 fn start_row(worker: u8, start: usize, prog: ProgId, ctx: &CtxBytes, answer: &Answer) -> Row
     requires { IsAnswerTo (events.Start prog ctx.now) answer.now }

@@ -26,13 +26,17 @@ ever_unlinked m = count_by (λ e. not (is_linked e.life)) m.store.elements
 abbrev pub ever_reclaimed : Machine → ℕ
 ever_reclaimed m = count_by (λ e. is_reclaimed e.life) m.store.elements
 
+-- the elements that are unlinked and not yet reclaimed
+abbrev pub unreclaimed_in : WorldView → ℕ
+unreclaimed_in w = sum_by unlinked_in w.maps
+
 -- How many elements were ever reclaimed, and ever unlinked, as a world knows it, which keeps no
 -- reclaimed element: those that it reclaimed, and those that wait.
 abbrev pub reclaimed_total : WorldView → ℕ
 reclaimed_total w = w.given
 
 abbrev pub unlinked_total : WorldView → ℕ
-unlinked_total w = w.given + sum_by unlinked_in w.maps
+unlinked_total w = w.given + unreclaimed_in w
 
 -- The entries of one worker, in order; its share of the journal is how many they are.
 abbrev pub entries_by : ℕ → List Entry → List Entry
@@ -43,7 +47,8 @@ share_of entries worker = length (entries_by worker entries)
 
 -- Each entry is of one of so many workers.
 abbrev pub AreOfWorkers : ℕ → List Entry → Type 0
-AreOfWorkers workers entries = (k : ℕ) (e : Entry) → slice_get entries k ≡ Some e → e.worker < workers
+AreOfWorkers workers entries =
+    (k : ℕ) (e : Entry) → slice_get entries k ≡ Some e → e.worker < workers
 
 -- the shares of so many workers, added up
 abbrev pub shares : ℕ → List Entry → ℕ

@@ -1,9 +1,9 @@
 -- What an instruction does, in words of the laws.
-use Rattle.std.specs.Prelude.{ℕ, List, None, Result, IsOk}
+use Rattle.std.specs.Prelude.{◌≡◌, ℕ, List, None, Result, IsOk}
 use Rattle.bpf_model.specs.declared.limits.MapShape.{MapShape}
 use Rattle.bpf_model.specs.declared.insn.Insn.{Insn}
 use Rattle.scalar_domain.specs.declared.scalar.Scalar.{Scalar}
-use Rattle.typed_runs.specs.Kinds.{Num, AbsState as Known}
+use Rattle.typed_runs.specs.Kinds.{Kind, Num, AbsState as Known}
 use Rattle.typed_runs.specs.Effects.{with_kind}
 use Rattle.typed_runs.specs.Planned.{AreAlike}
 use Rattle.typed_runs.specs.Verified.{Transfers}
@@ -22,3 +22,7 @@ pub record SetsNumber {A : Type 0} (r : Result A Fault) (dst : ℕ) (a b : Known
   pub fine : IsOk r
   pub number : Scalar
   pub alike : AreAlike (with_kind dst (Num number) a) b
+
+-- the kind is that of numbers of which this is known
+abbrev pub IsNumbers : (Scalar → Type 0) → Kind → Type 0
+IsNumbers P k = (s : Scalar) × (k ≡ Num s) × P s

@@ -9,7 +9,8 @@ use Rattle.bpf_model.specs.declared.limits.MapShape.{MapShape}
 use Rattle.bpf_model.specs.View.{new_map_view}
 use Rattle.bpf_model.proofs.Lists.{heads, tails, cons-nil}
 use Rattle.maps.specs.Registry.{RegistryView, no_maps}
-use Rattle.loader.specs.Lines.{file_words, IsDecimalWord, code_slots, both_parts, slot_in}
+use Rattle.loader.specs.Lines.{file_words, IsDecimalWord, code_slots, slot_in}
+use Rattle.std.specs.Fmt.{option_append}
 use Rattle.loader.specs.ProgramFile.{FileContent, IsContextLine, AreShapeWords, IsMapLine, AddsMap, AddMaps, IsProgramFile, IsFileBeginning, IsWrongAfter, IsFirstWrongLine}
 use Rattle.loader.specs.Reading.{AreMapsSoFar, IsAtStage}
 use Rattle.loader.proofs.Slots.{joined_nil}
@@ -160,21 +161,21 @@ map_wrong lines line n r h other wrong b =
     ap (λ (ls : List (List ℕ)). h.first ∷ ls) (sym (append_assoc h.map_lines (line ∷ []) b.0)) ∙ sym (ap (λ ls. (ls ++ line ∷ []) ++ b.0) h.parts) ∙ k.parts in
     no_map_line no_maps r b.1.registry h.map_lines k.map_lines k.code_lines line b.0 h.maps k.maps other wrong (tails h.first k.first _ _ whole)
 
-joined_assoc : (x y z : Option (List ℕ)) → both_parts x (both_parts y z) ≡ both_parts (both_parts x y) z
+joined_assoc : (x y z : Option (List ℕ)) → option_append x (option_append y z) ≡ option_append (option_append x y) z
 joined_assoc None y z = refl
 joined_assoc (Some a) None z = refl
 joined_assoc (Some a) (Some b) None = refl
 joined_assoc (Some a) (Some b) (Some c) = ap Some (sym (append_assoc a b c))
 
-slots_append : (vs ws : List (List ℕ)) → code_slots (vs ++ ws) ≡ both_parts (code_slots vs) (code_slots ws)
+slots_append : (vs ws : List (List ℕ)) → code_slots (vs ++ ws) ≡ option_append (code_slots vs) (code_slots ws)
 slots_append [] ws = joined_nil (code_slots ws)
-slots_append (v ∷ vs) ws = ap (both_parts (slot_in v)) (slots_append vs ws) ∙ joined_assoc (slot_in v) (code_slots vs) (code_slots ws)
+slots_append (v ∷ vs) ws = ap (option_append (slot_in v)) (slots_append vs ws) ∙ joined_assoc (slot_in v) (code_slots vs) (code_slots ws)
 
-joined_none : (x : Option (List ℕ)) → both_parts x None ≡ None
+joined_none : (x : Option (List ℕ)) → option_append x None ≡ None
 joined_none None = refl
 joined_none (Some a) = refl
 
-lines_append : (xs ys : List (List ℕ)) → code_slots (flat_map file_words (xs ++ ys)) ≡ both_parts (code_slots (flat_map file_words xs)) (code_slots (flat_map file_words ys))
+lines_append : (xs ys : List (List ℕ)) → code_slots (flat_map file_words (xs ++ ys)) ≡ option_append (code_slots (flat_map file_words xs)) (code_slots (flat_map file_words ys))
 lines_append xs ys = ap code_slots (flat_map-append file_words xs ys) ∙ slots_append (flat_map file_words xs) (flat_map file_words ys)
 
 pub slots_taken : (lines : List (List ℕ)) (line : List ℕ) (n : ℕ) (r : RegistryView) (code new bytes : List ℕ) → IsProgramFile lines (record { ctx_len = n; registry = r; code = code }) → code_slots (file_words line) ≡ Some bytes → new ≡ code ++ bytes → IsProgramFile (lines ++ line ∷ []) (record { ctx_len = n; registry = r; code = new })
@@ -187,7 +188,7 @@ slots_taken lines line n r code new bytes h e added =
       parts = ap (λ ls. ls ++ line ∷ []) h.parts ∙ ap (λ (ls : List (List ℕ)). h.first ∷ ls) (append_assoc h.map_lines (code_line ∷ h.code_lines) (line ∷ []));
       context = h.context;
       maps = h.maps;
-      code = lines_append h.code_lines (line ∷ []) ∙ ap₂ both_parts h.code one ∙ ap Some (sym added);
+      code = lines_append h.code_lines (line ∷ []) ∙ ap₂ option_append h.code one ∙ ap Some (sym added);
     }
 
 pub slots_wrong : (lines : List (List ℕ)) (line : List ℕ) (c : FileContent) → IsProgramFile lines c → code_slots (file_words line) ≡ None → ¬ (IsFileBeginning (lines ++ line ∷ []))
@@ -198,8 +199,8 @@ slots_wrong lines line c h e b =
     ∙ sym (append_assoc (h.first ∷ (h.map_lines ++ code_line ∷ h.code_lines)) (line ∷ []) b.0)
     ∙ sym (ap (λ ls. (ls ++ line ∷ []) ++ b.0) h.parts) ∙ k.parts in
     let same = same_parts no_maps c.registry b.1.registry h.map_lines k.map_lines (h.code_lines ++ line ∷ b.0) k.code_lines h.maps k.maps (tails h.first k.first _ _ whole) in
-    let rest : code_slots (flat_map file_words (line ∷ b.0)) ≡ None = slots_append (file_words line) (flat_map file_words b.0) ∙ ap (λ s. both_parts s (code_slots (flat_map file_words b.0))) e in
-    let none : code_slots (flat_map file_words k.code_lines) ≡ None = ap (λ ls. code_slots (flat_map file_words ls)) (sym same.1) ∙ lines_append h.code_lines (line ∷ b.0) ∙ ap (both_parts (code_slots (flat_map file_words h.code_lines))) rest ∙ joined_none _ in
+    let rest : code_slots (flat_map file_words (line ∷ b.0)) ≡ None = slots_append (file_words line) (flat_map file_words b.0) ∙ ap (λ s. option_append s (code_slots (flat_map file_words b.0))) e in
+    let none : code_slots (flat_map file_words k.code_lines) ≡ None = ap (λ ls. code_slots (flat_map file_words ls)) (sym same.1) ∙ lines_append h.code_lines (line ∷ b.0) ∙ ap (option_append (code_slots (flat_map file_words h.code_lines))) rest ∙ joined_none _ in
     none-some b.1.code (sym none ∙ k.code)
 
 -- no file ends there

@@ -1,27 +1,23 @@
--- The slots of a line, word by word; and names and shapes that no map has.
-use Rattle.std.proofs.Common.{◌≡◌, ◌≢◌, ℕ, ◌<◌, Bool, true, false, not, cond, ◌&&◌, List, [], ◌++◌, length, get_or, All, refl, arith}
-use Rattle.std.specs.Prelude.{Option, Some, None, nat_le, slice_get}
-use Rattle.std.specs.List.{list_all}
-use Rattle.std.specs.Str.{IsAscii}
+-- The slots of a line, word by word; and maps that no registry takes.
+use Rattle.std.proofs.Common.{◌≡◌, ◌≢◌, ℕ, ◌<◌, Bool, true, false, not, cond, ◌&&◌, List, [], ◌++◌, refl, arith}
+use Rattle.std.specs.Prelude.{Option, Some, None, nat_le}
 use Rattle.std.proofs.lemmas.Bool.Decides.{nat_tests}
-use Rattle.std.proofs.lemmas.List.Sums.{AllPass-from_list_all}
-use Rattle.std.proofs.lemmas.Str.Ascii.{IsAscii-from_all}
 use Rattle.bpf_model.specs.declared.limits.MapShape.{MapShape}
 use Rattle.bpf_model.specs.declared.limits.TheConstants.{MAX_REUSE, KEY_BYTES, VALUE_BYTES, MAX_ENTRIES, MAX_SPARE}
 use Rattle.maps.specs.declared.fault.MapFault.{MapFault}
 use Rattle.maps.specs.declared.fault.MapFault.TheVariants.{BadName, NameTaken, BadShape, TooMany}
-use Rattle.maps.specs.declared.name.TheConstants.{NAME_BYTES}
-use Rattle.maps.specs.Registry.{RegistryView, is_name, is_name_character, begins_with_letter, is_between, is_shape, has_name, creation_fault}
-use Rattle.maps.proofs.Names.{small_character}
-use Rattle.loader.specs.Lines.{file_words, code_slots, both_parts}
+use Rattle.maps.specs.Registry.{RegistryView, is_name, is_shape, has_name, creation_fault}
+use Rattle.std.specs.Fmt.{option_append}
+use Rattle.std.specs.Int.{is_in_range}
+use Rattle.loader.specs.Lines.{file_words, code_slots}
 
 -- what was added to the code is the slots of the line's words but for those that are left
 pub record HasSlots (line : List ℕ) (left : List (List ℕ)) (old new : List ℕ) : Type 0 where
   pub bytes : List ℕ
-  pub slots : code_slots (file_words line) ≡ both_parts (Some bytes) (code_slots left)
+  pub slots : code_slots (file_words line) ≡ option_append (Some bytes) (code_slots left)
   pub code : new ≡ old ++ bytes
 
-pub joined_nil : (x : Option (List ℕ)) → x ≡ both_parts (Some []) x
+pub joined_nil : (x : Option (List ℕ)) → x ≡ option_append (Some []) x
 joined_nil None = refl
 joined_nil (Some bytes) = refl
 
@@ -46,24 +42,12 @@ last_of_five true false c d e h = absurd (let g : false ≡ true = h in cc)
 last_of_five true true false d e h = absurd (let g : false ≡ true = h in cc)
 last_of_five true true true false e h = absurd (let g : false ≡ true = h in cc)
 
-not_within : (n : ℕ) → MAX_REUSE < n → is_between 1 n MAX_REUSE ≡ true → ⊥
+not_within : (n : ℕ) → MAX_REUSE < n → is_in_range 1 MAX_REUSE n ≡ true → ⊥
 not_within n h e = grind (arith, nat_tests)
 
 reuse_within : (shape : MapShape) → MAX_REUSE < shape.reuse_limit → is_shape shape ≡ true → ⊥
 reuse_within shape h e =
-    not_within shape.reuse_limit h (last_of_five (is_between 1 shape.key_len KEY_BYTES) (is_between 1 shape.value_len VALUE_BYTES) (is_between 1 shape.entries MAX_ENTRIES) (nat_le shape.spare MAX_SPARE) (is_between 1 shape.reuse_limit MAX_REUSE) e)
+    not_within shape.reuse_limit h (last_of_five (is_in_range 1 KEY_BYTES shape.key_len) (is_in_range 1 VALUE_BYTES shape.value_len) (is_in_range 1 MAX_ENTRIES shape.entries) (nat_le shape.spare MAX_SPARE) (is_in_range 1 MAX_REUSE shape.reuse_limit) e)
 
 pub too_often : (r : RegistryView) (name : List ℕ) (shape : MapShape) → MAX_REUSE < shape.reuse_limit → creation_fault r name shape ≢ None
 too_often r name shape h e = absurd (reuse_within shape h (sound_map r name shape e).1)
-
-small_characters : (name : List ℕ) → list_all is_name_character name ≡ true → All (λ b. b < 128) name
-small_characters name h k d inside = small_character (get_or name k d) (AllPass-from_list_all is_name_character name h k d inside)
-
-last_of_three : (a b c : Bool) → (a && (b && c)) ≡ true → c ≡ true
-last_of_three true true c h = h
-last_of_three false b c h = absurd (let g : false ≡ true = h in cc)
-last_of_three true false c h = absurd (let g : false ≡ true = h in cc)
-
-pub ascii_name : (r : RegistryView) (name : List ℕ) (shape : MapShape) → creation_fault r name shape ≡ None → IsAscii name
-ascii_name r name shape e =
-    IsAscii-from_all name (small_characters name (last_of_three (begins_with_letter (slice_get name 0)) (nat_le (length name) NAME_BYTES) _ (sound_map r name shape e).0))

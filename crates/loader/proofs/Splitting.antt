@@ -1,22 +1,18 @@
 -- Bytes that are cut at the first of one byte: words and lines.
-use Rattle.std.proofs.Common.{◌≡◌, ◌≢◌, ℕ, ◌+◌, ◌<◌, ◌==◌, Bool, true, false, not, cond, List, [], ◌∷◌, ◌++◌, length, get_or, take, Bor, refl, sym, ap, subst, ◌∙◌, arith}
+use Rattle.std.proofs.Common.{◌≡◌, ◌≢◌, ℕ, ◌+◌, ◌<◌, ◌==◌, Bool, true, false, not, cond, List, [], ◌∷◌, ◌++◌, length, get_or, take, Bor, refl, sym, ap, subst, ◌∙◌}
 use Rattle.std.specs.Prelude.{Option, Some, None, is_some, MatchOption}
 use Rattle.std.specs.List.{onto_first}
-use Rattle.std.proofs.lemmas.Bool.{cond-false, false≢true}
-use Rattle.std.proofs.lemmas.Bool.Decides.{nat_tests}
+use Rattle.std.proofs.lemmas.Bool.{cond-false, false≢true, ne_eqb}
 use Rattle.std.proofs.lemmas.List.{take_more}
 use Rattle.std.proofs.lemmas.List.Elements.{All-nil, All-cons, All-head, All-tail, All-append}
 use Rattle.loader.specs.Lines.{file_lines, file_words}
 use Rattle.loader.specs.Reading.{HasNoByte, words_left}
 
 -- one byte more that is another
-differs : (at b : ℕ) → b ≢ at → (b == at) ≡ false
-differs at b h = grind (arith, nat_tests)
-
 pub no_byte_more : (at : ℕ) (bytes : List ℕ) (i : ℕ) → i < length bytes → HasNoByte at (take i bytes) → get_or bytes i 0 ≢ at → HasNoByte at (take (i + 1) bytes)
 no_byte_more at bytes i inside h other =
     subst (HasNoByte at) (sym (take_more bytes i 0 inside))
-    (All-append (λ b. (b == at) ≡ false) (take i bytes) (get_or bytes i 0 ∷ []) h (All-cons (λ b. (b == at) ≡ false) (get_or bytes i 0) [] (differs at (get_or bytes i 0) other) (All-nil (λ b. (b == at) ≡ false))))
+    (All-append (λ b. (b == at) ≡ false) (take i bytes) (get_or bytes i 0 ∷ []) h (All-cons (λ b. (b == at) ≡ false) (get_or bytes i 0) [] (ne_eqb (get_or bytes i 0) at other) (All-nil (λ b. (b == at) ≡ false))))
 
 -- words
 

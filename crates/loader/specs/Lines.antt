@@ -1,11 +1,12 @@
 -- Lines of a file, words of a line, and the words that are numbers and slots.
-use Rattle.std.specs.Prelude.{◌≡◌, ◌≢◌, ℕ, ◌==◌, ◌<◌, ◌^◌, if◌then◌else◌, List, [], ◌∷◌, ◌++◌}
-use Rattle.std.specs.Prelude.{length, slice_index, Option, Some, None, Result, Ok, Err}
+use Rattle.std.specs.Prelude.{◌≡◌, ◌≢◌, ℕ, ◌==◌, ◌<◌, ◌^◌, if◌then◌else◌, List, [], ◌∷◌}
+use Rattle.std.specs.Prelude.{length, slice_index, Option, Some}
+use Rattle.std.specs.Fmt.{option_append}
 use Rattle.std.specs.List.{slice_split, onto_first}
+use Rattle.std.specs.Result.{result_ok}
 use Rattle.std.specs.Str.Parse.{IsNumeral, digits_value}
 use Rattle.loader.specs.declared.line.TheConstants.{SLOT_BYTES}
 use Rattle.hex.specs.Hex.{decode_sized}
-use Rattle.hex.specs.declared.error.FromHexError.{FromHexError}
 
 -- The lines of a file. A line feed, byte 10, ends each; that of the last may be missing.
 abbrev pub file_lines : List ℕ → List (List ℕ)
@@ -24,19 +25,11 @@ pub record IsDecimalWord (word : List ℕ) (n : ℕ) : Type 0 where
   pub value : n ≡ digits_value 10 word
   pub fits : n < 2 ^ 64
 
-abbrev decoded_bytes : Result (List ℕ) FromHexError → Option (List ℕ)
-decoded_bytes (Ok bytes) = Some bytes
-decoded_bytes (Err e) = None
-
 -- the bytes of a slot: two hexadecimal digits each, in either case
 abbrev pub slot_in : List ℕ → Option (List ℕ)
-slot_in word = decoded_bytes (decode_sized word SLOT_BYTES)
-
-abbrev pub both_parts : Option (List ℕ) → Option (List ℕ) → Option (List ℕ)
-both_parts (Some front) (Some back) = Some (front ++ back)
-both_parts _ _ = None
+slot_in word = result_ok (decode_sized word SLOT_BYTES)
 
 -- the bytes of the slots, one after the other; None where a word is no slot
 abbrev pub code_slots : List (List ℕ) → Option (List ℕ)
 code_slots [] = Some []
-code_slots (word ∷ words) = both_parts (slot_in word) (code_slots words)
+code_slots (word ∷ words) = option_append (slot_in word) (code_slots words)

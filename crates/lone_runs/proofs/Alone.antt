@@ -18,7 +18,8 @@ use Rattle.bpf_model.specs.MachineStep.{OutcomeStep, InsnStep, KernelStep}
 use Rattle.bpf_model.specs.MapState as map_state
 use Rattle.bpf_model.specs.Section.{Section}
 use Rattle.bpf_model.specs.Step.{Environment, Exits, Moves, Outcome, State, after, map_value, sets}
-use Rattle.model_laws.specs.Alone.{HoldsState, IsOwn}
+use Rattle.bpf_model.specs.Holds.{HoldsState}
+use Rattle.model_laws.specs.Alone.{IsOwn}
 use Rattle.model_laws.proofs.Alone.{acts-own, helper-own, own-closed}
 use Rattle.model_laws.proofs.Holding.{HoldsOutcome, holds-after, holds-returns}
 use Rattle.model_laws.proofs.Computations.{first-step}

@@ -5,7 +5,8 @@ use Rattle.bpf_model.specs.Machine.{Loaded, Run, fresh_run}
 use Rattle.bpf_model.specs.Refines.{TracksSchedule}
 use Rattle.bpf_model.specs.Schedule.{Schedule}
 use Rattle.bpf_model.specs.View.{RunView, WorldView}
-use Rattle.model_laws.specs.Alone.{HoldsState, IsOwn}
+use Rattle.bpf_model.specs.Holds.{HoldsState}
+use Rattle.model_laws.specs.Alone.{IsOwn}
 use Rattle.world_laws.specs.Typed.{IsReadyWorld, IsRunning}
 use Rattle.verifier.specs.Checked.{Checked}
 use Rattle.machine.specs.RunWords.{RunWords, IsAt}

@@ -1,10 +1,14 @@
 -- Names of maps among the texts that a set keeps.
-use Rattle.std.proofs.Common.{◌≡◌, ◌<◌, ℕ, ap, ◌∙◌, refl, sym, arith, Bool, true, List, map}
-use Rattle.std.specs.Prelude.{[], ◌∷◌, ◌++◌, ◌||◌, Some, None, not, ◌+◌, position, cond, nat_lt, length}
-use Rattle.std.specs.List.{list_any, position_or_len, prefix_len, AllZip}
+use Rattle.std.proofs.Common.{◌≡◌, ◌<◌, ℕ, zero, suc, ap, ◌∙◌, refl, sym, arith, Bool, true, List, map}
+use Rattle.std.specs.Prelude.{[], ◌∷◌, ◌++◌, ◌||◌, ◌&&◌, Some, None, not, ◌+◌, position, cond, nat_le, nat_lt, length}
+use Rattle.std.specs.Prelude.{slice_get, slice_index}
+use Rattle.std.specs.List.{list_all, list_any, position_or_len, prefix_len, AllZip}
+use Rattle.std.specs.Str.{IsAscii}
+use Rattle.std.proofs.lemmas.Bool.{and_parts}
 use Rattle.std.proofs.lemmas.Bool.Decides.{nat_tests}
 use Rattle.std.proofs.lemmas.List.{map-append, length-append, length-map}
-use Rattle.maps.specs.Registry.{is_name_character}
+use Rattle.maps.specs.declared.name.TheConstants.{NAME_BYTES}
+use Rattle.maps.specs.Registry.{begins_with_letter, is_name, is_name_character}
 
 pub any_named : {A B : Type 0} (v : A → B) (test : B → Bool) (xs : List A) → list_any (λ x. test (v x)) xs ≡ list_any test (map v xs)
 any_named v test [] = refl
@@ -37,6 +41,16 @@ same_named v (x ∷ xs) (y ∷ ys) h = ap (λ b. b ∷ map v ys) h.0 ∙ ap (λ 
 pub as_long : {A B : Type 0} (v : A → B) (xs ys : List A) → map v ys ≡ map v xs → length ys ≡ length xs
 as_long v xs ys e = sym (length-map ys v) ∙ ap length e ∙ length-map xs v
 
--- a character of a map's name is ASCII
-pub small_character : (c : ℕ) → is_name_character c ≡ true → c < 128
+-- a map's name is ASCII
+small_character : (c : ℕ) → is_name_character c ≡ true → c < 128
 small_character c h = grind (arith, nat_tests)
+
+all_small : (name : List ℕ) → list_all is_name_character name ≡ true → (i : ℕ) → slice_index name i < 128
+all_small [] e i = omega arith
+all_small (c ∷ name) e zero = small_character c (and_parts (is_name_character c) (list_all is_name_character name) e).0
+all_small (c ∷ name) e (suc i) = all_small name (and_parts (is_name_character c) (list_all is_name_character name) e).1 i
+
+pub ascii_name : (name : List ℕ) → is_name name ≡ true → IsAscii name
+ascii_name name e =
+    let rest = (and_parts (begins_with_letter (slice_get name 0)) (nat_le (length name) NAME_BYTES && list_all is_name_character name) e).1 in
+    all_small name (and_parts (nat_le (length name) NAME_BYTES) (list_all is_name_character name) rest).1

@@ -1,11 +1,11 @@
 -- The maps of a world that nothing has used.
-use Rattle.std.proofs.Common.{◌≡◌, ◌∙◌, List, [], ◌∷◌, ◌++◌, map, sym, ap}
+use Rattle.std.proofs.Common.{◌∙◌, List, [], ◌∷◌, ◌++◌, map, sym, ap}
 use Rattle.std.proofs.lemmas.List.{map-append}
 use Rattle.bpf_model.specs.declared.limits.MapShape.{MapShape}
-use Rattle.bpf_model.specs.View.{MapView, new_map_view, shapes_of_maps}
+use Rattle.bpf_model.specs.View.{AreNewMaps, MapView, new_map_view, shapes_of_maps}
 
 -- a new map is new, and leaves the others new
-pub new-more : (maps : List MapView) (shape : MapShape) → maps ≡ map new_map_view (shapes_of_maps maps) → maps ++ new_map_view shape ∷ [] ≡ map new_map_view (shapes_of_maps (maps ++ new_map_view shape ∷ []))
+pub new-more : (maps : List MapView) (shape : MapShape) → AreNewMaps maps → AreNewMaps (maps ++ new_map_view shape ∷ [])
 new-more maps shape e =
     ap (λ m. m ++ new_map_view shape ∷ []) e
     ∙ (sym (map-append new_map_view (shapes_of_maps maps) (shape ∷ []))

@@ -12,20 +12,20 @@ use Rattle.maps.specs.Shown.{IsReaped}
 use Rattle.bpf_model.proofs.Lists.{drop-next}
 
 -- the maps before map i have nothing that is ready
-abbrev pub IsPassed : List MapView → ℕ → Type 0
-IsPassed maps i = first_pick 0 maps ≡ first_pick i (drop i maps)
+abbrev pub NoneReadyBefore : List MapView → ℕ → Type 0
+NoneReadyBefore maps i = first_pick 0 maps ≡ first_pick i (drop i maps)
 
 or_pick-some : (ready : List ℕ) (k i : ℕ) (v : MapView) (later : Option Pick) → slice_get ready 0 ≡ Some i → or_pick ready k v later ≡ Some (record { map = k; view = v; slot = i })
 or_pick-some [] k i v later e = absurd (none-some i e)
 or_pick-some (j ∷ rest) k i v later e = ap (λ (s : ℕ). let p : Option Pick = Some (record { map = k; view = v; slot = s }) in p) (same_Some j i e)
 
-pub picks-here : (maps : List MapView) (i slot : ℕ) (v : MapView) → slice_get maps i ≡ Some v → IsPassed maps i → slice_get v.ready 0 ≡ Some slot → first_pick 0 maps ≡ Some (record { map = i; view = v; slot = slot })
+pub picks-here : (maps : List MapView) (i slot : ℕ) (v : MapView) → slice_get maps i ≡ Some v → NoneReadyBefore maps i → slice_get v.ready 0 ≡ Some slot → first_pick 0 maps ≡ Some (record { map = i; view = v; slot = slot })
 picks-here maps i slot v g h e =
     h ∙ (ap (first_pick i) (drop-next maps i v g) ∙ or_pick-some v.ready i slot v (first_pick (suc i) (drop (suc i) maps)) e)
 
 -- what was reclaimed from the map that was reached is what a registry reclaims
 pub picked : (old maps : List MapView) (i m : ℕ) (v new : MapView) (key : ArrayVec ℕ) (given : Given) →
-    maps ≡ old → IsPassed old i → slice_get maps i ≡ Some v → IsReaped v new key.items given → m ≡ i →
+    maps ≡ old → NoneReadyBefore old i → slice_get maps i ≡ Some v → IsReaped v new key.items given → m ≡ i →
     IsPicked old (slice_set maps i new) (record { map = m; key = key; given = given })
 picked old maps i m v new key given e h g r n =
     let there : slice_get old i ≡ Some v = ap (λ (ms : List MapView). slice_get ms i) (sym e) ∙ g in

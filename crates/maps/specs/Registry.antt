@@ -1,6 +1,8 @@
 -- The maps of a registry, in order of creation, each with its name.
 use Rattle.std.specs.Prelude.{ℕ, Bool, false, not, ◌&&◌, ◌||◌, ◌==◌, if◌then◌else◌, List, []}
 use Rattle.std.specs.Prelude.{length, Option, Some, None, slice_get, bytes_eq, nat_le, refl}
+use Rattle.std.specs.Char.{is_ascii_digit, is_ascii_lowercase}
+use Rattle.std.specs.Int.{is_in_range}
 use Rattle.std.specs.List.{list_any, list_all}
 use Rattle.bpf_model.specs.declared.limits.MapShape.{MapShape}
 use Rattle.bpf_model.specs.declared.limits.TheConstants.{MAX_MAPS, KEY_BYTES, VALUE_BYTES}
@@ -27,36 +29,25 @@ registry_code = code_by (List (List ℕ) × List MapView)
     (λ p. record { names = p.0; maps = p.1 })
     (λ _. refl)
 
--- `a` to `z`
-abbrev pub is_letter : ℕ → Bool
-is_letter c = nat_le 97 c && nat_le c 122
-
--- `0` to `9`
-abbrev pub is_digit : ℕ → Bool
-is_digit c = nat_le 48 c && nat_le c 57
-
--- a letter, a digit or `_`
+-- `a` to `z`, a digit or `_`
 abbrev pub is_name_character : ℕ → Bool
-is_name_character c = is_letter c || (is_digit c || (c == 95))
+is_name_character c = is_ascii_lowercase c || (is_ascii_digit c || (c == 95))
 
 abbrev pub begins_with_letter : Option ℕ → Bool
 begins_with_letter None = false
-begins_with_letter (Some c) = is_letter c
+begins_with_letter (Some c) = is_ascii_lowercase c
 
 -- A name of a map: 1 to NAME_BYTES of these characters, the first a letter.
 abbrev pub is_name : List ℕ → Bool
 is_name name = begins_with_letter (slice_get name 0)
     && (nat_le (length name) NAME_BYTES && list_all is_name_character name)
 
-abbrev pub is_between : ℕ → ℕ → ℕ → Bool
-is_between least n greatest = nat_le least n && nat_le n greatest
-
 -- whether a map may have the shape
 abbrev pub is_shape : MapShape → Bool
 is_shape shape =
-    is_between 1 shape.key_len KEY_BYTES && (is_between 1 shape.value_len VALUE_BYTES
-    && (is_between 1 shape.entries MAX_ENTRIES
-    && (nat_le shape.spare MAX_SPARE && is_between 1 shape.reuse_limit MAX_REUSE)))
+    is_in_range 1 KEY_BYTES shape.key_len && (is_in_range 1 VALUE_BYTES shape.value_len
+    && (is_in_range 1 MAX_ENTRIES shape.entries
+    && (nat_le shape.spare MAX_SPARE && is_in_range 1 MAX_REUSE shape.reuse_limit)))
 
 abbrev pub has_name : RegistryView → List ℕ → Bool
 has_name r name = list_any (bytes_eq name) r.names

@@ -87,16 +87,6 @@ impl<I: Index, D: Deferred> HashMap<I, D> {
         self.parts.find(key)
     }
 
-    /// The value of a key. A key of another length than the map's has none.
-    pub fn read(&self, key: &[u8]) -> Option<ValueBytes>
-        ensures { result ≡ value_read self.now key.now }
-    {
-        match self.parts.find(key) {
-            None => None,
-            Some(slot) => Some(array_of(self.parts.value(slot))),
-        }
-    }
-
     /// The bytes of the value of a key, where they stand. A key of another length than the map's has none.
     pub fn bytes_of(&self, key: &[u8]) -> Option<&[u8]>
         ensures bytes { option_map (λ b. record { items = b }) (option_copied result)
@@ -234,14 +224,6 @@ impl<I: Index, D: Deferred> HashMap<I, D> {
             (with_bytes offset (byte_count width) number (value_at self.old.slots slot)) }
     {
         self.parts.store(slot, offset, width, number);
-    }
-
-    /// The value of the element in a map slot.
-    pub fn value(&self, slot: usize) -> ValueBytes
-        requires { IsOccupied self.now slot }
-        ensures { result.items ≡ value_at self.now.slots slot }
-    {
-        array_of(self.parts.value(slot))
     }
 
     /// The element with the least key above a bound, in byte order. Every key is above no bound.

@@ -19,6 +19,7 @@ use Rattle.memory_effects.specs.declared.region.Region.TheVariants as regions
 use Rattle.memory_effects.specs.declared.reads.Reads.{Reads}
 use Rattle.memory_effects.specs.declared.reads.Reads.TheVariants as reads
 use Rattle.scalar_domain.specs.Floor.{KeepsLoadFloor}
+use Rattle.kind_tests.specs.Performs.{IsNumbers}
 use Rattle.bpf_model.specs.declared.opcode.Width.{Width}
 
 -- a reference into the region; none is into no region
@@ -100,6 +101,7 @@ pub record StoresBytes {A : Type 0} (r : Result A Fault) (at width : ℕ) (a b :
   pub fine : IsOk r
   pub alike : AreAlike (with_cells at width ByteCell a) b
 
--- What a load without sign gives is a number of so many bytes, or the reference whose parts are read.
+-- What a load without sign gives is a number of so many bytes, or the reference whose parts it
+-- reads.
 abbrev pub LoadsKnown : Width → Kind → Type 0
-LoadsKnown width k = ((s : Scalar) × (k ≡ Num s) × KeepsLoadFloor width s) ⊎ IsPointer k
+LoadsKnown width k = IsNumbers (KeepsLoadFloor width) k ⊎ IsPointer k

@@ -1,4 +1,4 @@
--- Each slot of a map is free, holds an element that isn't reclaimed, or is worn out.
+-- Each map slot is free, holds an element that isn't reclaimed, or is worn out.
 use Rattle.std.proofs.Common.{◌≡◌, ◌≢◌, ℕ, zero, suc, ◌+◌, ◌*◌, ◌<◌, ◌≤◌, List, [], ◌∷◌, ◌++◌, length, replicate, Option, Some, None, inl, inr, refl, sym, ap, ◌∙◌, arith, subst, Result, Bool, true, false}
 use Rattle.std.specs.Prelude.{slice_get, slice_set, ◌↔◌, ◌==◌, not, if◌then◌else◌}
 use Rattle.std.specs.List.{sum_by}
@@ -45,7 +45,7 @@ use Rattle.bpf_model.specs.History.{last_of}
 abbrev total : List ℕ → ℕ
 total counts = sum_by (λ c. c) counts
 
--- The slots of a map, and the uses of all of them: each birth was one. No slot is used more often than the map's shape allows.
+-- The map slots of a map, and the uses of all of them: each birth was one. No map slot is used more often than the map's shape allows.
 pub record AddsUp (k : ℕ) (es : List Element) (m : MapState) : Type 0 where
   pub slots : length m.bag + kept_count k es + m.worn ≡ m.shape.entries + m.shape.spare
   pub births : total m.bag + kept_uses k es + m.worn * m.shape.reuse_limit ≡ born_count k es

@@ -27,8 +27,8 @@ use Rattle.bpf_model.specs.Element.{Element}
 use Rattle.bpf_model.specs.MapState as map_state
 use Rattle.bpf_model.specs.Machine.{Loaded, Run, environment, fresh_run}
 use Rattle.bpf_model.specs.MachineStep.{Acts, AccessesElement, OutcomeStep, KernelStep, HelperStep, InsnStep, RunStep, element_load, element_store, bound_map}
-use Rattle.bpf_model.specs.Holds.{HoldsValue}
-use Rattle.model_laws.specs.Alone.{HoldsState, IsOwn, SharesNothing}
+use Rattle.bpf_model.specs.Holds.{HoldsValue, HoldsState}
+use Rattle.model_laws.specs.Alone.{IsOwn, SharesNothing}
 use Rattle.model_laws.proofs.Holding.{Closed, HoldsOutcome, holds-entry, holds-after, holds-returns}
 
 -- a program without map references has no instruction that loads one

@@ -11,7 +11,7 @@ use Rattle.bpf_model.specs.Step.{State, Environment, Outcome, entry}
 use Rattle.bpf_model.specs.Consistent.{IsBorn, IsBornValue, IsBornCell}
 use Rattle.bpf_model.specs.Element.{Element}
 use Rattle.bpf_model.specs.MachineStep.{Acts, returns}
-use Rattle.model_laws.specs.Alone.{HoldsState}
+use Rattle.bpf_model.specs.Holds.{HoldsState}
 use Rattle.model_laws.proofs.Holding.{Closed, HoldsOutcome, holds-entry, holds-acts, holds-returns}
 
 -- each register and each cell of a state

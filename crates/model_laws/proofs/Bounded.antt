@@ -1,4 +1,4 @@
--- A world reclaims no more elements than its maps' slots can bear.
+-- A world reclaims no more elements than its map slots can bear.
 use Rattle.std.proofs.Common.{◌≡◌, ℕ, suc, ◌+◌, ◌<◌, ◌≤◌, List, [], ◌∷◌, length, Some, inl, inr, refl, sym, ap, ◌∙◌, arith, subst}
 use Rattle.std.specs.Prelude.{slice_get, ◌==◌, count_by}
 use Rattle.std.specs.List.{sum_by}

@@ -2,6 +2,7 @@
 use Rattle.std.proofs.Common.{◌≡◌, ℕ, zero, suc, ◌+◌, ◌<◌, ◌≤◌, List, [], ◌∷◌, ◌++◌, length, map, drop, cond, Option, Some, None, inl, inr, refl, sym, ap, ◌∙◌, arith, subst, Bool, true, false}
 use Rattle.std.specs.Prelude.{slice_get, slice_set, ◌==◌, ◌&&◌, ◌||◌, if◌then◌else◌}
 use Rattle.std.proofs.Math.Dec.{eqb-suc-zero}
+use Rattle.std.proofs.Math.Nat.{zero-add}
 use Rattle.std.proofs.lemmas.Bool.{eqb-true, eq-eqb, false_from_ne_true, and_parts, false≢true}
 use Rattle.std.proofs.lemmas.Option.{none-some, same_Some}
 use Rattle.std.proofs.lemmas.List.Sums.{sum_by-cons, sum_by-append}
@@ -20,11 +21,8 @@ times-cons n x xs = sum_by-cons (λ y. cond (y == n) 1 0) x xs
 pub times-first : (n x : ℕ) (xs : List ℕ) → x ≡ n → times n (x ∷ xs) ≡ 1 + times n xs
 times-first n x xs e = times-cons n x xs ∙ ap (λ b. cond {A = ℕ} b 1 0 + times n xs) (eq-eqb x n e)
 
-pub zero-plus : (k : ℕ) → 0 + k ≡ k
-zero-plus k = omega arith
-
 pub times-other : (n x : ℕ) (xs : List ℕ) → (x ≡ n → ⊥) → times n (x ∷ xs) ≡ times n xs
-times-other n x xs ne = times-cons n x xs ∙ (ap (λ b. cond {A = ℕ} b 1 0 + times n xs) (false_from_ne_true (x == n) (λ t. ne (eqb-true x n t))) ∙ zero-plus (times n xs))
+times-other n x xs ne = times-cons n x xs ∙ (ap (λ b. cond {A = ℕ} b 1 0 + times n xs) (false_from_ne_true (x == n) (λ t. ne (eqb-true x n t))) ∙ zero-add (times n xs))
 
 -- whether an element of a map is unlinked in a step
 abbrev pub newly : ℕ → Option Element → Option Element → ℕ

@@ -16,7 +16,7 @@ use Rattle.bpf_model.specs.Spelling.{slot_count}
 use Rattle.bpf_model.specs.Step.{insn_at}
 use Rattle.bpf_model.specs.Graph.{falls, distance, JumpsTo, GoesTo, Reached, reached_entry, reached_next}
 use Rattle.bpf_model.specs.Plain.{ReadsRegister, WritesRegister, ReadsByte, WritesByte, WithoutByte, bare_entry, bare_next}
-use Rattle.bpf_model.specs.PlainMaps.{lookup_call, lock_call, unlock_call, Lookup, Part, FrameCopy, KeyAddress, MapLoad, LookupCall, NullTest, ValueLoad, part_insn, part_slot, IsGuardedLookup, IsPart, HasForm, InSection, section_entry, section_lock, section_unlock, section_next, LacksRegister, lacks_entry, lacks_call, lacks_next, IsPlainWithMaps}
+use Rattle.bpf_model.specs.PlainMaps.{lookup_call, lock_call, unlock_call, Lookup, LookupPart, FrameCopy, KeyAddress, MapLoad, LookupCall, NullTest, ValueLoad, part_insn, part_slot, IsGuardedLookup, IsLookupPart, HasForm, InSection, section_entry, section_lock, section_unlock, section_next, LacksRegister, lacks_entry, lacks_call, lacks_next, IsPlainWithMaps}
 use Rattle.model_laws.specs.Example.{lookup_and_load, example_shape}
 
 -- what holds of each instruction of a list and the slot where it begins, the first at slot n
@@ -329,7 +329,7 @@ shapes = example_shape ∷ []
 abbrev the : Lookup
 the = record { map = 0; shape = example_shape; at = 508; offset = negsuc 3; load = Load Eight 6 0 (pos 0) }
 
-the_parts : (p : Part) → insn_at lookup_and_load (3 + part_slot p) ≡ Some (part_insn the p)
+the_parts : (p : LookupPart) → insn_at lookup_and_load (3 + part_slot p) ≡ Some (part_insn the p)
 the_parts FrameCopy = refl
 the_parts KeyAddress = refl
 the_parts MapLoad = refl
@@ -345,7 +345,7 @@ the_lookup = record {
   entered = λ place target i h j low high. let e : target ≡ 10 = (jump_only place i h target j).1 in absurd (omega arith);
 }
 
-part : (place : ℕ) → 3 ≤ place → place ≤ 9 → IsPart lookup_and_load shapes place
+part : (place : ℕ) → 3 ≤ place → place ≤ 9 → IsLookupPart lookup_and_load shapes place
 part place low high = (3, the_lookup, low, high)
 
 start_at : (start : ℕ) → IsGuardedLookup lookup_and_load shapes start → start ≡ 3
@@ -353,7 +353,7 @@ start_at start l =
     let e : start ≡ start + part_slot FrameCopy = omega arith in
     first_at start _ (ap (insn_at lookup_and_load) e ∙ l.parts FrameCopy) refl
 
-part_bounds : (place : ℕ) → IsPart lookup_and_load shapes place → (3 ≤ place) × (place ≤ 9)
+part_bounds : (place : ℕ) → IsLookupPart lookup_and_load shapes place → (3 ≤ place) × (place ≤ 9)
 part_bounds place p =
     let e : p.0 ≡ 3 = start_at p.0 p.1 in
     let low : p.0 ≤ place = p.2 in
@@ -651,8 +651,8 @@ forms = visit (λ s j. HasForm lookup_and_load shapes s j) (
   ),
 )
 
-frame_pointer : (place : ℕ) (i : Insn) → insn_at lookup_and_load place ≡ Some i → (IsPart lookup_and_load shapes place → ⊥) → (WritesRegister i 10 → ⊥) × (ReadsRegister i 10 → ⊥)
-frame_pointer = visit (λ s j. (IsPart lookup_and_load shapes s → ⊥) → (WritesRegister j 10 → ⊥) × (ReadsRegister j 10 → ⊥)) (
+frame_pointer : (place : ℕ) (i : Insn) → insn_at lookup_and_load place ≡ Some i → (IsLookupPart lookup_and_load shapes place → ⊥) → (WritesRegister i 10 → ⊥) × (ReadsRegister i 10 → ⊥)
+frame_pointer = visit (λ s j. (IsLookupPart lookup_and_load shapes s → ⊥) → (WritesRegister j 10 → ⊥) × (ReadsRegister j 10 → ⊥)) (
   λ away. (λ w. absurd (omega arith), λ r. r),
   (
     λ away. (λ w. w, λ r. r),
@@ -687,8 +687,8 @@ frame_pointer = visit (λ s j. (IsPart lookup_and_load shapes s → ⊥) → (Wr
   ),
 )
 
-registers : (place : ℕ) (i : Insn) → insn_at lookup_and_load place ≡ Some i → (IsPart lookup_and_load shapes place → ⊥) → (r : ℕ) → ReadsRegister i r → LacksRegister lookup_and_load shapes r place → ⊥
-registers = visit (λ s j. (IsPart lookup_and_load shapes s → ⊥) → (r : ℕ) → ReadsRegister j r → LacksRegister lookup_and_load shapes r s → ⊥) (
+registers : (place : ℕ) (i : Insn) → insn_at lookup_and_load place ≡ Some i → (IsLookupPart lookup_and_load shapes place → ⊥) → (r : ℕ) → ReadsRegister i r → LacksRegister lookup_and_load shapes r place → ⊥
+registers = visit (λ s j. (IsLookupPart lookup_and_load shapes s → ⊥) → (r : ℕ) → ReadsRegister j r → LacksRegister lookup_and_load shapes r s → ⊥) (
   λ away r reads path. reads,
   (
     λ away r reads path. reads,
@@ -723,8 +723,8 @@ registers = visit (λ s j. (IsPart lookup_and_load shapes s → ⊥) → (r : �
   ),
 )
 
-bytes : (place : ℕ) (i : Insn) → insn_at lookup_and_load place ≡ Some i → (IsPart lookup_and_load shapes place → ⊥) → (k : ℕ) → ReadsByte i k → ⊥
-bytes = visit (λ s j. (IsPart lookup_and_load shapes s → ⊥) → (k : ℕ) → ReadsByte j k → ⊥) (
+bytes : (place : ℕ) (i : Insn) → insn_at lookup_and_load place ≡ Some i → (IsLookupPart lookup_and_load shapes place → ⊥) → (k : ℕ) → ReadsByte i k → ⊥
+bytes = visit (λ s j. (IsLookupPart lookup_and_load shapes s → ⊥) → (k : ℕ) → ReadsByte j k → ⊥) (
   λ away k reads. reads,
   (
     λ away k reads. reads,

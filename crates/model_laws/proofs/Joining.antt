@@ -8,13 +8,15 @@ use Rattle.bpf_model.specs.Schedule.{Schedule, IsScheduledHistory, start_schedul
 use Rattle.bpf_model.specs.Drain.{AnswersAsScheduled, AreScheduledAnswers}
 use Rattle.bpf_model.specs.View.{WorldView}
 use Rattle.bpf_model.specs.Refines.{TracksSchedule}
-use Rattle.model_laws.specs.Steps.{AreSteps, AnswersAsHistory}
+use Rattle.model_laws.specs.Steps.{AreSteps}
 use Rattle.model_laws.proofs.Draining.{drains_from}
 use Rattle.model_laws.proofs.Reached.{tracked_is_scheduled}
 use Rattle.bpf_model.specs.History.{last_of}
 
 module _ {World : Type 0} (Tracks : World → Schedule → Type 0) where
-  pub steps_make_history : (old new : World) (events : List Event) (answers : List Answer) → AreSteps Tracks old events answers new → AnswersAsHistory Tracks old events answers new
+  -- the history of the steps, at whose end the last world tracks the last state
+  steps_make_history : (old new : World) (events : List Event) (answers : List Answer) → AreSteps Tracks old events answers new →
+      (s : Schedule) → Tracks old s → (states : List Schedule) × IsScheduledHistory s events answers states × Tracks new (last_of s states)
   steps_make_history old new [] [] h s t = ([], tt, subst (λ w. Tracks w s) (sym h) t)
   steps_make_history old new (event ∷ events) (answer ∷ answers) h s t =
       let first = h.1 s t in

@@ -1,4 +1,4 @@
--- Lives are apart.
+-- An element is not both linked and unlinked, and a reclaimed one is neither.
 use Rattle.std.proofs.Common.{◌≡◌, List}
 use Rattle.bpf_model.specs.Section.{Section}
 use Rattle.bpf_model.specs.Element.{Linked, Unlinked, Reclaimed}

@@ -5,13 +5,13 @@ use Rattle.bpf_model.specs.declared.limits.MapShape.{MapShape}
 use Rattle.bpf_model.specs.declared.insn.Insn.{Insn}
 use Rattle.bpf_model.specs.Step.{insn_at}
 use Rattle.bpf_model.specs.Plain.{IsPlain, IsSimple, WithoutRegister, unwritten_entry, unwritten_next}
-use Rattle.bpf_model.specs.PlainMaps.{lookup_call, lock_call, unlock_call, LookupCall, IsGuardedLookup, IsPart, InSection, section_entry, section_lock, section_unlock, section_next, LacksRegister, lacks_entry, lacks_call, lacks_next, IsPlainWithMaps}
+use Rattle.bpf_model.specs.PlainMaps.{lookup_call, lock_call, unlock_call, LookupCall, IsGuardedLookup, IsLookupPart, InSection, section_entry, section_lock, section_unlock, section_next, LacksRegister, lacks_entry, lacks_call, lacks_next, IsPlainWithMaps}
 
 module _ (program : List Insn) (shapes : List MapShape) (p : IsPlain program) where
   no_guard : (start : ℕ) → IsGuardedLookup program shapes start → ⊥
   no_guard start l = p.simple (start + 4) lookup_call (l.parts LookupCall)
 
-  no_part : (place : ℕ) → IsPart program shapes place → ⊥
+  no_part : (place : ℕ) → IsLookupPart program shapes place → ⊥
   no_part place part = no_guard part.0 part.1
 
   outside : (open_now : Bool) (place : ℕ) → InSection program open_now place → open_now ≡ false

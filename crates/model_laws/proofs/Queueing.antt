@@ -4,6 +4,7 @@ use Rattle.std.specs.Prelude.{slice_get, ◌==◌, ◌&&◌, if◌then◌else◌
 use Rattle.std.proofs.lemmas.Bool.{eqb-true, eq-eqb, false_from_ne_true, and_parts, false≢true, lt-ltb, and_right}
 use Rattle.std.proofs.lemmas.Option.{none-some, same_Some}
 use Rattle.bpf_model.proofs.Lists.{get-map}
+use Rattle.bpf_model.proofs.Cases.{flattened}
 use Rattle.bpf_model.specs.Section.{Section, Has, AllEnded}
 use Rattle.bpf_model.specs.Element.{Element, Life, Linked, Unlinked, Reclaimed, is_linked, is_unlinked}
 use Rattle.bpf_model.specs.MapState.{Store}
@@ -15,11 +16,11 @@ use Rattle.model_laws.proofs.Moves.{RunsMove, run-before}
 use Rattle.model_laws.proofs.Stores.{LifeMoves, Stays, Unlinks, Ends, Alters, StoreMoves}
 use Rattle.model_laws.proofs.Past.{ended-later}
 use Rattle.model_laws.proofs.Keeping.{element-before}
-use Rattle.model_laws.proofs.Counting.{newly, zero-plus}
+use Rattle.model_laws.proofs.Counting.{newly}
+use Rattle.std.proofs.Math.Nat.{add-zero, zero-add}
 use Rattle.model_laws.proofs.Lives.{linked≢unlinked, reclaimed≢unlinked}
 use Rattle.model_laws.proofs.Tallies.{one_of, one-most}
 use Rattle.bpf_model.specs.Consistent.{AllBegun}
-use Rattle.std.specs.Option.{option_flatten}
 
 -- what is queued is an unlinked element of the map
 pub record Queued (es : List Element) (k n : ℕ) : Type 0 where
@@ -76,13 +77,8 @@ since-before reap opened s new k n f since mv q at life = elim (element-before r
 ]
 
 -- a run that is inside is flagged as open
-pub in-slot : (o : Option (Option Run)) (run : Run) → option_flatten o ≡ Some run → o ≡ Some (Some run)
-in-slot None run h = absurd (none-some run h)
-in-slot (Some None) run h = absurd (none-some run h)
-in-slot (Some (Some x)) run h = ap Some h
-
 pub open-flag : (runs : List (Option Run)) (r : ℕ) (run : Run) → run_at runs r ≡ Some run → 0 < run.depth → slice_get (open_flags runs) r ≡ Some true
-open-flag runs r run at inside = get-map is_open runs r (Some run) (in-slot (slice_get runs r) run at) ∙ ap Some (lt-ltb 0 run.depth inside)
+open-flag runs r run at inside = get-map is_open runs r (Some run) (flattened (slice_get runs r) run at) ∙ ap Some (lt-ltb 0 run.depth inside)
 
 -- a section that an element keeps, under another name of the same run and lock
 has-same : (since : List Section) (name old_name lock old_lock : ℕ) → name ≡ old_name → lock ≡ old_lock → Has since (record { run = name; lock = lock }) → Has since (record { run = old_name; lock = old_lock })
@@ -128,16 +124,13 @@ queued_life k l map = if is_unlinked l && (map == k) then 1 else 0
 abbrev newly_life : ℕ → Life → Life → ℕ → ℕ
 newly_life k l new map = if is_linked l && is_unlinked new && (map == k) then 1 else 0
 
-plus-zero : (x : ℕ) → x ≡ x + 0
-plus-zero x = omega arith
-
 count-same : (k : ℕ) (l : Life) (map : ℕ) → queued_life k l map ≡ queued_life k l map + newly_life k l l map
 count-same k Linked map = refl
-count-same k (Unlinked since) map = plus-zero (if map == k then 1 else 0)
+count-same k (Unlinked since) map = sym (add-zero (if map == k then 1 else 0))
 count-same k Reclaimed map = refl
 
 count-unlinked : (k : ℕ) (opened : List Section) (map : ℕ) → queued_life k (Unlinked opened) map ≡ queued_life k Linked map + newly_life k Linked (Unlinked opened) map
-count-unlinked k opened map = sym (zero-plus (if map == k then 1 else 0))
+count-unlinked k opened map = sym (zero-add (if map == k then 1 else 0))
 
 count-life : (k : ℕ) (opened : List Section) (old new : Life) (map : ℕ) → LifeMoves false opened old new → queued_life k new map ≡ queued_life k old map + newly_life k old new map
 count-life k opened old new map (Stays e) = subst (λ x. queued_life k x map ≡ queued_life k old map + newly_life k old x map) (sym e) (count-same k old map)

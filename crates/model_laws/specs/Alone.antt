@@ -1,15 +1,9 @@
 -- Runs that have no reference to a map or to an element of one.
-use Rattle.std.specs.Prelude.{ℕ}
 use Rattle.bpf_model.specs.declared.value.Reference.{Reference}
 use Rattle.bpf_model.specs.declared.value.Reference.TheVariants.{Ctx, Frame, MapRef, Elem}
-use Rattle.bpf_model.specs.Holds.{HoldsValue, HoldsCell}
-use Rattle.bpf_model.specs.Step.{State}
+use Rattle.bpf_model.specs.Holds.{HoldsState}
 use Rattle.bpf_model.specs.Exit.{HasNoMaps}
 use Rattle.bpf_model.specs.Machine.{Run}
-
--- a property of each reference that a run's registers and frame hold
-abbrev pub HoldsState : (Reference → Type 0) → State → Type 0
-HoldsState P m = ((r : ℕ) → HoldsValue P (m.regs r)) × ((k : ℕ) → HoldsCell P (m.frame k))
 
 -- A reference to the run's own context or frame.
 abbrev pub IsOwn : Reference → Type 0

@@ -40,7 +40,7 @@ ghost use Rattle.bpf_model.specs.Request.{Argument, Request, signature_of, asks,
 ghost use Rattle.model_laws.specs.Alone.{SharesNothing};
 ghost use Rattle.model_laws.specs.Growth.{ElementsGrow};
 ghost use Rattle.model_laws.specs.Scheduled.{IsScheduled, IsReapable};
-ghost use Rattle.model_laws.specs.Steps.{AreSteps, AnswersAsHistory};
+ghost use Rattle.model_laws.specs.Steps.{AreSteps};
 ghost use Rattle.model_laws.specs.Accounted.{kept_count, born_count, IsFull};
 ghost use Rattle.model_laws.specs.Example.{lookup_and_load, example_shape};
 ghost use Rattle.model_laws.specs.Locations.{Location, IsNearLocation, named_location, location_word};
@@ -234,8 +234,8 @@ pub fn no_memory_when_full()
         × (IsFull k s.machine.store.elements m → ret ≢ Ok tt) }
 {}
 
-/// In each state that is reached from the start no more elements were born in a map than its slots can
-/// bear, of which each is used at most as often as the map's shape says.
+/// In each state that is reached from the start no more elements were born in a map than its map slots
+/// can bear, of which each is used at most as often as the map's shape says.
 pub fn births_bounded()
     ensures { (shapes : List MapShape) (programs : List Loaded) (s : Schedule) (k : ℕ)
         (m : MapState) →
@@ -243,7 +243,7 @@ pub fn births_bounded()
         1 ≤ m.shape.reuse_limit → born_count k s.machine.store.elements ≤ most_births m.shape }
 {}
 
-/// A world has reclaimed no more elements than the slots of its maps can bear, so that their number has room.
+/// A world has reclaimed no more elements than its map slots can bear, so that their number has room.
 pub fn given_bounded()
     ensures { (w : WorldView) (s : Schedule) → TracksSchedule w s →
         w.given ≤ sum_by most_births (shapes_of w) }
@@ -264,20 +264,6 @@ pub fn tracked_is_scheduled()
 pub fn tracked_reclaimed_late()
     ensures { (w : WorldView) (events : List Event) (answers : List Answer) →
         AreReclaimedLate Tracks w events answers }
-{}
-
-/// A type of worlds, with the states that each of them tracks.
-pub trait Tracking {
-    /// Whether the world tracks the state.
-    ghost tracks: { Self → Schedule → Type 0 };
-}
-
-/// Over any worlds and whatever they track: answers that are steps one after another are those of a
-/// history, and the last world tracks its last state.
-pub fn steps_make_history<World: Tracking>()
-    ensures { (old new : World) (events : List Event) (answers : List Answer) →
-        AreSteps World.tracks old events answers new →
-        AnswersAsHistory World.tracks old events answers new }
 {}
 
 /// Answers that are steps one after another make a history with the runtime's choices, in which the

@@ -1,5 +1,5 @@
 //! The context and the frame.
-ghost use Rattle.std.specs.Prelude.{◌≡◌, ℕ, ◌+◌, ◌-◌, ◌*◌, ◌/◌, ◌%◌, ◌^◌, ◌<◌, ◌≤◌, length, slice_get, IfSome, Option, Some, None, true, false, ◌+ℤ◌, if◌then◌else◌};
+ghost use Rattle.std.specs.Prelude.{◌≡◌, ℕ, ◌+◌, ◌-◌, ◌*◌, ◌/◌, ◌%◌, ◌^◌, ◌<◌, ◌≤◌, length, slice_get, IfSome, ◌+ℤ◌, if◌then◌else◌};
 ghost use Rattle.bpf_model.specs.declared.limits.TheConstants.{FRAME_BYTES};
 ghost use Rattle.bpf_model.specs.Access.{byte_count, region_offset as offset_within, number_at};
 ghost use Rattle.bpf_model.specs.Frame.{byte_of, is_same_reference as is_same, is_part as is_part_of, are_parts as are_parts_of, is_within, read as read_from};

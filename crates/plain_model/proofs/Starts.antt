@@ -1,4 +1,4 @@
--- The start.
+-- Empty lists for each map, and run slots without a run, as a machine starts.
 use Rattle.std.proofs.Common.{◌≡◌, ℕ, zero, suc, List, [], ◌∷◌, None, refl, ap, length, map}
 use Rattle.std.specs.Prelude.{replicate}
 use Rattle.bpf_model.specs.declared.limits.MapShape.{MapShape}

@@ -23,7 +23,7 @@ ghost use Rattle.plain_runs.specs.MapKeys.{IsMapKey};
 use crate::run::{Loaded, Run};
 use arrayvec::ArrayVec;
 use bpf_model::{
-    Answer, Cell, Errno, FRAME_BYTES, Helper, KernelFunction, KeyBytes, MAX_DEPTH, MapShape,
+    Answer, Cell, FRAME_BYTES, Helper, KernelFunction, KeyBytes, MAX_DEPTH, MapShape,
     Reference, Reg, Value, ValueBytes, ret_word,
 };
 use plain_interpreter::{PlainRun, number};

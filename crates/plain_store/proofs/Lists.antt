@@ -2,12 +2,7 @@
 use Rattle.std.proofs.Common.{◌≡◌, ℕ, zero, suc, ◌+◌, ◌<◌, ◌≤◌, List, [], ◌∷◌, ◌++◌, length, Some, refl, sym, ap, ◌∙◌, subst, arith, map}
 use Rattle.std.specs.Prelude.{slice_get, slice_index_or, remove, drop, take}
 use Rattle.std.proofs.lemmas.List.{append_assoc, append-nil, drop_all}
-use Rattle.std.proofs.lemmas.Option.{slice_get-get_or}
 use Rattle.bpf_model.proofs.Lists.{drop-next, take-next}
-
--- what an index reads is what stands there
-pub read-at : {A : Type 0} (xs : List A) (i : ℕ) (x : A) → i < length xs → x ≡ slice_index_or xs i x → slice_get xs i ≡ Some x
-read-at xs i x h e = slice_get-get_or xs i x h ∙ ap Some (sym e)
 
 pub remove-first : {A : Type 0} (xs : List A) → remove xs 0 ≡ drop 1 xs
 remove-first [] = refl

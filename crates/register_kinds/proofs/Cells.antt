@@ -1,11 +1,10 @@
 -- Joins of whole states: cells by what was stored in their groups.
-use Rattle.std.proofs.Common.{◌≡◌, ℕ, ◌+◌, ◌/◌, ◌<◌, List, length, refl, sym, subst, ◌∙◌, arith, inl, inr}
+use Rattle.std.proofs.Common.{◌≡◌, ℕ, ◌+◌, ◌/◌, ◌<◌, List, length, refl, sym, subst, ◌∙◌, arith, inl, inr, ap₂}
 use Rattle.std.specs.Prelude.{if◌then◌else◌}
 use Rattle.std.proofs.lemmas.Bool.{cases_lt}
 use Rattle.std.proofs.lemmas.List.{get_or_past}
 use Rattle.typed_runs.specs.Kinds.{PartCell}
 use Rattle.typed_runs.specs.Planned.{Joins}
-use Rattle.scalar_domain.proofs.Bits.{ap2}
 use Rattle.register_kinds.specs.declared.kind.RegKind.{RegKind}
 use Rattle.register_kinds.specs.declared.kind.RegKind.TheVariants as kinds
 use Rattle.register_kinds.specs.declared.kind.CellKind as classes
@@ -67,7 +66,7 @@ pub joined_all : (xs old others : List classes.CellKind) (g : ℕ → RegKind) �
     → ((k : ℕ) → k < length others → class_in xs k ≡ joined_class (class_in old k) (class_in others k) (is_pointer (g k))) → (k : ℕ) → class_in xs k ≡ joined_class (class_in old k) (class_in others k) (is_pointer (g k))
 joined_all xs old others g e f all k = elim (cases_lt k (length others)) [
   | inl l ↦ all k l
-  | inr l ↦ get_or_past xs k cells.Unwritten (omega arith) ∙ sym (ap2 (λ a b. joined_class a b (is_pointer (g k))) (get_or_past old k cells.Unwritten (omega arith)) (get_or_past others k cells.Unwritten (omega arith)))
+  | inr l ↦ get_or_past xs k cells.Unwritten (omega arith) ∙ sym (ap₂ (λ a b. joined_class a b (is_pointer (g k))) (get_or_past old k cells.Unwritten (omega arith)) (get_or_past others k cells.Unwritten (omega arith)))
 ]
 
 -- whole states are joined where their registers and their cells are

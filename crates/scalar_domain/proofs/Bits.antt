@@ -1,15 +1,13 @@
 -- Numbers within a mask.
-use Rattle.std.proofs.Common.{◌≡◌, ℕ, suc, ◌+◌, ◌-◌, ◌*◌, ◌/◌, ◌%◌, ◌^◌, ◌<◌, ◌≤◌, sym, ◌∙◌, ap, subst, arith}
+use Rattle.std.proofs.Common.{◌≡◌, ℕ, suc, ◌+◌, ◌-◌, ◌*◌, ◌/◌, ◌%◌, ◌^◌, ◌<◌, ◌≤◌, sym, ◌∙◌, ap, ap₂, subst, arith}
 use Rattle.std.specs.Prelude.{bit_and, bit_or, bit_xor}
 use Rattle.std.specs.Int.{bit_at, leading_zeros, w64}
-use Rattle.std.proofs.lemmas.Nat.{and_le_r, and_mask, and_mod, and_shr, and_block, pow_pos, shr_split, le-div, leading_top}
+use Rattle.std.proofs.lemmas.Nat.{and_le_r, and_mask, and_mod, and_shr, and_block, pow_pos, shr_split, leading_top}
 use Rattle.std.specs.Int.Bits.{and_self, and_zero_l}
 use Rattle.std.proofs.lemmas.Nat.Bits.{bit_at_and, bit_at_or, bit_at_xor, same_from_bits, bit_at-lt, ones_shr}
 use Rattle.std.proofs.Math.Nat.{mod-eq_of_lt}
+use Rattle.std.proofs.Math.Pow.{shr_mono}
 use Rattle.scalar_domain.specs.Mask.{Within}
-
-pub ap2 : {A B C : Type 0} (f : A → B → C) {a a' : A} {b b' : B} → a ≡ a' → b ≡ b' → f a b ≡ f a' b'
-ap2 f {a' = a'} {b = b} p q = ap (λ a. f a b) p ∙ ap (f a') q
 
 -- bit by bit
 pub within_bit : (n m i : ℕ) → Within n m → bit_at n i ≤ bit_at m i
@@ -65,13 +63,10 @@ and_shl n m k =
     let l : n * 2 ^ k + 0 ≡ n * 2 ^ k = omega arith in
     let r : m * 2 ^ k + 0 ≡ m * 2 ^ k = omega arith in
     let s : bit_and n m * 2 ^ k + 0 ≡ bit_and n m * 2 ^ k = omega arith in
-    ap2 bit_and (sym l) (sym r) ∙ e ∙ s
+    ap₂ bit_and (sym l) (sym r) ∙ e ∙ s
 
 pub within-shl : (n m k : ℕ) → Within n m → Within ((n * 2 ^ k) % 2 ^ 64) ((m * 2 ^ k) % 2 ^ 64)
 within-shl n m k h = within-mod (n * 2 ^ k) (m * 2 ^ k) 64 (and_shl n m k ∙ ap (λ x. x * 2 ^ k) h)
-
-pub shr_mono : (x y k : ℕ) → x ≤ y → x / 2 ^ k ≤ y / 2 ^ k
-shr_mono x y k h = le-div (x / 2 ^ k) y (2 ^ k) (pow_pos k) (omega (arith, shr_split x k))
 
 -- numbers with one high part are ordered as their low parts
 pub low_mono : (x y k : ℕ) → x ≤ y → x / 2 ^ k ≡ y / 2 ^ k → x % 2 ^ k ≤ y % 2 ^ k
@@ -80,7 +75,7 @@ low_mono x y k h e =
     omega (arith, f, shr_split x k, shr_split y k)
 
 pub same_high : (l x g k : ℕ) → l ≤ x → x ≤ g → l / 2 ^ k ≡ g / 2 ^ k → (l / 2 ^ k ≡ x / 2 ^ k) × (x / 2 ^ k ≡ g / 2 ^ k)
-same_high l x g k p q e = (omega (arith, e, shr_mono l x k p, shr_mono x g k q), omega (arith, e, shr_mono l x k p, shr_mono x g k q))
+same_high l x g k p q e = (omega (arith, e, shr_mono k p, shr_mono k q), omega (arith, e, shr_mono k p, shr_mono k q))
 
 pub ones_within : (x n : ℕ) → 0 < n → n < 2 ^ 64 → x ≤ n → Within x ((2 ^ 64 - 1) / 2 ^ leading_zeros w64 n)
 ones_within x n p l h =

@@ -1,13 +1,14 @@
 -- Bits of sums, by carries.
-use Rattle.std.proofs.Common.{◌≡◌, ℕ, ◌+◌, ◌-◌, ◌*◌, ◌/◌, ◌%◌, ◌^◌, ◌<◌, ◌≤◌, sym, ◌∙◌, ap, arith}
+use Rattle.std.proofs.Common.{◌≡◌, ℕ, ◌+◌, ◌-◌, ◌*◌, ◌/◌, ◌%◌, ◌^◌, ◌<◌, ◌≤◌, sym, ◌∙◌, ap, ap₂, arith}
 use native.Mathlib.Decide.{dec_lt}
 use Rattle.std.specs.Prelude.{bit_and, bit_or, bit_xor, min, max}
 use Rattle.std.specs.Int.{bit_at, bit_not, w64}
 use Rattle.std.proofs.lemmas.Nat.{pow_pos, shr_split, mod_below}
 use Rattle.std.proofs.lemmas.Nat.Bits.{bit_at_and, bit_at_or, bit_at_xor, bit_at_not, bit_at-lt, bit_at_above, bit_at_mask_inside, same_from_bits_below}
 use Rattle.std.proofs.Math.Nat.{mul-add-div_right, add-mod, div-eq_of_lt}
+use Rattle.std.proofs.Math.Pow.{shr_mono}
 use Rattle.scalar_domain.specs.Mask.{Within, HasBits, AreKnownBelow}
-use Rattle.scalar_domain.proofs.Bits.{ap2, within_bit, within_from, within_le, within-mod, shr_mono}
+use Rattle.scalar_domain.proofs.Bits.{within_bit, within_from, within_le, within-mod}
 use Rattle.scalar_domain.proofs.Multiples.{low_bit, low_zero, sum_low, below_word, word}
 
 -- the carry into a bit of a sum
@@ -25,7 +26,7 @@ bit_of_sum x y c i =
 
 carry_mono : (x y x' y' c i : ℕ) → x % 2 ^ i ≤ x' % 2 ^ i → y % 2 ^ i ≤ y' % 2 ^ i → carry_into i x y c ≤ carry_into i x' y' c
 unfolding carry_into
-carry_mono x y x' y' c i h k = shr_mono (x % 2 ^ i + y % 2 ^ i + c) (x' % 2 ^ i + y' % 2 ^ i + c) i (omega (arith, h, k))
+carry_mono x y x' y' c i h k = shr_mono {a = x % 2 ^ i + y % 2 ^ i + c} {b = x' % 2 ^ i + y' % 2 ^ i + c} i (omega (arith, h, k))
 
 carry_small : (x y c i : ℕ) → c ≤ 1 → carry_into i x y c ≤ 1
 unfolding carry_into
@@ -33,7 +34,7 @@ carry_small x y c i h =
     let top : (1 * 2 ^ i + (2 ^ i - 1)) / 2 ^ i ≡ 1 + (2 ^ i - 1) / 2 ^ i = mul-add-div_right (pow_pos i) 1 (2 ^ i - 1) in
     let none : (2 ^ i - 1) / 2 ^ i ≡ 0 = div-eq_of_lt (omega (arith, pow_pos i)) in
     let below : x % 2 ^ i + y % 2 ^ i + c ≤ 1 * 2 ^ i + (2 ^ i - 1) = omega (arith, h, mod_below x (2 ^ i) (pow_pos i), mod_below y (2 ^ i) (pow_pos i)) in
-    omega (arith, top, none, shr_mono _ _ i below)
+    omega (arith, top, none, shr_mono i below)
 
 low_le : (n m i : ℕ) → Within n m → n % 2 ^ i ≤ m % 2 ^ i
 low_le n m i h = within_le _ _ (within-mod n m i h)
@@ -53,7 +54,7 @@ opened a a' b b' l g = bit_or (bit_or (bit_xor a' a) (bit_xor b' b)) (bit_xor l 
 opened_bit : (a a' b b' l g i : ℕ) → bit_at (opened a a' b b' l g) i
     ≡ max (max ((bit_at a' i + bit_at a i) % 2) ((bit_at b' i + bit_at b i) % 2)) ((bit_at l i + bit_at g i) % 2)
 opened_bit a a' b b' l g i =
-    bit_at_or _ _ i ∙ ap2 max (bit_at_or _ _ i ∙ ap2 max (bit_at_xor a' a i) (bit_at_xor b' b i)) (bit_at_xor l g i)
+    bit_at_or _ _ i ∙ ap₂ max (bit_at_or _ _ i ∙ ap₂ max (bit_at_xor a' a i) (bit_at_xor b' b i)) (bit_at_xor l g i)
 
 between : (a x a' b y b' c l g i : ℕ) → l ≡ (a + b + c) % 2 ^ 64 → g ≡ (a' + b' + c) % 2 ^ 64 → c ≤ 1 → Within a x → Within x a' → Within b y → Within y b' → i < 64
     → (bit_at ((x + y + c) % 2 ^ 64) i ≤ max (bit_at l i) (bit_at (opened a a' b b' l g) i))
@@ -92,7 +93,7 @@ sum_bits a x a' b y b' c l g e f fits small h k =
 -- low bits that are known in both are known in the sum
 low_sum : (a a' b b' c t : ℕ) → t ≤ 64 → a % 2 ^ t ≡ a' % 2 ^ t → b % 2 ^ t ≡ b' % 2 ^ t → (a + b + c) % 2 ^ 64 % 2 ^ t ≡ (a' + b' + c) % 2 ^ 64 % 2 ^ t
 low_sum a a' b b' c t h e f =
-    let one : (a + b) % 2 ^ t ≡ (a' + b') % 2 ^ t = add-mod a b (2 ^ t) ∙ ap2 (λ m n. (m + n) % 2 ^ t) e f ∙ sym (add-mod a' b' (2 ^ t)) in
+    let one : (a + b) % 2 ^ t ≡ (a' + b') % 2 ^ t = add-mod a b (2 ^ t) ∙ ap₂ (λ m n. (m + n) % 2 ^ t) e f ∙ sym (add-mod a' b' (2 ^ t)) in
     below_word (a + b + c) t h ∙ add-mod (a + b) c (2 ^ t) ∙ ap (λ n. (n + c % 2 ^ t) % 2 ^ t) one ∙ sym (add-mod (a' + b') c (2 ^ t)) ∙ sym (below_word (a' + b' + c) t h)
 
 pub same_low : (n m t i : ℕ) → n % 2 ^ t ≡ m % 2 ^ t → i < t → bit_at n i ≡ bit_at m i

@@ -1,5 +1,5 @@
 -- What the edges of a conditional jump say.
-use Rattle.std.proofs.Common.{◌≡◌, ℕ, suc, pos, negsuc, refl, ap, inl, inr, ◌-◌, ◌%◌, ◌^◌, ◌<◌, ◌≤◌, sym, ◌∙◌, subst, arith, Bool, true, false}
+use Rattle.std.proofs.Common.{◌≡◌, ℕ, suc, pos, negsuc, refl, ap, ap₂, inl, inr, ◌-◌, ◌%◌, ◌^◌, ◌<◌, ◌≤◌, sym, ◌∙◌, subst, arith, Bool, true, false}
 use Rattle.std.specs.Prelude.{◌≢◌, bit_and, ◌==◌, int_lt, int_le, Option, Some, None, IsSomeAnd}
 use Rattle.std.specs.Int.{Width, w32, w64}
 use mir.Val.{bits, hbits, sel}
@@ -16,7 +16,7 @@ use Rattle.scalar_domain.specs.Scalar.{IsNoWider}
 use Rattle.scalar_domain.specs.Mask.{Within}
 use Rattle.scalar_domain.specs.Relation.{Related, Bounding, relation_on, unsigned_condition, signed_order, SignedRelated, MovesBounds, GoesAlong, TellsDifferent}
 use Rattle.scalar_domain.specs.declared.relation.Relation.TheVariants.{Different}
-use Rattle.scalar_domain.proofs.Bits.{ap2, within-and, within_le, within-trans}
+use Rattle.scalar_domain.proofs.Bits.{within-and, within_le, within-trans}
 use Rattle.std.specs.Int.Bits.{and_self}
 
 pub related : (w : Width) (c : Condition) (t : Bool) (x y : ℕ) → holds w c x y ≡ t → Related (relation_on c t) x y
@@ -112,26 +112,26 @@ negative w n h = (2 ^ bits w - suc n, ap (λ t. sel t (pos n) (negsuc (2 ^ bits 
 
 lt_true : (w : Width) (x y : ℕ) → x < 2 ^ hbits w → int_lt (signed w x) (signed w y) ≡ true → (x < y) × (y < 2 ^ hbits w)
 lt_true w x y p e = elim (cases_lt y (2 ^ hbits w)) [
-  | inl q ↦ (ltb-true x y (sym (ap2 int_lt (to_z_pos w x p) (to_z_pos w y q)) ∙ e), q)
-  | inr q ↦ let n = negative w y q in absurd (false≢true (sym (ap2 int_lt (to_z_pos w x p) n.1) ∙ e))
+  | inl q ↦ (ltb-true x y (sym (ap₂ int_lt (to_z_pos w x p) (to_z_pos w y q)) ∙ e), q)
+  | inr q ↦ let n = negative w y q in absurd (false≢true (sym (ap₂ int_lt (to_z_pos w x p) n.1) ∙ e))
 ]
 
 le_true : (w : Width) (x y : ℕ) → x < 2 ^ hbits w → int_le (signed w x) (signed w y) ≡ true → (x ≤ y) × (y < 2 ^ hbits w)
 le_true w x y p e = elim (cases_lt y (2 ^ hbits w)) [
-  | inl q ↦ (leb-true x y (sym (ap2 int_le (to_z_pos w x p) (to_z_pos w y q)) ∙ e), q)
-  | inr q ↦ let n = negative w y q in absurd (false≢true (sym (ap2 int_le (to_z_pos w x p) n.1) ∙ e))
+  | inl q ↦ (leb-true x y (sym (ap₂ int_le (to_z_pos w x p) (to_z_pos w y q)) ∙ e), q)
+  | inr q ↦ let n = negative w y q in absurd (false≢true (sym (ap₂ int_le (to_z_pos w x p) n.1) ∙ e))
 ]
 
 lt_false : (w : Width) (x y : ℕ) → y < 2 ^ hbits w → int_lt (signed w x) (signed w y) ≡ false → (y ≤ x) × (x < 2 ^ hbits w)
 lt_false w x y p e = elim (cases_lt x (2 ^ hbits w)) [
-  | inl q ↦ (ltb-false x y (sym (ap2 int_lt (to_z_pos w x q) (to_z_pos w y p)) ∙ e), q)
-  | inr q ↦ let n = negative w x q in absurd (false≢true (sym e ∙ ap2 int_lt n.1 (to_z_pos w y p)))
+  | inl q ↦ (ltb-false x y (sym (ap₂ int_lt (to_z_pos w x q) (to_z_pos w y p)) ∙ e), q)
+  | inr q ↦ let n = negative w x q in absurd (false≢true (sym e ∙ ap₂ int_lt n.1 (to_z_pos w y p)))
 ]
 
 le_false : (w : Width) (x y : ℕ) → y < 2 ^ hbits w → int_le (signed w x) (signed w y) ≡ false → (y < x) × (x < 2 ^ hbits w)
 le_false w x y p e = elim (cases_lt x (2 ^ hbits w)) [
-  | inl q ↦ (leb-false x y (sym (ap2 int_le (to_z_pos w x q) (to_z_pos w y p)) ∙ e), q)
-  | inr q ↦ let n = negative w x q in absurd (false≢true (sym e ∙ ap2 int_le n.1 (to_z_pos w y p)))
+  | inl q ↦ (leb-false x y (sym (ap₂ int_le (to_z_pos w x q) (to_z_pos w y p)) ∙ e), q)
+  | inr q ↦ let n = negative w x q in absurd (false≢true (sym e ∙ ap₂ int_le n.1 (to_z_pos w y p)))
 ]
 
 pub signed_related : (w : Width) (c : Condition) (t : Bool) (x y : ℕ) → signed_order c ≡ true → holds w c x y ≡ t → SignedRelated (2 ^ hbits w) (relation_on (unsigned_condition c) t) x y
@@ -197,7 +197,7 @@ goes_along c t r o k x e m f h =
     some_and {P = BothRelated (relation_on c t) k} o (λ p b. record { least = along c t p.0.least k m b.0; greatest = along c t p.0.greatest k m b.1 }) g
 
 pub narrow_compares : (c : Condition) (x y : ℕ) → x < 2 ^ 32 → y < 2 ^ 32 → holds w32 c (x % 2 ^ 32) (y % 2 ^ 32) ≡ holds w32 c x y
-narrow_compares c x y p q = ap2 (holds w32 c) (mod-eq_of_lt p) (mod-eq_of_lt q)
+narrow_compares c x y p q = ap₂ (holds w32 c) (mod-eq_of_lt p) (mod-eq_of_lt q)
 
 pub outside : (m x : ℕ) → m < 2 ^ 64 → x < 2 ^ 64 → bit_and m x ≡ 0 → Within x (2 ^ 64 - 1 - m)
 outside m x p q e = and_comm x (2 ^ 64 - 1 - m) ∙ omega (arith, and-not 64 m x p q, e)

@@ -1,5 +1,5 @@
 -- The arithmetic in whole numbers, without sign.
-use Rattle.std.proofs.Common.{◌≡◌, ℕ, ◌+◌, ◌-◌, ◌*◌, ◌/◌, ◌%◌, ◌^◌, ◌<◌, ◌≤◌, pos, refl, sym, ◌∙◌, ap, arith, Bool, cond}
+use Rattle.std.proofs.Common.{◌≡◌, ℕ, ◌+◌, ◌-◌, ◌*◌, ◌/◌, ◌%◌, ◌^◌, ◌<◌, ◌≤◌, pos, refl, sym, ◌∙◌, ap, ap₂, arith, Bool, cond}
 use Rattle.std.specs.Prelude.{◌==◌, ◌-ℤ◌, neg_ℤ, int_div, int_rem, unsigned_abs}
 use Rattle.std.specs.Int.{Width, w32, w64, int_shr}
 use mir.Val.{bits, hbits}
@@ -11,7 +11,6 @@ use Rattle.bpf_model.specs.Arithmetic.{operate, word, signed}
 use Rattle.bpf_model.specs.declared.insn.AluOp.{AluOp}
 use Rattle.bpf_model.specs.declared.insn.AluOp.TheVariants.{Add, Sub, Mul, Div, SignedDiv, Or, And, ShiftLeft, ShiftRight, Mod, SignedMod, Xor, Move, ShiftRightSigned}
 use Rattle.scalar_domain.specs.Unsigned.{unsigned_form}
-use Rattle.scalar_domain.proofs.Bits.{ap2}
 use Rattle.scalar_domain.proofs.Words.{operate_lt}
 
 pub word_difference : (x y : ℕ) → y < 2 ^ 64 → word w64 (pos x -ℤ pos y) ≡ (x + (2 ^ 64 - y)) % 2 ^ 64
@@ -35,9 +34,9 @@ same_else t a b c e = ap (cond t a) e
 
 pub unsigned_same : (w : Width) → ((n : ℕ) → n < 2 ^ hbits w → n < 2 ^ bits w) → (op : AluOp) (x y : ℕ) → x < 2 ^ hbits w → y < 2 ^ hbits w → operate w op x y ≡ operate w (unsigned_form op) x y
 unsigned_same w half SignedDiv x y p q = same_else (y == 0) 0 (word w (int_div (signed w x) (signed w y))) (x / y)
-    (ap2 (λ a b. word w (int_div a b)) (to_z_pos w x p) (to_z_pos w y q) ∙ whole w (x / y) x (div-le_self x y) (half x p))
+    (ap₂ (λ a b. word w (int_div a b)) (to_z_pos w x p) (to_z_pos w y q) ∙ whole w (x / y) x (div-le_self x y) (half x p))
 unsigned_same w half SignedMod x y p q = same_else (y == 0) x (word w (int_rem (signed w x) (signed w y))) (x % y)
-    (ap2 (λ a b. word w (int_rem a b)) (to_z_pos w x p) (to_z_pos w y q) ∙ whole w (x % y) x (mod-le x y) (half x p))
+    (ap₂ (λ a b. word w (int_rem a b)) (to_z_pos w x p) (to_z_pos w y q) ∙ whole w (x % y) x (mod-le x y) (half x p))
 unsigned_same w half ShiftRightSigned x y p q =
     ap (λ a. word w (int_shr a (y % bits w))) (to_z_pos w x p) ∙ whole w (x / 2 ^ (y % bits w)) x (shr_le x (y % bits w)) (half x p)
 unsigned_same w half Add x y p q = refl

@@ -1,5 +1,5 @@
 -- Numbers whose low bits are zero.
-use Rattle.std.proofs.Common.{◌≡◌, ℕ, ◌+◌, ◌-◌, ◌*◌, ◌/◌, ◌%◌, ◌^◌, ◌<◌, ◌≤◌, sym, ◌∙◌, ap, subst, arith}
+use Rattle.std.proofs.Common.{◌≡◌, ℕ, ◌+◌, ◌-◌, ◌*◌, ◌/◌, ◌%◌, ◌^◌, ◌<◌, ◌≤◌, sym, ◌∙◌, ap, ap₂, subst, arith}
 use native.Mathlib.Decide.{dec_le}
 use lib.Pow.{mod-mod-pow, pow_mono}
 use Rattle.std.specs.Prelude.{bit_and}
@@ -10,7 +10,7 @@ use Rattle.std.proofs.lemmas.Nat.Bits.{and_high_mask, bit_at-trailing_zeros, sam
 use Rattle.std.proofs.Math.Nat.{add-mod, mul-mod_left, zero-mod, mod-eq_of_lt}
 use Rattle.std.proofs.lemmas.Nat.{shr_split}
 use Rattle.scalar_domain.specs.Mask.{Within}
-use Rattle.scalar_domain.proofs.Bits.{ap2, within-both}
+use Rattle.scalar_domain.proofs.Bits.{within-both}
 
 -- the low bits are zero where the mask's are
 pub low_zero : (n m t : ℕ) → Within n m → m % 2 ^ t ≡ 0 → n % 2 ^ t ≡ 0
@@ -54,7 +54,7 @@ high_zero s t h k =
     let l : 2 ^ (t - s) ≤ 2 ^ (64 - s) = pow_mono (omega arith) in
     let d : 2 ^ (t - s) + (2 ^ (64 - s) - 2 ^ (t - s)) ≡ 2 ^ (64 - s) = omega arith in
     let g : 2 ^ 64 - 2 ^ t ≡ (2 ^ (64 - s) - 2 ^ (t - s)) * 2 ^ s =
-    sym (ap2 (λ a b. a - b) (ap (λ x. x * 2 ^ s) d ∙ e) f) ∙ difference (2 ^ (t - s)) (2 ^ (64 - s) - 2 ^ (t - s)) (2 ^ s) in
+    sym (ap₂ (λ a b. a - b) (ap (λ x. x * 2 ^ s) d ∙ e) f) ∙ difference (2 ^ (t - s)) (2 ^ (64 - s) - 2 ^ (t - s)) (2 ^ s) in
     ap (λ x. x % 2 ^ s) g ∙ mul-mod_left _ (2 ^ s)
 
 pub most_zero : (n s : ℕ) → 0 < n → n < 2 ^ 64 → n % 2 ^ s ≡ 0 → (2 ^ 64 - 2 ^ trailing_zeros w64 n) % 2 ^ s ≡ 0
@@ -69,7 +69,7 @@ below_word n t k =
     ap (λ (j : ℕ). n % 2 ^ j % 2 ^ t) e ∙ mod-mod-pow n (64 - t) t
 
 pub sum_low : (x y t : ℕ) → t ≤ 64 → x % 2 ^ t ≡ 0 → y % 2 ^ t ≡ 0 → (x + y) % 2 ^ 64 % 2 ^ t ≡ 0
-sum_low x y t k e f = below_word (x + y) t k ∙ add-mod x y (2 ^ t) ∙ ap2 (λ a b. (a + b) % 2 ^ t) e f ∙ zero-mod (2 ^ t)
+sum_low x y t k e f = below_word (x + y) t k ∙ add-mod x y (2 ^ t) ∙ ap₂ (λ a b. (a + b) % 2 ^ t) e f ∙ zero-mod (2 ^ t)
 
 -- a multiple times a number is a multiple
 pub product_low : (x y t : ℕ) → t ≤ 64 → x % 2 ^ t ≡ 0 → (x * y) % 2 ^ 64 % 2 ^ t ≡ 0

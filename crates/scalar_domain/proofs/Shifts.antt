@@ -3,9 +3,10 @@ use Rattle.std.proofs.Common.{◌≡◌, ℕ, ◌+◌, ◌-◌, ◌*◌, ◌/◌
 use Rattle.std.proofs.lemmas.Nat.{pow_pos, pow-add, shl-shr}
 use Rattle.std.proofs.lemmas.Nat.Bits.{ones_shr}
 use Rattle.std.proofs.Math.Nat.{mod-eq_of_lt, mul-mod_left, mul-le-mul_right}
+use Rattle.std.proofs.Math.Pow.{shr_mono}
 use lib.Pow.{mod-mod-pow}
 use Rattle.scalar_domain.specs.Mask.{Within}
-use Rattle.scalar_domain.proofs.Bits.{within-mod, low_mono, same_high, shr_mono}
+use Rattle.scalar_domain.proofs.Bits.{within-mod, low_mono, same_high}
 
 pub low_ordered : (l g k m : ℕ) → m ≡ 2 ^ k → l ≤ g → l / m ≡ g / m → l % m ≤ g % m
 low_ordered l g k m e h f = subst (λ n. l / n ≡ g / n → l % n ≤ g % n) (sym e) (λ q. low_mono l g k h q) f
@@ -30,7 +31,7 @@ fits_shifted g k l h =
     omega (arith, q, j, pow_pos k)
 
 pub shifted_fits : (g k : ℕ) → g * 2 ^ k < 2 ^ 64 → g ≤ (2 ^ 64 - 1) / 2 ^ k
-shifted_fits g k h = omega (arith, shl-shr g k, shr_mono (g * 2 ^ k) (2 ^ 64 - 1) k (omega arith))
+shifted_fits g k h = omega (arith, shl-shr g k, shr_mono {a = g * 2 ^ k} {b = 2 ^ 64 - 1} k (omega arith))
 
 pub shifted : (n g k : ℕ) → n ≤ g → g * 2 ^ k < 2 ^ 64 → (n * 2 ^ k) % 2 ^ 64 ≡ n * 2 ^ k
 shifted n g k h l = mod-eq_of_lt (omega (arith, mul-le-mul_right (2 ^ k) h))

@@ -10,7 +10,7 @@ use bpf_model::array_of;
 /// The bytes that a word writes, where they are no more than a `B` takes: a key, a value or a context.
 #[derive(Debug, Drop)]
 pub enum Bytes<B> {
-    /// The bytes.
+    /// All bytes that the word writes.
     Fit(B),
     /// More bytes than a `B` takes, which are not kept.
     TooLong,

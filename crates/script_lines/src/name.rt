@@ -24,7 +24,7 @@ impl<'a> Name<'a> {
         Name { bytes }
     }
 
-    /// Its bytes.
+    /// The bytes of the name, as the text has them.
     pub fn bytes(&self) -> &'a [u8]
         ensures { result.now ≡ self.now }
     {

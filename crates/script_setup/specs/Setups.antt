@@ -1,11 +1,11 @@
 -- The maps and programs of a script before its world is made.
-use Rattle.std.specs.Prelude.{◌≡◌, ℕ, ◌≤◌, List, [], ◌∷◌, ◌++◌, length, map, refl}
+use Rattle.std.specs.Prelude.{◌≡◌, ℕ, ◌≤◌, List, [], ◌∷◌, ◌++◌, length, refl}
 use Rattle.std.specs.Coded.{Coded, code_by, coded×, coded_list}
 use Rattle.bpf_model.specs.declared.insn.Insn.{Insn}
 use Rattle.bpf_model.specs.declared.limits.MapShape.{MapShape}
 use Rattle.bpf_model.specs.declared.limits.TheConstants.{MAX_PROGRAMS}
 use Rattle.bpf_model.specs.Machine as machine
-use Rattle.bpf_model.specs.View.{new_map_view, shapes_of_maps}
+use Rattle.bpf_model.specs.View.{AreNewMaps, new_map_view, shapes_of_maps}
 use Rattle.maps.specs.Registry.{RegistryView, no_maps, registry_code}
 use Rattle.world.specs.Bound.{AreProgramsBound}
 use Rattle.bpf_model.specs.Codes.{program_code}
@@ -28,7 +28,7 @@ pub record IsSetup (names : List (List ℕ)) (registry : RegistryView) (loaded :
     : Type 0 where
   pub names_are : names ≡ registry.names
   pub one_name_each : length registry.names ≡ length registry.maps
-  pub new_maps : registry.maps ≡ map new_map_view (shapes_of_maps registry.maps)
+  pub new_maps : AreNewMaps registry.maps
   pub bound : AreProgramsBound (shapes_of_maps registry.maps) loaded
   pub few : length loaded ≤ MAX_PROGRAMS
 

@@ -1,11 +1,11 @@
 -- How bytes fall into lines.
-use Rattle.std.proofs.Common.{◌≡◌, ◌≢◌, ℕ, ◌==◌, false, List, [], ◌∷◌, ◌++◌, refl, sym, ap, ◌∙◌, append_assoc, arith}
-use Rattle.std.proofs.lemmas.Grind.{common_steps}
+use Rattle.std.proofs.Common.{◌≡◌, ◌≢◌, ℕ, ◌==◌, false, List, [], ◌∷◌, ◌++◌, refl, sym, ap, ◌∙◌, append_assoc}
+use Rattle.std.proofs.lemmas.Bool.{ne_eqb}
 use Rattle.std.specs.List.{onto_first}
 use Rattle.script_stream.specs.Lines.{lines_of, ended, HasNoFeed, HaveNoFeed}
 
 not_feed : (b : ℕ) → b ≢ 10 → (b == 10) ≡ false
-not_feed b h = grind (arith, common_steps)
+not_feed b h = ne_eqb b 10 h
 
 -- a line that ends
 pub lines_of-feed : (line after : List ℕ) → HasNoFeed line → lines_of (line ++ 10 ∷ after) ≡ line ∷ lines_of after

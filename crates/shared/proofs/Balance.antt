@@ -6,7 +6,7 @@ use Rattle.bpf_model.specs.Event.{IsReal}
 use Rattle.bpf_model.specs.View.{WorldView}
 use Rattle.journal.specs.declared.entry.Entry.{Entry}
 use Rattle.journal_laws.specs.Replay.{Replays}
-use Rattle.journal_laws.specs.Totals.{is_step, steps_of}
+use Rattle.journal_laws.specs.Totals.{is_step, steps_of, unreclaimed_in}
 use Rattle.journal_laws.proofs.Replaying.{replays_push}
 use Rattle.journal_laws.proofs.Sharing.{steps_push}
 use Rattle.model_laws.proofs.Tallies.{one-most}
@@ -14,7 +14,7 @@ use Rattle.world_laws.specs.Reacting.{full_reaction}
 use Rattle.shared.specs.declared.tally.Origin.{Origin}
 use Rattle.shared.specs.declared.tally.Tally.{Tally}
 use Rattle.shared.specs.Books.{BooksView, AreBalanced, Enters}
-use Rattle.shared.specs.Tally.{CountsOn, IsTallyOf, steps_by, reclaimed_by, unreclaimed_in}
+use Rattle.shared.specs.Tally.{CountsOn, IsTallyOf, steps_by, reclaimed_by}
 use Rattle.shared.proofs.Counting.{IsCountedOn, full-counts}
 
 -- what is counted of the reaction that is seen

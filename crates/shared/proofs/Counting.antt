@@ -37,7 +37,8 @@ use Rattle.world_laws.specs.Locating.{location_of}
 use Rattle.world_laws.specs.Moving.{word_in, operand_word, stored_slot, stored_at}
 use Rattle.world_laws.specs.Calling.{bytes_in, bound_number, serves, helper_called_on, helper_called, kernel_called}
 use Rattle.world_laws.specs.Reacting.{insn_step, step_at, step_in, run_step_of, or_step, full_reaction}
-use Rattle.shared.specs.Tally.{CountsOn, reclaimed_by, unreclaimed_in}
+use Rattle.journal_laws.specs.Totals.{unreclaimed_in}
+use Rattle.shared.specs.Tally.{CountsOn, reclaimed_by}
 use Rattle.std.specs.Option.{option_flatten}
 
 -- How many more elements are unlinked in one view of a map than in another: at most one.

@@ -1,18 +1,12 @@
 -- What is counted of a shared world: steps, and the elements that were unlinked and reclaimed.
 use Rattle.std.specs.Prelude.{◌≡◌, ℕ, ◌+◌, ◌^◌, ◌-◌, ◌≤◌, Some, min, if◌then◌else◌}
-use Rattle.std.specs.List.{sum_by}
 use Rattle.bpf_model.specs.declared.event.Answer.{Answer}
 use Rattle.bpf_model.specs.declared.event.Answer.TheVariants.{Reaped}
 use Rattle.bpf_model.specs.View.{WorldView}
-use Rattle.journal_laws.specs.Totals.{is_step, unlinked_total}
-use Rattle.maps.specs.Counting.{unlinked_in}
+use Rattle.journal_laws.specs.Totals.{is_step, unlinked_total, unreclaimed_in}
 use Rattle.shared.specs.declared.tally.Totals.{Totals}
 use Rattle.shared.specs.declared.tally.Origin.{Origin}
 use Rattle.shared.specs.declared.tally.Tally.{Tally}
-
--- the elements that are unlinked and not yet reclaimed
-abbrev pub unreclaimed_in : WorldView → ℕ
-unreclaimed_in w = sum_by unlinked_in w.maps
 
 abbrev pub origin_of : WorldView → Origin
 origin_of w = record { reclaimed = w.given; unreclaimed = unreclaimed_in w }

@@ -1,7 +1,7 @@
 //! A shared world of one program, which is bound to all maps.
 ghost use Rattle.std.specs.Prelude.{◌≡◌, ◌<◌, ◌≤◌, ◌∷◌, [], length, map, vec_len, IfOk};
 ghost use Rattle.bpf_model.specs.declared.limits.TheConstants.{MAX_MAPS};
-ghost use Rattle.bpf_model.specs.View.{new_map_view, shapes_of_maps};
+ghost use Rattle.bpf_model.specs.View.{AreNewMaps, shapes_of_maps};
 ghost use Rattle.journal_laws.specs.Replay.{HasNoRuns};
 ghost use Rattle.shared.specs.declared.worker.TheConstants.{MAX_WORKERS};
 ghost use Rattle.world_invariant.specs.Binding.{IsBoundTo};
@@ -32,7 +32,7 @@ fn all_maps(shapes: &[MapShape]) -> ArrayVec<usize, MAX_MAPS>
 /// A world of these maps, in which nothing has happened, with one program that is bound to all of them, the
 /// first to its map 0. The error is that there is no memory left.
 fn world_of(alloc: Global, registry: Registry, verified: Verified) -> Result<World, AllocError>
-    requires new_maps { registry.maps ≡ map new_map_view (shapes_of_maps registry.maps) }
+    requires new_maps { AreNewMaps registry.maps }
     requires shapes { verified.shapes ≡ shapes_of_maps registry.maps }
     ensures codes { IfOk result (λ w. map (λ l. l.code) w.programs ≡ verified.program ∷ []) }
     ensures quiet { IfOk result HasNoRuns }
@@ -59,7 +59,7 @@ impl<L: Ledger> Shared<L> {
         workers: u8,
         blank: Blank,
     ) -> Result<(Shared<L>, Workers<L>), AllocError>
-        requires new_maps { registry.maps ≡ map new_map_view (shapes_of_maps registry.maps) }
+        requires new_maps { AreNewMaps registry.maps }
         requires shapes { verified.shapes ≡ shapes_of_maps registry.maps }
         requires workers { (0 < workers) × (workers ≤ MAX_WORKERS) }
         requires name { blank.name ≡ L.name }

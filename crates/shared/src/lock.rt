@@ -138,8 +138,9 @@ impl<L: Ledger> Shared<L> {
         self.programs.get(prog.index())
     }
 
-    /// Asks for the exit value of a run that has ended and was started with this program on this context. It
-    /// makes no entry and takes no memory, and waits for the lock.
+    /// Asks for the exit value of a run that has ended and was started with this program on this
+    /// context. It makes no entry and takes no memory, and waits for the lock. The contract says
+    /// what a value is, and not when there is none: it does not see the world under the lock.
     pub fn exit_noted<R: Wait>(
         &self,
         rt: &R,
@@ -168,7 +169,8 @@ impl<L: Ledger> Shared<L> {
     }
 
     /// The exit value of a run, where it has ended and was started with this program on this
-    /// context. It makes no entry and takes no memory, and waits for the lock.
+    /// context. It makes no entry and takes no memory, and waits for the lock. The contract says
+    /// what a value is, and not when there is none.
     pub fn exit_of<R: Wait>(
         &self,
         rt: &R,

@@ -61,7 +61,7 @@ impl Receipt {
         self.made
     }
 
-    /// The event.
+    /// The event that the call asked for.
     pub fn event(&self) -> &Event
         ensures { result.now ≡ self.now.event }
     {

@@ -1,4 +1,4 @@
-//! Mixed events.
+//! Events of every kind, one for each worker and turn.
 
 use crate::making::{delete, read, start, step, update};
 use bpf_model::{Event, RunId};

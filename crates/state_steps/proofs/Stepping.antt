@@ -76,7 +76,7 @@ null_comparable equal dst offset v None e = inl (0, e)
 null_comparable true dst offset v (Some n) e = inr (refl, n, pos 0, e)
 null_comparable false dst offset v (Some n) e = inr (refl, n, pos 0, e)
 
--- of an element's value
+-- a test for null of an element's value
 value_comparable : (equal : Bool) (dst n : ℕ) (offset o : ℤ) (v : Value) → v ≡ Pointer (Elem n o)
     → IsComparable (JumpIf (if equal then Equal else NotEqual) Word64 dst (Immediate (pos 0)) offset) v
 value_comparable true dst n offset o v e = inr (refl, n, o, e)

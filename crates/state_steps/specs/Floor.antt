@@ -11,14 +11,15 @@ use Rattle.scalar_domain.specs.Floor.{KeepsUnaryFloor}
 use Rattle.typed_runs.specs.Kinds.{Num, AbsState}
 use Rattle.typed_runs.specs.Effects.{HasNumber}
 use Rattle.memory_effects.specs.Accesses.{LoadsKnown}
-use Rattle.compute_effects.specs.Floor.{IsNumbers, operand_kind, LeavesKnown}
+use Rattle.kind_tests.specs.Performs.{IsNumbers}
+use Rattle.compute_effects.specs.Floor.{operand_kind, LeavesKnown}
 use Rattle.control_effects.specs.Narrowing.{NarrowsKnown}
 
--- From the first state the instruction leads to the second, and to the third where it is a jump that
--- is taken. Operations of numbers leave numbers as narrow as the scalar domain promises; a wide
--- instruction leaves its number; a load without sign gives a number of its width, or the reference
--- whose parts it reads, and one that extends the sign a number; and on both edges of a comparison of
--- numbers these are as narrow as the scalar domain promises.
+-- From the first state the instruction leads to the second, and to the third where it is a jump
+-- that is taken. Operations of numbers leave numbers as narrow as the scalar domain promises; a
+-- wide instruction leaves its number; a load without sign gives a number of its width, or the
+-- reference whose parts it reads, and one that extends the sign a number; and on both edges of a
+-- comparison of numbers these are as narrow as the scalar domain promises.
 abbrev pub KeepsInsnFloor : Insn → AbsState → AbsState → Option AbsState → Type 0
 KeepsInsnFloor (Alu op size dst src) a b taken =
     LeavesKnown size op (a.regs dst) (operand_kind src a) (b.regs dst)

@@ -9,8 +9,8 @@ use bpf_model::{
     AluOp, ByteOrder, Condition, Reg, SignExtension, SignedWidth, Size, SwapWidth, UnaryOp,
 };
 
-/// The operands of each row: zero, one, minus one, the least and the greatest words, and the
-/// numbers on either side of 2^31 and 2^32.
+/// The operands of each row. Among them are zero, minus one, the least and the greatest number with
+/// sign, 2^31 and the number below it, and the numbers on either side of 2^32.
 const OPERANDS: [(u64, u64); 6] = [
     (7, 0),
     (0x8000_0000_0000_0000, 0xffff_ffff_ffff_ffff),

@@ -11,7 +11,7 @@ use Rattle.bpf_model.specs.declared.opcode.Width.{Width}
 use Rattle.bpf_model.specs.Access.{byte_count, region_offset}
 use Rattle.bpf_model.specs.Graph.{distance, JumpsTo, GoesTo}
 use Rattle.bpf_model.specs.Plain.{IsSimple, WritesRegister, WritesByte, TakesByte, WithoutByte, bare_entry, bare_next}
-use Rattle.bpf_model.specs.PlainMaps.{lookup_call, lock_call, unlock_call, IsGuardedLookup, IsPart, HasForm, InSection, section_entry, section_lock, section_unlock, section_next, LacksRegister, lacks_entry, lacks_call, lacks_next, IsPlainWithMaps, Lookup, Part, FrameCopy, KeyAddress, MapLoad, LookupCall, NullTest, ValueLoad, part_insn, part_slot}
+use Rattle.bpf_model.specs.PlainMaps.{lookup_call, lock_call, unlock_call, IsGuardedLookup, IsLookupPart, HasForm, InSection, section_entry, section_lock, section_unlock, section_next, LacksRegister, lacks_entry, lacks_call, lacks_next, IsPlainWithMaps, Lookup, LookupPart, FrameCopy, KeyAddress, MapLoad, LookupCall, NullTest, ValueLoad, part_insn, part_slot}
 use Rattle.bpf_model.specs.Spelling.{slot_count}
 use Rattle.bpf_model.specs.Step.{insn_at}
 use Rattle.bpf_model.specs.Places.{start_of-insn, LeadsTo, StartsAt, starts_increase, start-insn}
@@ -64,7 +64,7 @@ module _ (a b c : model.AbsState) (joined : AreJoined a b c) where
   both_map : (r m : ℕ) → a.regs r ≡ model.MapAt m → b.regs r ≡ model.MapAt m → c.regs r ≡ model.MapAt m
   both_map r m p q = (both_kinds r (model.MapAt m) (model.MapAt m) p q).0 refl
 
-  pub joined_expects : (l : Lookup) (p : Part) → Expects l p a → Expects l p b → Expects l p c
+  pub joined_expects : (l : Lookup) (p : LookupPart) → Expects l p a → Expects l p b → Expects l p c
   joined_expects l FrameCopy x y = both_keys l x y
   joined_expects l KeyAddress x y = (both_keys l x.0 y.0, both_frame 2 (pos FRAME_BYTES) x.1 y.1)
   joined_expects l MapLoad x y = (both_keys l x.0 y.0, both_frame 2 (pos l.at) x.1 y.1)
@@ -147,7 +147,7 @@ section_which false i e = inr (inl e)
 
 -- what stands at a slot, where what is part of a guarded lookup is nothing else
 abbrev pub Stands : List Insn → List MapShape → ℕ → Insn → Type 0
-Stands program shapes place i = IsPart program shapes place ⊎ ((IsPart program shapes place → ⊥) × (((opens : Bool) × (i ≡ section_call opens)) ⊎ IsSimple i))
+Stands program shapes place i = IsLookupPart program shapes place ⊎ ((IsLookupPart program shapes place → ⊥) × (((opens : Bool) × (i ≡ section_call opens)) ⊎ IsSimple i))
 
 stands : (program : List Insn) (shapes : List MapShape) → IsPlainWithMaps program shapes → (place : ℕ) (i : Insn) → insn_at program place ≡ Some i → Stands program shapes place i
 stands program shapes plain place i h = elim (part_or_not program shapes plain place) [
@@ -155,7 +155,7 @@ stands program shapes plain place i h = elim (part_or_not program shapes plain p
   | inr away ↦ inr (away, by away (plain.forms place i h))
 ]
   where
-    by : (IsPart program shapes place → ⊥) → HasForm program shapes place i → ((opens : Bool) × (i ≡ section_call opens)) ⊎ IsSimple i
+    by : (IsLookupPart program shapes place → ⊥) → HasForm program shapes place i → ((opens : Bool) × (i ≡ section_call opens)) ⊎ IsSimple i
     by away (inl part) = absurd (away part)
     by away (inr (inl e)) = inl (true, e)
     by away (inr (inr (inl e))) = inl (false, e)
@@ -189,14 +189,14 @@ module _ (program : List Insn) (shapes : List MapShape) (plain : IsPlainWithMaps
   simple_keeps simple = ((λ e. subst IsSimple e simple), (λ e. subst IsSimple e simple))
 
   -- over an ordinary instruction
-  ordinary_on : (IsPart program shapes s → ⊥) → IsSimple i → (fact : Fact) → (Makes i fact → ⊥) → (t : ℕ) → GoesTo i s t → WithoutFact program shapes fact s → WithoutFact program shapes fact t
+  ordinary_on : (IsLookupPart program shapes s → ⊥) → IsSimple i → (fact : Fact) → (Makes i fact → ⊥) → (t : ℕ) → GoesTo i s t → WithoutFact program shapes fact s → WithoutFact program shapes fact t
   ordinary_on away simple (Register r) n t g (inl w) = inl (lacks_next s t i w here (λ x. absurd (n x)) g)
   ordinary_on away simple (Register r) n t g (inr w) = absurd (away (w.1.start, w.1.lookup, omega (arith, w.1.behind), w.1.inside))
   ordinary_on away simple (FrameByte j) n t g w = bare_next s t i w here n g
   ordinary_on away simple FramePointer n t g w = w
   ordinary_on away simple (Section inside) n t g w = section_next (if inside then false else true) s t i w here (simple_keeps simple) g
 
-  pub ordinary_facts : (IsPart program shapes s → ⊥) → IsSimple i → KeepsFacts i (state_of a) (state_of b) → Knows program shapes m b
+  pub ordinary_facts : (IsLookupPart program shapes s → ⊥) → IsSimple i → KeepsFacts i (state_of a) (state_of b) → Knows program shapes m b
   ordinary_facts away simple keeps fact = elim (makes_or_not i fact) [
     | inl makes ↦ inl (keeps fact (inr makes))
     | inr not_made ↦ elim (knows fact) [
@@ -206,9 +206,9 @@ module _ (program : List Insn) (shapes : List MapShape) (plain : IsPlainWithMaps
   ]
 
   -- over a part of a guarded lookup
-  module _ (start : ℕ) (l : IsGuardedLookup program shapes start) (q : Part) (place : s ≡ start + part_slot q) (is : i ≡ part_insn l.lookup q) where
-    part_here : IsPart program shapes s
-    part_here = subst (IsPart program shapes) (sym place) (part_at program shapes start l q)
+  module _ (start : ℕ) (l : IsGuardedLookup program shapes start) (q : LookupPart) (place : s ≡ start + part_slot q) (is : i ≡ part_insn l.lookup q) where
+    part_here : IsLookupPart program shapes s
+    part_here = subst (IsLookupPart program shapes) (sym place) (part_at program shapes start l q)
 
     low_on : (r t : ℕ) → r ≤ 5 → GoesTo i s t → LacksRegister program shapes r t ⊎ ((r ≤ 5) × IsInner program shapes t)
     low_on r t low g = part_low program shapes start l plain.graph.reached r low q t (subst (λ n. GoesTo (part_insn l.lookup q) n t) place (subst (λ i. GoesTo i s t) is g))
@@ -244,7 +244,7 @@ module _ (program : List Insn) (shapes : List MapShape) (plain : IsPlainWithMaps
     ]
 
   -- over a call that begins or ends a section
-  module _ (away : IsPart program shapes s → ⊥) (opens : Bool) (is : i ≡ section_call opens) where
+  module _ (away : IsLookupPart program shapes s → ⊥) (opens : Bool) (is : i ≡ section_call opens) where
     section_to : (t : ℕ) (now : Bool) → GoesTo i s t → now ≡ opens → InSection program now t
     section_to t now g e = by opens is e
       where
@@ -282,12 +282,12 @@ module _ (program : List Insn) (shapes : List MapShape) (plain : IsPlainWithMaps
 
 -- a part of a guarded lookup is ready where this is known
 part_ready : (program : List Insn) (shapes : List MapShape) → IsPlainWithMaps program shapes → (k s : ℕ) (i : Insn) (a : AbsState) → StartsAt program k s → IsKnown program shapes k a
-    → (start : ℕ) (l : IsGuardedLookup program shapes start) (q : Part) → s ≡ start + part_slot q → i ≡ part_insn l.lookup q → IsReadyPart shapes l.lookup q i (state_of a)
+    → (start : ℕ) (l : IsGuardedLookup program shapes start) (q : LookupPart) → s ≡ start + part_slot q → i ≡ part_insn l.lookup q → IsReadyPart shapes l.lookup q i (state_of a)
 part_ready program shapes plain k s i a there known start l q place is = record {
   insn = is;
   fitting = l.fitting;
   frame = elim (known.facts FramePointer) [ inl h ↦ h | inr w ↦ absurd (w s there) ];
-  inside = elim (known.facts (Section true)) [ inl h ↦ h | inr w ↦ absurd (plain.lookup_inside s (subst (IsPart program shapes) (sym place) (part_at program shapes start l q)) (w s there)) ];
+  inside = elim (known.facts (Section true)) [ inl h ↦ h | inr w ↦ absurd (plain.lookup_inside s (subst (IsLookupPart program shapes) (sym place) (part_at program shapes start l q)) (w s there)) ];
   expects = by q place;
 }
   where
@@ -297,10 +297,10 @@ part_ready program shapes plain k s i a there known start l q place is = record 
       | inr w ↦ (let f : s ≡ start = omega (arith, e) in absurd (plain.keys start j l low high (subst (WithoutByte program j) f (w s there))))
     ]
 
-    later : (q : Part) → (q ≡ FrameCopy → ⊥) → s ≡ start + part_slot q → Expects l.lookup q (state_of a)
+    later : (q : LookupPart) → (q ≡ FrameCopy → ⊥) → s ≡ start + part_slot q → Expects l.lookup q (state_of a)
     later q n e = known.expected start l q n (there ∙ ap Some e)
 
-    by : (q : Part) → s ≡ start + part_slot q → Expects l.lookup q (state_of a)
+    by : (q : LookupPart) → s ≡ start + part_slot q → Expects l.lookup q (state_of a)
     by FrameCopy e = keys e
     by KeyAddress e = later KeyAddress (λ f. cc) e
     by MapLoad e = later MapLoad (λ f. cc) e
@@ -322,7 +322,7 @@ section_ready program shapes plain k s i a there here knows false e = record {
 
 -- an ordinary instruction is ready
 ordinary_ready : (program : List Insn) (shapes : List MapShape) → IsPlainWithMaps program shapes → (k s : ℕ) (i : Insn) (a : AbsState) → StartsAt program k s → insn_at program s ≡ Some i → Knows program shapes k a
-    → (IsPart program shapes s → ⊥) → IsSimple i → IsReadyInsn i (state_of a)
+    → (IsLookupPart program shapes s → ⊥) → IsSimple i → IsReadyInsn i (state_of a)
 ordinary_ready program shapes plain k s i a there here knows away simple = record {
   simple = simple;
   keeps_frame = (plain.frame_pointer s i here away).0;
@@ -450,20 +450,20 @@ module _ (program : List Insn) (targets : List (Option ℕ)) (long : length targ
       by (inr g) = of_unwrapped done.spreads.taken refl (same_Some _ _ (sym g.2 ∙ f))
 
   module _ (m : ℕ) (follows : Follows done.insn done.target k m) where
-    ordinary_to : (b : AbsState) → (IsPart program shapes s.0 → ⊥) → IsSimple done.insn → KeepsFacts done.insn (state_of done.state) (state_of b) → Knows program shapes m b
+    ordinary_to : (b : AbsState) → (IsLookupPart program shapes s.0 → ⊥) → IsSimple done.insn → KeepsFacts done.insn (state_of done.state) (state_of b) → Knows program shapes m b
     ordinary_to b away simple keeps = ordinary_facts program shapes plain k m s.0 done.insn done.state b s.1 at (λ t there. goes_on m t follows there) here.facts away simple keeps
 
-    part_to : (b : AbsState) (start : ℕ) (l : IsGuardedLookup program shapes start) (q : Part) → s.0 ≡ start + part_slot q → done.insn ≡ part_insn l.lookup q
+    part_to : (b : AbsState) (start : ℕ) (l : IsGuardedLookup program shapes start) (q : LookupPart) → s.0 ≡ start + part_slot q → done.insn ≡ part_insn l.lookup q
         → KeepsSaved (state_of done.state) (state_of b) → b.inside ≡ done.state.inside → Knows program shapes m b
     part_to b start l q place is keeps inside = part_facts program shapes plain k m s.0 done.insn done.state b s.1 at (λ t there. goes_on m t follows there) here.facts start l q place is keeps inside
 
-    section_to_next : (b : AbsState) → (IsPart program shapes s.0 → ⊥) → (opens : Bool) → done.insn ≡ section_call opens → LeavesSection opens (state_of done.state) (state_of b) → Knows program shapes m b
+    section_to_next : (b : AbsState) → (IsLookupPart program shapes s.0 → ⊥) → (opens : Bool) → done.insn ≡ section_call opens → LeavesSection opens (state_of done.state) (state_of b) → Knows program shapes m b
     section_to_next b away opens is left = section_facts program shapes plain k m s.0 done.insn done.state b s.1 at (λ t there. goes_on m t follows there) here.facts away opens is left
 
-  ready_ordinary : (IsPart program shapes s.0 → ⊥) → IsSimple done.insn → IsReadyInsn done.insn (state_of done.state)
+  ready_ordinary : (IsLookupPart program shapes s.0 → ⊥) → IsSimple done.insn → IsReadyInsn done.insn (state_of done.state)
   ready_ordinary away simple = ordinary_ready program shapes plain k s.0 done.insn done.state s.1 at here.facts away simple
 
-  leaves : (start : ℕ) (l : IsGuardedLookup program shapes start) (q : Part) → s.0 ≡ start + part_slot q → done.insn ≡ part_insn l.lookup q
+  leaves : (start : ℕ) (l : IsGuardedLookup program shapes start) (q : LookupPart) → s.0 ≡ start + part_slot q → done.insn ≡ part_insn l.lookup q
       → LeavesPart l.lookup q (state_of done.state) (state_of done.spreads.next) (option_map state_of done.spreads.taken)
   leaves start l q place is = done.spreads.transfer.serves.part l.lookup q (part_ready program shapes plain k s.0 done.insn done.state s.1 here start l q place is)
 

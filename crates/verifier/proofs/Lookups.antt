@@ -9,7 +9,7 @@ use Rattle.bpf_model.specs.declared.insn.CallKind.TheVariants.{Helper, Kernel}
 use Rattle.bpf_model.specs.declared.limits.MapShape.{MapShape}
 use Rattle.bpf_model.specs.Graph.{falls, distance, JumpsTo, GoesTo, Reached}
 use Rattle.bpf_model.specs.Plain.{WritesByte}
-use Rattle.bpf_model.specs.PlainMaps.{lookup_call, IsValueLoad, IsGuardedLookup, IsPart, KeepsSection, HasForm, LacksRegister, lacks_call, lacks_next, IsPlainWithMaps, Lookup, Part, FrameCopy, KeyAddress, MapLoad, LookupCall, NullTest, ValueLoad, part_insn, part_slot}
+use Rattle.bpf_model.specs.PlainMaps.{lookup_call, IsValueLoad, IsGuardedLookup, IsLookupPart, KeepsSection, HasForm, LacksRegister, lacks_call, lacks_next, IsPlainWithMaps, Lookup, LookupPart, FrameCopy, KeyAddress, MapLoad, LookupCall, NullTest, ValueLoad, part_insn, part_slot}
 use Rattle.bpf_model.specs.Spelling.{slot_count, starts_from}
 use Rattle.bpf_model.specs.Step.{insn_at}
 use Rattle.bpf_model.specs.Places.{StartsAt, starts-next, starts_increase, starts_ordered, start-inside}
@@ -19,7 +19,7 @@ use Rattle.state_steps.specs.Lookups.{Expects, Prepares}
 use Rattle.verifier.specs.FactsKnown.{IsInner}
 
 -- the slot behind each part
-abbrev pub step_slot : Part → ℕ
+abbrev pub step_slot : LookupPart → ℕ
 step_slot FrameCopy = 1
 step_slot KeyAddress = 2
 step_slot MapLoad = 4
@@ -56,7 +56,7 @@ module _ (program : List Insn) (shapes : List MapShape) (start : ℕ) (l : IsGua
   at_start : insn_at program start ≡ Some (part_insn l.lookup FrameCopy)
   at_start = let e : start ≡ start + part_slot FrameCopy = omega arith in ap (insn_at program) e ∙ l.parts FrameCopy
 
-  pub behind : (p : Part) → part_slot p + slot_count (part_insn l.lookup p) ≡ step_slot p
+  pub behind : (p : LookupPart) → part_slot p + slot_count (part_insn l.lookup p) ≡ step_slot p
   behind FrameCopy = refl
   behind KeyAddress = refl
   behind MapLoad = refl
@@ -64,7 +64,7 @@ module _ (program : List Insn) (shapes : List MapShape) (start : ℕ) (l : IsGua
   behind NullTest = refl
   behind ValueLoad = ap (λ n. 6 + n) value_load.slots
 
-  pub part_no_byte : (p : Part) (k : ℕ) → WritesByte (part_insn l.lookup p) k → ⊥
+  pub part_no_byte : (p : LookupPart) (k : ℕ) → WritesByte (part_insn l.lookup p) k → ⊥
   part_no_byte FrameCopy k h = h
   part_no_byte KeyAddress k h = h
   part_no_byte MapLoad k h = h
@@ -72,7 +72,7 @@ module _ (program : List Insn) (shapes : List MapShape) (start : ℕ) (l : IsGua
   part_no_byte NullTest k h = h
   part_no_byte ValueLoad k h = value_load.no_byte k h
 
-  pub part_keeps : (p : Part) → KeepsSection (part_insn l.lookup p)
+  pub part_keeps : (p : LookupPart) → KeepsSection (part_insn l.lookup p)
   part_keeps FrameCopy = ((λ e. cc), (λ e. cc))
   part_keeps KeyAddress = ((λ e. cc), (λ e. cc))
   part_keeps MapLoad = ((λ e. cc), (λ e. cc))
@@ -93,7 +93,7 @@ module _ (program : List Insn) (shapes : List MapShape) (start : ℕ) (l : IsGua
       ]
 
   -- what stands at its slots is its parts
-  pub part_place : (place : ℕ) (i : Insn) → insn_at program place ≡ Some i → start ≤ place → place ≤ start + 6 → (p : Part) × (place ≡ start + part_slot p) × (i ≡ part_insn l.lookup p)
+  pub part_place : (place : ℕ) (i : Insn) → insn_at program place ≡ Some i → start ≤ place → place ≤ start + 6 → (p : LookupPart) × (place ≡ start + part_slot p) × (i ≡ part_insn l.lookup p)
   part_place place i h low high = elim (cases_eq place start) [
     | inl e ↦ (FrameCopy, (let g : place ≡ start + 0 = omega (arith, e) in g), same_Some _ _ (sym h ∙ ap (insn_at program) e ∙ at_start))
     | inr n0 ↦ elim (cases_eq place (start + 1)) [
@@ -124,7 +124,7 @@ module _ (program : List Insn) (shapes : List MapShape) (start : ℕ) (l : IsGua
         | inr n ↦ (let less = starts_increase 0 program j.0 k start s j.2 a (omega (arith, before, n)) in omega (arith, less))
       ]
 
-  pub slot_inside : (p : Part) → start + part_slot p ≤ start + 6
+  pub slot_inside : (p : LookupPart) → start + part_slot p ≤ start + 6
   slot_inside FrameCopy = omega arith
   slot_inside KeyAddress = omega arith
   slot_inside MapLoad = omega arith
@@ -132,11 +132,11 @@ module _ (program : List Insn) (shapes : List MapShape) (start : ℕ) (l : IsGua
   slot_inside NullTest = omega arith
   slot_inside ValueLoad = omega arith
 
-  pub part_at : (p : Part) → IsPart program shapes (start + part_slot p)
+  pub part_at : (p : LookupPart) → IsLookupPart program shapes (start + part_slot p)
   part_at p = (start, l, omega arith, slot_inside p)
 
   -- what a part prepares is what the one behind it expects
-  pub pass_on : (g : Lookup) (b : AbsState) (q p : Part) → (p ≡ FrameCopy → ⊥) → part_slot p ≡ step_slot q → Prepares g q b → Expects g p b
+  pub pass_on : (g : Lookup) (b : AbsState) (q p : LookupPart) → (p ≡ FrameCopy → ⊥) → part_slot p ≡ step_slot q → Prepares g q b → Expects g p b
   pass_on g b FrameCopy FrameCopy n e x = absurd (n refl)
   pass_on g b FrameCopy KeyAddress n e x = x
   pass_on g b FrameCopy MapLoad n e x = absurd (omega (arith, e))
@@ -174,7 +174,7 @@ module _ (program : List Insn) (shapes : List MapShape) (start : ℕ) (l : IsGua
   pass_on g b ValueLoad NullTest n e x = absurd (omega (arith, e))
   pass_on g b ValueLoad ValueLoad n e x = absurd (omega (arith, e))
 
-  pub slot_behind : (p : Part) → (p ≡ FrameCopy → ⊥) → start < start + part_slot p
+  pub slot_behind : (p : LookupPart) → (p ≡ FrameCopy → ⊥) → start < start + part_slot p
   slot_behind FrameCopy n = absurd (n refl)
   slot_behind KeyAddress n = omega arith
   slot_behind MapLoad n = omega arith
@@ -190,10 +190,10 @@ module _ (program : List Insn) (shapes : List MapShape) (start : ℕ) (l : IsGua
     lacks_6 : LacksRegister program shapes r (start + 6)
     lacks_6 = lacks_next (start + 5) (start + 6) _ lacks_5 (l.parts NullTest) (λ w. absurd w) (inl (refl, (let g : start + 6 ≡ start + 5 + 1 = omega arith in g)))
 
-    jumps_not : (p : Part) (t : ℕ) → distance (part_insn l.lookup p) ≡ None → JumpsTo (part_insn l.lookup p) (start + part_slot p) t → ⊥
+    jumps_not : (p : LookupPart) (t : ℕ) → distance (part_insn l.lookup p) ≡ None → JumpsTo (part_insn l.lookup p) (start + part_slot p) t → ⊥
     jumps_not p t none j = none-some j.0 (sym none ∙ j.1)
 
-    inner : (p : Part) (t : ℕ) → t ≡ start + part_slot p + slot_count (part_insn l.lookup p) → 0 < step_slot p → step_slot p ≤ 6 → IsInner program shapes t
+    inner : (p : LookupPart) (t : ℕ) → t ≡ start + part_slot p + slot_count (part_insn l.lookup p) → 0 < step_slot p → step_slot p ≤ 6 → IsInner program shapes t
     inner p t e low high =
         let b = behind p in record {
           start = start;
@@ -203,7 +203,7 @@ module _ (program : List Insn) (shapes : List MapShape) (start : ℕ) (l : IsGua
         }
 
     -- nothing is said of them inside, and behind the lookup they lack a number
-    pub part_low : (p : Part) (t : ℕ) → GoesTo (part_insn l.lookup p) (start + part_slot p) t → LacksRegister program shapes r t ⊎ ((r ≤ 5) × IsInner program shapes t)
+    pub part_low : (p : LookupPart) (t : ℕ) → GoesTo (part_insn l.lookup p) (start + part_slot p) t → LacksRegister program shapes r t ⊎ ((r ≤ 5) × IsInner program shapes t)
     part_low FrameCopy t (inl f) = inr (low, inner FrameCopy t f.1 (omega arith) (omega arith))
     part_low FrameCopy t (inr j) = absurd (jumps_not FrameCopy t refl j)
     part_low KeyAddress t (inl f) = inr (low, inner KeyAddress t f.1 (omega arith) (omega arith))
@@ -240,7 +240,7 @@ lookup_or_not (Store width dst offset src) = inr (λ e. cc)
 
 -- whether a slot belongs to a guarded lookup can be decided
 module _ (program : List Insn) (shapes : List MapShape) (plain : IsPlainWithMaps program shapes) where
-  call_part : (l : Lookup) (p : Part) (shape : MapShape) → IsValueLoad shape l.load → lookup_call ≡ part_insn l p → p ≡ LookupCall
+  call_part : (l : Lookup) (p : LookupPart) (shape : MapShape) → IsValueLoad shape l.load → lookup_call ≡ part_insn l p → p ≡ LookupCall
   call_part l FrameCopy shape v e = absurd cc
   call_part l KeyAddress shape v e = absurd cc
   call_part l MapLoad shape v e = absurd cc
@@ -289,5 +289,5 @@ module _ (program : List Insn) (shapes : List MapShape) (plain : IsPlainWithMaps
     ]
   ]
 
-  pub part_or_not : (place : ℕ) → IsPart program shapes place ⊎ (IsPart program shapes place → ⊥)
+  pub part_or_not : (place : ℕ) → IsLookupPart program shapes place ⊎ (IsLookupPart program shapes place → ⊥)
   part_or_not place = elim (within_or_not 6 place) [ inl w ↦ inl w | inr none ↦ inr (λ p. none p.0 p.1 p.2 p.3) ]

@@ -4,7 +4,8 @@ use Rattle.std.specs.Prelude.{if◌then◌else◌}
 use Rattle.bpf_model.specs.declared.insn.Insn.{Insn}
 use Rattle.bpf_model.specs.declared.limits.MapShape.{MapShape}
 use Rattle.bpf_model.specs.Plain.{WithoutByte}
-use Rattle.bpf_model.specs.PlainMaps.{IsGuardedLookup, InSection, LacksRegister, Part, FrameCopy, ValueLoad, part_slot}
+use Rattle.bpf_model.specs.PlainMaps.{IsGuardedLookup, InSection, LacksRegister, LookupPart}
+use Rattle.bpf_model.specs.PlainMaps.{FrameCopy, ValueLoad, part_slot}
 use Rattle.bpf_model.specs.Places.{StartsAt}
 use Rattle.register_kinds.specs.declared.state.AbsState.{AbsState}
 use Rattle.register_kinds.specs.States.{state_of}
@@ -41,7 +42,7 @@ Knows program shapes index a =
 -- Before an instruction inside a guarded lookup it is known what it needs.
 abbrev pub IsExpected : List Insn → List MapShape → ℕ → AbsState → Type 0
 IsExpected program shapes index a =
-    (start : ℕ) (l : IsGuardedLookup program shapes start) (p : Part) → (p ≡ FrameCopy → ⊥) →
+    (start : ℕ) (l : IsGuardedLookup program shapes start) (p : LookupPart) → (p ≡ FrameCopy → ⊥) →
     StartsAt program index (start + part_slot p)
     → Expects l.lookup p (state_of a)
 

@@ -1,6 +1,4 @@
 //! What the verifier says of a program in assembly text.
-ghost use Rattle.bpf_model.specs.declared.limits.TheConstants.{CTX_BYTES, MAX_MAPS};
-
 use asm::assemble;
 use bpf_model::{CTX_BYTES, MAX_MAPS, MapShape};
 use insn_codec::Program;

@@ -1,4 +1,4 @@
--- An advance.
+-- What a world makes of an advance is a step of the schedule.
 use Rattle.std.proofs.Common.{◌≡◌, ◌∙◌, ℕ, map, length, refl, sym, ap, Bool, true, false, subst}
 use Rattle.std.proofs.lemmas.List.{length-map}
 use Rattle.bpf_model.specs.declared.event.Event.TheVariants as events

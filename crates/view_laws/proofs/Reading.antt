@@ -1,4 +1,4 @@
--- A read.
+-- What a world makes of a read is a step of the schedule.
 use Rattle.std.proofs.Common.{◌≡◌, ◌∙◌, ℕ, length, Option, Some, None, refl, sym, ap, subst}
 use Rattle.std.specs.Prelude.{slice_get}
 use Rattle.std.specs.FinMap.{get}

@@ -1,4 +1,4 @@
--- A reap.
+-- What a world makes of a reap is a step of the schedule.
 use Rattle.std.proofs.Common.{◌≡◌, ◌∙◌, ℕ, suc, ◌+◌, ◌<◌, ◌≤◌, List, [], ◌∷◌, map, drop, length, Some, None, ◌⊎◌, inl, inr, refl, sym, ap, arith, subst}
 use Rattle.std.specs.Prelude.{slice_get, slice_set, slice_index, count_by, if◌then◌else◌}
 use Rattle.std.proofs.Math.Dec.{eqb-suc-zero}

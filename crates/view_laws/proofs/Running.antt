@@ -1,4 +1,4 @@
--- A run slot changes.
+-- A change of one run slot, by its run's step or a drop, is a step of the schedule.
 use Rattle.std.proofs.Common.{◌≡◌, ◌∙◌, ℕ, suc, ◌+◌, ◌-◌, ◌<◌, List, [], ◌∷◌, length, Option, Some, None, inl, inr, refl, sym, ap, arith, Bool, true, false, subst, ℤ}
 use Rattle.std.specs.Prelude.{slice_get, slice_set, slice_index, nat_lt, nat_le, ◌==◌, if◌then◌else◌}
 use Rattle.std.proofs.lemmas.Bool.{cases_eq}

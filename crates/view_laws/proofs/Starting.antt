@@ -1,4 +1,4 @@
--- A start.
+-- What a world makes of a start is a step of the schedule.
 use Rattle.std.proofs.Common.{◌≡◌, ◌∙◌, ℕ, zero, suc, ◌+◌, ◌<◌, List, [], ◌∷◌, length, Option, Some, None, refl, sym, ap, arith, subst, Bool, true, false}
 use Rattle.std.specs.Prelude.{slice_get, slice_index, ◌==◌, if◌then◌else◌}
 use Rattle.std.specs.Option.{option_map}

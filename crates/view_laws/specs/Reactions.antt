@@ -92,7 +92,7 @@ advanced_by false w =
 abbrev pub advance_reaction : WorldView → Answer × WorldView
 advance_reaction w = (Done, advanced_by (is_any w.awaited) w)
 
--- A reap takes the first ready slot of the lowest map that has one.
+-- A reap takes the first ready map slot of the lowest map that has one.
 pub record Pick : Type 0 where
   pub map : ℕ
   pub view : MapView

@@ -33,8 +33,8 @@ value_shown v (Some i) = Some (record { items = value_in (slice_get v.slots i) }
 abbrev pub value_read : MapView → List ℕ → Option (ArrayVec ℕ)
 value_read v key = value_shown v (get v.index key)
 
--- The element of a key, where it has one, is unlinked: its slot leaves the index and goes to the
--- end of the list next.
+-- The element of a key, where it has one, is unlinked: its map slot leaves the index and goes to
+-- the end of the list next.
 abbrev pub retired_slot : MapView → List ℕ → Option ℕ → MapView
 retired_slot v key None = v
 retired_slot v key (Some i) =
@@ -60,7 +60,7 @@ delete_result (Some i) = Ok tt
 abbrev pub deleted : MapView → List ℕ → Result (Unit {0}) Errno × MapView
 deleted v key = (delete_result (get v.index key), retired_key v key)
 
--- A store to the value in a slot.
+-- A store to the value in a map slot.
 abbrev pub written : MapView → ℕ → List ℕ → MapView
 written v i value = record {
   shape = v.shape;
@@ -107,11 +107,11 @@ updated_by None v key value = (Ok tt, filled_from v.free (retired_key v key) key
 abbrev pub updated : MapView → List ℕ → List ℕ → ℕ → Result (Unit {0}) Errno × MapView
 updated v key value flags = updated_by (shown_error v key flags) v key value
 
--- A grace period ends: the slots that waited are ready, and those retired meanwhile wait.
+-- A grace period ends: the map slots that waited are ready, and those retired meanwhile wait.
 abbrev pub turned_view : MapView → MapView
 turned_view v = with_lists (turned (lists_of v)) v
 
--- The first ready slot is given back: it is the last of the free ones, or it is worn out.
+-- The first ready map slot is given back: it is the last of the free ones, or it is worn out.
 abbrev pub slot_given_back : Given → ℕ → MapView → MapView
 slot_given_back Free i v =
     record {

@@ -160,7 +160,7 @@ pub fn update_half()
 {}
 
 /// Writing to a map's view is the first half of a run's step that stores to an element: the low bytes of a
-/// number take the place of others in its map slot.
+/// number replace others in its map slot.
 pub fn store_half()
     ensures { (w : WorldView) (s : Schedule) → (m : Matches w s) →
         (n : ℕ) (e : Element) (v : MapView) (offset : ℤ) (width at x : ℕ) →

@@ -83,7 +83,7 @@ pub record AsksForExit (job : Job) (run : ℕ) (step : ReceiptView) (note : Note
   pub prog : note.prog ≡ job.prog
   pub context : note.context ≡ job.ctx.items
 
--- The run that exited is another's.
+-- The note has no exit value, and the outcome says so.
 pub record IsOtherRun (run : ℕ) (note : NoteView) (outcome : Outcome) : Type 0 where
   pub none : note.exit ≡ None
   pub told : outcome ≡ Stopped (Some run) OtherRun

@@ -18,15 +18,15 @@ pub enum StopCause {
     Refused(EventRefusal),
     /// An event of the job was not applied.
     Fault(SharedFault),
-    /// The run that has ended is not of the job's program and context: others dropped the job's run and
-    /// started theirs in its run slot.
+    /// The run slot has no ended run of the job's program and context: others dropped the job's
+    /// run, and may have started theirs there.
     OtherRun,
 }
 
 /// What came of one job.
 #[derive(Clone, Copy, Debug, PartialEq, Eq)]
 pub enum Outcome {
-    /// The exit value.
+    /// The run has exited with this value, and was dropped.
     Exit(u64),
     /// No exit value. The job's run, where it has one, stays in the world, unless others have
     /// dropped it.
@@ -49,7 +49,7 @@ pub enum Trail {
         start: Receipt,
         step: Receipt,
     },
-    /// The run that has ended is another's.
+    /// A step was answered with an exit, but the note has no exit value.
     OtherRun {
         start: Receipt,
         step: Receipt,

@@ -1,6 +1,6 @@
 //! One program, run many times over maps of its own.
-ghost use Rattle.std.specs.Prelude.{◌≡◌, ◌⊎◌, ◌≤◌, ◌<◌, ℕ, All, Err, map, length, vec_len, IfOk, IfErr};
-ghost use Rattle.bpf_model.specs.View.{new_map_view, shapes_of_maps};
+ghost use Rattle.std.specs.Prelude.{◌≡◌, ◌⊎◌, ◌≤◌, ◌<◌, ℕ, All, Err, length, vec_len, IfOk, IfErr};
+ghost use Rattle.bpf_model.specs.View.{AreNewMaps, shapes_of_maps};
 ghost use Rattle.job_queue.specs.declared.fault.PoolFault.TheVariants as faults;
 ghost use Rattle.job_queue.specs.declared.pool.TheConstants.{MAX_JOBS, MAX_WORKERS};
 ghost use Rattle.worker_pool.specs.Outcomes.{IsFaultOf, IsZeroJob, IsReportOf};
@@ -37,7 +37,7 @@ fn run_shared<L: Ledger + Send + Sync, R: Threads + Wait + Sync>(
     workers: u8,
     jobs: &[Job],
 ) -> Result<PoolRun, PoolFault>
-    requires new_maps { registry.maps ≡ map new_map_view (shapes_of_maps registry.maps) }
+    requires new_maps { AreNewMaps registry.maps }
     requires shapes { verified.shapes ≡ shapes_of_maps registry.maps }
     requires workers { (0 < workers) × (workers ≤ MAX_WORKERS) }
     requires jobs { length jobs.now ≤ MAX_JOBS }
@@ -82,7 +82,7 @@ pub fn run_program<R: Threads + Wait + Sync>(
     workers: u64,
     count: u64,
 ) -> Result<PoolRun, PoolFault>
-    requires new_maps { registry.maps ≡ map new_map_view (shapes_of_maps registry.maps) }
+    requires new_maps { AreNewMaps registry.maps }
     requires shapes { verified.shapes ≡ shapes_of_maps registry.maps }
     ensures bad_workers { (workers ≡ 0) ⊎ (MAX_WORKERS < workers) → result ≡ Err faults.BadWorkers }
     ensures too_many_jobs { 0 < workers → workers ≤ MAX_WORKERS → MAX_JOBS < count →

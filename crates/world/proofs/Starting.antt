@@ -3,11 +3,10 @@ use Rattle.std.proofs.Common.{◌≡◌, ◌∙◌, ℕ, ◌≤◌, List, map, l
 use Rattle.std.specs.Prelude.{slice_get}
 use Rattle.std.proofs.lemmas.List.{length-map}
 use Rattle.bpf_model.specs.declared.limits.TheConstants.{MAX_MAPS, MAX_PROGRAMS}
-use Rattle.bpf_model.specs.Machine as machine
 use Rattle.bpf_model.specs.MapState.{AreShapes, new_map}
 use Rattle.bpf_model.specs.Refines.{TracksSchedule}
 use Rattle.bpf_model.specs.Schedule.{start_schedule}
-use Rattle.bpf_model.specs.View.{MapView, WorldView, new_map_view, start_view, shapes_of_maps}
+use Rattle.bpf_model.specs.View.{AreNewMaps, MapView, WorldView, start_view, shapes_of_maps}
 use Rattle.model_laws.proofs.Counting.{map-back}
 use Rattle.model_laws.proofs.Starting.{start_tracked}
 use Rattle.typed_runs.specs.Verified.{IsVerified}
@@ -23,7 +22,7 @@ use Rattle.world.specs.Bound.{programs_in, AreProgramsBound}
 
 -- What is known of the parts of a new world before it is made.
 pub record IsSafe (maps : List MapView) (loaded : List Loaded) : Type 0 where
-  pub new_maps : maps ≡ map new_map_view (shapes_of_maps maps)
+  pub new_maps : AreNewMaps maps
   pub shapes : AreShapes (shapes_of_maps maps)
   pub maps_limit : length maps ≤ MAX_MAPS
   pub programs_limit : length loaded ≤ MAX_PROGRAMS

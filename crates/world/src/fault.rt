@@ -7,10 +7,14 @@ use thiserror::Error;
 /// Why a world is not made.
 #[derive(Clone, Copy, Debug, PartialEq, Eq, Error)]
 pub enum WorldFault {
+    /// There are more than `MAX_PROGRAMS` programs.
     #[error("more programs than a world may have")]
     TooManyPrograms,
+    /// The first program whose maps are missing, have other shapes than it was verified for, or differ
+    /// from those in number.
     #[error("program {} is not bound to maps of the shapes that it was verified for", .program.index())]
     Binding { program: ProgId },
+    /// An allocation failed.
     #[error("out of memory")]
     Memory,
 }

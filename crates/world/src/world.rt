@@ -1,9 +1,9 @@
 //! The runtime's world.
-ghost use Rattle.std.specs.Prelude.{◌≡◌, ◌⊎◌, ◌<◌, ◌≤◌, ℕ, map, length, Err, IfOk, IsOk};
+ghost use Rattle.std.specs.Prelude.{◌≡◌, ◌⊎◌, ◌<◌, ◌≤◌, ℕ, length, Err, IfOk, IsOk};
 ghost use Rattle.bpf_model.specs.declared.limits.TheConstants.{MAX_PROGRAMS};
 ghost use Rattle.bpf_model.specs.Refines.{TracksSchedule};
 ghost use Rattle.bpf_model.specs.Schedule.{start_schedule};
-ghost use Rattle.bpf_model.specs.View.{new_map_view, start_view, shapes_of_maps};
+ghost use Rattle.bpf_model.specs.View.{AreNewMaps, start_view, shapes_of_maps};
 ghost use Rattle.world_invariant.specs.Invariant.{IsWorld};
 ghost use Rattle.world.specs.Bound.{programs_in, AreProgramsBound, IsFirstUnbound};
 
@@ -47,7 +47,7 @@ impl World {
     ///   for: a map is missing, has another shape, or the counts differ.
     /// - `Memory`: there is none for the runs.
     pub fn new(alloc: Global, registry: Registry, loaded: Vec<Loaded>) -> Result<World, WorldFault>
-        requires new_maps { registry.maps ≡ map new_map_view (shapes_of_maps registry.maps) }
+        requires new_maps { AreNewMaps registry.maps }
         ensures too_many { MAX_PROGRAMS < length loaded.items →
             result ≡ Err WorldFault.TooManyPrograms }
         ensures binding { (p : ℕ) → length loaded.items ≤ MAX_PROGRAMS

@@ -16,7 +16,7 @@ mod sequence;
 mod setup;
 mod tally;
 
-use activity::{Activity, activities};
+use activity::activities;
 use anyhow::Result;
 use command::{Command, UsageFault, parse_words};
 use crew::{Crew, crews, time_per_call};

@@ -14,9 +14,9 @@ use Rattle.typed_runs.specs.Well.{AreVerified}
 use Rattle.typed_runs.proofs.Reaching.{real-rest}
 use Rattle.view_laws.proofs.Reacting.{tracked_matches}
 use Rattle.world_laws.specs.Reacting.{full_reaction, full_reactions}
-use Rattle.world_laws.specs.Typed.{AreRealPrograms}
+use Rattle.world_laws.specs.Typed.{AreRealPrograms, IsMatched}
 use Rattle.world_laws.proofs.Worlds.{starts_ready, ready_stays, bounded_stays, simulates, tracked_is_sound}
-use Rattle.world_invariant.specs.Invariant.{IsWorld, IsMatched}
+use Rattle.world_invariant.specs.Invariant.{IsWorld}
 
 pub start_is_world : (shapes : List MapShape) (programs : List Loaded) → AreShapes shapes → length shapes ≤ MAX_MAPS → length programs ≤ MAX_PROGRAMS → AreVerified shapes programs → AreRealPrograms programs → IsWorld (start_view shapes programs)
 start_is_world shapes programs right few few_programs verified real =

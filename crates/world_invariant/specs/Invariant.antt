@@ -2,8 +2,7 @@
 use Rattle.bpf_model.specs.Refines.{TracksSchedule, IsBounded}
 use Rattle.bpf_model.specs.Schedule.{Schedule}
 use Rattle.bpf_model.specs.View.{WorldView}
-use Rattle.view_laws.specs.Matching.{Matches}
-use Rattle.world_laws.specs.Typed.{IsReadyWorld, IsSound}
+use Rattle.world_laws.specs.Typed.{IsReadyWorld}
 
 -- A world tracks a state of the machine with the runtime's choices, its programs are verified for
 -- its maps and values of their types, and its counts have room.
@@ -12,10 +11,3 @@ pub record IsWorld (w : WorldView) : Type 0 where
   pub tracks : TracksSchedule w schedule
   pub ready : IsReadyWorld w
   pub bounded : IsBounded w
-
--- What the step of a run may take for granted: a state that the world matches, with well-typed
--- runs.
-pub record IsMatched (w : WorldView) : Type 0 where
-  pub schedule : Schedule
-  pub matches : Matches w schedule
-  pub sound : IsSound w schedule

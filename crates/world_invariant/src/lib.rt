@@ -14,9 +14,9 @@ ghost use Rattle.bpf_model.specs.View.{WorldView, start_view};
 ghost use Rattle.typed_runs.specs.Verified.{IsVerified};
 ghost use Rattle.typed_runs.specs.Well.{IsVerifiedFor, AreVerified};
 ghost use Rattle.world_laws.specs.Reacting.{full_reaction, full_reactions};
-ghost use Rattle.world_laws.specs.Typed.{AreRealPrograms};
+ghost use Rattle.world_laws.specs.Typed.{AreRealPrograms, IsMatched};
 ghost use Rattle.world_invariant.specs.Binding.{IsBoundTo};
-ghost use Rattle.world_invariant.specs.Invariant.{IsWorld, IsMatched};
+ghost use Rattle.world_invariant.specs.Invariant.{IsWorld};
 
 /// A program is verified for the maps to which it is bound.
 pub fn bound_is_verified()

@@ -11,7 +11,7 @@ use Rattle.view_laws.specs.Reactions.{with_run}
 use Rattle.view_laws.proofs.Worlds.{awaited-same}
 use Rattle.world_laws.specs.Typed.{IsSound, IsRunning}
 use Rattle.world_laws.proofs.Ready.{refines}
-use Rattle.model_laws.proofs.Queueing.{in-slot}
+use Rattle.bpf_model.proofs.Cases.{flattened}
 use Rattle.bpf_model.proofs.Lists.{set-same}
 
 module _ (w : WorldView) (s : Schedule) (m : Matches w s) where
@@ -29,7 +29,7 @@ module _ (w : WorldView) (s : Schedule) (m : Matches w s) (sound : IsSound w s) 
       let depth : new.depth ≡ run.depth = same ∙ (refines w s m sound r run v k).depth in
       ap (λ (l : List Bool). slice_get l r) m.refines.opened
       ∙ slice_get-map is_open s.machine.runs r
-      ∙ ap (option_map is_open) (in-slot (slice_get s.machine.runs r) run k.there)
+      ∙ ap (option_map is_open) (flattened (slice_get s.machine.runs r) run k.there)
       ∙ ap (λ (n : ℕ). Some (nat_lt 0 n)) (sym depth)
 
   pub opened_stays : (with_run r (Some new) w).opened ≡ w.opened

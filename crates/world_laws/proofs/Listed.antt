@@ -26,9 +26,8 @@ use Rattle.bpf_model.specs.Refines.{IsReachedSchedule}
 use Rattle.bpf_model.specs.Schedule.{Schedule, start_schedule}
 use Rattle.bpf_model.specs.Section.{Section}
 use Rattle.bpf_model.specs.Step.{State, Environment, Outcome, Moves, Exits, put, sets, map_value, after}
-use Rattle.bpf_model.specs.Holds.{HoldsValue}
+use Rattle.bpf_model.specs.Holds.{HoldsValue, HoldsState}
 use Rattle.bpf_model.proofs.Cases.{choice}
-use Rattle.model_laws.specs.Alone.{HoldsState}
 use Rattle.model_laws.proofs.Holding.{Closed, HoldsOutcome, holds-entry, holds-acts, holds-returns}
 use Rattle.model_laws.proofs.Keeping.{no-run}
 use Rattle.typed_runs.proofs.Coming.{Comes, Stands, Starting, Stepping, does-come}

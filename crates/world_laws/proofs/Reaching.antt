@@ -46,7 +46,7 @@ use Rattle.view_laws.specs.Matching.{Matches}
 use Rattle.view_laws.proofs.Worlds.{here}
 use Rattle.world_laws.specs.Locating.{location_of}
 use Rattle.world_laws.specs.Moving.{word_in}
-use Rattle.world_laws.specs.Reaching.{IsInside, HasElement, Reaches, IsWritable, IsInFrame, IsCalled, HasArguments, IsAllowed, HasInsn}
+use Rattle.world_laws.specs.Reaching.{IsInside, HasElement, Reaches, IsWritable, IsInFrame, AreInFrame, IsCall, IsAllowed, HasInsn}
 use Rattle.world_laws.specs.Typed.{IsSound, IsRunning}
 use Rattle.world_laws.proofs.Places.{context-location, frame-location}
 use Rattle.world_laws.proofs.Shown.{Shown}
@@ -209,14 +209,12 @@ module _ (w : WorldView) (s : Schedule) (m : Matches w s) (sound : IsSound w s) 
       inside true is h = let l : at + len ≤ FRAME_BYTES = leb-true (at + len) FRAME_BYTES is in record { least = omega (arith, ints, word); inside = omega (arith, ints, word, l) }
       inside false is h = absurd (none-some bytes h)
 
-  abbrev is-called : (map : ℕ) (key : List ℕ) → CalledWith w s m sound r run v k map key → IsCalled w run.program v
-  is-called map key c = record {
-    map = map;
-    view = c.view;
-    bound = c.bound;
-    there = c.there;
-    key = in-frame (run.state.regs 2) (word_in v 2) c.view.shape.key_len key (register-word w s m sound r run v k 2 (omega arith)) c.key_read;
-  }
+  key-inside : (map : ℕ) (key : List ℕ) (c : CalledWith w s m sound r run v k map key) → IsInFrame (word_in v 2) c.view.shape.key_len
+  key-inside map key c = in-frame (run.state.regs 2) (word_in v 2) c.view.shape.key_len key (register-word w s m sound r run v k 2 (omega arith)) c.key_read
+
+  is-call : (helper : Helper) (map : ℕ) (key : List ℕ) (c : CalledWith w s m sound r run v k map key) → AreInFrame helper c.view v → IsCall helper run.program.maps w.maps v
+  is-call helper map key c arguments =
+      record { map = map; view = c.view; named = c.bound; there = c.there; arguments = arguments; frame = (refines w s m sound r run v k).cells }
 
   value-inside : (map : ℕ) (value : List ℕ) (shape : MapShape) → map_state.shape_of s.machine.store map ≡ Some shape → value_argument s.machine.store run map ≡ Some value → IsInFrame (word_in v 3) shape.value_len
   value-inside map value shape is e =
@@ -225,12 +223,12 @@ module _ (w : WorldView) (s : Schedule) (m : Matches w s) (sound : IsSound w s) 
       in-frame (run.state.regs 3) (word_in v 3) shape.value_len value (register-word w s m sound r run v k 3 (omega arith)) (ap (λ (z : MapShape). frame_bytes run.state.frame z.value_len (run.state.regs 3)) (sym same) ∙ f.2)
 
   abbrev Served : ℤ → Type 0
-  Served imm = (helper : Helper) × (helper_of imm ≡ Some helper) × HasArguments helper w run.program v
+  Served imm = (helper : Helper) × (helper_of imm ≡ Some helper) × IsCall helper run.program.maps w.maps v
 
   served : (imm : ℤ) (o : Option Helper) (ret : Value) (new : map_state.Store) → helper_of imm ≡ o → HelperStep o s.machine.store (open_sections s.machine.runs) run ret new → Served imm
-  served imm (Some Lookup) ret new e h = let c = called w s m sound r run v k h.0.map h.0.key h.0.map_is h.0.key_is in (Lookup, e, is-called h.0.map h.0.key c)
-  served imm (Some Delete) ret new e h = let c = called w s m sound r run v k h.map h.key h.map_is h.key_is in (Delete, e, is-called h.map h.key c)
-  served imm (Some Update) ret new e h = let c = called w s m sound r run v k h.map h.key h.map_is h.key_is in (Update, e, (is-called h.map h.key c, value-inside h.map h.value c.view.shape c.shape h.value_is))
+  served imm (Some Lookup) ret new e h = let c = called w s m sound r run v k h.0.map h.0.key h.0.map_is h.0.key_is in (Lookup, e, is-call Lookup h.0.map h.0.key c (key-inside h.0.map h.0.key c))
+  served imm (Some Delete) ret new e h = let c = called w s m sound r run v k h.map h.key h.map_is h.key_is in (Delete, e, is-call Delete h.map h.key c (key-inside h.map h.key c))
+  served imm (Some Update) ret new e h = let c = called w s m sound r run v k h.map h.key h.map_is h.key_is in (Update, e, is-call Update h.map h.key c (key-inside h.map h.key c, value-inside h.map h.value c.view.shape c.shape h.value_is))
   served imm None ret new e h = absurd h
 
   pub helper_arguments : (imm : ℤ) → Known w s m sound r run v k (Call kinds.Helper imm) → Served imm

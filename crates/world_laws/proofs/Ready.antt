@@ -38,7 +38,7 @@ use Rattle.world_laws.specs.Typed.{IsListed, IsSound, IsRunning}
 use Rattle.world_laws.proofs.Words.{IsBased}
 use Rattle.world_laws.proofs.Sure.{IsSure, typed, run-near}
 use Rattle.world_laws.proofs.Shown.{shown, held-kept}
-use Rattle.model_laws.proofs.Queueing.{in-slot}
+use Rattle.bpf_model.proofs.Cases.{flattened}
 
 pub immediate-below : (imm : ℤ) → FitsSigned w32 imm → immediate imm < 2 ^ 64
 immediate-below (pos n) f = omega (arith, ints, f)
@@ -76,7 +76,7 @@ module _ (w : WorldView) (s : Schedule) (m : Matches w s) (sound : IsSound w s) 
 
   pub refines : Refines v run
   refines = subst (λ o. RunSlotRefines slots es s.machine.programs o (Some (Some run))) k.shown
-      (subst (RunSlotRefines slots es s.machine.programs (slice_get w.runs r)) (in-slot (slice_get s.machine.runs r) run k.there) (m.refines.runs r))
+      (subst (RunSlotRefines slots es s.machine.programs (slice_get w.runs r)) (flattened (slice_get s.machine.runs r) run k.there) (m.refines.runs r))
 
   pub near : AreNear run.state.regs run.state.frame
   near = run-near s.machine r run sound.well k.there k.going
@@ -135,4 +135,4 @@ module _ (w : WorldView) (s : Schedule) (m : Matches w s) (sound : IsSound w s) 
   pub half-refines : (store : Store) (u : WorldView) (y : RefinesSchedule u (half s store)) → u.runs ≡ w.runs → RunRefines y.slots store.elements s.machine.programs v run
   half-refines store u y same =
       subst (λ o. RunSlotRefines y.slots store.elements s.machine.programs o (Some (Some run))) (ap (λ runs. slice_get runs r) same ∙ k.shown)
-      (subst (RunSlotRefines y.slots store.elements s.machine.programs (slice_get u.runs r)) (in-slot (slice_get s.machine.runs r) run k.there) (y.runs r))
+      (subst (RunSlotRefines y.slots store.elements s.machine.programs (slice_get u.runs r)) (flattened (slice_get s.machine.runs r) run k.there) (y.runs r))

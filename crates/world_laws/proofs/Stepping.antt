@@ -29,7 +29,7 @@ use Rattle.world_laws.proofs.Own.{alu-simulates, unary-simulates, number-simulat
 use Rattle.world_laws.proofs.Loading.{load-simulates, load-signed-simulates, element-load-simulates, element-load-signed-simulates}
 use Rattle.world_laws.proofs.Storing.{store-simulates, element-store-simulates}
 use Rattle.world_laws.proofs.Calling.{kernel-simulates, helper-simulates}
-use Rattle.bpf_model.proofs.Cases.{run-behind}
+use Rattle.bpf_model.proofs.Cases.{flattened, run-behind}
 use Rattle.std.specs.Option.{option_flatten}
 
 module _ (w : WorldView) (s : Schedule) (m : Matches w s) (sound : IsSound w s) (r : ℕ) (run : Run) (v : RunView) (k : IsRunning w s r run v) where
@@ -82,10 +82,6 @@ going-shown : (o : Option RunView) → step_refused o ≡ None → (v : RunView)
 going-shown None e = absurd (none-some _ (sym e))
 going-shown (Some v) e = (v, refl, not-ended v.exit e)
 
-slot-shown : (o : Option (Option RunView)) (v : RunView) → option_flatten o ≡ Some v → o ≡ Some (Some v)
-slot-shown None v e = absurd (none-some v e)
-slot-shown (Some o) v e = ap Some e
-
 not-refused : (o : Option EventRefusal) (w : WorldView) → step_by o w ≡ None → o ≡ None
 not-refused None w e = refl
 not-refused (Some refusal) w e = absurd (none-some _ (sym e))
@@ -94,7 +90,7 @@ module _ (w : WorldView) (s : Schedule) (m : Matches w s) (sound : IsSound w s) 
   running-step : (r : ℕ) → step_refused (option_flatten (slice_get w.runs r)) ≡ None → Simulates s (events.Step r) (word_step w r)
   running-step r e =
       let x = going-shown (option_flatten (slice_get w.runs r)) e in
-      let at = slot-shown (slice_get w.runs r) x.0 x.1 in
+      let at = flattened (slice_get w.runs r) x.0 x.1 in
       let y = run-behind m.refines.slots s.machine.store.elements s.machine.programs x.0 (slice_get w.runs r) (slice_get s.machine.runs r) at (m.refines.runs r) in
       step_simulates w s m sound r y.0 x.0 (record { there = ap option_flatten y.1; shown = at; going = sym y.2.exit ∙ x.2 })
 

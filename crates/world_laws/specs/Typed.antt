@@ -9,8 +9,9 @@ use Rattle.bpf_model.specs.MapState.{AreShapes}
 use Rattle.bpf_model.specs.Schedule.{Schedule}
 use Rattle.bpf_model.specs.Spelling.{FitsInsn}
 use Rattle.bpf_model.specs.View.{RunView, WorldView, shapes_of}
-use Rattle.model_laws.specs.Alone.{HoldsState}
+use Rattle.bpf_model.specs.Holds.{HoldsState}
 use Rattle.typed_runs.specs.Well.{IsWell, AreVerified}
+use Rattle.view_laws.specs.Matching.{Matches}
 
 -- A program is a value of its type: its instructions name registers and numbers that there are (in
 -- a definition they would else be any), and its list of maps has a limit.
@@ -50,6 +51,13 @@ pub record IsSound (w : WorldView) (s : Schedule) : Type 0 where
   pub limits : AreShapes (shapes_of w)
   pub maps : length w.maps ≤ MAX_MAPS
   pub programs : AreRealPrograms w.programs
+
+-- What the step of a run may take for granted: a state that the world matches, with well-typed
+-- runs.
+pub record IsMatched (w : WorldView) : Type 0 where
+  pub schedule : Schedule
+  pub matches : Matches w schedule
+  pub sound : IsSound w schedule
 
 -- A run that hasn't ended, with what the world keeps of it.
 pub record IsRunning (w : WorldView) (s : Schedule) (r : ℕ) (run : Run) (v : RunView) : Type 0 where

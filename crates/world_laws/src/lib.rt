@@ -46,7 +46,7 @@ ghost use Rattle.world_laws.specs.WorldExample.{example_world, example_events, e
 ghost use Rattle.world_laws.specs.Local.{Asks, local_of, Agrees, AsksNothing};
 ghost use Rattle.world_laws.specs.Locating.{location_of};
 ghost use Rattle.world_laws.specs.Moving.{word_in};
-ghost use Rattle.world_laws.specs.Reaching.{Reaches, IsWritable, HasArguments, IsAllowed, HasInsn};
+ghost use Rattle.world_laws.specs.Reaching.{Reaches, IsWritable, IsCall, IsAllowed, HasInsn};
 ghost use Rattle.world_laws.specs.Reacting.{insn_step, word_step, full_reaction, full_reactions};
 ghost use Rattle.world_laws.specs.Typed.{AreRealPrograms, AreListed, IsReadyWorld, IsSound, IsRunning};
 
@@ -268,7 +268,8 @@ pub fn calls_are_allowed()
     ensures helper { (w : WorldView) (s : Schedule) → Matches w s → IsSound w s →
         (r : ℕ) (run : Run) (v : RunView) → IsRunning w s r run v → (imm : ℤ) →
         insn_at run.program.code run.state.place ≡ Some (Insn.Call CallKind.Helper imm) →
-        (helper : Helper) × (helper_of imm ≡ Some helper) × HasArguments helper w run.program v }
+        (helper : Helper) × (helper_of imm ≡ Some helper)
+        × IsCall helper run.program.maps w.maps v }
     ensures kernel { (w : WorldView) (s : Schedule) → Matches w s → IsSound w s →
         (r : ℕ) (run : Run) (v : RunView) → IsRunning w s r run v → (imm : ℤ) →
         insn_at run.program.code run.state.place ≡ Some (Insn.Call CallKind.Kernel imm) →

@@ -1,5 +1,6 @@
 -- What is kept of a world's runs: each at its code, and for each whether it is inside a section.
-use Rattle.std.specs.Prelude.{◌≡◌, ℕ, Bool, false, List, length, map, replicate, Option, None, Some, slice_get, option_map}
+use Rattle.std.specs.Prelude.{◌≡◌, ℕ, Bool, false, List, length, map, replicate, Option, None}
+use Rattle.std.specs.Prelude.{Some, slice_get, option_map}
 use Rattle.bpf_model.specs.declared.limits.TheConstants.{MAX_RUNS}
 use Rattle.bpf_model.specs.Machine as machine
 use Rattle.bpf_model.specs.View.{MapView, RunView, WorldView}
@@ -43,7 +44,8 @@ world_of maps runs grace programs given = record {
   given = given;
 }
 
--- these maps and programs before any event: all run slots are free, and no section is open or awaited
+-- these maps and programs before any event: all run slots are free, and no section is open or
+-- awaited
 abbrev pub unused_world : List MapView → List machine.Loaded → WorldView
 unused_world maps programs = record {
   maps = maps;

@@ -1,5 +1,5 @@
 //! What a world keeps.
-ghost use Rattle.std.specs.Prelude.{◌≡◌, None, map, replicate, slice_get, option_map, option_copied, IfOk, false};
+ghost use Rattle.std.specs.Prelude.{◌≡◌, None, map, replicate, slice_get, option_map, option_copied, IfOk};
 ghost use Rattle.bpf_model.specs.declared.limits.TheConstants.{MAX_RUNS};
 ghost use Rattle.world_parts.specs.Keeping.{unused_world};
 ghost use Rattle.world_parts.specs.Programs.{program_of};
@@ -59,7 +59,8 @@ impl Parts {
         registry: Registry,
         programs: Vec<Loaded>,
     ) -> Result<Parts, AllocError>
-        ensures { IfOk result (λ w. w ≡ unused_world registry.maps (map program_of programs.items)) }
+        ensures { IfOk result (λ w.
+            w ≡ unused_world registry.maps (map program_of programs.items)) }
     {
         let runs = free_slots(alloc)?;
         Ok(Parts {

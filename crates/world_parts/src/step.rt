@@ -1,11 +1,9 @@
 //! The step of a run.
 ghost use Rattle.std.specs.Prelude.{◌≡◌, None, slice_get};
 ghost use Rattle.bpf_model.specs.declared.event.Event.{Event};
-ghost use Rattle.bpf_model.specs.Schedule.{Schedule};
-ghost use Rattle.view_laws.specs.Matching.{Matches};
 ghost use Rattle.view_laws.specs.Reactions.{step_refused};
 ghost use Rattle.world_laws.specs.Reacting.{full_reaction, word_step};
-ghost use Rattle.world_laws.specs.Typed.{IsSound};
+ghost use Rattle.world_laws.specs.Typed.{IsMatched};
 ghost use Rattle.world_parts.specs.Brief.{brief_answer};
 ghost use Rattle.world_parts.specs.Stepping.{CanTake, HasGone, HasTaken, IsGoing};
 ghost use Rattle.std.specs.Option.{option_flatten};
@@ -78,7 +76,7 @@ impl Parts {
 
     /// The step of a run that has not ended.
     fn take_step(&mut self, run: RunId) -> Brief
-        requires sound { (s : Schedule) × Matches self.old s × IsSound self.old s }
+        requires sound { IsMatched self.old }
         requires going { step_refused (option_flatten (slice_get self.old.runs run)) ≡ None }
         ensures answer { brief_answer result ≡ (word_step self.old run).0 }
         ensures new { self.new ≡ (word_step self.old run).1 }
@@ -95,7 +93,7 @@ impl Parts {
     /// One step of a run, or why there is none.
     #[inline(never)]
     fn stepped(&mut self, run: RunId) -> Brief
-        requires sound { (s : Schedule) × Matches self.old s × IsSound self.old s }
+        requires sound { IsMatched self.old }
         ensures answer { brief_answer result ≡ (full_reaction self.old (Event.Step run)).0 }
         ensures new { self.new ≡ (full_reaction self.old (Event.Step run)).1 }
     {
@@ -111,7 +109,7 @@ impl Parts {
     /// The answer is `Moved`, or `Exited` with the exit value. No step fails or takes memory.
     #[inline(always)]
     pub fn step(&mut self, run: RunId) -> Answer
-        requires sound { (s : Schedule) × Matches self.old s × IsSound self.old s }
+        requires sound { IsMatched self.old }
         ensures answer { result ≡ (full_reaction self.old (Event.Step run)).0 }
         ensures new { self.new ≡ (full_reaction self.old (Event.Step run)).1 }
     {

@@ -1,6 +1,6 @@
 //! Machines of the plain model, and worlds, of the same maps and programs.
-ghost use Rattle.std.specs.Prelude.{◌≡◌, map, IfOk};
-ghost use Rattle.bpf_model.specs.View.{new_map_view, shapes_of_maps};
+ghost use Rattle.std.specs.Prelude.{IfOk};
+ghost use Rattle.bpf_model.specs.View.{AreNewMaps};
 
 use arrayvec::ArrayVec;
 use asm::assemble;
@@ -130,8 +130,8 @@ fn add_map(
     number: usize,
     shape: MapShape,
 ) -> Result<(), Fail>
-    requires new { registry.old.maps ≡ map new_map_view (shapes_of_maps registry.old.maps) }
-    ensures new { registry.new.maps ≡ map new_map_view (shapes_of_maps registry.new.maps) }
+    requires new { AreNewMaps registry.old.maps }
+    ensures new { AreNewMaps registry.new.maps }
 {
     let name = format!(in alloc; "m{number}")?;
     registry.create(&name, shape)?;
@@ -140,7 +140,7 @@ fn add_map(
 
 /// New maps m0, m1 and so on of these shapes.
 pub fn registry_of(alloc: Global, shapes: &[MapShape]) -> Result<Registry, Fail>
-    ensures new { IfOk result (λ r. r.maps ≡ map new_map_view (shapes_of_maps r.maps)) }
+    ensures new { IfOk result (λ r. AreNewMaps r.maps) }
 {
     let mut registry = Registry::new(alloc);
     for (number, shape) in shapes.iter().enumerate() {

@@ -8,7 +8,7 @@ use Rattle.compute_effects.proofs.Combining.{moves_compute, others_compute}
 use Rattle.compute_effects.proofs.arithmetic.computed_kind.Goals as goal
 use Rattle.bpf_model.specs.declared.insn.AluOp.{AluOp}
 use Rattle.scalar_domain.specs.Floor.{KeepsFloor}
-use Rattle.compute_effects.specs.Floor.{IsNumbers}
+use Rattle.kind_tests.specs.Performs.{IsNumbers}
 
 pub returns-in_ok-operand-in-Move-clause-sound : goal.returns-in_ok-operand-in-Move-clause-sound
 returns-in_ok-operand-in-Move-clause-sound c = IfOk-weaker c.copied.result _ _

@@ -1,10 +1,10 @@
-use Rattle.std.proofs.Common.{◌≡◌, ◌++◌, ◌∷◌, [], Some, map, sym, ap, ◌∙◌, arith}
+use Rattle.std.proofs.Common.{◌≡◌, ◌++◌, ◌∷◌, [], Some, map, sym, ap, ◌∙◌, arith, length, refl}
 use Rattle.std.specs.Prelude.{slice_get, drop, ◌+◌}
 use Rattle.std.specs.Option.{option_map}
 use Rattle.std.proofs.lemmas.List.{length-map}
 use Rattle.bpf_model.specs.Schedule.{is_open}
 use Rattle.plain_runs.specs.State.{runs_of, run_of}
-use Rattle.plain_store.proofs.Lists.{read-at}
+use Rattle.std.proofs.lemmas.Option.{slice_get_read}
 use Rattle.plain_store.proofs.Lists.{mapped-more, mapped-all}
 use Rattle.plain_runs.proofs.run_slots.open_flags.Goals as goal
 use Rattle.bpf_model.proofs.Lists.{get-map}
@@ -14,7 +14,7 @@ loop-r-preserved c = λ programs.
     let runs = c.args.runs.now in
     let r = c.loop-r.r in
     let x = c.index-runs-r.result in
-    let there : slice_get (runs_of programs runs) r ≡ Some (option_map (run_of programs) x) = get-map (option_map (run_of programs)) runs r x (read-at runs r x c.loop-r-test.true c.index-runs-r.is) in
+    let there : slice_get (runs_of programs runs) r ≡ Some (option_map (run_of programs) x) = get-map (option_map (run_of programs)) runs r x (slice_get_read runs (length runs) r x refl c.loop-r-test.true c.index-runs-r.is) in
     let pushed = c.in_ok-push.ensures.items ∙ ap (λ b. c.loop-r.flags.items ++ b ∷ []) (c.is_inside.ensures programs) in
     c.loop-r.invariant programs ∙ mapped-more is_open (runs_of programs runs) c.loop-r.flags.items r (option_map (run_of programs) x) there ∙ ap (λ l. l ++ map is_open (drop (r + 1) (runs_of programs runs))) (sym pushed)
 

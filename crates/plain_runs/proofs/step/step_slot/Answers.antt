@@ -1,10 +1,10 @@
-use Rattle.std.proofs.Common.{◌≡◌, Some, sym, ap, ◌∙◌, subst}
+use Rattle.std.proofs.Common.{◌≡◌, Some, sym, ap, ◌∙◌, subst, length, refl}
 use Rattle.std.specs.Prelude.{slice_get}
 use Rattle.std.specs.Option.{option_map}
 use Rattle.plain_store.specs.State.{store_of, sections_of}
 use Rattle.plain_runs.specs.State.{run_of, loaded_of, run_with, or_no_program}
 use Rattle.plain_runs.specs.Acting.{SlotStepsAs}
-use Rattle.plain_store.proofs.Lists.{read-at}
+use Rattle.std.proofs.lemmas.Option.{slice_get_read}
 use Rattle.plain_runs.proofs.BySlot.{slot-steps}
 use Rattle.plain_runs.proofs.step.step_slot.Goals as goal
 
@@ -14,7 +14,7 @@ returns-else-run-programs-clause-steps c =
     let run = c.in-Some.run' in
     let new = c.step_run.new.run in
     let x = c.index-programs-run.result in
-    let there : slice_get programs run.program ≡ Some x = read-at programs run.program x c.if-run-programs.false c.index-programs-run.is in
+    let there : slice_get programs run.program ≡ Some x = slice_get_read programs (length programs) run.program x refl c.if-run-programs.false c.index-programs-run.is in
     let old_is : run_of programs run ≡ run_with (loaded_of x) run = ap (λ o. run_with (or_no_program o) run) there in
     let new_is : run_of programs new ≡ run_with (loaded_of x) new = ap (λ p. run_with (or_no_program (slice_get programs p)) new) c.step_run.ensures.program ∙ ap (λ o. run_with (or_no_program o) new) there in
     subst (λ o. SlotStepsAs (store_of c.args.store.now) (sections_of c.args.opened.now) o c.step_run.result (store_of c.step_run.new.store) (Some (run_of programs new))) (sym (ap (option_map (run_of programs)) c.in-Some.is))

@@ -1,15 +1,15 @@
-use Rattle.std.proofs.Common.{◌≡◌, Some, map, sym, ◌∙◌, arith}
+use Rattle.std.proofs.Common.{◌≡◌, Some, map, sym, ◌∙◌, arith, length, refl}
 use Rattle.std.specs.Prelude.{slice_get}
 use Rattle.std.proofs.lemmas.List.{length-map}
 use Rattle.plain_store.specs.State.{queues_of}
-use Rattle.plain_store.proofs.Lists.{read-at}
+use Rattle.std.proofs.lemmas.Option.{slice_get_read}
 use Rattle.plain_store.proofs.Queueing.{ready-here, ready-later, ready-past}
 use Rattle.plain_store.proofs.queues.first_ready.Goals as goal
 use Rattle.plain_store.proofs.queues.first_ready.Goals.{After-first_of}
 use Rattle.bpf_model.proofs.Lists.{get-map}
 
 there : (c : After-first_of) → slice_get (map queues_of c.args.queues.now) c.loop-k.k ≡ Some (queues_of c.index-queues-k.result)
-there c = get-map queues_of c.args.queues.now c.loop-k.k c.index-queues-k.result (read-at c.args.queues.now c.loop-k.k c.index-queues-k.result c.loop-k-test.true c.index-queues-k.is)
+there c = get-map queues_of c.args.queues.now c.loop-k.k c.index-queues-k.result (slice_get_read c.args.queues.now (length c.args.queues.now) c.loop-k.k c.index-queues-k.result refl c.loop-k-test.true c.index-queues-k.is)
 
 pub returns-in-Some : goal.returns-in-Some
 returns-in-Some c = sym (c.loop-k.invariant ∙ ready-here (map queues_of c.args.queues.now) c.loop-k.k (queues_of c.index-queues-k.result) c.in-Some.n (there (goal.at.returns-in-Some c).After-first_of) (sym c.first_of.ensures ∙ c.in-Some.is))

@@ -1,11 +1,11 @@
-use Rattle.std.proofs.Common.{◌≡◌, ◌<◌, ◌++◌, ◌∷◌, [], length, Some, None, sym, ap, ◌∙◌, arith, inl, inr, List, ℕ}
+use Rattle.std.proofs.Common.{◌≡◌, ◌<◌, ◌++◌, ◌∷◌, [], length, Some, None, sym, ap, ◌∙◌, arith, inl, inr, List, ℕ, refl}
 use Rattle.std.specs.Prelude.{slice_get, drop, ◌+◌, if◌then◌else◌}
 use Rattle.std.proofs.lemmas.Bool.{cases_lt}
 use Rattle.std.proofs.lemmas.List.{length-map}
 use Rattle.bpf_model.specs.Schedule.{Queues, unlinked_between}
 use Rattle.plain_store.specs.State.{element_of, elements_of}
 use Rattle.plain_store.specs.Retiring.{linked_map}
-use Rattle.plain_store.proofs.Lists.{read-at}
+use Rattle.std.proofs.lemmas.Option.{slice_get_read}
 use Rattle.plain_store.proofs.Queueing.{unlinked-more, unlinked-first, unlinked-second}
 use Rattle.plain_store.proofs.Lists.{made-from}
 use Rattle.plain_store.proofs.queues.retire.Goals as goal
@@ -23,7 +23,7 @@ loop-n-preserved c = record {
       let second : n < length elements = omega (arith, c.loop-n-test.true, c.min-n-end.ensures) in
       let x = c.index-elements-n.result in
       let o = made-from linked_map olds before n None h first in
-      let there : slice_get (elements_of elements) n ≡ Some (element_of x) = get-map element_of elements n x (read-at elements n x second c.index-elements-n.is) in
+      let there : slice_get (elements_of elements) n ≡ Some (element_of x) = get-map element_of elements n x (slice_get_read elements (length elements) n x refl second c.index-elements-n.is) in
       let wanted = c.is_retired.ensures o.0 o.2 in
       let pushed = c.in_ok-push_if.ensures ∙ ap (λ b. done ++ (if b then n ∷ [] else [])) wanted in
       c.loop-n.invariant.next olds h ∙ unlinked-more olds (elements_of elements) k n done o.0 (element_of x) o.1 there ∙ ap (λ l. l ++ unlinked_between k (n + 1) (drop (n + 1) olds) (drop (n + 1) (elements_of elements))) (sym pushed);

@@ -1,8 +1,8 @@
-use Rattle.std.proofs.Common.{◌<◌, length, map, sym, ap, ◌∙◌, arith}
+use Rattle.std.proofs.Common.{◌<◌, length, map, sym, ap, ◌∙◌, arith, refl}
 use Rattle.std.proofs.lemmas.List.{length-map}
 use Rattle.plain_store.specs.State.{queues_of, elements_of}
 use Rattle.bpf_model.specs.Schedule.{retired_in}
-use Rattle.plain_store.proofs.Lists.{read-at}
+use Rattle.std.proofs.lemmas.Option.{slice_get_read}
 use Rattle.plain_store.proofs.Queueing.{all-retired}
 use Rattle.plain_store.proofs.Queueing.{changed-one}
 use Rattle.plain_store.proofs.queues.retire_all.Goals as goal
@@ -15,7 +15,7 @@ loop-k-preserved c = λ olds h.
     let news = elements_of c.args.elements.now in
     let bound : k < length xs = omega (arith, c.loop-k-test.true, c.loop-k.auto.queues) in
     let done = c.in_ok-retire.ensures olds h ∙ ap (λ q. retired_in k olds news (queues_of q)) (sym c.index-queues-k.is) in
-    changed-one (λ j. retired_in j olds news) c.args.queues.now xs k x c.retire.new.queues (c.loop-k.invariant olds h) (read-at xs k x bound c.index-queues-k.is) done
+    changed-one (λ j. retired_in j olds news) c.args.queues.now xs k x c.retire.new.queues (c.loop-k.invariant olds h) (slice_get_read xs (length xs) k x refl bound c.index-queues-k.is) done
 
 pub returns : goal.returns
 returns c = λ olds h.

@@ -1,10 +1,10 @@
-use Rattle.std.proofs.Common.{◌≡◌, ◌<◌, ◌++◌, ◌+◌, length, Some, None, map, sym, ap, ◌∙◌, subst, arith, true, false, List, ℕ}
+use Rattle.std.proofs.Common.{◌≡◌, ◌<◌, ◌++◌, ◌+◌, length, Some, None, map, sym, ap, ◌∙◌, subst, arith, true, false, List, ℕ, refl}
 use Rattle.std.specs.Prelude.{slice_get, slice_set, is_some, take, drop}
 use Rattle.bpf_model.specs.Schedule.{without_first}
 use Rattle.bpf_model.specs.Schedule as schedule
 use Rattle.plain_store.specs.State.{queues_of}
 use Rattle.plain_store.specs.declared.queues.Queues.{Queues}
-use Rattle.plain_store.proofs.Lists.{read-at}
+use Rattle.std.proofs.lemmas.Option.{slice_get_read}
 use Rattle.std.proofs.lemmas.List.{map-set}
 use Rattle.plain_store.proofs.Queueing.{without-here, without-later, is-first, not-first}
 use Rattle.plain_store.proofs.queues.take_first.Goals as goal
@@ -29,8 +29,8 @@ returns-then-is_some c =
     let x = c.index-queues-k.result in
     let y = c.index-queues-k-then-is_some.result in
     let bound : k < length xs = omega (arith, c.loop-k-test.true, c.loop-k.auto.queues) in
-    let at_x = read-at xs k x bound c.index-queues-k.is in
-    let at_y = read-at xs k y bound c.index-queues-k-then-is_some.is in
+    let at_x = slice_get_read xs (length xs) k x refl bound c.index-queues-k.is in
+    let at_y = slice_get_read xs (length xs) k y refl bound c.index-queues-k-then-is_some.is in
     let same : x ≡ y = both (slice_get xs k) x y at_x at_y in
     let some : is_some (slice_get (queues_of x).ready 0) ≡ true = ap (λ q. is_some (slice_get (queues_of q).ready 0)) c.index-queues-k.is ∙ ap is_some (sym c.first_of.ensures) ∙ sym c.is_some.ensures ∙ c.if-is_some.true in
     let pos : 0 < length (queues_of y).ready = subst (λ q. 0 < length (queues_of q).ready) same (is-first (queues_of x).ready some) in
@@ -49,4 +49,4 @@ loop-k-preserved c =
     let x = c.index-queues-k.result in
     let bound : k < length xs = omega (arith, c.loop-k-test.true, c.loop-k.auto.queues) in
     let some : is_some (slice_get (queues_of x).ready 0) ≡ false = ap (λ q. is_some (slice_get (queues_of q).ready 0)) c.index-queues-k.is ∙ ap is_some (sym c.first_of.ensures) ∙ sym c.is_some.ensures ∙ c.if-is_some.false in
-    record { same = c.loop-k.invariant.same; left = later c.args.queues.now xs k x c.loop-k.invariant.same (read-at xs k x bound c.index-queues-k.is) (not-first (queues_of x).ready some) c.loop-k.invariant.left }
+    record { same = c.loop-k.invariant.same; left = later c.args.queues.now xs k x c.loop-k.invariant.same (slice_get_read xs (length xs) k x refl bound c.index-queues-k.is) (not-first (queues_of x).ready some) c.loop-k.invariant.left }

@@ -1,8 +1,8 @@
-use Rattle.std.proofs.Common.{◌<◌, length, map, sym, ap, ◌∙◌, arith}
+use Rattle.std.proofs.Common.{◌<◌, length, map, sym, ap, ◌∙◌, arith, refl}
 use Rattle.std.proofs.lemmas.List.{length-map}
 use Rattle.bpf_model.specs.Schedule.{turned}
 use Rattle.plain_store.specs.State.{queues_of}
-use Rattle.plain_store.proofs.Lists.{read-at}
+use Rattle.std.proofs.lemmas.Option.{slice_get_read}
 use Rattle.plain_store.proofs.Queueing.{all-turned}
 use Rattle.plain_store.proofs.Queueing.{changed-one}
 use Rattle.plain_store.proofs.queues.turn_all.Goals as goal
@@ -14,7 +14,7 @@ loop-k-preserved c =
     let x = c.index-queues-k.result in
     let bound : k < length xs = omega (arith, c.loop-k-test.true, c.loop-k.auto.queues) in
     let done = c.in_ok-turn.ensures ∙ ap (λ q. turned (queues_of q)) (sym c.index-queues-k.is) in
-    changed-one (λ _ q. turned q) c.args.queues.now xs k x c.turn.new.queues c.loop-k.invariant (read-at xs k x bound c.index-queues-k.is) done
+    changed-one (λ _ q. turned q) c.args.queues.now xs k x c.turn.new.queues c.loop-k.invariant (slice_get_read xs (length xs) k x refl bound c.index-queues-k.is) done
 
 pub returns : goal.returns
 returns c =

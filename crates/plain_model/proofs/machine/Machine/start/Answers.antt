@@ -1,4 +1,4 @@
-use Rattle.std.proofs.Common.{rules, ◌≡◌, ℕ, ◌+◌, ◌<◌, arith, length, Some, sym, ap, ◌∙◌, subst, vec_len, map}
+use Rattle.std.proofs.Common.{rules, ◌≡◌, ℕ, ◌+◌, ◌<◌, arith, length, Some, sym, ap, ◌∙◌, subst, vec_len, map, refl}
 use Rattle.std.specs.Prelude.{slice_get, slice_set}
 use Rattle.std.specs.Option.{option_map}
 use Rattle.bpf_model.specs.Machine.{Machine, begins, fresh_run, lowest_free}
@@ -7,7 +7,7 @@ use Rattle.bpf_model.specs.declared.event.Answer.TheVariants.{Started}
 use Rattle.bpf_model.specs.Event.{DoesEvent}
 use Rattle.plain_model.specs.State.{machine_of}
 use Rattle.plain_runs.specs.State.{run_of, runs_of, run_with, loaded_of, or_no_program}
-use Rattle.plain_store.proofs.Lists.{read-at}
+use Rattle.std.proofs.lemmas.Option.{slice_get_read}
 use Rattle.std.proofs.lemmas.List.{map-set, length-map}
 use Rattle.plain_runs.proofs.BySlot.{lowest-within}
 use Rattle.plain_model.proofs.Events.{start-does}
@@ -34,7 +34,7 @@ returns-clause-machine c =
     let run = c.new.result in
     let len : vec_len self.programs ≡ length programs = search rules in
     let bound : p < length programs = omega (arith, c.if-p-len.false, c.len.ensures, len) in
-    let one : slice_get programs p ≡ Some x = read-at programs p x bound c.index.ensures in
+    let one : slice_get programs p ≡ Some x = slice_get_read programs (length programs) p x refl bound c.index.ensures in
     let there : slice_get (map loaded_of programs) p ≡ Some (loaded_of x) = get-map loaded_of programs p x one in
     let fresh : run_of programs run ≡ fresh_run self.started (loaded_of x) c.args.ctx.items = ap (λ k. run_with (or_no_program (slice_get programs k)) run) c.new.ensures.program ∙ ap (λ o. run_with (or_no_program o) run) one ∙ c.new.ensures.run (loaded_of x) in
     let runs : runs_of programs (slice_set items r (Some run)) ≡ slice_set m.runs r (Some (fresh_run self.started (loaded_of x) c.args.ctx.items)) = map-set (option_map (run_of programs)) items r (Some run) ∙ ap (λ f. slice_set m.runs r (Some f)) fresh in

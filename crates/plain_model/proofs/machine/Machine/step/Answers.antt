@@ -1,4 +1,4 @@
-use Rattle.std.proofs.Common.{rules, ◌≡◌, ◌<◌, arith, length, Some, sym, ap, ◌∙◌, subst, vec_len}
+use Rattle.std.proofs.Common.{rules, ◌≡◌, ◌<◌, arith, length, Some, sym, ap, ◌∙◌, subst, vec_len, refl}
 use Rattle.std.specs.Prelude.{slice_get, slice_set}
 use Rattle.std.specs.Option.{option_map}
 use Rattle.bpf_model.specs.Machine.{with_runs, with_store, open_sections}
@@ -8,7 +8,7 @@ use Rattle.plain_runs.specs.State.{run_of, runs_of}
 use Rattle.plain_store.specs.State.{store_of, sections_of}
 use Rattle.plain_runs.specs.Acting.{SlotStepsAs}
 use Rattle.plain_model.specs.Following.{DoesAs}
-use Rattle.plain_store.proofs.Lists.{read-at}
+use Rattle.std.proofs.lemmas.Option.{slice_get_read}
 use Rattle.std.proofs.lemmas.List.{map-set}
 use Rattle.plain_model.proofs.Events.{step-does}
 use Rattle.plain_model.proofs.machine.Machine.step.Goals as goal
@@ -26,7 +26,7 @@ returns-clause-machine c =
     let t = store_of c.step_slot.new.store in
     let len : vec_len self.runs ≡ length items = search rules in
     let bound : r < length items = omega (arith, c.if-r-len.false, c.len.ensures, len) in
-    let there : slice_get (runs_of programs items) r ≡ Some (option_map (run_of programs) x) = get-map (option_map (run_of programs)) items r x (read-at items r x bound c.index_mut.ensures.value) in
+    let there : slice_get (runs_of programs items) r ≡ Some (option_map (run_of programs) x) = get-map (option_map (run_of programs)) items r x (slice_get_read items (length items) r x refl bound c.index_mut.ensures.value) in
     let opened : sections_of c.as_slice-2.result.now ≡ open_sections (runs_of programs items) = ap sections_of c.as_slice-2.ensures.value ∙ c.in_ok-opened.ensures in
     let by_programs = subst (λ ps. SlotStepsAs (store_of self.store) (sections_of c.as_slice-2.result.now) (option_map (run_of ps) x) c.step_slot.result t (option_map (run_of ps) after)) c.as_slice.ensures.value c.step_slot.ensures.steps in
     let by_sections = subst (λ o. SlotStepsAs (store_of self.store) o (option_map (run_of programs) x) c.step_slot.result t (option_map (run_of programs) after)) opened by_programs in

@@ -1,4 +1,4 @@
-use Rattle.std.proofs.Common.{rules, ◌≡◌, ◌<◌, arith, length, Some, sym, ◌∙◌, ap, vec_len, false}
+use Rattle.std.proofs.Common.{rules, ◌≡◌, ◌<◌, arith, length, Some, sym, ◌∙◌, ap, vec_len, false, refl}
 use Rattle.std.specs.Prelude.{slice_get, ◌+ℤ◌}
 use Rattle.std.specs.Int.{w16, w64}
 use Rattle.std.proofs.lemmas.Int.{to_z-of_z}
@@ -6,7 +6,7 @@ use mir.Val.{SFits}
 use Rattle.bpf_model.specs.Access.{byte_count, region_offset, number_at}
 use Rattle.bpf_model.specs.Element.{is_reclaimed}
 use Rattle.plain_store.specs.State.{element_of, elements_of}
-use Rattle.plain_store.proofs.Lists.{read-at}
+use Rattle.std.proofs.lemmas.Option.{slice_get_read}
 use Rattle.plain_store.proofs.Accesses.{load-found, load-none}
 use Rattle.plain_store.proofs.store.Store.load.Goals as goal
 use Rattle.plain_store.proofs.store.Store.load.Goals.{After-index-element, After-region_offset}
@@ -17,7 +17,7 @@ there c =
     let items = c.args.self.now.elements.items in
     let len : vec_len c.args.self.now.elements ≡ length items = search rules in
     let bound : c.args.n < length items = omega (arith, c.if-n-len.false, c.len.ensures, len) in
-    get-map element_of items c.args.n c.index-element.result.now (read-at items c.args.n c.index-element.result.now bound c.index-element.ensures)
+    get-map element_of items c.args.n c.index-element.result.now (slice_get_read items (length items) c.args.n c.index-element.result.now refl bound c.index-element.ensures)
 
 placed : (c : After-region_offset) → c.region_offset.result ≡ region_offset (length (element_of c.index-element.result.now).value) (byte_count c.args.width) (c.args.o +ℤ c.args.offset)
 placed c =

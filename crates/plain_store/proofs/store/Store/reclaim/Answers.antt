@@ -1,10 +1,10 @@
-use Rattle.std.proofs.Common.{rules, ◌≡◌, ◌<◌, arith, length, Some, map, ◌∙◌, ap, vec_len}
+use Rattle.std.proofs.Common.{rules, ◌≡◌, ◌<◌, arith, length, Some, map, ◌∙◌, ap, vec_len, refl}
 use Rattle.std.specs.Prelude.{slice_get, slice_set}
 use Rattle.bpf_model.specs.Element.{Reclaimed, with_life}
 use Rattle.bpf_model.specs.MapState.{Store}
 use Rattle.plain_store.specs.State.{map_of, element_of, elements_of, store_of, sections_of}
 use Rattle.plain_store.specs.declared.element.Life.TheVariants as lives
-use Rattle.plain_store.proofs.Lists.{read-at}
+use Rattle.std.proofs.lemmas.Option.{slice_get_read}
 use Rattle.std.proofs.lemmas.List.{map-set}
 use Rattle.plain_store.proofs.Reclaims.{reclaims-at}
 use Rattle.plain_store.proofs.store.Store.reclaim.Goals as goal
@@ -24,9 +24,9 @@ returns-clause-tells c =
     let bound : c.args.n < length items = omega (arith, c.if-n-len.false, c.len.ensures, len) in
     let map_len : vec_len old.maps ≡ length maps = search rules in
     let map_bound : x.map < length maps = omega (arith, c.if-map-len.false, c.len-2.ensures, map_len) in
-    let hx : slice_get (elements_of items) c.args.n ≡ Some (element_of x) = get-map element_of items c.args.n x (read-at items c.args.n x bound c.index-element.ensures) in
-    let hagain : slice_get (elements_of items) c.args.n ≡ Some (element_of again) = get-map element_of items c.args.n again (read-at items c.args.n again bound c.index_mut-2.ensures.value) in
-    let hy : slice_get (map map_of maps) x.map ≡ Some (map_of y) = get-map map_of maps x.map y (read-at maps x.map y map_bound c.index_mut.ensures.value) in
+    let hx : slice_get (elements_of items) c.args.n ≡ Some (element_of x) = get-map element_of items c.args.n x (slice_get_read items (length items) c.args.n x refl bound c.index-element.ensures) in
+    let hagain : slice_get (elements_of items) c.args.n ≡ Some (element_of again) = get-map element_of items c.args.n again (slice_get_read items (length items) c.args.n again refl bound c.index_mut-2.ensures.value) in
+    let hy : slice_get (map map_of maps) x.map ≡ Some (map_of y) = get-map map_of maps x.map y (slice_get_read maps (length maps) x.map y refl map_bound c.index_mut.ensures.value) in
     let one = both (slice_get (elements_of items) c.args.n) (element_of again) (element_of x) hagain hx in
     let elements = map-set element_of items c.args.n _ ∙ ap (λ a. slice_set (elements_of items) c.args.n (with_life Reclaimed a)) one in
     let new_maps = map-set map_of maps x.map z in

@@ -1,4 +1,4 @@
-use Rattle.std.proofs.Common.{rules, ◌≡◌, ◌<◌, arith, length, Some, sym, subst, vec_len}
+use Rattle.std.proofs.Common.{rules, ◌≡◌, ◌<◌, arith, length, Some, sym, subst, vec_len, refl}
 use Rattle.std.specs.Prelude.{slice_get, ◌+ℤ◌}
 use Rattle.std.specs.Int.{w16, w64}
 use Rattle.std.proofs.lemmas.Int.{to_z-of_z}
@@ -9,7 +9,7 @@ use Rattle.bpf_model.specs.Element.{accessible}
 use Rattle.bpf_model.specs.MachineStep.{stored_in}
 use Rattle.plain_store.specs.State.{element_of, elements_of}
 use Rattle.plain_store.specs.Storing.{StoresTo}
-use Rattle.plain_store.proofs.Lists.{read-at}
+use Rattle.std.proofs.lemmas.Option.{slice_get_read}
 use Rattle.std.proofs.lemmas.List.{map-set}
 use Rattle.plain_store.proofs.Accesses.{stores-to}
 use Rattle.plain_store.proofs.store.Store.store.Goals as goal
@@ -21,7 +21,7 @@ returns-clause-elements c =
     let len : vec_len c.args.self.now.elements ≡ length items = search rules in
     let bound : c.args.n < length items = omega (arith, c.if-n-len.false, c.len.ensures, len) in
     let x = c.index_mut.result.now in
-    let there : slice_get (elements_of items) c.args.n ≡ Some (element_of x) = get-map element_of items c.args.n x (read-at items c.args.n x bound c.index_mut.ensures.value) in
+    let there : slice_get (elements_of items) c.args.n ≡ Some (element_of x) = get-map element_of items c.args.n x (slice_get_read items (length items) c.args.n x refl bound c.index_mut.ensures.value) in
     let g : SFits w16 c.args.offset = c.ranges.offset in
     let h : SFits w64 c.args.o = c.ranges.o in
     let saves = simp to_z-of_z at c.save.ensures in

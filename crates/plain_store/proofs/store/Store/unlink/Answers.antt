@@ -1,7 +1,7 @@
-use Rattle.std.proofs.Common.{rules, ◌≡◌, ◌<◌, ◌≤◌, arith, length, sym, ◌∙◌, vec_len}
+use Rattle.std.proofs.Common.{rules, ◌≡◌, ◌<◌, ◌≤◌, arith, length, sym, ◌∙◌, vec_len, refl}
 use Rattle.bpf_model.specs.Element.{Unlinked, with_life}
 use Rattle.plain_store.specs.State.{element_of, elements_of, sections_of}
-use Rattle.plain_store.proofs.Lists.{read-at}
+use Rattle.std.proofs.lemmas.Option.{slice_get_read}
 use Rattle.std.proofs.lemmas.Option.{slice_get_past}
 use Rattle.std.proofs.lemmas.List.{map-set, length-map}
 use Rattle.plain_store.proofs.Elements.{changed-at, changed-past}
@@ -15,7 +15,7 @@ returns-then-n-len-clause-elements c =
     let opened = sections_of c.args.opened.items in
     let len : vec_len c.args.self.now.elements ≡ length items = search rules in
     let bound : c.args.n < length items = omega (arith, c.if-n-len.true, c.len.ensures, len) in
-    let read = get-map element_of items c.args.n e (read-at items c.args.n e bound c.index_mut.ensures.value) in
+    let read = get-map element_of items c.args.n e (slice_get_read items (length items) c.args.n e refl bound c.index_mut.ensures.value) in
     map-set element_of items c.args.n _ ∙ sym (changed-at (with_life (Unlinked opened)) (elements_of items) c.args.n (element_of e) read)
 
 pub returns-else-n-len-clause-elements : goal.returns-else-n-len-clause-elements

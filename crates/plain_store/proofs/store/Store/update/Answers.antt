@@ -1,9 +1,9 @@
-use Rattle.std.proofs.Common.{◌≡◌, Some, None, map, sym, ◌∙◌, ap, subst}
+use Rattle.std.proofs.Common.{◌≡◌, Some, None, map, sym, ◌∙◌, ap, subst, length, refl}
 use Rattle.std.specs.Prelude.{slice_get, is_some}
 use Rattle.bpf_model.specs.Element.{linked_count}
 use Rattle.bpf_model.specs.Helper.{LooksUp, update_error}
 use Rattle.plain_store.specs.State.{map_of, elements_of, sections_of, store_of}
-use Rattle.plain_store.proofs.Lists.{read-at}
+use Rattle.std.proofs.lemmas.Option.{slice_get_read}
 use Rattle.plain_store.proofs.Births.{no_error-free, free-in, updates-refused, updates-done}
 use Rattle.plain_store.proofs.store.Store.update.Goals as goal
 use Rattle.bpf_model.proofs.Lists.{get-map}
@@ -13,7 +13,7 @@ returns-in-Some-clause-updates c = λ there.
     let link : LooksUp (store_of c.args.self.now) c.args.map c.args.key.items c.lookup-found.result = subst (λ k. LooksUp (store_of c.args.self.now) c.args.map k c.lookup-found.result) c.as_slice.ensures.value c.lookup-found.ensures in
     let items = c.args.self.now.maps.items in
     let m = c.index.result.now in
-    let at : slice_get (map map_of items) c.args.map ≡ Some (map_of m) = get-map map_of items c.args.map m (read-at items c.args.map m there c.index.ensures) in
+    let at : slice_get (map map_of items) c.args.map ≡ Some (map_of m) = get-map map_of items c.args.map m (slice_get_read items (length items) c.args.map m refl there c.index.ensures) in
     let error : update_error c.args.flags (is_some c.lookup-found.result) (linked_count c.args.map (elements_of c.args.self.now.elements.items)) (map_of m) ≡ Some c.in-Some.errno =
     ap (λ p. update_error c.args.flags p (linked_count c.args.map (elements_of c.args.self.now.elements.items)) (map_of m)) (sym c.is_some.ensures)
     ∙ ap (λ n. update_error c.args.flags c.is_some.result n (map_of m)) (sym c.linked_count-linked.ensures) ∙ sym c.update_error.ensures ∙ c.in-Some.is in
@@ -24,7 +24,7 @@ returns-clause-updates c = λ there.
     let link : LooksUp (store_of c.args.self.now) c.args.map c.args.key.items c.lookup-found.result = subst (λ k. LooksUp (store_of c.args.self.now) c.args.map k c.lookup-found.result) c.as_slice.ensures.value c.lookup-found.ensures in
     let items = c.args.self.now.maps.items in
     let m = c.index.result.now in
-    let at : slice_get (map map_of items) c.args.map ≡ Some (map_of m) = get-map map_of items c.args.map m (read-at items c.args.map m there c.index.ensures) in
+    let at : slice_get (map map_of items) c.args.map ≡ Some (map_of m) = get-map map_of items c.args.map m (slice_get_read items (length items) c.args.map m refl there c.index.ensures) in
     let error : update_error c.args.flags (is_some c.lookup-found.result) (linked_count c.args.map (elements_of c.args.self.now.elements.items)) (map_of m) ≡ None =
     ap (λ p. update_error c.args.flags p (linked_count c.args.map (elements_of c.args.self.now.elements.items)) (map_of m)) (sym c.is_some.ensures)
     ∙ ap (λ n. update_error c.args.flags c.is_some.result n (map_of m)) (sym c.linked_count-linked.ensures) ∙ sym c.update_error.ensures ∙ c.in_default.is in

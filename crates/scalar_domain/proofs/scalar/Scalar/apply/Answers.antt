@@ -1,4 +1,4 @@
-use Rattle.std.proofs.Common.{◌≡◌, ℕ, ◌+◌, ◌-◌, ◌*◌, ◌%◌, ◌^◌, sym, ◌∙◌, ap, subst, arith, rules}
+use Rattle.std.proofs.Common.{◌≡◌, ℕ, ◌+◌, ◌-◌, ◌*◌, ◌%◌, ◌^◌, sym, ◌∙◌, ap, ap₂, subst, arith, rules}
 use Rattle.std.proofs.lemmas.Grind.{common_steps}
 use Rattle.std.specs.Prelude.{bit_and}
 use Rattle.std.proofs.Math.Nat.{mod-eq_of_lt}
@@ -6,7 +6,6 @@ use Rattle.bpf_model.specs.Arithmetic.{alu}
 use Rattle.bpf_model.specs.declared.opcode.Size.TheVariants.{Word32}
 use Rattle.scalar_domain.specs.Scalar.{IsConstant}
 use Rattle.scalar_domain.specs.Precision.{Masks}
-use Rattle.scalar_domain.proofs.Bits.{ap2}
 use Rattle.scalar_domain.proofs.Words.{narrow_lt}
 use Rattle.scalar_domain.proofs.Forms.{word_difference}
 use Rattle.scalar_domain.proofs.Constants.{sum_of_constants, difference_of_constants, mask_of_constants, shl_of_constants, move_of_constants}
@@ -23,22 +22,22 @@ returns-in-Some-Some-clause-floor c =
           omega (arith, c.constant.ensures.exact.greatest, e, narrow_lt c.args.op u v);
       wide = λ s. record {
         sum = λ o.
-            let e : c.alu.result ≡ (u + v) % 2 ^ 64 = c.alu.ensures ∙ ap2 (λ z op. alu z op u v) s o in
+            let e : c.alu.result ≡ (u + v) % 2 ^ 64 = c.alu.ensures ∙ ap₂ (λ z op. alu z op u v) s o in
             sum_of_constants c.args.a c.args.b c.constant.result u v c.in-Some-Some.ensures c.in-Some-Some.ensures'
             (subst (IsConstant c.constant.result) e c.constant.ensures.exact) (c.constant.ensures.zeros ∙ e) (c.constant.ensures.ones ∙ e);
         difference = λ o.
-            let e : c.alu.result ≡ (u + (2 ^ 64 - v)) % 2 ^ 64 = c.alu.ensures ∙ ap2 (λ z op. alu z op u v) s o ∙ word_difference u v (omega arith) in
+            let e : c.alu.result ≡ (u + (2 ^ 64 - v)) % 2 ^ 64 = c.alu.ensures ∙ ap₂ (λ z op. alu z op u v) s o ∙ word_difference u v (omega arith) in
             difference_of_constants c.args.a c.args.b c.constant.result u v (omega (arith, c.in-Some-Some.ensures.least)) (omega arith) c.in-Some-Some.ensures c.in-Some-Some.ensures'
             (subst (IsConstant c.constant.result) e c.constant.ensures.exact) (c.constant.ensures.zeros ∙ e) (c.constant.ensures.ones ∙ e);
         mask = λ k o i.
-            let e : c.alu.result ≡ bit_and u v = c.alu.ensures ∙ ap2 (λ z op. alu z op u v) s o in
+            let e : c.alu.result ≡ bit_and u v = c.alu.ensures ∙ ap₂ (λ z op. alu z op u v) s o in
             let f : v ≡ k = sym c.in-Some-Some.ensures'.least ∙ i.least in
             subst (λ n. Masks n c.constant.result) f (mask_of_constants c.constant.result u v
             (subst (IsConstant c.constant.result) e c.constant.ensures.exact) (c.constant.ensures.zeros ∙ e));
         shift_left = λ k o i l.
             let f : v ≡ k = sym c.in-Some-Some.ensures'.least ∙ i.least in
             let g : v % 64 ≡ k = ap (λ n. n % 64) f ∙ mod-eq_of_lt l in
-            let e : c.alu.result ≡ (u * 2 ^ k) % 2 ^ 64 = c.alu.ensures ∙ ap2 (λ z op. alu z op u v) s o ∙ ap (λ (n : ℕ). (u * 2 ^ n) % 2 ^ 64) g in
+            let e : c.alu.result ≡ (u * 2 ^ k) % 2 ^ 64 = c.alu.ensures ∙ ap₂ (λ z op. alu z op u v) s o ∙ ap (λ (n : ℕ). (u * 2 ^ n) % 2 ^ 64) g in
             shl_of_constants c.args.a c.constant.result u k l c.in-Some-Some.ensures
             (subst (IsConstant c.constant.result) e c.constant.ensures.exact) (c.constant.ensures.zeros ∙ e);
         shift_right = λ k o i l. grind (arith, common_steps);

@@ -1,6 +1,6 @@
-use Rattle.std.proofs.Common.{◌≡◌, ◌∙◌, ◌∷◌, [], length, map, refl, sym, ap, subst, arith}
+use Rattle.std.proofs.Common.{◌≡◌, ◌∙◌, ◌∷◌, [], length, refl, sym, ap, subst, arith}
 use Rattle.std.proofs.lemmas.List.{length-append}
-use Rattle.bpf_model.specs.View.{new_map_view, shapes_of_maps}
+use Rattle.bpf_model.specs.View.{AreNewMaps, new_map_view, shapes_of_maps}
 use Rattle.maps.specs.Registry.{creation_fault}
 use Rattle.world.specs.Bound.{AreProgramsBound}
 use Rattle.script_setup.proofs.Creating.{create-refused}
@@ -23,7 +23,7 @@ invariant_of-self-in-Ok c =
     record {
       names_are = cc (c.in_ok-add.ensures.ok, names, c.bytes.ensures, c.in-Some.ensures.some, i.names_are);
       one_name_each = omega (arith, ap length names, ap length maps, length-append old.names (c.in-Some.text.now ∷ []), length-append old.maps (new_map_view shape ∷ []), i.one_name_each);
-      new_maps = subst (λ m. m ≡ map new_map_view (shapes_of_maps m)) (sym maps) (new-more old.maps shape i.new_maps);
+      new_maps = subst AreNewMaps (sym maps) (new-more old.maps shape i.new_maps);
       bound = subst (λ m. AreProgramsBound (shapes_of_maps m) c.self.inside.loaded.items) (sym maps) (bound-still old.maps (new_map_view shape) c.self.inside.loaded.items i.bound);
       few = i.few;
     }

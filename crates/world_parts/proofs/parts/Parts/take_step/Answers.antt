@@ -15,9 +15,9 @@ pub step_slot-requires : goal.step_slot-requires
 step_slot-requires c =
     let here : WorldView → Type 0 = λ (w : WorldView). step_refused (option_flatten (slice_get w.runs c.args.run)) ≡ None in
     is_going c.self.inside.registry.maps c.self.inside.runs.items c.self.inside.grace c.self.inside.programs.items c.self.inside.given c.args.run c.self.invariant
-    c.requires.sound.0
-    (subst (λ (w : WorldView). Matches w c.requires.sound.0) (sym c.self.view_is) c.requires.sound.1)
-    (subst (λ (w : WorldView). IsSound w c.requires.sound.0) (sym c.self.view_is) c.requires.sound.2)
+    c.requires.sound.schedule
+    (subst (λ (w : WorldView). Matches w c.requires.sound.schedule) (sym c.self.view_is) c.requires.sound.matches)
+    (subst (λ (w : WorldView). IsSound w c.requires.sound.schedule) (sym c.self.view_is) c.requires.sound.sound)
     (subst here (sym c.self.view_is) c.requires.going)
 
 pub invariant_of-self : goal.invariant_of-self
