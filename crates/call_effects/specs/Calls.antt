@@ -1,5 +1,6 @@
 -- Calls and tests for null in words of the laws.
-use Rattle.std.specs.Prelude.{ℕ, List, Option, Some, None, Result, Ok, Err, ℤ}
+use Rattle.std.specs.Prelude.{◌≡◌, ℕ, suc, List, [], ◌∷◌, Option, Some, None, Result, Ok, Err, ℤ}
+use Rattle.std.specs.Prelude.{slice_get}
 use Rattle.std.specs.Prelude.{Bool, if◌then◌else◌}
 use Rattle.bpf_model.specs.declared.limits.MapShape.{MapShape}
 use Rattle.bpf_model.specs.declared.insn.CallKind.{CallKind}
@@ -9,12 +10,15 @@ use Rattle.bpf_model.specs.declared.call.Helper.TheVariants.{Lookup, Update, Del
 use Rattle.bpf_model.specs.declared.call.KernelFunction.{KernelFunction}
 use Rattle.bpf_model.specs.declared.call.KernelFunction.TheVariants.{ReadLock, ReadUnlock}
 use Rattle.bpf_model.specs.Call.{helper_of, kernel_function_of}
+use Rattle.bpf_model.specs.Request.{ArgumentKind, MapOfProgram, KeyOfMap, ValueOfMap, AnyNumber}
+use Rattle.bpf_model.specs.Request.{ResultKind, ElementOrNull, ErrorNumber, signature_of}
+use Rattle.scalar_domain.specs.declared.scalar.Scalar.{Scalar}
 use Rattle.kind_tests.specs.declared.fault.Fault.{Fault}
 use Rattle.kind_tests.specs.declared.fault.Fault.TheVariants.{UnknownCall, OutsideSection}
 use Rattle.kind_tests.specs.declared.fault.Fault.TheVariants.{UnpairedSection}
 use Rattle.bpf_model.specs.declared.insn.Insn.TheVariants.{Call}
-use Rattle.typed_runs.specs.Kinds.{MaybeNull, AbsState as Known}
-use Rattle.typed_runs.specs.Effects.{after_call, after_lock, after_unlock}
+use Rattle.typed_runs.specs.Kinds.{Kind, Num, MapAt, MaybeNull, AbsState as Known}
+use Rattle.typed_runs.specs.Effects.{HasBytes, HasNumber, after_call, after_lock, after_unlock}
 use Rattle.typed_runs.specs.Planned.{AreAlike}
 use Rattle.register_kinds.specs.declared.learn.Lesson.TheVariants.{IsNull, IsThere}
 use Rattle.register_kinds.specs.Changes.{learnt}
@@ -52,6 +56,33 @@ outcome_of (Some e) = Err e
 pub record FindsIn (map : ℕ) (a b : AbsState) : Type 0 where
   pub id : ℕ
   pub alike : AreAlike (after_call (MaybeNull map id) (state_of a)) (state_of b)
+
+-- What is known of an argument in a register, of a helper that is called with a map of this shape: a
+-- map of the list, so many bytes of the frame, or a number.
+abbrev pub IsArgument : List MapShape → Known → MapShape → ArgumentKind → ℕ → Type 0
+IsArgument shapes a shape MapOfProgram r =
+    (map : ℕ) × (a.regs r ≡ MapAt map) × (slice_get shapes map ≡ Some shape)
+IsArgument shapes a shape KeyOfMap r = HasBytes a r shape.key_len
+IsArgument shapes a shape ValueOfMap r = HasBytes a r shape.value_len
+IsArgument shapes a shape AnyNumber r = HasNumber a r
+
+-- the arguments of a signature, the first of them in register r
+abbrev pub AreArguments : List MapShape → Known → MapShape → List ArgumentKind → ℕ → Type 0
+AreArguments shapes a shape [] r = Unit {0}
+AreArguments shapes a shape (kind ∷ kinds) r =
+    IsArgument shapes a shape kind r × AreArguments shapes a shape kinds (suc r)
+
+-- what is known of a result
+abbrev pub IsResult : ResultKind → Kind → Type 0
+IsResult ElementOrNull k = (map : ℕ) × (id : ℕ) × (k ≡ MaybeNull map id)
+IsResult ErrorNumber k = (s : Scalar) × (k ≡ Num s)
+
+-- Before the call the arguments are known to be those of the helper's signature; after it r0 has a
+-- result of its kind.
+pub record GoesBySignature (helper : Helper) (shapes : List MapShape) (a b : Known) : Type 0 where
+  pub shape : MapShape
+  pub arguments : AreArguments shapes a shape (signature_of helper).arguments 1
+  pub result : IsResult (signature_of helper).result (b.regs 0)
 
 -- what a kernel function makes of what is known
 abbrev pub Called : Option KernelFunction → Known → Known → Type 0

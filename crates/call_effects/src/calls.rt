@@ -7,7 +7,8 @@ ghost use Rattle.register_kinds.specs.States.{kind_in, state_of};
 ghost use Rattle.register_kinds.specs.Pairs.{AreBelow, TakesFew};
 ghost use Rattle.typed_runs.specs.Effects.{HasBytes, after_lock, after_unlock};
 ghost use Rattle.typed_runs.specs.Planned.{AreAlike};
-ghost use Rattle.call_effects.specs.Calls.{PerformsCall, FindsIn, helper_fault, kernel_fault, section_fault, outcome_of, Called};
+ghost use Rattle.bpf_model.specs.declared.call.Helper.{Helper as HelperId};
+ghost use Rattle.call_effects.specs.Calls.{PerformsCall, FindsIn, GoesBySignature, helper_fault, kernel_fault, section_fault, outcome_of, Called};
 
 use crate::arguments::{called_map, check_bytes_argument};
 use bpf_model::{CallKind, Helper, KernelFunction, MapShape, Reg};
@@ -78,6 +79,8 @@ fn lookup(state: &mut AbsState, shapes: &[MapShape], ids: &mut Identities) -> Re
         → IsOk result }
     ensures finds { OnOk result ((map : ℕ) → kind_in state.old.regs 1 ≡ RegKind.Map map
         → FindsIn map state.old state.new) }
+    ensures signature { OnOk result (GoesBySignature Helper.Lookup shapes.now
+        (state_of state.old) (state_of state.new)) }
     ensures below { AreBelow ids.new.next state.new }
     ensures few { TakesFew 1 ids.old.next ids.new.next }
     ensures unchanged { OnErr result (state.new ≡ state.old) }
@@ -100,6 +103,8 @@ fn update(state: &mut AbsState, shapes: &[MapShape]) -> Result<(), Fault>
         → HasBytes (state_of state.old) 2 shape.key_len
         → HasBytes (state_of state.old) 3 shape.value_len
         → kind_in state.old.regs 4 ≡ RegKind.Num q → IsOk result }
+    ensures signature { OnOk result (GoesBySignature Helper.Update shapes.now
+        (state_of state.old) (state_of state.new)) }
     ensures below { (top : ℕ) → AreBelow top state.old → AreBelow top state.new }
     ensures unchanged { OnErr result (state.new ≡ state.old) }
 {
@@ -118,6 +123,8 @@ fn delete(state: &mut AbsState, shapes: &[MapShape]) -> Result<(), Fault>
     ensures accepts { (map : ℕ) (shape : MapShape) → kind_in state.old.regs 1 ≡ RegKind.Map map
         → slice_get shapes.now map ≡ Some shape → HasBytes (state_of state.old) 2 shape.key_len
         → IsOk result }
+    ensures signature { OnOk result (GoesBySignature Helper.Delete shapes.now
+        (state_of state.old) (state_of state.new)) }
     ensures below { (top : ℕ) → AreBelow top state.old → AreBelow top state.new }
     ensures unchanged { OnErr result (state.new ≡ state.old) }
 {
@@ -161,6 +168,8 @@ fn call_helper(
         → IsOk result }
     ensures finds { OnOk result ((map : ℕ) → helper_of imm ≡ Some Helper.Lookup
         → kind_in state.old.regs 1 ≡ RegKind.Map map → FindsIn map state.old state.new) }
+    ensures signature { OnOk result ((helper : HelperId) → helper_of imm ≡ Some helper
+        → GoesBySignature helper shapes.now (state_of state.old) (state_of state.new)) }
     ensures below { AreBelow ids.new.next state.new }
     ensures few { TakesFew 1 ids.old.next ids.new.next }
     ensures unchanged { OnErr result (state.new ≡ state.old) }
@@ -198,6 +207,11 @@ pub fn call(
         → state.old.inside ≡ true → kind_in state.old.regs 1 ≡ RegKind.Map map
         → slice_get shapes.now map ≡ Some shape → HasBytes (state_of state.old) 2 shape.key_len
         → IsOk result }
+
+    // A helper is called by its signature.
+    ensures signature { OnOk result ((helper : HelperId) → kind ≡ CallKind.Helper
+        → helper_of imm ≡ Some helper
+        → GoesBySignature helper shapes.now (state_of state.old) (state_of state.new)) }
 
     // A lookup leaves in r0 what may be null or an element of the map; a lock opens a section, an
     // unlock ends it, with all that is known of elements.

@@ -87,6 +87,7 @@ reaped-counted shape p r i l given c h first s g e =
     let k : IsMap shape (record { index = p.index; lists = reaped_lists p.lists; arena = arena.given_back (record p.arena { links = l }) i }) c.linked = record {
       valid = h.kept.valid;
       arena = record { slots = h.kept.arena.slots; key_len = h.kept.arena.key_len; value_len = h.kept.arena.value_len; limit = h.kept.arena.limit; keys = h.kept.arena.keys; values = h.kept.arena.values };
+      keys = h.kept.keys;
       count = h.kept.count;
     } in
     reaped-by shape p r i given c h (subst (λ (z : PartsView). IsMap shape z c.linked) (sym s) k) first (e ∙ ap (λ z. slot_given_back z i (map_view shape p)) (sym g))

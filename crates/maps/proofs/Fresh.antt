@@ -69,5 +69,6 @@ fresh-map shape h = record {
     keys = λ i. omega (arith, unused-key (shape.entries + shape.spare) i);
     values = λ i. omega (arith, unused-value (shape.entries + shape.spare) i);
   };
+  keys = λ key i e. absurd (none-some i (sym (no-key key) ∙ e));
   count = sym (len-empty (slice_cmp nat_cmp) ℕ);
 }

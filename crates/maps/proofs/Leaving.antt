@@ -16,6 +16,7 @@ use Rattle.view_laws.proofs.Lists.{len-remove_found}
 use Rattle.deferred_free.specs.Queued.{retired_lists, reaped_lists}
 use Rattle.maps.specs.Parted.{PartsView}
 use Rattle.maps.specs.Shown.{map_view, IsMap, IsOfShape}
+use Rattle.maps.proofs.Lengths.{long-removed}
 
 pub retired-kept : (shape : MapShape) (p r : PartsView) (i n : ℕ) → IsMap shape p n → get p.index (key_at p.arena.slots i) ≡ Some i →
     r ≡ record { index = remove p.index (key_at p.arena.slots i); lists = retired_lists p.lists i; arena = record p.arena { links = r.arena.links } } → IsMap shape r (n - 1)
@@ -23,6 +24,7 @@ retired-kept shape p r i n h g e =
     let k : IsMap shape (record { index = remove p.index (key_at p.arena.slots i); lists = retired_lists p.lists i; arena = record p.arena { links = r.arena.links } }) (n - 1) = record {
       valid = h.valid;
       arena = record { slots = h.arena.slots; key_len = h.arena.key_len; value_len = h.arena.value_len; limit = h.arena.limit; keys = h.arena.keys; values = h.arena.values };
+      keys = long-removed p.index (key_at p.arena.slots i) shape.key_len h.keys;
       count = ap (λ m. m - 1) h.count ∙ sym (len-remove_found p.index (key_at p.arena.slots i) i g);
     } in
     subst (λ (z : PartsView). IsMap shape z (n - 1)) (sym e) k

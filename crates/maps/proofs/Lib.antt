@@ -3,6 +3,7 @@ pub mod Parting
 pub mod Moves
 pub mod Fresh
 pub mod Replacing
+pub mod Lengths
 pub mod Updating
 pub mod Leaving
 pub mod Names

@@ -16,7 +16,8 @@ use Rattle.view_laws.specs.Views.{updated, updated_by, shown_error, filled, fill
 use Rattle.view_laws.proofs.Lists.{remove-same, len-remove_found, len-insert_new}
 use Rattle.maps.specs.Parted.{PartsView, without_key}
 use Rattle.bpf_model.specs.Codes.{KeyMap}
-use Rattle.maps.specs.Shown.{map_view, IsMap, IsOfShape, or_no_memory, linked_with, put_in}
+use Rattle.maps.specs.Shown.{map_view, IsMap, IsOfShape, AreKeysLong, or_no_memory, linked_with, put_in}
+use Rattle.maps.proofs.Lengths.{long-inserted, long-removed}
 use Rattle.std.proofs.lemmas.List.{length-set}
 
 -- an update that a test refuses
@@ -109,11 +110,16 @@ module _ (p p1 p2 : PartsView) (i : ℕ) (key value : List ℕ) (found : Option 
         values = set-values p.arena.slots i (record { key = key; value = value; uses = uses_at p.arena.slots i + 1 }) shape.value_len (omega arith) a.values;
       }
 
+  long-put : (shape : MapShape) → AreKeysLong p.index shape.key_len → length key ≡ shape.key_len → (found : Option ℕ) → AreKeysLong (insert (without_key p key found).index key i) shape.key_len
+  long-put shape h hk None = long-inserted p.index key i shape.key_len hk h
+  long-put shape h hk (Some j) = long-inserted (remove p.index key) key i shape.key_len hk (long-removed p.index key shape.key_len h)
+
   pub put-kept : (shape : MapShape) (n : ℕ) → IsMap shape p n → get p.index key ≡ found → length key ≡ shape.key_len → length value ≡ shape.value_len → IsMap shape p2 (linked_with found n)
   put-kept shape n h g hk hv =
       let k : IsMap shape (replaced (with_taken p i p1.arena.free key value) key found i p2.arena.links) (linked_with found n) = record {
         valid = h.valid;
         arena = put-arena shape h.arena hk hv;
+        keys = long-put shape h.keys hk found;
         count = put-len n found h.count g;
       } in
       subst (λ (z : PartsView). IsMap shape z (linked_with found n)) (sym replaced-is) k

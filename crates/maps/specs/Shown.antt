@@ -8,6 +8,7 @@ use Rattle.bpf_model.specs.declared.event.Given.{Given}
 use Rattle.bpf_model.specs.declared.limits.MapShape.{MapShape}
 use Rattle.bpf_model.specs.MapState.{MapState, IsShape, slots_of_shape}
 use Rattle.bpf_model.specs.View.{MapView}
+use Rattle.bpf_model.specs.Codes.{KeyMap}
 use Rattle.bpf_model.specs.Refines.{lists_of}
 use Rattle.element_arena.specs.State.{ArenaState, indexed, key_at, value_at}
 use Rattle.deferred_free.specs.Queued.{queued}
@@ -37,10 +38,16 @@ pub record IsOfShape (shape : MapShape) (a : ArenaState) : Type 0 where
   pub keys : (i : ℕ) → length (key_at a.slots i) ≤ shape.key_len
   pub values : (i : ℕ) → length (value_at a.slots i) ≤ shape.value_len
 
--- A map may have the shape, the arena is of it, and so many slots are linked.
+-- each key of the index has this length
+abbrev pub AreKeysLong : KeyMap → ℕ → Type 0
+AreKeysLong index n = (key : List ℕ) (i : ℕ) → get index key ≡ Some i → length key ≡ n
+
+-- A map may have the shape, the arena is of it, its keys have the shape's length, and so many slots
+-- are linked.
 pub record IsMap (shape : MapShape) (p : PartsView) (linked : ℕ) : Type 0 where
   pub valid : IsShape shape
   pub arena : IsOfShape shape p.arena
+  pub keys : AreKeysLong p.index shape.key_len
   pub count : linked ≡ len p.index
 
 -- slot i is linked or in one of the three lists

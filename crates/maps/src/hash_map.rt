@@ -82,12 +82,13 @@ impl<I: Index, D: Deferred> HashMap<I, D> {
     /// The map slot of a key. A key of another length than the map's has none.
     pub fn lookup(&self, key: &[u8]) -> Option<usize>
         ensures slot { result ≡ map.get self.now.index key.now }
+        ensures long { IfSome result (λ i. length key.now ≡ self.now.shape.key_len) }
         ensures inside { IfSome result (λ i. i < MAX_ENTRIES + MAX_SPARE) }
     {
         self.parts.find(key)
     }
 
-    /// The bytes of the value of a key, where they stand. A key of another length than the map's has none.
+    /// The bytes of the value of a key, where they stand; `None` where the key has none (`lookup`).
     pub fn bytes_of(&self, key: &[u8]) -> Option<&[u8]>
         ensures bytes { option_map (λ b. record { items = b }) (option_copied result)
             ≡ value_read self.now key.now }
@@ -159,7 +160,7 @@ impl<I: Index, D: Deferred> HashMap<I, D> {
     }
 
     /// Unlinks the element of a key. `NoEntry`, and then nothing has changed, where the key has
-    /// none; a key of another length than the map's has none. It takes no memory.
+    /// none (`lookup`). It takes no memory.
     pub fn delete(&mut self, key: &[u8]) -> Result<(), Errno>
         ensures result { result ≡ (deleted self.old key.now).0 }
         ensures new { self.new ≡ (deleted self.old key.now).1 }

@@ -1,5 +1,6 @@
 -- What the lock guards, as contracts see it.
 use Rattle.std.specs.Prelude.{◌≡◌, ℕ, ◌+◌, ◌-◌, ◌^◌, ◌<◌, ◌≤◌, ◌⊎◌, List, [], ◌∷◌, ◌++◌, length}
+use Rattle.std.specs.Prelude.{Some, slice_get}
 use Rattle.bpf_model.specs.declared.event.Event.{Event}
 use Rattle.bpf_model.specs.declared.event.Answer.{Answer}
 use Rattle.bpf_model.specs.View.{WorldView}
@@ -41,6 +42,11 @@ pub record WorkerView : Type 0 where
   pub number : ℕ
   pub made : ℕ
   pub parts : ℕ
+
+-- each worker's number is its index
+abbrev pub AreNumbered : List WorkerView → Type 0
+AreNumbered workers =
+    (k : ℕ) (w : WorkerView) → slice_get workers k ≡ Some w → w.number ≡ k
 
 -- the view of books with these parts; of the journal only the entries and the limit are seen
 abbrev pub books_view : WorldView → WorldView → JournalView → ℕ → ℕ → Tally → BooksView

@@ -4,6 +4,7 @@ ghost use Rattle.bpf_model.specs.declared.limits.TheConstants.{MAX_MAPS};
 ghost use Rattle.bpf_model.specs.View.{AreNewMaps, shapes_of_maps};
 ghost use Rattle.journal_laws.specs.Replay.{HasNoRuns};
 ghost use Rattle.shared.specs.declared.worker.TheConstants.{MAX_WORKERS};
+ghost use Rattle.shared.specs.Books.{AreNumbered};
 ghost use Rattle.world_invariant.specs.Binding.{IsBoundTo};
 
 use crate::lock::Shared;
@@ -65,6 +66,7 @@ impl<L: Ledger> Shared<L> {
         requires name { blank.name ≡ L.name }
         requires parts { (blank.parts ≡ L.parts) × (blank.parts ≡ workers) }
         ensures count { IfOk result (λ t. vec_len t.1.list ≡ workers) }
+        ensures numbers { IfOk result (λ t. AreNumbered t.1.list.items) }
         ensures codes { IfOk result (λ t. map (λ p. p.program) t.0 ≡ verified.program ∷ []) }
     {
         let world = world_of(alloc, registry, verified)?;

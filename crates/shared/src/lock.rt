@@ -1,6 +1,7 @@
 //! A world behind a lock: how its sharing begins and ends, and what workers ask of it.
 ghost use Rattle.std.specs.Prelude.{◌≡◌, ℕ, ◌+◌, ◌<◌, ◌≤◌, length, map, vec_len, sum_by, All, IfOk, IfSome, OnErr, OnOk, option_copied, slice_get};
 ghost use Rattle.shared.specs.declared.worker.TheConstants.{MAX_WORKERS};
+ghost use Rattle.shared.specs.Books.{AreNumbered};
 ghost use Rattle.shared.specs.Receipts.{HasExitedOnce, IsMachineAnswer, IsOwnExit, IsPossibleExit};
 ghost use Rattle.shared.specs.Tally.{origin_of, shown_totals};
 ghost use Rattle.journal_laws.specs.Replay.{Replays, HasNoRuns};
@@ -71,6 +72,7 @@ impl<L: Ledger> Shared<L> {
         requires parts { (blank.parts ≡ L.parts) × (blank.parts ≡ workers) }
         ensures count { IfOk result (λ t. vec_len t.1.list ≡ workers) }
         ensures made { IfOk result (λ t. All (λ w. w.made ≡ 0) t.1.list.items) }
+        ensures numbers { IfOk result (λ t. AreNumbered t.1.list.items) }
         ensures counters { IfOk result (λ t. t.2 ≡ shown_totals (origin_of world) 0 0 0) }
         ensures codes { IfOk result (λ t.
             map (λ p. p.program) t.0 ≡ map (λ l. l.code) world.programs) }

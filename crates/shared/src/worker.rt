@@ -1,6 +1,6 @@
 //! Those who make entries.
 ghost use Rattle.std.specs.Prelude.{◌≡◌, ◌<◌, vec_len, sum_by, All, IfOk};
-ghost use Rattle.shared.specs.Books.{WorkerView};
+ghost use Rattle.shared.specs.Books.{WorkerView, AreNumbered};
 
 use std::alloc::{AllocError, Global};
 use std::marker::Model;
@@ -81,6 +81,7 @@ pub(crate) fn new_workers<L: Ledger>(
     requires { (all.parts ≡ workers) × (all.amount ≡ 0) }
     ensures count { IfOk result (λ v. vec_len v.list ≡ workers) }
     ensures made { IfOk result (λ v. All (λ w. w.made ≡ 0) v.list.items) }
+    ensures numbers { IfOk result (λ v. AreNumbered v.list.items) }
 {
     let mut list = Vec::new(alloc);
     for number in 0..workers {

@@ -46,6 +46,7 @@ use Rattle.view_laws.specs.Matching.{Matches}
 use Rattle.view_laws.proofs.Worlds.{here}
 use Rattle.world_laws.specs.Locating.{location_of}
 use Rattle.world_laws.specs.Moving.{word_in}
+use Rattle.bpf_model.specs.Request.{signature_of}
 use Rattle.world_laws.specs.Reaching.{IsInside, HasElement, Reaches, IsWritable, IsInFrame, AreInFrame, IsCall, IsAllowed, HasInsn}
 use Rattle.world_laws.specs.Typed.{IsSound, IsRunning}
 use Rattle.world_laws.proofs.Places.{context-location, frame-location}
@@ -212,7 +213,7 @@ module _ (w : WorldView) (s : Schedule) (m : Matches w s) (sound : IsSound w s) 
   key-inside : (map : ℕ) (key : List ℕ) (c : CalledWith w s m sound r run v k map key) → IsInFrame (word_in v 2) c.view.shape.key_len
   key-inside map key c = in-frame (run.state.regs 2) (word_in v 2) c.view.shape.key_len key (register-word w s m sound r run v k 2 (omega arith)) c.key_read
 
-  is-call : (helper : Helper) (map : ℕ) (key : List ℕ) (c : CalledWith w s m sound r run v k map key) → AreInFrame helper c.view v → IsCall helper run.program.maps w.maps v
+  is-call : (helper : Helper) (map : ℕ) (key : List ℕ) (c : CalledWith w s m sound r run v k map key) → AreInFrame (signature_of helper).arguments c.view v 1 → IsCall helper run.program.maps w.maps v
   is-call helper map key c arguments =
       record { map = map; view = c.view; named = c.bound; there = c.there; arguments = arguments; frame = (refines w s m sound r run v k).cells }
 
@@ -226,9 +227,9 @@ module _ (w : WorldView) (s : Schedule) (m : Matches w s) (sound : IsSound w s) 
   Served imm = (helper : Helper) × (helper_of imm ≡ Some helper) × IsCall helper run.program.maps w.maps v
 
   served : (imm : ℤ) (o : Option Helper) (ret : Value) (new : map_state.Store) → helper_of imm ≡ o → HelperStep o s.machine.store (open_sections s.machine.runs) run ret new → Served imm
-  served imm (Some Lookup) ret new e h = let c = called w s m sound r run v k h.0.map h.0.key h.0.map_is h.0.key_is in (Lookup, e, is-call Lookup h.0.map h.0.key c (key-inside h.0.map h.0.key c))
-  served imm (Some Delete) ret new e h = let c = called w s m sound r run v k h.map h.key h.map_is h.key_is in (Delete, e, is-call Delete h.map h.key c (key-inside h.map h.key c))
-  served imm (Some Update) ret new e h = let c = called w s m sound r run v k h.map h.key h.map_is h.key_is in (Update, e, is-call Update h.map h.key c (key-inside h.map h.key c, value-inside h.map h.value c.view.shape c.shape h.value_is))
+  served imm (Some Lookup) ret new e h = let c = called w s m sound r run v k h.0.map h.0.key h.0.map_is h.0.key_is in (Lookup, e, is-call Lookup h.0.map h.0.key c (tt, (key-inside h.0.map h.0.key c, tt)))
+  served imm (Some Delete) ret new e h = let c = called w s m sound r run v k h.map h.key h.map_is h.key_is in (Delete, e, is-call Delete h.map h.key c (tt, (key-inside h.map h.key c, tt)))
+  served imm (Some Update) ret new e h = let c = called w s m sound r run v k h.map h.key h.map_is h.key_is in (Update, e, is-call Update h.map h.key c (tt, (key-inside h.map h.key c, (value-inside h.map h.value c.view.shape c.shape h.value_is, (tt, tt)))))
   served imm None ret new e h = absurd h
 
   pub helper_arguments : (imm : ℤ) → Known w s m sound r run v k (Call kinds.Helper imm) → Served imm

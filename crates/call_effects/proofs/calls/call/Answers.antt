@@ -21,3 +21,7 @@ returns-in-Helper-clause-sound c = on_ok_weaker c.call_helper.result
 pub returns-in-Helper-clause-accepts_lookup : goal.returns-in-Helper-clause-accepts_lookup
 returns-in-Helper-clause-accepts_lookup c = λ map shape kind is into key at bytes. c.call_helper.ensures.accepts_lookup map shape
     (subst (λ (z : ℤ). helper_of z ≡ Some Lookup) (sym (to_z-of_z w32 c.args.imm c.ranges.imm)) is) into key at bytes
+
+pub returns-in-Helper-clause-signature : goal.returns-in-Helper-clause-signature
+returns-in-Helper-clause-signature c = on_ok_weaker c.call_helper.result
+    (λ signature helper kind is. signature helper (subst (λ (z : ℤ). helper_of z ≡ Some helper) (sym (to_z-of_z w32 c.args.imm c.ranges.imm)) is)) c.call_helper.ensures.signature

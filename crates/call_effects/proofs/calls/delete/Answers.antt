@@ -3,3 +3,10 @@ use Rattle.call_effects.proofs.calls.delete.Goals as goal
 
 pub returns-clause-sound : goal.returns-clause-sound
 returns-clause-sound c = delete_sound c.args.state.now c.leave_call.new.self c.args.shapes.now c.in_ok-shape.field-0-0 c.in_ok-shape.shape c.unknown.result c.unknown.ensures.sound c.in_ok-shape.ensures.map c.in_ok-check_bytes_argument.ensures.bytes c.leave_call.ensures.alike
+
+pub returns-clause-signature : goal.returns-clause-signature
+returns-clause-signature c = record {
+  shape = c.in_ok-shape.shape;
+  arguments = ((c.in_ok-shape.field-0-0, (c.in_ok-shape.ensures.map.map_is, c.in_ok-shape.ensures.map.shape_is)), (c.in_ok-check_bytes_argument.ensures.bytes, tt));
+  result = (c.unknown.result, c.leave_call.ensures.alike.regs 0);
+}

@@ -19,3 +19,10 @@ found-inside shape p n key (Some i) m h e =
 
 pub returns-clause-inside : goal.returns-clause-inside
 returns-clause-inside g c = found-inside c.self.inside.shape c.self.inside.parts c.self.inside.counts.linked c.args.key.now c.find.result c.self.invariant.kept c.find.ensures.parted c.find.ensures.found
+
+found-long : (shape : MapShape) (p : PartsView) (n : ℕ) (key : List ℕ) (o : Option ℕ) → IsMap shape p n → o ≡ get p.index key → IfSome o (λ i. length key ≡ shape.key_len)
+found-long shape p n key None m e = tt
+found-long shape p n key (Some i) m e = m.keys key i (sym e)
+
+pub returns-clause-long : goal.returns-clause-long
+returns-clause-long g c = found-long c.self.inside.shape c.self.inside.parts c.self.inside.counts.linked c.args.key.now c.find.result c.self.invariant.kept c.find.ensures.found
