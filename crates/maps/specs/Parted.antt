@@ -1,12 +1,13 @@
 -- The parts of a map, and where its slots stand.
 use Rattle.std.specs.Prelude.{◌≡◌, ℕ, ◌+◌, ◌<◌, ◌≤◌, List, Option, Some, None, length, refl}
 use Rattle.std.specs.Coded.{Coded, code_by, coded×}
-use Rattle.std.specs.FinMap.{get, remove}
+use Rattle.std.specs.FinMap.{remove}
 use Rattle.bpf_model.specs.Codes.{KeyMap, key_map_code, queues_code}
 use Rattle.bpf_model.specs.Schedule.{Queues}
 use Rattle.element_arena.specs.Codes.{arena_code}
 use Rattle.element_arena.specs.State.{ArenaState, IsTaken, times_in, indexed, key_at, worn_at}
 use Rattle.deferred_free.specs.Queued.{queued, retired_lists}
+use Rattle.hash_index.specs.Replies.{IsKeyed}
 
 -- what the index has, the three lists, and the arena over which both are read
 pub record PartsView : Type 0 where
@@ -30,7 +31,7 @@ standings p i = times_in i p.arena.free + indexed p.index p.arena.slots i
 pub record IsParted (p : PartsView) : Type 0 where
   pub once : (i : ℕ) → standings p i ≤ 1
   pub inside : (i : ℕ) → 0 < standings p i → i < length p.arena.slots
-  pub keyed : (key : List ℕ) (i : ℕ) → get p.index key ≡ Some i → key_at p.arena.slots i ≡ key
+  pub keyed : IsKeyed (key_at p.arena.slots) p.index
   pub flags : length p.arena.worn ≡ length p.arena.slots
 
 -- A slot in hand, between two calls: it is taken, and stands nowhere.
