@@ -33,9 +33,9 @@ use Rattle.register_kinds.specs.Changes.{learnt}
 use Rattle.kind_tests.specs.Forks.{ForksOnNull}
 use Rattle.call_effects.specs.Calls.{PerformsCall}
 
--- a jump to a slot further on where the register is equal to 0, or where it is not
-abbrev null_jump : Bool → ℕ → ℕ → Insn
-null_jump equal dst n = JumpIf (if equal then Equal else NotEqual) Word64 dst (Immediate (pos 0)) (pos n)
+-- a jump where the register is equal to 0, or where it is not
+abbrev null_jump : Bool → ℕ → ℤ → Insn
+null_jump equal dst offset = JumpIf (if equal then Equal else NotEqual) Word64 dst (Immediate (pos 0)) offset
 
 to-both : (i : Insn) (shapes : List MapShape) (ctx_len : ℕ) (a b c x y : AbsState) → AreAlike b c → AreAlike x y → Transfers i shapes ctx_len a b (Some x) → Transfers i shapes ctx_len a c (Some y)
 to-both i shapes ctx_len a b c x y e f t = transfers_wider i shapes ctx_len a a b c (Some x) (Some y) (λ c m d. d) (alike_wider b c e) (alike_wider x y f) t
@@ -88,11 +88,11 @@ delete_sound a b shapes map shape t all m key e imm f ctx_len =
 
 -- tests for null
 pub fork_equal : (a b taken : StateHere) (id dst map : ℕ) → AreAlike (learnt (IsThere id) (state_of a)) (state_of b) → AreAlike (learnt (IsNull id) (state_of a)) (state_of taken) → kind_in a.regs dst ≡ kinds.MaybeNull map id → ForksOnNull true dst a b taken
-fork_equal a b taken id dst map e f g shapes ctx_len n =
-    to-both (null_jump true dst n) shapes ctx_len (state_of a) (when_there id origin (state_of a)) (state_of b) (when_null id number_zero (state_of a)) (state_of taken) e f
-    (equal_transfers shapes ctx_len dst n map id (state_of a) number_zero origin zero_holds origin_has (ap kind_of g))
+fork_equal a b taken id dst map e f g shapes ctx_len offset =
+    to-both (null_jump true dst offset) shapes ctx_len (state_of a) (when_there id origin (state_of a)) (state_of b) (when_null id number_zero (state_of a)) (state_of taken) e f
+    (equal_transfers shapes ctx_len dst offset map id (state_of a) number_zero origin zero_holds origin_has (ap kind_of g))
 
 pub fork_not_equal : (a b taken : StateHere) (id dst map : ℕ) → AreAlike (learnt (IsNull id) (state_of a)) (state_of b) → AreAlike (learnt (IsThere id) (state_of a)) (state_of taken) → kind_in a.regs dst ≡ kinds.MaybeNull map id → ForksOnNull false dst a b taken
-fork_not_equal a b taken id dst map e f g shapes ctx_len n =
-    to-both (null_jump false dst n) shapes ctx_len (state_of a) (when_null id number_zero (state_of a)) (state_of b) (when_there id origin (state_of a)) (state_of taken) e f
-    (not_equal_transfers shapes ctx_len dst n map id (state_of a) number_zero origin zero_holds origin_has (ap kind_of g))
+fork_not_equal a b taken id dst map e f g shapes ctx_len offset =
+    to-both (null_jump false dst offset) shapes ctx_len (state_of a) (when_null id number_zero (state_of a)) (state_of b) (when_there id origin (state_of a)) (state_of taken) e f
+    (not_equal_transfers shapes ctx_len dst offset map id (state_of a) number_zero origin zero_holds origin_has (ap kind_of g))

@@ -127,7 +127,7 @@ pub sets_transfers : (i : Insn) (shapes : List MapShape) (ctx_len dst : ℕ) (a 
     → Transfers i shapes ctx_len (state_of a) (state_of b) None
 sets_transfers i shapes ctx_len dst a b k s ne alike =
     to_alike i shapes ctx_len (state_of a) (with_kind dst k (state_of a)) (state_of b) alike
-    (alone_transfers i shapes ctx_len (state_of a) (with_kind dst k (state_of a)) None s.no_call (λ c env m e d.
+    (alone_transfers i shapes ctx_len (state_of a) (with_kind dst k (state_of a)) None s.no_call (λ c env m e target d.
     let x = s.value c env m e d in record {
       out = Goes (record { regs = put dst x.0 m.regs; frame = m.frame; place = m.place + slot_count i });
       after_is = x.1 ∙ set-is (slot_count i) dst x.0 m ne;

@@ -14,13 +14,13 @@ use Rattle.bpf_model.specs.declared.value.Value.TheVariants.{Number}
 use Rattle.bpf_model.specs.Arithmetic.{compares, immediate}
 use Rattle.bpf_model.specs.Value.{◌>>=◌, number}
 use Rattle.bpf_model.specs.Operand.{operand_value, decided}
-use Rattle.bpf_model.specs.Step.{State, Environment, Moves, Exits, forward, jumps_by}
+use Rattle.bpf_model.specs.Step.{State, Environment, Moves, Exits, forward, jumps_to, jumps_by}
 use Rattle.scalar_domain.specs.declared.scalar.Scalar.{Scalar}
 use Rattle.scalar_domain.specs.Scalar.{Holds}
 use Rattle.typed_runs.specs.Kinds.{Num, ValueAt, AbsState}
 use Rattle.typed_runs.specs.Describes.{Scene, Describes, depth_of}
 use Rattle.typed_runs.specs.Effects.{with_kind}
-use Rattle.typed_runs.specs.Verified.{ActsAlone, Transfers}
+use Rattle.typed_runs.specs.Verified.{HasTarget, ActsAlone, Transfers}
 use Rattle.typed_runs.specs.Planned.{AreAlike}
 use Rattle.typed_runs.proofs.Sets.{placed-described}
 use Rattle.typed_runs.proofs.Arguments.{reg-is}
@@ -62,22 +62,23 @@ narrowed_both dst r src x y a b t is e f = subst (λ (o : Operand). AreNarrowed 
 })
 
 -- a conditional jump goes along one of its two edges
-module _ (condition : Condition) (size : Size) (dst : ℕ) (src : Operand) (n : ℕ) (b t : AbsState) (c : Scene) (env : Environment) (m : State) where
-  branch : (p q : ℕ) (taken : Bool) → compares size condition p q ≡ taken → m.regs dst ≡ Number p → operand_value src m.regs ≡ Number q → (taken ≡ true → Describes t c m) → (taken ≡ false → Describes b c m)
-      → ActsAlone (JumpIf condition size dst src (pos n)) b (Some t) c env m
-  branch p q true is e f yea nay = record {
-    out = Moves (record { regs = m.regs; frame = m.frame; place = m.place + 1 + n });
-    after_is = ap (λ v. decided condition size src v (operand_value src m.regs) >>= λ taken. if taken then jumps_by (pos n) m else Some (Moves (forward 1 m))) e
-        ∙ (ap (λ v. (number v >>= λ k. Some (compares size condition p k)) >>= λ taken. if taken then jumps_by (pos n) m else Some (Moves (forward 1 m))) f
-        ∙ ap (λ (taken : Bool). if taken then jumps_by (pos n) m else Some (Moves (forward 1 m))) is);
+module _ (condition : Condition) (size : Size) (dst : ℕ) (src : Operand) (offset : ℤ) (b t : AbsState) (c : Scene) (env : Environment) (m : State) where
+  branch : (p q : ℕ) (taken : Bool) → compares size condition p q ≡ taken → m.regs dst ≡ Number p → operand_value src m.regs ≡ Number q → (taken ≡ true → Describes t c m) → (taken ≡ false → Describes b c m) → HasTarget (JumpIf condition size dst src offset) m.place
+      → ActsAlone (JumpIf condition size dst src offset) b (Some t) c env m
+  branch p q true is e f yea nay target = let x = target offset refl in record {
+    out = Moves (record { regs = m.regs; frame = m.frame; place = x.0 });
+    after_is = ap (λ v. decided condition size src v (operand_value src m.regs) >>= λ taken. if taken then jumps_by offset m else Some (Moves (forward 1 m))) e
+        ∙ (ap (λ v. (number v >>= λ k. Some (compares size condition p k)) >>= λ taken. if taken then jumps_by offset m else Some (Moves (forward 1 m))) f
+        ∙ ap (λ (taken : Bool). if taken then jumps_by offset m else Some (Moves (forward 1 m))) is
+        ∙ ap (λ z. jumps_to z m) (sym x.1));
     alone = λ es fs other h. h;
-    lands = inr ((pos n, refl, refl), placed-described t c m (m.place + 1 + n) (yea refl));
+    lands = inr ((offset, refl, x.1), placed-described t c m x.0 (yea refl));
   }
-  branch p q false is e f yea nay = record {
+  branch p q false is e f yea nay target = record {
     out = Moves (forward 1 m);
-    after_is = ap (λ v. decided condition size src v (operand_value src m.regs) >>= λ taken. if taken then jumps_by (pos n) m else Some (Moves (forward 1 m))) e
-        ∙ (ap (λ v. (number v >>= λ k. Some (compares size condition p k)) >>= λ taken. if taken then jumps_by (pos n) m else Some (Moves (forward 1 m))) f
-        ∙ ap (λ (taken : Bool). if taken then jumps_by (pos n) m else Some (Moves (forward 1 m))) is);
+    after_is = ap (λ v. decided condition size src v (operand_value src m.regs) >>= λ taken. if taken then jumps_by offset m else Some (Moves (forward 1 m))) e
+        ∙ (ap (λ v. (number v >>= λ k. Some (compares size condition p k)) >>= λ taken. if taken then jumps_by offset m else Some (Moves (forward 1 m))) f
+        ∙ ap (λ (taken : Bool). if taken then jumps_by offset m else Some (Moves (forward 1 m))) is);
     alone = λ es fs other h. h;
     lands = inl (refl, refl, placed-described b c m (m.place + 1) (nay refl));
   }
@@ -88,13 +89,13 @@ Refines size condition x y x' y' taken = (p q : ℕ) → p < 2 ^ 64 → q < 2 ^ 
 
 pub fork_sound : (condition : Condition) (size : Size) (dst : ℕ) (src : Operand) (x y tx ty fx fy : Scalar) (a b t : StateHere) → kind_in a.regs dst ≡ kinds.Num x → HasValue (state_of a) src (Num y)
     → Refines size condition x y tx ty true → Refines size condition x y fx fy false → Narrows dst src tx ty (state_of a) (state_of t) → Narrows dst src fx fy (state_of a) (state_of b) → Forks condition size dst src a b t
-fork_sound condition size dst src x y tx ty fx fy a b t e value yea nay tn fn shapes ctx_len n =
-    alone_transfers (JumpIf condition size dst src (pos n)) shapes ctx_len (state_of a) (state_of b) (Some (state_of t)) refl (λ c env m i d.
+fork_sound condition size dst src x y tx ty fx fy a b t e value yea nay tn fn shapes ctx_len offset =
+    alone_transfers (JumpIf condition size dst src offset) shapes ctx_len (state_of a) (state_of b) (Some (state_of t)) refl (λ c env m i target d.
     let p = reg-is (state_of a) c m dst (Num x) d (ap kind_of e) in
     let q = value c m d in
-    branch condition size dst src n (state_of b) (state_of t) c env m p.0 q.0 (compares size condition p.0 q.0) refl p.1 q.1
+    branch condition size dst src offset (state_of b) (state_of t) c env m p.0 q.0 (compares size condition p.0 q.0) refl p.1 q.1
     (λ h. let r = yea p.0 q.0 p.2 q.2 p.3 q.3 h in tn c m d (p.0, p.1, p.2, r.0) (q.0, q.1, q.2, r.1))
-    (λ h. let r = nay p.0 q.0 p.2 q.2 p.3 q.3 h in fn c m d (p.0, p.1, p.2, r.0) (q.0, q.1, q.2, r.1)))
+    (λ h. let r = nay p.0 q.0 p.2 q.2 p.3 q.3 h in fn c m d (p.0, p.1, p.2, r.0) (q.0, q.1, q.2, r.1)) target)
 
 pub numbers_compared : (dst : ℕ) (src : Operand) (x y : Scalar) (a : StateHere) → kind_in a.regs dst ≡ kinds.Num x → HasValue (state_of a) src (Num y) → ComparesNumbers (state_of a) dst src
 numbers_compared dst src x y a e value c m d =
@@ -104,26 +105,27 @@ numbers_compared dst src x y a e value c m d =
 
 -- a value is never null
 pub value_forks : (equal : Bool) (dst map : ℕ) (s : Scalar) (a t : StateHere) → kind_in a.regs dst ≡ kinds.Value map s → t ≡ a → ForksOnNull equal dst a a t
-value_forks true dst map s a t e same shapes ctx_len n =
-    alone_transfers (JumpIf Equal Word64 dst (Immediate (pos 0)) (pos n)) shapes ctx_len (state_of a) (state_of a) (Some (state_of t)) refl (λ c env m i d.
+value_forks true dst map s a t e same shapes ctx_len offset =
+    alone_transfers (JumpIf Equal Word64 dst (Immediate (pos 0)) offset) shapes ctx_len (state_of a) (state_of a) (Some (state_of t)) refl (λ c env m i target d.
     let x = reg-is (state_of a) c m dst (ValueAt map s) d (ap kind_of e) in record {
       out = Moves (forward 1 m);
-      after_is = ap (λ v. decided Equal Word64 (Immediate (pos 0)) v (Number (immediate (pos 0))) >>= λ taken. if taken then jumps_by (pos n) m else Some (Moves (forward 1 m))) x.is;
+      after_is = ap (λ v. decided Equal Word64 (Immediate (pos 0)) v (Number (immediate (pos 0))) >>= λ taken. if taken then jumps_by offset m else Some (Moves (forward 1 m))) x.is;
       alone = λ es fs other h. h;
       lands = inl (refl, refl, placed-described (state_of a) c m (m.place + 1) d);
     })
-value_forks false dst map s a t e same shapes ctx_len n =
-    alone_transfers (JumpIf NotEqual Word64 dst (Immediate (pos 0)) (pos n)) shapes ctx_len (state_of a) (state_of a) (Some (state_of t)) refl (λ c env m i d.
+value_forks false dst map s a t e same shapes ctx_len offset =
+    alone_transfers (JumpIf NotEqual Word64 dst (Immediate (pos 0)) offset) shapes ctx_len (state_of a) (state_of a) (Some (state_of t)) refl (λ c env m i target d.
+    let y = target offset refl in
     let x = reg-is (state_of a) c m dst (ValueAt map s) d (ap kind_of e) in record {
-      out = Moves (record { regs = m.regs; frame = m.frame; place = m.place + 1 + n });
-      after_is = ap (λ v. decided NotEqual Word64 (Immediate (pos 0)) v (Number (immediate (pos 0))) >>= λ taken. if taken then jumps_by (pos n) m else Some (Moves (forward 1 m))) x.is;
+      out = Moves (record { regs = m.regs; frame = m.frame; place = y.0 });
+      after_is = ap (λ v. decided NotEqual Word64 (Immediate (pos 0)) v (Number (immediate (pos 0))) >>= λ taken. if taken then jumps_by offset m else Some (Moves (forward 1 m))) x.is ∙ ap (λ z. jumps_to z m) (sym y.1);
       alone = λ es fs other h. h;
-      lands = inr ((pos n, refl, refl), placed-described (state_of t) c m (m.place + 1 + n) (subst (λ (b : StateHere). Describes (state_of b) c m) (sym same) d));
+      lands = inr ((offset, refl, y.1), placed-described (state_of t) c m y.0 (subst (λ (b : StateHere). Describes (state_of b) c m) (sym same) d));
     })
 
 -- the end of a run
 pub exit_sound : (a : StateHere) (k : RegKind) (s : Scalar) → kind_in a.regs 0 ≡ k → k ≡ kinds.Num s → a.inside ≡ false → (shapes : List MapShape) (ctx_len : ℕ) → Transfers Exit shapes ctx_len (state_of a) (state_of a) None
-exit_sound a k s e f out shapes ctx_len = alone_transfers Exit shapes ctx_len (state_of a) (state_of a) None refl (λ c env m i d.
+exit_sound a k s e f out shapes ctx_len = alone_transfers Exit shapes ctx_len (state_of a) (state_of a) None refl (λ c env m i target d.
     let n = reg-is (state_of a) c m 0 (Num s) d (ap kind_of (e ∙ f)) in record {
       out = Exits n.0;
       after_is = ap (λ v. number v >>= λ k. Some (Exits k)) n.1;
@@ -132,20 +134,20 @@ exit_sound a k s e f out shapes ctx_len = alone_transfers Exit shapes ctx_len (s
     })
 
 -- jumps without a condition
-pub jump_transfers : (n : ℕ) (shapes : List MapShape) (ctx_len : ℕ) (a : AbsState) → Transfers (Jump (pos n)) shapes ctx_len a a None
-jump_transfers n shapes ctx_len a = alone_transfers (Jump (pos n)) shapes ctx_len a a None refl (λ c env m i d. record {
-  out = Moves (record { regs = m.regs; frame = m.frame; place = m.place + 1 + n });
-  after_is = refl;
+pub jump_transfers : (offset : ℤ) (shapes : List MapShape) (ctx_len : ℕ) (a : AbsState) → Transfers (Jump offset) shapes ctx_len a a None
+jump_transfers offset shapes ctx_len a = alone_transfers (Jump offset) shapes ctx_len a a None refl (λ c env m i target d. let x = target offset refl in record {
+  out = Moves (record { regs = m.regs; frame = m.frame; place = x.0 });
+  after_is = ap (λ z. jumps_to z m) (sym x.1);
   alone = λ es fs other h. h;
-  lands = inr ((pos n, refl, refl), placed-described a c m (m.place + 1 + n) d);
+  lands = inr ((offset, refl, x.1), placed-described a c m x.0 d);
 })
 
-pub jump_long_transfers : (n : ℕ) (shapes : List MapShape) (ctx_len : ℕ) (a : AbsState) → Transfers (JumpLong (pos n)) shapes ctx_len a a None
-jump_long_transfers n shapes ctx_len a = alone_transfers (JumpLong (pos n)) shapes ctx_len a a None refl (λ c env m i d. record {
-  out = Moves (record { regs = m.regs; frame = m.frame; place = m.place + 1 + n });
-  after_is = refl;
+pub jump_long_transfers : (imm : ℤ) (shapes : List MapShape) (ctx_len : ℕ) (a : AbsState) → Transfers (JumpLong imm) shapes ctx_len a a None
+jump_long_transfers imm shapes ctx_len a = alone_transfers (JumpLong imm) shapes ctx_len a a None refl (λ c env m i target d. let x = target imm refl in record {
+  out = Moves (record { regs = m.regs; frame = m.frame; place = x.0 });
+  after_is = ap (λ z. jumps_to z m) (sym x.1);
   alone = λ es fs other h. h;
-  lands = inr ((pos n, refl, refl), placed-described a c m (m.place + 1 + n) d);
+  lands = inr ((imm, refl, x.1), placed-described a c m x.0 d);
 })
 
 -- the sides of a comparison, where the second is a number or a register

@@ -1,5 +1,5 @@
 //! Jumps without a condition, and the exit.
-ghost use Rattle.std.specs.Prelude.{◌≡◌, ℕ, List, None, OnOk, IsOk, pos, false};
+ghost use Rattle.std.specs.Prelude.{◌≡◌, ℕ, ℤ, List, None, OnOk, IsOk, false};
 ghost use Rattle.bpf_model.specs.declared.limits.MapShape.{MapShape};
 ghost use Rattle.kind_tests.specs.Performs.{Performs};
 ghost use Rattle.typed_runs.specs.Kinds as model;
@@ -38,14 +38,14 @@ pub fn exit(state: &AbsState) -> Result<(), Fault>
     }
 }
 
-/// A jump without a condition, to a slot further on, leaves all that is known as it is.
+/// A jump without a condition leaves all that is known as it is.
 pub fn jump_transfers()
-    ensures { (n : ℕ) (shapes : List MapShape) (ctx_len : ℕ) (a : model.AbsState)
-        → Transfers (Insn.Jump (pos n)) shapes ctx_len a a None }
+    ensures { (offset : ℤ) (shapes : List MapShape) (ctx_len : ℕ) (a : model.AbsState)
+        → Transfers (Insn.Jump offset) shapes ctx_len a a None }
 {}
 
-/// A jump of class JMP32, to a slot further on, leaves all that is known as it is.
+/// A jump of class JMP32 leaves all that is known as it is.
 pub fn jump_long_transfers()
-    ensures { (n : ℕ) (shapes : List MapShape) (ctx_len : ℕ) (a : model.AbsState)
-        → Transfers (Insn.JumpLong (pos n)) shapes ctx_len a a None }
+    ensures { (imm : ℤ) (shapes : List MapShape) (ctx_len : ℕ) (a : model.AbsState)
+        → Transfers (Insn.JumpLong imm) shapes ctx_len a a None }
 {}

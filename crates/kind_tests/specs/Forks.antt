@@ -1,5 +1,5 @@
 -- Conditional jumps, in words of the laws.
-use Rattle.std.specs.Prelude.{ℕ, List, Some, pos, Bool, if◌then◌else◌}
+use Rattle.std.specs.Prelude.{ℕ, List, Some, ℤ, pos, Bool, if◌then◌else◌}
 use Rattle.bpf_model.specs.declared.limits.MapShape.{MapShape}
 use Rattle.bpf_model.specs.declared.insn.Insn.TheVariants.{JumpIf}
 use Rattle.bpf_model.specs.declared.insn.Operand.{Operand}
@@ -12,12 +12,12 @@ use Rattle.typed_runs.specs.Verified.{Transfers}
 use Rattle.register_kinds.specs.declared.state.AbsState.{AbsState}
 use Rattle.register_kinds.specs.States.{state_of}
 
--- From each run that the old state describes a jump to a slot further on has a step, and each leads
--- to one that the new state describes, or the other where it jumps.
+-- From each run that the old state describes the conditional jump has a step where it has its
+-- target, and each leads to one that the new state describes, or the other where it jumps.
 abbrev pub Forks : Condition → Size → ℕ → Operand → AbsState → AbsState → AbsState → Type 0
 Forks condition size dst src old new taken =
-    (shapes : List MapShape) (ctx_len n : ℕ) →
-    Transfers (JumpIf condition size dst src (pos n)) shapes ctx_len (state_of old) (state_of new)
+    (shapes : List MapShape) (ctx_len : ℕ) (offset : ℤ) →
+    Transfers (JumpIf condition size dst src offset) shapes ctx_len (state_of old) (state_of new)
     (Some (state_of taken))
 
 -- both edges of a comparison of 64 bits with the number 0

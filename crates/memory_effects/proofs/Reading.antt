@@ -97,7 +97,7 @@ module _ (dst src : ℕ) (offset : ℤ) (shapes : List MapShape) (ctx_len : ℕ)
   pub found_transfers : (width : Width) → ((n : ℕ) → n < 256 ^ byte_count width → Holds t n)
       → ((c : Scene) (env : Environment) (m : State) → IsEnvironment ctx_len (length shapes) env → Describes a c m → Finds env m (byte_count width) offset (m.regs src))
       → Transfers (Load width dst src offset) shapes ctx_len a (with_kind dst (Num t) a) None
-  found_transfers width all finds = alone_transfers (Load width dst src offset) shapes ctx_len a (with_kind dst (Num t) a) None refl (λ c env m i d.
+  found_transfers width all finds = alone_transfers (Load width dst src offset) shapes ctx_len a (with_kind dst (Num t) a) None refl (λ c env m i target d.
       let f = finds c env m i d in record {
         out = Moves (record { regs = put dst (Number f.n) m.regs; frame = m.frame; place = m.place + 1 });
         after_is = ap (λ q. q >>= λ v. sets 1 dst v m) f.loads ∙ set-is 1 dst (Number f.n) m ne;
@@ -108,7 +108,7 @@ module _ (dst src : ℕ) (offset : ℤ) (shapes : List MapShape) (ctx_len : ℕ)
   pub found_signed_transfers : (width : SignedWidth) → ((n : ℕ) → (loaded_signed width n < 2 ^ 64) × Holds t (loaded_signed width n))
       → ((c : Scene) (env : Environment) (m : State) → IsEnvironment ctx_len (length shapes) env → Describes a c m → Finds env m (byte_count (unsigned_width width)) offset (m.regs src))
       → Transfers (LoadSigned width dst src offset) shapes ctx_len a (with_kind dst (Num t) a) None
-  found_signed_transfers width all finds = alone_transfers (LoadSigned width dst src offset) shapes ctx_len a (with_kind dst (Num t) a) None refl (λ c env m i d.
+  found_signed_transfers width all finds = alone_transfers (LoadSigned width dst src offset) shapes ctx_len a (with_kind dst (Num t) a) None refl (λ c env m i target d.
       let f = finds c env m i d in
       let n : ℕ = loaded_signed width f.n in record {
         out = Moves (record { regs = put dst (Number n) m.regs; frame = m.frame; place = m.place + 1 });

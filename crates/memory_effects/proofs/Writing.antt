@@ -27,7 +27,7 @@ use Rattle.typed_runs.proofs.Elements.{operand-number}
 
 pub number_stored : (width : Width) (dst : ℕ) (offset : ℤ) (src : Operand) (shapes : List MapShape) (ctx_len : ℕ) (a : AbsState) (o : ℤ) (at : ℕ) → a.regs dst ≡ FrameAt o
     → region_offset FRAME_BYTES (byte_count width) (o +ℤ offset) ≡ Some at → IsNumberOperand a src → Transfers (Store width dst offset src) shapes ctx_len a (with_cells at (byte_count width) ByteCell a) None
-number_stored width dst offset src shapes ctx_len a o at e p number = alone_transfers (Store width dst offset src) shapes ctx_len a (with_cells at (byte_count width) ByteCell a) None refl (λ c env m i d.
+number_stored width dst offset src shapes ctx_len a o at e p number = alone_transfers (Store width dst offset src) shapes ctx_len a (with_cells at (byte_count width) ByteCell a) None refl (λ c env m i target d.
     let w : ℕ = byte_count width in
     let base : m.regs dst ≡ Pointer (Frame o) = reg-is a c m dst (FrameAt o) d e in
     let x = operand-number a c m src d number in

@@ -33,7 +33,7 @@ use Rattle.register_kinds.specs.States.{kind_at}
 use Rattle.kind_tests.specs.Forks.{Forks, ForksOnNull}
 use Rattle.control_effects.specs.Narrowing.{ComparesNumbers}
 use Rattle.state_steps.specs.declared.flow.Flow.{Flow}
-use Rattle.state_steps.specs.Steps.{IsForward, IsBranch, base_of, IsInRegion, Compares, IsComparable}
+use Rattle.state_steps.specs.Steps.{IsBranch, base_of, IsInRegion, Compares, IsComparable}
 use Rattle.state_steps.specs.Facts.{IsReadyInsn, KeepsFacts}
 use Rattle.state_steps.specs.Lookups.{Serves}
 use Rattle.state_steps.specs.Stepped.{single_flow, Stepped, ComparesWell}
@@ -47,7 +47,7 @@ pub record IsQuiet (i : Insn) : Type 0 where
   pub no_branch : IsBranch i → ⊥
 
 pub quiet_step : (i : Insn) (shapes : List MapShape) (ctx_len top : ℕ) (a b : AbsState) (f : Flow) → f ≡ single_flow regions.None → IsQuiet i
-    → (IsForward i → Transfers i shapes ctx_len (state_of a) (state_of b) None) → AreBelow top b
+    → Transfers i shapes ctx_len (state_of a) (state_of b) None → AreBelow top b
     → (IsReadyInsn i (state_of a) → KeepsFacts i (state_of a) (state_of b)) → Serves shapes i (state_of a) (state_of b) None → KeepsInsnFloor i (state_of a) (state_of b) None → Stepped i shapes ctx_len top a b (Ok f)
 quiet_step i shapes ctx_len top a b f e q sound below keeps serves floor = subst (λ (f : Flow). Stepped i shapes ctx_len top a b (Ok f)) (sym e) (record {
   done = record {
@@ -142,7 +142,7 @@ pub access_step : (i : Insn) (shapes : List MapShape) (ctx_len top : ℕ) (a b :
 access_step i shapes ctx_len top a b f region base e q is sound below keeps serves floor = subst (λ (f : Flow). Stepped i shapes ctx_len top a b (Ok f)) (sym e) (record {
   done = record {
     transfer = record {
-      sound = λ forward. sound;
+      sound = sound;
       branches = λ x. absurd (q.no_branch x);
       reaches = λ r c m x d. subst (λ (n : ℕ). IsInRegion c region (m.regs n)) (same_Some base r (sym q.base_is ∙ x)) (in_region region (kind_at a.regs base) c d.naming (m.regs base) is (d.regs base));
       compares = λ r c m x d. absurd (q.no_test r x);

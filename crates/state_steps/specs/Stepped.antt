@@ -21,7 +21,7 @@ use Rattle.register_kinds.specs.States.{kind_in, state_of}
 use Rattle.kind_tests.specs.declared.fault.Fault.{Fault}
 use Rattle.memory_effects.specs.declared.region.Region.{Region}
 use Rattle.state_steps.specs.declared.flow.Flow.{Flow}
-use Rattle.state_steps.specs.Steps.{IsForward, IsBranch, taken_state, base_of, IsInRegion, Compares}
+use Rattle.state_steps.specs.Steps.{IsBranch, taken_state, base_of, IsInRegion, Compares}
 use Rattle.state_steps.specs.Steps.{IsComparable, IsFine}
 use Rattle.state_steps.specs.Facts.{IsReadyInsn, KeepsFacts}
 use Rattle.state_steps.specs.Lookups.{IsReadyWithMaps, Serves}
@@ -50,8 +50,7 @@ pub record IsEqualToNull (condition : Condition) (size : Size) (dst : ℕ) (src 
 -- taken, and the region that it reaches.
 pub record IsTransfer (i : Insn) (shapes : List MapShape) (ctx_len : ℕ) (old new : AbsState)
     (taken : Option AbsState) (region : Region) : Type 0 where
-  pub sound : IsForward i →
-      Transfers i shapes ctx_len (state_of old) (state_of new) (option_map state_of taken)
+  pub sound : Transfers i shapes ctx_len (state_of old) (state_of new) (option_map state_of taken)
   pub branches : IsBranch i → IsSome taken
   pub reaches : (b : ℕ) (c : Scene) (m : State) → base_of i ≡ Some b →
       Describes (state_of old) c m → IsInRegion c region (m.regs b)

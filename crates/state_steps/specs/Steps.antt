@@ -21,10 +21,6 @@ use Rattle.memory_effects.specs.declared.region.Region.{Region}
 use Rattle.memory_effects.specs.declared.region.Region.TheVariants as regions
 use Rattle.state_steps.specs.declared.flow.Flow.{Flow}
 
--- where an instruction jumps, it jumps ahead
-abbrev pub IsForward : Insn → Type 0
-IsForward i = (d : ℤ) → distance i ≡ Some d → (n : ℕ) × (d ≡ pos n)
-
 -- the instruction both falls through and jumps
 abbrev pub IsBranch : Insn → Type 0
 IsBranch i = (falls i ≡ true) × (distance i ≢ None)

@@ -5,7 +5,7 @@ ghost use Rattle.typed_runs.specs.Describes.{Scene, Describes};
 ghost use Rattle.typed_runs.specs.Verified.{Transfers};
 ghost use Rattle.register_kinds.specs.Pairs.{AreBelow, TakesFew};
 ghost use Rattle.register_kinds.specs.States.{state_of};
-ghost use Rattle.state_steps.specs.Steps.{IsForward, IsBranch, taken_state, base_of, IsInRegion, Compares, IsComparable, IsFine};
+ghost use Rattle.state_steps.specs.Steps.{IsBranch, taken_state, base_of, IsInRegion, Compares, IsComparable, IsFine};
 ghost use Rattle.state_steps.specs.Facts.{IsReadyInsn, KeepsFacts};
 ghost use Rattle.state_steps.specs.Lookups.{IsReadyWithMaps, Serves};
 ghost use Rattle.state_steps.specs.Stepped.{Stepped};
@@ -48,11 +48,10 @@ pub fn transfer(
     requires room { ids.old.next + 1 < 2 ^ 32 }
     requires below { AreBelow ids.old.next state.old }
 
-    // From each described run the instruction has a step, and each leads to one that is described.
-    ensures sound { IfOk result (λ f. IsForward insn.now
-        → Transfers insn.now shape.now.shapes.now shape.now.ctx_len
-        (state_of state.old) (state_of state.new)
-        (option_map state_of (taken_state f))) }
+    // From each described run where a jump has its target the instruction has a step, and each
+    // leads to one that is described.
+    ensures sound { IfOk result (λ f. Transfers insn.now shape.now.shapes.now shape.now.ctx_len
+        (state_of state.old) (state_of state.new) (option_map state_of (taken_state f))) }
     ensures branches { IfOk result (λ f. IsBranch insn.now → IsSome f.taken) }
 
     // What the register holds by which it reaches memory, and those that it compares.

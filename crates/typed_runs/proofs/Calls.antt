@@ -64,12 +64,12 @@ kernel-locks imm run new e h = subst (λ f. KernelStep f run new) e h
 
 pub lock_transfers : (imm : ℤ) (shapes : List MapShape) (ctx_len : ℕ) (a : AbsState) → kernel_function_of imm ≡ Some ReadLock → a.inside ≡ false → Transfers (Call kinds.Kernel imm) shapes ctx_len a (after_lock a) None
 lock_transfers imm shapes ctx_len a f out = record {
-  goes = λ s opened run w d.
+  goes = λ s opened run w target d.
       let o : run.depth ≡ 0 = outside-deep a (scene_of s.elements run) run.state d out in
       let one : MAX_DEPTH ≡ 1 = refl in
       let room : run.depth < MAX_DEPTH = omega arith in
       (Moved, s, moves (locked run) (returns Nothing run.state), (subst (λ g. KernelStep g run (moves (locked run) (returns Nothing run.state))) (sym f) (room, refl), refl, refl));
-  leads = λ s opened run answer new_store new_run w d h.
+  leads = λ s opened run answer new_store new_run w target d h.
       let k = kernel-locks imm run new_run f h.0 in (
         same-bytes s new_store h.2 w.bytes,
         subst (λ (x : Store). Leads (Call kinds.Kernel imm) (after_lock a) None run.state.place x.elements new_run) (sym h.2)
@@ -118,11 +118,11 @@ unlock-described a es run e d =
 
 pub unlock_transfers : (imm : ℤ) (shapes : List MapShape) (ctx_len : ℕ) (a : AbsState) → kernel_function_of imm ≡ Some ReadUnlock → a.inside ≡ true → Transfers (Call kinds.Kernel imm) shapes ctx_len a (after_unlock a) None
 unlock_transfers imm shapes ctx_len a f into = record {
-  goes = λ s opened run w d.
+  goes = λ s opened run w target d.
       let o : run.depth ≡ 1 = inside-deep a (scene_of s.elements run) run.state d into in
       let deep : 0 < run.depth = omega arith in
       (Moved, s, moves (unlocked run) (returns Nothing run.state), (subst (λ g. KernelStep g run (moves (unlocked run) (returns Nothing run.state))) (sym f) (deep, refl), refl, refl));
-  leads = λ s opened run answer new_store new_run w d h.
+  leads = λ s opened run answer new_store new_run w target d h.
       let k : KernelStep (Some ReadUnlock) run new_run = subst (λ g. KernelStep g run new_run) f h.0 in (
         same-bytes s new_store h.2 w.bytes,
         subst (λ (x : Store). Leads (Call kinds.Kernel imm) (after_unlock a) None run.state.place x.elements new_run) (sym h.2)
@@ -147,13 +147,13 @@ lookup-leads imm a map id s opened run ret new_run into e fresh d listed h same 
 pub lookup_transfers : (imm : ℤ) (shapes : List MapShape) (ctx_len : ℕ) (a : AbsState) (map id : ℕ) (shape : MapShape) → helper_of imm ≡ Some helpers.Lookup → a.inside ≡ true → HasMap shapes a map shape → HasBytes a 2 shape.key_len → IsFresh id a →
     Transfers (Call kinds.Helper imm) shapes ctx_len a (after_call (MaybeNull map id) a) None
 lookup_transfers imm shapes ctx_len a map id shape f into m key fresh = record {
-  goes = λ s opened run w d.
+  goes = λ s opened run w target d.
       let b = bound shapes ctx_len s opened run map shape w m.shape_is in
       let k = key-is shapes s run a map shape d m b key in
       let l = looks-up s b.number k.0 in
       let step : LookupStep s run (found_value l.0) = record { map = b.number; key = k.0; found = l.0; map_is = map-is shapes s run a map shape d m b; key_is = k.1; looked_up = l.1; ret_is = refl } in
       (Moved, s, moves run (returns (found_value l.0) run.state), (found_value l.0, subst (λ g. HelperStep g s opened run (found_value l.0) s) (sym f) (step, refl), refl, refl));
-  leads = λ s opened run answer new_store new_run w d h.
+  leads = λ s opened run answer new_store new_run w target d h.
       let k : HelperStep (Some helpers.Lookup) s opened run h.0 new_store = subst (λ g. HelperStep g s opened run h.0 new_store) f h.1 in
       let b = bound shapes ctx_len s opened run map shape w m.shape_is in (
         same-bytes s new_store k.1 w.bytes,

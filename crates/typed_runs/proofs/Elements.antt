@@ -132,7 +132,7 @@ module _ (width : Width) (dst src : ℕ) (offset : ℤ) (shapes : List MapShape)
 
   pub load_transfers : a.regs src ≡ ValueAt map scalar → slice_get shapes map ≡ Some shape → IsAlwaysInside scalar (byte_count width) offset shape.value_len → (10 ≡ dst → ⊥) → ((n : ℕ) → n < 256 ^ byte_count width → Holds t n) →
       Transfers (Load width dst src offset) shapes ctx_len a (with_kind dst (Num t) a) None
-  load_transfers e at placed ne all = acts-transfers (Load width dst src offset) shapes ctx_len a (with_kind dst (Num t) a) None (λ s opened run answer ns nr. (λ h. h, λ h. h)) (load-acts e at placed ne all)
+  load_transfers e at placed ne all = acts-transfers (Load width dst src offset) shapes ctx_len a (with_kind dst (Num t) a) None (λ s opened run answer ns nr. (λ h. h, λ h. h)) (λ s opened run w target. load-acts e at placed ne all s opened run w)
 
 -- a store
 set-bytes : (bytes : List ℕ) (at n : ℕ) → AreBytes bytes → AreBytes (slice_set bytes at (n % 256))
@@ -193,7 +193,7 @@ module _ (width : Width) (dst : ℕ) (offset : ℤ) (src : Operand) (shapes : Li
       }
 
   pub store_transfers : a.regs dst ≡ ValueAt map scalar → IsNumberOperand a src → slice_get shapes map ≡ Some shape → IsAlwaysInside scalar (byte_count width) offset shape.value_len → Transfers (Store width dst offset src) shapes ctx_len a a None
-  store_transfers e f at placed = acts-transfers (Store width dst offset src) shapes ctx_len a a None (λ s opened run answer ns nr. (λ h. h, λ h. h)) (store-acts e f at placed)
+  store_transfers e f at placed = acts-transfers (Store width dst offset src) shapes ctx_len a a None (λ s opened run answer ns nr. (λ h. h, λ h. h)) (λ s opened run w target. store-acts e f at placed s opened run w)
 
 -- a load with sign extension
 module _ (width : SignedWidth) (dst src : ℕ) (offset : ℤ) (shapes : List MapShape) (ctx_len : ℕ) (a : AbsState) (map : ℕ) (shape : MapShape) (scalar t : Scalar) where
@@ -221,4 +221,4 @@ module _ (width : SignedWidth) (dst src : ℕ) (offset : ℤ) (shapes : List Map
 
   pub load_signed_transfers : a.regs src ≡ ValueAt map scalar → slice_get shapes map ≡ Some shape → IsAlwaysInside scalar (byte_count (unsigned_width width)) offset shape.value_len → (10 ≡ dst → ⊥) →
       ((n : ℕ) → n < 256 ^ byte_count (unsigned_width width) → (loaded_signed width n < 2 ^ 64) × Holds t (loaded_signed width n)) → Transfers (LoadSigned width dst src offset) shapes ctx_len a (with_kind dst (Num t) a) None
-  load_signed_transfers e at placed ne all = acts-transfers (LoadSigned width dst src offset) shapes ctx_len a (with_kind dst (Num t) a) None (λ s opened run answer ns nr. (λ h. h, λ h. h)) (signed-acts e at placed ne all)
+  load_signed_transfers e at placed ne all = acts-transfers (LoadSigned width dst src offset) shapes ctx_len a (with_kind dst (Num t) a) None (λ s opened run answer ns nr. (λ h. h, λ h. h)) (λ s opened run w target. signed-acts e at placed ne all s opened run w)

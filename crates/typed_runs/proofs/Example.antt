@@ -195,14 +195,14 @@ module _ (any : Scalar) (all : (n : ℕ) → n < 2 ^ 64 → Holds any n) where
   plan = find entries
 
   t0 : Transfers (Alu Move Word64 6 (Immediate (pos 0))) shapes 0 (s0 any) (s1 any) None
-  t0 = alone_transfers (Alu Move Word64 6 (Immediate (pos 0))) shapes 0 (s0 any) (s1 any) None refl (λ c env m w d.
+  t0 = alone_transfers (Alu Move Word64 6 (Immediate (pos 0))) shapes 0 (s0 any) (s1 any) None refl (λ c env m w target d.
       computes (Alu Move Word64 6 (Immediate (pos 0))) 6 (Num number_zero) (Number 0) (s0 any) c env m refl refl (λ es fs other h. h) (λ e. omega arith) refl d (0, refl, omega arith, zero_holds) tt)
 
   t1 : Transfers (Call Kernel (pos 1)) shapes 0 (s1 any) (s2 any) None
   t1 = lock_transfers (pos 1) shapes 0 (s1 any) refl refl
 
   t2 : Transfers (Store Four 10 (negsuc 3) (Immediate (pos 0))) shapes 0 (s2 any) (s3 any) None
-  t2 = alone_transfers (Store Four 10 (negsuc 3) (Immediate (pos 0))) shapes 0 (s2 any) (s3 any) None refl (λ c env m w d.
+  t2 = alone_transfers (Store Four 10 (negsuc 3) (Immediate (pos 0))) shapes 0 (s2 any) (s3 any) None refl (λ c env m w target d.
       let base : m.regs 10 ≡ Pointer (Frame (pos FRAME_BYTES)) = reg-is (s2 any) c m 10 (FrameAt (pos FRAME_BYTES)) d refl in record {
         out = Moves (record { regs = m.regs; frame = with_number 508 4 0 m.frame; place = m.place + 1 });
         after_is = ap (store_to m 4 (negsuc 3) (Number (immediate (pos 0)))) base;
@@ -211,19 +211,19 @@ module _ (any : Scalar) (all : (n : ℕ) → n < 2 ^ 64 → Holds any n) where
       })
 
   t3 : Transfers (Alu Move Word64 2 (Register 10)) shapes 0 (s3 any) (s4 any) None
-  t3 = alone_transfers (Alu Move Word64 2 (Register 10)) shapes 0 (s3 any) (s4 any) None refl (λ c env m w d.
+  t3 = alone_transfers (Alu Move Word64 2 (Register 10)) shapes 0 (s3 any) (s4 any) None refl (λ c env m w target d.
       let base : m.regs 10 ≡ Pointer (Frame (pos FRAME_BYTES)) = reg-is (s3 any) c m 10 (FrameAt (pos FRAME_BYTES)) d refl in
       computes (Alu Move Word64 2 (Register 10)) 2 (FrameAt (pos FRAME_BYTES)) (Pointer (Frame (pos FRAME_BYTES))) (s3 any) c env m refl refl (λ es fs other h. h) (λ e. omega arith)
       (ap (λ v. computed Word64 Move (m.regs 2) v >>= λ y. sets 1 2 y m) base) d refl (omega arith))
 
   t4 : Transfers (Alu Add Word64 2 (Immediate (negsuc 3))) shapes 0 (s4 any) (s5 any) None
-  t4 = alone_transfers (Alu Add Word64 2 (Immediate (negsuc 3))) shapes 0 (s4 any) (s5 any) None refl (λ c env m w d.
+  t4 = alone_transfers (Alu Add Word64 2 (Immediate (negsuc 3))) shapes 0 (s4 any) (s5 any) None refl (λ c env m w target d.
       let base : m.regs 2 ≡ Pointer (Frame (pos FRAME_BYTES)) = reg-is (s4 any) c m 2 (FrameAt (pos FRAME_BYTES)) d refl in
       computes (Alu Add Word64 2 (Immediate (negsuc 3))) 2 (FrameAt (pos 508)) (Pointer (Frame (pos 508))) (s4 any) c env m refl refl (λ es fs other h. h) (λ e. omega arith)
       (ap (λ v. computed Word64 Add v (Number (immediate (negsuc 3))) >>= λ y. sets 1 2 y m) base) d refl (omega arith))
 
   t5 : Transfers (LoadMap 1 (pos 0)) shapes 0 (s5 any) (s7 any) None
-  t5 = alone_transfers (LoadMap 1 (pos 0)) shapes 0 (s5 any) (s7 any) None refl (λ c env m w d. record {
+  t5 = alone_transfers (LoadMap 1 (pos 0)) shapes 0 (s5 any) (s7 any) None refl (λ c env m w target d. record {
     out = Moves (record { regs = put 1 (Pointer (MapRef 0)) m.regs; frame = m.frame; place = m.place + 2 });
     after_is = ap (λ k. (if nat_lt 0 k then Some (Pointer (MapRef 0)) else None) >>= λ v. sets 2 1 v m) w.bound;
     alone = λ es fs other h. h;
@@ -243,7 +243,7 @@ module _ (any : Scalar) (all : (n : ℕ) → n < 2 ^ 64 → Holds any n) where
   t7 = lookup_transfers (pos 1) shapes 0 (s7 any) 0 0 example_shape refl refl (record { map_is = refl; shape_is = refl }) key fresh
 
   t8 : Transfers (JumpIf Equal Word64 0 (Immediate (pos 0)) (pos 1)) shapes 0 (s8 any) (s9 any) (Some (when_null 0 number_zero (s8 any)))
-  t8 = equal_transfers shapes 0 0 1 0 0 (s8 any) number_zero origin zero_holds origin_has refl
+  t8 = equal_transfers shapes 0 0 (pos 1) 0 0 (s8 any) number_zero origin zero_holds origin_has refl
 
   t9 : Transfers (Load Eight 6 0 (pos 0)) shapes 0 (s9 any) (with_kind 6 (Num any) (s9 any)) None
   t9 = load_transfers Eight 6 0 (pos 0) shapes 0 (s9 any) 0 example_shape origin any refl refl placed-origin (λ e. omega arith) (λ n l. all n (omega arith))
@@ -252,13 +252,13 @@ module _ (any : Scalar) (all : (n : ℕ) → n < 2 ^ 64 → Holds any n) where
   t10 = unlock_transfers (pos 2) shapes 0 (s10 any) refl refl
 
   t11 : Transfers (Alu Move Word64 0 (Register 6)) shapes 0 (s11 any) (s12 any) None
-  t11 = alone_transfers (Alu Move Word64 0 (Register 6)) shapes 0 (s11 any) (s12 any) None refl (λ c env m w d.
+  t11 = alone_transfers (Alu Move Word64 0 (Register 6)) shapes 0 (s11 any) (s12 any) None refl (λ c env m w target d.
       let n = reg-is (s11 any) c m 6 (Num any) d refl in
       computes (Alu Move Word64 0 (Register 6)) 0 (Num any) (Number n.0) (s11 any) c env m refl refl (λ es fs other h. h) (λ e. omega arith)
       (ap (λ v. computed Word64 Move (m.regs 0) v >>= λ y. sets 1 0 y m) n.1) d (n.0, refl, n.2, n.3) tt)
 
   t12 : Transfers Exit shapes 0 (s12 any) (s12 any) None
-  t12 = alone_transfers Exit shapes 0 (s12 any) (s12 any) None refl (λ c env m w d.
+  t12 = alone_transfers Exit shapes 0 (s12 any) (s12 any) None refl (λ c env m w target d.
       let n = reg-is (s12 any) c m 0 (Num any) d refl in record {
         out = Exits n.0;
         after_is = ap (λ v. number v >>= λ k. Some (Exits k)) n.1;

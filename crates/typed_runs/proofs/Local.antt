@@ -1,5 +1,5 @@
 -- Instructions that a described run makes by itself, and null tests.
-use Rattle.std.proofs.Common.{◌≡◌, ℕ, ◌+◌, ◌<◌, ◌^◌, ◌%◌, ◌/◌, List, length, Option, Some, None, inl, inr, refl, sym, ap, subst, ◌∙◌, pos, arith, false}
+use Rattle.std.proofs.Common.{◌≡◌, ℕ, ◌+◌, ◌<◌, ◌^◌, ◌%◌, ◌/◌, List, length, Option, Some, None, inl, inr, refl, sym, ap, subst, ◌∙◌, ℤ, pos, arith, false}
 use Rattle.std.specs.Prelude.{if◌then◌else◌}
 use Rattle.std.proofs.lemmas.Bool.{cases_eq, eq-eqb, ne_eqb}
 use Rattle.std.proofs.lemmas.Option.{same_Some, none-some}
@@ -20,7 +20,7 @@ use Rattle.bpf_model.specs.declared.value.Cell.TheVariants.{Byte}
 use Rattle.bpf_model.specs.Arithmetic.{immediate}
 use Rattle.bpf_model.specs.Value.{◌>>=◌}
 use Rattle.bpf_model.specs.Operand.{decided}
-use Rattle.bpf_model.specs.Step.{State, Outcome, Moves, Exits, after, forward, jumps_by}
+use Rattle.bpf_model.specs.Step.{State, Outcome, Moves, Exits, after, forward, jumps_to, jumps_by}
 use Rattle.bpf_model.specs.Section.{Section}
 use Rattle.bpf_model.specs.Element.{Element}
 use Rattle.bpf_model.specs.MapState.{Store, with_elements}
@@ -32,7 +32,7 @@ use Rattle.bpf_model.specs.Event.{AllBytes}
 use Rattle.typed_runs.specs.Kinds.{Kind, Blank, Mixed, Ended, Num, CtxAt, FrameAt, MapAt, ValueAt, MaybeNull, CellKind, BlankCell, MixedCell, EndedCell, ByteCell, PartCell, AbsState}
 use Rattle.typed_runs.specs.Describes.{Scene, scene_of, Naming, IsNullOrHeld, HasOffset, IsOf, Stored, part_of, IsOfCell, Describes}
 use Rattle.typed_runs.specs.Effects.{null_kind, null_cell, there_kind, there_cell, when_null, when_there}
-use Rattle.typed_runs.specs.Verified.{Surrounds, HasStep, Leads, Transfers, is_call, IsEnvironment, LandsDescribed, TransfersAlone}
+use Rattle.typed_runs.specs.Verified.{Surrounds, HasStep, Leads, Transfers, is_call, IsEnvironment, HasTarget, LandsDescribed, TransfersAlone}
 use Rattle.typed_runs.proofs.Arguments.{reg-is}
 
 -- an instruction's steps are those of one that is no call
@@ -70,10 +70,10 @@ acts-leads i s run b taken answer new_store new_run x h =
     (x.bytes, ended-leads x.out i b taken x.es run answer new_run x.reaches (subst (λ y. OutcomeStep y run answer new_run) (sym o.0) h.4)))
 
 pub acts-transfers : (i : Insn) (shapes : List MapShape) (ctx_len : ℕ) (a b : AbsState) (taken : Option AbsState) → IsNoCall i →
-    ((s : Store) (opened : List Section) (run : Run) → Surrounds shapes ctx_len s opened run → Describes a (scene_of s.elements run) run.state → Acting i s run b taken) → Transfers i shapes ctx_len a b taken
+    ((s : Store) (opened : List Section) (run : Run) → Surrounds shapes ctx_len s opened run → HasTarget i run.state.place → Describes a (scene_of s.elements run) run.state → Acting i s run b taken) → Transfers i shapes ctx_len a b taken
 acts-transfers i shapes ctx_len a b taken plain f = record {
-  goes = λ s opened run w d. acts-goes i s opened run b taken plain (f s opened run w d);
-  leads = λ s opened run answer new_store new_run w d h. acts-leads i s run b taken answer new_store new_run (f s opened run w d) ((plain s opened run answer new_store new_run).1 h);
+  goes = λ s opened run w t d. acts-goes i s opened run b taken plain (f s opened run w t d);
+  leads = λ s opened run answer new_store new_run w t d h. acts-leads i s run b taken answer new_store new_run (f s opened run w t d) ((plain s opened run answer new_store new_run).1 h);
 }
 
 -- A step of the run by itself is the only one, where no element is accessed.
@@ -101,8 +101,8 @@ environment-is : (shapes : List MapShape) (ctx_len : ℕ) (s : Store) (opened : 
 environment-is shapes ctx_len s opened run w = record { long = w.long; bytes = w.context; bound = w.bound.count }
 
 pub alone_transfers : (i : Insn) (shapes : List MapShape) (ctx_len : ℕ) (a b : AbsState) (taken : Option AbsState) → is_call i ≡ false → TransfersAlone i shapes ctx_len a b taken → Transfers i shapes ctx_len a b taken
-alone_transfers i shapes ctx_len a b taken e f = acts-transfers i shapes ctx_len a b taken (no-call i e) (λ s opened run w d.
-    let x = f (scene_of s.elements run) (environment run) run.state (environment-is shapes ctx_len s opened run w) d in
+alone_transfers i shapes ctx_len a b taken e f = acts-transfers i shapes ctx_len a b taken (no-call i e) (λ s opened run w t d.
+    let x = f (scene_of s.elements run) (environment run) run.state (environment-is shapes ctx_len s opened run w) t d in
     by-itself i s run b taken x.out w.bytes x.after_is (λ other fs h. x.alone s.elements fs other h) x.lands)
 
 -- null tests
@@ -196,45 +196,47 @@ there-described id n o a c m place at d there = record {
 }
 
 -- JEQ: null is where it jumps
-abbrev jeq : ℕ → ℕ → Insn
-jeq dst n = JumpIf Equal Word64 dst (Immediate (pos 0)) (pos n)
+abbrev jeq : ℕ → ℤ → Insn
+jeq dst offset = JumpIf Equal Word64 dst (Immediate (pos 0)) offset
 
-abbrev jne : ℕ → ℕ → Insn
-jne dst n = JumpIf NotEqual Word64 dst (Immediate (pos 0)) (pos n)
+abbrev jne : ℕ → ℤ → Insn
+jne dst offset = JumpIf NotEqual Word64 dst (Immediate (pos 0)) offset
 
-module _ (shapes : List MapShape) (ctx_len dst n map id : ℕ) (a : AbsState) (z origin : Scalar) (holds : Holds z 0) (at : HasOffset origin (pos 0)) (e : a.regs dst ≡ MaybeNull map id) where
-  jeq-acts : (s : Store) (run : Run) (bytes : AllBytes s.elements) (d : Describes a (scene_of s.elements run) run.state) (o : Option ℕ) → d.naming id ≡ o → Acting (jeq dst n) s run (when_there id origin a) (Some (when_null id z a))
-  jeq-acts s run bytes d None is =
+module _ (shapes : List MapShape) (ctx_len dst : ℕ) (offset : ℤ) (map id : ℕ) (a : AbsState) (z origin : Scalar) (holds : Holds z 0) (at : HasOffset origin (pos 0)) (e : a.regs dst ≡ MaybeNull map id) where
+  jeq-acts : (s : Store) (run : Run) (bytes : AllBytes s.elements) → HasTarget (jeq dst offset) run.state.place → (d : Describes a (scene_of s.elements run) run.state) (o : Option ℕ) → d.naming id ≡ o → Acting (jeq dst offset) s run (when_there id origin a) (Some (when_null id z a))
+  jeq-acts s run bytes t d None is =
       let v : run.state.regs dst ≡ Number 0 = number-of d.naming id (run.state.regs dst) is (reg-is a (scene_of s.elements run) run.state dst (MaybeNull map id) d e).0 in
-      by-itself (jeq dst n) s run (when_there id origin a) (Some (when_null id z a)) (Moves (record { regs = run.state.regs; frame = run.state.frame; place = run.state.place + 1 + n })) bytes
-      (ap (λ x. decided Equal Word64 (Immediate (pos 0)) x (Number (immediate (pos 0))) >>= λ taken. if taken then jumps_by (pos n) run.state else Some (Moves (forward 1 run.state))) v)
+      let x = t offset refl in
+      by-itself (jeq dst offset) s run (when_there id origin a) (Some (when_null id z a)) (Moves (record { regs = run.state.regs; frame = run.state.frame; place = x.0 })) bytes
+      (ap (λ x. decided Equal Word64 (Immediate (pos 0)) x (Number (immediate (pos 0))) >>= λ taken. if taken then jumps_by offset run.state else Some (Moves (forward 1 run.state))) v ∙ ap (λ z. jumps_to z run.state) (sym x.1))
       (λ other fs h. h)
-      (inr ((pos n, refl, refl), null-described id z a (scene_of s.elements run) run.state (run.state.place + 1 + n) holds d is))
-  jeq-acts s run bytes d (Some b) is =
+      (inr ((offset, refl, x.1), null-described id z a (scene_of s.elements run) run.state x.0 holds d is))
+  jeq-acts s run bytes t d (Some b) is =
       let v : run.state.regs dst ≡ Pointer (Elem b (pos 0)) = element-of d.naming id b (run.state.regs dst) is (reg-is a (scene_of s.elements run) run.state dst (MaybeNull map id) d e).0 in
-      by-itself (jeq dst n) s run (when_there id origin a) (Some (when_null id z a)) (Moves (forward 1 run.state)) bytes
-      (ap (λ x. decided Equal Word64 (Immediate (pos 0)) x (Number (immediate (pos 0))) >>= λ taken. if taken then jumps_by (pos n) run.state else Some (Moves (forward 1 run.state))) v)
+      by-itself (jeq dst offset) s run (when_there id origin a) (Some (when_null id z a)) (Moves (forward 1 run.state)) bytes
+      (ap (λ x. decided Equal Word64 (Immediate (pos 0)) x (Number (immediate (pos 0))) >>= λ taken. if taken then jumps_by offset run.state else Some (Moves (forward 1 run.state))) v)
       (λ other fs h. h)
       (inl (refl, refl, there-described id b origin a (scene_of s.elements run) run.state (run.state.place + 1) at d is))
 
-  pub equal_transfers : Transfers (jeq dst n) shapes ctx_len a (when_there id origin a) (Some (when_null id z a))
-  equal_transfers = acts-transfers (jeq dst n) shapes ctx_len a (when_there id origin a) (Some (when_null id z a)) (λ s opened run answer ns nr. (λ h. h, λ h. h))
-      (λ s opened run w d. jeq-acts s run w.bytes d (d.naming id) refl)
+  pub equal_transfers : Transfers (jeq dst offset) shapes ctx_len a (when_there id origin a) (Some (when_null id z a))
+  equal_transfers = acts-transfers (jeq dst offset) shapes ctx_len a (when_there id origin a) (Some (when_null id z a)) (λ s opened run answer ns nr. (λ h. h, λ h. h))
+      (λ s opened run w t d. jeq-acts s run w.bytes t d (d.naming id) refl)
 
-  jne-acts : (s : Store) (run : Run) (bytes : AllBytes s.elements) (d : Describes a (scene_of s.elements run) run.state) (o : Option ℕ) → d.naming id ≡ o → Acting (jne dst n) s run (when_null id z a) (Some (when_there id origin a))
-  jne-acts s run bytes d None is =
+  jne-acts : (s : Store) (run : Run) (bytes : AllBytes s.elements) → HasTarget (jne dst offset) run.state.place → (d : Describes a (scene_of s.elements run) run.state) (o : Option ℕ) → d.naming id ≡ o → Acting (jne dst offset) s run (when_null id z a) (Some (when_there id origin a))
+  jne-acts s run bytes t d None is =
       let v : run.state.regs dst ≡ Number 0 = number-of d.naming id (run.state.regs dst) is (reg-is a (scene_of s.elements run) run.state dst (MaybeNull map id) d e).0 in
-      by-itself (jne dst n) s run (when_null id z a) (Some (when_there id origin a)) (Moves (forward 1 run.state)) bytes
-      (ap (λ x. decided NotEqual Word64 (Immediate (pos 0)) x (Number (immediate (pos 0))) >>= λ taken. if taken then jumps_by (pos n) run.state else Some (Moves (forward 1 run.state))) v)
+      by-itself (jne dst offset) s run (when_null id z a) (Some (when_there id origin a)) (Moves (forward 1 run.state)) bytes
+      (ap (λ x. decided NotEqual Word64 (Immediate (pos 0)) x (Number (immediate (pos 0))) >>= λ taken. if taken then jumps_by offset run.state else Some (Moves (forward 1 run.state))) v)
       (λ other fs h. h)
       (inl (refl, refl, null-described id z a (scene_of s.elements run) run.state (run.state.place + 1) holds d is))
-  jne-acts s run bytes d (Some b) is =
+  jne-acts s run bytes t d (Some b) is =
       let v : run.state.regs dst ≡ Pointer (Elem b (pos 0)) = element-of d.naming id b (run.state.regs dst) is (reg-is a (scene_of s.elements run) run.state dst (MaybeNull map id) d e).0 in
-      by-itself (jne dst n) s run (when_null id z a) (Some (when_there id origin a)) (Moves (record { regs = run.state.regs; frame = run.state.frame; place = run.state.place + 1 + n })) bytes
-      (ap (λ x. decided NotEqual Word64 (Immediate (pos 0)) x (Number (immediate (pos 0))) >>= λ taken. if taken then jumps_by (pos n) run.state else Some (Moves (forward 1 run.state))) v)
+      let x = t offset refl in
+      by-itself (jne dst offset) s run (when_null id z a) (Some (when_there id origin a)) (Moves (record { regs = run.state.regs; frame = run.state.frame; place = x.0 })) bytes
+      (ap (λ x. decided NotEqual Word64 (Immediate (pos 0)) x (Number (immediate (pos 0))) >>= λ taken. if taken then jumps_by offset run.state else Some (Moves (forward 1 run.state))) v ∙ ap (λ z. jumps_to z run.state) (sym x.1))
       (λ other fs h. h)
-      (inr ((pos n, refl, refl), there-described id b origin a (scene_of s.elements run) run.state (run.state.place + 1 + n) at d is))
+      (inr ((offset, refl, x.1), there-described id b origin a (scene_of s.elements run) run.state x.0 at d is))
 
-  pub not_equal_transfers : Transfers (jne dst n) shapes ctx_len a (when_null id z a) (Some (when_there id origin a))
-  not_equal_transfers = acts-transfers (jne dst n) shapes ctx_len a (when_null id z a) (Some (when_there id origin a)) (λ s opened run answer ns nr. (λ h. h, λ h. h))
-      (λ s opened run w d. jne-acts s run w.bytes d (d.naming id) refl)
+  pub not_equal_transfers : Transfers (jne dst offset) shapes ctx_len a (when_null id z a) (Some (when_there id origin a))
+  not_equal_transfers = acts-transfers (jne dst offset) shapes ctx_len a (when_null id z a) (Some (when_there id origin a)) (λ s opened run answer ns nr. (λ h. h, λ h. h))
+      (λ s opened run w t d. jne-acts s run w.bytes t d (d.naming id) refl)

@@ -26,7 +26,7 @@ use Rattle.scalar_domain.specs.Constant.{le_self}
 use Rattle.bpf_model.specs.Event.{AllBytes}
 use Rattle.typed_runs.specs.Kinds.{Blank, CtxAt, FrameAt, AbsState}
 use Rattle.typed_runs.specs.Describes.{Scene, scene_of, HasOffset, IsContextAt, IsOf, IsOfCell, AreNear, Describes, depth_of}
-use Rattle.typed_runs.specs.Verified.{Plan, Surrounds, Leads, Transfers, IsPlanned, IsPlannedAfter, IsClosed}
+use Rattle.typed_runs.specs.Verified.{Plan, Surrounds, HasTarget, Leads, Transfers, IsPlanned, IsPlannedAfter, IsClosed}
 use Rattle.typed_runs.specs.Planned.{origin, number_zero, Wider, AreAlike, Joins, entry_state, Covers, IsCovered, IsPlanKept}
 use Rattle.typed_runs.proofs.Sets.{choice-of, near-set, widened}
 
@@ -56,9 +56,9 @@ led-wider i new other taken also place es run w v l going = elim (l going) [
 pub transfers_wider : (i : Insn) (shapes : List MapShape) (ctx_len : ℕ) (old before new other : AbsState) (taken also : Option AbsState) → Wider old before → Wider new other → Wider (unwrap_or taken new) (unwrap_or also other) →
     Transfers i shapes ctx_len before new taken → Transfers i shapes ctx_len old other also
 transfers_wider i shapes ctx_len old before new other taken also u w v t = record {
-  goes = λ s opened run x d. t.goes s opened run x (u (scene_of s.elements run) run.state d);
-  leads = λ s opened run answer new_store new_run x d h.
-      let l = t.leads s opened run answer new_store new_run x (u (scene_of s.elements run) run.state d) h in
+  goes = λ s opened run x target d. t.goes s opened run x target (u (scene_of s.elements run) run.state d);
+  leads = λ s opened run answer new_store new_run x target d h.
+      let l = t.leads s opened run answer new_store new_run x target (u (scene_of s.elements run) run.state d) h in
       (l.0, led-wider i new other taken also run.state.place new_store.elements new_run w v l.1);
 }
 
@@ -100,13 +100,22 @@ module _ (code : List Insn) (shapes : List MapShape) (ctx_len : ℕ) (plan : Pla
   fallen : (k place : ℕ) (i : Insn) (new : AbsState) → slice_get code k ≡ Some i → StartsAt code k place → Covers plan (suc k) new → StartsAt code (suc k) (place + slot_count i)
   fallen k place i new there at v = starts-next 0 code k place i there at (kept.inside (suc k) v.0 v.1)
 
-  jumped : (k place target t : ℕ) (i : Insn) (by : ℤ) → StartsAt code k place → distance i ≡ Some by → pos target ≡ pos (place + 1) +ℤ by → LeadsTo code k i t → StartsAt code t target
-  jumped k place target t i by at far sum l =
+  -- the target of a jump is as far as its distance says
+  jump-sum : (k place t : ℕ) (i : Insn) (by : ℤ) → StartsAt code k place → distance i ≡ Some by → (l : LeadsTo code k i t) → pos l.to ≡ pos (place + 1) +ℤ by
+  jump-sum k place t i by at far l =
       let e : place ≡ l.from = both _ place l.from at l.from_is in
       let d : by ≡ l.by = same_Some by l.by (sym far ∙ l.by_is) in
-      let f : pos l.to ≡ pos target = l.sum ∙ (ap (λ p. pos (p + 1) +ℤ l.by) (sym e) ∙ (ap (λ d. pos (place + 1) +ℤ d) (sym d) ∙ sym sum)) in
+      l.sum ∙ (ap (λ p. pos (p + 1) +ℤ l.by) (sym e) ∙ ap (λ d. pos (place + 1) +ℤ d) (sym d))
+
+  jumped : (k place target t : ℕ) (i : Insn) (by : ℤ) → StartsAt code k place → distance i ≡ Some by → pos target ≡ pos (place + 1) +ℤ by → LeadsTo code k i t → StartsAt code t target
+  jumped k place target t i by at far sum l =
+      let f : pos l.to ≡ pos target = jump-sum k place t i by at far l ∙ sym sum in
       let g : l.to ≡ target = omega (arith, ints) in
       subst (StartsAt code t) g l.to_is
+
+  -- where a covered instruction jumps, its target is not before slot 0
+  has-target : (k place : ℕ) (a : AbsState) (v : IsCovered code shapes ctx_len plan k a) → StartsAt code k place → HasTarget v.insn place
+  has-target k place a v at by far = let t = v.jumps_on by far in (t.1.to, jump-sum k place t.0 v.insn by at far t.1)
 
   led : (k place : ℕ) (a : AbsState) (v : IsCovered code shapes ctx_len plan k a) (es : List Element) (run : Run) → StartsAt code k place → Leads v.insn v.new v.taken place es run → run.exit ≡ None → IsPlannedAfter code plan k (scene_of es run) run.state
   led k place a v es run at l going = elim (l going) [
@@ -130,7 +139,7 @@ module _ (code : List Insn) (shapes : List MapShape) (ctx_len : ℕ) (plan : Pla
   leads k i s opened run answer new_store new_run w p at h =
       let v = kept.each k p.known p.planned in
       let same : i ≡ v.insn = same_Some i v.insn (sym at ∙ start-insn code k run.state.place v.insn v.there p.at) in
-      let x = v.transfers.leads s opened run answer new_store new_run w p.describes (subst (λ j. InsnStep j s opened run answer new_store new_run) same h) in
+      let x = v.transfers.leads s opened run answer new_store new_run w (has-target k run.state.place p.known v p.at) p.describes (subst (λ j. InsnStep j s opened run answer new_store new_run) same h) in
       (x.0, λ going. led k run.state.place p.known v new_store.elements new_run p.at x.1 going)
 
   pub kept_is_closed : IsClosed code shapes ctx_len plan
@@ -138,6 +147,6 @@ module _ (code : List Insn) (shapes : List MapShape) (ctx_len : ℕ) (plan : Pla
     start = λ c out. planned-at code plan 0 entry_state c entry (start-entry code (kept.inside 0 kept.start.0 kept.start.1)) kept.start (entry_described c out);
     goes = λ k s opened run w p.
         let v = kept.each k p.known p.planned in
-        (v.insn, start-insn code k run.state.place v.insn v.there p.at, v.transfers.goes s opened run w p.describes);
+        (v.insn, start-insn code k run.state.place v.insn v.there p.at, v.transfers.goes s opened run w (has-target k run.state.place p.known v p.at) p.describes);
     leads = leads;
   }

@@ -159,7 +159,7 @@ module _ (dst src : ℕ) (offset o : ℤ) (at : ℕ) (shapes : List MapShape) (c
       (inl (refl, refl, spilled-described a (scene_of s.elements run) run.state at (run.state.place + 1) kind (run.state.regs src) (aligned (o +ℤ offset) at p) d v (d.near.regs_near src)))
 
   pub spill_transfers : a.regs dst ≡ FrameAt o → region_offset FRAME_BYTES 8 (o +ℤ offset) ≡ Some at → a.regs src ≡ kind → IsWritten kind → Transfers (Store Eight dst offset (Register src)) shapes ctx_len a (with_cells at 8 (PartCell kind) a) None
-  spill_transfers e p f w = acts-transfers (Store Eight dst offset (Register src)) shapes ctx_len a (with_cells at 8 (PartCell kind) a) None (λ s opened run answer ns nr. (λ h. h, λ h. h)) (λ s opened run x d. spill-acts e p f w s run x.bytes d)
+  spill_transfers e p f w = acts-transfers (Store Eight dst offset (Register src)) shapes ctx_len a (with_cells at 8 (PartCell kind) a) None (λ s opened run answer ns nr. (λ h. h, λ h. h)) (λ s opened run x t d. spill-acts e p f w s run x.bytes d)
 
 -- eight parts are read back
 same-int : (o : ℤ) → int_eq o o ≡ true
@@ -251,4 +251,4 @@ module _ (dst src : ℕ) (offset o : ℤ) (at : ℕ) (shapes : List MapShape) (c
       (inl (refl, refl, set-described a c m dst (m.place + 1) kind v d of_kind (part-near 0 v (subst IsNearCell (part 0 (omega arith)).0 (d.near.cells_near (at + 0))))))
 
   pub fill_transfers : a.regs src ≡ FrameAt o → region_offset FRAME_BYTES 8 (o +ℤ offset) ≡ Some at → ((j : ℕ) → j < 8 → a.cells (at + j) ≡ PartCell kind) → IsPointer kind → (10 ≡ dst → ⊥) → Transfers (Load Eight dst src offset) shapes ctx_len a (with_kind dst kind a) None
-  fill_transfers e p cells w ne = acts-transfers (Load Eight dst src offset) shapes ctx_len a (with_kind dst kind a) None (λ s opened run answer ns nr. (λ h. h, λ h. h)) (λ s opened run x d. fill-acts e p cells w ne s run x.bytes d)
+  fill_transfers e p cells w ne = acts-transfers (Load Eight dst src offset) shapes ctx_len a (with_kind dst kind a) None (λ s opened run answer ns nr. (λ h. h, λ h. h)) (λ s opened run x t d. fill-acts e p cells w ne s run x.bytes d)

@@ -86,8 +86,8 @@ module _ (imm : ℤ) (shapes : List MapShape) (ctx_len : ℕ) (a : AbsState) (ma
 
   pub delete_transfers : helper_of imm ≡ Some helpers.Delete → Transfers (Call kinds.Helper imm) shapes ctx_len a (after_call (Num t) a) None
   delete_transfers f = record {
-    goes = λ s opened run w d. delete-goes f s opened run w d;
-    leads = λ s opened run answer new_store new_run w d h.
+    goes = λ s opened run w target d. delete-goes f s opened run w d;
+    leads = λ s opened run answer new_store new_run w target d h.
         let k : DeleteStep s opened run h.0 new_store = subst (λ g. HelperStep g s opened run h.0 new_store) f h.1 in
         (bytes-deletes s opened k.map k.key k.outcome new_store w.bytes k.deleted, call-leads imm t a s new_store opened run new_run answer h.0 k.outcome shapes ctx_len all w d h k.ret_is h.3);
   }
@@ -112,8 +112,8 @@ module _ (imm : ℤ) (shapes : List MapShape) (ctx_len : ℕ) (a : AbsState) (ma
 
     pub update_transfers : helper_of imm ≡ Some helpers.Update → Transfers (Call kinds.Helper imm) shapes ctx_len a (after_call (Num t) a) None
     update_transfers f = record {
-      goes = λ s opened run w d. update-goes f s opened run w d;
-      leads = λ s opened run answer new_store new_run w d h.
+      goes = λ s opened run w target d. update-goes f s opened run w d;
+      leads = λ s opened run answer new_store new_run w target d h.
           let k : UpdateStep s opened run h.0 new_store = subst (λ g. HelperStep g s opened run h.0 new_store) f h.1 in
           (bytes-updates s opened k.map k.key k.value k.flags k.outcome new_store w.bytes (value-bytes s opened run h.0 new_store w d k) k.updated, call-leads imm t a s new_store opened run new_run answer h.0 k.outcome shapes ctx_len all w d h k.ret_is h.3);
     }

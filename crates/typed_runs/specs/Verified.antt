@@ -1,13 +1,13 @@
 -- What the verifier promises of an instruction and of a program, whatever other runs do.
 use Rattle.std.specs.Prelude.{◌≡◌, ℕ, ◌+◌, ◌<◌, List, length, Option, Some, None, slice_get, Bool}
-use Rattle.std.specs.Prelude.{true, false, ◌⊎◌, unwrap_or}
+use Rattle.std.specs.Prelude.{true, false, ◌⊎◌, unwrap_or, ℤ, pos, ◌+ℤ◌}
 use Rattle.bpf_model.specs.declared.insn.Insn.{Insn}
 use Rattle.bpf_model.specs.declared.insn.Insn.TheVariants.{Call}
 use Rattle.bpf_model.specs.declared.limits.MapShape.{MapShape}
 use Rattle.bpf_model.specs.declared.event.Answer.{Answer}
 use Rattle.bpf_model.specs.Spelling.{slot_count}
 use Rattle.bpf_model.specs.Places.{StartsAt}
-use Rattle.bpf_model.specs.Graph.{falls, JumpsTo}
+use Rattle.bpf_model.specs.Graph.{falls, distance, JumpsTo}
 use Rattle.bpf_model.specs.Step.{State, Environment, Outcome, Moves, Exits, after, entry, insn_at}
 use Rattle.bpf_model.specs.Consistent.{HasLengths, IsSingle}
 use Rattle.bpf_model.specs.Section.{Section, Has}
@@ -45,6 +45,11 @@ abbrev pub HasStep : Insn → Store → List Section → Run → Type 0
 HasStep i s opened run = (answer : Answer) × (new_store : Store) × (new_run : Run)
     × InsnStep i s opened run answer new_store new_run
 
+-- where the instruction jumps, its target is not before slot 0
+abbrev pub HasTarget : Insn → ℕ → Type 0
+HasTarget i place = (d : ℤ) → distance i ≡ Some d →
+    (target : ℕ) × (pos target ≡ pos (place + 1) +ℤ d)
+
 -- An exit is outside every section. Else the run is described where control falls through, or where
 -- it jumps: by the state beside it, where there is one.
 abbrev pub LandsDescribed : Insn → AbsState → Option AbsState → Scene → ℕ → Outcome → Type 0
@@ -58,15 +63,17 @@ abbrev pub Leads : Insn → AbsState → Option AbsState → ℕ → List Elemen
 Leads i new taken place es run =
     run.exit ≡ None → LandsDescribed i new taken (scene_of es run) place (Moves run.state)
 
--- What `transfer` (crate `state_steps`) ensures: from each described state the instruction isn't
--- stuck, each of its steps leads to a described one, and bytes stay bytes.
+-- What `transfer` (crate `state_steps`) ensures: from each described state, where a jump has its
+-- target, the instruction isn't stuck, each of its steps leads to a described one, and bytes stay
+-- bytes.
 pub record Transfers (i : Insn) (shapes : List MapShape) (ctx_len : ℕ) (old new : AbsState)
     (taken : Option AbsState) : Type 0 where
   pub goes : (s : Store) (opened : List Section) (run : Run) → Surrounds shapes ctx_len s opened run
-      → Describes old (scene_of s.elements run) run.state → HasStep i s opened run
+      → HasTarget i run.state.place → Describes old (scene_of s.elements run) run.state
+      → HasStep i s opened run
   pub leads : (s : Store) (opened : List Section) (run : Run) (answer : Answer)
       (new_store : Store) (new_run : Run) → Surrounds shapes ctx_len s opened run
-      → Describes old (scene_of s.elements run) run.state →
+      → HasTarget i run.state.place → Describes old (scene_of s.elements run) run.state →
       InsnStep i s opened run answer new_store new_run → AllBytes new_store.elements
       × Leads i new taken run.state.place new_store.elements new_run
 
@@ -132,4 +139,5 @@ pub record ActsAlone (i : Insn) (new : AbsState) (taken : Option AbsState) (c : 
 abbrev pub TransfersAlone : Insn → List MapShape → ℕ → AbsState → AbsState → Option AbsState →
     Type 0
 TransfersAlone i shapes ctx_len old new taken = (c : Scene) (env : Environment) (m : State)
-    → IsEnvironment ctx_len (length shapes) env → Describes old c m → ActsAlone i new taken c env m
+    → IsEnvironment ctx_len (length shapes) env → HasTarget i m.place → Describes old c m
+    → ActsAlone i new taken c env m

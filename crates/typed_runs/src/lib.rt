@@ -133,19 +133,21 @@ pub fn update_transfers()
 
 /// A test for null that jumps where the register is null transfers: either way tells what the register is.
 pub fn equal_transfers()
-    ensures { (shapes : List MapShape) (ctx_len dst n map id : ℕ) (a : AbsState) (z origin : Scalar)
+    ensures { (shapes : List MapShape) (ctx_len dst : ℕ) (offset : ℤ) (map id : ℕ) (a : AbsState)
+        (z origin : Scalar)
         → Holds z 0 → HasOffset origin (pos 0) → a.regs dst ≡ MaybeNull map id
         → Transfers
-        (Insn.JumpIf Condition.Equal Size.Word64 dst (Operand.Immediate (pos 0)) (pos n))
+        (Insn.JumpIf Condition.Equal Size.Word64 dst (Operand.Immediate (pos 0)) offset)
         shapes ctx_len a (when_there id origin a) (Some (when_null id z a)) }
 {}
 
 /// A test for null that jumps where the register isn't null transfers: either way tells what the register is.
 pub fn not_equal_transfers()
-    ensures { (shapes : List MapShape) (ctx_len dst n map id : ℕ) (a : AbsState) (z origin : Scalar)
+    ensures { (shapes : List MapShape) (ctx_len dst : ℕ) (offset : ℤ) (map id : ℕ) (a : AbsState)
+        (z origin : Scalar)
         → Holds z 0 → HasOffset origin (pos 0) → a.regs dst ≡ MaybeNull map id
         → Transfers
-        (Insn.JumpIf Condition.NotEqual Size.Word64 dst (Operand.Immediate (pos 0)) (pos n))
+        (Insn.JumpIf Condition.NotEqual Size.Word64 dst (Operand.Immediate (pos 0)) offset)
         shapes ctx_len a (when_null id z a) (Some (when_there id origin a)) }
 {}
 

@@ -1,8 +1,7 @@
 -- The second pass keeps a plan that each step keeps.
-use Rattle.std.proofs.Common.{◌≡◌, ◌≢◌, ℕ, zero, suc, ◌+◌, ◌-◌, ◌<◌, ◌≤◌, refl, sym, ◌∙◌, ap, subst, arith, inl, inr, true, false, cond, List, [], ◌∷◌, ◌++◌, length}
-use Rattle.std.specs.Prelude.{slice_get, Option, Some, None, ltb, unwrap_or, option_map, IsSome, ℤ, pos, ◌+ℤ◌, ◌⊎◌}
+use Rattle.std.proofs.Common.{◌≡◌, ◌≢◌, ℕ, zero, suc, ◌+◌, ◌<◌, ◌≤◌, refl, sym, ◌∙◌, ap, subst, arith, inl, inr, true, false, cond, List, [], ◌∷◌, ◌++◌, length}
+use Rattle.std.specs.Prelude.{slice_get, Option, Some, None, ltb, unwrap_or, option_map, IsSome, ℤ, ◌⊎◌}
 use Rattle.std.proofs.lemmas.Bool.{cases_lt, cases_eq, le-ltb, lt-ltb}
-use Rattle.std.proofs.lemmas.Int.{ints}
 use Rattle.std.proofs.lemmas.List.{get_or_past}
 use Rattle.std.proofs.lemmas.List.Sums.{sum_by-cons}
 use Rattle.std.proofs.lemmas.Option.{slice_get_within, same_Some}
@@ -11,7 +10,7 @@ use Rattle.bpf_model.specs.declared.insn.Insn.TheVariants.{Exit}
 use Rattle.bpf_model.specs.declared.limits.MapShape.{MapShape}
 use Rattle.bpf_model.specs.Graph.{falls, distance, EndsWithExit}
 use Rattle.bpf_model.specs.Spelling.{slot_count, slot_total}
-use Rattle.bpf_model.specs.Places.{slot_count_some, starts_apart, starts_increase, start_of-insn, LeadsTo, StartsAt, start-insn, start-entry}
+use Rattle.bpf_model.specs.Places.{slot_count_some, starts_apart, start_of-insn, LeadsTo, StartsAt, start-insn, start-entry}
 use Rattle.program_graph.specs.GraphFlaws.{HasGoodGraph}
 use Rattle.program_graph.specs.FirstPass.{Follows}
 use Rattle.program_graph.specs.Indexes.{HasTargets, IsTarget}
@@ -25,7 +24,6 @@ use Rattle.typed_runs.proofs.Planning.{alike_wider}
 use Rattle.register_kinds.specs.declared.state.AbsState.{AbsState}
 use Rattle.register_kinds.specs.States.{state_of}
 use Rattle.memory_effects.specs.declared.region.Region.{Region}
-use Rattle.state_steps.specs.Steps.{IsForward}
 use Rattle.verifier.specs.declared.waiting.Waiting.{Waiting}
 use Rattle.verifier.specs.declared.waiting.Waiting.TheVariants.{Nothing, Differing}
 use Rattle.verifier.specs.SecondPass.{Awaited, Table, size_of, awaited, state_in, planned, Fell, Jumped, Spreads, Advances, Notes, Passed, IsPassed, DiffersAhead, Awaits, StartsFrom}
@@ -138,19 +136,6 @@ module _ (program : List Insn) (targets : List (Option ℕ)) (all : HasTargets p
           absurd (let g : None ≡ Some d = sym none ∙ e in cc)
       go (Some t) f = (t, f)
 
-  -- the jump of the instruction leads ahead
-  forward : IsForward done.insn
-  forward d e =
-      let t = has_target d e in
-      let l = leads_to t.0 t.1 in
-      let before : l.from < l.to = starts_increase 0 program k t.0 l.from l.to l.from_is l.to_is l.further in
-      let by : l.by ≡ d = same_Some _ _ (sym l.by_is ∙ e) in
-      let sum : pos l.to ≡ pos (l.from + 1) +ℤ d = l.sum ∙ ap (λ d. pos (l.from + 1) +ℤ d) by in
-      (l.to - (l.from + 1), ahead l.from l.to d before sum)
-    where
-      ahead : (p q : ℕ) (d : ℤ) → p < q → pos q ≡ pos (p + 1) +ℤ d → d ≡ pos (q - (p + 1))
-      ahead p q d h e = omega (arith, ints)
-
   jumping_state : (t : ℕ) → done.target ≡ Some t → spread.jumping ≡ Some (unwrap_or spread.taken spread.next)
   jumping_state t e = jumping_is spread.next done.insn k spread.taken spread.jumping done.rest spread.mid spread.fell (λ f. spread.transfer.branches (f, has_distance t e))
 
@@ -261,7 +246,7 @@ module _ (program : List Insn) (targets : List (Option ℕ)) (all : HasTargets p
       there = done.insn_is;
       new = state_of spread.next;
       taken = option_map state_of spread.taken;
-      transfers = spread.transfer.sound forward;
+      transfers = spread.transfer.sound;
       falls_on = λ f. covers_waiting (suc k) spread.next (omega arith) (steps.falls_on f);
       jumps_on = jumps_here;
     }

@@ -1,10 +1,9 @@
-use Rattle.std.proofs.Common.{rules, refl, sym, subst, ℤ, pos, Some, inl, inr}
+use Rattle.std.proofs.Common.{rules, refl, pos, inl, inr}
 use Rattle.bpf_model.specs.declared.limits.TheConstants.{FRAME_BYTES}
 use Rattle.state_steps.proofs.Serving.{branch_serves, branch_ready}
 use Rattle.state_steps.proofs.Keeping.{narrow_keeps, operand_number}
 use Rattle.std.proofs.lemmas.Option.{none-some}
 use Rattle.bpf_model.specs.declared.insn.Insn.TheVariants.{JumpIf}
-use Rattle.typed_runs.specs.Verified.{Transfers}
 use Rattle.register_kinds.specs.States.{state_of}
 use Rattle.state_steps.proofs.control.branch_step.Goals as goal
 
@@ -16,9 +15,7 @@ returns c = λ offset shapes ctx_len top below.
     let t = c.in_ok-taken.ensures in record {
       done = record {
         transfer = record {
-          sound = λ forward.
-              let p = forward offset refl in
-              subst (λ (z : ℤ). Transfers (JumpIf c.args.condition c.args.size c.args.dst c.args.src.now z) shapes ctx_len a b (Some (state_of c.in_ok-taken.taken.value))) (sym p.1) (t.sound shapes ctx_len p.0);
+          sound = t.sound shapes ctx_len offset;
           branches = λ x. refl;
           reaches = λ r scene m x d. absurd (none-some r x);
           compares = t.compares offset;

@@ -27,6 +27,6 @@ returns-clause-stepped c = λ ctx_len.
     let finds = simp to_z-of_z at c.in_ok-call.ensures.finds in
     let called = simp to_z-of_z at c.in_ok-call.ensures.called in
     quiet_step (Call c.args.kind c.args.imm) c.args.shape.now.shapes.now ctx_len c.call.new.ids.next c.args.state.now c.call.new.state c.single.result c.single.ensures (record { no_base = refl; no_test = λ r x. x; no_branch = λ x. x.1 refl })
-    (λ forward. sound ctx_len) c.call.ensures.below (λ ready. absurd ready.simple)
+    (sound ctx_len) c.call.ensures.below (λ ready. absurd ready.simple)
     (call_serves c.args.kind c.args.imm c.args.shape.now.shapes.now c.args.state.now c.call.new.state (record { finds = finds; called = called }))
     tt

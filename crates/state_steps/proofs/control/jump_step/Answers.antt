@@ -1,7 +1,6 @@
-use Rattle.std.proofs.Common.{refl, sym, subst, ℤ}
+use Rattle.std.proofs.Common.{refl}
 use Rattle.bpf_model.specs.declared.insn.Insn.TheVariants.{Jump}
 use Rattle.std.specs.Prelude.{None}
-use Rattle.typed_runs.specs.Verified.{Transfers}
 use Rattle.register_kinds.specs.States.{state_of}
 use Rattle.state_steps.proofs.Keeping.{same_keeps}
 use Rattle.state_steps.proofs.Serving.{serves_none}
@@ -11,6 +10,6 @@ use Rattle.state_steps.proofs.control.jump_step.Goals as goal
 pub returns : goal.returns
 returns c = λ offset shapes ctx_len top a below.
     quiet_step (Jump offset) shapes ctx_len top a a c.single.result c.single.ensures (record { no_base = refl; no_test = λ r x. x; no_branch = λ x. cc })
-    (λ forward. let p = forward offset refl in subst (λ (z : ℤ). Transfers (Jump z) shapes ctx_len (state_of a) (state_of a) None) (sym p.1) (c.jump_transfers.ensures p.0 shapes ctx_len (state_of a))) below (λ ready. same_keeps (Jump offset) (state_of a) (λ r x. x) (λ k x. x))
+    (c.jump_transfers.ensures offset shapes ctx_len (state_of a)) below (λ ready. same_keeps (Jump offset) (state_of a) (λ r x. x) (λ k x. x))
     (serves_none shapes (Jump offset) refl (state_of a) (state_of a) None)
     tt
