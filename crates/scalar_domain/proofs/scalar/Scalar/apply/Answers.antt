@@ -43,7 +43,7 @@ returns-in-Some-Some-clause-floor c =
         shift_right = λ k o i l. grind (arith, common_steps);
         remainder = λ k o i p. grind (arith, common_steps);
         move = λ o.
-            let e : c.alu.result ≡ v = c.alu.ensures ∙ ap2 (λ z op. alu z op u v) s o in
+            let e : c.alu.result ≡ v = c.alu.ensures ∙ ap₂ (λ z op. alu z op u v) s o in
             move_of_constants c.args.b c.constant.result v c.in-Some-Some.ensures'
             (subst (IsConstant c.constant.result) e c.constant.ensures.exact) (c.constant.ensures.zeros ∙ e) (c.constant.ensures.ones ∙ e);
       };
