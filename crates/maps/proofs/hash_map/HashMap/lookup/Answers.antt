@@ -1,8 +1,9 @@
-use Rattle.std.proofs.Common.{◌≡◌, ◌∙◌, ℕ, ◌<◌, List, Option, Some, None, length, ap, sym, arith, ◌+◌}
+use Rattle.std.proofs.Common.{◌≡◌, ◌∙◌, ℕ, ◌<◌, List, Option, Some, None, length, ap, sym, subst, arith, ◌+◌}
 use Rattle.std.specs.Prelude.{IfSome}
 use Rattle.std.specs.FinMap.{get}
 use Rattle.bpf_model.specs.declared.limits.TheConstants.{MAX_ENTRIES, MAX_SPARE}
 use Rattle.bpf_model.specs.declared.limits.MapShape.{MapShape}
+use Rattle.bpf_model.specs.View.{MapView}
 use Rattle.element_arena.specs.State.{IsTaken}
 use Rattle.maps.specs.Parted.{PartsView, IsParted}
 use Rattle.maps.specs.Shown.{IsMap}
@@ -25,4 +26,5 @@ found-long shape p n key None m e = tt
 found-long shape p n key (Some i) m e = m.keys key i (sym e)
 
 pub returns-clause-long : goal.returns-clause-long
-returns-clause-long g c = found-long c.self.inside.shape c.self.inside.parts c.self.inside.counts.linked c.args.key.now c.find.result c.self.invariant.kept c.find.ensures.found
+returns-clause-long g c = subst (λ (v : MapView). IfSome c.find.result (λ i. length c.args.key.now ≡ v.shape.key_len)) c.self.view_is
+    (found-long c.self.inside.shape c.self.inside.parts c.self.inside.counts.linked c.args.key.now c.find.result c.self.invariant.kept c.find.ensures.found)
