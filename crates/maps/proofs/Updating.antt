@@ -110,7 +110,7 @@ module _ (p p1 p2 : PartsView) (i : ℕ) (key value : List ℕ) (found : Option 
         values = set-values p.arena.slots i (record { key = key; value = value; uses = uses_at p.arena.slots i + 1 }) shape.value_len (omega arith) a.values;
       }
 
-  long-put : (shape : MapShape) → AreKeysLong p.index shape.key_len → length key ≡ shape.key_len → (found : Option ℕ) → AreKeysLong (insert (without_key p key found).index key i) shape.key_len
+  long-put : (shape : MapShape) → AreKeysLong p.index shape.key_len → length key ≡ shape.key_len → (found : Option ℕ) → AreKeysLong (insert (without_key (with_taken p i p1.arena.free key value) key found).index key i) shape.key_len
   long-put shape h hk None = long-inserted p.index key i shape.key_len hk h
   long-put shape h hk (Some j) = long-inserted (remove p.index key) key i shape.key_len hk (long-removed p.index key shape.key_len h)
 

@@ -7,6 +7,6 @@ returns-clause-sound c = delete_sound c.args.state.now c.leave_call.new.self c.a
 pub returns-clause-signature : goal.returns-clause-signature
 returns-clause-signature c = record {
   shape = c.in_ok-shape.shape;
-  arguments = ((c.in_ok-shape.field-0-0, (c.in_ok-shape.ensures.map.map_is, c.in_ok-shape.ensures.map.shape_is)), (c.in_ok-check_bytes_argument.ensures.bytes, tt));
+  arguments = ((c.in_ok-shape.field-0-0, c.in_ok-shape.ensures.map.map_is, c.in_ok-shape.ensures.map.shape_is), (c.in_ok-check_bytes_argument.ensures.bytes, tt));
   result = (c.unknown.result, c.leave_call.ensures.alike.regs 0);
 }

@@ -7,6 +7,6 @@ returns-clause-sound c = lookup_sound c.args.state.now c.leave_call.new.self c.a
 pub returns-clause-signature : goal.returns-clause-signature
 returns-clause-signature c = record {
   shape = c.in_ok-map.shape;
-  arguments = ((c.in_ok-map.map, (c.in_ok-map.ensures.map.map_is, c.in_ok-map.ensures.map.shape_is)), (c.in_ok-check_bytes_argument.ensures.bytes, tt));
-  result = (c.in_ok-map.map, (c.args.ids.now.next, c.leave_call.ensures.alike.regs 0));
+  arguments = ((c.in_ok-map.map, c.in_ok-map.ensures.map.map_is, c.in_ok-map.ensures.map.shape_is), (c.in_ok-check_bytes_argument.ensures.bytes, tt));
+  result = (c.in_ok-map.map, c.args.ids.now.next, c.leave_call.ensures.alike.regs 0);
 }

@@ -9,7 +9,7 @@ returns-clause-sound c = update_sound c.args.state.now c.leave_call.new.self c.a
 pub returns-clause-signature : goal.returns-clause-signature
 returns-clause-signature c = record {
   shape = c.in_ok-shape.shape;
-  arguments = ((c.in_ok-shape.field-0-0, (c.in_ok-shape.ensures.map.map_is, c.in_ok-shape.ensures.map.shape_is)),
+  arguments = ((c.in_ok-shape.field-0-0, c.in_ok-shape.ensures.map.map_is, c.in_ok-shape.ensures.map.shape_is),
       (c.in_ok-check_bytes_argument.ensures.bytes, (c.in_ok-check_bytes_argument-2.ensures.bytes, ((c.in_ok-_flags._flags, ap kind_of c.in_ok-_flags.ensures.value), tt))));
   result = (c.unknown.result, c.leave_call.ensures.alike.regs 0);
 }
