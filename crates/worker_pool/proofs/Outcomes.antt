@@ -49,11 +49,11 @@ module _ (programs : List Checked) (code : List Insn) (only : map code_of progra
 
   told_exit : (len run value : ℕ) (reply : Result Answer SharedFault) (outcome : Outcome) → IsZeroExit code len value → TellsExit run value reply outcome → IsOutcomeOf code len outcome
   told_exit len run value reply outcome v (inl (done, is)) = subst (IsOutcomeOf code len) (sym is) v
-  told_exit len run value reply outcome v (inr (cause, why, is)) = subst (IsOutcomeOf code len) (sym is) (record {})
+  told_exit len run value reply outcome v (inr stops) = subst (IsOutcomeOf code len) (sym stops.told) (record {})
 
   fits_outcome : (len : ℕ) (job : Job) (outcome : Outcome) (trail : Trail) → IsZeroJob len job → FitsJob programs job outcome trail → IsOutcomeOf code len outcome
-  fits_outcome len job outcome (trails.Unstarted start) z h = subst (IsOutcomeOf code len) (sym h.told) (record {})
-  fits_outcome len job outcome (trails.Halted start step) z (run, started, stops) = subst (IsOutcomeOf code len) (sym stops.told) (record {})
+  fits_outcome len job outcome (trails.Unstarted start) z h = subst (IsOutcomeOf code len) (sym h.stops.told) (record {})
+  fits_outcome len job outcome (trails.Halted start step) z (run, started, halts) = subst (IsOutcomeOf code len) (sym halts.stops.told) (record {})
   fits_outcome len job outcome (trails.OtherRun start step note) z (run, started, exits, asks, strange) = subst (IsOutcomeOf code len) (sym strange.told) (record {})
   fits_outcome len job outcome (trails.Ended start step note dropped) z (run, started, exits, asks, x) =
       told_exit len run x.value dropped.reply outcome (zero_exit len job x.value z x.may x.alone) x.told

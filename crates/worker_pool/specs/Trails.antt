@@ -46,12 +46,17 @@ IsOfWorker first last (trails.OtherRun start step note) =
 IsOfWorker first last (trails.Ended start step note dropped) =
     IsByWorker first last start × IsByWorker first last step × IsByWorker first last dropped
 
+-- The reply is no answer to the job's event, and the outcome tells why, with the run, if there is one.
+pub record StopsBy (reply : Result Answer SharedFault) (run : Option ℕ) (outcome : Outcome)
+    : Type 0 where
+  pub cause : StopCause
+  pub why : stop_of reply ≡ Some cause
+  pub told : outcome ≡ Stopped run cause
+
 -- The start of the job's program on its context was answered with no run: the outcome tells why.
 pub record StopsAtStart (job : Job) (start : ReceiptView) (outcome : Outcome) : Type 0 where
   pub event : start.event ≡ events.Start job.prog job.ctx
-  pub cause : StopCause
-  pub why : stop_of start.reply ≡ Some cause
-  pub told : outcome ≡ Stopped None cause
+  pub stops : StopsBy start.reply None outcome
 
 -- The start of the job's program on its context was answered with this run.
 pub record WasStarted (job : Job) (run : ℕ) (start : ReceiptView) : Type 0 where
@@ -61,9 +66,7 @@ pub record WasStarted (job : Job) (run : ℕ) (start : ReceiptView) : Type 0 whe
 -- A step of the run was refused, or not applied: the outcome tells why.
 pub record StopsAtStep (run : ℕ) (step : ReceiptView) (outcome : Outcome) : Type 0 where
   pub event : step.event ≡ events.Step run
-  pub cause : StopCause
-  pub why : stop_of step.reply ≡ Some cause
-  pub told : outcome ≡ Stopped (Some run) cause
+  pub stops : StopsBy step.reply (Some run) outcome
 
 pub record HasExitReply (reply : Result Answer SharedFault) : Type 0 where
   pub value : ℕ
@@ -92,7 +95,7 @@ pub record IsOtherRun (run : ℕ) (note : NoteView) (outcome : Outcome) : Type 0
 abbrev pub TellsExit : ℕ → ℕ → Result Answer SharedFault → Outcome → Type 0
 TellsExit run value reply outcome =
     ((reply ≡ Ok answers.Done) × (outcome ≡ Exit value))
-    ⊎ ((cause : StopCause) × (stop_of reply ≡ Some cause) × (outcome ≡ Stopped (Some run) cause))
+    ⊎ StopsBy reply (Some run) outcome
 
 -- The note has the exit value of a run of the job's program and context: one of the program's
 -- definition, and without map references the only one. The run was dropped, and the outcome tells
