@@ -13,7 +13,7 @@ use Rattle.bpf_model.specs.Access.{byte_count, unsigned_width}
 use Rattle.bpf_model.specs.Arithmetic.{loaded_signed}
 use Rattle.bpf_model.specs.Element.{Element}
 use Rattle.bpf_model.specs.Step.{Environment, Outcome, Moves, Exits, after, load_from, sets}
-use Rattle.bpf_model.specs.MachineStep.{element_load}
+use Rattle.bpf_model.specs.MachineStep.{element_load, AccessesElement}
 use Rattle.plain_interpreter.specs.declared.plain_run.PlainRun.{PlainRun}
 use Rattle.plain_interpreter.specs.declared.plain_run.Progress.{Progress}
 use Rattle.plain_interpreter.specs.declared.plain_run.Progress.TheVariants as progress
@@ -43,54 +43,47 @@ element-is (Pointer (Elem k p)) n o h =
     let f : pair k p ≡ pair n o = cc in
     ap (λ q. Pointer (Elem q.0 q.1)) f
 
+-- a load from an element, whose number comes to the register as it is, or with its sign extended
+module _ (i : Insn) (extended : ℕ → ℕ) (loads : Option ℕ) (dst : ℕ) (env : Environment) (es : List Element) (old new : PlainRun)
+    (waits : after i env (plain_state_of old) ≡ None)
+    (from : (k : ℕ) (out : Outcome) → loads ≡ Some k → sets 1 dst (Number (extended k)) (plain_state_of old) ≡ Some out → AccessesElement i es (plain_state_of old) out es)
+    (into : (out : Outcome) (more : List Element) → AccessesElement i es (plain_state_of old) out more → (k : ℕ) × (loads ≡ Some k) × (sets 1 dst (Number (extended k)) (plain_state_of old) ≡ Some out)) where
+  found : (q : Option ℕ) (out : Outcome) → (q >>= λ k. sets 1 dst (Number (extended k)) (plain_state_of old)) ≡ Some out → (k : ℕ) × (q ≡ Some k) × (sets 1 dst (Number (extended k)) (plain_state_of old) ≡ Some out)
+  found None out e = absurd cc
+  found (Some k) out e = (k, refl, e)
+
+  load-acts : (p : Progress) → Comes (loads >>= λ k. sets 1 dst (Number (extended k)) (plain_state_of old)) p old new → ActsAs i env es old p es new
+  load-acts progress.Moved c =
+      let f = found loads (Moves (plain_state_of new)) c in
+      inr (from f.0 (Moves (plain_state_of new)) f.1 f.2)
+  load-acts (progress.Exited k) c =
+      let f = found loads (Exits k) c.0 in
+      (inr (from f.0 (Exits k) f.1 f.2), ap plain_state_of c.1)
+  load-acts progress.Stuck c = λ out more a. elim a [
+    | inl x ↦ let e : None ≡ Some out = sym waits ∙ x.0 in absurd cc
+    | inr x ↦
+        let y = into out more x in
+        let e : None ≡ Some out = sym c.0 ∙ ap (λ q. q >>= λ k. sets 1 dst (Number (extended k)) (plain_state_of old)) y.1 ∙ y.2 in absurd cc
+  ]
+  load-acts progress.OutOfRange c = tt
+
 pub loaded-acts : (width : Width) (dst src : ℕ) (offset : ℤ) (env : Environment) (es : List Element) (old new : PlainRun) (p : Progress) (n : ℕ) (o : ℤ) → element_in ((plain_state_of old).regs src) ≡ Some (n, o) →
     Comes (load_outcome es (byte_count width) offset (Pointer (Elem n o)) dst (plain_state_of old)) p old new → ActsAs (Load width dst src offset) env es old p es new
 loaded-acts width dst src offset env es old new p n o b h =
     let base = element-is ((plain_state_of old).regs src) n o b in
-    by p (subst (λ v. Comes (load_outcome es (byte_count width) offset v dst (plain_state_of old)) p old new) (sym base) h) (ap (λ q. q >>= λ v. sets 1 dst v (plain_state_of old)) (ap (load_from env (plain_state_of old) (byte_count width) offset) base))
-  where
-    found : (q : Option ℕ) (out : Outcome) → (q >>= λ k. sets 1 dst (Number k) (plain_state_of old)) ≡ Some out → (k : ℕ) × (q ≡ Some k) × (sets 1 dst (Number k) (plain_state_of old) ≡ Some out)
-    found None out e = absurd cc
-    found (Some k) out e = (k, refl, e)
-
-    by : (p : Progress) → Comes (load_outcome es (byte_count width) offset ((plain_state_of old).regs src) dst (plain_state_of old)) p old new → after (Load width dst src offset) env (plain_state_of old) ≡ None → ActsAs (Load width dst src offset) env es old p es new
-    by progress.Moved c z =
-        let f = found (element_load es (byte_count width) offset ((plain_state_of old).regs src)) (Moves (plain_state_of new)) c in
-        inr (f.0, f.1, f.2, refl)
-    by (progress.Exited k) c z =
-        let f = found (element_load es (byte_count width) offset ((plain_state_of old).regs src)) (Exits k) c.0 in
-        (inr (f.0, f.1, f.2, refl), ap plain_state_of c.1)
-    by progress.Stuck c z = λ out more a. elim a [
-      | inl x ↦ let e : None ≡ Some out = sym z ∙ x.0 in absurd cc
-      | inr x ↦
-          let e : None ≡ Some out = sym c.0 ∙ ap (λ q. q >>= λ k. sets 1 dst (Number k) (plain_state_of old)) x.1 ∙ x.2 in absurd cc
-    ]
-    by progress.OutOfRange c z = tt
+    load-acts (Load width dst src offset) (λ k. k) (element_load es (byte_count width) offset ((plain_state_of old).regs src)) dst env es old new
+    (ap (λ q. q >>= λ v. sets 1 dst v (plain_state_of old)) (ap (load_from env (plain_state_of old) (byte_count width) offset) base))
+    (λ k out e f. (k, e, f, refl)) (λ out more x. (x.0, x.1, x.2)) p
+    (subst (λ v. Comes (load_outcome es (byte_count width) offset v dst (plain_state_of old)) p old new) (sym base) h)
 
 pub extended-acts : (width : SignedWidth) (dst src : ℕ) (offset : ℤ) (env : Environment) (es : List Element) (old new : PlainRun) (p : Progress) (n : ℕ) (o : ℤ) → element_in ((plain_state_of old).regs src) ≡ Some (n, o) →
     Comes (extended_outcome es width offset (Pointer (Elem n o)) dst (plain_state_of old)) p old new → ActsAs (LoadSigned width dst src offset) env es old p es new
 extended-acts width dst src offset env es old new p n o b h =
     let base = element-is ((plain_state_of old).regs src) n o b in
-    by p (subst (λ v. Comes (extended_outcome es width offset v dst (plain_state_of old)) p old new) (sym base) h)
+    load-acts (LoadSigned width dst src offset) (loaded_signed width) (element_load es (byte_count (unsigned_width width)) offset ((plain_state_of old).regs src)) dst env es old new
     (ap (λ q. q >>= λ v. number v >>= λ k. sets 1 dst (Number (loaded_signed width k)) (plain_state_of old)) (ap (load_from env (plain_state_of old) (byte_count (unsigned_width width)) offset) base))
-  where
-    found : (q : Option ℕ) (out : Outcome) → (q >>= λ k. sets 1 dst (Number (loaded_signed width k)) (plain_state_of old)) ≡ Some out → (k : ℕ) × (q ≡ Some k) × (sets 1 dst (Number (loaded_signed width k)) (plain_state_of old) ≡ Some out)
-    found None out e = absurd cc
-    found (Some k) out e = (k, refl, e)
-
-    by : (p : Progress) → Comes (extended_outcome es width offset ((plain_state_of old).regs src) dst (plain_state_of old)) p old new → after (LoadSigned width dst src offset) env (plain_state_of old) ≡ None → ActsAs (LoadSigned width dst src offset) env es old p es new
-    by progress.Moved c z =
-        let f = found (element_load es (byte_count (unsigned_width width)) offset ((plain_state_of old).regs src)) (Moves (plain_state_of new)) c in
-        inr (f.0, f.1, f.2, refl)
-    by (progress.Exited k) c z =
-        let f = found (element_load es (byte_count (unsigned_width width)) offset ((plain_state_of old).regs src)) (Exits k) c.0 in
-        (inr (f.0, f.1, f.2, refl), ap plain_state_of c.1)
-    by progress.Stuck c z = λ out more a. elim a [
-      | inl x ↦ let e : None ≡ Some out = sym z ∙ x.0 in absurd cc
-      | inr x ↦
-          let e : None ≡ Some out = sym c.0 ∙ ap (λ q. q >>= λ k. sets 1 dst (Number (loaded_signed width k)) (plain_state_of old)) x.1 ∙ x.2 in absurd cc
-    ]
-    by progress.OutOfRange c z = tt
+    (λ k out e f. (k, e, f, refl)) (λ out more x. (x.0, x.1, x.2)) p
+    (subst (λ v. Comes (extended_outcome es width offset v dst (plain_state_of old)) p old new) (sym base) h)
 
 -- a lock or an unlock is the step of its call
 pub kernel-steps : (imm : ℤ) (s : maps.Store) (opened : List Section) (run : Run) (answer : Result Answer Fault) (q : Run) → KernelsAs (kernel_function_of imm) run answer q → InsnStepsAs (Call kinds.Kernel imm) s opened run answer s q
