@@ -5,6 +5,7 @@ use Rattle.bpf_model.specs.declared.event.Event.{Event}
 use Rattle.script_lines.specs.Answers.{reply_text}
 use Rattle.script_lines.specs.declared.command.Command.{Command}
 use Rattle.script_lines.specs.declared.command.Command.TheVariants as commands
+use Rattle.script_lines.specs.declared.command.ShapeNumbers.{ShapeNumbers}
 use Rattle.script_lines.specs.declared.reply.Reply.{Reply}
 use Rattle.script_setup.specs.Loading.{MapReplies, LoadReplies, shape_of_numbers}
 use Rattle.script_setup.specs.Setups.{SetupView}
@@ -17,8 +18,8 @@ use Rattle.control.specs.declared.session.Session.TheVariants as sessions
 once : (before after : List ℕ) (reply : Reply) → after ≡ before ++ reply_text reply → after ≡ before ++ flat_map reply_text (reply ∷ [])
 once before after reply text = text ∙ ap (λ (xs : List ℕ). before ++ xs) (sym (append-nil (reply_text reply)))
 
-pub map_made : (old : SetupView) (command : Command) (name : List ℕ) (key_len value_len entries spare limit : ℕ) (reply : Reply) (made : SetupView) (before after : List ℕ) → command ≡ commands.Map name key_len value_len entries spare limit → MapReplies old name (shape_of_numbers key_len value_len entries spare limit) reply made → after ≡ before ++ reply_text reply → (events : List Event) × (replies : List Reply) × SetupReplies old command events replies (sessions.Setup made) × (after ≡ before ++ flat_map reply_text replies)
-map_made old command name key_len value_len entries spare limit reply made before after is r text = (
+pub map_made : (old : SetupView) (command : Command) (name : List ℕ) (shape : ShapeNumbers) (reply : Reply) (made : SetupView) (before after : List ℕ) → command ≡ commands.Map name shape → MapReplies old name (shape_of_numbers shape) reply made → after ≡ before ++ reply_text reply → (events : List Event) × (replies : List Reply) × SetupReplies old command events replies (sessions.Setup made) × (after ≡ before ++ flat_map reply_text replies)
+map_made old command name shape reply made before after is r text = (
   [],
   reply ∷ [],
   subst (λ (c : Command). SetupReplies old c [] (reply ∷ []) (sessions.Setup made)) (sym is) (reply, made, r, refl, refl, refl),
@@ -35,8 +36,8 @@ load_made old command ctx_len code names reply made before after is r text = (
 
 -- the command that makes the world is neither `map` nor `load`
 module _ (old : SetupView) (replies : List Reply) (live : Live) (starts : TracksStart old) where
-  pub world_made : (command : Command) → ((name : List ℕ) (key_len value_len entries spare limit : ℕ) → command ≡ commands.Map name key_len value_len entries spare limit → ⊥) → ((ctx_len : ℕ) (code : List ℕ) (names : List (List ℕ)) → command ≡ commands.Load ctx_len code names → ⊥) → (r : LiveReplies (sealed old) command replies live) → SetupReplies old command r.events replies (sessions.Live live)
-  world_made (commands.Map name key_len value_len entries spare limit) no_map no_load r = absurd (no_map name key_len value_len entries spare limit refl)
+  pub world_made : (command : Command) → ((name : List ℕ) (shape : ShapeNumbers) → command ≡ commands.Map name shape → ⊥) → ((ctx_len : ℕ) (code : List ℕ) (names : List (List ℕ)) → command ≡ commands.Load ctx_len code names → ⊥) → (r : LiveReplies (sealed old) command replies live) → SetupReplies old command r.events replies (sessions.Live live)
+  world_made (commands.Map name shape) no_map no_load r = absurd (no_map name shape refl)
   world_made (commands.Load ctx_len code names) no_map no_load r = absurd (no_load ctx_len code names refl)
   world_made (commands.Put name key value flags) no_map no_load r = (starts, (live, r, refl, refl))
   world_made (commands.Get name key) no_map no_load r = (starts, (live, r, refl, refl))

@@ -59,7 +59,7 @@ once_runs made before events Says replies new b (reply, next, says, e, s, n) =
     subst (λ (s : Session). Onward made (before ++ events) s) (sym n) there
 
 setup_runs : (made : SetupView) (before events : List Event) (old : SetupView) (command : Command) (replies : List Reply) (new : Session) → made ≡ old → before ≡ [] → SetupReplies old command events replies new → Onward made (before ++ events) new
-setup_runs made before events old (commands.Map name key_len value_len entries spare limit) replies new m b r = once_runs made before events (MapReplies old name (shape_of_numbers key_len value_len entries spare limit)) replies new b r
+setup_runs made before events old (commands.Map name shape) replies new m b r = once_runs made before events (MapReplies old name (shape_of_numbers shape)) replies new b r
 setup_runs made before events old (commands.Load ctx_len code names) replies new m b r = once_runs made before events (LoadReplies old ctx_len code names) replies new b r
 setup_runs made before events old (commands.Put name key value flags) replies new m b r = first_runs made before events old (commands.Put name key value flags) replies new m b r.0 r.1
 setup_runs made before events old (commands.Get name key) replies new m b r = first_runs made before events old (commands.Get name key) replies new m b r.0 r.1

@@ -50,11 +50,8 @@ RepliesOnce Says events replies new =
 -- While maps and programs are being made: `map` and `load` make them, and any other command makes
 -- the world, which it is for.
 abbrev pub SetupReplies : SetupView → Command → List Event → List Reply → Session → Type 0
-SetupReplies old (commands.Map name key_len value_len entries spare reuse_limit) events replies
-    new =
-    RepliesOnce
-    (MapReplies old name (shape_of_numbers key_len value_len entries spare reuse_limit))
-    events replies new
+SetupReplies old (commands.Map name shape) events replies new =
+    RepliesOnce (MapReplies old name (shape_of_numbers shape)) events replies new
 SetupReplies old (commands.Load ctx_len code maps) events replies new =
     RepliesOnce (LoadReplies old ctx_len code maps) events replies new
 SetupReplies old command events replies new =

@@ -44,16 +44,8 @@ pub(crate) fn answer_setup(
         × (out.new.items ≡ out.old.items ++ flat_map reply_text replies)) }
 {
     match command {
-        Command::Map {
-            name,
-            key_len,
-            value_len,
-            entries,
-            spare,
-            reuse_limit,
-        } => {
-            let shape = shape_of(key_len, value_len, entries, spare, reuse_limit);
-            let reply = setup.create(alloc, &name, shape)?;
+        Command::Map { name, shape } => {
+            let reply = setup.create(alloc, &name, shape_of(shape))?;
             write_reply(&reply, out)?;
             Ok(None)
         }

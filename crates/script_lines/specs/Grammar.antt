@@ -40,7 +40,13 @@ map_command (name ∷ key ∷ value ∷ entries ∷ spare ∷ reuse ∷ []) = do
   most ← number_in entries
   further ← number_in spare
   limit ← number_in reuse
-  Some (commands.Map name key_len value_len most further limit)
+  Some (commands.Map name (record {
+    key_len = key_len;
+    value_len = value_len;
+    entries = most;
+    spare = further;
+    reuse_limit = limit;
+  }))
 map_command _ = None
 
 -- `load CTXLEN BYTES [NAME ..]`

@@ -7,17 +7,25 @@ use crate::names::Names;
 use bpf_model::{CtxBytes, KeyBytes, ValueBytes};
 use thiserror::Error;
 
+/// The numbers of a map's shape, as a line gives them: any numbers of 64 bits. They are the lengths of keys and
+/// values in bytes, the most linked elements, the further map slots for elements that wait for reclamation, and
+/// how often a map slot may be used; which of them a map can have is told when it is created.
+#[derive(Clone, Copy, Debug, PartialEq, Eq)]
+pub struct ShapeNumbers {
+    pub key_len: u64,
+    pub value_len: u64,
+    pub entries: u64,
+    pub spare: u64,
+    pub reuse_limit: u64,
+}
+
 /// What a line asks for. Names and a program's bytes are lent from the line; numbers are any below 2^64.
 #[derive(Drop)]
 pub enum Command<'a> {
     /// `map NAME KEY VALUE ENTRIES SPARE REUSE`: a map is created.
     Map {
         name: Name<'a>,
-        key_len: u64,
-        value_len: u64,
-        entries: u64,
-        spare: u64,
-        reuse_limit: u64,
+        shape: ShapeNumbers,
     },
     /// `load CTXLEN BYTES [NAME ..]`: a program is decoded, verified for contexts of that length, and bound
     /// to the maps of these names.

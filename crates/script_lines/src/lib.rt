@@ -19,7 +19,7 @@ mod writing;
 
 pub use bytes::Bytes;
 pub use code::Code;
-pub use command::{BadLine, Command};
+pub use command::{BadLine, Command, ShapeNumbers};
 pub use law::{bytes_are_read_again, number_has_one_text, number_is_read_again};
 pub use name::Name;
 pub use names::Names;

@@ -6,7 +6,7 @@ ghost use Rattle.script_lines.specs.Lines.{is_silent as says_nothing, has_outer_
 
 use crate::bytes::bytes_of;
 use crate::code::Code;
-use crate::command::{BadLine, Command};
+use crate::command::{BadLine, Command, ShapeNumbers};
 use crate::name::Name;
 use crate::names::Names;
 use crate::number::number_of;
@@ -43,11 +43,13 @@ fn map<'a>(mut words: Words<'a>) -> Option<Command<'a>>
     words.end()?;
     Some(Command::Map {
         name: Name::new(name),
-        key_len: number_of(key_len)?,
-        value_len: number_of(value_len)?,
-        entries: number_of(entries)?,
-        spare: number_of(spare)?,
-        reuse_limit: number_of(reuse_limit)?,
+        shape: ShapeNumbers {
+            key_len: number_of(key_len)?,
+            value_len: number_of(value_len)?,
+            entries: number_of(entries)?,
+            spare: number_of(spare)?,
+            reuse_limit: number_of(reuse_limit)?,
+        },
     })
 }
 

@@ -2,7 +2,7 @@
 //! hexadecimal behind a colon (`:..` where there are more than any such thing has).
 use arrayvec::ArrayVec;
 use bpf_model::{KEY_BYTES, MAX_MAPS};
-use script_lines::{Bytes, Code, Command, Name, Names, parse_line};
+use script_lines::{Bytes, Code, Command, Name, Names, ShapeNumbers, parse_line};
 use std::alloc::{AllocError, Global};
 use std::fmt::Write;
 
@@ -44,6 +44,22 @@ fn push_keyed(
     push_bytes(out, key)
 }
 
+fn push_map(out: &mut String, name: &Name<'_>, shape: ShapeNumbers) -> Result<(), AllocError> {
+    out.push_str("map")?;
+    push_name(out, name)?;
+    let ShapeNumbers {
+        key_len,
+        value_len,
+        entries,
+        spare,
+        reuse_limit,
+    } = shape;
+    write!(
+        out,
+        " {key_len} {value_len} {entries} {spare} {reuse_limit}"
+    )
+}
+
 fn push_load(
     out: &mut String,
     alloc: Global,
@@ -63,21 +79,7 @@ fn push_load(
 
 fn push_command(out: &mut String, alloc: Global, command: Command<'_>) -> Result<(), AllocError> {
     match command {
-        Command::Map {
-            name,
-            key_len,
-            value_len,
-            entries,
-            spare,
-            reuse_limit,
-        } => {
-            out.push_str("map")?;
-            push_name(out, &name)?;
-            write!(
-                out,
-                " {key_len} {value_len} {entries} {spare} {reuse_limit}"
-            )
-        }
+        Command::Map { name, shape } => push_map(out, &name, shape),
         Command::Load {
             ctx_len,
             code,

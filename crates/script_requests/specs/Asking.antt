@@ -34,7 +34,7 @@ OfMapNamed names name f a = (map : Option ℕ) × IsMapOf names name map × (a �
 
 -- what each command asks of a world whose maps have these names
 abbrev pub IsAsked : List (List ℕ) → Command → Asked → Type 0
-IsAsked names (commands.Map name key_len value_len entries spare reuse_limit) a = a ≡ asked.Sealed
+IsAsked names (commands.Map name shape) a = a ≡ asked.Sealed
 IsAsked names (commands.Load ctx_len code maps) a = a ≡ asked.Sealed
 IsAsked names (commands.Put name key value flags) a = OfMapNamed names name (λ map.
     of_length key (λ k. of_length value (λ v. asked.Event (events.Update map k v flags)))) a

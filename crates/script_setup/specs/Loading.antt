@@ -22,6 +22,7 @@ use Rattle.verifier.specs.Verdict.{IsToldOf}
 use Rattle.world.specs.declared.fault.WorldFault.TheVariants.{TooManyPrograms}
 use Rattle.world.specs.Numbers.{world_fault_number}
 use Rattle.world_invariant.specs.Binding.{IsBoundTo}
+use Rattle.script_lines.specs.declared.command.ShapeNumbers.{ShapeNumbers}
 use Rattle.script_lines.specs.declared.reply.Reply.{Reply}
 use Rattle.script_lines.specs.declared.reply.Reply.TheVariants as replies
 use Rattle.script_requests.specs.Names.{IsMapOf}
@@ -29,13 +30,13 @@ use Rattle.script_requests.specs.Replying.{refused}
 use Rattle.script_setup.specs.Setups.{SetupView, shapes_made, with_new_map, with_program}
 
 -- the shape of a line's numbers
-abbrev pub shape_of_numbers : ℕ → ℕ → ℕ → ℕ → ℕ → MapShape
-shape_of_numbers key_len value_len entries spare reuse_limit = record {
-  key_len = key_len;
-  value_len = value_len;
-  entries = entries;
-  spare = spare;
-  reuse_limit = reuse_limit;
+abbrev pub shape_of_numbers : ShapeNumbers → MapShape
+shape_of_numbers numbers = record {
+  key_len = numbers.key_len;
+  value_len = numbers.value_len;
+  entries = numbers.entries;
+  spare = numbers.spare;
+  reuse_limit = numbers.reuse_limit;
 }
 
 -- `map`: the first test that fails is told, or the next number.

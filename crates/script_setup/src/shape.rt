@@ -6,31 +6,24 @@ ghost use Rattle.script_setup.specs.Loading.{MapReplies, shape_of_numbers};
 ghost use Rattle.script_setup.specs.Setups.{SetupView};
 
 use bpf_model::MapShape;
+use script_lines::ShapeNumbers;
 
-/// The shape of these numbers: lengths of keys and values in bytes, how many elements a map takes, how many
-/// further ones may wait for their grace periods, how often a map slot may be used. A number above what
-/// its field takes is none of any map's, and such a shape is refused as these numbers are.
-pub fn shape_of(
-    key_len: u64,
-    value_len: u64,
-    entries: u64,
-    spare: u64,
-    reuse_limit: u64,
-) -> MapShape
-    ensures fits { is_shape (shape_of_numbers key_len value_len entries spare reuse_limit) ≡ true →
-        result ≡ shape_of_numbers key_len value_len entries spare reuse_limit }
-    ensures refused { is_shape result
-        ≡ is_shape (shape_of_numbers key_len value_len entries spare reuse_limit) }
+/// The shape of these numbers. A number above what its field takes is none of any map's, and such a shape is
+/// refused as these numbers are.
+pub fn shape_of(numbers: ShapeNumbers) -> MapShape
+    ensures fits { is_shape (shape_of_numbers numbers) ≡ true →
+        result ≡ shape_of_numbers numbers }
+    ensures refused { is_shape result ≡ is_shape (shape_of_numbers numbers) }
     // A map of the shape is replied as one of these numbers would be.
     ensures replied { (s : SetupView) (name : List ℕ) (reply : Reply) (new : SetupView) →
         MapReplies s name result reply new →
-        MapReplies s name (shape_of_numbers key_len value_len entries spare reuse_limit) reply new }
+        MapReplies s name (shape_of_numbers numbers) reply new }
 {
     MapShape {
-        key_len: key_len as usize,
-        value_len: value_len as usize,
-        entries: entries as usize,
-        spare: spare as usize,
-        reuse_limit: u32::try_from(reuse_limit).unwrap_or(0),
+        key_len: numbers.key_len as usize,
+        value_len: numbers.value_len as usize,
+        entries: numbers.entries as usize,
+        spare: numbers.spare as usize,
+        reuse_limit: u32::try_from(numbers.reuse_limit).unwrap_or(0),
     }
 }

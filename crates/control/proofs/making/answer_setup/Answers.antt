@@ -4,8 +4,8 @@ use Rattle.control.proofs.making.answer_setup.Goals as goal
 pub returns-in_ok-write_reply-in-Map : goal.returns-in_ok-write_reply-in-Map
 returns-in_ok-write_reply-in-Map c =
     let old = c.args.setup.now in
-    let replied = c.shape_of-shape.ensures.replied old c.in-Map.name c.in_ok-reply-in-Map.reply c.create.new.self c.in_ok-reply-in-Map.ensures.replies in
-    map_made old c.args.command c.in-Map.name c.in-Map.key_len c.in-Map.value_len c.in-Map.entries c.in-Map.spare c.in-Map.reuse_limit c.in_ok-reply-in-Map.reply c.create.new.self c.args.out.now.items c.write_reply.new.out.items c.in-Map.is replied c.in_ok-write_reply-in-Map.ensures
+    let replied = c.shape_of.ensures.replied old c.in-Map.name c.in_ok-reply-in-Map.reply c.create.new.self c.in_ok-reply-in-Map.ensures.replies in
+    map_made old c.args.command c.in-Map.name c.in-Map.shape c.in_ok-reply-in-Map.reply c.create.new.self c.args.out.now.items c.write_reply.new.out.items c.in-Map.is replied c.in_ok-write_reply-in-Map.ensures
 
 pub returns-in_ok-write_reply-in-Load : goal.returns-in_ok-write_reply-in-Load
 returns-in_ok-write_reply-in-Load c =
