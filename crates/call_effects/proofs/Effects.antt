@@ -1,5 +1,5 @@
 -- What a call or a test for null makes of states, by the laws of the known kinds.
-use Rattle.std.proofs.Common.{◌≡◌, ℕ, ◌^◌, ◌/◌, ◌<◌, List, Some, ap, ℤ, arith, true, false}
+use Rattle.std.proofs.Common.{◌≡◌, ℕ, ◌^◌, ◌/◌, ◌<◌, List, Some, ap, ◌∙◌, ℤ, arith, true, false}
 use Rattle.bpf_model.specs.declared.limits.MapShape.{MapShape}
 use Rattle.bpf_model.specs.declared.insn.Insn.{Insn}
 use Rattle.bpf_model.specs.declared.insn.Insn.TheVariants.{Call, JumpIf}
@@ -12,9 +12,10 @@ use Rattle.bpf_model.specs.declared.opcode.Condition.TheVariants.{Equal, NotEqua
 use Rattle.bpf_model.specs.declared.opcode.Size.TheVariants.{Word64}
 use Rattle.scalar_domain.specs.Scalar.{Holds}
 use Rattle.scalar_domain.specs.declared.scalar.Scalar.{Scalar}
-use Rattle.std.specs.Prelude.{Bool, if◌then◌else◌, pos}
+use Rattle.std.specs.Prelude.{Bool, if◌then◌else◌, pos, nat_le}
+use Rattle.std.proofs.lemmas.Bool.{ne_eqb, lt-leb}
 use Rattle.typed_runs.specs.Kinds.{Kind, Blank, Mixed, Ended, Num, CtxAt, FrameAt, MapAt, ValueAt, MaybeNull, AbsState}
-use Rattle.typed_runs.specs.Effects.{after_call, after_lock, after_unlock, IsOther, IsOtherCell, IsFresh, HasMap, HasBytes, when_null, when_there}
+use Rattle.typed_runs.specs.Effects.{after_call, after_lock, after_unlock, returned_kind, ended_kind, IsOther, IsOtherCell, IsFresh, HasMap, HasBytes, when_null, when_there}
 use Rattle.typed_runs.specs.Verified.{Transfers}
 use Rattle.typed_runs.specs.Planned.{AreAlike, number_zero, origin}
 use Rattle.typed_runs.proofs.Planning.{alike_wider, transfers_wider, origin_has, zero_holds, to_alike}
@@ -31,7 +32,7 @@ use Rattle.register_kinds.specs.States.{kind_of, cell_of, kind_at, kind_in, clas
 use Rattle.register_kinds.specs.Pairs.{IsBelow, AreBelow}
 use Rattle.register_kinds.specs.Changes.{learnt}
 use Rattle.kind_tests.specs.Forks.{ForksOnNull}
-use Rattle.call_effects.specs.Calls.{PerformsCall}
+use Rattle.call_effects.specs.Calls.{PerformsCall, KeepsOwnNumbers}
 
 -- a jump where the register is equal to 0, or where it is not
 abbrev null_jump : Bool → ℕ → ℤ → Insn
@@ -96,3 +97,16 @@ pub fork_not_equal : (a b taken : StateHere) (id dst map : ℕ) → AreAlike (le
 fork_not_equal a b taken id dst map e f g shapes ctx_len offset =
     to-both (null_jump false dst offset) shapes ctx_len (state_of a) (when_null id number_zero (state_of a)) (state_of b) (when_there id origin (state_of a)) (state_of taken) e f
     (not_equal_transfers shapes ctx_len dst offset map id (state_of a) number_zero origin zero_holds origin_has (ap kind_of g))
+
+-- the registers from r6 on
+pub returned_above : (kind : Kind) (regs : ℕ → Kind) (r : ℕ) → 5 < r → returned_kind kind regs r ≡ regs r
+returned_above kind regs r h = ap (λ t. if t then kind else if nat_le r 5 then Blank else regs r) (ne_eqb r 0 (λ q. absurd (omega (arith, q, h)))) ∙ ap (λ t. if t then Blank else regs r) (lt-leb r 5 h)
+
+pub call_others : (kind : Kind) (a b : AbsState) → AreAlike (after_call kind a) b → KeepsOwnNumbers a b
+call_others kind a b e r s h n = e.regs r ∙ (returned_above kind a.regs r h ∙ n)
+
+pub lock_others : (a b : AbsState) → AreAlike (after_lock a) b → KeepsOwnNumbers a b
+lock_others a b e r s h n = e.regs r ∙ (returned_above Blank a.regs r h ∙ n)
+
+pub unlock_others : (a b : AbsState) → AreAlike (after_unlock a) b → KeepsOwnNumbers a b
+unlock_others a b e r s h n = e.regs r ∙ (returned_above Blank (λ r. ended_kind (a.regs r)) r h ∙ ap ended_kind n)

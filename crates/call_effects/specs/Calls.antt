@@ -1,5 +1,5 @@
 -- Calls and tests for null in words of the laws.
-use Rattle.std.specs.Prelude.{◌≡◌, ℕ, suc, List, [], ◌∷◌, Option, Some, None, Result, Ok, Err, ℤ}
+use Rattle.std.specs.Prelude.{◌≡◌, ℕ, suc, ◌<◌, List, [], ◌∷◌, Option, Some, None, Result, Ok, Err, ℤ}
 use Rattle.std.specs.Prelude.{slice_get}
 use Rattle.std.specs.Prelude.{Bool, if◌then◌else◌}
 use Rattle.bpf_model.specs.declared.limits.MapShape.{MapShape}
@@ -95,3 +95,7 @@ Called (Some ReadUnlock) a b = AreAlike (after_unlock a) b
 pub record Splits (id : ℕ) (a null there : AbsState) : Type 0 where
   pub is_null : AreAlike (learnt (IsNull id) (state_of a)) (state_of null)
   pub is_there : AreAlike (learnt (IsThere id) (state_of a)) (state_of there)
+
+-- numbers in the registers from r6 on stay as they are
+abbrev pub KeepsOwnNumbers : Known → Known → Type 0
+KeepsOwnNumbers a b = (r : ℕ) (s : Scalar) → 5 < r → a.regs r ≡ Num s → b.regs r ≡ Num s

@@ -8,7 +8,7 @@ ghost use Rattle.register_kinds.specs.Pairs.{AreBelow, TakesFew};
 ghost use Rattle.typed_runs.specs.Effects.{HasBytes, after_lock, after_unlock};
 ghost use Rattle.typed_runs.specs.Planned.{AreAlike};
 ghost use Rattle.bpf_model.specs.declared.call.Helper.{Helper as HelperId};
-ghost use Rattle.call_effects.specs.Calls.{PerformsCall, FindsIn, GoesBySignature, helper_fault, kernel_fault, section_fault, outcome_of, Called};
+ghost use Rattle.call_effects.specs.Calls.{PerformsCall, FindsIn, GoesBySignature, helper_fault, kernel_fault, section_fault, outcome_of, Called, KeepsOwnNumbers};
 
 use crate::arguments::{called_map, check_bytes_argument};
 use bpf_model::{CallKind, Helper, KernelFunction, MapShape, Reg};
@@ -24,6 +24,7 @@ fn lock(state: &mut AbsState) -> Result<(), Fault>
     ensures result { result
         ≡ outcome_of (kernel_fault (Some KernelFunction.ReadLock) state.old.inside) }
     ensures opens { OnOk result (AreAlike (after_lock (state_of state.old)) (state_of state.new)) }
+    ensures others { OnOk result (KeepsOwnNumbers (state_of state.old) (state_of state.new)) }
     ensures below { (top : ℕ) → AreBelow top state.old → AreBelow top state.new }
     ensures unchanged { OnErr result (state.new ≡ state.old) }
 {
@@ -43,6 +44,7 @@ fn unlock(state: &mut AbsState) -> Result<(), Fault>
         ≡ outcome_of (kernel_fault (Some KernelFunction.ReadUnlock) state.old.inside) }
     ensures closes { OnOk result (AreAlike (after_unlock (state_of state.old))
         (state_of state.new)) }
+    ensures others { OnOk result (KeepsOwnNumbers (state_of state.old) (state_of state.new)) }
     ensures below { (top : ℕ) → AreBelow top state.old → AreBelow top state.new }
     ensures unchanged { OnErr result (state.new ≡ state.old) }
 {
@@ -81,6 +83,7 @@ fn lookup(state: &mut AbsState, shapes: &[MapShape], ids: &mut Identities) -> Re
         → FindsIn map state.old state.new) }
     ensures signature { OnOk result (GoesBySignature Helper.Lookup shapes.now
         (state_of state.old) (state_of state.new)) }
+    ensures others { OnOk result (KeepsOwnNumbers (state_of state.old) (state_of state.new)) }
     ensures below { AreBelow ids.new.next state.new }
     ensures few { TakesFew 1 ids.old.next ids.new.next }
     ensures unchanged { OnErr result (state.new ≡ state.old) }
@@ -105,6 +108,7 @@ fn update(state: &mut AbsState, shapes: &[MapShape]) -> Result<(), Fault>
         → kind_in state.old.regs 4 ≡ RegKind.Num q → IsOk result }
     ensures signature { OnOk result (GoesBySignature Helper.Update shapes.now
         (state_of state.old) (state_of state.new)) }
+    ensures others { OnOk result (KeepsOwnNumbers (state_of state.old) (state_of state.new)) }
     ensures below { (top : ℕ) → AreBelow top state.old → AreBelow top state.new }
     ensures unchanged { OnErr result (state.new ≡ state.old) }
 {
@@ -125,6 +129,7 @@ fn delete(state: &mut AbsState, shapes: &[MapShape]) -> Result<(), Fault>
         → IsOk result }
     ensures signature { OnOk result (GoesBySignature Helper.Delete shapes.now
         (state_of state.old) (state_of state.new)) }
+    ensures others { OnOk result (KeepsOwnNumbers (state_of state.old) (state_of state.new)) }
     ensures below { (top : ℕ) → AreBelow top state.old → AreBelow top state.new }
     ensures unchanged { OnErr result (state.new ≡ state.old) }
 {
@@ -141,6 +146,7 @@ fn call_kernel(state: &mut AbsState, imm: i32) -> Result<(), Fault>
     ensures result { result ≡ outcome_of (kernel_fault (kernel_function_of imm) state.old.inside) }
     ensures called { OnOk result (Called (kernel_function_of imm) (state_of state.old)
         (state_of state.new)) }
+    ensures others { OnOk result (KeepsOwnNumbers (state_of state.old) (state_of state.new)) }
     ensures below { (top : ℕ) → AreBelow top state.old → AreBelow top state.new }
     ensures unchanged { OnErr result (state.new ≡ state.old) }
 {
@@ -170,6 +176,7 @@ fn call_helper(
         → kind_in state.old.regs 1 ≡ RegKind.Map map → FindsIn map state.old state.new) }
     ensures signature { OnOk result ((helper : HelperId) → helper_of imm ≡ Some helper
         → GoesBySignature helper shapes.now (state_of state.old) (state_of state.new)) }
+    ensures others { OnOk result (KeepsOwnNumbers (state_of state.old) (state_of state.new)) }
     ensures below { AreBelow ids.new.next state.new }
     ensures few { TakesFew 1 ids.old.next ids.new.next }
     ensures unchanged { OnErr result (state.new ≡ state.old) }
@@ -220,6 +227,9 @@ pub fn call(
         → kind_in state.old.regs 1 ≡ RegKind.Map map → FindsIn map state.old state.new) }
     ensures called { OnOk result (kind ≡ CallKind.Kernel
         → Called (kernel_function_of imm) (state_of state.old) (state_of state.new)) }
+
+    // Numbers in r6 to r9 stay as they are.
+    ensures others { OnOk result (KeepsOwnNumbers (state_of state.old) (state_of state.new)) }
 
     ensures below { AreBelow ids.new.next state.new }
     ensures few { TakesFew 1 ids.old.next ids.new.next }

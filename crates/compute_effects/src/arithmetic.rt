@@ -6,7 +6,7 @@ ghost use Rattle.bpf_model.specs.declared.limits.MapShape.{MapShape};
 ghost use Rattle.bpf_model.specs.Operand.{unary_source};
 ghost use Rattle.kind_tests.specs.Performs.{IsNumbers, SetsNumber, Performs};
 ghost use Rattle.typed_runs.specs.Effects.{IsNumberOperand, IsWritten, HasNumber};
-ghost use Rattle.register_kinds.specs.States.{kind_in, kind_of, state_of};
+ghost use Rattle.register_kinds.specs.States.{kind_in, kind_of, kind_at, state_of};
 ghost use Rattle.register_kinds.specs.Pairs.{IsBelow, AreBelow};
 ghost use Rattle.compute_effects.specs.Computes.{PerformsComputation, Computes, ReadsNumber, GivesNumber, SetsKind};
 ghost use Rattle.compute_effects.specs.Floor.{operand_kind, LeavesKnown};
@@ -75,6 +75,8 @@ pub fn alu(
         state.old state.new) }
     ensures floor { OnOk result (LeavesKnown size op (kind_of (kind_in state.old.regs dst))
         (operand_kind src.now (state_of state.old)) (kind_of (kind_in state.new.regs dst))) }
+    ensures others { OnOk result ((r : ℕ) → (r ≡ dst → ⊥)
+        → kind_at state.new.regs r ≡ kind_at state.old.regs r) }
     ensures numbers { (10 ≡ dst → ⊥) → ReadsNumber op (state_of state.old) dst
         → IsNumberOperand (state_of state.old) src.now
         → SetsNumber result dst (state_of state.old) (state_of state.new) }
@@ -111,6 +113,8 @@ pub fn unary(state: &mut AbsState, op: &UnaryOp, dst: Reg) -> Result<(), Fault>
         → IsNumbers (KeepsUnaryFloor op.now a) (kind_of (kind_in state.new.regs dst))) }
     ensures numbers { (10 ≡ dst → ⊥) → HasNumber (state_of state.old) (unary_source op.now dst)
         → SetsNumber result dst (state_of state.old) (state_of state.new) }
+    ensures others { OnOk result ((r : ℕ) → (r ≡ dst → ⊥)
+        → kind_at state.new.regs r ≡ kind_at state.old.regs r) }
     ensures below { (top : ℕ) → AreBelow top state.old → AreBelow top state.new }
     ensures unchanged { OnErr result (state.new ≡ state.old) }
 {
@@ -129,6 +133,8 @@ pub fn load_number(state: &mut AbsState, dst: Reg, number: u64) -> Result<(), Fa
         (kind_of (kind_in state.new.regs dst))) }
     ensures numbers { (10 ≡ dst → ⊥)
         → SetsNumber result dst (state_of state.old) (state_of state.new) }
+    ensures others { OnOk result ((r : ℕ) → (r ≡ dst → ⊥)
+        → kind_at state.new.regs r ≡ kind_at state.old.regs r) }
     ensures below { (top : ℕ) → AreBelow top state.old → AreBelow top state.new }
     ensures unchanged { OnErr result (state.new ≡ state.old) }
 {
@@ -156,6 +162,8 @@ pub fn load_map(state: &mut AbsState, dst: Reg, map: i32, maps: usize) -> Result
         → Performs (Insn.LoadMap dst map) ctx_len shapes state.old state.new) }
     ensures sets { (n : ℕ) → (10 ≡ dst → ⊥) → map ≡ pos n → n < maps
         → SetsKind result dst (model.MapAt n) (state_of state.old) (state_of state.new) }
+    ensures others { OnOk result ((r : ℕ) → (r ≡ dst → ⊥)
+        → kind_at state.new.regs r ≡ kind_at state.old.regs r) }
     ensures below { (top : ℕ) → AreBelow top state.old → AreBelow top state.new }
     ensures unchanged { OnErr result (state.new ≡ state.old) }
 {

@@ -38,6 +38,8 @@ pub fn load(
         (Insn.Load width dst from.base from.offset) shape.now.ctx_len
         shape.now.shapes.now state.old state.new) }
     ensures floor { OnOk result (LoadsKnown width (kind_at state.new.regs dst)) }
+    ensures others { OnOk result ((r : ℕ) → (r ≡ dst → ⊥)
+        → kind_at state.new.regs r ≡ kind_at state.old.regs r) }
     ensures region { IfOk result (λ region. IsBase region (kind_at state.old.regs from.base)) }
     ensures bytes { (10 ≡ dst → ⊥)
         → ReadsBytes (state_of state.old) from.base (byte_count width) from.offset
@@ -67,6 +69,8 @@ pub fn load_signed(
         (Insn.LoadSigned width dst from.base from.offset) shape.now.ctx_len
         shape.now.shapes.now state.old state.new) }
     ensures floor { OnOk result (HasNumber (state_of state.new) dst) }
+    ensures others { OnOk result ((r : ℕ) → (r ≡ dst → ⊥)
+        → kind_at state.new.regs r ≡ kind_at state.old.regs r) }
     ensures region { IfOk result (λ region. IsBase region (kind_at state.old.regs from.base)) }
     ensures bytes { (10 ≡ dst → ⊥)
         → ReadsBytes (state_of state.old) from.base (byte_count (unsigned_width width)) from.offset

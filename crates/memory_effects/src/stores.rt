@@ -58,6 +58,8 @@ fn store_number(
     ensures bytes { (at : ℕ)
         → ReachesFrame (state_of state.old) to.base (byte_count width) to.offset at
         → StoresBytes result at (byte_count width) (state_of state.old) (state_of state.new) }
+    ensures others { OnOk result ((r : ℕ)
+        → kind_at state.new.regs r ≡ kind_at state.old.regs r) }
     ensures below { (top : ℕ) → AreBelow top state.old → AreBelow top state.new }
     ensures unchanged { OnErr result (state.new ≡ state.old) }
 {
@@ -81,6 +83,8 @@ fn store_pointer(
     ensures sound { OnOk result ((ctx_len : ℕ) (shapes : List MapShape)
         → Performs (Insn.Store width to.base to.offset src.now)
         ctx_len shapes state.old state.new) }
+    ensures others { OnOk result ((r : ℕ)
+        → kind_at state.new.regs r ≡ kind_at state.old.regs r) }
     ensures below { (top : ℕ) → AreBelow top state.old → AreBelow top state.new }
     ensures unchanged { OnErr result (state.new ≡ state.old) }
 {
@@ -129,6 +133,8 @@ fn store_frame(
     ensures bytes { (at : ℕ) → IsNumberOperand (state_of state.old) src.now
         → ReachesFrame (state_of state.old) to.base (byte_count width) to.offset at
         → StoresBytes result at (byte_count width) (state_of state.old) (state_of state.new) }
+    ensures others { OnOk result ((r : ℕ)
+        → kind_at state.new.regs r ≡ kind_at state.old.regs r) }
     ensures below { (top : ℕ) → AreBelow top state.old → AreBelow top state.new }
     ensures unchanged { OnErr result (state.new ≡ state.old) }
 {
@@ -185,6 +191,8 @@ pub fn store(
     ensures bytes { (at : ℕ) → IsNumberOperand (state_of state.old) src.now
         → ReachesFrame (state_of state.old) to.base (byte_count width) to.offset at
         → StoresBytes result at (byte_count width) (state_of state.old) (state_of state.new) }
+    ensures others { OnOk result ((r : ℕ)
+        → kind_at state.new.regs r ≡ kind_at state.old.regs r) }
     ensures below { (top : ℕ) → AreBelow top state.old → AreBelow top state.new }
     ensures unchanged { OnErr result (state.new ≡ state.old) }
 {

@@ -1,7 +1,7 @@
 -- Parts of guarded lookups and calls that begin or end a section are accepted, and leave what the next part needs.
 use Rattle.std.proofs.Common.{◌≡◌, ℕ, ◌<◌, ◌≤◌, List, length, Option, Some, None, refl, sym, ap, subst, ◌∙◌, inl, inr, arith, ℤ, pos, Bool, true, false}
-use Rattle.std.specs.Prelude.{◌⊎◌, nat_le, if◌then◌else◌, ◌+ℤ◌, slice_get, Result, IsOk}
-use Rattle.std.proofs.lemmas.Bool.{cases_eq, eq-eqb, ne_eqb, lt-leb, false≢true}
+use Rattle.std.specs.Prelude.{◌⊎◌, if◌then◌else◌, ◌+ℤ◌, slice_get, Result, IsOk}
+use Rattle.std.proofs.lemmas.Bool.{cases_eq, eq-eqb, false≢true}
 use Rattle.typed_runs.specs.Verified.{is_call}
 use Rattle.register_kinds.proofs.KindLaws.{kind_is}
 use Rattle.bpf_model.specs.declared.limits.TheConstants.{FRAME_BYTES}
@@ -14,6 +14,7 @@ use Rattle.bpf_model.specs.Call.{helper_of, kernel_function_of}
 use Rattle.bpf_model.specs.declared.call.Helper.TheVariants as helpers
 use Rattle.bpf_model.specs.declared.insn.CallKind.{CallKind}
 use Rattle.bpf_model.specs.declared.insn.CallKind.TheVariants as callee
+use Rattle.call_effects.proofs.Effects.{returned_above}
 use Rattle.call_effects.specs.Calls.{FindsIn, Called, Splits, section_fault, outcome_of}
 use Rattle.kind_tests.specs.declared.fault.Fault.{Fault}
 use Rattle.std.proofs.lemmas.Option.{slice_get_within}
@@ -33,9 +34,8 @@ use Rattle.bpf_model.specs.declared.opcode.Size.TheVariants.{Word64}
 use Rattle.bpf_model.specs.PlainMaps.{IsValueLoad, Lookup, LookupPart, FrameCopy, KeyAddress, MapLoad, LookupCall, NullTest, ValueLoad, part_insn, IsFitting}
 use Rattle.scalar_domain.specs.declared.scalar.Scalar.{Scalar}
 use Rattle.typed_runs.specs.Kinds.{Kind, Blank, Num, FrameAt, MapAt, ValueAt, MaybeNull, AbsState}
-use Rattle.typed_runs.specs.Effects.{with_kind, after_call, after_lock, after_unlock, returned_kind, ended_kind, ended_cell, IsWritten, HasBytes}
+use Rattle.typed_runs.specs.Effects.{with_kind, after_call, after_lock, after_unlock, ended_kind, ended_cell, IsWritten, HasBytes}
 use Rattle.typed_runs.specs.Planned.{AreAlike, origin}
-use Rattle.register_kinds.specs.declared.kind.RegKind.{RegKind}
 use Rattle.register_kinds.specs.declared.kind.RegKind.TheVariants as kinds
 use Rattle.register_kinds.specs.declared.state.AbsState.{AbsState as StateHere}
 use Rattle.register_kinds.specs.States.{kind_of, kind_in, state_of}
@@ -233,9 +233,6 @@ module _ (dst : ℕ) (map : ℤ) (shapes : List MapShape) (a : AbsState) (R : Ki
           }
 
 -- calls
-returned_above : (kind : Kind) (regs : ℕ → Kind) (r : ℕ) → 5 < r → returned_kind kind regs r ≡ regs r
-returned_above kind regs r h = ap (λ t. if t then kind else if nat_le r 5 then Blank else regs r) (ne_eqb r 0 (λ q. absurd (omega (arith, q, h)))) ∙ ap (λ t. if t then Blank else regs r) (lt-leb r 5 h)
-
 call_saves : (kind : Kind) (a b : AbsState) → AreAlike (after_call kind a) b → KeepsSaved a b
 call_saves kind a b e (Register r) s h = (h.0, e.regs r ∙ returned_above kind a.regs r s ∙ h.1)
 call_saves kind a b e (FrameByte k) s h = e.cells k ∙ h

@@ -1,6 +1,7 @@
 -- Steps of instructions that have one state behind them, and of conditional jumps.
-use Rattle.std.proofs.Common.{◌≡◌, ℕ, List, Option, Some, None, refl, sym, ap, subst, ◌∙◌, inl, inr, ℤ, pos, Bool, true, false, Ok}
+use Rattle.std.proofs.Common.{◌≡◌, ℕ, ◌<◌, ◌≤◌, List, Option, Some, None, refl, sym, ap, subst, ◌∙◌, inl, inr, ℤ, pos, Bool, true, false, Ok}
 use Rattle.std.specs.Prelude.{if◌then◌else◌}
+use Rattle.std.proofs.lemmas.Bool.{cases_lt}
 use Rattle.std.proofs.lemmas.Option.{none-some, same_Some}
 use Rattle.bpf_model.specs.declared.limits.MapShape.{MapShape}
 use Rattle.bpf_model.specs.declared.insn.Insn.{Insn}
@@ -19,9 +20,13 @@ use Rattle.bpf_model.specs.Operand.{operand_value}
 use Rattle.bpf_model.specs.Plain.{Names}
 use Rattle.bpf_model.specs.Step.{State}
 use Rattle.scalar_domain.specs.declared.scalar.Scalar.{Scalar}
-use Rattle.typed_runs.specs.Kinds.{Kind, Num}
+use Rattle.typed_runs.specs.Kinds.{Kind, Num, AbsState as Known}
 use Rattle.typed_runs.specs.Describes.{Scene, Naming, IsOf}
 use Rattle.typed_runs.specs.Verified.{Transfers}
+use Rattle.typed_runs.specs.Planned.{AreAlike}
+use Rattle.register_kinds.specs.declared.learn.Lesson.{Lesson}
+use Rattle.register_kinds.specs.declared.learn.Lesson.TheVariants.{SectionEnds, IsNull, IsThere}
+use Rattle.register_kinds.specs.Changes.{learnt, learnt_kind}
 use Rattle.register_kinds.specs.declared.kind.RegKind.TheVariants as kinds
 use Rattle.register_kinds.specs.declared.state.AbsState.{AbsState}
 use Rattle.register_kinds.specs.States.{kind_of, kind_in, state_of}
@@ -37,7 +42,7 @@ use Rattle.state_steps.specs.Steps.{IsBranch, base_of, IsInRegion, Compares, IsC
 use Rattle.state_steps.specs.Facts.{IsReadyInsn, KeepsFacts}
 use Rattle.state_steps.specs.Lookups.{Serves}
 use Rattle.state_steps.specs.Stepped.{single_flow, Stepped, ComparesWell}
-use Rattle.state_steps.specs.Floor.{KeepsInsnFloor}
+use Rattle.state_steps.specs.Floor.{KeepsInsnFloor, KeepsNumbers, KeepsAllNumbers}
 use Rattle.register_kinds.specs.declared.kind.RegKind.{RegKind}
 
 -- an instruction that reaches no memory, compares nothing and has one state behind it
@@ -48,8 +53,8 @@ pub record IsQuiet (i : Insn) : Type 0 where
 
 pub quiet_step : (i : Insn) (shapes : List MapShape) (ctx_len top : ℕ) (a b : AbsState) (f : Flow) → f ≡ single_flow regions.None → IsQuiet i
     → Transfers i shapes ctx_len (state_of a) (state_of b) None → AreBelow top b
-    → (IsReadyInsn i (state_of a) → KeepsFacts i (state_of a) (state_of b)) → Serves shapes i (state_of a) (state_of b) None → KeepsInsnFloor i (state_of a) (state_of b) None → Stepped i shapes ctx_len top a b (Ok f)
-quiet_step i shapes ctx_len top a b f e q sound below keeps serves floor = subst (λ (f : Flow). Stepped i shapes ctx_len top a b (Ok f)) (sym e) (record {
+    → (IsReadyInsn i (state_of a) → KeepsFacts i (state_of a) (state_of b)) → Serves shapes i (state_of a) (state_of b) None → KeepsInsnFloor i (state_of a) (state_of b) None → KeepsNumbers i (state_of a) (state_of b) → Stepped i shapes ctx_len top a b (Ok f)
+quiet_step i shapes ctx_len top a b f e q sound below keeps serves floor others = subst (λ (f : Flow). Stepped i shapes ctx_len top a b (Ok f)) (sym e) (record {
   done = record {
     transfer = record {
       sound = sound;
@@ -60,6 +65,8 @@ quiet_step i shapes ctx_len top a b f e q sound below keeps serves floor = subst
       keeps_taken = λ ready. tt;
       serves = serves;
       floor = floor;
+      others = others;
+      others_taken = tt;
     };
     taken_below = tt;
   };
@@ -138,8 +145,8 @@ pub record IsAccess (i : Insn) (base : ℕ) : Type 0 where
   pub no_branch : IsBranch i → ⊥
 
 pub access_step : (i : Insn) (shapes : List MapShape) (ctx_len top : ℕ) (a b : AbsState) (f : Flow) (region : Region) (base : ℕ) → f ≡ single_flow region → IsAccess i base → IsBase region (kind_at a.regs base)
-    → Transfers i shapes ctx_len (state_of a) (state_of b) None → AreBelow top b → (IsReadyInsn i (state_of a) → KeepsFacts i (state_of a) (state_of b)) → Serves shapes i (state_of a) (state_of b) None → KeepsInsnFloor i (state_of a) (state_of b) None → Stepped i shapes ctx_len top a b (Ok f)
-access_step i shapes ctx_len top a b f region base e q is sound below keeps serves floor = subst (λ (f : Flow). Stepped i shapes ctx_len top a b (Ok f)) (sym e) (record {
+    → Transfers i shapes ctx_len (state_of a) (state_of b) None → AreBelow top b → (IsReadyInsn i (state_of a) → KeepsFacts i (state_of a) (state_of b)) → Serves shapes i (state_of a) (state_of b) None → KeepsInsnFloor i (state_of a) (state_of b) None → KeepsNumbers i (state_of a) (state_of b) → Stepped i shapes ctx_len top a b (Ok f)
+access_step i shapes ctx_len top a b f region base e q is sound below keeps serves floor others = subst (λ (f : Flow). Stepped i shapes ctx_len top a b (Ok f)) (sym e) (record {
   done = record {
     transfer = record {
       sound = sound;
@@ -150,6 +157,8 @@ access_step i shapes ctx_len top a b f region base e q is sound below keeps serv
       keeps_taken = λ ready. tt;
       serves = serves;
       floor = floor;
+      others = others;
+      others_taken = tt;
     };
     taken_below = tt;
   };
@@ -165,3 +174,18 @@ null_no_number k map id s e n = (let z : kind_of (kinds.MaybeNull map id) ≡ Nu
 
 pub value_no_number : (k : RegKind) (map : ℕ) (offset s : Scalar) → k ≡ kinds.Value map offset → kind_of k ≡ Num s → ⊥
 value_no_number k map offset s e n = (let z : kind_of (kinds.Value map offset) ≡ Num s = ap kind_of (sym e) ∙ n in cc)
+
+-- a test for null leaves numbers
+learnt_number : (lesson : Lesson) (s : Scalar) → learnt_kind lesson (Num s) ≡ Num s
+learnt_number SectionEnds s = refl
+learnt_number (IsNull id) s = refl
+learnt_number (IsThere id) s = refl
+
+pub learnt_numbers : (lesson : Lesson) (a b : Known) → AreAlike (learnt lesson a) b → KeepsAllNumbers a b
+learnt_numbers lesson a b e r s n = e.regs r ∙ (ap (learnt_kind lesson) n ∙ learnt_number lesson s)
+
+pub above_five : (r : ℕ) → (r ≤ 5 → ⊥) → 5 < r
+above_five r n = elim (cases_lt 5 r) [
+  | inl h ↦ h
+  | inr h ↦ absurd (n h)
+]

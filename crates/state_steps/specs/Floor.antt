@@ -1,10 +1,11 @@
 -- How much is known, at least, of the numbers that an instruction writes or compares: as much as
 -- the scalar domain promises.
-use Rattle.std.specs.Prelude.{◌≡◌, true, false, Option, IfSome}
+use Rattle.std.specs.Prelude.{◌≡◌, ℕ, ◌≤◌, ◌⊎◌, true, false, Option, IfSome}
 use Rattle.bpf_model.specs.Operand.{unary_source}
+use Rattle.bpf_model.specs.Plain.{Names}
 use Rattle.bpf_model.specs.declared.insn.Insn.{Insn}
 use Rattle.bpf_model.specs.declared.insn.Insn.TheVariants.{Alu, Unary, LoadNumber, JumpIf, Load}
-use Rattle.bpf_model.specs.declared.insn.Insn.TheVariants.{LoadSigned}
+use Rattle.bpf_model.specs.declared.insn.Insn.TheVariants.{LoadSigned, LoadMap, Call}
 use Rattle.scalar_domain.specs.declared.scalar.Scalar.{Scalar}
 use Rattle.scalar_domain.specs.Scalar.{IsConstant}
 use Rattle.scalar_domain.specs.Floor.{KeepsUnaryFloor}
@@ -33,3 +34,24 @@ KeepsInsnFloor (JumpIf condition size dst src offset) a b taken =
     NarrowsKnown size condition false dst src a b
     × IfSome taken (NarrowsKnown size condition true dst src a)
 KeepsInsnFloor _ a b taken = Unit {0}
+
+-- The registers that the instruction writes, or whose numbers it compares. A call leaves r6 to r9.
+abbrev pub Touches : Insn → ℕ → Type 0
+Touches (Alu op size dst src) r = r ≡ dst
+Touches (Unary op dst) r = r ≡ dst
+Touches (LoadNumber dst n) r = r ≡ dst
+Touches (LoadMap dst map) r = r ≡ dst
+Touches (Load width dst src offset) r = r ≡ dst
+Touches (LoadSigned width dst src offset) r = r ≡ dst
+Touches (JumpIf condition size dst src offset) r = (r ≡ dst) ⊎ Names src r
+Touches (Call kind imm) r = r ≤ 5
+Touches _ r = ⊥
+
+-- Numbers in the other registers stay as they are.
+abbrev pub KeepsNumbers : Insn → AbsState → AbsState → Type 0
+KeepsNumbers i a b =
+    (r : ℕ) (s : Scalar) → (Touches i r → ⊥) → a.regs r ≡ Num s → b.regs r ≡ Num s
+
+-- Numbers in all registers stay as they are.
+abbrev pub KeepsAllNumbers : AbsState → AbsState → Type 0
+KeepsAllNumbers a b = (r : ℕ) (s : Scalar) → a.regs r ≡ Num s → b.regs r ≡ Num s

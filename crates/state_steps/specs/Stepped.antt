@@ -25,7 +25,7 @@ use Rattle.state_steps.specs.Steps.{IsBranch, taken_state, base_of, IsInRegion, 
 use Rattle.state_steps.specs.Steps.{IsComparable, IsFine}
 use Rattle.state_steps.specs.Facts.{IsReadyInsn, KeepsFacts}
 use Rattle.state_steps.specs.Lookups.{IsReadyWithMaps, Serves}
-use Rattle.state_steps.specs.Floor.{KeepsInsnFloor}
+use Rattle.state_steps.specs.Floor.{KeepsInsnFloor, KeepsNumbers}
 
 -- the flow of an instruction that has no second state behind it
 abbrev pub single_flow : Region → Flow
@@ -61,6 +61,8 @@ pub record IsTransfer (i : Insn) (shapes : List MapShape) (ctx_len : ℕ) (old n
       IfSome taken (λ t. KeepsFacts i (state_of old) (state_of t))
   pub serves : Serves shapes i (state_of old) (state_of new) (option_map state_of taken)
   pub floor : KeepsInsnFloor i (state_of old) (state_of new) (option_map state_of taken)
+  pub others : KeepsNumbers i (state_of old) (state_of new)
+  pub others_taken : IfSome taken (λ t. KeepsNumbers i (state_of old) (state_of t))
 
 -- an instruction that is not refused
 pub record IsDone (i : Insn) (shapes : List MapShape) (ctx_len top : ℕ) (old new : AbsState)

@@ -9,6 +9,7 @@ ghost use Rattle.register_kinds.specs.States.{kind_in, state_of};
 ghost use Rattle.call_effects.specs.Calls.{Splits};
 ghost use Rattle.kind_tests.specs.Forks.{Forks, ForksOnNull};
 ghost use Rattle.control_effects.specs.Narrowing.{AreNarrowed, NarrowsKnown};
+ghost use Rattle.state_steps.specs.Floor.{KeepsNumbers, KeepsAllNumbers};
 ghost use Rattle.state_steps.specs.Stepped.{Stepped, ComparesWell, IsEqualToNull};
 
 use crate::flow::{Flow, single};
@@ -67,6 +68,10 @@ fn null_branch(
         → ForksOnNull equal dst state.old state.new taken.value) }
     ensures splits { IfOk result (λ taken. equal ≡ true
         → Splits id state.old taken.value state.new) }
+    ensures others { IfOk result (λ taken.
+        KeepsAllNumbers (state_of state.old) (state_of state.new)) }
+    ensures others_taken { IfOk result (λ taken.
+        KeepsAllNumbers (state_of state.old) (state_of taken.value)) }
     ensures below { (top : ℕ) → AreBelow top state.old → AreBelow top state.new }
     ensures taken_below { IfOk result (λ taken. (top : ℕ)
         → AreBelow top state.old → AreBelow top taken.value) }
@@ -95,6 +100,12 @@ fn branch(
     ensures floor { OnOk result (NarrowsKnown size condition false dst src.now
         (state_of state.old) (state_of state.new)) }
     ensures taken_floor { IfOk result (λ taken. NarrowsKnown size condition true dst src.now
+        (state_of state.old) (state_of taken.value)) }
+    ensures others { OnOk result ((offset : ℤ)
+        → KeepsNumbers (Insn.JumpIf condition size dst src.now offset)
+        (state_of state.old) (state_of state.new)) }
+    ensures others_taken { IfOk result (λ taken. (offset : ℤ)
+        → KeepsNumbers (Insn.JumpIf condition size dst src.now offset)
         (state_of state.old) (state_of taken.value)) }
     ensures below { (top : ℕ) → AreBelow top state.old → AreBelow top state.new }
     ensures taken_below { IfOk result (λ taken. (top : ℕ)

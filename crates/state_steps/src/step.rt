@@ -9,7 +9,7 @@ ghost use Rattle.state_steps.specs.Steps.{IsBranch, taken_state, base_of, IsInRe
 ghost use Rattle.state_steps.specs.Facts.{IsReadyInsn, KeepsFacts};
 ghost use Rattle.state_steps.specs.Lookups.{IsReadyWithMaps, Serves};
 ghost use Rattle.state_steps.specs.Stepped.{Stepped};
-ghost use Rattle.state_steps.specs.Floor.{KeepsInsnFloor};
+ghost use Rattle.state_steps.specs.Floor.{KeepsInsnFloor, KeepsNumbers};
 
 use crate::access::{load_signed_step, load_step, store_step};
 use crate::compute::{alu_step, load_map_step, load_number_step, unary_step};
@@ -70,6 +70,12 @@ pub fn transfer(
     // scalar domain promises.
     ensures floor { IfOk result (λ f. KeepsInsnFloor insn.now (state_of state.old)
         (state_of state.new) (option_map state_of (taken_state f))) }
+
+    // Numbers in registers that the instruction leaves alone stay as they are.
+    ensures others { OnOk result (KeepsNumbers insn.now (state_of state.old)
+        (state_of state.new)) }
+    ensures others_taken { IfOk result (λ f. IfSome (taken_state f)
+        (λ t. KeepsNumbers insn.now (state_of state.old) (state_of t))) }
 
     // An instruction that is ready is not refused but for want of memory, and what is known stays
     // known.

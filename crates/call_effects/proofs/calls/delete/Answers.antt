@@ -1,4 +1,6 @@
-use Rattle.call_effects.proofs.Effects.{delete_sound}
+use Rattle.typed_runs.specs.Kinds.{Num}
+use Rattle.register_kinds.specs.States.{state_of}
+use Rattle.call_effects.proofs.Effects.{delete_sound, call_others}
 use Rattle.call_effects.proofs.calls.delete.Goals as goal
 
 pub returns-clause-sound : goal.returns-clause-sound
@@ -10,3 +12,6 @@ returns-clause-signature c = record {
   arguments = ((c.in_ok-shape.field-0-0, c.in_ok-shape.ensures.map.map_is, c.in_ok-shape.ensures.map.shape_is), (c.in_ok-check_bytes_argument.ensures.bytes, tt));
   result = (c.unknown.result, c.leave_call.ensures.alike.regs 0);
 }
+
+pub returns-clause-others : goal.returns-clause-others
+returns-clause-others c = call_others (Num c.unknown.result) (state_of c.args.state.now) (state_of c.leave_call.new.self) c.leave_call.ensures.alike

@@ -6,7 +6,7 @@ use Rattle.typed_runs.specs.Planned.{AreAlike}
 use Rattle.register_kinds.specs.declared.kind.RegKind.{RegKind}
 use Rattle.compute_effects.proofs.Combining.{alu_sound}
 use Rattle.compute_effects.proofs.arithmetic.alu.Goals as goal
-use Rattle.kind_tests.proofs.Setting.{set-there}
+use Rattle.kind_tests.proofs.Setting.{set-there, set-elsewhere}
 use Rattle.compute_effects.specs.Floor.{LeavesKnown, operand_kind}
 use Rattle.typed_runs.specs.Kinds.{Kind}
 
@@ -25,3 +25,6 @@ pub returns-clause-floor : goal.returns-clause-floor
 returns-clause-floor c =
     let there = set-there c.args.dst c.args.dst (kind_of c.in_ok-kind.kind) (state_of c.args.state.now) (state_of c.set.new.self) c.set.ensures.alike refl in
     subst (λ (k : Kind). LeavesKnown c.args.size c.args.op (kind_of (kind_in c.args.state.now.regs c.args.dst)) (operand_kind c.args.src.now (state_of c.args.state.now)) k) (sym there) c.in_ok-kind.ensures.floor
+
+pub returns-clause-others : goal.returns-clause-others
+returns-clause-others c = λ r ne. set-elsewhere c.args.dst r (kind_of c.in_ok-kind.kind) (state_of c.args.state.now) (state_of c.set.new.self) c.set.ensures.alike ne

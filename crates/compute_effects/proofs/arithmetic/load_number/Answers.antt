@@ -1,7 +1,7 @@
 use Rattle.std.proofs.Common.{arith, refl}
 use Rattle.compute_effects.proofs.Combining.{number_sound}
 use Rattle.compute_effects.proofs.arithmetic.load_number.Goals as goal
-use Rattle.kind_tests.proofs.Setting.{set-there}
+use Rattle.kind_tests.proofs.Setting.{set-there, set-elsewhere}
 use Rattle.typed_runs.specs.Kinds.{Num}
 use Rattle.register_kinds.specs.States.{state_of}
 
@@ -10,3 +10,6 @@ returns-clause-sound c = number_sound c.args.dst c.args.number c.constant.result
 
 pub returns-clause-floor : goal.returns-clause-floor
 returns-clause-floor c = (c.constant.result, set-there c.args.dst c.args.dst (Num c.constant.result) (state_of c.args.state.now) (state_of c.set.new.self) c.set.ensures.alike refl, c.constant.ensures.exact)
+
+pub returns-clause-others : goal.returns-clause-others
+returns-clause-others c = λ r ne. set-elsewhere c.args.dst r (Num c.constant.result) (state_of c.args.state.now) (state_of c.set.new.self) c.set.ensures.alike ne

@@ -1,7 +1,7 @@
 use Rattle.std.proofs.Common.{◌≡◌, refl, sym, ap, subst, ◌∙◌}
 use Rattle.compute_effects.proofs.Combining.{unary_sound}
 use Rattle.compute_effects.proofs.arithmetic.unary.Goals as goal
-use Rattle.kind_tests.proofs.Setting.{set-there}
+use Rattle.kind_tests.proofs.Setting.{set-there, set-elsewhere}
 use Rattle.typed_runs.specs.Kinds.{Num}
 use Rattle.scalar_domain.specs.declared.scalar.Scalar.{Scalar}
 use Rattle.scalar_domain.specs.Floor.{KeepsUnaryFloor}
@@ -17,3 +17,6 @@ returns-clause-floor c = λ a e.
     let read : kind_of (kind_in c.args.state.now.regs c.source.result) ≡ Num c.in_ok-n.n = ap kind_of (c.in_ok-kind.ensures.value ∙ c.in_ok-n.ensures.value) in
     let same = same_num c.in_ok-n.n a (sym read ∙ (ap (λ r. kind_of (kind_in c.args.state.now.regs r)) c.source.ensures ∙ e)) in
     (c.unary.result, there, subst (λ (a : Scalar). KeepsUnaryFloor c.args.op.now a c.unary.result) same c.unary.ensures.floor)
+
+pub returns-clause-others : goal.returns-clause-others
+returns-clause-others c = λ r ne. set-elsewhere c.args.dst r (Num c.unary.result) (state_of c.args.state.now) (state_of c.set.new.self) c.set.ensures.alike ne

@@ -9,7 +9,7 @@ use Rattle.memory_effects.specs.Accesses.{read_kind, LoadsKnown}
 use Rattle.memory_effects.proofs.Reading.{read_transfers, load_known}
 use Rattle.memory_effects.proofs.loads.load.Goals as goal
 use Rattle.typed_runs.proofs.Planning.{to_alike}
-use Rattle.kind_tests.proofs.Setting.{set-there}
+use Rattle.kind_tests.proofs.Setting.{set-there, set-elsewhere}
 
 pub returns-clause-sound : goal.returns-clause-sound
 returns-clause-sound c =
@@ -44,3 +44,6 @@ returns-clause-floor c =
     let there = set-there c.args.dst c.args.dst (kind_of c.kind.result) a (state_of c.set.new.self) c.set.ensures.alike refl in
     subst (λ (k : Kind). LoadsKnown c.args.width k) (sym (there ∙ c.kind.ensures))
     (load_known c.in_ok-reads.reads c.loaded.result c.args.width a c.args.from c.args.shape.now.ctx_len c.args.shape.now.shapes.now c.in_ok-reads.ensures.reads c.loaded.ensures.floor)
+
+pub returns-clause-others : goal.returns-clause-others
+returns-clause-others c = λ r ne. set-elsewhere c.args.dst r (kind_of c.kind.result) (state_of c.args.state.now) (state_of c.set.new.self) c.set.ensures.alike ne

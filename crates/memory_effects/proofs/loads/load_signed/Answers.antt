@@ -13,7 +13,7 @@ use Rattle.memory_effects.proofs.Reading.{read_signed_transfers, number_loaded}
 use Rattle.scalar_domain.proofs.Words.{loaded_signed_lt}
 use Rattle.memory_effects.proofs.loads.load_signed.Goals as goal
 use Rattle.typed_runs.proofs.Planning.{to_alike}
-use Rattle.kind_tests.proofs.Setting.{set-there}
+use Rattle.kind_tests.proofs.Setting.{set-there, set-elsewhere}
 
 pub returns-clause-sound : goal.returns-clause-sound
 returns-clause-sound c =
@@ -53,5 +53,8 @@ returns-clause-floor c =
     let a = state_of c.args.state.now in
     let there = set-there c.args.dst c.args.dst (kind_of c.kind.result) a (state_of c.set.new.self) c.set.ensures.alike refl in
     let n = number_loaded c.in_ok-reads.reads c.load_signed.result c.args.width a c.args.from c.args.shape.now.ctx_len c.args.shape.now.shapes.now
-        (subst (λ (w : Width). IsReadByLoad c.in_ok-reads.reads a (byte_count w) c.args.from c.args.shape.now.ctx_len c.args.shape.now.shapes.now) c.width.ensures c.in_ok-reads.ensures.reads) in
+    (subst (λ (w : Width). IsReadByLoad c.in_ok-reads.reads a (byte_count w) c.args.from c.args.shape.now.ctx_len c.args.shape.now.shapes.now) c.width.ensures c.in_ok-reads.ensures.reads) in
     (n.0, there ∙ (c.kind.ensures ∙ n.1))
+
+pub returns-clause-others : goal.returns-clause-others
+returns-clause-others c = λ r ne. set-elsewhere c.args.dst r (kind_of c.kind.result) (state_of c.args.state.now) (state_of c.set.new.self) c.set.ensures.alike ne

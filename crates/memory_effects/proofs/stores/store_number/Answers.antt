@@ -21,3 +21,6 @@ returns-clause-sound c =
     λ ctx_len shapes. to_alike (Store c.args.width c.args.to.base c.args.to.offset c.args.src.now) shapes ctx_len a (with_cells at (byte_count c.args.width) ByteCell a) (state_of c.write.new.self)
     (subst (λ (w : ℕ). AreAlike (with_cells at w ByteCell a) (state_of c.write.new.self)) c.bytes.ensures.value c.write.ensures.alike)
     (number_stored c.args.width c.args.to.base c.args.to.offset c.args.src.now shapes ctx_len a c.args.start at (ap kind_of c.requires.base) value c.requires.number)
+
+pub returns-clause-others : goal.returns-clause-others
+returns-clause-others c = λ r. c.write.ensures.alike.regs r

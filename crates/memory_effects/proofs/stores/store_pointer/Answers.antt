@@ -20,3 +20,6 @@ returns-in_ok-at-in-Eight-clause-sound c =
     let v = c.requires.value in
     λ ctx_len shapes. to_alike (Store c.args.width c.args.to.base c.args.to.offset c.args.src.now) shapes ctx_len a (with_cells at 8 (PartCell kind) a) (state_of c.spill.new.self) c.spill.ensures.alike
     (spill_stored c.args.width c.args.to.base c.args.to.offset c.args.src.now shapes ctx_len a c.args.start at v.0 kind c.in-Eight.is v.1 (ap kind_of c.requires.base) value (ap kind_of v.2) c.requires.written)
+
+pub returns-in_ok-at-in-Eight-clause-others : goal.returns-in_ok-at-in-Eight-clause-others
+returns-in_ok-at-in-Eight-clause-others c = λ r. c.spill.ensures.alike.regs r

@@ -1,4 +1,4 @@
-use Rattle.std.proofs.Common.{rules, refl}
+use Rattle.std.proofs.Common.{rules, refl, ◌∙◌}
 use Rattle.bpf_model.specs.declared.insn.Insn.TheVariants.{LoadSigned}
 use Rattle.register_kinds.specs.States.{state_of}
 use Rattle.bpf_model.specs.Access.{byte_count, unsigned_width}
@@ -31,3 +31,4 @@ returns c = λ top below.
     (load_serves (LoadSigned c.args.width c.args.dst c.args.from.base c.args.from.offset) c.args.dst c.args.from.base (byte_count (unsigned_width c.args.width)) c.args.from.offset c.args.shape.now.shapes.now a (λ shape v. v) (signed_no_other c.args.width c.args.dst c.args.from.base c.args.from.offset) (λ opens. no_section_call (LoadSigned c.args.width c.args.dst c.args.from.base c.args.from.offset) opens refl)
     (state_of b) (λ map ne reads. let n = c.in_ok-region.ensures.value map ne reads in (n.number, n.alike)))
     c.in_ok-region.ensures.floor
+    (λ r s n e. c.in_ok-region.ensures.others r n ∙ e)

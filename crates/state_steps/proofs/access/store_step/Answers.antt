@@ -1,4 +1,4 @@
-use Rattle.std.proofs.Common.{rules, refl, None}
+use Rattle.std.proofs.Common.{rules, refl, None, ◌∙◌}
 use Rattle.bpf_model.specs.declared.insn.Insn.TheVariants.{Store}
 use Rattle.bpf_model.specs.Access.{byte_count}
 use Rattle.register_kinds.specs.States.{state_of}
@@ -27,3 +27,4 @@ returns c = λ top below.
     store_keeps (Store c.args.width c.args.to.base c.args.to.offset c.args.src.now) ready.simple.1 (byte_count c.args.width) (state_of a) (state_of b) (λ r w. w) (λ k t. taken_within c.args.width c.args.to.offset ready.simple.1 k ready.simple.2 t) n.alike)
     (serves_none c.args.shape.now.shapes.now (Store c.args.width c.args.to.base c.args.to.offset c.args.src.now) refl (state_of a) (state_of b) None)
     tt
+    (λ r s n e. c.in_ok-region.ensures.others r ∙ e)

@@ -1,4 +1,4 @@
-use Rattle.std.proofs.Common.{rules, refl}
+use Rattle.std.proofs.Common.{rules, refl, ◌∙◌}
 use Rattle.bpf_model.specs.declared.insn.Insn.TheVariants.{Alu}
 use Rattle.register_kinds.specs.States.{state_of}
 use Rattle.compute_effects.specs.Computes.{SetsKind}
@@ -18,6 +18,7 @@ returns c = λ shapes ctx_len top below.
     set_keeps (Alu c.args.op c.args.size c.args.dst c.args.src.now) c.args.dst n.number (state_of a) (state_of b) (record { writes = λ r w. w; no_bytes = λ k w. w }) ready.keeps_frame n.alike)
     (alu_serves c.args.op c.args.size c.args.dst c.args.src.now a (λ k. SetsKind c.alu.result c.args.dst k (state_of a) (state_of b)) c.alu.ensures.copies c.alu.ensures.frame shapes (state_of b) (λ k r. r.alike))
     c.in_ok-alu.ensures.floor
+    (λ r s n e. c.in_ok-alu.ensures.others r n ∙ e)
 
 pub returns-in_err-alu : goal.returns-in_err-alu
 returns-in_err-alu c = λ shapes ctx_len top below. record {

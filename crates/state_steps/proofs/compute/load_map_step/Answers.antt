@@ -1,4 +1,4 @@
-use Rattle.std.proofs.Common.{rules, refl, w32}
+use Rattle.std.proofs.Common.{rules, refl, w32, ◌∙◌}
 use mir.Val.{SFits}
 use Rattle.std.proofs.lemmas.Int.{to_z-of_z}
 use Rattle.bpf_model.specs.declared.insn.Insn.TheVariants.{LoadMap}
@@ -17,3 +17,4 @@ returns c = λ ctx_len top below.
     (sound c.args.shape.now.shapes.now ctx_len refl) (c.load_map.ensures.below top below) (λ ready. absurd ready.simple)
     (map_serves c.args.dst c.args.map c.args.shape.now.shapes.now (state_of c.args.state.now) (λ k. SetsKind c.load_map.result c.args.dst k (state_of c.args.state.now) (state_of c.load_map.new.state)) sets (state_of c.load_map.new.state) (λ k r. r.alike))
     tt
+    (λ r s n e. c.in_ok-load_map.ensures.others r n ∙ e)

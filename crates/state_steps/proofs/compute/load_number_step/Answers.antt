@@ -1,4 +1,4 @@
-use Rattle.std.proofs.Common.{refl, None}
+use Rattle.std.proofs.Common.{refl, None, ◌∙◌}
 use Rattle.bpf_model.specs.declared.insn.Insn.TheVariants.{LoadNumber}
 use Rattle.register_kinds.specs.States.{state_of}
 use Rattle.state_steps.proofs.Serving.{serves_none}
@@ -16,3 +16,4 @@ returns c = λ shapes ctx_len top below.
     set_keeps (LoadNumber c.args.dst c.args.number) c.args.dst n.number (state_of a) (state_of b) (record { writes = λ r w. w; no_bytes = λ k w. w }) ready.keeps_frame n.alike)
     (serves_none shapes (LoadNumber c.args.dst c.args.number) refl (state_of a) (state_of b) None)
     c.in_ok-load_number.ensures.floor
+    (λ r s n e. c.in_ok-load_number.ensures.others r n ∙ e)

@@ -1,4 +1,4 @@
-use Rattle.std.proofs.Common.{refl, None}
+use Rattle.std.proofs.Common.{refl, None, ◌∙◌}
 use Rattle.bpf_model.specs.declared.insn.Insn.TheVariants.{Unary}
 use Rattle.bpf_model.specs.Operand.{unary_source}
 use Rattle.register_kinds.specs.States.{state_of}
@@ -17,3 +17,4 @@ returns c = λ shapes ctx_len top below.
     set_keeps (Unary c.args.op.now c.args.dst) c.args.dst n.number (state_of a) (state_of b) (record { writes = λ r w. w; no_bytes = λ k w. w }) ready.keeps_frame n.alike)
     (serves_none shapes (Unary c.args.op.now c.args.dst) refl (state_of a) (state_of b) None)
     c.in_ok-unary.ensures.floor
+    (λ r s n e. c.in_ok-unary.ensures.others r n ∙ e)

@@ -1,6 +1,9 @@
-use Rattle.std.proofs.Common.{sym, ◌∙◌}
-use Rattle.std.proofs.lemmas.Result.{on_ok_weaker}
+use Rattle.std.proofs.Common.{◌≡◌, sym, subst, ◌∙◌}
+use Rattle.std.proofs.lemmas.Result.{on_ok_weaker, IfOk-weaker}
 use Rattle.state_steps.proofs.Stepping.{null_forks, maybe_compares, value_compares, numbers_compare, null_no_number, value_no_number}
+use Rattle.typed_runs.specs.Kinds.{Num}
+use Rattle.register_kinds.specs.declared.state.AbsState.{AbsState}
+use Rattle.register_kinds.specs.States.{kind_at}
 use Rattle.state_steps.proofs.control.branch.Goals as goal
 
 pub returns-in_ok-null_branch-in-Some-MaybeNull-clause-sound : goal.returns-in_ok-null_branch-in-Some-MaybeNull-clause-sound
@@ -45,3 +48,21 @@ returns-in_ok-fork_value-in-Some-Value-clause-floor c = λ x y e f. absurd (valu
 
 pub returns-in_ok-fork_value-in-Some-Value-clause-taken_floor : goal.returns-in_ok-fork_value-in-Some-Value-clause-taken_floor
 returns-in_ok-fork_value-in-Some-Value-clause-taken_floor c = λ x y e f. absurd (value_no_number _ _ _ x (sym c.kind.ensures ∙ c.in-Some-Value.is-1) e)
+
+pub returns-in_ok-null_branch-in-Some-MaybeNull-clause-others : goal.returns-in_ok-null_branch-in-Some-MaybeNull-clause-others
+returns-in_ok-null_branch-in-Some-MaybeNull-clause-others c = λ offset r s n e. c.in_ok-null_branch-in-Some-MaybeNull.ensures.others r s e
+
+pub returns-in_ok-null_branch-in-Some-MaybeNull-clause-others_taken : goal.returns-in_ok-null_branch-in-Some-MaybeNull-clause-others_taken
+returns-in_ok-null_branch-in-Some-MaybeNull-clause-others_taken c = λ offset r s n e. c.in_ok-null_branch-in-Some-MaybeNull.ensures.others_taken r s e
+
+pub returns-in_ok-fork_value-in-Some-Value-clause-others : goal.returns-in_ok-fork_value-in-Some-Value-clause-others
+returns-in_ok-fork_value-in-Some-Value-clause-others c = λ offset r s n e. e
+
+pub returns-in_ok-fork_value-in-Some-Value-clause-others_taken : goal.returns-in_ok-fork_value-in-Some-Value-clause-others_taken
+returns-in_ok-fork_value-in-Some-Value-clause-others_taken c = λ offset r s n e. subst (λ (a : AbsState). kind_at a.regs r ≡ Num s) (sym c.in_ok-fork_value-in-Some-Value.ensures.same) e
+
+pub returns-in_default-clause-others : goal.returns-in_default-clause-others
+returns-in_default-clause-others c = on_ok_weaker c.fork.result (λ w offset r s n e. w.others r n ∙ e) c.fork.ensures.narrowed
+
+pub returns-in_default-clause-others_taken : goal.returns-in_default-clause-others_taken
+returns-in_default-clause-others_taken c = IfOk-weaker c.fork.result _ _ (λ taken w offset r s n e. w.others r n ∙ e) c.fork.ensures.taken_narrowed

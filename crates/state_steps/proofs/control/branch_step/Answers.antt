@@ -22,6 +22,8 @@ returns c = λ offset shapes ctx_len top below.
           keeps = λ ready. narrow_keeps i c.args.dst c.args.src.now (pos FRAME_BYTES) a b (λ r x. x) (λ k x. x) ready.registers ready.frame (t.narrowed (ready.registers c.args.dst (inl refl)));
           keeps_taken = λ ready. narrow_keeps i c.args.dst c.args.src.now (pos FRAME_BYTES) a (state_of c.in_ok-taken.taken.value) (λ r x. x) (λ k x. x) ready.registers ready.frame (t.taken_narrowed (ready.registers c.args.dst (inl refl)));
           floor = (t.floor, t.taken_floor);
+          others = t.others offset;
+          others_taken = t.others_taken offset;
           serves = branch_serves c.args.condition c.args.size c.args.dst c.args.src.now offset shapes c.args.state.now c.branch-state.new.state c.in_ok-taken.taken.value t.splits;
         };
         taken_below = t.taken_below top below;

@@ -3,7 +3,7 @@ use mir.Val.{SFits}
 use Rattle.std.proofs.lemmas.Int.{to_z-of_z}
 use Rattle.bpf_model.specs.declared.insn.Insn.TheVariants.{Call}
 use Rattle.state_steps.proofs.Serving.{call_ready, call_serves}
-use Rattle.state_steps.proofs.Stepping.{quiet_step}
+use Rattle.state_steps.proofs.Stepping.{quiet_step, above_five}
 use Rattle.state_steps.proofs.control.call_step.Goals as goal
 
 pub returns-in_err-call-clause-stepped : goal.returns-in_err-call-clause-stepped
@@ -30,3 +30,4 @@ returns-clause-stepped c = λ ctx_len.
     (sound ctx_len) c.call.ensures.below (λ ready. absurd ready.simple)
     (call_serves c.args.kind c.args.imm c.args.shape.now.shapes.now c.args.state.now c.call.new.state (record { finds = finds; called = called }))
     tt
+    (λ r s n e. c.in_ok-call.ensures.others r s (above_five r n) e)

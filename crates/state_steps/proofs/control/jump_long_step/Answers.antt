@@ -13,3 +13,4 @@ returns c = λ imm shapes ctx_len top a below.
     (c.jump_long_transfers.ensures imm shapes ctx_len (state_of a)) below (λ ready. same_keeps (JumpLong imm) (state_of a) (λ r x. x) (λ k x. x))
     (serves_none shapes (JumpLong imm) refl (state_of a) (state_of a) None)
     tt
+    (λ r s n e. e)

@@ -13,3 +13,4 @@ returns c = λ offset shapes ctx_len top a below.
     (c.jump_transfers.ensures offset shapes ctx_len (state_of a)) below (λ ready. same_keeps (Jump offset) (state_of a) (λ r x. x) (λ k x. x))
     (serves_none shapes (Jump offset) refl (state_of a) (state_of a) None)
     tt
+    (λ r s n e. e)
