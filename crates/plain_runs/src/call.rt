@@ -23,8 +23,8 @@ ghost use Rattle.plain_runs.specs.MapKeys.{IsMapKey};
 use crate::run::{Loaded, Run};
 use arrayvec::ArrayVec;
 use bpf_model::{
-    Answer, Cell, FRAME_BYTES, Helper, KernelFunction, KeyBytes, MAX_DEPTH, MapShape,
-    Reference, Reg, Value, ValueBytes, ret_word,
+    Answer, Cell, FRAME_BYTES, Helper, KernelFunction, KeyBytes, MAX_DEPTH, MapShape, Reference,
+    Reg, Value, ValueBytes, ret_word,
 };
 use plain_interpreter::{PlainRun, number};
 use plain_store::{Fault, Section, Store, one_more};
