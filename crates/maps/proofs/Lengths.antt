@@ -1,5 +1,5 @@
 -- Keys that come and go leave those of an index as long as they are.
-use Rattle.std.proofs.Common.{◌≡◌, ◌∙◌, ℕ, List, length, Some, None, sym, ap, inl, inr}
+use Rattle.std.proofs.Common.{◌≡◌, ◌∙◌, ℕ, List, length, sym, ap, inl, inr}
 use Rattle.std.specs.FinMap.{get, insert, remove}
 use Rattle.std.proofs.lemmas.Option.{none-some}
 use Rattle.bpf_model.specs.Codes.{KeyMap}

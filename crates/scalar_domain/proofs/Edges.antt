@@ -1,6 +1,6 @@
 -- What the edges of a conditional jump say.
 use Rattle.std.proofs.Common.{◌≡◌, ℕ, suc, pos, negsuc, refl, ap, ap₂, inl, inr, ◌-◌, ◌%◌, ◌^◌, ◌<◌, ◌≤◌, sym, ◌∙◌, subst, arith, Bool, true, false}
-use Rattle.std.specs.Prelude.{◌≢◌, bit_and, ◌==◌, int_lt, int_le, Option, Some, None, IsSomeAnd}
+use Rattle.std.specs.Prelude.{bit_and, ◌==◌, int_lt, int_le, Option, Some, None, IsSomeAnd}
 use Rattle.std.specs.Int.{Width, w32, w64}
 use mir.Val.{bits, hbits, sel}
 use Rattle.std.proofs.lemmas.Bool.{eqb-true, eqb-false, not-true, eq-eqb, ltb-true, ltb-false, leb-true, leb-false, lt-ltb, le-ltb, le-leb, lt-leb, not-false, not_from_true, false≢true, cases_lt}
