@@ -165,9 +165,9 @@ parts_at f at kind e all spill j l =
     let group : (at + j) / 8 ≡ at / 8 = omega (arith, e, l) in
     ap (cell_of (kind_in f.spills ((at + j) / 8))) (all (at + j) (omega arith) (omega (arith, l))) ∙ (ap (λ g. PartCell (kind_of (kind_in f.spills g))) group ∙ ap (λ k. PartCell (kind_of k)) spill)
 
-module _ (a : StateHere) (from : Address) (width : Width) (start : ℤ) (at : ℕ) (base : kind_in a.regs from.base ≡ kinds.Frame start) (place : region_offset FRAME_BYTES (byte_count width) (start +ℤ from.offset) ≡ Some at) where
+module _ (a : StateHere) (from : Address) (width : Width) (start : ℤ) (at : ℕ) (base : kind_in a.regs from.base ≡ kinds.Frame start) (lies : region_offset FRAME_BYTES (byte_count width) (start +ℤ from.offset) ≡ Some at) where
   pub frame_reached : ReachesFrame (state_of a) from.base (byte_count width) from.offset at
-  frame_reached = record { start = start; base = ap kind_of base; inside = place }
+  frame_reached = record { start = start; base = ap kind_of base; inside = lies }
 
   pub parts_read : (kind : RegKind) → at % byte_count width ≡ 0 → byte_count width ≡ 8 → kind_in a.frame.spills (at / 8) ≡ kind → is_pointer kind ≡ true → AreAll a.frame.cells at (byte_count width) class.Part
       → ReadsParts (state_of a) from.base (byte_count width) from.offset (kind_of kind)

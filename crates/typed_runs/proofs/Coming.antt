@@ -15,9 +15,9 @@ use Rattle.bpf_model.specs.Event.{PerformsEvent, Answers, DoesEvent, Starts, ref
 use Rattle.model_laws.proofs.Sections.{run-set_cases}
 
 pub record FreshRun (m new : Machine) (run : Run) : Type 0 where
-  pub place : ℕ
+  pub index : ℕ
   pub program : Loaded
-  pub loaded : slice_get m.programs place ≡ Some program
+  pub loaded : slice_get m.programs index ≡ Some program
   pub context : List ℕ
   pub long : length context ≡ program.context_len
   pub bytes : AreBytes context
@@ -47,7 +47,7 @@ comes-start m prog ctx r new real pass h q run at =
     let runs : new.runs ≡ slice_set m.runs r (Some (fresh_run m.started h.program ctx)) = ap (λ x. x.runs) h.new_is in
     let fits : (length ctx == h.program.context_len) ≡ true = context-fits _ (lowest_free m.runs) (ap (λ o. start_refusal o (length ctx) (lowest_free m.runs)) (sym h.there) ∙ pass) in
     elim (run-set_cases m.runs r q (Some (fresh_run m.started h.program ctx)) run (ap (λ l. run_at l q) (sym runs) ∙ at)) [
-      | inl x ↦ Starting (record { place = prog; program = h.program; loaded = h.there; context = ctx; long = eqb-true _ _ fits; bytes = real; is = same_Some _ _ x.1 })
+      | inl x ↦ Starting (record { index = prog; program = h.program; loaded = h.there; context = ctx; long = eqb-true _ _ fits; bytes = real; is = same_Some _ _ x.1 })
       | inr x ↦ Stands x.1
     ]
 

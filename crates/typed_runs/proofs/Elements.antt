@@ -86,12 +86,12 @@ pub element-loads : (shapes : List MapShape) (ctx_len : ℕ) (s : Maps) (opened 
 element-loads shapes ctx_len s opened run map shape scalar width offset v w at placed x =
     let long = value-long shapes ctx_len s opened run map x.n shape w at x.held in
     let p = placed x.offset x.there in
-    let place : region_offset (length x.held.element.value) width (x.offset +ℤ offset) ≡ Some p.0 = ap (λ l. region_offset l width (x.offset +ℤ offset)) long ∙ p.1 in
-    let r = number_read (slice_get x.held.element.value) p.0 width (value-bytes x.held.element.value p.0 width (w.bytes x.n x.held.element x.held.born) (offset_some _ _ _ _ place).1) in (
+    let fits : region_offset (length x.held.element.value) width (x.offset +ℤ offset) ≡ Some p.0 = ap (λ l. region_offset l width (x.offset +ℤ offset)) long ∙ p.1 in
+    let r = number_read (slice_get x.held.element.value) p.0 width (value-bytes x.held.element.value p.0 width (w.bytes x.n x.held.element x.held.born) (offset_some _ _ _ _ fits).1) in (
       r.0,
       ap (element_load s.elements width offset) x.is
           ∙ (ap (λ o. o >>= loaded_from width (x.offset +ℤ offset)) (accessible-held (scene_of s.elements run) map x.n x.held)
-          ∙ (ap (λ o. o >>= λ k. number_at (slice_get x.held.element.value) k width) place ∙ r.1)),
+          ∙ (ap (λ o. o >>= λ k. number_at (slice_get x.held.element.value) k width) fits ∙ r.1)),
       r.2,
     )
 
@@ -157,9 +157,9 @@ pub element-stores : (shapes : List MapShape) (ctx_len : ℕ) (s : Maps) (opened
 element-stores shapes ctx_len s opened run map shape scalar width offset n v base w at placed number x =
     let long = value-long shapes ctx_len s opened run map x.n shape w at x.held in
     let p = placed x.offset x.there in
-    let place : region_offset (length x.held.element.value) width (x.offset +ℤ offset) ≡ Some p.0 = ap (λ l. region_offset l width (x.offset +ℤ offset)) long ∙ p.1 in
+    let fits : region_offset (length x.held.element.value) width (x.offset +ℤ offset) ≡ Some p.0 = ap (λ l. region_offset l width (x.offset +ℤ offset)) long ∙ p.1 in
     let es : List Element = changed (with_value (with_bytes p.0 width n x.held.element.value)) s.elements x.n in
-    let stored : stored_in s.elements x.n width (x.offset +ℤ offset) n x.held.element ≡ Some es = ap (λ o. o >>= λ k. Some (changed (with_value (with_bytes k width n x.held.element.value)) s.elements x.n)) place in record {
+    let stored : stored_in s.elements x.n width (x.offset +ℤ offset) n x.held.element ≡ Some es = ap (λ o. o >>= λ k. Some (changed (with_value (with_bytes k width n x.held.element.value)) s.elements x.n)) fits in record {
       es = es;
       stores = ap (λ y. element_store s.elements width offset y base) number ∙ (ap (element_store s.elements width offset (Number n)) x.is
           ∙ (ap (λ o. o >>= stored_in s.elements x.n width (x.offset +ℤ offset) n) (accessible-held (scene_of s.elements run) map x.n x.held) ∙ stored));

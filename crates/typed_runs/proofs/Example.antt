@@ -1,4 +1,4 @@
--- A program with a guarded lookup is verified: the plan, a state for each slot where an instruction begins.
+-- A program with a guarded lookup is verified: the plan has a state for each of its instructions.
 use Rattle.std.proofs.Common.{◌≡◌, ℕ, zero, suc, ◌+◌, ◌-◌, ◌<◌, ◌≤◌, ◌^◌, ◌%◌, ◌/◌, List, [], ◌∷◌, Some, None, inl, inr, refl, sym, ap, subst, ◌∙◌, ℤ, pos, negsuc, arith, Bool, true, false}
 use Rattle.std.specs.Prelude.{slice_get, if◌then◌else◌, ◌==◌, ◌+ℤ◌, nat_le, nat_lt}
 use Rattle.std.proofs.lemmas.Bool.{cases_eq, eq-eqb, ne_eqb}
@@ -151,18 +151,18 @@ abbrev AllCovered : Plan → List Entry → Type 0
 AllCovered plan [] = Unit {0}
 AllCovered plan (e ∷ es) = (e.index < 12) × IsCovered lookup_and_load shapes 0 plan e.index e.state × AllCovered plan es
 
-each-covered : (plan : Plan) (es : List Entry) → AllCovered plan es → (place : ℕ) (a : AbsState) → find es place ≡ Some a → (place < 12) × IsCovered lookup_and_load shapes 0 plan place a
-each-covered plan [] h place a at = absurd (none-some a at)
-each-covered plan (e ∷ es) h place a at = elim (cases_eq place e.index) [
-  | inl s ↦ subst (λ p. (p < 12) × IsCovered lookup_and_load shapes 0 plan p a) (sym s) (h.0, subst (IsCovered lookup_and_load shapes 0 plan e.index) (same_Some e.state a (sym (ap (λ b. if b then Some e.state else find es place) (eq-eqb place e.index s)) ∙ at)) h.1)
-  | inr n ↦ each-covered plan es h.2 place a (sym (ap (λ b. if b then Some e.state else find es place) (ne_eqb place e.index n)) ∙ at)
+each-covered : (plan : Plan) (es : List Entry) → AllCovered plan es → (k : ℕ) (a : AbsState) → find es k ≡ Some a → (k < 12) × IsCovered lookup_and_load shapes 0 plan k a
+each-covered plan [] h k a at = absurd (none-some a at)
+each-covered plan (e ∷ es) h k a at = elim (cases_eq k e.index) [
+  | inl s ↦ subst (λ p. (p < 12) × IsCovered lookup_and_load shapes 0 plan p a) (sym s) (h.0, subst (IsCovered lookup_and_load shapes 0 plan e.index) (same_Some e.state a (sym (ap (λ b. if b then Some e.state else find es k) (eq-eqb k e.index s)) ∙ at)) h.1)
+  | inr n ↦ each-covered plan es h.2 k a (sym (ap (λ b. if b then Some e.state else find es k) (ne_eqb k e.index n)) ∙ at)
 ]
 
 no-jump : (i : Insn) (by : ℤ) → distance i ≡ None → distance i ≡ Some by → ⊥
 no-jump i by e j = none-some by (sym e ∙ j)
 
-covered : (plan : Plan) (i : Insn) (place : ℕ) (a new b : AbsState) → slice_get lookup_and_load place ≡ Some i → Transfers i shapes 0 a new None → distance i ≡ None → plan (suc place) ≡ Some b → Wider new b → IsCovered lookup_and_load shapes 0 plan place a
-covered plan i place a new b at t e next wide = record {
+covered : (plan : Plan) (i : Insn) (k : ℕ) (a new b : AbsState) → slice_get lookup_and_load k ≡ Some i → Transfers i shapes 0 a new None → distance i ≡ None → plan (suc k) ≡ Some b → Wider new b → IsCovered lookup_and_load shapes 0 plan k a
+covered plan i k a new b at t e next wide = record {
   insn = i;
   there = at;
   new = new;

@@ -126,7 +126,7 @@ typed-stepped m new_store run answer new_run shapes same t p = record {
 -- a run that starts
 typed-fresh : (m new : Machine) (run : Run) → IsWell m → KeepsShapes m.store.maps new.store.maps → FreshRun m new run → IsTyped new.store run
 typed-fresh m new run w shapes f = subst (IsTyped new.store) f.is (
-    let x = safe-kept m.store.maps new.store.maps f.program shapes (w.programs f.place f.program f.loaded) in record {
+    let x = safe-kept m.store.maps new.store.maps f.program shapes (w.programs f.index f.program f.loaded) in record {
       safe = x;
       long = f.long;
       context = f.bytes;

@@ -105,7 +105,7 @@ module _ (index : ℕ) (state : AbsState) (old new : Awaited) (m : Merged index 
 pub taken_below : (top index : ℕ) (old new : Awaited) → AllBelow top old → ((k : ℕ) → k ≢ index → new k ≡ old k) → new index ≡ Nothing → AllBelow top new
 taken_below top index old new b others gone = merged_below top index old new b others (subst (λ w. IfSome (state_in w) (AreBelow top)) (sym gone) tt)
 
--- what waits after one place was emptied
+-- what waits after what waited at one index was taken out
 pub taken_others : (index : ℕ) (old rest : Awaited) → rest index ≡ Nothing → ((k : ℕ) → k ≢ index → rest k ≡ old k) → (k : ℕ) (a : AbsState) → state_in (rest k) ≡ Some a → (k ≢ index) × (state_in (old k) ≡ Some a)
 taken_others index old rest gone others k a e = elim (cases_eq k index) [
   | inl g ↦ absurd (let f : None ≡ Some a = sym (ap state_in (ap rest g ∙ gone)) ∙ e in cc)
