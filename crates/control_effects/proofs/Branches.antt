@@ -20,7 +20,7 @@ use Rattle.scalar_domain.specs.Scalar.{Holds}
 use Rattle.typed_runs.specs.Kinds.{Num, ValueAt, AbsState}
 use Rattle.typed_runs.specs.Describes.{Scene, Describes, depth_of}
 use Rattle.typed_runs.specs.Effects.{with_kind}
-use Rattle.typed_runs.specs.Verified.{HasTarget, ActsAlone, Transfers}
+use Rattle.typed_runs.specs.Verified.{JumpsToSlot, ActsAlone, Transfers}
 use Rattle.typed_runs.specs.Planned.{AreAlike}
 use Rattle.typed_runs.proofs.Sets.{placed-described}
 use Rattle.typed_runs.proofs.Arguments.{reg-is}
@@ -63,7 +63,7 @@ narrowed_both dst r src x y a b t is e f = subst (λ (o : Operand). AreNarrowed 
 
 -- a conditional jump goes along one of its two edges
 module _ (condition : Condition) (size : Size) (dst : ℕ) (src : Operand) (offset : ℤ) (b t : AbsState) (c : Scene) (env : Environment) (m : State) where
-  branch : (p q : ℕ) (taken : Bool) → compares size condition p q ≡ taken → m.regs dst ≡ Number p → operand_value src m.regs ≡ Number q → (taken ≡ true → Describes t c m) → (taken ≡ false → Describes b c m) → HasTarget (JumpIf condition size dst src offset) m.place
+  branch : (p q : ℕ) (taken : Bool) → compares size condition p q ≡ taken → m.regs dst ≡ Number p → operand_value src m.regs ≡ Number q → (taken ≡ true → Describes t c m) → (taken ≡ false → Describes b c m) → JumpsToSlot (JumpIf condition size dst src offset) m.place
       → ActsAlone (JumpIf condition size dst src offset) b (Some t) c env m
   branch p q true is e f yea nay target = let x = target offset refl in record {
     out = Moves (record { regs = m.regs; frame = m.frame; place = x.0 });

@@ -36,21 +36,21 @@ KeepsInsnFloor (JumpIf condition size dst src offset) a b taken =
 KeepsInsnFloor _ a b taken = Unit {0}
 
 -- The registers that the instruction writes, or whose numbers it compares. A call leaves r6 to r9.
-abbrev pub Touches : Insn → ℕ → Type 0
-Touches (Alu op size dst src) r = r ≡ dst
-Touches (Unary op dst) r = r ≡ dst
-Touches (LoadNumber dst n) r = r ≡ dst
-Touches (LoadMap dst map) r = r ≡ dst
-Touches (Load width dst src offset) r = r ≡ dst
-Touches (LoadSigned width dst src offset) r = r ≡ dst
-Touches (JumpIf condition size dst src offset) r = (r ≡ dst) ⊎ Names src r
-Touches (Call kind imm) r = r ≤ 5
-Touches _ r = ⊥
+abbrev pub TouchesRegister : Insn → ℕ → Type 0
+TouchesRegister (Alu op size dst src) r = r ≡ dst
+TouchesRegister (Unary op dst) r = r ≡ dst
+TouchesRegister (LoadNumber dst n) r = r ≡ dst
+TouchesRegister (LoadMap dst map) r = r ≡ dst
+TouchesRegister (Load width dst src offset) r = r ≡ dst
+TouchesRegister (LoadSigned width dst src offset) r = r ≡ dst
+TouchesRegister (JumpIf condition size dst src offset) r = (r ≡ dst) ⊎ Names src r
+TouchesRegister (Call kind imm) r = r ≤ 5
+TouchesRegister _ r = ⊥
 
 -- Numbers in the other registers stay as they are.
 abbrev pub KeepsNumbers : Insn → AbsState → AbsState → Type 0
 KeepsNumbers i a b =
-    (r : ℕ) (s : Scalar) → (Touches i r → ⊥) → a.regs r ≡ Num s → b.regs r ≡ Num s
+    (r : ℕ) (s : Scalar) → (TouchesRegister i r → ⊥) → a.regs r ≡ Num s → b.regs r ≡ Num s
 
 -- Numbers in all registers stay as they are.
 abbrev pub KeepsAllNumbers : AbsState → AbsState → Type 0

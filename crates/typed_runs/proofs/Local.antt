@@ -32,7 +32,7 @@ use Rattle.bpf_model.specs.Event.{AllBytes}
 use Rattle.typed_runs.specs.Kinds.{Kind, Blank, Mixed, Ended, Num, CtxAt, FrameAt, MapAt, ValueAt, MaybeNull, CellKind, BlankCell, MixedCell, EndedCell, ByteCell, PartCell, AbsState}
 use Rattle.typed_runs.specs.Describes.{Scene, scene_of, Naming, IsNullOrHeld, HasOffset, IsOf, Stored, part_of, IsOfCell, Describes}
 use Rattle.typed_runs.specs.Effects.{null_kind, null_cell, there_kind, there_cell, when_null, when_there}
-use Rattle.typed_runs.specs.Verified.{Surrounds, HasStep, Leads, Transfers, is_call, IsEnvironment, HasTarget, LandsDescribed, TransfersAlone}
+use Rattle.typed_runs.specs.Verified.{Surrounds, HasStep, Leads, Transfers, is_call, IsEnvironment, JumpsToSlot, LandsDescribed, TransfersAlone}
 use Rattle.typed_runs.proofs.Arguments.{reg-is}
 
 -- an instruction's steps are those of one that is no call
@@ -70,7 +70,7 @@ acts-leads i s run b taken answer new_store new_run x h =
     (x.bytes, ended-leads x.out i b taken x.es run answer new_run x.reaches (subst (λ y. OutcomeStep y run answer new_run) (sym o.0) h.4)))
 
 pub acts-transfers : (i : Insn) (shapes : List MapShape) (ctx_len : ℕ) (a b : AbsState) (taken : Option AbsState) → IsNoCall i →
-    ((s : Store) (opened : List Section) (run : Run) → Surrounds shapes ctx_len s opened run → HasTarget i run.state.place → Describes a (scene_of s.elements run) run.state → Acting i s run b taken) → Transfers i shapes ctx_len a b taken
+    ((s : Store) (opened : List Section) (run : Run) → Surrounds shapes ctx_len s opened run → JumpsToSlot i run.state.place → Describes a (scene_of s.elements run) run.state → Acting i s run b taken) → Transfers i shapes ctx_len a b taken
 acts-transfers i shapes ctx_len a b taken plain f = record {
   goes = λ s opened run w t d. acts-goes i s opened run b taken plain (f s opened run w t d);
   leads = λ s opened run answer new_store new_run w t d h. acts-leads i s run b taken answer new_store new_run (f s opened run w t d) ((plain s opened run answer new_store new_run).1 h);
@@ -203,7 +203,7 @@ abbrev jne : ℕ → ℤ → Insn
 jne dst offset = JumpIf NotEqual Word64 dst (Immediate (pos 0)) offset
 
 module _ (shapes : List MapShape) (ctx_len dst : ℕ) (offset : ℤ) (map id : ℕ) (a : AbsState) (z origin : Scalar) (holds : Holds z 0) (at : HasOffset origin (pos 0)) (e : a.regs dst ≡ MaybeNull map id) where
-  jeq-acts : (s : Store) (run : Run) (bytes : AllBytes s.elements) → HasTarget (jeq dst offset) run.state.place → (d : Describes a (scene_of s.elements run) run.state) (o : Option ℕ) → d.naming id ≡ o → Acting (jeq dst offset) s run (when_there id origin a) (Some (when_null id z a))
+  jeq-acts : (s : Store) (run : Run) (bytes : AllBytes s.elements) → JumpsToSlot (jeq dst offset) run.state.place → (d : Describes a (scene_of s.elements run) run.state) (o : Option ℕ) → d.naming id ≡ o → Acting (jeq dst offset) s run (when_there id origin a) (Some (when_null id z a))
   jeq-acts s run bytes t d None is =
       let v : run.state.regs dst ≡ Number 0 = number-of d.naming id (run.state.regs dst) is (reg-is a (scene_of s.elements run) run.state dst (MaybeNull map id) d e).0 in
       let x = t offset refl in
@@ -222,7 +222,7 @@ module _ (shapes : List MapShape) (ctx_len dst : ℕ) (offset : ℤ) (map id : �
   equal_transfers = acts-transfers (jeq dst offset) shapes ctx_len a (when_there id origin a) (Some (when_null id z a)) (λ s opened run answer ns nr. (λ h. h, λ h. h))
       (λ s opened run w t d. jeq-acts s run w.bytes t d (d.naming id) refl)
 
-  jne-acts : (s : Store) (run : Run) (bytes : AllBytes s.elements) → HasTarget (jne dst offset) run.state.place → (d : Describes a (scene_of s.elements run) run.state) (o : Option ℕ) → d.naming id ≡ o → Acting (jne dst offset) s run (when_null id z a) (Some (when_there id origin a))
+  jne-acts : (s : Store) (run : Run) (bytes : AllBytes s.elements) → JumpsToSlot (jne dst offset) run.state.place → (d : Describes a (scene_of s.elements run) run.state) (o : Option ℕ) → d.naming id ≡ o → Acting (jne dst offset) s run (when_null id z a) (Some (when_there id origin a))
   jne-acts s run bytes t d None is =
       let v : run.state.regs dst ≡ Number 0 = number-of d.naming id (run.state.regs dst) is (reg-is a (scene_of s.elements run) run.state dst (MaybeNull map id) d e).0 in
       by-itself (jne dst offset) s run (when_null id z a) (Some (when_there id origin a)) (Moves (forward 1 run.state)) bytes

@@ -26,7 +26,7 @@ use Rattle.scalar_domain.specs.Constant.{le_self}
 use Rattle.bpf_model.specs.Event.{AllBytes}
 use Rattle.typed_runs.specs.Kinds.{Blank, CtxAt, FrameAt, AbsState}
 use Rattle.typed_runs.specs.Describes.{Scene, scene_of, HasOffset, IsContextAt, IsOf, IsOfCell, AreNear, Describes, depth_of}
-use Rattle.typed_runs.specs.Verified.{Plan, Surrounds, HasTarget, Leads, Transfers, IsPlanned, IsPlannedAfter, IsClosed}
+use Rattle.typed_runs.specs.Verified.{Plan, Surrounds, JumpsToSlot, Leads, Transfers, IsPlanned, IsPlannedAfter, IsClosed}
 use Rattle.typed_runs.specs.Planned.{origin, number_zero, Wider, AreAlike, Joins, entry_state, Covers, IsCovered, IsPlanKept}
 use Rattle.typed_runs.proofs.Sets.{choice-of, near-set, widened}
 
@@ -114,7 +114,7 @@ module _ (code : List Insn) (shapes : List MapShape) (ctx_len : ℕ) (plan : Pla
       subst (StartsAt code t) g l.to_is
 
   -- where a covered instruction jumps, its target is not before slot 0
-  has-target : (k place : ℕ) (a : AbsState) (v : IsCovered code shapes ctx_len plan k a) → StartsAt code k place → HasTarget v.insn place
+  has-target : (k place : ℕ) (a : AbsState) (v : IsCovered code shapes ctx_len plan k a) → StartsAt code k place → JumpsToSlot v.insn place
   has-target k place a v at by far = let t = v.jumps_on by far in (t.1.to, jump-sum k place t.0 v.insn by at far t.1)
 
   led : (k place : ℕ) (a : AbsState) (v : IsCovered code shapes ctx_len plan k a) (es : List Element) (run : Run) → StartsAt code k place → Leads v.insn v.new v.taken place es run → run.exit ≡ None → IsPlannedAfter code plan k (scene_of es run) run.state

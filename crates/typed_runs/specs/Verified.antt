@@ -46,8 +46,8 @@ HasStep i s opened run = (answer : Answer) × (new_store : Store) × (new_run : 
     × InsnStep i s opened run answer new_store new_run
 
 -- where the instruction jumps, its target is not before slot 0
-abbrev pub HasTarget : Insn → ℕ → Type 0
-HasTarget i place = (d : ℤ) → distance i ≡ Some d →
+abbrev pub JumpsToSlot : Insn → ℕ → Type 0
+JumpsToSlot i place = (d : ℤ) → distance i ≡ Some d →
     (target : ℕ) × (pos target ≡ pos (place + 1) +ℤ d)
 
 -- An exit is outside every section. Else the run is described where control falls through, or where
@@ -69,11 +69,11 @@ Leads i new taken place es run =
 pub record Transfers (i : Insn) (shapes : List MapShape) (ctx_len : ℕ) (old new : AbsState)
     (taken : Option AbsState) : Type 0 where
   pub goes : (s : Store) (opened : List Section) (run : Run) → Surrounds shapes ctx_len s opened run
-      → HasTarget i run.state.place → Describes old (scene_of s.elements run) run.state
+      → JumpsToSlot i run.state.place → Describes old (scene_of s.elements run) run.state
       → HasStep i s opened run
   pub leads : (s : Store) (opened : List Section) (run : Run) (answer : Answer)
       (new_store : Store) (new_run : Run) → Surrounds shapes ctx_len s opened run
-      → HasTarget i run.state.place → Describes old (scene_of s.elements run) run.state →
+      → JumpsToSlot i run.state.place → Describes old (scene_of s.elements run) run.state →
       InsnStep i s opened run answer new_store new_run → AllBytes new_store.elements
       × Leads i new taken run.state.place new_store.elements new_run
 
@@ -139,5 +139,5 @@ pub record ActsAlone (i : Insn) (new : AbsState) (taken : Option AbsState) (c : 
 abbrev pub TransfersAlone : Insn → List MapShape → ℕ → AbsState → AbsState → Option AbsState →
     Type 0
 TransfersAlone i shapes ctx_len old new taken = (c : Scene) (env : Environment) (m : State)
-    → IsEnvironment ctx_len (length shapes) env → HasTarget i m.place → Describes old c m
+    → IsEnvironment ctx_len (length shapes) env → JumpsToSlot i m.place → Describes old c m
     → ActsAlone i new taken c env m
