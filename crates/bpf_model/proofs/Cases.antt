@@ -44,7 +44,7 @@ equal-is Less h = absurd (false≢true h)
 equal-is Equal h = refl
 equal-is Greater h = absurd (false≢true h)
 
--- where no element was born, none takes a slot
+-- where no element was born, none takes a map slot
 pub oldest-none : (old new : Store) → length new.elements ≡ length old.elements → TakesOldest old new
 oldest-none old new same e before after at h g = let z : length old.elements < length new.elements = slice_get_within new.elements (length old.elements) e at in absurd (omega arith)
 

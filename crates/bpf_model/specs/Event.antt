@@ -34,7 +34,7 @@ event_refusal_number StillRunning = 67
 abbrev pub AreBytes : List ℕ → Type 0
 AreBytes bytes = (k b : ℕ) → slice_get bytes k ≡ Some b → b < 2 ^ 8
 
--- so is each value of these elements
+-- the value of each of these elements is bytes
 abbrev pub AllBytes : List Element → Type 0
 AllBytes es = (n : ℕ) (e : Element) → slice_get es n ≡ Some e → AreBytes e.value
 

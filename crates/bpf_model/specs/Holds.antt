@@ -17,6 +17,6 @@ HoldsCell P Unwritten = Unit {0}
 HoldsCell P (Byte b) = Unit {0}
 HoldsCell P (Part i r) = P r
 
--- of each register and each cell of the frame
+-- a property of each reference in the registers and in the cells of the frame
 abbrev pub HoldsState : (Reference → Type 0) → State → Type 0
 HoldsState P m = ((r : ℕ) → HoldsValue P (m.regs r)) × ((k : ℕ) → HoldsCell P (m.frame k))

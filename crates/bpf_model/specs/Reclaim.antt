@@ -7,7 +7,7 @@ use Rattle.bpf_model.specs.Section.{Section, AllEnded}
 use Rattle.bpf_model.specs.Element.{Element, Unlinked, Reclaimed, with_life}
 use Rattle.bpf_model.specs.MapState.{MapState, Store, given_of, returned}
 
--- Element n is reclaimed: its map slot's use count goes back into the bag, or the slot is worn out.
+-- Element n is reclaimed: its map slot's use count goes back into the bag, or it is worn out.
 pub record Reclaims (s : Store) (opened : List Section) (n : ℕ) (element : Element) (given : Given)
     (new : Store) : Type 0 where
   pub state : MapState

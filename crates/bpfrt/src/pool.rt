@@ -64,14 +64,7 @@ fn pool_of<H: Threads + Wait + Sync>(
 {
     let source = file.source(alloc)?;
     let checked = verify_source(alloc, source)?;
-    let run = run_program(
-        rt,
-        alloc,
-        checked.registry,
-        checked.verified,
-        size.workers,
-        size.count,
-    )?;
+    let run = run_program(rt, alloc, checked, size.workers, size.count)?;
     Ok(run)
 }
 

@@ -11,7 +11,8 @@ use crate::program_file::Source;
 use bpf_model::{MapId, MapShape};
 use maps::Registry;
 use std::alloc::{AllocError, Global};
-use verifier::{Refusal, Verified, verify};
+use verifier::{Refusal, verify};
+use worker_pool::ProgramWithMaps;
 
 /// The shapes of a registry's maps, by their numbers.
 fn shapes_of(alloc: Global, registry: &Registry) -> Result<Vec<MapShape>, AllocError>
@@ -27,15 +28,8 @@ fn shapes_of(alloc: Global, registry: &Registry) -> Result<Vec<MapShape>, AllocE
     Ok(shapes)
 }
 
-/// A verified program, and the maps of the shapes that it was verified with.
-#[derive(Drop)]
-pub struct VerifiedSource {
-    pub verified: Verified,
-    pub registry: Registry,
-}
-
 /// Verifies a file's program with its maps and its context.
-pub fn verify_source(alloc: Global, source: Source) -> Result<VerifiedSource, Refusal>
+pub fn verify_source(alloc: Global, source: Source) -> Result<ProgramWithMaps, Refusal>
     requires { source.ctx_len ≤ CTX_BYTES }
     ensures program { IfOk result (λ v. v.verified.program ≡ source.program) }
     ensures shapes { IfOk result (λ v. v.verified.shapes ≡ shapes_of_maps source.registry.maps) }
@@ -50,7 +44,7 @@ pub fn verify_source(alloc: Global, source: Source) -> Result<VerifiedSource, Re
 {
     let shapes = shapes_of(alloc, &source.registry)?;
     let verified = verify(alloc, source.program, &shapes, source.ctx_len)?;
-    Ok(VerifiedSource {
+    Ok(ProgramWithMaps {
         verified,
         registry: source.registry,
     })

@@ -9,4 +9,4 @@ mod calls;
 mod nulls;
 
 pub use calls::call;
-pub use nulls::{fork_equal, fork_not_equal};
+pub use nulls::fork_null;

@@ -10,11 +10,11 @@ use Rattle.bpf_model.specs.declared.opcode.Size.{Size}
 use Rattle.scalar_domain.specs.declared.scalar.Scalar.{Scalar}
 use Rattle.scalar_domain.specs.Constant.{constant_of}
 use Rattle.scalar_domain.specs.Floor.{KeepsFloor}
-use Rattle.typed_runs.specs.Kinds.{Kind, Num, AbsState}
+use Rattle.typed_runs.specs.Kinds.{Kind, Num, AbsState as Known}
 use Rattle.kind_tests.specs.Performs.{IsNumbers}
 
 -- the kind of a second operand
-abbrev pub operand_kind : Operand → AbsState → Kind
+abbrev pub operand_kind : Operand → Known → Kind
 operand_kind (Register r) a = a.regs r
 operand_kind (Immediate imm) a = Num (constant_of (immediate imm))
 

@@ -17,7 +17,7 @@ use Rattle.bpf_model.specs.Arithmetic.{loaded_signed}
 use Rattle.bpf_model.specs.Call.{helper_of, kernel_function_of}
 use Rattle.bpf_model.specs.Exit.{names_map, HasNoMaps, ExitsFrom, exits_now, exits_later, ExitsWith}
 use Rattle.bpf_model.specs.Section.{Section}
-use Rattle.bpf_model.specs.Step.{State, Environment, Outcome, Moves, Exits, load_from, sets, after, insn_at}
+use Rattle.bpf_model.specs.Step.{State, Environment, environment_of, Outcome, Moves, Exits, load_from, sets, after, insn_at}
 use Rattle.bpf_model.specs.MapState.{Store}
 use Rattle.bpf_model.specs.Machine.{Loaded, Run, environment, fresh_run}
 use Rattle.bpf_model.specs.MachineStep.{OutcomeStep, KernelStep, InsnStep, RunStep}
@@ -32,10 +32,7 @@ abbrev of : Loaded → Run → Run
 of p run = record { name = run.name; program = p; context = run.context; state = run.state; depth = run.depth; locks = run.locks; moved = run.moved; exit = run.exit }
 
 -- what an instruction that loads no map does doesn't depend on how many there are
-abbrev around : List ℕ → ℕ → Environment
-around context maps = record { context = context; maps = maps }
-
-load-same : (context : List ℕ) (a b : ℕ) (m : State) (width : ℕ) (offset : ℤ) (base : Value) → load_from (around context b) m width offset base ≡ load_from (around context a) m width offset base
+load-same : (context : List ℕ) (a b : ℕ) (m : State) (width : ℕ) (offset : ℤ) (base : Value) → load_from (environment_of context b) m width offset base ≡ load_from (environment_of context a) m width offset base
 load-same context a b m width offset Nothing = refl
 load-same context a b m width offset (Number n) = refl
 load-same context a b m width offset (Pointer (Ctx o)) = refl
@@ -43,7 +40,7 @@ load-same context a b m width offset (Pointer (Frame o)) = refl
 load-same context a b m width offset (Pointer (MapRef k)) = refl
 load-same context a b m width offset (Pointer (Elem n o)) = refl
 
-after-same : (i : Insn) (context : List ℕ) (a b : ℕ) (m : State) (out : Outcome) → names_map i ≡ false → after i (around context a) m ≡ Some out → after i (around context b) m ≡ Some out
+after-same : (i : Insn) (context : List ℕ) (a b : ℕ) (m : State) (out : Outcome) → names_map i ≡ false → after i (environment_of context a) m ≡ Some out → after i (environment_of context b) m ≡ Some out
 after-same (LoadMap dst map) context a b m out unnamed h = absurd (false≢true (sym unnamed))
 after-same (Load width dst src offset) context a b m out unnamed h = ap (λ (v : Option Value). v >>= λ x. sets 1 dst x m) (load-same context a b m (byte_count width) offset (m.regs src)) ∙ h
 after-same (LoadSigned width dst src offset) context a b m out unnamed h =

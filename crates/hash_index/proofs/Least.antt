@@ -8,8 +8,8 @@ use Rattle.element_arena.specs.Threads.{IsThread, walk}
 use Rattle.element_arena.proofs.Counts.{one_cases, one_same, times-append}
 use Rattle.element_arena.proofs.Indexing.{AreUnique, get-contents, slot_of-present, times-get}
 use Rattle.hash_index.specs.Order.{IsLess, IsAbove, NoneAbove, NoneBetween, IsLeastOf}
-use Rattle.hash_index.specs.Chains.{IsChain, IsScanned, chain_of}
-use Rattle.hash_index.specs.Buckets.{HeadsFit, IsGathered, slots_from, chained_slots}
+use Rattle.hash_index.specs.Chains.{IsChain, chain_of}
+use Rattle.hash_index.specs.Buckets.{HeadsFit, slots_from, chained_slots}
 use Rattle.hash_index.proofs.Orders.{less_trans, less_other}
 use Rattle.hash_index.proofs.Steps.{chain_step, chain_at, walk_none}
 use Rattle.bpf_model.proofs.Lists.{get-replicate}
@@ -90,6 +90,14 @@ module _ (key : ℕ → List ℕ) (bound : Option (List ℕ)) (slot : ℕ) (xs :
     ],
   )
 
+-- how far the search for the least key has come: what is the least of the slots of front too
+pub record IsScanned (a : ArenaState) (bound : Option (List ℕ)) (first before at least : Option ℕ)
+    : Type 0 where
+  pub front : List ℕ
+  pub split : chain_of a first ≡ front ++ chain_of a at
+  pub least_of : (xs : List ℕ) → IsLeastOf (key_at a.slots) bound xs before →
+      IsLeastOf (key_at a.slots) bound (xs ++ front) least
+
 -- along a chain
 module _ (a : ArenaState) (bound : Option (List ℕ)) (first before : Option ℕ) where
   pub scan_step : (at r least new : Option ℕ) (slot : ℕ) → IsChain a at → at ≡ Some slot → r ≡ link_at a.links slot → IsScanned a bound first before at least →
@@ -106,6 +114,13 @@ module _ (a : ArenaState) (bound : Option (List ℕ)) (first before : Option ℕ
   scan_end at least e s xs f =
       let all : chain_of a first ≡ s.front = s.split ∙ (ap (λ o. s.front ++ chain_of a o) e ∙ (ap (λ l. s.front ++ l) (walk_none (length a.slots) (link_at a.links)) ∙ append-nil s.front)) in
       subst (λ l. IsLeastOf (key_at a.slots) bound (xs ++ l) least) (sym all) (s.least_of xs f)
+
+-- which chains are still to be searched for the least key
+pub record IsGathered (a : ArenaState) (bound : Option (List ℕ))
+    (heads rest : List (Option ℕ)) (least : Option ℕ) : Type 0 where
+  pub done : List ℕ
+  pub split : chained_slots heads a ≡ done ++ slots_from (length a.slots) (link_at a.links) rest
+  pub least_of : IsLeastOf (key_at a.slots) bound done least
 
 -- over all chains
 module _ (a : ArenaState) (bound : Option (List ℕ)) (heads : List (Option ℕ)) where

@@ -5,7 +5,7 @@ use Rattle.element_arena.specs.State.{ArenaState, IsTaken, link_at, key_at, with
 use Rattle.element_arena.specs.Threads.{IsThread, walk}
 use Rattle.element_arena.proofs.Counts.{one_same, one_other, times-append}
 use Rattle.element_arena.proofs.Threading.{walk-thread, thread-none, thread-some, thread-skip}
-use Rattle.hash_index.specs.Chains.{IsChain, IsBefore, IsOn, IsCut, chain_of}
+use Rattle.hash_index.specs.Chains.{IsChain, IsBefore, IsCut, chain_of}
 use Rattle.bpf_model.proofs.Lists.{get-set_other}
 use Rattle.bpf_model.proofs.Keys.{same_key-true}
 use Rattle.std.specs.Option.{option_flatten}
@@ -53,6 +53,15 @@ shorter a o r i c e next =
     let l : length (chain_of a o) ≡ suc (length (chain_of a (link_at a.links i))) = ap (λ p. length (chain_of a p)) e ∙ ap (λ (xs : List ℕ). length xs) s.0 in
     let m : length (chain_of a r) ≡ length (chain_of a (link_at a.links i)) = ap (λ p. length (chain_of a p)) next in
     omega arith
+
+-- how far the search for a slot has come
+pub record IsOn (a : ArenaState) (chain : List ℕ) (last : ℕ) (at : Option ℕ) (slot : ℕ)
+    : Type 0 where
+  pub front : List ℕ
+  pub back : List ℕ
+  pub split : chain ≡ front ++ last ∷ back
+  pub thread : IsThread (link_at a.links) at back
+  pub held : 0 < times_in slot back
 
 pub on_first : (a : ArenaState) (first slot : ℕ) (r : Option ℕ) → IsChain a (Some first) → first ≢ slot → 0 < times_in slot (chain_of a (Some first)) → r ≡ link_at a.links first → IsOn a (chain_of a (Some first)) first r slot
 on_first a first slot r c ne held next =

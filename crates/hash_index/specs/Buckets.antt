@@ -7,7 +7,6 @@ use Rattle.std.specs.FinMap.{FinMap}
 use Rattle.element_arena.specs.State.{ArenaState, IsTaken, link_at, key_at, times_in, contents_of}
 use Rattle.element_arena.specs.Threads.{IsThread, walk}
 use Rattle.element_arena.proofs.Indexing.{AreUnique}
-use Rattle.hash_index.specs.Order.{IsLeastOf}
 use Rattle.hash_index.specs.Chains.{bucket_of, chain_of}
 use Rattle.hash_index.specs.declared.buckets.Buckets.{Buckets}
 
@@ -37,10 +36,3 @@ pub record HeadsFit (heads : List (Option ℕ)) (a : ArenaState) : Type 0 where
 
 abbrev pub BucketsFits : Buckets → ArenaState → Type 0
 BucketsFits x a = HeadsFit x.heads.items a
-
--- which chains are still to be searched for the least key
-pub record IsGathered (a : ArenaState) (bound : Option (List ℕ))
-    (heads rest : List (Option ℕ)) (least : Option ℕ) : Type 0 where
-  pub done : List ℕ
-  pub split : chained_slots heads a ≡ done ++ slots_from (length a.slots) (link_at a.links) rest
-  pub least_of : IsLeastOf (key_at a.slots) bound done least

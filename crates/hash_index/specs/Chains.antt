@@ -3,11 +3,10 @@ use Rattle.std.specs.Int.{from_le_bytes, w64}
 use Rattle.std.specs.Prelude.{◌≡◌, ℕ, zero, suc, ◌+◌, ◌<◌, ◌-◌, ◌*◌, ◌/◌, ◌%◌, ◌^◌, bit_and}
 use Rattle.std.specs.Prelude.{bit_xor}
 use Rattle.std.specs.Prelude.{List, [], ◌∷◌, ◌++◌, Option, cond, drop, eqb, length}
-use Rattle.element_arena.specs.State.{ArenaState, IsTaken, link_at, key_at, times_in}
+use Rattle.element_arena.specs.State.{ArenaState, IsTaken, link_at, times_in}
 use Rattle.element_arena.specs.Threads.{IsThread, walk}
 use Rattle.hash_index.specs.declared.hash.TheConstants.{FNV_OFFSET, FNV_PRIME, WORD_BYTES}
 use Rattle.hash_index.specs.declared.hash.TheConstants.{WORD_FACTOR}
-use Rattle.hash_index.specs.Order.{IsLeastOf}
 
 -- FNV-1a of these bytes, in 64 bits, going on from h
 abbrev pub bytes_hash : ℕ → List ℕ → ℕ
@@ -55,15 +54,6 @@ pub record IsBefore (chain : List ℕ) (last slot : ℕ) : Type 0 where
   pub back : List ℕ
   pub split : chain ≡ front ++ last ∷ slot ∷ back
 
--- how far the search for a slot has come
-pub record IsOn (a : ArenaState) (chain : List ℕ) (last : ℕ) (at : Option ℕ) (slot : ℕ)
-    : Type 0 where
-  pub front : List ℕ
-  pub back : List ℕ
-  pub split : chain ≡ front ++ last ∷ back
-  pub thread : IsThread (link_at a.links) at back
-  pub held : 0 < times_in slot back
-
 -- A slot was taken out of the chain from first, which begins with result now. Links of the chain
 -- alone have changed.
 pub record IsCut (a b : ArenaState) (first : Option ℕ) (slot : ℕ) (result : Option ℕ) : Type 0 where
@@ -72,11 +62,3 @@ pub record IsCut (a b : ArenaState) (first : Option ℕ) (slot : ℕ) (result : 
   pub left : List ℕ
   pub thread : IsThread (link_at b.links) result left
   pub fewer : (j : ℕ) → times_in j (chain_of a first) ≡ times_in j left + cond (eqb slot j) 1 0
-
--- how far the search for the least key has come: what is the least of the slots of front too
-pub record IsScanned (a : ArenaState) (bound : Option (List ℕ)) (first before at least : Option ℕ)
-    : Type 0 where
-  pub front : List ℕ
-  pub split : chain_of a first ≡ front ++ chain_of a at
-  pub least_of : (xs : List ℕ) → IsLeastOf (key_at a.slots) bound xs before →
-      IsLeastOf (key_at a.slots) bound (xs ++ front) least

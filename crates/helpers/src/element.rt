@@ -9,7 +9,7 @@ use bpf_model::{MapId, Width};
 use maps::Registry;
 
 /// The number of so many bytes of an element's value, at an offset in bytes from a word that
-/// lies in the element's slot.
+/// lies in the element's map slot.
 #[inline]
 pub(crate) fn load(maps: &Registry, address: u64, offset: i16, width: Width) -> u64
     requires { ReachesElement maps.now.maps (byte_count width) offset (location_of address) }
@@ -24,8 +24,8 @@ pub(crate) fn load(maps: &Registry, address: u64, offset: i16, width: Width) -> 
 }
 
 /// Stores the low bytes of a number in an element's value, at an offset in bytes from a word that lies in
-/// the element's slot. Whoever reads the element later finds them: a store
-/// changes an element where it lies, while an update of its key links a new one.
+/// the element's map slot. Whoever reads the element later finds them: a store changes an element
+/// where it lies, while an update of its key links a new one.
 #[inline]
 pub(crate) fn store(maps: &mut Registry, address: u64, offset: i16, width: Width, number: u64)
     requires { ReachesElement maps.old.maps (byte_count width) offset (location_of address) }

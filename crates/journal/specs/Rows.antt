@@ -33,7 +33,7 @@ answer_bytes answer = []
 abbrev pub entry_bytes : Entry → List ℕ
 entry_bytes e = event_bytes e.event ++ answer_bytes e.answer
 
--- the string of so many bytes from an index on
+-- the string of so many bytes from an offset on
 abbrev pub string_in : List ℕ → ℕ → ℕ → ArrayVec ℕ
 string_in bytes start len = record { items = take len (drop start bytes) }
 

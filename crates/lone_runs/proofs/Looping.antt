@@ -25,9 +25,17 @@ use Rattle.machine.specs.Steps.{IsLocalStep}
 use Rattle.machine.specs.Workspaces.{CanDo, Does, IsFreshWorkspace, moved_on, told, view_after, view_at}
 use Rattle.machine.proofs.Places.{insn_there, next_place}
 use Rattle.machine.proofs.Serving.{can_do}
-use Rattle.lone_runs.specs.Lone.{StandsAlone, StandsBefore, loaded_alone}
+use Rattle.lone_runs.specs.Lone.{StandsAlone, loaded_alone}
 use Rattle.lone_runs.proofs.Ending.{below-limit}
 use Rattle.lone_runs.proofs.Going.{AsksSection, exits, moves, moves-below, resumed, shares, steps}
+
+-- With these registers and this frame, before the instruction of an index and after so many moves,
+-- the words are so those of a run of the program on the context.
+pub record StandsBefore (c : Checked) (context : List ℕ) (index moved : ℕ) (w : Workspace)
+    : Type 0 where
+  pub view : RunView
+  pub stands : StandsAlone c (view_at c.program context index w view)
+  pub moved_is : view.moved ≡ moved
 
 pub stands_first : (c : Checked) (context : List ℕ) (w : Workspace) → IsFreshWorkspace w → StandsAlone c (fresh_view 0 context) → StandsBefore c context 0 0 w
 stands_first c context w f s = record {

@@ -1,5 +1,5 @@
 -- A run of a program that was verified with no maps, by itself.
-use Rattle.std.specs.Prelude.{◌≡◌, ℕ, ◌+◌, List, []}
+use Rattle.std.specs.Prelude.{◌≡◌, ℕ, ◌+◌, []}
 use Rattle.bpf_model.specs.Exit.{ExitsFrom, ExitsWith}
 use Rattle.bpf_model.specs.Machine.{Loaded, Run, fresh_run}
 use Rattle.bpf_model.specs.Refines.{TracksSchedule}
@@ -10,8 +10,6 @@ use Rattle.model_laws.specs.Alone.{IsOwn}
 use Rattle.world_laws.specs.Typed.{IsReadyWorld, IsRunning}
 use Rattle.verifier.specs.Checked.{Checked}
 use Rattle.machine.specs.RunWords.{RunWords, IsAt}
-use Rattle.machine.specs.Workspaces.{view_at}
-use Rattle.machine.specs.declared.workspace.Workspace.{Workspace}
 use Rattle.lone_runs.specs.declared.step.Step.{Step}
 use Rattle.lone_runs.specs.declared.step.Step.TheVariants.{Moved, Exit}
 
@@ -53,11 +51,3 @@ pub record Finishes (v : Checked) (n : ℕ) (old new : RunWords) : Type 0 where
 abbrev pub IsStep : Checked → RunWords → Step → RunWords → Type 0
 IsStep v old Moved new = GoesOnAlone v old new
 IsStep v old (Exit n) new = Finishes v n old new
-
--- With these registers and this frame, before the instruction of an index and after so many moves,
--- the words are so those of a run of the program on the context.
-pub record StandsBefore (c : Checked) (context : List ℕ) (index moved : ℕ) (w : Workspace)
-    : Type 0 where
-  pub view : RunView
-  pub stands : StandsAlone c (view_at c.program context index w view)
-  pub moved_is : view.moved ≡ moved

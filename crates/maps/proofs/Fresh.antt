@@ -1,6 +1,6 @@
 -- A new arena, with nothing linked and nothing in a list.
-use Rattle.std.proofs.Common.{◌≡◌, ◌∙◌, ℕ, zero, suc, ◌+◌, ◌<◌, ◌≤◌, List, [], length, None, refl, sym, ap, arith, cond, Bool, false}
-use Rattle.std.specs.Prelude.{replicate, count_by}
+use Rattle.std.proofs.Common.{◌≡◌, ◌∙◌, ℕ, zero, suc, ◌+◌, ◌<◌, ◌≤◌, List, [], length, Option, Some, None, refl, sym, ap, arith, cond, Bool, false}
+use Rattle.std.specs.Prelude.{replicate, count_by, slice_get}
 use Rattle.std.specs.List.{range_with_len}
 use Rattle.std.specs.Ordering.{nat_cmp}
 use Rattle.std.specs.Cmp.Lexicographic.{slice_cmp}
@@ -13,7 +13,7 @@ use Rattle.bpf_model.specs.declared.limits.MapShape.{MapShape}
 use Rattle.bpf_model.specs.MapState.{IsShape}
 use Rattle.std.proofs.lemmas.Option.{none-some}
 use Rattle.std.proofs.lemmas.List.{length-replicate}
-use Rattle.bpf_model.specs.View.{MapView, unused_slot, new_map_view}
+use Rattle.bpf_model.specs.View.{MapView, SlotView, unused_slot, new_map_view, key_in, value_in}
 use Rattle.bpf_model.specs.Schedule.{no_queues}
 use Rattle.element_arena.specs.State.{times_in, is_at, indexed, key_at, value_at, worn_at, new_arena}
 use Rattle.maps.specs.Parted.{PartsView, IsParted}
@@ -48,15 +48,11 @@ none-counted n = sum_by-replicate (λ (x : Bool). cond {A = ℕ} x 1 0) n false 
 pub fresh-view : (shape : MapShape) → map_view shape (fresh (shape.entries + shape.spare) shape.key_len shape.value_len shape.reuse_limit) ≡ new_map_view shape
 fresh-view shape = ap (λ n. let v : MapView = record { shape = shape; slots = replicate (shape.entries + shape.spare) unused_slot; free = range_with_len 0 (shape.entries + shape.spare); index = map.empty; next = []; waiting = []; ready = []; worn = n } in v) (none-counted (shape.entries + shape.spare))
 
-unused-key : (n i : ℕ) → length (key_at (replicate n unused_slot) i) ≡ 0
-unused-key zero i = refl
-unused-key (suc n) zero = refl
-unused-key (suc n) (suc i) = unused-key n i
-
-unused-value : (n i : ℕ) → length (value_at (replicate n unused_slot) i) ≡ 0
-unused-value zero i = refl
-unused-value (suc n) zero = refl
-unused-value (suc n) (suc i) = unused-value n i
+-- the bytes that are read of a slot, its key or its value
+unused-length : (bytes : Option SlotView → List ℕ) → length (bytes None) ≡ 0 → length (bytes (Some unused_slot)) ≡ 0 → (n i : ℕ) → length (bytes (slice_get (replicate n unused_slot) i)) ≡ 0
+unused-length bytes none unused zero i = none
+unused-length bytes none unused (suc n) zero = unused
+unused-length bytes none unused (suc n) (suc i) = unused-length bytes none unused n i
 
 pub fresh-map : (shape : MapShape) → IsShape shape → IsMap shape (fresh (shape.entries + shape.spare) shape.key_len shape.value_len shape.reuse_limit) 0
 fresh-map shape h = record {
@@ -66,8 +62,8 @@ fresh-map shape h = record {
     key_len = refl;
     value_len = refl;
     limit = refl;
-    keys = λ i. omega (arith, unused-key (shape.entries + shape.spare) i);
-    values = λ i. omega (arith, unused-value (shape.entries + shape.spare) i);
+    keys = λ i. omega (arith, unused-length key_in refl refl (shape.entries + shape.spare) i);
+    values = λ i. omega (arith, unused-length value_in refl refl (shape.entries + shape.spare) i);
   };
   keys = λ key i e. absurd (none-some i (sym (no-key key) ∙ e));
   count = sym (len-empty (slice_cmp nat_cmp) ℕ);

@@ -17,7 +17,7 @@ use Rattle.std.proofs.lemmas.List.{length-set}
 use Rattle.bpf_model.proofs.Lists.{get-set_other, get-set_same, key_cases}
 
 -- a slot that is linked or in a list is taken
-pub standing-taken : (p : PartsView) (i : ℕ) → IsParted p → IsInUse p i → IsTaken p.arena i
+pub standing-taken : (p : PartsView) (i : ℕ) → IsParted p → IsInUse p.index p.arena.slots p.lists i → IsTaken p.arena i
 standing-taken p i h s =
     let o : standings p i ≤ 1 = h.once i in
     record { inside = h.inside i (omega arith); not_free = omega arith; not_worn = omega arith }
@@ -288,5 +288,5 @@ parted-written p i value h in_ =
     }
 
 -- a slot that its key has stands
-pub linked-stands : (p : PartsView) (i : ℕ) → get p.index (key_at p.arena.slots i) ≡ Some i → IsInUse p i
+pub linked-stands : (p : PartsView) (i : ℕ) → get p.index (key_at p.arena.slots i) ≡ Some i → IsInUse p.index p.arena.slots p.lists i
 linked-stands p i g = let one : indexed p.index p.arena.slots i ≡ 1 = ap (λ o. is_at o i) g ∙ one_same i in omega arith

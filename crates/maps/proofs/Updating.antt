@@ -53,16 +53,11 @@ set-cases (x ∷ xs) zero (suc j) y = inr refl
 set-cases (x ∷ xs) (suc i) zero y = inr refl
 set-cases (x ∷ xs) (suc i) (suc j) y = set-cases xs i j y
 
-pub set-keys : (slots : List SlotView) (i : ℕ) (s : SlotView) (n : ℕ) → length s.key ≤ n → ((j : ℕ) → length (key_at slots j) ≤ n) → (j : ℕ) → length (key_at (slice_set slots i s) j) ≤ n
-set-keys slots i s n h k j = elim (set-cases slots i j s) [
-  | inl e ↦ subst (λ o. length (key_in o) ≤ n) (sym e) h
-  | inr e ↦ subst (λ o. length (key_in o) ≤ n) (sym e) (k j)
-]
-
-pub set-values : (slots : List SlotView) (i : ℕ) (s : SlotView) (n : ℕ) → length s.value ≤ n → ((j : ℕ) → length (value_at slots j) ≤ n) → (j : ℕ) → length (value_at (slice_set slots i s) j) ≤ n
-set-values slots i s n h k j = elim (set-cases slots i j s) [
-  | inl e ↦ subst (λ o. length (value_in o) ≤ n) (sym e) h
-  | inr e ↦ subst (λ o. length (value_in o) ≤ n) (sym e) (k j)
+-- the bytes that are read of a slot, its key or its value
+pub set-lengths : (bytes : Option SlotView → List ℕ) (slots : List SlotView) (i : ℕ) (s : SlotView) (n : ℕ) → length (bytes (Some s)) ≤ n → ((j : ℕ) → length (bytes (slice_get slots j)) ≤ n) → (j : ℕ) → length (bytes (slice_get (slice_set slots i s) j)) ≤ n
+set-lengths bytes slots i s n h k j = elim (set-cases slots i j s) [
+  | inl e ↦ subst (λ o. length (bytes o) ≤ n) (sym e) h
+  | inr e ↦ subst (λ o. length (bytes o) ≤ n) (sym e) (k j)
 ]
 
 -- a map that has a key is not empty
@@ -106,8 +101,8 @@ module _ (p p1 p2 : PartsView) (i : ℕ) (key value : List ℕ) (found : Option 
         key_len = a.key_len;
         value_len = a.value_len;
         limit = a.limit;
-        keys = set-keys p.arena.slots i (record { key = key; value = value; uses = uses_at p.arena.slots i + 1 }) shape.key_len (omega arith) a.keys;
-        values = set-values p.arena.slots i (record { key = key; value = value; uses = uses_at p.arena.slots i + 1 }) shape.value_len (omega arith) a.values;
+        keys = set-lengths key_in p.arena.slots i (record { key = key; value = value; uses = uses_at p.arena.slots i + 1 }) shape.key_len (omega arith) a.keys;
+        values = set-lengths value_in p.arena.slots i (record { key = key; value = value; uses = uses_at p.arena.slots i + 1 }) shape.value_len (omega arith) a.values;
       }
 
   long-put : (shape : MapShape) → AreKeysLong p.index shape.key_len → length key ≡ shape.key_len → (found : Option ℕ) → AreKeysLong (insert (without_key (with_taken p i p1.arena.free key value) key found).index key i) shape.key_len

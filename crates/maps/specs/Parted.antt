@@ -40,9 +40,9 @@ pub record IsInHand (p : PartsView) (i : ℕ) : Type 0 where
   pub unlinked : indexed p.index p.arena.slots i ≡ 0
   pub unlisted : queued p.lists i ≡ 0
 
--- the slot is linked or in one of the three lists
-abbrev pub IsInUse : PartsView → ℕ → Type 0
-IsInUse p i = 0 < indexed p.index p.arena.slots i + queued p.lists i
+-- a slot that is linked or in one of the three lists
+abbrev pub IsInUse : KeyMap → List SlotView → Queues → ℕ → Type 0
+IsInUse index slots lists i = 0 < indexed index slots i + queued lists i
 
 -- the key's slot, if there is one, leaves the index and goes to the end of next
 abbrev pub without_key : PartsView → List ℕ → Option ℕ → PartsView

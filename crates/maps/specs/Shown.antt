@@ -14,7 +14,7 @@ use Rattle.element_arena.specs.State.{ArenaState, indexed, key_at, value_at}
 use Rattle.deferred_free.specs.Queued.{queued}
 use Rattle.hash_index.specs.Order.{IsAbove, NoneBetween}
 use Rattle.view_laws.specs.Views.{given_at, reaped_view, filled, retired_slot}
-use Rattle.maps.specs.Parted.{PartsView}
+use Rattle.maps.specs.Parted.{PartsView, IsInUse}
 
 abbrev pub map_view : MapShape → PartsView → MapView
 map_view shape p = record {
@@ -52,7 +52,7 @@ pub record IsMap (shape : MapShape) (p : PartsView) (linked : ℕ) : Type 0 wher
 
 -- slot i is linked or in one of the three lists
 abbrev pub IsOccupied : MapView → ℕ → Type 0
-IsOccupied v i = 0 < indexed v.index v.slots i + queued (lists_of v) i
+IsOccupied v i = IsInUse v.index v.slots (lists_of v) i
 
 -- No slot is free, unless an earlier test of an update fails.
 abbrev pub or_no_memory : Option Errno → MapState → Option Errno

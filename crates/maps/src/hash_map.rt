@@ -1,4 +1,4 @@
-//! A map of a fixed number of slots.
+//! A map of a fixed number of map slots.
 ghost use Rattle.std.specs.Prelude.{false, ◌≡◌, ◌<◌, ◌≤◌, ◌+◌, [], length, slice_get, None, Some, IfSome, IfNone, IfOk, OnErr, option_copied, option_map};
 ghost use Rattle.std.specs.FinMap as map;
 ghost use Rattle.bpf_model.specs.declared.limits.TheConstants.{VALUE_BYTES, MAX_ENTRIES, MAX_SPARE};
@@ -138,7 +138,7 @@ impl<I: Index, D: Deferred> HashMap<I, D> {
         }
     }
 
-    /// Links a new element under a key, whose slot was found, where a slot is free.
+    /// Links a new element under a key, whose map slot was found, where a map slot is free.
     fn put(&mut self, found: Option<usize>, key: &[u8], value: &[u8]) -> Result<(), Errno>
         requires found { map.get self.old.index key.now ≡ found }
         requires room { IfNone found (map.len self.old.index < self.old.shape.entries) }
@@ -186,8 +186,8 @@ impl<I: Index, D: Deferred> HashMap<I, D> {
         self.parts.advance();
     }
 
-    /// Reclaims the element that has been ready longest, and answers its key and whether its slot may be
-    /// used again. `None` where no element is ready.
+    /// Reclaims the element that has been ready longest, and answers its key and whether its map slot
+    /// may be used again. `None` where no element is ready.
     pub fn reap(&mut self) -> Option<(KeyBytes, Given)>
         ensures none { IfNone result (self.old.ready ≡ []) }
         ensures unchanged { IfNone result (self.new ≡ self.old) }

@@ -1,4 +1,5 @@
-//! The maps of a world: elements by key, in slots that are reclaimed after a grace period; and their registry.
+//! The maps of a world: elements by key, in map slots that are reclaimed after a grace period; and
+//! their registry.
 //!
 //! `HashMap` stands on any index and any lists of unlinked slots; `Map` is the one that the runtime takes.
 #![tactic(auto)]

@@ -173,7 +173,7 @@ impl<I: Index, D: Deferred> Parts<I, D> {
 
     /// The value in a slot that is linked or in one of the three lists.
     pub fn value(&self, slot: usize) -> &[u8]
-        requires { IsInUse self.now slot }
+        requires { IsInUse self.now.index self.now.arena.slots self.now.lists slot }
         ensures { result.now ≡ value_at self.now.arena.slots slot }
     {
         self.arena.value(slot)
@@ -182,7 +182,7 @@ impl<I: Index, D: Deferred> Parts<I, D> {
     /// The little-endian number in the value of a slot that is linked or in one of the three lists, from an
     /// offset in bytes on.
     pub fn load(&self, slot: usize, offset: usize, width: Width) -> u64
-        requires stands { IsInUse self.now slot }
+        requires stands { IsInUse self.now.index self.now.arena.slots self.now.lists slot }
         requires inside { offset + byte_count width ≤ self.now.arena.value_len }
         ensures { number_at (slice_get (value_at self.now.arena.slots slot))
             offset (byte_count width)
@@ -194,7 +194,7 @@ impl<I: Index, D: Deferred> Parts<I, D> {
     /// Stores the low bytes of a number in the value of a slot that is linked or in one of the three lists,
     /// from an offset in bytes on.
     pub fn store(&mut self, slot: usize, offset: usize, width: Width, number: u64)
-        requires stands { IsInUse self.old slot }
+        requires stands { IsInUse self.old.index self.old.arena.slots self.old.lists slot }
         requires inside { offset + byte_count width ≤ self.old.arena.value_len }
         ensures { self.new ≡ record self.old {
           arena = with_slot_value self.old.arena slot

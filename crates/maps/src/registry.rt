@@ -266,7 +266,8 @@ impl Registry {
         reap_first(self.maps.as_mut_slice())
     }
 
-    /// How many elements are linked and unlinked, and how many slots are worn out, over all maps.
+    /// How many elements are linked and unlinked, and how many map slots are worn out, over
+    /// all maps.
     pub fn counts(&self) -> Counts
         ensures { result ≡ counts_of_all self.now.maps }
     {

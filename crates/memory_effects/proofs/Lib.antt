@@ -1,3 +1,3 @@
-pub mod Placing
+pub mod Within
 pub mod Reading
 pub mod Writing

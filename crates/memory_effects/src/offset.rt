@@ -77,7 +77,7 @@ fn check_aligned(offsets: Scalar, by: u64, width: Width) -> Result<(), Fault>
 
 /// At each of the offsets the access lies inside a region of this length, and aligned. Errors, in
 /// this order: `OutOfBounds`, `Misaligned`, where at some it does not.
-pub(crate) fn check_placed(
+pub(crate) fn check_within(
     offsets: Scalar,
     width: Width,
     offset: i16,

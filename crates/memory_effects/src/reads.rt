@@ -8,7 +8,7 @@ ghost use Rattle.register_kinds.specs.Pairs.{IsBelow, AreBelow};
 ghost use Rattle.memory_effects.specs.Accesses.{IsReadByLoad, IsBase, IsStart, ReadsBytes, ReadsValue, read_kind};
 
 use crate::environment::EnvironmentShape;
-use crate::offset::{check_placed, offset_in};
+use crate::offset::{check_within, offset_in};
 use crate::region::{Address, Region};
 use bpf_model::{FRAME_BYTES, MapShape, Width};
 use kind_tests::{Content, Fault, held, read_frame};
@@ -67,7 +67,7 @@ pub(crate) fn check_value(
 {
     match shapes.get(map as usize) {
         Some(shape) => {
-            check_placed(offsets, width, offset, shape.value_len)?;
+            check_within(offsets, width, offset, shape.value_len)?;
             Ok(*shape)
         }
         None => Err(Fault::NoSuchMap),
@@ -95,7 +95,7 @@ pub(crate) fn read(
 {
     match held(state, from.base)? {
         RegKind::Ctx(offsets) => {
-            check_placed(offsets, width, from.offset, shape.ctx_len)?;
+            check_within(offsets, width, from.offset, shape.ctx_len)?;
             Ok(Reads::Context)
         }
         RegKind::Value { map, offset } => {

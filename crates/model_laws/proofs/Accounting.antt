@@ -92,7 +92,7 @@ adds-touched opened es fs k m t a = record {
 accounts-elements : (opened : List Section) (s new : Store) (es : List Element) → Touches false opened s.elements es → new ≡ with_elements es s → Accounts s new
 accounts-elements opened s new es t e h = subst Accounted (sym e) (λ k m at. adds-touched opened s.elements es k m t (h k m at))
 
--- a birth takes a slot out of the bag
+-- a birth takes a map slot out of the bag
 taken-one : (old new : List ℕ) (count : ℕ) → TakesOut old count new → length old ≡ length new + 1
 taken-one old new count t =
     let a : length old ≡ length (t.before ++ count ∷ t.after) = ap length t.old_is in
@@ -352,7 +352,7 @@ enomem_exactly shapes programs s k m r at =
     let kinds = kept-kinds k s.machine.store.elements in
     (λ h. let none : length m.bag ≡ 0 = ap length h in omega arith, λ h. nil_from_length m.bag (omega arith))
 
--- no more births than the slots bear
+-- no more births than the map slots bear
 free-most : (counts : List ℕ) (limit : ℕ) → ((c : ℕ) → 0 < times c counts → c < limit) → total counts ≤ length counts * limit
 free-most [] limit h = omega arith
 free-most (c ∷ counts) limit h =

@@ -3,7 +3,7 @@ use Rattle.std.proofs.Common.{◌≡◌, ℕ, List, [], ◌∷◌, length, None,
 use Rattle.std.specs.Prelude.{◌==◌, if◌then◌else◌}
 use Rattle.bpf_model.specs.declared.call.Errno.{Errno}
 
--- where a slot is free, one is the first
+-- where a map slot is free, one is the first
 pub bag-has : (bag : List ℕ) → (length bag == 0) ≡ false → (c : ℕ) × (rest : List ℕ) × (bag ≡ c ∷ rest)
 bag-has [] h = absurd (cc)
 bag-has (c ∷ rest) h = (c, rest, refl)

@@ -93,15 +93,15 @@ any-or : (b : Bool) (flags : List Bool) → (b || is_any flags) ≡ true → (is
 any-or true flags h k = (0, refl)
 any-or false flags h k = let r = k h in (suc r.0, r.1)
 
-pub any-place : (flags : List Bool) → is_any flags ≡ true → (r : ℕ) × (slice_get flags r ≡ Some true)
-any-place [] h = absurd (false≢true h)
-any-place (b ∷ flags) h = any-or b flags h (λ g. any-place flags g)
+pub any-flag : (flags : List Bool) → is_any flags ≡ true → (r : ℕ) × (slice_get flags r ≡ Some true)
+any-flag [] h = absurd (false≢true h)
+any-flag (b ∷ flags) h = any-or b flags h (λ g. any-flag flags g)
 
-pub place-any : (flags : List Bool) (r : ℕ) → slice_get flags r ≡ Some true → is_any flags ≡ true
-place-any [] r h = absurd (none-some true h)
-place-any (true ∷ flags) r h = refl
-place-any (false ∷ flags) zero h = absurd (false≢true (same_Some false true h))
-place-any (false ∷ flags) (suc r) h = place-any flags r h
+pub flag-any : (flags : List Bool) (r : ℕ) → slice_get flags r ≡ Some true → is_any flags ≡ true
+flag-any [] r h = absurd (none-some true h)
+flag-any (true ∷ flags) r h = refl
+flag-any (false ∷ flags) zero h = absurd (false≢true (same_Some false true h))
+flag-any (false ∷ flags) (suc r) h = flag-any flags r h
 
 -- the first ready element
 abbrev pub shortened : List ℕ → Queues → Queues

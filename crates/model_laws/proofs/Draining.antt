@@ -22,7 +22,7 @@ use Rattle.bpf_model.specs.Refines.{times}
 use Rattle.model_laws.specs.Scheduled.{IsScheduled, IsReapable}
 use Rattle.model_laws.proofs.Advancing.{no_flag}
 use Rattle.model_laws.proofs.Stores.{LifeMoves, Stays, Unlinks, Ends, StoreMoves, is_reap, does-moves}
-use Rattle.model_laws.proofs.Counting.{newly, times-append, times-first, between-is, retired-back, map-back, any-place, place-any, first-index, none-ready, without-back}
+use Rattle.model_laws.proofs.Counting.{newly, times-append, times-first, between-is, retired-back, map-back, any-flag, flag-any, first-index, none-ready, without-back}
 use Rattle.model_laws.proofs.Queueing.{Queued, queued-here}
 use Rattle.model_laws.proofs.Scheduling.{plain, first-queued, starts_scheduled, stays_scheduled}
 use Rattle.model_laws.proofs.Lives.{linked≢unlinked, reclaimed≢linked}
@@ -148,8 +148,8 @@ module _ (s t : Schedule) (event : Event) (answer : Answer) (w : IsScheduled s) 
 -- a quiet advance
 none-any : (s : Schedule) → IsScheduled s → open_sections s.machine.runs ≡ [] → is_any s.awaited ≡ false
 none-any s w quiet = false_from_ne_true (is_any s.awaited) (λ h.
-    let r = any-place s.awaited h in
-    false≢true (sym (no_flag s.machine.runs quiet) ∙ place-any (open_flags s.machine.runs) r.0 (w.awaited r.0 r.1)))
+    let r = any-flag s.awaited h in
+    false≢true (sym (no_flag s.machine.runs quiet) ∙ flag-any (open_flags s.machine.runs) r.0 (w.awaited r.0 r.1)))
 
 turns-quiet : (s t : Schedule) (answer : Answer) → IsScheduled s → DoesScheduled s events.Advance answer t → open_sections s.machine.runs ≡ [] → advanced s t.machine false ≡ t
 turns-quiet s t answer w d quiet = ap (advanced s t.machine) (sym (none-any s w quiet)) ∙ sym d.lists

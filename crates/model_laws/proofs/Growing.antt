@@ -52,8 +52,8 @@ grows-append es new more g n e h =
 pub grows-set : (es : List Element) (n : ℕ) (old new : Element) → slice_get es n ≡ Some old → IsLaterElement old new → ElementsGrow es (slice_set es n new)
 grows-set es n old new h f k e at = elim (cases_eq k n) [
   | inl same ↦
-      let place : slice_get es n ≡ Some e = ap (slice_get es) (sym same) ∙ at in
-      let both : Some old ≡ Some e = sym h ∙ place in
+      let there : slice_get es n ≡ Some e = ap (slice_get es) (sym same) ∙ at in
+      let both : Some old ≡ Some e = sym h ∙ there in
       let equal : old ≡ e = cc in
       let P : Element → Type 0 = λ x. IsLaterElement x new in
       (new, ap (slice_get (slice_set es n new)) same ∙ get-set_there es n old new h, subst P equal f)

@@ -25,7 +25,7 @@ use Rattle.model_laws.proofs.Sections.{OpenAt, open_at}
 use Rattle.model_laws.proofs.Moves.{RunsMove, does-move}
 use Rattle.model_laws.proofs.Stores.{StoreMoves, is_reap, does-moves}
 use Rattle.model_laws.proofs.Keeping.{starts_consistent, stays_consistent}
-use Rattle.model_laws.proofs.Counting.{times-append, times-first, times-other, between-is, retired-back, length-retired, map-back, still-forth, still-back, place-any, shortened, FirstIndex, first-index, without-back, length-without}
+use Rattle.model_laws.proofs.Counting.{times-append, times-first, times-other, between-is, retired-back, length-retired, map-back, still-forth, still-back, flag-any, shortened, FirstIndex, first-index, without-back, length-without}
 use Rattle.model_laws.proofs.Queueing.{Queued, queued-of, queued-most, queued-reclaimed, queued-elsewhere, open-flag, keeps-waits, count-step}
 use Rattle.model_laws.proofs.Lives.{reclaimed≢unlinked}
 use Rattle.bpf_model.proofs.Lists.{get-set_cases, get-set_other, get-replicate}
@@ -80,7 +80,7 @@ turned-total : (n : ℕ) (q : Queues) → total n (turned q) ≡ total n q
 turned-total n q = let a = times-append n q.ready q.waiting in omega arith
 
 none-awaited : (s : Schedule) (r : ℕ) → is_any s.awaited ≡ false → slice_get s.awaited r ≡ Some true → ⊥
-none-awaited s r none h = false≢true (sym none ∙ place-any s.awaited r h)
+none-awaited s r none h = false≢true (sym none ∙ flag-any s.awaited r h)
 
 section-open : (s : Schedule) (k n : ℕ) (q : Queues) (e : Element) (since : List Section) (x : Section) → IsScheduled s → slice_get s.queues k ≡ Some q → 0 < times n q.waiting → slice_get s.machine.store.elements n ≡ Some e → e.life ≡ Unlinked since → Has since x → (o : OpenAt s.machine.runs x) → slice_get s.awaited o.slot ≡ Some true
 section-open s k n q e since x w at has born life h o = (w.waits k q at).awaits n e since o.slot o.run has born life o.there o.inside (subst (Has since) (sym o.is) h)

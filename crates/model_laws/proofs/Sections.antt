@@ -30,13 +30,13 @@ open_at-first true run runs s zero e h more = record { slot = 0; run = run; ther
 open_at-first true run runs s (suc k) e h more = later-slot (Some run) runs s (more k h)
 open_at-first false run runs s k e h more = later-slot (Some run) runs s (more k h)
 
-open_at-place : (runs : List (Option Run)) (s : Section) (k : ℕ) → slice_get (open_sections runs) k ≡ Some s → OpenAt runs s
-open_at-place [] s k h = absurd (none-some s h)
-open_at-place (None ∷ runs) s k h = later-slot None runs s (open_at-place runs s k h)
-open_at-place (Some run ∷ runs) s k h = open_at-first (is_inside run) run runs s k refl h (λ j g. open_at-place runs s j g)
+open_at-index : (runs : List (Option Run)) (s : Section) (k : ℕ) → slice_get (open_sections runs) k ≡ Some s → OpenAt runs s
+open_at-index [] s k h = absurd (none-some s h)
+open_at-index (None ∷ runs) s k h = later-slot None runs s (open_at-index runs s k h)
+open_at-index (Some run ∷ runs) s k h = open_at-first (is_inside run) run runs s k refl h (λ j g. open_at-index runs s j g)
 
 pub open_at : (runs : List (Option Run)) (s : Section) → Has (open_sections runs) s → OpenAt runs s
-open_at runs s h = open_at-place runs s h.0 h.1
+open_at runs s h = open_at-index runs s h.0 h.1
 
 -- the section of a run that is inside is open
 has-first : (b : Bool) (s : Section) (rest : List Section) → b ≡ true → Has (if b then s ∷ rest else rest) s

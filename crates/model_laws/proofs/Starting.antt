@@ -17,7 +17,7 @@ use Rattle.bpf_model.specs.View.{SlotView, MapView, uses_at, unused_slot, new_ma
 use Rattle.bpf_model.specs.Refines.{times, MapRefines, RunSlotRefines, RefinesSchedule, TracksSchedule}
 use Rattle.model_laws.proofs.Counting.{times-first, times-other, map-back}
 
--- the free slots: each once
+-- the free map slots: each once
 range-below : (n a i : ℕ) → i < a → times i (range_with_len a n) ≡ 0
 range-below zero a i h = refl
 range-below (suc n) a i h = times-other i a (range_with_len (a + 1) n) (λ e. absurd (omega arith)) ∙ range-below n (a + 1) i (omega arith)
@@ -45,7 +45,7 @@ range-inside (suc n) a i h = elim (cases_eq a i) [
       omega arith
 ]
 
--- no slot was used
+-- no map slot was used
 unused : (n i : ℕ) → uses_at (replicate n unused_slot) i ≡ 0
 unused zero i = refl
 unused (suc n) zero = refl

@@ -102,7 +102,7 @@ kept-kinds k (e ∷ es) =
     let rest = kept-kinds k es in
     omega arith
 
--- how often the slots of the kept elements were used, and how many elements were born
+-- how often the map slots of the kept elements were used, and how many elements were born
 abbrev uses_of : ℕ → Element → ℕ
 uses_of k e = cond {A = ℕ} (is_kept k e) e.uses 0
 

@@ -7,7 +7,7 @@ use Rattle.bpf_model.specs.declared.value.Reference.TheVariants.{Ctx, Frame, Map
 use Rattle.bpf_model.specs.Element.{Element}
 use Rattle.bpf_model.specs.declared.limits.TheConstants.{MAX_MAPS}
 use Rattle.bpf_model.specs.Near.{IsNearOffset}
-use Rattle.bpf_model.specs.Word.{ctx_base, frame_base, map_base, slot_base, most_slots, IsReferenceWord, element_bases}
+use Rattle.bpf_model.specs.Word.{ctx_base, frame_base, map_base, slot_base, most_map_slots, IsReferenceWord, element_bases}
 use Rattle.model_laws.specs.Locations.{Location, InContext, InFrame, AtMap, InSlot, IsNearLocation, location_word, named_location}
 
 near-pos : (n : ℕ) → IsNearOffset (pos n) → n ≤ 2 ^ 29
@@ -74,7 +74,7 @@ near-bounds : (p : Location) → IsNearLocation p → (2 ^ 40 ≤ base_of p) × 
 near-bounds (InContext o) h = let s : shift o ≤ 2 ^ 30 = shift-most o h in (omega arith, omega arith)
 near-bounds (InFrame o) h = let s : shift o ≤ 2 ^ 30 = shift-most o h in (omega arith, omega arith)
 near-bounds (AtMap m) h = (omega arith, omega arith)
-near-bounds (InSlot m slot o) h = let s : shift o ≤ 2 ^ 30 = shift-most o h.2 in let a : m < MAX_MAPS = h.0 in let b : slot < most_slots = h.1 in (omega arith, omega arith)
+near-bounds (InSlot m slot o) h = let s : shift o ≤ 2 ^ 30 = shift-most o h.2 in let a : m < MAX_MAPS = h.0 in let b : slot < most_map_slots = h.1 in (omega arith, omega arith)
 
 -- each near location has a word, which is not 0
 pub near_words_fit : (p : Location) → IsNearLocation p → (w : ℕ) × (location_word p ≡ pos w) × (0 < w) × (w < 2 ^ 64)
@@ -89,9 +89,9 @@ near_words_fit p h =
 same-count : (p q : Location) → HasWord p → HasWord q → location_word p ≡ location_word q → base_of p + shift_of p ≡ base_of q + shift_of q
 same-count p q v w e = let s : v.word ≡ w.word = same-pos v.word w.word (sym v.is ∙ (e ∙ w.is)) in sym v.counted ∙ (ap (λ x. x + 2 ^ 29) s ∙ w.counted)
 
-same-slot : (m n a b s t : ℕ) → a < most_slots → b < most_slots → s ≤ 2 ^ 30 → t ≤ 2 ^ 30 → slot_base m a + s ≡ slot_base n b + t → (m ≡ n) × (a ≡ b) × (s ≡ t)
+same-slot : (m n a b s t : ℕ) → a < most_map_slots → b < most_map_slots → s ≤ 2 ^ 30 → t ≤ 2 ^ 30 → slot_base m a + s ≡ slot_base n b + t → (m ≡ n) × (a ≡ b) × (s ≡ t)
 same-slot m n a b s t ha hb hs ht e =
-    let one : most_slots * m + a ≡ most_slots * n + b = omega arith in
+    let one : most_map_slots * m + a ≡ most_map_slots * n + b = omega arith in
     let maps : m ≡ n = omega arith in
     (maps, omega arith, omega arith)
 

@@ -22,10 +22,6 @@ use Rattle.plain_interpreter.specs.declared.value.Computed.TheVariants as comput
 abbrev pub cells_of : List Cell → ℕ → Cell
 cells_of frame k = slice_index_or frame k cells.Unwritten
 
--- a context, and how many maps there are
-abbrev pub plain_environment : List ℕ → ℕ → Environment
-plain_environment context maps = record { context = context; maps = maps }
-
 -- a store was made, or could not be
 abbrev pub WritesFrame : ℕ → ℕ → Value → List Cell → Bool → List Cell → Type 0
 WritesFrame at width v old true new = frame_after at width v (cells_of old) ≡ Some (cells_of new)

@@ -13,7 +13,7 @@ mod value;
 mod whole;
 
 pub use memory::{number_in, region_offset};
-pub use plain_run::{PlainRun, Progress};
+pub use plain_run::{MAX_PLACE, PlainRun, Progress};
 pub use step::insn_at;
 pub use value::number;
 pub use whole::Ending;

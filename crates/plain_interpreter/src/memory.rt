@@ -49,10 +49,11 @@ fn byte_at(bytes: &[u8], at: usize) -> Option<u8>
     }
 }
 
-/// So many bytes (at most 8, and none past byte 1024) as a little-endian number, if they are all there.
+/// So many bytes (at most 8, and none past twice `FRAME_BYTES`) as a little-endian number, if they are
+/// all there.
 pub fn number_in(bytes: &[u8], at: usize, width: usize) -> Option<u64>
     requires width { width ≤ 8 }
-    requires small { at + width ≤ 1024 }
+    requires small { at + width ≤ 2 * FRAME_BYTES }
     ensures value { result ≡ number_at (slice_get bytes.now) at width }
     ensures bound { IfSome result (λ n. n < 256 ^ width) }
 {
@@ -85,7 +86,7 @@ fn byte(cell: Cell) -> Option<u8>
 /// So many cells as a little-endian number, if they are all bytes.
 fn number_in_frame(frame: &[Cell], at: usize, width: usize) -> Option<u64>
     requires width { width ≤ 8 }
-    requires small { at + width ≤ 1024 }
+    requires small { at + width ≤ 2 * FRAME_BYTES }
     ensures value { result ≡ number_at (λ k. byte_of (cells_of frame.now k)) at width }
     ensures bound { IfSome result (λ n. n < 256 ^ width) }
 {
@@ -121,7 +122,7 @@ fn is_part(i: u8, r: Reference, cell: Cell) -> bool
 /// Whether so many cells are parts of the reference, from part i on.
 fn are_parts(i: u8, r: Reference, frame: &[Cell], at: usize, n: u8) -> bool
     requires parts { i + n ≤ 8 }
-    requires small { at + n ≤ 1024 }
+    requires small { at + n ≤ 2 * FRAME_BYTES }
     ensures { result ≡ are_parts_of i r (cells_of frame.now) at n }
 {
     if n == 0 {

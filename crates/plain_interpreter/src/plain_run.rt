@@ -19,6 +19,9 @@ pub enum Progress {
     OutOfRange,
 }
 
+/// A run that stands at this slot or past it is given up: no program is as long.
+pub const MAX_PLACE: usize = 1 << 40;
+
 /// A run with values of known kinds: `REGISTERS` registers, the frame's `FRAME_BYTES` cells, and the slot
 /// where the next instruction begins.
 #[derive(Drop)]

@@ -6,7 +6,9 @@ ghost use Rattle.bpf_model.specs.Access.{byte_count};
 ghost use Rattle.bpf_model.specs.Spelling.{slot_total};
 ghost use Rattle.bpf_model.specs.Step.{Environment, sets, forward, jumps_by, load_from, store_to, stored, insn_at as insn_of};
 ghost use Rattle.bpf_model.specs.MachineStep.{returns};
-ghost use Rattle.plain_interpreter.specs.Plain.{plain_state_of, Comes, PerformsInsn, TellsStep, plain_environment};
+ghost use Rattle.plain_interpreter.specs.declared.plain_run.TheConstants.{MAX_PLACE};
+ghost use Rattle.plain_interpreter.specs.Plain.{plain_state_of, Comes, PerformsInsn, TellsStep};
+ghost use Rattle.bpf_model.specs.Step.{environment_of};
 
 use crate::memory::{number_in, read, region_offset, write};
 use crate::plain_run::{PlainRun, Progress};
@@ -51,7 +53,7 @@ impl PlainRun {
     }
 
     fn alu(&mut self, op: AluOp, size: Size, dst: Reg, src: &Operand) -> Progress
-        requires { self.old.place < 2 ^ 40 }
+        requires { self.old.place < MAX_PLACE }
         ensures { (env : Environment) →
             PerformsInsn (Insn.Alu op size dst src.now) env self.old result self.new }
     {
@@ -69,7 +71,7 @@ impl PlainRun {
     }
 
     fn unary(&mut self, op: &UnaryOp, dst: Reg) -> Progress
-        requires { self.old.place < 2 ^ 40 }
+        requires { self.old.place < MAX_PLACE }
         ensures { (env : Environment) →
             PerformsInsn (Insn.Unary op.now dst) env self.old result self.new }
     {
@@ -80,9 +82,9 @@ impl PlainRun {
     }
 
     fn load_map(&mut self, dst: Reg, map: i32, maps: usize) -> Progress
-        requires { self.old.place < 2 ^ 40 }
+        requires { self.old.place < MAX_PLACE }
         ensures { (context : List ℕ) →
-            PerformsInsn (Insn.LoadMap dst map) (plain_environment context maps) self.old result
+            PerformsInsn (Insn.LoadMap dst map) (environment_of context maps) self.old result
             self.new }
     {
         if map < 0 || map as usize >= maps {
@@ -92,7 +94,7 @@ impl PlainRun {
     }
 
     fn jump(&mut self, offset: i32) -> Progress
-        requires { self.old.place < 2 ^ 40 }
+        requires { self.old.place < MAX_PLACE }
         ensures { Comes (jumps_by offset (plain_state_of self.old)) result self.old self.new }
     {
         let target = self.place as i64 + 1 + i64::from(offset);
@@ -111,7 +113,7 @@ impl PlainRun {
         src: &Operand,
         offset: i16,
     ) -> Progress
-        requires { self.old.place < 2 ^ 40 }
+        requires { self.old.place < MAX_PLACE }
         ensures { (env : Environment) →
             PerformsInsn (Insn.JumpIf condition size dst src.now offset) env self.old result
             self.new }
@@ -129,7 +131,7 @@ impl PlainRun {
     fn load_from(&self, context: &[u8], width: Width, offset: i16, base: Value) -> Option<Value>
         requires { length context.now ≤ CTX_BYTES }
         ensures { (maps : ℕ) → result
-            ≡ load_from (plain_environment context.now maps) (plain_state_of self.now)
+            ≡ load_from (environment_of context.now maps) (plain_state_of self.now)
             (byte_count width) offset
             base }
     {
@@ -148,10 +150,10 @@ impl PlainRun {
     }
 
     fn load(&mut self, context: &[u8], width: Width, dst: Reg, src: Reg, offset: i16) -> Progress
-        requires place { self.old.place < 2 ^ 40 }
+        requires place { self.old.place < MAX_PLACE }
         requires context { length context.now ≤ CTX_BYTES }
         ensures { (maps : ℕ) →
-            PerformsInsn (Insn.Load width dst src offset) (plain_environment context.now maps)
+            PerformsInsn (Insn.Load width dst src offset) (environment_of context.now maps)
             self.old result
             self.new }
     {
@@ -169,10 +171,10 @@ impl PlainRun {
         src: Reg,
         offset: i16,
     ) -> Progress
-        requires place { self.old.place < 2 ^ 40 }
+        requires place { self.old.place < MAX_PLACE }
         requires context { length context.now ≤ CTX_BYTES }
         ensures { (maps : ℕ) →
-            PerformsInsn (Insn.LoadSigned width dst src offset) (plain_environment context.now maps)
+            PerformsInsn (Insn.LoadSigned width dst src offset) (environment_of context.now maps)
             self.old
             result self.new }
     {
@@ -186,7 +188,7 @@ impl PlainRun {
     }
 
     fn store_through(&mut self, width: Width, offset: i16, v: Value, r: Reference) -> Progress
-        requires { self.old.place < 2 ^ 40 }
+        requires { self.old.place < MAX_PLACE }
         ensures { Comes (stored (plain_state_of self.old) (byte_count width) offset v r) result
             self.old
             self.new }
@@ -205,7 +207,7 @@ impl PlainRun {
     }
 
     fn store(&mut self, width: Width, offset: i16, v: Value, base: Value) -> Progress
-        requires { self.old.place < 2 ^ 40 }
+        requires { self.old.place < MAX_PLACE }
         ensures { Comes (store_to (plain_state_of self.old) (byte_count width) offset v base) result
             self.old self.new }
     {
@@ -228,9 +230,9 @@ impl PlainRun {
     /// `Stuck` where it does nothing, as a call; `OutOfRange` where a register would hold a
     /// reference whose offset leaves 64 bits. Only a run that moves changes.
     pub fn perform(&mut self, insn: &Insn, context: &[u8], maps: usize) -> Progress
-        requires place { self.old.place < 2 ^ 40 }
+        requires place { self.old.place < MAX_PLACE }
         requires context { length context.now ≤ CTX_BYTES }
-        ensures { PerformsInsn insn.now (plain_environment context.now maps) self.old result
+        ensures { PerformsInsn insn.now (environment_of context.now maps) self.old result
             self.new }
     {
         match insn {
@@ -275,7 +277,7 @@ impl PlainRun {
 
     /// The next instruction is one slot further.
     pub fn forward(&mut self)
-        requires { self.old.place < 2 ^ 40 }
+        requires { self.old.place < MAX_PLACE }
         ensures { plain_state_of self.new ≡ forward 1 (plain_state_of self.old) }
     {
         self.place += 1;
@@ -283,7 +285,7 @@ impl PlainRun {
 
     /// After a call r0 is its result and r1 to r5 hold nothing.
     pub fn return_from_call(&mut self, value: Value)
-        requires { self.old.place < 2 ^ 40 }
+        requires { self.old.place < MAX_PLACE }
         ensures { plain_state_of self.new ≡ returns value (plain_state_of self.old) }
     {
         self.regs[0] = value;
@@ -302,7 +304,7 @@ impl PlainRun {
     pub fn step(&mut self, program: &[Insn], context: &[u8], maps: usize) -> Progress
         requires program { slot_total program.now ≤ MAX_SLOTS }
         requires context { length context.now ≤ CTX_BYTES }
-        ensures { TellsStep program.now (plain_environment context.now maps) self.old result
+        ensures { TellsStep program.now (environment_of context.now maps) self.old result
             self.new }
     {
         match insn_at(program, self.place) {

@@ -2,7 +2,8 @@
 ghost use Rattle.std.specs.Prelude.{◌≤◌, length};
 ghost use Rattle.bpf_model.specs.declared.limits.TheConstants.{CTX_BYTES, MAX_SLOTS};
 ghost use Rattle.bpf_model.specs.Spelling.{slot_total};
-ghost use Rattle.plain_interpreter.specs.Plain.{plain_state_of, plain_environment};
+ghost use Rattle.plain_interpreter.specs.Plain.{plain_state_of};
+ghost use Rattle.bpf_model.specs.Step.{environment_of};
 ghost use Rattle.plain_interpreter.specs.Runs.{EndsAs};
 
 use crate::plain_run::{PlainRun, Progress};
@@ -23,7 +24,7 @@ impl PlainRun {
     pub fn run(&mut self, program: &[Insn], context: &[u8], maps: usize, limit: usize) -> Ending
         requires program { slot_total program.now ≤ MAX_SLOTS }
         requires context { length context.now ≤ CTX_BYTES }
-        ensures { EndsAs program.now (plain_environment context.now maps) (plain_state_of self.old)
+        ensures { EndsAs program.now (environment_of context.now maps) (plain_state_of self.old)
             limit result }
     {
         for done in 0..limit {

@@ -1,11 +1,13 @@
 //! What an instruction other than a call does: to its run alone, or to an element.
-ghost use Rattle.std.specs.Prelude.{◌≡◌, ℕ, ◌^◌, ◌<◌, ◌≤◌, Some, List, length};
+ghost use Rattle.std.specs.Prelude.{◌≡◌, ℕ, ◌<◌, ◌≤◌, Some, List, length};
 ghost use Rattle.bpf_model.specs.declared.limits.TheConstants.{CTX_BYTES};
 ghost use Rattle.bpf_model.specs.declared.value.Value.TheVariants.{Pointer};
 ghost use Rattle.bpf_model.specs.declared.value.Reference.TheVariants.{Elem};
 ghost use Rattle.bpf_model.specs.Access.{byte_count};
 ghost use Rattle.bpf_model.specs.MachineStep.{element_store};
-ghost use Rattle.plain_interpreter.specs.Plain.{plain_state_of, plain_environment, Comes};
+ghost use Rattle.plain_interpreter.specs.declared.plain_run.TheConstants.{MAX_PLACE};
+ghost use Rattle.plain_interpreter.specs.Plain.{plain_state_of, Comes};
+ghost use Rattle.bpf_model.specs.Step.{environment_of};
 ghost use Rattle.plain_store.specs.State.{elements_of};
 ghost use Rattle.plain_runs.specs.Acting.{base_element, load_outcome, extended_outcome, StoresAs, ActsAs};
 
@@ -40,7 +42,7 @@ fn load(
     o: i64,
     offset: i16,
 ) -> Progress
-    requires { (plain_state_of run.old).place < 2 ^ 40 }
+    requires { (plain_state_of run.old).place < MAX_PLACE }
     ensures { Comes (load_outcome (elements_of store.now.elements.items) (byte_count width) offset
         (Pointer (Elem n o)) dst (plain_state_of run.old)) result run.old run.new }
 {
@@ -60,7 +62,7 @@ fn load_extended(
     o: i64,
     offset: i16,
 ) -> Progress
-    requires { (plain_state_of run.old).place < 2 ^ 40 }
+    requires { (plain_state_of run.old).place < MAX_PLACE }
     ensures { Comes (extended_outcome (elements_of store.now.elements.items) width offset
         (Pointer (Elem n o)) dst (plain_state_of run.old)) result run.old run.new }
 {
@@ -80,7 +82,7 @@ fn save(
     o: i64,
     offset: i16,
 ) -> Progress
-    requires { (plain_state_of run.old).place < 2 ^ 40 }
+    requires { (plain_state_of run.old).place < MAX_PLACE }
     ensures elements { StoresAs
         (element_store (elements_of store.old.elements.items) (byte_count width) offset value
         (Pointer (Elem n o))) run.old result (elements_of store.new.elements.items) run.new }
@@ -98,10 +100,10 @@ fn save(
 
 /// An access to element n, o bytes from the start of its value.
 fn access_element(run: &mut PlainRun, store: &mut Store, insn: &Insn, n: usize, o: i64) -> Progress
-    requires place { (plain_state_of run.old).place < 2 ^ 40 }
+    requires place { (plain_state_of run.old).place < MAX_PLACE }
     requires base { base_element insn.now (plain_state_of run.old) ≡ Some (n, o) }
     ensures acts { (context : List ℕ) (maps : ℕ) →
-        ActsAs insn.now (plain_environment context maps) (elements_of store.old.elements.items)
+        ActsAs insn.now (environment_of context maps) (elements_of store.old.elements.items)
         run.old
         result (elements_of store.new.elements.items) run.new }
     ensures maps { store.new.maps ≡ store.old.maps }
@@ -142,9 +144,9 @@ pub(crate) fn act(
     maps: usize,
     insn: &Insn,
 ) -> Progress
-    requires place { (plain_state_of run.old).place < 2 ^ 40 }
+    requires place { (plain_state_of run.old).place < MAX_PLACE }
     requires context { length context.now ≤ CTX_BYTES }
-    ensures acts { ActsAs insn.now (plain_environment context.now maps)
+    ensures acts { ActsAs insn.now (environment_of context.now maps)
         (elements_of store.old.elements.items) run.old result (elements_of store.new.elements.items)
         run.new }
     ensures maps { store.new.maps ≡ store.old.maps }

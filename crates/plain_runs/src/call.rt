@@ -1,6 +1,6 @@
 //! Calls: of the kernel's functions, which open and leave sections, and of helpers, which look at maps and
 //! change them.
-ghost use Rattle.std.specs.Prelude.{◌≡◌, ℕ, ◌+◌, ◌^◌, ◌<◌, ◌≤◌, ◌==◌, if◌then◌else◌, Some, None, List, OnOk};
+ghost use Rattle.std.specs.Prelude.{◌≡◌, ℕ, ◌+◌, ◌<◌, ◌≤◌, ◌==◌, if◌then◌else◌, Some, None, List, OnOk};
 ghost use Rattle.bpf_model.specs.declared.limits.TheConstants.{FRAME_BYTES};
 ghost use Rattle.bpf_model.specs.declared.value.Value.{Value};
 ghost use Rattle.bpf_model.specs.declared.insn.Insn.TheVariants as insns;
@@ -13,6 +13,7 @@ ghost use Rattle.bpf_model.specs.Machine.{Loaded as ModelLoaded, moves};
 ghost use Rattle.bpf_model.specs.MapState.{Store as ModelStore};
 ghost use Rattle.bpf_model.specs.MachineStep.{LookupStep, UpdateStep, DeleteStep, HelperStep, map_argument as map_argument_of, key_argument, frame_bytes as frame_bytes_of, bytes_at as bytes_of, returns as returns_of};
 ghost use Rattle.bpf_model.specs.Schedule.{TakesOldest};
+ghost use Rattle.plain_interpreter.specs.declared.plain_run.TheConstants.{MAX_PLACE};
 ghost use Rattle.plain_interpreter.specs.Plain.{plain_state_of};
 ghost use Rattle.plain_store.specs.State.{store_of, sections_of};
 ghost use Rattle.plain_store.specs.Telling.{TellsResult};
@@ -32,7 +33,7 @@ use std::alloc::Global;
 
 /// After a call r0 is its result and r1 to r5 hold nothing.
 fn returns(run: &mut Run, value: Value) -> Result<Answer, Fault>
-    requires { (plain_state_of run.old.state).place < 2 ^ 40 }
+    requires { (plain_state_of run.old.state).place < MAX_PLACE }
     ensures moves { (program : ModelLoaded) →
         TellsResult (λ a. (a ≡ answers.Moved)
         × (run_with program run.new
@@ -59,7 +60,7 @@ fn locks_after(run: &Run) -> Result<u64, Fault>
 }
 
 fn read_lock(run: &mut Run) -> Result<Answer, Fault>
-    requires { (plain_state_of run.old.state).place < 2 ^ 40 }
+    requires { (plain_state_of run.old.state).place < MAX_PLACE }
     ensures locks { (program : ModelLoaded) →
         KernelsAs (Some functions.ReadLock) (run_with program run.old) result
         (run_with program run.new) }
@@ -75,7 +76,7 @@ fn read_lock(run: &mut Run) -> Result<Answer, Fault>
 
 /// An unlock closes a lock that is open; the section ends with its last.
 fn read_unlock(run: &mut Run) -> Result<Answer, Fault>
-    requires { (plain_state_of run.old.state).place < 2 ^ 40 }
+    requires { (plain_state_of run.old.state).place < MAX_PLACE }
     ensures unlocks { (program : ModelLoaded) →
         KernelsAs (Some functions.ReadUnlock) (run_with program run.old) result
         (run_with program run.new) }
@@ -90,7 +91,7 @@ fn read_unlock(run: &mut Run) -> Result<Answer, Fault>
 
 /// A lock or an unlock.
 pub(crate) fn call_kernel(run: &mut Run, imm: i32) -> Result<Answer, Fault>
-    requires { (plain_state_of run.old.state).place < 2 ^ 40 }
+    requires { (plain_state_of run.old.state).place < MAX_PLACE }
     ensures steps { (program : ModelLoaded) →
         KernelsAs (kernel_function_of imm) (run_with program run.old) result
         (run_with program run.new) }
@@ -287,7 +288,7 @@ pub(crate) fn call_helper(
     opened: &[Section],
     imm: i32,
 ) -> Result<Answer, Fault>
-    requires { (plain_state_of run.old.state).place < 2 ^ 40 }
+    requires { (plain_state_of run.old.state).place < MAX_PLACE }
     ensures steps { InsnStepsAs (insns.Call kinds.Helper imm) (store_of store.old)
         (sections_of opened.now) (run_with (loaded_of program.now) run.old) result
         (store_of store.new) (run_with (loaded_of program.now) run.new) }

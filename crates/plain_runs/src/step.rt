@@ -1,7 +1,8 @@
 //! One step of a run in the whole machine.
-ghost use Rattle.std.specs.Prelude.{◌≡◌, ◌^◌, ◌<◌, OnOk};
+ghost use Rattle.std.specs.Prelude.{◌≡◌, ◌<◌, OnOk};
 ghost use Rattle.std.specs.Option.{option_map};
 ghost use Rattle.bpf_model.specs.Schedule.{TakesOldest};
+ghost use Rattle.plain_interpreter.specs.declared.plain_run.TheConstants.{MAX_PLACE};
 ghost use Rattle.plain_interpreter.specs.Plain.{plain_state_of};
 ghost use Rattle.plain_store.specs.State.{store_of, sections_of};
 ghost use Rattle.plain_runs.specs.State.{loaded_of, run_with, run_of};
@@ -11,7 +12,7 @@ use crate::access::act;
 use crate::call::{call_helper, call_kernel};
 use crate::run::{Loaded, Run};
 use bpf_model::{Answer, CallKind, Insn};
-use plain_interpreter::{Progress, insn_at};
+use plain_interpreter::{MAX_PLACE, Progress, insn_at};
 use plain_store::{Fault, Section, Store, one_more};
 use std::alloc::Global;
 
@@ -22,7 +23,7 @@ fn step_alone(
     store: &mut Store,
     insn: &Insn,
 ) -> Result<Answer, Fault>
-    requires { (plain_state_of run.old.state).place < 2 ^ 40 }
+    requires { (plain_state_of run.old.state).place < MAX_PLACE }
     ensures steps { AloneAs insn.now (store_of store.old) (run_with (loaded_of program.now) run.old)
         result (store_of store.new) (run_with (loaded_of program.now) run.new) }
     ensures program { run.new.program ≡ run.old.program }
@@ -71,7 +72,7 @@ fn step_insn(
     opened: &[Section],
     insn: &Insn,
 ) -> Result<Answer, Fault>
-    requires { (plain_state_of run.old.state).place < 2 ^ 40 }
+    requires { (plain_state_of run.old.state).place < MAX_PLACE }
     ensures steps { InsnStepsAs insn.now (store_of store.old) (sections_of opened.now)
         (run_with (loaded_of program.now) run.old) result (store_of store.new)
         (run_with (loaded_of program.now) run.new) }
@@ -100,7 +101,7 @@ fn step_run(
     ensures oldest { OnOk result (TakesOldest (store_of store.old) (store_of store.new)) }
 {
     let place = run.state.place();
-    if place >= 1 << 40 {
+    if place >= MAX_PLACE {
         return Err(Fault::OutOfRange);
     }
     match insn_at(program.code.as_slice(), place) {
@@ -110,8 +111,8 @@ fn step_run(
 }
 
 /// A step of the run in a run slot. Errors: `Stuck` where the run has no step, or its program is not
-/// there; `OutOfRange` where a count or an offset leaves 64 bits, where the run's place is 2^40 or
-/// above, and where no run is in the run slot; `Memory`.
+/// there; `OutOfRange` where a count or an offset leaves 64 bits, where the run's place is
+/// `MAX_PLACE` or above, and where no run is in the run slot; `Memory`.
 pub fn step_slot(
     alloc: Global,
     slot: &mut Option<Run>,

@@ -37,7 +37,7 @@ replaces s opened k m key value found new use_count h free e elements maps =
       new_is = ap (λ es. record { elements = es; maps = new.maps }) elements_is ∙ ap (λ ms. record { elements = unlinked opened s.elements found ++ newborn k key value count ∷ []; maps = ms }) maps_are;
     }
 
--- where no test of an update failed, a slot is free
+-- where no test of an update failed, a map slot is free
 all_some : {A : Type 0} (a b c d : Bool) (v w x y z : A) → (if a then Some v else if b then Some w else if c then Some x else if d then Some y else Some z) ≡ None → ⊥
 all_some true b c d v w x y z h = cc
 all_some false true c d v w x y z h = cc
@@ -64,7 +64,7 @@ pub updates-done : (s : Store) (opened : List Section) (k : ℕ) (m : MapState) 
 updates-done s opened k m key value flags found new h l error r =
     record { state = m; there = h; found = found; lookup = l; settled = subst (λ o. Settles o (Ok tt) s new (Replaces s opened k m key value found new)) (sym error) (refl, r) }
 
--- a slot of the map is free, in the one state that it has
+-- the map has a free map slot, in the one state that it has
 pub free-in : (ms : List MapState) (k : ℕ) (m : MapState) → slice_get ms k ≡ Some m → 0 < length m.bag → (n : MapState) → slice_get ms k ≡ Some n → 0 < length n.bag
 free-in ms k m h free n g =
     let e : Some m ≡ Some n = sym h ∙ g in

@@ -1,4 +1,4 @@
--- A new element takes the slot that has been free longest.
+-- A new element takes the map slot that has been free longest.
 use Rattle.std.proofs.Common.{◌≡◌, ℕ, ◌+◌, ◌<◌, List, [], ◌∷◌, ◌++◌, Option, Some, None, refl, sym, ap, ◌∙◌, arith, length}
 use Rattle.std.specs.Prelude.{slice_get, drop, ◌-◌}
 use Rattle.bpf_model.specs.Section.{Section}

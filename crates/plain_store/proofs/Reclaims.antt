@@ -8,7 +8,7 @@ use Rattle.bpf_model.specs.MapState.{MapState, Store, given_of, returned}
 use Rattle.bpf_model.specs.Reclaim.{Reclaims}
 use Rattle.plain_store.specs.Births.{MayReclaim}
 
--- x is the element, and z its map after the slot was given back
+-- x is the element, and z its map after the map slot was given back
 pub reclaims-at : (s : Store) (opened : List Section) (n : ℕ) (x : Element) (y z : MapState) (given : Given) (new : Store) →
     slice_get s.elements n ≡ Some x → slice_get s.maps x.map ≡ Some y → MayReclaim x.life opened → given ≡ given_of x.uses y → z ≡ returned x.uses y →
     new.elements ≡ slice_set s.elements n (with_life Reclaimed x) → new.maps ≡ slice_set s.maps x.map z → Reclaims s opened n x given new

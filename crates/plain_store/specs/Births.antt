@@ -1,4 +1,4 @@
--- A birth in the slot that has been free longest, and a reclamation.
+-- A birth in the map slot that has been free longest, and a reclamation.
 use Rattle.std.specs.Prelude.{◌≡◌, ℕ, ◌+◌, ◌<◌, List, [], ◌∷◌, length, drop, Option, Some, None}
 use Rattle.std.specs.Prelude.{slice_get, slice_set}
 use Rattle.bpf_model.specs.Section.{Section, AllEnded}
@@ -8,7 +8,7 @@ use Rattle.bpf_model.specs.Reclaim.{Reclaims}
 use Rattle.bpf_model.specs.MapState.{MapState, Store, with_bag}
 use Rattle.bpf_model.specs.Helper.{Replaces}
 
--- a slot of the map is free
+-- the map has a free map slot
 abbrev pub HasFree : Store → ℕ → Type 0
 HasFree s map = (m : MapState) → slice_get s.maps map ≡ Some m → 0 < length m.bag
 

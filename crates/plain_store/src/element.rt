@@ -1,5 +1,6 @@
 //! Elements, and what becomes of them.
-ghost use Rattle.std.specs.Prelude.{◌≡◌, ◌+◌, ◌+ℤ◌, false, ◌≤◌, ◌&&◌, ◌==◌, ◌↔◌, IsTrue, length};
+ghost use Rattle.std.specs.Prelude.{◌≡◌, ◌+◌, ◌+ℤ◌, false, ◌≤◌, ◌*◌, ◌&&◌, ◌==◌, ◌↔◌, IsTrue, length};
+ghost use Rattle.bpf_model.specs.declared.limits.TheConstants.{FRAME_BYTES};
 ghost use Rattle.bpf_model.specs.Element.{is_linked, is_unlinked, is_reclaimed};
 ghost use Rattle.bpf_model.specs.Section.{Has, AllEnded};
 ghost use Rattle.bpf_model.specs.Access.{byte_count};
@@ -153,7 +154,7 @@ pub(crate) fn save(element: &mut Element, width: Width, o: i64, offset: i16, num
 /// Writes so many low bytes of a number from an offset on.
 fn put_bytes(bytes: &mut [u8], at: usize, width: usize, number: u64)
     requires inside { at + width ≤ length bytes.old }
-    requires small { at + width ≤ 1024 }
+    requires small { at + width ≤ 2 * FRAME_BYTES }
     ensures { bytes.new ≡ with_bytes at width number bytes.old }
 {
     if width > 0 {

@@ -2,8 +2,8 @@
 //! searched from the front.
 //!
 //! Each call on a [`Store`] is proved to be the definitions' own: what a lookup finds, an update, a deletion, a
-//! load, a store, a reclamation, the slot that a new element takes. The births of unlinked elements wait in each
-//! map's [`Queues`]. Grace periods are not known here: a reclamation is told the sections that are open.
+//! load, a store, a reclamation, the map slot that a new element takes. The births of unlinked elements wait in
+//! each map's [`Queues`]. Grace periods are not known here: a reclamation is told the sections that are open.
 #![tactic(auto)]
 
 mod element;

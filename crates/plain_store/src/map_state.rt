@@ -1,4 +1,4 @@
-//! Maps: their shapes and their free slots.
+//! Maps: their shapes and their free map slots.
 ghost use Rattle.std.specs.Prelude.{◌≡◌, ◌≢◌, ◌++◌, IfOk, OnOk, Err, replicate};
 ghost use Rattle.bpf_model.specs.MapState.{given_of, returned, new_map};
 ghost use Rattle.bpf_model.specs.Helper.{update_error as first_error};
@@ -10,8 +10,8 @@ use crate::fault::Fault;
 use bpf_model::{Errno, Given, MapShape};
 use std::alloc::{AllocError, Global};
 
-/// A map: its shape, the use counts of its free slots, the one that has been free longest first, and how
-/// many slots are worn out.
+/// A map: its shape, the use counts of its free map slots, the one that has been free longest first, and
+/// how many are worn out.
 #[derive(Drop)]
 pub struct MapState {
     pub shape: MapShape,
@@ -19,7 +19,7 @@ pub struct MapState {
     pub worn: u64,
 }
 
-/// So many slots that were never used go to the end of the free ones.
+/// So many map slots that were never used go to the end of the free ones.
 fn put_unused(bag: &mut Vec<u32>, count: usize) -> Result<(), AllocError>
     ensures { OnOk result (bag.new.items ≡ bag.old.items ++ replicate count 0) }
 {
@@ -30,7 +30,7 @@ fn put_unused(bag: &mut Vec<u32>, count: usize) -> Result<(), AllocError>
 }
 
 impl MapState {
-    /// A map of which no slot was ever used. Fails where memory runs out.
+    /// A map of which no map slot was ever used. Fails where memory runs out.
     pub fn new(alloc: Global, shape: MapShape) -> Result<MapState, AllocError>
         ensures { IfOk result (λ m. map_of m ≡ new_map shape) }
     {
@@ -63,8 +63,8 @@ impl MapState {
         }
     }
 
-    /// A slot that was used so often comes back: to the end of the free ones, or it is worn out. Errors:
-    /// `OutOfRange` where the uses exceed 32 bits or the count of worn slots 64; `Memory`.
+    /// A map slot that was used so often comes back: to the end of the free ones, or it is worn out. Errors:
+    /// `OutOfRange` where the uses exceed 32 bits or the count of worn ones 64; `Memory`.
     pub fn give_back(&mut self, uses: u64) -> Result<Given, Fault>
         ensures tells { TellsResult (λ given. (given ≡ given_of uses (map_of self.old))
             × (map_of self.new ≡ returned uses (map_of self.old))) ⊥ result }

@@ -118,7 +118,7 @@ impl Store {
         Ok(Ok(()))
     }
 
-    /// An element is born in the slot that has been free longest, and what was found is unlinked. Where
+    /// An element is born in the map slot that has been free longest, and what was found is unlinked. Where
     /// memory is refused, nothing has changed.
     fn replace(
         &mut self,
@@ -157,7 +157,7 @@ impl Store {
         Ok(())
     }
 
-    /// Which use of its map slot the next element will be, counted from 1: it takes the slot that has been
+    /// Which use of its map slot the next element will be, counted from 1: it takes the one that has been
     /// free longest.
     fn next_use(&self, map: usize) -> u64
         requires { map < length self.now.maps.items }
@@ -169,7 +169,7 @@ impl Store {
         }
     }
 
-    /// The slot that has been free longest is taken.
+    /// The map slot that has been free longest is taken.
     fn take_slot(&mut self, map: usize)
         requires { map < length self.old.maps.items }
         ensures elements { self.new.elements ≡ self.old.elements }
@@ -216,7 +216,7 @@ impl Store {
         }
     }
 
-    /// Reclaims element n, whose slot comes back. `Early` only where it may not be reclaimed: it isn't
+    /// Reclaims element n, whose map slot comes back. `Early` only where it may not be reclaimed: it isn't
     /// unlinked, a section that it keeps is open, or its map is not there. Else `OutOfRange` or `Memory`.
     pub fn reclaim(&mut self, n: usize, opened: &[Section]) -> Result<ReapedElement, Fault>
         ensures tells { TellsResult (ReclaimsTo (store_of self.old) (sections_of opened.now) n

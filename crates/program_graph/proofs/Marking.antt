@@ -20,59 +20,59 @@ first_start [] p e = absurd (cc)
 first_start (i ∷ is) p e = sym (same_Some _ _ e)
 
 -- an edge between instructions by their indexes
-pub record HasEdge (program : List Insn) (targets : List (Option ℕ)) (j k : ℕ) (i : Insn) (place : ℕ) : Type 0 where
+pub record HasEdge (program : List Insn) (targets : List (Option ℕ)) (j k : ℕ) (i : Insn) (slot : ℕ) : Type 0 where
   pub insn : slice_get program j ≡ Some i
-  pub start : StartsAt program j place
+  pub start : StartsAt program j slot
   pub target : Option ℕ
   pub target_is : slice_get targets j ≡ Some target
   pub follows : Follows i target j k
   pub before : j < k
 
 module _ (program : List Insn) (targets : List (Option ℕ)) (long : length targets ≡ length program) (all : HasTargets program targets) where
-  falls_into : (j k place p : ℕ) (i : Insn) → slice_get program j ≡ Some i → StartsAt program j place → StartsAt program k p → p ≡ place + slot_count i → (k ≡ suc j) × (j < k)
-  falls_into j k place p i e at there f =
-      let before : place < p = omega (arith, slot_count_some i) in
-      let h : j < k = starts_ordered 0 program j k place p at there before in
+  falls_into : (j k slot p : ℕ) (i : Insn) → slice_get program j ≡ Some i → StartsAt program j slot → StartsAt program k p → p ≡ slot + slot_count i → (k ≡ suc j) × (j < k)
+  falls_into j k slot p i e at there f =
+      let before : slot < p = omega (arith, slot_count_some i) in
+      let h : j < k = starts_ordered 0 program j k slot p at there before in
       let inside : suc j < length program = omega (arith, start-inside program k p there) in
-      let next : StartsAt program (suc j) (place + slot_count i) = starts-next 0 program j place i e at inside in
+      let next : StartsAt program (suc j) (slot + slot_count i) = starts-next 0 program j slot i e at inside in
       (starts_apart 0 program k (suc j) p there (next ∙ ap Some (sym f)), h)
 
-  jumps_into : (j k place p : ℕ) (i : Insn) (t : Option ℕ) → StartsAt program j place → StartsAt program k p → JumpsTo i place p → IsTarget program j i t → (t ≡ Some k) × (j < k)
-  jumps_into j k place p i None at there jumps none = absurd (let e : Some jumps.0 ≡ None = sym jumps.1 ∙ none in cc)
-  jumps_into j k place p i (Some u) at there jumps leads =
+  jumps_into : (j k slot p : ℕ) (i : Insn) (t : Option ℕ) → StartsAt program j slot → StartsAt program k p → JumpsTo i slot p → IsTarget program j i t → (t ≡ Some k) × (j < k)
+  jumps_into j k slot p i None at there jumps none = absurd (let e : Some jumps.0 ≡ None = sym jumps.1 ∙ none in cc)
+  jumps_into j k slot p i (Some u) at there jumps leads =
       let by : jumps.0 ≡ leads.by = same_Some _ _ (sym jumps.1 ∙ leads.by_is) in
-      let from : place ≡ leads.from = same_Some _ _ (sym at ∙ leads.from_is) in
-      let to : pos p ≡ pos leads.to = jumps.2 ∙ ap (λ d. pos (place + 1) +ℤ d) by ∙ ap (λ f. pos (f + 1) +ℤ leads.by) from ∙ sym leads.sum in
+      let from : slot ≡ leads.from = same_Some _ _ (sym at ∙ leads.from_is) in
+      let to : pos p ≡ pos leads.to = jumps.2 ∙ ap (λ d. pos (slot + 1) +ℤ d) by ∙ ap (λ f. pos (f + 1) +ℤ leads.by) from ∙ sym leads.sum in
       let same : u ≡ k = starts_apart 0 program u k p (leads.to_is ∙ ap Some (sym (same-pos p leads.to to))) there in
       (ap Some same, subst (λ u. j < u) same leads.further)
 
   -- an edge by slots into an instruction's start is one by indexes
-  pub edge_into : (k place p : ℕ) (i : Insn) → insn_at program place ≡ Some i → GoesTo i place p → StartsAt program k p → (j : ℕ) × HasEdge program targets j k i place
-  edge_into k place p i e goes there = at goes
+  pub edge_into : (k slot p : ℕ) (i : Insn) → insn_at program slot ≡ Some i → GoesTo i slot p → StartsAt program k p → (j : ℕ) × HasEdge program targets j k i slot
+  edge_into k slot p i e goes there = at goes
     where
-      j : (j : ℕ) × (slice_get program j ≡ Some i) × StartsAt program j place
-      j = index_here program place i e
+      j : (j : ℕ) × (slice_get program j ≡ Some i) × StartsAt program j slot
+      j = index_here program slot i e
 
       t : (t : Option ℕ) × (slice_get targets j.0 ≡ Some t)
       t = get-below targets j.0 (omega (arith, slice_get_within program j.0 i j.1))
 
-      at : GoesTo i place p → (j : ℕ) × HasEdge program targets j k i place
+      at : GoesTo i slot p → (j : ℕ) × HasEdge program targets j k i slot
       at (inl f) =
-          let r = falls_into j.0 k place p i j.1 j.2 there f.1 in
+          let r = falls_into j.0 k slot p i j.1 j.2 there f.1 in
           (j.0, record { insn = j.1; start = j.2; target = t.0; target_is = t.1; follows = inl (f.0, r.0); before = r.1 })
       at (inr f) =
-          let r = jumps_into j.0 k place p i t.0 j.2 there f (all.each j.0 i t.0 j.1 t.1) in
+          let r = jumps_into j.0 k slot p i t.0 j.2 there f (all.each j.0 i t.0 j.1 t.1) in
           (j.0, record { insn = j.1; start = j.2; target = t.0; target_is = t.1; follows = inr r.0; before = r.1 })
 
   -- an index that follows another gives an edge between their slots
-  pub edge_from : (j k place p : ℕ) (i : Insn) (t : Option ℕ) → slice_get program j ≡ Some i → slice_get targets j ≡ Some t → Follows i t j k → StartsAt program j place → StartsAt program k p → GoesTo i place p
-  edge_from j k place p i t e f (inl g) at there =
+  pub edge_from : (j k slot p : ℕ) (i : Insn) (t : Option ℕ) → slice_get program j ≡ Some i → slice_get targets j ≡ Some t → Follows i t j k → StartsAt program j slot → StartsAt program k p → GoesTo i slot p
+  edge_from j k slot p i t e f (inl g) at there =
       let inside : suc j < length program = omega (arith, start-inside program k p there, g.1) in
-      let next : StartsAt program (suc j) (place + slot_count i) = starts-next 0 program j place i e at inside in
+      let next : StartsAt program (suc j) (slot + slot_count i) = starts-next 0 program j slot i e at inside in
       inl (g.0, same_Some _ _ (sym there ∙ ap (slice_get (starts_from 0 program)) g.1 ∙ next))
-  edge_from j k place p i t e f (inr g) at there =
+  edge_from j k slot p i t e f (inr g) at there =
       let leads : LeadsTo program j i k = subst (IsTarget program j i) g (all.each j i t e f) in
-      let from : leads.from ≡ place = same_Some _ _ (sym leads.from_is ∙ at) in
+      let from : leads.from ≡ slot = same_Some _ _ (sym leads.from_is ∙ at) in
       let to : leads.to ≡ p = same_Some _ _ (sym leads.to_is ∙ there) in
       inr (leads.by, leads.by_is, ap pos (sym to) ∙ leads.sum ∙ ap (λ f. pos (f + 1) +ℤ leads.by) from)
 
@@ -85,9 +85,9 @@ target_fits program k i None leads = tt
 target_fits program k i (Some t) leads = target_within program k i t leads
 
 -- a slot that is reached and isn't the first is reached along an edge
-pub reached_by : {program : List Insn} {p : ℕ} → Reached program p → (p ≡ 0) ⊎ ((place : ℕ) × (i : Insn) × Reached program place × (insn_at program place ≡ Some i) × GoesTo i place p)
+pub reached_by : {program : List Insn} {p : ℕ} → Reached program p → (p ≡ 0) ⊎ ((slot : ℕ) × (i : Insn) × Reached program slot × (insn_at program slot ≡ Some i) × GoesTo i slot p)
 reached_by reached_entry = inl refl
-reached_by (reached_next place target i r e g) = inr (place, i, r, e, g)
+reached_by (reached_next slot target i r e g) = inr (slot, i, r, e, g)
 
 -- an instruction that follows a reached one is reached
 pub reached_on : (program : List Insn) (targets : List (Option ℕ)) (long : length targets ≡ length program) (all : HasTargets program targets) (j k : ℕ) (i : Insn) (t : Option ℕ)

@@ -14,7 +14,8 @@ use Rattle.register_kinds.specs.declared.state.AbsState.{AbsState as StateHere}
 use Rattle.register_kinds.specs.States.{kind_of, cell_of, kind_at, kind_in, class_in, cell_at, state_of, is_pointer}
 use Rattle.register_kinds.specs.Joined.{joined_class}
 use Rattle.register_kinds.proofs.Pairs.{kind_later}
-use Rattle.register_kinds.specs.Pairs.{IsBelow, AreBelow, PairsGrow, pair_of, JoinsKind, JoinsCell}
+use Rattle.register_kinds.specs.Pairs.{IsBelow, AreBelow}
+use Rattle.register_kinds.specs.JoinTable.{PairsGrow, pair_of, JoinsKind, JoinsCell}
 
 module _ (top : ℕ) (pairs : List (ℕ × ℕ)) where
   -- parts on both sides

@@ -16,7 +16,8 @@ use Rattle.register_kinds.specs.declared.kind.RegKind.TheVariants as kinds
 use Rattle.register_kinds.specs.declared.kind.CellKind.TheVariants as cells
 use Rattle.register_kinds.specs.States.{kind_of, kind_at, kind_in, class_in}
 use Rattle.register_kinds.specs.Joined.{IsHull}
-use Rattle.register_kinds.specs.Pairs.{IsBelow, PairsGrow, pair_of, IsTable, IsPairing, JoinsKind}
+use Rattle.register_kinds.specs.Pairs.{IsBelow, IsPairing}
+use Rattle.register_kinds.specs.JoinTable.{PairsGrow, pair_of, IsTable, JoinsKind}
 
 -- what an identity stands for
 pub pair_old : (top : ℕ) (pairs : List (ℕ × ℕ)) (id : ℕ) → id < top → pair_of top pairs id ≡ (id, id)

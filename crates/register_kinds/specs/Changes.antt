@@ -1,6 +1,6 @@
 -- What changes in a state, register by register and byte by byte.
 use Rattle.std.specs.Prelude.{◌==◌, if◌then◌else◌}
-use Rattle.typed_runs.specs.Kinds.{Kind, CellKind, AbsState}
+use Rattle.typed_runs.specs.Kinds.{Kind, CellKind, AbsState as Known}
 use Rattle.typed_runs.specs.Effects.{ended_kind, ended_cell, null_kind, null_cell, there_kind}
 use Rattle.typed_runs.specs.Effects.{there_cell}
 use Rattle.typed_runs.specs.Planned.{number_zero, origin}
@@ -22,7 +22,7 @@ learnt_cell SectionEnds cell = ended_cell cell
 learnt_cell (IsNull id) cell = null_cell id cell
 learnt_cell (IsThere id) cell = there_cell id origin cell
 
-abbrev pub learnt : Lesson → AbsState → AbsState
+abbrev pub learnt : Lesson → Known → Known
 learnt lesson a = record {
   regs = λ r. learnt_kind lesson (a.regs r);
   cells = λ k. learnt_cell lesson (a.cells k);

@@ -3,7 +3,7 @@ use Rattle.std.specs.Prelude.{◌≡◌, ℕ, Bool, if◌then◌else◌, min, ma
 use Rattle.scalar_domain.specs.declared.scalar.Scalar.{Scalar}
 use Rattle.typed_runs.specs.Kinds.{Kind, Blank, Mixed, Ended, Num, CtxAt, FrameAt, MapAt, ValueAt}
 use Rattle.typed_runs.specs.Kinds.{MaybeNull, CellKind, BlankCell, MixedCell, EndedCell, ByteCell}
-use Rattle.typed_runs.specs.Kinds.{PartCell, AbsState}
+use Rattle.typed_runs.specs.Kinds.{PartCell, AbsState as Known}
 use Rattle.register_kinds.specs.declared.kind.CellKind as classes
 use Rattle.register_kinds.specs.declared.kind.CellKind.TheVariants.{Unwritten, Byte, Part}
 use Rattle.register_kinds.specs.declared.kind.CellKind.TheVariants as class
@@ -52,7 +52,7 @@ IsJoinedCell ByteCell ByteCell c = c ≡ ByteCell
 IsJoinedCell (PartCell x) (PartCell y) c = (z : Kind) × IsJoinedKind x y z × (c ≡ joined_part z)
 IsJoinedCell a b c = c ≡ MixedCell
 
-pub record AreJoined (a b c : AbsState) : Type 0 where
+pub record AreJoined (a b c : Known) : Type 0 where
   pub regs : (r : ℕ) → IsJoinedKind (a.regs r) (b.regs r) (c.regs r)
   pub cells : (k : ℕ) → IsJoinedCell (a.cells k) (b.cells k) (c.cells k)
 

@@ -1,4 +1,5 @@
 pub mod States
 pub mod Joined
 pub mod Pairs
+pub mod JoinTable
 pub mod Changes

@@ -2,7 +2,8 @@
 ghost use Rattle.std.specs.Prelude.{◌≡◌, ℕ, ◌+◌, ◌^◌, ◌<◌, ◌≤◌, length};
 ghost use Rattle.register_kinds.specs.declared.identities.TheConstants.{MAX_PAIRS};
 ghost use Rattle.register_kinds.specs.States.{kind_in, class_in, kind_at, cell_at};
-ghost use Rattle.register_kinds.specs.Pairs.{IsBelow, PairsGrow, IsTable, JoinsCell};
+ghost use Rattle.register_kinds.specs.Pairs.{IsBelow};
+ghost use Rattle.register_kinds.specs.JoinTable.{PairsGrow, IsTable, JoinsCell};
 
 use crate::identities::Pairs;
 use crate::join::{join_cells, join_kinds};

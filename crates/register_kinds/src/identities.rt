@@ -1,7 +1,7 @@
 //! Identities of what may be null.
 ghost use Rattle.std.specs.Prelude.{◌≡◌, ◌≢◌, ℕ, ◌+◌, ◌^◌, ◌<◌, ◌≤◌, length, slice_get, Some};
 ghost use Rattle.typed_runs.specs.Kinds as model;
-ghost use Rattle.register_kinds.specs.Pairs.{PairsGrow, IsTable, JoinsKind};
+ghost use Rattle.register_kinds.specs.JoinTable.{PairsGrow, IsTable, JoinsKind};
 
 use crate::frame::GROUPS;
 use arrayvec::ArrayVec;

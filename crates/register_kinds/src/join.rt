@@ -3,7 +3,8 @@ ghost use Rattle.std.specs.Prelude.{◌≡◌, ℕ, ◌+◌, ◌*◌, ◌/◌, �
 ghost use Rattle.register_kinds.specs.declared.identities.TheConstants.{MAX_PAIRS};
 ghost use Rattle.register_kinds.specs.States.{kind_of, kind_at, kind_in, class_in, is_pointer};
 ghost use Rattle.register_kinds.specs.Joined.{joined_class};
-ghost use Rattle.register_kinds.specs.Pairs.{IsBelow, PairsGrow, IsTable, JoinsKind};
+ghost use Rattle.register_kinds.specs.Pairs.{IsBelow};
+ghost use Rattle.register_kinds.specs.JoinTable.{PairsGrow, IsTable, JoinsKind};
 
 use crate::identities::{Pairs, join_identities};
 use crate::kind::{CellKind, RegKind};

@@ -17,10 +17,7 @@ use Rattle.script_lines.specs.declared.reply.Reply.TheVariants as replies
 use Rattle.script_requests.specs.declared.asked.Asked.{Asked}
 use Rattle.script_requests.specs.declared.asked.Asked.TheVariants as asked
 use Rattle.script_requests.specs.Replying.{refused, reply_to}
-
--- the number of the refusal to make a map or load a program once there is a world
-abbrev pub SEALED_NUMBER : ℕ
-SEALED_NUMBER = 56
+use Rattle.script_world.specs.declared.live.TheConstants.{SEALED}
 
 -- a context that is longer than any has another length than each program's
 abbrev pub overlong_refusal : Option Loaded → EventRefusal
@@ -50,7 +47,7 @@ AreElements v bound (_ ∷ rest) = ⊥
 abbrev pub Replies : List (List ℕ) → WorldView → Asked → List Event → List Reply → WorldView →
     Type 0
 Replies names w asked.Sealed es rs new =
-    (es ≡ []) × (rs ≡ refused SEALED_NUMBER ∷ []) × (new ≡ w)
+    (es ≡ []) × (rs ≡ refused SEALED ∷ []) × (new ≡ w)
 Replies names w (asked.Refused refusal) es rs new =
     (es ≡ []) × (rs ≡ refused (event_refusal_number refusal) ∷ []) × (new ≡ w)
 Replies names w (asked.Event event) es rs new =

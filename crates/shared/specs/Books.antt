@@ -11,7 +11,7 @@ use Rattle.journal_laws.specs.Totals.{steps_of}
 use Rattle.world_laws.specs.Reacting.{full_reaction}
 use Rattle.shared.specs.declared.tally.Tally.{Tally}
 use Rattle.shared.specs.declared.tally.Totals.{Totals}
-use Rattle.shared.specs.Tally.{IsTallyOf, steps_by}
+use Rattle.shared.specs.Tally.{IsTallyOf, steps_by, greatest_count}
 
 -- The base, the world now, the entries from the one to the other and how many there may be, how
 -- many entries there were before the base and how many of them were steps, and what is counted.
@@ -60,10 +60,14 @@ books_view base world journal before steps_before tally = record {
   tally = tally;
 }
 
--- no further entry can be made: the journal has as many as it may have, or as many as a number can
--- count were made
+-- No further entry can be made: there are as many as there may be, or, with those before them, as
+-- many as 64 bits count.
+abbrev pub HasNoRoom : List Entry → ℕ → ℕ → Type 0
+HasNoRoom entries limit before =
+    (length entries ≡ limit) ⊎ (before + length entries ≡ greatest_count)
+
 abbrev pub IsJournalFull : BooksView → Type 0
-IsJournalFull b = (length b.journal ≡ b.limit) ⊎ (b.before + length b.journal ≡ 2 ^ 64 - 1)
+IsJournalFull b = HasNoRoom b.journal b.limit b.before
 
 -- One event: its entry is added, the answer and the new world are the world's reaction, and what is
 -- counted goes on.

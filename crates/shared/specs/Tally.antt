@@ -32,14 +32,14 @@ pub record IsTallyOf (t : Tally) (w : WorldView) : Type 0 where
   pub reclaimed : t.origin.reclaimed + t.totals.reclaimed ≡ w.given
 
 -- the greatest number of 64 bits, at which the sums of the counters stop
-abbrev pub most : ℕ
-most = 2 ^ 64 - 1
+abbrev pub greatest_count : ℕ
+greatest_count = 2 ^ 64 - 1
 
 -- What the counters show: the totals of the world from its making on.
 abbrev pub shown_totals : Origin → ℕ → ℕ → ℕ → Totals
 shown_totals o steps unlinked reclaimed = record {
   steps = steps;
-  unlinked = min (min (o.reclaimed + o.unreclaimed) most + unlinked) most;
-  reclaimed = min (min (o.reclaimed + reclaimed) most)
-      (min (min (o.reclaimed + o.unreclaimed) most + unlinked) most);
+  unlinked = min (min (o.reclaimed + o.unreclaimed) greatest_count + unlinked) greatest_count;
+  reclaimed = min (min (o.reclaimed + reclaimed) greatest_count)
+      (min (min (o.reclaimed + o.unreclaimed) greatest_count + unlinked) greatest_count);
 }

@@ -3,7 +3,7 @@ ghost use Rattle.std.specs.Prelude.{◌≡◌, ◌+◌, ◌-◌, ◌^◌, ◌<�
 ghost use Rattle.journal_laws.specs.Replay.{Replays, HasNoRuns};
 ghost use Rattle.shared.specs.Noted.{IsEntered, IsExitNote};
 ghost use Rattle.shared.specs.Tally.{IsTallyOf, origin_of};
-ghost use Rattle.shared.specs.Books.{TotalsRise, CutsTo};
+ghost use Rattle.shared.specs.Books.{HasNoRoom, TotalsRise, CutsTo};
 ghost use Rattle.shared.specs.declared.fault.SharedFault.TheVariants as fault;
 ghost use Rattle.shared.specs.declared.fault.CutFault.TheVariants as cut_fault;
 
@@ -66,8 +66,7 @@ pub fn is_quiet(world: &World) -> bool
 fn make_room(journal: &mut Journal, before: u64) -> Result<(), SharedFault>
     requires { before + length journal.old.entries < 2 ^ 64 }
     ensures full { (result ≡ Err fault.JournalFull)
-        ↔ ((length journal.old.entries ≡ journal.old.limit)
-        ⊎ (before + length journal.old.entries ≡ 2 ^ 64 - 1)) }
+        ↔ HasNoRoom journal.old.entries journal.old.limit before }
     ensures room { OnOk result (journal.new.has_room ≡ true) }
     ensures count { OnOk result (before + length journal.old.entries + 1 < 2 ^ 64) }
     ensures entries { journal.new.entries ≡ journal.old.entries }

@@ -18,6 +18,13 @@ use verifier::Verified;
 use world::{World, WorldFault};
 use world_parts::Loaded;
 
+/// A verified program, and the maps that it is to be bound to, the first as its map 0.
+#[derive(Drop)]
+pub struct ProgramWithMaps {
+    pub verified: Verified,
+    pub registry: Registry,
+}
+
 /// The numbers of so many maps, each under its own.
 fn all_maps(shapes: &[MapShape]) -> ArrayVec<usize, MAX_MAPS>
     requires { length shapes.now ≤ MAX_MAPS }
@@ -30,14 +37,16 @@ fn all_maps(shapes: &[MapShape]) -> ArrayVec<usize, MAX_MAPS>
     maps
 }
 
-/// A world of these maps, in which nothing has happened, with one program that is bound to all of them, the
-/// first to its map 0. The error is that there is no memory left.
-fn world_of(alloc: Global, registry: Registry, verified: Verified) -> Result<World, AllocError>
-    requires new_maps { AreNewMaps registry.maps }
-    requires shapes { verified.shapes ≡ shapes_of_maps registry.maps }
-    ensures codes { IfOk result (λ w. map (λ l. l.code) w.programs ≡ verified.program ∷ []) }
+/// A world of these maps, in which nothing has happened, with this program, bound to all of them. The
+/// error is that there is no memory left.
+fn world_of(alloc: Global, program: ProgramWithMaps) -> Result<World, AllocError>
+    requires new_maps { AreNewMaps program.registry.maps }
+    requires shapes { program.verified.shapes ≡ shapes_of_maps program.registry.maps }
+    ensures codes { IfOk result (λ w.
+        map (λ l. l.code) w.programs ≡ program.verified.program ∷ []) }
     ensures quiet { IfOk result HasNoRuns }
 {
+    let ProgramWithMaps { verified, registry } = program;
     let _count = registry.len();
     let maps = all_maps(verified.shapes());
     let mut programs = Vec::new(alloc);
@@ -50,26 +59,26 @@ fn world_of(alloc: Global, registry: Registry, verified: Verified) -> Result<Wor
 }
 
 impl<L: Ledger> Shared<L> {
-    /// Shares a world of new maps and of one program that was verified with them, among 1 to
+    /// Shares a world of one program and of new maps that it was verified with, among 1 to
     /// `MAX_WORKERS` workers. The ledger has one part for each worker. The error is that there is
     /// no memory left.
     pub fn of_program(
         alloc: Global,
-        registry: Registry,
-        verified: Verified,
+        program: ProgramWithMaps,
         workers: u8,
         blank: Blank,
     ) -> Result<(Shared<L>, Workers<L>), AllocError>
-        requires new_maps { AreNewMaps registry.maps }
-        requires shapes { verified.shapes ≡ shapes_of_maps registry.maps }
+        requires new_maps { AreNewMaps program.registry.maps }
+        requires shapes { program.verified.shapes ≡ shapes_of_maps program.registry.maps }
         requires workers { (0 < workers) × (workers ≤ MAX_WORKERS) }
         requires name { blank.name ≡ L.name }
         requires parts { (blank.parts ≡ L.parts) × (blank.parts ≡ workers) }
         ensures count { IfOk result (λ t. vec_len t.1.list ≡ workers) }
         ensures numbers { IfOk result (λ t. AreNumbered t.1.list.items) }
-        ensures codes { IfOk result (λ t. map (λ p. p.program) t.0 ≡ verified.program ∷ []) }
+        ensures codes { IfOk result (λ t.
+            map (λ p. p.program) t.0 ≡ program.verified.program ∷ []) }
     {
-        let world = world_of(alloc, registry, verified)?;
+        let world = world_of(alloc, program)?;
         let (shared, workers, _) = Shared::<L>::new(alloc, world, workers, blank)?;
         Ok((shared, workers))
     }

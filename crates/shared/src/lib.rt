@@ -17,6 +17,7 @@ mod tally;
 mod worker;
 
 pub use books::{Books, Finished, is_quiet};
+pub use bound::ProgramWithMaps;
 pub use counters::Counters;
 pub use fault::{CutFault, SharedFault};
 pub use lock::Shared;

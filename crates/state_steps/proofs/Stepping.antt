@@ -36,13 +36,14 @@ use Rattle.memory_effects.specs.declared.region.Region.TheVariants as regions
 use Rattle.memory_effects.specs.Accesses.{IsBase}
 use Rattle.register_kinds.specs.States.{kind_at}
 use Rattle.kind_tests.specs.Forks.{Forks, ForksOnNull}
+use Rattle.call_effects.specs.Calls.{Splits}
 use Rattle.control_effects.specs.Narrowing.{ComparesNumbers}
 use Rattle.state_steps.specs.declared.flow.Flow.{Flow}
 use Rattle.state_steps.specs.Steps.{IsBranch, base_of, IsInRegion, Compares, IsComparable}
 use Rattle.state_steps.specs.Facts.{IsReadyInsn, KeepsFacts}
 use Rattle.state_steps.specs.Lookups.{Serves}
 use Rattle.state_steps.specs.Stepped.{single_flow, Stepped, ComparesWell}
-use Rattle.state_steps.specs.Floor.{KeepsInsnFloor, KeepsNumbers, KeepsAllNumbers}
+use Rattle.state_steps.specs.Floor.{KeepsInsnFloor, KeepsNumbers}
 use Rattle.register_kinds.specs.declared.kind.RegKind.{RegKind}
 
 -- an instruction that reaches no memory, compares nothing and has one state behind it
@@ -175,14 +176,27 @@ null_no_number k map id s e n = (let z : kind_of (kinds.MaybeNull map id) ≡ Nu
 pub value_no_number : (k : RegKind) (map : ℕ) (offset s : Scalar) → k ≡ kinds.Value map offset → kind_of k ≡ Num s → ⊥
 value_no_number k map offset s e n = (let z : kind_of (kinds.Value map offset) ≡ Num s = ap kind_of (sym e) ∙ n in cc)
 
+-- numbers in all registers stay as they are
+abbrev pub KeepsAllNumbers : Known → Known → Type 0
+KeepsAllNumbers a b = (r : ℕ) (s : Scalar) → a.regs r ≡ Num s → b.regs r ≡ Num s
+
 -- a test for null leaves numbers
 learnt_number : (lesson : Lesson) (s : Scalar) → learnt_kind lesson (Num s) ≡ Num s
 learnt_number SectionEnds s = refl
 learnt_number (IsNull id) s = refl
 learnt_number (IsThere id) s = refl
 
-pub learnt_numbers : (lesson : Lesson) (a b : Known) → AreAlike (learnt lesson a) b → KeepsAllNumbers a b
+learnt_numbers : (lesson : Lesson) (a b : Known) → AreAlike (learnt lesson a) b → KeepsAllNumbers a b
 learnt_numbers lesson a b e r s n = e.regs r ∙ (ap (learnt_kind lesson) n ∙ learnt_number lesson s)
+
+-- both edges of a test for null: where control falls through, and where it jumps
+pub null_others : (equal : Bool) (id : ℕ) (a b t : AbsState) → (equal ≡ true → Splits id a t b) → (equal ≡ false → Splits id a b t) → KeepsAllNumbers (state_of a) (state_of b)
+null_others true id a b t f g = learnt_numbers (IsThere id) (state_of a) (state_of b) (f refl).is_there
+null_others false id a b t f g = learnt_numbers (IsNull id) (state_of a) (state_of b) (g refl).is_null
+
+pub null_others_taken : (equal : Bool) (id : ℕ) (a b t : AbsState) → (equal ≡ true → Splits id a t b) → (equal ≡ false → Splits id a b t) → KeepsAllNumbers (state_of a) (state_of t)
+null_others_taken true id a b t f g = learnt_numbers (IsNull id) (state_of a) (state_of t) (f refl).is_null
+null_others_taken false id a b t f g = learnt_numbers (IsThere id) (state_of a) (state_of t) (g refl).is_there
 
 pub above_five : (r : ℕ) → (r ≤ 5 → ⊥) → 5 < r
 above_five r n = elim (cases_lt 5 r) [

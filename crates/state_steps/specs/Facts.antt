@@ -5,7 +5,7 @@ use Rattle.bpf_model.specs.declared.insn.Insn.{Insn}
 use Rattle.bpf_model.specs.declared.insn.Insn.TheVariants.{Exit}
 use Rattle.bpf_model.specs.declared.limits.TheConstants.{FRAME_BYTES}
 use Rattle.bpf_model.specs.Plain.{ReadsRegister, WritesRegister, ReadsByte, WritesByte, IsSimple}
-use Rattle.typed_runs.specs.Kinds.{FrameAt, ByteCell, AbsState}
+use Rattle.typed_runs.specs.Kinds.{FrameAt, ByteCell, AbsState as Known}
 use Rattle.typed_runs.specs.Effects.{HasNumber}
 
 -- a register is a number, a byte of the frame is written, r10 is the frame's end, or a section is
@@ -16,7 +16,7 @@ pub data Fact : Type 0 where
   FramePointer : Fact
   Section : (inside : Bool) → Fact
 
-abbrev pub FactHolds : Fact → AbsState → Type 0
+abbrev pub FactHolds : Fact → Known → Type 0
 FactHolds (Register r) a = HasNumber a r
 FactHolds (FrameByte k) a = a.cells k ≡ ByteCell
 FactHolds FramePointer a = a.regs 10 ≡ FrameAt (pos FRAME_BYTES)
@@ -30,16 +30,16 @@ Makes i FramePointer = ⊥
 Makes i (Section inside) = ⊥
 
 -- facts stay, and what the instruction makes holds
-abbrev pub KeepsFacts : Insn → AbsState → AbsState → Type 0
+abbrev pub KeepsFacts : Insn → Known → Known → Type 0
 KeepsFacts i a b = (fact : Fact) → FactHolds fact a ⊎ Makes i fact → FactHolds fact b
 
 -- each register that the instruction reads as a number is known to be one
-abbrev pub ReadsNumbers : Insn → AbsState → Type 0
+abbrev pub ReadsNumbers : Insn → Known → Type 0
 ReadsNumbers i a = (r : ℕ) → ReadsRegister i r → FactHolds (Register r) a
 
 -- a simple instruction that leaves r10 alone, of which all that it reads is known; the exit outside
 -- every section
-pub record IsReadyInsn (i : Insn) (a : AbsState) : Type 0 where
+pub record IsReadyInsn (i : Insn) (a : Known) : Type 0 where
   pub simple : IsSimple i
   pub keeps_frame : WritesRegister i 10 → ⊥
   pub frame : FactHolds FramePointer a

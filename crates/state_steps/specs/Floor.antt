@@ -9,7 +9,7 @@ use Rattle.bpf_model.specs.declared.insn.Insn.TheVariants.{LoadSigned, LoadMap, 
 use Rattle.scalar_domain.specs.declared.scalar.Scalar.{Scalar}
 use Rattle.scalar_domain.specs.Scalar.{IsConstant}
 use Rattle.scalar_domain.specs.Floor.{KeepsUnaryFloor}
-use Rattle.typed_runs.specs.Kinds.{Num, AbsState}
+use Rattle.typed_runs.specs.Kinds.{Num, AbsState as Known}
 use Rattle.typed_runs.specs.Effects.{HasNumber}
 use Rattle.memory_effects.specs.Accesses.{LoadsKnown}
 use Rattle.kind_tests.specs.Performs.{IsNumbers}
@@ -21,7 +21,7 @@ use Rattle.control_effects.specs.Narrowing.{NarrowsKnown}
 -- wide instruction leaves its number; a load without sign gives a number of its width, or the
 -- reference whose parts it reads, and one that extends the sign a number; and on both edges of a
 -- comparison of numbers these are as narrow as the scalar domain promises.
-abbrev pub KeepsInsnFloor : Insn → AbsState → AbsState → Option AbsState → Type 0
+abbrev pub KeepsInsnFloor : Insn → Known → Known → Option Known → Type 0
 KeepsInsnFloor (Alu op size dst src) a b taken =
     LeavesKnown size op (a.regs dst) (operand_kind src a) (b.regs dst)
 KeepsInsnFloor (Unary op dst) a b taken =
@@ -48,10 +48,6 @@ TouchesRegister (Call kind imm) r = r ≤ 5
 TouchesRegister _ r = ⊥
 
 -- Numbers in the other registers stay as they are.
-abbrev pub KeepsNumbers : Insn → AbsState → AbsState → Type 0
+abbrev pub KeepsNumbers : Insn → Known → Known → Type 0
 KeepsNumbers i a b =
     (r : ℕ) (s : Scalar) → (TouchesRegister i r → ⊥) → a.regs r ≡ Num s → b.regs r ≡ Num s
-
--- Numbers in all registers stay as they are.
-abbrev pub KeepsAllNumbers : AbsState → AbsState → Type 0
-KeepsAllNumbers a b = (r : ℕ) (s : Scalar) → a.regs r ≡ Num s → b.regs r ≡ Num s

@@ -9,15 +9,15 @@ use Rattle.bpf_model.specs.PlainMaps.{lock_call, unlock_call, Lookup, LookupPart
 use Rattle.bpf_model.specs.PlainMaps.{KeyAddress, MapLoad, LookupCall, NullTest, ValueLoad}
 use Rattle.bpf_model.specs.PlainMaps.{part_insn, IsFitting}
 use Rattle.scalar_domain.specs.declared.scalar.Scalar.{Scalar}
-use Rattle.typed_runs.specs.Kinds.{FrameAt, MapAt, ValueAt, MaybeNull, AbsState}
+use Rattle.typed_runs.specs.Kinds.{FrameAt, MapAt, ValueAt, MaybeNull, AbsState as Known}
 use Rattle.memory_effects.specs.Accesses.{IsStart}
 use Rattle.state_steps.specs.Facts.{Fact, Register, FrameByte, FramePointer, Section, FactHolds}
 
-abbrev pub IsKeyWritten : Lookup → AbsState → Type 0
+abbrev pub IsKeyWritten : Lookup → Known → Type 0
 IsKeyWritten l a = (k : ℕ) → l.at ≤ k → k < l.at + l.shape.key_len → FactHolds (FrameByte k) a
 
 -- what is known before each part of a guarded lookup, beside that a section is open
-abbrev pub Expects : Lookup → LookupPart → AbsState → Type 0
+abbrev pub Expects : Lookup → LookupPart → Known → Type 0
 Expects l FrameCopy a = IsKeyWritten l a
 Expects l KeyAddress a = IsKeyWritten l a × (a.regs 2 ≡ FrameAt (pos FRAME_BYTES))
 Expects l MapLoad a = IsKeyWritten l a × (a.regs 2 ≡ FrameAt (pos l.at))
@@ -27,7 +27,7 @@ Expects l NullTest a = (id : ℕ) × (a.regs 0 ≡ MaybeNull l.map id)
 Expects l ValueLoad a = (s : Scalar) × (a.regs 0 ≡ ValueAt l.map s) × IsStart s
 
 -- behind a part, where control falls through, what the next one expects
-abbrev pub Prepares : Lookup → LookupPart → AbsState → Type 0
+abbrev pub Prepares : Lookup → LookupPart → Known → Type 0
 Prepares l FrameCopy b = Expects l KeyAddress b
 Prepares l KeyAddress b = Expects l MapLoad b
 Prepares l MapLoad b = Expects l LookupCall b
@@ -42,12 +42,12 @@ IsSaved (FrameByte k) = Unit {0}
 IsSaved FramePointer = Unit {0}
 IsSaved (Section inside) = ⊥
 
-abbrev pub KeepsSaved : AbsState → AbsState → Type 0
+abbrev pub KeepsSaved : Known → Known → Type 0
 KeepsSaved a b = (fact : Fact) → IsSaved fact → FactHolds fact a → FactHolds fact b
 
 -- a part of a guarded lookup, of which all is known that it needs
 pub record IsReadyPart (shapes : List MapShape) (l : Lookup) (p : LookupPart) (i : Insn)
-    (a : AbsState) : Type 0 where
+    (a : Known) : Type 0 where
   pub insn : i ≡ part_insn l p
   pub fitting : IsFitting shapes l
   pub frame : FactHolds FramePointer a
@@ -55,7 +55,7 @@ pub record IsReadyPart (shapes : List MapShape) (l : Lookup) (p : LookupPart) (i
   pub expects : Expects l p a
 
 -- what a part of a guarded lookup leaves
-pub record LeavesPart (l : Lookup) (p : LookupPart) (a b : AbsState) (taken : Option AbsState)
+pub record LeavesPart (l : Lookup) (p : LookupPart) (a b : Known) (taken : Option Known)
     : Type 0 where
   pub keeps : KeepsSaved a b
   pub inside : b.inside ≡ a.inside
@@ -67,20 +67,20 @@ abbrev pub section_call : Bool → Insn
 section_call opens = if opens then lock_call else unlock_call
 
 -- a lock outside every section, or an unlock inside one
-pub record IsReadySection (opens : Bool) (i : Insn) (a : AbsState) : Type 0 where
+pub record IsReadySection (opens : Bool) (i : Insn) (a : Known) : Type 0 where
   pub insn : i ≡ section_call opens
   pub before : a.inside ≡ (if opens then false else true)
 
-abbrev pub LeavesSection : Bool → AbsState → AbsState → Type 0
+abbrev pub LeavesSection : Bool → Known → Known → Type 0
 LeavesSection opens a b = KeepsSaved a b × (b.inside ≡ opens)
 
-abbrev pub IsReadyWithMaps : List MapShape → Insn → AbsState → Type 0
+abbrev pub IsReadyWithMaps : List MapShape → Insn → Known → Type 0
 IsReadyWithMaps shapes i a =
     ((l : Lookup) × (p : LookupPart) × IsReadyPart shapes l p i a)
     ⊎ ((opens : Bool) × IsReadySection opens i a)
 
 -- What a part of a guarded lookup leaves that is ready, and what a lock or an unlock does.
-pub record Serves (shapes : List MapShape) (i : Insn) (a b : AbsState) (taken : Option AbsState)
+pub record Serves (shapes : List MapShape) (i : Insn) (a b : Known) (taken : Option Known)
     : Type 0 where
   pub part : (l : Lookup) (p : LookupPart) → IsReadyPart shapes l p i a → LeavesPart l p a b taken
   pub section : (opens : Bool) → IsReadySection opens i a → LeavesSection opens a b

@@ -7,14 +7,14 @@ ghost use Rattle.register_kinds.specs.declared.state.AbsState.{AbsState as Known
 ghost use Rattle.register_kinds.specs.Pairs.{AreBelow, TakesFew};
 ghost use Rattle.register_kinds.specs.States.{kind_in, state_of};
 ghost use Rattle.call_effects.specs.Calls.{Splits};
-ghost use Rattle.kind_tests.specs.Forks.{Forks, ForksOnNull};
+ghost use Rattle.kind_tests.specs.Forks.{Forks};
 ghost use Rattle.control_effects.specs.Narrowing.{AreNarrowed, NarrowsKnown};
-ghost use Rattle.state_steps.specs.Floor.{KeepsNumbers, KeepsAllNumbers};
+ghost use Rattle.state_steps.specs.Floor.{KeepsNumbers};
 ghost use Rattle.state_steps.specs.Stepped.{Stepped, ComparesWell, IsEqualToNull};
 
 use crate::flow::{Flow, single};
 use bpf_model::{CallKind, Condition, Insn, Operand, Reg, Size};
-use call_effects::{call, fork_equal, fork_not_equal};
+use call_effects::{call, fork_null};
 use control_effects::{exit, fork, fork_value, jump_long_transfers, jump_transfers};
 use kind_tests::Fault;
 use memory_effects::{EnvironmentShape, Region};
@@ -53,34 +53,6 @@ fn null_test(condition: Condition, size: Size, src: &Operand) -> Option<bool>
         (Condition::Equal, Size::Word64, Operand::Immediate(imm)) if *imm == 0 => Some(true),
         (Condition::NotEqual, Size::Word64, Operand::Immediate(imm)) if *imm == 0 => Some(false),
         _ => None,
-    }
-}
-
-/// Both edges of a test for null of what has this identity.
-fn null_branch(
-    state: &mut AbsState,
-    alloc: Global,
-    equal: bool,
-    id: u32,
-) -> Result<Box<AbsState>, AllocError>
-    ensures sound { IfOk result (λ taken. (dst map : ℕ)
-        → kind_in state.old.regs dst ≡ RegKind.MaybeNull map id
-        → ForksOnNull equal dst state.old state.new taken.value) }
-    ensures splits { IfOk result (λ taken. equal ≡ true
-        → Splits id state.old taken.value state.new) }
-    ensures others { IfOk result (λ taken.
-        KeepsAllNumbers (state_of state.old) (state_of state.new)) }
-    ensures others_taken { IfOk result (λ taken.
-        KeepsAllNumbers (state_of state.old) (state_of taken.value)) }
-    ensures below { (top : ℕ) → AreBelow top state.old → AreBelow top state.new }
-    ensures taken_below { IfOk result (λ taken. (top : ℕ)
-        → AreBelow top state.old → AreBelow top taken.value) }
-    ensures unchanged { OnErr result (state.new ≡ state.old) }
-{
-    if equal {
-        fork_equal(state, alloc, id)
-    } else {
-        fork_not_equal(state, alloc, id)
     }
 }
 
@@ -125,7 +97,7 @@ fn branch(
     ensures unchanged { OnErr result (state.new ≡ state.old) }
 {
     match (null_test(condition, size, src), state.kind(dst)) {
-        (Some(equal), RegKind::MaybeNull { id, .. }) => Ok(null_branch(state, alloc, equal, id)?),
+        (Some(equal), RegKind::MaybeNull { id, .. }) => Ok(fork_null(state, alloc, equal, id)?),
         (Some(_), RegKind::Value { .. }) => Ok(fork_value(state, alloc)?),
         _ => fork(state, alloc, condition, size, dst, src),
     }

@@ -214,9 +214,10 @@ static ROWS: [Row; 33] = [
     },
 ];
 
-fn told_at(code: u8, place: Option<usize>) -> Told {
-    match place {
-        Some(place) => At(code, place),
+/// What is told by a number, and by the slot or the line where there is one.
+fn told_at(code: u8, at: Option<usize>) -> Told {
+    match at {
+        Some(at) => At(code, at),
         None => Plain(code),
     }
 }

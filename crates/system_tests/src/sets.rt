@@ -178,14 +178,14 @@ fn edges(rt: HostRuntime) {
 /// Which bits are known of sums and differences: of 4 and 20, and of what they make with 0 or 8.
 #[test]
 fn known_bits(rt: HostRuntime) {
-    let places = Scalar::constant(4).join(Scalar::constant(20));
+    let bases = Scalar::constant(4).join(Scalar::constant(20));
     let steps = Scalar::constant(0).join(Scalar::constant(8));
     let rows = [
         (AluOp::Add, Scalar::constant(4), steps, 0b1100, 0b0100),
-        (AluOp::Add, places, steps, 0b1_1100, 0b0_0100),
-        (AluOp::Add, places, Scalar::constant(4), 0b1_1000, 0b0_1000),
+        (AluOp::Add, bases, steps, 0b1_1100, 0b0_0100),
+        (AluOp::Add, bases, Scalar::constant(4), 0b1_1000, 0b0_1000),
         (AluOp::Sub, Scalar::constant(20), steps, 0b1_1100, 0b0_0100),
-        (AluOp::Sub, places, Scalar::constant(4), 0b1_0000, 0),
+        (AluOp::Sub, bases, Scalar::constant(4), 0b1_0000, 0),
     ];
     for (op, a, b, may, must) in rows {
         let result = Scalar::apply(Size::Word64, op, a, b);

@@ -4,7 +4,7 @@ use Rattle.bpf_model.specs.declared.value.Reference.{Reference}
 use Rattle.bpf_model.specs.declared.value.Reference.TheVariants.{Ctx, Frame, MapRef, Elem}
 use Rattle.bpf_model.specs.declared.limits.TheConstants.{MAX_MAPS}
 use Rattle.bpf_model.specs.Element.{Element}
-use Rattle.bpf_model.specs.Word.{map_in, most_slots}
+use Rattle.bpf_model.specs.Word.{map_in, most_map_slots}
 use Rattle.bpf_model.specs.Machine.{Run, Machine, run_at}
 use Rattle.typed_runs.specs.Describes.{AreNear}
 
@@ -14,7 +14,7 @@ IsWithinLimits slots es (Ctx o) = Unit {0}
 IsWithinLimits slots es (Frame o) = Unit {0}
 IsWithinLimits slots es (MapRef map) = map < MAX_MAPS
 IsWithinLimits slots es (Elem n o) =
-    (map_in (slice_get es n) < MAX_MAPS) × (slice_index slots n < most_slots)
+    (map_in (slice_get es n) < MAX_MAPS) × (slice_index slots n < most_map_slots)
 
 -- all references of each run that hasn't ended are near
 abbrev pub IsNearMachine : Machine → Type 0

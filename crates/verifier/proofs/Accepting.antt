@@ -35,7 +35,7 @@ use Rattle.verifier.specs.declared.waiting.Waiting.TheVariants.{Nothing, Known, 
 use Rattle.verifier.specs.FactsKnown.{IsInner, Knows, WithoutFact, IsExpected, IsKnown, AreKnown, CanAccept}
 use Rattle.verifier.specs.SecondPass.{Awaited, state_in, IsConflict, JoinsTo, Merged, Fell, Jumped, Advances, StartsFrom, refusal_of}
 use Rattle.verifier.specs.Verdict.{IsAccepted}
-use Rattle.verifier.proofs.Lookups.{part_or_not, part_place, part_no_byte, part_keeps, behind, falls_from, slot_inside, slot_behind, pass_on, part_low, part_at}
+use Rattle.verifier.proofs.Lookups.{part_or_not, part_of_slot, part_no_byte, part_keeps, behind, falls_from, slot_inside, slot_behind, pass_on, part_low, part_at}
 use Rattle.verifier.proofs.Plans.{falls_inside}
 
 -- what both states know the joined one knows
@@ -147,15 +147,15 @@ section_which false i e = inr (inl e)
 
 -- what stands at a slot, where what is part of a guarded lookup is nothing else
 abbrev pub Stands : List Insn → List MapShape → ℕ → Insn → Type 0
-Stands program shapes place i = IsLookupPart program shapes place ⊎ ((IsLookupPart program shapes place → ⊥) × (((opens : Bool) × (i ≡ section_call opens)) ⊎ IsSimple i))
+Stands program shapes slot i = IsLookupPart program shapes slot ⊎ ((IsLookupPart program shapes slot → ⊥) × (((opens : Bool) × (i ≡ section_call opens)) ⊎ IsSimple i))
 
-stands : (program : List Insn) (shapes : List MapShape) → IsPlainWithMaps program shapes → (place : ℕ) (i : Insn) → insn_at program place ≡ Some i → Stands program shapes place i
-stands program shapes plain place i h = elim (part_or_not program shapes plain place) [
+stands : (program : List Insn) (shapes : List MapShape) → IsPlainWithMaps program shapes → (slot : ℕ) (i : Insn) → insn_at program slot ≡ Some i → Stands program shapes slot i
+stands program shapes plain slot i h = elim (part_or_not program shapes plain slot) [
   | inl part ↦ inl part
-  | inr away ↦ inr (away, by away (plain.forms place i h))
+  | inr away ↦ inr (away, by away (plain.forms slot i h))
 ]
   where
-    by : (IsLookupPart program shapes place → ⊥) → HasForm program shapes place i → ((opens : Bool) × (i ≡ section_call opens)) ⊎ IsSimple i
+    by : (IsLookupPart program shapes slot → ⊥) → HasForm program shapes slot i → ((opens : Bool) × (i ≡ section_call opens)) ⊎ IsSimple i
     by away (inl part) = absurd (away part)
     by away (inr (inl e)) = inl (true, e)
     by away (inr (inr (inl e))) = inl (false, e)
@@ -206,12 +206,12 @@ module _ (program : List Insn) (shapes : List MapShape) (plain : IsPlainWithMaps
   ]
 
   -- over a part of a guarded lookup
-  module _ (start : ℕ) (l : IsGuardedLookup program shapes start) (q : LookupPart) (place : s ≡ start + part_slot q) (is : i ≡ part_insn l.lookup q) where
+  module _ (start : ℕ) (l : IsGuardedLookup program shapes start) (q : LookupPart) (at_part : s ≡ start + part_slot q) (is : i ≡ part_insn l.lookup q) where
     part_here : IsLookupPart program shapes s
-    part_here = subst (IsLookupPart program shapes) (sym place) (part_at program shapes start l q)
+    part_here = subst (IsLookupPart program shapes) (sym at_part) (part_at program shapes start l q)
 
     low_on : (r t : ℕ) → r ≤ 5 → GoesTo i s t → LacksRegister program shapes r t ⊎ ((r ≤ 5) × IsInner program shapes t)
-    low_on r t low g = part_low program shapes start l plain.graph.reached r low q t (subst (λ n. GoesTo (part_insn l.lookup q) n t) place (subst (λ i. GoesTo i s t) is g))
+    low_on r t low g = part_low program shapes start l plain.graph.reached r low q t (subst (λ n. GoesTo (part_insn l.lookup q) n t) at_part (subst (λ i. GoesTo i s t) is g))
 
     no_byte : (j : ℕ) → WritesByte i j → ⊥
     no_byte j w = part_no_byte program shapes start l q j (subst (λ i. WritesByte i j) is w)
@@ -283,12 +283,12 @@ module _ (program : List Insn) (shapes : List MapShape) (plain : IsPlainWithMaps
 -- a part of a guarded lookup is ready where this is known
 part_ready : (program : List Insn) (shapes : List MapShape) → IsPlainWithMaps program shapes → (k s : ℕ) (i : Insn) (a : AbsState) → StartsAt program k s → IsKnown program shapes k a
     → (start : ℕ) (l : IsGuardedLookup program shapes start) (q : LookupPart) → s ≡ start + part_slot q → i ≡ part_insn l.lookup q → IsReadyPart shapes l.lookup q i (state_of a)
-part_ready program shapes plain k s i a there known start l q place is = record {
+part_ready program shapes plain k s i a there known start l q at_part is = record {
   insn = is;
   fitting = l.fitting;
   frame = elim (known.facts FramePointer) [ inl h ↦ h | inr w ↦ absurd (w s there) ];
-  inside = elim (known.facts (Section true)) [ inl h ↦ h | inr w ↦ absurd (plain.lookup_inside s (subst (IsLookupPart program shapes) (sym place) (part_at program shapes start l q)) (w s there)) ];
-  expects = by q place;
+  inside = elim (known.facts (Section true)) [ inl h ↦ h | inr w ↦ absurd (plain.lookup_inside s (subst (IsLookupPart program shapes) (sym at_part) (part_at program shapes start l q)) (w s there)) ];
+  expects = by q at_part;
 }
   where
     keys : s ≡ start + 0 → IsKeyWritten l.lookup (state_of a)
@@ -350,7 +350,7 @@ ready_here program shapes k i a plain e known = by (stands program shapes plain 
 
     by : Stands program shapes s.0 i → IsReadyInsn i (state_of a) ⊎ IsReadyWithMaps shapes i (state_of a)
     by (inl part) =
-        let q = part_place program shapes part.0 part.1 s.0 i here part.2 part.3 in
+        let q = part_of_slot program shapes part.0 part.1 s.0 i here part.2 part.3 in
         inr (inl (part.1.lookup, q.0, part_ready program shapes plain k s.0 i a s.1 known part.0 part.1 q.0 q.1 q.2))
     by (inr (away, inl c)) = inr (inr (c.0, section_ready program shapes plain k s.0 i a s.1 here known.facts c.0 c.1))
     by (inr (away, inr simple)) = inl (ordinary_ready program shapes plain k s.0 i a s.1 here known.facts away simple)
@@ -455,7 +455,7 @@ module _ (program : List Insn) (targets : List (Option ℕ)) (long : length targ
 
     part_to : (b : AbsState) (start : ℕ) (l : IsGuardedLookup program shapes start) (q : LookupPart) → s.0 ≡ start + part_slot q → done.insn ≡ part_insn l.lookup q
         → KeepsSaved (state_of done.state) (state_of b) → b.inside ≡ done.state.inside → Knows program shapes m b
-    part_to b start l q place is keeps inside = part_facts program shapes plain k m s.0 done.insn done.state b s.1 at (λ t there. goes_on m t follows there) here.facts start l q place is keeps inside
+    part_to b start l q at_part is keeps inside = part_facts program shapes plain k m s.0 done.insn done.state b s.1 at (λ t there. goes_on m t follows there) here.facts start l q at_part is keeps inside
 
     section_to_next : (b : AbsState) → (IsLookupPart program shapes s.0 → ⊥) → (opens : Bool) → done.insn ≡ section_call opens → LeavesSection opens (state_of done.state) (state_of b) → Knows program shapes m b
     section_to_next b away opens is left = section_facts program shapes plain k m s.0 done.insn done.state b s.1 at (λ t there. goes_on m t follows there) here.facts away opens is left
@@ -465,12 +465,12 @@ module _ (program : List Insn) (targets : List (Option ℕ)) (long : length targ
 
   leaves : (start : ℕ) (l : IsGuardedLookup program shapes start) (q : LookupPart) → s.0 ≡ start + part_slot q → done.insn ≡ part_insn l.lookup q
       → LeavesPart l.lookup q (state_of done.state) (state_of done.spreads.next) (option_map state_of done.spreads.taken)
-  leaves start l q place is = done.spreads.transfer.serves.part l.lookup q (part_ready program shapes plain k s.0 done.insn done.state s.1 here start l q place is)
+  leaves start l q at_part is = done.spreads.transfer.serves.part l.lookup q (part_ready program shapes plain k s.0 done.insn done.state s.1 here start l q at_part is)
 
   -- where control falls through
   next_facts : Follows done.insn done.target k (suc k) → Stands program shapes s.0 done.insn → Knows program shapes (suc k) done.spreads.next
   next_facts follows (inl part) =
-      let q = part_place program shapes part.0 part.1 s.0 done.insn at part.2 part.3 in
+      let q = part_of_slot program shapes part.0 part.1 s.0 done.insn at part.2 part.3 in
       let left = leaves part.0 part.1 q.0 q.1 q.2 in
       part_to (suc k) follows done.spreads.next part.0 part.1 q.0 q.1 q.2 left.keeps left.inside
   next_facts follows (inr (away, inl c)) =
@@ -481,15 +481,15 @@ module _ (program : List Insn) (targets : List (Option ℕ)) (long : length targ
   next_expected follows start l p n there =
       let low = falls_from program shapes start l k s.0 (start + part_slot p) s.1 there (slot_behind program shapes start l p n) in
       let before : s.0 < start + part_slot p = starts_increase 0 program k (suc k) s.0 (start + part_slot p) s.1 there (omega arith) in
-      let q = part_place program shapes start l s.0 done.insn at low (omega (arith, before, slot_inside program shapes start l p)) in
+      let q = part_of_slot program shapes start l s.0 done.insn at low (omega (arith, before, slot_inside program shapes start l p)) in
       let behind_is = behind program shapes start l q.0 in
       let goes = goes_on (suc k) (start + part_slot p) follows there in
       let next : start + part_slot p ≡ s.0 + slot_count (part_insn l.lookup q.0) = elim goes [
         | inl f ↦ f.1 ∙ ap (λ i. s.0 + slot_count i) q.2
         | inr j ↦ absurd (l.entered s.0 (start + part_slot p) done.insn at j (slot_behind program shapes start l p n) (slot_inside program shapes start l p))
       ] in
-      let place = q.1 in
-      pass_on program shapes start l l.lookup (state_of done.spreads.next) q.0 p n (omega (arith, next, place, behind_is)) (leaves start l q.0 q.1 q.2).prepares
+      let at_part = q.1 in
+      pass_on program shapes start l l.lookup (state_of done.spreads.next) q.0 p n (omega (arith, next, at_part, behind_is)) (leaves start l q.0 q.1 q.2).prepares
 
   next_known : Follows done.insn done.target k (suc k) → IsKnown program shapes (suc k) done.spreads.next
   next_known follows = record { facts = next_facts follows (stands program shapes plain s.0 done.insn at); expected = next_expected follows }
@@ -507,7 +507,7 @@ module _ (program : List Insn) (targets : List (Option ℕ)) (long : length targ
 
     jump_facts : Stands program shapes s.0 done.insn → Knows program shapes t b
     jump_facts (inl part) =
-        let q = part_place program shapes part.0 part.1 s.0 done.insn at part.2 part.3 in
+        let q = part_of_slot program shapes part.0 part.1 s.0 done.insn at part.2 part.3 in
         let left = leaves part.0 part.1 q.0 q.1 q.2 in
         let kept = jumping_is (λ x. KeepsSaved (state_of done.state) (state_of x) × (x.inside ≡ done.state.inside)) (left.keeps, left.inside)
         (λ x g. some_of (λ x. KeepsSaved (state_of done.state) x × (x.inside ≡ done.state.inside)) done.spreads.taken x g left.keeps_taken) b f in

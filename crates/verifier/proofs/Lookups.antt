@@ -93,20 +93,20 @@ module _ (program : List Insn) (shapes : List MapShape) (start : ℕ) (l : IsGua
       ]
 
   -- what stands at its slots is its parts
-  pub part_place : (place : ℕ) (i : Insn) → insn_at program place ≡ Some i → start ≤ place → place ≤ start + 6 → (p : LookupPart) × (place ≡ start + part_slot p) × (i ≡ part_insn l.lookup p)
-  part_place place i h low high = elim (cases_eq place start) [
-    | inl e ↦ (FrameCopy, (let g : place ≡ start + 0 = omega (arith, e) in g), same_Some _ _ (sym h ∙ ap (insn_at program) e ∙ at_start))
-    | inr n0 ↦ elim (cases_eq place (start + 1)) [
+  pub part_of_slot : (slot : ℕ) (i : Insn) → insn_at program slot ≡ Some i → start ≤ slot → slot ≤ start + 6 → (p : LookupPart) × (slot ≡ start + part_slot p) × (i ≡ part_insn l.lookup p)
+  part_of_slot slot i h low high = elim (cases_eq slot start) [
+    | inl e ↦ (FrameCopy, (let g : slot ≡ start + 0 = omega (arith, e) in g), same_Some _ _ (sym h ∙ ap (insn_at program) e ∙ at_start))
+    | inr n0 ↦ elim (cases_eq slot (start + 1)) [
       | inl e ↦ (KeyAddress, e, same_Some _ _ (sym h ∙ ap (insn_at program) e ∙ l.parts KeyAddress))
-      | inr n1 ↦ elim (cases_eq place (start + 2)) [
+      | inr n1 ↦ elim (cases_eq slot (start + 2)) [
         | inl e ↦ (MapLoad, e, same_Some _ _ (sym h ∙ ap (insn_at program) e ∙ l.parts MapLoad))
-        | inr n2 ↦ elim (cases_eq place (start + 3)) [
+        | inr n2 ↦ elim (cases_eq slot (start + 3)) [
           | inl e ↦ absurd (not_within i (sym (ap (insn_at program) e) ∙ h))
-          | inr n3 ↦ elim (cases_eq place (start + 4)) [
+          | inr n3 ↦ elim (cases_eq slot (start + 4)) [
             | inl e ↦ (LookupCall, e, same_Some _ _ (sym h ∙ ap (insn_at program) e ∙ l.parts LookupCall))
-            | inr n4 ↦ elim (cases_eq place (start + 5)) [
+            | inr n4 ↦ elim (cases_eq slot (start + 5)) [
               | inl e ↦ (NullTest, e, same_Some _ _ (sym h ∙ ap (insn_at program) e ∙ l.parts NullTest))
-              | inr n5 ↦ (let e : place ≡ start + 6 = omega (arith, low, high, n0, n1, n2, n3, n4, n5) in (ValueLoad, e, same_Some _ _ (sym h ∙ ap (insn_at program) e ∙ l.parts ValueLoad)))
+              | inr n5 ↦ (let e : slot ≡ start + 6 = omega (arith, low, high, n0, n1, n2, n3, n4, n5) in (ValueLoad, e, same_Some _ _ (sym h ∙ ap (insn_at program) e ∙ l.parts ValueLoad)))
             ]
           ]
         ]
@@ -183,7 +183,7 @@ module _ (program : List Insn) (shapes : List MapShape) (start : ℕ) (l : IsGua
   slot_behind ValueLoad n = omega arith
 
   -- behind the call r0 to r5 hold no number
-  module _ (reached : (place : ℕ) (i : Insn) → insn_at program place ≡ Some i → Reached program place) (r : ℕ) (low : r ≤ 5) where
+  module _ (reached : (slot : ℕ) (i : Insn) → insn_at program slot ≡ Some i → Reached program slot) (r : ℕ) (low : r ≤ 5) where
     lacks_5 : LacksRegister program shapes r (start + 5)
     lacks_5 = lacks_call (start + 4) (start + 5) lookup_call (reached (start + 4) lookup_call (l.parts LookupCall)) (l.parts LookupCall) (inr (inr refl)) low (inl (refl, (let g : start + 5 ≡ start + 4 + 1 = omega arith in g)))
 
@@ -250,7 +250,7 @@ module _ (program : List Insn) (shapes : List MapShape) (plain : IsPlainWithMaps
 
   by_call : (start : ℕ) → insn_at program (start + 4) ≡ Some lookup_call → HasForm program shapes (start + 4) lookup_call → IsGuardedLookup program shapes start
   by_call start h (inl part) =
-      let q = part_place program shapes part.0 part.1 (start + 4) lookup_call h part.2 part.3 in
+      let q = part_of_slot program shapes part.0 part.1 (start + 4) lookup_call h part.2 part.3 in
       let c = call_part part.1.lookup q.0 part.1.lookup.shape part.1.fitting.in_value q.2 in
       let e : start + 4 ≡ part.0 + 4 = subst (λ p. start + 4 ≡ part.0 + part_slot p) c q.1 in
       let same : part.0 ≡ start = omega (arith, e) in
@@ -269,25 +269,25 @@ module _ (program : List Insn) (shapes : List MapShape) (plain : IsPlainWithMaps
         | inr n ↦ inr (λ l. n (same_Some _ _ (sym e ∙ l.parts LookupCall)))
       ]
 
-  within_or_not : (n place : ℕ) → ((start : ℕ) × IsGuardedLookup program shapes start × (start ≤ place) × (place ≤ start + n))
-      ⊎ ((start : ℕ) → IsGuardedLookup program shapes start → start ≤ place → place ≤ start + n → ⊥)
-  within_or_not zero place = elim (guarded_or_not place) [
-    | inl l ↦ inl (place, l, omega arith, omega arith)
-    | inr none ↦ inr (λ s l p q. (let e : s ≡ place = omega (arith, p, q) in none (subst (IsGuardedLookup program shapes) e l)))
+  within_or_not : (n slot : ℕ) → ((start : ℕ) × IsGuardedLookup program shapes start × (start ≤ slot) × (slot ≤ start + n))
+      ⊎ ((start : ℕ) → IsGuardedLookup program shapes start → start ≤ slot → slot ≤ start + n → ⊥)
+  within_or_not zero slot = elim (guarded_or_not slot) [
+    | inl l ↦ inl (slot, l, omega arith, omega arith)
+    | inr none ↦ inr (λ s l p q. (let e : s ≡ slot = omega (arith, p, q) in none (subst (IsGuardedLookup program shapes) e l)))
   ]
-  within_or_not (suc n) place = elim (within_or_not n place) [
+  within_or_not (suc n) slot = elim (within_or_not n slot) [
     | inl w ↦ inl (w.0, w.1, w.2, omega (arith, w.3))
-    | inr none ↦ elim (cases_lt place (suc n)) [
+    | inr none ↦ elim (cases_lt slot (suc n)) [
       | inl h ↦ inr (λ s l p q. none s l p (omega (arith, h)))
-      | inr h ↦ elim (guarded_or_not (place - suc n)) [
-        | inl l ↦ inl (place - suc n, l, omega arith, omega (arith, h))
-        | inr not_here ↦ inr (λ s l p q. elim (cases_lt (s + n) place) [
-          | inl far ↦ (let e : s ≡ place - suc n = omega (arith, far, q, h) in not_here (subst (IsGuardedLookup program shapes) e l))
+      | inr h ↦ elim (guarded_or_not (slot - suc n)) [
+        | inl l ↦ inl (slot - suc n, l, omega arith, omega (arith, h))
+        | inr not_here ↦ inr (λ s l p q. elim (cases_lt (s + n) slot) [
+          | inl far ↦ (let e : s ≡ slot - suc n = omega (arith, far, q, h) in not_here (subst (IsGuardedLookup program shapes) e l))
           | inr near ↦ none s l p near
         ])
       ]
     ]
   ]
 
-  pub part_or_not : (place : ℕ) → IsLookupPart program shapes place ⊎ (IsLookupPart program shapes place → ⊥)
-  part_or_not place = elim (within_or_not 6 place) [ inl w ↦ inl w | inr none ↦ inr (λ p. none p.0 p.1 p.2 p.3) ]
+  pub part_or_not : (slot : ℕ) → IsLookupPart program shapes slot ⊎ (IsLookupPart program shapes slot → ⊥)
+  part_or_not slot = elim (within_or_not 6 slot) [ inl w ↦ inl w | inr none ↦ inr (λ p. none p.0 p.1 p.2 p.3) ]

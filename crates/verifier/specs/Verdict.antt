@@ -7,7 +7,7 @@ use Rattle.bpf_model.specs.Spelling.{IsProgram}
 use Rattle.bpf_model.specs.Step.{State}
 use Rattle.program_graph.specs.GraphFlaws.{HasGraphFlaw, HasGoodGraph}
 use Rattle.program_graph.specs.Indexes.{HasTargets}
-use Rattle.typed_runs.specs.Kinds.{AbsState}
+use Rattle.typed_runs.specs.Kinds as model
 use Rattle.typed_runs.specs.Describes.{Scene}
 use Rattle.typed_runs.specs.Verified.{Plan, IsPlanned, IsClosed, IsVerified}
 use Rattle.memory_effects.specs.declared.region.Region.{Region}
@@ -24,7 +24,7 @@ use Rattle.verifier.specs.Peak.{AreFew}
 pub record Justifies (c : Checked) (plan : Plan) : Type 0 where
   pub closed : IsClosed c.program c.shapes c.ctx_len plan
   -- the plan speaks of the program's instructions alone
-  pub inside : (index : ℕ) (a : AbsState) → plan index ≡ Some a → index < length c.program
+  pub inside : (index : ℕ) (a : model.AbsState) → plan index ≡ Some a → index < length c.program
   -- a memory instruction reaches the region that is noted for it
   pub regions : (index : ℕ) (i : Insn) (b : ℕ) (region : Region) (scene : Scene) (m : State)
       → slice_get c.program index ≡ Some i → base_of i ≡ Some b →

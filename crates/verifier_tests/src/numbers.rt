@@ -5,7 +5,7 @@ use Told::{Accepted, At};
 use std::test::Fail;
 
 /// What is said of these lines and two instructions that end it, with 64 bytes of context.
-static PLACES: [(Told, &str); 32] = [
+static OFFSETS: [(Told, &str); 32] = [
     // Sums and differences keep the low bits that are known in both.
     (
         Accepted,
@@ -142,9 +142,9 @@ static PLACES: [(Told, &str); 32] = [
 ];
 
 #[test]
-fn places_that_vary(rt: HostRuntime) -> Result<(), Fail> {
+fn offsets_that_vary(rt: HostRuntime) -> Result<(), Fail> {
     let alloc = rt.alloc();
-    for (wanted, lines) in &PLACES {
+    for (wanted, lines) in &OFFSETS {
         let parts = [*lines, "mov64 r0, 0; exit"];
         assert_eq!(rt; (lines, judge(alloc, &MAPS, 64, &parts)?), (lines, *wanted));
     }

@@ -21,7 +21,7 @@ pub record Was (k : ℕ) (es : List Element) (n : ℕ) (f : Element) : Type 0 wh
   pub in_map : element.map ≡ f.map
   pub view : f.map ≢ k → slot_view element ≡ slot_view f
 
--- The elements change in map k alone, as far as a view can tell, and births keep their slots.
+-- The elements change in map k alone, as far as a view can tell, and births keep their map slots.
 pub record Changes (k : ℕ) (slots names : List ℕ) (es fs : List Element) : Type 0 where
   pub grows : (n : ℕ) → n < length es → n < length fs
   pub named : (n : ℕ) → n < length es → slice_index names n ≡ slice_index slots n

@@ -32,7 +32,7 @@ use Rattle.view_laws.proofs.Listing.{named-kept, between-more, between-one, betw
 use Rattle.bpf_model.proofs.Cases.{oldest-none}
 use Rattle.view_laws.proofs.Worlds.{Here, here, Turns, turned-world, shapes-agree, awaited-same, refuses, steps}
 
--- births below n have the same slots
+-- births below n have the same map slots
 abbrev pub Renames : List ℕ → List ℕ → ℕ → Type 0
 Renames slots names births = (n : ℕ) → n < births → slice_index names n ≡ slice_index slots n
 

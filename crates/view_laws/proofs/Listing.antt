@@ -60,7 +60,7 @@ between-value j b (x ∷ es) zero e value at =
     cond-false (is_linked x.life && is_unlinked e.life && (x.map == j)) _ _ t ∙ between-same j (suc b) es
 between-value j b (x ∷ es) (suc n) e value at = cond-false (is_linked x.life && is_unlinked x.life && (x.map == j)) _ _ (same-life x.life (x.map == j)) ∙ between-value j (suc b) es n e value at
 
--- births that stand in the lists keep their slots
+-- births that stand in the lists keep their map slots
 module _ (s : Schedule) (w : IsScheduled s) (k : ℕ) (q : Queues) (at : slice_get s.queues k ≡ Some q) (slots names : List ℕ) (h : (n : ℕ) → n < length s.machine.store.elements → slice_index names n ≡ slice_index slots n) where
   queued-name : (n : ℕ) → 0 < times n q.next + times n q.waiting + times n q.ready → slice_index slots n ≡ slice_index names n
   queued-name n p = let x = queued-of s k n q w at p in sym (h n (slice_get_within s.machine.store.elements n x.element x.born))

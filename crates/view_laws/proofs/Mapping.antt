@@ -32,7 +32,7 @@ kin-old j k slots names es fs c ne n f less h =
     let x = c.back n f less h.born h.kept in
     record { old = x.element; was = record { born = x.born; in_map = x.in_map ∙ h.in_map; kept = x.kept }; view = x.view (λ e. ne (sym h.in_map ∙ e)); slot = c.named n less }
 
--- an element that is kept in the same map, after one has a new life, was kept before with the same view and slot
+-- an element that is kept in the same map, after one has a new life, was kept before with the same view and map slot
 kin-life : (slots : List ℕ) (k : ℕ) (es : List Element) (n : ℕ) (e : Element) (l : Life) → slice_get es n ≡ Some e → e.map ≡ k → is_reclaimed e.life ≡ false → (a : ℕ) (f : Element) → IsElementKept (slice_set es n (with_life l e)) k a f → Kin slots slots k es a f
 kin-life slots k es n e l born in_map kept a f g = elim (get-set_cases es n a (with_life l e) f g.born) [
   | inl x ↦ record { old = e; was = record { born = ap (slice_get es) x.0 ∙ born; in_map = in_map; kept = kept }; view = ap slot_view x.1; slot = refl }
@@ -153,7 +153,7 @@ module _ (slots : List ℕ) (k : ℕ) (es : List Element) (v : MapView) (n : ℕ
       let d : len v.index ≡ linked_count k es = s.counted in
       omega arith
 
-  -- the parts that the slot's return doesn't touch
+  -- the parts that the map slot's return doesn't touch
   occupied-rest : (a : ℕ) (f : Element) → IsElementKept rs k a f → slice_get v.slots (slice_index slots a) ≡ Some (slot_view f)
   occupied-rest a f g = let x = was a f g in s.occupied a x.old x.was ∙ ap Some x.view
 
@@ -170,7 +170,7 @@ module _ (slots : List ℕ) (k : ℕ) (es : List Element) (v : MapView) (n : ℕ
   elements-given Free = record { occupied = occupied-rest; single = single-rest; apart = apart-given Free; found = found-rest; finds = finds-rest; counted = counted-same }
   elements-given Worn = record { occupied = occupied-rest; single = single-rest; apart = apart-given Worn; found = found-rest; finds = finds-rest; counted = counted-same }
 
--- an element is born in the first free slot
+-- an element is born in the first free map slot
 module _ (slots : List ℕ) (k : ℕ) (es : List Element) (v : MapView) (i : ℕ) (rest key value : List ℕ) (s : ElementsStand slots k es v) (free : SlotsStand v)
     (births : length slots ≡ length es) (first : v.free ≡ i ∷ rest) (absent : get v.index key ≡ None) where
   abbrev count : ℕ

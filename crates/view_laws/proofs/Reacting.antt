@@ -113,7 +113,7 @@ turned-shapes : (vs : List MapView) → map shape (map turned_view vs) ≡ map s
 turned-shapes [] = refl
 turned-shapes (v ∷ vs) = ap (λ l. v.shape ∷ l) (turned-shapes vs)
 
--- the map that a reap picks is there, and has a ready slot
+-- the map that a reap picks is there, and has a ready map slot
 pub record IsPickedAt (k : ℕ) (vs : List MapView) (p : Pick) : Type 0 where
   pub index : ℕ
   pub number : p.map ≡ k + index

@@ -30,18 +30,18 @@ use Rattle.bpf_model.proofs.Lists.{get-set_other, get-set_there}
 -- views and lists, side by side
 record Picked (slots : List ℕ) (k : ℕ) (vs : List MapView) (qs : List Queues) : Type 0 where
   pub pick : Pick
-  pub place : ℕ
+  pub map_at : ℕ
   pub n : ℕ
   pub lists : Queues
   pub rest : List ℕ
   pub is : first_pick k vs ≡ Some pick
-  pub number : pick.map ≡ k + place
-  pub at : slice_get vs place ≡ Some pick.view
-  pub listed : slice_get qs place ≡ Some lists
+  pub number : pick.map ≡ k + map_at
+  pub at : slice_get vs map_at ≡ Some pick.view
+  pub listed : slice_get qs map_at ≡ Some lists
   pub ready : lists.ready ≡ n ∷ rest
   pub slot : slice_index slots n ≡ pick.slot
   pub first : first_ready qs ≡ Some n
-  pub without : without_first qs ≡ slice_set qs place (shortened rest lists)
+  pub without : without_first qs ≡ slice_set qs map_at (shortened rest lists)
 
 abbrev AreReady : List ℕ → List MapView → List Queues → Type 0
 AreReady slots vs qs = (j : ℕ) (v : MapView) (q : Queues) → slice_get vs j ≡ Some v → slice_get qs j ≡ Some q → v.ready ≡ map (slice_index slots) q.ready
@@ -52,12 +52,12 @@ module _ (slots : List ℕ) where
   pick-later k v q vs qs a b (inl x) = inl (ap (λ l. or_pick l k v (first_pick (suc k) vs)) a ∙ x.0, ap (λ l. or_first l (first_ready qs)) b ∙ x.1)
   pick-later k v q vs qs a b (inr p) = inr (record {
     pick = p.pick;
-    place = suc p.place;
+    map_at = suc p.map_at;
     n = p.n;
     lists = p.lists;
     rest = p.rest;
     is = ap (λ l. or_pick l k v (first_pick (suc k) vs)) a ∙ p.is;
-    number = (let z : p.pick.map ≡ suc k + p.place = p.number in omega arith);
+    number = (let z : p.pick.map ≡ suc k + p.map_at = p.number in omega arith);
     at = p.at;
     listed = p.listed;
     ready = p.ready;
@@ -69,7 +69,7 @@ module _ (slots : List ℕ) where
   pick-here : (k : ℕ) (v : MapView) (q : Queues) (vs : List MapView) (qs : List Queues) (n : ℕ) (rest : List ℕ) → v.ready ≡ map (slice_index slots) q.ready → q.ready ≡ n ∷ rest → Picked slots k (v ∷ vs) (q ∷ qs)
   pick-here k v q vs qs n rest same b = record {
     pick = record { map = k; view = v; slot = slice_index slots n };
-    place = 0;
+    map_at = 0;
     n = n;
     lists = q;
     rest = rest;
@@ -94,7 +94,7 @@ module _ (slots : List ℕ) where
   picks k (v ∷ vs) [] l h = absurd (omega arith)
   picks k (v ∷ vs) (q ∷ qs) l h = picks-at k v q vs qs q.ready refl (h 0 v q refl refl) (picks (suc k) vs qs (omega arith) (λ j u p a b. h (suc j) u p a b))
 
--- a slot that is given back
+-- a map slot that is given back
 slots-given : (v : MapView) (i : ℕ) (g : Given) → SlotsStand v → i < length v.slots → times i v.free ≡ 0 → SlotsStand (slot_given_back g i v)
 slots-given v i Worn s less none = record { room = s.room; once = s.once; inside = s.inside }
 slots-given v i Free s less none = record {
@@ -241,10 +241,10 @@ module _ (w : WorldView) (s : Schedule) (sim : Matches w s) where
 
   finds-one : Picked x.slots 0 w.maps s.queues → Simulates s events.Reap (reap_by (first_pick 0 w.maps) w)
   finds-one p =
-      let number : p.pick.map ≡ p.place = p.number ∙ (let z : 0 + p.place ≡ p.place = omega arith in z) in
-      let same : p.pick ≡ record { map = p.place; view = p.pick.view; slot = slice_index x.slots p.n } = λ j. record { map = number j; view = p.pick.view; slot = sym p.slot j } in
+      let number : p.pick.map ≡ p.map_at = p.number ∙ (let z : 0 + p.map_at ≡ p.map_at = omega arith in z) in
+      let same : p.pick ≡ record { map = p.map_at; view = p.pick.view; slot = slice_index x.slots p.n } = λ j. record { map = number j; view = p.pick.view; slot = sym p.slot j } in
       subst (λ o. Simulates s events.Reap (reap_by o w)) (sym (p.is ∙ ap Some same))
-      (takes w s x sim.scheduled p.place p.pick.view p.at p.lists p.listed p.n p.rest p.ready p.first p.without (taken w s x sim.scheduled p.place p.pick.view p.at p.lists p.listed p.n p.rest p.ready p.first p.without))
+      (takes w s x sim.scheduled p.map_at p.pick.view p.at p.lists p.listed p.n p.rest p.ready p.first p.without (taken w s x sim.scheduled p.map_at p.pick.view p.at p.lists p.listed p.n p.rest p.ready p.first p.without))
 
   pub reap_simulates : Simulates s events.Reap (reap_reaction w)
   reap_simulates = elim (picks x.slots 0 w.maps s.queues (x.maps.0 ∙ sym x.maps.1) are-ready) [

@@ -24,7 +24,7 @@ use Rattle.bpf_model.proofs.Cases.{oldest-none}
 use Rattle.view_laws.proofs.Worlds.{refuses, steps}
 use Rattle.view_laws.proofs.Running.{run-changed, run-world, lists-same}
 
--- the same slots are free
+-- the same run slots are free in the view and in the machine
 module _ (slots : List ℕ) (es : List Element) (programs : List Loaded) where
   free-agrees : (vs : List (Option RunView)) (runs : List (Option Run)) → ((r : ℕ) → RunSlotRefines slots es programs (slice_get vs r) (slice_get runs r)) → lowest_free vs ≡ lowest_free runs
   free-agrees [] [] h = refl

@@ -1,4 +1,4 @@
--- A store of a run to an element: the value in its slot changes.
+-- A store of a run to an element: the value in its map slot changes.
 use Rattle.std.proofs.Common.{◌≡◌, ◌≢◌, ◌∙◌, ℕ, ◌<◌, List, length, Option, Some, None, ◌⊎◌, inl, inr, refl, sym, ap, Bool, true, false, subst, ℤ}
 use Rattle.std.specs.Prelude.{slice_get, slice_set, slice_index, ◌==◌, ◌&&◌, if◌then◌else◌}
 use Rattle.std.proofs.lemmas.Bool.{cases_eq}
@@ -33,7 +33,7 @@ accessible-kept es n (Some x) e at h = choice (is_reclaimed x.life) refl h
     choice true is g = absurd (none-some e g)
     choice false is g = ap (λ (z : Element). is_reclaimed z.life) (sym (same_Some x e g)) ∙ is
 
--- it stands in its slot
+-- the element that is accessed stands in its map slot
 module _ (w : WorldView) (s : Schedule) (m : Matches w s) (n : ℕ) (e : Element) (v : MapView) (access : accessible s.machine.store.elements n ≡ Some e) (at : slice_get w.maps e.map ≡ Some v) where
   abbrev es : List Element
   es = s.machine.store.elements
@@ -47,7 +47,7 @@ module _ (w : WorldView) (s : Schedule) (m : Matches w s) (n : ℕ) (e : Element
   pub shown : slice_get v.slots (slice_index m.refines.slots n) ≡ Some (slot_view e)
   shown = (here w s m.refines e.map v at).stands.elements.occupied n e (record { born = born; in_map = refl; kept = kept })
 
--- a slot with another value
+-- a map slot with another value
 uses-kept : (slots : List SlotView) (i : ℕ) (old new : SlotView) → slice_get slots i ≡ Some old → new.uses ≡ old.uses → (x : ℕ) → uses_at (slice_set slots i new) x ≡ uses_at slots x
 uses-kept slots i old new at same x = elim (cases_eq x i) [
   | inl is ↦ ap (uses_at (slice_set slots i new)) is ∙ (ap uses_in (get-set_there slots i old new at) ∙ (same ∙ (ap uses_in (sym at) ∙ ap (uses_at slots) (sym is))))
@@ -67,7 +67,7 @@ module _ (slots : List ℕ) (k : ℕ) (es : List Element) (v : MapView) (n : ℕ
   stored : slice_get v.slots i ≡ Some (slot_view e)
   stored = s.occupied n e kept
 
-  -- the slot that the view has is that of the element with the value
+  -- the map slot that the view has is that of the element with the value
   slot-is : new ≡ record { shape = v.shape; slots = slice_set v.slots i (slot_view (with_value value e)); free = v.free; index = v.index; next = v.next; waiting = v.waiting; ready = v.ready; worn = v.worn }
   slot-is = ap (λ (o : Option SlotView). let z : MapView = record { shape = v.shape; slots = slice_set v.slots i (record { key = key_in o; value = value; uses = uses_in o }); free = v.free; index = v.index; next = v.next; waiting = v.waiting; ready = v.ready; worn = v.worn } in z) stored
 
@@ -169,11 +169,11 @@ module _ (w : WorldView) (s : Schedule) (m : Matches w s) (n : ℕ) (e : Element
   pub written-half : RefinesSchedule (with_map e.map view w) (half s store)
   written-half = turned-world w s x m.scheduled e.map view store queues s.awaited w.given turns refl (x.given ∙ sym (count-written e.map all n e value is-born refl (λ life map. is_reclaimed life)))
 
-pub store_half : (w : WorldView) (s : Schedule) (m : Matches w s) (n : ℕ) (e : Element) (v : MapView) (offset : ℤ) (width place x : ℕ) → accessible s.machine.store.elements n ≡ Some e → slice_get w.maps e.map ≡ Some v → region_offset (length e.value) width offset ≡ Some place →
-    StoresHalf (with_map e.map (written v (slice_index m.refines.slots n) (with_bytes place width x (value_in (slice_get v.slots (slice_index m.refines.slots n))))) w) s n width offset x
-store_half w s m n e v offset width place x access at inside =
+pub store_half : (w : WorldView) (s : Schedule) (m : Matches w s) (n : ℕ) (e : Element) (v : MapView) (offset : ℤ) (width start x : ℕ) → accessible s.machine.store.elements n ≡ Some e → slice_get w.maps e.map ≡ Some v → region_offset (length e.value) width offset ≡ Some start →
+    StoresHalf (with_map e.map (written v (slice_index m.refines.slots n) (with_bytes start width x (value_in (slice_get v.slots (slice_index m.refines.slots n))))) w) s n width offset x
+store_half w s m n e v offset width start x access at inside =
     let es = s.machine.store.elements in
-    let new = with_bytes place width x e.value in
+    let new = with_bytes start width x e.value in
     let fs = slice_set es n (with_value new e) in
     let there = born w s m n e v access at in
     let is = shown w s m n e v access at in
@@ -181,5 +181,5 @@ store_half w s m n e v offset width place x access at inside =
       elements = fs;
       stored = ap (λ o. o >>= stored_in es n width offset x) access ∙ (ap (λ o. o >>= λ p. Some (changed (with_value (with_bytes p width x e.value)) es n)) inside ∙ ap (λ o. Some (set_to (with_value new) es n o)) there);
       oldest = oldest-none s.machine.store (with_elements fs s.machine.store) (length-set es n _);
-      refines = subst (λ o. RefinesSchedule (with_map e.map (written v (slice_index m.refines.slots n) (with_bytes place width x (value_in o))) w) (half s (with_elements fs s.machine.store))) (sym is) (written-half w s m n e v access at new);
+      refines = subst (λ o. RefinesSchedule (with_map e.map (written v (slice_index m.refines.slots n) (with_bytes start width x (value_in o))) w) (half s (with_elements fs s.machine.store))) (sym is) (written-half w s m n e v access at new);
     }

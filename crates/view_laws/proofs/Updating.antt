@@ -1,4 +1,4 @@
--- An update: what the key had leaves, and an element is born in the slot that has been free longest.
+-- An update: what the key had leaves, and an element is born in the map slot that has been free longest.
 use Rattle.std.proofs.Common.{◌≡◌, ◌∙◌, ℕ, ◌+◌, ◌-◌, ◌<◌, ◌≤◌, List, [], ◌∷◌, ◌++◌, map, length, Option, Some, None, refl, sym, ap, arith, false, subst, Result, Ok, Err}
 use Rattle.std.specs.Prelude.{slice_get, slice_set, slice_index, count_by, is_some, cond, not, nat_lt, nat_le, ◌==◌, ◌&&◌}
 use Rattle.std.specs.FinMap.{get, len}
@@ -41,7 +41,7 @@ free-has v (i ∷ rest) e h = (i, rest, refl)
 passes : (v : MapView) (key : List ℕ) (flags : ℕ) → shown_error v key flags ≡ None → (i : ℕ) × (rest : List ℕ) × (v.free ≡ i ∷ rest)
 passes v key flags h = free-has v v.free refl (last-false (nat_lt 2 flags) ((flags == 1) && is_some (get v.index key)) ((flags == 2) && not (is_some (get v.index key))) (not (is_some (get v.index key)) && nat_le v.shape.entries (len v.index)) (length (map (uses_at v.slots) v.free) == 0) _ _ _ _ _ h)
 
--- the use counts of the other free slots
+-- the use counts of the other free map slots
 uses-other : (slots : List SlotView) (i : ℕ) (free rest : List ℕ) (new : SlotView) → times i free ≤ 1 → free ≡ i ∷ rest → map (uses_at slots) rest ≡ map (uses_at (slice_set slots i new)) rest
 uses-other slots i free rest new once first = map-same (uses_at slots) (uses_at (slice_set slots i new)) rest (λ a x at. ap uses_in (sym (get-set_other slots i x new (λ same.
     let t : times i free ≡ 1 + times i rest = ap (times i) first ∙ times-first i i rest refl in

@@ -1,5 +1,5 @@
 //! Jobs that are served from a shared world: programs that are started, stepped to their exit and dropped,
-//! by up to eight workers at once.
+//! by up to `MAX_WORKERS` workers at once.
 //!
 //! Each job has one outcome, in job order, and a trail: the receipts and the note on which the outcome rests.
 //! Contracts say what is so of outcome and trail for the job's own program and context.
@@ -17,6 +17,7 @@ pub use job_queue::{MAX_JOBS, MAX_WORKERS, PoolFault, Serve};
 pub use pool::run_jobs;
 pub use pooled::Pooled;
 pub use repeated::{PoolRun, run_program};
+pub use shared::ProgramWithMaps;
 
 // A pool has as many workers as a shared world may have.
 const _: () = prove!(MAX_WORKERS == shared::MAX_WORKERS as usize);

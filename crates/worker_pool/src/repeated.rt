@@ -9,14 +9,12 @@ use crate::job::{Job, Report, Trail};
 use crate::pool::run_jobs;
 use crate::zero_jobs::jobs_of;
 use job_queue::{MAX_JOBS, MAX_WORKERS, PoolFault};
-use maps::Registry;
-use shared::Shared;
+use shared::{ProgramWithMaps, Shared};
 use std::alloc::Global;
 use std::marker::Brand;
 use std::sync::Wait;
 use std::sync::ledger::{Blank, Ledger};
 use std::thread::Threads;
-use verifier::Verified;
 
 /// What came of all jobs.
 #[derive(Debug, Drop)]
@@ -32,13 +30,12 @@ fn run_shared<L: Ledger + Send + Sync, R: Threads + Wait + Sync>(
     rt: &R,
     alloc: Global,
     blank: Blank,
-    registry: Registry,
-    verified: Verified,
+    program: ProgramWithMaps,
     workers: u8,
     jobs: &[Job],
 ) -> Result<PoolRun, PoolFault>
-    requires new_maps { AreNewMaps registry.maps }
-    requires shapes { verified.shapes ≡ shapes_of_maps registry.maps }
+    requires new_maps { AreNewMaps program.registry.maps }
+    requires shapes { program.verified.shapes ≡ shapes_of_maps program.registry.maps }
     requires workers { (0 < workers) × (workers ≤ MAX_WORKERS) }
     requires jobs { length jobs.now ≤ MAX_JOBS }
     requires name { blank.name ≡ L.name }
@@ -46,9 +43,9 @@ fn run_shared<L: Ledger + Send + Sync, R: Threads + Wait + Sync>(
     ensures fault { IfErr result (λ f. (f ≡ faults.Memory) ⊎ (f ≡ faults.Lost)) }
     ensures count { IfOk result (λ r. vec_len r.report.jobs ≡ length jobs.now) }
     ensures outcomes { (ctx_len : ℕ) → All (IsZeroJob ctx_len) jobs.now →
-        IfOk result (λ r. All (IsReportOf verified.program ctx_len) r.report.jobs.items) }
+        IfOk result (λ r. All (IsReportOf program.verified.program ctx_len) r.report.jobs.items) }
 {
-    let shared = Shared::<L>::of_program(alloc, registry, verified, workers, blank);
+    let shared = Shared::<L>::of_program(alloc, program, workers, blank);
     let Ok((shared, mut all_workers)) = shared else {
         return Err(PoolFault::Memory);
     };
@@ -64,8 +61,7 @@ fn run_shared<L: Ledger + Send + Sync, R: Threads + Wait + Sync>(
 }
 
 /// Runs a program so many times by so many workers, on contexts of its length that are all zero,
-/// over the maps of the registry, which all runs share: new ones, of the shapes that the program
-/// was verified with.
+/// over its maps, which all runs share: new ones, of the shapes that the program was verified with.
 ///
 /// Errors: the first of these that holds.
 /// - `BadWorkers`: `workers` is not 1 to `MAX_WORKERS`.
@@ -77,13 +73,12 @@ fn run_shared<L: Ledger + Send + Sync, R: Threads + Wait + Sync>(
 pub fn run_program<R: Threads + Wait + Sync>(
     rt: &R,
     alloc: Global,
-    registry: Registry,
-    verified: Verified,
+    program: ProgramWithMaps,
     workers: u64,
     count: u64,
 ) -> Result<PoolRun, PoolFault>
-    requires new_maps { AreNewMaps registry.maps }
-    requires shapes { verified.shapes ≡ shapes_of_maps registry.maps }
+    requires new_maps { AreNewMaps program.registry.maps }
+    requires shapes { program.verified.shapes ≡ shapes_of_maps program.registry.maps }
     ensures bad_workers { (workers ≡ 0) ⊎ (MAX_WORKERS < workers) → result ≡ Err faults.BadWorkers }
     ensures too_many_jobs { 0 < workers → workers ≤ MAX_WORKERS → MAX_JOBS < count →
         result ≡ Err faults.TooManyJobs }
@@ -91,7 +86,8 @@ pub fn run_program<R: Threads + Wait + Sync>(
     ensures count { IfOk result (λ r. vec_len r.report.jobs ≡ count) }
     // A job that has exited has exited with a value of the program's definition.
     ensures outcomes { IfOk result (λ r.
-        All (IsReportOf verified.program verified.ctx_len) r.report.jobs.items) }
+        All (IsReportOf program.verified.program program.verified.ctx_len)
+        r.report.jobs.items) }
 {
     if workers == 0 || workers > MAX_WORKERS as u64 {
         return Err(PoolFault::BadWorkers);
@@ -99,9 +95,9 @@ pub fn run_program<R: Threads + Wait + Sync>(
     if count > MAX_JOBS as u64 {
         return Err(PoolFault::TooManyJobs);
     }
-    let Ok(jobs) = jobs_of(alloc, count as usize, verified.ctx_len()) else {
+    let Ok(jobs) = jobs_of(alloc, count as usize, program.verified.ctx_len()) else {
         return Err(PoolFault::Memory);
     };
     let blank = Blank::new(workers);
-    run_shared::<Brand, R>(rt, alloc, blank, registry, verified, workers as u8, &jobs)
+    run_shared::<Brand, R>(rt, alloc, blank, program, workers as u8, &jobs)
 }

@@ -9,18 +9,18 @@ use Rattle.bpf_model.specs.declared.limits.TheConstants.{MAX_REUSE, MAX_MAPS}
 use Rattle.bpf_model.specs.declared.limits.MapShape.{MapShape}
 use Rattle.bpf_model.specs.MapState.{IsShape, AreShapes, most_births, slots_of_shape}
 use Rattle.bpf_model.specs.View.{MapView, WorldView, shapes_of}
-use Rattle.bpf_model.specs.Word.{most_slots}
+use Rattle.bpf_model.specs.Word.{most_map_slots}
 use Rattle.world_invariant.specs.Invariant.{IsWorld}
 
-births-few : (shape : MapShape) → IsShape shape → most_births shape ≤ most_slots * MAX_REUSE
+births-few : (shape : MapShape) → IsShape shape → most_births shape ≤ most_map_slots * MAX_REUSE
 births-few shape is =
-    let slots : slots_of_shape shape ≤ most_slots = omega (arith, is.entries.1, is.spare) in
+    let slots : slots_of_shape shape ≤ most_map_slots = omega (arith, is.entries.1, is.spare) in
     let uses : shape.reuse_limit ≤ MAX_REUSE = omega (arith, is.reuse.1) in
     mul-le-mul slots uses
 
-all-births-few : (shapes : List MapShape) → AreShapes shapes → sum_by most_births shapes ≤ length shapes * (most_slots * MAX_REUSE)
+all-births-few : (shapes : List MapShape) → AreShapes shapes → sum_by most_births shapes ≤ length shapes * (most_map_slots * MAX_REUSE)
 all-births-few shapes are =
-    sum_by-le most_births (most_slots * MAX_REUSE) shapes (λ k d within. births-few (get_or shapes k d) (are k (get_or shapes k d) (slice_get-get_or shapes k d within)))
+    sum_by-le most_births (most_map_slots * MAX_REUSE) shapes (λ k d within. births-few (get_or shapes k d) (are k (get_or shapes k d) (slice_get-get_or shapes k d within)))
 
 pub count_has_room : (w : WorldView) → IsWorld w → w.given + 1 < 2 ^ 64
 count_has_room w is =

@@ -73,8 +73,8 @@ module _ (w : WorldView) (s : Schedule) (m : Matches w s) (sound : IsSound w s) 
       (read_word (bases w s m sound r run v k) run.state.frame v.frame f.0 width g.0 u (byte-stands w s m sound r run v k) inside f.2 g.1)
 
   -- where the word of an element leads
-  pub element-place : (n x : ℕ) (o : ℤ) (e : Element) → accessible s.machine.store.elements n ≡ Some e → WordIs (bases w s m sound r run v k) (Pointer (Elem n o)) x → IsNear (Pointer (Elem n o)) → Shown w s m.refines n e × (location_of x ≡ InSlot e.map (slice_index m.refines.slots n) o)
-  element-place n x o e access word close =
+  pub element-located : (n x : ℕ) (o : ℤ) (e : Element) → accessible s.machine.store.elements n ≡ Some e → WordIs (bases w s m sound r run v k) (Pointer (Elem n o)) x → IsNear (Pointer (Elem n o)) → Shown w s m.refines n e × (location_of x ≡ InSlot e.map (slice_index m.refines.slots n) o)
+  element-located n x o e access word close =
       let a = accessible-known s.machine.store.elements n e access in
       let h = shown w s m.refines sound.well sound.limits sound.maps n e a.0 a.1 in
       (h, slot-location x e.map (slice_index m.refines.slots n) o h.few_slots close (word ∙ ap (λ b. pos b +ℤ o) h.base))
@@ -89,7 +89,7 @@ module _ (w : WorldView) (s : Schedule) (m : Matches w s) (sound : IsSound w s) 
       let f = first-step (accessible s.machine.store.elements b) (loaded_from width (o +ℤ offset)) n e in
       let g = first-step (region_offset (length f.0.value) width (o +ℤ offset)) (λ at. number_at (slice_get f.0.value) at width) n f.2 in
       let p = offset_some (length f.0.value) width (o +ℤ offset) g.0 g.1 in
-      let x-at = element-place b x o f.0 f.1 word close in
+      let x-at = element-located b x o f.0 f.1 word close in
       let slot = slice_index m.refines.slots b in
       let bytes : value_of (slice_get w.maps f.0.map) slot ≡ f.0.value = ap (λ o. value_of o slot) x-at.0.there ∙ ap value_in x-at.0.slot in
       located width x offset (InSlot f.0.map slot o) x-at.1

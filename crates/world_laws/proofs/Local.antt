@@ -29,7 +29,7 @@ use Rattle.world_laws.specs.Typed.{IsSound, IsRunning}
 use Rattle.world_laws.proofs.Places.{context-location, frame-location}
 use Rattle.world_laws.proofs.Ready.{bases, near, register-word}
 use Rattle.world_laws.proofs.Own.{Known, insn-real}
-use Rattle.world_laws.proofs.Loading.{element-place}
+use Rattle.world_laws.proofs.Loading.{element-located}
 use Rattle.world_laws.proofs.Storing.{store-known, element-known}
 use Rattle.model_laws.proofs.Computations.{first-step}
 
@@ -86,7 +86,7 @@ module _ (w : WorldView) (s : Schedule) (m : Matches w s) (sound : IsSound w s) 
   element-here width dst x n offset make (Pointer (MapRef i)) word close e = absurd (none-some n e)
   element-here width dst x n offset make (Pointer (Elem b o)) word close e =
       let f = first-step (accessible s.machine.store.elements b) (loaded_from width (o +ℤ offset)) n e in
-      ap (λ l. local_load width offset dst make l v) (element-place w s m sound r run v k b x o f.0 f.1 word close).1
+      ap (λ l. local_load width offset dst make l v) (element-located w s m sound r run v k b x o f.0 f.1 word close).1
 
   pub asks_for_element : (i : Insn) (out : Outcome) (es : List Element) → Known w s m sound r run v k i → AccessesElement i s.machine.store.elements run.state out es → local_of i v ≡ Asks
   asks_for_element (Load width dst src offset) out es here h =
@@ -97,5 +97,5 @@ module _ (w : WorldView) (s : Schedule) (m : Matches w s) (sound : IsSound w s) 
       let f = element-known s.machine.store.elements (byte_count width) offset (operand_value src run.state.regs) (run.state.regs dst) es h.0 in
       let l = (insn-real w s m sound r run v k (Store width dst offset src) here).0 in
       let word = subst (λ u. WordIs (bases w s m sound r run v k) u (word_in v dst)) f.there.base_is (register-word w s m sound r run v k dst l) in
-      ap (λ l. local_store (byte_count width) offset (operand_word v src) l v) (element-place w s m sound r run v k f.there.n (word_in v dst) f.there.o f.element f.access word (subst IsNear f.there.base_is ((near w s m sound r run v k).regs_near dst))).1
+      ap (λ l. local_store (byte_count width) offset (operand_word v src) l v) (element-located w s m sound r run v k f.there.n (word_in v dst) f.there.o f.element f.access word (subst IsNear f.there.base_is ((near w s m sound r run v k).regs_near dst))).1
   asks_for_element i out es here h = absurd h

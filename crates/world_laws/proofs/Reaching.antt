@@ -53,7 +53,7 @@ use Rattle.world_laws.proofs.Places.{context-location, frame-location}
 use Rattle.world_laws.proofs.Shown.{Shown}
 use Rattle.world_laws.proofs.Ready.{bases, refines, near, register-word}
 use Rattle.world_laws.proofs.Own.{Known, insn-real}
-use Rattle.world_laws.proofs.Loading.{accessible-known, element-place}
+use Rattle.world_laws.proofs.Loading.{accessible-known, element-located}
 use Rattle.world_laws.proofs.Calling.{CalledWith, called}
 use Rattle.world_laws.proofs.Storing.{store-known, element-known}
 use Rattle.model_laws.proofs.Computations.{first-step}
@@ -74,7 +74,7 @@ times-image f n (y ∷ xs) =
     ]
 
 module _ (w : WorldView) (s : Schedule) (m : Matches w s) where
-  -- an element that is kept occupies its slot
+  -- an element that is kept occupies its map slot
   occupied : (n : ℕ) (e : Element) (life : Life) → e.life ≡ life → is_reclaimed life ≡ false → slice_get s.machine.store.elements n ≡ Some e → (x : Shown w s m.refines n e) → HasElement x.view (slice_index m.refines.slots n)
   occupied n e Linked is kept born x =
       let slot : ℕ = slice_index m.refines.slots n in
@@ -109,7 +109,7 @@ module _ (w : WorldView) (s : Schedule) (m : Matches w s) (sound : IsSound w s) 
   slot-reaches : (width n x at : ℕ) (o offset : ℤ) (e : Element) → accessible s.machine.store.elements n ≡ Some e → region_offset (length e.value) width (o +ℤ offset) ≡ Some at → WordIs (bases w s m sound r run v k) (Pointer (Elem n o)) x → IsNear (Pointer (Elem n o)) →
       Reaches w v width offset (location_of x) × IsWritable (location_of x)
   slot-reaches width n x at o offset e access inside word close =
-      let p = element-place w s m sound r run v k n x o e access word close in
+      let p = element-located w s m sound r run v k n x o e access word close in
       let a = accessible-known s.machine.store.elements n e access in
       let goal : Location → Type 0 = λ l. Reaches w v width offset l × IsWritable l in
       subst goal (sym p.1) (

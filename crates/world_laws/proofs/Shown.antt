@@ -1,4 +1,4 @@
--- What a world's view shows of an element that a section guards, and of words near its slot.
+-- What a world's view shows of an element that a section guards, and of words near its map slot.
 use Rattle.std.proofs.Common.{◌≡◌, ℕ, ◌+◌, ◌<◌, ◌≤◌, refl, ap, ◌∙◌, arith, false, Some, length}
 use Rattle.std.specs.Prelude.{slice_get, slice_index}
 use Rattle.std.specs.Option.{option_map}
@@ -9,20 +9,20 @@ use Rattle.bpf_model.specs.MapState.{IsShape, AreShapes}
 use Rattle.bpf_model.specs.Schedule.{Schedule}
 use Rattle.bpf_model.specs.View.{MapView, WorldView, shapes_of}
 use Rattle.bpf_model.specs.Refines.{slot_view, RefinesSchedule}
-use Rattle.bpf_model.specs.Word.{element_bases, map_in, slot_base, most_slots}
+use Rattle.bpf_model.specs.Word.{element_bases, map_in, slot_base, most_map_slots}
 use Rattle.typed_runs.specs.Describes.{Scene, IsHeld}
 use Rattle.typed_runs.specs.Well.{IsWell}
 use Rattle.view_laws.proofs.Worlds.{here}
 use Rattle.typed_runs.proofs.Elements.{unreclaimed}
 use Rattle.bpf_model.proofs.Lists.{get-below}
 
--- An element that is kept stands in a slot of its map, and its first byte has that slot's word.
+-- An element that is kept stands in a map slot of its map, and its first byte has that map slot's word.
 pub record Shown (w : WorldView) (s : Schedule) (x : RefinesSchedule w s) (n : ℕ) (e : Element) : Type 0 where
   pub view : MapView
   pub there : slice_get w.maps e.map ≡ Some view
   pub slot : slice_get view.slots (slice_index x.slots n) ≡ Some (slot_view e)
   pub few_maps : e.map < MAX_MAPS
-  pub few_slots : slice_index x.slots n < most_slots
+  pub few_slots : slice_index x.slots n < most_map_slots
   pub base : element_bases x.slots s.machine.store.elements n ≡ slot_base e.map (slice_index x.slots n)
 
 module _ (w : WorldView) (s : Schedule) (x : RefinesSchedule w s) (well : IsWell s.machine) (limits : AreShapes (shapes_of w)) (maps : length w.maps ≤ MAX_MAPS) where

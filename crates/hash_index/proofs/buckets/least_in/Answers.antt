@@ -2,9 +2,8 @@ use Rattle.std.proofs.Common.{◌+◌, ℕ, List, Option, None, subst, drop}
 use Rattle.std.specs.Prelude.{option_copied, slice_index_or}
 use Rattle.std.proofs.lemmas.Option.{slice_get-get_or}
 use Rattle.std.proofs.lemmas.List.{drop_more}
-use Rattle.hash_index.specs.Buckets.{IsGathered}
 use Rattle.hash_index.proofs.Changes.{home_chain}
-use Rattle.hash_index.proofs.Least.{gather_step}
+use Rattle.hash_index.proofs.Least.{IsGathered, gather_step}
 use Rattle.hash_index.proofs.buckets.least_in.Goals as goal
 
 pub least_with-least-requires-clause-chain : goal.least_with-least-requires-clause-chain

@@ -1,6 +1,6 @@
 use Rattle.std.proofs.Common.{◌<◌, length, drop}
 use Rattle.std.specs.Prelude.{IfSome, option_copied}
-use Rattle.hash_index.specs.Buckets.{IsGathered}
+use Rattle.hash_index.proofs.Least.{IsGathered}
 use Rattle.hash_index.proofs.buckets.least_in.Given as goal
 
 abbrev pub invariant-loop-head : goal.invariant-loop-head

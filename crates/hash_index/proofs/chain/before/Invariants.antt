@@ -1,5 +1,6 @@
 use Rattle.std.proofs.Common.{length, Some}
-use Rattle.hash_index.specs.Chains.{IsOn, chain_of}
+use Rattle.hash_index.specs.Chains.{chain_of}
+use Rattle.hash_index.proofs.Steps.{IsOn}
 use Rattle.hash_index.proofs.chain.before.Given as goal
 
 abbrev pub invariant-loop-at : goal.invariant-loop-at

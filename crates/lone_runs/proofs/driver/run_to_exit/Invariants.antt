@@ -1,5 +1,5 @@
 use Rattle.std.proofs.Common.{◌-◌, length}
-use Rattle.lone_runs.specs.Lone.{StandsBefore}
+use Rattle.lone_runs.proofs.Looping.{StandsBefore}
 use Rattle.lone_runs.proofs.driver.run_to_exit.Given as goal
 
 abbrev pub invariant-steps : goal.invariant-steps

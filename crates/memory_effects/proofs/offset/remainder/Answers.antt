@@ -1,6 +1,6 @@
 use Rattle.std.proofs.Common.{◌≡◌, ◌%◌, ap, sym, ◌∙◌}
 use Rattle.bpf_model.specs.Access.{byte_count}
-use Rattle.memory_effects.proofs.Placing.{same_remainder}
+use Rattle.memory_effects.proofs.Within.{same_remainder}
 use Rattle.memory_effects.proofs.offset.remainder.Goals as goal
 
 pub returns-then-offsets-bytes-clause-value : goal.returns-then-offsets-bytes-clause-value

@@ -4,10 +4,10 @@ use Rattle.std.proofs.lemmas.Int.{to_z-of_z}
 use Rattle.register_kinds.specs.States.{kind_of}
 use Rattle.memory_effects.proofs.reads.read.Goals as goal
 
-pub returns-in_ok-check_placed-in-Ctx-clause-reads : goal.returns-in_ok-check_placed-in-Ctx-clause-reads
-returns-in_ok-check_placed-in-Ctx-clause-reads c =
+pub returns-in_ok-check_within-in-Ctx-clause-reads : goal.returns-in_ok-check_within-in-Ctx-clause-reads
+returns-in_ok-check_within-in-Ctx-clause-reads c =
     let g : SFits w16 c.args.from.offset = search rules in
-    let inside = simp to_z-of_z at c.in_ok-check_placed-in-Ctx.ensures.inside in
+    let inside = simp to_z-of_z at c.in_ok-check_within-in-Ctx.ensures.inside in
     record { offsets = c.in-Ctx.offsets; base = ap kind_of (c.in_ok-offsets.ensures.value ∙ c.in-Ctx.is); inside = inside }
 
 pub returns-in_ok-_shape-in-Value-clause-reads : goal.returns-in_ok-_shape-in-Value-clause-reads

@@ -3,7 +3,7 @@ use Rattle.std.proofs.lemmas.List.{get_or_read}
 use Rattle.register_kinds.specs.declared.kind.RegKind.{RegKind}
 use Rattle.register_kinds.specs.declared.kind.RegKind.TheVariants.{Unwritten}
 use Rattle.register_kinds.specs.States.{kind_of, kind_at}
-use Rattle.register_kinds.specs.Pairs.{JoinsKind}
+use Rattle.register_kinds.specs.JoinTable.{JoinsKind}
 use Rattle.register_kinds.proofs.Pairs.{kinds_more, kinds_all}
 use Rattle.register_kinds.proofs.Changes.{mapped_kept}
 use Rattle.register_kinds.proofs.join.join_kinds.Goals as goal

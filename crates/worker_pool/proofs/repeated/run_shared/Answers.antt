@@ -8,7 +8,7 @@ use Rattle.worker_pool.proofs.repeated.run_shared.Goals as goal
 
 pub returns-clause-outcomes : goal.returns-clause-outcomes
 returns-clause-outcomes g c ctx_len zeros =
-    reports_of c.in-Ok.shared c.args.verified.program c.in-Ok.ensures.codes ctx_len c.args.jobs.now c.in-Ok.all_workers.list.items c.run_jobs.new.workers.list.items c.in-Ok-run_jobs.report.jobs.items (search rules) zeros c.in-Ok-run_jobs.ensures.each
+    reports_of c.in-Ok.shared c.args.program.verified.program c.in-Ok.ensures.codes ctx_len c.args.jobs.now c.in-Ok.all_workers.list.items c.run_jobs.new.workers.list.items c.in-Ok-run_jobs.report.jobs.items (search rules) zeros c.in-Ok-run_jobs.ensures.each
 
 pub returns-in-Err-clause-fault : goal.returns-in-Err-clause-fault
 returns-in-Err-clause-fault g c =

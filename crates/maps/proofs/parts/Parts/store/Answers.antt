@@ -11,13 +11,13 @@ use Rattle.maps.proofs.parts.Parts.store.Goals as goal
 
 pub invariant_of-self : goal.invariant_of-self
 invariant_of-self g c =
-    let stands = subst (λ (p : PartsView). IsInUse p c.args.slot) (sym c.self.view_is) c.requires.stands in
+    let stands = subst (λ (p : PartsView). IsInUse p.index p.arena.slots p.lists c.args.slot) (sym c.self.view_is) c.requires.stands in
     let in_ = (standing-taken _ c.args.slot c.self.invariant.1 stands).inside in
     (written-step g.row.I.Denot g.row.D.Denot g.I.Index.contents g.I.Index.fits g.D.Deferred.lists g.D.Deferred.fits g.met.I.Index.frame g.met.D.Deferred.frame c.self.inside.index c.self.inside.deferred c.self.inside.arena c.store.new.self c.args.slot _ c.self.invariant in_ c.store.ensures).0
 
 pub returns : goal.returns
 returns g c =
-    let stands = subst (λ (p : PartsView). IsInUse p c.args.slot) (sym c.self.view_is) c.requires.stands in
+    let stands = subst (λ (p : PartsView). IsInUse p.index p.arena.slots p.lists c.args.slot) (sym c.self.view_is) c.requires.stands in
     let in_ = (standing-taken _ c.args.slot c.self.invariant.1 stands).inside in
     let s = written-step g.row.I.Denot g.row.D.Denot g.I.Index.contents g.I.Index.fits g.D.Deferred.lists g.D.Deferred.fits g.met.I.Index.frame g.met.D.Deferred.frame c.self.inside.index c.self.inside.deferred c.self.inside.arena c.store.new.self c.args.slot _ c.self.invariant in_ c.store.ensures in
     s.1

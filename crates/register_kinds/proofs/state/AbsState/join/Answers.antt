@@ -2,7 +2,7 @@ use Rattle.std.proofs.Common.{◌+◌, refl, ap}
 use Rattle.typed_runs.proofs.Planning.{join_left, join_right}
 use Rattle.register_kinds.specs.declared.state.AbsState.{AbsState}
 use Rattle.register_kinds.specs.States.{state_of}
-use Rattle.register_kinds.specs.Pairs.{pair_of}
+use Rattle.register_kinds.specs.JoinTable.{pair_of}
 use Rattle.register_kinds.proofs.Pairs.{table_pairs}
 use Rattle.register_kinds.proofs.Cells.{states_join, states_below}
 use Rattle.register_kinds.proofs.state.AbsState.join.Goals as goal

@@ -10,14 +10,15 @@ use Rattle.script_requests.specs.declared.asked.Asked.TheVariants as asked
 use Rattle.script_requests.specs.Replying.{refused, reply_to}
 use Rattle.world_parts.specs.Asking.{stat_of}
 use Rattle.script_world.specs.Lives.{IsReplied}
-use Rattle.script_world.specs.Replies.{AreElements, SEALED_NUMBER, overlong_refusal}
+use Rattle.script_world.specs.declared.live.TheConstants.{SEALED}
+use Rattle.script_world.specs.Replies.{AreElements, overlong_refusal}
 use Rattle.script_world.proofs.Happening.{nothing, one_event, steps_happen}
 use Rattle.script_world.proofs.Replied.{replied, replied_once}
 use Rattle.script_world.proofs.live.Live.answer_asked.Goals as goal
 
 pub returns-in-Sealed : goal.returns-in-Sealed
 returns-in-Sealed c =
-    replied_once c.args.self.now c.args.asked asked.Sealed [] c.refused.result (refused SEALED_NUMBER) c.args.self.now.world _ _ c.write_reply.result c.in-Sealed.is (nothing c.args.self.now.world c.is_world.ensures) c.refused.ensures (refl, refl, refl) c.write_reply.ensures
+    replied_once c.args.self.now c.args.asked asked.Sealed [] c.refused.result (refused SEALED) c.args.self.now.world _ _ c.write_reply.result c.in-Sealed.is (nothing c.args.self.now.world c.is_world.ensures) c.refused.ensures (refl, refl, refl) c.write_reply.ensures
 
 pub returns-in-Refused : goal.returns-in-Refused
 returns-in-Refused c =

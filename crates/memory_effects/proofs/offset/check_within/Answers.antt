@@ -3,8 +3,8 @@ use Rattle.std.specs.Prelude.{◌+ℤ◌}
 use Rattle.std.proofs.lemmas.Int.{to_z-of_z}
 use Rattle.bpf_model.specs.Access.{byte_count}
 use Rattle.scalar_domain.specs.Scalar.{Holds}
-use Rattle.memory_effects.proofs.Placing.{always_inside}
-use Rattle.memory_effects.proofs.offset.check_placed.Goals as goal
+use Rattle.memory_effects.proofs.Within.{always_inside}
+use Rattle.memory_effects.proofs.offset.check_within.Goals as goal
 
 pub returns-clause-inside : goal.returns-clause-inside
 returns-clause-inside c =
