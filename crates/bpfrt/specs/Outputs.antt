@@ -13,7 +13,7 @@ use Rattle.insn_codec.specs.Faults.{IsDecodeFault}
 use Rattle.loader.specs.declared.fault.LoadFault.{LoadFault}
 use Rattle.loader.specs.ProgramFile.{FileContent, FileSays, IsLoadFault}
 use Rattle.typed_runs.specs.Verified.{IsVerified}
-use Rattle.verifier.specs.declared.refusal.Refusal.{Refusal}
+use Rattle.verifier.specs.declared.refusal.ProgramRefusal.{ProgramRefusal}
 use Rattle.verifier.specs.Verdict.{IsToldOf}
 use Rattle.bpfrt.specs.declared.report.Verdict.{Verdict}
 use Rattle.bpfrt.specs.declared.program_file.Source.{Source}
@@ -72,7 +72,7 @@ pub record IsCodeVerdict (bytes : List ℕ) (v : Verdict) : Type 0 where
 pub record IsVerifierVerdict (bytes : List ℕ) (v : Verdict) : Type 0 where
   pub source : Source
   pub is : IsSourceOf bytes source
-  pub refusal : Refusal
+  pub refusal : ProgramRefusal
   pub found : IsToldOf source.program refusal
   pub told : IsRefusalVerdict refusal v
   pub not_plain : v.code ≢ MEMORY → ¬ (IsPlain source.program)

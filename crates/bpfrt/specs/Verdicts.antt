@@ -6,7 +6,7 @@ use Rattle.job_queue.specs.declared.fault.PoolFault.{PoolFault}
 use Rattle.job_queue.specs.Faults.{pool_fault_number}
 use Rattle.loader.specs.declared.fault.LoadFault.{LoadFault}
 use Rattle.loader.specs.ProgramFile.{load_fault_number, load_fault_line}
-use Rattle.verifier.specs.declared.refusal.Refusal.{Refusal}
+use Rattle.verifier.specs.declared.refusal.ProgramRefusal.{ProgramRefusal}
 use Rattle.verifier.specs.Numbers.{refusal_number, refusal_slot}
 use Rattle.bpfrt.specs.declared.report.Verdict.{Verdict}
 
@@ -17,7 +17,7 @@ pub record IsDecodeVerdict (f : DecodeFault) (v : Verdict) : Type 0 where
   pub line : v.line ≡ None
 
 -- the program is refused
-pub record IsRefusalVerdict (r : Refusal) (v : Verdict) : Type 0 where
+pub record IsRefusalVerdict (r : ProgramRefusal) (v : Verdict) : Type 0 where
   pub code : v.code ≡ refusal_number r
   pub slot : v.slot ≡ refusal_slot r
   pub line : v.line ≡ None

@@ -8,7 +8,7 @@ use insn_codec::DecodeFault;
 use loader::LoadFault;
 use std::alloc::AllocError;
 use std::io::Write;
-use verifier::Refusal;
+use verifier::ProgramRefusal;
 use worker_pool::PoolFault;
 
 /// Why a file is refused: a number, and the slot of the program or the line of the file at which it
@@ -46,12 +46,12 @@ impl From<DecodeFault> for Verdict {
     }
 }
 
-impl From<Refusal> for Verdict {
+impl From<ProgramRefusal> for Verdict {
     ghost use Rattle.bpfrt.specs.Verdicts.{IsRefusalVerdict};
 
     ghost from_gives = { IsRefusalVerdict };
 
-    fn from(refusal: Refusal) -> Verdict {
+    fn from(refusal: ProgramRefusal) -> Verdict {
         Verdict {
             code: refusal.code(),
             slot: refusal.slot(),

@@ -11,7 +11,7 @@ use crate::program_file::Source;
 use bpf_model::{MapId, MapShape};
 use maps::Registry;
 use std::alloc::{AllocError, Global};
-use verifier::{Refusal, verify};
+use verifier::{ProgramRefusal, verify};
 use worker_pool::ProgramWithMaps;
 
 /// The shapes of a registry's maps, by their numbers.
@@ -29,7 +29,7 @@ fn shapes_of(alloc: Global, registry: &Registry) -> Result<Vec<MapShape>, AllocE
 }
 
 /// Verifies a file's program with its maps and its context.
-pub fn verify_source(alloc: Global, source: Source) -> Result<ProgramWithMaps, Refusal>
+pub fn verify_source(alloc: Global, source: Source) -> Result<ProgramWithMaps, ProgramRefusal>
     requires { source.ctx_len ≤ CTX_BYTES }
     ensures program { IfOk result (λ v. v.verified.program ≡ source.program) }
     ensures shapes { IfOk result (λ v. v.verified.shapes ≡ shapes_of_maps source.registry.maps) }

@@ -13,9 +13,9 @@ use Rattle.bpf_model.specs.Call.{helper_of, kernel_function_of}
 use Rattle.bpf_model.specs.Request.{ArgumentKind, MapOfProgram, KeyOfMap, ValueOfMap, AnyNumber}
 use Rattle.bpf_model.specs.Request.{ResultKind, ElementOrNull, ErrorNumber, signature_of}
 use Rattle.scalar_domain.specs.declared.scalar.Scalar.{Scalar}
-use Rattle.kind_tests.specs.declared.fault.Fault.{Fault}
-use Rattle.kind_tests.specs.declared.fault.Fault.TheVariants.{UnknownCall, OutsideSection}
-use Rattle.kind_tests.specs.declared.fault.Fault.TheVariants.{UnpairedSection}
+use Rattle.kind_tests.specs.declared.fault.InsnFault.{InsnFault}
+use Rattle.kind_tests.specs.declared.fault.InsnFault.TheVariants.{UnknownCall, OutsideSection}
+use Rattle.kind_tests.specs.declared.fault.InsnFault.TheVariants.{UnpairedSection}
 use Rattle.bpf_model.specs.declared.insn.Insn.TheVariants.{Call}
 use Rattle.typed_runs.specs.Kinds.{Kind, Num, MapAt, MaybeNull, AbsState as Known}
 use Rattle.typed_runs.specs.Effects.{HasBytes, HasNumber, after_call, after_lock, after_unlock}
@@ -33,22 +33,22 @@ PerformsCall kind imm shapes old new =
     (ctx_len : ℕ) → Performs (Call kind imm) ctx_len shapes old new
 
 -- The first tests of a call, of its number and of the section: the first that fails, if one does.
-abbrev pub helper_fault : Option Helper → Bool → Option Fault
+abbrev pub helper_fault : Option Helper → Bool → Option InsnFault
 helper_fault None inside = Some UnknownCall
 helper_fault (Some Lookup) inside = if inside then None else Some OutsideSection
 helper_fault (Some Update) inside = None
 helper_fault (Some Delete) inside = None
 
-abbrev pub kernel_fault : Option KernelFunction → Bool → Option Fault
+abbrev pub kernel_fault : Option KernelFunction → Bool → Option InsnFault
 kernel_fault None inside = Some UnknownCall
 kernel_fault (Some ReadLock) inside = if inside then Some UnpairedSection else None
 kernel_fault (Some ReadUnlock) inside = if inside then None else Some UnpairedSection
 
-abbrev pub section_fault : CallKind → ℤ → Bool → Option Fault
+abbrev pub section_fault : CallKind → ℤ → Bool → Option InsnFault
 section_fault callee.Helper imm inside = helper_fault (helper_of imm) inside
 section_fault callee.Kernel imm inside = kernel_fault (kernel_function_of imm) inside
 
-abbrev pub outcome_of : Option Fault → Result (Unit {0}) Fault
+abbrev pub outcome_of : Option InsnFault → Result (Unit {0}) InsnFault
 outcome_of None = Ok tt
 outcome_of (Some e) = Err e
 
@@ -57,8 +57,8 @@ pub record FindsIn (map : ℕ) (a b : AbsState) : Type 0 where
   pub id : ℕ
   pub alike : AreAlike (after_call (MaybeNull map id) (state_of a)) (state_of b)
 
--- What is known of an argument in a register, of a helper that is called with a map of this shape: a
--- map of the list, so many bytes of the frame, or a number.
+-- What is known of an argument in a register, of a helper that is called with a map of this shape:
+-- a map of the list, so many bytes of the frame, or a number.
 abbrev pub IsArgument : List MapShape → Known → MapShape → ArgumentKind → ℕ → Type 0
 IsArgument shapes a shape MapOfProgram r =
     (map : ℕ) × (a.regs r ≡ MapAt map) × (slice_get shapes map ≡ Some shape)
@@ -96,6 +96,10 @@ pub record Splits (id : ℕ) (a null there : AbsState) : Type 0 where
   pub is_null : AreAlike (learnt (IsNull id) (state_of a)) (state_of null)
   pub is_there : AreAlike (learnt (IsThere id) (state_of a)) (state_of there)
 
--- numbers in the registers from r6 on stay as they are
+-- Numbers in the registers that have the property stay as they are.
+abbrev pub KeepsNumbersIn : (ℕ → Type 0) → Known → Known → Type 0
+KeepsNumbersIn P a b = (r : ℕ) (s : Scalar) → P r → a.regs r ≡ Num s → b.regs r ≡ Num s
+
+-- those from r6 on
 abbrev pub KeepsOwnNumbers : Known → Known → Type 0
-KeepsOwnNumbers a b = (r : ℕ) (s : Scalar) → 5 < r → a.regs r ≡ Num s → b.regs r ≡ Num s
+KeepsOwnNumbers a b = KeepsNumbersIn (λ r. 5 < r) a b

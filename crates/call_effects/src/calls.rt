@@ -12,12 +12,12 @@ ghost use Rattle.call_effects.specs.Calls.{PerformsCall, FindsIn, GoesBySignatur
 
 use crate::arguments::{called_map, check_bytes_argument};
 use bpf_model::{CallKind, Helper, KernelFunction, MapShape, Reg};
-use kind_tests::{Fault, number_argument};
+use kind_tests::{InsnFault, number_argument};
 use register_kinds::{AbsState, Identities, RegKind};
 use scalar_domain::Scalar;
 
 /// A lock. Error: `UnpairedSection` inside a section.
-fn lock(state: &mut AbsState) -> Result<(), Fault>
+fn lock(state: &mut AbsState) -> Result<(), InsnFault>
     ensures sound { OnOk result ((imm : ℤ) (shapes : List MapShape)
         → kernel_function_of imm ≡ Some KernelFunction.ReadLock
         → PerformsCall CallKind.Kernel imm shapes state.old state.new) }
@@ -29,14 +29,14 @@ fn lock(state: &mut AbsState) -> Result<(), Fault>
     ensures unchanged { OnErr result (state.new ≡ state.old) }
 {
     if state.inside {
-        return Err(Fault::UnpairedSection);
+        return Err(InsnFault::UnpairedSection);
     }
     state.enter_section();
     Ok(())
 }
 
 /// An unlock. Error: `UnpairedSection` outside every section.
-fn unlock(state: &mut AbsState) -> Result<(), Fault>
+fn unlock(state: &mut AbsState) -> Result<(), InsnFault>
     ensures sound { OnOk result ((imm : ℤ) (shapes : List MapShape)
         → kernel_function_of imm ≡ Some KernelFunction.ReadUnlock
         → PerformsCall CallKind.Kernel imm shapes state.old state.new) }
@@ -49,26 +49,26 @@ fn unlock(state: &mut AbsState) -> Result<(), Fault>
     ensures unchanged { OnErr result (state.new ≡ state.old) }
 {
     if !state.inside {
-        return Err(Fault::UnpairedSection);
+        return Err(InsnFault::UnpairedSection);
     }
     state.leave_section();
     Ok(())
 }
 
 /// A lookup is made inside a section.
-fn check_inside(state: &AbsState) -> Result<(), Fault>
+fn check_inside(state: &AbsState) -> Result<(), InsnFault>
     ensures inside { OnOk result (state.now.inside ≡ true) }
     ensures result { result ≡ outcome_of (helper_fault (Some Helper.Lookup) state.now.inside) }
 {
     match state.inside {
         true => Ok(()),
-        false => Err(Fault::OutsideSection),
+        false => Err(InsnFault::OutsideSection),
     }
 }
 
 /// A lookup: r0 may be null, with an identity of its own. Errors, in this order: `OutsideSection`
 /// outside every section, those of the map, those of the key.
-fn lookup(state: &mut AbsState, shapes: &[MapShape], ids: &mut Identities) -> Result<(), Fault>
+fn lookup(state: &mut AbsState, shapes: &[MapShape], ids: &mut Identities) -> Result<(), InsnFault>
     requires room { ids.old.next + 1 < 2 ^ 32 }
     requires below { AreBelow ids.old.next state.old }
     ensures sound { OnOk result ((imm : ℤ) → helper_of imm ≡ Some Helper.Lookup
@@ -98,7 +98,7 @@ fn lookup(state: &mut AbsState, shapes: &[MapShape], ids: &mut Identities) -> Re
 }
 
 /// An update. Errors, in this order: those of the map, of the key, of the value, of the flags.
-fn update(state: &mut AbsState, shapes: &[MapShape]) -> Result<(), Fault>
+fn update(state: &mut AbsState, shapes: &[MapShape]) -> Result<(), InsnFault>
     ensures sound { OnOk result ((imm : ℤ) → helper_of imm ≡ Some Helper.Update
         → PerformsCall CallKind.Helper imm shapes.now state.old state.new) }
     ensures accepts { (map : ℕ) (shape : MapShape) (q : Scalar)
@@ -121,7 +121,7 @@ fn update(state: &mut AbsState, shapes: &[MapShape]) -> Result<(), Fault>
 }
 
 /// A delete. Errors, in this order: those of the map, of the key.
-fn delete(state: &mut AbsState, shapes: &[MapShape]) -> Result<(), Fault>
+fn delete(state: &mut AbsState, shapes: &[MapShape]) -> Result<(), InsnFault>
     ensures sound { OnOk result ((imm : ℤ) → helper_of imm ≡ Some Helper.Delete
         → PerformsCall CallKind.Helper imm shapes.now state.old state.new) }
     ensures accepts { (map : ℕ) (shape : MapShape) → kind_in state.old.regs 1 ≡ RegKind.Map map
@@ -140,7 +140,7 @@ fn delete(state: &mut AbsState, shapes: &[MapShape]) -> Result<(), Fault>
 }
 
 /// A call of a kernel function.
-fn call_kernel(state: &mut AbsState, imm: i32) -> Result<(), Fault>
+fn call_kernel(state: &mut AbsState, imm: i32) -> Result<(), InsnFault>
     ensures sound { OnOk result ((shapes : List MapShape)
         → PerformsCall CallKind.Kernel imm shapes state.old state.new) }
     ensures result { result ≡ outcome_of (kernel_fault (kernel_function_of imm) state.old.inside) }
@@ -153,7 +153,7 @@ fn call_kernel(state: &mut AbsState, imm: i32) -> Result<(), Fault>
     match KernelFunction::from_number(imm) {
         Some(KernelFunction::ReadLock) => lock(state),
         Some(KernelFunction::ReadUnlock) => unlock(state),
-        None => Err(Fault::UnknownCall),
+        None => Err(InsnFault::UnknownCall),
     }
 }
 
@@ -163,7 +163,7 @@ fn call_helper(
     imm: i32,
     shapes: &[MapShape],
     ids: &mut Identities,
-) -> Result<(), Fault>
+) -> Result<(), InsnFault>
     requires room { ids.old.next + 1 < 2 ^ 32 }
     requires below { AreBelow ids.old.next state.old }
     ensures sound { OnOk result (PerformsCall CallKind.Helper imm shapes.now state.old state.new) }
@@ -185,7 +185,7 @@ fn call_helper(
         Some(Helper::Lookup) => lookup(state, shapes, ids),
         Some(Helper::Update) => update(state, shapes),
         Some(Helper::Delete) => delete(state, shapes),
-        None => Err(Fault::UnknownCall),
+        None => Err(InsnFault::UnknownCall),
     }
 }
 
@@ -202,7 +202,7 @@ pub fn call(
     imm: i32,
     shapes: &[MapShape],
     ids: &mut Identities,
-) -> Result<(), Fault>
+) -> Result<(), InsnFault>
     requires room { ids.old.next + 1 < 2 ^ 32 }
     requires below { AreBelow ids.old.next state.old }
     ensures sound { OnOk result (PerformsCall kind imm shapes.now state.old state.new) }

@@ -11,7 +11,7 @@ use Rattle.typed_runs.specs.Kinds.{Num}
 use Rattle.register_kinds.specs.declared.kind.RegKind.{RegKind}
 use Rattle.register_kinds.specs.declared.kind.RegKind.TheVariants as kinds
 use Rattle.register_kinds.specs.States.{kind_of}
-use Rattle.kind_tests.specs.declared.fault.Fault.{Fault}
+use Rattle.kind_tests.specs.declared.fault.InsnFault.{InsnFault}
 use Rattle.kind_tests.specs.Tests.{held_kind}
 
 pub held_number : (k : RegKind) (s : Scalar) → kind_of k ≡ Num s → held_kind k ≡ Ok (kinds.Num s)
@@ -27,7 +27,7 @@ same_frame a b e = cc
 pub constant_holds : (s : Scalar) (n : ℕ) → IsConstant s n → Holds s n
 constant_holds s n e = record { least = omega (arith, e.least); greatest = omega (arith, e.greatest); zeros = e.zeros; ones = e.ones }
 
-pub ok_value : (r : Result ℤ Fault) (z : ℤ) → IsOk r → IfOk r (λ p. p ≡ z) → r ≡ Ok z
+pub ok_value : (r : Result ℤ InsnFault) (z : ℤ) → IsOk r → IfOk r (λ p. p ≡ z) → r ≡ Ok z
 ok_value (Ok p) z o e = ap Ok e
 ok_value (Err f) z o e = absurd cc
 

@@ -20,7 +20,7 @@ use Rattle.scalar_domain.specs.Scalar.{Holds, IsConstant}
 use Rattle.typed_runs.specs.Kinds.{Kind, AbsState as Known}
 use Rattle.typed_runs.specs.Effects.{with_kind, IsWritten, HasNumber}
 use Rattle.typed_runs.specs.Planned.{AreAlike}
-use Rattle.kind_tests.specs.declared.fault.Fault.{Fault}
+use Rattle.kind_tests.specs.declared.fault.InsnFault.{InsnFault}
 use Rattle.kind_tests.specs.Performs.{Performs}
 use Rattle.register_kinds.specs.declared.kind.RegKind.{RegKind}
 use Rattle.register_kinds.specs.declared.kind.RegKind.TheVariants as kinds
@@ -82,17 +82,17 @@ IsMove Forward size op = (size ≡ Word64) × (op ≡ Add)
 IsMove Back size op = (size ≡ Word64) × (op ≡ Sub)
 
 -- a number is answered
-abbrev pub GivesNumber : Result RegKind Fault → Type 0
+abbrev pub GivesNumber : Result RegKind InsnFault → Type 0
 GivesNumber r = (t : Scalar) × (r ≡ Ok (kinds.Num t))
 
 -- The instruction is not refused, and the register becomes of the kind.
-pub record SetsKind (r : Result (Unit {0}) Fault) (dst : ℕ) (kind : Kind) (a b : Known)
+pub record SetsKind (r : Result (Unit {0}) InsnFault) (dst : ℕ) (kind : Kind) (a b : Known)
     : Type 0 where
   pub fine : IsOk r
   pub alike : AreAlike (with_kind dst kind a) b
 
 -- A second operand that may be read is what its register holds, or the field imm with its sign.
-pub record HasOperand (a : AbsState) (src : Operand) (r : Result RegKind Fault) : Type 0 where
+pub record HasOperand (a : AbsState) (src : Operand) (r : Result RegKind InsnFault) : Type 0 where
   pub register : (s : ℕ) → src ≡ Register s → IsWritten (kind_of (kind_in a.regs s)) →
       r ≡ Ok (kind_in a.regs s)
   pub number : (imm : ℤ) → src ≡ Immediate imm →

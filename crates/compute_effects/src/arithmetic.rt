@@ -16,7 +16,7 @@ ghost use Rattle.scalar_domain.specs.declared.scalar.Scalar.{Scalar as Numbers};
 
 use crate::kinds::{combined, copied, numbers, operand};
 use bpf_model::{AluOp, Insn, Operand, Reg, Size, UnaryOp};
-use kind_tests::{Fault, check_writable, held};
+use kind_tests::{InsnFault, check_writable, held};
 use register_kinds::{AbsState, RegKind};
 use scalar_domain::Scalar;
 
@@ -27,7 +27,7 @@ fn computed_kind(
     size: Size,
     dst: Reg,
     src: &Operand,
-) -> Result<RegKind, Fault>
+) -> Result<RegKind, InsnFault>
     ensures sound { IfOk result
         (λ k. Computes size op dst src.now (state_of state.now) (kind_of k)) }
     ensures floor { IfOk result (λ k. LeavesKnown size op (kind_of (kind_in state.now.regs dst))
@@ -70,7 +70,7 @@ pub fn alu(
     size: Size,
     dst: Reg,
     src: &Operand,
-) -> Result<(), Fault>
+) -> Result<(), InsnFault>
     ensures sound { OnOk result (PerformsComputation (Insn.Alu op size dst src.now)
         state.old state.new) }
     ensures floor { OnOk result (LeavesKnown size op (kind_of (kind_in state.old.regs dst))
@@ -106,7 +106,7 @@ pub fn alu(
 /// Errors, in this order; the state is then as it was: `FramePointerWritten` where it sets r10;
 /// `UnwrittenRegister`, `OutsideSection`, `MixedRegions` where the register that it reads is so;
 /// `MaybeNull` or `PointerArithmetic` where that holds what may be null, or a reference or a map.
-pub fn unary(state: &mut AbsState, op: &UnaryOp, dst: Reg) -> Result<(), Fault>
+pub fn unary(state: &mut AbsState, op: &UnaryOp, dst: Reg) -> Result<(), InsnFault>
     ensures sound { OnOk result (PerformsComputation (Insn.Unary op.now dst) state.old state.new) }
     ensures floor { OnOk result ((a : Numbers)
         → kind_of (kind_in state.old.regs (unary_source op.now dst)) ≡ model.Num a
@@ -126,7 +126,7 @@ pub fn unary(state: &mut AbsState, op: &UnaryOp, dst: Reg) -> Result<(), Fault>
 }
 
 /// The wide instruction with a number. Error: `FramePointerWritten`.
-pub fn load_number(state: &mut AbsState, dst: Reg, number: u64) -> Result<(), Fault>
+pub fn load_number(state: &mut AbsState, dst: Reg, number: u64) -> Result<(), InsnFault>
     ensures sound { OnOk result (PerformsComputation (Insn.LoadNumber dst number)
         state.old state.new) }
     ensures floor { OnOk result (IsNumbers (λ s. IsConstant s number)
@@ -144,20 +144,20 @@ pub fn load_number(state: &mut AbsState, dst: Reg, number: u64) -> Result<(), Fa
 }
 
 /// The index of a map in the program's list of so many.
-fn map_index(map: i32, maps: usize) -> Result<u32, Fault>
+fn map_index(map: i32, maps: usize) -> Result<u32, InsnFault>
     ensures value { IfOk result (λ n. map ≡ pos n) }
     ensures bound { IfOk result (λ n. n < maps) }
     ensures accepts { (n : ℕ) → map ≡ pos n → n < maps → result ≡ Ok n }
 {
     if map < 0 || map as usize >= maps {
-        return Err(Fault::NoSuchMap);
+        return Err(InsnFault::NoSuchMap);
     }
     Ok(map as u32)
 }
 
 /// The wide instruction with a map, of a list of so many. Errors: `FramePointerWritten`,
 /// `NoSuchMap`.
-pub fn load_map(state: &mut AbsState, dst: Reg, map: i32, maps: usize) -> Result<(), Fault>
+pub fn load_map(state: &mut AbsState, dst: Reg, map: i32, maps: usize) -> Result<(), InsnFault>
     ensures sound { OnOk result ((shapes : List MapShape) (ctx_len : ℕ) → length shapes ≡ maps
         → Performs (Insn.LoadMap dst map) ctx_len shapes state.old state.new) }
     ensures sets { (n : ℕ) → (10 ≡ dst → ⊥) → map ≡ pos n → n < maps

@@ -15,24 +15,24 @@ ghost use Rattle.scalar_domain.specs.Floor.{KeepsFloor};
 
 use crate::moving::{Way, moved, moved_in_frame};
 use bpf_model::{AluOp, Operand, Size};
-use kind_tests::{Fault, held};
+use kind_tests::{InsnFault, held};
 use register_kinds::{AbsState, RegKind};
 use scalar_domain::Scalar;
 
 /// Which way an operation moves a reference.
-fn way_of(size: Size, op: AluOp) -> Result<Way, Fault>
+fn way_of(size: Size, op: AluOp) -> Result<Way, InsnFault>
     ensures way { IfOk result (λ way. IsMove way size op) }
     ensures forward { size ≡ Size.Word64 → op ≡ AluOp.Add → result ≡ Ok Way.Forward }
 {
     match (size, op) {
         (Size::Word64, AluOp::Add) => Ok(Way::Forward),
         (Size::Word64, AluOp::Sub) => Ok(Way::Back),
-        _ => Err(Fault::PointerArithmetic),
+        _ => Err(InsnFault::PointerArithmetic),
     }
 }
 
 /// What a reference becomes that is moved.
-fn moved_kind(way: Way, x: RegKind, by: Scalar) -> Result<RegKind, Fault>
+fn moved_kind(way: Way, x: RegKind, by: Scalar) -> Result<RegKind, InsnFault>
     ensures sound { IfOk result (λ k. (size : Size) (op : AluOp) → IsMove way size op
         → Combines size op (kind_of x) (model.Num by) (kind_of k)) }
     ensures reference { OnOk result ((a : Numbers) → kind_of x ≡ model.Num a → ⊥) }
@@ -48,12 +48,12 @@ fn moved_kind(way: Way, x: RegKind, by: Scalar) -> Result<RegKind, Fault>
             offset: moved(way, offset, by)?,
         }),
         RegKind::Frame(offset) => Ok(RegKind::Frame(moved_in_frame(way, offset, by)?)),
-        _ => Err(Fault::PointerArithmetic),
+        _ => Err(InsnFault::PointerArithmetic),
     }
 }
 
 /// What an operation of two operands leaves that is no move.
-pub(crate) fn combined(size: Size, op: AluOp, x: RegKind, y: RegKind) -> Result<RegKind, Fault>
+pub(crate) fn combined(size: Size, op: AluOp, x: RegKind, y: RegKind) -> Result<RegKind, InsnFault>
     ensures sound { IfOk result (λ k. Combines size op (kind_of x) (kind_of y) (kind_of k)) }
     ensures floor { IfOk result (λ k. CombinesKnown size op (kind_of x) (kind_of y) (kind_of k)) }
     ensures below { IfOk result (λ k. (top : ℕ) → IsBelow top (kind_of k)) }
@@ -65,27 +65,27 @@ pub(crate) fn combined(size: Size, op: AluOp, x: RegKind, y: RegKind) -> Result<
 {
     match (x, y) {
         (RegKind::Num(a), RegKind::Num(b)) => Ok(RegKind::Num(Scalar::apply(size, op, a, b))),
-        (RegKind::MaybeNull { .. }, _) => Err(Fault::MaybeNull),
-        (_, RegKind::MaybeNull { .. }) => Err(Fault::MaybeNull),
+        (RegKind::MaybeNull { .. }, _) => Err(InsnFault::MaybeNull),
+        (_, RegKind::MaybeNull { .. }) => Err(InsnFault::MaybeNull),
         (_, RegKind::Num(by)) => moved_kind(way_of(size, op)?, x, by),
-        _ => Err(Fault::PointerArithmetic),
+        _ => Err(InsnFault::PointerArithmetic),
     }
 }
 
 /// The numbers of a register that is read as one.
-pub(crate) fn numbers(kind: RegKind) -> Result<Scalar, Fault>
+pub(crate) fn numbers(kind: RegKind) -> Result<Scalar, InsnFault>
     ensures value { IfOk result (λ s. kind ≡ RegKind.Num s) }
     ensures accepts { (s : Scalar) → kind ≡ RegKind.Num s → result ≡ Ok s }
 {
     match kind {
         RegKind::Num(s) => Ok(s),
-        RegKind::MaybeNull { .. } => Err(Fault::MaybeNull),
-        _ => Err(Fault::PointerArithmetic),
+        RegKind::MaybeNull { .. } => Err(InsnFault::MaybeNull),
+        _ => Err(InsnFault::PointerArithmetic),
     }
 }
 
 /// What a move leaves.
-pub(crate) fn copied(size: Size, kind: RegKind) -> Result<RegKind, Fault>
+pub(crate) fn copied(size: Size, kind: RegKind) -> Result<RegKind, InsnFault>
     requires { IsWritten (kind_of kind) }
     ensures sound { IfOk result
         (λ k. Combines size AluOp.Move model.Blank (kind_of kind) (kind_of k)) }
@@ -108,7 +108,7 @@ pub(crate) fn copied(size: Size, kind: RegKind) -> Result<RegKind, Fault>
 
 /// What a second operand may be. Errors: `UnwrittenRegister`, `OutsideSection`, `MixedRegions`
 /// where it is a register that is so.
-pub fn operand(state: &AbsState, src: &Operand) -> Result<RegKind, Fault>
+pub fn operand(state: &AbsState, src: &Operand) -> Result<RegKind, InsnFault>
     ensures value { IfOk result (λ k. HasValue (state_of state.now) src.now (kind_of k)) }
     ensures kind { IfOk result (λ k. operand_kind src.now (state_of state.now) ≡ kind_of k) }
     ensures written { IfOk result (λ k. IsWritten (kind_of k)) }

@@ -7,7 +7,7 @@ ghost use Rattle.typed_runs.specs.Describes.{HasOffset};
 ghost use Rattle.compute_effects.specs.Computes.{MovesOffsets, IsNearStep, signed_move, shifted_word};
 
 use bpf_model::{AluOp, NEAR_LIMIT, Size};
-use kind_tests::Fault;
+use kind_tests::InsnFault;
 use register_kinds::ORIGIN;
 use scalar_domain::Scalar;
 
@@ -20,14 +20,14 @@ pub(crate) enum Way {
 
 /// Each of the numbers, read as a signed one, lies within the limit, so far as a reference may be moved at
 /// once, and all have one sign.
-fn check_step(by: Scalar) -> Result<(), Fault>
+fn check_step(by: Scalar) -> Result<(), InsnFault>
     ensures steps { OnOk result ((n : ℕ) → Holds by n → IsNearStep n) }
     ensures accepts { (n : ℕ) → IsConstant by n → IsNearStep n → IsOk result }
 {
     if by.greatest <= NEAR_LIMIT || by.least >= u64::MAX - (NEAR_LIMIT - 1) {
         return Ok(());
     }
-    Err(Fault::PointerArithmetic)
+    Err(InsnFault::PointerArithmetic)
 }
 
 /// The raised offsets, forward or back by each of the numbers, as words.
@@ -45,7 +45,7 @@ fn shifted(way: Way, offset: Scalar, by: Scalar) -> Scalar
 
 /// The offsets of a reference that is moved. Error: `PointerArithmetic` where a number may lie
 /// outside the limit, or a new offset.
-pub(crate) fn moved(way: Way, offset: Scalar, by: Scalar) -> Result<Scalar, Fault>
+pub(crate) fn moved(way: Way, offset: Scalar, by: Scalar) -> Result<Scalar, InsnFault>
     ensures sound { IfOk result (λ t. MovesOffsets way offset by t) }
     ensures constant { (x n : ℕ) → IsConstant offset x → IsConstant by n → IsNearStep n
         → shifted_word way x n ≤ 2 ^ 30
@@ -54,26 +54,26 @@ pub(crate) fn moved(way: Way, offset: Scalar, by: Scalar) -> Result<Scalar, Faul
     check_step(by)?;
     let new = shifted(way, offset, by);
     if new.greatest > 2 * NEAR_LIMIT {
-        return Err(Fault::PointerArithmetic);
+        return Err(InsnFault::PointerArithmetic);
     }
     Ok(new)
 }
 
 /// An offset of a reference to the frame, kept 2^29 higher, where it is near.
-fn raised(offset: i32) -> Result<Scalar, Fault>
+fn raised(offset: i32) -> Result<Scalar, InsnFault>
     ensures value { IfOk result (λ s. HasOffset s offset) }
     ensures constant { (m : ℕ) → offset ≡ pos m → m ≤ 2 ^ 29
         → (s : Numbers) × (result ≡ Ok s) × IsConstant s (m + 2 ^ 29) }
 {
     let raised = i64::from(offset) + ORIGIN as i64;
     if raised < 0 || raised > 2 * NEAR_LIMIT as i64 {
-        return Err(Fault::PointerArithmetic);
+        return Err(InsnFault::PointerArithmetic);
     }
     Ok(Scalar::constant(raised as u64))
 }
 
 /// The one offset of a set, where it has one.
-fn lowered(offsets: Scalar) -> Result<i32, Fault>
+fn lowered(offsets: Scalar) -> Result<i32, InsnFault>
     ensures value { IfOk result (λ p. (o : ℤ) → HasOffset offsets o → p ≡ o) }
     ensures near { IfOk result IsNearOffset }
     ensures accepts { (x : ℕ) → IsConstant offsets x → x ≤ 2 ^ 30 → IsOk result }
@@ -81,17 +81,17 @@ fn lowered(offsets: Scalar) -> Result<i32, Fault>
     match offsets.as_constant() {
         Some(raised) => {
             if raised > 2 * NEAR_LIMIT {
-                return Err(Fault::PointerArithmetic);
+                return Err(InsnFault::PointerArithmetic);
             }
             Ok((raised as i64 - ORIGIN as i64) as i32)
         }
-        None => Err(Fault::PointerArithmetic),
+        None => Err(InsnFault::PointerArithmetic),
     }
 }
 
 /// The offset of a reference to the frame that is moved by the one number of a set. Errors as
 /// `moved`, and where there may be more numbers.
-pub(crate) fn moved_in_frame(way: Way, offset: i32, by: Scalar) -> Result<i32, Fault>
+pub(crate) fn moved_in_frame(way: Way, offset: i32, by: Scalar) -> Result<i32, InsnFault>
     ensures value { IfOk result (λ p. (n : ℕ) → n < 2 ^ 64 → Holds by n
         → p ≡ offset +ℤ signed_move way n) }
     ensures near { IfOk result IsNearOffset }

@@ -8,23 +8,23 @@ ghost use Rattle.typed_runs.specs.Verified.{Transfers};
 ghost use Rattle.register_kinds.specs.States.{state_of};
 
 use bpf_model::{Insn, Reg};
-use kind_tests::{Fault, held};
+use kind_tests::{InsnFault, held};
 use register_kinds::{AbsState, RegKind};
 
 /// A run ends outside every section.
-fn check_outside(state: &AbsState) -> Result<(), Fault>
+fn check_outside(state: &AbsState) -> Result<(), InsnFault>
     ensures outside { OnOk result (state.now.inside ≡ false) }
     ensures accepts { state.now.inside ≡ false → IsOk result }
 {
     match state.inside {
         false => Ok(()),
-        true => Err(Fault::UnpairedSection),
+        true => Err(InsnFault::UnpairedSection),
     }
 }
 
 /// The end of a run. Errors, in this order: those of r0 as a register that is read; `PointerLeak`
 /// where it is no number; `UnpairedSection` inside a section.
-pub fn exit(state: &AbsState) -> Result<(), Fault>
+pub fn exit(state: &AbsState) -> Result<(), InsnFault>
     ensures sound { OnOk result ((shapes : List MapShape) (ctx_len : ℕ)
         → Performs Insn.Exit ctx_len shapes state.now state.now) }
     ensures accepts { HasNumber (state_of state.now) 0 → state.now.inside ≡ false → IsOk result }
@@ -34,7 +34,7 @@ pub fn exit(state: &AbsState) -> Result<(), Fault>
             check_outside(state)?;
             Ok(())
         }
-        _ => Err(Fault::PointerLeak),
+        _ => Err(InsnFault::PointerLeak),
     }
 }
 

@@ -12,27 +12,27 @@ ghost use Rattle.compute_effects.specs.Floor.{operand_kind};
 
 use bpf_model::{Condition, Operand, Reg, Size};
 use compute_effects::operand;
-use kind_tests::{Fault, held};
+use kind_tests::{InsnFault, held};
 use register_kinds::{AbsState, RegKind};
 use scalar_domain::Scalar;
 use std::alloc::{AllocError, Global};
 
 /// The numbers of both sides of a comparison.
-fn compared(x: RegKind, y: RegKind) -> Result<(Scalar, Scalar), Fault>
+fn compared(x: RegKind, y: RegKind) -> Result<(Scalar, Scalar), InsnFault>
     ensures left { IfOk result (λ p. x ≡ RegKind.Num p.0) }
     ensures right { IfOk result (λ p. y ≡ RegKind.Num p.1) }
     ensures accepts { (a b : Scalar) → x ≡ RegKind.Num a → y ≡ RegKind.Num b → IsOk result }
 {
     match (x, y) {
         (RegKind::Num(a), RegKind::Num(b)) => Ok((a, b)),
-        (RegKind::MaybeNull { .. }, _) => Err(Fault::MaybeNull),
-        (_, RegKind::MaybeNull { .. }) => Err(Fault::MaybeNull),
-        _ => Err(Fault::PointerArithmetic),
+        (RegKind::MaybeNull { .. }, _) => Err(InsnFault::MaybeNull),
+        (_, RegKind::MaybeNull { .. }) => Err(InsnFault::MaybeNull),
+        _ => Err(InsnFault::PointerArithmetic),
     }
 }
 
 /// The numbers of a comparison.
-fn sides(state: &AbsState, dst: Reg, src: &Operand) -> Result<(Scalar, Scalar), Fault>
+fn sides(state: &AbsState, dst: Reg, src: &Operand) -> Result<(Scalar, Scalar), InsnFault>
     ensures left { IfOk result (λ p. kind_in state.now.regs dst ≡ RegKind.Num p.0) }
     ensures right { IfOk result (λ p. HasValue (state_of state.now) src.now (model.Num p.1)) }
     ensures known { IfOk result (λ p. operand_kind src.now (state_of state.now) ≡ model.Num p.1) }
@@ -73,7 +73,7 @@ pub fn fork(
     size: Size,
     dst: Reg,
     src: &Operand,
-) -> Result<Box<AbsState>, Fault>
+) -> Result<Box<AbsState>, InsnFault>
     ensures sound { IfOk result (λ taken.
         Forks condition size dst src.now state.old state.new taken.value) }
     ensures compares { OnOk result (ComparesNumbers (state_of state.old) dst src.now) }
@@ -89,7 +89,7 @@ pub fn fork(
     ensures taken_narrowed { IfOk result (λ taken.
         AreNarrowed dst src.now (state_of state.old) (state_of taken.value)) }
     ensures accepts { HasNumber (state_of state.old) dst
-        → IsNumberOperand (state_of state.old) src.now → IsOkUnless result Fault.Memory }
+        → IsNumberOperand (state_of state.old) src.now → IsOkUnless result InsnFault.Memory }
     ensures below { (top : ℕ) → AreBelow top state.old → AreBelow top state.new }
     ensures taken_below { IfOk result (λ taken. (top : ℕ)
         → AreBelow top state.old → AreBelow top taken.value) }

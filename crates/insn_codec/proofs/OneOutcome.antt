@@ -10,8 +10,8 @@ use Rattle.bpf_model.specs.declared.insn.Insn.{Insn}
 use Rattle.bpf_model.specs.Spelling.{FitsInsn, IsProgram, spelling, text, slot_at, next_slot_at, slot_count, slot_total, opcode_of}
 use Rattle.insn_codec.specs.declared.fault.DecodeFault.{DecodeFault}
 use Rattle.insn_codec.specs.declared.fault.DecodeFault.TheVariants as faults
-use Rattle.insn_codec.specs.declared.flaw.Flaw.{Flaw}
-use Rattle.insn_codec.specs.declared.flaw.Flaw.TheVariants.{OutsideProfile}
+use Rattle.insn_codec.specs.declared.flaw.InsnFlaw.{InsnFlaw}
+use Rattle.insn_codec.specs.declared.flaw.InsnFlaw.TheVariants.{OutsideProfile}
 use Rattle.insn_codec.specs.Faults.{flaw_with, first_flaw, IsOpcode, IsInsnFlawAt, IsDecodeFault, length_fault}
 use Rattle.insn_codec.proofs.InsnLaws.{opcode_is, included, no_flaw, same}
 use Rattle.insn_codec.proofs.TextLaws.{Again, again}
@@ -34,12 +34,12 @@ opcodes_are byte None (Some p) h k = absurd (h p k)
 opcodes_are byte (Some o) None h k = absurd (k o h)
 opcodes_are byte (Some o) (Some p) h k = ap (λ (x : Opcode). Some x) (injective o p (h ∙ sym k))
 
-pub one_flaw : (bytes : List ℕ) (f g : Flaw) → IsInsnFlawAt bytes f → IsInsnFlawAt bytes g → f ≡ g
+pub one_flaw : (bytes : List ℕ) (f g : InsnFlaw) → IsInsnFlawAt bytes f → IsInsnFlawAt bytes g → f ≡ g
 one_flaw bytes f g h k =
     let e = opcodes_are _ h.0 k.0 h.1 k.1 in
     same_Some f g (sym h.2 ∙ ap (λ (o : Option Opcode). first_flaw o (slot_at bytes) (next_slot_at bytes)) e ∙ k.2)
 
-pub spelled_has_none : (bytes x : List ℕ) (i : Insn) (f : Flaw) → FitsInsn i → bytes ≡ spelling i ++ x → IsInsnFlawAt bytes f → ⊥
+pub spelled_has_none : (bytes x : List ℕ) (i : Insn) (f : InsnFlaw) → FitsInsn i → bytes ≡ spelling i ++ x → IsInsnFlawAt bytes f → ⊥
 spelled_has_none bytes x i f fits p h =
     let a : Again i bytes x = subst (λ (b : List ℕ). Again i b x) (sym p) (again i x fits) in
     let e = opcodes_are _ h.0 (Some (opcode_of i)) h.1 (opcode_is i _ _ a.begins) in
@@ -48,10 +48,10 @@ spelled_has_none bytes x i f fits p h =
     let k : first_flaw (Some (opcode_of i)) (slot_at bytes) (next_slot_at bytes) ≡ Some f = ap (λ (o : Option Opcode). first_flaw o (slot_at bytes) (next_slot_at bytes)) (sym e) ∙ h.2 in
     none_some (ap (λ (b : Bool). cond b (Some OutsideProfile) (flaw_with (opcode_of i) (slot_at bytes) (next_slot_at bytes))) s) n k
   where
-    none_some : {u v : Option Flaw} → u ≡ v → v ≡ None → u ≡ Some f → ⊥
+    none_some : {u v : Option InsnFlaw} → u ≡ v → v ≡ None → u ≡ Some f → ⊥
     none_some p q r = cc
 
-pub one_first_flaw : (bytes r q : List ℕ) (front back : List Insn) (f g : Flaw) → AllByRecursion FitsInsn front → AllByRecursion FitsInsn back → bytes ≡ text front ++ r → bytes ≡ text back ++ q → IsInsnFlawAt r f → IsInsnFlawAt q g → (f ≡ g) × (slot_total front ≡ slot_total back)
+pub one_first_flaw : (bytes r q : List ℕ) (front back : List Insn) (f g : InsnFlaw) → AllByRecursion FitsInsn front → AllByRecursion FitsInsn back → bytes ≡ text front ++ r → bytes ≡ text back ++ q → IsInsnFlawAt r f → IsInsnFlawAt q g → (f ≡ g) × (slot_total front ≡ slot_total back)
 one_first_flaw bytes r q [] [] f g a b p s h k = (one_flaw q f g (subst (λ (x : List ℕ). IsInsnFlawAt x f) (sym p ∙ s) h) k, refl)
 one_first_flaw bytes r q [] (j ∷ back) f g a b p s h k = absurd (spelled_has_none r (text back ++ q) j f b.0 (sym p ∙ s ∙ append_assoc (spelling j) (text back) q) h)
 one_first_flaw bytes r q (i ∷ front) [] f g a b p s h k = absurd (spelled_has_none q (text front ++ r) i g a.0 (sym s ∙ p ∙ append_assoc (spelling i) (text front) r) k)
@@ -60,7 +60,7 @@ one_first_flaw bytes r q (i ∷ front) (j ∷ back) f g a b p s h k =
     let t = one_first_flaw (text front ++ r) r q front back f g a.1 b.1 refl e.1 h k in
     (t.0, omega (arith, total_cons i front, total_cons j back, t.1, ap slot_count e.0))
 
-fault_is : (f g : Flaw) (s t : ℕ) → f ≡ g → s ≡ t → faults.Insn f s ≡ faults.Insn g t
+fault_is : (f g : InsnFlaw) (s t : ℕ) → f ≡ g → s ≡ t → faults.Insn f s ≡ faults.Insn g t
 fault_is f g s t e d = cc
 
 pub one_fault : (bytes : List ℕ) (f g : DecodeFault) → (f ≡ faults.Memory → ⊥) → (g ≡ faults.Memory → ⊥) → IsDecodeFault bytes f → IsDecodeFault bytes g → f ≡ g
@@ -79,7 +79,7 @@ long_text : (i : Insn) (is : List Insn) (rest : List ℕ) → [] ≡ text (i ∷
 long_text i is rest e = omega (arith, slot_count_some i, total_cons i is, length_text (i ∷ is), length-append (text (i ∷ is)) rest, ap (λ (x : List ℕ). length x) e)
 
 -- no flaw stands in a text
-text_has_none : (is front : List Insn) (rest : List ℕ) (f : Flaw) → AllByRecursion FitsInsn is → AllByRecursion FitsInsn front → text is ≡ text front ++ rest → 0 < length rest → IsInsnFlawAt rest f → ⊥
+text_has_none : (is front : List Insn) (rest : List ℕ) (f : InsnFlaw) → AllByRecursion FitsInsn is → AllByRecursion FitsInsn front → text is ≡ text front ++ rest → 0 < length rest → IsInsnFlawAt rest f → ⊥
 text_has_none [] [] rest f a b p more h = omega (arith, more, ap (λ (x : List ℕ). length x) p)
 text_has_none [] (j ∷ front) rest f a b p more h = long_text j front rest p
 text_has_none (i ∷ is) [] rest f a b p more h = spelled_has_none rest (text is) i f a.0 (sym p) h

@@ -21,11 +21,11 @@ use Rattle.bpf_model.specs.declared.insn.Insn.{Insn}
 use Rattle.bpf_model.specs.Spelling.{slot_at, next_slot_at, FitsInsn, text, slot_total}
 use Rattle.insn_codec.specs.declared.fault.DecodeFault.{DecodeFault}
 use Rattle.insn_codec.specs.declared.fault.DecodeFault.TheVariants as faults
-use Rattle.insn_codec.specs.declared.flaw.Flaw.{Flaw}
-use Rattle.insn_codec.specs.declared.flaw.Flaw.TheVariants.{UnknownOpcode, OutsideProfile}
-use Rattle.insn_codec.specs.declared.flaw.Flaw.TheVariants.{BadRegister, UnsupportedSource}
-use Rattle.insn_codec.specs.declared.flaw.Flaw.TheVariants.{UnusedField, BadOffset, BadWidth}
-use Rattle.insn_codec.specs.declared.flaw.Flaw.TheVariants.{WideCut, WideTail}
+use Rattle.insn_codec.specs.declared.flaw.InsnFlaw.{InsnFlaw}
+use Rattle.insn_codec.specs.declared.flaw.InsnFlaw.TheVariants.{UnknownOpcode, OutsideProfile}
+use Rattle.insn_codec.specs.declared.flaw.InsnFlaw.TheVariants.{BadRegister, UnsupportedSource}
+use Rattle.insn_codec.specs.declared.flaw.InsnFlaw.TheVariants.{UnusedField, BadOffset, BadWidth}
+use Rattle.insn_codec.specs.declared.flaw.InsnFlaw.TheVariants.{WideCut, WideTail}
 
 -- One instruction.
 
@@ -112,13 +112,13 @@ is_tail s t =
     int_eq t.offset (pos 0) &&
     (s.src == 0 || int_eq t.imm (pos 0))
 
-abbrev pub tail_flaw : Opcode → Slot → Option Slot → Option Flaw
+abbrev pub tail_flaw : Opcode → Slot → Option Slot → Option InsnFlaw
 tail_flaw Wide s None = Some WideCut
 tail_flaw Wide s (Some t) = if is_tail s t then None else Some WideTail
 tail_flaw _ _ _ = None
 
 -- the first of the tests that follow that of the opcode, in their order
-abbrev pub flaw_with : Opcode → Slot → Option Slot → Option Flaw
+abbrev pub flaw_with : Opcode → Slot → Option Slot → Option InsnFlaw
 flaw_with o s next =
     if nat_lt 10 s.dst || nat_lt 10 s.src then Some BadRegister else
     if has_unsupported_source o s then Some UnsupportedSource else
@@ -137,22 +137,22 @@ abbrev pub is_excluded : Opcode → Bool
 is_excluded (Excluded excluded) = true
 is_excluded _ = false
 
-abbrev pub first_flaw : Option Opcode → Slot → Option Slot → Option Flaw
+abbrev pub first_flaw : Option Opcode → Slot → Option Slot → Option InsnFlaw
 first_flaw None s next = Some UnknownOpcode
 first_flaw (Some o) s next = if is_excluded o then Some OutsideProfile else flaw_with o s next
 
 -- the first flaw of the instruction that begins with this slot
-abbrev pub IsInsnFlaw : Slot → Option Slot → Flaw → Type 0
+abbrev pub IsInsnFlaw : Slot → Option Slot → InsnFlaw → Type 0
 IsInsnFlaw s next f = (o : Option Opcode) × IsOpcode s.opcode o × (first_flaw o s next ≡ Some f)
 
 -- the first flaw of the instruction at the front of the bytes
-abbrev pub IsInsnFlawAt : List ℕ → Flaw → Type 0
+abbrev pub IsInsnFlawAt : List ℕ → InsnFlaw → Type 0
 IsInsnFlawAt bytes f = IsInsnFlaw (slot_at bytes) (next_slot_at bytes) f
 
 -- The whole input.
 
 -- The bytes are the texts of instructions up to this slot, and there the flaw is the first.
-pub record IsFirstInsnFlaw (bytes : List ℕ) (f : Flaw) (slot : ℕ) : Type 0 where
+pub record IsFirstInsnFlaw (bytes : List ℕ) (f : InsnFlaw) (slot : ℕ) : Type 0 where
   pub front : List Insn
   pub fits : AllByRecursion FitsInsn front
   pub slot_is : slot_total front ≡ slot
@@ -162,10 +162,10 @@ pub record IsFirstInsnFlaw (bytes : List ℕ) (f : Flaw) (slot : ℕ) : Type 0 w
   pub flaw : IsInsnFlawAt rest f
 
 -- the fault of an input whose length is right
-abbrev pub IsInsnFault : List ℕ → DecodeFault → Type 0
-IsInsnFault bytes faults.Memory = Unit {0}
-IsInsnFault bytes (faults.Insn flaw slot) = IsFirstInsnFlaw bytes flaw slot
-IsInsnFault bytes _ = ⊥
+abbrev pub IsInsnDecodeFault : List ℕ → DecodeFault → Type 0
+IsInsnDecodeFault bytes faults.Memory = Unit {0}
+IsInsnDecodeFault bytes (faults.Insn flaw slot) = IsFirstInsnFlaw bytes flaw slot
+IsInsnDecodeFault bytes _ = ⊥
 
 -- what the length alone refuses: a slot has eight bytes
 abbrev pub length_fault : List ℕ → Option DecodeFault
@@ -184,7 +184,7 @@ IsDecodeFault bytes f = length_fault bytes ≡ Some f
 
 -- The numbers by which faults are known (docs/REFUSALS.md).
 
-abbrev pub insn_flaw_number : Flaw → ℕ
+abbrev pub insn_flaw_number : InsnFlaw → ℕ
 insn_flaw_number UnknownOpcode = 4
 insn_flaw_number OutsideProfile = 5
 insn_flaw_number BadRegister = 6

@@ -3,11 +3,11 @@ ghost use Rattle.std.specs.Prelude.{◌≡◌, ℕ, ◌%◌, ◌≤◌, ◌<◌,
 ghost use Rattle.std.specs.List.{AllByRecursion};
 ghost use Rattle.bpf_model.specs.declared.insn.Insn.{Insn};
 ghost use Rattle.bpf_model.specs.Spelling.{FitsInsn, spelling, text, starts_from, IsProgram};
-ghost use Rattle.insn_codec.specs.Faults.{IsInsnFlawAt, IsDecodeFault, IsInsnFault};
+ghost use Rattle.insn_codec.specs.Faults.{IsInsnFlawAt, IsDecodeFault, IsInsnDecodeFault};
 ghost use Rattle.insn_codec.specs.declared.fault.DecodeFault.TheVariants.{Memory};
 
 use crate::fault::DecodeFault;
-use crate::flaw::Flaw;
+use crate::flaw::InsnFlaw;
 use crate::program::Program;
 use crate::reading::decode_slot;
 use crate::slots::{next_slot_from, slot_from};
@@ -15,7 +15,7 @@ use bpf_model::{Insn, MAX_SLOTS};
 use std::alloc::Global;
 
 /// The instruction at the front of the bytes, and the bytes behind it.
-fn decode_first(bytes: &[u8]) -> Result<(Insn, &[u8]), Flaw>
+fn decode_first(bytes: &[u8]) -> Result<(Insn, &[u8]), InsnFlaw>
     requires { 8 ≤ length bytes.now }
     ensures found { IfOk result (λ x. bytes.now ≡ spelling x.0 ++ x.1.now) }
     ensures fits { IfOk result (λ x. FitsInsn x.0) }
@@ -35,7 +35,7 @@ fn decode_all(alloc: Global, bytes: &[u8]) -> Result<(Vec<Insn>, Vec<usize>), De
     ensures starts { IfOk result (λ x. x.1.items ≡ starts_from 0 x.0.items) }
     ensures only { (is : List Insn) → AllByRecursion FitsInsn is → bytes.now ≡ text is →
         MatchResult result (λ x. x.0.items ≡ is) (λ e. e ≡ Memory) }
-    ensures flaw { IfErr result (IsInsnFault bytes.now) }
+    ensures flaw { IfErr result (IsInsnDecodeFault bytes.now) }
 {
     let mut instructions = Vec::with_capacity(alloc, bytes.len() / 8)?;
     let mut starts = Vec::with_capacity(alloc, bytes.len() / 8)?;
@@ -58,7 +58,7 @@ fn decode_all(alloc: Global, bytes: &[u8]) -> Result<(Vec<Insn>, Vec<usize>), De
 ///
 /// The length is tested first: `Length`, `Empty`, `TooLong`. Then instruction after instruction is read, and
 /// `Insn` tells the first that is flawed, with the slot where it begins and its first flaw in the order of
-/// `Flaw`. `Memory` is told where an allocation failed.
+/// `InsnFlaw`. `Memory` is told where an allocation failed.
 pub fn decode(alloc: Global, bytes: &[u8]) -> Result<Program, DecodeFault>
     // The bytes spell the program that is read.
     ensures found { IfOk result (λ p. bytes.now ≡ text p) }

@@ -4,7 +4,7 @@ ghost use Rattle.std.specs.Prelude.{◌≡◌};
 ghost use Rattle.insn_codec.specs.Faults.{decode_fault_number, decode_fault_slot};
 ghost use Rattle.insn_codec.specs.declared.fault.DecodeFault.TheVariants.{Memory};
 
-use crate::flaw::Flaw;
+use crate::flaw::InsnFlaw;
 use std::alloc::{AllocError, AllocFailed};
 use thiserror::Error;
 
@@ -22,7 +22,7 @@ pub enum DecodeFault {
     TooLong,
     /// An instruction is flawed; the slot is the one where it begins.
     #[error("{flaw} at slot {slot}")]
-    Insn { flaw: Flaw, slot: usize },
+    Insn { flaw: InsnFlaw, slot: usize },
     /// An allocation failed.
     #[error("out of memory")]
     Memory,

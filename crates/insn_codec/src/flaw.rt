@@ -7,7 +7,7 @@ use thiserror::Error;
 
 /// The first test that an instruction's bytes fail, in the order of the tests.
 #[derive(Clone, Copy, Debug, PartialEq, Eq, Error)]
-pub enum Flaw {
+pub enum InsnFlaw {
     /// The opcode byte stands for nothing.
     #[error("unknown opcode")]
     UnknownOpcode,
@@ -37,21 +37,21 @@ pub enum Flaw {
     WideTail,
 }
 
-impl Flaw {
+impl InsnFlaw {
     /// The number by which the flaw is known, 4 to 12.
     pub fn code(self) -> u8
         ensures { result ≡ insn_flaw_number self }
     {
         match self {
-            Flaw::UnknownOpcode => 4,
-            Flaw::OutsideProfile => 5,
-            Flaw::BadRegister => 6,
-            Flaw::UnsupportedSource => 7,
-            Flaw::UnusedField => 8,
-            Flaw::BadOffset => 9,
-            Flaw::BadWidth => 10,
-            Flaw::WideCut => 11,
-            Flaw::WideTail => 12,
+            InsnFlaw::UnknownOpcode => 4,
+            InsnFlaw::OutsideProfile => 5,
+            InsnFlaw::BadRegister => 6,
+            InsnFlaw::UnsupportedSource => 7,
+            InsnFlaw::UnusedField => 8,
+            InsnFlaw::BadOffset => 9,
+            InsnFlaw::BadWidth => 10,
+            InsnFlaw::WideCut => 11,
+            InsnFlaw::WideTail => 12,
         }
     }
 }

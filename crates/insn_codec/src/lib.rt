@@ -23,7 +23,7 @@ pub use bpf_model::{
 pub use decoding::decode;
 pub use encoding::{encode, extension_parts};
 pub use fault::DecodeFault;
-pub use flaw::Flaw;
+pub use flaw::InsnFlaw;
 pub use law::{decode_undoes_encode, encode_undoes_decode, no_fault, one_fault, one_program};
 pub use program::Program;
 pub use reading::extension_of;

@@ -8,7 +8,7 @@ ghost use Rattle.bpf_model.specs.Opcode.{opcode_byte};
 ghost use Rattle.insn_codec.specs.Begins.{BeginsWith};
 ghost use Rattle.insn_codec.specs.Faults.{IsInsnFlaw, flaw_with, has_bad_offset, has_bad_width, tail_flaw, has_unused, used_fields, has_unsupported_source as unsupported_source, is_excluded as is_excluded_opcode};
 
-use crate::flaw::Flaw;
+use crate::flaw::InsnFlaw;
 use crate::opcode::opcode_from;
 use bpf_model::{
     AluCode, AluOp, ByteOrder, CallKind, Insn, Opcode, Operand, Reg, SignExtension, Size, Slot,
@@ -151,7 +151,7 @@ fn alu(
     slot: Slot,
     dst: Reg,
     src: Reg,
-) -> Result<Insn, Flaw>
+) -> Result<Insn, InsnFlaw>
     requires fields { FitsSlot slot }
     requires opcode { opcode_byte (Opcode.Alu code size source) ≡ slot.opcode }
     requires dst { (dst ≡ slot.dst) × (dst ≤ 10) }
@@ -161,7 +161,7 @@ fn alu(
     ensures one { IfOk result (λ i. slots_of i ≡ first_slot i ∷ []) }
     ensures fits { IfOk result FitsInsn }
     ensures kind { IfOk result (λ i. opcode_of i ≡ Opcode.Alu code size source) }
-    ensures flaw { IfErr result (λ f. f ≡ Flaw.BadOffset) }
+    ensures flaw { IfErr result (λ f. f ≡ InsnFlaw.BadOffset) }
     ensures bad { OnErr result (has_bad_offset (Opcode.Alu code size source) slot ≡ true) }
 {
     if let Some(op) = op_of(code, slot.offset) {
@@ -178,10 +178,10 @@ fn alu(
             return Ok(Insn::Unary { op, dst });
         }
     }
-    Err(Flaw::BadOffset)
+    Err(InsnFlaw::BadOffset)
 }
 
-fn wide(slot: Slot, next: Option<Slot>, dst: Reg) -> Result<Insn, Flaw>
+fn wide(slot: Slot, next: Option<Slot>, dst: Reg) -> Result<Insn, InsnFlaw>
     requires slot { FitsSlot slot }
     requires next { IfSome next FitsSlot }
     requires opcode { opcode_byte Opcode.Wide ≡ slot.opcode }
@@ -194,23 +194,23 @@ fn wide(slot: Slot, next: Option<Slot>, dst: Reg) -> Result<Insn, Flaw>
     ensures flaw { IfErr result (λ f. tail_flaw Opcode.Wide slot next ≡ Some f) }
 {
     let Some(tail) = next else {
-        return Err(Flaw::WideCut);
+        return Err(InsnFlaw::WideCut);
     };
     if tail.opcode != 0 || tail.dst != 0 || tail.src != 0 || tail.offset != 0 {
-        return Err(Flaw::WideTail);
+        return Err(InsnFlaw::WideTail);
     }
     if slot.src == 0 {
         let number = joined(slot.imm, tail.imm);
         return Ok(Insn::LoadNumber { dst, number });
     }
     if tail.imm != 0 {
-        return Err(Flaw::WideTail);
+        return Err(InsnFlaw::WideTail);
     }
     Ok(Insn::LoadMap { dst, map: slot.imm })
 }
 
 /// A swap of bytes, whose width stands in `imm`.
-fn byte_swap(order: ByteOrder, slot: Slot, dst: Reg) -> Result<Insn, Flaw>
+fn byte_swap(order: ByteOrder, slot: Slot, dst: Reg) -> Result<Insn, InsnFlaw>
     requires fields { FitsSlot slot }
     requires opcode { opcode_byte (Opcode.ByteSwap order) ≡ slot.opcode }
     requires dst { (dst ≡ slot.dst) × (dst ≤ 10) }
@@ -219,11 +219,11 @@ fn byte_swap(order: ByteOrder, slot: Slot, dst: Reg) -> Result<Insn, Flaw>
     ensures one { IfOk result (λ i. slots_of i ≡ first_slot i ∷ []) }
     ensures fits { IfOk result FitsInsn }
     ensures kind { IfOk result (λ i. opcode_of i ≡ Opcode.ByteSwap order) }
-    ensures flaw { IfErr result (λ f. f ≡ Flaw.BadWidth) }
+    ensures flaw { IfErr result (λ f. f ≡ InsnFlaw.BadWidth) }
     ensures bad { OnErr result (has_bad_width (Opcode.ByteSwap order) slot ≡ true) }
 {
     let Some(width) = swap_width_of(slot.imm) else {
-        return Err(Flaw::BadWidth);
+        return Err(InsnFlaw::BadWidth);
     };
     let op = UnaryOp::ByteSwap { order, width };
     Ok(Insn::Unary { op, dst })
@@ -237,7 +237,7 @@ fn insn_with(
     next: Option<Slot>,
     dst: Reg,
     src: Reg,
-) -> Result<Insn, Flaw>
+) -> Result<Insn, InsnFlaw>
     requires slot { FitsSlot slot }
     requires next { IfSome next FitsSlot }
     requires opcode { opcode_byte opcode ≡ slot.opcode }
@@ -297,7 +297,7 @@ fn insn_with(
 }
 
 /// The instruction with this opcode that begins with this slot, or its first flaw.
-fn decode_with(opcode: Opcode, slot: Slot, next: Option<Slot>) -> Result<Insn, Flaw>
+fn decode_with(opcode: Opcode, slot: Slot, next: Option<Slot>) -> Result<Insn, InsnFlaw>
     requires slot { FitsSlot slot }
     requires next { IfSome next FitsSlot }
     requires opcode { opcode_byte opcode ≡ slot.opcode }
@@ -308,22 +308,22 @@ fn decode_with(opcode: Opcode, slot: Slot, next: Option<Slot>) -> Result<Insn, F
     ensures flaw { IfErr result (λ f. flaw_with opcode slot next ≡ Some f) }
 {
     let Some(dst) = Reg::new(slot.dst) else {
-        return Err(Flaw::BadRegister);
+        return Err(InsnFlaw::BadRegister);
     };
     let Some(src) = Reg::new(slot.src) else {
-        return Err(Flaw::BadRegister);
+        return Err(InsnFlaw::BadRegister);
     };
     if has_unsupported_source(opcode, slot) {
-        return Err(Flaw::UnsupportedSource);
+        return Err(InsnFlaw::UnsupportedSource);
     }
     if has_unused_field(opcode, slot) {
-        return Err(Flaw::UnusedField);
+        return Err(InsnFlaw::UnusedField);
     }
     insn_with(opcode, slot, next, dst, src)
 }
 
 /// The instruction that begins with this slot, or its first flaw.
-pub fn decode_slot(slot: Slot, next: Option<Slot>) -> Result<Insn, Flaw>
+pub fn decode_slot(slot: Slot, next: Option<Slot>) -> Result<Insn, InsnFlaw>
     requires slot { FitsSlot slot }
     requires next { IfSome next FitsSlot }
     // The slots begin with the instruction that is found.
@@ -334,10 +334,10 @@ pub fn decode_slot(slot: Slot, next: Option<Slot>) -> Result<Insn, Flaw>
     ensures flaw { IfErr result (IsInsnFlaw slot next) }
 {
     let Some(opcode) = opcode_from(slot.opcode) else {
-        return Err(Flaw::UnknownOpcode);
+        return Err(InsnFlaw::UnknownOpcode);
     };
     if is_excluded(opcode) {
-        return Err(Flaw::OutsideProfile);
+        return Err(InsnFlaw::OutsideProfile);
     }
     decode_with(opcode, slot, next)
 }

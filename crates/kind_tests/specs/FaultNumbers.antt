@@ -1,17 +1,17 @@
 -- The numbers by which faults are known.
 use Rattle.std.specs.Prelude.{ℕ}
-use Rattle.kind_tests.specs.declared.fault.Fault.{Fault}
-use Rattle.kind_tests.specs.declared.fault.Fault.TheVariants.{UnwrittenRegister}
-use Rattle.kind_tests.specs.declared.fault.Fault.TheVariants.{FramePointerWritten}
-use Rattle.kind_tests.specs.declared.fault.Fault.TheVariants.{PointerArithmetic, NotAPointer}
-use Rattle.kind_tests.specs.declared.fault.Fault.TheVariants.{OutOfBounds, Misaligned}
-use Rattle.kind_tests.specs.declared.fault.Fault.TheVariants.{UnwrittenFrame, PointerLeak}
-use Rattle.kind_tests.specs.declared.fault.Fault.TheVariants.{MixedRegions, MaybeNull}
-use Rattle.kind_tests.specs.declared.fault.Fault.TheVariants.{OutsideSection, UnpairedSection}
-use Rattle.kind_tests.specs.declared.fault.Fault.TheVariants.{UnknownCall, WrongArgument, NoSuchMap}
-use Rattle.kind_tests.specs.declared.fault.Fault.TheVariants.{ContextWrite, Memory}
+use Rattle.kind_tests.specs.declared.fault.InsnFault.{InsnFault}
+use Rattle.kind_tests.specs.declared.fault.InsnFault.TheVariants.{UnwrittenRegister}
+use Rattle.kind_tests.specs.declared.fault.InsnFault.TheVariants.{FramePointerWritten}
+use Rattle.kind_tests.specs.declared.fault.InsnFault.TheVariants.{PointerArithmetic, NotAPointer}
+use Rattle.kind_tests.specs.declared.fault.InsnFault.TheVariants.{OutOfBounds, Misaligned}
+use Rattle.kind_tests.specs.declared.fault.InsnFault.TheVariants.{UnwrittenFrame, PointerLeak}
+use Rattle.kind_tests.specs.declared.fault.InsnFault.TheVariants.{MixedRegions, MaybeNull}
+use Rattle.kind_tests.specs.declared.fault.InsnFault.TheVariants.{OutsideSection, UnpairedSection}
+use Rattle.kind_tests.specs.declared.fault.InsnFault.TheVariants.{UnknownCall, WrongArgument, NoSuchMap}
+use Rattle.kind_tests.specs.declared.fault.InsnFault.TheVariants.{ContextWrite, Memory}
 
-abbrev pub insn_fault_number : Fault → ℕ
+abbrev pub insn_fault_number : InsnFault → ℕ
 insn_fault_number UnwrittenRegister = 23
 insn_fault_number FramePointerWritten = 24
 insn_fault_number PointerArithmetic = 25

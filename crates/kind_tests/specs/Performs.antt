@@ -9,7 +9,7 @@ use Rattle.typed_runs.specs.Planned.{AreAlike}
 use Rattle.typed_runs.specs.Verified.{Transfers}
 use Rattle.register_kinds.specs.declared.state.AbsState.{AbsState}
 use Rattle.register_kinds.specs.States.{state_of}
-use Rattle.kind_tests.specs.declared.fault.Fault.{Fault}
+use Rattle.kind_tests.specs.declared.fault.InsnFault.{InsnFault}
 
 -- From each run that the old state describes the instruction has a step, and each leads to one that
 -- the new state describes.
@@ -18,7 +18,7 @@ Performs insn ctx_len shapes old new =
     Transfers insn shapes ctx_len (state_of old) (state_of new) None
 
 -- The instruction is not refused, and the register becomes a number.
-pub record SetsNumber {A : Type 0} (r : Result A Fault) (dst : ℕ) (a b : Known) : Type 0 where
+pub record SetsNumber {A : Type 0} (r : Result A InsnFault) (dst : ℕ) (a b : Known) : Type 0 where
   pub fine : IsOk r
   pub number : Scalar
   pub alike : AreAlike (with_kind dst (Num number) a) b

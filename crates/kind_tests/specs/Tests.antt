@@ -7,13 +7,13 @@ use Rattle.register_kinds.specs.declared.kind.RegKind.TheVariants.{Frame}
 use Rattle.register_kinds.specs.declared.kind.CellKind.{CellKind}
 use Rattle.register_kinds.specs.declared.kind.CellKind.TheVariants as class
 use Rattle.register_kinds.specs.States.{class_in}
-use Rattle.kind_tests.specs.declared.fault.Fault.{Fault}
-use Rattle.kind_tests.specs.declared.fault.Fault.TheVariants.{UnwrittenRegister, OutsideSection}
-use Rattle.kind_tests.specs.declared.fault.Fault.TheVariants.{MixedRegions, WrongArgument}
-use Rattle.kind_tests.specs.declared.fault.Fault.TheVariants.{UnwrittenFrame, PointerLeak}
+use Rattle.kind_tests.specs.declared.fault.InsnFault.{InsnFault}
+use Rattle.kind_tests.specs.declared.fault.InsnFault.TheVariants.{UnwrittenRegister, OutsideSection}
+use Rattle.kind_tests.specs.declared.fault.InsnFault.TheVariants.{MixedRegions, WrongArgument}
+use Rattle.kind_tests.specs.declared.fault.InsnFault.TheVariants.{UnwrittenFrame, PointerLeak}
 
 -- What a register that is read holds, or why it may not be read.
-abbrev pub held_kind : RegKind → Result RegKind Fault
+abbrev pub held_kind : RegKind → Result RegKind InsnFault
 held_kind Unwritten = Err UnwrittenRegister
 held_kind Ended = Err OutsideSection
 held_kind Mixed = Err MixedRegions
@@ -41,7 +41,7 @@ AreWritten cells at width =
     × HasNoCell cells at width class.Mixed
 
 -- Why the bytes of an access may not be read: the first test that fails.
-abbrev pub IsCellFault : List CellKind → ℕ → ℕ → Fault → Type 0
+abbrev pub IsCellFault : List CellKind → ℕ → ℕ → InsnFault → Type 0
 IsCellFault cells at width UnwrittenFrame = HasCell cells at width class.Unwritten
 IsCellFault cells at width OutsideSection =
     HasNoCell cells at width class.Unwritten × HasCell cells at width class.Ended
@@ -51,13 +51,13 @@ IsCellFault cells at width MixedRegions =
 IsCellFault cells at width e = ⊥
 
 -- Why the bytes of an access are no bytes of numbers: the first test that fails.
-abbrev pub IsBytesFault : List CellKind → ℕ → ℕ → Fault → Type 0
+abbrev pub IsBytesFault : List CellKind → ℕ → ℕ → InsnFault → Type 0
 IsBytesFault cells at width PointerLeak =
     AreWritten cells at width × HasCell cells at width class.Part
 IsBytesFault cells at width e = IsCellFault cells at width e
 
 -- The offset in the frame that a call is given, or why it is given none.
-abbrev pub frame_of : RegKind → Result ℤ Fault
+abbrev pub frame_of : RegKind → Result ℤ InsnFault
 frame_of Unwritten = Err UnwrittenRegister
 frame_of Ended = Err OutsideSection
 frame_of Mixed = Err MixedRegions
@@ -65,7 +65,7 @@ frame_of (Frame o) = Ok o
 frame_of kind = Err WrongArgument
 
 -- The numbers that a call may be given, or why it is given none.
-abbrev pub numbers_of : RegKind → Result Scalar Fault
+abbrev pub numbers_of : RegKind → Result Scalar InsnFault
 numbers_of Unwritten = Err UnwrittenRegister
 numbers_of Ended = Err OutsideSection
 numbers_of Mixed = Err MixedRegions

@@ -6,7 +6,7 @@ use thiserror::Error;
 
 /// Why an instruction is refused in a state.
 #[derive(Clone, Copy, Debug, PartialEq, Eq, Error)]
-pub enum Fault {
+pub enum InsnFault {
     #[error("a register is read that is not written on every path")]
     UnwrittenRegister,
     #[error("the frame pointer is written")]
@@ -43,7 +43,7 @@ pub enum Fault {
     Memory,
 }
 
-impl Fault {
+impl InsnFault {
     ghost use Rattle.kind_tests.specs.FaultNumbers.{insn_fault_number};
 
     /// The number by which the fault is known, 23 to 37 or 39, or 13 for want of memory.
@@ -51,43 +51,43 @@ impl Fault {
         ensures { result ≡ insn_fault_number self }
     {
         match self {
-            Fault::UnwrittenRegister => 23,
-            Fault::FramePointerWritten => 24,
-            Fault::PointerArithmetic => 25,
-            Fault::NotAPointer => 26,
-            Fault::OutOfBounds => 27,
-            Fault::Misaligned => 28,
-            Fault::UnwrittenFrame => 29,
-            Fault::PointerLeak => 30,
-            Fault::MixedRegions => 31,
-            Fault::MaybeNull => 32,
-            Fault::OutsideSection => 33,
-            Fault::UnpairedSection => 34,
-            Fault::UnknownCall => 35,
-            Fault::WrongArgument => 36,
-            Fault::NoSuchMap => 37,
-            Fault::ContextWrite => 39,
-            Fault::Memory => 13,
+            InsnFault::UnwrittenRegister => 23,
+            InsnFault::FramePointerWritten => 24,
+            InsnFault::PointerArithmetic => 25,
+            InsnFault::NotAPointer => 26,
+            InsnFault::OutOfBounds => 27,
+            InsnFault::Misaligned => 28,
+            InsnFault::UnwrittenFrame => 29,
+            InsnFault::PointerLeak => 30,
+            InsnFault::MixedRegions => 31,
+            InsnFault::MaybeNull => 32,
+            InsnFault::OutsideSection => 33,
+            InsnFault::UnpairedSection => 34,
+            InsnFault::UnknownCall => 35,
+            InsnFault::WrongArgument => 36,
+            InsnFault::NoSuchMap => 37,
+            InsnFault::ContextWrite => 39,
+            InsnFault::Memory => 13,
         }
     }
 }
 
-impl From<AllocError> for Fault {
-    ghost use Rattle.kind_tests.specs.declared.fault.Fault.TheVariants.{Memory};
+impl From<AllocError> for InsnFault {
+    ghost use Rattle.kind_tests.specs.declared.fault.InsnFault.TheVariants.{Memory};
 
     ghost from_gives = { λ _ e. e ≡ Memory };
 
-    fn from(_: AllocError) -> Fault {
-        Fault::Memory
+    fn from(_: AllocError) -> InsnFault {
+        InsnFault::Memory
     }
 }
 
-impl<T: Drop> From<AllocFailed<T>> for Fault {
-    ghost use Rattle.kind_tests.specs.declared.fault.Fault.TheVariants.{Memory};
+impl<T: Drop> From<AllocFailed<T>> for InsnFault {
+    ghost use Rattle.kind_tests.specs.declared.fault.InsnFault.TheVariants.{Memory};
 
     ghost from_gives = { λ _ e. e ≡ Memory };
 
-    fn from(_: AllocFailed<T>) -> Fault {
-        Fault::Memory
+    fn from(_: AllocFailed<T>) -> InsnFault {
+        InsnFault::Memory
     }
 }

@@ -4,7 +4,7 @@ ghost use Rattle.bpf_model.specs.declared.limits.TheConstants.{FRAME_BYTES};
 ghost use Rattle.register_kinds.specs.States.{kind_in, is_pointer};
 ghost use Rattle.kind_tests.specs.Tests.{HasCell, HasNoCell, AreAll, AreWritten, IsCellFault, IsBytesFault};
 
-use crate::fault::Fault;
+use crate::fault::InsnFault;
 use bpf_model::FRAME_BYTES;
 use register_kinds::{CellKind, FrameCells, RegKind};
 
@@ -32,20 +32,20 @@ fn has(cells: &[CellKind], at: usize, width: usize, class: CellKind) -> bool
 }
 
 /// Each byte of an access is a byte of a number or part of a reference.
-fn check_written(cells: &[CellKind], at: usize, width: usize) -> Result<(), Fault>
+fn check_written(cells: &[CellKind], at: usize, width: usize) -> Result<(), InsnFault>
     requires { at + width ≤ length cells.now }
     ensures written { OnOk result (AreWritten cells.now at width) }
     ensures accepts { AreAll cells.now at width CellKind.Byte → IsOk result }
     ensures refuses { IfErr result (IsCellFault cells.now at width) }
 {
     if has(cells, at, width, CellKind::Unwritten) {
-        return Err(Fault::UnwrittenFrame);
+        return Err(InsnFault::UnwrittenFrame);
     }
     if has(cells, at, width, CellKind::Ended) {
-        return Err(Fault::OutsideSection);
+        return Err(InsnFault::OutsideSection);
     }
     if has(cells, at, width, CellKind::Mixed) {
-        return Err(Fault::MixedRegions);
+        return Err(InsnFault::MixedRegions);
     }
     Ok(())
 }
@@ -53,7 +53,7 @@ fn check_written(cells: &[CellKind], at: usize, width: usize) -> Result<(), Faul
 /// Each byte of an access is a byte of a number. Errors, in this order: `UnwrittenFrame`,
 /// `OutsideSection`, `MixedRegions` where some byte is so, `PointerLeak` where one is part of a
 /// reference.
-pub fn check_bytes(frame: &FrameCells, at: usize, width: usize) -> Result<(), Fault>
+pub fn check_bytes(frame: &FrameCells, at: usize, width: usize) -> Result<(), InsnFault>
     requires { at + width ≤ FRAME_BYTES }
     ensures bytes { OnOk result (AreAll frame.now.cells at width CellKind.Byte) }
     ensures accepts { AreAll frame.now.cells at width CellKind.Byte → IsOk result }
@@ -61,7 +61,7 @@ pub fn check_bytes(frame: &FrameCells, at: usize, width: usize) -> Result<(), Fa
 {
     check_written(&frame.cells, at, width)?;
     if has(&frame.cells, at, width, CellKind::Part) {
-        return Err(Fault::PointerLeak);
+        return Err(InsnFault::PointerLeak);
     }
     Ok(())
 }
@@ -69,7 +69,7 @@ pub fn check_bytes(frame: &FrameCells, at: usize, width: usize) -> Result<(), Fa
 /// What a load of so many bytes gives: a number, or the reference whose eight parts are read.
 /// Errors, in this order: `UnwrittenFrame`, `OutsideSection`, `MixedRegions` where some byte is so,
 /// `PointerLeak` where one is part of a reference that is not read whole.
-pub fn read_frame(frame: &FrameCells, at: usize, width: usize) -> Result<Content, Fault>
+pub fn read_frame(frame: &FrameCells, at: usize, width: usize) -> Result<Content, InsnFault>
     requires { at + width ≤ FRAME_BYTES }
     ensures number { IfOk result (λ c. c ≡ Content.Number
         → AreAll frame.now.cells at width CellKind.Byte) }
@@ -83,11 +83,11 @@ pub fn read_frame(frame: &FrameCells, at: usize, width: usize) -> Result<Content
         return Ok(Content::Number);
     }
     if width != 8 || has(&frame.cells, at, width, CellKind::Byte) {
-        return Err(Fault::PointerLeak);
+        return Err(InsnFault::PointerLeak);
     }
     let kind = frame.spills[at / 8];
     if !kind.is_pointer() {
-        return Err(Fault::PointerLeak);
+        return Err(InsnFault::PointerLeak);
     }
     Ok(Content::Pointer(kind))
 }

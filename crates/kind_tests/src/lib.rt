@@ -5,6 +5,6 @@ mod fault;
 mod frame;
 mod registers;
 
-pub use fault::Fault;
+pub use fault::InsnFault;
 pub use frame::{Content, check_bytes, read_frame};
 pub use registers::{check_writable, frame_argument, held, map_argument, number_argument};

@@ -9,7 +9,7 @@ use Rattle.typed_runs.specs.Kinds.{Kind, Num, CtxAt, FrameAt, ValueAt, ByteCell,
 use Rattle.typed_runs.specs.Kinds.{AbsState as Known}
 use Rattle.typed_runs.specs.Effects.{IsAlwaysInside, IsPointer, with_cells}
 use Rattle.typed_runs.specs.Planned.{AreAlike}
-use Rattle.kind_tests.specs.declared.fault.Fault.{Fault}
+use Rattle.kind_tests.specs.declared.fault.InsnFault.{InsnFault}
 use Rattle.register_kinds.specs.declared.state.AbsState.{AbsState}
 use Rattle.register_kinds.specs.declared.kind.RegKind.TheVariants as kinds
 use Rattle.register_kinds.specs.States.{kind_of, kind_in}
@@ -97,7 +97,8 @@ read_kind (reads.FramePointer kind) numbers = kind_of kind
 read_kind other numbers = Num numbers
 
 -- The store is not refused, and so many bytes of the frame become bytes of a number.
-pub record StoresBytes {A : Type 0} (r : Result A Fault) (at width : ℕ) (a b : Known) : Type 0 where
+pub record StoresBytes {A : Type 0} (r : Result A InsnFault) (at width : ℕ) (a b : Known)
+    : Type 0 where
   pub fine : IsOk r
   pub alike : AreAlike (with_cells at width ByteCell a) b
 

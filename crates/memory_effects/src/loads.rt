@@ -11,7 +11,7 @@ use crate::environment::EnvironmentShape;
 use crate::reads::read;
 use crate::region::{Address, Region};
 use bpf_model::{Insn, Reg, SignedWidth, Width};
-use kind_tests::{Fault, check_writable};
+use kind_tests::{InsnFault, check_writable};
 use register_kinds::AbsState;
 use scalar_domain::Scalar;
 
@@ -33,7 +33,7 @@ pub fn load(
     dst: Reg,
     from: Address,
     shape: &EnvironmentShape,
-) -> Result<Region, Fault>
+) -> Result<Region, InsnFault>
     ensures sound { OnOk result (Performs
         (Insn.Load width dst from.base from.offset) shape.now.ctx_len
         shape.now.shapes.now state.old state.new) }
@@ -64,7 +64,7 @@ pub fn load_signed(
     dst: Reg,
     from: Address,
     shape: &EnvironmentShape,
-) -> Result<Region, Fault>
+) -> Result<Region, InsnFault>
     ensures sound { OnOk result (Performs
         (Insn.LoadSigned width dst from.base from.offset) shape.now.ctx_len
         shape.now.shapes.now state.old state.new) }

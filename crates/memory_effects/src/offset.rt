@@ -6,7 +6,7 @@ ghost use Rattle.typed_runs.specs.Effects.{IsAlwaysInside};
 ghost use Rattle.memory_effects.specs.Accesses.{IsStart};
 
 use bpf_model::Width;
-use kind_tests::Fault;
+use kind_tests::InsnFault;
 use register_kinds::ORIGIN;
 use scalar_domain::Scalar;
 
@@ -22,7 +22,7 @@ fn shifted_up(offset: i16) -> u64
 }
 
 /// Each access begins at or after the region's start, and ends at or before its end.
-fn check_bounds(offsets: Scalar, by: u64, bytes: usize, len: usize) -> Result<(), Fault>
+fn check_bounds(offsets: Scalar, by: u64, bytes: usize, len: usize) -> Result<(), InsnFault>
     requires by { by < 2 ^ 16 }
     requires bytes { bytes ≤ 8 }
     ensures start { OnOk result ((n : ℕ) → Holds offsets n → 2 ^ 29 + 2 ^ 15 ≤ n + by) }
@@ -31,11 +31,11 @@ fn check_bounds(offsets: Scalar, by: u64, bytes: usize, len: usize) -> Result<()
     ensures accepts { IsStart offsets → 2 ^ 15 ≤ by → by + bytes ≤ len + 2 ^ 15 → IsOk result }
 {
     if offsets.greatest > 2 * ORIGIN || offsets.least + by < ORIGIN + SHIFT {
-        return Err(Fault::OutOfBounds);
+        return Err(InsnFault::OutOfBounds);
     }
     let end = offsets.greatest + by + bytes as u64;
     if end < ORIGIN + SHIFT || end - (ORIGIN + SHIFT) > len as u64 {
-        return Err(Fault::OutOfBounds);
+        return Err(InsnFault::OutOfBounds);
     }
     Ok(())
 }
@@ -57,7 +57,7 @@ fn remainder(offsets: Scalar, width: Width) -> Option<u64>
 }
 
 /// Each access begins at a multiple of its width.
-fn check_aligned(offsets: Scalar, by: u64, width: Width) -> Result<(), Fault>
+fn check_aligned(offsets: Scalar, by: u64, width: Width) -> Result<(), InsnFault>
     requires { by < 2 ^ 16 }
     ensures aligned { OnOk result ((n : ℕ) → Holds offsets n → (n + by) % byte_count width ≡ 0) }
     ensures accepts { IsStart offsets → by % byte_count width ≡ 0 → IsOk result }
@@ -68,10 +68,10 @@ fn check_aligned(offsets: Scalar, by: u64, width: Width) -> Result<(), Fault>
             if (rest % bytes + by) % bytes == 0 {
                 Ok(())
             } else {
-                Err(Fault::Misaligned)
+                Err(InsnFault::Misaligned)
             }
         }
-        None => Err(Fault::Misaligned),
+        None => Err(InsnFault::Misaligned),
     }
 }
 
@@ -82,7 +82,7 @@ pub(crate) fn check_within(
     width: Width,
     offset: i16,
     len: usize,
-) -> Result<(), Fault>
+) -> Result<(), InsnFault>
     ensures inside { OnOk result (IsAlwaysInside offsets (byte_count width) offset len) }
     ensures accepts { (at : ℕ) → IsStart offsets
         → region_offset len (byte_count width) offset ≡ Some at → IsOk result }
@@ -106,7 +106,7 @@ fn first_byte(base: i32, offset: i16) -> Option<usize>
 }
 
 /// Where an access begins, again, if all of it lies inside a region of this length, and aligned.
-fn inside(len: usize, width: Width, first: usize) -> Result<usize, Fault>
+fn inside(len: usize, width: Width, first: usize) -> Result<usize, InsnFault>
     ensures value { IfOk result (λ n. region_offset len (byte_count width) (pos first) ≡ Some n) }
     ensures inside { IfOk result (λ n. n + byte_count width ≤ len) }
     ensures aligned { IfOk result (λ n. n % byte_count width ≡ 0) }
@@ -115,17 +115,22 @@ fn inside(len: usize, width: Width, first: usize) -> Result<usize, Fault>
 {
     let bytes = width.bytes();
     if first > len || len - first < bytes {
-        return Err(Fault::OutOfBounds);
+        return Err(InsnFault::OutOfBounds);
     }
     if first % bytes != 0 {
-        return Err(Fault::Misaligned);
+        return Err(InsnFault::Misaligned);
     }
     Ok(first)
 }
 
 /// Where an access through a base at this offset begins in a region of this length, if all of it
 /// lies inside, and aligned.
-pub(crate) fn offset_in(len: usize, width: Width, base: i32, offset: i16) -> Result<usize, Fault>
+pub(crate) fn offset_in(
+    len: usize,
+    width: Width,
+    base: i32,
+    offset: i16,
+) -> Result<usize, InsnFault>
     ensures value { IfOk result (λ n. region_offset len (byte_count width) (base +ℤ offset)
         ≡ Some n) }
     ensures inside { IfOk result (λ n. n + byte_count width ≤ len) }
@@ -135,6 +140,6 @@ pub(crate) fn offset_in(len: usize, width: Width, base: i32, offset: i16) -> Res
 {
     match first_byte(base, offset) {
         Some(first) => inside(len, width, first),
-        None => Err(Fault::OutOfBounds),
+        None => Err(InsnFault::OutOfBounds),
     }
 }

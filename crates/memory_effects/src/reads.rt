@@ -11,7 +11,7 @@ use crate::environment::EnvironmentShape;
 use crate::offset::{check_within, offset_in};
 use crate::region::{Address, Region};
 use bpf_model::{FRAME_BYTES, MapShape, Width};
-use kind_tests::{Content, Fault, held, read_frame};
+use kind_tests::{Content, InsnFault, held, read_frame};
 use register_kinds::{AbsState, RegKind};
 use scalar_domain::Scalar;
 
@@ -34,7 +34,7 @@ fn read_from_frame(
     width: Width,
     from: Address,
     start: i32,
-) -> Result<Reads, Fault>
+) -> Result<Reads, InsnFault>
     requires { kind_in state.now.regs from.base ≡ RegKind.Frame start }
     ensures reads { IfOk result (λ x. (ctx_len : ℕ) (shapes : List MapShape)
         → IsReadByLoad x (state_of state.now) (byte_count width) from ctx_len shapes) }
@@ -57,7 +57,7 @@ pub(crate) fn check_value(
     offset: i16,
     map: u32,
     shapes: &[MapShape],
-) -> Result<MapShape, Fault>
+) -> Result<MapShape, InsnFault>
     ensures shape { IfOk result (λ shape. slice_get shapes.now map ≡ Some shape) }
     ensures inside { IfOk result (λ shape.
         IsAlwaysInside offsets (byte_count width) offset shape.value_len) }
@@ -70,7 +70,7 @@ pub(crate) fn check_value(
             check_within(offsets, width, offset, shape.value_len)?;
             Ok(*shape)
         }
-        None => Err(Fault::NoSuchMap),
+        None => Err(InsnFault::NoSuchMap),
     }
 }
 
@@ -81,7 +81,7 @@ pub(crate) fn read(
     width: Width,
     from: Address,
     shape: &EnvironmentShape,
-) -> Result<Reads, Fault>
+) -> Result<Reads, InsnFault>
     ensures reads { IfOk result (λ x.
         IsReadByLoad x (state_of state.now) (byte_count width) from
         shape.now.ctx_len shape.now.shapes.now) }
@@ -103,8 +103,8 @@ pub(crate) fn read(
             Ok(Reads::Value(map))
         }
         RegKind::Frame(start) => read_from_frame(state, width, from, start),
-        RegKind::MaybeNull { .. } => Err(Fault::MaybeNull),
-        _ => Err(Fault::NotAPointer),
+        RegKind::MaybeNull { .. } => Err(InsnFault::MaybeNull),
+        _ => Err(InsnFault::NotAPointer),
     }
 }
 

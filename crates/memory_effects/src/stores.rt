@@ -11,7 +11,7 @@ use crate::offset::offset_in;
 use crate::reads::check_value;
 use crate::region::{Address, Region};
 use bpf_model::{FRAME_BYTES, Insn, MapShape, Operand, Reg, Width};
-use kind_tests::{Fault, held};
+use kind_tests::{InsnFault, held};
 use register_kinds::{AbsState, RegKind};
 use scalar_domain::Scalar;
 
@@ -25,7 +25,7 @@ enum Stored {
 }
 
 /// What a register holds, or a constant.
-fn stored_value(state: &AbsState, src: &Operand) -> Result<Stored, Fault>
+fn stored_value(state: &AbsState, src: &Operand) -> Result<Stored, InsnFault>
     ensures number { IfOk result (λ x. x ≡ Stored.Number
         → IsNumberOperand (state_of state.now) src.now) }
     ensures pointer { IfOk result (λ x. (r : ℕ) (kind : RegKind) → x ≡ Stored.Pointer r kind
@@ -49,7 +49,7 @@ fn store_number(
     to: Address,
     src: &Operand,
     start: i32,
-) -> Result<(), Fault>
+) -> Result<(), InsnFault>
     requires base { kind_in state.old.regs to.base ≡ RegKind.Frame start }
     requires number { IsNumberOperand (state_of state.old) src.now }
     ensures sound { OnOk result ((ctx_len : ℕ) (shapes : List MapShape)
@@ -76,7 +76,7 @@ fn store_pointer(
     src: &Operand,
     start: i32,
     kind: RegKind,
-) -> Result<(), Fault>
+) -> Result<(), InsnFault>
     requires base { kind_in state.old.regs to.base ≡ RegKind.Frame start }
     requires value { (r : ℕ) × (src.now ≡ Operand.Register r) × (kind_in state.old.regs r ≡ kind) }
     requires written { IsWritten (kind_of kind) }
@@ -94,7 +94,7 @@ fn store_pointer(
             state.spill(at, kind);
             Ok(())
         }
-        _ => Err(Fault::PointerLeak),
+        _ => Err(InsnFault::PointerLeak),
     }
 }
 
@@ -107,7 +107,7 @@ fn check_store(
     map: u32,
     offset: Scalar,
     shapes: &[MapShape],
-) -> Result<(), Fault>
+) -> Result<(), InsnFault>
     requires base { kind_in state.now.regs to.base ≡ RegKind.Value map offset }
     requires number { IsNumberOperand (state_of state.now) src.now }
     ensures sound { OnOk result ((ctx_len : ℕ)
@@ -125,7 +125,7 @@ fn store_frame(
     to: Address,
     src: &Operand,
     start: i32,
-) -> Result<(), Fault>
+) -> Result<(), InsnFault>
     requires base { kind_in state.old.regs to.base ≡ RegKind.Frame start }
     ensures sound { OnOk result ((ctx_len : ℕ) (shapes : List MapShape)
         → Performs (Insn.Store width to.base to.offset src.now)
@@ -153,7 +153,7 @@ fn store_value(
     map: u32,
     offset: Scalar,
     shapes: &[MapShape],
-) -> Result<(), Fault>
+) -> Result<(), InsnFault>
     requires base { kind_in state.now.regs to.base ≡ RegKind.Value map offset }
     ensures sound { OnOk result ((ctx_len : ℕ)
         → Performs (Insn.Store width to.base to.offset src.now)
@@ -161,7 +161,7 @@ fn store_value(
 {
     match stored_value(state, src)? {
         Stored::Number => check_store(state, width, to, src, map, offset, shapes),
-        Stored::Pointer(_, _) => Err(Fault::PointerLeak),
+        Stored::Pointer(_, _) => Err(InsnFault::PointerLeak),
     }
 }
 
@@ -183,7 +183,7 @@ pub fn store(
     to: Address,
     src: &Operand,
     shapes: &[MapShape],
-) -> Result<Region, Fault>
+) -> Result<Region, InsnFault>
     ensures sound { OnOk result ((ctx_len : ℕ)
         → Performs (Insn.Store width to.base to.offset src.now)
         ctx_len shapes.now state.old state.new) }
@@ -207,8 +207,8 @@ pub fn store(
             store_value(state, width, to, src, map, offset, shapes)?;
             Ok(Region::Value(map))
         }
-        RegKind::Ctx(_) => Err(Fault::ContextWrite),
-        RegKind::MaybeNull { .. } => Err(Fault::MaybeNull),
-        _ => Err(Fault::NotAPointer),
+        RegKind::Ctx(_) => Err(InsnFault::ContextWrite),
+        RegKind::MaybeNull { .. } => Err(InsnFault::MaybeNull),
+        _ => Err(InsnFault::NotAPointer),
     }
 }

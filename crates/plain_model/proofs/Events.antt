@@ -16,7 +16,7 @@ use Rattle.bpf_model.specs.declared.event.EventRefusal.TheVariants.{BadContext}
 use Rattle.bpf_model.specs.Machine.{Loaded, lowest_free, begins}
 use Rattle.arrayvec.specs.ArrayVec.{ArrayVec}
 use Rattle.bpf_model.specs.Event.{refusal, key_refusal, start_refusal, if_full, step_refusal, if_ended, Answers, PerformsEvent, DoesEvent}
-use Rattle.plain_store.specs.declared.fault.Fault.{Fault}
+use Rattle.plain_store.specs.declared.fault.ModelFault.{ModelFault}
 use Rattle.plain_runs.specs.Acting.{SlotStep, SlotStepsAs}
 use Rattle.plain_model.specs.Following.{DoesAs}
 use Rattle.plain_store.proofs.Telling.{tells-map}
@@ -39,7 +39,7 @@ going-on (Some x) run h e =
     by None f g = f
     by (Some n) f g = absurd (let p : if_ended (Some n) ≡ None = ap if_ended (sym f) ∙ g in cc)
 
-pub step-does : (m : Machine) (r : ℕ) (old : Option Run) (answer : Result Answer Fault) (t : Store) (q : Option Run) (new : Machine) → slice_get m.runs r ≡ Some old → step_refusal (run_at m.runs r) ≡ None →
+pub step-does : (m : Machine) (r : ℕ) (old : Option Run) (answer : Result Answer ModelFault) (t : Store) (q : Option Run) (new : Machine) → slice_get m.runs r ≡ Some old → step_refusal (run_at m.runs r) ≡ None →
     new ≡ with_runs (with_store m t) (slice_set m.runs r q) → SlotStepsAs m.store (open_sections m.runs) old answer t q → DoesAs m (events.Step r) answer new
 step-does m r old answer t q new h free is s = tells-map _ _ _ _ answer done stuck s
   where

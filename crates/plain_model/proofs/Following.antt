@@ -13,7 +13,7 @@ use Rattle.bpf_model.specs.Schedule.{Schedule, advanced, is_any, first_ready, wi
 use Rattle.std.proofs.Common.{Ok, Err}
 use Rattle.std.specs.Prelude.{Result, IfOk, OnOk}
 use Rattle.bpf_model.specs.Schedule.{TakesOldest, DoesScheduled}
-use Rattle.plain_store.specs.declared.fault.Fault.{Fault}
+use Rattle.plain_store.specs.declared.fault.ModelFault.{ModelFault}
 use Rattle.plain_model.specs.Following.{DoesAs}
 use Rattle.plain_store.specs.Births.{ReclaimsTo}
 use Rattle.plain_model.specs.Following.{FollowsLists}
@@ -39,7 +39,7 @@ reap-follows s n store taken new h r machine queues awaited =
     }
 
 -- the three parts of a step with the runtime's choices
-pub schedules : (s new : Schedule) (event : Event) (result : Result Answer Fault) → DoesAs s.machine event result new.machine → IfOk result (λ answer. FollowsLists s event answer new) →
+pub schedules : (s new : Schedule) (event : Event) (result : Result Answer ModelFault) → DoesAs s.machine event result new.machine → IfOk result (λ answer. FollowsLists s event answer new) →
     OnOk result (TakesOldest s.machine.store new.machine.store) → IfOk result (λ answer. DoesScheduled s event answer new)
 schedules s new event (Ok answer) d f o = record { step = d; first = f.first; oldest = o; lists = f.lists }
 schedules s new event (Err fault) d f o = f

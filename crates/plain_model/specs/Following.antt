@@ -8,11 +8,11 @@ use Rattle.bpf_model.specs.Event.{DoesEvent}
 use Rattle.bpf_model.specs.Machine.{Machine}
 use Rattle.bpf_model.specs.Schedule.{Schedule, retired, still_open, open_flags, scheduled}
 use Rattle.bpf_model.specs.Schedule.{TakesFirst}
-use Rattle.plain_store.specs.declared.fault.Fault.{Fault}
+use Rattle.plain_store.specs.declared.fault.ModelFault.{ModelFault}
 use Rattle.plain_store.specs.Telling.{TellsResult}
 
 -- the machine made a step, or has none
-abbrev pub DoesAs : Machine → Event → Result Answer Fault → Machine → Type 0
+abbrev pub DoesAs : Machine → Event → Result Answer ModelFault → Machine → Type 0
 DoesAs m event answer new =
     TellsResult (λ a. DoesEvent m event a new) ((a : Answer) (next : Machine) →
     DoesEvent m event a next → ⊥) answer

@@ -21,7 +21,7 @@ use bpf_model::{
 };
 use plain_runs::{Loaded, Run, is_inside, lowest_free, open_flags, open_sections, step_slot};
 use plain_store::{
-    Fault, Queues, Section, Store, first_ready, one_more, retire_all, take_first, turn_all,
+    ModelFault, Queues, Section, Store, first_ready, one_more, retire_all, take_first, turn_all,
 };
 use std::alloc::{AllocError, Global};
 
@@ -119,7 +119,7 @@ impl Machine {
 
     /// What the machine answers to an event: a step of the definitions' machine, with the runtime's own
     /// choices. Where it says `Stuck` the definition has no step; after any fault the machine is of no use.
-    pub fn apply(&mut self, event: Event) -> Result<Answer, Fault>
+    pub fn apply(&mut self, event: Event) -> Result<Answer, ModelFault>
         ensures machine { DoesAs (machine_of self.old) event result (machine_of self.new) }
         ensures schedule { IfOk result
             (λ answer. DoesScheduled (schedule_of self.old) event answer (schedule_of self.new)) }
@@ -128,7 +128,7 @@ impl Machine {
     }
 
     /// The answer, and what it says of the lists and of the map slot that a new element takes.
-    fn answer(&mut self, event: Event) -> Result<Answer, Fault>
+    fn answer(&mut self, event: Event) -> Result<Answer, ModelFault>
         ensures machine { DoesAs (machine_of self.old) event result (machine_of self.new) }
         ensures lists { IfOk result
             (λ answer. FollowsLists (schedule_of self.old) event answer (schedule_of self.new)) }
@@ -146,7 +146,7 @@ impl Machine {
     }
 
     /// What the machine answers to an advance or a reap.
-    fn advance_or_reap(&mut self, event: Event) -> Result<Answer, Fault>
+    fn advance_or_reap(&mut self, event: Event) -> Result<Answer, ModelFault>
         ensures machine { DoesAs (machine_of self.old) event result (machine_of self.new) }
         ensures lists { IfOk result
             (λ answer. FollowsLists (schedule_of self.old) event answer (schedule_of self.new)) }
@@ -159,12 +159,12 @@ impl Machine {
                 Ok(Answer::Done)
             }
             Event::Reap => self.reap(),
-            _ => Err(Fault::OutOfRange),
+            _ => Err(ModelFault::OutOfRange),
         }
     }
 
     /// What the machine answers to an event other than an advance or a reap.
-    fn perform(&mut self, event: Event) -> Result<Answer, Fault>
+    fn perform(&mut self, event: Event) -> Result<Answer, ModelFault>
         ensures machine { DoesAs (machine_of self.old) event result (machine_of self.new) }
         ensures queues { self.new.queues ≡ self.old.queues }
         ensures awaited { self.new.awaited ≡ self.old.awaited }
@@ -183,7 +183,7 @@ impl Machine {
             Event::Delete { map, key } => self.delete(map, key),
             Event::Read { map, key } => self.read(map, key),
             Event::Drop { run } => self.remove(run),
-            _ => Err(Fault::OutOfRange),
+            _ => Err(ModelFault::OutOfRange),
         }
     }
 
@@ -222,7 +222,7 @@ impl Machine {
         lowest_free(self.runs.as_slice())
     }
 
-    fn start(&mut self, prog: ProgId, ctx: CtxBytes) -> Result<Answer, Fault>
+    fn start(&mut self, prog: ProgId, ctx: CtxBytes) -> Result<Answer, ModelFault>
         ensures machine { DoesAs (machine_of self.old) (events.Start prog ctx) result
             (machine_of self.new) }
         ensures queues { self.new.queues ≡ self.old.queues }
@@ -260,7 +260,7 @@ impl Machine {
         }
     }
 
-    fn step(&mut self, run: RunId) -> Result<Answer, Fault>
+    fn step(&mut self, run: RunId) -> Result<Answer, ModelFault>
         ensures machine { DoesAs (machine_of self.old) (events.Step run) result
             (machine_of self.new) }
         ensures queues { self.new.queues ≡ self.old.queues }
@@ -274,7 +274,7 @@ impl Machine {
         }
         let opened = self.open_sections()?;
         if r >= self.runs.len() {
-            return Err(Fault::OutOfRange);
+            return Err(ModelFault::OutOfRange);
         }
         step_slot(
             self.alloc,
@@ -317,7 +317,7 @@ impl Machine {
         key: KeyBytes,
         value: ValueBytes,
         flags: u64,
-    ) -> Result<Answer, Fault>
+    ) -> Result<Answer, ModelFault>
         ensures machine { DoesAs (machine_of self.old) (events.Update map key value flags) result
             (machine_of self.new) }
         ensures queues { self.new.queues ≡ self.old.queues }
@@ -342,7 +342,7 @@ impl Machine {
         }
     }
 
-    fn delete(&mut self, map: MapId, key: KeyBytes) -> Result<Answer, Fault>
+    fn delete(&mut self, map: MapId, key: KeyBytes) -> Result<Answer, ModelFault>
         ensures machine { DoesAs (machine_of self.old) (events.Delete map key) result
             (machine_of self.new) }
         ensures queues { self.new.queues ≡ self.old.queues }
@@ -362,7 +362,7 @@ impl Machine {
         }
     }
 
-    fn read(&mut self, map: MapId, key: KeyBytes) -> Result<Answer, Fault>
+    fn read(&mut self, map: MapId, key: KeyBytes) -> Result<Answer, ModelFault>
         ensures machine { DoesAs (machine_of self.old) (events.Read map key) result
             (machine_of self.new) }
         ensures queues { self.new.queues ≡ self.old.queues }
@@ -394,7 +394,7 @@ impl Machine {
         Ok(())
     }
 
-    fn reap(&mut self) -> Result<Answer, Fault>
+    fn reap(&mut self) -> Result<Answer, ModelFault>
         ensures machine { DoesAs (machine_of self.old) events.Reap result (machine_of self.new) }
         ensures lists { IfOk result
             (λ answer.
@@ -429,7 +429,7 @@ impl Machine {
         }
     }
 
-    fn remove(&mut self, run: RunId) -> Result<Answer, Fault>
+    fn remove(&mut self, run: RunId) -> Result<Answer, ModelFault>
         ensures machine { DoesAs (machine_of self.old) (events.Drop run) result
             (machine_of self.new) }
         ensures queues { self.new.queues ≡ self.old.queues }
@@ -442,7 +442,7 @@ impl Machine {
             return Ok(Answer::Refused(refusal));
         }
         if r >= self.runs.len() {
-            return Err(Fault::OutOfRange);
+            return Err(ModelFault::OutOfRange);
         }
         self.runs[r] = None;
         Ok(Answer::Done)

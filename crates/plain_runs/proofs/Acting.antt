@@ -27,7 +27,7 @@ use Rattle.bpf_model.specs.declared.event.Answer.{Answer}
 use Rattle.bpf_model.specs.Section.{Section}
 use Rattle.bpf_model.specs.MapState as maps
 use Rattle.bpf_model.specs.Machine.{Run}
-use Rattle.plain_store.specs.declared.fault.Fault.{Fault}
+use Rattle.plain_store.specs.declared.fault.ModelFault.{ModelFault}
 
 abbrev pair : ℕ → ℤ → ℕ × ℤ
 pair n o = (n, o)
@@ -86,11 +86,11 @@ extended-acts width dst src offset env es old new p n o b h =
     (subst (λ v. Comes (extended_outcome es width offset v dst (plain_state_of old)) p old new) (sym base) h)
 
 -- a lock or an unlock is the step of its call
-pub kernel-steps : (imm : ℤ) (s : maps.Store) (opened : List Section) (run : Run) (answer : Result Answer Fault) (q : Run) → KernelsAs (kernel_function_of imm) run answer q → InsnStepsAs (Call kinds.Kernel imm) s opened run answer s q
+pub kernel-steps : (imm : ℤ) (s : maps.Store) (opened : List Section) (run : Run) (answer : Result Answer ModelFault) (q : Run) → KernelsAs (kernel_function_of imm) run answer q → InsnStepsAs (Call kinds.Kernel imm) s opened run answer s q
 kernel-steps imm s opened run answer q h = tells-map _ _ _ _ answer (λ a k. (k.0, k.1, refl)) (λ none a t q k. none q k.0) h
 
 -- what an instruction other than a call does is its step
-pub alone-steps : (i : Insn) (s : maps.Store) (opened : List Section) (run : Run) (answer : Result Answer Fault) (t : maps.Store) (q : Run) →
+pub alone-steps : (i : Insn) (s : maps.Store) (opened : List Section) (run : Run) (answer : Result Answer ModelFault) (t : maps.Store) (q : Run) →
     call_in i ≡ None → AloneAs i s run answer t q → InsnStepsAs i s opened run answer t q
 alone-steps (Call kinds.Kernel imm) s opened run answer t q k a = absurd cc
 alone-steps (Call kinds.Helper imm) s opened run answer t q k a = absurd cc

@@ -9,7 +9,7 @@ use Rattle.bpf_model.specs.Machine as model
 use Rattle.bpf_model.specs.MachineStep.{RunStep}
 use Rattle.bpf_model.specs.MapState as maps
 use Rattle.bpf_model.specs.Section.{Section}
-use Rattle.plain_store.specs.declared.fault.Fault.{Fault}
+use Rattle.plain_store.specs.declared.fault.ModelFault.{ModelFault}
 use Rattle.plain_store.proofs.Lists.{drop-at, take-at}
 use Rattle.plain_store.proofs.Telling.{tells-map}
 use Rattle.plain_runs.specs.declared.run.Run.{Run}
@@ -71,6 +71,6 @@ open-more programs runs r x h =
     ∙ ap open_sections (sym (map-append (option_map (run_of programs)) (take r runs) (x ∷ [])) ∙ ap (runs_of programs) (sym (take-at runs r x h)))
 
 -- a step of the run in a run slot, under another name
-pub slot-steps : (s : maps.Store) (opened : List Section) (run old new next : model.Run) (answer : Result Answer Fault) (t : maps.Store) → old ≡ run → next ≡ new → RunStepsAs s opened run answer t new → SlotStepsAs s opened (Some old) answer t (Some next)
+pub slot-steps : (s : maps.Store) (opened : List Section) (run old new next : model.Run) (answer : Result Answer ModelFault) (t : maps.Store) → old ≡ run → next ≡ new → RunStepsAs s opened run answer t new → SlotStepsAs s opened (Some old) answer t (Some next)
 slot-steps s opened run old new next answer t e f h =
     tells-map _ _ _ _ answer (λ a k. (new, ap Some f, subst (λ r. RunStep s opened r a t new) (sym e) k)) (λ none a u q k. none a u k.0 (subst (λ r. RunStep s opened r a u k.0) e k.2)) h

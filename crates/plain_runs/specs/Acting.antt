@@ -25,7 +25,7 @@ use Rattle.plain_interpreter.specs.declared.plain_run.PlainRun.{PlainRun}
 use Rattle.plain_interpreter.specs.declared.plain_run.Progress.{Progress}
 use Rattle.plain_interpreter.specs.declared.plain_run.Progress.TheVariants as progress
 use Rattle.plain_interpreter.specs.Plain.{plain_state_of}
-use Rattle.plain_store.specs.declared.fault.Fault.{Fault}
+use Rattle.plain_store.specs.declared.fault.ModelFault.{ModelFault}
 use Rattle.plain_store.specs.Telling.{TellsResult}
 
 -- the element that a value refers to, and the offset there
@@ -79,28 +79,28 @@ call_in (Call kind imm) = Some (kind, imm)
 call_in _ = None
 
 -- a lock or an unlock was made, or could not be
-abbrev pub KernelsAs : Option KernelFunction → machine.Run → Result Answer Fault → machine.Run →
-    Type 0
+abbrev pub KernelsAs : Option KernelFunction → machine.Run → Result Answer ModelFault →
+    machine.Run → Type 0
 KernelsAs function old answer new =
     TellsResult (λ a. KernelStep function old new × (a ≡ Moved)) ((q : machine.Run) →
     KernelStep function old q → ⊥) answer
 
 -- an instruction was a step of the run, or there is none
-abbrev pub InsnStepsAs : Insn → maps.Store → List Section → machine.Run → Result Answer Fault →
+abbrev pub InsnStepsAs : Insn → maps.Store → List Section → machine.Run → Result Answer ModelFault →
     maps.Store → machine.Run → Type 0
 InsnStepsAs i s opened run answer new_store new_run =
     TellsResult (λ a. InsnStep i s opened run a new_store new_run)
     ((a : Answer) (t : maps.Store) (q : machine.Run) → InsnStep i s opened run a t q → ⊥) answer
 
 -- the run made a step, or has none
-abbrev pub RunStepsAs : maps.Store → List Section → machine.Run → Result Answer Fault → maps.Store →
-    machine.Run → Type 0
+abbrev pub RunStepsAs : maps.Store → List Section → machine.Run → Result Answer ModelFault →
+    maps.Store → machine.Run → Type 0
 RunStepsAs s opened run answer new_store new_run =
     TellsResult (λ a. RunStep s opened run a new_store new_run)
     ((a : Answer) (t : maps.Store) (q : machine.Run) → RunStep s opened run a t q → ⊥) answer
 
 -- an instruction other than a call was a step of the run, or there is none
-abbrev pub AloneAs : Insn → maps.Store → machine.Run → Result Answer Fault → maps.Store →
+abbrev pub AloneAs : Insn → maps.Store → machine.Run → Result Answer ModelFault → maps.Store →
     machine.Run → Type 0
 AloneAs i s run answer new_store new_run =
     TellsResult (λ a. ActStep i s run a new_store new_run)
@@ -113,7 +113,7 @@ SlotStep s opened None answer new_store new = ⊥
 SlotStep s opened (Some run) answer new_store new =
     (new_run : machine.Run) × (new ≡ Some new_run) × RunStep s opened run answer new_store new_run
 
-abbrev pub SlotStepsAs : maps.Store → List Section → Option machine.Run → Result Answer Fault →
+abbrev pub SlotStepsAs : maps.Store → List Section → Option machine.Run → Result Answer ModelFault →
     maps.Store → Option machine.Run → Type 0
 SlotStepsAs s opened old answer new_store new =
     TellsResult (λ a. SlotStep s opened old a new_store new)

@@ -28,11 +28,11 @@ use bpf_model::{
     Reg, Value, ValueBytes, ret_word,
 };
 use plain_interpreter::{PlainRun, number};
-use plain_store::{Fault, Section, Store, one_more};
+use plain_store::{ModelFault, Section, Store, one_more};
 use std::alloc::Global;
 
 /// After a call r0 is its result and r1 to r5 hold nothing.
-fn returns(run: &mut Run, value: Value) -> Result<Answer, Fault>
+fn returns(run: &mut Run, value: Value) -> Result<Answer, ModelFault>
     requires { (plain_state_of run.old.state).place < MAX_PLACE }
     ensures moves { (program : ModelLoaded) →
         TellsResult (λ a. (a ≡ answers.Moved)
@@ -47,7 +47,7 @@ fn returns(run: &mut Run, value: Value) -> Result<Answer, Fault>
 }
 
 /// How many sections the run has opened after a lock: the outermost one opens a section.
-fn locks_after(run: &Run) -> Result<u64, Fault>
+fn locks_after(run: &Run) -> Result<u64, ModelFault>
     ensures { TellsResult (λ n. n
         ≡ (if run.now.depth == 0 then run.now.locks + 1 else run.now.locks)) ⊥
         result }
@@ -59,7 +59,7 @@ fn locks_after(run: &Run) -> Result<u64, Fault>
     }
 }
 
-fn read_lock(run: &mut Run) -> Result<Answer, Fault>
+fn read_lock(run: &mut Run) -> Result<Answer, ModelFault>
     requires { (plain_state_of run.old.state).place < MAX_PLACE }
     ensures locks { (program : ModelLoaded) →
         KernelsAs (Some functions.ReadLock) (run_with program run.old) result
@@ -67,7 +67,7 @@ fn read_lock(run: &mut Run) -> Result<Answer, Fault>
     ensures program { run.new.program ≡ run.old.program }
 {
     if run.depth >= MAX_DEPTH {
-        return Err(Fault::Stuck);
+        return Err(ModelFault::Stuck);
     }
     run.locks = locks_after(run)?;
     run.depth += 1;
@@ -75,7 +75,7 @@ fn read_lock(run: &mut Run) -> Result<Answer, Fault>
 }
 
 /// An unlock closes a lock that is open; the section ends with its last.
-fn read_unlock(run: &mut Run) -> Result<Answer, Fault>
+fn read_unlock(run: &mut Run) -> Result<Answer, ModelFault>
     requires { (plain_state_of run.old.state).place < MAX_PLACE }
     ensures unlocks { (program : ModelLoaded) →
         KernelsAs (Some functions.ReadUnlock) (run_with program run.old) result
@@ -83,14 +83,14 @@ fn read_unlock(run: &mut Run) -> Result<Answer, Fault>
     ensures program { run.new.program ≡ run.old.program }
 {
     if run.depth == 0 {
-        return Err(Fault::Stuck);
+        return Err(ModelFault::Stuck);
     }
     run.depth -= 1;
     returns(run, Value::Nothing)
 }
 
 /// A lock or an unlock.
-pub(crate) fn call_kernel(run: &mut Run, imm: i32) -> Result<Answer, Fault>
+pub(crate) fn call_kernel(run: &mut Run, imm: i32) -> Result<Answer, ModelFault>
     requires { (plain_state_of run.old.state).place < MAX_PLACE }
     ensures steps { (program : ModelLoaded) →
         KernelsAs (kernel_function_of imm) (run_with program run.old) result
@@ -100,7 +100,7 @@ pub(crate) fn call_kernel(run: &mut Run, imm: i32) -> Result<Answer, Fault>
     match KernelFunction::from_number(imm) {
         Some(KernelFunction::ReadLock) => read_lock(run),
         Some(KernelFunction::ReadUnlock) => read_unlock(run),
-        None => Err(Fault::Stuck),
+        None => Err(ModelFault::Stuck),
     }
 }
 
@@ -129,7 +129,11 @@ fn byte_in(run: &PlainRun, index: usize) -> Option<u8>
 }
 
 /// So many bytes of the frame, from an offset in bytes from its start on.
-fn bytes_at<const N: usize>(run: &PlainRun, at: usize, len: usize) -> Result<ArrayVec<u8, N>, Fault>
+fn bytes_at<const N: usize>(
+    run: &PlainRun,
+    at: usize,
+    len: usize,
+) -> Result<ArrayVec<u8, N>, ModelFault>
     requires { at + len ≤ FRAME_BYTES }
     ensures { TellsResult (λ bytes. bytes_of (plain_state_of run.now).frame at len
         ≡ Some bytes.items)
@@ -138,11 +142,11 @@ fn bytes_at<const N: usize>(run: &PlainRun, at: usize, len: usize) -> Result<Arr
     let mut bytes = ArrayVec::new();
     for k in 0..len {
         let Some(byte) = byte_in(run, at + k) else {
-            return Err(Fault::Stuck);
+            return Err(ModelFault::Stuck);
         };
         match bytes.try_push(byte) {
             Ok(()) => {}
-            Err(_) => return Err(Fault::OutOfRange),
+            Err(_) => return Err(ModelFault::OutOfRange),
         }
     }
     Ok(bytes)
@@ -153,16 +157,16 @@ fn frame_bytes<const N: usize>(
     run: &PlainRun,
     len: usize,
     value: Value,
-) -> Result<ArrayVec<u8, N>, Fault>
+) -> Result<ArrayVec<u8, N>, ModelFault>
     ensures { TellsResult (λ bytes. frame_bytes_of (plain_state_of run.now).frame len value
         ≡ Some bytes.items)
         (frame_bytes_of (plain_state_of run.now).frame len value ≡ None) result }
 {
     let Value::Pointer(Reference::Frame(o)) = value else {
-        return Err(Fault::Stuck);
+        return Err(ModelFault::Stuck);
     };
     if o < 0 || o > FRAME_BYTES as i64 || len > FRAME_BYTES || o as usize + len > FRAME_BYTES {
-        return Err(Fault::Stuck);
+        return Err(ModelFault::Stuck);
     }
     bytes_at(run, o as usize, len)
 }
@@ -175,7 +179,7 @@ struct MapKey {
     key: KeyBytes,
 }
 
-fn map_key_argument(run: &Run, program: &Loaded, store: &Store) -> Result<MapKey, Fault>
+fn map_key_argument(run: &Run, program: &Loaded, store: &Store) -> Result<MapKey, ModelFault>
     ensures { TellsResult (IsMapKey (store_of store.now) (run_with (loaded_of program.now) run.now))
         ((map : ℕ) (key : List ℕ) →
         map_argument_of (run_with (loaded_of program.now) run.now)
@@ -184,16 +188,16 @@ fn map_key_argument(run: &Run, program: &Loaded, store: &Store) -> Result<MapKey
         ≡ Some key → ⊥) result }
 {
     let Some(map) = map_argument(run, program) else {
-        return Err(Fault::Stuck);
+        return Err(ModelFault::Stuck);
     };
     let Some(shape) = store.shape(map) else {
-        return Err(Fault::Stuck);
+        return Err(ModelFault::Stuck);
     };
     let key = frame_bytes(&run.state, shape.key_len, run.state.register(Reg::R2))?;
     Ok(MapKey { map, shape, key })
 }
 
-fn lookup(run: &Run, program: &Loaded, store: &Store) -> Result<Value, Fault>
+fn lookup(run: &Run, program: &Loaded, store: &Store) -> Result<Value, ModelFault>
     ensures { TellsResult (LookupStep (store_of store.now)
         (run_with (loaded_of program.now) run.now))
         ((ret : Value) →
@@ -212,7 +216,7 @@ fn update(
     program: &Loaded,
     store: &mut Store,
     opened: &[Section],
-) -> Result<Value, Fault>
+) -> Result<Value, ModelFault>
     ensures tells { TellsResult (λ ret.
         UpdateStep (store_of store.old) (sections_of opened.now)
         (run_with (loaded_of program.now) run.now) ret (store_of store.new))
@@ -228,7 +232,7 @@ fn update(
         run.state.register(Reg::R3),
     )?;
     let Some(flags) = number(run.state.register(Reg::R4)) else {
-        return Err(Fault::Stuck);
+        return Err(ModelFault::Stuck);
     };
     let outcome = store.update(alloc, opened, at.map, at.key, value, flags)?;
     Ok(Value::Number(ret_word(outcome)))
@@ -240,7 +244,7 @@ fn delete(
     program: &Loaded,
     store: &mut Store,
     opened: &[Section],
-) -> Result<Value, Fault>
+) -> Result<Value, ModelFault>
     ensures tells { TellsResult (λ ret.
         DeleteStep (store_of store.old) (sections_of opened.now)
         (run_with (loaded_of program.now) run.now) ret (store_of store.new))
@@ -262,7 +266,7 @@ fn helper_value(
     store: &mut Store,
     opened: &[Section],
     imm: i32,
-) -> Result<Value, Fault>
+) -> Result<Value, ModelFault>
     ensures tells { TellsResult (λ ret.
         HelperStep (helper_of imm) (store_of store.old) (sections_of opened.now)
         (run_with (loaded_of program.now) run.now) ret (store_of store.new))
@@ -275,7 +279,7 @@ fn helper_value(
         Some(Helper::Lookup) => lookup(run, program, store),
         Some(Helper::Update) => update(alloc, run, program, store, opened),
         Some(Helper::Delete) => delete(alloc, run, program, store, opened),
-        None => Err(Fault::Stuck),
+        None => Err(ModelFault::Stuck),
     }
 }
 
@@ -287,7 +291,7 @@ pub(crate) fn call_helper(
     store: &mut Store,
     opened: &[Section],
     imm: i32,
-) -> Result<Answer, Fault>
+) -> Result<Answer, ModelFault>
     requires { (plain_state_of run.old.state).place < MAX_PLACE }
     ensures steps { InsnStepsAs (insns.Call kinds.Helper imm) (store_of store.old)
         (sections_of opened.now) (run_with (loaded_of program.now) run.old) result

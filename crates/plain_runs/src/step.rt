@@ -13,7 +13,7 @@ use crate::call::{call_helper, call_kernel};
 use crate::run::{Loaded, Run};
 use bpf_model::{Answer, CallKind, Insn};
 use plain_interpreter::{MAX_PLACE, Progress, insn_at};
-use plain_store::{Fault, Section, Store, one_more};
+use plain_store::{ModelFault, Section, Store, one_more};
 use std::alloc::Global;
 
 /// An instruction other than a call.
@@ -22,7 +22,7 @@ fn step_alone(
     program: &Loaded,
     store: &mut Store,
     insn: &Insn,
-) -> Result<Answer, Fault>
+) -> Result<Answer, ModelFault>
     requires { (plain_state_of run.old.state).place < MAX_PLACE }
     ensures steps { AloneAs insn.now (store_of store.old) (run_with (loaded_of program.now) run.old)
         result (store_of store.new) (run_with (loaded_of program.now) run.new) }
@@ -45,11 +45,11 @@ fn step_alone(
                 run.exit = Some(n);
                 Ok(Answer::Exited(n))
             } else {
-                Err(Fault::Stuck)
+                Err(ModelFault::Stuck)
             }
         }
-        Progress::Stuck => Err(Fault::Stuck),
-        Progress::OutOfRange => Err(Fault::OutOfRange),
+        Progress::Stuck => Err(ModelFault::Stuck),
+        Progress::OutOfRange => Err(ModelFault::OutOfRange),
     }
 }
 
@@ -71,7 +71,7 @@ fn step_insn(
     store: &mut Store,
     opened: &[Section],
     insn: &Insn,
-) -> Result<Answer, Fault>
+) -> Result<Answer, ModelFault>
     requires { (plain_state_of run.old.state).place < MAX_PLACE }
     ensures steps { InsnStepsAs insn.now (store_of store.old) (sections_of opened.now)
         (run_with (loaded_of program.now) run.old) result (store_of store.new)
@@ -93,7 +93,7 @@ fn step_run(
     program: &Loaded,
     store: &mut Store,
     opened: &[Section],
-) -> Result<Answer, Fault>
+) -> Result<Answer, ModelFault>
     ensures steps { RunStepsAs (store_of store.old) (sections_of opened.now)
         (run_with (loaded_of program.now) run.old) result (store_of store.new)
         (run_with (loaded_of program.now) run.new) }
@@ -102,11 +102,11 @@ fn step_run(
 {
     let place = run.state.place();
     if place >= MAX_PLACE {
-        return Err(Fault::OutOfRange);
+        return Err(ModelFault::OutOfRange);
     }
     match insn_at(program.code.as_slice(), place) {
         Some(insn) => step_insn(alloc, run, program, store, opened, insn),
-        None => Err(Fault::Stuck),
+        None => Err(ModelFault::Stuck),
     }
 }
 
@@ -119,7 +119,7 @@ pub fn step_slot(
     programs: &[Loaded],
     store: &mut Store,
     opened: &[Section],
-) -> Result<Answer, Fault>
+) -> Result<Answer, ModelFault>
     ensures oldest { OnOk result (TakesOldest (store_of store.old) (store_of store.new)) }
     ensures steps { SlotStepsAs (store_of store.old) (sections_of opened.now)
         (option_map (run_of programs.now) slot.old) result (store_of store.new)
@@ -128,10 +128,10 @@ pub fn step_slot(
     match slot {
         Some(run) => {
             if run.program >= programs.len() {
-                return Err(Fault::Stuck);
+                return Err(ModelFault::Stuck);
             }
             step_run(alloc, run, &programs[run.program], store, opened)
         }
-        None => Err(Fault::OutOfRange),
+        None => Err(ModelFault::OutOfRange),
     }
 }

@@ -1,11 +1,11 @@
 -- What a result or a fault says of the machine's step.
 use Rattle.std.specs.Prelude.{Result, Ok, Err}
-use Rattle.plain_store.specs.declared.fault.Fault.{Fault}
-use Rattle.plain_store.specs.declared.fault.Fault.TheVariants.{Stuck, Memory, OutOfRange, Early}
+use Rattle.plain_store.specs.declared.fault.ModelFault.{ModelFault}
+use Rattle.plain_store.specs.declared.fault.ModelFault.TheVariants.{Stuck, Memory, OutOfRange, Early}
 
 -- A result tells what was done. Of the faults, "stuck" tells that nothing could be; the others tell
 -- nothing.
-abbrev pub TellsResult : {A : Type 0} → (A → Type 0) → Type 0 → Result A Fault → Type 0
+abbrev pub TellsResult : {A : Type 0} → (A → Type 0) → Type 0 → Result A ModelFault → Type 0
 TellsResult Done Nothing (Ok a) = Done a
 TellsResult Done Nothing (Err Stuck) = Nothing
 TellsResult Done Nothing (Err Memory) = Unit {0}

@@ -6,7 +6,7 @@ use std::alloc::AllocError;
 
 /// Why an event got no answer. After that the model is of no use.
 #[derive(Clone, Copy, Debug, PartialEq, Eq)]
-pub enum Fault {
+pub enum ModelFault {
     /// The machine has no step: the run is stuck.
     Stuck,
     /// Memory was refused.
@@ -19,23 +19,23 @@ pub enum Fault {
     Early,
 }
 
-impl From<AllocError> for Fault {
+impl From<AllocError> for ModelFault {
     ghost use Rattle.std.specs.Prelude.{◌≡◌};
-    ghost use Rattle.plain_store.specs.declared.fault.Fault.TheVariants.{Memory};
+    ghost use Rattle.plain_store.specs.declared.fault.ModelFault.TheVariants.{Memory};
 
     ghost from_gives = { λ _ e. e ≡ Memory };
 
-    fn from(_: AllocError) -> Fault {
-        Fault::Memory
+    fn from(_: AllocError) -> ModelFault {
+        ModelFault::Memory
     }
 }
 
 /// One more, of a count of 64 bits; `OutOfRange` where there is none.
-pub fn one_more(count: u64) -> Result<u64, Fault>
+pub fn one_more(count: u64) -> Result<u64, ModelFault>
     ensures { TellsResult (λ n. n ≡ count + 1) ⊥ result }
 {
     match count.checked_add(1) {
         Some(n) => Ok(n),
-        None => Err(Fault::OutOfRange),
+        None => Err(ModelFault::OutOfRange),
     }
 }

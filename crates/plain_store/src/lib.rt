@@ -13,7 +13,7 @@ mod queues;
 mod store;
 
 pub use element::{Element, Life, Section};
-pub use fault::{Fault, one_more};
+pub use fault::{ModelFault, one_more};
 pub use map_state::MapState;
 pub use queues::{Queues, first_ready, retire_all, take_first, turn_all};
 pub use store::Store;

@@ -3,10 +3,10 @@ ghost use Rattle.std.specs.Prelude.{◌≡◌, ◌≢◌, ◌++◌, IfOk, OnOk, 
 ghost use Rattle.bpf_model.specs.MapState.{given_of, returned, new_map};
 ghost use Rattle.bpf_model.specs.Helper.{update_error as first_error};
 ghost use Rattle.plain_store.specs.Telling.{TellsResult};
-ghost use Rattle.plain_store.specs.declared.fault.Fault.TheVariants.{Early};
+ghost use Rattle.plain_store.specs.declared.fault.ModelFault.TheVariants.{Early};
 ghost use Rattle.plain_store.specs.State.{map_of};
 
-use crate::fault::Fault;
+use crate::fault::ModelFault;
 use bpf_model::{Errno, Given, MapShape};
 use std::alloc::{AllocError, Global};
 
@@ -65,24 +65,24 @@ impl MapState {
 
     /// A map slot that was used so often comes back: to the end of the free ones, or it is worn out. Errors:
     /// `OutOfRange` where the uses exceed 32 bits or the count of worn ones 64; `Memory`.
-    pub fn give_back(&mut self, uses: u64) -> Result<Given, Fault>
+    pub fn give_back(&mut self, uses: u64) -> Result<Given, ModelFault>
         ensures tells { TellsResult (λ given. (given ≡ given_of uses (map_of self.old))
             × (map_of self.new ≡ returned uses (map_of self.old))) ⊥ result }
         ensures early { result ≢ Err Early }
     {
         let Ok(count) = u32::try_from(uses) else {
-            return Err(Fault::OutOfRange);
+            return Err(ModelFault::OutOfRange);
         };
         if count == self.shape.reuse_limit {
             let Some(worn) = self.worn.checked_add(1) else {
-                return Err(Fault::OutOfRange);
+                return Err(ModelFault::OutOfRange);
             };
             self.worn = worn;
             Ok(Given::Worn)
         } else {
             match self.bag.push(count) {
                 Ok(()) => Ok(Given::Free),
-                Err(_) => Err(Fault::Memory),
+                Err(_) => Err(ModelFault::Memory),
             }
         }
     }

@@ -10,14 +10,14 @@ ghost use Rattle.bpf_model.specs.declared.value.Value.TheVariants.{Number, Point
 ghost use Rattle.bpf_model.specs.declared.value.Reference.TheVariants.{Elem};
 ghost use Rattle.bpf_model.specs.Schedule.{TakesOldest};
 ghost use Rattle.plain_store.specs.Telling.{TellsResult};
-ghost use Rattle.plain_store.specs.declared.fault.Fault.TheVariants.{Early};
+ghost use Rattle.plain_store.specs.declared.fault.ModelFault.TheVariants.{Early};
 ghost use Rattle.plain_store.specs.Storing.{StoresTo};
 ghost use Rattle.plain_store.specs.Births.{HasFree, ReplacesIn, NextUse, without_first_free, ReclaimsTo, CanReclaim, Finds};
 ghost use Rattle.plain_store.specs.Retiring.{linked_map};
 ghost use Rattle.plain_store.specs.State.{sections_of, elements_of, store_of};
 
 use crate::element::{Element, Life, Section, has_ended, save};
-use crate::fault::Fault;
+use crate::fault::ModelFault;
 use crate::map_state::MapState;
 use bpf_model::{Errno, KeyBytes, MapId, MapShape, ReapedElement, ValueBytes, Width};
 use plain_interpreter::{number_in, region_offset};
@@ -218,7 +218,7 @@ impl Store {
 
     /// Reclaims element n, whose map slot comes back. `Early` only where it may not be reclaimed: it isn't
     /// unlinked, a section that it keeps is open, or its map is not there. Else `OutOfRange` or `Memory`.
-    pub fn reclaim(&mut self, n: usize, opened: &[Section]) -> Result<ReapedElement, Fault>
+    pub fn reclaim(&mut self, n: usize, opened: &[Section]) -> Result<ReapedElement, ModelFault>
         ensures tells { TellsResult (ReclaimsTo (store_of self.old) (sections_of opened.now) n
             (store_of self.new)) ⊥ result }
         ensures early { result ≡ Err Early
@@ -226,17 +226,17 @@ impl Store {
         ensures births { length self.new.elements.items ≡ length self.old.elements.items }
     {
         if n >= self.elements.len() {
-            return Err(Fault::Early);
+            return Err(ModelFault::Early);
         }
         let element = &self.elements[n];
         if !has_ended(&element.life, opened) {
-            return Err(Fault::Early);
+            return Err(ModelFault::Early);
         }
         let map = element.map;
         let uses = element.uses;
         let key = element.key.clone()?;
         if map >= self.maps.len() {
-            return Err(Fault::Early);
+            return Err(ModelFault::Early);
         }
         let given = self.maps[map].give_back(uses)?;
         self.elements[n].life = Life::Reclaimed;

@@ -7,8 +7,8 @@ use Rattle.bpf_model.specs.declared.limits.MapShape.{MapShape}
 use Rattle.bpf_model.specs.Plain.{IsPlain}
 use Rattle.bpf_model.specs.PlainMaps.{IsPlainWithMaps}
 use Rattle.bpf_model.specs.Spelling.{IsProgram, text}
-use Rattle.verifier.specs.declared.refusal.Refusal.{Refusal}
-use Rattle.verifier.specs.declared.refusal.Refusal.TheVariants.{Memory}
+use Rattle.verifier.specs.declared.refusal.ProgramRefusal.{ProgramRefusal}
+use Rattle.verifier.specs.declared.refusal.ProgramRefusal.TheVariants.{Memory}
 use Rattle.verifier.specs.Numbers.{refusal_number, refusal_slot}
 use Rattle.verifier.specs.Verdict.{IsToldOf}
 use Rattle.script_lines.specs.declared.reply.Reply.{Reply}
@@ -18,7 +18,7 @@ use Rattle.script_setup.specs.Setups.{SetupView, shapes_made}
 use Rattle.world_invariant.specs.Binding.{IsBoundTo}
 
 -- a refusal of the verifier that is not for want of memory
-pub unverified-reply : {E : Type 0} (s : SetupView) (code : List ℕ) (shapes : List MapShape) (maps : List ℕ) (ctx_len : ℕ) (program : List Insn) (refusal : Refusal) (result : Result Reply E) → IsProgram program → code ≡ text program → IsToldOf program refusal → (IsPlain program → refusal ≡ Memory) → (IsPlainWithMaps program shapes → refusal ≡ Memory) → IfOk result (λ _. refusal ≢ Memory) → IfOk result (λ reply. reply ≡ replies.Refused (refusal_number refusal) (refusal_slot refusal)) → IfOk result (λ reply. ReadReplies s code shapes maps ctx_len reply s)
+pub unverified-reply : {E : Type 0} (s : SetupView) (code : List ℕ) (shapes : List MapShape) (maps : List ℕ) (ctx_len : ℕ) (program : List Insn) (refusal : ProgramRefusal) (result : Result Reply E) → IsProgram program → code ≡ text program → IsToldOf program refusal → (IsPlain program → refusal ≡ Memory) → (IsPlainWithMaps program shapes → refusal ≡ Memory) → IfOk result (λ _. refusal ≢ Memory) → IfOk result (λ reply. reply ≡ replies.Refused (refusal_number refusal) (refusal_slot refusal)) → IfOk result (λ reply. ReadReplies s code shapes maps ctx_len reply s)
 unverified-reply s code shapes maps ctx_len program refusal (Ok reply) is spelled told plain with-maps known told-as =
     inr (inl (
       record {

@@ -15,8 +15,8 @@ use Rattle.insn_codec.specs.declared.fault.DecodeFault.{DecodeFault}
 use Rattle.insn_codec.specs.declared.fault.DecodeFault.TheVariants as decode_faults
 use Rattle.insn_codec.specs.Faults.{IsDecodeFault, decode_fault_number, decode_fault_slot}
 use Rattle.typed_runs.specs.Verified.{IsVerified}
-use Rattle.verifier.specs.declared.refusal.Refusal.{Refusal}
-use Rattle.verifier.specs.declared.refusal.Refusal.TheVariants as refusals
+use Rattle.verifier.specs.declared.refusal.ProgramRefusal.{ProgramRefusal}
+use Rattle.verifier.specs.declared.refusal.ProgramRefusal.TheVariants as refusals
 use Rattle.verifier.specs.Numbers.{refusal_number, refusal_slot}
 use Rattle.verifier.specs.Verdict.{IsToldOf}
 use Rattle.world.specs.declared.fault.WorldFault.TheVariants.{TooManyPrograms}
@@ -80,7 +80,7 @@ pub record IsUnverified (code : List ℕ) (shapes : List MapShape) (reply : Repl
   pub program : List Insn
   pub is : IsProgram program
   pub text_is : code ≡ text program
-  pub refusal : Refusal
+  pub refusal : ProgramRefusal
   pub told : IsToldOf program refusal
   pub known : refusal ≢ refusals.Memory
   pub not_plain : IsPlain program → ⊥

@@ -11,7 +11,7 @@ use maps::MapFault;
 use script_lines::Reply;
 use script_requests::refused;
 use std::alloc::AllocError;
-use verifier::Refusal;
+use verifier::ProgramRefusal;
 
 /// The reply to a fault of a map that is to be made.
 pub(crate) fn uncreated(fault: MapFault) -> Result<Reply<'static>, AllocError>
@@ -40,13 +40,13 @@ pub(crate) fn undecoded(fault: DecodeFault) -> Result<Reply<'static>, AllocError
 }
 
 /// The reply to a refusal of the verifier.
-pub(crate) fn unverified(refusal: Refusal) -> Result<Reply<'static>, AllocError>
-    ensures known { IfOk result (λ _. refusal ≢ Refusal.Memory) }
+pub(crate) fn unverified(refusal: ProgramRefusal) -> Result<Reply<'static>, AllocError>
+    ensures known { IfOk result (λ _. refusal ≢ ProgramRefusal.Memory) }
     ensures reply { IfOk result (λ reply.
         reply ≡ replies.Refused (refusal_number refusal) (refusal_slot refusal)) }
 {
     match refusal {
-        Refusal::Memory => Err(AllocError),
+        ProgramRefusal::Memory => Err(AllocError),
         _ => Ok(Reply::Refused {
             code: refusal.code(),
             slot: refusal.slot(),

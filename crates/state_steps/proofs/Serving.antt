@@ -16,7 +16,7 @@ use Rattle.bpf_model.specs.declared.insn.CallKind.{CallKind}
 use Rattle.bpf_model.specs.declared.insn.CallKind.TheVariants as callee
 use Rattle.call_effects.proofs.Effects.{returned_above}
 use Rattle.call_effects.specs.Calls.{FindsIn, Called, Splits, section_fault, outcome_of}
-use Rattle.kind_tests.specs.declared.fault.Fault.{Fault}
+use Rattle.kind_tests.specs.declared.fault.InsnFault.{InsnFault}
 use Rattle.std.proofs.lemmas.Option.{slice_get_within}
 use Rattle.bpf_model.specs.declared.insn.Operand.{Operand}
 use Rattle.bpf_model.specs.declared.insn.Operand.TheVariants.{Register as RegisterOperand, Immediate}
@@ -260,7 +260,7 @@ pub record CallLeaves (kind : CallKind) (imm : ℤ) (a b : StateHere) : Type 0 w
   pub called : kind ≡ callee.Kernel → Called (kernel_function_of imm) (state_of a) (state_of b)
 
 -- the calls that are not refused but for want of memory
-pub record CallAccepts (kind : CallKind) (imm : ℤ) (shapes : List MapShape) (a : StateHere) (result : Result (Unit {0}) Fault) : Type 0 where
+pub record CallAccepts (kind : CallKind) (imm : ℤ) (shapes : List MapShape) (a : StateHere) (result : Result (Unit {0}) InsnFault) : Type 0 where
   pub kernel : kind ≡ callee.Kernel → result ≡ outcome_of (section_fault kind imm a.inside)
   pub lookup : (map : ℕ) (shape : MapShape) → kind ≡ callee.Helper → helper_of imm ≡ Some helpers.Lookup → a.inside ≡ true → kind_in a.regs 1 ≡ kinds.Map map
       → slice_get shapes map ≡ Some shape → HasBytes (state_of a) 2 shape.key_len → IsOk result
@@ -284,7 +284,7 @@ module _ (kind : CallKind) (imm : ℤ) (shapes : List MapShape) (a : StateHere) 
   called_map : (l : Lookup) (p : LookupPart) (ready : IsReadyPart shapes l p (Call kind imm) (state_of a)) → p ≡ LookupCall → kind_in a.regs 1 ≡ kinds.Map l.map
   called_map l p ready h = let x : Expects l LookupCall (state_of a) = subst (λ p. Expects l p (state_of a)) h ready.expects in kind_is (kind_in a.regs 1) (MapAt l.map) x.2
 
-  pub call_ready : (result : Result (Unit {0}) Fault) → CallAccepts kind imm shapes a result → IsReadyWithMaps shapes (Call kind imm) (state_of a) → IsOk result
+  pub call_ready : (result : Result (Unit {0}) InsnFault) → CallAccepts kind imm shapes a result → IsReadyWithMaps shapes (Call kind imm) (state_of a) → IsOk result
   call_ready result accepts (inl (l, p, ready)) =
       let e = call_part l p ready in
       let x : Expects l LookupCall (state_of a) = subst (λ p. Expects l p (state_of a)) e.0 ready.expects in

@@ -15,6 +15,7 @@ use Rattle.memory_effects.specs.Accesses.{LoadsKnown}
 use Rattle.kind_tests.specs.Performs.{IsNumbers}
 use Rattle.compute_effects.specs.Floor.{operand_kind, LeavesKnown}
 use Rattle.control_effects.specs.Narrowing.{NarrowsKnown}
+use Rattle.call_effects.specs.Calls.{KeepsNumbersIn}
 
 -- From the first state the instruction leads to the second, and to the third where it is a jump
 -- that is taken. Operations of numbers leave numbers as narrow as the scalar domain promises; a
@@ -49,5 +50,4 @@ TouchesRegister _ r = ⊥
 
 -- Numbers in the other registers stay as they are.
 abbrev pub KeepsNumbers : Insn → Known → Known → Type 0
-KeepsNumbers i a b =
-    (r : ℕ) (s : Scalar) → (TouchesRegister i r → ⊥) → a.regs r ≡ Num s → b.regs r ≡ Num s
+KeepsNumbers i a b = KeepsNumbersIn (λ r. TouchesRegister i r → ⊥) a b

@@ -18,7 +18,7 @@ use Rattle.register_kinds.specs.declared.state.AbsState.{AbsState}
 use Rattle.register_kinds.specs.Pairs.{AreBelow}
 use Rattle.register_kinds.specs.declared.kind.RegKind.TheVariants as kinds
 use Rattle.register_kinds.specs.States.{kind_in, state_of}
-use Rattle.kind_tests.specs.declared.fault.Fault.{Fault}
+use Rattle.kind_tests.specs.declared.fault.InsnFault.{InsnFault}
 use Rattle.memory_effects.specs.declared.region.Region.{Region}
 use Rattle.state_steps.specs.declared.flow.Flow.{Flow}
 use Rattle.state_steps.specs.Steps.{IsBranch, taken_state, base_of, IsInRegion, Compares}
@@ -72,7 +72,7 @@ pub record IsDone (i : Insn) (shapes : List MapShape) (ctx_len top : ℕ) (old n
 
 -- The instruction is done, or refused.
 pub record Stepped (i : Insn) (shapes : List MapShape) (ctx_len top : ℕ) (old new : AbsState)
-    (result : Result Flow Fault) : Type 0 where
+    (result : Result Flow InsnFault) : Type 0 where
   pub done : IfOk result (IsDone i shapes ctx_len top old new)
   pub below : AreBelow top new
   pub unchanged : OnErr result (new ≡ old)

@@ -15,8 +15,8 @@ use Rattle.bpf_model.specs.Plain.{Names}
 use Rattle.bpf_model.specs.Value.{IsNumber}
 use Rattle.typed_runs.specs.Describes.{Scene, IsHeld}
 use Rattle.register_kinds.specs.declared.state.AbsState.{AbsState}
-use Rattle.kind_tests.specs.declared.fault.Fault.{Fault}
-use Rattle.kind_tests.specs.declared.fault.Fault.TheVariants.{Memory}
+use Rattle.kind_tests.specs.declared.fault.InsnFault.{InsnFault}
+use Rattle.kind_tests.specs.declared.fault.InsnFault.TheVariants.{Memory}
 use Rattle.memory_effects.specs.declared.region.Region.{Region}
 use Rattle.memory_effects.specs.declared.region.Region.TheVariants as regions
 use Rattle.state_steps.specs.declared.flow.Flow.{Flow}
@@ -66,5 +66,5 @@ IsComparable i v =
     ⊎ (IsNullTest i × (n : ℕ) × (o : ℤ) × (v ≡ Pointer (references.Elem n o)))
 
 -- no refusal but for want of memory
-abbrev pub IsFine : {A : Type 0} → Result A Fault → Type 0
+abbrev pub IsFine : {A : Type 0} → Result A InsnFault → Type 0
 IsFine r = IsOkUnless r Memory

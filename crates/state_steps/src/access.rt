@@ -5,7 +5,7 @@ ghost use Rattle.state_steps.specs.Stepped.{Stepped};
 
 use crate::flow::{Flow, single};
 use bpf_model::{Insn, Operand, Reg, SignedWidth, Width};
-use kind_tests::Fault;
+use kind_tests::InsnFault;
 use memory_effects::{Address, EnvironmentShape, load, load_signed, store};
 use register_kinds::AbsState;
 
@@ -16,7 +16,7 @@ pub(crate) fn load_step(
     dst: Reg,
     from: Address,
     shape: &EnvironmentShape,
-) -> Result<Flow, Fault>
+) -> Result<Flow, InsnFault>
     ensures { (top : ℕ) → AreBelow top state.old
         → Stepped (Insn.Load width dst from.base from.offset) shape.now.shapes.now
         shape.now.ctx_len top state.old state.new result }
@@ -32,7 +32,7 @@ pub(crate) fn load_signed_step(
     dst: Reg,
     from: Address,
     shape: &EnvironmentShape,
-) -> Result<Flow, Fault>
+) -> Result<Flow, InsnFault>
     ensures { (top : ℕ) → AreBelow top state.old
         → Stepped (Insn.LoadSigned width dst from.base from.offset) shape.now.shapes.now
         shape.now.ctx_len top state.old state.new result }
@@ -48,7 +48,7 @@ pub(crate) fn store_step(
     to: Address,
     src: &Operand,
     shape: &EnvironmentShape,
-) -> Result<Flow, Fault>
+) -> Result<Flow, InsnFault>
     ensures { (top : ℕ) → AreBelow top state.old
         → Stepped (Insn.Store width to.base to.offset src.now) shape.now.shapes.now
         shape.now.ctx_len top state.old state.new result }

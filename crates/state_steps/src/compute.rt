@@ -7,7 +7,7 @@ ghost use Rattle.state_steps.specs.Stepped.{Stepped};
 use crate::flow::{Flow, single};
 use bpf_model::{AluOp, Insn, Operand, Reg, Size, UnaryOp};
 use compute_effects::{alu, load_map, load_number, unary};
-use kind_tests::Fault;
+use kind_tests::InsnFault;
 use memory_effects::{EnvironmentShape, Region};
 use register_kinds::AbsState;
 
@@ -18,7 +18,7 @@ pub(crate) fn alu_step(
     size: Size,
     dst: Reg,
     src: &Operand,
-) -> Result<Flow, Fault>
+) -> Result<Flow, InsnFault>
     ensures { (shapes : List MapShape) (ctx_len top : ℕ) → AreBelow top state.old
         → Stepped (Insn.Alu op size dst src.now) shapes ctx_len top state.old state.new result }
 {
@@ -27,7 +27,7 @@ pub(crate) fn alu_step(
 }
 
 /// An operation of one operand.
-pub(crate) fn unary_step(state: &mut AbsState, op: &UnaryOp, dst: Reg) -> Result<Flow, Fault>
+pub(crate) fn unary_step(state: &mut AbsState, op: &UnaryOp, dst: Reg) -> Result<Flow, InsnFault>
     ensures { (shapes : List MapShape) (ctx_len top : ℕ) → AreBelow top state.old
         → Stepped (Insn.Unary op.now dst) shapes ctx_len top state.old state.new result }
 {
@@ -36,7 +36,11 @@ pub(crate) fn unary_step(state: &mut AbsState, op: &UnaryOp, dst: Reg) -> Result
 }
 
 /// The wide instruction with a number.
-pub(crate) fn load_number_step(state: &mut AbsState, dst: Reg, number: u64) -> Result<Flow, Fault>
+pub(crate) fn load_number_step(
+    state: &mut AbsState,
+    dst: Reg,
+    number: u64,
+) -> Result<Flow, InsnFault>
     ensures { (shapes : List MapShape) (ctx_len top : ℕ) → AreBelow top state.old
         → Stepped (Insn.LoadNumber dst number) shapes ctx_len top state.old state.new result }
 {
@@ -50,7 +54,7 @@ pub(crate) fn load_map_step(
     dst: Reg,
     map: i32,
     shape: &EnvironmentShape,
-) -> Result<Flow, Fault>
+) -> Result<Flow, InsnFault>
     ensures { (ctx_len top : ℕ) → AreBelow top state.old
         → Stepped (Insn.LoadMap dst map) shape.now.shapes.now ctx_len top
         state.old state.new result }

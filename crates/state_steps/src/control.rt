@@ -16,7 +16,7 @@ use crate::flow::{Flow, single};
 use bpf_model::{CallKind, Condition, Insn, Operand, Reg, Size};
 use call_effects::{call, fork_null};
 use control_effects::{exit, fork, fork_value, jump_long_transfers, jump_transfers};
-use kind_tests::Fault;
+use kind_tests::InsnFault;
 use memory_effects::{EnvironmentShape, Region};
 use register_kinds::{AbsState, Identities, RegKind};
 use std::alloc::{AllocError, Global};
@@ -65,7 +65,7 @@ fn branch(
     size: Size,
     dst: Reg,
     src: &Operand,
-) -> Result<Box<AbsState>, Fault>
+) -> Result<Box<AbsState>, InsnFault>
     ensures sound { IfOk result (λ taken.
         Forks condition size dst src.now state.old state.new taken.value) }
     ensures compares { OnOk result (ComparesWell condition size dst src.now (state_of state.old)) }
@@ -87,13 +87,13 @@ fn branch(
     ensures taken_narrowed { IfOk result (λ taken. HasNumber (state_of state.old) dst
         → AreNarrowed dst src.now (state_of state.old) (state_of taken.value)) }
     ensures accepts { HasNumber (state_of state.old) dst
-        → IsNumberOperand (state_of state.old) src.now → IsOkUnless result Fault.Memory }
+        → IsNumberOperand (state_of state.old) src.now → IsOkUnless result InsnFault.Memory }
     ensures splits { IfOk result (λ taken. (map id : ℕ)
         → IsEqualToNull condition size dst src.now map id state.old
         → Splits id state.old taken.value state.new) }
     ensures accepts_null { (map id : ℕ)
         → IsEqualToNull condition size dst src.now map id state.old
-        → IsOkUnless result Fault.Memory }
+        → IsOkUnless result InsnFault.Memory }
     ensures unchanged { OnErr result (state.new ≡ state.old) }
 {
     match (null_test(condition, size, src), state.kind(dst)) {
@@ -111,7 +111,7 @@ pub(crate) fn branch_step(
     size: Size,
     dst: Reg,
     src: &Operand,
-) -> Result<Flow, Fault>
+) -> Result<Flow, InsnFault>
     ensures { (offset : ℤ) (shapes : List MapShape) (ctx_len top : ℕ) → AreBelow top state.old
         → Stepped (Insn.JumpIf condition size dst src.now offset) shapes ctx_len top
         state.old state.new result }
@@ -130,7 +130,7 @@ pub(crate) fn call_step(
     imm: i32,
     shape: &EnvironmentShape,
     ids: &mut Identities,
-) -> Result<Flow, Fault>
+) -> Result<Flow, InsnFault>
     requires room { ids.old.next + 1 < 2 ^ 32 }
     requires below { AreBelow ids.old.next state.old }
     ensures stepped { (ctx_len : ℕ) → Stepped (Insn.Call kind imm) shape.now.shapes.now ctx_len
@@ -142,7 +142,7 @@ pub(crate) fn call_step(
 }
 
 /// The end of a run.
-pub(crate) fn exit_step(state: &AbsState) -> Result<Flow, Fault>
+pub(crate) fn exit_step(state: &AbsState) -> Result<Flow, InsnFault>
     ensures { (shapes : List MapShape) (ctx_len top : ℕ) → AreBelow top state.now
         → Stepped Insn.Exit shapes ctx_len top state.now state.now result }
 {

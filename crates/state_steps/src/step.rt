@@ -16,7 +16,7 @@ use crate::compute::{alu_step, load_map_step, load_number_step, unary_step};
 use crate::control::{branch_step, call_step, exit_step, jump_long_step, jump_step};
 use crate::flow::Flow;
 use bpf_model::Insn;
-use kind_tests::Fault;
+use kind_tests::InsnFault;
 use memory_effects::{Address, EnvironmentShape};
 use register_kinds::{AbsState, Identities};
 use std::alloc::Global;
@@ -44,7 +44,7 @@ pub fn transfer(
     insn: &Insn,
     shape: &EnvironmentShape,
     ids: &mut Identities,
-) -> Result<Flow, Fault>
+) -> Result<Flow, InsnFault>
     requires room { ids.old.next + 1 < 2 ^ 32 }
     requires below { AreBelow ids.old.next state.old }
 
@@ -102,7 +102,7 @@ fn perform(
     insn: &Insn,
     shape: &EnvironmentShape,
     ids: &mut Identities,
-) -> Result<Flow, Fault>
+) -> Result<Flow, InsnFault>
     requires room { ids.old.next + 1 < 2 ^ 32 }
     requires below { AreBelow ids.old.next state.old }
     ensures stepped { Stepped insn.now shape.now.shapes.now shape.now.ctx_len ids.new.next

@@ -3,7 +3,7 @@
 ghost use Rattle.std.specs.Prelude.{◌≤◌};
 
 use insn_codec::{
-    AluOp, ByteOrder, CallKind, Condition, DecodeFault, Flaw, Insn, Operand, Program, Reg,
+    AluOp, ByteOrder, CallKind, Condition, DecodeFault, Insn, InsnFlaw, Operand, Program, Reg,
     SignExtension, SignedWidth, Size, SwapWidth, UnaryOp, Width, decode, decode_undoes_encode,
     encode, encode_undoes_decode,
 };
@@ -324,7 +324,7 @@ fn lengths(rt: HostRuntime) -> Result<(), Fail> {
 #[test]
 fn printed_faults(rt: HostRuntime) -> Result<(), Fail> {
     let fault = DecodeFault::Insn {
-        flaw: Flaw::BadRegister,
+        flaw: InsnFlaw::BadRegister,
         slot: 3,
     };
     let flawed = format!(in rt.alloc(); "{fault}")?;

@@ -23,13 +23,13 @@ use Rattle.typed_runs.specs.Kinds as model
 use Rattle.register_kinds.specs.declared.state.AbsState.{AbsState}
 use Rattle.register_kinds.specs.States.{state_of}
 use Rattle.register_kinds.specs.Joined.{IsJoinedKind, IsJoinedCell, AreJoined}
-use Rattle.kind_tests.specs.declared.fault.Fault.{Fault}
-use Rattle.kind_tests.specs.declared.fault.Fault.TheVariants as faults
+use Rattle.kind_tests.specs.declared.fault.InsnFault.{InsnFault}
+use Rattle.kind_tests.specs.declared.fault.InsnFault.TheVariants as faults
 use Rattle.memory_effects.specs.declared.region.Region.{Region}
 use Rattle.state_steps.specs.Facts.{Fact, Register, FrameByte, FramePointer, Section, FactHolds, Makes, IsReadyInsn, KeepsFacts}
 use Rattle.state_steps.specs.Lookups.{IsKeyWritten, Expects, KeepsSaved, IsReadyPart, LeavesPart, IsReadySection, LeavesSection, IsReadyWithMaps, section_call}
-use Rattle.verifier.specs.declared.refusal.Refusal.{Refusal}
-use Rattle.verifier.specs.declared.refusal.Refusal.TheVariants.{Memory}
+use Rattle.verifier.specs.declared.refusal.ProgramRefusal.{ProgramRefusal}
+use Rattle.verifier.specs.declared.refusal.ProgramRefusal.TheVariants.{Memory}
 use Rattle.verifier.specs.declared.waiting.Waiting.{Waiting}
 use Rattle.verifier.specs.declared.waiting.Waiting.TheVariants.{Nothing, Known, Differing}
 use Rattle.verifier.specs.FactsKnown.{IsInner, Knows, WithoutFact, IsExpected, IsKnown, AreKnown, CanAccept}
@@ -546,10 +546,10 @@ module _ (program : List Insn) (targets : List (Option ℕ)) (long : length targ
   known_more = jumped_known done.spreads.jumped
 
 -- a refusal for want of memory
-pub memory_refused : (f : Fault) (e : Refusal) (slot : ℕ) → f ≡ faults.Memory → e ≡ refusal_of f slot → e ≡ Memory
+pub memory_refused : (f : InsnFault) (e : ProgramRefusal) (slot : ℕ) → f ≡ faults.Memory → e ≡ refusal_of f slot → e ≡ Memory
 memory_refused f e slot g h = h ∙ ap (λ f. refusal_of f slot) g
 
-pub accepted_result : {A : Type 0} (r : Result A Refusal) (e e' : Refusal) → r ≡ Err e → e ≡ e' → e' ≡ Memory → IsAccepted r
+pub accepted_result : {A : Type 0} (r : Result A ProgramRefusal) (e e' : ProgramRefusal) → r ≡ Err e → e ≡ e' → e' ≡ Memory → IsAccepted r
 accepted_result r e e' g h m = subst IsAccepted (sym g) (h ∙ m)
 
 -- only the entry's state is known, at the start

@@ -14,8 +14,8 @@ use Rattle.memory_effects.specs.declared.region.Region.{Region}
 use Rattle.resolved_insns.specs.declared.record.ResolvedInsn.{ResolvedInsn}
 use Rattle.resolved_insns.specs.Resolved.{AreResolved}
 use Rattle.state_steps.specs.Steps.{base_of, IsInRegion, Compares, IsComparable}
-use Rattle.verifier.specs.declared.refusal.Refusal.{Refusal}
-use Rattle.verifier.specs.declared.refusal.Refusal.TheVariants.{Graph, Instruction, Memory}
+use Rattle.verifier.specs.declared.refusal.ProgramRefusal.{ProgramRefusal}
+use Rattle.verifier.specs.declared.refusal.ProgramRefusal.TheVariants.{Graph, Instruction, Memory}
 use Rattle.verifier.specs.Checked.{Checked}
 use Rattle.verifier.specs.Peak.{AreFew}
 
@@ -58,11 +58,11 @@ verified_of c j = record { plan = j.plan; closed = j.justified.closed }
 
 -- A refusal tells a flaw of the graph only where the graph has it, and a fault of an instruction
 -- only where the graph has no flaw.
-abbrev pub IsToldOf : List Insn → Refusal → Type 0
+abbrev pub IsToldOf : List Insn → ProgramRefusal → Type 0
 IsToldOf program (Graph flaw slot) = HasGraphFlaw program flaw slot
 IsToldOf program (Instruction fault slot) = HasGoodGraph program
 IsToldOf program Memory = Unit {0}
 
 -- no refusal but for want of memory
-abbrev pub IsAccepted : {A : Type 0} → Result A Refusal → Type 0
+abbrev pub IsAccepted : {A : Type 0} → Result A ProgramRefusal → Type 0
 IsAccepted r = IsOkUnless r Memory

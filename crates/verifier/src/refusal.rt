@@ -1,23 +1,23 @@
 //! Why a program is refused.
 ghost use Rattle.std.specs.Prelude.{◌≡◌};
 
-use kind_tests::Fault;
+use kind_tests::InsnFault;
 use program_graph::{GraphFlaw, GraphRefusal};
 use std::alloc::{AllocError, AllocFailed};
 use thiserror::Error;
 
 /// Why a program is refused, and the slot of the instruction at which it is.
 #[derive(Clone, Copy, Debug, PartialEq, Eq, Error)]
-pub enum Refusal {
+pub enum ProgramRefusal {
     #[error("{flaw} at slot {slot}")]
     Graph { flaw: GraphFlaw, slot: usize },
     #[error("{fault} at slot {slot}")]
-    Instruction { fault: Fault, slot: usize },
+    Instruction { fault: InsnFault, slot: usize },
     #[error("out of memory")]
     Memory,
 }
 
-impl Refusal {
+impl ProgramRefusal {
     ghost use Rattle.std.specs.Prelude.{Option};
     ghost use Rattle.verifier.specs.Numbers.{refusal_number, refusal_slot};
 
@@ -26,9 +26,9 @@ impl Refusal {
         ensures { result ≡ refusal_number self.now }
     {
         match self {
-            Refusal::Graph { flaw, .. } => flaw.code(),
-            Refusal::Instruction { fault, .. } => fault.code(),
-            Refusal::Memory => 13,
+            ProgramRefusal::Graph { flaw, .. } => flaw.code(),
+            ProgramRefusal::Instruction { fault, .. } => fault.code(),
+            ProgramRefusal::Memory => 13,
         }
     }
 
@@ -38,28 +38,30 @@ impl Refusal {
         ensures { result ≡ refusal_slot self.now }
     {
         match self {
-            Refusal::Graph { slot, .. } | Refusal::Instruction { slot, .. } => Some(*slot),
-            Refusal::Memory => None,
+            ProgramRefusal::Graph { slot, .. } | ProgramRefusal::Instruction { slot, .. } => Some(
+                *slot,
+            ),
+            ProgramRefusal::Memory => None,
         }
     }
 }
 
-impl From<AllocError> for Refusal {
-    ghost use Rattle.verifier.specs.declared.refusal.Refusal.TheVariants.{Memory};
+impl From<AllocError> for ProgramRefusal {
+    ghost use Rattle.verifier.specs.declared.refusal.ProgramRefusal.TheVariants.{Memory};
 
     ghost from_gives = { λ _ e. e ≡ Memory };
 
-    fn from(_: AllocError) -> Refusal {
-        Refusal::Memory
+    fn from(_: AllocError) -> ProgramRefusal {
+        ProgramRefusal::Memory
     }
 }
 
-impl<T: Drop> From<AllocFailed<T>> for Refusal {
-    ghost use Rattle.verifier.specs.declared.refusal.Refusal.TheVariants.{Memory};
+impl<T: Drop> From<AllocFailed<T>> for ProgramRefusal {
+    ghost use Rattle.verifier.specs.declared.refusal.ProgramRefusal.TheVariants.{Memory};
 
     ghost from_gives = { λ _ e. e ≡ Memory };
 
-    fn from(_: AllocFailed<T>) -> Refusal {
-        Refusal::Memory
+    fn from(_: AllocFailed<T>) -> ProgramRefusal {
+        ProgramRefusal::Memory
     }
 }

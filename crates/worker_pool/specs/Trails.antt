@@ -46,7 +46,8 @@ IsOfWorker first last (trails.OtherRun start step note) =
 IsOfWorker first last (trails.Ended start step note dropped) =
     IsByWorker first last start × IsByWorker first last step × IsByWorker first last dropped
 
--- The reply is no answer to the job's event, and the outcome tells why, with the run, if there is one.
+-- The reply is no answer to the job's event, and the outcome tells why, with the run, if there is
+-- one.
 pub record StopsBy (reply : Result Answer SharedFault) (run : Option ℕ) (outcome : Outcome)
     : Type 0 where
   pub cause : StopCause

@@ -11,7 +11,7 @@ use plain_model::Machine;
 use plain_runs::Loaded as PlainLoaded;
 use std::alloc::Global;
 use std::test::Fail;
-use verifier::{Refusal, Verified, verify};
+use verifier::{ProgramRefusal, Verified, verify};
 use world::World;
 use world_parts::Loaded;
 
@@ -89,7 +89,7 @@ pub fn judged(
     shapes: &[MapShape],
     maps: &[usize],
     context_len: usize,
-) -> Result<Result<Verified, Refusal>, Fail> {
+) -> Result<Result<Verified, ProgramRefusal>, Fail> {
     let chosen = shapes_of(alloc, shapes, maps)?;
     if context_len > CTX_BYTES || chosen.len() > MAX_MAPS {
         return Err(Fail::from("beyond the limits"));

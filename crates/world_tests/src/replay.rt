@@ -2,7 +2,7 @@
 use crate::script::{Command, command_of, tell, tell_answer};
 use bpf_model::{Answer, Event, RunId, Stat};
 use plain_model::Machine;
-use plain_store::Fault;
+use plain_store::ModelFault;
 use std::alloc::{AllocError, Global};
 use std::fmt::Write;
 use std::process::Abort;
@@ -12,13 +12,13 @@ use world::World;
 /// What answers events.
 pub trait Answering {
     /// The answer, or a fault where the definitions' machine has no step.
-    fn answer(&mut self, event: Event) -> Result<Answer, Fault>;
+    fn answer(&mut self, event: Event) -> Result<Answer, ModelFault>;
 
     fn counts(&self) -> Stat;
 }
 
 impl Answering for Machine {
-    fn answer(&mut self, event: Event) -> Result<Answer, Fault> {
+    fn answer(&mut self, event: Event) -> Result<Answer, ModelFault> {
         self.apply(event)
     }
 
@@ -28,7 +28,7 @@ impl Answering for Machine {
 }
 
 impl Answering for World {
-    fn answer(&mut self, event: Event) -> Result<Answer, Fault> {
+    fn answer(&mut self, event: Event) -> Result<Answer, ModelFault> {
         Ok(self.apply(&event))
     }
 
@@ -38,7 +38,7 @@ impl Answering for World {
 }
 
 /// The last answer of at most so many steps, up to the exit.
-fn steps<M: Answering>(machine: &mut M, run: RunId, count: usize) -> Result<Answer, Fault> {
+fn steps<M: Answering>(machine: &mut M, run: RunId, count: usize) -> Result<Answer, ModelFault> {
     let mut last = machine.answer(Event::Step { run });
     for _ in 1..count {
         if !matches!(last, Ok(Answer::Moved)) {

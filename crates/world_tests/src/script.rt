@@ -2,7 +2,7 @@
 //! are named by their numbers.
 use arrayvec::ArrayVec;
 use bpf_model::{Answer, Event, Given, MapId, ProgId, RunId};
-use plain_store::Fault;
+use plain_store::ModelFault;
 use std::alloc::{AllocError, Global};
 use std::fmt::Write;
 use std::str::Split;
@@ -94,12 +94,12 @@ pub fn command_of(alloc: Global, line: &str) -> Result<Command, Fail> {
     Ok(Command::Apply(event))
 }
 
-fn fault_name(fault: &Fault) -> &'static str {
+fn fault_name(fault: &ModelFault) -> &'static str {
     match fault {
-        Fault::Stuck => "stuck",
-        Fault::Memory => "memory",
-        Fault::OutOfRange => "out of range",
-        Fault::Early => "early",
+        ModelFault::Stuck => "stuck",
+        ModelFault::Memory => "memory",
+        ModelFault::OutOfRange => "out of range",
+        ModelFault::Early => "early",
     }
 }
 
@@ -138,7 +138,7 @@ pub fn tell_answer(alloc: Global, text: &mut String, answer: &Answer) -> Result<
 pub fn tell(
     alloc: Global,
     text: &mut String,
-    answer: &Result<Answer, Fault>,
+    answer: &Result<Answer, ModelFault>,
 ) -> Result<(), AllocError> {
     match answer {
         Ok(answer) => tell_answer(alloc, text, answer),

@@ -4,13 +4,13 @@ use Rattle.std.proofs.lemmas.List.{take_rest}
 use Rattle.bpf_model.specs.declared.slot.Slot.{Slot}
 use Rattle.bpf_model.specs.declared.insn.Insn.{Insn}
 use Rattle.bpf_model.specs.Spelling.{FitsInsn, spelling, slot_count, slot_at, next_slot_at}
-use Rattle.insn_codec.specs.declared.flaw.Flaw.{Flaw}
+use Rattle.insn_codec.specs.declared.flaw.InsnFlaw.{InsnFlaw}
 use Rattle.insn_codec.specs.Faults.{IsInsnFlaw, IsInsnFlawAt}
 use Rattle.insn_codec.specs.Begins.{BeginsWith}
 use Rattle.insn_codec.proofs.TextLaws.{front_of, again}
 use Rattle.insn_codec.proofs.decoding.decode_first.Goals as goal
 
-flaw_at : (bytes : List ℕ) (s : Slot) (next : Option Slot) (f : Flaw) → s ≡ slot_at bytes → next ≡ next_slot_at bytes → IsInsnFlaw s next f → IsInsnFlawAt bytes f
+flaw_at : (bytes : List ℕ) (s : Slot) (next : Option Slot) (f : InsnFlaw) → s ≡ slot_at bytes → next ≡ next_slot_at bytes → IsInsnFlaw s next f → IsInsnFlawAt bytes f
 flaw_at bytes s next f e d h = subst (λ (n : Option Slot). IsInsnFlaw (slot_at bytes) n f) d (subst (λ (x : Slot). IsInsnFlaw x next f) e h)
 
 begins_at : (bytes : List ℕ) (s : Slot) (next : Option Slot) (i : Insn) → s ≡ slot_at bytes → next ≡ next_slot_at bytes → BeginsWith s next i → BeginsWith (slot_at bytes) (next_slot_at bytes) i
