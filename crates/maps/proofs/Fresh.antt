@@ -15,7 +15,7 @@ use Rattle.std.proofs.lemmas.Option.{none-some}
 use Rattle.std.proofs.lemmas.List.{length-replicate}
 use Rattle.bpf_model.specs.View.{MapView, SlotView, unused_slot, new_map_view, key_in, value_in}
 use Rattle.bpf_model.specs.Schedule.{no_queues}
-use Rattle.element_arena.specs.State.{times_in, is_at, indexed, key_at, value_at, worn_at, new_arena}
+use Rattle.element_arena.specs.State.{times_in, is_at, indexed, key_at, worn_at, new_arena}
 use Rattle.maps.specs.Parted.{PartsView, IsParted}
 use Rattle.maps.specs.Shown.{map_view, IsMap}
 

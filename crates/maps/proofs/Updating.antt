@@ -11,7 +11,7 @@ use Rattle.bpf_model.specs.declared.call.Errno.TheVariants.{NoMemory}
 use Rattle.bpf_model.specs.declared.limits.MapShape.{MapShape}
 use Rattle.bpf_model.specs.Helper.{update_error}
 use Rattle.bpf_model.specs.View.{SlotView, MapView, uses_at, map_state_of, key_in, value_in}
-use Rattle.element_arena.specs.State.{key_at, value_at, taken}
+use Rattle.element_arena.specs.State.{key_at, taken}
 use Rattle.view_laws.specs.Views.{updated, updated_by, shown_error, filled, filled_from, retired_key, retired_slot}
 use Rattle.view_laws.proofs.Lists.{remove-same, len-remove_found, len-insert_new}
 use Rattle.maps.specs.Parted.{PartsView, without_key}

@@ -1,5 +1,5 @@
 -- What is seen of a map, and what is kept of it.
-use Rattle.std.specs.Prelude.{◌≡◌, ℕ, ◌+◌, ◌<◌, ◌≤◌, ◌==◌, List, [], ◌∷◌, Option, Some, None}
+use Rattle.std.specs.Prelude.{◌≡◌, ℕ, ◌+◌, ◌≤◌, ◌==◌, List, [], ◌∷◌, Option, Some, None}
 use Rattle.std.specs.Prelude.{Result, Ok, Err, if◌then◌else◌, slice_get, length, count_by}
 use Rattle.std.specs.FinMap.{get, len}
 use Rattle.bpf_model.specs.declared.call.Errno.{Errno}
@@ -10,8 +10,7 @@ use Rattle.bpf_model.specs.MapState.{MapState, IsShape, slots_of_shape}
 use Rattle.bpf_model.specs.View.{MapView}
 use Rattle.bpf_model.specs.Codes.{KeyMap}
 use Rattle.bpf_model.specs.Refines.{lists_of}
-use Rattle.element_arena.specs.State.{ArenaState, indexed, key_at, value_at}
-use Rattle.deferred_free.specs.Queued.{queued}
+use Rattle.element_arena.specs.State.{ArenaState, key_at, value_at}
 use Rattle.hash_index.specs.Order.{IsAbove, NoneBetween}
 use Rattle.view_laws.specs.Views.{given_at, reaped_view, filled, retired_slot}
 use Rattle.maps.specs.Parted.{PartsView, IsInUse}

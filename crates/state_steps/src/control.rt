@@ -5,7 +5,7 @@ ghost use Rattle.bpf_model.specs.declared.limits.MapShape.{MapShape};
 ghost use Rattle.typed_runs.specs.Effects.{IsNumberOperand, HasNumber};
 ghost use Rattle.register_kinds.specs.declared.state.AbsState.{AbsState as Known};
 ghost use Rattle.register_kinds.specs.Pairs.{AreBelow, TakesFew};
-ghost use Rattle.register_kinds.specs.States.{kind_in, state_of};
+ghost use Rattle.register_kinds.specs.States.{state_of};
 ghost use Rattle.call_effects.specs.Calls.{Splits};
 ghost use Rattle.kind_tests.specs.Forks.{Forks};
 ghost use Rattle.control_effects.specs.Narrowing.{AreNarrowed, NarrowsKnown};
@@ -19,7 +19,7 @@ use control_effects::{exit, fork, fork_value, jump_long_transfers, jump_transfer
 use kind_tests::InsnFault;
 use memory_effects::{EnvironmentShape, Region};
 use register_kinds::{AbsState, Identities, RegKind};
-use std::alloc::{AllocError, Global};
+use std::alloc::Global;
 
 /// A jump, which leaves all that is known as it is.
 pub(crate) fn jump_step() -> Flow
