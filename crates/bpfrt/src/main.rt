@@ -1,19 +1,7 @@
 //! `bpfrt`: the command line over the runtime.
 #![tactic(auto)]
 
-mod pool;
-mod program_file;
-mod report;
-mod request;
-mod run;
-mod script;
-mod streams;
-mod verified_file;
-mod words;
-
-use report::{fault, no_command};
-use request::{Command, UsageFault};
-use run::run as run_command;
+use commands::{Command, UsageFault, no_command, parse_words, run, unread};
 use std::alloc::Global;
 use std::env;
 use std::fs::File;
@@ -21,7 +9,6 @@ use std::io::ErrorKind;
 use std::process::ExitCode;
 use std::sync::Wait;
 use std::thread::Threads;
-use streams::{Side, stream_fault};
 
 /// Runs the command on the file that it names, or on standard input. The handle for threads and for
 /// waiting is the runtime again.
@@ -30,10 +17,10 @@ fn run_on_input<H: Threads + Wait + Sync>(rt: &HostRuntime, threads: &H, command
     let mut out = rt.stdout();
     let mut err = rt.stderr();
     match command.file() {
-        None => run_command(threads, alloc, command, &mut rt.stdin(), &mut out, &mut err),
+        None => run(threads, alloc, command, &mut rt.stdin(), &mut out, &mut err),
         Some(path) => match File::open(rt, path) {
-            Ok(mut file) => run_command(threads, alloc, command, &mut file, &mut out, &mut err),
-            Err(error) => fault(&mut err, stream_fault(&error, Side::Input)),
+            Ok(mut file) => run(threads, alloc, command, &mut file, &mut out, &mut err),
+            Err(error) => unread(&mut err, &error),
         },
     }
 }
@@ -57,7 +44,7 @@ fn words_of(rt: &HostRuntime, alloc: Global) -> Result<Vec<String>, UsageFault> 
 fn status_of<H: Threads + Wait + Sync>(rt: &HostRuntime, threads: &H) -> Result<u8, UsageFault> {
     let alloc = rt.alloc();
     let words = words_of(rt, alloc)?;
-    let command = words::command(alloc, &words)?;
+    let command = parse_words(alloc, &words)?;
     Ok(run_on_input(rt, threads, &command))
 }
 
@@ -68,6 +55,3 @@ fn main(rt: HostRuntime) -> ExitCode {
     };
     ExitCode::from(status)
 }
-
-#[cfg(test)]
-mod tests;

@@ -1,5 +1,0 @@
-use Rattle.bpfrt.proofs.Raw.{more_long}
-use Rattle.bpfrt.proofs.program_file.FileBytes.append.Goals as goal
-
-pub returns-in-TooLong : goal.returns-in-TooLong
-returns-in-TooLong c bytes h = more_long c.args.self.now c.in-TooLong.remainder bytes c.args.chunk.now c.in-TooLong.is h

@@ -1,5 +1,0 @@
-use Rattle.bpfrt.specs.Files.{HasRead}
-use Rattle.bpfrt.proofs.program_file.read_file.Given as goal
-
-abbrev pub invariant-loop : goal.invariant-loop
-invariant-loop g l = HasRead (g.R.Read.remaining l.fn.input) (g.R.Read.remaining l.input) l.file

@@ -1,6 +1,0 @@
-use Rattle.loader.specs.Loaded.{loaded_content}
-use Rattle.bpfrt.proofs.NewMaps.{says_new}
-use Rattle.bpfrt.proofs.program_file.source_of.Goals as goal
-
-pub returns-clause-maps : goal.returns-clause-maps
-returns-clause-maps c = says_new c.args.bytes.now (loaded_content c.in_ok-file.file) c.in_ok-file.ensures.found

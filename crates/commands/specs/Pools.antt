@@ -1,0 +1,71 @@
+-- What `pool` writes, of which files, and how it refuses the others.
+use Rattle.std.specs.Prelude.{◌≡◌, ◌≢◌, ◌⊎◌, ℕ, ◌+◌, List, [], ◌∷◌, ◌++◌, length, map, codes, All}
+use Rattle.std.specs.Prelude.{Option}
+use Rattle.std.specs.Fmt.{decimal}
+use Rattle.std.specs.Io.KnownBytes.{Appends}
+use Rattle.bpf_model.specs.declared.insn.Insn.{Insn}
+use Rattle.job_queue.specs.declared.fault.PoolFault.{PoolFault}
+use Rattle.job_queue.specs.Faults.{pool_fault_number}
+use Rattle.worker_pool.specs.declared.job.Outcome.{Outcome}
+use Rattle.worker_pool.specs.declared.job.Outcome.TheVariants.{Exit, Stopped}
+use Rattle.worker_pool.specs.declared.repeated.PoolRun.{PoolRun}
+use Rattle.worker_pool.specs.Numbers.{stop_cause_number}
+use Rattle.worker_pool.specs.Outcomes.{IsFaultOf, IsOutcomeOf}
+use Rattle.commands.specs.declared.report.Verdict.{Verdict}
+use Rattle.commands.specs.Outputs.{IsVerifiedFile, IsCheckedRefusal}
+use Rattle.commands.specs.declared.report.TheConstants.{MEMORY, LOST}
+
+-- what is written of one job
+abbrev pub job_line : ℕ → Outcome → List ℕ
+job_line number (Exit value) =
+    codes "job " ++ (decimal number ++ (codes " exit " ++ (decimal value ++ codes "\n")))
+job_line number (Stopped run cause) =
+    codes "job " ++ (decimal number
+    ++ (codes " stopped " ++ (decimal (stop_cause_number cause) ++ codes "\n")))
+
+-- the lines of jobs, numbered from this number on
+abbrev pub job_lines : ℕ → List Outcome → List ℕ
+job_lines number [] = []
+job_lines number (outcome ∷ outcomes) = job_line number outcome ++ job_lines (number + 1) outcomes
+
+-- a line for each job, and how many entries the journal has
+abbrev pub pool_text : List Outcome → ℕ → List ℕ
+pool_text outcomes entries =
+    job_lines 0 outcomes ++ (codes "entries " ++ (decimal entries ++ codes "\n"))
+
+abbrev pub outcomes_of : PoolRun → List Outcome
+outcomes_of run = map (λ j. j.outcome) run.report.jobs.items
+
+-- The file says a program that is verified with its maps and context. There is one outcome for each
+-- of so many jobs, and those that have exited have exited as the program may on zeros.
+pub record ArePooled (bytes : List ℕ) (count : ℕ) (outcomes : List Outcome) : Type 0 where
+  pub program : List Insn
+  pub file : IsVerifiedFile bytes program
+  pub number : length outcomes ≡ count
+  pub each : All (IsOutcomeOf program file.content.ctx_len) outcomes
+
+-- what `pool` adds to the output
+abbrev pub WritesPool : ℕ → Option (List ℕ) → Option (List ℕ) → List ℕ → Type 0
+WritesPool count old new bytes =
+    (outcomes : List Outcome) × (entries : ℕ) × ArePooled bytes count outcomes
+    × Appends old new (pool_text outcomes entries)
+
+-- The file says a program that is verified with its maps and context, and the pool of so many
+-- workers and jobs has a fault.
+pub record IsPoolVerdict (workers count : ℕ) (bytes : List ℕ) (v : Verdict) : Type 0 where
+  pub program : List Insn
+  pub file : IsVerifiedFile bytes program
+  pub fault : PoolFault
+  pub is : IsFaultOf workers count fault
+  pub told : v.code ≡ pool_fault_number fault
+
+-- The verdict is what `check` says of the file, or else the pool's.
+abbrev pub IsPoolRefusal : ℕ → ℕ → List ℕ → Verdict → Type 0
+IsPoolRefusal workers count bytes v =
+    IsCheckedRefusal bytes v ⊎ IsPoolVerdict workers count bytes v
+
+-- `pool` refuses the file or its numbers, by a verdict that is neither want of memory nor a lost
+-- result.
+abbrev pub IsRefusedByPool : ℕ → ℕ → List ℕ → Type 0
+IsRefusedByPool workers count bytes =
+    (v : Verdict) × (v.code ≢ MEMORY) × (v.code ≢ LOST) × IsPoolRefusal workers count bytes v

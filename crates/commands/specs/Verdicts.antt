@@ -1,0 +1,35 @@
+-- The numbers that are told, and the slot or the line with them.
+use Rattle.std.specs.Prelude.{◌≡◌, None}
+use Rattle.insn_codec.specs.declared.fault.DecodeFault.{DecodeFault}
+use Rattle.insn_codec.specs.Faults.{decode_fault_number, decode_fault_slot}
+use Rattle.job_queue.specs.declared.fault.PoolFault.{PoolFault}
+use Rattle.job_queue.specs.Faults.{pool_fault_number}
+use Rattle.loader.specs.declared.fault.LoadFault.{LoadFault}
+use Rattle.loader.specs.ProgramFile.{load_fault_number, load_fault_line}
+use Rattle.verifier.specs.declared.refusal.ProgramRefusal.{ProgramRefusal}
+use Rattle.verifier.specs.Numbers.{refusal_number, refusal_slot}
+use Rattle.commands.specs.declared.report.Verdict.{Verdict}
+
+-- the bytes of the program are faulty
+pub record IsDecodeVerdict (f : DecodeFault) (v : Verdict) : Type 0 where
+  pub code : v.code ≡ decode_fault_number f
+  pub slot : v.slot ≡ decode_fault_slot f
+  pub line : v.line ≡ None
+
+-- the program is refused
+pub record IsRefusalVerdict (r : ProgramRefusal) (v : Verdict) : Type 0 where
+  pub code : v.code ≡ refusal_number r
+  pub slot : v.slot ≡ refusal_slot r
+  pub line : v.line ≡ None
+
+-- the file is faulty
+pub record IsLoadVerdict (f : LoadFault) (v : Verdict) : Type 0 where
+  pub code : v.code ≡ load_fault_number f
+  pub slot : v.slot ≡ None
+  pub line : v.line ≡ load_fault_line f
+
+-- the pool gives no results
+pub record IsPoolFaultVerdict (f : PoolFault) (v : Verdict) : Type 0 where
+  pub code : v.code ≡ pool_fault_number f
+  pub slot : v.slot ≡ None
+  pub line : v.line ≡ None

@@ -1,0 +1,18 @@
+//! The commands of the program `bpfrt`: which one words ask for, and what each reads, writes and answers.
+#![tactic(auto)]
+
+mod pool;
+mod program_file;
+mod report;
+mod request;
+mod running;
+mod script;
+mod streams;
+mod verified_file;
+mod words;
+
+pub use report::no_command;
+pub use request::{Command, UsageFault};
+pub use running::run;
+pub use streams::unread;
+pub use words::parse_words;

@@ -1,0 +1,128 @@
+//! The bytes of a program file, read in bounded memory where it is raw, and what they say.
+ghost use Rattle.std.specs.Prelude.{List, [], ℕ, ◌++◌, ◌≤◌, length, IfOk, IfErr, IfSome, OnOk};
+ghost use Rattle.bpf_model.specs.declared.limits.TheConstants.{CTX_BYTES};
+ghost use Rattle.commands.specs.Files.{HoldsBytes};
+ghost use Rattle.bpf_model.specs.View.{AreNewMaps};
+ghost use Rattle.commands.specs.Outputs.{IsSourceOf, IsDecodeRefusal};
+
+use crate::report::Verdict;
+use bpf_model::MAX_SLOTS;
+use insn_codec::{DecodeFault, Program, decode};
+use loader::{HEADING, load};
+use maps::Registry;
+use std::alloc::{AllocError, Global};
+use std::io;
+use std::io::{ErrorKind, Read};
+
+/// How many bytes are read at once.
+const CHUNK: usize = 4096;
+
+/// Where so many bytes of a text are kept, 16 MiB, no more are taken. A sound text of `MAX_SLOTS`
+/// slots has fewer than 75,000.
+const TEXT_BYTES: usize = 16 << 20;
+
+/// A program, and what it is verified against.
+#[derive(Drop)]
+pub struct Source {
+    pub program: Program,
+    pub registry: Registry,
+    pub ctx_len: usize,
+}
+
+/// What is kept of a file's bytes: enough to tell what they say.
+#[derive(Drop)]
+pub enum FileBytes {
+    /// All bytes.
+    Whole(Vec<u8>),
+    /// The bytes are no text, and more than 8 for each of `MAX_SLOTS` slots; the remainder of their
+    /// number by 8.
+    TooLong(usize),
+}
+
+/// What a file of these bytes says.
+fn source_of(alloc: Global, bytes: &[u8]) -> Result<Source, Verdict>
+    ensures found { IfOk result (IsSourceOf bytes.now) }
+    ensures limit { IfOk result (λ s. s.ctx_len ≤ CTX_BYTES) }
+    ensures maps { IfOk result (λ s. AreNewMaps s.registry.maps) }
+    ensures fault { IfErr result (IsDecodeRefusal bytes.now) }
+{
+    let file = load(alloc, bytes)?;
+    let program = decode(alloc, &file.code)?;
+    Ok(Source {
+        program,
+        registry: file.registry,
+        ctx_len: file.ctx_len,
+    })
+}
+
+impl FileBytes {
+    /// A file of no bytes.
+    fn empty(alloc: Global) -> FileBytes
+        ensures { HoldsBytes result [] }
+    {
+        FileBytes::Whole(Vec::new(alloc))
+    }
+
+    /// Adds the bytes that follow. A text of `TEXT_BYTES` or more grows no further: that is want of
+    /// memory.
+    fn append(&mut self, chunk: &[u8]) -> Result<(), AllocError>
+        requires { length chunk.now ≤ CHUNK }
+        ensures { (bytes : List ℕ) → HoldsBytes self.old bytes →
+            OnOk result (HoldsBytes self.new (bytes ++ chunk.now)) }
+    {
+        match self {
+            FileBytes::Whole(bytes)
+                if chunk.len() <= (8 * MAX_SLOTS).saturating_sub(bytes.len())
+                    || bytes.starts_with(HEADING) => {
+                if bytes.len() >= TEXT_BYTES {
+                    return Err(AllocError);
+                }
+                bytes.extend_from_slice(chunk)?;
+            }
+            FileBytes::Whole(bytes) => {
+                *self = FileBytes::TooLong((bytes.len() % 8 + chunk.len() % 8) % 8);
+            }
+            FileBytes::TooLong(remainder) => *remainder = (*remainder % 8 + chunk.len() % 8) % 8,
+        }
+        Ok(())
+    }
+
+    /// What the file says, or its first fault.
+    pub fn source(&self, alloc: Global) -> Result<Source, Verdict>
+        ensures found { (bytes : List ℕ) → HoldsBytes self.now bytes →
+            IfOk result (IsSourceOf bytes) }
+        ensures limit { IfOk result (λ s. s.ctx_len ≤ CTX_BYTES) }
+        // Nothing has happened to the source's maps.
+        ensures maps { IfOk result (λ s. AreNewMaps s.registry.maps) }
+        ensures fault { (bytes : List ℕ) → HoldsBytes self.now bytes →
+            IfErr result (IsDecodeRefusal bytes) }
+    {
+        match self {
+            FileBytes::Whole(bytes) => source_of(alloc, bytes),
+            FileBytes::TooLong(0) => Err(Verdict::from(DecodeFault::TooLong)),
+            FileBytes::TooLong(_) => Err(Verdict::from(DecodeFault::Length)),
+        }
+    }
+}
+
+/// Reads a file to its end. Of a raw file it keeps a program's bytes alone, however long it is; a
+/// text is kept as a whole, and one that goes on where `TEXT_BYTES` or more are kept is want of
+/// memory.
+pub fn read_file<R: Read>(alloc: Global, input: &mut R) -> io::Result<FileBytes>
+    ensures { IfOk result (λ file. IfSome (R.remaining input.old) (HoldsBytes file)) }
+{
+    let mut file = FileBytes::empty(alloc);
+    let mut chunk = [0u8; CHUNK];
+    for _ in 0..u64::MAX {
+        let count = match input.read(&mut chunk) {
+            Ok(count) => count,
+            Err(error) if error.kind() == ErrorKind::Interrupted => continue,
+            Err(error) => return Err(error),
+        };
+        if count == 0 {
+            return Ok(file);
+        }
+        file.append(&chunk[..count])?;
+    }
+    Err(io::Error::from(ErrorKind::FileTooLarge))
+}

@@ -1,0 +1,73 @@
+//! What the program can be asked to do.
+
+use std::alloc::{AllocError, AllocFailed};
+use thiserror::Error;
+
+/// What the program is asked to do.
+#[derive(Debug, Drop)]
+pub enum Command {
+    /// Verify the program in a file and say how long it is.
+    Check {
+        file: String,
+    },
+    /// Write the text of the program in a file.
+    Disasm {
+        file: String,
+    },
+    /// Answer the script on standard input.
+    Script,
+    /// Run the program in a file so many times by so many workers.
+    Pool {
+        workers: u64,
+        file: String,
+        count: u64,
+    },
+}
+
+/// Why the words are no command.
+#[derive(Debug, Drop, Error)]
+pub enum UsageFault {
+    /// The words are refused; the text says why, or is the help that was asked for.
+    #[error("{0}")]
+    Usage(String),
+    /// A word is not UTF-8.
+    #[error("a word is not UTF-8 text")]
+    NotText,
+    /// An allocation failed.
+    #[error("out of memory")]
+    Memory,
+}
+
+impl From<AllocError> for UsageFault {
+    ghost use Rattle.std.specs.Prelude.{◌≡◌};
+    ghost use Rattle.commands.specs.declared.request.UsageFault.TheVariants.{Memory};
+
+    ghost from_gives = { λ _ e. e ≡ Memory };
+
+    fn from(_: AllocError) -> UsageFault {
+        UsageFault::Memory
+    }
+}
+
+impl<T: Drop> From<AllocFailed<T>> for UsageFault {
+    ghost use Rattle.std.specs.Prelude.{◌≡◌};
+    ghost use Rattle.commands.specs.declared.request.UsageFault.TheVariants.{Memory};
+
+    ghost from_gives = { λ _ e. e ≡ Memory };
+
+    fn from(_: AllocFailed<T>) -> UsageFault {
+        UsageFault::Memory
+    }
+}
+
+impl Command {
+    /// The path of the file that the command reads; none where it reads standard input.
+    pub fn file(&self) -> Option<&str> {
+        match self {
+            Command::Check { file } | Command::Disasm { file } | Command::Pool { file, .. } => {
+                Some(file.as_str())
+            }
+            Command::Script => None,
+        }
+    }
+}

@@ -1,0 +1,147 @@
+//! Running a command.
+ghost use Rattle.std.specs.Prelude.{◌≡◌, ◌⊎◌, List, ℕ, IfOk, IfErr, IfSome, OnOk, string_bytes};
+ghost use Rattle.std.specs.Io.KnownBytes.{Appends};
+ghost use Rattle.commands.specs.Files.{HoldsBytes};
+ghost use Rattle.commands.specs.Outputs.{IsAcceptedFile, IsTextOf, IsDecodeRefusal, IsCheckedRefusal, IsRefusedByDecode, IsRefusedByCheck, accepted_line, WritesAccepted, WritesText};
+ghost use Rattle.commands.specs.Commands.{ReadsFile, Refuses, Writes};
+
+use crate::pool::{PoolSize, run_pool};
+use crate::program_file::{FileBytes, read_file};
+use crate::report::{Verdict, refused};
+use crate::request::Command;
+use crate::script::run_lines;
+use crate::streams::{unread, write_text, written};
+use crate::verified_file::verify_source;
+use disasm::disassemble;
+use std::alloc::Global;
+use std::io;
+use std::io::{Read, Write};
+use std::sync::Wait;
+use std::thread::Threads;
+
+/// How long an accepted program is.
+#[derive(Clone, Copy)]
+struct Accepted {
+    instructions: usize,
+    slots: usize,
+}
+
+/// Decodes and verifies a file's program.
+fn check(alloc: Global, file: &FileBytes) -> Result<Accepted, Verdict>
+    ensures accepted { (bytes : List ℕ) → HoldsBytes file.now bytes →
+        IfOk result (IsAcceptedFile bytes) }
+    ensures refused { (bytes : List ℕ) → HoldsBytes file.now bytes →
+        IfErr result (IsCheckedRefusal bytes) }
+{
+    let source = file.source(alloc)?;
+    let checked = verify_source(alloc, source)?;
+    let program = checked.verified.program();
+    Ok(Accepted {
+        instructions: program.len(),
+        slots: program.slot_count(),
+    })
+}
+
+/// The text of a file's program.
+fn text_of(alloc: Global, file: &FileBytes) -> Result<String, Verdict>
+    ensures text { (bytes : List ℕ) → HoldsBytes file.now bytes →
+        IfOk result (λ lines. IsTextOf bytes (string_bytes lines)) }
+    ensures refused { (bytes : List ℕ) → HoldsBytes file.now bytes →
+        IfErr result (IsDecodeRefusal bytes) }
+{
+    let source = file.source(alloc)?;
+    Ok(disassemble(alloc, &source.program)?)
+}
+
+fn write_accepted<W: Write>(out: &mut W, accepted: &Accepted) -> io::Result<()>
+    ensures { OnOk result (Appends (W.contents out.old) (W.contents out.new)
+        (accepted_line accepted.now.instructions accepted.now.slots)) }
+{
+    writeln!(
+        out,
+        "accepted {} instructions {} slots",
+        accepted.instructions, accepted.slots
+    )?;
+    out.flush()
+}
+
+/// Checks the program that the input, a program file, says.
+fn run_check<R: Read, W: Write, E: Write>(
+    alloc: Global,
+    input: &mut R,
+    out: &mut W,
+    err: &mut E,
+) -> u8
+    ensures status { (result ≡ 0) ⊎ (result ≡ 1) ⊎ (result ≡ 3) }
+    ensures accepted { result ≡ 0 → IfSome (R.remaining input.old)
+        (WritesAccepted (W.contents out.old) (W.contents out.new)) }
+    ensures refused { result ≡ 1 → IfSome (R.remaining input.old) IsRefusedByCheck }
+    ensures silent { result ≡ 1 → out.new ≡ out.old }
+{
+    let file = match read_file(alloc, input) {
+        Ok(file) => file,
+        Err(error) => return unread(err, &error),
+    };
+    match check(alloc, &file) {
+        Ok(accepted) => written(err, write_accepted(out, &accepted)),
+        Err(verdict) => refused(err, verdict),
+    }
+}
+
+/// Writes the text of the program that the input, a program file, says.
+fn run_disasm<R: Read, W: Write, E: Write>(
+    alloc: Global,
+    input: &mut R,
+    out: &mut W,
+    err: &mut E,
+) -> u8
+    ensures status { (result ≡ 0) ⊎ (result ≡ 1) ⊎ (result ≡ 3) }
+    ensures text { result ≡ 0 → IfSome (R.remaining input.old)
+        (WritesText (W.contents out.old) (W.contents out.new)) }
+    ensures refused { result ≡ 1 → IfSome (R.remaining input.old) IsRefusedByDecode }
+    ensures silent { result ≡ 1 → out.new ≡ out.old }
+{
+    let file = match read_file(alloc, input) {
+        Ok(file) => file,
+        Err(error) => return unread(err, &error),
+    };
+    match text_of(alloc, &file) {
+        Ok(text) => written(err, write_text(out, text.as_bytes())),
+        Err(verdict) => refused(err, verdict),
+    }
+}
+
+/// Runs a command on its input, its file's bytes or a script, and answers the exit status: 0 fine, 1
+/// refused or a line that is wrong, 3 a fault of memory (13), of a job's result (92), of reading (96)
+/// or of writing (97). A refusal or a fault is one line on `err`. After a refusal of a file nothing
+/// was written on `out`, and after line L of a script is wrong (95) the answers of the lines before;
+/// after a fault of writing a part may have been. Which fault it was, and that there was one, no
+/// clause says: status 3 tells nothing. That a pool returns is not claimed: it waits for a lock.
+pub fn run<H: Threads + Wait + Sync, R: Read, W: Write, E: Write>(
+    rt: &H,
+    alloc: Global,
+    command: &Command,
+    input: &mut R,
+    out: &mut W,
+    err: &mut E,
+) -> u8
+    ensures status { (result ≡ 0) ⊎ (result ≡ 1) ⊎ (result ≡ 3) }
+    ensures fine { result ≡ 0 → IfSome (R.remaining input.old)
+        (Writes command.now (W.contents out.old) (W.contents out.new)) }
+    ensures refused { result ≡ 1 → IfSome (R.remaining input.old)
+        (Refuses command.now (W.contents out.old) (W.contents out.new)) }
+    ensures silent { result ≡ 1 → ReadsFile command.now → out.new ≡ out.old }
+{
+    match command {
+        Command::Check { .. } => run_check(alloc, input, out, err),
+        Command::Disasm { .. } => run_disasm(alloc, input, out, err),
+        Command::Script => run_lines(alloc, input, out, err),
+        Command::Pool { workers, count, .. } => {
+            let size = PoolSize {
+                workers: *workers,
+                count: *count,
+            };
+            run_pool(rt, alloc, size, input, out, err)
+        }
+    }
+}

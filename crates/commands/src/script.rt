@@ -1,0 +1,43 @@
+//! The script on standard input.
+ghost use Rattle.std.specs.Prelude.{◌≡◌, ◌⊎◌, ℕ, IfSome};
+ghost use Rattle.commands.specs.Scripts.{AnswersAll, AnswersBefore};
+
+use crate::report::fault;
+use control::{ScriptFault, run_script};
+use std::alloc::Global;
+use std::io::{Read, Write};
+
+/// Says on standard error why a script ended before its input, and answers the status.
+fn stopped<E: Write>(err: &mut E, why: ScriptFault) -> u8
+    ensures status { (result ≡ 1) ⊎ (result ≡ 3) }
+    ensures bad { result ≡ 1 → (line : ℕ) × (why ≡ ScriptFault.BadCommand line) }
+{
+    let code = why.code();
+    match why {
+        ScriptFault::BadCommand { line } => {
+            let _ = writeln!(err, "fault {code} at {line}");
+            1
+        }
+        _ => fault(err, code),
+    }
+}
+
+/// Answers the script that the input is on `out`, and answers the exit status: 0, 1 at a line that is no
+/// command, 3 for a fault.
+pub fn run_lines<R: Read, W: Write, E: Write>(
+    alloc: Global,
+    input: &mut R,
+    out: &mut W,
+    err: &mut E,
+) -> u8
+    ensures status { (result ≡ 0) ⊎ (result ≡ 1) ⊎ (result ≡ 3) }
+    ensures answered { result ≡ 0 → IfSome (R.remaining input.old)
+        (AnswersAll (W.contents out.old) (W.contents out.new)) }
+    ensures stopped { result ≡ 1 → IfSome (R.remaining input.old)
+        (AnswersBefore (W.contents out.old) (W.contents out.new)) }
+{
+    match run_script(alloc, input, out) {
+        Ok(()) => 0,
+        Err(why) => stopped(err, why),
+    }
+}

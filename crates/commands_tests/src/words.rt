@@ -1,0 +1,112 @@
+//! The words of the command line.
+
+use commands::{Command, UsageFault, no_command, parse_words};
+use std::alloc::Global;
+use std::process::Abort;
+use std::test::Fail;
+
+/// The command that words ask for, or the text of the usage fault as `no_command` writes it.
+fn asked(rt: &impl Abort, alloc: Global, texts: &[&str]) -> Result<Result<Command, String>, Fail> {
+    let mut words = Vec::new(alloc);
+    for text in texts {
+        words.push(String::from_str(alloc, text)?)?;
+    }
+    match parse_words(alloc, &words) {
+        Ok(command) => Ok(Ok(command)),
+        Err(usage) => {
+            let mut err: Vec<u8> = Vec::new(alloc);
+            assert_eq!(rt; no_command(&mut err, &usage), 2);
+            Ok(Err(String::from_str(alloc, str::from_utf8(&err)?)?))
+        }
+    }
+}
+
+/// Words that are no command, and what is said of them.
+const NO_COMMANDS: [(&[&str], &[&str]); 24] = [
+    (&["bpfrt"], &["Usage: bpfrt"]),
+    (&["bpfrt", "chekc", "a"], &["'chekc'", "'check'"]),
+    (&["bpfrt", "check"], &["<FILE>"]),
+    (&["bpfrt", "check", "a", "b"], &["'b'"]),
+    (&["bpfrt", "verify", "a"], &["'verify'"]),
+    (&["bpfrt", "--help"], &["check", "disasm", "script", "pool"]),
+    (&["bpfrt", "help"], &["check", "disasm", "script", "pool"]),
+    (&["bpfrt", "scirpt"], &["'scirpt'", "'script'"]),
+    (&["bpfrt", "script", "a"], &["'a'"]),
+    (&["bpfrt", "poll", "1", "a", "1"], &["'poll'", "'pool'"]),
+    (&["bpfrt", "pool", "1", "a"], &["<COUNT>"]),
+    (&["bpfrt", "pool", "1", "a", "1", "1"], &["bpfrt pool"]),
+    (&["bpfrt", "pool", "", "a", "1"], &["''", "<WORKERS>"]),
+    (
+        &["bpfrt", "pool", "01", "a", "1"],
+        &["'01'", "<WORKERS>", "bpfrt pool"],
+    ),
+    (&["bpfrt", "pool", "+1", "a", "1"], &["'+1'", "<WORKERS>"]),
+    (&["bpfrt", "pool", "1", "a", "-1"], &["'-1'", "<COUNT>"]),
+    (&["bpfrt", "pool", "-1", "a", "1"], &["'-1'", "<WORKERS>"]),
+    (&["bpfrt", "CHECK", "a"], &["'CHECK'", "'check'"]),
+    (
+        &["bpfrt", "\u{1B}[31mfly\u{7}"],
+        &["\u{FFFD}[31mfly\u{FFFD}"],
+    ),
+    (
+        &["bpfrt", "pool", "1", "a", "18446744073709551616"],
+        &["'18446744073709551616'", "<COUNT>", "bpfrt pool --help"],
+    ),
+    (
+        &["bpfrt", "check", "--help"],
+        &["accepted 33 instructions 35 slots", "fault 94 at L"],
+    ),
+    (&["bpfrt", "disasm", "--help"], &["mov64 r0, 1"]),
+    (
+        &["bpfrt", "script", "--help"],
+        &["fault 95 at L", "bpfrt script"],
+    ),
+    (&["bpfrt", "pool", "--help"], &["refused 90", "entries 8"]),
+];
+
+/// The text has all these parts, and ends with its last line.
+fn has_all(rt: &impl Abort, text: &str, parts: &[&str]) {
+    assert!(rt; text.ends_with("\n") && !text.ends_with("\n\n"), "{text}");
+    for part in parts {
+        assert!(rt; text.contains(part), "{text}");
+    }
+}
+
+#[test]
+fn words_of_commands(rt: HostRuntime) -> Result<(), Fail> {
+    let alloc = rt.alloc();
+    for (words, said) in NO_COMMANDS {
+        match asked(&rt, alloc, words)? {
+            Ok(_) => assert!(rt; false, "no command"),
+            Err(text) => has_all(&rt, text.as_str(), said),
+        }
+    }
+    let check = asked(&rt, alloc, &["bpfrt", "check", "a.bpf"])?;
+    assert!(rt; matches!(&check, Ok(Command::Check { file }) if file.as_str() == "a.bpf"));
+    let disasm = asked(&rt, alloc, &["bpfrt", "disasm", "b.bpf"])?;
+    assert!(rt; matches!(&disasm, Ok(Command::Disasm { file }) if file.as_str() == "b.bpf"));
+    assert!(rt;
+        matches!(
+            asked(&rt, alloc, &["bpfrt", "script"])?,
+            Ok(Command::Script)
+        )
+    );
+    let pool = asked(
+        &rt,
+        alloc,
+        &["bpfrt", "pool", "0", "c.bpf", "18446744073709551615"],
+    )?;
+    let Ok(Command::Pool { workers, count, .. }) = pool else {
+        return Err(Fail::from("no pool"));
+    };
+    assert_eq!(rt; workers, 0);
+    assert_eq!(rt; count, u64::MAX);
+    let mut err: Vec<u8> = Vec::new(alloc);
+    assert_eq!(rt; no_command(&mut err, &UsageFault::NotText), 2);
+    assert_eq!(rt; no_command(&mut err, &UsageFault::Memory), 3);
+    assert_eq!(rt;
+        err.as_slice(),
+        b"a word is not UTF-8 text\nfault 13\n".as_slice()
+    );
+    Ok(())
+}

@@ -1,0 +1,125 @@
+//! The lines that a command prints.
+ghost use Rattle.std.specs.Prelude.{◌<◌, ◌≤◌};
+ghost use Rattle.shared.specs.declared.worker.TheConstants.{MAX_WORKERS};
+
+use crate::activity::activities;
+use crate::command::Command;
+use crate::crew::{Crew, crews, time_per_call};
+use crate::measure::time_per_part;
+use crate::pool::time_per_job;
+use crate::report::answers_line;
+use crate::scripts::time_per_line;
+use crate::setup::make_setup;
+use anyhow::Result;
+use measurements::measurement_line;
+use shared::MAX_WORKERS;
+use std::alloc::Global;
+use std::marker::Brand;
+use std::rt::Clock;
+use std::sync::Wait;
+use std::sync::ledger::Blank;
+use std::thread::Threads;
+
+/// Goes through each activity once, and says what its events were answered.
+fn answers_lines(alloc: Global) -> Result<Vec<String>> {
+    let mut lines = Vec::new(alloc);
+    for activity in activities() {
+        let mut setup = make_setup(alloc, &activity)?;
+        let tally = setup.round();
+        lines.push(answers_line(alloc, activity.name, &tally)?)?;
+    }
+    Ok(lines)
+}
+
+/// Times each activity: the nanoseconds of one of its parts.
+fn times_lines(clock: &impl Clock, alloc: Global) -> Result<Vec<String>> {
+    let mut lines = Vec::new(alloc);
+    for activity in activities() {
+        let mut setup = make_setup(alloc, &activity)?;
+        let time = time_per_part(clock, &mut setup)?;
+        lines.push(measurement_line(alloc, activity.name, time)?)?;
+    }
+    Ok(lines)
+}
+
+/// The line of a crew: the nanoseconds of one call.
+fn crew_line<R: Threads + Wait + Clock + Sync>(
+    rt: &R,
+    alloc: Global,
+    crew: &Crew,
+    workers: u8,
+) -> Result<String>
+    requires { (0 < workers) × (workers ≤ MAX_WORKERS) }
+{
+    let blank = Blank::new(u64::from(workers));
+    let time = time_per_call::<Brand, R>(rt, alloc, blank, crew.task, workers)?;
+    Ok(measurement_line(alloc, crew.name, time)?)
+}
+
+/// Times each crew.
+fn shared_lines<R: Threads + Wait + Clock + Sync>(rt: &R, alloc: Global) -> Result<Vec<String>> {
+    let mut lines = Vec::new(alloc);
+    for crew in crews() {
+        let workers = crew.workers;
+        if workers >= 1 && workers <= MAX_WORKERS {
+            lines.push(crew_line(rt, alloc, &crew, workers)?)?;
+        }
+    }
+    Ok(lines)
+}
+
+/// How many workers serve jobs, and the line's name.
+const POOLS: [(u8, &str); 4] = [
+    (1, "pool_job_by_1"),
+    (2, "pool_job_by_2"),
+    (4, "pool_job_by_4"),
+    (8, "pool_job_by_8"),
+];
+
+/// The line of a pool: the nanoseconds of one job.
+fn pool_line<R: Threads + Wait + Clock + Sync>(
+    rt: &R,
+    alloc: Global,
+    name: &str,
+    workers: u8,
+) -> Result<String>
+    requires { (0 < workers) × (workers ≤ MAX_WORKERS) }
+{
+    let blank = Blank::new(u64::from(workers));
+    let time = time_per_job::<Brand, R>(rt, alloc, blank, workers)?;
+    Ok(measurement_line(alloc, name, time)?)
+}
+
+/// Times the jobs of each number of workers.
+fn pool_lines<R: Threads + Wait + Clock + Sync>(rt: &R, alloc: Global) -> Result<Vec<String>> {
+    let mut lines = Vec::new(alloc);
+    for (workers, name) in POOLS {
+        if workers >= 1 && workers <= MAX_WORKERS {
+            lines.push(pool_line(rt, alloc, name, workers)?)?;
+        }
+    }
+    Ok(lines)
+}
+
+/// Times the lines of a script.
+fn script_lines(clock: &impl Clock, alloc: Global) -> Result<Vec<String>> {
+    let mut lines = Vec::new(alloc);
+    let time = time_per_line(clock, alloc)?;
+    lines.push(measurement_line(alloc, "script_line", time)?)?;
+    Ok(lines)
+}
+
+/// The lines that a command prints. All but those of `Answers` are times, which differ from call to call.
+pub fn lines_of<R: Threads + Wait + Clock + Sync>(
+    rt: &R,
+    alloc: Global,
+    command: Command,
+) -> Result<Vec<String>> {
+    match command {
+        Command::Answers => answers_lines(alloc),
+        Command::Times => times_lines(rt, alloc),
+        Command::SharedTimes => shared_lines(rt, alloc),
+        Command::PoolTimes => pool_lines(rt, alloc),
+        Command::ScriptTimes => script_lines(rt, alloc),
+    }
+}
