@@ -69,7 +69,7 @@ text_fault_only text TooLong h p program e = absurd h
 text_fault_only text Empty h p program e = absurd h
 text_fault_only text Memory h p program e = refl
 
--- too many slots, and none
+-- A program has neither too many slots nor none: of it only want of memory is told.
 
 size_fault_only : (items : List Insn) (f : AsmFault) → IsSizeFault items f → (p : List Insn) → IsProgram p → items ≡ p → f ≡ Memory
 size_fault_only items (BadLine n) h p program e = absurd h
@@ -82,7 +82,7 @@ pub made_only : (items : List Insn) (r : Result (List Insn) AsmFault) → IfOk r
 made_only items (Ok q) found fault p program e = inl (ap Ok (found ∙ e))
 made_only items (Err f) found fault p program e = inr (ap Err (size_fault_only items f fault p program e))
 
--- the text of a program
+-- The statements of a program's text are the lines of its instructions.
 
 line_lacks_feed : (i : Insn) → Lacks 10 (line_of i)
 line_lacks_feed i = lacks_append 10 (mnemonic_text (mnemonic_of i)) (arguments_text (text_arguments i)) (name_lacks_any 10 (omega arith) (mnemonic_of i)) (arguments_lack_feed (text_arguments i))

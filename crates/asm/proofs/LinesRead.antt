@@ -52,7 +52,7 @@ last_line line lacks = slice_split_none (λ b. b == 10) line (no_feed line lacks
 pub first_line : (line more : List ℕ) → Lacks 10 line → lines_in (line ++ 10 ∷ more) ≡ line ∷ lines_in more
 first_line line more lacks = slice_split_at (λ b. b == 10) line 10 more (no_feed line lacks) refl
 
--- one more line
+-- One more line is read: a comment adds nothing, a statement its instruction.
 
 insn_line : (line : List ℕ) (i : Insn) → IsLineOf line i → IsInsnLine line
 insn_line line i h = record { instruction = i; fits = h.fits; text = h.text }
@@ -109,7 +109,7 @@ line_fault text line left items index TooLong read h = h
 line_fault text line left items index Empty read h = h
 line_fault text line left items index Memory read h = tt
 
--- all lines
+-- When no line is left, the text's statements are the lines of the instructions.
 
 pub all_read : (text : List ℕ) (items : List Insn) (index : ℕ) → LinesRead text [] items index → statements_in text ≡ map line_of items
 all_read text items index read = ap (filter keeps) (read.parts ∙ append-nil read.front) ∙ read.lines

@@ -11,7 +11,7 @@ use thiserror::Error;
 /// What the program is asked to do.
 #[derive(Clone, Copy, Debug, PartialEq, Eq)]
 pub enum Command<'a> {
-    /// Run the programs that are built in, and print what they computed.
+    /// Run the programs that are built in, and go through the activities of worlds, and print what they came to.
     Samples,
     /// Measure the program in a file on a context of this many bytes, at most `CTX_BYTES`.
     Run { file: &'a str, ctx_len: usize },
@@ -20,7 +20,7 @@ pub enum Command<'a> {
 /// Why the words are no command.
 #[derive(Clone, Copy, Debug, PartialEq, Eq, Error)]
 pub enum UsageFault {
-    #[error("usage: bench [run FILE CTX_LEN]")]
+    #[error("usage: bench [run FILE CTX_LEN | world [[shared | pool | script] time]]")]
     Words,
     #[error("CTX_LEN is not a number from 0 to 256")]
     Length,

@@ -1,4 +1,4 @@
-//! `bench`: what runs of programs come to, and how long runs and verifications take.
+//! `bench`: what runs of programs and events of worlds come to, and how long they and verifications take.
 #![tactic(auto)]
 
 ghost use Rattle.std.specs.Prelude.{◌≤◌};
@@ -17,8 +17,12 @@ use measurements::measurement_line;
 use report::sample_line;
 use samples::samples;
 use std::process::ExitCode;
+use std::rt::Clock;
+use std::sync::Wait;
+use std::thread::Threads;
 use std::{env, fs};
 use trial::{counted_run, trial_of};
+use world_timing::{Command as WorldCommand, lines_of};
 
 /// Runs each program that is built in, and prints what it came to.
 fn print_samples(rt: &HostRuntime) -> Result<()> {
@@ -52,13 +56,46 @@ fn measure_file(rt: &HostRuntime, file: &str, ctx_len: usize) -> Result<()>
     Ok(())
 }
 
-fn perform(rt: &HostRuntime) -> Result<ExitCode> {
-    let mut words = Vec::new(rt.alloc());
-    for word in env::args(rt)?.skip(1) {
-        words.push(word)?;
+/// Prints the lines of a command on worlds. The handle for threads, for waiting and for the clock is the
+/// runtime again.
+fn print_world<H: Threads + Wait + Clock + Sync>(
+    rt: &HostRuntime,
+    handle: &H,
+    command: WorldCommand,
+) -> Result<()> {
+    for line in lines_of(handle, rt.alloc(), command)? {
+        rt.println(line)?;
     }
-    match parse_words(words.as_slice()) {
-        Ok(Command::Samples) => print_samples(rt)?,
+    Ok(())
+}
+
+/// Does what the words after `world` ask for.
+fn perform_world<H: Threads + Wait + Clock + Sync>(
+    rt: &HostRuntime,
+    handle: &H,
+    words: &[String],
+) -> Result<ExitCode> {
+    match world_timing::parse_words(words) {
+        Ok(command) => print_world(rt, handle, command)?,
+        Err(fault) => {
+            eprintln!(rt; "{fault}")?;
+            return Ok(ExitCode::from(2));
+        }
+    }
+    Ok(ExitCode::SUCCESS)
+}
+
+/// Does what the words after the program's own ask for.
+fn perform_program<H: Threads + Wait + Clock + Sync>(
+    rt: &HostRuntime,
+    handle: &H,
+    words: &[String],
+) -> Result<ExitCode> {
+    match parse_words(words) {
+        Ok(Command::Samples) => {
+            print_samples(rt)?;
+            print_world(rt, handle, WorldCommand::Answers)?;
+        }
         Ok(Command::Run { file, ctx_len }) => measure_file(rt, file, ctx_len)?,
         Err(fault) => {
             eprintln!(rt; "{fault}")?;
@@ -68,8 +105,19 @@ fn perform(rt: &HostRuntime) -> Result<ExitCode> {
     Ok(ExitCode::SUCCESS)
 }
 
+fn perform<H: Threads + Wait + Clock + Sync>(rt: &HostRuntime, handle: &H) -> Result<ExitCode> {
+    let mut words = Vec::new(rt.alloc());
+    for word in env::args(rt)?.skip(1) {
+        words.push(word)?;
+    }
+    match words.as_slice() {
+        [first, rest @ ..] if first.as_str() == "world" => perform_world(rt, handle, rest),
+        all => perform_program(rt, handle, all),
+    }
+}
+
 fn main(rt: HostRuntime) -> ExitCode {
-    match perform(&rt) {
+    match perform(&rt, &rt) {
         Ok(status) => status,
         Err(error) => {
             let _ = eprintln!(&rt; "{error}");

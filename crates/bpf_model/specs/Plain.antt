@@ -68,19 +68,19 @@ IsSimple (LoadMap dst map) = ⊥
 IsSimple (Call kind imm) = ⊥
 IsSimple _ = Unit {0}
 
--- A path leads to the slot on which the register isn't written.
-pub data WithoutRegister (program : List Insn) (r : ℕ) : ℕ → Type 0 where
-  unwritten_entry : WithoutRegister program r 0
-  unwritten_next : (place target : ℕ) (i : Insn) → WithoutRegister program r place
-      → insn_at program place ≡ Some i → (WritesRegister i r → ⊥) → GoesTo i place target →
-      WithoutRegister program r target
+-- A path leads to the slot on which no instruction makes such a write.
+pub data WithoutWrite (program : List Insn) (Writes : Insn → Type 0) : ℕ → Type 0 where
+  without_entry : WithoutWrite program Writes 0
+  without_next : (place target : ℕ) (i : Insn) → WithoutWrite program Writes place →
+      insn_at program place ≡ Some i → (Writes i → ⊥) → GoesTo i place target →
+      WithoutWrite program Writes target
 
--- A path leads to the slot on which the byte of the frame isn't written.
-pub data WithoutByte (program : List Insn) (k : ℕ) : ℕ → Type 0 where
-  bare_entry : WithoutByte program k 0
-  bare_next : (place target : ℕ) (i : Insn) → WithoutByte program k place →
-      insn_at program place ≡ Some i
-      → (WritesByte i k → ⊥) → GoesTo i place target → WithoutByte program k target
+-- A path leads to the slot on which the register, or the byte of the frame, isn't written.
+abbrev pub WithoutRegister : List Insn → ℕ → ℕ → Type 0
+WithoutRegister program r place = WithoutWrite program (λ i. WritesRegister i r) place
+
+abbrev pub WithoutByte : List Insn → ℕ → ℕ → Type 0
+WithoutByte program k place = WithoutWrite program (λ i. WritesByte i k) place
 
 pub record IsPlain (program : List Insn) : Type 0 where
   pub graph : HasForwardGraph program

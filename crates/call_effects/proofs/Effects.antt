@@ -87,7 +87,7 @@ pub delete_sound : (a b : StateHere) (shapes : List MapShape) (map : ℕ) (shape
 delete_sound a b shapes map shape t all m key e imm f ctx_len =
     to_alike (Call callee.Helper imm) shapes ctx_len (state_of a) (after_call (Num t) (state_of a)) (state_of b) e (delete_transfers imm shapes ctx_len (state_of a) map shape t all m key f)
 
--- tests for null
+-- a test for null leads to two states: there the element is, and there it is null
 pub null_jumps : (a b taken : StateHere) (id dst map : ℕ) → AreAlike (learnt (IsThere id) (state_of a)) (state_of b) → AreAlike (learnt (IsNull id) (state_of a)) (state_of taken) → kind_in a.regs dst ≡ kinds.MaybeNull map id → ForksOnNull true dst a b taken
 null_jumps a b taken id dst map e f g shapes ctx_len offset =
     to-both (null_jump true dst offset) shapes ctx_len (state_of a) (when_there id origin (state_of a)) (state_of b) (when_null id number_zero (state_of a)) (state_of taken) e f
@@ -98,7 +98,7 @@ null_falls_through a b taken id dst map e f g shapes ctx_len offset =
     to-both (null_jump false dst offset) shapes ctx_len (state_of a) (when_null id number_zero (state_of a)) (state_of b) (when_there id origin (state_of a)) (state_of taken) e f
     (not_equal_transfers shapes ctx_len dst offset map id (state_of a) number_zero origin zero_holds origin_has (ap kind_of g))
 
--- the registers from r6 on
+-- a call, a lock and an unlock leave numbers in r6 to r9 as they are
 pub returned_above : (kind : Kind) (regs : ℕ → Kind) (r : ℕ) → 5 < r → returned_kind kind regs r ≡ regs r
 returned_above kind regs r h = ap (λ t. if t then kind else if nat_le r 5 then Blank else regs r) (ne_eqb r 0 (λ q. absurd (omega (arith, q, h)))) ∙ ap (λ t. if t then Blank else regs r) (lt-leb r 5 h)
 

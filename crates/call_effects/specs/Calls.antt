@@ -1,7 +1,6 @@
 -- Calls and tests for null in words of the laws.
-use Rattle.std.specs.Prelude.{◌≡◌, ℕ, suc, ◌<◌, List, [], ◌∷◌, Option, Some, None, Result, Ok, Err, ℤ}
-use Rattle.std.specs.Prelude.{slice_get}
-use Rattle.std.specs.Prelude.{Bool, if◌then◌else◌}
+use Rattle.std.specs.Prelude.{◌≡◌, ℕ, suc, ◌<◌, List, [], ◌∷◌, Option, Some, None, Result, Ok, Err}
+use Rattle.std.specs.Prelude.{ℤ, slice_get, Bool, if◌then◌else◌}
 use Rattle.bpf_model.specs.declared.limits.MapShape.{MapShape}
 use Rattle.bpf_model.specs.declared.insn.CallKind.{CallKind}
 use Rattle.bpf_model.specs.declared.insn.CallKind.TheVariants as callee
@@ -72,7 +71,7 @@ AreArguments shapes a shape [] r = Unit {0}
 AreArguments shapes a shape (kind ∷ kinds) r =
     IsArgument shapes a shape kind r × AreArguments shapes a shape kinds (suc r)
 
--- what is known of a result
+-- what is known of r0 after a call of a helper whose result is of this kind
 abbrev pub IsResult : ResultKind → Kind → Type 0
 IsResult ElementOrNull k = (map : ℕ) × (id : ℕ) × (k ≡ MaybeNull map id)
 IsResult ErrorNumber k = (s : Scalar) × (k ≡ Num s)
@@ -100,6 +99,6 @@ pub record Splits (id : ℕ) (a null there : AbsState) : Type 0 where
 abbrev pub KeepsNumbersIn : (ℕ → Type 0) → Known → Known → Type 0
 KeepsNumbersIn P a b = (r : ℕ) (s : Scalar) → P r → a.regs r ≡ Num s → b.regs r ≡ Num s
 
--- those from r6 on
+-- numbers in the registers from r6 on, which calls leave alone, stay as they are
 abbrev pub KeepsOwnNumbers : Known → Known → Type 0
 KeepsOwnNumbers a b = KeepsNumbersIn (λ r. 5 < r) a b

@@ -1,14 +1,29 @@
-//! Tests of the commands of `bpfrt`, through `run` and `parse_words` alone.
+//! Tests of the commands of `bpfrt`, through `run` and `parse_words`; of scripts, through `run_script`; and of the
+//! lines of scripts and the texts of answers.
 #![tactic(auto)]
 
 #[cfg(test)]
+mod answers;
+#[cfg(test)]
+mod dialogues;
+#[cfg(test)]
 mod files;
+#[cfg(test)]
+mod limits;
+#[cfg(test)]
+mod lines;
+#[cfg(test)]
+mod making;
 #[cfg(test)]
 mod pools;
 #[cfg(test)]
 mod running;
 #[cfg(test)]
+mod script_streams;
+#[cfg(test)]
 mod scripts;
+#[cfg(test)]
+mod shown;
 #[cfg(test)]
 mod streams;
 #[cfg(test)]

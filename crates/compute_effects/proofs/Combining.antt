@@ -47,7 +47,7 @@ use Rattle.compute_effects.specs.Computes.{PerformsComputation, signed_move, Mov
 use Rattle.compute_effects.proofs.Laws.{unary_lt, computed_numbers}
 use Rattle.scalar_domain.proofs.Words.{alu_lt}
 
--- two numbers
+-- an operation of two numbers gives one of the numbers that the domain answers
 pub numbers_combine : (size : Size) (op : AluOp) (x y : RegKind) (a b r : Scalar) → x ≡ kinds.Num a → y ≡ kinds.Num b → ((p q : ℕ) → p < 2 ^ 64 → q < 2 ^ 64 → Holds a p → Holds b q → Holds r (alu size op p q))
     → Combines size op (kind_of x) (kind_of y) (Num r)
 numbers_combine size op x y a b r e f sound =
@@ -59,7 +59,7 @@ numbers_combine size op x y a b r e f sound =
       tt,
     )))
 
--- a reference that is moved
+-- a reference that an operation moves by a number stays in its region, and near
 near-offset : (t : Scalar) (o : ℤ) → HasOffset t o → IsNearOffset o
 near-offset t o h =
     let e : pos h.raised ≡ o +ℤ pos (2 ^ 29) = h.is in
@@ -104,7 +104,7 @@ low_combines size y z b r e f zero sound =
       tt,
     ))
 
--- operands
+-- what holds of the kinds of both operands holds of the computation
 near-operand : (src : Operand) (a : AbsState) (c : Scene) (m : State) → Describes a c m → IsNear (operand_value src m.regs)
 near-operand (Register r) a c m d = d.near.regs_near r
 near-operand (Immediate imm) a c m d = tt

@@ -18,7 +18,7 @@ use Rattle.compute_effects.specs.Floor.{CombinesKnown}
 pub same_num : (a b : Scalar) → Num a ≡ Num b → a ≡ b
 same_num a b e = cc
 
--- two numbers
+-- of two numbers the result is known as well as the domain promises
 pub numbers_known : (size : Size) (op : AluOp) (x y : RegKind) (a b r : Scalar) → x ≡ kinds.Num a → y ≡ kinds.Num b → KeepsFloor size op a b r → CombinesKnown size op (kind_of x) (kind_of y) (Num r)
 numbers_known size op x y a b r e f floor p q g h =
     let u : a ≡ p = same_num a p (sym (ap kind_of e) ∙ g) in

@@ -123,7 +123,7 @@ value_forks false dst map s a t e same shapes ctx_len offset =
       lands = inr ((offset, refl, y.1), placed-described (state_of t) c m y.0 (subst (λ (b : StateHere). Describes (state_of b) c m) (sym same) d));
     })
 
--- the end of a run
+-- an exit outside every section, with a number in r0, has its step
 pub exit_sound : (a : StateHere) (k : RegKind) (s : Scalar) → kind_in a.regs 0 ≡ k → k ≡ kinds.Num s → a.inside ≡ false → (shapes : List MapShape) (ctx_len : ℕ) → Transfers Exit shapes ctx_len (state_of a) (state_of a) None
 exit_sound a k s e f out shapes ctx_len = alone_transfers Exit shapes ctx_len (state_of a) (state_of a) None refl (λ c env m i target d.
     let n = reg-is (state_of a) c m 0 (Num s) d (ap kind_of (e ∙ f)) in record {
@@ -133,7 +133,7 @@ exit_sound a k s e f out shapes ctx_len = alone_transfers Exit shapes ctx_len (s
       lands = d.inside ∙ ap depth_of out;
     })
 
--- jumps without a condition
+-- a jump without a condition leaves all that is known as it is
 pub jump_transfers : (offset : ℤ) (shapes : List MapShape) (ctx_len : ℕ) (a : AbsState) → Transfers (Jump offset) shapes ctx_len a a None
 jump_transfers offset shapes ctx_len a = alone_transfers (Jump offset) shapes ctx_len a a None refl (λ c env m i target d. let x = target offset refl in record {
   out = Moves (record { regs = m.regs; frame = m.frame; place = x.0 });

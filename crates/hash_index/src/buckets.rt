@@ -33,7 +33,7 @@ fn chain_count(entries: usize) -> usize
     entries.min(MAX_ENTRIES).next_power_of_two()
 }
 
-/// So many empty chains.
+/// The heads of so many chains, each without a slot. Fails where memory runs out.
 fn empty_heads(alloc: Global, count: usize) -> Result<Vec<Option<usize>>, AllocError>
     ensures { IfOk result (λ v. v.items ≡ replicate count None) }
 {

@@ -153,7 +153,7 @@ tail_slot_fits imm f = record { opcode = omega arith; dst = omega arith; src = o
 same_tail : (t u a b : Slot) → a ∷ t ∷ [] ≡ b ∷ u ∷ [] → t ≡ u
 same_tail t u a b e = cc
 
--- the second slot
+-- the second slot of a wide instruction has its fields in their ranges
 tail_fits : (i : Insn) → FitsInsn i → (two : IsTwoSlots i) → FitsSlot two.tail
 tail_fits (LoadNumber dst number) f two = subst FitsSlot (same_tail _ _ _ _ two.slots) (tail_slot_fits _ (high_fits number f.1))
 tail_fits (LoadMap dst map) f two = subst FitsSlot (same_tail _ _ _ _ two.slots) (tail_slot_fits _ zero_32)

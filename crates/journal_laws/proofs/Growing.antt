@@ -7,6 +7,7 @@ use Rattle.bpf_model.specs.Element.{Element, Life, Linked, Unlinked, Reclaimed, 
 use Rattle.bpf_model.specs.Event.{IsReal}
 use Rattle.bpf_model.specs.View.{WorldView}
 use Rattle.model_laws.specs.Growth.{IsLaterLife, IsLaterElement, ElementsGrow}
+use Rattle.model_laws.proofs.Growing.{only-reclaimed}
 use Rattle.model_laws.proofs.Stepping.{elements_only_grow}
 use Rattle.model_laws.proofs.Tallies.{count-cons, one_of}
 use Rattle.world_laws.specs.Reacting.{full_reaction}
@@ -43,9 +44,7 @@ stays-unlinked Reclaimed Reclaimed h t = refl
 stays-reclaimed : (a b : Life) → IsLaterLife a b → is_reclaimed a ≡ true → is_reclaimed b ≡ true
 stays-reclaimed Linked b h t = absurd (cc)
 stays-reclaimed (Unlinked s) b h t = absurd (cc)
-stays-reclaimed Reclaimed Linked h t = absurd h
-stays-reclaimed Reclaimed (Unlinked u) h t = absurd h
-stays-reclaimed Reclaimed Reclaimed h t = refl
+stays-reclaimed Reclaimed b h t = ap is_reclaimed (only-reclaimed Reclaimed b refl h)
 
 pub unlinked_grows : (w : WorldView) (event : Event) → IsWorld w → IsReal event → unlinked_total w ≤ unlinked_total (full_reaction w event).1
 unlinked_grows w event is real =

@@ -1,16 +1,16 @@
 -- A journal whose entries replay: from a base without runs, the runtime reacts to the events one
 -- after another with the answers that stand there, and the present world is the one that it comes
 -- to.
-use Rattle.std.specs.Prelude.{◌≡◌, ℕ, List, Option, None, map, slice_get}
+use Rattle.std.specs.Prelude.{◌≡◌, ℕ, List, Option, None, map}
 use Rattle.bpf_model.specs.declared.event.Event.{Event}
 use Rattle.bpf_model.specs.declared.event.Answer.{Answer}
 use Rattle.bpf_model.specs.Event.{AreReal}
+use Rattle.bpf_model.specs.Machine.{run_at}
 use Rattle.bpf_model.specs.Replay as machine
 use Rattle.bpf_model.specs.View.{RunView, WorldView}
 use Rattle.world_laws.specs.Reacting.{full_reactions}
 use Rattle.world_invariant.specs.Invariant.{IsWorld}
 use Rattle.journal.specs.declared.entry.Entry.{Entry}
-use Rattle.std.specs.Option.{option_flatten}
 
 abbrev pub events_of : List Entry → List Event
 events_of entries = map (λ e. e.event) entries
@@ -20,7 +20,7 @@ answers_of entries = map (λ e. e.answer) entries
 
 -- no run slot is occupied
 abbrev pub AreFree : List (Option RunView) → Type 0
-AreFree runs = (r : ℕ) → option_flatten (slice_get runs r) ≡ None
+AreFree runs = (r : ℕ) → run_at runs r ≡ None
 
 -- no run slot of the world is occupied
 abbrev pub HasNoRuns : WorldView → Type 0

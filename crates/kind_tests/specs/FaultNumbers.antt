@@ -8,8 +8,8 @@ use Rattle.kind_tests.specs.declared.fault.InsnFault.TheVariants.{OutOfBounds, M
 use Rattle.kind_tests.specs.declared.fault.InsnFault.TheVariants.{UnwrittenFrame, PointerLeak}
 use Rattle.kind_tests.specs.declared.fault.InsnFault.TheVariants.{MixedRegions, MaybeNull}
 use Rattle.kind_tests.specs.declared.fault.InsnFault.TheVariants.{OutsideSection, UnpairedSection}
-use Rattle.kind_tests.specs.declared.fault.InsnFault.TheVariants.{UnknownCall, WrongArgument, NoSuchMap}
-use Rattle.kind_tests.specs.declared.fault.InsnFault.TheVariants.{ContextWrite, Memory}
+use Rattle.kind_tests.specs.declared.fault.InsnFault.TheVariants.{UnknownCall, WrongArgument}
+use Rattle.kind_tests.specs.declared.fault.InsnFault.TheVariants.{NoSuchMap, ContextWrite, Memory}
 
 abbrev pub insn_fault_number : InsnFault → ℕ
 insn_fault_number UnwrittenRegister = 23

@@ -5,7 +5,7 @@ use crate::Map;
 use indexmap::IndexSet;
 use std::alloc::{AllocError, Global};
 
-/// Maps in the same states, in the same order.
+/// Copies of maps, each in the state of its original, in their order. Fails where memory runs out.
 pub(crate) fn copy_of_maps(alloc: Global, maps: &[Map]) -> Result<Vec<Map>, AllocError>
     ensures same { IfOk result (λ v. v.items ≡ maps.now) }
 {
@@ -16,7 +16,7 @@ pub(crate) fn copy_of_maps(alloc: Global, maps: &[Map]) -> Result<Vec<Map>, Allo
     Ok(copy)
 }
 
-/// The same names, in the same order.
+/// A copy of the names of maps, in their order. Fails where memory runs out.
 pub(crate) fn copy_of_names(names: &IndexSet<String>) -> Result<IndexSet<String>, AllocError>
     ensures same { IfOk result (λ s.
         map string_bytes s.keys ≡ map string_bytes names.now.keys) }

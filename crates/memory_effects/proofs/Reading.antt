@@ -123,7 +123,7 @@ narrow signed_widths.One e = omega (arith, e)
 narrow signed_widths.Two e = omega (arith, e)
 narrow signed_widths.Four e = omega (arith, e)
 
--- a load of each kind of what it reads
+-- a load has a step, whatever it reads: the context, a value, bytes or parts in the frame
 module _ (dst : ℕ) (from : Address) (ctx_len : ℕ) (shapes : List MapShape) (a : AbsState) (t : Scalar) (ne : 10 ≡ dst → ⊥) where
   not-eight : (width : Width) (kind : Kind) → byte_count width ≡ 8 → (x : ReadsParts a from.base (byte_count width) from.offset kind) → Transfers (Load width dst from.base from.offset) shapes ctx_len a (with_kind dst kind a) None
   not-eight widths.One kind e x = absurd (omega (arith, e))
@@ -148,7 +148,7 @@ module _ (dst : ℕ) (from : Address) (ctx_len : ℕ) (shapes : List MapShape) (
       (λ c env m i d. frame-finds (unsigned_width width) x.at from.base x.reaches.start from.offset a c env m d x.reaches.base x.reaches.inside x.bytes)
   read_signed_transfers (reads.FramePointer kind) width all x = absurd (narrow width x.wide)
 
--- parts in the frame
+-- cells in code that are eight parts of one reference are so in words of the laws
 pointer-kind : (k : RegKind) → is_pointer k ≡ true → IsPointer (kind_of k)
 pointer-kind kinds.Unwritten e = absurd (cc)
 pointer-kind kinds.Ended e = absurd (cc)
@@ -186,7 +186,7 @@ load_known (reads.Value map) t width a from ctx_len shapes h floor = inl (t, ref
 load_known reads.FrameBytes t width a from ctx_len shapes h floor = inl (t, refl, floor)
 load_known (reads.FramePointer kind) t width a from ctx_len shapes h floor = inr h.pointer
 
--- and of one that extends the sign it is a number
+-- what a load that extends the sign gives is a number
 pub number_loaded : (x : Reads) (t : Scalar) (width : SignedWidth) (a : AbsState) (from : Address) (ctx_len : ℕ) (shapes : List MapShape) → IsReadByLoad x a (byte_count (unsigned_width width)) from ctx_len shapes → (s : Scalar) × (read_kind x t ≡ Num s)
 number_loaded reads.Context t width a from ctx_len shapes h = (t, refl)
 number_loaded (reads.Value map) t width a from ctx_len shapes h = (t, refl)

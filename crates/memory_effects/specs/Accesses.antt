@@ -81,7 +81,7 @@ pub record ReadsParts (a : Known) (r width : ℕ) (offset : ℤ) (kind : Kind) :
   pub parts : (j : ℕ) → j < 8 → a.cells (at + j) ≡ PartCell kind
   pub pointer : IsPointer kind
 
--- What a load reads.
+-- A load through the address may be taken to read this: each run that is described finds it there.
 abbrev pub IsReadByLoad : Reads → Known → ℕ → Address → ℕ → List MapShape → Type 0
 IsReadByLoad reads.Context a width from ctx_len shapes =
     ReachesContext a from.base width from.offset ctx_len

@@ -105,7 +105,7 @@ fn first_byte(base: i32, offset: i16) -> Option<usize>
     }
 }
 
-/// Where an access begins, again, if all of it lies inside a region of this length, and aligned.
+/// The first byte of an access, if all of it lies inside a region of this length, and aligned.
 fn inside(len: usize, width: Width, first: usize) -> Result<usize, InsnFault>
     ensures value { IfOk result (λ n. region_offset len (byte_count width) (pos first) ≡ Some n) }
     ensures inside { IfOk result (λ n. n + byte_count width ≤ len) }

@@ -1,4 +1,4 @@
-//! What a load reads.
+//! Where a load reads: in the context, in the value of an element, or in the frame.
 ghost use Rattle.std.specs.Prelude.{◌≡◌, ℕ, IfOk, IsOk, Ok, List, Some, slice_get};
 ghost use Rattle.bpf_model.specs.Access.{byte_count, region_offset};
 ghost use Rattle.bpf_model.specs.declared.limits.MapShape.{MapShape as Shape};
@@ -28,7 +28,7 @@ pub(crate) enum Reads {
     FramePointer(RegKind),
 }
 
-/// What a load from the frame reads.
+/// What a load from the frame reads: bytes of numbers, or all parts of one reference.
 fn read_from_frame(
     state: &AbsState,
     width: Width,

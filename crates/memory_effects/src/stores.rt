@@ -42,55 +42,58 @@ fn stored_value(state: &AbsState, src: &Operand) -> Result<Stored, InsnFault>
     }
 }
 
-/// A store of a number to the frame.
-fn store_number(
-    state: &mut AbsState,
+/// A store as its instruction gives it: how wide, to which address, and of what.
+#[derive(Clone, Copy)]
+struct Fields {
     width: Width,
     to: Address,
-    src: &Operand,
-    start: i32,
-) -> Result<(), InsnFault>
-    requires base { kind_in state.old.regs to.base ≡ RegKind.Frame start }
-    requires number { IsNumberOperand (state_of state.old) src.now }
+    src: Operand,
+}
+
+/// A store of a number to the frame.
+fn store_number(state: &mut AbsState, fields: Fields, start: i32) -> Result<(), InsnFault>
+    requires base { kind_in state.old.regs fields.to.base ≡ RegKind.Frame start }
+    requires number { IsNumberOperand (state_of state.old) fields.src }
     ensures sound { OnOk result ((ctx_len : ℕ) (shapes : List MapShape)
-        → Performs (Insn.Store width to.base to.offset src.now)
+        → Performs (Insn.Store fields.width fields.to.base fields.to.offset fields.src)
         ctx_len shapes state.old state.new) }
     ensures bytes { (at : ℕ)
-        → ReachesFrame (state_of state.old) to.base (byte_count width) to.offset at
-        → StoresBytes result at (byte_count width) (state_of state.old) (state_of state.new) }
+        → ReachesFrame (state_of state.old) fields.to.base (byte_count fields.width)
+        fields.to.offset at
+        → StoresBytes result at (byte_count fields.width) (state_of state.old)
+        (state_of state.new) }
     ensures others { OnOk result ((r : ℕ)
         → kind_at state.new.regs r ≡ kind_at state.old.regs r) }
     ensures below { (top : ℕ) → AreBelow top state.old → AreBelow top state.new }
     ensures unchanged { OnErr result (state.new ≡ state.old) }
 {
-    let at = offset_in(FRAME_BYTES, width, start, to.offset)?;
-    state.write(at, width.bytes());
+    let at = offset_in(FRAME_BYTES, fields.width, start, fields.to.offset)?;
+    state.write(at, fields.width.bytes());
     Ok(())
 }
 
 /// A store to the frame of what is no number.
 fn store_pointer(
     state: &mut AbsState,
-    width: Width,
-    to: Address,
-    src: &Operand,
+    fields: Fields,
     start: i32,
     kind: RegKind,
 ) -> Result<(), InsnFault>
-    requires base { kind_in state.old.regs to.base ≡ RegKind.Frame start }
-    requires value { (r : ℕ) × (src.now ≡ Operand.Register r) × (kind_in state.old.regs r ≡ kind) }
+    requires base { kind_in state.old.regs fields.to.base ≡ RegKind.Frame start }
+    requires value { (r : ℕ) × (fields.src ≡ Operand.Register r)
+        × (kind_in state.old.regs r ≡ kind) }
     requires written { IsWritten (kind_of kind) }
     ensures sound { OnOk result ((ctx_len : ℕ) (shapes : List MapShape)
-        → Performs (Insn.Store width to.base to.offset src.now)
+        → Performs (Insn.Store fields.width fields.to.base fields.to.offset fields.src)
         ctx_len shapes state.old state.new) }
     ensures others { OnOk result ((r : ℕ)
         → kind_at state.new.regs r ≡ kind_at state.old.regs r) }
     ensures below { (top : ℕ) → AreBelow top state.old → AreBelow top state.new }
     ensures unchanged { OnErr result (state.new ≡ state.old) }
 {
-    match width {
+    match fields.width {
         Width::Eight => {
-            let at = offset_in(FRAME_BYTES, Width::Eight, start, to.offset)?;
+            let at = offset_in(FRAME_BYTES, Width::Eight, start, fields.to.offset)?;
             state.spill(at, kind);
             Ok(())
         }
@@ -101,66 +104,58 @@ fn store_pointer(
 /// A store of a number to the value of an element of this map.
 fn check_store(
     state: &AbsState,
-    width: Width,
-    to: Address,
-    src: &Operand,
+    fields: Fields,
     map: u32,
     offset: Scalar,
     shapes: &[MapShape],
 ) -> Result<(), InsnFault>
-    requires base { kind_in state.now.regs to.base ≡ RegKind.Value map offset }
-    requires number { IsNumberOperand (state_of state.now) src.now }
+    requires base { kind_in state.now.regs fields.to.base ≡ RegKind.Value map offset }
+    requires number { IsNumberOperand (state_of state.now) fields.src }
     ensures sound { OnOk result ((ctx_len : ℕ)
-        → Performs (Insn.Store width to.base to.offset src.now)
+        → Performs (Insn.Store fields.width fields.to.base fields.to.offset fields.src)
         ctx_len shapes.now state.now state.now) }
 {
-    let _shape = check_value(offset, width, to.offset, map, shapes)?;
+    let _shape = check_value(offset, fields.width, fields.to.offset, map, shapes)?;
     Ok(())
 }
 
 /// A store to the frame: the bytes of a number, or by a width of 8 the parts of a reference.
-fn store_frame(
-    state: &mut AbsState,
-    width: Width,
-    to: Address,
-    src: &Operand,
-    start: i32,
-) -> Result<(), InsnFault>
-    requires base { kind_in state.old.regs to.base ≡ RegKind.Frame start }
+fn store_frame(state: &mut AbsState, fields: Fields, start: i32) -> Result<(), InsnFault>
+    requires base { kind_in state.old.regs fields.to.base ≡ RegKind.Frame start }
     ensures sound { OnOk result ((ctx_len : ℕ) (shapes : List MapShape)
-        → Performs (Insn.Store width to.base to.offset src.now)
+        → Performs (Insn.Store fields.width fields.to.base fields.to.offset fields.src)
         ctx_len shapes state.old state.new) }
-    ensures bytes { (at : ℕ) → IsNumberOperand (state_of state.old) src.now
-        → ReachesFrame (state_of state.old) to.base (byte_count width) to.offset at
-        → StoresBytes result at (byte_count width) (state_of state.old) (state_of state.new) }
+    ensures bytes { (at : ℕ) → IsNumberOperand (state_of state.old) fields.src
+        → ReachesFrame (state_of state.old) fields.to.base (byte_count fields.width)
+        fields.to.offset at
+        → StoresBytes result at (byte_count fields.width) (state_of state.old)
+        (state_of state.new) }
     ensures others { OnOk result ((r : ℕ)
         → kind_at state.new.regs r ≡ kind_at state.old.regs r) }
     ensures below { (top : ℕ) → AreBelow top state.old → AreBelow top state.new }
     ensures unchanged { OnErr result (state.new ≡ state.old) }
 {
-    match stored_value(state, src)? {
-        Stored::Number => store_number(state, width, to, src, start),
-        Stored::Pointer(_, kind) => store_pointer(state, width, to, src, start, kind),
+    match stored_value(state, &fields.src)? {
+        Stored::Number => store_number(state, fields, start),
+        Stored::Pointer(_, kind) => store_pointer(state, fields, start, kind),
     }
 }
 
 /// A store to the value of an element, of a number alone.
 fn store_value(
     state: &AbsState,
-    width: Width,
-    to: Address,
-    src: &Operand,
+    fields: Fields,
     map: u32,
     offset: Scalar,
     shapes: &[MapShape],
 ) -> Result<(), InsnFault>
-    requires base { kind_in state.now.regs to.base ≡ RegKind.Value map offset }
+    requires base { kind_in state.now.regs fields.to.base ≡ RegKind.Value map offset }
     ensures sound { OnOk result ((ctx_len : ℕ)
-        → Performs (Insn.Store width to.base to.offset src.now)
+        → Performs (Insn.Store fields.width fields.to.base fields.to.offset fields.src)
         ctx_len shapes.now state.now state.now) }
 {
-    match stored_value(state, src)? {
-        Stored::Number => check_store(state, width, to, src, map, offset, shapes),
+    match stored_value(state, &fields.src)? {
+        Stored::Number => check_store(state, fields, map, offset, shapes),
         Stored::Pointer(_, _) => Err(InsnFault::PointerLeak),
     }
 }
@@ -198,13 +193,18 @@ pub fn store(
 {
     let base = held(state, to.base)?;
     let _value = stored_value(state, src)?;
+    let fields = Fields {
+        width,
+        to,
+        src: *src,
+    };
     match base {
         RegKind::Frame(start) => {
-            store_frame(state, width, to, src, start)?;
+            store_frame(state, fields, start)?;
             Ok(Region::Frame)
         }
         RegKind::Value { map, offset } => {
-            store_value(state, width, to, src, map, offset, shapes)?;
+            store_value(state, fields, map, offset, shapes)?;
             Ok(Region::Value(map))
         }
         RegKind::Ctx(_) => Err(InsnFault::ContextWrite),

@@ -118,18 +118,18 @@ pub record FirstIndex (qs : List Queues) (n : ℕ) : Type 0 where
 abbrev pub without_at : Queues → List Queues → List ℕ → List Queues
 without_at q qs ready = if length ready == 0 then q ∷ without_first qs else record { next = q.next; waiting = q.waiting; ready = drop 1 ready } ∷ qs
 
-without-empty : (q : Queues) (qs : List Queues) → q.ready ≡ [] → without_first (q ∷ qs) ≡ q ∷ without_first qs
-without-empty q qs e = ap (without_at q qs) e
+-- The first ready birth stands behind lists that have none, or in the first lists.
+abbrev pub index-later : (q : Queues) (qs : List Queues) (n : ℕ) → q.ready ≡ [] → FirstIndex qs n → FirstIndex (q ∷ qs) n
+index-later q qs n e p =
+    record { map_at = suc p.map_at; lists = p.lists; rest = p.rest; there = p.there; ready_is = p.ready_is; without = ap (without_at q qs) e ∙ ap (λ l. q ∷ l) p.without }
 
-without-here : (q : Queues) (qs : List Queues) (n : ℕ) (rest : List ℕ) → q.ready ≡ n ∷ rest → without_first (q ∷ qs) ≡ shortened rest q ∷ qs
-without-here q qs n rest e = ap (without_at q qs) e ∙ ap (λ b. if b then q ∷ without_first qs else shortened rest q ∷ qs) (eqb-suc-zero (length rest))
+abbrev pub index-here : (q : Queues) (qs : List Queues) (n : ℕ) (rest : List ℕ) → q.ready ≡ n ∷ rest → FirstIndex (q ∷ qs) n
+index-here q qs n rest e =
+    record { map_at = 0; lists = q; rest = rest; there = refl; ready_is = e; without = ap (without_at q qs) e ∙ ap (λ b. if b then q ∷ without_first qs else shortened rest q ∷ qs) (eqb-suc-zero (length rest)) }
 
 first-index_at : (ready : List ℕ) (q : Queues) (qs : List Queues) (n : ℕ) → q.ready ≡ ready → or_first ready (first_ready qs) ≡ Some n → (first_ready qs ≡ Some n → FirstIndex qs n) → FirstIndex (q ∷ qs) n
-first-index_at [] q qs n e h more =
-    let p = more h in
-    record { map_at = suc p.map_at; lists = p.lists; rest = p.rest; there = p.there; ready_is = p.ready_is; without = without-empty q qs e ∙ ap (λ l. q ∷ l) p.without }
-first-index_at (m ∷ ms) q qs n e h more =
-    record { map_at = 0; lists = q; rest = ms; there = refl; ready_is = e ∙ ap (λ z. z ∷ ms) (same_Some m n h); without = without-here q qs m ms e }
+first-index_at [] q qs n e h more = index-later q qs n e (more h)
+first-index_at (m ∷ ms) q qs n e h more = index-here q qs n ms (e ∙ ap (λ z. z ∷ ms) (same_Some m n h))
 
 pub first-index : (qs : List Queues) (n : ℕ) → first_ready qs ≡ Some n → FirstIndex qs n
 first-index [] n h = absurd (none-some n h)

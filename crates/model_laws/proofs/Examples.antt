@@ -15,7 +15,7 @@ use Rattle.bpf_model.specs.declared.opcode.Width.TheVariants.{Eight}
 use Rattle.bpf_model.specs.Spelling.{slot_count}
 use Rattle.bpf_model.specs.Step.{insn_at}
 use Rattle.bpf_model.specs.Graph.{falls, distance, JumpsTo, GoesTo, Reached, reached_entry, reached_next}
-use Rattle.bpf_model.specs.Plain.{ReadsRegister, WritesRegister, ReadsByte, WritesByte, WithoutByte, bare_entry, bare_next}
+use Rattle.bpf_model.specs.Plain.{ReadsRegister, WritesRegister, ReadsByte, WritesByte, WithoutByte, without_entry, without_next}
 use Rattle.bpf_model.specs.PlainMaps.{lookup_call, lock_call, unlock_call, Lookup, LookupPart, FrameCopy, KeyAddress, MapLoad, LookupCall, NullTest, ValueLoad, part_insn, part_slot, IsGuardedLookup, IsLookupPart, HasForm, InSection, section_entry, section_lock, section_unlock, section_next, LacksRegister, lacks_entry, lacks_call, lacks_next, IsPlainWithMaps}
 use Rattle.model_laws.specs.Example.{lookup_and_load, example_shape}
 
@@ -459,8 +459,8 @@ lacks_0 r e _ (lacks_next place target i path h w g) = not_last place target i h
 
 -- the key is written at slot 2
 bare : (k : ℕ) → 508 ≤ k → k < FRAME_BYTES → (place : ℕ) → WithoutByte lookup_and_load k place → place ≤ 2
-bare k low high _ bare_entry = omega arith
-bare k low high _ (bare_next place target i path h w g) =
+bare k low high _ without_entry = omega arith
+bare k low high _ (without_next place target i path h w g) =
     edges (λ s t. s ≤ 2 → (s ≡ 2 → ⊥) → t ≤ 2) (record {
       from_0_to_1 = λ l n. omega arith;
       from_1_to_2 = λ l n. omega arith;

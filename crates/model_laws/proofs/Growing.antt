@@ -18,7 +18,7 @@ later-unlinked l since h = subst (λ x. IsLaterLife x (Unlinked since)) (sym h) 
 later-reclaimed : (l : Life) (since : List Section) → l ≡ Unlinked since → IsLaterLife l Reclaimed
 later-reclaimed l since h = subst (λ x. IsLaterLife x Reclaimed) (sym h) tt
 
-only-reclaimed : (a b : Life) → a ≡ Reclaimed → IsLaterLife a b → b ≡ Reclaimed
+pub only-reclaimed : (a b : Life) → a ≡ Reclaimed → IsLaterLife a b → b ≡ Reclaimed
 only-reclaimed Linked b e h = absurd (cc)
 only-reclaimed (Unlinked s) b e h = absurd (cc)
 only-reclaimed Reclaimed Linked e h = absurd h

@@ -4,7 +4,7 @@ use Rattle.std.proofs.lemmas.Bool.{false≢true}
 use Rattle.bpf_model.specs.declared.limits.MapShape.{MapShape}
 use Rattle.bpf_model.specs.declared.insn.Insn.{Insn}
 use Rattle.bpf_model.specs.Step.{insn_at}
-use Rattle.bpf_model.specs.Plain.{IsPlain, IsSimple, WithoutRegister, unwritten_entry, unwritten_next}
+use Rattle.bpf_model.specs.Plain.{IsPlain, IsSimple, WithoutRegister, without_entry, without_next}
 use Rattle.bpf_model.specs.PlainMaps.{lookup_call, lock_call, unlock_call, LookupCall, IsGuardedLookup, IsLookupPart, InSection, section_entry, section_lock, section_unlock, section_next, LacksRegister, lacks_entry, lacks_call, lacks_next, IsPlainWithMaps}
 
 module _ (program : List Insn) (shapes : List MapShape) (p : IsPlain program) where
@@ -29,9 +29,9 @@ module _ (program : List Insn) (shapes : List MapShape) (p : IsPlain program) wh
   no_call place i h (inr (inr e)) = subst IsSimple e (p.simple place i h)
 
   lacks : (r place : ℕ) → LacksRegister program shapes r place → WithoutRegister program r place
-  lacks r _ lacks_entry = unwritten_entry
+  lacks r _ lacks_entry = without_entry
   lacks r _ (lacks_call place target i path h call small g) = absurd (no_call place i h call)
-  lacks r _ (lacks_next place target i path h w g) = unwritten_next place target i (lacks r place path) h (λ writes. no_part place (w writes)) g
+  lacks r _ (lacks_next place target i path h w g) = without_next place target i (lacks r place path) h (λ writes. no_part place (w writes)) g
 
   pub plain_with_maps : IsPlainWithMaps program shapes
   plain_with_maps = record {

@@ -8,11 +8,9 @@ use Rattle.bpf_model.specs.MachineStep.{loaded_from, stored_in, with_bytes}
 use Rattle.plain_store.specs.Storing.{saved, SavesTo, StoresTo}
 use Rattle.plain_store.proofs.Elements.{changed-at}
 
-pub accessed : {A : Type 0} (es : List Element) (n : ℕ) (e : Element) (f : Element → Option A) → slice_get es n ≡ Some e → is_reclaimed e.life ≡ false → (accessible es n >>= f) ≡ f e
+-- an access to an element: what is done to it, unless it is reclaimed
+pub accessed : {A : Type 0} {r : Bool} (es : List Element) (n : ℕ) (e : Element) (f : Element → Option A) → slice_get es n ≡ Some e → is_reclaimed e.life ≡ r → (accessible es n >>= f) ≡ ((if r then None else Some e) >>= f)
 accessed es n e f h r = ap (λ o. (o >>= unless_reclaimed) >>= f) h ∙ ap (λ b. (if b then None else Some e) >>= f) r
-
-pub reclaimed-none : {A : Type 0} (es : List Element) (n : ℕ) (e : Element) (f : Element → Option A) → slice_get es n ≡ Some e → is_reclaimed e.life ≡ true → (accessible es n >>= f) ≡ None
-reclaimed-none es n e f h r = ap (λ o. (o >>= unless_reclaimed) >>= f) h ∙ ap (λ b. (if b then None else Some e) >>= f) r
 
 pub load-found : (es : List Element) (n : ℕ) (e : Element) (width at : ℕ) (offset : ℤ) → slice_get es n ≡ Some e → is_reclaimed e.life ≡ false → region_offset (length e.value) width offset ≡ Some at →
     (accessible es n >>= loaded_from width offset) ≡ number_at (slice_get e.value) at width
@@ -36,7 +34,7 @@ stores-to es n e f width offset v b h s = by b (is_reclaimed e.life) (region_off
   where
     by : (b : Bool) (r : Bool) (p : Option ℕ) → is_reclaimed e.life ≡ r → region_offset (length e.value) width offset ≡ p → SavesTo e width offset v b f → StoresTo (accessible es n >>= stored_in es n width offset v) b (slice_set es n f)
     by true true p x y z = absurd (let q : None ≡ Some f = sym (saved-by width offset v e true p x y) ∙ z in cc)
-    by false true p x y z = reclaimed-none es n e (stored_in es n width offset v) h x
+    by false true p x y z = accessed es n e (stored_in es n width offset v) h x
     by true false None x y z = absurd (let q : None ≡ Some f = sym (saved-by width offset v e false None x y) ∙ z in cc)
     by false false None x y z = accessed es n e (stored_in es n width offset v) h x ∙ ap (λ q. q >>= λ at. Some (changed (with_value (with_bytes at width v e.value)) es n)) y
     by true false (Some at) x y z =

@@ -62,7 +62,7 @@ module _ (top : ℕ) (pairs : List (ℕ × ℕ)) where
   cells_joined a b c spills classes k = subst (λ x. JoinsCell top pairs (cell_at a k) (cell_at b k) (cell_of (kind_in c.spills (k / 8)) x)) (sym (classes k))
       (cell_joined (kind_in a.spills (k / 8)) (kind_in b.spills (k / 8)) (kind_in c.spills (k / 8)) (spills (k / 8)) (class_in a.cells k) (class_in b.cells k))
 
--- bytes in a list, item by item
+-- the bytes of two frames are joined where each byte's class is
 pub joined_all : (xs old others : List classes.CellKind) (g : ℕ → RegKind) → length xs ≡ length others → length old ≡ length others
     → ((k : ℕ) → k < length others → class_in xs k ≡ joined_class (class_in old k) (class_in others k) (is_pointer (g k))) → (k : ℕ) → class_in xs k ≡ joined_class (class_in old k) (class_in others k) (is_pointer (g k))
 joined_all xs old others g e f all k = elim (cases_lt k (length others)) [

@@ -87,7 +87,7 @@ module _ (top : ℕ) (old new : List (ℕ × ℕ)) (x : PairsGrow old new) where
     exact = j.exact;
   }
 
--- what is unwritten
+-- unwritten on one side is unwritten when joined
 module _ (top : ℕ) (pairs : List (ℕ × ℕ)) where
   wide-blank : (f : ℕ → ℕ) (k : Kind) → IsWiderKind f k Blank
   wide-blank f (MaybeNull map i) = tt
@@ -96,7 +96,7 @@ module _ (top : ℕ) (pairs : List (ℕ × ℕ)) where
   pub joins_blank : (b : Kind) → JoinsKind top pairs Blank b Blank
   joins_blank b = record { left = tt; right = wide-blank (λ id. (pair_of top pairs id).1) b; below = tt; exact = refl }
 
--- in a list, item by item
+-- registers joined in turn: with one more, and all of the list
 pub kinds_more : (top i : ℕ) (pairs pairs' : List (ℕ × ℕ)) (xs old others : List RegKind) (k : RegKind) → i < length xs → PairsGrow pairs pairs'
     → ((r : ℕ) → r < i → JoinsKind top pairs (kind_at old r) (kind_at others r) (kind_at xs r)) → JoinsKind top pairs' (kind_at old i) (kind_at others i) (kind_of k)
     → (r : ℕ) → r < i + 1 → JoinsKind top pairs' (kind_at old r) (kind_at others r) (kind_at (slice_set xs i k) r)
@@ -156,7 +156,7 @@ module _ (top : ℕ) (pairs : List (ℕ × ℕ)) (a b : RegKind) (s t u : Scalar
   values_joined m n e f g =
       subst (λ k. JoinsKind top pairs (kind_of k) (kind_of b) (ValueAt m u)) (sym e) (subst (λ k. JoinsKind top pairs (ValueAt m s) (kind_of k) (ValueAt m u)) (sym f) (values_are m n g))
 
--- nothing is written
+-- registers and bytes of the entry's state are unwritten
 pub kinds_unwritten : (n r : ℕ) → kind_in (replicate n kinds.Unwritten) r ≡ kinds.Unwritten
 kinds_unwritten n r = elim (cases_lt r n) [
   | inl l ↦ get_or-replicate n r kinds.Unwritten kinds.Unwritten l

@@ -9,7 +9,7 @@ use Rattle.std.proofs.Math.Nat.{mod-eq_of_lt}
 use Rattle.std.proofs.Math.Pow.{shr_mono}
 use Rattle.scalar_domain.specs.Mask.{Within}
 
--- bit by bit
+-- a number within a mask has no bit that the mask has not
 pub within_bit : (n m i : ℕ) → Within n m → bit_at n i ≤ bit_at m i
 within_bit n m i h = omega (arith, ap (λ x. bit_at x i) h, bit_at_and n m i)
 

@@ -8,7 +8,7 @@ use Rattle.atomic_table.proofs.Lists.{at_set, at_snoc, set_again}
 use Rattle.shared.specs.declared.meter.MeterView.{MeterView}
 use Rattle.shared.specs.declared.tally.Totals.{Totals}
 use Rattle.shared.specs.Books.{TotalsRise}
-use Rattle.shared.specs.Meter.{IsKnownOf, FitsMeter, IsMetered, writer_of, writer_at, reader_of, Wrote, Read}
+use Rattle.shared.specs.Meter.{IsKnownOf, FitsMeter, IsMetered, writer_of, writer_at, reader_of, HasWrittenMeter, HasReadMeter}
 
 pub begins : IsMetered (0 ∷ 0 ∷ 0 ∷ []) (writer_of 0 0 0 ∷ [])
 begins = record { writer = 0; each = one }
@@ -18,7 +18,7 @@ begins = record { writer = 0; each = one }
     one (suc by) v e = absurd (some-ne-none v (sym e))
 
 -- the writer writes words that are no less
-pub writes : (by a b c x y z : ℕ) → a ≤ x → b ≤ y → c ≤ z → Turns IsMetered by (writer_of a b c) (λ _. x ∷ y ∷ z ∷ []) Wrote
+pub writes : (by a b c x y z : ℕ) → a ≤ x → b ≤ y → c ≤ z → Turns IsMetered by (writer_of a b c) (λ _. x ∷ y ∷ z ∷ []) HasWrittenMeter
 writes by a b c x y z p q r words views h at =
     let mine = h.each by (writer_of a b c) at in
     let new : List ℕ = x ∷ y ∷ z ∷ [] in
@@ -39,7 +39,7 @@ writes by a b c x y z p q r words views h at =
     )
 
 -- a reader reads
-pub reads : (by : ℕ) (v : MeterView) → v.writes ≡ false → Turns IsMetered by v (λ x. x) Read
+pub reads : (by : ℕ) (v : MeterView) → v.writes ≡ false → Turns IsMetered by v (λ x. x) HasReadMeter
 reads by v not words views h at =
     let mine = h.each by v at in
     let w : MeterView = record { writes = v.writes; steps = slice_index words 0; unlinked = slice_index words 1; reclaimed = slice_index words 2 } in
@@ -67,6 +67,6 @@ forks by v words views h at =
     }
 
 -- a writer whose view is known by an equation may write totals that are no less
-pub writes_totals : (by : ℕ) (v : MeterView) (old new : Totals) → v ≡ writer_at old → TotalsRise old new → Turns IsMetered by v (λ _. new.steps ∷ new.unlinked ∷ new.reclaimed ∷ []) Wrote
+pub writes_totals : (by : ℕ) (v : MeterView) (old new : Totals) → v ≡ writer_at old → TotalsRise old new → Turns IsMetered by v (λ _. new.steps ∷ new.unlinked ∷ new.reclaimed ∷ []) HasWrittenMeter
 writes_totals by v old new is rise =
-    subst (λ (k : MeterView). Turns IsMetered by k (λ _. new.steps ∷ new.unlinked ∷ new.reclaimed ∷ []) Wrote) (sym is) (writes by old.steps old.unlinked old.reclaimed new.steps new.unlinked new.reclaimed rise.steps rise.unlinked rise.reclaimed)
+    subst (λ (k : MeterView). Turns IsMetered by k (λ _. new.steps ∷ new.unlinked ∷ new.reclaimed ∷ []) HasWrittenMeter) (sym is) (writes by old.steps old.unlinked old.reclaimed new.steps new.unlinked new.reclaimed rise.steps rise.unlinked rise.reclaimed)

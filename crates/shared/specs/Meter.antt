@@ -40,13 +40,13 @@ reader_of v = record {
 }
 
 -- the writer knows what it wrote
-abbrev pub Wrote : MeterView → List ℕ → List ℕ → MeterView → Type 0
-Wrote v before after w =
+abbrev pub HasWrittenMeter : MeterView → List ℕ → List ℕ → MeterView → Type 0
+HasWrittenMeter v before after w =
     w ≡ writer_of (slice_index after 0) (slice_index after 1) (slice_index after 2)
 
 -- the reader knows what it read, which is no less than what it knew
-abbrev pub Read : MeterView → List ℕ → List ℕ → MeterView → Type 0
-Read v before after w =
+abbrev pub HasReadMeter : MeterView → List ℕ → List ℕ → MeterView → Type 0
+HasReadMeter v before after w =
     (w ≡ record {
       writes = v.writes;
       steps = slice_index after 0;

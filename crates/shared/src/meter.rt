@@ -27,18 +27,18 @@ impl Protocol<[u64; 3], MeterView> for Metering {
 pub struct Writes;
 
 impl Outcome<[u64; 3], MeterView> for Writes {
-    ghost use Rattle.shared.specs.Meter.{Wrote};
+    ghost use Rattle.shared.specs.Meter.{HasWrittenMeter};
 
-    ghost then = { Wrote };
+    ghost then = { HasWrittenMeter };
 }
 
 /// Another pass reads the words.
 pub struct Reads;
 
 impl Outcome<[u64; 3], MeterView> for Reads {
-    ghost use Rattle.shared.specs.Meter.{Read};
+    ghost use Rattle.shared.specs.Meter.{HasReadMeter};
 
-    ghost then = { Read };
+    ghost then = { HasReadMeter };
 }
 
 /// A new pass that reads.

@@ -77,18 +77,8 @@ fn all_exit<L: Ledger + Send + Sync, R: Threads + Wait + Abort + Sync>(
 
 /// A thousand jobs of two steps each: a start, two steps and a drop are four entries.
 #[test]
-fn one_worker(rt: HostRuntime) -> Result<(), Fail> {
-    all_exit::<Brand, _>(&rt, rt.alloc(), Blank::new(1), 1, &ONES, 4000)
-}
-
-#[test]
 fn three_workers(rt: HostRuntime) -> Result<(), Fail> {
     all_exit::<Brand, _>(&rt, rt.alloc(), Blank::new(3), 3, &ONES, 4000)
-}
-
-#[test]
-fn eight_workers(rt: HostRuntime) -> Result<(), Fail> {
-    all_exit::<Brand, _>(&rt, rt.alloc(), Blank::new(8), 8, &ONES, 4000)
 }
 
 /// Lookups of a key that is there (12 steps) and of one that isn't (11), a hundred of each, twenty times.

@@ -1,11 +1,15 @@
 //! Tests of a shared world, with the counters that its workers write, cuts and exits; and of a pool of workers that
-//! serves jobs from it.
+//! serves jobs from it. Of the journal: every kind of entry is read back as it was added.
 #![tactic(auto)]
 
 #[cfg(test)]
 mod counts;
 #[cfg(test)]
 mod cuts;
+#[cfg(test)]
+mod entries;
+#[cfg(test)]
+mod journals;
 #[cfg(test)]
 mod making;
 #[cfg(test)]

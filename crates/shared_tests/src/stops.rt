@@ -11,7 +11,7 @@ use std::sync::Wait;
 use std::sync::ledger::{Blank, Ledger};
 use std::test::Fail;
 use std::thread::Threads;
-use worker_pool::{Job, Outcome, Report, StopCause, Trail, run_jobs};
+use worker_pool::{Job, MAX_JOBS, Outcome, Report, StopCause, Trail, run_jobs};
 
 /// The first two jobs stop, each for its cause, and the third exits with its context's byte.
 fn two_stop<R: Abort>(rt: &R, report: &Report<Trail>) {
@@ -73,7 +73,7 @@ fn refused<L: Ledger + Send + Sync, R: Threads + Wait + Abort + Sync>(
             Some(90)
         );
     }
-    let many = jobs_of(alloc, &[0], 65_537)?;
+    let many = jobs_of(alloc, &[0], MAX_JOBS + 1)?;
     assert_eq!(rt;
         fault_of(rt, alloc, &many, 1, &shared, &mut all_workers),
         Some(91)

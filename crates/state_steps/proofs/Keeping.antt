@@ -50,7 +50,7 @@ set_keeps i dst t a b s ne e (FrameByte k) h = e.cells k ∙ (elim h [ inl p ↦
 set_keeps i dst t a b s ne e FramePointer h = set-elsewhere dst 10 (Num t) a b e ne ∙ (elim h [ inl p ↦ p | inr w ↦ absurd w ])
 set_keeps i dst t a b s ne e (Section inside) h = e.inside ∙ (elim h [ inl p ↦ p | inr w ↦ absurd w ])
 
--- a store to the frame
+-- a store of a number to the frame keeps facts, and makes its bytes bytes of a number
 byte-there : (b : Bool) (x : CellKind) → (b ≡ true) ⊎ (x ≡ ByteCell) → (if b then ByteCell else x) ≡ ByteCell
 byte-there true x h = refl
 byte-there false x h = elim h [ inl p ↦ absurd cc | inr q ↦ q ]
@@ -61,7 +61,7 @@ store_keeps i at width a b no_reg bytes e (FrameByte k) h = e.cells k ∙ byte-t
 store_keeps i at width a b no_reg bytes e FramePointer h = e.regs 10 ∙ (elim h [ inl p ↦ p | inr w ↦ absurd w ])
 store_keeps i at width a b no_reg bytes e (Section inside) h = e.inside ∙ (elim h [ inl p ↦ p | inr w ↦ absurd w ])
 
--- a comparison
+-- a comparison of numbers keeps facts
 names_cases : (src : Operand) (r : ℕ) → Names src r ⊎ (Names src r → ⊥)
 names_cases (Register s) r = cases_eq r s
 names_cases (Immediate imm) r = inr (λ x. x)
@@ -89,7 +89,7 @@ narrow_keeps i dst src o a b no_reg no_byte numbers frame e FramePointer h =
     e.others 10 (λ p. let n = numbers 10 p in no-frame n.0 o (a.regs 10) n.1 frame) ∙ (elim h [ inl p ↦ p | inr w ↦ absurd w ])
 narrow_keeps i dst src o a b no_reg no_byte numbers frame e (Section inside) h = e.inside ∙ (elim h [ inl p ↦ p | inr w ↦ absurd w ])
 
--- what is read as a number
+-- operands that an operation reads are numbers where the registers it reads are
 pub operand_number : (src : Operand) (a : AbsState) → ((r : ℕ) → Names src r → HasNumber a r) → IsNumberOperand a src
 operand_number (Register s) a h = h s refl
 operand_number (Immediate imm) a h = tt
@@ -117,7 +117,7 @@ module _ (size : Size) (dst : ℕ) (src : Operand) (a : AbsState) where
   alu_reads Xor h = other Xor h
   alu_reads ShiftRightSigned h = other ShiftRightSigned h
 
--- accesses to the frame
+-- an access to the frame that is ready lies inside it, and what it takes is bytes of numbers
 reaches : (width : Width) (base : ℕ) (offset : ℤ) (a : AbsState) (f : IsFrameAccess width base offset) → a.regs 10 ≡ FrameAt (pos FRAME_BYTES) → ReachesFrame a base (byte_count width) offset f.1
 reaches width base offset a f e = record { start = pos FRAME_BYTES; base = ap a.regs f.0 ∙ e; inside = f.2 }
 

@@ -103,7 +103,7 @@ pub no_section_call : (i : Insn) (opens : Bool) → is_call i ≡ false → i �
 no_section_call i true none e = false≢true (sym none ∙ ap is_call e)
 no_section_call i false none e = false≢true (sym none ∙ ap is_call e)
 
--- a register is set
+-- what stays for a lookup where one register is set
 module _ (dst : ℕ) (kind : Kind) (a b : AbsState) (e : AreAlike (with_kind dst kind a) b) where
   pub key_kept : (l : Lookup) → IsKeyWritten l a → IsKeyWritten l b
   key_kept l w k p q = e.cells k ∙ w k p q
@@ -115,7 +115,7 @@ module _ (dst : ℕ) (kind : Kind) (a b : AbsState) (e : AreAlike (with_kind dst
   set_saves low FramePointer s h = set-elsewhere dst 10 kind a b e (λ p. let q : 10 ≡ dst = p in absurd (omega (arith, q, low))) ∙ h
   set_saves low (Section inside) s h = absurd s
 
--- a number is loaded
+-- a number that is loaded into a register below r10 leaves what is saved over calls
 pub load_saves : (dst : ℕ) (n : Scalar) (a b : AbsState) → (dst ≤ 9) → AreAlike (with_kind dst (Num n) a) b → KeepsSaved a b
 load_saves dst n a b high e (Register r) s h = elim (cases_eq r dst) [
   | inl p ↦ (n, subst (λ q. b.regs q ≡ Num n) (sym p) (set-there dst dst (Num n) a b e refl))
@@ -232,7 +232,7 @@ module _ (dst : ℕ) (map : ℤ) (shapes : List MapShape) (a : AbsState) (R : Ki
             keeps_taken = tt;
           }
 
--- calls
+-- a call leaves what is saved over calls
 call_saves : (kind : Kind) (a b : AbsState) → AreAlike (after_call kind a) b → KeepsSaved a b
 call_saves kind a b e (Register r) s h = (h.0, e.regs r ∙ returned_above kind a.regs r s ∙ h.1)
 call_saves kind a b e (FrameByte k) s h = e.cells k ∙ h

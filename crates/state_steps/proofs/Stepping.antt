@@ -132,7 +132,7 @@ numbers_compare condition size dst src a h offset r c m x d =
       | inr p ↦ inl (n.1.0, named src r m p ∙ n.1.1)
     ]
 
--- an access
+-- the register of an access refers into the region that is answered
 in_region : (region : Region) (k : Kind) (c : Scene) (ρ : Naming) (v : Value) → IsBase region k → IsOf c ρ k v → IsInRegion c region v
 in_region regions.None k c ρ v b h = absurd b
 in_region regions.Ctx k c ρ v b h = let x = subst (λ (k : Kind). IsOf c ρ k v) b.1 h in (x.offset, x.is)

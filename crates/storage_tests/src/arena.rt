@@ -61,36 +61,6 @@ fn stores(rt: HostRuntime) -> Result<(), Fail> {
 }
 
 #[test]
-fn links(rt: HostRuntime) -> Result<(), Fail> {
-    let mut arena = one_taken(rt.alloc())?;
-    let new = arena.next_of(0);
-    arena.set_next(0, Some(1));
-    let linked = arena.next_of(0);
-    arena.set_next(0, None);
-    let cut = arena.next_of(0);
-    assert_eq!(rt; new, None);
-    assert_eq!(rt; linked, Some(1));
-    assert_eq!(rt; cut, None);
-    Ok(())
-}
-
-#[test]
-fn a_slot_twice(rt: HostRuntime) -> Result<(), Fail> {
-    let mut arena = one_taken(rt.alloc())?;
-    let first = arena.give(0);
-    let other = arena.take(&KEY, &VALUE);
-    let again = arena.take(&KEY, &VALUE);
-    let last = arena.give(0);
-    let none = arena.take(&KEY, &VALUE);
-    assert_eq!(rt; first, Given::Free);
-    assert_eq!(rt; other, Some(1));
-    assert_eq!(rt; again, Some(0));
-    assert_eq!(rt; last, Given::Worn);
-    assert_eq!(rt; none, None);
-    Ok(())
-}
-
-#[test]
 fn tags(rt: HostRuntime) -> Result<(), Fail> {
     let mut arena = one_taken(rt.alloc())?;
     let tag = arena.tag(0);
@@ -126,19 +96,6 @@ fn tags(rt: HostRuntime) -> Result<(), Fail> {
         }
     );
     assert!(rt; outside.is_err());
-    Ok(())
-}
-
-#[test]
-fn copies(rt: HostRuntime) -> Result<(), Fail> {
-    let arena = one_taken(rt.alloc())?;
-    let mut copy = arena.copy()?;
-    let taken = copy.take(&KEY, &VALUE);
-    let there = copy.key(1);
-    let here = arena.key(1);
-    assert_eq!(rt; taken, Some(1));
-    assert!(rt; there == KEY.as_slice());
-    assert_eq!(rt; here.len(), 0);
     Ok(())
 }
 

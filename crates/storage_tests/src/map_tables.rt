@@ -1,12 +1,13 @@
 //! Maps of both forms over lines of commands, with the answers that they must have, worked out by hand; and the registry.
 //! Bytes are hexadecimal digits. `slot` asks for the slot of a key, `above` for the element with the least key above
 //! another, or of all (`-`).
-use bpf_model::{Errno, Given, MapId, MapShape};
+use bpf_model::{Errno, Given, MAX_MAPS, MapId, MapShape};
 use deferred_free::{Deferred, Threaded, Vectors};
 use hash_index::{Buckets, Index, Sorted};
 use maps::{HashMap, Registry};
 use std::alloc::Global;
 use std::fmt::Write;
+use std::process::Abort;
 use std::str::Split;
 use std::test::Fail;
 
@@ -249,30 +250,25 @@ pub(crate) fn replay<I: Index, D: Deferred>(
     Ok(text)
 }
 
-#[test]
-fn threaded_maps(rt: HostRuntime) -> Result<(), Fail> {
-    let alloc = rt.alloc();
-    let mut small: HashMap<Buckets, Threaded> = HashMap::new(alloc, SMALL)?;
+/// Maps of this index and these lists answer both tables.
+fn answers_tables<I: Index + Drop, D: Deferred + Drop, R: Abort>(
+    rt: &R,
+    alloc: Global,
+) -> Result<(), Fail> {
+    let mut small: HashMap<I, D> = HashMap::new(alloc, SMALL)?;
     assert_eq!(rt;
         replay(alloc, &mut small, SMALL_LINES)?.as_str(),
         SMALL_LINES
     );
-    let mut pair: HashMap<Buckets, Threaded> = HashMap::new(alloc, PAIR)?;
+    let mut pair: HashMap<I, D> = HashMap::new(alloc, PAIR)?;
     assert_eq!(rt; replay(alloc, &mut pair, PAIR_LINES)?.as_str(), PAIR_LINES);
     Ok(())
 }
 
 #[test]
-fn maps_of_vectors(rt: HostRuntime) -> Result<(), Fail> {
-    let alloc = rt.alloc();
-    let mut small: HashMap<Sorted, Vectors> = HashMap::new(alloc, SMALL)?;
-    assert_eq!(rt;
-        replay(alloc, &mut small, SMALL_LINES)?.as_str(),
-        SMALL_LINES
-    );
-    let mut pair: HashMap<Sorted, Vectors> = HashMap::new(alloc, PAIR)?;
-    assert_eq!(rt; replay(alloc, &mut pair, PAIR_LINES)?.as_str(), PAIR_LINES);
-    Ok(())
+fn maps_of_both_forms(rt: HostRuntime) -> Result<(), Fail> {
+    answers_tables::<Buckets, Threaded, _>(&rt, rt.alloc())?;
+    answers_tables::<Sorted, Vectors, _>(&rt, rt.alloc())
 }
 
 /// A shape of no map: it has no entries.
@@ -317,7 +313,7 @@ fn registry_of_maps(rt: HostRuntime) -> Result<(), Fail> {
 fn too_many_maps(rt: HostRuntime) -> Result<(), Fail> {
     let alloc = rt.alloc();
     let mut registry = Registry::new(alloc);
-    for number in 0..16usize {
+    for number in 0..MAX_MAPS {
         let name = format!(in alloc; "map_{number}")?;
         let made = registry.create(&name, SMALL);
         assert_eq!(rt; made.map(|id| id.index()), Ok(number));

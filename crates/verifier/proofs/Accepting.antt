@@ -10,7 +10,7 @@ use Rattle.bpf_model.specs.declared.limits.TheConstants.{FRAME_BYTES}
 use Rattle.bpf_model.specs.declared.opcode.Width.{Width}
 use Rattle.bpf_model.specs.Access.{byte_count, region_offset}
 use Rattle.bpf_model.specs.Graph.{distance, JumpsTo, GoesTo}
-use Rattle.bpf_model.specs.Plain.{IsSimple, WritesRegister, WritesByte, TakesByte, WithoutByte, bare_entry, bare_next}
+use Rattle.bpf_model.specs.Plain.{IsSimple, WritesRegister, WritesByte, TakesByte, WithoutByte, without_entry, without_next}
 use Rattle.bpf_model.specs.PlainMaps.{lookup_call, lock_call, unlock_call, IsGuardedLookup, IsLookupPart, HasForm, InSection, section_entry, section_lock, section_unlock, section_next, LacksRegister, lacks_entry, lacks_call, lacks_next, IsPlainWithMaps, Lookup, LookupPart, FrameCopy, KeyAddress, MapLoad, LookupCall, NullTest, ValueLoad, part_insn, part_slot}
 use Rattle.bpf_model.specs.Spelling.{slot_count}
 use Rattle.bpf_model.specs.Step.{insn_at}
@@ -192,7 +192,7 @@ module _ (program : List Insn) (shapes : List MapShape) (plain : IsPlainWithMaps
   ordinary_on : (IsLookupPart program shapes s → ⊥) → IsSimple i → (fact : Fact) → (Makes i fact → ⊥) → (t : ℕ) → GoesTo i s t → WithoutFact program shapes fact s → WithoutFact program shapes fact t
   ordinary_on away simple (Register r) n t g (inl w) = inl (lacks_next s t i w here (λ x. absurd (n x)) g)
   ordinary_on away simple (Register r) n t g (inr w) = absurd (away (w.1.start, w.1.lookup, omega (arith, w.1.behind), w.1.inside))
-  ordinary_on away simple (FrameByte j) n t g w = bare_next s t i w here n g
+  ordinary_on away simple (FrameByte j) n t g w = without_next s t i w here n g
   ordinary_on away simple FramePointer n t g w = w
   ordinary_on away simple (Section inside) n t g w = section_next (if inside then false else true) s t i w here (simple_keeps simple) g
 
@@ -232,7 +232,7 @@ module _ (program : List Insn) (shapes : List MapShape) (plain : IsPlainWithMaps
     ]
     part_facts keeps inside (FrameByte j) = elim (knows (FrameByte j)) [
       | inl holds ↦ inl (keeps (FrameByte j) tt holds)
-      | inr without ↦ inr (λ t at. bare_next s t i (without s there) here (no_byte j) (goes t at))
+      | inr without ↦ inr (λ t at. without_next s t i (without s there) here (no_byte j) (goes t at))
     ]
     part_facts keeps inside FramePointer = elim (knows FramePointer) [
       | inl holds ↦ inl (keeps FramePointer tt holds)
@@ -265,7 +265,7 @@ module _ (program : List Insn) (shapes : List MapShape) (plain : IsPlainWithMaps
     ]
     section_facts left (FrameByte j) = elim (knows (FrameByte j)) [
       | inl holds ↦ inl (left.0 (FrameByte j) tt holds)
-      | inr without ↦ inr (λ t at. bare_next s t i (without s there) here (λ x. section_no_byte opens j (subst (λ i. WritesByte i j) is x)) (goes t at))
+      | inr without ↦ inr (λ t at. without_next s t i (without s there) here (λ x. section_no_byte opens j (subst (λ i. WritesByte i j) is x)) (goes t at))
     ]
     section_facts left FramePointer = elim (knows FramePointer) [
       | inl holds ↦ inl (left.0 FramePointer tt holds)
@@ -562,7 +562,7 @@ known_first program shapes at s = record { paired = paired; knows = knows }
 
     first : Knows program shapes 0 s.state
     first (Register r) = inr (λ p there. inl (subst (LacksRegister program shapes r) (sym (first_start program p there)) lacks_entry))
-    first (FrameByte k) = inr (λ p there. subst (WithoutByte program k) (sym (first_start program p there)) bare_entry)
+    first (FrameByte k) = inr (λ p there. subst (WithoutByte program k) (sym (first_start program p there)) without_entry)
     first FramePointer = inl (s.alike.regs 10)
     first (Section true) = inr (λ p there. subst (InSection program false) (sym (first_start program p there)) section_entry)
     first (Section false) = inl s.alike.inside

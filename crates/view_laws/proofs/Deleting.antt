@@ -30,7 +30,7 @@ use Rattle.view_laws.proofs.Changing.{changes-same}
 use Rattle.view_laws.proofs.Mapping.{unlinks, elements-retired}
 use Rattle.view_laws.proofs.Listing.{named-kept, between-more, between-one, between-other, more-none, more-one}
 use Rattle.bpf_model.proofs.Cases.{oldest-none}
-use Rattle.view_laws.proofs.Worlds.{Here, here, Turns, turned-world, shapes-agree, awaited-same, refuses, steps}
+use Rattle.view_laws.proofs.Worlds.{Here, here, Turns, turned-world, key-refusal-is, awaited-same, refuses, steps}
 
 -- births below n have the same map slots
 abbrev pub Renames : List ℕ → List ℕ → ℕ → Type 0
@@ -50,7 +50,6 @@ pub record Drops (slots : List ℕ) (k : ℕ) (store : Store) (opened : List Sec
   pub lists : (more : List Element) (names : List ℕ) → Renames slots names (length store.elements) → lists_of new ≡ named names (retired_in k store.elements (left ++ more) q)
   pub others : (j : ℕ) → j ≢ k → (more : List Element) → unlinked_between j 0 store.elements (left ++ more) ≡ []
   pub state : map_state_of new ≡ map_state_of v
-  pub slots_same : new.slots ≡ v.slots
   pub free : new.free ≡ v.free
   pub slots_stand : SlotsStand new
   pub elements : ElementsStand slots k left new
@@ -77,7 +76,6 @@ module _ (slots : List ℕ) (k : ℕ) (store : Store) (opened : List Section) (q
     lists = λ more names same. lists names same ∙ ap (named names) (sym (more-none k store.elements (store.elements ++ more) q (between-more k 0 store.elements more)));
     others = λ j ne more. between-more j 0 store.elements more;
     state = refl;
-    slots_same = refl;
     free = refl;
     slots_stand = free;
     elements = s;
@@ -105,7 +103,6 @@ module _ (slots : List ℕ) (k : ℕ) (store : Store) (opened : List Section) (q
             ∙ sym (more-one k n names store.elements (left ++ more) q (between-one k 0 store.elements more n n h.element opened h.born h.linked h.in_map zero_plus)));
         others = λ j ne more. between-other j 0 store.elements more n h.element (Unlinked opened) h.born (λ e. ne (sym e ∙ h.in_map));
         state = refl;
-        slots_same = refl;
         free = refl;
         slots_stand = record { room = free.room; once = free.once; inside = free.inside };
         elements = elements-retired slots k store.elements v key n opened s h;
@@ -194,17 +191,14 @@ pub delete_half : (w : WorldView) (s : Schedule) → Matches w s → (k : ℕ) (
 delete_half w s sim k v key at = deletes-half w s sim.refines sim.scheduled k v at key (drop w s sim.refines sim.scheduled k v at key)
 
 module _ (w : WorldView) (s : Schedule) (sim : Matches w s) (k : ℕ) (key : ArrayVec ℕ) where
-  refusal-is : (r : Option EventRefusal) → key_refusal (shape_shown (slice_get w.maps k)) (length key.items) ≡ r → refusal s.machine (events.Delete k key) ≡ r
-  refusal-is r e = ap (λ shape. key_refusal shape (length key.items)) (shapes-agree w s sim.refines k) ∙ e
-
   delete-cases : (r : Option EventRefusal) (o : Option MapView) → key_refusal (shape_shown (slice_get w.maps k)) (length key.items) ≡ r → slice_get w.maps k ≡ o →
       Simulates s (events.Delete k key) (delete_at r o w k key.items)
-  delete-cases (Some r) o e at = record { next = s; does = refuses w s sim.refines sim.scheduled r (events.Delete k key) (refusal-is (Some r) e); matches = sim }
+  delete-cases (Some r) o e at = record { next = s; does = refuses w s sim.refines sim.scheduled r (events.Delete k key) (key-refusal-is w s sim.refines k (length key.items) (Some r) e); matches = sim }
   delete-cases None None e at = absurd (none-some NoMap (sym e ∙ ap (λ z. key_refusal (shape_shown z) (length key.items)) at))
   delete-cases None (Some v) e at =
       let d = drop w s sim.refines sim.scheduled k v at key.items in
       let t = next w s sim.refines sim.scheduled k v at key.items d in
-      let does = does-delete w s sim.refines sim.scheduled k v at key.items d key refl (refusal-is None e) in
+      let does = does-delete w s sim.refines sim.scheduled k v at key.items d key refl (key-refusal-is w s sim.refines k (length key.items) None e) in
       record {
         next = t;
         does = does;

@@ -1,7 +1,6 @@
 -- What a world makes of a reap is a step of the schedule.
 use Rattle.std.proofs.Common.{◌≡◌, ◌∙◌, ℕ, suc, ◌+◌, ◌<◌, ◌≤◌, List, [], ◌∷◌, map, drop, length, Some, None, ◌⊎◌, inl, inr, refl, sym, ap, arith, subst}
-use Rattle.std.specs.Prelude.{slice_get, slice_set, slice_index, count_by, if◌then◌else◌}
-use Rattle.std.proofs.Math.Dec.{eqb-suc-zero}
+use Rattle.std.specs.Prelude.{slice_get, slice_set, slice_index, count_by}
 use Rattle.std.proofs.lemmas.Bool.{cases_eq}
 use Rattle.std.proofs.lemmas.Option.{same_Some, slice_get_within}
 use Rattle.std.proofs.lemmas.List.{map-append, length-set}
@@ -14,7 +13,7 @@ use Rattle.bpf_model.specs.Reclaim.{Reclaims}
 use Rattle.bpf_model.specs.Machine.{open_sections, with_store}
 use Rattle.bpf_model.specs.Schedule.{Queues, Schedule, or_first, first_ready, without_first, DoesScheduled}
 use Rattle.model_laws.specs.Scheduled.{IsScheduled}
-use Rattle.model_laws.proofs.Counting.{times-first, times-other, times-append, shortened, without_at, length-without}
+use Rattle.model_laws.proofs.Counting.{times-first, times-other, times-append, shortened, FirstIndex, index-later, index-here, length-without}
 use Rattle.model_laws.proofs.Queueing.{Queued, queued-of}
 use Rattle.bpf_model.specs.View.{MapView, WorldView, uses_in, uses_at, map_state_of, key_in}
 use Rattle.bpf_model.specs.Refines.{times, slot_view, IsElementKept, lists_of, named, SlotsStand, MapRefines, RefinesSchedule}
@@ -27,21 +26,16 @@ use Rattle.bpf_model.proofs.Cases.{oldest-none, none-without}
 use Rattle.view_laws.proofs.Worlds.{Here, here, Turns, turned-world, steps}
 use Rattle.bpf_model.proofs.Lists.{get-set_other, get-set_there}
 
--- views and lists, side by side
+-- What a reap picks: the same in the views of maps, the first of which is map k, and in their lists.
 record Picked (slots : List ℕ) (k : ℕ) (vs : List MapView) (qs : List Queues) : Type 0 where
   pub pick : Pick
-  pub map_at : ℕ
   pub n : ℕ
-  pub lists : Queues
-  pub rest : List ℕ
+  pub index : FirstIndex qs n
   pub is : first_pick k vs ≡ Some pick
-  pub number : pick.map ≡ k + map_at
-  pub at : slice_get vs map_at ≡ Some pick.view
-  pub listed : slice_get qs map_at ≡ Some lists
-  pub ready : lists.ready ≡ n ∷ rest
+  pub number : pick.map ≡ k + index.map_at
+  pub at : slice_get vs index.map_at ≡ Some pick.view
   pub slot : slice_index slots n ≡ pick.slot
   pub first : first_ready qs ≡ Some n
-  pub without : without_first qs ≡ slice_set qs map_at (shortened rest lists)
 
 abbrev AreReady : List ℕ → List MapView → List Queues → Type 0
 AreReady slots vs qs = (j : ℕ) (v : MapView) (q : Queues) → slice_get vs j ≡ Some v → slice_get qs j ≡ Some q → v.ready ≡ map (slice_index slots) q.ready
@@ -52,35 +46,25 @@ module _ (slots : List ℕ) where
   pick-later k v q vs qs a b (inl x) = inl (ap (λ l. or_pick l k v (first_pick (suc k) vs)) a ∙ x.0, ap (λ l. or_first l (first_ready qs)) b ∙ x.1)
   pick-later k v q vs qs a b (inr p) = inr (record {
     pick = p.pick;
-    map_at = suc p.map_at;
     n = p.n;
-    lists = p.lists;
-    rest = p.rest;
+    index = index-later q qs p.n b p.index;
     is = ap (λ l. or_pick l k v (first_pick (suc k) vs)) a ∙ p.is;
-    number = (let z : p.pick.map ≡ suc k + p.map_at = p.number in omega arith);
+    number = (let z : p.pick.map ≡ suc k + p.index.map_at = p.number in let y : p.pick.map ≡ k + suc p.index.map_at = omega arith in y);
     at = p.at;
-    listed = p.listed;
-    ready = p.ready;
     slot = p.slot;
     first = ap (λ l. or_first l (first_ready qs)) b ∙ p.first;
-    without = ap (without_at q qs) b ∙ ap (λ l. q ∷ l) p.without;
   })
 
   pick-here : (k : ℕ) (v : MapView) (q : Queues) (vs : List MapView) (qs : List Queues) (n : ℕ) (rest : List ℕ) → v.ready ≡ map (slice_index slots) q.ready → q.ready ≡ n ∷ rest → Picked slots k (v ∷ vs) (q ∷ qs)
   pick-here k v q vs qs n rest same b = record {
     pick = record { map = k; view = v; slot = slice_index slots n };
-    map_at = 0;
     n = n;
-    lists = q;
-    rest = rest;
+    index = index-here q qs n rest b;
     is = ap (λ l. or_pick l k v (first_pick (suc k) vs)) (same ∙ ap (map (slice_index slots)) b);
-    number = omega arith;
+    number = (let z : k ≡ k + 0 = omega arith in z);
     at = refl;
-    listed = refl;
-    ready = b;
     slot = refl;
     first = ap (λ l. or_first l (first_ready qs)) b;
-    without = ap (without_at q qs) b ∙ ap (λ c. if c then q ∷ without_first qs else shortened rest q ∷ qs) (eqb-suc-zero (length rest));
   }
 
   picks-at : (k : ℕ) (v : MapView) (q : Queues) (vs : List MapView) (qs : List Queues) (ready : List ℕ) → q.ready ≡ ready → v.ready ≡ map (slice_index slots) q.ready →
@@ -241,10 +225,10 @@ module _ (w : WorldView) (s : Schedule) (sim : Matches w s) where
 
   finds-one : Picked x.slots 0 w.maps s.queues → Simulates s events.Reap (reap_by (first_pick 0 w.maps) w)
   finds-one p =
-      let number : p.pick.map ≡ p.map_at = p.number ∙ (let z : 0 + p.map_at ≡ p.map_at = omega arith in z) in
-      let same : p.pick ≡ record { map = p.map_at; view = p.pick.view; slot = slice_index x.slots p.n } = λ j. record { map = number j; view = p.pick.view; slot = sym p.slot j } in
+      let number : p.pick.map ≡ p.index.map_at = p.number ∙ (let z : 0 + p.index.map_at ≡ p.index.map_at = omega arith in z) in
+      let same : p.pick ≡ record { map = p.index.map_at; view = p.pick.view; slot = slice_index x.slots p.n } = λ j. record { map = number j; view = p.pick.view; slot = sym p.slot j } in
       subst (λ o. Simulates s events.Reap (reap_by o w)) (sym (p.is ∙ ap Some same))
-      (takes w s x sim.scheduled p.map_at p.pick.view p.at p.lists p.listed p.n p.rest p.ready p.first p.without (taken w s x sim.scheduled p.map_at p.pick.view p.at p.lists p.listed p.n p.rest p.ready p.first p.without))
+      (takes w s x sim.scheduled p.index.map_at p.pick.view p.at p.index.lists p.index.there p.n p.index.rest p.index.ready_is p.first p.index.without (taken w s x sim.scheduled p.index.map_at p.pick.view p.at p.index.lists p.index.there p.n p.index.rest p.index.ready_is p.first p.index.without))
 
   pub reap_simulates : Simulates s events.Reap (reap_reaction w)
   reap_simulates = elim (picks x.slots 0 w.maps s.queues (x.maps.0 ∙ sym x.maps.1) are-ready) [

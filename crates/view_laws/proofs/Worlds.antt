@@ -11,7 +11,7 @@ use Rattle.bpf_model.specs.declared.event.EventRefusal.{EventRefusal}
 use Rattle.bpf_model.specs.Element.{Element, is_reclaimed}
 use Rattle.bpf_model.specs.MapState.{MapState, Store, shape_in, shape_of}
 use Rattle.bpf_model.specs.Machine.{with_store}
-use Rattle.bpf_model.specs.Event.{Answers, refusal}
+use Rattle.bpf_model.specs.Event.{Answers, key_refusal, refusal}
 use Rattle.bpf_model.specs.Schedule.{Queues, Schedule, open_flags, still_open, retired, scheduled, TakesFirst, DoesScheduled}
 use Rattle.model_laws.specs.Scheduled.{IsScheduled}
 use Rattle.model_laws.proofs.Scheduling.{stays_scheduled}
@@ -59,6 +59,10 @@ shapes-agree w s x k = elim (option_cases (slice_get w.maps k)) [
         let a : length w.maps ≡ length s.machine.store.maps = x.maps.0 in
         let v = get-below w.maps k (omega arith) in
         absurd (none-some v.0 (sym none ∙ v.1))
+
+-- A read and a delete are refused by the shape that the view shows.
+pub key-refusal-is : (w : WorldView) (s : Schedule) → RefinesSchedule w s → (k len : ℕ) (r : Option EventRefusal) → key_refusal (shape_shown (slice_get w.maps k)) len ≡ r → key_refusal (shape_of s.machine.store k) len ≡ r
+key-refusal-is w s x k len r e = ap (λ shape. key_refusal shape len) (shapes-agree w s x k) ∙ e
 
 -- the awaited flags stay where the runs do
 pub awaited-same : (w : WorldView) (s : Schedule) → RefinesSchedule w s → IsScheduled s → still_open s.awaited (open_flags s.machine.runs) ≡ s.awaited

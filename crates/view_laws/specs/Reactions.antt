@@ -15,10 +15,9 @@ use Rattle.bpf_model.specs.Event.{start_refusal, if_ended, if_running, key_refus
 use Rattle.bpf_model.specs.Schedule.{is_any, still_open}
 use Rattle.bpf_model.specs.Word.{ctx_base, frame_base}
 use Rattle.bpf_model.specs.View.{MapView, RunView, WorldView, key_in}
-use Rattle.bpf_model.specs.Machine.{lowest_free}
+use Rattle.bpf_model.specs.Machine.{lowest_free, run_at}
 use Rattle.bpf_model.specs.declared.event.ReapedElement.{ReapedElement}
 use Rattle.view_laws.specs.Views.{value_read, deleted, updated, turned_view, given_at, reaped_view}
-use Rattle.std.specs.Option.{option_flatten}
 
 -- Map k has another view.
 abbrev pub with_map : ℕ → MapView → WorldView → WorldView
@@ -212,7 +211,7 @@ drop_by (Some refusal) w r = refused_as refusal w
 drop_by None w r = (Done, with_run r None w)
 
 abbrev pub drop_reaction : WorldView → ℕ → Answer × WorldView
-drop_reaction w r = drop_by (drop_refused (option_flatten (slice_get w.runs r))) w r
+drop_reaction w r = drop_by (drop_refused (run_at w.runs r)) w r
 
 -- a step that is refused; one that is not, its instruction decides
 abbrev pub step_by : Option EventRefusal → WorldView → Option (Answer × WorldView)
@@ -222,7 +221,7 @@ step_by None w = None
 -- The reaction to an event; None: a run makes a step, which its instruction decides.
 abbrev pub reaction : WorldView → Event → Option (Answer × WorldView)
 reaction w (events.Start prog ctx) = Some (start_reaction w prog ctx.items)
-reaction w (events.Step run) = step_by (step_refused (option_flatten (slice_get w.runs run))) w
+reaction w (events.Step run) = step_by (step_refused (run_at w.runs run)) w
 reaction w (events.Update map key value flags) =
     Some (update_reaction w map key.items value.items flags)
 reaction w (events.Delete map key) = Some (delete_reaction w map key.items)

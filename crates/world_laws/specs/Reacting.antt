@@ -12,7 +12,7 @@ use Rattle.bpf_model.specs.declared.insn.CallKind.TheVariants.{Helper, Kernel}
 use Rattle.bpf_model.specs.Access.{byte_count, unsigned_width}
 use Rattle.bpf_model.specs.Arithmetic.{alu, unary, compares, loaded_signed}
 use Rattle.bpf_model.specs.Call.{helper_of, kernel_function_of}
-use Rattle.bpf_model.specs.Machine.{Loaded}
+use Rattle.bpf_model.specs.Machine.{Loaded, run_at}
 use Rattle.bpf_model.specs.Operand.{unary_source}
 use Rattle.bpf_model.specs.Step.{insn_at}
 use Rattle.bpf_model.specs.View.{RunView, WorldView}
@@ -21,7 +21,6 @@ use Rattle.world_laws.specs.Locating.{loaded_word}
 use Rattle.world_laws.specs.Moving.{word_in, operand_word, with_word, jumped_by, branched, map_word}
 use Rattle.world_laws.specs.Moving.{moves_on, ends_with, stored_word}
 use Rattle.world_laws.specs.Calling.{idle, helper_called, kernel_called}
-use Rattle.std.specs.Option.{option_flatten}
 
 -- What an instruction does to a run's words, in run slot r of a world.
 abbrev pub insn_step : Insn → Loaded → ℕ → RunView → WorldView → Answer × WorldView
@@ -60,7 +59,7 @@ run_step_of (Some v) r w = step_in (slice_get w.programs v.program) r v w
 run_step_of None r w = idle w
 
 abbrev pub word_step : WorldView → ℕ → Answer × WorldView
-word_step w r = run_step_of (option_flatten (slice_get w.runs r)) r w
+word_step w r = run_step_of (run_at w.runs r) r w
 
 -- The reaction to any event: where `reaction` leaves it to an instruction, the step of that.
 abbrev pub or_step : Option (Answer × WorldView) → WorldView → Event → Answer × WorldView

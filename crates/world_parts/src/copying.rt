@@ -5,7 +5,7 @@ use crate::loaded::Loaded;
 use machine::Run;
 use std::alloc::{AllocError, Global};
 
-/// The same run, if there is one.
+/// A copy of the run in a run slot; `None` where the run slot is free.
 fn copy_of_run(run: &Option<Run>) -> Option<Run>
     ensures { result ≡ run.now }
 {
@@ -15,7 +15,7 @@ fn copy_of_run(run: &Option<Run>) -> Option<Run>
     }
 }
 
-/// The same runs, in the same run slots.
+/// Copies of runs, each in the run slot of its original. Fails where memory runs out.
 pub(crate) fn copy_of_runs(
     alloc: Global,
     runs: &[Option<Run>],
@@ -29,7 +29,7 @@ pub(crate) fn copy_of_runs(
     Ok(copy)
 }
 
-/// The same programs, in the same order.
+/// Copies of loaded programs, in their order. Fails where memory runs out.
 pub(crate) fn copy_of_programs(
     alloc: Global,
     programs: &[Loaded],

@@ -14,7 +14,7 @@ pub struct Loaded {
     pub maps: ArrayVec<usize, MAX_MAPS>,
 }
 
-/// The same numbers, in the same order.
+/// A copy of the numbers of a program's maps, in their order.
 fn copy_of_numbers(maps: &ArrayVec<usize, MAX_MAPS>) -> ArrayVec<usize, MAX_MAPS>
     ensures same { result ≡ maps.now }
 {

@@ -2,8 +2,7 @@
 ghost use Rattle.std.specs.Prelude.{◌≡◌, None, Some, map, slice_get, IfSome};
 ghost use Rattle.view_laws.specs.Reactions.{start_reaction, drop_reaction, drop_refused};
 ghost use Rattle.world_parts.specs.Keeping.{view_of};
-ghost use Rattle.bpf_model.specs.Machine.{lowest_free as lowest_free_of};
-ghost use Rattle.std.specs.Option.{option_flatten};
+ghost use Rattle.bpf_model.specs.Machine.{lowest_free as lowest_free_of, run_at};
 
 use crate::by_number::program_at;
 use crate::parts::Parts;
@@ -50,7 +49,7 @@ impl Parts {
 
     /// Why the run of a run slot is not dropped, if it is not.
     fn drop_refusal(&self, run: RunId) -> Option<EventRefusal>
-        ensures { result ≡ drop_refused (option_flatten (slice_get self.now.runs run)) }
+        ensures { result ≡ drop_refused (run_at self.now.runs run) }
     {
         match self.runs.get(run.index()) {
             Some(Some(found)) if found.exit().is_some() => None,

@@ -1,12 +1,12 @@
 //! The step of a run.
-ghost use Rattle.std.specs.Prelude.{◌≡◌, None, slice_get};
+ghost use Rattle.std.specs.Prelude.{◌≡◌, None};
 ghost use Rattle.bpf_model.specs.declared.event.Event.{Event};
+ghost use Rattle.bpf_model.specs.Machine.{run_at};
 ghost use Rattle.view_laws.specs.Reactions.{step_refused};
 ghost use Rattle.world_laws.specs.Reacting.{full_reaction, word_step};
 ghost use Rattle.world_laws.specs.Typed.{IsMatched};
 ghost use Rattle.world_parts.specs.Brief.{brief_answer};
 ghost use Rattle.world_parts.specs.Stepping.{CanTake, HasGone, HasTaken, IsGoing};
-ghost use Rattle.std.specs.Option.{option_flatten};
 
 use crate::brief::Brief;
 use crate::loaded::Loaded;
@@ -65,7 +65,7 @@ fn step_slot(
 impl Parts {
     /// Why the run of a run slot makes no step, if it makes none.
     fn step_refusal(&self, run: RunId) -> Option<EventRefusal>
-        ensures { result ≡ step_refused (option_flatten (slice_get self.now.runs run)) }
+        ensures { result ≡ step_refused (run_at self.now.runs run) }
     {
         match self.runs.get(run.index()) {
             Some(Some(run)) if run.exit().is_some() => Some(EventRefusal::Ended),
@@ -77,7 +77,7 @@ impl Parts {
     /// The step of a run that has not ended.
     fn take_step(&mut self, run: RunId) -> Brief
         requires sound { IsMatched self.old }
-        requires going { step_refused (option_flatten (slice_get self.old.runs run)) ≡ None }
+        requires going { step_refused (run_at self.old.runs run) ≡ None }
         ensures answer { brief_answer result ≡ (word_step self.old run).0 }
         ensures new { self.new ≡ (word_step self.old run).1 }
     {

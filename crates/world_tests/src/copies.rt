@@ -1,12 +1,9 @@
 //! Copies of a world: a copy answers as the original would, whatever becomes of the other.
-use crate::generated::{SHAPES, event, sources};
 use crate::making::{SHAPE, Source, world_of};
 use crate::programs::LOOKUP;
-use crate::random::Random;
-use crate::replay::{answers_alike, answers_as, counts_alike};
+use crate::replay::answers_as;
 use bpf_model::MapId;
 use std::test::Fail;
-use world::World;
 
 const LOOKING: Source = Source {
     lines: LOOKUP,
@@ -52,26 +49,4 @@ fn copy_goes_its_own_way(rt: HostRuntime) -> Result<(), Fail> {
     assert_eq!(rt; copy.registry().name(MapId::new(0)), Some("m0"));
     assert_eq!(rt; copy.registry().len(), 1);
     Ok(())
-}
-
-/// Applies the next thousand generated events.
-fn apply_events(world: &mut World, random: &mut Random) {
-    for _ in 0..1000usize {
-        let _answer = world.apply(&event(random, 0));
-    }
-}
-
-/// A copy that is made among generated events gives the answers to the rest that the original gives.
-#[test]
-fn copy_answers_alike(rt: HostRuntime) -> Result<(), Fail> {
-    let alloc = rt.alloc();
-    let mut world = world_of(alloc, &SHAPES, &sources())?;
-    let mut random = Random::new(0x9e37_79b9_7f4a_7c15);
-    apply_events(&mut world, &mut random);
-    let mut copy = world.copy(alloc)?;
-    for _ in 0..1000usize {
-        let event = event(&mut random, 0);
-        answers_alike(&rt, alloc, &copy.apply(&event), &world.apply(&event))?;
-    }
-    counts_alike(&rt, alloc, &copy, &world)
 }

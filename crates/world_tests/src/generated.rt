@@ -5,13 +5,13 @@ use crate::programs::{
     ADD_ONE, BYTE_OF_16, LOAD, PUT, REMOVE, REPLACE, SPILL_REMOVE, STORE_BYTE, TWO_MAPS,
 };
 use crate::random::Random;
-use crate::replay::{apply_both, counts_text};
+use crate::replay::apply_both;
 use bpf_model::{Event, KeyBytes, MAX_REUSE, MapId, MapShape, ProgId, RunId, ValueBytes};
 use std::process::Abort;
 use std::test::Fail;
 
 /// The first map wears out, the second is mostly full, and the third has longer keys and values.
-pub const SHAPES: [MapShape; 3] = [
+const SHAPES: [MapShape; 3] = [
     MapShape {
         key_len: 4,
         value_len: 8,
@@ -45,7 +45,7 @@ const fn source(lines: &'static str, maps: &'static [usize]) -> Source {
 }
 
 /// The programs, in the order of their numbers.
-pub fn sources() -> [Source; 9] {
+fn sources() -> [Source; 9] {
     [
         source(LOAD, &[0]),
         source(ADD_ONE, &[1]),
@@ -138,7 +138,7 @@ fn start(random: &mut Random) -> Event {
 }
 
 /// The next event; no run is started where eight are there.
-pub fn event(random: &mut Random, runs: usize) -> Event {
+fn event(random: &mut Random, runs: usize) -> Event {
     let slot = random.below(9).min(random.below(9));
     let run = RunId::new(slot);
     match random.below(100) {
@@ -205,9 +205,7 @@ fn generated_events(rt: HostRuntime) -> Result<(), Fail> {
         seen.push_str(&told)?;
         seen.push('\n')?;
         if count % 50 == 0 {
-            let told = counts_text(alloc, &world)?;
-            let wanted = counts_text(alloc, &model)?;
-            assert_eq!(rt; told.as_str(), wanted.as_str(), "at event {count}");
+            assert_eq!(rt; world.stat(), model.stat(), "at event {count}");
         }
     }
     has_all(&rt, &seen);

@@ -1,10 +1,8 @@
-//! What a world is asked outside of events, and many events at once.
-use crate::generated::{SHAPES, event, sources};
+//! What a world is asked outside of events.
 use crate::making::{SHAPE, Source, bytes_of, loaded, world_of};
 use crate::programs::{EXIT_ONE, LOAD};
-use crate::random::Random;
-use crate::replay::{answers_alike, answers_as, counts_alike};
-use bpf_model::{CtxBytes, Event, KeyBytes, MapId, RunId};
+use crate::replay::answers_as;
+use bpf_model::{CtxBytes, KeyBytes, MapId, RunId};
 use std::alloc::Global;
 use std::process::Abort;
 use std::test::Fail;
@@ -139,33 +137,5 @@ fn elements_in_order(rt: HostRuntime) -> Result<(), Fail> {
     }
     assert!(rt; world.registry().id("m1").is_some_and(|id| id.index() == 1));
     assert_eq!(rt; world.registry().len(), 2);
-    Ok(())
-}
-
-/// So many generated events.
-fn some_events(alloc: Global, count: usize) -> Result<Vec<Event>, Fail> {
-    let mut events = Vec::new(alloc);
-    let mut random = Random::new(0x2545_f491_4f6c_dd1d);
-    for _ in 0..count {
-        events.push(event(&mut random, 0))?;
-    }
-    Ok(events)
-}
-
-/// `run_all` answers as `apply` does event by event, and leaves an equal world.
-#[test]
-fn many_events_at_once(rt: HostRuntime) -> Result<(), Fail> {
-    let alloc = rt.alloc();
-    let mut world = world_of(alloc, &SHAPES, &sources())?;
-    let mut other = world_of(alloc, &SHAPES, &sources())?;
-    let events = some_events(alloc, 1500)?;
-    let answers = world.run_all(alloc, &events)?;
-    assert_eq!(rt; answers.len(), 1500);
-    for (event, answer) in events.iter().zip(answers.iter()) {
-        answers_alike(&rt, alloc, answer, &other.apply(event))?;
-    }
-    counts_alike(&rt, alloc, &world, &other)?;
-    let none = world.run_all(alloc, &[])?;
-    assert_eq!(rt; none.len(), 0);
     Ok(())
 }

@@ -1,7 +1,7 @@
 //! Worlds that are not made, and the fault that is told.
 use crate::making::{SHAPE, assembled, judged, numbers_of, registry_of};
 use crate::programs::{EXIT_ONE, LOOKUP};
-use bpf_model::MapShape;
+use bpf_model::{MAX_PROGRAMS, MapShape};
 use std::alloc::Global;
 use std::test::Fail;
 use world::{World, WorldFault};
@@ -63,7 +63,8 @@ struct Row {
     told: Option<(u8, Option<usize>)>,
 }
 
-/// A world has 64 programs at most, which is tested first; then the first program that is not bound is told.
+/// A world has `MAX_PROGRAMS` programs at most, which is tested first; then the first program that is not bound is
+/// told.
 static ROWS: [Row; 12] = [
     Row {
         plain: 0,
@@ -76,24 +77,24 @@ static ROWS: [Row; 12] = [
         told: None,
     },
     Row {
-        plain: 64,
+        plain: MAX_PROGRAMS,
         programs: &[],
         told: None,
     },
     Row {
-        plain: 65,
+        plain: MAX_PROGRAMS + 1,
         programs: &[],
         told: Some((54, None)),
     },
     Row {
-        plain: 64,
+        plain: MAX_PROGRAMS,
         programs: &[Bound::Missing],
         told: Some((54, None)),
     },
     Row {
-        plain: 63,
+        plain: MAX_PROGRAMS - 1,
         programs: &[Bound::Missing],
-        told: Some((55, Some(63))),
+        told: Some((55, Some(MAX_PROGRAMS - 1))),
     },
     Row {
         plain: 0,

@@ -92,39 +92,6 @@ pub fn answers_as<M: Answering, R: Abort>(
     Ok(())
 }
 
-/// The text of an answer.
-fn answer_text(alloc: Global, answer: &Answer) -> Result<String, AllocError> {
-    let mut text = String::new(alloc);
-    tell_answer(alloc, &mut text, answer)?;
-    Ok(text)
-}
-
-/// Two answers have one text.
-pub fn answers_alike<R: Abort>(
-    rt: &R,
-    alloc: Global,
-    told: &Answer,
-    wanted: &Answer,
-) -> Result<(), Fail> {
-    let told = answer_text(alloc, told)?;
-    let wanted = answer_text(alloc, wanted)?;
-    assert_eq!(rt; told.as_str(), wanted.as_str());
-    Ok(())
-}
-
-/// Two worlds have the same counts.
-pub fn counts_alike<R: Abort>(
-    rt: &R,
-    alloc: Global,
-    told: &World,
-    wanted: &World,
-) -> Result<(), Fail> {
-    let told = counts_text(alloc, told)?;
-    let wanted = counts_text(alloc, wanted)?;
-    assert_eq!(rt; told.as_str(), wanted.as_str());
-    Ok(())
-}
-
 /// The world's answer, and its text and the plain model's.
 pub fn apply_both(
     alloc: Global,
@@ -139,11 +106,4 @@ pub fn apply_both(
     let mut other = String::new(alloc);
     tell(alloc, &mut other, &wanted)?;
     Ok((told, text, other))
-}
-
-/// The counts as text.
-pub fn counts_text<M: Answering>(alloc: Global, machine: &M) -> Result<String, AllocError> {
-    let mut text = String::new(alloc);
-    tell_counts(&mut text, machine.counts())?;
-    Ok(text)
 }

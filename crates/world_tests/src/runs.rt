@@ -1,5 +1,5 @@
 //! The plain interpreter by itself.
-use bpf_model::{AluOp, Cell, Insn, Operand, Reference, Reg, Size, Value, Width};
+use bpf_model::{AluOp, Cell, FRAME_BYTES, Insn, Operand, Reference, Reg, Size, Value, Width};
 use plain_interpreter::{Ending, PlainRun, Progress};
 
 /// A program of four steps: the sum of two numbers is stored in the last byte of the frame, and is the exit value.
@@ -37,5 +37,5 @@ fn a_run_by_itself(rt: HostRuntime) {
     assert!(rt; matches!(run.step(&SUM_STORED, &[], 0), Progress::Moved));
     assert_eq!(rt; run.place(), 1);
     assert!(rt; matches!(run.run(&SUM_STORED, &[], 0, 3), Ending::Exited(42)));
-    assert!(rt; matches!(run.cell(511), Cell::Byte(42)));
+    assert!(rt; matches!(run.cell(FRAME_BYTES - 1), Cell::Byte(42)));
 }

@@ -22,11 +22,11 @@ pub enum Command {
 /// Why the words are no command.
 #[derive(Clone, Copy, Debug, PartialEq, Eq, Error)]
 pub enum UsageFault {
-    #[error("usage: world_bench [[shared | pool | script] time]")]
+    #[error("usage: bench world [[shared | pool | script] time]")]
     Words,
 }
 
-/// The command that the words after the program's own ask for: none, `time`, or `time` after
+/// The command that the words after `bench world` ask for: none, `time`, or `time` after
 /// `shared`, `pool` or `script`.
 pub fn parse_words(words: &[String]) -> Result<Command, UsageFault>
     ensures answers { (words.now ≡ []) ↔ (result ≡ Ok Answers) }

@@ -1,4 +1,4 @@
-//! What a world answers to lists of events, and how long its answers take: the lines of `world_bench`.
+//! What a world answers to lists of events, and how long its answers take: the lines of `bench world`.
 #![tactic(auto)]
 
 mod activity;

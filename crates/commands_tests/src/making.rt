@@ -57,6 +57,14 @@ impl Dialogue {
         Ok(())
     }
 
+    /// Adds the lines of answers that a semicolon and a space part.
+    fn expect_all(&mut self, answers: &str) -> Result<(), AllocError> {
+        for answer in answers.split("; ") {
+            self.expect(answer)?;
+        }
+        Ok(())
+    }
+
     /// Adds lines: each a command and its answers, as `COMMAND = ANSWER; ANSWER`, or a line without answers.
     pub fn add(&mut self, lines: &str) -> Result<(), AllocError> {
         for line in lines.lines() {
@@ -64,9 +72,7 @@ impl Dialogue {
                 None => self.ask(line)?,
                 Some((command, answers)) => {
                     self.ask(command)?;
-                    for answer in answers.split("; ") {
-                        self.expect(answer)?;
-                    }
+                    self.expect_all(answers)?;
                 }
             }
         }

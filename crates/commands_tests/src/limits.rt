@@ -1,6 +1,5 @@
-//! As many maps, programs, runs and elements as there may be, and one more; lines as long as they may be.
+//! As many maps, programs, runs and elements as there may be, and one more; programs and bytes too long.
 use crate::making::Dialogue;
-use control::{ScriptFault, run_script};
 use std::alloc::{AllocError, Global};
 use std::fmt::Write;
 use std::test::Fail;
@@ -70,26 +69,6 @@ fn one_more_is_refused(rt: HostRuntime) -> Result<(), Fail> {
     let (out, end) = dialogue.run(alloc);
     assert!(rt; end.is_ok());
     assert_eq!(rt; out.as_slice(), dialogue.answers.as_slice());
-    Ok(())
-}
-
-#[test]
-fn lines_about_as_long_as_may_be(rt: HostRuntime) -> Result<(), Fail> {
-    for (length, is_bad) in [(70_000, false), (70_001, true)] {
-        let mut script: Vec<u8> = Vec::from_slice(rt.alloc(), b"advance\n")?;
-        for _ in 0..length {
-            script.push(b'#')?;
-        }
-        script.extend_from_slice(b"\nreap")?;
-        let mut input = script.as_slice();
-        let mut out = Vec::new(rt.alloc());
-        let end = run_script(rt.alloc(), &mut input, &mut out);
-        assert_eq!(rt;
-            matches!(end, Err(ScriptFault::BadCommand { line: 2 })),
-            is_bad
-        );
-        assert_eq!(rt; out.as_slice() == b"ok\n".as_slice(), is_bad);
-    }
     Ok(())
 }
 

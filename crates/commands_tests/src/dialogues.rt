@@ -236,21 +236,6 @@ fn commands_are_answered(rt: HostRuntime) -> Result<(), Fail> {
     Ok(())
 }
 
-/// Names are any bytes: a map may have none that is no text. Where a number belongs they end the script.
-#[test]
-fn words_that_are_no_text(rt: HostRuntime) -> Result<(), Fail> {
-    let mut input =
-        b"map \xff 4 8 1 0 2\nmap m\0 4 8 1 0 2\nget \xff 00\n#\xff\ndump m\r\nstep \xb2\n".as_slice();
-    let mut out = Vec::new(rt.alloc());
-    let end = run_script(rt.alloc(), &mut input, &mut out);
-    assert!(rt; matches!(end, Err(ScriptFault::BadCommand { line: 6 })));
-    assert_eq!(rt;
-        out.as_slice(),
-        b"refused 50\nrefused 50\nrefused 65\nrefused 65\n".as_slice()
-    );
-    Ok(())
-}
-
 #[test]
 fn bad_lines_end_scripts(rt: HostRuntime) -> Result<(), Fail> {
     for (script, answers, number) in &BAD {

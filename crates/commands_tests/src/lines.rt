@@ -4,8 +4,15 @@ use script_lines::{LINE_BYTES, parse_line};
 use std::alloc::{AllocError, Global};
 use std::test::Fail;
 
-/// Each command in its forms, the limits of numbers, and bytes in either case: a line, ` = `, and what it says.
-const COMMANDS: &str = "map m 4 8 1 0 2 = map m 4 8 1 0 2\n\
+/// Lines that say nothing, each command in its forms, the limits of numbers, and bytes in either case: a line,
+/// ` = `, and what it says.
+const COMMANDS: &str = " = nothing\n\
+# = nothing\n\
+## = nothing\n\
+#  = nothing\n\
+#fly = nothing\n\
+# a comment \t\r  = nothing\n\
+map m 4 8 1 0 2 = map m 4 8 1 0 2\n\
 map 4 0 0 0 0 18446744073709551615 = map 4 0 0 0 0 18446744073709551615\n\
 map array 4 8 1 0 2 = map array 4 8 1 0 2\n\
 map # 4 8 1 0 2 = map # 4 8 1 0 2\n\
@@ -42,14 +49,6 @@ dump m = dump m\n\
 dump  m = dump m\n\
 step   12    34 = step 12 34\n\
 put  m   00    01     2 = put m :00 :01 2";
-
-/// Lines that say nothing.
-const SILENT: &str = "\n\
-#\n\
-##\n\
-# \n\
-#fly\n\
-# a comment \t\r ";
 
 /// Unknown commands, wrong numbers of words, words that are no numbers or no bytes, counts out of range, and
 /// spaces where none belong.
@@ -134,15 +133,6 @@ fn commands(rt: HostRuntime) -> Result<(), Fail> {
         };
         let said = shown(rt.alloc(), line.as_bytes())?;
         assert_eq!(rt; said.as_str(), expected);
-    }
-    Ok(())
-}
-
-#[test]
-fn silent_lines(rt: HostRuntime) -> Result<(), Fail> {
-    for line in SILENT.split('\n') {
-        let said = shown(rt.alloc(), line.as_bytes())?;
-        assert_eq!(rt; said.as_str(), "nothing");
     }
     Ok(())
 }

@@ -1,5 +1,5 @@
 //! Answers, and their texts.
-use bpf_model::{Errno, Given, KeyBytes, MapId, ProgId, RunId, Stat, ValueBytes};
+use bpf_model::{Errno, Given, KeyBytes, MapId, ProgId, RunId, Stat, VALUE_BYTES, ValueBytes};
 use script_lines::{Name, Reply, write_reply};
 use std::alloc::AllocError;
 use std::test::Fail;
@@ -114,14 +114,8 @@ fn answers(rt: HostRuntime) -> Result<(), Fail> {
     out.clear();
     write_refusals(&mut out)?;
     assert!(rt; out.as_slice() == REFUSALS);
-    Ok(())
-}
-
-/// A value of 256 bytes, the longest.
-#[test]
-fn longest_value(rt: HostRuntime) -> Result<(), Fail> {
-    let mut out = Vec::new(rt.alloc());
-    write_reply(&Reply::Value(value_of(&[0x5a; 256])), &mut out)?;
-    assert_eq!(rt; out.len(), 6 + 512 + 1);
+    out.clear();
+    write_reply(&Reply::Value(value_of(&[0x5a; VALUE_BYTES])), &mut out)?;
+    assert_eq!(rt; out.len(), 6 + 2 * VALUE_BYTES + 1);
     Ok(())
 }
