@@ -94,7 +94,7 @@ IsLookupPart program shapes place =
     × (place ≤ start + part_slot ValueLoad)
 
 -- what stands at a slot: a part of a guarded lookup, a lock, an unlock, or an instruction without
--- call and map
+-- call and map that accesses no memory but the frame
 abbrev pub HasForm : List Insn → List MapShape → ℕ → Insn → Type 0
 HasForm program shapes place i =
     IsLookupPart program shapes place ⊎ ((i ≡ lock_call) ⊎ ((i ≡ unlock_call) ⊎ IsSimple i))

@@ -46,7 +46,7 @@ pub enum SignExtension {
 pub enum UnaryOp {
     /// NEG: zero less the register.
     Negate(Size),
-    /// END: the low bytes of the register in another order.
+    /// END: the low bytes of the register, as they are or in another order.
     ByteSwap { order: ByteOrder, width: SwapWidth },
     /// MOVSX: the low bits of `src` as a signed number.
     MoveSigned { extension: SignExtension, src: Reg },

@@ -46,7 +46,7 @@ use Rattle.disasm.specs.declared.statement.Arguments.{Arguments}
 use Rattle.disasm.specs.declared.statement.Arguments.TheVariants.{Zero, One, Two, Three}
 use Rattle.disasm.specs.declared.statement.Statement.{Statement}
 
--- Mnemonics: a stem, and a suffix that says how many bits or bytes.
+-- Mnemonics: a stem, and a suffix that says how many bits or bytes, or which call.
 
 abbrev pub alu_stem : AluOp → List ℕ
 alu_stem Add = codes "add"

@@ -17,9 +17,9 @@ use Rattle.lone_runs.specs.declared.step.Step.TheVariants.{Moved, Exit}
 abbrev pub loaded_alone : Checked → Loaded
 loaded_alone v = record { code = v.program; maps = []; context_len = v.ctx_len }
 
--- The words are those of a run of the program: in some world that the machine tracks they are the
--- run in run slot 0. It refers to its own context and frame alone, and where it exits from here, it
--- has exited so from its start.
+-- The words are those of a run of the program: some world that tracks a state of the machine shows
+-- them of the run in run slot 0. It refers to its own context and frame alone, and where it exits
+-- from here, it has exited so from its start.
 pub record StandsAlone (v : Checked) (view : RunView) : Type 0 where
   pub world : WorldView
   pub schedule : Schedule

@@ -12,7 +12,8 @@ use Rattle.bpf_model.specs.Schedule.{Queues, Schedule, open_flags}
 use Rattle.bpf_model.specs.Consistent.{IsConsistent}
 use Rattle.bpf_model.specs.Refines.{times}
 
--- how often birth n stands in the lists of map k: once, when it is an unlinked element of that map
+-- how often a birth with this element stands in the lists of map k: once, when the element is
+-- unlinked and of that map
 abbrev pub queued_in : ℕ → Option Element → ℕ
 queued_in k None = 0
 queued_in k (Some e) = if is_unlinked e.life && (e.map == k) then 1 else 0

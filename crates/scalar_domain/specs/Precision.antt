@@ -12,7 +12,8 @@ pub record Adds (a b result : Scalar) : Type 0 where
   pub low : (t : ℕ) → t ≤ 64 → AreKnownBelow t a.may a.must → AreKnownBelow t b.may b.must
       → AreKnownBelow t result.may result.must
 
--- A difference: where it does not wrap, the differences of the bounds; low bits as for a sum.
+-- A difference: where it does not wrap, the differences of the bounds; low bits that are known in
+-- both are known.
 pub record Subtracts (a b result : Scalar) : Type 0 where
   pub least : b.greatest ≤ a.least → a.least ≤ result.least + b.greatest
   pub greatest : b.greatest ≤ a.least → result.greatest + b.least ≤ a.greatest

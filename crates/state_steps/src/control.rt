@@ -3,7 +3,7 @@ ghost use Rattle.std.specs.Prelude.{◌≡◌, ℕ, ℤ, List, Ok, Some, true, f
 ghost use Rattle.std.specs.Prelude.{IsOkUnless};
 ghost use Rattle.bpf_model.specs.declared.limits.MapShape.{MapShape};
 ghost use Rattle.typed_runs.specs.Effects.{IsNumberOperand, HasNumber};
-ghost use Rattle.register_kinds.specs.declared.state.AbsState.{AbsState as Known};
+ghost use Rattle.register_kinds.specs.declared.state.AbsState.{AbsState as StateHere};
 ghost use Rattle.register_kinds.specs.Pairs.{AreBelow, TakesFew};
 ghost use Rattle.register_kinds.specs.States.{state_of};
 ghost use Rattle.call_effects.specs.Calls.{Splits};
@@ -23,8 +23,8 @@ use std::alloc::Global;
 
 /// A jump, which leaves all that is known as it is.
 pub(crate) fn jump_step() -> Flow
-    ensures { (offset : ℤ) (shapes : List MapShape) (ctx_len top : ℕ) (a : Known) → AreBelow top a
-        → Stepped (Insn.Jump offset) shapes ctx_len top a a (Ok result) }
+    ensures { (offset : ℤ) (shapes : List MapShape) (ctx_len top : ℕ) (a : StateHere)
+        → AreBelow top a → Stepped (Insn.Jump offset) shapes ctx_len top a a (Ok result) }
 {
     jump_transfers();
     single(Region::None)
@@ -32,8 +32,8 @@ pub(crate) fn jump_step() -> Flow
 
 /// A jump of class JMP32.
 pub(crate) fn jump_long_step() -> Flow
-    ensures { (imm : ℤ) (shapes : List MapShape) (ctx_len top : ℕ) (a : Known) → AreBelow top a
-        → Stepped (Insn.JumpLong imm) shapes ctx_len top a a (Ok result) }
+    ensures { (imm : ℤ) (shapes : List MapShape) (ctx_len top : ℕ) (a : StateHere)
+        → AreBelow top a → Stepped (Insn.JumpLong imm) shapes ctx_len top a a (Ok result) }
 {
     jump_long_transfers();
     single(Region::None)
