@@ -9,6 +9,7 @@ mod measure;
 mod report;
 mod samples;
 mod trial;
+mod worlds;
 
 use anyhow::{Result, bail};
 use command::{Command, parse_words};
@@ -22,7 +23,8 @@ use std::sync::Wait;
 use std::thread::Threads;
 use std::{env, fs};
 use trial::{counted_run, trial_of};
-use world_timing::{Command as WorldCommand, lines_of};
+use worlds::command::{Command as WorldCommand, parse_words as parse_world_words};
+use worlds::outputs::lines_of;
 
 /// Runs each program that is built in, and prints what it came to.
 fn print_samples(rt: &HostRuntime) -> Result<()> {
@@ -75,7 +77,7 @@ fn perform_world<H: Threads + Wait + Clock + Sync>(
     handle: &H,
     words: &[String],
 ) -> Result<ExitCode> {
-    match world_timing::parse_words(words) {
+    match parse_world_words(words) {
         Ok(command) => print_world(rt, handle, command)?,
         Err(fault) => {
             eprintln!(rt; "{fault}")?;

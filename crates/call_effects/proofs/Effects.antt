@@ -31,7 +31,7 @@ use Rattle.register_kinds.specs.declared.learn.Lesson.TheVariants.{IsNull, IsThe
 use Rattle.register_kinds.specs.States.{kind_of, cell_of, kind_at, kind_in, class_in, state_of}
 use Rattle.register_kinds.specs.Pairs.{IsBelow, AreBelow}
 use Rattle.register_kinds.specs.Changes.{learnt}
-use Rattle.kind_tests.specs.Forks.{ForksOnNull}
+use Rattle.register_kinds.specs.Forks.{ForksOnNull}
 use Rattle.call_effects.specs.Calls.{PerformsCall, KeepsOwnNumbers}
 
 -- a jump where the register is equal to 0, or where it is not

@@ -12,9 +12,9 @@ use Rattle.bpf_model.specs.Call.{helper_of, kernel_function_of}
 use Rattle.bpf_model.specs.Request.{ArgumentKind, MapOfProgram, KeyOfMap, ValueOfMap, AnyNumber}
 use Rattle.bpf_model.specs.Request.{ResultKind, ElementOrNull, ErrorNumber, signature_of}
 use Rattle.scalar_domain.specs.declared.scalar.Scalar.{Scalar}
-use Rattle.kind_tests.specs.declared.fault.InsnFault.{InsnFault}
-use Rattle.kind_tests.specs.declared.fault.InsnFault.TheVariants.{UnknownCall, OutsideSection}
-use Rattle.kind_tests.specs.declared.fault.InsnFault.TheVariants.{UnpairedSection}
+use Rattle.register_kinds.specs.declared.fault.InsnFault.{InsnFault}
+use Rattle.register_kinds.specs.declared.fault.InsnFault.TheVariants.{UnknownCall, OutsideSection}
+use Rattle.register_kinds.specs.declared.fault.InsnFault.TheVariants.{UnpairedSection}
 use Rattle.bpf_model.specs.declared.insn.Insn.TheVariants.{Call}
 use Rattle.typed_runs.specs.Kinds.{Kind, Num, MapAt, MaybeNull, AbsState as Known}
 use Rattle.typed_runs.specs.Effects.{HasBytes, HasNumber, after_call, after_lock, after_unlock}
@@ -23,7 +23,7 @@ use Rattle.register_kinds.specs.declared.learn.Lesson.TheVariants.{IsNull, IsThe
 use Rattle.register_kinds.specs.Changes.{learnt}
 use Rattle.register_kinds.specs.declared.state.AbsState.{AbsState}
 use Rattle.register_kinds.specs.States.{state_of}
-use Rattle.kind_tests.specs.Performs.{Performs}
+use Rattle.register_kinds.specs.Performs.{Performs}
 
 -- From each run that the old state describes the call has a step, and each leads to one that the
 -- new state describes.

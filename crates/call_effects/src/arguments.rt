@@ -6,8 +6,7 @@ ghost use Rattle.bpf_model.specs.declared.limits.MapShape.{MapShape};
 ghost use Rattle.register_kinds.specs.States.{kind_in, state_of};
 
 use bpf_model::{FRAME_BYTES, MapShape, Reg};
-use kind_tests::{InsnFault, check_bytes, frame_argument, map_argument};
-use register_kinds::{AbsState, RegKind};
+use register_kinds::{AbsState, InsnFault, RegKind, check_bytes, frame_argument, map_argument};
 
 /// Where so many bytes of the frame begin, if all of them lie inside.
 fn frame_start(offset: i32, len: usize) -> Result<usize, InsnFault>

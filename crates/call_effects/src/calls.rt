@@ -12,8 +12,7 @@ ghost use Rattle.call_effects.specs.Calls.{PerformsCall, FindsIn, GoesBySignatur
 
 use crate::arguments::{called_map, check_bytes_argument};
 use bpf_model::{CallKind, Helper, KernelFunction, MapShape, Reg};
-use kind_tests::{InsnFault, number_argument};
-use register_kinds::{AbsState, Identities, RegKind};
+use register_kinds::{AbsState, Identities, InsnFault, RegKind, number_argument};
 use scalar_domain::Scalar;
 
 /// A lock. Error: `UnpairedSection` inside a section.

@@ -2,7 +2,7 @@
 ghost use Rattle.std.specs.Prelude.{◌≡◌, ℕ, IfOk, OnErr, true, false};
 ghost use Rattle.register_kinds.specs.States.{kind_in};
 ghost use Rattle.register_kinds.specs.Pairs.{AreBelow};
-ghost use Rattle.kind_tests.specs.Forks.{ForksOnNull};
+ghost use Rattle.register_kinds.specs.Forks.{ForksOnNull};
 ghost use Rattle.call_effects.specs.Calls.{Splits};
 
 use register_kinds::{AbsState, Lesson, RegKind};

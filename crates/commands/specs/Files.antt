@@ -1,5 +1,5 @@
--- What is kept of a file's bytes, and which bytes of a reader it is of.
-use Rattle.std.specs.Prelude.{◌≡◌, ℕ, ◌*◌, ◌<◌, ◌%◌, List, ◌++◌, length, Option, Some, None, ⊤}
+-- What is kept of a file's bytes.
+use Rattle.std.specs.Prelude.{◌≡◌, ℕ, ◌*◌, ◌<◌, ◌%◌, List, length}
 use Rattle.bpf_model.specs.declared.limits.TheConstants.{MAX_SLOTS}
 use Rattle.loader.specs.ProgramFile.{IsRawFile}
 use Rattle.commands.specs.declared.program_file.FileBytes.{FileBytes}
@@ -11,10 +11,3 @@ abbrev pub HoldsBytes : FileBytes → List ℕ → Type 0
 HoldsBytes (Whole kept) bytes = kept.items ≡ bytes
 HoldsBytes (TooLong remainder) bytes =
     (8 * MAX_SLOTS < length bytes) × (remainder ≡ length bytes % 8) × IsRawFile bytes
-
--- The file's bytes are what a reader has given, where its bytes are known.
-abbrev pub HasRead : Option (List ℕ) → Option (List ℕ) → FileBytes → Type 0
-HasRead None left file = ⊤
-HasRead (Some all) None file = ⊥
-HasRead (Some all) (Some left) file =
-    (given : List ℕ) × (all ≡ given ++ left) × HoldsBytes file given

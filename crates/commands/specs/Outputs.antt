@@ -17,7 +17,7 @@ use Rattle.verifier.specs.declared.refusal.ProgramRefusal.{ProgramRefusal}
 use Rattle.verifier.specs.Verdict.{IsToldOf}
 use Rattle.commands.specs.declared.report.Verdict.{Verdict}
 use Rattle.commands.specs.declared.program_file.Source.{Source}
-use Rattle.commands.specs.declared.run.Accepted.{Accepted}
+use Rattle.commands.specs.declared.running.Accepted.{Accepted}
 use Rattle.commands.specs.Verdicts.{IsDecodeVerdict, IsRefusalVerdict, IsLoadVerdict}
 use Rattle.commands.specs.declared.report.TheConstants.{MEMORY}
 

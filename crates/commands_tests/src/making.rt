@@ -14,7 +14,7 @@ const EXIT_ONE: &str = "b7000000010000009500000000000000";
 /// A script, and the text that it is to be answered.
 #[derive(Drop)]
 pub struct Dialogue {
-    pub script: Vec<u8>,
+    script: Vec<u8>,
     pub answers: Vec<u8>,
 }
 

@@ -1,27 +1,10 @@
 //! Readers and writers that are slow or fail, and lines without an end.
 
+use crate::streams::{Endless, Halting};
 use control::{ScriptFault, run_script};
 use std::io;
 use std::io::{ErrorKind, Read, Write};
 use std::test::Fail;
-
-/// A reader that is interrupted before each read, and then gives one byte.
-#[derive(Drop)]
-struct Slow<'a> {
-    rest: &'a [u8],
-    is_interrupted: bool,
-}
-
-impl Read for Slow<'_> {
-    fn read(&mut self, buf: &mut [u8]) -> io::Result<usize> {
-        self.is_interrupted = !self.is_interrupted;
-        if self.is_interrupted {
-            return Err(io::Error::from(ErrorKind::Interrupted));
-        }
-        let most = buf.len().min(1);
-        self.rest.read(&mut buf[..most])
-    }
-}
 
 /// A reader that fails once its bytes are read.
 #[derive(Drop)]
@@ -35,24 +18,6 @@ impl Read for Failing<'_> {
             return Err(io::Error::from(ErrorKind::BrokenPipe));
         }
         self.rest.read(buf)
-    }
-}
-
-/// A reader of two lines, the last of which never ends.
-#[derive(Drop)]
-struct Endless {
-    is_begun: bool,
-}
-
-impl Read for Endless {
-    fn read(&mut self, buf: &mut [u8]) -> io::Result<usize> {
-        if self.is_begun {
-            buf.fill(b'#');
-            return Ok(buf.len());
-        }
-        self.is_begun = true;
-        let mut first: &[u8] = b"advance\n";
-        first.read(buf)
     }
 }
 
@@ -94,7 +59,7 @@ impl Write for Counted {
 
 #[test]
 fn readers_that_are_slow_or_fail(rt: HostRuntime) -> Result<(), Fail> {
-    let mut slow = Slow {
+    let mut slow = Halting {
         rest: b"# slow\nadvance\n\nreap",
         is_interrupted: false,
     };
@@ -114,7 +79,11 @@ fn readers_that_are_slow_or_fail(rt: HostRuntime) -> Result<(), Fail> {
 
 #[test]
 fn a_line_that_never_ends(rt: HostRuntime) -> Result<(), Fail> {
-    let mut endless = Endless { is_begun: false };
+    let mut endless = Endless {
+        text: b"advance\n",
+        again: b'#',
+        is_begun: false,
+    };
     let mut out = Vec::new(rt.alloc());
     let end = run_script(rt.alloc(), &mut endless, &mut out);
     assert!(rt; matches!(end, Err(ScriptFault::BadCommand { line: 2 })));

@@ -26,11 +26,11 @@ impl Write for Broken {
     }
 }
 
-/// A stream that is interrupted before each read, and then gives at most 5 bytes.
+/// A stream that is interrupted before each read, and then gives one byte.
 #[derive(Drop)]
-struct Halting<'a> {
-    rest: &'a [u8],
-    is_interrupted: bool,
+pub struct Halting<'a> {
+    pub rest: &'a [u8],
+    pub is_interrupted: bool,
 }
 
 impl Read for Halting<'_> {
@@ -39,26 +39,27 @@ impl Read for Halting<'_> {
         if self.is_interrupted {
             return Err(io::Error::from(io::ErrorKind::Interrupted));
         }
-        let most = buf.len().min(5);
+        let most = buf.len().min(1);
         self.rest.read(&mut buf[..most])
     }
 }
 
-/// A text whose fourth line never ends.
+/// A text, and then one byte again and again without an end.
 #[derive(Drop)]
-struct Endless {
-    is_begun: bool,
+pub struct Endless<'a> {
+    pub text: &'a [u8],
+    pub again: u8,
+    pub is_begun: bool,
 }
 
-impl Read for Endless {
+impl Read for Endless<'_> {
     fn read(&mut self, buf: &mut [u8]) -> io::Result<usize> {
         if self.is_begun {
-            buf.fill(b'0');
+            buf.fill(self.again);
             return Ok(buf.len());
         }
         self.is_begun = true;
-        let mut heading: &[u8] = b"bpfrt 1\nctx 0\ncode\n";
-        heading.read(buf)
+        self.text.read(buf)
     }
 }
 
@@ -70,7 +71,11 @@ fn streams(rt: HostRuntime) -> Result<(), Fail> {
     runs(&rt, alloc, &check, &mut Broken, &unread)?;
     runs(&rt, alloc, &Command::Script, &mut Broken, &unread)?;
     runs(&rt, alloc, &pool_of(alloc, 1, 1)?, &mut Broken, &unread)?;
-    let mut endless = Endless { is_begun: false };
+    let mut endless = Endless {
+        text: b"bpfrt 1\nctx 0\ncode\n",
+        again: b'0',
+        is_begun: false,
+    };
     runs(&rt, alloc, &check, &mut endless, &fault(b"fault 13\n"))?;
     let mut halting = Halting {
         rest: &WIDE,

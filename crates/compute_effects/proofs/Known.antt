@@ -12,7 +12,7 @@ use Rattle.typed_runs.specs.Kinds.{Num}
 use Rattle.register_kinds.specs.declared.kind.RegKind.{RegKind}
 use Rattle.register_kinds.specs.declared.kind.RegKind.TheVariants as kinds
 use Rattle.register_kinds.specs.States.{kind_of}
-use Rattle.kind_tests.specs.Performs.{IsNumbers}
+use Rattle.register_kinds.specs.Performs.{IsNumbers}
 use Rattle.compute_effects.specs.Floor.{CombinesKnown}
 
 pub same_num : (a b : Scalar) → Num a ≡ Num b → a ≡ b

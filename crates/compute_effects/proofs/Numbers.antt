@@ -11,8 +11,8 @@ use Rattle.typed_runs.specs.Kinds.{Num}
 use Rattle.register_kinds.specs.declared.kind.RegKind.{RegKind}
 use Rattle.register_kinds.specs.declared.kind.RegKind.TheVariants as kinds
 use Rattle.register_kinds.specs.States.{kind_of}
-use Rattle.kind_tests.specs.declared.fault.InsnFault.{InsnFault}
-use Rattle.kind_tests.specs.Tests.{held_kind}
+use Rattle.register_kinds.specs.declared.fault.InsnFault.{InsnFault}
+use Rattle.register_kinds.specs.Tests.{held_kind}
 
 pub held_number : (k : RegKind) (s : Scalar) → kind_of k ≡ Num s → held_kind k ≡ Ok (kinds.Num s)
 held_number k s e = ap held_kind (kind_is k (Num s) e)

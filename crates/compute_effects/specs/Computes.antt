@@ -20,8 +20,8 @@ use Rattle.scalar_domain.specs.Scalar.{Holds, IsConstant}
 use Rattle.typed_runs.specs.Kinds.{Kind, AbsState as Known}
 use Rattle.typed_runs.specs.Effects.{with_kind, IsWritten, HasNumber}
 use Rattle.typed_runs.specs.Planned.{AreAlike}
-use Rattle.kind_tests.specs.declared.fault.InsnFault.{InsnFault}
-use Rattle.kind_tests.specs.Performs.{Performs}
+use Rattle.register_kinds.specs.declared.fault.InsnFault.{InsnFault}
+use Rattle.register_kinds.specs.Performs.{Performs}
 use Rattle.register_kinds.specs.declared.kind.RegKind.{RegKind}
 use Rattle.register_kinds.specs.declared.kind.RegKind.TheVariants as kinds
 use Rattle.typed_runs.specs.Describes.{Scene, Naming, HasOffset, IsOf, Describes}

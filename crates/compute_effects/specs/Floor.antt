@@ -11,7 +11,7 @@ use Rattle.scalar_domain.specs.declared.scalar.Scalar.{Scalar}
 use Rattle.scalar_domain.specs.Constant.{constant_of}
 use Rattle.scalar_domain.specs.Floor.{KeepsFloor}
 use Rattle.typed_runs.specs.Kinds.{Kind, Num, AbsState as Known}
-use Rattle.kind_tests.specs.Performs.{IsNumbers}
+use Rattle.register_kinds.specs.Performs.{IsNumbers}
 
 -- the kind of a second operand
 abbrev pub operand_kind : Operand → Known → Kind

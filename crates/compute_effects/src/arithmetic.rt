@@ -4,7 +4,7 @@ ghost use Rattle.bpf_model.specs.declared.limits.TheConstants.{FRAME_BYTES};
 ghost use Rattle.typed_runs.specs.Kinds as model;
 ghost use Rattle.bpf_model.specs.declared.limits.MapShape.{MapShape};
 ghost use Rattle.bpf_model.specs.Operand.{unary_source};
-ghost use Rattle.kind_tests.specs.Performs.{IsNumbers, SetsNumber, Performs};
+ghost use Rattle.register_kinds.specs.Performs.{IsNumbers, SetsNumber, Performs};
 ghost use Rattle.typed_runs.specs.Effects.{IsNumberOperand, IsWritten, HasNumber};
 ghost use Rattle.register_kinds.specs.States.{kind_in, kind_of, kind_at, state_of};
 ghost use Rattle.register_kinds.specs.Pairs.{IsBelow, AreBelow};
@@ -16,8 +16,7 @@ ghost use Rattle.scalar_domain.specs.declared.scalar.Scalar.{Scalar as Numbers};
 
 use crate::kinds::{combined, copied, numbers, operand};
 use bpf_model::{AluOp, Insn, Operand, Reg, Size, UnaryOp};
-use kind_tests::{InsnFault, check_writable, held};
-use register_kinds::{AbsState, RegKind};
+use register_kinds::{AbsState, InsnFault, RegKind, check_writable, held};
 use scalar_domain::Scalar;
 
 /// What an operation of two operands leaves.

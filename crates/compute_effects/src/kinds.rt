@@ -9,14 +9,13 @@ ghost use Rattle.typed_runs.specs.Effects.{IsWritten, IsNumberOperand};
 ghost use Rattle.register_kinds.specs.States.{kind_of, state_of};
 ghost use Rattle.register_kinds.specs.Pairs.{IsBelow, AreBelow};
 ghost use Rattle.compute_effects.specs.Computes.{Combines, HasValue, IsMove, IsNearStep, shifted_word, GivesNumber, HasOperand};
-ghost use Rattle.kind_tests.specs.Performs.{IsNumbers};
+ghost use Rattle.register_kinds.specs.Performs.{IsNumbers};
 ghost use Rattle.compute_effects.specs.Floor.{operand_kind, CombinesKnown};
 ghost use Rattle.scalar_domain.specs.Floor.{KeepsFloor};
 
 use crate::moving::{Way, moved, moved_in_frame};
 use bpf_model::{AluOp, Operand, Size};
-use kind_tests::{InsnFault, held};
-use register_kinds::{AbsState, RegKind};
+use register_kinds::{AbsState, InsnFault, RegKind, held};
 use scalar_domain::Scalar;
 
 /// Which way an operation moves a reference.

@@ -7,8 +7,7 @@ ghost use Rattle.typed_runs.specs.Describes.{HasOffset};
 ghost use Rattle.compute_effects.specs.Computes.{MovesOffsets, IsNearStep, signed_move, shifted_word};
 
 use bpf_model::{AluOp, NEAR_LIMIT, Size};
-use kind_tests::InsnFault;
-use register_kinds::ORIGIN;
+use register_kinds::{InsnFault, ORIGIN};
 use scalar_domain::Scalar;
 
 /// Which way a reference is moved: by a sum, or by a difference.

@@ -30,9 +30,9 @@ use Rattle.register_kinds.specs.declared.kind.RegKind.TheVariants as kinds
 use Rattle.register_kinds.specs.declared.state.AbsState.{AbsState as StateHere}
 use Rattle.register_kinds.specs.States.{kind_of, kind_in, state_of}
 use Rattle.compute_effects.specs.Computes.{HasValue}
-use Rattle.kind_tests.specs.Forks.{Forks, ForksOnNull}
+use Rattle.register_kinds.specs.Forks.{Forks, ForksOnNull}
 use Rattle.control_effects.specs.Narrowing.{ComparesNumbers, Narrows, AreNarrowed, SetsSides, NarrowsKnown}
-use Rattle.kind_tests.proofs.Setting.{set-there, set-elsewhere}
+use Rattle.register_kinds.proofs.Setting.{set-there, set-elsewhere}
 use Rattle.compute_effects.specs.Floor.{operand_kind}
 use Rattle.compute_effects.proofs.Known.{same_num}
 use Rattle.scalar_domain.specs.Floor.{KeepsEdgeFloor}

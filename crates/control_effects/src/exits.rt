@@ -1,15 +1,14 @@
 //! Jumps without a condition, and the exit.
 ghost use Rattle.std.specs.Prelude.{◌≡◌, ℕ, ℤ, List, None, OnOk, IsOk, false};
 ghost use Rattle.bpf_model.specs.declared.limits.MapShape.{MapShape};
-ghost use Rattle.kind_tests.specs.Performs.{Performs};
+ghost use Rattle.register_kinds.specs.Performs.{Performs};
 ghost use Rattle.typed_runs.specs.Kinds as model;
 ghost use Rattle.typed_runs.specs.Effects.{HasNumber};
 ghost use Rattle.typed_runs.specs.Verified.{Transfers};
 ghost use Rattle.register_kinds.specs.States.{state_of};
 
 use bpf_model::{Insn, Reg};
-use kind_tests::{InsnFault, held};
-use register_kinds::{AbsState, RegKind};
+use register_kinds::{AbsState, InsnFault, RegKind, held};
 
 /// A run ends outside every section.
 fn check_outside(state: &AbsState) -> Result<(), InsnFault>

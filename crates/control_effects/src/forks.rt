@@ -6,14 +6,13 @@ ghost use Rattle.typed_runs.specs.Effects.{IsNumberOperand, HasNumber};
 ghost use Rattle.register_kinds.specs.States.{kind_in, state_of};
 ghost use Rattle.register_kinds.specs.Pairs.{AreBelow};
 ghost use Rattle.compute_effects.specs.Computes.{HasValue};
-ghost use Rattle.kind_tests.specs.Forks.{Forks, ForksOnNull};
+ghost use Rattle.register_kinds.specs.Forks.{Forks, ForksOnNull};
 ghost use Rattle.control_effects.specs.Narrowing.{ComparesNumbers, Narrows, AreNarrowed, SetsSides, NarrowsKnown};
 ghost use Rattle.compute_effects.specs.Floor.{operand_kind};
 
 use bpf_model::{Condition, Operand, Reg, Size};
 use compute_effects::operand;
-use kind_tests::{InsnFault, held};
-use register_kinds::{AbsState, RegKind};
+use register_kinds::{AbsState, InsnFault, RegKind, held};
 use scalar_domain::Scalar;
 use std::alloc::{AllocError, Global};
 

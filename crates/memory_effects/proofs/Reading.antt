@@ -37,7 +37,7 @@ use Rattle.register_kinds.specs.declared.kind.CellKind.TheVariants as class
 use Rattle.register_kinds.specs.declared.frame.FrameCells.{FrameCells}
 use Rattle.register_kinds.specs.declared.state.AbsState.{AbsState as StateHere}
 use Rattle.register_kinds.specs.States.{kind_of, cell_of, kind_in, cell_at, state_of, is_pointer}
-use Rattle.kind_tests.specs.Tests.{AreAll}
+use Rattle.register_kinds.specs.Tests.{AreAll}
 use Rattle.memory_effects.specs.declared.region.Address.{Address}
 use Rattle.memory_effects.specs.declared.reads.Reads.{Reads}
 use Rattle.memory_effects.specs.declared.reads.Reads.TheVariants as reads

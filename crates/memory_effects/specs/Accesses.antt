@@ -9,7 +9,7 @@ use Rattle.typed_runs.specs.Kinds.{Kind, Num, CtxAt, FrameAt, ValueAt, ByteCell,
 use Rattle.typed_runs.specs.Kinds.{AbsState as Known}
 use Rattle.typed_runs.specs.Effects.{IsAlwaysInside, IsPointer, with_cells}
 use Rattle.typed_runs.specs.Planned.{AreAlike}
-use Rattle.kind_tests.specs.declared.fault.InsnFault.{InsnFault}
+use Rattle.register_kinds.specs.declared.fault.InsnFault.{InsnFault}
 use Rattle.register_kinds.specs.declared.state.AbsState.{AbsState}
 use Rattle.register_kinds.specs.declared.kind.RegKind.TheVariants as kinds
 use Rattle.register_kinds.specs.States.{kind_of, kind_in}
@@ -19,7 +19,7 @@ use Rattle.memory_effects.specs.declared.region.Region.TheVariants as regions
 use Rattle.memory_effects.specs.declared.reads.Reads.{Reads}
 use Rattle.memory_effects.specs.declared.reads.Reads.TheVariants as reads
 use Rattle.scalar_domain.specs.Floor.{KeepsLoadFloor}
-use Rattle.kind_tests.specs.Performs.{IsNumbers}
+use Rattle.register_kinds.specs.Performs.{IsNumbers}
 use Rattle.bpf_model.specs.declared.opcode.Width.{Width}
 
 -- a reference into the region; none is into no region

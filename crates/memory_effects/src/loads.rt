@@ -3,7 +3,7 @@ ghost use Rattle.std.specs.Prelude.{◌≡◌, ℕ, OnOk, OnErr, IfOk};
 ghost use Rattle.register_kinds.specs.States.{kind_at, state_of};
 ghost use Rattle.bpf_model.specs.Access.{byte_count, unsigned_width};
 ghost use Rattle.typed_runs.specs.Effects.{HasNumber};
-ghost use Rattle.kind_tests.specs.Performs.{Performs, SetsNumber};
+ghost use Rattle.register_kinds.specs.Performs.{Performs, SetsNumber};
 ghost use Rattle.register_kinds.specs.Pairs.{AreBelow};
 ghost use Rattle.memory_effects.specs.Accesses.{IsBase, ReadsBytes, ReadsValue, LoadsKnown};
 
@@ -11,8 +11,7 @@ use crate::environment::EnvironmentShape;
 use crate::reads::read;
 use crate::region::{Address, Region};
 use bpf_model::{Insn, Reg, SignedWidth, Width};
-use kind_tests::{InsnFault, check_writable};
-use register_kinds::AbsState;
+use register_kinds::{AbsState, InsnFault, check_writable};
 use scalar_domain::Scalar;
 
 /// A load without sign: a number, or the reference whose eight parts are read, of the context, the

@@ -6,8 +6,7 @@ ghost use Rattle.typed_runs.specs.Effects.{IsAlwaysInside};
 ghost use Rattle.memory_effects.specs.Accesses.{IsStart};
 
 use bpf_model::Width;
-use kind_tests::InsnFault;
-use register_kinds::ORIGIN;
+use register_kinds::{InsnFault, ORIGIN};
 use scalar_domain::Scalar;
 
 /// Offsets of accesses are kept so much higher here.

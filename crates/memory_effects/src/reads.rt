@@ -11,8 +11,7 @@ use crate::environment::EnvironmentShape;
 use crate::offset::{check_within, offset_in};
 use crate::region::{Address, Region};
 use bpf_model::{FRAME_BYTES, MapShape, Width};
-use kind_tests::{Content, InsnFault, held, read_frame};
-use register_kinds::{AbsState, RegKind};
+use register_kinds::{AbsState, Content, InsnFault, RegKind, held, read_frame};
 use scalar_domain::Scalar;
 
 /// What a load reads.

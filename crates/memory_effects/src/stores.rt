@@ -1,7 +1,7 @@
 //! Stores.
 ghost use Rattle.std.specs.Prelude.{◌≡◌, ℕ, List, OnOk, OnErr, IfOk, Ok};
 ghost use Rattle.bpf_model.specs.Access.{byte_count};
-ghost use Rattle.kind_tests.specs.Performs.{Performs};
+ghost use Rattle.register_kinds.specs.Performs.{Performs};
 ghost use Rattle.typed_runs.specs.Effects.{IsNumberOperand, IsWritten};
 ghost use Rattle.register_kinds.specs.States.{kind_in, kind_at, kind_of, state_of};
 ghost use Rattle.register_kinds.specs.Pairs.{AreBelow};
@@ -11,8 +11,7 @@ use crate::offset::offset_in;
 use crate::reads::check_value;
 use crate::region::{Address, Region};
 use bpf_model::{FRAME_BYTES, Insn, MapShape, Operand, Reg, Width};
-use kind_tests::{InsnFault, held};
-use register_kinds::{AbsState, RegKind};
+use register_kinds::{AbsState, InsnFault, RegKind, held};
 use scalar_domain::Scalar;
 
 /// What is stored.

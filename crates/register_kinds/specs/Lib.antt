@@ -3,3 +3,7 @@ pub mod Joined
 pub mod Pairs
 pub mod JoinTable
 pub mod Changes
+pub mod FaultNumbers
+pub mod Forks
+pub mod Performs
+pub mod Tests

@@ -15,20 +15,20 @@ use world::World;
 use world_parts::Loaded;
 
 /// Exits with 1 at the second step.
-pub const ONE: [u8; 16] = [
+const ONE: [u8; 16] = [
     0xb7, 0, 0, 0, 1, 0, 0, 0, // r0 = 1
     0x95, 0, 0, 0, 0, 0, 0, 0, // exit
 ];
 
 /// Exits at the second step with the one byte of its context.
-pub const FIRST_BYTE: [u8; 16] = [
+const FIRST_BYTE: [u8; 16] = [
     0x71, 0x10, 0, 0, 0, 0, 0, 0, // r0 = [r1]
     0x95, 0, 0, 0, 0, 0, 0, 0, // exit
 ];
 
 /// One lookup of a key in a section: exits with the value at the 12th step, or with 0 at the 11th where there
 /// is none.
-pub const fn lookup(key: u8) -> [u8; 104] {
+const fn lookup(key: u8) -> [u8; 104] {
     [
         0xb7, 0x06, 0, 0, 0, 0, 0, 0, // r6 = 0
         0x85, 0x20, 0, 0, 1, 0, 0, 0, // lock

@@ -25,7 +25,7 @@ use Rattle.compute_effects.specs.Computes.{ReadsNumber}
 use Rattle.control_effects.specs.Narrowing.{AreNarrowed}
 use Rattle.state_steps.specs.Facts.{Register as RegisterFact, FrameByte, FramePointer, Section, KeepsFacts, ReadsNumbers, IsReadyInsn}
 use Rattle.bpf_model.proofs.Bytes.{within}
-use Rattle.kind_tests.proofs.Setting.{set-there, set-elsewhere}
+use Rattle.register_kinds.proofs.Setting.{set-there, set-elsewhere}
 
 pub same_keeps : (i : Insn) (a : AbsState) → ((r : ℕ) → WritesRegister i r → ⊥) → ((k : ℕ) → WritesByte i k → ⊥) → KeepsFacts i a a
 same_keeps i a no_reg no_byte (RegisterFact r) h = elim h [ inl p ↦ p | inr w ↦ absurd (no_reg r w) ]

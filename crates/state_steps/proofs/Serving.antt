@@ -16,7 +16,7 @@ use Rattle.bpf_model.specs.declared.insn.CallKind.{CallKind}
 use Rattle.bpf_model.specs.declared.insn.CallKind.TheVariants as callee
 use Rattle.call_effects.proofs.Effects.{returned_above}
 use Rattle.call_effects.specs.Calls.{FindsIn, Called, Splits, section_fault, outcome_of}
-use Rattle.kind_tests.specs.declared.fault.InsnFault.{InsnFault}
+use Rattle.register_kinds.specs.declared.fault.InsnFault.{InsnFault}
 use Rattle.std.proofs.lemmas.Option.{slice_get_within}
 use Rattle.bpf_model.specs.declared.insn.Operand.{Operand}
 use Rattle.bpf_model.specs.declared.insn.Operand.TheVariants.{Register as RegisterOperand, Immediate}
@@ -41,7 +41,7 @@ use Rattle.register_kinds.specs.declared.state.AbsState.{AbsState as StateHere}
 use Rattle.register_kinds.specs.States.{kind_of, kind_in, state_of}
 use Rattle.state_steps.specs.Facts.{Register, FrameByte, FramePointer, Section}
 use Rattle.state_steps.specs.Lookups.{IsKeyWritten, Expects, Prepares, KeepsSaved, IsReadyPart, LeavesPart, IsReadySection, LeavesSection, IsReadyWithMaps, Serves, section_call}
-use Rattle.kind_tests.proofs.Setting.{set-there, set-elsewhere}
+use Rattle.register_kinds.proofs.Setting.{set-there, set-elsewhere}
 
 -- what is ready among instructions that are no part of a lookup, and no call
 abbrev pub is_serving : Insn → Bool

@@ -35,7 +35,7 @@ use Rattle.memory_effects.specs.declared.region.Region.{Region}
 use Rattle.memory_effects.specs.declared.region.Region.TheVariants as regions
 use Rattle.memory_effects.specs.Accesses.{IsBase}
 use Rattle.register_kinds.specs.States.{kind_at}
-use Rattle.kind_tests.specs.Forks.{Forks, ForksOnNull}
+use Rattle.register_kinds.specs.Forks.{Forks, ForksOnNull}
 use Rattle.call_effects.specs.Calls.{Splits}
 use Rattle.control_effects.specs.Narrowing.{ComparesNumbers}
 use Rattle.state_steps.specs.declared.flow.Flow.{Flow}

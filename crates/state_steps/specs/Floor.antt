@@ -12,7 +12,7 @@ use Rattle.scalar_domain.specs.Floor.{KeepsUnaryFloor}
 use Rattle.typed_runs.specs.Kinds.{Num, AbsState as Known}
 use Rattle.typed_runs.specs.Effects.{HasNumber}
 use Rattle.memory_effects.specs.Accesses.{LoadsKnown}
-use Rattle.kind_tests.specs.Performs.{IsNumbers}
+use Rattle.register_kinds.specs.Performs.{IsNumbers}
 use Rattle.compute_effects.specs.Floor.{operand_kind, LeavesKnown}
 use Rattle.control_effects.specs.Narrowing.{NarrowsKnown}
 use Rattle.call_effects.specs.Calls.{KeepsNumbersIn}

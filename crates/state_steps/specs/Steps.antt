@@ -15,8 +15,8 @@ use Rattle.bpf_model.specs.Plain.{Names}
 use Rattle.bpf_model.specs.Value.{IsNumber}
 use Rattle.typed_runs.specs.Describes.{Scene, IsHeld}
 use Rattle.register_kinds.specs.declared.state.AbsState.{AbsState}
-use Rattle.kind_tests.specs.declared.fault.InsnFault.{InsnFault}
-use Rattle.kind_tests.specs.declared.fault.InsnFault.TheVariants.{Memory}
+use Rattle.register_kinds.specs.declared.fault.InsnFault.{InsnFault}
+use Rattle.register_kinds.specs.declared.fault.InsnFault.TheVariants.{Memory}
 use Rattle.memory_effects.specs.declared.region.Region.{Region}
 use Rattle.memory_effects.specs.declared.region.Region.TheVariants as regions
 use Rattle.state_steps.specs.declared.flow.Flow.{Flow}

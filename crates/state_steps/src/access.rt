@@ -5,9 +5,8 @@ ghost use Rattle.state_steps.specs.Stepped.{Stepped};
 
 use crate::flow::{Flow, single};
 use bpf_model::{Insn, Operand, Reg, SignedWidth, Width};
-use kind_tests::InsnFault;
 use memory_effects::{Address, EnvironmentShape, load, load_signed, store};
-use register_kinds::AbsState;
+use register_kinds::{AbsState, InsnFault};
 
 /// A load without sign.
 pub(crate) fn load_step(

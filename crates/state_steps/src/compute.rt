@@ -7,9 +7,8 @@ ghost use Rattle.state_steps.specs.Stepped.{Stepped};
 use crate::flow::{Flow, single};
 use bpf_model::{AluOp, Insn, Operand, Reg, Size, UnaryOp};
 use compute_effects::{alu, load_map, load_number, unary};
-use kind_tests::InsnFault;
 use memory_effects::{EnvironmentShape, Region};
-use register_kinds::AbsState;
+use register_kinds::{AbsState, InsnFault};
 
 /// An operation of two operands.
 pub(crate) fn alu_step(

@@ -7,7 +7,7 @@ ghost use Rattle.register_kinds.specs.declared.state.AbsState.{AbsState as State
 ghost use Rattle.register_kinds.specs.Pairs.{AreBelow, TakesFew};
 ghost use Rattle.register_kinds.specs.States.{state_of};
 ghost use Rattle.call_effects.specs.Calls.{Splits};
-ghost use Rattle.kind_tests.specs.Forks.{Forks};
+ghost use Rattle.register_kinds.specs.Forks.{Forks};
 ghost use Rattle.control_effects.specs.Narrowing.{AreNarrowed, NarrowsKnown};
 ghost use Rattle.state_steps.specs.Floor.{KeepsNumbers};
 ghost use Rattle.state_steps.specs.Stepped.{Stepped, ComparesWell, IsEqualToNull};
@@ -16,9 +16,8 @@ use crate::flow::{Flow, single};
 use bpf_model::{CallKind, Condition, Insn, Operand, Reg, Size};
 use call_effects::{call, fork_null};
 use control_effects::{exit, fork, fork_value, jump_long_transfers, jump_transfers};
-use kind_tests::InsnFault;
 use memory_effects::{EnvironmentShape, Region};
-use register_kinds::{AbsState, Identities, RegKind};
+use register_kinds::{AbsState, Identities, InsnFault, RegKind};
 use std::alloc::Global;
 
 /// A jump, which leaves all that is known as it is.

@@ -16,9 +16,8 @@ use crate::compute::{alu_step, load_map_step, load_number_step, unary_step};
 use crate::control::{branch_step, call_step, exit_step, jump_long_step, jump_step};
 use crate::flow::Flow;
 use bpf_model::Insn;
-use kind_tests::InsnFault;
 use memory_effects::{Address, EnvironmentShape};
-use register_kinds::{AbsState, Identities};
+use register_kinds::{AbsState, Identities, InsnFault};
 use std::alloc::Global;
 
 /// What an instruction makes of what is known before it. The state becomes that where control falls

@@ -10,8 +10,8 @@ mod refusal;
 mod verified;
 mod waiting;
 
-pub use kind_tests::InsnFault;
 pub use program_graph::GraphFlaw;
 pub use refusal::ProgramRefusal;
+pub use register_kinds::InsnFault;
 pub use state_steps::Region;
 pub use verified::{Verified, verify};

@@ -1,8 +1,8 @@
 //! Why a program is refused.
 ghost use Rattle.std.specs.Prelude.{◌≡◌};
 
-use kind_tests::InsnFault;
 use program_graph::{GraphFlaw, GraphRefusal};
+use register_kinds::InsnFault;
 use std::alloc::{AllocError, AllocFailed};
 use thiserror::Error;
 

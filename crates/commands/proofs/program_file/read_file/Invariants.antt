@@ -1,4 +1,4 @@
-use Rattle.commands.specs.Files.{HasRead}
+use Rattle.commands.proofs.Reading.{HasRead}
 use Rattle.commands.proofs.program_file.read_file.Given as goal
 
 abbrev pub invariant-loop : goal.invariant-loop

@@ -1,4 +1,4 @@
-use Rattle.kind_tests.proofs.Results.{same_Ok}
+use Rattle.register_kinds.proofs.Results.{same_Ok}
 use Rattle.register_kinds.specs.States.{kind_of, state_of, kind_in}
 use Rattle.std.proofs.Common.{refl, sym, subst}
 use Rattle.typed_runs.specs.Effects.{with_kind}
@@ -6,7 +6,7 @@ use Rattle.typed_runs.specs.Planned.{AreAlike}
 use Rattle.register_kinds.specs.declared.kind.RegKind.{RegKind}
 use Rattle.compute_effects.proofs.Combining.{alu_sound}
 use Rattle.compute_effects.proofs.arithmetic.alu.Goals as goal
-use Rattle.kind_tests.proofs.Setting.{set-there, set-elsewhere}
+use Rattle.register_kinds.proofs.Setting.{set-there, set-elsewhere}
 use Rattle.compute_effects.specs.Floor.{LeavesKnown, operand_kind}
 use Rattle.typed_runs.specs.Kinds.{Kind}
 

@@ -2,13 +2,13 @@ use Rattle.std.proofs.Common.{sym, ap, subst, ◌∙◌, inl, inr}
 use Rattle.std.proofs.lemmas.Result.{IfOk-weaker}
 use Rattle.typed_runs.specs.Kinds.{Num}
 use Rattle.register_kinds.proofs.KindLaws.{kind_is}
-use Rattle.kind_tests.proofs.Results.{same_Ok}
+use Rattle.register_kinds.proofs.Results.{same_Ok}
 use Rattle.register_kinds.specs.States.{kind_of, state_of}
 use Rattle.compute_effects.proofs.Combining.{moves_compute, others_compute}
 use Rattle.compute_effects.proofs.arithmetic.computed_kind.Goals as goal
 use Rattle.bpf_model.specs.declared.insn.AluOp.{AluOp}
 use Rattle.scalar_domain.specs.Floor.{KeepsFloor}
-use Rattle.kind_tests.specs.Performs.{IsNumbers}
+use Rattle.register_kinds.specs.Performs.{IsNumbers}
 
 pub returns-in_ok-operand-in-Move-clause-sound : goal.returns-in_ok-operand-in-Move-clause-sound
 returns-in_ok-operand-in-Move-clause-sound c = IfOk-weaker c.copied.result _ _

@@ -2,7 +2,7 @@ use Rattle.std.proofs.Common.{rules, w32}
 use mir.Val.{SFits}
 use Rattle.std.proofs.lemmas.Int.{to_z-of_z}
 use Rattle.compute_effects.proofs.Combining.{map_sound}
-use Rattle.kind_tests.proofs.Setting.{set-elsewhere}
+use Rattle.register_kinds.proofs.Setting.{set-elsewhere}
 use Rattle.typed_runs.specs.Kinds.{MapAt}
 use Rattle.register_kinds.specs.States.{state_of}
 use Rattle.compute_effects.proofs.arithmetic.load_map.Goals as goal

@@ -1,7 +1,7 @@
 use Rattle.std.proofs.Common.{arith, refl}
 use Rattle.compute_effects.proofs.Combining.{number_sound}
 use Rattle.compute_effects.proofs.arithmetic.load_number.Goals as goal
-use Rattle.kind_tests.proofs.Setting.{set-there, set-elsewhere}
+use Rattle.register_kinds.proofs.Setting.{set-there, set-elsewhere}
 use Rattle.typed_runs.specs.Kinds.{Num}
 use Rattle.register_kinds.specs.States.{state_of}
 

@@ -1,7 +1,7 @@
 use Rattle.std.proofs.Common.{◌≡◌, refl, sym, ap, subst, ◌∙◌}
 use Rattle.compute_effects.proofs.Combining.{unary_sound}
 use Rattle.compute_effects.proofs.arithmetic.unary.Goals as goal
-use Rattle.kind_tests.proofs.Setting.{set-there, set-elsewhere}
+use Rattle.register_kinds.proofs.Setting.{set-there, set-elsewhere}
 use Rattle.typed_runs.specs.Kinds.{Num}
 use Rattle.scalar_domain.specs.declared.scalar.Scalar.{Scalar}
 use Rattle.scalar_domain.specs.Floor.{KeepsUnaryFloor}

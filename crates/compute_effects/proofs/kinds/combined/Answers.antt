@@ -1,5 +1,5 @@
 use Rattle.std.proofs.Common.{◌≡◌, ◌+◌, ◌^◌, refl, sym, ap, subst, ◌∙◌, arith}
-use Rattle.kind_tests.proofs.Results.{same_Ok}
+use Rattle.register_kinds.proofs.Results.{same_Ok}
 use Rattle.bpf_model.specs.Arithmetic.{immediate}
 use Rattle.scalar_domain.specs.Scalar.{IsConstant}
 use Rattle.compute_effects.specs.Computes.{shifted_word}

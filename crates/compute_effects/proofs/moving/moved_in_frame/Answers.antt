@@ -2,7 +2,7 @@ use Rattle.std.proofs.Common.{rules, ◌+◌, ◌^◌, ◌≤◌, sym, subst, po
 use mir.Val.{SFits}
 use Rattle.std.proofs.lemmas.Int.{to_z-of_z}
 use Rattle.std.proofs.lemmas.Result.{IfOk-weaker}
-use Rattle.kind_tests.proofs.Results.{same_Ok}
+use Rattle.register_kinds.proofs.Results.{same_Ok}
 use Rattle.scalar_domain.specs.Scalar.{IsConstant}
 use Rattle.compute_effects.specs.Computes.{shifted_word}
 use Rattle.compute_effects.proofs.Numbers.{ok_value, offset_is}

@@ -1,5 +1,5 @@
 use Rattle.std.proofs.Common.{refl, sym, subst, ap, ◌∙◌}
-use Rattle.kind_tests.proofs.Results.{same_Ok}
+use Rattle.register_kinds.proofs.Results.{same_Ok}
 use Rattle.bpf_model.specs.declared.insn.Insn.TheVariants.{Load}
 use Rattle.typed_runs.specs.Kinds.{Kind}
 use Rattle.typed_runs.specs.Effects.{with_kind}
@@ -9,7 +9,7 @@ use Rattle.memory_effects.specs.Accesses.{read_kind, LoadsKnown}
 use Rattle.memory_effects.proofs.Reading.{read_transfers, load_known}
 use Rattle.memory_effects.proofs.loads.load.Goals as goal
 use Rattle.typed_runs.proofs.Planning.{to_alike}
-use Rattle.kind_tests.proofs.Setting.{set-there, set-elsewhere}
+use Rattle.register_kinds.proofs.Setting.{set-there, set-elsewhere}
 
 pub returns-clause-sound : goal.returns-clause-sound
 returns-clause-sound c =

@@ -1,6 +1,6 @@
 use Rattle.std.proofs.Common.{refl, subst, sym, ap, ◌∙◌}
 use Rattle.memory_effects.specs.Accesses.{ReadsBytes, ReadsValue}
-use Rattle.kind_tests.proofs.Results.{same_Ok}
+use Rattle.register_kinds.proofs.Results.{same_Ok}
 use Rattle.bpf_model.specs.declared.insn.Insn.TheVariants.{LoadSigned}
 use Rattle.bpf_model.specs.declared.opcode.Width.{Width}
 use Rattle.bpf_model.specs.Access.{byte_count}
@@ -13,7 +13,7 @@ use Rattle.memory_effects.proofs.Reading.{read_signed_transfers, number_loaded}
 use Rattle.scalar_domain.proofs.Words.{loaded_signed_lt}
 use Rattle.memory_effects.proofs.loads.load_signed.Goals as goal
 use Rattle.typed_runs.proofs.Planning.{to_alike}
-use Rattle.kind_tests.proofs.Setting.{set-there, set-elsewhere}
+use Rattle.register_kinds.proofs.Setting.{set-there, set-elsewhere}
 
 pub returns-clause-sound : goal.returns-clause-sound
 returns-clause-sound c =

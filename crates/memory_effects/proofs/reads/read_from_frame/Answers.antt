@@ -6,7 +6,7 @@ use Rattle.register_kinds.specs.declared.kind.RegKind.{RegKind}
 use Rattle.register_kinds.specs.declared.kind.CellKind.TheVariants.{Part}
 use Rattle.register_kinds.specs.States.{kind_of}
 use Rattle.register_kinds.specs.Pairs.{IsBelow}
-use Rattle.kind_tests.specs.Tests.{AreAll}
+use Rattle.register_kinds.specs.Tests.{AreAll}
 use Rattle.memory_effects.proofs.Reading.{parts_read}
 use Rattle.memory_effects.proofs.reads.read_from_frame.Goals as goal
 

@@ -2,14 +2,14 @@
 ghost use Rattle.std.specs.Prelude.{◌<◌, ◌≤◌};
 ghost use Rattle.shared.specs.declared.worker.TheConstants.{MAX_WORKERS};
 
-use crate::activity::activities;
-use crate::command::Command;
-use crate::crew::{Crew, crews, time_per_call};
-use crate::measure::time_per_part;
-use crate::pool::time_per_job;
-use crate::report::answers_line;
-use crate::scripts::time_per_line;
-use crate::setup::make_setup;
+use crate::worlds::activity::activities;
+use crate::worlds::command::Command;
+use crate::worlds::crew::{Crew, crews, time_per_call};
+use crate::worlds::measure::time_per_part;
+use crate::worlds::pool::time_per_job;
+use crate::worlds::report::answers_line;
+use crate::worlds::scripts::time_per_line;
+use crate::worlds::setup::make_setup;
 use anyhow::Result;
 use measurements::measurement_line;
 use shared::MAX_WORKERS;

@@ -9,7 +9,7 @@ use Rattle.typed_runs.specs.Planned.{AreAlike}
 use Rattle.typed_runs.specs.Verified.{Transfers}
 use Rattle.register_kinds.specs.declared.state.AbsState.{AbsState}
 use Rattle.register_kinds.specs.States.{state_of}
-use Rattle.kind_tests.specs.declared.fault.InsnFault.{InsnFault}
+use Rattle.register_kinds.specs.declared.fault.InsnFault.{InsnFault}
 
 -- From each run that the old state describes the instruction has a step, and each leads to one that
 -- the new state describes.

@@ -2,10 +2,10 @@
 ghost use Rattle.std.specs.Prelude.{◌≡◌, ◌<◌, ◌≤◌};
 ghost use Rattle.shared.specs.declared.worker.TheConstants.{MAX_WORKERS};
 
-use crate::activity::{Activity, Deed, SMALL_ENTRIES, Stepped, small};
-use crate::measure::LONG_TASK_BATCHES;
-use crate::sequence::Sequence;
-use crate::setup::{key_of, make_world};
+use crate::worlds::activity::{Activity, Deed, SMALL_ENTRIES, Stepped, small};
+use crate::worlds::measure::LONG_TASK_BATCHES;
+use crate::worlds::sequence::Sequence;
+use crate::worlds::setup::{key_of, make_world};
 use anyhow::{Result, bail};
 use bpf_model::{Answer, CtxBytes, Event, MapId, ProgId, RunId};
 use measurements::{Decimal, quotient};

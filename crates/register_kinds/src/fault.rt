@@ -44,7 +44,7 @@ pub enum InsnFault {
 }
 
 impl InsnFault {
-    ghost use Rattle.kind_tests.specs.FaultNumbers.{insn_fault_number};
+    ghost use Rattle.register_kinds.specs.FaultNumbers.{insn_fault_number};
 
     /// The number by which the fault is known, 23 to 37 or 39, or 13 for want of memory.
     pub fn code(self) -> u8
@@ -73,7 +73,7 @@ impl InsnFault {
 }
 
 impl From<AllocError> for InsnFault {
-    ghost use Rattle.kind_tests.specs.declared.fault.InsnFault.TheVariants.{Memory};
+    ghost use Rattle.register_kinds.specs.declared.fault.InsnFault.TheVariants.{Memory};
 
     ghost from_gives = { λ _ e. e ≡ Memory };
 
@@ -83,7 +83,7 @@ impl From<AllocError> for InsnFault {
 }
 
 impl<T: Drop> From<AllocFailed<T>> for InsnFault {
-    ghost use Rattle.kind_tests.specs.declared.fault.InsnFault.TheVariants.{Memory};
+    ghost use Rattle.register_kinds.specs.declared.fault.InsnFault.TheVariants.{Memory};
 
     ghost from_gives = { λ _ e. e ≡ Memory };
 

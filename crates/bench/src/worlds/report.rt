@@ -1,6 +1,6 @@
-//! The lines that the program prints.
+//! The lines of activities.
 
-use crate::tally::Tally;
+use crate::worlds::tally::Tally;
 use std::alloc::{AllocError, Global};
 
 /// The line of an activity: its name, and what its events were answered.

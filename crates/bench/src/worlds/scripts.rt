@@ -1,8 +1,8 @@
 //! Lines of a script.
 
-use crate::activity::SMALL_ENTRIES;
-use crate::measure::LONG_TASK_BATCHES;
-use crate::programs::arithmetic;
+use crate::worlds::activity::SMALL_ENTRIES;
+use crate::worlds::measure::LONG_TASK_BATCHES;
+use crate::worlds::programs::arithmetic;
 use anyhow::{Result, bail};
 use asm::assemble;
 use bpf_model::MAX_REUSE;

@@ -2,9 +2,9 @@
 ghost use Rattle.std.specs.Prelude.{◌≡◌, ◌<◌, ◌≤◌};
 ghost use Rattle.shared.specs.declared.worker.TheConstants.{MAX_WORKERS};
 
-use crate::activity::{Activity, Deed, Stepped, small};
-use crate::measure::LONG_TASK_BATCHES;
-use crate::setup::make_world;
+use crate::worlds::activity::{Activity, Deed, Stepped, small};
+use crate::worlds::measure::LONG_TASK_BATCHES;
+use crate::worlds::setup::make_world;
 use anyhow::{Result, bail};
 use bpf_model::{CtxBytes, ProgId};
 use measurements::{Decimal, quotient};

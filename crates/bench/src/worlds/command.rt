@@ -1,10 +1,10 @@
-//! The words of the command line.
+//! The words behind `bench world`.
 ghost use Rattle.std.specs.Prelude.{◌≡◌, ◌≢◌, ◌↔◌, [], Ok};
-ghost use Rattle.world_timing.specs.declared.command.Command.TheVariants.{Answers};
+ghost use Rattle.bench.specs.declared.worlds.command.Command.TheVariants.{Answers};
 
 use thiserror::Error;
 
-/// What the program is asked to do.
+/// What is asked of worlds.
 #[derive(Clone, Copy, Debug, PartialEq, Eq)]
 pub enum Command {
     /// Print what the events of each activity are answered.

@@ -2,11 +2,12 @@
 ghost use Rattle.std.specs.Prelude.{◌≡◌, ◌+◌, ◌/◌, ◌≤◌, length, IsTrue, IsFalse, OnOk, IfOk, IfErr, IsOk, true, Ok};
 ghost use Rattle.bpf_model.specs.declared.limits.TheConstants.{FRAME_BYTES};
 ghost use Rattle.register_kinds.specs.States.{kind_in, is_pointer};
-ghost use Rattle.kind_tests.specs.Tests.{HasCell, HasNoCell, AreAll, AreWritten, IsCellFault, IsBytesFault};
+ghost use Rattle.register_kinds.specs.Tests.{HasCell, HasNoCell, AreAll, AreWritten, IsCellFault, IsBytesFault};
 
 use crate::fault::InsnFault;
+use crate::frame::FrameCells;
+use crate::kind::{CellKind, RegKind};
 use bpf_model::FRAME_BYTES;
-use register_kinds::{CellKind, FrameCells, RegKind};
 
 /// What a load from the frame gives.
 #[derive(Clone, Copy, Debug, PartialEq, Eq)]

@@ -7,10 +7,10 @@ use Rattle.register_kinds.specs.declared.kind.RegKind.TheVariants.{Frame}
 use Rattle.register_kinds.specs.declared.kind.CellKind.{CellKind}
 use Rattle.register_kinds.specs.declared.kind.CellKind.TheVariants as class
 use Rattle.register_kinds.specs.States.{class_in}
-use Rattle.kind_tests.specs.declared.fault.InsnFault.{InsnFault}
-use Rattle.kind_tests.specs.declared.fault.InsnFault.TheVariants.{UnwrittenRegister, OutsideSection}
-use Rattle.kind_tests.specs.declared.fault.InsnFault.TheVariants.{MixedRegions, WrongArgument}
-use Rattle.kind_tests.specs.declared.fault.InsnFault.TheVariants.{UnwrittenFrame, PointerLeak}
+use Rattle.register_kinds.specs.declared.fault.InsnFault.{InsnFault}
+use Rattle.register_kinds.specs.declared.fault.InsnFault.TheVariants.{UnwrittenRegister, OutsideSection}
+use Rattle.register_kinds.specs.declared.fault.InsnFault.TheVariants.{MixedRegions, WrongArgument}
+use Rattle.register_kinds.specs.declared.fault.InsnFault.TheVariants.{UnwrittenFrame, PointerLeak}
 
 -- What a register that is read holds, or why it may not be read.
 abbrev pub held_kind : RegKind → Result RegKind InsnFault

@@ -1,8 +1,8 @@
 //! How long a world's answers take.
 ghost use Rattle.std.specs.Prelude.{◌<◌};
 
-use crate::setup::Setup;
-use crate::tally::Tally;
+use crate::worlds::setup::Setup;
+use crate::worlds::tally::Tally;
 use anyhow::{Result, ensure};
 use measurements::{BATCHES, Decimal, LEAST_MILLIS, quotient};
 use std::rt::Clock;

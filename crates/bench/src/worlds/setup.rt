@@ -1,12 +1,12 @@
 //! A world in which an activity can go on.
 ghost use Rattle.std.specs.Prelude.{◌<◌};
 
-use crate::activity::{Activity, Deed, Stepped};
-use crate::programs::{
+use crate::worlds::activity::{Activity, Deed, Stepped};
+use crate::worlds::programs::{
     ARITHMETIC_MOVES, LOOKUP_8, LOOKUP_8_MOVES, LOOKUP_64, LOOKUP_64_MOVES, arithmetic,
 };
-use crate::sequence::Sequence;
-use crate::tally::Tally;
+use crate::worlds::sequence::Sequence;
+use crate::worlds::tally::Tally;
 use anyhow::{Result, bail};
 use arrayvec::ArrayVec;
 use asm::assemble;

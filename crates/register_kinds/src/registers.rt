@@ -4,11 +4,12 @@ ghost use Rattle.bpf_model.specs.declared.limits.MapShape.{MapShape};
 ghost use Rattle.scalar_domain.specs.declared.scalar.Scalar.{Scalar};
 ghost use Rattle.typed_runs.specs.Effects.{IsWritten};
 ghost use Rattle.register_kinds.specs.States.{kind_in, kind_of};
-ghost use Rattle.kind_tests.specs.Tests.{held_kind, frame_of, numbers_of};
+ghost use Rattle.register_kinds.specs.Tests.{held_kind, frame_of, numbers_of};
 
 use crate::fault::InsnFault;
+use crate::kind::RegKind;
+use crate::state::AbsState;
 use bpf_model::{MapShape, Reg};
-use register_kinds::{AbsState, RegKind};
 use scalar_domain::Scalar;
 
 /// No instruction writes r10. Error: `FramePointerWritten`.

@@ -1,0 +1,14 @@
+//! What a world answers to lists of events, and how long its answers take.
+
+mod activity;
+pub mod command;
+mod crew;
+mod measure;
+pub mod outputs;
+mod pool;
+mod programs;
+mod report;
+mod scripts;
+mod sequence;
+mod setup;
+mod tally;

@@ -1,4 +1,0 @@
-pub mod FaultNumbers
-pub mod Forks
-pub mod Performs
-pub mod Tests
