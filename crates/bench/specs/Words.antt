@@ -5,7 +5,8 @@ use Rattle.bpf_model.specs.declared.limits.TheConstants.{CTX_BYTES}
 use Rattle.bench.specs.declared.command.Command.{Command}
 use Rattle.bench.specs.declared.command.Command.TheVariants.{Run, Samples}
 
--- No words, or `run`, a file and the decimal digits of a length that a context may have.
+-- No words, or `run`, a file and the decimal digits, perhaps behind a plus, of a length that a
+-- context may have.
 abbrev pub IsAskedBy : {A : Type 0} → List (String A) → Command → Type 0
 IsAskedBy words Samples = words ≡ []
 IsAskedBy words (Run file ctx_len) =

@@ -13,7 +13,7 @@ mod worlds;
 
 use anyhow::{Result, bail};
 use command::{Command, parse_words};
-use measure::{Activity, time_per_part};
+use measure::{Timed, time_per_call_part};
 use measurements::measurement_line;
 use report::sample_line;
 use samples::samples;
@@ -49,8 +49,8 @@ fn measure_file(rt: &HostRuntime, file: &str, ctx_len: usize) -> Result<()>
     let finished = counted_run(&trial);
     let exit = finished.value;
     let instructions = finished.steps;
-    let run_time = time_per_part(alloc, rt, Activity::Runs, &trial, instructions as u64)?;
-    let verify_time = time_per_part(alloc, rt, Activity::Verifications, &trial, 1000)?;
+    let run_time = time_per_call_part(alloc, rt, Timed::Runs, &trial, instructions as u64)?;
+    let verify_time = time_per_call_part(alloc, rt, Timed::Verifications, &trial, 1000)?;
     println!(rt; "exit {exit}")?;
     println!(rt; "instructions {instructions}")?;
     rt.println(measurement_line(alloc, "run_ns_per_instruction", run_time)?)?;

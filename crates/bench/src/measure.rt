@@ -17,7 +17,7 @@ const MOST_DOUBLINGS: u32 = 24;
 
 /// What is timed.
 #[derive(Clone, Copy, Debug, PartialEq, Eq)]
-pub enum Activity {
+pub enum Timed {
     /// Runs of the program to its exit.
     Runs,
     /// Verifications of the program.
@@ -75,31 +75,26 @@ fn time_verifications(
 fn time_of(
     alloc: Global,
     clock: &impl Clock,
-    activity: Activity,
+    timed: Timed,
     trial: &Trial,
     calls: u32,
 ) -> Result<Duration>
     requires { IsReadyTrial trial.now }
 {
-    match activity {
-        Activity::Runs => time_runs(clock, trial, calls),
-        Activity::Verifications => time_verifications(alloc, clock, trial, calls),
+    match timed {
+        Timed::Runs => time_runs(clock, trial, calls),
+        Timed::Verifications => time_verifications(alloc, clock, trial, calls),
     }
 }
 
 /// A number of calls that take long enough to be timed.
-fn calls_of_batch(
-    alloc: Global,
-    clock: &impl Clock,
-    activity: Activity,
-    trial: &Trial,
-) -> Result<u32>
+fn calls_of_batch(alloc: Global, clock: &impl Clock, timed: Timed, trial: &Trial) -> Result<u32>
     requires { IsReadyTrial trial.now }
     ensures { IfOk result (λ calls. 0 < calls) }
 {
     for doublings in 0..MOST_DOUBLINGS {
         let calls = 1 << doublings;
-        if time_of(alloc, clock, activity, trial, calls)? >= Duration::from_millis(LEAST_MILLIS) {
+        if time_of(alloc, clock, timed, trial, calls)? >= Duration::from_millis(LEAST_MILLIS) {
             return Ok(calls);
         }
     }
@@ -108,10 +103,10 @@ fn calls_of_batch(
 
 /// The time of one call in nanoseconds, divided further by `parts`: the mean of the quickest of some
 /// batches, each long enough for the clock.
-pub fn time_per_part(
+pub fn time_per_call_part(
     alloc: Global,
     clock: &impl Clock,
-    activity: Activity,
+    timed: Timed,
     trial: &Trial,
     parts: u64,
 ) -> Result<Decimal>
@@ -119,10 +114,10 @@ pub fn time_per_part(
     requires positive { 0 < parts }
     requires small { parts < 2 ^ 32 }
 {
-    let calls = calls_of_batch(alloc, clock, activity, trial)?;
+    let calls = calls_of_batch(alloc, clock, timed, trial)?;
     let mut best = Duration::MAX;
     for _ in 0..BATCHES {
-        let time = time_of(alloc, clock, activity, trial, calls)?;
+        let time = time_of(alloc, clock, timed, trial, calls)?;
         if time < best {
             best = time;
         }

@@ -27,12 +27,13 @@ update_error flags present linked m =
     else if length m.bag == 0 then Some NoMemory
     else None
 
--- An element is born in any of the free map slots and linked, and the element that the key had is
--- unlinked: it keeps its value.
+-- a linked element, in a map slot that was used so often before
 abbrev pub newborn : ℕ → List ℕ → List ℕ → ℕ → Element
 newborn map key value count =
     record { map = map; key = key; value = value; uses = count + 1; life = Linked }
 
+-- An element is born in any of the free map slots and linked, and the element that the key had is
+-- unlinked: it keeps its value.
 pub record Replaces (s : Store) (opened : List Section) (map : ℕ) (m : MapState)
     (key value : List ℕ) (found : Option ℕ) (new : Store) : Type 0 where
   pub count : ℕ

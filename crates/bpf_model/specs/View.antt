@@ -69,7 +69,7 @@ new_map_view shape = record {
   worn = 0;
 }
 
--- A run: the number of its program, its context, eleven untyped words, the bytes of its frame, the
+-- A run: the number of its program, its context, `REGISTERS` untyped words, the bytes of its frame, the
 -- slot where its next instruction begins, how many of its locks are open, how many of its steps
 -- have led further on, and its exit value.
 pub record RunView : Type 0 where

@@ -1,4 +1,4 @@
-//! What an opcode byte says (RFC 9669, sections 3.1 and 4 to 5).
+//! What an opcode byte says (RFC 9669, sections 3 to 5).
 
 /// How many bits an operation or a comparison works on: the low 32 (classes ALU and JMP32), or all 64
 /// (classes ALU64 and JMP).

@@ -55,7 +55,7 @@ impl Reg {
         self.number
     }
 
-    /// Its number as an index into eleven registers.
+    /// Its number as an index into `REGISTERS` registers.
     pub fn index(self) -> usize
         ensures value { result ≡ self }
         ensures bound { result < REGISTERS }

@@ -10,25 +10,25 @@ use Rattle.verifier.specs.declared.refusal.ProgramRefusal.{ProgramRefusal}
 use Rattle.verifier.specs.Numbers.{refusal_number, refusal_slot}
 use Rattle.commands.specs.declared.report.Verdict.{Verdict}
 
--- the bytes of the program are faulty
+-- the verdict has the number and the slot of the decoder's fault, and no line
 pub record IsDecodeVerdict (f : DecodeFault) (v : Verdict) : Type 0 where
   pub code : v.code ≡ decode_fault_number f
   pub slot : v.slot ≡ decode_fault_slot f
   pub line : v.line ≡ None
 
--- the program is refused
+-- the verdict has the number and the slot of the verifier's refusal, and no line
 pub record IsRefusalVerdict (r : ProgramRefusal) (v : Verdict) : Type 0 where
   pub code : v.code ≡ refusal_number r
   pub slot : v.slot ≡ refusal_slot r
   pub line : v.line ≡ None
 
--- the file is faulty
+-- the verdict has the number and the line of the file's fault, and no slot
 pub record IsLoadVerdict (f : LoadFault) (v : Verdict) : Type 0 where
   pub code : v.code ≡ load_fault_number f
   pub slot : v.slot ≡ None
   pub line : v.line ≡ load_fault_line f
 
--- the pool gives no results
+-- the verdict has the number of the pool's fault, and neither slot nor line
 pub record IsPoolFaultVerdict (f : PoolFault) (v : Verdict) : Type 0 where
   pub code : v.code ≡ pool_fault_number f
   pub slot : v.slot ≡ None

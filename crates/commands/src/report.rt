@@ -11,8 +11,8 @@ use std::io::Write;
 use verifier::ProgramRefusal;
 use worker_pool::PoolFault;
 
-/// Why a file is refused: a number, and the slot of the program or the line of the file at which it
-/// is, where it has one.
+/// Why a file, or a pool of its program, is refused: a number, and the slot of the program or the
+/// line of the file at which it is, where it has one.
 #[derive(Clone, Copy, Debug, PartialEq, Eq)]
 pub struct Verdict {
     pub code: u8,

@@ -10,7 +10,7 @@ const HELP: &str = "\
 A program file is raw bytes, or a text with a context, maps and slots (docs/PROGRAM_FILES.md).
 `bpfrt COMMAND --help` says what a command reads, prints and answers.
 
-Status: 0 fine, 1 refused or a faulty file, 2 usage, 3 memory, reading or writing";
+Status: 0 fine, 1 refused or a wrong line, 2 usage, 3 memory, a lost result, reading or writing";
 
 /// Behind the arguments of `bpfrt check --help`.
 const CHECK_HELP: &str = "\

@@ -171,7 +171,7 @@ fn filled(alloc: Global, front: &[u8], byte: u8, count: usize) -> Result<Vec<u8>
     Ok(line)
 }
 
-/// Keys of 64 and 65 bytes, values and contexts of 256 and 257.
+/// Keys of `KEY_BYTES` bytes and of one more, contexts of `CTX_BYTES` and of one more.
 #[test]
 fn long_bytes(rt: HostRuntime) -> Result<(), Fail> {
     let alloc = rt.alloc();
@@ -179,18 +179,18 @@ fn long_bytes(rt: HostRuntime) -> Result<(), Fail> {
     let long_key = shown(alloc, &filled(alloc, b"get m ", b'a', 130)?)?;
     let odd_key = shown(alloc, &filled(alloc, b"get m ", b'a', 129)?)?;
     let no_key = shown(alloc, &filled(alloc, b"get m ", b'g', 130)?)?;
-    let value = shown(alloc, &filled(alloc, b"start 0 ", b'F', 512)?)?;
-    let long_value = shown(alloc, &filled(alloc, b"start 0 ", b'F', 514)?)?;
+    let context = shown(alloc, &filled(alloc, b"start 0 ", b'F', 512)?)?;
+    let long_context = shown(alloc, &filled(alloc, b"start 0 ", b'F', 514)?)?;
     assert_eq!(rt; key.len(), 7 + 128);
     assert_eq!(rt; long_key.as_str(), "get m :..");
     assert_eq!(rt; odd_key.as_str(), "bad");
     assert_eq!(rt; no_key.as_str(), "bad");
-    assert_eq!(rt; value.len(), 9 + 512);
-    assert_eq!(rt; long_value.as_str(), "start 0 :..");
+    assert_eq!(rt; context.len(), 9 + 512);
+    assert_eq!(rt; long_context.as_str(), "start 0 :..");
     Ok(())
 }
 
-/// A line has at most 70,000 bytes, a comment too.
+/// A line has at most `LINE_BYTES` bytes, a comment too.
 #[test]
 fn long_lines(rt: HostRuntime) -> Result<(), Fail> {
     let alloc = rt.alloc();

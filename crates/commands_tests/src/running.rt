@@ -8,14 +8,18 @@ use std::sync::Wait;
 use std::test::Fail;
 use std::thread::Threads;
 
+/// Exits with 1.
 pub const EXIT_ONE: [u8; 16] = [0xb7, 0, 0, 0, 1, 0, 0, 0, 0x95, 0, 0, 0, 0, 0, 0, 0];
 
+/// An exit alone.
 pub const EXIT: [u8; 8] = [0x95, 0, 0, 0, 0, 0, 0, 0];
 
+/// A program with a wide instruction.
 pub const WIDE: [u8; 24] = [
     0x18, 0, 0, 0, 1, 0, 0, 0, 0, 0, 0, 0, 2, 0, 0, 0, 0x95, 0, 0, 0, 0, 0, 0, 0,
 ];
 
+/// A text with one map, and a lookup in it.
 pub const LOOKUP_FILE: &[u8] = b"bpfrt 1\nctx 0\nmap m 4 8 1 0 2\ncode\n\
 b706000000000000 8520000001000000\n620AFCFF00000000 bfa2000000000000 07020000fcffffff\n\
 1851000000000000 0000000000000000 8500000001000000 1500010000000000\n\

@@ -36,7 +36,7 @@ load_made old command ctx_len code names reply made before after is r text = (
 
 -- the command that makes the world is neither `map` nor `load`
 module _ (old : SetupView) (replies : List Reply) (live : Live) (starts : TracksStart old) where
-  pub world_made : (command : Command) → ((name : List ℕ) (shape : ShapeNumbers) → command ≡ commands.Map name shape → ⊥) → ((ctx_len : ℕ) (code : List ℕ) (names : List (List ℕ)) → command ≡ commands.Load ctx_len code names → ⊥) → (r : LiveReplies (sealed old) command replies live) → SetupReplies old command r.events replies (sessions.Live live)
+  pub world_made : (command : Command) → ((name : List ℕ) (shape : ShapeNumbers) → command ≡ commands.Map name shape → ⊥) → ((ctx_len : ℕ) (code : List ℕ) (names : List (List ℕ)) → command ≡ commands.Load ctx_len code names → ⊥) → (r : LiveReplies (sealed old) command replies live) → SetupReplies old command r.served.events replies (sessions.Live live)
   world_made (commands.Map name shape) no_map no_load r = absurd (no_map name shape refl)
   world_made (commands.Load ctx_len code names) no_map no_load r = absurd (no_load ctx_len code names refl)
   world_made (commands.Put name key value flags) no_map no_load r = (starts, (live, r, refl, refl))

@@ -42,14 +42,14 @@ same_run made before events old new e n r =
 -- in a world
 world_runs : (made : SetupView) (before events : List Event) (old : Live) (command : Command) (replies : List Reply) (new : Session) → TracksStart made → Happen (sealed made).world before old.world → WorldReplies old command events replies new → Onward made (before ++ events) new
 world_runs made before events old command replies new starts h (live, r, e, n) =
-    let more = happen_more (sealed made).world old.world live.world before r.events h r.happened in
+    let more = happen_more (sealed made).world old.world live.world before r.served.events h r.served.happened in
     let there : Onward made (before ++ events) (sessions.Live live) = (made, refl, (starts, subst (λ (xs : List Event). Happen (sealed made).world (before ++ xs) live.world) (sym e) more)) in
     subst (λ (s : Session). Onward made (before ++ events) s) (sym n) there
 
 -- in a world that is made
 first_runs : (made : SetupView) (before events : List Event) (old : SetupView) (command : Command) (replies : List Reply) (new : Session) → made ≡ old → before ≡ [] → TracksStart old → WorldReplies (sealed old) command events replies new → Onward made (before ++ events) new
 first_runs made before events old command replies new m b starts (live, r, e, n) =
-    let there : Onward made (before ++ events) (sessions.Live live) = (old, sym m, (starts, subst (λ (xs : List Event). Happen (sealed old).world xs live.world) (sym e ∙ sym (ap (λ (xs : List Event). xs ++ events) b)) r.happened)) in
+    let there : Onward made (before ++ events) (sessions.Live live) = (old, sym m, (starts, subst (λ (xs : List Event). Happen (sealed old).world xs live.world) (sym e ∙ sym (ap (λ (xs : List Event). xs ++ events) b)) r.served.happened)) in
     subst (λ (s : Session). Onward made (before ++ events) s) (sym n) there
 
 -- before there is a world

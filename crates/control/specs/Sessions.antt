@@ -38,7 +38,7 @@ TracksStart s = TracksSchedule (sealed s).world (start_schedule (shapes_made s) 
 -- A command that a world is for, once it is there.
 abbrev pub WorldReplies : Live → Command → List Event → List Reply → Session → Type 0
 WorldReplies old command events replies new =
-    (live : Live) × (r : LiveReplies old command replies live) × (events ≡ r.events)
+    (live : Live) × (r : LiveReplies old command replies live) × (events ≡ r.served.events)
     × (new ≡ sessions.Live live)
 
 -- one reply and no event, while maps and programs are being made

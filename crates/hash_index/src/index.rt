@@ -26,7 +26,7 @@ pub trait Index {
         ensures empty { IfOk result (λ x. (a : ArenaState) → length a.slots ≤ slots →
             contents x a ≡ map.empty) };
 
-    /// The map slot of a key, if there is one.
+    /// The slot of a key, if there is one.
     fn find(&self, arena: &Arena, key: &[u8]) -> Option<usize>
         requires { fits self.now arena.now }
         ensures { result ≡ map.get (contents self.now arena.now) key.now };

@@ -1,4 +1,4 @@
--- Where an instruction begins.
+-- The slots with which an instruction begins.
 use Rattle.std.specs.Prelude.{◌≡◌, ◌∷◌, take, Option, option_to_list}
 use Rattle.bpf_model.specs.declared.slot.Slot.{Slot}
 use Rattle.bpf_model.specs.declared.insn.Insn.{Insn}

@@ -117,7 +117,8 @@ tail_flaw Wide s None = Some WideCut
 tail_flaw Wide s (Some t) = if is_tail s t then None else Some WideTail
 tail_flaw _ _ _ = None
 
--- the first of the tests that follow that of the opcode, in their order
+-- The first of the tests that follow that of the opcode, in their order; registers are 0 to 10
+-- (section 3.1).
 abbrev pub flaw_with : Opcode → Slot → Option Slot → Option InsnFlaw
 flaw_with o s next =
     if nat_lt 10 s.dst || nat_lt 10 s.src then Some BadRegister else
@@ -127,7 +128,7 @@ flaw_with o s next =
     if has_bad_width o s then Some BadWidth else
     tail_flaw o s next
 
--- the opcode that a byte stands for, if it stands for one
+-- the opcode that a byte stands for, if it stands for one (sections 3 to 5)
 abbrev pub IsOpcode : ℕ → Option Opcode → Type 0
 IsOpcode byte None = (o : Opcode) → opcode_byte o ≢ byte
 IsOpcode byte (Some o) = opcode_byte o ≡ byte

@@ -1,4 +1,4 @@
-//! Opcodes as bytes, and back (RFC 9669, sections 3.1, 4 and 5).
+//! Opcodes as bytes, and back (RFC 9669, sections 3 to 5).
 ghost use Rattle.std.specs.Prelude.{◌≡◌, ◌<◌, ◌%◌, ◌⊎◌, IfSome, Some};
 ghost use Rattle.bpf_model.specs.declared.opcode.Opcode.{Opcode};
 ghost use Rattle.bpf_model.specs.Opcode.{opcode_byte, alu_code, alu_class, jump_class, condition_code, source_bit, width_code, signed_width_code, store_class, swap_byte, excluded_byte};

@@ -26,6 +26,8 @@ AreFree runs = (r : ℕ) → run_at runs r ≡ None
 abbrev pub HasNoRuns : WorldView → Type 0
 HasNoRuns w = AreFree w.runs
 
+-- From the base, a world without runs, the reactions to the entries' events are the entries'
+-- answers, and lead to this world.
 pub record Replays (base world : WorldView) (entries : List Entry) : Type 0 where
   pub quiet : HasNoRuns base
   pub base_is : IsWorld base

@@ -19,19 +19,20 @@ is_step answer = false
 abbrev pub steps_of : List Entry → ℕ
 steps_of entries = count_by (λ e. is_step e.answer) entries
 
--- The machine's elements that were ever unlinked, and those of them that were reclaimed.
+-- How many of the machine's elements were ever unlinked, and how many of them reclaimed.
 abbrev pub ever_unlinked : Machine → ℕ
 ever_unlinked m = count_by (λ e. not (is_linked e.life)) m.store.elements
 
 abbrev pub ever_reclaimed : Machine → ℕ
 ever_reclaimed m = count_by (λ e. is_reclaimed e.life) m.store.elements
 
--- the elements that are unlinked and not yet reclaimed
+-- how many elements are unlinked and not yet reclaimed
 abbrev pub unreclaimed_in : WorldView → ℕ
 unreclaimed_in w = sum_by unlinked_in w.maps
 
 -- How many elements were ever reclaimed, and ever unlinked, as a world knows it, which keeps no
--- reclaimed element: those that it reclaimed, and those that wait.
+-- reclaimed element: those that it has reclaimed; and these together with those that wait in its
+-- lists.
 abbrev pub reclaimed_total : WorldView → ℕ
 reclaimed_total w = w.given
 

@@ -53,7 +53,8 @@ pub record IsMap (shape : MapShape) (p : PartsView) (linked : ℕ) : Type 0 wher
 abbrev pub IsOccupied : MapView → ℕ → Type 0
 IsOccupied v i = IsInUse v.index v.slots (lists_of v) i
 
--- No slot is free, unless an earlier test of an update fails.
+-- The test of an update that fails first, given the first that fails of those before the last: the
+-- last asks for a free map slot.
 abbrev pub or_no_memory : Option Errno → MapState → Option Errno
 or_no_memory (Some e) m = Some e
 or_no_memory None m = if length m.bag == 0 then Some NoMemory else None

@@ -45,7 +45,7 @@ impl<I: Index, D: Deferred> Model for HashMap<I, D> {
     ghost invariant = { λ h. IsCounted h.shape h.parts h.counts };
 }
 
-/// Which test of an update fails first, but for the last: that a slot is free.
+/// Which test of an update fails first, but for the last: that a map slot is free.
 fn refusal(flags: u64, present: bool, linked: usize, entries: usize) -> Option<Errno>
     ensures tested { (m : MapState) → m.shape.entries ≡ entries →
         update_error flags present linked m ≡ or_no_memory result m }

@@ -80,11 +80,11 @@ impl PlainRun {
     }
 
     /// A cell of the frame, by its offset from the frame's start.
-    pub fn cell(&self, index: usize) -> Cell
-        requires { index < FRAME_BYTES }
-        ensures { result ≡ (plain_state_of self.now).frame index }
+    pub fn cell(&self, offset: usize) -> Cell
+        requires { offset < FRAME_BYTES }
+        ensures { result ≡ (plain_state_of self.now).frame offset }
     {
-        self.frame[index]
+        self.frame[offset]
     }
 
     /// The slot where the next instruction begins.

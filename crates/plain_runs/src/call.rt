@@ -117,12 +117,12 @@ fn map_argument(run: &Run, program: &Loaded) -> Option<usize>
     }
 }
 
-/// The byte in a cell of the frame. `None` when it isn't written as a byte.
-fn byte_in(run: &PlainRun, index: usize) -> Option<u8>
-    requires { index < FRAME_BYTES }
-    ensures { result ≡ byte_of ((plain_state_of run.now).frame index) }
+/// The byte in a cell of the frame, by its offset. `None` when it isn't written as a byte.
+fn byte_in(run: &PlainRun, offset: usize) -> Option<u8>
+    requires { offset < FRAME_BYTES }
+    ensures { result ≡ byte_of ((plain_state_of run.now).frame offset) }
 {
-    match run.cell(index) {
+    match run.cell(offset) {
         Cell::Byte(byte) => Some(byte),
         _ => None,
     }

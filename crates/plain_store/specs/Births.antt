@@ -12,7 +12,7 @@ use Rattle.bpf_model.specs.Helper.{Replaces}
 abbrev pub HasFree : Store → ℕ → Type 0
 HasFree s map = (m : MapState) → slice_get s.maps map ≡ Some m → 0 < length m.bag
 
--- the map's state, and the replacement by it
+-- the replacement, by the state of the map where there is one
 abbrev pub ReplacesIn : Store → List Section → ℕ → List ℕ → List ℕ → Option ℕ → Store → Type 0
 ReplacesIn s opened map key value found new =
     (m : MapState) → slice_get s.maps map ≡ Some m → Replaces s opened map m key value found new

@@ -56,7 +56,8 @@ pub record AreJoined (a b c : Known) : Type 0 where
   pub regs : (r : ℕ) → IsJoinedKind (a.regs r) (b.regs r) (c.regs r)
   pub cells : (k : ℕ) → IsJoinedCell (a.cells k) (b.cells k) (c.cells k)
 
--- The class of a byte of either class, where the references that were stored join to one.
+-- The class of a byte of either class; `kept` says whether the references that were stored join to
+-- one.
 abbrev pub joined_class : classes.CellKind → classes.CellKind → Bool → classes.CellKind
 joined_class Byte Byte kept = Byte
 joined_class Part Part kept = if kept then Part else class.Mixed

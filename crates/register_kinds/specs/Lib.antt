@@ -4,6 +4,4 @@ pub mod Pairs
 pub mod JoinTable
 pub mod Changes
 pub mod FaultNumbers
-pub mod Forks
-pub mod Performs
 pub mod Tests

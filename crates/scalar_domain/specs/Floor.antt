@@ -1,5 +1,4 @@
--- How narrow the results are, at least: what `apply` and `refine` promise, and what a crate above
--- can promise of registers.
+-- How narrow the results are, at least: what `apply`, `unary`, `refine` and `loaded` promise.
 use Rattle.std.specs.Prelude.{◌≡◌, ◌≢◌, ℕ, ◌<◌, ◌^◌, Bool}
 use Rattle.std.specs.Int.{w64}
 use mir.Val.{bits}

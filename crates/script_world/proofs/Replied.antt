@@ -15,11 +15,13 @@ use Rattle.script_world.specs.Replies.{Replies}
 -- many replies
 pub replied : (old : Live) (question asked : Asked) (events : List Event) (replies : List Reply) (world : WorldView) (before after : List ℕ) → question ≡ asked → Happen old.world events world → Replies old.names old.world asked events replies world → after ≡ before ++ flat_map reply_text replies → IsReplied old question before after (record { names = old.names; world = world })
 replied old question asked events replies world before after is h r text = record {
-  events = events;
-  happened = h;
   replies = replies;
-  replied = subst (λ (q : Asked). Replies old.names old.world q events replies world) (sym is) r;
-  names = refl;
+  served = record {
+    events = events;
+    happened = h;
+    replied = subst (λ (q : Asked). Replies old.names old.world q events replies world) (sym is) r;
+    names = refl;
+  };
   text = text;
 }
 

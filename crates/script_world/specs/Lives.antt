@@ -24,23 +24,24 @@ pub record Happen (w : WorldView) (events : List Event) (new : WorldView) : Type
   pub new_is : new ≡ (full_reactions w events).1
   pub machine : AreScheduledAnswers TracksSchedule w events (full_reactions w events).0 new
 
--- The world is asked what the command says of its maps' names; these events happen in it, and these
--- are the replies. The names stay.
-pub record LiveReplies (old : Live) (command : Command) (replies : List Reply) (new : Live)
+-- What is asked is served by these events, which happen, and these are the replies. The names stay.
+pub record AskedReplies (old : Live) (asked : Asked) (replies : List Reply) (new : Live)
     : Type 0 where
-  pub asked : Asked
-  pub is_asked : IsAsked old.names command asked
   pub events : List Event
   pub happened : Happen old.world events new.world
   pub replied : Replies old.names old.world asked events replies new.world
   pub names : new.names ≡ old.names
 
+-- The world is asked what the command says of its maps' names, and these are the replies.
+pub record LiveReplies (old : Live) (command : Command) (replies : List Reply) (new : Live)
+    : Type 0 where
+  pub asked : Asked
+  pub is_asked : IsAsked old.names command asked
+  pub served : AskedReplies old asked replies new
+
 -- What is asked is replied, and the text of the replies is added.
 pub record IsReplied (old : Live) (question : Asked) (before after : List ℕ) (new : Live) :
     Type 0 where
-  pub events : List Event
-  pub happened : Happen old.world events new.world
   pub replies : List Reply
-  pub replied : Replies old.names old.world question events replies new.world
-  pub names : new.names ≡ old.names
+  pub served : AskedReplies old question replies new
   pub text : after ≡ before ++ flat_map reply_text replies

@@ -16,13 +16,13 @@ use Rattle.bpf_model.specs.Access.{byte_count, unsigned_width, region_offset}
 use Rattle.bpf_model.specs.declared.opcode.Width.{Width}
 use Rattle.bpf_model.specs.declared.opcode.SignedWidth.{SignedWidth}
 use Rattle.bpf_model.specs.declared.limits.TheConstants.{FRAME_BYTES}
-use Rattle.memory_effects.specs.Accesses.{ReachesFrame, ReadsBytes}
+use Rattle.effects.specs.Accesses.{ReachesFrame, ReadsBytes}
 use Rattle.scalar_domain.specs.declared.scalar.Scalar.{Scalar}
 use Rattle.typed_runs.specs.Kinds.{Kind, CellKind, Num, FrameAt, ByteCell, AbsState}
 use Rattle.typed_runs.specs.Effects.{with_kind, with_cells, IsNumberOperand, HasNumber}
 use Rattle.typed_runs.specs.Planned.{AreAlike}
-use Rattle.compute_effects.specs.Computes.{ReadsNumber}
-use Rattle.control_effects.specs.Narrowing.{AreNarrowed}
+use Rattle.effects.specs.Computes.{ReadsNumber}
+use Rattle.effects.specs.Narrowing.{AreNarrowed}
 use Rattle.state_steps.specs.Facts.{Register as RegisterFact, FrameByte, FramePointer, Section, KeepsFacts, ReadsNumbers, IsReadyInsn}
 use Rattle.bpf_model.proofs.Bytes.{within}
 use Rattle.register_kinds.proofs.Setting.{set-there, set-elsewhere}

@@ -14,8 +14,8 @@ use Rattle.bpf_model.specs.Call.{helper_of, kernel_function_of}
 use Rattle.bpf_model.specs.declared.call.Helper.TheVariants as helpers
 use Rattle.bpf_model.specs.declared.insn.CallKind.{CallKind}
 use Rattle.bpf_model.specs.declared.insn.CallKind.TheVariants as callee
-use Rattle.call_effects.proofs.Effects.{returned_above}
-use Rattle.call_effects.specs.Calls.{FindsIn, Called, Splits, section_fault, outcome_of}
+use Rattle.effects.proofs.Effects.{returned_above}
+use Rattle.effects.specs.Calls.{FindsIn, Called, Splits, section_fault, outcome_of}
 use Rattle.register_kinds.specs.declared.fault.InsnFault.{InsnFault}
 use Rattle.std.proofs.lemmas.Option.{slice_get_within}
 use Rattle.bpf_model.specs.declared.insn.Operand.{Operand}
@@ -25,7 +25,7 @@ use Rattle.bpf_model.specs.declared.opcode.Condition.{Condition}
 use Rattle.bpf_model.specs.declared.opcode.Condition.TheVariants.{Equal}
 use Rattle.bpf_model.specs.declared.opcode.Width.{Width}
 use Rattle.bpf_model.specs.declared.opcode.SignedWidth.{SignedWidth}
-use Rattle.memory_effects.specs.Accesses.{ReadsValue}
+use Rattle.effects.specs.Accesses.{ReadsValue}
 use Rattle.register_kinds.specs.declared.learn.Lesson.TheVariants.{IsNull, IsThere}
 use Rattle.register_kinds.specs.Changes.{learnt, learnt_kind, learnt_cell}
 use Rattle.state_steps.specs.Stepped.{IsEqualToNull}

@@ -31,13 +31,13 @@ use Rattle.register_kinds.specs.declared.kind.RegKind.TheVariants as kinds
 use Rattle.register_kinds.specs.declared.state.AbsState.{AbsState}
 use Rattle.register_kinds.specs.States.{kind_of, kind_in, state_of}
 use Rattle.register_kinds.specs.Pairs.{AreBelow}
-use Rattle.memory_effects.specs.declared.region.Region.{Region}
-use Rattle.memory_effects.specs.declared.region.Region.TheVariants as regions
-use Rattle.memory_effects.specs.Accesses.{IsBase}
+use Rattle.effects.specs.declared.region.Region.{Region}
+use Rattle.effects.specs.declared.region.Region.TheVariants as regions
+use Rattle.effects.specs.Accesses.{IsBase}
 use Rattle.register_kinds.specs.States.{kind_at}
-use Rattle.register_kinds.specs.Forks.{Forks, ForksOnNull}
-use Rattle.call_effects.specs.Calls.{Splits}
-use Rattle.control_effects.specs.Narrowing.{ComparesNumbers}
+use Rattle.effects.specs.Forks.{Forks, ForksOnNull}
+use Rattle.effects.specs.Calls.{Splits}
+use Rattle.effects.specs.Narrowing.{ComparesNumbers}
 use Rattle.state_steps.specs.declared.flow.Flow.{Flow}
 use Rattle.state_steps.specs.Steps.{IsBranch, base_of, IsInRegion, Compares, IsComparable}
 use Rattle.state_steps.specs.Facts.{IsReadyInsn, KeepsFacts}

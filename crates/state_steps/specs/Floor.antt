@@ -11,11 +11,11 @@ use Rattle.scalar_domain.specs.Scalar.{IsConstant}
 use Rattle.scalar_domain.specs.Floor.{KeepsUnaryFloor}
 use Rattle.typed_runs.specs.Kinds.{Num, AbsState as Known}
 use Rattle.typed_runs.specs.Effects.{HasNumber}
-use Rattle.memory_effects.specs.Accesses.{LoadsKnown}
-use Rattle.register_kinds.specs.Performs.{IsNumbers}
-use Rattle.compute_effects.specs.Floor.{operand_kind, LeavesKnown}
-use Rattle.control_effects.specs.Narrowing.{NarrowsKnown}
-use Rattle.call_effects.specs.Calls.{KeepsNumbersIn}
+use Rattle.effects.specs.Accesses.{LoadsKnown}
+use Rattle.effects.specs.Performs.{IsNumbers}
+use Rattle.effects.specs.Floor.{operand_kind, LeavesKnown}
+use Rattle.effects.specs.Narrowing.{NarrowsKnown}
+use Rattle.effects.specs.Calls.{KeepsNumbersIn}
 
 -- From the first state the instruction leads to the second, and to the third where it is a jump
 -- that is taken. Operations of numbers leave numbers as narrow as the scalar domain promises; a

@@ -10,7 +10,7 @@ use Rattle.bpf_model.specs.PlainMaps.{KeyAddress, MapLoad, LookupCall, NullTest,
 use Rattle.bpf_model.specs.PlainMaps.{part_insn, IsFitting}
 use Rattle.scalar_domain.specs.declared.scalar.Scalar.{Scalar}
 use Rattle.typed_runs.specs.Kinds.{FrameAt, MapAt, ValueAt, MaybeNull, AbsState as Known}
-use Rattle.memory_effects.specs.Accesses.{IsStart}
+use Rattle.effects.specs.Accesses.{IsStart}
 use Rattle.state_steps.specs.Facts.{Fact, Register, FrameByte, FramePointer, Section, FactHolds}
 
 abbrev pub IsKeyWritten : Lookup → Known → Type 0

@@ -19,7 +19,7 @@ use Rattle.register_kinds.specs.Pairs.{AreBelow}
 use Rattle.register_kinds.specs.declared.kind.RegKind.TheVariants as kinds
 use Rattle.register_kinds.specs.States.{kind_in, state_of}
 use Rattle.register_kinds.specs.declared.fault.InsnFault.{InsnFault}
-use Rattle.memory_effects.specs.declared.region.Region.{Region}
+use Rattle.effects.specs.declared.region.Region.{Region}
 use Rattle.state_steps.specs.declared.flow.Flow.{Flow}
 use Rattle.state_steps.specs.Steps.{IsBranch, taken_state, base_of, IsInRegion, Compares}
 use Rattle.state_steps.specs.Steps.{IsComparable, IsFine}

@@ -17,8 +17,8 @@ use Rattle.typed_runs.specs.Describes.{Scene, IsHeld}
 use Rattle.register_kinds.specs.declared.state.AbsState.{AbsState}
 use Rattle.register_kinds.specs.declared.fault.InsnFault.{InsnFault}
 use Rattle.register_kinds.specs.declared.fault.InsnFault.TheVariants.{Memory}
-use Rattle.memory_effects.specs.declared.region.Region.{Region}
-use Rattle.memory_effects.specs.declared.region.Region.TheVariants as regions
+use Rattle.effects.specs.declared.region.Region.{Region}
+use Rattle.effects.specs.declared.region.Region.TheVariants as regions
 use Rattle.state_steps.specs.declared.flow.Flow.{Flow}
 
 -- the instruction both falls through and jumps

@@ -5,7 +5,7 @@ ghost use Rattle.state_steps.specs.Stepped.{Stepped};
 
 use crate::flow::{Flow, single};
 use bpf_model::{Insn, Operand, Reg, SignedWidth, Width};
-use memory_effects::{Address, EnvironmentShape, load, load_signed, store};
+use effects::{Address, EnvironmentShape, load, load_signed, store};
 use register_kinds::{AbsState, InsnFault};
 
 /// A load without sign.

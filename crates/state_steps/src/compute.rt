@@ -6,8 +6,7 @@ ghost use Rattle.state_steps.specs.Stepped.{Stepped};
 
 use crate::flow::{Flow, single};
 use bpf_model::{AluOp, Insn, Operand, Reg, Size, UnaryOp};
-use compute_effects::{alu, load_map, load_number, unary};
-use memory_effects::{EnvironmentShape, Region};
+use effects::{EnvironmentShape, Region, alu, load_map, load_number, unary};
 use register_kinds::{AbsState, InsnFault};
 
 /// An operation of two operands.

@@ -6,17 +6,18 @@ ghost use Rattle.typed_runs.specs.Effects.{IsNumberOperand, HasNumber};
 ghost use Rattle.register_kinds.specs.declared.state.AbsState.{AbsState as StateHere};
 ghost use Rattle.register_kinds.specs.Pairs.{AreBelow, TakesFew};
 ghost use Rattle.register_kinds.specs.States.{state_of};
-ghost use Rattle.call_effects.specs.Calls.{Splits};
-ghost use Rattle.register_kinds.specs.Forks.{Forks};
-ghost use Rattle.control_effects.specs.Narrowing.{AreNarrowed, NarrowsKnown};
+ghost use Rattle.effects.specs.Calls.{Splits};
+ghost use Rattle.effects.specs.Forks.{Forks};
+ghost use Rattle.effects.specs.Narrowing.{AreNarrowed, NarrowsKnown};
 ghost use Rattle.state_steps.specs.Floor.{KeepsNumbers};
 ghost use Rattle.state_steps.specs.Stepped.{Stepped, ComparesWell, IsEqualToNull};
 
 use crate::flow::{Flow, single};
 use bpf_model::{CallKind, Condition, Insn, Operand, Reg, Size};
-use call_effects::{call, fork_null};
-use control_effects::{exit, fork, fork_value, jump_long_transfers, jump_transfers};
-use memory_effects::{EnvironmentShape, Region};
+use effects::{
+    EnvironmentShape, Region, call, exit, fork, fork_null, fork_value, jump_long_transfers,
+    jump_transfers,
+};
 use register_kinds::{AbsState, Identities, InsnFault, RegKind};
 use std::alloc::Global;
 

@@ -2,7 +2,7 @@
 ghost use Rattle.std.specs.Prelude.{◌≡◌};
 ghost use Rattle.state_steps.specs.Stepped.{single_flow};
 
-use memory_effects::Region;
+use effects::Region;
 use register_kinds::AbsState;
 
 /// What an instruction reaches, and the state where its conditional jump is taken. The state where

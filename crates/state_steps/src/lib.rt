@@ -7,6 +7,6 @@ mod control;
 mod flow;
 mod step;
 
+pub use effects::{EnvironmentShape, Region};
 pub use flow::Flow;
-pub use memory_effects::{EnvironmentShape, Region};
 pub use step::transfer;

@@ -16,7 +16,7 @@ use crate::compute::{alu_step, load_map_step, load_number_step, unary_step};
 use crate::control::{branch_step, call_step, exit_step, jump_long_step, jump_step};
 use crate::flow::Flow;
 use bpf_model::Insn;
-use memory_effects::{Address, EnvironmentShape};
+use effects::{Address, EnvironmentShape};
 use register_kinds::{AbsState, Identities, InsnFault};
 use std::alloc::Global;
 

@@ -10,7 +10,8 @@ pub record IsStocked (slots count : ℕ) (a : ArenaState) : Type 0 where
   pub long : length a.slots ≡ slots
   pub taken : (j : ℕ) → j < count → IsTaken a j
 
--- after so many were taken of an arena that was new
+-- An arena for keys of two bytes and values of one, of which so many slots were taken since it was
+-- new.
 pub record IsFilled (slots count : ℕ) (a : ArenaState) : Type 0 where
   pub long : length a.slots ≡ slots
   pub room : count ≤ slots

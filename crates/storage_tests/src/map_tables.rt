@@ -11,7 +11,7 @@ use std::process::Abort;
 use std::str::Split;
 use std::test::Fail;
 
-/// One-byte keys, two-byte values, at most two elements, and one slot more.
+/// One-byte keys, two-byte values, at most two elements, and one further map slot.
 pub(crate) const SMALL: MapShape = MapShape {
     key_len: 1,
     value_len: 2,
@@ -71,7 +71,7 @@ reap = 09 worn\n\
 reap = 07 worn\n\
 put 07 0102 0 = -12\n";
 
-/// One element, one slot more, two uses of each.
+/// One element, one further map slot, two uses of each.
 const PAIR: MapShape = MapShape {
     key_len: 4,
     value_len: 8,
@@ -80,7 +80,7 @@ const PAIR: MapShape = MapShape {
     reuse_limit: 2,
 };
 
-/// Two slots take turns, and each is worn after its second use.
+/// Two map slots take turns, and each is worn after its second use.
 const PAIR_LINES: &str = "put 00000000 0500000000000000 0 = 0\n\
 slot 00000000 = 0\n\
 del 00000000 = 0\n\

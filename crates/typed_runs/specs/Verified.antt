@@ -112,7 +112,7 @@ pub record IsClosed (code : List Insn) (shapes : List MapShape) (ctx_len : ℕ) 
       AllBytes new_store.elements × (new_run.exit ≡ None
       → IsPlannedAfter code plan k (scene_of new_store.elements new_run) new_run.state)
 
--- What a `Verified` has as its invariant.
+-- A program that is verified: some plan of it is closed. Each `Verified` (crate `verifier`) is one.
 pub record IsVerified (code : List Insn) (shapes : List MapShape) (ctx_len : ℕ) : Type 0 where
   pub plan : Plan
   pub closed : IsClosed code shapes ctx_len plan

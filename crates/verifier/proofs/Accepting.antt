@@ -25,7 +25,7 @@ use Rattle.register_kinds.specs.States.{state_of}
 use Rattle.register_kinds.specs.Joined.{IsJoinedKind, IsJoinedCell, AreJoined}
 use Rattle.register_kinds.specs.declared.fault.InsnFault.{InsnFault}
 use Rattle.register_kinds.specs.declared.fault.InsnFault.TheVariants as faults
-use Rattle.memory_effects.specs.declared.region.Region.{Region}
+use Rattle.effects.specs.declared.region.Region.{Region}
 use Rattle.state_steps.specs.Facts.{Fact, Register, FrameByte, FramePointer, Section, FactHolds, Makes, IsReadyInsn, KeepsFacts}
 use Rattle.state_steps.specs.Lookups.{IsKeyWritten, Expects, KeepsSaved, IsReadyPart, LeavesPart, IsReadySection, LeavesSection, IsReadyWithMaps, section_call}
 use Rattle.verifier.specs.declared.refusal.ProgramRefusal.{ProgramRefusal}

@@ -23,7 +23,7 @@ use Rattle.typed_runs.specs.Planned.{Covers, entry_state}
 use Rattle.typed_runs.proofs.Planning.{alike_wider}
 use Rattle.register_kinds.specs.declared.state.AbsState.{AbsState}
 use Rattle.register_kinds.specs.States.{state_of}
-use Rattle.memory_effects.specs.declared.region.Region.{Region}
+use Rattle.effects.specs.declared.region.Region.{Region}
 use Rattle.verifier.specs.declared.waiting.Waiting.{Waiting}
 use Rattle.verifier.specs.declared.waiting.Waiting.TheVariants.{Nothing, Differing}
 use Rattle.verifier.specs.SecondPass.{Awaited, Table, size_of, awaited, state_in, planned, Fell, Jumped, Spreads, Advances, Notes, Passed, IsPassed, DiffersAhead, Awaits, StartsFrom}

@@ -2,7 +2,7 @@
 use Rattle.std.specs.Prelude.{ℕ, List, Option}
 use Rattle.bpf_model.specs.declared.insn.Insn.{Insn}
 use Rattle.bpf_model.specs.declared.limits.MapShape.{MapShape}
-use Rattle.memory_effects.specs.declared.region.Region.{Region}
+use Rattle.effects.specs.declared.region.Region.{Region}
 
 pub record Checked : Type 0 where
   pub program : List Insn

@@ -10,7 +10,7 @@ use Rattle.program_graph.specs.Indexes.{HasTargets}
 use Rattle.typed_runs.specs.Kinds as model
 use Rattle.typed_runs.specs.Describes.{Scene}
 use Rattle.typed_runs.specs.Verified.{Plan, IsPlanned, IsClosed, IsVerified}
-use Rattle.memory_effects.specs.declared.region.Region.{Region}
+use Rattle.effects.specs.declared.region.Region.{Region}
 use Rattle.resolved_insns.specs.declared.record.ResolvedInsn.{ResolvedInsn}
 use Rattle.resolved_insns.specs.Resolved.{AreResolved}
 use Rattle.state_steps.specs.Steps.{base_of, IsInRegion, Compares, IsComparable}

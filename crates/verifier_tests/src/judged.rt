@@ -39,7 +39,7 @@ const WIDE: MapShape = MapShape {
     reuse_limit: 2,
 };
 
-/// Both, as the list of a program.
+/// `SHAPE` and `WIDE`, as the list of a program's maps.
 pub const MAPS: [MapShape; 2] = [SHAPE, WIDE];
 
 /// The program of these parts in turn, whose lines are parted by a semicolon and a space; `None` where they do

@@ -91,31 +91,31 @@ static ROWS: [Row; 47] = [
         context: 8,
         lines: "ldxb r9, [r1+0]; callbtf 1; stw [r10-4], 0; mov64 r2, r10; add64 r2, -4; ldmap r1, 0; call 1; mov64 r6, r0; mov64 r7, r0; jeq r9, 0, +6; mov64 r2, r10; add64 r2, -4; ldmap r1, 0; call 1; mov64 r7, r0; jeq r7, 0, +1; ldxdw r8, [r7+0]; callbtf 2; mov64 r0, 0; exit",
     },
-    // An index into a value of 8 bytes, of 0 to 7.
+    // An offset in a value of 8 bytes, of 0 to 7.
     Row {
         told: Accepted,
         context: 1,
         lines: "ldxb r6, [r1+0]; and64 r6, 7; callbtf 1; stw [r10-4], 0; mov64 r2, r10; add64 r2, -4; ldmap r1, 0; call 1; jne r0, 0, +3; callbtf 2; mov64 r0, 0; exit; add64 r0, r6; ldxb r6, [r0+0]; callbtf 2; mov64 r0, r6; exit",
     },
-    // An index into a value of 8 bytes, of 0 or 8.
+    // An offset in a value of 8 bytes, of 0 or 8.
     Row {
         told: At(27, 14),
         context: 1,
         lines: "ldxb r6, [r1+0]; and64 r6, 8; callbtf 1; stw [r10-4], 0; mov64 r2, r10; add64 r2, -4; ldmap r1, 0; call 1; jne r0, 0, +3; callbtf 2; mov64 r0, 0; exit; add64 r0, r6; ldxb r6, [r0+0]; callbtf 2; mov64 r0, r6; exit",
     },
-    // Two bytes at an index of 0, 2, 4 or 6.
+    // Two bytes at an offset of 0, 2, 4 or 6.
     Row {
         told: Accepted,
         context: 1,
         lines: "ldxb r6, [r1+0]; and64 r6, 6; callbtf 1; stw [r10-4], 0; mov64 r2, r10; add64 r2, -4; ldmap r1, 0; call 1; jne r0, 0, +3; callbtf 2; mov64 r0, 0; exit; add64 r0, r6; ldxh r6, [r0+0]; callbtf 2; mov64 r0, r6; exit",
     },
-    // Two bytes at an index of 0, 1, 4 or 5.
+    // Two bytes at an offset of 0, 1, 4 or 5.
     Row {
         told: At(28, 14),
         context: 1,
         lines: "ldxb r6, [r1+0]; and64 r6, 5; callbtf 1; stw [r10-4], 0; mov64 r2, r10; add64 r2, -4; ldmap r1, 0; call 1; jne r0, 0, +3; callbtf 2; mov64 r0, 0; exit; add64 r0, r6; ldxh r6, [r0+0]; callbtf 2; mov64 r0, r6; exit",
     },
-    // Two bytes at an index of 0 to 7, which is first of all too far.
+    // Two bytes at an offset of 0 to 7, which is first of all too far.
     Row {
         told: At(27, 14),
         context: 1,

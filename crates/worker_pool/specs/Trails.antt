@@ -69,6 +69,7 @@ pub record StopsAtStep (run : ℕ) (step : ReceiptView) (outcome : Outcome) : Ty
   pub event : step.event ≡ events.Step run
   pub stops : StopsBy step.reply (Some run) outcome
 
+-- the reply is an exit, with some value
 pub record HasExitReply (reply : Result Answer SharedFault) : Type 0 where
   pub value : ℕ
   pub is : reply ≡ Ok (answers.Exited value)

@@ -1,8 +1,8 @@
 //! The runtime: maps, programs and runs, as one value that answers events one after another.
 //!
 //! Its answers are those of the abstract machine whose elements are never used again. No run of it is ever
-//! stuck, each has exited after as many of its own steps as its program has instructions, and an element is
-//! reclaimed only when each section that was open at its unlinking has ended.
+//! stuck, each has exited after at most as many of its own steps as its program has instructions, and an element
+//! is reclaimed only when each section that was open at its unlinking has ended.
 #![tactic(auto)]
 
 mod apply;

@@ -52,8 +52,8 @@ pub record IsSound (w : WorldView) (s : Schedule) : Type 0 where
   pub maps : length w.maps ≤ MAX_MAPS
   pub programs : AreRealPrograms w.programs
 
--- What the step of a run may take for granted: a state that the world matches, with well-typed
--- runs.
+-- What the step of a run may take for granted: a schedule that the world matches, and for which it
+-- is sound.
 pub record IsMatched (w : WorldView) : Type 0 where
   pub schedule : Schedule
   pub matches : Matches w schedule

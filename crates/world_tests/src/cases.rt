@@ -394,7 +394,7 @@ step 0 1 = stuck\n",
 start 0 0101010101010101 = run 0\n\
 step 0 11 = exit 0\n",
     },
-    // An index below the value's length.
+    // An offset below the value's length.
     Case {
         setting: Setting {
             shape: SHAPE,
@@ -407,7 +407,7 @@ start 0 0b = run 0\n\
 step 0 13 = moved\n\
 step 0 1 = exit 3\n",
     },
-    // An index past the value.
+    // An offset past the value.
     Case {
         setting: Setting {
             shape: SHAPE,
@@ -624,8 +624,8 @@ fn answers_are_as_worked_out(rt: HostRuntime) -> Result<(), Fail> {
     Ok(())
 }
 
-/// All 64 run slots are taken; then 62, 63 and 64 in the order of their tests; steps and drops at each
-/// state of a run, 60, 61 and 67; and the lowest free slot is taken.
+/// All `MAX_RUNS` run slots are taken; then 62, 63 and 64 in the order of their tests; steps and drops at each
+/// state of a run, 60, 61 and 67; and the lowest free run slot is taken.
 fn full_table(alloc: Global) -> Result<String, Fail> {
     let mut events = String::new(alloc);
     for slot in 0..64usize {

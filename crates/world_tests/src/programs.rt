@@ -38,32 +38,32 @@ pub const SPILL_KEPT: &str = "callbtf 1; stw [r10-4], 0; mov64 r2, r10; add64 r2
 call 1; jne r0, 0, +3; callbtf 2; mov64 r0, 0; exit; stxdw [r10-16], r0; callbtf 2; \
 ldxdw r7, [r10-16]; ldxdw r0, [r7+0]; exit";
 
-/// The byte of key 0's value whose index is a byte of the context below 8.
+/// The byte of key 0's value whose offset is a byte of the context below 8.
 pub const BYTE_BELOW_8: &str = "ldxb r6, [r1+0]; and64 r6, 7; callbtf 1; stw [r10-4], 0; \
 mov64 r2, r10; add64 r2, -4; ldmap r1, 0; call 1; jne r0, 0, +3; callbtf 2; mov64 r0, 0; exit; \
 add64 r0, r6; ldxb r6, [r0+0]; callbtf 2; mov64 r0, r6; exit";
 
-/// The byte of key 0's value at the index 0 or 8: the last may be past the value.
+/// The byte of key 0's value at the offset 0 or 8: the last may be past the value.
 pub const BYTE_AT_8: &str = "ldxb r6, [r1+0]; and64 r6, 8; callbtf 1; stw [r10-4], 0; \
 mov64 r2, r10; add64 r2, -4; ldmap r1, 0; call 1; jne r0, 0, +3; callbtf 2; mov64 r0, 0; exit; \
 add64 r0, r6; ldxb r6, [r0+0]; callbtf 2; mov64 r0, r6; exit";
 
-/// Two bytes at an index that may be odd.
+/// Two bytes at an offset that may be odd.
 pub const TWO_AT_ODD: &str = "ldxb r6, [r1+0]; and64 r6, 5; callbtf 1; stw [r10-4], 0; \
 mov64 r2, r10; add64 r2, -4; ldmap r1, 0; call 1; jne r0, 0, +3; callbtf 2; mov64 r0, 0; exit; \
 add64 r0, r6; ldxh r6, [r0+0]; callbtf 2; mov64 r0, r6; exit";
 
-/// Two bytes at an even index.
+/// Two bytes at an even offset.
 pub const TWO_AT_EVEN: &str = "ldxb r6, [r1+0]; and64 r6, 6; callbtf 1; stw [r10-4], 0; \
 mov64 r2, r10; add64 r2, -4; ldmap r1, 0; call 1; jne r0, 0, +3; callbtf 2; mov64 r0, 0; exit; \
 add64 r0, r6; ldxh r6, [r0+0]; callbtf 2; mov64 r0, r6; exit";
 
-/// An index of 64 bits, of which only the low half is bounded.
+/// An offset of 64 bits, of which only the low half is bounded.
 pub const NARROW_BOUND: &str = "ldxdw r6, [r1+0]; jgt32 r6, 7, +11; callbtf 1; stw [r10-4], 0; \
 mov64 r2, r10; add64 r2, -4; ldmap r1, 0; call 1; jeq r0, 0, +2; add64 r0, r6; ldxb r7, [r0+0]; \
 callbtf 2; mov64 r0, 0; exit";
 
-/// An index of 64 bits, bounded as a whole.
+/// An offset of 64 bits, bounded as a whole.
 pub const WIDE_BOUND: &str = "ldxdw r6, [r1+0]; jgt r6, 7, +11; callbtf 1; stw [r10-4], 0; \
 mov64 r2, r10; add64 r2, -4; ldmap r1, 0; call 1; jeq r0, 0, +2; add64 r0, r6; ldxb r7, [r0+0]; \
 callbtf 2; mov64 r0, 0; exit";
@@ -116,12 +116,12 @@ pub const SPILL_REMOVE: &str = "ldxb r7, [r1+0]; stxw [r10-4], r7; callbtf 1; mo
 add64 r2, -4; ldmap r1, 0; call 1; mov64 r6, 0; jeq r0, 0, +8; stxdw [r10-16], r0; mov64 r2, r10; \
 add64 r2, -4; ldmap r1, 0; call 3; ldxdw r9, [r10-16]; ldxdw r6, [r9+0]; callbtf 2; mov64 r0, r6; exit";
 
-/// The byte of a value of 16 whose index is the low half of a byte of the context.
+/// The byte of a value of 16 whose offset is the low half of a byte of the context.
 pub const BYTE_OF_16: &str = "ldxb r7, [r1+0]; ldxb r8, [r1+1]; and64 r8, 15; stxdw [r10-8], r7; \
 mov64 r6, 0; callbtf 1; mov64 r2, r10; add64 r2, -8; ldmap r1, 0; call 1; jeq r0, 0, +2; \
 add64 r0, r8; ldxb r6, [r0+0]; callbtf 2; mov64 r0, r6; exit";
 
-/// A byte of the context is stored into a value of 16, at the index that the low half of another byte is.
+/// A byte of the context is stored into a value of 16, at the offset that the low half of another byte is.
 pub const STORE_BYTE: &str = "ldxb r7, [r1+0]; ldxb r8, [r1+1]; ldxb r9, [r1+2]; and64 r8, 15; \
 stxdw [r10-8], r7; callbtf 1; mov64 r2, r10; add64 r2, -8; ldmap r1, 0; call 1; mov64 r6, 0; \
 jeq r0, 0, +3; add64 r0, r8; stxb [r0+0], r9; mov64 r6, 1; callbtf 2; mov64 r0, r6; exit";

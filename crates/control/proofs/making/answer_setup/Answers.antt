@@ -14,4 +14,4 @@ returns-in_ok-write_reply-in-Load c =
 pub returns-in_ok-live-in_default : goal.returns-in_ok-live-in_default
 returns-in_ok-live-in_default c =
     let e = c.in_ok-live-in_default.ensures in
-    (e.2.events, e.0, world_made c.args.setup.now e.0 c.in_ok-live-in_default.live e.1 c.args.command c.in_default.not-Map c.in_default.not-Load e.2, e.3)
+    (e.2.served.events, e.0, world_made c.args.setup.now e.0 c.in_ok-live-in_default.live e.1 c.args.command c.in_default.not-Map c.in_default.not-Load e.2, e.3)

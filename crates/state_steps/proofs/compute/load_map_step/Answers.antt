@@ -3,7 +3,7 @@ use mir.Val.{SFits}
 use Rattle.std.proofs.lemmas.Int.{to_z-of_z}
 use Rattle.bpf_model.specs.declared.insn.Insn.TheVariants.{LoadMap}
 use Rattle.register_kinds.specs.States.{state_of}
-use Rattle.compute_effects.specs.Computes.{SetsKind}
+use Rattle.effects.specs.Computes.{SetsKind}
 use Rattle.state_steps.proofs.Serving.{map_serves}
 use Rattle.state_steps.proofs.Stepping.{quiet_step}
 use Rattle.state_steps.proofs.compute.load_map_step.Goals as goal

@@ -1,9 +1,0 @@
-use Rattle.register_kinds.specs.States.{state_of}
-use Rattle.call_effects.proofs.Effects.{lock_sound, lock_others}
-use Rattle.call_effects.proofs.calls.lock.Goals as goal
-
-pub returns-clause-sound : goal.returns-clause-sound
-returns-clause-sound c = lock_sound c.args.state.now c.enter_section.new.self c.if-state.false c.enter_section.ensures.alike
-
-pub returns-clause-others : goal.returns-clause-others
-returns-clause-others c = lock_others (state_of c.args.state.now) (state_of c.enter_section.new.self) c.enter_section.ensures.alike

@@ -1,9 +1,0 @@
-use Rattle.register_kinds.specs.States.{state_of}
-use Rattle.call_effects.proofs.Effects.{unlock_sound, unlock_others}
-use Rattle.call_effects.proofs.calls.unlock.Goals as goal
-
-pub returns-clause-sound : goal.returns-clause-sound
-returns-clause-sound c = unlock_sound c.args.state.now c.leave_section.new.self c.if-not-state.false c.leave_section.ensures.alike
-
-pub returns-clause-others : goal.returns-clause-others
-returns-clause-others c = unlock_others (state_of c.args.state.now) (state_of c.leave_section.new.self) c.leave_section.ensures.alike

@@ -1,2 +1,0 @@
-pub mod Computes
-pub mod Floor

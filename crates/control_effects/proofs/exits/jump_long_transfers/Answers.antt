@@ -1,5 +1,0 @@
-use Rattle.control_effects.proofs.Branches.{jump_long_transfers}
-use Rattle.control_effects.proofs.exits.jump_long_transfers.Goals as goal
-
-pub returns : goal.returns
-returns c = jump_long_transfers

@@ -1,0 +1,112 @@
+-- What a call or a test for null makes of states, by the laws of the known kinds.
+use Rattle.std.proofs.Common.{◌≡◌, ℕ, ◌^◌, ◌/◌, ◌<◌, List, Some, ap, ◌∙◌, ℤ, arith, true, false}
+use Rattle.bpf_model.specs.declared.limits.MapShape.{MapShape}
+use Rattle.bpf_model.specs.declared.insn.Insn.{Insn}
+use Rattle.bpf_model.specs.declared.insn.Insn.TheVariants.{Call, JumpIf}
+use Rattle.bpf_model.specs.declared.insn.CallKind.TheVariants as callee
+use Rattle.bpf_model.specs.declared.call.Helper.TheVariants as helpers
+use Rattle.bpf_model.specs.declared.call.KernelFunction.TheVariants.{ReadLock, ReadUnlock}
+use Rattle.bpf_model.specs.Call.{helper_of, kernel_function_of}
+use Rattle.bpf_model.specs.declared.insn.Operand.TheVariants.{Immediate}
+use Rattle.bpf_model.specs.declared.opcode.Condition.TheVariants.{Equal, NotEqual}
+use Rattle.bpf_model.specs.declared.opcode.Size.TheVariants.{Word64}
+use Rattle.scalar_domain.specs.Scalar.{Holds}
+use Rattle.scalar_domain.specs.declared.scalar.Scalar.{Scalar}
+use Rattle.std.specs.Prelude.{Bool, if◌then◌else◌, pos, nat_le}
+use Rattle.std.proofs.lemmas.Bool.{ne_eqb, lt-leb}
+use Rattle.typed_runs.specs.Kinds.{Kind, Blank, Mixed, Ended, Num, CtxAt, FrameAt, MapAt, ValueAt, MaybeNull, AbsState}
+use Rattle.typed_runs.specs.Effects.{after_call, after_lock, after_unlock, returned_kind, ended_kind, IsOther, IsOtherCell, IsFresh, HasMap, HasBytes, when_null, when_there}
+use Rattle.typed_runs.specs.Verified.{Transfers}
+use Rattle.typed_runs.specs.Planned.{AreAlike, number_zero, origin}
+use Rattle.typed_runs.proofs.Planning.{alike_wider, transfers_wider, origin_has, zero_holds, to_alike}
+use Rattle.typed_runs.proofs.Calls.{lock_transfers, unlock_transfers, lookup_transfers}
+use Rattle.typed_runs.proofs.Updating.{update_transfers, delete_transfers}
+use Rattle.typed_runs.proofs.Local.{equal_transfers, not_equal_transfers}
+use Rattle.register_kinds.specs.declared.kind.RegKind.{RegKind}
+use Rattle.register_kinds.specs.declared.kind.RegKind.TheVariants as kinds
+use Rattle.register_kinds.specs.declared.kind.CellKind as classes
+use Rattle.register_kinds.specs.declared.kind.CellKind.TheVariants as class
+use Rattle.register_kinds.specs.declared.state.AbsState.{AbsState as StateHere}
+use Rattle.register_kinds.specs.declared.learn.Lesson.TheVariants.{IsNull, IsThere}
+use Rattle.register_kinds.specs.States.{kind_of, cell_of, kind_at, kind_in, class_in, state_of}
+use Rattle.register_kinds.specs.Pairs.{IsBelow, AreBelow}
+use Rattle.register_kinds.specs.Changes.{learnt}
+use Rattle.effects.specs.Forks.{ForksOnNull}
+use Rattle.effects.specs.Calls.{PerformsCall, KeepsOwnNumbers}
+
+-- a jump where the register is equal to 0, or where it is not
+abbrev null_jump : Bool → ℕ → ℤ → Insn
+null_jump equal dst offset = JumpIf (if equal then Equal else NotEqual) Word64 dst (Immediate (pos 0)) offset
+
+to-both : (i : Insn) (shapes : List MapShape) (ctx_len : ℕ) (a b c x y : AbsState) → AreAlike b c → AreAlike x y → Transfers i shapes ctx_len a b (Some x) → Transfers i shapes ctx_len a c (Some y)
+to-both i shapes ctx_len a b c x y e f t = transfers_wider i shapes ctx_len a a b c (Some x) (Some y) (λ c m d. d) (alike_wider b c e) (alike_wider x y f) t
+
+pub lock_sound : (a b : StateHere) → a.inside ≡ false → AreAlike (after_lock (state_of a)) (state_of b) → (imm : ℤ) (shapes : List MapShape) → kernel_function_of imm ≡ Some ReadLock → PerformsCall callee.Kernel imm shapes a b
+lock_sound a b out e imm shapes f ctx_len = to_alike (Call callee.Kernel imm) shapes ctx_len (state_of a) (after_lock (state_of a)) (state_of b) e (lock_transfers imm shapes ctx_len (state_of a) f out)
+
+pub unlock_sound : (a b : StateHere) → a.inside ≡ true → AreAlike (after_unlock (state_of a)) (state_of b) → (imm : ℤ) (shapes : List MapShape) → kernel_function_of imm ≡ Some ReadUnlock → PerformsCall callee.Kernel imm shapes a b
+unlock_sound a b into e imm shapes f ctx_len = to_alike (Call callee.Kernel imm) shapes ctx_len (state_of a) (after_unlock (state_of a)) (state_of b) e (unlock_transfers imm shapes ctx_len (state_of a) f into)
+
+-- an identity that isn't taken is nowhere
+other-below : (top : ℕ) (k : Kind) → IsBelow top k → IsOther top k
+other-below top (MaybeNull map id) b = λ e. omega arith
+other-below top Blank b = tt
+other-below top Mixed b = tt
+other-below top Ended b = tt
+other-below top (Num s) b = tt
+other-below top (CtxAt s) b = tt
+other-below top (FrameAt o) b = tt
+other-below top (MapAt map) b = tt
+other-below top (ValueAt map s) b = tt
+
+other-cell-below : (top : ℕ) (spill : RegKind) (c : classes.CellKind) → IsBelow top (kind_of spill) → IsOtherCell top (cell_of spill c)
+other-cell-below top spill class.Part b = other-below top (kind_of spill) b
+other-cell-below top spill class.Unwritten b = tt
+other-cell-below top spill class.Ended b = tt
+other-cell-below top spill class.Mixed b = tt
+other-cell-below top spill class.Byte b = tt
+
+pub untaken_fresh : (top : ℕ) (a : StateHere) → AreBelow top a → IsFresh top (state_of a)
+untaken_fresh top a b = record {
+  regs = λ r. other-below top (kind_at a.regs r) (b.regs r);
+  cells = λ k. other-cell-below top (kind_in a.frame.spills (k / 8)) (class_in a.frame.cells k) (b.spills (k / 8));
+}
+
+pub lookup_sound : (a b : StateHere) (shapes : List MapShape) (map id : ℕ) (shape : MapShape) → a.inside ≡ true → HasMap shapes (state_of a) map shape → HasBytes (state_of a) 2 shape.key_len → AreBelow id a → AreAlike (after_call (MaybeNull map id) (state_of a)) (state_of b) →
+    (imm : ℤ) → helper_of imm ≡ Some helpers.Lookup → PerformsCall callee.Helper imm shapes a b
+lookup_sound a b shapes map id shape into m key below e imm f ctx_len =
+    to_alike (Call callee.Helper imm) shapes ctx_len (state_of a) (after_call (MaybeNull map id) (state_of a)) (state_of b) e (lookup_transfers imm shapes ctx_len (state_of a) map id shape f into m key (untaken_fresh id a below))
+
+pub update_sound : (a b : StateHere) (shapes : List MapShape) (map : ℕ) (shape : MapShape) (t q : Scalar) → ((n : ℕ) → n < 2 ^ 64 → Holds t n) → HasMap shapes (state_of a) map shape → HasBytes (state_of a) 2 shape.key_len → HasBytes (state_of a) 3 shape.value_len →
+    kind_in a.regs 4 ≡ kinds.Num q → AreAlike (after_call (Num t) (state_of a)) (state_of b) → (imm : ℤ) → helper_of imm ≡ Some helpers.Update → PerformsCall callee.Helper imm shapes a b
+update_sound a b shapes map shape t q all m key value flags e imm f ctx_len =
+    to_alike (Call callee.Helper imm) shapes ctx_len (state_of a) (after_call (Num t) (state_of a)) (state_of b) e (update_transfers imm shapes ctx_len (state_of a) map shape t all m key value q (ap kind_of flags) f)
+
+pub delete_sound : (a b : StateHere) (shapes : List MapShape) (map : ℕ) (shape : MapShape) (t : Scalar) → ((n : ℕ) → n < 2 ^ 64 → Holds t n) → HasMap shapes (state_of a) map shape → HasBytes (state_of a) 2 shape.key_len →
+    AreAlike (after_call (Num t) (state_of a)) (state_of b) → (imm : ℤ) → helper_of imm ≡ Some helpers.Delete → PerformsCall callee.Helper imm shapes a b
+delete_sound a b shapes map shape t all m key e imm f ctx_len =
+    to_alike (Call callee.Helper imm) shapes ctx_len (state_of a) (after_call (Num t) (state_of a)) (state_of b) e (delete_transfers imm shapes ctx_len (state_of a) map shape t all m key f)
+
+-- a test for null leads to two states: there the element is, and there it is null
+pub null_jumps : (a b taken : StateHere) (id dst map : ℕ) → AreAlike (learnt (IsThere id) (state_of a)) (state_of b) → AreAlike (learnt (IsNull id) (state_of a)) (state_of taken) → kind_in a.regs dst ≡ kinds.MaybeNull map id → ForksOnNull true dst a b taken
+null_jumps a b taken id dst map e f g shapes ctx_len offset =
+    to-both (null_jump true dst offset) shapes ctx_len (state_of a) (when_there id origin (state_of a)) (state_of b) (when_null id number_zero (state_of a)) (state_of taken) e f
+    (equal_transfers shapes ctx_len dst offset map id (state_of a) number_zero origin zero_holds origin_has (ap kind_of g))
+
+pub null_falls_through : (a b taken : StateHere) (id dst map : ℕ) → AreAlike (learnt (IsNull id) (state_of a)) (state_of b) → AreAlike (learnt (IsThere id) (state_of a)) (state_of taken) → kind_in a.regs dst ≡ kinds.MaybeNull map id → ForksOnNull false dst a b taken
+null_falls_through a b taken id dst map e f g shapes ctx_len offset =
+    to-both (null_jump false dst offset) shapes ctx_len (state_of a) (when_null id number_zero (state_of a)) (state_of b) (when_there id origin (state_of a)) (state_of taken) e f
+    (not_equal_transfers shapes ctx_len dst offset map id (state_of a) number_zero origin zero_holds origin_has (ap kind_of g))
+
+-- a call, a lock and an unlock leave numbers in r6 to r9 as they are
+pub returned_above : (kind : Kind) (regs : ℕ → Kind) (r : ℕ) → 5 < r → returned_kind kind regs r ≡ regs r
+returned_above kind regs r h = ap (λ t. if t then kind else if nat_le r 5 then Blank else regs r) (ne_eqb r 0 (λ q. absurd (omega (arith, q, h)))) ∙ ap (λ t. if t then Blank else regs r) (lt-leb r 5 h)
+
+pub call_others : (kind : Kind) (a b : AbsState) → AreAlike (after_call kind a) b → KeepsOwnNumbers a b
+call_others kind a b e r s h n = e.regs r ∙ (returned_above kind a.regs r h ∙ n)
+
+pub lock_others : (a b : AbsState) → AreAlike (after_lock a) b → KeepsOwnNumbers a b
+lock_others a b e r s h n = e.regs r ∙ (returned_above Blank a.regs r h ∙ n)
+
+pub unlock_others : (a b : AbsState) → AreAlike (after_unlock a) b → KeepsOwnNumbers a b
+unlock_others a b e r s h n = e.regs r ∙ (returned_above Blank (λ r. ended_kind (a.regs r)) r h ∙ ap ended_kind n)

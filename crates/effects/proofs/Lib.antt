@@ -1,0 +1,10 @@
+pub mod Within
+pub mod Reading
+pub mod Writing
+pub mod Offsets
+pub mod Laws
+pub mod Combining
+pub mod Known
+pub mod Numbers
+pub mod Branches
+pub mod Effects

@@ -1,0 +1,27 @@
+use Rattle.std.proofs.Common.{◌≡◌, Some, subst, sym, ℤ, w32}
+use Rattle.bpf_model.specs.Call.{helper_of}
+use Rattle.bpf_model.specs.declared.call.Helper.TheVariants.{Lookup}
+use Rattle.std.proofs.lemmas.Int.{to_z-of_z}
+use Rattle.std.proofs.lemmas.Result.{on_ok_weaker}
+use Rattle.bpf_model.specs.declared.insn.CallKind.{CallKind}
+use Rattle.bpf_model.specs.declared.insn.CallKind.TheVariants as callee
+use Rattle.effects.specs.Calls.{PerformsCall}
+use Rattle.effects.proofs.calls.call.Goals as goal
+
+pub returns-in-Kernel-clause-sound : goal.returns-in-Kernel-clause-sound
+returns-in-Kernel-clause-sound c = on_ok_weaker c.call_kernel.result
+    (λ e. subst (λ (k : CallKind). PerformsCall k c.args.imm c.args.shapes.now c.args.state.now c.call_kernel.new.state) (sym c.in-Kernel.is)
+    (subst (λ (z : ℤ). PerformsCall callee.Kernel z c.args.shapes.now c.args.state.now c.call_kernel.new.state) (to_z-of_z w32 c.args.imm c.ranges.imm) (e c.args.shapes.now))) c.call_kernel.ensures.sound
+
+pub returns-in-Helper-clause-sound : goal.returns-in-Helper-clause-sound
+returns-in-Helper-clause-sound c = on_ok_weaker c.call_helper.result
+    (λ e. subst (λ (k : CallKind). PerformsCall k c.args.imm c.args.shapes.now c.args.state.now c.call_helper.new.state) (sym c.in-Helper.is)
+    (subst (λ (z : ℤ). PerformsCall callee.Helper z c.args.shapes.now c.args.state.now c.call_helper.new.state) (to_z-of_z w32 c.args.imm c.ranges.imm) e)) c.call_helper.ensures.sound
+
+pub returns-in-Helper-clause-accepts_lookup : goal.returns-in-Helper-clause-accepts_lookup
+returns-in-Helper-clause-accepts_lookup c = λ map shape kind is into key at bytes. c.call_helper.ensures.accepts_lookup map shape
+    (subst (λ (z : ℤ). helper_of z ≡ Some Lookup) (sym (to_z-of_z w32 c.args.imm c.ranges.imm)) is) into key at bytes
+
+pub returns-in-Helper-clause-signature : goal.returns-in-Helper-clause-signature
+returns-in-Helper-clause-signature c = on_ok_weaker c.call_helper.result
+    (λ signature helper kind is. signature helper (subst (λ (z : ℤ). helper_of z ≡ Some helper) (sym (to_z-of_z w32 c.args.imm c.ranges.imm)) is)) c.call_helper.ensures.signature

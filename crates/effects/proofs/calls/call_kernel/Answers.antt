@@ -1,0 +1,12 @@
+use Rattle.std.proofs.Common.{◌≡◌, Some, sym, ap, ◌∙◌, w32}
+use Rattle.std.proofs.lemmas.Int.{to_z-of_z}
+use Rattle.std.proofs.lemmas.Result.{on_ok_weaker}
+use Rattle.bpf_model.specs.Call.{kernel_function_of}
+use Rattle.bpf_model.specs.declared.call.KernelFunction.TheVariants.{ReadUnlock}
+use Rattle.effects.proofs.calls.call_kernel.Goals as goal
+
+pub returns-in-Some-ReadUnlock-clause-sound : goal.returns-in-Some-ReadUnlock-clause-sound
+returns-in-Some-ReadUnlock-clause-sound c =
+    let number = c.from_number.ensures ∙ ap kernel_function_of (to_z-of_z w32 c.args.imm c.ranges.imm) in
+    let is : kernel_function_of c.args.imm ≡ Some ReadUnlock = sym number ∙ (c.in-Some-ReadUnlock.is ∙ ap Some c.in-Some-ReadUnlock.field-0-is) in
+    on_ok_weaker c.unlock.result (λ sound shapes. sound c.args.imm shapes is) c.unlock.ensures.sound

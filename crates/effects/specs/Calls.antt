@@ -1,0 +1,103 @@
+-- Calls and tests for null in words of the laws.
+use Rattle.std.specs.Prelude.{◌≡◌, ℕ, suc, ◌<◌, List, [], ◌∷◌, Option, Some, None, Result, Ok, Err}
+use Rattle.std.specs.Prelude.{ℤ, slice_get, Bool, if◌then◌else◌}
+use Rattle.bpf_model.specs.declared.limits.MapShape.{MapShape}
+use Rattle.bpf_model.specs.declared.insn.CallKind.{CallKind}
+use Rattle.bpf_model.specs.declared.insn.CallKind.TheVariants as callee
+use Rattle.bpf_model.specs.declared.call.Helper.{Helper}
+use Rattle.bpf_model.specs.declared.call.Helper.TheVariants.{Lookup, Update, Delete}
+use Rattle.bpf_model.specs.declared.call.KernelFunction.{KernelFunction}
+use Rattle.bpf_model.specs.declared.call.KernelFunction.TheVariants.{ReadLock, ReadUnlock}
+use Rattle.bpf_model.specs.Call.{helper_of, kernel_function_of}
+use Rattle.bpf_model.specs.Request.{ArgumentKind, MapOfProgram, KeyOfMap, ValueOfMap, AnyNumber}
+use Rattle.bpf_model.specs.Request.{ResultKind, ElementOrNull, ErrorNumber, signature_of}
+use Rattle.scalar_domain.specs.declared.scalar.Scalar.{Scalar}
+use Rattle.register_kinds.specs.declared.fault.InsnFault.{InsnFault}
+use Rattle.register_kinds.specs.declared.fault.InsnFault.TheVariants.{UnknownCall, OutsideSection}
+use Rattle.register_kinds.specs.declared.fault.InsnFault.TheVariants.{UnpairedSection}
+use Rattle.bpf_model.specs.declared.insn.Insn.TheVariants.{Call}
+use Rattle.typed_runs.specs.Kinds.{Kind, Num, MapAt, MaybeNull, AbsState as Known}
+use Rattle.typed_runs.specs.Effects.{HasBytes, HasNumber, after_call, after_lock, after_unlock}
+use Rattle.typed_runs.specs.Planned.{AreAlike}
+use Rattle.register_kinds.specs.declared.learn.Lesson.TheVariants.{IsNull, IsThere}
+use Rattle.register_kinds.specs.Changes.{learnt}
+use Rattle.register_kinds.specs.declared.state.AbsState.{AbsState}
+use Rattle.register_kinds.specs.States.{state_of}
+use Rattle.effects.specs.Performs.{Performs}
+
+-- a call performs so, whatever the length of the context
+abbrev pub PerformsCall : CallKind → ℤ → List MapShape → AbsState → AbsState → Type 0
+PerformsCall kind imm shapes old new =
+    (ctx_len : ℕ) → Performs (Call kind imm) ctx_len shapes old new
+
+-- The first tests of a call, of its number and of the section: the first that fails, if one does.
+abbrev pub helper_fault : Option Helper → Bool → Option InsnFault
+helper_fault None inside = Some UnknownCall
+helper_fault (Some Lookup) inside = if inside then None else Some OutsideSection
+helper_fault (Some Update) inside = None
+helper_fault (Some Delete) inside = None
+
+abbrev pub kernel_fault : Option KernelFunction → Bool → Option InsnFault
+kernel_fault None inside = Some UnknownCall
+kernel_fault (Some ReadLock) inside = if inside then Some UnpairedSection else None
+kernel_fault (Some ReadUnlock) inside = if inside then None else Some UnpairedSection
+
+abbrev pub section_fault : CallKind → ℤ → Bool → Option InsnFault
+section_fault callee.Helper imm inside = helper_fault (helper_of imm) inside
+section_fault callee.Kernel imm inside = kernel_fault (kernel_function_of imm) inside
+
+abbrev pub outcome_of : Option InsnFault → Result (Unit {0}) InsnFault
+outcome_of None = Ok tt
+outcome_of (Some e) = Err e
+
+-- After the call r0 may be null, or an element of the map, by an identity; r1 to r5 hold nothing.
+pub record FindsIn (map : ℕ) (a b : AbsState) : Type 0 where
+  pub id : ℕ
+  pub alike : AreAlike (after_call (MaybeNull map id) (state_of a)) (state_of b)
+
+-- What is known of an argument in a register, of a helper that is called with a map of this shape:
+-- a map of the list, so many bytes of the frame, or a number.
+abbrev pub IsArgument : List MapShape → Known → MapShape → ArgumentKind → ℕ → Type 0
+IsArgument shapes a shape MapOfProgram r =
+    (map : ℕ) × (a.regs r ≡ MapAt map) × (slice_get shapes map ≡ Some shape)
+IsArgument shapes a shape KeyOfMap r = HasBytes a r shape.key_len
+IsArgument shapes a shape ValueOfMap r = HasBytes a r shape.value_len
+IsArgument shapes a shape AnyNumber r = HasNumber a r
+
+-- the arguments of a signature, the first of them in register r
+abbrev pub AreArguments : List MapShape → Known → MapShape → List ArgumentKind → ℕ → Type 0
+AreArguments shapes a shape [] r = Unit {0}
+AreArguments shapes a shape (kind ∷ kinds) r =
+    IsArgument shapes a shape kind r × AreArguments shapes a shape kinds (suc r)
+
+-- what is known of r0 after a call of a helper whose result is of this kind
+abbrev pub IsResult : ResultKind → Kind → Type 0
+IsResult ElementOrNull k = (map : ℕ) × (id : ℕ) × (k ≡ MaybeNull map id)
+IsResult ErrorNumber k = (s : Scalar) × (k ≡ Num s)
+
+-- Before the call the arguments are known to be those of the helper's signature; after it r0 has a
+-- result of its kind.
+pub record GoesBySignature (helper : Helper) (shapes : List MapShape) (a b : Known) : Type 0 where
+  pub shape : MapShape
+  pub arguments : AreArguments shapes a shape (signature_of helper).arguments 1
+  pub result : IsResult (signature_of helper).result (b.regs 0)
+
+-- what a kernel function makes of what is known
+abbrev pub Called : Option KernelFunction → Known → Known → Type 0
+Called None a b = ⊥
+Called (Some ReadLock) a b = AreAlike (after_lock a) b
+Called (Some ReadUnlock) a b = AreAlike (after_unlock a) b
+
+-- Of a test for null both edges are as the test tells: where the identity is null all of it becomes
+-- the number 0, elsewhere the element's value.
+pub record Splits (id : ℕ) (a null there : AbsState) : Type 0 where
+  pub is_null : AreAlike (learnt (IsNull id) (state_of a)) (state_of null)
+  pub is_there : AreAlike (learnt (IsThere id) (state_of a)) (state_of there)
+
+-- Numbers in the registers that have the property stay as they are.
+abbrev pub KeepsNumbersIn : (ℕ → Type 0) → Known → Known → Type 0
+KeepsNumbersIn P a b = (r : ℕ) (s : Scalar) → P r → a.regs r ≡ Num s → b.regs r ≡ Num s
+
+-- numbers in the registers from r6 on, which calls leave alone, stay as they are
+abbrev pub KeepsOwnNumbers : Known → Known → Type 0
+KeepsOwnNumbers a b = KeepsNumbersIn (λ r. 5 < r) a b

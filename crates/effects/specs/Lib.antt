@@ -1,0 +1,7 @@
+pub mod Performs
+pub mod Forks
+pub mod Accesses
+pub mod Calls
+pub mod Computes
+pub mod Floor
+pub mod Narrowing
