@@ -53,31 +53,33 @@ IsReal (events.Drop run) = run < 2 ^ 64
 abbrev pub AreReal : List Event → Type 0
 AreReal all = (k : ℕ) (event : Event) → slice_get all k ≡ Some event → IsReal event
 
--- The first test of an event that fails. A start asks for the program, then for the context's
--- length, then for a free run slot.
+-- refused where there is no free run slot
 abbrev pub if_full : Option ℕ → Option EventRefusal
 if_full None = Some RunsFull
 if_full (Some r) = None
 
+-- a start asks for the program, then for the context's length, then for a free run slot
 abbrev pub start_refusal : Option Loaded → ℕ → Option ℕ → Option EventRefusal
 start_refusal None len free = Some NoProgram
 start_refusal (Some program) len free =
     if len == program.context_len then if_full free else Some BadContext
 
--- a step asks for a run that has not ended
+-- refused where there is an exit value
 abbrev pub if_ended : Option ℕ → Option EventRefusal
 if_ended None = None
 if_ended (Some n) = Some Ended
 
+-- a step asks for a run that has not ended
 abbrev pub step_refusal : Option Run → Option EventRefusal
 step_refusal None = Some NoRun
 step_refusal (Some run) = if_ended run.exit
 
--- a drop asks for a run that has ended
+-- refused where there is no exit value
 abbrev pub if_running : Option ℕ → Option EventRefusal
 if_running None = Some StillRunning
 if_running (Some n) = None
 
+-- a drop asks for a run that has ended
 abbrev pub drop_refusal : Option Run → Option EventRefusal
 drop_refusal None = Some NoRun
 drop_refusal (Some run) = if_running run.exit
@@ -92,6 +94,7 @@ update_refusal None key_len value_len = Some NoMap
 update_refusal (Some shape) key_len value_len =
     if (key_len == shape.key_len) && (value_len == shape.value_len) then None else Some BadLength
 
+-- The first test of an event that fails. An advance and a reap have no test.
 abbrev pub refusal : Machine → Event → Option EventRefusal
 refusal m (events.Start prog ctx) =
     start_refusal (slice_get m.programs prog) (length ctx.items) (lowest_free m.runs)

@@ -17,7 +17,7 @@ LooksUp s map key None = IsAbsent s.elements map key
 
 -- The first test of an update that fails: flags that there are not (above BPF_EXIST, 2); a key that
 -- is there, with BPF_NOEXIST (1); one that isn't there, with BPF_EXIST (2); a new key where the map
--- has as many elements as it may; no free map slot.
+-- has as many linked elements as it may; no free map slot.
 abbrev pub update_error : ℕ → Bool → ℕ → MapState → Option Errno
 update_error flags present linked m =
     if nat_lt 2 flags then Some InvalidArgument

@@ -79,7 +79,7 @@ pub record RunRefines (slots : List ℕ) (es : List Element) (programs : List Lo
     (run : Run) : Type 0 where
   pub program : slice_get programs w.program ≡ Some run.program
   pub context : w.context ≡ run.context
-  pub eleven : length w.registers ≡ REGISTERS
+  pub register_count : length w.registers ≡ REGISTERS
   pub registers : (r : ℕ) → r < REGISTERS →
       WordIs (element_bases slots es) (run.state.regs r) (slice_index w.registers r)
   pub cells : length w.frame ≡ FRAME_BYTES

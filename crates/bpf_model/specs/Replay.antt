@@ -1,26 +1,28 @@
 -- The journal: entries that replay, as a history of the machine, from a base state in which no run
 -- slot is occupied.
-use Rattle.std.specs.Prelude.{◌≡◌, ℕ, ◌≤◌, List, None, length, map}
+use Rattle.std.specs.Prelude.{◌≤◌, List, length, map}
 use Rattle.bpf_model.specs.declared.limits.TheConstants.{MAX_JOURNAL}
+use Rattle.bpf_model.specs.declared.entry.Entry.{Entry}
 use Rattle.bpf_model.specs.declared.event.Event.{Event}
 use Rattle.bpf_model.specs.declared.event.Answer.{Answer}
-use Rattle.bpf_model.specs.Machine.{Machine, run_at}
+use Rattle.bpf_model.specs.Machine.{Machine, AreFree}
 use Rattle.bpf_model.specs.Event.{AreReal}
 use Rattle.bpf_model.specs.History.{HasHistoryTo}
 
--- what a worker did, and the answer
-pub record JournalEntry : Type 0 where
-  pub worker : ℕ
-  pub event : Event
-  pub answer : Answer
+abbrev pub events_of : List Entry → List Event
+events_of entries = map (λ e. e.event) entries
 
--- no run slot is occupied
+abbrev pub answers_of : List Entry → List Answer
+answers_of entries = map (λ e. e.answer) entries
+
+-- no run slot of the machine is occupied
 abbrev pub HasNoRunsOnMachine : Machine → Type 0
-HasNoRunsOnMachine m = (r : ℕ) → run_at m.runs r ≡ None
+HasNoRunsOnMachine m = AreFree m.runs
 
-pub record ReplaysOnMachine (base : Machine) (entries : List JournalEntry) (m : Machine) :
-    Type 0 where
+-- From the base, a state without runs, the entries' events with the entries' answers lead to this
+-- state.
+pub record ReplaysOnMachine (base : Machine) (entries : List Entry) (m : Machine) : Type 0 where
   pub quiet : HasNoRunsOnMachine base
   pub short : length entries ≤ MAX_JOURNAL
-  pub real : AreReal (map (λ e. e.event) entries)
-  pub replay : HasHistoryTo base (map (λ e. e.event) entries) (map (λ e. e.answer) entries) m
+  pub real : AreReal (events_of entries)
+  pub replay : HasHistoryTo base (events_of entries) (answers_of entries) m

@@ -34,8 +34,7 @@ pub record Schedule : Type 0 where
   pub queues : List Queues
   pub awaited : List Bool
 
--- A lock makes a run open, an unlock ends that: it also ends the waiting for it, which the run's
--- next section doesn't revive.
+-- the run in a run slot is inside a section
 abbrev pub is_open : Option Run → Bool
 is_open None = false
 is_open (Some run) = is_inside run
@@ -43,6 +42,8 @@ is_open (Some run) = is_inside run
 abbrev pub open_flags : List (Option Run) → List Bool
 open_flags runs = map is_open runs
 
+-- Which run slots are still awaited: an unlock also ends the waiting for its run, which the run's
+-- next section doesn't revive.
 abbrev pub still_open : List Bool → List Bool → List Bool
 still_open (a ∷ awaited) (b ∷ opened) = (a && b) ∷ still_open awaited opened
 still_open awaited opened = []
@@ -87,15 +88,17 @@ advanced s m false = record {
   awaited = open_flags m.runs;
 }
 
--- The birth that a reap takes: the first ready one of the lowest map that has one.
+-- the first of a map's ready births, or where it has none that of the later maps
 abbrev pub or_first : List ℕ → Option ℕ → Option ℕ
 or_first [] later = later
 or_first (n ∷ ns) later = Some n
 
+-- The birth that a reap takes: the first ready one of the lowest map that has one.
 abbrev pub first_ready : List Queues → Option ℕ
 first_ready [] = None
 first_ready (q ∷ qs) = or_first q.ready (first_ready qs)
 
+-- the lists without that birth
 abbrev pub without_first : List Queues → List Queues
 without_first [] = []
 without_first (q ∷ qs) = if length q.ready == 0 then q ∷ without_first qs else record {

@@ -69,8 +69,8 @@ new_map_view shape = record {
   worn = 0;
 }
 
--- A run: the number of its program, its context, `REGISTERS` untyped words, the bytes of its frame, the
--- slot where its next instruction begins, how many of its locks are open, how many of its steps
+-- A run: the number of its program, its context, `REGISTERS` untyped words, the bytes of its frame,
+-- the slot where its next instruction begins, how many of its locks are open, how many of its steps
 -- have led further on, and its exit value.
 pub record RunView : Type 0 where
   pub program : ℕ
@@ -93,16 +93,21 @@ pub record WorldView : Type 0 where
   pub programs : List Loaded
   pub given : ℕ
 
--- New maps of these shapes and no run.
-abbrev pub start_view : List MapShape → List Loaded → WorldView
-start_view shapes programs = record {
-  maps = map new_map_view shapes;
+-- These maps and programs before any event: all run slots are free, and no section is open or
+-- awaited.
+abbrev pub unused_world : List MapView → List Loaded → WorldView
+unused_world maps programs = record {
+  maps = maps;
   runs = replicate MAX_RUNS None;
   opened = replicate MAX_RUNS false;
   awaited = replicate MAX_RUNS false;
   programs = programs;
   given = 0;
 }
+
+-- new maps of these shapes and no run
+abbrev pub start_view : List MapShape → List Loaded → WorldView
+start_view shapes programs = unused_world (map new_map_view shapes) programs
 
 -- the shape of a map, as a world shows it
 abbrev pub shape_of_view : MapView → MapShape

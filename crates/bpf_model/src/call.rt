@@ -22,7 +22,7 @@ pub enum KernelFunction {
 pub enum Errno {
     /// ENOENT, 2: the key has no element.
     NoEntry,
-    /// E2BIG, 7: the map has as many elements as its shape allows.
+    /// E2BIG, 7: the map has as many linked elements as its shape allows.
     TooBig,
     /// ENOMEM, 12: no map slot is free.
     NoMemory,
@@ -67,7 +67,7 @@ impl Helper {
     ghost use Rattle.std.specs.Prelude.{◌≡◌};
     ghost use Rattle.bpf_model.specs.Call.{helper_of};
 
-    /// The helper of a static number.
+    /// The helper of a static number, or `None` where no helper has it.
     pub fn from_number(number: i32) -> Option<Helper>
         ensures { result ≡ helper_of number }
     {
@@ -87,7 +87,7 @@ impl KernelFunction {
     ghost use Rattle.std.specs.Prelude.{◌≡◌};
     ghost use Rattle.bpf_model.specs.Call.{kernel_function_of};
 
-    /// The kernel function of a BTF number.
+    /// The kernel function of a BTF number, or `None` where no kernel function has it.
     pub fn from_number(number: i32) -> Option<KernelFunction>
         ensures { result ≡ kernel_function_of number }
     {

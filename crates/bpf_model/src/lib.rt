@@ -6,6 +6,7 @@
 
 mod array;
 mod call;
+mod entry;
 mod event;
 mod id;
 mod insn;
@@ -18,6 +19,7 @@ mod value;
 
 pub use array::array_of;
 pub use call::{Errno, Helper, KernelFunction, ret_word};
+pub use entry::Entry;
 pub use event::{Answer, Event, EventRefusal, Given, ReapedElement, are_bytes, are_real};
 pub use id::{MapId, ProgId, RunId};
 pub use insn::{AluOp, CallKind, Insn, Operand, SignExtension, UnaryOp};

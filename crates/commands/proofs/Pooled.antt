@@ -30,4 +30,4 @@ pooled_of bytes s program context_len count run is verified same_program same_le
     }
 
 pub pool_told : (workers count : ℕ) (bytes : List ℕ) (s : Source) (f : PoolFault) (v : Verdict) → IsSourceOf bytes s → IsVerified s.program (shapes_of_maps s.registry.maps) s.ctx_len → IsFaultOf workers count f → IsPoolFaultVerdict f v → IsPoolRefusal workers count bytes v
-pool_told workers count bytes s f v is verified of told = inr (record { program = s.program; file = file_of bytes s is verified; fault = f; is = of; told = told.code })
+pool_told workers count bytes s f v is verified of told = inr (record { program = s.program; file = file_of bytes s is verified; fault = f; is = of; told = told })

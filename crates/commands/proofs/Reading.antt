@@ -5,9 +5,8 @@ use Rattle.std.specs.Io.KnownBytes.{Appends, Consumes, IsAtEnd}
 use Rattle.std.proofs.KnownBytes.{Consumes-whole}
 use Rattle.control.specs.Histories.{History, Continues, new_history}
 use Rattle.control.specs.Sessions.{IsNoCommand}
-use Rattle.script_stream.specs.Answered.{Answered}
+use Rattle.script_stream.specs.Answered.{Answered, FailsWith}
 use Rattle.script_stream.specs.Lines.{lines_of}
-use Rattle.script_stream.specs.Progress.{FailsWith}
 use Rattle.script_stream.specs.declared.fault.ScriptFault.{ScriptFault}
 use Rattle.script_stream.specs.declared.fault.ScriptFault.TheVariants.{BadCommand}
 use Rattle.commands.specs.declared.program_file.FileBytes.{FileBytes}

@@ -5,7 +5,6 @@ use Rattle.std.specs.Fmt.{decimal}
 use Rattle.std.specs.Io.KnownBytes.{Appends}
 use Rattle.bpf_model.specs.declared.insn.Insn.{Insn}
 use Rattle.job_queue.specs.declared.fault.PoolFault.{PoolFault}
-use Rattle.job_queue.specs.Faults.{pool_fault_number}
 use Rattle.worker_pool.specs.declared.job.Outcome.{Outcome}
 use Rattle.worker_pool.specs.declared.job.Outcome.TheVariants.{Exit, Stopped}
 use Rattle.worker_pool.specs.declared.repeated.PoolRun.{PoolRun}
@@ -14,6 +13,7 @@ use Rattle.worker_pool.specs.Outcomes.{IsFaultOf, IsOutcomeOf}
 use Rattle.commands.specs.declared.report.Verdict.{Verdict}
 use Rattle.commands.specs.Outputs.{IsVerifiedFile, IsCheckedRefusal}
 use Rattle.commands.specs.declared.report.TheConstants.{MEMORY, LOST}
+use Rattle.commands.specs.Verdicts.{IsPoolFaultVerdict}
 
 -- what is written of one job
 abbrev pub job_line : ℕ → Outcome → List ℕ
@@ -57,7 +57,7 @@ pub record IsPoolVerdict (workers count : ℕ) (bytes : List ℕ) (v : Verdict) 
   pub file : IsVerifiedFile bytes program
   pub fault : PoolFault
   pub is : IsFaultOf workers count fault
-  pub told : v.code ≡ pool_fault_number fault
+  pub told : IsPoolFaultVerdict fault v
 
 -- The verdict is what `check` says of the file, or else the pool's.
 abbrev pub IsPoolRefusal : ℕ → ℕ → List ℕ → Verdict → Type 0

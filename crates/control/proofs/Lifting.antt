@@ -1,7 +1,6 @@
 -- What is answered from states of which one part alone tells the answers.
 use Rattle.std.proofs.Common.{ℕ, List, [], ◌∷◌, ◌++◌, ap}
-use Rattle.script_stream.specs.Answered.{Answered}
-use Rattle.script_stream.specs.Progress.{FailsWith}
+use Rattle.script_stream.specs.Answered.{Answered, FailsWith}
 use Rattle.script_stream.specs.declared.fault.ScriptFault.{ScriptFault}
 
 -- How a script fails, told of other states: what is answered from this state on, is answered from

@@ -9,8 +9,7 @@ use Rattle.script_lines.specs.declared.command.Command.TheVariants as commands
 use Rattle.script_lines.specs.declared.reply.Reply.{Reply}
 use Rattle.script_setup.specs.Loading.{MapReplies, LoadReplies, shape_of_numbers}
 use Rattle.script_setup.specs.Setups.{SetupView}
-use Rattle.script_stream.specs.Answered.{Answered}
-use Rattle.script_stream.specs.Progress.{FailsWith}
+use Rattle.script_stream.specs.Answered.{Answered, FailsWith}
 use Rattle.script_stream.specs.declared.fault.ScriptFault.{ScriptFault}
 use Rattle.script_world.specs.declared.live.Live.{Live}
 use Rattle.script_world.specs.Lives.{Happen}

@@ -13,5 +13,5 @@ use script_lines::LINE_BYTES;
 pub use script_stream::ScriptFault;
 pub use session::Session;
 
-// What is cut into lines is what is read as lines.
+// A line may be as long where the input is cut into lines as where a line is read.
 const _: () = prove!(LINE_BYTES == script_stream::LINE_BYTES);

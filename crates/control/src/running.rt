@@ -1,9 +1,8 @@
 //! A script from a reader to a writer.
 ghost use Rattle.std.specs.Prelude.{◌≡◌, ℕ, List, OnOk, IfErr};
 ghost use Rattle.std.specs.Io.KnownBytes.{Appends, Consumes, IsAtEnd};
-ghost use Rattle.script_stream.specs.Answered.{Answered};
+ghost use Rattle.script_stream.specs.Answered.{Answered, FailsWith};
 ghost use Rattle.script_stream.specs.Lines.{lines_of};
-ghost use Rattle.script_stream.specs.Progress.{FailsWith};
 ghost use Rattle.control.specs.Histories.{History, Continues, new_history};
 ghost use Rattle.control.specs.Sessions.{IsNoCommand};
 

@@ -6,7 +6,7 @@ use Rattle.bpf_model.specs.declared.event.Event.TheVariants as events
 use Rattle.bpf_model.specs.declared.event.Answer.{Answer}
 use Rattle.bpf_model.specs.declared.event.Answer.TheVariants.{Started, Moved, Exited, Ret, Found}
 use Rattle.bpf_model.specs.declared.event.Answer.TheVariants.{Done, Reaped, Refused}
-use Rattle.journal.specs.declared.entry.Entry.{Entry}
+use Rattle.bpf_model.specs.declared.entry.Entry.{Entry}
 use Rattle.journal.specs.declared.fault.JournalFault.{JournalFault}
 use Rattle.journal.specs.declared.fault.JournalFault.TheVariants.{Full, Memory}
 

@@ -8,7 +8,7 @@ use Rattle.bpf_model.specs.declared.event.Event.{Event}
 use Rattle.bpf_model.specs.declared.event.Event.TheVariants as events
 use Rattle.bpf_model.specs.declared.event.Answer.{Answer}
 use Rattle.bpf_model.specs.declared.event.Answer.TheVariants as answers
-use Rattle.journal.specs.declared.entry.Entry.{Entry}
+use Rattle.bpf_model.specs.declared.entry.Entry.{Entry}
 use Rattle.journal.specs.declared.row.Outcome.{Outcome}
 use Rattle.journal.specs.declared.row.Outcome.TheVariants as outcomes
 use Rattle.journal.specs.declared.row.Row.{Row}

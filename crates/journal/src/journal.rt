@@ -6,11 +6,10 @@ ghost use Rattle.journal.specs.Entries.{IsAnswerTo, with_room};
 ghost use Rattle.journal.specs.Rows.{entry_from};
 
 use crate::bytes::append;
-use crate::entry::Entry;
 use crate::fault::JournalFault;
 use crate::making::row_of;
 use crate::row::Row;
-use bpf_model::{Answer, Event, KEY_BYTES, MAX_JOURNAL, VALUE_BYTES};
+use bpf_model::{Answer, Entry, Event, KEY_BYTES, MAX_JOURNAL, VALUE_BYTES};
 use std::alloc::Global;
 use std::marker::Model;
 

@@ -5,12 +5,11 @@
 #![tactic(auto)]
 
 mod bytes;
-mod entry;
 mod fault;
 mod journal;
 mod making;
 mod row;
 
-pub use entry::Entry;
+pub use bpf_model::Entry;
 pub use fault::JournalFault;
 pub use journal::Journal;

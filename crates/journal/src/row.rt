@@ -3,8 +3,9 @@ ghost use Rattle.std.specs.Prelude.{◌≡◌, ℕ, List, length};
 ghost use Rattle.journal.specs.Rows.{IsReadRow, IsStored, answer_of, entry_of};
 
 use crate::bytes::string_at;
-use crate::entry::Entry;
-use bpf_model::{Answer, Errno, Event, EventRefusal, Given, MapId, ProgId, ReapedElement, RunId};
+use bpf_model::{
+    Answer, Entry, Errno, Event, EventRefusal, Given, MapId, ProgId, ReapedElement, RunId,
+};
 use std::mem::size_of;
 
 const _: () = prove!(size_of::<Row>() == 32);

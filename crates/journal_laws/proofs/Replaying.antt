@@ -13,7 +13,7 @@ use Rattle.bpf_model.specs.Headline.{AreMachineAnswers, AreNeverStuck, AllExitIn
 use Rattle.bpf_model.specs.History.{HasHistoryTo, IsHistory, last_of}
 use Rattle.bpf_model.specs.Machine.{Loaded, Machine, Run, run_at}
 use Rattle.bpf_model.specs.Refines.{Tracks, TracksSchedule, RunSlotRefines}
-use Rattle.bpf_model.specs.Replay as machine
+use Rattle.bpf_model.specs.Replay.{HasNoRunsOnMachine, ReplaysOnMachine, answers_of, events_of}
 use Rattle.bpf_model.specs.View.{RunView, WorldView}
 use Rattle.view_laws.proofs.Tracking.{real-more}
 use Rattle.world_laws.specs.Reacting.{full_reaction, full_reactions}
@@ -21,8 +21,8 @@ use Rattle.world_laws.proofs.Worlds.{answers_machine, answers_scheduled, never_s
 use Rattle.world_invariant.specs.Invariant.{IsWorld}
 use Rattle.world_laws.proofs.Appending.{answers_grow, view_grows}
 use Rattle.world_invariant.proofs.Keeping.{reactions_make_world}
-use Rattle.journal.specs.declared.entry.Entry.{Entry}
-use Rattle.journal_laws.specs.Replay.{HasNoRuns, Replays, answers_of, events_of, machine_entry}
+use Rattle.bpf_model.specs.declared.entry.Entry.{Entry}
+use Rattle.journal_laws.specs.Replay.{HasNoRuns, Replays}
 use Rattle.std.specs.Option.{option_flatten}
 
 pub empty_replays : (w : WorldView) → IsWorld w → HasNoRuns w → Replays w w []
@@ -67,34 +67,19 @@ quiet-slot slots es programs (Some None) (Some None) h e = refl
 quiet-slot slots es programs (Some (Some v)) (Some (Some run)) h e = absurd (none-some v (sym e))
 quiet-slot slots es programs o p h e = absurd h
 
-quiet-machine : (base : WorldView) (m : Machine) → HasNoRuns base → Tracks base m → machine.HasNoRunsOnMachine m
+quiet-machine : (base : WorldView) (m : Machine) → HasNoRuns base → Tracks base m → HasNoRunsOnMachine m
 quiet-machine base m quiet t r =
     let s = t.0 in
     let here : run_at s.machine.runs r ≡ None = quiet-slot t.2.refines.slots s.machine.store.elements s.machine.programs (slice_get base.runs r) (slice_get s.machine.runs r) (t.2.refines.runs r) (quiet r) in
     subst (λ (x : Machine). run_at x.runs r ≡ None) t.1 here
 
-same-events : (entries : List Entry) → map (λ (e : machine.JournalEntry). e.event) (map machine_entry entries) ≡ events_of entries
-same-events [] = refl
-same-events (e ∷ entries) = ap (λ (xs : List Event). e.event ∷ xs) (same-events entries)
-
-same-answers : (entries : List Entry) → map (λ (e : machine.JournalEntry). e.answer) (map machine_entry entries) ≡ answers_of entries
-same-answers [] = refl
-same-answers (e ∷ entries) = ap (λ (xs : List Answer). e.answer ∷ xs) (same-answers entries)
-
-pub replays_on_machine : (base world : WorldView) (entries : List Entry) → Replays base world entries → length entries ≤ MAX_JOURNAL → (m : Machine) → Tracks base m → (last : Machine) × machine.ReplaysOnMachine m (map machine_entry entries) last × Tracks world last
+pub replays_on_machine : (base world : WorldView) (entries : List Entry) → Replays base world entries → length entries ≤ MAX_JOURNAL → (m : Machine) → Tracks base m → (last : Machine) × ReplaysOnMachine m entries last × Tracks world last
 replays_on_machine base world entries h short m t =
     let run = answers_machine base (events_of entries) h.base_is.ready h.real m t in
     let last = last_of m run.0 in
-    let moved : HasHistoryTo m (events_of entries) (answers_of entries) last = subst (λ (xs : List Answer). HasHistoryTo m (events_of entries) xs last) (sym h.answers) (history-run m (events_of entries) (full_reactions base (events_of entries)).0 run.0 run.1) in
-    let l : length (map machine_entry entries) ≡ length entries = length-map entries machine_entry in (
+    let moved : HasHistoryTo m (events_of entries) (answers_of entries) last = subst (λ (xs : List Answer). HasHistoryTo m (events_of entries) xs last) (sym h.answers) (history-run m (events_of entries) (full_reactions base (events_of entries)).0 run.0 run.1) in (
       last,
-      record {
-        quiet = quiet-machine base m h.quiet t;
-        short = omega (arith, l, short);
-        real = subst AreReal (sym (same-events entries)) h.real;
-        replay = subst (λ (es : List Event). HasHistoryTo m es (map (λ (e : machine.JournalEntry). e.answer) (map machine_entry entries)) last) (sym (same-events entries))
-            (subst (λ (xs : List Answer). HasHistoryTo m (events_of entries) xs last) (sym (same-answers entries)) moved);
-      },
+      record { quiet = quiet-machine base m h.quiet t; short = short; real = h.real; replay = moved },
       subst (λ (w : WorldView). Tracks w last) (sym h.world_is) run.2,
     )
 

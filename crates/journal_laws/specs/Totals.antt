@@ -8,14 +8,15 @@ use Rattle.bpf_model.specs.Element.{is_linked, is_reclaimed}
 use Rattle.bpf_model.specs.Machine.{Machine}
 use Rattle.bpf_model.specs.View.{WorldView}
 use Rattle.maps.specs.Counting.{unlinked_in}
-use Rattle.journal.specs.declared.entry.Entry.{Entry}
+use Rattle.bpf_model.specs.declared.entry.Entry.{Entry}
 
--- The steps that runs have taken: the entries answered Moved or Exited.
+-- the answer is that of a step which a run has taken
 abbrev pub is_step : Answer → Bool
 is_step Moved = true
 is_step (Exited value) = true
 is_step answer = false
 
+-- The steps that runs have taken: the entries answered Moved or Exited.
 abbrev pub steps_of : List Entry → ℕ
 steps_of entries = count_by (λ e. is_step e.answer) entries
 

@@ -4,7 +4,7 @@
 #![tactic(auto)]
 
 ghost use Rattle.std.specs.Prelude.{◌≡◌, ◌≢◌, ◌≤◌, ◌+◌, ◌++◌, ◌∷◌, [], ℕ, List};
-ghost use Rattle.std.specs.Prelude.{if◌then◌else◌, length, map};
+ghost use Rattle.std.specs.Prelude.{if◌then◌else◌, length};
 ghost use Rattle.bpf_model.specs.declared.event.Event.{Event};
 ghost use Rattle.bpf_model.specs.declared.limits.TheConstants.{MAX_JOURNAL};
 ghost use Rattle.bpf_model.specs.Event.{IsReal, AreReal};
@@ -13,14 +13,13 @@ ghost use Rattle.bpf_model.specs.Drain.{AreScheduledAnswers};
 ghost use Rattle.bpf_model.specs.Headline.{AreMachineAnswers, AreNeverStuck, AllExitInTime};
 ghost use Rattle.bpf_model.specs.Headline.{AreReclaimedLate};
 ghost use Rattle.bpf_model.specs.Refines.{Tracks, TracksSchedule};
-ghost use Rattle.bpf_model.specs.Replay as machine;
+ghost use Rattle.bpf_model.specs.Replay.{ReplaysOnMachine, answers_of, events_of};
 ghost use Rattle.bpf_model.specs.View.{WorldView};
 ghost use Rattle.world_laws.specs.Reacting.{full_reaction, full_reactions};
 ghost use Rattle.world_invariant.specs.Invariant.{IsWorld};
 ghost use Rattle.journal.specs.Entries.{IsAnswerTo};
-ghost use Rattle.journal.specs.declared.entry.Entry.{Entry};
-ghost use Rattle.journal_laws.specs.Replay.{HasNoRuns, Replays, answers_of, events_of};
-ghost use Rattle.journal_laws.specs.Replay.{machine_entry};
+ghost use Rattle.bpf_model.specs.declared.entry.Entry.{Entry};
+ghost use Rattle.journal_laws.specs.Replay.{HasNoRuns, Replays};
 ghost use Rattle.journal_laws.specs.Totals.{AreOfWorkers, entries_by, ever_reclaimed, ever_unlinked};
 ghost use Rattle.journal_laws.specs.Totals.{is_step, reclaimed_total, shares, steps_of, unlinked_total};
 
@@ -57,7 +56,7 @@ pub fn replays_to_world()
 pub fn replays_on_machine()
     ensures { (base world : WorldView) (entries : List Entry) → Replays base world entries →
         length entries ≤ MAX_JOURNAL → (m : Machine) → Tracks base m →
-        (last : Machine) × machine.ReplaysOnMachine m (map machine_entry entries) last
+        (last : Machine) × ReplaysOnMachine m entries last
         × Tracks world last }
 {}
 

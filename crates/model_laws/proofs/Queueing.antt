@@ -62,7 +62,7 @@ queued-elsewhere k o e h ne = ap (queued_in k) h ∙ ap one_of (and_right (is_un
 pub queued-here : (o : Option Element) (e : Element) (since : List Section) → o ≡ Some e → e.life ≡ Unlinked since → queued_in e.map o ≡ 1
 queued-here o e since h life = ap (queued_in e.map) h ∙ (ap (λ l. one_of (is_unlinked l && (e.map == e.map))) life ∙ ap one_of (eq-eqb e.map e.map refl))
 
--- it remembered the same sections before the step
+-- it kept the same sections before the step
 life-before : (reap : Bool) (opened a b : List Section) (old new : Life) → LifeMoves reap opened old new → old ≡ Unlinked a → new ≡ Unlinked b → old ≡ Unlinked b
 life-before reap opened a b old new (Stays e) h g = sym e ∙ g
 life-before reap opened a b old new (Unlinks l e) h g = absurd (linked≢unlinked a (sym l ∙ h))

@@ -176,7 +176,7 @@ pub fn drains()
         Drains (machines (start_schedule shapes programs ∷ states)) events answers }
 {}
 
-/// The element that a reap takes may be reclaimed: it is unlinked, and each section that it remembers has
+/// The element that a reap takes may be reclaimed: it is unlinked, and each section that it keeps has
 /// ended.
 pub fn reapable_in()
     ensures { (s : Schedule) (n : ℕ) → IsScheduled s → first_ready s.queues ≡ Some n →

@@ -31,7 +31,7 @@ pub struct Setup {
 }
 
 impl Model for Setup {
-    ghost use Rattle.world.specs.Bound.{programs_in};
+    ghost use Rattle.world_parts.specs.Programs.{programs_in};
     ghost use Rattle.script_setup.specs.Setups.{SetupView, setup_code, IsSetup};
 
     ghost Value = { SetupView };

@@ -6,8 +6,8 @@ use Rattle.script_stream.specs.declared.progress.TheConstants.{LINE_BYTES}
 use Rattle.script_stream.specs.declared.fault.ScriptFault.{ScriptFault}
 use Rattle.script_stream.specs.declared.fault.ScriptFault.TheVariants.{BadCommand, Read, Memory}
 use Rattle.script_stream.specs.Lines.{lines_of, ended, HasNoFeed}
-use Rattle.script_stream.specs.Answered.{Answered, AnsweredBefore, BeginsAnswered, IsBadLine}
-use Rattle.script_stream.specs.Progress.{IsProgressAt, FailsWith, IsOutputFault}
+use Rattle.script_stream.specs.Answered.{Answered, AnsweredBefore, BeginsAnswered, FailsWith, IsBadLine}
+use Rattle.script_stream.specs.Progress.{IsProgressAt, IsOutputFault}
 use Rattle.script_stream.proofs.LineLemmas.{lines_of-feed, lines_of-ended, lines_of-last, lines_of-open, HasFirst, HasNoFeed-append, HaveNoFeed-snoc, ended-snoc}
 
 pub saturate_more : (n m : ℕ) → m ≡ u64_saturate n → u64_saturate (m + 1) ≡ u64_saturate (n + 1)

@@ -2,6 +2,8 @@
 -- left.
 use Rattle.std.specs.Prelude.{◌≡◌, ℕ, ◌+◌, ◌<◌, ◌⊎◌, List, [], ◌∷◌, ◌++◌, length}
 use Rattle.std.specs.Io.Iter.{u64_saturate}
+use Rattle.script_stream.specs.declared.fault.ScriptFault.{ScriptFault}
+use Rattle.script_stream.specs.declared.fault.ScriptFault.TheVariants.{BadCommand}
 use Rattle.script_stream.specs.declared.progress.TheConstants.{LINE_BYTES}
 use Rattle.script_stream.specs.Lines.{lines_of}
 
@@ -37,3 +39,11 @@ module _ {S : Type 0} (answers : S → List ℕ → List ℕ → S → Type 0) w
     pub more : List ℕ
     pub new : S
     pub answered : Answered old first (text ++ more) new
+
+  -- How a script fails: what is written is a beginning of the answers to its lines, and where a
+  -- line is bad, exactly the answers to the lines before it.
+  pub record FailsWith (is_bad : List ℕ → Type 0) (old : S) (read written : List ℕ)
+      (fault : ScriptFault) : Type 0 where
+    pub begun : BeginsAnswered old read written
+    pub before : (line : ℕ) → fault ≡ BadCommand line
+        → AnsweredBefore is_bad old read line written

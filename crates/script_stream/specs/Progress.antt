@@ -2,10 +2,10 @@
 use Rattle.std.specs.Prelude.{◌≡◌, ℕ, ◌⊎◌, List, ◌++◌, length}
 use Rattle.std.specs.Io.Iter.{u64_saturate}
 use Rattle.script_stream.specs.declared.fault.ScriptFault.{ScriptFault}
-use Rattle.script_stream.specs.declared.fault.ScriptFault.TheVariants.{BadCommand, Write, Memory}
+use Rattle.script_stream.specs.declared.fault.ScriptFault.TheVariants.{Write, Memory}
 use Rattle.script_stream.specs.declared.progress.Progress.{Progress}
 use Rattle.script_stream.specs.Lines.{ended, HasNoFeed, HaveNoFeed}
-use Rattle.script_stream.specs.Answered.{Answered, AnsweredBefore, BeginsAnswered}
+use Rattle.script_stream.specs.Answered.{Answered}
 
 -- a fault of writing
 abbrev pub IsOutputFault : ScriptFault → Type 0
@@ -20,11 +20,3 @@ module _ {S : Type 0} (answers : S → List ℕ → List ℕ → S → Type 0) w
     pub open_line : HasNoFeed p.rest.items
     pub count : p.answered ≡ u64_saturate (length lines)
     pub answered : Answered answers old lines (written ++ p.out.items) now
-
-  -- How a script fails: what is written is a beginning of its text, and all before a line that is
-  -- bad.
-  pub record FailsWith (is_bad : List ℕ → Type 0) (old : S) (read written : List ℕ)
-      (fault : ScriptFault) : Type 0 where
-    pub begun : BeginsAnswered answers old read written
-    pub before : (line : ℕ) → fault ≡ BadCommand line
-        → AnsweredBefore answers is_bad old read line written

@@ -2,9 +2,9 @@
 ghost use Rattle.std.specs.Prelude.{◌≡◌, ◌⊎◌, ℕ, ◌+◌, ◌<◌, List, [], ◌∷◌, ◌++◌, length, IfErr, OnOk, OnErr, Err};
 ghost use Rattle.std.specs.Io.KnownBytes.{Appends};
 ghost use Rattle.std.specs.Io.Iter.{u64_saturate};
-ghost use Rattle.script_stream.specs.Answered.{Answered, IsBadLine};
+ghost use Rattle.script_stream.specs.Answered.{Answered, FailsWith, IsBadLine};
 ghost use Rattle.script_stream.specs.Lines.{HasNoFeed, lines_of};
-ghost use Rattle.script_stream.specs.Progress.{IsProgressAt, FailsWith, IsOutputFault};
+ghost use Rattle.script_stream.specs.Progress.{IsProgressAt, IsOutputFault};
 
 use crate::fault::ScriptFault;
 use crate::lines::cut_line;

@@ -2,9 +2,9 @@
 ghost use Rattle.std.specs.Prelude.{◌≡◌, ◌⊎◌, ℕ, ◌<◌, ◌++◌, List, MatchBool, length, take, IfOk, IfErr, OnOk, OnErr};
 ghost use Rattle.std.specs.Io.{ReadsAtMost};
 ghost use Rattle.std.specs.Io.KnownBytes.{Appends, Consumes, IsAtEnd, Keeps};
-ghost use Rattle.script_stream.specs.Answered.{Answered};
+ghost use Rattle.script_stream.specs.Answered.{Answered, FailsWith};
 ghost use Rattle.script_stream.specs.Lines.{lines_of};
-ghost use Rattle.script_stream.specs.Progress.{IsProgressAt, FailsWith};
+ghost use Rattle.script_stream.specs.Progress.{IsProgressAt};
 
 use crate::fault::{ScriptFault, stream_fault};
 use crate::progress::Progress;

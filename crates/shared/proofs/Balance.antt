@@ -4,7 +4,7 @@ use Rattle.bpf_model.specs.declared.event.Event.{Event}
 use Rattle.bpf_model.specs.declared.event.Answer.{Answer}
 use Rattle.bpf_model.specs.Event.{IsReal}
 use Rattle.bpf_model.specs.View.{WorldView}
-use Rattle.journal.specs.declared.entry.Entry.{Entry}
+use Rattle.bpf_model.specs.declared.entry.Entry.{Entry}
 use Rattle.journal_laws.specs.Replay.{Replays}
 use Rattle.journal_laws.specs.Totals.{is_step, steps_of, unreclaimed_in}
 use Rattle.journal_laws.proofs.Replaying.{replays_push}

@@ -25,7 +25,7 @@ use Rattle.bpf_model.specs.declared.insn.Insn.TheVariants.{Store, Call}
 use Rattle.bpf_model.specs.Access.{byte_count}
 use Rattle.bpf_model.specs.Call.{helper_of, kernel_function_of}
 use Rattle.bpf_model.specs.Event.{key_refusal, update_refusal, start_refusal}
-use Rattle.bpf_model.specs.Machine.{Loaded, lowest_free}
+use Rattle.bpf_model.specs.Machine.{Loaded, lowest_free, run_at}
 use Rattle.bpf_model.specs.Schedule.{is_any}
 use Rattle.bpf_model.specs.Step.{insn_at}
 use Rattle.bpf_model.specs.View.{MapView, RunView, WorldView}
@@ -39,7 +39,6 @@ use Rattle.world_laws.specs.Calling.{bytes_in, bound_number, serves, helper_call
 use Rattle.world_laws.specs.Reacting.{insn_step, step_at, step_in, run_step_of, or_step, full_reaction}
 use Rattle.journal_laws.specs.Totals.{unreclaimed_in}
 use Rattle.shared.specs.Tally.{CountsOn, reclaimed_by}
-use Rattle.std.specs.Option.{option_flatten}
 
 -- How many more elements are unlinked in one view of a map than in another: at most one.
 record Gains (v new : MapView) : Type 0 where
@@ -141,13 +140,13 @@ module _ (w : WorldView) where
 
   reaction-counts : (event : Event) (x : Answer × WorldView) → reaction w event ≡ Some x → IsCountedOn w x
   reaction-counts (events.Start prog ctx) x h = same-counts (start_reaction w prog ctx.items) x h (start-counts (start_refusal (slice_get w.programs prog) (length ctx.items) (lowest_free w.runs)) (lowest_free w.runs) prog ctx.items)
-  reaction-counts (events.Step r) x h = step-counts (step_refused (option_flatten (slice_get w.runs r))) x h
+  reaction-counts (events.Step r) x h = step-counts (step_refused (run_at w.runs r)) x h
   reaction-counts (events.Update map key value flags) x h = same-counts (update_reaction w map key.items value.items flags) x h (update-counts (update_refusal (shape_shown (slice_get w.maps map)) (length key.items) (length value.items)) (slice_get w.maps map) map key.items value.items flags refl)
   reaction-counts (events.Delete map key) x h = same-counts (delete_reaction w map key.items) x h (delete-counts (key_refusal (shape_shown (slice_get w.maps map)) (length key.items)) (slice_get w.maps map) map key.items refl)
   reaction-counts (events.Read map key) x h = same-counts (read_reaction w map key.items) x h (read-counts (key_refusal (shape_shown (slice_get w.maps map)) (length key.items)) (slice_get w.maps map) key.items)
   reaction-counts events.Advance x h = same-counts (advance_reaction w) x h (advance-counts (is_any w.awaited))
   reaction-counts events.Reap x h = same-counts (reap_reaction w) x h (reap-counts (first_pick 0 w.maps) refl)
-  reaction-counts (events.Drop r) x h = same-counts (drop_reaction w r) x h (drop-counts (drop_refused (option_flatten (slice_get w.runs r))) r)
+  reaction-counts (events.Drop r) x h = same-counts (drop_reaction w r) x h (drop-counts (drop_refused (run_at w.runs r)) r)
 
   -- a step of a run
   slot-counts : (answer : Answer) (width x : ℕ) (z : ℤ) (k slot : ℕ) (o : Option MapView) → reclaimed_by answer ≡ 0 → slice_get w.maps k ≡ o → IsCountedOn w (answer, stored_slot width x z k o slot w)
@@ -204,7 +203,7 @@ module _ (w : WorldView) where
   of-counts None r = still _ w refl refl refl
 
   left-counts : (event : Event) → IsCountedOn w (or_step None w event)
-  left-counts (events.Step r) = of-counts (option_flatten (slice_get w.runs r)) r
+  left-counts (events.Step r) = of-counts (run_at w.runs r) r
   left-counts event = still _ w refl refl refl
 
   either-counts : (event : Event) (o : Option (Answer × WorldView)) → reaction w event ≡ o → IsCountedOn w (or_step o w event)

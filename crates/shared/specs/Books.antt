@@ -4,7 +4,7 @@ use Rattle.std.specs.Prelude.{slice_get}
 use Rattle.bpf_model.specs.declared.event.Event.{Event}
 use Rattle.bpf_model.specs.declared.event.Answer.{Answer}
 use Rattle.bpf_model.specs.View.{WorldView}
-use Rattle.journal.specs.declared.entry.Entry.{Entry}
+use Rattle.bpf_model.specs.declared.entry.Entry.{Entry}
 use Rattle.journal.specs.Entries.{JournalView}
 use Rattle.journal_laws.specs.Replay.{Replays}
 use Rattle.journal_laws.specs.Totals.{steps_of}

@@ -35,7 +35,8 @@ pub record IsTallyOf (t : Tally) (w : WorldView) : Type 0 where
 abbrev pub greatest_count : ℕ
 greatest_count = 2 ^ 64 - 1
 
--- What the counters show: the totals of the world from its making on.
+-- What the counters show: the steps since the sharing, and of the elements of the world, from its
+-- making on, how many were unlinked and how many of these reclaimed.
 abbrev pub shown_totals : Origin → ℕ → ℕ → ℕ → Totals
 shown_totals o steps unlinked reclaimed = record {
   steps = steps;

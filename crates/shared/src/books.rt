@@ -113,7 +113,7 @@ impl<L: Ledger> Books<L> {
     /// Applies the event and enters it, or changes nothing.
     ///
     /// The reply is `JournalFull` exactly when the journal has as many entries as it may have, or when as many
-    /// as a number can count were made since the world was shared; `Memory` when the journal could not grow.
+    /// as 64 bits count were made since the world was shared; `Memory` when the journal could not grow.
     pub fn act_noted(&mut self, worker: &mut Worker<L>, event: Event) -> Receipt
         ensures noted { IsEntered self.old worker.old event result self.new worker.new }
         ensures rise { TotalsRise self.old.tally.totals self.new.tally.totals }

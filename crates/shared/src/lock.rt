@@ -57,8 +57,8 @@ fn programs_of(alloc: Global, world: &World) -> Result<Vec<Verified>, AllocError
 }
 
 impl<L: Ledger> Shared<L> {
-    /// Shares a world in which no run slot is occupied among 1 to `MAX_WORKERS` workers, with an empty journal and the
-    /// counters. The programs that it keeps are the world's, by number. The ledger has one part for
+    /// Shares a world in which no run slot is occupied among 1 to `MAX_WORKERS` workers, with an empty journal
+    /// and the counters. The programs that it keeps are the world's, by number. The ledger has one part for
     /// each worker. The error is that there is no memory left.
     pub fn new(
         alloc: Global,

@@ -69,8 +69,9 @@ impl Origin {
         }
     }
 
-    /// The totals of the world from its making on, after so many since it was shared. The sums stop at the
-    /// greatest number, which no world reaches.
+    /// What the counters show, after so many since the world was shared: these steps, and of its elements, from
+    /// its making on, how many were unlinked and how many of these reclaimed. The sums stop at the greatest
+    /// number, which no world reaches.
     pub(crate) fn shown(self, steps: u64, unlinked: u64, reclaimed: u64) -> Totals
         ensures { result ≡ shown_totals self steps unlinked reclaimed }
     {

@@ -32,7 +32,7 @@ fn entry(worker: u8, event: Event, answer: Answer) -> Entry
     }
 }
 
-/// What runs ask and are answered: the first samples.
+/// What runs ask and are answered, and an advance: the first samples.
 fn of_runs(number: usize) -> Entry
     ensures { IsAnswerTo result.event result.answer }
 {

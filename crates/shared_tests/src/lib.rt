@@ -1,5 +1,5 @@
-//! Tests of a shared world, with the counters that its workers write, cuts and exits; and of a pool of workers that
-//! serves jobs from it. Of the journal: every kind of entry is read back as it was added.
+//! Tests of a shared world, with the counters that its workers write, cuts and exits; and of a pool of workers
+//! that serves jobs from it. Of the journal: every kind of entry is read back as it was added.
 #![tactic(auto)]
 
 #[cfg(test)]

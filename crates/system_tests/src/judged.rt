@@ -1,7 +1,7 @@
 //! What becomes of program bytes: a fault of the decoder, a refusal of the verifier, or an exit.
 ghost use Rattle.std.specs.Prelude.{◌≡◌, IfOk};
 
-use bpf_model::{CTX_BYTES, CtxBytes, MapShape};
+use bpf_model::{CtxBytes, MapShape};
 use insn_codec::decode;
 use lone_runs::run_to_exit;
 use std::alloc::Global;
@@ -58,14 +58,11 @@ pub fn context_of(bytes: &[u8]) -> Result<CtxBytes, Fail>
 /// What becomes of program bytes on a context.
 pub fn judged(alloc: Global, code: &[u8], ctx: &[u8]) -> Result<Wanted, Fail> {
     let context = context_of(ctx)?;
-    if ctx.len() > CTX_BYTES {
-        return Err(Fail::from("the context is too long"));
-    }
     let program = match decode(alloc, code) {
         Ok(program) => program,
         Err(fault) => return Ok(Wanted::Flawed(fault.code(), fault.slot())),
     };
-    let verified = match verify(alloc, program, &[], ctx.len()) {
+    let verified = match verify(alloc, program, &[], context.len()) {
         Ok(verified) => verified,
         Err(refusal) => return Ok(Wanted::Refused(refusal.code(), refusal.slot())),
     };

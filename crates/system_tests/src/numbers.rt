@@ -339,9 +339,10 @@ fn conditions(rt: HostRuntime) {
     }
 }
 
-/// A word, and what each operation of one operand leaves of it.
+/// The word on which each operation of one operand is tried.
 const WORD: u64 = 0x1234_5678_9abc_def0;
 
+/// What each operation of one operand leaves of `WORD`.
 const UNARY: [(UnaryOp, u64); 16] = [
     (UnaryOp::Negate(Size::Word64), 0xedcb_a987_6543_2110),
     (UnaryOp::Negate(Size::Word32), 0x6543_2110),

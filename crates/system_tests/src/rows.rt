@@ -1,4 +1,4 @@
-//! Worked programs: decoding, arithmetic, jumps, frame and context.
+//! Worked programs: decoding, calls and sections, arithmetic, jumps, frame and context.
 use crate::judged::{Case, Wanted, judged_case};
 use std::test::Fail;
 

@@ -52,7 +52,7 @@ accessible-held c map n h = ap (λ o. o >>= unless_reclaimed) h.born ∙ ap (λ 
 pub value-long : (shapes : List MapShape) (ctx_len : ℕ) (s : Maps) (opened : List Section) (run : Run) (map n : ℕ) (shape : MapShape) → Surrounds shapes ctx_len s opened run → slice_get shapes map ≡ Some shape → (h : IsHeld (scene_of s.elements run) map n) → length h.element.value ≡ shape.value_len
 value-long shapes ctx_len s opened run map n shape w at h =
     let b = bound shapes ctx_len s opened run map shape w at in
-    let z = w.sizes n h.element h.born in
+    let z = w.lengths n h.element h.born in
     let number : b.number ≡ h.element.map = same_Some _ _ (sym b.listed ∙ h.in_map) in
     let state : z.0 ≡ b.state = same_Some _ _ (sym z.1 ∙ (ap (slice_get s.maps) (sym number) ∙ b.there)) in
     z.3 ∙ (ap (λ x. x.shape.value_len) state ∙ ap (λ x. x.value_len) b.shape_is)

@@ -34,7 +34,7 @@ pub record Surrounds (shapes : List MapShape) (ctx_len : ℕ) (s : Store) (opene
   pub going : run.exit ≡ None
   pub section : 0 < run.depth → Has opened (section_of run)
   pub single : IsSingle s.elements
-  pub sizes : (n : ℕ) (e : Element) → slice_get s.elements n ≡ Some e → HasLengths s.maps e
+  pub lengths : (n : ℕ) (e : Element) → slice_get s.elements n ≡ Some e → HasLengths s.maps e
   pub bytes : AllBytes s.elements
   pub bound : AreMapsBound shapes run.program.maps s.maps
   pub long : length run.context ≡ ctx_len

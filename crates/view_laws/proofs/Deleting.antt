@@ -185,7 +185,7 @@ module _ (w : WorldView) (s : Schedule) (x : RefinesSchedule w s) (i : IsSchedul
     stands-deleted = turned-world w s x i k (retired_key v key) after queues (still_open s.awaited (open_flags s.machine.runs)) w.given turns (awaited-same w s x i) (x.given ∙ sym d.given)
 
     pub deletes-half : DeletesHalf (with_map k (retired_key v key) w) s k key (delete_result (get v.index key))
-    deletes-half = record { store = after; deletes = (d.found, d.looks, d.result); oldest = oldest-none s.machine.store after d.long; refines = turned-world w s x i k (retired_key v key) after queues s.awaited w.given turns refl (x.given ∙ sym d.given) }
+    deletes-half = record { store = after; changes = (d.found, d.looks, d.result); oldest = oldest-none s.machine.store after d.long; refines = turned-world w s x i k (retired_key v key) after queues s.awaited w.given turns refl (x.given ∙ sym d.given) }
 
 pub delete_half : (w : WorldView) (s : Schedule) → Matches w s → (k : ℕ) (v : MapView) (key : List ℕ) → slice_get w.maps k ≡ Some v → DeletesHalf (with_map k (deleted v key).1 w) s k key (deleted v key).0
 delete_half w s sim k v key at = deletes-half w s sim.refines sim.scheduled k v at key (drop w s sim.refines sim.scheduled k v at key)

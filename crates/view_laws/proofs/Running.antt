@@ -141,7 +141,7 @@ module _ (w : WorldView) (s : Schedule) (sim : Matches w s) (r : ℕ) where
         move_simulates run later old (locked_view old) Moved run_is at (record {
           program = h.program;
           context = h.context;
-          eleven = h.eleven;
+          register_count = h.register_count;
           registers = λ q less. nothing-word (q == 0) (nat_le q 5) (run.state.regs q) (slice_index old.registers q) (h.registers q less);
           cells = h.cells;
           frame = h.frame;
@@ -158,7 +158,7 @@ module _ (w : WorldView) (s : Schedule) (sim : Matches w s) (r : ℕ) where
         move_simulates run later old (unlocked_view old) Moved run_is at (record {
           program = h.program;
           context = h.context;
-          eleven = h.eleven;
+          register_count = h.register_count;
           registers = λ q less. nothing-word (q == 0) (nat_le q 5) (run.state.regs q) (slice_index old.registers q) (h.registers q less);
           cells = h.cells;
           frame = h.frame;

@@ -55,7 +55,7 @@ module _ (slots : List ℕ) (es : List Element) (programs : List Loaded) where
   fresh-refines prog program context name h = record {
     program = h;
     context = refl;
-    eleven = refl;
+    register_count = refl;
     registers = fresh-words;
     cells = length-replicate {A = ℕ} FRAME_BYTES 0;
     frame = λ k less. tt;

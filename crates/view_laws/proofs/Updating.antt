@@ -185,7 +185,7 @@ module _ (w : WorldView) (s : Schedule) (x : RefinesSchedule w s) (i : IsSchedul
     pub births-half : shown_error v key flags ≡ None → UpdatesHalf (with_map k (filled v' slot rest key value) w) s k key value flags (Ok tt)
     births-half is = record {
       store = after;
-      updates = updates-as (Ok tt) after (subst (λ o. Settles o (Ok tt) s.machine.store after (Replaces s.machine.store (open_sections s.machine.runs) k here.state key value d.found after)) (sym is) (refl, replaces));
+      changes = updates-as (Ok tt) after (subst (λ o. Settles o (Ok tt) s.machine.store after (Replaces s.machine.store (open_sections s.machine.runs) k here.state key value d.found after)) (sym is) (refl, replaces));
       oldest = oldest;
       refines = turned-world w s x i k (filled v' slot rest key value) after queues s.awaited w.given turns refl (x.given ∙ sym given-same);
     }
@@ -193,7 +193,7 @@ module _ (w : WorldView) (s : Schedule) (x : RefinesSchedule w s) (i : IsSchedul
   pub errs-half : (e : Errno) → shown_error v key flags ≡ Some e → UpdatesHalf (with_map k v w) s k key value flags (Err e)
   errs-half e is = record {
     store = s.machine.store;
-    updates = updates-as (Err e) s.machine.store (subst (λ o. Settles o (Err e) s.machine.store s.machine.store (Replaces s.machine.store (open_sections s.machine.runs) k here.state key value d.found s.machine.store)) (sym is) (refl, refl));
+    changes = updates-as (Err e) s.machine.store (subst (λ o. Settles o (Err e) s.machine.store s.machine.store (Replaces s.machine.store (open_sections s.machine.runs) k here.state key value d.found s.machine.store)) (sym is) (refl, refl));
     oldest = oldest-none s.machine.store s.machine.store refl;
     refines = subst (λ z. RefinesSchedule z (half s s.machine.store)) (sym world-same) (subst (RefinesSchedule w) (λ j. record { machine = s.machine; queues = sym (retired-same 0 s.machine.store.elements s.queues) j; awaited = s.awaited }) x);
   }

@@ -41,7 +41,7 @@ module _ (k : ℕ) (slots names : List ℕ) (es fs : List Element) (c : Changes 
   run-kept programs w run b h = record {
     program = h.program;
     context = h.context;
-    eleven = h.eleven;
+    register_count = h.register_count;
     registers = λ r less. value-word (run.state.regs r) (slice_index w.registers r) (b.0 r) (h.registers r less);
     cells = h.cells;
     frame = λ i less. cell-byte (run.state.frame i) (slice_index w.frame i) (b.1 i) (h.frame i less);

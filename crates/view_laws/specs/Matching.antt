@@ -35,22 +35,26 @@ half s store = record {
   awaited = s.awaited;
 }
 
--- The first half of a delete with this result, of an update, and of a store of a number to element
--- n: the view refines the schedule after it.
-pub record DeletesHalf (w : WorldView) (s : Schedule) (k : ℕ) (key : List ℕ)
-    (ret : Result (Unit {0}) Errno) : Type 0 where
+-- The first half of a step that changes the store like this: the view refines the schedule after
+-- it.
+pub record ChangesHalf (w : WorldView) (s : Schedule) (Changes : Store → Type 0) : Type 0 where
   pub store : Store
-  pub deletes : Deletes s.machine.store (open_sections s.machine.runs) k key ret store
+  pub changes : Changes store
   pub oldest : TakesOldest s.machine.store store
   pub refines : RefinesSchedule w (half s store)
 
-pub record UpdatesHalf (w : WorldView) (s : Schedule) (k : ℕ) (key value : List ℕ) (flags : ℕ)
-    (ret : Result (Unit {0}) Errno) : Type 0 where
-  pub store : Store
-  pub updates : Updates s.machine.store (open_sections s.machine.runs) k key value flags ret store
-  pub oldest : TakesOldest s.machine.store store
-  pub refines : RefinesSchedule w (half s store)
+-- it deletes, with this result
+abbrev pub DeletesHalf : WorldView → Schedule → ℕ → List ℕ → Result (Unit {0}) Errno → Type 0
+DeletesHalf w s k key ret =
+    ChangesHalf w s (Deletes s.machine.store (open_sections s.machine.runs) k key ret)
 
+-- it updates, with this result
+abbrev pub UpdatesHalf : WorldView → Schedule → ℕ → List ℕ → List ℕ → ℕ →
+    Result (Unit {0}) Errno → Type 0
+UpdatesHalf w s k key value flags ret =
+    ChangesHalf w s (Updates s.machine.store (open_sections s.machine.runs) k key value flags ret)
+
+-- the same of a store of a number to element n
 pub record StoresHalf (w : WorldView) (s : Schedule) (n width : ℕ) (offset : ℤ) (x : ℕ)
     : Type 0 where
   pub elements : List Element

@@ -91,17 +91,19 @@ advanced_by false w =
 abbrev pub advance_reaction : WorldView → Answer × WorldView
 advance_reaction w = (Done, advanced_by (is_any w.awaited) w)
 
--- A reap takes the first ready map slot of the lowest map that has one.
+-- what a reap takes: a map's number and view, and one of its map slots
 pub record Pick : Type 0 where
   pub map : ℕ
   pub view : MapView
   pub slot : ℕ
 
+-- the first of the ready map slots of map k, or where there is none a later pick
 abbrev pub or_pick : List ℕ → ℕ → MapView → Option Pick → Option Pick
 or_pick [] k v later = later
 or_pick (i ∷ rest) k v later = Some (record { map = k; view = v; slot = i })
 
--- (the first view is that of map k)
+-- A reap takes the first ready map slot of the lowest map that has one. (The first view is that of
+-- map k.)
 abbrev pub first_pick : ℕ → List MapView → Option Pick
 first_pick k [] = None
 first_pick k (v ∷ vs) = or_pick v.ready k v (first_pick (suc k) vs)
@@ -131,12 +133,13 @@ reap_by (Some p) w = (Reaped (Some (picked_element p)), with_reaped p w)
 abbrev pub reap_reaction : WorldView → Answer × WorldView
 reap_reaction w = reap_by (first_pick 0 w.maps) w
 
--- A run slot changes: its flag tells whether its run is inside a section, and it is awaited no more
--- where it isn't.
+-- the run that a run slot shows is inside a section
 abbrev pub is_open_view : Option RunView → Bool
 is_open_view None = false
 is_open_view (Some v) = nat_lt 0 v.depth
 
+-- A run slot changes: its flag tells whether its run is inside a section, and it is awaited no more
+-- where it isn't.
 abbrev pub with_run : ℕ → Option RunView → WorldView → WorldView
 with_run r v w = record {
   maps = w.maps;

@@ -25,11 +25,12 @@ with_lists q v = record {
   worn = v.worn;
 }
 
--- A lookup: the value in the map slot that the index has for the key.
+-- the value in a map slot, where one was found
 abbrev pub value_shown : MapView → Option ℕ → Option (ArrayVec ℕ)
 value_shown v None = None
 value_shown v (Some i) = Some (record { items = value_in (slice_get v.slots i) })
 
+-- A lookup: the value in the map slot that the index has for the key.
 abbrev pub value_read : MapView → List ℕ → Option (ArrayVec ℕ)
 value_read v key = value_shown v (get v.index key)
 
@@ -52,11 +53,12 @@ retired_slot v key (Some i) =
 abbrev pub retired_key : MapView → List ℕ → MapView
 retired_key v key = retired_slot v key (get v.index key)
 
--- A delete: its result, and the view after it.
+-- the result of a delete, by the map slot that was found
 abbrev pub delete_result : Option ℕ → Result (Unit {0}) Errno
 delete_result None = Err NoEntry
 delete_result (Some i) = Ok tt
 
+-- A delete: its result, and the view after it.
 abbrev pub deleted : MapView → List ℕ → Result (Unit {0}) Errno × MapView
 deleted v key = (delete_result (get v.index key), retired_key v key)
 

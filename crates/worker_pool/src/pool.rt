@@ -16,8 +16,8 @@ use std::sync::Wait;
 use std::sync::ledger::Ledger;
 use std::thread::Threads;
 
-/// Serves all jobs from a shared world by the last of its workers, each in a thread of its own: one outcome a job,
-/// in job order. The workers come back whatever the answer, in their order.
+/// Serves all jobs from a shared world by the last of its workers, each in a thread of its own: one outcome a
+/// job, in job order. The workers come back whatever the answer, in their order.
 ///
 /// Errors: the first of these that holds.
 /// - `BadWorkers`: `threads` is not 1 to `MAX_WORKERS`, or more than there are workers. Nothing was done.

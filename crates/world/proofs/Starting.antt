@@ -6,19 +6,18 @@ use Rattle.bpf_model.specs.declared.limits.TheConstants.{MAX_MAPS, MAX_PROGRAMS}
 use Rattle.bpf_model.specs.MapState.{AreShapes, new_map}
 use Rattle.bpf_model.specs.Refines.{TracksSchedule}
 use Rattle.bpf_model.specs.Schedule.{start_schedule}
-use Rattle.bpf_model.specs.View.{AreNewMaps, MapView, WorldView, start_view, shapes_of_maps}
+use Rattle.bpf_model.specs.View.{AreNewMaps, MapView, WorldView, start_view, shapes_of_maps, unused_world}
 use Rattle.model_laws.proofs.Counting.{map-back}
 use Rattle.model_laws.proofs.Starting.{start_tracked}
 use Rattle.typed_runs.specs.Verified.{IsVerified}
 use Rattle.typed_runs.specs.Well.{IsVerifiedFor, AreVerified}
 use Rattle.world_laws.specs.Typed.{IsRealProgram, AreRealPrograms}
 use Rattle.world_parts.specs.declared.loaded.Loaded.{Loaded}
-use Rattle.world_parts.specs.Programs.{program_of}
-use Rattle.world_parts.specs.Keeping.{unused_world}
+use Rattle.world_parts.specs.Programs.{program_of, programs_in}
 use Rattle.world_invariant.specs.Invariant.{IsWorld}
 use Rattle.world_invariant.proofs.Binding.{bound_is_verified}
 use Rattle.world_invariant.proofs.Keeping.{start_is_world}
-use Rattle.world.specs.Bound.{programs_in, AreProgramsBound}
+use Rattle.world.specs.Bound.{AreProgramsBound}
 
 -- What is known of the parts of a new world before it is made.
 pub record IsSafe (maps : List MapView) (loaded : List Loaded) : Type 0 where

@@ -1,14 +1,8 @@
 -- Whether the programs of a new world are bound to its maps as they were verified.
-use Rattle.std.specs.Prelude.{◌≡◌, ℕ, ◌<◌, List, Some, map, slice_get}
+use Rattle.std.specs.Prelude.{◌≡◌, ℕ, ◌<◌, List, Some, slice_get}
 use Rattle.bpf_model.specs.declared.limits.MapShape.{MapShape}
-use Rattle.bpf_model.specs.Machine as machine
 use Rattle.world_invariant.specs.Binding.{IsBoundTo}
 use Rattle.world_parts.specs.declared.loaded.Loaded.{Loaded}
-use Rattle.world_parts.specs.Programs.{program_of}
-
--- the programs as a world shows them
-abbrev pub programs_in : List Loaded → List machine.Loaded
-programs_in loaded = map program_of loaded
 
 -- The program's maps are there, with the shapes that it was verified for.
 abbrev pub IsBound : List MapShape → Loaded → Type 0

@@ -54,10 +54,10 @@ word-returned bases false false x y u v p q = q
 
 returned-refines : (slots : List ℕ) (es : List Element) (programs : List Loaded) (v : RunView) (run : Run) → RunRefines slots es programs v run → (ret : Value) (word : ℕ) → WordIs (element_bases slots es) ret word → RunRefines slots es programs (returned_view word v) (moves run (returns ret run.state))
 returned-refines slots es programs v run h ret word is =
-    let eleven : length v.registers ≡ REGISTERS = h.eleven in
+    let register_count : length v.registers ≡ REGISTERS = h.register_count in
     let bases = element_bases slots es in
-    move-refines slots es programs v run h (slice_set v.registers 0 word) v.frame (v.place + 1) (returns ret run.state) (length-set v.registers 0 word ∙ h.eleven)
-    (λ q l. subst (λ y. WordIs bases (returned_value ret run.state.regs q) y) (sym (set_cond v.registers 0 word q (omega (arith, eleven))))
+    move-refines slots es programs v run h (slice_set v.registers 0 word) v.frame (v.place + 1) (returns ret run.state) (length-set v.registers 0 word ∙ h.register_count)
+    (λ q l. subst (λ y. WordIs bases (returned_value ret run.state.regs q) y) (sym (set_cond v.registers 0 word q (omega (arith, register_count))))
     (word-returned bases (q == 0) (nat_le q 5) word (slice_index v.registers q) ret (run.state.regs q) is (h.registers q l)))
     h.cells h.frame (ap (λ p. p + 1) h.place)
 
@@ -194,7 +194,7 @@ module _ (w : WorldView) (s : Schedule) (m : Matches w s) (sound : IsSound w s) 
               outcome = (deleted c.view d.key).0;
               map_is = d.map_is;
               key_is = d.key_is;
-              deleted = g.deletes;
+              deleted = g.changes;
               ret_is = refl;
             }),
             refl,
@@ -246,7 +246,7 @@ module _ (w : WorldView) (s : Schedule) (m : Matches w s) (sound : IsSound w s) 
               key_is = d.key_is;
               value_is = d.value_is;
               flags_are = d.flags_are;
-              updated = g.updates;
+              updated = g.changes;
               ret_is = refl;
             }),
             refl,

@@ -48,10 +48,10 @@ immediate-below (negsuc n) f = omega arith
 pub move-refines : (slots : List ℕ) (es : List Element) (programs : List Loaded) (v : RunView) (run : Run) → RunRefines slots es programs v run → (registers frame : List ℕ) (place : ℕ) (next : State)
     → length registers ≡ REGISTERS → ((q : ℕ) → q < REGISTERS → WordIs (element_bases slots es) (next.regs q) (slice_index registers q))
     → length frame ≡ FRAME_BYTES → ((j : ℕ) → j < FRAME_BYTES → ByteIs (element_bases slots es) (next.frame j) (slice_index frame j)) → place ≡ next.place → RunRefines slots es programs (moved_view registers frame place v) (moves run next)
-move-refines slots es programs v run h registers frame place next eleven regs cells bytes at = record {
+move-refines slots es programs v run h registers frame place next register_count regs cells bytes at = record {
   program = h.program;
   context = h.context;
-  eleven = eleven;
+  register_count = register_count;
   registers = regs;
   cells = cells;
   frame = bytes;
@@ -129,7 +129,7 @@ module _ (w : WorldView) (s : Schedule) (m : Matches w s) (sound : IsSound w s) 
   -- the words after a move
   pub moved-refines : (registers frame : List ℕ) (place : ℕ) (next : State) → length registers ≡ REGISTERS → ((q : ℕ) → q < REGISTERS → WordIs bases (next.regs q) (slice_index registers q))
       → length frame ≡ FRAME_BYTES → ((j : ℕ) → j < FRAME_BYTES → ByteIs bases (next.frame j) (slice_index frame j)) → place ≡ next.place → Refines (moved_view registers frame place v) (moves run next)
-  moved-refines registers frame place next eleven regs cells bytes at = move-refines slots es s.machine.programs v run refines registers frame place next eleven regs cells bytes at
+  moved-refines registers frame place next register_count regs cells bytes at = move-refines slots es s.machine.programs v run refines registers frame place next register_count regs cells bytes at
 
   -- what the run stands for when the maps have changed
   pub half-refines : (store : Store) (u : WorldView) (y : RefinesSchedule u (half s store)) → u.runs ≡ w.runs → RunRefines y.slots store.elements s.machine.programs v run

@@ -91,7 +91,7 @@ module _ (m : Machine) (r : ℕ) (run : Run) (w : IsWell m) (at : run_at m.runs 
         going = s.going;
         section = s.section;
         single = s.single;
-        sizes = s.sizes;
+        lengths = s.lengths;
         bytes = s.bytes;
         bound = s.bound;
         long = s.long;

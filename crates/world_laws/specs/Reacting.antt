@@ -45,7 +45,7 @@ insn_step (LoadSigned width dst src offset) program r v w =
 insn_step (Store width dst offset src) program r v w =
     stored_word (byte_count width) offset (word_in v dst) (operand_word v src) r v w
 
--- A step of the run in a run slot: the step of the instruction at its place.
+-- the step of an instruction, where one begins at the run's place
 abbrev pub step_at : Option Insn → Loaded → ℕ → RunView → WorldView → Answer × WorldView
 step_at (Some i) program r v w = insn_step i program r v w
 step_at None program r v w = idle w
@@ -58,6 +58,7 @@ abbrev pub run_step_of : Option RunView → ℕ → WorldView → Answer × Worl
 run_step_of (Some v) r w = step_in (slice_get w.programs v.program) r v w
 run_step_of None r w = idle w
 
+-- A step of the run in a run slot: the step of the instruction at its place.
 abbrev pub word_step : WorldView → ℕ → Answer × WorldView
 word_step w r = run_step_of (run_at w.runs r) r w
 

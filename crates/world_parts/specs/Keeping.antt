@@ -1,14 +1,12 @@
 -- What is kept of a world's runs: each at its code, and for each whether it is inside a section.
-use Rattle.std.specs.Prelude.{◌≡◌, ℕ, Bool, false, List, length, map, replicate, Option, None}
-use Rattle.std.specs.Prelude.{Some, slice_get, option_map}
+use Rattle.std.specs.Prelude.{◌≡◌, ℕ, Bool, List, length, map, Option, Some, slice_get, option_map}
 use Rattle.bpf_model.specs.declared.limits.TheConstants.{MAX_RUNS}
-use Rattle.bpf_model.specs.Machine as machine
 use Rattle.bpf_model.specs.View.{MapView, RunView, WorldView}
 use Rattle.grace_period.specs.State.{GraceState}
 use Rattle.view_laws.specs.Reactions.{is_open_view}
 use Rattle.machine.specs.RunWords.{RunWords, IsAt}
 use Rattle.world_parts.specs.declared.loaded.Loaded.{Loaded}
-use Rattle.world_parts.specs.Programs.{program_of}
+use Rattle.world_parts.specs.Programs.{programs_in}
 
 -- what the world's view shows of a run slot
 abbrev pub view_of : Option RunWords → Option RunView
@@ -40,20 +38,8 @@ world_of maps runs grace programs given = record {
   runs = map view_of runs;
   opened = grace.opened;
   awaited = grace.awaited;
-  programs = map program_of programs;
+  programs = programs_in programs;
   given = given;
-}
-
--- these maps and programs before any event: all run slots are free, and no section is open or
--- awaited
-abbrev pub unused_world : List MapView → List machine.Loaded → WorldView
-unused_world maps programs = record {
-  maps = maps;
-  runs = replicate MAX_RUNS None;
-  opened = replicate MAX_RUNS false;
-  awaited = replicate MAX_RUNS false;
-  programs = programs;
-  given = 0;
 }
 
 -- no run is in the run slot

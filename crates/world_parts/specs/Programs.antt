@@ -1,4 +1,5 @@
--- A loaded program, as a world shows it.
+-- Loaded programs, as a world shows them.
+use Rattle.std.specs.Prelude.{List, map}
 use Rattle.bpf_model.specs.Machine as machine
 use Rattle.world_parts.specs.declared.loaded.Loaded.{Loaded}
 
@@ -9,3 +10,7 @@ program_of l = record {
   maps = l.maps.items;
   context_len = l.verified.ctx_len;
 }
+
+-- the programs, by number
+abbrev pub programs_in : List Loaded → List machine.Loaded
+programs_in loaded = map program_of loaded

@@ -1,8 +1,8 @@
 //! What a world keeps.
-ghost use Rattle.std.specs.Prelude.{◌≡◌, None, map, replicate, slice_get, option_map, option_copied, IfOk};
+ghost use Rattle.std.specs.Prelude.{◌≡◌, None, replicate, slice_get, option_map, option_copied, IfOk};
 ghost use Rattle.bpf_model.specs.declared.limits.TheConstants.{MAX_RUNS};
-ghost use Rattle.world_parts.specs.Keeping.{unused_world};
-ghost use Rattle.world_parts.specs.Programs.{program_of};
+ghost use Rattle.bpf_model.specs.View.{unused_world};
+ghost use Rattle.world_parts.specs.Programs.{program_of, programs_in};
 
 use crate::by_number::program_at;
 use crate::copying::{copy_of_programs, copy_of_runs};
@@ -60,7 +60,7 @@ impl Parts {
         programs: Vec<Loaded>,
     ) -> Result<Parts, AllocError>
         ensures { IfOk result (λ w.
-            w ≡ unused_world registry.maps (map program_of programs.items)) }
+            w ≡ unused_world registry.maps (programs_in programs.items)) }
     {
         let runs = free_slots(alloc)?;
         Ok(Parts {

@@ -39,7 +39,7 @@ pub fn parse_words(words: &[String]) -> Result<Command, UsageFault>
     }
 }
 
-/// What is timed, of several workers or of scripts.
+/// The command that the word before `time` asks for.
 fn parse_subject(word: &str) -> Result<Command, UsageFault>
     ensures { result ≢ Ok Answers }
 {

@@ -1,9 +1,8 @@
 use Rattle.std.proofs.Common.{[], refl, subst}
 use Rattle.std.proofs.lemmas.Result.{on_ok_weaker, IfErr-weaker}
 use Rattle.script_setup.specs.Setups.{no_maps_or_programs}
-use Rattle.script_stream.specs.Answered.{Answered}
+use Rattle.script_stream.specs.Answered.{Answered, FailsWith}
 use Rattle.script_stream.specs.Lines.{lines_of}
-use Rattle.script_stream.specs.Progress.{FailsWith}
 use Rattle.control.specs.Sessions.{IsNoCommand, new_session}
 use Rattle.control.specs.declared.running.Script.{Script}
 use Rattle.control.specs.declared.session.Session.{Session}

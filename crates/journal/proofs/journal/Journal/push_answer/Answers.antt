@@ -1,7 +1,7 @@
 use Rattle.std.proofs.Common.{◌≡◌, ◌++◌, ◌∷◌, [], List, ℕ, length, sym, ap, subst, ◌∙◌, rules}
 use Rattle.std.specs.Prelude.{map}
 use Rattle.journal.specs.Rows.{IsRowOf, AreStored, entry_bytes, entry_from, entry_of}
-use Rattle.journal.specs.declared.entry.Entry.{Entry}
+use Rattle.bpf_model.specs.declared.entry.Entry.{Entry}
 use Rattle.journal.specs.declared.row.Row.{Row}
 use Rattle.journal.proofs.Storing.{stored-push, entries-push}
 use Rattle.journal.proofs.journal.Journal.push_answer.Goals as goal

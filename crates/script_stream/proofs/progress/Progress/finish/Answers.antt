@@ -1,8 +1,7 @@
 use Rattle.std.proofs.Common.{◌++◌, [], Err, ap, sym, subst, ◌∙◌, append-nil}
 use Rattle.std.proofs.lemmas.Result.{MatchResult-weaker}
 use Rattle.script_stream.specs.Lines.{lines_of}
-use Rattle.script_stream.specs.Answered.{Answered}
-use Rattle.script_stream.specs.Progress.{FailsWith}
+use Rattle.script_stream.specs.Answered.{Answered, FailsWith}
 use Rattle.script_stream.proofs.ProgressLemmas.{fails, next_at_end, fails_at_end, on_ok_both}
 use Rattle.script_stream.proofs.progress.Progress.finish.Goals as goal
 

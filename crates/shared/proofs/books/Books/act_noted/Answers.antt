@@ -3,7 +3,7 @@ use Rattle.std.specs.Prelude.{Ok, Err}
 use Rattle.bpf_model.specs.declared.event.Event.{Event}
 use Rattle.bpf_model.specs.declared.event.Answer.{Answer}
 use Rattle.bpf_model.specs.View.{WorldView}
-use Rattle.journal.specs.declared.entry.Entry.{Entry}
+use Rattle.bpf_model.specs.declared.entry.Entry.{Entry}
 use Rattle.journal.specs.Entries.{IsAnswerTo, JournalView}
 use Rattle.journal_laws.proofs.Fitting.{reaction_fits}
 use Rattle.world_laws.specs.Reacting.{full_reaction}

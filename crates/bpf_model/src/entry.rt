@@ -1,6 +1,6 @@
-//! What a journal has of one event.
+//! An entry of a journal.
 
-use bpf_model::{Answer, Event};
+use crate::event::{Answer, Event};
 
 /// An event, the worker that asked it, and what it was answered.
 #[derive(Debug, Drop)]
