@@ -15,7 +15,7 @@ pub enum Mnemonic {
     LoadNumber,
     /// `ldmap`: a map, by its index in the program's list.
     LoadMap,
-    /// `ja`
+    /// `ja`: the jump of class JMP, whose distance stands in offset.
     Jump,
     /// `ja32`: the jump of class JMP32, whose distance stands in imm.
     JumpLong,

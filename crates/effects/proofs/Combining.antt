@@ -1,4 +1,4 @@
--- What operations give, from operands of these kinds.
+-- What operations give, by the kinds of their operands; and instructions that compute or load a number or a map lead from described runs to described ones.
 use Rattle.std.proofs.Common.{◌≡◌, ℕ, ◌+◌, ◌^◌, ◌<◌, ◌≤◌, List, length, Some, None, inl, refl, sym, ap, ap₂, subst, ◌∙◌, ℤ, pos, arith, true, false}
 use Rattle.std.specs.Prelude.{◌+ℤ◌, if◌then◌else◌}
 use Rattle.std.proofs.lemmas.Int.{ints}

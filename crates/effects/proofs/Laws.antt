@@ -1,4 +1,4 @@
--- Laws of the definitions of arithmetic and of memory: the results are words of 64 bits.
+-- Laws of the definitions of arithmetic: what an operation of one operand leaves is a word of 64 bits, and what one of two numbers computes is a number.
 use Rattle.std.proofs.Common.{◌≡◌, ℕ, ◌^◌, ◌<◌, refl}
 use Rattle.std.specs.Prelude.{Some}
 use Rattle.bpf_model.specs.declared.insn.AluOp.{AluOp}

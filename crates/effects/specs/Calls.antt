@@ -89,7 +89,7 @@ Called (Some ReadLock) a b = AreAlike (after_lock a) b
 Called (Some ReadUnlock) a b = AreAlike (after_unlock a) b
 
 -- Of a test for null both edges are as the test tells: where the identity is null all of it becomes
--- the number 0, elsewhere the element's value.
+-- the number 0, elsewhere a reference to the element's value.
 pub record Splits (id : ℕ) (a null there : AbsState) : Type 0 where
   pub is_null : AreAlike (learnt (IsNull id) (state_of a)) (state_of null)
   pub is_there : AreAlike (learnt (IsThere id) (state_of a)) (state_of there)

@@ -25,7 +25,7 @@ use Rattle.register_kinds.specs.declared.kind.RegKind.{RegKind}
 use Rattle.register_kinds.specs.declared.kind.RegKind.TheVariants as kinds
 use Rattle.typed_runs.specs.Describes.{Scene, Naming, HasOffset, IsOf, Describes}
 use Rattle.register_kinds.specs.declared.state.AbsState.{AbsState}
-use Rattle.register_kinds.specs.States.{kind_of, kind_in}
+use Rattle.register_kinds.specs.States.{kind_at, kind_in}
 use Rattle.effects.specs.declared.moving.Way.{Way}
 use Rattle.effects.specs.declared.moving.Way.TheVariants.{Forward, Back}
 
@@ -86,7 +86,7 @@ pub record SetsKind (r : Result (Unit {0}) InsnFault) (dst : ℕ) (kind : Kind) 
 
 -- A second operand that may be read is what its register holds, or the field imm with its sign.
 pub record HasOperand (a : AbsState) (src : Operand) (r : Result RegKind InsnFault) : Type 0 where
-  pub register : (s : ℕ) → src ≡ Register s → IsWritten (kind_of (kind_in a.regs s)) →
+  pub register : (s : ℕ) → src ≡ Register s → IsWritten (kind_at a.regs s) →
       r ≡ Ok (kind_in a.regs s)
   pub number : (imm : ℤ) → src ≡ Immediate imm →
       (t : Scalar) × (r ≡ Ok (kinds.Num t)) × IsConstant t (immediate imm)

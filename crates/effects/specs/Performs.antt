@@ -17,7 +17,7 @@ abbrev pub Performs : Insn → ℕ → List MapShape → AbsState → AbsState �
 Performs insn ctx_len shapes old new =
     Transfers insn shapes ctx_len (state_of old) (state_of new) None
 
--- so it is whatever the shapes of the maps and the length of the context
+-- what `Performs` says, whatever the shapes of the maps and the length of the context
 abbrev pub PerformsAnywhere : Insn → AbsState → AbsState → Type 0
 PerformsAnywhere insn old new =
     (shapes : List MapShape) (ctx_len : ℕ) → Performs insn ctx_len shapes old new

@@ -6,7 +6,7 @@ ghost use Rattle.bpf_model.specs.declared.limits.MapShape.{MapShape};
 ghost use Rattle.bpf_model.specs.Operand.{unary_source};
 ghost use Rattle.effects.specs.Performs.{IsNumbers, SetsNumber, Performs, PerformsAnywhere, KeepsOthers};
 ghost use Rattle.typed_runs.specs.Effects.{IsNumberOperand, IsWritten, HasNumber};
-ghost use Rattle.register_kinds.specs.States.{kind_in, kind_of, state_of};
+ghost use Rattle.register_kinds.specs.States.{kind_at, kind_in, kind_of, state_of};
 ghost use Rattle.register_kinds.specs.Pairs.{IsBelow, AreBelow};
 ghost use Rattle.effects.specs.Computes.{Computes, ReadsNumber, GivesNumber, SetsKind};
 ghost use Rattle.effects.specs.Floor.{operand_kind, LeavesKnown};
@@ -28,14 +28,14 @@ fn computed_kind(
 ) -> Result<RegKind, InsnFault>
     ensures sound { IfOk result
         (λ k. Computes size op dst src.now (state_of state.now) (kind_of k)) }
-    ensures floor { IfOk result (λ k. LeavesKnown size op (kind_of (kind_in state.now.regs dst))
+    ensures floor { IfOk result (λ k. LeavesKnown size op (kind_at state.now.regs dst)
         (operand_kind src.now (state_of state.now)) (kind_of k)) }
     ensures below { IfOk result (λ k. (top : ℕ) → AreBelow top state.now
         → IsBelow top (kind_of k)) }
     ensures numbers { ReadsNumber op (state_of state.now) dst
         → IsNumberOperand (state_of state.now) src.now → GivesNumber result }
     ensures copies { (s : ℕ) → op ≡ AluOp.Move → size ≡ Size.Word64 → src.now ≡ Operand.Register s
-        → IsWritten (kind_of (kind_in state.now.regs s)) → result ≡ Ok (kind_in state.now.regs s) }
+        → IsWritten (kind_at state.now.regs s) → result ≡ Ok (kind_in state.now.regs s) }
     ensures frame { (m at : ℕ) (imm : ℤ) → op ≡ AluOp.Add → size ≡ Size.Word64
         → src.now ≡ Operand.Immediate imm → kind_in state.now.regs dst ≡ RegKind.Frame (pos m)
         → m ≤ FRAME_BYTES → at ≤ FRAME_BYTES → pos m +ℤ imm ≡ pos at
@@ -71,8 +71,8 @@ pub fn alu(
 ) -> Result<(), InsnFault>
     ensures sound { OnOk result (PerformsAnywhere (Insn.Alu op size dst src.now)
         state.old state.new) }
-    ensures floor { OnOk result (LeavesKnown size op (kind_of (kind_in state.old.regs dst))
-        (operand_kind src.now (state_of state.old)) (kind_of (kind_in state.new.regs dst))) }
+    ensures floor { OnOk result (LeavesKnown size op (kind_at state.old.regs dst)
+        (operand_kind src.now (state_of state.old)) (kind_at state.new.regs dst)) }
     ensures others { OnOk result (KeepsOthers dst state.old state.new) }
     ensures numbers { (10 ≡ dst → ⊥) → ReadsNumber op (state_of state.old) dst
         → IsNumberOperand (state_of state.old) src.now
@@ -80,8 +80,8 @@ pub fn alu(
 
     // A move of 64 bits copies whatever may be read; a sum moves a reference inside the frame.
     ensures copies { (s : ℕ) → op ≡ AluOp.Move → size ≡ Size.Word64 → src.now ≡ Operand.Register s
-        → (10 ≡ dst → ⊥) → IsWritten (kind_of (kind_in state.old.regs s))
-        → SetsKind result dst (kind_of (kind_in state.old.regs s))
+        → (10 ≡ dst → ⊥) → IsWritten (kind_at state.old.regs s)
+        → SetsKind result dst (kind_at state.old.regs s)
         (state_of state.old) (state_of state.new) }
     ensures frame { (m at : ℕ) (imm : ℤ) → op ≡ AluOp.Add → size ≡ Size.Word64
         → src.now ≡ Operand.Immediate imm → (10 ≡ dst → ⊥)
@@ -106,8 +106,8 @@ pub fn alu(
 pub fn unary(state: &mut AbsState, op: &UnaryOp, dst: Reg) -> Result<(), InsnFault>
     ensures sound { OnOk result (PerformsAnywhere (Insn.Unary op.now dst) state.old state.new) }
     ensures floor { OnOk result ((a : Scalar)
-        → kind_of (kind_in state.old.regs (unary_source op.now dst)) ≡ model.Num a
-        → IsNumbers (KeepsUnaryFloor op.now a) (kind_of (kind_in state.new.regs dst))) }
+        → kind_at state.old.regs (unary_source op.now dst) ≡ model.Num a
+        → IsNumbers (KeepsUnaryFloor op.now a) (kind_at state.new.regs dst)) }
     ensures numbers { (10 ≡ dst → ⊥) → HasNumber (state_of state.old) (unary_source op.now dst)
         → SetsNumber result dst (state_of state.old) (state_of state.new) }
     ensures others { OnOk result (KeepsOthers dst state.old state.new) }
@@ -126,7 +126,7 @@ pub fn load_number(state: &mut AbsState, dst: Reg, number: u64) -> Result<(), In
     ensures sound { OnOk result (PerformsAnywhere (Insn.LoadNumber dst number)
         state.old state.new) }
     ensures floor { OnOk result (IsNumbers (λ s. IsConstant s number)
-        (kind_of (kind_in state.new.regs dst))) }
+        (kind_at state.new.regs dst)) }
     ensures numbers { (10 ≡ dst → ⊥)
         → SetsNumber result dst (state_of state.old) (state_of state.new) }
     ensures others { OnOk result (KeepsOthers dst state.old state.new) }

@@ -16,7 +16,8 @@ use register_kinds::{AbsState, InsnFault, RegKind, held};
 use scalar_domain::Scalar;
 use std::alloc::{AllocError, Global};
 
-/// The numbers of both sides of a comparison.
+/// The numbers of two kinds that are compared. Errors: `MaybeNull`, then `PointerArithmetic`, where one is of
+/// no numbers.
 fn compared(x: RegKind, y: RegKind) -> Result<(Scalar, Scalar), InsnFault>
     ensures left { IfOk result (λ p. x ≡ RegKind.Num p.0) }
     ensures right { IfOk result (λ p. y ≡ RegKind.Num p.1) }
@@ -30,7 +31,7 @@ fn compared(x: RegKind, y: RegKind) -> Result<(Scalar, Scalar), InsnFault>
     }
 }
 
-/// The numbers of a comparison.
+/// The numbers that the destination and the second operand of a comparison may be.
 fn sides(state: &AbsState, dst: Reg, src: &Operand) -> Result<(Scalar, Scalar), InsnFault>
     ensures left { IfOk result (λ p. kind_in state.now.regs dst ≡ RegKind.Num p.0) }
     ensures right { IfOk result (λ p. HasValue (state_of state.now) src.now (model.Num p.1)) }
@@ -103,8 +104,8 @@ pub fn fork(
     Ok(taken)
 }
 
-/// Both edges of a comparison with the number 0 of an element's value, which is never 0: nothing is
-/// learnt. Fails where memory runs out.
+/// Both edges of a comparison with the number 0 of a reference to an element's value, which is never
+/// null: nothing is learnt. Fails where memory runs out.
 pub fn fork_value(state: &AbsState, alloc: Global) -> Result<Box<AbsState>, AllocError>
     ensures sound { IfOk result (λ taken. (equal : Bool) (dst map : ℕ) (s : Scalar)
         → kind_in state.now.regs dst ≡ RegKind.Value map s

@@ -10,9 +10,9 @@ use std::alloc::{AllocError, Global};
 
 /// Both edges of a comparison by 64 bits of what may be null with the number 0, which jumps where
 /// it is equal or, where `equal` is false, where it is not. Where it is null, all registers and all
-/// bytes of the frame of its identity are 0; elsewhere they are the element's value. The state
-/// itself becomes that where control falls through, the answer is that where it jumps. Fails where
-/// memory runs out.
+/// bytes of the frame of its identity are 0; elsewhere they are a reference to the element's value.
+/// The state itself becomes that where control falls through, the answer is that where it jumps.
+/// Fails where memory runs out.
 pub fn fork_null(
     state: &mut AbsState,
     alloc: Global,

@@ -3,13 +3,16 @@ use Rattle.std.specs.Prelude.{ℕ}
 use Rattle.register_kinds.specs.declared.fault.InsnFault.{InsnFault}
 use Rattle.register_kinds.specs.declared.fault.InsnFault.TheVariants.{UnwrittenRegister}
 use Rattle.register_kinds.specs.declared.fault.InsnFault.TheVariants.{FramePointerWritten}
-use Rattle.register_kinds.specs.declared.fault.InsnFault.TheVariants.{PointerArithmetic, NotAPointer}
+use Rattle.register_kinds.specs.declared.fault.InsnFault.TheVariants.{PointerArithmetic}
+use Rattle.register_kinds.specs.declared.fault.InsnFault.TheVariants.{NotAPointer}
 use Rattle.register_kinds.specs.declared.fault.InsnFault.TheVariants.{OutOfBounds, Misaligned}
 use Rattle.register_kinds.specs.declared.fault.InsnFault.TheVariants.{UnwrittenFrame, PointerLeak}
 use Rattle.register_kinds.specs.declared.fault.InsnFault.TheVariants.{MixedRegions, MaybeNull}
-use Rattle.register_kinds.specs.declared.fault.InsnFault.TheVariants.{OutsideSection, UnpairedSection}
+use Rattle.register_kinds.specs.declared.fault.InsnFault.TheVariants.{OutsideSection}
+use Rattle.register_kinds.specs.declared.fault.InsnFault.TheVariants.{UnpairedSection}
 use Rattle.register_kinds.specs.declared.fault.InsnFault.TheVariants.{UnknownCall, WrongArgument}
-use Rattle.register_kinds.specs.declared.fault.InsnFault.TheVariants.{NoSuchMap, ContextWrite, Memory}
+use Rattle.register_kinds.specs.declared.fault.InsnFault.TheVariants.{NoSuchMap, ContextWrite}
+use Rattle.register_kinds.specs.declared.fault.InsnFault.TheVariants.{Memory}
 
 abbrev pub insn_fault_number : InsnFault → ℕ
 insn_fault_number UnwrittenRegister = 23

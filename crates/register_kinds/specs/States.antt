@@ -29,7 +29,7 @@ cell_of spill cells.Mixed = model.MixedCell
 cell_of spill cells.Byte = model.ByteCell
 cell_of spill cells.Part = model.PartCell (kind_of spill)
 
--- past the end nothing is known
+-- what a list has at an index; past its end nothing is known
 abbrev pub kind_in : List RegKind → ℕ → RegKind
 kind_in kinds r = slice_index_or kinds r Unwritten
 

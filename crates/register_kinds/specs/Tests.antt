@@ -8,7 +8,8 @@ use Rattle.register_kinds.specs.declared.kind.CellKind.{CellKind}
 use Rattle.register_kinds.specs.declared.kind.CellKind.TheVariants as class
 use Rattle.register_kinds.specs.States.{class_in}
 use Rattle.register_kinds.specs.declared.fault.InsnFault.{InsnFault}
-use Rattle.register_kinds.specs.declared.fault.InsnFault.TheVariants.{UnwrittenRegister, OutsideSection}
+use Rattle.register_kinds.specs.declared.fault.InsnFault.TheVariants.{UnwrittenRegister}
+use Rattle.register_kinds.specs.declared.fault.InsnFault.TheVariants.{OutsideSection}
 use Rattle.register_kinds.specs.declared.fault.InsnFault.TheVariants.{MixedRegions, WrongArgument}
 use Rattle.register_kinds.specs.declared.fault.InsnFault.TheVariants.{UnwrittenFrame, PointerLeak}
 

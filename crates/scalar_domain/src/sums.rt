@@ -8,7 +8,7 @@ use crate::known::KnownBits;
 use crate::scalar::Scalar;
 
 /// How many words there are.
-const WORD: u128 = 1 << 64;
+const WORDS: u128 = 1 << 64;
 
 /// All ones from the lowest one of the mask up.
 pub(crate) fn ones_from(mask: u64) -> u64
@@ -77,10 +77,10 @@ impl Scalar {
         let bits = self.bits().add(other.bits(), carry);
         let least = u128::from(self.least) + u128::from(other.least) + u128::from(carry);
         let greatest = u128::from(self.greatest) + u128::from(other.greatest) + u128::from(carry);
-        if least / WORD == greatest / WORD {
+        if least / WORDS == greatest / WORDS {
             Scalar::new(
-                (least % WORD) as u64,
-                (greatest % WORD) as u64,
+                (least % WORDS) as u64,
+                (greatest % WORDS) as u64,
                 bits.may,
                 bits.must,
             )

@@ -56,8 +56,8 @@ fn null_test(condition: Condition, size: Size, src: &Operand) -> Option<bool>
     }
 }
 
-/// Both edges of a comparison: a test for null of what may be null or is an element's value, else
-/// of numbers.
+/// Both edges of a comparison: a test for null of what may be null or is a reference to an element's
+/// value, else of numbers.
 fn branch(
     state: &mut AbsState,
     alloc: Global,

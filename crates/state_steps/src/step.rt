@@ -29,7 +29,8 @@ use std::alloc::Global;
 ///   is not written (`UnwrittenRegister`), of a section that has ended (`OutsideSection`) or of no
 ///   one kind (`MixedRegions`); `MaybeNull`; `PointerArithmetic`; `NoSuchMap`.
 /// - A comparison: a register that it reads, `MaybeNull`, `PointerArithmetic`. What may be null and
-///   an element's value may be compared with the number 0 by 64 bits, for equality or its contrary.
+///   a reference to an element's value may be compared with the number 0 by 64 bits, for equality or
+///   its contrary.
 /// - A call: `UnknownCall`; `UnpairedSection`, or `OutsideSection` of a lookup; then its arguments,
 ///   from r1 on.
 /// - The exit: r0 as a register that is read; `PointerLeak`; `UnpairedSection`.
@@ -94,7 +95,7 @@ pub fn transfer(
     perform(state, alloc, insn, shape, ids)
 }
 
-/// Does the instruction.
+/// The step of the instruction, by its kind: all that `transfer` promises, as one definition (`Stepped`).
 fn perform(
     state: &mut AbsState,
     alloc: Global,

@@ -1,14 +1,11 @@
 //! What is known of bytes of the frame: spilled references, of which bytes are written over, that end with their
 //! section, or that are tested for null.
 
-use crate::judged::{LOOKUP, MAPS, Told, judge};
+use crate::judged::{LOOKUP, MAPS, TESTED, Told, judge};
 use Told::{Accepted, At};
 use std::test::Fail;
 
-/// What follows in the first table, before slot 12: r0 is the value of an element.
-const TESTED: &str = "jne r0, 0, +3; callbtf 2; mov64 r0, 0; exit";
-
-/// What is said of both and these lines, and three instructions that end it.
+/// What is said of `LOOKUP`, `TESTED` and these lines, and three instructions that end it.
 static SPILLED: [(Told, &str); 31] = [
     // One byte is written over: the other seven are no number, and the eight no reference.
     (
@@ -139,7 +136,7 @@ static SPILLED: [(Told, &str); 31] = [
     ),
 ];
 
-/// What is said of the beginning alone and these lines, and three instructions that end it.
+/// What is said of `LOOKUP` and these lines, and three instructions that end it.
 static MAYBE_NULL: [(Told, &str); 12] = [
     // A spilled copy of what is tested: a number where it is null, a reference elsewhere.
     (

@@ -1,15 +1,15 @@
 //! What is known where paths meet: registers of different kinds, lookups with one identity or two, and how many
 //! states wait at once.
 
-use crate::judged::{LOOKUP, MAPS, Told, judge, verified};
+use crate::judged::{LOOKUP, MAPS, TESTED, Told, judge, verified};
 use Told::{Accepted, At};
 use std::alloc::Global;
 use std::test::Fail;
 
-/// What follows in the first table, before slot 13: r0 is the value of an element, r8 a number.
-const TESTED: &str = "jne r0, 0, +3; callbtf 2; mov64 r0, 0; exit; ldxb r8, [r9+0]";
+/// What follows `LOOKUP` and `TESTED` in the first table, before slot 13: r8 is a number.
+const LOADED: &str = "ldxb r8, [r9+0]";
 
-/// What is said of both and these lines, and three instructions that end it.
+/// What is said of these three and these lines, and three instructions that end it.
 static KINDS: [(Told, &str); 21] = [
     // References to one region at different offsets.
     (
@@ -98,7 +98,7 @@ static KINDS: [(Told, &str); 21] = [
     ),
 ];
 
-/// What is said of the beginning alone and these lines, and three instructions that end it.
+/// What is said of `LOOKUP` and these lines, and three instructions that end it.
 static IDENTITIES: [(Told, &str); 9] = [
     // Two registers that hold the same of two lookups on each path: one test tells of both.
     (
@@ -149,7 +149,13 @@ static IDENTITIES: [(Told, &str); 9] = [
 fn kinds_joined(rt: HostRuntime) -> Result<(), Fail> {
     let alloc = rt.alloc();
     for (wanted, lines) in &KINDS {
-        let parts = [LOOKUP, TESTED, *lines, "callbtf 2; mov64 r0, 0; exit"];
+        let parts = [
+            LOOKUP,
+            TESTED,
+            LOADED,
+            *lines,
+            "callbtf 2; mov64 r0, 0; exit",
+        ];
         assert_eq!(rt; (lines, judge(alloc, &MAPS, 8, &parts)?), (lines, *wanted));
     }
     Ok(())

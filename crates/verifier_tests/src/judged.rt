@@ -11,6 +11,9 @@ use verifier::{Verified, verify};
 pub const LOOKUP: &str =
     "mov64 r9, r1; callbtf 1; stw [r10-4], 0; mov64 r2, r10; add64 r2, -4; ldmap r1, 0; call 1";
 
+/// What follows `LOOKUP` in many programs, before slot 12: r0 is the value of an element.
+pub const TESTED: &str = "jne r0, 0, +3; callbtf 2; mov64 r0, 0; exit";
+
 /// What the verifier says.
 #[derive(Clone, Copy, Debug, PartialEq, Eq)]
 pub enum Told {

@@ -1,18 +1,18 @@
 //! Which refusal is told of an instruction of which several tests fail: the one that comes first.
 
-use crate::judged::{MAPS, Told, judge};
+use crate::judged::{LOOKUP, MAPS, TESTED, Told, judge};
 use Told::{Accepted, At};
 use std::test::Fail;
 
-/// The beginning of each program, before slot 21. Behind it no section is open; r0 to r5 are not written, r6
-/// is a reference to an element of the section before, r7 is of different kinds on different paths, r8 is a
-/// number up to 255, r9 the context. Of the frame the bytes from -4 are written, those from -16 are the
-/// reference in r6, those from -24 are on one path a pointer and on one a number, and no others are
-/// written but those.
+/// What follows `LOOKUP` and `TESTED` in the first two tables, before slot 21. Behind it no section is open; r0
+/// to r5 are not written, r6 is a reference to an element of the section before, r7 is of different kinds on
+/// different paths, r8 is a number up to 255, r9 the context. Of the frame the bytes from -4 are written, those
+/// from -16 are the reference in r6, those from -24 are on one path a pointer and on one a number, and no
+/// others are written.
 const OUTSIDE: &str =
-    "mov64 r9, r1; callbtf 1; stw [r10-4], 0; mov64 r2, r10; add64 r2, -4; ldmap r1, 0; call 1; jne r0, 0, +3; callbtf 2; mov64 r0, 0; exit; mov64 r6, r0; stxdw [r10-16], r0; callbtf 2; ldxb r8, [r9+0]; mov64 r7, r10; stxdw [r10-24], r10; jeq r8, 0, +2; mov64 r7, 0; stdw [r10-24], 0";
+    "mov64 r6, r0; stxdw [r10-16], r0; callbtf 2; ldxb r8, [r9+0]; mov64 r7, r10; stxdw [r10-24], r10; jeq r8, 0, +2; mov64 r7, 0; stdw [r10-24], 0";
 
-/// What is said of that beginning and these lines, and two instructions that end it.
+/// What is said of these three and these lines, and two instructions that end it.
 static AFTER: [(Told, &str); 174] = [
     // An instruction that writes r10, before the registers that it reads, and before all else.
     (At(24, 21), "add64 r10, r1"),
@@ -293,11 +293,11 @@ static AFTER: [(Told, &str); 174] = [
     (At(34, 22), "callbtf 1; callbtf 1"),
 ];
 
-/// What follows that beginning in each program of the next table, before slot 27: a section is opened, and r0
+/// What follows them in each program of the next table, before slot 27: a section is opened, and r0
 /// is what a lookup in the first map gave.
 const AGAIN: &str = "callbtf 1; mov64 r2, r10; add64 r2, -4; ldmap r1, 0; call 1";
 
-/// What is said of that and these lines, and three instructions that end it.
+/// What is said of all four and these lines, and three instructions that end it.
 static MAYBE_NULL: [(Told, &str); 51] = [
     // Computed with, behind the registers that are read.
     (At(24, 27), "mov64 r10, r0"),
@@ -373,12 +373,8 @@ static MAYBE_NULL: [(Told, &str); 51] = [
     (Accepted, "ldmap r6, 1; callbtf 2; mov64 r1, r6; callbtf 1"),
 ];
 
-/// The beginning of each program of the last table, before slot 12: in a section, r0 is the value of an element
-/// of the first map, 8 bytes; r9 is the context.
-const FOUND: &str =
-    "mov64 r9, r1; callbtf 1; stw [r10-4], 0; mov64 r2, r10; add64 r2, -4; ldmap r1, 0; call 1; jne r0, 0, +3; callbtf 2; mov64 r0, 0; exit";
-
-/// What is said of that and these lines, and three instructions that end it.
+/// What is said of `LOOKUP`, `TESTED` and these lines, and three instructions that end it. The value of the
+/// element, in r0, has 8 bytes.
 static ELEMENTS: [(Told, &str); 29] = [
     // What is stored, before the offset: outside, then misaligned.
     (At(30, 12), "stxdw [r0+8], r9"),
@@ -446,7 +442,7 @@ static ELEMENTS: [(Told, &str); 29] = [
 fn outside_a_section(rt: HostRuntime) -> Result<(), Fail> {
     let alloc = rt.alloc();
     for (wanted, lines) in &AFTER {
-        let parts = [OUTSIDE, *lines, "mov64 r0, 0; exit"];
+        let parts = [LOOKUP, TESTED, OUTSIDE, *lines, "mov64 r0, 0; exit"];
         assert_eq!(rt; (lines, judge(alloc, &MAPS, 8, &parts)?), (lines, *wanted));
     }
     Ok(())
@@ -456,7 +452,14 @@ fn outside_a_section(rt: HostRuntime) -> Result<(), Fail> {
 fn before_a_test_for_null(rt: HostRuntime) -> Result<(), Fail> {
     let alloc = rt.alloc();
     for (wanted, lines) in &MAYBE_NULL {
-        let parts = [OUTSIDE, AGAIN, *lines, "callbtf 2; mov64 r0, 0; exit"];
+        let parts = [
+            LOOKUP,
+            TESTED,
+            OUTSIDE,
+            AGAIN,
+            *lines,
+            "callbtf 2; mov64 r0, 0; exit",
+        ];
         assert_eq!(rt; (lines, judge(alloc, &MAPS, 8, &parts)?), (lines, *wanted));
     }
     Ok(())
@@ -466,7 +469,7 @@ fn before_a_test_for_null(rt: HostRuntime) -> Result<(), Fail> {
 fn through_an_element(rt: HostRuntime) -> Result<(), Fail> {
     let alloc = rt.alloc();
     for (wanted, lines) in &ELEMENTS {
-        let parts = [FOUND, *lines, "callbtf 2; mov64 r0, 0; exit"];
+        let parts = [LOOKUP, TESTED, *lines, "callbtf 2; mov64 r0, 0; exit"];
         assert_eq!(rt; (lines, judge(alloc, &MAPS, 8, &parts)?), (lines, *wanted));
     }
     Ok(())
