@@ -9,17 +9,13 @@ use Rattle.bpf_model.specs.declared.limits.MapShape.{MapShape}
 use Rattle.bpf_model.specs.contracts.insn.Insn as insn
 use Rattle.bpf_model.specs.Machine.{Loaded}
 use Rattle.bpf_model.specs.Schedule.{Queues}
-use Rattle.bpf_model.specs.View.{SlotView, MapView, RunView, WorldView}
+use Rattle.bpf_model.specs.View.{KeyMap, SlotView, MapView, RunView, WorldView}
 
 abbrev pub numbers_code : Coded (List ℕ)
 numbers_code = coded_list coded_ℕ
 
 abbrev pub flags_code : Coded (List Bool)
 flags_code = coded_list coded_bool
-
--- numbers of map slots by their keys, in byte order
-abbrev pub KeyMap : Type 0
-KeyMap = map.FinMap (slice_cmp nat_cmp) ℕ
 
 abbrev pub key_map_code : Coded KeyMap
 key_map_code = map.code {R = slice_cmp nat_cmp} numbers_code coded_ℕ

@@ -35,13 +35,17 @@ uses_in (Some s) = s.uses
 abbrev pub uses_at : List SlotView → ℕ → ℕ
 uses_at slots i = uses_in (slice_get slots i)
 
+-- numbers of map slots by their keys, in byte order
+abbrev pub KeyMap : Type 0
+KeyMap = FinMap (slice_cmp nat_cmp) ℕ
+
 -- A map: its map slots, the free ones in the order in which they will be taken, the map slot of
 -- each key in byte order, and the map slots of its unlinked elements in three lists.
 pub record MapView : Type 0 where
   pub shape : MapShape
   pub slots : List SlotView
   pub free : List ℕ
-  pub index : FinMap (slice_cmp nat_cmp) ℕ
+  pub index : KeyMap
   pub next : List ℕ
   pub waiting : List ℕ
   pub ready : List ℕ

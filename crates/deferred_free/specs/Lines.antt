@@ -1,7 +1,7 @@
 -- Lines: lists of slots that are linked to one another, by the first and the last.
-use Rattle.std.specs.Prelude.{◌≡◌, ◌≢◌, ℕ, List, Option, Some, None, length}
+use Rattle.std.specs.Prelude.{◌≡◌, ◌≢◌, ℕ, List, Option, Some, None}
 use Rattle.element_arena.specs.State.{ArenaState, link_at}
-use Rattle.element_arena.specs.Threads.{walk}
+use Rattle.element_arena.specs.Threads.{chain_of}
 use Rattle.deferred_free.specs.declared.threaded.Line.{Line}
 
 abbrev pub joined_to : Line → Option ℕ → Line
@@ -22,5 +22,6 @@ pub record AreLinksJoined (a b : ArenaState) (last first : Option ℕ) : Type 0 
   pub at_last : (l : ℕ) → last ≡ Some l → link_at b.links l ≡ first
   pub others : (j : ℕ) → last ≢ Some j → link_at b.links j ≡ link_at a.links j
 
+-- the slots of a line
 abbrev pub line_slots : ArenaState → Line → List ℕ
-line_slots a l = walk (length a.slots) (link_at a.links) l.first
+line_slots a l = chain_of a l.first

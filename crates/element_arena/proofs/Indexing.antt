@@ -6,16 +6,17 @@ use Rattle.std.proofs.lemmas.Cmp.{nat_list_cmp_total}
 use Rattle.std.specs.Cmp.Lexicographic.{slice_cmp}
 use Rattle.std.specs.Ordering.{nat_cmp}
 use Rattle.std.specs.FinMap as map
-use Rattle.std.specs.FinMap.{FinMap, get, insert, remove, get-insert, get-remove, get-from_entries, same_map, slice_cmp-IsAntisymmetric, nat_cmp-IsAntisymmetric}
+use Rattle.std.specs.FinMap.{get, insert, remove, get-insert, get-remove, get-from_entries, same_map, slice_cmp-IsAntisymmetric, nat_cmp-IsAntisymmetric}
+use Rattle.bpf_model.specs.View.{KeyMap}
 use Rattle.bpf_model.proofs.Cases.{option_cases}
 use Rattle.bpf_model.proofs.Keys.{same_key, same_key-true, same_key-false}
 use Rattle.element_arena.specs.State.{times_in, is_at, entries_of, contents_of, slot_of}
 use Rattle.element_arena.proofs.Counts.{one_cases, one_same, one_other, times_first}
 
-pub get_at-insert : (m : FinMap (slice_cmp nat_cmp) ℕ) (k : List ℕ) (v : ℕ) (q : List ℕ) → get (insert m k v) q ≡ cond (same_key q k) (Some v) (get m q)
+pub get_at-insert : (m : KeyMap) (k : List ℕ) (v : ℕ) (q : List ℕ) → get (insert m k v) q ≡ cond (same_key q k) (Some v) (get m q)
 get_at-insert m k v q = get-insert nat_list_cmp_total m k v q
 
-pub get_at-remove : (m : FinMap (slice_cmp nat_cmp) ℕ) (k q : List ℕ) → get (remove m k) q ≡ cond (same_key q k) None (get m q)
+pub get_at-remove : (m : KeyMap) (k q : List ℕ) → get (remove m k) q ≡ cond (same_key q k) None (get m q)
 get_at-remove m k q = get-remove nat_list_cmp_total m k q
 
 pub get-contents : (key : ℕ → List ℕ) (slots : List ℕ) (k : List ℕ) → get (contents_of key slots) k ≡ slot_of key slots k

@@ -5,7 +5,7 @@ use Rattle.bpf_model.specs.Codes.{flags_code, numbers_code, slot_code}
 use Rattle.bpf_model.specs.View.{SlotView}
 use Rattle.element_arena.specs.State.{ArenaState}
 
--- the generations, the lengths of keys and values, and how often a slot is used
+-- the generations, the lengths of keys and values, and how often a slot may be used
 abbrev pub Bounds : Type 0
 Bounds = List ℕ × (ℕ × (ℕ × ℕ))
 

@@ -5,8 +5,8 @@ use Rattle.std.specs.Prelude.{length, replicate}
 use Rattle.std.specs.List.{range_with_len}
 use Rattle.std.specs.Ordering.{nat_cmp, eq_by_cmp}
 use Rattle.std.specs.Cmp.Lexicographic.{slice_cmp}
-use Rattle.std.specs.FinMap.{FinMap, get, from_entries}
-use Rattle.bpf_model.specs.View.{SlotView, key_in, value_in, uses_at, unused_slot}
+use Rattle.std.specs.FinMap.{get, from_entries}
+use Rattle.bpf_model.specs.View.{KeyMap, SlotView, key_in, value_in, uses_at, unused_slot}
 use Rattle.std.specs.Option.{option_flatten}
 
 -- An arena. Keys and values have these lengths, and a slot may be used so often.
@@ -115,7 +115,7 @@ is_at None j = 0
 is_at (Some i) j = if i == j then 1 else 0
 
 -- 1 for a slot that the map has under the slot's key, 0 for any other
-abbrev pub indexed : FinMap (slice_cmp nat_cmp) ℕ → List SlotView → ℕ → ℕ
+abbrev pub indexed : KeyMap → List SlotView → ℕ → ℕ
 indexed m slots j = is_at (get m (key_at slots j)) j
 
 -- each slot under its key
@@ -123,7 +123,7 @@ abbrev pub entries_of : (ℕ → List ℕ) → List ℕ → List (List ℕ × �
 entries_of key [] = []
 entries_of key (s ∷ slots) = (key s, s) ∷ entries_of key slots
 
-abbrev pub contents_of : (ℕ → List ℕ) → List ℕ → FinMap (slice_cmp nat_cmp) ℕ
+abbrev pub contents_of : (ℕ → List ℕ) → List ℕ → KeyMap
 contents_of key slots = from_entries (entries_of key slots)
 
 -- the first of the slots that has the key

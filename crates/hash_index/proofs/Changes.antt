@@ -5,12 +5,12 @@ use Rattle.std.proofs.lemmas.Option.{same_Some}
 use Rattle.std.specs.FinMap.{get, insert, remove}
 use Rattle.bpf_model.proofs.Cases.{option_cases}
 use Rattle.element_arena.specs.State.{ArenaState, IsTaken, LinksOf, indexed, link_at, key_at, with_link, times_in, slot_of, contents_of}
-use Rattle.element_arena.specs.Threads.{IsThread, walk}
+use Rattle.element_arena.specs.Threads.{IsThread, walk, chain_of}
 use Rattle.element_arena.proofs.Counts.{one_cases, one_same, length_once}
 use Rattle.element_arena.proofs.Threading.{walk-thread, thread-agree, walk-agree}
 use Rattle.element_arena.proofs.Views.{taken_same}
 use Rattle.element_arena.proofs.Indexing.{AreUnique, get-contents, slot_of-some, slot_of-absent, slot_of-none, slot_of-present, contents-insert, contents-remove, unique-insert, unique-remove, times-get, indexed-times}
-use Rattle.hash_index.specs.Chains.{IsChain, IsCut, chain_of, bucket_of}
+use Rattle.hash_index.specs.Chains.{IsChain, IsCut, bucket_of}
 use Rattle.hash_index.proofs.Ordered.{absent_gone}
 use Rattle.hash_index.specs.Buckets.{slots_from, chained_slots, HeadsFit}
 use Rattle.hash_index.specs.Many.{chain_among, chains_apart, chain_having, slots-set}

@@ -5,7 +5,8 @@ use Rattle.std.specs.Ordering.{nat_cmp, is_lt}
 use Rattle.std.specs.declared.cmp.Ordering.{Ordering}
 use Rattle.std.specs.declared.cmp.Ordering.TheVariants.{Less, Equal, Greater}
 use Rattle.std.specs.Cmp.Lexicographic.{slice_cmp}
-use Rattle.std.specs.FinMap.{FinMap, get, entries, entries_sorted, get-entries, find, is_sorted}
+use Rattle.std.specs.FinMap.{get, entries, entries_sorted, get-entries, find, is_sorted}
+use Rattle.bpf_model.specs.View.{KeyMap}
 use Rattle.std.proofs.lemmas.Bool.{cond-true, cond-false, false≢true, false_from_ne_true, cases_Bool}
 use Rattle.std.proofs.lemmas.Option.{none-some}
 use Rattle.hash_index.specs.Order.{IsLess, IsAbove, NoneAbove, NoneBetween}
@@ -84,6 +85,6 @@ first_is key bound (e ∷ es) s (Some i) found above least none = elim (cases_Bo
 ]
 
 -- the reply of an index is that of its finite map
-pub next_is : (key : ℕ → List ℕ) (bound : Option (List ℕ)) (m : FinMap (slice_cmp nat_cmp) ℕ) (r : Option ℕ) → IfSome r (λ i. get m (key i) ≡ Some i) → IfSome r (λ i. IsAbove bound (key i)) → IfSome r (λ i. NoneBetween m bound (key i)) → IfNone r (NoneAbove m bound) → r ≡ first_above bound (entries m)
+pub next_is : (key : ℕ → List ℕ) (bound : Option (List ℕ)) (m : KeyMap) (r : Option ℕ) → IfSome r (λ i. get m (key i) ≡ Some i) → IfSome r (λ i. IsAbove bound (key i)) → IfSome r (λ i. NoneBetween m bound (key i)) → IfNone r (NoneAbove m bound) → r ≡ first_above bound (entries m)
 next_is key bound m None some above least none = first_is key bound (entries m) (entries_sorted m) None tt tt tt (λ q j f. none q j (get-entries m q ∙ f))
 next_is key bound m (Some i) some above least none = first_is key bound (entries m) (entries_sorted m) (Some i) (sym (get-entries m (key i)) ∙ some) above (λ q j f. least q j (get-entries m q ∙ f)) tt

@@ -4,11 +4,11 @@ use Rattle.std.specs.Prelude.{slice_get, replicate, IfSome, IfNone}
 use Rattle.std.proofs.lemmas.List.{append-nil, length-replicate}
 use Rattle.std.specs.FinMap.{get, empty}
 use Rattle.element_arena.specs.State.{ArenaState, times_in, key_at, link_at, contents_of}
-use Rattle.element_arena.specs.Threads.{IsThread, walk}
+use Rattle.element_arena.specs.Threads.{IsThread, walk, chain_of}
 use Rattle.element_arena.proofs.Counts.{one_cases, one_same, times-append}
 use Rattle.element_arena.proofs.Indexing.{AreUnique, get-contents, slot_of-present, times-get}
 use Rattle.hash_index.specs.Order.{IsLess, IsAbove, NoneAbove, NoneBetween, IsLeastOf}
-use Rattle.hash_index.specs.Chains.{IsChain, chain_of}
+use Rattle.hash_index.specs.Chains.{IsChain}
 use Rattle.hash_index.specs.Buckets.{HeadsFit, slots_from, chained_slots}
 use Rattle.hash_index.proofs.Orders.{less_trans, less_other}
 use Rattle.hash_index.proofs.Steps.{chain_step, chain_at, walk_none}

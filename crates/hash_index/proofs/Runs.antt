@@ -3,7 +3,8 @@ use Rattle.std.proofs.Common.{◌≡◌, ◌∙◌, ℕ, List, [], ◌∷◌, �
 use Rattle.std.specs.Prelude.{is_some}
 use Rattle.std.specs.Ordering.{nat_cmp}
 use Rattle.std.specs.Cmp.Lexicographic.{slice_cmp}
-use Rattle.std.specs.FinMap.{FinMap, get, insert, remove, empty, same_map, get-empty}
+use Rattle.std.specs.FinMap.{get, insert, remove, empty, same_map, get-empty}
+use Rattle.bpf_model.specs.View.{KeyMap}
 use Rattle.std.proofs.lemmas.Bool.{cond-true, cond-false, cases_Bool}
 use Rattle.std.proofs.lemmas.Cmp.{nat_list_cmp_total}
 use Rattle.std.proofs.lemmas.Map.Lookups.{exact_bytes}
@@ -15,13 +16,13 @@ use Rattle.hash_index.specs.declared.commands.Command.TheVariants.{Link, Find, U
 use Rattle.hash_index.specs.Replies.{IsKeyed, reply_of, after_command, replies}
 use Rattle.bpf_model.proofs.Keys.{same_key, same_key-true}
 
-pub remove_absent : (m : FinMap (slice_cmp nat_cmp) ℕ) (k : List ℕ) → get m k ≡ None → remove m k ≡ m
+pub remove_absent : (m : KeyMap) (k : List ℕ) → get m k ≡ None → remove m k ≡ m
 remove_absent m k h = same_map nat_list_cmp_total exact_bytes _ _ (λ q. get_at-remove m k q ∙ elim (cases_Bool (same_key q k)) [
   | inl y ↦ cond-true _ _ _ y ∙ sym (ap (get m) (same_key-true q k y) ∙ h)
   | inr n ↦ cond-false _ _ _ n
 ])
 
-keyed_if : (key : ℕ → List ℕ) (m : FinMap (slice_cmp nat_cmp) ℕ) (i : ℕ) (b : Bool) → IsKeyed key m → IsKeyed key (cond b m (insert m (key i) i))
+keyed_if : (key : ℕ → List ℕ) (m : KeyMap) (i : ℕ) (b : Bool) → IsKeyed key m → IsKeyed key (cond b m (insert m (key i) i))
 keyed_if key m i true h = h
 keyed_if key m i false h = λ q j g. elim (cases_Bool (same_key q (key i))) [
   | inl y ↦ ap key (sym (same_Some i j (sym (cond-true _ _ _ y) ∙ (sym (get_at-insert m (key i) i q) ∙ g)))) ∙ sym (same_key-true q (key i) y)
@@ -29,7 +30,7 @@ keyed_if key m i false h = λ q j g. elim (cases_Bool (same_key q (key i))) [
 ]
 
 -- the slots of the map stand under their own keys after a command too
-keyed_after : (key : ℕ → List ℕ) (m : FinMap (slice_cmp nat_cmp) ℕ) (command : Command) → IsKeyed key m → IsKeyed key (after_command key command m)
+keyed_after : (key : ℕ → List ℕ) (m : KeyMap) (command : Command) → IsKeyed key m → IsKeyed key (after_command key command m)
 keyed_after key m (Link i) h = keyed_if key m i (is_some (get m (key i))) h
 keyed_after key m (Find k) h = h
 keyed_after key m (Above bound) h = h
@@ -38,7 +39,7 @@ keyed_after key m (Unlink k) h = λ q j g. elim (cases_Bool (same_key q k.items)
   | inr n ↦ h q j (sym (cond-false _ _ _ n) ∙ (sym (get_at-remove m k.items q) ∙ g))
 ]
 
-pub keyed_step : (key was : ℕ → List ℕ) (m n : FinMap (slice_cmp nat_cmp) ℕ) (command : Command) → was ≡ key → n ≡ after_command was command m → IsKeyed key m → IsKeyed key n
+pub keyed_step : (key was : ℕ → List ℕ) (m n : KeyMap) (command : Command) → was ≡ key → n ≡ after_command was command m → IsKeyed key m → IsKeyed key n
 keyed_step key was m n command same step h = subst (IsKeyed key) (sym (step ∙ ap (λ f. after_command f command m) same)) (keyed_after key m command h)
 
 pub keyed_empty : (key : ℕ → List ℕ) → IsKeyed key empty
@@ -51,7 +52,7 @@ pub links_still : (a b c : ArenaState) → b ≡ record a { links = b.links } �
 links_still a b c e f = f ∙ ap (λ (z : ArenaState). let w : ArenaState = record z { links = c.links } in w) e
 
 -- one reply more: those so far and those to what is left are those to all
-pub told_more : (key was : ℕ → List ℕ) (commands rest left : List Command) (told new : List (Option ℕ)) (command : Command) (r : Option ℕ) (m n : FinMap (slice_cmp nat_cmp) ℕ) →
+pub told_more : (key was : ℕ → List ℕ) (commands rest left : List Command) (told new : List (Option ℕ)) (command : Command) (r : Option ℕ) (m n : KeyMap) →
     was ≡ key → rest ≡ command ∷ left → new ≡ told ++ r ∷ [] → r ≡ reply_of was command m → n ≡ after_command was command m → told ++ replies key rest m ≡ replies key commands empty → new ++ replies key left n ≡ replies key commands empty
 told_more key was commands rest left told new command r m n same split items reply step h =
     ap (λ l. l ++ replies key left n) items

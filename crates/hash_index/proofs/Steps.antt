@@ -2,10 +2,10 @@
 use Rattle.std.proofs.Common.{◌≡◌, ◌≢◌, ◌∙◌, ℕ, zero, suc, ◌+◌, ◌<◌, ◌≤◌, List, [], ◌∷◌, ◌++◌, length, Option, Some, None, refl, sym, ap, arith, cond, eqb, subst, append_assoc, length-append}
 use Rattle.std.proofs.lemmas.Bool.{cond-false, false_from_ne_true}
 use Rattle.element_arena.specs.State.{ArenaState, IsTaken, link_at, key_at, with_link, times_in, slot_of}
-use Rattle.element_arena.specs.Threads.{IsThread, walk}
+use Rattle.element_arena.specs.Threads.{IsThread, walk, chain_of}
 use Rattle.element_arena.proofs.Counts.{one_same, one_other, times-append}
 use Rattle.element_arena.proofs.Threading.{walk-thread, thread-none, thread-some, thread-skip}
-use Rattle.hash_index.specs.Chains.{IsChain, IsBefore, IsCut, chain_of}
+use Rattle.hash_index.specs.Chains.{IsChain, IsBefore, IsCut}
 use Rattle.bpf_model.proofs.Lists.{get-set_other}
 use Rattle.bpf_model.proofs.Keys.{same_key-true}
 use Rattle.std.specs.Option.{option_flatten}

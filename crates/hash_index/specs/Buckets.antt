@@ -1,13 +1,11 @@
 -- What buckets have, and when they fit an arena.
 use Rattle.std.specs.Prelude.{◌≡◌, ℕ, ◌<◌, ◌≤◌, List, [], ◌∷◌, ◌++◌, Option, Some, length}
 use Rattle.std.specs.Prelude.{slice_get}
-use Rattle.std.specs.Ordering.{nat_cmp}
-use Rattle.std.specs.Cmp.Lexicographic.{slice_cmp}
-use Rattle.std.specs.FinMap.{FinMap}
+use Rattle.bpf_model.specs.View.{KeyMap}
 use Rattle.element_arena.specs.State.{ArenaState, IsTaken, link_at, key_at, times_in, contents_of}
-use Rattle.element_arena.specs.Threads.{IsThread, walk}
+use Rattle.element_arena.specs.Threads.{IsThread, walk, chain_of}
 use Rattle.element_arena.proofs.Indexing.{AreUnique}
-use Rattle.hash_index.specs.Chains.{bucket_of, chain_of}
+use Rattle.hash_index.specs.Chains.{bucket_of}
 use Rattle.hash_index.specs.declared.buckets.Buckets.{Buckets}
 
 -- the slots of the chains from these heads
@@ -19,7 +17,7 @@ slots_from n next (o ∷ heads) = walk n next o ++ slots_from n next heads
 abbrev pub chained_slots : List (Option ℕ) → ArenaState → List ℕ
 chained_slots heads a = slots_from (length a.slots) (link_at a.links) heads
 
-abbrev pub contents_in : Buckets → ArenaState → FinMap (slice_cmp nat_cmp) ℕ
+abbrev pub contents_in : Buckets → ArenaState → KeyMap
 contents_in x a = contents_of (key_at a.slots) (chained_slots x.heads.items a)
 
 -- Each chain ends, and its slots are those of keys of its bucket. All slots are taken, stand once,

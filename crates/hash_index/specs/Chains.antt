@@ -4,7 +4,7 @@ use Rattle.std.specs.Prelude.{◌≡◌, ℕ, zero, suc, ◌+◌, ◌<◌, ◌-�
 use Rattle.std.specs.Prelude.{bit_xor}
 use Rattle.std.specs.Prelude.{List, [], ◌∷◌, ◌++◌, Option, cond, drop, eqb, length}
 use Rattle.element_arena.specs.State.{ArenaState, IsTaken, link_at, times_in}
-use Rattle.element_arena.specs.Threads.{IsThread, walk}
+use Rattle.element_arena.specs.Threads.{IsThread, chain_of}
 use Rattle.hash_index.specs.declared.hash.TheConstants.{FNV_OFFSET, FNV_PRIME, WORD_BYTES}
 use Rattle.hash_index.specs.declared.hash.TheConstants.{WORD_FACTOR}
 
@@ -38,10 +38,6 @@ hash_of key = words_hash (length key / WORD_BYTES) FNV_OFFSET key
 -- the bucket of a key, of a power of two of them
 abbrev pub bucket_of : ℕ → List ℕ → ℕ
 bucket_of count key = bit_and (((hash_of key * WORD_FACTOR) % 2 ^ 64) / 2 ^ 32) (count - 1)
-
--- the slots that the links lead through from the first one
-abbrev pub chain_of : ArenaState → Option ℕ → List ℕ
-chain_of a first = walk (length a.slots) (link_at a.links) first
 
 -- the chain from this slot ends, and its slots are taken
 pub record IsChain (a : ArenaState) (first : Option ℕ) : Type 0 where

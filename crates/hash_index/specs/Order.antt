@@ -3,7 +3,8 @@ use Rattle.std.specs.Prelude.{◌≡◌, ℕ, ◌<◌, List, Option, Some, None}
 use Rattle.std.specs.Ordering.{nat_cmp}
 use Rattle.std.specs.declared.cmp.Ordering.TheVariants.{Less}
 use Rattle.std.specs.Cmp.Lexicographic.{slice_cmp}
-use Rattle.std.specs.FinMap.{FinMap, get}
+use Rattle.std.specs.FinMap.{get}
+use Rattle.bpf_model.specs.View.{KeyMap}
 use Rattle.element_arena.specs.State.{times_in}
 
 -- a comes before b in byte order
@@ -16,11 +17,11 @@ IsAbove None key = Unit {0}
 IsAbove (Some bound) key = IsLess bound key
 
 -- no key of the map is above the bound
-abbrev pub NoneAbove : FinMap (slice_cmp nat_cmp) ℕ → Option (List ℕ) → Type 0
+abbrev pub NoneAbove : KeyMap → Option (List ℕ) → Type 0
 NoneAbove m bound = (key : List ℕ) (i : ℕ) → get m key ≡ Some i → IsAbove bound key → ⊥
 
 -- no key of the map is above the bound and below the last
-abbrev pub NoneBetween : FinMap (slice_cmp nat_cmp) ℕ → Option (List ℕ) → List ℕ → Type 0
+abbrev pub NoneBetween : KeyMap → Option (List ℕ) → List ℕ → Type 0
 NoneBetween m bound last =
     (key : List ℕ) (i : ℕ) → get m key ≡ Some i → IsAbove bound key → IsLess key last → ⊥
 

@@ -3,7 +3,8 @@ use Rattle.std.specs.Prelude.{◌≡◌, ℕ, List, [], ◌∷◌, Option, Some,
 use Rattle.std.specs.Prelude.{option_map, if◌then◌else◌}
 use Rattle.std.specs.Ordering.{nat_cmp, is_lt}
 use Rattle.std.specs.Cmp.Lexicographic.{slice_cmp}
-use Rattle.std.specs.FinMap.{FinMap, get, insert, remove, entries}
+use Rattle.std.specs.FinMap.{get, insert, remove, entries}
+use Rattle.bpf_model.specs.View.{KeyMap}
 use Rattle.element_arena.specs.State.{ArenaState, IsTaken}
 use Rattle.hash_index.specs.declared.commands.Command.{Command}
 use Rattle.hash_index.specs.declared.commands.Command.TheVariants.{Link, Find, Unlink, Above}
@@ -19,22 +20,21 @@ first_above bound [] = None
 first_above bound (e ∷ es) = if is_above bound e.0 then Some e.1 else first_above bound es
 
 -- what the map has under the command's key, or above its bound, where slot i has the key `key i`
-abbrev pub reply_of : (ℕ → List ℕ) → Command → FinMap (slice_cmp nat_cmp) ℕ → Option ℕ
+abbrev pub reply_of : (ℕ → List ℕ) → Command → KeyMap → Option ℕ
 reply_of key (Link slot) m = get m (key slot)
 reply_of key (Find k) m = get m k.items
 reply_of key (Unlink k) m = get m k.items
 reply_of key (Above bound) m = first_above (option_map (λ k. k.items) bound) (entries m)
 
 -- the map after the command: a slot joins whose key is absent, or a key leaves
-abbrev pub after_command : (ℕ → List ℕ) → Command → FinMap (slice_cmp nat_cmp) ℕ →
-    FinMap (slice_cmp nat_cmp) ℕ
+abbrev pub after_command : (ℕ → List ℕ) → Command → KeyMap → KeyMap
 after_command key (Link slot) m = if is_some (get m (key slot)) then m else insert m (key slot) slot
 after_command key (Find k) m = m
 after_command key (Unlink k) m = remove m k.items
 after_command key (Above bound) m = m
 
 -- the reply to each command, in order
-abbrev pub replies : (ℕ → List ℕ) → List Command → FinMap (slice_cmp nat_cmp) ℕ → List (Option ℕ)
+abbrev pub replies : (ℕ → List ℕ) → List Command → KeyMap → List (Option ℕ)
 replies key [] m = []
 replies key (command ∷ commands) m =
     reply_of key command m ∷ replies key commands (after_command key command m)
@@ -51,5 +51,5 @@ AreReadyCommands a [] = Unit {0}
 AreReadyCommands a (command ∷ commands) = IsReadyCommand a command × AreReadyCommands a commands
 
 -- each slot of the map stands under its own key
-abbrev pub IsKeyed : (ℕ → List ℕ) → FinMap (slice_cmp nat_cmp) ℕ → Type 0
+abbrev pub IsKeyed : (ℕ → List ℕ) → KeyMap → Type 0
 IsKeyed key m = (k : List ℕ) (i : ℕ) → get m k ≡ Some i → key i ≡ k

@@ -1,9 +1,8 @@
 -- The slots of an index in a vector, in the order of their keys.
 use Rattle.std.specs.Prelude.{◌≡◌, ℕ, ◌<◌, ◌≤◌, List, Option, Some, length, slice_get, vec_capacity}
-use Rattle.std.specs.Ordering.{nat_cmp}
-use Rattle.std.specs.Cmp.Lexicographic.{slice_cmp}
-use Rattle.std.specs.FinMap.{FinMap, from_entries}
+use Rattle.std.specs.FinMap.{from_entries}
 use Rattle.std.proofs.Common.{arith, sym, subst, ap, ◌∙◌}
+use Rattle.bpf_model.specs.View.{KeyMap}
 use Rattle.element_arena.specs.State.{ArenaState, IsTaken, SameAt, indexed, key_at, times_in}
 use Rattle.element_arena.specs.State.{contents_of}
 use Rattle.element_arena.proofs.Indexing.{AreUnique, indexed-times}
@@ -35,7 +34,7 @@ pub record IsPositionAbove (key : ℕ →
   pub below : (i s : ℕ) → i < position → slice_get slots i ≡ Some s → IsAbove bound (key s) → ⊥
   pub above : (i s : ℕ) → position ≤ i → slice_get slots i ≡ Some s → IsAbove bound (key s)
 
-abbrev pub sorted_contents : Sorted → ArenaState → FinMap (slice_cmp nat_cmp) ℕ
+abbrev pub sorted_contents : Sorted → ArenaState → KeyMap
 sorted_contents x a = contents_of (key_at a.slots) x.slots.items
 
 -- There is room for each slot of the arena. All slots are taken, stand once, and in the order of

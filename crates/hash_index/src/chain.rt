@@ -2,7 +2,8 @@
 ghost use Rattle.std.specs.Prelude.{◌≡◌, ◌≢◌, ◌<◌, ◌≤◌, Some, ◌++◌, ℕ, List, length, option_copied, IfSome, ◌∷◌, []};
 ghost use Rattle.element_arena.specs.State.{key_at, times_in, slot_of};
 ghost use Rattle.hash_index.specs.Order.{IsLeastOf};
-ghost use Rattle.hash_index.specs.Chains.{IsChain, IsBefore, IsCut, chain_of};
+ghost use Rattle.element_arena.specs.Threads.{chain_of};
+ghost use Rattle.hash_index.specs.Chains.{IsChain, IsBefore, IsCut};
 
 use crate::keys::{has_key, is_above, is_less};
 use element_arena::Arena;

@@ -1,8 +1,7 @@
 //! What an index of slots is.
-ghost use Rattle.std.specs.Prelude.{◌≡◌, ◌≤◌, ℕ, None, Some, length, IfOk, IfSome, IfNone, option_copied};
+ghost use Rattle.std.specs.Prelude.{◌≡◌, ◌≤◌, None, Some, length, IfOk, IfSome, IfNone, option_copied};
 ghost use Rattle.std.specs.FinMap as map;
-ghost use Rattle.std.specs.Ordering.{nat_cmp};
-ghost use Rattle.std.specs.Cmp.Lexicographic.{slice_cmp};
+ghost use Rattle.bpf_model.specs.View.{KeyMap};
 ghost use Rattle.element_arena.specs.State.{ArenaState, IsTaken, LinksOf, SameAt, indexed, key_at};
 ghost use Rattle.hash_index.specs.Order.{IsAbove, NoneAbove, NoneBetween};
 
@@ -13,7 +12,7 @@ use std::alloc::{AllocError, Global};
 /// each call takes the arena in which the index stands.
 pub trait Index {
     /// The slot of each key, over this arena.
-    ghost contents: { Self → ArenaState → map.FinMap (slice_cmp nat_cmp) ℕ };
+    ghost contents: { Self → ArenaState → KeyMap };
 
     /// That the index stands in this arena, and has room for each of its slots.
     ghost fits: { Self → ArenaState → Type 0 };

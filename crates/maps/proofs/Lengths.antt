@@ -2,7 +2,7 @@
 use Rattle.std.proofs.Common.{◌≡◌, ◌∙◌, ℕ, List, length, sym, ap, inl, inr}
 use Rattle.std.specs.FinMap.{get, insert, remove}
 use Rattle.std.proofs.lemmas.Option.{none-some}
-use Rattle.bpf_model.specs.Codes.{KeyMap}
+use Rattle.bpf_model.specs.View.{KeyMap}
 use Rattle.bpf_model.proofs.Lists.{key_cases}
 use Rattle.view_laws.proofs.Lists.{insert-other, remove-same, remove-other}
 use Rattle.maps.specs.Shown.{AreKeysLong}

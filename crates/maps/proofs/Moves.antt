@@ -7,7 +7,7 @@ use Rattle.element_arena.proofs.Counts.{one_same, one_other, times-append}
 use Rattle.element_arena.proofs.Views.{taken_same}
 use Rattle.deferred_free.specs.Queued.{queued, retired_lists, reaped_lists}
 use Rattle.maps.specs.Parted.{PartsView, standings, IsParted, IsInHand}
-use Rattle.bpf_model.specs.Codes.{KeyMap}
+use Rattle.bpf_model.specs.View.{KeyMap}
 use Rattle.maps.proofs.Parting.{standing-taken, indexed-insert, parted-links, parted-inserted, parted-removed, removed-held, parted-retired, parted-turned, parted-reaped, parted-taken, taken-held, taken-indexed, other-key, taken-key, parted-given, written-key, parted-written}
 use Rattle.std.proofs.lemmas.List.{length-set}
 use Rattle.bpf_model.proofs.Lists.{get-set_other}

@@ -12,7 +12,7 @@ use Rattle.element_arena.proofs.Counts.{one_cases, one_same, one_other, times-ap
 use Rattle.view_laws.proofs.Lists.{insert-same, insert-other, remove-same, remove-other}
 use Rattle.deferred_free.specs.Queued.{queued, retired_lists, reaped_lists}
 use Rattle.maps.specs.Parted.{PartsView, standings, IsParted, IsInHand, IsInUse}
-use Rattle.bpf_model.specs.Codes.{KeyMap}
+use Rattle.bpf_model.specs.View.{KeyMap}
 use Rattle.std.proofs.lemmas.List.{length-set}
 use Rattle.bpf_model.proofs.Lists.{get-set_other, get-set_same, key_cases}
 

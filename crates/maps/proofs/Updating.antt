@@ -15,7 +15,7 @@ use Rattle.element_arena.specs.State.{key_at, taken}
 use Rattle.view_laws.specs.Views.{updated, updated_by, shown_error, filled, filled_from, retired_key, retired_slot}
 use Rattle.view_laws.proofs.Lists.{remove-same, len-remove_found, len-insert_new}
 use Rattle.maps.specs.Parted.{PartsView, without_key}
-use Rattle.bpf_model.specs.Codes.{KeyMap}
+use Rattle.bpf_model.specs.View.{KeyMap}
 use Rattle.maps.specs.Shown.{map_view, IsMap, IsOfShape, AreKeysLong, or_no_memory, linked_with, put_in}
 use Rattle.maps.proofs.Lengths.{long-inserted, long-removed}
 use Rattle.std.proofs.lemmas.List.{length-set}

@@ -2,9 +2,9 @@
 use Rattle.std.specs.Prelude.{◌≡◌, ℕ, ◌+◌, ◌<◌, ◌≤◌, List, Option, Some, None, length, refl}
 use Rattle.std.specs.Coded.{Coded, code_by, coded×}
 use Rattle.std.specs.FinMap.{remove}
-use Rattle.bpf_model.specs.Codes.{KeyMap, key_map_code, queues_code}
+use Rattle.bpf_model.specs.Codes.{key_map_code, queues_code}
 use Rattle.bpf_model.specs.Schedule.{Queues}
-use Rattle.bpf_model.specs.View.{SlotView}
+use Rattle.bpf_model.specs.View.{KeyMap, SlotView}
 use Rattle.element_arena.specs.Codes.{arena_code}
 use Rattle.element_arena.specs.State.{ArenaState, IsTaken, times_in, indexed, key_at, worn_at}
 use Rattle.deferred_free.specs.Queued.{queued, retired_lists}

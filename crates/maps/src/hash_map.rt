@@ -46,7 +46,7 @@ impl<I: Index, D: Deferred> Model for HashMap<I, D> {
 }
 
 /// Which test of an update fails first, but for the last: that a map slot is free.
-fn refusal(flags: u64, present: bool, linked: usize, entries: usize) -> Option<Errno>
+fn first_error(flags: u64, present: bool, linked: usize, entries: usize) -> Option<Errno>
     ensures tested { (m : MapState) → m.shape.entries ≡ entries →
         update_error flags present linked m ≡ or_no_memory result m }
     ensures room { IfNone result (present ≡ false → linked < entries) }
@@ -127,7 +127,7 @@ impl<I: Index, D: Deferred> HashMap<I, D> {
         ensures shape { self.new.shape ≡ self.old.shape }
     {
         let found = self.parts.find(key);
-        match refusal(
+        match first_error(
             flags,
             found.is_some(),
             self.counts.linked,

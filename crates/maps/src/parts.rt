@@ -5,7 +5,7 @@ ghost use Rattle.bpf_model.specs.Schedule.{turned, no_queues};
 ghost use Rattle.bpf_model.specs.declared.event.Given.TheVariants as given;
 ghost use Rattle.bpf_model.specs.Access.{byte_count, number_at};
 ghost use Rattle.bpf_model.specs.MachineStep.{with_bytes};
-ghost use Rattle.bpf_model.specs.MapState.{IsShape};
+ghost use Rattle.bpf_model.specs.MapState.{IsShape, slots_of_shape};
 ghost use Rattle.element_arena.specs.State.{key_at, value_at, is_last_use, taken, given_back, with_slot_value, new_arena};
 ghost use Rattle.hash_index.specs.Order.{IsAbove, NoneAbove, NoneBetween};
 ghost use Rattle.deferred_free.specs.Queued.{retired_lists, reaped_lists};
@@ -228,7 +228,7 @@ impl<I: Index + Drop, D: Deferred + Drop> Parts<I, D> {
         ensures { IfOk result (λ p. p ≡ record {
           index = map.empty;
           lists = no_queues;
-          arena = new_arena (shape.entries + shape.spare)
+          arena = new_arena (slots_of_shape shape)
               shape.key_len shape.value_len shape.reuse_limit;
         }) }
     {

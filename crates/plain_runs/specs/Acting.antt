@@ -106,13 +106,14 @@ AloneAs i s run answer new_store new_run =
     TellsResult (λ a. ActStep i s run a new_store new_run)
     ((a : Answer) (t : maps.Store) (q : machine.Run) → ActStep i s run a t q → ⊥) answer
 
--- the run in a run slot made a step, or has none
+-- the run in a run slot makes a step; a free run slot has none
 abbrev pub SlotStep : maps.Store → List Section → Option machine.Run → Answer → maps.Store →
     Option machine.Run → Type 0
 SlotStep s opened None answer new_store new = ⊥
 SlotStep s opened (Some run) answer new_store new =
     (new_run : machine.Run) × (new ≡ Some new_run) × RunStep s opened run answer new_store new_run
 
+-- the run in a run slot made a step, or has none
 abbrev pub SlotStepsAs : maps.Store → List Section → Option machine.Run → Result Answer ModelFault →
     maps.Store → Option machine.Run → Type 0
 SlotStepsAs s opened old answer new_store new =

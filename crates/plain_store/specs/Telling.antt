@@ -1,7 +1,8 @@
 -- What a result or a fault says of the machine's step.
 use Rattle.std.specs.Prelude.{Result, Ok, Err}
 use Rattle.plain_store.specs.declared.fault.ModelFault.{ModelFault}
-use Rattle.plain_store.specs.declared.fault.ModelFault.TheVariants.{Stuck, Memory, OutOfRange, Early}
+use Rattle.plain_store.specs.declared.fault.ModelFault.TheVariants.{Stuck, Memory, OutOfRange}
+use Rattle.plain_store.specs.declared.fault.ModelFault.TheVariants.{Early}
 
 -- A result tells what was done. Of the faults, "stuck" tells that nothing could be; the others tell
 -- nothing.

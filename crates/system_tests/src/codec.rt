@@ -1,7 +1,5 @@
 //! Programs and faults whose bytes were spelled by hand from RFC 9669. A slot is written as its eight bytes
 //! in order: opcode, registers (source, then destination), offset, imm.
-ghost use Rattle.std.specs.Prelude.{◌≤◌};
-
 use insn_codec::{
     AluOp, ByteOrder, CallKind, Condition, DecodeFault, Insn, InsnFlaw, Operand, Program, Reg,
     SignExtension, SignedWidth, Size, SwapWidth, UnaryOp, Width, decode, decode_undoes_encode,
@@ -20,174 +18,172 @@ fn spelled(alloc: Global, slots: &[u64]) -> Result<Vec<u8>, AllocError> {
     Ok(bytes)
 }
 
-fn r(number: u8) -> Reg
-    requires { number ≤ 10 }
-{
-    match Reg::new(number) {
-        Some(reg) => reg,
-        None => unreachable!(),
-    }
-}
+/// The slots of a program with an instruction of each form.
+const SLOTS: [u64; 26] = [
+    0x0701_0000_0500_0000,
+    0x0c21_0000_0000_0000,
+    0x3703_0100_feff_ffff,
+    0x9c43_0100_0000_0000,
+    0xbf21_0800_0000_0000,
+    0xbf21_2000_0000_0000,
+    0xbc21_1000_0000_0000,
+    0x8403_0000_0000_0000,
+    0xd404_0000_1000_0000,
+    0xdc04_0000_2000_0000,
+    0xd704_0000_4000_0000,
+    0x1803_0000_0100_0000,
+    0x0000_0000_0200_0000,
+    0x0500_feff_0000_0000,
+    0x0600_0000_0000_0100,
+    0xa501_fcff_0700_0000,
+    0xde21_0300_0000_0000,
+    0x7921_f8ff_0000_0000,
+    0x8921_0200_0000_0000,
+    0x720a_f8ff_0500_0000,
+    0x632a_fcff_0000_0000,
+    0x185a_0000_0300_0000,
+    0x0000_0000_0000_0000,
+    0x8500_0000_0200_0000,
+    0x8520_0000_ffff_ffff,
+    EXIT,
+];
+
+/// Its instructions.
+const INSTRUCTIONS: [Insn; 24] = [
+    Insn::Alu {
+        op: AluOp::Add,
+        size: Size::Word64,
+        dst: Reg::R1,
+        src: Operand::Immediate(5),
+    },
+    Insn::Alu {
+        op: AluOp::Add,
+        size: Size::Word32,
+        dst: Reg::R1,
+        src: Operand::Register(Reg::R2),
+    },
+    Insn::Alu {
+        op: AluOp::SignedDiv,
+        size: Size::Word64,
+        dst: Reg::R3,
+        src: Operand::Immediate(-2),
+    },
+    Insn::Alu {
+        op: AluOp::SignedMod,
+        size: Size::Word32,
+        dst: Reg::R3,
+        src: Operand::Register(Reg::R4),
+    },
+    Insn::Unary {
+        op: UnaryOp::MoveSigned {
+            extension: SignExtension::ByteTo64,
+            src: Reg::R2,
+        },
+        dst: Reg::R1,
+    },
+    Insn::Unary {
+        op: UnaryOp::MoveSigned {
+            extension: SignExtension::WordTo64,
+            src: Reg::R2,
+        },
+        dst: Reg::R1,
+    },
+    Insn::Unary {
+        op: UnaryOp::MoveSigned {
+            extension: SignExtension::ShortTo32,
+            src: Reg::R2,
+        },
+        dst: Reg::R1,
+    },
+    Insn::Unary {
+        op: UnaryOp::Negate(Size::Word32),
+        dst: Reg::R3,
+    },
+    Insn::Unary {
+        op: UnaryOp::ByteSwap {
+            order: ByteOrder::ToLittle,
+            width: SwapWidth::Two,
+        },
+        dst: Reg::R4,
+    },
+    Insn::Unary {
+        op: UnaryOp::ByteSwap {
+            order: ByteOrder::ToBig,
+            width: SwapWidth::Four,
+        },
+        dst: Reg::R4,
+    },
+    Insn::Unary {
+        op: UnaryOp::ByteSwap {
+            order: ByteOrder::Swap,
+            width: SwapWidth::Eight,
+        },
+        dst: Reg::R4,
+    },
+    Insn::LoadNumber {
+        dst: Reg::R3,
+        number: 8_589_934_593,
+    },
+    Insn::Jump { offset: -2 },
+    Insn::JumpLong { imm: 65_536 },
+    Insn::JumpIf {
+        condition: Condition::Less,
+        size: Size::Word64,
+        dst: Reg::R1,
+        src: Operand::Immediate(7),
+        offset: -4,
+    },
+    Insn::JumpIf {
+        condition: Condition::SignedLessOrEqual,
+        size: Size::Word32,
+        dst: Reg::R1,
+        src: Operand::Register(Reg::R2),
+        offset: 3,
+    },
+    Insn::Load {
+        width: Width::Eight,
+        dst: Reg::R1,
+        src: Reg::R2,
+        offset: -8,
+    },
+    Insn::LoadSigned {
+        width: SignedWidth::Two,
+        dst: Reg::R1,
+        src: Reg::R2,
+        offset: 2,
+    },
+    Insn::Store {
+        width: Width::One,
+        dst: Reg::R10,
+        offset: -8,
+        src: Operand::Immediate(5),
+    },
+    Insn::Store {
+        width: Width::Four,
+        dst: Reg::R10,
+        offset: -4,
+        src: Operand::Register(Reg::R2),
+    },
+    Insn::LoadMap {
+        dst: Reg::R10,
+        map: 3,
+    },
+    Insn::Call {
+        kind: CallKind::Helper,
+        imm: 2,
+    },
+    Insn::Call {
+        kind: CallKind::Kernel,
+        imm: -1,
+    },
+    Insn::Exit,
+];
 
 #[test]
 fn every_form_and_back(rt: HostRuntime) -> Result<(), Fail> {
-    let slots = [
-        0x0701_0000_0500_0000,
-        0x0c21_0000_0000_0000,
-        0x3703_0100_feff_ffff,
-        0x9c43_0100_0000_0000,
-        0xbf21_0800_0000_0000,
-        0xbf21_2000_0000_0000,
-        0xbc21_1000_0000_0000,
-        0x8405_0000_0000_0000,
-        0xd406_0000_1000_0000,
-        0xdc06_0000_2000_0000,
-        0xd706_0000_4000_0000,
-        0x1807_0000_0100_0000,
-        0x0000_0000_0200_0000,
-        0x0500_feff_0000_0000,
-        0x0600_0000_0000_0100,
-        0xa501_fcff_0700_0000,
-        0xde21_0300_0000_0000,
-        0x7921_f8ff_0000_0000,
-        0x8921_0200_0000_0000,
-        0x720a_f8ff_0500_0000,
-        0x632a_fcff_0000_0000,
-        0x185a_0000_0300_0000,
-        0x0000_0000_0000_0000,
-        0x8500_0000_0200_0000,
-        0x8520_0000_ffff_ffff,
-        EXIT,
-    ];
-    let wanted = [
-        Insn::Alu {
-            op: AluOp::Add,
-            size: Size::Word64,
-            dst: r(1),
-            src: Operand::Immediate(5),
-        },
-        Insn::Alu {
-            op: AluOp::Add,
-            size: Size::Word32,
-            dst: r(1),
-            src: Operand::Register(r(2)),
-        },
-        Insn::Alu {
-            op: AluOp::SignedDiv,
-            size: Size::Word64,
-            dst: r(3),
-            src: Operand::Immediate(-2),
-        },
-        Insn::Alu {
-            op: AluOp::SignedMod,
-            size: Size::Word32,
-            dst: r(3),
-            src: Operand::Register(r(4)),
-        },
-        Insn::Unary {
-            op: UnaryOp::MoveSigned {
-                extension: SignExtension::ByteTo64,
-                src: r(2),
-            },
-            dst: r(1),
-        },
-        Insn::Unary {
-            op: UnaryOp::MoveSigned {
-                extension: SignExtension::WordTo64,
-                src: r(2),
-            },
-            dst: r(1),
-        },
-        Insn::Unary {
-            op: UnaryOp::MoveSigned {
-                extension: SignExtension::ShortTo32,
-                src: r(2),
-            },
-            dst: r(1),
-        },
-        Insn::Unary {
-            op: UnaryOp::Negate(Size::Word32),
-            dst: r(5),
-        },
-        Insn::Unary {
-            op: UnaryOp::ByteSwap {
-                order: ByteOrder::ToLittle,
-                width: SwapWidth::Two,
-            },
-            dst: r(6),
-        },
-        Insn::Unary {
-            op: UnaryOp::ByteSwap {
-                order: ByteOrder::ToBig,
-                width: SwapWidth::Four,
-            },
-            dst: r(6),
-        },
-        Insn::Unary {
-            op: UnaryOp::ByteSwap {
-                order: ByteOrder::Swap,
-                width: SwapWidth::Eight,
-            },
-            dst: r(6),
-        },
-        Insn::LoadNumber {
-            dst: r(7),
-            number: 8_589_934_593,
-        },
-        Insn::Jump { offset: -2 },
-        Insn::JumpLong { imm: 65_536 },
-        Insn::JumpIf {
-            condition: Condition::Less,
-            size: Size::Word64,
-            dst: r(1),
-            src: Operand::Immediate(7),
-            offset: -4,
-        },
-        Insn::JumpIf {
-            condition: Condition::SignedLessOrEqual,
-            size: Size::Word32,
-            dst: r(1),
-            src: Operand::Register(r(2)),
-            offset: 3,
-        },
-        Insn::Load {
-            width: Width::Eight,
-            dst: r(1),
-            src: r(2),
-            offset: -8,
-        },
-        Insn::LoadSigned {
-            width: SignedWidth::Two,
-            dst: r(1),
-            src: r(2),
-            offset: 2,
-        },
-        Insn::Store {
-            width: Width::One,
-            dst: r(10),
-            offset: -8,
-            src: Operand::Immediate(5),
-        },
-        Insn::Store {
-            width: Width::Four,
-            dst: r(10),
-            offset: -4,
-            src: Operand::Register(r(2)),
-        },
-        Insn::LoadMap { dst: r(10), map: 3 },
-        Insn::Call {
-            kind: CallKind::Helper,
-            imm: 2,
-        },
-        Insn::Call {
-            kind: CallKind::Kernel,
-            imm: -1,
-        },
-        Insn::Exit,
-    ];
-    let bytes = spelled(rt.alloc(), &slots)?;
+    let bytes = spelled(rt.alloc(), &SLOTS)?;
     let program = decode(rt.alloc(), &bytes)?;
-    assert_eq!(rt; program.instructions(), wanted.as_slice());
+    assert_eq!(rt; program.instructions(), INSTRUCTIONS.as_slice());
     assert_eq!(rt; program.len(), 24);
     assert!(rt; !program.is_empty());
     assert_eq!(rt; program.slot_count(), 26);
@@ -201,19 +197,22 @@ fn every_form_and_back(rt: HostRuntime) -> Result<(), Fail> {
     let again = encode_undoes_decode(rt.alloc(), &bytes)?;
     assert_eq!(rt; again.as_slice(), bytes.as_slice());
     let same = decode_undoes_encode(rt.alloc(), &program)?;
-    assert_eq!(rt; same.instructions(), wanted.as_slice());
+    assert_eq!(rt; same.instructions(), INSTRUCTIONS.as_slice());
     Ok(())
 }
 
 #[test]
 fn made_from_instructions(rt: HostRuntime) -> Result<(), Fail> {
     let instructions = [
-        Insn::LoadMap { dst: r(1), map: 3 },
+        Insn::LoadMap {
+            dst: Reg::R1,
+            map: 3,
+        },
         Insn::Alu {
             op: AluOp::Move,
             size: Size::Word64,
-            dst: r(2),
-            src: Operand::Register(r(10)),
+            dst: Reg::R2,
+            src: Operand::Register(Reg::R10),
         },
         Insn::Call {
             kind: CallKind::Kernel,

@@ -35,13 +35,8 @@ pub const SHAPE: MapShape = MapShape {
 
 /// The bytes of hexadecimal digits; spaces are left out.
 pub fn bytes_of(alloc: Global, text: &str) -> Result<Vec<u8>, Fail> {
-    let mut digits: Vec<u8> = Vec::new(alloc);
-    for byte in text.as_bytes() {
-        if *byte != b' ' {
-            digits.push(*byte)?;
-        }
-    }
-    Ok(hex::decode(alloc, digits)?)
+    let digits = text.replace(alloc, " ", "")?;
+    Ok(hex::decode(alloc, digits.as_str())?)
 }
 
 /// The context of these bytes. Fails where they are more than a context may have.

@@ -226,11 +226,7 @@ fn told_at(code: u8, at: Option<usize>) -> Told {
 fn read(alloc: Global, source: &Source) -> Result<Result<Program, Told>, Fail> {
     match source {
         Text(text) => {
-            let mut lines = String::new(alloc);
-            for line in text.split("; ") {
-                lines.push_str(line)?;
-                lines.push('\n')?;
-            }
+            let lines = text.replace(alloc, "; ", "\n")?;
             Ok(assemble(alloc, &lines).map_err(|fault| told_at(fault.code(), fault.line())))
         }
         Bytes(digits) => {

@@ -17,92 +17,56 @@ fn sets_of_numbers(rt: HostRuntime) {
     assert!(rt; Scalar::load_signed(SignedWidth::One).contains(u64::MAX));
 }
 
+/// The bounds of what operations of this size with a constant make of these numbers.
+fn check_bounds(rt: &HostRuntime, size: Size, rows: &[(AluOp, Scalar, u64, u64, u64)]) {
+    for (op, a, k, least, greatest) in rows {
+        let result = Scalar::apply(size, *op, *a, Scalar::constant(*k));
+        assert_eq!(rt;
+            (result.least, result.greatest),
+            (*least, *greatest),
+            "{op:?} {k:x}"
+        );
+    }
+}
+
 /// The bounds of results of a byte, or of what was made of one.
 #[test]
 fn bounds_of_results(rt: HostRuntime) {
     let byte = Scalar::loaded(Width::One);
+    let wide = Scalar::unknown();
+    let after = Scalar::apply(Size::Word64, AluOp::Add, byte, Scalar::constant(1));
+    let far = Scalar::apply(Size::Word64, AluOp::Add, byte, Scalar::constant(9));
+    let two_bits = Scalar::apply(Size::Word64, AluOp::And, wide, Scalar::constant(3));
     let rows = [
-        (Size::Word64, AluOp::And, Scalar::unknown(), 7, 0, 7),
-        (Size::Word64, AluOp::Add, byte, 8, 8, 263),
-        (
-            Size::Word64,
-            AluOp::Add,
-            Scalar::apply(Size::Word64, AluOp::Add, byte, Scalar::constant(1)),
-            u64::MAX,
-            0,
-            255,
-        ),
-        (Size::Word64, AluOp::Add, byte, u64::MAX, 0, u64::MAX),
-        (
-            Size::Word64,
-            AluOp::Sub,
-            Scalar::apply(Size::Word64, AluOp::Add, byte, Scalar::constant(9)),
-            4,
-            5,
-            260,
-        ),
-        (Size::Word64, AluOp::Mul, byte, 8, 0, 2040),
-        (Size::Word64, AluOp::Div, byte, 10, 0, 25),
-        (Size::Word64, AluOp::Mod, Scalar::unknown(), 10, 0, 9),
-        (
-            Size::Word64,
-            AluOp::Or,
-            Scalar::apply(
-                Size::Word64,
-                AluOp::And,
-                Scalar::unknown(),
-                Scalar::constant(3),
-            ),
-            8,
-            8,
-            11,
-        ),
-        (Size::Word64, AluOp::Xor, byte, 1, 0, 255),
-        (Size::Word64, AluOp::ShiftLeft, byte, 3, 0, 2040),
-        (Size::Word64, AluOp::ShiftLeft, byte, 67, 0, 2040),
-        (
-            Size::Word64,
-            AluOp::ShiftRight,
-            Scalar::unknown(),
-            60,
-            0,
-            15,
-        ),
-        (Size::Word64, AluOp::ShiftRightSigned, byte, 4, 0, 15),
-        (Size::Word32, AluOp::Add, byte, 5, 5, 260),
-        (Size::Word32, AluOp::Add, byte, 0xffff_ffff, 0, 0xffff_ffff),
-        (Size::Word32, AluOp::Move, byte, 0x1_0000_0003, 3, 3),
-        (Size::Word32, AluOp::ShiftLeft, byte, 35, 0, 2040),
-        (Size::Word32, AluOp::SignedDiv, byte, 10, 0, 25),
+        (AluOp::And, wide, 7, 0, 7),
+        (AluOp::Add, byte, 8, 8, 263),
+        (AluOp::Add, after, u64::MAX, 0, 255),
+        (AluOp::Add, byte, u64::MAX, 0, u64::MAX),
+        (AluOp::Sub, far, 4, 5, 260),
+        (AluOp::Mul, byte, 8, 0, 2040),
+        (AluOp::Div, byte, 10, 0, 25),
+        (AluOp::Mod, wide, 10, 0, 9),
+        (AluOp::Or, two_bits, 8, 8, 11),
+        (AluOp::Xor, byte, 1, 0, 255),
+        (AluOp::ShiftLeft, byte, 3, 0, 2040),
+        (AluOp::ShiftLeft, byte, 67, 0, 2040),
+        (AluOp::ShiftRight, wide, 60, 0, 15),
+        (AluOp::ShiftRightSigned, byte, 4, 0, 15),
     ];
-    for (size, op, a, k, least, greatest) in rows {
-        let result = Scalar::apply(size, op, a, Scalar::constant(k));
-        assert_eq!(rt;
-            (result.least, result.greatest),
-            (least, greatest),
-            "{op:?} {k:x}"
-        );
-    }
-    assert_eq!(rt;
-        Scalar::apply(
-            Size::Word64,
-            AluOp::ShiftLeft,
-            Scalar::unknown(),
-            Scalar::constant(3)
-        )
-        .may % 8,
-        0
-    );
-    assert_eq!(rt;
-        Scalar::apply(
-            Size::Word64,
-            AluOp::Add,
-            Scalar::constant(1),
-            Scalar::constant(u64::MAX)
-        )
-        .as_constant(),
-        Some(0)
-    );
+    check_bounds(&rt, Size::Word64, &rows);
+    let narrow = [
+        (AluOp::Add, byte, 5, 5, 260),
+        (AluOp::Add, byte, 0xffff_ffff, 0, 0xffff_ffff),
+        (AluOp::Move, byte, 0x1_0000_0003, 3, 3),
+        (AluOp::ShiftLeft, byte, 35, 0, 2040),
+        (AluOp::SignedDiv, byte, 10, 0, 25),
+    ];
+    check_bounds(&rt, Size::Word32, &narrow);
+    let eights = Scalar::apply(Size::Word64, AluOp::ShiftLeft, wide, Scalar::constant(3));
+    assert_eq!(rt; eights.may % 8, 0);
+    let one = Scalar::constant(1);
+    let zero = Scalar::apply(Size::Word64, AluOp::Add, one, Scalar::constant(u64::MAX));
+    assert_eq!(rt; zero.as_constant(), Some(0));
 }
 
 #[test]
@@ -137,38 +101,36 @@ fn edges(rt: HostRuntime) {
             "{condition:?} {k} {taken}"
         );
     }
-    let (wide, _) = Scalar::refine(
-        Size::Word32,
-        Condition::Less,
+}
+
+/// What is left of any number where a comparison with a constant holds.
+fn left_of_any(size: Size, condition: Condition, k: u64) -> Scalar {
+    Scalar::refine(
+        size,
+        condition,
         Scalar::unknown(),
-        Scalar::constant(10),
+        Scalar::constant(k),
         true,
-    );
+    )
+    .0
+}
+
+#[test]
+fn edges_of_signs_and_bits(rt: HostRuntime) {
+    let wide = left_of_any(Size::Word32, Condition::Less, 10);
     assert_eq!(rt; (wide.least, wide.greatest), (0, u64::MAX));
     assert_eq!(rt; (wide.may, wide.must), (0xffff_ffff_0000_000f, 0));
-    let (positive, _) = Scalar::refine(
-        Size::Word64,
-        Condition::SignedGreater,
-        Scalar::unknown(),
-        Scalar::constant(0),
-        true,
-    );
+    let positive = left_of_any(Size::Word64, Condition::SignedGreater, 0);
     assert_eq!(rt;
         (positive.least, positive.greatest),
         (1, 0x7fff_ffff_ffff_ffff)
     );
-    let (either, _) = Scalar::refine(
-        Size::Word64,
-        Condition::SignedLess,
-        Scalar::unknown(),
-        Scalar::constant(10),
-        true,
-    );
+    let either = left_of_any(Size::Word64, Condition::SignedLess, 10);
     assert_eq!(rt; either, Scalar::unknown());
     let (even, _) = Scalar::refine(
         Size::Word64,
         Condition::SharesBits,
-        byte,
+        Scalar::loaded(Width::One),
         Scalar::constant(1),
         false,
     );

@@ -359,13 +359,8 @@ static ROWS: [Row; 17] = [
 
 /// The bytes of hexadecimal digits; spaces are left out.
 fn bytes_of(alloc: Global, text: &str) -> Result<Vec<u8>, Fail> {
-    let mut digits: Vec<u8> = Vec::new(alloc);
-    for byte in text.as_bytes() {
-        if *byte != b' ' {
-            digits.push(*byte)?;
-        }
-    }
-    Ok(hex::decode(alloc, digits)?)
+    let digits = text.replace(alloc, " ", "")?;
+    Ok(hex::decode(alloc, digits.as_str())?)
 }
 
 /// Whether a row's program is accepted.

@@ -50,10 +50,8 @@ pub const MAPS: [MapShape; 2] = [SHAPE, WIDE];
 fn assembled(alloc: Global, parts: &[&str]) -> Result<Option<Program>, Fail> {
     let mut lines = String::new(alloc);
     for part in parts {
-        for line in part.split("; ") {
-            lines.push_str(line)?;
-            lines.push('\n')?;
-        }
+        lines.push_str(&part.replace(alloc, "; ", "\n")?)?;
+        lines.push('\n')?;
     }
     match assemble(alloc, &lines) {
         Ok(program) => Ok(Some(program)),

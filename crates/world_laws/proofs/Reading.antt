@@ -18,7 +18,7 @@ use Rattle.model_laws.specs.Example.{example_shape}
 use Rattle.view_laws.specs.Views.{retired_slot, delete_result, filled_from, updated_by, shown_error}
 use Rattle.view_laws.specs.Reactions.{with_map, shape_shown, delete_at}
 use Rattle.view_laws.proofs.Lists.{insert-same}
-use Rattle.bpf_model.specs.Codes.{KeyMap}
+use Rattle.bpf_model.specs.View.{KeyMap}
 use Rattle.world_laws.specs.Calling.{found_word, returned_view}
 use Rattle.world_laws.specs.Moving.{moves_on}
 use Rattle.world_laws.specs.Reacting.{full_reaction, full_reactions}

@@ -558,13 +558,8 @@ fn numbers(row: &Row) -> Result<&'static [usize], Fail> {
 
 /// The program of hexadecimal digits; spaces are left out.
 fn program_of(alloc: Global, row: &Row) -> Result<Program, Fail> {
-    let mut digits: Vec<u8> = Vec::new(alloc);
-    for byte in row.code.as_bytes() {
-        if *byte != b' ' {
-            digits.push(*byte)?;
-        }
-    }
-    let bytes = hex::decode(alloc, digits)?;
+    let digits = row.code.replace(alloc, " ", "")?;
+    let bytes = hex::decode(alloc, digits.as_str())?;
     Ok(decode(alloc, &bytes)?)
 }
 

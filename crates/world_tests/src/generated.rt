@@ -90,7 +90,7 @@ fn target(random: &mut Random) -> (MapId, usize, usize) {
     }
 }
 
-/// The flags of an update: mostly 0, else 1, 2, or 3, which is refused.
+/// The flags of an update: mostly 0, else 1, 2, or 3, which is an error (-22).
 fn flags(random: &mut Random) -> u64 {
     match random.below(8) {
         0 => 1,

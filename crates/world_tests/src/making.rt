@@ -35,11 +35,7 @@ pub struct Source {
 
 /// The program of a text.
 pub fn assembled(alloc: Global, text: &str) -> Result<Program, Fail> {
-    let mut lines = String::new(alloc);
-    for line in text.split("; ") {
-        lines.push_str(line)?;
-        lines.push('\n')?;
-    }
+    let lines = text.replace(alloc, "; ", "\n")?;
     match assemble(alloc, &lines) {
         Ok(program) => Ok(program),
         Err(_) => Err(Fail::from("no program")),

@@ -1,4 +1,4 @@
-//! The programs of the cases, as lines of the assembly language parted by semicolons.
+//! The programs of the tests, as lines of the assembly language parted by semicolons.
 
 /// Exits with 1.
 pub const EXIT_ONE: &str = "mov64 r0, 1; exit";

@@ -22,7 +22,7 @@ impl Random {
         x
     }
 
-    /// The next number, from 0 up to a bound.
+    /// The next number, below a bound.
     pub fn below(&mut self, bound: usize) -> usize
         requires { 0 < bound }
         ensures { result < bound }

@@ -1,5 +1,5 @@
 use Rattle.std.proofs.Common.{length, Some}
-use Rattle.hash_index.specs.Chains.{chain_of}
+use Rattle.element_arena.specs.Threads.{chain_of}
 use Rattle.hash_index.proofs.Steps.{IsOn}
 use Rattle.hash_index.proofs.chain.before.Given as goal
 

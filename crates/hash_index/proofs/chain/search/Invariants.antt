@@ -1,6 +1,7 @@
 use Rattle.std.proofs.Common.{◌≡◌, length}
 use Rattle.element_arena.specs.State.{key_at, slot_of}
-use Rattle.hash_index.specs.Chains.{IsChain, chain_of}
+use Rattle.element_arena.specs.Threads.{chain_of}
+use Rattle.hash_index.specs.Chains.{IsChain}
 use Rattle.hash_index.proofs.chain.search.Given as goal
 
 abbrev pub invariant-loop-at : goal.invariant-loop-at

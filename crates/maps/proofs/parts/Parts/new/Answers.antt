@@ -5,7 +5,7 @@ use Rattle.bpf_model.specs.Schedule.{Queues, no_queues}
 use Rattle.bpf_model.specs.View.{unused_slot}
 use Rattle.element_arena.specs.State.{ArenaState}
 use Rattle.maps.specs.Parted.{PartsView, IsParted}
-use Rattle.bpf_model.specs.Codes.{KeyMap}
+use Rattle.bpf_model.specs.View.{KeyMap}
 use Rattle.maps.proofs.Fresh.{parted-fresh}
 use Rattle.maps.proofs.parts.Parts.new.Goals as goal
 
