@@ -7,4 +7,4 @@ pub mod Combining
 pub mod Known
 pub mod Numbers
 pub mod Branches
-pub mod Calls
+pub mod CallLaws

@@ -12,8 +12,8 @@ ghost use Rattle.bpf_model.specs.View.{WorldView, HasExited};
 ghost use Rattle.world_invariant.specs.Invariant.{IsWorld};
 ghost use Rattle.exit_laws.specs.Exits.{MayExitAs, ExitsAs};
 
-/// A run that has ended in a world may exit so by its program's definition, over maps and open sections
-/// that other actors made. Without map references it exits so whatever they do.
+/// A run that has ended in a world may exit so by its program's definition, over some maps and open
+/// sections before each of its steps. Without map references it exits so whatever other actors do.
 pub fn exited_as_defined()
     ensures may { (w : WorldView) (r : ℕ) (code : List Insn) (context : List ℕ) (n : ℕ) →
         IsWorld w → HasExited w r code context n → MayExitAs code context n }

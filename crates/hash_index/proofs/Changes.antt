@@ -22,7 +22,7 @@ use Rattle.std.specs.Option.{option_flatten}
 pub home_chain : (heads : List (Option ℕ)) (a : ArenaState) (k : ℕ) (o : Option ℕ) → HeadsFit heads a → slice_get heads k ≡ Some o → IsChain a o
 home_chain heads a k o f h = record {
   thread = f.thread k o h;
-  taken = λ j p. f.taken j (let m : times_in j (walk (length a.slots) (link_at a.links) o) ≤ times_in j (chained_slots heads a) = chain_among (length a.slots) (link_at a.links) heads k o j h in omega arith);
+  taken = λ j p. f.taken j (let m : times_in j (chain_of a o) ≤ times_in j (chained_slots heads a) = chain_among (length a.slots) (link_at a.links) heads k o j h in omega arith);
 }
 
 -- a slot that has the key stands in the key's chain
@@ -72,7 +72,7 @@ module _ (heads : List (Option ℕ)) (a : ArenaState) (ls : List (Option ℕ)) (
       (j : ℕ) → times_in j (chained_slots (slice_set heads k p) (record a { links = ls })) + times_in j (chain_of a o) ≡ times_in j (chained_slots heads a) + times_in j ys
   changed_count h t once taken others j =
       let e : times_in j (walk (length a.slots) (link_at ls) p) ≡ times_in j ys = ap (times_in j) (changed_walk t once taken) in
-      let s : times_in j (slots_from (length a.slots) (link_at ls) (slice_set heads k p)) + times_in j (walk (length a.slots) (link_at a.links) o) ≡ times_in j (slots_from (length a.slots) (link_at a.links) heads) + times_in j (walk (length a.slots) (link_at ls) p) =
+      let s : times_in j (slots_from (length a.slots) (link_at ls) (slice_set heads k p)) + times_in j (chain_of a o) ≡ times_in j (slots_from (length a.slots) (link_at a.links) heads) + times_in j (walk (length a.slots) (link_at ls) p) =
       slots-set (length a.slots) (link_at a.links) (link_at ls) heads k o p j h (λ m q ne at. walk-agree (length a.slots) (link_at a.links) (link_at ls) q (others m q ne at)) in
       omega arith
 
@@ -97,7 +97,7 @@ module _ (heads : List (Option ℕ)) (a : ArenaState) (ls : List (Option ℕ)) (
               let i' : 0 < times_in j ys = subst (λ xs. 0 < times_in j xs) w (subst (λ z. 0 < times_in j (walk (length a.slots) (link_at ls) z)) (sym y.1) i) in
               ap (λ n. bucket_of n (key_at a.slots j)) long ∙ (home j i' ∙ sym y.0)
           | inr n ↦
-              let i' : 0 < times_in j (walk (length a.slots) (link_at a.links) q) = subst (λ xs. 0 < times_in j xs) (walk-agree (length a.slots) (link_at a.links) (link_at ls) q (others m q n.0 n.1)) i in
+              let i' : 0 < times_in j (chain_of a q) = subst (λ xs. 0 < times_in j xs) (walk-agree (length a.slots) (link_at a.links) (link_at ls) q (others m q n.0 n.1)) i in
               ap (λ n. bucket_of n (key_at a.slots j)) long ∙ f.home m q n.1 j i'
         ];
         once = all_once;

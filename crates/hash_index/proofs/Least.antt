@@ -4,7 +4,7 @@ use Rattle.std.specs.Prelude.{slice_get, replicate, IfSome, IfNone}
 use Rattle.std.proofs.lemmas.List.{append-nil, length-replicate}
 use Rattle.std.specs.FinMap.{get, empty}
 use Rattle.element_arena.specs.State.{ArenaState, times_in, key_at, link_at, contents_of}
-use Rattle.element_arena.specs.Threads.{IsThread, walk, chain_of}
+use Rattle.element_arena.specs.Threads.{IsThread, chain_of}
 use Rattle.element_arena.proofs.Counts.{one_cases, one_same, times-append}
 use Rattle.element_arena.proofs.Indexing.{AreUnique, get-contents, slot_of-present, times-get}
 use Rattle.hash_index.specs.Order.{IsLess, IsAbove, NoneAbove, NoneBetween, IsLeastOf}
@@ -143,11 +143,11 @@ module _ (heads : List (Option ℕ)) (count : ℕ) (a : ArenaState) where
       let slots : chained_slots heads a ≡ [] = ap (slots_from (length a.slots) (link_at a.links)) e ∙ slots_of_none count (length a.slots) (link_at a.links) in
       let long : length heads ≡ count = ap (λ (l : List (Option ℕ)). length l) e ∙ length-replicate {A = Option ℕ} count None in
       let zero_times : (j : ℕ) → times_in j (chained_slots heads a) ≡ 0 = λ j. ap (times_in j) slots in
-      let none : (k : ℕ) (o : Option ℕ) → slice_get heads k ≡ Some o → walk (length a.slots) (link_at a.links) o ≡ [] = λ k o h. ap (walk (length a.slots) (link_at a.links)) (get-replicate count k None o (ap (λ l. slice_get l k) (sym e) ∙ h)) ∙ walk_none (length a.slots) (link_at a.links) in
+      let none : (k : ℕ) (o : Option ℕ) → slice_get heads k ≡ Some o → chain_of a o ≡ [] = λ k o h. ap (chain_of a) (get-replicate count k None o (ap (λ l. slice_get l k) (sym e) ∙ h)) ∙ walk_none (length a.slots) (link_at a.links) in
       record {
         some = omega arith;
         thread = λ k o h. subst (IsThread (link_at a.links) o) (sym (none k o h)) (get-replicate count k None o (ap (λ l. slice_get l k) (sym e) ∙ h));
-        home = λ k o h j i. let z : times_in j (walk (length a.slots) (link_at a.links) o) ≡ 0 = ap (times_in j) (none k o h) in absurd (omega arith);
+        home = λ k o h j i. let z : times_in j (chain_of a o) ≡ 0 = ap (times_in j) (none k o h) in absurd (omega arith);
         once = λ j. omega (arith, zero_times j);
         taken = λ j i. absurd (omega (arith, zero_times j));
         unique = λ i j hi hj e. absurd (omega (arith, zero_times i));

@@ -5,7 +5,7 @@ use Rattle.std.specs.Prelude.{slice_get}
 use Rattle.std.specs.FinMap.{from_entries}
 use Rattle.element_arena.specs.State.{ArenaState, IsTaken, SameAt, indexed, link_at, key_at}
 use Rattle.element_arena.specs.State.{times_in, entries_of, contents_of}
-use Rattle.element_arena.specs.Threads.{IsThread, walk}
+use Rattle.element_arena.specs.Threads.{IsThread, walk, chain_of}
 use Rattle.element_arena.proofs.Counts.{times_first}
 use Rattle.element_arena.proofs.Threading.{thread-agree, walk-agree}
 use Rattle.element_arena.proofs.Indexing.{indexed-times}
@@ -35,15 +35,15 @@ framed heads a b n la lb f key link taken =
     let all : chained_slots heads b ≡ chained_slots heads a =
     ap (λ m. slots_from m (link_at b.links) heads) l ∙ one in
     let at : (k : ℕ) (o : Option ℕ) → slice_get heads k ≡ Some o → (j : ℕ) →
-    0 < times_in j (walk (length a.slots) (link_at a.links) o) →
+    0 < times_in j (chain_of a o) →
     0 < times_in j (chained_slots heads a) =
     λ k o h j p.
-    let m : times_in j (walk (length a.slots) (link_at a.links) o)
+    let m : times_in j (chain_of a o)
     ≤ times_in j (chained_slots heads a) =
     chain_among (length a.slots) (link_at a.links) heads k o j h in
     omega arith in
     let same : (k : ℕ) (o : Option ℕ) → slice_get heads k ≡ Some o →
-    walk (length b.slots) (link_at b.links) o ≡ walk (length a.slots) (link_at a.links) o =
+    chain_of b o ≡ chain_of a o =
     (λ k o h. ap (λ m. walk m (link_at b.links) o) l
     ∙ walk-agree (length a.slots) (link_at a.links) (link_at b.links) o
     (λ j p. link j (at k o h j p))) in (
@@ -52,7 +52,7 @@ framed heads a b n la lb f key link taken =
         thread = λ k o h. subst (IsThread (link_at b.links) o) (sym (same k o h))
             (thread-agree (link_at a.links) (link_at b.links) o _ (λ j p. link j (at k o h j p))
             (f.thread k o h));
-        home = λ k o h j p. let q : 0 < times_in j (walk (length a.slots) (link_at a.links) o) =
+        home = λ k o h j p. let q : 0 < times_in j (chain_of a o) =
             subst (λ xs. 0 < times_in j xs) (same k o h) p in
             ap (bucket_of (length heads)) (key j (at k o h j q)) ∙ f.home k o h j q;
         once = λ j. subst (λ xs. times_in j xs ≤ 1) (sym all) (f.once j);

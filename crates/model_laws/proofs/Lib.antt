@@ -31,6 +31,7 @@ pub mod Full
 pub mod Between
 pub mod Deciding
 pub mod Alone
+pub mod Leaving
 pub mod Exits
 pub mod Requests
 pub mod Bounded

@@ -16,7 +16,7 @@ ghost use Rattle.bpf_model.specs.Helper.{Updates};
 ghost use Rattle.bpf_model.specs.Element.{Element, Reclaimed, HasLife};
 ghost use Rattle.bpf_model.specs.declared.insn.Insn.{Insn};
 ghost use Rattle.bpf_model.specs.declared.limits.MapShape.{MapShape};
-ghost use Rattle.bpf_model.specs.Machine.{Machine, Loaded, open_sections, start_machine};
+ghost use Rattle.bpf_model.specs.Machine.{Machine, Loaded, open_sections, run_at, start_machine};
 ghost use Rattle.bpf_model.specs.Schedule.{Queues, Schedule, is_any, first_ready, DoesScheduled, IsScheduledHistory, start_schedule};
 ghost use Rattle.bpf_model.specs.Drain.{Drains, machines, AnswersAsScheduled, AreScheduledAnswers};
 ghost use Rattle.bpf_model.specs.Plain.{IsPlain};
@@ -362,6 +362,13 @@ pub fn others_change_nothing()
         (answer : Answer) →
         SharesNothing run → RunStep store opened run answer new_store new →
         RunStep other sections run answer other new }
+{}
+
+/// Every event but a step or a drop of its own run slot leaves a run as it is.
+pub fn others_leave_runs()
+    ensures { (m new : Machine) (event : Event) (answer : Answer) (r : ℕ) (run : Run) →
+        DoesEvent m event answer new → run_at m.runs r ≡ Some run →
+        event ≢ Event.Step r → event ≢ Event.Drop r → run_at new.runs r ≡ Some run }
 {}
 
 /// A run that shares nothing has one step at most, whatever the maps and the open sections are.

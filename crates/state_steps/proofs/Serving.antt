@@ -14,7 +14,7 @@ use Rattle.bpf_model.specs.Call.{helper_of, kernel_function_of}
 use Rattle.bpf_model.specs.declared.call.Helper.TheVariants as helpers
 use Rattle.bpf_model.specs.declared.insn.CallKind.{CallKind}
 use Rattle.bpf_model.specs.declared.insn.CallKind.TheVariants as callee
-use Rattle.effects.proofs.Calls.{returned_above}
+use Rattle.effects.proofs.CallLaws.{returned_above}
 use Rattle.effects.specs.Calls.{FindsIn, Called, Splits, section_fault, outcome_of}
 use Rattle.register_kinds.specs.declared.fault.InsnFault.{InsnFault}
 use Rattle.std.proofs.lemmas.Option.{slice_get_within}

@@ -3,6 +3,7 @@ use bpf_model::{
     AluOp, ByteOrder, Condition, Reg, SignExtension, SignedWidth, Size, SwapWidth, UnaryOp, Width,
 };
 use scalar_domain::Scalar;
+use std::process::Abort;
 
 #[test]
 fn sets_of_numbers(rt: HostRuntime) {
@@ -18,7 +19,7 @@ fn sets_of_numbers(rt: HostRuntime) {
 }
 
 /// The bounds of what operations of this size with a constant make of these numbers.
-fn check_bounds(rt: &HostRuntime, size: Size, rows: &[(AluOp, Scalar, u64, u64, u64)]) {
+fn check_bounds<R: Abort>(rt: &R, size: Size, rows: &[(AluOp, Scalar, u64, u64, u64)]) {
     for (op, a, k, least, greatest) in rows {
         let result = Scalar::apply(size, *op, *a, Scalar::constant(*k));
         assert_eq!(rt;

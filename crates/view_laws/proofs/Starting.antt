@@ -21,6 +21,7 @@ use Rattle.bpf_model.specs.Refines.{RunRefines, RunSlotRefines, RefinesSchedule}
 use Rattle.view_laws.specs.Reactions.{fresh_view, with_run, start_by, start_reaction}
 use Rattle.view_laws.specs.Matching.{Matches, Simulates}
 use Rattle.bpf_model.proofs.Cases.{oldest-none}
+use Rattle.model_laws.proofs.Leaving.{free-there}
 use Rattle.view_laws.proofs.Worlds.{refuses, steps}
 use Rattle.view_laws.proofs.Running.{run-changed, run-world, lists-same}
 
@@ -68,15 +69,6 @@ module _ (slots : List ℕ) (es : List Element) (programs : List Loaded) where
 none-if : (b : Bool) → (if b then Some RunsFull else Some BadContext) ≡ None → ⊥
 none-if true h = none-some RunsFull (sym h)
 none-if false h = none-some BadContext (sym h)
-
-plus-one : (o : Option ℕ) (r : ℕ) → option_map (λ r. r + 1) o ≡ Some r → (q : ℕ) × (o ≡ Some q) × (r ≡ suc q)
-plus-one None r h = absurd (none-some r h)
-plus-one (Some q) r h = (q, refl, let e : q + 1 ≡ r = same_Some (q + 1) r h in omega arith)
-
-free-there : {A : Type 0} (runs : List (Option A)) (r : ℕ) → lowest_free runs ≡ Some r → slice_get runs r ≡ Some None
-free-there [] r h = absurd (none-some r h)
-free-there (None ∷ runs) r h = ap (slice_get (None ∷ runs)) (sym (same_Some 0 r h))
-free-there (Some v ∷ runs) r h = let q = plus-one (lowest_free runs) r h in ap (slice_get (Some v ∷ runs)) q.2 ∙ free-there runs q.0 q.1
 
 is-there : (o : Option Loaded) (len : ℕ) (free : Option ℕ) → start_refusal o len free ≡ None → (program : Loaded) × (o ≡ Some program)
 is-there None len free h = absurd (none-some NoProgram (sym h))

@@ -1,6 +1,6 @@
 use Rattle.typed_runs.specs.Kinds.{Num}
 use Rattle.register_kinds.specs.States.{state_of}
-use Rattle.effects.proofs.Calls.{delete_sound, call_others}
+use Rattle.effects.proofs.CallLaws.{delete_sound, call_others}
 use Rattle.effects.proofs.calls.delete.Goals as goal
 
 pub returns-clause-sound : goal.returns-clause-sound

@@ -1,5 +1,5 @@
 use Rattle.register_kinds.specs.States.{state_of}
-use Rattle.effects.proofs.Calls.{lock_sound, lock_others}
+use Rattle.effects.proofs.CallLaws.{lock_sound, lock_others}
 use Rattle.effects.proofs.calls.lock.Goals as goal
 
 pub returns-clause-sound : goal.returns-clause-sound

@@ -1,6 +1,6 @@
 use Rattle.typed_runs.specs.Kinds.{MaybeNull}
 use Rattle.register_kinds.specs.States.{state_of}
-use Rattle.effects.proofs.Calls.{lookup_sound, call_others}
+use Rattle.effects.proofs.CallLaws.{lookup_sound, call_others}
 use Rattle.effects.proofs.calls.lookup.Goals as goal
 
 pub returns-clause-sound : goal.returns-clause-sound

@@ -1,5 +1,5 @@
 use Rattle.register_kinds.specs.States.{state_of}
-use Rattle.effects.proofs.Calls.{unlock_sound, unlock_others}
+use Rattle.effects.proofs.CallLaws.{unlock_sound, unlock_others}
 use Rattle.effects.proofs.calls.unlock.Goals as goal
 
 pub returns-clause-sound : goal.returns-clause-sound

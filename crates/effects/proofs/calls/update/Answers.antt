@@ -1,5 +1,5 @@
 use Rattle.typed_runs.specs.Kinds.{Num}
-use Rattle.effects.proofs.Calls.{update_sound, call_others}
+use Rattle.effects.proofs.CallLaws.{update_sound, call_others}
 use Rattle.std.proofs.Common.{ap}
 use Rattle.register_kinds.specs.States.{kind_of, state_of}
 use Rattle.effects.proofs.calls.update.Goals as goal

@@ -4,7 +4,7 @@ use Rattle.register_kinds.specs.declared.learn.Lesson.TheVariants.{IsNull, IsThe
 use Rattle.register_kinds.specs.declared.state.AbsState.{AbsState}
 use Rattle.register_kinds.specs.States.{state_of}
 use Rattle.register_kinds.specs.Changes.{learnt}
-use Rattle.effects.proofs.Calls.{null_jumps, null_falls_through}
+use Rattle.effects.proofs.CallLaws.{null_jumps, null_falls_through}
 use Rattle.effects.proofs.nulls.fork_null.Goals as goal
 use Rattle.effects.proofs.nulls.fork_null.Goals.{then-equal, else-equal}
 

@@ -1,0 +1,49 @@
+-- An event leaves each run as it is but the one that it steps or drops.
+use Rattle.std.proofs.Common.{◌≡◌, ◌≢◌, ◌∙◌, ℕ, suc, ◌+◌, List, [], ◌∷◌, Option, Some, None, refl, sym, ap, arith}
+use Rattle.std.specs.Prelude.{slice_get, slice_set}
+use Rattle.std.specs.Option.{option_map, option_flatten}
+use Rattle.std.proofs.lemmas.Option.{none-some, same_Some}
+use Rattle.bpf_model.specs.declared.event.Event.{Event}
+use Rattle.bpf_model.specs.declared.event.Event.TheVariants as events
+use Rattle.bpf_model.specs.declared.event.Answer.{Answer}
+use Rattle.bpf_model.specs.declared.event.Answer.TheVariants as answers
+use Rattle.bpf_model.specs.declared.event.EventRefusal.{EventRefusal}
+use Rattle.bpf_model.specs.Machine.{Run, Machine, fresh_run, lowest_free, run_at}
+use Rattle.bpf_model.specs.Event.{PerformsEvent, Answers, DoesEvent, refusal}
+use Rattle.bpf_model.proofs.Lists.{get-set_other}
+
+plus-one : (o : Option ℕ) (r : ℕ) → option_map (λ r. r + 1) o ≡ Some r → (q : ℕ) × (o ≡ Some q) × (r ≡ suc q)
+plus-one None r h = absurd (none-some r h)
+plus-one (Some q) r h = (q, refl, let e : q + 1 ≡ r = same_Some (q + 1) r h in omega arith)
+
+-- the lowest free run slot is free
+pub free-there : {A : Type 0} (runs : List (Option A)) (r : ℕ) → lowest_free runs ≡ Some r → slice_get runs r ≡ Some None
+free-there [] r h = absurd (none-some r h)
+free-there (None ∷ runs) r h = ap (slice_get (None ∷ runs)) (sym (same_Some 0 r h))
+free-there (Some v ∷ runs) r h = let q = plus-one (lowest_free runs) r h in ap (slice_get (Some v ∷ runs)) q.2 ∙ free-there runs q.0 q.1
+
+not-free : (runs : List (Option Run)) (r q : ℕ) (run : Run) → lowest_free runs ≡ Some q → run_at runs r ≡ Some run → r ≢ q
+not-free runs r q run free at same = none-some run (sym (ap option_flatten (free-there runs q free)) ∙ (ap (run_at runs) (sym same) ∙ at))
+
+set-elsewhere : (runs : List (Option Run)) (r q : ℕ) (x : Option Run) → r ≢ q → run_at (slice_set runs q x) r ≡ run_at runs r
+set-elsewhere runs r q x ne = ap option_flatten (get-set_other runs q r x ne)
+
+performs-leaves : (m : Machine) (event : Event) (answer : Answer) (new : Machine) (r : ℕ) (run : Run) → PerformsEvent m event answer new → run_at m.runs r ≡ Some run → event ≢ events.Step r → event ≢ events.Drop r → run_at new.runs r ≡ Some run
+performs-leaves m (events.Start prog ctx) (answers.Started q) new r run h at s d = ap (λ (x : Machine). run_at x.runs r) h.new_is ∙ (set-elsewhere m.runs r q (Some (fresh_run m.started h.program ctx.items)) (not-free m.runs r q run h.lowest at) ∙ at)
+performs-leaves m (events.Step q) answer new r run h at s d = ap (λ (x : Machine). run_at x.runs r) h.new_is ∙ (set-elsewhere m.runs r q (Some h.new_run) (λ same. s (ap events.Step (sym same))) ∙ at)
+performs-leaves m (events.Update map key value flags) (answers.Ret ret) new r run h at s d = ap (λ (x : Machine). run_at x.runs r) h.2 ∙ at
+performs-leaves m (events.Delete map key) (answers.Ret ret) new r run h at s d = ap (λ (x : Machine). run_at x.runs r) h.2 ∙ at
+performs-leaves m (events.Read map key) (answers.Found (Some value)) new r run h at s d = ap (λ (x : Machine). run_at x.runs r) h.1 ∙ at
+performs-leaves m (events.Read map key) (answers.Found None) new r run h at s d = ap (λ (x : Machine). run_at x.runs r) h.1 ∙ at
+performs-leaves m events.Advance answers.Done new r run h at s d = ap (λ (x : Machine). run_at x.runs r) h ∙ at
+performs-leaves m events.Reap (answers.Reaped None) new r run h at s d = ap (λ (x : Machine). run_at x.runs r) h ∙ at
+performs-leaves m events.Reap (answers.Reaped (Some reaped)) new r run h at s d = ap (λ (x : Machine). run_at x.runs r) h.6 ∙ at
+performs-leaves m (events.Drop q) answers.Done new r run h at s d = ap (λ (x : Machine). run_at x.runs r) h ∙ (set-elsewhere m.runs r q None (λ same. d (ap events.Drop (sym same))) ∙ at)
+performs-leaves m event answer new r run h at s d = absurd h
+
+answers-leave : (o : Option EventRefusal) (m : Machine) (event : Event) (answer : Answer) (new : Machine) (r : ℕ) (run : Run) → Answers o m event answer new → run_at m.runs r ≡ Some run → event ≢ events.Step r → event ≢ events.Drop r → run_at new.runs r ≡ Some run
+answers-leave None m event answer new r run h at s d = performs-leaves m event answer new r run h at s d
+answers-leave (Some k) m event answer new r run h at s d = ap (λ (x : Machine). run_at x.runs r) h.1 ∙ at
+
+pub others_leave_runs : (m new : Machine) (event : Event) (answer : Answer) (r : ℕ) (run : Run) → DoesEvent m event answer new → run_at m.runs r ≡ Some run → event ≢ events.Step r → event ≢ events.Drop r → run_at new.runs r ≡ Some run
+others_leave_runs m new event answer r run h at s d = answers-leave (refusal m event) m event answer new r run h at s d
