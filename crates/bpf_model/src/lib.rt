@@ -1,7 +1,8 @@
 //! The plain types of the eBPF machine, and the definitions that every contract cites.
 //!
-//! The types are those of RFC 9669: registers, instructions and what their opcode bytes say. What they
-//! mean stands in `specs/`, a module for each subject; docs/DEFINITIONS.md reads them in order.
+//! The types are those of RFC 9669 (registers, instructions and what their opcode bytes say), and this
+//! runtime's own: limits, values, events and their answers, entries of a journal. What they mean stands in
+//! `specs/`, a module for each subject; docs/DEFINITIONS.md reads them in order.
 #![tactic(auto)]
 
 mod array;

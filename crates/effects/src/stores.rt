@@ -1,5 +1,5 @@
 //! Stores.
-ghost use Rattle.std.specs.Prelude.{◌≡◌, ℕ, List, OnOk, OnErr, IfOk, Ok};
+ghost use Rattle.std.specs.Prelude.{◌≡◌, ℕ, OnOk, OnErr, IfOk, Ok};
 ghost use Rattle.bpf_model.specs.Access.{byte_count};
 ghost use Rattle.effects.specs.Performs.{Performs, PerformsAnywhere, KeepsRegisters};
 ghost use Rattle.typed_runs.specs.Effects.{IsNumberOperand, IsWritten};
@@ -23,6 +23,14 @@ enum Stored {
     Pointer(Reg, RegKind),
 }
 
+/// A store as its instruction gives it: how wide, to which address, and of what.
+#[derive(Clone, Copy)]
+struct Fields {
+    width: Width,
+    to: Address,
+    src: Operand,
+}
+
 /// What a register holds, or a constant.
 fn stored_value(state: &AbsState, src: &Operand) -> Result<Stored, InsnFault>
     ensures number { IfOk result (λ x. x ≡ Stored.Number
@@ -39,14 +47,6 @@ fn stored_value(state: &AbsState, src: &Operand) -> Result<Stored, InsnFault>
         },
         Operand::Immediate(_) => Ok(Stored::Number),
     }
-}
-
-/// A store as its instruction gives it: how wide, to which address, and of what.
-#[derive(Clone, Copy)]
-struct Fields {
-    width: Width,
-    to: Address,
-    src: Operand,
 }
 
 /// A store of a number to the frame.

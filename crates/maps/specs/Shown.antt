@@ -7,8 +7,7 @@ use Rattle.bpf_model.specs.declared.call.Errno.TheVariants.{NoMemory}
 use Rattle.bpf_model.specs.declared.event.Given.{Given}
 use Rattle.bpf_model.specs.declared.limits.MapShape.{MapShape}
 use Rattle.bpf_model.specs.MapState.{MapState, IsShape, slots_of_shape}
-use Rattle.bpf_model.specs.View.{MapView}
-use Rattle.bpf_model.specs.View.{KeyMap}
+use Rattle.bpf_model.specs.View.{KeyMap, MapView}
 use Rattle.bpf_model.specs.Refines.{lists_of}
 use Rattle.element_arena.specs.State.{ArenaState, key_at, value_at}
 use Rattle.hash_index.specs.Order.{IsAbove, NoneBetween}

@@ -117,7 +117,7 @@ impl<I: Index, D: Deferred> HashMap<I, D> {
     ///
     /// Errors, in this order, and then nothing has changed: `InvalidArgument` for other flags;
     /// `Exists` and `NoEntry` by the flags; `TooBig` for a new key, where the map has as many
-    /// elements as its shape allows; `NoMemory` where no map slot is free.
+    /// linked elements as its shape allows; `NoMemory` where no map slot is free.
     pub fn update(&mut self, key: &[u8], value: &[u8], flags: u64) -> Result<(), Errno>
         requires key { length key.now ≡ self.old.shape.key_len }
         requires value { length value.now ≡ self.old.shape.value_len }

@@ -40,8 +40,8 @@ pub record LiveReplies (old : Live) (command : Command) (replies : List Reply) (
   pub served : AskedReplies old asked replies new
 
 -- What is asked is replied, and the text of the replies is added.
-pub record IsReplied (old : Live) (question : Asked) (before after : List ℕ) (new : Live) :
+pub record IsReplied (old : Live) (asked : Asked) (before after : List ℕ) (new : Live) :
     Type 0 where
   pub replies : List Reply
-  pub served : AskedReplies old question replies new
+  pub served : AskedReplies old asked replies new
   pub text : after ≡ before ++ flat_map reply_text replies

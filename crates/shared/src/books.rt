@@ -1,5 +1,5 @@
 //! The world with its journal, and the ledger that counts its entries. No method waits.
-ghost use Rattle.std.specs.Prelude.{◌≡◌, ◌+◌, ◌-◌, ◌^◌, ◌<◌, ◌↔◌, ◌⊎◌, [], length, IsTrue, true, OnErr, OnOk, Err, Ok, option_copied};
+ghost use Rattle.std.specs.Prelude.{◌≡◌, ◌+◌, ◌-◌, ◌^◌, ◌<◌, ◌↔◌, [], length, IsTrue, true, OnErr, OnOk, Err, Ok, option_copied};
 ghost use Rattle.journal_laws.specs.Replay.{Replays, HasNoRuns};
 ghost use Rattle.shared.specs.Noted.{IsEntered, IsExitNote};
 ghost use Rattle.shared.specs.Tally.{IsTallyOf, origin_of};

@@ -48,7 +48,7 @@ const SLOTS: [u64; 26] = [
     EXIT,
 ];
 
-/// Its instructions.
+/// The instructions of `SLOTS`.
 const INSTRUCTIONS: [Insn; 24] = [
     Insn::Alu {
         op: AluOp::Add,

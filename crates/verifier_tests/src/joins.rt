@@ -9,7 +9,7 @@ use std::test::Fail;
 /// What follows `LOOKUP` and `TESTED` in the first table, before slot 13: r8 is a number.
 const LOADED: &str = "ldxb r8, [r9+0]";
 
-/// What is said of these three and these lines, and three instructions that end it.
+/// What is said of `LOOKUP`, `TESTED`, `LOADED` and these lines, and three instructions that end it.
 static KINDS: [(Told, &str); 21] = [
     // References to one region at different offsets.
     (

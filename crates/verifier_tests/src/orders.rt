@@ -12,7 +12,7 @@ use std::test::Fail;
 const OUTSIDE: &str =
     "mov64 r6, r0; stxdw [r10-16], r0; callbtf 2; ldxb r8, [r9+0]; mov64 r7, r10; stxdw [r10-24], r10; jeq r8, 0, +2; mov64 r7, 0; stdw [r10-24], 0";
 
-/// What is said of these three and these lines, and two instructions that end it.
+/// What is said of `LOOKUP`, `TESTED`, `OUTSIDE` and these lines, and two instructions that end it.
 static AFTER: [(Told, &str); 174] = [
     // An instruction that writes r10, before the registers that it reads, and before all else.
     (At(24, 21), "add64 r10, r1"),
@@ -293,11 +293,12 @@ static AFTER: [(Told, &str); 174] = [
     (At(34, 22), "callbtf 1; callbtf 1"),
 ];
 
-/// What follows them in each program of the next table, before slot 27: a section is opened, and r0
+/// What follows `OUTSIDE` in each program of the next table, before slot 27: a section is opened, and r0
 /// is what a lookup in the first map gave.
 const AGAIN: &str = "callbtf 1; mov64 r2, r10; add64 r2, -4; ldmap r1, 0; call 1";
 
-/// What is said of all four and these lines, and three instructions that end it.
+/// What is said of `LOOKUP`, `TESTED`, `OUTSIDE`, `AGAIN` and these lines, and three instructions that
+/// end it.
 static MAYBE_NULL: [(Told, &str); 51] = [
     // Computed with, behind the registers that are read.
     (At(24, 27), "mov64 r10, r0"),

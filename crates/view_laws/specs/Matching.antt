@@ -43,18 +43,19 @@ pub record ChangesHalf (w : WorldView) (s : Schedule) (Changes : Store → Type 
   pub oldest : TakesOldest s.machine.store store
   pub refines : RefinesSchedule w (half s store)
 
--- it deletes, with this result
+-- the first half of a delete of the key from map k, with this result
 abbrev pub DeletesHalf : WorldView → Schedule → ℕ → List ℕ → Result (Unit {0}) Errno → Type 0
 DeletesHalf w s k key ret =
     ChangesHalf w s (Deletes s.machine.store (open_sections s.machine.runs) k key ret)
 
--- it updates, with this result
+-- the first half of an update of the key in map k, with this result
 abbrev pub UpdatesHalf : WorldView → Schedule → ℕ → List ℕ → List ℕ → ℕ →
     Result (Unit {0}) Errno → Type 0
 UpdatesHalf w s k key value flags ret =
     ChangesHalf w s (Updates s.machine.store (open_sections s.machine.runs) k key value flags ret)
 
--- the same of a store of a number to element n
+-- The first half of a store of the low bytes of a number to the value of element n: the view
+-- refines the schedule after it.
 pub record StoresHalf (w : WorldView) (s : Schedule) (n width : ℕ) (offset : ℤ) (x : ℕ)
     : Type 0 where
   pub elements : List Element

@@ -35,7 +35,7 @@ const SHAPES: [MapShape; 3] = [
     },
 ];
 
-/// A program whose context is a key, an index, and flags or a byte to store.
+/// A program whose context is a key's byte, an offset or a value's byte, and flags or a byte to store.
 const fn source(lines: &'static str, maps: &'static [usize]) -> Source {
     Source {
         lines,

@@ -13,7 +13,7 @@ impl Sequence {
         Sequence { state: 1 }
     }
 
-    /// The next number, from 0 up to a bound.
+    /// The next number, below a bound.
     pub fn below(&mut self, bound: u64) -> u64
         requires { 0 < bound }
         ensures { result < bound }
