@@ -8,12 +8,11 @@ use Rattle.typed_runs.specs.Verified.{IsVerified}
 use Rattle.job_queue.specs.declared.fault.PoolFault.{PoolFault}
 use Rattle.worker_pool.specs.declared.repeated.PoolRun.{PoolRun}
 use Rattle.worker_pool.specs.Outcomes.{IsFaultOf, IsOutcomeOf, IsReportOf}
-use Rattle.commands.specs.declared.program_file.Source.{Source}
-use Rattle.commands.specs.declared.report.Verdict.{Verdict}
-use Rattle.commands.specs.Outputs.{content_with, IsSourceOf, IsVerifiedFile}
-use Rattle.commands.specs.Pools.{outcomes_of, ArePooled, IsPoolRefusal}
+use Rattle.program_files.specs.declared.program_file.Source.{Source}
+use Rattle.program_files.specs.declared.verdict.Verdict.{Verdict}
+use Rattle.program_files.specs.Checks.{content_with, IsSourceOf, IsVerifiedFile}
+use Rattle.commands.specs.Pools.{outcomes_of, ArePooled, IsPoolRefusal, IsPoolFaultVerdict}
 use Rattle.commands.proofs.JobLines.{outcome_of}
-use Rattle.commands.specs.Verdicts.{IsPoolFaultVerdict}
 
 abbrev file_of : (bytes : List ℕ) (s : Source) → IsSourceOf bytes s → IsVerified s.program (shapes_of_maps s.registry.maps) s.ctx_len → IsVerifiedFile bytes s.program
 file_of bytes s is verified = record { content = content_with s; says = is.says; is = is.is; text_is = refl; verified = verified }

@@ -1,6 +1,6 @@
--- What is read of an input whose bytes are known.
+-- What a script's end says of an input whose bytes are known.
 use Rattle.std.proofs.Common.{◌≡◌, ℕ, List, ◌++◌, sym, subst, refl}
-use Rattle.std.specs.Prelude.{Option, Some, None, IfSome, ⊤}
+use Rattle.std.specs.Prelude.{Option, Some, None, IfSome}
 use Rattle.std.specs.Io.KnownBytes.{Appends, Consumes, IsAtEnd}
 use Rattle.std.proofs.KnownBytes.{Consumes-whole}
 use Rattle.control.specs.Histories.{History, Continues, new_history}
@@ -9,23 +9,12 @@ use Rattle.script_stream.specs.Answered.{Answered, FailsWith}
 use Rattle.script_stream.specs.Lines.{lines_of}
 use Rattle.script_stream.specs.declared.fault.ScriptFault.{ScriptFault}
 use Rattle.script_stream.specs.declared.fault.ScriptFault.TheVariants.{BadCommand}
-use Rattle.commands.specs.declared.program_file.FileBytes.{FileBytes}
-use Rattle.commands.specs.Files.{HoldsBytes}
 use Rattle.commands.specs.Scripts.{AnswersAll, AnswersBefore}
-
--- The file's bytes are what a reader has given, where its bytes are known.
-abbrev pub HasRead : Option (List ℕ) → Option (List ℕ) → FileBytes → Type 0
-HasRead None left file = ⊤
-HasRead (Some all) None file = ⊥
-HasRead (Some all) (Some left) file =
-    (given : List ℕ) × (all ≡ given ++ left) × HoldsBytes file given
 
 front_read : (before after : Option (List ℕ)) (read : List ℕ) (P : List ℕ → Type 0) → Consumes before after read → ((rest : List ℕ) → P (read ++ rest)) → IfSome before P
 front_read None after read P h f = record {}
 front_read (Some bytes) None read P h f = absurd h
 front_read (Some bytes) (Some rest) read P h f = subst P (sym h) (f rest)
-
--- what a script's end says
 
 pub all_answered : (before after old new : Option (List ℕ)) → ((input text : List ℕ) × (last : History) × Consumes before after input × IsAtEnd after × Appends old new text × Answered Continues new_history (lines_of input) text last) → IfSome before (AnswersAll old new)
 all_answered before after old new (input, text, last, consumed, ended, written, answered) =

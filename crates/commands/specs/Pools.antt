@@ -1,19 +1,20 @@
 -- What `pool` writes, of which files, and how it refuses the others.
 use Rattle.std.specs.Prelude.{◌≡◌, ◌≢◌, ◌⊎◌, ℕ, ◌+◌, List, [], ◌∷◌, ◌++◌, length, map, codes, All}
-use Rattle.std.specs.Prelude.{Option}
+use Rattle.std.specs.Prelude.{Option, None}
 use Rattle.std.specs.Fmt.{decimal}
 use Rattle.std.specs.Io.KnownBytes.{Appends}
 use Rattle.bpf_model.specs.declared.insn.Insn.{Insn}
 use Rattle.job_queue.specs.declared.fault.PoolFault.{PoolFault}
+use Rattle.job_queue.specs.Faults.{pool_fault_number}
 use Rattle.worker_pool.specs.declared.job.Outcome.{Outcome}
 use Rattle.worker_pool.specs.declared.job.Outcome.TheVariants.{Exit, Stopped}
 use Rattle.worker_pool.specs.declared.repeated.PoolRun.{PoolRun}
 use Rattle.worker_pool.specs.Numbers.{stop_cause_number}
 use Rattle.worker_pool.specs.Outcomes.{IsFaultOf, IsOutcomeOf}
-use Rattle.commands.specs.declared.report.Verdict.{Verdict}
-use Rattle.commands.specs.Outputs.{IsVerifiedFile, IsCheckedRefusal}
-use Rattle.commands.specs.declared.report.TheConstants.{MEMORY, LOST}
-use Rattle.commands.specs.Verdicts.{IsPoolFaultVerdict}
+use Rattle.program_files.specs.declared.verdict.Verdict.{Verdict}
+use Rattle.program_files.specs.declared.verdict.TheConstants.{MEMORY}
+use Rattle.program_files.specs.Checks.{IsVerifiedFile, IsCheckedRefusal}
+use Rattle.commands.specs.declared.report.TheConstants.{LOST}
 
 -- what is written of one job
 abbrev pub job_line : ℕ → Outcome → List ℕ
@@ -49,6 +50,12 @@ abbrev pub WritesPool : ℕ → Option (List ℕ) → Option (List ℕ) → List
 WritesPool count old new bytes =
     (outcomes : List Outcome) × (entries : ℕ) × ArePooled bytes count outcomes
     × Appends old new (pool_text outcomes entries)
+
+-- the verdict has the number of the pool's fault, and neither slot nor line
+pub record IsPoolFaultVerdict (f : PoolFault) (v : Verdict) : Type 0 where
+  pub code : v.code ≡ pool_fault_number f
+  pub slot : v.slot ≡ None
+  pub line : v.line ≡ None
 
 -- The file says a program that is verified with its maps and context, and the pool of so many
 -- workers and jobs has a fault.

@@ -2,13 +2,11 @@
 #![tactic(auto)]
 
 mod pool;
-mod program_file;
 mod report;
 mod request;
 mod running;
 mod script;
 mod streams;
-mod verified_file;
 mod words;
 
 pub use report::no_command;

@@ -1,19 +1,18 @@
 //! A file's program, run many times by a pool of workers.
 ghost use Rattle.std.specs.Prelude.{◌≡◌, ◌⊎◌, List, ℕ, IfOk, IfErr, IfSome, OnOk};
 ghost use Rattle.std.specs.Io.KnownBytes.{Appends};
-ghost use Rattle.commands.specs.Files.{HoldsBytes};
+ghost use Rattle.program_files.specs.Files.{HoldsBytes};
 ghost use Rattle.commands.specs.Pools.{job_line, pool_text, outcomes_of, ArePooled, IsPoolRefusal, IsRefusedByPool, WritesPool};
 
-use crate::program_file::{FileBytes, read_file};
-use crate::report::{MEMORY, Verdict, fault, refused};
+use crate::report::{fault, pool_verdict, refused};
 use crate::streams::{unread, write_text, written};
-use crate::verified_file::verify_source;
+use program_files::{FileBytes, MEMORY, Verdict, VerifiedSource, read_file, verify_source};
 use std::alloc::Global;
 use std::io;
 use std::io::{Read, Write};
 use std::sync::Wait;
 use std::thread::Threads;
-use worker_pool::{Outcome, PoolRun, run_program};
+use worker_pool::{Outcome, PoolRun, ProgramWithMaps, run_program};
 
 /// How many times a program is run, and by how many workers.
 #[derive(Clone, Copy)]
@@ -63,9 +62,12 @@ fn pool_of<H: Threads + Wait + Sync>(
         IfErr result (IsPoolRefusal size.workers size.count bytes) }
 {
     let source = file.source(alloc)?;
-    let checked = verify_source(alloc, source)?;
-    let run = run_program(rt, alloc, checked, size.workers, size.count)?;
-    Ok(run)
+    let VerifiedSource { verified, registry } = verify_source(alloc, source)?;
+    let program = ProgramWithMaps { verified, registry };
+    match run_program(rt, alloc, program, size.workers, size.count) {
+        Ok(run) => Ok(run),
+        Err(fault) => Err(pool_verdict(fault)),
+    }
 }
 
 /// Runs the program that the input, a program file, says, writes the lines of its jobs on `out`,

@@ -1,27 +1,14 @@
 //! The lines that refusals and faults make, and the statuses that go with them.
 ghost use Rattle.std.specs.Prelude.{◌≡◌, ◌≢◌, ◌⊎◌};
 ghost use Rattle.commands.specs.declared.request.UsageFault.TheVariants.{Memory};
-ghost use Rattle.commands.specs.declared.report.TheConstants.{MEMORY, LOST};
+ghost use Rattle.program_files.specs.declared.verdict.TheConstants.{MEMORY};
+ghost use Rattle.commands.specs.declared.report.TheConstants.{LOST};
+ghost use Rattle.commands.specs.Pools.{IsPoolFaultVerdict};
 
 use crate::request::UsageFault;
-use insn_codec::DecodeFault;
-use loader::LoadFault;
-use std::alloc::AllocError;
+use program_files::{MEMORY, Verdict};
 use std::io::Write;
-use verifier::ProgramRefusal;
 use worker_pool::PoolFault;
-
-/// Why a file, or a pool of its program, is refused: a number, and the slot of the program or the
-/// line of the file at which it is, where it has one.
-#[derive(Clone, Copy, Debug, PartialEq, Eq)]
-pub struct Verdict {
-    pub code: u8,
-    pub slot: Option<usize>,
-    pub line: Option<usize>,
-}
-
-/// The number of want of memory.
-pub const MEMORY: u8 = 13;
 
 /// The number of a job's result that is lost.
 pub const LOST: u8 = 92;
@@ -32,71 +19,14 @@ pub const READ: u8 = 96;
 /// The number of writing that failed.
 pub const WRITE: u8 = 97;
 
-impl From<DecodeFault> for Verdict {
-    ghost use Rattle.commands.specs.Verdicts.{IsDecodeVerdict};
-
-    ghost from_gives = { IsDecodeVerdict };
-
-    fn from(fault: DecodeFault) -> Verdict {
-        Verdict {
-            code: fault.code(),
-            slot: fault.slot(),
-            line: None,
-        }
-    }
-}
-
-impl From<ProgramRefusal> for Verdict {
-    ghost use Rattle.commands.specs.Verdicts.{IsRefusalVerdict};
-
-    ghost from_gives = { IsRefusalVerdict };
-
-    fn from(refusal: ProgramRefusal) -> Verdict {
-        Verdict {
-            code: refusal.code(),
-            slot: refusal.slot(),
-            line: None,
-        }
-    }
-}
-
-impl From<LoadFault> for Verdict {
-    ghost use Rattle.commands.specs.Verdicts.{IsLoadVerdict};
-
-    ghost from_gives = { IsLoadVerdict };
-
-    fn from(fault: LoadFault) -> Verdict {
-        Verdict {
-            code: fault.code(),
-            slot: None,
-            line: fault.line(),
-        }
-    }
-}
-
-impl From<PoolFault> for Verdict {
-    ghost use Rattle.commands.specs.Verdicts.{IsPoolFaultVerdict};
-
-    ghost from_gives = { IsPoolFaultVerdict };
-
-    fn from(fault: PoolFault) -> Verdict {
-        Verdict {
-            code: fault.code(),
-            slot: None,
-            line: None,
-        }
-    }
-}
-
-impl From<AllocError> for Verdict {
-    ghost from_gives = { λ _ v. v.code ≡ MEMORY };
-
-    fn from(_: AllocError) -> Verdict {
-        Verdict {
-            code: MEMORY,
-            slot: None,
-            line: None,
-        }
+/// The verdict of a pool's fault.
+pub fn pool_verdict(fault: PoolFault) -> Verdict
+    ensures { IsPoolFaultVerdict fault result }
+{
+    Verdict {
+        code: fault.code(),
+        slot: None,
+        line: None,
     }
 }
 

@@ -1,57 +1,20 @@
 //! Running a command.
-ghost use Rattle.std.specs.Prelude.{◌≡◌, ◌⊎◌, List, ℕ, IfOk, IfErr, IfSome, OnOk, string_bytes};
+ghost use Rattle.std.specs.Prelude.{◌≡◌, ◌⊎◌, IfSome, OnOk};
 ghost use Rattle.std.specs.Io.KnownBytes.{Appends};
-ghost use Rattle.commands.specs.Files.{HoldsBytes};
-ghost use Rattle.commands.specs.Outputs.{IsAcceptedFile, IsTextOf, IsDecodeRefusal, IsCheckedRefusal, IsRefusedByDecode, IsRefusedByCheck, accepted_line, WritesAccepted, WritesText};
+ghost use Rattle.commands.specs.Outputs.{IsRefusedByDecode, IsRefusedByCheck, accepted_line, WritesAccepted, WritesText};
 ghost use Rattle.commands.specs.Commands.{ReadsFile, Refuses, Writes};
 
 use crate::pool::{PoolSize, run_pool};
-use crate::program_file::{FileBytes, read_file};
-use crate::report::{Verdict, refused};
+use crate::report::refused;
 use crate::request::Command;
 use crate::script::run_lines;
 use crate::streams::{unread, write_text, written};
-use crate::verified_file::verify_source;
-use disasm::disassemble;
+use program_files::{Accepted, check, read_file, text_of};
 use std::alloc::Global;
 use std::io;
 use std::io::{Read, Write};
 use std::sync::Wait;
 use std::thread::Threads;
-
-/// How long an accepted program is.
-#[derive(Clone, Copy)]
-struct Accepted {
-    instructions: usize,
-    slots: usize,
-}
-
-/// Decodes and verifies a file's program.
-fn check(alloc: Global, file: &FileBytes) -> Result<Accepted, Verdict>
-    ensures accepted { (bytes : List ℕ) → HoldsBytes file.now bytes →
-        IfOk result (IsAcceptedFile bytes) }
-    ensures refused { (bytes : List ℕ) → HoldsBytes file.now bytes →
-        IfErr result (IsCheckedRefusal bytes) }
-{
-    let source = file.source(alloc)?;
-    let checked = verify_source(alloc, source)?;
-    let program = checked.verified.program();
-    Ok(Accepted {
-        instructions: program.len(),
-        slots: program.slot_count(),
-    })
-}
-
-/// The text of a file's program.
-fn text_of(alloc: Global, file: &FileBytes) -> Result<String, Verdict>
-    ensures text { (bytes : List ℕ) → HoldsBytes file.now bytes →
-        IfOk result (λ lines. IsTextOf bytes (string_bytes lines)) }
-    ensures refused { (bytes : List ℕ) → HoldsBytes file.now bytes →
-        IfErr result (IsDecodeRefusal bytes) }
-{
-    let source = file.source(alloc)?;
-    Ok(disassemble(alloc, &source.program)?)
-}
 
 fn write_accepted<W: Write>(out: &mut W, accepted: &Accepted) -> io::Result<()>
     ensures { OnOk result (Appends (W.contents out.old) (W.contents out.new)

@@ -2,7 +2,8 @@
 ghost use Rattle.std.specs.Prelude.{◌≡◌, OnOk, MatchResult};
 ghost use Rattle.std.specs.Io.KnownBytes.{Appends};
 
-use crate::report::{MEMORY, READ, WRITE, fault};
+use crate::report::{READ, WRITE, fault};
+use program_files::MEMORY;
 use std::io;
 use std::io::{ErrorKind, Write};
 

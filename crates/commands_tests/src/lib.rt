@@ -19,8 +19,6 @@ mod pools;
 #[cfg(test)]
 mod running;
 #[cfg(test)]
-mod script_streams;
-#[cfg(test)]
 mod scripts;
 #[cfg(test)]
 mod shown;

@@ -1,7 +1,6 @@
 //! Lines, and what they say.
 use crate::shown::shown;
-use script_lines::{LINE_BYTES, parse_line};
-use std::alloc::{AllocError, Global};
+use script_lines::LINE_BYTES;
 use std::test::Fail;
 
 /// Lines that say nothing, each command in its forms, the limits of numbers, and bytes in either case: a line,
@@ -52,160 +51,138 @@ put  m   00    01     2 = put m :00 :01 2";
 
 /// Unknown commands, wrong numbers of words, words that are no numbers or no bytes, counts out of range, and
 /// spaces where none belong.
-const BAD: &str = "fly\n\
-Map m 4 8 1 0 2\n\
-STAT\n\
-sta\n\
-stats\n\
-stat\r\n\
-\tstat\n\
-stat\t\n\
-\0\n\
-m\n\
-0\n\
-\x20\n\
-\x20 \n\
-\x20stat\n\
-stat \n\
-stat  \n\
-\x20#\n\
-\x20# a comment\n\
-map\n\
-map m 4 8 1 0\n\
-map m 4 8 1 0 2 1\n\
-map m array 4 8 1\n\
-map m - 8 1 0 2\n\
-map m 4 x 1 0 2\n\
-map m 4 8 01 0 2\n\
-map m 4 8 1 00 2\n\
-map m 4 8 1 0 18446744073709551616\n\
-map m +4 8 1 0 2\n\
-map m 4 -8 1 0 2\n\
-map m 4.0 8 1 0 2\n\
-map m 0x4 8 1 0 2\n\
-load\n\
-load 0\n\
-load - 00\n\
-load 00 00\n\
-load 0 0\n\
-load 0 000\n\
-load 0 0g\n\
-load 0 --\n\
-load 0 0x\n\
-load 0 00 a b c d e f g h i j k l m n o p q\n\
-put m 00 00\n\
-put m 00 00 0 0\n\
-put m 0 00 0\n\
-put m 00 0 0\n\
-put m g0 00 0\n\
-put m 00 0G 0\n\
-put m 00 00 -\n\
-put m 00 00 -1\n\
-put m 00 00 07\n\
-get m\n\
-get m 00 00\n\
-get m 0\n\
-del\n\
-del m\n\
-del m 00 0\n\
-start 0\n\
-start - 00\n\
-start 0 0\n\
-start 0 - -\n\
-step\n\
-step 0 0\n\
-step 0 4097\n\
-step 0 01\n\
-step 0 1 1\n\
-step 00\n\
-advance 0\n\
-reap m\n\
-drop\n\
-drop 0 0\n\
-dump\n\
-dump m m";
+const BAD: &str = "fly = bad\n\
+Map m 4 8 1 0 2 = bad\n\
+STAT = bad\n\
+sta = bad\n\
+stats = bad\n\
+stat\r = bad\n\
+\tstat = bad\n\
+stat\t = bad\n\
+\0 = bad\n\
+m = bad\n\
+0 = bad\n\
+\x20 = bad\n\
+\x20  = bad\n\
+\x20stat = bad\n\
+stat  = bad\n\
+stat   = bad\n\
+\x20# = bad\n\
+\x20# a comment = bad\n\
+map = bad\n\
+map m 4 8 1 0 = bad\n\
+map m 4 8 1 0 2 1 = bad\n\
+map m array 4 8 1 = bad\n\
+map m - 8 1 0 2 = bad\n\
+map m 4 x 1 0 2 = bad\n\
+map m 4 8 01 0 2 = bad\n\
+map m 4 8 1 00 2 = bad\n\
+map m 4 8 1 0 18446744073709551616 = bad\n\
+map m +4 8 1 0 2 = bad\n\
+map m 4 -8 1 0 2 = bad\n\
+map m 4.0 8 1 0 2 = bad\n\
+map m 0x4 8 1 0 2 = bad\n\
+load = bad\n\
+load 0 = bad\n\
+load - 00 = bad\n\
+load 00 00 = bad\n\
+load 0 0 = bad\n\
+load 0 000 = bad\n\
+load 0 0g = bad\n\
+load 0 -- = bad\n\
+load 0 0x = bad\n\
+load 0 00 a b c d e f g h i j k l m n o p q = bad\n\
+put m 00 00 = bad\n\
+put m 00 00 0 0 = bad\n\
+put m 0 00 0 = bad\n\
+put m 00 0 0 = bad\n\
+put m g0 00 0 = bad\n\
+put m 00 0G 0 = bad\n\
+put m 00 00 - = bad\n\
+put m 00 00 -1 = bad\n\
+put m 00 00 07 = bad\n\
+get m = bad\n\
+get m 00 00 = bad\n\
+get m 0 = bad\n\
+del = bad\n\
+del m = bad\n\
+del m 00 0 = bad\n\
+start 0 = bad\n\
+start - 00 = bad\n\
+start 0 0 = bad\n\
+start 0 - - = bad\n\
+step = bad\n\
+step 0 0 = bad\n\
+step 0 4097 = bad\n\
+step 0 01 = bad\n\
+step 0 1 1 = bad\n\
+step 00 = bad\n\
+advance 0 = bad\n\
+reap m = bad\n\
+drop = bad\n\
+drop 0 0 = bad\n\
+dump = bad\n\
+dump m m = bad";
 
 #[test]
-fn commands(rt: HostRuntime) -> Result<(), Fail> {
-    for row in COMMANDS.split('\n') {
+fn lines(rt: HostRuntime) -> Result<(), Fail> {
+    for row in COMMANDS.split('\n').chain(BAD.split('\n')) {
         let Some((line, expected)) = row.split_once(" = ") else {
             return Err(Fail::from("nothing is wanted"));
         };
         let said = shown(rt.alloc(), line.as_bytes())?;
-        assert_eq!(rt; said.as_str(), expected);
-    }
-    Ok(())
-}
-
-#[test]
-fn bad_lines(rt: HostRuntime) -> Result<(), Fail> {
-    for line in BAD.split('\n') {
-        let said = shown(rt.alloc(), line.as_bytes())?;
-        assert_eq!(rt; said.as_str(), "bad", "at {line}");
+        assert_eq!(rt; said.as_str(), expected, "at {line}");
     }
     Ok(())
 }
 
 /// Bytes that are no text: in a comment, as a name, and where a number or bytes belong.
+const NO_TEXT: [(&[u8], &str); 5] = [
+    (b"#\xff\x00", "nothing"),
+    (b"dump \xff\xfe", "dump :fffe"),
+    (b"drop \xb2", "bad"),
+    (b"get m \xff\xff", "bad"),
+    (b"\xff", "bad"),
+];
+
 #[test]
 fn no_text(rt: HostRuntime) -> Result<(), Fail> {
-    let comment = shown(rt.alloc(), b"#\xff\x00")?;
-    let name = shown(rt.alloc(), b"dump \xff\xfe")?;
-    let number = shown(rt.alloc(), b"drop \xb2")?;
-    let digits = shown(rt.alloc(), b"get m \xff\xff")?;
-    let command = shown(rt.alloc(), b"\xff")?;
-    assert_eq!(rt; comment.as_str(), "nothing");
-    assert_eq!(rt; name.as_str(), "dump :fffe");
-    assert_eq!(rt; number.as_str(), "bad");
-    assert_eq!(rt; digits.as_str(), "bad");
-    assert_eq!(rt; command.as_str(), "bad");
-    Ok(())
-}
-
-/// The front and then so many of a byte.
-fn filled(alloc: Global, front: &[u8], byte: u8, count: usize) -> Result<Vec<u8>, AllocError> {
-    let mut line = Vec::from_slice(alloc, front)?;
-    for _ in 0..count {
-        line.push(byte)?;
+    for (line, expected) in NO_TEXT {
+        let said = shown(rt.alloc(), line)?;
+        assert_eq!(rt; said.as_str(), expected);
     }
-    Ok(line)
-}
-
-/// Keys of `KEY_BYTES` bytes and of one more, contexts of `CTX_BYTES` and of one more.
-#[test]
-fn long_bytes(rt: HostRuntime) -> Result<(), Fail> {
-    let alloc = rt.alloc();
-    let key = shown(alloc, &filled(alloc, b"get m ", b'a', 128)?)?;
-    let long_key = shown(alloc, &filled(alloc, b"get m ", b'a', 130)?)?;
-    let odd_key = shown(alloc, &filled(alloc, b"get m ", b'a', 129)?)?;
-    let no_key = shown(alloc, &filled(alloc, b"get m ", b'g', 130)?)?;
-    let context = shown(alloc, &filled(alloc, b"start 0 ", b'F', 512)?)?;
-    let long_context = shown(alloc, &filled(alloc, b"start 0 ", b'F', 514)?)?;
-    assert_eq!(rt; key.len(), 7 + 128);
-    assert_eq!(rt; long_key.as_str(), "get m :..");
-    assert_eq!(rt; odd_key.as_str(), "bad");
-    assert_eq!(rt; no_key.as_str(), "bad");
-    assert_eq!(rt; context.len(), 9 + 512);
-    assert_eq!(rt; long_context.as_str(), "start 0 :..");
     Ok(())
 }
 
-/// A line has at most `LINE_BYTES` bytes, a comment too.
+/// Lines of a front and then so many of one byte: how what they say begins, and its length. Keys of `KEY_BYTES`
+/// bytes and of one more, contexts of `CTX_BYTES` and of one more; a line has at most `LINE_BYTES` bytes, a
+/// comment too.
+const LONG: [(&str, &str, usize, &str, usize); 12] = [
+    ("get m ", "a", 128, "get m :aa", 7 + 128),
+    ("get m ", "a", 129, "bad", 3),
+    ("get m ", "a", 130, "get m :..", 9),
+    ("get m ", "g", 130, "bad", 3),
+    ("start 0 ", "F", 512, "start 0 :ff", 9 + 512),
+    ("start 0 ", "F", 514, "start 0 :..", 11),
+    ("#", "#", 69_999, "nothing", 7),
+    ("#", "#", 70_000, "bad", 3),
+    ("load 0 ", "0", 69_992, "load 0 :00", 8 + 69_992),
+    ("load 0  ", "0", 69_993, "bad", 3),
+    ("dump ", "x", 69_995, "dump xx", 5 + 69_995),
+    ("dump ", "x", 69_996, "bad", 3),
+];
+
 #[test]
 fn long_lines(rt: HostRuntime) -> Result<(), Fail> {
     let alloc = rt.alloc();
-    let comment = filled(alloc, b"#", b'#', LINE_BYTES - 1)?;
-    let long_comment = filled(alloc, b"#", b'#', LINE_BYTES)?;
-    let code = filled(alloc, b"load 0 ", b'0', LINE_BYTES - 8)?;
-    let long_code = filled(alloc, b"load 0  ", b'0', LINE_BYTES - 7)?;
-    let name = filled(alloc, b"dump ", b'x', LINE_BYTES - 5)?;
-    let long_name = filled(alloc, b"dump ", b'x', LINE_BYTES - 4)?;
-    assert_eq!(rt; comment.len(), 70_000);
-    assert!(rt; matches!(parse_line(&comment), Ok(None)));
-    assert!(rt; parse_line(&long_comment).is_err());
-    assert!(rt; matches!(parse_line(&code), Ok(Some(_))));
-    assert!(rt; parse_line(&long_code).is_err());
-    assert!(rt; matches!(parse_line(&name), Ok(Some(_))));
-    assert!(rt; parse_line(&long_name).is_err());
+    assert_eq!(rt; LINE_BYTES, 70_000);
+    for (front, byte, count, start, length) in LONG {
+        let bytes = byte.repeat(alloc, count)?;
+        let mut line = String::from_str(alloc, front)?;
+        line.push_str(&bytes)?;
+        let said = shown(alloc, line.as_bytes())?;
+        assert!(rt; said.starts_with(start), "{said}");
+        assert_eq!(rt; said.len(), length);
+    }
     Ok(())
 }

@@ -1,7 +1,7 @@
 use Rattle.std.proofs.Common.{rules, inl}
 use Rattle.std.proofs.lemmas.Result.{err_from_is_err_and}
 use Rattle.commands.proofs.Pooled.{pooled_of, pool_told}
-use Rattle.commands.proofs.Shapes.{verifier_told}
+use Rattle.program_files.proofs.Shapes.{verifier_told}
 use Rattle.commands.proofs.pool.pool_of.Goals as goal
 
 pub returns-clause-pooled : goal.returns-clause-pooled

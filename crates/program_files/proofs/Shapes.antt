@@ -11,10 +11,10 @@ use Rattle.verifier.specs.declared.refusal.ProgramRefusal.{ProgramRefusal}
 use Rattle.verifier.specs.declared.refusal.ProgramRefusal.TheVariants.{Memory}
 use Rattle.verifier.specs.Numbers.{refusal_number}
 use Rattle.verifier.specs.Verdict.{IsToldOf}
-use Rattle.commands.specs.declared.report.Verdict.{Verdict}
-use Rattle.commands.specs.declared.program_file.Source.{Source}
-use Rattle.commands.specs.Verdicts.{IsRefusalVerdict}
-use Rattle.commands.specs.Outputs.{IsSourceOf, IsCheckedRefusal}
+use Rattle.program_files.specs.declared.verdict.Verdict.{Verdict}
+use Rattle.program_files.specs.declared.program_file.Source.{Source}
+use Rattle.program_files.specs.Verdicts.{IsRefusalVerdict}
+use Rattle.program_files.specs.Checks.{IsSourceOf, IsCheckedRefusal}
 
 abbrev IsAt : List MapView → ℕ → Type 0
 IsAt maps n =

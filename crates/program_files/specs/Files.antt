@@ -2,8 +2,8 @@
 use Rattle.std.specs.Prelude.{◌≡◌, ℕ, ◌*◌, ◌<◌, ◌%◌, List, length}
 use Rattle.bpf_model.specs.declared.limits.TheConstants.{MAX_SLOTS}
 use Rattle.loader.specs.ProgramFile.{IsRawFile}
-use Rattle.commands.specs.declared.program_file.FileBytes.{FileBytes}
-use Rattle.commands.specs.declared.program_file.FileBytes.TheVariants.{Whole, TooLong}
+use Rattle.program_files.specs.declared.program_file.FileBytes.{FileBytes}
+use Rattle.program_files.specs.declared.program_file.FileBytes.TheVariants.{Whole, TooLong}
 
 -- The file's bytes are these: all of them are kept, or they are the bytes of no text and more than
 -- any program has, and the remainder of their number by 8 is.

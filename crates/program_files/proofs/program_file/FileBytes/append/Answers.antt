@@ -1,5 +1,5 @@
-use Rattle.commands.proofs.Raw.{more_long}
-use Rattle.commands.proofs.program_file.FileBytes.append.Goals as goal
+use Rattle.program_files.proofs.Raw.{more_long}
+use Rattle.program_files.proofs.program_file.FileBytes.append.Goals as goal
 
 pub returns-in-TooLong : goal.returns-in-TooLong
 returns-in-TooLong c bytes h = more_long c.args.self.now c.in-TooLong.remainder bytes c.args.chunk.now c.in-TooLong.is h

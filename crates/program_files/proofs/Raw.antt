@@ -9,12 +9,12 @@ use Rattle.insn_codec.specs.declared.fault.DecodeFault.{DecodeFault}
 use Rattle.insn_codec.specs.declared.fault.DecodeFault.TheVariants as faults
 use Rattle.insn_codec.specs.Faults.{IsDecodeFault, length_fault}
 use Rattle.loader.specs.ProgramFile.{heading, IsRawFile, raw_content}
-use Rattle.commands.specs.declared.program_file.FileBytes.{FileBytes}
-use Rattle.commands.specs.declared.program_file.FileBytes.TheVariants.{TooLong}
-use Rattle.commands.specs.declared.report.Verdict.{Verdict}
-use Rattle.commands.specs.Files.{HoldsBytes}
-use Rattle.commands.specs.Verdicts.{IsDecodeVerdict}
-use Rattle.commands.specs.Outputs.{IsDecodeRefusal}
+use Rattle.program_files.specs.declared.program_file.FileBytes.{FileBytes}
+use Rattle.program_files.specs.declared.program_file.FileBytes.TheVariants.{TooLong}
+use Rattle.program_files.specs.declared.verdict.Verdict.{Verdict}
+use Rattle.program_files.specs.Files.{HoldsBytes}
+use Rattle.program_files.specs.Verdicts.{IsDecodeVerdict}
+use Rattle.program_files.specs.Checks.{IsDecodeRefusal}
 
 prefix_is : (bytes more text : List ℕ) → 8 ≤ length bytes → bytes ++ more ≡ heading ++ text → bytes ≡ heading ++ drop 8 bytes
 prefix_is bytes more text long e =

@@ -1,6 +1,6 @@
 use Rattle.std.proofs.lemmas.Result.{err_from_is_err_and}
-use Rattle.commands.proofs.Shapes.{verifier_told}
-use Rattle.commands.proofs.running.check.Goals as goal
+use Rattle.program_files.proofs.Shapes.{verifier_told}
+use Rattle.program_files.proofs.checking.check.Goals as goal
 
 pub returns-in_err-checked-clause-refused : goal.returns-in_err-checked-clause-refused
 returns-in_err-checked-clause-refused c bytes h =

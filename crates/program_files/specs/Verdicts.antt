@@ -2,13 +2,11 @@
 use Rattle.std.specs.Prelude.{◌≡◌, None}
 use Rattle.insn_codec.specs.declared.fault.DecodeFault.{DecodeFault}
 use Rattle.insn_codec.specs.Faults.{decode_fault_number, decode_fault_slot}
-use Rattle.job_queue.specs.declared.fault.PoolFault.{PoolFault}
-use Rattle.job_queue.specs.Faults.{pool_fault_number}
 use Rattle.loader.specs.declared.fault.LoadFault.{LoadFault}
 use Rattle.loader.specs.ProgramFile.{load_fault_number, load_fault_line}
 use Rattle.verifier.specs.declared.refusal.ProgramRefusal.{ProgramRefusal}
 use Rattle.verifier.specs.Numbers.{refusal_number, refusal_slot}
-use Rattle.commands.specs.declared.report.Verdict.{Verdict}
+use Rattle.program_files.specs.declared.verdict.Verdict.{Verdict}
 
 -- the verdict has the number and the slot of the decoder's fault, and no line
 pub record IsDecodeVerdict (f : DecodeFault) (v : Verdict) : Type 0 where
@@ -27,9 +25,3 @@ pub record IsLoadVerdict (f : LoadFault) (v : Verdict) : Type 0 where
   pub code : v.code ≡ load_fault_number f
   pub slot : v.slot ≡ None
   pub line : v.line ≡ load_fault_line f
-
--- the verdict has the number of the pool's fault, and neither slot nor line
-pub record IsPoolFaultVerdict (f : PoolFault) (v : Verdict) : Type 0 where
-  pub code : v.code ≡ pool_fault_number f
-  pub slot : v.slot ≡ None
-  pub line : v.line ≡ None

@@ -1,11 +1,11 @@
 //! The bytes of a program file, read in bounded memory where it is raw, and what they say.
 ghost use Rattle.std.specs.Prelude.{List, [], ℕ, ◌++◌, ◌≤◌, length, IfOk, IfErr, IfSome, OnOk};
 ghost use Rattle.bpf_model.specs.declared.limits.TheConstants.{CTX_BYTES};
-ghost use Rattle.commands.specs.Files.{HoldsBytes};
+ghost use Rattle.program_files.specs.Files.{HoldsBytes};
 ghost use Rattle.bpf_model.specs.View.{AreNewMaps};
-ghost use Rattle.commands.specs.Outputs.{IsSourceOf, IsDecodeRefusal};
+ghost use Rattle.program_files.specs.Checks.{IsSourceOf, IsDecodeRefusal};
 
-use crate::report::Verdict;
+use crate::verdict::Verdict;
 use bpf_model::MAX_SLOTS;
 use insn_codec::{DecodeFault, Program, decode};
 use loader::{HEADING, load};

@@ -1,5 +1,5 @@
-use Rattle.commands.proofs.Reading.{HasRead}
-use Rattle.commands.proofs.program_file.read_file.Given as goal
+use Rattle.program_files.proofs.Reading.{HasRead}
+use Rattle.program_files.proofs.program_file.read_file.Given as goal
 
 abbrev pub invariant-loop : goal.invariant-loop
 invariant-loop g l = HasRead (g.R.Read.remaining l.fn.input) (g.R.Read.remaining l.input) l.file

@@ -1,6 +1,6 @@
 use Rattle.loader.specs.Loaded.{loaded_content}
-use Rattle.commands.proofs.NewMaps.{says_new}
-use Rattle.commands.proofs.program_file.source_of.Goals as goal
+use Rattle.program_files.proofs.NewMaps.{says_new}
+use Rattle.program_files.proofs.program_file.source_of.Goals as goal
 
 pub returns-clause-maps : goal.returns-clause-maps
 returns-clause-maps c = says_new c.args.bytes.now (loaded_content c.in_ok-file.file) c.in_ok-file.ensures.found

@@ -1,5 +1,5 @@
 use Rattle.std.proofs.Common.{◌≡◌, take, map}
-use Rattle.commands.proofs.verified_file.shapes_of.Given as goal
+use Rattle.program_files.proofs.verified_file.shapes_of.Given as goal
 
 abbrev pub invariant-loop-number : goal.invariant-loop-number
 invariant-loop-number l = l.shapes.items ≡ map (λ m. m.shape) (take l.number l.registry.maps)

@@ -11,8 +11,14 @@ use crate::program_file::Source;
 use bpf_model::{MapId, MapShape};
 use maps::Registry;
 use std::alloc::{AllocError, Global};
-use verifier::{ProgramRefusal, verify};
-use worker_pool::ProgramWithMaps;
+use verifier::{ProgramRefusal, Verified, verify};
+
+/// A program that is verified with its file's context and with the shapes of these maps, in their order.
+#[derive(Drop)]
+pub struct VerifiedSource {
+    pub verified: Verified,
+    pub registry: Registry,
+}
 
 /// The shapes of a registry's maps, by their numbers.
 fn shapes_of(alloc: Global, registry: &Registry) -> Result<Vec<MapShape>, AllocError>
@@ -29,7 +35,7 @@ fn shapes_of(alloc: Global, registry: &Registry) -> Result<Vec<MapShape>, AllocE
 }
 
 /// Verifies a file's program with its maps and its context.
-pub fn verify_source(alloc: Global, source: Source) -> Result<ProgramWithMaps, ProgramRefusal>
+pub fn verify_source(alloc: Global, source: Source) -> Result<VerifiedSource, ProgramRefusal>
     requires { source.ctx_len ≤ CTX_BYTES }
     ensures program { IfOk result (λ v. v.verified.program ≡ source.program) }
     ensures shapes { IfOk result (λ v. v.verified.shapes ≡ shapes_of_maps source.registry.maps) }
@@ -44,7 +50,7 @@ pub fn verify_source(alloc: Global, source: Source) -> Result<ProgramWithMaps, P
 {
     let shapes = shapes_of(alloc, &source.registry)?;
     let verified = verify(alloc, source.program, &shapes, source.ctx_len)?;
-    Ok(ProgramWithMaps {
+    Ok(VerifiedSource {
         verified,
         registry: source.registry,
     })

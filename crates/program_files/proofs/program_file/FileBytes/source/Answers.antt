@@ -1,6 +1,6 @@
 use Rattle.std.proofs.Common.{rules}
-use Rattle.commands.proofs.Raw.{even_told, odd_told}
-use Rattle.commands.proofs.program_file.FileBytes.source.Goals as goal
+use Rattle.program_files.proofs.Raw.{even_told, odd_told}
+use Rattle.program_files.proofs.program_file.FileBytes.source.Goals as goal
 
 pub returns-in-TooLong-eq0-clause-fault : goal.returns-in-TooLong-eq0-clause-fault
 returns-in-TooLong-eq0-clause-fault c bytes h = even_told c.args.self.now c.in-TooLong-eq0.field-0 bytes c.from.result c.in-TooLong-eq0.is (search rules) h c.from.ensures

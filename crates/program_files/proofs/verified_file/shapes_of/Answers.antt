@@ -1,8 +1,8 @@
 use Rattle.std.proofs.Common.{◌++◌, ◌∷◌, [], List, ap, ◌∙◌, arith}
 use Rattle.bpf_model.specs.declared.limits.MapShape.{MapShape}
-use Rattle.commands.proofs.Shapes.{shape_found, shape_missing}
-use Rattle.commands.proofs.verified_file.shapes_of.Goals as goal
-use Rattle.commands.proofs.verified_file.shapes_of.Goals.{in-Some+in_ok-push, in_default}
+use Rattle.program_files.proofs.Shapes.{shape_found, shape_missing}
+use Rattle.program_files.proofs.verified_file.shapes_of.Goals as goal
+use Rattle.program_files.proofs.verified_file.shapes_of.Goals.{in-Some+in_ok-push, in_default}
 
 pub loop-number-preserved : goal.loop-number-preserved
 loop-number-preserved c =

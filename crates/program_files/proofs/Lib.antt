@@ -1,0 +1,4 @@
+pub mod NewMaps
+pub mod Raw
+pub mod Reading
+pub mod Shapes

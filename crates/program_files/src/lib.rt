@@ -1,0 +1,13 @@
+//! Program files: read in bounded memory, decoded, verified with their maps and their context, and disassembled;
+//! and the verdict on each that is refused.
+#![tactic(auto)]
+
+mod checking;
+mod program_file;
+mod verdict;
+mod verified_file;
+
+pub use checking::{Accepted, check, text_of};
+pub use program_file::{FileBytes, Source, read_file};
+pub use verdict::{MEMORY, Verdict};
+pub use verified_file::{VerifiedSource, verify_source};
