@@ -9,7 +9,7 @@ use bpf_model::CTX_BYTES;
 use thiserror::Error;
 
 /// What the program is asked to do.
-#[derive(Clone, Copy, Debug, PartialEq, Eq)]
+#[derive(Clone, Copy)]
 pub enum Command<'a> {
     /// Run the programs that are built in, and go through the activities of worlds, and print what they came to.
     Samples,
@@ -18,7 +18,7 @@ pub enum Command<'a> {
 }
 
 /// Why the words are no command.
-#[derive(Clone, Copy, Debug, PartialEq, Eq, Error)]
+#[derive(Debug, Drop, Error)]
 pub enum UsageFault {
     #[error("usage: bench [run FILE CTX_LEN | world [[shared | pool | script] time]]")]
     Words,

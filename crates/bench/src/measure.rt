@@ -16,7 +16,7 @@ use verifier::verify;
 const MOST_DOUBLINGS: u32 = 24;
 
 /// What is timed.
-#[derive(Clone, Copy, Debug, PartialEq, Eq)]
+#[derive(Clone, Copy)]
 pub enum Timed {
     /// Runs of the program to its exit.
     Runs,

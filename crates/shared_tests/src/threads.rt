@@ -13,7 +13,6 @@ use std::sync::ledger::{Blank, Ledger};
 use std::sync::{Mutex, Wait};
 use std::test::Fail;
 use std::thread::{Threads, for_each_mut, join};
-use world::World;
 
 /// How many calls each worker makes.
 const CALLS: u16 = 1000;
@@ -64,15 +63,10 @@ fn watch<R: Wait>(rt: &R, counters: &mut Counters) -> bool {
     rises
 }
 
-/// The text of an answer.
-fn text_of(alloc: Global, answer: &Answer) -> Result<String, AllocError> {
-    format!(in alloc; "{answer:?}")
-}
-
 /// Whether two answers have one text.
 fn same_text(alloc: Global, one: &Answer, other: &Answer) -> Result<bool, AllocError> {
-    let text = text_of(alloc, one)?;
-    Ok(text == text_of(alloc, other)?)
+    let text = format!(in alloc; "{one:?}")?;
+    Ok(text == format!(in alloc; "{other:?}")?)
 }
 
 /// Whether the entries of a log's worker have the answers of the log, in order.
@@ -92,16 +86,6 @@ fn agrees(alloc: Global, journal: &Journal, log: &Log) -> Result<bool, AllocErro
         }
     }
     Ok(at == log.answers.len())
-}
-
-/// Whether the journal agrees with each of the logs.
-fn all_agree(alloc: Global, journal: &Journal, logs: &[Log]) -> Result<bool, AllocError> {
-    for log in logs {
-        if !agrees(alloc, journal, log)? {
-            return Ok(false);
-        }
-    }
-    Ok(true)
 }
 
 /// The journal's events, in order.
@@ -128,16 +112,11 @@ fn are_answers(alloc: Global, journal: &Journal, answers: &[Answer]) -> Result<b
     Ok(answers.len() == journal.len())
 }
 
-/// Whether a world answers the journal's events as the journal says.
-fn answers_alike(alloc: Global, world: &mut World, journal: &Journal) -> Result<bool, AllocError> {
-    let events = events_in(alloc, journal)?;
-    let answers = world.run_all(alloc, &events)?;
-    are_answers(alloc, journal, &answers)
-}
-
 /// Whether the base answers the journal's events as the journal says, and is then as the world.
 fn replays(alloc: Global, finished: &mut Finished) -> Result<bool, AllocError> {
-    let alike = answers_alike(alloc, &mut finished.base, &finished.journal)?;
+    let events = events_in(alloc, &finished.journal)?;
+    let answers = finished.base.run_all(alloc, &events)?;
+    let alike = are_answers(alloc, &finished.journal, &answers)?;
     Ok(alike && finished.base.stat() == finished.world.stat())
 }
 
@@ -186,7 +165,9 @@ fn eight<L: Ledger + Send + Sync, R: Threads + Wait + Abort + Sync>(
     assert_eq!(rt; finished.base.stat(), first);
     let all = logs.into_inner();
     assert_eq!(rt; all.len(), 8);
-    assert!(rt; all_agree(alloc, &finished.journal, &all)?);
+    for log in &all {
+        assert!(rt; agrees(alloc, &finished.journal, log)?);
+    }
     assert!(rt; replays(alloc, &mut finished)?);
     Ok(())
 }

@@ -1,8 +1,7 @@
 //! Each refusal at its slot, before those that come later in the order of tests.
-use crate::judged::{Case, Wanted, judged_case};
-use std::test::Fail;
+use crate::judged::{Case, Wanted};
 
-static ORDERS: [Case; 57] = [
+pub static ORDERS: [Case; 57] = [
     Case {
         name: "write_r10_before_unwritten",
         code: "0f5a000000000000 9500000000000000",
@@ -346,12 +345,3 @@ static ORDERS: [Case; 57] = [
         wanted: Wanted::Exits(9, 5),
     },
 ];
-
-#[test]
-fn orders_of_tests(rt: HostRuntime) -> Result<(), Fail> {
-    for case in &ORDERS {
-        let found = judged_case(rt.alloc(), case)?;
-        assert_eq!(rt; found, case.wanted, "{}", case.name);
-    }
-    Ok(())
-}

@@ -1,5 +1,6 @@
-//! Worked programs: decoding, calls and sections, arithmetic, jumps, frame and context.
+//! Worked programs, with those of `orders`: decoding, calls and sections, arithmetic, jumps, frame and context.
 use crate::judged::{Case, Wanted, judged_case};
+use crate::orders::ORDERS;
 use std::test::Fail;
 
 static ROWS: [Case; 56] = [
@@ -343,7 +344,7 @@ static ROWS: [Case; 56] = [
 
 #[test]
 fn worked_programs(rt: HostRuntime) -> Result<(), Fail> {
-    for case in &ROWS {
+    for case in ROWS.iter().chain(&ORDERS) {
         let found = judged_case(rt.alloc(), case)?;
         assert_eq!(rt; found, case.wanted, "{}", case.name);
     }

@@ -1,12 +1,11 @@
 //! What is known of bytes of the frame: spilled references, of which bytes are written over, that end with their
 //! section, or that are tested for null.
 
-use crate::judged::{LOOKUP, MAPS, TESTED, Told, judge};
+use crate::judged::Told;
 use Told::{Accepted, At};
-use std::test::Fail;
 
-/// What is said of `LOOKUP`, `TESTED` and these lines, and three instructions that end it.
-static SPILLED: [(Told, &str); 31] = [
+/// Spilled references of which bytes are written over, or that end with their section.
+pub static SPILLED: [(Told, &str); 31] = [
     // One byte is written over: the other seven are no number, and the eight no reference.
     (
         At(30, 14),
@@ -136,8 +135,8 @@ static SPILLED: [(Told, &str); 31] = [
     ),
 ];
 
-/// What is said of `LOOKUP` and these lines, and three instructions that end it.
-static MAYBE_NULL: [(Told, &str); 12] = [
+/// Spilled references that are tested for null.
+pub static MAYBE_NULL: [(Told, &str); 12] = [
     // A spilled copy of what is tested: a number where it is null, a reference elsewhere.
     (
         Accepted,
@@ -185,23 +184,3 @@ static MAYBE_NULL: [(Told, &str); 12] = [
     (Accepted, "mov64 r1, r0; jne r0, 0, +1; mul64 r1, 5"),
     (At(25, 10), "mov64 r1, r0; jeq r0, 0, +1; mul64 r1, 5"),
 ];
-
-#[test]
-fn spilled_references(rt: HostRuntime) -> Result<(), Fail> {
-    let alloc = rt.alloc();
-    for (wanted, lines) in &SPILLED {
-        let parts = [LOOKUP, TESTED, *lines, "callbtf 2; mov64 r0, 0; exit"];
-        assert_eq!(rt; (lines, judge(alloc, &MAPS, 8, &parts)?), (lines, *wanted));
-    }
-    Ok(())
-}
-
-#[test]
-fn spilled_before_a_test(rt: HostRuntime) -> Result<(), Fail> {
-    let alloc = rt.alloc();
-    for (wanted, lines) in &MAYBE_NULL {
-        let parts = [LOOKUP, *lines, "callbtf 2; mov64 r0, 0; exit"];
-        assert_eq!(rt; (lines, judge(alloc, &MAPS, 8, &parts)?), (lines, *wanted));
-    }
-    Ok(())
-}

@@ -1,16 +1,16 @@
 //! What is known where paths meet: registers of different kinds, lookups with one identity or two, and how many
 //! states wait at once.
 
-use crate::judged::{LOOKUP, MAPS, TESTED, Told, judge, verified};
+use crate::judged::{LOOKUP, MAPS, Told, verified};
 use Told::{Accepted, At};
 use std::alloc::Global;
 use std::test::Fail;
 
 /// What follows `LOOKUP` and `TESTED` in the first table, before slot 13: r8 is a number.
-const LOADED: &str = "ldxb r8, [r9+0]";
+pub const LOADED: &str = "ldxb r8, [r9+0]";
 
-/// What is said of `LOOKUP`, `TESTED`, `LOADED` and these lines, and three instructions that end it.
-static KINDS: [(Told, &str); 21] = [
+/// Registers of different kinds.
+pub static KINDS: [(Told, &str); 21] = [
     // References to one region at different offsets.
     (
         Accepted,
@@ -98,8 +98,8 @@ static KINDS: [(Told, &str); 21] = [
     ),
 ];
 
-/// What is said of `LOOKUP` and these lines, and three instructions that end it.
-static IDENTITIES: [(Told, &str); 9] = [
+/// What two lookups gave.
+pub static IDENTITIES: [(Told, &str); 9] = [
     // Two registers that hold the same of two lookups on each path: one test tells of both.
     (
         Accepted,
@@ -144,32 +144,6 @@ static IDENTITIES: [(Told, &str); 9] = [
         "ldxb r8, [r9+0]; jeq r8, 0, +1; jeq r0, 0, +0; mov64 r1, r0",
     ),
 ];
-
-#[test]
-fn kinds_joined(rt: HostRuntime) -> Result<(), Fail> {
-    let alloc = rt.alloc();
-    for (wanted, lines) in &KINDS {
-        let parts = [
-            LOOKUP,
-            TESTED,
-            LOADED,
-            *lines,
-            "callbtf 2; mov64 r0, 0; exit",
-        ];
-        assert_eq!(rt; (lines, judge(alloc, &MAPS, 8, &parts)?), (lines, *wanted));
-    }
-    Ok(())
-}
-
-#[test]
-fn identities_joined(rt: HostRuntime) -> Result<(), Fail> {
-    let alloc = rt.alloc();
-    for (wanted, lines) in &IDENTITIES {
-        let parts = [LOOKUP, *lines, "callbtf 2; mov64 r0, 0; exit"];
-        assert_eq!(rt; (lines, judge(alloc, &MAPS, 8, &parts)?), (lines, *wanted));
-    }
-    Ok(())
-}
 
 /// How many states wait at most at once, of programs that begin with a load of the context's first byte to r0.
 static PEAKS: [(usize, &str); 9] = [

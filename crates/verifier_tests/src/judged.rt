@@ -14,6 +14,12 @@ pub const LOOKUP: &str =
 /// What follows `LOOKUP` in many programs, before slot 12: r0 is the value of an element.
 pub const TESTED: &str = "jne r0, 0, +3; callbtf 2; mov64 r0, 0; exit";
 
+/// How a program ends that is in a section.
+pub const UNLOCK: &str = "callbtf 2; mov64 r0, 0; exit";
+
+/// How a program ends that is in none.
+pub const LEAVE: &str = "mov64 r0, 0; exit";
+
 /// What the verifier says.
 #[derive(Clone, Copy, Debug, PartialEq, Eq)]
 pub enum Told {

@@ -16,3 +16,5 @@ mod numbers;
 mod orders;
 #[cfg(test)]
 mod programs;
+#[cfg(test)]
+mod tables;

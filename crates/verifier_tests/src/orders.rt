@@ -1,19 +1,18 @@
 //! Which refusal is told of an instruction of which several tests fail: the one that comes first.
 
-use crate::judged::{LOOKUP, MAPS, TESTED, Told, judge};
+use crate::judged::Told;
 use Told::{Accepted, At};
-use std::test::Fail;
 
 /// What follows `LOOKUP` and `TESTED` in the first two tables, before slot 21. Behind it no section is open; r0
 /// to r5 are not written, r6 is a reference to an element of the section before, r7 is of different kinds on
 /// different paths, r8 is a number up to 255, r9 the context. Of the frame the bytes from -4 are written, those
 /// from -16 are the reference in r6, those from -24 are on one path a pointer and on one a number, and no
 /// others are written.
-const OUTSIDE: &str =
+pub const OUTSIDE: &str =
     "mov64 r6, r0; stxdw [r10-16], r0; callbtf 2; ldxb r8, [r9+0]; mov64 r7, r10; stxdw [r10-24], r10; jeq r8, 0, +2; mov64 r7, 0; stdw [r10-24], 0";
 
-/// What is said of `LOOKUP`, `TESTED`, `OUTSIDE` and these lines, and two instructions that end it.
-static AFTER: [(Told, &str); 174] = [
+/// Instructions outside a section.
+pub static AFTER: [(Told, &str); 174] = [
     // An instruction that writes r10, before the registers that it reads, and before all else.
     (At(24, 21), "add64 r10, r1"),
     (At(24, 21), "add64 r10, 8"),
@@ -295,11 +294,10 @@ static AFTER: [(Told, &str); 174] = [
 
 /// What follows `OUTSIDE` in each program of the next table, before slot 27: a section is opened, and r0
 /// is what a lookup in the first map gave.
-const AGAIN: &str = "callbtf 1; mov64 r2, r10; add64 r2, -4; ldmap r1, 0; call 1";
+pub const AGAIN: &str = "callbtf 1; mov64 r2, r10; add64 r2, -4; ldmap r1, 0; call 1";
 
-/// What is said of `LOOKUP`, `TESTED`, `OUTSIDE`, `AGAIN` and these lines, and three instructions that
-/// end it.
-static MAYBE_NULL: [(Told, &str); 51] = [
+/// Instructions before a test for null.
+pub static BEFORE_A_TEST: [(Told, &str); 51] = [
     // Computed with, behind the registers that are read.
     (At(24, 27), "mov64 r10, r0"),
     (At(23, 27), "add64 r0, r1"),
@@ -374,9 +372,8 @@ static MAYBE_NULL: [(Told, &str); 51] = [
     (Accepted, "ldmap r6, 1; callbtf 2; mov64 r1, r6; callbtf 1"),
 ];
 
-/// What is said of `LOOKUP`, `TESTED` and these lines, and three instructions that end it. The value of the
-/// element, in r0, has 8 bytes.
-static ELEMENTS: [(Told, &str); 29] = [
+/// Instructions through an element: its value, in r0, has 8 bytes.
+pub static ELEMENTS: [(Told, &str); 29] = [
     // What is stored, before the offset: outside, then misaligned.
     (At(30, 12), "stxdw [r0+8], r9"),
     (At(30, 12), "stxw [r0+2], r0"),
@@ -438,40 +435,3 @@ static ELEMENTS: [(Told, &str); 29] = [
         "mov64 r2, r10; add64 r2, -4; ldmap r1, 0; call 3; mov64 r6, r0; ldxdw r0, [r1+0]",
     ),
 ];
-
-#[test]
-fn outside_a_section(rt: HostRuntime) -> Result<(), Fail> {
-    let alloc = rt.alloc();
-    for (wanted, lines) in &AFTER {
-        let parts = [LOOKUP, TESTED, OUTSIDE, *lines, "mov64 r0, 0; exit"];
-        assert_eq!(rt; (lines, judge(alloc, &MAPS, 8, &parts)?), (lines, *wanted));
-    }
-    Ok(())
-}
-
-#[test]
-fn before_a_test_for_null(rt: HostRuntime) -> Result<(), Fail> {
-    let alloc = rt.alloc();
-    for (wanted, lines) in &MAYBE_NULL {
-        let parts = [
-            LOOKUP,
-            TESTED,
-            OUTSIDE,
-            AGAIN,
-            *lines,
-            "callbtf 2; mov64 r0, 0; exit",
-        ];
-        assert_eq!(rt; (lines, judge(alloc, &MAPS, 8, &parts)?), (lines, *wanted));
-    }
-    Ok(())
-}
-
-#[test]
-fn through_an_element(rt: HostRuntime) -> Result<(), Fail> {
-    let alloc = rt.alloc();
-    for (wanted, lines) in &ELEMENTS {
-        let parts = [LOOKUP, TESTED, *lines, "callbtf 2; mov64 r0, 0; exit"];
-        assert_eq!(rt; (lines, judge(alloc, &MAPS, 8, &parts)?), (lines, *wanted));
-    }
-    Ok(())
-}

@@ -298,7 +298,7 @@ static ROWS: [Row; 47] = [
 ];
 
 /// A map whose keys and values have 8 bytes.
-const LONG: MapShape = MapShape {
+pub const LONG: MapShape = MapShape {
     key_len: 8,
     value_len: 8,
     entries: 4,
@@ -307,19 +307,17 @@ const LONG: MapShape = MapShape {
 };
 
 /// Programs with that map in place of the other.
-static LONG_ROWS: [Row; 2] = [
+pub static LONG_ROWS: [(Told, &str); 2] = [
     // A lookup with a key of 8 bytes.
-    Row {
-        told: Accepted,
-        context: 0,
-        lines: "mov64 r6, 0; callbtf 1; stdw [r10-8], 0; mov64 r2, r10; add64 r2, -8; ldmap r1, 0; call 1; jeq r0, 0, +1; ldxdw r6, [r0+0]; callbtf 2; mov64 r0, r6; exit",
-    },
+    (
+        Accepted,
+        "mov64 r6, 0; callbtf 1; stdw [r10-8], 0; mov64 r2, r10; add64 r2, -8; ldmap r1, 0; call 1; jeq r0, 0, +1; ldxdw r6, [r0+0]",
+    ),
     // A key of 4 bytes at the end of the frame.
-    Row {
-        told: At(27, 7),
-        context: 0,
-        lines: "mov64 r6, 0; callbtf 1; stw [r10-4], 0; mov64 r2, r10; add64 r2, -4; ldmap r1, 0; call 1; jeq r0, 0, +1; ldxdw r6, [r0+0]; callbtf 2; mov64 r0, r6; exit",
-    },
+    (
+        At(27, 7),
+        "mov64 r6, 0; callbtf 1; stw [r10-4], 0; mov64 r2, r10; add64 r2, -4; ldmap r1, 0; call 1; jeq r0, 0, +1; ldxdw r6, [r0+0]",
+    ),
 ];
 
 #[test]
@@ -329,19 +327,6 @@ fn small_programs(rt: HostRuntime) -> Result<(), Fail> {
         let (lines, wanted) = (row.lines, row.told);
         assert_eq!(rt;
             (lines, judge(alloc, &[SHAPE], row.context, &[lines])?),
-            (lines, wanted)
-        );
-    }
-    Ok(())
-}
-
-#[test]
-fn small_programs_with_long_keys(rt: HostRuntime) -> Result<(), Fail> {
-    let alloc = rt.alloc();
-    for row in &LONG_ROWS {
-        let (lines, wanted) = (row.lines, row.told);
-        assert_eq!(rt;
-            (lines, judge(alloc, &[LONG], row.context, &[lines])?),
             (lines, wanted)
         );
     }

@@ -562,24 +562,10 @@ reap = reaped 0 00000000 free\n",
     },
 ];
 
-impl Setting {
-    fn source(&self) -> Source {
-        Source {
-            lines: self.program,
-            maps: &[0],
-            context_len: self.context_len,
-        }
-    }
-
-    fn shapes(&self) -> [MapShape; 2] {
-        [self.shape, self.shape]
-    }
-}
-
 /// The number and the slot of the verifier's refusal, if it refuses.
 fn refusal_of(alloc: Global, setting: &Setting) -> Result<Option<(u8, usize)>, Fail> {
     let program = assembled(alloc, setting.program)?;
-    match judged(alloc, program, &setting.shapes(), &[0], setting.context_len)? {
+    match judged(alloc, program, &[setting.shape], &[0], setting.context_len)? {
         Ok(_) => Ok(None),
         Err(refusal) => match refusal.slot() {
             Some(slot) => Ok(Some((refusal.code(), slot))),
@@ -594,8 +580,12 @@ fn answers(
     setting: &Setting,
     events: &str,
 ) -> Result<(String, Option<String>), Fail> {
-    let shapes = setting.shapes();
-    let sources = [setting.source()];
+    let shapes = [setting.shape, setting.shape];
+    let sources = [Source {
+        lines: setting.program,
+        maps: &[0],
+        context_len: setting.context_len,
+    }];
     let mut machine = machine_of(alloc, &shapes, &sources)?;
     let model = replay(alloc, &mut machine, events)?;
     if refusal_of(alloc, setting)?.is_some() {

@@ -72,7 +72,7 @@ fn key(random: &mut Random, len: usize) -> KeyBytes {
 fn value(random: &mut Random, len: usize) -> ValueBytes {
     let mut value = ValueBytes::new();
     for _ in 0..len {
-        let _ = value.try_push(random.byte());
+        let _ = value.try_push(random.below(256) as u8);
     }
     value
 }
@@ -110,26 +110,25 @@ fn update(random: &mut Random) -> Event {
     }
 }
 
-fn delete(random: &mut Random) -> Event {
+/// A deletion, or else a read.
+fn delete_or_read(random: &mut Random, deletes: bool) -> Event {
     let (map, key_len, _) = target(random);
-    Event::Delete {
-        map,
-        key: key(random, key_len),
-    }
-}
-
-fn read(random: &mut Random) -> Event {
-    let (map, key_len, _) = target(random);
-    Event::Read {
-        map,
-        key: key(random, key_len),
+    let key = key(random, key_len);
+    if deletes {
+        Event::Delete { map, key }
+    } else {
+        Event::Read { map, key }
     }
 }
 
 /// A start of any program, now and then of none, or on a context of another length.
 fn start(random: &mut Random) -> Event {
     let prog = ProgId::new(random.below(10));
-    let bytes = [random.below(6) as u8, random.byte(), random.byte()];
+    let bytes = [
+        random.below(6) as u8,
+        random.below(256) as u8,
+        random.below(256) as u8,
+    ];
     let ctx = match random.below(32) {
         0 => bytes_of(&[1, 2]),
         _ => bytes_of(&bytes),
@@ -146,8 +145,7 @@ fn event(random: &mut Random, runs: usize) -> Event {
         58..=64 if runs < 8 => start(random),
         58..=67 => Event::Drop { run },
         68..=77 => update(random),
-        78..=83 => delete(random),
-        84..=86 => read(random),
+        number @ 78..=86 => delete_or_read(random, number < 84),
         87..=92 => Event::Advance,
         _ => Event::Reap,
     }

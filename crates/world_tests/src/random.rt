@@ -29,9 +29,4 @@ impl Random {
     {
         (self.next() >> 11) as usize % bound
     }
-
-    /// The next byte.
-    pub fn byte(&mut self) -> u8 {
-        (self.next() >> 56) as u8
-    }
 }

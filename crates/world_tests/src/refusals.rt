@@ -14,7 +14,7 @@ const OTHER: MapShape = MapShape {
 };
 
 /// How a program is bound.
-#[derive(Clone, Copy, Debug, PartialEq, Eq)]
+#[derive(Clone, Copy)]
 enum Bound {
     /// A lookup, verified for one map of the first shape and bound to map 0.
     Well,
@@ -128,14 +128,6 @@ static ROWS: [Row; 12] = [
     },
 ];
 
-/// The program that a fault names.
-fn program_told(fault: &WorldFault) -> Option<usize> {
-    match fault {
-        WorldFault::Binding { program } => Some(program.index()),
-        _ => None,
-    }
-}
-
 /// So many programs without maps.
 fn programs_without_maps(alloc: Global, count: usize) -> Result<Vec<Loaded>, Fail> {
     let mut programs = Vec::new(alloc);
@@ -154,7 +146,13 @@ fn told(alloc: Global, row: &Row) -> Result<Option<(u8, Option<usize>)>, Fail> {
     let registry = registry_of(alloc, &[SHAPE, OTHER])?;
     match World::new(alloc, registry, programs).err() {
         None => Ok(None),
-        Some(fault) => Ok(Some((fault.code(), program_told(&fault)))),
+        Some(fault) => {
+            let program = match &fault {
+                WorldFault::Binding { program } => Some(program.index()),
+                _ => None,
+            };
+            Ok(Some((fault.code(), program)))
+        }
     }
 }
 

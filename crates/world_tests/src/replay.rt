@@ -49,21 +49,26 @@ fn steps<M: Answering>(machine: &mut M, run: RunId, count: usize) -> Result<Answ
     last
 }
 
-fn tell_counts(text: &mut String, counts: Stat) -> Result<(), AllocError> {
-    write!(
-        text,
-        "stat linked {} unlinked {} given {} worn {} runs {} open {}",
-        counts.linked, counts.unlinked, counts.given, counts.worn, counts.runs, counts.open
-    )
-}
-
 /// The answer to the line of an event.
 fn answer<M: Answering>(alloc: Global, machine: &mut M, line: &str) -> Result<String, Fail> {
     let mut text = String::new(alloc);
     match command_of(alloc, line)? {
         Command::Apply(event) => tell(alloc, &mut text, &machine.answer(event))?,
         Command::Step(run, count) => tell(alloc, &mut text, &steps(machine, run, count))?,
-        Command::Stat => tell_counts(&mut text, machine.counts())?,
+        Command::Stat => {
+            let Stat {
+                linked,
+                unlinked,
+                given,
+                worn,
+                runs,
+                open,
+            } = machine.counts();
+            write!(
+                text,
+                "stat linked {linked} unlinked {unlinked} given {given} worn {worn} runs {runs} open {open}"
+            )?
+        }
     }
     Ok(text)
 }

@@ -45,17 +45,9 @@ fn bytes<const N: usize>(alloc: Global, words: &mut Words) -> Result<ArrayVec<u8
     }
 }
 
-fn map(words: &mut Words) -> Result<MapId, Fail> {
-    Ok(MapId::new(number(words)?))
-}
-
-fn run(words: &mut Words) -> Result<RunId, Fail> {
-    Ok(RunId::new(number(words)?))
-}
-
 fn update(alloc: Global, words: &mut Words) -> Result<Event, Fail> {
     Ok(Event::Update {
-        map: map(words)?,
+        map: MapId::new(number(words)?),
         key: bytes(alloc, words)?,
         value: bytes(alloc, words)?,
         flags: number(words)? as u64,
@@ -76,16 +68,18 @@ pub fn command_of(alloc: Global, line: &str) -> Result<Command, Fail> {
     let event = match word(words)? {
         "put" => update(alloc, words)?,
         "get" => Event::Read {
-            map: map(words)?,
+            map: MapId::new(number(words)?),
             key: bytes(alloc, words)?,
         },
         "del" => Event::Delete {
-            map: map(words)?,
+            map: MapId::new(number(words)?),
             key: bytes(alloc, words)?,
         },
         "start" => start(alloc, words)?,
-        "step" => return Ok(Command::Step(run(words)?, number(words)?)),
-        "drop" => Event::Drop { run: run(words)? },
+        "step" => return Ok(Command::Step(RunId::new(number(words)?), number(words)?)),
+        "drop" => Event::Drop {
+            run: RunId::new(number(words)?),
+        },
         "advance" => Event::Advance,
         "reap" => Event::Reap,
         "stat" => return Ok(Command::Stat),
@@ -100,13 +94,6 @@ fn fault_name(fault: &ModelFault) -> &'static str {
         ModelFault::Memory => "memory",
         ModelFault::OutOfRange => "out of range",
         ModelFault::Early => "early",
-    }
-}
-
-fn given_name(given: Given) -> &'static str {
-    match given {
-        Given::Free => "free",
-        Given::Worn => "worn",
     }
 }
 
@@ -128,7 +115,11 @@ pub fn tell_answer(alloc: Global, text: &mut String, answer: &Answer) -> Result<
         Answer::Reaped(Some(element)) => {
             let key = hex::encode(alloc, element.key.as_slice())?;
             let map = element.map.index();
-            write!(text, "reaped {map} {key} {}", given_name(element.given))
+            let given = match element.given {
+                Given::Free => "free",
+                Given::Worn => "worn",
+            };
+            write!(text, "reaped {map} {key} {given}")
         }
         Answer::Refused(refusal) => write!(text, "refused {}", refusal.code()),
     }

@@ -3,14 +3,14 @@
 use bpf_model::{KEY_BYTES, MAX_ENTRIES, MAX_REUSE, MapShape, VALUE_BYTES};
 
 /// A program whose steps are timed.
-#[derive(Clone, Copy, Debug, PartialEq, Eq)]
+#[derive(Clone, Copy)]
 pub enum Stepped {
     Arithmetic,
     Lookup,
 }
 
 /// What is done to a world.
-#[derive(Clone, Copy, Debug, PartialEq, Eq)]
+#[derive(Clone, Copy)]
 pub enum Deed {
     /// Reads of keys, of which about half are there.
     Reads,

@@ -5,7 +5,7 @@ ghost use Rattle.bench.specs.declared.worlds.command.Command.TheVariants.{Answer
 use thiserror::Error;
 
 /// What is asked of worlds.
-#[derive(Clone, Copy, Debug, PartialEq, Eq)]
+#[derive(Clone, Copy)]
 pub enum Command {
     /// Print what the events of each activity are answered.
     Answers,
@@ -20,7 +20,7 @@ pub enum Command {
 }
 
 /// Why the words are no command.
-#[derive(Clone, Copy, Debug, PartialEq, Eq, Error)]
+#[derive(Debug, Drop, Error)]
 pub enum UsageFault {
     #[error("usage: bench world [[shared | pool | script] time]")]
     Words,

@@ -18,7 +18,7 @@ use std::thread::{Threads, for_each_mut};
 use std::time::{Duration, Instant};
 
 /// What each worker asks, again and again.
-#[derive(Clone, Copy, Debug, PartialEq, Eq)]
+#[derive(Clone, Copy)]
 pub enum Task {
     /// Steps of a run of its own, which is dropped and started again when it has exited.
     Steps,

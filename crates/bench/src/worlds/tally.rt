@@ -3,7 +3,7 @@
 use bpf_model::Answer;
 
 /// How many answers of each kind there were, and a sum of what they told.
-#[derive(Clone, Copy, Debug, PartialEq, Eq, Default)]
+#[derive(Clone, Copy, Default)]
 pub struct Tally {
     pub moved: u64,
     pub exited: u64,
