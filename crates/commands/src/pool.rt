@@ -62,10 +62,11 @@ fn pool_of<H: Threads + Wait + Sync>(
         IfErr result (IsPoolRefusal size.workers size.count bytes) }
 {
     let source = file.source(alloc)?;
-    let VerifiedSource { verified, registry } = verify_source(alloc, source)?;
+    let checked = verify_source(alloc, source)?;
+    let VerifiedSource { verified, registry } = checked;
     let program = ProgramWithMaps { verified, registry };
     match run_program(rt, alloc, program, size.workers, size.count) {
-        Ok(run) => Ok(run),
+        Ok(pooled) => Ok(pooled),
         Err(fault) => Err(pool_verdict(fault)),
     }
 }
