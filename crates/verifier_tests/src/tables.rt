@@ -11,68 +11,61 @@ use std::alloc::Global;
 use std::process::Abort;
 use std::test::Fail;
 
-/// Programs that begin and end alike, with what is said of each and its own lines between.
+/// What the programs of a table have in common.
 #[derive(Drop)]
-struct Table<'a> {
+struct Setting<'a> {
     maps: &'a [MapShape],
     /// The length of the context.
     context: usize,
-    begin: &'a [&'static str],
-    rows: &'static [(Told, &'static str)],
+    /// The lines that end each program.
     end: &'static str,
 }
 
-/// The verifier says of each program of the table what stands there.
-fn agrees<R: Abort>(rt: &R, alloc: Global, table: &Table<'_>) -> Result<(), Fail> {
-    for (wanted, lines) in table.rows {
-        let mut parts = Vec::from_slice(alloc, table.begin)?;
+/// The verifier says of each program what stands there: one that begins alike, has these lines, and ends alike.
+fn agrees<R: Abort>(
+    rt: &R,
+    alloc: Global,
+    setting: &Setting<'_>,
+    begin: &[&str],
+    rows: &[(Told, &str)],
+) -> Result<(), Fail> {
+    for (wanted, lines) in rows {
+        let mut parts = Vec::from_slice(alloc, begin)?;
         parts.push(*lines)?;
-        parts.push(table.end)?;
-        let told = judge(alloc, table.maps, table.context, &parts)?;
+        parts.push(setting.end)?;
+        let told = judge(alloc, setting.maps, setting.context, &parts)?;
         assert_eq!(rt; (lines, told), (lines, *wanted));
     }
     Ok(())
 }
 
-/// A table of programs over `MAPS`, with a context of 8 bytes.
-fn over_maps<'a>(
-    begin: &'a [&'static str],
-    rows: &'static [(Told, &'static str)],
-    end: &'static str,
-) -> Table<'a> {
-    Table {
+/// A setting with `MAPS`.
+fn with_maps(context: usize, end: &'static str) -> Setting<'static> {
+    Setting {
         maps: &MAPS,
-        context: 8,
-        begin,
-        rows,
+        context,
         end,
     }
 }
 
 #[test]
 fn tables(rt: HostRuntime) -> Result<(), Fail> {
-    let offsets = Table {
-        context: 64,
-        ..over_maps(&[], &OFFSETS, LEAVE)
-    };
-    let long_keys = Table {
+    let alloc = rt.alloc();
+    let inside = with_maps(8, UNLOCK);
+    agrees(&rt, alloc, &inside, &[LOOKUP, TESTED], &SPILLED)?;
+    agrees(&rt, alloc, &inside, &[LOOKUP], &MAYBE_NULL)?;
+    agrees(&rt, alloc, &inside, &[LOOKUP, TESTED, LOADED], &KINDS)?;
+    agrees(&rt, alloc, &inside, &[LOOKUP], &IDENTITIES)?;
+    agrees(&rt, alloc, &inside, &[LOOKUP, TESTED], &ELEMENTS)?;
+    let again = [LOOKUP, TESTED, OUTSIDE, AGAIN];
+    agrees(&rt, alloc, &inside, &again, &BEFORE_A_TEST)?;
+    let outside = with_maps(8, LEAVE);
+    agrees(&rt, alloc, &outside, &[LOOKUP, TESTED, OUTSIDE], &AFTER)?;
+    agrees(&rt, alloc, &with_maps(64, LEAVE), &[], &OFFSETS)?;
+    let long_keys = Setting {
         maps: &[LONG],
         context: 0,
-        ..over_maps(&[], &LONG_ROWS, UNLOCK)
+        end: UNLOCK,
     };
-    let all = [
-        over_maps(&[LOOKUP, TESTED], &SPILLED, UNLOCK),
-        over_maps(&[LOOKUP], &MAYBE_NULL, UNLOCK),
-        over_maps(&[LOOKUP, TESTED, LOADED], &KINDS, UNLOCK),
-        over_maps(&[LOOKUP], &IDENTITIES, UNLOCK),
-        over_maps(&[LOOKUP, TESTED, OUTSIDE], &AFTER, LEAVE),
-        over_maps(&[LOOKUP, TESTED, OUTSIDE, AGAIN], &BEFORE_A_TEST, UNLOCK),
-        over_maps(&[LOOKUP, TESTED], &ELEMENTS, UNLOCK),
-        offsets,
-        long_keys,
-    ];
-    for table in &all {
-        agrees(&rt, rt.alloc(), table)?;
-    }
-    Ok(())
+    agrees(&rt, alloc, &long_keys, &[], &LONG_ROWS)
 }
