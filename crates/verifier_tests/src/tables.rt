@@ -26,8 +26,8 @@ fn agrees<R: Abort>(
     rt: &R,
     alloc: Global,
     setting: &Setting<'_>,
-    begin: &[&str],
-    rows: &[(Told, &str)],
+    begin: &[&'static str],
+    rows: &[(Told, &'static str)],
 ) -> Result<(), Fail> {
     for (wanted, lines) in rows {
         let mut parts = Vec::from_slice(alloc, begin)?;
