@@ -20,7 +20,7 @@ use Rattle.typed_runs.specs.Well.{AreVerified, IsWell}
 use Rattle.typed_runs.proofs.Reaching.{reached_is_well, well_along, all-states}
 
 pub well_is_near : (m : Machine) → IsWell m → IsNearMachine m
-well_is_near m w r run at going = (w.runs r run at going).planned.describes.near
+well_is_near m w r run at going = let t = w.runs r run at going in (t.planned t.safe.verified).describes.near
 
 pub tracked_is_near : (w : WorldView) (events : List Event) (answers : List Answer) → AreVerified (shapes_of w) w.programs → AreReal events → (m : Machine) → Tracks w m → (states : List Machine) → IsHistory m events answers states → AllStates IsNearMachine (m ∷ states)
 tracked_is_near w events answers safe real m t states h =

@@ -2,7 +2,8 @@
 use Rattle.std.proofs.Common.{◌≡◌, ℕ, suc, ◌+◌, ◌<◌, ◌⊎◌, inl, inr, arith, List, [], ◌∷◌, length, Some, None, refl, sym, ap, subst, ◌∙◌}
 use Rattle.std.specs.Prelude.{slice_get}
 use Rattle.std.proofs.lemmas.Option.{none-some}
-use Rattle.bpf_model.specs.Places.{start-inside}
+use Rattle.bpf_model.specs.Places.{start-inside, starts_apart}
+use Rattle.bpf_model.specs.Step.{State}
 use Rattle.bpf_model.specs.declared.limits.MapShape.{MapShape}
 use Rattle.bpf_model.specs.declared.limits.TheConstants.{MAX_RUNS}
 use Rattle.bpf_model.specs.declared.insn.Insn.{Insn}
@@ -25,7 +26,7 @@ use Rattle.model_laws.proofs.Stores.{KeepsShapes, StoreMoves, is_reap, does-move
 use Rattle.model_laws.proofs.Keeping.{no-run, starts_consistent, stays_consistent}
 use Rattle.model_laws.proofs.Moves.{Changes, Goes, Locks, Unlocks, Ends, changed-insn}
 use Rattle.typed_runs.specs.Describes.{Scene, scene_of}
-use Rattle.typed_runs.specs.Verified.{Plan, AreMapsBound, Surrounds, IsPlanned, IsPlannedAfter, IsClosed}
+use Rattle.typed_runs.specs.Verified.{Plan, AreMapsBound, Surrounds, IsPlanned, IsPlannedAfter, IsClosed, IsVerified}
 use Rattle.typed_runs.specs.Well.{AreVerified, IsVerifiedFor, IsTyped, IsWell}
 use Rattle.typed_runs.proofs.Kept.{Keeps, keeps-moves, describes-kept}
 use Rattle.typed_runs.proofs.Coming.{FreshRun, Comes, Stands, Starting, Stepping, does-come}
@@ -50,7 +51,7 @@ typed-kept s new run k shapes t = record {
   long = t.long;
   context = t.context;
   index = t.index;
-  planned = planned-kept run t.index (scene_of s.elements run) (scene_of new.elements run) k t.safe.verified.plan t.planned;
+  planned = λ v. planned-kept run t.index (scene_of s.elements run) (scene_of new.elements run) k v.plan (t.planned v);
   moved = t.moved;
 }
 
@@ -92,36 +93,47 @@ surrounds m r run w at going t = record {
 pub well_never_stuck : (m : Machine) → IsWell m → NeverStuck m
 well_never_stuck m w r run at going =
     let t = w.runs r run at going in
-    let g = t.safe.verified.closed.goes t.index m.store (open_sections m.runs) run (surrounds m r run w at going t) t.planned in
+    let g = t.safe.verified.closed.goes t.index m.store (open_sections m.runs) run (surrounds m r run w at going t) (t.planned t.safe.verified) in
     (g.2.0, g.2.1, g.2.2, (g.0, g.1, g.2.3))
 
--- what its program's verification says of a step
-stepped : (m : Machine) (r : ℕ) (run : Run) (answer : Answer) (new_store : Store) (new_run : Run) (w : IsWell m) (at : run_at m.runs r ≡ Some run) (going : run.exit ≡ None) (t : IsTyped m.store run) → RunStep m.store (open_sections m.runs) run answer new_store new_run →
-    AllBytes new_store.elements × (new_run.exit ≡ None → IsPlannedAfter run.program.code t.safe.verified.plan t.index (scene_of new_store.elements new_run) new_run.state)
-stepped m r run answer new_store new_run w at going t h =
-    t.safe.verified.closed.leads t.index h.0 m.store (open_sections m.runs) run answer new_store new_run (surrounds m r run w at going t) t.planned h.1 h.2
+-- a verification of a program against the shapes that a run's program was verified for
+abbrev Verifies : (s : Store) (run : Run) → IsTyped s run → Type 0
+Verifies s run t = IsVerified run.program.code t.safe.shapes run.program.context_len
+
+-- what a verification of its program says of a step
+stepped : (m : Machine) (r : ℕ) (run : Run) (answer : Answer) (new_store : Store) (new_run : Run) (w : IsWell m) (at : run_at m.runs r ≡ Some run) (going : run.exit ≡ None) (t : IsTyped m.store run) (v : Verifies m.store run t) → RunStep m.store (open_sections m.runs) run answer new_store new_run →
+    AllBytes new_store.elements × (new_run.exit ≡ None → IsPlannedAfter run.program.code v.plan t.index (scene_of new_store.elements new_run) new_run.state)
+stepped m r run answer new_store new_run w at going t v h =
+    v.closed.leads t.index h.0 m.store (open_sections m.runs) run answer new_store new_run (surrounds m r run w at going t) (t.planned v) h.1 h.2
+
+-- two plans find a run at one index
+index-alike : (code : List Insn) (a b : Plan) (j k : ℕ) (c : Scene) (x : State) → IsPlanned code a j c x → IsPlanned code b k c x → IsPlanned code a k c x
+index-alike code a b j k c x p q = subst (λ i. IsPlanned code a i c x) (starts_apart 0 code j k x.place p.at q.at) p
 
 -- the run that made the step
 typed-stepped : (m : Machine) (new_store : Store) (run : Run) (answer : Answer) (new_run : Run) → KeepsShapes m.store.maps new_store.maps → SameProgram run answer new_run → (t : IsTyped m.store run) →
-    IsPlannedAfter run.program.code t.safe.verified.plan t.index (scene_of new_store.elements new_run) new_run.state → IsTyped new_store new_run
-typed-stepped m new_store run answer new_run shapes same t p = record {
-  safe = record {
-    shapes = t.safe.shapes;
-    bound = subst (λ (x : Loaded). AreMapsBound t.safe.shapes x.maps new_store.maps) (sym same.program) (bound-kept t.safe.shapes run.program.maps m.store.maps new_store.maps shapes t.safe.bound);
-    verified = record {
-      plan = t.safe.verified.plan;
-      closed = subst (λ (x : Loaded). IsClosed x.code t.safe.shapes x.context_len t.safe.verified.plan) (sym same.program) t.safe.verified.closed;
-    };
-  };
-  long = ap length same.context ∙ (t.long ∙ ap (λ x. x.context_len) (sym same.program));
-  context = subst AreBytes (sym same.context) t.context;
-  index = p.index;
-  planned = subst (λ (x : Loaded). IsPlanned x.code t.safe.verified.plan p.index (scene_of new_store.elements new_run) new_run.state) (sym same.program) p.planned;
-  moved = elim same.moved [
-    | inl x ↦ omega (arith, x.0, t.moved, p.further)
-    | inr x ↦ omega (arith, x, t.moved, p.further)
-  ];
-}
+    ((v : Verifies m.store run t) → IsPlannedAfter run.program.code v.plan t.index (scene_of new_store.elements new_run) new_run.state) → IsTyped new_store new_run
+typed-stepped m new_store run answer new_run shapes same t p =
+    let first = p t.safe.verified in
+    let scene = scene_of new_store.elements new_run in record {
+      safe = record {
+        shapes = t.safe.shapes;
+        bound = subst (λ (x : Loaded). AreMapsBound t.safe.shapes x.maps new_store.maps) (sym same.program) (bound-kept t.safe.shapes run.program.maps m.store.maps new_store.maps shapes t.safe.bound);
+        verified = record {
+          plan = t.safe.verified.plan;
+          closed = subst (λ (x : Loaded). IsClosed x.code t.safe.shapes x.context_len t.safe.verified.plan) (sym same.program) t.safe.verified.closed;
+        };
+      };
+      long = ap length same.context ∙ (t.long ∙ ap (λ x. x.context_len) (sym same.program));
+      context = subst AreBytes (sym same.context) t.context;
+      index = first.index;
+      planned = subst (λ (x : Loaded). (v : IsVerified x.code t.safe.shapes x.context_len) → IsPlanned x.code v.plan first.index scene new_run.state) (sym same.program)
+          (λ v. let q = p v in index-alike run.program.code v.plan t.safe.verified.plan q.index first.index scene new_run.state q.planned first.planned);
+      moved = elim same.moved [
+        | inl x ↦ omega (arith, x.0, t.moved, first.further)
+        | inr x ↦ omega (arith, x, t.moved, first.further)
+      ];
+    }
 
 -- a run that starts
 typed-fresh : (m new : Machine) (run : Run) → IsWell m → KeepsShapes m.store.maps new.store.maps → FreshRun m new run → IsTyped new.store run
@@ -131,13 +143,13 @@ typed-fresh m new run w shapes f = subst (IsTyped new.store) f.is (
       long = f.long;
       context = f.bytes;
       index = 0;
-      planned = x.verified.closed.start (scene_of new.store.elements (fresh_run m.started f.program f.context)) refl;
+      planned = λ v. v.closed.start (scene_of new.store.elements (fresh_run m.started f.program f.context)) refl;
       moved = omega arith;
     })
 
 -- a run that hasn't ended has moved less than its program is long
 pub typed-inside : (s : Store) (run : Run) → IsTyped s run → run.moved < length run.program.code
-typed-inside s run t = let l = start-inside run.program.code t.index run.state.place t.planned.at in omega (arith, t.moved)
+typed-inside s run t = let l = start-inside run.program.code t.index run.state.place (t.planned t.safe.verified).at in omega (arith, t.moved)
 
 module _ (m new : Machine) (event : Event) (answer : Answer) (w : IsWell m) (real : IsReal event) (h : DoesEvent m event answer new) where
   mv : StoreMoves (is_reap event) (open_sections m.runs) m.store new.store
@@ -145,7 +157,7 @@ module _ (m new : Machine) (event : Event) (answer : Answer) (w : IsWell m) (rea
 
   bytes-step : (r : ℕ) → StepsRun m r answer new → AllBytes new.store.elements
   bytes-step r g = subst (λ (s : Store). AllBytes s.elements) (ap (λ x. x.store) (sym g.new_is))
-      (stepped m r g.run answer g.new_store g.new_run w g.there g.going (w.runs r g.run g.there g.going) g.step).0
+      (let t = w.runs r g.run g.there g.going in stepped m r g.run answer g.new_store g.new_run w g.there g.going t t.safe.verified g.step).0
 
   programs-new : (p : ℕ) (program : Loaded) → slice_get new.programs p ≡ Some program → IsVerifiedFor new.store.maps program
   programs-new p program at = safe-kept m.store.maps new.store.maps program mv.shapes (w.programs p program (ap (λ l. slice_get l p) (sym (does-programs m new event answer h)) ∙ at))
@@ -156,7 +168,7 @@ module _ (m new : Machine) (event : Event) (answer : Answer) (w : IsWell m) (rea
   typed-new r run going (Stepping g) =
       let t = w.runs r g.old g.there g.going in
       typed-stepped m new.store g.old g.answer run mv.shapes (same-insn g.step.0 m.store (open_sections m.runs) g.old g.answer new.store run g.step.2) t
-      ((stepped m r g.old g.answer new.store run w g.there g.going t g.step).1 going)
+      (λ v. (stepped m r g.old g.answer new.store run w g.there g.going t v g.step).1 going)
 
   -- those that have ended too: an ended run moved less before, and ends without a move
   moved-new : (r : ℕ) (run : Run) → Comes m new r run → run.moved < length run.program.code

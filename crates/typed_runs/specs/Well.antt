@@ -19,15 +19,15 @@ abbrev pub AreVerified : List MapShape → List Loaded → Type 0
 AreVerified shapes programs = (p : ℕ) (program : Loaded) → slice_get programs p ≡ Some program
     → IsVerifiedFor (map new_map shapes) program
 
--- A run of a verified program, described by its plan. The index of the instruction where it stands
--- grows by each step.
+-- A run of a verified program, described by each plan that verifies the program against the shapes
+-- of its maps. The index of the instruction where it stands grows by each step.
 pub record IsTyped (s : Store) (run : Run) : Type 0 where
   pub safe : IsVerifiedFor s.maps run.program
   pub long : length run.context ≡ run.program.context_len
   pub context : AreBytes run.context
   pub index : ℕ
-  pub planned : IsPlanned run.program.code safe.verified.plan index (scene_of s.elements run)
-      run.state
+  pub planned : (v : IsVerified run.program.code safe.shapes run.program.context_len) →
+      IsPlanned run.program.code v.plan index (scene_of s.elements run) run.state
   pub moved : run.moved ≤ index
 
 -- What is so in each state that is reached with verified programs.

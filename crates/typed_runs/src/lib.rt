@@ -42,7 +42,7 @@ ghost use Rattle.model_laws.specs.Example.{lookup_and_load, lookup_program, exam
 ghost use Rattle.typed_runs.specs.Kinds.{Kind, Num, FrameAt, ValueAt, MaybeNull, PartCell, AbsState};
 ghost use Rattle.typed_runs.specs.Describes.{Scene, scene_of, HasOffset, Describes};
 ghost use Rattle.typed_runs.specs.Effects.{with_kind, with_cells, after_call, after_lock, after_unlock, when_null, when_there, IsFresh, IsAlwaysInside, HasMap, HasBytes, IsWritten, IsPointer, IsNumberOperand};
-ghost use Rattle.typed_runs.specs.Verified.{Plan, Transfers, TransfersAlone, is_call, IsClosed, IsVerified};
+ghost use Rattle.typed_runs.specs.Verified.{Plan, Transfers, TransfersAlone, is_call, AreMapsBound, IsPlanned, IsClosed, IsVerified};
 ghost use Rattle.typed_runs.specs.Planned.{Wider, AreAlike, Joins, IsPlanKept};
 ghost use Rattle.bpf_model.specs.declared.value.Reference.{Reference};
 ghost use Rattle.bpf_model.specs.Element.{Element};
@@ -231,6 +231,16 @@ pub fn well_never_stuck()
 pub fn reached_is_well()
     ensures { (shapes : List MapShape) (programs : List Loaded) (s : Schedule)
         → AreVerified shapes programs → IsReachedSchedule shapes programs s → IsWell s.machine }
+{}
+
+/// In a well machine a run that has not ended is described by whatever verifies its program against the shapes
+/// of the program's maps.
+pub fn each_plan_describes()
+    ensures { (m : Machine) (r : ℕ) (run : Run) → IsWell m → run_at m.runs r ≡ Some run
+        → run.exit ≡ None → (shapes : List MapShape)
+        → AreMapsBound shapes run.program.maps m.store.maps
+        → (v : IsVerified run.program.code shapes run.program.context_len)
+        → (k : ℕ) × IsPlanned run.program.code v.plan k (scene_of m.store.elements run) run.state }
 {}
 
 /// No state of a history from a well state is stuck.
