@@ -1,5 +1,6 @@
 pub mod Workspaces
 pub mod Moves
+pub mod Regions
 pub mod Replies
 pub mod Requests
 pub mod RunWords

@@ -7,23 +7,26 @@ ghost use Rattle.bpf_model.specs.declared.insn.Insn.{Insn};
 ghost use Rattle.bpf_model.specs.Machine.{Loaded, Run};
 ghost use Rattle.bpf_model.specs.Schedule.{Schedule};
 ghost use Rattle.bpf_model.specs.Step.{insn_at};
-ghost use Rattle.bpf_model.specs.View.{RunView, WorldView};
+ghost use Rattle.bpf_model.specs.View.{RunView, WorldView, shapes_of};
+ghost use Rattle.verifier.specs.Checked.{Checked};
 ghost use Rattle.view_laws.specs.Matching.{Matches};
 ghost use Rattle.world_laws.specs.Local.{local_of};
 ghost use Rattle.world_laws.specs.Reacting.{full_reaction, insn_step};
 ghost use Rattle.world_laws.specs.Typed.{IsSound, IsRunning};
 ghost use Rattle.machine.specs.declared.access.Access.{Access};
 ghost use Rattle.machine.specs.declared.access.Local.{Local};
+ghost use Rattle.machine.specs.Regions.{IsCodeOf};
 ghost use Rattle.machine.specs.Replies.{IsOwnStep, ServesAccess};
 ghost use Rattle.machine.specs.Requests.{access_of};
 ghost use Rattle.machine.specs.Steps.{CanStep, CanResume, IsLocalStep};
 
-/// A run that has not ended may step, by the code of its program.
+/// A run that has not ended may step, by the code of its program: whatever it reaches lies in the
+/// region that the code has noted.
 pub fn running_can_step()
     ensures { (w : WorldView) (s : Schedule) → Matches w s → IsSound w s →
         (r : ℕ) (run : Run) (v : RunView) → IsRunning w s r run v →
         (program : Loaded) → slice_get w.programs v.program ≡ Some program →
-        CanStep program.code v }
+        (c : Checked) → IsCodeOf c (shapes_of w) program → CanStep c v }
 {}
 
 /// Where the instruction of a run that has not ended asks something, the run may resume after the
