@@ -3,6 +3,7 @@ pub mod Cells
 pub mod Sure
 pub mod Shown
 pub mod Places
+pub mod Binding
 pub mod Bytes
 pub mod Ready
 pub mod Own

@@ -123,7 +123,7 @@ module _ (w : WorldView) (s : Schedule) (m : Matches w s) (sound : IsSound w s) 
   pub near-after : (i : Insn) (next : State) → insn_at run.program.code run.state.place ≡ Some i → InsnStep i s.machine.store (open_sections s.machine.runs) run Moved s.machine.store (moves run next) → AreNear next.regs next.frame
   near-after i next here step =
       let t = typed s.machine r run sound.well k.there k.going in
-      let l = t.safe.verified.closed.leads t.index i s.machine.store (open_sections s.machine.runs) run Moved s.machine.store (moves run next) (surrounds s.machine r run sound.well k.there k.going t) t.planned here step in
+      let l = t.safe.verified.closed.leads t.index i s.machine.store (open_sections s.machine.runs) run Moved s.machine.store (moves run next) (surrounds s.machine r run sound.well k.there k.going t) (t.planned t.safe.verified) here step in
       (l.1 k.going).planned.describes.near
 
   -- the words after a move

@@ -14,7 +14,7 @@ use Rattle.bpf_model.specs.MachineStep.{found_value}
 use Rattle.bpf_model.specs.Near.{IsNear}
 use Rattle.typed_runs.specs.Kinds.{Kind, Blank, Mixed, Ended, Num, CtxAt, FrameAt, MapAt, ValueAt, MaybeNull, AbsState}
 use Rattle.typed_runs.specs.Describes.{Scene, scene_of, IsHeld, Naming, IsNullOrHeld, IsOf, AreNear, Describes}
-use Rattle.typed_runs.specs.Verified.{HasStep}
+use Rattle.typed_runs.specs.Verified.{HasStep, IsPlanned}
 use Rattle.typed_runs.specs.Well.{IsTyped, IsWell}
 use Rattle.typed_runs.proofs.Reaching.{surrounds}
 
@@ -80,11 +80,15 @@ module _ (m : Machine) (r : ℕ) (run : Run) (w : IsWell m) (at : run_at m.runs 
   abbrev pub typed : IsTyped m.store run
   typed = w.runs r run at going
 
+  -- what its own verification says of it
+  abbrev described : IsPlanned run.program.code typed.safe.verified.plan typed.index (scene_of m.store.elements run) run.state
+  described = typed.planned typed.safe.verified
+
   pub run-near : AreNear run.state.regs run.state.frame
-  run-near = typed.planned.describes.near
+  run-near = described.describes.near
 
   -- a loose register is emptied, and there is a step all the same
-  steps-emptied : (q : ℕ) → IsLoose (typed.planned.known.regs q) → (i : Insn) × (insn_at run.program.code run.state.place ≡ Some i) × HasStep i m.store (open_sections m.runs) (emptied_run q run)
+  steps-emptied : (q : ℕ) → IsLoose (described.known.regs q) → (i : Insn) × (insn_at run.program.code run.state.place ≡ Some i) × HasStep i m.store (open_sections m.runs) (emptied_run q run)
   steps-emptied q l =
       let s = surrounds m r run w at going typed in
       typed.safe.verified.closed.goes typed.index m.store (open_sections m.runs) (emptied_run q run) (record {
@@ -97,14 +101,14 @@ module _ (m : Machine) (r : ℕ) (run : Run) (w : IsWell m) (at : run_at m.runs 
         long = s.long;
         context = s.context;
       }) (record {
-        at = typed.planned.at;
-        known = typed.planned.known;
-        planned = typed.planned.planned;
-        describes = describes-emptied typed.planned.known (scene_of m.store.elements run) run.state q l typed.planned.describes;
+        at = described.at;
+        known = described.known;
+        planned = described.planned;
+        describes = describes-emptied described.known (scene_of m.store.elements run) run.state q l described.describes;
       })
 
   -- where there is none, the register is sure
   pub sure : (i : Insn) (q : ℕ) → insn_at run.program.code run.state.place ≡ Some i → (HasStep i m.store (open_sections m.runs) (emptied_run q run) → ⊥) → IsSure (scene_of m.store.elements run) (run.state.regs q)
   sure i q here stuck =
-      sure-of (scene_of m.store.elements run) typed.planned.describes.naming (typed.planned.known.regs q) (run.state.regs q) (typed.planned.describes.regs q)
+      sure-of (scene_of m.store.elements run) described.describes.naming (described.known.regs q) (run.state.regs q) (described.describes.regs q)
       (λ l. let s = steps-emptied q l in stuck (subst (λ j. HasStep j m.store (open_sections m.runs) (emptied_run q run)) (same_Some s.0 i (sym s.1 ∙ here)) s.2))
