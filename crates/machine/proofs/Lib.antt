@@ -5,5 +5,6 @@ pub mod Laws
 pub mod Locating
 pub mod Places
 pub mod Reacting
+pub mod Regions
 pub mod Serving
 pub mod Standing
