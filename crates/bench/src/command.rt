@@ -1,9 +1,9 @@
 //! The words of the command line.
-ghost use Rattle.std.specs.Prelude.{◌≡◌, ◌≤◌, ◌↔◌, [], IfOk, Ok};
+ghost use Rattle.std.specs.Prelude.{◌≡◌, ◌<◌, ◌≤◌, ◌↔◌, [], IfOk, Ok};
 ghost use Rattle.std.specs.Str.Parse.{digits_value, without_leading_plus};
 ghost use Rattle.bpf_model.specs.declared.limits.TheConstants.{CTX_BYTES};
 ghost use Rattle.bench.specs.declared.command.Command.TheVariants.{Samples};
-ghost use Rattle.bench.specs.Words.{IsAskedBy};
+ghost use Rattle.bench.specs.Words.{IsAskedBy, word_of};
 
 use bpf_model::CTX_BYTES;
 use thiserror::Error;
@@ -14,16 +14,38 @@ pub enum Command<'a> {
     /// Run the programs that are built in, and go through the activities of worlds, and print what they came to.
     Samples,
     /// Measure the program in a file on a context of this many bytes, at most `CTX_BYTES`.
-    Run { file: &'a str, ctx_len: usize },
+    Run {
+        file: &'a str,
+        ctx_len: usize,
+    },
+    /// Do one thing so many times with the program in a file, for a context of this many bytes, at most
+    /// `CTX_BYTES`, and nothing more, so that a tool which counts instructions can count it.
+    Repeat {
+        deed: Repeated,
+        file: &'a str,
+        ctx_len: usize,
+        times: u32,
+    },
+}
+
+/// What is done again and again.
+#[derive(Clone, Copy, Debug, PartialEq, Eq)]
+pub enum Repeated {
+    /// A run of the program, to its exit.
+    Runs,
+    /// A verification of the program.
+    Verifications,
 }
 
 /// Why the words are no command.
 #[derive(Debug, Drop, Error)]
 pub enum UsageFault {
-    #[error("usage: bench [run FILE CTX_LEN | world [[shared | pool | script] time]]")]
+    #[error("usage: bench [run FILE CTX_LEN | (repeat | verify) FILE CTX_LEN TIMES | world [[shared | pool | script] time | repeat ACTIVITY TIMES]]")]
     Words,
     #[error("CTX_LEN is not a number from 0 to 256")]
     Length,
+    #[error("TIMES is not a number from 1 to 4294967295")]
+    Times,
 }
 
 /// The length of a context, in decimal digits.
@@ -37,7 +59,30 @@ fn context_length(word: &str) -> Result<usize, UsageFault>
     }
 }
 
-/// The command that the words after the program's own ask for: none, or `run FILE CTX_LEN`.
+/// A number of times, in decimal digits.
+pub fn number_of_times(word: &str) -> Result<u32, UsageFault>
+    ensures value { IfOk result (λ n. digits_value 10 (without_leading_plus word.now) ≡ n) }
+    ensures some { IfOk result (λ n. 0 < n) }
+{
+    match word.parse::<u32>() {
+        Ok(times) if times > 0 => Ok(times),
+        _ => Err(UsageFault::Times),
+    }
+}
+
+/// What the first of four words asks to be done again and again.
+fn repeated(verb: &str) -> Result<Repeated, UsageFault>
+    ensures { IfOk result (λ deed. word_of deed ≡ verb.now) }
+{
+    match verb {
+        "repeat" => Ok(Repeated::Runs),
+        "verify" => Ok(Repeated::Verifications),
+        _ => Err(UsageFault::Words),
+    }
+}
+
+/// The command that the words after the program's own ask for: none, `run FILE CTX_LEN`, or
+/// `repeat FILE CTX_LEN TIMES` or `verify FILE CTX_LEN TIMES`.
 pub fn parse_words<'a>(words: &'a [String]) -> Result<Command<'a>, UsageFault>
     ensures samples { (words.now ≡ []) ↔ (result ≡ Ok Samples) }
     ensures asked { IfOk result (λ c. IsAskedBy words.now c) }
@@ -47,6 +92,12 @@ pub fn parse_words<'a>(words: &'a [String]) -> Result<Command<'a>, UsageFault>
         [verb, file, length] if verb.as_str() == "run" => Ok(Command::Run {
             file: file.as_str(),
             ctx_len: context_length(length.as_str())?,
+        }),
+        [verb, file, length, times] => Ok(Command::Repeat {
+            deed: repeated(verb.as_str())?,
+            file: file.as_str(),
+            ctx_len: context_length(length.as_str())?,
+            times: number_of_times(times.as_str())?,
         }),
         _ => Err(UsageFault::Words),
     }

@@ -1,8 +1,9 @@
 //! `bench`: what runs of programs and events of worlds come to, and how long they and verifications take.
 #![tactic(auto)]
 
-ghost use Rattle.std.specs.Prelude.{◌≤◌};
+ghost use Rattle.std.specs.Prelude.{◌≤◌, IfOk};
 ghost use Rattle.bpf_model.specs.declared.limits.TheConstants.{CTX_BYTES};
+ghost use Rattle.bench.specs.Trials.{IsReadyTrial};
 
 mod command;
 mod measure;
@@ -12,8 +13,8 @@ mod trial;
 mod worlds;
 
 use anyhow::{Result, bail};
-use command::{Command, parse_words};
-use measure::{Timed, time_per_call_part};
+use command::{Command, Repeated, parse_words};
+use measure::{Timed, repeat_runs, repeat_verifications, time_per_call_part};
 use measurements::measurement_line;
 use report::sample_line;
 use samples::samples;
@@ -22,7 +23,7 @@ use std::rt::Clock;
 use std::sync::Wait;
 use std::thread::Threads;
 use std::{env, fs};
-use trial::{counted_run, trial_of};
+use trial::{Trial, counted_run, trial_of};
 use worlds::command::{Command as WorldCommand, parse_words as parse_world_words};
 use worlds::outputs::lines_of;
 
@@ -36,16 +37,47 @@ fn print_samples(rt: &HostRuntime) -> Result<()> {
     Ok(())
 }
 
+/// The program in a file, verified for a context of this length.
+fn trial_in(rt: &HostRuntime, file: &str, ctx_len: usize) -> Result<Trial>
+    requires { ctx_len ≤ CTX_BYTES }
+    ensures { IfOk result IsReadyTrial }
+{
+    match fs::read(rt, file) {
+        Ok(bytes) => trial_of(rt.alloc(), bytes.as_slice(), ctx_len),
+        Err(error) => bail!("{file}: {error}"),
+    }
+}
+
+/// Does one thing so many times with the program in a file, and prints one line.
+fn repeat_file(
+    rt: &HostRuntime,
+    deed: Repeated,
+    file: &str,
+    ctx_len: usize,
+    times: u32,
+) -> Result<()>
+    requires { ctx_len ≤ CTX_BYTES }
+{
+    let trial = trial_in(rt, file, ctx_len)?;
+    match deed {
+        Repeated::Runs => {
+            let exit = repeat_runs(&trial, times);
+            println!(rt; "exit {exit}")?;
+        }
+        Repeated::Verifications => {
+            repeat_verifications(rt.alloc(), &trial, times)?;
+            println!(rt; "accepted")?;
+        }
+    }
+    Ok(())
+}
+
 /// Measures the program in a file on a context of this length, and prints four lines.
 fn measure_file(rt: &HostRuntime, file: &str, ctx_len: usize) -> Result<()>
     requires { ctx_len ≤ CTX_BYTES }
 {
     let alloc = rt.alloc();
-    let bytes = match fs::read(rt, file) {
-        Ok(bytes) => bytes,
-        Err(error) => bail!("{file}: {error}"),
-    };
-    let trial = trial_of(alloc, bytes.as_slice(), ctx_len)?;
+    let trial = trial_in(rt, file, ctx_len)?;
     let finished = counted_run(&trial);
     let exit = finished.value;
     let instructions = finished.steps;
@@ -63,7 +95,7 @@ fn measure_file(rt: &HostRuntime, file: &str, ctx_len: usize) -> Result<()>
 fn print_world<H: Threads + Wait + Clock + Sync>(
     rt: &HostRuntime,
     handle: &H,
-    command: WorldCommand,
+    command: WorldCommand<'_>,
 ) -> Result<()> {
     for line in lines_of(handle, rt.alloc(), command)? {
         rt.println(line)?;
@@ -99,6 +131,14 @@ fn perform_program<H: Threads + Wait + Clock + Sync>(
             print_world(rt, handle, WorldCommand::Answers)?;
         }
         Ok(Command::Run { file, ctx_len }) => measure_file(rt, file, ctx_len)?,
+        Ok(
+            Command::Repeat {
+                deed,
+                file,
+                ctx_len,
+                times,
+            },
+        ) => repeat_file(rt, deed, file, ctx_len, times)?,
         Err(fault) => {
             eprintln!(rt; "{fault}")?;
             return Ok(ExitCode::from(2));

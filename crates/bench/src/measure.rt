@@ -34,18 +34,44 @@ fn by_parity<'a>(number: u64, even: &'a CtxBytes, odd: &'a CtxBytes) -> &'a CtxB
     if number % 2 == 0 { even } else { odd }
 }
 
-/// Times runs of the program. The exit before decides on which of two equal contexts each is made, so
-/// that no compiler can take the runs out of the loop.
+/// The exit value of the last of so many runs of the program. The exit before decides on which of two equal
+/// contexts each is made, so that no compiler can take the runs out of the loop.
+fn last_exit(trial: &Trial, copy: &CtxBytes, calls: u32) -> u64
+    requires ready { IsReadyTrial trial.now }
+    requires copy { length copy.now.items ≡ length trial.now.ctx.items }
+{
+    let mut exit = 0;
+    for _ in 0..calls {
+        exit = run_to_exit(&trial.verified, by_parity(exit, &trial.ctx, copy)).value;
+    }
+    exit
+}
+
+/// The exit value of the program, after so many runs of it and no more.
+pub fn repeat_runs(trial: &Trial, times: u32) -> u64
+    requires { IsReadyTrial trial.now }
+{
+    let copy = counting_bytes(trial.verified.ctx_len());
+    last_exit(trial, &copy, times)
+}
+
+/// Verifies copies of the program so many times more.
+pub fn repeat_verifications(alloc: Global, trial: &Trial, times: u32) -> Result<()> {
+    for _ in 0..times {
+        let program = trial.verified.program().copy(alloc)?;
+        let _verified = verify(alloc, program, &[], trial.verified.ctx_len())?;
+    }
+    Ok(())
+}
+
+/// Times runs of the program.
 fn time_runs(clock: &impl Clock, trial: &Trial, calls: u32) -> Result<Duration>
     requires { IsReadyTrial trial.now }
 {
     let copy = counting_bytes(trial.verified.ctx_len());
     let expected = counted_run(trial).value;
-    let mut exit = expected;
     let start = Instant::now(clock)?;
-    for _ in 0..calls {
-        exit = run_to_exit(&trial.verified, by_parity(exit, &trial.ctx, &copy)).value;
-    }
+    let exit = last_exit(trial, &copy, calls);
     let time = start.elapsed(clock)?;
     ensure!(
         exit == expected,

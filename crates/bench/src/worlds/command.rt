@@ -2,11 +2,12 @@
 ghost use Rattle.std.specs.Prelude.{◌≡◌, ◌≢◌, ◌↔◌, [], Ok};
 ghost use Rattle.bench.specs.declared.worlds.command.Command.TheVariants.{Answers};
 
+use crate::command::number_of_times;
 use thiserror::Error;
 
 /// What is asked of worlds.
 #[derive(Clone, Copy)]
-pub enum Command {
+pub enum Command<'a> {
     /// Print what the events of each activity are answered.
     Answers,
     /// Print how long each activity takes.
@@ -17,30 +18,42 @@ pub enum Command {
     PoolTimes,
     /// Print how long a line of a script takes.
     ScriptTimes,
+    /// Go through so many rounds of the activity of this name, and no more, so that a tool which counts
+    /// instructions can count them; print what its events were answered.
+    Repeat { activity: &'a str, times: u32 },
 }
 
 /// Why the words are no command.
 #[derive(Debug, Drop, Error)]
 pub enum UsageFault {
-    #[error("usage: bench world [[shared | pool | script] time]")]
+    #[error("usage: bench world [[shared | pool | script] time | repeat ACTIVITY TIMES]")]
     Words,
+    #[error("TIMES is not a number from 1 to 4294967295")]
+    Times,
 }
 
-/// The command that the words after `bench world` ask for: none, `time`, or `time` after
-/// `shared`, `pool` or `script`.
-pub fn parse_words(words: &[String]) -> Result<Command, UsageFault>
+/// The command that the words after `bench world` ask for: none, `time`, `time` after `shared`, `pool` or
+/// `script`, or `repeat ACTIVITY TIMES`.
+pub fn parse_words<'a>(words: &'a [String]) -> Result<Command<'a>, UsageFault>
     ensures answers { (words.now ≡ []) ↔ (result ≡ Ok Answers) }
 {
     match words {
         [] => Ok(Command::Answers),
         [word] if word.as_str() == "time" => Ok(Command::Times),
         [first, second] if second.as_str() == "time" => parse_subject(first),
+        [first, activity, times] if first.as_str() == "repeat" => match number_of_times(times) {
+            Ok(times) => Ok(Command::Repeat {
+                activity: activity.as_str(),
+                times,
+            }),
+            Err(_) => Err(UsageFault::Times),
+        },
         _ => Err(UsageFault::Words),
     }
 }
 
 /// The command that the word before `time` asks for.
-fn parse_subject(word: &str) -> Result<Command, UsageFault>
+fn parse_subject<'a>(word: &str) -> Result<Command<'a>, UsageFault>
     ensures { result ≢ Ok Answers }
 {
     match word {

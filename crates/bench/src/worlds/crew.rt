@@ -200,6 +200,28 @@ fn time_of<L: Ledger + Send + Sync, R: Threads + Wait + Clock + Sync>(
     Ok(start.elapsed(rt)?)
 }
 
+/// One worker makes the calls of so many batches; how many calls they were.
+pub fn repeat_calls<L: Ledger + Send + Sync, R: Threads + Wait + Clock + Sync>(
+    rt: &R,
+    alloc: Global,
+    blank: Blank,
+    task: Task,
+    times: u32,
+) -> Result<u64>
+    requires name { blank.name ≡ L.name }
+    requires parts { (blank.parts ≡ L.parts) × (blank.parts ≡ 1) }
+{
+    let world = make_world(alloc, &activity())?;
+    if !is_quiet(&world) {
+        bail!("a run was left");
+    }
+    let (shared, mut all_workers, _) = Shared::<L>::new(alloc, world, 1, blank)?;
+    for _ in 0..times {
+        time_of(rt, &shared, &mut all_workers.list, task, CALLS)?;
+    }
+    Ok(u64::from(times) * u64::from(CALLS))
+}
+
 /// The time of one call in nanoseconds: all calls of the quickest batch after one another.
 pub fn time_per_call<L: Ledger + Send + Sync, R: Threads + Wait + Clock + Sync>(
     rt: &R,

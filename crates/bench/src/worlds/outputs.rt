@@ -2,15 +2,16 @@
 ghost use Rattle.std.specs.Prelude.{◌<◌, ◌≤◌};
 ghost use Rattle.shared.specs.declared.worker.TheConstants.{MAX_WORKERS};
 
-use crate::worlds::activity::activities;
+use crate::worlds::activity::{Activity, activities};
 use crate::worlds::command::Command;
-use crate::worlds::crew::{Crew, crews, time_per_call};
+use crate::worlds::crew::{Crew, crews, repeat_calls, time_per_call};
 use crate::worlds::measure::time_per_part;
 use crate::worlds::pool::time_per_job;
 use crate::worlds::report::answers_line;
 use crate::worlds::scripts::time_per_line;
 use crate::worlds::setup::make_setup;
-use anyhow::Result;
+use crate::worlds::tally::Tally;
+use anyhow::{Result, bail};
 use measurements::measurement_line;
 use shared::MAX_WORKERS;
 use std::alloc::Global;
@@ -109,11 +110,65 @@ fn script_lines(clock: &impl Clock, alloc: Global) -> Result<Vec<String>> {
     Ok(lines)
 }
 
-/// The lines that a command prints. All but those of `Answers` are times, which differ from call to call.
+/// Goes through so many rounds of an activity, and says what its events were answered.
+fn repeated_activity(alloc: Global, activity: &Activity, times: u32) -> Result<String> {
+    let mut setup = make_setup(alloc, activity)?;
+    let mut tally = Tally::default();
+    for _ in 0..times {
+        setup.round_into(&mut tally);
+    }
+    Ok(answers_line(alloc, activity.name, &tally)?)
+}
+
+/// Has a crew of one worker make the calls of so many batches, and says how many they were.
+fn repeated_crew<R: Threads + Wait + Clock + Sync>(
+    rt: &R,
+    alloc: Global,
+    crew: &Crew,
+    times: u32,
+) -> Result<String> {
+    let calls = repeat_calls::<Brand, R>(rt, alloc, Blank::new(1), crew.task, times)?;
+    Ok(format!(in alloc; "{} calls {calls}", crew.name)?)
+}
+
+/// The line of so many rounds of the activity of a name, or of the calls of the crew of one worker of that name.
+fn repeated_line<R: Threads + Wait + Clock + Sync>(
+    rt: &R,
+    alloc: Global,
+    name: &str,
+    times: u32,
+) -> Result<String> {
+    for activity in activities() {
+        if activity.name == name {
+            return repeated_activity(alloc, &activity, times);
+        }
+    }
+    for crew in crews() {
+        if crew.name == name && crew.workers == 1 {
+            return repeated_crew(rt, alloc, &crew, times);
+        }
+    }
+    bail!("no activity {name}, and no crew of one worker")
+}
+
+/// The lines of so many rounds of an activity.
+fn repeated_lines<R: Threads + Wait + Clock + Sync>(
+    rt: &R,
+    alloc: Global,
+    name: &str,
+    times: u32,
+) -> Result<Vec<String>> {
+    let mut lines = Vec::new(alloc);
+    lines.push(repeated_line(rt, alloc, name, times)?)?;
+    Ok(lines)
+}
+
+/// The lines that a command prints. All but those of `Answers` and `Repeat` are times, which
+/// differ from call to call.
 pub fn lines_of<R: Threads + Wait + Clock + Sync>(
     rt: &R,
     alloc: Global,
-    command: Command,
+    command: Command<'_>,
 ) -> Result<Vec<String>> {
     match command {
         Command::Answers => answers_lines(alloc),
@@ -121,5 +176,6 @@ pub fn lines_of<R: Threads + Wait + Clock + Sync>(
         Command::SharedTimes => shared_lines(rt, alloc),
         Command::PoolTimes => pool_lines(rt, alloc),
         Command::ScriptTimes => script_lines(rt, alloc),
+        Command::Repeat { activity, times } => repeated_lines(rt, alloc, activity, times),
     }
 }

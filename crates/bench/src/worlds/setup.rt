@@ -219,12 +219,17 @@ impl Setup {
         }
     }
 
+    /// One round, whose answers are counted further.
+    pub fn round_into(&mut self, tally: &mut Tally) {
+        self.begin();
+        self.go(tally);
+        self.end();
+    }
+
     /// What the events of one round are answered.
     pub fn round(&mut self) -> Tally {
         let mut tally = Tally::default();
-        self.begin();
-        self.go(&mut tally);
-        self.end();
+        self.round_into(&mut tally);
         tally
     }
 }
