@@ -1,6 +1,6 @@
 -- What a step of a run by itself comes to.
 use Rattle.std.proofs.Common.{◌≡◌, ℕ, suc, ◌+◌, ◌<◌, List, length, Option, Some, None, Bool, true, false, inl, inr, refl, sym, ap, subst, ◌∙◌, arith, ℤ}
-use Rattle.std.specs.Prelude.{slice_get, slice_set, option_map}
+use Rattle.std.specs.Prelude.{slice_get, slice_set, option_map, map}
 use Rattle.std.proofs.lemmas.Bool.{false≢true}
 use Rattle.std.proofs.lemmas.Option.{none-some, same_Some}
 use Rattle.bpf_model.specs.declared.call.KernelFunction.{KernelFunction}
@@ -125,8 +125,13 @@ module _ (v : Checked) (view : RunView) (x : StandsAlone v view) where
   loaded = ap (λ (ps : List Loaded). slice_get ps view.program) matches.refines.programs ∙ refined.program ∙ ap Some x.program
 
   -- the run's steps may be made, and those that ask may be resumed
-  pub steps : CanStep v.program view
-  steps = can_step x.world x.schedule matches sound 0 x.run view x.running (loaded_alone v) loaded
+  pub steps : CanStep v view
+  steps = can_step x.world x.schedule matches sound 0 x.run view x.running (loaded_alone v) loaded v (record {
+    justified = x.justified;
+    code = refl;
+    context = refl;
+    bound = sym (ap (map Some) x.without_maps);
+  })
 
   pub resumes : (insn : Insn) (access : Access) → insn_at v.program view.place ≡ Some insn → access_of insn view ≡ Some access → CanResume v.program view
   resumes insn access = can_resume x.world x.schedule matches sound 0 x.run view x.running (loaded_alone v) loaded insn access
@@ -208,6 +213,8 @@ module _ (v : Checked) (view : RunView) (x : StandsAlone v view) where
       let moved : new.moved ≡ view.moved + 1 = omega (arith, after.moved, g.same.counts, refined.moved) in
       record {
         stands = record {
+          justified = x.justified;
+          without_maps = x.without_maps;
           world = w;
           schedule = g.next;
           run = g.run;

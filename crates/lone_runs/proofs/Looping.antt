@@ -17,12 +17,13 @@ use Rattle.verifier.specs.Verdict.{IsJustified}
 use Rattle.verifier.proofs.Plans.{length_slots}
 use Rattle.machine.specs.declared.access.Access.{Access}
 use Rattle.machine.specs.declared.access.Next.{Next}
-use Rattle.machine.specs.declared.access.Next.TheVariants.{At, Exit, Shared}
+use Rattle.machine.specs.declared.access.Next.TheVariants.{At, Exit, On, Shared}
+use Rattle.machine.specs.declared.step.Halt.{Halt}
 use Rattle.machine.specs.declared.workspace.Workspace.{Workspace}
 use Rattle.machine.specs.Requests.{access_of, entered_view, resumed_view}
 use Rattle.machine.specs.RunWords.{run_words}
 use Rattle.machine.specs.Steps.{IsLocalStep}
-use Rattle.machine.specs.Workspaces.{CanDo, Does, IsFreshWorkspace, moved_on, told, view_after, view_at}
+use Rattle.machine.specs.Workspaces.{CanDo, CanGoOn, Does, HasGoneOn, HasMoved, IsFreshWorkspace, IsMove, index_after, moved_on, not_yet, once_more, told, view_after, view_at}
 use Rattle.machine.proofs.Places.{insn_there, next_place}
 use Rattle.machine.proofs.Serving.{can_do}
 use Rattle.lone_runs.specs.Lone.{StandsAlone, loaded_alone}
@@ -75,10 +76,15 @@ module _ (c : Checked) (context : List ℕ) (index moved : ℕ) (w : Workspace) 
       subst (λ (n : Next). IsLocalStep (laws.local_of insn before) (access_of insn before) before (told n) (view_after c.program context index n new b.view)) e
       (does insn (insn_there c.program index before.place insn here refl) b.view).step
 
-  pub loop_moves : (new : Workspace) (result : Next) (next : ℕ) → Did new result → result ≡ At next → StandsBefore c context next (moved + 1) new
-  loop_moves new result next does e =
-      let f = moves c before b.stands (view_after c.program context index (At next) new b.view) (step_to new result (At next) does e) in
+  pub loop_moves : (new : Workspace) (next : Next) → Did new next → IsMove next → StandsBefore c context (index_after index next) (moved + 1) new
+  loop_moves new On does m =
+      let f = moves c before b.stands (view_after c.program context index On new b.view) (step_to new On On does refl) in
       record { view = moved_on b.view; stands = f.stands; moved_is = ap (λ (n : ℕ). n + 1) b.moved_is }
+  loop_moves new (At target) does m =
+      let f = moves c before b.stands (view_after c.program context index (At target) new b.view) (step_to new (At target) (At target) does refl) in
+      record { view = moved_on b.view; stands = f.stands; moved_is = ap (λ (n : ℕ). n + 1) b.moved_is }
+  loop_moves new (Shared access) does m = absurd m
+  loop_moves new (Exit n) does m = absurd m
 
   -- the exit, after so many moves
   pub loop_exits : (new : Workspace) (result : Next) (n : ℕ) → Did new result → result ≡ Exit n → ExitsWith (loaded_alone c) context (moved + 1) n
@@ -115,3 +121,44 @@ module _ (c : Checked) (context : List ℕ) (index moved : ℕ) (w : Workspace) 
         stands = subst (StandsAlone c) (entered_at a.function new place) f.stands;
         moved_is = entered_moved a.function;
       }
+
+-- after further moves, one after another
+pub along : (c : Checked) (context : List ℕ) (from before : ℕ) (start : Workspace) → StandsBefore c context from before start → (moved index : ℕ) (w : Workspace)
+    → HasMoved c.program context from start moved index w → StandsBefore c context index (before + moved) w
+along c context from before start b moved index w not_yet = subst (λ (n : ℕ). StandsBefore c context from n start) (omega arith) b
+along c context from before start b moved index w (once_more so_far at mid new next h m does) =
+    subst (λ (n : ℕ). StandsBefore c context (index_after at next) n new) (omega arith)
+    (loop_moves c context at (before + so_far) mid (along c context from before start b so_far at mid h) new next does m)
+
+module _ (c : Checked) (context : List ℕ) (from before most : ℕ) (start : Workspace) (b : StandsBefore c context from before start) where
+  pub loop_can_go_on : CanGoOn c context from most start
+  loop_can_go_on = λ moved index w below h. loop_can c context index (before + moved) w (along c context from before start b moved index w h)
+
+  module _ (halt : Halt) (new : Workspace) (h : HasGoneOn c.program context from most start halt new) where
+    abbrev last : StandsBefore c context halt.index (before + halt.moved) h.mid
+    last = along c context from before start b halt.moved halt.index h.mid h.moves
+
+    behind : (index : ℕ) → StandsBefore c context index (before + halt.moved + 1) new → StandsBefore c context index (before + (halt.moved + 1)) new
+    behind index s = subst (λ (n : ℕ). StandsBefore c context index n new) (omega arith) s
+
+    pub halts_on : halt.next ≡ On → StandsBefore c context (halt.index + 1) (before + (halt.moved + 1)) new
+    halts_on e = behind (halt.index + 1) (loop_moves c context halt.index (before + halt.moved) h.mid last new On (subst (λ (n : Next). (insn : Insn) → Does c.program context insn halt.index h.mid n new) e h.last) tt)
+
+    pub halts_at : (target : ℕ) → halt.next ≡ At target → StandsBefore c context target (before + (halt.moved + 1)) new
+    halts_at target e = behind target (loop_moves c context halt.index (before + halt.moved) h.mid last new (At target) (subst (λ (n : Next). (insn : Insn) → Does c.program context insn halt.index h.mid n new) e h.last) tt)
+
+    pub halts_shared : (access : Access) → halt.next ≡ Shared access → StandsBefore c context (halt.index + 1) (before + (halt.moved + 1)) new
+    halts_shared access e = behind (halt.index + 1) (loop_passes c context halt.index (before + halt.moved) h.mid last new halt.next access h.last e)
+
+    pub halts_exited : (n : ℕ) → halt.next ≡ Exit n → ExitsWith (loaded_alone c) context (before + halt.moved + 1) n
+    halts_exited n e = loop_exits c context halt.index (before + halt.moved) h.mid last new halt.next n h.last e
+
+    -- so often it has moved, and so far it has come
+    pub halts_below : before + halt.moved < length c.program
+    halts_below = loop_below c context halt.index (before + halt.moved) h.mid last
+
+    pub halts_limit : IsJustified c → before + halt.moved < MAX_SLOTS
+    halts_limit = loop_limit c context halt.index (before + halt.moved) h.mid last
+
+    pub halts_room : IsJustified c → halt.index < MAX_SLOTS
+    halts_room = loop_room c context halt.index (before + halt.moved) h.mid last

@@ -35,7 +35,7 @@ one : (P : Loaded → Type 0) (program : Loaded) → P program → (p : ℕ) (q 
 one P program h zero q e = subst P (same_Some program q e) h
 one P program h (suc p) q e = absurd (none-some q e)
 
-module _ (v : Checked) (justified : IsJustified v) (verified : IsVerified v.program [] v.ctx_len) (context : List ℕ) (long : length context ≡ v.ctx_len) (bytes : AreBytes context) where
+module _ (v : Checked) (justified : IsJustified v) (without-maps : v.shapes ≡ []) (verified : IsVerified v.program [] v.ctx_len) (context : List ℕ) (long : length context ≡ v.ctx_len) (bytes : AreBytes context) where
   abbrev programs : List Loaded
   programs = loaded_alone v ∷ []
 
@@ -77,6 +77,8 @@ module _ (v : Checked) (justified : IsJustified v) (verified : IsVerified v.prog
   stands-by next tracks ready s =
       let same : s.program ≡ loaded_alone v = same_Some s.program (loaded_alone v) (sym s.there) in
       record {
+        justified = justified;
+        without_maps = without-maps;
         world = begun;
         schedule = next;
         run = fresh_run 0 (loaded_alone v) context;

@@ -9,6 +9,7 @@ use Rattle.bpf_model.specs.Holds.{HoldsState}
 use Rattle.model_laws.specs.Alone.{IsOwn}
 use Rattle.world_laws.specs.Typed.{IsReadyWorld, IsRunning}
 use Rattle.verifier.specs.Checked.{Checked}
+use Rattle.verifier.specs.Verdict.{IsJustified}
 use Rattle.machine.specs.RunWords.{RunWords, IsAt}
 use Rattle.lone_runs.specs.declared.step.Step.{Step}
 use Rattle.lone_runs.specs.declared.step.Step.TheVariants.{Moved, Exit}
@@ -17,10 +18,12 @@ use Rattle.lone_runs.specs.declared.step.Step.TheVariants.{Moved, Exit}
 abbrev pub loaded_alone : Checked → Loaded
 loaded_alone v = record { code = v.program; maps = []; context_len = v.ctx_len }
 
--- The words are those of a run of the program: some world that tracks a state of the machine shows
--- them of the run in run slot 0. It refers to its own context and frame alone, and where it exits
--- from here, it has exited so from its start.
+-- The words are those of a run of the program, which was verified with no maps: some world that
+-- tracks a state of the machine shows them of the run in run slot 0. It refers to its own context
+-- and frame alone, and where it exits from here, it has exited so from its start.
 pub record StandsAlone (v : Checked) (view : RunView) : Type 0 where
+  pub justified : IsJustified v
+  pub without_maps : v.shapes ≡ []
   pub world : WorldView
   pub schedule : Schedule
   pub run : Run

@@ -4,7 +4,7 @@ ghost use Rattle.bpf_model.specs.declared.limits.TheConstants.{MAX_SLOTS};
 ghost use Rattle.bpf_model.specs.Exit.{ExitsWith, MayExitWith};
 ghost use Rattle.lone_runs.specs.Lone.{loaded_alone};
 
-use bpf_model::{CtxBytes, are_bytes};
+use bpf_model::{CtxBytes, MAX_SLOTS, are_bytes};
 use machine::{Next, Workspace};
 use verifier::Verified;
 
@@ -32,27 +32,31 @@ pub fn run_to_exit(verified: &Verified, ctx: &CtxBytes) -> Finished
     ensures limit { result.steps ≤ MAX_SLOTS }
 {
     let _program = verified.program();
-    let records = verified.records();
     let context = ctx.as_slice();
     are_bytes(context);
     let mut workspace = Workspace::start();
     let mut index = 0;
     let mut moved = 0;
     'steps: loop {
-        match workspace.step_by(verified, records, context, index) {
-            Next::At(next) => {
-                index = next;
-                moved += 1;
+        let halt = workspace.go_on(verified, context, index, MAX_SLOTS);
+        match halt.next {
+            Next::On => {
+                index = halt.index + 1;
+                moved += halt.moved + 1;
+            }
+            Next::At(target) => {
+                index = target;
+                moved += halt.moved + 1;
             }
             // A lock or an unlock: a run alone asks nothing else.
             Next::Shared(_) => {
-                index += 1;
-                moved += 1;
+                index = halt.index + 1;
+                moved += halt.moved + 1;
             }
             Next::Exit(value) => {
                 return Finished {
                     value,
-                    steps: moved + 1,
+                    steps: moved + halt.moved + 1,
                 };
             }
         }

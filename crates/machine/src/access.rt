@@ -41,7 +41,9 @@ pub enum Local {
 /// Where an instruction leads.
 #[derive(Clone, Copy, Debug, PartialEq, Eq)]
 pub enum Next {
-    /// The run goes on with the instruction of this index.
+    /// The run goes on with the instruction behind this one.
+    On,
+    /// The run jumps to the instruction of this index.
     At(usize),
     /// The run is as before, and waits for the world's reply.
     Shared(Access),

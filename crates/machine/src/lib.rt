@@ -26,4 +26,5 @@ pub use law::{
 };
 pub use regions::{SLOT_BASE, SPAN};
 pub use run::Run;
+pub use step::Halt;
 pub use workspace::Workspace;

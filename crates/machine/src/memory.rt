@@ -73,7 +73,7 @@ fn offset_in(base: u64, address: u64, offset: i16) -> usize
 
 /// The number at an offset from an address of the region that has these bytes.
 #[inline(always)]
-fn number_in(bytes: &[u8], base: u64, address: u64, offset: i16, width: Width) -> u64
+pub(crate) fn number_in(bytes: &[u8], base: u64, address: u64, offset: i16, width: Width) -> u64
     requires inside { IsInside (length bytes.now) (byte_count width)
         (offset_from base address offset) }
     requires small { base + length bytes.now < 2 ^ 64 }

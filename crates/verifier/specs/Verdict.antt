@@ -50,7 +50,7 @@ pub record IsJustified (c : Checked) : Type 0 where
 -- The program is justified, and each of its instructions has its record.
 pub record IsRecorded (c : Checked) (records : List ResolvedInsn) : Type 0 where
   pub justified : IsJustified c
-  pub resolved : AreResolved c.program c.targets records
+  pub resolved : AreResolved c.program c.targets c.regions records
 
 -- a justified program is verified in the words of the laws
 abbrev pub verified_of : (c : Checked) → IsJustified c → IsVerified c.program c.shapes c.ctx_len

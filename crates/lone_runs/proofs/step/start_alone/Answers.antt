@@ -12,5 +12,5 @@ returns-clause-run c =
     let verified = subst (λ (shapes : List MapShape). IsVerified v.program shapes v.ctx_len) c.requires.maps c.program-program.ensures.verified in
     record {
       at = c.start.ensures.run v.program;
-      stands = subst (StandsAlone v) (sym c.start.ensures.view) (starts v c.program-program.ensures.justified verified c.args.ctx.now.items c.requires.context (subst AreBytes c.as_slice.ensures.value c.are_bytes.ensures));
+      stands = subst (StandsAlone v) (sym c.start.ensures.view) (starts v c.program-program.ensures.justified c.requires.maps verified c.args.ctx.now.items c.requires.context (subst AreBytes c.as_slice.ensures.value c.are_bytes.ensures));
     }
