@@ -3,8 +3,8 @@ pub mod Doing
 pub mod Landing
 pub mod Laws
 pub mod Locating
+pub mod Noted
 pub mod Places
 pub mod Reacting
-pub mod Regions
 pub mod Serving
 pub mod Standing

@@ -14,7 +14,7 @@ use Rattle.bpf_model.specs.declared.insn.Insn.{Insn}
 use Rattle.bpf_model.specs.declared.insn.Insn.TheVariants.{Store, Call}
 use Rattle.bpf_model.specs.Access.{byte_count}
 use Rattle.bpf_model.specs.Call.{helper_of, kernel_function_of}
-use Rattle.bpf_model.specs.Machine.{Loaded}
+use Rattle.bpf_model.specs.Machine.{Loaded, run_at}
 use Rattle.bpf_model.specs.Step.{insn_at}
 use Rattle.bpf_model.specs.View.{MapView, RunView, WorldView}
 use Rattle.model_laws.specs.Locations.{Location, InContext, InFrame, AtMap, InSlot}
@@ -24,8 +24,7 @@ use Rattle.view_laws.proofs.Reacting.{Keeps, reaction_keeps, retired-shape, upda
 use Rattle.world_laws.specs.Locating.{location_of}
 use Rattle.world_laws.specs.Moving.{word_in, operand_word, stored_slot, stored_at}
 use Rattle.world_laws.specs.Calling.{bytes_in, bound_number, serves, helper_called_on, helper_called, kernel_called}
-use Rattle.world_laws.specs.Reacting.{insn_step, step_at, step_in, run_step_of, or_step, full_reaction}
-use Rattle.std.specs.Option.{option_flatten}
+use Rattle.world_laws.specs.Reacting.{insn_step, step_at, step_in, run_step_of, word_step, or_step, full_reaction}
 
 module _ (w : WorldView) where
   slot-keeps : (width x : ℕ) (z : ℤ) (k slot : ℕ) (o : Option MapView) → slice_get w.maps k ≡ o → Keeps w (stored_slot width x z k o slot w)
@@ -60,7 +59,7 @@ module _ (w : WorldView) where
   entered-keeps (Some ReadUnlock) r v = (refl, refl)
   entered-keeps None r v = (refl, refl)
 
-  insn-keeps : (i : Insn) (program : Loaded) (r : ℕ) (v : RunView) → Keeps w (insn_step i program r v w).1
+  pub insn-keeps : (i : Insn) (program : Loaded) (r : ℕ) (v : RunView) → Keeps w (insn_step i program r v w).1
   insn-keeps (Call kinds.Helper imm) program r v = helped-keeps (helper_of imm) program r v
   insn-keeps (Call kinds.Kernel imm) program r v = entered-keeps (kernel_function_of imm) r v
   insn-keeps (Store width dst offset src) program r v = store-keeps (byte_count width) (operand_word v src) offset (location_of (word_in v dst)) r v
@@ -78,8 +77,11 @@ module _ (w : WorldView) where
   of-keeps (Some v) r = in-keeps (slice_get w.programs v.program) r v
   of-keeps None r = (refl, refl)
 
+  pub step-keeps : (r : ℕ) → Keeps w (word_step w r).1
+  step-keeps r = of-keeps (run_at w.runs r) r
+
   left-keeps : (event : Event) → Keeps w (or_step None w event).1
-  left-keeps (events.Step r) = of-keeps (option_flatten (slice_get w.runs r)) r
+  left-keeps (events.Step r) = step-keeps r
   left-keeps event = (refl, refl)
 
   either-keeps : (event : Event) (o : Option (Answer × WorldView)) → reaction w event ≡ o → Keeps w (or_step o w event).1
