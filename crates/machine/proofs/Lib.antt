@@ -1,6 +1,7 @@
 pub mod Acting
 pub mod Doing
 pub mod Landing
+pub mod GoingOn
 pub mod Laws
 pub mod Locating
 pub mod Noted
