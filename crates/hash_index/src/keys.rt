@@ -1,30 +1,40 @@
 //! Keys as they stand in their slots.
-ghost use Rattle.std.specs.Prelude.{◌≡◌, ◌<◌, ◌↔◌, length, IsTrue, option_copied};
+ghost use Rattle.std.specs.Prelude.{bytes_eq, ◌≡◌, ◌<◌, ◌↔◌, length, IsTrue, option_copied};
 ghost use Rattle.std.specs.Ordering.{nat_cmp, eq_by_cmp};
 ghost use Rattle.std.specs.Cmp.Lexicographic.{slice_cmp};
 ghost use Rattle.element_arena.specs.State.{key_at};
-ghost use Rattle.hash_index.specs.Chains.{bucket_of};
 ghost use Rattle.hash_index.specs.Order.{IsLess, IsAbove};
 
-use crate::hash::bucket;
+use crate::hash::{WORD_BYTES, word_at_start};
 use element_arena::Arena;
 
+/// Whether two byte strings of any lengths are the same.
+#[inline(never)]
+fn same_lists(left: &[u8], right: &[u8]) -> bool
+    ensures { result ≡ bytes_eq left.now right.now }
+{
+    left == right
+}
+
+/// Whether two byte strings are the same. Those of one word are compared as numbers.
+#[inline]
+fn same_bytes(left: &[u8], right: &[u8]) -> bool
+    ensures { result ≡ bytes_eq left.now right.now }
+{
+    if left.len() == WORD_BYTES && right.len() == WORD_BYTES {
+        word_at_start(left) == word_at_start(right)
+    } else {
+        same_lists(left, right)
+    }
+}
+
 /// Whether a slot has the key.
+#[inline]
 pub(crate) fn has_key(arena: &Arena, slot: usize, key: &[u8]) -> bool
     requires { slot < length arena.now.slots }
     ensures { result ≡ eq_by_cmp (slice_cmp nat_cmp) key.now (key_at arena.now.slots slot) }
 {
-    key == arena.key(slot)
-}
-
-/// The bucket of a slot's key, of so many.
-pub(crate) fn bucket_at(arena: &Arena, slot: usize, count: usize) -> usize
-    requires inside { slot < length arena.now.slots }
-    requires some { 0 < count }
-    ensures bucket { result ≡ bucket_of count (key_at arena.now.slots slot) }
-    ensures inside { result < count }
-{
-    bucket(arena.key(slot), count)
+    same_bytes(key, arena.key(slot))
 }
 
 /// Whether a slot's key comes before this key.

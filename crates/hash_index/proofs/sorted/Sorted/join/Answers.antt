@@ -2,7 +2,7 @@ use Rattle.std.proofs.Common.{◌≡◌, ◌<◌, arith, rules, length}
 use Rattle.std.specs.Prelude.{vec_len, vec_capacity}
 use Rattle.element_arena.specs.State.{key_at}
 use Rattle.hash_index.proofs.Ordered.{has_room, sorted_link, placed}
-use Rattle.hash_index.proofs.sorted.SortedIndex.link.Goals as goal
+use Rattle.hash_index.proofs.sorted.Sorted.join.Goals as goal
 
 pub put_at-requires-clause-room : goal.put_at-requires-clause-room
 put_at-requires-clause-room c =
