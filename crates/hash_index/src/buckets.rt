@@ -6,10 +6,11 @@ ghost use Rattle.bpf_model.specs.declared.limits.TheConstants.{MAX_ENTRIES};
 ghost use Rattle.element_arena.specs.State.{IsTaken, LinksOf, indexed, is_at, key_at};
 ghost use Rattle.hash_index.specs.Buckets.{BucketsFits, HeadsFit, IsPlaceIn, chained_slots, contents_in};
 ghost use Rattle.hash_index.specs.Chains.{bucket_of};
+ghost use Rattle.hash_index.specs.declared.hash.TheConstants.{WORD_BYTES};
 ghost use Rattle.hash_index.specs.Order.{IsLeastOf};
 
-use crate::chain::{cut, least_with, search};
-use crate::hash::bucket;
+use crate::chain::{cut, least_with, search, search_word};
+use crate::hash::{WORD_BYTES, bucket};
 use crate::index::Index;
 use crate::place::Place;
 use bpf_model::MAX_ENTRIES;
@@ -57,6 +58,29 @@ fn least_in(heads: &[Option<usize>], arena: &Arena, bound: Option<&[u8]>) -> Opt
 }
 
 impl Buckets {
+    /// The place of a key, of any length.
+    #[inline(never)]
+    fn locate_bytes(&self, arena: &Arena, key: &[u8]) -> Place
+        requires { BucketsFits self.now arena.now }
+        ensures slot { result.slot ≡ map.get (contents_in self.now arena.now) key.now }
+        ensures place { IsPlaceIn self.now.heads.items arena.now key.now result }
+    {
+        let home = bucket(key, self.heads.len());
+        search(arena, home, self.heads[home], key)
+    }
+
+    /// The place of a key of one word: the same without a call.
+    #[inline]
+    fn locate_word(&self, arena: &Arena, key: &[u8]) -> Place
+        requires fits { BucketsFits self.now arena.now }
+        requires word { length key.now ≡ WORD_BYTES }
+        ensures slot { result.slot ≡ map.get (contents_in self.now arena.now) key.now }
+        ensures place { IsPlaceIn self.now.heads.items arena.now key.now result }
+    {
+        let home = bucket(key, self.heads.len());
+        search_word(arena, home, self.heads[home], key)
+    }
+
     /// A taken slot joins the chain of its key, which no slot has.
     #[inline]
     fn join(&mut self, arena: &mut Arena, home: usize, slot: usize)
@@ -111,8 +135,11 @@ impl Index for Buckets {
 
     #[inline]
     fn locate(&self, arena: &Arena, key: &[u8]) -> Place {
-        let home = bucket(key, self.heads.len());
-        search(arena, home, self.heads[home], key)
+        if key.len() == WORD_BYTES {
+            self.locate_word(arena, key)
+        } else {
+            self.locate_bytes(arena, key)
+        }
     }
 
     #[inline]

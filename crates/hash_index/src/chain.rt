@@ -3,15 +3,15 @@ ghost use Rattle.std.specs.Prelude.{◌≡◌, ◌≢◌, ◌<◌, ◌≤◌, So
 ghost use Rattle.element_arena.specs.State.{key_at, times_in, slot_of};
 ghost use Rattle.hash_index.specs.Order.{IsLeastOf};
 ghost use Rattle.element_arena.specs.Threads.{chain_of};
+ghost use Rattle.hash_index.specs.declared.hash.TheConstants.{WORD_BYTES};
 ghost use Rattle.hash_index.specs.Chains.{IsChain, IsCut, StandsBehind};
 
-use crate::keys::{has_key, is_above, is_less};
+use crate::keys::{has_key, has_word, is_above, is_less};
 use crate::place::Place;
 use element_arena::Arena;
 
 /// The place of a key whose chain is this one: the first slot of the chain that has the key, and the
 /// slot before it.
-#[inline]
 pub(crate) fn search(arena: &Arena, home: usize, first: Option<usize>, key: &[u8]) -> Place
     requires { IsChain arena.now first }
     ensures home { result.home ≡ home }
@@ -22,6 +22,35 @@ pub(crate) fn search(arena: &Arena, home: usize, first: Option<usize>, key: &[u8
     let mut at = first;
     while let Some(slot) = at {
         if has_key(arena, slot, key) {
+            return Place {
+                slot: Some(slot),
+                home,
+                last,
+            };
+        }
+        last = Some(slot);
+        at = arena.next_of(slot);
+    }
+    Place {
+        slot: None,
+        home,
+        last: None,
+    }
+}
+
+/// The same for a key of one word.
+#[inline]
+pub(crate) fn search_word(arena: &Arena, home: usize, first: Option<usize>, key: &[u8]) -> Place
+    requires chain { IsChain arena.now first }
+    requires word { length key.now ≡ WORD_BYTES }
+    ensures home { result.home ≡ home }
+    ensures slot { result.slot ≡ slot_of (key_at arena.now.slots) (chain_of arena.now first) key.now }
+    ensures behind { IfSome result.slot (StandsBehind (chain_of arena.now first) result.last) }
+{
+    let mut last = None;
+    let mut at = first;
+    while let Some(slot) = at {
+        if has_word(arena, slot, key) {
             return Place {
                 slot: Some(slot),
                 home,

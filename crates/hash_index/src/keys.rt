@@ -4,37 +4,42 @@ ghost use Rattle.std.specs.Ordering.{nat_cmp, eq_by_cmp};
 ghost use Rattle.std.specs.Cmp.Lexicographic.{slice_cmp};
 ghost use Rattle.element_arena.specs.State.{key_at};
 ghost use Rattle.hash_index.specs.Order.{IsLess, IsAbove};
+ghost use Rattle.hash_index.specs.declared.hash.TheConstants.{WORD_BYTES};
 
 use crate::hash::{WORD_BYTES, word_at_start};
 use element_arena::Arena;
 
-/// Whether two byte strings of any lengths are the same.
-#[inline(never)]
-fn same_lists(left: &[u8], right: &[u8]) -> bool
-    ensures { result ≡ bytes_eq left.now right.now }
-{
-    left == right
-}
-
-/// Whether two byte strings are the same. Those of one word are compared as numbers.
-#[inline]
-fn same_bytes(left: &[u8], right: &[u8]) -> bool
-    ensures { result ≡ bytes_eq left.now right.now }
-{
-    if left.len() == WORD_BYTES && right.len() == WORD_BYTES {
-        word_at_start(left) == word_at_start(right)
-    } else {
-        same_lists(left, right)
-    }
-}
-
 /// Whether a slot has the key.
-#[inline]
 pub(crate) fn has_key(arena: &Arena, slot: usize, key: &[u8]) -> bool
     requires { slot < length arena.now.slots }
     ensures { result ≡ eq_by_cmp (slice_cmp nat_cmp) key.now (key_at arena.now.slots slot) }
 {
-    same_bytes(key, arena.key(slot))
+    key == arena.key(slot)
+}
+
+/// Whether two words are the same, which are compared as numbers.
+#[inline]
+fn same_words(left: &[u8], right: &[u8]) -> bool
+    requires left { length left.now ≡ WORD_BYTES }
+    requires right { length right.now ≡ WORD_BYTES }
+    ensures { result ≡ bytes_eq left.now right.now }
+{
+    word_at_start(left) == word_at_start(right)
+}
+
+/// Whether a slot has the key, which is one word.
+#[inline]
+pub(crate) fn has_word(arena: &Arena, slot: usize, key: &[u8]) -> bool
+    requires slot { slot < length arena.now.slots }
+    requires word { length key.now ≡ WORD_BYTES }
+    ensures { result ≡ eq_by_cmp (slice_cmp nat_cmp) key.now (key_at arena.now.slots slot) }
+{
+    let held = arena.key(slot);
+    if held.len() == WORD_BYTES {
+        same_words(key, held)
+    } else {
+        false
+    }
 }
 
 /// Whether a slot's key comes before this key.

@@ -5,4 +5,4 @@ use Rattle.element_arena.specs.State.{key_at}
 use Rattle.hash_index.proofs.keys.has_key.Goals as goal
 
 pub returns : goal.returns
-returns c = c.same_bytes.ensures ∙ (ap (bytes_eq c.args.key.now) c.key.ensures ∙ texts_ties c.args.key.now (key_at c.args.arena.now.slots c.args.slot))
+returns c = c.eq.ensures ∙ (ap (bytes_eq c.args.key.now) c.key.ensures ∙ texts_ties c.args.key.now (key_at c.args.arena.now.slots c.args.slot))
