@@ -5,3 +5,4 @@ pub mod Least
 pub mod Ordered
 pub mod Runs
 pub mod Firsts
+pub mod Links

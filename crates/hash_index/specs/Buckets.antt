@@ -5,8 +5,9 @@ use Rattle.bpf_model.specs.View.{KeyMap}
 use Rattle.element_arena.specs.State.{ArenaState, IsTaken, link_at, key_at, times_in, contents_of}
 use Rattle.element_arena.specs.Threads.{IsThread, walk, chain_of}
 use Rattle.element_arena.proofs.Indexing.{AreUnique}
-use Rattle.hash_index.specs.Chains.{bucket_of}
+use Rattle.hash_index.specs.Chains.{bucket_of, StandsBehind}
 use Rattle.hash_index.specs.declared.buckets.Buckets.{Buckets}
+use Rattle.hash_index.specs.declared.place.Place.{Place}
 
 -- the slots of the chains from these heads
 abbrev pub slots_from : ℕ → (ℕ → Option ℕ) → List (Option ℕ) → List ℕ
@@ -34,3 +35,14 @@ pub record HeadsFit (heads : List (Option ℕ)) (a : ArenaState) : Type 0 where
 
 abbrev pub BucketsFits : Buckets → ArenaState → Type 0
 BucketsFits x a = HeadsFit x.heads.items a
+
+-- The place of a key: the number of its chain, and where in it the slot stands that has the key, if
+-- there is one.
+pub record IsPlaceIn (heads : List (Option ℕ)) (a : ArenaState) (key : List ℕ) (p : Place)
+    : Type 0 where
+  pub home : p.home ≡ bucket_of (length heads) key
+  pub behind : (o : Option ℕ) (s : ℕ) → slice_get heads p.home ≡ Some o → p.slot ≡ Some s →
+      StandsBehind (chain_of a o) p.last s
+
+abbrev pub buckets_place : Buckets → ArenaState → List ℕ → Place → Type 0
+buckets_place x a key p = IsPlaceIn x.heads.items a key p

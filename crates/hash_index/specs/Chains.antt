@@ -2,7 +2,7 @@
 use Rattle.std.specs.Int.{from_le_bytes, w64}
 use Rattle.std.specs.Prelude.{◌≡◌, ℕ, zero, suc, ◌+◌, ◌<◌, ◌-◌, ◌*◌, ◌/◌, ◌%◌, ◌^◌, bit_and}
 use Rattle.std.specs.Prelude.{bit_xor}
-use Rattle.std.specs.Prelude.{List, [], ◌∷◌, ◌++◌, Option, cond, drop, eqb, length}
+use Rattle.std.specs.Prelude.{List, [], ◌∷◌, ◌++◌, Option, None, Some, cond, drop, eqb, length}
 use Rattle.element_arena.specs.State.{ArenaState, IsTaken, link_at, times_in}
 use Rattle.element_arena.specs.Threads.{IsThread, chain_of}
 use Rattle.hash_index.specs.declared.hash.TheConstants.{FNV_OFFSET, FNV_PRIME, WORD_BYTES}
@@ -58,3 +58,8 @@ pub record IsCut (a b : ArenaState) (first : Option ℕ) (slot : ℕ) (result : 
   pub left : List ℕ
   pub thread : IsThread (link_at b.links) result left
   pub fewer : (j : ℕ) → times_in j (chain_of a first) ≡ times_in j left + cond (eqb slot j) 1 0
+
+-- in this chain the slot stands behind the last; behind none it stands first
+abbrev pub StandsBehind : List ℕ → Option ℕ → ℕ → Type 0
+StandsBehind chain None slot = (rest : List ℕ) × (chain ≡ slot ∷ rest)
+StandsBehind chain (Some last) slot = IsBefore chain last slot

@@ -9,9 +9,11 @@ use Rattle.element_arena.specs.Threads.{IsThread, walk, chain_of}
 use Rattle.element_arena.proofs.Counts.{times_first}
 use Rattle.element_arena.proofs.Threading.{thread-agree, walk-agree}
 use Rattle.element_arena.proofs.Indexing.{indexed-times}
-use Rattle.hash_index.specs.Chains.{bucket_of}
+use Rattle.hash_index.specs.Chains.{bucket_of, StandsBehind}
 use Rattle.hash_index.specs.declared.buckets.Buckets.{Buckets}
+use Rattle.hash_index.specs.declared.place.Place.{Place}
 use Rattle.hash_index.specs.Buckets.{slots_from, chained_slots, contents_in, HeadsFit, BucketsFits}
+use Rattle.hash_index.specs.Buckets.{buckets_place}
 use Rattle.hash_index.specs.Many.{chain_among, slots-agree}
 
 pub entries-agree : (f g : ℕ → List ℕ) (slots : List ℕ) →
@@ -85,3 +87,23 @@ buckets-frame x a b f s =
           ∙ ap from_entries (entries-agree (key_at a.slots) (key_at b.slots)
           (chained_slots x.heads.items a) (λ j h. s.key j (own j h))),
     )
+
+pub buckets-stays : (x : Buckets) (a b : ArenaState) (key : List ℕ) (p : Place) →
+    BucketsFits x a → SameAt (indexed (contents_in x a) a.slots) a b → buckets_place x a key p →
+    buckets_place x b key p
+buckets-stays x a b key p f s h = record {
+  home = h.home;
+  behind = λ o t at e. subst (λ xs. StandsBehind xs p.last t) (sym (same o at)) (h.behind o t at e);
+}
+  where
+    own : (j : ℕ) → 0 < times_in j (chained_slots x.heads.items a) →
+        0 < indexed (contents_in x a) a.slots j
+    own j h = subst (λ n. 0 < n) (sym (own-times x a j f)) h
+
+    same : (o : Option ℕ) → slice_get x.heads.items p.home ≡ Some o → chain_of b o ≡ chain_of a o
+    same o at = ap (λ m. walk m (link_at b.links) o) s.long
+        ∙ walk-agree (length a.slots) (link_at a.links) (link_at b.links) o
+        (λ j q. s.link j (own j (let m : times_in j (chain_of a o)
+        ≤ times_in j (chained_slots x.heads.items a) =
+        chain_among (length a.slots) (link_at a.links) x.heads.items p.home o j at in
+        omega arith)))

@@ -10,6 +10,7 @@ use Rattle.hash_index.specs.Order.{IsLess, IsAbove}
 use Rattle.hash_index.specs.Held.{held_at}
 use Rattle.hash_index.specs.Frame.{entries-agree}
 use Rattle.hash_index.specs.declared.sorted.Sorted.{Sorted}
+use Rattle.hash_index.specs.declared.place.Place.{Place}
 
 -- each slot is one of the first n
 abbrev pub AllWithin : List ℕ → ℕ → Type 0
@@ -72,3 +73,21 @@ sorted-frame x a b f s =
       ap from_entries (entries-agree (key_at a.slots) (key_at b.slots) x.slots.items
           (λ j h. s.key j (own j h))),
     )
+
+-- the place of a key: its position, and the slot that has the key stands there
+abbrev pub sorted_place : Sorted → ArenaState → List ℕ → Place → Type 0
+sorted_place x a key p = IsPosition (key_at a.slots) x.slots.items key p.home
+
+pub sorted-stays : (x : Sorted) (a b : ArenaState) (key : List ℕ) (p : Place) → SortedFits x a →
+    SameAt (indexed (sorted_contents x a) a.slots) a b → sorted_place x a key p →
+    sorted_place x b key p
+sorted-stays x a b key p f s h =
+    let own : (j : ℕ) → 0 < times_in j x.slots.items → 0 < indexed (sorted_contents x a) a.slots j =
+    λ j h. subst (λ n. 0 < n) (sym (sorted_own x a j f)) h in
+    let same : (i j : ℕ) → slice_get x.slots.items i ≡ Some j → key_at b.slots j ≡ key_at a.slots j =
+    λ i j h. s.key j (own j (held_at x.slots.items i j h)) in
+    record {
+      within = h.within;
+      below = λ i j l e. subst (λ k. IsLess k key) (sym (same i j e)) (h.below i j l e);
+      above = λ i j l e g. h.above i j l e (subst (λ k. IsLess k key) (same i j e) g);
+    }

@@ -1,22 +1,26 @@
 //! An index by a hash of the key.
-ghost use Rattle.std.specs.Prelude.{◌≡◌, ◌<◌, ◌≤◌, ◌/◌, IfOk, None, max, min, option_copied, replicate};
+ghost use Rattle.std.specs.Prelude.{◌≡◌, ◌<◌, ◌≤◌, ◌/◌, IfOk, None, Some, length, max, min, option_copied, replicate};
+ghost use Rattle.std.specs.FinMap as map;
 ghost use Rattle.std.specs.Int.{IsPowerOfTwo};
 ghost use Rattle.bpf_model.specs.declared.limits.TheConstants.{MAX_ENTRIES};
-ghost use Rattle.element_arena.specs.State.{key_at};
-ghost use Rattle.hash_index.specs.Buckets.{HeadsFit, chained_slots};
+ghost use Rattle.element_arena.specs.State.{IsTaken, LinksOf, indexed, is_at, key_at};
+ghost use Rattle.hash_index.specs.Buckets.{BucketsFits, HeadsFit, IsPlaceIn, chained_slots, contents_in};
+ghost use Rattle.hash_index.specs.Chains.{bucket_of};
+ghost use Rattle.hash_index.specs.declared.hash.TheConstants.{WORD_BYTES};
 ghost use Rattle.hash_index.specs.Order.{IsLeastOf};
 
-use crate::chain::{cut, least_with, search};
-use crate::hash::bucket;
+use crate::chain::{cut, least_with, search, search_word};
+use crate::hash::{WORD_BYTES, bucket};
 use crate::index::Index;
-use crate::keys::bucket_at;
+use crate::place::Place;
 use bpf_model::MAX_ENTRIES;
 use element_arena::Arena;
 use std::alloc::{AllocError, Global};
 
 /// The heads of chains of slots, whose links stand in the slots themselves: the least power of two that is
-/// no less than the entries, at most `MAX_ENTRIES`. The chain of a key is told by a hash of its bytes, so
-/// `find` and `unlink` walk one chain, `link` changes one head and one link, and `next_above` walks all.
+/// no less than the entries, at most `MAX_ENTRIES`. The chain of a key is told by a hash of its bytes:
+/// `locate` and `unlink` hash a key and walk its chain once, `put` does neither, and `next_above` walks all
+/// chains. A slot joins at the head of its chain.
 #[derive(Drop)]
 pub struct Buckets {
     heads: Vec<Option<usize>>,
@@ -53,12 +57,75 @@ fn least_in(heads: &[Option<usize>], arena: &Arena, bound: Option<&[u8]>) -> Opt
     least
 }
 
+impl Buckets {
+    /// The place of a key, of any length.
+    #[inline(never)]
+    fn locate_bytes(&self, arena: &Arena, key: &[u8]) -> Place
+        requires { BucketsFits self.now arena.now }
+        ensures slot { result.slot ≡ map.get (contents_in self.now arena.now) key.now }
+        ensures place { IsPlaceIn self.now.heads.items arena.now key.now result }
+    {
+        let home = bucket(key, self.heads.len());
+        search(arena, home, self.heads[home], key)
+    }
+
+    /// The place of a key of one word: the same without a call.
+    #[inline]
+    fn locate_word(&self, arena: &Arena, key: &[u8]) -> Place
+        requires fits { BucketsFits self.now arena.now }
+        requires word { length key.now ≡ WORD_BYTES }
+        ensures slot { result.slot ≡ map.get (contents_in self.now arena.now) key.now }
+        ensures place { IsPlaceIn self.now.heads.items arena.now key.now result }
+    {
+        let home = bucket(key, self.heads.len());
+        search_word(arena, home, self.heads[home], key)
+    }
+
+    /// A taken slot joins the chain of its key, which no slot has.
+    #[inline]
+    fn join(&mut self, arena: &mut Arena, home: usize, slot: usize)
+        requires fits { BucketsFits self.old arena.old }
+        requires taken { IsTaken arena.old slot }
+        requires home { home ≡ bucket_of (length self.old.heads.items) (key_at arena.old.slots slot) }
+        requires absent { map.get (contents_in self.old arena.old) (key_at arena.old.slots slot)
+            ≡ None }
+        ensures contents { contents_in self.new arena.new
+            ≡ map.insert (contents_in self.old arena.old) (key_at arena.old.slots slot) slot }
+        ensures fits { BucketsFits self.new arena.new }
+        ensures links { LinksOf (is_at (Some slot)) arena.old arena.new }
+    {
+        arena.set_next(slot, self.heads[home]);
+        self.heads[home] = Some(slot);
+    }
+
+    /// The slot of a key leaves its chain.
+    #[inline]
+    fn leave(&mut self, arena: &mut Arena, place: Place, slot: usize)
+        requires fits { BucketsFits self.old arena.old }
+        requires place { IsPlaceIn self.old.heads.items arena.old (key_at arena.old.slots slot) place }
+        requires slot { place.slot ≡ Some slot }
+        requires linked { map.get (contents_in self.old arena.old) (key_at arena.old.slots slot)
+            ≡ Some slot }
+        ensures contents { contents_in self.new arena.new
+            ≡ map.remove (contents_in self.old arena.old) (key_at arena.old.slots slot) }
+        ensures fits { BucketsFits self.new arena.new }
+        ensures links { LinksOf (indexed (contents_in self.old arena.old) arena.old.slots)
+            arena.old arena.new }
+        ensures count { length self.new.heads.items ≡ length self.old.heads.items }
+    {
+        let first = self.heads[place.home];
+        self.heads[place.home] = cut(arena, first, place.last, slot);
+    }
+}
+
 impl Index for Buckets {
-    ghost use Rattle.hash_index.specs.Buckets.{contents_in, BucketsFits};
+    ghost use Rattle.hash_index.specs.Buckets.{contents_in, BucketsFits, buckets_place};
 
     ghost contents = { contents_in };
 
     ghost fits = { BucketsFits };
+
+    ghost is_place = { buckets_place };
 
     fn new(alloc: Global, entries: usize, _slots: usize) -> Result<Self, AllocError> {
         Ok(Buckets {
@@ -66,21 +133,35 @@ impl Index for Buckets {
         })
     }
 
-    fn find(&self, arena: &Arena, key: &[u8]) -> Option<usize> {
-        let home = bucket(key, self.heads.len());
-        search(arena, self.heads[home], key)
+    #[inline]
+    fn locate(&self, arena: &Arena, key: &[u8]) -> Place {
+        if key.len() == WORD_BYTES {
+            self.locate_word(arena, key)
+        } else {
+            self.locate_bytes(arena, key)
+        }
     }
 
-    fn link(&mut self, arena: &mut Arena, slot: usize) {
-        let home = bucket_at(arena, slot, self.heads.len());
-        arena.set_next(slot, self.heads[home]);
-        self.heads[home] = Some(slot);
+    #[inline]
+    fn put(&mut self, arena: &mut Arena, place: Place, slot: usize) {
+        match place.slot {
+            None => self.join(arena, place.home, slot),
+            Some(old) => {
+                self.leave(arena, place, old);
+                self.join(arena, place.home, slot);
+            }
+        }
     }
 
-    fn unlink(&mut self, arena: &mut Arena, slot: usize) {
-        let home = bucket_at(arena, slot, self.heads.len());
-        if let Some(first) = self.heads[home] {
-            self.heads[home] = cut(arena, first, slot);
+    #[inline]
+    fn unlink(&mut self, arena: &mut Arena, key: &[u8]) -> Option<usize> {
+        let place = self.locate(arena, key);
+        match place.slot {
+            None => None,
+            Some(slot) => {
+                self.leave(arena, place, slot);
+                Some(slot)
+            }
         }
     }
 
@@ -94,7 +175,9 @@ impl Index for Buckets {
         })
     }
 
-    ghost use Rattle.hash_index.specs.Frame.{buckets-frame};
+    ghost use Rattle.hash_index.specs.Frame.{buckets-frame, buckets-stays};
 
     ghost frame = { buckets-frame };
+
+    ghost stays = { buckets-stays };
 }

@@ -3,59 +3,91 @@ ghost use Rattle.std.specs.Prelude.{◌≡◌, ◌≢◌, ◌<◌, ◌≤◌, So
 ghost use Rattle.element_arena.specs.State.{key_at, times_in, slot_of};
 ghost use Rattle.hash_index.specs.Order.{IsLeastOf};
 ghost use Rattle.element_arena.specs.Threads.{chain_of};
-ghost use Rattle.hash_index.specs.Chains.{IsChain, IsBefore, IsCut};
+ghost use Rattle.hash_index.specs.declared.hash.TheConstants.{WORD_BYTES};
+ghost use Rattle.hash_index.specs.Chains.{IsChain, IsCut, StandsBehind};
 
-use crate::keys::{has_key, is_above, is_less};
+use crate::keys::{has_key, has_word, is_above, is_less};
+use crate::place::Place;
 use element_arena::Arena;
 
-/// The first slot of a chain that has the key.
-pub(crate) fn search(arena: &Arena, first: Option<usize>, key: &[u8]) -> Option<usize>
+/// The place of a key whose chain is this one: the first slot of the chain that has the key, and the
+/// slot before it.
+pub(crate) fn search(arena: &Arena, home: usize, first: Option<usize>, key: &[u8]) -> Place
     requires { IsChain arena.now first }
-    ensures { result ≡ slot_of (key_at arena.now.slots) (chain_of arena.now first) key.now }
+    ensures home { result.home ≡ home }
+    ensures slot { result.slot ≡ slot_of (key_at arena.now.slots) (chain_of arena.now first) key.now }
+    ensures behind { IfSome result.slot (StandsBehind (chain_of arena.now first) result.last) }
 {
+    let mut last = None;
     let mut at = first;
     while let Some(slot) = at {
         if has_key(arena, slot, key) {
-            return Some(slot);
+            return Place {
+                slot: Some(slot),
+                home,
+                last,
+            };
         }
+        last = Some(slot);
         at = arena.next_of(slot);
     }
-    None
-}
-
-/// The slot of a chain that comes before this one, which is not the first.
-fn before(arena: &Arena, first: usize, slot: usize) -> usize
-    requires chain { IsChain arena.now (Some first) }
-    requires other { first ≢ slot }
-    requires held { 0 < times_in slot (chain_of arena.now (Some first)) }
-    ensures { IsBefore (chain_of arena.now (Some first)) result slot }
-{
-    let mut last = first;
-    let mut at = arena.next_of(first);
-    while let Some(here) = at {
-        if here == slot {
-            return last;
-        }
-        last = here;
-        at = arena.next_of(here);
+    Place {
+        slot: None,
+        home,
+        last: None,
     }
-    last
 }
 
-/// Takes a slot out of a chain, and answers the first slot that is left.
-pub(crate) fn cut(arena: &mut Arena, first: usize, slot: usize) -> Option<usize>
-    requires chain { IsChain arena.old (Some first) }
-    requires once { (j : ℕ) → times_in j (chain_of arena.old (Some first)) ≤ 1 }
-    requires held { 0 < times_in slot (chain_of arena.old (Some first)) }
-    ensures { IsCut arena.old arena.new (Some first) slot result }
+/// The same for a key of one word.
+#[inline]
+pub(crate) fn search_word(arena: &Arena, home: usize, first: Option<usize>, key: &[u8]) -> Place
+    requires chain { IsChain arena.now first }
+    requires word { length key.now ≡ WORD_BYTES }
+    ensures home { result.home ≡ home }
+    ensures slot { result.slot ≡ slot_of (key_at arena.now.slots) (chain_of arena.now first) key.now }
+    ensures behind { IfSome result.slot (StandsBehind (chain_of arena.now first) result.last) }
+{
+    let mut last = None;
+    let mut at = first;
+    while let Some(slot) = at {
+        if has_word(arena, slot, key) {
+            return Place {
+                slot: Some(slot),
+                home,
+                last,
+            };
+        }
+        last = Some(slot);
+        at = arena.next_of(slot);
+    }
+    Place {
+        slot: None,
+        home,
+        last: None,
+    }
+}
+
+/// Takes a slot out of a chain, behind the last slot before it if there is one, and answers the first slot that is left.
+#[inline]
+pub(crate) fn cut(
+    arena: &mut Arena,
+    first: Option<usize>,
+    last: Option<usize>,
+    slot: usize,
+) -> Option<usize>
+    requires chain { IsChain arena.old first }
+    requires once { (j : ℕ) → times_in j (chain_of arena.old first) ≤ 1 }
+    requires behind { StandsBehind (chain_of arena.old first) last slot }
+    ensures { IsCut arena.old arena.new first slot result }
 {
     let rest = arena.next_of(slot);
-    if first == slot {
-        return rest;
+    match last {
+        None => rest,
+        Some(last) => {
+            arena.set_next(last, rest);
+            first
+        }
     }
-    let last = before(arena, first, slot);
-    arena.set_next(last, rest);
-    Some(first)
 }
 
 /// Of the least slot so far and a further one, the slot with the lesser key above a bound.

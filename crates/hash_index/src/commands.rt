@@ -35,30 +35,12 @@ fn link_absent<I: Index>(index: &mut I, arena: &mut Arena, slot: usize) -> Optio
     ensures fits { I.fits index.new arena.new }
     ensures links { arena.new ≡ record arena.old { links = arena.new.links } }
 {
-    match index.find(arena, arena.key(slot)) {
+    let place = index.locate(arena, arena.key(slot));
+    match place.slot {
         Some(other) => Some(other),
         None => {
-            index.link(arena, slot);
+            index.put(arena, place, slot);
             None
-        }
-    }
-}
-
-/// Unlinks the slot of a key. The reply is that slot.
-fn unlink_key<I: Index>(index: &mut I, arena: &mut Arena, key: &[u8]) -> Option<usize>
-    requires fits { I.fits index.old arena.old }
-    requires keyed { IsKeyed (key_at arena.old.slots) (I.contents index.old arena.old) }
-    ensures reply { result ≡ map.get (I.contents index.old arena.old) key.now }
-    ensures contents { I.contents index.new arena.new
-        ≡ map.remove (I.contents index.old arena.old) key.now }
-    ensures fits { I.fits index.new arena.new }
-    ensures links { arena.new ≡ record arena.old { links = arena.new.links } }
-{
-    match index.find(arena, key) {
-        None => None,
-        Some(slot) => {
-            index.unlink(arena, slot);
-            Some(slot)
         }
     }
 }
@@ -89,8 +71,8 @@ fn step<I: Index>(index: &mut I, arena: &mut Arena, command: &Command) -> Option
 {
     match command {
         Command::Link(slot) => link_absent(index, arena, *slot),
-        Command::Find(key) => index.find(arena, key.as_slice()),
-        Command::Unlink(key) => unlink_key(index, arena, key.as_slice()),
+        Command::Find(key) => index.locate(arena, key.as_slice()).slot,
+        Command::Unlink(key) => index.unlink(arena, key.as_slice()),
         Command::Above(bound) => find_above(index, arena, bound),
     }
 }

@@ -12,11 +12,11 @@ const FNV_PRIME: u64 = 1_099_511_628_211;
 const WORD_FACTOR: u64 = 11_400_714_819_323_198_485;
 
 /// How many bytes a word has.
-const WORD_BYTES: usize = 8;
+pub(crate) const WORD_BYTES: usize = 8;
 
 /// The little-endian number of the first eight bytes.
 #[inline]
-fn word_at_start(bytes: &[u8]) -> u64
+pub(crate) fn word_at_start(bytes: &[u8]) -> u64
     requires { WORD_BYTES ≤ length bytes.now }
     ensures { result ≡ hashed_word bytes.now }
 {
@@ -46,8 +46,20 @@ fn hash_bytes(start: u64, bytes: &[u8]) -> u64
     hash
 }
 
-/// A hash of a key's bytes: eight at a time, and those that are left one by one.
+/// A hash of a key's bytes.
+#[inline]
 fn hash(key: &[u8]) -> u64
+    ensures { result ≡ hash_of key.now }
+{
+    if key.len() == WORD_BYTES {
+        return mix(FNV_OFFSET, word_at_start(key));
+    }
+    hash_words(key)
+}
+
+/// A hash of a key's bytes: eight at a time, and those that are left one by one.
+#[inline(never)]
+fn hash_words(key: &[u8]) -> u64
     ensures { result ≡ hash_of key.now }
 {
     let mut hash = FNV_OFFSET;
@@ -62,6 +74,7 @@ fn hash(key: &[u8]) -> u64
 /// The bucket of a key, of so many, which are a power of two. The hash is multiplied once more,
 /// and the bits taken from bit 32 on: else keys that differ in the last two of eight bytes alone
 /// would share a bucket. Nothing is promised of how keys spread.
+#[inline]
 pub(crate) fn bucket(key: &[u8], count: usize) -> usize
     requires { 0 < count }
     ensures bucket { result ≡ bucket_of count key.now }

@@ -1,10 +1,12 @@
 //! What an index of slots is.
-ghost use Rattle.std.specs.Prelude.{◌≡◌, ◌≤◌, None, Some, length, IfOk, IfSome, IfNone, option_copied};
+ghost use Rattle.std.specs.Prelude.{◌≡◌, ◌≤◌, ◌+◌, ℕ, List, Some, length, IfOk, IfSome, IfNone, option_copied};
 ghost use Rattle.std.specs.FinMap as map;
 ghost use Rattle.bpf_model.specs.View.{KeyMap};
-ghost use Rattle.element_arena.specs.State.{ArenaState, IsTaken, LinksOf, SameAt, indexed, key_at};
+ghost use Rattle.element_arena.specs.State.{ArenaState, IsTaken, LinksOf, SameAt, indexed, is_at, key_at};
+ghost use Rattle.hash_index.specs.declared.place.Place.{Place};
 ghost use Rattle.hash_index.specs.Order.{IsAbove, NoneAbove, NoneBetween};
 
+use crate::place::Place;
 use element_arena::Arena;
 use std::alloc::{AllocError, Global};
 
@@ -17,6 +19,9 @@ pub trait Index {
     /// That the index stands in this arena, and has room for each of its slots.
     ghost fits: { Self → ArenaState → Type 0 };
 
+    /// That a place is that of a key, over this arena.
+    ghost is_place: { Self → ArenaState → List ℕ → Place → Type 0 };
+
     /// An index that has nothing. It is made for any arena of at most so many slots, and for about so many
     /// entries; it may come to have more. No other call but `copy` takes memory. The error is that there is
     /// none left.
@@ -25,30 +30,33 @@ pub trait Index {
         ensures empty { IfOk result (λ x. (a : ArenaState) → length a.slots ≤ slots →
             contents x a ≡ map.empty) };
 
-    /// The slot of a key, if there is one.
-    fn find(&self, arena: &Arena, key: &[u8]) -> Option<usize>
+    /// The place of a key, with the key's slot if there is one.
+    fn locate(&self, arena: &Arena, key: &[u8]) -> Place
         requires { fits self.now arena.now }
-        ensures { result ≡ map.get (contents self.now arena.now) key.now };
+        ensures slot { result.slot ≡ map.get (contents self.now arena.now) key.now }
+        ensures place { is_place self.now arena.now key.now result };
 
-    /// A taken slot joins, whose key the index does not have.
-    fn link(&mut self, arena: &mut Arena, slot: usize)
+    /// A taken slot that the index does not have joins under its key, at the place of that key. The slot
+    /// that the key had leaves.
+    fn put(&mut self, arena: &mut Arena, place: Place, slot: usize)
         requires fits { fits self.old arena.old }
         requires taken { IsTaken arena.old slot }
-        requires absent { map.get (contents self.old arena.old) (key_at arena.old.slots slot)
-            ≡ None }
+        requires apart { indexed (contents self.old arena.old) arena.old.slots slot ≡ 0 }
+        requires place { is_place self.old arena.old (key_at arena.old.slots slot) place }
+        requires found { place.slot
+            ≡ map.get (contents self.old arena.old) (key_at arena.old.slots slot) }
         ensures contents { contents self.new arena.new
             ≡ map.insert (contents self.old arena.old) (key_at arena.old.slots slot) slot }
         ensures fits { fits self.new arena.new }
-        ensures links { LinksOf (indexed (contents self.new arena.new) arena.new.slots)
-            arena.old arena.new };
+        ensures links { LinksOf (λ j. indexed (contents self.old arena.old) arena.old.slots j
+            + is_at (Some slot) j) arena.old arena.new };
 
-    /// A slot that the index has leaves it.
-    fn unlink(&mut self, arena: &mut Arena, slot: usize)
+    /// The slot of a key leaves the index, if there is one.
+    fn unlink(&mut self, arena: &mut Arena, key: &[u8]) -> Option<usize>
         requires fits { fits self.old arena.old }
-        requires linked { map.get (contents self.old arena.old) (key_at arena.old.slots slot)
-            ≡ Some slot }
+        ensures slot { result ≡ map.get (contents self.old arena.old) key.now }
         ensures contents { contents self.new arena.new
-            ≡ map.remove (contents self.old arena.old) (key_at arena.old.slots slot) }
+            ≡ map.remove (contents self.old arena.old) key.now }
         ensures fits { fits self.new arena.new }
         ensures links { LinksOf (indexed (contents self.old arena.old) arena.old.slots)
             arena.old arena.new };
@@ -76,4 +84,8 @@ pub trait Index {
     /// An index reads nothing of the arena but what stands in its own slots.
     ghost frame: { (x : Self) (a b : ArenaState) → fits x a →
         SameAt (indexed (contents x a) a.slots) a b → fits x b × (contents x b ≡ contents x a) };
+
+    /// So a key's place is the same over any arena with the same own slots.
+    ghost stays: { (x : Self) (a b : ArenaState) (key : List ℕ) (p : Place) → fits x a →
+        SameAt (indexed (contents x a) a.slots) a b → is_place x a key p → is_place x b key p };
 }

@@ -1,12 +1,12 @@
 //! Keys as they stand in their slots.
-ghost use Rattle.std.specs.Prelude.{◌≡◌, ◌<◌, ◌↔◌, length, IsTrue, option_copied};
+ghost use Rattle.std.specs.Prelude.{bytes_eq, ◌≡◌, ◌<◌, ◌↔◌, length, IsTrue, option_copied};
 ghost use Rattle.std.specs.Ordering.{nat_cmp, eq_by_cmp};
 ghost use Rattle.std.specs.Cmp.Lexicographic.{slice_cmp};
 ghost use Rattle.element_arena.specs.State.{key_at};
-ghost use Rattle.hash_index.specs.Chains.{bucket_of};
 ghost use Rattle.hash_index.specs.Order.{IsLess, IsAbove};
+ghost use Rattle.hash_index.specs.declared.hash.TheConstants.{WORD_BYTES};
 
-use crate::hash::bucket;
+use crate::hash::{WORD_BYTES, word_at_start};
 use element_arena::Arena;
 
 /// Whether a slot has the key.
@@ -17,14 +17,29 @@ pub(crate) fn has_key(arena: &Arena, slot: usize, key: &[u8]) -> bool
     key == arena.key(slot)
 }
 
-/// The bucket of a slot's key, of so many.
-pub(crate) fn bucket_at(arena: &Arena, slot: usize, count: usize) -> usize
-    requires inside { slot < length arena.now.slots }
-    requires some { 0 < count }
-    ensures bucket { result ≡ bucket_of count (key_at arena.now.slots slot) }
-    ensures inside { result < count }
+/// Whether two words are the same, which are compared as numbers.
+#[inline]
+fn same_words(left: &[u8], right: &[u8]) -> bool
+    requires left { length left.now ≡ WORD_BYTES }
+    requires right { length right.now ≡ WORD_BYTES }
+    ensures { result ≡ bytes_eq left.now right.now }
 {
-    bucket(arena.key(slot), count)
+    word_at_start(left) == word_at_start(right)
+}
+
+/// Whether a slot has the key, which is one word.
+#[inline]
+pub(crate) fn has_word(arena: &Arena, slot: usize, key: &[u8]) -> bool
+    requires slot { slot < length arena.now.slots }
+    requires word { length key.now ≡ WORD_BYTES }
+    ensures { result ≡ eq_by_cmp (slice_cmp nat_cmp) key.now (key_at arena.now.slots slot) }
+{
+    let held = arena.key(slot);
+    if held.len() == WORD_BYTES {
+        same_words(key, held)
+    } else {
+        false
+    }
 }
 
 /// Whether a slot's key comes before this key.

@@ -11,10 +11,12 @@ mod commands;
 mod hash;
 mod index;
 mod keys;
+mod place;
 mod position;
 mod sorted;
 
 pub use buckets::Buckets;
 pub use commands::{Command, run};
 pub use index::Index;
+pub use place::Place;
 pub use sorted::Sorted;

@@ -5,6 +5,7 @@ ghost use Rattle.hash_index.specs.Order.{IsLeastOf};
 ghost use Rattle.hash_index.specs.Sorted.{AllWithin, IsAscending, IsPosition, IsPositionAbove};
 
 use crate::keys::{has_key, is_less};
+use crate::place::Place;
 use element_arena::Arena;
 
 /// Where a key stands among the slots, or would: how many slots have a lesser key.
@@ -40,13 +41,19 @@ fn standing(slots: &[usize], arena: &Arena, at: usize, key: &[u8]) -> Option<usi
     None
 }
 
-/// The slot of a key.
-pub(crate) fn find_in(slots: &[usize], arena: &Arena, key: &[u8]) -> Option<usize>
+/// The place of a key.
+pub(crate) fn locate_in(slots: &[usize], arena: &Arena, key: &[u8]) -> Place
     requires within { AllWithin slots.now (length arena.now.slots) }
     requires ascending { IsAscending (key_at arena.now.slots) slots.now }
-    ensures { result ≡ slot_of (key_at arena.now.slots) slots.now key.now }
+    ensures slot { result.slot ≡ slot_of (key_at arena.now.slots) slots.now key.now }
+    ensures place { IsPosition (key_at arena.now.slots) slots.now key.now result.home }
 {
-    standing(slots, arena, position(slots, arena, key), key)
+    let home = position(slots, arena, key);
+    Place {
+        slot: standing(slots, arena, home, key),
+        home,
+        last: None,
+    }
 }
 
 /// Where the keys above a key begin.

@@ -1,13 +1,17 @@
 //! An index in the order of the keys.
-ghost use Rattle.std.specs.Prelude.{◌≡◌, ◌<◌, ◌≤◌, IfOk, insert, vec_capacity, vec_len};
+ghost use Rattle.std.specs.Prelude.{◌≡◌, ◌<◌, ◌≤◌, IfOk, None, Some, insert, slice_get, vec_capacity, vec_len};
+ghost use Rattle.std.specs.FinMap as map;
+ghost use Rattle.element_arena.specs.State.{IsTaken, key_at};
+ghost use Rattle.hash_index.specs.Sorted.{SortedFits, sorted_contents};
 
 use crate::index::Index;
-use crate::position::{find_in, least_above, position};
+use crate::place::Place;
+use crate::position::{least_above, locate_in, position};
 use element_arena::Arena;
 use std::alloc::{AllocError, Global};
 
-/// The slots in a vector with room for all of them, in the order of their keys. `find` and `next_above`
-/// search by halves, `link` and `unlink` move the slots with greater keys.
+/// The slots in a vector with room for all of them, in the order of their keys. Every call searches by
+/// halves, and `put` and `unlink` move the slots with greater keys.
 #[derive(Drop)]
 pub struct Sorted {
     slots: Vec<usize>,
@@ -36,12 +40,42 @@ fn copy_of(alloc: Global, list: &Vec<usize>) -> Result<Vec<usize>, AllocError>
     Ok(copy)
 }
 
+impl Sorted {
+    /// A taken slot joins, whose key no slot has.
+    fn join(&mut self, arena: &Arena, slot: usize)
+        requires fits { SortedFits self.old arena.now }
+        requires taken { IsTaken arena.now slot }
+        requires absent { map.get (sorted_contents self.old arena.now) (key_at arena.now.slots slot)
+            ≡ None }
+        ensures contents { sorted_contents self.new arena.now
+            ≡ map.insert (sorted_contents self.old arena.now) (key_at arena.now.slots slot) slot }
+        ensures fits { SortedFits self.new arena.now }
+    {
+        let position = position(&self.slots, arena, arena.key(slot));
+        put_at(&mut self.slots, position, slot);
+    }
+
+    /// The slot at a position leaves.
+    fn leave(&mut self, arena: &Arena, position: usize, slot: usize)
+        requires fits { SortedFits self.old arena.now }
+        requires at { slice_get self.old.slots.items position ≡ Some slot }
+        ensures contents { sorted_contents self.new arena.now
+            ≡ map.remove (sorted_contents self.old arena.now) (key_at arena.now.slots slot) }
+        ensures fits { SortedFits self.new arena.now }
+    {
+        let _arena = arena;
+        let _slot = self.slots.remove(position);
+    }
+}
+
 impl Index for Sorted {
-    ghost use Rattle.hash_index.specs.Sorted.{sorted_contents, SortedFits, sorted-frame};
+    ghost use Rattle.hash_index.specs.Sorted.{sorted_contents, SortedFits, sorted_place, sorted-frame, sorted-stays};
 
     ghost contents = { sorted_contents };
 
     ghost fits = { SortedFits };
+
+    ghost is_place = { sorted_place };
 
     fn new(alloc: Global, _entries: usize, slots: usize) -> Result<Self, AllocError> {
         Ok(Sorted {
@@ -49,18 +83,29 @@ impl Index for Sorted {
         })
     }
 
-    fn find(&self, arena: &Arena, key: &[u8]) -> Option<usize> {
-        find_in(&self.slots, arena, key)
+    fn locate(&self, arena: &Arena, key: &[u8]) -> Place {
+        locate_in(&self.slots, arena, key)
     }
 
-    fn link(&mut self, arena: &mut Arena, slot: usize) {
-        let position = position(&self.slots, arena, arena.key(slot));
-        put_at(&mut self.slots, position, slot);
+    fn put(&mut self, arena: &mut Arena, place: Place, slot: usize) {
+        match place.slot {
+            None => self.join(arena, slot),
+            Some(old) => {
+                self.leave(arena, place.home, old);
+                self.join(arena, slot);
+            }
+        }
     }
 
-    fn unlink(&mut self, arena: &mut Arena, slot: usize) {
-        let position = position(&self.slots, arena, arena.key(slot));
-        let _slot = self.slots.remove(position);
+    fn unlink(&mut self, arena: &mut Arena, key: &[u8]) -> Option<usize> {
+        let place = self.locate(arena, key);
+        match place.slot {
+            None => None,
+            Some(slot) => {
+                self.leave(arena, place.home, slot);
+                Some(slot)
+            }
+        }
     }
 
     fn next_above(&self, arena: &Arena, bound: Option<&[u8]>) -> Option<usize> {
@@ -74,4 +119,6 @@ impl Index for Sorted {
     }
 
     ghost frame = { sorted-frame };
+
+    ghost stays = { sorted-stays };
 }

@@ -1,7 +1,7 @@
 -- What a delete and a reap leave of a map.
 use Rattle.std.proofs.Common.{◌≡◌, ◌∙◌, ℕ, ◌+◌, ◌-◌, ◌<◌, List, [], ◌∷◌, ◌++◌, length, Option, Some, inl, inr, sym, ap, arith, Bool, true, subst, cond}
 use Rattle.std.specs.Prelude.{slice_set, count_by, ◌==◌}
-use Rattle.std.specs.FinMap.{get, remove}
+use Rattle.std.specs.FinMap.{get}
 use Rattle.std.proofs.lemmas.Bool.{cond-true, cond-false, cases_Bool}
 use Rattle.model_laws.proofs.Tallies.{count-set, one_of}
 use Rattle.bpf_model.proofs.Lists.{get-below}
@@ -9,23 +9,23 @@ use Rattle.bpf_model.specs.declared.event.Given.{Given}
 use Rattle.bpf_model.specs.declared.event.Given.TheVariants.{Free, Worn}
 use Rattle.bpf_model.specs.declared.limits.MapShape.{MapShape}
 use Rattle.bpf_model.specs.View.{MapView, uses_at}
-use Rattle.element_arena.specs.State.{key_at, worn_at, flag_in, is_last_use, given_back}
+use Rattle.element_arena.specs.State.{worn_at, flag_in, is_last_use, given_back}
 use Rattle.view_laws.specs.Views.{given_at, reaped_view}
 use Rattle.view_laws.specs.Views as views
 use Rattle.view_laws.proofs.Lists.{len-remove_found}
-use Rattle.deferred_free.specs.Queued.{retired_lists, reaped_lists}
+use Rattle.deferred_free.specs.Queued.{reaped_lists}
 use Rattle.maps.specs.Parted.{PartsView}
+use Rattle.maps.specs.Updated.{unlinked_of}
 use Rattle.maps.specs.Shown.{map_view, IsMap, IsOfShape}
 use Rattle.maps.proofs.Lengths.{long-removed}
 
-pub retired-kept : (shape : MapShape) (p r : PartsView) (i n : ℕ) → IsMap shape p n → get p.index (key_at p.arena.slots i) ≡ Some i →
-    r ≡ record { index = remove p.index (key_at p.arena.slots i); lists = retired_lists p.lists i; arena = record p.arena { links = r.arena.links } } → IsMap shape r (n - 1)
-retired-kept shape p r i n h g e =
-    let k : IsMap shape (record { index = remove p.index (key_at p.arena.slots i); lists = retired_lists p.lists i; arena = record p.arena { links = r.arena.links } }) (n - 1) = record {
+pub retired-kept : (shape : MapShape) (p r : PartsView) (key : List ℕ) (i n : ℕ) → IsMap shape p n → get p.index key ≡ Some i → r ≡ unlinked_of p key (Some i) r.arena.links → IsMap shape r (n - 1)
+retired-kept shape p r key i n h g e =
+    let k : IsMap shape (unlinked_of p key (Some i) r.arena.links) (n - 1) = record {
       valid = h.valid;
       arena = record { slots = h.arena.slots; key_len = h.arena.key_len; value_len = h.arena.value_len; limit = h.arena.limit; keys = h.arena.keys; values = h.arena.values };
-      keys = long-removed p.index (key_at p.arena.slots i) shape.key_len h.keys;
-      count = ap (λ m. m - 1) h.count ∙ sym (len-remove_found p.index (key_at p.arena.slots i) i g);
+      keys = long-removed p.index key shape.key_len h.keys;
+      count = ap (λ m. m - 1) h.count ∙ sym (len-remove_found p.index key i g);
     } in
     subst (λ (z : PartsView). IsMap shape z (n - 1)) (sym e) k
 

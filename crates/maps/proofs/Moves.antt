@@ -1,5 +1,5 @@
 -- Each call of a part keeps the parts fitting the arena, and its slots in their standings.
-use Rattle.std.proofs.Common.{◌≡◌, ◌≢◌, ◌∙◌, ℕ, ◌+◌, ◌<◌, ◌≤◌, List, [], ◌∷◌, ◌++◌, length, Some, None, refl, sym, ap, arith, cond, eqb, subst}
+use Rattle.std.proofs.Common.{◌≡◌, ◌≢◌, ◌∙◌, ℕ, ◌+◌, ◌<◌, ◌≤◌, List, [], ◌∷◌, ◌++◌, length, Option, Some, None, refl, sym, ap, arith, cond, eqb, subst}
 use Rattle.std.specs.FinMap.{get, insert, remove}
 use Rattle.bpf_model.specs.Schedule.{Queues, turned}
 use Rattle.element_arena.specs.State.{ArenaState, IsTaken, LinksOf, SameAt, is_at, indexed, times_in, key_at, taken, given_back, with_slot_value}
@@ -8,7 +8,9 @@ use Rattle.element_arena.proofs.Views.{taken_same}
 use Rattle.deferred_free.specs.Queued.{queued, retired_lists, reaped_lists}
 use Rattle.maps.specs.Parted.{PartsView, standings, IsParted, IsInHand}
 use Rattle.bpf_model.specs.View.{KeyMap}
-use Rattle.maps.proofs.Parting.{standing-taken, indexed-insert, parted-links, parted-inserted, parted-removed, removed-held, parted-retired, parted-turned, parted-reaped, parted-taken, taken-held, taken-indexed, other-key, taken-key, parted-given, written-key, parted-written}
+use Rattle.maps.proofs.Parting.{standing-taken, parted-links, parted-put, parted-removed, removed-held, parted-retired, parted-turned, parted-reaped, parted-taken, taken-held, taken-indexed, other-key, taken-key, parted-given, written-key, parted-written}
+use Rattle.std.proofs.lemmas.Option.{none-some, same_Some}
+use Rattle.hash_index.proofs.Runs.{remove_absent}
 use Rattle.std.proofs.lemmas.List.{length-set}
 use Rattle.bpf_model.proofs.Lists.{get-set_other}
 use Rattle.std.specs.Option.{option_flatten}
@@ -41,7 +43,7 @@ module _ (X Y : Type 0) (contents : X → ArenaState → KeyMap) (fits_index : X
       let e2 = ap (λ (z : Queues). let r : PartsView = record { index = m; lists = z; arena = b } in r) el in
       (((fi, fl), subst IsParted (sym (e1 ∙ e2)) p), e1 ∙ e2)
 
-  pub unlinked-step : (x x' : X) (y : Y) (a b : ArenaState) (i : ℕ) → (fits_index x a × fits_lists y a) × IsParted (record { index = contents x a; lists = lists y a; arena = a }) →
+  unlinked-step : (x x' : X) (y : Y) (a b : ArenaState) (i : ℕ) → (fits_index x a × fits_lists y a) × IsParted (record { index = contents x a; lists = lists y a; arena = a }) →
       get (contents x a) (key_at a.slots i) ≡ Some i → contents x' b ≡ remove (contents x a) (key_at a.slots i) → fits_index x' b → LinksOf (indexed (contents x a) a.slots) a b →
       let r : PartsView = record { index = contents x' b; lists = lists y b; arena = b } in let s : PartsView = record { index = remove (contents x a) (key_at a.slots i); lists = lists y a; arena = b } in
       (((fits_index x' b × fits_lists y b) × IsParted r) × (r ≡ s)) × IsInHand r i
@@ -70,24 +72,6 @@ module _ (X Y : Type 0) (contents : X → ArenaState → KeyMap) (fits_index : X
       (λ j g. standing-taken (record { index = contents x a; lists = lists y a; arena = a }) j h (omega arith))) in
       let pb = parted-links (contents x a) (retired_lists (lists y a) i) a b l.rest (parted-retired (record { index = contents x a; lists = lists y a; arena = a }) i h held) in
       settle x y' b (contents x a) (retired_lists (lists y a) i) fi.0 f fi.1 e pb
-
-  pub linked-step : (x x' : X) (y : Y) (a b : ArenaState) (i : ℕ) → (fits_index x a × fits_lists y a) × IsParted (record { index = contents x a; lists = lists y a; arena = a }) →
-      IsInHand (record { index = contents x a; lists = lists y a; arena = a }) i → get (contents x a) (key_at a.slots i) ≡ None →
-      contents x' b ≡ insert (contents x a) (key_at a.slots i) i → fits_index x' b → LinksOf (indexed (contents x' b) b.slots) a b →
-      let r : PartsView = record { index = contents x' b; lists = lists y b; arena = b } in let s : PartsView = record { index = insert (contents x a) (key_at a.slots i) i; lists = lists y a; arena = b } in
-      ((fits_index x' b × fits_lists y b) × IsParted r) × (r ≡ s)
-  linked-step x x' y a b i w held none e f l0 =
-      let h : IsParted (record { index = contents x a; lists = lists y a; arena = a }) = w.1 in
-      let l : LinksOf (indexed (insert (contents x a) (key_at a.slots i) i) b.slots) a b = subst (λ z. LinksOf (indexed z b.slots) a b) e l0 in
-      let same : (j : ℕ) → indexed (insert (contents x a) (key_at a.slots i) i) b.slots j ≡ indexed (insert (contents x a) (key_at a.slots i) i) a.slots j = λ j. ap (λ (z : ArenaState). indexed (insert (contents x a) (key_at a.slots i) i) z.slots j) l.rest in
-      let more : (j : ℕ) → indexed (insert (contents x a) (key_at a.slots i) i) a.slots j ≡ indexed (contents x a) a.slots j + cond {A = ℕ} (eqb i j) 1 0 = λ j. indexed-insert (contents x a) a.slots (key_at a.slots i) i j none refl in
-      let unlisted : queued (lists y a) i ≡ 0 = held.unlisted in
-      let not_i : (j : ℕ) → 0 < queued (lists y a) j → cond {A = ℕ} (eqb i j) 1 0 ≡ 0 = (λ j g. one_other i j (λ s. let z : 0 < queued (lists y a) i = subst (λ k. 0 < queued (lists y a) k) (sym s) g in absurd (omega arith))) in
-      let fd = lists_frame y a b w.0.1 (links-same (indexed (insert (contents x a) (key_at a.slots i) i) b.slots) (queued (lists y a)) a b l
-      (λ j g. let o : standings (record { index = contents x a; lists = lists y a; arena = a }) j ≤ 1 = h.once j in let c = not_i j g in omega (arith, more j, same j))
-      (λ j g. standing-taken (record { index = contents x a; lists = lists y a; arena = a }) j h (omega arith))) in
-      let pb = parted-links (insert (contents x a) (key_at a.slots i) i) (lists y a) a b l.rest (parted-inserted (record { index = contents x a; lists = lists y a; arena = a }) i h held none) in
-      settle x' y b (insert (contents x a) (key_at a.slots i) i) (lists y a) f fd.0 e fd.1 pb
 
   -- a call of the lists that links none but their own slots, and leaves q of them
   moved-step : (x : X) (y y' : Y) (a b : ArenaState) (q : Queues) → (fits_index x a × fits_lists y a) × IsParted (record { index = contents x a; lists = lists y a; arena = a }) →
@@ -123,12 +107,10 @@ module _ (X Y : Type 0) (contents : X → ArenaState → KeyMap) (fits_index : X
       let fd = lists_frame y a b w.0.1 sq in
       settle x y b (contents x a) (lists y a) fi.0 fd.0 fi.1 fd.1 parted
 
-  pub taken-step : (x : X) (y : Y) (a b : ArenaState) (i : ℕ) (rest key value : List ℕ) → (fits_index x a × fits_lists y a) × IsParted (record { index = contents x a; lists = lists y a; arena = a }) →
-      a.free ≡ i ∷ rest → b ≡ taken a i rest key value →
-      let r : PartsView = record { index = contents x b; lists = lists y b; arena = b } in let s : PartsView = record { index = contents x a; lists = lists y a; arena = b } in
-      (((fits_index x b × fits_lists y b) × IsParted r) × (r ≡ s)) × (IsInHand r i × (key_at b.slots i ≡ key))
-  taken-step x y a b i rest key value w split e =
-      let h : IsParted (record { index = contents x a; lists = lists y a; arena = a }) = w.1 in
+  -- a slot that is taken is none of those that stand
+  pub taken-agree : (x : X) (y : Y) (a b : ArenaState) (i : ℕ) (rest key value : List ℕ) → IsParted (record { index = contents x a; lists = lists y a; arena = a }) →
+      a.free ≡ i ∷ rest → b ≡ taken a i rest key value → SameAt (indexed (contents x a) a.slots) a b × SameAt (queued (lists y a)) a b
+  taken-agree x y a b i rest key value h split e =
       let free : (j : ℕ) → times_in j a.free ≡ cond {A = ℕ} (eqb i j) 1 0 + times_in j rest = λ j. ap (times_in j) split in
       let pt : IsParted (record { index = contents x a; lists = lists y a; arena = taken a i rest key value }) = parted-taken (record { index = contents x a; lists = lists y a; arena = a }) i rest key value h split in
       let nowhere : (j : ℕ) → 0 < indexed (contents x a) a.slots j + queued (lists y a) j → j ≢ i = (λ j g s.
@@ -143,12 +125,61 @@ module _ (X Y : Type 0) (contents : X → ArenaState → KeyMap) (fits_index : X
       let same : (j : ℕ) → indexed (contents x a) (taken a i rest key value).slots j ≡ indexed (contents x a) a.slots j = taken-indexed (record { index = contents x a; lists = lists y a; arena = a }) i rest key value h split in
       let si = agree (indexed (contents x a) a.slots) (λ j g. (nowhere j (omega arith), standing-taken (record { index = contents x a; lists = lists y a; arena = taken a i rest key value }) j pt (omega (arith, same j)))) in
       let sq = agree (queued (lists y a)) (λ j g. (nowhere j (omega arith), standing-taken (record { index = contents x a; lists = lists y a; arena = taken a i rest key value }) j pt (omega arith))) in
+      (subst (SameAt (indexed (contents x a) a.slots) a) (sym e) si, subst (SameAt (queued (lists y a)) a) (sym e) sq)
+
+  pub taken-step : (x : X) (y : Y) (a b : ArenaState) (i : ℕ) (rest key value : List ℕ) → (fits_index x a × fits_lists y a) × IsParted (record { index = contents x a; lists = lists y a; arena = a }) →
+      a.free ≡ i ∷ rest → b ≡ taken a i rest key value →
+      let r : PartsView = record { index = contents x b; lists = lists y b; arena = b } in let s : PartsView = record { index = contents x a; lists = lists y a; arena = b } in
+      (((fits_index x b × fits_lists y b) × IsParted r) × (r ≡ s)) × (IsInHand r i × (key_at b.slots i ≡ key))
+  taken-step x y a b i rest key value w split e =
+      let h : IsParted (record { index = contents x a; lists = lists y a; arena = a }) = w.1 in
+      let pt : IsParted (record { index = contents x a; lists = lists y a; arena = taken a i rest key value }) = parted-taken (record { index = contents x a; lists = lists y a; arena = a }) i rest key value h split in
+      let same = taken-agree x y a b i rest key value h split e in
       let held = taken-held (record { index = contents x a; lists = lists y a; arena = a }) i rest key value h split in
       let k = taken-key (record { index = contents x a; lists = lists y a; arena = a }) i rest key value h split in
       let pb = subst (λ (z : ArenaState). IsParted (record { index = contents x a; lists = lists y a; arena = z })) (sym e) pt in
-      let s = kept-step x y a b w pb (subst (SameAt (indexed (contents x a) a.slots) a) (sym e) si) (subst (SameAt (queued (lists y a)) a) (sym e) sq) in
+      let s = kept-step x y a b w pb same.0 same.1 in
       let hb = subst (λ (z : ArenaState). IsInHand (record { index = contents x a; lists = lists y a; arena = z }) i) (sym e) held in
       (s, (subst (λ (z : PartsView). IsInHand z i) (sym s.1) hb, ap (λ (z : ArenaState). key_at z.slots i) e ∙ k))
+
+  -- a slot in hand is put in the place of the one that was found, which is in hand then
+  pub put-step : (x x' : X) (y : Y) (a b : ArenaState) (i : ℕ) (found : Option ℕ) → (fits_index x a × fits_lists y a) × IsParted (record { index = contents x a; lists = lists y a; arena = a }) →
+      IsInHand (record { index = contents x a; lists = lists y a; arena = a }) i → get (contents x a) (key_at a.slots i) ≡ found →
+      contents x' b ≡ insert (contents x a) (key_at a.slots i) i → fits_index x' b → LinksOf (λ j. indexed (contents x a) a.slots j + is_at (Some i) j) a b →
+      let r : PartsView = record { index = contents x' b; lists = lists y b; arena = b } in let s : PartsView = record { index = insert (contents x a) (key_at a.slots i) i; lists = lists y a; arena = b } in
+      (((fits_index x' b × fits_lists y b) × IsParted r) × (r ≡ s)) × ((old : ℕ) → found ≡ Some old → IsInHand r old)
+  put-step x x' y a b i found w held g e f l =
+      let h : IsParted (record { index = contents x a; lists = lists y a; arena = a }) = w.1 in
+      let unlisted : queued (lists y a) i ≡ 0 = held.unlisted in
+      let not_i : (j : ℕ) → 0 < queued (lists y a) j → cond {A = ℕ} (eqb i j) 1 0 ≡ 0 = (λ j g. one_other i j (λ s. let z : 0 < queued (lists y a) i = subst (λ k. 0 < queued (lists y a) k) (sym s) g in absurd (omega arith))) in
+      let fd = lists_frame y a b w.0.1 (links-same (λ j. indexed (contents x a) a.slots j + is_at (Some i) j) (queued (lists y a)) a b l
+      (λ j g. let o : standings (record { index = contents x a; lists = lists y a; arena = a }) j ≤ 1 = h.once j in let c = not_i j g in omega arith)
+      (λ j g. standing-taken (record { index = contents x a; lists = lists y a; arena = a }) j h (omega arith))) in
+      let q = parted-put (record { index = contents x a; lists = lists y a; arena = a }) i found h held g in
+      let pb = parted-links (insert (contents x a) (key_at a.slots i) i) (lists y a) a b l.rest q.0 in
+      let s = settle x' y b (insert (contents x a) (key_at a.slots i) i) (lists y a) f fd.0 e fd.1 pb in
+      (s, λ old o. subst (λ (z : PartsView). IsInHand z old) (sym s.1) (held-links (insert (contents x a) (key_at a.slots i) i) (lists y a) a b old l.rest (q.1 old o)))
+
+  -- a key's slot, if there is one, leaves the index, and is in hand then
+  pub removed-step : (x x' : X) (y : Y) (a b : ArenaState) (key : List ℕ) (found : Option ℕ) → (fits_index x a × fits_lists y a) × IsParted (record { index = contents x a; lists = lists y a; arena = a }) →
+      get (contents x a) key ≡ found → contents x' b ≡ remove (contents x a) key → fits_index x' b → LinksOf (indexed (contents x a) a.slots) a b →
+      let r : PartsView = record { index = contents x' b; lists = lists y b; arena = b } in let s : PartsView = record { index = remove (contents x a) key; lists = lists y a; arena = b } in
+      (((fits_index x' b × fits_lists y b) × IsParted r) × (r ≡ s)) × ((i : ℕ) → found ≡ Some i → IsInHand r i)
+  removed-step x x' y a b key None w g e f l =
+      let h : IsParted (record { index = contents x a; lists = lists y a; arena = a }) = w.1 in
+      let fd = lists_frame y a b w.0.1 (links-same (indexed (contents x a) a.slots) (queued (lists y a)) a b l
+      (λ j g. let o : standings (record { index = contents x a; lists = lists y a; arena = a }) j ≤ 1 = h.once j in omega arith)
+      (λ j g. standing-taken (record { index = contents x a; lists = lists y a; arena = a }) j h (omega arith))) in
+      let same : IsParted (record { index = remove (contents x a) key; lists = lists y a; arena = a }) = subst (λ (m : KeyMap). IsParted (record { index = m; lists = lists y a; arena = a })) (sym (remove_absent (contents x a) key g)) h in
+      let s = settle x' y b (remove (contents x a) key) (lists y a) f fd.0 e fd.1 (parted-links (remove (contents x a) key) (lists y a) a b l.rest same) in
+      (s, λ i o. absurd (none-some i o))
+  removed-step x x' y a b key (Some i) w g e f l =
+      let h : IsParted (record { index = contents x a; lists = lists y a; arena = a }) = w.1 in
+      let k : key_at a.slots i ≡ key = h.keyed key i g in
+      let u = unlinked-step x x' y a b i w (ap (get (contents x a)) k ∙ g) (e ∙ ap (remove (contents x a)) (sym k)) f l in (
+        (u.0.0, u.0.1 ∙ ap (λ (q : List ℕ). let s : PartsView = record { index = remove (contents x a) q; lists = lists y a; arena = b } in s) k),
+        λ j o. subst (λ n. IsInHand (record { index = contents x' b; lists = lists y b; arena = b }) n) (same_Some i j o) u.1,
+      )
 
   pub given-step : (x : X) (y : Y) (a b : ArenaState) (i : ℕ) → (fits_index x a × fits_lists y a) × IsParted (record { index = contents x a; lists = lists y a; arena = a }) →
       IsInHand (record { index = contents x a; lists = lists y a; arena = a }) i → b ≡ given_back a i →

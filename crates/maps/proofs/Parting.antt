@@ -1,5 +1,5 @@
 -- Where the slots stand after each change of a part.
-use Rattle.std.proofs.Common.{◌≡◌, ◌≢◌, ◌∙◌, ℕ, ◌+◌, ◌<◌, ◌≤◌, List, [], ◌∷◌, ◌++◌, length, Some, None, inl, inr, refl, sym, ap, arith, cond, eqb, Bool, true, false, subst, drop}
+use Rattle.std.proofs.Common.{◌≡◌, ◌≢◌, ◌∙◌, ℕ, ◌+◌, ◌<◌, ◌≤◌, List, [], ◌∷◌, ◌++◌, length, Option, Some, None, inl, inr, refl, sym, ap, arith, cond, eqb, Bool, true, false, subst, drop}
 use Rattle.std.specs.Prelude.{slice_get, slice_set}
 use Rattle.std.proofs.lemmas.Bool.{cond-true, cond-false, eqb-true, eqb-false, cases_Bool}
 use Rattle.std.proofs.lemmas.Option.{none-some, same_Some}
@@ -9,6 +9,7 @@ use Rattle.bpf_model.specs.Schedule.{Queues, turned}
 use Rattle.bpf_model.specs.View.{SlotView, uses_at, key_in}
 use Rattle.element_arena.specs.State.{ArenaState, IsTaken, is_at, indexed, times_in, key_at, worn_at, flag_in, taken, given_back, with_slot_value, is_last_use}
 use Rattle.element_arena.proofs.Counts.{one_cases, one_same, one_other, times-append}
+use Rattle.hash_index.proofs.Links.{insert_over}
 use Rattle.view_laws.proofs.Lists.{insert-same, insert-other, remove-same, remove-other}
 use Rattle.deferred_free.specs.Queued.{queued, retired_lists, reaped_lists}
 use Rattle.maps.specs.Parted.{PartsView, standings, IsParted, IsInHand, IsInUse}
@@ -132,6 +133,31 @@ removed-held p i h some =
       unlinked = ap (λ o. is_at o i) (remove-same p.index (key_at p.arena.slots i));
       unlisted = omega arith;
     }
+
+-- a slot in hand is put in the place of the one that was found, which is in hand then
+pub parted-put : (p : PartsView) (i : ℕ) (found : Option ℕ) → IsParted p → IsInHand p i → get p.index (key_at p.arena.slots i) ≡ found →
+    let r : PartsView = record { index = insert p.index (key_at p.arena.slots i) i; lists = p.lists; arena = p.arena } in IsParted r × ((old : ℕ) → found ≡ Some old → IsInHand r old)
+parted-put p i None h held g = (parted-inserted p i h held g, λ old o. absurd (none-some old o))
+parted-put p i (Some old) h held g =
+    let m : KeyMap = p.index in
+    let k : key_at p.arena.slots old ≡ key_at p.arena.slots i = h.keyed (key_at p.arena.slots i) old g in
+    let some : get p.index (key_at p.arena.slots old) ≡ Some old = ap (get p.index) k ∙ g in
+    let qo : IsParted (record { index = remove p.index (key_at p.arena.slots old); lists = p.lists; arena = p.arena }) = parted-removed p old h some in
+    let q : IsParted (record { index = remove p.index (key_at p.arena.slots i); lists = p.lists; arena = p.arena }) = subst (λ (z : List ℕ). IsParted (record { index = remove p.index z; lists = p.lists; arena = p.arena })) k qo in
+    let none : get (remove p.index (key_at p.arena.slots i)) (key_at p.arena.slots i) ≡ None = remove-same p.index (key_at p.arena.slots i) in
+    let hand : IsInHand (record { index = remove p.index (key_at p.arena.slots i); lists = p.lists; arena = p.arena }) i = record {
+      taken = held.taken;
+      unlinked = ap (λ o. is_at o i) none;
+      unlisted = held.unlisted;
+    } in
+    let r : IsParted (record { index = insert (remove p.index (key_at p.arena.slots i)) (key_at p.arena.slots i) i; lists = p.lists; arena = p.arena }) = parted-inserted (record { index = remove p.index (key_at p.arena.slots i); lists = p.lists; arena = p.arena }) i q hand none in
+    let out = removed-held p old h some in
+    let apart : cond {A = ℕ} (eqb old i) 1 0 ≡ 0 = sym (ap (λ o. is_at o i) g) ∙ held.unlinked in
+    let other : i ≢ old = (λ e. let one : cond {A = ℕ} (eqb old i) 1 0 ≡ 1 = subst (λ z. cond {A = ℕ} (eqb old z) 1 0 ≡ 1) (sym e) (one_same old) in absurd (omega arith)) in
+    let unlinked : is_at (get (insert p.index (key_at p.arena.slots i) i) (key_at p.arena.slots old)) old ≡ 0 = ap (λ z. is_at (get (insert p.index (key_at p.arena.slots i) i) z) old) k ∙ (ap (λ o. is_at o old) (insert-same p.index (key_at p.arena.slots i) i) ∙ one_other i old other) in (
+      subst (λ (z : KeyMap). IsParted (record { index = z; lists = p.lists; arena = p.arena })) (insert_over p.index (key_at p.arena.slots i) i) r,
+      λ j o. subst (λ n. IsInHand (record { index = insert p.index (key_at p.arena.slots i) i; lists = p.lists; arena = p.arena }) n) (same_Some old j o) (record { taken = out.taken; unlinked = unlinked; unlisted = out.unlisted }),
+    )
 
 pub parted-retired : (p : PartsView) (i : ℕ) → IsParted p → IsInHand p i → IsParted (record { index = p.index; lists = retired_lists p.lists i; arena = p.arena })
 parted-retired p i h held =

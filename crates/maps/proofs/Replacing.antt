@@ -1,24 +1,37 @@
--- A slot in hand, while the slot that its key had is unlinked.
-use Rattle.std.proofs.Common.{◌≡◌, ◌∙◌, ℕ, ◌+◌, [], ◌∷◌, ◌++◌, Some, None, refl, sym, ap, arith, cond, eqb, subst}
-use Rattle.std.specs.FinMap.{get, remove}
-use Rattle.element_arena.specs.State.{is_at, times_in, key_at}
-use Rattle.element_arena.proofs.Counts.{times-append}
-use Rattle.element_arena.proofs.Views.{taken_same}
-use Rattle.view_laws.proofs.Lists.{remove-same}
-use Rattle.deferred_free.specs.Queued.{queued, retired_lists}
-use Rattle.maps.specs.Parted.{PartsView, IsParted, IsInHand}
+-- What an update and a removal leave of the parts.
+use Rattle.std.proofs.Common.{◌≡◌, ◌∙◌, ℕ, ◌∷◌, List, Some, None, sym, ap}
+use Rattle.std.specs.FinMap.{insert}
+use Rattle.bpf_model.specs.View.{KeyMap}
+use Rattle.element_arena.specs.State.{ArenaState, key_at}
+use Rattle.deferred_free.specs.Queued.{retired_lists}
+use Rattle.hash_index.proofs.Links.{insert_over}
+use Rattle.maps.specs.Parted.{PartsView}
+use Rattle.maps.specs.Updated.{IsPut, replaced, with_taken}
 
-pub held-after : (p r : PartsView) (i old : ℕ) → IsParted p → IsInHand p i → get p.index (key_at p.arena.slots i) ≡ Some old →
-    r ≡ record { index = remove p.index (key_at p.arena.slots old); lists = retired_lists p.lists old; arena = record p.arena { links = r.arena.links } } → IsInHand r i × (get r.index (key_at r.arena.slots i) ≡ None)
-held-after p r i old h held g e =
-    let k : key_at p.arena.slots old ≡ key_at p.arena.slots i = h.keyed (key_at p.arena.slots i) old g in
-    let c : cond {A = ℕ} (eqb old i) 1 0 ≡ 0 = sym (ap (λ o. is_at o i) g) ∙ held.unlinked in
-    let gone : get (remove p.index (key_at p.arena.slots old)) (key_at p.arena.slots i) ≡ None = ap (get (remove p.index (key_at p.arena.slots old))) (sym k) ∙ remove-same p.index (key_at p.arena.slots old) in
-    let unlisted : queued p.lists i ≡ 0 = held.unlisted in
-    let more : times_in i (p.lists.next ++ old ∷ []) ≡ times_in i p.lists.next + (cond {A = ℕ} (eqb old i) 1 0 + 0) = times-append i p.lists.next (old ∷ []) in
-    let held' : IsInHand (record { index = remove p.index (key_at p.arena.slots old); lists = retired_lists p.lists old; arena = record p.arena { links = r.arena.links } }) i = record {
-      taken = taken_same p.arena (record p.arena { links = r.arena.links }) i refl held.taken;
-      unlinked = ap (λ o. is_at o i) gone;
-      unlisted = omega arith;
-    } in
-    (subst (λ (z : PartsView). IsInHand z i) (sym e) held', ap (λ (z : PartsView). get z.index (key_at z.arena.slots i)) e ∙ gone)
+-- an arena that is another but for its links, and so another again
+pub links-on : (a b c : ArenaState) → b ≡ record a { links = b.links } → c ≡ record b { links = c.links } → c ≡ record a { links = c.links }
+links-on a b c e f = f ∙ ap (λ (z : ArenaState). let w : ArenaState = record z { links = c.links } in w) e
+
+module _ (v p r : PartsView) (i : ℕ) (rest key value : List ℕ) (first : v.arena.free ≡ i ∷ rest) (e1 : p ≡ with_taken v i rest key value) (ek : key_at p.arena.slots i ≡ key) (l : r.arena ≡ record p.arena { links = r.arena.links }) where
+  pub put-new : r ≡ record { index = insert p.index (key_at p.arena.slots i) i; lists = p.lists; arena = r.arena } → IsPut v r key value None
+  put-new e = record {
+    slot = i;
+    rest = rest;
+    first = first;
+    new_is = e
+        ∙ (ap (λ (z : ArenaState). let w : PartsView = record { index = insert p.index (key_at p.arena.slots i) i; lists = p.lists; arena = z } in w) l
+        ∙ (ap (λ k. let w : PartsView = record { index = insert p.index k i; lists = p.lists; arena = record p.arena { links = r.arena.links } } in w) ek
+        ∙ ap (λ (z : PartsView). replaced z key None i r.arena.links) e1));
+  }
+
+  pub put-again : (old : ℕ) → r ≡ record { index = insert p.index (key_at p.arena.slots i) i; lists = retired_lists p.lists old; arena = r.arena } → IsPut v r key value (Some old)
+  put-again old e = record {
+    slot = i;
+    rest = rest;
+    first = first;
+    new_is = e
+        ∙ (ap (λ (z : ArenaState). let w : PartsView = record { index = insert p.index (key_at p.arena.slots i) i; lists = retired_lists p.lists old; arena = z } in w) l
+        ∙ (ap (λ k. let w : PartsView = record { index = insert p.index k i; lists = retired_lists p.lists old; arena = record p.arena { links = r.arena.links } } in w) ek
+        ∙ (ap (λ (m : KeyMap). let w : PartsView = record { index = m; lists = retired_lists p.lists old; arena = record p.arena { links = r.arena.links } } in w) (sym (insert_over p.index key i))
+        ∙ ap (λ (z : PartsView). replaced z key (Some old) i r.arena.links) e1)));
+  }

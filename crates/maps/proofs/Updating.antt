@@ -1,49 +1,28 @@
 -- What an update and a delete leave of a map.
-use Rattle.std.proofs.Common.{◌≡◌, ◌∙◌, ℕ, zero, suc, ◌+◌, ◌-◌, ◌<◌, ◌≤◌, List, [], ◌∷◌, length, Option, Some, None, Result, Ok, Err, ◌⊎◌, inl, inr, refl, sym, ap, arith, Bool, subst}
-use Rattle.std.specs.Prelude.{slice_get, slice_set, is_some, ◌==◌, map, if◌then◌else◌}
+use Rattle.std.proofs.Common.{◌≡◌, ◌∙◌, ℕ, zero, suc, ◌+◌, ◌-◌, ◌<◌, ◌≤◌, List, [], ◌∷◌, length, Option, Some, None, Result, Ok, ◌⊎◌, inl, inr, refl, sym, ap, arith, subst}
+use Rattle.std.specs.Prelude.{slice_get, slice_set, is_some}
 use Rattle.std.specs.FinMap.{get, insert, remove, len, get-empty, empty_of_len}
 use Rattle.std.specs.Ordering.{nat_cmp}
 use Rattle.std.specs.Cmp.Lexicographic.{slice_cmp}
-use Rattle.std.proofs.lemmas.Bool.{cases_eq, cond-false, ne_eqb}
+use Rattle.std.proofs.lemmas.Bool.{cases_eq}
 use Rattle.std.proofs.lemmas.Option.{none-some}
 use Rattle.bpf_model.specs.declared.call.Errno.{Errno}
-use Rattle.bpf_model.specs.declared.call.Errno.TheVariants.{NoMemory}
 use Rattle.bpf_model.specs.declared.limits.MapShape.{MapShape}
 use Rattle.bpf_model.specs.Helper.{update_error}
 use Rattle.bpf_model.specs.View.{SlotView, MapView, uses_at, map_state_of, key_in, value_in}
-use Rattle.element_arena.specs.State.{key_at, taken}
-use Rattle.view_laws.specs.Views.{updated, updated_by, shown_error, filled, filled_from, retired_key, retired_slot}
+use Rattle.element_arena.specs.State.{taken}
+use Rattle.view_laws.specs.Views.{updated, updated_by, filled, filled_from, retired_key, retired_slot}
 use Rattle.view_laws.proofs.Lists.{remove-same, len-remove_found, len-insert_new}
 use Rattle.maps.specs.Parted.{PartsView, without_key}
+use Rattle.maps.specs.Updated.{IsPut, replaced, with_taken}
 use Rattle.bpf_model.specs.View.{KeyMap}
-use Rattle.maps.specs.Shown.{map_view, IsMap, IsOfShape, AreKeysLong, or_no_memory, linked_with, put_in}
+use Rattle.maps.specs.Shown.{map_view, IsMap, IsOfShape, AreKeysLong, linked_with}
 use Rattle.maps.proofs.Lengths.{long-inserted, long-removed}
 use Rattle.std.proofs.lemmas.List.{length-set}
 
--- an update that a test refuses
-pub refused : (v : MapView) (key value : List ℕ) (flags : ℕ) (e : Errno) → shown_error v key flags ≡ Some e → updated v key value flags ≡ (Err e, v)
-refused v key value flags e h = ap (λ o. updated_by o v key value) h
-
-some_free : (n : ℕ) → 0 < n → let o : Option Errno = if n == 0 then Some NoMemory else None in o ≡ None
-some_free n h = cond-false _ _ _ (ne_eqb n 0 (λ z. omega arith))
-
--- the first test that fails, by what the code knows of the map
-pub shown : (v : MapView) (key : List ℕ) (flags : ℕ) (present : Bool) (linked : ℕ) (o : Option Errno) → present ≡ is_some (get v.index key) → linked ≡ len v.index → update_error flags present linked (map_state_of v) ≡ o → shown_error v key flags ≡ o
-shown v key flags present linked o p l h = ap (λ n. update_error flags (is_some (get v.index key)) n (map_state_of v)) (sym l) ∙ (ap (λ b. update_error flags b linked (map_state_of v)) (sym p) ∙ h)
-
--- an update that no test but the last may refuse
-pub put-updates : (v : MapView) (key value : List ℕ) (flags : ℕ) (found : Option ℕ) → get v.index key ≡ found → shown_error v key flags ≡ or_no_memory None (map_state_of v) → updated v key value flags ≡ put_in v.free v found key value
-put-updates v key value flags found g h = ap (λ o. updated_by o v key value) h ∙ by_free v.free refl
-  where
-    by_free : (free : List ℕ) → v.free ≡ free → updated_by (or_no_memory None (map_state_of v)) v key value ≡ put_in v.free v found key value
-    by_free [] e =
-        ap (λ (fs : List ℕ). updated_by (or_no_memory None (map_state_of (record v { free = fs }))) v key value) e ∙ sym (ap (λ fs. put_in fs v found key value) e)
-    by_free (i ∷ rest) e =
-        ap (λ (fs : List ℕ). updated_by (or_no_memory None (map_state_of (record v { free = fs }))) v key value) e
-        ∙ (ap (λ o. updated_by o v key value) (some_free (suc (length (map (uses_at v.slots) rest))) (omega arith))
-        ∙ (ap (λ fs. let r : Result (Unit {0}) Errno × MapView = (Ok tt, filled_from fs (retired_key v key) key value) in r) e
-        ∙ (ap (λ o. let r : Result (Unit {0}) Errno × MapView = (Ok tt, filled (retired_slot v key o) i rest key value) in r) g
-        ∙ sym (ap (λ fs. put_in fs v found key value) e))))
+-- an update, by the first test that fails and what the code knows of the map
+pub updated-by : (v : MapView) (key value : List ℕ) (flags linked : ℕ) (o : Option Errno) → linked ≡ len v.index → update_error flags (is_some (get v.index key)) linked (map_state_of v) ≡ o → updated v key value flags ≡ updated_by o v key value
+updated-by v key value flags linked o l h = ap (λ e. updated_by e v key value) (ap (λ n. update_error flags (is_some (get v.index key)) n (map_state_of v)) (sym l) ∙ h)
 
 -- a list after a write has the new element there, or what it had
 set-cases : {A : Type 0} (xs : List A) (i j : ℕ) (y : A) → (slice_get (slice_set xs i y) j ≡ Some y) ⊎ (slice_get (slice_set xs i y) j ≡ slice_get xs j)
@@ -67,25 +46,15 @@ len-some m k i g = elim (cases_eq (len m) 0) [
   | inr n ↦ omega arith
 ]
 
--- the parts once the slot i is linked, in the place of the slot that was found
-abbrev pub replaced : PartsView → List ℕ → Option ℕ → ℕ → List (Option ℕ) → PartsView
-replaced p key found i links = record { index = insert (without_key p key found).index key i; lists = (without_key p key found).lists; arena = record p.arena { links = links } }
-
-abbrev pub with_taken : PartsView → ℕ → List ℕ → List ℕ → List ℕ → PartsView
-with_taken p i rest key value = record { index = p.index; lists = p.lists; arena = taken p.arena i rest key value }
-
 filled-view : (shape : MapShape) (p : PartsView) (i : ℕ) (rest key value : List ℕ) (found : Option ℕ) (l : List (Option ℕ)) → map_view shape (replaced (with_taken p i rest key value) key found i l) ≡ filled (retired_slot (map_view shape p) key found) i rest key value
 filled-view shape p i rest key value None l = refl
 filled-view shape p i rest key value (Some j) l = refl
 
-module _ (p p1 p2 : PartsView) (i : ℕ) (key value : List ℕ) (found : Option ℕ) (e1 : p1 ≡ with_taken p i p1.arena.free key value) (ek : key_at p1.arena.slots i ≡ key) (e2 : p2 ≡ replaced p1 (key_at p1.arena.slots i) found i p2.arena.links) where
-  replaced-is : p2 ≡ replaced (with_taken p i p1.arena.free key value) key found i p2.arena.links
-  replaced-is = e2 ∙ (ap (λ k. replaced p1 k found i p2.arena.links) ek ∙ ap (λ (z : PartsView). replaced z key found i p2.arena.links) e1)
+module _ (p p2 : PartsView) (i : ℕ) (rest key value : List ℕ) (found : Option ℕ) (replaced-is : p2 ≡ replaced (with_taken p i rest key value) key found i p2.arena.links) where
+  pub put-view : (shape : MapShape) → map_view shape p2 ≡ filled (retired_slot (map_view shape p) key found) i rest key value
+  put-view shape = ap (map_view shape) replaced-is ∙ filled-view shape p i rest key value found p2.arena.links
 
-  pub put-view : (shape : MapShape) → map_view shape p2 ≡ filled (retired_slot (map_view shape p) key found) i p1.arena.free key value
-  put-view shape = ap (map_view shape) replaced-is ∙ filled-view shape p i p1.arena.free key value found p2.arena.links
-
-  put-len : (n : ℕ) (found : Option ℕ) → n ≡ len p.index → get p.index key ≡ found → linked_with found n ≡ len (insert (without_key (with_taken p i p1.arena.free key value) key found).index key i)
+  put-len : (n : ℕ) (found : Option ℕ) → n ≡ len p.index → get p.index key ≡ found → linked_with found n ≡ len (insert (without_key (with_taken p i rest key value) key found).index key i)
   put-len n None c g = ap (λ m. m + 1) c ∙ sym (len-insert_new p.index key i g)
   put-len n (Some j) c g =
       let a : len (remove p.index key) ≡ len p.index - 1 = len-remove_found p.index key j g in
@@ -93,7 +62,7 @@ module _ (p p1 p2 : PartsView) (i : ℕ) (key value : List ℕ) (found : Option 
       let h : 0 < len p.index = len-some p.index key j g in
       omega arith
 
-  put-arena : (shape : MapShape) → IsOfShape shape p.arena → length key ≡ shape.key_len → length value ≡ shape.value_len → IsOfShape shape (record (taken p.arena i p1.arena.free key value) { links = p2.arena.links })
+  put-arena : (shape : MapShape) → IsOfShape shape p.arena → length key ≡ shape.key_len → length value ≡ shape.value_len → IsOfShape shape (record (taken p.arena i rest key value) { links = p2.arena.links })
   put-arena shape a hk hv =
       let long : length (slice_set p.arena.slots i (record { key = key; value = value; uses = uses_at p.arena.slots i + 1 })) ≡ length p.arena.slots = length-set p.arena.slots i _ in
       record {
@@ -105,16 +74,24 @@ module _ (p p1 p2 : PartsView) (i : ℕ) (key value : List ℕ) (found : Option 
         values = set-lengths value_in p.arena.slots i (record { key = key; value = value; uses = uses_at p.arena.slots i + 1 }) shape.value_len (omega arith) a.values;
       }
 
-  long-put : (shape : MapShape) → AreKeysLong p.index shape.key_len → length key ≡ shape.key_len → (found : Option ℕ) → AreKeysLong (insert (without_key (with_taken p i p1.arena.free key value) key found).index key i) shape.key_len
+  long-put : (shape : MapShape) → AreKeysLong p.index shape.key_len → length key ≡ shape.key_len → (found : Option ℕ) → AreKeysLong (insert (without_key (with_taken p i rest key value) key found).index key i) shape.key_len
   long-put shape h hk None = long-inserted p.index key i shape.key_len hk h
   long-put shape h hk (Some j) = long-inserted (remove p.index key) key i shape.key_len hk (long-removed p.index key shape.key_len h)
 
   pub put-kept : (shape : MapShape) (n : ℕ) → IsMap shape p n → get p.index key ≡ found → length key ≡ shape.key_len → length value ≡ shape.value_len → IsMap shape p2 (linked_with found n)
   put-kept shape n h g hk hv =
-      let k : IsMap shape (replaced (with_taken p i p1.arena.free key value) key found i p2.arena.links) (linked_with found n) = record {
+      let k : IsMap shape (replaced (with_taken p i rest key value) key found i p2.arena.links) (linked_with found n) = record {
         valid = h.valid;
         arena = put-arena shape h.arena hk hv;
         keys = long-put shape h.keys hk found;
         count = put-len n found h.count g;
       } in
       subst (λ (z : PartsView). IsMap shape z (linked_with found n)) (sym replaced-is) k
+
+-- an update that no test refuses
+pub put-updates : (shape : MapShape) (p r : PartsView) (key value : List ℕ) (found : Option ℕ) → get p.index key ≡ found → IsPut p r key value found → updated_by None (map_view shape p) key value ≡ (Ok tt, map_view shape r)
+put-updates shape p r key value found g h =
+    ap (λ w. let z : Result (Unit {0}) Errno × MapView = (Ok tt, w) in z)
+    (ap (λ fs. filled_from fs (retired_key (map_view shape p) key) key value) h.first
+    ∙ (ap (λ o. filled (retired_slot (map_view shape p) key o) h.slot h.rest key value) g
+    ∙ sym (put-view p r h.slot h.rest key value found h.new_is shape)))

@@ -1,5 +1,6 @@
 pub mod Parted
 pub mod Shown
+pub mod Updated
 pub mod Lending
 pub mod Registry
 pub mod Picking

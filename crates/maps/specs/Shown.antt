@@ -1,6 +1,6 @@
 -- What is seen of a map, and what is kept of it.
-use Rattle.std.specs.Prelude.{◌≡◌, ℕ, ◌+◌, ◌≤◌, ◌==◌, List, [], ◌∷◌, Option, Some, None}
-use Rattle.std.specs.Prelude.{Result, Ok, Err, if◌then◌else◌, slice_get, length, count_by}
+use Rattle.std.specs.Prelude.{◌≡◌, ℕ, ◌+◌, ◌≤◌, ◌==◌, List, Option, Some, None}
+use Rattle.std.specs.Prelude.{if◌then◌else◌, slice_get, length, count_by}
 use Rattle.std.specs.FinMap.{get, len}
 use Rattle.bpf_model.specs.declared.call.Errno.{Errno}
 use Rattle.bpf_model.specs.declared.call.Errno.TheVariants.{NoMemory}
@@ -11,7 +11,7 @@ use Rattle.bpf_model.specs.View.{KeyMap, MapView}
 use Rattle.bpf_model.specs.Refines.{lists_of}
 use Rattle.element_arena.specs.State.{ArenaState, key_at, value_at}
 use Rattle.hash_index.specs.Order.{IsAbove, NoneBetween}
-use Rattle.view_laws.specs.Views.{given_at, reaped_view, filled, retired_slot}
+use Rattle.view_laws.specs.Views.{given_at, reaped_view}
 use Rattle.maps.specs.Parted.{PartsView, IsInUse}
 
 abbrev pub map_view : MapShape → PartsView → MapView
@@ -62,12 +62,6 @@ or_no_memory None m = if length m.bag == 0 then Some NoMemory else None
 abbrev pub linked_with : Option ℕ → ℕ → ℕ
 linked_with None n = n + 1
 linked_with (Some i) n = n
-
--- An update that no earlier test refuses: no slot is free, or the first free one is filled.
-abbrev pub put_in : List ℕ → MapView → Option ℕ → List ℕ → List ℕ →
-    Result (Unit {0}) Errno × MapView
-put_in [] v found key value = (Err NoMemory, v)
-put_in (i ∷ rest) v found key value = (Ok tt, filled (retired_slot v key found) i rest key value)
 
 -- The first ready slot was given back, with this key.
 pub record IsReaped (old new : MapView) (key : List ℕ) (given : Given) : Type 0 where

@@ -1,18 +1,18 @@
 //! A map of a fixed number of map slots.
-ghost use Rattle.std.specs.Prelude.{false, ◌≡◌, ◌<◌, ◌≤◌, ◌+◌, [], length, slice_get, None, Some, IfSome, IfNone, IfOk, OnErr, option_copied, option_map};
+ghost use Rattle.std.specs.Prelude.{◌≡◌, ◌<◌, ◌≤◌, ◌+◌, [], length, slice_get, None, Some, IfSome, IfNone, IfOk, OnErr, option_copied, option_map};
 ghost use Rattle.std.specs.FinMap as map;
 ghost use Rattle.bpf_model.specs.declared.limits.TheConstants.{VALUE_BYTES, MAX_ENTRIES, MAX_SPARE};
 ghost use Rattle.bpf_model.specs.Access.{byte_count, number_at};
-ghost use Rattle.bpf_model.specs.Helper.{update_error};
 ghost use Rattle.bpf_model.specs.MachineStep.{with_bytes};
-ghost use Rattle.bpf_model.specs.MapState.{MapState, IsShape};
+ghost use Rattle.bpf_model.specs.MapState.{IsShape};
 ghost use Rattle.bpf_model.specs.View.{new_map_view};
 ghost use Rattle.element_arena.specs.State.{value_at};
 ghost use Rattle.hash_index.specs.Order.{NoneAbove};
 ghost use Rattle.view_laws.specs.Views.{updated, deleted, written, turned_view, value_read};
-ghost use Rattle.maps.specs.Shown.{IsOccupied, IsReaped, IsNext, or_no_memory, put_in};
+ghost use Rattle.maps.specs.Shown.{IsOccupied, IsReaped, IsNext};
 ghost use Rattle.maps.specs.Counting.{counts_of};
 
+use crate::admission::Admission;
 use crate::counts::{Counts, counts_after_reap, counts_after_update};
 use crate::parts::Parts;
 use bpf_model::{Errno, Given, KeyBytes, MapShape, ValueBytes, Width, array_of};
@@ -43,25 +43,6 @@ impl<I: Index, D: Deferred> Model for HashMap<I, D> {
     ghost view = { λ h. map_view h.shape h.parts };
 
     ghost invariant = { λ h. IsCounted h.shape h.parts h.counts };
-}
-
-/// Which test of an update fails first, but for the last: that a map slot is free.
-fn first_error(flags: u64, present: bool, linked: usize, entries: usize) -> Option<Errno>
-    ensures tested { (m : MapState) → m.shape.entries ≡ entries →
-        update_error flags present linked m ≡ or_no_memory result m }
-    ensures room { IfNone result (present ≡ false → linked < entries) }
-{
-    if flags > 2 {
-        Some(Errno::InvalidArgument)
-    } else if flags == 1 && present {
-        Some(Errno::Exists)
-    } else if flags == 2 && !present {
-        Some(Errno::NoEntry)
-    } else if !present && entries <= linked {
-        Some(Errno::TooBig)
-    } else {
-        None
-    }
 }
 
 impl<I: Index, D: Deferred> HashMap<I, D> {
@@ -126,33 +107,14 @@ impl<I: Index, D: Deferred> HashMap<I, D> {
         ensures err { OnErr result (self.new ≡ self.old) }
         ensures shape { self.new.shape ≡ self.old.shape }
     {
-        let found = self.parts.find(key);
-        match first_error(
+        let admission = Admission {
             flags,
-            found.is_some(),
-            self.counts.linked,
-            self.shape.entries,
-        ) {
-            Some(errno) => Err(errno),
-            None => self.put(found, key, value),
-        }
-    }
-
-    /// Links a new element under a key, whose map slot was found, where a map slot is free.
-    fn put(&mut self, found: Option<usize>, key: &[u8], value: &[u8]) -> Result<(), Errno>
-        requires found { map.get self.old.index key.now ≡ found }
-        requires room { IfNone found (map.len self.old.index < self.old.shape.entries) }
-        requires key { length key.now ≡ self.old.shape.key_len }
-        requires value { length value.now ≡ self.old.shape.value_len }
-        ensures result { result ≡ (put_in self.old.free self.old found key.now value.now).0 }
-        ensures new { self.new ≡ (put_in self.old.free self.old found key.now value.now).1 }
-        ensures shape { self.new.shape ≡ self.old.shape }
-    {
-        self.parts.is_parted();
-        match self.parts.take(key, value) {
-            None => Err(Errno::NoMemory),
-            Some(slot) => {
-                self.parts.replace(found, slot);
+            linked: self.counts.linked,
+            entries: self.shape.entries,
+        };
+        match self.parts.update(key, value, admission) {
+            Err(errno) => Err(errno),
+            Ok(found) => {
                 self.counts = counts_after_update(found, self.counts);
                 Ok(())
             }
@@ -167,10 +129,9 @@ impl<I: Index, D: Deferred> HashMap<I, D> {
         ensures err { OnErr result (self.new ≡ self.old) }
         ensures shape { self.new.shape ≡ self.old.shape }
     {
-        match self.parts.find(key) {
+        match self.parts.remove(key) {
             None => Err(Errno::NoEntry),
-            Some(slot) => {
-                self.parts.retire(slot);
+            Some(_) => {
                 self.counts.linked -= 1;
                 self.counts.unlinked += 1;
                 Ok(())

@@ -4,6 +4,7 @@
 //! `HashMap` stands on any index and any lists of unlinked slots; `Map` is the one that the runtime takes.
 #![tactic(auto)]
 
+mod admission;
 mod copying;
 mod counts;
 mod fault;

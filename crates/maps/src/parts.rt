@@ -1,17 +1,20 @@
 //! An arena with an index and the lists that stand in it.
-ghost use Rattle.std.specs.Prelude.{◌≡◌, ◌<◌, ◌≤◌, ◌+◌, ◌∷◌, [], length, slice_get, None, Some, IfSome, IfNone, IfOk, if◌then◌else◌, option_copied};
+ghost use Rattle.std.specs.Prelude.{◌≡◌, ◌<◌, ◌≤◌, ◌+◌, length, slice_get, is_some, None, Some, IfSome, IfNone, IfOk, OnErr, if◌then◌else◌, option_copied};
 ghost use Rattle.std.specs.FinMap as map;
 ghost use Rattle.bpf_model.specs.Schedule.{turned, no_queues};
 ghost use Rattle.bpf_model.specs.declared.event.Given.TheVariants as given;
 ghost use Rattle.bpf_model.specs.Access.{byte_count, number_at};
 ghost use Rattle.bpf_model.specs.MachineStep.{with_bytes};
-ghost use Rattle.bpf_model.specs.MapState.{IsShape, slots_of_shape};
-ghost use Rattle.element_arena.specs.State.{key_at, value_at, is_last_use, taken, given_back, with_slot_value, new_arena};
+ghost use Rattle.bpf_model.specs.Helper.{update_error};
+ghost use Rattle.bpf_model.specs.MapState.{MapState, IsShape, slots_of_shape};
+ghost use Rattle.element_arena.specs.State.{key_at, value_at, is_last_use, given_back, with_slot_value, new_arena};
 ghost use Rattle.hash_index.specs.Order.{IsAbove, NoneAbove, NoneBetween};
-ghost use Rattle.deferred_free.specs.Queued.{retired_lists, reaped_lists};
-ghost use Rattle.maps.specs.Parted.{IsParted, IsInHand, IsInUse, without_key};
+ghost use Rattle.deferred_free.specs.Queued.{reaped_lists};
+ghost use Rattle.maps.specs.Parted.{IsParted, IsInHand, IsInUse};
+ghost use Rattle.maps.specs.Updated.{IsPut, error_of, unlinked_of};
 
-use bpf_model::{Given, MapShape, Width};
+use crate::admission::Admission;
+use bpf_model::{Errno, Given, MapShape, Width};
 use deferred_free::Deferred;
 use element_arena::Arena;
 use hash_index::Index;
@@ -61,69 +64,61 @@ impl<I: Index, D: Deferred> Parts<I, D> {
         ensures found { result ≡ map.get self.now.index key.now }
         ensures parted { IsParted self.now }
     {
-        self.index.find(&self.arena, key)
+        self.index.locate(&self.arena, key).slot
     }
 
-    /// Takes the slot that has been free longest. It is in hand then.
-    pub fn take(&mut self, key: &[u8], value: &[u8]) -> Option<usize>
+    /// Links the slot that has been free longest under a key, for a key and a value of the arena's lengths. The
+    /// slot that the key had is unlinked, and joins the end of next. The result is that slot; an error is that of
+    /// the first test that fails, and then nothing has changed.
+    pub fn update(
+        &mut self,
+        key: &[u8],
+        value: &[u8],
+        admission: Admission,
+    ) -> Result<Option<usize>, Errno>
         requires key { length key.now ≡ self.old.arena.key_len }
         requires value { length value.now ≡ self.old.arena.value_len }
-        ensures none { IfNone result (self.old.arena.free ≡ []) }
-        ensures unchanged { IfNone result (self.new ≡ self.old) }
-        ensures slot { IfSome result (λ i. self.old.arena.free ≡ i ∷ self.new.arena.free) }
-        ensures new { IfSome result (λ i. self.new ≡ record self.old {
-          arena = taken self.old.arena i self.new.arena.free key.now value.now;
-        }) }
-        ensures held { IfSome result (IsInHand self.new) }
-        ensures keyed { IfSome result (λ i. key_at self.new.arena.slots i ≡ key.now) }
-        ensures parted { IsParted self.new }
+        ensures parted { IsParted self.old }
+        ensures tested { (m : MapState) → m.shape.entries ≡ admission.entries →
+            length m.bag ≡ length self.old.arena.free →
+            update_error admission.flags (is_some (map.get self.old.index key.now))
+            admission.linked m
+            ≡ error_of result }
+        ensures err { OnErr result (self.new ≡ self.old) }
+        ensures found { IfOk result (λ found. map.get self.old.index key.now ≡ found) }
+        ensures room { IfOk result (λ found. IfNone found (admission.linked < admission.entries)) }
+        ensures put { IfOk result (λ found. IsPut self.old self.new key.now value.now found) }
     {
-        self.arena.take(key, value)
+        let place = self.index.locate(&self.arena, key);
+        match admission.first_error(place.slot.is_some()) {
+            Some(errno) => Err(errno),
+            None => match self.arena.take(key, value) {
+                None => Err(Errno::NoMemory),
+                Some(slot) => {
+                    self.index.put(&mut self.arena, place, slot);
+                    match place.slot {
+                        None => Ok(None),
+                        Some(old) => {
+                            self.deferred.retire(&mut self.arena, old);
+                            Ok(Some(old))
+                        }
+                    }
+                }
+            },
+        }
     }
 
-    /// Links a slot in hand, whose key the index does not have.
-    pub fn link(&mut self, slot: usize)
-        requires held { IsInHand self.old slot }
-        requires absent { map.get self.old.index (key_at self.old.arena.slots slot) ≡ None }
-        ensures { let old = self.old in self.new ≡ record {
-          index = map.insert old.index (key_at old.arena.slots slot) slot;
-          lists = old.lists;
-          arena = record old.arena { links = self.new.arena.links };
-        } }
+    /// Unlinks the slot of a key, if there is one, which joins the end of next.
+    pub fn remove(&mut self, key: &[u8]) -> Option<usize>
+        ensures parted { IsParted self.old }
+        ensures found { result ≡ map.get self.old.index key.now }
+        ensures new { self.new ≡ unlinked_of self.old key.now result self.new.arena.links }
     {
-        self.index.link(&mut self.arena, slot);
-    }
-
-    /// Unlinks a slot, which joins the end of next.
-    pub fn retire(&mut self, slot: usize)
-        requires { map.get self.old.index (key_at self.old.arena.slots slot) ≡ Some slot }
-        ensures { let old = self.old in self.new ≡ record {
-          index = map.remove old.index (key_at old.arena.slots slot);
-          lists = retired_lists old.lists slot;
-          arena = record old.arena { links = self.new.arena.links };
-        } }
-    {
-        self.index.unlink(&mut self.arena, slot);
-        self.deferred.retire(&mut self.arena, slot);
-    }
-
-    /// Links a slot in hand. The slot that its key had is unlinked, and joins the end of next.
-    pub fn replace(&mut self, found: Option<usize>, slot: usize)
-        requires parted { IsParted self.old }
-        requires held { IsInHand self.old slot }
-        requires found { map.get self.old.index (key_at self.old.arena.slots slot) ≡ found }
-        ensures { let key = key_at self.old.arena.slots slot in
-            let old = without_key self.old key found in self.new ≡ record {
-              index = map.insert old.index key slot;
-              lists = old.lists;
-              arena = record self.old.arena { links = self.new.arena.links };
-            } }
-    {
-        match found {
-            None => self.link(slot),
-            Some(old) => {
-                self.retire(old);
-                self.link(slot);
+        match self.index.unlink(&mut self.arena, key) {
+            None => None,
+            Some(slot) => {
+                self.deferred.retire(&mut self.arena, slot);
+                Some(slot)
             }
         }
     }

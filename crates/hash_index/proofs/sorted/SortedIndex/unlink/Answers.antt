@@ -1,26 +1,21 @@
-use Rattle.std.proofs.Common.{◌≡◌, ◌<◌, Some, arith, rules, length}
-use Rattle.std.specs.Prelude.{slice_get, vec_len}
+use Rattle.std.proofs.Common.{◌∙◌, sym, ap}
+use Rattle.std.specs.FinMap as map
 use Rattle.element_arena.specs.State.{key_at}
-use Rattle.hash_index.proofs.Ordered.{sorted_unlink, placed, linked_inside, linked_position}
+use Rattle.hash_index.specs.Sorted.{sorted_contents}
+use Rattle.hash_index.proofs.Links.{found_same}
+use Rattle.hash_index.proofs.Runs.{remove_absent}
+use Rattle.hash_index.proofs.Orders.{stands_at}
 use Rattle.hash_index.proofs.sorted.SortedIndex.unlink.Goals as goal
-use Rattle.std.proofs.lemmas.Option.{slice_get_within}
 
-pub key-requires : goal.key-requires
-key-requires c = linked_inside c.args.self.now c.args.arena.now c.args.slot c.requires.fits c.requires.linked
+pub leave-requires-clause-at : goal.leave-requires-clause-at
+leave-requires-clause-at c =
+    let same = found_same (key_at c.args.arena.now.slots) c.args.self.now.slots.items c.args.key.now _ c.in-Some.slot c.locate-place.ensures.slot c.in-Some.is in
+    stands_at (key_at c.args.arena.now.slots) c.args.self.now.slots.items c.args.key.now c.locate-place.result.home c.in-Some.slot c.requires.fits.order c.locate-place.ensures.place same.0 same.1
 
-pub remove-slot-requires : goal.remove-slot-requires
-remove-slot-requires c =
-    let at : slice_get c.args.self.now.slots.items c.position-position.result ≡ Some c.args.slot = linked_position c.args.self.now c.args.arena.now c.args.slot c.position-position.result c.requires.fits c.requires.linked (placed (key_at c.args.arena.now.slots) _ _ _ _ _ c.deref.ensures.value c.key.ensures c.position-position.ensures) in
-    let in_ : c.position-position.result < length c.args.self.now.slots.items = slice_get_within c.args.self.now.slots.items c.position-position.result c.args.slot at in
-    let l : vec_len c.args.self.now.slots ≡ length c.args.self.now.slots.items = search rules in
-    omega arith
+pub returns-in-None-clause-contents : goal.returns-in-None-clause-contents
+returns-in-None-clause-contents c = sym (remove_absent (sorted_contents c.args.self.now c.args.arena.now) c.args.key.now (sym c.locate-place.ensures.slot ∙ c.in-None.is))
 
-pub returns-clause-contents : goal.returns-clause-contents
-returns-clause-contents c =
-    let at : slice_get c.args.self.now.slots.items c.position-position.result ≡ Some c.args.slot = linked_position c.args.self.now c.args.arena.now c.args.slot c.position-position.result c.requires.fits c.requires.linked (placed (key_at c.args.arena.now.slots) _ _ _ _ _ c.deref.ensures.value c.key.ensures c.position-position.ensures) in
-    (sorted_unlink c.args.self.now (record { slots = c.remove-slot.new.self }) c.args.arena.now c.args.slot c.position-position.result c.requires.fits at c.remove-slot.ensures.items c.remove-slot.ensures.capacity).1
-
-pub returns-clause-fits : goal.returns-clause-fits
-returns-clause-fits c =
-    let at : slice_get c.args.self.now.slots.items c.position-position.result ≡ Some c.args.slot = linked_position c.args.self.now c.args.arena.now c.args.slot c.position-position.result c.requires.fits c.requires.linked (placed (key_at c.args.arena.now.slots) _ _ _ _ _ c.deref.ensures.value c.key.ensures c.position-position.ensures) in
-    (sorted_unlink c.args.self.now (record { slots = c.remove-slot.new.self }) c.args.arena.now c.args.slot c.position-position.result c.requires.fits at c.remove-slot.ensures.items c.remove-slot.ensures.capacity).0
+pub returns-in-Some-clause-contents : goal.returns-in-Some-clause-contents
+returns-in-Some-clause-contents c =
+    let same = found_same (key_at c.args.arena.now.slots) c.args.self.now.slots.items c.args.key.now _ c.in-Some.slot c.locate-place.ensures.slot c.in-Some.is in
+    c.leave.ensures.contents ∙ ap (map.remove (sorted_contents c.args.self.now c.args.arena.now)) same.1

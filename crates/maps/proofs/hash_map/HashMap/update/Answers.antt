@@ -1,39 +1,56 @@
-use Rattle.std.proofs.Common.{◌≡◌, ◌∙◌, Some, Err, sym, ap, subst, refl}
-use Rattle.std.specs.Prelude.{is_some}
-use Rattle.bpf_model.specs.View.{MapView, map_state_of}
-use Rattle.view_laws.specs.Views.{updated}
-use Rattle.maps.specs.Shown.{map_view, put_in}
-use Rattle.maps.proofs.Updating.{refused, shown, put-updates}
+use Rattle.std.proofs.Common.{◌≡◌, ◌∙◌, ◌+◌, ◌<◌, ◌≤◌, Err, arith, sym, ap, subst, refl, length}
+use Rattle.std.specs.Prelude.{IfNone}
+use Rattle.std.proofs.lemmas.List.{length-map}
+use Rattle.bpf_model.specs.declared.limits.TheConstants.{MAX_ENTRIES, MAX_SPARE}
+use Rattle.bpf_model.specs.View.{MapView, map_state_of, uses_at}
+use Rattle.view_laws.specs.Views.{updated, updated_by}
+use Rattle.maps.specs.Counting.{IsCounted, unlinked_in}
+use Rattle.maps.specs.Shown.{map_view}
+use Rattle.maps.specs.Updated.{error_of}
+use Rattle.maps.proofs.Updating.{put-kept, put-updates, put-view, updated-by}
+use Rattle.maps.proofs.Counting.{put-counted, few-unlinked}
 use Rattle.maps.proofs.hash_map.HashMap.update.Goals as goal
 
-pub returns-in-Some-clause-result : goal.returns-in-Some-clause-result
-returns-in-Some-clause-result g c =
-    let e = subst (λ (v : MapView). updated v c.args.key.now c.args.value.now c.args.flags ≡ (Err c.in-Some.errno, v)) c.self.view_is
-    (refused (map_view c.self.inside.shape c.self.inside.parts) c.args.key.now c.args.value.now c.args.flags c.in-Some.errno
-    (shown (map_view c.self.inside.shape c.self.inside.parts) c.args.key.now c.args.flags c.is_some.result c.self.inside.counts.linked (Some c.in-Some.errno)
-    (c.is_some.ensures ∙ ap is_some c.find-found.ensures.found) c.self.invariant.kept.count (c.in-Some.ensures.tested (map_state_of (map_view c.self.inside.shape c.self.inside.parts)) refl))) in
+pub returns-in-Err-clause-result : goal.returns-in-Err-clause-result
+returns-in-Err-clause-result g c =
+    let tested = c.update.ensures.tested (map_state_of (map_view c.self.inside.shape c.self.inside.parts)) refl (length-map c.self.inside.parts.arena.free (uses_at c.self.inside.parts.arena.slots)) in
+    let by = updated-by (map_view c.self.inside.shape c.self.inside.parts) c.args.key.now c.args.value.now c.args.flags c.self.inside.counts.linked (error_of c.update.result) c.self.invariant.kept.count tested in
+    let e = subst (λ (v : MapView). updated v c.args.key.now c.args.value.now c.args.flags ≡ (Err c.in-Err.errno, v)) c.self.view_is (by ∙ ap (λ r. updated_by (error_of r) (map_view c.self.inside.shape c.self.inside.parts) c.args.key.now c.args.value.now) c.in-Err.is) in
     sym (ap (λ r. r.0) e)
 
-pub returns-in-Some-clause-new : goal.returns-in-Some-clause-new
-returns-in-Some-clause-new g c =
-    let e = subst (λ (v : MapView). updated v c.args.key.now c.args.value.now c.args.flags ≡ (Err c.in-Some.errno, v)) c.self.view_is
-    (refused (map_view c.self.inside.shape c.self.inside.parts) c.args.key.now c.args.value.now c.args.flags c.in-Some.errno
-    (shown (map_view c.self.inside.shape c.self.inside.parts) c.args.key.now c.args.flags c.is_some.result c.self.inside.counts.linked (Some c.in-Some.errno)
-    (c.is_some.ensures ∙ ap is_some c.find-found.ensures.found) c.self.invariant.kept.count (c.in-Some.ensures.tested (map_state_of (map_view c.self.inside.shape c.self.inside.parts)) refl))) in
+pub returns-in-Err-clause-new : goal.returns-in-Err-clause-new
+returns-in-Err-clause-new g c =
+    let tested = c.update.ensures.tested (map_state_of (map_view c.self.inside.shape c.self.inside.parts)) refl (length-map c.self.inside.parts.arena.free (uses_at c.self.inside.parts.arena.slots)) in
+    let by = updated-by (map_view c.self.inside.shape c.self.inside.parts) c.args.key.now c.args.value.now c.args.flags c.self.inside.counts.linked (error_of c.update.result) c.self.invariant.kept.count tested in
+    let e = subst (λ (v : MapView). updated v c.args.key.now c.args.value.now c.args.flags ≡ (Err c.in-Err.errno, v)) c.self.view_is (by ∙ ap (λ r. updated_by (error_of r) (map_view c.self.inside.shape c.self.inside.parts) c.args.key.now c.args.value.now) c.in-Err.is) in
+    ap (map_view c.self.inside.shape) c.in-Err.ensures.err ∙ (c.self.view_is ∙ sym (ap (λ r. r.1) e))
+
+pub counts_after_update-self-inside-requires-clause-unlinked : goal.counts_after_update-self-inside-requires-clause-unlinked
+counts_after_update-self-inside-requires-clause-unlinked g c =
+    let f : unlinked_in (map_view c.self.inside.shape c.self.inside.parts) ≤ MAX_ENTRIES + MAX_SPARE = few-unlinked c.self.inside.shape c.self.inside.parts c.self.inside.counts.linked c.update.ensures.parted c.self.invariant.kept in
+    let e : c.self.inside.counts.unlinked ≡ unlinked_in (map_view c.self.inside.shape c.self.inside.parts) = c.self.invariant.unlinked in
+    omega arith
+
+pub invariant_of-self-in-Ok : goal.invariant_of-self-in-Ok
+invariant_of-self-in-Ok g c =
+    let key : length c.args.key.now ≡ c.self.inside.shape.key_len = c.requires.key ∙ ap (λ (v : MapView). v.shape.key_len) (sym c.self.view_is) in
+    let value : length c.args.value.now ≡ c.self.inside.shape.value_len = c.requires.value ∙ ap (λ (v : MapView). v.shape.value_len) (sym c.self.view_is) in
+    let h = c.in-Ok.ensures.put in
+    let room = subst (λ n. IfNone c.in-Ok.found (n < c.self.inside.shape.entries)) c.self.invariant.kept.count c.in-Ok.ensures.room in
+    let kept = put-kept c.self.inside.parts c.update.new.self h.slot h.rest c.args.key.now c.args.value.now c.in-Ok.found h.new_is c.self.inside.shape c.self.inside.counts.linked c.self.invariant.kept c.in-Ok.ensures.found key value in
+    let view = put-view c.self.inside.parts c.update.new.self h.slot h.rest c.args.key.now c.args.value.now c.in-Ok.found h.new_is c.self.inside.shape in
+    subst (IsCounted c.self.inside.shape c.update.new.self) (sym c.counts_after_update-self-inside.ensures) (put-counted c.self.inside.shape c.self.inside.parts c.update.new.self h.slot h.rest c.args.key.now c.args.value.now c.in-Ok.found c.self.inside.counts c.self.invariant kept room view)
+
+pub returns-in-Ok-clause-result : goal.returns-in-Ok-clause-result
+returns-in-Ok-clause-result g c =
+    let tested = c.update.ensures.tested (map_state_of (map_view c.self.inside.shape c.self.inside.parts)) refl (length-map c.self.inside.parts.arena.free (uses_at c.self.inside.parts.arena.slots)) in
+    let by = updated-by (map_view c.self.inside.shape c.self.inside.parts) c.args.key.now c.args.value.now c.args.flags c.self.inside.counts.linked (error_of c.update.result) c.self.invariant.kept.count tested in
+    let e = ap (λ (v : MapView). updated v c.args.key.now c.args.value.now c.args.flags) (sym c.self.view_is) ∙ (by ∙ (ap (λ r. updated_by (error_of r) (map_view c.self.inside.shape c.self.inside.parts) c.args.key.now c.args.value.now) c.in-Ok.is ∙ put-updates c.self.inside.shape c.self.inside.parts c.update.new.self c.args.key.now c.args.value.now c.in-Ok.found c.in-Ok.ensures.found c.in-Ok.ensures.put)) in
+    sym (ap (λ r. r.0) e)
+
+pub returns-in-Ok-clause-new : goal.returns-in-Ok-clause-new
+returns-in-Ok-clause-new g c =
+    let tested = c.update.ensures.tested (map_state_of (map_view c.self.inside.shape c.self.inside.parts)) refl (length-map c.self.inside.parts.arena.free (uses_at c.self.inside.parts.arena.slots)) in
+    let by = updated-by (map_view c.self.inside.shape c.self.inside.parts) c.args.key.now c.args.value.now c.args.flags c.self.inside.counts.linked (error_of c.update.result) c.self.invariant.kept.count tested in
+    let e = ap (λ (v : MapView). updated v c.args.key.now c.args.value.now c.args.flags) (sym c.self.view_is) ∙ (by ∙ (ap (λ r. updated_by (error_of r) (map_view c.self.inside.shape c.self.inside.parts) c.args.key.now c.args.value.now) c.in-Ok.is ∙ put-updates c.self.inside.shape c.self.inside.parts c.update.new.self c.args.key.now c.args.value.now c.in-Ok.found c.in-Ok.ensures.found c.in-Ok.ensures.put)) in
     sym (ap (λ r. r.1) e)
-
-pub returns-in-None-clause-result : goal.returns-in-None-clause-result
-returns-in-None-clause-result g c =
-    let e = subst (λ (v : MapView). updated v c.args.key.now c.args.value.now c.args.flags ≡ put_in v.free v c.find-found.result c.args.key.now c.args.value.now) c.self.view_is
-    (put-updates (map_view c.self.inside.shape c.self.inside.parts) c.args.key.now c.args.value.now c.args.flags c.find-found.result (sym c.find-found.ensures.found)
-    (shown (map_view c.self.inside.shape c.self.inside.parts) c.args.key.now c.args.flags c.is_some.result c.self.inside.counts.linked _
-    (c.is_some.ensures ∙ ap is_some c.find-found.ensures.found) c.self.invariant.kept.count (c.in-None.ensures.tested (map_state_of (map_view c.self.inside.shape c.self.inside.parts)) refl))) in
-    c.put.ensures.result ∙ sym (ap (λ r. r.0) e)
-
-pub returns-in-None-clause-new : goal.returns-in-None-clause-new
-returns-in-None-clause-new g c =
-    let e = subst (λ (v : MapView). updated v c.args.key.now c.args.value.now c.args.flags ≡ put_in v.free v c.find-found.result c.args.key.now c.args.value.now) c.self.view_is
-    (put-updates (map_view c.self.inside.shape c.self.inside.parts) c.args.key.now c.args.value.now c.args.flags c.find-found.result (sym c.find-found.ensures.found)
-    (shown (map_view c.self.inside.shape c.self.inside.parts) c.args.key.now c.args.flags c.is_some.result c.self.inside.counts.linked _
-    (c.is_some.ensures ∙ ap is_some c.find-found.ensures.found) c.self.invariant.kept.count (c.in-None.ensures.tested (map_state_of (map_view c.self.inside.shape c.self.inside.parts)) refl))) in
-    c.put.ensures.new ∙ sym (ap (λ r. r.1) e)
