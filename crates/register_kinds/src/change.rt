@@ -13,17 +13,6 @@ use crate::learn::Lesson;
 use crate::state::AbsState;
 use bpf_model::{REGISTERS, Reg};
 
-/// The bytes of an access become of this class.
-fn fill(cells: &mut [CellKind], at: usize, width: usize, cell: CellKind)
-    requires { at + width ≤ length cells.old }
-    ensures { (k : ℕ)
-        → class_in cells.new k ≡ (if is_within at width k then cell else class_in cells.old k) }
-{
-    for i in at..at + width {
-        cells[i] = cell;
-    }
-}
-
 /// The registers after a call: its result in r0, and nothing in r1 to r5.
 fn after_return(regs: &[RegKind; REGISTERS], returned: RegKind) -> [RegKind; REGISTERS]
     ensures { (r : ℕ) → kind_at result r ≡ returned_kind (kind_of returned) (kind_at regs.now) r }
@@ -97,7 +86,7 @@ impl AbsState {
             (state_of self.new) }
         ensures below { (top : ℕ) → AreBelow top self.old → AreBelow top self.new }
     {
-        fill(&mut self.frame.cells, at, width, CellKind::Byte);
+        self.frame.write(at, width);
     }
 
     /// The eight bytes of an aligned group become the parts of a reference.
@@ -110,7 +99,6 @@ impl AbsState {
         ensures below { (top : ℕ) → AreBelow top self.old → IsBelow top (kind_of kind)
             → AreBelow top self.new }
     {
-        fill(&mut self.frame.cells, at, 8, CellKind::Part);
-        self.frame.spills[at / 8] = kind;
+        self.frame.spill(at, kind);
     }
 }

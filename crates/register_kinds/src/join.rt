@@ -45,21 +45,30 @@ fn join_kind(pairs: &mut Pairs, top: u32, a: RegKind, b: RegKind) -> RegKind
     }
 }
 
-/// Each kind becomes that of what is of either kind.
-pub(crate) fn join_kinds(pairs: &mut Pairs, top: u32, kinds: &mut [RegKind], others: &[RegKind])
+/// Each kind becomes that of what is of either kind; those before index `from` are unwritten.
+pub(crate) fn join_kinds(
+    pairs: &mut Pairs,
+    top: u32,
+    kinds: &mut [RegKind],
+    others: &[RegKind],
+    from: usize,
+)
     requires room { top + MAX_PAIRS < 2 ^ 32 }
     requires long { length kinds.old ≡ length others.now }
+    requires inside { from ≤ length others.now }
     requires few { length pairs.old.items + length others.now ≤ MAX_PAIRS }
     requires table { IsTable pairs.old.items }
+    requires blank { (r : ℕ) → r < from → kind_in kinds.old r ≡ RegKind.Unwritten }
     requires below { (r : ℕ)
         → IsBelow top (kind_at kinds.old r) × IsBelow top (kind_at others.now r) }
     ensures joins { (r : ℕ) → JoinsKind top pairs.new.items
         (kind_at kinds.old r) (kind_at others.now r) (kind_at kinds.new r) }
+    ensures blank { (r : ℕ) → r < from → kind_in kinds.new r ≡ RegKind.Unwritten }
     ensures table { IsTable pairs.new.items }
     ensures grows { PairsGrow pairs.old.items pairs.new.items }
     ensures few { length pairs.new.items ≤ length pairs.old.items + length others.now }
 {
-    for i in 0..others.len() {
+    for i in from..others.len() {
         kinds[i] = join_kind(pairs, top, kinds[i], others[i]);
     }
 }
@@ -84,15 +93,22 @@ fn join_cell(a: CellKind, b: CellKind, spill: &RegKind) -> CellKind
     }
 }
 
-/// Each byte becomes what is known of it on either side; `spills` are the joined ones.
-pub(crate) fn join_cells(cells: &mut [CellKind], others: &[CellKind], spills: &[RegKind])
+/// Each byte becomes what is known of it on either side; `spills` are the joined ones. Those before
+/// index `from` are unwritten.
+pub(crate) fn join_cells(
+    cells: &mut [CellKind],
+    others: &[CellKind],
+    spills: &[RegKind],
+    from: usize,
+)
     requires long { length cells.old ≡ length others.now }
     requires spills { length cells.old ≤ 8 * length spills.now }
+    requires blank { (k : ℕ) → k < from → class_in cells.old k ≡ CellKind.Unwritten }
     ensures { (k : ℕ) → class_in cells.new k
         ≡ joined_class (class_in cells.old k) (class_in others.now k) (is_pointer
         (kind_in spills.now (k / 8))) }
 {
-    for i in 0..others.len() {
+    for i in from..others.len() {
         cells[i] = join_cell(cells[i], others[i], &spills[i / 8]);
     }
 }

@@ -25,3 +25,6 @@ loop-i-preserved c =
 
 pub returns-clause-joins : goal.returns-clause-joins
 returns-clause-joins c = kinds_all c.args.top c.loop-i.pairs.items c.args.kinds.now c.args.others.now c.loop-i.kinds (omega arith) c.requires.long (λ r h. c.loop-i.invariant.done r (omega arith))
+
+pub returns-clause-few : goal.returns-clause-few
+returns-clause-few c = omega (arith, c.loop-i.invariant.few)
