@@ -110,7 +110,7 @@ impl FrameCells {
     {
         let first = self.first.min(other.first);
         join_kinds(pairs, top, &mut self.spills, &other.spills, first);
-        join_cells(&mut self.cells, &other.cells, &self.spills, 8 * first);
+        join_cells(&mut self.cells, &other.cells, &self.spills, first);
         self.first = first;
     }
 

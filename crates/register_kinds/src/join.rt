@@ -1,5 +1,5 @@
 //! The joining of registers, of spilled references and of bytes.
-ghost use Rattle.std.specs.Prelude.{◌≡◌, ℕ, ◌+◌, ◌*◌, ◌/◌, ◌^◌, ◌<◌, ◌≤◌, length};
+ghost use Rattle.std.specs.Prelude.{◌≡◌, ℕ, ◌+◌, ◌*◌, ◌/◌, ◌^◌, ◌<◌, ◌≤◌, length, IsTrue};
 ghost use Rattle.register_kinds.specs.declared.identities.TheConstants.{MAX_PAIRS};
 ghost use Rattle.register_kinds.specs.States.{kind_of, kind_at, kind_in, class_in, is_pointer};
 ghost use Rattle.register_kinds.specs.Joined.{joined_class};
@@ -69,7 +69,10 @@ pub(crate) fn join_kinds(
     ensures few { length pairs.new.items ≤ length pairs.old.items + length others.now }
 {
     for i in from..others.len() {
-        kinds[i] = join_kind(pairs, top, kinds[i], others[i]);
+        match kinds[i] {
+            RegKind::Unwritten => {}
+            kind => kinds[i] = join_kind(pairs, top, kind, others[i]),
+        }
     }
 }
 
@@ -93,8 +96,48 @@ fn join_cell(a: CellKind, b: CellKind, spill: &RegKind) -> CellKind
     }
 }
 
+/// Whether what is known of a byte of the first class stays where it may be of the second; `kept` says
+/// whether the references that were stored join to one.
+fn is_kept(a: CellKind, b: CellKind, kept: bool) -> bool
+    ensures { IsTrue result → joined_class a b kept ≡ a }
+{
+    (a == CellKind::Unwritten) | ((a == b) & (kept | (a != CellKind::Part)))
+}
+
+/// Whether what is known of each byte of a group stays.
+fn are_kept(cells: &[CellKind], others: &[CellKind], at: usize, kept: bool) -> bool
+    requires long { length cells.now ≡ length others.now }
+    requires inside { at + 8 ≤ length cells.now }
+    ensures { IsTrue result → (k : ℕ) → at ≤ k → k < at + 8
+        → joined_class (class_in cells.now k) (class_in others.now k) kept ≡ class_in cells.now k }
+{
+    let mut all = true;
+    for i in at..at + 8 {
+        all &= is_kept(cells[i], others[i], kept);
+    }
+    all
+}
+
+/// Each byte of a group becomes what is known of it on either side; `spill` is what it is part of, where
+/// it is part on both.
+fn join_group(cells: &mut [CellKind], others: &[CellKind], at: usize, spill: &RegKind)
+    requires long { length cells.old ≡ length others.now }
+    requires inside { at + 8 ≤ length cells.old }
+    ensures group { (k : ℕ) → at ≤ k → k < at + 8 → class_in cells.new k
+        ≡ joined_class (class_in cells.old k) (class_in others.now k) (is_pointer spill.now) }
+    ensures before { (k : ℕ) → k < at → class_in cells.new k ≡ class_in cells.old k }
+    ensures behind { (k : ℕ) → at + 8 ≤ k → class_in cells.new k ≡ class_in cells.old k }
+{
+    if are_kept(cells, others, at, spill.is_pointer()) {
+        return;
+    }
+    for i in at..at + 8 {
+        cells[i] = join_cell(cells[i], others[i], spill);
+    }
+}
+
 /// Each byte becomes what is known of it on either side; `spills` are the joined ones. Those before
-/// index `from` are unwritten.
+/// group `from` are unwritten.
 pub(crate) fn join_cells(
     cells: &mut [CellKind],
     others: &[CellKind],
@@ -102,13 +145,13 @@ pub(crate) fn join_cells(
     from: usize,
 )
     requires long { length cells.old ≡ length others.now }
-    requires spills { length cells.old ≤ 8 * length spills.now }
-    requires blank { (k : ℕ) → k < from → class_in cells.old k ≡ CellKind.Unwritten }
+    requires spills { length cells.old ≡ 8 * length spills.now }
+    requires blank { (k : ℕ) → k < 8 * from → class_in cells.old k ≡ CellKind.Unwritten }
     ensures { (k : ℕ) → class_in cells.new k
         ≡ joined_class (class_in cells.old k) (class_in others.now k) (is_pointer
         (kind_in spills.now (k / 8))) }
 {
-    for i in from..others.len() {
-        cells[i] = join_cell(cells[i], others[i], &spills[i / 8]);
+    for g in from..spills.len() {
+        join_group(cells, others, 8 * g, &spills[g]);
     }
 }
