@@ -12,9 +12,9 @@ ghost use Rattle.effects.specs.Floor.{operand_kind};
 
 use crate::kinds::operand;
 use bpf_model::{Condition, Operand, Reg, Size};
-use register_kinds::{AbsState, InsnFault, RegKind, held};
+use register_kinds::{AbsState, Boxes, InsnFault, RegKind, held};
 use scalar_domain::Scalar;
-use std::alloc::{AllocError, Global};
+use std::alloc::AllocError;
 
 /// The numbers of two kinds that are compared. Errors: `MaybeNull`, then `PointerArithmetic`, where one is of
 /// no numbers.
@@ -68,7 +68,7 @@ fn narrow(state: &mut AbsState, dst: Reg, src: &Operand, x: Scalar, y: Scalar)
 /// - `Memory`: there is none for the second state.
 pub fn fork(
     state: &mut AbsState,
-    alloc: Global,
+    boxes: &mut Boxes,
     condition: Condition,
     size: Size,
     dst: Reg,
@@ -96,7 +96,7 @@ pub fn fork(
     ensures unchanged { OnErr result (state.new ≡ state.old) }
 {
     let (x, y) = sides(state, dst, src)?;
-    let mut taken = state.copy(alloc)?;
+    let mut taken = state.copy(boxes)?;
     let (p, q) = Scalar::refine(size, condition, x, y, true);
     narrow(&mut taken, dst, src, p, q);
     let (p, q) = Scalar::refine(size, condition, x, y, false);
@@ -106,11 +106,11 @@ pub fn fork(
 
 /// Both edges of a comparison with the number 0 of a reference to an element's value, which is never
 /// null: nothing is learnt. Fails where memory runs out.
-pub fn fork_value(state: &AbsState, alloc: Global) -> Result<Box<AbsState>, AllocError>
+pub fn fork_value(state: &AbsState, boxes: &mut Boxes) -> Result<Box<AbsState>, AllocError>
     ensures sound { IfOk result (λ taken. (equal : Bool) (dst map : ℕ) (s : Scalar)
         → kind_in state.now.regs dst ≡ RegKind.Value map s
         → ForksOnNull equal dst state.now state.now taken.value) }
     ensures same { IfOk result (λ taken. taken.value ≡ state.now) }
 {
-    state.copy(alloc)
+    state.copy(boxes)
 }

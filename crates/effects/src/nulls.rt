@@ -5,8 +5,8 @@ ghost use Rattle.register_kinds.specs.Pairs.{AreBelow};
 ghost use Rattle.effects.specs.Forks.{ForksOnNull};
 ghost use Rattle.effects.specs.Calls.{Splits};
 
-use register_kinds::{AbsState, Lesson, RegKind};
-use std::alloc::{AllocError, Global};
+use register_kinds::{AbsState, Boxes, Lesson, RegKind};
+use std::alloc::AllocError;
 
 /// Both edges of a comparison by 64 bits of what may be null with the number 0, which jumps where
 /// it is equal or, where `equal` is false, where it is not. Where it is null, all registers and all
@@ -15,7 +15,7 @@ use std::alloc::{AllocError, Global};
 /// Fails where memory runs out.
 pub fn fork_null(
     state: &mut AbsState,
-    alloc: Global,
+    boxes: &mut Boxes,
     equal: bool,
     id: u32,
 ) -> Result<Box<AbsState>, AllocError>
@@ -31,7 +31,7 @@ pub fn fork_null(
         → AreBelow top state.old → AreBelow top taken.value) }
     ensures unchanged { OnErr result (state.new ≡ state.old) }
 {
-    let mut taken = state.copy(alloc)?;
+    let mut taken = state.copy(boxes)?;
     if equal {
         taken.learn(Lesson::IsNull(id));
         state.learn(Lesson::IsThere(id));

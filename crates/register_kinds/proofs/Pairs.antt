@@ -104,6 +104,12 @@ kinds_more top i pairs pairs' xs old others k l x done here = below_more _ i
     (λ r h. let ne : r ≢ i = omega arith in subst (λ y. JoinsKind top pairs' (kind_at old r) (kind_at others r) (kind_of y)) (sym (get_or-set_other xs i r k kinds.Unwritten ne)) (kind_later top pairs pairs' x _ _ _ (done r h)))
     (subst (λ y. JoinsKind top pairs' (kind_at old i) (kind_at others i) (kind_of y)) (sym (get_or-set_same xs i k kinds.Unwritten l)) here)
 
+-- with one more that is unwritten
+pub kinds_kept : (top i : ℕ) (pairs : List (ℕ × ℕ)) (xs old others : List RegKind) → kind_in xs i ≡ kinds.Unwritten → kind_in old i ≡ kinds.Unwritten
+    → ((r : ℕ) → r < i → JoinsKind top pairs (kind_at old r) (kind_at others r) (kind_at xs r)) → (r : ℕ) → r < i + 1 → JoinsKind top pairs (kind_at old r) (kind_at others r) (kind_at xs r)
+kinds_kept top i pairs xs old others e f done = below_more _ i done
+    (subst (λ y. JoinsKind top pairs (kind_of y) (kind_at others i) (kind_at xs i)) (sym f) (subst (λ y. JoinsKind top pairs Blank (kind_at others i) (kind_of y)) (sym e) (joins_blank top pairs (kind_at others i))))
+
 pub kinds_all : (top : ℕ) (pairs : List (ℕ × ℕ)) (old others xs : List RegKind) → length xs ≡ length others → length old ≡ length others
     → ((r : ℕ) → r < length others → JoinsKind top pairs (kind_at old r) (kind_at others r) (kind_at xs r)) → (r : ℕ) → JoinsKind top pairs (kind_at old r) (kind_at others r) (kind_at xs r)
 kinds_all top pairs old others xs e f all r = elim (cases_lt r (length others)) [

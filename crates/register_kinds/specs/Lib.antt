@@ -1,3 +1,4 @@
+pub mod Contents
 pub mod States
 pub mod Joined
 pub mod Pairs

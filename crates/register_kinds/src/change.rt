@@ -1,28 +1,16 @@
 //! Registers and bytes that an instruction sets.
-ghost use Rattle.std.specs.Prelude.{◌≡◌, ℕ, ◌+◌, ◌%◌, ◌≤◌, length, if◌then◌else◌};
+ghost use Rattle.std.specs.Prelude.{◌≡◌, ℕ, ◌+◌, ◌%◌, ◌≤◌};
 ghost use Rattle.bpf_model.specs.declared.limits.TheConstants.{FRAME_BYTES};
-ghost use Rattle.bpf_model.specs.Frame.{is_within};
 ghost use Rattle.typed_runs.specs.Kinds as model;
 ghost use Rattle.typed_runs.specs.Effects.{with_kind, with_cells, after_call, after_lock, after_unlock, returned_kind};
 ghost use Rattle.typed_runs.specs.Planned.{AreAlike};
-ghost use Rattle.register_kinds.specs.States.{kind_of, kind_at, kind_in, class_in, state_of};
+ghost use Rattle.register_kinds.specs.States.{kind_of, kind_at, kind_in, state_of};
 ghost use Rattle.register_kinds.specs.Pairs.{IsBelow, AreBelow};
 
-use crate::kind::{CellKind, RegKind};
+use crate::kind::RegKind;
 use crate::learn::Lesson;
 use crate::state::AbsState;
 use bpf_model::{REGISTERS, Reg};
-
-/// The bytes of an access become of this class.
-fn fill(cells: &mut [CellKind], at: usize, width: usize, cell: CellKind)
-    requires { at + width ≤ length cells.old }
-    ensures { (k : ℕ)
-        → class_in cells.new k ≡ (if is_within at width k then cell else class_in cells.old k) }
-{
-    for i in at..at + width {
-        cells[i] = cell;
-    }
-}
 
 /// The registers after a call: its result in r0, and nothing in r1 to r5.
 fn after_return(regs: &[RegKind; REGISTERS], returned: RegKind) -> [RegKind; REGISTERS]
@@ -97,7 +85,7 @@ impl AbsState {
             (state_of self.new) }
         ensures below { (top : ℕ) → AreBelow top self.old → AreBelow top self.new }
     {
-        fill(&mut self.frame.cells, at, width, CellKind::Byte);
+        self.frame.write(at, width);
     }
 
     /// The eight bytes of an aligned group become the parts of a reference.
@@ -110,7 +98,6 @@ impl AbsState {
         ensures below { (top : ℕ) → AreBelow top self.old → IsBelow top (kind_of kind)
             → AreBelow top self.new }
     {
-        fill(&mut self.frame.cells, at, 8, CellKind::Part);
-        self.frame.spills[at / 8] = kind;
+        self.frame.spill(at, kind);
     }
 }

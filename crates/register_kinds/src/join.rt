@@ -1,5 +1,5 @@
 //! The joining of registers, of spilled references and of bytes.
-ghost use Rattle.std.specs.Prelude.{◌≡◌, ℕ, ◌+◌, ◌*◌, ◌/◌, ◌^◌, ◌<◌, ◌≤◌, length};
+ghost use Rattle.std.specs.Prelude.{◌≡◌, ℕ, ◌+◌, ◌*◌, ◌/◌, ◌^◌, ◌<◌, ◌≤◌, length, IsTrue};
 ghost use Rattle.register_kinds.specs.declared.identities.TheConstants.{MAX_PAIRS};
 ghost use Rattle.register_kinds.specs.States.{kind_of, kind_at, kind_in, class_in, is_pointer};
 ghost use Rattle.register_kinds.specs.Joined.{joined_class};
@@ -45,22 +45,34 @@ fn join_kind(pairs: &mut Pairs, top: u32, a: RegKind, b: RegKind) -> RegKind
     }
 }
 
-/// Each kind becomes that of what is of either kind.
-pub(crate) fn join_kinds(pairs: &mut Pairs, top: u32, kinds: &mut [RegKind], others: &[RegKind])
+/// Each kind becomes that of what is of either kind; those before index `from` are unwritten.
+pub(crate) fn join_kinds(
+    pairs: &mut Pairs,
+    top: u32,
+    kinds: &mut [RegKind],
+    others: &[RegKind],
+    from: usize,
+)
     requires room { top + MAX_PAIRS < 2 ^ 32 }
     requires long { length kinds.old ≡ length others.now }
+    requires inside { from ≤ length others.now }
     requires few { length pairs.old.items + length others.now ≤ MAX_PAIRS }
     requires table { IsTable pairs.old.items }
+    requires blank { (r : ℕ) → r < from → kind_in kinds.old r ≡ RegKind.Unwritten }
     requires below { (r : ℕ)
         → IsBelow top (kind_at kinds.old r) × IsBelow top (kind_at others.now r) }
     ensures joins { (r : ℕ) → JoinsKind top pairs.new.items
         (kind_at kinds.old r) (kind_at others.now r) (kind_at kinds.new r) }
+    ensures blank { (r : ℕ) → r < from → kind_in kinds.new r ≡ RegKind.Unwritten }
     ensures table { IsTable pairs.new.items }
     ensures grows { PairsGrow pairs.old.items pairs.new.items }
     ensures few { length pairs.new.items ≤ length pairs.old.items + length others.now }
 {
-    for i in 0..others.len() {
-        kinds[i] = join_kind(pairs, top, kinds[i], others[i]);
+    for i in from..others.len() {
+        match kinds[i] {
+            RegKind::Unwritten => {}
+            kind => kinds[i] = join_kind(pairs, top, kind, others[i]),
+        }
     }
 }
 
@@ -84,15 +96,62 @@ fn join_cell(a: CellKind, b: CellKind, spill: &RegKind) -> CellKind
     }
 }
 
-/// Each byte becomes what is known of it on either side; `spills` are the joined ones.
-pub(crate) fn join_cells(cells: &mut [CellKind], others: &[CellKind], spills: &[RegKind])
+/// Whether what is known of a byte of the first class stays where it may be of the second; `kept` says
+/// whether the references that were stored join to one.
+fn is_kept(a: CellKind, b: CellKind, kept: bool) -> bool
+    ensures { IsTrue result → joined_class a b kept ≡ a }
+{
+    (a == CellKind::Unwritten) | ((a == b) & (kept | (a != CellKind::Part)))
+}
+
+/// Whether what is known of each byte of a group stays.
+fn are_kept(cells: &[CellKind], others: &[CellKind], at: usize, kept: bool) -> bool
+    requires long { length cells.now ≡ length others.now }
+    requires inside { at + 8 ≤ length cells.now }
+    ensures { IsTrue result → (k : ℕ) → at ≤ k → k < at + 8
+        → joined_class (class_in cells.now k) (class_in others.now k) kept ≡ class_in cells.now k }
+{
+    let mut all = true;
+    for i in at..at + 8 {
+        all &= is_kept(cells[i], others[i], kept);
+    }
+    all
+}
+
+/// Each byte of a group becomes what is known of it on either side; `spill` is what it is part of, where
+/// it is part on both.
+fn join_group(cells: &mut [CellKind], others: &[CellKind], at: usize, spill: &RegKind)
     requires long { length cells.old ≡ length others.now }
-    requires spills { length cells.old ≤ 8 * length spills.now }
+    requires inside { at + 8 ≤ length cells.old }
+    ensures group { (k : ℕ) → at ≤ k → k < at + 8 → class_in cells.new k
+        ≡ joined_class (class_in cells.old k) (class_in others.now k) (is_pointer spill.now) }
+    ensures before { (k : ℕ) → k < at → class_in cells.new k ≡ class_in cells.old k }
+    ensures behind { (k : ℕ) → at + 8 ≤ k → class_in cells.new k ≡ class_in cells.old k }
+{
+    if are_kept(cells, others, at, spill.is_pointer()) {
+        return;
+    }
+    for i in at..at + 8 {
+        cells[i] = join_cell(cells[i], others[i], spill);
+    }
+}
+
+/// Each byte becomes what is known of it on either side; `spills` are the joined ones. Those before
+/// group `from` are unwritten.
+pub(crate) fn join_cells(
+    cells: &mut [CellKind],
+    others: &[CellKind],
+    spills: &[RegKind],
+    from: usize,
+)
+    requires long { length cells.old ≡ length others.now }
+    requires spills { length cells.old ≡ 8 * length spills.now }
+    requires blank { (k : ℕ) → k < 8 * from → class_in cells.old k ≡ CellKind.Unwritten }
     ensures { (k : ℕ) → class_in cells.new k
         ≡ joined_class (class_in cells.old k) (class_in others.now k) (is_pointer
         (kind_in spills.now (k / 8))) }
 {
-    for i in 0..others.len() {
-        cells[i] = join_cell(cells[i], others[i], &spills[i / 8]);
+    for g in from..spills.len() {
+        join_group(cells, others, 8 * g, &spills[g]);
     }
 }

@@ -1,5 +1,5 @@
 //! What is learnt at once of all that may be an element, in registers and in the frame.
-ghost use Rattle.std.specs.Prelude.{◌≡◌, ℕ, ◌*◌, ◌/◌, ◌≤◌, length};
+ghost use Rattle.std.specs.Prelude.{◌≡◌, ℕ, ◌*◌, ◌/◌, ◌<◌, ◌≤◌, length};
 ghost use Rattle.typed_runs.specs.Planned.{AreAlike};
 ghost use Rattle.register_kinds.specs.States.{kind_of, kind_at, kind_in, class_in, state_of};
 ghost use Rattle.register_kinds.specs.Pairs.{IsBelow, AreBelow};
@@ -61,22 +61,27 @@ fn learn_cell(lesson: Lesson, spill: &RegKind, cell: CellKind) -> CellKind
     }
 }
 
-fn learn_kinds(lesson: Lesson, kinds: &mut [RegKind])
+/// What becomes of each kind; those before index `from` are unwritten.
+pub(crate) fn learn_kinds(lesson: Lesson, kinds: &mut [RegKind], from: usize)
+    requires { (r : ℕ) → r < from → kind_in kinds.old r ≡ RegKind.Unwritten }
     ensures kinds { (r : ℕ) → kind_at kinds.new r ≡ learnt_kind lesson (kind_at kinds.old r) }
     ensures below { (top r : ℕ) → IsBelow top (kind_at kinds.old r)
         → IsBelow top (kind_at kinds.new r) }
+    ensures blank { (r : ℕ) → r < from → kind_in kinds.new r ≡ RegKind.Unwritten }
 {
-    for i in 0..kinds.len() {
+    for i in from..kinds.len() {
         kinds[i] = learn_kind(lesson, kinds[i]);
     }
 }
 
-fn learn_cells(lesson: Lesson, cells: &mut [CellKind], spills: &[RegKind])
-    requires { length cells.old ≤ 8 * length spills.now }
+/// What becomes of each byte of the frame; those before index `from` are unwritten.
+pub(crate) fn learn_cells(lesson: Lesson, cells: &mut [CellKind], spills: &[RegKind], from: usize)
+    requires long { length cells.old ≤ 8 * length spills.now }
+    requires blank { (k : ℕ) → k < from → class_in cells.old k ≡ CellKind.Unwritten }
     ensures { (k : ℕ) → class_in cells.new k
         ≡ learnt_class lesson (kind_in spills.now (k / 8)) (class_in cells.old k) }
 {
-    for i in 0..cells.len() {
+    for i in from..cells.len() {
         cells[i] = learn_cell(lesson, &spills[i / 8], cells[i]);
     }
 }
@@ -87,8 +92,7 @@ impl AbsState {
         ensures alike { AreAlike (learnt lesson (state_of self.old)) (state_of self.new) }
         ensures below { (top : ℕ) → AreBelow top self.old → AreBelow top self.new }
     {
-        learn_kinds(lesson, &mut self.regs);
-        learn_cells(lesson, &mut self.frame.cells, &self.frame.spills);
-        learn_kinds(lesson, &mut self.frame.spills);
+        learn_kinds(lesson, &mut self.regs, 0);
+        self.frame.learn(lesson);
     }
 }

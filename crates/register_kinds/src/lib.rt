@@ -7,6 +7,7 @@
 //! `specs/Joined` what the kind of a joined register or byte is.
 #![tactic(auto)]
 
+mod boxes;
 mod change;
 mod fault;
 mod frame;
@@ -18,6 +19,7 @@ mod reads;
 mod registers;
 mod state;
 
+pub use boxes::Boxes;
 pub use fault::InsnFault;
 pub use frame::FrameCells;
 pub use identities::{Identities, MAX_PAIRS};

@@ -32,6 +32,20 @@ fn has(cells: &[CellKind], at: usize, width: usize, class: CellKind) -> bool
     false
 }
 
+/// Whether all bytes of an access are of this class.
+fn are_all(cells: &[CellKind], at: usize, width: usize, class: CellKind) -> bool
+    requires { at + width ≤ length cells.now }
+    ensures all { IsTrue result → AreAll cells.now at width class }
+    ensures other { IsFalse result → AreAll cells.now at width class → ⊥ }
+{
+    for i in at..at + width {
+        if cells[i] != class {
+            return false;
+        }
+    }
+    true
+}
+
 /// Each byte of an access is a byte of a number or part of a reference.
 fn check_written(cells: &[CellKind], at: usize, width: usize) -> Result<(), InsnFault>
     requires { at + width ≤ length cells.now }
@@ -79,10 +93,10 @@ pub fn read_frame(frame: &FrameCells, at: usize, width: usize) -> Result<Content
         × AreAll frame.now.cells at width CellKind.Part) }
     ensures accepts { AreAll frame.now.cells at width CellKind.Byte → result ≡ Ok Content.Number }
 {
-    check_written(&frame.cells, at, width)?;
-    if !has(&frame.cells, at, width, CellKind::Part) {
+    if are_all(&frame.cells, at, width, CellKind::Byte) {
         return Ok(Content::Number);
     }
+    check_written(&frame.cells, at, width)?;
     if width != 8 || has(&frame.cells, at, width, CellKind::Byte) {
         return Err(InsnFault::PointerLeak);
     }

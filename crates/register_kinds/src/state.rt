@@ -6,6 +6,7 @@ ghost use Rattle.register_kinds.specs.States.{kind_at, state_of};
 ghost use Rattle.register_kinds.specs.Joined.{AreJoined};
 ghost use Rattle.register_kinds.specs.Pairs.{AreBelow, IsPairing, TakesFew};
 
+use crate::boxes::Boxes;
 use crate::frame::FrameCells;
 use crate::identities::{Identities, Pairs};
 use crate::join::join_kinds;
@@ -59,11 +60,20 @@ impl AbsState {
         Ok(Box::new(alloc, at_entry())?)
     }
 
+    /// Becomes equal to another state.
+    pub(crate) fn copy_from(&mut self, other: &AbsState)
+        ensures { self.new ≡ other.now }
+    {
+        self.regs = other.regs;
+        self.frame.copy_from(&other.frame);
+        self.inside = other.inside;
+    }
+
     /// An equal state. Fails where memory runs out.
-    pub fn copy(&self, alloc: Global) -> Result<Box<AbsState>, AllocError>
+    pub fn copy(&self, boxes: &mut Boxes) -> Result<Box<AbsState>, AllocError>
         ensures { IfOk result (λ a. a.value ≡ self.now) }
     {
-        Ok(Box::new(alloc, *self)?)
+        boxes.filled(self)
     }
 
     /// What is known where control comes from either state, both with a section open or both with
@@ -82,7 +92,7 @@ impl AbsState {
         ensures few { TakesFew MAX_PAIRS ids.old.next ids.new.next }
     {
         let mut pairs: Pairs = ArrayVec::new();
-        join_kinds(&mut pairs, ids.next, &mut self.regs, &other.regs);
+        join_kinds(&mut pairs, ids.next, &mut self.regs, &other.regs, 0);
         self.frame.join(&mut pairs, ids.next, &other.frame);
         ids.next += pairs.len() as u32;
     }

@@ -18,8 +18,7 @@ use effects::{
     EnvironmentShape, Region, call, exit, fork, fork_null, fork_value, jump_long_transfers,
     jump_transfers,
 };
-use register_kinds::{AbsState, Identities, InsnFault, RegKind};
-use std::alloc::Global;
+use register_kinds::{AbsState, Boxes, Identities, InsnFault, RegKind};
 
 /// A jump, which leaves all that is known as it is.
 pub(crate) fn jump_step() -> Flow
@@ -60,7 +59,7 @@ fn null_test(condition: Condition, size: Size, src: &Operand) -> Option<bool>
 /// value, else of numbers.
 fn branch(
     state: &mut AbsState,
-    alloc: Global,
+    boxes: &mut Boxes,
     condition: Condition,
     size: Size,
     dst: Reg,
@@ -97,16 +96,16 @@ fn branch(
     ensures unchanged { OnErr result (state.new ≡ state.old) }
 {
     match (null_test(condition, size, src), state.kind(dst)) {
-        (Some(equal), RegKind::MaybeNull { id, .. }) => Ok(fork_null(state, alloc, equal, id)?),
-        (Some(_), RegKind::Value { .. }) => Ok(fork_value(state, alloc)?),
-        _ => fork(state, alloc, condition, size, dst, src),
+        (Some(equal), RegKind::MaybeNull { id, .. }) => Ok(fork_null(state, boxes, equal, id)?),
+        (Some(_), RegKind::Value { .. }) => Ok(fork_value(state, boxes)?),
+        _ => fork(state, boxes, condition, size, dst, src),
     }
 }
 
 /// A conditional jump.
 pub(crate) fn branch_step(
     state: &mut AbsState,
-    alloc: Global,
+    boxes: &mut Boxes,
     condition: Condition,
     size: Size,
     dst: Reg,
@@ -116,7 +115,7 @@ pub(crate) fn branch_step(
         → Stepped (Insn.JumpIf condition size dst src.now offset) shapes ctx_len top
         state.old state.new result }
 {
-    let taken = branch(state, alloc, condition, size, dst, src)?;
+    let taken = branch(state, boxes, condition, size, dst, src)?;
     Ok(Flow {
         region: Region::None,
         taken: Some(taken),

@@ -17,8 +17,7 @@ use crate::control::{branch_step, call_step, exit_step, jump_long_step, jump_ste
 use crate::flow::Flow;
 use bpf_model::Insn;
 use effects::{Address, EnvironmentShape};
-use register_kinds::{AbsState, Identities, InsnFault};
-use std::alloc::Global;
+use register_kinds::{AbsState, Boxes, Identities, InsnFault};
 
 /// What an instruction makes of what is known before it. The state becomes that where control falls
 /// through, or where an unconditional jump leads; the answer has that where a conditional jump is
@@ -40,7 +39,7 @@ use std::alloc::Global;
 /// - `Memory`: there is none for the second state of a comparison.
 pub fn transfer(
     state: &mut AbsState,
-    alloc: Global,
+    boxes: &mut Boxes,
     insn: &Insn,
     shape: &EnvironmentShape,
     ids: &mut Identities,
@@ -92,13 +91,13 @@ pub fn transfer(
     ensures serves { IfOk result (λ f. Serves shape.now.shapes.now insn.now (state_of state.old)
         (state_of state.new) (option_map state_of (taken_state f))) }
 {
-    perform(state, alloc, insn, shape, ids)
+    perform(state, boxes, insn, shape, ids)
 }
 
 /// The step of the instruction, by its kind: all that `transfer` promises, as one definition (`Stepped`).
 fn perform(
     state: &mut AbsState,
-    alloc: Global,
+    boxes: &mut Boxes,
     insn: &Insn,
     shape: &EnvironmentShape,
     ids: &mut Identities,
@@ -122,7 +121,7 @@ fn perform(
             dst,
             src,
             ..
-        } => branch_step(state, alloc, *condition, *size, *dst, src),
+        } => branch_step(state, boxes, *condition, *size, *dst, src),
         Insn::Call { kind, imm } => call_step(state, *kind, *imm, shape, ids),
         Insn::Exit => exit_step(state),
         Insn::Load {

@@ -6,7 +6,7 @@ ghost use Rattle.verifier.specs.declared.waiting.Waiting.TheVariants.{Nothing};
 ghost use Rattle.verifier.specs.SecondPass.{size_of, awaited, states_in, AllBelow, Merged, StartsFrom};
 
 use crate::waiting::{Waiting, join_into};
-use register_kinds::{AbsState, Identities};
+use register_kinds::{AbsState, Boxes, Identities};
 use std::alloc::{AllocError, Global};
 use std::marker::Model;
 
@@ -50,7 +50,13 @@ impl Pending {
     }
 
     /// Joins a state into what waits for the instruction of this index.
-    pub(crate) fn put(&mut self, index: usize, state: Box<AbsState>, ids: &mut Identities)
+    pub(crate) fn put(
+        &mut self,
+        index: usize,
+        state: Box<AbsState>,
+        boxes: &mut Boxes,
+        ids: &mut Identities,
+    )
         requires index { index < size_of self.old }
         requires room { ids.old.next + MAX_PAIRS < 2 ^ 32 }
         requires state { AreBelow ids.old.next state.value }
@@ -62,7 +68,7 @@ impl Pending {
         ensures peak { self.new.peak ≡ max self.old.peak (states_in self.new.by_index) }
     {
         let before = self.by_index[index].count();
-        join_into(&mut self.by_index[index], state, ids);
+        join_into(&mut self.by_index[index], state, boxes, ids);
         self.len = self.len - before + self.by_index[index].count();
         self.peak = self.peak.max(self.len);
     }

@@ -4,7 +4,7 @@ ghost use Rattle.register_kinds.specs.declared.identities.TheConstants.{MAX_PAIR
 ghost use Rattle.register_kinds.specs.Pairs.{AreBelow, TakesFew};
 ghost use Rattle.verifier.specs.SecondPass.{occupied, state_in, Joined};
 
-use register_kinds::{AbsState, Identities};
+use register_kinds::{AbsState, Boxes, Identities};
 
 /// What waits for an instruction.
 #[derive(Drop)]
@@ -29,8 +29,13 @@ impl Waiting {
     }
 }
 
-/// Joins a state into what waits.
-pub(crate) fn join_into(waiting: &mut Waiting, state: Box<AbsState>, ids: &mut Identities)
+/// Joins a state into what waits, and keeps its box where it is no longer of use.
+pub(crate) fn join_into(
+    waiting: &mut Waiting,
+    state: Box<AbsState>,
+    boxes: &mut Boxes,
+    ids: &mut Identities,
+)
     requires room { ids.old.next + MAX_PAIRS < 2 ^ 32 }
     requires state { AreBelow ids.old.next state.value }
     requires waiting { IfSome (state_in waiting.old) (AreBelow ids.old.next) }
@@ -43,6 +48,7 @@ pub(crate) fn join_into(waiting: &mut Waiting, state: Box<AbsState>, ids: &mut I
         Waiting::Known(before) => {
             if before.inside == state.inside {
                 before.join(&state, ids);
+                boxes.keep(state);
             } else {
                 *waiting = Waiting::Differing;
             }

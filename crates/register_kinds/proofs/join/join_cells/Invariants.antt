@@ -1,10 +1,10 @@
-use Rattle.std.proofs.Common.{◌≡◌, ℕ, ◌/◌, ◌<◌, ◌≤◌}
+use Rattle.std.proofs.Common.{◌≡◌, ℕ, ◌*◌, ◌/◌, ◌<◌, ◌≤◌}
 use Rattle.register_kinds.specs.States.{kind_in, class_in, is_pointer}
 use Rattle.register_kinds.specs.Joined.{joined_class}
 use Rattle.register_kinds.proofs.join.join_cells.Given as goal
 
-abbrev pub invariant-loop-i : goal.invariant-loop-i
-invariant-loop-i l = record {
-  done : (k : ℕ) → k < l.i → class_in l.cells k ≡ joined_class (class_in l.fn.cells k) (class_in l.others k) (is_pointer (kind_in l.spills (k / 8)));
-  rest : (k : ℕ) → l.i ≤ k → class_in l.cells k ≡ class_in l.fn.cells k;
+abbrev pub invariant-loop-g : goal.invariant-loop-g
+invariant-loop-g l = record {
+  done : (k : ℕ) → k < 8 * l.g → class_in l.cells k ≡ joined_class (class_in l.fn.cells k) (class_in l.others k) (is_pointer (kind_in l.spills (k / 8)));
+  rest : (k : ℕ) → 8 * l.g ≤ k → class_in l.cells k ≡ class_in l.fn.cells k;
 }

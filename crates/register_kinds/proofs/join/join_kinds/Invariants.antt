@@ -1,4 +1,4 @@
-use Rattle.std.proofs.Common.{◌≡◌, ℕ, ◌+◌, ◌<◌, ◌≤◌, length}
+use Rattle.std.proofs.Common.{◌≡◌, ℕ, ◌+◌, ◌-◌, ◌<◌, ◌≤◌, length}
 use Rattle.register_kinds.specs.States.{kind_at, kind_in}
 use Rattle.register_kinds.specs.JoinTable.{PairsGrow, IsTable, JoinsKind}
 use Rattle.register_kinds.proofs.join.join_kinds.Given as goal
@@ -9,5 +9,5 @@ invariant-loop-i l = record {
   rest : (r : ℕ) → l.i ≤ r → kind_in l.kinds r ≡ kind_in l.fn.kinds r;
   table : IsTable l.pairs.items;
   grows : PairsGrow l.fn.pairs.items l.pairs.items;
-  few : length l.pairs.items ≤ length l.fn.pairs.items + l.i;
+  few : length l.pairs.items ≤ length l.fn.pairs.items + (l.i - l.from);
 }

@@ -1,0 +1,8 @@
+use Rattle.std.proofs.Common.{◌≡◌, ℕ, ◌<◌, ◌≤◌}
+use Rattle.std.specs.Prelude.{IsTrue}
+use Rattle.register_kinds.specs.States.{class_in}
+use Rattle.register_kinds.specs.Joined.{joined_class}
+use Rattle.register_kinds.proofs.join.are_kept.Given as goal
+
+abbrev pub invariant-loop-i : goal.invariant-loop-i
+invariant-loop-i l = IsTrue l.all → (k : ℕ) → k < l.i → l.at ≤ k → joined_class (class_in l.cells k) (class_in l.others k) l.kept ≡ class_in l.cells k

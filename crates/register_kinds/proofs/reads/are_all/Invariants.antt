@@ -1,0 +1,6 @@
+use Rattle.std.proofs.Common.{◌≡◌, ℕ, ◌<◌, ◌≤◌}
+use Rattle.register_kinds.specs.States.{class_in}
+use Rattle.register_kinds.proofs.reads.are_all.Given as goal
+
+abbrev pub invariant-loop-i : goal.invariant-loop-i
+invariant-loop-i l = (k : ℕ) → l.at ≤ k → k < l.i → class_in l.cells k ≡ l.class
