@@ -1,12 +1,14 @@
 -- What a call does to the books and to the worker who calls, and what it hands out.
-use Rattle.std.specs.Prelude.{◌≡◌, ◌+◌, ◌↔◌, ℕ, List, Option, Err, IfOk, IfSome, IfNone, OnErr}
+use Rattle.std.specs.Prelude.{◌≡◌, ◌+◌, ◌↔◌, ℕ, List, Option, Result, Err, IfOk, IfSome, IfNone, OnErr}
 use Rattle.std.specs.Prelude.{OnOk}
 use Rattle.bpf_model.specs.declared.event.Event.{Event}
+use Rattle.bpf_model.specs.declared.event.Answer.{Answer}
 use Rattle.bpf_model.specs.View.{WorldView}
 use Rattle.verifier.specs.Checked.{Checked}
 use Rattle.world_invariant.specs.Invariant.{IsWorld}
 use Rattle.shared.specs.Books.{BooksView, WorkerView, Enters, IsJournalFull}
-use Rattle.shared.specs.Receipts.{NoteView, ReceiptView, IsExitOf, IsMachineAnswer}
+use Rattle.shared.specs.Receipts.{NoteView, ReceiptView, IsExitOf, IsMachineAnswer, reply_of}
+use Rattle.shared.specs.declared.fault.SharedFault.{SharedFault}
 use Rattle.shared.specs.declared.fault.SharedFault.TheVariants.{JournalFull}
 
 -- The receipt says who asked for which event, and how many entries it has made then. The event is
@@ -24,6 +26,15 @@ pub record IsEntered (old : BooksView) (caller : WorkerView) (event : Event) (re
   pub same_parts : later.parts ≡ caller.parts
   pub full : (receipt.reply ≡ Err JournalFull) ↔ IsJournalFull old
   pub err : OnErr receipt.reply ((new ≡ old) × (later ≡ caller))
+
+-- what a receipt of a call for the event by this worker would say, as it is after the call
+abbrev pub receipt_of : WorkerView → Event → Result (Unit {0}) SharedFault → Answer → ReceiptView
+receipt_of later event outcome answer = record {
+  worker = later.number;
+  made = later.made;
+  event = event;
+  reply = reply_of outcome answer;
+}
 
 -- The note says who asked for which run, program and context, and how many entries it has made. It
 -- has the exit value of that run, of this program on this context, and none where there is none.

@@ -1,5 +1,5 @@
 -- What a receipt and a note say.
-use Rattle.std.specs.Prelude.{ℕ, List, Option, Some, None, Result, slice_get}
+use Rattle.std.specs.Prelude.{ℕ, List, Option, Some, None, Result, Ok, Err, slice_get}
 use Rattle.bpf_model.specs.declared.event.Event.{Event}
 use Rattle.bpf_model.specs.declared.event.Answer.{Answer}
 use Rattle.bpf_model.specs.Event.{DoesEvent}
@@ -18,6 +18,11 @@ pub record ReceiptView : Type 0 where
   pub made : ℕ
   pub event : Event
   pub reply : Result Answer SharedFault
+
+-- the reply that tells how a call ended, with this answer
+abbrev pub reply_of : Result (Unit {0}) SharedFault → Answer → Result Answer SharedFault
+reply_of (Ok done) answer = Ok answer
+reply_of (Err fault) answer = Err fault
 
 -- who asked, how many entries it has made, for which run, program and context, and the exit value
 pub record NoteView : Type 0 where

@@ -1,7 +1,7 @@
 //! The world with its journal, and the ledger that counts its entries. No method waits.
 ghost use Rattle.std.specs.Prelude.{◌≡◌, ◌+◌, ◌-◌, ◌^◌, ◌<◌, ◌↔◌, [], length, IsTrue, true, OnErr, OnOk, Err, Ok, option_copied};
 ghost use Rattle.journal_laws.specs.Replay.{Replays, HasNoRuns};
-ghost use Rattle.shared.specs.Noted.{IsEntered, IsExitNote};
+ghost use Rattle.shared.specs.Noted.{IsEntered, IsExitNote, receipt_of};
 ghost use Rattle.shared.specs.Tally.{IsTallyOf, origin_of};
 ghost use Rattle.shared.specs.Books.{HasNoRoom, TotalsRise, CutsTo};
 ghost use Rattle.shared.specs.declared.fault.SharedFault.TheVariants as fault;
@@ -11,7 +11,7 @@ use crate::fault::{CutFault, SharedFault};
 use crate::receipt::{ExitNote, Receipt};
 use crate::tally::{Tally, Totals, unreclaimed};
 use crate::worker::Worker;
-use bpf_model::{CtxBytes, Event, ProgId, RunId};
+use bpf_model::{Answer, CtxBytes, Event, ProgId, RunId};
 use journal::{Journal, JournalFault};
 use std::alloc::Global;
 use std::marker::Model;
@@ -110,6 +110,51 @@ impl<L: Ledger> Books<L> {
         }
     }
 
+    /// Applies the event and enters it, and puts the answer in the place of another one; or changes nothing.
+    ///
+    /// The error is `JournalFull` exactly when the journal has as many entries as it may have, or when as many
+    /// as 64 bits count were made since the world was shared; `Memory` when the journal could not grow.
+    pub fn act_into(
+        &mut self,
+        worker: &mut Worker<L>,
+        event: &Event,
+        answer: &mut Answer,
+    ) -> Result<(), SharedFault>
+        ensures noted { IsEntered self.old worker.old event.now
+            (receipt_of worker.new event.now result answer.new) self.new worker.new }
+        ensures rise { TotalsRise self.old.tally.totals self.new.tally.totals }
+        ensures err { OnErr result (answer.new ≡ answer.old) }
+    {
+        make_room(&mut self.journal, self.before)?;
+        event.is_real();
+        self.world.is_world();
+        self.world.apply_into(event, answer);
+        self.tally.count(answer, unreclaimed(&self.world));
+        self.book.audit(&mut worker.share);
+        self.book.add(&mut worker.share, 1);
+        worker.made += 1;
+        self.journal.push_answer(worker.number, event, answer);
+        Ok(())
+    }
+
+    /// Applies the event of a receipt and enters it, or changes nothing. The receipt is then that of this call;
+    /// the clauses are those of `act_noted`.
+    pub fn act_again(&mut self, worker: &mut Worker<L>, receipt: &mut Receipt)
+        ensures noted { IsEntered self.old worker.old receipt.old.event receipt.new self.new worker.new }
+        ensures rise { TotalsRise self.old.tally.totals self.new.tally.totals }
+    {
+        receipt.forget_fault();
+        receipt.worker = worker.number;
+        let outcome = match &mut receipt.reply {
+            Ok(answer) => self.act_into(worker, &receipt.event, answer),
+            Err(_) => unreachable!(),
+        };
+        receipt.made = worker.made;
+        if let Err(fault) = outcome {
+            receipt.reply = Err(fault);
+        }
+    }
+
     /// Applies the event and enters it, or changes nothing.
     ///
     /// The reply is `JournalFull` exactly when the journal has as many entries as it may have, or when as many
@@ -118,18 +163,9 @@ impl<L: Ledger> Books<L> {
         ensures noted { IsEntered self.old worker.old event result self.new worker.new }
         ensures rise { TotalsRise self.old.tally.totals self.new.tally.totals }
     {
-        if let Err(fault) = make_room(&mut self.journal, self.before) {
-            return Receipt::new(worker.number, worker.made, event, Err(fault));
-        }
-        event.is_real();
-        self.world.is_world();
-        let answer = self.world.apply(&event);
-        self.tally.count(&answer, unreclaimed(&self.world));
-        self.book.audit(&mut worker.share);
-        self.book.add(&mut worker.share, 1);
-        worker.made += 1;
-        self.journal.push_answer(worker.number, &event, &answer);
-        Receipt::new(worker.number, worker.made, event, Ok(answer))
+        let mut receipt = Receipt::new(worker.number, worker.made, event, Ok(Answer::Moved));
+        self.act_again(worker, &mut receipt);
+        receipt
     }
 
     /// Asks the world for the exit value of a run, for a program and a context. Nothing changes.

@@ -108,8 +108,48 @@ impl<L: Ledger> Shared<L> {
             × (worker.new.parts ≡ worker.old.parts) }
         ensures err { OnErr result.reply (worker.new ≡ worker.old) }
     {
+        let mut receipt = Receipt::new(worker.number, worker.made, event, Ok(Answer::Moved));
+        self.act_again(rt, worker, &mut receipt);
+        receipt
+    }
+
+    /// Applies the event of a receipt once more. The receipt is then that of this call; the clauses are those of
+    /// `act_noted`.
+    pub fn act_again<R: Wait>(&self, rt: &R, worker: &mut Worker<L>, receipt: &mut Receipt)
+        ensures worker { receipt.new.worker ≡ worker.old.number }
+        ensures event { receipt.new.event ≡ receipt.old.event }
+        ensures count { receipt.new.made ≡ worker.new.made }
+        ensures answered { IfOk receipt.new.reply (IsMachineAnswer receipt.old.event) }
+        ensures made { OnOk receipt.new.reply (worker.new.made ≡ worker.old.made + 1) }
+        ensures same_worker { (worker.new.number ≡ worker.old.number)
+            × (worker.new.parts ≡ worker.old.parts) }
+        ensures err { OnErr receipt.new.reply (worker.new ≡ worker.old) }
+    {
         let mut state = self.state.lock(rt);
-        state.act_noted(rt, worker, event)
+        state.act_again(rt, worker, receipt);
+    }
+
+    /// Applies one event, and puts its answer in the place of another one. It waits for the lock, and takes no
+    /// memory but the journal's.
+    ///
+    /// It is an error, and then nothing has changed, where the journal has no room (`JournalFull`)
+    /// or memory was refused (`Memory`). The contract says what an answer is, and not when there is
+    /// none: it does not see the journal under the lock.
+    pub fn act_into<R: Wait>(
+        &self,
+        rt: &R,
+        worker: &mut Worker<L>,
+        event: &Event,
+        answer: &mut Answer,
+    ) -> Result<(), SharedFault>
+        ensures answered { OnOk result (IsMachineAnswer event.now answer.new) }
+        ensures made { OnOk result (worker.new.made ≡ worker.old.made + 1) }
+        ensures same_worker { (worker.new.number ≡ worker.old.number)
+            × (worker.new.parts ≡ worker.old.parts) }
+        ensures err { OnErr result ((worker.new ≡ worker.old) × (answer.new ≡ answer.old)) }
+    {
+        let mut state = self.state.lock(rt);
+        state.act_into(rt, worker, event, answer)
     }
 
     /// Applies one event, and gives its answer. It waits for the lock, and takes no memory but the
@@ -130,7 +170,9 @@ impl<L: Ledger> Shared<L> {
             × (worker.new.parts ≡ worker.old.parts) }
         ensures err { OnErr result (worker.new ≡ worker.old) }
     {
-        self.act_noted(rt, worker, event).into_reply()
+        let mut answer = Answer::Moved;
+        self.act_into(rt, worker, &event, &mut answer)?;
+        Ok(answer)
     }
 
     /// The program of this number, as the world had it when it was shared. It needs no lock.

@@ -1,5 +1,5 @@
 //! What calls hand out as proof of what was done under the lock.
-ghost use Rattle.std.specs.Prelude.{◌≡◌};
+ghost use Rattle.std.specs.Prelude.{◌≡◌, IsOk};
 
 use crate::fault::SharedFault;
 use bpf_model::{Answer, CtxBytes, Event, ProgId, RunId, array_of};
@@ -9,10 +9,10 @@ use std::marker::Model;
 /// made. Only the value under the lock makes one, and none is ever copied.
 #[derive(Debug, Drop)]
 pub struct Receipt {
-    worker: u8,
-    made: u64,
-    event: Event,
-    reply: Result<Answer, SharedFault>,
+    pub(crate) worker: u8,
+    pub(crate) made: u64,
+    pub(crate) event: Event,
+    pub(crate) reply: Result<Answer, SharedFault>,
 }
 
 impl Model for Receipt {
@@ -44,6 +44,18 @@ impl Receipt {
             made,
             event,
             reply,
+        }
+    }
+
+    /// Has an answer for a reply, whatever it is, where the reply was a fault.
+    pub(crate) fn forget_fault(&mut self)
+        ensures answer { IsOk self.new.reply }
+        ensures event { self.new.event ≡ self.old.event }
+        ensures worker { self.new.worker ≡ self.old.worker }
+        ensures made { self.new.made ≡ self.old.made }
+    {
+        if self.reply.is_err() {
+            self.reply = Ok(Answer::Moved);
         }
     }
 

@@ -2,7 +2,7 @@
 ghost use Rattle.std.specs.Prelude.{◌≡◌, ◌+◌, ◌↔◌, length, IfOk, OnErr, OnOk, Err, option_copied};
 ghost use Rattle.std.specs.Arc.{arc_value};
 ghost use Rattle.crossbeam_utils.specs.Seq.{cell_view};
-ghost use Rattle.shared.specs.Noted.{IsEntered, IsExitNote};
+ghost use Rattle.shared.specs.Noted.{IsEntered, IsExitNote, receipt_of};
 ghost use Rattle.shared.specs.Books.{TotalsRise, CutsTo};
 ghost use Rattle.shared.specs.Meter.{writer_at, writer_of};
 ghost use Rattle.shared.specs.Tally.{IsTallyOf, shown_totals};
@@ -11,12 +11,12 @@ ghost use Rattle.shared.specs.declared.fault.CutFault.TheVariants as cut_fault;
 
 use crate::books::{Books, Finished};
 use crate::counters::Counters;
-use crate::fault::CutFault;
+use crate::fault::{CutFault, SharedFault};
 use crate::meter::{ForReaders, Meter, MeterPass, Writes};
 use crate::receipt::{ExitNote, Receipt};
 use crate::tally::{Origin, Totals};
 use crate::worker::Worker;
-use bpf_model::{CtxBytes, Event, ProgId, RunId};
+use bpf_model::{Answer, CtxBytes, Event, ProgId, RunId};
 use std::alloc::{AllocError, Global};
 use std::marker::Model;
 use std::sync::ledger::{Ledger, Share};
@@ -92,15 +92,44 @@ impl<L: Ledger> State<L> {
         State { books, cell, pass }
     }
 
+    /// Applies the event, enters it and writes the counters, and puts the answer in the place of another one; or
+    /// changes nothing. The clauses are those of the books, which do not wait.
+    pub fn act_into<R: Wait>(
+        &mut self,
+        rt: &R,
+        worker: &mut Worker<L>,
+        event: &Event,
+        answer: &mut Answer,
+    ) -> Result<(), SharedFault>
+        ensures noted { IsEntered self.old worker.old event.now
+            (receipt_of worker.new event.now result answer.new) self.new worker.new }
+        ensures err { OnErr result (answer.new ≡ answer.old) }
+    {
+        let before = self.books.totals();
+        let outcome = self.books.act_into(worker, event, answer);
+        let after = self.books.totals();
+        publish(rt, &self.cell, &mut self.pass, before, after);
+        outcome
+    }
+
+    /// Applies the event of a receipt, enters it and writes the counters, or changes nothing. The receipt is then
+    /// that of this call.
+    pub fn act_again<R: Wait>(&mut self, rt: &R, worker: &mut Worker<L>, receipt: &mut Receipt)
+        ensures noted { IsEntered self.old worker.old receipt.old.event receipt.new self.new worker.new }
+    {
+        let before = self.books.totals();
+        self.books.act_again(worker, receipt);
+        let after = self.books.totals();
+        publish(rt, &self.cell, &mut self.pass, before, after);
+    }
+
     /// Applies the event, enters it and writes the counters, or changes nothing. The clauses are those of the
     /// books, which do not wait.
     pub fn act_noted<R: Wait>(&mut self, rt: &R, worker: &mut Worker<L>, event: Event) -> Receipt
         ensures noted { IsEntered self.old worker.old event result self.new worker.new }
     {
-        let before = self.books.totals();
-        let receipt = self.books.act_noted(worker, event);
-        let after = self.books.totals();
-        publish(rt, &self.cell, &mut self.pass, before, after);
+        let mut receipt = Receipt::new(worker.number, worker.made, event, Ok(Answer::Moved));
+        self.act_again(rt, worker, &mut receipt);
         receipt
     }
 

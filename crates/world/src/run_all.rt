@@ -3,7 +3,7 @@ ghost use Rattle.std.specs.Prelude.{◌≡◌, ◌<◌, ◌≤◌, ◌+◌, ◌+
 ghost use Rattle.bpf_model.specs.Drain.{AreScheduledAnswers};
 ghost use Rattle.bpf_model.specs.Headline.{AreMachineAnswers, AreNeverStuck, AllExitInTime, AreReclaimedLate};
 ghost use Rattle.bpf_model.specs.Refines.{TracksSchedule, Tracks};
-ghost use Rattle.world_laws.specs.Reacting.{full_reactions};
+ghost use Rattle.world_laws.specs.Reacting.{full_reaction, full_reactions};
 
 use crate::world::World;
 use bpf_model::{Answer, Event, are_real};
@@ -23,6 +23,22 @@ fn push_answer(answers: &mut Vec<Answer>, answer: Answer)
 }
 
 impl World {
+    /// Adds the answer to an event where there is room for it. It is written where it stands.
+    fn answer_last(&mut self, event: &Event, answers: &mut Vec<Answer>)
+        requires { vec_len answers.old < vec_capacity answers.old }
+        ensures items { answers.new.items
+            ≡ answers.old.items ++ (full_reaction self.old event.now).0 ∷ [] }
+        ensures new { self.new ≡ (full_reaction self.old event.now).1 }
+        ensures len { vec_len answers.new ≡ vec_len answers.old + 1 }
+        ensures room { vec_capacity answers.old ≤ vec_capacity answers.new }
+    {
+        push_answer(answers, Answer::Moved);
+        match answers.last_mut() {
+            Some(last) => self.apply_into(event, last),
+            None => unreachable!(),
+        }
+    }
+
     /// Answers a list of events, one after another. The answers' memory is taken before the first of them.
     ///
     /// An error says that this memory was refused, and then no event was applied.
@@ -52,8 +68,7 @@ impl World {
         are_real(events);
         let mut answers = Vec::with_capacity(alloc, events.len())?;
         for event in events {
-            let answer = self.apply(event);
-            push_answer(&mut answers, answer);
+            self.answer_last(event, &mut answers);
         }
         Ok(answers)
     }

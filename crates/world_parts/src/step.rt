@@ -91,7 +91,7 @@ impl Parts {
     }
 
     /// One step of a run, or why there is none.
-    #[inline(never)]
+    #[inline(always)]
     fn stepped(&mut self, run: RunId) -> Brief
         requires sound { IsMatched self.old }
         ensures answer { brief_answer result ≡ (full_reaction self.old (Event.Step run)).0 }
@@ -103,16 +103,27 @@ impl Parts {
         }
     }
 
-    /// One step of a run. Refused where no run has the run slot (`NoRun`), and where the run has
-    /// ended (`Ended`).
+    /// One step of a run, whose answer is put in the place of another one. Refused where no run has the run
+    /// slot (`NoRun`), and where the run has ended (`Ended`).
     ///
     /// The answer is `Moved`, or `Exited` with the exit value. No step fails or takes memory.
-    #[inline(always)]
+    #[inline(never)]
+    pub fn step_into(&mut self, run: RunId, answer: &mut Answer)
+        requires sound { IsMatched self.old }
+        ensures answer { answer.new ≡ (full_reaction self.old (Event.Step run)).0 }
+        ensures new { self.new ≡ (full_reaction self.old (Event.Step run)).1 }
+    {
+        self.stepped(run).put(answer);
+    }
+
+    /// One step of a run, as `step_into` makes it, and its answer.
     pub fn step(&mut self, run: RunId) -> Answer
         requires sound { IsMatched self.old }
         ensures answer { result ≡ (full_reaction self.old (Event.Step run)).0 }
         ensures new { self.new ≡ (full_reaction self.old (Event.Step run)).1 }
     {
-        self.stepped(run).into_answer()
+        let mut answer = Answer::Moved;
+        self.step_into(run, &mut answer);
+        answer
     }
 }

@@ -2,8 +2,8 @@ use Rattle.world_invariant.proofs.Counts.{count_has_room}
 use Rattle.world_invariant.proofs.Keeping.{world_is_matched}
 use Rattle.world.proofs.apply.react.Goals as goal
 
-pub step-requires : goal.step-requires
-step-requires c = record { sound = world_is_matched c.args.parts.now c.requires }
+pub step_into-requires : goal.step_into-requires
+step_into-requires c = record { sound = world_is_matched c.args.parts.now c.requires }
 
 pub reap-requires : goal.reap-requires
 reap-requires c = count_has_room c.args.parts.now c.requires

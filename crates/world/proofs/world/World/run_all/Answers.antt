@@ -1,8 +1,9 @@
-use Rattle.std.proofs.Common.{◌≡◌, ◌≤◌, ◌+◌, ◌++◌, ◌∷◌, ◌∙◌, [], List, ap, sym, arith, length, take}
+use Rattle.std.proofs.Common.{◌≡◌, ◌≤◌, ◌+◌, ◌++◌, ◌∷◌, ◌∙◌, [], List, refl, ap, sym, arith, length, take}
 use Rattle.std.specs.Prelude.{vec_len, vec_capacity}
 use Rattle.std.proofs.lemmas.List.{take_more, take_all}
 use Rattle.bpf_model.specs.declared.event.Event.{Event}
-use Rattle.world_laws.specs.Reacting.{full_reactions}
+use Rattle.bpf_model.specs.declared.event.Answer.{Answer}
+use Rattle.world_laws.specs.Reacting.{full_reaction, full_reactions}
 use Rattle.world_laws.proofs.Appending.{answers_grow, view_grows}
 use Rattle.world.proofs.Answering.{AllReact, all_scheduled, all_machine, all_never_stuck, all_exit, all_reclaimed}
 use Rattle.world.proofs.world.World.run_all.Goals as goal
@@ -14,13 +15,14 @@ loop-event-preserved c =
     let es = c.args.events.now in
     let e = c.event-item.result in
     let taken : take (i + 1) es ≡ take i es ++ e ∷ [] = take_more es i e c.loop-event-test.true ∙ ap (λ (x : Event). take i es ++ x ∷ []) (sym c.event-item.is) in
-    let answers = answers_grow w c.loop-event.self (take i es) e c.loop-event.answers.items c.apply-answer.result c.loop-event.invariant.answers c.loop-event.invariant.view c.apply-answer.ensures.answer in
-    let view = view_grows w c.loop-event.self c.apply-answer.new.self (take i es) e c.loop-event.invariant.view c.apply-answer.ensures.new in
+    let answer : Answer = (full_reaction c.loop-event.self e).0 in
+    let answers = answers_grow w c.loop-event.self (take i es) e c.loop-event.answers.items answer c.loop-event.invariant.answers c.loop-event.invariant.view refl in
+    let view = view_grows w c.loop-event.self c.answer_last.new.self (take i es) e c.loop-event.invariant.view c.answer_last.ensures.new in
     record {
-      answers = c.push_answer.ensures.items ∙ (answers ∙ ap (λ (xs : List Event). (full_reactions w xs).0) (sym taken));
+      answers = c.answer_last.ensures.items ∙ (answers ∙ ap (λ (xs : List Event). (full_reactions w xs).0) (sym taken));
       view = view ∙ ap (λ (xs : List Event). (full_reactions w xs).1) (sym taken);
-      count = let l : vec_len c.push_answer.new.answers ≡ vec_len c.loop-event.answers + 1 = c.push_answer.ensures.len in let n : vec_len c.loop-event.answers ≡ i = c.loop-event.invariant.count in omega arith;
-      room = let r : vec_capacity c.loop-event.answers ≤ vec_capacity c.push_answer.new.answers = c.push_answer.ensures.room in let a : length es ≤ vec_capacity c.loop-event.answers = c.loop-event.invariant.room in omega arith;
+      count = let l : vec_len c.answer_last.new.answers ≡ vec_len c.loop-event.answers + 1 = c.answer_last.ensures.len in let n : vec_len c.loop-event.answers ≡ i = c.loop-event.invariant.count in omega arith;
+      room = let r : vec_capacity c.loop-event.answers ≤ vec_capacity c.answer_last.new.answers = c.answer_last.ensures.room in let a : length es ≤ vec_capacity c.loop-event.answers = c.loop-event.invariant.room in omega arith;
     }
 
 pub returns-clause-schedule : goal.returns-clause-schedule

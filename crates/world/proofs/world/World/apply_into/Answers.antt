@@ -1,5 +1,5 @@
 use Rattle.world.proofs.Answering.{Reacts, reacts-at, stays_world, schedule_of, machine_of, never_stuck_of, exits_of, reclaimed_of}
-use Rattle.world.proofs.world.World.apply.Goals as goal
+use Rattle.world.proofs.world.World.apply_into.Goals as goal
 
 pub invariant_of-self : goal.invariant_of-self
 invariant_of-self c =

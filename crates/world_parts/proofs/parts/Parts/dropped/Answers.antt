@@ -1,7 +1,7 @@
 use Rattle.std.proofs.Common.{◌∙◌, None, ap}
 use Rattle.view_laws.specs.Reactions.{drop_by, with_run}
 use Rattle.world_parts.proofs.Runs.{dropped-kept, dropped-view}
-use Rattle.world_parts.proofs.parts.Parts.drop_run.Goals as goal
+use Rattle.world_parts.proofs.parts.Parts.dropped.Goals as goal
 
 pub invariant_of-self : goal.invariant_of-self
 invariant_of-self c = dropped-kept c.self.inside.registry.maps c.self.inside.runs.items c.self.inside.grace c.close.new.self c.self.inside.programs.items c.self.inside.given c.index.result c.args.run c.index.ensures c.self.invariant c.keeps_awaited_open.ensures c.close.ensures.opened c.close.ensures.awaited

@@ -7,7 +7,7 @@ use Rattle.world_parts.specs.declared.loaded.Loaded.{Loaded}
 use Rattle.world_parts.specs.Keeping.{view_of}
 use Rattle.world_parts.proofs.Runs.{started-kept, started-view, started}
 use Rattle.world_parts.proofs.Slots.{Runs}
-use Rattle.world_parts.proofs.parts.Parts.start.Goals as goal
+use Rattle.world_parts.proofs.parts.Parts.started.Goals as goal
 
 pub invariant_of-self : goal.invariant_of-self
 invariant_of-self c =
