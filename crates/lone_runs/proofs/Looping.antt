@@ -50,7 +50,7 @@ module _ (c : Checked) (context : List ℕ) (index moved : ℕ) (w : Workspace) 
   abbrev before : RunView
   before = view_at c.program context index w b.view
 
-  pub loop_can : CanDo c.program context index w
+  pub loop_can : CanDo c context index w
   loop_can = can_do c context index w b.view (steps c before b.stands)
 
   -- it has moved less often than the program has instructions
@@ -63,7 +63,7 @@ module _ (c : Checked) (context : List ℕ) (index moved : ℕ) (w : Workspace) 
   -- the index is one of the program's, and so within the limit of programs
   pub loop_room : IsJustified c → index < MAX_SLOTS
   loop_room j =
-      let can : CanDo c.program context index w = loop_can in
+      let can : CanDo c context index w = loop_can in
       let below : index < length c.program = slice_get_within c.program index can.insn can.here in
       omega (arith, below, length_slots c.program, j.program.limit)
 
