@@ -3,7 +3,7 @@
 use crate::dumping::write_elements;
 use crate::replying::refusal_of_overlong;
 use crate::steps::make_steps;
-use bpf_model::Event;
+use bpf_model::{Answer, Event};
 use script_lines::{Command, Reply, write_reply};
 use script_requests::{Asked, NameTable, ask, refused, write_answer};
 use std::alloc::AllocError;
@@ -36,7 +36,8 @@ impl Live {
             Asked::Refused(refusal) => write_reply(&refused(refusal.code()), out),
             Asked::Event(event) => {
                 event.is_real();
-                let answer = self.world.apply(&event);
+                let mut answer = Answer::Moved;
+                self.world.apply_into(&event, &mut answer);
                 write_answer(&self.names, &answer, out)
             }
             Asked::Overlong(prog) => {
@@ -44,7 +45,8 @@ impl Live {
             }
             Asked::Steps { run, count } => {
                 Event::Step { run }.is_real();
-                let answer = make_steps(&mut self.world, run, count);
+                let mut answer = Answer::Moved;
+                make_steps(&mut self.world, run, count, &mut answer);
                 write_answer(&self.names, &answer, out)
             }
             Asked::Counts => write_reply(&Reply::Stat(self.world.stat()), out),

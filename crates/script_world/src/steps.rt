@@ -7,17 +7,18 @@ use bpf_model::{Answer, Event, RunId};
 use world::World;
 
 /// Steps of a run: at most `count`, and at least one, up to the first that is not answered Moved. The answer
-/// is that of the last.
-pub(crate) fn make_steps(world: &mut World, run: RunId, count: u64) -> Answer
+/// of the last is put in the place of another one.
+pub(crate) fn make_steps(world: &mut World, run: RunId, count: u64, answer: &mut Answer)
     ensures { (events : List Event)
-        × MakesSteps world.old run count events result world.new }
+        × MakesSteps world.old run count events answer.new world.new }
 {
     let event = Event::Step { run };
     for _taken in 1..count {
-        match world.apply(&event) {
+        world.apply_into(&event, answer);
+        match answer {
             Answer::Moved => {}
-            answer => return answer,
+            _ => return,
         }
     }
-    world.apply(&event)
+    world.apply_into(&event, answer);
 }

@@ -36,13 +36,12 @@ fn step_to_end<L: Ledger, R: Wait>(
     ensures later { IsLater worker.old worker.new }
     ensures by { IsByWorker worker.old worker.new result }
 {
-    loop {
-        let step = shared.act_noted(rt, worker, Event::Step { run });
+    let mut step = shared.act_noted(rt, worker, Event::Step { run });
+    while has_moved(step.reply()) {
+        shared.act_again(rt, worker, &mut step);
         let _made = worker.made();
-        if !has_moved(step.reply()) {
-            return step;
-        }
     }
+    step
 }
 
 /// The job whose start was answered with this run, to its end.

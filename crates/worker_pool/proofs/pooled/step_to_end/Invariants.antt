@@ -1,9 +1,20 @@
-use Rattle.std.proofs.Common.{◌-◌, ◌^◌}
-use Rattle.worker_pool.specs.Trails.{IsLater}
+use Rattle.std.proofs.Common.{◌≡◌, ◌+◌, ◌-◌, ◌^◌, ℕ, Ok, IfOk}
+use Rattle.bpf_model.specs.declared.event.Event.TheVariants.{Step}
+use Rattle.shared.specs.Receipts.{IsMachineAnswer}
+use Rattle.worker_pool.specs.Trails.{IsLater, IsByWorker}
+use Rattle.worker_pool.proofs.Moving.{moves}
 use Rattle.worker_pool.proofs.pooled.step_to_end.Given as goal
 
-abbrev pub invariant-loop-run : goal.invariant-loop-run
-invariant-loop-run g l = IsLater l.fn.worker l.worker
+-- the receipt is that of the worker's last step of this run
+abbrev pub invariant-loop-worker : goal.invariant-loop-worker
+invariant-loop-worker g l = record {
+  event : l.step.event ≡ Step l.fn.run;
+  answered : IfOk l.step.reply (IsMachineAnswer (Step l.fn.run));
+  count : l.step.made ≡ l.worker.made;
+  later : IsLater l.fn.worker l.worker;
+  by : IsByWorker l.fn.worker l.worker l.step;
+}
 
-abbrev pub decreases-loop-run : goal.decreases-loop-run
-decreases-loop-run g l = 2 ^ 64 - l.worker.made
+-- the entries that the worker can still make, twice, and one more where the last step was a move
+abbrev pub decreases-loop-worker : goal.decreases-loop-worker
+decreases-loop-worker g l = (2 ^ 64 - l.worker.made) + (2 ^ 64 - l.worker.made) + moves l.step.reply

@@ -26,8 +26,8 @@ returns-in-Refused c =
 
 pub returns-in-Event : goal.returns-in-Event
 returns-in-Event c =
-    let told = reply_to c.args.self.now.names c.apply-answer.result in
-    replied_once c.args.self.now c.args.asked (asked.Event c.in-Event.event) (c.in-Event.event ∷ []) told told c.apply-answer.new.self _ _ c.write_answer.result c.in-Event.is (one_event c.args.self.now.world c.in-Event.event c.apply-answer.new.self c.is_world.ensures c.is_real.ensures c.apply-answer.ensures.new) refl (refl, ap (λ a. reply_to c.args.self.now.names a ∷ []) c.apply-answer.ensures.answer, c.apply-answer.ensures.new) c.write_answer.ensures
+    let told = reply_to c.args.self.now.names c.apply_into.new.answer in
+    replied_once c.args.self.now c.args.asked (asked.Event c.in-Event.event) (c.in-Event.event ∷ []) told told c.apply_into.new.self _ _ c.write_answer.result c.in-Event.is (one_event c.args.self.now.world c.in-Event.event c.apply_into.new.self c.is_world.ensures c.is_real.ensures c.apply_into.ensures.new) refl (refl, ap (λ a. reply_to c.args.self.now.names a ∷ []) c.apply_into.ensures.answer, c.apply_into.ensures.new) c.write_answer.ensures
 
 pub returns-in-Overlong : goal.returns-in-Overlong
 returns-in-Overlong c =
@@ -36,8 +36,8 @@ returns-in-Overlong c =
 
 pub returns-in-Steps : goal.returns-in-Steps
 returns-in-Steps c =
-    let told = reply_to c.args.self.now.names c.make_steps-answer.result in
-    replied_once c.args.self.now c.args.asked (asked.Steps c.in-Steps.run' c.in-Steps.count) c.make_steps-answer.ensures.0 told told c.make_steps-answer.new.world _ _ c.write_answer-in-Steps.result c.in-Steps.is (steps_happen c.args.self.now.world c.in-Steps.run' c.in-Steps.count c.make_steps-answer.ensures.0 c.make_steps-answer.result c.make_steps-answer.new.world c.is_world.ensures c.is_real-in-Steps.ensures c.make_steps-answer.ensures.1) refl (c.make_steps-answer.result, c.make_steps-answer.ensures.1, refl) c.write_answer-in-Steps.ensures
+    let told = reply_to c.args.self.now.names c.make_steps.new.answer in
+    replied_once c.args.self.now c.args.asked (asked.Steps c.in-Steps.run' c.in-Steps.count) c.make_steps.ensures.0 told told c.make_steps.new.world _ _ c.write_answer-in-Steps.result c.in-Steps.is (steps_happen c.args.self.now.world c.in-Steps.run' c.in-Steps.count c.make_steps.ensures.0 c.make_steps.new.answer c.make_steps.new.world c.is_world.ensures c.is_real-in-Steps.ensures c.make_steps.ensures.1) refl (c.make_steps.new.answer, c.make_steps.ensures.1, refl) c.write_answer-in-Steps.ensures
 
 pub returns-in-Counts : goal.returns-in-Counts
 returns-in-Counts c =
