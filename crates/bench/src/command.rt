@@ -71,7 +71,7 @@ pub fn number_of_times(word: &str) -> Result<u32, UsageFault>
 }
 
 /// What the first of four words asks to be done again and again.
-fn repeated(verb: &str) -> Result<Repeated, UsageFault>
+fn deed_of(verb: &str) -> Result<Repeated, UsageFault>
     ensures { IfOk result (λ deed. word_of deed ≡ verb.now) }
 {
     match verb {
@@ -94,7 +94,7 @@ pub fn parse_words<'a>(words: &'a [String]) -> Result<Command<'a>, UsageFault>
             ctx_len: context_length(length.as_str())?,
         }),
         [verb, file, length, times] => Ok(Command::Repeat {
-            deed: repeated(verb.as_str())?,
+            deed: deed_of(verb.as_str())?,
             file: file.as_str(),
             ctx_len: context_length(length.as_str())?,
             times: number_of_times(times.as_str())?,

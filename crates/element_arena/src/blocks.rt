@@ -17,14 +17,31 @@ pub(crate) fn block(bytes: &[u8], len: usize, index: usize) -> &[u8]
     &bytes[at..at + len]
 }
 
+/// How many bytes a word has.
+const WORD_BYTES: usize = 8;
+
 /// Puts another string of the same length in place of that of an index.
-#[inline]
-pub(crate) fn write_block(bytes: &mut Vec<u8>, index: usize, new: &[u8])
+#[inline(never)]
+fn write_bytes(bytes: &mut Vec<u8>, index: usize, new: &[u8])
     requires { index * length new.now + length new.now ≤ length bytes.old.items }
     ensures { bytes.new.items ≡ with_block index new.now bytes.old.items }
 {
     let at = index * new.len();
     bytes[at..at + new.len()].copy_from_slice(new);
+}
+
+/// Puts another string of the same length in place of that of an index. One word is written without a call.
+#[inline]
+pub(crate) fn write_block(bytes: &mut Vec<u8>, index: usize, new: &[u8])
+    requires { index * length new.now + length new.now ≤ length bytes.old.items }
+    ensures { bytes.new.items ≡ with_block index new.now bytes.old.items }
+{
+    if new.len() == WORD_BYTES {
+        let at = index * WORD_BYTES;
+        bytes[at..at + WORD_BYTES].copy_from_slice(&new[..WORD_BYTES]);
+    } else {
+        write_bytes(bytes, index, new);
+    }
 }
 
 /// Writes the low bytes of a number into the string of an index, from an offset on.

@@ -67,7 +67,8 @@ pub(crate) fn search_word(arena: &Arena, home: usize, first: Option<usize>, key:
     }
 }
 
-/// Takes a slot out of a chain, behind the last slot before it if there is one, and answers the first slot that is left.
+/// Takes a slot out of a chain, where `last` is linked to it or it is the first, and answers the first slot
+/// that is left.
 #[inline]
 pub(crate) fn cut(
     arena: &mut Arena,

@@ -1,7 +1,7 @@
 //! Where a key stands in an index.
 
-/// Where the slot of a key stands in an index, or would. A place is that of a key over the arena in which it was
-/// found, for as long as the index's own slots stay as they are.
+/// Where the slot of a key stands in an index, or would. It is the place of that key for as long as the
+/// index's own slots stay as they are.
 #[derive(Clone, Copy)]
 pub struct Place {
     /// The slot of the key, if there is one.

@@ -67,8 +67,8 @@ impl<I: Index, D: Deferred> Parts<I, D> {
         self.index.locate(&self.arena, key).slot
     }
 
-    /// Links the slot that has been free longest under a key, for a key and a value of the arena's lengths. The
-    /// slot that the key had is unlinked, and joins the end of next. The result is that slot; an error is that of
+    /// Links the slot that has been free longest under a key; key and value have the arena's lengths. The
+    /// slot that the key had is unlinked, and joins the end of next: it is the result. An error is that of
     /// the first test that fails, and then nothing has changed.
     pub fn update(
         &mut self,

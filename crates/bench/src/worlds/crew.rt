@@ -114,12 +114,13 @@ fn read(sequence: &mut Sequence) -> Event {
     }
 }
 
-/// What a worker goes by: its task, the keys that it reads, and its run.
+/// What a worker goes by: its task, the keys that it reads, its run, and the place of its answers.
 #[derive(Drop)]
 struct Caller {
     task: Task,
     sequence: Sequence,
     progress: Progress,
+    answer: Answer,
 }
 
 impl Caller {
@@ -141,8 +142,8 @@ fn call<L: Ledger, R: Wait>(
     caller: &mut Caller,
 ) {
     let event = caller.next();
-    match shared.act(rt, worker, event) {
-        Ok(answer) => caller.progress = caller.progress.after(&answer),
+    match shared.act_into(rt, worker, &event, &mut caller.answer) {
+        Ok(()) => caller.progress = caller.progress.after(&caller.answer),
         Err(_) => (),
     }
 }
@@ -174,6 +175,7 @@ fn work<L: Ledger, R: Wait>(
         task,
         sequence: Sequence::new(),
         progress: Progress::None,
+        answer: Answer::Done,
     };
     for _ in 0..calls {
         call(rt, shared, worker, &mut caller);

@@ -190,15 +190,19 @@ impl Setup {
     /// Every step of a run, its exit the last.
     fn step_through(&mut self, run: RunId, tally: &mut Tally) {
         let step = Event::Step { run };
+        let mut answer = Answer::Done;
         for _ in 0..=self.moves {
-            tally.note(&self.world.apply(&step));
+            self.world.apply_into(&step, &mut answer);
+            tally.note(&answer);
         }
     }
 
     /// What is timed: the events of the list.
     fn answer_events(&mut self, tally: &mut Tally) {
+        let mut answer = Answer::Done;
         for event in self.events.as_slice() {
-            tally.note(&self.world.apply(event));
+            self.world.apply_into(event, &mut answer);
+            tally.note(&answer);
         }
     }
 
