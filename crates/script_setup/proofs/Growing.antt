@@ -6,7 +6,7 @@ use Rattle.bpf_model.specs.declared.limits.MapShape.{MapShape}
 use Rattle.bpf_model.specs.View.{MapView, shapes_of_maps}
 use Rattle.world_parts.specs.declared.loaded.Loaded.{Loaded}
 use Rattle.world_invariant.specs.Binding.{IsBoundTo}
-use Rattle.world.specs.Bound.{IsBound, AreProgramsBound}
+use Rattle.world_parts.specs.Bound.{IsBound, AreProgramsBound}
 use Rattle.bpf_model.proofs.Lists.{get-append, get-append_cases, map-next}
 
 -- Numbers that are found in a list are found in a longer one.

@@ -17,7 +17,7 @@ use Rattle.world_parts.specs.Programs.{program_of, programs_in}
 use Rattle.world_invariant.specs.Invariant.{IsWorld}
 use Rattle.world_invariant.proofs.Binding.{bound_is_verified}
 use Rattle.world_invariant.proofs.Keeping.{start_is_world}
-use Rattle.world.specs.Bound.{AreProgramsBound}
+use Rattle.world_parts.specs.Bound.{AreProgramsBound}
 
 -- What is known of the parts of a new world before it is made.
 pub record IsSafe (maps : List MapView) (loaded : List Loaded) : Type 0 where

@@ -7,8 +7,9 @@ ghost use Rattle.typed_runs.specs.Verified.{IsVerified};
 ghost use Rattle.world_laws.specs.Typed.{IsRealProgram};
 ghost use Rattle.world_invariant.specs.Binding.{IsBoundTo};
 ghost use Rattle.world_parts.specs.declared.loaded.Loaded.{Loaded};
+ghost use Rattle.world_parts.specs.Bound.{AreProgramsBound};
 ghost use Rattle.world_parts.specs.Programs.{program_of};
-ghost use Rattle.world.specs.Bound.{AreProgramsBound, IsFirstUnbound};
+ghost use Rattle.world.specs.Bound.{IsFirstUnbound};
 
 use bpf_model::{MapId, MapShape, ProgId};
 use maps::Registry;

@@ -5,8 +5,9 @@ ghost use Rattle.bpf_model.specs.Refines.{TracksSchedule};
 ghost use Rattle.bpf_model.specs.Schedule.{start_schedule};
 ghost use Rattle.bpf_model.specs.View.{AreNewMaps, start_view, shapes_of_maps};
 ghost use Rattle.world_invariant.specs.Invariant.{IsWorld};
+ghost use Rattle.world_parts.specs.Bound.{AreProgramsBound};
 ghost use Rattle.world_parts.specs.Programs.{programs_in};
-ghost use Rattle.world.specs.Bound.{AreProgramsBound, IsFirstUnbound};
+ghost use Rattle.world.specs.Bound.{IsFirstUnbound};
 
 use crate::binding::{certify_maps, certify_programs, first_unbound};
 use crate::fault::WorldFault;

@@ -1,5 +1,6 @@
 pub mod Flags
 pub mod Slots
+pub mod Shapes
 pub mod Runs
 pub mod Exits
 pub mod Same

@@ -1,5 +1,5 @@
 -- What a start and a drop leave of a world.
-use Rattle.std.proofs.Common.{◌≡◌, ◌∙◌, ℕ, List, length, Bool, false, Option, Some, None, inl, inr, sym, ap, subst, cond}
+use Rattle.std.proofs.Common.{◌≡◌, ◌∙◌, ℕ, List, length, Bool, true, false, Option, Some, None, inl, inr, sym, ap, subst, cond}
 use Rattle.std.specs.Prelude.{slice_get, slice_set, map, option_map, nat_lt, replicate}
 use Rattle.std.proofs.lemmas.Option.{none-some, same_Some, slice_get-map}
 use Rattle.std.proofs.lemmas.Bool.{eq-eqb}
@@ -98,4 +98,16 @@ fresh-kept runs grace programs e o = record {
   slots = ap (λ (rs : Runs). length rs) e;
   opened = o ∙ sym (ap (map is_run_inside) e);
   of_program = λ r run g. absurd (none-in MAX_RUNS r run (ap (λ (rs : Runs). slice_get rs r) (sym e) ∙ g));
+}
+
+flags-stay : (turns : Bool) (grace new : GraceState) → new ≡ cond turns (record { opened = grace.opened; awaited = grace.opened }) grace → new.opened ≡ grace.opened
+flags-stay true grace new is = ap (λ (g : GraceState). g.opened) is
+flags-stay false grace new is = ap (λ (g : GraceState). g.opened) is
+
+-- where a grace period ends, the runs inside a section are as before
+pub turned-kept : (turns : Bool) (runs : Runs) (grace new : GraceState) (programs : List Loaded) → new ≡ cond turns (record { opened = grace.opened; awaited = grace.opened }) grace → AreRunsKept runs grace programs → AreRunsKept runs new programs
+turned-kept turns runs grace new programs is kept = record {
+  slots = kept.slots;
+  opened = flags-stay turns grace new is ∙ kept.opened;
+  of_program = kept.of_program;
 }

@@ -9,13 +9,14 @@ use Rattle.bpf_model.specs.declared.limits.TheConstants.{MAX_RUNS}
 use Rattle.bpf_model.specs.Machine as machine
 use Rattle.bpf_model.specs.Schedule.{Schedule, still_open}
 use Rattle.bpf_model.specs.Step.{insn_at}
-use Rattle.bpf_model.specs.View.{MapView, RunView, WorldView}
+use Rattle.bpf_model.specs.View.{MapView, RunView, WorldView, shapes_of_maps}
 use Rattle.grace_period.specs.State.{GraceState}
 use Rattle.view_laws.specs.Matching.{Matches}
 use Rattle.view_laws.specs.Reactions.{step_refused}
 use Rattle.world_laws.specs.Local.{local_of}
 use Rattle.world_laws.specs.Reacting.{step_at, step_in, run_step_of, word_step}
 use Rattle.world_laws.specs.Typed.{IsSound}
+use Rattle.world_laws.proofs.Keeping.{step-keeps}
 use Rattle.world_laws.proofs.Stepping.{not-ended}
 use Rattle.machine.specs.declared.access.Access.{Access}
 use Rattle.machine.specs.declared.access.Local.TheVariants as code
@@ -28,7 +29,8 @@ use Rattle.helpers.proofs.Running.{running, flagged, can_be_served}
 use Rattle.helpers.proofs.Stepping.{own_is, own_keeps, own_asks, served_is, goes_on}
 use Rattle.world_parts.specs.declared.loaded.Loaded.{Loaded}
 use Rattle.world_parts.specs.Programs.{program_of}
-use Rattle.world_parts.specs.Keeping.{view_of, is_run_inside, IsOfProgram, AreRunsKept, world_of}
+use Rattle.world_parts.specs.Bound.{AreProgramsBound}
+use Rattle.world_parts.specs.Keeping.{view_of, is_run_inside, IsOfProgram, AreRunsKept, IsKept, world_of}
 use Rattle.world_parts.specs.Stepping.{CanTake, HasTaken, IsGoing, HasGone}
 use Rattle.std.proofs.lemmas.List.{length-set, map-set}
 use Rattle.bpf_model.proofs.Lists.{set-same, get-set_cases}
@@ -136,7 +138,7 @@ going None e = absurd (none-some _ (sym e))
 going (Some None) e = absurd (none-some _ (sym e))
 going (Some (Some run)) e = (run, refl, not-ended run.view.exit e)
 
-module _ (maps : List MapView) (runs : List (Option RunWords)) (g : GraceState) (programs : List Loaded) (given r : ℕ) (kept : AreRunsKept runs g programs) where
+module _ (maps : List MapView) (runs : List (Option RunWords)) (g : GraceState) (programs : List Loaded) (given r : ℕ) (kept : IsKept maps runs g programs) where
   abbrev w : WorldView
   w = world_of maps runs g programs given
 
@@ -152,41 +154,48 @@ module _ (maps : List MapView) (runs : List (Option RunWords)) (g : GraceState) 
       let x = going (slice_get runs r) (ap (λ o. step_refused (option_flatten o)) (sym (slice_get-map view_of runs r)) ∙ e) in
       let shown = run-at x.0 x.1 in
       let y = running w s m r x.0.view shown x.2 in
-      let of = kept.of_program r x.0 x.1 in
+      let of = kept.of_runs.of_program r x.0 x.1 in
       let at = loaded-shown x.0 of.program of.there in
       let f = flagged w s m sound r y.0 x.0.view y.1 in
-      let within : r < MAX_RUNS = subst (λ n. r < n) kept.slots (slice_get_within runs r (Some x.0) x.1) in
+      let within : r < MAX_RUNS = subst (λ n. r < n) kept.of_runs.slots (slice_get_within runs r (Some x.0) x.1) in
       record {
         run = x.0;
         there = x.1;
         loaded = of.program;
         of = of.there;
-        can = record {
-          stands = of.stands;
-          step = can_step w s m sound r y.0 x.0.view y.1 (program_of of.program) at;
-          ask = record {
-            serve = can_be_served w s m sound r y.0 x.0.view y.1 (program_of of.program) at;
-            resume = can_resume w s m sound r y.0 x.0.view y.1 (program_of of.program) at;
+        may = record {
+          can = λ justified. record {
+            stands = of.stands;
+            step = can_step w s m sound r y.0 x.0.view y.1 (program_of of.program) at of.program.verified (record {
+              justified = justified;
+              code = refl;
+              context = refl;
+              bound = kept.bound x.0.view.program of.program of.there;
+            });
+            ask = record {
+              serve = can_be_served w s m sound r y.0 x.0.view y.1 (program_of of.program) at;
+              resume = can_resume w s m sound r y.0 x.0.view y.1 (program_of of.program) at;
+            };
+            flag = record { slot = within; inside = f.awaited };
+            opened = f.opened;
+            depth = f.depth;
           };
-          flag = record { slot = within; inside = f.awaited };
-          opened = f.opened;
-          depth = f.depth;
         };
       }
 
   module _ (runs_new : List (Option RunWords)) (maps_new : List MapView) (g_new : GraceState) (answer : Answer) (gone : HasGone runs runs_new programs maps maps_new g g_new r answer) where
     -- what is kept of the runs holds after the step
-    pub gone_kept : AreRunsKept runs_new g_new programs
-    gone_kept = subst (λ (l : List (Option RunWords)). AreRunsKept l g_new programs) (sym gone.runs_are) (record {
-      slots = length-set runs r (Some gone.new) ∙ kept.slots;
-      opened = gone.taken.opened ∙ ap (λ os. slice_set os r (nat_lt 0 gone.new.view.depth)) kept.opened ∙ sym (map-set is_run_inside runs r (Some gone.new));
+    gone-runs : AreRunsKept runs_new g_new programs
+    gone-runs = subst (λ (l : List (Option RunWords)). AreRunsKept l g_new programs) (sym gone.runs_are) (record {
+      slots = length-set runs r (Some gone.new) ∙ kept.of_runs.slots;
+      opened = gone.taken.opened ∙ ap (λ os. slice_set os r (nat_lt 0 gone.new.view.depth)) kept.of_runs.opened ∙ sym (map-set is_run_inside runs r (Some gone.new));
       of_program = λ k run e. elim (get-set_cases runs r k (Some gone.new) (Some run) e) [
         | inl z ↦ subst (IsOfProgram programs) (same_Some gone.new run z.1) (record {
           program = gone.loaded;
           there = ap (slice_get programs) gone.taken.program ∙ gone.of;
           stands = gone.taken.stands;
         })
-        | inr z ↦ kept.of_program k run z.1
+        | inr z ↦ kept.of_runs.of_program k run z.1
       ];
     })
 
@@ -200,3 +209,10 @@ module _ (maps : List MapView) (runs : List (Option RunWords)) (g : GraceState) 
         ∙ ap (λ (o : Option Insn). step_at o (program_of gone.loaded) r run.view w) gone.taken.here
         ∙ gone.taken.step w refl refl
         ∙ ap out (sym (map-set view_of runs r (Some gone.new)) ∙ ap (map view_of) (sym gone.runs_are))
+
+    -- and the programs are bound to the maps, whose shapes stay
+    pub gone_kept : IsKept maps_new runs_new g_new programs
+    gone_kept = record {
+      of_runs = gone-runs;
+      bound = subst (λ shapes. AreProgramsBound shapes programs) (sym (ap (λ (x : Answer × WorldView). shapes_of_maps x.1.maps) (sym gone_is) ∙ (step-keeps w r).0)) kept.bound;
+    }

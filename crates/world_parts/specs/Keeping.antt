@@ -1,11 +1,13 @@
--- What is kept of a world's runs: each at its code, and for each whether it is inside a section.
+-- What is kept of a world: each run at its code, for each whether it is inside a section, and each
+-- program bound to the maps.
 use Rattle.std.specs.Prelude.{◌≡◌, ℕ, Bool, List, length, map, Option, Some, slice_get, option_map}
 use Rattle.bpf_model.specs.declared.limits.TheConstants.{MAX_RUNS}
-use Rattle.bpf_model.specs.View.{MapView, RunView, WorldView}
+use Rattle.bpf_model.specs.View.{MapView, RunView, WorldView, shapes_of_maps}
 use Rattle.grace_period.specs.State.{GraceState}
 use Rattle.view_laws.specs.Reactions.{is_open_view}
 use Rattle.machine.specs.RunWords.{RunWords, IsAt}
 use Rattle.world_parts.specs.declared.loaded.Loaded.{Loaded}
+use Rattle.world_parts.specs.Bound.{AreProgramsBound}
 use Rattle.world_parts.specs.Programs.{programs_in}
 
 -- what the world's view shows of a run slot
@@ -30,6 +32,12 @@ pub record AreRunsKept (runs : List (Option RunWords)) (grace : GraceState) (pro
   pub opened : grace.opened ≡ map is_run_inside runs
   pub of_program : (r : ℕ) (run : RunWords) → slice_get runs r ≡ Some (Some run) →
       IsOfProgram programs run
+
+-- The runs are kept, and each program is bound to the maps that there are.
+pub record IsKept (maps : List MapView) (runs : List (Option RunWords)) (grace : GraceState)
+    (programs : List Loaded) : Type 0 where
+  pub of_runs : AreRunsKept runs grace programs
+  pub bound : AreProgramsBound (shapes_of_maps maps) programs
 
 abbrev pub world_of : List MapView → List (Option RunWords) → GraceState → List Loaded → ℕ →
     WorldView

@@ -6,6 +6,7 @@ use Rattle.bpf_model.specs.declared.limits.TheConstants.{MAX_DEPTH}
 use Rattle.bpf_model.specs.Step.{insn_at}
 use Rattle.bpf_model.specs.View.{MapView, RunView, WorldView}
 use Rattle.grace_period.specs.State.{GraceState}
+use Rattle.verifier.specs.Verdict.{IsJustified}
 use Rattle.world_laws.specs.Local.{Asks, local_of}
 use Rattle.world_laws.specs.Reacting.{insn_step}
 use Rattle.machine.specs.declared.access.Access.{Access}
@@ -29,11 +30,16 @@ pub record CanAsk (loaded : Loaded) (maps : List MapView) (v : RunView) : Type 0
 pub record CanTake (loaded : Loaded) (maps : List MapView) (g : GraceState) (r : ℕ) (run : RunWords)
     : Type 0 where
   pub stands : IsAt loaded.verified.program run
-  pub step : CanStep loaded.verified.program run.view
+  pub step : CanStep loaded.verified run.view
   pub ask : CanAsk loaded maps run.view
   pub flag : HasFlag g r
   pub opened : slice_get g.opened r ≡ Some (nat_lt 0 run.view.depth)
   pub depth : run.view.depth ≤ MAX_DEPTH
+
+-- The run in run slot r may make a step of its program, where the program is justified.
+pub record MayTake (loaded : Loaded) (maps : List MapView) (g : GraceState) (r : ℕ) (run : RunWords)
+    : Type 0 where
+  pub can : IsJustified loaded.verified → CanTake loaded maps g r run
 
 -- The run has made the step: in each world with these maps and flags its instruction has this
 -- answer, and leaves the world with the new parts.
@@ -55,7 +61,7 @@ pub record IsGoing (runs : List (Option RunWords)) (programs : List Loaded) (map
   pub there : slice_get runs r ≡ Some (Some run)
   pub loaded : Loaded
   pub of : slice_get programs run.view.program ≡ Some loaded
-  pub can : CanTake loaded maps g r run
+  pub may : MayTake loaded maps g r run
 
 -- The run in run slot r has made a step, and no other run slot has changed.
 pub record HasGone (runs runs_after : List (Option RunWords)) (programs : List Loaded)

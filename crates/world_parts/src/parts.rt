@@ -1,7 +1,8 @@
 //! What a world keeps.
 ghost use Rattle.std.specs.Prelude.{◌≡◌, None, replicate, slice_get, option_map, option_copied, IfOk};
 ghost use Rattle.bpf_model.specs.declared.limits.TheConstants.{MAX_RUNS};
-ghost use Rattle.bpf_model.specs.View.{unused_world};
+ghost use Rattle.bpf_model.specs.View.{shapes_of_maps, unused_world};
+ghost use Rattle.world_parts.specs.Bound.{AreProgramsBound};
 ghost use Rattle.world_parts.specs.Programs.{program_of, programs_in};
 
 use crate::by_number::program_at;
@@ -34,11 +35,11 @@ impl Model for Parts {
 
     ghost coded = { world_code };
 
-    ghost use Rattle.world_parts.specs.Keeping.{world_of, AreRunsKept};
+    ghost use Rattle.world_parts.specs.Keeping.{world_of, IsKept};
 
     ghost view = { λ p. world_of p.registry.maps p.runs.items p.grace p.programs.items p.given };
 
-    ghost invariant = { λ p. AreRunsKept p.runs.items p.grace p.programs.items };
+    ghost invariant = { λ p. IsKept p.registry.maps p.runs.items p.grace p.programs.items };
 }
 
 /// `MAX_RUNS` free run slots.
@@ -53,12 +54,14 @@ fn free_slots(alloc: Global) -> Result<Vec<Option<Run>>, AllocError>
 }
 
 impl Parts {
-    /// These maps and programs, without runs. All the memory that it ever takes is taken here.
+    /// These maps and the programs that are bound to them, without runs. All the memory that it ever takes is
+    /// taken here.
     pub fn new(
         alloc: Global,
         registry: Registry,
         programs: Vec<Loaded>,
     ) -> Result<Parts, AllocError>
+        requires bound { AreProgramsBound (shapes_of_maps registry.maps) programs.items }
         ensures { IfOk result (λ w.
             w ≡ unused_world registry.maps (programs_in programs.items)) }
     {

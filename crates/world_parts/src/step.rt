@@ -6,7 +6,7 @@ ghost use Rattle.view_laws.specs.Reactions.{step_refused};
 ghost use Rattle.world_laws.specs.Reacting.{full_reaction, word_step};
 ghost use Rattle.world_laws.specs.Typed.{IsMatched};
 ghost use Rattle.world_parts.specs.Brief.{brief_answer};
-ghost use Rattle.world_parts.specs.Stepping.{CanTake, HasGone, HasTaken, IsGoing};
+ghost use Rattle.world_parts.specs.Stepping.{HasGone, HasTaken, IsGoing, MayTake};
 
 use crate::brief::Brief;
 use crate::loaded::Loaded;
@@ -26,10 +26,11 @@ fn step_run(
     maps: &mut Registry,
     grace: &mut Grace,
 ) -> Brief
-    requires { CanTake loaded.now maps.old.maps grace.old run_slot run.old }
+    requires { MayTake loaded.now maps.old.maps grace.old run_slot run.old }
     ensures { HasTaken loaded.now run_slot run.old run.new maps.old.maps maps.new.maps grace.old
         grace.new (brief_answer result) }
 {
+    let _justified = loaded.verified.program();
     match run.local_step(&loaded.verified) {
         Local::Moved => Brief::Moved,
         Local::Exit(value) => Brief::Exited(value),

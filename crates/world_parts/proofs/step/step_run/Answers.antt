@@ -3,26 +3,34 @@ use Rattle.helpers.specs.Serving.{CanServe, IsReply, maps_after}
 use Rattle.world_parts.proofs.Stepping.{moved_taken, exited_taken, can_serve, can_go_on, served_taken}
 use Rattle.world_parts.proofs.step.step_run.Goals as goal
 
+pub local_step-requires-clause-can : goal.local_step-requires-clause-can
+local_step-requires-clause-can c = (c.requires.can c.program-justified.ensures.justified).step
+
 pub serve-word-requires-clause-serve : goal.serve-word-requires-clause-serve
 serve-word-requires-clause-serve c =
+    let can = c.requires.can c.program-justified.ensures.justified in
     subst (λ (l : List ℕ). CanServe c.in-Shared.access l c.args.maps.now.maps c.local_step.new.self.view) (sym c.as_slice.ensures.value)
-    (can_serve c.args.loaded.now c.args.maps.now.maps c.args.grace.now c.args.run_slot c.args.run.now c.requires c.in-Shared.access c.local_step.new.self (c.in-Shared.ensures.step c.requires.step.insn c.requires.step.here))
+    (can_serve c.args.loaded.now c.args.maps.now.maps c.args.grace.now c.args.run_slot c.args.run.now can c.in-Shared.access c.local_step.new.self (c.in-Shared.ensures.step can.step.insn can.step.here))
 
 pub resume-requires-clause-can : goal.resume-requires-clause-can
 resume-requires-clause-can c =
-    can_go_on c.args.loaded.now c.args.maps.now.maps c.args.grace.now c.args.run_slot c.args.run.now c.requires c.in-Shared.access c.local_step.new.self (c.in-Shared.ensures.step c.requires.step.insn c.requires.step.here)
+    let can = c.requires.can c.program-justified.ensures.justified in
+    can_go_on c.args.loaded.now c.args.maps.now.maps c.args.grace.now c.args.run_slot c.args.run.now can c.in-Shared.access c.local_step.new.self (c.in-Shared.ensures.step can.step.insn can.step.here)
 
 pub returns-in-Moved : goal.returns-in-Moved
 returns-in-Moved c =
-    moved_taken c.args.loaded.now c.args.maps.now.maps c.args.grace.now c.args.run_slot c.args.run.now c.requires c.local_step.new.self (c.in-Moved.ensures.step c.requires.step.insn c.requires.step.here) c.in-Moved.ensures.run
+    let can = c.requires.can c.program-justified.ensures.justified in
+    moved_taken c.args.loaded.now c.args.maps.now.maps c.args.grace.now c.args.run_slot c.args.run.now can c.local_step.new.self (c.in-Moved.ensures.step can.step.insn can.step.here) c.in-Moved.ensures.run
 
 pub returns-in-Exit : goal.returns-in-Exit
 returns-in-Exit c =
-    exited_taken c.args.loaded.now c.args.maps.now.maps c.args.grace.now c.args.run_slot c.args.run.now c.requires c.in-Exit.value c.local_step.new.self (c.in-Exit.ensures.step c.requires.step.insn c.requires.step.here) c.in-Exit.ensures.run
+    let can = c.requires.can c.program-justified.ensures.justified in
+    exited_taken c.args.loaded.now c.args.maps.now.maps c.args.grace.now c.args.run_slot c.args.run.now can c.in-Exit.value c.local_step.new.self (c.in-Exit.ensures.step can.step.insn can.step.here) c.in-Exit.ensures.run
 
 pub returns-in-Shared : goal.returns-in-Shared
 returns-in-Shared c =
-    served_taken c.args.loaded.now c.args.maps.now.maps c.args.grace.now c.args.run_slot c.args.run.now c.requires c.in-Shared.access c.local_step.new.self (c.in-Shared.ensures.step c.requires.step.insn c.requires.step.here)
+    let can = c.requires.can c.program-justified.ensures.justified in
+    served_taken c.args.loaded.now c.args.maps.now.maps c.args.grace.now c.args.run_slot c.args.run.now can c.in-Shared.access c.local_step.new.self (c.in-Shared.ensures.step can.step.insn can.step.here)
     c.serve-word.result c.resume.new.self c.serve-word.new.maps.maps c.serve-word.new.grace
     (subst (λ (l : List ℕ). IsReply c.in-Shared.access l c.args.maps.now.maps c.local_step.new.self.view c.serve-word.result) c.as_slice.ensures.value c.serve-word.ensures.word)
     (c.serve-word.ensures.maps ∙ ap (λ (l : List ℕ). maps_after c.in-Shared.access l c.local_step.new.self.view c.args.maps.now.maps) c.as_slice.ensures.value)

@@ -3,7 +3,7 @@ use Rattle.std.proofs.lemmas.List.{length-append, length-map}
 use Rattle.bpf_model.specs.PlainMaps.{IsPlainWithMaps}
 use Rattle.bpf_model.specs.View.{shapes_of_maps}
 use Rattle.verifier.specs.declared.refusal.ProgramRefusal.TheVariants.{Memory}
-use Rattle.world.specs.Bound.{AreProgramsBound}
+use Rattle.world_parts.specs.Bound.{AreProgramsBound}
 use Rattle.world_invariant.specs.Binding.{IsBoundTo}
 use Rattle.world_parts.specs.Programs.{program_of}
 use Rattle.script_setup.proofs.Growing.{bound-more}

@@ -6,7 +6,7 @@ use Rattle.typed_runs.specs.Verified.{IsVerified}
 use Rattle.world_laws.specs.Typed.{IsRealProgram}
 use Rattle.world_parts.specs.declared.loaded.Loaded.{Loaded}
 use Rattle.world_parts.specs.Programs.{program_of}
-use Rattle.world.specs.Bound.{AreProgramsBound}
+use Rattle.world_parts.specs.Bound.{AreProgramsBound}
 use Rattle.world.proofs.Starting.{IsSafe, made-is-world, made-tracks-start}
 use Rattle.world.proofs.world.World.new.Goals as goal
 

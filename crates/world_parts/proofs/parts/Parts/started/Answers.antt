@@ -14,7 +14,7 @@ invariant_of-self c =
     let there : slice_get c.self.inside.programs.items c.args.prog ≡ Some c.in-Some.program.now = ap (λ (ps : List Loaded). slice_get ps c.args.prog) (sym c.deref.ensures.value) ∙ sym c.in-Some.ensures in
     let fresh : c.start.result.view ≡ fresh_view c.args.prog c.args.ctx.now.items = c.start.ensures.view ∙ ap (λ p. fresh_view p c.args.ctx.now.items) c.index.ensures in
     let free : slice_get c.self.inside.runs.items c.in-Some-lowest_free.slot ≡ Some None = ap (λ (rs : Runs). slice_get rs c.in-Some-lowest_free.slot) (sym c.deref-2.ensures.value) ∙ c.in-Some-lowest_free.ensures.free in
-    started-kept c.self.inside.registry.maps c.self.inside.runs.items c.self.inside.grace c.self.inside.programs.items c.self.inside.given c.in-Some-lowest_free.slot c.args.prog c.args.ctx.now.items c.in-Some.program.now c.start.result free c.self.invariant there fresh (c.start.ensures.run c.in-Some.program.now.verified.program)
+    record { of_runs = started-kept c.self.inside.registry.maps c.self.inside.runs.items c.self.inside.grace c.self.inside.programs.items c.self.inside.given c.in-Some-lowest_free.slot c.args.prog c.args.ctx.now.items c.in-Some.program.now c.start.result free c.self.invariant.of_runs there fresh (c.start.ensures.run c.in-Some.program.now.verified.program); bound = c.self.invariant.bound }
 
 pub returns-in-None-lowest_free-clause-answer : goal.returns-in-None-lowest_free-clause-answer
 returns-in-None-lowest_free-clause-answer c =
@@ -40,6 +40,6 @@ returns-in-Some-lowest_free-clause-new c =
     let e = started c.self.inside.registry.maps c.self.inside.runs.items c.self.inside.grace c.self.inside.programs.items c.self.inside.given c.args.prog c.args.ctx.now.items c.in-Some.program.now (Some c.in-Some-lowest_free.slot) c.args.self.now c.self.view_is there long free in
     let fresh : c.start.result.view ≡ fresh_view c.args.prog c.args.ctx.now.items = c.start.ensures.view ∙ ap (λ p. fresh_view p c.args.ctx.now.items) c.index.ensures in
     let empty : slice_get c.self.inside.runs.items c.in-Some-lowest_free.slot ≡ Some None = ap (λ (rs : Runs). slice_get rs c.in-Some-lowest_free.slot) (sym c.deref-2.ensures.value) ∙ c.in-Some-lowest_free.ensures.free in
-    started-view c.self.inside.registry.maps c.self.inside.runs.items c.self.inside.grace c.self.inside.programs.items c.self.inside.given c.in-Some-lowest_free.slot c.args.prog c.args.ctx.now.items c.in-Some.program.now c.start.result empty c.self.invariant there fresh (c.start.ensures.run c.in-Some.program.now.verified.program) c.keeps_awaited_open.ensures
+    started-view c.self.inside.registry.maps c.self.inside.runs.items c.self.inside.grace c.self.inside.programs.items c.self.inside.given c.in-Some-lowest_free.slot c.args.prog c.args.ctx.now.items c.in-Some.program.now c.start.result empty c.self.invariant.of_runs there fresh (c.start.ensures.run c.in-Some.program.now.verified.program) c.keeps_awaited_open.ensures
     ∙ (ap (with_run c.in-Some-lowest_free.slot (Some (fresh_view c.args.prog c.args.ctx.now.items))) c.self.view_is
     ∙ sym (ap (λ r. r.1) e))
