@@ -5,7 +5,7 @@ ghost use Rattle.world_parts.specs.Brief.{brief_answer};
 use bpf_model::{Answer, Errno, EventRefusal, RunId};
 
 /// An answer to an event that hands out no key and no value. It has few bytes, where an `Answer` has room for
-/// a value, so that it is made an `Answer` only at the end.
+/// a value, so that it is put in its place only at the end.
 #[derive(Clone, Copy, Debug, PartialEq, Eq)]
 pub(crate) enum Brief {
     Started(RunId),
@@ -21,38 +21,42 @@ pub(crate) enum Brief {
 }
 
 impl Brief {
-    /// The answer that the brief one stands for.
-    #[inline(always)]
-    pub(crate) fn into_answer(self) -> Answer
-        ensures { result ≡ brief_answer self }
-    {
-        match self {
-            Brief::Started(run) => Answer::Started(run),
-            Brief::Moved => Answer::Moved,
-            Brief::Exited(value) => Answer::Exited(value),
-            Brief::Ret(outcome) => Answer::Ret(outcome),
-            Brief::Absent => Answer::Found(None),
-            Brief::Done => Answer::Done,
-            Brief::NothingReady => Answer::Reaped(None),
-            Brief::Refused(refusal) => Answer::Refused(refusal),
-        }
-    }
-
-    /// Puts the answer in the place of another one. Where that is of the same kind, only what this kind has is
-    /// written; else, and for a start, the place is cleared with its room for a value.
+    /// Puts the answer that the brief one stands for in the place of another one. Where that is of the same kind,
+    /// only what this kind has is written; else, and for a start, the place is cleared with its room for a value.
     #[inline(always)]
     pub(crate) fn put(self, answer: &mut Answer)
         ensures { answer.new ≡ brief_answer self }
     {
-        match (self, &mut *answer) {
-            (Brief::Moved, Answer::Moved) => (),
-            (Brief::Exited(value), Answer::Exited(place)) => *place = value,
-            (Brief::Ret(outcome), Answer::Ret(place)) => *place = outcome,
-            (Brief::Absent, Answer::Found(None)) => (),
-            (Brief::Done, Answer::Done) => (),
-            (Brief::NothingReady, Answer::Reaped(None)) => (),
-            (Brief::Refused(refusal), Answer::Refused(place)) => *place = refusal,
-            (brief, _) => *answer = brief.into_answer(),
+        match self {
+            Brief::Started(run) => *answer = Answer::Started(run),
+            Brief::Moved => match answer {
+                Answer::Moved => (),
+                _ => *answer = Answer::Moved,
+            },
+            Brief::Exited(value) => match answer {
+                Answer::Exited(place) => *place = value,
+                _ => *answer = Answer::Exited(value),
+            },
+            Brief::Ret(outcome) => match answer {
+                Answer::Ret(place) => *place = outcome,
+                _ => *answer = Answer::Ret(outcome),
+            },
+            Brief::Absent => match answer {
+                Answer::Found(None) => (),
+                _ => *answer = Answer::Found(None),
+            },
+            Brief::Done => match answer {
+                Answer::Done => (),
+                _ => *answer = Answer::Done,
+            },
+            Brief::NothingReady => match answer {
+                Answer::Reaped(None) => (),
+                _ => *answer = Answer::Reaped(None),
+            },
+            Brief::Refused(refusal) => match answer {
+                Answer::Refused(place) => *place = refusal,
+                _ => *answer = Answer::Refused(refusal),
+            },
         }
     }
 }

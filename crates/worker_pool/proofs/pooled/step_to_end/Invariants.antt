@@ -1,4 +1,4 @@
-use Rattle.std.proofs.Common.{◌≡◌, ◌+◌, ◌-◌, ◌^◌, ℕ, Ok, IfOk}
+use Rattle.std.proofs.Common.{◌≡◌, ◌+◌, ◌-◌, ◌^◌, IfOk}
 use Rattle.bpf_model.specs.declared.event.Event.TheVariants.{Step}
 use Rattle.shared.specs.Receipts.{IsMachineAnswer}
 use Rattle.worker_pool.specs.Trails.{IsLater, IsByWorker}
