@@ -7,7 +7,7 @@ use crate::worlds::measure::LONG_TASK_BATCHES;
 use crate::worlds::sequence::Sequence;
 use crate::worlds::setup::{key_of, make_world};
 use anyhow::{Result, bail};
-use bpf_model::{Answer, CtxBytes, Event, MapId, ProgId, RunId};
+use bpf_model::{Answer, CtxBytes, Event, KeyBytes, MapId, ProgId, RunId};
 use measurements::{Decimal, quotient};
 use shared::{Shared, Worker, is_quiet};
 use std::alloc::Global;
@@ -107,29 +107,60 @@ impl Progress {
 }
 
 /// The read of a key.
-fn read(sequence: &mut Sequence) -> Event {
+fn read(key: KeyBytes) -> Event {
     Event::Read {
         map: MapId::new(0),
-        key: key_of(sequence.below(SMALL_ENTRIES as u64), 8),
+        key,
     }
 }
 
-/// What a worker goes by: its task, the keys that it reads, its run, and the place of its answers.
+/// What a worker goes by: its task, the keys that it reads, its run, the event that comes next, and the place of
+/// the answers.
 #[derive(Drop)]
 struct Caller {
     task: Task,
     sequence: Sequence,
     progress: Progress,
+    event: Event,
     answer: Answer,
 }
 
 impl Caller {
-    /// The event that comes next.
-    fn next(&mut self) -> Event {
+    fn new(task: Task) -> Caller {
+        let progress = Progress::None;
+        Caller {
+            task,
+            sequence: Sequence::new(),
+            progress,
+            event: match task {
+                Task::Steps => progress.step(),
+                Task::Reads => read(key_of(0, 8)),
+                Task::Advances => Event::Advance,
+            },
+            answer: Answer::Done,
+        }
+    }
+
+    /// Goes on to the next event. A run that has moved makes another step, which is the same event.
+    fn go_on(&mut self) {
         match self.task {
-            Task::Steps => self.progress.step(),
-            Task::Reads => read(&mut self.sequence),
-            Task::Advances => Event::Advance,
+            Task::Steps => {
+                if !matches!(self.answer, Answer::Moved) {
+                    self.progress = self.progress.after(&self.answer);
+                    self.event = self.progress.step();
+                }
+            }
+            Task::Reads => self.read_next(),
+            Task::Advances => (),
+        }
+    }
+
+    /// Reads another key.
+    fn read_next(&mut self) {
+        let next = key_of(self.sequence.below(SMALL_ENTRIES as u64), 8);
+        match &mut self.event {
+            Event::Read { key, .. } => *key = next,
+            event => *event = read(next),
         }
     }
 }
@@ -141,10 +172,9 @@ fn call<L: Ledger, R: Wait>(
     worker: &mut Worker<L>,
     caller: &mut Caller,
 ) {
-    let event = caller.next();
-    match shared.act_into(rt, worker, &event, &mut caller.answer) {
-        Ok(()) => caller.progress = caller.progress.after(&caller.answer),
-        Err(_) => (),
+    let outcome = shared.act_into(rt, worker, &caller.event, &mut caller.answer);
+    if outcome.is_ok() {
+        caller.go_on();
     }
 }
 
@@ -171,12 +201,7 @@ fn work<L: Ledger, R: Wait>(
     task: Task,
     calls: u32,
 ) {
-    let mut caller = Caller {
-        task,
-        sequence: Sequence::new(),
-        progress: Progress::None,
-        answer: Answer::Done,
-    };
+    let mut caller = Caller::new(task);
     for _ in 0..calls {
         call(rt, shared, worker, &mut caller);
     }
