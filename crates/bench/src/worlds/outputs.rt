@@ -127,7 +127,8 @@ fn repeated_crew<R: Threads + Wait + Clock + Sync>(
     crew: &Crew,
     times: u32,
 ) -> Result<String> {
-    let calls = repeat_calls::<Brand, R>(rt, alloc, Blank::new(1), crew.task, times)?;
+    let blank = Blank::new(1);
+    let calls = repeat_calls::<Brand, R>(rt, alloc, blank, crew.task, times)?;
     Ok(format!(in alloc; "{} calls {calls}", crew.name)?)
 }
 
