@@ -39,24 +39,25 @@ pub fn run_to_exit(verified: &Verified, ctx: &CtxBytes) -> Finished
     let mut moved = 0;
     'steps: loop {
         let halt = workspace.go_on(verified, context, index, MAX_SLOTS);
+        let before_last = MAX_SLOTS - halt.left;
         match halt.next {
             Next::On => {
                 index = halt.index + 1;
-                moved += halt.moved + 1;
+                moved += before_last + 1;
             }
             Next::At(target) => {
                 index = target;
-                moved += halt.moved + 1;
+                moved += before_last + 1;
             }
             // A lock or an unlock: a run alone asks nothing else.
             Next::Shared(_) => {
                 index = halt.index + 1;
-                moved += halt.moved + 1;
+                moved += before_last + 1;
             }
             Next::Exit(value) => {
                 return Finished {
                     value,
-                    steps: moved + halt.moved + 1,
+                    steps: moved + before_last + 1,
                 };
             }
         }

@@ -3,7 +3,6 @@ pub mod Doing
 pub mod Landing
 pub mod GoingOn
 pub mod Laws
-pub mod Locating
 pub mod Noted
 pub mod Places
 pub mod Reacting

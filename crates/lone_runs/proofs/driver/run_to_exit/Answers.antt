@@ -63,20 +63,20 @@ overflow_add-index-in-Shared c =
 
 pub steps-smaller-in-On : goal.steps-smaller-in-On
 steps-smaller-in-On c =
-    let below : c.steps.moved + c.go_on-halt.result.moved < length c.args.verified.now.program = halts_below c.args.verified.now c.as_slice-context.result.now c.steps.index c.steps.moved MAX_SLOTS c.steps.workspace c.steps.invariant c.go_on-halt.result c.go_on-halt.new.self c.go_on-halt.ensures in
-    let less : length c.args.verified.now.program - (c.steps.moved + (c.go_on-halt.result.moved + 1)) < length c.args.verified.now.program - c.steps.moved = omega (arith, below) in
+    let below : c.steps.moved + (MAX_SLOTS - c.go_on-halt.result.left) < length c.args.verified.now.program = halts_below c.args.verified.now c.as_slice-context.result.now c.steps.index c.steps.moved MAX_SLOTS c.steps.workspace c.steps.invariant c.go_on-halt.result c.go_on-halt.new.self c.go_on-halt.ensures in
+    let less : length c.args.verified.now.program - (c.steps.moved + ((MAX_SLOTS - c.go_on-halt.result.left) + 1)) < length c.args.verified.now.program - c.steps.moved = omega (arith, below) in
     less
 
 pub steps-smaller-in-At : goal.steps-smaller-in-At
 steps-smaller-in-At c =
-    let below : c.steps.moved + c.go_on-halt.result.moved < length c.args.verified.now.program = halts_below c.args.verified.now c.as_slice-context.result.now c.steps.index c.steps.moved MAX_SLOTS c.steps.workspace c.steps.invariant c.go_on-halt.result c.go_on-halt.new.self c.go_on-halt.ensures in
-    let less : length c.args.verified.now.program - (c.steps.moved + (c.go_on-halt.result.moved + 1)) < length c.args.verified.now.program - c.steps.moved = omega (arith, below) in
+    let below : c.steps.moved + (MAX_SLOTS - c.go_on-halt.result.left) < length c.args.verified.now.program = halts_below c.args.verified.now c.as_slice-context.result.now c.steps.index c.steps.moved MAX_SLOTS c.steps.workspace c.steps.invariant c.go_on-halt.result c.go_on-halt.new.self c.go_on-halt.ensures in
+    let less : length c.args.verified.now.program - (c.steps.moved + ((MAX_SLOTS - c.go_on-halt.result.left) + 1)) < length c.args.verified.now.program - c.steps.moved = omega (arith, below) in
     less
 
 pub steps-smaller : goal.steps-smaller
 steps-smaller c =
-    let below : c.steps.moved + c.go_on-halt.result.moved < length c.args.verified.now.program = halts_below c.args.verified.now c.as_slice-context.result.now c.steps.index c.steps.moved MAX_SLOTS c.steps.workspace c.steps.invariant c.go_on-halt.result c.go_on-halt.new.self c.go_on-halt.ensures in
-    let less : length c.args.verified.now.program - (c.steps.moved + (c.go_on-halt.result.moved + 1)) < length c.args.verified.now.program - c.steps.moved = omega (arith, below) in
+    let below : c.steps.moved + (MAX_SLOTS - c.go_on-halt.result.left) < length c.args.verified.now.program = halts_below c.args.verified.now c.as_slice-context.result.now c.steps.index c.steps.moved MAX_SLOTS c.steps.workspace c.steps.invariant c.go_on-halt.result c.go_on-halt.new.self c.go_on-halt.ensures in
+    let less : length c.args.verified.now.program - (c.steps.moved + ((MAX_SLOTS - c.go_on-halt.result.left) + 1)) < length c.args.verified.now.program - c.steps.moved = omega (arith, below) in
     less
 
 pub steps-preserved-in-On : goal.steps-preserved-in-On
@@ -90,16 +90,16 @@ steps-preserved c = halts_shared c.args.verified.now c.as_slice-context.result.n
 
 pub returns-in-Exit-clause-exits : goal.returns-in-Exit-clause-exits
 returns-in-Exit-clause-exits c =
-    subst (λ (b : List ℕ). ExitsWith (loaded_alone c.args.verified.now) b (c.steps.moved + c.go_on-halt.result.moved + 1) c.in-Exit.value) c.as_slice-context.ensures.value
+    subst (λ (b : List ℕ). ExitsWith (loaded_alone c.args.verified.now) b (c.steps.moved + (MAX_SLOTS - c.go_on-halt.result.left) + 1) c.in-Exit.value) c.as_slice-context.ensures.value
     (halts_exited c.args.verified.now c.as_slice-context.result.now c.steps.index c.steps.moved MAX_SLOTS c.steps.workspace c.steps.invariant c.go_on-halt.result c.go_on-halt.new.self c.go_on-halt.ensures c.in-Exit.value c.in-Exit.is)
 
 pub returns-in-Exit-clause-only : goal.returns-in-Exit-clause-only
 returns-in-Exit-clause-only c = λ steps value may.
-    let exits = subst (λ (b : List ℕ). ExitsWith (loaded_alone c.args.verified.now) b (c.steps.moved + c.go_on-halt.result.moved + 1) c.in-Exit.value) c.as_slice-context.ensures.value
+    let exits = subst (λ (b : List ℕ). ExitsWith (loaded_alone c.args.verified.now) b (c.steps.moved + (MAX_SLOTS - c.go_on-halt.result.left) + 1) c.in-Exit.value) c.as_slice-context.ensures.value
     (halts_exited c.args.verified.now c.as_slice-context.result.now c.steps.index c.steps.moved MAX_SLOTS c.steps.workspace c.steps.invariant c.go_on-halt.result c.go_on-halt.new.self c.go_on-halt.ensures c.in-Exit.value c.in-Exit.is) in
-    one_exit (loaded_alone c.args.verified.now) c.args.ctx.now.items (c.steps.moved + c.go_on-halt.result.moved + 1) steps c.in-Exit.value value exits may
+    one_exit (loaded_alone c.args.verified.now) c.args.ctx.now.items (c.steps.moved + (MAX_SLOTS - c.go_on-halt.result.left) + 1) steps c.in-Exit.value value exits may
 
 pub returns-in-Exit-clause-bounded : goal.returns-in-Exit-clause-bounded
 returns-in-Exit-clause-bounded c =
-    let below : c.steps.moved + c.go_on-halt.result.moved < length c.args.verified.now.program = halts_below c.args.verified.now c.as_slice-context.result.now c.steps.index c.steps.moved MAX_SLOTS c.steps.workspace c.steps.invariant c.go_on-halt.result c.go_on-halt.new.self c.go_on-halt.ensures in
+    let below : c.steps.moved + (MAX_SLOTS - c.go_on-halt.result.left) < length c.args.verified.now.program = halts_below c.args.verified.now c.as_slice-context.result.now c.steps.index c.steps.moved MAX_SLOTS c.steps.workspace c.steps.invariant c.go_on-halt.result c.go_on-halt.new.self c.go_on-halt.ensures in
     omega (arith, below)
