@@ -17,13 +17,14 @@ use Rattle.bpf_model.specs.Event.{DoesEvent, IsReal, AllBytes}
 use Rattle.bpf_model.specs.Refines.{IsReachedSchedule, RunRefines}
 use Rattle.bpf_model.proofs.Cases.{run-behind}
 use Rattle.bpf_model.specs.Schedule.{Schedule, start_schedule}
-use Rattle.bpf_model.specs.View.{WorldView, HasExited, shapes_of}
+use Rattle.bpf_model.specs.View.{WorldView, shapes_of}
 use Rattle.model_laws.proofs.Exits.{exits_alone}
 use Rattle.model_laws.proofs.Keeping.{no-run}
 use Rattle.model_laws.proofs.Moves.{Changes, Goes, Locks, Unlocks, Ends, changed-insn}
 use Rattle.typed_runs.proofs.Coming.{Comes, Stands, Starting, Stepping, does-come}
 use Rattle.typed_runs.proofs.Reaching.{kept-last, keeps_well, starts_well}
 use Rattle.typed_runs.specs.Well.{IsWell, AreVerified}
+use Rattle.world_invariant.specs.Exited.{HasExited}
 use Rattle.world_invariant.specs.Invariant.{IsWorld}
 use Rattle.exit_laws.specs.Exits.{MayExitAs, ExitsAs}
 use Rattle.std.specs.Option.{option_flatten}
@@ -106,7 +107,7 @@ reached_has_lived shapes programs s safe r =
     let w = kept-last HasLivedWell stays-lived start r.events r.answers r.states (starts_well shapes programs safe, lived-start shapes programs) r.real r.history in
     subst (λ (x : Schedule). AllLived x.machine) r.last w.1
 
-module _ (w : WorldView) (r : ℕ) (code : List Insn) (context : List ℕ) (n : ℕ) (is : IsWorld w) (h : HasExited w r code context n) where
+module _ (w : WorldView) (r : ℕ) (code : List Insn) (shapes : List MapShape) (context_len : ℕ) (context : List ℕ) (n : ℕ) (is : IsWorld w) (h : HasExited w r code shapes context_len context n) where
   stands : (run : Run) × (slice_get is.schedule.machine.runs r ≡ Some (Some run)) × RunRefines is.tracks.refines.slots is.schedule.machine.store.elements is.schedule.machine.programs h.run run
   stands = run-behind is.tracks.refines.slots is.schedule.machine.store.elements is.schedule.machine.programs h.run (slice_get w.runs r) (slice_get is.schedule.machine.runs r) h.there (is.tracks.refines.runs r)
 

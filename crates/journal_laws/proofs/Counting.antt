@@ -155,17 +155,23 @@ count-kinds (e ∷ es) =
     let rest = count-kinds es in
     omega (arith, a, b, c, k, rest)
 
-schedule-unlinked : (w : WorldView) (s : Schedule) → TracksSchedule w s → unlinked_total w ≡ ever_unlinked s.machine
-schedule-unlinked w s t =
+pub unlinked-now : (w : WorldView) (s : Schedule) → TracksSchedule w s → sum_by unlinked_in w.maps ≡ count_by (λ e. is_unlinked e.life) s.machine.store.elements
+unlinked-now w s t =
     let es = s.machine.store.elements in
     let sch = tracked_is_scheduled w s t in
     let a = t.refines.maps.0 in
     let b = t.refines.maps.1 in
     let lists : sum_by unlinked_in w.maps ≡ length (all_births s.queues) = all-long w.maps s.queues (omega (arith, a, b)) (map-long w s t.refines) in
     let counted : length (all_births s.queues) ≡ count_by (λ e. is_unlinked e.life) es = count-of (all_births s.queues) es (λ n. births-flag s n (slice_get es n) sch refl) in
+    lists ∙ counted
+
+schedule-unlinked : (w : WorldView) (s : Schedule) → TracksSchedule w s → unlinked_total w ≡ ever_unlinked s.machine
+schedule-unlinked w s t =
+    let es = s.machine.store.elements in
+    let now = unlinked-now w s t in
     let given : w.given ≡ count_by (λ e. is_reclaimed e.life) es = t.refines.given in
     let whole = count-kinds es in
-    omega (arith, lists, counted, given, whole)
+    omega (arith, now, given, whole)
 
 pub unlinked_is_machines : (w : WorldView) (m : Machine) → Tracks w m → unlinked_total w ≡ ever_unlinked m
 unlinked_is_machines w m t = schedule-unlinked w t.0 t.2 ∙ ap ever_unlinked t.1

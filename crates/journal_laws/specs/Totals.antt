@@ -1,11 +1,12 @@
 -- What is counted since a world began, and of whom an entry is.
 use Rattle.std.specs.Prelude.{◌≡◌, ℕ, ◌+◌, ◌<◌, ◌==◌, Bool, true, false, not, List, Some, length}
-use Rattle.std.specs.Prelude.{slice_get, count_by}
+use Rattle.std.specs.Prelude.{slice_get, count_by, is_some}
 use Rattle.std.specs.List.{filter, range_with_len, sum_by}
 use Rattle.bpf_model.specs.declared.event.Answer.{Answer}
 use Rattle.bpf_model.specs.declared.event.Answer.TheVariants.{Moved, Exited}
-use Rattle.bpf_model.specs.Element.{is_linked, is_reclaimed}
-use Rattle.bpf_model.specs.Machine.{Machine}
+use Rattle.bpf_model.specs.declared.stat.Stat.{Stat}
+use Rattle.bpf_model.specs.Element.{is_linked, is_reclaimed, is_unlinked}
+use Rattle.bpf_model.specs.Machine.{Machine, open_sections}
 use Rattle.bpf_model.specs.View.{WorldView}
 use Rattle.maps.specs.Counting.{unlinked_in}
 use Rattle.bpf_model.specs.declared.entry.Entry.{Entry}
@@ -26,6 +27,18 @@ ever_unlinked m = count_by (λ e. not (is_linked e.life)) m.store.elements
 
 abbrev pub ever_reclaimed : Machine → ℕ
 ever_reclaimed m = count_by (λ e. is_reclaimed e.life) m.store.elements
+
+-- The counts of a machine: elements by their lives, map slots that are worn out, occupied run slots,
+-- and open sections.
+abbrev pub machine_stat : Machine → Stat
+machine_stat m = record {
+  linked = count_by (λ e. is_linked e.life) m.store.elements;
+  unlinked = count_by (λ e. is_unlinked e.life) m.store.elements;
+  given = ever_reclaimed m;
+  worn = sum_by (λ s. s.worn) m.store.maps;
+  runs = count_by is_some m.runs;
+  «open» = length (open_sections m.runs);
+}
 
 -- how many elements are unlinked and not yet reclaimed
 abbrev pub unreclaimed_in : WorldView → ℕ

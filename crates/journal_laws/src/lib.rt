@@ -21,7 +21,9 @@ ghost use Rattle.journal.specs.Entries.{IsAnswerTo};
 ghost use Rattle.bpf_model.specs.declared.entry.Entry.{Entry};
 ghost use Rattle.journal_laws.specs.Replay.{HasNoRuns, Replays};
 ghost use Rattle.journal_laws.specs.Totals.{AreOfWorkers, entries_by, ever_reclaimed, ever_unlinked};
-ghost use Rattle.journal_laws.specs.Totals.{is_step, reclaimed_total, shares, steps_of, unlinked_total};
+ghost use Rattle.journal_laws.specs.Totals.{is_step, machine_stat, reclaimed_total, shares, steps_of};
+ghost use Rattle.journal_laws.specs.Totals.{unlinked_total};
+ghost use Rattle.world_parts.specs.Asking.{stat_of};
 
 /// An empty journal replays from any world without runs.
 pub fn empty_replays()
@@ -92,6 +94,12 @@ pub fn totals_are_machines()
         unlinked_total w ≡ ever_unlinked m }
     ensures reclaimed { (w : WorldView) (m : Machine) → Tracks w m →
         reclaimed_total w ≡ ever_reclaimed m }
+{}
+
+/// What a world tells of itself is what its machine counts: elements by their lives, worn map slots, occupied
+/// run slots and open sections.
+pub fn stat_is_machines()
+    ensures { (w : WorldView) (m : Machine) → Tracks w m → stat_of w ≡ machine_stat m }
 {}
 
 /// No event makes a total less.

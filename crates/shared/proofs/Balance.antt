@@ -46,11 +46,12 @@ tally-push old new w next event answer t a n o unr rec unl =
     )
 
 pub balanced-push : (old new : BooksView) (total worker : ℕ) (event : Event) (answer : Answer) → AreBalanced old total → total + 1 < 2 ^ 64 → IsReal event → Enters old worker event answer new
+    → length old.journal < old.limit
     → new.tally.unreclaimed ≡ unreclaimed_in new.world
     → new.tally.totals.reclaimed ≡ old.tally.totals.reclaimed + reclaimed_by answer
     → new.tally.totals.unlinked + old.tally.unreclaimed ≡ old.tally.totals.unlinked + new.tally.unreclaimed + reclaimed_by answer
     → AreBalanced new (total + 1)
-balanced-push old new total worker event answer b fits real e unr rec unl =
+balanced-push old new total worker event answer b fits real e room unr rec unl =
     let entry : Entry = record { worker = worker; event = event; answer = answer } in
     let r : Replays old.base new.world (old.journal ++ entry ∷ []) = replays_push old.base old.world new.world old.journal entry b.replays real e.answers e.world in
     let n : length new.journal ≡ length old.journal + 1 = ap length e.journal ∙ length-append old.journal (entry ∷ []) in
@@ -65,6 +66,7 @@ balanced-push old new total worker event answer b fits real e unr rec unl =
     let few_steps = b.few_steps in
     let few_unlinked = b.few_unlinked in
     let few_reclaimed = b.few_reclaimed in
+    let limit = b.limit in
     let t1 = t.1 in
     let t3 = t.3 in record {
       replays = subst (λ (z : WorldView × List Entry). Replays z.0 new.world z.1) (λ i. (sym e.base i, sym e.journal i)) r;
@@ -75,4 +77,6 @@ balanced-push old new total worker event answer b fits real e unr rec unl =
       few_steps = omega (arith, few_steps, steps_now, one);
       few_unlinked = omega (arith, few_unlinked, t1);
       few_reclaimed = omega (arith, few_reclaimed, t3);
+      limit = e.limit ∙ limit;
+      short = omega (arith, n, room, limit);
     }

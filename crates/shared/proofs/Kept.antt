@@ -2,18 +2,26 @@
 use Rattle.std.proofs.Common.{◌≡◌, ℕ, ◌+◌, List, [], ◌∷◌, ◌++◌, map, take, Some}
 use Rattle.std.specs.Prelude.{slice_get}
 use Rattle.bpf_model.proofs.Lists.{map-take}
+use Rattle.bpf_model.specs.declared.limits.MapShape.{MapShape}
 use Rattle.bpf_model.specs.Machine.{Loaded}
 use Rattle.verifier.specs.Checked.{Checked}
 
--- instructions and context lengths are those of these programs, one after another
-pub record AreKept (kept : List Checked) (programs : List Loaded) : Type 0 where
+-- instructions, context lengths and, among maps of these shapes, bindings are those of these programs, one after another
+pub record AreKept (among : List MapShape) (kept : List Checked) (programs : List Loaded) : Type 0 where
   pub codes : map (λ (p : Checked). p.program) kept ≡ map (λ (l : Loaded). l.code) programs
   pub contexts : map (λ (p : Checked). p.ctx_len) kept ≡ map (λ (l : Loaded). l.context_len) programs
+  pub shapes : map (λ (p : Checked). map Some p.shapes) kept ≡ map (λ (l : Loaded). map (slice_get among) l.maps) programs
 
-pub kept-more : (kept : List Checked) (programs : List Loaded) (n : ℕ) (c : Checked) (l : Loaded) → AreKept kept (take n programs) → slice_get programs n ≡ Some l → c.program ≡ l.code → c.ctx_len ≡ l.context_len
-    → AreKept (kept ++ c ∷ []) (take (n + 1) programs)
-kept-more kept programs n c l k at code context =
+-- a program is kept as it was loaded
+pub record IsKeptAs (among : List MapShape) (c : Checked) (l : Loaded) : Type 0 where
+  pub code : c.program ≡ l.code
+  pub context : c.ctx_len ≡ l.context_len
+  pub bound : map Some c.shapes ≡ map (slice_get among) l.maps
+
+pub kept-more : (among : List MapShape) (kept : List Checked) (programs : List Loaded) (n : ℕ) (c : Checked) (l : Loaded) → AreKept among kept (take n programs) → slice_get programs n ≡ Some l → IsKeptAs among c l → AreKept among (kept ++ c ∷ []) (take (n + 1) programs)
+kept-more among kept programs n c l k at same =
     record {
-      codes = map-take (λ (p : Checked). p.program) (λ (l : Loaded). l.code) kept programs n c l k.codes at code;
-      contexts = map-take (λ (p : Checked). p.ctx_len) (λ (l : Loaded). l.context_len) kept programs n c l k.contexts at context;
+      codes = map-take (λ (p : Checked). p.program) (λ (l : Loaded). l.code) kept programs n c l k.codes at same.code;
+      contexts = map-take (λ (p : Checked). p.ctx_len) (λ (l : Loaded). l.context_len) kept programs n c l k.contexts at same.context;
+      shapes = map-take (λ (p : Checked). map Some p.shapes) (λ (l : Loaded). map (slice_get among) l.maps) kept programs n c l k.shapes at same.bound;
     }

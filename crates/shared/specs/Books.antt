@@ -3,6 +3,7 @@ use Rattle.std.specs.Prelude.{◌≡◌, ℕ, ◌+◌, ◌^◌, ◌<◌, ◌≤�
 use Rattle.std.specs.Prelude.{slice_get}
 use Rattle.bpf_model.specs.declared.event.Event.{Event}
 use Rattle.bpf_model.specs.declared.event.Answer.{Answer}
+use Rattle.bpf_model.specs.declared.limits.TheConstants.{MAX_JOURNAL}
 use Rattle.bpf_model.specs.View.{WorldView}
 use Rattle.bpf_model.specs.declared.entry.Entry.{Entry}
 use Rattle.journal.specs.Entries.{JournalView}
@@ -26,7 +27,8 @@ pub record BooksView : Type 0 where
 
 -- The books balance: the journal replays from the base, which has no run, to the world; the
 -- ledger's total is the number of the entries before the base and of those in the journal; the
--- totals are the world's, and no greater than that number.
+-- totals are the world's, and no greater than that number. The journal has at most `MAX_JOURNAL`
+-- entries, which is as many as it may have.
 pub record AreBalanced (b : BooksView) (total : ℕ) : Type 0 where
   pub replays : Replays b.base b.world b.journal
   pub count : b.before + length b.journal ≡ total
@@ -36,6 +38,8 @@ pub record AreBalanced (b : BooksView) (total : ℕ) : Type 0 where
   pub few_steps : b.tally.totals.steps ≤ total
   pub few_unlinked : b.tally.totals.unlinked ≤ total
   pub few_reclaimed : b.tally.totals.reclaimed ≤ total
+  pub limit : b.limit ≡ MAX_JOURNAL
+  pub short : length b.journal ≤ MAX_JOURNAL
 
 -- a worker: its number, how many entries it has made, and how many parts of the ledger it has
 pub record WorkerView : Type 0 where

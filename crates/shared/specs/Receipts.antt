@@ -6,8 +6,9 @@ use Rattle.bpf_model.specs.Event.{DoesEvent}
 use Rattle.bpf_model.specs.Exit.{HasNoMaps}
 use Rattle.bpf_model.specs.Machine.{Machine}
 use Rattle.bpf_model.specs.Refines.{Tracks}
-use Rattle.bpf_model.specs.View.{WorldView, HasExited}
+use Rattle.bpf_model.specs.View.{WorldView}
 use Rattle.verifier.specs.Checked.{Checked}
+use Rattle.world_invariant.specs.Exited.{HasExited}
 use Rattle.world_invariant.specs.Invariant.{IsWorld}
 use Rattle.exit_laws.specs.Exits.{MayExitAs, ExitsAs}
 use Rattle.shared.specs.declared.fault.SharedFault.{SharedFault}
@@ -47,7 +48,8 @@ pub record IsMachineAnswer (event : Event) (answer : Answer) : Type 0 where
 -- context.
 abbrev pub IsExitOf : WorldView → ℕ → Option Checked → List ℕ → ℕ → Type 0
 IsExitOf w run None context n = ⊥
-IsExitOf w run (Some program) context n = HasExited w run program.program context n
+IsExitOf w run (Some program) context n =
+    HasExited w run program.program program.shapes program.ctx_len context n
 
 -- In some world, with the programs that are asked for by number, the run has exited with this
 -- value.

@@ -1,5 +1,6 @@
 //! The world with its journal, and the ledger that counts its entries. No method waits.
-ghost use Rattle.std.specs.Prelude.{◌≡◌, ◌+◌, ◌-◌, ◌^◌, ◌<◌, ◌↔◌, [], length, IsTrue, true, OnErr, OnOk, Err, Ok, option_copied};
+ghost use Rattle.std.specs.Prelude.{◌≡◌, ◌+◌, ◌-◌, ◌^◌, ◌<◌, ◌≤◌, ◌↔◌, [], length, IsTrue, true, OnErr, OnOk, Err, Ok, option_copied};
+ghost use Rattle.bpf_model.specs.declared.limits.TheConstants.{MAX_JOURNAL};
 ghost use Rattle.journal_laws.specs.Replay.{Replays, HasNoRuns};
 ghost use Rattle.shared.specs.Noted.{IsEntered, IsExitNote, receipt_of};
 ghost use Rattle.shared.specs.Tally.{IsTallyOf, origin_of};
@@ -69,9 +70,11 @@ fn make_room(journal: &mut Journal, before: u64) -> Result<(), SharedFault>
         ↔ HasNoRoom journal.old.entries journal.old.limit before }
     ensures room { OnOk result (journal.new.has_room ≡ true) }
     ensures count { OnOk result (before + length journal.old.entries + 1 < 2 ^ 64) }
+    ensures few { OnOk result (length journal.old.entries < journal.old.limit) }
     ensures entries { journal.new.entries ≡ journal.old.entries }
     ensures limit { journal.new.limit ≡ journal.old.limit }
 {
+    journal.is_short();
     if before == u64::MAX - journal.len() as u64 {
         return Err(SharedFault::JournalFull);
     }
@@ -88,11 +91,12 @@ impl<L: Ledger> Books<L> {
         requires same { world ≡ base }
         requires quiet { HasNoRuns base }
         requires journal { journal.entries ≡ [] }
+        requires limit { journal.limit ≡ MAX_JOURNAL }
         requires book { book.total ≡ 0 }
         ensures base { result.base ≡ base }
         ensures world { result.world ≡ base }
         ensures journal { result.journal ≡ [] }
-        ensures limit { result.limit ≡ journal.limit }
+        ensures limit { result.limit ≡ MAX_JOURNAL }
         ensures before { (result.before ≡ 0) × (result.steps_before ≡ 0) }
         ensures origin { result.tally.origin ≡ origin_of base }
         ensures totals { result.tally.totals ≡ record { steps = 0; unlinked = 0; reclaimed = 0 } }
@@ -213,10 +217,13 @@ impl<L: Ledger> Books<L> {
         }
     }
 
-    /// A law: the journal replays from the base to the world, and the totals are the world's, since its origin.
+    /// A law: the journal replays from the base to the world, the totals are the world's, since its origin, and
+    /// there may be `MAX_JOURNAL` entries.
     pub fn are_balanced(&self)
         ensures replays { Replays self.now.base self.now.world self.now.journal }
         ensures tally { IsTallyOf self.now.tally self.now.world }
+        ensures limit { self.now.limit ≡ MAX_JOURNAL }
+        ensures short { length self.now.journal ≤ MAX_JOURNAL }
     {
         let _base = &self.base;
     }
@@ -229,6 +236,8 @@ impl<L: Ledger> Books<L> {
         ensures world { result.world ≡ self.world }
         ensures journal { result.journal.entries ≡ self.journal }
         ensures replays { Replays result.base result.world result.journal.entries }
+        ensures limit { result.journal.limit ≡ MAX_JOURNAL }
+        ensures short { length result.journal.entries ≤ MAX_JOURNAL }
         ensures total { self.before + length result.journal.entries ≡ all.old.amount }
     {
         self.book.audit(all);

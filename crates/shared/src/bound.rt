@@ -1,5 +1,5 @@
 //! A shared world of one program, which is bound to all maps.
-ghost use Rattle.std.specs.Prelude.{◌≡◌, ◌<◌, ◌≤◌, ◌∷◌, [], length, map, vec_len, IfOk};
+ghost use Rattle.std.specs.Prelude.{◌≡◌, ◌<◌, ◌≤◌, ◌∷◌, [], length, map, IfOk};
 ghost use Rattle.bpf_model.specs.declared.limits.TheConstants.{MAX_MAPS};
 ghost use Rattle.bpf_model.specs.View.{AreNewMaps, shapes_of_maps};
 ghost use Rattle.journal_laws.specs.Replay.{HasNoRuns};
@@ -73,8 +73,8 @@ impl<L: Ledger> Shared<L> {
         requires workers { (0 < workers) × (workers ≤ MAX_WORKERS) }
         requires name { blank.name ≡ L.name }
         requires parts { (blank.parts ≡ L.parts) × (blank.parts ≡ workers) }
-        ensures count { IfOk result (λ t. vec_len t.1.list ≡ workers) }
-        ensures numbers { IfOk result (λ t. AreNumbered t.1.list.items) }
+        ensures count { IfOk result (λ t. length t.1 ≡ workers) }
+        ensures numbers { IfOk result (λ t. AreNumbered t.1) }
         ensures codes { IfOk result (λ t.
             map (λ p. p.program) t.0 ≡ program.verified.program ∷ []) }
     {

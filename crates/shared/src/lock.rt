@@ -1,5 +1,7 @@
 //! A world behind a lock: how its sharing begins and ends, and what workers ask of it.
-ghost use Rattle.std.specs.Prelude.{◌≡◌, ℕ, ◌+◌, ◌<◌, ◌≤◌, length, map, vec_len, sum_by, All, IfOk, IfSome, OnErr, OnOk, option_copied, slice_get};
+ghost use Rattle.std.specs.Prelude.{◌≡◌, ℕ, ◌+◌, ◌<◌, ◌≤◌, length, map, sum_by, All, IfOk, IfSome, OnErr, OnOk, Some, option_copied, slice_get};
+ghost use Rattle.bpf_model.specs.declared.limits.TheConstants.{MAX_JOURNAL};
+ghost use Rattle.bpf_model.specs.View.{shapes_of};
 ghost use Rattle.shared.specs.declared.worker.TheConstants.{MAX_WORKERS};
 ghost use Rattle.shared.specs.Books.{AreNumbered};
 ghost use Rattle.shared.specs.Receipts.{HasExitedOnce, IsMachineAnswer, IsOwnExit, IsPossibleExit};
@@ -44,6 +46,8 @@ fn programs_of(alloc: Global, world: &World) -> Result<Vec<Verified>, AllocError
         map (λ p. p.program) v.items ≡ map (λ l. l.code) world.now.programs) }
     ensures contexts { IfOk result (λ v.
         map (λ p. p.ctx_len) v.items ≡ map (λ l. l.context_len) world.now.programs) }
+    ensures shapes { IfOk result (λ v. map (λ p. map Some p.shapes) v.items
+        ≡ map (λ l. map (slice_get (shapes_of world.now)) l.maps) world.now.programs) }
 {
     world.is_world();
     let mut programs = Vec::new(alloc);
@@ -58,8 +62,9 @@ fn programs_of(alloc: Global, world: &World) -> Result<Vec<Verified>, AllocError
 
 impl<L: Ledger> Shared<L> {
     /// Shares a world in which no run slot is occupied among 1 to `MAX_WORKERS` workers, with an empty journal
-    /// and the counters. The programs that it keeps are the world's, by number. The ledger has one part for
-    /// each worker. The error is that there is no memory left.
+    /// and the counters. The journal may have `MAX_JOURNAL` entries (`State::are_balanced`). The programs that
+    /// it keeps are the world's, by number. The ledger has one part for each worker. The error is that there is
+    /// no memory left.
     pub fn new(
         alloc: Global,
         world: World,
@@ -70,14 +75,17 @@ impl<L: Ledger> Shared<L> {
         requires workers { (0 < workers) × (workers ≤ MAX_WORKERS) }
         requires name { blank.name ≡ L.name }
         requires parts { (blank.parts ≡ L.parts) × (blank.parts ≡ workers) }
-        ensures count { IfOk result (λ t. vec_len t.1.list ≡ workers) }
-        ensures made { IfOk result (λ t. All (λ w. w.made ≡ 0) t.1.list.items) }
-        ensures numbers { IfOk result (λ t. AreNumbered t.1.list.items) }
+        ensures count { IfOk result (λ t. length t.1 ≡ workers) }
+        ensures made { IfOk result (λ t. All (λ w. w.made ≡ 0) t.1) }
+        ensures numbers { IfOk result (λ t. AreNumbered t.1) }
         ensures counters { IfOk result (λ t. t.2 ≡ shown_totals (origin_of world) 0 0 0) }
         ensures codes { IfOk result (λ t.
             map (λ p. p.program) t.0 ≡ map (λ l. l.code) world.programs) }
         ensures contexts { IfOk result (λ t.
             map (λ p. p.ctx_len) t.0 ≡ map (λ l. l.context_len) world.programs) }
+        // Each is verified for maps of the shapes of those to which the world's is bound.
+        ensures shapes { IfOk result (λ t. map (λ p. map Some p.shapes) t.0
+            ≡ map (λ l. map (slice_get (shapes_of world)) l.maps) world.programs) }
     {
         let programs = programs_of(alloc, &world)?;
         let base = world.copy(alloc)?;
@@ -242,14 +250,14 @@ impl<L: Ledger> Shared<L> {
     }
 
     /// Ends the sharing, for which all workers come back, and hands out the base, the world and the
-    /// journal. The shares of all workers add up to the entries before the base and those in the
-    /// journal.
+    /// journal, which may have `MAX_JOURNAL` entries. The shares of all workers add up to the entries
+    /// before the base and those in the journal.
     pub fn finish(self, workers: Workers<L>) -> Finished
-        requires some { 0 < vec_len workers.list }
-        requires all { vec_len workers.list ≡ L.parts }
         ensures replays { Replays result.base result.world result.journal.entries }
+        ensures limit { result.journal.limit ≡ MAX_JOURNAL }
+        ensures short { length result.journal.entries ≤ MAX_JOURNAL }
         ensures total { (before : ℕ) × (before + length result.journal.entries
-            ≡ sum_by (λ w. w.made) workers.list.items) }
+            ≡ sum_by (λ w. w.made) workers) }
     {
         let Shared { state, programs: _ } = self;
         let Workers { list } = workers;

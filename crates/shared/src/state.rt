@@ -1,11 +1,12 @@
 //! What the lock guards: the books, with the one pass that writes the counters.
-ghost use Rattle.std.specs.Prelude.{◌≡◌, ◌+◌, ◌↔◌, length, IfOk, OnErr, OnOk, Err, option_copied};
+ghost use Rattle.std.specs.Prelude.{◌≡◌, ◌+◌, ◌≤◌, ◌↔◌, length, IfOk, OnErr, OnOk, Err, option_copied};
 ghost use Rattle.std.specs.Arc.{arc_value};
 ghost use Rattle.crossbeam_utils.specs.Seq.{cell_view};
 ghost use Rattle.shared.specs.Noted.{IsEntered, IsExitNote, receipt_of};
 ghost use Rattle.shared.specs.Books.{TotalsRise, CutsTo};
 ghost use Rattle.shared.specs.Meter.{writer_at, writer_of};
 ghost use Rattle.shared.specs.Tally.{IsTallyOf, shown_totals};
+ghost use Rattle.bpf_model.specs.declared.limits.TheConstants.{MAX_JOURNAL};
 ghost use Rattle.journal_laws.specs.Replay.{Replays, HasNoRuns};
 ghost use Rattle.shared.specs.declared.fault.CutFault.TheVariants as cut_fault;
 
@@ -161,10 +162,13 @@ impl<L: Ledger> State<L> {
         self.books.cut(alloc)
     }
 
-    /// A law: the journal replays from the base to the world, and the totals are the world's, since its origin.
+    /// A law: the journal replays from the base to the world, the totals are the world's, since its origin, and
+    /// there may be `MAX_JOURNAL` entries. It is so of each value that a lock of this type has, whoever made it.
     pub fn are_balanced(&self)
         ensures replays { Replays self.now.base self.now.world self.now.journal }
         ensures tally { IsTallyOf self.now.tally self.now.world }
+        ensures limit { self.now.limit ≡ MAX_JOURNAL }
+        ensures short { length self.now.journal ≤ MAX_JOURNAL }
     {
         self.books.are_balanced();
     }
@@ -174,6 +178,8 @@ impl<L: Ledger> State<L> {
     pub(crate) fn finish(self, all: &mut Share<L>) -> Finished
         requires { all.old.parts ≡ L.parts }
         ensures replays { Replays result.base result.world result.journal.entries }
+        ensures limit { result.journal.limit ≡ MAX_JOURNAL }
+        ensures short { length result.journal.entries ≤ MAX_JOURNAL }
         ensures total { self.before + length result.journal.entries ≡ all.old.amount }
     {
         let State {

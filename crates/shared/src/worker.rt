@@ -1,9 +1,10 @@
 //! Those who make entries.
-ghost use Rattle.std.specs.Prelude.{◌≡◌, ◌<◌, vec_len, sum_by, All, IfOk};
+ghost use Rattle.std.specs.Prelude.{◌≡◌, ◌<◌, length, vec_len, sum_by, All, IfOk};
 ghost use Rattle.shared.specs.Books.{WorkerView, AreNumbered};
 
 use std::alloc::{AllocError, Global};
 use std::marker::Model;
+use std::slice::IterMut;
 use std::sync::ledger::{Ledger, Share};
 
 /// The most workers of a shared world.
@@ -66,10 +67,42 @@ impl<L: Ledger> Worker<L> {
     }
 }
 
-/// The workers of a shared world, by number.
+/// The workers of a shared world: one for each part of the ledger. Contracts see them in order.
 #[derive(Drop)]
 pub struct Workers<L: Ledger> {
     pub list: Vec<Worker<L>>,
+}
+
+impl<L: Ledger> Model for Workers<L> {
+    ghost use Rattle.std.specs.Prelude.{◌≡◌, ◌<◌, List, vec_len};
+    ghost use Rattle.shared.specs.Books.{WorkerView};
+
+    ghost Value = { List WorkerView };
+
+    ghost view = { λ w. w.list.items };
+
+    ghost invariant = { λ w. (0 < vec_len w.list) × (vec_len w.list ≡ L.parts) };
+}
+
+impl<L: Ledger> Workers<L> {
+    /// How many they are: as many as the ledger has parts.
+    pub fn count(&self) -> usize
+        ensures count { result ≡ length self.now }
+        ensures parts { result ≡ L.parts }
+        ensures some { 0 < result }
+    {
+        self.list.len()
+    }
+
+    /// Lends the workers, one after another.
+    pub fn iter_mut(&mut self) -> IterMut<'_, Worker<L>> {
+        self.list.iter_mut()
+    }
+
+    /// Lends the workers, all at once.
+    pub fn as_mut_slice(&mut self) -> &mut [Worker<L>] {
+        self.list.as_mut_slice()
+    }
 }
 
 /// So many workers, each with one part of the ledger.
@@ -78,10 +111,11 @@ pub(crate) fn new_workers<L: Ledger>(
     mut all: Share<L>,
     workers: u8,
 ) -> Result<Workers<L>, AllocError>
-    requires { (all.parts ≡ workers) × (all.amount ≡ 0) }
-    ensures count { IfOk result (λ v. vec_len v.list ≡ workers) }
-    ensures made { IfOk result (λ v. All (λ w. w.made ≡ 0) v.list.items) }
-    ensures numbers { IfOk result (λ v. AreNumbered v.list.items) }
+    requires all { (all.parts ≡ workers) × (all.amount ≡ 0) }
+    requires parts { (0 < workers) × (workers ≡ L.parts) }
+    ensures count { IfOk result (λ v. length v ≡ workers) }
+    ensures made { IfOk result (λ v. All (λ w. w.made ≡ 0) v) }
+    ensures numbers { IfOk result AreNumbered }
 {
     let mut list = Vec::new(alloc);
     for number in 0..workers {

@@ -70,7 +70,6 @@ fn all_exit<L: Ledger + Send + Sync, R: Threads + Wait + Abort + Sync>(
     assert_eq!(rt; report.jobs.len(), count);
     assert_eq!(rt; wrong(&report, values), 0);
     assert_eq!(rt; made_by(&all_workers), entries as u64);
-    assert!(rt; all_workers.list.len() == workers as usize);
     assert_eq!(rt; shared.finish(all_workers).journal.len(), entries);
     Ok(())
 }

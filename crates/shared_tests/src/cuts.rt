@@ -31,8 +31,8 @@ fn cut<L: Ledger + Send + Sync, R: Wait + Abort>(
     let (shared, mut workers, _counters) = Shared::<L>::new(alloc, world, 1, blank)?;
     let (run, prog, ctx) = (RunId::new(0), ProgId::new(0), CtxBytes::new());
     assert!(rt; shared.program(prog).is_some());
-    assert!(rt; shared.program(ProgId::new(4)).is_none());
-    if let [worker] = workers.list.as_mut_slice() {
+    assert!(rt; shared.program(ProgId::new(5)).is_none());
+    if let [worker] = workers.as_mut_slice() {
         let _ = shared.act(rt, worker, update(0, 5));
         let _ = shared.act(rt, worker, start(0));
         let _ = shared.act(rt, worker, step(0));
@@ -50,10 +50,44 @@ fn cut<L: Ledger + Send + Sync, R: Wait + Abort>(
         assert!(rt; matches!(receipt.event(), Event::Step { .. }));
         assert!(rt; matches!(receipt.reply(), Ok(Answer::Refused(_))));
     }
-    assert!(rt; workers.list.len() == 1);
     let finished = shared.finish(workers);
     assert_eq!(rt; finished.journal.len(), 1);
     assert_eq!(rt; finished.base.stat().linked, 1);
     assert_eq!(rt; finished.world.stat(), finished.base.stat());
+    Ok(())
+}
+
+#[test]
+fn a_run_is_of_one_program(rt: HostRuntime) -> Result<(), Fail> {
+    alike::<Brand, _>(&rt, rt.alloc(), Blank::new(1))
+}
+
+/// Of two programs of the same instructions, one for values of 8 bytes and one for values of 16, each has the
+/// exit value of its own run alone.
+fn alike<L: Ledger + Send + Sync, R: Wait + Abort>(
+    rt: &R,
+    alloc: Global,
+    blank: Blank,
+) -> Result<(), Fail>
+    requires name { blank.name ≡ L.name }
+    requires parts { (blank.parts ≡ L.parts) × (blank.parts ≡ 1) }
+{
+    let world = world_of(rt, alloc)?;
+    assert!(rt; is_quiet(&world));
+    let (shared, mut workers, _) = Shared::<L>::new(alloc, world, 1, blank)?;
+    if let [worker] = workers.as_mut_slice() {
+        let _ = shared.act(rt, worker, update(0, 5));
+        for (run, prog) in [1, 4].into_iter().enumerate() {
+            let _ = shared.act(rt, worker, start(prog));
+            for _ in 0..12 {
+                let _ = shared.act(rt, worker, step(run));
+            }
+        }
+        let ctx = CtxBytes::new();
+        for (run, prog, exit) in [(0, 1, Some(5)), (0, 4, None), (1, 4, Some(0)), (1, 1, None)] {
+            let told = shared.exit_of(rt, worker, RunId::new(run), ProgId::new(prog), &ctx);
+            assert_eq!(rt; told, exit);
+        }
+    }
     Ok(())
 }

@@ -55,6 +55,15 @@ const SHAPE: MapShape = MapShape {
     reuse_limit: 100,
 };
 
+/// The same with values of 16 bytes.
+const WIDE_SHAPE: MapShape = MapShape {
+    key_len: 4,
+    value_len: 16,
+    entries: 4,
+    spare: 4,
+    reuse_limit: 100,
+};
+
 /// A key of 4 bytes.
 fn key_of(number: u8) -> KeyBytes {
     array_of(&[number, 0, 0, 0])
@@ -122,26 +131,28 @@ fn plain<R: Abort>(rt: &R, alloc: Global, code: &[u8], ctx_len: usize) -> Loaded
     }
 }
 
-/// A program on one map, bound to map 0.
-fn on_map_0<R: Abort>(rt: &R, alloc: Global, code: &[u8]) -> Loaded {
+/// A program on one map, bound to the map of this number and shape.
+fn on_map<R: Abort>(rt: &R, alloc: Global, code: &[u8], map: usize, shape: MapShape) -> Loaded {
     let mut maps = ArrayVec::new();
-    maps.push(0);
+    maps.push(map);
     Loaded {
-        verified: verified(rt, alloc, code, &[SHAPE], 0),
+        verified: verified(rt, alloc, code, &[shape], 0),
         maps,
     }
 }
 
-/// A world with one map and four programs: 0 is `ONE`, 1 and 2 are lookups of the keys 0 and 1, 3 is
-/// `FIRST_BYTE`.
+/// A world with two maps and five programs: 0 is `ONE`, 1 and 2 are lookups of the keys 0 and 1, 3 is
+/// `FIRST_BYTE`, and 4 is 1 once more, on the map of longer values.
 pub fn world_of<R: Abort>(rt: &R, alloc: Global) -> Result<World, Fail> {
     let mut registry = Registry::new(alloc);
     registry.create("m", SHAPE).expect(rt, "a map");
+    registry.create("wide", WIDE_SHAPE).expect(rt, "a map");
     let mut programs = Vec::new(alloc);
     programs.push(plain(rt, alloc, &ONE, 0))?;
-    programs.push(on_map_0(rt, alloc, &lookup(0)))?;
-    programs.push(on_map_0(rt, alloc, &lookup(1)))?;
+    programs.push(on_map(rt, alloc, &lookup(0), 0, SHAPE))?;
+    programs.push(on_map(rt, alloc, &lookup(1), 0, SHAPE))?;
     programs.push(plain(rt, alloc, &FIRST_BYTE, 1))?;
+    programs.push(on_map(rt, alloc, &lookup(0), 1, WIDE_SHAPE))?;
     Ok(World::new(alloc, registry, programs).expect(rt, "a world"))
 }
 

@@ -142,13 +142,13 @@ fn eight<L: Ledger + Send + Sync, R: Threads + Wait + Abort + Sync>(
     let (shared, mut workers, mut counters) = Shared::<L>::new(alloc, world, 8, blank)?;
     let logs = Mutex::new(Vec::new(alloc));
     let (lock, out) = (&shared, &logs);
-    let list = &mut workers.list;
+    let lent = &mut workers;
     let (_, rises) = join(
         rt,
         || {
             for_each_mut(
                 rt,
-                list,
+                lent.as_mut_slice(),
                 8,
                 &|_, worker: &mut Worker<L>| {
                     let _ = work(rt, alloc, lock, worker, out);
@@ -159,7 +159,6 @@ fn eight<L: Ledger + Send + Sync, R: Threads + Wait + Abort + Sync>(
     );
     assert!(rt; rises);
     assert_eq!(rt; made_by(&workers), 8000);
-    assert!(rt; workers.list.len() == 8);
     let mut finished = shared.finish(workers);
     assert_eq!(rt; finished.journal.len(), 8000);
     assert_eq!(rt; finished.base.stat(), first);

@@ -49,7 +49,7 @@ fn counted<L: Ledger + Send + Sync, R: Wait + Abort>(
         reclaimed: 0,
     };
     assert_eq!(rt; counters.read(rt), none);
-    if let [worker] = workers.list.as_mut_slice() {
+    if let [worker] = workers.as_mut_slice() {
         let _ = shared.act(rt, worker, update(0, 5));
         let _ = shared.act(rt, worker, start(1));
         steps(rt, &shared, worker, 7);
@@ -70,7 +70,6 @@ fn counted<L: Ledger + Send + Sync, R: Wait + Abort>(
         reclaimed: 1,
     };
     assert_eq!(rt; counters.read(rt), all);
-    assert!(rt; workers.list.len() == 1);
     let finished = shared.finish(workers);
     assert_eq!(rt; finished.journal.len(), 19);
     Ok(())

@@ -35,19 +35,19 @@ pub fn run_jobs<L: Ledger + Send + Sync, R: Threads + Wait + Sync>(
     shared: &Shared<L>,
     workers: &mut Workers<L>,
 ) -> Result<Report<Trail>, PoolFault>
-    ensures bad_workers { IsBadCount threads (vec_len workers.old.list) →
+    ensures bad_workers { IsBadCount threads (length workers.old) →
         result ≡ Err faults.BadWorkers }
-    ensures too_many_jobs { (IsBadCount threads (vec_len workers.old.list) → ⊥)
+    ensures too_many_jobs { (IsBadCount threads (length workers.old) → ⊥)
         → MAX_JOBS < length jobs.now → result ≡ Err faults.TooManyJobs }
-    ensures served { (IsBadCount threads (vec_len workers.old.list) → ⊥)
+    ensures served { (IsBadCount threads (length workers.old) → ⊥)
         → length jobs.now ≤ MAX_JOBS
         → IsOk result ⊎ (result ≡ Err faults.Memory) ⊎ (result ≡ Err faults.Lost) }
-    ensures refused { IsBadCount threads (vec_len workers.old.list) ⊎ (MAX_JOBS < length jobs.now)
+    ensures refused { IsBadCount threads (length workers.old) ⊎ (MAX_JOBS < length jobs.now)
         → workers.new ≡ workers.old }
-    ensures later { AllZip IsLater workers.old.list.items workers.new.list.items }
+    ensures later { AllZip IsLater workers.old workers.new }
     ensures count { IfOk result (λ report. vec_len report.jobs ≡ length jobs.now) }
     ensures each { IfOk result (λ report. AreServed (IsServedJob shared.now) jobs.now
-        workers.old.list.items workers.new.list.items report.jobs.items) }
+        workers.old workers.new report.jobs.items) }
 {
     let pooled = Pooled { shared };
     match serve_all(rt, alloc, &pooled, jobs, threads, &mut workers.list) {

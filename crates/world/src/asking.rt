@@ -1,9 +1,11 @@
 //! What is asked of a world outside of events.
 ghost use Rattle.std.specs.Prelude.{◌≡◌, ℕ, slice_get, option_map, option_copied, IfSome, IfNone};
 ghost use Rattle.bpf_model.specs.Exit.{HasNoMaps};
-ghost use Rattle.bpf_model.specs.View.{HasExited};
 ghost use Rattle.exit_laws.specs.Exits.{MayExitAs, ExitsAs};
+ghost use Rattle.world_invariant.specs.Exited.{HasExited};
 ghost use Rattle.world_parts.specs.Asking.{stat_of, IsFound, HasNone};
+ghost use Rattle.bpf_model.specs.View.{shapes_of};
+ghost use Rattle.world_parts.specs.Bound.{IsBound};
 ghost use Rattle.world_parts.specs.Programs.{program_of};
 
 use crate::world::World;
@@ -13,13 +15,13 @@ use verifier::Verified;
 use world_parts::Loaded;
 
 impl World {
-    /// The exit value of the run in a run slot, where it has ended and was started with this program's
-    /// instructions on this context.
+    /// The exit value of the run in a run slot, where it has ended and was started with this program on this
+    /// context. A program verified for maps of other shapes, or for contexts of another length, is another one.
     pub fn exit_of(&self, run: RunId, program: &Verified, ctx: &CtxBytes) -> Option<u64>
-        ensures some { IfSome result (λ n.
-            HasExited self.now run program.now.program ctx.now.items n) }
-        ensures none { IfNone result ((n : ℕ) →
-            HasExited self.now run program.now.program ctx.now.items n → ⊥) }
+        ensures some { IfSome result (λ n. HasExited self.now run program.now.program
+            program.now.shapes program.now.ctx_len ctx.now.items n) }
+        ensures none { IfNone result ((n : ℕ) → HasExited self.now run program.now.program
+            program.now.shapes program.now.ctx_len ctx.now.items n → ⊥) }
 
         // The value is one of the program's definition, and without map references the only one.
         ensures may { IfSome result (λ n. MayExitAs program.now.program ctx.now.items n) }
@@ -36,9 +38,11 @@ impl World {
         self.parts.registry()
     }
 
-    /// The program of this number, if there is one.
+    /// The program of this number, if there is one. It is bound to maps of the shapes that it was verified for.
     pub fn program(&self, prog: ProgId) -> Option<&Loaded>
-        ensures { option_map program_of (option_copied result) ≡ slice_get self.now.programs prog }
+        ensures same { option_map program_of (option_copied result)
+            ≡ slice_get self.now.programs prog }
+        ensures bound { IfSome result (λ l. IsBound (shapes_of self.now) l.now) }
     {
         self.parts.program(prog)
     }

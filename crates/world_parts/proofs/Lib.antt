@@ -3,5 +3,6 @@ pub mod Slots
 pub mod Shapes
 pub mod Runs
 pub mod Exits
+pub mod Given
 pub mod Same
 pub mod Stepping

@@ -1,4 +1,4 @@
--- What `==` of two instructions says.
+-- What `==` of two instructions, and of two shapes of maps, says.
 use Rattle.std.proofs.Common.{◌≡◌, Bool, true, false, ap, refl}
 use Rattle.std.specs.Prelude.{Decides, ◌&&◌}
 use Rattle.std.proofs.lemmas.Bool.{false≢true}
@@ -11,9 +11,11 @@ use Rattle.bpf_model.specs.declared.insn.Operand.{Operand}
 use Rattle.bpf_model.specs.declared.insn.Operand.TheVariants.{Register, Immediate}
 use Rattle.bpf_model.specs.declared.insn.UnaryOp.{UnaryOp}
 use Rattle.bpf_model.specs.declared.insn.UnaryOp.TheVariants.{Negate, ByteSwap, MoveSigned}
+use Rattle.bpf_model.specs.declared.limits.MapShape.{MapShape}
 use Rattle.bpf_model.specs.contracts.insn.InsnPartialEq.TheImpl as insn
 use Rattle.bpf_model.specs.contracts.insn.OperandPartialEq.TheImpl as operand
 use Rattle.bpf_model.specs.contracts.insn.UnaryOpPartialEq.TheImpl as unary
+use Rattle.bpf_model.specs.contracts.limits.MapShapePartialEq.TheImpl as shape
 use Rattle.bpf_model.specs.contracts.insn.AluOp as alu_op
 use Rattle.bpf_model.specs.contracts.insn.CallKind as call_kind
 use Rattle.bpf_model.specs.contracts.insn.SignExtension as extension
@@ -60,3 +62,9 @@ insns-decides (insns.Load v d a o) (insns.Load w e b p) = through _ (both _ _ (n
 insns-decides (insns.LoadSigned v d a o) (insns.LoadSigned w e b p) = through _ (both _ _ (named signed_width.the_type tt v w) (both _ _ (Decides-eqb d e) (both _ _ (Decides-eqb a b) (Decides-int_eq o p)))) (λ h. cc) (λ h. (cc, (cc, (cc, cc))))
 insns-decides (insns.Store v d o a) (insns.Store w e p b) = through _ (both _ _ (named width.the_type tt v w) (both _ _ (Decides-eqb d e) (both _ _ (Decides-int_eq o p) (operands a b)))) (λ h. cc) (λ h. (cc, (cc, (cc, cc))))
 insns-decides a b = (λ e. absurd (false≢true e), λ e. cc)
+
+pub shapes-decides : (a b : MapShape) → Decides (shape.eq-value.it a b) (a ≡ b)
+shapes-decides a b =
+    through _ (both _ _ (Decides-eqb a.key_len b.key_len) (both _ _ (Decides-eqb a.value_len b.value_len) (both _ _ (Decides-eqb a.entries b.entries) (both _ _ (Decides-eqb a.spare b.spare) (Decides-eqb a.reuse_limit b.reuse_limit)))))
+    (λ h j. record { key_len = h.0 j; value_len = h.1.0 j; entries = h.1.1.0 j; spare = h.1.1.1.0 j; reuse_limit = h.1.1.1.1 j })
+    (λ h. (ap (λ (x : MapShape). x.key_len) h, (ap (λ (x : MapShape). x.value_len) h, (ap (λ (x : MapShape). x.entries) h, (ap (λ (x : MapShape). x.spare) h, ap (λ (x : MapShape). x.reuse_limit) h)))))

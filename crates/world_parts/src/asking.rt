@@ -1,13 +1,13 @@
 //! What is asked of a world outside of events.
 ghost use Rattle.std.specs.Prelude.{◌≡◌, ℕ, Decides, slice_get, option_map, option_copied, IfSome, IfNone, count_by, is_some};
 ghost use Rattle.world_parts.specs.Keeping.{is_run_inside as is_inside};
-ghost use Rattle.bpf_model.specs.View.{HasExited};
-ghost use Rattle.world_parts.specs.Asking.{stat_of, IsFound, HasNone};
+ghost use Rattle.world_invariant.specs.Exited.{HasExited};
+ghost use Rattle.world_parts.specs.Asking.{stat_of, IsFound, IsSameProgram, HasNone};
 
 use crate::by_number::{program_at, run_at};
 use crate::loaded::Loaded;
 use crate::parts::Parts;
-use bpf_model::{CtxBytes, Insn, KeyBytes, MapId, ProgId, RunId, Stat, ValueBytes};
+use bpf_model::{CtxBytes, Insn, KeyBytes, MapId, MapShape, ProgId, RunId, Stat, ValueBytes};
 use machine::Run;
 use verifier::Verified;
 
@@ -18,6 +18,23 @@ fn is_same_code(a: &[Insn], b: &[Insn]) -> bool
     a.len() == b.len() && a == b
 }
 
+/// Whether two lists of shapes are the same.
+fn are_same_shapes(a: &[MapShape], b: &[MapShape]) -> bool
+    ensures { Decides result (a.now ≡ b.now) }
+{
+    a.len() == b.len() && a == b
+}
+
+/// Whether two verified programs are the same one: of the same instructions, verified for the same shapes of
+/// maps and the same length of contexts.
+fn is_same_program(a: &Verified, b: &Verified) -> bool
+    ensures { Decides result (IsSameProgram a.now b.now) }
+{
+    is_same_code(a.program().instructions(), b.program().instructions())
+        && are_same_shapes(a.shapes(), b.shapes())
+        && a.ctx_len() == b.ctx_len()
+}
+
 /// Whether two contexts have the same bytes.
 fn is_same_context(a: &CtxBytes, b: &CtxBytes) -> bool
     ensures { Decides result (a.now.items ≡ b.now.items) }
@@ -25,13 +42,12 @@ fn is_same_context(a: &CtxBytes, b: &CtxBytes) -> bool
     a.as_slice() == b.as_slice()
 }
 
-/// Whether the run is of this program's instructions, on this context.
+/// Whether the run is of this program, on this context.
 fn is_asked(found: &Run, loaded: &Loaded, program: &Verified, ctx: &CtxBytes) -> bool
-    ensures { Decides result ((loaded.now.verified.program ≡ program.now.program)
+    ensures { Decides result (IsSameProgram loaded.now.verified program.now
         × (found.now.view.context ≡ ctx.now.items)) }
 {
-    let code = loaded.verified.program().instructions();
-    is_same_code(code, program.program().instructions()) && is_same_context(found.context(), ctx)
+    is_same_program(&loaded.verified, program) && is_same_context(found.context(), ctx)
 }
 
 /// How many run slots have a run.
@@ -71,13 +87,13 @@ fn inside(runs: &[Option<Run>]) -> usize
 }
 
 impl Parts {
-    /// The exit value of the run in a run slot, where it has ended and was started with this program's
-    /// instructions on this context.
+    /// The exit value of the run in a run slot, where it has ended and was started with this program on this
+    /// context. A program verified for maps of other shapes, or for contexts of another length, is another one.
     pub fn exit_of(&self, run: RunId, program: &Verified, ctx: &CtxBytes) -> Option<u64>
-        ensures some { IfSome result (λ n.
-            HasExited self.now run program.now.program ctx.now.items n) }
-        ensures none { IfNone result ((n : ℕ) →
-            HasExited self.now run program.now.program ctx.now.items n → ⊥) }
+        ensures some { IfSome result (λ n. HasExited self.now run program.now.program
+            program.now.shapes program.now.ctx_len ctx.now.items n) }
+        ensures none { IfNone result ((n : ℕ) → HasExited self.now run program.now.program
+            program.now.shapes program.now.ctx_len ctx.now.items n → ⊥) }
     {
         let found = run_at(&self.runs, run)?;
         let loaded = program_at(&self.programs, ProgId::new(found.program()))?;

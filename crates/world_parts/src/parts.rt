@@ -1,8 +1,8 @@
 //! What a world keeps.
-ghost use Rattle.std.specs.Prelude.{◌≡◌, None, replicate, slice_get, option_map, option_copied, IfOk};
+ghost use Rattle.std.specs.Prelude.{◌≡◌, None, replicate, slice_get, option_map, option_copied, IfOk, IfSome};
 ghost use Rattle.bpf_model.specs.declared.limits.TheConstants.{MAX_RUNS};
-ghost use Rattle.bpf_model.specs.View.{shapes_of_maps, unused_world};
-ghost use Rattle.world_parts.specs.Bound.{AreProgramsBound};
+ghost use Rattle.bpf_model.specs.View.{shapes_of, shapes_of_maps, unused_world};
+ghost use Rattle.world_parts.specs.Bound.{AreProgramsBound, IsBound};
 ghost use Rattle.world_parts.specs.Programs.{program_of, programs_in};
 
 use crate::by_number::program_at;
@@ -99,9 +99,11 @@ impl Parts {
         &self.registry
     }
 
-    /// The program of this number, if there is one.
+    /// The program of this number, if there is one. It is bound to maps of the shapes that it was verified for.
     pub fn program(&self, prog: ProgId) -> Option<&Loaded>
-        ensures { option_map program_of (option_copied result) ≡ slice_get self.now.programs prog }
+        ensures same { option_map program_of (option_copied result)
+            ≡ slice_get self.now.programs prog }
+        ensures bound { IfSome result (λ l. IsBound (shapes_of self.now) l.now) }
     {
         program_at(&self.programs, prog)
     }

@@ -2,7 +2,7 @@
 use crate::making::{SHAPE, Source, bytes_of, loaded, world_of};
 use crate::programs::{EXIT_ONE, LOAD};
 use crate::replay::answers_as;
-use bpf_model::{CtxBytes, KeyBytes, MapId, RunId};
+use bpf_model::{CtxBytes, KeyBytes, MapId, MapShape, RunId};
 use std::alloc::Global;
 use std::process::Abort;
 use std::test::Fail;
@@ -23,12 +23,32 @@ const OTHER: Source = Source {
     context_len: 1,
 };
 
+/// The shapes of the two maps: values of 8 bytes, and of 16.
+const SHAPES: [MapShape; 2] = [
+    SHAPE,
+    MapShape {
+        key_len: 4,
+        value_len: 16,
+        entries: 4,
+        spare: 4,
+        reuse_limit: 100,
+    },
+];
+
+/// The same instructions as the loading program's, verified for the map of longer values.
+const WIDE: Source = Source {
+    lines: LOAD,
+    maps: &[1],
+    context_len: 1,
+};
+
 /// A verdict of its own on a program's text.
 fn verified(alloc: Global, source: &Source) -> Result<Verified, Fail> {
-    Ok(loaded(alloc, &[SHAPE], source)?.verified)
+    Ok(loaded(alloc, &SHAPES, source)?.verified)
 }
 
-/// Run 0 has exited with 5, run 1 with 0, run 2 with 1, and run 3 is still running.
+/// Run 0 has exited with 5, run 1 with 0, run 2 with 1, run 4 of the wide program with 0, and run 3 is still
+/// running.
 const BEFORE: &str = "put 0 01000000 0500000000000000 0 = ret 0\n\
 start 0 01 = run 0\n\
 start 0 02 = run 1\n\
@@ -41,38 +61,40 @@ step 3 20 = exit 5\n\
 drop 3 = ok\n\
 start 0 01 = run 3\n\
 step 3 9 = moved\n\
-start 0 01 = run 4\n\
-step 4 20 = exit 5\n\
-drop 4 = ok\n\
-stat = stat linked 1 unlinked 0 given 0 worn 0 runs 4 open 1\n";
+start 2 01 = run 4\n\
+step 4 20 = exit 0\n\
+start 0 01 = run 5\n\
+step 5 20 = exit 5\n\
+drop 5 = ok\n\
+stat = stat linked 1 unlinked 0 given 0 worn 0 runs 5 open 1\n";
 
-/// A run slot, whether it is asked of the loading program, and the context's byte; and the exit value.
-static EXITS: [(usize, bool, u8, Option<u64>); 12] = [
-    (0, true, 1, Some(5)),
-    (0, true, 2, None),
-    (0, false, 1, None),
-    (1, true, 2, Some(0)),
-    (1, true, 1, None),
-    (2, false, 1, Some(1)),
-    (2, true, 1, None),
-    (3, true, 1, None),
-    (4, true, 1, None),
-    (5, true, 1, None),
-    (63, true, 1, None),
-    (64, true, 1, None),
+/// A run slot, the program that it is asked of (0 loads, 1 is the other, 2 the wide one), and the context's
+/// byte; and the exit value.
+static EXITS: [(usize, usize, u8, Option<u64>); 15] = [
+    (0, 0, 1, Some(5)),
+    (0, 0, 2, None),
+    (0, 1, 1, None),
+    (0, 2, 1, None),
+    (1, 0, 2, Some(0)),
+    (1, 0, 1, None),
+    (2, 1, 1, Some(1)),
+    (2, 0, 1, None),
+    (3, 0, 1, None),
+    (4, 2, 1, Some(0)),
+    (4, 0, 1, None),
+    (5, 0, 1, None),
+    (6, 0, 1, None),
+    (63, 0, 1, None),
+    (64, 0, 1, None),
 ];
 
 /// The world tells the exit values of the table.
-fn are_told<R: Abort>(rt: &R, world: &World, loading: &Verified, other: &Verified) {
-    for (slot, is_loading, byte, exit) in &EXITS {
-        let run = RunId::new(*slot);
+fn are_told<R: Abort>(rt: &R, world: &World, programs: &[Verified]) {
+    for (slot, number, byte, exit) in &EXITS {
         let context: CtxBytes = bytes_of(&[*byte]);
-        let told = if *is_loading {
-            world.exit_of(run, loading, &context)
-        } else {
-            world.exit_of(run, other, &context)
-        };
-        assert_eq!(rt; told, *exit, "slot {slot}");
+        let program = programs.get(*number).expect(rt, "a program");
+        let told = world.exit_of(RunId::new(*slot), program, &context);
+        assert_eq!(rt; told, *exit, "slot {slot}, program {number}");
     }
 }
 
@@ -80,11 +102,15 @@ fn are_told<R: Abort>(rt: &R, world: &World, loading: &Verified, other: &Verifie
 #[test]
 fn exits_of_runs(rt: HostRuntime) -> Result<(), Fail> {
     let alloc = rt.alloc();
-    let mut world = world_of(alloc, &[SHAPE], &[LOADING, OTHER])?;
+    let sources = [LOADING, OTHER, WIDE];
+    let mut world = world_of(alloc, &SHAPES, &sources)?;
     answers_as(&rt, alloc, &mut world, BEFORE)?;
+    let mut programs = Vec::new(alloc);
+    for source in &sources {
+        programs.push(verified(alloc, source)?)?;
+    }
+    are_told(&rt, &world, &programs);
     let loading = verified(alloc, &LOADING)?;
-    let other = verified(alloc, &OTHER)?;
-    are_told(&rt, &world, &loading, &other);
     let longer = world.exit_of(RunId::new(0), &loading, &CtxBytes::new());
     assert_eq!(rt; longer, None);
     Ok(())

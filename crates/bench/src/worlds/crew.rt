@@ -9,7 +9,7 @@ use crate::worlds::setup::{key_of, make_world};
 use anyhow::{Result, bail};
 use bpf_model::{Answer, CtxBytes, Event, KeyBytes, MapId, ProgId, RunId};
 use measurements::{Decimal, quotient};
-use shared::{Shared, Worker, is_quiet};
+use shared::{Shared, Worker, Workers, is_quiet};
 use std::alloc::Global;
 use std::rt::Clock;
 use std::sync::Wait;
@@ -212,15 +212,15 @@ fn work<L: Ledger, R: Wait>(
 fn time_of<L: Ledger + Send + Sync, R: Threads + Wait + Clock + Sync>(
     rt: &R,
     shared: &Shared<L>,
-    list: &mut Vec<Worker<L>>,
+    all_workers: &mut Workers<L>,
     task: Task,
     calls: u32,
 ) -> Result<Duration> {
-    let workers = list.len().max(1);
+    let workers = all_workers.count();
     let start = Instant::now(rt)?;
     for_each_mut(
         rt,
-        list,
+        all_workers.as_mut_slice(),
         workers,
         &|_, worker: &mut Worker<L>| work(rt, shared, worker, task, calls),
     );
@@ -244,7 +244,7 @@ pub fn repeat_calls<L: Ledger + Send + Sync, R: Threads + Wait + Clock + Sync>(
     }
     let (shared, mut all_workers, _) = Shared::<L>::new(alloc, world, 1, blank)?;
     for _ in 0..times {
-        time_of(rt, &shared, &mut all_workers.list, task, CALLS)?;
+        time_of(rt, &shared, &mut all_workers, task, CALLS)?;
     }
     Ok(u64::from(times) * u64::from(CALLS))
 }
@@ -268,7 +268,7 @@ pub fn time_per_call<L: Ledger + Send + Sync, R: Threads + Wait + Clock + Sync>(
     let (shared, mut all_workers, _) = Shared::<L>::new(alloc, world, workers, blank)?;
     let mut best = Duration::MAX;
     for _ in 0..LONG_TASK_BATCHES {
-        let time = time_of(rt, &shared, &mut all_workers.list, task, CALLS)?;
+        let time = time_of(rt, &shared, &mut all_workers, task, CALLS)?;
         best = best.min(time);
     }
     let calls = u128::from(CALLS) * u128::from(workers);

@@ -1,6 +1,7 @@
 use Rattle.std.proofs.Common.{take}
+use Rattle.bpf_model.specs.View.{shapes_of}
 use Rattle.shared.proofs.Kept.{AreKept}
 use Rattle.shared.proofs.lock.programs_of.Given as goal
 
 abbrev pub invariant-loop-number : goal.invariant-loop-number
-invariant-loop-number l = AreKept l.programs.items (take l.number l.world.programs)
+invariant-loop-number l = AreKept (shapes_of l.world) l.programs.items (take l.number l.world.programs)

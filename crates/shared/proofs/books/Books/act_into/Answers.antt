@@ -56,6 +56,7 @@ invariant_of-self-2 g c =
     c.apply_into.ensures.answer c.apply_into.ensures.new c.count.ensures.origin c.count.ensures.steps in
     subst (AreBalanced new) (sym total)
     (balanced-push old new c.self.inside.book.total c.worker.inside.number c.args.event.now c.apply_into.new.answer c.self.invariant fits c.is_real.ensures enters
+    c.in_ok-make_room.ensures.few
     (c.count.ensures.unreclaimed ∙ c.unreclaimed.ensures)
     c.count.ensures.reclaimed
     (let u = c.count.ensures.unlinked in let same = c.count.ensures.unreclaimed in omega (arith, u, same)))
