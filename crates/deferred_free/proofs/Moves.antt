@@ -122,7 +122,19 @@ reaped_fits x a slot f e =
       omega (arith, count slot, one_same slot),
     )
 
+taken_last : (a : ArenaState) (l : Line) (xs : List ℕ) → IsLine (link_at a.links) l xs → ((j : ℕ) → 0 < times_in j xs → IsTaken a j) → (o : Option ℕ) → l.last ≡ o → (b : ArenaState) → b ≡ record a { links = b.links } → IfSome o (λ j. IsTaken b j)
+taken_last a l xs t taken None e b r = tt
+taken_last a l xs t taken (Some j) e b r = taken_same a b j r (taken j (last_in (link_at a.links) l xs j t e))
+
 -- the last slot of each list is taken
-pub last_taken : (x : Threaded) (a : ArenaState) (l : Line) (xs : List ℕ) → IsLine (link_at a.links) l xs → ((j : ℕ) → 0 < times_in j xs → IsTaken a j) → (o : Option ℕ) → l.last ≡ o → (b : ArenaState) → b ≡ record a { links = b.links } → IfSome o (λ j. IsTaken b j)
-last_taken x a l xs t taken None e b r = tt
-last_taken x a l xs t taken (Some j) e b r = taken_same a b j r (taken j (last_in (link_at a.links) l xs j t e))
+pub record LastsAreTaken (x : Threaded) (b : ArenaState) : Type 0 where
+  pub next : IfSome x.next.last (λ j. IsTaken b j)
+  pub waiting : IfSome x.waiting.last (λ j. IsTaken b j)
+  pub ready : IfSome x.ready.last (λ j. IsTaken b j)
+
+pub lasts_taken : (x : Threaded) (a b : ArenaState) → ThreadedFits x a → b ≡ record a { links = b.links } → LastsAreTaken x b
+lasts_taken x a b f r = record {
+  next = taken_last a x.next (threaded_lists x a).next f.next (λ j h. f.taken j (omega arith)) x.next.last refl b r;
+  waiting = taken_last a x.waiting (threaded_lists x a).waiting f.waiting (λ j h. f.taken j (omega arith)) x.waiting.last refl b r;
+  ready = taken_last a x.ready (threaded_lists x a).ready f.ready (λ j h. f.taken j (omega arith)) x.ready.last refl b r;
+}

@@ -6,3 +6,4 @@ pub mod Ordered
 pub mod Runs
 pub mod Firsts
 pub mod Links
+pub mod Powers

@@ -1,6 +1,8 @@
 -- What buckets have, and when they fit an arena.
-use Rattle.std.specs.Prelude.{◌≡◌, ℕ, ◌<◌, ◌≤◌, List, [], ◌∷◌, ◌++◌, Option, Some, length}
-use Rattle.std.specs.Prelude.{slice_get}
+use Rattle.std.specs.Prelude.{◌≡◌, ℕ, ◌<◌, ◌≤◌, ◌^◌, List, [], ◌∷◌, ◌++◌, Option, Some, length}
+use Rattle.std.specs.Prelude.{min, slice_get}
+use Rattle.std.specs.Int.{IsPowerOfTwo}
+use Rattle.bpf_model.specs.declared.limits.TheConstants.{MAX_ENTRIES}
 use Rattle.bpf_model.specs.View.{KeyMap}
 use Rattle.element_arena.specs.State.{ArenaState, IsTaken, link_at, key_at, times_in, contents_of}
 use Rattle.element_arena.specs.Threads.{IsThread, walk, chain_of}
@@ -32,6 +34,17 @@ pub record HeadsFit (heads : List (Option ℕ)) (a : ArenaState) : Type 0 where
   pub once : (j : ℕ) → times_in j (chained_slots heads a) ≤ 1
   pub taken : (j : ℕ) → 0 < times_in j (chained_slots heads a) → IsTaken a j
   pub unique : AreUnique (key_at a.slots) (chained_slots heads a)
+
+-- The number is the least power of two that is no less than n.
+pub record IsLeastPowerOfTwo (n number : ℕ) : Type 0 where
+  pub power : IsPowerOfTwo number
+  pub enough : n ≤ number
+  pub least : (k : ℕ) → n ≤ 2 ^ k → number ≤ 2 ^ k
+
+-- There are as many heads as the least power of two that is no less than the entries, of which no
+-- more count than a map may link.
+abbrev pub AreHeadsFor : Buckets → ℕ → Type 0
+AreHeadsFor x entries = IsLeastPowerOfTwo (min entries MAX_ENTRIES) (length x.heads.items)
 
 abbrev pub BucketsFits : Buckets → ArenaState → Type 0
 BucketsFits x a = HeadsFit x.heads.items a

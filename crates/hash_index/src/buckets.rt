@@ -1,10 +1,9 @@
 //! An index by a hash of the key.
-ghost use Rattle.std.specs.Prelude.{◌≡◌, ◌<◌, ◌≤◌, ◌/◌, IfOk, None, Some, length, max, min, option_copied, replicate};
+ghost use Rattle.std.specs.Prelude.{◌≡◌, IfOk, None, Some, length, min, option_copied, replicate};
 ghost use Rattle.std.specs.FinMap as map;
-ghost use Rattle.std.specs.Int.{IsPowerOfTwo};
 ghost use Rattle.bpf_model.specs.declared.limits.TheConstants.{MAX_ENTRIES};
 ghost use Rattle.element_arena.specs.State.{IsTaken, LinksOf, indexed, is_at, key_at};
-ghost use Rattle.hash_index.specs.Buckets.{BucketsFits, HeadsFit, IsPlaceIn, chained_slots, contents_in};
+ghost use Rattle.hash_index.specs.Buckets.{BucketsFits, HeadsFit, IsLeastPowerOfTwo, IsPlaceIn, chained_slots, contents_in};
 ghost use Rattle.hash_index.specs.Chains.{bucket_of};
 ghost use Rattle.hash_index.specs.declared.hash.TheConstants.{WORD_BYTES};
 ghost use Rattle.hash_index.specs.Order.{IsLeastOf};
@@ -29,10 +28,7 @@ pub struct Buckets {
 /// How many chains there are for so many keys: the least power of two that is no less. More keys than a
 /// map may link count as so many.
 fn chain_count(entries: usize) -> usize
-    ensures some { 0 < result }
-    ensures power { IsPowerOfTwo result }
-    ensures enough { min entries MAX_ENTRIES ≤ result }
-    ensures least { result / 2 < max 1 (min entries MAX_ENTRIES) }
+    ensures { IsLeastPowerOfTwo (min entries MAX_ENTRIES) result }
 {
     entries.min(MAX_ENTRIES).next_power_of_two()
 }
@@ -93,6 +89,7 @@ impl Buckets {
             ≡ map.insert (contents_in self.old arena.old) (key_at arena.old.slots slot) slot }
         ensures fits { BucketsFits self.new arena.new }
         ensures links { LinksOf (is_at (Some slot)) arena.old arena.new }
+        ensures count { length self.new.heads.items ≡ length self.old.heads.items }
     {
         arena.set_next(slot, self.heads[home]);
         self.heads[home] = Some(slot);
@@ -119,13 +116,15 @@ impl Buckets {
 }
 
 impl Index for Buckets {
-    ghost use Rattle.hash_index.specs.Buckets.{contents_in, BucketsFits, buckets_place};
+    ghost use Rattle.hash_index.specs.Buckets.{contents_in, AreHeadsFor, BucketsFits, buckets_place};
 
     ghost contents = { contents_in };
 
     ghost fits = { BucketsFits };
 
     ghost is_place = { buckets_place };
+
+    ghost is_made_for = { AreHeadsFor };
 
     fn new(alloc: Global, entries: usize, _slots: usize) -> Result<Self, AllocError> {
         Ok(Buckets {

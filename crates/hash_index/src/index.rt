@@ -22,13 +22,18 @@ pub trait Index {
     /// That a place is that of a key, over this arena.
     ghost is_place: { Self → ArenaState → List ℕ → Place → Type 0 };
 
+    /// That the index is as large as one that is made for so many entries. It stays so, whatever joins and
+    /// leaves.
+    ghost is_made_for: { Self → ℕ → Type 0 };
+
     /// An index that has nothing. It is made for any arena of at most so many slots, and for about so many
     /// entries; it may come to have more. No other call but `copy` takes memory. The error is that there is
     /// none left.
     fn new(alloc: Global, entries: usize, slots: usize) -> Result<Self, AllocError>
         ensures fits { IfOk result (λ x. (a : ArenaState) → length a.slots ≤ slots → fits x a) }
         ensures empty { IfOk result (λ x. (a : ArenaState) → length a.slots ≤ slots →
-            contents x a ≡ map.empty) };
+            contents x a ≡ map.empty) }
+        ensures made { IfOk result (λ x. is_made_for x entries) };
 
     /// The place of a key, with the key's slot if there is one.
     fn locate(&self, arena: &Arena, key: &[u8]) -> Place
@@ -49,7 +54,8 @@ pub trait Index {
             ≡ map.insert (contents self.old arena.old) (key_at arena.old.slots slot) slot }
         ensures fits { fits self.new arena.new }
         ensures links { LinksOf (λ j. indexed (contents self.old arena.old) arena.old.slots j
-            + is_at (Some slot) j) arena.old arena.new };
+            + is_at (Some slot) j) arena.old arena.new }
+        ensures made { (n : ℕ) → is_made_for self.old n → is_made_for self.new n };
 
     /// The slot of a key leaves the index, if there is one.
     fn unlink(&mut self, arena: &mut Arena, key: &[u8]) -> Option<usize>
@@ -59,7 +65,8 @@ pub trait Index {
             ≡ map.remove (contents self.old arena.old) key.now }
         ensures fits { fits self.new arena.new }
         ensures links { LinksOf (indexed (contents self.old arena.old) arena.old.slots)
-            arena.old arena.new };
+            arena.old arena.new }
+        ensures made { (n : ℕ) → is_made_for self.old n → is_made_for self.new n };
 
     /// The slot of the least key above a bound, in byte order, if there is one. Every key is above no bound,
     /// and a bound may have any length.
@@ -78,8 +85,9 @@ pub trait Index {
     /// The same slots in an index of its own, which stands wherever this one does. The error is that there is
     /// no memory left.
     fn copy(&self, alloc: Global) -> Result<Self, AllocError>
-        ensures { IfOk result (λ y. (a : ArenaState) → fits self.now a →
-            fits y a × (contents y a ≡ contents self.now a)) };
+        ensures same { IfOk result (λ y. (a : ArenaState) → fits self.now a →
+            fits y a × (contents y a ≡ contents self.now a)) }
+        ensures made { IfOk result (λ y. (n : ℕ) → is_made_for self.now n → is_made_for y n) };
 
     /// An index reads nothing of the arena but what stands in its own slots.
     ghost frame: { (x : Self) (a b : ArenaState) → fits x a →

@@ -77,6 +77,8 @@ impl Index for Sorted {
 
     ghost is_place = { sorted_place };
 
+    ghost is_made_for = { λ _ _. Unit {0} };
+
     fn new(alloc: Global, _entries: usize, slots: usize) -> Result<Self, AllocError> {
         Ok(Sorted {
             slots: Vec::with_capacity(alloc, slots)?,

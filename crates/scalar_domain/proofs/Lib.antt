@@ -4,6 +4,7 @@ pub mod Constants
 pub mod Edges
 pub mod Forms
 pub mod Multiples
+pub mod Pairs
 pub mod Quotients
 pub mod Shifts
 pub mod Swaps

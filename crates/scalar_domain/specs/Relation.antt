@@ -1,9 +1,11 @@
 -- What an edge of a conditional jump says of the two operands, in their unsigned order.
-use Rattle.std.specs.Prelude.{◌≡◌, ◌≢◌, ℕ, ◌<◌, ◌≤◌, bit_and, Bool, true, false}
+use Rattle.std.specs.Prelude.{◌≡◌, ◌≢◌, ℕ, ◌<◌, ◌≤◌, ◌^◌, bit_and, Bool, true, false}
 use Rattle.std.specs.Int.{w64}
-use Rattle.bpf_model.specs.Arithmetic.{holds}
+use Rattle.bpf_model.specs.Arithmetic.{compares, holds}
 use Rattle.bpf_model.specs.declared.opcode.Condition.{Condition}
 use Rattle.bpf_model.specs.declared.opcode.Condition.TheVariants as condition
+use Rattle.bpf_model.specs.declared.opcode.Size.{Size}
+use Rattle.bpf_model.specs.declared.opcode.Size.TheVariants.{Word32, Word64}
 use Rattle.scalar_domain.specs.declared.scalar.Scalar.{Scalar}
 use Rattle.scalar_domain.specs.declared.relation.Relation.{Relation}
 use Rattle.scalar_domain.specs.declared.relation.Relation.TheVariants.{Below, AtMost, Above}
@@ -111,3 +113,38 @@ AreHeld x y p = Holds p.0 x × Holds p.1 y
 -- Two sides are no wider than these.
 abbrev pub AreNoWider : Scalar → Scalar → Scalar × Scalar → Type 0
 AreNoWider a b p = IsNoWider p.0 a × IsNoWider p.1 b
+
+-- Numbers of this size are compared as they are.
+abbrev pub FitsSize : Size → Scalar → Type 0
+FitsSize Word32 s = s.greatest < 2 ^ 32
+FitsSize Word64 s = Unit {0}
+
+-- The edges of which bounds tell: all but that where two numbers share no bit.
+abbrev pub TellsOfBounds : Condition → Bool → Type 0
+TellsOfBounds condition.SharesBits false = ⊥
+TellsOfBounds other taken = Unit {0}
+
+-- A number between the bounds of the one side and one between those of the other are such a pair.
+pub record HasPair (P : ℕ → ℕ → Type 0) (a b : Scalar) : Type 0 where
+  pub left : ℕ
+  pub right : ℕ
+  pub left_between : IsBetween a left
+  pub right_between : IsBetween b right
+  pub holds : P left right
+
+-- Between the bounds of both sides two numbers go along the edge.
+abbrev pub SomeGoAlong : Size → Condition → Bool → Scalar → Scalar → Type 0
+SomeGoAlong size c taken a b = HasPair (λ x y. compares size c x y ≡ taken) a b
+
+-- Bounds have two numbers that stand in this relation, which is known; of shared bits they tell
+-- nothing.
+abbrev pub Told : Relation → ℕ → ℕ → Type 0
+Told Apart x y = Unit {0}
+Told Unknown x y = ⊥
+Told relation x y = Related relation x y
+
+-- Two numbers without a sign stand in this order.
+pub record ToldSigned (sign : ℕ) (relation : Relation) (x y : ℕ) : Type 0 where
+  pub left : x < sign
+  pub right : y < sign
+  pub related : Related relation x y

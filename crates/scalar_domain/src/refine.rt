@@ -1,12 +1,12 @@
 //! What a conditional jump tells.
-ghost use Rattle.std.specs.Prelude.{◌≡◌, ◌≢◌, ℕ, ◌%◌, ◌<◌, ◌≤◌, ◌^◌, IfSome, IsSome, IsSomeAnd};
+ghost use Rattle.std.specs.Prelude.{◌≡◌, ◌≢◌, ℕ, ◌%◌, ◌<◌, ◌≤◌, ◌⊎◌, ◌^◌, IfSome, IsSome, IsSomeAnd};
 ghost use Rattle.std.specs.Int.{w32, w64};
 ghost use Rattle.bpf_model.specs.Arithmetic.{compares, holds};
 ghost use Rattle.bpf_model.specs.declared.opcode.Size.TheVariants.{Word64};
 ghost use Rattle.scalar_domain.specs.Mask.{Within};
 ghost use Rattle.scalar_domain.specs.Scalar.{Holds, IsConstant, IsNoWider};
 ghost use Rattle.scalar_domain.specs.Floor.{KeepsEdgeFloor};
-ghost use Rattle.scalar_domain.specs.Relation.{Related, SignedRelated, Bounding, MovesBounds, GoesAlong, TellsDifferent, IsNoBound, AreHeld, AreNoWider, IsBetween};
+ghost use Rattle.scalar_domain.specs.Relation.{Related, SignedRelated, Bounding, MovesBounds, GoesAlong, TellsDifferent, IsNoBound, AreHeld, AreNoWider, IsBetween, FitsSize, TellsOfBounds, HasPair, SomeGoAlong, Told, ToldSigned};
 
 use crate::relation::{Relation, condition_without_sign, is_signed, relation_of};
 use crate::scalar::Scalar;
@@ -17,7 +17,9 @@ const HIGH_HALF: u64 = 0xffff_ffff_0000_0000;
 
 impl Scalar {
     /// What remains of two sets on the edge of a conditional jump where it is taken, or where it is
-    /// not. Where no number remains between the bounds of a side, both sets stay as they are.
+    /// not. Where by the bounds no number of the one side goes there with one of the other, both sets stay as
+    /// they are; of 32 bits this is so where both sides are below 2^32, and where two numbers share no bit
+    /// the bounds tell nothing.
     pub fn refine(
         size: Size,
         condition: Condition,
@@ -28,6 +30,8 @@ impl Scalar {
         ensures sound { (x y : ℕ) → x < 2 ^ 64 → y < 2 ^ 64 → Holds a x → Holds b y
             → compares size condition x y ≡ taken → AreHeld x y result }
         ensures floor { KeepsEdgeFloor size condition taken a b result.0 result.1 }
+        ensures kept { FitsSize size a → FitsSize size b → TellsOfBounds condition taken
+            → (SomeGoAlong size condition taken a b → ⊥) → result ≡ (a, b) }
     {
         match refine_words(size, condition, a, b, taken) {
             Some(sides) => sides,
@@ -56,6 +60,7 @@ impl Scalar {
         ensures sound { (x : ℕ) → x < 2 ^ 64 → Holds self x → x ≢ k
             → IfSome result (λ r. Holds r x) }
         ensures no_wider { IfSome result (λ r. IsNoWider r self) }
+        ensures other { IfSome result (λ _. (self.least ≢ k) ⊎ (self.greatest ≢ k)) }
         ensures apart { (x : ℕ) → IsBetween self x → x ≢ k
             → IsSomeAnd result (λ r. IsNoBound r k) }
     {
@@ -110,6 +115,8 @@ fn refine_words(
         → IsSomeAnd result (λ p. GoesAlong condition taken p.0 k) }
     ensures apart { (k x : ℕ) → size ≡ Word64 → TellsDifferent condition taken → IsConstant b k
         → IsBetween a x → x ≢ k → IsSomeAnd result (λ p. IsNoBound p.0 k) }
+    ensures pair { FitsSize size a → FitsSize size b → TellsOfBounds condition taken
+        → IfSome result (λ _. SomeGoAlong size condition taken a b) }
 {
     match size {
         Size::Word64 => refine_wide(condition, a, b, taken),
@@ -133,6 +140,8 @@ fn refine_wide(condition: Condition, a: Scalar, b: Scalar, taken: bool) -> Optio
         → IsSomeAnd result (λ p. GoesAlong condition taken p.0 k) }
     ensures apart { (k x : ℕ) → TellsDifferent condition taken → IsConstant b k → IsBetween a x
         → x ≢ k → IsSomeAnd result (λ p. IsNoBound p.0 k) }
+    ensures pair { TellsOfBounds condition taken
+        → IfSome result (λ _. HasPair (λ x y. holds w64 condition x y ≡ taken) a b) }
 {
     if is_signed(condition) {
         let relation = relation_of(condition_without_sign(condition), taken);
@@ -152,6 +161,8 @@ fn refine_narrow(
     ensures sound { (x y : ℕ) → x < 2 ^ 32 → y < 2 ^ 32 → Holds a x → Holds b y
         → holds w32 condition x y ≡ taken → IfSome result (AreHeld x y) }
     ensures no_wider { IfSome result (AreNoWider a b) }
+    ensures pair { TellsOfBounds condition taken
+        → IfSome result (λ _. HasPair (λ x y. holds w32 condition x y ≡ taken) a b) }
 {
     if is_signed(condition) {
         let relation = relation_of(condition_without_sign(condition), taken);
@@ -178,6 +189,7 @@ fn relate_signed(relation: Relation, a: Scalar, b: Scalar, sign: u64) -> Option<
     ensures sound { (x y : ℕ) → x < 2 ^ 64 → y < 2 ^ 64 → Holds a x → Holds b y
         → SignedRelated sign relation x y → IfSome result (AreHeld x y) }
     ensures no_wider { IfSome result (AreNoWider a b) }
+    ensures pair { IfSome result (λ _. HasPair (ToldSigned sign relation) a b) }
 {
     match relation {
         Relation::Below if a.greatest < sign => below(a, b.clip(0, sign - 1)?),
@@ -205,6 +217,7 @@ fn relate(relation: Relation, a: Scalar, b: Scalar) -> Option<(Scalar, Scalar)>
         → IsSomeAnd result (λ p. Related relation p.0.least k × Related relation p.0.greatest k) }
     ensures apart { (k x : ℕ) → relation ≡ Relation.Different → IsConstant b k → IsBetween a x
         → x ≢ k → IsSomeAnd result (λ p. IsNoBound p.0 k) }
+    ensures pair { IfSome result (λ _. HasPair (Told relation) a b) }
 {
     match relation {
         Relation::Below => below(a, b),
@@ -230,6 +243,7 @@ fn different(a: Scalar, b: Scalar) -> Option<(Scalar, Scalar)>
     ensures sound { (x y : ℕ) → x < 2 ^ 64 → y < 2 ^ 64 → Holds a x → Holds b y → x ≢ y
         → IfSome result (AreHeld x y) }
     ensures no_wider { IfSome result (AreNoWider a b) }
+    ensures pair { IfSome result (λ _. HasPair (λ x y. x ≢ y) a b) }
     ensures apart { (k x : ℕ) → IsConstant b k → IsBetween a x → x ≢ k
         → IsSomeAnd result (λ p. IsNoBound p.0 k) }
 {
@@ -245,6 +259,7 @@ fn equal(a: Scalar, b: Scalar) -> Option<(Scalar, Scalar)>
     ensures sound { (x : ℕ) → Holds a x → Holds b x → IfSome result (AreHeld x x) }
     ensures no_wider { IfSome result (AreNoWider a b) }
     ensures bounds { IfSome result (λ p. (b.least ≤ p.0.least) × (p.0.greatest ≤ b.greatest)) }
+    ensures meet { IfSome result (λ _. (a.least ≤ b.greatest) × (b.least ≤ a.greatest)) }
     ensures found { (x : ℕ) → IsBetween a x → IsBetween b x → IsSome result }
 {
     let left = a.clip(b.least, b.greatest)?;
@@ -260,6 +275,7 @@ fn at_most(a: Scalar, b: Scalar) -> Option<(Scalar, Scalar)>
     ensures sound { (x y : ℕ) → y < 2 ^ 64 → Holds a x → Holds b y → x ≤ y
         → IfSome result (AreHeld x y) }
     ensures no_wider { IfSome result (AreNoWider a b) }
+    ensures pair { IfSome result (λ _. a.least ≤ b.greatest) }
     ensures left { IfSome result (λ p. p.0.greatest ≤ b.greatest) }
     ensures right { IfSome result (λ p. a.least ≤ p.1.least) }
     ensures found { (x y : ℕ) → IsBetween a x → IsBetween b y → x ≤ y → IsSome result }
@@ -274,6 +290,7 @@ fn below(a: Scalar, b: Scalar) -> Option<(Scalar, Scalar)>
     ensures sound { (x y : ℕ) → y < 2 ^ 64 → Holds a x → Holds b y → x < y
         → IfSome result (AreHeld x y) }
     ensures no_wider { IfSome result (AreNoWider a b) }
+    ensures pair { IfSome result (λ _. a.least < b.greatest) }
     ensures left { IfSome result (λ p. p.0.greatest < b.greatest) }
     ensures right { IfSome result (λ p. a.least < p.1.least) }
     ensures found { (x y : ℕ) → IsBetween a x → IsBetween b y → x < y → IsSome result }

@@ -1,7 +1,7 @@
 -- How many states wait.
 use Rattle.std.proofs.Common.{◌≡◌, ℕ, zero, suc, ◌+◌, ◌<◌, ◌≤◌, List, [], ◌∷◌, length, arith, ap, ◌∙◌, ◌-◌}
 use Rattle.std.specs.Prelude.{slice_index_or, slice_set, max}
-use Rattle.std.proofs.Math.Nat.{le-max_right, max-le}
+use Rattle.std.proofs.Math.Nat.{le-max_left, le-max_right, max-le}
 use Rattle.std.proofs.lemmas.List.{length-set, get_or_default, get_or-set_same}
 use Rattle.std.proofs.lemmas.List.Sums.{sum_by-cons}
 use Rattle.verifier.specs.declared.waiting.Waiting.{Waiting}
@@ -42,6 +42,7 @@ counted_set ws i w len peak before after new h c b a e =
     let inside : len - before + after ≤ length ws = omega (arith, count, no_more_than_length (slice_set ws i w), length-set ws i w) in
     record {
       count = count;
+      some = omega (arith, e, c.some, le-max_left peak (len - before + after));
       most = omega (arith, e, le-max_right peak (len - before + after));
       few = (let l : max peak (len - before + after) ≤ length ws = max-le c.few inside in omega (arith, e, l, length-set ws i w));
     }

@@ -6,3 +6,4 @@ pub mod Lookups
 pub mod Merging
 pub mod Peaks
 pub mod Plans
+pub mod Telling

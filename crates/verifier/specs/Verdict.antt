@@ -1,8 +1,9 @@
 -- What `verify` answers: what a verified program is, and what a refusal tells.
-use Rattle.std.specs.Prelude.{◌≡◌, ℕ, ◌<◌, ◌≤◌, List, length, slice_get, Some, Result}
+use Rattle.std.specs.Prelude.{◌≡◌, ◌≢◌, ℕ, ◌<◌, ◌≤◌, List, length, slice_get, Some, Result}
 use Rattle.std.specs.Prelude.{IsOkUnless}
 use Rattle.bpf_model.specs.declared.insn.Insn.{Insn}
 use Rattle.bpf_model.specs.declared.limits.TheConstants.{CTX_BYTES}
+use Rattle.bpf_model.specs.Places.{StartsAt}
 use Rattle.bpf_model.specs.Spelling.{IsProgram}
 use Rattle.bpf_model.specs.Step.{State}
 use Rattle.program_graph.specs.GraphFlaws.{HasGraphFlaw, HasGoodGraph}
@@ -10,6 +11,8 @@ use Rattle.program_graph.specs.Indexes.{HasTargets}
 use Rattle.typed_runs.specs.Kinds as model
 use Rattle.typed_runs.specs.Describes.{Scene}
 use Rattle.typed_runs.specs.Verified.{Plan, IsPlanned, IsClosed, IsVerified}
+use Rattle.register_kinds.specs.declared.fault.InsnFault.{InsnFault}
+use Rattle.register_kinds.specs.FaultNumbers.{insn_fault_number}
 use Rattle.effects.specs.declared.region.Region.{Region}
 use Rattle.resolved_insns.specs.declared.record.ResolvedInsn.{ResolvedInsn}
 use Rattle.resolved_insns.specs.Resolved.{AreResolved}
@@ -42,6 +45,7 @@ pub record IsJustified (c : Checked) : Type 0 where
   pub regions : length c.regions ≡ length c.program
   pub jumps : length c.targets ≡ length c.program
   pub targets : HasTargets c.program c.targets
+  pub some_states : 1 ≤ c.peak_states
   pub inside_program : c.peak_states ≤ length c.program
   pub few_states : AreFew c.targets c.peak_states
   pub plan : Plan
@@ -56,11 +60,18 @@ pub record IsRecorded (c : Checked) (records : List ResolvedInsn) : Type 0 where
 abbrev pub verified_of : (c : Checked) → IsJustified c → IsVerified c.program c.shapes c.ctx_len
 verified_of c j = record { plan = j.plan; closed = j.justified.closed }
 
+-- A fault is told at a slot where an instruction begins, and never by 13, the number of a want of
+-- memory.
+pub record IsFaultAt (program : List Insn) (fault : InsnFault) (slot : ℕ) : Type 0 where
+  pub index : ℕ
+  pub begins : StartsAt program index slot
+  pub number : insn_fault_number fault ≢ 13
+
 -- A refusal tells a flaw of the graph only where the graph has it, and a fault of an instruction
 -- only where the graph has no flaw.
 abbrev pub IsToldOf : List Insn → ProgramRefusal → Type 0
 IsToldOf program (Graph flaw slot) = HasGraphFlaw program flaw slot
-IsToldOf program (Instruction fault slot) = HasGoodGraph program
+IsToldOf program (Instruction fault slot) = HasGoodGraph program × IsFaultAt program fault slot
 IsToldOf program Memory = Unit {0}
 
 -- no refusal but for want of memory

@@ -90,6 +90,7 @@ impl Pending {
     /// The most states that ever waited at once.
     pub(crate) fn peak(&self) -> usize
         ensures value { result ≡ self.now.peak }
+        ensures some { 1 ≤ result }
         ensures few { result ≤ size_of self.now }
     {
         self.peak

@@ -1,9 +1,11 @@
-use Rattle.std.proofs.Common.{◌≡◌, ◌∙◌, subst, arith}
+use Rattle.std.proofs.Common.{◌≡◌, ◌∙◌, sym, subst, arith}
 use Rattle.std.specs.Prelude.{bit_and}
 use Rattle.std.specs.Int.Bits.{and_zero_l}
 use Rattle.std.proofs.lemmas.Nat.{and_comm}
-use Rattle.scalar_domain.specs.Relation.{Related}
+use Rattle.std.proofs.lemmas.Option.{IfSome_then}
+use Rattle.scalar_domain.specs.Relation.{Related, HasPair, Told}
 use Rattle.scalar_domain.proofs.Edges.{apart, outside}
+use Rattle.scalar_domain.proofs.Pairs.{pair_up, met}
 use Rattle.scalar_domain.proofs.refine.relate.Goals as goal
 
 pub returns-in_ok-right-in-Above-clause-sound : goal.returns-in_ok-right-in-Above-clause-sound
@@ -27,3 +29,9 @@ returns-in-Apart-clause-sound c = λ x y p q h k r.
 
 pub returns-in-Different-clause-apart : goal.returns-in-Different-clause-apart
 returns-in-Different-clause-apart c = λ k x e. c.different.ensures.apart k x
+
+pub returns-in-Equal-clause-pair : goal.returns-in-Equal-clause-pair
+returns-in-Equal-clause-pair c = IfSome_then c.equal.result c.equal.ensures.meet (λ p l. subst (λ o. HasPair (Told o) c.args.a c.args.b) (sym c.in-Equal.is) (met c.args.a c.args.b l.0 l.1))
+
+pub returns-in-Apart-clause-pair : goal.returns-in-Apart-clause-pair
+returns-in-Apart-clause-pair c = subst (λ o. HasPair (Told o) c.args.a c.args.b) (sym c.in-Apart.is) (pair_up (λ x y. Unit {0}) c.args.a c.args.b tt)

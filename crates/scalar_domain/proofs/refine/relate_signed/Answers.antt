@@ -1,7 +1,8 @@
-use Rattle.std.proofs.Common.{subst, arith}
+use Rattle.std.proofs.Common.{sym, subst, arith}
 use Rattle.std.proofs.lemmas.Option.{IfSome_then}
-use Rattle.scalar_domain.specs.Relation.{SignedRelated}
+use Rattle.scalar_domain.specs.Relation.{Related, SignedRelated}
 use Rattle.scalar_domain.proofs.Edges.{no_wider-trans}
+use Rattle.scalar_domain.proofs.Pairs.{low, high, wider}
 use Rattle.scalar_domain.proofs.refine.relate_signed.Goals as goal
 
 pub returns-in_ok-clip-in-Below-clause-no_wider : goal.returns-in_ok-clip-in-Below-clause-no_wider
@@ -37,3 +38,33 @@ returns-in_ok-right-in-AtLeast-clause-no_wider c =
     let n = c.in_ok-right-in-AtLeast.ensures.no_wider in
     let r = c.in_ok-clip-in-AtLeast in
     (no_wider-trans c.in_ok-right-in-AtLeast.left r.field-0 c.args.a n.1 r.ensures.no_wider, n.0)
+
+pub returns-in_ok-right-in-Above-clause-pair : goal.returns-in_ok-right-in-Above-clause-pair
+returns-in_ok-right-in-Above-clause-pair c =
+    let r = c.in_ok-clip-in-Above in
+    record {
+      left = r.field-0.greatest;
+      right = c.args.b.least;
+      left_between = wider r.field-0 c.args.a r.field-0.greatest r.ensures.no_wider (high r.field-0);
+      right_between = low c.args.b;
+      holds = record {
+        left = omega (arith, r.ensures.bounds.1, c.requires);
+        right = omega (arith, c.args.b.ordered, c.if-b-sign.true);
+        related = subst (λ o. Related o r.field-0.greatest c.args.b.least) (sym c.in-Above.is) c.in_ok-right-in-Above.ensures.pair;
+      };
+    }
+
+pub returns-in_ok-right-in-AtLeast-clause-pair : goal.returns-in_ok-right-in-AtLeast-clause-pair
+returns-in_ok-right-in-AtLeast-clause-pair c =
+    let r = c.in_ok-clip-in-AtLeast in
+    record {
+      left = r.field-0.greatest;
+      right = c.args.b.least;
+      left_between = wider r.field-0 c.args.a r.field-0.greatest r.ensures.no_wider (high r.field-0);
+      right_between = low c.args.b;
+      holds = record {
+        left = omega (arith, r.ensures.bounds.1, c.requires);
+        right = omega (arith, c.args.b.ordered, c.if-b-sign-2.true);
+        related = subst (λ o. Related o r.field-0.greatest c.args.b.least) (sym c.in-AtLeast.is) c.in_ok-right-in-AtLeast.ensures.pair;
+      };
+    }

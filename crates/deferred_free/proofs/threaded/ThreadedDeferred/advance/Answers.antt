@@ -1,16 +1,13 @@
-use Rattle.std.proofs.Common.{None, sym, subst, arith, refl}
+use Rattle.std.proofs.Common.{None, sym, subst, refl}
 use Rattle.bpf_model.specs.Schedule.{turned}
 use Rattle.deferred_free.specs.declared.threaded.Line.{Line}
 use Rattle.deferred_free.specs.Fits.{threaded_lists, FitsAs}
 use Rattle.deferred_free.specs.Frame.{lists-are, fits_from}
-use Rattle.deferred_free.proofs.Moves.{turned_fits, last_taken}
+use Rattle.deferred_free.proofs.Moves.{turned_fits, lasts_taken}
 use Rattle.deferred_free.proofs.threaded.ThreadedDeferred.advance.Goals as goal
 
 pub join-self-requires : goal.join-self-requires
-join-self-requires c =
-    let x = c.args.self.now in
-    let f = c.requires.fits in
-    last_taken x c.args.arena.now x.ready (threaded_lists x c.args.arena.now).ready f.ready (λ j h. f.taken j (omega arith)) x.ready.last refl c.args.arena.now refl
+join-self-requires c = (lasts_taken c.args.self.now c.args.arena.now c.args.arena.now c.requires.fits refl).ready
 
 pub returns-clause-lists : goal.returns-clause-lists
 returns-clause-lists c =

@@ -1,18 +1,18 @@
-use Rattle.std.proofs.Common.{◌∙◌, sym, ap, subst, arith, refl}
+use Rattle.std.proofs.Common.{◌∙◌, sym, ap, subst}
 use Rattle.bpf_model.specs.Schedule.{Queues}
 use Rattle.element_arena.specs.State.{ArenaState, LinksOf}
 use Rattle.deferred_free.specs.Queued.{queued, retired_lists}
 use Rattle.deferred_free.specs.declared.threaded.Line.{Line}
 use Rattle.deferred_free.specs.Fits.{threaded_lists, FitsAs}
 use Rattle.deferred_free.specs.Frame.{lists-are, fits_from}
-use Rattle.deferred_free.proofs.Moves.{retired_fits, last_taken}
+use Rattle.deferred_free.proofs.Moves.{retired_fits, lasts_taken}
 use Rattle.deferred_free.proofs.threaded.ThreadedDeferred.retire.Goals as goal
 
+-- whichever list it joins
 pub join-self-requires : goal.join-self-requires
 join-self-requires c =
-    let x = c.args.self.now in
-    let f = c.requires.fits in
-    last_taken x c.args.arena.now x.next (threaded_lists x c.args.arena.now).next f.next (λ j h. f.taken j (omega arith)) x.next.last refl c.set_next.new.self (c.set_next.ensures.new ∙ ap (λ (z : ArenaState). let r : ArenaState = record c.args.arena.now { links = z.links } in r) (sym c.set_next.ensures.new))
+    let h = lasts_taken c.args.self.now c.args.arena.now c.set_next.new.self c.requires.fits (c.set_next.ensures.new ∙ ap (λ (z : ArenaState). let r : ArenaState = record c.args.arena.now { links = z.links } in r) (sym c.set_next.ensures.new)) in
+    search (h.next, h.waiting)
 
 pub returns-clause-lists : goal.returns-clause-lists
 returns-clause-lists c =

@@ -8,3 +8,6 @@ returns-in-None-clause-floor c = record {
   bounds = λ k x s m i j e. absurd (c.in-None.ensures.bounds k x s m i j e);
   apart = λ k x s m i j n. absurd (c.in-None.ensures.apart k x s m i j n);
 }
+
+pub returns-in-Some-clause-kept : goal.returns-in-Some-clause-kept
+returns-in-Some-clause-kept c = λ p q m n. absurd (n (c.in-Some.ensures.pair p q m))
