@@ -9,8 +9,8 @@ use Rattle.grace_period.specs.State.{GraceState}
 use Rattle.verifier.specs.Verdict.{IsJustified}
 use Rattle.world_laws.specs.Local.{Asks, local_of}
 use Rattle.world_laws.specs.Reacting.{insn_step}
-use Rattle.machine.specs.declared.access.Access.{Access}
-use Rattle.machine.specs.Requests.{access_of}
+use Rattle.machine.specs.declared.request.Request.{Request}
+use Rattle.machine.specs.Requests.{request_of}
 use Rattle.machine.specs.RunWords.{RunWords, IsAt}
 use Rattle.machine.specs.Steps.{CanStep, CanResume}
 use Rattle.helpers.specs.Serving.{CanServe, HasFlag, grace_of, world_with}
@@ -19,11 +19,11 @@ use Rattle.world_parts.specs.Programs.{program_of}
 
 -- What a run asks can be served, and it may go on with the reply.
 pub record CanAsk (loaded : Loaded) (maps : List MapView) (v : RunView) : Type 0 where
-  pub serve : (i : Insn) (access : Access) → insn_at loaded.verified.program v.place ≡ Some i →
+  pub serve : (i : Insn) (request : Request) → insn_at loaded.verified.program v.place ≡ Some i →
       local_of i v ≡ Asks
-      → access_of i v ≡ Some access → CanServe access loaded.maps.items maps v
-  pub resume : (i : Insn) (access : Access) → insn_at loaded.verified.program v.place ≡ Some i
-      → access_of i v ≡ Some access → CanResume loaded.verified.program v
+      → request_of i v ≡ Some request → CanServe request loaded.maps.items maps v
+  pub resume : (i : Insn) (request : Request) → insn_at loaded.verified.program v.place ≡ Some i
+      → request_of i v ≡ Some request → CanResume loaded.verified.program v
 
 -- The run in run slot r may make a step of its program: its flag is what its depth says, and what
 -- it needs is there.

@@ -6,19 +6,19 @@ pub local_step-requires-clause-can : goal.local_step-requires-clause-can
 local_step-requires-clause-can c = steps c.args.verified.now c.args.run.now.view c.requires.stands
 
 pub resume-requires-clause-can : goal.resume-requires-clause-can
-resume-requires-clause-can c = resumable c.args.verified.now c.args.run.now.view c.requires.stands c.in-Shared.access c.local_step.new.self.view c.in-Shared.ensures.step
+resume-requires-clause-can c = resumable c.args.verified.now c.args.run.now.view c.requires.stands c.in-Shared.request c.local_step.new.self.view c.in-Shared.ensures.step
 
 pub unreachable-requires : goal.unreachable-requires
 unreachable-requires c =
     let view = c.args.run.now.view in
     let after = c.local_step.new.self.view in
     let insn = (steps c.args.verified.now view c.requires.stands).insn in
-    let asked = shares c.args.verified.now view c.requires.stands c.in-Shared.access after c.in-Shared.ensures.step in
+    let asked = shares c.args.verified.now view c.requires.stands c.in-Shared.request after c.in-Shared.ensures.step in
     elim c.in-Load.is [
-      | inl x ↦ asks-else view after insn c.in-Shared.access _ asked x.3 refl
+      | inl x ↦ asks-else view after insn c.in-Shared.request _ asked x.3 refl
       | inr y ↦ elim y [
-        | inl x ↦ asks-else view after insn c.in-Shared.access _ asked x.4 refl
-        | inr x ↦ asks-else view after insn c.in-Shared.access _ asked x.1 refl
+        | inl x ↦ asks-else view after insn c.in-Shared.request _ asked x.4 refl
+        | inr x ↦ asks-else view after insn c.in-Shared.request _ asked x.1 refl
       ]
     ]
 
@@ -34,5 +34,5 @@ returns-in-Exit c =
 
 pub returns-in-Enter : goal.returns-in-Enter
 returns-in-Enter c =
-    let f = resumed c.args.verified.now c.args.run.now.view c.requires.stands c.in-Shared.access c.local_step.new.self.view c.resume.new.self.view 0 c.in-Shared.ensures.step c.resume.ensures.view in
+    let f = resumed c.args.verified.now c.args.run.now.view c.requires.stands c.in-Shared.request c.local_step.new.self.view c.resume.new.self.view 0 c.in-Shared.ensures.step c.resume.ensures.view in
     record { lone = record { at = c.resume.ensures.run; stands = f.stands }; context = f.context; moved = f.moved }
