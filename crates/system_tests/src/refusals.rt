@@ -1,5 +1,5 @@
 //! For each refusal the smallest program that gets it, and one that is accepted in its place. docs/REFUSALS.md
-//! shows the same programs in the same order; `docs/refusals_agree` compares the two.
+//! shows the same programs in the same order; `checks/refusals_agree` compares the two.
 
 use crate::judged::{SHAPE, bytes_of};
 use asm::assemble;
