@@ -114,12 +114,14 @@ def main(words):
     if not words or words[:-1] not in ([], ["--script"]):
         sys.exit(__doc__)
     try:
-        text = pathlib.Path(words[-1]).read_text().splitlines()
+        text = [line.strip() for line in pathlib.Path(words[-1]).read_text().splitlines()]
     except OSError as error:
         sys.exit(f"{words[-1]}: {error.strerror}")
     if "code" not in text:
         sys.exit(f"{words[-1]} has no line `code`")
     head = [it for it in text[:text.index("code")] if it and not it.startswith(";")]
+    if not head or not head[0].startswith("ctx "):
+        sys.exit(f"{words[-1]} does not begin with the length of the context, as `ctx 0`")
     code = code_of([*enumerate(text, 1)][text.index("code") + 1:])
     if words[0] != "--script":
         print("\n".join(["bpfrt 1", *head, "code", *(it[at:at + 8].hex() for it in code for at in range(0, len(it), 8))]))
