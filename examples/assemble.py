@@ -26,8 +26,20 @@ def slot(opcode, to=0, by=0, offset=0, number=0):
     return fields + (number % 2**32).to_bytes(4, "little")
 
 
+def within(text, least, limit):
+    """The number of a text, which is at least the one and below the other."""
+    number = int(text)
+    if not least <= number < limit:
+        raise ValueError(text)
+    return number
+
+
 def register(text):
-    return int(re.fullmatch(r"r(\d+)", text)[1])
+    return within(re.fullmatch(r"r(\d+)", text)[1], 0, 11)
+
+
+def immediate(text):
+    return within(text, -2**31, 2**31)
 
 
 def address(text):
@@ -40,14 +52,15 @@ def with_operand(opcode, to, operand, offset):
     """An instruction whose second operand is a register or a number."""
     if operand.startswith("r"):
         return slot(opcode | 8, register(to), register(operand), offset)
-    return slot(opcode, register(to), 0, offset, int(operand))
+    return slot(opcode, register(to), 0, offset, immediate(operand))
 
 
 def wide(name, to, number):
     """The two slots of a number or of a map."""
-    low, high = int(number) % 2**32, int(number) >> 32
-    source, high = (5, 0) if name == "ldmap" else (0, high)
-    return slot(0x18, register(to), source, 0, low) + slot(0, 0, 0, 0, high)
+    if name == "ldmap":
+        return slot(0x18, register(to), 5, 0, immediate(number)) + slot(0)
+    number = within(number, 0, 2**64)
+    return slot(0x18, register(to), 0, 0, number) + slot(0, 0, 0, 0, number >> 32)
 
 
 def memory(kind, sign, size, first, second):
@@ -57,7 +70,7 @@ def memory(kind, sign, size, first, second):
     base, offset = address(first)
     if kind == "stx":
         return slot(SIZES[size] | 0x63, base, register(second), offset)
-    return slot(SIZES[size] | 0x62, base, 0, offset, int(second))
+    return slot(SIZES[size] | 0x62, base, 0, offset, immediate(second))
 
 
 def arithmetic(stem, kind, to, *others):
@@ -74,9 +87,9 @@ def control(name, text):
     if name == "ja":
         return slot(0x05, 0, 0, int(text))
     if name == "ja32":
-        return slot(0x06, 0, 0, 0, int(text))
+        return slot(0x06, 0, 0, 0, immediate(text))
     if name in ("call", "callbtf"):
-        return slot(0x85, 0, 2 if name == "callbtf" else 0, 0, int(text))
+        return slot(0x85, 0, 2 if name == "callbtf" else 0, 0, immediate(text))
     return slot(0x95) if name == "exit" else None
 
 
