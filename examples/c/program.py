@@ -3,7 +3,6 @@
 
     program.py OBJECT           the program file, as text: context, maps, code
     program.py --script OBJECT  the first lines of a script: its maps, and the program, bound to them
-    program.py --rows OBJECT..  rows of the table in crates/verifier_tests/src/compiled.rt
 
 The code is the section .text. A wide load of a map's address becomes the wide load of a map (source
 5) by the map's number in the program's list, which is the order of the section maps. A call of an
@@ -137,28 +136,8 @@ def object_in(path):
     return Object(data)
 
 
-def row(path):
-    """A row of the table of compiled programs."""
-    obj = object_in(path)
-    name = path.rsplit("/", 1)[-1].rsplit(".", 1)[0]
-    fields = ["key_len", "value_len", "entries", "spare", "reuse_limit"]
-    maps = "".join(
-        "            MapShape {\n"
-        + "".join(f"                {field}: {number},\n" for field, number in zip(fields, shape))
-        + "            },\n"
-        for _, shape in maps_of(obj))
-    maps = f"&[\n{maps}        ]" if maps else "&[]"
-    slots = [slot.hex() for slot in code_of(obj)]
-    code = [" ".join(slots[i:i + 5]) for i in range(0, len(slots), 5)]
-    text = " \\\n            ".join(code)
-    return (f"    Row {{\n        name: \"{name}\",\n        context: {context_of(obj)},\n"
-            f"        maps: {maps},\n        code: \"{text}\",\n    }},\n")
-
-
 def main(words):
-    if words[:1] == ["--rows"]:
-        sys.stdout.write("".join(row(path) for path in words[1:]))
-    elif words[:1] == ["--script"] and len(words) == 2:
+    if words[:1] == ["--script"] and len(words) == 2:
         sys.stdout.write(script(object_in(words[1])))
     elif len(words) == 1 and not words[0].startswith("-"):
         sys.stdout.write(program_file(object_in(words[0])))

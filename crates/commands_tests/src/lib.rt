@@ -9,8 +9,6 @@ mod dialogues;
 #[cfg(test)]
 mod files;
 #[cfg(test)]
-mod limits;
-#[cfg(test)]
 mod lines;
 #[cfg(test)]
 mod making;

@@ -1,6 +1,6 @@
 //! Pools of workers.
 
-use crate::running::{EXIT, EXIT_ONE, LOOKUP_FILE, WIDE, output, pool_of, refusal, runs};
+use crate::running::{EXIT, EXIT_ONE, LOOKUP_FILE, output, pool_of, refusal, runs};
 use std::alloc::Global;
 use std::test::Fail;
 
@@ -15,38 +15,18 @@ fn job_lines(alloc: Global, count: u64, value: u64, events: u64) -> Result<Strin
     Ok(text)
 }
 
-/// Files, workers, jobs, the exit value of each job, and its events: a start, its steps and a drop.
-const POOLS: [(&[u8], u64, u64, u64, u64); 7] = [
-    (&EXIT_ONE, 1, 1000, 1, 4),
+/// Files, workers, jobs, the exit value of each job, and its events: a start, its steps and a drop. More of both kinds have
+/// `checks/statuses_agree`.
+const POOLS: [(&[u8], u64, u64, u64, u64); 2] = [
     (&EXIT_ONE, 3, 1000, 1, 4),
-    (&EXIT_ONE, 8, 1000, 1, 4),
-    (&EXIT_ONE, 8, 0, 1, 4),
-    (&WIDE, 2, 1, 8_589_934_593, 4),
-    // A key that is not there, by 11 steps, and a byte of a context of zeros.
+    // A key that is not there, by 11 steps.
     (LOOKUP_FILE, 4, 20, 0, 13),
-    (
-        b"bpfrt 1\nctx 2\ncode\n7110010000000000 9500000000000000\n",
-        2,
-        3,
-        0,
-        4,
-    ),
 ];
 
 /// Files, workers and jobs of pools that are refused. The file is judged first.
-const NO_POOLS: [(&[u8], u64, u64, &[u8]); 7] = [
-    (&EXIT_ONE, 0, 1, b"refused 90\n"),
-    (&EXIT_ONE, 9, 1, b"refused 90\n"),
-    (
-        &EXIT_ONE,
-        18_446_744_073_709_551_615,
-        65_537,
-        b"refused 90\n",
-    ),
-    (&EXIT_ONE, 8, 65_537, b"refused 91\n"),
+const NO_POOLS: [(&[u8], u64, u64, &[u8]); 2] = [
+    (&EXIT_ONE, 9, 65_537, b"refused 90\n"),
     (&EXIT, 0, 65_537, b"refused 23 at 0\n"),
-    (b"\x95\0\0\0\0\0\0", 0, 1, b"refused 1\n"),
-    (b"bpfrt 1\nctx 257\n", 0, 1, b"fault 94 at 2\n"),
 ];
 
 #[test]

@@ -1,7 +1,7 @@
 //! Maps of both forms over lines of commands, with the answers that they must have, worked out by hand; and the registry.
 //! Bytes are hexadecimal digits. `slot` asks for the slot of a key, `above` for the element with the least key above
 //! another, or of all (`-`).
-use bpf_model::{Errno, Given, MAX_MAPS, MapId, MapShape};
+use bpf_model::{Errno, Given, MapId, MapShape};
 use deferred_free::{Deferred, Threaded, Vectors};
 use hash_index::{Buckets, Index, Sorted};
 use maps::{HashMap, Registry};
@@ -70,40 +70,6 @@ advance = ok\n\
 reap = 09 worn\n\
 reap = 07 worn\n\
 put 07 0102 0 = -12\n";
-
-/// One element, one further map slot, two uses of each.
-const PAIR: MapShape = MapShape {
-    key_len: 4,
-    value_len: 8,
-    entries: 1,
-    spare: 1,
-    reuse_limit: 2,
-};
-
-/// Two map slots take turns, and each is worn after its second use.
-const PAIR_LINES: &str = "put 00000000 0500000000000000 0 = 0\n\
-slot 00000000 = 0\n\
-del 00000000 = 0\n\
-advance = ok\n\
-advance = ok\n\
-reap = 00000000 free\n\
-put 00000000 0600000000000000 0 = 0\n\
-slot 00000000 = 1\n\
-del 00000000 = 0\n\
-advance = ok\n\
-advance = ok\n\
-reap = 00000000 free\n\
-put 00000000 0700000000000000 0 = 0\n\
-slot 00000000 = 0\n\
-del 00000000 = 0\n\
-advance = ok\n\
-advance = ok\n\
-reap = 00000000 worn\n\
-put 00000000 0800000000000000 0 = 0\n\
-slot 00000000 = 1\n\
-above - = 00000000 0800000000000000\n\
-put 00000000 0900000000000000 0 = -12\n\
-put 01000000 0900000000000000 0 = -7\n";
 
 type Words<'a> = Split<'a, char>;
 
@@ -250,8 +216,8 @@ pub(crate) fn replay<I: Index, D: Deferred>(
     Ok(text)
 }
 
-/// Maps of this index and these lists answer both tables.
-fn answers_tables<I: Index + Drop, D: Deferred + Drop, R: Abort>(
+/// Maps of this index and these lists answer the table.
+fn answers_table<I: Index + Drop, D: Deferred + Drop, R: Abort>(
     rt: &R,
     alloc: Global,
 ) -> Result<(), Fail> {
@@ -260,15 +226,13 @@ fn answers_tables<I: Index + Drop, D: Deferred + Drop, R: Abort>(
         replay(alloc, &mut small, SMALL_LINES)?.as_str(),
         SMALL_LINES
     );
-    let mut pair: HashMap<I, D> = HashMap::new(alloc, PAIR)?;
-    assert_eq!(rt; replay(alloc, &mut pair, PAIR_LINES)?.as_str(), PAIR_LINES);
     Ok(())
 }
 
 #[test]
 fn maps_of_both_forms(rt: HostRuntime) -> Result<(), Fail> {
-    answers_tables::<Buckets, Threaded, _>(&rt, rt.alloc())?;
-    answers_tables::<Sorted, Vectors, _>(&rt, rt.alloc())
+    answers_table::<Buckets, Threaded, _>(&rt, rt.alloc())?;
+    answers_table::<Sorted, Vectors, _>(&rt, rt.alloc())
 }
 
 /// A shape of no map: it has no entries.
@@ -306,19 +270,5 @@ fn registry_of_maps(rt: HostRuntime) -> Result<(), Fail> {
     assert_eq!(rt; registry.shape(id), Some(SMALL));
     assert!(rt; registry.name(id).is_some_and(|name| name.len() == 32));
     assert!(rt; registry.map(id).is_some());
-    Ok(())
-}
-
-#[test]
-fn too_many_maps(rt: HostRuntime) -> Result<(), Fail> {
-    let alloc = rt.alloc();
-    let mut registry = Registry::new(alloc);
-    for number in 0..MAX_MAPS {
-        let name = format!(in alloc; "map_{number}")?;
-        let made = registry.create(&name, SMALL);
-        assert_eq!(rt; made.map(|id| id.index()), Ok(number));
-    }
-    let refused = registry.create("one_more", SMALL);
-    assert_eq!(rt; refused.err().map(|fault| fault.code()), Some(53));
     Ok(())
 }

@@ -1,7 +1,7 @@
 //! What becomes of program bytes: a fault of the decoder, a refusal of the verifier, or an exit.
 ghost use Rattle.std.specs.Prelude.{◌≡◌, IfOk};
 
-use bpf_model::{CtxBytes, MapShape};
+use bpf_model::CtxBytes;
 use insn_codec::decode;
 use lone_runs::run_to_exit;
 use std::alloc::Global;
@@ -15,23 +15,6 @@ pub enum Wanted {
     Refused(u8, Option<usize>),
     Exits(u64, usize),
 }
-
-/// A program and a context in hexadecimal digits, spaces left out, and what becomes of them.
-pub struct Case {
-    pub name: &'static str,
-    pub code: &'static str,
-    pub ctx: &'static str,
-    pub wanted: Wanted,
-}
-
-/// The one map of a program's list, where it has one.
-pub const SHAPE: MapShape = MapShape {
-    key_len: 4,
-    value_len: 8,
-    entries: 1,
-    spare: 1,
-    reuse_limit: 2,
-};
 
 /// The bytes of hexadecimal digits; spaces are left out.
 pub fn bytes_of(alloc: Global, text: &str) -> Result<Vec<u8>, Fail> {
@@ -63,11 +46,4 @@ pub fn judged(alloc: Global, code: &[u8], ctx: &[u8]) -> Result<Wanted, Fail> {
     };
     let finished = run_to_exit(&verified, &context);
     Ok(Wanted::Exits(finished.value, finished.steps))
-}
-
-/// What becomes of a case's program on its context.
-pub fn judged_case(alloc: Global, case: &Case) -> Result<Wanted, Fail> {
-    let code = bytes_of(alloc, case.code)?;
-    let ctx = bytes_of(alloc, case.ctx)?;
-    judged(alloc, &code, &ctx)
 }

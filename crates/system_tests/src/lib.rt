@@ -13,12 +13,6 @@ mod long;
 #[cfg(test)]
 mod numbers;
 #[cfg(test)]
-mod orders;
-#[cfg(test)]
-mod refusals;
-#[cfg(test)]
-mod rows;
-#[cfg(test)]
 mod sets;
 #[cfg(test)]
 mod text;

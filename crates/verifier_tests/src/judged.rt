@@ -11,27 +11,17 @@ use verifier::{Verified, verify};
 pub const LOOKUP: &str =
     "mov64 r9, r1; callbtf 1; stw [r10-4], 0; mov64 r2, r10; add64 r2, -4; ldmap r1, 0; call 1";
 
-/// What follows `LOOKUP` in many programs, before slot 12: r0 is the value of an element.
-pub const TESTED: &str = "jne r0, 0, +3; callbtf 2; mov64 r0, 0; exit";
-
-/// How a program ends that is in a section.
-pub const UNLOCK: &str = "callbtf 2; mov64 r0, 0; exit";
-
-/// How a program ends that is in none.
-pub const LEAVE: &str = "mov64 r0, 0; exit";
-
-/// What the verifier says.
+/// Why a program is refused.
 #[derive(Clone, Copy, Debug, PartialEq, Eq)]
 pub enum Told {
-    Accepted,
     /// A refusal by its number, and its slot.
     At(u8, usize),
-    /// What no row has: a refusal without a slot, by its number; or 0 for lines that do not assemble.
+    /// What no test has: a refusal without a slot, by its number; or 0 for lines that do not assemble.
     Other(u8),
 }
 
 /// A map whose keys have 4 bytes, and its values 8.
-pub const SHAPE: MapShape = MapShape {
+const SHAPE: MapShape = MapShape {
     key_len: 4,
     value_len: 8,
     entries: 1,
@@ -85,18 +75,5 @@ pub fn verified(
             Some(slot) => Ok(Err(Told::At(refusal.code(), slot))),
             None => Ok(Err(Told::Other(refusal.code()))),
         },
-    }
-}
-
-/// What is said of the program of these parts.
-pub fn judge(
-    alloc: Global,
-    maps: &[MapShape],
-    context: usize,
-    parts: &[&str],
-) -> Result<Told, Fail> {
-    match verified(alloc, maps, context, parts)? {
-        Ok(_) => Ok(Told::Accepted),
-        Err(told) => Ok(told),
     }
 }

@@ -1,20 +1,8 @@
-//! Tests of the verifier of programs with maps: what becomes of programs in assembly text, and of those that
-//! a compiler made.
+//! Tests of the verifier of programs with maps, through `verify`: how many states wait, and one program of each verdict. What
+//! it says of other programs is compared by `checks/answers_agree`, over `checks/data/verdicts`.
 #![tactic(auto)]
 
-#[cfg(test)]
-mod cells;
-#[cfg(test)]
-mod compiled;
 #[cfg(test)]
 mod joins;
 #[cfg(test)]
 mod judged;
-#[cfg(test)]
-mod numbers;
-#[cfg(test)]
-mod orders;
-#[cfg(test)]
-mod programs;
-#[cfg(test)]
-mod tables;

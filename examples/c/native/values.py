@@ -1,10 +1,10 @@
 #!/usr/bin/env python3
-"""What the programs with maps compute on this computer: rows of the table in crates/world_tests/src/compiled.rt.
+"""What the programs with maps compute on this computer: the scripts checks/data/scripts/c_NAME.script.
 
-    values.py > rows
+    values.py FOLDER
 
 Each program is compiled by the C compiler (cc) with ./bpf.h, where maps are arrays. It goes through the lines below, and
-what it answers is written behind them. The code is that of the program file, ../NAME.bpfrt.
+what it answers is written behind the commands that ask the same of the program file, ../NAME.bpfrt.
 """
 
 import pathlib
@@ -179,44 +179,39 @@ def native(name, folder):
     return subprocess.run([folder / name], input=text, capture_output=True, text=True, check=True).stdout.split()
 
 
-def events(name, folder):
-    """The lines of events with their answers."""
+def commands(name, maps, folder):
+    """The commands of a script, each with its answer."""
     for line, told in zip(LINES[name], native(name, folder), strict=True):
         verb, *words = line
         if verb == "put":
-            yield f"put {words[0]} {words[1]} {words[2]} 0 = ret {told}"
+            yield f"put {maps[words[0]]} {words[1]} {words[2]} 0", f"ret {told}"
         elif verb == "get":
-            yield f"get {words[0]} {words[1]} = " + (told if told == "none" else f"value {told}")
+            yield f"get {maps[words[0]]} {words[1]}", told if told == "none" else f"value {told}"
         else:
-            yield f"start 0 {words[0]} = run 0"
-            yield f"step 0 4096 = exit {told}"
-            yield "drop 0 = ok"
+            yield f"start 0 {words[0]}", "run 0"
+            yield "step 0 4096", f"exit {told}"
+            yield "drop 0", "ok"
 
 
-def program(name):
-    """The length of the context, the shapes of the maps, and the slots of a program file."""
-    lines = (HERE.parent / f"{name}.bpfrt").read_text().split("\n")
-    context = next(int(line.split()[1]) for line in lines if line.startswith("ctx "))
-    shapes = [line.split()[2:] for line in lines if line.startswith("map ")]
-    return context, shapes, " ".join(lines[lines.index("code") + 1:]).split()
+def script(name, folder):
+    """The script: its maps and the program of the program file, and the commands."""
+    lines = (HERE.parent / f"{name}.bpfrt").read_text().splitlines()
+    maps = [line for line in lines if line.startswith("map ")]
+    context = next(line.split()[1] for line in lines if line.startswith("ctx "))
+    code = "".join(lines[lines.index("code") + 1:]).replace(" ", "")
+    names = [line.split()[1] for line in maps]
+    pairs = [(line, f"map {number}") for number, line in enumerate(maps)]
+    pairs += [(" ".join(["load", context, code, *names]), "prog 0"), *commands(name, names, folder)]
+    head = f"# examples/c/{name}.bpfrt; what it exits with and leaves in its maps was computed by examples/c/native.\n"
+    return head + "".join(f"{command}\n#> {told}\n" for command, told in pairs)
 
 
-def row(name, folder):
-    context, shapes, slots = program(name)
-    fields = ("key_len", "value_len", "entries", "spare", "reuse_limit")
-    maps = ", ".join("MapShape { " + ", ".join(f"{f}: {n}" for f, n in zip(fields, shape)) + " }" for shape in shapes)
-    code = " \\\n".join(" ".join(slots[i:i + 5]) for i in range(0, len(slots), 5))
-    text = "\\n\\\n".join(events(name, folder))
-    return (f'    Row {{\n        name: "{name}",\n        context: {context},\n        maps: &[{maps}],\n'
-            f'        code: "{code}",\n        events: "{text}\\n",\n    }},')
-
-
-def main():
+def main(target):
     with tempfile.TemporaryDirectory() as folder:
         for name in LINES:
-            print(row(name, pathlib.Path(folder)))
+            (pathlib.Path(target) / f"c_{name}.script").write_text(script(name, pathlib.Path(folder)))
     return 0
 
 
 if __name__ == "__main__":
-    sys.exit(main())
+    sys.exit(main(sys.argv[1]) if len(sys.argv) == 2 else __doc__)
