@@ -18,7 +18,8 @@ ghost use Rattle.machine.specs.declared.request.Local.{Local};
 ghost use Rattle.machine.specs.Regions.{IsCodeOf};
 ghost use Rattle.machine.specs.Replies.{IsOwnStep, ServesRequest};
 ghost use Rattle.machine.specs.Requests.{request_of};
-ghost use Rattle.machine.specs.Steps.{CanStep, CanResume, IsLocalStep};
+ghost use Rattle.machine.specs.Standing.{StandsBy};
+ghost use Rattle.machine.specs.Steps.{CanStep, IsLocalStep};
 
 /// A run that has not ended may step, by the code of its program: whatever it reaches lies in the
 /// region that the code has noted.
@@ -29,14 +30,12 @@ pub fn running_can_step()
         (c : Checked) → IsCodeOf c (shapes_of w) program → CanStep c v }
 {}
 
-/// Where the instruction of a run that has not ended asks something, the run may resume after the
-/// reply.
-pub fn running_can_resume()
+/// The words that a world shows of a run that has not ended stand for it, by the code of its program.
+pub fn running_stands()
     ensures { (w : WorldView) (s : Schedule) → Matches w s → IsSound w s →
         (r : ℕ) (run : Run) (v : RunView) → IsRunning w s r run v →
         (program : Loaded) → slice_get w.programs v.program ≡ Some program →
-        (insn : Insn) (request : Request) → insn_at program.code v.place ≡ Some insn →
-        request_of insn v ≡ Some request → CanResume program.code v }
+        (c : Checked) → IsCodeOf c (shapes_of w) program → StandsBy c v }
 {}
 
 /// The world's step of an instruction that asks something is to serve the request, and to resume the run.

@@ -12,24 +12,28 @@ use Rattle.world_laws.specs.Reacting.{insn_step}
 use Rattle.machine.specs.declared.request.Request.{Request}
 use Rattle.machine.specs.Requests.{request_of}
 use Rattle.machine.specs.RunWords.{RunWords, IsAt}
-use Rattle.machine.specs.Steps.{CanStep, CanResume}
-use Rattle.helpers.specs.Serving.{CanServe, HasFlag, grace_of, world_with}
+use Rattle.machine.specs.Standing.{IsStanding, MayGive}
+use Rattle.machine.specs.Steps.{CanStep}
+use Rattle.helpers.specs.Serving.{CanServe, HasFlag, IsReply, grace_of}
+use Rattle.helpers.specs.Serving.{world_with}
 use Rattle.world_parts.specs.declared.loaded.Loaded.{Loaded}
 use Rattle.world_parts.specs.Programs.{program_of}
 
--- What a run asks can be served, and it may go on with the reply.
+-- What a run asks can be served, by a word that the access can give.
 pub record CanAsk (loaded : Loaded) (maps : List MapView) (v : RunView) : Type 0 where
   pub serve : (i : Insn) (request : Request) → insn_at loaded.verified.program v.place ≡ Some i →
       local_of i v ≡ Asks
       → request_of i v ≡ Some request → CanServe request loaded.maps.items maps v
-  pub resume : (i : Insn) (request : Request) → insn_at loaded.verified.program v.place ≡ Some i
-      → request_of i v ≡ Some request → CanResume loaded.verified.program v
+  pub give : (i : Insn) (request : Request) (word : ℕ) →
+      insn_at loaded.verified.program v.place ≡ Some i → local_of i v ≡ Asks
+      → request_of i v ≡ Some request → IsReply request loaded.maps.items maps v word →
+      MayGive loaded.verified v request word
 
 -- The run in run slot r may make a step of its program: its flag is what its depth says, and what
 -- it needs is there.
 pub record CanTake (loaded : Loaded) (maps : List MapView) (g : GraceState) (r : ℕ) (run : RunWords)
     : Type 0 where
-  pub stands : IsAt loaded.verified.program run
+  pub stands : IsStanding loaded.verified run
   pub step : CanStep loaded.verified run.view
   pub ask : CanAsk loaded maps run.view
   pub flag : HasFlag g r
