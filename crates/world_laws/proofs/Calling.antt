@@ -47,7 +47,7 @@ use Rattle.world_laws.proofs.Ready.{bases, refines, register-word, byte-stands, 
 use Rattle.world_laws.proofs.Own.{Known, Does}
 use Rattle.bpf_model.proofs.Lists.{get-below}
 
-word-returned : (bases : ℕ → ℕ) (a b : Bool) (x y : ℕ) (u v : Value) → WordIs bases u x → WordIs bases v y → WordIs bases (if a then u else if b then Nothing else v) (if a then x else y)
+pub word-returned : (bases : ℕ → ℕ) (a b : Bool) (x y : ℕ) (u v : Value) → WordIs bases u x → WordIs bases v y → WordIs bases (if a then u else if b then Nothing else v) (if a then x else y)
 word-returned bases true b x y u v p q = p
 word-returned bases false true x y u v p q = tt
 word-returned bases false false x y u v p q = q

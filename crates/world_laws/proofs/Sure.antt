@@ -24,7 +24,7 @@ IsSure c (Pointer (Elem n o)) = (map : ℕ) × IsHeld c map n
 IsSure c v = Unit {0}
 
 -- kinds that nothing may be of
-abbrev IsLoose : Kind → Type 0
+abbrev pub IsLoose : Kind → Type 0
 IsLoose Blank = Unit {0}
 IsLoose Mixed = Unit {0}
 IsLoose Ended = Unit {0}
@@ -40,7 +40,7 @@ sure-found : (c : Scene) (map : ℕ) (o : Option ℕ) → IsNullOrHeld c map o �
 sure-found c map None h = omega arith
 sure-found c map (Some n) h = (map, h)
 
-sure-of : (c : Scene) (ρ : Naming) (k : Kind) (v : Value) → IsOf c ρ k v → (IsLoose k → ⊥) → IsSure c v
+pub sure-of : (c : Scene) (ρ : Naming) (k : Kind) (v : Value) → IsOf c ρ k v → (IsLoose k → ⊥) → IsSure c v
 sure-of c ρ Blank v h l = absurd (l tt)
 sure-of c ρ Mixed v h l = absurd (l tt)
 sure-of c ρ Ended v h l = absurd (l tt)
@@ -66,7 +66,7 @@ of-emptied : (c : Scene) (ρ : Naming) (kinds : ℕ → Kind) (values : ℕ → 
 of-emptied c ρ kinds values q j true e l h = loose-of c ρ (kinds j) Nothing (subst (λ j. IsLoose (kinds j)) (sym (eqb-true j q e)) l)
 of-emptied c ρ kinds values q j false e l h = h
 
-describes-emptied : (a : AbsState) (c : Scene) (m : State) (q : ℕ) → IsLoose (a.regs q) → Describes a c m → Describes a c (emptied q m)
+pub describes-emptied : (a : AbsState) (c : Scene) (m : State) (q : ℕ) → IsLoose (a.regs q) → Describes a c m → Describes a c (emptied q m)
 describes-emptied a c m q l d = record {
   naming = d.naming;
   stored = d.stored;

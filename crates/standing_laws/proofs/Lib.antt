@@ -1,0 +1,7 @@
+pub mod Bytes
+pub mod Contents
+pub mod Described
+pub mod Replied
+pub mod Asking
+pub mod Erasing
+pub mod Own

@@ -1,0 +1,3 @@
+pub mod Around
+pub mod Standing
+pub mod Described
