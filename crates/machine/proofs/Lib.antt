@@ -9,3 +9,9 @@ pub mod Places
 pub mod Reacting
 pub mod Serving
 pub mod Standing
+pub mod OwnMemory
+pub mod Turning
+pub mod AskingSo
+pub mod Answering
+pub mod StandingLaws
+pub mod RunningStands

@@ -5,3 +5,4 @@ pub mod Replies
 pub mod Requests
 pub mod RunWords
 pub mod Steps
+pub mod Standing

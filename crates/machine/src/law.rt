@@ -18,6 +18,7 @@ ghost use Rattle.machine.specs.declared.access.Local.{Local};
 ghost use Rattle.machine.specs.Regions.{IsCodeOf};
 ghost use Rattle.machine.specs.Replies.{IsOwnStep, ServesAccess};
 ghost use Rattle.machine.specs.Requests.{access_of};
+ghost use Rattle.machine.specs.Standing.{StandsBy};
 ghost use Rattle.machine.specs.Steps.{CanStep, CanResume, IsLocalStep};
 
 /// A run that has not ended may step, by the code of its program: whatever it reaches lies in the
@@ -27,6 +28,14 @@ pub fn running_can_step()
         (r : ℕ) (run : Run) (v : RunView) → IsRunning w s r run v →
         (program : Loaded) → slice_get w.programs v.program ≡ Some program →
         (c : Checked) → IsCodeOf c (shapes_of w) program → CanStep c v }
+{}
+
+/// The words that a world shows of a run that has not ended stand for it, by the code of its program.
+pub fn running_stands()
+    ensures { (w : WorldView) (s : Schedule) → Matches w s → IsSound w s →
+        (r : ℕ) (run : Run) (v : RunView) → IsRunning w s r run v →
+        (program : Loaded) → slice_get w.programs v.program ≡ Some program →
+        (c : Checked) → IsCodeOf c (shapes_of w) program → StandsBy c v }
 {}
 
 /// Where the instruction of a run that has not ended asks something, the run may resume after the
