@@ -3,3 +3,4 @@ pub mod Flags
 pub mod Named
 pub mod Stepping
 pub mod Running
+pub mod Giving

@@ -1,11 +1,12 @@
 //! Laws of what is served, each a function with an empty body.
-ghost use Rattle.std.specs.Prelude.{◌≡◌, ℕ, Option, Some, None, slice_get};
+ghost use Rattle.std.specs.Prelude.{◌≡◌, ◌<◌, ◌^◌, ℕ, Option, Some, None, slice_get};
 ghost use Rattle.bpf_model.specs.declared.insn.Insn.{Insn};
 ghost use Rattle.bpf_model.specs.Machine.{Loaded, Run};
 ghost use Rattle.bpf_model.specs.Schedule.{Schedule};
 ghost use Rattle.bpf_model.specs.Step.{insn_at};
-ghost use Rattle.bpf_model.specs.View.{MapView, RunView, WorldView};
+ghost use Rattle.bpf_model.specs.View.{MapView, RunView, WorldView, shapes_of};
 ghost use Rattle.maps.specs.Shown as shown;
+ghost use Rattle.verifier.specs.Checked.{Checked};
 ghost use Rattle.view_laws.specs.Matching.{Matches};
 ghost use Rattle.world_laws.specs.Local.{Asks, local_of};
 ghost use Rattle.world_laws.specs.Reaching as reaching;
@@ -13,7 +14,9 @@ ghost use Rattle.world_laws.specs.Reacting.{insn_step};
 ghost use Rattle.world_laws.specs.Typed.{IsRunning, IsSound};
 ghost use Rattle.machine.specs.declared.access.Access.{Access};
 ghost use Rattle.machine.specs.declared.access.Local.{Local};
+ghost use Rattle.machine.specs.Regions.{IsCodeOf};
 ghost use Rattle.machine.specs.Requests.{access_of};
+ghost use Rattle.machine.specs.Standing.{MayGive};
 ghost use Rattle.machine.specs.Steps.{IsLocalStep};
 ghost use Rattle.helpers.specs.Serving.{CanServe, IsFlagged, IsOwnWorld, IsReply, served_step};
 
@@ -53,4 +56,16 @@ pub fn running_can_be_served()
         (insn : Insn) (access : Access) → insn_at program.code v.place ≡ Some insn →
         local_of insn v ≡ Asks → access_of insn v ≡ Some access →
         CanServe access program.maps w.maps v }
+{}
+
+/// In such a world what is served is a word that the access can give, as the code of the run's program asks.
+pub fn served_may_be_given()
+    ensures { (w : WorldView) (s : Schedule) → Matches w s → IsSound w s →
+        (r : ℕ) (run : Run) (v : RunView) → IsRunning w s r run v → r < 2 ^ 64 →
+        (program : Loaded) → slice_get w.programs v.program ≡ Some program →
+        (c : Checked) → IsCodeOf c (shapes_of w) program →
+        (insn : Insn) (access : Access) (word : ℕ) →
+        insn_at program.code v.place ≡ Some insn → local_of insn v ≡ Asks →
+        access_of insn v ≡ Some access → CanServe access program.maps w.maps v →
+        IsReply access program.maps w.maps v word → MayGive c v access word }
 {}

@@ -13,5 +13,8 @@ mod law;
 mod section;
 mod serving;
 
-pub use law::{occupied_stands, own_changes_the_run, running_can_be_served, served_is_the_worlds};
+pub use law::{
+    occupied_stands, own_changes_the_run, running_can_be_served, served_is_the_worlds,
+    served_may_be_given,
+};
 pub use serving::serve;
