@@ -1,5 +1,5 @@
 -- A step of a run: what its parts come to in the run's world.
-use Rattle.std.proofs.Common.{◌≡◌, ◌∙◌, ℕ, ◌<◌, refl, sym, ap, subst, List, Option, Some, None, inl, inr}
+use Rattle.std.proofs.Common.{◌≡◌, ◌∙◌, ℕ, ◌<◌, arith, refl, sym, ap, subst, List, Option, Some, None, inl, inr}
 use Rattle.std.specs.Prelude.{slice_get, slice_set, nat_lt, map, option_map}
 use Rattle.std.proofs.lemmas.Option.{none-some, same_Some, slice_get-map, slice_get_within}
 use Rattle.bpf_model.specs.declared.event.Answer.{Answer}
@@ -9,8 +9,9 @@ use Rattle.bpf_model.specs.declared.limits.TheConstants.{MAX_RUNS}
 use Rattle.bpf_model.specs.Machine as machine
 use Rattle.bpf_model.specs.Schedule.{Schedule, still_open}
 use Rattle.bpf_model.specs.Step.{insn_at}
-use Rattle.bpf_model.specs.View.{MapView, RunView, WorldView, shapes_of_maps}
+use Rattle.bpf_model.specs.View.{MapView, RunView, WorldView, shapes_of, shapes_of_maps}
 use Rattle.grace_period.specs.State.{GraceState}
+use Rattle.verifier.specs.Verdict.{IsJustified}
 use Rattle.view_laws.specs.Matching.{Matches}
 use Rattle.view_laws.specs.Reactions.{step_refused}
 use Rattle.world_laws.specs.Local.{local_of}
@@ -22,9 +23,13 @@ use Rattle.machine.specs.declared.access.Access.{Access}
 use Rattle.machine.specs.declared.access.Local.TheVariants as code
 use Rattle.machine.specs.Requests.{access_of, resumed_view}
 use Rattle.machine.specs.RunWords.{RunWords, IsAt}
-use Rattle.machine.specs.Steps.{CanResume, IsLocalStep}
-use Rattle.machine.proofs.Laws.{can_step, can_resume}
+use Rattle.machine.specs.Regions.{IsCodeOf}
+use Rattle.machine.specs.Standing.{MayGive}
+use Rattle.machine.specs.Steps.{IsLocalStep}
+use Rattle.machine.proofs.Laws.{can_step}
+use Rattle.machine.proofs.RunningStands.{running_stands}
 use Rattle.helpers.specs.Serving.{CanServe, IsReply, IsFlagged, grace_of, grace_after, maps_after, world_with}
+use Rattle.helpers.proofs.Giving.{may_give}
 use Rattle.helpers.proofs.Running.{running, flagged, can_be_served}
 use Rattle.helpers.proofs.Stepping.{own_is, own_keeps, own_asks, served_is, goes_on}
 use Rattle.world_parts.specs.declared.loaded.Loaded.{Loaded}
@@ -98,8 +103,10 @@ module _ (loaded : Loaded) (maps : List MapView) (g : GraceState) (r : ℕ) (old
     pub can_serve : CanServe access loaded.maps.items maps mid.view
     can_serve = subst (CanServe access loaded.maps.items maps) (sym same) serves
 
-    pub can_go_on : CanResume loaded.verified.program mid.view
-    can_go_on = subst (CanResume loaded.verified.program) (sym same) (can.ask.resume i access can.step.here asks)
+    pub can_give : (word : ℕ) → IsReply access loaded.maps.items maps mid.view word → MayGive loaded.verified mid.view access word
+    can_give word reply =
+        subst (λ (u : RunView). MayGive loaded.verified u access word) (sym same)
+        (can.ask.give i access word can.step.here (own_asks i v mid.view (access_of i v) access h).0 asks (subst (λ (u : RunView). IsReply access loaded.maps.items maps u word) same reply))
 
     here-too : insn_at loaded.verified.program mid.view.place ≡ Some i
     here-too = ap (λ (u : RunView). insn_at loaded.verified.program u.place) same ∙ can.step.here
@@ -148,6 +155,10 @@ module _ (maps : List MapView) (runs : List (Option RunWords)) (g : GraceState) 
   run-at : (run : RunWords) → slice_get runs r ≡ Some (Some run) → slice_get w.runs r ≡ Some (Some run.view)
   run-at run e = slice_get-map view_of runs r ∙ ap (option_map view_of) e
 
+  -- a loaded program's code is that of the program that the world shows
+  code-of : (loaded : Loaded) (p : ℕ) → slice_get programs p ≡ Some loaded → IsJustified loaded.verified → IsCodeOf loaded.verified (shapes_of w) (program_of loaded)
+  code-of loaded p e justified = record { justified = justified; code = refl; context = refl; bound = kept.bound p loaded e }
+
   -- in a sound world the run in a slot may make a step, unless that is refused
   pub is_going : (s : Schedule) → Matches w s → IsSound w s → step_refused (option_flatten (slice_get w.runs r)) ≡ None → IsGoing runs programs maps g r
   is_going s m sound e =
@@ -165,16 +176,13 @@ module _ (maps : List MapView) (runs : List (Option RunWords)) (g : GraceState) 
         of = of.there;
         may = record {
           can = λ justified. record {
-            stands = of.stands;
-            step = can_step w s m sound r y.0 x.0.view y.1 (program_of of.program) at of.program.verified (record {
-              justified = justified;
-              code = refl;
-              context = refl;
-              bound = kept.bound x.0.view.program of.program of.there;
-            });
+            stands = record { at = of.stands; stands = running_stands w s m sound r y.0 x.0.view y.1 (program_of of.program) at of.program.verified (code-of of.program x.0.view.program of.there justified) };
+            step = can_step w s m sound r y.0 x.0.view y.1 (program_of of.program) at of.program.verified (code-of of.program x.0.view.program of.there justified);
             ask = record {
               serve = can_be_served w s m sound r y.0 x.0.view y.1 (program_of of.program) at;
-              resume = can_resume w s m sound r y.0 x.0.view y.1 (program_of of.program) at;
+              give = λ i access word here waits asked reply.
+                  may_give w s m sound r y.0 x.0.view y.1 (omega (arith, within)) (program_of of.program) at of.program.verified (code-of of.program x.0.view.program of.there justified) i access word here waits asked
+                  (can_be_served w s m sound r y.0 x.0.view y.1 (program_of of.program) at i access here waits asked) reply;
             };
             flag = record { slot = within; inside = f.awaited };
             opened = f.opened;

@@ -12,24 +12,28 @@ use Rattle.world_laws.specs.Reacting.{insn_step}
 use Rattle.machine.specs.declared.access.Access.{Access}
 use Rattle.machine.specs.Requests.{access_of}
 use Rattle.machine.specs.RunWords.{RunWords, IsAt}
-use Rattle.machine.specs.Steps.{CanStep, CanResume}
-use Rattle.helpers.specs.Serving.{CanServe, HasFlag, grace_of, world_with}
+use Rattle.machine.specs.Standing.{IsStanding, MayGive}
+use Rattle.machine.specs.Steps.{CanStep}
+use Rattle.helpers.specs.Serving.{CanServe, HasFlag, IsReply, grace_of}
+use Rattle.helpers.specs.Serving.{world_with}
 use Rattle.world_parts.specs.declared.loaded.Loaded.{Loaded}
 use Rattle.world_parts.specs.Programs.{program_of}
 
--- What a run asks can be served, and it may go on with the reply.
+-- What a run asks can be served, by a word that the access can give.
 pub record CanAsk (loaded : Loaded) (maps : List MapView) (v : RunView) : Type 0 where
   pub serve : (i : Insn) (access : Access) → insn_at loaded.verified.program v.place ≡ Some i →
       local_of i v ≡ Asks
       → access_of i v ≡ Some access → CanServe access loaded.maps.items maps v
-  pub resume : (i : Insn) (access : Access) → insn_at loaded.verified.program v.place ≡ Some i
-      → access_of i v ≡ Some access → CanResume loaded.verified.program v
+  pub give : (i : Insn) (access : Access) (word : ℕ) →
+      insn_at loaded.verified.program v.place ≡ Some i → local_of i v ≡ Asks
+      → access_of i v ≡ Some access → IsReply access loaded.maps.items maps v word →
+      MayGive loaded.verified v access word
 
 -- The run in run slot r may make a step of its program: its flag is what its depth says, and what
 -- it needs is there.
 pub record CanTake (loaded : Loaded) (maps : List MapView) (g : GraceState) (r : ℕ) (run : RunWords)
     : Type 0 where
-  pub stands : IsAt loaded.verified.program run
+  pub stands : IsStanding loaded.verified run
   pub step : CanStep loaded.verified run.view
   pub ask : CanAsk loaded maps run.view
   pub flag : HasFlag g r

@@ -30,18 +30,18 @@ impl Parts {
         ensures answer { brief_answer result ≡ (start_reaction self.old prog ctx.now.items).0 }
         ensures new { self.new ≡ (start_reaction self.old prog ctx.now.items).1 }
     {
-        let len = match program_at(&self.programs, prog) {
+        let verified = match program_at(&self.programs, prog) {
             None => return Brief::Refused(EventRefusal::NoProgram),
-            Some(program) => program.verified.ctx_len(),
+            Some(program) => &program.verified,
         };
-        if ctx.len() != len {
+        if ctx.len() != verified.ctx_len() {
             return Brief::Refused(EventRefusal::BadContext);
         }
         match lowest_free(&self.runs) {
             None => Brief::Refused(EventRefusal::RunsFull),
             Some(slot) => {
                 self.grace.keeps_awaited_open();
-                self.runs[slot] = Some(Run::start(prog.index(), ctx));
+                self.runs[slot] = Some(Run::start(verified, prog.index(), ctx));
                 Brief::Started(RunId::new(slot))
             }
         }

@@ -1,10 +1,10 @@
 use Rattle.std.proofs.Common.{◌∙◌, ℕ, sym, ap, subst, List}
 use Rattle.helpers.specs.Serving.{CanServe, IsReply, maps_after}
-use Rattle.world_parts.proofs.Stepping.{moved_taken, exited_taken, can_serve, can_go_on, served_taken}
+use Rattle.world_parts.proofs.Stepping.{moved_taken, exited_taken, can_serve, can_give, served_taken}
 use Rattle.world_parts.proofs.step.step_run.Goals as goal
 
-pub local_step-requires-clause-can : goal.local_step-requires-clause-can
-local_step-requires-clause-can c = (c.requires.can c.program-justified.ensures.justified).step
+pub local_step-requires : goal.local_step-requires
+local_step-requires c = (c.requires.can c.program-justified.ensures.justified).stands
 
 pub serve-word-requires-clause-serve : goal.serve-word-requires-clause-serve
 serve-word-requires-clause-serve c =
@@ -12,10 +12,16 @@ serve-word-requires-clause-serve c =
     subst (λ (l : List ℕ). CanServe c.in-Shared.access l c.args.maps.now.maps c.local_step.new.self.view) (sym c.as_slice.ensures.value)
     (can_serve c.args.loaded.now c.args.maps.now.maps c.args.grace.now c.args.run_slot c.args.run.now can c.in-Shared.access c.local_step.new.self (c.in-Shared.ensures.step can.step.insn can.step.here))
 
-pub resume-requires-clause-can : goal.resume-requires-clause-can
-resume-requires-clause-can c =
+pub resume-requires : goal.resume-requires
+resume-requires c =
     let can = c.requires.can c.program-justified.ensures.justified in
-    can_go_on c.args.loaded.now c.args.maps.now.maps c.args.grace.now c.args.run_slot c.args.run.now can c.in-Shared.access c.local_step.new.self (c.in-Shared.ensures.step can.step.insn can.step.here)
+    record {
+      access = c.in-Shared.access;
+      awaits = c.in-Shared.ensures.stands;
+      given =
+          can_give c.args.loaded.now c.args.maps.now.maps c.args.grace.now c.args.run_slot c.args.run.now can c.in-Shared.access c.local_step.new.self (c.in-Shared.ensures.step can.step.insn can.step.here) c.serve-word.result
+          (subst (λ (l : List ℕ). IsReply c.in-Shared.access l c.args.maps.now.maps c.local_step.new.self.view c.serve-word.result) c.as_slice.ensures.value c.serve-word.ensures.word);
+    }
 
 pub returns-in-Moved : goal.returns-in-Moved
 returns-in-Moved c =
