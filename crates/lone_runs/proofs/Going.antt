@@ -40,8 +40,10 @@ use Rattle.machine.specs.declared.access.Access.{Access}
 use Rattle.machine.specs.declared.access.Access.TheVariants as accesses
 use Rattle.machine.specs.declared.access.Local.TheVariants as locals
 use Rattle.machine.specs.Requests.{access_of, entered_view, resumed_view, section_access}
-use Rattle.machine.specs.Steps.{CanResume, CanStep, IsLocalStep}
-use Rattle.machine.proofs.Laws.{can_resume, can_step}
+use Rattle.machine.specs.Standing.{MayGive, StandsBy}
+use Rattle.machine.specs.Steps.{CanStep, IsLocalStep}
+use Rattle.machine.proofs.Laws.{can_step}
+use Rattle.machine.proofs.RunningStands.{running_stands}
 use Rattle.machine.proofs.Reacting.{own_step, reacts_by_insn}
 use Rattle.lone_runs.specs.Lone.{StandsAlone, loaded_alone}
 use Rattle.lone_runs.proofs.Alone.{StepsAnywhere, steps_anywhere}
@@ -108,6 +110,11 @@ pub record Further (v : Checked) (view new : RunView) : Type 0 where
   pub context : new.context ≡ view.context
   pub moved : new.moved ≡ view.moved + 1
 
+-- a lock and an unlock may be answered by any word
+section-given : (v : Checked) (view : RunView) (f : KernelFunction) → MayGive v view (section_access f) 0
+section-given v view ReadLock = tt
+section-given v view ReadUnlock = tt
+
 module _ (v : Checked) (view : RunView) (x : StandsAlone v view) where
   abbrev matches : Matches x.world x.schedule
   matches = tracked_matches x.world x.schedule x.tracks
@@ -124,7 +131,7 @@ module _ (v : Checked) (view : RunView) (x : StandsAlone v view) where
   loaded : slice_get x.world.programs view.program ≡ Some (loaded_alone v)
   loaded = ap (λ (ps : List Loaded). slice_get ps view.program) matches.refines.programs ∙ refined.program ∙ ap Some x.program
 
-  -- the run's steps may be made, and those that ask may be resumed
+  -- the run's steps may be made, and its words stand for it
   pub steps : CanStep v view
   steps = can_step x.world x.schedule matches sound 0 x.run view x.running (loaded_alone v) loaded v (record {
     justified = x.justified;
@@ -133,8 +140,13 @@ module _ (v : Checked) (view : RunView) (x : StandsAlone v view) where
     bound = sym (ap (map Some) x.without_maps);
   })
 
-  pub resumes : (insn : Insn) (access : Access) → insn_at v.program view.place ≡ Some insn → access_of insn view ≡ Some access → CanResume v.program view
-  resumes insn access = can_resume x.world x.schedule matches sound 0 x.run view x.running (loaded_alone v) loaded insn access
+  pub standing : StandsBy v view
+  standing = running_stands x.world x.schedule matches sound 0 x.run view x.running (loaded_alone v) loaded v (record {
+    justified = x.justified;
+    code = refl;
+    context = refl;
+    bound = sym (ap (map Some) x.without_maps);
+  })
 
   -- it has moved less often than its program has instructions
   pub moves-below : view.moved < length v.program
@@ -282,8 +294,8 @@ module _ (v : Checked) (view : RunView) (x : StandsAlone v view) where
   pub shares : (access : Access) (after : RunView) → Shares access after → AsksSection view after steps.insn access
   shares access after s = asks steps.insn steps.here access after (s steps.insn steps.here)
 
-  pub resumable : (access : Access) (after : RunView) → Shares access after → CanResume v.program after
-  resumable access after s = let a = shares access after s in subst (CanResume v.program) (sym a.same) (resumes steps.insn access steps.here a.asked)
+  pub given : (access : Access) (after : RunView) → Shares access after → MayGive v after access 0
+  given access after s = let a = shares access after s in subst (λ (q : Access). MayGive v after q 0) (sym a.access_is) (section-given v after a.function)
 
   pub resumed : (access : Access) (after new : RunView) (word : ℕ) → Shares access after → ((insn : Insn) → insn_at v.program after.place ≡ Some insn → new ≡ resumed_view insn word after) → Further v view new
   resumed access after new word s h =

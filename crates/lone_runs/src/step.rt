@@ -26,7 +26,7 @@ pub fn start_alone(verified: &Verified, ctx: &CtxBytes) -> Run
 {
     let _program = verified.program();
     are_bytes(ctx.as_slice());
-    Run::start(0, ctx)
+    Run::start(verified, 0, ctx)
 }
 
 /// One step of a lone run: it stays a lone run on its context, with one move more; or it exits, with the

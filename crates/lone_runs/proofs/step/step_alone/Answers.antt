@@ -1,12 +1,16 @@
 use Rattle.std.proofs.Common.{inl, inr, refl}
-use Rattle.lone_runs.proofs.Going.{steps, moves, exits, shares, asks-else, resumable, resumed}
+use Rattle.lone_runs.proofs.Going.{steps, standing, moves, exits, given, shares, asks-else, resumed}
 use Rattle.lone_runs.proofs.step.step_alone.Goals as goal
 
-pub local_step-requires-clause-can : goal.local_step-requires-clause-can
-local_step-requires-clause-can c = steps c.args.verified.now c.args.run.now.view c.requires.stands
+pub local_step-requires : goal.local_step-requires
+local_step-requires c = record { at = c.requires.at; stands = standing c.args.verified.now c.args.run.now.view c.requires.stands }
 
-pub resume-requires-clause-can : goal.resume-requires-clause-can
-resume-requires-clause-can c = resumable c.args.verified.now c.args.run.now.view c.requires.stands c.in-Shared.access c.local_step.new.self.view c.in-Shared.ensures.step
+pub resume-requires : goal.resume-requires
+resume-requires c = record {
+  access = c.in-Shared.access;
+  awaits = c.in-Shared.ensures.stands;
+  given = given c.args.verified.now c.args.run.now.view c.requires.stands c.in-Shared.access c.local_step.new.self.view c.in-Shared.ensures.step;
+}
 
 pub unreachable-requires : goal.unreachable-requires
 unreachable-requires c =
