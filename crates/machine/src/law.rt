@@ -19,7 +19,7 @@ ghost use Rattle.machine.specs.Regions.{IsCodeOf};
 ghost use Rattle.machine.specs.Replies.{IsOwnStep, ServesAccess};
 ghost use Rattle.machine.specs.Requests.{access_of};
 ghost use Rattle.machine.specs.Standing.{StandsBy};
-ghost use Rattle.machine.specs.Steps.{CanStep, CanResume, IsLocalStep};
+ghost use Rattle.machine.specs.Steps.{CanStep, IsLocalStep};
 
 /// A run that has not ended may step, by the code of its program: whatever it reaches lies in the
 /// region that the code has noted.
@@ -36,16 +36,6 @@ pub fn running_stands()
         (r : ℕ) (run : Run) (v : RunView) → IsRunning w s r run v →
         (program : Loaded) → slice_get w.programs v.program ≡ Some program →
         (c : Checked) → IsCodeOf c (shapes_of w) program → StandsBy c v }
-{}
-
-/// Where the instruction of a run that has not ended asks something, the run may resume after the
-/// reply.
-pub fn running_can_resume()
-    ensures { (w : WorldView) (s : Schedule) → Matches w s → IsSound w s →
-        (r : ℕ) (run : Run) (v : RunView) → IsRunning w s r run v →
-        (program : Loaded) → slice_get w.programs v.program ≡ Some program →
-        (insn : Insn) (access : Access) → insn_at program.code v.place ≡ Some insn →
-        access_of insn v ≡ Some access → CanResume program.code v }
 {}
 
 /// The world's step of an instruction that asks something is to serve the request, and to resume the run.

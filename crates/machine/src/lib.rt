@@ -22,8 +22,7 @@ mod workspace;
 
 pub use access::{Access, Local, Next};
 pub use law::{
-    own_step_is_the_worlds, reacts_by_insn, running_can_resume, running_can_step, running_stands,
-    served_as_asked,
+    own_step_is_the_worlds, reacts_by_insn, running_can_step, running_stands, served_as_asked,
 };
 pub use regions::{SLOT_BASE, SPAN};
 pub use run::Run;
