@@ -56,10 +56,10 @@ use Rattle.world_laws.proofs.Own.{insn-real}
 use Rattle.world_laws.proofs.Ready.{near, refines, register-word}
 use Rattle.world_laws.proofs.Shown.{shown}
 use Rattle.world_laws.proofs.Stepping.{full_simulates}
-use Rattle.machine.specs.declared.access.Access.{Access}
-use Rattle.machine.specs.declared.access.Access.TheVariants as accesses
+use Rattle.machine.specs.declared.request.Request.{Request}
+use Rattle.machine.specs.declared.request.Request.TheVariants as requests
 use Rattle.machine.specs.Regions.{IsCodeOf}
-use Rattle.machine.specs.Requests.{access_of, entered_view, resumed_view, section_access}
+use Rattle.machine.specs.Requests.{request_of, entered_view, resumed_view, section_request}
 use Rattle.machine.specs.Standing.{MayGive, StandsBy}
 use Rattle.machine.proofs.Laws.{same-program}
 use Rattle.machine.proofs.Reacting.{reacts_by_insn}
@@ -182,52 +182,52 @@ module _ (w : WorldView) (s : Schedule) (m : Matches w s) (sound : IsSound w s) 
           programs = subst AreRealPrograms (sym kept.1) sound.programs;
         }
 
-    next-stands : (insn : Insn) (access : Access) (word : ℕ) → insn_at program.code v.place ≡ Some insn → access_of insn v ≡ Some access → CanServe access program.maps w.maps v → IsReply access program.maps w.maps v word → StandsBy c (resumed_view insn word v)
-    next-stands insn access word at-place asked can reply =
+    next-stands : (insn : Insn) (request : Request) (word : ℕ) → insn_at program.code v.place ≡ Some insn → request_of insn v ≡ Some request → CanServe request program.maps w.maps v → IsReply request program.maps w.maps v word → StandsBy c (resumed_view insn word v)
+    next-stands insn request word at-place asked can reply =
         let new = resumed_view insn word v in
         let after = (full_reaction w (events.Step r)).1 in
         let kept = full_keeps w (events.Step r) in
         let flags = flagged w s m sound r run v k in
         let going : v.exit ≡ None = (refines w s m sound r run v k).exit ∙ k.going in
-        let reacts : full_reaction w (events.Step r) ≡ served_step access insn program word r v w =
-        reacts_by_insn w r v program insn k.shown going at at-place ∙ served_is r v w flags program word insn access asked can reply in
+        let reacts : full_reaction w (events.Step r) ≡ served_step request insn program word r v w =
+        reacts_by_insn w r v program insn k.shown going at at-place ∙ served_is r v w flags program word insn request asked can reply in
         let seen : slice_get after.runs r ≡ Some (Some new) = ap (λ (y : Answer × WorldView). slice_get y.1.runs r) reacts ∙ get-set_there w.runs r (Some v) (Some new) k.shown in
         let y = running after next.next next.matches r new seen (resumed-exit insn word v ∙ going) in
-        let on = goes_on (grace_of w) r v flags.opened flags.depth word insn access asked in
+        let on = goes_on (grace_of w) r v flags.opened flags.depth word insn request asked in
         let there : slice_get after.programs new.program ≡ Some program = ap (λ (ps : List Loaded). slice_get ps new.program) kept.1 ∙ (ap (slice_get w.programs) on.program ∙ at) in
         running_stands after next.next next.matches next-sound r y.0 new y.1 program there c (subst (λ (l : List MapShape). IsCodeOf c l program) (sym kept.0) of)
 
-    abbrev Gives : Access → ℕ → Type 0
-    Gives access word = CanServe access program.maps w.maps v → IsReply access program.maps w.maps v word → MayGive c v access word
+    abbrev Gives : Request → ℕ → Type 0
+    Gives request word = CanServe request program.maps w.maps v → IsReply request program.maps w.maps v word → MayGive c v request word
 
     known : (insn : Insn) → insn_at program.code v.place ≡ Some insn → insn_at run.program.code run.state.place ≡ Some insn
     known insn at-place = ap (λ (p : Loaded). insn_at p.code run.state.place) (same-program w s m sound r run v k program at) ∙ (ap (insn_at program.code) (sym (refines w s m sound r run v k).place) ∙ at-place)
 
-    helper-given : (insn : Insn) (helper : HelperId) (word : ℕ) → insn_at program.code v.place ≡ Some insn → access_of insn v ≡ Some (accesses.Call helper) → Gives (accesses.Call helper) word
+    helper-given : (insn : Insn) (helper : HelperId) (word : ℕ) → insn_at program.code v.place ≡ Some insn → request_of insn v ≡ Some (requests.Call helper) → Gives (requests.Call helper) word
     helper-given insn Lookup word at-place asked can reply = looked-up program.maps word can reply
-    helper-given insn Update word at-place asked can reply = subst (StandsBy c) (returned v insn Update word asked) (next-stands insn (accesses.Call Update) word at-place asked can reply)
-    helper-given insn Delete word at-place asked can reply = subst (StandsBy c) (returned v insn Delete word asked) (next-stands insn (accesses.Call Delete) word at-place asked can reply)
+    helper-given insn Update word at-place asked can reply = subst (StandsBy c) (returned v insn Update word asked) (next-stands insn (requests.Call Update) word at-place asked can reply)
+    helper-given insn Delete word at-place asked can reply = subst (StandsBy c) (returned v insn Delete word asked) (next-stands insn (requests.Call Delete) word at-place asked can reply)
 
-    call-given : (insn : Insn) (o : Option HelperId) (access : Access) (word : ℕ) → insn_at program.code v.place ≡ Some insn → access_of insn v ≡ Some access → option_map accesses.Call o ≡ Some access → Gives access word
-    call-given insn None access word at-place asked e = absurd (none-some access e)
-    call-given insn (Some helper) access word at-place asked e =
-        let same : accesses.Call helper ≡ access = same_Some (accesses.Call helper) access e in
-        subst (λ (a : Access). Gives a word) same (helper-given insn helper word at-place (asked ∙ ap Some (sym same)))
+    call-given : (insn : Insn) (o : Option HelperId) (request : Request) (word : ℕ) → insn_at program.code v.place ≡ Some insn → request_of insn v ≡ Some request → option_map requests.Call o ≡ Some request → Gives request word
+    call-given insn None request word at-place asked e = absurd (none-some request e)
+    call-given insn (Some helper) request word at-place asked e =
+        let same : requests.Call helper ≡ request = same_Some (requests.Call helper) request e in
+        subst (λ (a : Request). Gives a word) same (helper-given insn helper word at-place (asked ∙ ap Some (sym same)))
 
-    section-given : (f : KernelFunction) (word : ℕ) → Gives (section_access f) word
+    section-given : (f : KernelFunction) (word : ℕ) → Gives (section_request f) word
     section-given ReadLock word can reply = tt
     section-given ReadUnlock word can reply = tt
 
-    kernel-given : (o : Option KernelFunction) (access : Access) (word : ℕ) → option_map section_access o ≡ Some access → Gives access word
-    kernel-given None access word e = absurd (none-some access e)
-    kernel-given (Some f) access word e = subst (λ (a : Access). Gives a word) (same_Some (section_access f) access e) (section-given f word)
+    kernel-given : (o : Option KernelFunction) (request : Request) (word : ℕ) → option_map section_request o ≡ Some request → Gives request word
+    kernel-given None request word e = absurd (none-some request e)
+    kernel-given (Some f) request word e = subst (λ (a : Request). Gives a word) (same_Some (section_request f) request e) (section-given f word)
 
-    pub may_give : (insn : Insn) (access : Access) (word : ℕ) → insn_at program.code v.place ≡ Some insn → local_of insn v ≡ Asks → access_of insn v ≡ Some access → Gives access word
-    may_give (insns.Load width dst src offset) access word at-place waits asked =
-        subst (λ (a : Access). Gives a word) (same_Some _ access asked) (λ can reply. subst (λ (x : ℕ). x < 256 ^ byte_count width) (sym reply) (load-given width dst src offset (known (insns.Load width dst src offset) at-place) waits))
-    may_give (insns.LoadSigned width dst src offset) access word at-place waits asked =
-        subst (λ (a : Access). Gives a word) (same_Some _ access asked) (λ can reply. subst (λ (x : ℕ). x < 256 ^ byte_count (unsigned_width width)) (sym reply) (load-signed-given width dst src offset (known (insns.LoadSigned width dst src offset) at-place) waits))
-    may_give (insns.Store width dst offset src) access word at-place waits asked = subst (λ (a : Access). Gives a word) (same_Some _ access asked) (λ can reply. tt)
-    may_give (insns.Call kinds.Helper imm) access word at-place waits asked = call-given (insns.Call kinds.Helper imm) (helper_of imm) access word at-place asked asked
-    may_give (insns.Call kinds.Kernel imm) access word at-place waits asked = kernel-given (kernel_function_of imm) access word asked
-    may_give insn access word at-place waits asked = absurd (none-some access asked)
+    pub may_give : (insn : Insn) (request : Request) (word : ℕ) → insn_at program.code v.place ≡ Some insn → local_of insn v ≡ Asks → request_of insn v ≡ Some request → Gives request word
+    may_give (insns.Load width dst src offset) request word at-place waits asked =
+        subst (λ (a : Request). Gives a word) (same_Some _ request asked) (λ can reply. subst (λ (x : ℕ). x < 256 ^ byte_count width) (sym reply) (load-given width dst src offset (known (insns.Load width dst src offset) at-place) waits))
+    may_give (insns.LoadSigned width dst src offset) request word at-place waits asked =
+        subst (λ (a : Request). Gives a word) (same_Some _ request asked) (λ can reply. subst (λ (x : ℕ). x < 256 ^ byte_count (unsigned_width width)) (sym reply) (load-signed-given width dst src offset (known (insns.LoadSigned width dst src offset) at-place) waits))
+    may_give (insns.Store width dst offset src) request word at-place waits asked = subst (λ (a : Request). Gives a word) (same_Some _ request asked) (λ can reply. tt)
+    may_give (insns.Call kinds.Helper imm) request word at-place waits asked = call-given (insns.Call kinds.Helper imm) (helper_of imm) request word at-place asked asked
+    may_give (insns.Call kinds.Kernel imm) request word at-place waits asked = kernel-given (kernel_function_of imm) request word asked
+    may_give insn request word at-place waits asked = absurd (none-some request asked)

@@ -27,9 +27,9 @@ use Rattle.world_laws.proofs.Ready.{refines}
 use Rattle.bpf_model.proofs.Cases.{run-behind}
 use Rattle.machine.proofs.Laws.{same-program}
 use Rattle.world_laws.proofs.Reaching.{load_reaches, load_signed_reaches, store_reaches, helper_arguments}
-use Rattle.machine.specs.declared.access.Access.{Access}
-use Rattle.machine.specs.declared.access.Access.TheVariants.{Call}
-use Rattle.machine.specs.Requests.{access_of, section_access}
+use Rattle.machine.specs.declared.request.Request.{Request}
+use Rattle.machine.specs.declared.request.Request.TheVariants.{Call}
+use Rattle.machine.specs.Requests.{request_of, section_request}
 use Rattle.helpers.specs.Elements.{ReachesElement}
 use Rattle.helpers.specs.Serving.{CanServe, IsFlagged}
 use Rattle.std.specs.Option.{option_flatten}
@@ -65,33 +65,33 @@ module _ (w : WorldView) (s : Schedule) (m : Matches w s) (sound : IsSound w s) 
         depth = subst (λ n. n ≤ MAX_DEPTH) (sym depth) (m.scheduled.consistent.deep r run k.there);
       }
 
-  abbrev Can : Access → Type 0
-  Can access = CanServe access run.program.maps w.maps v
+  abbrev Can : Request → Type 0
+  Can request = CanServe request run.program.maps w.maps v
 
-  sections : (f : KernelFunction) → Can (section_access f)
+  sections : (f : KernelFunction) → Can (section_request f)
   sections ReadLock = tt
   sections ReadUnlock = tt
 
-  passes : (o : Option KernelFunction) (access : Access) → option_map section_access o ≡ Some access → Can access
-  passes None access e = absurd (none-some access e)
-  passes (Some f) access e = subst Can (same_Some (section_access f) access e) (sections f)
+  passes : (o : Option KernelFunction) (request : Request) → option_map section_request o ≡ Some request → Can request
+  passes None request e = absurd (none-some request e)
+  passes (Some f) request e = subst Can (same_Some (section_request f) request e) (sections f)
 
-  can-here : (i : Insn) (access : Access) → insn_at run.program.code run.state.place ≡ Some i → local_of i v ≡ Asks → access_of i v ≡ Some access → Can access
-  can-here (insns.Load width dst src offset) access here asks e = subst Can (same_Some _ access e)
+  can-here : (i : Insn) (request : Request) → insn_at run.program.code run.state.place ≡ Some i → local_of i v ≡ Asks → request_of i v ≡ Some request → Can request
+  can-here (insns.Load width dst src offset) request here asks e = subst Can (same_Some _ request e)
       (loads-element w v (byte_count width) offset dst (λ n. n) (location_of (word_in v src)) (load_reaches w s m sound r run v k width dst src offset here) asks)
-  can-here (insns.LoadSigned width dst src offset) access here asks e = subst Can (same_Some _ access e)
+  can-here (insns.LoadSigned width dst src offset) request here asks e = subst Can (same_Some _ request e)
       (loads-element w v (byte_count (unsigned_width width)) offset dst (loaded_signed width) (location_of (word_in v src)) (load_signed_reaches w s m sound r run v k width dst src offset here) asks)
-  can-here (insns.Store width dst offset src) access here asks e = subst Can (same_Some _ access e)
+  can-here (insns.Store width dst offset src) request here asks e = subst Can (same_Some _ request e)
       (stores-element w v (byte_count width) offset (operand_word v src) (location_of (word_in v dst)) (store_reaches w s m sound r run v k width dst offset src here) asks)
-  can-here (insns.Call Helper imm) access here asks e =
+  can-here (insns.Call Helper imm) request here asks e =
       let x = helper_arguments w s m sound r run v k imm here in
-      subst Can (same_Some (Call x.0) access (ap (option_map Call) (sym x.1) ∙ e)) x.2
-  can-here (insns.Call Kernel imm) access here asks e = passes (kernel_function_of imm) access e
-  can-here i access here asks e = absurd (none-some access e)
+      subst Can (same_Some (Call x.0) request (ap (option_map Call) (sym x.1) ∙ e)) x.2
+  can-here (insns.Call Kernel imm) request here asks e = passes (kernel_function_of imm) request e
+  can-here i request here asks e = absurd (none-some request e)
 
   abbrev Servable : Loaded → Type 0
-  Servable program = (i : Insn) (access : Access) → insn_at program.code v.place ≡ Some i → local_of i v ≡ Asks → access_of i v ≡ Some access → CanServe access program.maps w.maps v
+  Servable program = (i : Insn) (request : Request) → insn_at program.code v.place ≡ Some i → local_of i v ≡ Asks → request_of i v ≡ Some request → CanServe request program.maps w.maps v
 
   pub can_be_served : (program : Loaded) → slice_get w.programs v.program ≡ Some program → Servable program
   can_be_served program at = subst Servable (same-program w s m sound r run v k program at)
-      (λ i access here. can-here i access (sym (ap (insn_at run.program.code) (refines w s m sound r run v k).place) ∙ here))
+      (λ i request here. can-here i request (sym (ap (insn_at run.program.code) (refines w s m sound r run v k).place) ∙ here))

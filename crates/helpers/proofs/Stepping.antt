@@ -29,12 +29,12 @@ use Rattle.world_laws.specs.Moving.{word_in, operand_word, with_word, jumped_to,
 use Rattle.world_laws.specs.Local.{LocalStep, Goes, Ends, Asks, local_of, local_load, local_store, Agrees}
 use Rattle.world_laws.specs.Reacting.{insn_step}
 use Rattle.world_laws.proofs.Local.{local_agrees}
-use Rattle.machine.specs.declared.access.Access.{Access}
-use Rattle.machine.specs.declared.access.Access.TheVariants.{Call, Enter, Leave}
-use Rattle.machine.specs.declared.access.Local as code
-use Rattle.machine.specs.declared.access.Local.TheVariants as code_answers
+use Rattle.machine.specs.declared.request.Request.{Request}
+use Rattle.machine.specs.declared.request.Request.TheVariants.{Call, Enter, Leave}
+use Rattle.machine.specs.declared.request.Local as code
+use Rattle.machine.specs.declared.request.Local.TheVariants as code_answers
 use Rattle.machine.specs.Steps.{IsLocalStep}
-use Rattle.machine.specs.Requests.{access_of, section_access, entered_view, resumed_view}
+use Rattle.machine.specs.Requests.{request_of, section_request, entered_view, resumed_view}
 use Rattle.world_laws.specs.Reaching.{IsCall}
 use Rattle.helpers.specs.Calls.{called, called_on, called_at}
 use Rattle.helpers.specs.Elements.{ReachesElement, element_number, maps_after_store, stored_element}
@@ -106,23 +106,23 @@ module _ (r : ℕ) (v : RunView) (w : WorldView) (f : IsFlagged w r v) where
 
   module _ (program : Loaded) (word : ℕ) where
     -- the world once the request is served and the run has gone on
-    abbrev Done : Insn → Access → Type 0
-    Done i access = insn_step i program r v w ≡ (answers.Moved, world_with (maps_after access program.maps v w.maps) (grace_after access r (grace_of w)) r (resumed_view i word v) w)
+    abbrev Done : Insn → Request → Type 0
+    Done i request = insn_step i program r v w ≡ (answers.Moved, world_with (maps_after request program.maps v w.maps) (grace_after request r (grace_of w)) r (resumed_view i word v) w)
 
-    abbrev Served : Insn → Access → Type 0
-    Served i access = CanServe access program.maps w.maps v → IsReply access program.maps w.maps v word → Done i access
+    abbrev Served : Insn → Request → Type 0
+    Served i request = CanServe request program.maps w.maps v → IsReply request program.maps w.maps v word → Done i request
 
-    calls : (imm : ℤ) (o : Option HelperId) (access : Access) → helper_of imm ≡ o → option_map Call o ≡ Some access → Served (insns.Call Helper imm) access
-    calls imm None access e g = λ can reply. absurd (none-some access g)
-    calls imm (Some helper) access e g = subst (Served (insns.Call Helper imm)) (same_Some (Call helper) access g) (λ can reply.
+    calls : (imm : ℤ) (o : Option HelperId) (request : Request) → helper_of imm ≡ o → option_map Call o ≡ Some request → Served (insns.Call Helper imm) request
+    calls imm None request e g = λ can reply. absurd (none-some request g)
+    calls imm (Some helper) request e g = subst (Served (insns.Call Helper imm)) (same_Some (Call helper) request g) (λ can reply.
         ap (λ (o : Option HelperId). helper_called o program r v w) e ∙ helped_is helper program can word reply)
 
-    passes : (imm : ℤ) (o : Option KernelFunction) (access : Access) → kernel_function_of imm ≡ o → option_map section_access o ≡ Some access → Served (insns.Call Kernel imm) access
-    passes imm None access e g = λ can reply. absurd (none-some access g)
-    passes imm (Some ReadLock) access e g = subst (Served (insns.Call Kernel imm)) (same_Some Enter access g) (λ can reply.
+    passes : (imm : ℤ) (o : Option KernelFunction) (request : Request) → kernel_function_of imm ≡ o → option_map section_request o ≡ Some request → Served (insns.Call Kernel imm) request
+    passes imm None request e g = λ can reply. absurd (none-some request g)
+    passes imm (Some ReadLock) request e g = subst (Served (insns.Call Kernel imm)) (same_Some Enter request g) (λ can reply.
         ap (λ (o : Option KernelFunction). calling.kernel_called o r v w) e ∙ passed (locked_view v) true (lt-ltb 0 (v.depth + 1) (omega arith))
         ∙ ap (λ (o : Option KernelFunction). (let y : Answer × WorldView = (answers.Moved, world_with w.maps (grace_after Enter r (grace_of w)) r (entered_view o v) w) in y)) (sym e))
-    passes imm (Some ReadUnlock) access e g = subst (Served (insns.Call Kernel imm)) (same_Some Leave access g) (λ can reply.
+    passes imm (Some ReadUnlock) request e g = subst (Served (insns.Call Kernel imm)) (same_Some Leave request g) (λ can reply.
         ap (λ (o : Option KernelFunction). calling.kernel_called o r v w) e ∙ passed (unlocked_view v) false (le-ltb 0 (v.depth - 1) (omega (arith, f.depth)))
         ∙ ap (λ (o : Option KernelFunction). (let y : Answer × WorldView = (answers.Moved, world_with w.maps (grace_after Leave r (grace_of w)) r (entered_view o v) w) in y)) (sym e))
 
@@ -131,16 +131,16 @@ module _ (r : ℕ) (v : RunView) (w : WorldView) (f : IsFlagged w r v) where
     loads i make dst width address offset can reply =
         ap (λ (n : ℕ). moves_on r (with_word 1 dst (make n) v) w) (loaded_is w v width offset (location_of address) can ∙ sym reply) ∙ moved w.maps (with_word 1 dst (make word) v) refl
 
-    pub served_is : (i : Insn) (access : Access) → access_of i v ≡ Some access → Served i access
-    served_is (insns.Load width dst src offset) access e = subst (Served (insns.Load width dst src offset)) (same_Some _ access e)
+    pub served_is : (i : Insn) (request : Request) → request_of i v ≡ Some request → Served i request
+    served_is (insns.Load width dst src offset) request e = subst (Served (insns.Load width dst src offset)) (same_Some _ request e)
         (loads (insns.Load width dst src offset) (λ n. n) dst (byte_count width) (word_in v src) offset)
-    served_is (insns.LoadSigned width dst src offset) access e = subst (Served (insns.LoadSigned width dst src offset)) (same_Some _ access e)
+    served_is (insns.LoadSigned width dst src offset) request e = subst (Served (insns.LoadSigned width dst src offset)) (same_Some _ request e)
         (loads (insns.LoadSigned width dst src offset) (loaded_signed width) dst (byte_count (unsigned_width width)) (word_in v src) offset)
-    served_is (insns.Store width dst offset src) access e = subst (Served (insns.Store width dst offset src)) (same_Some _ access e) (λ can reply.
+    served_is (insns.Store width dst offset src) request e = subst (Served (insns.Store width dst offset src)) (same_Some _ request e) (λ can reply.
         stored (byte_count width) (operand_word v src) offset (location_of (word_in v dst)) can (advanced_view 1 v) refl)
-    served_is (insns.Call Helper imm) access e = calls imm (helper_of imm) access refl e
-    served_is (insns.Call Kernel imm) access e = passes imm (kernel_function_of imm) access refl e
-    served_is i access e = λ can reply. absurd (none-some access e)
+    served_is (insns.Call Helper imm) request e = calls imm (helper_of imm) request refl e
+    served_is (insns.Call Kernel imm) request e = passes imm (kernel_function_of imm) request refl e
+    served_is i request e = λ can reply. absurd (none-some request e)
 
 -- What a run does by itself leaves its depth and its program.
 abbrev pub SameRun : RunView → RunView → Type 0
@@ -189,64 +189,64 @@ keeps-run (insns.Load width dst src offset) v = load-run (byte_count width) offs
 keeps-run (insns.LoadSigned width dst src offset) v = load-run (byte_count (unsigned_width width)) offset dst (loaded_signed width) (location_of (word_in v src)) v
 keeps-run (insns.Store width dst offset src) v = store-run (byte_count width) offset (operand_word v src) (location_of (word_in v dst)) v
 
-module _ (r : ℕ) (v : RunView) (w : WorldView) (f : IsFlagged w r v) (asked : Option Access) (after : RunView) (x : Answer × WorldView) where
+module _ (r : ℕ) (v : RunView) (w : WorldView) (f : IsFlagged w r v) (asked : Option Request) (after : RunView) (x : Answer × WorldView) where
   own : (local : LocalStep) (answer : code.Local) → Agrees local r v w x → KeepsRun v local → IsLocalStep local asked v answer after → IsOwnWorld answer asked r v after w x
   own (Goes new) answer agrees same (e, g) = subst (λ (a : code.Local). IsOwnWorld a asked r v after w x) (sym e)
       (agrees ∙ moved r v w f w.maps new same.0 ∙ ap (λ (n : RunView). (let y : Answer × WorldView = (answers.Moved, world_with w.maps (grace_of w) r n w) in y)) (sym g))
   own (Ends n) answer agrees same (e, g) = subst (λ (a : code.Local). IsOwnWorld a asked r v after w x) (sym e)
       (agrees ∙ ap (λ (u : WorldView). (let y : Answer × WorldView = (answers.Exited n, u) in y)) (kept r v w f w.maps (ended_view n v) refl)
       ∙ ap (λ (u : RunView). (let y : Answer × WorldView = (answers.Exited n, world_with w.maps (grace_of w) r u w) in y)) (sym g))
-  own Asks answer agrees same (access, is, e, g) = subst (λ (a : code.Local). IsOwnWorld a asked r v after w x) (sym e) (is, g)
+  own Asks answer agrees same (request, is, e, g) = subst (λ (a : code.Local). IsOwnWorld a asked r v after w x) (sym e) (is, g)
 
-pub own_is : (i : Insn) (program : Loaded) (r : ℕ) (v after : RunView) (w : WorldView) (asked : Option Access) (answer : code.Local) → IsFlagged w r v → IsLocalStep (local_of i v) asked v answer after → IsOwnWorld answer asked r v after w (insn_step i program r v w)
+pub own_is : (i : Insn) (program : Loaded) (r : ℕ) (v after : RunView) (w : WorldView) (asked : Option Request) (answer : code.Local) → IsFlagged w r v → IsLocalStep (local_of i v) asked v answer after → IsOwnWorld answer asked r v after w (insn_step i program r v w)
 own_is i program r v after w asked answer f h = own r v w f asked after (insn_step i program r v w) (local_of i v) answer (local_agrees i program r v w) (keeps-run i v) h
 
 -- the run after its step is of the same program, and as deep
-pub own_keeps : (i : Insn) (v after : RunView) (asked : Option Access) (answer : code.Local) → IsLocalStep (local_of i v) asked v answer after → SameRun v after
+pub own_keeps : (i : Insn) (v after : RunView) (asked : Option Request) (answer : code.Local) → IsLocalStep (local_of i v) asked v answer after → SameRun v after
 own_keeps i v after asked answer h = by (local_of i v) (keeps-run i v) h
   where
     by : (local : LocalStep) → KeepsRun v local → IsLocalStep local asked v answer after → SameRun v after
     by (Goes new) same (e, g) = subst (SameRun v) (sym g) same
     by (Ends n) same (e, g) = subst (SameRun v) (sym g) (refl, refl)
-    by Asks same (access, is, e, g) = subst (SameRun v) (sym g) (refl, refl)
+    by Asks same (request, is, e, g) = subst (SameRun v) (sym g) (refl, refl)
 
 -- where it asks, it asks by the law too
-pub own_asks : (i : Insn) (v after : RunView) (asked : Option Access) (access : Access) → IsLocalStep (local_of i v) asked v (code_answers.Shared access) after → (local_of i v ≡ Asks) × (asked ≡ Some access) × (after ≡ v)
-own_asks i v after asked access h = by (local_of i v) h
+pub own_asks : (i : Insn) (v after : RunView) (asked : Option Request) (request : Request) → IsLocalStep (local_of i v) asked v (code_answers.Shared request) after → (local_of i v ≡ Asks) × (asked ≡ Some request) × (after ≡ v)
+own_asks i v after asked request h = by (local_of i v) h
   where
-    by : (local : LocalStep) → IsLocalStep local asked v (code_answers.Shared access) after → (local ≡ Asks) × (asked ≡ Some access) × (after ≡ v)
+    by : (local : LocalStep) → IsLocalStep local asked v (code_answers.Shared request) after → (local ≡ Asks) × (asked ≡ Some request) × (after ≡ v)
     by (Goes new) (e, g) = absurd (cc)
     by (Ends n) (e, g) = absurd (cc)
-    by Asks (other, is, e, g) = let same : access ≡ other = cc in (refl, is ∙ ap Some (sym same), g)
+    by Asks (other, is, e, g) = let same : request ≡ other = cc in (refl, is ∙ ap Some (sym same), g)
 
 -- A run that was resumed after a reply: its program, and its flag.
-pub record IsResumed (g : GraceState) (r : ℕ) (v : RunView) (access : Access) (new : RunView) : Type 0 where
+pub record IsResumed (g : GraceState) (r : ℕ) (v : RunView) (request : Request) (new : RunView) : Type 0 where
   pub program : new.program ≡ v.program
-  pub opened : (grace_after access r g).opened ≡ slice_set g.opened r (nat_lt 0 new.depth)
+  pub opened : (grace_after request r g).opened ≡ slice_set g.opened r (nat_lt 0 new.depth)
 
 module _ (g : GraceState) (r : ℕ) (v : RunView) (opened : slice_get g.opened r ≡ Some (nat_lt 0 v.depth)) (depth : v.depth ≤ MAX_DEPTH) (word : ℕ) where
   stays : g.opened ≡ slice_set g.opened r (nat_lt 0 v.depth)
   stays = sym (set-same g.opened r (nat_lt 0 v.depth) opened)
 
-  calls-on : (o : Option HelperId) (access : Access) → option_map Call o ≡ Some access → IsResumed g r v access (returned_view word v)
-  calls-on None access e = absurd (none-some access e)
-  calls-on (Some helper) access e = subst (λ a. IsResumed g r v a (returned_view word v)) (same_Some (Call helper) access e) (record { program = refl; opened = stays })
+  calls-on : (o : Option HelperId) (request : Request) → option_map Call o ≡ Some request → IsResumed g r v request (returned_view word v)
+  calls-on None request e = absurd (none-some request e)
+  calls-on (Some helper) request e = subst (λ a. IsResumed g r v a (returned_view word v)) (same_Some (Call helper) request e) (record { program = refl; opened = stays })
 
-  passes-on : (o : Option KernelFunction) (access : Access) → option_map section_access o ≡ Some access → IsResumed g r v access (entered_view o v)
-  passes-on None access e = absurd (none-some access e)
-  passes-on (Some ReadLock) access e = subst (λ a. IsResumed g r v a (locked_view v)) (same_Some Enter access e) (record {
+  passes-on : (o : Option KernelFunction) (request : Request) → option_map section_request o ≡ Some request → IsResumed g r v request (entered_view o v)
+  passes-on None request e = absurd (none-some request e)
+  passes-on (Some ReadLock) request e = subst (λ a. IsResumed g r v a (locked_view v)) (same_Some Enter request e) (record {
     program = refl;
     opened = ap (λ b. slice_set g.opened r b) (sym (lt-ltb 0 (v.depth + 1) (omega arith)));
   })
-  passes-on (Some ReadUnlock) access e = subst (λ a. IsResumed g r v a (unlocked_view v)) (same_Some Leave access e) (record {
+  passes-on (Some ReadUnlock) request e = subst (λ a. IsResumed g r v a (unlocked_view v)) (same_Some Leave request e) (record {
     program = refl;
     opened = ap (λ b. slice_set g.opened r b) (sym (le-ltb 0 (v.depth - 1) (omega (arith, depth))));
   })
 
-  pub goes_on : (i : Insn) (access : Access) → access_of i v ≡ Some access → IsResumed g r v access (resumed_view i word v)
-  goes_on (insns.Load width dst src offset) access e = subst (λ a. IsResumed g r v a (with_word 1 dst word v)) (same_Some _ access e) (record { program = refl; opened = stays })
-  goes_on (insns.LoadSigned width dst src offset) access e = subst (λ a. IsResumed g r v a (with_word 1 dst (loaded_signed width word) v)) (same_Some _ access e) (record { program = refl; opened = stays })
-  goes_on (insns.Store width dst offset src) access e = subst (λ a. IsResumed g r v a (advanced_view 1 v)) (same_Some _ access e) (record { program = refl; opened = stays })
-  goes_on (insns.Call Helper imm) access e = calls-on (helper_of imm) access e
-  goes_on (insns.Call Kernel imm) access e = passes-on (kernel_function_of imm) access e
-  goes_on i access e = absurd (none-some access e)
+  pub goes_on : (i : Insn) (request : Request) → request_of i v ≡ Some request → IsResumed g r v request (resumed_view i word v)
+  goes_on (insns.Load width dst src offset) request e = subst (λ a. IsResumed g r v a (with_word 1 dst word v)) (same_Some _ request e) (record { program = refl; opened = stays })
+  goes_on (insns.LoadSigned width dst src offset) request e = subst (λ a. IsResumed g r v a (with_word 1 dst (loaded_signed width word) v)) (same_Some _ request e) (record { program = refl; opened = stays })
+  goes_on (insns.Store width dst offset src) request e = subst (λ a. IsResumed g r v a (advanced_view 1 v)) (same_Some _ request e) (record { program = refl; opened = stays })
+  goes_on (insns.Call Helper imm) request e = calls-on (helper_of imm) request e
+  goes_on (insns.Call Kernel imm) request e = passes-on (kernel_function_of imm) request e
+  goes_on i request e = absurd (none-some request e)

@@ -13,16 +13,16 @@ use Rattle.bpf_model.specs.View.{MapView, RunView, WorldView}
 use Rattle.grace_period.specs.State.{GraceState}
 use Rattle.world_laws.specs.Locating.{location_of}
 use Rattle.world_laws.specs.Reaching.{IsCall}
-use Rattle.machine.specs.declared.access.Access.{Access}
-use Rattle.machine.specs.declared.access.Access.TheVariants.{Load, Store, Call, Enter, Leave}
-use Rattle.machine.specs.declared.access.Local.{Local}
-use Rattle.machine.specs.declared.access.Local.TheVariants.{Moved, Shared, Exit}
+use Rattle.machine.specs.declared.request.Request.{Request}
+use Rattle.machine.specs.declared.request.Request.TheVariants.{Load, Store, Call, Enter, Leave}
+use Rattle.machine.specs.declared.request.Local.{Local}
+use Rattle.machine.specs.declared.request.Local.TheVariants.{Moved, Shared, Exit}
 use Rattle.machine.specs.Requests.{resumed_view}
 use Rattle.helpers.specs.Elements.{ReachesElement, element_number, stored_element}
 use Rattle.helpers.specs.Calls.{called}
 
 -- What a request needs: an element where it reaches, or the arguments of a helper.
-abbrev pub CanServe : Access → List ℕ → List MapView → RunView → Type 0
+abbrev pub CanServe : Request → List ℕ → List MapView → RunView → Type 0
 CanServe (Load address offset width) bound maps v =
     ReachesElement maps (byte_count width) offset (location_of address)
 CanServe (Store address offset width number) bound maps v =
@@ -37,28 +37,28 @@ pub record HasFlag (g : GraceState) (run : ℕ) : Type 0 where
   pub inside : still_open g.awaited g.opened ≡ g.awaited
 
 -- The reply of a load or a helper: what the run goes on with. (Any number does for the others.)
-abbrev pub IsReply : Access → List ℕ → List MapView → RunView → ℕ → Type 0
+abbrev pub IsReply : Request → List ℕ → List MapView → RunView → ℕ → Type 0
 IsReply (Load address offset width) bound maps v word =
     word ≡ element_number maps (byte_count width) offset (location_of address)
 IsReply (Call helper) bound maps v word = word ≡ (called helper bound v maps).0
-IsReply access bound maps v word = Unit {0}
+IsReply request bound maps v word = Unit {0}
 
 -- the maps after a request is served
-abbrev pub maps_after : Access → List ℕ → RunView → List MapView → List MapView
+abbrev pub maps_after : Request → List ℕ → RunView → List MapView → List MapView
 maps_after (Store address offset width number) bound v maps =
     stored_element (byte_count width) number offset (location_of address) maps
 maps_after (Call helper) bound v maps = (called helper bound v maps).1
-maps_after access bound v maps = maps
+maps_after request bound v maps = maps
 
 -- these sections are open, and of the awaited ones those are awaited that still are
 abbrev pub with_opened : GraceState → List Bool → GraceState
 with_opened g opened = record { opened = opened; awaited = still_open g.awaited opened }
 
 -- the flags of sections after what the run in this run slot asks is served
-abbrev pub grace_after : Access → ℕ → GraceState → GraceState
+abbrev pub grace_after : Request → ℕ → GraceState → GraceState
 grace_after Enter run g = with_opened g (slice_set g.opened run true)
 grace_after Leave run g = with_opened g (slice_set g.opened run false)
-grace_after access run g = g
+grace_after request run g = g
 
 -- The flag of run slot r is set where the depth of this view says so, no section is awaited that is
 -- not open, and the depth is at most MAX_DEPTH.
@@ -84,17 +84,17 @@ world_with maps g r v w =
 
 -- The run in run slot r has answered its step so, and has this view now: then x is what the world
 -- answers, and the world after it. A run that asks is as before.
-abbrev pub IsOwnWorld : Local → Option Access → ℕ → RunView → RunView → WorldView →
+abbrev pub IsOwnWorld : Local → Option Request → ℕ → RunView → RunView → WorldView →
     Answer × WorldView → Type 0
 IsOwnWorld Moved asked r v after w x = x ≡ (answers.Moved, world_with w.maps (grace_of w) r after w)
 IsOwnWorld (Exit n) asked r v after w x =
     x ≡ (answers.Exited n, world_with w.maps (grace_of w) r after w)
-IsOwnWorld (Shared access) asked r v after w x = (asked ≡ Some access) × (after ≡ v)
+IsOwnWorld (Shared request) asked r v after w x = (asked ≡ Some request) × (after ≡ v)
 
 -- the world's step once the request is served, with this word, and the run has gone on
-abbrev pub served_step : Access → Insn → Loaded → ℕ → ℕ → RunView → WorldView → Answer × WorldView
-served_step access i program word r v w = (
+abbrev pub served_step : Request → Insn → Loaded → ℕ → ℕ → RunView → WorldView → Answer × WorldView
+served_step request i program word r v w = (
   answers.Moved,
-  world_with (maps_after access program.maps v w.maps)
-      (grace_after access r (grace_of w)) r (resumed_view i word v) w,
+  world_with (maps_after request program.maps v w.maps)
+      (grace_after request r (grace_of w)) r (resumed_view i word v) w,
 )

@@ -12,10 +12,10 @@ ghost use Rattle.world_laws.specs.Local.{Asks, local_of};
 ghost use Rattle.world_laws.specs.Reaching as reaching;
 ghost use Rattle.world_laws.specs.Reacting.{insn_step};
 ghost use Rattle.world_laws.specs.Typed.{IsRunning, IsSound};
-ghost use Rattle.machine.specs.declared.access.Access.{Access};
-ghost use Rattle.machine.specs.declared.access.Local.{Local};
+ghost use Rattle.machine.specs.declared.request.Request.{Request};
+ghost use Rattle.machine.specs.declared.request.Local.{Local};
 ghost use Rattle.machine.specs.Regions.{IsCodeOf};
-ghost use Rattle.machine.specs.Requests.{access_of};
+ghost use Rattle.machine.specs.Requests.{request_of};
 ghost use Rattle.machine.specs.Standing.{MayGive};
 ghost use Rattle.machine.specs.Steps.{IsLocalStep};
 ghost use Rattle.helpers.specs.Serving.{CanServe, IsFlagged, IsOwnWorld, IsReply, served_step};
@@ -29,16 +29,16 @@ pub fn occupied_stands()
 /// Where a run's instruction asks something, the world's step is what `serve` leaves, with the
 /// run gone on with the reply.
 pub fn served_is_the_worlds()
-    ensures { (insn : Insn) (access : Access) (program : Loaded) (r : ℕ) (v : RunView)
-        (w : WorldView) (word : ℕ) → IsFlagged w r v → access_of insn v ≡ Some access →
-        CanServe access program.maps w.maps v → IsReply access program.maps w.maps v word →
-        insn_step insn program r v w ≡ served_step access insn program word r v w }
+    ensures { (insn : Insn) (request : Request) (program : Loaded) (r : ℕ) (v : RunView)
+        (w : WorldView) (word : ℕ) → IsFlagged w r v → request_of insn v ≡ Some request →
+        CanServe request program.maps w.maps v → IsReply request program.maps w.maps v word →
+        insn_step insn program r v w ≡ served_step request insn program word r v w }
 {}
 
 /// Where a run's instruction asks nothing, the world's step changes the run alone: maps and flags stay.
 pub fn own_changes_the_run()
     ensures { (insn : Insn) (program : Loaded) (r : ℕ) (v after : RunView) (w : WorldView)
-        (asked : Option Access) (answer : Local) → IsFlagged w r v →
+        (asked : Option Request) (answer : Local) → IsFlagged w r v →
         IsLocalStep (local_of insn v) asked v answer after →
         IsOwnWorld answer asked r v after w (insn_step insn program r v w) }
 {}
@@ -53,9 +53,9 @@ pub fn running_can_be_served()
     ensures served { (w : WorldView) (s : Schedule) → Matches w s → IsSound w s →
         (r : ℕ) (run : Run) (v : RunView) → IsRunning w s r run v →
         (program : Loaded) → slice_get w.programs v.program ≡ Some program →
-        (insn : Insn) (access : Access) → insn_at program.code v.place ≡ Some insn →
-        local_of insn v ≡ Asks → access_of insn v ≡ Some access →
-        CanServe access program.maps w.maps v }
+        (insn : Insn) (request : Request) → insn_at program.code v.place ≡ Some insn →
+        local_of insn v ≡ Asks → request_of insn v ≡ Some request →
+        CanServe request program.maps w.maps v }
 {}
 
 /// In such a world what is served is a word that the access can give, as the code of the run's program asks.
@@ -64,8 +64,8 @@ pub fn served_may_be_given()
         (r : ℕ) (run : Run) (v : RunView) → IsRunning w s r run v → r < 2 ^ 64 →
         (program : Loaded) → slice_get w.programs v.program ≡ Some program →
         (c : Checked) → IsCodeOf c (shapes_of w) program →
-        (insn : Insn) (access : Access) (word : ℕ) →
+        (insn : Insn) (request : Request) (word : ℕ) →
         insn_at program.code v.place ≡ Some insn → local_of insn v ≡ Asks →
-        access_of insn v ≡ Some access → CanServe access program.maps w.maps v →
-        IsReply access program.maps w.maps v word → MayGive c v access word }
+        request_of insn v ≡ Some request → CanServe request program.maps w.maps v →
+        IsReply request program.maps w.maps v word → MayGive c v request word }
 {}

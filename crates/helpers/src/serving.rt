@@ -7,7 +7,7 @@ use crate::element::{load, store};
 use crate::section::{enter, leave};
 use bpf_model::RunId;
 use grace_period::Grace;
-use machine::{Access, Run};
+use machine::{Request, Run};
 use maps::Registry;
 
 /// Serves what the run in a run slot asks, and answers the word with which it goes on. `bound` has
@@ -16,7 +16,7 @@ use maps::Registry;
 /// A load answers the number that it finds, and a helper the word for r0. A store, a lock and
 /// an unlock answer any word: the run makes nothing of it.
 pub fn serve(
-    access: Access,
+    request: Request,
     run: &Run,
     run_slot: RunId,
     bound: &[usize],
@@ -24,19 +24,19 @@ pub fn serve(
     grace: &mut Grace,
 ) -> u64
     requires flag { HasFlag grace.old run_slot }
-    requires serve { CanServe access bound.now maps.old.maps run.now.view }
-    ensures word { IsReply access bound.now maps.old.maps run.now.view result }
-    ensures maps { maps.new.maps ≡ maps_after access bound.now run.now.view maps.old.maps }
+    requires serve { CanServe request bound.now maps.old.maps run.now.view }
+    ensures word { IsReply request bound.now maps.old.maps run.now.view result }
+    ensures maps { maps.new.maps ≡ maps_after request bound.now run.now.view maps.old.maps }
     ensures names { maps.new.names ≡ maps.old.names }
-    ensures grace { grace.new ≡ grace_after access run_slot grace.old }
+    ensures grace { grace.new ≡ grace_after request run_slot grace.old }
 {
-    match access {
-        Access::Load {
+    match request {
+        Request::Load {
             address,
             offset,
             width,
         } => load(maps, address, offset, width),
-        Access::Store {
+        Request::Store {
             address,
             offset,
             width,
@@ -45,12 +45,12 @@ pub fn serve(
             store(maps, address, offset, width, number);
             0
         }
-        Access::Call { helper } => call(helper, run, maps, bound),
-        Access::Enter => {
+        Request::Call { helper } => call(helper, run, maps, bound),
+        Request::Enter => {
             enter(grace, run_slot);
             0
         }
-        Access::Leave => {
+        Request::Leave => {
             leave(grace, run_slot);
             0
         }

@@ -36,10 +36,10 @@ use Rattle.world_laws.proofs.Local.{asks_nothing}
 use Rattle.world_laws.proofs.Ready.{refines}
 use Rattle.world_laws.proofs.Worlds.{ready_stays, simulates, tracked_is_sound}
 use Rattle.verifier.specs.Checked.{Checked}
-use Rattle.machine.specs.declared.access.Access.{Access}
-use Rattle.machine.specs.declared.access.Access.TheVariants as accesses
-use Rattle.machine.specs.declared.access.Local.TheVariants as locals
-use Rattle.machine.specs.Requests.{access_of, entered_view, resumed_view, section_access}
+use Rattle.machine.specs.declared.request.Request.{Request}
+use Rattle.machine.specs.declared.request.Request.TheVariants as requests
+use Rattle.machine.specs.declared.request.Local.TheVariants as locals
+use Rattle.machine.specs.Requests.{request_of, entered_view, resumed_view, section_request}
 use Rattle.machine.specs.Standing.{MayGive, StandsBy}
 use Rattle.machine.specs.Steps.{CanStep, IsLocalStep}
 use Rattle.machine.proofs.Laws.{can_step}
@@ -56,48 +56,48 @@ set-there runs old new None e h = absurd (none-some old h)
 set-there runs old new (Some before) e h = get-set_there runs 0 before new e
 
 -- what asks nothing isn't shared
-never-shared : (l : laws.LocalStep) (asked : Option Access) (view after : RunView) (access : Access) → laws.AsksNothing l → IsLocalStep l asked view (locals.Shared access) after → ⊥
-never-shared (laws.Goes new) asked view after access a h = let e : locals.Shared access ≡ locals.Moved = h.0 in absurd (cc)
-never-shared (laws.Ends n) asked view after access a h = let e : locals.Shared access ≡ locals.Exit n = h.0 in absurd (cc)
-never-shared laws.Asks asked view after access a h = absurd a
+never-shared : (l : laws.LocalStep) (asked : Option Request) (view after : RunView) (request : Request) → laws.AsksNothing l → IsLocalStep l asked view (locals.Shared request) after → ⊥
+never-shared (laws.Goes new) asked view after request a h = let e : locals.Shared request ≡ locals.Moved = h.0 in absurd (cc)
+never-shared (laws.Ends n) asked view after request a h = let e : locals.Shared request ≡ locals.Exit n = h.0 in absurd (cc)
+never-shared laws.Asks asked view after request a h = absurd a
 
 -- The instruction is a lock or an unlock, that is what it asks, and it has left the words as they were.
-pub record AsksSection (view after : RunView) (insn : Insn) (access : Access) : Type 0 where
+pub record AsksSection (view after : RunView) (insn : Insn) (request : Request) : Type 0 where
   pub imm : ℤ
   pub is : insn ≡ Call kinds.Kernel imm
   pub function : KernelFunction
   pub known : kernel_function_of imm ≡ Some function
-  pub access_is : access ≡ section_access function
-  pub asked : access_of insn view ≡ Some access
+  pub access_is : request ≡ section_request function
+  pub asked : request_of insn view ≡ Some request
   pub same : after ≡ view
 
-section-asked : (view after : RunView) (imm : ℤ) (o : Option KernelFunction) (a access : Access) → kernel_function_of imm ≡ o → option_map section_access o ≡ Some a → locals.Shared access ≡ locals.Shared a → after ≡ view → AsksSection view after (Call kinds.Kernel imm) access
-section-asked view after imm None a access e h f same = absurd (none-some a h)
-section-asked view after imm (Some function) a access e h f same =
-    let g : section_access function ≡ a = same_Some (section_access function) a h in
-    let k : a ≡ access = cc in
+section-asked : (view after : RunView) (imm : ℤ) (o : Option KernelFunction) (a request : Request) → kernel_function_of imm ≡ o → option_map section_request o ≡ Some a → locals.Shared request ≡ locals.Shared a → after ≡ view → AsksSection view after (Call kinds.Kernel imm) request
+section-asked view after imm None a request e h f same = absurd (none-some a h)
+section-asked view after imm (Some function) a request e h f same =
+    let g : section_request function ≡ a = same_Some (section_request function) a h in
+    let k : a ≡ request = cc in
     record {
       imm = imm;
       is = refl;
       function = function;
       known = e;
       access_is = cc;
-      asked = ap (option_map section_access) e ∙ (h ∙ ap Some k);
+      asked = ap (option_map section_request) e ∙ (h ∙ ap Some k);
       same = same;
     }
 
 -- whether it is a section that is asked for
-abbrev is-section : Access → Bool
-is-section accesses.Enter = true
-is-section accesses.Leave = true
-is-section access = false
+abbrev is-section : Request → Bool
+is-section requests.Enter = true
+is-section requests.Leave = true
+is-section request = false
 
-section-is : (f : KernelFunction) → is-section (section_access f) ≡ true
+section-is : (f : KernelFunction) → is-section (section_request f) ≡ true
 section-is ReadLock = refl
 section-is ReadUnlock = refl
 
-pub asks-else : (view after : RunView) (insn : Insn) (access other : Access) → AsksSection view after insn access → access ≡ other → is-section other ≡ false → ⊥
-asks-else view after insn access other a e h = absurd (false≢true (sym h ∙ (ap is-section (sym e ∙ a.access_is) ∙ section-is a.function)))
+pub asks-else : (view after : RunView) (insn : Insn) (request other : Request) → AsksSection view after insn request → request ≡ other → is-section other ≡ false → ⊥
+asks-else view after insn request other a e h = absurd (false≢true (sym h ∙ (ap is-section (sym e ∙ a.access_is) ∙ section-is a.function)))
 
 entered-moves : (o : Option KernelFunction) (f : KernelFunction) (view : RunView) (w : WorldView) → o ≡ Some f → kernel_called o 0 view w ≡ moves_on 0 (entered_view o view) w
 entered-moves None f view w e = absurd (none-some f e)
@@ -111,7 +111,7 @@ pub record Further (v : Checked) (view new : RunView) : Type 0 where
   pub moved : new.moved ≡ view.moved + 1
 
 -- a lock and an unlock may be answered by any word
-section-given : (v : Checked) (view : RunView) (f : KernelFunction) → MayGive v view (section_access f) 0
+section-given : (v : Checked) (view : RunView) (f : KernelFunction) → MayGive v view (section_request f) 0
 section-given v view ReadLock = tt
 section-given v view ReadUnlock = tt
 
@@ -253,52 +253,52 @@ module _ (v : Checked) (view : RunView) (x : StandsAlone v view) where
 
   -- it asks for a section alone
   asks-by : (insn : Insn) (answer : Answer) (new_store : map_state.Store) (new : Run) → insn_at x.run.program.code x.run.state.place ≡ Some insn → InsnStep insn m.store (open_sections m.runs) x.run answer new_store new
-      → (access : Access) (after : RunView) → IsLocalStep (laws.local_of insn view) (access_of insn view) view (locals.Shared access) after → AsksSection view after insn access
-  asks-by (Call kinds.Kernel imm) answer new_store new here h access after s = section-asked view after imm (kernel_function_of imm) s.0 access refl s.1 s.2 s.3
-  asks-by (Call kinds.Helper imm) answer new_store new here h access after s = absurd (helper-own (helper_of imm) m.store (open_sections m.runs) x.run h.0 new_store x.own h.1)
-  asks-by i answer new_store new here h access after s =
+      → (request : Request) (after : RunView) → IsLocalStep (laws.local_of insn view) (request_of insn view) view (locals.Shared request) after → AsksSection view after insn request
+  asks-by (Call kinds.Kernel imm) answer new_store new here h request after s = section-asked view after imm (kernel_function_of imm) s.0 request refl s.1 s.2 s.3
+  asks-by (Call kinds.Helper imm) answer new_store new here h request after s = absurd (helper-own (helper_of imm) m.store (open_sections m.runs) x.run h.0 new_store x.own h.1)
+  asks-by i answer new_store new here h request after s =
       let a = acts-own i (environment x.run) m.store.elements x.run.state h.0 h.1 x.own h.2 in
-      absurd (never-shared (laws.local_of i view) (access_of i view) view after access (asks_nothing x.world x.schedule matches sound 0 x.run view x.running i h.0 here a.0) s)
+      absurd (never-shared (laws.local_of i view) (request_of i view) view after request (asks_nothing x.world x.schedule matches sound 0 x.run view x.running i h.0 here a.0) s)
 
-  pub asks : (insn : Insn) → insn_at v.program view.place ≡ Some insn → (access : Access) (after : RunView) → IsLocalStep (laws.local_of insn view) (access_of insn view) view (locals.Shared access) after → AsksSection view after insn access
-  asks insn here access after s =
+  pub asks : (insn : Insn) → insn_at v.program view.place ≡ Some insn → (request : Request) (after : RunView) → IsLocalStep (laws.local_of insn view) (request_of insn view) view (locals.Shared request) after → AsksSection view after insn request
+  asks insn here request after s =
       let n = well_never_stuck m sound.well 0 x.run x.running.there x.running.going in
       let at = place-is ∙ here in
       let same : n.3.0 ≡ insn = same_Some n.3.0 insn (sym n.3.1 ∙ at) in
-      asks-by insn n.0 n.1 n.2 at (subst (λ (i : Insn). InsnStep i m.store (open_sections m.runs) x.run n.0 n.1 n.2) same n.3.2) access after s
+      asks-by insn n.0 n.1 n.2 at (subst (λ (i : Insn). InsnStep i m.store (open_sections m.runs) x.run n.0 n.1 n.2) same n.3.2) request after s
 
   -- the words after its own step, after its exit, and after it was let through a lock or an unlock
-  moved-by : (new : RunView) (insn : Insn) → insn_at v.program view.place ≡ Some insn → IsLocalStep (laws.local_of insn view) (access_of insn view) view locals.Moved new → Further v view new
-  moved-by new insn here s = goes-on new (reacts insn here ∙ own_step insn (loaded_alone v) 0 view new x.world (access_of insn view) locals.Moved s)
+  moved-by : (new : RunView) (insn : Insn) → insn_at v.program view.place ≡ Some insn → IsLocalStep (laws.local_of insn view) (request_of insn view) view locals.Moved new → Further v view new
+  moved-by new insn here s = goes-on new (reacts insn here ∙ own_step insn (loaded_alone v) 0 view new x.world (request_of insn view) locals.Moved s)
 
-  pub moves : (new : RunView) → ((insn : Insn) → insn_at v.program view.place ≡ Some insn → IsLocalStep (laws.local_of insn view) (access_of insn view) view locals.Moved new) → Further v view new
+  pub moves : (new : RunView) → ((insn : Insn) → insn_at v.program view.place ≡ Some insn → IsLocalStep (laws.local_of insn view) (request_of insn view) view locals.Moved new) → Further v view new
   moves new s = moved-by new steps.insn steps.here (s steps.insn steps.here)
 
-  exited-by : (n : ℕ) (new : RunView) (insn : Insn) → insn_at v.program view.place ≡ Some insn → IsLocalStep (laws.local_of insn view) (access_of insn view) view (locals.Exit n) new → ExitsWith (loaded_alone v) view.context (view.moved + 1) n × (new.moved ≡ view.moved)
+  exited-by : (n : ℕ) (new : RunView) (insn : Insn) → insn_at v.program view.place ≡ Some insn → IsLocalStep (laws.local_of insn view) (request_of insn view) view (locals.Exit n) new → ExitsWith (loaded_alone v) view.context (view.moved + 1) n × (new.moved ≡ view.moved)
   exited-by n new insn here s =
-      let o = own_step insn (loaded_alone v) 0 view new x.world (access_of insn view) (locals.Exit n) s in
+      let o = own_step insn (loaded_alone v) 0 view new x.world (request_of insn view) (locals.Exit n) s in
       (finishes n (reacts insn here ∙ o.0), ap (λ (u : RunView). u.moved) o.1)
 
-  pub exits : (n : ℕ) (new : RunView) → ((insn : Insn) → insn_at v.program view.place ≡ Some insn → IsLocalStep (laws.local_of insn view) (access_of insn view) view (locals.Exit n) new) → ExitsWith (loaded_alone v) view.context (view.moved + 1) n × (new.moved ≡ view.moved)
+  pub exits : (n : ℕ) (new : RunView) → ((insn : Insn) → insn_at v.program view.place ≡ Some insn → IsLocalStep (laws.local_of insn view) (request_of insn view) view (locals.Exit n) new) → ExitsWith (loaded_alone v) view.context (view.moved + 1) n × (new.moved ≡ view.moved)
   exits n new s = exited-by n new steps.insn steps.here (s steps.insn steps.here)
 
-  passes-section : (insn : Insn) (access : Access) (word : ℕ) (after : RunView) → insn_at v.program view.place ≡ Some insn → AsksSection view after insn access → Further v view (resumed_view insn word view)
-  passes-section insn access word after here a =
+  passes-section : (insn : Insn) (request : Request) (word : ℕ) (after : RunView) → insn_at v.program view.place ≡ Some insn → AsksSection view after insn request → Further v view (resumed_view insn word view)
+  passes-section insn request word after here a =
       subst (λ (i : Insn). Further v view (resumed_view i word view)) (sym a.is)
       (goes-on (entered_view (kernel_function_of a.imm) view) (reacts insn here ∙ (ap (λ (i : Insn). insn_step i (loaded_alone v) 0 view x.world) a.is ∙ entered-moves (kernel_function_of a.imm) a.function view x.world a.known)))
 
   -- what a step leaves that asks something: it may be resumed, and then it has moved
-  abbrev Shares : Access → RunView → Type 0
-  Shares access after = (insn : Insn) → insn_at v.program view.place ≡ Some insn → IsLocalStep (laws.local_of insn view) (access_of insn view) view (locals.Shared access) after
+  abbrev Shares : Request → RunView → Type 0
+  Shares request after = (insn : Insn) → insn_at v.program view.place ≡ Some insn → IsLocalStep (laws.local_of insn view) (request_of insn view) view (locals.Shared request) after
 
-  pub shares : (access : Access) (after : RunView) → Shares access after → AsksSection view after steps.insn access
-  shares access after s = asks steps.insn steps.here access after (s steps.insn steps.here)
+  pub shares : (request : Request) (after : RunView) → Shares request after → AsksSection view after steps.insn request
+  shares request after s = asks steps.insn steps.here request after (s steps.insn steps.here)
 
-  pub given : (access : Access) (after : RunView) → Shares access after → MayGive v after access 0
-  given access after s = let a = shares access after s in subst (λ (q : Access). MayGive v after q 0) (sym a.access_is) (section-given v after a.function)
+  pub given : (request : Request) (after : RunView) → Shares request after → MayGive v after request 0
+  given request after s = let a = shares request after s in subst (λ (q : Request). MayGive v after q 0) (sym a.access_is) (section-given v after a.function)
 
-  pub resumed : (access : Access) (after new : RunView) (word : ℕ) → Shares access after → ((insn : Insn) → insn_at v.program after.place ≡ Some insn → new ≡ resumed_view insn word after) → Further v view new
-  resumed access after new word s h =
-      let a = shares access after s in
+  pub resumed : (request : Request) (after new : RunView) (word : ℕ) → Shares request after → ((insn : Insn) → insn_at v.program after.place ≡ Some insn → new ≡ resumed_view insn word after) → Further v view new
+  resumed request after new word s h =
+      let a = shares request after s in
       let e : new ≡ resumed_view steps.insn word view = subst (λ (u : RunView). (insn : Insn) → insn_at v.program u.place ≡ Some insn → new ≡ resumed_view insn word u) a.same h steps.insn steps.here in
-      subst (Further v view) (sym e) (passes-section steps.insn access word after steps.here a)
+      subst (Further v view) (sym e) (passes-section steps.insn request word after steps.here a)

@@ -15,12 +15,12 @@ use Rattle.world_laws.specs.Local as laws
 use Rattle.verifier.specs.Checked.{Checked}
 use Rattle.verifier.specs.Verdict.{IsJustified}
 use Rattle.verifier.proofs.Plans.{length_slots}
-use Rattle.machine.specs.declared.access.Access.{Access}
-use Rattle.machine.specs.declared.access.Next.{Next}
-use Rattle.machine.specs.declared.access.Next.TheVariants.{At, Exit, On, Shared}
+use Rattle.machine.specs.declared.request.Request.{Request}
+use Rattle.machine.specs.declared.request.Next.{Next}
+use Rattle.machine.specs.declared.request.Next.TheVariants.{At, Exit, On, Shared}
 use Rattle.machine.specs.declared.step.Halt.{Halt}
 use Rattle.machine.specs.declared.workspace.Workspace.{Workspace}
-use Rattle.machine.specs.Requests.{access_of, entered_view, resumed_view}
+use Rattle.machine.specs.Requests.{request_of, entered_view, resumed_view}
 use Rattle.machine.specs.RunWords.{run_words}
 use Rattle.machine.specs.Steps.{IsLocalStep}
 use Rattle.machine.specs.Workspaces.{CanDo, CanGoOn, Does, HasGoneOn, HasMoved, IsFreshWorkspace, IsMove, index_after, moved_on, not_yet, once_more, told, view_after, view_at}
@@ -71,9 +71,9 @@ module _ (c : Checked) (context : List ℕ) (index moved : ℕ) (w : Workspace) 
   Did new result = (insn : Insn) → Does c.program context insn index w result new
 
   step_to : (new : Workspace) (result next : Next) → Did new result → result ≡ next → (insn : Insn) → insn_at c.program before.place ≡ Some insn
-      → IsLocalStep (laws.local_of insn before) (access_of insn before) before (told next) (view_after c.program context index next new b.view)
+      → IsLocalStep (laws.local_of insn before) (request_of insn before) before (told next) (view_after c.program context index next new b.view)
   step_to new result next does e insn here =
-      subst (λ (n : Next). IsLocalStep (laws.local_of insn before) (access_of insn before) before (told n) (view_after c.program context index n new b.view)) e
+      subst (λ (n : Next). IsLocalStep (laws.local_of insn before) (request_of insn before) before (told n) (view_after c.program context index n new b.view)) e
       (does insn (insn_there c.program index before.place insn here refl) b.view).step
 
   pub loop_moves : (new : Workspace) (next : Next) → Did new next → IsMove next → StandsBefore c context (index_after index next) (moved + 1) new
@@ -83,7 +83,7 @@ module _ (c : Checked) (context : List ℕ) (index moved : ℕ) (w : Workspace) 
   loop_moves new (At target) does m =
       let f = moves c before b.stands (view_after c.program context index (At target) new b.view) (step_to new (At target) (At target) does refl) in
       record { view = moved_on b.view; stands = f.stands; moved_is = ap (λ (n : ℕ). n + 1) b.moved_is }
-  loop_moves new (Shared access) does m = absurd m
+  loop_moves new (Shared request) does m = absurd m
   loop_moves new (Exit n) does m = absurd m
 
   -- the exit, after so many moves
@@ -102,12 +102,12 @@ module _ (c : Checked) (context : List ℕ) (index moved : ℕ) (w : Workspace) 
   entered_moved ReadLock = ap (λ (n : ℕ). n + 1) b.moved_is
   entered_moved ReadUnlock = ap (λ (n : ℕ). n + 1) b.moved_is
 
-  pub loop_passes : (new : Workspace) (result : Next) (access : Access) → Did new result → result ≡ Shared access → StandsBefore c context (index + 1) (moved + 1) new
-  loop_passes new result access does e =
+  pub loop_passes : (new : Workspace) (result : Next) (request : Request) → Did new result → result ≡ Shared request → StandsBefore c context (index + 1) (moved + 1) new
+  loop_passes new result request does e =
       let after = view_at c.program context index new b.view in
-      let shared = step_to new result (Shared access) does e in
+      let shared = step_to new result (Shared request) does e in
       let s = steps c before b.stands in
-      let a : AsksSection before after s.insn access = shares c before b.stands access after shared in
+      let a : AsksSection before after s.insn request = shares c before b.stands request after shared in
       let there = insn_there c.program index before.place s.insn s.here refl in
       let place : slot_total (take (index + 1) c.program) ≡ slot_total (take index c.program) + 1 =
       next_place c.program index s.insn there ∙ ap (λ (n : ℕ). slot_total (take index c.program) + n) (ap slot_count a.is) in
@@ -115,7 +115,7 @@ module _ (c : Checked) (context : List ℕ) (index moved : ℕ) (w : Workspace) 
       λ insn here.
       let same : s.insn ≡ insn = same_Some s.insn insn (sym s.here ∙ here) in
       ap (λ (o : Option KernelFunction). entered_view o after) (sym a.known) ∙ ap (λ (i : Insn). resumed_view i 0 after) (sym a.is ∙ same) in
-      let f = resumed c before b.stands access after (entered_view (Some a.function) after) 0 shared goes in
+      let f = resumed c before b.stands request after (entered_view (Some a.function) after) 0 shared goes in
       record {
         view = entered_view (Some a.function) b.view;
         stands = subst (StandsAlone c) (entered_at a.function new place) f.stands;
@@ -147,8 +147,8 @@ module _ (c : Checked) (context : List ℕ) (from before most : ℕ) (start : Wo
     pub halts_at : (target : ℕ) → halt.next ≡ At target → StandsBefore c context target (before + (halt.moved + 1)) new
     halts_at target e = behind target (loop_moves c context halt.index (before + halt.moved) h.mid last new (At target) (subst (λ (n : Next). (insn : Insn) → Does c.program context insn halt.index h.mid n new) e h.last) tt)
 
-    pub halts_shared : (access : Access) → halt.next ≡ Shared access → StandsBefore c context (halt.index + 1) (before + (halt.moved + 1)) new
-    halts_shared access e = behind (halt.index + 1) (loop_passes c context halt.index (before + halt.moved) h.mid last new halt.next access h.last e)
+    pub halts_shared : (request : Request) → halt.next ≡ Shared request → StandsBefore c context (halt.index + 1) (before + (halt.moved + 1)) new
+    halts_shared request e = behind (halt.index + 1) (loop_passes c context halt.index (before + halt.moved) h.mid last new halt.next request h.last e)
 
     pub halts_exited : (n : ℕ) → halt.next ≡ Exit n → ExitsWith (loaded_alone c) context (before + halt.moved + 1) n
     halts_exited n e = loop_exits c context halt.index (before + halt.moved) h.mid last new halt.next n h.last e

@@ -3,7 +3,7 @@ ghost use Rattle.std.specs.Prelude.{◌≡◌, [], length};
 ghost use Rattle.lone_runs.specs.Lone.{IsLone, IsStep};
 
 use bpf_model::{CtxBytes, are_bytes};
-use machine::{Access, Local, Run};
+use machine::{Local, Request, Run};
 use verifier::Verified;
 
 /// What a step came to.
@@ -38,12 +38,12 @@ pub fn step_alone(run: &mut Run, verified: &Verified) -> Step
     match run.local_step(verified) {
         Local::Moved => Step::Moved,
         Local::Exit(value) => Step::Exit(value),
-        Local::Shared(access) => match access {
-            Access::Enter | Access::Leave => {
+        Local::Shared(request) => match request {
+            Request::Enter | Request::Leave => {
                 run.resume(verified, 0);
                 Step::Moved
             }
-            Access::Load { .. } | Access::Store { .. } | Access::Call { .. } => unreachable!(),
+            Request::Load { .. } | Request::Store { .. } | Request::Call { .. } => unreachable!(),
         },
     }
 }

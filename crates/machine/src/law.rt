@@ -13,11 +13,11 @@ ghost use Rattle.view_laws.specs.Matching.{Matches};
 ghost use Rattle.world_laws.specs.Local.{local_of};
 ghost use Rattle.world_laws.specs.Reacting.{full_reaction, insn_step};
 ghost use Rattle.world_laws.specs.Typed.{IsSound, IsRunning};
-ghost use Rattle.machine.specs.declared.access.Access.{Access};
-ghost use Rattle.machine.specs.declared.access.Local.{Local};
+ghost use Rattle.machine.specs.declared.request.Request.{Request};
+ghost use Rattle.machine.specs.declared.request.Local.{Local};
 ghost use Rattle.machine.specs.Regions.{IsCodeOf};
-ghost use Rattle.machine.specs.Replies.{IsOwnStep, ServesAccess};
-ghost use Rattle.machine.specs.Requests.{access_of};
+ghost use Rattle.machine.specs.Replies.{IsOwnStep, ServesRequest};
+ghost use Rattle.machine.specs.Requests.{request_of};
 ghost use Rattle.machine.specs.Standing.{StandsBy};
 ghost use Rattle.machine.specs.Steps.{CanStep, IsLocalStep};
 
@@ -40,9 +40,9 @@ pub fn running_stands()
 
 /// The world's step of an instruction that asks something is to serve the request, and to resume the run.
 pub fn served_as_asked()
-    ensures { (insn : Insn) (access : Access) (program : Loaded) (r : ℕ) (v : RunView)
+    ensures { (insn : Insn) (request : Request) (program : Loaded) (r : ℕ) (v : RunView)
         (w : WorldView) →
-        access_of insn v ≡ Some access → ServesAccess access insn program r v w }
+        request_of insn v ≡ Some request → ServesRequest request insn program r v w }
 {}
 
 /// A world's reaction to the step of a run that has not ended is the step of the run's instruction.
@@ -57,7 +57,7 @@ pub fn reacts_by_insn()
 /// What a run has answered and done is the world's step, where the run asks nothing of it.
 pub fn own_step_is_the_worlds()
     ensures { (insn : Insn) (program : Loaded) (r : ℕ) (v after : RunView) (w : WorldView)
-        (asked : Option Access) (answer : Local) →
+        (asked : Option Request) (answer : Local) →
         IsLocalStep (local_of insn v) asked v answer after →
         IsOwnStep answer asked r v after w (insn_step insn program r v w) }
 {}

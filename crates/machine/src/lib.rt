@@ -5,7 +5,6 @@
 //! more than the run itself, the step answers with a request, and `resume` goes on with the reply.
 #![tactic(auto)]
 
-mod access;
 mod act;
 mod argument;
 mod compute;
@@ -14,17 +13,18 @@ mod law;
 mod memory;
 mod regions;
 mod registers;
+mod request;
 mod resume;
 mod run;
 mod step;
 mod transfer;
 mod workspace;
 
-pub use access::{Access, Local, Next};
 pub use law::{
     own_step_is_the_worlds, reacts_by_insn, running_can_step, running_stands, served_as_asked,
 };
 pub use regions::{SLOT_BASE, SPAN};
+pub use request::{Local, Next, Request};
 pub use run::Run;
 pub use step::Halt;
 pub use workspace::Workspace;

@@ -19,9 +19,9 @@ use Rattle.world_laws.specs.Reacting.{step_at, step_in, run_step_of, word_step}
 use Rattle.world_laws.specs.Typed.{IsSound}
 use Rattle.world_laws.proofs.Keeping.{step-keeps}
 use Rattle.world_laws.proofs.Stepping.{not-ended}
-use Rattle.machine.specs.declared.access.Access.{Access}
-use Rattle.machine.specs.declared.access.Local.TheVariants as code
-use Rattle.machine.specs.Requests.{access_of, resumed_view}
+use Rattle.machine.specs.declared.request.Request.{Request}
+use Rattle.machine.specs.declared.request.Local.TheVariants as code
+use Rattle.machine.specs.Requests.{request_of, resumed_view}
 use Rattle.machine.specs.RunWords.{RunWords, IsAt}
 use Rattle.machine.specs.Regions.{IsCodeOf}
 use Rattle.machine.specs.Standing.{MayGive}
@@ -65,73 +65,73 @@ module _ (loaded : Loaded) (maps : List MapView) (g : GraceState) (r : ℕ) (old
   same-flags new e = sym (ap (λ d. slice_set g.opened r (nat_lt 0 d)) e ∙ set-same g.opened r (nat_lt 0 v.depth) can.opened)
 
   -- a step that the run makes by itself
-  pub moved_taken : (new : RunWords) → IsLocalStep (local_of i v) (access_of i v) v code.Moved new.view → IsAt loaded.verified.program new → HasTaken loaded r old new maps maps g g answers.Moved
+  pub moved_taken : (new : RunWords) → IsLocalStep (local_of i v) (request_of i v) v code.Moved new.view → IsAt loaded.verified.program new → HasTaken loaded r old new maps maps g g answers.Moved
   moved_taken new h at =
-      let same = own_keeps i v new.view (access_of i v) code.Moved h in
+      let same = own_keeps i v new.view (request_of i v) code.Moved h in
       record {
         insn = i;
         here = can.step.here;
-        step = λ w em eg. own_is i (program_of loaded) r v new.view w (access_of i v) code.Moved (is-flagged w eg) h ∙ parts-are answers.Moved new.view w em eg;
+        step = λ w em eg. own_is i (program_of loaded) r v new.view w (request_of i v) code.Moved (is-flagged w eg) h ∙ parts-are answers.Moved new.view w em eg;
         opened = same-flags new.view same.0;
         program = same.1;
         stands = at;
       }
 
-  pub exited_taken : (n : ℕ) (new : RunWords) → IsLocalStep (local_of i v) (access_of i v) v (code.Exit n) new.view → IsAt loaded.verified.program new → HasTaken loaded r old new maps maps g g (answers.Exited n)
+  pub exited_taken : (n : ℕ) (new : RunWords) → IsLocalStep (local_of i v) (request_of i v) v (code.Exit n) new.view → IsAt loaded.verified.program new → HasTaken loaded r old new maps maps g g (answers.Exited n)
   exited_taken n new h at =
-      let same = own_keeps i v new.view (access_of i v) (code.Exit n) h in
+      let same = own_keeps i v new.view (request_of i v) (code.Exit n) h in
       record {
         insn = i;
         here = can.step.here;
-        step = λ w em eg. own_is i (program_of loaded) r v new.view w (access_of i v) (code.Exit n) (is-flagged w eg) h ∙ parts-are (answers.Exited n) new.view w em eg;
+        step = λ w em eg. own_is i (program_of loaded) r v new.view w (request_of i v) (code.Exit n) (is-flagged w eg) h ∙ parts-are (answers.Exited n) new.view w em eg;
         opened = same-flags new.view same.0;
         program = same.1;
         stands = at;
       }
 
   -- one that the world serves: the run is as before
-  module _ (access : Access) (mid : RunWords) (h : IsLocalStep (local_of i v) (access_of i v) v (code.Shared access) mid.view) where
-    asks : access_of i v ≡ Some access
-    asks = (own_asks i v mid.view (access_of i v) access h).1
+  module _ (request : Request) (mid : RunWords) (h : IsLocalStep (local_of i v) (request_of i v) v (code.Shared request) mid.view) where
+    asks : request_of i v ≡ Some request
+    asks = (own_asks i v mid.view (request_of i v) request h).1
 
     same : mid.view ≡ v
-    same = (own_asks i v mid.view (access_of i v) access h).2
+    same = (own_asks i v mid.view (request_of i v) request h).2
 
-    serves : CanServe access loaded.maps.items maps v
-    serves = can.ask.serve i access can.step.here (own_asks i v mid.view (access_of i v) access h).0 asks
+    serves : CanServe request loaded.maps.items maps v
+    serves = can.ask.serve i request can.step.here (own_asks i v mid.view (request_of i v) request h).0 asks
 
-    pub can_serve : CanServe access loaded.maps.items maps mid.view
-    can_serve = subst (CanServe access loaded.maps.items maps) (sym same) serves
+    pub can_serve : CanServe request loaded.maps.items maps mid.view
+    can_serve = subst (CanServe request loaded.maps.items maps) (sym same) serves
 
-    pub can_give : (word : ℕ) → IsReply access loaded.maps.items maps mid.view word → MayGive loaded.verified mid.view access word
+    pub can_give : (word : ℕ) → IsReply request loaded.maps.items maps mid.view word → MayGive loaded.verified mid.view request word
     can_give word reply =
-        subst (λ (u : RunView). MayGive loaded.verified u access word) (sym same)
-        (can.ask.give i access word can.step.here (own_asks i v mid.view (access_of i v) access h).0 asks (subst (λ (u : RunView). IsReply access loaded.maps.items maps u word) same reply))
+        subst (λ (u : RunView). MayGive loaded.verified u request word) (sym same)
+        (can.ask.give i request word can.step.here (own_asks i v mid.view (request_of i v) request h).0 asks (subst (λ (u : RunView). IsReply request loaded.maps.items maps u word) same reply))
 
     here-too : insn_at loaded.verified.program mid.view.place ≡ Some i
     here-too = ap (λ (u : RunView). insn_at loaded.verified.program u.place) same ∙ can.step.here
 
-    pub served_taken : (word : ℕ) (new : RunWords) (maps_new : List MapView) (g_new : GraceState) → IsReply access loaded.maps.items maps mid.view word
-        → maps_new ≡ maps_after access loaded.maps.items mid.view maps → g_new ≡ grace_after access r g
+    pub served_taken : (word : ℕ) (new : RunWords) (maps_new : List MapView) (g_new : GraceState) → IsReply request loaded.maps.items maps mid.view word
+        → maps_new ≡ maps_after request loaded.maps.items mid.view maps → g_new ≡ grace_after request r g
         → ((insn : Insn) → insn_at loaded.verified.program mid.view.place ≡ Some insn → new.view ≡ resumed_view insn word mid.view)
         → IsAt loaded.verified.program new → HasTaken loaded r old new maps maps_new g g_new answers.Moved
     served_taken word new maps_new g_new reply em eg resumed at =
         let bound : List ℕ = loaded.maps.items in
         let view : new.view ≡ resumed_view i word v = resumed i here-too ∙ ap (λ (u : RunView). resumed_view i word u) same in
-        let ms : maps_after access bound v maps ≡ maps_new = ap (λ (u : RunView). maps_after access bound u maps) (sym same) ∙ sym em in
-        let word-is : IsReply access bound maps v word = subst (λ (u : RunView). IsReply access bound maps u word) same reply in
-        let on = goes_on g r v can.opened can.depth word i access asks in
+        let ms : maps_after request bound v maps ≡ maps_new = ap (λ (u : RunView). maps_after request bound u maps) (sym same) ∙ sym em in
+        let word-is : IsReply request bound maps v word = subst (λ (u : RunView). IsReply request bound maps u word) same reply in
+        let on = goes_on g r v can.opened can.depth word i request asks in
         let out : List MapView → GraceState → RunView → WorldView → Answer × WorldView = λ (ms : List MapView) (x : GraceState) (u : RunView) (w : WorldView). (answers.Moved, world_with ms x r u w) in
         record {
           insn = i;
           here = can.step.here;
           step = λ w fm fg.
-              served_is r v w (is-flagged w fg) (program_of loaded) word i access asks
-              (subst (λ (l : List MapView). CanServe access bound l v) (sym fm) serves)
-              (subst (λ (l : List MapView). IsReply access bound l v word) (sym fm) word-is)
-              ∙ ap (λ (l : List MapView). out (maps_after access bound v l) (grace_after access r (grace_of w)) (resumed_view i word v) w) fm
-              ∙ ap (λ (l : List MapView). out l (grace_after access r (grace_of w)) (resumed_view i word v) w) ms
-              ∙ ap (λ (x : GraceState). out maps_new (grace_after access r x) (resumed_view i word v) w) fg
+              served_is r v w (is-flagged w fg) (program_of loaded) word i request asks
+              (subst (λ (l : List MapView). CanServe request bound l v) (sym fm) serves)
+              (subst (λ (l : List MapView). IsReply request bound l v word) (sym fm) word-is)
+              ∙ ap (λ (l : List MapView). out (maps_after request bound v l) (grace_after request r (grace_of w)) (resumed_view i word v) w) fm
+              ∙ ap (λ (l : List MapView). out l (grace_after request r (grace_of w)) (resumed_view i word v) w) ms
+              ∙ ap (λ (x : GraceState). out maps_new (grace_after request r x) (resumed_view i word v) w) fg
               ∙ ap (λ (x : GraceState). out maps_new x (resumed_view i word v) w) (sym eg)
               ∙ ap (λ (u : RunView). out maps_new g_new u w) (sym view);
           opened = ap (λ (x : GraceState). x.opened) eg ∙ on.opened ∙ ap (λ (u : RunView). slice_set g.opened r (nat_lt 0 u.depth)) (sym view);
@@ -180,9 +180,9 @@ module _ (maps : List MapView) (runs : List (Option RunWords)) (g : GraceState) 
             step = can_step w s m sound r y.0 x.0.view y.1 (program_of of.program) at of.program.verified (code-of of.program x.0.view.program of.there justified);
             ask = record {
               serve = can_be_served w s m sound r y.0 x.0.view y.1 (program_of of.program) at;
-              give = λ i access word here waits asked reply.
-                  may_give w s m sound r y.0 x.0.view y.1 (omega (arith, within)) (program_of of.program) at of.program.verified (code-of of.program x.0.view.program of.there justified) i access word here waits asked
-                  (can_be_served w s m sound r y.0 x.0.view y.1 (program_of of.program) at i access here waits asked) reply;
+              give = λ i request word here waits asked reply.
+                  may_give w s m sound r y.0 x.0.view y.1 (omega (arith, within)) (program_of of.program) at of.program.verified (code-of of.program x.0.view.program of.there justified) i request word here waits asked
+                  (can_be_served w s m sound r y.0 x.0.view y.1 (program_of of.program) at i request here waits asked) reply;
             };
             flag = record { slot = within; inside = f.awaited };
             opened = f.opened;

@@ -9,8 +9,8 @@ use Rattle.grace_period.specs.State.{GraceState}
 use Rattle.verifier.specs.Verdict.{IsJustified}
 use Rattle.world_laws.specs.Local.{Asks, local_of}
 use Rattle.world_laws.specs.Reacting.{insn_step}
-use Rattle.machine.specs.declared.access.Access.{Access}
-use Rattle.machine.specs.Requests.{access_of}
+use Rattle.machine.specs.declared.request.Request.{Request}
+use Rattle.machine.specs.Requests.{request_of}
 use Rattle.machine.specs.RunWords.{RunWords, IsAt}
 use Rattle.machine.specs.Standing.{IsStanding, MayGive}
 use Rattle.machine.specs.Steps.{CanStep}
@@ -21,13 +21,13 @@ use Rattle.world_parts.specs.Programs.{program_of}
 
 -- What a run asks can be served, by a word that the access can give.
 pub record CanAsk (loaded : Loaded) (maps : List MapView) (v : RunView) : Type 0 where
-  pub serve : (i : Insn) (access : Access) → insn_at loaded.verified.program v.place ≡ Some i →
+  pub serve : (i : Insn) (request : Request) → insn_at loaded.verified.program v.place ≡ Some i →
       local_of i v ≡ Asks
-      → access_of i v ≡ Some access → CanServe access loaded.maps.items maps v
-  pub give : (i : Insn) (access : Access) (word : ℕ) →
+      → request_of i v ≡ Some request → CanServe request loaded.maps.items maps v
+  pub give : (i : Insn) (request : Request) (word : ℕ) →
       insn_at loaded.verified.program v.place ≡ Some i → local_of i v ≡ Asks
-      → access_of i v ≡ Some access → IsReply access loaded.maps.items maps v word →
-      MayGive loaded.verified v access word
+      → request_of i v ≡ Some request → IsReply request loaded.maps.items maps v word →
+      MayGive loaded.verified v request word
 
 -- The run in run slot r may make a step of its program: its flag is what its depth says, and what
 -- it needs is there.

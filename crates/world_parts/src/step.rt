@@ -34,8 +34,8 @@ fn step_run(
     match run.local_step(&loaded.verified) {
         Local::Moved => Brief::Moved,
         Local::Exit(value) => Brief::Exited(value),
-        Local::Shared(access) => {
-            let word = serve(access, run, run_slot, loaded.maps.as_slice(), maps, grace);
+        Local::Shared(request) => {
+            let word = serve(request, run, run_slot, loaded.maps.as_slice(), maps, grace);
             run.resume(&loaded.verified, word);
             Brief::Moved
         }

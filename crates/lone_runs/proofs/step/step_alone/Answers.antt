@@ -7,9 +7,9 @@ local_step-requires c = record { at = c.requires.at; stands = standing c.args.ve
 
 pub resume-requires : goal.resume-requires
 resume-requires c = record {
-  access = c.in-Shared.access;
+  request = c.in-Shared.request;
   awaits = c.in-Shared.ensures.stands;
-  given = given c.args.verified.now c.args.run.now.view c.requires.stands c.in-Shared.access c.local_step.new.self.view c.in-Shared.ensures.step;
+  given = given c.args.verified.now c.args.run.now.view c.requires.stands c.in-Shared.request c.local_step.new.self.view c.in-Shared.ensures.step;
 }
 
 pub unreachable-requires : goal.unreachable-requires
@@ -17,12 +17,12 @@ unreachable-requires c =
     let view = c.args.run.now.view in
     let after = c.local_step.new.self.view in
     let insn = (steps c.args.verified.now view c.requires.stands).insn in
-    let asked = shares c.args.verified.now view c.requires.stands c.in-Shared.access after c.in-Shared.ensures.step in
+    let asked = shares c.args.verified.now view c.requires.stands c.in-Shared.request after c.in-Shared.ensures.step in
     elim c.in-Load.is [
-      | inl x ↦ asks-else view after insn c.in-Shared.access _ asked x.3 refl
+      | inl x ↦ asks-else view after insn c.in-Shared.request _ asked x.3 refl
       | inr y ↦ elim y [
-        | inl x ↦ asks-else view after insn c.in-Shared.access _ asked x.4 refl
-        | inr x ↦ asks-else view after insn c.in-Shared.access _ asked x.1 refl
+        | inl x ↦ asks-else view after insn c.in-Shared.request _ asked x.4 refl
+        | inr x ↦ asks-else view after insn c.in-Shared.request _ asked x.1 refl
       ]
     ]
 
@@ -38,5 +38,5 @@ returns-in-Exit c =
 
 pub returns-in-Enter : goal.returns-in-Enter
 returns-in-Enter c =
-    let f = resumed c.args.verified.now c.args.run.now.view c.requires.stands c.in-Shared.access c.local_step.new.self.view c.resume.new.self.view 0 c.in-Shared.ensures.step c.resume.ensures.view in
+    let f = resumed c.args.verified.now c.args.run.now.view c.requires.stands c.in-Shared.request c.local_step.new.self.view c.resume.new.self.view 0 c.in-Shared.ensures.step c.resume.ensures.view in
     record { lone = record { at = c.resume.ensures.run; stands = f.stands }; context = f.context; moved = f.moved }

@@ -9,18 +9,18 @@ local_step-requires c = (c.requires.can c.program-justified.ensures.justified).s
 pub serve-word-requires-clause-serve : goal.serve-word-requires-clause-serve
 serve-word-requires-clause-serve c =
     let can = c.requires.can c.program-justified.ensures.justified in
-    subst (λ (l : List ℕ). CanServe c.in-Shared.access l c.args.maps.now.maps c.local_step.new.self.view) (sym c.as_slice.ensures.value)
-    (can_serve c.args.loaded.now c.args.maps.now.maps c.args.grace.now c.args.run_slot c.args.run.now can c.in-Shared.access c.local_step.new.self (c.in-Shared.ensures.step can.step.insn can.step.here))
+    subst (λ (l : List ℕ). CanServe c.in-Shared.request l c.args.maps.now.maps c.local_step.new.self.view) (sym c.as_slice.ensures.value)
+    (can_serve c.args.loaded.now c.args.maps.now.maps c.args.grace.now c.args.run_slot c.args.run.now can c.in-Shared.request c.local_step.new.self (c.in-Shared.ensures.step can.step.insn can.step.here))
 
 pub resume-requires : goal.resume-requires
 resume-requires c =
     let can = c.requires.can c.program-justified.ensures.justified in
     record {
-      access = c.in-Shared.access;
+      request = c.in-Shared.request;
       awaits = c.in-Shared.ensures.stands;
       given =
-          can_give c.args.loaded.now c.args.maps.now.maps c.args.grace.now c.args.run_slot c.args.run.now can c.in-Shared.access c.local_step.new.self (c.in-Shared.ensures.step can.step.insn can.step.here) c.serve-word.result
-          (subst (λ (l : List ℕ). IsReply c.in-Shared.access l c.args.maps.now.maps c.local_step.new.self.view c.serve-word.result) c.as_slice.ensures.value c.serve-word.ensures.word);
+          can_give c.args.loaded.now c.args.maps.now.maps c.args.grace.now c.args.run_slot c.args.run.now can c.in-Shared.request c.local_step.new.self (c.in-Shared.ensures.step can.step.insn can.step.here) c.serve-word.result
+          (subst (λ (l : List ℕ). IsReply c.in-Shared.request l c.args.maps.now.maps c.local_step.new.self.view c.serve-word.result) c.as_slice.ensures.value c.serve-word.ensures.word);
     }
 
 pub returns-in-Moved : goal.returns-in-Moved
@@ -36,10 +36,10 @@ returns-in-Exit c =
 pub returns-in-Shared : goal.returns-in-Shared
 returns-in-Shared c =
     let can = c.requires.can c.program-justified.ensures.justified in
-    served_taken c.args.loaded.now c.args.maps.now.maps c.args.grace.now c.args.run_slot c.args.run.now can c.in-Shared.access c.local_step.new.self (c.in-Shared.ensures.step can.step.insn can.step.here)
+    served_taken c.args.loaded.now c.args.maps.now.maps c.args.grace.now c.args.run_slot c.args.run.now can c.in-Shared.request c.local_step.new.self (c.in-Shared.ensures.step can.step.insn can.step.here)
     c.serve-word.result c.resume.new.self c.serve-word.new.maps.maps c.serve-word.new.grace
-    (subst (λ (l : List ℕ). IsReply c.in-Shared.access l c.args.maps.now.maps c.local_step.new.self.view c.serve-word.result) c.as_slice.ensures.value c.serve-word.ensures.word)
-    (c.serve-word.ensures.maps ∙ ap (λ (l : List ℕ). maps_after c.in-Shared.access l c.local_step.new.self.view c.args.maps.now.maps) c.as_slice.ensures.value)
+    (subst (λ (l : List ℕ). IsReply c.in-Shared.request l c.args.maps.now.maps c.local_step.new.self.view c.serve-word.result) c.as_slice.ensures.value c.serve-word.ensures.word)
+    (c.serve-word.ensures.maps ∙ ap (λ (l : List ℕ). maps_after c.in-Shared.request l c.local_step.new.self.view c.args.maps.now.maps) c.as_slice.ensures.value)
     c.serve-word.ensures.grace
     c.resume.ensures.view
     c.resume.ensures.run

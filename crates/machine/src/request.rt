@@ -3,7 +3,7 @@ use bpf_model::{Helper, Width};
 
 /// What an instruction asks of the world around its run: words stand for references.
 #[derive(Clone, Copy, Debug, PartialEq, Eq)]
-pub enum Access {
+pub enum Request {
     /// The number of so many bytes at an offset in bytes from the word of an address.
     Load {
         address: u64,
@@ -33,7 +33,7 @@ pub enum Local {
     /// The run stands before another instruction.
     Moved,
     /// The run is as before, and waits for the world's reply.
-    Shared(Access),
+    Shared(Request),
     /// The run has exited with this value.
     Exit(u64),
 }
@@ -46,7 +46,7 @@ pub enum Next {
     /// The run jumps to the instruction of this index.
     At(usize),
     /// The run is as before, and waits for the world's reply.
-    Shared(Access),
+    Shared(Request),
     /// The run exits with this value.
     Exit(u64),
 }
