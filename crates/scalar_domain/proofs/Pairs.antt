@@ -1,7 +1,7 @@
 -- Pairs of numbers between the bounds of two sides.
 use Rattle.std.proofs.Common.{◌≡◌, ℕ, refl, sym, ◌∙◌, ap, ap₂, ◌<◌, ◌≤◌, ◌^◌, arith, Bool, true, false}
 use Rattle.std.specs.Prelude.{◌==◌, max, not, int_lt, int_le}
-use Rattle.std.specs.Int.{Width, w32, w64}
+use Rattle.std.specs.Int.{Width, w32}
 use mir.Val.{hbits}
 use Rattle.std.proofs.Math.Nat.{le-max_left, le-max_right, max-le}
 use Rattle.std.proofs.lemmas.Bool.{eq-eqb, ne_eqb, lt-ltb, le-ltb, le-leb, lt-leb, not_from_true, false≢true}
