@@ -7,15 +7,16 @@ ghost use Rattle.bench.specs.Trials.{IsReadyTrial};
 
 mod command;
 mod measure;
+mod measurements;
 mod report;
 mod samples;
 mod trial;
 mod worlds;
 
+use crate::measurements::measurement_line;
 use anyhow::{Result, bail};
 use command::{Command, Repeated, parse_words};
 use measure::{Timed, repeat_runs, repeat_verifications, time_per_call_part};
-use measurements::measurement_line;
 use report::sample_line;
 use samples::samples;
 use std::process::ExitCode;

@@ -9,8 +9,7 @@ use bpf_model::{Answer, CtxBytes, Event, KeyBytes, MAX_SLOTS, MapId, MapShape, P
 use maps::Registry;
 use std::alloc::Global;
 use verifier::verify;
-use world::World;
-use world_parts::Loaded;
+use world::{Loaded, World};
 
 /// Adds 1 to the number that the map has under key 7, and exits with the sum; with 0 where there is no such key.
 const COUNT: &str = "\

@@ -17,7 +17,7 @@ use Rattle.bpf_model.specs.Event.{PerformsEvent, Answers, DoesEvent, IsReal, ref
 use Rattle.bpf_model.specs.View.{WorldView}
 use Rattle.world_laws.specs.Reacting.{full_reaction}
 use Rattle.world_laws.proofs.Worlds.{simulates}
-use Rattle.world_invariant.specs.Invariant.{IsWorld}
+use Rattle.world_laws.specs.Invariant.{IsWorld}
 use Rattle.journal.specs.Entries.{IsAnswerTo}
 
 outcome-fits : (out : Outcome) (r : ℕ) (run : Run) (answer : Answer) (new : Run) → OutcomeStep out run answer new → IsAnswerTo (events.Step r) answer

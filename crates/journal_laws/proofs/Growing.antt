@@ -12,7 +12,7 @@ use Rattle.model_laws.proofs.Stepping.{elements_only_grow}
 use Rattle.model_laws.proofs.Tallies.{count-cons, one_of}
 use Rattle.world_laws.specs.Reacting.{full_reaction}
 use Rattle.world_laws.proofs.Worlds.{simulates}
-use Rattle.world_invariant.specs.Invariant.{IsWorld}
+use Rattle.world_laws.specs.Invariant.{IsWorld}
 use Rattle.journal_laws.specs.Totals.{ever_reclaimed, ever_unlinked, reclaimed_total, unlinked_total}
 use Rattle.journal_laws.proofs.Counting.{unlinked_is_machines, reclaimed_is_machines}
 

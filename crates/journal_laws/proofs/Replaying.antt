@@ -18,9 +18,9 @@ use Rattle.bpf_model.specs.View.{RunView, WorldView}
 use Rattle.view_laws.proofs.Tracking.{real-more}
 use Rattle.world_laws.specs.Reacting.{full_reaction, full_reactions}
 use Rattle.world_laws.proofs.Worlds.{answers_machine, answers_scheduled, never_stuck, exit_in_time, reclaimed_late}
-use Rattle.world_invariant.specs.Invariant.{IsWorld}
+use Rattle.world_laws.specs.Invariant.{IsWorld}
 use Rattle.world_laws.proofs.Appending.{answers_grow, view_grows}
-use Rattle.world_invariant.proofs.Keeping.{reactions_make_world}
+use Rattle.world_laws.proofs.KeepingWorlds.{reactions_make_world}
 use Rattle.bpf_model.specs.declared.entry.Entry.{Entry}
 use Rattle.journal_laws.specs.Replay.{HasNoRuns, Replays}
 use Rattle.std.specs.Option.{option_flatten}

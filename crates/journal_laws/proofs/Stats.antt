@@ -17,7 +17,7 @@ use Rattle.maps.specs.Counting.{linked_in, worn_in}
 use Rattle.model_laws.proofs.Reached.{tracked_is_scheduled}
 use Rattle.model_laws.proofs.Tallies.{count-cons, of-other, one_of}
 use Rattle.journal_laws.specs.Totals.{machine_stat}
-use Rattle.world_parts.specs.Asking.{stat_of}
+use Rattle.world.specs.Asking.{stat_of}
 use Rattle.journal_laws.proofs.Counting.{unlinked-now}
 
 -- how many elements are linked in so many maps from one on

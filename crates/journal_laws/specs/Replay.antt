@@ -8,7 +8,7 @@ use Rattle.bpf_model.specs.Machine.{AreFree}
 use Rattle.bpf_model.specs.Replay.{answers_of, events_of}
 use Rattle.bpf_model.specs.View.{WorldView}
 use Rattle.world_laws.specs.Reacting.{full_reactions}
-use Rattle.world_invariant.specs.Invariant.{IsWorld}
+use Rattle.world_laws.specs.Invariant.{IsWorld}
 
 -- no run slot of the world is occupied
 abbrev pub HasNoRuns : WorldView → Type 0

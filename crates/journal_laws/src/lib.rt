@@ -16,14 +16,14 @@ ghost use Rattle.bpf_model.specs.Refines.{Tracks, TracksSchedule};
 ghost use Rattle.bpf_model.specs.Replay.{ReplaysOnMachine, answers_of, events_of};
 ghost use Rattle.bpf_model.specs.View.{WorldView};
 ghost use Rattle.world_laws.specs.Reacting.{full_reaction, full_reactions};
-ghost use Rattle.world_invariant.specs.Invariant.{IsWorld};
+ghost use Rattle.world_laws.specs.Invariant.{IsWorld};
 ghost use Rattle.journal.specs.Entries.{IsAnswerTo};
 ghost use Rattle.bpf_model.specs.declared.entry.Entry.{Entry};
 ghost use Rattle.journal_laws.specs.Replay.{HasNoRuns, Replays};
 ghost use Rattle.journal_laws.specs.Totals.{AreOfWorkers, entries_by, ever_reclaimed, ever_unlinked};
 ghost use Rattle.journal_laws.specs.Totals.{is_step, machine_stat, reclaimed_total, shares, steps_of};
 ghost use Rattle.journal_laws.specs.Totals.{unlinked_total};
-ghost use Rattle.world_parts.specs.Asking.{stat_of};
+ghost use Rattle.world.specs.Asking.{stat_of};
 
 /// An empty journal replays from any world without runs.
 pub fn empty_replays()

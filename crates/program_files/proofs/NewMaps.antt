@@ -3,7 +3,7 @@ use Rattle.std.proofs.Common.{ℕ, List, [], ◌∷◌, refl, sym, subst, inl, i
 use Rattle.bpf_model.specs.View.{AreNewMaps}
 use Rattle.maps.specs.Registry.{RegistryView, no_maps}
 use Rattle.maps.proofs.NewMaps.{new-more}
-use Rattle.loader.specs.ProgramFile.{FileContent, FileSays, AddMaps}
+use Rattle.program_files.specs.ProgramFile.{FileContent, FileSays, AddMaps}
 
 all_new : (old : RegistryView) (lines : List (List ℕ)) (new : RegistryView) → AreNewMaps old.maps → AddMaps old lines new → AreNewMaps new.maps
 all_new old [] new h e = subst (λ (r : RegistryView). AreNewMaps r.maps) (sym e) h

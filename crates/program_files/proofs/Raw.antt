@@ -8,7 +8,7 @@ use Rattle.bpf_model.specs.declared.limits.TheConstants.{MAX_SLOTS}
 use Rattle.insn_codec.specs.declared.fault.DecodeFault.{DecodeFault}
 use Rattle.insn_codec.specs.declared.fault.DecodeFault.TheVariants as faults
 use Rattle.insn_codec.specs.Faults.{IsDecodeFault, length_fault}
-use Rattle.loader.specs.ProgramFile.{heading, IsRawFile, raw_content}
+use Rattle.program_files.specs.ProgramFile.{heading, IsRawFile, raw_content}
 use Rattle.program_files.specs.declared.program_file.FileBytes.{FileBytes}
 use Rattle.program_files.specs.declared.program_file.FileBytes.TheVariants.{TooLong}
 use Rattle.program_files.specs.declared.verdict.Verdict.{Verdict}

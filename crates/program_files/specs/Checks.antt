@@ -8,8 +8,8 @@ use Rattle.bpf_model.specs.View.{shapes_of_maps}
 use Rattle.disasm.specs.Text.{program_text}
 use Rattle.insn_codec.specs.declared.fault.DecodeFault.{DecodeFault}
 use Rattle.insn_codec.specs.Faults.{IsDecodeFault}
-use Rattle.loader.specs.declared.fault.LoadFault.{LoadFault}
-use Rattle.loader.specs.ProgramFile.{FileContent, FileSays, IsLoadFault}
+use Rattle.program_files.specs.declared.loader.fault.LoadFault.{LoadFault}
+use Rattle.program_files.specs.ProgramFile.{FileContent, FileSays, IsLoadFault}
 use Rattle.typed_runs.specs.Verified.{IsVerified}
 use Rattle.verifier.specs.declared.refusal.ProgramRefusal.{ProgramRefusal}
 use Rattle.verifier.specs.Verdict.{IsToldOf}

@@ -1,7 +1,7 @@
 -- What is kept of a file's bytes.
 use Rattle.std.specs.Prelude.{◌≡◌, ℕ, ◌*◌, ◌<◌, ◌%◌, List, length}
 use Rattle.bpf_model.specs.declared.limits.TheConstants.{MAX_SLOTS}
-use Rattle.loader.specs.ProgramFile.{IsRawFile}
+use Rattle.program_files.specs.ProgramFile.{IsRawFile}
 use Rattle.program_files.specs.declared.program_file.FileBytes.{FileBytes}
 use Rattle.program_files.specs.declared.program_file.FileBytes.TheVariants.{Whole, TooLong}
 

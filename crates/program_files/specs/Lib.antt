@@ -1,3 +1,7 @@
 pub mod Checks
 pub mod Files
 pub mod Verdicts
+pub mod Lines
+pub mod Loaded
+pub mod ProgramFile
+pub mod Reading

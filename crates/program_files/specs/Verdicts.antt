@@ -2,8 +2,8 @@
 use Rattle.std.specs.Prelude.{◌≡◌, None}
 use Rattle.insn_codec.specs.declared.fault.DecodeFault.{DecodeFault}
 use Rattle.insn_codec.specs.Faults.{decode_fault_number, decode_fault_slot}
-use Rattle.loader.specs.declared.fault.LoadFault.{LoadFault}
-use Rattle.loader.specs.ProgramFile.{load_fault_number, load_fault_line}
+use Rattle.program_files.specs.declared.loader.fault.LoadFault.{LoadFault}
+use Rattle.program_files.specs.ProgramFile.{load_fault_number, load_fault_line}
 use Rattle.verifier.specs.declared.refusal.ProgramRefusal.{ProgramRefusal}
 use Rattle.verifier.specs.Numbers.{refusal_number, refusal_slot}
 use Rattle.program_files.specs.declared.verdict.Verdict.{Verdict}

@@ -3,10 +3,12 @@
 #![tactic(auto)]
 
 mod checking;
+mod loader;
 mod program_file;
 mod verdict;
 mod verified_file;
 
+pub use crate::loader::{HEADING, LoadFault, ProgramFile, load};
 pub use checking::{Accepted, check, text_of};
 pub use program_file::{FileBytes, Source, read_file};
 pub use verdict::{MEMORY, Verdict};

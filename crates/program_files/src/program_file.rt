@@ -5,10 +5,10 @@ ghost use Rattle.program_files.specs.Files.{HoldsBytes};
 ghost use Rattle.bpf_model.specs.View.{AreNewMaps};
 ghost use Rattle.program_files.specs.Checks.{IsSourceOf, IsDecodeRefusal};
 
+use crate::loader::{HEADING, load};
 use crate::verdict::Verdict;
 use bpf_model::MAX_SLOTS;
 use insn_codec::{DecodeFault, Program, decode};
-use loader::{HEADING, load};
 use maps::Registry;
 use std::alloc::{AllocError, Global};
 use std::io;

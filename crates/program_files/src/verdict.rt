@@ -2,8 +2,8 @@
 ghost use Rattle.std.specs.Prelude.{◌≡◌};
 ghost use Rattle.program_files.specs.declared.verdict.TheConstants.{MEMORY};
 
+use crate::loader::LoadFault;
 use insn_codec::DecodeFault;
-use loader::LoadFault;
 use std::alloc::AllocError;
 use verifier::ProgramRefusal;
 

@@ -4,9 +4,9 @@ use Rattle.std.specs.Prelude.{slice_get}
 use Rattle.std.proofs.lemmas.List.{map-append}
 use Rattle.bpf_model.specs.declared.limits.MapShape.{MapShape}
 use Rattle.bpf_model.specs.View.{MapView, shapes_of_maps}
-use Rattle.world_parts.specs.declared.loaded.Loaded.{Loaded}
-use Rattle.world_invariant.specs.Binding.{IsBoundTo}
-use Rattle.world_parts.specs.Bound.{IsBound, AreProgramsBound}
+use Rattle.world.specs.declared.kept.loaded.Loaded.{Loaded}
+use Rattle.world_laws.specs.Binding.{IsBoundTo}
+use Rattle.world.specs.BoundTo.{IsBound, AreProgramsBound}
 use Rattle.bpf_model.proofs.Lists.{get-append, get-append_cases, map-next}
 
 -- Numbers that are found in a list are found in a longer one.

@@ -15,7 +15,7 @@ use Rattle.script_lines.specs.declared.reply.Reply.{Reply}
 use Rattle.script_lines.specs.declared.reply.Reply.TheVariants as replies
 use Rattle.script_setup.specs.Loading.{AreMapsNamed, ReadReplies, LoadReplied, LoadReplies, limit_refusal}
 use Rattle.script_setup.specs.Setups.{SetupView, shapes_made}
-use Rattle.world_invariant.specs.Binding.{IsBoundTo}
+use Rattle.world_laws.specs.Binding.{IsBoundTo}
 
 -- a refusal of the verifier that is not for want of memory
 pub unverified-reply : {E : Type 0} (s : SetupView) (code : List ℕ) (shapes : List MapShape) (maps : List ℕ) (ctx_len : ℕ) (program : List Insn) (refusal : ProgramRefusal) (result : Result Reply E) → IsProgram program → code ≡ text program → IsToldOf program refusal → (IsPlain program → refusal ≡ Memory) → (IsPlainWithMaps program shapes → refusal ≡ Memory) → IfOk result (λ _. refusal ≢ Memory) → IfOk result (λ reply. reply ≡ replies.Refused (refusal_number refusal) (refusal_slot refusal)) → IfOk result (λ reply. ReadReplies s code shapes maps ctx_len reply s)

@@ -21,7 +21,7 @@ use Rattle.verifier.specs.Numbers.{refusal_number, refusal_slot}
 use Rattle.verifier.specs.Verdict.{IsToldOf}
 use Rattle.world.specs.declared.fault.WorldFault.TheVariants.{TooManyPrograms}
 use Rattle.world.specs.Numbers.{world_fault_number}
-use Rattle.world_invariant.specs.Binding.{IsBoundTo}
+use Rattle.world_laws.specs.Binding.{IsBoundTo}
 use Rattle.script_lines.specs.declared.command.ShapeNumbers.{ShapeNumbers}
 use Rattle.script_lines.specs.declared.reply.Reply.{Reply}
 use Rattle.script_lines.specs.declared.reply.Reply.TheVariants as replies

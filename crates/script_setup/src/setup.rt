@@ -4,7 +4,7 @@ ghost use Rattle.bpf_model.specs.declared.limits.TheConstants.{MAX_MAPS, MAX_PRO
 ghost use Rattle.bpf_model.specs.Refines.{TracksSchedule};
 ghost use Rattle.bpf_model.specs.Schedule.{start_schedule};
 ghost use Rattle.bpf_model.specs.View.{start_view};
-ghost use Rattle.world_invariant.specs.Binding.{IsBoundTo};
+ghost use Rattle.world_laws.specs.Binding.{IsBoundTo};
 ghost use Rattle.script_setup.specs.Loading.{MapReplies, LoadReplies, ReadReplies, AreMapsNamed, HasUnknown};
 ghost use Rattle.script_setup.specs.Setups.{shapes_made, no_maps_or_programs};
 
@@ -18,8 +18,7 @@ use script_requests::{NameTable, refused};
 use std::alloc::{AllocError, Global};
 use std::marker::Model;
 use verifier::verify;
-use world::{World, WorldFault};
-use world_parts::Loaded;
+use world::{Loaded, World, WorldFault};
 
 /// The maps and programs made so far: the maps as they were created, the programs bound to them. Contracts
 /// see the maps' names and views, and the programs.
@@ -31,7 +30,7 @@ pub struct Setup {
 }
 
 impl Model for Setup {
-    ghost use Rattle.world_parts.specs.Programs.{programs_in};
+    ghost use Rattle.world.specs.Programs.{programs_in};
     ghost use Rattle.script_setup.specs.Setups.{SetupView, setup_code, IsSetup};
 
     ghost Value = { SetupView };

@@ -12,7 +12,7 @@ use Rattle.hash_index.proofs.Firsts.{less_tested, above_test}
 use Rattle.hash_index.proofs.Orders.{less_trans}
 use Rattle.bpf_model.proofs.Cases.{equal-is}
 use Rattle.bpf_model.specs.View.{MapView}
-use Rattle.world_parts.specs.Asking.{IsFound}
+use Rattle.world.specs.Asking.{IsFound}
 
 abbrev pub above_in : Option (List ℕ) → List (List ℕ × ℕ) → ℕ
 above_in bound [] = 0

@@ -9,7 +9,7 @@ use Rattle.bpf_model.specs.View.{WorldView}
 use Rattle.world.proofs.Answering.{AllReact, all_scheduled}
 use Rattle.world_laws.specs.Reacting.{full_reactions}
 use Rattle.world_laws.proofs.Appending.{view_append}
-use Rattle.world_invariant.specs.Invariant.{IsWorld}
+use Rattle.world_laws.specs.Invariant.{IsWorld}
 use Rattle.script_world.specs.Lives.{Happen}
 use Rattle.script_world.specs.Replies.{MakesSteps}
 

@@ -11,7 +11,7 @@ use Rattle.bpf_model.specs.Event.{event_refusal_number}
 use Rattle.bpf_model.specs.Machine.{Loaded}
 use Rattle.bpf_model.specs.View.{MapView, WorldView}
 use Rattle.world_laws.specs.Reacting.{full_reaction, full_reactions}
-use Rattle.world_parts.specs.Asking.{stat_of, IsFound, HasNone}
+use Rattle.world.specs.Asking.{stat_of, IsFound, HasNone}
 use Rattle.script_lines.specs.declared.reply.Reply.{Reply}
 use Rattle.script_lines.specs.declared.reply.Reply.TheVariants as replies
 use Rattle.script_requests.specs.declared.asked.Asked.{Asked}

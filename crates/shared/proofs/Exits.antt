@@ -4,8 +4,8 @@ use Rattle.std.specs.Prelude.{IfSome, slice_get}
 use Rattle.std.proofs.lemmas.Option.{IfSome_then}
 use Rattle.bpf_model.specs.View.{WorldView}
 use Rattle.verifier.specs.Checked.{Checked}
-use Rattle.world_invariant.specs.Invariant.{IsWorld}
-use Rattle.exit_laws.proofs.Lived.{may_exit_as, exits_as}
+use Rattle.world_laws.specs.Invariant.{IsWorld}
+use Rattle.world_laws.proofs.Lived.{may_exit_as, exits_as}
 use Rattle.shared.specs.Receipts.{IsExitOf, HasExitedOnce, IsPossibleExit, IsOwnExit}
 
 pub exits-once : (programs : List Checked) (p : Option Checked) (w : WorldView) (run prog : ℕ) (context : List ℕ) (exit : Option ℕ) → IsWorld w → p ≡ slice_get programs prog

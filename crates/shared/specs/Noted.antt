@@ -5,7 +5,7 @@ use Rattle.bpf_model.specs.declared.event.Event.{Event}
 use Rattle.bpf_model.specs.declared.event.Answer.{Answer}
 use Rattle.bpf_model.specs.View.{WorldView}
 use Rattle.verifier.specs.Checked.{Checked}
-use Rattle.world_invariant.specs.Invariant.{IsWorld}
+use Rattle.world_laws.specs.Invariant.{IsWorld}
 use Rattle.shared.specs.Books.{BooksView, WorkerView, Enters, IsJournalFull}
 use Rattle.shared.specs.Receipts.{NoteView, ReceiptView, IsExitOf, IsMachineAnswer, reply_of}
 use Rattle.shared.specs.declared.fault.SharedFault.{SharedFault}

@@ -8,9 +8,9 @@ use Rattle.bpf_model.specs.Machine.{Machine}
 use Rattle.bpf_model.specs.Refines.{Tracks}
 use Rattle.bpf_model.specs.View.{WorldView}
 use Rattle.verifier.specs.Checked.{Checked}
-use Rattle.world_invariant.specs.Exited.{HasExited}
-use Rattle.world_invariant.specs.Invariant.{IsWorld}
-use Rattle.exit_laws.specs.Exits.{MayExitAs, ExitsAs}
+use Rattle.world_laws.specs.Exited.{HasExited}
+use Rattle.world_laws.specs.Invariant.{IsWorld}
+use Rattle.world_laws.specs.Exits.{MayExitAs, ExitsAs}
 use Rattle.shared.specs.declared.fault.SharedFault.{SharedFault}
 
 -- who called, how many entries it has made, the event, and the answer

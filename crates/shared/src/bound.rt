@@ -5,7 +5,7 @@ ghost use Rattle.bpf_model.specs.View.{AreNewMaps, shapes_of_maps};
 ghost use Rattle.journal_laws.specs.Replay.{HasNoRuns};
 ghost use Rattle.shared.specs.declared.worker.TheConstants.{MAX_WORKERS};
 ghost use Rattle.shared.specs.Books.{AreNumbered};
-ghost use Rattle.world_invariant.specs.Binding.{IsBoundTo};
+ghost use Rattle.world_laws.specs.Binding.{IsBoundTo};
 
 use crate::lock::Shared;
 use crate::worker::Workers;
@@ -15,8 +15,7 @@ use maps::Registry;
 use std::alloc::{AllocError, Global};
 use std::sync::ledger::{Blank, Ledger};
 use verifier::Verified;
-use world::{World, WorldFault};
-use world_parts::Loaded;
+use world::{Loaded, World, WorldFault};
 
 /// A verified program, and the maps that it is to be bound to, the first as its map 0.
 #[derive(Drop)]

@@ -11,8 +11,7 @@ use std::sync::ledger::Ledger;
 use std::test::Fail;
 use verifier::{Verified, verify};
 use worker_pool::{Job, Outcome, Report, Trail};
-use world::World;
-use world_parts::Loaded;
+use world::{Loaded, World};
 
 /// Exits with 1 at the second step.
 const ONE: [u8; 16] = [

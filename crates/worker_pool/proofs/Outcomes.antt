@@ -5,7 +5,7 @@ use Rattle.std.proofs.lemmas.Option.{slice_get_cases, slice_get-get_or}
 use Rattle.bpf_model.specs.declared.insn.Insn.{Insn}
 use Rattle.bpf_model.specs.declared.event.Answer.{Answer}
 use Rattle.bpf_model.specs.Exit.{HasNoMaps}
-use Rattle.exit_laws.specs.Exits.{MayExitAs, ExitsAs}
+use Rattle.world_laws.specs.Exits.{MayExitAs, ExitsAs}
 use Rattle.job_queue.specs.Serving.{AreServed}
 use Rattle.shared.specs.declared.fault.SharedFault.{SharedFault}
 use Rattle.shared.specs.Books.{WorkerView}

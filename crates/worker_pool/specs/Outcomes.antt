@@ -2,7 +2,7 @@
 use Rattle.std.specs.Prelude.{◌≡◌, ◌⊎◌, ◌<◌, ℕ, List, replicate, ⊤}
 use Rattle.bpf_model.specs.declared.insn.Insn.{Insn}
 use Rattle.bpf_model.specs.Exit.{HasNoMaps}
-use Rattle.exit_laws.specs.Exits.{MayExitAs, ExitsAs}
+use Rattle.world_laws.specs.Exits.{MayExitAs, ExitsAs}
 use Rattle.job_queue.specs.declared.fault.PoolFault.{PoolFault}
 use Rattle.job_queue.specs.declared.fault.PoolFault.TheVariants.{BadWorkers, TooManyJobs, Memory}
 use Rattle.job_queue.specs.declared.fault.PoolFault.TheVariants.{Lost}

@@ -9,8 +9,8 @@ use Rattle.bpf_model.specs.Refines.{TracksSchedule, Tracks}
 use Rattle.bpf_model.specs.View.{WorldView}
 use Rattle.world_laws.specs.Reacting.{full_reaction, full_reactions}
 use Rattle.world_laws.proofs.Worlds as laws
-use Rattle.world_invariant.specs.Invariant.{IsWorld}
-use Rattle.world_invariant.proofs.Keeping.{reaction_is_world}
+use Rattle.world_laws.specs.Invariant.{IsWorld}
+use Rattle.world_laws.proofs.KeepingWorlds.{reaction_is_world}
 
 -- one event
 pub record Reacts (w : WorldView) (event : Event) (answer : Answer) (new : WorldView) : Type 0 where

@@ -1,3 +1,11 @@
 pub mod Answering
 pub mod Shapes
 pub mod Starting
+pub mod Exits
+pub mod Flags
+pub mod Given
+pub mod Runs
+pub mod Same
+pub mod ShapesKept
+pub mod Slots
+pub mod Stepping

@@ -3,7 +3,7 @@ use Rattle.std.proofs.Common.{◌≡◌, ◌∙◌, ℕ, zero, suc, ◌+◌, ◌
 use Rattle.std.specs.Prelude.{slice_get}
 use Rattle.std.proofs.lemmas.Option.{none-some, same_Some, slice_get_within, get_or_from_slice_get}
 use Rattle.bpf_model.specs.declared.limits.MapShape.{MapShape}
-use Rattle.world_invariant.specs.Binding.{IsBoundTo}
+use Rattle.world_laws.specs.Binding.{IsBoundTo}
 use Rattle.world_laws.proofs.Binding.{bound-each}
 
 pub bound-more : (shapes : List MapShape) (numbers : List ℕ) (asked : List MapShape) (i n : ℕ) (s : MapShape) → slice_get numbers i ≡ Some n → slice_get asked i ≡ Some s → slice_get shapes n ≡ Some s → map (slice_get shapes) (take i numbers) ≡ map Some (take i asked) → map (slice_get shapes) (take (suc i) numbers) ≡ map Some (take (suc i) asked)

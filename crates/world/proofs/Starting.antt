@@ -12,12 +12,12 @@ use Rattle.model_laws.proofs.Starting.{start_tracked}
 use Rattle.typed_runs.specs.Verified.{IsVerified}
 use Rattle.typed_runs.specs.Well.{IsVerifiedFor, AreVerified}
 use Rattle.world_laws.specs.Typed.{IsRealProgram, AreRealPrograms}
-use Rattle.world_parts.specs.declared.loaded.Loaded.{Loaded}
-use Rattle.world_parts.specs.Programs.{program_of, programs_in}
-use Rattle.world_invariant.specs.Invariant.{IsWorld}
-use Rattle.world_invariant.proofs.Binding.{bound_is_verified}
-use Rattle.world_invariant.proofs.Keeping.{start_is_world}
-use Rattle.world_parts.specs.Bound.{AreProgramsBound}
+use Rattle.world.specs.declared.kept.loaded.Loaded.{Loaded}
+use Rattle.world.specs.Programs.{program_of, programs_in}
+use Rattle.world_laws.specs.Invariant.{IsWorld}
+use Rattle.world_laws.proofs.BindingOf.{bound_is_verified}
+use Rattle.world_laws.proofs.KeepingWorlds.{start_is_world}
+use Rattle.world.specs.BoundTo.{AreProgramsBound}
 
 -- What is known of the parts of a new world before it is made.
 pub record IsSafe (maps : List MapView) (loaded : List Loaded) : Type 0 where

@@ -5,11 +5,11 @@ ghost use Rattle.bpf_model.specs.Headline.{AnswersAsMachine, AreNeverStuck, AllE
 ghost use Rattle.bpf_model.specs.declared.event.Event.{Event};
 ghost use Rattle.bpf_model.specs.Refines.{TracksSchedule, Tracks};
 ghost use Rattle.world_laws.specs.Reacting.{full_reaction};
-ghost use Rattle.world_invariant.specs.Invariant.{IsWorld};
+ghost use Rattle.world_laws.specs.Invariant.{IsWorld};
 
+use crate::kept::Parts;
 use crate::world::World;
 use bpf_model::{Answer, Event};
-use world_parts::Parts;
 
 /// Puts the answer of a reclamation in the place of another one.
 fn reap(parts: &mut Parts, answer: &mut Answer)

@@ -1,18 +1,18 @@
 //! What is asked of a world outside of events.
 ghost use Rattle.std.specs.Prelude.{◌≡◌, ℕ, slice_get, option_map, option_copied, IfSome, IfNone};
 ghost use Rattle.bpf_model.specs.Exit.{HasNoMaps};
-ghost use Rattle.exit_laws.specs.Exits.{MayExitAs, ExitsAs};
-ghost use Rattle.world_invariant.specs.Exited.{HasExited};
-ghost use Rattle.world_parts.specs.Asking.{stat_of, IsFound, HasNone};
+ghost use Rattle.world_laws.specs.Exits.{MayExitAs, ExitsAs};
+ghost use Rattle.world_laws.specs.Exited.{HasExited};
+ghost use Rattle.world.specs.Asking.{stat_of, IsFound, HasNone};
 ghost use Rattle.bpf_model.specs.View.{shapes_of};
-ghost use Rattle.world_parts.specs.Bound.{IsBound};
-ghost use Rattle.world_parts.specs.Programs.{program_of};
+ghost use Rattle.world.specs.BoundTo.{IsBound};
+ghost use Rattle.world.specs.Programs.{program_of};
 
+use crate::kept::Loaded;
 use crate::world::World;
 use bpf_model::{CtxBytes, KeyBytes, MapId, ProgId, RunId, Stat, ValueBytes};
 use maps::Registry;
 use verifier::Verified;
-use world_parts::Loaded;
 
 impl World {
     /// The exit value of the run in a run slot, where it has ended and was started with this program on this

@@ -5,16 +5,16 @@ ghost use Rattle.bpf_model.specs.MapState.{AreShapes};
 ghost use Rattle.bpf_model.specs.View.{shapes_of_maps};
 ghost use Rattle.typed_runs.specs.Verified.{IsVerified};
 ghost use Rattle.world_laws.specs.Typed.{IsRealProgram};
-ghost use Rattle.world_invariant.specs.Binding.{IsBoundTo};
-ghost use Rattle.world_parts.specs.declared.loaded.Loaded.{Loaded};
-ghost use Rattle.world_parts.specs.Bound.{AreProgramsBound};
-ghost use Rattle.world_parts.specs.Programs.{program_of};
+ghost use Rattle.world_laws.specs.Binding.{IsBoundTo};
+ghost use Rattle.world.specs.declared.kept.loaded.Loaded.{Loaded};
+ghost use Rattle.world.specs.BoundTo.{AreProgramsBound};
+ghost use Rattle.world.specs.Programs.{program_of};
 ghost use Rattle.world.specs.Bound.{IsFirstUnbound};
 
+use crate::kept::Loaded;
 use bpf_model::{MapId, MapShape, ProgId};
 use maps::Registry;
 use world_laws::typed::code_is_real;
-use world_parts::Loaded;
 
 /// Whether the number is that of a map that is there and has this shape.
 fn has_shape(registry: &Registry, number: MapId, asked: MapShape) -> bool

@@ -9,8 +9,10 @@ mod apply;
 mod asking;
 mod binding;
 mod fault;
+mod kept;
 mod run_all;
 mod world;
 
 pub use fault::WorldFault;
+pub use kept::{Loaded, Parts};
 pub use world::World;

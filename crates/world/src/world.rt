@@ -4,18 +4,18 @@ ghost use Rattle.bpf_model.specs.declared.limits.TheConstants.{MAX_PROGRAMS};
 ghost use Rattle.bpf_model.specs.Refines.{TracksSchedule};
 ghost use Rattle.bpf_model.specs.Schedule.{start_schedule};
 ghost use Rattle.bpf_model.specs.View.{AreNewMaps, start_view, shapes_of_maps};
-ghost use Rattle.world_invariant.specs.Invariant.{IsWorld};
-ghost use Rattle.world_parts.specs.Bound.{AreProgramsBound};
-ghost use Rattle.world_parts.specs.Programs.{programs_in};
+ghost use Rattle.world_laws.specs.Invariant.{IsWorld};
+ghost use Rattle.world.specs.BoundTo.{AreProgramsBound};
+ghost use Rattle.world.specs.Programs.{programs_in};
 ghost use Rattle.world.specs.Bound.{IsFirstUnbound};
 
 use crate::binding::{certify_maps, certify_programs, first_unbound};
 use crate::fault::WorldFault;
+use crate::kept::{Loaded, Parts};
 use bpf_model::MAX_PROGRAMS;
 use maps::Registry;
 use std::alloc::{AllocError, Global};
 use std::marker::Model;
-use world_parts::{Loaded, Parts};
 
 /// Maps, verified programs that are bound to them, and runs of these programs in `MAX_RUNS` run slots.
 /// Contracts see the world's view; each world tracks a state of the abstract machine.
@@ -27,7 +27,7 @@ pub struct World {
 impl Model for World {
     ghost use Rattle.bpf_model.specs.View.{WorldView};
     ghost use Rattle.bpf_model.specs.Codes.{world_code};
-    ghost use Rattle.world_invariant.specs.Invariant.{IsWorld};
+    ghost use Rattle.world_laws.specs.Invariant.{IsWorld};
 
     ghost Value = { WorldView };
 

@@ -21,3 +21,9 @@ pub mod Flags
 pub mod Reading
 pub mod Reaching
 pub mod Local
+pub mod BindingOf
+pub mod Counts
+pub mod KeepingWorlds
+pub mod Alike
+pub mod Asked
+pub mod Lived

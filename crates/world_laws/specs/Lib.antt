@@ -6,3 +6,7 @@ pub mod Typed
 pub mod WorldExample
 pub mod Reaching
 pub mod Local
+pub mod Binding
+pub mod Exited
+pub mod Invariant
+pub mod Exits

@@ -4,6 +4,8 @@
 //! Each is a function whose contract is the law; only those of `typed` have a body.
 #![tactic(auto)]
 
+mod exits;
+mod invariant;
 pub mod typed;
 
 ghost use Rattle.std.specs.Prelude.{◌≡◌, ℕ, ◌^◌, ◌<◌, ◌≤◌, ℤ, List, [], ◌∷◌, Some, length};
@@ -49,6 +51,12 @@ ghost use Rattle.world_laws.specs.Moving.{word_in};
 ghost use Rattle.world_laws.specs.Reaching.{Reaches, IsWritable, IsCall, IsAllowed, HasInsn};
 ghost use Rattle.world_laws.specs.Reacting.{insn_step, word_step, full_reaction, full_reactions};
 ghost use Rattle.world_laws.specs.Typed.{AreRealPrograms, AreListed, IsReadyWorld, IsSound, IsRunning};
+
+pub use exits::{exit_alike, exited_as_defined};
+pub use invariant::{
+    bound_is_verified, count_has_room, reaction_is_world, reactions_make_world, start_is_world,
+    world_is_matched,
+};
 
 /// The word of a near reference within the limits tells the location that the reference names.
 pub fn words_tell_locations()

@@ -9,8 +9,7 @@ use plain_model::Machine;
 use std::alloc::Global;
 use std::test::Fail;
 use verifier::Verified;
-use world::World;
-use world_parts::Loaded;
+use world::{Loaded, World};
 
 /// The bytes of `examples/lookup.bpf`.
 const LOOKUP: &str =

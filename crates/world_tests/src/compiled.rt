@@ -7,8 +7,7 @@ use insn_codec::{Program, decode};
 use plain_model::Machine;
 use std::alloc::Global;
 use std::test::Fail;
-use world::World;
-use world_parts::Loaded;
+use world::{Loaded, World};
 
 /// A compiled program: how many bytes its context has, its maps, and its slots in hexadecimal digits;
 /// and events with their answers.

@@ -12,8 +12,7 @@ use plain_runs::Loaded as PlainLoaded;
 use std::alloc::Global;
 use std::test::Fail;
 use verifier::{ProgramRefusal, Verified, verify};
-use world::World;
-use world_parts::Loaded;
+use world::{Loaded, World};
 
 /// Keys of 4 bytes, values of 8, 4 elements and 4 further map slots, each used a hundred times at most.
 pub const SHAPE: MapShape = MapShape {

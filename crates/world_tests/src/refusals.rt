@@ -4,8 +4,7 @@ use crate::programs::{EXIT_ONE, LOOKUP};
 use bpf_model::{MAX_PROGRAMS, MapShape};
 use std::alloc::Global;
 use std::test::Fail;
-use world::{World, WorldFault};
-use world_parts::Loaded;
+use world::{Loaded, World, WorldFault};
 
 /// Another shape, of equal lengths: what a program was verified for is the shape as a whole.
 const OTHER: MapShape = MapShape {

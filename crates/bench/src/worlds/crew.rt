@@ -2,13 +2,13 @@
 ghost use Rattle.std.specs.Prelude.{◌≡◌, ◌<◌, ◌≤◌};
 ghost use Rattle.shared.specs.declared.worker.TheConstants.{MAX_WORKERS};
 
+use crate::measurements::{Decimal, quotient};
 use crate::worlds::activity::{Activity, Deed, SMALL_ENTRIES, Stepped, small};
 use crate::worlds::measure::LONG_TASK_BATCHES;
 use crate::worlds::sequence::Sequence;
 use crate::worlds::setup::{key_of, make_world};
 use anyhow::{Result, bail};
 use bpf_model::{Answer, CtxBytes, Event, KeyBytes, MapId, ProgId, RunId};
-use measurements::{Decimal, quotient};
 use shared::{Shared, Worker, Workers, is_quiet};
 use std::alloc::Global;
 use std::rt::Clock;

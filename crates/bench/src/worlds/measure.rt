@@ -1,10 +1,10 @@
 //! How long a world's answers take.
 ghost use Rattle.std.specs.Prelude.{◌<◌};
 
+use crate::measurements::{BATCHES, Decimal, LEAST_MILLIS, quotient};
 use crate::worlds::setup::Setup;
 use crate::worlds::tally::Tally;
 use anyhow::{Result, ensure};
-use measurements::{BATCHES, Decimal, LEAST_MILLIS, quotient};
 use std::rt::Clock;
 use std::time::{Duration, Instant};
 

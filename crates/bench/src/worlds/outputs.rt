@@ -2,6 +2,7 @@
 ghost use Rattle.std.specs.Prelude.{◌<◌, ◌≤◌};
 ghost use Rattle.shared.specs.declared.worker.TheConstants.{MAX_WORKERS};
 
+use crate::measurements::measurement_line;
 use crate::worlds::activity::{Activity, activities};
 use crate::worlds::command::Command;
 use crate::worlds::crew::{Crew, crews, repeat_calls, time_per_call};
@@ -12,7 +13,6 @@ use crate::worlds::scripts::time_per_line;
 use crate::worlds::setup::make_setup;
 use crate::worlds::tally::Tally;
 use anyhow::{Result, bail};
-use measurements::measurement_line;
 use shared::MAX_WORKERS;
 use std::alloc::Global;
 use std::marker::Brand;

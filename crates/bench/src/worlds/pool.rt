@@ -2,12 +2,12 @@
 ghost use Rattle.std.specs.Prelude.{◌≡◌, ◌<◌, ◌≤◌};
 ghost use Rattle.shared.specs.declared.worker.TheConstants.{MAX_WORKERS};
 
+use crate::measurements::{Decimal, quotient};
 use crate::worlds::activity::{Activity, Deed, Stepped, small};
 use crate::worlds::measure::LONG_TASK_BATCHES;
 use crate::worlds::setup::make_world;
 use anyhow::{Result, bail};
 use bpf_model::{CtxBytes, ProgId};
-use measurements::{Decimal, quotient};
 use shared::{Shared, Workers, is_quiet};
 use std::alloc::{AllocError, Global};
 use std::rt::Clock;

@@ -1,5 +1,6 @@
 //! Lines of a script.
 
+use crate::measurements::{Decimal, quotient};
 use crate::worlds::activity::SMALL_ENTRIES;
 use crate::worlds::measure::LONG_TASK_BATCHES;
 use crate::worlds::programs::arithmetic;
@@ -8,7 +9,6 @@ use asm::assemble;
 use bpf_model::MAX_REUSE;
 use control::run_script;
 use insn_codec::encode;
-use measurements::{Decimal, quotient};
 use std::alloc::Global;
 use std::fmt::Write as _;
 use std::io;

@@ -17,8 +17,7 @@ use bpf_model::{
 use maps::Registry;
 use std::alloc::Global;
 use verifier::verify;
-use world::World;
-use world_parts::Loaded;
+use world::{Loaded, World};
 
 /// How many reads, or cycles, a round has.
 const PARTS: usize = 1024;

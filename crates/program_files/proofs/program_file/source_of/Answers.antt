@@ -1,4 +1,4 @@
-use Rattle.loader.specs.Loaded.{loaded_content}
+use Rattle.program_files.specs.Loaded.{loaded_content}
 use Rattle.program_files.proofs.NewMaps.{says_new}
 use Rattle.program_files.proofs.program_file.source_of.Goals as goal
 

@@ -8,7 +8,7 @@ use Rattle.script_lines.specs.declared.reply.Reply.{Reply}
 use Rattle.script_lines.specs.declared.reply.Reply.TheVariants.{Element, End}
 use Rattle.script_lines.specs.Answers.{reply_text}
 use Rattle.script_world.specs.Replies.{AreElements}
-use Rattle.world_parts.specs.Asking.{IsFound, HasNone}
+use Rattle.world.specs.Asking.{IsFound, HasNone}
 use Rattle.script_world.proofs.Above.{keys_above, fewer_above}
 use Rattle.script_world.proofs.dumping.write_elements.Goals as goal
 

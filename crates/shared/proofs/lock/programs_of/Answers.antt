@@ -3,7 +3,7 @@ use Rattle.std.specs.Prelude.{slice_get}
 use Rattle.bpf_model.specs.declared.limits.MapShape.{MapShape}
 use Rattle.bpf_model.specs.View.{shapes_of}
 use Rattle.verifier.specs.Checked.{Checked}
-use Rattle.world_parts.specs.Programs.{program_of}
+use Rattle.world.specs.Programs.{program_of}
 use Rattle.shared.proofs.Kept.{AreKept, IsKeptAs, kept-more}
 use Rattle.shared.proofs.lock.programs_of.Goals as goal
 

@@ -1,5 +1,5 @@
-use Rattle.world_invariant.proofs.Counts.{count_has_room}
-use Rattle.world_invariant.proofs.Keeping.{world_is_matched}
+use Rattle.world_laws.proofs.Counts.{count_has_room}
+use Rattle.world_laws.proofs.KeepingWorlds.{world_is_matched}
 use Rattle.world.proofs.apply.react.Goals as goal
 
 pub step_into-requires : goal.step_into-requires

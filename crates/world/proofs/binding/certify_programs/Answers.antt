@@ -1,7 +1,7 @@
 use Rattle.typed_runs.specs.Verified.{IsVerified}
 use Rattle.world_laws.specs.Typed.{IsRealProgram}
-use Rattle.world_parts.specs.declared.loaded.Loaded.{Loaded}
-use Rattle.world_parts.specs.Programs.{program_of}
+use Rattle.world.specs.declared.kept.loaded.Loaded.{Loaded}
+use Rattle.world.specs.Programs.{program_of}
 use Rattle.world.proofs.Shapes.{each-more, each-all}
 use Rattle.world.proofs.binding.certify_programs.Goals as goal
 

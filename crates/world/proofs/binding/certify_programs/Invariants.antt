@@ -2,8 +2,8 @@ use Rattle.std.proofs.Common.{◌≡◌, ℕ, ◌<◌}
 use Rattle.std.specs.Prelude.{slice_get, Some}
 use Rattle.typed_runs.specs.Verified.{IsVerified}
 use Rattle.world_laws.specs.Typed.{IsRealProgram}
-use Rattle.world_parts.specs.declared.loaded.Loaded.{Loaded}
-use Rattle.world_parts.specs.Programs.{program_of}
+use Rattle.world.specs.declared.kept.loaded.Loaded.{Loaded}
+use Rattle.world.specs.Programs.{program_of}
 use Rattle.world.proofs.binding.certify_programs.Given as goal
 
 abbrev pub invariant-loop-program : goal.invariant-loop-program

@@ -1,7 +1,7 @@
 use Rattle.std.proofs.Common.{◌≡◌, ℕ, ◌<◌}
 use Rattle.std.specs.Prelude.{slice_get, Some}
-use Rattle.world_parts.specs.declared.loaded.Loaded.{Loaded}
-use Rattle.world_parts.specs.Bound.{IsBound}
+use Rattle.world.specs.declared.kept.loaded.Loaded.{Loaded}
+use Rattle.world.specs.BoundTo.{IsBound}
 use Rattle.world.proofs.binding.first_unbound.Given as goal
 use Rattle.bpf_model.specs.View.{shapes_of_maps}
 

@@ -3,7 +3,7 @@ use Rattle.std.specs.Prelude.{slice_get, option_map}
 use Rattle.std.proofs.lemmas.List.{length-append}
 use Rattle.std.proofs.lemmas.Option.{slice_get-map}
 use Rattle.bpf_model.specs.View.{MapView, shapes_of_maps}
-use Rattle.world_invariant.specs.Binding.{IsBoundTo}
+use Rattle.world_laws.specs.Binding.{IsBoundTo}
 use Rattle.script_setup.specs.Loading.{AreMapsNamed}
 use Rattle.script_setup.proofs.Growing.{found-next}
 use Rattle.script_setup.proofs.setup.Setup.bind.Goals as goal

@@ -1,5 +1,5 @@
 use Rattle.std.proofs.Common.{◌≡◌, ℕ, List, ◌++◌, length}
-use Rattle.world_invariant.specs.Binding.{IsBoundTo}
+use Rattle.world_laws.specs.Binding.{IsBoundTo}
 use Rattle.script_setup.specs.Loading.{AreMapsNamed}
 use Rattle.script_setup.specs.Setups.{shapes_made}
 use Rattle.script_setup.proofs.setup.Setup.bind.Given as goal

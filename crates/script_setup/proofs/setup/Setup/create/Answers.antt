@@ -2,7 +2,7 @@ use Rattle.std.proofs.Common.{◌≡◌, ◌∙◌, ◌∷◌, [], length, refl,
 use Rattle.std.proofs.lemmas.List.{length-append}
 use Rattle.bpf_model.specs.View.{AreNewMaps, new_map_view, shapes_of_maps}
 use Rattle.maps.specs.Registry.{creation_fault}
-use Rattle.world_parts.specs.Bound.{AreProgramsBound}
+use Rattle.world.specs.BoundTo.{AreProgramsBound}
 use Rattle.script_setup.proofs.Creating.{create-refused}
 use Rattle.maps.proofs.NewMaps.{new-more}
 use Rattle.script_setup.proofs.Growing.{bound-still}

@@ -1,10 +1,10 @@
 use Rattle.std.proofs.Common.{◌≡◌, ◌∙◌, ◌<◌, length, map, IfOk, ap, subst, arith}
 use Rattle.std.proofs.lemmas.List.{length-map}
 use Rattle.bpf_model.specs.declared.limits.TheConstants.{MAX_PROGRAMS}
-use Rattle.world_parts.specs.Programs.{program_of}
+use Rattle.world.specs.Programs.{program_of}
 use Rattle.script_setup.specs.Loading.{AreMapsNamed, ReadReplies}
 use Rattle.script_setup.specs.Setups.{shapes_made}
-use Rattle.world_invariant.specs.Binding.{IsBoundTo}
+use Rattle.world_laws.specs.Binding.{IsBoundTo}
 use Rattle.script_setup.proofs.Reading.{read-reply}
 use Rattle.script_setup.proofs.setup.Setup.load.Goals as goal
 

@@ -3,9 +3,9 @@ use Rattle.std.proofs.lemmas.List.{length-append, length-map}
 use Rattle.bpf_model.specs.PlainMaps.{IsPlainWithMaps}
 use Rattle.bpf_model.specs.View.{shapes_of_maps}
 use Rattle.verifier.specs.declared.refusal.ProgramRefusal.TheVariants.{Memory}
-use Rattle.world_parts.specs.Bound.{AreProgramsBound}
-use Rattle.world_invariant.specs.Binding.{IsBoundTo}
-use Rattle.world_parts.specs.Programs.{program_of}
+use Rattle.world.specs.BoundTo.{AreProgramsBound}
+use Rattle.world_laws.specs.Binding.{IsBoundTo}
+use Rattle.world.specs.Programs.{program_of}
 use Rattle.script_setup.proofs.Growing.{bound-more}
 use Rattle.script_setup.proofs.Reading.{unverified-reply}
 use Rattle.script_setup.proofs.setup.Setup.load_bound.Goals as goal

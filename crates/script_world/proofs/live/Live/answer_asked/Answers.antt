@@ -8,7 +8,7 @@ use Rattle.script_lines.specs.declared.reply.Reply.TheVariants.{End}
 use Rattle.script_lines.specs.Answers.{reply_text}
 use Rattle.script_requests.specs.declared.asked.Asked.TheVariants as asked
 use Rattle.script_requests.specs.Replying.{refused, reply_to}
-use Rattle.world_parts.specs.Asking.{stat_of}
+use Rattle.world.specs.Asking.{stat_of}
 use Rattle.script_world.specs.Lives.{IsReplied}
 use Rattle.script_world.specs.declared.live.TheConstants.{SEALED}
 use Rattle.script_world.specs.Replies.{AreElements, overlong_refusal}

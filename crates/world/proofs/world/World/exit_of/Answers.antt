@@ -1,8 +1,8 @@
 use Rattle.std.proofs.Common.{ℕ, subst}
 use Rattle.std.specs.Prelude.{IfNone}
 use Rattle.bpf_model.specs.View.{WorldView}
-use Rattle.world_invariant.specs.Exited.{HasExited}
-use Rattle.exit_laws.proofs.Asked.{asked_may, asked_alone}
+use Rattle.world_laws.specs.Exited.{HasExited}
+use Rattle.world_laws.proofs.Asked.{asked_may, asked_alone}
 use Rattle.world.proofs.world.World.exit_of.Goals as goal
 
 pub returns-clause-none : goal.returns-clause-none

@@ -4,9 +4,9 @@ use Rattle.bpf_model.specs.declared.limits.TheConstants.{MAX_PROGRAMS}
 use Rattle.bpf_model.specs.View.{shapes_of_maps}
 use Rattle.typed_runs.specs.Verified.{IsVerified}
 use Rattle.world_laws.specs.Typed.{IsRealProgram}
-use Rattle.world_parts.specs.declared.loaded.Loaded.{Loaded}
-use Rattle.world_parts.specs.Programs.{program_of}
-use Rattle.world_parts.specs.Bound.{AreProgramsBound}
+use Rattle.world.specs.declared.kept.loaded.Loaded.{Loaded}
+use Rattle.world.specs.Programs.{program_of}
+use Rattle.world.specs.BoundTo.{AreProgramsBound}
 use Rattle.world.proofs.Starting.{IsSafe, made-is-world, made-tracks-start}
 use Rattle.world.proofs.world.World.new.Goals as goal
 

@@ -1,3 +1,0 @@
-pub mod Lived
-pub mod Asked
-pub mod Alike

@@ -1,4 +1,0 @@
-pub mod Files
-pub mod Slots
-pub mod Splitting
-pub mod Texts

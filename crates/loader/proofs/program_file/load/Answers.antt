@@ -1,6 +1,0 @@
-use Rattle.std.proofs.Common.{rules}
-use Rattle.loader.proofs.Texts.{only_content}
-use Rattle.loader.proofs.program_file.load.Goals as goal
-
-pub returns-in-Some-clause-only : goal.returns-in-Some-clause-only
-returns-in-Some-clause-only c content = only_content c.args.bytes.now content c.load_text.result (search rules) (search rules)

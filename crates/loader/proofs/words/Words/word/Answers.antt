@@ -1,8 +1,0 @@
-use Rattle.std.proofs.Common.{◌∙◌, ap}
-use Rattle.loader.specs.Reading.{words_left}
-use Rattle.loader.proofs.Splitting.{word_cut}
-use Rattle.loader.proofs.words.Words.word.Goals as goal
-
-pub returns-clause-some : goal.returns-clause-some
-returns-clause-some c =
-    let w = word_cut c.in_ok-rest.rest.now c.cut.result.0.now c.cut.result.1 c.cut.ensures.front c.cut.ensures.parts in ap words_left c.in_ok-rest.was ∙ w

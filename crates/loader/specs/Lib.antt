@@ -1,4 +1,0 @@
-pub mod Lines
-pub mod Loaded
-pub mod ProgramFile
-pub mod Reading

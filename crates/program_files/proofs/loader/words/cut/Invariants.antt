@@ -1,0 +1,6 @@
+use Rattle.std.proofs.Common.{take}
+use Rattle.program_files.specs.Reading.{HasNoByte}
+use Rattle.program_files.proofs.loader.words.cut.Given as goal
+
+abbrev pub invariant-loop-index : goal.invariant-loop-index
+invariant-loop-index l = HasNoByte l.at (take l.index l.bytes)

@@ -1,0 +1,11 @@
+//! Program files: a text with a program's context length, its maps and its slots, or the raw bytes of a
+//! program.
+
+mod fault;
+mod line;
+mod loading;
+mod program_file;
+mod words;
+
+pub use fault::LoadFault;
+pub use program_file::{HEADING, ProgramFile, load};

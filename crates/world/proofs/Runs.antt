@@ -1,0 +1,113 @@
+-- What a start and a drop leave of a world.
+use Rattle.std.proofs.Common.{◌≡◌, ◌∙◌, ℕ, List, length, Bool, true, false, Option, Some, None, inl, inr, sym, ap, subst, cond}
+use Rattle.std.specs.Prelude.{slice_get, slice_set, map, option_map, nat_lt, replicate}
+use Rattle.std.proofs.lemmas.Option.{none-some, same_Some, slice_get-map}
+use Rattle.std.proofs.lemmas.Bool.{eq-eqb}
+use Rattle.bpf_model.specs.declared.event.EventRefusal.TheVariants.{BadContext}
+use Rattle.bpf_model.specs.declared.limits.TheConstants.{MAX_RUNS}
+use Rattle.bpf_model.specs.Event.{start_refusal, if_full}
+use Rattle.bpf_model.specs.Schedule.{still_open}
+use Rattle.bpf_model.specs.Machine as machine
+use Rattle.bpf_model.specs.View.{MapView, RunView, WorldView}
+use Rattle.element_arena.proofs.Views.{map-set_same}
+use Rattle.grace_period.specs.State.{GraceState, IsGrace}
+use Rattle.view_laws.specs.Reactions.{with_run, fresh_view, start_by, start_reaction}
+use Rattle.view_laws.proofs.Listing.{still-same}
+use Rattle.machine.specs.RunWords.{RunWords, IsAt}
+use Rattle.world.specs.declared.kept.loaded.Loaded.{Loaded}
+use Rattle.world.specs.Programs.{program_of}
+use Rattle.world.specs.Keeping.{view_of, is_run_inside, IsOfProgram, AreRunsKept, world_of}
+use Rattle.world.proofs.Flags.{still-cleared}
+use Rattle.world.proofs.Slots.{Runs}
+use Rattle.std.proofs.lemmas.List.{length-set, map-set}
+use Rattle.bpf_model.proofs.Lists.{set-same, get-set_cases, get-replicate}
+use Rattle.bpf_model.specs.Machine.{lowest_free}
+
+same_world : (maps : List MapView) (programs : List machine.Loaded) (given : ℕ) (rs qs : List (Option RunView)) (os ps cs bs : List Bool) → rs ≡ qs → os ≡ ps → cs ≡ bs →
+    let a : WorldView = record { maps = maps; runs = rs; opened = os; awaited = cs; programs = programs; given = given } in
+    let b : WorldView = record { maps = maps; runs = qs; opened = ps; awaited = bs; programs = programs; given = given } in
+    a ≡ b
+same_world maps programs given rs qs os ps cs bs e f g = cc
+
+module _ (maps : List MapView) (runs : Runs) (grace new : GraceState) (programs : List Loaded) (given i r : ℕ) (same : i ≡ r) (kept : AreRunsKept runs grace programs) (sound : IsGrace grace) (opened : new.opened ≡ slice_set grace.opened r false) (awaited : new.awaited ≡ slice_set grace.awaited r false) where
+  pub dropped-kept : AreRunsKept (slice_set runs i None) new programs
+  dropped-kept = record {
+    slots = length-set runs i None ∙ kept.slots;
+    opened = opened ∙ (ap (λ (os : List Bool). slice_set os r false) kept.opened ∙ (ap (λ k. slice_set (map is_run_inside runs) k false) (sym same) ∙ sym (map-set is_run_inside runs i None)));
+    of_program = λ k run e. elim (get-set_cases runs i k None (Some run) e) [
+      | inl z ↦ absurd (none-some run z.1)
+      | inr z ↦ kept.of_program k run z.1
+    ];
+  }
+
+  pub dropped-view : world_of maps (slice_set runs i None) new programs given ≡ with_run r None (world_of maps runs grace programs given)
+  dropped-view =
+      same_world maps (map program_of programs) given _ _ _ _ _ _
+      (map-set view_of runs i None ∙ ap (λ k. slice_set (map view_of runs) k None) same)
+      opened
+      (awaited ∙ sym (still-cleared grace.awaited grace.opened r (sound.awaited ∙ sym sound.opened) sound.inside))
+
+module _ (maps : List MapView) (runs : Runs) (grace : GraceState) (programs : List Loaded) (given i prog : ℕ) (context : List ℕ) (program : Loaded) (run : RunWords) (free : slice_get runs i ≡ Some None) (kept : AreRunsKept runs grace programs) (there : slice_get programs prog ≡ Some program) (fresh : run.view ≡ fresh_view prog context) (stands : IsAt program.verified.program run) where
+  started-shut : is_run_inside (Some run) ≡ false
+  started-shut = ap (λ (v : RunView). nat_lt 0 v.depth) fresh
+
+  started-opened : slice_set grace.opened i false ≡ grace.opened
+  started-opened = set-same grace.opened i false (ap (λ (os : List Bool). slice_get os i) kept.opened ∙ (slice_get-map is_run_inside runs i ∙ ap (option_map is_run_inside) free))
+
+  pub started-kept : AreRunsKept (slice_set runs i (Some run)) grace programs
+  started-kept = record {
+    slots = length-set runs i (Some run) ∙ kept.slots;
+    opened = kept.opened ∙ sym (map-set_same is_run_inside runs i None (Some run) free started-shut);
+    of_program = λ k other e. elim (get-set_cases runs i k (Some run) (Some other) e) [
+      | inl z ↦ subst (IsOfProgram programs) (same_Some run other z.1) (record {
+        program = program;
+        there = ap (λ (v : RunView). slice_get programs v.program) fresh ∙ there;
+        stands = stands;
+      })
+      | inr z ↦ kept.of_program k other z.1
+    ];
+  }
+
+  pub started-view : IsGrace grace → world_of maps (slice_set runs i (Some run)) grace programs given ≡ with_run i (Some (fresh_view prog context)) (world_of maps runs grace programs given)
+  started-view sound =
+      same_world maps (map program_of programs) given _ _ _ _ _ _
+      (map-set view_of runs i (Some run) ∙ ap (λ (v : RunView). slice_set (map view_of runs) i (Some v)) fresh)
+      (sym started-opened)
+      (sym (still-same grace.awaited grace.opened (sound.awaited ∙ sym sound.opened) sound.inside) ∙ ap (still_open grace.awaited) (sym started-opened))
+
+-- a start that neither the program nor the context refuses
+pub start-goes : (w : WorldView) (prog : ℕ) (context : List ℕ) (program : machine.Loaded) (o : Option ℕ) → slice_get w.programs prog ≡ Some program → length context ≡ program.context_len → lowest_free w.runs ≡ o → start_reaction w prog context ≡ start_by (if_full o) o w prog context
+start-goes w prog context program o there long free =
+    ap (λ p. start_by (start_refusal p (length context) (lowest_free w.runs)) (lowest_free w.runs) w prog context) there
+    ∙ (ap (λ z. start_by (cond z (if_full (lowest_free w.runs)) (Some BadContext)) (lowest_free w.runs) w prog context) (eq-eqb (length context) program.context_len long)
+    ∙ ap (λ f. start_by (if_full f) f w prog context) free)
+
+pub started : (maps : List MapView) (runs : Runs) (grace : GraceState) (programs : List Loaded) (given prog : ℕ) (context : List ℕ) (program : Loaded) (o : Option ℕ) (w : WorldView) → world_of maps runs grace programs given ≡ w →
+    slice_get programs prog ≡ Some program → length context ≡ program.verified.ctx_len → o ≡ lowest_free (map view_of runs) → start_reaction w prog context ≡ start_by (if_full o) o w prog context
+started maps runs grace programs given prog context program o w e there long free =
+    start-goes w prog context (program_of program) o
+    (ap (λ (z : WorldView). slice_get z.programs prog) (sym e) ∙ (slice_get-map program_of programs prog ∙ ap (option_map program_of) there))
+    long
+    (ap (λ (z : WorldView). lowest_free z.runs) (sym e) ∙ sym free)
+
+none-in : {A : Type 0} (n r : ℕ) (x : A) → slice_get (replicate n None) r ≡ Some (Some x) → ⊥
+none-in n r x e = none-some x (sym (get-replicate n r None (Some x) e))
+
+pub fresh-kept : (runs : Runs) (grace : GraceState) (programs : List Loaded) → runs ≡ replicate MAX_RUNS None → grace.opened ≡ replicate MAX_RUNS false → AreRunsKept runs grace programs
+fresh-kept runs grace programs e o = record {
+  slots = ap (λ (rs : Runs). length rs) e;
+  opened = o ∙ sym (ap (map is_run_inside) e);
+  of_program = λ r run g. absurd (none-in MAX_RUNS r run (ap (λ (rs : Runs). slice_get rs r) (sym e) ∙ g));
+}
+
+flags-stay : (turns : Bool) (grace new : GraceState) → new ≡ cond turns (record { opened = grace.opened; awaited = grace.opened }) grace → new.opened ≡ grace.opened
+flags-stay true grace new is = ap (λ (g : GraceState). g.opened) is
+flags-stay false grace new is = ap (λ (g : GraceState). g.opened) is
+
+-- where a grace period ends, the runs inside a section are as before
+pub turned-kept : (turns : Bool) (runs : Runs) (grace new : GraceState) (programs : List Loaded) → new ≡ cond turns (record { opened = grace.opened; awaited = grace.opened }) grace → AreRunsKept runs grace programs → AreRunsKept runs new programs
+turned-kept turns runs grace new programs is kept = record {
+  slots = kept.slots;
+  opened = flags-stay turns grace new is ∙ kept.opened;
+  of_program = kept.of_program;
+}

@@ -1,0 +1,42 @@
+-- Run slots: the lowest free one.
+use Rattle.std.proofs.Common.{◌≡◌, ◌∙◌, ℕ, zero, suc, ◌+◌, ◌<◌, List, [], ◌∷◌, length, Option, Some, None, refl, sym, ap, arith, add-one, below_more, get_or, true, false}
+use Rattle.std.specs.Prelude.{slice_get, map, option_map, is_some}
+use Rattle.std.proofs.lemmas.Bool.{false≢true}
+use Rattle.std.proofs.lemmas.Option.{none-some, same_Some, slice_get-get_or}
+use Rattle.machine.specs.RunWords.{RunWords}
+use Rattle.world.specs.Keeping.{view_of}
+use Rattle.bpf_model.specs.Machine.{lowest_free}
+
+abbrev pub Runs : Type 0
+Runs = List (Option RunWords)
+
+-- the slots below this one are occupied
+abbrev pub AreTaken : Runs → ℕ → Type 0
+AreTaken runs n = (k : ℕ) → k < n → slice_get runs k ≡ Some None → ⊥
+
+pub free-here : (runs : Runs) (n : ℕ) → slice_get runs n ≡ Some None → AreTaken runs n → lowest_free (map view_of runs) ≡ Some n
+free-here [] n e h = absurd (none-some None e)
+free-here (None ∷ runs) zero e h = refl
+free-here (None ∷ runs) (suc n) e h = absurd (h 0 (omega arith) refl)
+free-here (Some r ∷ runs) zero e h = let s : Some r ≡ None = same_Some (Some r) None e in absurd (none-some r (sym s))
+free-here (Some r ∷ runs) (suc n) e h =
+    ap (option_map (λ k. k + 1)) (free-here runs n e (λ k l g. h (suc k) (omega arith) g)) ∙ ap (λ k. Some k) (add-one n)
+
+pub free-none : (runs : Runs) → AreTaken runs (length runs) → lowest_free (map view_of runs) ≡ None
+free-none [] h = refl
+free-none (None ∷ runs) h = absurd (h 0 (omega arith) refl)
+free-none (Some r ∷ runs) h = ap (option_map (λ k. k + 1)) (free-none runs (λ k l g. h (suc k) (omega arith) g))
+
+none-of : {A : Type 0} (o : Option A) → is_some o ≡ false → o ≡ None
+none-of None e = refl
+none-of (Some x) e = absurd (false≢true (sym e))
+
+not-none : {A : Type 0} (o : Option A) → is_some o ≡ true → o ≡ None → ⊥
+not-none None e z = false≢true e
+not-none (Some x) e z = none-some x (sym z)
+
+pub free-at : (runs : Runs) (n : ℕ) (d : Option RunWords) → n < length runs → is_some (get_or runs n d) ≡ false → slice_get runs n ≡ Some None
+free-at runs n d h e = slice_get-get_or runs n d h ∙ ap (λ o. Some o) (none-of (get_or runs n d) e)
+
+pub taken-more : (runs : Runs) (n : ℕ) (d : Option RunWords) → n < length runs → is_some (get_or runs n d) ≡ true → AreTaken runs n → AreTaken runs (n + 1)
+taken-more runs n d h e taken = below_more (λ k. slice_get runs k ≡ Some None → ⊥) n taken (λ z. not-none (get_or runs n d) e (same_Some (get_or runs n d) None (sym (slice_get-get_or runs n d h) ∙ z)))

@@ -1,0 +1,6 @@
+use Rattle.std.proofs.lemmas.Slice.Eq.{slice_eq-Decides}
+use Rattle.world.proofs.Same.{shapes-decides}
+use Rattle.world.proofs.kept.asking.are_same_shapes.Goals as goal
+
+pub returns-then-a-b : goal.returns-then-a-b
+returns-then-a-b c = slice_eq-Decides shapes-decides c.args.a.now c.args.b.now c.eq.result c.eq.ensures

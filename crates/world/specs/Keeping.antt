@@ -1,0 +1,55 @@
+-- What is kept of a world: each run at its code, for each whether it is inside a section, and each
+-- program bound to the maps.
+use Rattle.std.specs.Prelude.{◌≡◌, ℕ, Bool, List, length, map, Option, Some, slice_get, option_map}
+use Rattle.bpf_model.specs.declared.limits.TheConstants.{MAX_RUNS}
+use Rattle.bpf_model.specs.View.{MapView, RunView, WorldView, shapes_of_maps}
+use Rattle.grace_period.specs.State.{GraceState}
+use Rattle.view_laws.specs.Reactions.{is_open_view}
+use Rattle.machine.specs.RunWords.{RunWords, IsAt}
+use Rattle.world.specs.declared.kept.loaded.Loaded.{Loaded}
+use Rattle.world.specs.BoundTo.{AreProgramsBound}
+use Rattle.world.specs.Programs.{programs_in}
+
+-- what the world's view shows of a run slot
+abbrev pub view_of : Option RunWords → Option RunView
+view_of o = option_map (λ r. r.view) o
+
+-- whether the run of a run slot is inside a section
+abbrev pub is_run_inside : Option RunWords → Bool
+is_run_inside o = is_open_view (view_of o)
+
+-- The run's program is there, and the run is at its code.
+pub record IsOfProgram (programs : List Loaded) (run : RunWords) : Type 0 where
+  pub program : Loaded
+  pub there : slice_get programs run.view.program ≡ Some program
+  pub stands : IsAt program.verified.program run
+
+-- There is a run slot for each run that there may be. The flags of those inside a section are what
+-- their depths say, and each run is of a program.
+pub record AreRunsKept (runs : List (Option RunWords)) (grace : GraceState) (programs : List Loaded)
+    : Type 0 where
+  pub slots : length runs ≡ MAX_RUNS
+  pub opened : grace.opened ≡ map is_run_inside runs
+  pub of_program : (r : ℕ) (run : RunWords) → slice_get runs r ≡ Some (Some run) →
+      IsOfProgram programs run
+
+-- The runs are kept, and each program is bound to the maps that there are.
+pub record IsKept (maps : List MapView) (runs : List (Option RunWords)) (grace : GraceState)
+    (programs : List Loaded) : Type 0 where
+  pub of_runs : AreRunsKept runs grace programs
+  pub bound : AreProgramsBound (shapes_of_maps maps) programs
+
+abbrev pub world_of : List MapView → List (Option RunWords) → GraceState → List Loaded → ℕ →
+    WorldView
+world_of maps runs grace programs given = record {
+  maps = maps;
+  runs = map view_of runs;
+  opened = grace.opened;
+  awaited = grace.awaited;
+  programs = programs_in programs;
+  given = given;
+}
+
+-- no run is in the run slot
+abbrev pub HasNoRun : List (Option RunWords) → ℕ → Type 0
+HasNoRun runs r = (run : RunWords) → slice_get runs r ≡ Some (Some run) → ⊥

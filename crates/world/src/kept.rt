@@ -1,0 +1,18 @@
+//! A world's maps, runs, grace period and programs, with every event.
+//!
+//! Each event is one method, which takes no memory and does not fail: what it answers and what it makes of
+//! the world are one equation on the world's view.
+
+mod asking;
+mod brief;
+mod by_number;
+mod control;
+mod copying;
+mod loaded;
+mod parts;
+mod reclaim;
+mod starting;
+mod step;
+
+pub use loaded::Loaded;
+pub use parts::Parts;

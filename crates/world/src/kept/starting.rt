@@ -1,0 +1,117 @@
+//! Where runs begin and end.
+ghost use Rattle.std.specs.Prelude.{◌≡◌, None, Some, map, slice_get, IfSome};
+ghost use Rattle.view_laws.specs.Reactions.{start_reaction, drop_reaction, drop_refused};
+ghost use Rattle.world.specs.Brief.{brief_answer};
+ghost use Rattle.world.specs.Keeping.{view_of};
+ghost use Rattle.bpf_model.specs.Machine.{lowest_free as lowest_free_of, run_at};
+
+use crate::kept::brief::Brief;
+use crate::kept::by_number::program_at;
+use crate::kept::parts::Parts;
+use bpf_model::{Answer, CtxBytes, EventRefusal, ProgId, RunId};
+use machine::Run;
+
+/// The lowest free run slot.
+fn lowest_free(runs: &[Option<Run>]) -> Option<usize>
+    ensures slot { result ≡ lowest_free_of (map view_of runs.now) }
+    ensures free { IfSome result (λ r. slice_get runs.now r ≡ Some None) }
+{
+    for (slot, run) in runs.iter().enumerate() {
+        if run.is_none() {
+            return Some(slot);
+        }
+    }
+    None
+}
+
+impl Parts {
+    /// Does a start as `start` says, and answers it in few bytes.
+    fn started(&mut self, prog: ProgId, ctx: &CtxBytes) -> Brief
+        ensures answer { brief_answer result ≡ (start_reaction self.old prog ctx.now.items).0 }
+        ensures new { self.new ≡ (start_reaction self.old prog ctx.now.items).1 }
+    {
+        let verified = match program_at(&self.programs, prog) {
+            None => return Brief::Refused(EventRefusal::NoProgram),
+            Some(program) => &program.verified,
+        };
+        if ctx.len() != verified.ctx_len() {
+            return Brief::Refused(EventRefusal::BadContext);
+        }
+        match lowest_free(&self.runs) {
+            None => Brief::Refused(EventRefusal::RunsFull),
+            Some(slot) => {
+                self.grace.keeps_awaited_open();
+                self.runs[slot] = Some(Run::start(verified, prog.index(), ctx));
+                Brief::Started(RunId::new(slot))
+            }
+        }
+    }
+
+    /// Starts a run of a program on a context, in the lowest free run slot, and puts the answer in the place of
+    /// another one. Refused, in this order, where no program has the number, where the context has another
+    /// length than the program was verified for, and where every run slot is occupied.
+    #[inline(never)]
+    pub fn start_into(&mut self, prog: ProgId, ctx: &CtxBytes, answer: &mut Answer)
+        ensures answer { answer.new ≡ (start_reaction self.old prog ctx.now.items).0 }
+        ensures new { self.new ≡ (start_reaction self.old prog ctx.now.items).1 }
+    {
+        self.started(prog, ctx).put(answer);
+    }
+
+    /// Starts a run, as `start_into` does, and answers it.
+    pub fn start(&mut self, prog: ProgId, ctx: &CtxBytes) -> Answer
+        ensures answer { result ≡ (start_reaction self.old prog ctx.now.items).0 }
+        ensures new { self.new ≡ (start_reaction self.old prog ctx.now.items).1 }
+    {
+        let mut answer = Answer::Done;
+        self.start_into(prog, ctx, &mut answer);
+        answer
+    }
+
+    /// Why the run of a run slot is not dropped, if it is not.
+    fn drop_refusal(&self, run: RunId) -> Option<EventRefusal>
+        ensures { result ≡ drop_refused (run_at self.now.runs run) }
+    {
+        match self.runs.get(run.index()) {
+            Some(Some(found)) if found.exit().is_some() => None,
+            Some(Some(_)) => Some(EventRefusal::StillRunning),
+            _ => Some(EventRefusal::NoRun),
+        }
+    }
+
+    /// Does a drop as `drop_run` says, and answers it in few bytes.
+    fn dropped(&mut self, run: RunId) -> Brief
+        ensures answer { brief_answer result ≡ (drop_reaction self.old run).0 }
+        ensures new { self.new ≡ (drop_reaction self.old run).1 }
+    {
+        match self.drop_refusal(run) {
+            Some(refusal) => Brief::Refused(refusal),
+            None => {
+                self.runs[run.index()] = None;
+                self.grace.keeps_awaited_open();
+                self.grace.close(run);
+                Brief::Done
+            }
+        }
+    }
+
+    /// Drops a run that has ended, and frees its run slot, and puts the answer in the place of another one.
+    /// Refused where no run has the run slot (`NoRun`), and where the run has not ended (`StillRunning`).
+    #[inline(never)]
+    pub fn drop_into(&mut self, run: RunId, answer: &mut Answer)
+        ensures answer { answer.new ≡ (drop_reaction self.old run).0 }
+        ensures new { self.new ≡ (drop_reaction self.old run).1 }
+    {
+        self.dropped(run).put(answer);
+    }
+
+    /// Drops a run, as `drop_into` does, and answers it.
+    pub fn drop_run(&mut self, run: RunId) -> Answer
+        ensures answer { result ≡ (drop_reaction self.old run).0 }
+        ensures new { self.new ≡ (drop_reaction self.old run).1 }
+    {
+        let mut answer = Answer::Done;
+        self.drop_into(run, &mut answer);
+        answer
+    }
+}

@@ -1,5 +1,0 @@
-use Rattle.world_invariant.proofs.Counts.{count_has_room}
-use Rattle.world_invariant.proofs.count_has_room.Goals as goal
-
-pub returns : goal.returns
-returns c = count_has_room

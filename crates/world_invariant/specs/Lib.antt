@@ -1,3 +1,0 @@
-pub mod Binding
-pub mod Exited
-pub mod Invariant

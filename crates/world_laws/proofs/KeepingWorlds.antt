@@ -1,0 +1,51 @@
+-- A world at the start, and after its reactions.
+use Rattle.std.proofs.Common.{◌≡◌, ◌≤◌, List, [], ◌∷◌, map, length, arith, refl}
+use Rattle.std.proofs.lemmas.List.{length-map}
+use Rattle.bpf_model.specs.declared.event.Event.{Event}
+use Rattle.bpf_model.specs.declared.limits.MapShape.{MapShape}
+use Rattle.bpf_model.specs.declared.limits.TheConstants.{MAX_MAPS, MAX_PROGRAMS}
+use Rattle.bpf_model.specs.Event.{IsReal, AreReal}
+use Rattle.bpf_model.specs.Machine.{Loaded}
+use Rattle.bpf_model.specs.MapState.{AreShapes}
+use Rattle.bpf_model.specs.Schedule.{start_schedule}
+use Rattle.bpf_model.specs.View.{WorldView, new_map_view, start_view}
+use Rattle.model_laws.proofs.Starting.{start_tracked}
+use Rattle.typed_runs.specs.Well.{AreVerified}
+use Rattle.typed_runs.proofs.Reaching.{real-rest}
+use Rattle.view_laws.proofs.Reacting.{tracked_matches}
+use Rattle.world_laws.specs.Reacting.{full_reaction, full_reactions}
+use Rattle.world_laws.specs.Typed.{AreRealPrograms, IsMatched}
+use Rattle.world_laws.proofs.Worlds.{starts_ready, ready_stays, bounded_stays, simulates, tracked_is_sound}
+use Rattle.world_laws.specs.Invariant.{IsWorld}
+
+pub start_is_world : (shapes : List MapShape) (programs : List Loaded) → AreShapes shapes → length shapes ≤ MAX_MAPS → length programs ≤ MAX_PROGRAMS → AreVerified shapes programs → AreRealPrograms programs → IsWorld (start_view shapes programs)
+start_is_world shapes programs right few few_programs verified real =
+    let count : length (map new_map_view shapes) ≡ length shapes = length-map shapes new_map_view in
+    record {
+      schedule = start_schedule shapes programs;
+      tracks = start_tracked shapes programs right;
+      ready = starts_ready shapes programs few verified real;
+      bounded = record { maps = omega (arith, count, few); programs = few_programs; given = omega arith };
+    }
+
+pub reaction_is_world : (w : WorldView) (event : Event) → IsWorld w → IsReal event → IsWorld (full_reaction w event).1
+reaction_is_world w event is real =
+    let next = simulates w is.schedule event is.tracks is.ready real in
+    record {
+      schedule = next.0;
+      tracks = next.2;
+      ready = ready_stays w event is.ready;
+      bounded = bounded_stays w is.schedule event is.tracks is.ready real is.bounded;
+    }
+
+pub reactions_make_world : (w : WorldView) (events : List Event) → IsWorld w → AreReal events → IsWorld (full_reactions w events).1
+reactions_make_world w [] is real = is
+reactions_make_world w (event ∷ events) is real =
+    reactions_make_world (full_reaction w event).1 events (reaction_is_world w event is (real 0 event refl)) (real-rest event events real)
+
+pub world_is_matched : (w : WorldView) → IsWorld w → IsMatched w
+world_is_matched w is = record {
+  schedule = is.schedule;
+  matches = tracked_matches w is.schedule is.tracks;
+  sound = tracked_is_sound w is.schedule is.tracks is.ready;
+}

@@ -1,7 +1,0 @@
-use Rattle.std.proofs.Common.{◌≡◌, ◌≤◌, take}
-use Rattle.std.specs.Prelude.{count_by}
-use Rattle.world_parts.specs.Keeping.{is_run_inside}
-use Rattle.world_parts.proofs.asking.inside.Given as goal
-
-abbrev pub invariant-loop-run : goal.invariant-loop-run
-invariant-loop-run l = (l.count ≡ count_by is_run_inside (take l.run-index l.runs)) × (l.count ≤ l.run-index)

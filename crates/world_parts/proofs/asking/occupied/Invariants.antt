@@ -1,6 +1,0 @@
-use Rattle.std.proofs.Common.{◌≡◌, ◌≤◌, take}
-use Rattle.std.specs.Prelude.{count_by, is_some}
-use Rattle.world_parts.proofs.asking.occupied.Given as goal
-
-abbrev pub invariant-loop-run : goal.invariant-loop-run
-invariant-loop-run l = (l.count ≡ count_by is_some (take l.run-index l.runs)) × (l.count ≤ l.run-index)

@@ -1,5 +1,0 @@
-use Rattle.std.proofs.Common.{◌≡◌, take}
-use Rattle.world_parts.proofs.copying.copy_of_programs.Given as goal
-
-abbrev pub invariant-loop-loaded : goal.invariant-loop-loaded
-invariant-loop-loaded l = l.copy.items ≡ take l.loaded-index l.programs

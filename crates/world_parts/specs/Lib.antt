@@ -1,6 +1,0 @@
-pub mod Brief
-pub mod Programs
-pub mod Bound
-pub mod Keeping
-pub mod Asking
-pub mod Stepping
