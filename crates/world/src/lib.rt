@@ -14,5 +14,5 @@ mod run_all;
 mod world;
 
 pub use fault::WorldFault;
-pub use kept::{Loaded, Parts};
+pub use kept::Loaded;
 pub use world::World;

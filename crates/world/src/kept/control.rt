@@ -50,7 +50,7 @@ fn find_into(chosen: &Map, key: &[u8], answer: &mut Answer)
 }
 
 impl Parts {
-    /// Does an update as `update` says, and answers it in few bytes.
+    /// Does an update as `update_into` says, and answers it in few bytes.
     #[inline(always)]
     fn updated(&mut self, map: MapId, key: &KeyBytes, value: &ValueBytes, flags: u64) -> Brief
         ensures answer { brief_answer result
@@ -88,19 +88,7 @@ impl Parts {
         self.updated(map, key, value, flags).put(answer);
     }
 
-    /// Stores a value under a key, as `update_into` does, and answers it.
-    pub fn update(&mut self, map: MapId, key: &KeyBytes, value: &ValueBytes, flags: u64) -> Answer
-        ensures answer { result
-            ≡ (update_reaction self.old map key.now.items value.now.items flags).0 }
-        ensures new { self.new
-            ≡ (update_reaction self.old map key.now.items value.now.items flags).1 }
-    {
-        let mut answer = Answer::Done;
-        self.update_into(map, key, value, flags, &mut answer);
-        answer
-    }
-
-    /// Does a deletion as `delete` says, and answers it in few bytes.
+    /// Does a deletion as `delete_into` says, and answers it in few bytes.
     #[inline(always)]
     fn deleted(&mut self, map: MapId, key: &KeyBytes) -> Brief
         ensures answer { brief_answer result ≡ (delete_reaction self.old map key.now.items).0 }
@@ -125,16 +113,6 @@ impl Parts {
         ensures new { self.new ≡ (delete_reaction self.old map key.now.items).1 }
     {
         self.deleted(map, key).put(answer);
-    }
-
-    /// Removes a key, as `delete_into` does, and answers it.
-    pub fn delete(&mut self, map: MapId, key: &KeyBytes) -> Answer
-        ensures answer { result ≡ (delete_reaction self.old map key.now.items).0 }
-        ensures new { self.new ≡ (delete_reaction self.old map key.now.items).1 }
-    {
-        let mut answer = Answer::Done;
-        self.delete_into(map, key, &mut answer);
-        answer
     }
 
     /// Puts the answer of a read in the place of another one: a value is copied once. Refused where no map

@@ -32,16 +32,6 @@ impl Parts {
         Brief::Done.put(answer);
     }
 
-    /// Ends the grace period, as `advance_into` does, and answers it.
-    pub fn advance(&mut self) -> Answer
-        ensures answer { result ≡ (advance_reaction self.old).0 }
-        ensures new { self.new ≡ (advance_reaction self.old).1 }
-    {
-        let mut answer = Answer::Done;
-        self.advance_into(&mut answer);
-        answer
-    }
-
     /// Reclaims the element that has been ready longest in the first map that has one. The answer is put in the
     /// place of another one.
     #[inline(never)]
@@ -57,16 +47,5 @@ impl Parts {
                 put_element(element, answer);
             }
         }
-    }
-
-    /// Reclaims an element, as `reap_into` does, and answers it.
-    pub fn reap(&mut self) -> Answer
-        requires { self.old.given + 1 < 2 ^ 64 }
-        ensures answer { result ≡ (reap_reaction self.old).0 }
-        ensures new { self.new ≡ (reap_reaction self.old).1 }
-    {
-        let mut answer = Answer::Done;
-        self.reap_into(&mut answer);
-        answer
     }
 }

@@ -25,7 +25,7 @@ fn lowest_free(runs: &[Option<Run>]) -> Option<usize>
 }
 
 impl Parts {
-    /// Does a start as `start` says, and answers it in few bytes.
+    /// Does a start as `start_into` says, and answers it in few bytes.
     fn started(&mut self, prog: ProgId, ctx: &CtxBytes) -> Brief
         ensures answer { brief_answer result ≡ (start_reaction self.old prog ctx.now.items).0 }
         ensures new { self.new ≡ (start_reaction self.old prog ctx.now.items).1 }
@@ -58,16 +58,6 @@ impl Parts {
         self.started(prog, ctx).put(answer);
     }
 
-    /// Starts a run, as `start_into` does, and answers it.
-    pub fn start(&mut self, prog: ProgId, ctx: &CtxBytes) -> Answer
-        ensures answer { result ≡ (start_reaction self.old prog ctx.now.items).0 }
-        ensures new { self.new ≡ (start_reaction self.old prog ctx.now.items).1 }
-    {
-        let mut answer = Answer::Done;
-        self.start_into(prog, ctx, &mut answer);
-        answer
-    }
-
     /// Why the run of a run slot is not dropped, if it is not.
     fn drop_refusal(&self, run: RunId) -> Option<EventRefusal>
         ensures { result ≡ drop_refused (run_at self.now.runs run) }
@@ -79,7 +69,7 @@ impl Parts {
         }
     }
 
-    /// Does a drop as `drop_run` says, and answers it in few bytes.
+    /// Does a drop as `drop_into` says, and answers it in few bytes.
     fn dropped(&mut self, run: RunId) -> Brief
         ensures answer { brief_answer result ≡ (drop_reaction self.old run).0 }
         ensures new { self.new ≡ (drop_reaction self.old run).1 }
@@ -103,15 +93,5 @@ impl Parts {
         ensures new { self.new ≡ (drop_reaction self.old run).1 }
     {
         self.dropped(run).put(answer);
-    }
-
-    /// Drops a run, as `drop_into` does, and answers it.
-    pub fn drop_run(&mut self, run: RunId) -> Answer
-        ensures answer { result ≡ (drop_reaction self.old run).0 }
-        ensures new { self.new ≡ (drop_reaction self.old run).1 }
-    {
-        let mut answer = Answer::Done;
-        self.drop_into(run, &mut answer);
-        answer
     }
 }

@@ -116,15 +116,4 @@ impl Parts {
     {
         self.stepped(run).put(answer);
     }
-
-    /// One step of a run, as `step_into` makes it, and its answer.
-    pub fn step(&mut self, run: RunId) -> Answer
-        requires sound { IsMatched self.old }
-        ensures answer { result ≡ (full_reaction self.old (Event.Step run)).0 }
-        ensures new { self.new ≡ (full_reaction self.old (Event.Step run)).1 }
-    {
-        let mut answer = Answer::Moved;
-        self.step_into(run, &mut answer);
-        answer
-    }
 }
