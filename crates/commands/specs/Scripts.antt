@@ -1,5 +1,5 @@
 -- What `script` writes, of which input.
-use Rattle.std.specs.Prelude.{◌≡◌, ℕ, List, ◌++◌, Option}
+use Rattle.std.specs.Prelude.{ℕ, List, Option}
 use Rattle.std.specs.Io.KnownBytes.{Appends}
 use Rattle.control.specs.Histories.{History, Continues, new_history}
 use Rattle.control.specs.Sessions.{IsNoCommand}
@@ -17,10 +17,7 @@ pub record AnswersAll (old new : Option (List ℕ)) (bytes : List ℕ) : Type 0 
 -- A line of the input is too long or no command. `script` adds the answers to the lines before,
 -- and nothing else.
 pub record AnswersBefore (old new : Option (List ℕ)) (bytes : List ℕ) : Type 0 where
-  pub read : List ℕ
-  pub rest : List ℕ
-  pub bytes_are : bytes ≡ read ++ rest
   pub line : ℕ
   pub text : List ℕ
-  pub answered : AnsweredBefore Continues IsNoCommand new_history read line text
+  pub answered : AnsweredBefore Continues IsNoCommand new_history bytes line text
   pub written : Appends old new text

@@ -1,7 +1,7 @@
 //! A script from a reader to a writer.
 ghost use Rattle.std.specs.Prelude.{◌≡◌, ℕ, List, OnOk, IfErr};
 ghost use Rattle.std.specs.Io.KnownBytes.{Appends, Consumes, IsAtEnd};
-ghost use Rattle.script_stream.specs.Answered.{Answered, FailsWith};
+ghost use Rattle.script_stream.specs.Answered.{Answered, FailsWith, IsSoOfInput};
 ghost use Rattle.script_stream.specs.Lines.{lines_of};
 ghost use Rattle.control.specs.Histories.{History, Continues, new_history};
 ghost use Rattle.control.specs.Sessions.{IsNoCommand};
@@ -72,7 +72,9 @@ impl Respond for Script {
 /// - `BadCommand` (95): with the first line that is longer than `LINE_BYTES` bytes or no command, counted
 ///   from 1. Written is exactly what answers the lines before.
 /// - `Read` (96), `Write` (97), `Memory` (13): the reader or the writer failed (a write of no bytes is a
-///   failure too), or an allocation did. Written is a beginning of the answers to the lines read.
+///   failure too), or an allocation did. Written is a beginning of the answers to the lines.
+///
+/// Lines are those of the whole input, also of what was not read: the end of a read ends no line.
 pub fn run_script<R: Read, W: Write>(
     alloc: Global,
     reader: &mut R,
@@ -83,10 +85,11 @@ pub fn run_script<R: Read, W: Write>(
         × IsAtEnd (R.remaining reader.new)
         × Appends (W.contents writer.old) (W.contents writer.new) text
         × Answered Continues new_history (lines_of input) text new) }
-    ensures failed { IfErr result (λ e. (input text : List ℕ)
-        × Consumes (R.remaining reader.old) (R.remaining reader.new) input
+    ensures failed { IfErr result (λ e. (read text : List ℕ)
+        × Consumes (R.remaining reader.old) (R.remaining reader.new) read
         × Appends (W.contents writer.old) (W.contents writer.new) text
-        × FailsWith Continues IsNoCommand new_history input text e) }
+        × IsSoOfInput (R.remaining reader.new) read
+        (λ input. FailsWith Continues IsNoCommand new_history input text e)) }
 {
     let mut script = Script {
         alloc,

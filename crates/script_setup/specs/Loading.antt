@@ -14,6 +14,7 @@ use Rattle.maps.specs.Registry.{creation_fault, map_fault_number}
 use Rattle.insn_codec.specs.declared.fault.DecodeFault.{DecodeFault}
 use Rattle.insn_codec.specs.declared.fault.DecodeFault.TheVariants as decode_faults
 use Rattle.insn_codec.specs.Faults.{IsDecodeFault, decode_fault_number, decode_fault_slot}
+use Rattle.program_graph.specs.GraphFlaws.{HasGoodGraph}
 use Rattle.typed_runs.specs.Verified.{IsVerified}
 use Rattle.verifier.specs.declared.refusal.ProgramRefusal.{ProgramRefusal}
 use Rattle.verifier.specs.declared.refusal.ProgramRefusal.TheVariants as refusals
@@ -87,13 +88,14 @@ pub record IsUnverified (code : List ℕ) (shapes : List MapShape) (reply : Repl
   pub not_plain_with_maps : IsPlainWithMaps program shapes → ⊥
   pub reply_is : reply ≡ replies.Refused (refusal_number refusal) (refusal_slot refusal)
 
--- The bytes are a program that is verified for its maps' shapes and its context's length: it has
--- the next number.
+-- The bytes are a program whose jump graph has no flaw, and which is verified for its maps' shapes
+-- and its context's length: it has the next number.
 pub record IsLoaded (s : SetupView) (code : List ℕ) (shapes : List MapShape) (maps : List ℕ)
     (ctx_len : ℕ) (reply : Reply) (new : SetupView) : Type 0 where
   pub program : List Insn
   pub is : IsProgram program
   pub text_is : code ≡ text program
+  pub graph : HasGoodGraph program
   pub verified : IsVerified program shapes ctx_len
   pub reply_is : reply ≡ replies.Prog (length s.programs)
   pub new_is : new ≡ with_program s program maps ctx_len

@@ -227,17 +227,17 @@ module _ {S : Type 0} (answers : S → List ℕ → List ℕ → S → Type 0) w
   open_first [] after h k = absurd (omega arith)
   open_first (b ∷ line) after h k = lines_of-open b line after k
 
-  -- the open line is too long
-  pub next_too_long : (is_bad : List ℕ → Type 0) (old : S) (read written : List ℕ) (p : Progress) (now : S) (piece : List ℕ) (line : ℕ)
+  -- the open line is too long, whatever follows
+  pub next_too_long : (is_bad : List ℕ → Type 0) (old : S) (read written : List ℕ) (p : Progress) (now : S) (piece after : List ℕ) (line : ℕ)
       → IsProgressAt answers old read written p now → HasNoFeed piece → LINE_BYTES < length (p.rest.items ++ piece) → line ≡ u64_saturate (p.answered + 1)
-      → NextIsBad is_bad p piece line
-  next_too_long is_bad old read written p now piece line at clear long number =
+      → NextIsBad is_bad p (piece ++ after) line
+  next_too_long is_bad old read written p now piece after line at clear long number =
       let whole = p.rest.items ++ piece in
-      let found = open_first whole [] long (HasNoFeed-append p.rest.items piece at.open_line clear) in
+      let found = open_first whole after long (HasNoFeed-append p.rest.items piece at.open_line clear) in
       record {
         bad = whole ++ found.more;
         others = found.others;
-        lines = ap lines_of (sym (append-nil whole)) ∙ found.is;
+        lines = ap lines_of (sym (append_assoc p.rest.items piece after)) ∙ found.is;
         is = longer is_bad whole found.more long;
         number = number;
       }
@@ -251,13 +251,13 @@ module _ {S : Type 0} (answers : S → List ℕ → List ℕ → S → Type 0) w
       (fails is_bad old read written p now after front more told told at e (inr how) (λ line is. absurd (not_bad told line how is)))
 
   -- reading fails, and nothing waits
-  pub fails_reading : (is_bad : List ℕ → Type 0) (old : S) (read written : List ℕ) (p : Progress) (now : S) (told : ScriptFault)
+  pub fails_reading : (is_bad : List ℕ → Type 0) (old : S) (read after written : List ℕ) (p : Progress) (now : S) (told : ScriptFault)
       → IsProgressAt answers old read written p now → ((line : ℕ) → told ≡ BadCommand line → ⊥)
-      → FailsWith answers is_bad old read written told
-  fails_reading is_bad old read written p now told at other = record {
+      → FailsWith answers is_bad old (read ++ after) written told
+  fails_reading is_bad old read after written p now told at other = record {
     begun =
-        subst (λ t. BeginsAnswered answers old read t) (append-nil written)
-        (subst (λ r. BeginsAnswered answers old r (written ++ [])) (append-nil read) (begun old read written p now [] p.out.items [] at refl));
+        subst (λ t. BeginsAnswered answers old (read ++ after) t) (append-nil written)
+        (begun old read written p now [] p.out.items after at refl);
     before = λ line is. absurd (other line is);
   }
 
@@ -281,6 +281,13 @@ module _ {S : Type 0} (answers : S → List ℕ → List ℕ → S → Type 0) w
       → read ≡ read' → written ≡ written' → IsProgressAt answers old read written p now → IsProgressAt answers old read' written' p now
   IsAt-at old read read' written written' p now e f h =
       subst (λ r. IsProgressAt answers old r written' p now) e (subst (λ t. IsProgressAt answers old read t p now) f h)
+
+-- what was read before a chunk, the chunk, and what follows
+pub read_on : (read front back chunk rest : List ℕ) → chunk ≡ front ++ back → (after : List ℕ) → after ≡ back ++ rest → (read ++ front) ++ after ≡ (read ++ chunk) ++ rest
+read_on read front back chunk rest e after f =
+    ap (λ a. (read ++ front) ++ a) f
+    ∙ sym (append_assoc (read ++ front) back rest)
+    ∙ ap (λ r. r ++ rest) (append_assoc read front back ∙ ap (λ c. read ++ c) (sym e))
 
 -- a fault of reading tells no line
 pub not_read_bad : (fault : ScriptFault) → (fault ≡ Read) ⊎ (fault ≡ Memory) → (line : ℕ) → fault ≡ BadCommand line → ⊥

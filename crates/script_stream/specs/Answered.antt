@@ -1,7 +1,8 @@
 -- What a script is answered: its lines one after another, each from the state that the one before
 -- left.
-use Rattle.std.specs.Prelude.{◌≡◌, ℕ, ◌+◌, ◌<◌, ◌⊎◌, List, [], ◌∷◌, ◌++◌, length}
+use Rattle.std.specs.Prelude.{◌≡◌, ℕ, ◌+◌, ◌<◌, ◌⊎◌, List, [], ◌∷◌, ◌++◌, length, Option}
 use Rattle.std.specs.Io.Iter.{u64_saturate}
+use Rattle.std.specs.Io.KnownBytes.{IsAtEnd}
 use Rattle.script_stream.specs.declared.fault.ScriptFault.{ScriptFault}
 use Rattle.script_stream.specs.declared.fault.ScriptFault.TheVariants.{BadCommand}
 use Rattle.script_stream.specs.declared.progress.TheConstants.{LINE_BYTES}
@@ -10,6 +11,11 @@ use Rattle.script_stream.specs.Lines.{lines_of}
 -- A line that ends the script: it is too long, or no command.
 abbrev pub IsBadLine : (List ℕ → Type 0) → List ℕ → Type 0
 IsBadLine is_bad line = (LINE_BYTES < length line) ⊎ is_bad line
+
+-- It is so of the whole input, of which these bytes were read: of them alone where the reader has
+-- none left, or else of them with whatever follows.
+abbrev pub IsSoOfInput : Option (List ℕ) → List ℕ → (List ℕ → Type 0) → Type 0
+IsSoOfInput left read IsSo = (IsAtEnd left × IsSo read) ⊎ ((rest : List ℕ) → IsSo (read ++ rest))
 
 module _ {S : Type 0} (answers : S → List ℕ → List ℕ → S → Type 0) where
   -- The text is that of the answers to these lines, and they lead from one state to the other.
@@ -42,8 +48,8 @@ module _ {S : Type 0} (answers : S → List ℕ → List ℕ → S → Type 0) w
 
   -- How a script fails: what is written is a beginning of the answers to its lines, and where a
   -- line is bad, exactly the answers to the lines before it.
-  pub record FailsWith (is_bad : List ℕ → Type 0) (old : S) (read written : List ℕ)
+  pub record FailsWith (is_bad : List ℕ → Type 0) (old : S) (input written : List ℕ)
       (fault : ScriptFault) : Type 0 where
-    pub begun : BeginsAnswered old read written
+    pub begun : BeginsAnswered old input written
     pub before : (line : ℕ) → fault ≡ BadCommand line
-        → AnsweredBefore is_bad old read line written
+        → AnsweredBefore is_bad old input line written

@@ -166,12 +166,12 @@ impl Progress {
             × Appends (W.contents writer.old) (W.contents writer.new) more
             × IsProgressAt A.answers first (read ++ (piece.now ++ 10 ∷ [])) (written ++ more)
             self.new responder.new) }
-        ensures err { (first : A) (read written after : List ℕ) → HasNoFeed piece.now
+        ensures err { (first : A) (read written : List ℕ) → HasNoFeed piece.now
             → IsProgressAt A.answers first read written self.old responder.old
             → IfErr result (λ e. (more : List ℕ)
             × Appends (W.contents writer.old) (W.contents writer.new) more
-            × FailsWith A.answers A.is_bad first (read ++ (piece.now ++ 10 ∷ after))
-            (written ++ more) e) }
+            × ((after : List ℕ) → FailsWith A.answers A.is_bad first
+            (read ++ (piece.now ++ 10 ∷ after)) (written ++ more) e)) }
     {
         if let Err(fault) = self.end_line(responder, piece) {
             return Err(self.fail(writer, fault));
@@ -214,7 +214,8 @@ impl Progress {
             → IsProgressAt A.answers first read written self.old responder.old
             → IfErr result (λ e. (more : List ℕ)
             × Appends (W.contents writer.old) (W.contents writer.new) more
-            × FailsWith A.answers A.is_bad first (read ++ chunk.now) (written ++ more) e) }
+            × ((after : List ℕ) → FailsWith A.answers A.is_bad first
+            ((read ++ chunk.now) ++ after) (written ++ more) e)) }
     {
         let mut unread = chunk;
         while let Some((piece, after)) = cut_line(unread) {

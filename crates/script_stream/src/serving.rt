@@ -2,7 +2,7 @@
 ghost use Rattle.std.specs.Prelude.{◌≡◌, ◌⊎◌, ℕ, ◌<◌, ◌++◌, List, MatchBool, length, take, IfOk, IfErr, OnOk, OnErr};
 ghost use Rattle.std.specs.Io.{ReadsAtMost};
 ghost use Rattle.std.specs.Io.KnownBytes.{Appends, Consumes, IsAtEnd, Keeps};
-ghost use Rattle.script_stream.specs.Answered.{Answered, FailsWith};
+ghost use Rattle.script_stream.specs.Answered.{Answered, FailsWith, IsSoOfInput};
 ghost use Rattle.script_stream.specs.Lines.{lines_of};
 ghost use Rattle.script_stream.specs.Progress.{IsProgressAt};
 
@@ -60,7 +60,8 @@ fn serve_some<A: Respond, R: Read, W: Write>(
         → IfErr result (λ e. (read more : List ℕ)
         × Consumes (R.remaining reader.old) (R.remaining reader.new) read
         × Appends (W.contents writer.old) (W.contents writer.new) more
-        × FailsWith A.answers A.is_bad first (input ++ read) (written ++ more) e) }
+        × IsSoOfInput (R.remaining reader.new) (input ++ read)
+        (λ all. FailsWith A.answers A.is_bad first all (written ++ more) e)) }
 {
     let count = read_some(reader, chunk)?;
     if count == 0 {
@@ -79,7 +80,9 @@ fn serve_some<A: Respond, R: Read, W: Write>(
 /// - `BadCommand`: with the first line that is longer than `LINE_BYTES` bytes or no command. Written is
 ///   exactly what answers the lines before. A line that is too long is told without reading on.
 /// - `Read`, `Write`, `Memory`: the reader or the writer failed (a write of no bytes is a failure too), or
-///   an allocation did. Written is a beginning of the answers to the lines read.
+///   an allocation did. Written is a beginning of the answers to the lines.
+///
+/// Lines are those of the whole input, also of what was not read: the end of a read ends no line.
 pub fn serve<A: Respond, R: Read, W: Write>(
     alloc: Global,
     responder: &mut A,
@@ -91,10 +94,11 @@ pub fn serve<A: Respond, R: Read, W: Write>(
         × IsAtEnd (R.remaining reader.new)
         × Appends (W.contents writer.old) (W.contents writer.new) text
         × Answered A.answers responder.old (lines_of input) text responder.new) }
-    ensures failed { IfErr result (λ e. (input text : List ℕ)
-        × Consumes (R.remaining reader.old) (R.remaining reader.new) input
+    ensures failed { IfErr result (λ e. (read text : List ℕ)
+        × Consumes (R.remaining reader.old) (R.remaining reader.new) read
         × Appends (W.contents writer.old) (W.contents writer.new) text
-        × FailsWith A.answers A.is_bad responder.old input text e) }
+        × IsSoOfInput (R.remaining reader.new) read
+        (λ input. FailsWith A.answers A.is_bad responder.old input text e)) }
 {
     let mut progress = Progress::new(alloc);
     let mut chunk = vec![in alloc; 0u8; CHUNK]?;

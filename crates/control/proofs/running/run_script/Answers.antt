@@ -1,12 +1,14 @@
-use Rattle.std.proofs.Common.{[], refl, subst}
+use Rattle.std.proofs.Common.{ℕ, List, [], refl, subst}
 use Rattle.std.proofs.lemmas.Result.{on_ok_weaker, IfErr-weaker}
 use Rattle.script_setup.specs.Setups.{no_maps_or_programs}
 use Rattle.script_stream.specs.Answered.{Answered, FailsWith}
 use Rattle.script_stream.specs.Lines.{lines_of}
+use Rattle.script_stream.proofs.Inputs.{so_of_input}
+use Rattle.control.specs.Histories.{Continues, new_history}
 use Rattle.control.specs.Sessions.{IsNoCommand, new_session}
 use Rattle.control.specs.declared.running.Script.{Script}
 use Rattle.control.specs.declared.session.Session.{Session}
-use Rattle.control.proofs.Lifting.{answered, fails}
+use Rattle.control.proofs.Lifting.{answered, by_part, fails}
 use Rattle.control.proofs.OneRun.{IsAnswered, history, histories, fails_at}
 use Rattle.control.proofs.running.run_script.Goals as goal
 
@@ -27,7 +29,10 @@ returns-clause-failed g c =
     IfErr-weaker c.serve.result _ _
     (λ fault e.
     let script : Script = record { alloc = c.args.alloc; session = c.new.result; text = c.new-2.result } in
-    let lifted = fails (λ (s : Script). s.session) IsAnswered IsNoCommand script e.0 e.1 fault e.4 in
-    let there = subst (λ (s : Session). FailsWith IsAnswered IsNoCommand s e.0 e.1 fault) c.new.ensures lifted in
-    (e.0, e.1, e.2, e.3, fails_at IsNoCommand new_session no_maps_or_programs [] e.0 e.1 fault (refl, refl) there))
+    let more : (input : List ℕ) → FailsWith (by_part (λ (s : Script). s.session) IsAnswered) IsNoCommand script input e.1 fault → FailsWith Continues IsNoCommand new_history input e.1 fault = λ input f.
+    let lifted = fails (λ (s : Script). s.session) IsAnswered IsNoCommand script input e.1 fault f in
+    let there = subst (λ (s : Session). FailsWith IsAnswered IsNoCommand s input e.1 fault) c.new.ensures lifted in
+    fails_at IsNoCommand new_session no_maps_or_programs [] input e.1 fault (refl, refl) there
+    in
+    (e.0, e.1, e.2, e.3, so_of_input (g.R.Read.remaining c.serve.new.reader) e.0 _ _ more e.4))
     c.serve.ensures.failed

@@ -15,7 +15,7 @@ returns-in_err-chunk-clause-failed g c =
       [],
       Consumes-nil _,
       Appends-nil _,
-      fails_reading g.A.Respond.answers g.A.Respond.is_bad c.args.responder.now [] [] c.new-progress.result c.args.responder.now _ start (not_read_bad _ (inr refl)),
+      inr (λ rest. fails_reading g.A.Respond.answers g.A.Respond.is_bad c.args.responder.now [] rest [] c.new-progress.result c.args.responder.now _ start (not_read_bad _ (inr refl))),
     )
 
 pub loop-init : goal.loop-init
@@ -56,5 +56,5 @@ returns-clause-failed g c =
       inv.1,
       inv.2,
       inv.3,
-      fails_reading g.A.Respond.answers g.A.Respond.is_bad c.args.responder.now inv.0 inv.1 c.loop.progress c.loop.responder _ inv.4 (not_read_bad _ (inl refl)),
+      inr (λ rest. fails_reading g.A.Respond.answers g.A.Respond.is_bad c.args.responder.now inv.0 rest inv.1 c.loop.progress c.loop.responder _ inv.4 (not_read_bad _ (inl refl))),
     )

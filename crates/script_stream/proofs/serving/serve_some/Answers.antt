@@ -1,4 +1,4 @@
-use Rattle.std.proofs.Common.{◌≡◌, ◌++◌, [], take, refl, ap, sym, subst, ◌∙◌, append_assoc, append-nil}
+use Rattle.std.proofs.Common.{◌≡◌, ◌++◌, [], take, refl, ap, sym, subst, ◌∙◌, inl, inr, append_assoc, append-nil}
 use Rattle.std.proofs.KnownBytes.{Appends-trans, Consumes-kept, Consumes-nil, Appends-nil}
 use Rattle.std.proofs.lemmas.Result.{err_from_is_err_and}
 use Rattle.script_stream.specs.Lines.{lines_of}
@@ -15,9 +15,10 @@ returns-in_err-count-clause-err g c = λ first input written at.
       [],
       Consumes-kept _ _ _ [] (Consumes-nil _) e.err,
       Appends-nil _,
-      FailsWith-at g.A.Respond.answers g.A.Respond.is_bad first input (input ++ []) written (written ++ []) _
-          (sym (append-nil input)) (sym (append-nil written))
-          (fails_reading g.A.Respond.answers g.A.Respond.is_bad first input written c.args.progress.now c.args.responder.now _ at (not_read_bad _ e.fault)),
+      inr (λ rest.
+          FailsWith-at g.A.Respond.answers g.A.Respond.is_bad first (input ++ rest) ((input ++ []) ++ rest) written (written ++ []) _
+          (ap (λ r. r ++ rest) (sym (append-nil input))) (sym (append-nil written))
+          (fails_reading g.A.Respond.answers g.A.Respond.is_bad first input rest written c.args.progress.now c.args.responder.now _ at (not_read_bad _ e.fault))),
     )
 
 pub returns-in_err-finish-clause-err : goal.returns-in_err-finish-clause-err
@@ -31,7 +32,10 @@ returns-in_err-finish-clause-err g c = λ first input written at.
       e.0,
       c.in_ok-count.ensures.ok,
       e.1,
-      FailsWith-at g.A.Respond.answers g.A.Respond.is_bad first input (input ++ took) (written ++ e.0) (written ++ e.0) _ (sym same) refl e.2,
+      inl (
+        c.in_ok-count.ensures.end c.if-count-eq0.true c.requires,
+        FailsWith-at g.A.Respond.answers g.A.Respond.is_bad first input (input ++ took) (written ++ e.0) (written ++ e.0) _ (sym same) refl e.2,
+      ),
     )
 
 pub returns-then-count-eq0-clause-ok : goal.returns-then-count-eq0-clause-ok
@@ -54,7 +58,7 @@ returns-in_err-take-clause-err g c = λ first input written at.
     let p = err_from_is_err_and c.from_residual-in_err-take.result c.from_residual-in_err-take.ensures.1 in
     let took = take c.in_ok-count.count c.read_some.new.chunk in
     let e = c.in_err-take.ensures.err first input written at in
-    rw (p.1, p.2) (took, e.0, c.in_ok-count.ensures.ok, e.1, e.2)
+    rw (p.1, p.2) (took, e.0, c.in_ok-count.ensures.ok, e.1, inr e.2)
 
 pub returns-in_err-send-clause-err : goal.returns-in_err-send-clause-err
 returns-in_err-send-clause-err g c = λ first input written at.
@@ -67,10 +71,11 @@ returns-in_err-send-clause-err g c = λ first input written at.
       t.0 ++ s.1.0,
       c.in_ok-count.ensures.ok,
       Appends-trans _ _ _ t.0 s.1.0 t.1 s.1.3,
-      FailsWith-at g.A.Respond.answers g.A.Respond.is_bad first (input ++ took) (input ++ took) ((written ++ t.0) ++ s.1.0) (written ++ (t.0 ++ s.1.0)) _
+      inr (λ rest.
+          FailsWith-at g.A.Respond.answers g.A.Respond.is_bad first ((input ++ took) ++ rest) ((input ++ took) ++ rest) ((written ++ t.0) ++ s.1.0) (written ++ (t.0 ++ s.1.0)) _
           refl (append_assoc written t.0 s.1.0)
-          (fails_writing g.A.Respond.answers g.A.Respond.is_bad first (input ++ took) [] (input ++ took) (written ++ t.0) c.take.new.self c.take.new.responder s.1.0 s.1.1 _ t.2
-          (append-nil (input ++ took)) s.1.2 s.0),
+          (fails_writing g.A.Respond.answers g.A.Respond.is_bad first (input ++ took) rest ((input ++ took) ++ rest) (written ++ t.0) c.take.new.self c.take.new.responder s.1.0 s.1.1 _ t.2
+          refl s.1.2 s.0)),
     )
 
 pub returns-clause-ok : goal.returns-clause-ok

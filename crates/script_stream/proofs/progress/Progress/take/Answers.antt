@@ -1,7 +1,7 @@
-use Rattle.std.proofs.Common.{◌++◌, [], ◌∷◌, Err, ap, sym, ◌∙◌, append_assoc}
+use Rattle.std.proofs.Common.{◌++◌, [], ◌∷◌, Err, refl, ap, sym, ◌∙◌, append_assoc}
 use Rattle.std.proofs.KnownBytes.{Appends-trans}
 use Rattle.std.proofs.lemmas.Result.{err_from_is_err_and}
-use Rattle.script_stream.proofs.ProgressLemmas.{fails, next_too_long, IsAt-kept, IsAt-at, FailsWith-at}
+use Rattle.script_stream.proofs.ProgressLemmas.{fails, next_too_long, read_on, IsAt-kept, IsAt-at, FailsWith-at}
 use Rattle.script_stream.proofs.progress.Progress.take.Goals as goal
 
 pub returns-in_err-take_line-clause-err : goal.returns-in_err-take_line-clause-err
@@ -12,13 +12,14 @@ returns-in_err-take_line-clause-err g c = λ first read written at.
     let piece = c.in-Some.piece.now in
     let after = c.in-Some.after.now in
     let cut = c.in-Some.ensures.some in
-    let e = c.in_err-take_line.ensures.err first (read ++ inv.0) (written ++ so.0) after cut.0 so.2 in
+    let e = c.in_err-take_line.ensures.err first (read ++ inv.0) (written ++ so.0) cut.0 so.2 in
     rw (p.1, p.2) (
       so.0 ++ e.0,
       Appends-trans _ _ _ so.0 e.0 so.1 e.1,
-      FailsWith-at g.A.Respond.answers g.A.Respond.is_bad first ((read ++ inv.0) ++ (piece ++ 10 ∷ after)) (read ++ c.args.chunk.now) ((written ++ so.0) ++ e.0) (written ++ (so.0 ++ e.0)) _
-          (append_assoc read inv.0 (piece ++ 10 ∷ after) ∙ ap (λ r. read ++ r) (sym (inv.1 ∙ ap (λ r. inv.0 ++ r) cut.1)))
-          (append_assoc written so.0 e.0) e.2,
+      λ rest.
+          FailsWith-at g.A.Respond.answers g.A.Respond.is_bad first ((read ++ inv.0) ++ (piece ++ 10 ∷ (after ++ rest))) ((read ++ c.args.chunk.now) ++ rest) ((written ++ so.0) ++ e.0) (written ++ (so.0 ++ e.0)) _
+          (read_on read inv.0 (piece ++ 10 ∷ after) c.args.chunk.now rest (inv.1 ∙ ap (λ r. inv.0 ++ r) cut.1) (piece ++ 10 ∷ (after ++ rest)) (sym (append_assoc piece (10 ∷ after) rest)))
+          (append_assoc written so.0 e.0) (e.2 (after ++ rest)),
     )
 
 pub loop-piece-preserved : goal.loop-piece-preserved
@@ -49,13 +50,14 @@ returns-in-Err-clause-err g c = λ first read written at.
     let unread = c.loop-piece.unread.now in (
       so.0 ++ told.0,
       Appends-trans _ _ _ so.0 told.0 so.1 told.3,
-      FailsWith-at g.A.Respond.answers g.A.Respond.is_bad first ((read ++ inv.0) ++ unread) (read ++ c.args.chunk.now) ((written ++ so.0) ++ told.0) (written ++ (so.0 ++ told.0)) _
-          (append_assoc read inv.0 unread ∙ ap (λ r. read ++ r) (sym inv.1))
+      λ rest.
+          FailsWith-at g.A.Respond.answers g.A.Respond.is_bad first ((read ++ inv.0) ++ (unread ++ rest)) ((read ++ c.args.chunk.now) ++ rest) ((written ++ so.0) ++ told.0) (written ++ (so.0 ++ told.0)) _
+          (read_on read inv.0 unread c.args.chunk.now rest inv.1 (unread ++ rest) refl)
           (append_assoc written so.0 told.0)
-          (fails g.A.Respond.answers g.A.Respond.is_bad first (read ++ inv.0) (written ++ so.0) c.loop-piece.self c.loop-piece.responder unread told.0 told.1 c.in-Err.fault _ so.2
+          (fails g.A.Respond.answers g.A.Respond.is_bad first (read ++ inv.0) (written ++ so.0) c.loop-piece.self c.loop-piece.responder (unread ++ rest) told.0 told.1 c.in-Err.fault _ so.2
           (sym failed.out ∙ told.2) told.4
           (λ line is. let b = failed.bad line (ap Err is) in
-          next_too_long g.A.Respond.answers g.A.Respond.is_bad first (read ++ inv.0) (written ++ so.0) c.loop-piece.self c.loop-piece.responder unread line so.2 c.in_default.ensures.none b.1 b.0)),
+          next_too_long g.A.Respond.answers g.A.Respond.is_bad first (read ++ inv.0) (written ++ so.0) c.loop-piece.self c.loop-piece.responder unread rest line so.2 c.in_default.ensures.none b.1 b.0)),
     )
 
 pub returns-clause-ok : goal.returns-clause-ok
