@@ -1,3 +1,11 @@
 pub mod Lifting
 pub mod Made
 pub mod OneRun
+pub mod Creating
+pub mod Growing
+pub mod Naming
+pub mod Reading
+pub mod Above
+pub mod Happening
+pub mod Replied
+pub mod Stepping

@@ -7,10 +7,10 @@ use Rattle.script_lines.specs.declared.command.Command.{Command}
 use Rattle.script_lines.specs.declared.command.Command.TheVariants as commands
 use Rattle.script_lines.specs.declared.command.ShapeNumbers.{ShapeNumbers}
 use Rattle.script_lines.specs.declared.reply.Reply.{Reply}
-use Rattle.script_setup.specs.Loading.{MapReplies, LoadReplies, shape_of_numbers}
-use Rattle.script_setup.specs.Setups.{SetupView}
-use Rattle.script_world.specs.declared.live.Live.{Live}
-use Rattle.script_world.specs.Lives.{LiveReplies}
+use Rattle.control.specs.Loading.{MapReplies, LoadReplies, shape_of_numbers}
+use Rattle.control.specs.Setups.{SetupView}
+use Rattle.control.specs.declared.driving.live.Live.{Live}
+use Rattle.control.specs.Lives.{LiveReplies}
 use Rattle.control.specs.Sessions.{SetupReplies, TracksStart, sealed}
 use Rattle.control.specs.declared.session.Session.TheVariants as sessions
 

@@ -7,13 +7,13 @@ use Rattle.script_lines.specs.declared.command.BadLine.{BadLine}
 use Rattle.script_lines.specs.declared.command.Command.{Command}
 use Rattle.script_lines.specs.declared.command.Command.TheVariants as commands
 use Rattle.script_lines.specs.declared.reply.Reply.{Reply}
-use Rattle.script_setup.specs.Loading.{MapReplies, LoadReplies, shape_of_numbers}
-use Rattle.script_setup.specs.Setups.{SetupView}
+use Rattle.control.specs.Loading.{MapReplies, LoadReplies, shape_of_numbers}
+use Rattle.control.specs.Setups.{SetupView}
 use Rattle.script_stream.specs.Answered.{Answered, FailsWith}
 use Rattle.script_stream.specs.declared.fault.ScriptFault.{ScriptFault}
-use Rattle.script_world.specs.declared.live.Live.{Live}
-use Rattle.script_world.specs.Lives.{Happen}
-use Rattle.script_world.proofs.Happening.{happen_more}
+use Rattle.control.specs.declared.driving.live.Live.{Live}
+use Rattle.control.specs.Lives.{Happen}
+use Rattle.control.proofs.Happening.{happen_more}
 use Rattle.control.proofs.Lifting.{fails_by}
 use Rattle.control.specs.Histories.{History, Continues, RunsTo, StaysMade}
 use Rattle.control.specs.Sessions.{AnswersCommand, LineAnswers, RepliesOnce, SessionReplies, SetupReplies, WorldReplies, TracksStart, sealed}

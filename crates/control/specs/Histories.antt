@@ -1,8 +1,8 @@
 -- A script's lines as one history of the machine.
 use Rattle.std.specs.Prelude.{◌≡◌, ℕ, List, [], ◌++◌}
 use Rattle.bpf_model.specs.declared.event.Event.{Event}
-use Rattle.script_setup.specs.Setups.{SetupView, no_maps_or_programs}
-use Rattle.script_world.specs.Lives.{Happen}
+use Rattle.control.specs.Setups.{SetupView, no_maps_or_programs}
+use Rattle.control.specs.Lives.{Happen}
 use Rattle.control.specs.Sessions.{LineAnswers, new_session, sealed, TracksStart}
 use Rattle.control.specs.declared.session.Session.{Session}
 use Rattle.control.specs.declared.session.Session.TheVariants as sessions

@@ -1,2 +1,9 @@
 pub mod Histories
 pub mod Sessions
+pub mod Asking
+pub mod Names
+pub mod Replying
+pub mod Loading
+pub mod Setups
+pub mod Lives
+pub mod Replies

@@ -4,10 +4,15 @@
 //! later ones of these two are refused.
 #![tactic(auto)]
 
+mod asking;
+mod driving;
 mod making;
+mod preparing;
 mod running;
 mod session;
 
+pub use driving::Live;
+pub use preparing::Setup;
 pub use running::run_script;
 use script_lines::LINE_BYTES;
 pub use script_stream::ScriptFault;

@@ -4,12 +4,12 @@ ghost use Rattle.std.specs.List.{flat_map};
 ghost use Rattle.bpf_model.specs.declared.event.Event.{Event};
 ghost use Rattle.script_lines.specs.Answers.{reply_text};
 ghost use Rattle.script_lines.specs.declared.reply.Reply.{Reply};
-ghost use Rattle.script_world.specs.Lives.{LiveReplies};
+ghost use Rattle.control.specs.Lives.{LiveReplies};
 ghost use Rattle.control.specs.Sessions.{SetupReplies, TracksStart, sealed, now_at};
 
+use crate::driving::Live;
+use crate::preparing::{Setup, shape_of};
 use script_lines::{Command, write_reply};
-use script_setup::{Setup, shape_of};
-use script_world::Live;
 use std::alloc::{AllocError, Global};
 use std::mem;
 

@@ -1,9 +1,9 @@
 //! The state of a script.
 
+use crate::driving::Live;
 use crate::making::answer_setup;
+use crate::preparing::Setup;
 use script_lines::Command;
-use script_setup::Setup;
-use script_world::Live;
 use std::alloc::{AllocError, Global};
 
 /// The state of a script: maps and programs are being made, or there is a world.

@@ -1,10 +1,10 @@
 use Rattle.std.proofs.Common.{◌≡◌, ◌∙◌, ap, subst}
-use Rattle.script_setup.specs.Setups.{SetupView, shapes_made}
+use Rattle.control.specs.Setups.{SetupView, shapes_made}
 use Rattle.bpf_model.specs.Refines.{TracksSchedule}
 use Rattle.bpf_model.specs.Schedule.{start_schedule}
 use Rattle.bpf_model.specs.View.{WorldView, start_view}
-use Rattle.script_world.specs.declared.live.Live.{Live}
-use Rattle.script_world.specs.Lives.{LiveReplies}
+use Rattle.control.specs.declared.driving.live.Live.{Live}
+use Rattle.control.specs.Lives.{LiveReplies}
 use Rattle.control.specs.Sessions.{sealed, TracksStart}
 use Rattle.control.proofs.making.answer_first.Goals as goal
 

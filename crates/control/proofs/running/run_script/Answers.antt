@@ -1,6 +1,6 @@
 use Rattle.std.proofs.Common.{ℕ, List, [], refl, subst}
 use Rattle.std.proofs.lemmas.Result.{on_ok_weaker, IfErr-weaker}
-use Rattle.script_setup.specs.Setups.{no_maps_or_programs}
+use Rattle.control.specs.Setups.{no_maps_or_programs}
 use Rattle.script_stream.specs.Answered.{Answered, FailsWith}
 use Rattle.script_stream.specs.Lines.{lines_of}
 use Rattle.script_stream.proofs.Inputs.{so_of_input}

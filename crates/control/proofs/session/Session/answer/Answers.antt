@@ -4,7 +4,7 @@ use Rattle.std.specs.List.{flat_map}
 use Rattle.bpf_model.specs.declared.event.Event.{Event}
 use Rattle.script_lines.specs.Answers.{reply_text}
 use Rattle.script_lines.specs.declared.reply.Reply.{Reply}
-use Rattle.script_world.specs.Lives.{LiveReplies}
+use Rattle.control.specs.Lives.{LiveReplies}
 use Rattle.control.specs.Sessions.{SessionReplies}
 use Rattle.control.specs.declared.session.Session.{Session}
 use Rattle.control.specs.declared.session.Session.TheVariants as sessions

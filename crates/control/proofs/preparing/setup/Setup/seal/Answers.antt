@@ -1,0 +1,9 @@
+use Rattle.std.proofs.Common.{subst}
+use Rattle.bpf_model.specs.Refines.{TracksSchedule}
+use Rattle.bpf_model.specs.Schedule.{start_schedule}
+use Rattle.control.specs.Setups.{shapes_made}
+use Rattle.control.proofs.preparing.setup.Setup.seal.Goals as goal
+
+pub returns-in-Ok-clause-start : goal.returns-in-Ok-clause-start
+returns-in-Ok-clause-start c =
+    subst (λ s. TracksSchedule c.in-Ok.world (start_schedule (shapes_made s) s.programs)) c.self.view_is c.in-Ok.ensures.start

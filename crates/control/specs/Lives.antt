@@ -1,0 +1,47 @@
+-- What a command is replied once there is a world.
+use Rattle.std.specs.Prelude.{◌≡◌, ℕ, List, ◌++◌}
+use Rattle.std.specs.List.{flat_map}
+use Rattle.bpf_model.specs.declared.event.Event.{Event}
+use Rattle.bpf_model.specs.Drain.{AreScheduledAnswers}
+use Rattle.bpf_model.specs.Event.{AreReal}
+use Rattle.bpf_model.specs.Refines.{TracksSchedule}
+use Rattle.bpf_model.specs.View.{WorldView}
+use Rattle.world_laws.specs.Reacting.{full_reactions}
+use Rattle.world_laws.specs.Invariant.{IsWorld}
+use Rattle.script_lines.specs.Answers.{reply_text}
+use Rattle.script_lines.specs.declared.command.Command.{Command}
+use Rattle.script_lines.specs.declared.reply.Reply.{Reply}
+use Rattle.control.specs.declared.asking.asked.Asked.{Asked}
+use Rattle.control.specs.Asking.{IsAsked}
+use Rattle.control.specs.declared.driving.live.Live.{Live}
+use Rattle.control.specs.Replies.{Replies}
+
+-- These events happen in a world of the runtime, and leave the other. With their answers they are a
+-- history of the machine with the runtime's choices.
+pub record Happen (w : WorldView) (events : List Event) (new : WorldView) : Type 0 where
+  pub world : IsWorld w
+  pub real : AreReal events
+  pub new_is : new ≡ (full_reactions w events).1
+  pub machine : AreScheduledAnswers TracksSchedule w events (full_reactions w events).0 new
+
+-- What is asked is served by these events, which happen, and these are the replies. The names stay.
+pub record AskedReplies (old : Live) (asked : Asked) (replies : List Reply) (new : Live)
+    : Type 0 where
+  pub events : List Event
+  pub happened : Happen old.world events new.world
+  pub replied : Replies old.names old.world asked events replies new.world
+  pub names : new.names ≡ old.names
+
+-- The world is asked what the command says of its maps' names, and these are the replies.
+pub record LiveReplies (old : Live) (command : Command) (replies : List Reply) (new : Live)
+    : Type 0 where
+  pub asked : Asked
+  pub is_asked : IsAsked old.names command asked
+  pub served : AskedReplies old asked replies new
+
+-- What is asked is replied, and the text of the replies is added.
+pub record IsReplied (old : Live) (asked : Asked) (before after : List ℕ) (new : Live) :
+    Type 0 where
+  pub replies : List Reply
+  pub served : AskedReplies old asked replies new
+  pub text : after ≡ before ++ flat_map reply_text replies

@@ -1,0 +1,114 @@
+//! What a command asks of a world.
+ghost use Rattle.std.specs.Prelude.{◌≡◌};
+ghost use Rattle.bpf_model.specs.declared.event.Event.TheVariants as Events;
+ghost use Rattle.control.specs.declared.asking.asked.Asked.TheVariants as Wanted;
+ghost use Rattle.control.specs.Asking.{of_map, of_length, start_on, IsAsked};
+
+use crate::asking::name_table::NameTable;
+use bpf_model::{CtxBytes, Event, EventRefusal, KeyBytes, MapId, ProgId, RunId, ValueBytes};
+use script_lines::{Bytes, Command};
+
+/// What a command asks of a world.
+#[derive(Drop)]
+pub enum Asked {
+    /// The command makes a map or loads a program, which is too late.
+    Sealed,
+    /// The command is refused whatever the world is.
+    Refused(EventRefusal),
+    /// An event.
+    Event(Event),
+    /// The start of a program on a context that is longer than any.
+    Overlong(ProgId),
+    /// At most so many steps of a run.
+    Steps { run: RunId, count: u64 },
+    /// The counts of the world.
+    Counts,
+    /// The elements of a map.
+    Elements(MapId),
+}
+
+fn ask_put(map: Option<MapId>, key: Bytes<KeyBytes>, value: Bytes<ValueBytes>, flags: u64) -> Asked
+    ensures { result ≡ of_map map (λ m. of_length key (λ k. of_length value
+        (λ v. Wanted.Event (Events.Update m k v flags)))) }
+{
+    let Some(map) = map else {
+        return Asked::Refused(EventRefusal::NoMap);
+    };
+    match (key, value) {
+        (Bytes::Fit(key), Bytes::Fit(value)) => Asked::Event(Event::Update {
+            map,
+            key,
+            value,
+            flags,
+        }),
+        _ => Asked::Refused(EventRefusal::BadLength),
+    }
+}
+
+fn ask_get(map: Option<MapId>, key: Bytes<KeyBytes>) -> Asked
+    ensures { result ≡ of_map map (λ m. of_length key (λ k. Wanted.Event (Events.Read m k))) }
+{
+    match (map, key) {
+        (None, _) => Asked::Refused(EventRefusal::NoMap),
+        (Some(map), Bytes::Fit(key)) => Asked::Event(Event::Read { map, key }),
+        (Some(_), Bytes::TooLong) => Asked::Refused(EventRefusal::BadLength),
+    }
+}
+
+fn ask_del(map: Option<MapId>, key: Bytes<KeyBytes>) -> Asked
+    ensures { result ≡ of_map map (λ m. of_length key (λ k. Wanted.Event (Events.Delete m k))) }
+{
+    match (map, key) {
+        (None, _) => Asked::Refused(EventRefusal::NoMap),
+        (Some(map), Bytes::Fit(key)) => Asked::Event(Event::Delete { map, key }),
+        (Some(_), Bytes::TooLong) => Asked::Refused(EventRefusal::BadLength),
+    }
+}
+
+fn ask_start(prog: u64, ctx: Bytes<CtxBytes>) -> Asked
+    ensures { result ≡ start_on prog ctx }
+{
+    let prog = ProgId::new(prog as usize);
+    match ctx {
+        Bytes::Fit(ctx) => Asked::Event(Event::Start { prog, ctx }),
+        Bytes::TooLong => Asked::Overlong(prog),
+    }
+}
+
+fn ask_dump(map: Option<MapId>) -> Asked
+    ensures { result ≡ of_map map (λ m. Wanted.Elements m) }
+{
+    match map {
+        None => Asked::Refused(EventRefusal::NoMap),
+        Some(map) => Asked::Elements(map),
+    }
+}
+
+/// What a command asks of a world whose maps have these names.
+pub fn ask(names: &NameTable, command: Command<'_>) -> Asked
+    ensures { IsAsked names.now command.entry result }
+{
+    match command {
+        Command::Map { .. } | Command::Load { .. } => Asked::Sealed,
+        Command::Put {
+            map,
+            key,
+            value,
+            flags,
+        } => ask_put(names.find(map.bytes()), key, value, flags),
+        Command::Get { map, key } => ask_get(names.find(map.bytes()), key),
+        Command::Del { map, key } => ask_del(names.find(map.bytes()), key),
+        Command::Start { prog, ctx } => ask_start(prog, ctx),
+        Command::Step { run, count } => Asked::Steps {
+            run: RunId::new(run as usize),
+            count,
+        },
+        Command::Advance => Asked::Event(Event::Advance),
+        Command::Reap => Asked::Event(Event::Reap),
+        Command::Drop { run } => Asked::Event(Event::Drop {
+            run: RunId::new(run as usize),
+        }),
+        Command::Stat => Asked::Counts,
+        Command::Dump { map } => ask_dump(names.find(map.bytes())),
+    }
+}

@@ -1,0 +1,70 @@
+//! A world and the names of its maps.
+
+use crate::asking::{Asked, NameTable, ask, refused, write_answer};
+use crate::driving::dumping::write_elements;
+use crate::driving::replying::refusal_of_overlong;
+use crate::driving::steps::make_steps;
+use bpf_model::{Answer, Event};
+use script_lines::{Command, Reply, write_reply};
+use std::alloc::AllocError;
+use world::World;
+
+/// The number by which a command is refused that would make a map or load a program once there is a world.
+const SEALED: u8 = 56;
+
+/// A world, and the names of its maps, each under its map's number.
+#[derive(Drop)]
+pub struct Live {
+    pub names: NameTable,
+    pub world: World,
+}
+
+impl Live {
+    ghost use Rattle.std.specs.Prelude.{◌≡◌, ◌++◌, List, OnOk};
+    ghost use Rattle.std.specs.List.{flat_map};
+    ghost use Rattle.script_lines.specs.Answers.{reply_text};
+    ghost use Rattle.script_lines.specs.declared.reply.Reply.{Reply};
+    ghost use Rattle.control.specs.Lives.{IsReplied, LiveReplies};
+
+    /// Answers what is asked, and adds the text of the replies.
+    fn answer_asked(&mut self, asked: Asked, out: &mut Vec<u8>) -> Result<(), AllocError>
+        ensures { OnOk result (IsReplied self.old asked out.old.items out.new.items self.new) }
+    {
+        self.world.is_world();
+        match asked {
+            Asked::Sealed => write_reply(&refused(SEALED), out),
+            Asked::Refused(refusal) => write_reply(&refused(refusal.code()), out),
+            Asked::Event(event) => {
+                event.is_real();
+                let mut answer = Answer::Moved;
+                self.world.apply_into(&event, &mut answer);
+                write_answer(&self.names, &answer, out)
+            }
+            Asked::Overlong(prog) => {
+                write_reply(&refused(refusal_of_overlong(&self.world, prog).code()), out)
+            }
+            Asked::Steps { run, count } => {
+                Event::Step { run }.is_real();
+                let mut answer = Answer::Moved;
+                make_steps(&mut self.world, run, count, &mut answer);
+                write_answer(&self.names, &answer, out)
+            }
+            Asked::Counts => write_reply(&Reply::Stat(self.world.stat()), out),
+            Asked::Elements(map) => write_elements(&self.world, map, out),
+        }
+    }
+
+    /// Answers a command, and adds the text of the replies.
+    ///
+    /// # Errors
+    ///
+    /// `AllocError` where memory runs out. Events may have happened then, and a part of the text been added.
+    pub fn answer(&mut self, command: Command<'_>, out: &mut Vec<u8>) -> Result<(), AllocError>
+        ensures { OnOk result ((replies : List Reply)
+            × LiveReplies self.old command.entry replies self.new
+            × (out.new.items ≡ out.old.items ++ flat_map reply_text replies)) }
+    {
+        let asked = ask(&self.names, command);
+        self.answer_asked(asked, out)
+    }
+}

@@ -1,0 +1,24 @@
+//! Steps of a run.
+ghost use Rattle.bpf_model.specs.declared.event.Event.{Event};
+ghost use Rattle.std.specs.Prelude.{List};
+ghost use Rattle.control.specs.Replies.{MakesSteps};
+
+use bpf_model::{Answer, Event, RunId};
+use world::World;
+
+/// Steps of a run: at most `count`, and at least one, up to the first that is not answered Moved. The answer
+/// of the last is put in the place of another one.
+pub(crate) fn make_steps(world: &mut World, run: RunId, count: u64, answer: &mut Answer)
+    ensures { (events : List Event)
+        × MakesSteps world.old run count events answer.new world.new }
+{
+    let event = Event::Step { run };
+    for _taken in 1..count {
+        world.apply_into(&event, answer);
+        match answer {
+            Answer::Moved => {}
+            _ => return,
+        }
+    }
+    world.apply_into(&event, answer);
+}

@@ -1,4 +1,0 @@
-pub mod Creating
-pub mod Growing
-pub mod Naming
-pub mod Reading

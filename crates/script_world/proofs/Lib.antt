@@ -1,4 +1,0 @@
-pub mod Above
-pub mod Happening
-pub mod Replied
-pub mod Stepping
