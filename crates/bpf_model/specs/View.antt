@@ -8,7 +8,6 @@ use Rattle.std.specs.Cmp.Lexicographic.{slice_cmp}
 use Rattle.std.specs.FinMap.{FinMap, empty}
 use Rattle.bpf_model.specs.declared.limits.MapShape.{MapShape}
 use Rattle.bpf_model.specs.declared.limits.TheConstants.{MAX_RUNS}
-use Rattle.bpf_model.specs.declared.insn.Insn.{Insn}
 use Rattle.bpf_model.specs.MapState.{MapState, slots_of_shape}
 use Rattle.bpf_model.specs.Machine.{Loaded}
 
@@ -127,15 +126,3 @@ AreNewMaps maps = maps ≡ map new_map_view (shapes_of_maps maps)
 -- The shapes of a world's maps.
 abbrev pub shapes_of : WorldView → List MapShape
 shapes_of w = shapes_of_maps w.maps
-
--- What is asked of a run by its run slot: it has ended with this value, and was started with this
--- code on this context.
-pub record HasExited (w : WorldView) (r : ℕ) (code : List Insn) (context : List ℕ) (n : ℕ)
-    : Type 0 where
-  pub run : RunView
-  pub there : slice_get w.runs r ≡ Some (Some run)
-  pub program : Loaded
-  pub loaded : slice_get w.programs run.program ≡ Some program
-  pub code_is : program.code ≡ code
-  pub context_is : run.context ≡ context
-  pub ended : run.exit ≡ Some n
