@@ -21,4 +21,6 @@ mod rows;
 #[cfg(test)]
 mod sets;
 #[cfg(test)]
+mod standing;
+#[cfg(test)]
 mod text;
