@@ -15,4 +15,6 @@ mod numbers;
 #[cfg(test)]
 mod sets;
 #[cfg(test)]
+mod standing;
+#[cfg(test)]
 mod text;
