@@ -5,7 +5,7 @@ ghost use Rattle.machine.specs.Standing.{Awaits, IsStanding};
 use crate::judged::SHAPE;
 use asm::assemble;
 use bpf_model::{CtxBytes, Helper};
-use machine::{Access, Local, Run, SLOT_BASE};
+use machine::{Local, Request, Run, SLOT_BASE};
 use std::test::Fail;
 use verifier::{Verified, verify};
 
@@ -31,17 +31,17 @@ struct Replies {
 }
 
 /// Answers what the run asks, unless it changes a map.
-fn answer(run: &mut Run, verified: &Verified, access: Access, replies: &Replies) -> bool
-    requires { Awaits verified.now access run.old }
+fn answer(run: &mut Run, verified: &Verified, request: Request, replies: &Replies) -> bool
+    requires { Awaits verified.now request run.old }
     ensures { result ≡ true → IsStanding verified.now run.new }
 {
-    match access {
-        Access::Load { .. } => run.resume(verified, u64::from(replies.number)),
-        Access::Call {
+    match request {
+        Request::Load { .. } => run.resume(verified, u64::from(replies.number)),
+        Request::Call {
             helper: Helper::Lookup,
         } => run.resume(verified, if replies.found { SLOT_BASE } else { 0 }),
-        Access::Call { .. } => return false,
-        Access::Store { .. } | Access::Enter | Access::Leave => run.resume(verified, 0),
+        Request::Call { .. } => return false,
+        Request::Store { .. } | Request::Enter | Request::Leave => run.resume(verified, 0),
     }
     true
 }
@@ -55,8 +55,8 @@ fn value_of(verified: &Verified, ctx: &CtxBytes, replies: &Replies) -> Option<u6
         match run.local_step(verified) {
             Local::Moved => {}
             Local::Exit(value) => return Some(value),
-            Local::Shared(access) => {
-                if !answer(&mut run, verified, access, replies) {
+            Local::Shared(request) => {
+                if !answer(&mut run, verified, request, replies) {
                     return None;
                 }
             }
