@@ -2,9 +2,8 @@
 ghost use Rattle.std.specs.Prelude.{◌≡◌, true, length};
 ghost use Rattle.machine.specs.Standing.{Awaits, IsStanding};
 
-use crate::judged::SHAPE;
 use asm::assemble;
-use bpf_model::{CtxBytes, Helper};
+use bpf_model::{CtxBytes, Helper, MapShape};
 use machine::{Local, Request, Run, SLOT_BASE};
 use std::test::Fail;
 use verifier::{Verified, verify};
@@ -22,6 +21,15 @@ ldxdw r6, [r0+0]\n\
 callbtf 2\n\
 mov64 r0, r6\n\
 exit\n";
+
+/// The map that the program looks up in.
+const SHAPE: MapShape = MapShape {
+    key_len: 4,
+    value_len: 8,
+    entries: 4,
+    spare: 4,
+    reuse_limit: 100,
+};
 
 /// What a lookup is answered: the word of a map slot, or null; and what a load is.
 #[derive(Drop)]
