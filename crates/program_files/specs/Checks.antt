@@ -8,6 +8,7 @@ use Rattle.bpf_model.specs.View.{shapes_of_maps}
 use Rattle.disasm.specs.Text.{program_text}
 use Rattle.insn_codec.specs.declared.fault.DecodeFault.{DecodeFault}
 use Rattle.insn_codec.specs.Faults.{IsDecodeFault}
+use Rattle.program_graph.specs.GraphFlaws.{HasGoodGraph}
 use Rattle.program_files.specs.declared.loader.fault.LoadFault.{LoadFault}
 use Rattle.program_files.specs.ProgramFile.{FileContent, FileSays, IsLoadFault}
 use Rattle.typed_runs.specs.Verified.{IsVerified}
@@ -29,12 +30,13 @@ pub record IsSourceOf (bytes : List ℕ) (s : Source) : Type 0 where
   pub is : IsProgram s.program
   pub says : FileSays bytes (content_with s)
 
--- The file says this program, and it is verified with the file's maps and context.
+-- The file says this program, its jump graph has no flaw, and it is verified with the file's maps and context.
 pub record IsVerifiedFile (bytes : List ℕ) (program : List Insn) : Type 0 where
   pub content : FileContent
   pub says : FileSays bytes content
   pub is : IsProgram program
   pub text_is : content.code ≡ text program
+  pub graph : HasGoodGraph program
   pub verified : IsVerified program (shapes_of_maps content.registry.maps) content.ctx_len
 
 -- The file says a program that is verified with its maps and context, of so many instructions

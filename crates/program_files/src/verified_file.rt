@@ -4,6 +4,7 @@ ghost use Rattle.bpf_model.specs.Plain.{IsPlain};
 ghost use Rattle.bpf_model.specs.PlainMaps.{IsPlainWithMaps};
 ghost use Rattle.bpf_model.specs.declared.limits.TheConstants.{CTX_BYTES, MAX_MAPS};
 ghost use Rattle.bpf_model.specs.View.{shapes_of_maps};
+ghost use Rattle.program_graph.specs.GraphFlaws.{HasGoodGraph};
 ghost use Rattle.typed_runs.specs.Verified.{IsVerified};
 ghost use Rattle.verifier.specs.Verdict.{IsToldOf, IsAccepted as IsTaken};
 
@@ -43,6 +44,7 @@ pub fn verify_source(alloc: Global, source: Source) -> Result<VerifiedSource, Pr
     ensures registry { IfOk result (λ v. v.registry ≡ source.registry) }
     ensures verified { IfOk result (λ v.
         IsVerified source.program (shapes_of_maps source.registry.maps) source.ctx_len) }
+    ensures graph { IfOk result (λ _. HasGoodGraph source.program) }
     ensures told { IfErr result (IsToldOf source.program) }
     ensures plain { IsPlain source.program → IsTaken result }
     ensures plain_with_maps { IsPlainWithMaps source.program (shapes_of_maps source.registry.maps) →
