@@ -6,14 +6,14 @@ ghost use Rattle.bpf_model.specs.Spelling.{text};
 ghost use Rattle.lone_runs.specs.Lone.{loaded_alone};
 ghost use Rattle.bench.specs.Trials.{IsReadyTrial};
 
-use anyhow::Result;
+use anyhow::{Result, ensure};
 use bpf_model::CtxBytes;
 use insn_codec::decode;
-use lone_runs::{Finished, run_to_exit};
+use lone_runs::{Finished, has_no_maps, run_to_exit};
 use std::alloc::Global;
 use verifier::{Verified, verify};
 
-/// A program that was verified with no maps, and a context of the length that it was verified for.
+/// A program that names no map, and a context of the length that it was verified for.
 #[derive(Drop)]
 pub struct Trial {
     pub verified: Verified,
@@ -44,6 +44,7 @@ pub fn trial_of(alloc: Global, bytes: &[u8], ctx_len: usize) -> Result<Trial>
 {
     let program = decode(alloc, bytes)?;
     let verified = verify(alloc, program, &[], ctx_len)?;
+    ensure!(has_no_maps(&verified), "the program names a map");
     Ok(Trial {
         verified,
         ctx: counting_bytes(ctx_len),

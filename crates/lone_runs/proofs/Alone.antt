@@ -1,69 +1,82 @@
--- A run that refers to its own context and frame alone, of a program that has no maps, makes each step whatever the maps are.
-use Rattle.std.proofs.Common.{◌≡◌, ℕ, ◌<◌, List, length, Option, Some, None, Bool, true, false, inl, refl, sym, subst, arith, ℤ, pos, negsuc}
-use Rattle.std.specs.Prelude.{nat_lt, if◌then◌else◌}
-use Rattle.std.proofs.lemmas.Bool.{ltb-true, false≢true}
-use Rattle.std.proofs.lemmas.Option.{none-some}
-use Rattle.bpf_model.specs.declared.insn.Insn.{Insn}
-use Rattle.bpf_model.specs.declared.insn.Insn.TheVariants.{Call, LoadMap}
-use Rattle.bpf_model.specs.declared.insn.CallKind.TheVariants as kinds
+-- A run that refers to its own context and frame alone can ask for a section, and for nothing else.
+use Rattle.std.proofs.Common.{◌≡◌, ℕ, List, [], ◌∷◌, Option, Some, None, Bool, true, false, refl, ℤ}
+use Rattle.std.specs.Prelude.{◌==◌, if◌then◌else◌}
+use Rattle.std.proofs.lemmas.Option.{none-some, same_Some}
+use Rattle.bpf_model.specs.declared.call.Helper.{Helper}
+use Rattle.bpf_model.specs.declared.call.Helper.TheVariants as helpers
 use Rattle.bpf_model.specs.declared.call.KernelFunction.{KernelFunction}
-use Rattle.bpf_model.specs.declared.call.KernelFunction.TheVariants.{ReadLock, ReadUnlock}
-use Rattle.bpf_model.specs.declared.event.Answer.{Answer}
+use Rattle.bpf_model.specs.declared.insn.CallKind.TheVariants as kinds
+use Rattle.bpf_model.specs.declared.insn.Insn.{Insn}
+use Rattle.bpf_model.specs.declared.insn.Insn.TheVariants.{Call, Load, LoadSigned, Store}
+use Rattle.bpf_model.specs.declared.limits.MapShape.{MapShape}
 use Rattle.bpf_model.specs.declared.value.Value.{Value}
-use Rattle.bpf_model.specs.declared.value.Value.TheVariants.{Nothing, Pointer}
-use Rattle.bpf_model.specs.declared.value.Reference.TheVariants.{MapRef}
+use Rattle.bpf_model.specs.declared.value.Value.TheVariants.{Nothing, Number, Pointer}
+use Rattle.bpf_model.specs.declared.value.Reference.TheVariants.{Ctx, Frame, MapRef, Elem}
+use Rattle.bpf_model.specs.Access.{byte_count, unsigned_width}
 use Rattle.bpf_model.specs.Call.{helper_of, kernel_function_of}
-use Rattle.bpf_model.specs.Machine.{Run, environment}
-use Rattle.bpf_model.specs.MachineStep.{OutcomeStep, InsnStep, KernelStep}
-use Rattle.bpf_model.specs.MapState as map_state
-use Rattle.bpf_model.specs.Section.{Section}
-use Rattle.bpf_model.specs.Step.{Environment, Exits, Moves, Outcome, State, after, map_value, sets}
-use Rattle.bpf_model.specs.Holds.{HoldsState}
+use Rattle.bpf_model.specs.Holds.{HoldsState, HoldsValue}
+use Rattle.bpf_model.specs.Operand.{operand_value}
+use Rattle.bpf_model.specs.Request.{AnyNumber, Argument, ArgumentKind, KeyOfMap, MapArgument, MapOfProgram, Request, ValueOfMap, argument_of, arguments_of, asks, load_request, named_map, section_request, signature_of, store_request, CallHelper}
+use Rattle.bpf_model.specs.Step.{State}
+use Rattle.bpf_model.specs.Value.{◌>>=◌, reference}
 use Rattle.model_laws.specs.Alone.{IsOwn}
-use Rattle.model_laws.proofs.Alone.{acts-own, helper-own, own-closed}
-use Rattle.model_laws.proofs.Holding.{HoldsOutcome, holds-after, holds-returns}
 use Rattle.model_laws.proofs.Computations.{first-step}
 
--- where there are no maps, none is loaded
-if-none : (b : Bool) (u v : Value) → (b ≡ true → ⊥) → (if b then Some u else None) ≡ Some v → ⊥
-if-none true u v f h = f refl
-if-none false u v f h = none-some v h
+-- The instruction is a lock or an unlock, and that is what it asks.
+pub record IsSectionCall (i : Insn) (request : Request) : Type 0 where
+  pub imm : ℤ
+  pub is : i ≡ Call kinds.Kernel imm
+  pub function : KernelFunction
+  pub known : kernel_function_of imm ≡ Some function
+  pub asks_is : section_request function ≡ request
 
-none-below : (n count : ℕ) → count ≡ 0 → nat_lt n count ≡ true → ⊥
-none-below n count e h = let below : n < count = ltb-true n count h in absurd (omega (arith, below, e))
+load-none : (width : ℕ) (offset : ℤ) (b : Bool) (base : Value) (request : Request) → HoldsValue IsOwn base → (if b then None else load_request width offset base) ≡ Some request → ⊥
+load-none width offset true base request p h = none-some request h
+load-none width offset false Nothing request p h = none-some request h
+load-none width offset false (Number x) request p h = none-some request h
+load-none width offset false (Pointer (Ctx o)) request p h = none-some request h
+load-none width offset false (Pointer (Frame o)) request p h = none-some request h
+load-none width offset false (Pointer (MapRef m)) request p h = p
+load-none width offset false (Pointer (Elem n o)) request p h = p
 
-map-none : (env : Environment) (map : ℤ) (v : Value) → env.maps ≡ 0 → map_value env map ≡ Some v → ⊥
-map-none env (pos n) v e h = if-none (nat_lt n env.maps) (Pointer (MapRef n)) v (none-below n env.maps e) h
-map-none env (negsuc n) v e h = none-some v h
+store-none : (width : ℕ) (offset : ℤ) (v base : Value) (request : Request) → HoldsValue IsOwn base → store_request width offset v base ≡ Some request → ⊥
+store-none width offset Nothing base request p h = none-some request h
+store-none width offset (Pointer r) base request p h = none-some request h
+store-none width offset (Number v) Nothing request p h = none-some request h
+store-none width offset (Number v) (Number x) request p h = none-some request h
+store-none width offset (Number v) (Pointer (Ctx o)) request p h = none-some request h
+store-none width offset (Number v) (Pointer (Frame o)) request p h = none-some request h
+store-none width offset (Number v) (Pointer (MapRef m)) request p h = p
+store-none width offset (Number v) (Pointer (Elem n o)) request p h = p
 
-loads-none : (dst : ℕ) (map : ℤ) (env : Environment) (m : State) (out : Outcome) → env.maps ≡ 0 → after (LoadMap dst map) env m ≡ Some out → ⊥
-loads-none dst map env m out e h = let f = first-step (map_value env map) (λ v. sets 2 dst v m) out h in map-none env map f.0 e f.1
+map-none : (v : Value) (a : Argument) → HoldsValue IsOwn v → (reference v >>= named_map >>= λ map. Some (MapArgument map)) ≡ Some a → ⊥
+map-none Nothing a p h = none-some a h
+map-none (Number x) a p h = none-some a h
+map-none (Pointer (Ctx o)) a p h = none-some a h
+map-none (Pointer (Frame o)) a p h = none-some a h
+map-none (Pointer (MapRef m)) a p h = p
+map-none (Pointer (Elem n o)) a p h = p
 
--- The same step is one whatever stands in the maps and whichever sections are open, and it leaves the run referring to its own alone.
-pub record StepsAnywhere (i : Insn) (run : Run) (answer : Answer) (new : Run) : Type 0 where
-  pub anywhere : (t : map_state.Store) (others : List Section) → InsnStep i t others run answer t new
-  pub own : HoldsState IsOwn new.state
+-- each helper is called with a map first
+arguments-none : (more : List ArgumentKind) (shapes : ℕ → Option MapShape) (m : State) (arguments : List Argument) → HoldsState IsOwn m → arguments_of (MapOfProgram ∷ more) shapes m 1 ≡ Some arguments → ⊥
+arguments-none more shapes m arguments p h =
+    let f = first-step (argument_of shapes m MapOfProgram 1) (λ argument. arguments_of more shapes m 2 >>= λ rest. Some (argument ∷ rest)) arguments h in
+    map-none (m.regs 1) f.0 (p.0 1) f.1
 
-ends-own : (out : Outcome) (run : Run) (answer : Answer) (new : Run) → HoldsState IsOwn run.state → HoldsOutcome IsOwn out → OutcomeStep out run answer new → HoldsState IsOwn new.state
-ends-own (Moves next) run answer new p q h = subst (λ (r : Run). HoldsState IsOwn r.state) (sym h.1) q
-ends-own (Exits n) run answer new p q h = subst (λ (r : Run). HoldsState IsOwn r.state) (sym h.2) p
+helper-none : (helper : Helper) (shapes : ℕ → Option MapShape) (m : State) (arguments : List Argument) → HoldsState IsOwn m → arguments_of (signature_of helper).arguments shapes m 1 ≡ Some arguments → ⊥
+helper-none helpers.Lookup shapes m arguments p h = arguments-none (KeyOfMap ∷ []) shapes m arguments p h
+helper-none helpers.Update shapes m arguments p h = arguments-none (KeyOfMap ∷ ValueOfMap ∷ AnyNumber ∷ []) shapes m arguments p h
+helper-none helpers.Delete shapes m arguments p h = arguments-none (KeyOfMap ∷ []) shapes m arguments p h
 
-kernel-own : (f : Option KernelFunction) (run new : Run) → HoldsState IsOwn run.state → KernelStep f run new → HoldsState IsOwn new.state
-kernel-own (Some ReadLock) run new p h = subst (λ (r : Run). HoldsState IsOwn r.state) (sym h.1) (holds-returns IsOwn own-closed Nothing run.state tt p)
-kernel-own (Some ReadUnlock) run new p h = subst (λ (r : Run). HoldsState IsOwn r.state) (sym h.1) (holds-returns IsOwn own-closed Nothing run.state tt p)
-kernel-own None run new p h = absurd h
-
-pub steps_anywhere : (i : Insn) (s : map_state.Store) (opened : List Section) (run : Run) (answer : Answer) (new : map_state.Store) (new_run : Run) → length run.program.maps ≡ 0 → HoldsState IsOwn run.state → InsnStep i s opened run answer new new_run → StepsAnywhere i run answer new_run
-steps_anywhere (Call kinds.Kernel imm) s opened run answer new new_run none p h = record {
-  anywhere = λ t others. (h.0, h.1, refl);
-  own = kernel-own (kernel_function_of imm) run new_run p h.0;
-}
-steps_anywhere (Call kinds.Helper imm) s opened run answer new new_run none p h = absurd (helper-own (helper_of imm) s opened run h.0 new p h.1)
-steps_anywhere (LoadMap dst map) s opened run answer new new_run none p h =
-    absurd (loads-none dst map (environment run) run.state h.0 none (acts-own (LoadMap dst map) (environment run) s.elements run.state h.0 h.1 p h.2).0)
-steps_anywhere i s opened run answer new new_run none p h =
-    let a = acts-own i (environment run) s.elements run.state h.0 h.1 p h.2 in
-    record {
-      anywhere = λ t others. (h.0, t.elements, inl (a.0, refl), refl, h.4);
-      own = ends-own h.0 run answer new_run p (holds-after IsOwn own-closed i (environment run) run.state h.0 (λ named. absurd (false≢true named)) p a.0) h.4;
-    }
+pub asks_section : (i : Insn) (shapes : ℕ → Option MapShape) (m : State) (request : Request) → HoldsState IsOwn m → asks i shapes m ≡ Some request → IsSectionCall i request
+asks_section (Load width dst src offset) shapes m request p h = absurd (load-none (byte_count width) offset (dst == 10) (m.regs src) request (p.0 src) h)
+asks_section (LoadSigned width dst src offset) shapes m request p h = absurd (load-none (byte_count (unsigned_width width)) offset (dst == 10) (m.regs src) request (p.0 src) h)
+asks_section (Store width dst offset src) shapes m request p h = absurd (store-none (byte_count width) offset (operand_value src m.regs) (m.regs dst) request (p.0 dst) h)
+asks_section (Call kinds.Kernel imm) shapes m request p h =
+    let f = first-step (kernel_function_of imm) (λ function. Some (section_request function)) request h in
+    record { imm = imm; is = refl; function = f.0; known = f.1; asks_is = same_Some (section_request f.0) request f.2 }
+asks_section (Call kinds.Helper imm) shapes m request p h =
+    let f = first-step (helper_of imm) (λ helper. arguments_of (signature_of helper).arguments shapes m 1 >>= λ arguments. Some (CallHelper helper arguments)) request h in
+    let g = first-step (arguments_of (signature_of f.0).arguments shapes m 1) (λ arguments. Some (CallHelper f.0 arguments)) request f.2 in
+    absurd (helper-none f.0 shapes m g.0 p g.1)
+asks_section i shapes m request p h = absurd (none-some request h)

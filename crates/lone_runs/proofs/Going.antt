@@ -1,65 +1,77 @@
 -- What a step of a run by itself comes to.
-use Rattle.std.proofs.Common.{◌≡◌, ℕ, suc, ◌+◌, ◌<◌, List, length, Option, Some, None, Bool, true, false, inl, inr, refl, sym, ap, subst, ◌∙◌, arith, ℤ}
-use Rattle.std.specs.Prelude.{slice_get, slice_set, option_map, map}
+use Rattle.std.proofs.Common.{◌≡◌, ℕ, suc, ◌+◌, ◌<◌, ◌≤◌, List, [], ◌∷◌, length, Option, Some, None, Bool, true, false, inl, inr, refl, sym, ap, subst, ◌∙◌, arith, ℤ}
+use Rattle.std.specs.Prelude.{slice_get, option_map}
 use Rattle.std.proofs.lemmas.Bool.{false≢true}
-use Rattle.std.proofs.lemmas.Option.{none-some, same_Some}
+use Rattle.std.proofs.lemmas.Option.{same_Some}
 use Rattle.bpf_model.specs.declared.call.KernelFunction.{KernelFunction}
 use Rattle.bpf_model.specs.declared.call.KernelFunction.TheVariants.{ReadLock, ReadUnlock}
 use Rattle.bpf_model.specs.declared.event.Answer.{Answer}
 use Rattle.bpf_model.specs.declared.event.Answer.TheVariants.{Moved, Exited}
-use Rattle.bpf_model.specs.declared.event.Event.TheVariants as events
-use Rattle.bpf_model.specs.declared.event.EventRefusal.{EventRefusal}
 use Rattle.bpf_model.specs.declared.insn.CallKind.TheVariants as kinds
 use Rattle.bpf_model.specs.declared.insn.Insn.{Insn}
 use Rattle.bpf_model.specs.declared.insn.Insn.TheVariants.{Call}
-use Rattle.bpf_model.specs.Call.{helper_of, kernel_function_of}
-use Rattle.bpf_model.specs.Event.{Answers, if_ended, refusal, step_refusal}
+use Rattle.bpf_model.specs.declared.limits.MapShape.{MapShape}
+use Rattle.bpf_model.specs.declared.value.Value.TheVariants.{Nothing}
+use Rattle.bpf_model.specs.Call.{kernel_function_of}
 use Rattle.bpf_model.specs.Exit.{ExitsFrom, ExitsWith, exits_later, exits_now}
-use Rattle.bpf_model.specs.Machine.{Loaded, Machine, Run, environment, fresh_run, open_sections, run_at}
-use Rattle.bpf_model.specs.MachineStep.{InsnStep, RunStep, StepsRun}
+use Rattle.bpf_model.specs.Machine.{Loaded, Run, environment, exits as exits_run, fresh_run, moves as moves_run, section_of}
+use Rattle.bpf_model.specs.MachineStep.{InsnStep, RunStep}
 use Rattle.bpf_model.specs.MapState as map_state
-use Rattle.bpf_model.specs.Refines.{RunRefines, TracksSchedule}
-use Rattle.bpf_model.specs.Schedule.{DoesScheduled, Schedule}
+use Rattle.bpf_model.specs.Places.{StartsAt, start-inside, starts_apart}
+use Rattle.bpf_model.specs.Request.{Request as Asked, ServesRequest, StepsAlone, StepsServed, asks as asks_of, bound_shape, section_request as section_asked}
 use Rattle.bpf_model.specs.Section.{Section}
-use Rattle.bpf_model.specs.Step.{insn_at}
-use Rattle.bpf_model.specs.View.{RunView, WorldView}
-use Rattle.typed_runs.proofs.Reaching.{SameProgram, same-insn, well_never_stuck}
-use Rattle.view_laws.specs.Matching.{Matches}
-use Rattle.view_laws.specs.Reactions.{with_run}
-use Rattle.view_laws.proofs.Reacting.{tracked_matches}
-use Rattle.world_laws.specs.Calling.{kernel_called}
+use Rattle.bpf_model.specs.Spelling.{FitsInsn}
+use Rattle.bpf_model.specs.Step.{Exits, Moves, Outcome, after as after_insn, insn_at}
+use Rattle.bpf_model.specs.View.{RunView}
+use Rattle.model_laws.proofs.Alone.{others_change_nothing, stays_sharing_nothing}
+use Rattle.model_laws.proofs.Requests.{steps_by_request}
+use Rattle.typed_runs.specs.Verified.{IsClosed, IsVerified, Plan}
+use Rattle.typed_runs.proofs.Reaching.{same-insn}
 use Rattle.world_laws.specs.Local as laws
-use Rattle.world_laws.specs.Moving.{ended_view, ends_with, moves_on}
-use Rattle.world_laws.specs.Reacting.{full_reaction, insn_step}
-use Rattle.world_laws.specs.Typed.{IsReadyWorld, IsRunning, IsSound}
-use Rattle.world_laws.proofs.Local.{asks_nothing}
-use Rattle.world_laws.proofs.Ready.{refines}
-use Rattle.world_laws.proofs.Worlds.{ready_stays, simulates, tracked_is_sound}
+use Rattle.world_laws.specs.Moving.{ended_view}
+use Rattle.world_laws.proofs.Alike.{exit_alike}
+use Rattle.world_laws.proofs.Codes.{all-get}
+use Rattle.standing_laws.specs.Around.{MayReply, element_of, elements_around, store_of}
+use Rattle.standing_laws.specs.Described.{IsShownBy}
+use Rattle.standing_laws.proofs.Contents.{plain-content}
+use Rattle.standing_laws.proofs.Described.{plain-guards, plain-single, planned, surrounds}
+use Rattle.standing_laws.proofs.Own.{Does, IsReadyCode}
 use Rattle.verifier.specs.Checked.{Checked}
+use Rattle.verifier.specs.Verdict.{verified_of}
 use Rattle.machine.specs.declared.request.Request.{Request}
 use Rattle.machine.specs.declared.request.Request.TheVariants as requests
 use Rattle.machine.specs.declared.request.Local.TheVariants as locals
-use Rattle.machine.specs.Requests.{request_of, entered_view, resumed_view, section_request}
+use Rattle.machine.specs.Requests.{request_of, resumed_view, section_request}
 use Rattle.machine.specs.Standing.{MayGive, StandsBy}
 use Rattle.machine.specs.Steps.{CanStep, IsLocalStep}
-use Rattle.machine.proofs.Laws.{can_step}
-use Rattle.machine.proofs.RunningStands.{running_stands}
-use Rattle.machine.proofs.Reacting.{own_step, reacts_by_insn}
-use Rattle.lone_runs.specs.Lone.{StandsAlone, loaded_alone}
-use Rattle.lone_runs.proofs.Alone.{StepsAnywhere, steps_anywhere}
-use Rattle.model_laws.proofs.Alone.{acts-own, helper-own}
-use Rattle.bpf_model.proofs.Lists.{get-set_there}
-use Rattle.std.specs.Option.{option_flatten}
+use Rattle.machine.proofs.Answering.{stands}
+use Rattle.machine.proofs.AskingSo.{AsksSo, asks-so}
+use Rattle.machine.proofs.StandingLaws.{can_step}
+use Rattle.machine.proofs.Turning.{Acts, AsksFor, Turn, acts-alone, goes-on as goes-alone, turn}
+use Rattle.lone_runs.specs.Lone.{StandsAlone, loaded_alone, loaded_among}
+use Rattle.lone_runs.proofs.Alone.{IsSectionCall, asks_section}
 
-set-there : (runs : List (Option Run)) (old : Run) (new : Option Run) (o : Option (Option Run)) → slice_get runs 0 ≡ o → option_flatten o ≡ Some old → slice_get (slice_set runs 0 new) 0 ≡ Some new
-set-there runs old new None e h = absurd (none-some old h)
-set-there runs old new (Some before) e h = get-set_there runs 0 before new e
+-- what an answer to a step says of the step
+went : (l : laws.LocalStep) (asked : Option Request) (view new : RunView) → IsLocalStep l asked view locals.Moved new → l ≡ laws.Goes new
+went (laws.Goes u) asked view new h = ap laws.Goes (sym h.1)
+went (laws.Ends n) asked view new h = let e : locals.Moved ≡ locals.Exit n = h.0 in absurd (cc)
+went laws.Asks asked view new h = let e : locals.Moved ≡ locals.Shared h.0 = h.2 in absurd (cc)
 
--- what asks nothing isn't shared
-never-shared : (l : laws.LocalStep) (asked : Option Request) (view after : RunView) (request : Request) → laws.AsksNothing l → IsLocalStep l asked view (locals.Shared request) after → ⊥
-never-shared (laws.Goes new) asked view after request a h = let e : locals.Shared request ≡ locals.Moved = h.0 in absurd (cc)
-never-shared (laws.Ends n) asked view after request a h = let e : locals.Shared request ≡ locals.Exit n = h.0 in absurd (cc)
-never-shared laws.Asks asked view after request a h = absurd a
+ended : (l : laws.LocalStep) (asked : Option Request) (view new : RunView) (n : ℕ) → IsLocalStep l asked view (locals.Exit n) new → (l ≡ laws.Ends n) × (new ≡ ended_view n view)
+ended (laws.Goes u) asked view new n h = let e : locals.Exit n ≡ locals.Moved = h.0 in absurd (cc)
+ended (laws.Ends m) asked view new n h = let e : locals.Exit n ≡ locals.Exit m = h.0 in let same : m ≡ n = cc in (ap laws.Ends same, h.1 ∙ ap (λ (k : ℕ). ended_view k view) same)
+ended laws.Asks asked view new n h = let e : locals.Exit n ≡ locals.Shared h.0 = h.2 in absurd (cc)
+
+waited : (l : laws.LocalStep) (asked : Option Request) (view new : RunView) (request : Request) → IsLocalStep l asked view (locals.Shared request) new → (l ≡ laws.Asks) × (asked ≡ Some request) × (new ≡ view)
+waited (laws.Goes u) asked view new request h = let e : locals.Shared request ≡ locals.Moved = h.0 in absurd (cc)
+waited (laws.Ends m) asked view new request h = let e : locals.Shared request ≡ locals.Exit m = h.0 in absurd (cc)
+waited laws.Asks asked view new request h = let e : locals.Shared request ≡ locals.Shared h.0 = h.2 in let same : h.0 ≡ request = cc in (refl, h.1 ∙ ap Some same, h.3)
+
+goes-asks : (u : RunView) → laws.Goes u ≡ laws.Asks → ⊥
+goes-asks u e = absurd (cc)
+
+ends-asks : (n : ℕ) → laws.Ends n ≡ laws.Asks → ⊥
+ends-asks n e = absurd (cc)
 
 -- The instruction is a lock or an unlock, that is what it asks, and it has left the words as they were.
 pub record AsksSection (view after : RunView) (insn : Insn) (request : Request) : Type 0 where
@@ -71,18 +83,16 @@ pub record AsksSection (view after : RunView) (insn : Insn) (request : Request) 
   pub asked : request_of insn view ≡ Some request
   pub same : after ≡ view
 
-section-asked : (view after : RunView) (imm : ℤ) (o : Option KernelFunction) (a request : Request) → kernel_function_of imm ≡ o → option_map section_request o ≡ Some a → locals.Shared request ≡ locals.Shared a → after ≡ view → AsksSection view after (Call kinds.Kernel imm) request
-section-asked view after imm None a request e h f same = absurd (none-some a h)
-section-asked view after imm (Some function) a request e h f same =
-    let g : section_request function ≡ a = same_Some (section_request function) a h in
-    let k : a ≡ request = cc in
+section-called : (view after : RunView) (insn : Insn) (request : Request) (asked : Asked) → IsSectionCall insn asked → request_of insn view ≡ Some request → after ≡ view → AsksSection view after insn request
+section-called view after insn request asked s of same =
+    let e : request_of (Call kinds.Kernel s.imm) view ≡ Some (section_request s.function) = ap (option_map section_request) s.known in
     record {
-      imm = imm;
-      is = refl;
-      function = function;
-      known = e;
-      access_is = cc;
-      asked = ap (option_map section_request) e ∙ (h ∙ ap Some k);
+      imm = s.imm;
+      is = s.is;
+      function = s.function;
+      known = s.known;
+      access_is = same_Some request (section_request s.function) (sym of ∙ (ap (λ (i : Insn). request_of i view) s.is ∙ e));
+      asked = of;
       same = same;
     }
 
@@ -99,10 +109,18 @@ section-is ReadUnlock = refl
 pub asks-else : (view after : RunView) (insn : Insn) (request other : Request) → AsksSection view after insn request → request ≡ other → is-section other ≡ false → ⊥
 asks-else view after insn request other a e h = absurd (false≢true (sym h ∙ (ap is-section (sym e ∙ a.access_is) ∙ section-is a.function)))
 
-entered-moves : (o : Option KernelFunction) (f : KernelFunction) (view : RunView) (w : WorldView) → o ≡ Some f → kernel_called o 0 view w ≡ moves_on 0 (entered_view o view) w
-entered-moves None f view w e = absurd (none-some f e)
-entered-moves (Some ReadLock) f view w e = refl
-entered-moves (Some ReadUnlock) f view w e = refl
+-- a lock and an unlock may be answered by any word, and change no map
+section-given : (v : Checked) (view : RunView) (f : KernelFunction) → MayGive v view (section_request f) 0
+section-given v view ReadLock = tt
+section-given v view ReadUnlock = tt
+
+section-reply : (bound : List ℕ) (f : KernelFunction) → MayReply bound (section_asked f) Nothing
+section-reply bound ReadLock = refl
+section-reply bound ReadUnlock = refl
+
+section-serves : (bound : List ℕ) (f : KernelFunction) (s : map_state.Store) (opened : List Section) → ServesRequest bound (section_asked f) s opened Nothing s
+section-serves bound ReadLock s opened = (refl, refl)
+section-serves bound ReadUnlock s opened = (refl, refl)
 
 -- A move of the run, with the words after it.
 pub record Further (v : Checked) (view new : RunView) : Type 0 where
@@ -110,189 +128,201 @@ pub record Further (v : Checked) (view new : RunView) : Type 0 where
   pub context : new.context ≡ view.context
   pub moved : new.moved ≡ view.moved + 1
 
--- a lock and an unlock may be answered by any word
-section-given : (v : Checked) (view : RunView) (f : KernelFunction) → MayGive v view (section_request f) 0
-section-given v view ReadLock = tt
-section-given v view ReadUnlock = tt
-
 module _ (v : Checked) (view : RunView) (x : StandsAlone v view) where
-  abbrev matches : Matches x.world x.schedule
-  matches = tracked_matches x.world x.schedule x.tracks
+  abbrev run : Run
+  run = x.run
 
-  abbrev sound : IsSound x.world x.schedule
-  sound = tracked_is_sound x.world x.schedule x.tracks x.ready
+  abbrev section : Section
+  section = section_of run
 
-  abbrev m : Machine
-  m = x.schedule.machine
+  abbrev store : map_state.Store
+  store = store_of v.shapes (elements_around v.shapes section)
 
-  refined : RunRefines matches.refines.slots m.store.elements m.programs view x.run
-  refined = refines x.world x.schedule matches sound 0 x.run view x.running
+  -- the shapes of the maps of its list
+  abbrev listed : ℕ → Option MapShape
+  listed = bound_shape (store_of v.shapes []) run.program.maps
 
-  loaded : slice_get x.world.programs view.program ≡ Some (loaded_alone v)
-  loaded = ap (λ (ps : List Loaded). slice_get ps view.program) matches.refines.programs ∙ refined.program ∙ ap Some x.program
+  real : (k : ℕ) (i : Insn) → slice_get v.program k ≡ Some i → FitsInsn i
+  real = all-get FitsInsn v.program x.justified.program.fits
+
+  abbrev some : IsVerified v.program v.shapes v.ctx_len
+  some = verified_of v x.justified
+
+  abbrev Shows : Plan → Run → RunView → Type 0
+  Shows plan r u = IsShownBy v.program v.shapes v.ctx_len plan v.shapes r u
+
+  ready : (plan : Plan) → IsClosed v.program v.shapes v.ctx_len plan → IsReadyCode v.program v.shapes v.ctx_len plan
+  ready plan closed = record { closed = closed; real = real }
+
+  abbrev k : Shows some.plan run view
+  k = x.shown some.plan some.closed
 
   -- the run's steps may be made, and its words stand for it
-  pub steps : CanStep v view
-  steps = can_step x.world x.schedule matches sound 0 x.run view x.running (loaded_alone v) loaded v (record {
-    justified = x.justified;
-    code = refl;
-    context = refl;
-    bound = sym (ap (map Some) x.without_maps);
-  })
-
   pub standing : StandsBy v view
-  standing = running_stands x.world x.schedule matches sound 0 x.run view x.running (loaded_alone v) loaded v (record {
-    justified = x.justified;
-    code = refl;
-    context = refl;
-    bound = sym (ap (map Some) x.without_maps);
-  })
+  standing = stands v.program v.shapes v.ctx_len real some v.shapes run view x.shown
+
+  pub steps : CanStep v view
+  steps = can_step v x.justified view standing
+
+  known : (i : Insn) → insn_at v.program view.place ≡ Some i → insn_at v.program run.state.place ≡ Some i
+  known i here = ap (insn_at v.program) (sym k.words.place) ∙ here
 
   -- it has moved less often than its program has instructions
   pub moves-below : view.moved < length v.program
   moves-below =
-      let l : x.run.moved < length x.run.program.code = sound.well.moved 0 x.run x.running.there in
-      let e : x.run.program.code ≡ v.program = ap (λ (p : Loaded). p.code) x.program in
-      omega (arith, l, ap length e, refined.moved)
+      let below : k.described.index < length v.program = start-inside v.program k.described.index run.state.place k.described.planned.at in
+      let few : run.moved ≤ k.described.index = x.further k.described.index k.described.planned.at in
+      let same : view.moved ≡ run.moved = k.words.moved in
+      omega (arith, below, few, same)
 
-  -- the world's answer to its step is the instruction's
-  reacts : (insn : Insn) → insn_at v.program view.place ≡ Some insn → full_reaction x.world (events.Step 0) ≡ insn_step insn (loaded_alone v) 0 view x.world
-  reacts insn here = reacts_by_insn x.world 0 view (loaded_alone v) insn x.running.shown (refined.exit ∙ x.running.going) loaded here
+  -- a step of the run
+  abbrev Steps : Insn → Answer → Run → Type 0
+  Steps i answer new = InsnStep i store (section ∷ []) run answer store new
 
-  place-is : insn_at x.run.program.code x.run.state.place ≡ insn_at v.program view.place
-  place-is = ap (λ (p : Loaded). insn_at p.code x.run.state.place) x.program ∙ ap (insn_at v.program) (sym refined.place)
+  stepped : (i : Insn) (answer : Answer) (new : Run) → insn_at v.program run.state.place ≡ Some i → Steps i answer new → RunStep store (section ∷ []) run answer store new
+  stepped i answer new here step = (i, ap (λ (p : Loaded). insn_at p.code run.state.place) x.program ∙ here, step)
 
-  no-maps : length x.run.program.maps ≡ 0
-  no-maps = ap (λ (p : Loaded). length p.maps) x.program
+  -- it is one whatever stands in the maps
+  anywhere : (i : Insn) (answer : Answer) (new : Run) → insn_at v.program run.state.place ≡ Some i → Steps i answer new → (other : map_state.Store) (sections : List Section) → RunStep other sections run answer other new
+  anywhere i answer new here step = (others_change_nothing store store (section ∷ []) run new answer x.own (stepped i answer new here step)).1
 
-  -- what the machine does
-  pub record Stepped (answer : Answer) (w : WorldView) : Type 0 where
-    pub next : Schedule
-    pub tracks : TracksSchedule w next
-    pub ready : IsReadyWorld w
-    pub run : Run
-    pub there : run_at next.machine.runs 0 ≡ Some run
-    pub insn : Insn
-    pub here : insn_at x.run.program.code x.run.state.place ≡ Some insn
-    pub same : SameProgram x.run answer run
-    pub step : StepsAnywhere insn x.run answer run
+  alone : (i : Insn) (out : Outcome) (answer : Answer) (new : Run) → StepsAlone i store run answer store new → Steps i answer new
+  alone i out answer new h = (steps_by_request i store (section ∷ []) run answer store new).1 (inl h)
 
-  passes : refusal m (events.Step 0) ≡ None
-  passes = ap step_refusal x.running.there ∙ ap if_ended x.running.going
+  -- it leads further on
+  leads : (i : Insn) (new : Run) → insn_at v.program run.state.place ≡ Some i → Steps i Moved new → new.exit ≡ None → (index : ℕ) → StartsAt v.program index new.state.place → new.moved ≤ index
+  leads i new here step going index at =
+      let d = k.described in
+      let l = some.closed.leads d.index i store (section ∷ []) run Moved store new
+      (surrounds v.program v.shapes v.ctx_len some.plan some.closed v.shapes run d (element_of v.shapes section) (plain-content v.shapes section) (plain-single v.program v.shapes v.ctx_len some.plan some.closed v.shapes run d))
+      (planned v.program v.shapes v.ctx_len some.plan some.closed v.shapes run d (element_of v.shapes section) (plain-guards v.program v.shapes v.ctx_len some.plan some.closed v.shapes run d)) here step in
+      let p = l.1 going in
+      let same : p.index ≡ index = starts_apart 0 v.program p.index index new.state.place p.planned.at at in
+      let more : d.index < p.index = p.further in
+      let few : run.moved ≤ d.index = x.further d.index d.planned.at in
+      let counts : new.moved ≡ run.moved + 1 = (same-insn i store (section ∷ []) run Moved store new step).counts in
+      omega (arith, same, more, few, counts)
 
-  stepped-by : (answer : Answer) (w : WorldView) (next : Schedule) → TracksSchedule w next → IsReadyWorld w → StepsRun m 0 answer next.machine → Stepped answer w
-  stepped-by answer w next tracks ready st =
-      let same : st.run ≡ x.run = same_Some st.run x.run (sym st.there ∙ x.running.there) in
-      let step : RunStep m.store (open_sections m.runs) x.run answer st.new_store st.new_run = subst (λ r. RunStep m.store (open_sections m.runs) r answer st.new_store st.new_run) same st.step in
-      record {
-        next = next;
-        tracks = tracks;
-        ready = ready;
-        run = st.new_run;
-        there = ap (λ (n : Machine). run_at n.runs 0) st.new_is ∙ ap option_flatten (set-there m.runs x.run (Some st.new_run) (slice_get m.runs 0) refl x.running.there);
-        insn = step.0;
-        here = step.1;
-        same = same-insn step.0 m.store (open_sections m.runs) x.run answer st.new_store st.new_run step.2;
-        step = steps_anywhere step.0 m.store (open_sections m.runs) x.run answer st.new_store st.new_run no-maps x.own step.2;
-      }
-
-  stepped : (answer : Answer) (w : WorldView) → full_reaction x.world (events.Step 0) ≡ (answer, w) → Stepped answer w
-  stepped answer w e =
-      let n = simulates x.world x.schedule (events.Step 0) x.tracks x.ready (omega arith) in
-      let does : DoesScheduled x.schedule (events.Step 0) answer n.0 = subst (λ (y : Answer × WorldView). DoesScheduled x.schedule (events.Step 0) y.0 n.0) e n.1 in
-      let tracks : TracksSchedule w n.0 = subst (λ (y : Answer × WorldView). TracksSchedule y.1 n.0) e n.2 in
-      let ready : IsReadyWorld w = subst (λ (y : Answer × WorldView). IsReadyWorld y.1) e (ready_stays x.world (events.Step 0) x.ready) in
-      stepped-by answer w n.0 tracks ready (subst (λ (o : Option EventRefusal). Answers o m (events.Step 0) answer n.0.machine) passes does.step)
-
-  anywhere : (answer : Answer) (w : WorldView) (g : Stepped answer w) (store : map_state.Store) (opened : List Section) → RunStep store opened x.run answer store g.run
-  anywhere answer w g store opened = (g.insn, g.here, g.step.anywhere store opened)
-
-  -- it goes on
-  pub goes-on : (new : RunView) → full_reaction x.world (events.Step 0) ≡ moves_on 0 new x.world → Further v view new
-  goes-on new e =
-      let w = with_run 0 (Some new) x.world in
-      let g = stepped Moved w e in
-      let running : IsRunning w g.next 0 g.run new = record {
-        there = g.there;
-        shown = get-set_there x.world.runs 0 (Some view) (Some new) x.running.shown;
-        going = elim g.same.moved [
-          | inl y ↦ y.1 ∙ x.running.going
-          | inr y ↦ absurd (omega (arith, y, g.same.counts))
-        ];
-      } in
-      let after = refines w g.next (tracked_matches w g.next g.tracks) (tracked_is_sound w g.next g.tracks g.ready) 0 g.run new running in
-      let context : new.context ≡ view.context = after.context ∙ (g.same.context ∙ sym refined.context) in
-      let moved : new.moved ≡ view.moved + 1 = omega (arith, after.moved, g.same.counts, refined.moved) in
+  goes-on : (i : Insn) (new : Run) (u : RunView) → insn_at v.program run.state.place ≡ Some i → Steps i Moved new → ((plan : Plan) → IsClosed v.program v.shapes v.ctx_len plan → Shows plan new u) → Further v view u
+  goes-on i new u here step shown =
+      let same = same-insn i store (section ∷ []) run Moved store new step in
+      let w = shown some.plan some.closed in
+      let context : u.context ≡ view.context = w.words.context ∙ (same.context ∙ sym k.words.context) in
+      let counts : new.moved ≡ run.moved + 1 = same.counts in
+      let old_moved : view.moved ≡ run.moved = k.words.moved in
+      let new_moved : u.moved ≡ new.moved = w.words.moved in
+      let moved : u.moved ≡ view.moved + 1 = omega (arith, counts, old_moved, new_moved) in
       record {
         stands = record {
           justified = x.justified;
           without_maps = x.without_maps;
-          world = w;
-          schedule = g.next;
-          run = g.run;
-          tracks = g.tracks;
-          ready = g.ready;
-          running = running;
-          program = g.same.program ∙ x.program;
-          own = g.step.own;
-          so_far = λ k n y.
-              let f : view.moved + suc k ≡ new.moved + k = omega (arith, moved) in
-              subst (λ (c : List ℕ). ExitsFrom (fresh_run 0 (loaded_alone v) c) (new.moved + k) n) (sym context)
-              (subst (λ (t : ℕ). ExitsFrom (fresh_run 0 (loaded_alone v) view.context) t n) f (x.so_far (suc k) n (exits_later x.run g.run k n (anywhere Moved w g) y)));
+          run = new;
+          program = same.program ∙ x.program;
+          shown = shown;
+          own = stays_sharing_nothing store store (section ∷ []) run new Moved x.own (stepped i Moved new here step);
+          further = leads i new here step w.described.going;
+          so_far = λ n value y.
+              let f : view.moved + suc n ≡ u.moved + n = omega (arith, moved) in
+              subst (λ (c : List ℕ). ExitsFrom (fresh_run 0 (loaded_among v) c) (u.moved + n) value) (sym context)
+              (subst (λ (t : ℕ). ExitsFrom (fresh_run 0 (loaded_among v) view.context) t value) f (x.so_far (suc n) value (exits_later run new n value (anywhere i Moved new here step) y)));
         };
         context = context;
         moved = moved;
       }
 
-  -- it ends
-  pub finishes : (n : ℕ) → full_reaction x.world (events.Step 0) ≡ ends_with 0 view n x.world → ExitsWith (loaded_alone v) view.context (view.moved + 1) n
-  finishes n e =
-      let w = with_run 0 (Some (ended_view n view)) x.world in
-      let g = stepped (Exited n) w e in
-      (0, x.so_far 1 n (exits_now x.run g.run n (anywhere (Exited n) w g)))
+  -- its exit is that of the program by itself
+  finishes : (i : Insn) (n : ℕ) (new : Run) → insn_at v.program run.state.place ≡ Some i → Steps i (Exited n) new → ExitsWith (loaded_alone v) view.context (view.moved + 1) n
+  finishes i n new here step =
+      exit_alike (loaded_among v) (loaded_alone v) view.context (view.moved + 1) n x.without_maps refl (0, x.so_far 1 n (exits_now run new n (anywhere i (Exited n) new here step)))
 
-  -- it asks for a section alone
-  asks-by : (insn : Insn) (answer : Answer) (new_store : map_state.Store) (new : Run) → insn_at x.run.program.code x.run.state.place ≡ Some insn → InsnStep insn m.store (open_sections m.runs) x.run answer new_store new
-      → (request : Request) (after : RunView) → IsLocalStep (laws.local_of insn view) (request_of insn view) view (locals.Shared request) after → AsksSection view after insn request
-  asks-by (Call kinds.Kernel imm) answer new_store new here h request after s = section-asked view after imm (kernel_function_of imm) s.0 request refl s.1 s.2 s.3
-  asks-by (Call kinds.Helper imm) answer new_store new here h request after s = absurd (helper-own (helper_of imm) m.store (open_sections m.runs) x.run h.0 new_store x.own h.1)
-  asks-by i answer new_store new here h request after s =
-      let a = acts-own i (environment x.run) m.store.elements x.run.state h.0 h.1 x.own h.2 in
-      absurd (never-shared (laws.local_of i view) (request_of i view) view after request (asks_nothing x.world x.schedule matches sound 0 x.run view x.running i h.0 here a.0) s)
+  -- the step that its plan promises
+  abbrev Turns : Insn → Type 0
+  Turns i = Turn v.program v.shapes v.ctx_len some.plan (ready some.plan some.closed) v.shapes run view k i
 
-  pub asks : (insn : Insn) → insn_at v.program view.place ≡ Some insn → (request : Request) (after : RunView) → IsLocalStep (laws.local_of insn view) (request_of insn view) view (locals.Shared request) after → AsksSection view after insn request
-  asks insn here request after s =
-      let n = well_never_stuck m sound.well 0 x.run x.running.there x.running.going in
-      let at = place-is ∙ here in
-      let same : n.3.0 ≡ insn = same_Some n.3.0 insn (sym n.3.1 ∙ at) in
-      asks-by insn n.0 n.1 n.2 at (subst (λ (i : Insn). InsnStep i m.store (open_sections m.runs) x.run n.0 n.1 n.2) same n.3.2) request after s
+  turned : (i : Insn) → insn_at v.program run.state.place ≡ Some i → Turns i
+  turned i here = turn v.program v.shapes v.ctx_len some.plan (ready some.plan some.closed) v.shapes run view k i here
 
-  -- the words after its own step, after its exit, and after it was let through a lock or an unlock
-  moved-by : (new : RunView) (insn : Insn) → insn_at v.program view.place ≡ Some insn → IsLocalStep (laws.local_of insn view) (request_of insn view) view locals.Moved new → Further v view new
-  moved-by new insn here s = goes-on new (reacts insn here ∙ own_step insn (loaded_alone v) 0 view new x.world (request_of insn view) locals.Moved s)
+  abbrev Doing : Outcome → laws.LocalStep → Type 0
+  Doing out l = Does v.program v.shapes v.ctx_len some.plan (ready some.plan some.closed) v.shapes run view k out l
+
+  acted : (i : Insn) (out : Outcome) → insn_at v.program run.state.place ≡ Some i → after_insn i (environment run) run.state ≡ Some out → Doing out (laws.local_of i view)
+  acted i out here e = acts-alone v.program v.shapes v.ctx_len some.plan (ready some.plan some.closed) v.shapes run view k i out here e
+
+  asked-so : (plan : Plan) (closed : IsClosed v.program v.shapes v.ctx_len plan) (i : Insn) (asked : Asked) → insn_at v.program run.state.place ≡ Some i → asks_of i listed run.state ≡ Some asked
+      → AsksSo v.program v.shapes v.ctx_len plan (ready plan closed) v.shapes run view (x.shown plan closed) i asked
+  asked-so plan closed i asked here e = asks-so v.program v.shapes v.ctx_len plan (ready plan closed) v.shapes run view (x.shown plan closed) i asked here e
+
+  -- it goes on by itself
+  moved-to : (i : Insn) (out : Outcome) (new : RunView) → insn_at v.program run.state.place ≡ Some i → after_insn i (environment run) run.state ≡ Some out → laws.local_of i view ≡ laws.Goes new → Doing out (laws.Goes new) → Further v view new
+  moved-to i (Moves next) new here e is d =
+      goes-on i (moves_run run next) new here (alone i (Moves next) Moved (moves_run run next) (Moves next, e, refl, (refl, refl)))
+      (λ plan closed. goes-alone v.program v.shapes v.ctx_len plan (ready plan closed) v.shapes run view (x.shown plan closed) i next new here e is)
+  moved-to i (Exits n) new here e is d = absurd d
+
+  moved-by : (i : Insn) (new : RunView) → insn_at v.program run.state.place ≡ Some i → laws.local_of i view ≡ laws.Goes new → Turns i → Further v view new
+  moved-by i new here is (Acts out e depth) = moved-to i out new here e is (subst (Doing out) is (acted i out here e))
+  moved-by i new here is (AsksFor asked e) = absurd (goes-asks new (sym is ∙ (asked-so some.plan some.closed i asked here e).local))
 
   pub moves : (new : RunView) → ((insn : Insn) → insn_at v.program view.place ≡ Some insn → IsLocalStep (laws.local_of insn view) (request_of insn view) view locals.Moved new) → Further v view new
-  moves new s = moved-by new steps.insn steps.here (s steps.insn steps.here)
+  moves new s =
+      let here = known steps.insn steps.here in
+      moved-by steps.insn new here (went (laws.local_of steps.insn view) (request_of steps.insn view) view new (s steps.insn steps.here)) (turned steps.insn here)
 
-  exited-by : (n : ℕ) (new : RunView) (insn : Insn) → insn_at v.program view.place ≡ Some insn → IsLocalStep (laws.local_of insn view) (request_of insn view) view (locals.Exit n) new → ExitsWith (loaded_alone v) view.context (view.moved + 1) n × (new.moved ≡ view.moved)
-  exited-by n new insn here s =
-      let o = own_step insn (loaded_alone v) 0 view new x.world (request_of insn view) (locals.Exit n) s in
-      (finishes n (reacts insn here ∙ o.0), ap (λ (u : RunView). u.moved) o.1)
+  -- it ends
+  ended-at : (i : Insn) (out : Outcome) (n : ℕ) → insn_at v.program run.state.place ≡ Some i → after_insn i (environment run) run.state ≡ Some out → ((m : ℕ) → out ≡ Exits m → run.depth ≡ 0) → Doing out (laws.Ends n) → ExitsWith (loaded_alone v) view.context (view.moved + 1) n
+  ended-at i (Moves next) n here e depth d = absurd d
+  ended-at i (Exits m) n here e depth d =
+      subst (λ (value : ℕ). ExitsWith (loaded_alone v) view.context (view.moved + 1) value) (sym d)
+      (finishes i m (exits_run run m) here (alone i (Exits m) (Exited m) (exits_run run m) (Exits m, e, refl, (depth m refl, refl, refl))))
+
+  ended-by : (i : Insn) (n : ℕ) → insn_at v.program run.state.place ≡ Some i → laws.local_of i view ≡ laws.Ends n → Turns i → ExitsWith (loaded_alone v) view.context (view.moved + 1) n
+  ended-by i n here is (Acts out e depth) = ended-at i out n here e depth (subst (Doing out) is (acted i out here e))
+  ended-by i n here is (AsksFor asked e) = absurd (ends-asks n (sym is ∙ (asked-so some.plan some.closed i asked here e).local))
 
   pub exits : (n : ℕ) (new : RunView) → ((insn : Insn) → insn_at v.program view.place ≡ Some insn → IsLocalStep (laws.local_of insn view) (request_of insn view) view (locals.Exit n) new) → ExitsWith (loaded_alone v) view.context (view.moved + 1) n × (new.moved ≡ view.moved)
-  exits n new s = exited-by n new steps.insn steps.here (s steps.insn steps.here)
+  exits n new s =
+      let here = known steps.insn steps.here in
+      let o = ended (laws.local_of steps.insn view) (request_of steps.insn view) view new n (s steps.insn steps.here) in
+      (ended-by steps.insn n here o.0 (turned steps.insn here), ap (λ (u : RunView). u.moved) o.1)
 
-  passes-section : (insn : Insn) (request : Request) (word : ℕ) (after : RunView) → insn_at v.program view.place ≡ Some insn → AsksSection view after insn request → Further v view (resumed_view insn word view)
-  passes-section insn request word after here a =
-      subst (λ (i : Insn). Further v view (resumed_view i word view)) (sym a.is)
-      (goes-on (entered_view (kernel_function_of a.imm) view) (reacts insn here ∙ (ap (λ (i : Insn). insn_step i (loaded_alone v) 0 view x.world) a.is ∙ entered-moves (kernel_function_of a.imm) a.function view x.world a.known)))
+  -- what it asks is a section
+  record Waits (i : Insn) : Type 0 where
+    pub asked : Asked
+    pub is : asks_of i listed run.state ≡ Some asked
+    pub section_call : IsSectionCall i asked
+
+  no-acts : (out : Outcome) → Doing out laws.Asks → ⊥
+  no-acts (Moves next) d = absurd d
+  no-acts (Exits n) d = absurd d
+
+  waits-by : (i : Insn) → insn_at v.program run.state.place ≡ Some i → laws.local_of i view ≡ laws.Asks → Turns i → Waits i
+  waits-by i here is (Acts out e depth) = absurd (no-acts out (subst (Doing out) is (acted i out here e)))
+  waits-by i here is (AsksFor asked e) = record { asked = asked; is = e; section_call = asks_section i listed run.state asked x.own.state e }
+
+  -- it is let through, whatever word the lock or the unlock is answered by
+  let-through : (i : Insn) (word : ℕ) → insn_at v.program run.state.place ≡ Some i → Waits i → Further v view (resumed_view i word view)
+  let-through i word here w =
+      let next = (asked-so some.plan some.closed i w.asked here w.is).resumes Nothing in
+      let reply : MayReply run.program.maps w.asked Nothing = subst (λ (q : Asked). MayReply run.program.maps q Nothing) w.section_call.asks_is (section-reply run.program.maps w.section_call.function) in
+      let serves : ServesRequest run.program.maps w.asked store (section ∷ []) Nothing store = subst (λ (q : Asked). ServesRequest run.program.maps q store (section ∷ []) Nothing store) w.section_call.asks_is (section-serves run.program.maps w.section_call.function store (section ∷ [])) in
+      let served : StepsServed i store (section ∷ []) run Moved store next.0 = record { request = w.asked; reply = Nothing; asked = w.is; served = serves; answer_is = refl; resumes = next.1 } in
+      goes-on i next.0 (resumed_view i word view) here ((steps_by_request i store (section ∷ []) run Moved store next.0).1 (inr served))
+      (λ plan closed. (asked-so plan closed i w.asked here w.is).goes_on Nothing word next.0 reply tt next.1)
 
   -- what a step leaves that asks something: it may be resumed, and then it has moved
   abbrev Shares : Request → RunView → Type 0
   Shares request after = (insn : Insn) → insn_at v.program view.place ≡ Some insn → IsLocalStep (laws.local_of insn view) (request_of insn view) view (locals.Shared request) after
 
+  waits : (request : Request) (after : RunView) → Shares request after → Waits steps.insn
+  waits request after s =
+      let here = known steps.insn steps.here in
+      waits-by steps.insn here (waited (laws.local_of steps.insn view) (request_of steps.insn view) view after request (s steps.insn steps.here)).0 (turned steps.insn here)
+
   pub shares : (request : Request) (after : RunView) → Shares request after → AsksSection view after steps.insn request
-  shares request after s = asks steps.insn steps.here request after (s steps.insn steps.here)
+  shares request after s =
+      let w = waits request after s in
+      let o = waited (laws.local_of steps.insn view) (request_of steps.insn view) view after request (s steps.insn steps.here) in
+      section-called view after steps.insn request w.asked w.section_call o.1 o.2
 
   pub given : (request : Request) (after : RunView) → Shares request after → MayGive v after request 0
   given request after s = let a = shares request after s in subst (λ (q : Request). MayGive v after q 0) (sym a.access_is) (section-given v after a.function)
@@ -301,4 +331,4 @@ module _ (v : Checked) (view : RunView) (x : StandsAlone v view) where
   resumed request after new word s h =
       let a = shares request after s in
       let e : new ≡ resumed_view steps.insn word view = subst (λ (u : RunView). (insn : Insn) → insn_at v.program u.place ≡ Some insn → new ≡ resumed_view insn word u) a.same h steps.insn steps.here in
-      subst (Further v view) (sym e) (passes-section steps.insn request word after steps.here a)
+      subst (Further v view) (sym e) (let-through steps.insn word (known steps.insn steps.here) (waits request after s))

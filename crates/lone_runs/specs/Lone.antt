@@ -1,13 +1,13 @@
--- A run of a program that was verified with no maps, by itself.
-use Rattle.std.specs.Prelude.{◌≡◌, ℕ, ◌+◌, []}
-use Rattle.bpf_model.specs.Exit.{ExitsFrom, ExitsWith}
+-- A run of a program that names no map, by itself.
+use Rattle.std.specs.Prelude.{◌≡◌, ℕ, ◌+◌, ◌≤◌, [], length}
+use Rattle.std.specs.List.{range_with_len}
+use Rattle.bpf_model.specs.Exit.{ExitsFrom, ExitsWith, HasNoMaps}
 use Rattle.bpf_model.specs.Machine.{Loaded, Run, fresh_run}
-use Rattle.bpf_model.specs.Refines.{TracksSchedule}
-use Rattle.bpf_model.specs.Schedule.{Schedule}
-use Rattle.bpf_model.specs.View.{RunView, WorldView}
-use Rattle.bpf_model.specs.Holds.{HoldsState}
-use Rattle.model_laws.specs.Alone.{IsOwn}
-use Rattle.world_laws.specs.Typed.{IsReadyWorld, IsRunning}
+use Rattle.bpf_model.specs.Places.{StartsAt}
+use Rattle.bpf_model.specs.View.{RunView}
+use Rattle.model_laws.specs.Alone.{SharesNothing}
+use Rattle.standing_laws.specs.Described.{IsShownBy}
+use Rattle.typed_runs.specs.Verified.{IsClosed, Plan}
 use Rattle.verifier.specs.Checked.{Checked}
 use Rattle.verifier.specs.Verdict.{IsJustified}
 use Rattle.machine.specs.RunWords.{RunWords, IsAt}
@@ -18,22 +18,29 @@ use Rattle.lone_runs.specs.declared.step.Step.TheVariants.{Moved, Exit}
 abbrev pub loaded_alone : Checked → Loaded
 loaded_alone v = record { code = v.program; maps = []; context_len = v.ctx_len }
 
--- The words are those of a run of the program, which was verified with no maps: some world that
--- tracks a state of the machine shows them of the run in run slot 0. It refers to its own context
--- and frame alone, and where it exits from here, it has exited so from its start.
+-- the program as the machine loads it among a map of each shape for which it was verified, in order
+abbrev pub loaded_among : Checked → Loaded
+loaded_among v = record {
+  code = v.program;
+  maps = range_with_len 0 (length v.shapes);
+  context_len = v.ctx_len;
+}
+
+-- The words are those of a run of the program, which names no map: among a map of each shape each
+-- plan of the program describes it. It refers to its own context and frame alone; it has moved at
+-- most as often as there are instructions before its next one; and where it exits from here, it has
+-- exited so from its start.
 pub record StandsAlone (v : Checked) (view : RunView) : Type 0 where
   pub justified : IsJustified v
-  pub without_maps : v.shapes ≡ []
-  pub world : WorldView
-  pub schedule : Schedule
+  pub without_maps : HasNoMaps v.program
   pub run : Run
-  pub tracks : TracksSchedule world schedule
-  pub ready : IsReadyWorld world
-  pub running : IsRunning world schedule 0 run view
-  pub program : run.program ≡ loaded_alone v
-  pub own : HoldsState IsOwn run.state
+  pub program : run.program ≡ loaded_among v
+  pub shown : (plan : Plan) → IsClosed v.program v.shapes v.ctx_len plan →
+      IsShownBy v.program v.shapes v.ctx_len plan v.shapes run view
+  pub own : SharesNothing run
+  pub further : (index : ℕ) → StartsAt v.program index run.state.place → run.moved ≤ index
   pub so_far : (steps n : ℕ) → ExitsFrom run steps n →
-      ExitsFrom (fresh_run 0 (loaded_alone v) view.context) (view.moved + steps) n
+      ExitsFrom (fresh_run 0 (loaded_among v) view.context) (view.moved + steps) n
 
 -- The run is at its code, and its words are those of a run by itself.
 pub record IsLone (v : Checked) (r : RunWords) : Type 0 where

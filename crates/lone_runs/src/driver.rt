@@ -1,7 +1,7 @@
 //! Whole runs.
-ghost use Rattle.std.specs.Prelude.{◌≡◌, ℕ, [], ◌<◌, ◌≤◌, length};
+ghost use Rattle.std.specs.Prelude.{◌≡◌, ℕ, ◌<◌, ◌≤◌, length};
 ghost use Rattle.bpf_model.specs.declared.limits.TheConstants.{MAX_SLOTS};
-ghost use Rattle.bpf_model.specs.Exit.{ExitsWith, MayExitWith};
+ghost use Rattle.bpf_model.specs.Exit.{ExitsWith, HasNoMaps, MayExitWith};
 ghost use Rattle.lone_runs.specs.Lone.{loaded_alone};
 
 use bpf_model::{CtxBytes, MAX_SLOTS, are_bytes};
@@ -15,13 +15,13 @@ pub struct Finished {
     pub steps: usize,
 }
 
-/// Runs a program that was verified with no maps, on a context of the length that it was verified
-/// for, to its exit. It takes no memory and cannot fail.
+/// Runs a program that names no map, on a context of the length that it was verified for, to its exit,
+/// whatever the maps are for which it was verified. It takes no memory and cannot fail.
 ///
 /// The value and the steps are those of the program's definition, which has no others, whatever other
 /// actors do; and the steps are at most as many as it has instructions.
 pub fn run_to_exit(verified: &Verified, ctx: &CtxBytes) -> Finished
-    requires maps { verified.now.shapes ≡ [] }
+    requires maps { HasNoMaps verified.now.program }
     requires context { length ctx.now.items ≡ verified.now.ctx_len }
     ensures exits { ExitsWith (loaded_alone verified.now) ctx.now.items result.steps result.value }
     ensures only { (steps value : ℕ) →

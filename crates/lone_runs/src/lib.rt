@@ -1,4 +1,4 @@
-//! Runs of programs that were verified with no maps, by themselves.
+//! Runs of programs that name no map, by themselves, whatever maps they were verified for.
 //!
 //! Such a run asks no world: it enters and leaves sections, and there is nothing else for it to share. No
 //! step fails or takes memory, and what the run comes to does not depend on other actors.
@@ -8,4 +8,4 @@ mod driver;
 mod step;
 
 pub use driver::{Finished, run_to_exit};
-pub use step::{Step, start_alone, step_alone};
+pub use step::{Step, has_no_maps, start_alone, step_alone};

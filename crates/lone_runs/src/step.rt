@@ -1,8 +1,9 @@
 //! The start of a run, and its steps.
-ghost use Rattle.std.specs.Prelude.{◌≡◌, [], length};
+ghost use Rattle.std.specs.Prelude.{◌≡◌, Decides, length};
+ghost use Rattle.bpf_model.specs.Exit.{HasNoMaps, names_map};
 ghost use Rattle.lone_runs.specs.Lone.{IsLone, IsStep};
 
-use bpf_model::{CtxBytes, are_bytes};
+use bpf_model::{CtxBytes, Insn, are_bytes};
 use machine::{Local, Request, Run};
 use verifier::Verified;
 
@@ -15,10 +16,26 @@ pub enum Step {
     Exit(u64),
 }
 
-/// A run that has made no step, of a program that was verified with no maps, on a context of the
-/// length that it was verified for.
+/// Whether the instruction loads a reference to a map.
+fn names_a_map(insn: &Insn) -> bool
+    ensures { result ≡ names_map insn.now }
+{
+    matches!(insn, Insn::LoadMap { .. })
+}
+
+/// Whether the program names no map, so that it runs alone. One that was verified for some maps need not name any of
+/// them.
+pub fn has_no_maps(verified: &Verified) -> bool
+    ensures { Decides result (HasNoMaps verified.now.program) }
+{
+    let instructions = verified.program().instructions();
+    instructions.iter().all(|insn| !names_a_map(insn))
+}
+
+/// A run that has made no step, of a program that names no map, on a context of the length that it was
+/// verified for.
 pub fn start_alone(verified: &Verified, ctx: &CtxBytes) -> Run
-    requires maps { verified.now.shapes ≡ [] }
+    requires maps { HasNoMaps verified.now.program }
     requires context { length ctx.now.items ≡ verified.now.ctx_len }
     ensures run { IsLone verified.now result }
     ensures context { result.view.context ≡ ctx.now.items }

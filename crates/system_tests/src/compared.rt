@@ -1,11 +1,12 @@
 //! Runs on words beside the plain interpreter, step by step, and beside exit values that another interpreter,
 //! written apart from this repository, computed.
-ghost use Rattle.std.specs.Prelude.{◌≡◌, [], IfOk, length};
+ghost use Rattle.std.specs.Prelude.{◌≡◌, IfOk, length};
+ghost use Rattle.bpf_model.specs.Exit.{HasNoMaps};
 
 use crate::judged::{bytes_of, context_of};
 use bpf_model::{CTX_BYTES, Cell, CtxBytes, FRAME_BYTES, REGISTERS, Reg, Value};
 use insn_codec::decode;
-use lone_runs::{Step, start_alone, step_alone};
+use lone_runs::{Step, has_no_maps, start_alone, step_alone};
 use machine::Run;
 use plain_interpreter::{PlainRun, Progress};
 use std::alloc::Global;
@@ -158,7 +159,7 @@ fn same(plain: &PlainRun, run: &Run, moves: usize) -> bool {
 
 /// The exit value, where both go through the same states to the same exit.
 fn stepped(verified: &Verified, ctx: &CtxBytes) -> Option<u64>
-    requires maps { verified.now.shapes ≡ [] }
+    requires maps { HasNoMaps verified.now.program }
     requires context { length ctx.now.items ≡ verified.now.ctx_len }
 {
     let mut run = start_alone(verified, ctx);
@@ -187,7 +188,7 @@ fn stepped(verified: &Verified, ctx: &CtxBytes) -> Option<u64>
 
 /// The exit value of a program on a context, where both agree.
 fn agreed(verified: &Verified, bytes: &[u8]) -> Result<u64, Fail>
-    requires { verified.now.shapes ≡ [] }
+    requires { HasNoMaps verified.now.program }
 {
     let ctx = context_of(bytes)?;
     if ctx.len() != verified.ctx_len() {
@@ -201,7 +202,7 @@ fn agreed(verified: &Verified, bytes: &[u8]) -> Result<u64, Fail>
 
 /// The sum of the exit values over all contexts of a length up to 2.
 fn sum_of(verified: &Verified, ctx_len: usize) -> Result<u64, Fail>
-    requires { verified.now.shapes ≡ [] }
+    requires { HasNoMaps verified.now.program }
 {
     let mut sum: u64 = 0;
     if ctx_len == 0 {
@@ -220,14 +221,18 @@ fn sum_of(verified: &Verified, ctx_len: usize) -> Result<u64, Fail>
 }
 
 fn verified_of(alloc: Global, case: &Compared) -> Result<Verified, Fail>
-    ensures { IfOk result (λ v. v.shapes ≡ []) }
+    ensures { IfOk result (λ v. HasNoMaps v.program) }
 {
     if case.ctx_len > CTX_BYTES {
         return Err(Fail::from("the context is too long"));
     }
     let code = bytes_of(alloc, case.code)?;
     let program = decode(alloc, &code)?;
-    Ok(verify(alloc, program, &[], case.ctx_len)?)
+    let verified = verify(alloc, program, &[], case.ctx_len)?;
+    if !has_no_maps(&verified) {
+        return Err(Fail::from("the program names a map"));
+    }
+    Ok(verified)
 }
 
 #[test]

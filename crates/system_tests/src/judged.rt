@@ -3,7 +3,7 @@ ghost use Rattle.std.specs.Prelude.{◌≡◌, IfOk};
 
 use bpf_model::CtxBytes;
 use insn_codec::decode;
-use lone_runs::run_to_exit;
+use lone_runs::{has_no_maps, run_to_exit};
 use std::alloc::Global;
 use std::test::Fail;
 use verifier::verify;
@@ -44,6 +44,9 @@ pub fn judged(alloc: Global, code: &[u8], ctx: &[u8]) -> Result<Wanted, Fail> {
         Ok(verified) => verified,
         Err(refusal) => return Ok(Wanted::Refused(refusal.code(), refusal.slot())),
     };
+    if !has_no_maps(&verified) {
+        return Err(Fail::from("the program names a map"));
+    }
     let finished = run_to_exit(&verified, &context);
     Ok(Wanted::Exits(finished.value, finished.steps))
 }

@@ -23,7 +23,7 @@ mov64 r0, r6\n\
 exit\n";
 
 /// The map that the program looks up in.
-const SHAPE: MapShape = MapShape {
+pub const SHAPE: MapShape = MapShape {
     key_len: 4,
     value_len: 8,
     entries: 4,

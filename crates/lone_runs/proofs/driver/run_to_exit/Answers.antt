@@ -1,9 +1,7 @@
 use Rattle.std.proofs.Common.{◌<◌, ℕ, ◌+◌, ◌-◌, List, arith, length, sym, subst}
-use Rattle.bpf_model.specs.declared.limits.MapShape.{MapShape}
 use Rattle.bpf_model.specs.Event.{AreBytes}
 use Rattle.bpf_model.specs.Exit.{ExitsWith}
 use Rattle.model_laws.proofs.Exits.{one_exit}
-use Rattle.typed_runs.specs.Verified.{IsVerified}
 use Rattle.view_laws.specs.Reactions.{fresh_view}
 use Rattle.lone_runs.specs.Lone.{StandsAlone, loaded_alone}
 use Rattle.lone_runs.proofs.Looping.{halts_at, halts_below, halts_exited, halts_limit, halts_on, halts_room, halts_shared, loop_can_go_on, stands_first}
@@ -14,8 +12,7 @@ use Rattle.bpf_model.specs.declared.limits.TheConstants.{MAX_SLOTS}
 pub steps-init : goal.steps-init
 steps-init c =
     let v = c.args.verified.now in
-    let verified = subst (λ (shapes : List MapShape). IsVerified v.program shapes v.ctx_len) c.requires.maps c.program-program.ensures.verified in
-    let first = starts v c.program-program.ensures.justified c.requires.maps verified c.args.ctx.now.items c.requires.context (subst AreBytes c.as_slice-context.ensures.value c.are_bytes.ensures) in
+    let first = starts v c.program-program.ensures.justified c.requires.maps c.args.ctx.now.items c.requires.context (subst AreBytes c.as_slice-context.ensures.value c.are_bytes.ensures) in
     stands_first v c.as_slice-context.result.now c.start-workspace.result c.start-workspace.ensures (subst (λ (b : List ℕ). StandsAlone v (fresh_view 0 b)) (sym c.as_slice-context.ensures.value) first)
 
 pub go_on-halt-requires-clause-can : goal.go_on-halt-requires-clause-can
