@@ -46,8 +46,8 @@ module _ {S : Type 0} (answers : S → List ℕ → List ℕ → S → Type 0) w
     pub new : S
     pub answered : Answered old first (text ++ more) new
 
-  -- How a script fails: what is written is a beginning of the answers to its lines, and where a
-  -- line is bad, exactly the answers to the lines before it.
+  -- How a script fails: what is written is a beginning of the answers to its lines, and where the
+  -- fault told is a bad line, exactly the answers to the lines before it.
   pub record FailsWith (is_bad : List ℕ → Type 0) (old : S) (input written : List ℕ)
       (fault : ScriptFault) : Type 0 where
     pub begun : BeginsAnswered old input written
