@@ -1,0 +1,5 @@
+pub mod Learning
+pub mod Stretches
+pub mod Steps
+pub mod Asked
+pub mod Starting

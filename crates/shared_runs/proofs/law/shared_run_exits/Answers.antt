@@ -1,0 +1,5 @@
+use Rattle.shared_runs.proofs.Steps.{exits}
+use Rattle.shared_runs.proofs.law.shared_run_exits.Goals as goal
+
+pub returns : goal.returns
+returns g = λ k c context ms v new n x s. (let e = exits k c context ms v x n new s in (e.shared_run, e.outside))

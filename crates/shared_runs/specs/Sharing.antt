@@ -1,0 +1,40 @@
+-- What is so of a shared run's words at each step.
+use Rattle.std.specs.Prelude.{◌≡◌, ℕ, ◌<◌, ◌≤◌, ◌==◌, List, Bool, true, if◌then◌else◌}
+use Rattle.bpf_model.specs.Machine.{Run, fresh_run, section_of}
+use Rattle.bpf_model.specs.View.{RunView}
+use Rattle.bpf_model.specs.Word.{most_map_slots}
+use Rattle.typed_runs.specs.Describes.{scene_of}
+use Rattle.typed_runs.specs.Verified.{IsClosed, IsPlanned, Plan}
+use Rattle.standing_laws.specs.Described.{IsShownBy}
+use Rattle.verifier.specs.Checked.{Checked}
+use Rattle.verifier.specs.Verdict.{IsJustified}
+use Rattle.table_rule.specs.declared.view.Move.{Move}
+use Rattle.table_rule.specs.declared.view.TableShape.{TableShape}
+use Rattle.table_rule.specs.History.{IsLearnt, inside}
+use Rattle.shared_runs.specs.Learnt.{learnt_elements}
+use Rattle.shared_runs.specs.SharedRuns.{Comes}
+use Rattle.shared_runs.specs.Words.{FitsTable, UsesSubWords, loaded_of}
+
+-- 1 inside a section, and 0 outside
+abbrev pub flag_of : ℕ → ℕ
+flag_of depth = if depth == 0 then 0 else 1
+
+-- The words stand for a run of the program on the context that has come so far over the table; each plan describes it,
+-- and one among those elements alone that its seat has learnt in the section that is open.
+pub record IsSharing (k : TableShape) (c : Checked) (context : List ℕ) (ms : List Move)
+    (v : RunView) : Type 0 where
+  pub justified : IsJustified c
+  pub fits : FitsTable k c.shapes
+  pub few : k.slots ≤ most_map_slots
+  pub words : UsesSubWords c → ⊥
+  pub run : Run
+  pub program : run.program ≡ loaded_of c
+  pub shown : (plan : Plan) → IsClosed c.program c.shapes c.ctx_len plan →
+      IsShownBy c.program c.shapes c.ctx_len plan c.shapes run v
+  pub learnt : ℕ → Bool
+  pub known : (slot : ℕ) → learnt slot ≡ true → (slot < k.slots) × IsLearnt slot ms
+  pub index : ℕ
+  pub planned : IsPlanned c.program justified.plan index
+      (scene_of (learnt_elements c.shapes (section_of run) learnt) run) run.state
+  pub came : Comes k c.shapes (fresh_run 0 (loaded_of c) context) ms v.moved run
+  pub section : inside ms ≡ flag_of v.depth

@@ -1,0 +1,67 @@
+//! Laws of the words of a shared run.
+//!
+//! Each is a function with an empty body, whose contract is the law.
+ghost use Rattle.std.specs.Prelude.{◌≡◌, ℕ, ◌+◌, ◌≤◌, List, [], Some, length};
+ghost use Rattle.bpf_model.specs.declared.insn.Insn.{Insn};
+ghost use Rattle.bpf_model.specs.Event.{AreBytes};
+ghost use Rattle.bpf_model.specs.Step.{insn_at};
+ghost use Rattle.bpf_model.specs.View.{RunView};
+ghost use Rattle.bpf_model.specs.Word.{most_map_slots};
+ghost use Rattle.view_laws.specs.Reactions.{fresh_view};
+ghost use Rattle.world_laws.specs.Local.{local_of};
+ghost use Rattle.verifier.specs.Checked.{Checked};
+ghost use Rattle.verifier.specs.Verdict.{IsJustified};
+ghost use Rattle.machine.specs.declared.request.Request.{Request};
+ghost use Rattle.machine.specs.declared.request.Local.TheVariants.{Exit, Moved, Shared};
+ghost use Rattle.machine.specs.Requests.{request_of};
+ghost use Rattle.machine.specs.Standing.{StandsBy};
+ghost use Rattle.machine.specs.Steps.{IsLocalStep};
+ghost use Rattle.table_rule.specs.declared.view.Move.{Move};
+ghost use Rattle.table_rule.specs.declared.view.TableShape.{TableShape};
+ghost use Rattle.table_rule.specs.History.{inside};
+ghost use Rattle.shared_runs.specs.SharedRuns.{IsSharedRun};
+ghost use Rattle.shared_runs.specs.Serving.{CanServe};
+ghost use Rattle.shared_runs.specs.Sharing.{IsSharing};
+ghost use Rattle.shared_runs.specs.Words.{FitsTable, UsesSubWords, loaded_of};
+
+/// The words of a run at its start, of a program that accesses elements by words alone, over a table of its maps' lengths,
+/// are those of a shared run of which its seat has done nothing.
+pub fn shared_run_starts()
+    ensures { (k : TableShape) (c : Checked) → IsJustified c → FitsTable k c.shapes →
+        k.slots ≤ most_map_slots → (UsesSubWords c → ⊥) → (context : List ℕ) →
+        length context ≡ c.ctx_len → AreBytes context →
+        IsSharing k c context [] (fresh_view 0 context) }
+{}
+
+/// Such a run may be stepped.
+pub fn shared_run_stands()
+    ensures { (k : TableShape) (c : Checked) (context : List ℕ) (ms : List Move) (v : RunView) →
+        IsSharing k c context ms v → StandsBy c v }
+{}
+
+/// A move that it makes by itself leaves it such a run, of which its seat has done nothing more.
+pub fn shared_run_moves()
+    ensures { (k : TableShape) (c : Checked) (context : List ℕ) (ms : List Move)
+        (v new : RunView) → IsSharing k c context ms v →
+        ((insn : Insn) → insn_at c.program v.place ≡ Some insn →
+        IsLocalStep (local_of insn v) (request_of insn v) v Moved new) →
+        IsSharing k c context ms new }
+{}
+
+/// Its exit is that of a shared run, with one step more than it had moves, outside every section.
+pub fn shared_run_exits()
+    ensures { (k : TableShape) (c : Checked) (context : List ℕ) (ms : List Move)
+        (v new : RunView) (n : ℕ) → IsSharing k c context ms v →
+        ((insn : Insn) → insn_at c.program v.place ≡ Some insn →
+        IsLocalStep (local_of insn v) (request_of insn v) v (Exit n) new) →
+        IsSharedRun k c.shapes (loaded_of c) context ms (v.moved + 1) n × (inside ms ≡ 0) }
+{}
+
+/// What it asks can be served by its seat, and then it goes on as such a run.
+pub fn shared_run_asks()
+    ensures { (k : TableShape) (c : Checked) (context : List ℕ) (ms : List Move)
+        (v after : RunView) (request : Request) → IsSharing k c context ms v →
+        ((insn : Insn) → insn_at c.program v.place ≡ Some insn →
+        IsLocalStep (local_of insn v) (request_of insn v) v (Shared request) after) →
+        CanServe k c context ms v request × (after ≡ v) }
+{}
