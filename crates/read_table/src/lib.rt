@@ -6,9 +6,11 @@
 #![tactic(auto)]
 
 mod limits;
+mod lookup;
 mod seats;
 mod setup;
 mod table;
+mod words;
 mod writer;
 
 pub use limits::{MAX_READERS, MAX_TABLE_BYTES, MAX_TABLE_SLOTS, WORD_BYTES};
