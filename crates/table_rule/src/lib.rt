@@ -2,6 +2,11 @@
 //! may do next, and what it knows of a slot while its section is open.
 #![tactic(auto)]
 
+mod law;
 mod view;
 
+pub use law::{
+    Changes, Closes, Deals, Law, Learns, Loads, Opens, SECTION_STRIDE, Scans, Stores,
+    held_slots_stay,
+};
 pub use view::{Move, TableShape, View};

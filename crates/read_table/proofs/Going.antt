@@ -1,0 +1,76 @@
+-- Stretches of a holder's list.
+use Rattle.std.proofs.Common.{◌≡◌, ℕ, List, [], ◌∷◌, ◌++◌, refl, sym, ap, ◌∙◌, subst, append_assoc, inl}
+use Rattle.table_rule.specs.declared.view.Move.{Move}
+use Rattle.table_rule.specs.declared.view.View.{View}
+use Rattle.table_rule.specs.History.{moves_of, inside, header_in, generation, Knows, IsLawful}
+use Rattle.table_rule.specs.Law.{Gains}
+use Rattle.table_rule.proofs.Safe.{same_generation}
+use Rattle.read_table.specs.Held.{Holder, Does, Goes, Went, IsKnown, IsUnchanged}
+
+pub went_none : (v : View) → IsKnown v → Went v v.mine v
+went_none v k = ([], refl, k.0, k.1)
+
+pub went_one : (v w : View) (m : Move) → Gains v m w → Went v (m ∷ v.mine) w
+went_one v w m g = ((v.me, m) ∷ g.0, g.1, g.2, g.3 ∙ ap (λ (z : View). z.mine) g.1)
+
+pub went_known : (v w : View) (ms : List Move) → Went v ms w → IsKnown w
+went_known v w ms g = (
+  subst (λ z. IsLawful z w.seen) (sym (ap (λ (z : View). z.shape) g.1)) g.2,
+  ap (λ z. moves_of z w.seen) (ap (λ (z : View). z.me) g.1) ∙ (g.3 ∙ sym (ap (λ (z : View). z.mine) g.1)),
+)
+
+pub went_mine : (v w : View) (ms : List Move) → Went v ms w → w.mine ≡ ms
+went_mine v w ms g = ap (λ (z : View). z.mine) g.1
+
+pub went_after : (u v w : View) (ms ns : List Move) → Went u ms v → Went v ns w → Went u ns w
+went_after u v w ms ns g h = (
+  h.0 ++ g.0,
+  h.1 ∙ (λ i. record { shape = (g.1 i).shape; me = (g.1 i).me; next = (g.1 i).next; mine = ns; seen = (ap (λ (z : View). h.0 ++ z.seen) g.1 ∙ sym (append_assoc h.0 g.0 u.seen)) i }),
+  subst (λ z. IsLawful z w.seen) (ap (λ (z : View). z.shape) g.1) h.2,
+  subst (λ z. moves_of z w.seen ≡ ns) (ap (λ (z : View). z.me) g.1) h.3,
+)
+
+pub went_more : (u v w : View) (ms : List Move) (m : Move) → Went u ms v → Gains v m w → Went u (m ∷ ms) w
+went_more u v w ms m g h = went_after u v w ms (m ∷ ms) g (subst (λ z. Went v (m ∷ z) w) (ap (λ (z : View). z.mine) g.1) (went_one v w m h))
+
+pub went_move : (u v w : View) (ms : List Move) (m m' : Move) → m ≡ m' → Went u ms v → Gains v m w → Went u (m' ∷ ms) w
+went_move u v w ms m m' e g h = subst (λ z. Went u (z ∷ ms) w) e (went_more u v w ms m g h)
+
+-- no step at all
+pub goes_none : (s : Holder) → IsKnown s.view → Goes s [] s
+goes_none s k = record { table = refl; went = went_none s.view k }
+
+pub goes_one : (s t : Holder) (m : Move) → Does s m t → Goes s (m ∷ []) t
+goes_one s t m d = d
+
+-- one stretch after another
+pub goes_then : (s t u : Holder) (ms ns : List Move) → Goes s ms t → Goes t ns u → Goes s (ns ++ ms) u
+goes_then s t u ms ns g h =
+    let a = g.went in
+    let e : t.view.mine ≡ ms ++ s.view.mine = ap (λ (z : View). z.mine) a.1 in
+    record {
+      table = h.table ∙ g.table;
+      went = went_after s.view t.view u.view (ms ++ s.view.mine) ((ns ++ ms) ++ s.view.mine) a
+          (subst (λ z. Went t.view z u.view) (ap (λ z. ns ++ z) e ∙ sym (append_assoc ns ms s.view.mine)) h.went);
+    }
+
+-- one step after a stretch
+pub goes_more : (s t u : Holder) (ms : List Move) (m : Move) → Goes s ms t → Does t m u → Goes s (m ∷ ms) u
+goes_more s t u ms m g d = goes_then s t u ms (m ∷ []) g d
+
+-- what the holder saw is lawful afterwards
+pub goes_known : (s t : Holder) (ms : List Move) → Goes s ms t → IsKnown t.view
+goes_known s t ms g = went_known s.view t.view (ms ++ s.view.mine) g.went
+
+-- the list afterwards
+pub goes_mine : (s t : Holder) (ms : List Move) → Goes s ms t → t.view.mine ≡ ms ++ s.view.mine
+goes_mine s t ms g = went_mine s.view t.view (ms ++ s.view.mine) g.went
+
+-- what is true of the list that there must be is true of the holder's
+pub goes_fact : (P : List Move → Type 0) (s t : Holder) (ms : List Move) → Goes s ms t → P (ms ++ s.view.mine) → P t.view.mine
+goes_fact P s t ms g p = subst P (sym (goes_mine s t ms g)) p
+
+-- a holder that knows a slot knows that its generation is the same
+pub known_unchanged : (t : Holder) (slot h : ℕ) → IsKnown t.view → Knows slot h t.view.mine → IsUnchanged slot t
+known_unchanged t slot h k known =
+    (h, known, same_generation t.view.shape t.view.seen k.0 t.view.me slot h (subst (Knows slot h) (sym k.1) known))

@@ -1,0 +1,4 @@
+pub mod Going
+pub mod Calls
+pub mod Lookups
+mod Slots

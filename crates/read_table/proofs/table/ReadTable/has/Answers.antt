@@ -1,0 +1,23 @@
+use Rattle.std.proofs.Common.{rules, ◌≡◌, ◌≢◌, ℕ, ◌%◌, ◌++◌, [], ◌∷◌, true, false, IsTrue, refl, inl, arith, Bool, subst, sym}
+use Rattle.std.specs.Prelude.{MatchBool}
+use Rattle.table_rule.specs.declared.view.Move.TheVariants.{Learn}
+use Rattle.read_table.proofs.Going.{goes_then}
+use Rattle.read_table.proofs.Lookups.{only_append, has_matched, not_linked}
+use Rattle.read_table.proofs.table.ReadTable.has.Goals as goal
+
+pub returns-else-learn : goal.returns-else-learn
+returns-else-learn c =
+    let h = c.if-learn.ensures in
+    let not_odd : h.0 % 2 ≢ 1 = λ e. let t : IsTrue false = h.2.1 e in search rules in
+    (Learn c.args.slot h.0 ∷ [], h.1, tt, not_linked c.args.self.now.shape c.args.key.now c.args.slot h.0 c.learn.result _ c.if-learn.false (omega arith))
+
+pub returns-then-learn : goal.returns-then-learn
+returns-then-learn c =
+    let h = c.if-learn.ensures in
+    let k = c.has_key.ensures in
+    let t : IsTrue true = search rules in (
+      k.0 ++ Learn c.args.slot h.0 ∷ [],
+      goes_then c.args.seat.now c.learn.new.seat c.has_key.new.seat (Learn c.args.slot h.0 ∷ []) k.0 h.1 k.1,
+      only_append c.args.self.now.shape k.0 (Learn c.args.slot h.0 ∷ []) k.2 tt,
+      has_matched c.args.self.now.shape c.args.key.now c.args.slot h.0 k.0 c.has_key.result c.requires.slot (h.2.0 t) k.2 k.3,
+    )

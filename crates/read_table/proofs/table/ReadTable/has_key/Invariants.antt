@@ -1,0 +1,8 @@
+use Rattle.std.proofs.Common.{◌≡◌, ℕ, ◌<◌, List, Some}
+use Rattle.table_rule.specs.declared.view.Move.{Move}
+use Rattle.table_rule.specs.Lookups.{key_word, OnlySearches, HadWord}
+use Rattle.read_table.specs.Held.{Goes}
+use Rattle.read_table.proofs.table.ReadTable.has_key.Given as goal
+
+abbrev pub invariant-loop-place : goal.invariant-loop-place
+invariant-loop-place l = (ms : List Move) × Goes l.fn.seat ms l.seat × OnlySearches l.self.shape ms × ((place word : ℕ) → place < l.place → key_word l.key place ≡ Some word → HadWord l.slot place word ms)

@@ -1,0 +1,24 @@
+use Rattle.std.proofs.Common.{rules, ◌≡◌, ℕ, ◌+◌, ◌*◌, ◌<◌, [], ◌∷◌, refl, sym, ap, ◌∙◌, subst}
+use Rattle.table_rule.specs.declared.view.TableShape.{TableShape}
+use Rattle.table_rule.specs.declared.view.Move.TheVariants.{Open, Close, Learn, Load, Store}
+use Rattle.table_rule.specs.History.{inside, IsLearnt}
+use Rattle.table_rule.specs.Law.{base_of, width_of}
+use Rattle.read_table.specs.Held.{TableView, Holder}
+use Rattle.read_table.proofs.Calls.{does, learns_at, header_slot, header_within}
+use Rattle.read_table.proofs.table.ReadTable.learn.Goals as goal
+
+pub load-header-requires : goal.load-header-requires
+load-header-requires c =
+    let p = ap (λ (h : Holder). h.table) c.seat.view_is ∙ (c.requires.table ∙ sym c.self.view_is) in
+    let i = c.seat.invariant in
+    let t = c.self.invariant in
+    let same = ap (λ (q : TableView). q.shape) p in
+    let slot = subst (λ (q : TableView). c.args.slot < q.shape.slots) (sym c.self.view_is) c.requires.slot in
+    let one = subst (λ (h : Holder). inside h.view.mine ≡ 1) (sym c.seat.view_is) c.requires.inside in
+    (ap (λ (q : TableView). q.id) p, header_within _ _ _ _ refl slot t.1, learns_at _ _ _ _ _ c.args.slot same (sym t.0) slot i.0 one)
+
+pub returns : goal.returns
+returns c =
+    let p = ap (λ (h : Holder). h.table) c.seat.view_is ∙ (c.requires.table ∙ sym c.self.view_is) in
+    let move = ap (λ z. Learn z c.load-header.result) (header_slot _ _ c.args.slot (ap (λ (q : TableView). q.shape) p)) in
+    (c.load-header.result, does _ _ _ _ _ _ _ c.seat.view_is c.load-header.ensures.0 move c.load-header.ensures.2.0, search rules)

@@ -1,0 +1,8 @@
+use Rattle.std.proofs.Common.{◌≡◌, ℕ, ◌<◌, ◌≤◌, List}
+use Rattle.table_rule.specs.declared.view.Move.{Move}
+use Rattle.table_rule.specs.Lookups.{OnlySearches, Refuted}
+use Rattle.read_table.specs.Held.{Goes}
+use Rattle.read_table.proofs.table.ReadTable.search.Given as goal
+
+abbrev pub invariant-loop-slot : goal.invariant-loop-slot
+invariant-loop-slot l = (ms : List Move) × Goes l.fn.seat ms l.seat × OnlySearches l.self.shape ms × ((s : ℕ) → l.low ≤ s → s < l.slot → Refuted l.self.shape l.key s ms)

@@ -1,0 +1,22 @@
+use Rattle.std.proofs.Common.{rules, ◌≡◌, ◌≤◌, ◌∙◌, ℕ, List, [], length, sym, ap, subst}
+use Rattle.std.specs.List.{range_with_len}
+use Rattle.atomic_table.specs.Table.{Me}
+use Rattle.table_rule.specs.declared.view.View.{View}
+use Rattle.read_table.specs.Slots.{IsWriter, AreSlots}
+use Rattle.read_table.proofs.Slots.{begins_writer, begins_slots, at_most}
+use Rattle.read_table.proofs.writer.Writer.begin.Goals as goal
+
+pub invariant_of-result : goal.invariant_of-result
+invariant_of-result c =
+    let w = c.requires.writer in
+    let view = ap (λ (m : Me ℕ View). m.0) w.2 in
+    let slots : c.args.seat.me.0.shape.slots ≡ c.args.slots = ap (λ (v : View). v.shape.slots) view ∙ w.3 in
+    let headers = c.in_ok-headers.ensures in
+    let len : length c.in_ok-headers.headers.items ≡ w.1.slots = search rules in (
+      subst (λ v. IsWriter v c.in_ok-headers.headers.items) (sym view) (begins_writer w.0 w.1 _ len headers.zeros),
+      begins_slots _ w.0 w.1 _ _ _ view (c.in_ok-free.ensures.numbers ∙ ap (range_with_len 0) (sym w.3)) c.in_ok-linked.ensures.items c.in_ok-unlinked.ensures.items,
+      ap (λ (m : Me ℕ View). m.1) w.2,
+      at_most _ _ _ slots c.in_ok-free.ensures.capacity,
+      at_most _ _ _ slots c.in_ok-linked.ensures.capacity,
+      at_most _ _ _ slots c.in_ok-unlinked.ensures.capacity,
+    )

@@ -1,0 +1,75 @@
+-- What clauses see of a table and of those who hold a seat at it.
+use Rattle.std.specs.Prelude.{◌≡◌, ℕ, ◌*◌, ◌<◌, ◌≤◌, ◌%◌, List, [], ◌∷◌, ◌++◌}
+use Rattle.atomic_table.specs.Seated.{TableId}
+use Rattle.table_rule.specs.declared.view.Move.{Move}
+use Rattle.table_rule.specs.declared.view.TableShape.{TableShape}
+use Rattle.table_rule.specs.declared.view.View.{View}
+use Rattle.table_rule.specs.History.{moves_of, inside, header_in, generation, Knows, IsLawful}
+use Rattle.read_table.specs.declared.limits.TheConstants.{MAX_TABLE_SLOTS, MAX_READERS, MAX_TABLE_BYTES, WORD_BYTES}
+
+-- which table, and how many of each it has
+pub record TableView : Type 0 where
+  pub id : TableId
+  pub shape : TableShape
+
+-- who holds a seat, at which table, with what was done and seen there
+pub record Holder : Type 0 where
+  pub table : TableView
+  pub view : View
+
+-- the length of a key or of a value, in bytes: some whole words
+abbrev pub IsTableLength : ℕ → Type 0
+IsTableLength n = (0 < n) × (n ≤ MAX_TABLE_BYTES) × (n % WORD_BYTES ≡ 0)
+
+-- the table is within its limits
+pub record IsSized (k : TableShape) : Type 0 where
+  pub readers : k.readers ≤ MAX_READERS
+  pub some_slots : 0 < k.slots
+  pub slots : k.slots ≤ MAX_TABLE_SLOTS
+  pub some_key : 0 < k.key_words
+  pub key : k.key_words * WORD_BYTES ≤ MAX_TABLE_BYTES
+  pub some_value : 0 < k.value_words
+  pub value : k.value_words * WORD_BYTES ≤ MAX_TABLE_BYTES
+
+-- what the holder saw is lawful, and its own part of it is its list
+abbrev pub IsKnown : View → Type 0
+IsKnown v = IsLawful v.shape v.seen × (moves_of v.me v.seen ≡ v.mine)
+
+-- The holder's list became this one. It saw a lawful history, which goes on from what it saw before and in which its own
+-- part is that list.
+abbrev pub Went : View → List Move → View → Type 0
+Went v ms w =
+    (before : List (ℕ × Move))
+    × (w ≡ record {
+      shape = v.shape;
+      me = v.me;
+      next = v.next;
+      mine = ms;
+      seen = before ++ v.seen;
+    })
+    × IsLawful v.shape w.seen × (moves_of v.me w.seen ≡ ms)
+
+-- the holder did just these steps, the newest first
+pub record Goes (s : Holder) (ms : List Move) (t : Holder) : Type 0 where
+  pub table : t.table ≡ s.table
+  pub went : Went s.view (ms ++ s.view.mine) t.view
+
+-- the holder did just this step
+abbrev pub Does : Holder → Move → Holder → Type 0
+Does s m t = Goes s (m ∷ []) t
+
+-- the seat is this table's, and outside a section
+pub record IsReady (here : TableView) (s : Holder) : Type 0 where
+  pub table : s.table ≡ here
+  pub outside : inside s.view.mine ≡ 0
+  pub known : IsKnown s.view
+
+-- the holder has done nothing yet
+abbrev pub IsNew : Holder → Type 0
+IsNew s = s.view.mine ≡ []
+
+-- after the holder's last step the slot still has the generation with which it was learnt in the section that is open
+abbrev pub IsUnchanged : ℕ → Holder → Type 0
+IsUnchanged slot t =
+    (h : ℕ) × Knows slot h t.view.mine
+    × (generation (header_in slot (moves_of 0 t.view.seen)) ≡ generation h)

@@ -1,0 +1,90 @@
+-- What clauses see of the writer, and what it keeps of its slots.
+use Rattle.std.specs.Prelude.{◌≡◌, ◌≢◌, ℕ, zero, suc, ◌+◌, ◌^◌, ◌%◌, ◌<◌, ◌≤◌, ◌==◌, List, [], ◌∷◌, ◌++◌, All, Option, Some, length, slice_index, if◌then◌else◌}
+use Rattle.table_rule.specs.declared.view.Move.{Move}
+use Rattle.table_rule.specs.declared.view.Move.TheVariants.{Store, Header, Scan}
+use Rattle.table_rule.specs.declared.view.View.{View}
+use Rattle.table_rule.specs.History.{header_in, MayLink}
+use Rattle.table_rule.specs.Lookups.{key_word}
+use Rattle.read_table.specs.Held.{TableView, Holder, IsKnown, Goes}
+
+-- at which table, what the writer did and saw there, and its slots: those that it may link, those that are linked, and
+-- those that it has unlinked and not yet reclaimed
+pub record WriterView : Type 0 where
+  pub table : TableView
+  pub view : View
+  pub free : List ℕ
+  pub linked : List ℕ
+  pub unlinked : List ℕ
+
+-- the writer as a holder of a seat
+abbrev pub as_holder : WriterView → Holder
+as_holder w = record { table = w.table; view = w.view }
+
+-- The writer did just these steps, the newest first.
+abbrev pub Works : WriterView → List Move → WriterView → Type 0
+Works v ms w = Goes (as_holder v) ms (as_holder w)
+
+-- the list without one place at which the slot stood
+abbrev pub Leaves : ℕ → List ℕ → List ℕ → Type 0
+Leaves slot old new = (front back : List ℕ) × (old ≡ front ++ slot ∷ back) × (new ≡ front ++ back)
+
+-- 1 for this slot, and 0 for another
+abbrev pub one_for : ℕ → ℕ → ℕ
+one_for slot s = if s == slot then 1 else 0
+
+-- how often the slot stands in the list
+abbrev pub times_in : ℕ → List ℕ → ℕ
+times_in slot [] = 0
+times_in slot (s ∷ ss) = one_for slot s + times_in slot ss
+
+-- The first n words of these bytes were stored in the slot, from a place on.
+abbrev pub Fills : ℕ → ℕ → List ℕ → ℕ → List Move → Type 0
+Fills slot from bytes zero ms = ms ≡ []
+Fills slot from bytes (suc n) ms =
+    (x : ℕ) × (rest : List Move) × (ms ≡ Store slot (from + n) x ∷ rest)
+    × (key_word bytes n ≡ Some x) × Fills slot from bytes n rest
+
+-- the first n readers were seen outside a section, one after another
+abbrev pub scans_outside : ℕ → List Move
+scans_outside zero = []
+scans_outside (suc n) = Scan (suc n) 0 ∷ scans_outside n
+
+-- some readers were seen outside a section, and then one inside
+abbrev pub SawInside : ℕ → WriterView → WriterView → Type 0
+SawInside readers v w =
+    (n found : ℕ) × (n < readers) × (found ≢ 0)
+    × Works v (Scan (n + 1) found ∷ scans_outside n) w
+
+-- a slot that may be linked
+pub record IsFree (v : View) (slot : ℕ) : Type 0 where
+  pub within : slot < v.shape.slots
+  pub even : header_in slot v.mine % 2 ≡ 0
+  pub bounded : header_in slot v.mine < 2 ^ 63
+  pub may : MayLink v.shape.readers slot v.mine
+
+-- a slot that is linked
+pub record IsLinked (v : View) (slot : ℕ) : Type 0 where
+  pub within : slot < v.shape.slots
+  pub odd : header_in slot v.mine % 2 ≡ 1
+  pub bounded : header_in slot v.mine < 2 ^ 63
+
+-- a slot that was unlinked
+pub record IsUnlinked (v : View) (slot : ℕ) : Type 0 where
+  pub within : slot < v.shape.slots
+  pub even : header_in slot v.mine % 2 ≡ 0
+  pub bounded : header_in slot v.mine ≤ 2 ^ 63
+
+-- The three lists have each slot once, in that where it belongs.
+pub record AreSlots (v : View) (free linked unlinked : List ℕ) : Type 0 where
+  pub once : (slot : ℕ) → slot < v.shape.slots → times_in slot free + times_in slot linked + times_in slot unlinked ≡ 1
+  pub count : length free + length linked + length unlinked ≡ v.shape.slots
+  pub are_free : All (IsFree v) free
+  pub are_linked : All (IsLinked v) linked
+  pub are_unlinked : All (IsUnlinked v) unlinked
+
+-- what the writer keeps: it is number 0, what it saw is lawful, and it has each slot's header
+pub record IsWriter (v : View) (headers : List ℕ) : Type 0 where
+  pub me : v.me ≡ 0
+  pub known : IsKnown v
+  pub count : length headers ≡ v.shape.slots
+  pub are_headers : (slot : ℕ) → slot < v.shape.slots → slice_index headers slot ≡ header_in slot v.mine

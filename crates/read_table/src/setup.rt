@@ -1,0 +1,104 @@
+//! Makes a table, its readers' seats and its writer.
+ghost use Rattle.std.specs.Prelude.{◌≡◌, ◌+◌, ◌*◌, ◌/◌, ◌<◌, ◌≤◌, [], length, slice_index, vec_len, IfOk, OnOk, All, ℕ};
+ghost use Rattle.std.specs.List.{range_with_len};
+ghost use Rattle.table_rule.specs.Law.{writer_after, count_of};
+ghost use Rattle.read_table.specs.declared.limits.TheConstants.{MAX_TABLE_SLOTS, MAX_READERS, WORD_BYTES};
+ghost use Rattle.read_table.specs.Held.{IsTableLength, IsReady, IsNew, IsSized};
+
+use crate::limits::WORD_BYTES;
+use crate::seats::Seats;
+use crate::table::{ReadSeat, ReadTable};
+use crate::writer::Writer;
+use atomic_table::Seat;
+use std::alloc::{AllocError, Global};
+use table_rule::{SECTION_STRIDE, TableShape, View};
+
+/// So many zeros.
+pub(crate) fn zeros(alloc: Global, count: usize) -> Result<Vec<u64>, AllocError>
+    ensures len { IfOk result (λ v. vec_len v ≡ count) }
+    ensures zeros { IfOk result (λ v. (j : ℕ) → slice_index v.items j ≡ 0) }
+{
+    let mut v = Vec::with_capacity(alloc, count)?;
+    for _ in 0..count {
+        v.push_reserved(0);
+    }
+    Ok(v)
+}
+
+/// The seats of all readers, in order.
+fn deal_all(
+    alloc: Global,
+    table: &ReadTable,
+    writer: &mut Seat<u8, View>,
+    readers: usize,
+) -> Result<Seats, AllocError>
+    requires table { writer.old.table_id ≡ table.now.id }
+    requires writer { writer.old.me ≡ (writer_after 0 table.now.shape, []) }
+    requires within { readers ≡ table.now.shape.readers }
+    ensures table { OnOk result (writer.new.table_id ≡ writer.old.table_id) }
+    ensures writer { OnOk result (writer.new.me ≡ (writer_after readers table.now.shape, [])) }
+    ensures count { IfOk result (λ s. length s ≡ readers) }
+    ensures ready { IfOk result (λ s. All (IsReady table.now) s) }
+    ensures new { IfOk result (λ s. All IsNew s) }
+{
+    let mut list = Vec::with_capacity(alloc, readers)?;
+    for reader in 0..readers {
+        list.push_reserved(table.deal(writer, reader));
+    }
+    Ok(Seats { list })
+}
+
+impl ReadTable {
+    /// A table of so many slots, for keys and values of so many bytes, with a seat for each of its readers, and its
+    /// writer. Nothing is linked. It takes memory here, and in no later call.
+    pub fn new(
+        alloc: Global,
+        slots: usize,
+        key_len: usize,
+        value_len: usize,
+        readers: usize,
+    ) -> Result<(ReadTable, Seats, Writer), AllocError>
+        requires slots { (0 < slots) × (slots ≤ MAX_TABLE_SLOTS) }
+        requires key { IsTableLength key_len }
+        requires value { IsTableLength value_len }
+        requires readers { (0 < readers) × (readers ≤ MAX_READERS) }
+        ensures shape { IfOk result (λ t. t.0.shape ≡ record {
+          readers = readers;
+          slots = slots;
+          key_words = key_len / WORD_BYTES;
+          value_words = value_len / WORD_BYTES;
+        }) }
+        ensures count { IfOk result (λ t. length t.1 ≡ readers) }
+        ensures ready { IfOk result (λ t. All (IsReady t.0) t.1) }
+        ensures new { IfOk result (λ t. All IsNew t.1) }
+        ensures writer { IfOk result (λ t. t.2.table ≡ t.0) }
+        ensures new_writer { IfOk result (λ t. t.2.view.mine ≡ []) }
+        ensures free { IfOk result (λ t. t.2.free ≡ range_with_len 0 slots) }
+        ensures linked { IfOk result (λ t. t.2.linked ≡ []) }
+        ensures unlinked { IfOk result (λ t. t.2.unlinked ≡ []) }
+    {
+        let shape = TableShape {
+            readers,
+            slots,
+            key_words: key_len / WORD_BYTES,
+            value_words: value_len / WORD_BYTES,
+        };
+        let (table, mut seat) = ReadTable::begin(alloc, shape)?;
+        let seats = deal_all(alloc, &table, &mut seat, readers)?;
+        let writer = Writer::begin(alloc, seat, slots)?;
+        Ok((table, seats, writer))
+    }
+
+    /// A table on which nothing was done, with the writer's seat.
+    fn begin(alloc: Global, shape: TableShape) -> Result<(ReadTable, Seat<u8, View>), AllocError>
+        requires sized { IsSized shape }
+        ensures shape { IfOk result (λ t. t.0.shape ≡ shape) }
+        ensures table { IfOk result (λ t. t.1.table_id ≡ t.0.id) }
+        ensures writer { IfOk result (λ t. t.1.me ≡ (writer_after 0 shape, [])) }
+    {
+        let width = shape.key_words + shape.value_words;
+        let count = shape.readers * SECTION_STRIDE + shape.slots + shape.slots * width;
+        let words = zeros(alloc, count)?;
+        ReadTable::of_words(alloc, words.as_slice(), shape)
+    }
+}

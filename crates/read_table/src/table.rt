@@ -1,0 +1,185 @@
+//! The table, and a reader's seat at it.
+ghost use Rattle.std.specs.Prelude.{◌≡◌, ℕ, ◌+◌, ◌-◌, ◌*◌, ◌<◌, ◌≤◌, ◌%◌, ◌↔◌, [], ◌∷◌, length, slice_index, IsTrue, IfOk, true, false};
+ghost use Rattle.table_rule.specs.declared.view.Move.TheVariants.{Open, Close, Learn, Load, Store};
+ghost use Rattle.table_rule.specs.History.{inside, IsLearnt};
+ghost use Rattle.table_rule.specs.Law.{count_of, base_of, width_of, writer_after};
+ghost use Rattle.read_table.specs.Held.{IsSized, IsReady, IsNew, Does, IsUnchanged};
+
+use atomic_table::{Seat, Table};
+use std::alloc::{AllocError, Global};
+use std::marker::Model;
+use table_rule::{
+    Closes, Deals, Law, Learns, Loads, Opens, SECTION_STRIDE, Stores, TableShape, View,
+};
+
+/// Words that readers and one writer share with no lock. Contracts see which table it is, and how many of each it has.
+#[derive(Drop)]
+pub struct ReadTable {
+    table: Table<u8, View, TableShape, Law, Global>,
+    shape: TableShape,
+}
+
+impl Model for ReadTable {
+    ghost use Rattle.std.specs.Prelude.{◌≡◌};
+    ghost use Rattle.table_rule.specs.Law.{count_of};
+    ghost use Rattle.read_table.specs.Held.{TableView, IsSized};
+
+    ghost Value = { TableView };
+
+    ghost view = { λ t. record { id = t.table.shared.table_id; shape = t.shape } };
+
+    ghost invariant = { λ t. (t.table.shared.key ≡ t.shape)
+        × (t.table.shared.table_id.words ≡ count_of t.shape) × IsSized t.shape };
+}
+
+/// A reader's seat at a table. Contracts see at which, and what the reader did and saw there.
+#[derive(Drop)]
+pub struct ReadSeat {
+    seat: Seat<u8, View>,
+    // Where the reader's section word lies.
+    section: usize,
+}
+
+impl Model for ReadSeat {
+    ghost use Rattle.std.specs.Prelude.{◌≡◌, ◌+◌, ◌*◌, []};
+    ghost use Rattle.table_rule.specs.declared.law.TheConstants.{SECTION_STRIDE};
+    ghost use Rattle.table_rule.specs.History.{IsReader};
+    ghost use Rattle.read_table.specs.Held.{Holder};
+
+    ghost Value = { Holder };
+
+    ghost view = { λ s. record {
+      table = record { id = s.seat.table_id; shape = s.seat.me.0.shape };
+      view = s.seat.me.0;
+    } };
+
+    ghost invariant = { λ s. IsReader s.seat.me.0.shape s.seat.me.0.me
+        × (s.section + SECTION_STRIDE ≡ s.seat.me.0.me * SECTION_STRIDE) × (s.seat.me.1 ≡ []) };
+}
+
+/// Where a word of a slot lies.
+#[inline]
+fn index_of(shape: &TableShape, slot: usize, place: usize) -> usize
+    requires sized { IsSized shape.now }
+    requires slot { slot < shape.now.slots }
+    requires place { place < width_of shape.now }
+    ensures index { result ≡ base_of shape.now + (slot * width_of shape.now + place) }
+    ensures within { result < count_of shape.now }
+{
+    let width = shape.key_words + shape.value_words;
+    shape.readers * SECTION_STRIDE + shape.slots + (slot * width + place)
+}
+
+impl ReadTable {
+    /// How many of each the table has.
+    #[inline]
+    pub fn shape(&self) -> TableShape
+        ensures shape { result ≡ self.now.shape }
+        ensures sized { IsSized result }
+    {
+        self.shape
+    }
+
+    /// Begins a section.
+    #[inline]
+    pub fn open(&self, seat: &mut ReadSeat)
+        requires table { seat.old.table ≡ self.now }
+        requires outside { inside seat.old.view.mine ≡ 0 }
+        ensures { Does seat.old Open seat.new }
+    {
+        self.table
+            .shared
+            .store::<Opens>(&mut seat.seat, seat.section, 1);
+    }
+
+    /// Ends the section.
+    #[inline]
+    pub fn close(&self, seat: &mut ReadSeat)
+        requires table { seat.old.table ≡ self.now }
+        requires inside { inside seat.old.view.mine ≡ 1 }
+        ensures { Does seat.old Close seat.new }
+    {
+        self.table
+            .shared
+            .store::<Closes>(&mut seat.seat, seat.section, 0);
+    }
+
+    /// Whether the slot is linked. In the section that is open its words may be loaded and stored then.
+    #[inline]
+    pub fn learn(&self, seat: &mut ReadSeat, slot: usize) -> bool
+        requires table { seat.old.table ≡ self.now }
+        requires inside { inside seat.old.view.mine ≡ 1 }
+        requires slot { slot < self.now.shape.slots }
+        ensures { (h : ℕ) × Does seat.old (Learn slot h) seat.new × (IsTrue result ↔ (h % 2 ≡ 1)) }
+    {
+        let index = self.shape.readers * SECTION_STRIDE + slot;
+        let header = self.table.shared.load::<Learns>(&mut seat.seat, index);
+        header % 2 == 1
+    }
+
+    /// The word at a place of a slot that was learnt in the section that is open. Places count words, those of the key
+    /// first.
+    #[inline]
+    pub fn load(&self, seat: &mut ReadSeat, slot: usize, place: usize) -> u64
+        requires table { seat.old.table ≡ self.now }
+        requires learnt { IsLearnt slot seat.old.view.mine }
+        requires slot { slot < self.now.shape.slots }
+        requires place { place < self.now.shape.key_words + self.now.shape.value_words }
+        ensures step { Does seat.old (Load slot place result) seat.new }
+        ensures unchanged { IsUnchanged slot seat.new }
+    {
+        let index = index_of(&self.shape, slot, place);
+        self.table.shared.load::<Loads>(&mut seat.seat, index)
+    }
+
+    /// Writes the word at a place of a slot that was learnt in the section that is open. Places count words, those of
+    /// the key first.
+    #[inline]
+    pub fn store(&self, seat: &mut ReadSeat, slot: usize, place: usize, word: u64)
+        requires table { seat.old.table ≡ self.now }
+        requires learnt { IsLearnt slot seat.old.view.mine }
+        requires slot { slot < self.now.shape.slots }
+        requires place { place < self.now.shape.key_words + self.now.shape.value_words }
+        ensures step { Does seat.old (Store slot place word) seat.new }
+        ensures unchanged { IsUnchanged slot seat.new }
+    {
+        let index = index_of(&self.shape, slot, place);
+        self.table
+            .shared
+            .store::<Stores>(&mut seat.seat, index, word);
+    }
+
+    /// A table of these words, all zero, with the writer's seat.
+    pub(crate) fn of_words(
+        alloc: Global,
+        words: &[u64],
+        shape: TableShape,
+    ) -> Result<(ReadTable, Seat<u8, View>), AllocError>
+        requires sized { IsSized shape }
+        requires count { length words.now ≡ count_of shape }
+        requires zeros { (j : ℕ) → slice_index words.now j ≡ 0 }
+        ensures shape { IfOk result (λ t. t.0.shape ≡ shape) }
+        ensures table { IfOk result (λ t. t.1.table_id ≡ t.0.id) }
+        ensures writer { IfOk result (λ t. t.1.me ≡ (writer_after 0 shape, [])) }
+    {
+        let (table, seat) = Table::of_words(alloc, words, &shape)?;
+        Ok((ReadTable { table, shape }, seat))
+    }
+
+    /// The seat of the next reader.
+    pub(crate) fn deal(&self, writer: &mut Seat<u8, View>, reader: usize) -> ReadSeat
+        requires table { writer.old.table_id ≡ self.now.id }
+        requires writer { writer.old.me ≡ (writer_after reader self.now.shape, []) }
+        requires within { reader < self.now.shape.readers }
+        ensures table { writer.new.table_id ≡ writer.old.table_id }
+        ensures writer { writer.new.me ≡ (writer_after (reader + 1) self.now.shape, []) }
+        ensures ready { IsReady self.now result }
+        ensures new { IsNew result }
+    {
+        let seat = self.table.shared.split_seat::<Deals>(writer);
+        ReadSeat {
+            seat,
+            section: reader * SECTION_STRIDE,
+        }
+    }
+}
