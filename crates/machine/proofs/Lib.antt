@@ -14,3 +14,4 @@ pub mod AskingSo
 pub mod Answering
 pub mod StandingLaws
 pub mod RunningStands
+pub mod RunningOn

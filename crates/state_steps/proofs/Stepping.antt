@@ -1,11 +1,14 @@
 -- Steps of instructions that have one state behind them, and of conditional jumps.
 use Rattle.std.proofs.Common.{◌≡◌, ℕ, ◌<◌, ◌≤◌, List, Option, Some, None, refl, sym, ap, subst, ◌∙◌, inl, inr, ℤ, pos, Bool, true, false, Ok}
-use Rattle.std.specs.Prelude.{if◌then◌else◌}
+use Rattle.std.specs.Prelude.{IfSome, if◌then◌else◌}
 use Rattle.std.proofs.lemmas.Bool.{cases_lt}
 use Rattle.std.proofs.lemmas.Option.{none-some, same_Some}
 use Rattle.bpf_model.specs.declared.limits.MapShape.{MapShape}
+use Rattle.bpf_model.specs.declared.call.Helper.{Helper}
+use Rattle.bpf_model.specs.declared.insn.CallKind.{CallKind}
+use Rattle.bpf_model.specs.declared.insn.CallKind.TheVariants as callee
 use Rattle.bpf_model.specs.declared.insn.Insn.{Insn}
-use Rattle.bpf_model.specs.declared.insn.Insn.TheVariants.{JumpIf}
+use Rattle.bpf_model.specs.declared.insn.Insn.TheVariants.{Call, JumpIf}
 use Rattle.bpf_model.specs.declared.insn.Operand.{Operand}
 use Rattle.bpf_model.specs.declared.insn.Operand.TheVariants.{Register, Immediate}
 use Rattle.bpf_model.specs.declared.opcode.Condition.{Condition}
@@ -36,15 +39,22 @@ use Rattle.effects.specs.declared.region.Region.TheVariants as regions
 use Rattle.effects.specs.Accesses.{IsBase}
 use Rattle.register_kinds.specs.States.{kind_at}
 use Rattle.effects.specs.Forks.{Forks, ForksOnNull}
-use Rattle.effects.specs.Calls.{Splits}
+use Rattle.effects.specs.Calls.{Splits, helper_fault, section_fault}
+use Rattle.register_kinds.specs.declared.fault.InsnFault.{InsnFault}
+use Rattle.register_kinds.specs.declared.fault.InsnFault.TheVariants.{OutsideSection}
 use Rattle.effects.specs.Narrowing.{ComparesNumbers}
 use Rattle.state_steps.specs.declared.flow.Flow.{Flow}
-use Rattle.state_steps.specs.Steps.{IsBranch, base_of, IsInRegion, Compares, IsComparable}
+use Rattle.state_steps.specs.Steps.{IsBranch, base_of, IsInRegion, Compares, IsComparable, LooksUp}
 use Rattle.state_steps.specs.Facts.{IsReadyInsn, KeepsFacts}
 use Rattle.state_steps.specs.Lookups.{Serves}
 use Rattle.state_steps.specs.Stepped.{single_flow, Stepped, ComparesWell}
 use Rattle.state_steps.specs.Floor.{KeepsInsnFloor, KeepsNumbers}
 use Rattle.register_kinds.specs.declared.kind.RegKind.{RegKind}
+
+-- a lookup reaches no memory by a register
+no-base : (i : Insn) → LooksUp i → base_of i ≡ None
+no-base (Call kind imm) h = refl
+no-base i h = absurd h
 
 -- an instruction that reaches no memory, compares nothing and has one state behind it
 pub record IsQuiet (i : Insn) : Type 0 where
@@ -54,14 +64,15 @@ pub record IsQuiet (i : Insn) : Type 0 where
 
 pub quiet_step : (i : Insn) (shapes : List MapShape) (ctx_len top : ℕ) (a b : AbsState) (f : Flow) → f ≡ single_flow regions.None → IsQuiet i
     → Transfers i shapes ctx_len (state_of a) (state_of b) None → AreBelow top b
-    → (IsReadyInsn i (state_of a) → KeepsFacts i (state_of a) (state_of b)) → Serves shapes i (state_of a) (state_of b) None → KeepsInsnFloor i (state_of a) (state_of b) None → KeepsNumbers i (state_of a) (state_of b) → Stepped i shapes ctx_len top a b (Ok f)
-quiet_step i shapes ctx_len top a b f e q sound below keeps serves floor others = subst (λ (f : Flow). Stepped i shapes ctx_len top a b (Ok f)) (sym e) (record {
+    → (IsReadyInsn i (state_of a) → KeepsFacts i (state_of a) (state_of b)) → Serves shapes i (state_of a) (state_of b) None → KeepsInsnFloor i (state_of a) (state_of b) None → KeepsNumbers i (state_of a) (state_of b) → (LooksUp i → (state_of a).inside ≡ true) → Stepped i shapes ctx_len top a b (Ok f)
+quiet_step i shapes ctx_len top a b f e q sound below keeps serves floor others looks_up = subst (λ (f : Flow). Stepped i shapes ctx_len top a b (Ok f)) (sym e) (record {
   done = record {
     transfer = record {
       sound = sound;
       branches = λ x. absurd (q.no_branch x);
       reaches = λ r c m x d. absurd (none-some r (sym q.no_base ∙ x));
       compares = λ r c m x d. absurd (q.no_test r x);
+      looks_up = looks_up;
       keeps = keeps;
       keeps_taken = λ ready. tt;
       serves = serves;
@@ -154,6 +165,7 @@ access_step i shapes ctx_len top a b f region base e q is sound below keeps serv
       branches = λ x. absurd (q.no_branch x);
       reaches = λ r c m x d. subst (λ (n : ℕ). IsInRegion c region (m.regs n)) (same_Some base r (sym q.base_is ∙ x)) (in_region region (kind_at a.regs base) c d.naming (m.regs base) is (d.regs base));
       compares = λ r c m x d. absurd (q.no_test r x);
+      looks_up = λ h. absurd (none-some base (sym (no-base i h) ∙ q.base_is));
       keeps = keeps;
       keeps_taken = λ ready. tt;
       serves = serves;
@@ -203,3 +215,9 @@ above_five r n = elim (cases_lt 5 r) [
   | inl h ↦ h
   | inr h ↦ absurd (n h)
 ]
+
+-- a lookup that is not refused is made inside a section
+pub inside_here : (kind : CallKind) (imm : ℤ) (inside : Bool) (P : InsnFault → Type 0) → LooksUp (Call kind imm) → IfSome (section_fault kind imm inside) P → ((e : InsnFault) → P e → ⊥) → inside ≡ true
+inside_here callee.Helper imm true P h first none = refl
+inside_here callee.Helper imm false P h first none = absurd (none OutsideSection (subst (λ (o : Option Helper). IfSome (helper_fault o false) P) h first))
+inside_here callee.Kernel imm inside P h first none = absurd h

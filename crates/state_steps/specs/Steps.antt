@@ -6,10 +6,13 @@ use Rattle.bpf_model.specs.declared.value.Value.{Value}
 use Rattle.bpf_model.specs.declared.value.Value.TheVariants.{Pointer}
 use Rattle.bpf_model.specs.declared.value.Reference.TheVariants as references
 use Rattle.bpf_model.specs.declared.insn.Insn.{Insn}
-use Rattle.bpf_model.specs.declared.insn.Insn.TheVariants.{JumpIf, Load, LoadSigned, Store}
+use Rattle.bpf_model.specs.declared.insn.CallKind.TheVariants.{Helper}
+use Rattle.bpf_model.specs.declared.insn.Insn.TheVariants.{Call, JumpIf, Load, LoadSigned, Store}
+use Rattle.bpf_model.specs.declared.call.Helper.TheVariants.{Lookup}
 use Rattle.bpf_model.specs.declared.insn.Operand.TheVariants.{Immediate}
 use Rattle.bpf_model.specs.declared.opcode.Condition.TheVariants.{Equal, NotEqual}
 use Rattle.bpf_model.specs.declared.opcode.Size.TheVariants.{Word64}
+use Rattle.bpf_model.specs.Call.{helper_of}
 use Rattle.bpf_model.specs.Graph.{falls, distance}
 use Rattle.bpf_model.specs.Plain.{Names}
 use Rattle.bpf_model.specs.Value.{IsNumber}
@@ -64,6 +67,11 @@ abbrev pub IsComparable : Insn → Value → Type 0
 IsComparable i v =
     IsNumber v
     ⊎ (IsNullTest i × (n : ℕ) × (o : ℤ) × (v ≡ Pointer (references.Elem n o)))
+
+-- the instruction calls the lookup
+abbrev pub LooksUp : Insn → Type 0
+LooksUp (Call Helper imm) = helper_of imm ≡ Some Lookup
+LooksUp _ = ⊥
 
 -- no refusal but for want of memory
 abbrev pub IsFine : {A : Type 0} → Result A InsnFault → Type 0

@@ -1,11 +1,11 @@
 //! The step of any instruction.
-ghost use Rattle.std.specs.Prelude.{◌≡◌, ℕ, ◌+◌, ◌^◌, ◌<◌, IfOk, OnOk, OnErr, IfSome, IsSome, Some, option_map};
+ghost use Rattle.std.specs.Prelude.{◌≡◌, ℕ, ◌+◌, ◌^◌, ◌<◌, IfOk, OnOk, OnErr, IfSome, IsSome, Some, option_map, true};
 ghost use Rattle.bpf_model.specs.Step.{State};
 ghost use Rattle.typed_runs.specs.Describes.{Scene, Describes};
 ghost use Rattle.typed_runs.specs.Verified.{Transfers};
 ghost use Rattle.register_kinds.specs.Pairs.{AreBelow, TakesFew};
 ghost use Rattle.register_kinds.specs.States.{state_of};
-ghost use Rattle.state_steps.specs.Steps.{IsBranch, taken_state, base_of, IsInRegion, Compares, IsComparable, IsFine};
+ghost use Rattle.state_steps.specs.Steps.{IsBranch, taken_state, base_of, IsInRegion, Compares, IsComparable, IsFine, LooksUp};
 ghost use Rattle.state_steps.specs.Facts.{IsReadyInsn, KeepsFacts};
 ghost use Rattle.state_steps.specs.Lookups.{IsReadyWithMaps, Serves};
 ghost use Rattle.state_steps.specs.Stepped.{Stepped};
@@ -58,6 +58,9 @@ pub fn transfer(
         → Describes (state_of state.old) c m → IsInRegion c f.region (m.regs b)) }
     ensures compares { OnOk result ((r : ℕ) (c : Scene) (m : State) → Compares insn.now r
         → Describes (state_of state.old) c m → IsComparable insn.now (m.regs r)) }
+
+    // A lookup is made inside a section.
+    ensures looks_up { OnOk result (LooksUp insn.now → (state_of state.old).inside ≡ true) }
 
     // The identities that are taken.
     ensures below { AreBelow ids.new.next state.new }

@@ -16,7 +16,7 @@ use Rattle.register_kinds.specs.FaultNumbers.{insn_fault_number}
 use Rattle.effects.specs.declared.region.Region.{Region}
 use Rattle.resolved_insns.specs.declared.record.ResolvedInsn.{ResolvedInsn}
 use Rattle.resolved_insns.specs.Resolved.{AreResolved}
-use Rattle.state_steps.specs.Steps.{base_of, IsInRegion, Compares, IsComparable}
+use Rattle.state_steps.specs.Steps.{base_of, IsInRegion, Compares, IsComparable, LooksUp}
 use Rattle.verifier.specs.declared.refusal.ProgramRefusal.{ProgramRefusal}
 use Rattle.verifier.specs.declared.refusal.ProgramRefusal.TheVariants.{Graph, Instruction, Memory}
 use Rattle.verifier.specs.Checked.{Checked}
@@ -37,6 +37,10 @@ pub record Justifies (c : Checked) (plan : Plan) : Type 0 where
   pub compared : (index : ℕ) (i : Insn) (r : ℕ) (scene : Scene) (m : State)
       → slice_get c.program index ≡ Some i → Compares i r
       → IsPlanned c.program plan index scene m → IsComparable i (m.regs r)
+  -- a lookup is made inside a section
+  pub looked_up : (index : ℕ) (i : Insn) (scene : Scene) (m : State)
+      → slice_get c.program index ≡ Some i → LooksUp i
+      → IsPlanned c.program plan index scene m → 0 < scene.depth
 
 -- The program is verified, and what the code has noted of it is right, by one plan.
 pub record IsJustified (c : Checked) : Type 0 where

@@ -19,6 +19,7 @@ returns c = λ shapes ctx_len top below.
     (alu_serves c.args.op c.args.size c.args.dst c.args.src.now a (λ k. SetsKind c.alu.result c.args.dst k (state_of a) (state_of b)) c.alu.ensures.copies c.alu.ensures.frame shapes (state_of b) (λ k r. r.alike))
     c.in_ok-alu.ensures.floor
     (λ r s n e. c.in_ok-alu.ensures.others r n ∙ e)
+    (λ h. absurd h)
 
 pub returns-in_err-alu : goal.returns-in_err-alu
 returns-in_err-alu c = λ shapes ctx_len top below. record {

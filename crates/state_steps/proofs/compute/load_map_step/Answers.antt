@@ -18,3 +18,4 @@ returns c = λ ctx_len top below.
     (map_serves c.args.dst c.args.map c.args.shape.now.shapes.now (state_of c.args.state.now) (λ k. SetsKind c.load_map.result c.args.dst k (state_of c.args.state.now) (state_of c.load_map.new.state)) sets (state_of c.load_map.new.state) (λ k r. r.alike))
     tt
     (λ r s n e. c.in_ok-load_map.ensures.others r n ∙ e)
+    (λ h. absurd h)

@@ -17,3 +17,4 @@ returns c = λ shapes ctx_len top below.
     (serves_none shapes (LoadNumber c.args.dst c.args.number) refl (state_of a) (state_of b) None)
     c.in_ok-load_number.ensures.floor
     (λ r s n e. c.in_ok-load_number.ensures.others r n ∙ e)
+    (λ h. absurd h)

@@ -18,3 +18,4 @@ returns c = λ shapes ctx_len top below.
     (serves_none shapes (Unary c.args.op.now c.args.dst) refl (state_of a) (state_of b) None)
     c.in_ok-unary.ensures.floor
     (λ r s n e. c.in_ok-unary.ensures.others r n ∙ e)
+    (λ h. absurd h)

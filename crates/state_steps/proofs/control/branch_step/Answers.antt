@@ -19,6 +19,7 @@ returns c = λ offset shapes ctx_len top below.
           branches = λ x. refl;
           reaches = λ r scene m x d. absurd (none-some r x);
           compares = t.compares offset;
+          looks_up = λ h. absurd h;
           keeps = λ ready. narrow_keeps i c.args.dst c.args.src.now (pos FRAME_BYTES) a b (λ r x. x) (λ k x. x) ready.registers ready.frame (t.narrowed (ready.registers c.args.dst (inl refl)));
           keeps_taken = λ ready. narrow_keeps i c.args.dst c.args.src.now (pos FRAME_BYTES) a (state_of c.in_ok-taken.taken.value) (λ r x. x) (λ k x. x) ready.registers ready.frame (t.taken_narrowed (ready.registers c.args.dst (inl refl)));
           floor = (t.floor, t.taken_floor);

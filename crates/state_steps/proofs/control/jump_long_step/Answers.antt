@@ -14,3 +14,4 @@ returns c = λ imm shapes ctx_len top a below.
     (serves_none shapes (JumpLong imm) refl (state_of a) (state_of a) None)
     tt
     (λ r s n e. e)
+    (λ h. absurd h)

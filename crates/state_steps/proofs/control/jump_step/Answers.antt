@@ -14,3 +14,4 @@ returns c = λ offset shapes ctx_len top a below.
     (serves_none shapes (Jump offset) refl (state_of a) (state_of a) None)
     tt
     (λ r s n e. e)
+    (λ h. absurd h)
