@@ -25,7 +25,7 @@ use Rattle.bpf_model.specs.Machine.{Loaded, Run, locked, moves as moves_run, sec
 use Rattle.bpf_model.specs.MachineStep.{bytes_at, frame_bytes, loaded_from, stored_in}
 use Rattle.bpf_model.specs.Operand.{operand_value}
 use Rattle.bpf_model.specs.Places.{start-insn_at, starts_apart}
-use Rattle.bpf_model.specs.Request.{load_request, store_request, Request as Asked, LoadElement, StoreElement, CallHelper, Enter, Leave, MapArgument, BytesArgument, Argument, asks as asks_of, resumed, section_request as section_asked, signature_of, arguments_of}
+use Rattle.bpf_model.specs.Request.{Request as Asked, LoadElement, StoreElement, CallHelper, Enter, Leave, MapArgument, BytesArgument, Argument, asks as asks_of, resumed, section_request as section_asked, signature_of, arguments_of}
 use Rattle.bpf_model.specs.Spelling.{FitsInsn}
 use Rattle.bpf_model.specs.Step.{State, insn_at}
 use Rattle.bpf_model.specs.Value.{◌>>=◌}
@@ -43,7 +43,7 @@ use Rattle.world_laws.specs.Reaching.{IsInFrame}
 use Rattle.world_laws.proofs.Bytes.{argument-bytes}
 use Rattle.effects.specs.declared.region.Region.{Region}
 use Rattle.effects.specs.declared.region.Region.TheVariants as noted
-use Rattle.state_steps.specs.Steps.{IsInRegion, base_of}
+use Rattle.state_steps.specs.Steps.{IsInRegion, LooksUp, base_of}
 use Rattle.standing_laws.specs.Around.{births, element_number, elements_around, key_length, map_of, region_of, regions, value_length}
 use Rattle.standing_laws.specs.Described.{region_bases}
 use Rattle.standing_laws.proofs.Asking.{lookup-asked}
@@ -56,6 +56,7 @@ use Rattle.machine.specs.declared.request.Request.TheVariants as requests
 use Rattle.machine.specs.declared.request.Local.TheVariants as locals
 use Rattle.machine.specs.Requests.{request_of, resumed_view, section_request}
 use Rattle.machine.specs.Steps.{IsLocalStep}
+use Rattle.machine.proofs.AskingSo.{load-asked, store-asked}
 use Rattle.table_rule.specs.declared.view.Move.{Move}
 use Rattle.table_rule.specs.declared.view.Move.TheVariants as moves_by
 use Rattle.table_rule.specs.declared.view.TableShape.{TableShape}
@@ -68,25 +69,6 @@ use Rattle.shared_runs.specs.Words.{ChangesMap, IsElementRegion, IsOtherWidth, a
 use Rattle.shared_runs.proofs.Learning.{Reached, also, enter-learnt, hit-learnt, learnt-guarded, leave-learnt, load-learnt, miss-learnt, none, store-learnt}
 use Rattle.shared_runs.proofs.Steps.{Known, aligned, asking, known, listed, listed-shapes, onward, ready, served-step, shown, so, some, steps, waited}
 use Rattle.shared_runs.proofs.Stretches.{also-cases, inside-same, learnt-before, learnt-in}
-
-load-asked : (width : ℕ) (offset : ℤ) (base : Value) (b : Bool) (request : Asked) → (if b then None else load_request width offset base) ≡ Some request → LoadAsked width offset base b request
-load-asked width offset base true request h = absurd (none-some request h)
-load-asked width offset Nothing false request h = absurd (none-some request h)
-load-asked width offset (Number x) false request h = absurd (none-some request h)
-load-asked width offset (Pointer (references.Ctx o)) false request h = absurd (none-some request h)
-load-asked width offset (Pointer (references.Frame o)) false request h = absurd (none-some request h)
-load-asked width offset (Pointer (references.MapRef m)) false request h = absurd (none-some request h)
-load-asked width offset (Pointer (references.Elem n o)) false request h = record { n = n; o = o; free = refl; base_is = refl; request_is = same_Some _ request h }
-
-store-asked : (width : ℕ) (offset : ℤ) (v base : Value) (request : Asked) → store_request width offset v base ≡ Some request → StoreAsked width offset v base request
-store-asked width offset Nothing base request h = absurd (none-some request h)
-store-asked width offset (Pointer r) base request h = absurd (none-some request h)
-store-asked width offset (Number v) Nothing request h = absurd (none-some request h)
-store-asked width offset (Number v) (Number x) request h = absurd (none-some request h)
-store-asked width offset (Number v) (Pointer (references.Ctx o)) request h = absurd (none-some request h)
-store-asked width offset (Number v) (Pointer (references.Frame o)) request h = absurd (none-some request h)
-store-asked width offset (Number v) (Pointer (references.MapRef m)) request h = absurd (none-some request h)
-store-asked width offset (Number v) (Pointer (references.Elem n o)) request h = record { n = n; o = o; x = v; value_is = refl; base_is = refl; request_is = same_Some _ request h }
 
 -- the width of the access that an element's base is reached by
 record Accesses (i : Insn) (n : ℕ) (o : ℤ) (width : ℕ) (m : State) : Type 0 where
@@ -304,8 +286,8 @@ module _ (k : TableShape) (c : Checked) (context : List ℕ) (ms : List Move) (v
     found map key f ns None searches answers = missed map key f ns searches answers
     found map key f ns (Some slot) searches answers = hit map slot key f ns searches answers
 
-    pub looks-up : (arguments : List Argument) → Asks (CallHelper Lookup arguments) → arguments_of (signature_of Lookup).arguments (listed k c context ms v x) run.state 1 ≡ Some arguments → CanServe k c context ms v (requests.Call Lookup)
-    looks-up arguments asked e =
+    pub looks-up : (arguments : List Argument) → LooksUp i → Asks (CallHelper Lookup arguments) → arguments_of (signature_of Lookup).arguments (listed k c context ms v x) run.state 1 ≡ Some arguments → CanServe k c context ms v (requests.Call Lookup)
+    looks-up arguments lookup asked e =
         let l = lookup-asked (listed k c context ms v x) run.state arguments e in
         let shape : slice_get c.shapes l.map ≡ Some l.shape = ap (λ (f : ℕ → Option MapShape). f l.map) (listed-shapes k c context ms v x) ∙ l.shape_is in
         let below : l.map < length c.shapes = slice_get_within c.shapes l.map l.shape shape in
@@ -317,7 +299,10 @@ module _ (k : TableShape) (c : Checked) (context : List ℕ) (ms : List Move) (v
           bound = ap (λ (p : Loaded). slice_get p.maps l.map) x.program ∙ get-range (length c.shapes) l.map below;
           long = l.long ∙ sym (ap key_length shape);
         } in
+        let deep : 0 < run.depth = x.justified.justified.looked_up x.index i (scene_of (learnt_elements c.shapes (section_of run) x.learnt) run) run.state index-there lookup x.planned in
+        let depth : v.depth ≡ run.depth = (shown k c context ms v x).words.depth in
         record {
+          inside = omega (arith, deep, depth);
           key = subst (IsInFrame (word_in v 2)) fits.0 at.inside;
           goes_on = λ ns o searches answers. goes-at (ns ++ ms) (found_word 0 o)
               (found l.map l.key f ns o searches (subst (λ key. AnswersLookup k key ns o) (ap (bytes_in v 2) (sym fits.0) ∙ at.is) answers));
@@ -406,7 +391,7 @@ module _ (k : TableShape) (c : Checked) (context : List ℕ) (ms : List Move) (v
 
   by-helper : (imm : ℤ) (here : Known k c context ms v x (Call kinds.Helper imm)) (helper : Helper) (arguments : List Argument) → helper_of imm ≡ Some helper → arguments_of (signature_of helper).arguments (listed k c context ms v x) run.state 1 ≡ Some arguments
       → asks_of (Call kinds.Helper imm) (listed k c context ms v x) run.state ≡ Some (CallHelper helper arguments) → Goal (requests.Call helper)
-  by-helper imm here Lookup arguments e of asks = looks-up (Call kinds.Helper imm) here arguments asks of
+  by-helper imm here Lookup arguments e of asks = looks-up (Call kinds.Helper imm) here arguments e asks of
   by-helper imm here Update arguments e of asks = changes-none (Call kinds.Helper imm) here Update imm refl e (inl refl)
   by-helper imm here Delete arguments e of asks = changes-none (Call kinds.Helper imm) here Delete imm refl e (inr refl)
 

@@ -32,7 +32,7 @@ use Rattle.machine.specs.declared.request.Request.{Request}
 use Rattle.machine.specs.declared.request.Local.TheVariants as locals
 use Rattle.machine.specs.Requests.{request_of}
 use Rattle.machine.specs.Standing.{StandsBy}
-use Rattle.machine.specs.Steps.{CanStep, IsLocalStep}
+use Rattle.machine.specs.Steps.{CanStep, IsLocalStep, MovesOn, moves as more, stays}
 use Rattle.machine.proofs.Answering.{stands}
 use Rattle.machine.proofs.AskingSo.{AsksSo, asks-so}
 use Rattle.machine.proofs.StandingLaws.{can_step}
@@ -258,3 +258,8 @@ module _ (k : TableShape) (c : Checked) (context : List ℕ) (ms : List Move) (v
       → Comes k c.shapes (fresh_run 0 (loaded_of c) context) (ns ++ ms) (suc v.moved) next
   served-step i asked here e ns reply next replied resumes =
       shared ms ns v.moved run next x.came (record { insn = i; here = in-program i here; request = asked; reply = reply; asked = asked-listed i asked e; replied = replied; resumes = resumes })
+
+-- moves one after another
+pub goes-on : (k : TableShape) (c : Checked) (context : List ℕ) (ms : List Move) (v new : RunView) → IsSharing k c context ms v → MovesOn c v new → IsSharing k c context ms new
+goes-on k c context ms v new x stays = x
+goes-on k c context ms v new x (more before next m step) = moves k c context ms before (goes-on k c context ms v before x m) next step

@@ -51,6 +51,7 @@ pub record StoresWord (k : TableShape) (c : Checked) (context : List ℕ) (ms : 
 
 pub record LooksUpKey (k : TableShape) (c : Checked) (context : List ℕ) (ms : List Move)
     (v : RunView) : Type 0 where
+  pub inside : 0 < v.depth
   pub key : IsInFrame (word_in v 2) (8 * k.key_words)
   pub goes_on : (ns : List Move) (found : Option ℕ) → OnlySearches k ns →
       AnswersLookup k (bytes_in v 2 (8 * k.key_words)) ns found →

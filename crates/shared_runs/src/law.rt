@@ -1,21 +1,17 @@
 //! Laws of the words of a shared run.
 //!
 //! Each is a function with an empty body, whose contract is the law.
-ghost use Rattle.std.specs.Prelude.{◌≡◌, ℕ, ◌+◌, ◌≤◌, List, [], Some, length};
-ghost use Rattle.bpf_model.specs.declared.insn.Insn.{Insn};
+ghost use Rattle.std.specs.Prelude.{◌≡◌, ℕ, ◌+◌, ◌≤◌, List, [], length};
 ghost use Rattle.bpf_model.specs.Event.{AreBytes};
-ghost use Rattle.bpf_model.specs.Step.{insn_at};
 ghost use Rattle.bpf_model.specs.View.{RunView};
 ghost use Rattle.bpf_model.specs.Word.{most_map_slots};
 ghost use Rattle.view_laws.specs.Reactions.{fresh_view};
-ghost use Rattle.world_laws.specs.Local.{local_of};
 ghost use Rattle.verifier.specs.Checked.{Checked};
 ghost use Rattle.verifier.specs.Verdict.{IsJustified};
 ghost use Rattle.machine.specs.declared.request.Request.{Request};
 ghost use Rattle.machine.specs.declared.request.Local.TheVariants.{Exit, Moved, Shared};
-ghost use Rattle.machine.specs.Requests.{request_of};
 ghost use Rattle.machine.specs.Standing.{StandsBy};
-ghost use Rattle.machine.specs.Steps.{IsLocalStep};
+ghost use Rattle.machine.specs.Steps.{MovesOn, TakesStep};
 ghost use Rattle.table_rule.specs.declared.view.Move.{Move};
 ghost use Rattle.table_rule.specs.declared.view.TableShape.{TableShape};
 ghost use Rattle.table_rule.specs.History.{inside};
@@ -43,8 +39,14 @@ pub fn shared_run_stands()
 pub fn shared_run_moves()
     ensures { (k : TableShape) (c : Checked) (context : List ℕ) (ms : List Move)
         (v new : RunView) → IsSharing k c context ms v →
-        ((insn : Insn) → insn_at c.program v.place ≡ Some insn →
-        IsLocalStep (local_of insn v) (request_of insn v) v Moved new) →
+        TakesStep c v Moved new →
+        IsSharing k c context ms new }
+{}
+
+/// So do several such moves, one after another.
+pub fn shared_run_goes_on()
+    ensures { (k : TableShape) (c : Checked) (context : List ℕ) (ms : List Move)
+        (v new : RunView) → IsSharing k c context ms v → MovesOn c v new →
         IsSharing k c context ms new }
 {}
 
@@ -52,8 +54,7 @@ pub fn shared_run_moves()
 pub fn shared_run_exits()
     ensures { (k : TableShape) (c : Checked) (context : List ℕ) (ms : List Move)
         (v new : RunView) (n : ℕ) → IsSharing k c context ms v →
-        ((insn : Insn) → insn_at c.program v.place ≡ Some insn →
-        IsLocalStep (local_of insn v) (request_of insn v) v (Exit n) new) →
+        TakesStep c v (Exit n) new →
         IsSharedRun k c.shapes (loaded_of c) context ms (v.moved + 1) n × (inside ms ≡ 0) }
 {}
 
@@ -61,7 +62,6 @@ pub fn shared_run_exits()
 pub fn shared_run_asks()
     ensures { (k : TableShape) (c : Checked) (context : List ℕ) (ms : List Move)
         (v after : RunView) (request : Request) → IsSharing k c context ms v →
-        ((insn : Insn) → insn_at c.program v.place ≡ Some insn →
-        IsLocalStep (local_of insn v) (request_of insn v) v (Shared request) after) →
+        TakesStep c v (Shared request) after →
         CanServe k c context ms v request × (after ≡ v) }
 {}
