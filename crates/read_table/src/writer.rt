@@ -71,6 +71,7 @@ impl Writer {
         requires table { self.old.table ≡ table.now }
         requires key { length key.now ≡ WORD_BYTES * table.now.shape.key_words }
         requires value { length value.now ≡ WORD_BYTES * table.now.shape.value_words }
+        ensures table { self.new.table ≡ self.old.table }
         ensures none { IsNone result ↔ (self.old.free ≡ []) }
         ensures unchanged { IfNone result (self.new ≡ self.old) }
         ensures slot { IfSome result (λ slot. slot < table.now.shape.slots) }
@@ -97,6 +98,7 @@ impl Writer {
     pub fn unlink(&mut self, table: &ReadTable, slot: usize)
         requires table { self.old.table ≡ table.now }
         requires linked { Contains self.old.linked slot }
+        ensures table { self.new.table ≡ self.old.table }
         ensures free { self.new.free ≡ self.old.free }
         ensures linked { Leaves slot self.old.linked self.new.linked }
         ensures unlinked { self.new.unlinked ≡ self.old.unlinked ++ slot ∷ [] }
@@ -112,6 +114,7 @@ impl Writer {
     pub fn try_reclaim(&mut self, table: &ReadTable, slot: usize) -> bool
         requires table { self.old.table ≡ table.now }
         requires unlinked { Contains self.old.unlinked slot }
+        ensures table { self.new.table ≡ self.old.table }
         ensures free { result ≡ true → self.new.free ≡ self.old.free ++ slot ∷ [] }
         ensures unlinked { result ≡ true → Leaves slot self.old.unlinked self.new.unlinked }
         ensures scanned { result ≡ true →
@@ -131,7 +134,7 @@ impl Writer {
     }
 
     /// A law: each slot stands in one of the three lists, once, in that where it belongs.
-    pub fn slots(&self)
+    pub fn each_slot_once(&self)
         ensures { AreSlots self.now.view self.now.free self.now.linked self.now.unlinked }
     {
         let _ = &self.free;
