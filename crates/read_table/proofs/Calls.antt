@@ -1,5 +1,5 @@
 -- What the calls of a seat rest on.
-use Rattle.std.proofs.Common.{◌≡◌, ℕ, ◌+◌, ◌-◌, ◌*◌, ◌/◌, ◌%◌, ◌<◌, ◌≤◌, ◌⊎◌, inl, inr, List, [], ◌∷◌, refl, sym, ap, ◌∙◌, subst, arith}
+use Rattle.std.proofs.Common.{◌≡◌, ℕ, ◌+◌, ◌-◌, ◌*◌, ◌/◌, ◌%◌, ◌<◌, inl, inr, [], ◌∷◌, refl, sym, ap, ◌∙◌, subst, arith}
 use Rattle.std.proofs.lemmas.Nat.{div-mul-add, mod-mul-add}
 use mathlib.Core.Option.{none}
 use Rattle.atomic_table.specs.Table.{Me, step, Allows}
@@ -9,10 +9,10 @@ use Rattle.table_rule.specs.declared.view.Move.{Move}
 use Rattle.table_rule.specs.declared.view.Move.TheVariants.{Load, Store}
 use Rattle.table_rule.specs.declared.view.TableShape.{TableShape}
 use Rattle.table_rule.specs.declared.view.View.{View}
-use Rattle.table_rule.specs.History.{inside, Knows, IsLearnt, IsReader}
-use Rattle.table_rule.specs.Law.{headers_from, count_of, base_of, width_of, Kept, Gains, opens, closes, learns, loads, stores}
-use Rattle.table_rule.proofs.Keeps.{opens_ok, closes_ok, learns_ok, loads_ok, stores_ok}
-use Rattle.read_table.specs.Held.{Holder, Does, Goes, IsUnchanged}
+use Rattle.table_rule.specs.History.{inside, header_in, Knows, IsLearnt, IsReader, MayLink}
+use Rattle.table_rule.specs.Law.{headers_from, count_of, base_of, width_of, Kept, Gains, opens, closes, learns, loads, stores, changes, scans}
+use Rattle.table_rule.proofs.Keeps.{opens_ok, closes_ok, learns_ok, loads_ok, stores_ok, changes_ok, scans_ok}
+use Rattle.read_table.specs.Held.{Holder, Does, IsUnchanged}
 use Rattle.read_table.proofs.Going.{went_one, goes_known, goes_fact, known_unchanged}
 
 -- where a word of a slot lies, as an equation
@@ -105,3 +105,23 @@ header_slot j k slot same = slot_is (headers_from j) slot (headers_from k) (ap h
 
 pub header_within : (j k : TableShape) (slot n : ℕ) → j ≡ k → slot < j.slots → n ≡ count_of k → headers_from k + slot < n
 header_within j k slot n same l e = let m : slot < k.slots = subst (λ (z : TableShape). slot < z.slots) same l in omega arith
+
+pub changes_at : (j k : TableShape) (slots id : ℕ) (me : Me ℕ View) (slot x : ℕ) → me.0.shape ≡ j → j ≡ k → slot < j.slots → me.0.me ≡ 0 → x ≡ header_in slot me.0.mine + 1 → (x % 2 ≡ 1 → MayLink j.readers slot me.0.mine)
+    → Allows (Kept k) slots id me (headers_from j + slot) (λ _. x) (λ _. changes (step slots (headers_from j + slot) x 0 none) me x)
+changes_at j k slots id me slot x same is l writer h may =
+    let e : headers_from j ≡ headers_from k = ap headers_from is in
+    let m : slot < k.slots = subst (λ (z : TableShape). slot < z.slots) is l in
+    let back : (headers_from j + slot) - headers_from me.0.shape ≡ slot = header_slot me.0.shape j slot same in
+    changes_ok k slots id me (headers_from j + slot) x (omega arith) (omega arith) writer
+    (h ∙ ap (λ z. header_in z me.0.mine + 1) (sym back))
+    (λ odd. subst (λ (z : ℕ × TableShape). MayLink z.1.readers z.0 me.0.mine) (λ i. (sym back i, is i)) (may odd))
+
+pub scan_within : (k : TableShape) (reader n : ℕ) → reader < k.readers → n ≡ count_of k → reader * SECTION_STRIDE < n
+scan_within k reader n l e = omega arith
+
+pub scan_reader : (reader : ℕ) → reader * SECTION_STRIDE / SECTION_STRIDE ≡ reader
+scan_reader reader = omega arith
+
+pub scans_at : (j k : TableShape) (slots id : ℕ) (me : Me ℕ View) (reader : ℕ) → j ≡ k → reader < j.readers → me.0.me ≡ 0
+    → Allows (Kept k) slots id me (reader * SECTION_STRIDE) (λ n. n) (scans (step slots (reader * SECTION_STRIDE) 0 0 none) me)
+scans_at j k slots id me reader is l writer = scans_ok k slots id me (reader * SECTION_STRIDE) reader refl (subst (λ (z : TableShape). reader < z.readers) is l) writer

@@ -1,8 +1,8 @@
 -- Stretches of a holder's list.
-use Rattle.std.proofs.Common.{◌≡◌, ℕ, List, [], ◌∷◌, ◌++◌, refl, sym, ap, ◌∙◌, subst, append_assoc, inl}
+use Rattle.std.proofs.Common.{◌≡◌, ℕ, List, [], ◌∷◌, ◌++◌, refl, sym, ap, ◌∙◌, subst, append_assoc}
 use Rattle.table_rule.specs.declared.view.Move.{Move}
 use Rattle.table_rule.specs.declared.view.View.{View}
-use Rattle.table_rule.specs.History.{moves_of, inside, header_in, generation, Knows, IsLawful}
+use Rattle.table_rule.specs.History.{moves_of, Knows, IsLawful}
 use Rattle.table_rule.specs.Law.{Gains}
 use Rattle.table_rule.proofs.Safe.{same_generation}
 use Rattle.read_table.specs.Held.{Holder, Does, Goes, Went, IsKnown, IsUnchanged}
@@ -36,6 +36,15 @@ went_more u v w ms m g h = went_after u v w ms (m ∷ ms) g (subst (λ z. Went v
 pub went_move : (u v w : View) (ms : List Move) (m m' : Move) → m ≡ m' → Went u ms v → Gains v m w → Went u (m' ∷ ms) w
 went_move u v w ms m m' e g h = subst (λ z. Went u (z ∷ ms) w) e (went_more u v w ms m g h)
 
+pub went_as : (v w : View) (m m' : Move) → m ≡ m' → Gains v m w → Went v (m' ∷ v.mine) w
+went_as v w m m' e g = went_one v w m' (subst (λ z. Gains v z w) e g)
+
+-- one stretch after another
+pub went_then : (u v w : View) (ms ns : List Move) → Went u (ms ++ u.mine) v → Went v (ns ++ v.mine) w → Went u ((ns ++ ms) ++ u.mine) w
+went_then u v w ms ns g h =
+    went_after u v w (ms ++ u.mine) ((ns ++ ms) ++ u.mine) g
+    (subst (λ z. Went v z w) (ap (λ z. ns ++ z) (went_mine u v (ms ++ u.mine) g) ∙ sym (append_assoc ns ms u.mine)) h)
+
 -- no step at all
 pub goes_none : (s : Holder) → IsKnown s.view → Goes s [] s
 goes_none s k = record { table = refl; went = went_none s.view k }
@@ -45,14 +54,7 @@ goes_one s t m d = d
 
 -- one stretch after another
 pub goes_then : (s t u : Holder) (ms ns : List Move) → Goes s ms t → Goes t ns u → Goes s (ns ++ ms) u
-goes_then s t u ms ns g h =
-    let a = g.went in
-    let e : t.view.mine ≡ ms ++ s.view.mine = ap (λ (z : View). z.mine) a.1 in
-    record {
-      table = h.table ∙ g.table;
-      went = went_after s.view t.view u.view (ms ++ s.view.mine) ((ns ++ ms) ++ s.view.mine) a
-          (subst (λ z. Went t.view z u.view) (ap (λ z. ns ++ z) e ∙ sym (append_assoc ns ms s.view.mine)) h.went);
-    }
+goes_then s t u ms ns g h = record { table = h.table ∙ g.table; went = went_then s.view t.view u.view ms ns g.went h.went }
 
 -- one step after a stretch
 pub goes_more : (s t u : Holder) (ms : List Move) (m : Move) → Goes s ms t → Does t m u → Goes s (m ∷ ms) u

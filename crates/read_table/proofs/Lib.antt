@@ -2,3 +2,4 @@ pub mod Going
 pub mod Calls
 pub mod Lookups
 mod Slots
+mod Keeping

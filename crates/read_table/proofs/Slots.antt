@@ -1,15 +1,14 @@
 -- The writer's lists of slots.
-use Rattle.std.proofs.Common.{◌≡◌, ◌≢◌, ◌⊎◌, ℕ, zero, suc, ◌+◌, ◌^◌, ◌%◌, ◌<◌, ◌≤◌, List, [], ◌∷◌, ◌++◌, length, get_or, refl, sym, ap, ◌∙◌, subst, inl, inr, arith, eq-eqb, ne_eqb, add-one}
+use Rattle.std.proofs.Common.{◌≡◌, ◌≢◌, ℕ, zero, suc, ◌+◌, ◌<◌, ◌≤◌, List, [], ◌∷◌, ◌++◌, length, get_or, refl, sym, ap, ◌∙◌, subst, inl, arith, eq-eqb, ne_eqb, add-one, length-append}
 use mathlib.Core.Logic.{dite}
 use native.Mathlib.Decide.{ℕ_discrete}
 use Rattle.std.specs.Prelude.{All}
-use Rattle.std.specs.List.{range_with_len}
+use Rattle.std.specs.List.{range_with_len, remove, Contains}
 use Rattle.std.proofs.lemmas.List.FromFn.{length-range_with_len, get_or-range_with_len}
 use Rattle.table_rule.specs.declared.view.TableShape.{TableShape}
 use Rattle.table_rule.specs.declared.view.View.{View}
-use Rattle.table_rule.specs.History.{header_in}
 use Rattle.table_rule.specs.Law.{writer_after}
-use Rattle.read_table.specs.Slots.{one_for, times_in, IsFree, IsLinked, IsUnlinked, AreSlots, IsWriter}
+use Rattle.read_table.specs.Slots.{one_for, times_in, Leaves, IsFree, IsLinked, IsUnlinked, AreSlots, IsWriter}
 
 pub one_same : (slot s : ℕ) → s ≡ slot → one_for slot s ≡ 1
 one_same slot s e = rw (eq-eqb s slot e) refl
@@ -73,3 +72,77 @@ begins_slots v n k free linked unlinked e f l u =
 
 pub at_most : (a b c : ℕ) → a ≡ b → b ≤ c → a ≤ c
 at_most a b c e l = omega arith
+
+-- a list without one of its places
+pub leaves_remove : (xs : List ℕ) (at slot : ℕ) → at < length xs → get_or xs at slot ≡ slot → Leaves slot xs (remove xs at)
+leaves_remove [] at slot l e = absurd (omega arith)
+leaves_remove (x ∷ xs) zero slot l e = ([], xs, ap (λ z. z ∷ xs) e, refl)
+leaves_remove (x ∷ xs) (suc at) slot l e =
+    let r = leaves_remove xs at slot (omega arith) e in
+    (x ∷ r.0, r.1, ap (λ zs. x ∷ zs) r.2, ap (λ zs. x ∷ zs) r.3)
+
+all_tail : (P : ℕ → Type 0) (x : ℕ) (xs : List ℕ) → All P (x ∷ xs) → All P xs
+all_tail P x xs all k d l = all (suc k) d (omega arith)
+
+all_head : (P : ℕ → Type 0) (x : ℕ) (xs : List ℕ) → All P (x ∷ xs) → P x
+all_head P x xs all = all 0 0 (omega arith)
+
+all_cons : (P : ℕ → Type 0) (x : ℕ) (xs : List ℕ) → P x → All P xs → All P (x ∷ xs)
+all_cons P x xs one all zero d l = one
+all_cons P x xs one all (suc k) d l = all k d (omega arith)
+
+all_at : (P : ℕ → Type 0) (slot : ℕ) (front back : List ℕ) → All P (front ++ slot ∷ back) → P slot
+all_at P slot [] back all = all_head P slot back all
+all_at P slot (x ∷ front) back all = all_at P slot front back (all_tail P x (front ++ slot ∷ back) all)
+
+all_without : (P : ℕ → Type 0) (slot : ℕ) (front back : List ℕ) → All P (front ++ slot ∷ back) → All P (front ++ back)
+all_without P slot [] back all = all_tail P slot back all
+all_without P slot (x ∷ front) back all =
+    all_cons P x (front ++ back) (all_head P x (front ++ slot ∷ back) all) (all_without P slot front back (all_tail P x (front ++ slot ∷ back) all))
+
+pub at_leaves : (P : ℕ → Type 0) (slot : ℕ) (old new : List ℕ) → Leaves slot old new → All P old → P slot
+at_leaves P slot old new e all = all_at P slot e.0 e.1 (subst (All P) e.2 all)
+
+pub all_leaves : (P : ℕ → Type 0) (slot : ℕ) (old new : List ℕ) → Leaves slot old new → All P old → All P new
+all_leaves P slot old new e all = subst (All P) (sym e.3) (all_without P slot e.0 e.1 (subst (All P) e.2 all))
+
+times_append : (s : ℕ) (xs ys : List ℕ) → times_in s (xs ++ ys) ≡ times_in s xs + times_in s ys
+times_append s [] ys = sym (add (times_in s ys))
+times_append s (x ∷ xs) ys = let e = times_append s xs ys in omega arith
+
+pub times_leaves : (s slot : ℕ) (old new : List ℕ) → Leaves slot old new → times_in s old ≡ times_in s new + one_for s slot
+times_leaves s slot old new e =
+    let o : times_in s old ≡ times_in s (e.0 ++ slot ∷ e.1) = ap (times_in s) e.2 in
+    let n : times_in s new ≡ times_in s (e.0 ++ e.1) = ap (times_in s) e.3 in
+    let a = times_append s e.0 (slot ∷ e.1) in
+    let b = times_append s e.0 e.1 in
+    omega arith
+
+pub times_push : (s slot : ℕ) (xs : List ℕ) → times_in s (xs ++ slot ∷ []) ≡ times_in s xs + one_for s slot
+times_push s slot xs = let a = times_append s xs (slot ∷ []) in omega arith
+
+pub length_leaves : (slot : ℕ) (old new : List ℕ) → Leaves slot old new → length old ≡ length new + 1
+length_leaves slot old new e =
+    let o : length old ≡ length (e.0 ++ slot ∷ e.1) = ap length e.2 in
+    let n : length new ≡ length (e.0 ++ e.1) = ap length e.3 in
+    let a = length-append e.0 (slot ∷ e.1) in
+    let b = length-append e.0 e.1 in
+    omega arith
+
+pub length_pushed : (slot : ℕ) (xs : List ℕ) → length (xs ++ slot ∷ []) ≡ length xs + 1
+length_pushed slot xs = length-append xs (slot ∷ [])
+
+-- what is nowhere in a list is none of its elements
+not_at : (slot : ℕ) (xs : List ℕ) (k d : ℕ) → times_in slot xs ≡ 0 → k < length xs → get_or xs k d ≢ slot
+not_at slot [] k d none l e = absurd (omega arith)
+not_at slot (x ∷ xs) zero d none l e = let one : one_for slot x ≡ 1 = one_same slot x e in absurd (omega arith)
+not_at slot (x ∷ xs) (suc k) d none l e = not_at slot xs k d (omega arith) (omega arith) e
+
+pub all_else : (P Q : ℕ → Type 0) (slot : ℕ) (xs : List ℕ) → times_in slot xs ≡ 0 → ((s : ℕ) → s ≢ slot → P s → Q s) → All P xs → All Q xs
+all_else P Q slot xs none to all k d l = to (get_or xs k d) (not_at slot xs k d none l) (all k d l)
+
+pub all_to : (P Q : ℕ → Type 0) (xs : List ℕ) → ((s : ℕ) → P s → Q s) → All P xs → All Q xs
+all_to P Q xs to all k d l = to (get_or xs k d) (all k d l)
+
+pub at_contained : (P : ℕ → Type 0) (slot : ℕ) (xs : List ℕ) → Contains xs slot → All P xs → P slot
+at_contained P slot xs c all = subst P c.2 (all c.0 slot c.1)

@@ -35,8 +35,8 @@ pub record IsSized (k : TableShape) : Type 0 where
 abbrev pub IsKnown : View → Type 0
 IsKnown v = IsLawful v.shape v.seen × (moves_of v.me v.seen ≡ v.mine)
 
--- The holder's list became this one. It saw a lawful history, which goes on from what it saw before and in which its own
--- part is that list.
+-- The holder's list became this one. It saw a lawful history, which goes on from what it saw before and in which its
+-- own part is that list.
 abbrev pub Went : View → List Move → View → Type 0
 Went v ms w =
     (before : List (ℕ × Move))

@@ -1,5 +1,5 @@
 -- What clauses see of the writer, and what it keeps of its slots.
-use Rattle.std.specs.Prelude.{◌≡◌, ◌≢◌, ℕ, zero, suc, ◌+◌, ◌^◌, ◌%◌, ◌<◌, ◌≤◌, ◌==◌, List, [], ◌∷◌, ◌++◌, All, Option, Some, length, slice_index, if◌then◌else◌}
+use Rattle.std.specs.Prelude.{◌≡◌, ◌≢◌, ℕ, zero, suc, ◌+◌, ◌^◌, ◌%◌, ◌<◌, ◌≤◌, ◌==◌, List, [], ◌∷◌, ◌++◌, All, Some, length, slice_index, if◌then◌else◌}
 use Rattle.table_rule.specs.declared.view.Move.{Move}
 use Rattle.table_rule.specs.declared.view.Move.TheVariants.{Store, Header, Scan}
 use Rattle.table_rule.specs.declared.view.View.{View}
@@ -43,6 +43,21 @@ Fills slot from bytes zero ms = ms ≡ []
 Fills slot from bytes (suc n) ms =
     (x : ℕ) × (rest : List Move) × (ms ≡ Store slot (from + n) x ∷ rest)
     × (key_word bytes n ≡ Some x) × Fills slot from bytes n rest
+
+-- The writer stored the words of the key and of the value in the slot, which was not linked, and then changed its
+-- header.
+abbrev pub Links : ℕ → List ℕ → List ℕ → WriterView → WriterView → Type 0
+Links slot key value v w =
+    (ks vs : List Move) × Fills slot 0 key v.table.shape.key_words ks
+    × Fills slot v.table.shape.key_words value v.table.shape.value_words vs
+    × (header_in slot v.view.mine % 2 ≡ 0)
+    × Works v (Header slot (header_in slot v.view.mine + 1) ∷ (vs ++ ks)) w
+
+-- The writer changed the header of the slot, which was linked, and did no more.
+abbrev pub Unlinks : ℕ → WriterView → WriterView → Type 0
+Unlinks slot v w =
+    (header_in slot v.view.mine % 2 ≡ 1)
+    × Works v (Header slot (header_in slot v.view.mine + 1) ∷ []) w
 
 -- the first n readers were seen outside a section, one after another
 abbrev pub scans_outside : ℕ → List Move

@@ -12,6 +12,7 @@ mod setup;
 mod table;
 mod words;
 mod writer;
+mod writing;
 
 pub use limits::{MAX_READERS, MAX_TABLE_BYTES, MAX_TABLE_SLOTS, WORD_BYTES};
 pub use seats::Seats;

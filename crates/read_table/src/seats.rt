@@ -3,9 +3,9 @@ ghost use Rattle.std.specs.Prelude.{◌≡◌, length};
 
 use crate::table::ReadSeat;
 use std::marker::Model;
-use std::slice::IterMut;
 
-/// A seat for each reader. Contracts see what each did and saw, in order.
+/// A seat for each reader. Contracts see what each did and saw, in order. `list.first_mut()` lends one,
+/// `list.as_mut_slice()` all, as to threads, and a pool takes `&mut list`.
 #[derive(Drop)]
 pub struct Seats {
     pub list: Vec<ReadSeat>,
@@ -26,20 +26,5 @@ impl Seats {
         ensures { result ≡ length self.now }
     {
         self.list.len()
-    }
-
-    /// Lends the seats, one after another.
-    pub fn iter_mut(&mut self) -> IterMut<'_, ReadSeat> {
-        self.list.iter_mut()
-    }
-
-    /// Lends the seats, all at once.
-    pub fn as_mut_slice(&mut self) -> &mut [ReadSeat] {
-        self.list.as_mut_slice()
-    }
-
-    /// Lends the first seat, if there is one.
-    pub fn first_mut(&mut self) -> Option<&mut ReadSeat> {
-        self.list.first_mut()
     }
 }

@@ -1,15 +1,16 @@
 //! The table, and a reader's seat at it.
 ghost use Rattle.std.specs.Prelude.{◌≡◌, ℕ, ◌+◌, ◌-◌, ◌*◌, ◌<◌, ◌≤◌, ◌%◌, ◌↔◌, [], ◌∷◌, length, slice_index, IsTrue, IfOk, true, false};
-ghost use Rattle.table_rule.specs.declared.view.Move.TheVariants.{Open, Close, Learn, Load, Store};
-ghost use Rattle.table_rule.specs.History.{inside, IsLearnt};
+ghost use Rattle.table_rule.specs.declared.view.Move.TheVariants.{Open, Close, Learn, Load, Store, Header, Scan};
+ghost use Rattle.table_rule.specs.History.{inside, IsLearnt, header_in, MayLink};
 ghost use Rattle.table_rule.specs.Law.{count_of, base_of, width_of, writer_after};
-ghost use Rattle.read_table.specs.Held.{IsSized, IsReady, IsNew, Does, IsUnchanged};
+ghost use Rattle.read_table.specs.Held.{IsSized, IsReady, IsNew, Does, Went, IsUnchanged};
 
 use atomic_table::{Seat, Table};
 use std::alloc::{AllocError, Global};
 use std::marker::Model;
 use table_rule::{
-    Closes, Deals, Law, Learns, Loads, Opens, SECTION_STRIDE, Stores, TableShape, View,
+    Changes, Closes, Deals, Law, Learns, Loads, Opens, SECTION_STRIDE, Scans, Stores, TableShape,
+    View,
 };
 
 /// Words that readers and one writer share with no lock. Contracts see which table it is, and how many of each it has.
@@ -181,5 +182,53 @@ impl ReadTable {
             seat,
             section: reader * SECTION_STRIDE,
         }
+    }
+}
+
+/// The steps of the writer.
+impl ReadTable {
+    /// Writes the word at a place of a slot.
+    #[inline]
+    pub(crate) fn write(&self, seat: &mut Seat<u8, View>, slot: usize, place: usize, word: u64)
+        requires table { (seat.old.table_id ≡ self.now.id) × (seat.old.me.0.shape ≡ self.now.shape) }
+        requires writer { seat.old.me.0.me ≡ 0 }
+        requires slot { slot < self.now.shape.slots }
+        requires place { place < width_of self.now.shape }
+        ensures table { seat.new.table_id ≡ seat.old.table_id }
+        ensures held { seat.new.me.1 ≡ seat.old.me.1 }
+        ensures step { Went seat.old.me.0 (Store slot place word ∷ seat.old.me.0.mine) seat.new.me.0 }
+    {
+        let index = index_of(&self.shape, slot, place);
+        self.table.shared.store::<Stores>(seat, index, word);
+    }
+
+    /// Changes the header of a slot, by one. It becomes odd only where the slot may be linked.
+    #[inline]
+    pub(crate) fn set_header(&self, seat: &mut Seat<u8, View>, slot: usize, header: u64)
+        requires table { (seat.old.table_id ≡ self.now.id) × (seat.old.me.0.shape ≡ self.now.shape) }
+        requires writer { seat.old.me.0.me ≡ 0 }
+        requires slot { slot < self.now.shape.slots }
+        requires header { header ≡ header_in slot seat.old.me.0.mine + 1 }
+        requires reuse { header % 2 ≡ 1 → MayLink self.now.shape.readers slot seat.old.me.0.mine }
+        ensures table { seat.new.table_id ≡ seat.old.table_id }
+        ensures held { seat.new.me.1 ≡ seat.old.me.1 }
+        ensures step { Went seat.old.me.0 (Header slot header ∷ seat.old.me.0.mine) seat.new.me.0 }
+    {
+        let index = self.shape.readers * SECTION_STRIDE + slot;
+        self.table.shared.store::<Changes>(seat, index, header);
+    }
+
+    /// Whether a reader is inside a section: 1 for inside, 0 for outside.
+    #[inline]
+    pub(crate) fn scan(&self, seat: &mut Seat<u8, View>, reader: usize) -> u64
+        requires table { (seat.old.table_id ≡ self.now.id) × (seat.old.me.0.shape ≡ self.now.shape) }
+        requires writer { seat.old.me.0.me ≡ 0 }
+        requires reader { reader < self.now.shape.readers }
+        ensures table { seat.new.table_id ≡ seat.old.table_id }
+        ensures held { seat.new.me.1 ≡ seat.old.me.1 }
+        ensures step { Went seat.old.me.0 (Scan (reader + 1) result ∷ seat.old.me.0.mine) seat.new.me.0 }
+    {
+        let shared = &self.table.shared;
+        shared.load::<Scans>(seat, reader * SECTION_STRIDE)
     }
 }

@@ -1,14 +1,23 @@
 //! The writer of a table.
-ghost use Rattle.std.specs.Prelude.{◌≡◌, ℕ, ◌≤◌, [], vec_capacity, IfOk};
-ghost use Rattle.std.specs.List.{range_with_len};
+ghost use Rattle.std.specs.Prelude.{◌≡◌, ℕ, ◌+◌, ◌*◌, ◌^◌, ◌%◌, ◌<◌, ◌≤◌, ◌↔◌, ◌⊎◌, [], ◌∷◌, ◌++◌, length, vec_capacity, true, false, All, IsNone, IfNone, IfSome, IfOk};
+ghost use Rattle.std.specs.List.{range_with_len, Contains};
+ghost use Rattle.table_rule.specs.History.{header_in, MayLink};
+ghost use Rattle.read_table.specs.declared.limits.TheConstants.{WORD_BYTES};
+ghost use Rattle.read_table.specs.Slots.{Links, Unlinks, Leaves, Works, SawInside, AreSlots, scans_outside};
 ghost use Rattle.table_rule.specs.declared.view.TableShape.{TableShape};
 ghost use Rattle.table_rule.specs.Law.{writer_after};
 
 use crate::setup::zeros;
+use crate::table::ReadTable;
+use crate::words::home_of;
+use crate::writing::{all_outside, change, take_nearest, take_out, write_slot};
 use atomic_table::Seat;
 use std::alloc::{AllocError, Global};
 use std::marker::Model;
 use table_rule::View;
+
+/// The header of a slot that was linked and unlinked 2^62 times. It is never linked again.
+const LAST_HEADER: u64 = 1 << 63;
 
 /// Links slots under keys, unlinks them and reclaims them. Contracts see at which table, what it did and saw there, and
 /// its slots in three lists: those that it may link, those that are linked, and those that it has unlinked and not yet
@@ -56,6 +65,81 @@ fn numbers(alloc: Global, count: usize) -> Result<Vec<usize>, AllocError>
 }
 
 impl Writer {
+    /// Links a free slot under a key, with a value: the one nearest at or behind the slot where a search for the key
+    /// begins. `None` where no slot is free. Keys are not compared: a key that is linked twice is found at either slot.
+    pub fn link(&mut self, table: &ReadTable, key: &[u8], value: &[u8]) -> Option<usize>
+        requires table { self.old.table ≡ table.now }
+        requires key { length key.now ≡ WORD_BYTES * table.now.shape.key_words }
+        requires value { length value.now ≡ WORD_BYTES * table.now.shape.value_words }
+        ensures table { self.new.table ≡ self.old.table }
+        ensures none { IsNone result ↔ (self.old.free ≡ []) }
+        ensures unchanged { IfNone result (self.new ≡ self.old) }
+        ensures slot { IfSome result (λ slot. slot < table.now.shape.slots) }
+        ensures free { IfSome result (λ slot. Leaves slot self.old.free self.new.free) }
+        ensures linked { IfSome result (λ slot. self.new.linked ≡ self.old.linked ++ slot ∷ []) }
+        ensures unlinked { self.new.unlinked ≡ self.old.unlinked }
+        ensures reuse { IfSome result (λ slot.
+            MayLink table.now.shape.readers slot self.old.view.mine) }
+        ensures steps { IfSome result (λ slot. Links slot key.now value.now self.old self.new) }
+    {
+        if self.free.is_empty() {
+            return None;
+        }
+        let shape = table.shape();
+        let home = home_of(key, shape.key_words, shape.slots);
+        let slot = take_nearest(&mut self.free, home, shape.slots);
+        write_slot(table, &mut self.seat, slot, key, value);
+        change(table, &mut self.seat, &mut self.headers, slot);
+        self.linked.push_reserved(slot);
+        Some(slot)
+    }
+
+    /// Unlinks a slot. Readers that learnt it before may use it until they end their section.
+    pub fn unlink(&mut self, table: &ReadTable, slot: usize)
+        requires table { self.old.table ≡ table.now }
+        requires linked { Contains self.old.linked slot }
+        ensures table { self.new.table ≡ self.old.table }
+        ensures free { self.new.free ≡ self.old.free }
+        ensures linked { Leaves slot self.old.linked self.new.linked }
+        ensures unlinked { self.new.unlinked ≡ self.old.unlinked ++ slot ∷ [] }
+        ensures step { Unlinks slot self.old self.new }
+    {
+        take_out(&mut self.linked, slot);
+        change(table, &mut self.seat, &mut self.headers, slot);
+        self.unlinked.push_reserved(slot);
+    }
+
+    /// Makes an unlinked slot free, if each reader is seen outside a section, and tells whether it did. A slot that was
+    /// linked 2^62 times stays unlinked.
+    pub fn try_reclaim(&mut self, table: &ReadTable, slot: usize) -> bool
+        requires table { self.old.table ≡ table.now }
+        requires unlinked { Contains self.old.unlinked slot }
+        ensures table { self.new.table ≡ self.old.table }
+        ensures free { result ≡ true → self.new.free ≡ self.old.free ++ slot ∷ [] }
+        ensures unlinked { result ≡ true → Leaves slot self.old.unlinked self.new.unlinked }
+        ensures scanned { result ≡ true →
+            Works self.old (scans_outside table.now.shape.readers) self.new }
+        ensures linked { self.new.linked ≡ self.old.linked }
+        ensures kept { result ≡ false →
+            (self.new.free ≡ self.old.free) × (self.new.unlinked ≡ self.old.unlinked) }
+        ensures waits { result ≡ false → SawInside table.now.shape.readers self.old self.new
+            ⊎ ((header_in slot self.old.view.mine ≡ 2 ^ 63) × (self.new ≡ self.old)) }
+    {
+        if self.headers[slot] >= LAST_HEADER || !all_outside(table, &mut self.seat) {
+            return false;
+        }
+        take_out(&mut self.unlinked, slot);
+        self.free.push_reserved(slot);
+        true
+    }
+
+    /// A law: each slot stands in one of the three lists, once, in that where it belongs.
+    pub fn each_slot_once(&self)
+        ensures { AreSlots self.now.view self.now.free self.now.linked self.now.unlinked }
+    {
+        let _ = &self.free;
+    }
+
     /// The writer of a table on which nothing was done.
     pub(crate) fn begin(
         alloc: Global,

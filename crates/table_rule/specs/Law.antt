@@ -33,7 +33,8 @@ abbrev pub Later : List (ℕ × Move) → List (ℕ × Move) → Type 0
 Later new old = (between : List (ℕ × Move)) × (new ≡ between ++ old)
 
 -- what the rule says of the view of the seat j: its list is its part of the history, and it saw an earlier part of it
-pub record Fits (k : TableShape) (log : List (ℕ × Move)) (next : ℕ) (seat_of : ℕ → ℕ) (j : ℕ) (v : View) : Type 0 where
+pub record Fits (k : TableShape) (log : List (ℕ × Move)) (next : ℕ) (seat_of : ℕ → ℕ) (j : ℕ)
+    (v : View) : Type 0 where
   pub shape : v.shape ≡ k
   pub seat : seat_of v.me ≡ j
   pub known : v.me < next
@@ -47,8 +48,10 @@ pub record Kept (k : TableShape) (s : State ℕ View) : Type 0 where
   pub next : ℕ
   pub seat_of : ℕ → ℕ
   pub wide : length s.words ≡ count_of k
-  pub headers : (slot : ℕ) → slot < k.slots → slice_index s.words (headers_from k + slot) ≡ header_in slot (moves_of 0 log)
-  pub sections : (r : ℕ) → r < k.readers → slice_index s.words (r * SECTION_STRIDE) ≡ inside (moves_of (r + 1) log)
+  pub headers : (slot : ℕ) → slot < k.slots →
+      slice_index s.words (headers_from k + slot) ≡ header_in slot (moves_of 0 log)
+  pub sections : (r : ℕ) → r < k.readers →
+      slice_index s.words (r * SECTION_STRIDE) ≡ inside (moves_of (r + 1) log)
   pub lawful : IsLawful k log
   pub fresh : (who : ℕ) → next ≤ who → moves_of who log ≡ []
   pub each_seat : (j : ℕ) (v : View) → get_elem? s.views j ≡ some v → Fits k log next seat_of j v
@@ -71,34 +74,54 @@ reader_of v = record { shape = v.shape; me = v.next; next = 0; mine = []; seen =
 
 -- the holder after its next step, with what others did between
 abbrev pub did : View → Move → List (ℕ × Move) → View
-did v m between = record { shape = v.shape; me = v.me; next = v.next; mine = m ∷ v.mine; seen = (v.me, m) ∷ (between ++ v.seen) }
+did v m between = record {
+  shape = v.shape;
+  me = v.me;
+  next = v.next;
+  mine = m ∷ v.mine;
+  seen = (v.me, m) ∷ (between ++ v.seen);
+}
 
 -- The holder did just this. It saw a lawful history, which goes on from what it saw before and in which its own part is
 -- what it did.
 abbrev pub Gains : View → Move → View → Type 0
-Gains v m w = (between : List (ℕ × Move)) × (w ≡ did v m between) × IsLawful v.shape w.seen × (moves_of v.me w.seen ≡ w.mine)
+Gains v m w =
+    (between : List (ℕ × Move)) × (w ≡ did v m between) × IsLawful v.shape w.seen
+    × (moves_of v.me w.seen ≡ w.mine)
 
--- What each kind of step tells: of the step, the seat before, the word that was found, and the seat after.
+-- a seat as a step sees it. What each kind of step tells is a fact of the step, the seat before, the word that was
+-- found, and the seat after:
 abbrev Sat : Type 0
 Sat = Me ℕ View
 
+-- a reader began a section
 abbrev pub opens : Step ℕ → Sat → ℕ → Sat → Type 0
 opens st m n m' = Gains m.0 Open m'.0 × (m'.1 ≡ m.1)
 
+-- a reader ended its section
 abbrev pub closes : Step ℕ → Sat → ℕ → Sat → Type 0
 closes st m n m' = Gains m.0 Close m'.0 × (m'.1 ≡ m.1)
 
+-- a reader found the header of a slot
 abbrev pub learns : Step ℕ → Sat → ℕ → Sat → Type 0
 learns st m n m' = Gains m.0 (Learn (st.word - headers_from m.0.shape) n) m'.0 × (m'.1 ≡ m.1)
 
+-- a reader found a word of a slot
 abbrev pub loads : Step ℕ → Sat → ℕ → Sat → Type 0
-loads st m n m' = let at = st.word - base_of m.0.shape in Gains m.0 (Load (at / width_of m.0.shape) (at % width_of m.0.shape) n) m'.0 × (m'.1 ≡ m.1)
+loads st m n m' =
+    let at = st.word - base_of m.0.shape in
+    Gains m.0 (Load (at / width_of m.0.shape) (at % width_of m.0.shape) n) m'.0 × (m'.1 ≡ m.1)
 
+-- a holder wrote a word of a slot
 abbrev pub stores : Step ℕ → Sat → ℕ → Sat → Type 0
-stores st m n m' = let at = st.word - base_of m.0.shape in Gains m.0 (Store (at / width_of m.0.shape) (at % width_of m.0.shape) st.first) m'.0 × (m'.1 ≡ m.1)
+stores st m n m' =
+    let at = st.word - base_of m.0.shape in
+    Gains m.0 (Store (at / width_of m.0.shape) (at % width_of m.0.shape) st.first) m'.0 × (m'.1 ≡ m.1)
 
+-- the writer changed the header of a slot
 abbrev pub changes : Step ℕ → Sat → ℕ → Sat → Type 0
 changes st m n m' = Gains m.0 (Header (st.word - headers_from m.0.shape) st.first) m'.0 × (m'.1 ≡ m.1)
 
+-- the writer found the section word of a reader
 abbrev pub scans : Step ℕ → Sat → ℕ → Sat → Type 0
 scans st m n m' = Gains m.0 (Scan (st.word / SECTION_STRIDE + 1) n) m'.0 × (m'.1 ≡ m.1)

@@ -1,5 +1,4 @@
-use Rattle.std.proofs.Common.{rules, ◌≡◌, ◌≢◌, ℕ, ◌%◌, ◌++◌, [], ◌∷◌, true, false, IsTrue, refl, inl, arith, Bool, subst, sym}
-use Rattle.std.specs.Prelude.{MatchBool}
+use Rattle.std.proofs.Common.{rules, ◌≢◌, ◌%◌, ◌++◌, [], ◌∷◌, true, false, IsTrue, arith}
 use Rattle.table_rule.specs.declared.view.Move.TheVariants.{Learn}
 use Rattle.read_table.proofs.Going.{goes_then}
 use Rattle.read_table.proofs.Lookups.{only_append, has_matched, not_linked}

@@ -1,8 +1,6 @@
-use Rattle.std.proofs.Common.{rules, ◌≡◌, ℕ, ◌+◌, ◌*◌, ◌<◌, [], ◌∷◌, refl, sym, ap, ◌∙◌, subst}
-use Rattle.table_rule.specs.declared.view.TableShape.{TableShape}
-use Rattle.table_rule.specs.declared.view.Move.TheVariants.{Open, Close, Learn, Load, Store}
-use Rattle.table_rule.specs.History.{inside, IsLearnt}
-use Rattle.table_rule.specs.Law.{base_of, width_of}
+use Rattle.std.proofs.Common.{rules, ◌≡◌, ◌<◌, refl, sym, ap, ◌∙◌, subst}
+use Rattle.table_rule.specs.declared.view.Move.TheVariants.{Learn}
+use Rattle.table_rule.specs.History.{inside}
 use Rattle.read_table.specs.Held.{TableView, Holder}
 use Rattle.read_table.proofs.Calls.{does, learns_at, header_slot, header_within}
 use Rattle.read_table.proofs.table.ReadTable.learn.Goals as goal

@@ -1,8 +1,5 @@
-use Rattle.std.proofs.Common.{rules, ◌≡◌, ℕ, ◌+◌, ◌*◌, ◌<◌, [], ◌∷◌, refl, sym, ap, ◌∙◌, subst}
-use Rattle.table_rule.specs.declared.view.TableShape.{TableShape}
-use Rattle.table_rule.specs.declared.view.Move.TheVariants.{Open, Close, Learn, Load, Store}
-use Rattle.table_rule.specs.History.{inside, IsLearnt}
-use Rattle.table_rule.specs.Law.{base_of, width_of}
+use Rattle.std.proofs.Common.{refl, sym, ap, ◌∙◌}
+use Rattle.table_rule.specs.declared.view.Move.TheVariants.{Open}
 use Rattle.read_table.specs.Held.{TableView, Holder}
 use Rattle.read_table.proofs.Calls.{does, section_within, opens_at}
 use Rattle.read_table.proofs.table.ReadTable.open.Goals as goal

@@ -1,4 +1,4 @@
-use Rattle.std.proofs.Common.{rules, ◌≡◌, ℕ, ◌+◌, ◌<◌, ◌≤◌, ◌++◌, List, [], ◌∷◌, arith, ◌∙◌}
+use Rattle.std.proofs.Common.{◌++◌, [], arith}
 use Rattle.read_table.proofs.Going.{goes_none, goes_then}
 use Rattle.read_table.proofs.Lookups.{searched_inside, only_append, found_front, more_refuted}
 use Rattle.read_table.proofs.table.ReadTable.search.Goals as goal

@@ -1,4 +1,4 @@
-use Rattle.std.proofs.Common.{◌≡◌, ℕ, ◌<◌, ◌≤◌, List}
+use Rattle.std.proofs.Common.{ℕ, ◌<◌, ◌≤◌, List}
 use Rattle.table_rule.specs.declared.view.Move.{Move}
 use Rattle.table_rule.specs.Lookups.{OnlySearches, Refuted}
 use Rattle.read_table.specs.Held.{Goes}

@@ -1,4 +1,4 @@
-use Rattle.std.proofs.Common.{◌≡◌, ◌++◌, subst, None}
+use Rattle.std.proofs.Common.{◌++◌, subst, None}
 use Rattle.table_rule.specs.declared.view.TableShape.{TableShape}
 use Rattle.read_table.specs.Search.{Searched}
 use Rattle.read_table.proofs.Going.{goes_then}

@@ -1,8 +1,7 @@
-use Rattle.std.proofs.Common.{rules, ◌≡◌, ℕ, ◌+◌, ◌*◌, ◌<◌, [], ◌∷◌, refl, sym, ap, ◌∙◌, subst}
+use Rattle.std.proofs.Common.{◌<◌, sym, ap, ◌∙◌, subst}
 use Rattle.table_rule.specs.declared.view.TableShape.{TableShape}
-use Rattle.table_rule.specs.declared.view.Move.TheVariants.{Open, Close, Learn, Load, Store}
-use Rattle.table_rule.specs.History.{inside, IsLearnt}
-use Rattle.table_rule.specs.Law.{base_of, width_of}
+use Rattle.table_rule.specs.History.{IsLearnt}
+use Rattle.table_rule.specs.Law.{width_of}
 use Rattle.read_table.specs.Held.{TableView, Holder}
 use Rattle.read_table.proofs.Calls.{IsAt, does, stores_at, store_move, store_unchanged}
 use Rattle.read_table.proofs.table.ReadTable.store.Goals as goal
