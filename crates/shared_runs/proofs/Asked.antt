@@ -64,7 +64,7 @@ use Rattle.table_rule.specs.History.{IsLearnt}
 use Rattle.table_rule.specs.Lookups.{AnswersLookup, OnlySearches}
 use Rattle.shared_runs.specs.Learnt.{learnt_element, learnt_elements}
 use Rattle.shared_runs.specs.Serving.{CanServe, GoesOnWith, LeadsToWord}
-use Rattle.shared_runs.specs.Sharing.{IsSharing, flag_of}
+use Rattle.shared_runs.specs.Sharing.{GoesFurther, IsSharing, flag_of}
 use Rattle.shared_runs.specs.Words.{ChangesMap, IsElementRegion, IsOtherWidth, access_width}
 use Rattle.shared_runs.proofs.Learning.{Reached, also, enter-learnt, hit-learnt, learnt-guarded, leave-learnt, load-learnt, miss-learnt, none, store-learnt}
 use Rattle.shared_runs.proofs.Steps.{Known, aligned, asking, known, listed, listed-shapes, onward, ready, served-step, shown, so, some, steps, waited}
@@ -172,7 +172,7 @@ module _ (k : TableShape) (c : Checked) (context : List ℕ) (ms : List Move) (v
         }
 
     -- The run goes on from a load.
-    load-goes : (n : ℕ) (o : ℤ) (width y : ℕ) → y < 2 ^ 64 → Asks (LoadElement n o width) → Reached c.shapes n o width → (w : WordOf k ms x.learnt n o width) → IsSharing k c context (moves_by.Load (region_of n) (k.key_words + w.place) y ∷ ms) (resumed_view i y v)
+    load-goes : (n : ℕ) (o : ℤ) (width y : ℕ) → y < 2 ^ 64 → Asks (LoadElement n o width) → Reached c.shapes n o width → (w : WordOf k ms x.learnt n o width) → GoesFurther k c context (moves_by.Load (region_of n) (k.key_words + w.place) y ∷ ms) v (resumed_view i y v)
     load-goes n o width y small e r w =
         let next = moves_run run (resumed i (Number y) run.state) in
         let low : y < 256 ^ width = subst (λ z. y < 256 ^ z) (sym w.wide) small in
@@ -182,7 +182,7 @@ module _ (k : TableShape) (c : Checked) (context : List ℕ) (ms : List Move) (v
         (served-step k c context ms v x i (LoadElement n o width) here e (moves_by.Load (region_of n) (k.key_words + w.place) y ∷ []) (Number y) next (w.place, y, w.wide, w.offset, w.within, w.slot, w.learnt_here, small, refl, refl) refl)
         x.known (x.section ∙ ap flag_of (shown k c context ms v x).words.depth)
 
-    store-goes : (n : ℕ) (o : ℤ) (width y word : ℕ) → Asks (StoreElement n o width y) → Reached c.shapes n o width → (w : WordOf k ms x.learnt n o width) → IsSharing k c context (moves_by.Store (region_of n) (k.key_words + w.place) y ∷ ms) (resumed_view i word v)
+    store-goes : (n : ℕ) (o : ℤ) (width y word : ℕ) → Asks (StoreElement n o width y) → Reached c.shapes n o width → (w : WordOf k ms x.learnt n o width) → GoesFurther k c context (moves_by.Store (region_of n) (k.key_words + w.place) y ∷ ms) v (resumed_view i word v)
     store-goes n o width y word e r w =
         let next = moves_run run (resumed i Nothing run.state) in
         onward k c context ms v x (moves_by.Store (region_of n) (k.key_words + w.place) y ∷ ms) next (resumed_view i word v) x.learnt
@@ -195,8 +195,8 @@ module _ (k : TableShape) (c : Checked) (context : List ℕ) (ms : List Move) (v
     at-place : (u : RunView) → (v.place ≡ u.place) → (insn : Insn) → insn_at c.program v.place ≡ Some insn → i ≡ insn
     at-place u e insn there = same_Some i insn (sym here ∙ (ap (insn_at c.program) (sym (shown k c context ms v x).words.place) ∙ there))
 
-    goes-at : (ns : List Move) (word : ℕ) → IsSharing k c context ns (resumed_view i word v) → GoesOnWith k c context ns v word
-    goes-at ns word h = λ insn there. subst (λ (j : Insn). IsSharing k c context ns (resumed_view j word v)) (at-place v refl insn there) h
+    goes-at : (ns : List Move) (word : ℕ) → GoesFurther k c context ns v (resumed_view i word v) → GoesOnWith k c context ns v word
+    goes-at ns word h = λ insn there. subst (λ (j : Insn). GoesFurther k c context ns v (resumed_view j word v)) (at-place v refl insn there) h
 
     -- where an address leads
     leads : (n : ℕ) (o offset : ℤ) (width : Width) (address : ℕ) → WordIs region_bases (Pointer (references.Elem n o)) address → WordOf k ms x.learnt n (o +ℤ offset) (byte_count width) → LeadsToWord k ms address offset width
@@ -252,7 +252,7 @@ module _ (k : TableShape) (c : Checked) (context : List ℕ) (ms : List Move) (v
       pub bound : slice_get run.program.maps map ≡ Some map
       pub long : length key ≡ key_length (slice_get c.shapes map)
 
-    missed : (map : ℕ) (key : List ℕ) → Finds map key → (ns : List Move) → OnlySearches k ns → AnswersLookup k key ns None → IsSharing k c context (ns ++ ms) (resumed_view i 0 v)
+    missed : (map : ℕ) (key : List ℕ) → Finds map key → (ns : List Move) → OnlySearches k ns → AnswersLookup k key ns None → GoesFurther k c context (ns ++ ms) v (resumed_view i 0 v)
     missed map key f ns searches answers =
         let next = moves_run run (resumed i (Number 0) run.state) in
         onward k c context ms v x (ns ++ ms) next (resumed_view i 0 v) x.learnt
@@ -262,7 +262,7 @@ module _ (k : TableShape) (c : Checked) (context : List ℕ) (ms : List Move) (v
         (λ slot e. ((x.known slot e).0, learnt-before k slot ns ms searches (x.known slot e).1))
         (inside-same k ns ms searches ∙ (x.section ∙ ap flag_of (shown k c context ms v x).words.depth))
 
-    hit : (map slot : ℕ) (key : List ℕ) → Finds map key → (ns : List Move) → OnlySearches k ns → AnswersLookup k key ns (Some slot) → IsSharing k c context (ns ++ ms) (resumed_view i (slot_base 0 slot) v)
+    hit : (map slot : ℕ) (key : List ℕ) → Finds map key → (ns : List Move) → OnlySearches k ns → AnswersLookup k key ns (Some slot) → GoesFurther k c context (ns ++ ms) v (resumed_view i (slot_base 0 slot) v)
     hit map slot key f ns searches answers =
         let reply : Value = Pointer (references.Elem (element_number map slot) (pos 0)) in
         let next = moves_run run (resumed i reply run.state) in
@@ -282,7 +282,7 @@ module _ (k : TableShape) (c : Checked) (context : List ℕ) (ms : List Move) (v
         ])
         (inside-same k ns ms searches ∙ (x.section ∙ ap flag_of (shown k c context ms v x).words.depth))
 
-    found : (map : ℕ) (key : List ℕ) → Finds map key → (ns : List Move) (o : Option ℕ) → OnlySearches k ns → AnswersLookup k key ns o → IsSharing k c context (ns ++ ms) (resumed_view i (found_word 0 o) v)
+    found : (map : ℕ) (key : List ℕ) → Finds map key → (ns : List Move) (o : Option ℕ) → OnlySearches k ns → AnswersLookup k key ns o → GoesFurther k c context (ns ++ ms) v (resumed_view i (found_word 0 o) v)
     found map key f ns None searches answers = missed map key f ns searches answers
     found map key f ns (Some slot) searches answers = hit map slot key f ns searches answers
 

@@ -1,5 +1,5 @@
 -- Each step of the words of a shared run is a step of the run.
-use Rattle.std.proofs.Common.{◌≡◌, ℕ, suc, ◌+◌, ◌%◌, ◌<◌, inl, inr, refl, sym, ap, subst, ◌∙◌, arith, List, [], ◌++◌, length, Option, Some, Bool, true, ℤ}
+use Rattle.std.proofs.Common.{◌≡◌, ℕ, suc, ◌+◌, ◌%◌, ◌<◌, ◌≤◌, inl, inr, refl, sym, ap, subst, ◌∙◌, arith, List, [], ◌++◌, length, Option, Some, Bool, true, ℤ}
 use Rattle.std.specs.Prelude.{slice_get, pos, negsuc, ◌==◌, ◌&&◌, nat_le}
 use Rattle.std.specs.List.{range_with_len}
 use Rattle.std.proofs.Math.Path.{fun_ext}
@@ -21,6 +21,7 @@ use Rattle.bpf_model.specs.View.{RunView}
 use Rattle.bpf_model.proofs.Lists.{get-below, get-map}
 use Rattle.typed_runs.specs.Verified.{IsClosed, IsVerified, Plan}
 use Rattle.world_laws.specs.Local as laws
+use Rattle.world_laws.specs.Moving.{ended_view}
 use Rattle.world_laws.proofs.Codes.{all-get}
 use Rattle.standing_laws.specs.Around.{store_of}
 use Rattle.standing_laws.specs.Described.{IsShownBy}
@@ -40,7 +41,7 @@ use Rattle.machine.proofs.Turning.{Acts, AsksFor, Turn, acts-alone, goes-on as g
 use Rattle.table_rule.specs.declared.view.Move.{Move}
 use Rattle.table_rule.specs.declared.view.TableShape.{TableShape}
 use Rattle.table_rule.specs.History.{IsLearnt, inside}
-use Rattle.shared_runs.specs.Sharing.{IsSharing, flag_of}
+use Rattle.shared_runs.specs.Sharing.{ExitsShared, GoesFurther, IsSharing, flag_of}
 use Rattle.shared_runs.specs.SharedRuns.{Comes, IsSharedRun, Replies, itself, shared}
 use Rattle.shared_runs.specs.Words.{loaded_of}
 use Rattle.shared_runs.proofs.Learning.{Planned, alone-learnt}
@@ -72,9 +73,9 @@ went (laws.Goes u) asked view new h = ap laws.Goes (sym h.1)
 went (laws.Ends n) asked view new h = let e : locals.Moved ≡ locals.Exit n = h.0 in absurd (cc)
 went laws.Asks asked view new h = let e : locals.Moved ≡ locals.Shared h.0 = h.2 in absurd (cc)
 
-ended : (l : laws.LocalStep) (asked : Option Request) (view new : RunView) (n : ℕ) → IsLocalStep l asked view (locals.Exit n) new → l ≡ laws.Ends n
+ended : (l : laws.LocalStep) (asked : Option Request) (view new : RunView) (n : ℕ) → IsLocalStep l asked view (locals.Exit n) new → (l ≡ laws.Ends n) × (new ≡ ended_view n view)
 ended (laws.Goes u) asked view new n h = let e : locals.Exit n ≡ locals.Moved = h.0 in absurd (cc)
-ended (laws.Ends m) asked view new n h = let e : locals.Exit n ≡ locals.Exit m = h.0 in let same : m ≡ n = cc in ap laws.Ends same
+ended (laws.Ends m) asked view new n h = let e : locals.Exit n ≡ locals.Exit m = h.0 in let same : m ≡ n = cc in (ap laws.Ends same, h.1 ∙ ap (λ (k : ℕ). ended_view k view) same)
 ended laws.Asks asked view new n h = let e : locals.Exit n ≡ locals.Shared h.0 = h.2 in absurd (cc)
 
 pub waited : (l : laws.LocalStep) (asked : Option Request) (view new : RunView) (request : Request) → IsLocalStep l asked view (locals.Shared request) new → (l ≡ laws.Asks) × (asked ≡ Some request) × (new ≡ view)
@@ -161,33 +162,36 @@ module _ (k : TableShape) (c : Checked) (context : List ℕ) (ms : List Move) (v
   -- the run and its words go on
   pub onward : (ns : List Move) (next : Run) (u : RunView) (later : ℕ → Bool) → ((plan : Plan) → IsClosed c.program c.shapes c.ctx_len plan → Shows plan next u) → next.program ≡ run.program → next.moved ≡ run.moved + 1
       → NextPlanned later next → Comes k c.shapes (fresh_run 0 (loaded_of c) context) ns (suc v.moved) next
-      → ((slot : ℕ) → later slot ≡ true → (slot < k.slots) × IsLearnt slot ns) → inside ns ≡ flag_of next.depth → IsSharing k c context ns u
+      → ((slot : ℕ) → later slot ≡ true → (slot < k.slots) × IsLearnt slot ns) → inside ns ≡ flag_of next.depth → GoesFurther k c context ns v u
   onward ns next u later all program counts planned came known_later at_depth =
       let w = all some.plan some.closed in
       let old_moved : v.moved ≡ run.moved = shown.words.moved in
       let new_moved : u.moved ≡ next.moved = w.words.moved in
       let moved : suc v.moved ≡ u.moved = omega (arith, counts, old_moved, new_moved) in
       record {
-        justified = x.justified;
-        fits = x.fits;
-        few = x.few;
-        words = x.words;
-        run = next;
-        program = program ∙ x.program;
-        shown = all;
-        learnt = later;
-        known = known_later;
-        index = planned.0;
-        planned = planned.1;
-        came = subst (λ (n : ℕ). Comes k c.shapes (fresh_run 0 (loaded_of c) context) ns n next) moved came;
-        section = at_depth ∙ ap flag_of (sym w.words.depth);
+        sharing = record {
+          justified = x.justified;
+          fits = x.fits;
+          few = x.few;
+          words = x.words;
+          run = next;
+          program = program ∙ x.program;
+          shown = all;
+          learnt = later;
+          known = known_later;
+          index = planned.0;
+          planned = planned.1;
+          came = subst (λ (n : ℕ). Comes k c.shapes (fresh_run 0 (loaded_of c) context) ns n next) moved came;
+          section = at_depth ∙ ap flag_of (sym w.words.depth);
+        };
+        counts = omega (arith, moved);
       }
 
   depth-is : v.depth ≡ run.depth
   depth-is = shown.words.depth
 
   -- it goes on by itself
-  moved-to : (i : Insn) (out : Outcome) (new : RunView) → Known i → after_insn i (environment run) run.state ≡ Some out → laws.local_of i v ≡ laws.Goes new → Doing out (laws.Goes new) → IsSharing k c context ms new
+  moved-to : (i : Insn) (out : Outcome) (new : RunView) → Known i → after_insn i (environment run) run.state ≡ Some out → laws.local_of i v ≡ laws.Goes new → Doing out (laws.Goes new) → GoesFurther k c context ms v new
   moved-to i (Moves next) new here e is d =
       onward ms (moves_run run next) new x.learnt
       (λ plan closed. goes-alone c.program c.shapes c.ctx_len plan (ready plan closed) c.shapes run v (x.shown plan closed) i next new here e is) refl refl
@@ -196,23 +200,19 @@ module _ (k : TableShape) (c : Checked) (context : List ℕ) (ms : List Move) (v
       x.known (x.section ∙ ap flag_of depth-is)
   moved-to i (Exits n) new here e is d = absurd d
 
-  moved-by : (i : Insn) (new : RunView) → Known i → laws.local_of i v ≡ laws.Goes new → Turns i → IsSharing k c context ms new
+  moved-by : (i : Insn) (new : RunView) → Known i → laws.local_of i v ≡ laws.Goes new → Turns i → GoesFurther k c context ms v new
   moved-by i new here is (Acts out e depth) = moved-to i out new here e is (subst (Doing out) is (acted i out here e))
   moved-by i new here is (AsksFor asked e) = absurd (goes-asks new (sym is ∙ (so some.plan some.closed i asked here e).local))
 
-  pub moves : (new : RunView) → ((insn : Insn) → insn_at c.program v.place ≡ Some insn → IsLocalStep (laws.local_of insn v) (request_of insn v) v locals.Moved new) → IsSharing k c context ms new
+  pub moves : (new : RunView) → ((insn : Insn) → insn_at c.program v.place ≡ Some insn → IsLocalStep (laws.local_of insn v) (request_of insn v) v locals.Moved new) → GoesFurther k c context ms v new
   moves new s =
       let here = known steps.insn steps.here in
       moved-by steps.insn new here (went (laws.local_of steps.insn v) (request_of steps.insn v) v new (s steps.insn steps.here)) (turned steps.insn here)
 
   -- it ends, outside every section
-  pub record Ended (n : ℕ) : Type 0 where
-    pub shared_run : IsSharedRun k c.shapes (loaded_of c) context ms (v.moved + 1) n
-    pub outside : inside ms ≡ 0
-
-  exited : (i : Insn) (n : ℕ) → Known i → after_insn i (environment run) run.state ≡ Some (Exits n) → run.depth ≡ 0 → Ended n
-  exited i n here e depth = record {
-    shared_run = record {
+  exited : (i : Insn) (n : ℕ) → Known i → after_insn i (environment run) run.state ≡ Some (Exits n) → run.depth ≡ 0 → IsSharedRun k c.shapes (loaded_of c) context ms (v.moved + 1) n × (inside ms ≡ 0)
+  exited i n here e depth = (
+    record {
       name = 0;
       moves = v.moved;
       last = run;
@@ -220,22 +220,32 @@ module _ (k : TableShape) (c : Checked) (context : List ℕ) (ms : List Move) (v
       comes = x.came;
       exits = record { insn = i; here = in-program i here; out = Exits n; does = e; leads = (depth, refl, refl) };
       steps_are = omega arith;
-    };
-    outside = x.section ∙ ap flag_of (depth-is ∙ depth);
-  }
+    },
+    x.section ∙ ap flag_of (depth-is ∙ depth),
+  )
 
-  ended-at : (i : Insn) (out : Outcome) (n : ℕ) → Known i → after_insn i (environment run) run.state ≡ Some out → ((m : ℕ) → out ≡ Exits m → run.depth ≡ 0) → Doing out (laws.Ends n) → Ended n
+  abbrev Ending : ℕ → Type 0
+  Ending n = IsSharedRun k c.shapes (loaded_of c) context ms (v.moved + 1) n × (inside ms ≡ 0)
+
+  ended-at : (i : Insn) (out : Outcome) (n : ℕ) → Known i → after_insn i (environment run) run.state ≡ Some out → ((m : ℕ) → out ≡ Exits m → run.depth ≡ 0) → Doing out (laws.Ends n) → Ending n
   ended-at i (Moves next) n here e depth d = absurd d
-  ended-at i (Exits m) n here e depth d = subst Ended (sym d) (exited i m here e (depth m refl))
+  ended-at i (Exits m) n here e depth d = subst Ending (sym d) (exited i m here e (depth m refl))
 
-  ended-by : (i : Insn) (n : ℕ) → Known i → laws.local_of i v ≡ laws.Ends n → Turns i → Ended n
+  ended-by : (i : Insn) (n : ℕ) → Known i → laws.local_of i v ≡ laws.Ends n → Turns i → Ending n
   ended-by i n here is (Acts out e depth) = ended-at i out n here e depth (subst (Doing out) is (acted i out here e))
   ended-by i n here is (AsksFor asked e) = absurd (ends-asks n (sym is ∙ (so some.plan some.closed i asked here e).local))
 
-  pub exits : (n : ℕ) (new : RunView) → ((insn : Insn) → insn_at c.program v.place ≡ Some insn → IsLocalStep (laws.local_of insn v) (request_of insn v) v (locals.Exit n) new) → Ended n
+  pub exits : (n : ℕ) (new : RunView) → ((insn : Insn) → insn_at c.program v.place ≡ Some insn → IsLocalStep (laws.local_of insn v) (request_of insn v) v (locals.Exit n) new) → ExitsShared k c context ms new n
   exits n new s =
       let here = known steps.insn steps.here in
-      ended-by steps.insn n here (ended (laws.local_of steps.insn v) (request_of steps.insn v) v new n (s steps.insn steps.here)) (turned steps.insn here)
+      let o = ended (laws.local_of steps.insn v) (request_of steps.insn v) v new n (s steps.insn steps.here) in
+      let e = ended-by steps.insn n here o.0 (turned steps.insn here) in
+      record {
+        exit = subst (λ (u : RunView). IsSharedRun k c.shapes (loaded_of c) context ms (u.moved + 1) n) (sym o.1) e.0;
+        outside = e.1;
+        insn = steps.insn;
+        here = subst (λ (u : RunView). insn_at c.program u.place ≡ Some steps.insn) (sym o.1) steps.here;
+      }
 
   -- a run whose words wait asks what they ask
   pub record Asking (i : Insn) : Type 0 where
@@ -260,6 +270,9 @@ module _ (k : TableShape) (c : Checked) (context : List ℕ) (ms : List Move) (v
       shared ms ns v.moved run next x.came (record { insn = i; here = in-program i here; request = asked; reply = reply; asked = asked-listed i asked e; replied = replied; resumes = resumes })
 
 -- moves one after another
-pub goes-on : (k : TableShape) (c : Checked) (context : List ℕ) (ms : List Move) (v new : RunView) → IsSharing k c context ms v → MovesOn c v new → IsSharing k c context ms new
-goes-on k c context ms v new x stays = x
-goes-on k c context ms v new x (more before next m step) = moves k c context ms before (goes-on k c context ms v before x m) next step
+pub goes-on : (k : TableShape) (c : Checked) (context : List ℕ) (ms : List Move) (v new : RunView) → IsSharing k c context ms v → MovesOn c v new → IsSharing k c context ms new × (v.moved ≤ new.moved)
+goes-on k c context ms v new x stays = (x, omega arith)
+goes-on k c context ms v new x (more before next m step) =
+    let b = goes-on k c context ms v before x m in
+    let f = moves k c context ms before b.0 next step in
+    (f.sharing, omega (arith, b.1, f.counts))

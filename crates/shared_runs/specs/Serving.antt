@@ -19,12 +19,12 @@ use Rattle.table_rule.specs.declared.view.Move.TheVariants.{Close, Load, Open, S
 use Rattle.table_rule.specs.declared.view.TableShape.{TableShape}
 use Rattle.table_rule.specs.History.{IsLearnt}
 use Rattle.table_rule.specs.Lookups.{AnswersLookup, OnlySearches}
-use Rattle.shared_runs.specs.Sharing.{IsSharing}
+use Rattle.shared_runs.specs.Sharing.{GoesFurther}
 
--- Resumed with this word, after these moves of its seat, the run is one further over the table.
+-- Resumed with this word, after these moves of its seat, the run has come one step further over the table.
 abbrev pub GoesOnWith : TableShape → Checked → List ℕ → List Move → RunView → ℕ → Type 0
 GoesOnWith k c context ms v word = (insn : Insn) → insn_at c.program v.place ≡ Some insn →
-    IsSharing k c context ms (resumed_view insn word v)
+    GoesFurther k c context ms v (resumed_view insn word v)
 
 -- The address leads to a word of the value in a slot that was learnt in the section that is open.
 pub record LeadsToWord (k : TableShape) (ms : List Move) (address : ℕ) (offset : ℤ) (width : Width)

@@ -1,6 +1,8 @@
 -- What is so of a shared run's words at each step.
-use Rattle.std.specs.Prelude.{◌≡◌, ℕ, ◌<◌, ◌≤◌, ◌==◌, List, Bool, true, if◌then◌else◌}
+use Rattle.std.specs.Prelude.{◌≡◌, ℕ, ◌+◌, ◌<◌, ◌≤◌, Some, ◌==◌, List, Bool, true, if◌then◌else◌}
+use Rattle.bpf_model.specs.declared.insn.Insn.{Insn}
 use Rattle.bpf_model.specs.Machine.{Run, fresh_run, section_of}
+use Rattle.bpf_model.specs.Step.{insn_at}
 use Rattle.bpf_model.specs.View.{RunView}
 use Rattle.bpf_model.specs.Word.{most_map_slots}
 use Rattle.typed_runs.specs.Describes.{scene_of}
@@ -12,7 +14,7 @@ use Rattle.table_rule.specs.declared.view.Move.{Move}
 use Rattle.table_rule.specs.declared.view.TableShape.{TableShape}
 use Rattle.table_rule.specs.History.{IsLearnt, inside}
 use Rattle.shared_runs.specs.Learnt.{learnt_elements}
-use Rattle.shared_runs.specs.SharedRuns.{Comes}
+use Rattle.shared_runs.specs.SharedRuns.{Comes, IsSharedRun}
 use Rattle.shared_runs.specs.Words.{FitsTable, UsesSubWords, loaded_of}
 
 -- 1 inside a section, and 0 outside
@@ -38,3 +40,17 @@ pub record IsSharing (k : TableShape) (c : Checked) (context : List ℕ) (ms : L
       (scene_of (learnt_elements c.shapes (section_of run) learnt) run) run.state
   pub came : Comes k c.shapes (fresh_run 0 (loaded_of c) context) ms v.moved run
   pub section : inside ms ≡ flag_of v.depth
+
+-- So do the second words, after these moves of the seat, with one move of the run more.
+pub record GoesFurther (k : TableShape) (c : Checked) (context : List ℕ) (ms : List Move)
+    (v next : RunView) : Type 0 where
+  pub sharing : IsSharing k c context ms next
+  pub counts : next.moved ≡ v.moved + 1
+
+-- The run has exited, outside every section: its words have these moves, and stand where its exit is.
+pub record ExitsShared (k : TableShape) (c : Checked) (context : List ℕ) (ms : List Move)
+    (after : RunView) (n : ℕ) : Type 0 where
+  pub exit : IsSharedRun k c.shapes (loaded_of c) context ms (after.moved + 1) n
+  pub outside : inside ms ≡ 0
+  pub insn : Insn
+  pub here : insn_at c.program after.place ≡ Some insn

@@ -6,7 +6,7 @@ mod law;
 mod words;
 
 pub use law::{
-    shared_run_asks, shared_run_exits, shared_run_goes_on, shared_run_moves, shared_run_stands,
-    shared_run_starts,
+    moves_below_length, shared_run_asks, shared_run_exits, shared_run_goes_on, shared_run_moves,
+    shared_run_stands, shared_run_starts,
 };
 pub use words::uses_sub_words;
