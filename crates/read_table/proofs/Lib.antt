@@ -3,3 +3,6 @@ pub mod Calls
 pub mod Lookups
 mod Slots
 mod Keeping
+mod Serving
+mod Coming
+mod Holding

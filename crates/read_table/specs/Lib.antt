@@ -1,3 +1,4 @@
 pub mod Held
 pub mod Search
 pub mod Slots
+pub mod Running

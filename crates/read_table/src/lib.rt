@@ -7,6 +7,7 @@
 
 mod limits;
 mod lookup;
+mod running;
 mod seats;
 mod setup;
 mod table;
@@ -15,6 +16,7 @@ mod writer;
 mod writing;
 
 pub use limits::{MAX_READERS, MAX_TABLE_BYTES, MAX_TABLE_SLOTS, WORD_BYTES};
+pub use running::SubWord;
 pub use seats::Seats;
 pub use table::{ReadSeat, ReadTable};
 pub use writer::Writer;

@@ -2,6 +2,7 @@
 ghost use Rattle.std.specs.Prelude.{◌≡◌, ℕ, ◌+◌, ◌-◌, ◌*◌, ◌<◌, ◌≤◌, ◌%◌, ◌↔◌, [], ◌∷◌, length, slice_index, IsTrue, IfOk, true, false};
 ghost use Rattle.table_rule.specs.declared.view.Move.TheVariants.{Open, Close, Learn, Load, Store, Header, Scan};
 ghost use Rattle.table_rule.specs.History.{inside, IsLearnt, header_in, MayLink};
+ghost use Rattle.table_rule.specs.History.{IsReader};
 ghost use Rattle.table_rule.specs.Law.{count_of, base_of, width_of, writer_after};
 ghost use Rattle.read_table.specs.Held.{IsSized, IsReady, IsNew, Does, Went, IsUnchanged};
 
@@ -56,6 +57,15 @@ impl Model for ReadSeat {
 
     ghost invariant = { λ s. IsReader s.seat.me.0.shape s.seat.me.0.me
         × (s.section + SECTION_STRIDE ≡ s.seat.me.0.me * SECTION_STRIDE) × (s.seat.me.1 ≡ []) };
+}
+
+impl ReadSeat {
+    /// A law: the seat is a reader's.
+    pub fn is_readers(&self)
+        ensures { IsReader self.now.view.shape self.now.view.me }
+    {
+        let _ = &self.seat;
+    }
 }
 
 /// Where a word of a slot lies.

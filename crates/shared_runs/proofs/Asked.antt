@@ -303,6 +303,7 @@ module _ (k : TableShape) (c : Checked) (context : List ℕ) (ms : List Move) (v
         let depth : v.depth ≡ run.depth = (shown k c context ms v x).words.depth in
         record {
           inside = omega (arith, deep, depth);
+          frame = (shown k c context ms v x).words.cells;
           key = subst (IsInFrame (word_in v 2)) fits.0 at.inside;
           goes_on = λ ns o searches answers. goes-at (ns ++ ms) (found_word 0 o)
               (found l.map l.key f ns o searches (subst (λ key. AnswersLookup k key ns o) (ap (bytes_in v 2) (sym fits.0) ∙ at.is) answers));

@@ -1,7 +1,8 @@
 -- What whoever serves a shared run may take for granted of each request, and what he leaves.
-use Rattle.std.specs.Prelude.{◌≡◌, ℕ, ◌+◌, ◌*◌, ◌^◌, ◌<◌, List, ◌∷◌, ◌++◌, Option, Some, ℤ, pos, ◌+ℤ◌}
+use Rattle.std.specs.Prelude.{◌≡◌, ℕ, ◌+◌, ◌*◌, ◌^◌, ◌<◌, List, ◌∷◌, ◌++◌, Option, Some, length, ℤ, pos, ◌+ℤ◌}
 use Rattle.bpf_model.specs.declared.call.Helper.TheVariants.{Delete, Lookup, Update}
 use Rattle.bpf_model.specs.declared.insn.Insn.{Insn}
+use Rattle.bpf_model.specs.declared.limits.TheConstants.{FRAME_BYTES}
 use Rattle.bpf_model.specs.Access.{byte_count}
 use Rattle.bpf_model.specs.declared.opcode.Width.{Width}
 use Rattle.bpf_model.specs.Step.{insn_at}
@@ -52,6 +53,7 @@ pub record StoresWord (k : TableShape) (c : Checked) (context : List ℕ) (ms : 
 pub record LooksUpKey (k : TableShape) (c : Checked) (context : List ℕ) (ms : List Move)
     (v : RunView) : Type 0 where
   pub inside : 0 < v.depth
+  pub frame : length v.frame ≡ FRAME_BYTES
   pub key : IsInFrame (word_in v 2) (8 * k.key_words)
   pub goes_on : (ns : List Move) (found : Option ℕ) → OnlySearches k ns →
       AnswersLookup k (bytes_in v 2 (8 * k.key_words)) ns found →

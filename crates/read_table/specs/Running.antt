@@ -1,0 +1,68 @@
+-- What a run over the table leaves, and what is so between its steps.
+use Rattle.std.specs.Prelude.{◌≡◌, ◌⊎◌, ℕ, ◌≤◌, List, ◌∷◌, ◌++◌, length}
+use Rattle.bpf_model.specs.View.{RunView}
+use Rattle.verifier.specs.Checked.{Checked}
+use Rattle.machine.specs.declared.request.Request.{Request}
+use Rattle.machine.specs.RunWords.{IsAt, RunWords}
+use Rattle.machine.specs.Standing.{MayGive}
+use Rattle.table_rule.specs.declared.view.Move.{Move}
+use Rattle.table_rule.specs.declared.view.Move.TheVariants.{Load, Store}
+use Rattle.table_rule.specs.declared.view.TableShape.{TableShape}
+use Rattle.table_rule.specs.declared.view.View.{View}
+use Rattle.table_rule.specs.History.{Knows, generation, header_in, moves_of}
+use Rattle.shared_runs.specs.Serving.{CanServe, GoesOnWith}
+use Rattle.shared_runs.specs.Sharing.{IsSharing}
+use Rattle.shared_runs.specs.SharedRuns.{IsSharedRun}
+use Rattle.shared_runs.specs.Words.{loaded_of}
+use Rattle.read_table.specs.Held.{Goes, Holder}
+
+-- The seat's list gained the moves of a shared run of the program on the context, which exits with the value, within as
+-- many steps as the program has instructions.
+pub record RunsShared (k : TableShape) (c : Checked) (context : List ℕ) (old new : Holder)
+    (value : ℕ) : Type 0 where
+  pub moves : List Move
+  pub steps : ℕ
+  pub list : Goes old moves new
+  pub exit : IsSharedRun k c.shapes (loaded_of c) context moves steps value
+  pub bounded : steps ≤ length c.program
+
+-- By this history the holder knows the slot, which still has the generation with which it was learnt.
+abbrev pub HoldsSlot : ℕ → ℕ → List (ℕ × Move) → Type 0
+HoldsSlot who slot es =
+    (h : ℕ) × Knows slot h (moves_of who es)
+    × (generation (header_in slot (moves_of 0 es)) ≡ generation h)
+
+-- a reader's move loads or stores a word of the slot
+abbrev pub Touches : ℕ → Move → Type 0
+Touches slot (Load s place x) = s ≡ slot
+Touches slot (Store s place x) = s ≡ slot
+Touches slot m = ⊥
+
+-- Whenever the holder loaded or stored a word, it held its slot by all that had been done before.
+abbrev pub HasHeld : View → Type 0
+HasHeld v = (after before : List (ℕ × Move)) (m : Move) (slot : ℕ) →
+    v.seen ≡ after ++ (v.me, m) ∷ before → Touches slot m → HoldsSlot v.me slot before
+
+-- The seat's list ends with the moves of a shared run that can be served what it asks.
+pub record IsServable (k : TableShape) (mine : List Move) (v : RunView) (request : Request) : Type 0
+  where
+    pub checked : Checked
+    pub context : List ℕ
+    pub moves : List Move
+    pub before : List Move
+    pub list : mine ≡ moves ++ before
+    pub can : CanServe k checked context moves v request
+
+-- What was done serves it: with this word each such run goes on.
+abbrev pub Serves : TableShape → RunView → Request → List Move → ℕ → Type 0
+Serves k v request ns word = (c : Checked) (context : List ℕ) (ms : List Move) →
+    CanServe k c context ms v request →
+    GoesOnWith k c context (ns ++ ms) v word × MayGive c v request word
+
+-- Since this start the seat has done what a shared run of these words asked, and no more.
+pub record HasComeTo (k : TableShape) (c : Checked) (context : List ℕ) (start now : Holder)
+    (r : RunWords) : Type 0 where
+  pub moves : List Move
+  pub goes : Goes start moves now
+  pub at : IsAt c.program r
+  pub sharing : IsSharing k c context moves r.view

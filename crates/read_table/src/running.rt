@@ -1,0 +1,210 @@
+//! Runs of verified programs over the table.
+ghost use Rattle.std.specs.Prelude.{◌≡◌, ℕ, ◌*◌, ◌^◌, ◌<◌, ◌↔◌, ◌++◌, pos, ◌+ℤ◌, ◌+◌, List, Option, Decides, IfOk, IfSome, IsErr, OnErr, length};
+ghost use Rattle.bpf_model.specs.declared.limits.TheConstants.{FRAME_BYTES};
+ghost use Rattle.bpf_model.specs.Word.{most_map_slots, slot_base};
+ghost use Rattle.world_laws.specs.Calling.{bytes_in, found_word};
+ghost use Rattle.world_laws.specs.Moving.{word_in};
+ghost use Rattle.world_laws.specs.Reaching.{IsInFrame};
+ghost use Rattle.table_rule.specs.declared.view.Move.{Move};
+ghost use Rattle.table_rule.specs.History.{inside};
+ghost use Rattle.table_rule.specs.Lookups.{AnswersLookup, OnlySearches};
+ghost use Rattle.shared_runs.specs.Sharing.{flag_of};
+ghost use Rattle.shared_runs.specs.Words.{FitsTable, UsesSubWords};
+ghost use Rattle.read_table.specs.Held.{Goes, IsKnown, IsReady};
+ghost use Rattle.read_table.specs.Running.{HasHeld, IsServable, RunsShared, Serves};
+
+use crate::limits::WORD_BYTES;
+use crate::table::{ReadSeat, ReadTable};
+use bpf_model::{CtxBytes, Helper, Reg, are_bytes};
+use machine::{Local, Request, Run, SLOT_BASE, SPAN};
+use shared_runs::uses_sub_words;
+use thiserror::Error;
+use verifier::Verified;
+
+/// Why a table runs no step of a program: it accesses an element by another width than 8 bytes, or calls a helper that
+/// changes a map.
+#[derive(Clone, Copy, Debug, PartialEq, Eq, Error)]
+#[error("the program accesses elements by less than a word, or changes a map")]
+pub struct SubWord;
+
+impl SubWord {
+    /// The number by which it is known: 80.
+    pub fn code(self) -> u8
+        ensures { result ≡ 80 }
+    {
+        80
+    }
+}
+
+/// A word of a value: its slot, and its place in the value.
+#[derive(Clone, Copy)]
+struct ValueWord {
+    slot: usize,
+    place: usize,
+}
+
+/// The word of a value to which an offset from an address leads.
+#[inline]
+fn value_word(address: u64, offset: i16) -> ValueWord
+    ensures { (slot place : ℕ) → slot < most_map_slots → place < 2 ^ 20 →
+        pos address +ℤ offset ≡ pos (slot_base 0 slot + 8 * place) →
+        (result.slot ≡ slot) × (result.place ≡ place) }
+{
+    let reached = address.wrapping_add(i64::from(offset).cast_unsigned());
+    let from_slots = reached.wrapping_sub(SLOT_BASE);
+    ValueWord {
+        slot: (from_slots / SPAN) as usize,
+        place: (from_slots % SPAN / WORD_BYTES as u64) as usize,
+    }
+}
+
+/// The word for a slot that a lookup found, or 0.
+#[inline]
+fn word_of_slot(found: Option<usize>) -> u64
+    requires { IfSome found (λ slot. slot < most_map_slots) }
+    ensures { result ≡ found_word 0 found }
+{
+    match found {
+        None => 0,
+        Some(slot) => SLOT_BASE + slot as u64 * SPAN,
+    }
+}
+
+impl ReadTable {
+    /// Whether each map that the program was verified for has the table's lengths.
+    pub fn fits(&self, verified: &Verified) -> bool
+        ensures { Decides result (FitsTable self.now.shape verified.now.shapes) }
+    {
+        let shape = self.shape();
+        verified.shapes().iter().all(|map| {
+            map.key_len == WORD_BYTES * shape.key_words
+                && map.value_len == WORD_BYTES * shape.value_words
+        })
+    }
+
+    /// A lookup of the key in the frame, which is compared where it lies.
+    #[inline]
+    fn look_up(&self, seat: &mut ReadSeat, run: &Run) -> u64
+        requires table { seat.old.table ≡ self.now }
+        requires inside { inside seat.old.view.mine ≡ 1 }
+        requires known { IsKnown seat.old.view }
+        requires key { IsInFrame (word_in run.now.view 2) (8 * self.now.shape.key_words) }
+        requires frame { length run.now.view.frame ≡ FRAME_BYTES }
+        ensures { (ns : List Move) × (found : Option ℕ) × Goes seat.old ns seat.new
+            × OnlySearches self.now.shape ns
+            × AnswersLookup self.now.shape (bytes_in run.now.view 2 (8 * self.now.shape.key_words))
+            ns found × (result ≡ found_word 0 found) }
+    {
+        let key = run.bytes_argument(Reg::R2, WORD_BYTES * self.shape().key_words);
+        word_of_slot(self.lookup(seat, key))
+    }
+
+    /// Serves what a run asks, and answers the word with which it goes on.
+    #[inline]
+    fn serve(&self, seat: &mut ReadSeat, run: &Run, request: Request) -> u64
+        requires table { seat.old.table ≡ self.now }
+        requires known { IsKnown seat.old.view }
+        requires section { inside seat.old.view.mine ≡ flag_of run.now.view.depth }
+        requires can { IsServable self.now.shape seat.old.view.mine run.now.view request }
+        ensures { (ns : List Move) × Goes seat.old ns seat.new
+            × Serves self.now.shape run.now.view request ns result }
+    {
+        let shape = self.shape();
+        match request {
+            Request::Load {
+                address,
+                offset,
+                ..
+            } => {
+                let word = value_word(address, offset);
+                self.load(seat, word.slot, shape.key_words + word.place)
+            }
+            Request::Store {
+                address,
+                offset,
+                number,
+                ..
+            } => {
+                let word = value_word(address, offset);
+                self.store(seat, word.slot, shape.key_words + word.place, number);
+                0
+            }
+            Request::Call {
+                helper: Helper::Lookup,
+            } => self.look_up(seat, run),
+            Request::Call { .. } => unreachable!(),
+            Request::Enter => {
+                self.open(seat);
+                0
+            }
+            Request::Leave => {
+                self.close(seat);
+                0
+            }
+        }
+    }
+
+    /// Runs the program on the context over the table, each of whose maps is the table: to its exit, or not at all. It
+    /// takes no memory and waits for nobody.
+    ///
+    /// Errors: `SubWord` where some instruction of the program accesses an element by another width than 8 bytes, or calls
+    /// a helper that changes a map.
+    pub fn run_shared(
+        &self,
+        seat: &mut ReadSeat,
+        verified: &Verified,
+        ctx: &CtxBytes,
+    ) -> Result<u64, SubWord>
+        requires ready { IsReady self.now seat.old }
+        requires context { length ctx.now.items ≡ verified.now.ctx_len }
+        requires maps { FitsTable self.now.shape verified.now.shapes }
+
+        // No step is made of a program that words don't serve, and only of such.
+        ensures refused { IsErr result ↔ UsesSubWords verified.now }
+        ensures unchanged { OnErr result (seat.new ≡ seat.old) }
+
+        // What the seat did is the list of a shared run, which exits with this value within as many steps as the program
+        // has instructions.
+        ensures runs { IfOk result (RunsShared self.now.shape verified.now ctx.now.items
+            seat.old seat.new) }
+
+        // Each word that it reached was of a slot that it had learnt, linked, in the section that was open, and whose
+        // generation had not changed since.
+        ensures held { HasHeld seat.new.view }
+        ensures ready { IsReady self.now seat.new }
+    {
+        if uses_sub_words(verified) {
+            seat.is_readers();
+            return Err(SubWord);
+        }
+        let value = self.run_to_exit(seat, verified, ctx);
+        seat.is_readers();
+        Ok(value)
+    }
+
+    /// The same of a program that words serve.
+    fn run_to_exit(&self, seat: &mut ReadSeat, verified: &Verified, ctx: &CtxBytes) -> u64
+        requires ready { IsReady self.now seat.old }
+        requires context { length ctx.now.items ≡ verified.now.ctx_len }
+        requires maps { FitsTable self.now.shape verified.now.shapes }
+        requires words { UsesSubWords verified.now → ⊥ }
+        ensures runs { RunsShared self.now.shape verified.now ctx.now.items seat.old seat.new
+            result }
+        ensures ready { IsReady self.now seat.new }
+    {
+        let _program = verified.program();
+        let _shape = self.shape();
+        are_bytes(ctx.as_slice());
+        let mut run = Run::start(verified, 0, ctx);
+        'steps: loop {
+            match run.go_on(verified) {
+                Local::Moved => {}
+                Local::Shared(request) => {
+                    let word = self.serve(seat, &run, request);
+                    run.resume(verified, word);
+                }
+                Local::Exit(value) => return value,
+            }
+        }
+    }
+}
