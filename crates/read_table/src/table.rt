@@ -33,7 +33,8 @@ impl Model for ReadTable {
         × (t.table.shared.table_id.words ≡ count_of t.shape) × IsSized t.shape };
 }
 
-/// A reader's seat at a table. Contracts see at which, and what the reader did and saw there.
+/// A reader's seat at a table. Contracts see at which, and what the reader did and saw there. A seat that is dropped
+/// inside a section keeps the slots that are unlinked later from being reclaimed, for ever.
 #[derive(Drop)]
 pub struct ReadSeat {
     seat: Seat<u8, View>,
@@ -111,7 +112,9 @@ impl ReadTable {
         requires table { seat.old.table ≡ self.now }
         requires inside { inside seat.old.view.mine ≡ 1 }
         requires slot { slot < self.now.shape.slots }
-        ensures { (h : ℕ) × Does seat.old (Learn slot h) seat.new × (IsTrue result ↔ (h % 2 ≡ 1)) }
+        ensures step { (h : ℕ) × Does seat.old (Learn slot h) seat.new
+            × (IsTrue result ↔ (h % 2 ≡ 1)) }
+        ensures learnt { result ≡ true → IsLearnt slot seat.new.view.mine }
     {
         let index = self.shape.readers * SECTION_STRIDE + slot;
         let header = self.table.shared.load::<Learns>(&mut seat.seat, index);
