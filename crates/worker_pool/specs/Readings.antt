@@ -22,6 +22,7 @@ AllFit k programs = All (λ c. FitsTable k c.shapes) programs
 -- The second is the same seat, whose list has only grown.
 pub record HasGained (first last : Holder) : Type 0 where
   pub table : last.table ≡ first.table
+  pub me : last.view.me ≡ first.view.me
   pub moves : List Move
   pub list : last.view.mine ≡ moves ++ first.view.mine
 
@@ -54,11 +55,12 @@ IsReadJob k programs first last job report =
     IsReadOutcome k first last job (slice_get programs job.prog) report.outcome
 
 pub gained_same : (w : Holder) → HasGained w w
-gained_same w = record { table = refl; moves = []; list = refl }
+gained_same w = record { table = refl; me = refl; moves = []; list = refl }
 
 pub gained_again : (u v w : Holder) → HasGained u v → HasGained v w → HasGained u w
 gained_again u v w a b = record {
   table = b.table ∙ a.table;
+  me = b.me ∙ a.me;
   moves = b.moves ++ a.moves;
   list = b.list ∙ (ap (λ ms. b.moves ++ ms) a.list ∙ sym (append_assoc b.moves a.moves u.view.mine));
 }

@@ -1,5 +1,5 @@
 //! Jobs that are served from a table, with no lock round an instruction.
-ghost use Rattle.std.specs.Prelude.{◌≡◌, ◌⊎◌, ◌<◌, ◌≤◌, All, length, vec_len, Err, IsOk, IfOk};
+ghost use Rattle.std.specs.Prelude.{◌≡◌, ◌⊎◌, ◌<◌, ◌≤◌, All, None, length, vec_len, Err, IsOk, IfOk};
 ghost use Rattle.std.specs.List.{AllZip};
 ghost use Rattle.job_queue.specs.declared.pool.TheConstants.{MAX_JOBS, MAX_WORKERS};
 ghost use Rattle.job_queue.specs.declared.fault.PoolFault.{PoolFault};
@@ -26,7 +26,7 @@ pub struct Reading<'a> {
 
 /// The report of a job that was not begun.
 fn unbegun(cause: StopCause) -> JobReport<()>
-    ensures { result.outcome ≡ Outcome.Stopped Option.None cause }
+    ensures { result.outcome ≡ Outcome.Stopped None cause }
 {
     JobReport {
         outcome: Outcome::Stopped { run: None, cause },
