@@ -9,7 +9,7 @@ use Rattle.table_rule.specs.declared.view.Move.TheVariants.{Load, Store}
 use Rattle.table_rule.specs.declared.view.TableShape.{TableShape}
 use Rattle.table_rule.specs.declared.view.View.{View}
 use Rattle.table_rule.specs.History.{inside, header_in, word_in, Knows, IsLearnt, IsLawful, IsReader, MayLink}
-use Rattle.table_rule.specs.Law.{headers_from, count_of, width_of, Kept, Gains, opens, closes, learns, loads, stores, changes, scans}
+use Rattle.table_rule.specs.Law.{headers_from, count_of, width_of, Kept, Gains, opens, closes, learns, stores, changes, scans}
 use Rattle.table_rule.proofs.Places.{IsAt}
 use Rattle.table_rule.proofs.Lists.{stored_here}
 use Rattle.table_rule.proofs.Keeps.{opens_ok, closes_ok, learns_ok, stores_ok, changes_ok, scans_ok}
