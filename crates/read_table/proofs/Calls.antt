@@ -1,6 +1,5 @@
 -- What the calls of a seat rest on.
-use Rattle.std.proofs.Common.{◌≡◌, ℕ, ◌+◌, ◌-◌, ◌*◌, ◌/◌, ◌%◌, ◌<◌, inl, inr, [], ◌∷◌, refl, sym, ap, ◌∙◌, subst, arith}
-use Rattle.std.proofs.lemmas.Nat.{div-mul-add, mod-mul-add}
+use Rattle.std.proofs.Common.{◌≡◌, ℕ, ◌+◌, ◌-◌, ◌*◌, ◌/◌, ◌%◌, ◌<◌, inl, inr, [], ◌∷◌, ◌++◌, refl, sym, ap, ◌∙◌, subst, arith}
 use mathlib.Core.Option.{none}
 use Rattle.atomic_table.specs.Table.{Me, step, Allows}
 use Rattle.atomic_table.specs.Seated.{TableId}
@@ -9,40 +8,39 @@ use Rattle.table_rule.specs.declared.view.Move.{Move}
 use Rattle.table_rule.specs.declared.view.Move.TheVariants.{Load, Store}
 use Rattle.table_rule.specs.declared.view.TableShape.{TableShape}
 use Rattle.table_rule.specs.declared.view.View.{View}
-use Rattle.table_rule.specs.History.{inside, header_in, Knows, IsLearnt, IsReader, MayLink}
-use Rattle.table_rule.specs.Law.{headers_from, count_of, base_of, width_of, Kept, Gains, opens, closes, learns, loads, stores, changes, scans}
-use Rattle.table_rule.proofs.Keeps.{opens_ok, closes_ok, learns_ok, loads_ok, stores_ok, changes_ok, scans_ok}
+use Rattle.table_rule.specs.History.{inside, header_in, word_in, Knows, IsLearnt, IsLawful, IsReader, MayLink}
+use Rattle.table_rule.specs.Law.{headers_from, count_of, width_of, Kept, Gains, opens, closes, learns, stores, changes, scans}
+use Rattle.table_rule.proofs.Places.{IsAt}
+use Rattle.table_rule.proofs.Lists.{stored_here}
+use Rattle.table_rule.proofs.Keeps.{opens_ok, closes_ok, learns_ok, stores_ok, changes_ok, scans_ok}
 use Rattle.read_table.specs.Held.{Holder, Does, IsUnchanged}
+use Rattle.read_table.specs.Slots.{IsFree}
 use Rattle.read_table.proofs.Going.{went_one, goes_known, goes_fact, known_unchanged}
 
--- where a word of a slot lies, as an equation
-abbrev pub IsAt : TableShape → ℕ → ℕ → ℕ → Type 0
-IsAt k i slot place = i ≡ base_of k + (slot * width_of k + place)
-
--- the slot and the place of a word
-pub slot_back : (k : TableShape) (i slot place : ℕ) → IsAt k i slot place → place < width_of k → (i - base_of k) / width_of k ≡ slot
-slot_back k i slot place e l = let p : i - base_of k ≡ slot * width_of k + place = omega arith in ap (λ z. z / width_of k) p ∙ div-mul-add slot (width_of k) place l
-
-pub place_back : (k : TableShape) (i slot place : ℕ) → IsAt k i slot place → place < width_of k → (i - base_of k) % width_of k ≡ place
-place_back k i slot place e l = let p : i - base_of k ≡ slot * width_of k + place = omega arith in ap (λ z. z % width_of k) p ∙ mod-mul-add slot (width_of k) place l
-
-pub loads_at : (k : TableShape) (slots id : ℕ) (me : Me ℕ View) (i slot place : ℕ) → me.0.shape ≡ k → IsAt k i slot place → place < width_of k → IsLearnt slot me.0.mine
-    → Allows (Kept k) slots id me i (λ n. n) (loads (step slots i 0 0 none) me)
-loads_at k slots id me i slot place is e l known =
-    let b = subst (λ (z : TableShape). IsAt z i slot place) (sym is) e in
-    let w = subst (λ (z : TableShape). place < width_of z) (sym is) l in
-    loads_ok k slots id me i known.0 (subst (λ z. Knows z known.0 me.0.mine) (sym (slot_back me.0.shape i slot place b w)) known.1)
-
-pub stores_at : (k : TableShape) (slots id : ℕ) (me : Me ℕ View) (i slot place x : ℕ) → me.0.shape ≡ k → IsAt k i slot place → place < width_of k → IsLearnt slot me.0.mine
+pub stores_at : (k : TableShape) (slots id : ℕ) (me : Me ℕ View) (i slot place x : ℕ) → IsAt k i slot place → slot < k.slots → place < width_of k → IsLearnt slot me.0.mine
     → Allows (Kept k) slots id me i (λ _. x) (λ _. stores (step slots i x 0 none) me x)
-stores_at k slots id me i slot place x is e l known =
-    let b = subst (λ (z : TableShape). IsAt z i slot place) (sym is) e in
-    let w = subst (λ (z : TableShape). place < width_of z) (sym is) l in
-    stores_ok k slots id me i x (omega arith) (inr (known.0, subst (λ z. Knows z known.0 me.0.mine) (sym (slot_back me.0.shape i slot place b w)) known.1))
+stores_at k slots id me i slot place x e low in_slot known = stores_ok k slots id me i slot place x e low in_slot (inr known)
 
-pub writes_at : (k : TableShape) (slots id : ℕ) (me : Me ℕ View) (i slot place x : ℕ) → me.0.shape ≡ k → IsAt k i slot place → me.0.me ≡ 0
+pub writes_at : (k : TableShape) (slots id : ℕ) (me : Me ℕ View) (i slot place x : ℕ) → me.0.shape ≡ k → IsAt k i slot place → place < width_of k → me.0.me ≡ 0 → IsFree me.0 slot
     → Allows (Kept k) slots id me i (λ _. x) (λ _. stores (step slots i x 0 none) me x)
-writes_at k slots id me i slot place x is e writer = stores_ok k slots id me i x (omega arith) (inl writer)
+writes_at k slots id me i slot place x is e in_slot writer free =
+    stores_ok k slots id me i slot place x e
+    (subst (λ (z : TableShape). slot < z.slots) is free.within) in_slot
+    (inl (writer, (free.even, subst (λ (z : TableShape). MayLink z.readers slot me.0.mine) is free.may)))
+
+-- a word by what the holder saw after a step
+word_seen : (v w : View) (m m' : Move) (slot place : ℕ) → m ≡ m' → (g : Gains v m w) → word_in slot place w.seen ≡ word_in slot place ((v.me, m') ∷ (g.0 ++ v.seen))
+word_seen v w m m' slot place is g = ap (λ (z : View). word_in slot place z.seen) g.1 ∙ ap (λ z. word_in slot place ((v.me, z) ∷ (g.0 ++ v.seen))) is
+
+-- what a load found, as a clause says it
+pub load_found : (v w : View) (m : Move) (slot place x : ℕ) → m ≡ Load slot place x → Gains v m w → x ≡ word_in slot place w.seen
+load_found v w m slot place x is g =
+    let now : IsLawful v.shape ((v.me, Load slot place x) ∷ (g.0 ++ v.seen)) = subst (λ z. IsLawful v.shape ((v.me, z) ∷ (g.0 ++ v.seen))) is (subst (λ (z : View). IsLawful v.shape z.seen) g.1 g.2) in
+    now.0.1 ∙ sym (word_seen v w m (Load slot place x) slot place is g)
+
+-- what a store left, as a clause says it
+pub store_left : (v w : View) (m : Move) (slot place x : ℕ) → m ≡ Store slot place x → Gains v m w → word_in slot place w.seen ≡ x
+store_left v w m slot place x is g = word_seen v w m (Store slot place x) slot place is g ∙ stored_here v.me slot place slot place x (g.0 ++ v.seen) refl refl
 
 abbrev pub holder : TableId → View → Holder
 holder t v = record { table = record { id = t; shape = v.shape }; view = v }
@@ -54,18 +52,6 @@ does t t' v w s m m' is same move g =
       table = λ i. record { id = same i; shape = (g.1 i).shape };
       went = went_one v w m' (subst (λ z. Gains v z w) move g);
     }
-
-pub load_move : (j k : TableShape) (i slot place x : ℕ) → j ≡ k → IsAt k i slot place → place < width_of k → Load ((i - base_of j) / width_of j) ((i - base_of j) % width_of j) x ≡ Load slot place x
-load_move j k i slot place x is e l =
-    let b = subst (λ (z : TableShape). IsAt z i slot place) (sym is) e in
-    let w = subst (λ (z : TableShape). place < width_of z) (sym is) l in
-    λ a. Load (slot_back j i slot place b w a) (place_back j i slot place b w a) x
-
-pub store_move : (j k : TableShape) (i slot place x : ℕ) → j ≡ k → IsAt k i slot place → place < width_of k → Store ((i - base_of j) / width_of j) ((i - base_of j) % width_of j) x ≡ Store slot place x
-store_move j k i slot place x is e l =
-    let b = subst (λ (z : TableShape). IsAt z i slot place) (sym is) e in
-    let w = subst (λ (z : TableShape). place < width_of z) (sym is) l in
-    λ a. Store (slot_back j i slot place b w a) (place_back j i slot place b w a) x
 
 pub load_unchanged : (s t : Holder) (slot place x : ℕ) → Does s (Load slot place x) t → IsLearnt slot s.view.mine → IsUnchanged slot t
 load_unchanged s t slot place x d known = known_unchanged t slot known.0 (goes_known s t (Load slot place x ∷ []) d) (goes_fact (Knows slot known.0) s t (Load slot place x ∷ []) d known.1)

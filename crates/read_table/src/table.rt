@@ -1,10 +1,11 @@
 //! The table, and a reader's seat at it.
 ghost use Rattle.std.specs.Prelude.{◌≡◌, ℕ, ◌+◌, ◌-◌, ◌*◌, ◌<◌, ◌≤◌, ◌%◌, ◌↔◌, [], ◌∷◌, length, slice_index, IsTrue, IfOk, true, false};
 ghost use Rattle.table_rule.specs.declared.view.Move.TheVariants.{Open, Close, Learn, Load, Store, Header, Scan};
-ghost use Rattle.table_rule.specs.History.{inside, IsLearnt, header_in, MayLink};
+ghost use Rattle.table_rule.specs.History.{inside, IsLearnt, header_in, word_in, MayLink};
 ghost use Rattle.table_rule.specs.History.{IsReader};
 ghost use Rattle.table_rule.specs.Law.{count_of, base_of, width_of, writer_after};
 ghost use Rattle.read_table.specs.Held.{IsSized, IsReady, IsNew, Does, Went, IsUnchanged};
+ghost use Rattle.read_table.specs.Slots.{IsFree};
 
 use atomic_table::{Seat, Table};
 use std::alloc::{AllocError, Global};
@@ -142,6 +143,9 @@ impl ReadTable {
         requires slot { slot < self.now.shape.slots }
         requires place { place < self.now.shape.key_words + self.now.shape.value_words }
         ensures step { Does seat.old (Load slot place result) seat.new }
+
+        // It's the word that was stored there last, by whomever, of all that had been done to the table.
+        ensures found { result ≡ word_in slot place seat.new.view.seen }
         ensures unchanged { IsUnchanged slot seat.new }
     {
         let index = self.index_of(slot, place);
@@ -157,6 +161,7 @@ impl ReadTable {
         requires slot { slot < self.now.shape.slots }
         requires place { place < self.now.shape.key_words + self.now.shape.value_words }
         ensures step { Does seat.old (Store slot place word) seat.new }
+        ensures stored { word_in slot place seat.new.view.seen ≡ word }
         ensures unchanged { IsUnchanged slot seat.new }
     {
         let index = self.index_of(slot, place);
@@ -210,12 +215,13 @@ impl ReadTable {
 
 /// The steps of the writer.
 impl ReadTable {
-    /// Writes the word at a place of a slot.
+    /// Writes the word at a place of a slot that is not linked and that nobody can hold.
     #[inline]
     pub(crate) fn write(&self, seat: &mut Seat<u8, View>, slot: usize, place: usize, word: u64)
         requires table { (seat.old.table_id ≡ self.now.id) × (seat.old.me.0.shape ≡ self.now.shape) }
         requires writer { seat.old.me.0.me ≡ 0 }
         requires slot { slot < self.now.shape.slots }
+        requires free { IsFree seat.old.me.0 slot }
         requires place { place < width_of self.now.shape }
         ensures table { seat.new.table_id ≡ seat.old.table_id }
         ensures held { seat.new.me.1 ≡ seat.old.me.1 }

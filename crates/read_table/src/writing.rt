@@ -7,14 +7,14 @@ ghost use Rattle.table_rule.specs.History.{header_in, MayLink};
 ghost use Rattle.table_rule.specs.Law.{width_of};
 ghost use Rattle.read_table.specs.declared.limits.TheConstants.{WORD_BYTES, MAX_TABLE_SLOTS};
 ghost use Rattle.read_table.specs.Held.{IsSized, IsKnown, Went};
-ghost use Rattle.read_table.specs.Slots.{Fills, Leaves, scans_outside};
+ghost use Rattle.read_table.specs.Slots.{Fills, IsFree, Leaves, scans_outside};
 
 use crate::table::ReadTable;
 use crate::words::word_of;
 use atomic_table::Seat;
 use table_rule::View;
 
-/// Writes the words of a key or of a value into a slot, from a place on.
+/// Writes the words of a key or of a value into a free slot, from a place on.
 fn fill(
     table: &ReadTable,
     seat: &mut Seat<u8, View>,
@@ -27,6 +27,7 @@ fn fill(
     requires writer { seat.old.me.0.me ≡ 0 }
     requires known { IsKnown seat.old.me.0 }
     requires slot { slot < table.now.shape.slots }
+    requires free { IsFree seat.old.me.0 slot }
     requires bytes { length bytes.now ≡ WORD_BYTES * words }
     requires places { from + words ≤ width_of table.now.shape }
     requires sized { IsSized table.now.shape }
@@ -40,7 +41,7 @@ fn fill(
     }
 }
 
-/// Writes a key and a value into a slot.
+/// Writes a key and a value into a free slot.
 pub(crate) fn write_slot(
     table: &ReadTable,
     seat: &mut Seat<u8, View>,
@@ -52,6 +53,7 @@ pub(crate) fn write_slot(
     requires writer { seat.old.me.0.me ≡ 0 }
     requires known { IsKnown seat.old.me.0 }
     requires slot { slot < table.now.shape.slots }
+    requires free { IsFree seat.old.me.0 slot }
     requires key { length key.now ≡ WORD_BYTES * table.now.shape.key_words }
     requires value { length value.now ≡ WORD_BYTES * table.now.shape.value_words }
     ensures table { seat.new.table_id ≡ seat.old.table_id }

@@ -11,10 +11,11 @@ use Rattle.table_rule.specs.declared.view.Move.{Move}
 use Rattle.table_rule.specs.declared.view.Move.TheVariants.{Open, Close, Learn, Load, Store, Header, Scan}
 use Rattle.table_rule.specs.declared.view.TableShape.{TableShape}
 use Rattle.table_rule.specs.declared.view.View.{View}
-use Rattle.table_rule.specs.History.{moves_of, inside, header_in, IsLawful, MayDo, Knows, MayLink, IsReader}
+use Rattle.table_rule.specs.History.{moves_of, inside, header_in, IsLawful, IsLearnt, IsSpare, MayDo, MayLink, IsReader, word_in}
 use Rattle.table_rule.specs.declared.law.TheConstants.{SECTION_STRIDE}
-use Rattle.table_rule.specs.Law.{headers_from, width_of, count_of, Fits, Kept, writer_of, dealt, reader_of, did, Gains, base_of, opens, closes, learns, loads, stores, changes, scans}
-use Rattle.table_rule.proofs.Lists.{moves_self, moves_else, IsQuiet, IsStill, quiet, still}
+use Rattle.table_rule.specs.Law.{headers_from, width_of, count_of, Fits, Kept, writer_of, dealt, reader_of, did, Gains, base_of, index_in, opens, closes, learns, loads, stores, changes, scans}
+use Rattle.table_rule.proofs.Lists.{moves_self, moves_else, IsQuiet, IsStill, IsIdle, quiet, still, idle, stored_here, stored_in_another, stored_beside}
+use Rattle.table_rule.proofs.Places.{IsAt, load_move, store_move, same_place, place_within}
 
 abbrev St : Type 0
 St = State ℕ View
@@ -24,6 +25,7 @@ module _ (k : TableShape) where
   pub record Follows (s : St) (log : List (ℕ × Move)) (i x me : ℕ) (m : Move) : Type 0 where
     pub headers : (slot : ℕ) → slot < k.slots → get_or (set s.words i x) (headers_from k + slot) 0 ≡ header_in slot (moves_of 0 ((me, m) ∷ log))
     pub sections : (q : ℕ) → q < k.readers → get_or (set s.words i x) (q * SECTION_STRIDE) 0 ≡ inside (moves_of (q + 1) ((me, m) ∷ log))
+    pub stored : (slot place : ℕ) → slot < k.slots → place < width_of k → get_or (set s.words i x) (index_in k slot place) 0 ≡ word_in slot place ((me, m) ∷ log)
 
   fits_after : (log : List (ℕ × Move)) (next : ℕ) (seat_of : ℕ → ℕ) (id : ℕ) (v : View) (m : Move) (f : Fits k log next seat_of id v)
       → Fits k ((v.me, m) ∷ log) next seat_of id (did v m f.later.0)
@@ -61,6 +63,7 @@ module _ (k : TableShape) where
           wide = length-set s.words i x ∙ r.wide;
           headers = go.headers;
           sections = go.sections;
+          stored = go.stored;
           lawful = lawful;
           fresh = λ who n. let known = f.known in moves_else v.me who m r.log (λ e. absurd (omega arith)) ∙ r.fresh who n;
           each_seat = λ j u e. ⊎_elim
@@ -76,16 +79,32 @@ module _ (k : TableShape) where
         ),
       )
 
-  -- a step that changes no word of a header or a section
-  follows_quiet : (s : St) (r : Kept k s) (i x me : ℕ) (m : Move) → IsQuiet m → IsStill m → ((j : ℕ) → j < base_of k → get_or (set s.words i x) j 0 ≡ get_or s.words j 0) → Follows s r.log i x me m
-  follows_quiet s r i x me m q z same = record {
-    headers = λ slot l. same (headers_from k + slot) (omega arith) ∙ (r.headers slot l ∙ sym (quiet me 0 slot m r.log q));
-    sections = λ j l. same (j * SECTION_STRIDE) (omega arith) ∙ (r.sections j l ∙ sym (still me (j + 1) m r.log z));
+  -- a load changes none
+  follows_load : (s : St) (r : Kept k s) (i me : ℕ) (m : Move) → IsQuiet m → IsStill m → IsIdle m → Follows s r.log i (get_or s.words i 0) me m
+  follows_load s r i me m q z d = let same : set s.words i (get_or s.words i 0) ≡ s.words = set-get_or s.words i 0 in record {
+    headers = λ slot l. ap (λ ws. get_or ws (headers_from k + slot) 0) same ∙ (r.headers slot l ∙ sym (quiet me 0 slot m r.log q));
+    sections = λ j l. ap (λ ws. get_or ws (j * SECTION_STRIDE) 0) same ∙ (r.sections j l ∙ sym (still me (j + 1) m r.log z));
+    stored = λ slot place l w. ap (λ ws. get_or ws (index_in k slot place) 0) same ∙ (r.stored slot place l w ∙ sym (idle me slot place m r.log d));
   }
 
-  -- a load changes none
-  follows_load : (s : St) (r : Kept k s) (i me : ℕ) (m : Move) → IsQuiet m → IsStill m → Follows s r.log i (get_or s.words i 0) me m
-  follows_load s r i me m q z = follows_quiet s r i (get_or s.words i 0) me m q z (λ j _. ap (λ ws. get_or ws j 0) (set-get_or s.words i 0))
+  -- a step on a header or a section changes no word of a slot
+  stored_behind : (s : St) (r : Kept k s) (i x me : ℕ) (m : Move) → i < base_of k → IsIdle m → (slot place : ℕ) → slot < k.slots → place < width_of k
+      → get_or (set s.words i x) (index_in k slot place) 0 ≡ word_in slot place ((me, m) ∷ r.log)
+  stored_behind s r i x me m low d slot place l w = get_or-set_other s.words i (index_in k slot place) x 0 (λ e. absurd (omega arith)) ∙ (r.stored slot place l w ∙ sym (idle me slot place m r.log d))
+
+  -- a store changes the word of its slot and place, and no other
+  follows_store : (s : St) (r : Kept k s) (i n p x me : ℕ) → IsAt k i n p → n < k.slots → p < width_of k → Follows s r.log i x me (Store n p x)
+  follows_store s r i n p x me is low in_slot = let within = place_within k n p low in_slot in let wide = r.wide in record {
+    headers = λ slot l. get_or-set_other s.words i (headers_from k + slot) x 0 (λ e. absurd (omega arith)) ∙ (r.headers slot l ∙ sym (quiet me 0 slot (Store n p x) r.log tt));
+    sections = λ j l. get_or-set_other s.words i (j * SECTION_STRIDE) x 0 (λ e. absurd (omega arith)) ∙ (r.sections j l ∙ sym (still me (j + 1) (Store n p x) r.log tt));
+    stored = λ slot place l w.
+        let other = λ (ne : index_in k slot place ≢ i). get_or-set_other s.words i (index_in k slot place) x 0 ne ∙ r.stored slot place l w in
+        dite (ℕ_discrete n slot)
+        (λ e. dite (ℕ_discrete p place)
+        (λ f. ap (λ z. get_or (set s.words i x) z 0) ((λ a. index_in k (sym e a) (sym f a)) ∙ sym is) ∙ (get_or-set_same s.words i x 0 (omega arith) ∙ sym (stored_here me n p slot place x r.log e f)))
+        (λ ne. other (λ z. ne (same_place k n p slot place in_slot w (z ∙ is)).1) ∙ sym (stored_beside me n p slot place x r.log e ne)))
+        (λ ne. other (λ z. ne (same_place k n p slot place in_slot w (z ∙ is)).0) ∙ sym (stored_in_another me n p slot place x r.log ne));
+  }
 
   same_slot : (s : St) (r : Kept k s) (i slot : ℕ) → slot < k.slots → headers_from k + slot ≡ i → get_or s.words i 0 ≡ header_in slot (moves_of 0 r.log)
   same_slot s r i slot l e = ap (λ j. get_or s.words j 0) (sym e) ∙ r.headers slot l
@@ -97,56 +116,60 @@ module _ (k : TableShape) where
       let slot : ℕ = i - headers_from me.0.shape in
       let t = advance s r id i (get_or s.words i 0) me.0 me.1 (Learn slot (get_or s.words i 0)) at
       (reader, ap inside f.mine ∙ inside_now, same_slot s r i slot (omega arith) (omega arith))
-      (follows_load s r i me.0.me (Learn slot (get_or s.words i 0)) tt tt) in
+      (follows_load s r i me.0.me (Learn slot (get_or s.words i 0)) tt tt tt) in
       (t.0, keeps, tt, t.1, (t.2, refl))
 
-  pub loads_ok : (slots id : ℕ) (me : Me ℕ View) (i h : ℕ) → Knows ((i - base_of me.0.shape) / width_of me.0.shape) h me.0.mine → Allows (Kept k) slots id me i (λ n. n) (loads (step slots i 0 0 none) me)
-  loads_ok slots id me i h known s r _ at _ =
+  pub loads_ok : (slots id : ℕ) (me : Me ℕ View) (i slot place : ℕ) → IsAt k i slot place → slot < k.slots → place < width_of k → IsLearnt slot me.0.mine
+      → Allows (Kept k) slots id me i (λ n. n) (loads (step slots i 0 0 none) me)
+  loads_ok slots id me i slot place is low in_slot known s r _ at _ =
       let f = r.each_seat id me.0 at in
+      let x : ℕ = get_or s.words i 0 in
       let p : ℕ = i - base_of me.0.shape in
-      let m : Move = Load (p / width_of me.0.shape) (p % width_of me.0.shape) (get_or s.words i 0) in
-      let t = advance s r id i (get_or s.words i 0) me.0 me.1 m at
-      (h, subst (λ ms. Knows (p / width_of me.0.shape) h ms) (sym f.mine) known)
-      (follows_load s r i me.0.me m tt tt) in
-      (t.0, keeps, tt, t.1, (t.2, refl))
+      let m : Move = Load (p / width_of me.0.shape) (p % width_of me.0.shape) x in
+      let same : m ≡ Load slot place x = load_move me.0.shape k i slot place x f.shape is in_slot in
+      let may : MayDo k r.log me.0.me (Load slot place x) = (subst (IsLearnt slot) (sym f.mine) known, ap (λ z. get_or s.words z 0) is ∙ r.stored slot place low in_slot) in
+      let t = advance s r id i x me.0 me.1 m at (subst (MayDo k r.log me.0.me) (sym same) may) (follows_load s r i me.0.me m tt tt tt) in
+      (t.0, keeps, tt, t.1, (subst (λ (z : TableShape). base_of z ≤ i) (sym f.shape) (omega arith), t.2, refl))
 
   pub scans_ok : (slots id : ℕ) (me : Me ℕ View) (i r : ℕ) → i ≡ r * SECTION_STRIDE → r < k.readers → me.0.me ≡ 0 → Allows (Kept k) slots id me i (λ n. n) (scans (step slots i 0 0 none) me)
   scans_ok slots id me i q is low writer s r _ at _ =
       let m : Move = Scan (i / SECTION_STRIDE + 1) (get_or s.words i 0) in
       let own : i / SECTION_STRIDE ≡ q = omega arith in
-      let t = advance s r id i (get_or s.words i 0) me.0 me.1 m at (writer, subst (λ (z : ℕ × ℕ). get_or s.words z.0 0 ≡ inside (moves_of (z.1 + 1) r.log)) (λ a. (sym is a, sym own a)) (r.sections q low)) (follows_load s r i me.0.me m tt tt) in
+      let t = advance s r id i (get_or s.words i 0) me.0 me.1 m at (writer, subst (λ (z : ℕ × ℕ). get_or s.words z.0 0 ≡ inside (moves_of (z.1 + 1) r.log)) (λ a. (sym is a, sym own a)) (r.sections q low)) (follows_load s r i me.0.me m tt tt tt) in
       (t.0, keeps, tt, t.1, (t.2, refl))
 
-  pub stores_ok : (slots id : ℕ) (me : Me ℕ View) (i x : ℕ) → base_of k ≤ i → (me.0.me ≡ 0) ⊎ ((h : ℕ) × Knows ((i - base_of me.0.shape) / width_of me.0.shape) h me.0.mine)
+  pub stores_ok : (slots id : ℕ) (me : Me ℕ View) (i slot place x : ℕ) → IsAt k i slot place → slot < k.slots → place < width_of k → ((me.0.me ≡ 0) × IsSpare k.readers slot me.0.mine) ⊎ IsLearnt slot me.0.mine
       → Allows (Kept k) slots id me i (λ _. x) (λ _. stores (step slots i x 0 none) me x)
-  stores_ok slots id me i x low may s r _ at _ =
+  stores_ok slots id me i slot place x is low in_slot may s r _ at _ =
       let f = r.each_seat id me.0 at in
       let p : ℕ = i - base_of me.0.shape in
-      let slot : ℕ = p / width_of me.0.shape in
-      let m : Move = Store slot (p % width_of me.0.shape) x in
-      let t = advance s r id i x me.0 me.1 m at
-      (subst (λ ms. (me.0.me ≡ 0) ⊎ ((h : ℕ) × Knows slot h ms)) (sym f.mine) may)
-      (follows_quiet s r i x me.0.me m tt tt (λ j l. get_or-set_other s.words i j x 0 (λ e. absurd (omega arith)))) in
-      (t.0, keeps, tt, t.1, (t.2, refl))
+      let m : Move = Store (p / width_of me.0.shape) (p % width_of me.0.shape) x in
+      let same : m ≡ Store slot place x = store_move me.0.shape k i slot place x f.shape is in_slot in
+      let does : MayDo k r.log me.0.me (Store slot place x) = ⊎_elim
+      (λ (w : (me.0.me ≡ 0) × IsSpare k.readers slot me.0.mine). inl (w.0, subst (IsSpare k.readers slot) (sym (ap (λ z. moves_of z r.log) (sym w.0) ∙ f.mine)) w.1))
+      (λ l. inr (subst (IsLearnt slot) (sym f.mine) l)) may in
+      let t = advance s r id i x me.0 me.1 m at (subst (MayDo k r.log me.0.me) (sym same) does) (subst (Follows s r.log i x me.0.me) (sym same) (follows_store s r i slot place x me.0.me is low in_slot)) in
+      (t.0, keeps, tt, t.1, (subst (λ (z : TableShape). base_of z ≤ i) (sym f.shape) (omega arith), t.2, refl))
 
   -- a step that sets the section word of its own reader
-  follows_section : (s : St) (r : Kept k s) (i n x me : ℕ) (m : Move) → i ≡ n * SECTION_STRIDE → n < k.readers → me ≡ n + 1 → IsQuiet m → ((ms : List Move) → inside (m ∷ ms) ≡ x) → Follows s r.log i x me m
-  follows_section s r i n x me m at low mine q sets = let wide = r.wide in record {
+  follows_section : (s : St) (r : Kept k s) (i n x me : ℕ) (m : Move) → i ≡ n * SECTION_STRIDE → n < k.readers → me ≡ n + 1 → IsQuiet m → IsIdle m → ((ms : List Move) → inside (m ∷ ms) ≡ x) → Follows s r.log i x me m
+  follows_section s r i n x me m at low mine q d sets = let wide = r.wide in record {
     headers = λ slot l. get_or-set_other s.words i (headers_from k + slot) x 0 (λ e. absurd (omega arith)) ∙ (r.headers slot l ∙ sym (quiet me 0 slot m r.log q));
     sections = λ j l. dite (ℕ_discrete j n)
         (λ e. ap (λ z. get_or (set s.words i x) z 0) (ap (λ z. z * SECTION_STRIDE) e ∙ sym at) ∙ (get_or-set_same s.words i x 0 (omega arith)
         ∙ sym (subst (λ z. inside (moves_of z ((me, m) ∷ r.log)) ≡ x) (mine ∙ ap (λ z. z + 1) (sym e)) (ap inside (moves_self me m r.log) ∙ sets (moves_of me r.log)))))
         (λ ne. get_or-set_other s.words i (j * SECTION_STRIDE) x 0 (λ e. ne (omega arith)) ∙ (r.sections j l ∙ sym (ap inside (moves_else me (j + 1) m r.log (λ e. ne (omega arith))))));
+    stored = stored_behind s r i x me m (omega arith) d;
   }
 
   pub opens_ok : (slots id : ℕ) (me : Me ℕ View) (i n : ℕ) → i ≡ n * SECTION_STRIDE → n < k.readers → me.0.me ≡ n + 1 → Allows (Kept k) slots id me i (λ _. 1) (λ _. opens (step slots i 1 0 none) me 1)
   opens_ok slots id me i n is low mine s r _ at _ =
-      let t = advance s r id i 1 me.0 me.1 Open at (omega arith, omega arith) (follows_section s r i n 1 me.0.me Open is low mine tt (λ ms. refl)) in
+      let t = advance s r id i 1 me.0 me.1 Open at (omega arith, omega arith) (follows_section s r i n 1 me.0.me Open is low mine tt tt (λ ms. refl)) in
       (t.0, keeps, tt, t.1, (t.2, refl))
 
   pub closes_ok : (slots id : ℕ) (me : Me ℕ View) (i n : ℕ) → i ≡ n * SECTION_STRIDE → n < k.readers → me.0.me ≡ n + 1 → Allows (Kept k) slots id me i (λ _. 0) (λ _. closes (step slots i 0 0 none) me 0)
   closes_ok slots id me i n is low mine s r _ at _ =
-      let t = advance s r id i 0 me.0 me.1 Close at (omega arith, omega arith) (follows_section s r i n 0 me.0.me Close is low mine tt (λ ms. refl)) in
+      let t = advance s r id i 0 me.0 me.1 Close at (omega arith, omega arith) (follows_section s r i n 0 me.0.me Close is low mine tt tt (λ ms. refl)) in
       (t.0, keeps, tt, t.1, (t.2, refl))
 
   header_same : (slot w : ℕ) (ms : List Move) → header_in slot (Header slot w ∷ ms) ≡ w
@@ -172,6 +195,7 @@ module _ (k : TableShape) where
             (λ ne. get_or-set_other s.words i (headers_from k + other) x 0 (λ z. ne (omega arith)) ∙ (r.headers other l
             ∙ sym (subst (λ z. header_in other (moves_of z ((me.0.me, m) ∷ r.log)) ≡ header_in other (moves_of z r.log)) writer (ap (header_in other) (moves_self me.0.me m r.log) ∙ header_else slot other x (moves_of me.0.me r.log) ne))));
         sections = λ j l. get_or-set_other s.words i (j * SECTION_STRIDE) x 0 (λ z. absurd (omega arith)) ∙ (r.sections j l ∙ sym (still me.0.me (j + 1) m r.log tt));
+        stored = stored_behind s r i x me.0.me m high tt;
       } in
       let t = advance s r id i x me.0 me.1 m at
       (writer, subst (λ ms. x ≡ header_in slot ms + 1) (sym own) is, λ odd. subst (λ ms. MayLink k.readers slot ms) (sym own) (may odd)) go in
@@ -197,6 +221,7 @@ module _ (k : TableShape) where
         wide = r.wide;
         headers = r.headers;
         sections = r.sections;
+        stored = r.stored;
         lawful = r.lawful;
         fresh = λ who n. r.fresh who (omega arith);
         each_seat = λ j u e. ⊎_elim
@@ -237,6 +262,7 @@ module _ (k : TableShape) where
     wide = wide;
     headers = λ slot _. zeros (headers_from k + slot);
     sections = λ r _. zeros (r * SECTION_STRIDE);
+    stored = λ slot place _ _. zeros (index_in k slot place);
     lawful = tt;
     fresh = λ _ _. refl;
     each_seat = one;

@@ -1,3 +1,4 @@
-mod Lists
+pub mod Lists
+pub mod Places
 pub mod Keeps
 pub mod Safe

@@ -1,11 +1,11 @@
 -- What a reader learnt as linked keeps its generation while its section is open.
-use Rattle.std.proofs.Common.{◌≡◌, ◌⊎◌, ℕ, ◌+◌, ◌%◌, List, [], ◌∷◌, refl, sym, ap, ◌∙◌, subst, ⊎_elim, inl, inr, arith, eq-eqb, ne_eqb}
+use Rattle.std.proofs.Common.{◌≡◌, ◌⊎◌, ℕ, ◌+◌, ◌%◌, List, [], ◌∷◌, ◌++◌, refl, sym, ap, ◌∙◌, subst, ⊎_elim, inl, inr, arith, eq-eqb, ne_eqb}
 use mathlib.Core.Logic.{dite}
 use native.Mathlib.Decide.{ℕ_discrete}
 use Rattle.table_rule.specs.declared.view.Move.{Move}
 use Rattle.table_rule.specs.declared.view.Move.TheVariants.{Open, Close, Learn, Load, Store, Header, Scan}
 use Rattle.table_rule.specs.declared.view.TableShape.{TableShape}
-use Rattle.table_rule.specs.History.{moves_of, inside, header_in, generation, Knows, Cleared, MayLink, IsReader, MayDo, IsLawful}
+use Rattle.table_rule.specs.History.{moves_of, inside, header_in, word_in, generation, Knows, IsLearnt, Cleared, MayLink, IsSpare, IsReader, MayDo, IsLawful}
 
 -- of what the reader did, a, and what the writer did, b
 record Safe (k : TableShape) (who slot h : ℕ) (a b : List Move) : Type 0 where
@@ -95,3 +95,24 @@ pub same_generation : (k : TableShape) (es : List (ℕ × Move)) → IsLawful k 
 same_generation k es lawful who slot h known =
     let s = safe k es lawful who slot h known in
     ⊎_elim (λ (t : header_in slot (moves_of 0 es) ≡ h). ap generation t) (λ (t : (header_in slot (moves_of 0 es) ≡ h + 1) × (Cleared who slot (moves_of 0 es) → ⊥)). ap generation t.0 ∙ half_up h s.odd) s.held
+
+-- nobody has learnt a spare slot
+pub spare_unlearnt : (k : TableShape) (es : List (ℕ × Move)) → IsLawful k es → (who slot : ℕ) → IsSpare k.readers slot (moves_of 0 es) → IsLearnt slot (moves_of who es) → ⊥
+spare_unlearnt k es lawful who slot spare known =
+    let s = safe k es lawful who slot known.0 known.1 in
+    let odd = s.odd in
+    let even = spare.0 in
+    ⊎_elim
+    (λ (t : header_in slot (moves_of 0 es) ≡ known.0). absurd (omega arith))
+    (λ (t : (header_in slot (moves_of 0 es) ≡ known.0 + 1) × (Cleared who slot (moves_of 0 es) → ⊥)).
+    let e = t.0 in
+    ⊎_elim (λ (z : header_in slot (moves_of 0 es) ≡ 0). absurd (omega arith)) (λ all. t.1 (all who s.reader.0 s.reader.1)) spare.1) s.held
+
+-- what came before a step was lawful, and the step was
+pub lawful_before : (k : TableShape) (after before : List (ℕ × Move)) (e : ℕ × Move) → IsLawful k (after ++ e ∷ before) → MayDo k before e.0 e.1 × IsLawful k before
+lawful_before k [] before e h = h
+lawful_before k (x ∷ after) before e h = lawful_before k after before e h.1
+
+-- a load finds what was stored last
+pub finds_stored : (k : TableShape) (es : List (ℕ × Move)) → IsLawful k es → (after before : List (ℕ × Move)) (who slot place x : ℕ) → es ≡ after ++ (who, Load slot place x) ∷ before → x ≡ word_in slot place before
+finds_stored k es lawful after before who slot place x e = (lawful_before k after before (who, Load slot place x) (subst (IsLawful k) e lawful)).0.1

@@ -24,6 +24,17 @@ header_in slot [] = 0
 header_in slot (Header s w ∷ ms) = if s == slot then w else header_in slot ms
 header_in slot (_ ∷ ms) = header_in slot ms
 
+-- the word at a place of a slot after a move, where it was the old one before
+abbrev pub word_after : ℕ → ℕ → Move → ℕ → ℕ
+word_after slot place (Store s p x) old =
+    if s == slot then (if p == place then x else old) else old
+word_after slot place _ old = old
+
+-- The word at a place of a slot after all this: what was stored there last, by whomever, and 0 where nothing was.
+abbrev pub word_in : ℕ → ℕ → List (ℕ × Move) → ℕ
+word_in slot place [] = 0
+word_in slot place (e ∷ es) = word_after slot place e.1 (word_in slot place es)
+
 -- how often a slot with this header was linked
 abbrev pub generation : ℕ → ℕ
 generation header = (header + 1) / 2
@@ -53,19 +64,26 @@ abbrev pub MayLink : ℕ → ℕ → List Move → Type 0
 MayLink readers slot ms =
     (header_in slot ms ≡ 0) ⊎ ((r : ℕ) → 0 < r → r ≤ readers → Cleared r slot ms)
 
+-- the slot isn't linked, and no reader can still hold it, by what the writer did
+abbrev pub IsSpare : ℕ → ℕ → List Move → Type 0
+IsSpare readers slot ms = (header_in slot ms % 2 ≡ 0) × MayLink readers slot ms
+
 abbrev pub IsReader : TableShape → ℕ → Type 0
 IsReader k who = (0 < who) × (who ≤ k.readers)
 
 -- What a holder may do after all this: a reader opens and closes its sections, learns the headers that there are while it
--- is inside one, and touches the words of a slot that it has learnt in it. The writer, number 0, writes words, changes a
--- header by one, and links a slot again only where each reader was seen outside since.
+-- is inside one, and touches the words of a slot that it has learnt in it. A load finds the word that was stored last. The
+-- writer, number 0, fills slots that are not linked and that nobody can hold, changes a header by one, and links a slot
+-- again only where each reader was seen outside since.
 abbrev pub MayDo : TableShape → List (ℕ × Move) → ℕ → Move → Type 0
 MayDo k es who Open = IsReader k who
 MayDo k es who Close = IsReader k who
 MayDo k es who (Learn slot h) =
     IsReader k who × (inside (moves_of who es) ≡ 1) × (h ≡ header_in slot (moves_of 0 es))
-MayDo k es who (Load slot place x) = IsLearnt slot (moves_of who es)
-MayDo k es who (Store slot place x) = (who ≡ 0) ⊎ IsLearnt slot (moves_of who es)
+MayDo k es who (Load slot place x) =
+    IsLearnt slot (moves_of who es) × (x ≡ word_in slot place es)
+MayDo k es who (Store slot place x) =
+    ((who ≡ 0) × IsSpare k.readers slot (moves_of 0 es)) ⊎ IsLearnt slot (moves_of who es)
 MayDo k es who (Header slot w) =
     (who ≡ 0) × (w ≡ header_in slot (moves_of 0 es) + 1)
     × (w % 2 ≡ 1 → MayLink k.readers slot (moves_of 0 es))

@@ -9,7 +9,7 @@ use Rattle.table_rule.specs.declared.view.Move.{Move}
 use Rattle.table_rule.specs.declared.view.Move.TheVariants.{Open, Close, Learn, Load, Store, Header, Scan}
 use Rattle.table_rule.specs.declared.view.TableShape.{TableShape}
 use Rattle.table_rule.specs.declared.view.View.{View}
-use Rattle.table_rule.specs.History.{moves_of, inside, header_in, IsLawful}
+use Rattle.table_rule.specs.History.{moves_of, inside, header_in, word_in, IsLawful}
 
 -- how many words a slot has
 abbrev pub width_of : TableShape → ℕ
@@ -28,6 +28,10 @@ base_of k = headers_from k + k.slots
 abbrev pub count_of : TableShape → ℕ
 count_of k = base_of k + k.slots * width_of k
 
+-- where a word of a slot lies
+abbrev pub index_in : TableShape → ℕ → ℕ → ℕ
+index_in k slot place = base_of k + (slot * width_of k + place)
+
 -- one history goes on from another
 abbrev pub Later : List (ℕ × Move) → List (ℕ × Move) → Type 0
 Later new old = (between : List (ℕ × Move)) × (new ≡ between ++ old)
@@ -42,7 +46,8 @@ pub record Fits (k : TableShape) (log : List (ℕ × Move)) (next : ℕ) (seat_o
   pub mine : moves_of v.me log ≡ v.mine
   pub later : Later log v.seen
 
--- There is one lawful history of all steps. The headers and the section words are what it leaves, and each seat fits it.
+-- There is one lawful history of all steps. The headers, the section words and the words of the slots are what it leaves,
+-- and each seat fits it.
 pub record Kept (k : TableShape) (s : State ℕ View) : Type 0 where
   pub log : List (ℕ × Move)
   pub next : ℕ
@@ -52,6 +57,8 @@ pub record Kept (k : TableShape) (s : State ℕ View) : Type 0 where
       slice_index s.words (headers_from k + slot) ≡ header_in slot (moves_of 0 log)
   pub sections : (r : ℕ) → r < k.readers →
       slice_index s.words (r * SECTION_STRIDE) ≡ inside (moves_of (r + 1) log)
+  pub stored : (slot place : ℕ) → slot < k.slots → place < width_of k →
+      slice_index s.words (index_in k slot place) ≡ word_in slot place log
   pub lawful : IsLawful k log
   pub fresh : (who : ℕ) → next ≤ who → moves_of who log ≡ []
   pub each_seat : (j : ℕ) (v : View) → get_elem? s.views j ≡ some v → Fits k log next seat_of j v
@@ -106,17 +113,19 @@ closes st m n m' = Gains m.0 Close m'.0 × (m'.1 ≡ m.1)
 abbrev pub learns : Step ℕ → Sat → ℕ → Sat → Type 0
 learns st m n m' = Gains m.0 (Learn (st.word - headers_from m.0.shape) n) m'.0 × (m'.1 ≡ m.1)
 
--- a reader found a word of a slot
+-- a reader found a word of a slot, and read no other word
 abbrev pub loads : Step ℕ → Sat → ℕ → Sat → Type 0
 loads st m n m' =
     let at = st.word - base_of m.0.shape in
-    Gains m.0 (Load (at / width_of m.0.shape) (at % width_of m.0.shape) n) m'.0 × (m'.1 ≡ m.1)
+    (base_of m.0.shape ≤ st.word)
+    × Gains m.0 (Load (at / width_of m.0.shape) (at % width_of m.0.shape) n) m'.0 × (m'.1 ≡ m.1)
 
--- a holder wrote a word of a slot
+-- a holder wrote a word of a slot, and no other word
 abbrev pub stores : Step ℕ → Sat → ℕ → Sat → Type 0
 stores st m n m' =
     let at = st.word - base_of m.0.shape in
-    Gains m.0 (Store (at / width_of m.0.shape) (at % width_of m.0.shape) st.first) m'.0 × (m'.1 ≡ m.1)
+    (base_of m.0.shape ≤ st.word)
+    × Gains m.0 (Store (at / width_of m.0.shape) (at % width_of m.0.shape) st.first) m'.0 × (m'.1 ≡ m.1)
 
 -- the writer changed the header of a slot
 abbrev pub changes : Step ℕ → Sat → ℕ → Sat → Type 0

@@ -1,8 +1,9 @@
 //! The rule of the table, and what each kind of step tells.
-ghost use Rattle.std.specs.Prelude.{◌≡◌, ℕ, List};
+ghost use Rattle.std.specs.Prelude.{◌≡◌, ℕ, List, ◌∷◌, ◌++◌};
 ghost use Rattle.table_rule.specs.declared.view.Move.{Move};
+ghost use Rattle.table_rule.specs.declared.view.Move.TheVariants.{Load};
 ghost use Rattle.table_rule.specs.declared.view.TableShape.{TableShape};
-ghost use Rattle.table_rule.specs.History.{moves_of, header_in, generation, Knows, IsLawful};
+ghost use Rattle.table_rule.specs.History.{moves_of, header_in, word_in, generation, Knows, IsLearnt, IsSpare, IsLawful};
 
 use crate::view::{TableShape, View};
 use atomic_table::{Play, Split, TableRule};
@@ -16,6 +17,20 @@ pub fn held_slots_stay()
     ensures { (k : TableShape) (es : List (ℕ × Move)) → IsLawful k es → (who slot h : ℕ) →
         Knows slot h (moves_of who es) →
         generation (header_in slot (moves_of 0 es)) ≡ generation h }
+{}
+
+/// In every lawful history nobody has learnt a slot that is spare, so that what the writer stores in it no reader can
+/// reach or change.
+pub fn spare_slots_are_unlearnt()
+    ensures { (k : TableShape) (es : List (ℕ × Move)) → IsLawful k es → (who slot : ℕ) →
+        IsSpare k.readers slot (moves_of 0 es) → IsLearnt slot (moves_of who es) → ⊥ }
+{}
+
+/// In every lawful history a load finds the word that was stored at the place last, by whomever, and 0 where none was.
+pub fn loads_find_what_was_stored()
+    ensures { (k : TableShape) (es : List (ℕ × Move)) → IsLawful k es →
+        (after before : List (ℕ × Move)) (who slot place x : ℕ) →
+        es ≡ after ++ (who, Load slot place x) ∷ before → x ≡ word_in slot place before }
 {}
 
 /// The rule: the words are what one lawful history of all steps leaves.

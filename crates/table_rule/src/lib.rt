@@ -7,6 +7,6 @@ mod view;
 
 pub use law::{
     Changes, Closes, Deals, Law, Learns, Loads, Opens, SECTION_STRIDE, Scans, Stores,
-    held_slots_stay,
+    held_slots_stay, loads_find_what_was_stored, spare_slots_are_unlearnt,
 };
 pub use view::{Move, TableShape, View};

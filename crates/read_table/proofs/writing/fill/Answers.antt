@@ -2,6 +2,7 @@ use Rattle.std.proofs.Common.{◌+◌, ◌∷◌, [], sym, ◌∙◌, subst, ref
 use Rattle.table_rule.specs.declared.view.Move.TheVariants.{Store}
 use Rattle.read_table.specs.Slots.{Fills}
 use Rattle.read_table.proofs.Going.{went_then}
+use Rattle.read_table.proofs.Keeping.{fills_quiet, quiet_free}
 use Rattle.read_table.proofs.writing.fill.Goals as goal
 
 pub loop-place-preserved : goal.loop-place-preserved
@@ -16,3 +17,8 @@ loop-place-preserved c =
         went_then c.args.seat.now.me.0 c.loop-place.seat.me.0 c.write.new.seat.me.0 i.2.0 (m ∷ []) i.2.2 c.write.ensures.step,
       ),
     )
+
+pub write-requires-clause-free : goal.write-requires-clause-free
+write-requires-clause-free c =
+    let i = c.loop-place.invariant in
+    quiet_free c.args.seat.now.me.0 c.loop-place.seat.me.0 i.2.0 (fills_quiet c.args.slot c.args.from c.loop-place.place c.args.bytes.now i.2.0 i.2.1) i.2.2 c.args.slot c.requires.free

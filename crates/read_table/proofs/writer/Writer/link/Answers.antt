@@ -17,6 +17,11 @@ write_slot-requires-clause-slot c =
     let f = at_leaves (IsFree c.self.inside.seat.me.0) c.take_nearest-slot.result _ _ c.take_nearest-slot.ensures.leaves i.1.are_free in
     subst (λ (k : TableShape). c.take_nearest-slot.result < k.slots) shape f.within
 
+pub write_slot-requires-clause-free : goal.write_slot-requires-clause-free
+write_slot-requires-clause-free c =
+    let i = c.self.invariant in
+    at_leaves (IsFree c.self.inside.seat.me.0) c.take_nearest-slot.result _ _ c.take_nearest-slot.ensures.leaves i.1.are_free
+
 pub change-requires-clause-slot : goal.change-requires-clause-slot
 change-requires-clause-slot c =
     let i = c.self.invariant in
