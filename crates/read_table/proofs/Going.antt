@@ -1,8 +1,9 @@
 -- Stretches of a holder's list.
-use Rattle.std.proofs.Common.{◌≡◌, ℕ, List, [], ◌∷◌, ◌++◌, refl, sym, ap, ◌∙◌, subst, append_assoc}
+use Rattle.std.proofs.Common.{◌≡◌, ℕ, List, [], ◌∷◌, ◌++◌, refl, sym, ap, ◌∙◌, subst, append_assoc, inl, inr, ◌%◌}
 use Rattle.table_rule.specs.declared.view.Move.{Move}
+use Rattle.table_rule.specs.declared.view.Move.TheVariants.{Open, Close, Learn, Load, Store}
 use Rattle.table_rule.specs.declared.view.View.{View}
-use Rattle.table_rule.specs.History.{moves_of, Knows, IsLawful}
+use Rattle.table_rule.specs.History.{moves_of, inside, Knows, IsLearnt, IsLawful}
 use Rattle.table_rule.specs.Law.{Gains}
 use Rattle.table_rule.proofs.Safe.{same_generation}
 use Rattle.read_table.specs.Held.{Holder, Does, Goes, Went, IsKnown, IsUnchanged}
@@ -76,3 +77,32 @@ goes_fact P s t ms g p = subst P (sym (goes_mine s t ms g)) p
 pub known_unchanged : (t : Holder) (slot h : ℕ) → IsKnown t.view → Knows slot h t.view.mine → IsUnchanged slot t
 known_unchanged t slot h k known =
     (h, known, same_generation t.view.shape t.view.seen k.0 t.view.me slot h (subst (Knows slot h) (sym k.1) known))
+
+-- what single steps do to the section, and to what the holder knows
+
+pub open_inside : (s t : Holder) → Does s Open t → inside t.view.mine ≡ 1
+open_inside s t d = goes_fact (λ ms. inside ms ≡ 1) s t (Open ∷ []) d refl
+
+pub close_outside : (s t : Holder) → Does s Close t → inside t.view.mine ≡ 0
+close_outside s t d = goes_fact (λ ms. inside ms ≡ 0) s t (Close ∷ []) d refl
+
+pub learn_inside : (s t : Holder) (slot h : ℕ) → Does s (Learn slot h) t → inside t.view.mine ≡ inside s.view.mine
+learn_inside s t slot h d = goes_fact (λ ms. inside ms ≡ inside s.view.mine) s t (Learn slot h ∷ []) d refl
+
+pub load_inside : (s t : Holder) (slot place x : ℕ) → Does s (Load slot place x) t → inside t.view.mine ≡ inside s.view.mine
+load_inside s t slot place x d = goes_fact (λ ms. inside ms ≡ inside s.view.mine) s t (Load slot place x ∷ []) d refl
+
+pub store_inside : (s t : Holder) (slot place x : ℕ) → Does s (Store slot place x) t → inside t.view.mine ≡ inside s.view.mine
+store_inside s t slot place x d = goes_fact (λ ms. inside ms ≡ inside s.view.mine) s t (Store slot place x ∷ []) d refl
+
+pub learn_knows : (s t : Holder) (slot h : ℕ) → Does s (Learn slot h) t → h % 2 ≡ 1 → IsLearnt slot t.view.mine
+learn_knows s t slot h d odd = (h, goes_fact (Knows slot h) s t (Learn slot h ∷ []) d (inl (refl, refl, odd)))
+
+pub learn_keeps : (s t : Holder) (slot h : ℕ) → Does s (Learn slot h) t → (other g : ℕ) → Knows other g s.view.mine → Knows other g t.view.mine
+learn_keeps s t slot h d other g known = goes_fact (Knows other g) s t (Learn slot h ∷ []) d (inr known)
+
+pub load_keeps : (s t : Holder) (slot place x : ℕ) → Does s (Load slot place x) t → (other g : ℕ) → Knows other g s.view.mine → Knows other g t.view.mine
+load_keeps s t slot place x d other g known = goes_fact (Knows other g) s t (Load slot place x ∷ []) d known
+
+pub store_keeps : (s t : Holder) (slot place x : ℕ) → Does s (Store slot place x) t → (other g : ℕ) → Knows other g s.view.mine → Knows other g t.view.mine
+store_keeps s t slot place x d other g known = goes_fact (Knows other g) s t (Store slot place x ∷ []) d known

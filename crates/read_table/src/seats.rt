@@ -8,6 +8,7 @@ use std::marker::Model;
 /// `list.as_mut_slice()` all, as to threads, and a pool takes `&mut list`.
 #[derive(Drop)]
 pub struct Seats {
+    /// The seats, that of the first reader first.
     pub list: Vec<ReadSeat>,
 }
 

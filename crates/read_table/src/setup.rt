@@ -50,7 +50,8 @@ fn deal_all(
 
 impl ReadTable {
     /// A table of so many slots, for keys and values of so many bytes, with a seat for each of its readers, and its
-    /// writer. Nothing is linked. It takes memory here, and in no later call.
+    /// writer. Nothing is linked. All memory is taken here: an `Err` says that there was too little, and no later call
+    /// takes any.
     pub fn new(
         alloc: Global,
         slots: usize,

@@ -19,11 +19,14 @@ use table_rule::{
 pub struct ReadTable {
     table: Table<u8, View, TableShape, Law, Global>,
     shape: TableShape,
+    // Where the words of the slots begin, and how many a slot has: kept so that each load and store is short.
+    base: usize,
+    width: usize,
 }
 
 impl Model for ReadTable {
     ghost use Rattle.std.specs.Prelude.{◌≡◌};
-    ghost use Rattle.table_rule.specs.Law.{count_of};
+    ghost use Rattle.table_rule.specs.Law.{count_of, base_of, width_of};
     ghost use Rattle.read_table.specs.Held.{TableView, IsSized};
 
     ghost Value = { TableView };
@@ -31,10 +34,12 @@ impl Model for ReadTable {
     ghost view = { λ t. record { id = t.table.shared.table_id; shape = t.shape } };
 
     ghost invariant = { λ t. (t.table.shared.key ≡ t.shape)
-        × (t.table.shared.table_id.words ≡ count_of t.shape) × IsSized t.shape };
+        × (t.table.shared.table_id.words ≡ count_of t.shape) × IsSized t.shape
+        × (t.base ≡ base_of t.shape) × (t.width ≡ width_of t.shape) };
 }
 
-/// A reader's seat at a table. Contracts see at which, and what the reader did and saw there.
+/// A reader's seat at a table. Contracts see at which, and what the reader did and saw there. A seat that is dropped
+/// inside a section keeps the slots that are unlinked later from being reclaimed, for ever.
 #[derive(Drop)]
 pub struct ReadSeat {
     seat: Seat<u8, View>,
@@ -68,19 +73,6 @@ impl ReadSeat {
     }
 }
 
-/// Where a word of a slot lies.
-#[inline]
-fn index_of(shape: &TableShape, slot: usize, place: usize) -> usize
-    requires sized { IsSized shape.now }
-    requires slot { slot < shape.now.slots }
-    requires place { place < width_of shape.now }
-    ensures index { result ≡ base_of shape.now + (slot * width_of shape.now + place) }
-    ensures within { result < count_of shape.now }
-{
-    let width = shape.key_words + shape.value_words;
-    shape.readers * SECTION_STRIDE + shape.slots + (slot * width + place)
-}
-
 impl ReadTable {
     /// How many of each the table has.
     #[inline]
@@ -89,6 +81,17 @@ impl ReadTable {
         ensures sized { IsSized result }
     {
         self.shape
+    }
+
+    /// Where a word of a slot lies.
+    #[inline]
+    fn index_of(&self, slot: usize, place: usize) -> usize
+        requires slot { slot < self.now.shape.slots }
+        requires place { place < width_of self.now.shape }
+        ensures index { result ≡ base_of self.now.shape + (slot * width_of self.now.shape + place) }
+        ensures within { result < self.now.id.words }
+    {
+        self.base + (slot * self.width + place)
     }
 
     /// Begins a section.
@@ -121,7 +124,9 @@ impl ReadTable {
         requires table { seat.old.table ≡ self.now }
         requires inside { inside seat.old.view.mine ≡ 1 }
         requires slot { slot < self.now.shape.slots }
-        ensures { (h : ℕ) × Does seat.old (Learn slot h) seat.new × (IsTrue result ↔ (h % 2 ≡ 1)) }
+        ensures step { (h : ℕ) × Does seat.old (Learn slot h) seat.new
+            × (IsTrue result ↔ (h % 2 ≡ 1)) }
+        ensures learnt { result ≡ true → IsLearnt slot seat.new.view.mine }
     {
         let index = self.shape.readers * SECTION_STRIDE + slot;
         let header = self.table.shared.load::<Learns>(&mut seat.seat, index);
@@ -139,7 +144,7 @@ impl ReadTable {
         ensures step { Does seat.old (Load slot place result) seat.new }
         ensures unchanged { IsUnchanged slot seat.new }
     {
-        let index = index_of(&self.shape, slot, place);
+        let index = self.index_of(slot, place);
         self.table.shared.load::<Loads>(&mut seat.seat, index)
     }
 
@@ -154,7 +159,7 @@ impl ReadTable {
         ensures step { Does seat.old (Store slot place word) seat.new }
         ensures unchanged { IsUnchanged slot seat.new }
     {
-        let index = index_of(&self.shape, slot, place);
+        let index = self.index_of(slot, place);
         self.table
             .shared
             .store::<Stores>(&mut seat.seat, index, word);
@@ -174,7 +179,15 @@ impl ReadTable {
         ensures writer { IfOk result (λ t. t.1.me ≡ (writer_after 0 shape, [])) }
     {
         let (table, seat) = Table::of_words(alloc, words, &shape)?;
-        Ok((ReadTable { table, shape }, seat))
+        let base = shape.readers * SECTION_STRIDE + shape.slots;
+        let width = shape.key_words + shape.value_words;
+        let table = ReadTable {
+            table,
+            shape,
+            base,
+            width,
+        };
+        Ok((table, seat))
     }
 
     /// The seat of the next reader.
@@ -208,7 +221,7 @@ impl ReadTable {
         ensures held { seat.new.me.1 ≡ seat.old.me.1 }
         ensures step { Went seat.old.me.0 (Store slot place word ∷ seat.old.me.0.mine) seat.new.me.0 }
     {
-        let index = index_of(&self.shape, slot, place);
+        let index = self.index_of(slot, place);
         self.table.shared.store::<Stores>(seat, index, word);
     }
 

@@ -19,7 +19,7 @@ pub(crate) fn word_of(bytes: &[u8], place: usize) -> u64
     number_of(bytes, WORD_BYTES * place, Width::Eight)
 }
 
-/// A hash of the first words of a key. Its high half depends on all their bits.
+/// A hash of a key of so many words. Its high half depends on all bits of the key.
 #[inline]
 fn hash_of(key: &[u8], words: usize) -> u64
     requires { length key.now ≡ WORD_BYTES * words }

@@ -133,7 +133,8 @@ impl Writer {
         true
     }
 
-    /// A law: each slot stands in one of the three lists, once, in that where it belongs.
+    /// A law: each slot stands in one of the three lists, once: a free one may be linked, a linked one has an odd header,
+    /// and an unlinked one an even one.
     pub fn each_slot_once(&self)
         ensures { AreSlots self.now.view self.now.free self.now.linked self.now.unlinked }
     {

@@ -1,3 +1,4 @@
 pub mod Numbers
 pub mod Outcomes
 pub mod Trails
+pub mod Readings

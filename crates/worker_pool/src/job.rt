@@ -21,6 +21,9 @@ pub enum StopCause {
     /// The run slot has no ended run of the job's program and context: others dropped the job's
     /// run, and may have started theirs there.
     OtherRun,
+    /// The job's program accesses an element by another width than 8 bytes, or changes a map: a table of words
+    /// serves no such program.
+    SubWord,
 }
 
 /// What came of one job.
@@ -81,7 +84,7 @@ impl StopCause {
     ghost use Rattle.worker_pool.specs.Numbers.{stop_cause_number};
 
     /// The number by which the cause is known: that of the refusal (60 to 67) or of the fault (70, or 13 for
-    /// want of memory), or 93.
+    /// want of memory), 93, or 80.
     pub fn code(self) -> u8
         ensures { result ≡ stop_cause_number self }
     {
@@ -89,6 +92,7 @@ impl StopCause {
             StopCause::Refused(refusal) => refusal.code(),
             StopCause::Fault(fault) => fault.code(),
             StopCause::OtherRun => 93,
+            StopCause::SubWord => 80,
         }
     }
 }

@@ -8,6 +8,7 @@
 mod job;
 mod pool;
 mod pooled;
+mod reading;
 mod repeated;
 mod reply;
 mod zero_jobs;
@@ -16,6 +17,7 @@ pub use job::{Job, JobReport, Outcome, Report, StopCause, Trail};
 pub use job_queue::{MAX_JOBS, MAX_WORKERS, PoolFault, Serve};
 pub use pool::run_jobs;
 pub use pooled::Pooled;
+pub use reading::{Reading, run_read_jobs};
 pub use repeated::{PoolRun, run_program};
 pub use shared::ProgramWithMaps;
 

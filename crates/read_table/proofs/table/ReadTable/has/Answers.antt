@@ -6,13 +6,13 @@ use Rattle.read_table.proofs.table.ReadTable.has.Goals as goal
 
 pub returns-else-learn : goal.returns-else-learn
 returns-else-learn c =
-    let h = c.if-learn.ensures in
+    let h = c.if-learn.ensures.step in
     let not_odd : h.0 % 2 ≢ 1 = λ e. let t : IsTrue false = h.2.1 e in search rules in
     (Learn c.args.slot h.0 ∷ [], h.1, tt, not_linked c.args.self.now.shape c.args.key.now c.args.slot h.0 c.learn.result _ c.if-learn.false (omega arith))
 
 pub returns-then-learn : goal.returns-then-learn
 returns-then-learn c =
-    let h = c.if-learn.ensures in
+    let h = c.if-learn.ensures.step in
     let k = c.has_key.ensures in
     let t : IsTrue true = search rules in (
       k.0 ++ Learn c.args.slot h.0 ∷ [],

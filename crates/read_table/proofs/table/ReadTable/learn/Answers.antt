@@ -3,6 +3,7 @@ use Rattle.table_rule.specs.declared.view.Move.TheVariants.{Learn}
 use Rattle.table_rule.specs.History.{inside}
 use Rattle.read_table.specs.Held.{TableView, Holder}
 use Rattle.read_table.proofs.Calls.{does, learns_at, header_slot, header_within}
+use Rattle.read_table.proofs.Going.{learn_knows}
 use Rattle.read_table.proofs.table.ReadTable.learn.Goals as goal
 
 pub load-header-requires : goal.load-header-requires
@@ -15,8 +16,13 @@ load-header-requires c =
     let one = subst (λ (h : Holder). inside h.view.mine ≡ 1) (sym c.seat.view_is) c.requires.inside in
     (ap (λ (q : TableView). q.id) p, header_within _ _ _ _ refl slot t.1, learns_at _ _ _ _ _ c.args.slot same (sym t.0) slot i.0 one)
 
-pub returns : goal.returns
-returns c =
+pub returns-clause-step : goal.returns-clause-step
+returns-clause-step c =
     let p = ap (λ (h : Holder). h.table) c.seat.view_is ∙ (c.requires.table ∙ sym c.self.view_is) in
     let move = ap (λ z. Learn z c.load-header.result) (header_slot _ _ c.args.slot (ap (λ (q : TableView). q.shape) p)) in
     (c.load-header.result, does _ _ _ _ _ _ _ c.seat.view_is c.load-header.ensures.0 move c.load-header.ensures.2.0, search rules)
+
+pub returns-clause-learnt : goal.returns-clause-learnt
+returns-clause-learnt c = λ is.
+    let d = returns-clause-step c in
+    learn_knows _ _ c.args.slot d.0 d.1 (d.2.0 is)

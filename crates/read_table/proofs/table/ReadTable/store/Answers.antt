@@ -12,15 +12,17 @@ store-requires c =
     let t = c.self.invariant in
     let same = ap (λ (q : TableView). q.shape) p in
     let known = subst (λ (h : Holder). IsLearnt c.args.slot h.view.mine) (sym c.seat.view_is) c.requires.learnt in
-    let at = subst (λ (k : TableShape). IsAt k c.index_of-index.result c.args.slot c.args.place) (sym t.0) c.index_of-index.ensures.index in
+    let own = subst (λ (q : TableView). IsAt q.shape c.index_of-index.result c.args.slot c.args.place) (sym c.self.view_is) c.index_of-index.ensures.index in
+    let at = subst (λ (k : TableShape). IsAt k c.index_of-index.result c.args.slot c.args.place) (sym t.0) own in
     let l = subst (λ (k : TableShape). c.args.place < width_of k) (sym t.0) (subst (λ (q : TableView). c.args.place < width_of q.shape) (sym c.self.view_is) c.requires.place) in
-    (ap (λ (q : TableView). q.id) p, subst (λ z. c.index_of-index.result < z) (sym t.1) c.index_of-index.ensures.within, stores_at _ _ _ _ _ c.args.slot c.args.place _ (same ∙ sym t.0) at l known)
+    (ap (λ (q : TableView). q.id) p, subst (λ (q : TableView). c.index_of-index.result < q.id.words) (sym c.self.view_is) c.index_of-index.ensures.within, stores_at _ _ _ _ _ c.args.slot c.args.place _ (same ∙ sym t.0) at l known)
 
 pub returns-clause-step : goal.returns-clause-step
 returns-clause-step c =
     let p = ap (λ (h : Holder). h.table) c.seat.view_is ∙ (c.requires.table ∙ sym c.self.view_is) in
+    let own = subst (λ (q : TableView). IsAt q.shape c.index_of-index.result c.args.slot c.args.place) (sym c.self.view_is) c.index_of-index.ensures.index in
     let l = subst (λ (q : TableView). c.args.place < width_of q.shape) (sym c.self.view_is) c.requires.place in
-    does _ _ _ _ _ _ _ c.seat.view_is c.store.ensures.0 (store_move _ _ _ _ _ _ (ap (λ (q : TableView). q.shape) p) c.index_of-index.ensures.index l) c.store.ensures.2.0
+    does _ _ _ _ _ _ _ c.seat.view_is c.store.ensures.0 (store_move _ _ _ _ _ _ (ap (λ (q : TableView). q.shape) p) own l) c.store.ensures.2.0
 
 pub returns-clause-unchanged : goal.returns-clause-unchanged
 returns-clause-unchanged c = store_unchanged _ _ c.args.slot c.args.place c.args.word (returns-clause-step c) c.requires.learnt

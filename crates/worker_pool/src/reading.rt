@@ -1,0 +1,117 @@
+//! Jobs that are served from a table, with no lock round an instruction.
+ghost use Rattle.std.specs.Prelude.{◌≡◌, ◌⊎◌, ◌<◌, ◌≤◌, All, length, vec_len, Err, IsOk, IfOk};
+ghost use Rattle.std.specs.List.{AllZip};
+ghost use Rattle.job_queue.specs.declared.pool.TheConstants.{MAX_JOBS, MAX_WORKERS};
+ghost use Rattle.job_queue.specs.declared.fault.PoolFault.{PoolFault};
+ghost use Rattle.job_queue.specs.declared.fault.PoolFault.TheVariants as faults;
+ghost use Rattle.job_queue.specs.Serving.{AreServed};
+ghost use Rattle.read_table.specs.Held.{IsReady};
+ghost use Rattle.worker_pool.specs.Readings.{AllFit, HasGained, IsReadJob};
+
+use crate::job::{Job, JobReport, Outcome, Report, StopCause};
+use bpf_model::EventRefusal;
+use job_queue::{PoolFault, Serve, serve_all};
+use read_table::{ReadSeat, ReadTable, Seats, SubWord};
+use std::alloc::Global;
+use std::sync::Wait;
+use std::thread::Threads;
+use verifier::Verified;
+
+/// Serves jobs by runs over a table, of these programs. Each seat serves in a thread of its own.
+#[derive(Drop)]
+pub struct Reading<'a> {
+    pub table: &'a ReadTable,
+    pub programs: &'a [Verified],
+}
+
+/// The report of a job that was not begun.
+fn unbegun(cause: StopCause) -> JobReport<()>
+    ensures { result.outcome ≡ Outcome.Stopped Option.None cause }
+{
+    JobReport {
+        outcome: Outcome::Stopped { run: None, cause },
+        trail: (),
+    }
+}
+
+impl Serve for Reading<'_> {
+    ghost use Rattle.read_table.specs.Held.{IsReady};
+    ghost use Rattle.worker_pool.specs.Readings.{AllFit, HasGained, IsReadJob, gained_same, gained_again, read_wider};
+
+    type Job = Job;
+
+    type Worker = ReadSeat;
+
+    type Served = JobReport<()>;
+
+    ghost ready = { λ s w. IsReady s.table.now w × AllFit s.table.now.shape s.programs.now };
+
+    ghost later = { HasGained };
+
+    ghost fits = { λ s. IsReadJob s.table.now.shape s.programs.now };
+
+    /// Runs the job's program on its context over the table.
+    fn serve<R: Wait>(&self, _rt: &R, seat: &mut ReadSeat, job: &Job) -> JobReport<()> {
+        let Some(verified) = self.programs.get(job.prog.index()) else {
+            return unbegun(StopCause::Refused(EventRefusal::NoProgram));
+        };
+        if job.ctx.len() != verified.ctx_len() {
+            return unbegun(StopCause::Refused(EventRefusal::BadContext));
+        }
+        match self.table.run_shared(seat, verified, &job.ctx) {
+            Ok(value) => JobReport {
+                outcome: Outcome::Exit(value),
+                trail: (),
+            },
+            Err(SubWord) => unbegun(StopCause::SubWord),
+        }
+    }
+
+    ghost later_same = { gained_same };
+
+    ghost later_again = { gained_again };
+
+    ghost fits_wider = { λ s. read_wider s.table.now.shape s.programs.now };
+}
+
+/// Serves all jobs by runs of these programs over a table, a thread for each seat: one outcome a job, in job order. The
+/// seats come back whatever the answer, in their order.
+///
+/// A job is stopped where there is no program of its number (`NoProgram`), where its context has another length
+/// (`BadContext`), or where a table of words does not serve its program (`SubWord`), in this order; else it has exited.
+///
+/// Errors: the first of these that holds.
+/// - `TooManyJobs`: there are more than `MAX_JOBS`. Nothing was done.
+/// - `Memory`: there is none for the results.
+/// - `Lost`: the result of a job is missing or double, or is of no job.
+///
+/// That it returns is not claimed: its threads wait for one another's numbers.
+pub fn run_read_jobs<R: Threads + Wait + Sync>(
+    rt: &R,
+    alloc: Global,
+    programs: &[Verified],
+    jobs: &[Job],
+    table: &ReadTable,
+    seats: &mut Seats,
+) -> Result<Report<()>, PoolFault>
+    requires some { 0 < length seats.old }
+    requires few { length seats.old ≤ MAX_WORKERS }
+    requires ready { All (IsReady table.now) seats.old }
+    requires fit { AllFit table.now.shape programs.now }
+    ensures too_many_jobs { MAX_JOBS < length jobs.now → result ≡ Err faults.TooManyJobs }
+    ensures served { length jobs.now ≤ MAX_JOBS →
+        IsOk result ⊎ (result ≡ Err faults.Memory) ⊎ (result ≡ Err faults.Lost) }
+    ensures refused { MAX_JOBS < length jobs.now → seats.new ≡ seats.old }
+    ensures ready { All (IsReady table.now) seats.new }
+    ensures later { AllZip HasGained seats.old seats.new }
+    ensures count { IfOk result (λ report. vec_len report.jobs ≡ length jobs.now) }
+    ensures each { IfOk result (λ report. AreServed (IsReadJob table.now.shape programs.now) jobs.now
+        seats.old seats.new report.jobs.items) }
+{
+    let reading = Reading { table, programs };
+    let threads = seats.list.len();
+    match serve_all(rt, alloc, &reading, jobs, threads, &mut seats.list) {
+        Ok(jobs) => Ok(Report { jobs }),
+        Err(fault) => Err(fault),
+    }
+}
