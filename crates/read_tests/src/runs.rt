@@ -17,8 +17,9 @@ fn a_lookup_exits_with_the_value(rt: HostRuntime) -> Result<(), Fail> {
         (load.program().len(), load.program().slot_count()),
         (12, 13)
     );
-    let (table, mut seats, mut writer) = ReadTable::new(alloc, 4, 8, 8, 2)?;
-    let [first, second] = seats.list.as_mut_slice() else {
+    let (table, seats, mut writer) = ReadTable::new(alloc, 4, 8, 8, 2)?;
+    let mut list = seats.list;
+    let [first, second] = list.as_mut_slice() else {
         return Err(Fail::from("not two seats"));
     };
     assert_eq!(rt; run(&table, first, &load), Some(Ok(0)));
@@ -41,9 +42,10 @@ fn a_load_of_a_byte_is_refused(rt: HostRuntime) -> Result<(), Fail> {
         verified(alloc, LOOKUP_AND_LOAD, 0)?,
         verified(alloc, LOAD_BYTE, 1)?,
     );
-    let (table, mut seats, mut writer) = ReadTable::new(alloc, 1, 8, 8, 1)?;
+    let (table, seats, mut writer) = ReadTable::new(alloc, 1, 8, 8, 1)?;
     assert!(rt; writer.link(&table, &[0; 8], &[7; 8]).is_some());
-    let Some(seat) = seats.list.first_mut() else {
+    let mut list = seats.list;
+    let Some(seat) = list.first_mut() else {
         return Err(Fail::from("no seat"));
     };
     assert_eq!(rt; run(&table, seat, &byte), Some(Err(SubWord)));

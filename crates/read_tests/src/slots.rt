@@ -1,6 +1,7 @@
 //! Lookups of keys that the writer links and unlinks.
 ghost use Rattle.std.specs.Prelude.{◌≡◌};
-ghost use Rattle.read_table.specs.Held.{IsReady};
+ghost use Rattle.table_rule.specs.History.{inside};
+ghost use Rattle.read_table.specs.Held.{IsKnown, IsReady};
 
 use read_table::{MAX_READERS, MAX_TABLE_SLOTS, ReadSeat, ReadTable, Writer};
 use std::test::Fail;
@@ -15,7 +16,21 @@ fn value(number: u8) -> [u8; 8] {
     [number, 0, 0, 0, 0, 0, 0, 0]
 }
 
-/// The word of the value that a lookup finds, in a section of its own.
+/// The word of the value that a lookup finds, in the section that is open.
+fn find(table: &ReadTable, seat: &mut ReadSeat, number: u8) -> Option<u64>
+    requires table { seat.old.table ≡ table.now }
+    requires inside { inside seat.old.view.mine ≡ 1 }
+    requires known { IsKnown seat.old.view }
+    requires key { table.now.shape.key_words ≡ 2 }
+    requires value { table.now.shape.value_words ≡ 1 }
+    ensures table { seat.new.table ≡ table.now }
+    ensures inside { inside seat.new.view.mine ≡ 1 }
+{
+    let slot = table.lookup(seat, &key(number))?;
+    Some(table.load(seat, slot, 2))
+}
+
+/// The same, in a section of its own.
 fn look_up(table: &ReadTable, seat: &mut ReadSeat, number: u8) -> Option<u64>
     requires ready { IsReady table.now seat.old }
     requires key { table.now.shape.key_words ≡ 2 }
@@ -23,9 +38,7 @@ fn look_up(table: &ReadTable, seat: &mut ReadSeat, number: u8) -> Option<u64>
     ensures ready { IsReady table.now seat.new }
 {
     table.open(seat);
-    let word = table
-        .lookup(seat, &key(number))
-        .map(|slot| table.load(seat, slot, 2));
+    let word = find(table, seat, number);
     table.close(seat);
     word
 }
@@ -64,9 +77,10 @@ fn count_found(table: &ReadTable, seat: &mut ReadSeat) -> u32
 /// A table has as many slots as it was made with, and each of its keys is found with its own value.
 #[test]
 fn each_key_is_found(rt: HostRuntime) -> Result<(), Fail> {
-    let (table, mut seats, mut writer) = ReadTable::new(rt.alloc(), 250, 16, 8, 8)?;
+    let (table, seats, mut writer) = ReadTable::new(rt.alloc(), 250, 16, 8, 8)?;
     assert_eq!(rt; (MAX_TABLE_SLOTS, MAX_READERS, seats.count()), (256, 8, 8));
-    let Some(seat) = seats.list.first_mut() else {
+    let mut list = seats.list;
+    let Some(seat) = list.first_mut() else {
         return Err(Fail::from("no seat"));
     };
     assert_eq!(rt; count_found(&table, seat), 0);
@@ -78,8 +92,9 @@ fn each_key_is_found(rt: HostRuntime) -> Result<(), Fail> {
 /// A slot that was unlinked is found no more. It is taken again once no reader is inside a section, and not before.
 #[test]
 fn a_slot_is_taken_again(rt: HostRuntime) -> Result<(), Fail> {
-    let (table, mut seats, mut writer) = ReadTable::new(rt.alloc(), 2, 16, 8, 2)?;
-    let [first, second] = seats.list.as_mut_slice() else {
+    let (table, seats, mut writer) = ReadTable::new(rt.alloc(), 2, 16, 8, 2)?;
+    let mut list = seats.list;
+    let [first, second] = list.as_mut_slice() else {
         return Err(Fail::from("not two seats"));
     };
     let Some(slot) = writer.link(&table, &key(1), &value(1)) else {

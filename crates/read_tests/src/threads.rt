@@ -1,11 +1,11 @@
 //! Readers in threads, beside the writer.
-ghost use Rattle.std.specs.Prelude.{◌≡◌, All};
+ghost use Rattle.std.specs.Prelude.{◌≡◌, All, IfOk};
 ghost use Rattle.std.specs.List.{Contains};
 ghost use Rattle.std.specs.Thread.{IsSync};
 ghost use Rattle.read_table.specs.Held.{IsReady};
 
 use crate::making::{LOOKUP_AND_LOAD, run, verified};
-use read_table::{ReadSeat, ReadTable, Seats, Writer};
+use read_table::{ReadSeat, ReadTable, Seats, SubWord, Writer};
 use std::alloc::{AllocError, Global};
 use std::process::Abort;
 use std::test::Fail;
@@ -21,48 +21,56 @@ const ROUNDS: u32 = 20_000;
 /// How often the writer tries to have a slot again, before it gives up.
 const TRIES: u32 = 1_000_000;
 
-/// A reader: its seat, and how many of its runs exited with 5, with 0, and in another way.
-#[derive(Drop)]
-struct Reader {
-    seat: ReadSeat,
+/// How many runs exited with 5, with 0, and in another way.
+#[derive(Clone, Copy, Debug, Default, PartialEq, Eq)]
+struct Counts {
     fives: u32,
     zeros: u32,
     others: u32,
 }
 
-impl Reader {
-    /// Runs the program once, and counts what it came to.
-    fn run_once(&mut self, table: &ReadTable, program: &Verified)
-        requires { IsReady table.now self.old.seat }
-        ensures { IsReady table.now self.new.seat }
-    {
-        let count = match run(table, &mut self.seat, program) {
+impl Counts {
+    fn note(&mut self, exit: Option<Result<u64, SubWord>>) {
+        let count = match exit {
             Some(Ok(5)) => &mut self.fives,
             Some(Ok(0)) => &mut self.zeros,
             _ => &mut self.others,
         };
         *count = count.saturating_add(1);
     }
+}
 
+/// A reader: its seat, and what its runs came to.
+#[derive(Drop)]
+struct Reader {
+    seat: ReadSeat,
+    counts: Counts,
+}
+
+impl Reader {
+    /// Runs the program, and counts what it came to, again and again.
     fn run_all(&mut self, table: &ReadTable, program: &Verified)
         requires { IsReady table.now self.old.seat }
         ensures { IsReady table.now self.new.seat }
     {
         for _ in 0..RUNS {
-            self.run_once(table, program);
+            let exit = run(table, &mut self.seat, program);
+            self.counts.note(exit);
         }
     }
 }
 
-/// A reader for each seat.
-fn readers_of(alloc: Global, seats: Seats) -> Result<Vec<Reader>, AllocError> {
+/// A reader for each seat of a table.
+fn readers_of(alloc: Global, table: &ReadTable, seats: Seats) -> Result<Vec<Reader>, AllocError>
+    requires { All (IsReady table.now) seats }
+    ensures { IfOk result (λ v. All (λ r. IsReady table.now r.seat) v.items) }
+{
+    let _ = table;
     let mut readers = Vec::new(alloc);
     for seat in seats.list {
         readers.push(Reader {
             seat,
-            fives: 0,
-            zeros: 0,
-            others: 0,
+            counts: Counts::default(),
         })?;
     }
     Ok(readers)
@@ -152,14 +160,16 @@ fn readers_beside_the_writer(rt: HostRuntime) -> Result<(), Fail> {
     let alloc = rt.alloc();
     let program = verified(alloc, LOOKUP_AND_LOAD, 0)?;
     let (table, seats, mut writer) = ReadTable::new(alloc, 2, 8, 8, 8)?;
-    let mut readers = readers_of(alloc, seats)?;
+    let mut readers = readers_of(alloc, &table, seats)?;
     let rounds = read_beside(&rt, &table, &program, readers.as_mut_slice(), &mut writer);
     assert_eq!(rt; rounds, ROUNDS);
     for reader in &readers {
-        assert_eq!(rt;
-            (reader.fives.saturating_add(reader.zeros), reader.others),
-            (RUNS, 0)
-        );
+        let Counts {
+            fives,
+            zeros,
+            others,
+        } = reader.counts;
+        assert_eq!(rt; (fives.saturating_add(zeros), others), (RUNS, 0));
     }
     Ok(())
 }

@@ -143,12 +143,3 @@ pub fn go<R: Threads + Sync>(
     read_all(rt, table, program, readers, deed, calls);
     0
 }
-
-/// The sum of what the readers found.
-pub fn sum_of(readers: &[Reader]) -> u64 {
-    let mut sum = 0u64;
-    for reader in readers {
-        sum = sum.wrapping_add(reader.sum);
-    }
-    sum
-}

@@ -2,10 +2,10 @@
 ghost use Rattle.std.specs.Prelude.{◌<◌, ◌≤◌, ◌^◌, IfOk};
 ghost use Rattle.read_table.specs.declared.limits.TheConstants.{MAX_READERS};
 
-use crate::reads::crew::{go, sum_of};
-use crate::reads::stage::make_stage;
+use crate::reads::crew::go;
+use crate::reads::stage::{Stage, make_stage};
 use crate::reads::task::Task;
-use anyhow::{Result, ensure};
+use anyhow::{Result, bail, ensure};
 use std::alloc::Global;
 use std::rt::Clock;
 use std::thread::Threads;
@@ -13,9 +13,6 @@ use std::time::Instant;
 
 /// How many batches are timed. The quickest counts.
 const READ_BATCHES: u32 = 3;
-
-/// How many calls a round has that is only counted.
-pub const ROUND: u32 = 1024;
 
 /// The nanoseconds in which each of so many readers makes the calls of a task.
 fn time_once<R: Threads + Clock + Sync>(
@@ -53,18 +50,17 @@ pub fn quickest<R: Threads + Clock + Sync>(
     Ok(best.max(1))
 }
 
-/// The sum of what so many rounds of calls of one reader find.
-pub fn repeat_calls<R: Threads + Sync>(
-    rt: &R,
-    alloc: Global,
-    task: &Task,
-    times: u32,
-) -> Result<u64> {
-    let mut sum = 0u64;
-    for _ in 0..times {
-        let mut stage = make_stage(alloc, 1)?;
-        go(rt, &mut stage, task.deed, ROUND, false);
-        sum = sum.wrapping_add(sum_of(stage.readers.as_slice()));
-    }
-    Ok(sum)
+/// The sum of what so many rounds of calls of one reader find, all in this thread.
+pub fn repeat_calls(alloc: Global, task: &Task, times: u32) -> Result<u64> {
+    let Stage {
+        table,
+        mut readers,
+        program,
+        ..
+    } = make_stage(alloc, 1)?;
+    let Some(reader) = readers.first_mut() else {
+        bail!("no reader");
+    };
+    reader.repeat(&table, &program, task.deed, times);
+    Ok(reader.sum)
 }

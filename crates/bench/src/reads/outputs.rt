@@ -71,16 +71,11 @@ fn times_lines<R: Threads + Clock + Sync>(rt: &R, alloc: Global) -> Result<Vec<S
 }
 
 /// The line of so many rounds of the calls of a name.
-fn repeated_lines<R: Threads + Sync>(
-    rt: &R,
-    alloc: Global,
-    name: &str,
-    times: u32,
-) -> Result<Vec<String>> {
+fn repeated_lines(alloc: Global, name: &str, times: u32) -> Result<Vec<String>> {
     let mut lines = Vec::new(alloc);
     for task in tasks() {
         if task.name == name {
-            let sum = repeat_calls(rt, alloc, &task, times)?;
+            let sum = repeat_calls(alloc, &task, times)?;
             lines.push(format!(in alloc; "{name} sum {sum}")?)?;
             return Ok(lines);
         }
@@ -96,6 +91,6 @@ pub fn lines_of<R: Threads + Clock + Sync>(
 ) -> Result<Vec<String>> {
     match command {
         Command::Times => times_lines(rt, alloc),
-        Command::Repeat { name, times } => repeated_lines(rt, alloc, name, times),
+        Command::Repeat { name, times } => repeated_lines(alloc, name, times),
     }
 }

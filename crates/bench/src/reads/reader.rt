@@ -1,7 +1,7 @@
 //! A reader of the table, and its calls.
 ghost use Rattle.std.specs.Prelude.{◌≡◌};
-ghost use Rattle.verifier.specs.Checked.{Checked};
-ghost use Rattle.read_table.specs.Held.{IsReady};
+ghost use Rattle.table_rule.specs.History.{inside};
+ghost use Rattle.read_table.specs.Held.{IsKnown, IsReady};
 ghost use Rattle.bench.specs.Reads.{HasWordLengths, IsProgramOf};
 
 use crate::reads::task::Deed;
@@ -11,6 +11,9 @@ use verifier::Verified;
 
 /// How many keys each reader looks up in turn.
 pub const KEYS: u64 = 32;
+
+/// How many calls a round has.
+const ROUND: u32 = 1024;
 
 /// How far the keys that are not there lie from those that are.
 const ABSENT: u64 = 1000;
@@ -23,7 +26,23 @@ pub struct Reader {
     pub sum: u64,
 }
 
-/// The word of the value of a key, or 0, by a lookup in a section of its own.
+/// The word of the value of a key, or 0, by a lookup in the section that is open.
+#[inline]
+fn find(table: &ReadTable, seat: &mut ReadSeat, key: u64) -> u64
+    requires table { seat.old.table ≡ table.now }
+    requires inside { inside seat.old.view.mine ≡ 1 }
+    requires known { IsKnown seat.old.view }
+    requires lengths { HasWordLengths table.now.shape }
+    ensures table { seat.new.table ≡ table.now }
+    ensures inside { inside seat.new.view.mine ≡ 1 }
+{
+    match table.lookup(seat, &key.to_le_bytes()) {
+        Some(slot) => table.load(seat, slot, 1),
+        None => 0,
+    }
+}
+
+/// The same, in a section of its own.
 #[inline]
 fn look_up(table: &ReadTable, seat: &mut ReadSeat, key: u64) -> u64
     requires ready { IsReady table.now seat.old }
@@ -31,10 +50,7 @@ fn look_up(table: &ReadTable, seat: &mut ReadSeat, key: u64) -> u64
     ensures ready { IsReady table.now seat.new }
 {
     table.open(seat);
-    let word = match table.lookup(seat, &key.to_le_bytes()) {
-        Some(slot) => table.load(seat, slot, 1),
-        None => 0,
-    };
+    let word = find(table, seat, key);
     table.close(seat);
     word
 }
@@ -84,5 +100,17 @@ impl Reader {
             Deed::Misses => look_up_all(table, seat, self.first.wrapping_add(ABSENT), calls),
         };
         self.sum = self.sum.wrapping_add(sum);
+    }
+
+    /// Makes so many rounds of calls.
+    pub fn repeat(&mut self, table: &ReadTable, program: &Verified, deed: Deed, times: u32)
+        requires ready { IsReady table.now self.old.seat }
+        requires lengths { HasWordLengths table.now.shape }
+        requires program { IsProgramOf table.now.shape program.now }
+        ensures ready { IsReady table.now self.new.seat }
+    {
+        for _ in 0..times {
+            self.work(table, program, deed, ROUND);
+        }
     }
 }

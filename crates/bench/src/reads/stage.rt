@@ -2,12 +2,12 @@
 ghost use Rattle.std.specs.Prelude.{◌≡◌, ◌<◌, ◌≤◌, All, IfOk};
 ghost use Rattle.read_table.specs.declared.limits.TheConstants.{MAX_READERS};
 ghost use Rattle.read_table.specs.Held.{IsReady, TableView};
-ghost use Rattle.bench.specs.Reads.{IsReadyReader, IsReadyStage, HasWordLengths};
+ghost use Rattle.bench.specs.Reads.{HasWordLengths, IsProgramOf, IsReadyReader, IsReadyStage};
 
 use crate::reads::reader::{KEYS, Reader};
-use anyhow::{Result, bail, ensure};
-use asm::assemble;
+use anyhow::{Result, bail};
 use bpf_model::MapShape;
+use insn_codec::decode;
 use read_table::{ReadTable, Seats, Writer};
 use std::alloc::{AllocError, Global};
 use verifier::{Verified, verify};
@@ -19,8 +19,9 @@ const SLOTS: usize = 256;
 const LINKED: u64 = 128;
 
 /// Looks up the key of 8 zeros in a section, and loads 8 bytes of its value.
-const LOOKUP: &str = "mov64 r6, 0\ncallbtf 1\nstdw [r10-8], 0\nmov64 r2, r10\nadd64 r2, -8\n\
-ldmap r1, 0\ncall 1\njeq r0, 0, +1\nldxdw r6, [r0+0]\ncallbtf 2\nmov64 r0, r6\nexit\n";
+const LOOKUP: &str = "b70600000000000085200000010000007a0af8ff00000000bfa2000000000000\
+07020000f8ffffff1851000000000000000000000000000085000000010000001500010000000000\
+79060000000000008520000002000000bf600000000000009500000000000000";
 
 /// Keys and values of 8 bytes.
 const SHAPE: MapShape = MapShape {
@@ -40,18 +41,17 @@ pub struct Stage {
     pub program: Verified,
 }
 
-/// The program, verified for one map and an empty context.
-fn lookup_program(alloc: Global) -> Result<Verified>
-    ensures { IfOk result (λ v. v.ctx_len ≡ 0) }
+/// The program, verified for the table and an empty context.
+fn lookup_program(alloc: Global, table: &ReadTable) -> Result<Verified>
+    ensures { IfOk result (IsProgramOf table.now.shape) }
 {
-    let program = match assemble(alloc, LOOKUP) {
-        Ok(program) => program,
-        Err(fault) => bail!("{fault}"),
-    };
-    match verify(alloc, program, &[SHAPE], 0) {
-        Ok(verified) => Ok(verified),
-        Err(refusal) => bail!("{refusal}"),
+    let bytes = hex::decode(alloc, LOOKUP)?;
+    let program = decode(alloc, &bytes)?;
+    let verified = verify(alloc, program, &[SHAPE], 0)?;
+    if !table.fits(&verified) {
+        bail!("the program is for other lengths");
     }
+    Ok(verified)
 }
 
 /// A reader for each seat, with keys of its own.
@@ -96,10 +96,9 @@ pub fn make_stage(alloc: Global, readers: usize) -> Result<Stage>
     requires { (0 < readers) × (readers ≤ MAX_READERS) }
     ensures { IfOk result IsReadyStage }
 {
-    let program = lookup_program(alloc)?;
     let (table, seats, mut writer) = ReadTable::new(alloc, SLOTS, 8, 8, readers)?;
     fill(&table, &mut writer)?;
-    ensure!(table.fits(&program), "the program is for other lengths");
+    let program = lookup_program(alloc, &table)?;
     let readers = readers_of(alloc, seats, &table)?;
     Ok(Stage {
         table,
