@@ -40,7 +40,7 @@ pub enum Repeated {
 /// Why the words are no command.
 #[derive(Debug, Drop, Error)]
 pub enum UsageFault {
-    #[error("usage: bench [run FILE CTX_LEN | (repeat | verify) FILE CTX_LEN TIMES | world [[shared | pool | script] time | repeat ACTIVITY TIMES]]")]
+    #[error("usage: bench [run FILE CTX_LEN | (repeat | verify) FILE CTX_LEN TIMES | world [[shared | pool | script] time | repeat ACTIVITY TIMES] | read (time | repeat NAME TIMES)]")]
     Words,
     #[error("CTX_LEN is not a number from 0 to 256")]
     Length,

@@ -8,6 +8,7 @@ ghost use Rattle.bench.specs.Trials.{IsReadyTrial};
 mod command;
 mod measure;
 mod measurements;
+mod reads;
 mod report;
 mod samples;
 mod trial;
@@ -17,6 +18,8 @@ use crate::measurements::measurement_line;
 use anyhow::{Result, bail};
 use command::{Command, Repeated, parse_words};
 use measure::{Timed, repeat_runs, repeat_verifications, time_per_call_part};
+use reads::command::parse_words as parse_read_words;
+use reads::outputs::lines_of as read_lines_of;
 use report::sample_line;
 use samples::samples;
 use std::process::ExitCode;
@@ -120,6 +123,25 @@ fn perform_world<H: Threads + Wait + Clock + Sync>(
     Ok(ExitCode::SUCCESS)
 }
 
+/// Does what the words after `read` ask for.
+fn perform_read<H: Threads + Clock + Sync>(
+    rt: &HostRuntime,
+    handle: &H,
+    words: &[String],
+) -> Result<ExitCode> {
+    let command = match parse_read_words(words) {
+        Ok(command) => command,
+        Err(fault) => {
+            eprintln!(rt; "{fault}")?;
+            return Ok(ExitCode::from(2));
+        }
+    };
+    for line in read_lines_of(handle, rt.alloc(), command)? {
+        rt.println(line)?;
+    }
+    Ok(ExitCode::SUCCESS)
+}
+
 /// Does what the words after the program's own ask for.
 fn perform_program<H: Threads + Wait + Clock + Sync>(
     rt: &HostRuntime,
@@ -155,6 +177,7 @@ fn perform<H: Threads + Wait + Clock + Sync>(rt: &HostRuntime, handle: &H) -> Re
     }
     match words.as_slice() {
         [first, rest @ ..] if first.as_str() == "world" => perform_world(rt, handle, rest),
+        [first, rest @ ..] if first.as_str() == "read" => perform_read(rt, handle, rest),
         all => perform_program(rt, handle, all),
     }
 }

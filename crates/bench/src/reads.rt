@@ -1,0 +1,9 @@
+//! How long calls on a table without a lock take, in threads and beside its writer.
+
+pub mod command;
+mod crew;
+mod measure;
+pub mod outputs;
+mod reader;
+mod stage;
+mod task;

@@ -1,0 +1,37 @@
+//! The words behind `bench read`.
+use crate::command::number_of_times;
+use thiserror::Error;
+
+/// What is asked of a table without a lock.
+#[derive(Clone, Copy)]
+pub enum Command<'a> {
+    /// Print how long calls take, in threads and beside the writer.
+    Times,
+    /// Make so many rounds of the calls of this name in one thread, and no more, so that a tool which counts instructions
+    /// can count them; print the sum of what they found.
+    Repeat { name: &'a str, times: u32 },
+}
+
+/// Why the words are no command.
+#[derive(Debug, Drop, Error)]
+pub enum UsageFault {
+    #[error("usage: bench read (time | repeat NAME TIMES)")]
+    Words,
+    #[error("TIMES is not a number from 1 to 4294967295")]
+    Times,
+}
+
+/// The command that the words after `bench read` ask for: `time`, or `repeat NAME TIMES`.
+pub fn parse_words<'a>(words: &'a [String]) -> Result<Command<'a>, UsageFault> {
+    match words {
+        [word] if word.as_str() == "time" => Ok(Command::Times),
+        [first, name, times] if first.as_str() == "repeat" => match number_of_times(times) {
+            Ok(times) => Ok(Command::Repeat {
+                name: name.as_str(),
+                times,
+            }),
+            Err(_) => Err(UsageFault::Times),
+        },
+        _ => Err(UsageFault::Words),
+    }
+}

@@ -1,0 +1,96 @@
+//! The lines that a command prints.
+ghost use Rattle.std.specs.Prelude.{◌<◌, ◌≤◌};
+ghost use Rattle.read_table.specs.declared.limits.TheConstants.{MAX_READERS};
+
+use crate::measurements::{measurement_line, quotient};
+use crate::reads::command::Command;
+use crate::reads::measure::{quickest, repeat_calls};
+use crate::reads::task::{Task, tasks};
+use anyhow::{Result, bail};
+use read_table::MAX_READERS;
+use std::alloc::{AllocError, Global};
+use std::rt::Clock;
+use std::thread::Threads;
+
+/// How many readers there are.
+const READERS: [usize; 3] = [1, 2, 4];
+
+/// A line: a name, the nanoseconds of a call in one thread, how many calls all threads make in a second, and how many times
+/// as many that is as one thread makes by itself.
+fn time_line(
+    alloc: Global,
+    name: &str,
+    task: &Task,
+    readers: usize,
+    time: u64,
+    alone: u64,
+) -> Result<String, AllocError>
+    requires { 0 < time }
+{
+    let calls = u128::from(task.calls.max(1));
+    let all = calls.saturating_mul(readers as u128);
+    let per_call = quotient(u128::from(time), calls);
+    let per_second = all.saturating_mul(1_000_000_000) / u128::from(time);
+    let front = measurement_line(alloc, name, per_call)?;
+    let front = format!(in alloc; "{front} ns, {per_second} a second, ratio")?;
+    let gained = u128::from(alone).saturating_mul(readers as u128);
+    measurement_line(alloc, front.as_str(), quotient(gained, u128::from(time)))
+}
+
+/// Times a task with each number of readers, alone or beside the writer.
+fn task_lines<R: Threads + Clock + Sync>(
+    rt: &R,
+    alloc: Global,
+    task: &Task,
+    is_written: bool,
+    lines: &mut Vec<String>,
+) -> Result<()> {
+    let beside = if is_written { "_beside_writer" } else { "" };
+    let mut alone = 0;
+    for readers in READERS {
+        if readers >= 1 && readers <= MAX_READERS {
+            let time = quickest(rt, alloc, task, readers, is_written)?;
+            if readers == 1 {
+                alone = time;
+            }
+            let name = format!(in alloc; "{}_by_{readers}{beside}", task.name)?;
+            lines.push(time_line(alloc, name.as_str(), task, readers, time, alone)?)?;
+        }
+    }
+    Ok(())
+}
+
+/// Times each task, alone and beside the writer.
+fn times_lines<R: Threads + Clock + Sync>(rt: &R, alloc: Global) -> Result<Vec<String>> {
+    let mut lines = Vec::new(alloc);
+    for task in tasks() {
+        task_lines(rt, alloc, &task, false, &mut lines)?;
+        task_lines(rt, alloc, &task, true, &mut lines)?;
+    }
+    Ok(lines)
+}
+
+/// The line of so many rounds of the calls of a name.
+fn repeated_lines(alloc: Global, name: &str, times: u32) -> Result<Vec<String>> {
+    let mut lines = Vec::new(alloc);
+    for task in tasks() {
+        if task.name == name {
+            let sum = repeat_calls(alloc, &task, times)?;
+            lines.push(format!(in alloc; "{name} sum {sum}")?)?;
+            return Ok(lines);
+        }
+    }
+    bail!("no calls {name}")
+}
+
+/// The lines that a command prints.
+pub fn lines_of<R: Threads + Clock + Sync>(
+    rt: &R,
+    alloc: Global,
+    command: Command<'_>,
+) -> Result<Vec<String>> {
+    match command {
+        Command::Times => times_lines(rt, alloc),
+        Command::Repeat { name, times } => repeated_lines(alloc, name, times),
+    }
+}

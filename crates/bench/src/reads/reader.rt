@@ -1,0 +1,116 @@
+//! A reader of the table, and its calls.
+ghost use Rattle.std.specs.Prelude.{◌≡◌};
+ghost use Rattle.table_rule.specs.History.{inside};
+ghost use Rattle.read_table.specs.Held.{IsKnown, IsReady};
+ghost use Rattle.bench.specs.Reads.{HasWordLengths, IsProgramOf};
+
+use crate::reads::task::Deed;
+use bpf_model::CtxBytes;
+use read_table::{ReadSeat, ReadTable};
+use verifier::Verified;
+
+/// How many keys each reader looks up in turn.
+pub const KEYS: u64 = 32;
+
+/// How many calls a round has.
+const ROUND: u32 = 1024;
+
+/// How far the keys that are not there lie from those that are.
+const ABSENT: u64 = 1000;
+
+/// A reader: its seat, the first of its keys, and a sum of what its calls found.
+#[derive(Drop)]
+pub struct Reader {
+    pub seat: ReadSeat,
+    pub first: u64,
+    pub sum: u64,
+}
+
+/// The word of the value of a key, or 0, by a lookup in the section that is open.
+#[inline]
+fn find(table: &ReadTable, seat: &mut ReadSeat, key: u64) -> u64
+    requires table { seat.old.table ≡ table.now }
+    requires inside { inside seat.old.view.mine ≡ 1 }
+    requires known { IsKnown seat.old.view }
+    requires lengths { HasWordLengths table.now.shape }
+    ensures table { seat.new.table ≡ table.now }
+    ensures inside { inside seat.new.view.mine ≡ 1 }
+{
+    match table.lookup(seat, &key.to_le_bytes()) {
+        Some(slot) => table.load(seat, slot, 1),
+        None => 0,
+    }
+}
+
+/// The same, in a section of its own.
+#[inline]
+fn look_up(table: &ReadTable, seat: &mut ReadSeat, key: u64) -> u64
+    requires ready { IsReady table.now seat.old }
+    requires lengths { HasWordLengths table.now.shape }
+    ensures ready { IsReady table.now seat.new }
+{
+    table.open(seat);
+    let word = find(table, seat, key);
+    table.close(seat);
+    word
+}
+
+/// Looks up keys from the first one on in turn. The sum of the words that are found.
+fn look_up_all(table: &ReadTable, seat: &mut ReadSeat, first: u64, calls: u32) -> u64
+    requires ready { IsReady table.now seat.old }
+    requires lengths { HasWordLengths table.now.shape }
+    ensures ready { IsReady table.now seat.new }
+{
+    let mut sum = 0u64;
+    for turn in 0..u64::from(calls) {
+        let key = first.wrapping_add(turn % KEYS);
+        sum = sum.wrapping_add(look_up(table, seat, key));
+    }
+    sum
+}
+
+/// Runs the program so many times. The sum of its exit values.
+fn run_all(table: &ReadTable, seat: &mut ReadSeat, program: &Verified, calls: u32) -> u64
+    requires ready { IsReady table.now seat.old }
+    requires program { IsProgramOf table.now.shape program.now }
+    ensures ready { IsReady table.now seat.new }
+{
+    let ctx = CtxBytes::new();
+    let mut sum = 0u64;
+    for _ in 0..calls {
+        if let Ok(value) = table.run_shared(seat, program, &ctx) {
+            sum = sum.wrapping_add(value);
+        }
+    }
+    sum
+}
+
+impl Reader {
+    /// Makes so many calls.
+    pub fn work(&mut self, table: &ReadTable, program: &Verified, deed: Deed, calls: u32)
+        requires ready { IsReady table.now self.old.seat }
+        requires lengths { HasWordLengths table.now.shape }
+        requires program { IsProgramOf table.now.shape program.now }
+        ensures ready { IsReady table.now self.new.seat }
+    {
+        let seat = &mut self.seat;
+        let sum = match deed {
+            Deed::Runs => run_all(table, seat, program, calls),
+            Deed::Hits => look_up_all(table, seat, self.first, calls),
+            Deed::Misses => look_up_all(table, seat, self.first.wrapping_add(ABSENT), calls),
+        };
+        self.sum = self.sum.wrapping_add(sum);
+    }
+
+    /// Makes so many rounds of calls.
+    pub fn repeat(&mut self, table: &ReadTable, program: &Verified, deed: Deed, times: u32)
+        requires ready { IsReady table.now self.old.seat }
+        requires lengths { HasWordLengths table.now.shape }
+        requires program { IsProgramOf table.now.shape program.now }
+        ensures ready { IsReady table.now self.new.seat }
+    {
+        for _ in 0..times {
+            self.work(table, program, deed, ROUND);
+        }
+    }
+}

@@ -1,0 +1,65 @@
+//! Programs for the tests, and their runs.
+ghost use Rattle.std.specs.Prelude.{◌≤◌};
+ghost use Rattle.bpf_model.specs.declared.limits.TheConstants.{CTX_BYTES};
+ghost use Rattle.read_table.specs.Held.{IsReady};
+
+use bpf_model::{CtxBytes, MapShape};
+use insn_codec::decode;
+use read_table::{ReadSeat, ReadTable, SubWord};
+use std::alloc::Global;
+use std::test::Fail;
+use verifier::{Verified, verify};
+
+/// A lookup of the key of eight zero bytes, which exits with the value, or with 0 where there is none.
+pub const LOOKUP_AND_LOAD: &str = "b706000000000000 8520000001000000 7a0af8ff00000000
+bfa2000000000000 07020000f8ffffff 1851000000000000 0000000000000000 8500000001000000
+1500010000000000 7906000000000000 8520000002000000 bf60000000000000 9500000000000000";
+
+/// A lookup of the same key, which stores 9 as the value.
+pub const LOOKUP_AND_STORE: &str = "b706000000000000 8520000001000000 7a0af8ff00000000
+bfa2000000000000 07020000f8ffffff 1851000000000000 0000000000000000 8500000001000000
+1500010000000000 7a00000009000000 8520000002000000 bf60000000000000 9500000000000000";
+
+/// A load of the one byte of a value that the context says, if that is below 8.
+pub const LOAD_BYTE: &str = "7116000000000000 5706000007000000 8520000001000000 7a0af8ff00000000
+bfa2000000000000 07020000f8ffffff 1851000000000000 0000000000000000 8500000001000000
+5500030000000000 8520000002000000 b700000000000000 9500000000000000 0f60000000000000
+7106000000000000 8520000002000000 bf60000000000000 9500000000000000";
+
+/// Keys and values of 8 bytes.
+const SHAPE: MapShape = MapShape {
+    key_len: 8,
+    value_len: 8,
+    entries: 4,
+    spare: 4,
+    reuse_limit: 100,
+};
+
+/// The program of these hexadecimal digits, verified against one map and a context of so many bytes.
+pub fn verified(alloc: Global, text: &str, ctx_len: usize) -> Result<Verified, Fail>
+    requires { ctx_len ≤ CTX_BYTES }
+{
+    let digits = text.replace(alloc, "\n", "")?;
+    let digits = digits.as_str().replace(alloc, " ", "")?;
+    let bytes = hex::decode(alloc, digits.as_str())?;
+    Ok(verify(alloc, decode(alloc, &bytes)?, &[SHAPE], ctx_len)?)
+}
+
+/// What a run of the program comes to on a context of zeros, if it is of the table's lengths.
+pub fn run(
+    table: &ReadTable,
+    seat: &mut ReadSeat,
+    verified: &Verified,
+) -> Option<Result<u64, SubWord>>
+    requires ready { IsReady table.now seat.old }
+    ensures ready { IsReady table.now seat.new }
+{
+    let mut ctx = CtxBytes::new();
+    for _ in 0..verified.ctx_len() {
+        let _ = ctx.try_push(0);
+    }
+    if !table.fits(verified) || ctx.len() != verified.ctx_len() {
+        return None;
+    }
+    Some(table.run_shared(seat, verified, &ctx))
+}

@@ -1,0 +1,115 @@
+//! Lookups of keys that the writer links and unlinks.
+ghost use Rattle.std.specs.Prelude.{◌≡◌};
+ghost use Rattle.table_rule.specs.History.{inside};
+ghost use Rattle.read_table.specs.Held.{IsKnown, IsReady};
+
+use read_table::{MAX_READERS, MAX_TABLE_SLOTS, ReadSeat, ReadTable, Writer};
+use std::test::Fail;
+
+/// A key of two words, of which the first is the same in all keys.
+fn key(number: u8) -> [u8; 16] {
+    [1, 2, 3, 4, 5, 6, 7, 8, number, 0, 0, 0, 0, 0, 0, 0]
+}
+
+/// The value of a key: a word with its number.
+fn value(number: u8) -> [u8; 8] {
+    [number, 0, 0, 0, 0, 0, 0, 0]
+}
+
+/// The word of the value that a lookup finds, in the section that is open.
+fn find(table: &ReadTable, seat: &mut ReadSeat, number: u8) -> Option<u64>
+    requires table { seat.old.table ≡ table.now }
+    requires inside { inside seat.old.view.mine ≡ 1 }
+    requires known { IsKnown seat.old.view }
+    requires key { table.now.shape.key_words ≡ 2 }
+    requires value { table.now.shape.value_words ≡ 1 }
+    ensures table { seat.new.table ≡ table.now }
+    ensures inside { inside seat.new.view.mine ≡ 1 }
+{
+    let slot = table.lookup(seat, &key(number))?;
+    Some(table.load(seat, slot, 2))
+}
+
+/// The same, in a section of its own.
+fn look_up(table: &ReadTable, seat: &mut ReadSeat, number: u8) -> Option<u64>
+    requires ready { IsReady table.now seat.old }
+    requires key { table.now.shape.key_words ≡ 2 }
+    requires value { table.now.shape.value_words ≡ 1 }
+    ensures ready { IsReady table.now seat.new }
+{
+    table.open(seat);
+    let word = find(table, seat, number);
+    table.close(seat);
+    word
+}
+
+/// Links the keys from 0 up to 254 at most, as long as there are free slots, and tells how many.
+fn link_all(table: &ReadTable, writer: &mut Writer) -> u8
+    requires table { writer.old.table ≡ table.now }
+    requires key { table.now.shape.key_words ≡ 2 }
+    requires value { table.now.shape.value_words ≡ 1 }
+    ensures table { writer.new.table ≡ table.now }
+{
+    for number in 0..255 {
+        if writer.link(table, &key(number), &value(number)).is_none() {
+            return number;
+        }
+    }
+    255
+}
+
+/// How many keys are found with their values.
+fn count_found(table: &ReadTable, seat: &mut ReadSeat) -> u32
+    requires ready { IsReady table.now seat.old }
+    requires key { table.now.shape.key_words ≡ 2 }
+    requires value { table.now.shape.value_words ≡ 1 }
+    ensures ready { IsReady table.now seat.new }
+{
+    let mut found = 0u32;
+    for number in 0..=255 {
+        if look_up(table, seat, number) == Some(u64::from(number)) {
+            found = found.saturating_add(1);
+        }
+    }
+    found
+}
+
+/// A table has as many slots as it was made with, and each of its keys is found with its own value.
+#[test]
+fn each_key_is_found(rt: HostRuntime) -> Result<(), Fail> {
+    let (table, seats, mut writer) = ReadTable::new(rt.alloc(), 250, 16, 8, 8)?;
+    assert_eq!(rt; (MAX_TABLE_SLOTS, MAX_READERS, seats.count()), (256, 8, 8));
+    let mut list = seats.list;
+    let Some(seat) = list.first_mut() else {
+        return Err(Fail::from("no seat"));
+    };
+    assert_eq!(rt; count_found(&table, seat), 0);
+    assert_eq!(rt; link_all(&table, &mut writer), 250);
+    assert_eq!(rt; count_found(&table, seat), 250);
+    Ok(())
+}
+
+/// A slot that was unlinked is found no more. It is taken again once no reader is inside a section, and not before.
+#[test]
+fn a_slot_is_taken_again(rt: HostRuntime) -> Result<(), Fail> {
+    let (table, seats, mut writer) = ReadTable::new(rt.alloc(), 2, 16, 8, 2)?;
+    let mut list = seats.list;
+    let [first, second] = list.as_mut_slice() else {
+        return Err(Fail::from("not two seats"));
+    };
+    let Some(slot) = writer.link(&table, &key(1), &value(1)) else {
+        return Err(Fail::from("no free slot"));
+    };
+    assert!(rt; writer.link(&table, &key(2), &value(2)).is_some());
+    table.open(second);
+    writer.unlink(&table, slot);
+    assert_eq!(rt; look_up(&table, first, 1), None);
+    assert_eq!(rt; look_up(&table, first, 2), Some(2));
+    assert!(rt; !writer.try_reclaim(&table, slot));
+    assert_eq!(rt; writer.link(&table, &key(3), &value(3)), None);
+    table.close(second);
+    assert!(rt; writer.try_reclaim(&table, slot));
+    assert_eq!(rt; writer.link(&table, &key(3), &value(3)), Some(slot));
+    assert_eq!(rt; look_up(&table, second, 3), Some(3));
+    Ok(())
+}
