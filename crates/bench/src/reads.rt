@@ -2,6 +2,7 @@
 
 pub mod command;
 mod crew;
+mod jobs;
 mod measure;
 pub mod outputs;
 mod reader;

@@ -12,3 +12,6 @@ mod scripts;
 mod sequence;
 mod setup;
 mod tally;
+
+pub use measure::LONG_TASK_BATCHES;
+pub use pool::make_jobs;

@@ -4,12 +4,14 @@ ghost use Rattle.read_table.specs.declared.limits.TheConstants.{MAX_READERS};
 
 use crate::measurements::{measurement_line, quotient};
 use crate::reads::command::Command;
+use crate::reads::jobs::time_per_read_job;
 use crate::reads::measure::{quickest, repeat_calls};
 use crate::reads::task::{Task, tasks};
 use anyhow::{Result, bail};
 use read_table::MAX_READERS;
 use std::alloc::{AllocError, Global};
 use std::rt::Clock;
+use std::sync::Wait;
 use std::thread::Threads;
 
 /// How many readers there are.
@@ -60,13 +62,30 @@ fn task_lines<R: Threads + Clock + Sync>(
     Ok(())
 }
 
-/// Times each task, alone and beside the writer.
-fn times_lines<R: Threads + Clock + Sync>(rt: &R, alloc: Global) -> Result<Vec<String>> {
+/// Times the jobs of each number of seats.
+fn job_lines<R: Threads + Wait + Clock + Sync>(
+    rt: &R,
+    alloc: Global,
+    lines: &mut Vec<String>,
+) -> Result<()> {
+    for seats in READERS {
+        if seats >= 1 && seats <= MAX_READERS {
+            let time = time_per_read_job(rt, alloc, seats)?;
+            let name = format!(in alloc; "read_job_by_{seats}")?;
+            lines.push(measurement_line(alloc, name.as_str(), time)?)?;
+        }
+    }
+    Ok(())
+}
+
+/// Times each task, alone and beside the writer, and jobs.
+fn times_lines<R: Threads + Wait + Clock + Sync>(rt: &R, alloc: Global) -> Result<Vec<String>> {
     let mut lines = Vec::new(alloc);
     for task in tasks() {
         task_lines(rt, alloc, &task, false, &mut lines)?;
         task_lines(rt, alloc, &task, true, &mut lines)?;
     }
+    job_lines(rt, alloc, &mut lines)?;
     Ok(lines)
 }
 
@@ -84,7 +103,7 @@ fn repeated_lines(alloc: Global, name: &str, times: u32) -> Result<Vec<String>> 
 }
 
 /// The lines that a command prints.
-pub fn lines_of<R: Threads + Clock + Sync>(
+pub fn lines_of<R: Threads + Wait + Clock + Sync>(
     rt: &R,
     alloc: Global,
     command: Command<'_>,

@@ -13,7 +13,7 @@ use std::alloc::{AllocError, Global};
 use verifier::{Verified, verify};
 
 /// How many slots the table has.
-const SLOTS: usize = 256;
+pub const SLOTS: usize = 256;
 
 /// How many of them are linked.
 const LINKED: u64 = 128;
@@ -42,7 +42,7 @@ pub struct Stage {
 }
 
 /// The program, verified for the table and an empty context.
-fn lookup_program(alloc: Global, table: &ReadTable) -> Result<Verified>
+pub fn lookup_program(alloc: Global, table: &ReadTable) -> Result<Verified>
     ensures { IfOk result (IsProgramOf table.now.shape) }
 {
     let bytes = hex::decode(alloc, LOOKUP)?;
@@ -74,7 +74,7 @@ fn readers_of(alloc: Global, seats: Seats, here: &ReadTable) -> Result<Vec<Reade
 }
 
 /// Links the keys from 0 on, each with a value one above it.
-fn fill(table: &ReadTable, writer: &mut Writer) -> Result<()>
+pub fn fill(table: &ReadTable, writer: &mut Writer) -> Result<()>
     requires lengths { HasWordLengths table.now.shape }
     requires writer { writer.old.table ≡ table.now }
     ensures writer { writer.new.table ≡ table.now }

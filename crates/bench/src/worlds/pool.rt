@@ -20,9 +20,10 @@ use worker_pool::{Job, run_jobs};
 /// How many jobs a batch has. Each is a lookup: a start, 12 steps, its exit value and its drop.
 const JOBS: u32 = 2000;
 
-fn make_jobs(alloc: Global) -> Result<Vec<Job>, AllocError> {
+/// So many jobs of program 0 on an empty context.
+pub fn make_jobs(alloc: Global, count: u32) -> Result<Vec<Job>, AllocError> {
     let mut jobs = Vec::new(alloc);
-    for _ in 0..JOBS {
+    for _ in 0..count {
         jobs.push(Job {
             prog: ProgId::new(0),
             ctx: CtxBytes::new(),
@@ -67,7 +68,7 @@ pub fn time_per_job<L: Ledger + Send + Sync, R: Threads + Wait + Clock + Sync>(
     if !is_quiet(&world) {
         bail!("a run was left");
     }
-    let jobs = make_jobs(alloc)?;
+    let jobs = make_jobs(alloc, JOBS)?;
     let (shared, mut all_workers, _) = Shared::<L>::new(alloc, world, workers, blank)?;
     let mut best = Duration::MAX;
     for _ in 0..LONG_TASK_BATCHES {
