@@ -124,7 +124,7 @@ fn perform_world<H: Threads + Wait + Clock + Sync>(
 }
 
 /// Does what the words after `read` ask for.
-fn perform_read<H: Threads + Clock + Sync>(
+fn perform_read<H: Threads + Wait + Clock + Sync>(
     rt: &HostRuntime,
     handle: &H,
     words: &[String],
