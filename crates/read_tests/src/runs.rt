@@ -19,7 +19,10 @@ fn a_lookup_exits_with_the_value(rt: HostRuntime) -> Result<(), Fail> {
     );
     let (table, seats, mut writer) = ReadTable::new(alloc, 4, 8, 8, 2)?;
     let mut list = seats.list;
-    let [first, second] = list.as_mut_slice() else {
+    let Some((first, rest)) = list.split_first_mut() else {
+        return Err(Fail::from("no seat"));
+    };
+    let Some(second) = rest.first_mut() else {
         return Err(Fail::from("not two seats"));
     };
     assert_eq!(rt; run(&table, first, &load), Some(Ok(0)));

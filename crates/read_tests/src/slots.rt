@@ -94,7 +94,10 @@ fn each_key_is_found(rt: HostRuntime) -> Result<(), Fail> {
 fn a_slot_is_taken_again(rt: HostRuntime) -> Result<(), Fail> {
     let (table, seats, mut writer) = ReadTable::new(rt.alloc(), 2, 16, 8, 2)?;
     let mut list = seats.list;
-    let [first, second] = list.as_mut_slice() else {
+    let Some((first, rest)) = list.split_first_mut() else {
+        return Err(Fail::from("no seat"));
+    };
+    let Some(second) = rest.first_mut() else {
         return Err(Fail::from("not two seats"));
     };
     let Some(slot) = writer.link(&table, &key(1), &value(1)) else {
