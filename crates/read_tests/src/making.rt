@@ -1,5 +1,5 @@
 //! Programs for the tests, and their runs.
-ghost use Rattle.std.specs.Prelude.{◌≤◌};
+ghost use Rattle.std.specs.Prelude.{◌≤◌, All, IfSome};
 ghost use Rattle.bpf_model.specs.declared.limits.TheConstants.{CTX_BYTES};
 ghost use Rattle.read_table.specs.Held.{IsReady};
 
@@ -62,4 +62,18 @@ pub fn run(
         return None;
     }
     Some(table.run_shared(seat, verified, &ctx))
+}
+
+/// The first two seats of a table.
+pub fn two_seats<'a>(
+    table: &ReadTable,
+    list: &'a mut [ReadSeat],
+) -> Option<(&'a mut ReadSeat, &'a mut ReadSeat)>
+    requires { All (IsReady table.now) list.old }
+    ensures { IfSome result (λ p. IsReady table.now p.0.now × IsReady table.now p.1.now) }
+{
+    let _ = table;
+    let (first, rest) = list.split_first_mut()?;
+    let (second, _) = rest.split_first_mut()?;
+    Some((first, second))
 }

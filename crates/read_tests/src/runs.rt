@@ -1,7 +1,7 @@
 //! Runs of programs over the table.
 ghost use Rattle.std.specs.Prelude.{◌≡◌};
 
-use crate::making::{LOAD_BYTE, LOOKUP_AND_LOAD, LOOKUP_AND_STORE, run, verified};
+use crate::making::{LOAD_BYTE, LOOKUP_AND_LOAD, LOOKUP_AND_STORE, run, two_seats, verified};
 use read_table::{ReadTable, SubWord};
 use std::test::Fail;
 
@@ -19,7 +19,7 @@ fn a_lookup_exits_with_the_value(rt: HostRuntime) -> Result<(), Fail> {
     );
     let (table, seats, mut writer) = ReadTable::new(alloc, 4, 8, 8, 2)?;
     let mut list = seats.list;
-    let [first, second] = list.as_mut_slice() else {
+    let Some((first, second)) = two_seats(&table, list.as_mut_slice()) else {
         return Err(Fail::from("not two seats"));
     };
     assert_eq!(rt; run(&table, first, &load), Some(Ok(0)));

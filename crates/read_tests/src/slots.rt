@@ -1,9 +1,12 @@
 //! Lookups of keys that the writer links and unlinks.
 ghost use Rattle.std.specs.Prelude.{◌≡◌};
+ghost use Rattle.std.specs.List.{Contains};
 ghost use Rattle.table_rule.specs.History.{inside};
 ghost use Rattle.read_table.specs.Held.{IsKnown, IsReady};
 
+use crate::making::two_seats;
 use read_table::{MAX_READERS, MAX_TABLE_SLOTS, ReadSeat, ReadTable, Writer};
+use std::process::Abort;
 use std::test::Fail;
 
 /// A key of two words, of which the first is the same in all keys.
@@ -89,27 +92,75 @@ fn each_key_is_found(rt: HostRuntime) -> Result<(), Fail> {
     Ok(())
 }
 
+/// The slot is not taken again, and no other is free.
+fn stays<R: Abort>(rt: &R, table: &ReadTable, writer: &mut Writer, slot: usize)
+    requires table { writer.old.table ≡ table.now }
+    requires key { table.now.shape.key_words ≡ 2 }
+    requires value { table.now.shape.value_words ≡ 1 }
+    requires unlinked { Contains writer.old.unlinked slot }
+    ensures table { writer.new.table ≡ table.now }
+    ensures unlinked { Contains writer.new.unlinked slot }
+{
+    assert!(rt; !writer.try_reclaim(table, slot));
+    assert_eq!(rt; writer.link(table, &key(3), &value(3)), None);
+}
+
+/// The slot is taken again, for another key.
+fn is_taken<R: Abort>(
+    rt: &R,
+    table: &ReadTable,
+    seat: &mut ReadSeat,
+    writer: &mut Writer,
+    slot: usize,
+)
+    requires table { writer.old.table ≡ table.now }
+    requires key { table.now.shape.key_words ≡ 2 }
+    requires value { table.now.shape.value_words ≡ 1 }
+    requires unlinked { Contains writer.old.unlinked slot }
+    requires ready { IsReady table.now seat.old }
+{
+    assert!(rt; writer.try_reclaim(table, slot));
+    assert_eq!(rt; writer.link(table, &key(3), &value(3)), Some(slot));
+    assert_eq!(rt; look_up(table, seat, 3), Some(3));
+}
+
+/// Unlinks one of two keys while the second reader is inside a section, and links a third when it is outside.
+fn unlink_beside<R: Abort>(
+    rt: &R,
+    table: &ReadTable,
+    first: &mut ReadSeat,
+    second: &mut ReadSeat,
+    writer: &mut Writer,
+    slot: usize,
+)
+    requires table { writer.old.table ≡ table.now }
+    requires key { table.now.shape.key_words ≡ 2 }
+    requires value { table.now.shape.value_words ≡ 1 }
+    requires linked { Contains writer.old.linked slot }
+    requires first { IsReady table.now first.old }
+    requires second { IsReady table.now second.old }
+{
+    table.open(second);
+    writer.unlink(table, slot);
+    assert_eq!(rt; look_up(table, first, 1), None);
+    assert_eq!(rt; look_up(table, first, 2), Some(2));
+    stays(rt, table, writer, slot);
+    table.close(second);
+    is_taken(rt, table, first, writer, slot);
+}
+
 /// A slot that was unlinked is found no more. It is taken again once no reader is inside a section, and not before.
 #[test]
 fn a_slot_is_taken_again(rt: HostRuntime) -> Result<(), Fail> {
     let (table, seats, mut writer) = ReadTable::new(rt.alloc(), 2, 16, 8, 2)?;
     let mut list = seats.list;
-    let [first, second] = list.as_mut_slice() else {
+    let Some((first, second)) = two_seats(&table, list.as_mut_slice()) else {
         return Err(Fail::from("not two seats"));
     };
+    assert!(rt; writer.link(&table, &key(2), &value(2)).is_some());
     let Some(slot) = writer.link(&table, &key(1), &value(1)) else {
         return Err(Fail::from("no free slot"));
     };
-    assert!(rt; writer.link(&table, &key(2), &value(2)).is_some());
-    table.open(second);
-    writer.unlink(&table, slot);
-    assert_eq!(rt; look_up(&table, first, 1), None);
-    assert_eq!(rt; look_up(&table, first, 2), Some(2));
-    assert!(rt; !writer.try_reclaim(&table, slot));
-    assert_eq!(rt; writer.link(&table, &key(3), &value(3)), None);
-    table.close(second);
-    assert!(rt; writer.try_reclaim(&table, slot));
-    assert_eq!(rt; writer.link(&table, &key(3), &value(3)), Some(slot));
-    assert_eq!(rt; look_up(&table, second, 3), Some(3));
+    unlink_beside(&rt, &table, first, second, &mut writer, slot);
     Ok(())
 }

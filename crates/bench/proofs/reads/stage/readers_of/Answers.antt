@@ -1,4 +1,4 @@
-use Rattle.std.proofs.Common.{◌∷◌, [], List, Bool, true, false, sym, subst}
+use Rattle.std.proofs.Common.{[], List, Bool, true, false, sym, subst}
 use Rattle.std.specs.Prelude.{All, if◌then◌else◌}
 use Rattle.std.proofs.lemmas.List.Elements.{All-append, All-cons, All-head, All-nil, All-tail}
 use Rattle.read_table.specs.Held.{IsReady}
