@@ -1,2 +1,3 @@
+pub mod BlockResults
 pub mod QueueRule
 pub mod Serving

@@ -4,6 +4,7 @@
 //! job is a `Serve`; each thread has a worker of it, and all workers come back, whatever the answer.
 #![tactic(auto)]
 
+mod blocks;
 mod fault;
 mod numbers;
 mod pool;

@@ -2,16 +2,18 @@
 ghost use Rattle.std.specs.Prelude.{◌≡◌, true, false, [], ◌⊎◌, ◌+◌, ◌<◌, ◌≤◌, ◌++◌, length, map, take, drop, Err, All, IsOk, IfErr, IfOk, OnOk, OnErr, vec_len, vec_capacity};
 ghost use Rattle.std.specs.List.{AllZip};
 ghost use Rattle.crossbeam_queue.specs.Passes.{view, IsPassOf};
-ghost use Rattle.job_queue.specs.declared.pool.TheConstants.{MAX_JOBS};
+ghost use Rattle.job_queue.specs.declared.pool.TheConstants.{MAX_JOBS, MAX_WORKERS};
+ghost use Rattle.job_queue.specs.Blocks.{InBlocks};
 ghost use Rattle.job_queue.specs.Numbers.{pass_view};
 ghost use Rattle.job_queue.specs.Serving.{IsNewStation, AreRightLines, AreServed, IsBadCount};
 ghost use Rattle.job_queue.specs.Sheet.{worker_of, IsBlank};
 
+use crate::blocks::{block_size, blocks_of, join};
 use crate::fault::PoolFault;
 use crate::numbers::{NumberPass, NumberQueue, Taker, fill};
 use crate::serve::Serve;
 use crate::sheet::{Sheet, gather};
-use crate::station::{Station, work_all};
+use crate::station::{BlockResults, Station, work_all};
 use std::alloc::{AllocError, Global};
 use std::sync::Wait;
 use std::thread::Threads;
@@ -44,7 +46,7 @@ fn stations_of<S: Serve>(
     serve: &S,
     workers: &mut Vec<S::Worker>,
     first: usize,
-) -> Result<Vec<Station<S::Worker, S::Served>>, AllocError>
+) -> Result<Vec<Station<S::Worker, BlockResults<S::Served>>>, AllocError>
     requires pass { IsPassOf queue.now pass.old }
     requires ready { All (S.ready serve.now) workers.old.items }
     requires first { first ≤ vec_len workers.old }
@@ -70,16 +72,17 @@ fn stations_of<S: Serve>(
     Ok(stations)
 }
 
-/// Serves all jobs by the stations, adds their workers to the others, and brings the results onto the sheet.
+/// Serves all blocks of jobs by the stations, adds their workers to the others, and brings the results onto the sheet.
 /// Whether some thread was short of memory.
 fn serve_at<S: Serve + Sync, R: Threads + Wait + Sync>(
     rt: &R,
+    alloc: Global,
     queue: &NumberQueue,
     serve: &S,
-    jobs: &[S::Job],
-    mut stations: Vec<Station<S::Worker, S::Served>>,
+    blocks: &[&[S::Job]],
+    mut stations: Vec<Station<S::Worker, BlockResults<S::Served>>>,
     workers: &mut Vec<S::Worker>,
-    sheet: &mut Sheet<S::Served>,
+    sheet: &mut Sheet<BlockResults<S::Served>>,
 ) -> bool
     requires fresh { All (IsNewStation (IsPassOf queue.now) (S.ready serve.now)) stations.items }
     requires ready { All (S.ready serve.now) workers.old.items }
@@ -89,16 +92,16 @@ fn serve_at<S: Serve + Sync, R: Threads + Wait + Sync>(
     ensures later { AllZip S.later (workers.old.items ++ map worker_of stations.items)
         workers.new.items }
     ensures count { vec_len sheet.new.lines ≡ vec_len sheet.old.lines }
-    ensures lines { AreRightLines (S.fits serve.now) jobs.now
+    ensures lines { AreRightLines (InBlocks (S.fits serve.now)) blocks.now
         (workers.old.items ++ map worker_of stations.items) workers.new.items
         sheet.new.lines.items }
 {
     unchanged::<S>(workers.as_slice());
-    work_all(rt, queue, serve, jobs, stations.as_mut_slice());
+    work_all(rt, alloc, queue, serve, blocks, stations.as_mut_slice());
     gather(stations, workers, sheet)
 }
 
-/// Takes all memory but that of the threads, and puts the jobs' numbers into a queue.
+/// Takes what memory so many blocks want but that of the threads, and puts the blocks' numbers into a queue.
 fn prepare<T: Drop, R: Wait>(rt: &R, alloc: Global, count: usize) -> Result<Prepared<T>, PoolFault>
     requires some { 0 < count }
     ensures pass { IfOk result (λ p. IsPassOf p.queue p.pass) }
@@ -130,23 +133,23 @@ fn prepare<T: Drop, R: Wait>(rt: &R, alloc: Global, count: usize) -> Result<Prep
     })
 }
 
-/// Serves all jobs, of which there is one at least, by the workers from `first` on.
+/// Serves all blocks of jobs, of which there is one at least, by the workers from `first` on.
 fn serve_each<S: Serve + Sync, R: Threads + Wait + Sync>(
     rt: &R,
     alloc: Global,
     serve: &S,
-    jobs: &[S::Job],
+    blocks: &[&[S::Job]],
     first: usize,
     workers: &mut Vec<S::Worker>,
-) -> Result<Vec<S::Served>, PoolFault>
-    requires some { 0 < length jobs.now }
+) -> Result<Vec<BlockResults<S::Served>>, PoolFault>
+    requires some { 0 < length blocks.now }
     requires ready { All (S.ready serve.now) workers.old.items }
     requires first { first ≤ vec_len workers.old }
     ensures ready { All (S.ready serve.now) workers.new.items }
     ensures later { AllZip S.later workers.old.items workers.new.items }
-    ensures count { IfOk result (λ v. vec_len v ≡ length jobs.now) }
+    ensures count { IfOk result (λ v. vec_len v ≡ length blocks.now) }
     ensures each { IfOk result (λ v.
-        AreServed (S.fits serve.now) jobs.now workers.old.items workers.new.items v.items) }
+        AreServed (InBlocks (S.fits serve.now)) blocks.now workers.old.items workers.new.items v.items) }
     ensures err { IfErr result (λ e. (e ≡ PoolFault.Memory) ⊎ (e ≡ PoolFault.Lost)) }
 {
     unchanged::<S>(workers.as_slice());
@@ -155,14 +158,47 @@ fn serve_each<S: Serve + Sync, R: Threads + Wait + Sync>(
         mut pass,
         mut sheet,
         results,
-    } = prepare(rt, alloc, jobs.len())?;
+    } = prepare(rt, alloc, blocks.len())?;
     let Ok(stations) = stations_of(alloc, &queue, &mut pass, serve, workers, first) else {
         return Err(PoolFault::Memory);
     };
-    if serve_at(rt, &queue, serve, jobs, stations, workers, &mut sheet) {
+    if serve_at(
+        rt, alloc, &queue, serve, blocks, stations, workers, &mut sheet,
+    ) {
         return Err(PoolFault::Memory);
     }
     sheet.read_out(results)
+}
+
+/// Serves all jobs, of which there is one at least, by the last workers, as many as `threads`.
+fn serve_in_blocks<S: Serve + Sync, R: Threads + Wait + Sync>(
+    rt: &R,
+    alloc: Global,
+    serve: &S,
+    jobs: &[S::Job],
+    threads: usize,
+    workers: &mut Vec<S::Worker>,
+) -> Result<Vec<S::Served>, PoolFault>
+    requires some { 0 < length jobs.now }
+    requires threads { (0 < threads) × (threads ≤ MAX_WORKERS) × (threads ≤ vec_len workers.old) }
+    requires ready { All (S.ready serve.now) workers.old.items }
+    ensures ready { All (S.ready serve.now) workers.new.items }
+    ensures later { AllZip S.later workers.old.items workers.new.items }
+    ensures count { IfOk result (λ v. vec_len v ≡ length jobs.now) }
+    ensures each { IfOk result (λ v.
+        AreServed (S.fits serve.now) jobs.now workers.old.items workers.new.items v.items) }
+    ensures err { IfErr result (λ e. (e ≡ PoolFault.Memory) ⊎ (e ≡ PoolFault.Lost)) }
+{
+    unchanged::<S>(workers.as_slice());
+    let Ok(blocks) = blocks_of(alloc, jobs, block_size(jobs.len(), threads)) else {
+        return Err(PoolFault::Memory);
+    };
+    let Ok(results) = Vec::with_capacity(alloc, jobs.len()) else {
+        return Err(PoolFault::Memory);
+    };
+    let first = workers.len() - threads;
+    let served = serve_each(rt, alloc, serve, blocks.as_slice(), first, workers)?;
+    join(served, results)
 }
 
 /// Serves all jobs in so many threads, each with one of the last workers: one result a job, in job order.
@@ -209,5 +245,5 @@ pub fn serve_all<S: Serve + Sync, R: Threads + Wait + Sync>(
     if jobs.is_empty() {
         return Ok(Vec::new(alloc));
     }
-    serve_each(rt, alloc, serve, jobs, workers.len() - threads, workers)
+    serve_in_blocks(rt, alloc, serve, jobs, threads, workers)
 }

@@ -1,17 +1,21 @@
 //! What one thread of a pool does.
-ghost use Rattle.std.specs.Prelude.{◌≡◌, ℕ, ◌<◌, length, slice_index_or, All};
+ghost use Rattle.std.specs.Prelude.{◌≡◌, ℕ, ◌<◌, length, slice_index_or, All, Option};
+ghost use Rattle.std.specs.Global.{Vec};
 ghost use Rattle.crossbeam_queue.specs.Passes.{IsPassOf};
 ghost use Rattle.job_queue.specs.declared.station.Station.{Station};
 ghost use Rattle.job_queue.specs.Serving.{IsNewStation, HasServed};
+ghost use Rattle.job_queue.specs.Blocks.{InBlocks};
 
+use crate::blocks::serve_block;
 use crate::numbers::{NumberPass, NumberQueue, Takes};
 use crate::pool::MAX_WORKERS;
 use crate::serve::Serve;
+use std::alloc::Global;
 use std::sync::Wait;
 use std::thread;
 use std::thread::Threads;
 
-/// What serving a job gave, under the job's number.
+/// What serving something gave, under its number.
 #[derive(Drop)]
 pub struct Numbered<T> {
     pub number: u64,
@@ -28,19 +32,23 @@ pub struct Station<W, T> {
     pub short: bool,
 }
 
-/// Serves jobs until none is left or memory runs out.
+/// What serving a block of jobs gave; nothing where there was no memory for it.
+pub type BlockResults<T> = Option<Vec<T>>;
+
+/// Serves blocks of jobs until none is left or memory runs out.
 fn work<S: Serve, R: Wait>(
     rt: &R,
+    alloc: Global,
     queue: &NumberQueue,
     serve: &S,
-    jobs: &[S::Job],
-    station: &mut Station<S::Worker, S::Served>,
+    blocks: &[&[S::Job]],
+    station: &mut Station<S::Worker, BlockResults<S::Served>>,
 )
     requires fresh { IsNewStation (IsPassOf queue.now) (S.ready serve.now) station.old }
-    ensures served { HasServed (S.fits serve.now) S.later jobs.now (IsPassOf queue.now)
+    ensures served { HasServed (InBlocks (S.fits serve.now)) S.later blocks.now (IsPassOf queue.now)
         (S.ready serve.now) station.old.worker station.new }
 {
-    for _ in 0..jobs.len() {
+    for _ in 0..blocks.len() {
         if station.results.reserve(1).is_err() {
             station.short = true;
             return;
@@ -48,10 +56,10 @@ fn work<S: Serve, R: Wait>(
         let Some(number) = queue.pop_as::<Takes, R>(rt, &mut station.pass) else {
             return;
         };
-        let Some(job) = jobs.get(number as usize) else {
+        let Some(block) = blocks.get(number as usize) else {
             return;
         };
-        let served = serve.serve(rt, &mut station.worker, job);
+        let served = serve_block(rt, alloc, serve, &mut station.worker, block);
         station.results.push_reserved(Numbered { number, served });
     }
 }
@@ -59,26 +67,27 @@ fn work<S: Serve, R: Wait>(
 /// Each station works in a thread of its own.
 pub fn work_all<S: Serve + Sync, R: Threads + Wait + Sync>(
     rt: &R,
+    alloc: Global,
     queue: &NumberQueue,
     serve: &S,
-    jobs: &[S::Job],
-    stations: &mut [Station<S::Worker, S::Served>],
+    blocks: &[&[S::Job]],
+    stations: &mut [Station<S::Worker, BlockResults<S::Served>>],
 )
     requires fresh { All (IsNewStation (IsPassOf queue.now) (S.ready serve.now)) stations.old }
     ensures count { length stations.new ≡ length stations.old }
-    ensures each { (k : ℕ) (d : Station S.Worker S.Served) → k < length stations.old
-        → HasServed (S.fits serve.now) S.later jobs.now (IsPassOf queue.now) (S.ready serve.now)
+    ensures each { (k : ℕ) (d : Station S.Worker (Option (Vec S.Served))) → k < length stations.old
+        → HasServed (InBlocks (S.fits serve.now)) S.later blocks.now (IsPassOf queue.now) (S.ready serve.now)
         (slice_index_or stations.old k d).worker (slice_index_or stations.new k d) }
 {
     thread::for_each_mut(
         rt,
         stations,
         MAX_WORKERS,
-        &|_, station: &mut Station<S::Worker, S::Served>|
+        &|_, station: &mut Station<S::Worker, BlockResults<S::Served>>|
             requires { IsNewStation (IsPassOf queue.now) (S.ready serve.now) station.old }
-            ensures { HasServed (S.fits serve.entry.now) S.later jobs.entry.now
+            ensures { HasServed (InBlocks (S.fits serve.entry.now)) S.later blocks.entry.now
                 (IsPassOf queue.entry.now) (S.ready serve.entry.now)
                 station.old.worker station.new }
-        { work(rt, queue, serve, jobs, station) },
+        { work(rt, alloc, queue, serve, blocks, station) },
     );
 }

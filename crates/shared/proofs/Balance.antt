@@ -67,6 +67,7 @@ balanced-push old new total worker event answer b fits real e room unr rec unl =
     let few_unlinked = b.few_unlinked in
     let few_reclaimed = b.few_reclaimed in
     let limit = b.limit in
+    let same_limit = e.limit in
     let t1 = t.1 in
     let t3 = t.3 in record {
       replays = subst (λ (z : WorldView × List Entry). Replays z.0 new.world z.1) (λ i. (sym e.base i, sym e.journal i)) r;
@@ -77,6 +78,6 @@ balanced-push old new total worker event answer b fits real e room unr rec unl =
       few_steps = omega (arith, few_steps, steps_now, one);
       few_unlinked = omega (arith, few_unlinked, t1);
       few_reclaimed = omega (arith, few_reclaimed, t3);
-      limit = e.limit ∙ limit;
-      short = omega (arith, n, room, limit);
+      limit = omega (arith, limit, same_limit);
+      short = omega (arith, n, room, same_limit);
     }

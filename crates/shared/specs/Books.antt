@@ -27,8 +27,8 @@ pub record BooksView : Type 0 where
 
 -- The books balance: the journal replays from the base, which has no run, to the world; the
 -- ledger's total is the number of the entries before the base and of those in the journal; the
--- totals are the world's, and no greater than that number. The journal has at most `MAX_JOURNAL`
--- entries, which is as many as it may have.
+-- totals are the world's, and no greater than that number. The journal has at most as many entries
+-- as it may have, which are no more than `MAX_JOURNAL`.
 pub record AreBalanced (b : BooksView) (total : ℕ) : Type 0 where
   pub replays : Replays b.base b.world b.journal
   pub count : b.before + length b.journal ≡ total
@@ -38,8 +38,8 @@ pub record AreBalanced (b : BooksView) (total : ℕ) : Type 0 where
   pub few_steps : b.tally.totals.steps ≤ total
   pub few_unlinked : b.tally.totals.unlinked ≤ total
   pub few_reclaimed : b.tally.totals.reclaimed ≤ total
-  pub limit : b.limit ≡ MAX_JOURNAL
-  pub short : length b.journal ≤ MAX_JOURNAL
+  pub limit : b.limit ≤ MAX_JOURNAL
+  pub short : length b.journal ≤ b.limit
 
 -- a worker: its number, how many entries it has made, and how many parts of the ledger it has
 pub record WorkerView : Type 0 where

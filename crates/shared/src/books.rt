@@ -91,12 +91,11 @@ impl<L: Ledger> Books<L> {
         requires same { world ≡ base }
         requires quiet { HasNoRuns base }
         requires journal { journal.entries ≡ [] }
-        requires limit { journal.limit ≡ MAX_JOURNAL }
         requires book { book.total ≡ 0 }
         ensures base { result.base ≡ base }
         ensures world { result.world ≡ base }
         ensures journal { result.journal ≡ [] }
-        ensures limit { result.limit ≡ MAX_JOURNAL }
+        ensures limit { result.limit ≡ journal.limit }
         ensures before { (result.before ≡ 0) × (result.steps_before ≡ 0) }
         ensures origin { result.tally.origin ≡ origin_of base }
         ensures totals { result.tally.totals ≡ record { steps = 0; unlinked = 0; reclaimed = 0 } }
@@ -218,12 +217,12 @@ impl<L: Ledger> Books<L> {
     }
 
     /// A law: the journal replays from the base to the world, the totals are the world's, since its origin, and
-    /// there may be `MAX_JOURNAL` entries.
+    /// there are no more entries than there may be, which are at most `MAX_JOURNAL`.
     pub fn are_balanced(&self)
         ensures replays { Replays self.now.base self.now.world self.now.journal }
         ensures tally { IsTallyOf self.now.tally self.now.world }
-        ensures limit { self.now.limit ≡ MAX_JOURNAL }
-        ensures short { length self.now.journal ≤ MAX_JOURNAL }
+        ensures limit { self.now.limit ≤ MAX_JOURNAL }
+        ensures short { length self.now.journal ≤ self.now.limit }
     {
         let _base = &self.base;
     }
@@ -236,8 +235,9 @@ impl<L: Ledger> Books<L> {
         ensures world { result.world ≡ self.world }
         ensures journal { result.journal.entries ≡ self.journal }
         ensures replays { Replays result.base result.world result.journal.entries }
-        ensures limit { result.journal.limit ≡ MAX_JOURNAL }
-        ensures short { length result.journal.entries ≤ MAX_JOURNAL }
+        ensures limit { result.journal.limit ≡ self.limit }
+        ensures few { self.limit ≤ MAX_JOURNAL }
+        ensures short { length result.journal.entries ≤ self.limit }
         ensures total { self.before + length result.journal.entries ≡ all.old.amount }
     {
         self.book.audit(all);

@@ -15,7 +15,7 @@ use crate::receipt::{ExitNote, Receipt};
 use crate::state::{State, begin};
 use crate::tally::Origin;
 use crate::worker::{Worker, Workers, merged, new_workers};
-use bpf_model::{Answer, CtxBytes, Event, MAX_PROGRAMS, ProgId, RunId};
+use bpf_model::{Answer, CtxBytes, Event, MAX_JOURNAL, MAX_PROGRAMS, ProgId, RunId};
 use journal::Journal;
 use std::alloc::{AllocError, Global};
 use std::marker::Model;
@@ -61,10 +61,9 @@ fn programs_of(alloc: Global, world: &World) -> Result<Vec<Verified>, AllocError
 }
 
 impl<L: Ledger> Shared<L> {
-    /// Shares a world in which no run slot is occupied among 1 to `MAX_WORKERS` workers, with an empty journal
-    /// and the counters. The journal may have `MAX_JOURNAL` entries (`State::are_balanced`). The programs that
-    /// it keeps are the world's, by number. The ledger has one part for each worker. The error is that there is
-    /// no memory left.
+    /// Shares a world in which no run slot is occupied among 1 to `MAX_WORKERS` workers, with the counters and with
+    /// an empty journal, which may have `MAX_JOURNAL` entries. The programs that it keeps are the world's, by number.
+    /// The ledger has one part for each worker. The error is that there is no memory left.
     pub fn new(
         alloc: Global,
         world: World,
@@ -87,12 +86,42 @@ impl<L: Ledger> Shared<L> {
         ensures shapes { IfOk result (λ t. map (λ p. map Some p.shapes) t.0
             ≡ map (λ l. map (slice_get (shapes_of world)) l.maps) world.programs) }
     {
+        Shared::with_limit(alloc, world, workers, MAX_JOURNAL, blank)
+    }
+
+    /// Shares a world as `new` does, with a journal that may have so many entries, 1 to `MAX_JOURNAL`. No clause of a
+    /// shared world names this limit, since a contract does not see what is under the lock: it is the journal's that
+    /// `finish` hands out, and `State::are_balanced` holds for it.
+    pub fn with_limit(
+        alloc: Global,
+        world: World,
+        workers: u8,
+        limit: usize,
+        blank: Blank,
+    ) -> Result<(Shared<L>, Workers<L>, Counters), AllocError>
+        requires quiet { HasNoRuns world }
+        requires workers { (0 < workers) × (workers ≤ MAX_WORKERS) }
+        requires limit { (0 < limit) × (limit ≤ MAX_JOURNAL) }
+        requires name { blank.name ≡ L.name }
+        requires parts { (blank.parts ≡ L.parts) × (blank.parts ≡ workers) }
+        ensures count { IfOk result (λ t. length t.1 ≡ workers) }
+        ensures made { IfOk result (λ t. All (λ w. w.made ≡ 0) t.1) }
+        ensures numbers { IfOk result (λ t. AreNumbered t.1) }
+        ensures counters { IfOk result (λ t. t.2 ≡ shown_totals (origin_of world) 0 0 0) }
+        ensures codes { IfOk result (λ t.
+            map (λ p. p.program) t.0 ≡ map (λ l. l.code) world.programs) }
+        ensures contexts { IfOk result (λ t.
+            map (λ p. p.ctx_len) t.0 ≡ map (λ l. l.context_len) world.programs) }
+        // Each is verified for maps of the shapes of those to which the world's is bound.
+        ensures shapes { IfOk result (λ t. map (λ p. map Some p.shapes) t.0
+            ≡ map (λ l. map (slice_get (shapes_of world)) l.maps) world.programs) }
+    {
         let programs = programs_of(alloc, &world)?;
         let base = world.copy(alloc)?;
         let (cell, pass, counters) = begin(alloc, Origin::of(&world))?;
         let (book, all) = blank.open::<L>();
         let workers = new_workers(alloc, all, workers)?;
-        let books = Books::new(base, world, Journal::new(alloc), book);
+        let books = Books::new(base, world, Journal::with_limit(alloc, limit), book);
         let shared = Shared {
             state: Mutex::new(State::new(books, cell, pass)),
             programs,
@@ -250,12 +279,12 @@ impl<L: Ledger> Shared<L> {
     }
 
     /// Ends the sharing, for which all workers come back, and hands out the base, the world and the
-    /// journal, which may have `MAX_JOURNAL` entries. The shares of all workers add up to the entries
-    /// before the base and those in the journal.
+    /// journal, also where the journal is full or a run slot is occupied. The shares of all workers add up to the
+    /// entries before the base and those in the journal.
     pub fn finish(self, workers: Workers<L>) -> Finished
         ensures replays { Replays result.base result.world result.journal.entries }
-        ensures limit { result.journal.limit ≡ MAX_JOURNAL }
-        ensures short { length result.journal.entries ≤ MAX_JOURNAL }
+        ensures limit { result.journal.limit ≤ MAX_JOURNAL }
+        ensures short { length result.journal.entries ≤ result.journal.limit }
         ensures total { (before : ℕ) × (before + length result.journal.entries
             ≡ sum_by (λ w. w.made) workers) }
     {

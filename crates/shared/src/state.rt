@@ -163,12 +163,13 @@ impl<L: Ledger> State<L> {
     }
 
     /// A law: the journal replays from the base to the world, the totals are the world's, since its origin, and
-    /// there may be `MAX_JOURNAL` entries. It is so of each value that a lock of this type has, whoever made it.
+    /// there are no more entries than there may be, which are at most `MAX_JOURNAL`. It is so of each value that a lock
+    /// of this type has, whoever made it.
     pub fn are_balanced(&self)
         ensures replays { Replays self.now.base self.now.world self.now.journal }
         ensures tally { IsTallyOf self.now.tally self.now.world }
-        ensures limit { self.now.limit ≡ MAX_JOURNAL }
-        ensures short { length self.now.journal ≤ MAX_JOURNAL }
+        ensures limit { self.now.limit ≤ MAX_JOURNAL }
+        ensures short { length self.now.journal ≤ self.now.limit }
     {
         self.books.are_balanced();
     }
@@ -178,8 +179,9 @@ impl<L: Ledger> State<L> {
     pub(crate) fn finish(self, all: &mut Share<L>) -> Finished
         requires { all.old.parts ≡ L.parts }
         ensures replays { Replays result.base result.world result.journal.entries }
-        ensures limit { result.journal.limit ≡ MAX_JOURNAL }
-        ensures short { length result.journal.entries ≤ MAX_JOURNAL }
+        ensures limit { result.journal.limit ≡ self.limit }
+        ensures few { self.limit ≤ MAX_JOURNAL }
+        ensures short { length result.journal.entries ≤ self.limit }
         ensures total { self.before + length result.journal.entries ≡ all.old.amount }
     {
         let State {

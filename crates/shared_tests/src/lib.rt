@@ -1,5 +1,5 @@
 //! Tests of a shared world, with the counters that its workers write, cuts and exits; and of a pool of workers
-//! that serves jobs from it. Of the journal: every kind of entry is read back as it was added.
+//! that serves jobs from it. Of the journal: every kind of entry is read back as it was added, and what a full one takes.
 #![tactic(auto)]
 
 #[cfg(test)]
@@ -10,6 +10,8 @@ mod cuts;
 mod entries;
 #[cfg(test)]
 mod journals;
+#[cfg(test)]
+mod limits;
 #[cfg(test)]
 mod making;
 #[cfg(test)]

@@ -3,6 +3,7 @@ use Rattle.std.specs.Prelude.{All}
 use Rattle.std.proofs.lemmas.List.{take-append-drop, length-map, length-drop, length-take-le}
 use Rattle.std.proofs.lemmas.List.Elements.{All-take}
 use Rattle.std.proofs.lemmas.Result.{IfOk-weaker, IfErr-weaker}
+use Rattle.job_queue.specs.Blocks.{InBlocks}
 use Rattle.job_queue.specs.Serving.{AreRightLines}
 use Rattle.job_queue.specs.Sheet.{worker_of}
 use Rattle.job_queue.proofs.Serving.{results_right}
@@ -30,11 +31,11 @@ serve_at-requires-clause-room g c κs within =
 pub returns-clause-each : goal.returns-clause-each
 returns-clause-each g c =
     let whole = ap (λ z. z ++ map worker_of c.in-Ok.stations.items) c.in-Ok.ensures.workers ∙ (ap (λ z. take c.args.first c.args.workers.now.items ++ z) c.in-Ok.ensures.stations ∙ take-append-drop c.args.first c.args.workers.now.items) in
-    let fits = g.S.Serve.fits c.args.serve.now in
+    let fits = InBlocks (g.S.Serve.fits c.args.serve.now) in
     let after = c.serve_at.new.workers.items in
     let lines = c.serve_at.new.sheet.lines.items in
     IfOk-weaker c.read_out.result _ _
-    (λ v same. results_right fits c.args.jobs.now c.args.workers.now.items after lines v.items (subst (λ z. AreRightLines fits c.args.jobs.now z after lines) whole c.serve_at.ensures.lines) same)
+    (λ v same. results_right fits c.args.blocks.now c.args.workers.now.items after lines v.items (subst (λ z. AreRightLines fits c.args.blocks.now z after lines) whole c.serve_at.ensures.lines) same)
     c.read_out.ensures.lines
 
 pub returns-clause-err : goal.returns-clause-err

@@ -3,6 +3,8 @@ use Rattle.std.specs.Prelude.{All}
 use Rattle.std.proofs.lemmas.Option.{slice_get_read}
 use Rattle.job_queue.specs.declared.station.Numbered.{Numbered}
 use Rattle.job_queue.specs.Serving.{IsRightNumbered}
+use Rattle.job_queue.specs.Blocks.{InBlocks}
+use Rattle.job_queue.proofs.BlockResults.{right_wider}
 use Rattle.job_queue.proofs.QueueRule.{takes, learns}
 use Rattle.crossbeam_queue.specs.Passes.{view}
 use Rattle.job_queue.specs.declared.numbers.PassView.{PassView}
@@ -17,26 +19,27 @@ pop_as-requires-clause-rule g c = (takes _ _, learns _ _)
 pub loop-preserved : goal.loop-preserved
 loop-preserved g c =
     let i = c.loop.invariant in
-    let e = c.serve-served.ensures in
+    let e = c.serve_block-served.ensures in
     let laws = g.met.S.Serve in
     let first = c.args.station.now.worker in
     let was = c.loop.station.worker in
-    let is = c.serve-served.new.worker in
-    let one : Numbered _ = record { number = c.in-Some.number; served = c.serve-served.result } in
+    let is = c.serve_block-served.new.worker in
+    let one : Numbered _ = record { number = c.in-Some.number; served = c.serve_block-served.result } in
     let items = c.push_reserved.ensures.items ∙ ap (λ z. z ++ one ∷ []) c.reserve.ensures.items in
     let fits = g.S.Serve.fits c.args.serve.now in
+    let each = InBlocks fits in
     record {
       pass = search rules;
       ready_now = e.ready;
       later_now = laws.later_again first was is i.later_now e.later;
-      results = subst (All (IsRightNumbered fits c.args.jobs.now first is)) (sym items)
-          (one_more fits c.args.jobs.now first was is
-          (λ job served. laws.fits_wider c.args.serve.now first first was is job served (laws.later_same first) e.later)
+      results = subst (All (IsRightNumbered each c.args.blocks.now first is)) (sym items)
+          (one_more each c.args.blocks.now first was is
+          (λ block served. right_wider fits first first was is (λ job one. laws.fits_wider c.args.serve.now first first was is job one (laws.later_same first) e.later) block.now served)
           c.loop.station.results.items one i.results
           record {
-            job = c.in-Some-get.job.now;
-            at = (let k = c.in-Some-get.ensures.lookup in slice_get_read c.args.jobs.now _ c.in-Some.number c.in-Some-get.job.now refl k.3.0 k.1);
-            right = laws.fits_wider c.args.serve.now first was is is c.in-Some-get.job.now c.serve-served.result i.later_now (laws.later_same is) e.fits;
+            job = c.in-Some-get.block.now;
+            at = (let k = c.in-Some-get.ensures.lookup in slice_get_read c.args.blocks.now _ c.in-Some.number c.in-Some-get.block.now refl k.3.0 k.1);
+            right = right_wider fits first was is is (λ job one. laws.fits_wider c.args.serve.now first was is is job one i.later_now (laws.later_same is)) c.in-Some-get.block.now.now c.serve_block-served.result e.fits;
           });
       kept = λ k taken low. subst (λ z. HasResult z k) (sym items)
           (kept_more c.loop.station.results.items one (view c.loop.station.pass).taken k
@@ -59,9 +62,9 @@ returns-in_default g c =
 pub returns-in_default-get : goal.returns-in_default-get
 returns-in_default-get g c =
     let i = c.loop.invariant in
-    let past : c.in-Some.number < length c.args.jobs.now → ⊥ = search rules in
+    let past : c.in-Some.number < length c.args.blocks.now → ⊥ = search rules in
     record {
       served = still_served _ _ _ _ _ _ c.loop.station _ i (search rules) refl c.reserve.ensures.items
-          (λ k taken low. taken_before c.in-Some.number k (view c.loop.station.pass).taken (length c.args.jobs.now) past low
+          (λ k taken low. taken_before c.in-Some.number k (view c.loop.station.pass).taken (length c.args.blocks.now) past low
           (subst (λ (z : PassView). WasTaken k z.taken) c.in-Some.ensures.rule taken));
     }

@@ -1,0 +1,92 @@
+//! The calls on programs.
+use anyhow::{Result, ensure};
+use asm::{AsmFault, assemble};
+use bpf_model::{MapShape, Program};
+use disasm::disassemble;
+use element_arena::Arena;
+use insn_codec::{DecodeFault, decode, encode};
+use std::alloc::Global;
+use verifier::{ProgramRefusal, Verified, verify};
+
+/// Exits with the number that the map has under key 7; with 0 where there is no such key.
+const TEXT: &str = "\
+mov64 r6, 0
+callbtf 1
+stw [r10-4], 7
+mov64 r2, r10
+add64 r2, -4
+ldmap r1, 0
+call 1
+jeq r0, 0, +1
+ldxdw r6, [r0+0]
+callbtf 2
+mov64 r0, r6
+exit
+";
+
+/// Keys of 4 bytes, values of 8.
+pub const SHAPE: MapShape = MapShape {
+    key_len: 4,
+    value_len: 8,
+    entries: 16,
+    spare: 16,
+    reuse_limit: 1000,
+};
+
+/// The program of the text.
+pub fn assembled(alloc: Global) -> Result<(Program, bool)> {
+    match assemble(alloc, TEXT) {
+        Err(AsmFault::Memory) => Ok((assemble(alloc, TEXT)?, true)),
+        made => Ok((made?, false)),
+    }
+}
+
+/// The bytes of a program.
+pub fn encoded(alloc: Global, program: &Program) -> Result<(Vec<u8>, bool)> {
+    match encode(alloc, program) {
+        Err(_) => Ok((encode(alloc, program)?, true)),
+        Ok(bytes) => Ok((bytes, false)),
+    }
+}
+
+/// The program of the bytes.
+pub fn decoded(alloc: Global, bytes: &[u8]) -> Result<(Program, bool)> {
+    match decode(alloc, bytes) {
+        Err(DecodeFault::Memory) => Ok((decode(alloc, bytes)?, true)),
+        made => Ok((made?, false)),
+    }
+}
+
+/// Writes the text of the program, which is that of which it was made.
+pub fn disassembled(alloc: Global, program: &Program) -> Result<bool> {
+    let (text, again) = match disassemble(alloc, program) {
+        Err(_) => (disassemble(alloc, program)?, true),
+        Ok(text) => (text, false),
+    };
+    ensure!(text.as_str() == TEXT, "the text is another one");
+    Ok(again)
+}
+
+/// The program of the bytes, verified for one map.
+pub fn verified(alloc: Global, bytes: &[u8]) -> Result<(Verified, bool)> {
+    match verify(alloc, decode(alloc, bytes)?, &[SHAPE], 0) {
+        Err(ProgramRefusal::Memory) => {
+            let verified = verify(alloc, decode(alloc, bytes)?, &[SHAPE], 0)?;
+            Ok((verified, true))
+        }
+        made => Ok((made?, false)),
+    }
+}
+
+/// Makes an arena of two slots, and takes both.
+pub fn arena(alloc: Global) -> Result<bool> {
+    let (mut arena, again) = match Arena::new(alloc, 2, 4, 8, 1) {
+        Err(_) => (Arena::new(alloc, 2, 4, 8, 1)?, true),
+        Ok(arena) => (arena, false),
+    };
+    for _ in 0..2 {
+        ensure!(arena.take(&[0; 4], &[0; 8]).is_some(), "no slot is free");
+    }
+    ensure!(arena.take(&[0; 4], &[0; 8]).is_none(), "a slot is free");
+    Ok(again)
+}

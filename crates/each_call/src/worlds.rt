@@ -1,0 +1,106 @@
+//! The calls on maps and worlds.
+use crate::programs::SHAPE;
+use anyhow::{Result, bail, ensure};
+use arrayvec::ArrayVec;
+use bpf_model::{Answer, CtxBytes, Event, KeyBytes, MapId, ProgId, RunId, array_of};
+use maps::{MapFault, Registry};
+use std::alloc::Global;
+use verifier::Verified;
+use world::{Loaded, World, WorldFault};
+
+/// Creates two maps. A map that could not be made has left no name.
+pub fn created(alloc: Global) -> Result<bool> {
+    let mut registry = Registry::new(alloc);
+    let mut again = false;
+    for name in ["first", "second"] {
+        let count = registry.len();
+        match registry.create(name, SHAPE) {
+            Err(MapFault::Memory) => {
+                ensure!(registry.id(name).is_none(), "a name was left");
+                ensure!(registry.len() == count, "a map was left");
+                registry.create(name, SHAPE)?;
+                again = true;
+            }
+            made => {
+                made?;
+            }
+        }
+    }
+    Ok(again)
+}
+
+/// A world of one map, and of the program, bound to it.
+fn world_of(alloc: Global, verified: &Verified) -> Result<Result<World, WorldFault>> {
+    let mut registry = Registry::new(alloc);
+    registry.create("counts", SHAPE)?;
+    let mut maps = ArrayVec::new();
+    maps.push(0);
+    let mut programs = Vec::new(alloc);
+    let verified = verified.copy(alloc)?;
+    programs.push(Loaded { verified, maps })?;
+    Ok(World::new(alloc, registry, programs))
+}
+
+/// A world of one map and of the program.
+pub fn make_world(alloc: Global, verified: &Verified) -> Result<(World, bool)> {
+    match world_of(alloc, verified)? {
+        Err(WorldFault::Memory) => Ok((world_of(alloc, verified)??, true)),
+        made => Ok((made?, false)),
+    }
+}
+
+/// Key 7, as the program writes it.
+fn key() -> KeyBytes {
+    array_of(&[7, 0, 0, 0])
+}
+
+/// The number under key 7 becomes 42.
+pub fn update() -> Event {
+    Event::Update {
+        map: MapId::new(0),
+        key: key(),
+        value: array_of(&[42, 0, 0, 0, 0, 0, 0, 0]),
+        flags: 0,
+    }
+}
+
+/// A run of the program, to its exit, by single steps; then it is dropped.
+fn events(alloc: Global) -> Result<Vec<Event>> {
+    let mut events = Vec::new(alloc);
+    events.push(update())?;
+    events.push(Event::Start {
+        prog: ProgId::new(0),
+        ctx: CtxBytes::new(),
+    })?;
+    let run = RunId::new(0);
+    for _ in 0..12 {
+        events.push(Event::Step { run })?;
+    }
+    events.push(Event::Drop { run })?;
+    Ok(events)
+}
+
+/// Whether the last answer but one is the exit with 42.
+fn has_exited(answers: &[Answer]) -> bool {
+    match answers {
+        [.., Answer::Exited(value), Answer::Done] => *value == 42,
+        _ => false,
+    }
+}
+
+/// Runs a list of events. A world that had no memory for the answers has taken none of them.
+pub fn run_events(alloc: Global, world: &mut World) -> Result<bool> {
+    let events = events(alloc)?;
+    let before = world.stat();
+    let (answers, again) = match world.run_all(alloc, &events) {
+        Err(_) => {
+            ensure!(world.stat() == before, "some events were taken");
+            (world.run_all(alloc, &events)?, true)
+        }
+        Ok(answers) => (answers, false),
+    };
+    if !has_exited(&answers) {
+        bail!("the run has not ended");
+    }
+    Ok(again)
+}
