@@ -13,6 +13,7 @@ use worker_pool::{Job, Outcome, PoolFault, Report, Trail, run_jobs};
 use world::World;
 
 /// Which calls were made again for want of memory.
+#[derive(Drop)]
 pub struct Told {
     pub act: bool,
     pub cut: bool,
@@ -127,6 +128,9 @@ pub fn share<L: Ledger + Send + Sync, R: Threads + Wait + Sync>(
     let jobs = serve(rt, alloc, &shared, &mut workers)?;
     let made: u64 = workers.list.iter().map(|worker| worker.made()).sum();
     let entries = shared.finish(workers).journal.len() as u64;
-    ensure!(made == entries + TIMES as u64, "the entries are not those that were made");
+    ensure!(
+        made == entries + TIMES as u64,
+        "the entries are not those that were made"
+    );
     Ok(Told { act, cut, jobs })
 }

@@ -1,10 +1,10 @@
 //! The calls on programs.
 use anyhow::{Result, ensure};
 use asm::{AsmFault, assemble};
-use bpf_model::{MapShape, Program};
+use bpf_model::MapShape;
 use disasm::disassemble;
 use element_arena::Arena;
-use insn_codec::{DecodeFault, decode, encode};
+use insn_codec::{DecodeFault, Program, decode, encode};
 use std::alloc::Global;
 use verifier::{ProgramRefusal, Verified, verify};
 

@@ -122,6 +122,9 @@ fn three_lookups_by_two_seats(rt: HostRuntime) -> Result<(), Fail> {
         jobs.push(job(0, 0))?;
     }
     let fault = run_read_jobs(&rt, alloc, &programs, &jobs, &table, &mut seats).err();
-    assert_eq!(rt; (fault, PoolFault::TooManyJobs.code()), (Some(PoolFault::TooManyJobs), 91));
+    assert_eq!(rt;
+        (fault, PoolFault::TooManyJobs.code()),
+        (Some(PoolFault::TooManyJobs), 91)
+    );
     Ok(())
 }

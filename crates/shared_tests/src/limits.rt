@@ -47,7 +47,10 @@ fn full<L: Ledger + Send + Sync, R: Wait + Abort>(
     assert_eq!(rt; made_by(&workers), 3);
     let finished = shared.finish(workers);
     assert_eq!(rt; (finished.journal.len(), finished.journal.limit()), (3, 3));
-    assert_eq!(rt; (finished.base.stat().runs, finished.world.stat().runs), (0, 1));
+    assert_eq!(rt;
+        (finished.base.stat().runs, finished.world.stat().runs),
+        (0, 1)
+    );
     Ok(())
 }
 
