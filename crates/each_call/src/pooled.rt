@@ -106,6 +106,20 @@ fn serve<L: Ledger + Send + Sync, R: Threads + Wait + Sync>(
     Ok(true)
 }
 
+/// How many entries the workers have made.
+fn made_by<L: Ledger>(workers: &Workers<L>) -> u64 {
+    let mut sum = 0u64;
+    for worker in &workers.list {
+        sum = sum.saturating_add(worker.made());
+    }
+    sum
+}
+
+/// Whether these are the entries that were made since the cut.
+fn are_those_made(entries: usize, made: u64) -> bool {
+    (entries as u64).saturating_add(TIMES as u64) == made
+}
+
 /// Shares a world: updates, a cut and jobs. In the end each entry since the cut is in the journal.
 pub fn share<L: Ledger + Send + Sync, R: Threads + Wait + Sync>(
     rt: &R,
@@ -126,10 +140,10 @@ pub fn share<L: Ledger + Send + Sync, R: Threads + Wait + Sync>(
     let act = act(rt, &shared, first)?;
     let cut = cut(rt, alloc, &shared)?;
     let jobs = serve(rt, alloc, &shared, &mut workers)?;
-    let made: u64 = workers.list.iter().map(|worker| worker.made()).sum();
-    let entries = shared.finish(workers).journal.len() as u64;
+    let made = made_by(&workers);
+    let entries = shared.finish(workers).journal.len();
     ensure!(
-        made == entries + TIMES as u64,
+        are_those_made(entries, made),
         "the entries are not those that were made"
     );
     Ok(Told { act, cut, jobs })

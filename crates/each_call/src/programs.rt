@@ -1,4 +1,7 @@
 //! The calls on programs.
+ghost use Rattle.std.specs.Prelude.{◌≡◌, IfOk};
+ghost use Rattle.element_arena.specs.State.{new_arena};
+
 use anyhow::{Result, ensure};
 use asm::{AsmFault, assemble};
 use bpf_model::MapShape;
@@ -78,15 +81,19 @@ pub fn verified(alloc: Global, bytes: &[u8]) -> Result<(Verified, bool)> {
     }
 }
 
-/// Makes an arena of two slots, and takes both.
-pub fn arena(alloc: Global) -> Result<bool> {
-    let (mut arena, again) = match Arena::new(alloc, 2, 4, 8, 1) {
-        Err(_) => (Arena::new(alloc, 2, 4, 8, 1)?, true),
-        Ok(arena) => (arena, false),
-    };
-    for _ in 0..2 {
-        ensure!(arena.take(&[0; 4], &[0; 8]).is_some(), "no slot is free");
+/// An arena of one slot.
+fn made_arena(alloc: Global) -> Result<(Arena, bool)>
+    ensures { IfOk result (λ made. made.0 ≡ new_arena 1 4 8 1) }
+{
+    match Arena::new(alloc, 1, 4, 8, 1) {
+        Err(_) => Ok((Arena::new(alloc, 1, 4, 8, 1)?, true)),
+        Ok(arena) => Ok((arena, false)),
     }
-    ensure!(arena.take(&[0; 4], &[0; 8]).is_none(), "a slot is free");
+}
+
+/// Makes an arena, and takes its slot.
+pub fn arena(alloc: Global) -> Result<bool> {
+    let (mut arena, again) = made_arena(alloc)?;
+    ensure!(arena.take(&[0; 4], &[0; 8]).is_some(), "no slot is free");
     Ok(again)
 }

@@ -1,0 +1,66 @@
+//! Eight workers share a world of sixteen maps for so many rounds, with events of every kind, as quickly as they can. After each
+//! round the journal is replayed from the base to which it was cut last, and its answers, the counts and all elements are
+//! compared with what the workers left. `soak ROUNDS CALLS`: how many rounds, and how many events a worker brings in each.
+#![tactic(auto)]
+
+mod making;
+mod mixing;
+mod replaying;
+mod round;
+
+use crate::making::world_of;
+use crate::round::{Tally, go_round};
+use anyhow::{Result, bail};
+use std::alloc::Global;
+use std::env;
+use std::marker::Brand;
+use std::process::ExitCode;
+use std::sync::Wait;
+use std::sync::ledger::Blank;
+use std::thread::Threads;
+
+/// A number that is not 0.
+fn number(word: Option<String>) -> Result<u32> {
+    let Some(word) = word else {
+        bail!("usage: soak ROUNDS CALLS");
+    };
+    match word.as_str().parse::<u32>() {
+        Ok(number) if number > 0 => Ok(number),
+        _ => bail!("usage: soak ROUNDS CALLS"),
+    }
+}
+
+/// Goes so many rounds over one world, each where the last one ended.
+fn go<R: Threads + Wait + Sync>(rt: &R, alloc: Global, rounds: u32, calls: u32) -> Result<Tally> {
+    let mut world = world_of(alloc)?;
+    let mut tally = Tally::new();
+    for round in 0..rounds {
+        let blank = Blank::new(8);
+        world = go_round::<Brand, _>(rt, alloc, blank, world, round, calls, &mut tally)?;
+    }
+    Ok(tally)
+}
+
+/// What the words ask for, and a line for each of standard output and standard error.
+fn perform<H: Threads + Wait + Sync>(rt: &HostRuntime, handle: &H) -> Result<()> {
+    let mut words = env::args(rt)?.skip(1);
+    let rounds = number(words.next())?;
+    let calls = number(words.next())?;
+    let tally = go(handle, rt.alloc(), rounds, calls)?;
+    eprintln!(rt;
+        "entries {} cuts {} worn {}",
+        tally.entries, tally.cuts, tally.worn
+    )?;
+    println!(rt; "rounds {rounds}, no difference")?;
+    Ok(())
+}
+
+fn main(rt: HostRuntime) -> ExitCode {
+    match perform(&rt, &rt) {
+        Ok(()) => ExitCode::SUCCESS,
+        Err(error) => {
+            let _ = eprintln!(&rt; "{error}");
+            ExitCode::FAILURE
+        }
+    }
+}
