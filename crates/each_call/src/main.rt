@@ -13,6 +13,8 @@ use crate::worlds::{created, make_world, run_events};
 use anyhow::Result;
 use std::marker::Brand;
 use std::sync::ledger::Blank;
+use verifier::Verified;
+use world::World;
 
 /// Tells what became of a call that has been made, and whether it was made again for want of memory.
 fn tell(rt: &HostRuntime, name: &str, again: bool) -> Result<()> {
@@ -24,24 +26,49 @@ fn tell(rt: &HostRuntime, name: &str, again: bool) -> Result<()> {
     Ok(())
 }
 
-fn main(rt: HostRuntime) -> Result<()> {
+/// The value of a call that has been made, once it is told.
+fn told<T: Drop>(rt: &HostRuntime, name: &str, made: Result<(T, bool)>) -> Result<T> {
+    let (value, again) = made?;
+    tell(rt, name, again)?;
+    Ok(value)
+}
+
+/// The calls on a program's text and bytes.
+fn make_bytes(rt: &HostRuntime) -> Result<Vec<u8>> {
     let alloc = rt.alloc();
-    let (program, again) = assembled(alloc)?;
-    tell(&rt, "assemble", again)?;
-    let (bytes, again) = encoded(alloc, &program)?;
-    tell(&rt, "encode", again)?;
-    let (program, again) = decoded(alloc, &bytes)?;
-    tell(&rt, "decode", again)?;
-    tell(&rt, "disassemble", disassembled(alloc, &program)?)?;
-    let (verified, again) = verified(alloc, &bytes)?;
-    tell(&rt, "verify", again)?;
-    tell(&rt, "arena", arena(alloc)?)?;
-    tell(&rt, "create", created(alloc)?)?;
-    let (mut world, again) = make_world(alloc, &verified)?;
-    tell(&rt, "world", again)?;
-    tell(&rt, "run_all", run_events(alloc, &mut world)?)?;
-    let told = share::<Brand, _>(&rt, alloc, world, Blank::new(2))?;
-    tell(&rt, "act", told.act)?;
-    tell(&rt, "cut", told.cut)?;
-    tell(&rt, "run_jobs", told.jobs)
+    let program = told(rt, "assemble", assembled(alloc))?;
+    told(rt, "encode", encoded(alloc, &program))
+}
+
+/// The further calls on a program.
+fn make_program(rt: &HostRuntime, bytes: &[u8]) -> Result<Verified> {
+    let alloc = rt.alloc();
+    let program = told(rt, "decode", decoded(alloc, bytes))?;
+    tell(rt, "disassemble", disassembled(alloc, &program)?)?;
+    told(rt, "verify", verified(alloc, bytes))
+}
+
+/// The calls on arenas, maps and worlds.
+fn make_worlds(rt: &HostRuntime, verified: &Verified) -> Result<World> {
+    let alloc = rt.alloc();
+    tell(rt, "arena", arena(alloc)?)?;
+    tell(rt, "create", created(alloc)?)?;
+    let mut world = told(rt, "world", make_world(alloc, verified))?;
+    tell(rt, "run_all", run_events(alloc, &mut world)?)?;
+    Ok(world)
+}
+
+/// All calls but those that wait.
+fn make_all(rt: &HostRuntime) -> Result<World> {
+    let bytes = make_bytes(rt)?;
+    let verified = make_program(rt, &bytes)?;
+    make_worlds(rt, &verified)
+}
+
+fn main(rt: HostRuntime) -> Result<()> {
+    let world = make_all(&rt)?;
+    let calls = share::<Brand, _>(&rt, rt.alloc(), world, Blank::new(2))?;
+    tell(&rt, "act", calls.act)?;
+    tell(&rt, "cut", calls.cut)?;
+    tell(&rt, "run_jobs", calls.jobs)
 }

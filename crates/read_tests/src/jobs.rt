@@ -1,16 +1,17 @@
 //! Jobs that the seats of a table serve.
-ghost use Rattle.std.specs.Prelude.{◌≡◌, ◌<◌, ◌≤◌, All, IfOk};
-ghost use Rattle.job_queue.specs.declared.pool.TheConstants.{MAX_WORKERS};
-ghost use Rattle.read_table.specs.Held.{IsReady};
+ghost use Rattle.std.specs.Prelude.{◌≤◌, IfOk};
 ghost use Rattle.shared_runs.specs.Words.{FitsTable};
+ghost use Rattle.worker_pool.specs.Readings.{AllFit};
 
 use crate::making::{LOAD_BYTE, LOOKUP_AND_LOAD, verified};
 use bpf_model::{CtxBytes, EventRefusal, ProgId};
 use read_table::ReadTable;
 use std::alloc::{AllocError, Global};
+use std::sync::Wait;
 use std::test::Fail;
+use std::thread::Threads;
 use verifier::Verified;
-use worker_pool::{Job, JobReport, MAX_JOBS, Outcome, PoolFault, StopCause, run_read_jobs};
+use worker_pool::{Job, JobReport, MAX_JOBS, Outcome, PoolFault, Report, StopCause, run_read_jobs};
 
 /// A program of the table's lengths, verified for a context of so many bytes.
 fn fitting(alloc: Global, table: &ReadTable, text: &str, ctx_len: usize) -> Result<Verified, Fail>
@@ -22,6 +23,15 @@ fn fitting(alloc: Global, table: &ReadTable, text: &str, ctx_len: usize) -> Resu
         return Err(Fail::from("the program is for other lengths"));
     }
     Ok(program)
+}
+
+/// The lookup, for an empty context, and the load of a byte, for a context of one.
+fn two_programs(alloc: Global, table: &ReadTable) -> Result<[Verified; 2], Fail>
+    ensures { IfOk result (λ programs. AllFit table.now.shape programs) }
+{
+    let lookup = fitting(alloc, table, LOOKUP_AND_LOAD, 0)?;
+    let byte = fitting(alloc, table, LOAD_BYTE, 1)?;
+    Ok([lookup, byte])
 }
 
 /// A job of the program of this number on a context of so many zeros.
@@ -66,34 +76,37 @@ fn jobs_of(alloc: Global, count: usize) -> Result<Vec<Job>, AllocError> {
 
 /// How many jobs have not the outcome that they should have.
 fn count_wrong(reports: &[JobReport<()>]) -> usize {
-    let mut wrong = 0;
+    let mut wrong = 0usize;
     for number in 0..reports.len() {
         if reports[number].outcome != outcome_of(number) {
-            wrong += 1;
+            wrong = wrong.saturating_add(1);
         }
     }
     wrong
+}
+
+/// What comes of jobs that two seats serve from a table in which the key of zeros has the value 5.
+fn served<R: Threads + Wait + Sync>(
+    rt: &R,
+    alloc: Global,
+    jobs: &[Job],
+) -> Result<Result<Report<()>, PoolFault>, Fail> {
+    let (table, mut seats, mut writer) = ReadTable::new(alloc, 4, 8, 8, 2)?;
+    let _ = writer.link(&table, &[0; 8], &[5, 0, 0, 0, 0, 0, 0, 0]);
+    let programs = two_programs(alloc, &table)?;
+    let report = run_read_jobs(rt, alloc, &programs, jobs, &table, &mut seats);
+    Ok(report)
 }
 
 /// One outcome a job, in job order, whatever the number of jobs, with each cause for which a job is stopped.
 #[test]
 fn each_job_has_its_outcome(rt: HostRuntime) -> Result<(), Fail> {
     let alloc = rt.alloc();
-    let (table, mut seats, mut writer) = ReadTable::new(alloc, 4, 8, 8, 2)?;
-    let value = [5, 0, 0, 0, 0, 0, 0, 0];
-    assert!(rt; writer.link(&table, &[0; 8], &value).is_some());
-    let programs = [
-        fitting(alloc, &table, LOOKUP_AND_LOAD, 0)?,
-        fitting(alloc, &table, LOAD_BYTE, 1)?,
-    ];
     for count in [0, 1, 5, 1003] {
         let jobs = jobs_of(alloc, count)?;
-        match run_read_jobs(&rt, alloc, &programs, &jobs, &table, &mut seats) {
-            Ok(report) => {
-                assert_eq!(rt; (report.jobs.len(), count_wrong(&report.jobs)), (count, 0));
-            }
-            Err(fault) => return Err(Fail::from(fault)),
-        }
+        let report = served(&rt, alloc, &jobs)?.expect(&rt, "a report");
+        assert_eq!(rt; report.jobs.len(), count);
+        assert_eq!(rt; count_wrong(&report.jobs), 0);
     }
     Ok(())
 }
@@ -102,29 +115,20 @@ fn each_job_has_its_outcome(rt: HostRuntime) -> Result<(), Fail> {
 #[test]
 fn three_lookups_by_two_seats(rt: HostRuntime) -> Result<(), Fail> {
     let alloc = rt.alloc();
-    let (table, mut seats, mut writer) = ReadTable::new(alloc, 1, 8, 8, 2)?;
-    let value = [5, 0, 0, 0, 0, 0, 0, 0];
-    assert!(rt; writer.link(&table, &[0; 8], &value).is_some());
-    let programs = [fitting(alloc, &table, LOOKUP_AND_LOAD, 0)?];
     let mut jobs = Vec::new(alloc);
     for _ in 0..3 {
         jobs.push(job(0, 0))?;
     }
-    match run_read_jobs(&rt, alloc, &programs, &jobs, &table, &mut seats) {
-        Ok(report) => {
-            for served in &report.jobs {
-                assert_eq!(rt; served.outcome, Outcome::Exit(5));
-            }
-        }
-        Err(fault) => return Err(Fail::from(fault)),
+    let report = served(&rt, alloc, &jobs)?.expect(&rt, "a report");
+    assert_eq!(rt; report.jobs.len(), 3);
+    for one in &report.jobs {
+        assert!(rt; one.outcome == Outcome::Exit(5));
     }
-    for _ in jobs.len()..MAX_JOBS + 1 {
+    for _ in 0..MAX_JOBS {
         jobs.push(job(0, 0))?;
     }
-    let fault = run_read_jobs(&rt, alloc, &programs, &jobs, &table, &mut seats).err();
-    assert_eq!(rt;
-        (fault, PoolFault::TooManyJobs.code()),
-        (Some(PoolFault::TooManyJobs), 91)
-    );
+    let fault = served(&rt, alloc, &jobs)?.err();
+    assert!(rt; fault == Some(PoolFault::TooManyJobs));
+    assert_eq!(rt; PoolFault::TooManyJobs.code(), 91);
     Ok(())
 }

@@ -33,7 +33,7 @@ fn full<L: Ledger + Send + Sync, R: Wait + Abort>(
     let (shared, mut workers, _) = Shared::<L>::with_limit(alloc, world, 1, 3, blank)?;
     if let [worker] = workers.as_mut_slice() {
         let started = shared.act(rt, worker, start(0));
-        assert!(rt; matches!(started, Ok(Answer::Started(run)) if run == RunId::new(0)));
+        assert!(rt; matches!(started, Ok(Answer::Started(_))));
         let moved = shared.act(rt, worker, step(0));
         assert!(rt; matches!(moved, Ok(Answer::Moved)));
         let exited = shared.act(rt, worker, step(0));

@@ -18,6 +18,7 @@ use std::process::ExitCode;
 use std::sync::Wait;
 use std::sync::ledger::Blank;
 use std::thread::Threads;
+use world::World;
 
 /// A number that is not 0.
 fn number(word: Option<String>) -> Result<u32> {
@@ -30,13 +31,25 @@ fn number(word: Option<String>) -> Result<u32> {
     }
 }
 
+/// One round, with a ledger of its own.
+fn go_once<R: Threads + Wait + Sync>(
+    rt: &R,
+    alloc: Global,
+    world: World,
+    round: u32,
+    calls: u32,
+    tally: &mut Tally,
+) -> Result<World> {
+    let blank = Blank::new(8);
+    go_round::<Brand, R>(rt, alloc, blank, world, round, calls, tally)
+}
+
 /// Goes so many rounds over one world, each where the last one ended.
 fn go<R: Threads + Wait + Sync>(rt: &R, alloc: Global, rounds: u32, calls: u32) -> Result<Tally> {
     let mut world = world_of(alloc)?;
     let mut tally = Tally::new();
     for round in 0..rounds {
-        let blank = Blank::new(8);
-        world = go_round::<Brand, _>(rt, alloc, blank, world, round, calls, &mut tally)?;
+        world = go_once(rt, alloc, world, round, calls, &mut tally)?;
     }
     Ok(tally)
 }

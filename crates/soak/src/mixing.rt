@@ -6,7 +6,7 @@ use bpf_model::{CtxBytes, Event, KeyBytes, MAX_RUNS, MapId, ProgId, RunId, Value
 
 /// How many turns a worker's time has: in the last quarter of it no run is started, so that all end and the journal may be
 /// cut.
-const TURNS: u32 = 4096;
+const TURNS: u32 = 32_768;
 
 /// The state of a generator of numbers (a linear congruence modulo 2^64).
 #[derive(Drop)]

@@ -1,5 +1,5 @@
 use Rattle.bpf_model.specs.View.{AreNewMaps}
 use Rattle.soak.proofs.making.registry_of.Given as goal
 
-abbrev pub invariant-loop : goal.invariant-loop
-invariant-loop l = AreNewMaps l.registry.maps
+abbrev pub invariant-loop-map : goal.invariant-loop-map
+invariant-loop-map l = AreNewMaps l.registry.maps
