@@ -18,7 +18,7 @@ impl Mixer {
     /// A generator of a worker's own in a round of its own.
     pub fn new(worker: u8, round: u32) -> Mixer {
         Mixer {
-            state: (u64::from(round) << 8) ^ u64::from(worker),
+            state: (u64::from(round) << 8) | u64::from(worker),
         }
     }
 
@@ -85,11 +85,11 @@ impl Mixer {
     pub fn event(&mut self, turn: u32) -> Event {
         let may_start = turn % TURNS < TURNS / 4 * 3;
         match self.below(16) {
-            0..8 => Event::Step { run: self.run() },
-            8 if may_start => self.start(),
-            8 | 9 => Event::Drop { run: self.run() },
-            10..14 => self.of_map(),
-            14 => Event::Advance,
+            0..7 => Event::Step { run: self.run() },
+            7 if may_start => self.start(),
+            7 | 8 => Event::Drop { run: self.run() },
+            9..13 => self.of_map(),
+            13 => Event::Advance,
             _ => Event::Reap,
         }
     }

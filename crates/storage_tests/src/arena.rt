@@ -114,3 +114,34 @@ fn in_the_order_of_return(rt: HostRuntime) -> Result<(), Fail> {
     assert_eq!(rt; after, Some(0));
     Ok(())
 }
+
+/// One slot, which is taken.
+fn only_slot_taken(alloc: Global) -> Result<Arena, AllocError>
+    ensures { IfOk result (λ a. a ≡ taken (new_arena 1 2 8 2) 0 [] (1 ∷ 2 ∷ [])
+        (17 ∷ 34 ∷ 51 ∷ 68 ∷ 85 ∷ 102 ∷ 119 ∷ 136 ∷ [])) }
+{
+    let mut arena = Arena::new(alloc, 1, 2, 8, 2)?;
+    let _slot = arena.take(&KEY, &VALUE);
+    Ok(arena)
+}
+
+/// A slot that may be used twice is free after the first time and worn after the second. A tag of its first element is
+/// stale from then on.
+#[test]
+fn a_slot_wears_out(rt: HostRuntime) -> Result<(), Fail> {
+    let mut arena = only_slot_taken(rt.alloc())?;
+    let tag = arena.tag(0);
+    let first = arena.give(0);
+    let stale = arena.peek(tag);
+    let again = arena.take(&KEY, &VALUE);
+    let second = arena.give(0);
+    let none = arena.take(&KEY, &VALUE);
+    let still_stale = arena.peek(tag);
+    assert_eq!(rt; first, Given::Free);
+    assert!(rt; stale.is_err());
+    assert_eq!(rt; again, Some(0));
+    assert_eq!(rt; second, Given::Worn);
+    assert_eq!(rt; none, None);
+    assert!(rt; still_stale.is_err());
+    Ok(())
+}
