@@ -1,3 +1,4 @@
 pub mod JobLines
 pub mod Pooled
 pub mod Reading
+pub mod Texts

@@ -1,7 +1,8 @@
 -- What each command writes, of which input, and how it refuses the others.
 use Rattle.std.specs.Prelude.{ℕ, List, Option, ⊤}
 use Rattle.commands.specs.declared.request.Command.{Command}
-use Rattle.commands.specs.declared.request.Command.TheVariants.{Check, Disasm, Script, Pool}
+use Rattle.commands.specs.declared.request.Command.TheVariants.{Check, Disasm, Asm, Script, Pool}
+use Rattle.commands.specs.Assembled.{IsRefusedByAsm, WritesCode}
 use Rattle.commands.specs.Outputs.{IsRefusedByCheck, IsRefusedByDecode, WritesAccepted, WritesText}
 use Rattle.commands.specs.Pools.{IsRefusedByPool, WritesPool}
 use Rattle.commands.specs.Scripts.{AnswersAll, AnswersBefore}
@@ -10,6 +11,7 @@ use Rattle.commands.specs.Scripts.{AnswersAll, AnswersBefore}
 abbrev pub Writes : Command → Option (List ℕ) → Option (List ℕ) → List ℕ → Type 0
 Writes (Check file) old new bytes = WritesAccepted old new bytes
 Writes (Disasm file) old new bytes = WritesText old new bytes
+Writes (Asm file) old new bytes = WritesCode old new bytes
 Writes Script old new bytes = AnswersAll old new bytes
 Writes (Pool workers file count) old new bytes = WritesPool count old new bytes
 
@@ -18,12 +20,14 @@ Writes (Pool workers file count) old new bytes = WritesPool count old new bytes
 abbrev pub Refuses : Command → Option (List ℕ) → Option (List ℕ) → List ℕ → Type 0
 Refuses (Check file) old new bytes = IsRefusedByCheck bytes
 Refuses (Disasm file) old new bytes = IsRefusedByDecode bytes
+Refuses (Asm file) old new bytes = IsRefusedByAsm bytes
 Refuses Script old new bytes = AnswersBefore old new bytes
 Refuses (Pool workers file count) old new bytes = IsRefusedByPool workers count bytes
 
--- the command's input is a program file
+-- the command's input is a file
 abbrev pub ReadsFile : Command → Type 0
 ReadsFile (Check file) = ⊤
 ReadsFile (Disasm file) = ⊤
+ReadsFile (Asm file) = ⊤
 ReadsFile Script = ⊥
 ReadsFile (Pool workers file count) = ⊤

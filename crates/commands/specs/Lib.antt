@@ -1,3 +1,4 @@
+pub mod Assembled
 pub mod Commands
 pub mod Outputs
 pub mod Pools

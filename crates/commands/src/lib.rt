@@ -1,6 +1,7 @@
 //! The commands of the program `bpfrt`: which one words ask for, and what each reads, writes and answers.
 #![tactic(auto)]
 
+mod assembling;
 mod pool;
 mod report;
 mod request;

@@ -14,6 +14,10 @@ pub enum Command {
     Disasm {
         file: String,
     },
+    /// Write the bytes of the program whose text is in a file.
+    Asm {
+        file: String,
+    },
     /// Answer the script on standard input.
     Script,
     /// Run the program in a file so many times by so many workers.
@@ -64,9 +68,10 @@ impl Command {
     /// The path of the file that the command reads; none where it reads standard input.
     pub fn file(&self) -> Option<&str> {
         match self {
-            Command::Check { file } | Command::Disasm { file } | Command::Pool { file, .. } => {
-                Some(file.as_str())
-            }
+            Command::Check { file }
+            | Command::Disasm { file }
+            | Command::Asm { file }
+            | Command::Pool { file, .. } => Some(file.as_str()),
             Command::Script => None,
         }
     }

@@ -4,6 +4,7 @@ ghost use Rattle.std.specs.Io.KnownBytes.{Appends};
 ghost use Rattle.commands.specs.Outputs.{IsRefusedByDecode, IsRefusedByCheck, accepted_line, WritesAccepted, WritesText};
 ghost use Rattle.commands.specs.Commands.{ReadsFile, Refuses, Writes};
 
+use crate::assembling::run_asm;
 use crate::pool::{PoolSize, run_pool};
 use crate::report::refused;
 use crate::request::Command;
@@ -98,6 +99,7 @@ pub fn run<H: Threads + Wait + Sync, R: Read, W: Write, E: Write>(
     match command {
         Command::Check { .. } => run_check(alloc, input, out, err),
         Command::Disasm { .. } => run_disasm(alloc, input, out, err),
+        Command::Asm { .. } => run_asm(alloc, input, out, err),
         Command::Script => run_lines(alloc, input, out, err),
         Command::Pool { workers, count, .. } => {
             let size = PoolSize {

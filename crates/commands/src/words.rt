@@ -48,6 +48,23 @@ Example:
   mov64 r0, 1
   exit";
 
+/// Behind the arguments of `bpfrt asm --help`.
+const ASM_HELP: &str = "\
+Reads a text of instructions, one a line, as `bpfrt disasm` writes it (docs/ASSEMBLY.md).
+
+Prints the bytes of the program, a raw program file.
+
+Status, and the line on standard error:
+  0  written
+  1  refused 14 at L, 15 at L    line L is no instruction, or has something out of its range
+     refused 2, refused 3        there is no instruction, or there are too many
+  2  usage
+  3  fault 13, 96, 97            out of memory; FILE or the output failed
+
+Example:
+  $ bpfrt disasm examples/exit_one.bpf > one.asm && bpfrt asm one.asm > one.bpf && bpfrt check one.bpf
+  accepted 2 instructions 2 slots";
+
 fn file_argument<'a>(alloc: Global) -> Arg<'a> {
     Arg::new(alloc, "FILE")
         .help(
@@ -129,6 +146,15 @@ fn grammar<'a>(alloc: Global) -> Result<clap::Command<'a>, AllocError> {
         .about("Writes the text of the program in FILE, one instruction a line")
         .after_help(DISASM_HELP)
         .arg(file_argument(alloc))?;
+    let asm = clap::Command::new(alloc, "asm")
+        .about("Writes the bytes of the program whose text is in FILE")
+        .after_help(ASM_HELP)
+        .arg(
+            Arg::new(alloc, "FILE")
+                .help("a text of instructions, one a line")
+                .required(true)
+                .action(ArgAction::Set),
+        )?;
     let script = clap::Command::new(alloc, "script")
         .about("Answers the script on standard input")
         .after_help(SCRIPT_HELP);
@@ -138,6 +164,7 @@ fn grammar<'a>(alloc: Global) -> Result<clap::Command<'a>, AllocError> {
         .subcommand_required(true)
         .subcommand(check)?
         .subcommand(disasm)?
+        .subcommand(asm)?
         .subcommand(script)?
         .subcommand(pool_grammar(alloc)?)
 }
@@ -162,7 +189,7 @@ fn usage_fault(alloc: Global, text: Result<String, AllocError>) -> UsageFault {
 
 /// The command that the word names but for the case of its letters.
 fn command_in_other_case(word: &str) -> Option<&'static str> {
-    ["check", "disasm", "script", "pool"]
+    ["check", "disasm", "asm", "script", "pool"]
         .into_iter()
         .find(|name| word.eq_ignore_ascii_case(name))
 }
@@ -246,6 +273,9 @@ pub fn parse_words<'a>(alloc: Global, words: &'a [String]) -> Result<Command, Us
             file: file_of(alloc, matches)?,
         }),
         Some(("disasm", matches)) => Ok(Command::Disasm {
+            file: file_of(alloc, matches)?,
+        }),
+        Some(("asm", matches)) => Ok(Command::Asm {
             file: file_of(alloc, matches)?,
         }),
         Some(("script", _)) => Ok(Command::Script),
