@@ -1,0 +1,12 @@
+# Completes the words of bpfrt in bash: source extras/bpfrt.bash
+_bpfrt() {
+    local word=${COMP_WORDS[COMP_CWORD]}
+    if ((COMP_CWORD == 1)); then
+        mapfile -t COMPREPLY < <(compgen -W "check disasm asm script pool help --help" -- "$word")
+    elif [[ ${COMP_WORDS[1]} == help ]]; then
+        mapfile -t COMPREPLY < <(compgen -W "check disasm asm script pool" -- "$word")
+    elif [[ ${COMP_WORDS[1]} == @(check|disasm|asm) || ${COMP_WORDS[1]} == pool && COMP_CWORD -eq 3 ]]; then
+        mapfile -t COMPREPLY < <(compgen -f -- "$word")
+    fi
+}
+complete -o filenames -F _bpfrt bpfrt
