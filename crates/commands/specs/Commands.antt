@@ -11,7 +11,7 @@ use Rattle.commands.specs.Scripts.{AnswersAll, AnswersBefore}
 abbrev pub Writes : Command → Option (List ℕ) → Option (List ℕ) → List ℕ → Type 0
 Writes (Check file) old new bytes = WritesAccepted old new bytes
 Writes (Disasm file) old new bytes = WritesText old new bytes
-Writes (Asm file) old new bytes = WritesCode old new bytes
+Writes (Asm file whole) old new bytes = WritesCode whole old new bytes
 Writes Script old new bytes = AnswersAll old new bytes
 Writes (Pool workers file count) old new bytes = WritesPool count old new bytes
 
@@ -20,7 +20,7 @@ Writes (Pool workers file count) old new bytes = WritesPool count old new bytes
 abbrev pub Refuses : Command → Option (List ℕ) → Option (List ℕ) → List ℕ → Type 0
 Refuses (Check file) old new bytes = IsRefusedByCheck bytes
 Refuses (Disasm file) old new bytes = IsRefusedByDecode bytes
-Refuses (Asm file) old new bytes = IsRefusedByAsm bytes
+Refuses (Asm file whole) old new bytes = IsRefusedByAsm bytes
 Refuses Script old new bytes = AnswersBefore old new bytes
 Refuses (Pool workers file count) old new bytes = IsRefusedByPool workers count bytes
 
@@ -28,6 +28,6 @@ Refuses (Pool workers file count) old new bytes = IsRefusedByPool workers count 
 abbrev pub ReadsFile : Command → Type 0
 ReadsFile (Check file) = ⊤
 ReadsFile (Disasm file) = ⊤
-ReadsFile (Asm file) = ⊤
+ReadsFile (Asm file whole) = ⊤
 ReadsFile Script = ⊥
 ReadsFile (Pool workers file count) = ⊤

@@ -1,12 +1,13 @@
 //! The text of a program, assembled.
-ghost use Rattle.std.specs.Prelude.{◌≡◌, ◌≢◌, ◌⊎◌, IfOk, IfErr, IfSome};
-ghost use Rattle.asm.specs.declared.fault.AsmFault.TheVariants.{Memory};
-ghost use Rattle.commands.specs.Assembled.{IsCodeOf, IsTextFault, IsRefusedByAsm, WritesCode};
+ghost use Rattle.std.specs.Prelude.{◌≡◌, ◌≢◌, ◌⊎◌, IfOk, IfErr, IfSome, if◌then◌else◌};
+ghost use Rattle.commands.specs.Assembled.{IsAssembled, IsTextFault, IsRefusedByAsm, WritesCode};
 
+use crate::heads::{file_of, parts_of};
 use crate::report::fault;
 use crate::streams::{unread, write_text, written};
 use asm::{AsmFault, assemble};
 use insn_codec::encode;
+use program_files::{LoadFault, MEMORY};
 use std::alloc::Global;
 use std::io::{ErrorKind, Read, Write};
 use std::{io, str};
@@ -18,13 +19,33 @@ const CHUNK: usize = 4096;
 /// fewer than 200,000.
 const TEXT_BYTES: usize = 16 << 20;
 
-/// Why bytes are no text of a program.
+/// Why bytes are no text of a program. Lines are counted from 1.
 #[derive(Clone, Copy, Debug, PartialEq, Eq)]
 pub enum TextFault {
     /// This line is the first that is not UTF-8.
     NotUtf8 { line: usize },
-    /// The text is refused.
-    Flawed(AsmFault),
+    /// The instructions below this many lines have this fault.
+    Flawed { lines: usize, flaw: AsmFault },
+    /// This line is none that the head of a program file may have.
+    BadHead { line: usize },
+    /// An allocation failed.
+    Memory,
+}
+
+/// A program's bytes, and a program file of them.
+#[derive(Drop)]
+struct Assembled {
+    code: Vec<u8>,
+    file: Vec<u8>,
+}
+
+impl Assembled {
+    /// The file, or the bytes alone.
+    fn text(&self, whole: bool) -> &[u8]
+        ensures { result.now ≡ (if whole then self.now.file.items else self.now.code.items) }
+    {
+        if whole { &self.file } else { &self.code }
+    }
 }
 
 /// Reads a text to its end. One that goes on where `TEXT_BYTES` or more are kept is want of memory.
@@ -50,67 +71,93 @@ fn read_text<R: Read>(alloc: Global, input: &mut R) -> io::Result<Vec<u8>>
     Err(io::Error::from(ErrorKind::FileTooLarge))
 }
 
-/// The number of the line, counted from 1, that follows these bytes.
-fn line_behind(bytes: &[u8]) -> usize {
-    let mut line = 1usize;
+/// How many lines end in these bytes.
+fn lines_in(bytes: &[u8]) -> usize {
+    let mut lines = 0usize;
     for byte in bytes {
         if *byte == b'\n' {
-            line = line.saturating_add(1);
+            lines = lines.saturating_add(1);
         }
     }
-    line
+    lines
 }
 
-/// The bytes of the program whose text this is.
-fn code_of(alloc: Global, bytes: &[u8]) -> Result<Vec<u8>, TextFault>
-    ensures code { IfOk result (λ code. IsCodeOf bytes.now code.items) }
+/// Assembles a text: a program's bytes, and the program file that the text's head makes of them.
+fn make_code(alloc: Global, bytes: &[u8]) -> Result<Assembled, TextFault>
+    ensures made { IfOk result (λ a. IsAssembled bytes.now a.code.items a.file.items) }
     ensures fault { IfErr result (IsTextFault bytes.now) }
 {
     let text = match str::from_utf8(bytes) {
         Ok(text) => text,
         Err(error) => {
-            let line = line_behind(&bytes[..error.valid_up_to()]);
+            let line = lines_in(&bytes[..error.valid_up_to()]).saturating_add(1);
             return Err(TextFault::NotUtf8 { line });
         }
     };
-    let program = match assemble(alloc, text) {
+    let parts = parts_of(text);
+    let program = match assemble(alloc, parts.body) {
         Ok(program) => program,
-        Err(fault) => return Err(TextFault::Flawed(fault)),
+        Err(AsmFault::Memory) => return Err(TextFault::Memory),
+        Err(flaw) => {
+            let above = parts
+                .head
+                .map_or(0, |head| lines_in(head.as_bytes()).saturating_add(2));
+            return Err(TextFault::Flawed { lines: above, flaw });
+        }
     };
-    match encode(alloc, &program) {
-        Ok(code) => Ok(code),
-        Err(_) => Err(TextFault::Flawed(AsmFault::Memory)),
+    let Ok(code) = encode(alloc, &program) else {
+        return Err(TextFault::Memory);
+    };
+    match file_of(alloc, parts.head, &code) {
+        Ok(file) => Ok(Assembled { code, file }),
+        Err(LoadFault::BadFile { line }) => Err(TextFault::BadHead {
+            line: line.saturating_sub(1),
+        }),
+        Err(LoadFault::Memory) => Err(TextFault::Memory),
     }
 }
 
-/// Writes why bytes are no text of a program, `refused C at L` for a line or `refused C`, or the fault where memory ran out,
-/// and answers the status.
+/// Writes why bytes are no text of a program, `refused C at L` for an instruction's line, `refused C` or `fault C at L` for a
+/// line of the head, or the fault where memory ran out, and answers the status.
 fn flawed<E: Write>(err: &mut E, why: &TextFault) -> u8
     ensures status { (result ≡ 1) ⊎ (result ≡ 3) }
-    ensures refused { result ≡ 1 → why.now ≢ TextFault.Flawed Memory }
+    ensures refused { result ≡ 1 → why.now ≢ TextFault.Memory }
 {
-    let (code, line) = match why {
-        TextFault::NotUtf8 { line } => (AsmFault::BadLine(*line).code(), Some(*line)),
-        TextFault::Flawed(AsmFault::Memory) => return fault(err, AsmFault::Memory.code()),
-        TextFault::Flawed(flaw) => (flaw.code(), flaw.line()),
-    };
-    let _ = match line {
-        Some(line) => writeln!(err, "refused {code} at {line}"),
-        None => writeln!(err, "refused {code}"),
+    let _ = match why {
+        TextFault::Memory => return fault(err, MEMORY),
+        TextFault::NotUtf8 { line } => {
+            let code = AsmFault::BadLine(*line).code();
+            writeln!(err, "refused {code} at {line}")
+        }
+        TextFault::BadHead { line } => {
+            let code = LoadFault::BadFile { line: *line }.code();
+            writeln!(err, "fault {code} at {line}")
+        }
+        TextFault::Flawed { lines, flaw } => {
+            let code = flaw.code();
+            match flaw.line() {
+                Some(line) => {
+                    let line = line.saturating_add(*lines);
+                    writeln!(err, "refused {code} at {line}")
+                }
+                None => writeln!(err, "refused {code}"),
+            }
+        }
     };
     1
 }
 
-/// Writes the bytes of the program whose text the input is.
+/// Writes the bytes of the program whose text the input is, or a whole program file.
 pub fn run_asm<R: Read, W: Write, E: Write>(
     alloc: Global,
+    whole: bool,
     input: &mut R,
     out: &mut W,
     err: &mut E,
 ) -> u8
     ensures status { (result ≡ 0) ⊎ (result ≡ 1) ⊎ (result ≡ 3) }
     ensures code { result ≡ 0 → IfSome (R.remaining input.old)
-        (WritesCode (W.contents out.old) (W.contents out.new)) }
+        (WritesCode whole (W.contents out.old) (W.contents out.new)) }
     ensures refused { result ≡ 1 → IfSome (R.remaining input.old) IsRefusedByAsm }
     ensures silent { result ≡ 1 → out.new ≡ out.old }
 {
@@ -118,8 +165,11 @@ pub fn run_asm<R: Read, W: Write, E: Write>(
         Ok(bytes) => bytes,
         Err(error) => return unread(err, &error),
     };
-    match code_of(alloc, &bytes) {
-        Ok(code) => written(err, write_text(out, &code)),
+    match make_code(alloc, &bytes) {
+        Ok(made) => {
+            let text = made.text(whole);
+            written(err, write_text(out, text))
+        }
         Err(why) => flawed(err, &why),
     }
 }

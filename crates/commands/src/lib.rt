@@ -2,6 +2,7 @@
 #![tactic(auto)]
 
 mod assembling;
+mod heads;
 mod pool;
 mod report;
 mod request;

@@ -14,9 +14,10 @@ pub enum Command {
     Disasm {
         file: String,
     },
-    /// Write the bytes of the program whose text is in a file.
+    /// Write the bytes of the program whose text is in a file, or a whole program file.
     Asm {
         file: String,
+        whole: bool,
     },
     /// Answer the script on standard input.
     Script,
@@ -70,7 +71,7 @@ impl Command {
         match self {
             Command::Check { file }
             | Command::Disasm { file }
-            | Command::Asm { file }
+            | Command::Asm { file, .. }
             | Command::Pool { file, .. } => Some(file.as_str()),
             Command::Script => None,
         }

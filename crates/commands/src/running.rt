@@ -99,7 +99,7 @@ pub fn run<H: Threads + Wait + Sync, R: Read, W: Write, E: Write>(
     match command {
         Command::Check { .. } => run_check(alloc, input, out, err),
         Command::Disasm { .. } => run_disasm(alloc, input, out, err),
-        Command::Asm { .. } => run_asm(alloc, input, out, err),
+        Command::Asm { whole, .. } => run_asm(alloc, *whole, input, out, err),
         Command::Script => run_lines(alloc, input, out, err),
         Command::Pool { workers, count, .. } => {
             let size = PoolSize {

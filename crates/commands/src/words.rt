@@ -50,20 +50,26 @@ Example:
 
 /// Behind the arguments of `bpfrt asm --help`.
 const ASM_HELP: &str = "\
-Reads a text of instructions, one a line, as `bpfrt disasm` writes it (docs/ASSEMBLY.md).
+Reads a text of instructions, one a line, as `bpfrt disasm` writes it (docs/ASSEMBLY.md). Above them may stand
+the lines of a program file, from `ctx N` to `code`.
 
-Prints the bytes of the program, a raw program file.
+Prints the bytes of the program; with --file a program file of these lines and its slots.
 
 Status, and the line on standard error:
   0  written
   1  refused 14 at L, 15 at L    line L is no instruction, or has something out of its range
      refused 2, refused 3        there is no instruction, or there are too many
+     fault 94 at L               line L is none that a program file has above its slots
   2  usage
   3  fault 13, 96, 97            out of memory; FILE or the output failed
 
 Example:
-  $ bpfrt disasm examples/exit_one.bpf > one.asm && bpfrt asm one.asm > one.bpf && bpfrt check one.bpf
-  accepted 2 instructions 2 slots";
+  $ bpfrt disasm examples/exit_one.bpf | bpfrt asm --file /dev/stdin
+  bpfrt 1
+  ctx 0
+  code
+  b700000001000000
+  9500000000000000";
 
 fn file_argument<'a>(alloc: Global) -> Arg<'a> {
     Arg::new(alloc, "FILE")
@@ -154,6 +160,12 @@ fn grammar<'a>(alloc: Global) -> Result<clap::Command<'a>, AllocError> {
                 .help("a text of instructions, one a line")
                 .required(true)
                 .action(ArgAction::Set),
+        )?
+        .arg(
+            Arg::new(alloc, "file")
+                .long("file")
+                .help("write a program file, and not the program's bytes alone")
+                .action(ArgAction::SetTrue),
         )?;
     let script = clap::Command::new(alloc, "script")
         .about("Answers the script on standard input")
@@ -277,6 +289,7 @@ pub fn parse_words<'a>(alloc: Global, words: &'a [String]) -> Result<Command, Us
         }),
         Some(("asm", matches)) => Ok(Command::Asm {
             file: file_of(alloc, matches)?,
+            whole: matches.get_flag("file"),
         }),
         Some(("script", _)) => Ok(Command::Script),
         Some(("pool", matches)) => pool_of(alloc, matches),

@@ -1,0 +1,103 @@
+//! Program files made of a head and a program's bytes.
+ghost use Rattle.std.specs.Prelude.{◌≡◌, ◌++◌, List, ℕ, IfOk, IfErr, IsTrue, option_copied};
+ghost use Rattle.program_files.specs.ProgramFile.{FileContent, FileSays, IsLoadFault, heading};
+ghost use Rattle.program_files.specs.declared.loader.fault.LoadFault.TheVariants as load_faults;
+ghost use Rattle.commands.specs.Assembled.{IsSplit, IsFileOf, HasHead, code_line, head_or_none};
+
+use program_files::{HEADING, LoadFault, load};
+use std::alloc::{AllocError, Global};
+
+/// The line that stands between a head and what follows.
+const CODE_LINE: &str = "\ncode\n";
+
+/// The head of a program file without maps, for an empty context.
+const NO_HEAD: &str = "ctx 0";
+
+/// A text's head, if it has one, and the instructions below.
+#[derive(Clone, Copy)]
+pub struct Split<'a> {
+    pub head: Option<&'a str>,
+    pub body: &'a str,
+}
+
+/// The parts of a text.
+pub fn parts_of(text: &str) -> Split<'_>
+    ensures { IsSplit text.now (option_copied result.head) result.body.now }
+{
+    match text.split_once(CODE_LINE) {
+        Some((head, body)) => Split {
+            head: Some(head),
+            body,
+        },
+        None => Split {
+            head: None,
+            body: text,
+        },
+    }
+}
+
+/// The slots of a program's bytes, a line of digits each.
+fn slots_of(alloc: Global, code: &[u8]) -> Result<Vec<u8>, AllocError> {
+    const DIGITS: &[u8; 16] = b"0123456789abcdef";
+    let mut slots = Vec::new(alloc);
+    for number in 0..code.len() {
+        let byte = code[number];
+        slots.push(DIGITS[usize::from(byte >> 4)])?;
+        slots.push(DIGITS[usize::from(byte & 15)])?;
+        if number % 8 == 7 {
+            slots.push(b'\n')?;
+        }
+    }
+    Ok(slots)
+}
+
+/// The text of a program file: a head, and the slots of a program's bytes.
+fn text_of(alloc: Global, head: &str, code: &[u8]) -> Result<Vec<u8>, AllocError>
+    ensures { IfOk result (λ file. (slots : List ℕ)
+        × (file.items ≡ heading ++ (head.now ++ (code_line ++ slots)))) }
+{
+    let mut file = Vec::from_slice(alloc, HEADING)?;
+    file.extend_from_slice(head.as_bytes())?;
+    file.extend_from_slice(CODE_LINE.as_bytes())?;
+    let slots = slots_of(alloc, code)?;
+    file.extend_from_slice(slots.as_slice())?;
+    Ok(file)
+}
+
+/// The lines of a head, or those of a program file without maps for an empty context.
+fn lines_of<'a>(head: Option<&'a str>) -> &'a str
+    ensures { result.now ≡ head_or_none (option_copied head.entry) }
+{
+    match head {
+        Some(head) => head,
+        None => NO_HEAD,
+    }
+}
+
+/// Whether a program file says a program of these bytes.
+fn says(alloc: Global, file: &[u8], code: &[u8]) -> Result<bool, LoadFault>
+    ensures says { IfOk result (λ yes. IsTrue yes → (content : FileContent) × FileSays file.now content
+        × (content.code ≡ code.now)) }
+    ensures fault { IfErr result (IsLoadFault file.now) }
+{
+    let said = load(alloc, file)?;
+    Ok(said.code.as_slice() == code)
+}
+
+/// A program file with this head, or with none, that says a program of these bytes. What is made is read again, so that
+/// nothing is written that says otherwise.
+///
+/// Errors: `BadFile` with the line of the file, where no program file has the head; else `Memory`.
+pub fn file_of(alloc: Global, head: Option<&str>, code: &[u8]) -> Result<Vec<u8>, LoadFault>
+    ensures file { IfOk result (λ file. IsFileOf (option_copied head.entry) code.now file.items) }
+    ensures fault { IfErr result (λ e. (line : ℕ) → e ≡ load_faults.BadFile line →
+        (file : List ℕ) × HasHead (option_copied head.entry) file
+        × IsLoadFault file (load_faults.BadFile line)) }
+{
+    let file = text_of(alloc, lines_of(head), code)?;
+    if says(alloc, &file, code)? {
+        Ok(file)
+    } else {
+        Err(LoadFault::Memory)
+    }
+}
