@@ -5,6 +5,8 @@ _bpfrt() {
         mapfile -t COMPREPLY < <(compgen -W "check disasm asm script pool help --help" -- "$word")
     elif [[ ${COMP_WORDS[1]} == help ]]; then
         mapfile -t COMPREPLY < <(compgen -W "check disasm asm script pool" -- "$word")
+    elif [[ ${COMP_WORDS[1]} == asm && $word == -* ]]; then
+        mapfile -t COMPREPLY < <(compgen -W "--file" -- "$word")
     elif [[ ${COMP_WORDS[1]} == @(check|disasm|asm) || ${COMP_WORDS[1]} == pool && COMP_CWORD -eq 3 ]]; then
         mapfile -t COMPREPLY < <(compgen -f -- "$word")
     fi
