@@ -1,6 +1,7 @@
-//! Eight workers share a world of sixteen maps for so many rounds, with events of every kind, as quickly as they can. After each
-//! round the journal is replayed from the base to which it was cut last, and its answers, the counts and all elements are
-//! compared with what the workers left. `soak ROUNDS CALLS`: how many rounds, and how many events a worker brings in each.
+//! Eight workers share a world of sixteen maps for so many rounds, with events of every kind, as quickly as they can; in every
+//! other round the journal is cut whenever it may be. After each round it is replayed from its base, and its answers, the counts
+//! and all elements are compared with what the workers left. `soak ROUNDS CALLS`: how many rounds, and how many events a worker
+//! brings in each.
 #![tactic(auto)]
 
 mod making;

@@ -35,7 +35,13 @@ impl Tally {
 /// How many of a worker's calls there are before it tries to cut the journal.
 const CALLS_BEFORE_CUT: u32 = 64;
 
-/// A worker's calls. The first worker also cuts the journal, whenever it may, and counts the cuts.
+/// Whether the worker tries to cut the journal at this turn: the first one, in every other round. In the others the whole
+/// round is replayed.
+fn tries_to_cut(worker: u8, round: u32, turn: u32) -> bool {
+    worker == 0 && round % 2 == 1 && turn % CALLS_BEFORE_CUT == 0
+}
+
+/// A worker's calls, and cuts of the journal, which are counted where they are made.
 fn work<L: Ledger, R: Wait>(
     rt: &R,
     alloc: Global,
@@ -50,7 +56,7 @@ fn work<L: Ledger, R: Wait>(
     for turn in 0..calls {
         let event = mixer.event(turn);
         let _ = shared.act_into(rt, worker, &event, &mut answer);
-        if worker.number() == 0 && turn % CALLS_BEFORE_CUT == 0 && shared.cut(rt, alloc).is_ok() {
+        if tries_to_cut(worker.number(), round, turn) && shared.cut(rt, alloc).is_ok() {
             cuts.fetch_add(1, Ordering::SeqCst);
         }
     }
