@@ -14,7 +14,7 @@ use std::thread::Threads;
 use std::time::{Duration, Instant};
 use worker_pool::{Job, JobReport, Outcome, run_read_jobs};
 
-/// How many jobs a batch has. Each is a run that looks a key up and loads the value.
+/// How many jobs a batch has. Each is a run that looks a key up and loads the value, once or again and again.
 const READ_JOBS: u32 = 65_536;
 
 /// The value of the key.
@@ -30,18 +30,19 @@ fn have_all_exited(reports: &[JobReport<()>]) -> bool {
     true
 }
 
-/// The time in which so many seats serve the jobs.
+/// The time in which so many seats serve the jobs, of so many lookups each.
 fn time_of_jobs<R: Threads + Wait + Clock + Sync>(
     rt: &R,
     alloc: Global,
     jobs: &[Job],
     seats: usize,
+    lookups: u32,
 ) -> Result<Duration>
     requires { (0 < seats) × (seats ≤ MAX_READERS) }
 {
     let (table, mut seats, mut writer) = ReadTable::new(alloc, SLOTS, 8, 8, seats)?;
     fill(&table, &mut writer)?;
-    let programs = [lookup_program(alloc, &table)?];
+    let programs = [lookup_program(alloc, &table, lookups)?];
     let start = Instant::now(rt)?;
     match run_read_jobs(rt, alloc, &programs, jobs, &table, &mut seats) {
         Ok(report) => {
@@ -56,18 +57,19 @@ fn time_of_jobs<R: Threads + Wait + Clock + Sync>(
     }
 }
 
-/// The time of one job in nanoseconds: all jobs of the quickest batch after one another.
+/// The time of one job of so many lookups in nanoseconds: all jobs of the quickest batch after one another.
 pub fn time_per_read_job<R: Threads + Wait + Clock + Sync>(
     rt: &R,
     alloc: Global,
     seats: usize,
+    lookups: u32,
 ) -> Result<Decimal>
     requires { (0 < seats) × (seats ≤ MAX_READERS) }
 {
     let jobs = make_jobs(alloc, READ_JOBS)?;
     let mut best = Duration::MAX;
     for _ in 0..LONG_TASK_BATCHES {
-        best = best.min(time_of_jobs(rt, alloc, &jobs, seats)?);
+        best = best.min(time_of_jobs(rt, alloc, &jobs, seats, lookups)?);
     }
     Ok(quotient(best.as_nanos(), u128::from(READ_JOBS)))
 }

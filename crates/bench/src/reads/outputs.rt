@@ -14,6 +14,9 @@ use std::rt::Clock;
 use std::sync::Wait;
 use std::thread::Threads;
 
+/// How many lookups a long job makes, in one section.
+const LOOKUPS_OF_LONG_JOB: u32 = 32;
+
 /// How many readers there are.
 const READERS: [usize; 3] = [1, 2, 4];
 
@@ -62,16 +65,18 @@ fn task_lines<R: Threads + Clock + Sync>(
     Ok(())
 }
 
-/// Times the jobs of each number of seats.
+/// Times the jobs of so many lookups by each number of seats.
 fn job_lines<R: Threads + Wait + Clock + Sync>(
     rt: &R,
     alloc: Global,
+    name: &str,
+    lookups: u32,
     lines: &mut Vec<String>,
 ) -> Result<()> {
     for seats in READERS {
         if seats >= 1 && seats <= MAX_READERS {
-            let time = time_per_read_job(rt, alloc, seats)?;
-            let name = format!(in alloc; "read_job_by_{seats}")?;
+            let time = time_per_read_job(rt, alloc, seats, lookups)?;
+            let name = format!(in alloc; "{name}_by_{seats}")?;
             lines.push(measurement_line(alloc, name.as_str(), time)?)?;
         }
     }
@@ -85,7 +90,8 @@ fn times_lines<R: Threads + Wait + Clock + Sync>(rt: &R, alloc: Global) -> Resul
         task_lines(rt, alloc, &task, false, &mut lines)?;
         task_lines(rt, alloc, &task, true, &mut lines)?;
     }
-    job_lines(rt, alloc, &mut lines)?;
+    job_lines(rt, alloc, "read_job", 1, &mut lines)?;
+    job_lines(rt, alloc, "long_read_job", LOOKUPS_OF_LONG_JOB, &mut lines)?;
     Ok(lines)
 }
 

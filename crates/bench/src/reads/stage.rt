@@ -18,10 +18,15 @@ pub const SLOTS: usize = 256;
 /// How many of them are linked.
 const LINKED: u64 = 128;
 
-/// Looks up the key of 8 zeros in a section, and loads 8 bytes of its value.
-const LOOKUP: &str = "b70600000000000085200000010000007a0af8ff00000000bfa2000000000000\
-07020000f8ffffff1851000000000000000000000000000085000000010000001500010000000000\
-79060000000000008520000002000000bf600000000000009500000000000000";
+/// Begins a section, with the key of 8 zeros in the frame.
+const BEGIN: &str = "b70600000000000085200000010000007a0af8ff00000000";
+
+/// Looks the key up, and loads 8 bytes of its value.
+const LOOKUP: &str = "bfa200000000000007020000f8ffffff18510000000000000000000000000000\
+850000000100000015000100000000007906000000000000";
+
+/// Ends the section, and exits with the number that was loaded last.
+const END: &str = "8520000002000000bf600000000000009500000000000000";
 
 /// Keys and values of 8 bytes.
 const SHAPE: MapShape = MapShape {
@@ -41,11 +46,22 @@ pub struct Stage {
     pub program: Verified,
 }
 
-/// The program, verified for the table and an empty context.
-pub fn lookup_program(alloc: Global, table: &ReadTable) -> Result<Verified>
+/// The digits of a program that makes so many lookups in one section.
+fn digits_of(alloc: Global, lookups: u32) -> Result<String, AllocError> {
+    let mut digits = String::from_str(alloc, BEGIN)?;
+    for _ in 0..lookups {
+        digits.push_str(LOOKUP)?;
+    }
+    digits.push_str(END)?;
+    Ok(digits)
+}
+
+/// A program that makes so many lookups, verified for the table and an empty context.
+pub fn lookup_program(alloc: Global, table: &ReadTable, lookups: u32) -> Result<Verified>
     ensures { IfOk result (IsProgramOf table.now.shape) }
 {
-    let bytes = hex::decode(alloc, LOOKUP)?;
+    let digits = digits_of(alloc, lookups)?;
+    let bytes = hex::decode(alloc, digits.as_str())?;
     let program = decode(alloc, &bytes)?;
     let verified = verify(alloc, program, &[SHAPE], 0)?;
     if !table.fits(&verified) {
@@ -98,7 +114,7 @@ pub fn make_stage(alloc: Global, readers: usize) -> Result<Stage>
 {
     let (table, seats, mut writer) = ReadTable::new(alloc, SLOTS, 8, 8, readers)?;
     fill(&table, &mut writer)?;
-    let program = lookup_program(alloc, &table)?;
+    let program = lookup_program(alloc, &table, 1)?;
     let readers = readers_of(alloc, seats, &table)?;
     Ok(Stage {
         table,
