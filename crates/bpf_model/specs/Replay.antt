@@ -1,7 +1,6 @@
 -- The journal: entries that replay, as a history of the machine, from a base state in which no run
 -- slot is occupied.
-use Rattle.std.specs.Prelude.{◌≤◌, List, length, map}
-use Rattle.bpf_model.specs.declared.limits.TheConstants.{MAX_JOURNAL}
+use Rattle.std.specs.Prelude.{ℕ, ◌≤◌, List, length, map}
 use Rattle.bpf_model.specs.declared.entry.Entry.{Entry}
 use Rattle.bpf_model.specs.declared.event.Event.{Event}
 use Rattle.bpf_model.specs.declared.event.Answer.{Answer}
@@ -20,9 +19,10 @@ abbrev pub HasNoRunsOnMachine : Machine → Type 0
 HasNoRunsOnMachine m = AreFree m.runs
 
 -- From the base, a state without runs, the entries' events with the entries' answers lead to this
--- state.
-pub record ReplaysOnMachine (base : Machine) (entries : List Entry) (m : Machine) : Type 0 where
+-- state; there are no more entries than the limit.
+pub record ReplaysOnMachine (limit : ℕ) (base : Machine) (entries : List Entry) (m : Machine)
+    : Type 0 where
   pub quiet : HasNoRunsOnMachine base
-  pub short : length entries ≤ MAX_JOURNAL
+  pub short : length entries ≤ limit
   pub real : AreReal (events_of entries)
   pub replay : HasHistoryTo base (events_of entries) (answers_of entries) m

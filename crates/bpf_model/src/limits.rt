@@ -30,10 +30,10 @@ pub const MAX_MAPS: usize = 16;
 pub const MAX_PROGRAMS: usize = 64;
 
 /// How many run slots there are.
-pub const MAX_RUNS: usize = 64;
+pub const MAX_RUNS: usize = 256;
 
-/// How deep read-side critical sections may nest: 1, so they do not.
-pub const MAX_DEPTH: usize = 1;
+/// How many read-side locks of a run may be open at once: sections nest so deep.
+pub const MAX_DEPTH: usize = 8;
 
 /// The most linked elements that a map's shape may allow.
 pub const MAX_ENTRIES: usize = 4096;

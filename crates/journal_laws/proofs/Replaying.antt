@@ -3,7 +3,6 @@ use Rattle.std.proofs.Common.{◌≡◌, ◌∙◌, ℕ, ◌≤◌, List, [], �
 use Rattle.std.specs.Prelude.{slice_get}
 use Rattle.std.proofs.lemmas.List.{map_push}
 use Rattle.std.proofs.lemmas.Option.{none-some}
-use Rattle.bpf_model.specs.declared.limits.TheConstants.{MAX_JOURNAL}
 use Rattle.bpf_model.specs.declared.event.Event.{Event}
 use Rattle.bpf_model.specs.declared.event.Answer.{Answer}
 use Rattle.bpf_model.specs.Element.{Element}
@@ -73,8 +72,8 @@ quiet-machine base m quiet t r =
     let here : run_at s.machine.runs r ≡ None = quiet-slot t.2.refines.slots s.machine.store.elements s.machine.programs (slice_get base.runs r) (slice_get s.machine.runs r) (t.2.refines.runs r) (quiet r) in
     subst (λ (x : Machine). run_at x.runs r ≡ None) t.1 here
 
-pub replays_on_machine : (base world : WorldView) (entries : List Entry) → Replays base world entries → length entries ≤ MAX_JOURNAL → (m : Machine) → Tracks base m → (last : Machine) × ReplaysOnMachine m entries last × Tracks world last
-replays_on_machine base world entries h short m t =
+pub replays_on_machine : (limit : ℕ) (base world : WorldView) (entries : List Entry) → Replays base world entries → length entries ≤ limit → (m : Machine) → Tracks base m → (last : Machine) × ReplaysOnMachine limit m entries last × Tracks world last
+replays_on_machine limit base world entries h short m t =
     let run = answers_machine base (events_of entries) h.base_is.ready h.real m t in
     let last = last_of m run.0 in
     let moved : HasHistoryTo m (events_of entries) (answers_of entries) last = subst (λ (xs : List Answer). HasHistoryTo m (events_of entries) xs last) (sym h.answers) (history-run m (events_of entries) (full_reactions base (events_of entries)).0 run.0 run.1) in (

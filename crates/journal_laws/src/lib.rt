@@ -6,7 +6,6 @@
 ghost use Rattle.std.specs.Prelude.{◌≡◌, ◌≢◌, ◌≤◌, ◌+◌, ◌++◌, ◌∷◌, [], ℕ, List};
 ghost use Rattle.std.specs.Prelude.{if◌then◌else◌, length};
 ghost use Rattle.bpf_model.specs.declared.event.Event.{Event};
-ghost use Rattle.bpf_model.specs.declared.limits.TheConstants.{MAX_JOURNAL};
 ghost use Rattle.bpf_model.specs.Event.{IsReal, AreReal};
 ghost use Rattle.bpf_model.specs.Machine.{Machine};
 ghost use Rattle.bpf_model.specs.Drain.{AreScheduledAnswers};
@@ -56,9 +55,9 @@ pub fn replays_to_world()
 /// The entries are a history of the abstract machine, from each state that the base tracks to one that the
 /// present world tracks.
 pub fn replays_on_machine()
-    ensures { (base world : WorldView) (entries : List Entry) → Replays base world entries →
-        length entries ≤ MAX_JOURNAL → (m : Machine) → Tracks base m →
-        (last : Machine) × ReplaysOnMachine m entries last
+    ensures { (limit : ℕ) (base world : WorldView) (entries : List Entry) →
+        Replays base world entries → length entries ≤ limit → (m : Machine) → Tracks base m →
+        (last : Machine) × ReplaysOnMachine limit m entries last
         × Tracks world last }
 {}
 
