@@ -18,7 +18,7 @@ use Rattle.bpf_model.specs.Step.{State, Environment, Moves, Exits, forward, jump
 use Rattle.scalar_domain.specs.declared.scalar.Scalar.{Scalar}
 use Rattle.scalar_domain.specs.Scalar.{Holds}
 use Rattle.typed_runs.specs.Kinds.{Num, ValueAt, AbsState}
-use Rattle.typed_runs.specs.Describes.{Scene, Describes, depth_of}
+use Rattle.typed_runs.specs.Describes.{Scene, Describes}
 use Rattle.typed_runs.specs.Effects.{with_kind}
 use Rattle.typed_runs.specs.Verified.{JumpsToSlot, ActsAlone, Transfers}
 use Rattle.typed_runs.specs.Planned.{AreAlike}
@@ -46,7 +46,7 @@ narrowed_one dst src imm x a b is e = subst (λ (o : Operand). AreNarrowed dst o
   ];
   others = λ r n. set-elsewhere dst r (Num x) (state_of a) (state_of b) e (λ q. n (inl q));
   cells = e.cells;
-  inside = e.inside;
+  depth = e.depth;
 })
 
 pub narrowed_both : (dst r : ℕ) (src : Operand) (x y : Scalar) (a b t : StateHere) → src ≡ Register r → AreAlike (with_kind r (Num y) (state_of a)) (state_of b) → AreAlike (with_kind dst (Num x) (state_of b)) (state_of t)
@@ -58,7 +58,7 @@ narrowed_both dst r src x y a b t is e f = subst (λ (o : Operand). AreNarrowed 
   ];
   others = λ s n. set-elsewhere dst s (Num x) (state_of b) (state_of t) f (λ q. n (inl q)) ∙ set-elsewhere r s (Num y) (state_of a) (state_of b) e (λ q. n (inr q));
   cells = λ k. f.cells k ∙ e.cells k;
-  inside = f.inside ∙ e.inside;
+  depth = f.depth ∙ e.depth;
 })
 
 -- a conditional jump goes along one of its two edges
@@ -124,13 +124,13 @@ value_forks false dst map s a t e same shapes ctx_len offset =
     })
 
 -- an exit outside every section, with a number in r0, has its step
-pub exit_sound : (a : StateHere) (k : RegKind) (s : Scalar) → kind_in a.regs 0 ≡ k → k ≡ kinds.Num s → a.inside ≡ false → (shapes : List MapShape) (ctx_len : ℕ) → Transfers Exit shapes ctx_len (state_of a) (state_of a) None
+pub exit_sound : (a : StateHere) (k : RegKind) (s : Scalar) → kind_in a.regs 0 ≡ k → k ≡ kinds.Num s → a.depth ≡ 0 → (shapes : List MapShape) (ctx_len : ℕ) → Transfers Exit shapes ctx_len (state_of a) (state_of a) None
 exit_sound a k s e f out shapes ctx_len = alone_transfers Exit shapes ctx_len (state_of a) (state_of a) None refl (λ c env m i target d.
     let n = reg-is (state_of a) c m 0 (Num s) d (ap kind_of (e ∙ f)) in record {
       out = Exits n.0;
       after_is = ap (λ v. number v >>= λ k. Some (Exits k)) n.1;
       alone = λ es fs other h. h;
-      lands = d.inside ∙ ap depth_of out;
+      lands = d.depth ∙ out;
     })
 
 -- a jump without a condition leaves all that is known as it is

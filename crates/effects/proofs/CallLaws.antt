@@ -1,6 +1,7 @@
 -- What a call or a test for null makes of states, by the laws of the known kinds.
-use Rattle.std.proofs.Common.{◌≡◌, ℕ, ◌^◌, ◌/◌, ◌<◌, List, Some, ap, ◌∙◌, ℤ, arith, true, false}
+use Rattle.std.proofs.Common.{◌≡◌, ℕ, ◌^◌, ◌/◌, ◌<◌, List, Some, refl, ap, ◌∙◌, ℤ, arith, true, false}
 use Rattle.bpf_model.specs.declared.limits.MapShape.{MapShape}
+use Rattle.bpf_model.specs.declared.limits.TheConstants.{MAX_DEPTH}
 use Rattle.bpf_model.specs.declared.insn.Insn.{Insn}
 use Rattle.bpf_model.specs.declared.insn.Insn.TheVariants.{Call, JumpIf}
 use Rattle.bpf_model.specs.declared.insn.CallKind.TheVariants as callee
@@ -12,10 +13,10 @@ use Rattle.bpf_model.specs.declared.opcode.Condition.TheVariants.{Equal, NotEqua
 use Rattle.bpf_model.specs.declared.opcode.Size.TheVariants.{Word64}
 use Rattle.scalar_domain.specs.Scalar.{Holds}
 use Rattle.scalar_domain.specs.declared.scalar.Scalar.{Scalar}
-use Rattle.std.specs.Prelude.{Bool, if◌then◌else◌, pos, nat_le}
+use Rattle.std.specs.Prelude.{Bool, ◌==◌, if◌then◌else◌, pos, nat_le}
 use Rattle.std.proofs.lemmas.Bool.{ne_eqb, lt-leb}
-use Rattle.typed_runs.specs.Kinds.{Kind, Blank, Mixed, Ended, Num, CtxAt, FrameAt, MapAt, ValueAt, MaybeNull, AbsState}
-use Rattle.typed_runs.specs.Effects.{after_call, after_lock, after_unlock, returned_kind, ended_kind, IsOther, IsOtherCell, IsFresh, HasMap, HasBytes, when_null, when_there}
+use Rattle.typed_runs.specs.Kinds.{Kind, Blank, Mixed, Ended, Num, CtxAt, FrameAt, MapAt, ValueAt, MaybeNull, CellKind, AbsState}
+use Rattle.typed_runs.specs.Effects.{after_call, after_lock, after_unlock, returned_kind, ended_kind, ended_cell, left_kind, left_cell, IsOther, IsOtherCell, IsFresh, HasMap, HasBytes, when_null, when_there}
 use Rattle.typed_runs.specs.Verified.{Transfers}
 use Rattle.typed_runs.specs.Planned.{AreAlike, number_zero, origin}
 use Rattle.typed_runs.proofs.Planning.{alike_wider, transfers_wider, origin_has, zero_holds, to_alike}
@@ -41,10 +42,10 @@ null_jump equal dst offset = JumpIf (if equal then Equal else NotEqual) Word64 d
 to-both : (i : Insn) (shapes : List MapShape) (ctx_len : ℕ) (a b c x y : AbsState) → AreAlike b c → AreAlike x y → Transfers i shapes ctx_len a b (Some x) → Transfers i shapes ctx_len a c (Some y)
 to-both i shapes ctx_len a b c x y e f t = transfers_wider i shapes ctx_len a a b c (Some x) (Some y) (λ c m d. d) (alike_wider b c e) (alike_wider x y f) t
 
-pub lock_sound : (a b : StateHere) → a.inside ≡ false → AreAlike (after_lock (state_of a)) (state_of b) → (imm : ℤ) (shapes : List MapShape) → kernel_function_of imm ≡ Some ReadLock → PerformsCall callee.Kernel imm shapes a b
+pub lock_sound : (a b : StateHere) → a.depth < MAX_DEPTH → AreAlike (after_lock (state_of a)) (state_of b) → (imm : ℤ) (shapes : List MapShape) → kernel_function_of imm ≡ Some ReadLock → PerformsCall callee.Kernel imm shapes a b
 lock_sound a b out e imm shapes f ctx_len = to_alike (Call callee.Kernel imm) shapes ctx_len (state_of a) (after_lock (state_of a)) (state_of b) e (lock_transfers imm shapes ctx_len (state_of a) f out)
 
-pub unlock_sound : (a b : StateHere) → a.inside ≡ true → AreAlike (after_unlock (state_of a)) (state_of b) → (imm : ℤ) (shapes : List MapShape) → kernel_function_of imm ≡ Some ReadUnlock → PerformsCall callee.Kernel imm shapes a b
+pub unlock_sound : (a b : StateHere) → 0 < a.depth → AreAlike (after_unlock (state_of a)) (state_of b) → (imm : ℤ) (shapes : List MapShape) → kernel_function_of imm ≡ Some ReadUnlock → PerformsCall callee.Kernel imm shapes a b
 unlock_sound a b into e imm shapes f ctx_len = to_alike (Call callee.Kernel imm) shapes ctx_len (state_of a) (after_unlock (state_of a)) (state_of b) e (unlock_transfers imm shapes ctx_len (state_of a) f into)
 
 -- an identity that isn't taken is nowhere
@@ -72,7 +73,7 @@ untaken_fresh top a b = record {
   cells = λ k. other-cell-below top (kind_in a.frame.spills (k / 8)) (class_in a.frame.cells k) (b.spills (k / 8));
 }
 
-pub lookup_sound : (a b : StateHere) (shapes : List MapShape) (map id : ℕ) (shape : MapShape) → a.inside ≡ true → HasMap shapes (state_of a) map shape → HasBytes (state_of a) 2 shape.key_len → AreBelow id a → AreAlike (after_call (MaybeNull map id) (state_of a)) (state_of b) →
+pub lookup_sound : (a b : StateHere) (shapes : List MapShape) (map id : ℕ) (shape : MapShape) → 0 < a.depth → HasMap shapes (state_of a) map shape → HasBytes (state_of a) 2 shape.key_len → AreBelow id a → AreAlike (after_call (MaybeNull map id) (state_of a)) (state_of b) →
     (imm : ℤ) → helper_of imm ≡ Some helpers.Lookup → PerformsCall callee.Helper imm shapes a b
 lookup_sound a b shapes map id shape into m key below e imm f ctx_len =
     to_alike (Call callee.Helper imm) shapes ctx_len (state_of a) (after_call (MaybeNull map id) (state_of a)) (state_of b) e (lookup_transfers imm shapes ctx_len (state_of a) map id shape f into m key (untaken_fresh id a below))
@@ -108,5 +109,21 @@ call_others kind a b e r s h n = e.regs r ∙ (returned_above kind a.regs r h �
 pub lock_others : (a b : AbsState) → AreAlike (after_lock a) b → KeepsOwnNumbers a b
 lock_others a b e r s h n = e.regs r ∙ (returned_above Blank a.regs r h ∙ n)
 
+-- an unlock leaves what is no element, the outermost too
+pub left_same : (depth : ℕ) (k : Kind) → ended_kind k ≡ k → left_kind depth k ≡ k
+left_same depth k e = by (depth == 1)
+  where
+    by : (b : Bool) → (if b then ended_kind k else k) ≡ k
+    by true = e
+    by false = refl
+
+pub left_cell_same : (depth : ℕ) (k : CellKind) → ended_cell k ≡ k → left_cell depth k ≡ k
+left_cell_same depth k e = by (depth == 1)
+  where
+    by : (b : Bool) → (if b then ended_cell k else k) ≡ k
+    by true = e
+    by false = refl
+
 pub unlock_others : (a b : AbsState) → AreAlike (after_unlock a) b → KeepsOwnNumbers a b
-unlock_others a b e r s h n = e.regs r ∙ (returned_above Blank (λ r. ended_kind (a.regs r)) r h ∙ ap ended_kind n)
+unlock_others a b e r s h n =
+    e.regs r ∙ (returned_above Blank (λ r. left_kind a.depth (a.regs r)) r h ∙ ap (left_kind a.depth) n ∙ left_same a.depth (Num s) refl)

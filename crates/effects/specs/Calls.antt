@@ -1,6 +1,7 @@
 -- Calls and tests for null in words of the laws.
 use Rattle.std.specs.Prelude.{◌≡◌, ℕ, suc, ◌<◌, List, [], ◌∷◌, Option, Some, None, Result, Ok, Err}
-use Rattle.std.specs.Prelude.{ℤ, slice_get, Bool, if◌then◌else◌}
+use Rattle.std.specs.Prelude.{ℤ, slice_get, nat_lt, if◌then◌else◌}
+use Rattle.bpf_model.specs.declared.limits.TheConstants.{MAX_DEPTH}
 use Rattle.bpf_model.specs.declared.limits.MapShape.{MapShape}
 use Rattle.bpf_model.specs.declared.insn.CallKind.{CallKind}
 use Rattle.bpf_model.specs.declared.insn.CallKind.TheVariants as callee
@@ -30,21 +31,23 @@ abbrev pub PerformsCall : CallKind → ℤ → List MapShape → AbsState → Ab
 PerformsCall kind imm shapes old new =
     (ctx_len : ℕ) → Performs (Call kind imm) ctx_len shapes old new
 
--- The first tests of a call, of its number and of the section: the first that fails, if one does.
-abbrev pub helper_fault : Option Helper → Bool → Option InsnFault
-helper_fault None inside = Some UnknownCall
-helper_fault (Some Lookup) inside = if inside then None else Some OutsideSection
-helper_fault (Some Update) inside = None
-helper_fault (Some Delete) inside = None
+-- The first tests of a call, of its number and of how many locks are open: the first that fails, if
+-- one does.
+abbrev pub helper_fault : Option Helper → ℕ → Option InsnFault
+helper_fault None depth = Some UnknownCall
+helper_fault (Some Lookup) depth = if nat_lt 0 depth then None else Some OutsideSection
+helper_fault (Some Update) depth = None
+helper_fault (Some Delete) depth = None
 
-abbrev pub kernel_fault : Option KernelFunction → Bool → Option InsnFault
-kernel_fault None inside = Some UnknownCall
-kernel_fault (Some ReadLock) inside = if inside then Some UnpairedSection else None
-kernel_fault (Some ReadUnlock) inside = if inside then None else Some UnpairedSection
+abbrev pub kernel_fault : Option KernelFunction → ℕ → Option InsnFault
+kernel_fault None depth = Some UnknownCall
+kernel_fault (Some ReadLock) depth =
+    if nat_lt depth MAX_DEPTH then None else Some UnpairedSection
+kernel_fault (Some ReadUnlock) depth = if nat_lt 0 depth then None else Some UnpairedSection
 
-abbrev pub section_fault : CallKind → ℤ → Bool → Option InsnFault
-section_fault callee.Helper imm inside = helper_fault (helper_of imm) inside
-section_fault callee.Kernel imm inside = kernel_fault (kernel_function_of imm) inside
+abbrev pub section_fault : CallKind → ℤ → ℕ → Option InsnFault
+section_fault callee.Helper imm depth = helper_fault (helper_of imm) depth
+section_fault callee.Kernel imm depth = kernel_fault (kernel_function_of imm) depth
 
 abbrev pub outcome_of : Option InsnFault → Result (Unit {0}) InsnFault
 outcome_of None = Ok tt

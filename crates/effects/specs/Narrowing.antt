@@ -32,7 +32,7 @@ pub record AreNarrowed (dst : ℕ) (src : Operand) (a b : Known) : Type 0 where
   pub sides : (r : ℕ) → (r ≡ dst) ⊎ Names src r → HasNumber b r
   pub others : (r : ℕ) → ((r ≡ dst) ⊎ Names src r → ⊥) → b.regs r ≡ a.regs r
   pub cells : (k : ℕ) → b.cells k ≡ a.cells k
-  pub inside : b.inside ≡ a.inside
+  pub depth : b.depth ≡ a.depth
 
 -- The first side of the comparison holds these numbers, and the second those, where it is another
 -- register.

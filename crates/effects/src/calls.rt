@@ -1,5 +1,5 @@
 //! Lookup, update and delete; lock and unlock.
-ghost use Rattle.std.specs.Prelude.{◌≡◌, ℕ, IfSome, Err, IsOk, slice_get, ◌+◌, ◌^◌, ◌<◌, OnOk, OnErr, Some, List, ℤ, true};
+ghost use Rattle.std.specs.Prelude.{◌≡◌, ℕ, IfSome, Err, IsOk, slice_get, ◌+◌, ◌^◌, ◌<◌, OnOk, OnErr, Some, List, ℤ};
 ghost use Rattle.bpf_model.specs.Call.{helper_of, kernel_function_of};
 ghost use Rattle.bpf_model.specs.declared.limits.MapShape.{MapShape};
 ghost use Rattle.scalar_domain.specs.declared.scalar.Scalar.{Scalar};
@@ -11,23 +11,23 @@ ghost use Rattle.bpf_model.specs.declared.call.Helper.{Helper as HelperId};
 ghost use Rattle.effects.specs.Calls.{PerformsCall, FindsIn, GoesBySignature, helper_fault, kernel_fault, section_fault, outcome_of, Called, KeepsOwnNumbers};
 
 use crate::arguments::{called_map, check_bytes_argument};
-use bpf_model::{CallKind, Helper, KernelFunction, MapShape, Reg};
+use bpf_model::{CallKind, Helper, KernelFunction, MAX_DEPTH, MapShape, Reg};
 use register_kinds::{AbsState, Identities, InsnFault, RegKind, number_argument};
 use scalar_domain::Scalar;
 
-/// A lock. Error: `UnpairedSection` inside a section.
+/// A lock. Error: `UnpairedSection` where `MAX_DEPTH` are open.
 fn lock(state: &mut AbsState) -> Result<(), InsnFault>
     ensures sound { OnOk result ((imm : ℤ) (shapes : List MapShape)
         → kernel_function_of imm ≡ Some KernelFunction.ReadLock
         → PerformsCall CallKind.Kernel imm shapes state.old state.new) }
     ensures result { result
-        ≡ outcome_of (kernel_fault (Some KernelFunction.ReadLock) state.old.inside) }
+        ≡ outcome_of (kernel_fault (Some KernelFunction.ReadLock) state.old.depth) }
     ensures opens { OnOk result (AreAlike (after_lock (state_of state.old)) (state_of state.new)) }
     ensures others { OnOk result (KeepsOwnNumbers (state_of state.old) (state_of state.new)) }
     ensures below { (top : ℕ) → AreBelow top state.old → AreBelow top state.new }
     ensures unchanged { OnErr result (state.new ≡ state.old) }
 {
-    if state.inside {
+    if state.depth >= MAX_DEPTH {
         return Err(InsnFault::UnpairedSection);
     }
     state.enter_section();
@@ -40,14 +40,14 @@ fn unlock(state: &mut AbsState) -> Result<(), InsnFault>
         → kernel_function_of imm ≡ Some KernelFunction.ReadUnlock
         → PerformsCall CallKind.Kernel imm shapes state.old state.new) }
     ensures result { result
-        ≡ outcome_of (kernel_fault (Some KernelFunction.ReadUnlock) state.old.inside) }
+        ≡ outcome_of (kernel_fault (Some KernelFunction.ReadUnlock) state.old.depth) }
     ensures closes { OnOk result (AreAlike (after_unlock (state_of state.old))
         (state_of state.new)) }
     ensures others { OnOk result (KeepsOwnNumbers (state_of state.old) (state_of state.new)) }
     ensures below { (top : ℕ) → AreBelow top state.old → AreBelow top state.new }
     ensures unchanged { OnErr result (state.new ≡ state.old) }
 {
-    if !state.inside {
+    if state.depth == 0 {
         return Err(InsnFault::UnpairedSection);
     }
     state.leave_section();
@@ -56,13 +56,13 @@ fn unlock(state: &mut AbsState) -> Result<(), InsnFault>
 
 /// A lookup is made inside a section.
 fn check_inside(state: &AbsState) -> Result<(), InsnFault>
-    ensures inside { OnOk result (state.now.inside ≡ true) }
-    ensures result { result ≡ outcome_of (helper_fault (Some Helper.Lookup) state.now.inside) }
+    ensures inside { OnOk result (0 < state.now.depth) }
+    ensures result { result ≡ outcome_of (helper_fault (Some Helper.Lookup) state.now.depth) }
 {
-    match state.inside {
-        true => Ok(()),
-        false => Err(InsnFault::OutsideSection),
+    if state.depth == 0 {
+        return Err(InsnFault::OutsideSection);
     }
+    Ok(())
 }
 
 /// A lookup: r0 may be null, with an identity of its own. Errors, in this order: `OutsideSection`
@@ -72,9 +72,9 @@ fn lookup(state: &mut AbsState, shapes: &[MapShape], ids: &mut Identities) -> Re
     requires below { AreBelow ids.old.next state.old }
     ensures sound { OnOk result ((imm : ℤ) → helper_of imm ≡ Some Helper.Lookup
         → PerformsCall CallKind.Helper imm shapes.now state.old state.new) }
-    ensures first { IfSome (helper_fault (Some Helper.Lookup) state.old.inside) (λ e. result
+    ensures first { IfSome (helper_fault (Some Helper.Lookup) state.old.depth) (λ e. result
         ≡ Err e) }
-    ensures accepts { (map : ℕ) (shape : MapShape) → state.old.inside ≡ true
+    ensures accepts { (map : ℕ) (shape : MapShape) → 0 < state.old.depth
         → kind_in state.old.regs 1 ≡ RegKind.Map map
         → slice_get shapes.now map ≡ Some shape → HasBytes (state_of state.old) 2 shape.key_len
         → IsOk result }
@@ -142,7 +142,7 @@ fn delete(state: &mut AbsState, shapes: &[MapShape]) -> Result<(), InsnFault>
 fn call_kernel(state: &mut AbsState, imm: i32) -> Result<(), InsnFault>
     ensures sound { OnOk result ((shapes : List MapShape)
         → PerformsCall CallKind.Kernel imm shapes state.old state.new) }
-    ensures result { result ≡ outcome_of (kernel_fault (kernel_function_of imm) state.old.inside) }
+    ensures result { result ≡ outcome_of (kernel_fault (kernel_function_of imm) state.old.depth) }
     ensures called { OnOk result (Called (kernel_function_of imm) (state_of state.old)
         (state_of state.new)) }
     ensures others { OnOk result (KeepsOwnNumbers (state_of state.old) (state_of state.new)) }
@@ -166,9 +166,9 @@ fn call_helper(
     requires room { ids.old.next + 1 < 2 ^ 32 }
     requires below { AreBelow ids.old.next state.old }
     ensures sound { OnOk result (PerformsCall CallKind.Helper imm shapes.now state.old state.new) }
-    ensures first { IfSome (helper_fault (helper_of imm) state.old.inside) (λ e. result ≡ Err e) }
+    ensures first { IfSome (helper_fault (helper_of imm) state.old.depth) (λ e. result ≡ Err e) }
     ensures accepts_lookup { (map : ℕ) (shape : MapShape) → helper_of imm ≡ Some Helper.Lookup
-        → state.old.inside ≡ true → kind_in state.old.regs 1 ≡ RegKind.Map map
+        → 0 < state.old.depth → kind_in state.old.regs 1 ≡ RegKind.Map map
         → slice_get shapes.now map ≡ Some shape → HasBytes (state_of state.old) 2 shape.key_len
         → IsOk result }
     ensures finds { OnOk result ((map : ℕ) → helper_of imm ≡ Some Helper.Lookup
@@ -205,12 +205,12 @@ pub fn call(
     requires room { ids.old.next + 1 < 2 ^ 32 }
     requires below { AreBelow ids.old.next state.old }
     ensures sound { OnOk result (PerformsCall kind imm shapes.now state.old state.new) }
-    ensures first { IfSome (section_fault kind imm state.old.inside) (λ e. result ≡ Err e) }
+    ensures first { IfSome (section_fault kind imm state.old.depth) (λ e. result ≡ Err e) }
     ensures kernel { kind ≡ CallKind.Kernel
-        → result ≡ outcome_of (section_fault kind imm state.old.inside) }
+        → result ≡ outcome_of (section_fault kind imm state.old.depth) }
     ensures accepts_lookup { (map : ℕ) (shape : MapShape) → kind ≡ CallKind.Helper
         → helper_of imm ≡ Some Helper.Lookup
-        → state.old.inside ≡ true → kind_in state.old.regs 1 ≡ RegKind.Map map
+        → 0 < state.old.depth → kind_in state.old.regs 1 ≡ RegKind.Map map
         → slice_get shapes.now map ≡ Some shape → HasBytes (state_of state.old) 2 shape.key_len
         → IsOk result }
 
@@ -219,8 +219,8 @@ pub fn call(
         → helper_of imm ≡ Some helper
         → GoesBySignature helper shapes.now (state_of state.old) (state_of state.new)) }
 
-    // A lookup leaves in r0 what may be null or an element of the map; a lock opens a section, an
-    // unlock ends it, with all that is known of elements.
+    // A lookup leaves in r0 what may be null or an element of the map; a lock leads one deeper, an unlock
+    // back, and the outermost ends all that is known of elements.
     ensures finds { OnOk result ((map : ℕ) → kind ≡ CallKind.Helper
         → helper_of imm ≡ Some Helper.Lookup
         → kind_in state.old.regs 1 ≡ RegKind.Map map → FindsIn map state.old state.new) }

@@ -1,5 +1,5 @@
 //! Jumps without a condition, and the exit.
-ghost use Rattle.std.specs.Prelude.{◌≡◌, ℕ, ℤ, List, None, OnOk, IsOk, false};
+ghost use Rattle.std.specs.Prelude.{◌≡◌, ℕ, ℤ, List, None, OnOk, IsOk};
 ghost use Rattle.bpf_model.specs.declared.limits.MapShape.{MapShape};
 ghost use Rattle.effects.specs.Performs.{PerformsAnywhere};
 ghost use Rattle.typed_runs.specs.Kinds as model;
@@ -12,20 +12,20 @@ use register_kinds::{AbsState, InsnFault, RegKind, held};
 
 /// A run ends outside every section.
 fn check_outside(state: &AbsState) -> Result<(), InsnFault>
-    ensures outside { OnOk result (state.now.inside ≡ false) }
-    ensures accepts { state.now.inside ≡ false → IsOk result }
+    ensures outside { OnOk result (state.now.depth ≡ 0) }
+    ensures accepts { state.now.depth ≡ 0 → IsOk result }
 {
-    match state.inside {
-        false => Ok(()),
-        true => Err(InsnFault::UnpairedSection),
+    if state.depth != 0 {
+        return Err(InsnFault::UnpairedSection);
     }
+    Ok(())
 }
 
 /// The end of a run. Errors, in this order: those of r0 as a register that is read; `PointerLeak`
 /// where it is no number; `UnpairedSection` inside a section.
 pub fn exit(state: &AbsState) -> Result<(), InsnFault>
     ensures sound { OnOk result (PerformsAnywhere Insn.Exit state.now state.now) }
-    ensures accepts { HasNumber (state_of state.now) 0 → state.now.inside ≡ false → IsOk result }
+    ensures accepts { HasNumber (state_of state.now) 0 → state.now.depth ≡ 0 → IsOk result }
 {
     match held(state, Reg::R0)? {
         RegKind::Num(_) => {

@@ -13,11 +13,12 @@ use Rattle.machine.specs.declared.request.Request.{Request}
 use Rattle.machine.specs.declared.request.Request.TheVariants as requests
 use Rattle.machine.specs.Standing.{MayGive}
 use Rattle.table_rule.specs.declared.view.Move.{Move}
-use Rattle.table_rule.specs.declared.view.Move.TheVariants.{Close, Load, Open, Store}
+use Rattle.table_rule.specs.declared.view.Move.TheVariants.{Load, Store}
 use Rattle.table_rule.specs.declared.view.TableShape.{TableShape}
 use Rattle.table_rule.specs.History.{IsLearnt}
 use Rattle.table_rule.specs.Lookups.{AnswersLookup, OnlySearches}
 use Rattle.shared_runs.specs.Serving.{CanServe, GoesOnWith, LeadsToWord}
+use Rattle.shared_runs.specs.SharedRuns.{closing, opening}
 use Rattle.shared_runs.proofs.Stretches.{learnt-in}
 use Rattle.read_table.specs.Held.{IsSized}
 use Rattle.read_table.specs.Running.{IsServable, Serves}
@@ -72,12 +73,12 @@ module _ (k : TableShape) (v : RunView) (request : Request) where
         subst (λ (q : Request). MayGive c v q word) (sym is) (subst (λ (w : ℕ). (w ≡ 0) ⊎ IsSlotWord w) (sym e) (given found ns (bytes_in v 2 (8 * k.key_words)) sized answers)),
       )
 
-  pub serves-enter : request ≡ requests.Enter → Serves k v request (Open ∷ []) 0
+  pub serves-enter : request ≡ requests.Enter → Serves k v request (opening v.depth) 0
   serves-enter is = λ c context ms can.
       let l = subst (λ (q : Request). CanServe k c context ms v q) is can in
       (l.goes_on 0, subst (λ (q : Request). MayGive c v q 0) (sym is) tt)
 
-  pub serves-leave : request ≡ requests.Leave → Serves k v request (Close ∷ []) 0
+  pub serves-leave : request ≡ requests.Leave → Serves k v request (closing v.depth) 0
   serves-leave is = λ c context ms can.
       let l = subst (λ (q : Request). CanServe k c context ms v q) is can in
       (l.goes_on 0, subst (λ (q : Request). MayGive c v q 0) (sym is) tt)

@@ -8,6 +8,7 @@ ghost use Rattle.world_laws.specs.Reaching.{IsInFrame};
 ghost use Rattle.table_rule.specs.declared.view.Move.{Move};
 ghost use Rattle.table_rule.specs.History.{inside};
 ghost use Rattle.table_rule.specs.Lookups.{AnswersLookup, OnlySearches};
+ghost use Rattle.shared_runs.specs.SharedRuns.{closing, opening};
 ghost use Rattle.shared_runs.specs.Sharing.{flag_of};
 ghost use Rattle.shared_runs.specs.Words.{FitsTable, UsesSubWords};
 ghost use Rattle.read_table.specs.Held.{Goes, IsKnown, IsReady};
@@ -99,6 +100,33 @@ impl ReadTable {
         word_of_slot(self.lookup(seat, key))
     }
 
+    /// A lock of a run: the outermost opens the seat's section.
+    #[inline]
+    fn enter(&self, seat: &mut ReadSeat, run: &Run)
+        requires table { seat.old.table ≡ self.now }
+        requires known { IsKnown seat.old.view }
+        requires section { inside seat.old.view.mine ≡ flag_of run.now.view.depth }
+        ensures { Goes seat.old (opening run.now.view.depth) seat.new }
+    {
+        if run.depth() == 0 {
+            self.open(seat);
+        }
+    }
+
+    /// An unlock of a run inside a section: the outermost closes the seat's.
+    #[inline]
+    fn leave(&self, seat: &mut ReadSeat, run: &Run)
+        requires table { seat.old.table ≡ self.now }
+        requires known { IsKnown seat.old.view }
+        requires section { inside seat.old.view.mine ≡ flag_of run.now.view.depth }
+        requires inside { 0 < run.now.view.depth }
+        ensures { Goes seat.old (closing run.now.view.depth) seat.new }
+    {
+        if run.depth() == 1 {
+            self.close(seat);
+        }
+    }
+
     /// Serves what a run asks, and answers the word with which it goes on.
     #[inline]
     fn serve(&self, seat: &mut ReadSeat, run: &Run, request: Request) -> u64
@@ -134,11 +162,11 @@ impl ReadTable {
             } => self.look_up(seat, run),
             Request::Call { .. } => unreachable!(),
             Request::Enter => {
-                self.open(seat);
+                self.enter(seat, run);
                 0
             }
             Request::Leave => {
-                self.close(seat);
+                self.leave(seat, run);
                 0
             }
         }

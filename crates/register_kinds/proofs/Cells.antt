@@ -73,10 +73,10 @@ joined_all xs old others g e f all k = elim (cases_lt k (length others)) [
 -- whole states are joined where their registers and their cells are
 module _ (top : ℕ) (before pairs : List (ℕ × ℕ)) (a b c : StateHere) (x : PairsGrow before pairs) (regs : (r : ℕ) → JoinsKind top before (kind_at a.regs r) (kind_at b.regs r) (kind_at c.regs r))
     (cells : (k : ℕ) → JoinsCell top pairs (cell_at a.frame k) (cell_at b.frame k) (cell_at c.frame k)) where
-  pub states_join : a.inside ≡ b.inside → c.inside ≡ a.inside → Joins (pair_of top pairs) (state_of a) (state_of b) (state_of c)
+  pub states_join : a.depth ≡ b.depth → c.depth ≡ a.depth → Joins (pair_of top pairs) (state_of a) (state_of b) (state_of c)
   states_join e f = record {
-    left = record { regs = λ r. (kind_later top before pairs x _ _ _ (regs r)).left; cells = λ k. (cells k).left; inside = f };
-    right = record { regs = λ r. (kind_later top before pairs x _ _ _ (regs r)).right; cells = λ k. (cells k).right; inside = f ∙ e };
+    left = record { regs = λ r. (kind_later top before pairs x _ _ _ (regs r)).left; cells = λ k. (cells k).left; depth = f };
+    right = record { regs = λ r. (kind_later top before pairs x _ _ _ (regs r)).right; cells = λ k. (cells k).right; depth = f ∙ e };
   }
 
   pub states_below : (n : ℕ) → n ≡ top + length pairs → ((g : ℕ) → IsBelow (top + length pairs) (kind_at c.frame.spills g)) → AreBelow n c

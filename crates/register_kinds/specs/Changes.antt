@@ -26,7 +26,7 @@ abbrev pub learnt : Lesson → Known → Known
 learnt lesson a = record {
   regs = λ r. learnt_kind lesson (a.regs r);
   cells = λ k. learnt_cell lesson (a.cells k);
-  inside = a.inside;
+  depth = a.depth;
 }
 
 -- the class of what was a part of this

@@ -43,7 +43,7 @@ abbrev pub cell_at : FrameCells → ℕ → model.CellKind
 cell_at f k = cell_of (kind_in f.spills (k / 8)) (class_in f.cells k)
 
 abbrev pub state_of : AbsState → model.AbsState
-state_of a = record { regs = kind_at a.regs; cells = cell_at a.frame; inside = a.inside }
+state_of a = record { regs = kind_at a.regs; cells = cell_at a.frame; depth = a.depth }
 
 -- a reference, or null
 abbrev pub is_pointer : RegKind → Bool

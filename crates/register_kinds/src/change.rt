@@ -1,6 +1,6 @@
 //! Registers and bytes that an instruction sets.
-ghost use Rattle.std.specs.Prelude.{◌≡◌, ℕ, ◌+◌, ◌%◌, ◌≤◌};
-ghost use Rattle.bpf_model.specs.declared.limits.TheConstants.{FRAME_BYTES};
+ghost use Rattle.std.specs.Prelude.{◌≡◌, ℕ, ◌+◌, ◌%◌, ◌<◌, ◌≤◌};
+ghost use Rattle.bpf_model.specs.declared.limits.TheConstants.{FRAME_BYTES, MAX_DEPTH};
 ghost use Rattle.typed_runs.specs.Kinds as model;
 ghost use Rattle.typed_runs.specs.Effects.{with_kind, with_cells, after_call, after_lock, after_unlock, returned_kind};
 ghost use Rattle.typed_runs.specs.Planned.{AreAlike};
@@ -59,23 +59,28 @@ impl AbsState {
         self.regs = after_return(&self.regs, returned);
     }
 
-    /// A section begins.
+    /// A lock: one more is open.
     pub fn enter_section(&mut self)
+        requires room { self.old.depth < MAX_DEPTH }
         ensures alike { AreAlike (after_lock (state_of self.old)) (state_of self.new) }
         ensures below { (top : ℕ) → AreBelow top self.old → AreBelow top self.new }
     {
         self.leave_call(RegKind::Unwritten);
-        self.inside = true;
+        self.depth += 1;
     }
 
-    /// The section ends, and with it all that is known of elements, in registers and in the frame.
+    /// An unlock: one less is open. With the outermost ends all that is known of elements, in registers and in
+    /// the frame.
     pub fn leave_section(&mut self)
+        requires inside { 0 < self.old.depth }
         ensures alike { AreAlike (after_unlock (state_of self.old)) (state_of self.new) }
         ensures below { (top : ℕ) → AreBelow top self.old → AreBelow top self.new }
     {
-        self.learn(Lesson::SectionEnds);
+        if self.depth == 1 {
+            self.learn(Lesson::SectionEnds);
+        }
         self.leave_call(RegKind::Unwritten);
-        self.inside = false;
+        self.depth -= 1;
     }
 
     /// The bytes of an access to the frame become bytes of a number.

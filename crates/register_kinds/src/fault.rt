@@ -29,7 +29,7 @@ pub enum InsnFault {
     MaybeNull,
     #[error("a reference to an element is used outside its section, or a lookup is made outside a section")]
     OutsideSection,
-    #[error("a lock inside a section, an unlock outside, an exit inside, or paths that differ in it")]
+    #[error("a lock where 8 are open, an unlock outside a section, an exit inside one, or paths that differ in depth")]
     UnpairedSection,
     #[error("a call of an unknown function")]
     UnknownCall,

@@ -24,8 +24,8 @@ pub const ORIGIN: u64 = NEAR_LIMIT;
 pub struct AbsState {
     pub regs: [RegKind; REGISTERS],
     pub frame: FrameCells,
-    /// Whether a section is open.
-    pub inside: bool,
+    /// How many of the run's locks are open.
+    pub depth: usize,
 }
 
 /// The registers at a program's entry.
@@ -46,7 +46,7 @@ fn at_entry() -> AbsState
     AbsState {
         regs: entry_registers(),
         frame: FrameCells::unwritten(),
-        inside: false,
+        depth: 0,
     }
 }
 
@@ -66,7 +66,7 @@ impl AbsState {
     {
         self.regs = other.regs;
         self.frame.copy_from(&other.frame);
-        self.inside = other.inside;
+        self.depth = other.depth;
     }
 
     /// An equal state. Fails where memory runs out.
@@ -76,11 +76,10 @@ impl AbsState {
         boxes.filled(self)
     }
 
-    /// What is known where control comes from either state, both with a section open or both with
-    /// none. Each pair of different identities that meets gets one new identity, so a join takes at
+    /// What is known where control comes from either state, with as many locks open in both. Each pair of different identities that meets gets one new identity, so a join takes at
     /// most `MAX_PAIRS`.
     pub fn join(&mut self, other: &AbsState, ids: &mut Identities)
-        requires section { self.old.inside ≡ other.now.inside }
+        requires section { self.old.depth ≡ other.now.depth }
         requires room { ids.old.next + MAX_PAIRS < 2 ^ 32 }
         requires below { AreBelow ids.old.next self.old × AreBelow ids.old.next other.now }
         ensures joins { (pair : ℕ → ℕ × ℕ) × IsPairing ids.old.next ids.new.next pair

@@ -1,7 +1,8 @@
 -- What a shared run asks is served by its seat, and it goes on.
 use Rattle.std.proofs.Common.{◌≡◌, ℕ, ◌+◌, ◌-◌, ◌*◌, ◌/◌, ◌%◌, ◌^◌, ◌<◌, ◌≤◌, ◌⊎◌, inl, inr, refl, sym, ap, subst, ◌∙◌, arith, List, [], ◌∷◌, ◌++◌, length, map, Option, Some, None, Bool, true, false, ℤ}
 use Rattle.std.specs.Prelude.{slice_get, option_map, pos, negsuc, ◌+ℤ◌, ◌==◌, nat_le, take, drop, if◌then◌else◌}
-use Rattle.std.proofs.lemmas.Bool.{cases_eq, false≢true, leb-true}
+use Rattle.std.proofs.lemmas.Bool.{cases_eq, false≢true, leb-true, ne_eqb}
+use Rattle.std.proofs.lemmas.Bool.Decides.{eqb_tells}
 use Rattle.std.proofs.lemmas.Int.{ints}
 use Rattle.std.proofs.lemmas.Option.{none-some, same_Some, slice_get_within}
 use Rattle.std.proofs.lemmas.List.{length-replicate}
@@ -34,7 +35,7 @@ use Rattle.bpf_model.specs.Word.{WordIs, frame_base, slot_base}
 use Rattle.bpf_model.proofs.Lists.{get-below}
 use Rattle.model_laws.proofs.Computations.{first-step}
 use Rattle.model_laws.proofs.Requests.{LoadAsked, StoreAsked}
-use Rattle.typed_runs.specs.Describes.{depth_of, scene_of, IsGuarded, IsHeld}
+use Rattle.typed_runs.specs.Describes.{scene_of, IsGuarded, IsHeld}
 use Rattle.typed_runs.proofs.Elements.{offset_some}
 use Rattle.world_laws.specs.Calling.{bytes_in, found_word}
 use Rattle.world_laws.specs.Local.{local_of}
@@ -64,9 +65,10 @@ use Rattle.table_rule.specs.History.{IsLearnt}
 use Rattle.table_rule.specs.Lookups.{AnswersLookup, OnlySearches}
 use Rattle.shared_runs.specs.Learnt.{learnt_element, learnt_elements}
 use Rattle.shared_runs.specs.Serving.{CanServe, GoesOnWith, LeadsToWord}
+use Rattle.shared_runs.specs.SharedRuns.{closing, opening}
 use Rattle.shared_runs.specs.Sharing.{GoesFurther, IsSharing, flag_of}
 use Rattle.shared_runs.specs.Words.{ChangesMap, IsElementRegion, IsOtherWidth, access_width}
-use Rattle.shared_runs.proofs.Learning.{Reached, also, enter-learnt, hit-learnt, learnt-guarded, leave-learnt, load-learnt, miss-learnt, none, store-learnt}
+use Rattle.shared_runs.proofs.Learning.{Reached, also, enter-learnt, hit-learnt, learnt-guarded, leave-learnt, load-learnt, miss-learnt, nest-learnt, none, store-learnt, unnest-learnt}
 use Rattle.shared_runs.proofs.Steps.{Known, aligned, asking, known, listed, listed-shapes, onward, ready, served-step, shown, so, some, steps, waited}
 use Rattle.shared_runs.proofs.Stretches.{also-cases, inside-same, learnt-before, learnt-in}
 
@@ -310,43 +312,89 @@ module _ (k : TableShape) (c : Checked) (context : List ℕ) (ms : List Move) (v
         }
 
     -- sections
-    at-most-one : (b : Bool) (d : ℕ) → d ≡ depth_of b → d ≤ 1
-    at-most-one true d e = omega (arith, e)
-    at-most-one false d e = omega (arith, e)
+    depth-shown : v.depth ≡ run.depth
+    depth-shown = (shown k c context ms v x).words.depth
+
+    deep-flag : (d : ℕ) → 0 < d → flag_of d ≡ 1
+    deep-flag d inside = ap (λ b. if b then 0 else 1) (ne_eqb d 0 (λ e. absurd (omega (arith, inside, e))))
+
+    abbrev EntersBy : ℕ → Type 0
+    EntersBy depth = (word : ℕ) → GoesOnWith k c context (opening depth ++ ms) v word
+
+    abbrev LeavesBy : ℕ → Type 0
+    LeavesBy depth = (word : ℕ) → GoesOnWith k c context (closing depth ++ ms) v word
+
+    -- the outermost lock opens the seat's section
+    enters-first : Asks Enter → run.depth < MAX_DEPTH → run.depth ≡ 0 → EntersBy 0
+    enters-first asked room outside word =
+        let s = shown k c context ms v x in
+        let next = moves_run (locked run) (resumed i Nothing run.state) in
+        let deeper : next.depth ≡ 1 = omega (arith, outside) in
+        goes-at (moves_by.Open ∷ ms) word (onward k c context ms v x (moves_by.Open ∷ ms) next (resumed_view i word v) none
+        (λ plan closed. (so k c context ms v x plan closed i Enter here asked).goes_on Nothing word next refl tt (room, refl)) refl refl
+        (enter-learnt c.program c.shapes c.ctx_len (some k c context ms v x).plan (some k c context ms v x).closed run s.described x.learnt x.index x.planned i here outside asked next (room, refl) s.described.going)
+        (served-step k c context ms v x i Enter here asked (moves_by.Open ∷ []) Nothing next (sym (ap opening outside), refl) (room, refl))
+        (λ slot e. absurd (false≢true e)) (sym (ap flag_of deeper)))
+
+    -- a further one is no move of it
+    enters-again : Asks Enter → run.depth < MAX_DEPTH → 0 < run.depth → (word : ℕ) → GoesOnWith k c context ms v word
+    enters-again asked room inside_one word =
+        let s = shown k c context ms v x in
+        let next = moves_run (locked run) (resumed i Nothing run.state) in
+        let none_is : [] ≡ opening run.depth = sym (ap (λ b. if b then moves_by.Open ∷ [] else []) (ne_eqb run.depth 0 (λ e. absurd (omega (arith, inside_one, e))))) in
+        goes-at ms word (onward k c context ms v x ms next (resumed_view i word v) x.learnt
+        (λ plan closed. (so k c context ms v x plan closed i Enter here asked).goes_on Nothing word next refl tt (room, refl)) refl refl
+        (nest-learnt c.program c.shapes c.ctx_len (some k c context ms v x).plan (some k c context ms v x).closed run s.described x.learnt x.index x.planned i here inside_one asked next (room, refl) s.described.going)
+        (served-step k c context ms v x i Enter here asked [] Nothing next (none_is, refl) (room, refl))
+        x.known (x.section ∙ ap flag_of depth-shown ∙ deep-flag run.depth inside_one ∙ sym (deep-flag next.depth (omega (arith, inside_one)))))
 
     pub enters : Asks Enter → CanServe k c context ms v requests.Enter
     enters asked =
-        let s = shown k c context ms v x in
         let a = so k c context ms v x (some k c context ms v x).plan (some k c context ms v x).closed i Enter here asked in
         let room : run.depth < MAX_DEPTH = (a.resumes Nothing).1.0 in
-        let outside : run.depth ≡ 0 = omega (arith, room) in
-        let next = moves_run (locked run) (resumed i Nothing run.state) in
-        let deeper : next.depth ≡ 1 = omega (arith, outside) in
         record {
-          outside = s.words.depth ∙ outside;
-          goes_on = λ word. goes-at (moves_by.Open ∷ ms) word (onward k c context ms v x (moves_by.Open ∷ ms) next (resumed_view i word v) none
-              (λ plan closed. (so k c context ms v x plan closed i Enter here asked).goes_on Nothing word next refl tt (room, refl)) refl refl
-              (enter-learnt c.program c.shapes c.ctx_len (some k c context ms v x).plan (some k c context ms v x).closed run s.described x.learnt x.index x.planned i here outside asked next (room, refl) s.described.going)
-              (served-step k c context ms v x i Enter here asked (moves_by.Open ∷ []) Nothing next (sym (ap (λ d. if d == 0 then moves_by.Open ∷ [] else []) outside), refl) (room, refl))
-              (λ slot e. absurd (false≢true e)) (sym (ap flag_of deeper)));
+          goes_on = subst EntersBy (sym depth-shown) (elim (eqb_tells run.depth 0) [
+            | inl (t, outside) ↦ subst EntersBy (sym outside) (enters-first asked room outside)
+            | inr (t, deep) ↦ (λ word. subst (λ ns. GoesOnWith k c context (ns ++ ms) v word) (sym (ap (λ b. if b then moves_by.Open ∷ [] else []) t)) (enters-again asked room (omega (arith, deep)) word))
+          ]);
         }
+
+    -- the outermost unlock closes the seat's section
+    leaves-last : Asks Leave → 0 < run.depth → run.depth ≡ 1 → LeavesBy 1
+    leaves-last asked within inside_one word =
+        let s = shown k c context ms v x in
+        let next = moves_run (unlocked run) (resumed i Nothing run.state) in
+        let ended : next.depth ≡ 0 = omega (arith, inside_one) in
+        goes-at (moves_by.Close ∷ ms) word (onward k c context ms v x (moves_by.Close ∷ ms) next (resumed_view i word v) none
+        (λ plan closed. (so k c context ms v x plan closed i Leave here asked).goes_on Nothing word next refl tt (within, refl)) refl refl
+        (leave-learnt c.program c.shapes c.ctx_len (some k c context ms v x).plan (some k c context ms v x).closed run s.described x.learnt x.index x.planned i here inside_one asked next (within, refl) s.described.going)
+        (served-step k c context ms v x i Leave here asked (moves_by.Close ∷ []) Nothing next (sym (ap closing inside_one), refl) (within, refl))
+        (λ slot e. absurd (false≢true e)) (sym (ap flag_of ended)))
+
+    -- an inner one is no move of it
+    leaves-inner : Asks Leave → 1 < run.depth → (word : ℕ) → GoesOnWith k c context ms v word
+    leaves-inner asked deep word =
+        let s = shown k c context ms v x in
+        let within : 0 < run.depth = omega (arith, deep) in
+        let next = moves_run (unlocked run) (resumed i Nothing run.state) in
+        let none_is : [] ≡ closing run.depth = sym (ap (λ b. if b then moves_by.Close ∷ [] else []) (ne_eqb run.depth 1 (λ e. absurd (omega (arith, deep, e))))) in
+        goes-at ms word (onward k c context ms v x ms next (resumed_view i word v) x.learnt
+        (λ plan closed. (so k c context ms v x plan closed i Leave here asked).goes_on Nothing word next refl tt (within, refl)) refl refl
+        (unnest-learnt c.program c.shapes c.ctx_len (some k c context ms v x).plan (some k c context ms v x).closed run s.described x.learnt x.index x.planned i here deep asked next (within, refl) s.described.going)
+        (served-step k c context ms v x i Leave here asked [] Nothing next (none_is, refl) (within, refl))
+        x.known (x.section ∙ ap flag_of depth-shown ∙ deep-flag run.depth within ∙ sym (deep-flag next.depth (omega (arith, deep)))))
 
     pub leaves : Asks Leave → CanServe k c context ms v requests.Leave
     leaves asked =
-        let s = shown k c context ms v x in
         let a = so k c context ms v x (some k c context ms v x).plan (some k c context ms v x).closed i Leave here asked in
         let within : 0 < run.depth = (a.resumes Nothing).1.0 in
-        let most : run.depth ≤ 1 = at-most-one _ run.depth s.described.planned.describes.inside in
-        let inside_one : run.depth ≡ 1 = omega (arith, within, most) in
-        let next = moves_run (unlocked run) (resumed i Nothing run.state) in
-        let ended : next.depth ≡ 0 = omega (arith, inside_one) in
+        let depth : v.depth ≡ run.depth = depth-shown in
         record {
-          inside = s.words.depth ∙ inside_one;
-          goes_on = λ word. goes-at (moves_by.Close ∷ ms) word (onward k c context ms v x (moves_by.Close ∷ ms) next (resumed_view i word v) none
-              (λ plan closed. (so k c context ms v x plan closed i Leave here asked).goes_on Nothing word next refl tt (within, refl)) refl refl
-              (leave-learnt c.program c.shapes c.ctx_len (some k c context ms v x).plan (some k c context ms v x).closed run s.described x.learnt x.index x.planned i here inside_one asked next (within, refl) s.described.going)
-              (served-step k c context ms v x i Leave here asked (moves_by.Close ∷ []) Nothing next (sym (ap (λ d. if d == 1 then moves_by.Close ∷ [] else []) inside_one), refl) (within, refl))
-              (λ slot e. absurd (false≢true e)) (sym (ap flag_of ended)));
+          inside = omega (arith, within, depth);
+          goes_on = subst LeavesBy (sym depth-shown) (elim (eqb_tells run.depth 1) [
+            | inl (t, one) ↦ subst LeavesBy (sym one) (leaves-last asked within one)
+            | inr (t, more) ↦ (λ word. subst (λ ns. GoesOnWith k c context (ns ++ ms) v word) (sym (ap (λ b. if b then moves_by.Close ∷ [] else []) t)) (leaves-inner asked (omega (arith, within, more)) word))
+          ]);
         }
 
     changes-none : (helper : Helper) (imm : ℤ) → i ≡ Call kinds.Helper imm → helper_of imm ≡ Some helper → (helper ≡ Update) ⊎ (helper ≡ Delete) → ⊥

@@ -2,7 +2,7 @@
 use Rattle.std.proofs.Common.{◌≡◌, ℕ, ◌+◌, ◌^◌, ◌<◌, ◌≤◌, inl, inr, refl, sym, ap, subst, ◌∙◌, arith, List, [], ◌∷◌, length, map, Option, Some, None, Bool, true, false}
 use Rattle.std.specs.Prelude.{slice_get, slice_set, ℤ, pos, ◌==◌, if◌then◌else◌}
 use Rattle.std.proofs.lemmas.Option.{same_Some}
-use Rattle.std.proofs.lemmas.Bool.{false≢true, eq-eqb}
+use Rattle.std.proofs.lemmas.Bool.{false≢true, eq-eqb, ne_eqb}
 use Rattle.bpf_model.specs.declared.call.Helper.TheVariants.{Lookup}
 use Rattle.bpf_model.specs.declared.insn.Insn.{Insn}
 use Rattle.bpf_model.specs.declared.event.Answer.TheVariants.{Moved}
@@ -241,7 +241,24 @@ module _ (code : List Insn) (shapes : List MapShape) (ctx_len : ℕ) (plan : Pla
         Enter asked Nothing (listed empty) later (refl, refl) (h.0, refl) (subst (λ (z : Run). z.exit ≡ None) h.1 going) none
         (keeps-by (births shapes) empty (learnt_element shapes (section_of later) none) later (record { same = λ k. refl; guard = λ k g. absurd g })))
 
-    -- and ends, after which nothing is held
+    -- a lock inside it nests: what was learnt stays
+    pub nest-learnt : 0 < run.depth → Asked Enter → (new : Run) → Resumes Enter i Nothing run new → new.exit ≡ None → Planned learnt new
+    nest-learnt inside asked new h going =
+        let later = moves (locked run) (resumed i Nothing run.state) in
+        let same : section_of later ≡ sec = ap (λ (b : Bool). record { run = run.name; lock = if b then run.locks + 1 else run.locks }) (ne_eqb run.depth 0 (λ e. absurd (omega (arith, inside, e)))) in
+        subst (Planned learnt) (sym h.1)
+        (replied base (content learnt) (single learnt) (same-keeps (listed base) run) Enter asked Nothing (listed base) later (refl, refl) (h.0, refl) (subst (λ (z : Run). z.exit ≡ None) h.1 going) learnt
+        (subst (λ (s : Section). Keeps (scene_of (listed base) later) (scene_of (learnt_elements shapes s learnt) later)) (sym same) (same-keeps (listed base) later)))
+
+    -- so does an unlock that is not the outermost
+    pub unnest-learnt : 1 < run.depth → Asked Leave → (new : Run) → Resumes Leave i Nothing run new → new.exit ≡ None → Planned learnt new
+    unnest-learnt deep asked new h going =
+        let later = moves (unlocked run) (resumed i Nothing run.state) in
+        subst (Planned learnt) (sym h.1)
+        (replied base (content learnt) (single learnt) (same-keeps (listed base) run) Leave asked Nothing (listed base) later (refl, refl) (h.0, refl) (subst (λ (z : Run). z.exit ≡ None) h.1 going) learnt
+        (same-keeps (listed base) later))
+
+    -- it ends with the outermost, after which nothing is held
     pub leave-learnt : run.depth ≡ 1 → Asked Leave → (new : Run) → Resumes Leave i Nothing run new → new.exit ≡ None → Planned none new
     leave-learnt inside asked new h going =
         let later = moves (unlocked run) (resumed i Nothing run.state) in

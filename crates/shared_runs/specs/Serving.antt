@@ -16,10 +16,11 @@ use Rattle.machine.specs.declared.request.Request.{Request}
 use Rattle.machine.specs.declared.request.Request.TheVariants as requests
 use Rattle.machine.specs.Requests.{resumed_view}
 use Rattle.table_rule.specs.declared.view.Move.{Move}
-use Rattle.table_rule.specs.declared.view.Move.TheVariants.{Close, Load, Open, Store}
+use Rattle.table_rule.specs.declared.view.Move.TheVariants.{Load, Store}
 use Rattle.table_rule.specs.declared.view.TableShape.{TableShape}
 use Rattle.table_rule.specs.History.{IsLearnt}
 use Rattle.table_rule.specs.Lookups.{AnswersLookup, OnlySearches}
+use Rattle.shared_runs.specs.SharedRuns.{closing, opening}
 use Rattle.shared_runs.specs.Sharing.{GoesFurther}
 
 -- Resumed with this word, after these moves of its seat, the run has come one step further over the table.
@@ -61,13 +62,12 @@ pub record LooksUpKey (k : TableShape) (c : Checked) (context : List ℕ) (ms : 
 
 pub record EntersSection (k : TableShape) (c : Checked) (context : List ℕ) (ms : List Move)
     (v : RunView) : Type 0 where
-  pub outside : v.depth ≡ 0
-  pub goes_on : (word : ℕ) → GoesOnWith k c context (Open ∷ ms) v word
+  pub goes_on : (word : ℕ) → GoesOnWith k c context (opening v.depth ++ ms) v word
 
 pub record LeavesSection (k : TableShape) (c : Checked) (context : List ℕ) (ms : List Move)
     (v : RunView) : Type 0 where
-  pub inside : v.depth ≡ 1
-  pub goes_on : (word : ℕ) → GoesOnWith k c context (Close ∷ ms) v word
+  pub inside : 0 < v.depth
+  pub goes_on : (word : ℕ) → GoesOnWith k c context (closing v.depth ++ ms) v word
 
 -- what is so of a request of a shared run
 abbrev pub CanServe : TableShape → Checked → List ℕ → List Move → RunView → Request → Type 0

@@ -21,11 +21,19 @@ use Rattle.table_rule.specs.declared.view.TableShape.{TableShape}
 use Rattle.table_rule.specs.History.{IsLearnt}
 use Rattle.table_rule.specs.Lookups.{AnswersLookup, OnlySearches}
 
+-- The outermost lock of a run opens its seat's section, and the outermost unlock closes it; those between are no moves of
+-- the seat.
+abbrev pub opening : ℕ → List Move
+opening depth = if depth == 0 then Open ∷ [] else []
+
+abbrev pub closing : ℕ → List Move
+closing depth = if depth == 1 then Close ∷ [] else []
+
 -- What a table replies to a request of a run whose locks are so many deep, by what its seat does then, after all that it
 -- did for the run before. A number names a slot, and the map through which it was found: within a section a slot that was
--- learnt is one element. The outermost lock opens the seat's section, and the outermost unlock closes it. A word of a
--- value is loaded or stored in a slot that was learnt, linked, in the section that is open. A lookup is a stretch of
--- learns and loads of key words that answers null, or a slot that was learnt in it. Nothing else is served.
+-- learnt is one element. A word of a value is loaded or stored in a slot that was learnt, linked, in the section that is
+-- open. A lookup is a stretch of learns and loads of key words that answers null, or a slot that was learnt in it. Nothing
+-- else is served.
 abbrev pub Replies : TableShape → ℕ → List Move → Request → List Move → Value → Type 0
 Replies k depth done (LoadElement n offset width) ms reply =
     (place x : ℕ) × (width ≡ 8) × (offset ≡ pos (8 * place)) × (place < k.value_words)
@@ -39,10 +47,8 @@ Replies k depth done (CallHelper Lookup (MapArgument map ∷ BytesArgument key �
     (found : Option ℕ) × OnlySearches k ms × AnswersLookup k key ms found
     × (reply ≡ found_value (option_map (element_number map) found))
 Replies k depth done (CallHelper helper arguments) ms reply = ⊥
-Replies k depth done Enter ms reply =
-    (ms ≡ (if depth == 0 then Open ∷ [] else [])) × (reply ≡ Nothing)
-Replies k depth done Leave ms reply =
-    (ms ≡ (if depth == 1 then Close ∷ [] else [])) × (reply ≡ Nothing)
+Replies k depth done Enter ms reply = (ms ≡ opening depth) × (reply ≡ Nothing)
+Replies k depth done Leave ms reply = (ms ≡ closing depth) × (reply ≡ Nothing)
 
 -- A step that the run makes by itself, to another state or to its exit.
 pub record StepsItself (run : Run) (answer : Answer) (next : Run) : Type 0 where

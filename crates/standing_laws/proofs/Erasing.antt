@@ -222,7 +222,7 @@ module _ (g : ℕ → Option ℕ) where
     describes-erased a m h = record {
       naming = λ id. naming-to (h.naming id);
       stored = λ j. value (h.stored j);
-      inside = depth ∙ h.inside;
+      depth = depth ∙ h.depth;
       near = record { regs_near = λ r. near-value (m.regs r) (h.near.regs_near r); cells_near = λ k. near-cell (m.frame k) (h.near.cells_near k) };
       regs = λ r. of-erased h.naming (a.regs r) (m.regs r) (h.regs r);
       cells = λ k. cell-erased h.naming h.stored k (a.cells k) (m.frame k) (h.cells k);

@@ -48,7 +48,7 @@ set_keeps i dst t a b s ne e (RegisterFact r) h = elim (cases_eq r dst) [
 ]
 set_keeps i dst t a b s ne e (FrameByte k) h = e.cells k ∙ (elim h [ inl p ↦ p | inr w ↦ absurd (s.no_bytes k w) ])
 set_keeps i dst t a b s ne e FramePointer h = set-elsewhere dst 10 (Num t) a b e ne ∙ (elim h [ inl p ↦ p | inr w ↦ absurd w ])
-set_keeps i dst t a b s ne e (Section inside) h = e.inside ∙ (elim h [ inl p ↦ p | inr w ↦ absurd w ])
+set_keeps i dst t a b s ne e (Section inside) h = e.depth ∙ (elim h [ inl p ↦ p | inr w ↦ absurd w ])
 
 -- a store of a number to the frame keeps facts, and makes its bytes bytes of a number
 byte-there : (b : Bool) (x : CellKind) → (b ≡ true) ⊎ (x ≡ ByteCell) → (if b then ByteCell else x) ≡ ByteCell
@@ -59,7 +59,7 @@ pub store_keeps : (i : Insn) (at width : ℕ) (a b : AbsState) → ((r : ℕ) �
 store_keeps i at width a b no_reg bytes e (RegisterFact r) h = elim h [ inl p ↦ (p.0, e.regs r ∙ p.1) | inr w ↦ absurd (no_reg r w) ]
 store_keeps i at width a b no_reg bytes e (FrameByte k) h = e.cells k ∙ byte-there (is_within at width k) (a.cells k) (elim h [ inl p ↦ inr p | inr w ↦ inl (bytes k w) ])
 store_keeps i at width a b no_reg bytes e FramePointer h = e.regs 10 ∙ (elim h [ inl p ↦ p | inr w ↦ absurd w ])
-store_keeps i at width a b no_reg bytes e (Section inside) h = e.inside ∙ (elim h [ inl p ↦ p | inr w ↦ absurd w ])
+store_keeps i at width a b no_reg bytes e (Section inside) h = e.depth ∙ (elim h [ inl p ↦ p | inr w ↦ absurd w ])
 
 -- a comparison of numbers keeps facts
 names_cases : (src : Operand) (r : ℕ) → Names src r ⊎ (Names src r → ⊥)
@@ -87,7 +87,7 @@ narrow_keeps i dst src o a b no_reg no_byte numbers frame e (RegisterFact r) h =
 narrow_keeps i dst src o a b no_reg no_byte numbers frame e (FrameByte k) h = e.cells k ∙ (elim h [ inl p ↦ p | inr w ↦ absurd (no_byte k w) ])
 narrow_keeps i dst src o a b no_reg no_byte numbers frame e FramePointer h =
     e.others 10 (λ p. let n = numbers 10 p in no-frame n.0 o (a.regs 10) n.1 frame) ∙ (elim h [ inl p ↦ p | inr w ↦ absurd w ])
-narrow_keeps i dst src o a b no_reg no_byte numbers frame e (Section inside) h = e.inside ∙ (elim h [ inl p ↦ p | inr w ↦ absurd w ])
+narrow_keeps i dst src o a b no_reg no_byte numbers frame e (Section inside) h = e.depth ∙ (elim h [ inl p ↦ p | inr w ↦ absurd w ])
 
 -- operands that an operation reads are numbers where the registers it reads are
 pub operand_number : (src : Operand) (a : AbsState) → ((r : ℕ) → Names src r → HasNumber a r) → IsNumberOperand a src

@@ -1,5 +1,5 @@
 -- Parts of guarded lookups and calls that begin or end a section are accepted, and leave what the next part needs.
-use Rattle.std.proofs.Common.{◌≡◌, ℕ, ◌<◌, ◌≤◌, List, length, Option, Some, None, refl, sym, ap, subst, ◌∙◌, inl, inr, arith, ℤ, pos, Bool, true, false}
+use Rattle.std.proofs.Common.{◌≡◌, ℕ, ◌+◌, ◌-◌, ◌<◌, ◌≤◌, List, length, Option, Some, None, refl, sym, ap, subst, ◌∙◌, inl, inr, arith, ℤ, pos, Bool, true, false}
 use Rattle.std.specs.Prelude.{◌⊎◌, if◌then◌else◌, ◌+ℤ◌, slice_get, Result, IsOk}
 use Rattle.std.proofs.lemmas.Bool.{cases_eq, eq-eqb, false≢true}
 use Rattle.typed_runs.specs.Verified.{is_call}
@@ -14,7 +14,7 @@ use Rattle.bpf_model.specs.Call.{helper_of, kernel_function_of}
 use Rattle.bpf_model.specs.declared.call.Helper.TheVariants as helpers
 use Rattle.bpf_model.specs.declared.insn.CallKind.{CallKind}
 use Rattle.bpf_model.specs.declared.insn.CallKind.TheVariants as callee
-use Rattle.effects.proofs.CallLaws.{returned_above}
+use Rattle.effects.proofs.CallLaws.{returned_above, left_same, left_cell_same}
 use Rattle.effects.specs.Calls.{FindsIn, Called, Splits, section_fault, outcome_of}
 use Rattle.register_kinds.specs.declared.fault.InsnFault.{InsnFault}
 use Rattle.std.proofs.lemmas.Option.{slice_get_within}
@@ -33,8 +33,8 @@ use Rattle.bpf_model.specs.declared.opcode.Size.{Size}
 use Rattle.bpf_model.specs.declared.opcode.Size.TheVariants.{Word64}
 use Rattle.bpf_model.specs.PlainMaps.{IsValueLoad, Lookup, LookupPart, FrameCopy, KeyAddress, MapLoad, LookupCall, NullTest, ValueLoad, part_insn, IsFitting}
 use Rattle.scalar_domain.specs.declared.scalar.Scalar.{Scalar}
-use Rattle.typed_runs.specs.Kinds.{Kind, Blank, Num, FrameAt, MapAt, ValueAt, MaybeNull, AbsState}
-use Rattle.typed_runs.specs.Effects.{with_kind, after_call, after_lock, after_unlock, ended_kind, ended_cell, IsWritten, HasBytes}
+use Rattle.typed_runs.specs.Kinds.{Kind, Blank, Num, FrameAt, MapAt, ValueAt, MaybeNull, ByteCell, AbsState}
+use Rattle.typed_runs.specs.Effects.{with_kind, after_call, after_lock, after_unlock, left_kind, left_cell, IsWritten, HasBytes}
 use Rattle.typed_runs.specs.Planned.{AreAlike, origin}
 use Rattle.register_kinds.specs.declared.kind.RegKind.TheVariants as kinds
 use Rattle.register_kinds.specs.declared.state.AbsState.{AbsState as StateHere}
@@ -185,7 +185,7 @@ module _ (op : AluOp) (size : Size) (dst : ℕ) (src : Operand) (a : StateHere) 
           let k = FrameAt (pos FRAME_BYTES) in
           let e = made k h.1 d in record {
             keeps = set_saves 2 k (state_of a) b e (omega arith);
-            inside = e.inside;
+            depth = e.depth;
             prepares = subst (λ p. Prepares l p b) (sym h.0) (key_kept 2 k (state_of a) b e l (written l p (inl h.0) ready.expects), set-there 2 2 k (state_of a) b e refl);
             keeps_taken = tt;
           }
@@ -193,7 +193,7 @@ module _ (op : AluOp) (size : Size) (dst : ℕ) (src : Operand) (a : StateHere) 
           let k = FrameAt (pos l.at) in
           let e = made k h.1 d in record {
             keeps = set_saves 2 k (state_of a) b e (omega arith);
-            inside = e.inside;
+            depth = e.depth;
             prepares = subst (λ p. Prepares l p b) (sym h.0) (key_kept 2 k (state_of a) b e l (written l p (inr h.0) ready.expects), set-there 2 2 k (state_of a) b e refl);
             keeps_taken = tt;
           }
@@ -227,7 +227,7 @@ module _ (dst : ℕ) (map : ℤ) (shapes : List MapShape) (a : AbsState) (R : Ki
           let x : Expects l MapLoad a = subst (λ p. Expects l p a) h ready.expects in
           let before : b.regs 2 ≡ a.regs 2 = set-elsewhere 1 2 k a b e (λ q. absurd (omega (arith, q))) in record {
             keeps = set_saves 1 k a b e (omega arith);
-            inside = e.inside;
+            depth = e.depth;
             prepares = subst (λ p. Prepares l p b) (sym h) (key_kept 1 k a b e l x.0, before ∙ x.1, set-there 1 1 k a b e refl);
             keeps_taken = tt;
           }
@@ -246,9 +246,10 @@ lock_saves a b e FramePointer s h = e.regs 10 ∙ h
 lock_saves a b e (Section inside) s h = absurd s
 
 unlock_saves : (a b : AbsState) → AreAlike (after_unlock a) b → KeepsSaved a b
-unlock_saves a b e (Register r) s h = (h.0, e.regs r ∙ returned_above Blank (λ r. ended_kind (a.regs r)) r s ∙ ap ended_kind h.1)
-unlock_saves a b e (FrameByte k) s h = e.cells k ∙ ap ended_cell h
-unlock_saves a b e FramePointer s h = e.regs 10 ∙ ap ended_kind h
+unlock_saves a b e (Register r) s h =
+    (h.0, e.regs r ∙ returned_above Blank (λ r. left_kind a.depth (a.regs r)) r s ∙ ap (left_kind a.depth) h.1 ∙ left_same a.depth (Num h.0) refl)
+unlock_saves a b e (FrameByte k) s h = e.cells k ∙ ap (left_cell a.depth) h ∙ left_cell_same a.depth ByteCell refl
+unlock_saves a b e FramePointer s h = e.regs 10 ∙ ap (left_kind a.depth) h ∙ left_same a.depth (FrameAt (pos FRAME_BYTES)) refl
 unlock_saves a b e (Section inside) s h = absurd s
 
 key_bytes : (shapes : List MapShape) (l : Lookup) (a : AbsState) → IsFitting shapes l → Expects l LookupCall a → HasBytes a 2 l.shape.key_len
@@ -261,8 +262,8 @@ pub record CallLeaves (kind : CallKind) (imm : ℤ) (a b : StateHere) : Type 0 w
 
 -- the calls that are not refused but for want of memory
 pub record CallAccepts (kind : CallKind) (imm : ℤ) (shapes : List MapShape) (a : StateHere) (result : Result (Unit {0}) InsnFault) : Type 0 where
-  pub kernel : kind ≡ callee.Kernel → result ≡ outcome_of (section_fault kind imm a.inside)
-  pub lookup : (map : ℕ) (shape : MapShape) → kind ≡ callee.Helper → helper_of imm ≡ Some helpers.Lookup → a.inside ≡ true → kind_in a.regs 1 ≡ kinds.Map map
+  pub kernel : kind ≡ callee.Kernel → result ≡ outcome_of (section_fault kind imm a.depth)
+  pub lookup : (map : ℕ) (shape : MapShape) → kind ≡ callee.Helper → helper_of imm ≡ Some helpers.Lookup → 0 < a.depth → kind_in a.regs 1 ≡ kinds.Map map
       → slice_get shapes map ≡ Some shape → HasBytes (state_of a) 2 shape.key_len → IsOk result
 
 module _ (kind : CallKind) (imm : ℤ) (shapes : List MapShape) (a : StateHere) where
@@ -291,13 +292,13 @@ module _ (kind : CallKind) (imm : ℤ) (shapes : List MapShape) (a : StateHere) 
       accepts.lookup l.map l.shape e.1 (lookup_number e.2) ready.inside (called_map l p ready e.0) ready.fitting.in_list (key_bytes shapes l (state_of a) ready.fitting x)
   call_ready result accepts (inr (true, ready)) =
       let e = section_is true ready in
-      let f : result ≡ outcome_of (section_fault callee.Kernel (pos 1) false) = accepts.kernel e.0 ∙ ap (λ k. outcome_of (section_fault k imm a.inside)) e.0
-      ∙ ap (λ z. outcome_of (section_fault callee.Kernel z a.inside)) e.1 ∙ ap (λ t. outcome_of (section_fault callee.Kernel (pos 1) t)) ready.before in
+      let f : result ≡ outcome_of (section_fault callee.Kernel (pos 1) 0) = accepts.kernel e.0 ∙ ap (λ k. outcome_of (section_fault k imm a.depth)) e.0
+      ∙ ap (λ z. outcome_of (section_fault callee.Kernel z a.depth)) e.1 ∙ ap (λ t. outcome_of (section_fault callee.Kernel (pos 1) t)) ready.before in
       subst IsOk (sym f) refl
   call_ready result accepts (inr (false, ready)) =
       let e = section_is false ready in
-      let f : result ≡ outcome_of (section_fault callee.Kernel (pos 2) true) = accepts.kernel e.0 ∙ ap (λ k. outcome_of (section_fault k imm a.inside)) e.0
-      ∙ ap (λ z. outcome_of (section_fault callee.Kernel z a.inside)) e.1 ∙ ap (λ t. outcome_of (section_fault callee.Kernel (pos 2) t)) ready.before in
+      let f : result ≡ outcome_of (section_fault callee.Kernel (pos 2) 1) = accepts.kernel e.0 ∙ ap (λ k. outcome_of (section_fault k imm a.depth)) e.0
+      ∙ ap (λ z. outcome_of (section_fault callee.Kernel z a.depth)) e.1 ∙ ap (λ t. outcome_of (section_fault callee.Kernel (pos 2) t)) ready.before in
       subst IsOk (sym f) refl
 
   pub call_serves : (b : StateHere) → CallLeaves kind imm a b → Serves shapes (Call kind imm) (state_of a) (state_of b) None
@@ -308,7 +309,7 @@ module _ (kind : CallKind) (imm : ℤ) (shapes : List MapShape) (a : StateHere) 
           let e = call_part l p ready in
           let f = done.finds l.map e.1 (lookup_number e.2) (called_map l p ready e.0) in record {
             keeps = call_saves (MaybeNull l.map f.id) (state_of a) (state_of b) f.alike;
-            inside = f.alike.inside;
+            depth = f.alike.depth;
             prepares = subst (λ p. Prepares l p (state_of b)) (sym e.0) (f.id, f.alike.regs 0);
             keeps_taken = tt;
           }
@@ -317,11 +318,11 @@ module _ (kind : CallKind) (imm : ℤ) (shapes : List MapShape) (a : StateHere) 
       ends true ready =
           let e = section_is true ready in
           let f : AreAlike (after_lock (state_of a)) (state_of b) = subst (λ z. Called (kernel_function_of z) (state_of a) (state_of b)) e.1 (done.called e.0) in
-          (lock_saves (state_of a) (state_of b) f, f.inside)
+          (lock_saves (state_of a) (state_of b) f, f.depth ∙ ap (λ n. n + 1) ready.before)
       ends false ready =
           let e = section_is false ready in
           let f : AreAlike (after_unlock (state_of a)) (state_of b) = subst (λ z. Called (kernel_function_of z) (state_of a) (state_of b)) e.1 (done.called e.0) in
-          (unlock_saves (state_of a) (state_of b) f, f.inside)
+          (unlock_saves (state_of a) (state_of b) f, f.depth ∙ ap (λ n. n - 1) ready.before)
 
 -- a test for null
 null_saves : (id : ℕ) (a b : AbsState) → AreAlike (learnt (IsNull id) a) b → KeepsSaved a b
@@ -370,9 +371,9 @@ module _ (condition : Condition) (size : Size) (dst : ℕ) (src : Operand) (offs
           let s = splits l.map id test in
           let k : (state_of a).regs 0 ≡ MaybeNull l.map id = subst (λ r. (state_of a).regs r ≡ MaybeNull l.map id) d (ap kind_of test.kind) in record {
             keeps = there_saves id (state_of a) (state_of b) s.is_there;
-            inside = s.is_there.inside;
+            depth = s.is_there.depth;
             prepares = subst (λ p. Prepares l p (state_of b)) (sym h) (origin, s.is_there.regs 0 ∙ there_here l.map id ((state_of a).regs 0) k, record { least = refl; greatest = refl });
-            keeps_taken = (null_saves id (state_of a) (state_of t) s.is_null, s.is_null.inside);
+            keeps_taken = (null_saves id (state_of a) (state_of t) s.is_null, s.is_null.depth);
           }
 
 -- a load from the value
@@ -417,7 +418,7 @@ module _ (i : Insn) (dst base width : ℕ) (offset : ℤ) (shapes : List MapShap
       leaves l p (h, high, ne, reads) =
           let n = loads l.map ne reads in record {
             keeps = load_saves dst n.0 (state_of a) b high n.1;
-            inside = n.1.inside;
+            depth = n.1.depth;
             prepares = subst (λ p. Prepares l p b) (sym h) tt;
             keeps_taken = tt;
           }

@@ -1,5 +1,5 @@
 -- Steps of instructions that have one state behind them, and of conditional jumps.
-use Rattle.std.proofs.Common.{◌≡◌, ℕ, ◌<◌, ◌≤◌, List, Option, Some, None, refl, sym, ap, subst, ◌∙◌, inl, inr, ℤ, pos, Bool, true, false, Ok}
+use Rattle.std.proofs.Common.{◌≡◌, ℕ, zero, suc, ◌<◌, ◌≤◌, List, Option, Some, None, refl, sym, ap, subst, ◌∙◌, inl, inr, ℤ, pos, Bool, true, false, Ok, arith}
 use Rattle.std.specs.Prelude.{IfSome, if◌then◌else◌}
 use Rattle.std.proofs.lemmas.Bool.{cases_lt}
 use Rattle.std.proofs.lemmas.Option.{none-some, same_Some}
@@ -64,7 +64,7 @@ pub record IsQuiet (i : Insn) : Type 0 where
 
 pub quiet_step : (i : Insn) (shapes : List MapShape) (ctx_len top : ℕ) (a b : AbsState) (f : Flow) → f ≡ single_flow regions.None → IsQuiet i
     → Transfers i shapes ctx_len (state_of a) (state_of b) None → AreBelow top b
-    → (IsReadyInsn i (state_of a) → KeepsFacts i (state_of a) (state_of b)) → Serves shapes i (state_of a) (state_of b) None → KeepsInsnFloor i (state_of a) (state_of b) None → KeepsNumbers i (state_of a) (state_of b) → (LooksUp i → (state_of a).inside ≡ true) → Stepped i shapes ctx_len top a b (Ok f)
+    → (IsReadyInsn i (state_of a) → KeepsFacts i (state_of a) (state_of b)) → Serves shapes i (state_of a) (state_of b) None → KeepsInsnFloor i (state_of a) (state_of b) None → KeepsNumbers i (state_of a) (state_of b) → (LooksUp i → 0 < (state_of a).depth) → Stepped i shapes ctx_len top a b (Ok f)
 quiet_step i shapes ctx_len top a b f e q sound below keeps serves floor others looks_up = subst (λ (f : Flow). Stepped i shapes ctx_len top a b (Ok f)) (sym e) (record {
   done = record {
     transfer = record {
@@ -217,7 +217,7 @@ above_five r n = elim (cases_lt 5 r) [
 ]
 
 -- a lookup that is not refused is made inside a section
-pub inside_here : (kind : CallKind) (imm : ℤ) (inside : Bool) (P : InsnFault → Type 0) → LooksUp (Call kind imm) → IfSome (section_fault kind imm inside) P → ((e : InsnFault) → P e → ⊥) → inside ≡ true
-inside_here callee.Helper imm true P h first none = refl
-inside_here callee.Helper imm false P h first none = absurd (none OutsideSection (subst (λ (o : Option Helper). IfSome (helper_fault o false) P) h first))
-inside_here callee.Kernel imm inside P h first none = absurd h
+pub inside_here : (kind : CallKind) (imm : ℤ) (depth : ℕ) (P : InsnFault → Type 0) → LooksUp (Call kind imm) → IfSome (section_fault kind imm depth) P → ((e : InsnFault) → P e → ⊥) → 0 < depth
+inside_here callee.Helper imm zero P h first none = absurd (none OutsideSection (subst (λ (o : Option Helper). IfSome (helper_fault o 0) P) h first))
+inside_here callee.Helper imm (suc n) P h first none = omega arith
+inside_here callee.Kernel imm depth P h first none = absurd h

@@ -1,6 +1,7 @@
 -- What is known along every path of a plain program: which registers are numbers, which bytes of
--- the frame are written, that r10 is the frame's end, and whether a section is open.
-use Rattle.std.specs.Prelude.{◌≡◌, ℕ, ◌⊎◌, pos, Bool, false}
+-- the frame are written, that r10 is the frame's end, and whether a section is open: in a plain
+-- program sections do not nest.
+use Rattle.std.specs.Prelude.{◌≡◌, ℕ, ◌⊎◌, pos, Bool, false, if◌then◌else◌}
 use Rattle.bpf_model.specs.declared.insn.Insn.{Insn}
 use Rattle.bpf_model.specs.declared.insn.Insn.TheVariants.{Exit}
 use Rattle.bpf_model.specs.declared.limits.TheConstants.{FRAME_BYTES}
@@ -16,11 +17,15 @@ pub data Fact : Type 0 where
   FramePointer : Fact
   Section : (inside : Bool) → Fact
 
+-- how many locks are open inside a section that does not nest, and outside
+abbrev pub depth_of : Bool → ℕ
+depth_of inside = if inside then 1 else 0
+
 abbrev pub FactHolds : Fact → Known → Type 0
 FactHolds (Register r) a = HasNumber a r
 FactHolds (FrameByte k) a = a.cells k ≡ ByteCell
 FactHolds FramePointer a = a.regs 10 ≡ FrameAt (pos FRAME_BYTES)
-FactHolds (Section inside) a = a.inside ≡ inside
+FactHolds (Section inside) a = a.depth ≡ depth_of inside
 
 -- the instruction makes the fact hold
 abbrev pub Makes : Insn → Fact → Type 0

@@ -1,7 +1,7 @@
 -- What is known inside a guarded lookup, from one of its instructions to the next, and of calls
 -- that begin or end a section.
 use Rattle.std.specs.Prelude.{◌≡◌, ℕ, ◌+◌, ◌<◌, ◌≤◌, ◌⊎◌, List, Option, IfSome}
-use Rattle.std.specs.Prelude.{pos, Bool, true, false, if◌then◌else◌}
+use Rattle.std.specs.Prelude.{pos, Bool, if◌then◌else◌}
 use Rattle.bpf_model.specs.declared.limits.TheConstants.{FRAME_BYTES}
 use Rattle.bpf_model.specs.declared.limits.MapShape.{MapShape}
 use Rattle.bpf_model.specs.declared.insn.Insn.{Insn}
@@ -12,6 +12,7 @@ use Rattle.scalar_domain.specs.declared.scalar.Scalar.{Scalar}
 use Rattle.typed_runs.specs.Kinds.{FrameAt, MapAt, ValueAt, MaybeNull, AbsState as Known}
 use Rattle.effects.specs.Accesses.{IsStart}
 use Rattle.state_steps.specs.Facts.{Fact, Register, FrameByte, FramePointer, Section, FactHolds}
+use Rattle.state_steps.specs.Facts.{depth_of}
 
 abbrev pub IsKeyWritten : Lookup → Known → Type 0
 IsKeyWritten l a = (k : ℕ) → l.at ≤ k → k < l.at + l.shape.key_len → FactHolds (FrameByte k) a
@@ -51,16 +52,16 @@ pub record IsReadyPart (shapes : List MapShape) (l : Lookup) (p : LookupPart) (i
   pub insn : i ≡ part_insn l p
   pub fitting : IsFitting shapes l
   pub frame : FactHolds FramePointer a
-  pub inside : a.inside ≡ true
+  pub inside : 0 < a.depth
   pub expects : Expects l p a
 
 -- what a part of a guarded lookup leaves
 pub record LeavesPart (l : Lookup) (p : LookupPart) (a b : Known) (taken : Option Known)
     : Type 0 where
   pub keeps : KeepsSaved a b
-  pub inside : b.inside ≡ a.inside
+  pub depth : b.depth ≡ a.depth
   pub prepares : Prepares l p b
-  pub keeps_taken : IfSome taken (λ t. KeepsSaved a t × (t.inside ≡ a.inside))
+  pub keeps_taken : IfSome taken (λ t. KeepsSaved a t × (t.depth ≡ a.depth))
 
 -- a call that begins a section, or one that ends it
 abbrev pub section_call : Bool → Insn
@@ -69,10 +70,10 @@ section_call opens = if opens then lock_call else unlock_call
 -- a lock outside every section, or an unlock inside one
 pub record IsReadySection (opens : Bool) (i : Insn) (a : Known) : Type 0 where
   pub insn : i ≡ section_call opens
-  pub before : a.inside ≡ (if opens then false else true)
+  pub before : a.depth ≡ (if opens then 0 else 1)
 
 abbrev pub LeavesSection : Bool → Known → Known → Type 0
-LeavesSection opens a b = KeepsSaved a b × (b.inside ≡ opens)
+LeavesSection opens a b = KeepsSaved a b × (b.depth ≡ depth_of opens)
 
 abbrev pub IsReadyWithMaps : List MapShape → Insn → Known → Type 0
 IsReadyWithMaps shapes i a =

@@ -1,5 +1,5 @@
 //! The step of any instruction.
-ghost use Rattle.std.specs.Prelude.{◌≡◌, ℕ, ◌+◌, ◌^◌, ◌<◌, IfOk, OnOk, OnErr, IfSome, IsSome, Some, option_map, true};
+ghost use Rattle.std.specs.Prelude.{◌≡◌, ℕ, ◌+◌, ◌^◌, ◌<◌, IfOk, OnOk, OnErr, IfSome, IsSome, Some, option_map};
 ghost use Rattle.bpf_model.specs.Step.{State};
 ghost use Rattle.typed_runs.specs.Describes.{Scene, Describes};
 ghost use Rattle.typed_runs.specs.Verified.{Transfers};
@@ -60,7 +60,7 @@ pub fn transfer(
         → Describes (state_of state.old) c m → IsComparable insn.now (m.regs r)) }
 
     // A lookup is made inside a section.
-    ensures looks_up { OnOk result (LooksUp insn.now → (state_of state.old).inside ≡ true) }
+    ensures looks_up { OnOk result (LooksUp insn.now → 0 < (state_of state.old).depth) }
 
     // The identities that are taken.
     ensures below { AreBelow ids.new.next state.new }

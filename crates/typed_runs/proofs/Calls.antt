@@ -1,6 +1,8 @@
 -- Calls of a described run.
-use Rattle.std.proofs.Common.{◌≡◌, ℕ, ◌+◌, ◌-◌, ◌<◌, List, Option, Some, None, inl, refl, sym, ap, subst, ◌∙◌, ℤ, arith, true, false}
-use Rattle.std.specs.Prelude.{slice_get}
+use Rattle.std.proofs.Common.{◌≡◌, ◌≢◌, ℕ, ◌+◌, ◌-◌, ◌<◌, List, Option, Some, None, inl, inr, refl, sym, ap, subst, ℤ, arith, Bool, true, ◌∙◌}
+use Rattle.std.specs.Prelude.{slice_get, if◌then◌else◌}
+use Rattle.std.proofs.lemmas.Bool.{ne_eqb}
+use Rattle.std.proofs.lemmas.Bool.Decides.{eqb_tells}
 use Rattle.typed_runs.proofs.Valued.{same-bytes}
 use Rattle.bpf_model.specs.declared.limits.MapShape.{MapShape}
 use Rattle.bpf_model.specs.declared.limits.TheConstants.{MAX_DEPTH}
@@ -24,8 +26,8 @@ use Rattle.bpf_model.specs.Helper.{LooksUp}
 use Rattle.bpf_model.specs.Machine.{Run, section_of, moves, locked, unlocked}
 use Rattle.bpf_model.specs.MachineStep.{KernelStep, HelperStep, LookupStep, found_value, returns, map_argument}
 use Rattle.typed_runs.specs.Kinds.{Kind, Blank, Mixed, Ended, Num, CtxAt, FrameAt, MapAt, ValueAt, MaybeNull, CellKind, BlankCell, MixedCell, EndedCell, ByteCell, PartCell, AbsState}
-use Rattle.typed_runs.specs.Describes.{Scene, scene_of, IsGuarded, Naming, IsNullOrHeld, IsOf, Stored, IsOfCell, Describes, depth_of}
-use Rattle.typed_runs.specs.Effects.{after_call, after_lock, after_unlock, ended_kind, ended_cell, IsFresh, HasMap, HasBytes}
+use Rattle.typed_runs.specs.Describes.{Scene, scene_of, IsGuarded, Naming, IsNullOrHeld, IsOf, Stored, IsOfCell, Describes}
+use Rattle.typed_runs.specs.Effects.{after_call, after_lock, after_unlock, ended_kind, ended_cell, left_kind, left_cell, IsFresh, HasMap, HasBytes}
 use Rattle.typed_runs.specs.Verified.{Leads, Transfers}
 use Rattle.typed_runs.proofs.Kept.{HoldsOn, of-kept, cell-kept}
 use Rattle.typed_runs.proofs.Sets.{returned-of, near-returned, named-described}
@@ -37,23 +39,21 @@ pub falls-to : (i : Insn) (new : AbsState) (taken : Option AbsState) (es : List 
     new_run ≡ moves run next → Leads i new taken place es new_run
 falls-to i new taken es run next place new_run f at d e = subst (λ (r : Run). Leads i new taken place es r) (sym e) (λ going. inl (f, at, d))
 
--- what is known inside a section
-inside-deep : (a : AbsState) (c : Scene) (m : State) → Describes a c m → a.inside ≡ true → c.depth ≡ 1
-inside-deep a c m d e = d.inside ∙ ap depth_of e
+-- a lock: what is held stays held, since the section is the same where one is open
+lock-holds : (es : List Element) (run : Run) → HoldsOn (scene_of es run) (scene_of es (locked run))
+lock-holds es run map n h =
+    let inside : 0 < run.depth = h.inside in
+    let same : section_of (locked run) ≡ section_of run = ap (λ (b : Bool). record { run = run.name; lock = if b then run.locks + 1 else run.locks }) (ne_eqb run.depth 0 (λ e. absurd (omega (arith, inside, e)))) in
+    record { inside = omega (arith, inside); element = h.element; born = h.born; in_map = h.in_map; guarded = subst (IsGuarded h.element.life) (sym same) h.guarded }
 
-outside-deep : (a : AbsState) (c : Scene) (m : State) → Describes a c m → a.inside ≡ false → c.depth ≡ 0
-outside-deep a c m d e = d.inside ∙ ap depth_of e
-
--- a lock: outside every section nothing is held
-lock-described : (a : AbsState) (es : List Element) (run : Run) → a.inside ≡ false → Describes a (scene_of es run) run.state → Describes (after_lock a) (scene_of es (locked run)) (returns Nothing run.state)
-lock-described a es run e d =
+lock-described : (a : AbsState) (es : List Element) (run : Run) → Describes a (scene_of es run) run.state → Describes (after_lock a) (scene_of es (locked run)) (returns Nothing run.state)
+lock-described a es run d =
     let c : Scene = scene_of es run in
     let n : Scene = scene_of es (locked run) in
-    let out : run.depth ≡ 0 = outside-deep a c run.state d e in
-    let k : HoldsOn c n = λ map b h. let inside : 0 < run.depth = h.inside in absurd (omega arith) in record {
+    let k : HoldsOn c n = lock-holds es run in record {
       naming = d.naming;
       stored = d.stored;
-      inside = ap (λ x. x + 1) out;
+      depth = ap (λ x. x + 1) d.depth;
       near = near-returned Nothing run.state tt d.near;
       regs = λ q. returned-of n d.naming q Blank Nothing a.regs run.state tt (of-kept c n k d.naming (a.regs q) (run.state.regs q) (d.regs q));
       cells = λ i. cell-kept c n k d.naming d.stored i (a.cells i) (run.state.frame i) (d.cells i);
@@ -62,22 +62,20 @@ lock-described a es run e d =
 kernel-locks : (imm : ℤ) (run new : Run) → kernel_function_of imm ≡ Some ReadLock → KernelStep (kernel_function_of imm) run new → (run.depth < MAX_DEPTH) × (new ≡ moves (locked run) (returns Nothing run.state))
 kernel-locks imm run new e h = subst (λ f. KernelStep f run new) e h
 
-pub lock_transfers : (imm : ℤ) (shapes : List MapShape) (ctx_len : ℕ) (a : AbsState) → kernel_function_of imm ≡ Some ReadLock → a.inside ≡ false → Transfers (Call kinds.Kernel imm) shapes ctx_len a (after_lock a) None
-lock_transfers imm shapes ctx_len a f out = record {
+pub lock_transfers : (imm : ℤ) (shapes : List MapShape) (ctx_len : ℕ) (a : AbsState) → kernel_function_of imm ≡ Some ReadLock → a.depth < MAX_DEPTH → Transfers (Call kinds.Kernel imm) shapes ctx_len a (after_lock a) None
+lock_transfers imm shapes ctx_len a f few = record {
   goes = λ s opened run w target d.
-      let o : run.depth ≡ 0 = outside-deep a (scene_of s.elements run) run.state d out in
-      let one : MAX_DEPTH ≡ 1 = refl in
-      let room : run.depth < MAX_DEPTH = omega arith in
+      let room : run.depth < MAX_DEPTH = subst (λ n. n < MAX_DEPTH) (sym d.depth) few in
       (Moved, s, moves (locked run) (returns Nothing run.state), (subst (λ g. KernelStep g run (moves (locked run) (returns Nothing run.state))) (sym f) (room, refl), refl, refl));
   leads = λ s opened run answer new_store new_run w target d h.
       let k = kernel-locks imm run new_run f h.0 in (
         same-bytes s new_store h.2 w.bytes,
         subst (λ (x : Store). Leads (Call kinds.Kernel imm) (after_lock a) None run.state.place x.elements new_run) (sym h.2)
-            (falls-to (Call kinds.Kernel imm) (after_lock a) None s.elements (locked run) (returns Nothing run.state) run.state.place new_run refl refl (lock-described a s.elements run out d) k.1),
+            (falls-to (Call kinds.Kernel imm) (after_lock a) None s.elements (locked run) (returns Nothing run.state) run.state.place new_run refl refl (lock-described a s.elements run d) k.1),
       );
 }
 
--- an unlock: nothing that may be an element is known any longer
+-- the outermost unlock: nothing that may be an element is known any longer
 ended-of : (c n : Scene) (ρ : Naming) (k : Kind) (v : Value) → IsOf c ρ k v → IsOf n ρ (ended_kind k) v
 ended-of c n ρ Blank v h = tt
 ended-of c n ρ Mixed v h = tt
@@ -104,23 +102,41 @@ ended-cell c n ρ σ i (PartCell (MapAt map)) x h = h
 ended-cell c n ρ σ i (PartCell (ValueAt map s)) x h = tt
 ended-cell c n ρ σ i (PartCell (MaybeNull map id)) x h = tt
 
-unlock-described : (a : AbsState) (es : List Element) (run : Run) → a.inside ≡ true → Describes a (scene_of es run) run.state → Describes (after_unlock a) (scene_of es (unlocked run)) (returns Nothing run.state)
-unlock-described a es run e d =
+-- an inner unlock: what is held stays held
+unlock-holds : (es : List Element) (run : Run) → 1 < run.depth → HoldsOn (scene_of es run) (scene_of es (unlocked run))
+unlock-holds es run deep map n h = record { inside = omega (arith, deep); element = h.element; born = h.born; in_map = h.in_map; guarded = h.guarded }
+
+module _ (depth : ℕ) (c n : Scene) (k : depth ≢ 1 → HoldsOn c n) (ρ : Naming) where
+  left-of : (kind : Kind) (v : Value) → IsOf c ρ kind v → IsOf n ρ (left_kind depth kind) v
+  left-of kind v h = elim (eqb_tells depth 1) [
+    | inl (e, outermost) ↦ subst (λ b. IsOf n ρ (if b then ended_kind kind else kind) v) (sym e) (ended-of c n ρ kind v h)
+    | inr (e, inner) ↦ subst (λ b. IsOf n ρ (if b then ended_kind kind else kind) v) (sym e) (of-kept c n (k inner) ρ kind v h)
+  ]
+
+  left-cell : (σ : Stored) (i : ℕ) (cell : CellKind) (x : Cell) → IsOfCell c ρ σ i cell x → IsOfCell n ρ σ i (left_cell depth cell) x
+  left-cell σ i cell x h = elim (eqb_tells depth 1) [
+    | inl (e, outermost) ↦ subst (λ b. IsOfCell n ρ σ i (if b then ended_cell cell else cell) x) (sym e) (ended-cell c n ρ σ i cell x h)
+    | inr (e, inner) ↦ subst (λ b. IsOfCell n ρ σ i (if b then ended_cell cell else cell) x) (sym e) (cell-kept c n (k inner) ρ σ i cell x h)
+  ]
+
+unlock-described : (a : AbsState) (es : List Element) (run : Run) → 0 < a.depth → Describes a (scene_of es run) run.state → Describes (after_unlock a) (scene_of es (unlocked run)) (returns Nothing run.state)
+unlock-described a es run into d =
     let c : Scene = scene_of es run in
-    let n : Scene = scene_of es (unlocked run) in record {
+    let n : Scene = scene_of es (unlocked run) in
+    let same : run.depth ≡ a.depth = d.depth in
+    let k : a.depth ≢ 1 → HoldsOn c n = λ inner. unlock-holds es run (omega (arith, into, inner, same)) in record {
       naming = d.naming;
       stored = d.stored;
-      inside = ap (λ x. x - 1) (inside-deep a c run.state d e);
+      depth = ap (λ x. x - 1) d.depth;
       near = near-returned Nothing run.state tt d.near;
-      regs = λ q. returned-of n d.naming q Blank Nothing (λ r. ended_kind (a.regs r)) run.state tt (ended-of c n d.naming (a.regs q) (run.state.regs q) (d.regs q));
-      cells = λ i. ended-cell c n d.naming d.stored i (a.cells i) (run.state.frame i) (d.cells i);
+      regs = λ q. returned-of n d.naming q Blank Nothing (λ r. left_kind a.depth (a.regs r)) run.state tt (left-of a.depth c n k d.naming (a.regs q) (run.state.regs q) (d.regs q));
+      cells = λ i. left-cell a.depth c n k d.naming d.stored i (a.cells i) (run.state.frame i) (d.cells i);
     }
 
-pub unlock_transfers : (imm : ℤ) (shapes : List MapShape) (ctx_len : ℕ) (a : AbsState) → kernel_function_of imm ≡ Some ReadUnlock → a.inside ≡ true → Transfers (Call kinds.Kernel imm) shapes ctx_len a (after_unlock a) None
+pub unlock_transfers : (imm : ℤ) (shapes : List MapShape) (ctx_len : ℕ) (a : AbsState) → kernel_function_of imm ≡ Some ReadUnlock → 0 < a.depth → Transfers (Call kinds.Kernel imm) shapes ctx_len a (after_unlock a) None
 unlock_transfers imm shapes ctx_len a f into = record {
   goes = λ s opened run w target d.
-      let o : run.depth ≡ 1 = inside-deep a (scene_of s.elements run) run.state d into in
-      let deep : 0 < run.depth = omega arith in
+      let deep : 0 < run.depth = subst (λ n. 0 < n) (sym d.depth) into in
       (Moved, s, moves (unlocked run) (returns Nothing run.state), (subst (λ g. KernelStep g run (moves (unlocked run) (returns Nothing run.state))) (sym f) (deep, refl), refl, refl));
   leads = λ s opened run answer new_store new_run w target d h.
       let k : KernelStep (Some ReadUnlock) run new_run = subst (λ g. KernelStep g run new_run) f h.0 in (
@@ -136,15 +152,15 @@ null-or-held es run map number s key None e deep at l = tt
 null-or-held es run map number s key (Some n) e deep at l =
     record { inside = deep; element = l.element; born = l.born; in_map = at ∙ ap Some (sym l.in_map); guarded = subst (λ x. IsGuarded x (section_of run)) (sym l.linked) tt }
 
-lookup-leads : (imm : ℤ) (a : AbsState) (map id : ℕ) (s : Store) (opened : List Section) (run : Run) (ret : Value) (new_run : Run) → a.inside ≡ true → a.regs 1 ≡ MapAt map → IsFresh id a → (d : Describes a (scene_of s.elements run) run.state) →
+lookup-leads : (imm : ℤ) (a : AbsState) (map id : ℕ) (s : Store) (opened : List Section) (run : Run) (ret : Value) (new_run : Run) → 0 < a.depth → a.regs 1 ≡ MapAt map → IsFresh id a → (d : Describes a (scene_of s.elements run) run.state) →
     map_argument run ≡ slice_get run.program.maps map → LookupStep s run ret → new_run ≡ moves run (returns ret run.state) → Leads (Call kinds.Helper imm) (after_call (MaybeNull map id) a) None run.state.place s.elements new_run
 lookup-leads imm a map id s opened run ret new_run into e fresh d listed h same =
-    let o : run.depth ≡ 1 = inside-deep a (scene_of s.elements run) run.state d into in
-    let held : IsNullOrHeld (scene_of s.elements run) map h.found = null-or-held s.elements run map h.map s h.key h.found refl (omega arith) (sym listed ∙ h.map_is) h.looked_up in
+    let deep : 0 < run.depth = subst (λ n. 0 < n) (sym d.depth) into in
+    let held : IsNullOrHeld (scene_of s.elements run) map h.found = null-or-held s.elements run map h.map s h.key h.found refl deep (sym listed ∙ h.map_is) h.looked_up in
     falls-to (Call kinds.Helper imm) (after_call (MaybeNull map id) a) None s.elements run (returns ret run.state) run.state.place new_run refl refl
     (subst (λ v. Describes (after_call (MaybeNull map id) a) (scene_of s.elements run) (returns v run.state)) (sym h.ret_is) (named-described a (scene_of s.elements run) run.state map id h.found fresh d held)) same
 
-pub lookup_transfers : (imm : ℤ) (shapes : List MapShape) (ctx_len : ℕ) (a : AbsState) (map id : ℕ) (shape : MapShape) → helper_of imm ≡ Some helpers.Lookup → a.inside ≡ true → HasMap shapes a map shape → HasBytes a 2 shape.key_len → IsFresh id a →
+pub lookup_transfers : (imm : ℤ) (shapes : List MapShape) (ctx_len : ℕ) (a : AbsState) (map id : ℕ) (shape : MapShape) → helper_of imm ≡ Some helpers.Lookup → 0 < a.depth → HasMap shapes a map shape → HasBytes a 2 shape.key_len → IsFresh id a →
     Transfers (Call kinds.Helper imm) shapes ctx_len a (after_call (MaybeNull map id) a) None
 lookup_transfers imm shapes ctx_len a map id shape f into m key fresh = record {
   goes = λ s opened run w target d.

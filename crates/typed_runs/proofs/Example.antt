@@ -67,7 +67,7 @@ pub bytes-described : (a : AbsState) (c : Scene) (m : State) (at width n place :
 bytes-described a c m at width n place d = record {
   naming = d.naming;
   stored = d.stored;
-  inside = d.inside;
+  depth = d.depth;
   near = near-bytes m at width n d.near;
   regs = d.regs;
   cells = λ k. byte-cell c d.naming d.stored (is_within at width k) k (n / 256 ^ (k - at) % 256) (a.cells k) (m.frame k) (mod_below _ 256 (omega arith)) (d.cells k);
@@ -127,7 +127,7 @@ module _ (any : Scalar) where
   six r = if r == 6 then Num any else Blank
 
   abbrev pub s10 : AbsState
-  s10 = record { regs = six; cells = λ k. BlankCell; inside = true }
+  s10 = record { regs = six; cells = λ k. BlankCell; depth = 1 }
 
   abbrev pub s11 : AbsState
   s11 = after_unlock s10
@@ -199,7 +199,7 @@ module _ (any : Scalar) (all : (n : ℕ) → n < 2 ^ 64 → Holds any n) where
       computes (Alu Move Word64 6 (Immediate (pos 0))) 6 (Num number_zero) (Number 0) (s0 any) c env m refl refl (λ es fs other h. h) (λ e. omega arith) refl d (0, refl, omega arith, zero_holds) tt)
 
   t1 : Transfers (Call Kernel (pos 1)) shapes 0 (s1 any) (s2 any) None
-  t1 = lock_transfers (pos 1) shapes 0 (s1 any) refl refl
+  t1 = lock_transfers (pos 1) shapes 0 (s1 any) refl (omega arith)
 
   t2 : Transfers (Store Four 10 (negsuc 3) (Immediate (pos 0))) shapes 0 (s2 any) (s3 any) None
   t2 = alone_transfers (Store Four 10 (negsuc 3) (Immediate (pos 0))) shapes 0 (s2 any) (s3 any) None refl (λ c env m w target d.
@@ -240,7 +240,7 @@ module _ (any : Scalar) (all : (n : ℕ) → n < 2 ^ 64 → Holds any n) where
   key = record { at = 508; frame = refl; inside = omega arith; bytes = λ k p q. ap (λ b. if b then ByteCell else BlankCell) (within 508 4 k p q) }
 
   t7 : Transfers (Call Helper (pos 1)) shapes 0 (s7 any) (s8 any) None
-  t7 = lookup_transfers (pos 1) shapes 0 (s7 any) 0 0 example_shape refl refl (record { map_is = refl; shape_is = refl }) key fresh
+  t7 = lookup_transfers (pos 1) shapes 0 (s7 any) 0 0 example_shape refl (omega arith) (record { map_is = refl; shape_is = refl }) key fresh
 
   t8 : Transfers (JumpIf Equal Word64 0 (Immediate (pos 0)) (pos 1)) shapes 0 (s8 any) (s9 any) (Some (when_null 0 number_zero (s8 any)))
   t8 = equal_transfers shapes 0 0 (pos 1) 0 0 (s8 any) number_zero origin zero_holds origin_has refl
@@ -249,7 +249,7 @@ module _ (any : Scalar) (all : (n : ℕ) → n < 2 ^ 64 → Holds any n) where
   t9 = load_transfers Eight 6 0 (pos 0) shapes 0 (s9 any) 0 example_shape origin any refl refl placed-origin (λ e. omega arith) (λ n l. all n (omega arith))
 
   t10 : Transfers (Call Kernel (pos 2)) shapes 0 (s10 any) (s11 any) None
-  t10 = unlock_transfers (pos 2) shapes 0 (s10 any) refl refl
+  t10 = unlock_transfers (pos 2) shapes 0 (s10 any) refl (omega arith)
 
   t11 : Transfers (Alu Move Word64 0 (Register 6)) shapes 0 (s11 any) (s12 any) None
   t11 = alone_transfers (Alu Move Word64 0 (Register 6)) shapes 0 (s11 any) (s12 any) None refl (λ c env m w target d.
@@ -263,15 +263,15 @@ module _ (any : Scalar) (all : (n : ℕ) → n < 2 ^ 64 → Holds any n) where
         out = Exits n.0;
         after_is = ap (λ v. number v >>= λ k. Some (Exits k)) n.1;
         alone = λ es fs other h. h;
-        lands = d.inside;
+        lands = d.depth;
       })
 
   -- the two ways to the unlock
-  wide-ten : (a : AbsState) → a.inside ≡ true → ((c : Scene) (m : State) (d : Describes a c m) → IsOf c d.naming (Num any) (m.regs 6)) → Wider a (s10 any)
+  wide-ten : (a : AbsState) → a.depth ≡ 1 → ((c : Scene) (m : State) (d : Describes a c m) → IsOf c d.naming (Num any) (m.regs 6)) → Wider a (s10 any)
   wide-ten a into f c m d = record {
     naming = d.naming;
     stored = d.stored;
-    inside = d.inside ∙ ap (λ x. if x then 1 else 0) into;
+    depth = d.depth ∙ into;
     near = d.near;
     regs = λ r. elim (cases_eq r 6) [
       | inl e ↦ subst (λ b. IsOf c d.naming (if b then Num any else Blank) (m.regs r)) (sym (eq-eqb r 6 e)) (subst (λ q. IsOf c d.naming (Num any) (m.regs q)) (sym e) (f c m d))

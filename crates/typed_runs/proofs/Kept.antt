@@ -79,7 +79,7 @@ pub describes-kept : (c d : Scene) → Keeps c d → (a : AbsState) (m : State) 
 describes-kept c d k a m h = record {
   naming = h.naming;
   stored = h.stored;
-  inside = k.depth ∙ h.inside;
+  depth = k.depth ∙ h.depth;
   near = h.near;
   regs = λ r. of-kept c d k.held h.naming (a.regs r) (m.regs r) (h.regs r);
   cells = λ i. cell-kept c d k.held h.naming h.stored i (a.cells i) (m.frame i) (h.cells i);

@@ -179,7 +179,7 @@ null-described : (id : ℕ) (z : Scalar) (a : AbsState) (c : Scene) (m : State) 
 null-described id z a c m place holds d null = record {
   naming = d.naming;
   stored = d.stored;
-  inside = d.inside;
+  depth = d.depth;
   near = d.near;
   regs = λ r. null-of c d.naming id z holds null (a.regs r) (m.regs r) (d.regs r);
   cells = λ k. null-cells c d.naming id z holds null d.stored k (a.cells k) (m.frame k) (d.cells k);
@@ -189,7 +189,7 @@ there-described : (id n : ℕ) (o : Scalar) (a : AbsState) (c : Scene) (m : Stat
 there-described id n o a c m place at d there = record {
   naming = d.naming;
   stored = d.stored;
-  inside = d.inside;
+  depth = d.depth;
   near = d.near;
   regs = λ r. there-of c d.naming id o at n there (a.regs r) (m.regs r) (d.regs r);
   cells = λ k. there-cells c d.naming id o at n there d.stored k (a.cells k) (m.frame k) (d.cells k);

@@ -25,7 +25,7 @@ use Rattle.std.specs.Int.Bits.{and_self}
 use Rattle.scalar_domain.specs.Constant.{le_self}
 use Rattle.bpf_model.specs.Event.{AllBytes}
 use Rattle.typed_runs.specs.Kinds.{Blank, CtxAt, FrameAt, AbsState}
-use Rattle.typed_runs.specs.Describes.{Scene, scene_of, HasOffset, IsContextAt, IsOf, IsOfCell, AreNear, Describes, depth_of}
+use Rattle.typed_runs.specs.Describes.{Scene, scene_of, HasOffset, IsContextAt, IsOf, IsOfCell, AreNear, Describes}
 use Rattle.typed_runs.specs.Verified.{Plan, Surrounds, JumpsToSlot, Leads, Transfers, IsPlanned, IsPlannedAfter, IsClosed}
 use Rattle.typed_runs.specs.Planned.{origin, number_zero, Wider, AreAlike, Joins, entry_state, Covers, IsCovered, IsPlanKept}
 use Rattle.typed_runs.proofs.Sets.{choice-of, near-set, widened}
@@ -40,7 +40,7 @@ pub alike_wider : (a b : AbsState) → AreAlike a b → Wider a b
 alike_wider a b e c m d = record {
   naming = d.naming;
   stored = d.stored;
-  inside = d.inside ∙ ap depth_of (sym e.inside);
+  depth = d.depth ∙ sym e.depth;
   near = d.near;
   regs = λ r. subst (λ k. IsOf c d.naming k (m.regs r)) (sym (e.regs r)) (d.regs r);
   cells = λ k. subst (λ x. IsOfCell c d.naming d.stored k x (m.frame k)) (sym (e.cells k)) (d.cells k);
@@ -85,7 +85,7 @@ pub entry_described : (c : Scene) → c.depth ≡ 0 → Describes entry_state c 
 entry_described c out = record {
   naming = λ id. None;
   stored = λ k. Nothing;
-  inside = out;
+  depth = out;
   near = entry-near;
   regs = λ r. choice-of c (λ id. None) (r == 1) (CtxAt origin) (if r == 10 then FrameAt (pos FRAME_BYTES) else Blank) (Pointer (Ctx (pos 0))) (if r == 10 then Pointer (Frame (pos FRAME_BYTES)) else Nothing) context-start
       (choice-of c (λ id. None) (r == 10) (FrameAt (pos FRAME_BYTES)) Blank (Pointer (Frame (pos FRAME_BYTES))) Nothing refl tt);

@@ -40,20 +40,20 @@ pub set-described : (a : AbsState) (c : Scene) (m : State) (r place : ℕ) (k : 
 set-described a c m r place k v d p n = record {
   naming = d.naming;
   stored = d.stored;
-  inside = d.inside;
+  depth = d.depth;
   near = near-set r v m.regs m.frame n d.near;
   regs = λ q. set-of c d.naming r q k v a.regs m.regs p (d.regs q);
   cells = d.cells;
 }
 
 pub placed-described : (a : AbsState) (c : Scene) (m : State) (place : ℕ) → Describes a c m → Describes a c (record { regs = m.regs; frame = m.frame; place = place })
-placed-described a c m place d = record { naming = d.naming; stored = d.stored; inside = d.inside; near = d.near; regs = d.regs; cells = d.cells }
+placed-described a c m place d = record { naming = d.naming; stored = d.stored; depth = d.depth; near = d.near; regs = d.regs; cells = d.cells }
 
 pub returned-described : (a : AbsState) (c : Scene) (m : State) (k : Kind) (v : Value) (d : Describes a c m) → IsOf c d.naming k v → IsNear v → Describes (after_call k a) c (returns v m)
 returned-described a c m k v d p n = record {
   naming = d.naming;
   stored = d.stored;
-  inside = d.inside;
+  depth = d.depth;
   near = near-returned v m n d.near;
   regs = λ q. returned-of c d.naming q k v a.regs m p (d.regs q);
   cells = d.cells;
@@ -90,7 +90,7 @@ pub named-described : (a : AbsState) (c : Scene) (m : State) (map id : ℕ) (o :
 named-described a c m map id o fresh d held = record {
   naming = put id o d.naming;
   stored = d.stored;
-  inside = d.inside;
+  depth = d.depth;
   near = near-returned (found_value o) m (near-found o) d.near;
   regs = λ q. returned-of c (put id o d.naming) q (MaybeNull map id) (found_value o) a.regs m
       (subst (λ (x : Option ℕ). (found_value o ≡ found_value x) × IsNullOrHeld c map x) (sym (named-here c d.naming id o)) (refl, held))
@@ -125,23 +125,23 @@ pub widened : (left : ℕ → ℕ) (a b : AbsState) (c : Scene) (m : State) → 
 widened left a b c m w d = record {
   naming = λ j. d.naming (left j);
   stored = d.stored;
-  inside = d.inside ∙ ap (λ x. if x then 1 else 0) (sym w.inside);
+  depth = d.depth ∙ sym w.depth;
   near = d.near;
   regs = λ r. wider-of c d.naming left (a.regs r) (b.regs r) (m.regs r) (w.regs r) (d.regs r);
   cells = λ k. wider-cell c d.naming left d.stored k (a.cells k) (b.cells k) (m.frame k) (w.cells k) (d.cells k);
 }
 
 -- outside every section nothing is known to be an element
-pub none_outside : (a : AbsState) (c : Scene) (m : State) (r map : ℕ) (s : Scalar) → Describes a c m → a.inside ≡ false → a.regs r ≡ ValueAt map s → ⊥
+pub none_outside : (a : AbsState) (c : Scene) (m : State) (r map : ℕ) (s : Scalar) → Describes a c m → a.depth ≡ 0 → a.regs r ≡ ValueAt map s → ⊥
 none_outside a c m r map s d out e =
     let h : IsElementOf c map s (m.regs r) = subst (λ k. IsOf c d.naming k (m.regs r)) e (d.regs r) in
     let inside : 0 < c.depth = h.held.inside in
-    let deep : c.depth ≡ 0 = d.inside ∙ ap (λ b. if b then 1 else 0) out in
+    let deep : c.depth ≡ 0 = d.depth ∙ out in
     absurd (omega arith)
 
-pub no_cell_outside : (a : AbsState) (c : Scene) (m : State) (k map : ℕ) (s : Scalar) → Describes a c m → a.inside ≡ false → a.cells k ≡ PartCell (ValueAt map s) → ⊥
+pub no_cell_outside : (a : AbsState) (c : Scene) (m : State) (k map : ℕ) (s : Scalar) → Describes a c m → a.depth ≡ 0 → a.cells k ≡ PartCell (ValueAt map s) → ⊥
 no_cell_outside a c m k map s d out e =
     let h : IsOfCell c d.naming d.stored k (PartCell (ValueAt map s)) (m.frame k) = subst (λ x. IsOfCell c d.naming d.stored k x (m.frame k)) e (d.cells k) in
     let inside : 0 < c.depth = h.1.held.inside in
-    let deep : c.depth ≡ 0 = d.inside ∙ ap (λ b. if b then 1 else 0) out in
+    let deep : c.depth ≡ 0 = d.depth ∙ out in
     absurd (omega arith)

@@ -133,7 +133,7 @@ spilled-described : (a : AbsState) (c : Scene) (m : State) (at place : ℕ) (kin
 spilled-described a c m at place kind v e d p n = record {
   naming = d.naming;
   stored = put (at / 8) v d.stored;
-  inside = d.inside;
+  depth = d.depth;
   near = near-spilled at v m n d.near;
   regs = d.regs;
   cells = λ k. spilled-cell c d.naming d.stored at v kind k (a.cells k) (m.frame k) p (in-group at k e) (d.cells k);

@@ -1,6 +1,6 @@
 -- What an abstract state says of a run among the elements.
 use Rattle.std.specs.Prelude.{◌≡◌, ℕ, ◌/◌, ◌%◌, ◌^◌, ◌<◌, ◌≤◌, List, Option, Some, None, slice_get}
-use Rattle.std.specs.Prelude.{Bool, ℤ, pos, ◌+ℤ◌, if◌then◌else◌}
+use Rattle.std.specs.Prelude.{ℤ, pos, ◌+ℤ◌}
 use Rattle.bpf_model.specs.declared.value.Value.{Value}
 use Rattle.bpf_model.specs.declared.value.Value.TheVariants.{Nothing, Number, Pointer}
 use Rattle.bpf_model.specs.declared.value.Reference.TheVariants.{Ctx, Frame, MapRef, Elem}
@@ -106,9 +106,6 @@ IsOfCell c ρ σ k EndedCell x = Unit {0}
 IsOfCell c ρ σ k ByteCell x = (b : ℕ) × (x ≡ Byte b) × (b < 256)
 IsOfCell c ρ σ k (PartCell kind) x = (x ≡ part_of (k % 8) (σ (k / 8))) × IsOf c ρ kind (σ (k / 8))
 
-abbrev pub depth_of : Bool → ℕ
-depth_of inside = if inside then 1 else 0
-
 -- All references are near, in registers and as parts in cells: those that may be of no known kind
 -- too.
 pub record AreNear (regs : ℕ → Value) (frame : ℕ → Cell) : Type 0 where
@@ -119,7 +116,7 @@ pub record AreNear (regs : ℕ → Value) (frame : ℕ → Cell) : Type 0 where
 pub record Describes (a : AbsState) (c : Scene) (m : State) : Type 0 where
   pub naming : Naming
   pub stored : Stored
-  pub inside : c.depth ≡ depth_of a.inside
+  pub depth : c.depth ≡ a.depth
   pub near : AreNear m.regs m.frame
   pub regs : (r : ℕ) → IsOf c naming (a.regs r) (m.regs r)
   pub cells : (k : ℕ) → IsOfCell c naming stored k (a.cells k) (m.frame k)

@@ -1,5 +1,5 @@
 -- What the instructions that concern maps do to an abstract state.
-use Rattle.std.specs.Prelude.{◌≡◌, ℕ, ◌+◌, ◌==◌, ◌<◌, ◌≤◌, nat_le, true, false, List, slice_get}
+use Rattle.std.specs.Prelude.{◌≡◌, ℕ, ◌+◌, ◌-◌, ◌==◌, ◌<◌, ◌≤◌, nat_le, List, slice_get}
 use Rattle.std.specs.Prelude.{Some, ℤ, pos, ◌+ℤ◌, if◌then◌else◌}
 use Rattle.bpf_model.specs.declared.limits.TheConstants.{FRAME_BYTES}
 use Rattle.bpf_model.specs.declared.limits.MapShape.{MapShape}
@@ -17,16 +17,16 @@ use Rattle.typed_runs.specs.Describes.{HasOffset}
 
 -- a register is set
 abbrev pub with_kind : ℕ → Kind → AbsState → AbsState
-with_kind r kind a = record { regs = put r kind a.regs; cells = a.cells; inside = a.inside }
+with_kind r kind a = record { regs = put r kind a.regs; cells = a.cells; depth = a.depth }
 
 -- the registers after a call: r0 has the result's kind, and r1 to r5 may be unwritten
 abbrev pub returned_kind : Kind → (ℕ → Kind) → ℕ → Kind
 returned_kind kind regs r = if r == 0 then kind else if nat_le r 5 then Blank else regs r
 
 abbrev pub after_call : Kind → AbsState → AbsState
-after_call kind a = record { regs = returned_kind kind a.regs; cells = a.cells; inside = a.inside }
+after_call kind a = record { regs = returned_kind kind a.regs; cells = a.cells; depth = a.depth }
 
--- an unlock ends all that may be an element
+-- the end of a section ends all that may be an element
 abbrev pub ended_kind : Kind → Kind
 ended_kind (ValueAt map s) = Ended
 ended_kind (MaybeNull map id) = Ended
@@ -37,14 +37,25 @@ ended_cell (PartCell (ValueAt map s)) = EndedCell
 ended_cell (PartCell (MaybeNull map id)) = EndedCell
 ended_cell cell = cell
 
+-- An unlock at this depth leaves what is known, or ends the section where it is the outermost.
+abbrev pub left_kind : ℕ → Kind → Kind
+left_kind depth kind = if depth == 1 then ended_kind kind else kind
+
+abbrev pub left_cell : ℕ → CellKind → CellKind
+left_cell depth cell = if depth == 1 then ended_cell cell else cell
+
 abbrev pub after_lock : AbsState → AbsState
-after_lock a = record { regs = returned_kind Blank a.regs; cells = a.cells; inside = true }
+after_lock a = record {
+  regs = returned_kind Blank a.regs;
+  cells = a.cells;
+  depth = a.depth + 1;
+}
 
 abbrev pub after_unlock : AbsState → AbsState
 after_unlock a = record {
-  regs = returned_kind Blank (λ r. ended_kind (a.regs r));
-  cells = λ k. ended_cell (a.cells k);
-  inside = false;
+  regs = returned_kind Blank (λ r. left_kind a.depth (a.regs r));
+  cells = λ k. left_cell a.depth (a.cells k);
+  depth = a.depth - 1;
 }
 
 -- the kind, or that of which a cell is part, has not this identity
@@ -83,14 +94,14 @@ abbrev pub when_null : ℕ → Scalar → AbsState → AbsState
 when_null id zero a = record {
   regs = λ r. null_kind id zero (a.regs r);
   cells = λ k. null_cell id (a.cells k);
-  inside = a.inside;
+  depth = a.depth;
 }
 
 abbrev pub when_there : ℕ → Scalar → AbsState → AbsState
 when_there id origin a = record {
   regs = λ r. there_kind id origin (a.regs r);
   cells = λ k. there_cell id origin (a.cells k);
-  inside = a.inside;
+  depth = a.depth;
 }
 
 -- a store to the frame: bytes, or a value of a kind at a group
@@ -98,7 +109,7 @@ abbrev pub with_cells : ℕ → ℕ → CellKind → AbsState → AbsState
 with_cells at width cell a = record {
   regs = a.regs;
   cells = λ k. if is_within at width k then cell else a.cells k;
-  inside = a.inside;
+  depth = a.depth;
 }
 
 -- each access of the width, at one of the offsets, lies in a region of that length
@@ -132,7 +143,7 @@ IsWiderCell left cell other = ⊥
 pub record IsWider (left : ℕ → ℕ) (a b : AbsState) : Type 0 where
   pub regs : (r : ℕ) → IsWiderKind left (a.regs r) (b.regs r)
   pub cells : (k : ℕ) → IsWiderCell left (a.cells k) (b.cells k)
-  pub inside : b.inside ≡ a.inside
+  pub depth : b.depth ≡ a.depth
 
 -- What a call asks for: a map in r1, so many bytes of the frame by a register.
 pub record HasMap (shapes : List MapShape) (a : AbsState) (map : ℕ) (shape : MapShape)

@@ -22,7 +22,7 @@ Wider a b = (c : Scene) (m : State) → Describes a c m → Describes b c m
 pub record AreAlike (a b : AbsState) : Type 0 where
   pub regs : (r : ℕ) → b.regs r ≡ a.regs r
   pub cells : (k : ℕ) → b.cells k ≡ a.cells k
-  pub inside : b.inside ≡ a.inside
+  pub depth : b.depth ≡ a.depth
 
 -- A join: each identity of the joined state stands for a pair, one identity of either side. An old
 -- one may stand for itself and itself; for each pair of different ones that meets the join takes a
@@ -44,7 +44,7 @@ abbrev pub entry_kind : ℕ → Kind
 entry_kind r = if r == 1 then CtxAt origin else if r == 10 then FrameAt (pos FRAME_BYTES) else Blank
 
 abbrev pub entry_state : AbsState
-entry_state = record { regs = entry_kind; cells = λ k. BlankCell; inside = false }
+entry_state = record { regs = entry_kind; cells = λ k. BlankCell; depth = 0 }
 
 -- the plan has a wider state at the index
 abbrev pub Covers : Plan → ℕ → AbsState → Type 0

@@ -8,8 +8,8 @@
 //! the law. The contracts of the verifier and of the world cite these definitions, and stand on these laws.
 #![tactic(auto)]
 
-ghost use Rattle.std.specs.Prelude.{◌≡◌, ℕ, ◌+◌, ◌^◌, ◌<◌, List, [], ◌∷◌, Option, Some, None, slice_get, unwrap_or, ℤ, pos, ◌+ℤ◌, true, false};
-ghost use Rattle.bpf_model.specs.declared.limits.TheConstants.{FRAME_BYTES};
+ghost use Rattle.std.specs.Prelude.{◌≡◌, ℕ, ◌+◌, ◌^◌, ◌<◌, List, [], ◌∷◌, Option, Some, None, slice_get, unwrap_or, ℤ, pos, ◌+ℤ◌, false};
+ghost use Rattle.bpf_model.specs.declared.limits.TheConstants.{FRAME_BYTES, MAX_DEPTH};
 ghost use Rattle.bpf_model.specs.declared.limits.MapShape.{MapShape};
 ghost use Rattle.bpf_model.specs.declared.insn.Insn.{Insn};
 ghost use Rattle.bpf_model.specs.declared.insn.Operand.{Operand};
@@ -90,24 +90,25 @@ pub fn transfers_wider()
         → Transfers i shapes ctx_len before new taken → Transfers i shapes ctx_len old other also }
 {}
 
-/// A lock outside every section transfers: the run is inside one after it.
+/// A lock transfers where fewer than `MAX_DEPTH` are open: one more is after it.
 pub fn lock_transfers()
     ensures { (imm : ℤ) (shapes : List MapShape) (ctx_len : ℕ) (a : AbsState)
-        → kernel_function_of imm ≡ Some KernelFunction.ReadLock → a.inside ≡ false
+        → kernel_function_of imm ≡ Some KernelFunction.ReadLock → a.depth < MAX_DEPTH
         → Transfers (Insn.Call CallKind.Kernel imm) shapes ctx_len a (after_lock a) None }
 {}
 
-/// An unlock inside a section transfers: it ends all that may be an element, in registers and in cells.
+/// An unlock inside a section transfers: the outermost ends all that may be an element, in registers and in
+/// cells.
 pub fn unlock_transfers()
     ensures { (imm : ℤ) (shapes : List MapShape) (ctx_len : ℕ) (a : AbsState)
-        → kernel_function_of imm ≡ Some KernelFunction.ReadUnlock → a.inside ≡ true
+        → kernel_function_of imm ≡ Some KernelFunction.ReadUnlock → 0 < a.depth
         → Transfers (Insn.Call CallKind.Kernel imm) shapes ctx_len a (after_unlock a) None }
 {}
 
 /// A lookup inside a section transfers: r0 may be null after it, with an identity that nothing had.
 pub fn lookup_transfers()
     ensures { (imm : ℤ) (shapes : List MapShape) (ctx_len : ℕ) (a : AbsState) (map id : ℕ)
-        (shape : MapShape) → helper_of imm ≡ Some Helper.Lookup → a.inside ≡ true
+        (shape : MapShape) → helper_of imm ≡ Some Helper.Lookup → 0 < a.depth
         → HasMap shapes a map shape → HasBytes a 2 shape.key_len → IsFresh id a
         → Transfers (Insn.Call CallKind.Helper imm) shapes ctx_len a
         (after_call (MaybeNull map id) a) None }
@@ -310,11 +311,11 @@ pub fn lookup_never_stuck()
 /// Outside every section no register is known to be an element.
 pub fn none_outside()
     ensures { (a : AbsState) (c : Scene) (m : State) (r map : ℕ) (s : Scalar) → Describes a c m
-        → a.inside ≡ false → a.regs r ≡ ValueAt map s → ⊥ }
+        → a.depth ≡ 0 → a.regs r ≡ ValueAt map s → ⊥ }
 {}
 
 /// Outside a section no part of what was stored in the frame is that of an element's address.
 pub fn no_cell_outside()
     ensures { (a : AbsState) (c : Scene) (m : State) (k map : ℕ) (s : Scalar) → Describes a c m
-        → a.inside ≡ false → a.cells k ≡ PartCell (ValueAt map s) → ⊥ }
+        → a.depth ≡ 0 → a.cells k ≡ PartCell (ValueAt map s) → ⊥ }
 {}

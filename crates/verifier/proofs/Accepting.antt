@@ -26,7 +26,7 @@ use Rattle.register_kinds.specs.Joined.{IsJoinedKind, IsJoinedCell, AreJoined}
 use Rattle.register_kinds.specs.declared.fault.InsnFault.{InsnFault}
 use Rattle.register_kinds.specs.declared.fault.InsnFault.TheVariants as faults
 use Rattle.effects.specs.declared.region.Region.{Region}
-use Rattle.state_steps.specs.Facts.{Fact, Register, FrameByte, FramePointer, Section, FactHolds, Makes, IsReadyInsn, KeepsFacts}
+use Rattle.state_steps.specs.Facts.{Fact, Register, FrameByte, FramePointer, Section, FactHolds, depth_of, Makes, IsReadyInsn, KeepsFacts}
 use Rattle.state_steps.specs.Lookups.{IsKeyWritten, Expects, KeepsSaved, IsReadyPart, LeavesPart, IsReadySection, LeavesSection, IsReadyWithMaps, section_call}
 use Rattle.verifier.specs.declared.refusal.ProgramRefusal.{ProgramRefusal}
 use Rattle.verifier.specs.declared.refusal.ProgramRefusal.TheVariants.{Memory}
@@ -39,7 +39,7 @@ use Rattle.verifier.proofs.Lookups.{part_or_not, part_of_slot, part_no_byte, par
 use Rattle.verifier.proofs.Plans.{falls_inside}
 
 -- what both states know the joined one knows
-pub joined_facts : (a b c : model.AbsState) → AreJoined a b c → c.inside ≡ a.inside → (fact : Fact) → FactHolds fact a → FactHolds fact b → FactHolds fact c
+pub joined_facts : (a b c : model.AbsState) → AreJoined a b c → c.depth ≡ a.depth → (fact : Fact) → FactHolds fact a → FactHolds fact b → FactHolds fact c
 joined_facts a b c joined inside (Register r) p q =
     let j : IsJoinedKind (model.Num p.0) (model.Num q.0) (c.regs r) = subst (λ x. IsJoinedKind (model.Num p.0) x (c.regs r)) q.1 (subst (λ x. IsJoinedKind x (b.regs r) (c.regs r)) p.1 (joined.regs r)) in
     (j.0, j.1)
@@ -161,19 +161,18 @@ stands program shapes plain slot i h = elim (part_or_not program shapes plain sl
     by away (inr (inr (inl e))) = inl (false, e)
     by away (inr (inr (inr simple))) = inr simple
 
--- a state is inside a section as some path is
-section_here : (program : List Insn) (shapes : List MapShape) (k s : ℕ) (a : AbsState) → StartsAt program k s → Knows program shapes k a → InSection program a.inside s
-section_here program shapes k s a there knows = by a.inside refl
-  where
-    by : (b : Bool) → a.inside ≡ b → InSection program a.inside s
-    by true e = elim (knows (Section false)) [
-      | inl h ↦ absurd (let f : true ≡ false = sym e ∙ h in cc)
-      | inr w ↦ subst (λ b. InSection program b s) (sym e) (w s there)
-    ]
-    by false e = elim (knows (Section true)) [
-      | inl h ↦ absurd (let f : false ≡ true = sym e ∙ h in cc)
-      | inr w ↦ subst (λ b. InSection program b s) (sym e) (w s there)
-    ]
+-- a state of a plain program is as deep as some path is: outside, or in a section that does not nest
+section_here : (program : List Insn) (shapes : List MapShape) → IsPlainWithMaps program shapes → (k s : ℕ) (a : AbsState) → StartsAt program k s → Knows program shapes k a → (b : Bool) × (a.depth ≡ depth_of b) × InSection program b s
+section_here program shapes plain k s a there knows = elim (knows (Section false)) [
+  | inl outside ↦ elim (knows (Section true)) [
+    | inl deep ↦ absurd (let o : a.depth ≡ 0 = outside in let d : a.depth ≡ 1 = deep in omega (arith, o, d))
+    | inr w ↦ (false, outside, w s there)
+  ]
+  | inr w ↦ elim (knows (Section true)) [
+    | inl deep ↦ (true, deep, w s there)
+    | inr u ↦ absurd (plain.settled s (w s there) (u s there))
+  ]
+]
 
 -- all paths to a slot of a plain program agree in it
 one_section : (program : List Insn) (shapes : List MapShape) → IsPlainWithMaps program shapes → (s : ℕ) (x y : Bool) → InSection program x s → InSection program y s → x ≡ y
@@ -219,7 +218,7 @@ module _ (program : List Insn) (shapes : List MapShape) (plain : IsPlainWithMaps
     keeps_section : (i ≡ lock_call → ⊥) × (i ≡ unlock_call → ⊥)
     keeps_section = let p = part_keeps program shapes start l q in ((λ e. p.0 (sym is ∙ e)), (λ e. p.1 (sym is ∙ e)))
 
-    pub part_facts : KeepsSaved (state_of a) (state_of b) → b.inside ≡ a.inside → Knows program shapes m b
+    pub part_facts : KeepsSaved (state_of a) (state_of b) → b.depth ≡ a.depth → Knows program shapes m b
     part_facts keeps inside (Register r) = elim (cases_lt 5 r) [
       | inl high ↦ elim (knows (Register r)) [
         | inl holds ↦ inl (keeps (Register r) high holds)
@@ -248,9 +247,12 @@ module _ (program : List Insn) (shapes : List MapShape) (plain : IsPlainWithMaps
     section_to : (t : ℕ) (now : Bool) → GoesTo i s t → now ≡ opens → InSection program now t
     section_to t now g e = by opens is e
       where
+        before : (b : Bool) × (a.depth ≡ depth_of b) × InSection program b s
+        before = section_here program shapes plain k s a there knows
+
         by : (o : Bool) → i ≡ section_call o → now ≡ o → InSection program now t
-        by true f e = subst (λ v. InSection program v t) (sym e) (section_lock a.inside s t (section_here program shapes k s a there knows) (here ∙ ap Some f) (subst (λ i. GoesTo i s t) f g))
-        by false f e = subst (λ v. InSection program v t) (sym e) (section_unlock a.inside s t (section_here program shapes k s a there knows) (here ∙ ap Some f) (subst (λ i. GoesTo i s t) f g))
+        by true f e = subst (λ v. InSection program v t) (sym e) (section_lock before.0 s t before.2 (here ∙ ap Some f) (subst (λ i. GoesTo i s t) f g))
+        by false f e = subst (λ v. InSection program v t) (sym e) (section_unlock before.0 s t before.2 (here ∙ ap Some f) (subst (λ i. GoesTo i s t) f g))
 
     pub section_facts : LeavesSection opens (state_of a) (state_of b) → Knows program shapes m b
     section_facts left (Register r) = elim (cases_lt 5 r) [
@@ -273,8 +275,8 @@ module _ (program : List Insn) (shapes : List MapShape) (plain : IsPlainWithMaps
     ]
     section_facts left (Section v) = by v opens left.1 (λ t at e. section_to t (if v then false else true) (goes t at) e)
       where
-        by : (v o : Bool) → b.inside ≡ o → ((t : ℕ) → StartsAt program m t → (if v then false else true) ≡ o → InSection program (if v then false else true) t)
-            → (b.inside ≡ v) ⊎ ((t : ℕ) → StartsAt program m t → InSection program (if v then false else true) t)
+        by : (v o : Bool) → b.depth ≡ depth_of o → ((t : ℕ) → StartsAt program m t → (if v then false else true) ≡ o → InSection program (if v then false else true) t)
+            → (b.depth ≡ depth_of v) ⊎ ((t : ℕ) → StartsAt program m t → InSection program (if v then false else true) t)
         by true true e to = inl e
         by true false e to = inr (λ t at. to t at refl)
         by false true e to = inr (λ t at. to t at refl)
@@ -287,7 +289,7 @@ part_ready program shapes plain k s i a there known start l q at_part is = recor
   insn = is;
   fitting = l.fitting;
   frame = elim (known.facts FramePointer) [ inl h ↦ h | inr w ↦ absurd (w s there) ];
-  inside = elim (known.facts (Section true)) [ inl h ↦ h | inr w ↦ absurd (plain.lookup_inside s (subst (IsLookupPart program shapes) (sym at_part) (part_at program shapes start l q)) (w s there)) ];
+  inside = elim (known.facts (Section true)) [ inl h ↦ (let d : a.depth ≡ 1 = h in omega (arith, d)) | inr w ↦ absurd (plain.lookup_inside s (subst (IsLookupPart program shapes) (sym at_part) (part_at program shapes start l q)) (w s there)) ];
   expects = by q at_part;
 }
   where
@@ -362,7 +364,7 @@ can_accept program shapes k at plain known = record {
 }
 
 -- states of plain programs don't differ in their sections
-no_conflict : (w : Waiting) (state : AbsState) → w ≢ Differing → ((a : AbsState) → state_in w ≡ Some a → a.inside ≡ state.inside) → IsConflict w state → ⊥
+no_conflict : (w : Waiting) (state : AbsState) → w ≢ Differing → ((a : AbsState) → state_in w ≡ Some a → a.depth ≡ state.depth) → IsConflict w state → ⊥
 no_conflict Nothing state n same c = c
 no_conflict (Known b) state n same c = c (same b.value refl)
 no_conflict Differing state n same c = n refl
@@ -374,8 +376,11 @@ merged_known program shapes plain k at state old new merged ahead inside known b
     slot : (p : ℕ) × StartsAt program at p
     slot = let i = get-below program at inside in start_of-insn 0 program at i.0 i.1
 
-    same : (a : AbsState) → state_in (old at) ≡ Some a → a.inside ≡ state.inside
-    same a e = one_section program shapes plain slot.0 a.inside state.inside (section_here program shapes at slot.0 a slot.1 (before.knows at a ahead e).facts) (section_here program shapes at slot.0 state slot.1 known.facts)
+    same : (a : AbsState) → state_in (old at) ≡ Some a → a.depth ≡ state.depth
+    same a e =
+        let x = section_here program shapes plain at slot.0 a slot.1 (before.knows at a ahead e).facts in
+        let y = section_here program shapes plain at slot.0 state slot.1 known.facts in
+        x.1 ∙ ap depth_of (one_section program shapes plain slot.0 x.0 y.0 x.2 y.2) ∙ sym y.1
 
     paired : (m : ℕ) → k ≤ m → new m ≢ Differing
     paired m h = elim (cases_eq m at) [
@@ -454,7 +459,7 @@ module _ (program : List Insn) (targets : List (Option ℕ)) (long : length targ
     ordinary_to b away simple keeps = ordinary_facts program shapes plain k m s.0 done.insn done.state b s.1 at (λ t there. goes_on m t follows there) here.facts away simple keeps
 
     part_to : (b : AbsState) (start : ℕ) (l : IsGuardedLookup program shapes start) (q : LookupPart) → s.0 ≡ start + part_slot q → done.insn ≡ part_insn l.lookup q
-        → KeepsSaved (state_of done.state) (state_of b) → b.inside ≡ done.state.inside → Knows program shapes m b
+        → KeepsSaved (state_of done.state) (state_of b) → b.depth ≡ done.state.depth → Knows program shapes m b
     part_to b start l q at_part is keeps inside = part_facts program shapes plain k m s.0 done.insn done.state b s.1 at (λ t there. goes_on m t follows there) here.facts start l q at_part is keeps inside
 
     section_to_next : (b : AbsState) → (IsLookupPart program shapes s.0 → ⊥) → (opens : Bool) → done.insn ≡ section_call opens → LeavesSection opens (state_of done.state) (state_of b) → Knows program shapes m b
@@ -472,7 +477,7 @@ module _ (program : List Insn) (targets : List (Option ℕ)) (long : length targ
   next_facts follows (inl part) =
       let q = part_of_slot program shapes part.0 part.1 s.0 done.insn at part.2 part.3 in
       let left = leaves part.0 part.1 q.0 q.1 q.2 in
-      part_to (suc k) follows done.spreads.next part.0 part.1 q.0 q.1 q.2 left.keeps left.inside
+      part_to (suc k) follows done.spreads.next part.0 part.1 q.0 q.1 q.2 left.keeps left.depth
   next_facts follows (inr (away, inl c)) =
       section_to_next (suc k) follows done.spreads.next away c.0 c.1 (done.spreads.transfer.serves.section c.0 (section_ready program shapes plain k s.0 done.insn done.state s.1 at here.facts c.0 c.1))
   next_facts follows (inr (away, inr simple)) = ordinary_to (suc k) follows done.spreads.next away simple (done.spreads.transfer.keeps (ready_ordinary away simple))
@@ -509,8 +514,8 @@ module _ (program : List Insn) (targets : List (Option ℕ)) (long : length targ
     jump_facts (inl part) =
         let q = part_of_slot program shapes part.0 part.1 s.0 done.insn at part.2 part.3 in
         let left = leaves part.0 part.1 q.0 q.1 q.2 in
-        let kept = jumping_is (λ x. KeepsSaved (state_of done.state) (state_of x) × (x.inside ≡ done.state.inside)) (left.keeps, left.inside)
-        (λ x g. some_of (λ x. KeepsSaved (state_of done.state) x × (x.inside ≡ done.state.inside)) done.spreads.taken x g left.keeps_taken) b f in
+        let kept = jumping_is (λ x. KeepsSaved (state_of done.state) (state_of x) × (x.depth ≡ done.state.depth)) (left.keeps, left.depth)
+        (λ x g. some_of (λ x. KeepsSaved (state_of done.state) x × (x.depth ≡ done.state.depth)) done.spreads.taken x g left.keeps_taken) b f in
         part_to t (inr e) b part.0 part.1 q.0 q.1 q.2 kept.0 kept.1
     jump_facts (inr (away, inl c)) = absurd (section_no_jump c.0 leads.by (ap distance (sym c.1) ∙ leads.by_is))
     jump_facts (inr (away, inr simple)) =
@@ -565,7 +570,7 @@ known_first program shapes at s = record { paired = paired; knows = knows }
     first (FrameByte k) = inr (λ p there. subst (WithoutByte program k) (sym (first_start program p there)) without_entry)
     first FramePointer = inl (s.alike.regs 10)
     first (Section true) = inr (λ p there. subst (InSection program false) (sym (first_start program p there)) section_entry)
-    first (Section false) = inl s.alike.inside
+    first (Section false) = inl s.alike.depth
 
     -- no instruction inside a guarded lookup is the first
     nothing_yet : IsExpected program shapes 0 s.state

@@ -46,7 +46,7 @@ pub(crate) fn join_into(
     match waiting {
         Waiting::Nothing => *waiting = Waiting::Known(state),
         Waiting::Known(before) => {
-            if before.inside == state.inside {
+            if before.depth == state.depth {
                 before.join(&state, ids);
                 boxes.keep(state);
             } else {

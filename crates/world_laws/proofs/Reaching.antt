@@ -6,7 +6,7 @@ use Rattle.std.proofs.lemmas.Int.{ints}
 use Rattle.std.proofs.lemmas.Bool.{cases_eq, eq-eqb, leb-true}
 use Rattle.std.proofs.lemmas.Option.{none-some, same_Some}
 use Rattle.typed_runs.proofs.Elements.{offset_some}
-use Rattle.bpf_model.specs.declared.limits.TheConstants.{FRAME_BYTES}
+use Rattle.bpf_model.specs.declared.limits.TheConstants.{FRAME_BYTES, MAX_DEPTH}
 use Rattle.bpf_model.specs.declared.call.Helper.{Helper}
 use Rattle.bpf_model.specs.declared.call.Helper.TheVariants.{Lookup, Update, Delete}
 use Rattle.bpf_model.specs.declared.call.KernelFunction.{KernelFunction}
@@ -240,7 +240,7 @@ module _ (w : WorldView) (s : Schedule) (m : Matches w s) (sound : IsSound w s) 
   Allowed imm = (f : KernelFunction) × (kernel_function_of imm ≡ Some f) × IsAllowed f v.depth
 
   allowed : (imm : ℤ) (o : Option KernelFunction) (later : Run) → kernel_function_of imm ≡ o → KernelStep o run later → Allowed imm
-  allowed imm (Some ReadLock) later e h = (ReadLock, e, subst (λ d. d < 1) (sym (refines w s m sound r run v k).depth) h.0)
+  allowed imm (Some ReadLock) later e h = (ReadLock, e, subst (λ d. d < MAX_DEPTH) (sym (refines w s m sound r run v k).depth) h.0)
   allowed imm (Some ReadUnlock) later e h = (ReadUnlock, e, subst (λ d. 0 < d) (sym (refines w s m sound r run v k).depth) h.0)
   allowed imm None later e h = absurd h
 

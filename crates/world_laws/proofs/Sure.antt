@@ -70,7 +70,7 @@ pub describes-emptied : (a : AbsState) (c : Scene) (m : State) (q : ℕ) → IsL
 describes-emptied a c m q l d = record {
   naming = d.naming;
   stored = d.stored;
-  inside = d.inside;
+  depth = d.depth;
   near = record { regs_near = λ j. near-emptied (j == q) (m.regs j) (d.near.regs_near j); cells_near = d.near.cells_near };
   regs = λ j. of-emptied c d.naming a.regs m.regs q j (j == q) refl l (d.regs j);
   cells = d.cells;

@@ -32,4 +32,4 @@ returns-clause-stepped c = λ ctx_len.
     (call_serves c.args.kind c.args.imm c.args.shape.now.shapes.now c.args.state.now c.call.new.state (record { finds = finds; called = called }))
     tt
     (λ r s n e. c.in_ok-call.ensures.others r s (above_five r n) e)
-    (λ h. inside_here c.args.kind c.args.imm c.args.state.now.inside (λ e. c.call.result ≡ Err e) h (simp to_z-of_z at c.call.ensures.first) (λ e is. (let clash : Ok c.in_ok-call.field-0 ≡ Err e = sym c.in_ok-call.was ∙ is in absurd cc)))
+    (λ h. inside_here c.args.kind c.args.imm c.args.state.now.depth (λ e. c.call.result ≡ Err e) h (simp to_z-of_z at c.call.ensures.first) (λ e is. (let clash : Ok c.in_ok-call.field-0 ≡ Err e = sym c.in_ok-call.was ∙ is in absurd cc)))

@@ -6,7 +6,8 @@ use Rattle.machine.specs.declared.request.Request.TheVariants.{Call}
 use Rattle.bpf_model.specs.declared.call.Helper.TheVariants.{Lookup}
 use Rattle.shared_runs.specs.Serving.{CanServe}
 use Rattle.table_rule.specs.declared.view.TableShape.{TableShape}
-use Rattle.table_rule.specs.declared.view.Move.TheVariants.{Close, Load, Open, Store}
+use Rattle.table_rule.specs.declared.view.Move.TheVariants.{Load, Store}
+use Rattle.shared_runs.specs.SharedRuns.{closing, opening}
 use Rattle.read_table.specs.Held.{Goes, IsSized}
 use Rattle.read_table.proofs.Serving.{known-there, serves-enter, serves-leave, serves-load, serves-lookup, serves-store}
 use Rattle.read_table.proofs.table.ReadTable.serve.Goals as goal
@@ -63,7 +64,7 @@ returns-in-Call-Lookup c =
     (l.0, l.2, serves-lookup c.args.self.now.shape c.args.run.now.view c.args.request l.0 l.1 c.look_up.result asked sized l.3 l.4 l.5)
 
 pub returns-in-Enter : goal.returns-in-Enter
-returns-in-Enter c = (Open ∷ [], c.open.ensures, serves-enter c.args.self.now.shape c.args.run.now.view c.args.request c.in-Enter.is)
+returns-in-Enter c = (opening c.args.run.now.view.depth, c.enter.ensures, serves-enter c.args.self.now.shape c.args.run.now.view c.args.request c.in-Enter.is)
 
 pub returns-in-Leave : goal.returns-in-Leave
-returns-in-Leave c = (Close ∷ [], c.close.ensures, serves-leave c.args.self.now.shape c.args.run.now.view c.args.request c.in-Leave.is)
+returns-in-Leave c = (closing c.args.run.now.view.depth, c.leave.ensures, serves-leave c.args.self.now.shape c.args.run.now.view c.args.request c.in-Leave.is)
