@@ -1,23 +1,42 @@
--- Which runs are open and which are awaited, by run slot, and how two words keep that.
-use Rattle.std.specs.Prelude.{◌≡◌, ℕ, ◌==◌, Bool, true, List, Some, slice_get, map, length}
+-- Which runs are inside a section, how deep, and which of them are awaited; and how a few words hold
+-- a flag for each run slot.
+use Rattle.std.specs.Prelude.{◌≡◌, ℕ, ◌≤◌, ◌==◌, ◌/◌, ◌%◌, Bool, true, nat_lt, List, Some}
+use Rattle.std.specs.Prelude.{slice_get, slice_index, map, length}
 use Rattle.std.specs.List.{range_with_len}
 use Rattle.std.specs.Int.{bit_at}
-use Rattle.bpf_model.specs.declared.limits.TheConstants.{MAX_RUNS}
+use Rattle.bpf_model.specs.declared.limits.TheConstants.{MAX_DEPTH, MAX_RUNS}
+use Rattle.grace_period.specs.declared.run_set.TheConstants.{WORD_BITS}
 
--- for each run slot whether its run is inside a section, and whether that section is awaited
+-- for each run slot how many locks of its run are open, and whether its section is awaited
 pub record GraceState : Type 0 where
-  pub opened : List Bool
+  pub depths : List ℕ
   pub awaited : List Bool
 
--- There is a flag for each run slot, and an awaited run is open.
+-- how many locks of the run in a run slot are open
+abbrev pub depth_at : GraceState → ℕ → ℕ
+depth_at g run = slice_index g.depths run
+
+-- a run at this depth is inside a section: a lock of it is open
+abbrev pub is_open_depth : ℕ → Bool
+is_open_depth depth = nat_lt 0 depth
+
+-- for each run slot whether its run is inside a section
+abbrev pub opened_in : GraceState → List Bool
+opened_in g = map is_open_depth g.depths
+
+-- Each run slot has its depth, which is at most MAX_DEPTH, and its flag; and an awaited run is
+-- inside a section.
 pub record IsGrace (g : GraceState) : Type 0 where
-  pub opened : length g.opened ≡ MAX_RUNS
+  pub depths : length g.depths ≡ MAX_RUNS
   pub awaited : length g.awaited ≡ MAX_RUNS
-  pub inside : (r : ℕ) → slice_get g.awaited r ≡ Some true → slice_get g.opened r ≡ Some true
+  pub deep : (r : ℕ) → depth_at g r ≤ MAX_DEPTH
+  pub inside : (r : ℕ) → slice_get g.awaited r ≡ Some true → slice_get (opened_in g) r ≡ Some true
 
--- the flag of run slot r is bit r of the word
-unfoldable pub flags_of : ℕ → List Bool
-flags_of word = map (λ r. bit_at word r == 1) (range_with_len 0 MAX_RUNS)
+abbrev pub grace_state_of : List ℕ → List Bool → GraceState
+grace_state_of depths awaited = record { depths = depths; awaited = awaited }
 
-abbrev pub grace_state_of : ℕ → ℕ → GraceState
-grace_state_of opened awaited = record { opened = flags_of opened; awaited = flags_of awaited }
+-- the flag of run slot r is bit r % 64 of word r / 64
+unfoldable pub flags_of : List ℕ → List Bool
+flags_of words =
+    map (λ r. bit_at (slice_index words (r / WORD_BITS)) (r % WORD_BITS) == 1)
+    (range_with_len 0 MAX_RUNS)

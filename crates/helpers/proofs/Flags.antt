@@ -1,9 +1,13 @@
--- Flags of awaited sections, where one more section is open or one less.
-use Rattle.std.proofs.Common.{◌≡◌, ◌∙◌, ℕ, zero, suc, refl, ap, List, [], ◌∷◌}
-use Rattle.std.specs.Prelude.{◌&&◌, Bool, true, false, slice_set}
+-- Which sections are awaited, where one more is open or one less, and where a run goes one lock
+-- deeper or comes back.
+use Rattle.std.proofs.Common.{◌≡◌, ◌∙◌, ℕ, zero, suc, ◌-◌, ◌<◌, refl, sym, ap, arith, inl, inr, List, [], ◌∷◌}
+use Rattle.std.specs.Prelude.{◌==◌, ◌&&◌, Bool, true, false, if◌then◌else◌, map, slice_set}
 use Rattle.std.proofs.Math.Bool.{and-false, and-true}
+use Rattle.std.proofs.lemmas.Bool.{cases_eq, cond-false, cond-true, eq-eqb, le-ltb, lt-ltb, ne_eqb}
+use Rattle.std.proofs.lemmas.List.{map-set}
 use Rattle.bpf_model.specs.Schedule.{still_open}
 use Rattle.bpf_model.proofs.Lists.{heads, tails}
+use Rattle.grace_period.specs.State.{GraceState, depth_at, is_open_depth, opened_in}
 
 -- a section that is opened is awaited no more than before
 pub opened_awaits : (fs os : List Bool) (r : ℕ) → still_open fs os ≡ fs → still_open fs (slice_set os r true) ≡ fs
@@ -22,3 +26,28 @@ closed_awaits (x ∷ fs) (o ∷ os) zero e = ap (λ b. b ∷ still_open fs os) (
 closed_awaits (x ∷ fs) (o ∷ os) (suc r) e =
     ap (λ b. b ∷ still_open fs (slice_set os r false)) (heads (x && o) x (still_open fs os) fs e)
     ∙ ap (λ l. x ∷ l) (closed_awaits fs os r (tails (x && o) x (still_open fs os) fs e))
+
+-- the parts of two states are the same
+pub same-grace : (a b : GraceState) → a.depths ≡ b.depths → a.awaited ≡ b.awaited → a ≡ b
+same-grace a b e f = λ j. record { depths = e j; awaited = f j }
+
+module _ (g : GraceState) (r : ℕ) (inside : still_open g.awaited (opened_in g) ≡ g.awaited) where
+  -- a run that is inside a section now is awaited as before
+  pub inside-awaits : (d : ℕ) → 0 < d → still_open g.awaited (map is_open_depth (slice_set g.depths r d)) ≡ g.awaited
+  inside-awaits d some =
+      ap (still_open g.awaited) (map-set is_open_depth g.depths r d ∙ ap (slice_set (opened_in g) r) (lt-ltb 0 d some))
+      ∙ opened_awaits g.awaited (opened_in g) r inside
+
+  -- one that is in none is awaited no more
+  pub outside-awaits : (d : ℕ) → d ≡ 0 → still_open g.awaited (map is_open_depth (slice_set g.depths r d)) ≡ slice_set g.awaited r false
+  outside-awaits d none =
+      ap (still_open g.awaited) (map-set is_open_depth g.depths r d ∙ ap (slice_set (opened_in g) r) (le-ltb 0 d (omega (arith, none))))
+      ∙ closed_awaits g.awaited (opened_in g) r inside
+
+  -- so does an unlock, by the depth that it finds
+  pub unlocked-awaits : 0 < depth_at g r
+      → (if depth_at g r == 1 then slice_set g.awaited r false else g.awaited) ≡ still_open g.awaited (map is_open_depth (slice_set g.depths r (depth_at g r - 1)))
+  unlocked-awaits some = elim (cases_eq (depth_at g r) 1) [
+    | inl e ↦ cond-true _ _ _ (eq-eqb (depth_at g r) 1 e) ∙ sym (outside-awaits (depth_at g r - 1) (omega (arith, e)))
+    | inr ne ↦ cond-false _ _ _ (ne_eqb (depth_at g r) 1 ne) ∙ sym (inside-awaits (depth_at g r - 1) (omega (arith, some, ne)))
+  ]

@@ -44,7 +44,7 @@ use Rattle.view_laws.proofs.Worlds.{here}
 use Rattle.world_laws.specs.Calling.{bytes_in, found_word}
 use Rattle.world_laws.specs.Local.{Asks, AsksNothing, local_of}
 use Rattle.world_laws.specs.Locating.{bytes_of, loaded_word, location_of, number_from, offset_at}
-use Rattle.world_laws.specs.Moving.{word_in}
+use Rattle.world_laws.specs.Moving.{moves_on, word_in}
 use Rattle.world_laws.specs.Reaching.{IsCall}
 use Rattle.world_laws.specs.Reacting.{full_reaction}
 use Rattle.world_laws.specs.Typed.{AreRealPrograms, IsRunning, IsSound}
@@ -67,9 +67,9 @@ use Rattle.machine.proofs.RunningStands.{running_stands}
 use Rattle.machine.proofs.StandingLaws.{returned}
 use Rattle.helpers.specs.Calls.{called, called_at, called_on}
 use Rattle.helpers.specs.Elements.{element_number}
-use Rattle.helpers.specs.Serving.{CanServe, IsReply, grace_of, served_step}
-use Rattle.helpers.proofs.Running.{flagged, running}
-use Rattle.helpers.proofs.Stepping.{goes_on, served_is}
+use Rattle.helpers.specs.Serving.{CanServe, IsReply, maps_after}
+use Rattle.helpers.proofs.Running.{running}
+use Rattle.helpers.proofs.Stepping.{resumed-program, served_moves}
 
 -- a number that bytes are
 number-small : (value : List ℕ) (at width n : ℕ) → AreBytes value → at + width ≤ length value → number_at (slice_get value) at width ≡ Some n → n < 256 ^ width
@@ -187,14 +187,12 @@ module _ (w : WorldView) (s : Schedule) (m : Matches w s) (sound : IsSound w s) 
         let new = resumed_view insn word v in
         let after = (full_reaction w (events.Step r)).1 in
         let kept = full_keeps w (events.Step r) in
-        let flags = flagged w s m sound r run v k in
         let going : v.exit ≡ None = (refines w s m sound r run v k).exit ∙ k.going in
-        let reacts : full_reaction w (events.Step r) ≡ served_step request insn program word r v w =
-        reacts_by_insn w r v program insn k.shown going at at-place ∙ served_is r v w flags program word insn request asked can reply in
+        let reacts : full_reaction w (events.Step r) ≡ moves_on r new (record w { maps = maps_after request program.maps v w.maps }) =
+        reacts_by_insn w r v program insn k.shown going at at-place ∙ served_moves r v w program word insn request asked can reply in
         let seen : slice_get after.runs r ≡ Some (Some new) = ap (λ (y : Answer × WorldView). slice_get y.1.runs r) reacts ∙ get-set_there w.runs r (Some v) (Some new) k.shown in
         let y = running after next.next next.matches r new seen (resumed-exit insn word v ∙ going) in
-        let on = goes_on (grace_of w) r v flags.opened flags.depth word insn request asked in
-        let there : slice_get after.programs new.program ≡ Some program = ap (λ (ps : List Loaded). slice_get ps new.program) kept.1 ∙ (ap (slice_get w.programs) on.program ∙ at) in
+        let there : slice_get after.programs new.program ≡ Some program = ap (λ (ps : List Loaded). slice_get ps new.program) kept.1 ∙ (ap (slice_get w.programs) (resumed-program insn word v) ∙ at) in
         running_stands after next.next next.matches next-sound r y.0 new y.1 program there c (subst (λ (l : List MapShape). IsCodeOf c l program) (sym kept.0) of)
 
     abbrev Gives : Request → ℕ → Type 0

@@ -1,5 +1,5 @@
 -- A run that has not ended in a world whose programs are verified: its flag, and that what it asks can be served.
-use Rattle.std.proofs.Common.{◌≡◌, ◌∙◌, ℕ, ◌≤◌, refl, sym, ap, subst, Option, Some, None}
+use Rattle.std.proofs.Common.{◌≡◌, ◌∙◌, ℕ, ◌≤◌, refl, sym, ap, subst, Some, None}
 use Rattle.std.specs.Prelude.{slice_get, option_map, ℤ}
 use Rattle.std.proofs.lemmas.Option.{none-some, same_Some}
 use Rattle.bpf_model.specs.declared.call.KernelFunction.{KernelFunction}
@@ -10,7 +10,6 @@ use Rattle.bpf_model.specs.declared.insn.Insn.TheVariants as insns
 use Rattle.bpf_model.specs.declared.limits.TheConstants.{MAX_DEPTH}
 use Rattle.bpf_model.specs.Access.{byte_count, unsigned_width}
 use Rattle.bpf_model.specs.Arithmetic.{loaded_signed}
-use Rattle.bpf_model.specs.Call.{kernel_function_of}
 use Rattle.bpf_model.specs.Machine.{Loaded, Run}
 use Rattle.bpf_model.specs.Schedule.{Schedule}
 use Rattle.bpf_model.specs.Step.{insn_at}
@@ -21,12 +20,12 @@ use Rattle.world_laws.proofs.Flags.{flag, awaited_open}
 use Rattle.world_laws.specs.Local.{Goes, Asks, local_of, local_load, local_store}
 use Rattle.world_laws.specs.Locating.{location_of}
 use Rattle.world_laws.specs.Moving.{word_in, operand_word}
-use Rattle.world_laws.specs.Reaching.{Reaches, IsWritable}
+use Rattle.world_laws.specs.Reaching.{IsAllowed, Reaches, IsWritable}
 use Rattle.world_laws.specs.Typed.{IsSound, IsRunning}
 use Rattle.world_laws.proofs.Ready.{refines}
 use Rattle.bpf_model.proofs.Cases.{run-behind}
 use Rattle.machine.proofs.Laws.{same-program}
-use Rattle.world_laws.proofs.Reaching.{load_reaches, load_signed_reaches, store_reaches, helper_arguments}
+use Rattle.world_laws.proofs.Reaching.{load_reaches, load_signed_reaches, store_reaches, helper_arguments, kernel_call_allowed}
 use Rattle.machine.specs.declared.request.Request.{Request}
 use Rattle.machine.specs.declared.request.Request.TheVariants.{Call}
 use Rattle.machine.specs.Requests.{request_of, section_request}
@@ -68,13 +67,9 @@ module _ (w : WorldView) (s : Schedule) (m : Matches w s) (sound : IsSound w s) 
   abbrev Can : Request → Type 0
   Can request = CanServe request run.program.maps w.maps v
 
-  sections : (f : KernelFunction) → Can (section_request f)
-  sections ReadLock = tt
-  sections ReadUnlock = tt
-
-  passes : (o : Option KernelFunction) (request : Request) → option_map section_request o ≡ Some request → Can request
-  passes None request e = absurd (none-some request e)
-  passes (Some f) request e = subst Can (same_Some (section_request f) request e) (sections f)
+  sections : (f : KernelFunction) → IsAllowed f v.depth → Can (section_request f)
+  sections ReadLock h = h
+  sections ReadUnlock h = h
 
   can-here : (i : Insn) (request : Request) → insn_at run.program.code run.state.place ≡ Some i → local_of i v ≡ Asks → request_of i v ≡ Some request → Can request
   can-here (insns.Load width dst src offset) request here asks e = subst Can (same_Some _ request e)
@@ -86,7 +81,9 @@ module _ (w : WorldView) (s : Schedule) (m : Matches w s) (sound : IsSound w s) 
   can-here (insns.Call Helper imm) request here asks e =
       let x = helper_arguments w s m sound r run v k imm here in
       subst Can (same_Some (Call x.0) request (ap (option_map Call) (sym x.1) ∙ e)) x.2
-  can-here (insns.Call Kernel imm) request here asks e = passes (kernel_function_of imm) request e
+  can-here (insns.Call Kernel imm) request here asks e =
+      let x = kernel_call_allowed w s m sound r run v k imm here in
+      subst Can (same_Some (section_request x.0) request (ap (option_map section_request) (sym x.1) ∙ e)) (sections x.0 x.2)
   can-here i request here asks e = absurd (none-some request e)
 
   abbrev Servable : Loaded → Type 0

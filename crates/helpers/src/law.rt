@@ -18,7 +18,9 @@ ghost use Rattle.machine.specs.Regions.{IsCodeOf};
 ghost use Rattle.machine.specs.Requests.{request_of};
 ghost use Rattle.machine.specs.Standing.{MayGive};
 ghost use Rattle.machine.specs.Steps.{IsLocalStep};
-ghost use Rattle.helpers.specs.Serving.{CanServe, IsFlagged, IsOwnWorld, IsReply, served_step};
+ghost use Rattle.grace_period.specs.State.{GraceState};
+ghost use Rattle.helpers.specs.Serving.{CanServe, IsFlagged, IsOwnWorld, IsReply, ShowsGrace};
+ghost use Rattle.helpers.specs.Serving.{served_step};
 
 /// A map slot that has an element, linked under its own key or waiting in one of the three lists,
 /// stands somewhere in its map: what a world knows of a slot is what a map asks.
@@ -27,12 +29,15 @@ pub fn occupied_stands()
 {}
 
 /// Where a run's instruction asks something, the world's step is what `serve` leaves, with the
-/// run gone on with the reply.
+/// run gone on with the reply: in a world that shows of some depths who is inside a section, where the
+/// run's own is that of its view.
 pub fn served_is_the_worlds()
     ensures { (insn : Insn) (request : Request) (program : Loaded) (r : ℕ) (v : RunView)
-        (w : WorldView) (word : ℕ) → IsFlagged w r v → request_of insn v ≡ Some request →
+        (w : WorldView) (word : ℕ) → IsFlagged w r v →
+        (g : GraceState) → ShowsGrace w g → slice_get g.depths r ≡ Some v.depth →
+        request_of insn v ≡ Some request →
         CanServe request program.maps w.maps v → IsReply request program.maps w.maps v word →
-        insn_step insn program r v w ≡ served_step request insn program word r v w }
+        insn_step insn program r v w ≡ served_step request insn program word r v g w }
 {}
 
 /// Where a run's instruction asks nothing, the world's step changes the run alone: maps and flags stay.

@@ -1,29 +1,32 @@
-//! Read-side critical sections: a run enters its section and leaves it.
-ghost use Rattle.std.specs.Prelude.{◌≡◌, ◌<◌, true, false, slice_set};
-ghost use Rattle.bpf_model.specs.declared.limits.TheConstants.{MAX_RUNS};
+//! Read-side critical sections: a run goes one lock deeper, and comes back.
+ghost use Rattle.std.specs.Prelude.{◌≡◌, ◌<◌};
+ghost use Rattle.bpf_model.specs.declared.limits.TheConstants.{MAX_DEPTH, MAX_RUNS};
 ghost use Rattle.bpf_model.specs.Schedule.{still_open};
+ghost use Rattle.grace_period.specs.State.{depth_at, opened_in};
+ghost use Rattle.machine.specs.declared.request.Request.TheVariants.{Enter, Leave};
+ghost use Rattle.helpers.specs.Serving.{grace_after};
 
 use bpf_model::RunId;
 use grace_period::Grace;
 
-/// The run enters a section. The present grace period does not wait for it.
+/// The run goes one lock deeper. Where that opens a section, the present grace period does not wait for it.
 #[inline]
 pub(crate) fn enter(grace: &mut Grace, run: RunId)
     requires run { run < MAX_RUNS }
-    requires inside { still_open grace.old.awaited grace.old.opened ≡ grace.old.awaited }
-    ensures opened { grace.new.opened ≡ slice_set grace.old.opened run true }
-    ensures awaited { grace.new.awaited ≡ still_open grace.old.awaited grace.new.opened }
+    requires depth { depth_at grace.old run < MAX_DEPTH }
+    requires inside { still_open grace.old.awaited (opened_in grace.old) ≡ grace.old.awaited }
+    ensures { grace.new ≡ grace_after Enter run grace.old }
 {
     grace.open(run);
 }
 
-/// The run leaves its section, and is awaited no more.
+/// The run comes back from its innermost lock. Where that ends its section, it is awaited no more.
 #[inline]
 pub(crate) fn leave(grace: &mut Grace, run: RunId)
     requires run { run < MAX_RUNS }
-    requires inside { still_open grace.old.awaited grace.old.opened ≡ grace.old.awaited }
-    ensures opened { grace.new.opened ≡ slice_set grace.old.opened run false }
-    ensures awaited { grace.new.awaited ≡ still_open grace.old.awaited grace.new.opened }
+    requires depth { 0 < depth_at grace.old run }
+    requires inside { still_open grace.old.awaited (opened_in grace.old) ≡ grace.old.awaited }
+    ensures { grace.new ≡ grace_after Leave run grace.old }
 {
     grace.close(run);
 }

@@ -1,5 +1,5 @@
 //! What a run asks, served.
-ghost use Rattle.std.specs.Prelude.{◌≡◌};
+ghost use Rattle.std.specs.Prelude.{◌≡◌, Some, slice_get};
 ghost use Rattle.helpers.specs.Serving.{CanServe, HasFlag, IsReply, grace_after, maps_after};
 
 use crate::calling::call;
@@ -24,6 +24,7 @@ pub fn serve(
     grace: &mut Grace,
 ) -> u64
     requires flag { HasFlag grace.old run_slot }
+    requires depth { slice_get grace.old.depths run_slot ≡ Some run.now.view.depth }
     requires serve { CanServe request bound.now maps.old.maps run.now.view }
     ensures word { IsReply request bound.now maps.old.maps run.now.view result }
     ensures maps { maps.new.maps ≡ maps_after request bound.now run.now.view maps.old.maps }

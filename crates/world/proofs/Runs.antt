@@ -1,6 +1,6 @@
 -- What a start and a drop leave of a world.
-use Rattle.std.proofs.Common.{◌≡◌, ◌∙◌, ℕ, List, length, Bool, true, false, Option, Some, None, inl, inr, sym, ap, subst, cond}
-use Rattle.std.specs.Prelude.{slice_get, slice_set, map, option_map, nat_lt, replicate}
+use Rattle.std.proofs.Common.{◌≡◌, ◌∙◌, ℕ, zero, suc, List, ◌∷◌, length, Bool, true, false, Option, Some, None, inl, inr, refl, sym, ap, subst, cond}
+use Rattle.std.specs.Prelude.{slice_get, slice_set, map, option_map, replicate}
 use Rattle.std.proofs.lemmas.Option.{none-some, same_Some, slice_get-map}
 use Rattle.std.proofs.lemmas.Bool.{eq-eqb}
 use Rattle.bpf_model.specs.declared.event.EventRefusal.TheVariants.{BadContext}
@@ -10,17 +10,17 @@ use Rattle.bpf_model.specs.Schedule.{still_open}
 use Rattle.bpf_model.specs.Machine as machine
 use Rattle.bpf_model.specs.View.{MapView, RunView, WorldView}
 use Rattle.element_arena.proofs.Views.{map-set_same}
-use Rattle.grace_period.specs.State.{GraceState, IsGrace}
+use Rattle.grace_period.specs.State.{GraceState, IsGrace, is_open_depth, opened_in}
 use Rattle.view_laws.specs.Reactions.{with_run, fresh_view, start_by, start_reaction}
 use Rattle.view_laws.proofs.Listing.{still-same}
 use Rattle.machine.specs.RunWords.{RunWords, IsAt}
 use Rattle.world.specs.declared.kept.loaded.Loaded.{Loaded}
 use Rattle.world.specs.Programs.{program_of}
-use Rattle.world.specs.Keeping.{view_of, is_run_inside, IsOfProgram, AreRunsKept, world_of}
+use Rattle.world.specs.Keeping.{view_of, depth_of_run, IsOfProgram, AreRunsKept, world_of}
 use Rattle.world.proofs.Flags.{still-cleared}
 use Rattle.world.proofs.Slots.{Runs}
-use Rattle.std.proofs.lemmas.List.{length-set, map-set}
-use Rattle.bpf_model.proofs.Lists.{set-same, get-set_cases, get-replicate}
+use Rattle.std.proofs.lemmas.List.{length-map, length-set, map-set}
+use Rattle.bpf_model.proofs.Lists.{get-map, set-same, get-set_cases, get-replicate}
 use Rattle.bpf_model.specs.Machine.{lowest_free}
 
 same_world : (maps : List MapView) (programs : List machine.Loaded) (given : ℕ) (rs qs : List (Option RunView)) (os ps cs bs : List Bool) → rs ≡ qs → os ≡ ps → cs ≡ bs →
@@ -29,11 +29,15 @@ same_world : (maps : List MapView) (programs : List machine.Loaded) (given : ℕ
     a ≡ b
 same_world maps programs given rs qs os ps cs bs e f g = cc
 
-module _ (maps : List MapView) (runs : Runs) (grace new : GraceState) (programs : List Loaded) (given i r : ℕ) (same : i ≡ r) (kept : AreRunsKept runs grace programs) (sound : IsGrace grace) (opened : new.opened ≡ slice_set grace.opened r false) (awaited : new.awaited ≡ slice_set grace.awaited r false) where
+-- there are as many flags of who is awaited as of who is inside a section
+as-many : (g : GraceState) → IsGrace g → length g.awaited ≡ length (opened_in g)
+as-many g sound = sound.awaited ∙ (sym sound.depths ∙ sym (length-map g.depths is_open_depth))
+
+module _ (maps : List MapView) (runs : Runs) (grace new : GraceState) (programs : List Loaded) (given i r : ℕ) (same : i ≡ r) (kept : AreRunsKept runs grace programs) (sound : IsGrace grace) (depths : new.depths ≡ slice_set grace.depths r 0) (awaited : new.awaited ≡ slice_set grace.awaited r false) where
   pub dropped-kept : AreRunsKept (slice_set runs i None) new programs
   dropped-kept = record {
     slots = length-set runs i None ∙ kept.slots;
-    opened = opened ∙ (ap (λ (os : List Bool). slice_set os r false) kept.opened ∙ (ap (λ k. slice_set (map is_run_inside runs) k false) (sym same) ∙ sym (map-set is_run_inside runs i None)));
+    depths = depths ∙ (ap (λ (ds : List ℕ). slice_set ds r 0) kept.depths ∙ (ap (λ k. slice_set (map depth_of_run runs) k 0) (sym same) ∙ sym (map-set depth_of_run runs i None)));
     of_program = λ k run e. elim (get-set_cases runs i k None (Some run) e) [
       | inl z ↦ absurd (none-some run z.1)
       | inr z ↦ kept.of_program k run z.1
@@ -44,20 +48,23 @@ module _ (maps : List MapView) (runs : Runs) (grace new : GraceState) (programs 
   dropped-view =
       same_world maps (map program_of programs) given _ _ _ _ _ _
       (map-set view_of runs i None ∙ ap (λ k. slice_set (map view_of runs) k None) same)
-      opened
-      (awaited ∙ sym (still-cleared grace.awaited grace.opened r (sound.awaited ∙ sym sound.opened) sound.inside))
+      (ap (map is_open_depth) depths ∙ map-set is_open_depth grace.depths r 0)
+      (awaited ∙ sym (still-cleared grace.awaited (opened_in grace) r (as-many grace sound) sound.inside))
 
 module _ (maps : List MapView) (runs : Runs) (grace : GraceState) (programs : List Loaded) (given i prog : ℕ) (context : List ℕ) (program : Loaded) (run : RunWords) (free : slice_get runs i ≡ Some None) (kept : AreRunsKept runs grace programs) (there : slice_get programs prog ≡ Some program) (fresh : run.view ≡ fresh_view prog context) (stands : IsAt program.verified.program run) where
-  started-shut : is_run_inside (Some run) ≡ false
-  started-shut = ap (λ (v : RunView). nat_lt 0 v.depth) fresh
+  started-depth : depth_of_run (Some run) ≡ 0
+  started-depth = ap (λ (v : RunView). v.depth) fresh
 
-  started-opened : slice_set grace.opened i false ≡ grace.opened
-  started-opened = set-same grace.opened i false (ap (λ (os : List Bool). slice_get os i) kept.opened ∙ (slice_get-map is_run_inside runs i ∙ ap (option_map is_run_inside) free))
+  free-depth : slice_get grace.depths i ≡ Some 0
+  free-depth = ap (λ (ds : List ℕ). slice_get ds i) kept.depths ∙ get-map depth_of_run runs i None free
+
+  started-opened : slice_set (opened_in grace) i false ≡ opened_in grace
+  started-opened = set-same (opened_in grace) i false (get-map is_open_depth grace.depths i 0 free-depth)
 
   pub started-kept : AreRunsKept (slice_set runs i (Some run)) grace programs
   started-kept = record {
     slots = length-set runs i (Some run) ∙ kept.slots;
-    opened = kept.opened ∙ sym (map-set_same is_run_inside runs i None (Some run) free started-shut);
+    depths = kept.depths ∙ sym (map-set_same depth_of_run runs i None (Some run) free started-depth);
     of_program = λ k other e. elim (get-set_cases runs i k (Some run) (Some other) e) [
       | inl z ↦ subst (IsOfProgram programs) (same_Some run other z.1) (record {
         program = program;
@@ -73,7 +80,7 @@ module _ (maps : List MapView) (runs : Runs) (grace : GraceState) (programs : Li
       same_world maps (map program_of programs) given _ _ _ _ _ _
       (map-set view_of runs i (Some run) ∙ ap (λ (v : RunView). slice_set (map view_of runs) i (Some v)) fresh)
       (sym started-opened)
-      (sym (still-same grace.awaited grace.opened (sound.awaited ∙ sym sound.opened) sound.inside) ∙ ap (still_open grace.awaited) (sym started-opened))
+      (sym (still-same grace.awaited (opened_in grace) (as-many grace sound) sound.inside) ∙ ap (still_open grace.awaited) (sym started-opened))
 
 -- a start that neither the program nor the context refuses
 pub start-goes : (w : WorldView) (prog : ℕ) (context : List ℕ) (program : machine.Loaded) (o : Option ℕ) → slice_get w.programs prog ≡ Some program → length context ≡ program.context_len → lowest_free w.runs ≡ o → start_reaction w prog context ≡ start_by (if_full o) o w prog context
@@ -90,24 +97,28 @@ started maps runs grace programs given prog context program o w e there long fre
     long
     (ap (λ (z : WorldView). lowest_free z.runs) (sym e) ∙ sym free)
 
+map-replicate : {A B : Type 0} (f : A → B) (n : ℕ) (x : A) → map f (replicate n x) ≡ replicate n (f x)
+map-replicate f zero x = refl
+map-replicate f (suc n) x = ap (λ l. f x ∷ l) (map-replicate f n x)
+
 none-in : {A : Type 0} (n r : ℕ) (x : A) → slice_get (replicate n None) r ≡ Some (Some x) → ⊥
 none-in n r x e = none-some x (sym (get-replicate n r None (Some x) e))
 
-pub fresh-kept : (runs : Runs) (grace : GraceState) (programs : List Loaded) → runs ≡ replicate MAX_RUNS None → grace.opened ≡ replicate MAX_RUNS false → AreRunsKept runs grace programs
+pub fresh-kept : (runs : Runs) (grace : GraceState) (programs : List Loaded) → runs ≡ replicate MAX_RUNS None → grace.depths ≡ replicate MAX_RUNS 0 → AreRunsKept runs grace programs
 fresh-kept runs grace programs e o = record {
   slots = ap (λ (rs : Runs). length rs) e;
-  opened = o ∙ sym (ap (map is_run_inside) e);
+  depths = o ∙ (sym (map-replicate depth_of_run MAX_RUNS None) ∙ sym (ap (map depth_of_run) e));
   of_program = λ r run g. absurd (none-in MAX_RUNS r run (ap (λ (rs : Runs). slice_get rs r) (sym e) ∙ g));
 }
 
-flags-stay : (turns : Bool) (grace new : GraceState) → new ≡ cond turns (record { opened = grace.opened; awaited = grace.opened }) grace → new.opened ≡ grace.opened
-flags-stay true grace new is = ap (λ (g : GraceState). g.opened) is
-flags-stay false grace new is = ap (λ (g : GraceState). g.opened) is
+depths-stay : (turns : Bool) (grace new : GraceState) → new ≡ cond turns (record { depths = grace.depths; awaited = opened_in grace }) grace → new.depths ≡ grace.depths
+depths-stay true grace new is = ap (λ (g : GraceState). g.depths) is
+depths-stay false grace new is = ap (λ (g : GraceState). g.depths) is
 
--- where a grace period ends, the runs inside a section are as before
-pub turned-kept : (turns : Bool) (runs : Runs) (grace new : GraceState) (programs : List Loaded) → new ≡ cond turns (record { opened = grace.opened; awaited = grace.opened }) grace → AreRunsKept runs grace programs → AreRunsKept runs new programs
+-- where a grace period ends, the runs are as deep as before
+pub turned-kept : (turns : Bool) (runs : Runs) (grace new : GraceState) (programs : List Loaded) → new ≡ cond turns (record { depths = grace.depths; awaited = opened_in grace }) grace → AreRunsKept runs grace programs → AreRunsKept runs new programs
 turned-kept turns runs grace new programs is kept = record {
   slots = kept.slots;
-  opened = flags-stay turns grace new is ∙ kept.opened;
+  depths = depths-stay turns grace new is ∙ kept.depths;
   of_program = kept.of_program;
 }

@@ -1,6 +1,6 @@
 -- A step of a run: what its parts come to in the run's world.
-use Rattle.std.proofs.Common.{◌≡◌, ◌∙◌, ℕ, ◌<◌, arith, refl, sym, ap, subst, List, Option, Some, None, inl, inr}
-use Rattle.std.specs.Prelude.{slice_get, slice_set, nat_lt, map, option_map}
+use Rattle.std.proofs.Common.{◌≡◌, ◌∙◌, ℕ, ◌<◌, arith, refl, sym, ap, subst, Bool, List, Option, Some, None, inl, inr}
+use Rattle.std.specs.Prelude.{slice_get, slice_set, map, option_map}
 use Rattle.std.proofs.lemmas.Option.{none-some, same_Some, slice_get-map, slice_get_within}
 use Rattle.bpf_model.specs.declared.event.Answer.{Answer}
 use Rattle.bpf_model.specs.declared.event.Answer.TheVariants as answers
@@ -10,7 +10,7 @@ use Rattle.bpf_model.specs.Machine as machine
 use Rattle.bpf_model.specs.Schedule.{Schedule, still_open}
 use Rattle.bpf_model.specs.Step.{insn_at}
 use Rattle.bpf_model.specs.View.{MapView, RunView, WorldView, shapes_of, shapes_of_maps}
-use Rattle.grace_period.specs.State.{GraceState}
+use Rattle.grace_period.specs.State.{GraceState, is_open_depth, opened_in}
 use Rattle.verifier.specs.Verdict.{IsJustified}
 use Rattle.view_laws.specs.Matching.{Matches}
 use Rattle.view_laws.specs.Reactions.{step_refused}
@@ -28,17 +28,17 @@ use Rattle.machine.specs.Standing.{MayGive}
 use Rattle.machine.specs.Steps.{IsLocalStep}
 use Rattle.machine.proofs.Laws.{can_step}
 use Rattle.machine.proofs.RunningStands.{running_stands}
-use Rattle.helpers.specs.Serving.{CanServe, IsReply, IsFlagged, grace_of, grace_after, maps_after, world_with}
+use Rattle.helpers.specs.Serving.{CanServe, IsReply, IsFlagged, ShowsGrace, grace_after, maps_after, with_view, world_with}
 use Rattle.helpers.proofs.Giving.{may_give}
 use Rattle.helpers.proofs.Running.{running, flagged, can_be_served}
-use Rattle.helpers.proofs.Stepping.{own_is, own_keeps, own_asks, served_is, goes_on}
+use Rattle.helpers.proofs.Stepping.{own_is, own_keeps, own_asks, served_is, goes_on, resumed-program, shown-still}
 use Rattle.world.specs.declared.kept.loaded.Loaded.{Loaded}
 use Rattle.world.specs.Programs.{program_of}
 use Rattle.world.specs.BoundTo.{AreProgramsBound}
-use Rattle.world.specs.Keeping.{view_of, is_run_inside, IsOfProgram, AreRunsKept, IsKept, world_of}
+use Rattle.world.specs.Keeping.{view_of, depth_of_run, IsOfProgram, AreRunsKept, IsKept, world_of}
 use Rattle.world.specs.Stepping.{CanTake, HasTaken, IsGoing, HasGone}
 use Rattle.std.proofs.lemmas.List.{length-set, map-set}
-use Rattle.bpf_model.proofs.Lists.{set-same, get-set_cases}
+use Rattle.bpf_model.proofs.Lists.{get-map, set-same, get-set_cases}
 use Rattle.std.specs.Option.{option_flatten}
 
 module _ (loaded : Loaded) (maps : List MapView) (g : GraceState) (r : ℕ) (old : RunWords) (can : CanTake loaded maps g r old) where
@@ -48,21 +48,21 @@ module _ (loaded : Loaded) (maps : List MapView) (g : GraceState) (r : ℕ) (old
   abbrev i : Insn
   i = can.step.insn
 
-  is-flagged : (w : WorldView) → grace_of w ≡ g → IsFlagged w r v
+  is-flagged : (w : WorldView) → ShowsGrace w g → IsFlagged w r v
   is-flagged w e = record {
-    opened = ap (λ (x : GraceState). slice_get x.opened r) e ∙ can.opened;
-    awaited = subst (λ (x : GraceState). still_open x.awaited x.opened ≡ x.awaited) (sym e) can.flag.inside;
+    opened = ap (λ (os : List Bool). slice_get os r) e.opened ∙ get-map is_open_depth g.depths r v.depth can.depth_is;
+    awaited = ap (still_open w.awaited) e.opened ∙ (ap (λ (fs : List Bool). still_open fs (opened_in g)) e.awaited ∙ (can.flag.inside ∙ sym e.awaited));
     depth = can.depth;
   }
 
   -- the parts of a world, put in for those that they are
-  parts-are : (answer : Answer) (new : RunView) (w : WorldView) → w.maps ≡ maps → grace_of w ≡ g → (let y : Answer × WorldView = (answer, world_with w.maps (grace_of w) r new w) in y) ≡ (answer, world_with maps g r new w)
+  parts-are : (answer : Answer) (new : RunView) (w : WorldView) → w.maps ≡ maps → ShowsGrace w g → (let y : Answer × WorldView = (answer, with_view r new w) in y) ≡ (answer, world_with maps g r new w)
   parts-are answer new w em eg =
-      ap (λ (ms : List MapView). (let y : Answer × WorldView = (answer, world_with ms (grace_of w) r new w) in y)) em
-      ∙ ap (λ (x : GraceState). (let y : Answer × WorldView = (answer, world_with maps x r new w) in y)) eg
+      ap (λ (x : WorldView). (let y : Answer × WorldView = (answer, x) in y)) (shown-still r w g eg new)
+      ∙ ap (λ (ms : List MapView). (let y : Answer × WorldView = (answer, world_with ms g r new w) in y)) em
 
-  same-flags : (new : RunView) → new.depth ≡ v.depth → g.opened ≡ slice_set g.opened r (nat_lt 0 new.depth)
-  same-flags new e = sym (ap (λ d. slice_set g.opened r (nat_lt 0 d)) e ∙ set-same g.opened r (nat_lt 0 v.depth) can.opened)
+  same-depths : (new : RunView) → new.depth ≡ v.depth → g.depths ≡ slice_set g.depths r new.depth
+  same-depths new e = sym (ap (slice_set g.depths r) e ∙ set-same g.depths r v.depth can.depth_is)
 
   -- a step that the run makes by itself
   pub moved_taken : (new : RunWords) → IsLocalStep (local_of i v) (request_of i v) v code.Moved new.view → IsAt loaded.verified.program new → HasTaken loaded r old new maps maps g g answers.Moved
@@ -72,7 +72,7 @@ module _ (loaded : Loaded) (maps : List MapView) (g : GraceState) (r : ℕ) (old
         insn = i;
         here = can.step.here;
         step = λ w em eg. own_is i (program_of loaded) r v new.view w (request_of i v) code.Moved (is-flagged w eg) h ∙ parts-are answers.Moved new.view w em eg;
-        opened = same-flags new.view same.0;
+        depths = same-depths new.view same.0;
         program = same.1;
         stands = at;
       }
@@ -84,7 +84,7 @@ module _ (loaded : Loaded) (maps : List MapView) (g : GraceState) (r : ℕ) (old
         insn = i;
         here = can.step.here;
         step = λ w em eg. own_is i (program_of loaded) r v new.view w (request_of i v) (code.Exit n) (is-flagged w eg) h ∙ parts-are (answers.Exited n) new.view w em eg;
-        opened = same-flags new.view same.0;
+        depths = same-depths new.view same.0;
         program = same.1;
         stands = at;
       }
@@ -103,6 +103,9 @@ module _ (loaded : Loaded) (maps : List MapView) (g : GraceState) (r : ℕ) (old
     pub can_serve : CanServe request loaded.maps.items maps mid.view
     can_serve = subst (CanServe request loaded.maps.items maps) (sym same) serves
 
+    pub can_deep : slice_get g.depths r ≡ Some mid.view.depth
+    can_deep = can.depth_is ∙ ap (λ (u : RunView). Some u.depth) (sym same)
+
     pub can_give : (word : ℕ) → IsReply request loaded.maps.items maps mid.view word → MayGive loaded.verified mid.view request word
     can_give word reply =
         subst (λ (u : RunView). MayGive loaded.verified u request word) (sym same)
@@ -120,22 +123,21 @@ module _ (loaded : Loaded) (maps : List MapView) (g : GraceState) (r : ℕ) (old
         let view : new.view ≡ resumed_view i word v = resumed i here-too ∙ ap (λ (u : RunView). resumed_view i word u) same in
         let ms : maps_after request bound v maps ≡ maps_new = ap (λ (u : RunView). maps_after request bound u maps) (sym same) ∙ sym em in
         let word-is : IsReply request bound maps v word = subst (λ (u : RunView). IsReply request bound maps u word) same reply in
-        let on = goes_on g r v can.opened can.depth word i request asks in
+        let on = goes_on g r v can.depth_is can.flag.inside word i request asks in
         let out : List MapView → GraceState → RunView → WorldView → Answer × WorldView = λ (ms : List MapView) (x : GraceState) (u : RunView) (w : WorldView). (answers.Moved, world_with ms x r u w) in
         record {
           insn = i;
           here = can.step.here;
           step = λ w fm fg.
-              served_is r v w (is-flagged w fg) (program_of loaded) word i request asks
+              served_is r v w (is-flagged w fg) g fg can.depth_is (program_of loaded) word i request asks
               (subst (λ (l : List MapView). CanServe request bound l v) (sym fm) serves)
               (subst (λ (l : List MapView). IsReply request bound l v word) (sym fm) word-is)
-              ∙ ap (λ (l : List MapView). out (maps_after request bound v l) (grace_after request r (grace_of w)) (resumed_view i word v) w) fm
-              ∙ ap (λ (l : List MapView). out l (grace_after request r (grace_of w)) (resumed_view i word v) w) ms
-              ∙ ap (λ (x : GraceState). out maps_new (grace_after request r x) (resumed_view i word v) w) fg
+              ∙ ap (λ (l : List MapView). out (maps_after request bound v l) (grace_after request r g) (resumed_view i word v) w) fm
+              ∙ ap (λ (l : List MapView). out l (grace_after request r g) (resumed_view i word v) w) ms
               ∙ ap (λ (x : GraceState). out maps_new x (resumed_view i word v) w) (sym eg)
               ∙ ap (λ (u : RunView). out maps_new g_new u w) (sym view);
-          opened = ap (λ (x : GraceState). x.opened) eg ∙ on.opened ∙ ap (λ (u : RunView). slice_set g.opened r (nat_lt 0 u.depth)) (sym view);
-          program = ap (λ (u : RunView). u.program) view ∙ on.program;
+          depths = ap (λ (x : GraceState). x.depths) eg ∙ on.depths ∙ ap (λ (u : RunView). slice_set g.depths r u.depth) (sym view);
+          program = ap (λ (u : RunView). u.program) view ∙ resumed-program i word v;
           stands = at;
         }
 
@@ -185,7 +187,7 @@ module _ (maps : List MapView) (runs : List (Option RunWords)) (g : GraceState) 
                   (can_be_served w s m sound r y.0 x.0.view y.1 (program_of of.program) at i request here waits asked) reply;
             };
             flag = record { slot = within; inside = f.awaited };
-            opened = f.opened;
+            depth_is = ap (λ (ds : List ℕ). slice_get ds r) kept.of_runs.depths ∙ get-map depth_of_run runs r (Some x.0) x.1;
             depth = f.depth;
           };
         };
@@ -196,7 +198,7 @@ module _ (maps : List MapView) (runs : List (Option RunWords)) (g : GraceState) 
     gone-runs : AreRunsKept runs_new g_new programs
     gone-runs = subst (λ (l : List (Option RunWords)). AreRunsKept l g_new programs) (sym gone.runs_are) (record {
       slots = length-set runs r (Some gone.new) ∙ kept.of_runs.slots;
-      opened = gone.taken.opened ∙ ap (λ os. slice_set os r (nat_lt 0 gone.new.view.depth)) kept.of_runs.opened ∙ sym (map-set is_run_inside runs r (Some gone.new));
+      depths = gone.taken.depths ∙ ap (λ ds. slice_set ds r gone.new.view.depth) kept.of_runs.depths ∙ sym (map-set depth_of_run runs r (Some gone.new));
       of_program = λ k run e. elim (get-set_cases runs r k (Some gone.new) (Some run) e) [
         | inl z ↦ subst (IsOfProgram programs) (same_Some gone.new run z.1) (record {
           program = gone.loaded;
@@ -211,11 +213,11 @@ module _ (maps : List MapView) (runs : List (Option RunWords)) (g : GraceState) 
     pub gone_is : word_step w r ≡ (answer, world_of maps_new runs_new g_new programs given)
     gone_is =
         let run : RunWords = gone.run in
-        let out : List (Option RunView) → Answer × WorldView = λ (l : List (Option RunView)). (answer, record { maps = maps_new; runs = l; opened = g_new.opened; awaited = g_new.awaited; programs = w.programs; given = given }) in
+        let out : List (Option RunView) → Answer × WorldView = λ (l : List (Option RunView)). (answer, record { maps = maps_new; runs = l; opened = opened_in g_new; awaited = g_new.awaited; programs = w.programs; given = given }) in
         ap (λ (o : Option (Option RunView)). run_step_of (option_flatten o) r w) (run-at run gone.there)
         ∙ ap (λ (o : Option machine.Loaded). step_in o r run.view w) (loaded-shown run gone.loaded gone.of)
         ∙ ap (λ (o : Option Insn). step_at o (program_of gone.loaded) r run.view w) gone.taken.here
-        ∙ gone.taken.step w refl refl
+        ∙ gone.taken.step w refl (record { opened = refl; awaited = refl })
         ∙ ap out (sym (map-set view_of runs r (Some gone.new)) ∙ ap (map view_of) (sym gone.runs_are))
 
     -- and the programs are bound to the maps, whose shapes stay

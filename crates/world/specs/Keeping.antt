@@ -1,10 +1,10 @@
--- What is kept of a world: each run at its code, for each whether it is inside a section, and each
+-- What is kept of a world: each run at its code, for each how deep it is inside sections, and each
 -- program bound to the maps.
-use Rattle.std.specs.Prelude.{◌≡◌, ℕ, Bool, List, length, map, Option, Some, slice_get, option_map}
+use Rattle.std.specs.Prelude.{◌≡◌, ℕ, Bool, List, length, map, Option, Some, None, slice_get}
+use Rattle.std.specs.Prelude.{option_map}
 use Rattle.bpf_model.specs.declared.limits.TheConstants.{MAX_RUNS}
 use Rattle.bpf_model.specs.View.{MapView, RunView, WorldView, shapes_of_maps}
-use Rattle.grace_period.specs.State.{GraceState}
-use Rattle.view_laws.specs.Reactions.{is_open_view}
+use Rattle.grace_period.specs.State.{GraceState, is_open_depth, opened_in}
 use Rattle.machine.specs.RunWords.{RunWords, IsAt}
 use Rattle.world.specs.declared.kept.loaded.Loaded.{Loaded}
 use Rattle.world.specs.BoundTo.{AreProgramsBound}
@@ -14,9 +14,14 @@ use Rattle.world.specs.Programs.{programs_in}
 abbrev pub view_of : Option RunWords → Option RunView
 view_of o = option_map (λ r. r.view) o
 
+-- how many locks of the run of a run slot are open: none where it has no run
+abbrev pub depth_of_run : Option RunWords → ℕ
+depth_of_run None = 0
+depth_of_run (Some run) = run.view.depth
+
 -- whether the run of a run slot is inside a section
 abbrev pub is_run_inside : Option RunWords → Bool
-is_run_inside o = is_open_view (view_of o)
+is_run_inside o = is_open_depth (depth_of_run o)
 
 -- The run's program is there, and the run is at its code.
 pub record IsOfProgram (programs : List Loaded) (run : RunWords) : Type 0 where
@@ -24,12 +29,12 @@ pub record IsOfProgram (programs : List Loaded) (run : RunWords) : Type 0 where
   pub there : slice_get programs run.view.program ≡ Some program
   pub stands : IsAt program.verified.program run
 
--- There is a run slot for each run that there may be. The flags of those inside a section are what
--- their depths say, and each run is of a program.
+-- There is a run slot for each run that there may be. How deep each run is inside sections is what
+-- its view says, and each run is of a program.
 pub record AreRunsKept (runs : List (Option RunWords)) (grace : GraceState) (programs : List Loaded)
     : Type 0 where
   pub slots : length runs ≡ MAX_RUNS
-  pub opened : grace.opened ≡ map is_run_inside runs
+  pub depths : grace.depths ≡ map depth_of_run runs
   pub of_program : (r : ℕ) (run : RunWords) → slice_get runs r ≡ Some (Some run) →
       IsOfProgram programs run
 
@@ -44,7 +49,7 @@ abbrev pub world_of : List MapView → List (Option RunWords) → GraceState →
 world_of maps runs grace programs given = record {
   maps = maps;
   runs = map view_of runs;
-  opened = grace.opened;
+  opened = opened_in grace;
   awaited = grace.awaited;
   programs = programs_in programs;
   given = given;

@@ -1,5 +1,5 @@
 -- A step of a run, over the parts of a world: what it needs, and what it leaves.
-use Rattle.std.specs.Prelude.{◌≡◌, ℕ, ◌≤◌, nat_lt, List, Option, Some, slice_get, slice_set}
+use Rattle.std.specs.Prelude.{◌≡◌, ℕ, ◌≤◌, List, Option, Some, slice_get, slice_set}
 use Rattle.bpf_model.specs.declared.event.Answer.{Answer}
 use Rattle.bpf_model.specs.declared.insn.Insn.{Insn}
 use Rattle.bpf_model.specs.declared.limits.TheConstants.{MAX_DEPTH}
@@ -14,7 +14,7 @@ use Rattle.machine.specs.Requests.{request_of}
 use Rattle.machine.specs.RunWords.{RunWords, IsAt}
 use Rattle.machine.specs.Standing.{IsStanding, MayGive}
 use Rattle.machine.specs.Steps.{CanStep}
-use Rattle.helpers.specs.Serving.{CanServe, HasFlag, IsReply, grace_of}
+use Rattle.helpers.specs.Serving.{CanServe, HasFlag, IsReply, ShowsGrace}
 use Rattle.helpers.specs.Serving.{world_with}
 use Rattle.world.specs.declared.kept.loaded.Loaded.{Loaded}
 use Rattle.world.specs.Programs.{program_of}
@@ -29,15 +29,15 @@ pub record CanAsk (loaded : Loaded) (maps : List MapView) (v : RunView) : Type 0
       → request_of i v ≡ Some request → IsReply request loaded.maps.items maps v word →
       MayGive loaded.verified v request word
 
--- The run in run slot r may make a step of its program: its flag is what its depth says, and what
--- it needs is there.
+-- The run in run slot r may make a step of its program: its depth there is that of its view, and
+-- what it needs is there.
 pub record CanTake (loaded : Loaded) (maps : List MapView) (g : GraceState) (r : ℕ) (run : RunWords)
     : Type 0 where
   pub stands : IsStanding loaded.verified run
   pub step : CanStep loaded.verified run.view
   pub ask : CanAsk loaded maps run.view
   pub flag : HasFlag g r
-  pub opened : slice_get g.opened r ≡ Some (nat_lt 0 run.view.depth)
+  pub depth_is : slice_get g.depths r ≡ Some run.view.depth
   pub depth : run.view.depth ≤ MAX_DEPTH
 
 -- The run in run slot r may make a step of its program, where the program is justified.
@@ -45,16 +45,16 @@ pub record MayTake (loaded : Loaded) (maps : List MapView) (g : GraceState) (r :
     : Type 0 where
   pub can : IsJustified loaded.verified → CanTake loaded maps g r run
 
--- The run has made the step: in each world with these maps and flags its instruction has this
--- answer, and leaves the world with the new parts.
+-- The run has made the step: in each world with these maps that shows these depths its instruction
+-- has this answer, and leaves the world with the new parts.
 pub record HasTaken (loaded : Loaded) (r : ℕ) (old new : RunWords) (maps maps_after : List MapView)
     (g after : GraceState) (answer : Answer) : Type 0 where
   pub insn : Insn
   pub here : insn_at loaded.verified.program old.view.place ≡ Some insn
-  pub step : (w : WorldView) → w.maps ≡ maps → grace_of w ≡ g
+  pub step : (w : WorldView) → w.maps ≡ maps → ShowsGrace w g
       → insn_step insn (program_of loaded) r old.view w
       ≡ (answer, world_with maps_after after r new.view w)
-  pub opened : after.opened ≡ slice_set g.opened r (nat_lt 0 new.view.depth)
+  pub depths : after.depths ≡ slice_set g.depths r new.view.depth
   pub program : new.view.program ≡ old.view.program
   pub stands : IsAt loaded.verified.program new
 

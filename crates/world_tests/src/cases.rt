@@ -1,12 +1,12 @@
 //! Each case is a machine and a list of events, each with the answer that it must have.
 use crate::making::{SHAPE, Source, assembled, judged, machine_of, world_of};
 use crate::programs::{
-    BYTE_AT_8, BYTE_BELOW_8, DELETE, EXIT_ONE, KEPT, KEPT_RELOCKED, LOOKUP, NARROW_BOUND,
-    OTHER_LOOKUP, SAME_LOOKUP, SPILL_KEPT, SPILLED, STORE_NINE, TWO_AT_EVEN, TWO_AT_ODD, UNGUARDED,
-    UNLOCKED, UPDATE, UPDATE_NEW, WIDE_BOUND,
+    BYTE_AT_8, BYTE_BELOW_8, DELETE, EXIT_ONE, KEPT, KEPT_RELOCKED, LOOKUP, NARROW_BOUND, NESTED,
+    NINE_LOCKS, OTHER_LOOKUP, SAME_LOOKUP, SPILL_KEPT, SPILLED, STORE_NINE, TWO_AT_EVEN,
+    TWO_AT_ODD, UNGUARDED, UNLOCKED, UPDATE, UPDATE_NEW, WIDE_BOUND,
 };
 use crate::replay::replay;
-use bpf_model::MapShape;
+use bpf_model::{MAX_RUNS, MapShape};
 use std::alloc::Global;
 use std::fmt::Write;
 use std::test::Fail;
@@ -36,7 +36,7 @@ const SMALL: MapShape = MapShape {
     reuse_limit: 2,
 };
 
-static CASES: [Case; 34] = [
+static CASES: [Case; 35] = [
     // An update's tests in their order.
     Case {
         setting: Setting {
@@ -446,17 +446,38 @@ step 0 1 = stuck\n",
 start 0 06 = run 0\n\
 step 0 14 = exit 0\n",
     },
-    // A lock inside a section.
+    // The ninth lock.
     Case {
         setting: Setting {
             shape: SHAPE,
-            program: "callbtf 1; callbtf 1; callbtf 2; mov64 r0, 0; exit",
+            program: NINE_LOCKS,
             context_len: 0,
         },
-        refused: Some((34, 1)),
+        refused: Some((34, 8)),
         events: "start 0 - = run 0\n\
-step 0 1 = moved\n\
+step 0 8 = moved\n\
 step 0 1 = stuck\n",
+    },
+    // A section ends at its outermost unlock: what the run holds is reclaimed after it, not before.
+    Case {
+        setting: Setting {
+            shape: SHAPE,
+            program: NESTED,
+            context_len: 0,
+        },
+        refused: None,
+        events: "put 0 00000000 0500000000000000 0 = ret 0\n\
+start 0 - = run 0\n\
+step 0 10 = moved\n\
+del 0 00000000 = ret 0\n\
+advance = ok\n\
+advance = ok\n\
+reap = none\n\
+step 0 2 = moved\n\
+step 0 1 = moved\n\
+advance = ok\n\
+reap = reaped 0 00000000 free\n\
+step 0 2 = exit 5\n",
     },
     // An unlock outside one.
     Case {
@@ -618,16 +639,16 @@ fn answers_are_as_worked_out(rt: HostRuntime) -> Result<(), Fail> {
 /// state of a run, 60, 61 and 67; and the lowest free run slot is taken.
 fn full_table(alloc: Global) -> Result<String, Fail> {
     let mut events = String::new(alloc);
-    for slot in 0..64usize {
+    for slot in 0..MAX_RUNS {
         writeln!(events, "start 0 - = run {slot}")?;
     }
     events.push_str(
         "start 1 - = refused 62\nstart 1 00 = refused 62\nstart 0 00 = refused 63\n\
-start 0 - = refused 64\nstep 64 1 = refused 60\ndrop 64 = refused 60\nstep 5 1 = moved\n\
+start 0 - = refused 64\nstep 256 1 = refused 60\ndrop 256 = refused 60\nstep 5 1 = moved\n\
 drop 5 = refused 67\nstep 5 1 = exit 1\nstep 5 1 = refused 61\ndrop 4 = refused 67\n\
-stat = stat linked 0 unlinked 0 given 0 worn 0 runs 64 open 0\ndrop 5 = ok\n\
-drop 5 = refused 60\nstep 5 1 = refused 60\nstep 63 2 = exit 1\ndrop 63 = ok\n\
-start 0 - = run 5\nstart 0 - = run 63\nstart 0 - = refused 64\n",
+stat = stat linked 0 unlinked 0 given 0 worn 0 runs 256 open 0\ndrop 5 = ok\n\
+drop 5 = refused 60\nstep 5 1 = refused 60\nstep 255 2 = exit 1\ndrop 255 = ok\n\
+start 0 - = run 5\nstart 0 - = run 255\nstart 0 - = refused 64\n",
     )?;
     Ok(events)
 }

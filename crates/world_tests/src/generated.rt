@@ -1,8 +1,9 @@
 //! The world beside the plain model on events of a fixed sequence of numbers, event for event: three maps, at most eight
-//! runs at once, nine programs.
+//! runs at once, ten programs.
 use crate::making::{Source, bytes_of, machine_of, world_of};
 use crate::programs::{
-    ADD_ONE, BYTE_OF_16, LOAD, PUT, REMOVE, REPLACE, SPILL_REMOVE, STORE_BYTE, TWO_MAPS,
+    ADD_ONE, BYTE_OF_16, LOAD, NESTED_LOAD, PUT, REMOVE, REPLACE, SPILL_REMOVE, STORE_BYTE,
+    TWO_MAPS,
 };
 use crate::random::Random;
 use crate::replay::apply_both;
@@ -45,7 +46,7 @@ const fn source(lines: &'static str, maps: &'static [usize]) -> Source {
 }
 
 /// The programs, in the order of their numbers.
-fn sources() -> [Source; 9] {
+fn sources() -> [Source; 10] {
     [
         source(LOAD, &[0]),
         source(ADD_ONE, &[1]),
@@ -56,6 +57,7 @@ fn sources() -> [Source; 9] {
         source(STORE_BYTE, &[2]),
         source(TWO_MAPS, &[1, 0]),
         source(REPLACE, &[1]),
+        source(NESTED_LOAD, &[0]),
     ]
 }
 
@@ -123,7 +125,7 @@ fn delete_or_read(random: &mut Random, deletes: bool) -> Event {
 
 /// A start of any program, now and then of none, or on a context of another length.
 fn start(random: &mut Random) -> Event {
-    let prog = ProgId::new(random.below(10));
+    let prog = ProgId::new(random.below(11));
     let bytes = [
         random.below(6) as u8,
         random.below(256) as u8,

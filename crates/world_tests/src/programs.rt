@@ -137,3 +137,18 @@ pub const REPLACE: &str = "ldxb r7, [r1+0]; stxw [r10-4], r7; callbtf 1; mov64 r
 add64 r2, -4; ldmap r1, 0; call 1; mov64 r6, 0; jeq r0, 0, +13; mov64 r9, r0; ldxdw r8, [r9+0]; \
 add64 r8, 256; stxdw [r10-16], r8; mov64 r2, r10; add64 r2, -4; mov64 r3, r10; add64 r3, -16; \
 mov64 r4, 2; ldmap r1, 0; call 2; ldxdw r6, [r9+0]; callbtf 2; mov64 r0, r6; exit";
+
+/// A lookup inside two sections, whose element is read after the inner one was left.
+pub const NESTED: &str = "mov64 r6, 0; callbtf 1; callbtf 1; stw [r10-4], 0; mov64 r2, r10; \
+add64 r2, -4; ldmap r1, 0; call 1; mov64 r7, r0; callbtf 2; jeq r7, 0, +1; ldxdw r6, [r7+0]; \
+callbtf 2; mov64 r0, r6; exit";
+
+/// Nine locks, one inside the other.
+pub const NINE_LOCKS: &str = "callbtf 1; callbtf 1; callbtf 1; callbtf 1; callbtf 1; callbtf 1; \
+callbtf 1; callbtf 1; callbtf 1; mov64 r0, 0; exit";
+
+/// The value of a key, read after two inner sections were left and before the outer one is.
+pub const NESTED_LOAD: &str =
+    "ldxb r7, [r1+0]; stxw [r10-4], r7; mov64 r6, 0; callbtf 1; callbtf 1; \
+mov64 r2, r10; add64 r2, -4; ldmap r1, 0; call 1; mov64 r9, r0; callbtf 2; callbtf 1; callbtf 2; \
+jeq r9, 0, +1; ldxdw r6, [r9+0]; callbtf 2; mov64 r0, r6; exit";

@@ -11,8 +11,7 @@ use anyhow::{Result, bail};
 use arrayvec::ArrayVec;
 use asm::assemble;
 use bpf_model::{
-    Answer, CtxBytes, Event, KeyBytes, MAX_ENTRIES, MAX_RUNS, MapId, MapShape, ProgId, RunId,
-    ValueBytes,
+    Answer, CtxBytes, Event, KeyBytes, MAX_ENTRIES, MapId, MapShape, ProgId, RunId, ValueBytes,
 };
 use maps::Registry;
 use std::alloc::Global;
@@ -23,7 +22,7 @@ use world::{Loaded, World};
 const PARTS: usize = 1024;
 
 /// How many runs of a lookup a round steps, each in a run slot of its own.
-const LOOKUPS: usize = MAX_RUNS;
+const LOOKUPS: usize = 64;
 
 /// A world, and the events of a round: those of a list, or steps of so many runs with so many moves each.
 #[derive(Drop)]

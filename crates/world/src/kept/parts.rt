@@ -15,7 +15,7 @@ use maps::Registry;
 use std::alloc::{AllocError, Global};
 use std::marker::Model;
 
-/// The maps; the runs by run slot; which of them are inside a section, and which sections are awaited; the
+/// The maps; the runs by run slot; how deep each of them is inside sections, and which are awaited; the
 /// programs; and how many elements were reclaimed. Contracts see the world's view.
 #[derive(Drop)]
 pub struct Parts {

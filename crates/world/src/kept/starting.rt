@@ -79,7 +79,7 @@ impl Parts {
             None => {
                 self.runs[run.index()] = None;
                 self.grace.keeps_awaited_open();
-                self.grace.close(run);
+                self.grace.close_all(run);
                 Brief::Done
             }
         }

@@ -1,10 +1,12 @@
-use Rattle.std.proofs.Common.{◌∙◌, sym, ap}
-use Rattle.bpf_model.specs.Schedule.{still_open}
-use Rattle.helpers.proofs.Flags.{opened_awaits}
+use Rattle.std.proofs.Common.{◌∙◌, ◌+◌, sym, arith}
+use Rattle.grace_period.specs.State.{GraceState, depth_at}
+use Rattle.machine.specs.declared.request.Request.TheVariants.{Enter}
+use Rattle.helpers.specs.Serving.{grace_after}
+use Rattle.helpers.proofs.Flags.{inside-awaits, same-grace}
 use Rattle.helpers.proofs.section.enter.Goals as goal
 
-pub returns-clause-awaited : goal.returns-clause-awaited
-returns-clause-awaited c =
-    c.open.ensures.awaited
-    ∙ sym (opened_awaits c.args.grace.now.awaited c.args.grace.now.opened c.args.run c.requires.inside)
-    ∙ ap (still_open c.args.grace.now.awaited) (sym c.open.ensures.opened)
+pub returns : goal.returns
+returns c =
+    let old : GraceState = c.args.grace.now in
+    same-grace c.open.new.self (grace_after Enter c.args.run old) c.open.ensures.depths
+    (c.open.ensures.awaited ∙ sym (inside-awaits old c.args.run c.requires.inside (depth_at old c.args.run + 1) (omega arith)))

@@ -1,10 +1,12 @@
-use Rattle.std.proofs.Common.{◌∙◌, sym, ap}
-use Rattle.bpf_model.specs.Schedule.{still_open}
-use Rattle.helpers.proofs.Flags.{closed_awaits}
+use Rattle.std.proofs.Common.{◌∙◌}
+use Rattle.grace_period.specs.State.{GraceState}
+use Rattle.machine.specs.declared.request.Request.TheVariants.{Leave}
+use Rattle.helpers.specs.Serving.{grace_after}
+use Rattle.helpers.proofs.Flags.{same-grace, unlocked-awaits}
 use Rattle.helpers.proofs.section.leave.Goals as goal
 
-pub returns-clause-awaited : goal.returns-clause-awaited
-returns-clause-awaited c =
-    c.close.ensures.awaited
-    ∙ sym (closed_awaits c.args.grace.now.awaited c.args.grace.now.opened c.args.run c.requires.inside)
-    ∙ ap (still_open c.args.grace.now.awaited) (sym c.close.ensures.opened)
+pub returns : goal.returns
+returns c =
+    let old : GraceState = c.args.grace.now in
+    same-grace c.close.new.self (grace_after Leave c.args.run old) c.close.ensures.depths
+    (c.close.ensures.awaited ∙ unlocked-awaits old c.args.run c.requires.inside c.requires.depth)

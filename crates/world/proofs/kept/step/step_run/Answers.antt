@@ -1,6 +1,6 @@
 use Rattle.std.proofs.Common.{◌∙◌, ℕ, sym, ap, subst, List}
 use Rattle.helpers.specs.Serving.{CanServe, IsReply, maps_after}
-use Rattle.world.proofs.Stepping.{moved_taken, exited_taken, can_serve, can_give, served_taken}
+use Rattle.world.proofs.Stepping.{moved_taken, exited_taken, can_serve, can_deep, can_give, served_taken}
 use Rattle.world.proofs.kept.step.step_run.Goals as goal
 
 pub local_step-requires : goal.local_step-requires
@@ -11,6 +11,11 @@ serve-word-requires-clause-serve c =
     let can = c.requires.can c.program-justified.ensures.justified in
     subst (λ (l : List ℕ). CanServe c.in-Shared.request l c.args.maps.now.maps c.local_step.new.self.view) (sym c.as_slice.ensures.value)
     (can_serve c.args.loaded.now c.args.maps.now.maps c.args.grace.now c.args.run_slot c.args.run.now can c.in-Shared.request c.local_step.new.self (c.in-Shared.ensures.step can.step.insn can.step.here))
+
+pub serve-word-requires-clause-depth : goal.serve-word-requires-clause-depth
+serve-word-requires-clause-depth c =
+    let can = c.requires.can c.program-justified.ensures.justified in
+    can_deep c.args.loaded.now c.args.maps.now.maps c.args.grace.now c.args.run_slot c.args.run.now can c.in-Shared.request c.local_step.new.self (c.in-Shared.ensures.step can.step.insn can.step.here)
 
 pub resume-requires : goal.resume-requires
 resume-requires c =
