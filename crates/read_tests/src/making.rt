@@ -3,7 +3,7 @@ ghost use Rattle.std.specs.Prelude.{◌≤◌, All, IfSome};
 ghost use Rattle.bpf_model.specs.declared.limits.TheConstants.{CTX_BYTES};
 ghost use Rattle.read_table.specs.Held.{IsReady};
 
-use bpf_model::{CtxBytes, MapShape};
+use bpf_model::{CtxBytes, MapKind, MapShape};
 use insn_codec::decode;
 use read_table::{ReadSeat, ReadTable, SubWord};
 use std::alloc::Global;
@@ -28,6 +28,7 @@ bfa2000000000000 07020000f8ffffff 1851000000000000 0000000000000000 850000000100
 
 /// Keys and values of 8 bytes.
 const SHAPE: MapShape = MapShape {
+    kind: MapKind::Hash,
     key_len: 8,
     value_len: 8,
     entries: 4,
