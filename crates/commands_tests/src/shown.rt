@@ -1,6 +1,5 @@
-//! What a line says, written out: the command's name, and in order its names, its numbers, and its bytes in
-//! hexadecimal behind a colon (`:..` where there are more than any such thing has); `array` before the numbers of an array's
-//! shape.
+//! What a line says, written out: the command's name, and in order its names, its numbers (`array` before those of an
+//! array's shape), and its bytes in hexadecimal behind a colon (`:..` where there are more than any such thing has).
 use arrayvec::ArrayVec;
 use bpf_model::{KEY_BYTES, MAX_MAPS, MapKind};
 use script_lines::{Bytes, Code, Command, Name, Names, ShapeNumbers, parse_line};
