@@ -68,7 +68,7 @@ use Rattle.shared_runs.specs.Serving.{CanServe, GoesOnWith, LeadsToWord}
 use Rattle.shared_runs.specs.SharedRuns.{closing, opening}
 use Rattle.shared_runs.specs.Sharing.{GoesFurther, IsSharing, flag_of}
 use Rattle.shared_runs.specs.Words.{ChangesMap, IsElementRegion, IsOtherWidth, access_width}
-use Rattle.shared_runs.proofs.Learning.{Reached, also, enter-learnt, hit-learnt, learnt-guarded, leave-learnt, load-learnt, miss-learnt, nest-learnt, none, not-array, store-learnt, unnest-learnt}
+use Rattle.shared_runs.proofs.Learning.{Reached, also, enter-learnt, hit-learnt, learnt-guarded, leave-learnt, load-learnt, miss-learnt, nest-learnt, no-array, none, not-array, store-learnt, unnest-learnt}
 use Rattle.shared_runs.proofs.Steps.{Known, aligned, are-hash, asking, known, listed, listed-shapes, onward, ready, served-step, shown, so, some, steps, waited}
 use Rattle.shared_runs.proofs.Stretches.{also-cases, inside-same, learnt-before, learnt-in}
 
@@ -304,7 +304,10 @@ module _ (k : TableShape) (c : Checked) (context : List ℕ) (ms : List Move) (v
           bound = ap (λ (p : Loaded). slice_get p.maps l.map) x.program ∙ get-range (length c.shapes) l.map below;
           long = l.long ∙ sym (ap key_length shape);
         } in
-        let deep : 0 < run.depth = x.justified.justified.looked_up x.index i (scene_of (store_of c.shapes (learnt_elements c.shapes (section_of run) x.learnt)) run) run.state index-there lookup x.planned in
+        let deep : 0 < run.depth = elim (x.justified.justified.looked_up x.index i (scene_of (store_of c.shapes (learnt_elements c.shapes (section_of run) x.learnt)) run) run.state index-there lookup x.planned) [
+          | inl inside ↦ inside
+          | inr a ↦ absurd (no-array c.shapes (are-hash k c context ms v x) a.0 a.2)
+        ] in
         let depth : v.depth ≡ run.depth = (shown k c context ms v x).words.depth in
         record {
           inside = omega (arith, deep, depth);

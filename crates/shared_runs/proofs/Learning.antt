@@ -30,7 +30,8 @@ use Rattle.model_laws.proofs.Computations.{first-step}
 use Rattle.model_laws.proofs.Requests.{steps_by_request}
 use Rattle.typed_runs.specs.Describes.{scene_of, IsArrayMap, IsGuarded}
 use Rattle.typed_runs.specs.Verified.{Plan, IsClosed, IsPlanned, IsPlannedAfter, StaysKept}
-use Rattle.typed_runs.proofs.Arrays.{kind-there}
+use Rattle.typed_runs.specs.Effects.{is_array_in}
+use Rattle.typed_runs.proofs.Arrays.{array-there, kind-there}
 use Rattle.typed_runs.proofs.Elements.{offset_some, with-bytes}
 use Rattle.typed_runs.proofs.Kept.{Keeps, describes-kept}
 use Rattle.standing_laws.specs.Around.{map_of, region_of, regions, element_number, key_length, value_length, elements_by, births, store_of}
@@ -89,6 +90,9 @@ none-array shapes hash n state at is =
 
 pub not-array : (shapes : List MapShape) → AreHash shapes → (es : List Element) (run : Run) (index : ℕ) → IsArrayMap (scene_of (store_of shapes es) run) index → ⊥
 not-array shapes hash es run index a = let x = kind-there (map new_map shapes) a.number Array a.array in none-array shapes hash a.number x.0 x.1 x.2
+
+pub no-array : (shapes : List MapShape) → AreHash shapes → (index : ℕ) → is_array_in shapes index ≡ true → ⊥
+no-array shapes hash index e = let x = array-there shapes index e in hash-array x.0.kind (hash index x.0 x.1) x.2
 
 -- where an access to an element reaches
 pub record Reached (shapes : List MapShape) (n : ℕ) (o : ℤ) (width : ℕ) : Type 0 where
