@@ -1,6 +1,6 @@
 -- What `asm` writes, of which texts, and how it refuses the others.
-use Rattle.std.specs.Prelude.{◌≡◌, ◌≢◌, ℕ, List, ◌++◌, map, codes, Bool, Option, Some}
-use Rattle.std.specs.Prelude.{None, if◌then◌else◌}
+use Rattle.std.specs.Prelude.{◌≡◌, ◌≢◌, ℕ, ◌+◌, ◌≤◌, ◌==◌, List, ◌++◌, map, codes, Bool, Option}
+use Rattle.std.specs.Prelude.{Some, None, count_by, if◌then◌else◌}
 use Rattle.std.specs.Str.{IsUtf8}
 use Rattle.std.specs.Io.KnownBytes.{Appends}
 use Rattle.bpf_model.specs.declared.insn.Insn.{Insn}
@@ -70,7 +70,11 @@ pub record IsFlawed (bytes : List ℕ) (fault : AsmFault) : Type 0 where
   pub split : IsSplit bytes head body
   pub fault_is : IsAsmFault body fault
 
--- no program file has the text's head
+-- the number of a head's last line in a program file, whose first line is the heading
+abbrev pub last_line : Option (List ℕ) → ℕ
+last_line head = count_by (λ b. b == 10) (head_or_none head) + 2
+
+-- No program file has the text's head: the first wrong line of one that had it is a line of the head.
 pub record HasBadHead (bytes : List ℕ) : Type 0 where
   pub head : Option (List ℕ)
   pub body : List ℕ
@@ -79,6 +83,7 @@ pub record HasBadHead (bytes : List ℕ) : Type 0 where
   pub begins : HasHead head file
   pub line : ℕ
   pub fault_is : IsLoadFault file (load_faults.BadFile line)
+  pub in_head : line ≤ last_line head
 
 -- why the bytes are no text of a program; that memory ran out may be said of any
 abbrev pub IsTextFault : List ℕ → TextFault → Type 0

@@ -2,7 +2,7 @@
 ghost use Rattle.std.specs.Prelude.{◌≡◌, ◌≢◌, ◌⊎◌, IfOk, IfErr, IfSome, if◌then◌else◌};
 ghost use Rattle.commands.specs.Assembled.{IsAssembled, IsTextFault, IsRefusedByAsm, WritesCode};
 
-use crate::heads::{file_of, parts_of};
+use crate::heads::{file_of, lines_in, parts_of};
 use crate::report::fault;
 use crate::streams::{unread, write_text, written};
 use asm::{AsmFault, assemble};
@@ -69,17 +69,6 @@ fn read_text<R: Read>(alloc: Global, input: &mut R) -> io::Result<Vec<u8>>
         text.extend_from_slice(&chunk[..count])?;
     }
     Err(io::Error::from(ErrorKind::FileTooLarge))
-}
-
-/// How many lines end in these bytes.
-fn lines_in(bytes: &[u8]) -> usize {
-    let mut lines = 0usize;
-    for byte in bytes {
-        if *byte == b'\n' {
-            lines = lines.saturating_add(1);
-        }
-    }
-    lines
 }
 
 /// Assembles a text: a program's bytes, and the program file that the text's head makes of them.

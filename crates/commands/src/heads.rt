@@ -1,8 +1,8 @@
 //! Program files made of a head and a program's bytes.
-ghost use Rattle.std.specs.Prelude.{◌≡◌, ◌++◌, List, ℕ, IfOk, IfErr, IsTrue, option_copied};
+ghost use Rattle.std.specs.Prelude.{◌≡◌, ◌++◌, ◌+◌, ◌≤◌, ◌==◌, List, ℕ, IfOk, IfErr, IsTrue, count_by, length, option_copied};
 ghost use Rattle.program_files.specs.ProgramFile.{FileContent, FileSays, IsLoadFault, heading};
 ghost use Rattle.program_files.specs.declared.loader.fault.LoadFault.TheVariants as load_faults;
-ghost use Rattle.commands.specs.Assembled.{IsSplit, IsFileOf, HasHead, code_line, head_or_none};
+ghost use Rattle.commands.specs.Assembled.{IsSplit, IsFileOf, HasHead, code_line, head_or_none, last_line};
 
 use program_files::{HEADING, LoadFault, load};
 use std::alloc::{AllocError, Global};
@@ -34,6 +34,27 @@ pub fn parts_of(text: &str) -> Split<'_>
             body: text,
         },
     }
+}
+
+/// How many lines end in these bytes.
+pub fn lines_in(bytes: &[u8]) -> usize
+    ensures count { result ≡ count_by (λ b. b == 10) bytes.now }
+    ensures few { result ≤ length bytes.now }
+{
+    let mut lines = 0;
+    for byte in bytes {
+        if *byte == b'\n' {
+            lines += 1;
+        }
+    }
+    lines
+}
+
+/// The number of a head's last line in a program file, whose first line is the heading.
+fn last_line(head: &str) -> usize
+    ensures { result ≡ count_by (λ b. b == 10) head.now + 2 }
+{
+    lines_in(head.as_bytes()) + 2
 }
 
 /// The slots of a program's bytes, a line of digits each.
@@ -87,17 +108,21 @@ fn says(alloc: Global, file: &[u8], code: &[u8]) -> Result<bool, LoadFault>
 /// A program file with this head, or with none, that says a program of these bytes. What is made is read again, so that
 /// nothing is written that says otherwise.
 ///
-/// Errors: `BadFile` with the line of the file, where no program file has the head; else `Memory`.
+/// Errors: `BadFile` with the line of the head in the file, where no program file has the head; else `Memory`.
 pub fn file_of(alloc: Global, head: Option<&str>, code: &[u8]) -> Result<Vec<u8>, LoadFault>
     ensures file { IfOk result (λ file. IsFileOf (option_copied head.entry) code.now file.items) }
     ensures fault { IfErr result (λ e. (line : ℕ) → e ≡ load_faults.BadFile line →
         (file : List ℕ) × HasHead (option_copied head.entry) file
-        × IsLoadFault file (load_faults.BadFile line)) }
+        × IsLoadFault file (load_faults.BadFile line)
+        × (line ≤ last_line (option_copied head.entry))) }
 {
-    let file = text_of(alloc, lines_of(head), code)?;
-    if says(alloc, &file, code)? {
-        Ok(file)
-    } else {
-        Err(LoadFault::Memory)
+    let lines = lines_of(head);
+    let file = text_of(alloc, lines, code)?;
+    match says(alloc, &file, code) {
+        Ok(true) => Ok(file),
+        Err(LoadFault::BadFile { line }) if line <= last_line(lines) => Err(LoadFault::BadFile {
+            line,
+        }),
+        _ => Err(LoadFault::Memory),
     }
 }

@@ -15,4 +15,5 @@ returns-in-Err-BadFile-clause-fault c =
       begins = bad.1;
       line = c.in-Err-BadFile.line;
       fault_is = bad.2;
+      in_head = bad.3;
     }
