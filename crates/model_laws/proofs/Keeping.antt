@@ -35,11 +35,12 @@ new-lengths shapes limits n e h =
     let r = new-element 0 shapes n e h in
     let z : 0 + r.offset ≡ e.map = ap (λ (x : Element). x.map) r.is in
     let o : 0 + r.offset ≡ r.offset = omega arith in
-    let array = (limits r.offset r.shape r.there).array r.array in
-    (new_map r.shape,
-    ap (slice_get (map new_map shapes)) (sym z ∙ o) ∙ get-map new_map shapes r.offset r.shape r.there,
-    ap (λ (x : Element). length x.key) (sym r.is) ∙ (length-index r.index ∙ sym array.key),
-    ap (λ (x : Element). length x.value) (sym r.is) ∙ length-replicate r.shape.value_len 0)
+    let array = (limits r.offset r.shape r.there).array r.array in (
+      new_map r.shape,
+      ap (slice_get (map new_map shapes)) (sym z ∙ o) ∙ get-map new_map shapes r.offset r.shape r.there,
+      ap (λ (x : Element). length x.key) (sym r.is) ∙ (length-index r.index ∙ sym array.key),
+      ap (λ (x : Element). length x.value) (sym r.is) ∙ length-replicate r.shape.value_len 0,
+    )
 
 pub starts_consistent : (shapes : List MapShape) (programs : List Loaded) → AreShapes shapes → IsConsistent (start_machine shapes programs)
 starts_consistent shapes programs limits = record {

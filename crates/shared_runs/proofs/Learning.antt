@@ -265,7 +265,7 @@ module _ (code : List Insn) (shapes : List MapShape) (ctx_len : ℕ) (hash : Are
         let empty = learnt_element shapes sec none in
         let later = moves (locked run) (resumed i Nothing run.state) in
         subst (Planned none) (sym h.1)
-        (replied empty (content none) (single none) (record { held = λ map n y. elim y.allowed [ | inl g ↦ (let inside : 0 < run.depth = g.0 in absurd (omega (arith, inside, outside))) | inr a ↦ absurd (not-array shapes hash (listed base) run map a) ]; depth = refl })
+        (replied empty (content none) (single none) (record { held = λ map n y. elim y.allowed [ inl g ↦ (let inside : 0 < run.depth = g.0 in absurd (omega (arith, inside, outside))) | inr a ↦ absurd (not-array shapes hash (listed base) run map a) ]; depth = refl })
         Enter asked Nothing (listed empty) later (refl, refl) (h.0, refl) (subst (λ (z : Run). z.exit ≡ None) h.1 going) none
         (keeps-by shapes empty (learnt_element shapes (section_of later) none) later (record { same = λ k. refl; guard = λ k g. absurd g })))
 
@@ -293,7 +293,7 @@ module _ (code : List Insn) (shapes : List MapShape) (ctx_len : ℕ) (hash : Are
         let outside : later.depth ≡ 0 = omega (arith, inside) in
         subst (Planned none) (sym h.1)
         (replied base (content learnt) (single learnt) (same-keeps (listed base) run) Leave asked Nothing (listed base) later (refl, refl) (h.0, refl) (subst (λ (z : Run). z.exit ≡ None) h.1 going) none
-        (record { held = λ map n y. elim y.allowed [ | inl g ↦ (let d : 0 < later.depth = g.0 in absurd (omega (arith, d, outside))) | inr a ↦ absurd (not-array shapes hash (listed base) later map a) ]; depth = refl }))
+        (record { held = λ map n y. elim y.allowed [ inl g ↦ (let d : 0 < later.depth = g.0 in absurd (omega (arith, d, outside))) | inr a ↦ absurd (not-array shapes hash (listed base) later map a) ]; depth = refl }))
 
     -- a lookup finds nothing, or any slot, which is learnt
     abbrev Finding : ℕ → List ℕ → Request

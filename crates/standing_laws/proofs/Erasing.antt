@@ -283,7 +283,7 @@ module _ (code : List Insn) (shapes : List MapShape) (ctx_len : ℕ) (v : RunVie
           element = element_of around (section_of bare) k;
           born = get-by (births around) (element_of around (section_of bare)) k (number-below x.element.map (region_at (h.bases n)) (length around) z.0 (omega (arith, below, same)));
           in_map = x.in_map ∙ ap Some (sym (number-map x.element.map (region_at (h.bases n)) z.0));
-          allowed = elim x.allowed [ | inl g ↦ inl (g.0, (0, refl)) | inr a ↦ inr (array-around map a) ];
+          allowed = elim x.allowed [ inl g ↦ inl (g.0, (0, refl)) | inr a ↦ inr (array-around map a) ];
         },
       )
 
